@@ -1,0 +1,59 @@
+use Rattle.octets.proofs.Turn.{turn-read, whole-read}
+use mathlib.Core.Path.{_≡_, refl, ap, sym, _∙_}
+use mathlib.Core.List.{List, [], _∷_, _++_}
+use Prim.Native.Nat.{ℕ, suc, _+_, _-_, _≤_, _<_}
+use lib.ListN.{length, take, drop, getD, set, length-set}
+use lib.Seq.{paste, paste-suc, paste-zero, length-paste}
+use native.Mathlib.Omega.{arith}
+use borrow.Author.Needs.{needs}
+use Rattle.octets.proofs.hash_at.Statement.{statement}
+use Rattle.octets.proofs.hash_at.Tie as tie
+use Rattle.octets.proofs.hash_at.Reads as reads
+use Rattle.octets.proofs.hash_at.Lts as lts
+
+abbrev Inv-loop : tie.InvT-loop
+Inv-loop s at h₀ i₀ h i = (i ≤ 32) × (h ≡ paste h₀ 0 (drop at s) i)
+
+abbrev μ-loop : tie.MeasureT-loop
+μ-loop s at h₀ i₀ h i = 32 - i
+
+loop-holds : tie.Need-loop-holds Inv-loop μ-loop
+loop-holds c = search needs
+
+add-h : tie.Need-add-h Inv-loop μ-loop
+add-h c = search needs
+
+shared-slice-read-h : tie.Need-shared-slice-read-h Inv-loop μ-loop
+shared-slice-read-h c = search needs
+
+array-write-h : tie.Need-array-write-h Inv-loop μ-loop
+array-write-h c = search needs
+
+add-i : tie.Need-add-i Inv-loop μ-loop
+add-i c = search needs
+
+loop-less : tie.Need-loop-less Inv-loop μ-loop
+loop-less c = search needs
+
+loop-again : tie.Need-loop-again Inv-loop μ-loop
+loop-again c =
+    let l = c .before .before in
+    (omega arith, turn-read _ _ (l .before .args .s .now) (l .before .args .at) _ (l .loop .inv .1) (omega arith) (omega (arith, l .before .pre)))
+
+returns : tie.Need-returns Inv-loop μ-loop
+returns c = whole-read _ _ _ _ (c .before .loop .i) 32 (c .before .loop .inv .1) refl (omega arith)
+
+pub hash-at-spec : {M : Type 1} → statement M
+hash-at-spec =
+    tie.close
+    (tie.spec
+    Inv-loop
+    μ-loop
+    loop-holds
+    add-h
+    shared-slice-read-h
+    array-write-h
+    add-i
+    loop-less
+    loop-again
+    returns)

@@ -1,0 +1,66 @@
+use Rattle.octets.proofs.Turn.{turn, whole}
+use mathlib.Core.Path.{_≡_, refl, ap, sym, _∙_}
+use mathlib.Core.List.{List, [], _∷_, _++_}
+use Prim.Native.Nat.{ℕ, suc, _+_, _-_, _≤_, _<_}
+use lib.ListN.{length, take, drop, getD, set, length-set}
+use lib.Seq.{paste, paste-suc, paste-zero, length-paste}
+use native.Mathlib.Omega.{arith}
+use borrow.Author.Needs.{needs}
+use Rattle.octets.proofs.put_hash.Statement.{statement}
+use Rattle.octets.proofs.put_hash.Tie as tie
+use Rattle.octets.proofs.put_hash.Reads as reads
+use Rattle.octets.proofs.put_hash.Lts as lts
+
+abbrev Inv-loop : tie.InvT-loop
+Inv-loop s₀ at h i₀ s i = (i ≤ 32) × (s ≡ paste s₀ at h i)
+
+abbrev μ-loop : tie.MeasureT-loop
+μ-loop s₀ at h i₀ s i = 32 - i
+
+-- at the loop's head the slice has the length that it came with
+len : (c : tie.At-loop Inv-loop μ-loop) → length (c .loop .s) ≡ length (c .before .args .s .now)
+len c = ap length (c .loop .inv .1) ∙ length-paste (c .before .args .s .now) (c .before .args .at) (c .before .args .t3) (c .loop .i) (omega (arith, c .before .pre)) (omega (arith, c .before .good .1 .1 .0 .1 .0 .1))
+
+loop-holds : tie.Need-loop-holds Inv-loop μ-loop
+loop-holds c =
+    (omega arith, paste-zero (c .args .s .now) (c .args .at) (c .args .t3))
+
+array-read-s : tie.Need-array-read-s Inv-loop μ-loop
+array-read-s c = search needs
+
+add-s : tie.Need-add-s Inv-loop μ-loop
+add-s c = search needs
+
+slice-write-s : tie.Need-slice-write-s Inv-loop μ-loop
+slice-write-s c = omega (arith, len (c .before))
+
+add-i : tie.Need-add-i Inv-loop μ-loop
+add-i c = search needs
+
+loop-less : tie.Need-loop-less Inv-loop μ-loop
+loop-less c = search needs
+
+loop-again : tie.Need-loop-again Inv-loop μ-loop
+loop-again c = (omega arith, turn _ _ _ _ _ (c .before .loop .inv .1) (omega arith) (omega (arith, c .before .before .good .1 .1 .0 .1 .0 .1)))
+
+same-length : tie.Need-same-length Inv-loop μ-loop
+same-length c = len (c .before)
+
+returns : tie.Need-returns Inv-loop μ-loop
+returns c = whole _ _ _ _ (c .before .loop .i) 32 (c .before .loop .inv .1) (c .before .before .good .1 .1 .0 .1 .0 .1) (omega arith)
+
+pub put-hash-spec : {M : Type 1} → statement M
+put-hash-spec =
+    tie.close
+    (tie.spec
+    Inv-loop
+    μ-loop
+    loop-holds
+    array-read-s
+    add-s
+    slice-write-s
+    add-i
+    loop-less
+    loop-again
+    same-length
+    returns)

@@ -1,0 +1,155 @@
+-- Laws of cut and paste, of the comparison, and of numbers as bytes, for callers to cite.
+-- Assumes nothing.
+use mathlib.Core.Path.{_≡_, refl, ap, ap₂, sym, _∙_}
+use mathlib.Core.List.{List, [], _∷_, _++_, append-assoc}
+use mathlib.Core.Bool.{Bool, true, false, _&&_, false≢true, and-eq-true-iff}
+use mathlib.Core.Logic.{_⊎_, inl, inr}
+use Prim.Native.Nat.{ℕ, zero, suc, _+_, _-_, _*_, _/_, _%_, _^_, _≤_, _<_}
+use native.Mathlib.Nat.{mod-lt}
+use native.Mathlib.Omega.{arith}
+use native.Mathlib.Decide.{decLt}
+use lib.ListN.{length, take, drop, getD, set, length-append, length-take, length-drop, length-set, replicate, getD-replicate, List·getD-append}
+use lib.Seq.{length-take-le, take-at, drop-at, getD-take, getD-drop, getD-append-add, getD-set-other, ext-getD}
+use lib.Dec.{eqb, lit<}
+use borrow.Author.Tests.{eqb-true, eq-eqb}
+use Rattle.octets.specs.Octets.{Octets, cut, pasted, same, be, zeroHash}
+
+pub cut-length : (s : List ℕ) (at n : ℕ) → at + n ≤ length s → length (cut s at n) ≡ n
+unfolding cut
+cut-length s at n h = simp (length-take, length-drop) (omega arith)
+
+pub getD-cut : (s : List ℕ) (at n i : ℕ) → i < n → getD (cut s at n) i 0 ≡ getD s (at + i) 0
+unfolding cut
+getD-cut s at n i h = getD-take n (drop at s) i 0 h ∙ getD-drop at s i 0
+
+pub pasted-length : (s : List ℕ) (at : ℕ) (h : List ℕ) → at + length h ≤ length s → length (pasted s at h) ≡ length s
+unfolding pasted
+pasted-length s at h k = simp (length-append, length-take, length-drop) (omega arith)
+
+head-length : (s : List ℕ) (at : ℕ) (h : List ℕ) → at + length h ≤ length s → length (take at s ++ h) ≡ at + length h
+head-length s at h k = simp (length-append, length-take) (omega arith)
+
+pub getD-pasted-before : (s : List ℕ) (at : ℕ) (h : List ℕ) → at + length h ≤ length s → (i : ℕ) → i < at
+    → getD (pasted s at h) i 0 ≡ getD s i 0
+unfolding pasted
+getD-pasted-before s at h k i l =
+    List·getD-append (take at s ++ h) (drop (at + length h) s) 0 i (omega (arith, head-length s at h k))
+    ∙ List·getD-append (take at s) h 0 i (omega (arith, length-take-le at s (omega arith)))
+    ∙ getD-take at s i 0 l
+
+pub getD-pasted-after : (s : List ℕ) (at : ℕ) (h : List ℕ) → at + length h ≤ length s → (i : ℕ) → at + length h ≤ i
+    → getD (pasted s at h) i 0 ≡ getD s i 0
+unfolding pasted
+getD-pasted-after s at h k i l =
+    let e : length (take at s ++ h) + (i - (at + length h)) ≡ i = omega (arith, head-length s at h k) in
+    let e2 : at + length h + (i - (at + length h)) ≡ i = omega arith in
+    ap (λ (j : ℕ). getD (take at s ++ h ++ drop (at + length h) s) j 0) (sym e)
+    ∙ getD-append-add (take at s ++ h) (drop (at + length h) s) (i - (at + length h)) 0
+    ∙ getD-drop (at + length h) s (i - (at + length h)) 0
+    ∙ ap (λ (j : ℕ). getD s j 0) e2
+
+-- a part that lies beside what was replaced is as it was
+pub cut-pasted-other : (s : List ℕ) (at : ℕ) (h : List ℕ) → at + length h ≤ length s → (a n : ℕ) → a + n ≤ length s
+    → (a + n ≤ at) ⊎ (at + length h ≤ a) → cut (pasted s at h) a n ≡ cut s a n
+cut-pasted-other s at h k a n f w =
+    let l1 = cut-length (pasted s at h) a n (omega (arith, pasted-length s at h k)) in
+    let l2 = cut-length s a n f in
+    ext-getD 0 (cut (pasted s at h) a n) (cut s a n) (l1 ∙ sym l2)
+    (λ i b.
+    let b′ : i < n = omega (arith, l1) in
+    getD-cut (pasted s at h) a n i b′
+    ∙ elim w [ inl x ↦ getD-pasted-before s at h k (a + i) (omega arith) | inr x ↦ getD-pasted-after s at h k (a + i) (omega arith) ]
+    ∙ sym (getD-cut s a n i b′))
+
+-- and what was put there is there
+pub cut-pasted-same : (s : List ℕ) (at : ℕ) (h : List ℕ) (n : ℕ) → length h ≡ n → at + n ≤ length s → cut (pasted s at h) at n ≡ h
+unfolding cut pasted
+cut-pasted-same s at h n e k =
+    let hl : length (take at s) ≡ at = length-take-le at s (omega arith) in
+    ap (λ (l : List ℕ). take n (drop at l)) (append-assoc (take at s) h (drop (at + length h) s))
+    ∙ ap (λ (l : List ℕ). take n l) (drop-at (take at s) (h ++ drop (at + length h) s) at hl)
+    ∙ take-at h (drop (at + length h) s) n e
+
+pub cut-set-other : (s : List ℕ) (i x a n : ℕ) → (i < a) ⊎ (a + n ≤ i) → a + n ≤ length s → cut (set s i x) a n ≡ cut s a n
+cut-set-other s i x a n w f =
+    let l1 = cut-length (set s i x) a n (simp length-set (omega arith)) in
+    let l2 = cut-length s a n f in
+    ext-getD 0 (cut (set s i x) a n) (cut s a n) (l1 ∙ sym l2)
+    (λ j b.
+    let b′ : j < n = omega (arith, l1) in
+    getD-cut (set s i x) a n j b′
+    ∙ getD-set-other s i (a + j) x 0 (λ q. elim w [ inl y ↦ omega arith | inr y ↦ omega arith ])
+    ∙ sym (getD-cut s a n j b′))
+
+pub same-true : (a b : List ℕ) → same a b ≡ true → a ≡ b
+unfolding same
+same-true [] [] e = refl
+same-true [] (y ∷ ys) e = absurd (false≢true e)
+same-true (x ∷ xs) [] e = absurd (false≢true e)
+same-true (x ∷ xs) (y ∷ ys) e =
+    let p = and-eq-true-iff (eqb x y) (same xs ys) .0 e in
+    ap₂ (λ (z : ℕ) (zs : List ℕ). z ∷ zs) (eqb-true x y (p .0)) (same-true xs ys (p .1))
+
+pub same-refl : (a : List ℕ) → same a a ≡ true
+unfolding same
+same-refl [] = refl
+same-refl (x ∷ xs) = rw (eq-eqb x x refl, same-refl xs)
+
+pub same-eq : (a b : List ℕ) → a ≡ b → same a b ≡ true
+same-eq a b e = ap (λ (l : List ℕ). same a l) (sym e) ∙ same-refl a
+
+pub same-false : (a b : List ℕ) → same a b ≡ false → a ≡ b → ⊥
+same-false a b e p = false≢true (sym e ∙ same-eq a b p)
+
+pub same-ne : (a b : List ℕ) → (a ≡ b → ⊥) → same a b ≡ false
+same-ne a b n = by-cases (same a b) refl
+  where
+    by-cases : (t : Bool) → same a b ≡ t → t ≡ false
+    by-cases true e = absurd (n (same-true a b e))
+    by-cases false e = refl
+
+pub getD-pasted-in : (s : List ℕ) (at : ℕ) (h : List ℕ) → at + length h ≤ length s → (j : ℕ) → j < length h → getD (pasted s at h) (at + j) 0 ≡ getD h j 0
+unfolding pasted
+getD-pasted-in s at h k j l =
+    let hl : length (take at s) ≡ at = length-take-le at s (omega arith) in
+    List·getD-append (take at s ++ h) (drop (at + length h) s) 0 (at + j) (omega (arith, head-length s at h k))
+    ∙ ap (λ (n : ℕ). getD (take at s ++ h) (n + j) 0) (sym hl)
+    ∙ getD-append-add (take at s) h j 0
+
+-- ---- strings of bytes
+
+pub append-octets : {n k : ℕ} {a b : List ℕ} → Octets n a → Octets k b → Octets (n + k) (a ++ b)
+append-octets {n} {k} {a} {b} p q =
+    record {
+      size = length-append a b ∙ omega (arith, p .size, q .size);
+      bytes = λ i h. by-side i h (decLt i n);
+    }
+  where
+    by-side : (i : ℕ) → i < n + k → Dec (i < n) → getD (a ++ b) i 0 < 256
+    by-side i h (yes l) = rw (List·getD-append a b 0 i (omega (arith, p .size))) (p .bytes i l)
+    by-side i h (no g) =
+        let e : length a + (i - n) ≡ i = omega (arith, p .size) in
+        let f : getD (a ++ b) i 0 ≡ getD b (i - n) 0 = ap (λ (j : ℕ). getD (a ++ b) j 0) (sym e) ∙ getD-append-add a b (i - n) 0 in
+        rw f (q .bytes (i - n) (omega arith))
+
+pub be-octets : (k n : ℕ) → Octets k (be k n)
+be-octets k n = record { size = size k; bytes = bytes k }
+  where
+    size : (k : ℕ) → length (be k n) ≡ k
+    size zero = refl
+    size (suc k) = ap suc (size k)
+    bytes : (k i : ℕ) → i < k → getD (be k n) i 0 < 256
+    bytes zero i h = absurd (omega arith)
+    bytes (suc k) zero h = mod-lt (n / 256 ^ k) (lit< tt)
+    bytes (suc k) (suc i) h = bytes k i (omega arith)
+
+pub zero-octets : Octets 32 zeroHash
+unfolding zeroHash
+zero-octets = record { size = refl; bytes = λ i h. let e : _≡_ {A = ℕ} (getD (replicate 32 0) i 0) 0 = getD-replicate {A = ℕ} 32 i 0 0 h in omega arith }
+
+pub cut-octets : {m : ℕ} {s : List ℕ} (at n : ℕ) → Octets m s → at + n ≤ m → Octets n (cut s at n)
+cut-octets {m} {s} at n p h =
+    record {
+      size = cut-length s at n (omega (arith, p .size));
+      bytes = λ i l. rw (getD-cut s at n i l) (p .bytes (at + i) (omega arith));
+    }

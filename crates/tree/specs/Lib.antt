@@ -1,0 +1,4 @@
+pub mod Geometry
+pub mod Values
+pub mod GeometryLaws
+pub mod ValuesLaws
