@@ -197,3 +197,155 @@ padding-right b l i h = omega (arith, padding-left-of b l i h, add-mul (2 * i) 1
 -- everything to the right of padding is padding
 pub padding-on : (b l i j : ℕ) → i ≤ j → Padding b l i → Padding b l j
 padding-on b l i j h p = padding-from-covering b l j (omega (arith, covering-until-padding b l i p))
+
+-- ---- piece lengths
+
+-- the piece layer of a piece length of 16384·2^p is layer p
+pub piece-layer-pow : (p : ℕ) → pieceLayer (blockLength * 2 ^ p) ≡ p
+unfolding pieceLayer
+piece-layer-pow p = ap height (mul-div-cancel-left (2 ^ p) (omega arith)) ∙ height-pow p
+
+-- a piece length that is accepted is 16384·2^p for its own piece layer p, which is at most 10
+pub piece-length-form : (plen : ℕ) → isPieceLength plen ≡ true → (pieceLayer plen ≤ 10) × (plen ≡ blockLength * 2 ^ pieceLayer plen)
+unfolding isPieceLength
+piece-length-form plen t = (small (decLe (pieceLayer plen) 10), sym form)
+  where
+    both : (eqb (blockLength * 2 ^ pieceLayer plen) plen ≡ true) × (leb plen 16777216 ≡ true)
+    both = and-eq-true-iff (eqb (blockLength * 2 ^ pieceLayer plen) plen) (leb plen 16777216) .0 t
+    form : blockLength * 2 ^ pieceLayer plen ≡ plen
+    form = eqb-true (blockLength * 2 ^ pieceLayer plen) plen (both .0)
+    small : Dec (pieceLayer plen ≤ 10) → pieceLayer plen ≤ 10
+    small (yes l) = l
+    small (no g) =
+        let w : 2 ^ 11 ≤ 2 ^ pieceLayer plen = pow-mono {i = 11} {j = pieceLayer plen} (omega arith) in
+        absurd (omega (arith, form, leb-true plen 16777216 (both .1)))
+
+-- and each of these is accepted
+pub piece-length-accepted : (p : ℕ) → p ≤ 10 → isPieceLength (blockLength * 2 ^ p) ≡ true
+unfolding isPieceLength
+piece-length-accepted p l =
+    let w : 2 ^ p ≤ 2 ^ 10 = pow-mono {i = p} {j = 10} l in
+    and-eq-true-iff (eqb (blockLength * 2 ^ pieceLayer (blockLength * 2 ^ p)) (blockLength * 2 ^ p)) (leb (blockLength * 2 ^ p) 16777216) .1
+    ( eq-eqb (blockLength * 2 ^ pieceLayer (blockLength * 2 ^ p)) (blockLength * 2 ^ p) (ap (λ (x : ℕ). blockLength * 2 ^ x) (piece-layer-pow p))
+    , le-leb (blockLength * 2 ^ p) 16777216 (omega arith) )
+
+-- ---- blocks and pieces
+
+-- a piece that the file has isn't empty, and no longer than the piece length
+pub piece-size-some : (n plen i : ℕ) → 0 < plen → i < pieceCount n plen → 0 < pieceSize n plen i
+unfolding pieceCount pieceSize
+piece-size-some n plen i p h = omega (arith, ceil-below n plen i p h, mul-comm i plen)
+
+pub piece-size-most : (n plen i : ℕ) → pieceSize n plen i ≤ plen
+unfolding pieceSize
+piece-size-most n plen i = omega arith
+
+-- all pieces but the last have the piece length
+pub piece-size-whole : (n plen i : ℕ) → 0 < plen → suc i < pieceCount n plen → pieceSize n plen i ≡ plen
+unfolding pieceCount pieceSize
+piece-size-whole n plen i p h = omega (arith, ceil-below n plen (i + 1) p (omega arith), add-mul i 1 plen, mul-comm i plen)
+
+-- past the file a piece is empty
+pub piece-size-past : (n plen i : ℕ) → 0 < plen → pieceCount n plen ≤ i → pieceSize n plen i ≡ 0
+unfolding pieceCount pieceSize
+piece-size-past n plen i p h = omega (arith, ceil-enough n plen i p h, mul-comm i plen)
+
+-- and there alone
+pub piece-size-only : (n plen i : ℕ) → 0 < pieceSize n plen i → i < pieceCount n plen
+unfolding pieceCount pieceSize
+piece-size-only n plen i h = below-ceil n plen i (omega arith) (omega (arith, mul-comm i plen))
+
+-- the same of blocks
+pub block-size-some : (n i : ℕ) → i < blockCount n → 0 < blockSize n i
+unfolding blockCount ceilDiv blockSize
+block-size-some n i h = omega arith
+
+pub block-size-most : (n i : ℕ) → blockSize n i ≤ blockLength
+unfolding blockSize
+block-size-most n i = omega arith
+
+pub block-size-whole : (n i : ℕ) → suc i < blockCount n → blockSize n i ≡ blockLength
+unfolding blockCount ceilDiv blockSize
+block-size-whole n i h = omega arith
+
+pub block-size-past : (n i : ℕ) → blockCount n ≤ i → blockSize n i ≡ 0
+unfolding blockCount ceilDiv blockSize
+block-size-past n i h = omega arith
+
+pub block-size-only : (n i : ℕ) → 0 < blockSize n i → i < blockCount n
+unfolding blockCount ceilDiv blockSize
+block-size-only n i h = omega arith
+
+-- a file has a block exactly if it has a byte
+pub block-count-some : (n : ℕ) → 1 ≤ n → 1 ≤ blockCount n
+unfolding blockCount ceilDiv
+block-count-some n h = omega arith
+
+-- block i starts within the file
+pub block-starts : (n i : ℕ) → i < blockCount n → blockLength * i < n
+unfolding blockCount ceilDiv
+block-starts n i h = omega arith
+
+pub block-past : (n i : ℕ) → blockCount n ≤ i → n ≤ blockLength * i
+unfolding blockCount ceilDiv
+block-past n i h = omega arith
+
+-- the pieces are the positions of the piece layer that aren't padding
+pub pieces-covering : (n p : ℕ) → pieceCount n (blockLength * 2 ^ p) ≡ covering (blockCount n) p
+unfolding pieceCount covering blockCount
+pieces-covering n p = ap (λ (x : ℕ). ceilDiv n x) (mul-comm blockLength (2 ^ p)) ∙ sym (ceil-ceil n blockLength (2 ^ p) (omega arith) (pow-pos p))
+
+-- ---- node numbers
+
+-- the root is number 1
+pub node-number-root : (h : ℕ) → nodeNumber h h 0 ≡ 1
+unfolding nodeNumber
+node-number-root h = let e : h - h ≡ 0 = omega arith in rw e
+
+-- one layer down there are twice as many positions
+layer-doubles : (h l : ℕ) → l < h → 2 ^ (h - l) ≡ 2 * 2 ^ (h - suc l)
+layer-doubles h l k = let e : h - l ≡ suc (h - suc l) = omega arith in rw e (pow-succ' 2 (h - suc l))
+
+-- the numbers of layer l are those from 2^(h - l) up to twice that
+pub node-number-layer : (h l i : ℕ) → i < 2 ^ (h - l) → (2 ^ (h - l) ≤ nodeNumber h l i) × (nodeNumber h l i < 2 * 2 ^ (h - l))
+unfolding nodeNumber
+node-number-layer h l i b = (omega arith, omega arith)
+
+-- all numbers are from 1 up to 2·2^h
+pub node-number-range : (h l i : ℕ) → i < 2 ^ (h - l) → (1 ≤ nodeNumber h l i) × (nodeNumber h l i < 2 * 2 ^ h)
+node-number-range h l i b =
+    let w = node-number-layer h l i b in
+    let g : 2 ^ (h - l) ≤ 2 ^ h = pow-mono (omega arith) in
+    (omega (arith, pow-pos (h - l)), omega arith)
+
+-- two positions of one number are one position
+pub node-number-distinct : (h l i m j : ℕ) → l ≤ h → m ≤ h → i < 2 ^ (h - l) → j < 2 ^ (h - m) → nodeNumber h l i ≡ nodeNumber h m j → (l ≡ m) × (i ≡ j)
+node-number-distinct h l i m j lh mh ib jb e = by-layer (decLt l m) (decLt m l)
+  where
+    -- a lower layer has larger numbers
+    apart : (l i m j : ℕ) → m ≤ h → l < m → i < 2 ^ (h - l) → j < 2 ^ (h - m) → nodeNumber h m j < nodeNumber h l i
+    apart l i m j mh k ib jb =
+        let g : 2 ^ suc (h - m) ≤ 2 ^ (h - l) = pow-mono (omega arith) in
+        omega (arith, node-number-layer h l i ib, node-number-layer h m j jb, pow-succ' 2 (h - m))
+    same-layer : l ≡ m → nodeNumber h m i ≡ nodeNumber h m j → i ≡ j
+    same-layer q f = unfold nodeNumber in omega arith
+    by-layer : Dec (l < m) → Dec (m < l) → (l ≡ m) × (i ≡ j)
+    by-layer (yes k) d = absurd (omega (arith, apart l i m j mh k ib jb))
+    by-layer (no k) (yes k2) = absurd (omega (arith, apart m j l i lh k2 jb ib))
+    by-layer (no k) (no k2) =
+        let q : l ≡ m = omega arith in
+        (q, same-layer q (ap (λ (x : ℕ). nodeNumber h x i) (sym q) ∙ e))
+
+-- the parent of node n is n / 2
+pub node-number-parent : (h l i : ℕ) → l < h → nodeNumber h (suc l) (i / 2) ≡ nodeNumber h l i / 2
+unfolding nodeNumber
+node-number-parent h l i k = omega (arith, layer-doubles h l k)
+
+-- its children are 2n and 2n + 1
+pub node-number-left : (h l i : ℕ) → l < h → nodeNumber h l (2 * i) ≡ 2 * nodeNumber h (suc l) i
+unfolding nodeNumber
+node-number-left h l i k = omega (arith, layer-doubles h l k)
+
+pub node-number-right : (h l i : ℕ) → l < h → nodeNumber h l (2 * i + 1) ≡ 2 * nodeNumber h (suc l) i + 1
+unfolding nodeNumber
+node-number-right h l i k = omega (arith, layer-doubles h l k)
