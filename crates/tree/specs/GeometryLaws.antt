@@ -290,6 +290,14 @@ pub block-past : (n i : ℕ) → blockCount n ≤ i → n ≤ blockLength * i
 unfolding blockCount ceilDiv
 block-past n i h = omega arith
 
+pub block-within : (n i : ℕ) → blockLength * i < n → i < blockCount n
+unfolding blockCount ceilDiv
+block-within n i h = omega arith
+
+pub block-outside : (n i : ℕ) → n ≤ blockLength * i → blockCount n ≤ i
+unfolding blockCount ceilDiv
+block-outside n i h = omega arith
+
 -- the pieces are the positions of the piece layer that aren't padding
 pub pieces-covering : (n p : ℕ) → pieceCount n (blockLength * 2 ^ p) ≡ covering (blockCount n) p
 unfolding pieceCount covering blockCount
