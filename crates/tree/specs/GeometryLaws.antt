@@ -2,12 +2,12 @@
 -- Assumes nothing.
 use mathlib.Core.Path.{_≡_, refl, ap, sym, _∙_, subst}
 use mathlib.Core.Bool.{Bool, true, false, cond, _&&_, and-eq-true-iff}
-use Prim.Native.Nat.{ℕ, zero, suc, _+_, _-_, _*_, _/_, _^_, _≤_, _<_, min}
-use native.Mathlib.Nat.{add-mul, one-mul, mul-one, zero-mul, mul-assoc, mul-comm, pow-zero, pow-succ', div-one, div-zero, div-lt-iff-lt-mul, mul-div-cancel-left, one-le-mul, mul-le-mul-left, le-antisymm, le-trans}
+use Prim.Native.Nat.{ℕ, zero, suc, _+_, _-_, _*_, _/_, _%_, _^_, _≤_, _<_, min}
+use native.Mathlib.Nat.{add-mul, one-mul, mul-one, add-div-right, div-le-self, zero-mul, mul-suc, mul-assoc, mul-comm, pow-zero, pow-succ', div-one, div-zero, div-lt-iff-lt-mul, mul-div-cancel-left, one-le-mul, mul-le-mul-left, le-antisymm, le-trans}
 use native.Mathlib.Decide.{decLe, decLt, ℕ-discrete}
 use native.Mathlib.Omega.{arith}
 use lib.Dec.{leb, ltb, eqb}
-use lib.Pow.{pow-pos, pow-mono, pow-lt, pow-add}
+use lib.Pow.{pow-pos, pow-mono, pow-lt, pow-add, shl-exact}
 use borrow.Author.Tests.{le-leb, lt-leb, leb-true, eqb-true, eq-eqb}
 use Rattle.tree.specs.Geometry.{blockLength, ceilDiv, blockCount, heightFrom, height, Padding, covering, nodeNumber, pieceLayer, isPieceLength, pieceCount, blockSize, pieceSize}
 
@@ -60,6 +60,16 @@ ceil-ceil a d e p q =
 pub ceil-by-zero : (a : ℕ) → ceilDiv a 0 ≡ 0
 unfolding ceilDiv
 ceil-by-zero a = div-zero (a + (0 - 1))
+
+-- nothing, rounded up, is nothing
+pub ceil-of-zero : (d : ℕ) → ceilDiv 0 d ≡ 0
+ceil-of-zero zero = ceil-by-zero 0
+ceil-of-zero (suc d) = let l = ceil-least 0 (suc d) 0 (omega arith) (omega arith) in omega arith
+
+-- rounding up without a sum that could wrap
+pub ceil-step : (a d : ℕ) → (a ≡ 0 → ⊥) → (d ≡ 0 → ⊥) → ceilDiv a d ≡ (a - 1) / d + 1
+unfolding ceilDiv
+ceil-step a d p q = let e : a + (d - 1) ≡ a - 1 + d = omega arith in rw e (add-div-right (a - 1) (omega arith))
 
 -- ---- the height
 
@@ -169,6 +179,24 @@ pub covering-some : (b l : ℕ) → 1 ≤ b → 1 ≤ covering b l
 unfolding covering
 covering-some b l h = below-ceil b (2 ^ l) 0 (pow-pos l) (omega (arith, zero-mul (2 ^ l)))
 
+-- without blocks there is none
+pub covering-none : (l : ℕ) → covering 0 l ≡ 0
+unfolding covering
+covering-none l = ceil-of-zero (2 ^ l)
+
+-- a layer whose positions are large enough for all blocks has one
+pub covering-one : (b l : ℕ) → (b ≡ 0 → ⊥) → b ≤ 2 ^ l → covering b l ≡ 1
+unfolding covering
+covering-one b l p h =
+    let most = ceil-least b (2 ^ l) 1 (pow-pos l) (omega arith) in
+    let some = covering-some b l (omega arith) in
+    omega arith
+
+-- no layer has more than the blocks
+pub covering-most : (b l : ℕ) → covering b l ≤ b
+unfolding covering
+covering-most b l = ceil-least b (2 ^ l) b (pow-pos l) (omega (arith, mul-le-mul-left b (pow-pos l), mul-one b))
+
 -- they lie within the layer
 pub covering-within : (b l : ℕ) → l ≤ height b → covering b l ≤ 2 ^ (height b - l)
 unfolding covering
@@ -231,24 +259,32 @@ piece-length-accepted p l =
 
 -- ---- blocks and pieces
 
+-- a file has a piece only for a piece length that isn't 0, and the piece starts within the file
+pub piece-starts : (n plen i : ℕ) → i < pieceCount n plen → plen * i < n
+unfolding pieceCount
+piece-starts n zero i h = absurd (omega (arith, ceil-by-zero n))
+piece-starts n (suc d) i h = omega (arith, ceil-below n (suc d) i (omega arith) h, mul-comm i (suc d))
+
 -- a piece that the file has isn't empty, and no longer than the piece length
-pub piece-size-some : (n plen i : ℕ) → 0 < plen → i < pieceCount n plen → 0 < pieceSize n plen i
+pub piece-size-some : (n plen i : ℕ) → i < pieceCount n plen → 0 < pieceSize n plen i
 unfolding pieceCount pieceSize
-piece-size-some n plen i p h = omega (arith, ceil-below n plen i p h, mul-comm i plen)
+piece-size-some n zero i h = absurd (omega (arith, ceil-by-zero n))
+piece-size-some n (suc d) i h = omega (arith, piece-starts n (suc d) i h)
 
 pub piece-size-most : (n plen i : ℕ) → pieceSize n plen i ≤ plen
 unfolding pieceSize
 piece-size-most n plen i = omega arith
 
 -- all pieces but the last have the piece length
-pub piece-size-whole : (n plen i : ℕ) → 0 < plen → suc i < pieceCount n plen → pieceSize n plen i ≡ plen
-unfolding pieceCount pieceSize
-piece-size-whole n plen i p h = omega (arith, ceil-below n plen (i + 1) p (omega arith), add-mul i 1 plen, mul-comm i plen)
+pub piece-size-whole : (n plen i : ℕ) → suc i < pieceCount n plen → pieceSize n plen i ≡ plen
+unfolding pieceSize
+piece-size-whole n plen i h = omega (arith, piece-starts n plen (suc i) h, mul-suc plen i)
 
 -- past the file a piece is empty
-pub piece-size-past : (n plen i : ℕ) → 0 < plen → pieceCount n plen ≤ i → pieceSize n plen i ≡ 0
+pub piece-size-past : (n plen i : ℕ) → pieceCount n plen ≤ i → pieceSize n plen i ≡ 0
 unfolding pieceCount pieceSize
-piece-size-past n plen i p h = omega (arith, ceil-enough n plen i p h, mul-comm i plen)
+piece-size-past n zero i h = omega arith
+piece-size-past n (suc d) i h = omega (arith, ceil-enough n (suc d) i (omega arith) h, mul-comm i (suc d))
 
 -- and there alone
 pub piece-size-only : (n plen i : ℕ) → 0 < pieceSize n plen i → i < pieceCount n plen
@@ -357,3 +393,51 @@ node-number-left h l i k = omega (arith, layer-doubles h l k)
 pub node-number-right : (h l i : ℕ) → l < h → nodeNumber h l (2 * i + 1) ≡ 2 * nodeNumber h (suc l) i + 1
 unfolding nodeNumber
 node-number-right h l i k = omega (arith, layer-doubles h l k)
+
+-- ---- as the code works them out
+
+-- one turn of halving, rounding up, raises the height found so far by one
+pub height-turn : (b c h : ℕ) → height b ≡ h + height c → 1 < c → height b ≡ h + 1 + height (c / 2 + c % 2)
+height-turn b c h e l =
+    let s : ceilDiv c 2 ≡ c / 2 + c % 2 = unfold ceilDiv in omega arith in
+    omega (arith, height-halves c l, ap height s)
+
+pub height-done : (b c h : ℕ) → height b ≡ h + height c → c ≤ 1 → h ≡ height b
+height-done b c h e l = omega (arith, height-least c 0 l)
+
+-- a number of 64 bits has a height of at most 64
+pub height-fits : (b : ℕ) → b < 2 ^ 64 → height b ≤ 64
+height-fits b l = height-least b 64 (omega arith)
+
+pub covering-step : (b l : ℕ) → (b ≡ 0 → ⊥) → covering b l ≡ (b - 1) / 2 ^ l + 1
+unfolding covering
+covering-step b l p = ceil-step b (2 ^ l) p (λ e. omega (arith, pow-pos l))
+
+and-false : (t : Bool) → (t && false) ≡ false
+and-false true = refl
+and-false false = refl
+
+and-true : (t : Bool) → (t && true) ≡ t
+and-true true = refl
+and-true false = refl
+
+-- above 16 MiB there is no piece length
+pub piece-length-large : (plen : ℕ) → 16777216 < plen → isPieceLength plen ≡ false
+unfolding isPieceLength
+piece-length-large plen l = rw (lt-leb plen 16777216 l) (and-false (eqb (blockLength * 2 ^ pieceLayer plen) plen))
+
+-- up to it, the power of two decides
+pub piece-length-small : (plen : ℕ) → plen ≤ 16777216 → isPieceLength plen ≡ eqb (blockLength * 2 ^ pieceLayer plen) plen
+unfolding isPieceLength
+piece-length-small plen l = rw (le-leb plen 16777216 l) (and-true (eqb (blockLength * 2 ^ pieceLayer plen) plen))
+
+pub piece-layer-small : (plen : ℕ) → plen ≤ 16777216 → pieceLayer plen ≤ 10
+unfolding pieceLayer
+piece-layer-small plen l = height-least (plen / blockLength) 10 (omega arith)
+
+-- a power shifted out of 1 fits below layer 64
+pub shifted-one : (d : ℕ) → d ≤ 63 → (1 * 2 ^ d) % 18446744073709551616 ≡ 2 ^ d
+shifted-one d l = shl-exact {a = 1} 1 d 64 (omega arith) (omega arith) ∙ one-mul (2 ^ d)
+
+pub shifted-block : (d : ℕ) → d ≤ 10 → (16384 * 2 ^ d) % 18446744073709551616 ≡ 16384 * 2 ^ d
+shifted-block d l = shl-exact {a = 16384} 15 d 64 (omega arith) (omega arith)
