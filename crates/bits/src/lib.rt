@@ -1,1 +1,64 @@
-// to be written
+// FIPS 180-4, sections 3.2 and 4.1.2: words of 32 bits and their operations.
+ghost use mathlib.Core.Path.{_≡_};
+ghost use Prim.Native.Nat.{_+_, _<_, _%_, _^_};
+ghost use Rattle.bits.specs.Words as W;
+
+// The sum, its carry dropped.
+pub fn add(x: u32, y: u32) -> u32
+    ensures { λ r. ⌜ r ≡ (x + y) % 2 ^ 32 ⌝ }
+{
+    std::num::wrapping_add_u32(x, y)
+}
+
+pub fn rotr(x: u32, n: u32) -> u32
+    requires { ⌜ (0 < n) × (n < 32) ⌝ }
+    ensures { λ r. ⌜ r ≡ W.rotr n x ⌝ }
+{
+    (x >> n) | (x << (32 - n))
+}
+
+// The standard's form has four operations; this one has three.
+pub fn ch(x: u32, y: u32, z: u32) -> u32
+    ensures { λ r. ⌜ r ≡ W.Ch x y z ⌝ }
+{
+    z ^ (x & (y ^ z))
+}
+
+// Four operations for the standard's five.
+pub fn maj(x: u32, y: u32, z: u32) -> u32
+    ensures { λ r. ⌜ r ≡ W.Maj x y z ⌝ }
+{
+    ((x ^ y) & (y ^ z)) ^ y
+}
+
+// Each rotation goes on from the one before, so that one register serves.
+pub fn big0(x: u32) -> u32
+    ensures { λ r. ⌜ r ≡ W.Σ₀ x ⌝ }
+{
+    rotr(rotr(rotr(x, 9) ^ x, 11) ^ x, 2)
+}
+
+pub fn big1(x: u32) -> u32
+    ensures { λ r. ⌜ r ≡ W.Σ₁ x ⌝ }
+{
+    rotr(rotr(rotr(x, 14) ^ x, 5) ^ x, 6)
+}
+
+pub fn small0(x: u32) -> u32
+    ensures { λ r. ⌜ r ≡ W.σ₀ x ⌝ }
+{
+    rotr(x, 7) ^ rotr(x, 18) ^ (x >> 3)
+}
+
+pub fn small1(x: u32) -> u32
+    ensures { λ r. ⌜ r ≡ W.σ₁ x ⌝ }
+{
+    rotr(x, 17) ^ rotr(x, 19) ^ (x >> 10)
+}
+
+// A byte as a word.
+pub fn wide(x: u8) -> u32
+    ensures { λ r. ⌜ (r ≡ x) × (r < 256) ⌝ }
+{
+    x as u32
+}

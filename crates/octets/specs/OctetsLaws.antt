@@ -138,6 +138,7 @@ be-octets k n = record { size = size k; bytes = bytes k }
     size : (k : ℕ) → length (be k n) ≡ k
     size zero = refl
     size (suc k) = ap suc (size k)
+
     bytes : (k i : ℕ) → i < k → getD (be k n) i 0 < 256
     bytes zero i h = absurd (omega arith)
     bytes (suc k) zero h = mod-lt (n / 256 ^ k) (lit< tt)

@@ -1,3 +1,4 @@
 pub mod Padding
 pub mod Cutting
+pub mod PaddingLaws
 pub mod CuttingLaws

@@ -1,1 +1,48 @@
-// to be written
+// FIPS 180-4, section 5.1.1: the last one or two blocks of a message.
+ghost use mathlib.Core.Path.{_≡_};
+ghost use Prim.Native.Nat.{_+_, _*_, _≤_, _%_};
+ghost use mathlib.Core.List.{_++_};
+ghost use lib.ListN.{length, take, drop};
+ghost use Rattle.octets.specs.Octets as O;
+ghost use Rattle.padding.specs.Padding as P;
+
+fn low(x: u64) -> u8
+    ensures { λ r. ⌜ r ≡ x % 256 ⌝ }
+{
+    (x % 256) as u8
+}
+
+// The count of bits of n bytes, modulo 2^64, at a place of b.
+fn put_bits(b: &mut [u8; 128], at: usize, n: u64)
+    requires { ⌜ (at + 8 ≤ 128) × (length (now b) ≡ 128) ⌝ }
+    ensures { λ _. ⌜ now (b .exit) ≡ take at (now (b .entry)) ++ (O.be 8 (8 * n) ++ drop (at + 8) (now (b .entry))) ⌝ }
+{
+    b[at] = low(n >> 53);
+    b[at + 1] = low(n >> 45);
+    b[at + 2] = low(n >> 37);
+    b[at + 3] = low(n >> 29);
+    b[at + 4] = low(n >> 21);
+    b[at + 5] = low(n >> 13);
+    b[at + 6] = low(n >> 5);
+    b[at + 7] = low(n % 32 * 8);
+}
+
+// The last bytes s of a message of n, with the padding: 64 bytes of the result, or all 128.
+pub fn pad(s: &[u8], n: u64) -> [u8; 128]
+    requires { ⌜ length (now s) ≡ n % 64 ⌝ }
+    ensures { λ r. ⌜ (length r ≡ 128) × (take (length (now (s .entry) ++ P.padding n)) r ≡ now (s .entry) ++ P.padding n) ⌝ }
+{
+    let mut b = [0u8; 128];
+    let mut i: usize = 0;
+    while i < s.len() {
+        b[i] = s[i];
+        i += 1;
+    }
+    b[i] = 0x80;
+    if i < 56 {
+        put_bits(&mut b, 56, n);
+        return b;
+    }
+    put_bits(&mut b, 120, n);
+    b
+}

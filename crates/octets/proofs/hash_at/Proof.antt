@@ -1,15 +1,12 @@
 use Rattle.octets.proofs.Turn.{turn-read, whole-read}
-use mathlib.Core.Path.{_≡_, refl, ap, sym, _∙_}
-use mathlib.Core.List.{List, [], _∷_, _++_}
-use Prim.Native.Nat.{ℕ, suc, _+_, _-_, _≤_, _<_}
-use lib.ListN.{length, take, drop, getD, set, length-set}
-use lib.Seq.{paste, paste-suc, paste-zero, length-paste}
+use mathlib.Core.Path.{_≡_, refl}
+use Prim.Native.Nat.{_-_, _≤_}
+use lib.ListN.{drop}
+use lib.Seq.{paste}
 use native.Mathlib.Omega.{arith}
 use borrow.Author.Needs.{needs}
 use Rattle.octets.proofs.hash_at.Statement.{statement}
 use Rattle.octets.proofs.hash_at.Tie as tie
-use Rattle.octets.proofs.hash_at.Reads as reads
-use Rattle.octets.proofs.hash_at.Lts as lts
 
 abbrev Inv-loop : tie.InvT-loop
 Inv-loop s at h₀ i₀ h i = (i ≤ 32) × (h ≡ paste h₀ 0 (drop at s) i)

@@ -1,15 +1,12 @@
 use Rattle.octets.proofs.Turn.{turn, whole}
-use mathlib.Core.Path.{_≡_, refl, ap, sym, _∙_}
-use mathlib.Core.List.{List, [], _∷_, _++_}
-use Prim.Native.Nat.{ℕ, suc, _+_, _-_, _≤_, _<_}
-use lib.ListN.{length, take, drop, getD, set, length-set}
-use lib.Seq.{paste, paste-suc, paste-zero, length-paste}
+use mathlib.Core.Path.{_≡_, ap, _∙_}
+use Prim.Native.Nat.{_-_, _≤_}
+use lib.ListN.{length}
+use lib.Seq.{paste, paste-zero, length-paste}
 use native.Mathlib.Omega.{arith}
 use borrow.Author.Needs.{needs}
 use Rattle.octets.proofs.put_hash.Statement.{statement}
 use Rattle.octets.proofs.put_hash.Tie as tie
-use Rattle.octets.proofs.put_hash.Reads as reads
-use Rattle.octets.proofs.put_hash.Lts as lts
 
 abbrev Inv-loop : tie.InvT-loop
 Inv-loop s₀ at h i₀ s i = (i ≤ 32) × (s ≡ paste s₀ at h i)

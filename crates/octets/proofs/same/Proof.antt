@@ -1,16 +1,12 @@
 use Rattle.octets.proofs.Turn.{same-at, differ-at}
 use borrow.Author.Count.{below-more}
-use mathlib.Core.Path.{_≡_, refl, ap, sym, _∙_}
-use mathlib.Core.List.{List, [], _∷_, _++_}
-use Prim.Native.Nat.{ℕ, suc, _+_, _-_, _≤_, _<_}
-use lib.ListN.{length, take, drop, getD, set, length-set}
-use lib.Seq.{paste, paste-suc, paste-zero, length-paste}
+use mathlib.Core.Path.{_≡_, sym}
+use Prim.Native.Nat.{ℕ, _-_, _≤_, _<_}
+use lib.ListN.{getD}
 use native.Mathlib.Omega.{arith}
 use borrow.Author.Needs.{needs}
 use Rattle.octets.proofs.same.Statement.{statement}
 use Rattle.octets.proofs.same.Tie as tie
-use Rattle.octets.proofs.same.Reads as reads
-use Rattle.octets.proofs.same.Lts as lts
 
 abbrev Inv-loop : tie.InvT-loop
 Inv-loop a b i₀ i = (i ≤ 32) × ((k : ℕ) → k < i → getD a k 0 ≡ getD b k 0)

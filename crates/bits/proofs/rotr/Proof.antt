@@ -1,0 +1,22 @@
+use Rattle.bits.specs.Words.{rotr}
+use Prim.Native.Nat.{_-_}
+use mathlib.Core.Path.{refl}
+use borrow.Author.Needs.{needs}
+use Rattle.bits.proofs.rotr.Statement.{statement}
+use Rattle.bits.proofs.rotr.Tie as tie
+
+shr-result : tie.Need-shr-result
+shr-result c = search needs
+
+sub-result : tie.Need-sub-result
+sub-result c = search needs
+
+shl-result : tie.Need-shl-result
+shl-result c = search needs
+
+returns : tie.Need-returns
+unfolding rotr
+returns c = refl
+
+pub rotr-spec : {M : Type 1} → statement M
+rotr-spec = tie.close (tie.spec shr-result sub-result shl-result returns)

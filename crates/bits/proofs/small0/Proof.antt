@@ -1,0 +1,18 @@
+use Rattle.bits.specs.Words.{σ₀}
+use Prim.Native.Nat.{_-_}
+use borrow.Author.Needs.{needs}
+use Rattle.bits.proofs.small0.Statement.{statement}
+use Rattle.bits.proofs.small0.Tie as tie
+
+rotr-requires : tie.Need-rotr-requires
+rotr-requires c κs = search needs
+
+rotr-requires-2 : tie.Need-rotr-requires-2
+rotr-requires-2 c κs = search needs
+
+returns : tie.Need-returns
+unfolding σ₀
+returns c = cc
+
+pub small0-spec : {M : Type 1} → statement M
+small0-spec = tie.close (tie.spec rotr-requires rotr-requires-2 returns)

@@ -1,0 +1,157 @@
+// FIPS 180-4, section 6.2.2: the message schedule and the rounds of one block.
+ghost use mathlib.Core.Path.{_≡_};
+ghost use Prim.Native.Nat.{ℕ, _+_, _*_, _<_, _≤_};
+ghost use mathlib.Core.List.{List};
+ghost use lib.ListN.{length, take, drop, set};
+ghost use Rattle.rounds.specs.Block as S;
+ghost use Rattle.rounds.specs.Stage.{Stage};
+ghost use Rattle.rounds.specs.declared.State as D;
+use bits::add;
+use bits::big0;
+use bits::big1;
+use bits::ch;
+use bits::maj;
+use bits::small0;
+use bits::small1;
+use bits::wide;
+
+// The eight working words.
+pub struct State {
+    pub a: u32,
+    pub b: u32,
+    pub c: u32,
+    pub d: u32,
+    pub e: u32,
+    pub f: u32,
+    pub g: u32,
+    pub h: u32,
+}
+
+fn round(s: State, k: u32, w: u32) -> State
+    ensures { λ r. ⌜ r ≡ S.round s k w ⌝ }
+{
+    let t1 = add(add(add(add(s.h, k), w), ch(s.e, s.f, s.g)), big1(s.e));
+    let t2 = add(big0(s.a), maj(s.a, s.b, s.c));
+    State {
+        a: add(t1, t2),
+        b: s.a,
+        c: s.b,
+        d: s.c,
+        e: add(s.d, t1),
+        f: s.e,
+        g: s.f,
+        h: s.g,
+    }
+}
+
+fn sum(s: State, t: State) -> State
+    ensures { λ r. ⌜ r ≡ S.plus s t ⌝ }
+{
+    State {
+        a: add(s.a, t.a),
+        b: add(s.b, t.b),
+        c: add(s.c, t.c),
+        d: add(s.d, t.d),
+        e: add(s.e, t.e),
+        f: add(s.f, t.f),
+        g: add(s.g, t.g),
+        h: add(s.h, t.h),
+    }
+}
+
+fn word(s: &[u8], i: usize) -> u32
+    requires { ⌜ i + 4 ≤ length (now s) ⌝ }
+    ensures { λ r. ⌜ r ≡ S.wordAt (now (s .entry)) i ⌝ }
+{
+    (wide(s[i]) << 24) | (wide(s[i + 1]) << 16) | (wide(s[i + 2]) << 8) | wide(s[i + 3])
+}
+
+// The sixteen words of the block that starts at `at`, into the first sixteen of w.
+fn load(w: &mut [u32; 64], s: &[u8], at: usize)
+    requires { ⌜ (at + 64 ≤ length (now s)) × (length (now w) ≡ 64) ⌝ }
+    ensures { λ _. ⌜ (length (now (w .exit)) ≡ 64) × (take 16 (now (w .exit)) ≡ S.words 16 (take 64 (drop at (now (s .entry))))) ⌝ }
+{
+    let mut i: usize = 0;
+    while i < 16 {
+        w[i] = word(s, at + i * 4);
+        i += 1;
+    }
+}
+
+// The word i + 16 from the sixteen before it.
+fn grow(w: &mut [u32; 64], i: usize)
+    requires { ⌜ i < 48 ⌝ }
+    ensures { λ _. ⌜ now (w .exit) ≡ set (now (w .entry)) (i + 16) (S.next (now (w .entry)) (i + 16)) ⌝ }
+{
+    w[i + 16] = add(
+        add(add(small0(w[i + 1]), w[i]), w[i + 9]),
+        small1(w[i + 14]),
+    );
+}
+
+// Round i, and the word that is sixteen further.
+fn mixed(s: State, k: &[u32; 64], w: &mut [u32; 64], i: usize) -> State
+    requires { ⌜ i < 48 ⌝ }
+    ensures { λ r. ⌜ ((m : List ℕ) (z : D.State) → Stage (now (k .entry)) m z i (now (w .entry)) s → Stage (now (k .entry)) m z (i + 1) (now (w .exit)) r) ⌝ }
+{
+    let r = round(s, k[i], w[i]);
+    grow(&mut *w, i);
+    r
+}
+
+// Round i alone.
+fn step(s: State, k: &[u32; 64], w: &[u32; 64], i: usize) -> State
+    requires { ⌜ i < 64 ⌝ }
+    ensures { λ r. ⌜ ((z : D.State) → s ≡ S.rounds (now (k .entry)) (now (w .entry)) i z → r ≡ S.rounds (now (k .entry)) (now (w .entry)) (i + 1) z) ⌝ }
+{
+    round(s, k[i], w[i])
+}
+
+// Eight such rounds.
+fn mixed8(st: State, k: &[u32; 64], w: &mut [u32; 64], i: usize) -> State
+    requires { ⌜ i ≤ 40 ⌝ }
+    ensures { λ r. ⌜ ((m : List ℕ) (z : D.State) → Stage (now (k .entry)) m z i (now (w .entry)) st → Stage (now (k .entry)) m z (i + 8) (now (w .exit)) r) ⌝ }
+{
+    let s1 = mixed(st, k, &mut *w, i);
+    let s2 = mixed(s1, k, &mut *w, i + 1);
+    let s3 = mixed(s2, k, &mut *w, i + 2);
+    let s4 = mixed(s3, k, &mut *w, i + 3);
+    let s5 = mixed(s4, k, &mut *w, i + 4);
+    let s6 = mixed(s5, k, &mut *w, i + 5);
+    let s7 = mixed(s6, k, &mut *w, i + 6);
+    mixed(s7, k, &mut *w, i + 7)
+}
+
+fn step8(st: State, k: &[u32; 64], w: &[u32; 64], i: usize) -> State
+    requires { ⌜ i ≤ 56 ⌝ }
+    ensures { λ r. ⌜ ((z : D.State) → st ≡ S.rounds (now (k .entry)) (now (w .entry)) i z → r ≡ S.rounds (now (k .entry)) (now (w .entry)) (i + 8) z) ⌝ }
+{
+    let s1 = step(st, k, w, i);
+    let s2 = step(s1, k, w, i + 1);
+    let s3 = step(s2, k, w, i + 2);
+    let s4 = step(s3, k, w, i + 3);
+    let s5 = step(s4, k, w, i + 4);
+    let s6 = step(s5, k, w, i + 5);
+    let s7 = step(s6, k, w, i + 6);
+    step(s7, k, w, i + 7)
+}
+
+// The block of s at `at`: the sixteen words, 48 rounds that make a word each, and 16 rounds.
+pub fn compress(st: State, k: &[u32; 64], s: &[u8], at: usize) -> State
+    requires { ⌜ at + 64 ≤ length (now s) ⌝ }
+    ensures { λ r. ⌜ r ≡ S.compress (now (k .entry)) st (take 64 (drop at (now (s .entry)))) ⌝ }
+{
+    let mut w = [0u32; 64];
+    load(&mut w, s, at);
+    let mut t = st;
+    let mut i: usize = 0;
+    while i <= 40 {
+        t = mixed8(t, k, &mut w, i);
+        i += 8;
+    }
+    while i <= 56 {
+        t = step8(t, k, &w, i);
+        i += 8;
+    }
+    sum(st, t)
+}
