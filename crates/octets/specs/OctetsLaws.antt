@@ -9,7 +9,7 @@ use native.Mathlib.Nat.{mod-lt}
 use native.Mathlib.Omega.{arith}
 use native.Mathlib.Decide.{decLt}
 use lib.ListN.{length, take, drop, getD, set, length-append, length-take, length-drop, length-set, replicate, getD-replicate, List·getD-append, drop-of-length-le}
-use lib.Seq.{length-take-le, take-at, drop-at, getD-take, getD-drop, getD-append-add, getD-set-other, ext-getD, take-take, take-nil, take-all, drop-drop}
+use lib.Seq.{length-take-le, take-at, drop-at, getD-take, getD-drop, getD-append-add, getD-set-other, ext-getD, take-take, take-nil, take-all, take-append-le, drop-append-le, drop-drop}
 use lib.Dec.{eqb, lit<}
 use borrow.Author.Tests.{eqb-true, eq-eqb}
 use Rattle.octets.specs.Octets.{Octets, cut, pasted, same, be, zeroHash}
@@ -181,3 +181,24 @@ cut-whole s n h = take-all n s h
 pub cut-size : (s : List ℕ) (at n : ℕ) → length (cut s at n) ≡ min n (length s - at)
 unfolding cut
 cut-size s at n = simp (length-take, length-drop)
+
+-- asking for more than is left gives what is left
+pub cut-short : (s : List ℕ) (at n : ℕ) → cut s at (min n (length s - at)) ≡ cut s at n
+unfolding cut
+cut-short s at n = by-size (decLt (length s - at) n)
+  where
+    by-size : Dec (length s - at < n) → take (min n (length s - at)) (drop at s) ≡ take n (drop at s)
+    by-size (yes l) =
+        take-all (min n (length s - at)) (drop at s) (simp length-drop (omega arith)) ∙ sym (take-all n (drop at s) (simp length-drop (omega arith)))
+    by-size (no g) = let e : min n (length s - at) ≡ n = omega arith in rw e
+
+-- a part that lies in the first of two lists
+pub cut-append-left : (a b : List ℕ) (at n : ℕ) → at + n ≤ length a → cut (a ++ b) at n ≡ cut a at n
+unfolding cut
+cut-append-left a b at n h =
+    ap (λ (l : List ℕ). take n l) (drop-append-le at a b (omega arith)) ∙ take-append-le n (drop at a) b (simp length-drop (omega arith))
+
+-- the part that is the second
+pub cut-append-right : (a b : List ℕ) (at n : ℕ) → length a ≡ at → length b ≡ n → cut (a ++ b) at n ≡ b
+unfolding cut
+cut-append-right a b at n e f = ap (λ (l : List ℕ). take n l) (drop-at a b at e) ∙ take-all n b (omega arith)

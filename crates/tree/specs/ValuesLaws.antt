@@ -12,11 +12,12 @@ use lib.Dec.{ltb}
 use lib.Pow.{pow-pos, pow-add}
 use borrow.Author.Tests.{lt-ltb, le-ltb}
 use Rattle.octets.specs.Octets.{Octets, cut, zeroHash}
-use Rattle.octets.specs.OctetsLaws.{cut-cut, cut-size, cut-whole, zero-octets}
+use Rattle.octets.specs.OctetsLaws.{cut-cut, cut-size, cut-whole, cut-short, cut-append-left, cut-append-right, append-octets, zero-octets}
+use Rattle.sha256.specs.Sha256Laws.{sha256-octets, pair-octets}
 use Rattle.sha256.specs.Sha256.{sha256, pairHash}
 use Rattle.tree.specs.Geometry.{blockLength, ceilDiv, blockCount, height, Padding, covering, pieceCount}
 use Rattle.tree.specs.GeometryLaws.{padding-from-covering, covering-until-padding, covering-within, block-past, block-starts, block-within, block-outside}
-use Rattle.tree.specs.Values.{node, padValue, blockOf, leafOf, piecesRoot, pieceOf, layerLeaf, layerRoot}
+use Rattle.tree.specs.Values.{node, padValue, blockOf, leafOf, piecesRoot, pieceOf, layerOf, wholeLayer, layerLeaf, layerRoot}
 
 -- ---- nodes over any leaves
 
@@ -85,7 +86,54 @@ padding-value file l i h =
     node-padding (leafOf file) 0 (blockCount (length file)) (leaf-padding file) l i h
     ∙ (let e : 0 + l ≡ l = omega arith in ap padValue e)
 
+-- ---- every value is a string of 32 bytes
+
+pub node-octets : (leaf : ℕ → List ℕ) → ((i : ℕ) → Octets 32 (leaf i)) → (k j : ℕ) → Octets 32 (node leaf k j)
+unfolding node
+node-octets leaf h zero j = h j
+node-octets leaf h (suc k) j = pair-octets (node leaf k (2 * j)) (node leaf k (2 * j + 1))
+
+pub pad-octets : (l : ℕ) → Octets 32 (padValue l)
+unfolding padValue
+pad-octets zero = zero-octets
+pad-octets (suc l) = pair-octets (padValue l) (padValue l)
+
+pub leaf-octets : (file : List ℕ) (i : ℕ) → Octets 32 (leafOf file i)
+leaf-octets file i = by-side (decLt i (blockCount (length file)))
+  where
+    by-side : Dec (i < blockCount (length file)) → Octets 32 (leafOf file i)
+    by-side (yes l) = rw (leaf-block file i l) (sha256-octets (blockOf file i))
+    by-side (no g) = rw (leaf-padding file i (omega arith)) (pad-octets 0)
+
+pub file-octets : (file : List ℕ) (k j : ℕ) → Octets 32 (node (leafOf file) k j)
+file-octets file = node-octets (leafOf file) (leaf-octets file)
+
+pub root-octets : (file : List ℕ) → Octets 32 (piecesRoot file)
+unfolding piecesRoot
+root-octets file = file-octets file (height (blockCount (length file))) 0
+
+pub layer-octets : (file : List ℕ) (p c : ℕ) → Octets (32 * c) (layerOf file p c)
+unfolding layerOf
+layer-octets file p zero = record { size = refl; bytes = λ i h. absurd (omega arith) }
+layer-octets file p (suc c) =
+    let e : 32 * c + 32 ≡ 32 * suc c = omega arith in
+    subst (λ (n : ℕ). Octets n (layerOf file p c ++ node (leafOf file) p c)) e (append-octets (layer-octets file p c) (file-octets file p c))
+
 -- ---- any layer gives the root
+
+-- hash i of a layer's string is node i of the layer
+pub layer-cut : (file : List ℕ) (p c i : ℕ) → i < c → cut (layerOf file p c) (32 * i) 32 ≡ node (leafOf file) p i
+unfolding layerOf
+layer-cut file p zero i h = absurd (omega arith)
+layer-cut file p (suc c) i h = by-side (decLt i c) (layer-cut file p c i)
+  where
+    by-side : Dec (i < c) → (i < c → cut (layerOf file p c) (32 * i) 32 ≡ node (leafOf file) p i)
+        → cut (layerOf file p c ++ node (leafOf file) p c) (32 * i) 32 ≡ node (leafOf file) p i
+    by-side (yes l) r = cut-append-left (layerOf file p c) (node (leafOf file) p c) (32 * i) 32 (omega (arith, layer-octets file p c .size)) ∙ r l
+    by-side (no g) r =
+        let e : i ≡ c = omega arith in
+        cut-append-right (layerOf file p c) (node (leafOf file) p c) (32 * i) 32 (omega (arith, layer-octets file p c .size)) (file-octets file p c .size)
+        ∙ ap (node (leafOf file) p) (sym e)
 
 -- the hashes in a layer's string, and after them the padding value
 pub layer-leaf-in : (layer : List ℕ) (p c i : ℕ) → length layer ≡ 32 * c → i < c → layerLeaf layer p i ≡ cut layer (32 * i) 32
@@ -95,6 +143,14 @@ layer-leaf-in layer p c i e h = rw (lt-ltb i (length layer / 32) (omega arith))
 pub layer-leaf-past : (layer : List ℕ) (p c i : ℕ) → length layer ≡ 32 * c → c ≤ i → layerLeaf layer p i ≡ padValue p
 unfolding layerLeaf
 layer-leaf-past layer p c i e h = rw (le-ltb i (length layer / 32) (omega arith))
+
+-- where the layer's string has no hash any more, the nodes above have the padding value of their layer
+pub layer-padding : (layer : List ℕ) (p k j : ℕ) → covering (length layer / 32) k ≤ j → node (layerLeaf layer p) k j ≡ padValue (p + k)
+unfolding layerLeaf Padding
+layer-padding layer p k j h =
+    node-padding (layerLeaf layer p) p (length layer / 32)
+    (λ i l. rw (le-ltb i (length layer / 32) l))
+    k j (padding-from-covering (length layer / 32) k j h)
 
 -- the nodes above a layer, worked out from the string of its hashes that aren't padding, are the nodes of the file
 pub node-of-layer : (file layer : List ℕ) (p : ℕ) → length layer ≡ 32 * covering (blockCount (length file)) p
@@ -120,6 +176,15 @@ root-of-layer file layer p l e h =
     let s : p + (height (blockCount (length file)) - p) ≡ height (blockCount (length file)) = omega arith in
     node-of-layer file layer p e h (height (blockCount (length file)) - p) 0
     ∙ ap (λ (x : ℕ). node (leafOf file) x 0) s
+
+-- so the root doesn't depend on the piece length
+pub root-of-whole-layer : (file : List ℕ) (p : ℕ) → p ≤ height (blockCount (length file))
+    → layerRoot (wholeLayer file p) p (height (blockCount (length file))) ≡ piecesRoot file
+unfolding wholeLayer
+root-of-whole-layer file p l =
+    root-of-layer file (layerOf file p (covering (blockCount (length file)) p)) p l
+    (layer-octets file p (covering (blockCount (length file)) p) .size)
+    (layer-cut file p (covering (blockCount (length file)) p))
 
 -- ---- a piece by its own bytes
 
