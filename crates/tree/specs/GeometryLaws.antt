@@ -441,3 +441,14 @@ shifted-one d l = shl-exact {a = 1} 1 d 64 (omega arith) (omega arith) ∙ one-m
 
 pub shifted-block : (d : ℕ) → d ≤ 10 → (16384 * 2 ^ d) % 18446744073709551616 ≡ 16384 * 2 ^ d
 shifted-block d l = shl-exact {a = 16384} 15 d 64 (omega arith) (omega arith)
+
+-- the left child of a position that isn't padding isn't padding
+pub covering-left : (b k j : ℕ) → (k ≡ 0 → ⊥) → j < covering b k → 2 * j < covering b (k - 1)
+covering-left b zero j n h = absurd (n refl)
+covering-left b (suc k) j n h =
+    let e : suc k - 1 ≡ k = omega arith in
+    rw e (omega (arith, ceil-below (covering b k) 2 j (omega arith) (omega (arith, covering-halves b k))))
+
+-- so its number is less than half the blocks
+pub covering-doubled : (b k j : ℕ) → (k ≡ 0 → ⊥) → j < covering b k → 2 * j < b
+covering-doubled b k j n h = omega (arith, covering-left b k j n h, covering-most b (k - 1))

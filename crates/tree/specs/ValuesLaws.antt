@@ -6,8 +6,9 @@ use mathlib.Core.List.{List, [], _∷_, _++_}
 use Prim.Native.Nat.{ℕ, zero, suc, _+_, _-_, _*_, _/_, _^_, _≤_, _<_, min}
 use native.Mathlib.Nat.{add-mul, one-mul, mul-one, zero-mul, mul-assoc, mul-comm, mul-add, mul-le-mul-left, mul-le-mul-right, pow-succ', le-trans, mul-div-cancel-left, add-suc, add-zero}
 use native.Mathlib.Decide.{decLe, decLt}
+use native.Mathlib.Numerals.{add-one}
 use native.Mathlib.Omega.{arith}
-use lib.ListN.{length, take, drop}
+use lib.ListN.{length, take, drop, replicate}
 use lib.Dec.{ltb}
 use lib.Pow.{pow-pos, pow-add}
 use borrow.Author.Tests.{lt-ltb, le-ltb}
@@ -15,7 +16,7 @@ use Rattle.octets.specs.Octets.{Octets, cut, zeroHash}
 use Rattle.octets.specs.OctetsLaws.{cut-cut, cut-size, cut-whole, cut-short, cut-append-left, cut-append-right, append-octets, zero-octets}
 use Rattle.sha256.specs.Sha256Laws.{sha256-octets, pair-octets}
 use Rattle.sha256.specs.Sha256.{sha256, pairHash}
-use Rattle.tree.specs.Geometry.{blockLength, ceilDiv, blockCount, height, Padding, covering, pieceCount}
+use Rattle.tree.specs.Geometry.{blockLength, ceilDiv, blockCount, height, Padding, covering, pieceCount, blockSize}
 use Rattle.tree.specs.GeometryLaws.{padding-from-covering, covering-until-padding, covering-within, block-past, block-starts, block-within, block-outside}
 use Rattle.tree.specs.Values.{node, padValue, blockOf, leafOf, piecesRoot, pieceOf, layerOf, wholeLayer, layerLeaf, layerRoot}
 
@@ -232,3 +233,50 @@ pub one-piece-root : (file : List ℕ) (p : ℕ) → length file ≤ blockLength
     → piecesRoot file ≡ node (leafOf (pieceOf file p 0)) (height (blockCount (length file))) 0
 unfolding piecesRoot
 one-piece-root file p h = rw (one-piece file p h)
+
+-- ---- as the code works them out
+
+pub pad-first : _≡_ {A = List ℕ} (replicate 32 0) (padValue 0)
+unfolding padValue zeroHash
+pad-first = refl
+
+pub pad-next : (v w : List ℕ) (i : ℕ) → v ≡ padValue i → w ≡ pairHash v v → w ≡ padValue (i + 1)
+unfolding padValue
+pad-next v w i e f = rw add-one (f ∙ ap (λ (x : List ℕ). pairHash x x) e)
+
+pub pad-done : (v : List ℕ) (i l : ℕ) → v ≡ padValue i → i ≤ l → l ≤ i → v ≡ padValue l
+pad-done v i l e a b = let q : i ≡ l = omega arith in e ∙ ap padValue q
+
+pub leaf-hashed : (file h : List ℕ) (i s : ℕ) → i < blockCount (length file) → s ≡ blockSize (length file) i
+    → h ≡ sha256 (take (blockLength * i + s - blockLength * i) (drop (blockLength * i) file)) → h ≡ leafOf file i
+unfolding blockSize blockOf cut
+leaf-hashed file h i s l e f =
+    let q : blockLength * i + s - blockLength * i ≡ min blockLength (length file - blockLength * i) = omega arith in
+    f ∙ ap (λ (n : ℕ). sha256 (take n (drop (blockLength * i) file))) q
+    ∙ ap sha256 (cut-short file (blockLength * i) blockLength)
+    ∙ sym (leaf-block file i l)
+
+pub leaf-past : (file h : List ℕ) (i : ℕ) → blockCount (length file) ≤ i → h ≡ padValue 0 → h ≡ leafOf file i
+leaf-past file h i l e = e ∙ sym (leaf-padding file i l)
+
+pub node-leaf : (leaf : ℕ → List ℕ) (h : List ℕ) (k j : ℕ) → k ≡ 0 → h ≡ leaf j → h ≡ node leaf k j
+unfolding node
+node-leaf leaf h k j z e = rw z e
+
+pub node-pair : (leaf : ℕ → List ℕ) (h l r : List ℕ) (k j : ℕ) → (k ≡ 0 → ⊥) → l ≡ node leaf (k - 1) (2 * j) → r ≡ node leaf (k - 1) (2 * j + 1)
+    → h ≡ pairHash l r → h ≡ node leaf k j
+unfolding node
+node-pair leaf h l r zero j n e f g = absurd (n refl)
+node-pair leaf h l r (suc k) j n e f g =
+    let q : suc k - 1 ≡ k = omega arith in
+    g ∙ ap₂ (λ (x y : List ℕ). pairHash x y) (e ∙ ap (λ (d : ℕ). node leaf d (2 * j)) q) (f ∙ ap (λ (d : ℕ). node leaf d (2 * j + 1)) q)
+
+pub node-past : (file h : List ℕ) (k j : ℕ) → covering (blockCount (length file)) k ≤ j → h ≡ padValue k → h ≡ node (leafOf file) k j
+node-past file h k j l e = e ∙ sym (padding-value file k j (padding-from-covering (blockCount (length file)) k j l))
+
+pub layer-past : (layer h : List ℕ) (p k j : ℕ) → covering (length layer / 32) k ≤ j → h ≡ padValue (p + k) → h ≡ node (layerLeaf layer p) k j
+layer-past layer h p k j l e = e ∙ sym (layer-padding layer p k j l)
+
+pub layer-read : (layer h : List ℕ) (p k j : ℕ) → k ≡ 0 → j < length layer / 32 → h ≡ cut layer (32 * j) 32 → h ≡ node (layerLeaf layer p) k j
+unfolding layerLeaf
+layer-read layer h p k j z l e = node-leaf (layerLeaf layer p) h k j z (rw (lt-ltb j (length layer / 32) l) e)

@@ -1,0 +1,267 @@
+use borrow.Author.Needs.{needs}
+use native.Mathlib.Omega.{arith}
+use lib.ListN.{length, getD, set, take, drop}
+use mathlib.Core.Path.{_≡_, refl, ap, sym, _∙_}
+use Prim.Native.Nat.{ℕ, _<_, _+_, _-_, _*_, _≤_, _/_, _%_, _^_}
+use borrow.Fn.Kinds.{In}
+use borrow.Fn.PlainCycle.{Measures, is, falls, and}
+use Rattle.tree.proofs.values.layer_node.Reads as layer-node
+use Rattle.tree.proofs.values.layer_node.Kinds as layer-node-kinds
+use Rattle.tree.proofs.values.+layer_node.Lts-layer_node as layer-node-lts
+use Rattle.octets.proofs.hash_at.Reads as hash-at-reads
+use Rattle.sha256.proofs.pair.Reads as pair-reads
+use Rattle.tree.proofs.geometry.covering.Reads as covering-reads
+use Rattle.tree.proofs.values.pad_value.Reads as pad-value-reads
+use Rattle.tree.proofs.values.+layer_node.{statement}
+use Rattle.tree.proofs.values.+layer_node.Tie.{close}
+
+abbrev μ-layer-node : Measures 1 layer-node-kinds.ps ℕ
+μ-layer-node κs a = ?
+
+abbrev layer-node-at : ℕ → In 1 layer-node-kinds.ps
+layer-node-at t =
+    and 1 layer-node-kinds.ps (is 1 layer-node-kinds.ps μ-layer-node t) layer-node.Pre
+
+abbrev layer-node-below : ℕ → In 1 layer-node-kinds.ps
+layer-node-below t =
+    and 1 layer-node-kinds.ps (falls 1 layer-node-kinds.ps _<_ μ-layer-node t) layer-node.Pre
+
+-- src/values.rt:67:9
+layer-node-covering-requires : (t : ℕ) → layer-node-lts.Need-covering-requires (
+  covering-reads.Asked,
+  covering-reads.Learnt,
+  pad-value-reads.Asked,
+  pad-value-reads.Learnt,
+  hash-at-reads.Asked,
+  hash-at-reads.Learnt,
+  layer-node-below t,
+  layer-node.Post,
+  pair-reads.Asked,
+  pair-reads.Learnt,
+) (layer-node-at t) layer-node.Post
+layer-node-covering-requires t c κs = search needs
+
+-- src/values.rt:69:17
+layer-node-add-q : (t : ℕ) → layer-node-lts.Need-add-q (
+  covering-reads.Asked,
+  covering-reads.Learnt,
+  pad-value-reads.Asked,
+  pad-value-reads.Learnt,
+  hash-at-reads.Asked,
+  hash-at-reads.Learnt,
+  layer-node-below t,
+  layer-node.Post,
+  pair-reads.Asked,
+  pair-reads.Learnt,
+) (layer-node-at t) layer-node.Post
+layer-node-add-q t c = search needs
+
+-- src/values.rt:70:9
+layer-node-pad-value-requires : (t : ℕ) → layer-node-lts.Need-pad-value-requires (
+  covering-reads.Asked,
+  covering-reads.Learnt,
+  pad-value-reads.Asked,
+  pad-value-reads.Learnt,
+  hash-at-reads.Asked,
+  hash-at-reads.Learnt,
+  layer-node-below t,
+  layer-node.Post,
+  pair-reads.Asked,
+  pair-reads.Learnt,
+) (layer-node-at t) layer-node.Post
+layer-node-pad-value-requires t c κs = search needs
+
+-- src/values.rt:70:9
+layer-node-returns : (t : ℕ) → layer-node-lts.Need-returns (
+  covering-reads.Asked,
+  covering-reads.Learnt,
+  pad-value-reads.Asked,
+  pad-value-reads.Learnt,
+  hash-at-reads.Asked,
+  hash-at-reads.Learnt,
+  layer-node-below t,
+  layer-node.Post,
+  pair-reads.Asked,
+  pair-reads.Learnt,
+) (layer-node-at t) layer-node.Post
+layer-node-returns t c = search needs
+
+-- src/values.rt:73:31
+layer-node-mul-hash-at : (t : ℕ) → layer-node-lts.Need-mul-hash-at (
+  covering-reads.Asked,
+  covering-reads.Learnt,
+  pad-value-reads.Asked,
+  pad-value-reads.Learnt,
+  hash-at-reads.Asked,
+  hash-at-reads.Learnt,
+  layer-node-below t,
+  layer-node.Post,
+  pair-reads.Asked,
+  pair-reads.Learnt,
+) (layer-node-at t) layer-node.Post
+layer-node-mul-hash-at t c = search needs
+
+-- src/values.rt:73:9
+layer-node-hash-at-requires : (t : ℕ) → layer-node-lts.Need-hash-at-requires (
+  covering-reads.Asked,
+  covering-reads.Learnt,
+  pad-value-reads.Asked,
+  pad-value-reads.Learnt,
+  hash-at-reads.Asked,
+  hash-at-reads.Learnt,
+  layer-node-below t,
+  layer-node.Post,
+  pair-reads.Asked,
+  pair-reads.Learnt,
+) (layer-node-at t) layer-node.Post
+layer-node-hash-at-requires t c κs = search needs
+
+-- src/values.rt:73:9
+layer-node-returns-2 : (t : ℕ) → layer-node-lts.Need-returns-2 (
+  covering-reads.Asked,
+  covering-reads.Learnt,
+  pad-value-reads.Asked,
+  pad-value-reads.Learnt,
+  hash-at-reads.Asked,
+  hash-at-reads.Learnt,
+  layer-node-below t,
+  layer-node.Post,
+  pair-reads.Asked,
+  pair-reads.Learnt,
+) (layer-node-at t) layer-node.Post
+layer-node-returns-2 t c = search needs
+
+-- src/values.rt:75:13
+layer-node-sub-d : (t : ℕ) → layer-node-lts.Need-sub-d (
+  covering-reads.Asked,
+  covering-reads.Learnt,
+  pad-value-reads.Asked,
+  pad-value-reads.Learnt,
+  hash-at-reads.Asked,
+  hash-at-reads.Learnt,
+  layer-node-below t,
+  layer-node.Post,
+  pair-reads.Asked,
+  pair-reads.Learnt,
+) (layer-node-at t) layer-node.Post
+layer-node-sub-d t c = search needs
+
+-- src/values.rt:76:14
+layer-node-mul-j2 : (t : ℕ) → layer-node-lts.Need-mul-j2 (
+  covering-reads.Asked,
+  covering-reads.Learnt,
+  pad-value-reads.Asked,
+  pad-value-reads.Learnt,
+  hash-at-reads.Asked,
+  hash-at-reads.Learnt,
+  layer-node-below t,
+  layer-node.Post,
+  pair-reads.Asked,
+  pair-reads.Learnt,
+) (layer-node-at t) layer-node.Post
+layer-node-mul-j2 t c = search needs
+
+-- src/values.rt:77:14
+layer-node-add-j3 : (t : ℕ) → layer-node-lts.Need-add-j3 (
+  covering-reads.Asked,
+  covering-reads.Learnt,
+  pad-value-reads.Asked,
+  pad-value-reads.Learnt,
+  hash-at-reads.Asked,
+  hash-at-reads.Learnt,
+  layer-node-below t,
+  layer-node.Post,
+  pair-reads.Asked,
+  pair-reads.Learnt,
+) (layer-node-at t) layer-node.Post
+layer-node-add-j3 t c = search needs
+
+-- src/values.rt:78:9
+layer-node-layer-node-requires : (t : ℕ) → layer-node-lts.Need-layer-node-requires (
+  covering-reads.Asked,
+  covering-reads.Learnt,
+  pad-value-reads.Asked,
+  pad-value-reads.Learnt,
+  hash-at-reads.Asked,
+  hash-at-reads.Learnt,
+  layer-node-below t,
+  layer-node.Post,
+  pair-reads.Asked,
+  pair-reads.Learnt,
+) (layer-node-at t) layer-node.Post
+layer-node-layer-node-requires t c κs = search needs
+
+-- src/values.rt:79:9
+layer-node-layer-node-requires-2 : (t : ℕ) → layer-node-lts.Need-layer-node-requires-2 (
+  covering-reads.Asked,
+  covering-reads.Learnt,
+  pad-value-reads.Asked,
+  pad-value-reads.Learnt,
+  hash-at-reads.Asked,
+  hash-at-reads.Learnt,
+  layer-node-below t,
+  layer-node.Post,
+  pair-reads.Asked,
+  pair-reads.Learnt,
+) (layer-node-at t) layer-node.Post
+layer-node-layer-node-requires-2 t c κs = search needs
+
+-- src/values.rt:80:5
+layer-node-pair-requires : (t : ℕ) → layer-node-lts.Need-pair-requires (
+  covering-reads.Asked,
+  covering-reads.Learnt,
+  pad-value-reads.Asked,
+  pad-value-reads.Learnt,
+  hash-at-reads.Asked,
+  hash-at-reads.Learnt,
+  layer-node-below t,
+  layer-node.Post,
+  pair-reads.Asked,
+  pair-reads.Learnt,
+) (layer-node-at t) layer-node.Post
+layer-node-pair-requires t c κs = search needs
+
+-- src/values.rt:62:1
+layer-node-returns-3 : (t : ℕ) → layer-node-lts.Need-returns-3 (
+  covering-reads.Asked,
+  covering-reads.Learnt,
+  pad-value-reads.Asked,
+  pad-value-reads.Learnt,
+  hash-at-reads.Asked,
+  hash-at-reads.Learnt,
+  layer-node-below t,
+  layer-node.Post,
+  pair-reads.Asked,
+  pair-reads.Learnt,
+) (layer-node-at t) layer-node.Post
+layer-node-returns-3 t c = search needs
+
+pub +layer-node-spec : {M : Type 1} → statement M
++layer-node-spec = close μ-layer-node λ t. layer-node-lts.spec (
+  covering-reads.Asked,
+  covering-reads.Learnt,
+  pad-value-reads.Asked,
+  pad-value-reads.Learnt,
+  hash-at-reads.Asked,
+  hash-at-reads.Learnt,
+  layer-node-below t,
+  layer-node.Post,
+  pair-reads.Asked,
+  pair-reads.Learnt,
+)
+    (layer-node-at t)
+    layer-node.Post
+    (layer-node-covering-requires t)
+    (layer-node-add-q t)
+    (layer-node-pad-value-requires t)
+    (layer-node-returns t)
+    (layer-node-mul-hash-at t)
+    (layer-node-hash-at-requires t)
+    (layer-node-returns-2 t)
+    (layer-node-sub-d t)
+    (layer-node-mul-j2 t)
+    (layer-node-add-j3 t)
+    (layer-node-layer-node-requires t)
+    (layer-node-layer-node-requires-2 t)
+    (layer-node-pair-requires t)
+    (layer-node-returns-3 t)
