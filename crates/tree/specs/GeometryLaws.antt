@@ -339,6 +339,20 @@ pub pieces-covering : (n p : ℕ) → pieceCount n (blockLength * 2 ^ p) ≡ cov
 unfolding pieceCount covering blockCount
 pieces-covering n p = ap (λ (x : ℕ). ceilDiv n x) (mul-comm blockLength (2 ^ p)) ∙ sym (ceil-ceil n blockLength (2 ^ p) (omega arith) (pow-pos p))
 
+-- a file longer than a piece of 16384·2^p bytes is higher than layer p
+pub long-file-height : (n p : ℕ) → blockLength * 2 ^ p < n → p < height (blockCount n)
+long-file-height n p h = by-height (decLt p (height (blockCount n)))
+  where
+    by-height : Dec (p < height (blockCount n)) → p < height (blockCount n)
+    by-height (yes l) = l
+    by-height (no g) =
+        let w : 2 ^ height (blockCount n) ≤ 2 ^ p = pow-mono (omega arith) in
+        absurd (omega (arith, block-within n (2 ^ p) h, height-enough (blockCount n)))
+
+-- and any other isn't
+pub short-file-height : (n p : ℕ) → n ≤ blockLength * 2 ^ p → height (blockCount n) ≤ p
+short-file-height n p h = height-least (blockCount n) p (block-outside n (2 ^ p) h)
+
 -- ---- node numbers
 
 -- the root is number 1
@@ -379,6 +393,23 @@ node-number-distinct h l i m j lh mh ib jb e = by-layer (decLt l m) (decLt m l)
     by-layer (no k) (no k2) =
         let q : l ≡ m = omega arith in
         (q, same-layer q (ap (λ (x : ℕ). nodeNumber h x i) (sym q) ∙ e))
+
+-- every number from 1 up to 2·2^h is that of a position
+pub node-number-covers : (h n : ℕ) → 1 ≤ n → n < 2 * 2 ^ h → (l : ℕ) × (i : ℕ) × (l ≤ h) × (i < 2 ^ (h - l)) × (n ≡ nodeNumber h l i)
+unfolding nodeNumber
+node-number-covers zero n a b = (0, n - 1, omega arith, omega arith, omega arith)
+node-number-covers (suc h) n a b = by-layer (decLt n (2 * 2 ^ h)) (λ c. node-number-covers h n a c)
+  where
+    by-layer : Dec (n < 2 * 2 ^ h)
+        → (n < 2 * 2 ^ h → (l : ℕ) × (i : ℕ) × (l ≤ h) × (i < 2 ^ (h - l)) × (n ≡ 2 ^ (h - l) + i))
+        → (l : ℕ) × (i : ℕ) × (l ≤ suc h) × (i < 2 ^ (suc h - l)) × (n ≡ 2 ^ (suc h - l) + i)
+    by-layer (yes c) r =
+        let w = r c in
+        let e : suc h - suc (w .0) ≡ h - w .0 = omega arith in
+        (suc (w .0), w .1, omega arith, rw e (w .3), rw e (w .4))
+    by-layer (no g) r =
+        let e : suc h - 0 ≡ suc h = omega arith in
+        (0, n - 2 ^ suc h, omega arith, rw e (omega (arith, pow-succ' 2 h)), rw e (omega (arith, pow-succ' 2 h)))
 
 -- the parent of node n is n / 2
 pub node-number-parent : (h l i : ℕ) → l < h → nodeNumber h (suc l) (i / 2) ≡ nodeNumber h l i / 2
@@ -452,3 +483,7 @@ covering-left b (suc k) j n h =
 -- so its number is less than half the blocks
 pub covering-doubled : (b k j : ℕ) → (k ≡ 0 → ⊥) → j < covering b k → 2 * j < b
 covering-doubled b k j n h = omega (arith, covering-left b k j n h, covering-most b (k - 1))
+
+-- at layer 0 every position that isn't padding is a block
+pub at-leaves : (b k j c : ℕ) → c ≡ covering b k → k ≡ 0 → j < c → j < b
+at-leaves b k j c e z l = omega (arith, covering-leaves b, ap (covering b) z)

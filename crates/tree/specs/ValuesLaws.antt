@@ -17,7 +17,7 @@ use Rattle.octets.specs.OctetsLaws.{cut-cut, cut-size, cut-whole, cut-short, cu
 use Rattle.sha256.specs.Sha256Laws.{sha256-octets, pair-octets}
 use Rattle.sha256.specs.Sha256.{sha256, pairHash}
 use Rattle.tree.specs.Geometry.{blockLength, ceilDiv, blockCount, height, Padding, covering, pieceCount, blockSize}
-use Rattle.tree.specs.GeometryLaws.{padding-from-covering, covering-until-padding, covering-within, block-past, block-starts, block-within, block-outside}
+use Rattle.tree.specs.GeometryLaws.{padding-from-covering, covering-until-padding, covering-within, block-past, block-starts, block-within, block-outside, at-leaves}
 use Rattle.tree.specs.Values.{node, padValue, blockOf, leafOf, piecesRoot, pieceOf, layerOf, wholeLayer, layerLeaf, layerRoot}
 
 -- ---- nodes over any leaves
@@ -271,12 +271,14 @@ node-pair leaf h l r (suc k) j n e f g =
     let q : suc k - 1 ≡ k = omega arith in
     g ∙ ap₂ (λ (x y : List ℕ). pairHash x y) (e ∙ ap (λ (d : ℕ). node leaf d (2 * j)) q) (f ∙ ap (λ (d : ℕ). node leaf d (2 * j + 1)) q)
 
-pub node-past : (file h : List ℕ) (k j : ℕ) → covering (blockCount (length file)) k ≤ j → h ≡ padValue k → h ≡ node (leafOf file) k j
-node-past file h k j l e = e ∙ sym (padding-value file k j (padding-from-covering (blockCount (length file)) k j l))
+pub node-past : (file h : List ℕ) (k j b c : ℕ) → b ≡ blockCount (length file) → c ≡ covering b k → c ≤ j → h ≡ padValue k → h ≡ node (leafOf file) k j
+node-past file h k j b c e f l g =
+    g ∙ sym (padding-value file k j (padding-from-covering (blockCount (length file)) k j (omega (arith, f ∙ ap (λ (x : ℕ). covering x k) e))))
 
-pub layer-past : (layer h : List ℕ) (p k j : ℕ) → covering (length layer / 32) k ≤ j → h ≡ padValue (p + k) → h ≡ node (layerLeaf layer p) k j
-layer-past layer h p k j l e = e ∙ sym (layer-padding layer p k j l)
+pub layer-past : (layer h : List ℕ) (p k j c : ℕ) → c ≡ covering (length layer / 32) k → c ≤ j → h ≡ padValue (p + k) → h ≡ node (layerLeaf layer p) k j
+layer-past layer h p k j c e l g = g ∙ sym (layer-padding layer p k j (omega arith))
 
-pub layer-read : (layer h : List ℕ) (p k j : ℕ) → k ≡ 0 → j < length layer / 32 → h ≡ cut layer (32 * j) 32 → h ≡ node (layerLeaf layer p) k j
+pub layer-read : (layer h : List ℕ) (p k j c : ℕ) → c ≡ covering (length layer / 32) k → k ≡ 0 → j < c → h ≡ cut layer (32 * j) 32 → h ≡ node (layerLeaf layer p) k j
 unfolding layerLeaf
-layer-read layer h p k j z l e = node-leaf (layerLeaf layer p) h k j z (rw (lt-ltb j (length layer / 32) l) e)
+layer-read layer h p k j c e z l g =
+    node-leaf (layerLeaf layer p) h k j z (rw (lt-ltb j (length layer / 32) (at-leaves (length layer / 32) k j c e z l)) g)

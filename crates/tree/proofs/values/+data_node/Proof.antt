@@ -1,3 +1,6 @@
+use Rattle.tree.specs.Values.{leafOf}
+use Rattle.tree.specs.GeometryLaws.{covering-doubled}
+use Rattle.tree.specs.ValuesLaws.{node-past, node-leaf, node-pair}
 use borrow.Author.Needs.{needs}
 use native.Mathlib.Omega.{arith}
 use lib.ListN.{length, getD, set, take, drop}
@@ -17,7 +20,7 @@ use Rattle.tree.proofs.values.+data_node.{statement}
 use Rattle.tree.proofs.values.+data_node.Tie.{close}
 
 abbrev μ-data-node : Measures 1 data-node-kinds.ps ℕ
-μ-data-node κs a = ?
+μ-data-node κs a = a .1 .0
 
 abbrev data-node-at : ℕ → In 1 data-node-kinds.ps
 data-node-at t = and 1 data-node-kinds.ps (is 1 data-node-kinds.ps μ-data-node t) data-node.Pre
@@ -92,7 +95,7 @@ data-node-returns : (t : ℕ) → data-node-lts.Need-returns (
   pair-reads.Asked,
   pair-reads.Learnt,
 ) (data-node-at t) data-node.Post
-data-node-returns t c = search needs
+data-node-returns t c = node-past _ _ _ _ (c .before .before .before .block-count .result) (c .before .before .covering .result) (c .before .before .before .block-count .ensures) (c .before .before .covering .ensures) (c .before .if1 .taken) (c .pad-value .ensures)
 
 -- src/values.rt:51:9
 data-node-leaf-of-requires : (t : ℕ) → data-node-lts.Need-leaf-of-requires (
@@ -126,7 +129,7 @@ data-node-returns-2 : (t : ℕ) → data-node-lts.Need-returns-2 (
   pair-reads.Asked,
   pair-reads.Learnt,
 ) (data-node-at t) data-node.Post
-data-node-returns-2 t c = search needs
+data-node-returns-2 t c = node-leaf (leafOf (c .before .before .before .before .before .before .args .bytes .now)) _ _ _ (c .before .if2 .taken) (c .leaf-of .ensures)
 
 -- src/values.rt:53:13
 data-node-sub-d : (t : ℕ) → data-node-lts.Need-sub-d (
@@ -160,7 +163,7 @@ data-node-mul-j2 : (t : ℕ) → data-node-lts.Need-mul-j2 (
   pair-reads.Asked,
   pair-reads.Learnt,
 ) (data-node-at t) data-node.Post
-data-node-mul-j2 t c = search needs
+data-node-mul-j2 t c = omega (arith, covering-doubled (c .before .before .before .block-count .result) (c .before .before .before .before .before .args .k) (c .before .before .before .before .before .args .j) (c .if2 .left) (omega arith))
 
 -- src/values.rt:55:14
 data-node-add-j3 : (t : ℕ) → data-node-lts.Need-add-j3 (
@@ -177,7 +180,7 @@ data-node-add-j3 : (t : ℕ) → data-node-lts.Need-add-j3 (
   pair-reads.Asked,
   pair-reads.Learnt,
 ) (data-node-at t) data-node.Post
-data-node-add-j3 t c = search needs
+data-node-add-j3 t c = omega (arith, covering-doubled (c .before .before .before .block-count .result) (c .before .before .before .before .before .args .k) (c .before .before .before .before .before .args .j) (c .if2 .left) (omega arith))
 
 -- src/values.rt:56:9
 data-node-data-node-requires : (t : ℕ) → data-node-lts.Need-data-node-requires (
@@ -245,7 +248,7 @@ data-node-returns-3 : (t : ℕ) → data-node-lts.Need-returns-3 (
   pair-reads.Asked,
   pair-reads.Learnt,
 ) (data-node-at t) data-node.Post
-data-node-returns-3 t c = search needs
+data-node-returns-3 t c = node-pair (leafOf (c .before .before .before .before .before .before .before .before .args .bytes .now)) _ (c .before .before .data-node .result) (c .before .data-node2 .result) (c .before .before .before .before .before .before .before .before .args .k) (c .before .before .before .before .before .before .before .before .args .j) (c .before .before .before .if2 .left) (c .before .before .data-node .ensures) (c .before .data-node2 .ensures) (c .pair .ensures)
 
 pub +data-node-spec : {M : Type 1} → statement M
 +data-node-spec = close μ-data-node λ t. data-node-lts.spec (

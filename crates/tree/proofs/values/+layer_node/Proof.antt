@@ -1,3 +1,6 @@
+use Rattle.tree.specs.Values.{layerLeaf}
+use Rattle.tree.specs.GeometryLaws.{covering-doubled, at-leaves}
+use Rattle.tree.specs.ValuesLaws.{layer-past, layer-read, node-pair}
 use borrow.Author.Needs.{needs}
 use native.Mathlib.Omega.{arith}
 use lib.ListN.{length, getD, set, take, drop}
@@ -16,7 +19,7 @@ use Rattle.tree.proofs.values.+layer_node.{statement}
 use Rattle.tree.proofs.values.+layer_node.Tie.{close}
 
 abbrev μ-layer-node : Measures 1 layer-node-kinds.ps ℕ
-μ-layer-node κs a = ?
+μ-layer-node κs a = a .1 .1 .0
 
 abbrev layer-node-at : ℕ → In 1 layer-node-kinds.ps
 layer-node-at t =
@@ -84,7 +87,7 @@ layer-node-returns : (t : ℕ) → layer-node-lts.Need-returns (
   pair-reads.Asked,
   pair-reads.Learnt,
 ) (layer-node-at t) layer-node.Post
-layer-node-returns t c = search needs
+layer-node-returns t c = layer-past _ _ (c .before .before .before .before .args .p) _ _ (c .before .before .covering .result) (c .before .before .covering .ensures) (c .before .if1 .taken) (c .pad-value .ensures)
 
 -- src/values.rt:73:31
 layer-node-mul-hash-at : (t : ℕ) → layer-node-lts.Need-mul-hash-at (
@@ -99,7 +102,7 @@ layer-node-mul-hash-at : (t : ℕ) → layer-node-lts.Need-mul-hash-at (
   pair-reads.Asked,
   pair-reads.Learnt,
 ) (layer-node-at t) layer-node.Post
-layer-node-mul-hash-at t c = search needs
+layer-node-mul-hash-at t c = omega (arith, at-leaves (length (c .before .before .before .before .args .layer .now) / 32) (c .before .before .before .before .args .k) (c .before .before .before .before .args .j) (c .before .before .covering .result) (c .before .before .covering .ensures) (c .if2 .taken) (c .before .if1 .left))
 
 -- src/values.rt:73:9
 layer-node-hash-at-requires : (t : ℕ) → layer-node-lts.Need-hash-at-requires (
@@ -114,7 +117,7 @@ layer-node-hash-at-requires : (t : ℕ) → layer-node-lts.Need-hash-at-requires
   pair-reads.Asked,
   pair-reads.Learnt,
 ) (layer-node-at t) layer-node.Post
-layer-node-hash-at-requires t c κs = search needs
+layer-node-hash-at-requires t c κs = omega (arith, at-leaves (length (c .before .before .before .before .args .layer .now) / 32) (c .before .before .before .before .args .k) (c .before .before .before .before .args .j) (c .before .before .covering .result) (c .before .before .covering .ensures) (c .if2 .taken) (c .before .if1 .left))
 
 -- src/values.rt:73:9
 layer-node-returns-2 : (t : ℕ) → layer-node-lts.Need-returns-2 (
@@ -129,7 +132,7 @@ layer-node-returns-2 : (t : ℕ) → layer-node-lts.Need-returns-2 (
   pair-reads.Asked,
   pair-reads.Learnt,
 ) (layer-node-at t) layer-node.Post
-layer-node-returns-2 t c = search needs
+layer-node-returns-2 t c = layer-read _ _ (c .before .before .before .before .before .args .p) _ _ (c .before .before .before .covering .result) (c .before .before .before .covering .ensures) (c .before .if2 .taken) (c .before .before .if1 .left) (c .hash-at .ensures)
 
 -- src/values.rt:75:13
 layer-node-sub-d : (t : ℕ) → layer-node-lts.Need-sub-d (
@@ -159,7 +162,7 @@ layer-node-mul-j2 : (t : ℕ) → layer-node-lts.Need-mul-j2 (
   pair-reads.Asked,
   pair-reads.Learnt,
 ) (layer-node-at t) layer-node.Post
-layer-node-mul-j2 t c = search needs
+layer-node-mul-j2 t c = omega (arith, covering-doubled (length (c .before .before .before .before .args .layer .now) / 32) (c .before .before .before .before .args .k) (c .before .before .before .before .args .j) (c .if2 .left) (omega arith))
 
 -- src/values.rt:77:14
 layer-node-add-j3 : (t : ℕ) → layer-node-lts.Need-add-j3 (
@@ -174,7 +177,7 @@ layer-node-add-j3 : (t : ℕ) → layer-node-lts.Need-add-j3 (
   pair-reads.Asked,
   pair-reads.Learnt,
 ) (layer-node-at t) layer-node.Post
-layer-node-add-j3 t c = search needs
+layer-node-add-j3 t c = omega (arith, covering-doubled (length (c .before .before .before .before .args .layer .now) / 32) (c .before .before .before .before .args .k) (c .before .before .before .before .args .j) (c .if2 .left) (omega arith))
 
 -- src/values.rt:78:9
 layer-node-layer-node-requires : (t : ℕ) → layer-node-lts.Need-layer-node-requires (
@@ -234,7 +237,7 @@ layer-node-returns-3 : (t : ℕ) → layer-node-lts.Need-returns-3 (
   pair-reads.Asked,
   pair-reads.Learnt,
 ) (layer-node-at t) layer-node.Post
-layer-node-returns-3 t c = search needs
+layer-node-returns-3 t c = node-pair (layerLeaf (c .before .before .before .before .before .before .before .args .layer .now) (c .before .before .before .before .before .before .before .args .p)) _ (c .before .before .layer-node .result) (c .before .layer-node2 .result) (c .before .before .before .before .before .before .before .args .k) (c .before .before .before .before .before .before .before .args .j) (c .before .before .before .if2 .left) (c .before .before .layer-node .ensures) (c .before .layer-node2 .ensures) (c .pair .ensures)
 
 pub +layer-node-spec : {M : Type 1} → statement M
 +layer-node-spec = close μ-layer-node λ t. layer-node-lts.spec (

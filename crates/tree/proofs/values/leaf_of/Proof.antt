@@ -1,3 +1,6 @@
+use Rattle.tree.specs.Geometry.{blockSize}
+use Rattle.tree.specs.GeometryLaws.{block-starts, block-size-most}
+use Rattle.tree.specs.ValuesLaws.{leaf-past, leaf-hashed}
 use native.Mathlib.Omega.{arith}
 use Prim.Native.Nat.{ℕ, _+_, _-_, _*_, _≤_, _<_, _/_, _%_, _^_}
 use lib.ListN.{length, getD, set, take, drop}
@@ -22,7 +25,7 @@ pad-value-requires c κs = search needs
 
 -- src/values.rt:33:9
 returns : tie.Need-returns
-returns c = ?
+returns c = leaf-past (c .before .before .before .before .args .bytes .now) _ (c .before .before .before .before .args .i) (omega arith) (c .pad-value .ensures)
 
 -- src/values.rt:35:9
 block-size-requires : tie.Need-block-size-requires
@@ -30,11 +33,11 @@ block-size-requires c κs = search needs
 
 -- src/values.rt:36:13
 mul-a : tie.Need-mul-a
-mul-a c = ?
+mul-a c = omega (arith, block-starts (length (c .before .before .before .before .args .bytes .now)) (c .before .before .before .before .args .i) (omega arith))
 
 -- src/values.rt:37:13
 add-e : tie.Need-add-e
-add-e c = ?
+add-e c = omega (arith, block-starts (length (c .before .before .before .before .args .bytes .now)) (c .before .before .before .before .args .i) (omega arith), block-size-most (length (c .before .before .before .before .args .bytes .now)) (c .before .before .before .before .args .i))
 
 -- src/values.rt:38:10
 sub-hash : tie.Need-sub-hash
@@ -46,7 +49,8 @@ part-hash-start c = search needs
 
 -- src/values.rt:38:10
 part-hash-end : tie.Need-part-hash-end
-part-hash-end c = ?
+unfolding blockSize
+part-hash-end c = omega (arith, block-starts (length (c .before .before .before .before .args .bytes .now)) (c .before .before .before .before .args .i) (omega arith))
 
 -- src/values.rt:38:5
 hash-requires : tie.Need-hash-requires
@@ -54,7 +58,7 @@ hash-requires c κs = search needs
 
 -- src/values.rt:27:1
 returns-2 : tie.Need-returns-2
-returns-2 c = ?
+returns-2 c = leaf-hashed (c .before .before .before .before .before .before .args .bytes .now) _ (c .before .before .before .before .before .before .args .i) (c .before .before .block-size .result) (omega arith) (c .before .before .block-size .ensures) (c .hash .ensures)
 
 pub leaf-of-spec : {M : Type 1} → statement M
 leaf-of-spec =
