@@ -49,11 +49,11 @@ ceil-below a d i p h = by-size (decLt (i * d) a)
 pub ceil-ceil : (a d e : ℕ) → 0 < d → 0 < e → ceilDiv (ceilDiv a d) e ≡ ceilDiv a (e * d)
 ceil-ceil a d e p q =
     let once : ceilDiv a (e * d) ≤ ceilDiv (ceilDiv a d) e =
-        ceil-least a (e * d) (ceilDiv (ceilDiv a d) e) (one-le-mul q p)
-        (rw (← mul-assoc) (ceil-enough a d (ceilDiv (ceilDiv a d) e * e) p (ceil-enough (ceilDiv a d) e (ceilDiv (ceilDiv a d) e) q (omega arith)))) in
+    ceil-least a (e * d) (ceilDiv (ceilDiv a d) e) (one-le-mul q p)
+    (rw (← mul-assoc) (ceil-enough a d (ceilDiv (ceilDiv a d) e * e) p (ceil-enough (ceilDiv a d) e (ceilDiv (ceilDiv a d) e) q (omega arith)))) in
     let twice : ceilDiv (ceilDiv a d) e ≤ ceilDiv a (e * d) =
-        ceil-least (ceilDiv a d) e (ceilDiv a (e * d)) q
-        (ceil-least a d (ceilDiv a (e * d) * e) p (rw mul-assoc (ceil-enough a (e * d) (ceilDiv a (e * d)) (one-le-mul q p) (omega arith)))) in
+    ceil-least (ceilDiv a d) e (ceilDiv a (e * d)) q
+    (ceil-least a d (ceilDiv a (e * d) * e) p (rw mul-assoc (ceil-enough a (e * d) (ceilDiv a (e * d)) (one-le-mul q p) (omega arith)))) in
     le-antisymm twice once
 
 -- dividing by nothing gives 0
@@ -135,6 +135,7 @@ height-halves b l = le-antisymm most (least (height b) refl)
     most : height b ≤ suc (height (ceilDiv b 2))
     most = height-least b (suc (height (ceilDiv b 2)))
         (omega (arith, ceil-enough b 2 (2 ^ height (ceilDiv b 2)) (omega arith) (height-enough (ceilDiv b 2)), pow-succ' 2 (height (ceilDiv b 2))))
+
     least : (m : ℕ) → height b ≡ m → suc (height (ceilDiv b 2)) ≤ height b
     least zero e = absurd (omega (arith, height-enough b, ap (λ (x : ℕ). 2 ^ x) e))
     least (suc m) e =
@@ -240,8 +241,10 @@ piece-length-form plen t = (small (decLe (pieceLayer plen) 10), sym form)
   where
     both : (eqb (blockLength * 2 ^ pieceLayer plen) plen ≡ true) × (leb plen 16777216 ≡ true)
     both = and-eq-true-iff (eqb (blockLength * 2 ^ pieceLayer plen) plen) (leb plen 16777216) .0 t
+
     form : blockLength * 2 ^ pieceLayer plen ≡ plen
     form = eqb-true (blockLength * 2 ^ pieceLayer plen) plen (both .0)
+
     small : Dec (pieceLayer plen ≤ 10) → pieceLayer plen ≤ 10
     small (yes l) = l
     small (no g) =
@@ -253,9 +256,10 @@ pub piece-length-accepted : (p : ℕ) → p ≤ 10 → isPieceLength (blockLengt
 unfolding isPieceLength
 piece-length-accepted p l =
     let w : 2 ^ p ≤ 2 ^ 10 = pow-mono {i = p} {j = 10} l in
-    and-eq-true-iff (eqb (blockLength * 2 ^ pieceLayer (blockLength * 2 ^ p)) (blockLength * 2 ^ p)) (leb (blockLength * 2 ^ p) 16777216) .1
-    ( eq-eqb (blockLength * 2 ^ pieceLayer (blockLength * 2 ^ p)) (blockLength * 2 ^ p) (ap (λ (x : ℕ). blockLength * 2 ^ x) (piece-layer-pow p))
-    , le-leb (blockLength * 2 ^ p) 16777216 (omega arith) )
+    and-eq-true-iff (eqb (blockLength * 2 ^ pieceLayer (blockLength * 2 ^ p)) (blockLength * 2 ^ p)) (leb (blockLength * 2 ^ p) 16777216) .1 (
+      eq-eqb (blockLength * 2 ^ pieceLayer (blockLength * 2 ^ p)) (blockLength * 2 ^ p) (ap (λ (x : ℕ). blockLength * 2 ^ x) (piece-layer-pow p)),
+      le-leb (blockLength * 2 ^ p) 16777216 (omega arith),
+    )
 
 -- ---- blocks and pieces
 
@@ -385,8 +389,10 @@ node-number-distinct h l i m j lh mh ib jb e = by-layer (decLt l m) (decLt m l)
     apart l i m j mh k ib jb =
         let g : 2 ^ suc (h - m) ≤ 2 ^ (h - l) = pow-mono (omega arith) in
         omega (arith, node-number-layer h l i ib, node-number-layer h m j jb, pow-succ' 2 (h - m))
+
     same-layer : l ≡ m → nodeNumber h m i ≡ nodeNumber h m j → i ≡ j
     same-layer q f = unfold nodeNumber in omega arith
+
     by-layer : Dec (l < m) → Dec (m < l) → (l ≡ m) × (i ≡ j)
     by-layer (yes k) d = absurd (omega (arith, apart l i m j mh k ib jb))
     by-layer (no k) (yes k2) = absurd (omega (arith, apart m j l i lh k2 jb ib))

@@ -207,6 +207,7 @@ leaf-of-piece file p i x h = by-side (decLt (i * 2 ^ p + x) (blockCount (length 
   where
     start : blockLength * 2 ^ p * i ≡ blockLength * (i * 2 ^ p)
     start = mul-assoc blockLength (2 ^ p) i ∙ ap (λ (y : ℕ). blockLength * y) (mul-comm (2 ^ p) i)
+
     by-side : Dec (i * 2 ^ p + x < blockCount (length file)) → leafOf (pieceOf file p i) x ≡ leafOf file (i * 2 ^ p + x)
     by-side (yes l) =
         leaf-block (pieceOf file p i) x (block-within (length (pieceOf file p i)) x (omega (arith, piece-bytes file p i, start, block-starts (length file) (i * 2 ^ p + x) l)))

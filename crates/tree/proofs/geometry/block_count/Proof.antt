@@ -1,20 +1,12 @@
 use Rattle.tree.specs.Geometry.{blockCount}
-use native.Mathlib.Omega.{arith}
-use Prim.Native.Nat.{ℕ, _+_, _-_, _*_, _≤_, _<_, _/_, _%_, _^_}
-use lib.ListN.{length, getD, set, take, drop}
-use mathlib.Core.Path.{_≡_, refl, ap, sym, _∙_}
+use Prim.Native.Nat.{_-_}
 use borrow.Author.Needs.{needs}
 use Rattle.tree.proofs.geometry.block_count.Statement.{statement}
 use Rattle.tree.proofs.geometry.block_count.Tie as tie
-use Rattle.tree.proofs.geometry.block_count.Reads as reads
-use Rattle.tree.proofs.geometry.block_count.Lts as lts
-use Rattle.tree.proofs.geometry.ceil_div.Reads as ceil-div-reads
 
--- src/geometry.rt:23:5
 ceil-div-requires : tie.Need-ceil-div-requires
 ceil-div-requires c κs = search needs
 
--- src/geometry.rt:20:1
 returns : tie.Need-returns
 unfolding blockCount
 returns c = search needs

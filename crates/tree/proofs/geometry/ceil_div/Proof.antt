@@ -2,36 +2,27 @@ use native.Mathlib.Nat.{div-le-self}
 use Rattle.tree.specs.Geometry.{ceilDiv}
 use Rattle.tree.specs.GeometryLaws.{ceil-by-zero, ceil-of-zero, ceil-step}
 use native.Mathlib.Omega.{arith}
-use Prim.Native.Nat.{ℕ, _+_, _-_, _*_, _≤_, _<_, _/_, _%_, _^_}
-use lib.ListN.{length, getD, set, take, drop}
-use mathlib.Core.Path.{_≡_, refl, ap, sym, _∙_}
+use Prim.Native.Nat.{ℕ, _-_}
+use mathlib.Core.Path.{ap, sym, _∙_}
 use borrow.Author.Needs.{needs}
 use Rattle.tree.proofs.geometry.ceil_div.Statement.{statement}
 use Rattle.tree.proofs.geometry.ceil_div.Tie as tie
-use Rattle.tree.proofs.geometry.ceil_div.Reads as reads
-use Rattle.tree.proofs.geometry.ceil_div.Lts as lts
 
--- src/geometry.rt:11:9
 returns : tie.Need-returns
 returns c = sym (ap (ceilDiv (c .before .args .a)) (c .if1 .taken) ∙ ceil-by-zero (c .before .args .a))
 
--- src/geometry.rt:14:9
 returns-2 : tie.Need-returns-2
 returns-2 c = sym (ap (λ (x : ℕ). ceilDiv x (c .before .before .args .d)) (c .if2 .taken) ∙ ceil-of-zero (c .before .before .args .d))
 
--- src/geometry.rt:16:6
 sub-result : tie.Need-sub-result
 sub-result c = search needs
 
--- src/geometry.rt:16:5
 div-result : tie.Need-div-result
 div-result c = search needs
 
--- src/geometry.rt:16:5
 add-result : tie.Need-add-result
 add-result c = omega (arith, div-le-self (c .before .before .args .a - 1) (c .before .before .args .d))
 
--- src/geometry.rt:7:1
 returns-3 : tie.Need-returns-3
 returns-3 c = sym (ceil-step (c .before .before .args .a) (c .before .before .args .d) (c .if2 .left) (c .before .if1 .left))
 

@@ -1,38 +1,28 @@
 use Rattle.tree.specs.GeometryLaws.{piece-size-past, piece-starts}
-use Rattle.tree.specs.Geometry.{pieceSize, pieceCount}
+use Rattle.tree.specs.Geometry.{pieceSize}
 use native.Mathlib.Omega.{arith}
-use Prim.Native.Nat.{ℕ, _+_, _-_, _*_, _≤_, _<_, _/_, _%_, _^_}
-use lib.ListN.{length, getD, set, take, drop}
-use mathlib.Core.Path.{_≡_, refl, ap, sym, _∙_}
+use Prim.Native.Nat.{_-_}
+use mathlib.Core.Path.{sym}
 use borrow.Author.Needs.{needs}
 use Rattle.tree.proofs.geometry.piece_size.Statement.{statement}
 use Rattle.tree.proofs.geometry.piece_size.Tie as tie
-use Rattle.tree.proofs.geometry.piece_size.Reads as reads
-use Rattle.tree.proofs.geometry.piece_size.Lts as lts
-use Rattle.tree.proofs.geometry.piece_count.Reads as piece-count-reads
 
--- src/geometry.rt:88:9
 piece-count-requires : tie.Need-piece-count-requires
 piece-count-requires c κs = search needs
 
--- src/geometry.rt:90:9
 returns : tie.Need-returns
 returns c = sym (piece-size-past (c .before .before .args .n) (c .before .before .args .plen) (c .before .before .args .i) (omega arith))
 
--- src/geometry.rt:92:20
 mul-left : tie.Need-mul-left
 mul-left c = omega (arith, piece-starts (c .before .before .args .n) (c .before .before .args .plen) (c .before .before .args .i) (omega arith))
 
--- src/geometry.rt:92:16
 sub-left : tie.Need-sub-left
 sub-left c = omega (arith, piece-starts (c .before .before .args .n) (c .before .before .args .plen) (c .before .before .args .i) (omega arith))
 
--- src/geometry.rt:85:1
 returns-2 : tie.Need-returns-2
 unfolding pieceSize
 returns-2 c = search needs
 
--- src/geometry.rt:85:1
 returns-3 : tie.Need-returns-3
 unfolding pieceSize
 returns-3 c = search needs

@@ -3,9 +3,7 @@ use Rattle.tree.specs.GeometryLaws.{covering-doubled}
 use Rattle.tree.specs.ValuesLaws.{node-past, node-leaf, node-pair}
 use borrow.Author.Needs.{needs}
 use native.Mathlib.Omega.{arith}
-use lib.ListN.{length, getD, set, take, drop}
-use mathlib.Core.Path.{_≡_, refl, ap, sym, _∙_}
-use Prim.Native.Nat.{ℕ, _<_, _+_, _-_, _*_, _≤_, _/_, _%_, _^_}
+use Prim.Native.Nat.{ℕ, _<_, _+_, _-_}
 use borrow.Fn.Kinds.{In}
 use borrow.Fn.PlainCycle.{Measures, is, falls, and}
 use Rattle.tree.proofs.values.data_node.Reads as data-node
@@ -29,7 +27,6 @@ abbrev data-node-below : ℕ → In 1 data-node-kinds.ps
 data-node-below t =
     and 1 data-node-kinds.ps (falls 1 data-node-kinds.ps _<_ μ-data-node t) data-node.Pre
 
--- src/values.rt:45:9
 data-node-block-count-requires : (t : ℕ) → data-node-lts.Need-block-count-requires (
   block-count-reads.Asked,
   block-count-reads.Learnt,
@@ -46,7 +43,6 @@ data-node-block-count-requires : (t : ℕ) → data-node-lts.Need-block-count-re
 ) (data-node-at t) data-node.Post
 data-node-block-count-requires t c κs = search needs
 
--- src/values.rt:46:9
 data-node-covering-requires : (t : ℕ) → data-node-lts.Need-covering-requires (
   block-count-reads.Asked,
   block-count-reads.Learnt,
@@ -63,7 +59,6 @@ data-node-covering-requires : (t : ℕ) → data-node-lts.Need-covering-requires
 ) (data-node-at t) data-node.Post
 data-node-covering-requires t c κs = search needs
 
--- src/values.rt:48:9
 data-node-pad-value-requires : (t : ℕ) → data-node-lts.Need-pad-value-requires (
   block-count-reads.Asked,
   block-count-reads.Learnt,
@@ -80,7 +75,6 @@ data-node-pad-value-requires : (t : ℕ) → data-node-lts.Need-pad-value-requir
 ) (data-node-at t) data-node.Post
 data-node-pad-value-requires t c κs = search needs
 
--- src/values.rt:48:9
 data-node-returns : (t : ℕ) → data-node-lts.Need-returns (
   block-count-reads.Asked,
   block-count-reads.Learnt,
@@ -97,7 +91,6 @@ data-node-returns : (t : ℕ) → data-node-lts.Need-returns (
 ) (data-node-at t) data-node.Post
 data-node-returns t c = node-past _ _ _ _ (c .before .before .before .block-count .result) (c .before .before .covering .result) (c .before .before .before .block-count .ensures) (c .before .before .covering .ensures) (c .before .if1 .taken) (c .pad-value .ensures)
 
--- src/values.rt:51:9
 data-node-leaf-of-requires : (t : ℕ) → data-node-lts.Need-leaf-of-requires (
   block-count-reads.Asked,
   block-count-reads.Learnt,
@@ -114,7 +107,6 @@ data-node-leaf-of-requires : (t : ℕ) → data-node-lts.Need-leaf-of-requires (
 ) (data-node-at t) data-node.Post
 data-node-leaf-of-requires t c κs = search needs
 
--- src/values.rt:51:9
 data-node-returns-2 : (t : ℕ) → data-node-lts.Need-returns-2 (
   block-count-reads.Asked,
   block-count-reads.Learnt,
@@ -131,7 +123,6 @@ data-node-returns-2 : (t : ℕ) → data-node-lts.Need-returns-2 (
 ) (data-node-at t) data-node.Post
 data-node-returns-2 t c = node-leaf (leafOf (c .before .before .before .before .before .before .args .bytes .now)) _ _ _ (c .before .if2 .taken) (c .leaf-of .ensures)
 
--- src/values.rt:53:13
 data-node-sub-d : (t : ℕ) → data-node-lts.Need-sub-d (
   block-count-reads.Asked,
   block-count-reads.Learnt,
@@ -148,7 +139,6 @@ data-node-sub-d : (t : ℕ) → data-node-lts.Need-sub-d (
 ) (data-node-at t) data-node.Post
 data-node-sub-d t c = search needs
 
--- src/values.rt:54:14
 data-node-mul-j2 : (t : ℕ) → data-node-lts.Need-mul-j2 (
   block-count-reads.Asked,
   block-count-reads.Learnt,
@@ -165,7 +155,6 @@ data-node-mul-j2 : (t : ℕ) → data-node-lts.Need-mul-j2 (
 ) (data-node-at t) data-node.Post
 data-node-mul-j2 t c = omega (arith, covering-doubled (c .before .before .before .block-count .result) (c .before .before .before .before .before .args .k) (c .before .before .before .before .before .args .j) (c .if2 .left) (omega arith))
 
--- src/values.rt:55:14
 data-node-add-j3 : (t : ℕ) → data-node-lts.Need-add-j3 (
   block-count-reads.Asked,
   block-count-reads.Learnt,
@@ -182,7 +171,6 @@ data-node-add-j3 : (t : ℕ) → data-node-lts.Need-add-j3 (
 ) (data-node-at t) data-node.Post
 data-node-add-j3 t c = omega (arith, covering-doubled (c .before .before .before .block-count .result) (c .before .before .before .before .before .args .k) (c .before .before .before .before .before .args .j) (c .if2 .left) (omega arith))
 
--- src/values.rt:56:9
 data-node-data-node-requires : (t : ℕ) → data-node-lts.Need-data-node-requires (
   block-count-reads.Asked,
   block-count-reads.Learnt,
@@ -199,7 +187,6 @@ data-node-data-node-requires : (t : ℕ) → data-node-lts.Need-data-node-requir
 ) (data-node-at t) data-node.Post
 data-node-data-node-requires t c κs = search needs
 
--- src/values.rt:57:9
 data-node-data-node-requires-2 : (t : ℕ) → data-node-lts.Need-data-node-requires-2 (
   block-count-reads.Asked,
   block-count-reads.Learnt,
@@ -216,7 +203,6 @@ data-node-data-node-requires-2 : (t : ℕ) → data-node-lts.Need-data-node-requ
 ) (data-node-at t) data-node.Post
 data-node-data-node-requires-2 t c κs = search needs
 
--- src/values.rt:58:5
 data-node-pair-requires : (t : ℕ) → data-node-lts.Need-pair-requires (
   block-count-reads.Asked,
   block-count-reads.Learnt,
@@ -233,7 +219,6 @@ data-node-pair-requires : (t : ℕ) → data-node-lts.Need-pair-requires (
 ) (data-node-at t) data-node.Post
 data-node-pair-requires t c κs = search needs
 
--- src/values.rt:42:1
 data-node-returns-3 : (t : ℕ) → data-node-lts.Need-returns-3 (
   block-count-reads.Asked,
   block-count-reads.Learnt,

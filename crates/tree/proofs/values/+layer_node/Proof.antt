@@ -3,9 +3,8 @@ use Rattle.tree.specs.GeometryLaws.{covering-doubled, at-leaves}
 use Rattle.tree.specs.ValuesLaws.{layer-past, layer-read, node-pair}
 use borrow.Author.Needs.{needs}
 use native.Mathlib.Omega.{arith}
-use lib.ListN.{length, getD, set, take, drop}
-use mathlib.Core.Path.{_≡_, refl, ap, sym, _∙_}
-use Prim.Native.Nat.{ℕ, _<_, _+_, _-_, _*_, _≤_, _/_, _%_, _^_}
+use lib.ListN.{length}
+use Prim.Native.Nat.{ℕ, _<_, _+_, _-_, _/_}
 use borrow.Fn.Kinds.{In}
 use borrow.Fn.PlainCycle.{Measures, is, falls, and}
 use Rattle.tree.proofs.values.layer_node.Reads as layer-node
@@ -29,7 +28,6 @@ abbrev layer-node-below : ℕ → In 1 layer-node-kinds.ps
 layer-node-below t =
     and 1 layer-node-kinds.ps (falls 1 layer-node-kinds.ps _<_ μ-layer-node t) layer-node.Pre
 
--- src/values.rt:67:9
 layer-node-covering-requires : (t : ℕ) → layer-node-lts.Need-covering-requires (
   covering-reads.Asked,
   covering-reads.Learnt,
@@ -44,7 +42,6 @@ layer-node-covering-requires : (t : ℕ) → layer-node-lts.Need-covering-requir
 ) (layer-node-at t) layer-node.Post
 layer-node-covering-requires t c κs = search needs
 
--- src/values.rt:69:17
 layer-node-add-q : (t : ℕ) → layer-node-lts.Need-add-q (
   covering-reads.Asked,
   covering-reads.Learnt,
@@ -59,7 +56,6 @@ layer-node-add-q : (t : ℕ) → layer-node-lts.Need-add-q (
 ) (layer-node-at t) layer-node.Post
 layer-node-add-q t c = search needs
 
--- src/values.rt:70:9
 layer-node-pad-value-requires : (t : ℕ) → layer-node-lts.Need-pad-value-requires (
   covering-reads.Asked,
   covering-reads.Learnt,
@@ -74,7 +70,6 @@ layer-node-pad-value-requires : (t : ℕ) → layer-node-lts.Need-pad-value-requ
 ) (layer-node-at t) layer-node.Post
 layer-node-pad-value-requires t c κs = search needs
 
--- src/values.rt:70:9
 layer-node-returns : (t : ℕ) → layer-node-lts.Need-returns (
   covering-reads.Asked,
   covering-reads.Learnt,
@@ -89,7 +84,6 @@ layer-node-returns : (t : ℕ) → layer-node-lts.Need-returns (
 ) (layer-node-at t) layer-node.Post
 layer-node-returns t c = layer-past _ _ (c .before .before .before .before .args .p) _ _ (c .before .before .covering .result) (c .before .before .covering .ensures) (c .before .if1 .taken) (c .pad-value .ensures)
 
--- src/values.rt:73:31
 layer-node-mul-hash-at : (t : ℕ) → layer-node-lts.Need-mul-hash-at (
   covering-reads.Asked,
   covering-reads.Learnt,
@@ -104,7 +98,6 @@ layer-node-mul-hash-at : (t : ℕ) → layer-node-lts.Need-mul-hash-at (
 ) (layer-node-at t) layer-node.Post
 layer-node-mul-hash-at t c = omega (arith, at-leaves (length (c .before .before .before .before .args .layer .now) / 32) (c .before .before .before .before .args .k) (c .before .before .before .before .args .j) (c .before .before .covering .result) (c .before .before .covering .ensures) (c .if2 .taken) (c .before .if1 .left))
 
--- src/values.rt:73:9
 layer-node-hash-at-requires : (t : ℕ) → layer-node-lts.Need-hash-at-requires (
   covering-reads.Asked,
   covering-reads.Learnt,
@@ -119,7 +112,6 @@ layer-node-hash-at-requires : (t : ℕ) → layer-node-lts.Need-hash-at-requires
 ) (layer-node-at t) layer-node.Post
 layer-node-hash-at-requires t c κs = omega (arith, at-leaves (length (c .before .before .before .before .args .layer .now) / 32) (c .before .before .before .before .args .k) (c .before .before .before .before .args .j) (c .before .before .covering .result) (c .before .before .covering .ensures) (c .if2 .taken) (c .before .if1 .left))
 
--- src/values.rt:73:9
 layer-node-returns-2 : (t : ℕ) → layer-node-lts.Need-returns-2 (
   covering-reads.Asked,
   covering-reads.Learnt,
@@ -134,7 +126,6 @@ layer-node-returns-2 : (t : ℕ) → layer-node-lts.Need-returns-2 (
 ) (layer-node-at t) layer-node.Post
 layer-node-returns-2 t c = layer-read _ _ (c .before .before .before .before .before .args .p) _ _ (c .before .before .before .covering .result) (c .before .before .before .covering .ensures) (c .before .if2 .taken) (c .before .before .if1 .left) (c .hash-at .ensures)
 
--- src/values.rt:75:13
 layer-node-sub-d : (t : ℕ) → layer-node-lts.Need-sub-d (
   covering-reads.Asked,
   covering-reads.Learnt,
@@ -149,7 +140,6 @@ layer-node-sub-d : (t : ℕ) → layer-node-lts.Need-sub-d (
 ) (layer-node-at t) layer-node.Post
 layer-node-sub-d t c = search needs
 
--- src/values.rt:76:14
 layer-node-mul-j2 : (t : ℕ) → layer-node-lts.Need-mul-j2 (
   covering-reads.Asked,
   covering-reads.Learnt,
@@ -164,7 +154,6 @@ layer-node-mul-j2 : (t : ℕ) → layer-node-lts.Need-mul-j2 (
 ) (layer-node-at t) layer-node.Post
 layer-node-mul-j2 t c = omega (arith, covering-doubled (length (c .before .before .before .before .args .layer .now) / 32) (c .before .before .before .before .args .k) (c .before .before .before .before .args .j) (c .if2 .left) (omega arith))
 
--- src/values.rt:77:14
 layer-node-add-j3 : (t : ℕ) → layer-node-lts.Need-add-j3 (
   covering-reads.Asked,
   covering-reads.Learnt,
@@ -179,7 +168,6 @@ layer-node-add-j3 : (t : ℕ) → layer-node-lts.Need-add-j3 (
 ) (layer-node-at t) layer-node.Post
 layer-node-add-j3 t c = omega (arith, covering-doubled (length (c .before .before .before .before .args .layer .now) / 32) (c .before .before .before .before .args .k) (c .before .before .before .before .args .j) (c .if2 .left) (omega arith))
 
--- src/values.rt:78:9
 layer-node-layer-node-requires : (t : ℕ) → layer-node-lts.Need-layer-node-requires (
   covering-reads.Asked,
   covering-reads.Learnt,
@@ -194,7 +182,6 @@ layer-node-layer-node-requires : (t : ℕ) → layer-node-lts.Need-layer-node-re
 ) (layer-node-at t) layer-node.Post
 layer-node-layer-node-requires t c κs = search needs
 
--- src/values.rt:79:9
 layer-node-layer-node-requires-2 : (t : ℕ) → layer-node-lts.Need-layer-node-requires-2 (
   covering-reads.Asked,
   covering-reads.Learnt,
@@ -209,7 +196,6 @@ layer-node-layer-node-requires-2 : (t : ℕ) → layer-node-lts.Need-layer-node-
 ) (layer-node-at t) layer-node.Post
 layer-node-layer-node-requires-2 t c κs = search needs
 
--- src/values.rt:80:5
 layer-node-pair-requires : (t : ℕ) → layer-node-lts.Need-pair-requires (
   covering-reads.Asked,
   covering-reads.Learnt,
@@ -224,7 +210,6 @@ layer-node-pair-requires : (t : ℕ) → layer-node-lts.Need-pair-requires (
 ) (layer-node-at t) layer-node.Post
 layer-node-pair-requires t c κs = search needs
 
--- src/values.rt:62:1
 layer-node-returns-3 : (t : ℕ) → layer-node-lts.Need-returns-3 (
   covering-reads.Asked,
   covering-reads.Learnt,
