@@ -4,12 +4,12 @@ use mathlib.Core.Path.{_≡_, refl, ap, ap₂, sym, _∙_}
 use mathlib.Core.List.{List, [], _∷_, _++_, append-assoc}
 use mathlib.Core.Bool.{Bool, true, false, _&&_, false≢true, and-eq-true-iff}
 use mathlib.Core.Logic.{_⊎_, inl, inr}
-use Prim.Native.Nat.{ℕ, zero, suc, _+_, _-_, _*_, _/_, _%_, _^_, _≤_, _<_}
+use Prim.Native.Nat.{ℕ, zero, suc, _+_, _-_, _*_, _/_, _%_, _^_, _≤_, _<_, min}
 use native.Mathlib.Nat.{mod-lt}
 use native.Mathlib.Omega.{arith}
 use native.Mathlib.Decide.{decLt}
-use lib.ListN.{length, take, drop, getD, set, length-append, length-take, length-drop, length-set, replicate, getD-replicate, List·getD-append}
-use lib.Seq.{length-take-le, take-at, drop-at, getD-take, getD-drop, getD-append-add, getD-set-other, ext-getD}
+use lib.ListN.{length, take, drop, getD, set, length-append, length-take, length-drop, length-set, replicate, getD-replicate, List·getD-append, drop-of-length-le}
+use lib.Seq.{length-take-le, take-at, drop-at, getD-take, getD-drop, getD-append-add, getD-set-other, ext-getD, take-take, take-nil, take-all, take-append-le, drop-append-le, drop-drop}
 use lib.Dec.{eqb, lit<}
 use borrow.Author.Tests.{eqb-true, eq-eqb}
 use Rattle.octets.specs.Octets.{Octets, cut, pasted, same, be, zeroHash}
@@ -154,3 +154,51 @@ cut-octets {m} {s} at n p h =
       size = cut-length s at n (omega (arith, p .size));
       bytes = λ i l. rw (getD-cut s at n i l) (p .bytes (at + i) (omega arith));
     }
+
+-- a part of a part is a part
+pub cut-cut : (s : List ℕ) (a m b n : ℕ) → b + n ≤ m → cut (cut s a m) b n ≡ cut s (a + b) n
+unfolding cut
+cut-cut s a m b n h =
+    ap (λ (l : List ℕ). take n l) (drop-take m b (drop a s)) ∙ take-take n (m - b) (drop b (drop a s)) (omega arith) ∙ ap (λ (l : List ℕ). take n l) (drop-drop b a s)
+  where
+    drop-take : (m b : ℕ) (l : List ℕ) → drop b (take m l) ≡ take (m - b) (drop b l)
+    drop-take m zero l = let e : m - 0 ≡ m = omega arith in rw e
+    drop-take zero (suc b) l = let e : 0 - suc b ≡ 0 = omega arith in rw e
+    drop-take (suc m) (suc b) [] = sym (take-nil (suc m - suc b))
+    drop-take (suc m) (suc b) (x ∷ l) = let e : suc m - suc b ≡ m - b = omega arith in rw e (drop-take m b l)
+
+-- a part that starts at or past the end is empty
+pub cut-past : (s : List ℕ) (at n : ℕ) → length s ≤ at → cut s at n ≡ []
+unfolding cut
+cut-past s at n h = ap (λ (l : List ℕ). take n l) (drop-of-length-le s {i = at} h) ∙ take-nil n
+
+-- a part from the start that is long enough is the whole
+pub cut-whole : (s : List ℕ) (n : ℕ) → length s ≤ n → cut s 0 n ≡ s
+unfolding cut
+cut-whole s n h = take-all n s h
+
+-- how long a part is, wherever it lies
+pub cut-size : (s : List ℕ) (at n : ℕ) → length (cut s at n) ≡ min n (length s - at)
+unfolding cut
+cut-size s at n = simp (length-take, length-drop)
+
+-- asking for more than is left gives what is left
+pub cut-short : (s : List ℕ) (at n : ℕ) → cut s at (min n (length s - at)) ≡ cut s at n
+unfolding cut
+cut-short s at n = by-size (decLt (length s - at) n)
+  where
+    by-size : Dec (length s - at < n) → take (min n (length s - at)) (drop at s) ≡ take n (drop at s)
+    by-size (yes l) =
+        take-all (min n (length s - at)) (drop at s) (simp length-drop (omega arith)) ∙ sym (take-all n (drop at s) (simp length-drop (omega arith)))
+    by-size (no g) = let e : min n (length s - at) ≡ n = omega arith in rw e
+
+-- a part that lies in the first of two lists
+pub cut-append-left : (a b : List ℕ) (at n : ℕ) → at + n ≤ length a → cut (a ++ b) at n ≡ cut a at n
+unfolding cut
+cut-append-left a b at n h =
+    ap (λ (l : List ℕ). take n l) (drop-append-le at a b (omega arith)) ∙ take-append-le n (drop at a) b (simp length-drop (omega arith))
+
+-- the part that is the second
+pub cut-append-right : (a b : List ℕ) (at n : ℕ) → length a ≡ at → length b ≡ n → cut (a ++ b) at n ≡ b
+unfolding cut
+cut-append-right a b at n e f = ap (λ (l : List ℕ). take n l) (drop-at a b at e) ∙ take-all n b (omega arith)

@@ -1,13 +1,13 @@
 -- 01, "The tree", and BEP 52: the hashes of a file's tree. A string of bytes is a list of numbers.
 -- Assumes nothing.
 use mathlib.Core.Bool.{cond}
-use mathlib.Core.List.{List}
+use mathlib.Core.List.{List, [], _++_}
 use Prim.Native.Nat.{ℕ, zero, suc, _+_, _-_, _*_, _/_, _^_}
 use lib.ListN.{length, take, drop}
 use lib.Dec.{ltb}
 use Rattle.octets.specs.Octets.{cut, zeroHash}
 use Rattle.sha256.specs.Sha256.{sha256, pairHash}
-use Rattle.tree.specs.Geometry.{blockLength, blockCount, height}
+use Rattle.tree.specs.Geometry.{blockLength, blockCount, height, covering}
 
 -- the node k layers above the leaves, number j from the left: SHA-256 of left child then right child
 unfoldable pub node : (ℕ → List ℕ) → ℕ → ℕ → List ℕ
@@ -34,6 +34,15 @@ piecesRoot file = node (leafOf file) (height (blockCount (length file))) 0
 -- piece i of a file, for a piece length of 16384·2^p
 unfoldable pub pieceOf : List ℕ → ℕ → ℕ → List ℕ
 pieceOf file p i = cut file (blockLength * 2 ^ p * i) (blockLength * 2 ^ p)
+
+-- the string of the first c hashes of layer p
+unfoldable pub layerOf : List ℕ → ℕ → ℕ → List ℕ
+layerOf file p zero = []
+layerOf file p (suc c) = layerOf file p c ++ node (leafOf file) p c
+
+-- the string of layer p's hashes that aren't padding; of the piece layer, what a torrent's `piece layers` hold
+unfoldable pub wholeLayer : List ℕ → ℕ → List ℕ
+wholeLayer file p = layerOf file p (covering (blockCount (length file)) p)
 
 -- layer p from the string of its hashes that aren't padding
 unfoldable pub layerLeaf : List ℕ → ℕ → ℕ → List ℕ
