@@ -24,5 +24,8 @@ pub extern "C" fn kd_sha256(string: &[u8]) -> HashAnswer
     let r = sha256::sha256(string);
     let h = r.hash;
     let hash = Hash { bytes: h };
-    HashAnswer { number: r.number, hash }
+    HashAnswer {
+        number: r.number,
+        hash,
+    }
 }
