@@ -1,12 +1,12 @@
 -- What follows from the definitions of Geometry: rounding up, the height, padding, piece lengths, sizes, node numbers.
 -- Assumes nothing.
-use mathlib.Core.Path.{_≡_, refl, ap, sym, _∙_, subst}
+use mathlib.Core.Path.{_≡_, refl, ap, sym, _∙_}
 use mathlib.Core.Bool.{Bool, true, false, cond, _&&_, and-eq-true-iff}
-use Prim.Native.Nat.{ℕ, zero, suc, _+_, _-_, _*_, _/_, _%_, _^_, _≤_, _<_, min}
-use native.Mathlib.Nat.{add-mul, one-mul, mul-one, add-div-right, div-le-self, zero-mul, mul-suc, mul-assoc, mul-comm, pow-zero, pow-succ', div-one, div-zero, div-lt-iff-lt-mul, mul-div-cancel-left, one-le-mul, mul-le-mul-left, le-antisymm, le-trans}
-use native.Mathlib.Decide.{decLe, decLt, ℕ-discrete}
+use Prim.Native.Nat.{ℕ, zero, suc, _+_, _-_, _*_, _/_, _%_, _^_, _≤_, _<_}
+use native.Mathlib.Nat.{add-mul, one-mul, mul-one, add-div-right, zero-mul, mul-suc, mul-assoc, mul-comm, pow-succ', div-zero, div-lt-iff-lt-mul, mul-div-cancel-left, one-le-mul, mul-le-mul-left, le-antisymm}
+use native.Mathlib.Decide.{decLe, decLt}
 use native.Mathlib.Omega.{arith}
-use lib.Dec.{leb, ltb, eqb}
+use lib.Dec.{leb, eqb}
 use lib.Pow.{pow-pos, pow-mono, pow-lt, pow-add, shl-exact}
 use borrow.Author.Tests.{le-leb, lt-leb, leb-true, eqb-true, eq-eqb}
 use Rattle.tree.specs.Geometry.{blockLength, ceilDiv, blockCount, heightFrom, height, Padding, covering, nodeNumber, pieceLayer, isPieceLength, pieceCount, blockSize, pieceSize}
@@ -206,22 +206,29 @@ covering-within b l h =
     ceil-least b (2 ^ l) (2 ^ (height b - l)) (pow-pos l)
     (rw (← pow-add) (rw e (height-enough b)))
 
+-- the blocks of a position are those of its two children: the left one's start with it, the right one's follow, and end with it
+pub left-start : (i l : ℕ) → (2 * i) * 2 ^ l ≡ i * 2 ^ suc l
+left-start i l = ap (λ (x : ℕ). x * 2 ^ l) (mul-comm 2 i) ∙ mul-assoc i 2 (2 ^ l) ∙ ap (λ (x : ℕ). i * x) (sym (pow-succ' 2 l))
+
+pub right-start : (i l : ℕ) → (2 * i + 1) * 2 ^ l ≡ (2 * i) * 2 ^ l + 2 ^ l
+right-start i l = add-mul (2 * i) 1 (2 ^ l) ∙ ap (λ (x : ℕ). (2 * i) * 2 ^ l + x) (one-mul (2 ^ l))
+
+pub right-end : (i l : ℕ) → (2 * i + 1 + 1) * 2 ^ l ≡ (i + 1) * 2 ^ suc l
+right-end i l = let e : 2 * i + 1 + 1 ≡ 2 * (i + 1) = omega arith in rw e (left-start (i + 1) l)
+
 -- the parent of a left child that is padding is padding
 pub padding-parent : (b l i : ℕ) → Padding b l (2 * i) → Padding b (suc l) i
 unfolding Padding
-padding-parent b l i h = omega (arith, pow-succ' 2 l, mul-assoc 2 i (2 ^ l), mul-comm i (2 ^ suc l), mul-comm (2 ^ l) i, mul-assoc 2 (2 ^ l) i, ap (λ (x : ℕ). x * i) (pow-succ' 2 l))
+padding-parent b l i h = omega (arith, left-start i l)
 
 -- and both children of padding are padding
 pub padding-left : (b l i : ℕ) → Padding b (suc l) i → Padding b l (2 * i)
 unfolding Padding
-padding-left b l i h = omega (arith, mul-assoc 2 i (2 ^ l), mul-comm i (2 ^ suc l), mul-comm (2 ^ l) i, mul-assoc 2 (2 ^ l) i, ap (λ (x : ℕ). x * i) (pow-succ' 2 l))
+padding-left b l i h = omega (arith, left-start i l)
 
 pub padding-right : (b l i : ℕ) → Padding b (suc l) i → Padding b l (2 * i + 1)
 unfolding Padding
-padding-right b l i h = omega (arith, padding-left-of b l i h, add-mul (2 * i) 1 (2 ^ l))
-  where
-    padding-left-of : (b l i : ℕ) → b ≤ i * 2 ^ suc l → b ≤ (2 * i) * 2 ^ l
-    padding-left-of b l i h = omega (arith, mul-assoc 2 i (2 ^ l), mul-comm i (2 ^ suc l), mul-comm (2 ^ l) i, mul-assoc 2 (2 ^ l) i, ap (λ (x : ℕ). x * i) (pow-succ' 2 l))
+padding-right b l i h = omega (arith, left-start i l, right-start i l)
 
 -- everything to the right of padding is padding
 pub padding-on : (b l i j : ℕ) → i ≤ j → Padding b l i → Padding b l j

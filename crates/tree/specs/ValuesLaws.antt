@@ -1,36 +1,23 @@
 -- What follows from the definitions of Values: padding has its value everywhere, any layer gives the same root, a piece is judged by its own bytes.
--- All of it holds whatever `pairHash` is. Assumes nothing.
+-- Nothing here looks into `sha256` or `pairHash`: all but the sizes holds for any of them. Assumes nothing.
 use mathlib.Core.Path.{_≡_, refl, ap, ap₂, sym, _∙_, subst}
-use mathlib.Core.Bool.{Bool, true, false, cond}
-use mathlib.Core.List.{List, [], _∷_, _++_}
+use mathlib.Core.List.{List, _++_}
 use Prim.Native.Nat.{ℕ, zero, suc, _+_, _-_, _*_, _/_, _^_, _≤_, _<_, min}
-use native.Mathlib.Nat.{add-mul, one-mul, mul-one, zero-mul, mul-assoc, mul-comm, mul-add, mul-le-mul-left, mul-le-mul-right, pow-succ', le-trans, mul-div-cancel-left, add-suc, add-zero}
-use native.Mathlib.Decide.{decLe, decLt}
+use native.Mathlib.Nat.{add-mul, one-mul, mul-assoc, mul-comm, pow-succ', add-suc, add-zero}
+use native.Mathlib.Decide.{decLt}
 use native.Mathlib.Numerals.{add-one}
 use native.Mathlib.Omega.{arith}
 use lib.ListN.{length, take, drop, replicate}
-use lib.Dec.{ltb}
-use lib.Pow.{pow-pos, pow-add}
 use borrow.Author.Tests.{lt-ltb, le-ltb}
 use Rattle.octets.specs.Octets.{Octets, cut, zeroHash}
 use Rattle.octets.specs.OctetsLaws.{cut-cut, cut-size, cut-whole, cut-short, cut-append-left, cut-append-right, append-octets, zero-octets}
 use Rattle.sha256.specs.Sha256Laws.{sha256-octets, pair-octets}
 use Rattle.sha256.specs.Sha256.{sha256, pairHash}
-use Rattle.tree.specs.Geometry.{blockLength, ceilDiv, blockCount, height, Padding, covering, pieceCount, blockSize}
-use Rattle.tree.specs.GeometryLaws.{padding-from-covering, covering-until-padding, covering-within, block-past, block-starts, block-within, block-outside, at-leaves}
+use Rattle.tree.specs.Geometry.{blockLength, blockCount, height, Padding, covering, blockSize, pieceSize}
+use Rattle.tree.specs.GeometryLaws.{padding-from-covering, block-past, block-starts, block-within, block-outside, at-leaves, left-start, right-start, right-end}
 use Rattle.tree.specs.Values.{node, padValue, blockOf, leafOf, piecesRoot, pieceOf, layerOf, wholeLayer, layerLeaf, layerRoot}
 
 -- ---- nodes over any leaves
-
--- the leaves below node j of layer k + 1 are those below its two children
-left-from : (j k : ℕ) → (2 * j) * 2 ^ k ≡ j * 2 ^ suc k
-left-from j k = ap (λ (x : ℕ). x * 2 ^ k) (mul-comm 2 j) ∙ mul-assoc j 2 (2 ^ k) ∙ ap (λ (x : ℕ). j * x) (sym (pow-succ' 2 k))
-
-middle : (j k : ℕ) → (2 * j + 1) * 2 ^ k ≡ (2 * j) * 2 ^ k + 2 ^ k
-middle j k = add-mul (2 * j) 1 (2 ^ k) ∙ ap (λ (x : ℕ). (2 * j) * 2 ^ k + x) (one-mul (2 ^ k))
-
-right-to : (j k : ℕ) → (2 * j + 1 + 1) * 2 ^ k ≡ (j + 1) * 2 ^ suc k
-right-to j k = let e : 2 * j + 1 + 1 ≡ 2 * (j + 1) = omega arith in rw e (left-from (j + 1) k)
 
 -- a node depends only on the leaves below it
 pub node-same : (f g : ℕ → List ℕ) (k j : ℕ) → ((i : ℕ) → j * 2 ^ k ≤ i → i < (j + 1) * 2 ^ k → f i ≡ g i) → node f k j ≡ node g k j
@@ -38,8 +25,8 @@ unfolding node
 node-same f g zero j h = h j (omega arith) (omega arith)
 node-same f g (suc k) j h =
     ap₂ (λ (l r : List ℕ). pairHash l r)
-    (node-same f g k (2 * j) (λ i a b. h i (omega (arith, left-from j k)) (omega (arith, middle j k, right-to j k, add-mul (2 * j + 1) 1 (2 ^ k), one-mul (2 ^ k)))))
-    (node-same f g k (2 * j + 1) (λ i a b. h i (omega (arith, left-from j k, middle j k)) (omega (arith, right-to j k))))
+    (node-same f g k (2 * j) (λ i a b. h i (omega (arith, left-start j k)) (omega (arith, right-start j k, right-end j k, add-mul (2 * j + 1) 1 (2 ^ k), one-mul (2 ^ k)))))
+    (node-same f g k (2 * j + 1) (λ i a b. h i (omega (arith, left-start j k, right-start j k)) (omega (arith, right-end j k))))
 
 -- a node k layers above layer p is the node k layers above leaves that are the nodes of layer p
 pub node-up : (leaf : ℕ → List ℕ) (p k j : ℕ) → node leaf (p + k) j ≡ node (λ i. node leaf p i) k j
@@ -55,7 +42,7 @@ node-shift leaf zero a m = let e : a * 2 ^ 0 ≡ a = omega arith in ap (λ (x : 
 node-shift leaf (suc k) a m =
     let l : 2 * a + 2 * m ≡ 2 * (a + m) = omega arith in
     let r : 2 * a + (2 * m + 1) ≡ 2 * (a + m) + 1 = omega arith in
-    ap (λ (y : ℕ). pairHash (node (λ x. leaf (y + x)) k (2 * m)) (node (λ x. leaf (y + x)) k (2 * m + 1))) (sym (left-from a k))
+    ap (λ (y : ℕ). pairHash (node (λ x. leaf (y + x)) k (2 * m)) (node (λ x. leaf (y + x)) k (2 * m + 1))) (sym (left-start a k))
     ∙ ap₂ (λ (l r : List ℕ). pairHash l r) (node-shift leaf k (2 * a) (2 * m) ∙ ap (node leaf k) l) (node-shift leaf k (2 * a) (2 * m + 1) ∙ ap (node leaf k) r)
 
 -- padding's parent is padding, and has the padding value: where the leaves from `from` on are layer p's padding, so are the nodes above them
@@ -64,11 +51,16 @@ unfolding node padValue
 node-padding leaf p from h zero j l = h j (omega arith) ∙ ap padValue (sym (add-zero p))
 node-padding leaf p from h (suc k) j l =
     ap₂ (λ (a b : List ℕ). pairHash a b)
-    (node-padding leaf p from h k (2 * j) (omega (arith, left-from j k)))
-    (node-padding leaf p from h k (2 * j + 1) (omega (arith, left-from j k, middle j k)))
+    (node-padding leaf p from h k (2 * j) (omega (arith, left-start j k)))
+    (node-padding leaf p from h k (2 * j + 1) (omega (arith, left-start j k, right-start j k)))
     ∙ ap padValue (sym (add-suc p k))
 
 -- ---- the leaves of a file
+
+-- a block has just the bytes that the file has for it: the last one is never filled up
+pub block-bytes : (file : List ℕ) (i : ℕ) → length (blockOf file i) ≡ blockSize (length file) i
+unfolding blockOf blockSize
+block-bytes file i = cut-size file (blockLength * i) blockLength
 
 -- the leaves of the blocks are the hashes of the blocks
 pub leaf-block : (file : List ℕ) (i : ℕ) → i < blockCount (length file) → leafOf file i ≡ sha256 (blockOf file i)
@@ -189,9 +181,9 @@ root-of-whole-layer file p l =
 
 -- ---- a piece by its own bytes
 
--- the bytes of piece i
-pub piece-bytes : (file : List ℕ) (p i : ℕ) → length (pieceOf file p i) ≡ min (blockLength * 2 ^ p) (length file - blockLength * 2 ^ p * i)
-unfolding pieceOf
+-- a piece too has just its own bytes
+pub piece-bytes : (file : List ℕ) (p i : ℕ) → length (pieceOf file p i) ≡ pieceSize (length file) (blockLength * 2 ^ p) i
+unfolding pieceOf pieceSize
 piece-bytes file p i = cut-size file (blockLength * 2 ^ p * i) (blockLength * 2 ^ p)
 
 -- block x of piece i is block i·2^p + x of the file
@@ -203,6 +195,7 @@ block-of-piece file p i x h =
 
 -- leaf x of piece i is leaf i·2^p + x of the file
 pub leaf-of-piece : (file : List ℕ) (p i x : ℕ) → x < 2 ^ p → leafOf (pieceOf file p i) x ≡ leafOf file (i * 2 ^ p + x)
+unfolding pieceSize
 leaf-of-piece file p i x h = by-side (decLt (i * 2 ^ p + x) (blockCount (length file)))
   where
     start : blockLength * 2 ^ p * i ≡ blockLength * (i * 2 ^ p)

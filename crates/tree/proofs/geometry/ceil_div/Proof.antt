@@ -1,3 +1,4 @@
+-- Each return is one law of rounding up.
 use native.Mathlib.Nat.{div-le-self}
 use Rattle.tree.specs.Geometry.{ceilDiv}
 use Rattle.tree.specs.GeometryLaws.{ceil-by-zero, ceil-of-zero, ceil-step}

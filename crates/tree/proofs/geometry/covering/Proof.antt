@@ -1,3 +1,4 @@
+-- A shift by l divides by 2^l; from layer 64 on one position covers every block that a number can count.
 use native.Mathlib.Nat.{div-le-self}
 use lib.Pow.{pow-mono}
 use Rattle.tree.specs.GeometryLaws.{covering-none, covering-one, covering-step}

@@ -1,3 +1,4 @@
+-- Halving and rounding up takes the height down by one. Invariant: what is left has the height that is still to be counted.
 use Rattle.tree.specs.GeometryLaws.{height-turn, height-done, height-fits}
 use Rattle.tree.specs.Geometry.{height}
 use borrow.Author.Needs.{needs}
@@ -20,16 +21,16 @@ add-rest : tie.Need-add-rest Inv-loop μ-loop
 add-rest c = search needs
 
 add-h : tie.Need-add-h Inv-loop μ-loop
-add-h c = omega (arith, height-fits (c .before .before .args .b) (omega arith), height-turn (c .before .before .args .b) (c .before .loop .rest) (c .before .loop .h) (c .before .loop .inv .1) (c .loop-test .taken))
+add-h c = omega (arith, height-fits (c .before .before .args .b) (omega arith), height-turn (c .before .before .args .b) (c .before .loop .rest) (c .before .loop .h) (c .before .loop .inv .1) (omega arith))
 
 loop-less : tie.Need-loop-less Inv-loop μ-loop
 loop-less c = search needs
 
 loop-again : tie.Need-loop-again Inv-loop μ-loop
-loop-again c = (omega arith, height-turn _ _ _ (c .before .loop .inv .1) (c .loop-test .taken))
+loop-again c = (omega arith, height-turn _ _ _ (c .before .loop .inv .1) (omega arith))
 
 returns : tie.Need-returns Inv-loop μ-loop
-returns c = height-done _ (c .before .loop .rest) _ (c .before .loop .inv .1) (c .loop-test .left)
+returns c = height-done _ (c .before .loop .rest) _ (c .before .loop .inv .1) (omega arith)
 
 pub height-spec : {M : Type 1} → statement M
 height-spec =

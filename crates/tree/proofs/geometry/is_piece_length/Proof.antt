@@ -1,3 +1,4 @@
+-- Up to 16 MiB the piece layer is at most 10, so the shift loses nothing.
 use lib.Dec.{eqb}
 use Rattle.tree.specs.GeometryLaws.{piece-length-large, piece-length-small, piece-layer-small, shifted-block}
 use native.Mathlib.Omega.{arith}

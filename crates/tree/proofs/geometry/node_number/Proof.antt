@@ -1,3 +1,4 @@
+-- The shift gives 2^(h - l), which with an index below it stays below 2^64.
 use lib.Pow.{pow-mono}
 use Rattle.tree.specs.Geometry.{nodeNumber}
 use Rattle.tree.specs.GeometryLaws.{shifted-one}

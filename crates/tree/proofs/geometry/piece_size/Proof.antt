@@ -1,3 +1,4 @@
+-- A piece that the file has starts within it, so neither the product nor the difference wraps.
 use Rattle.tree.specs.GeometryLaws.{piece-size-past, piece-starts}
 use Rattle.tree.specs.Geometry.{pieceSize}
 use native.Mathlib.Omega.{arith}

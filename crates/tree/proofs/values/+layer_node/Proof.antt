@@ -1,3 +1,4 @@
+-- By the layers left, k, as for data_node, over the hashes that the string holds.
 use Rattle.tree.specs.Values.{layerLeaf}
 use Rattle.tree.specs.GeometryLaws.{covering-doubled, at-leaves}
 use Rattle.tree.specs.ValuesLaws.{layer-past, layer-read, node-pair}
