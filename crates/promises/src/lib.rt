@@ -1,0 +1,1 @@
+// What the user is promised, as theorems: specs/ has them. There is no code here.
