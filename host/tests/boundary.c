@@ -35,9 +35,12 @@ static void hashes(void)
 {
     static const char of_nothing[] = "e3b0c44298fc1c149afbf4c8996fb92427ae41e4649b934ca495991b7852b855";
     static const char of_abc[] = "ba7816bf8f01cfea414140de5dae2223b00361a396177a9cb410ff61f20015ad";
+    static const char no_hash[] = "0000000000000000000000000000000000000000000000000000000000000000";
     check("kd_sha256 of NULL with size 0", is_hashed(kd_sha256(NULL, 0), 0, of_nothing));
     check("kd_sha256 of no bytes", is_hashed(kd_sha256((const uint8_t *)"abc", 0), 0, of_nothing));
     check("kd_sha256 of abc", is_hashed(kd_sha256((const uint8_t *)"abc", 3), 0, of_abc));
+    /* No memory is that long. The call is tried all the same, since the size alone decides and no byte is read. */
+    check("kd_sha256 of 2^61 bytes", is_hashed(kd_sha256((const uint8_t *)"abc", (size_t)1 << 61), 4, no_hash));
 }
 
 int main(void)
