@@ -1,0 +1,68 @@
+//! The C boundary as Rust sees it: the header's structs, and for each entry point a safe function over slices.
+//!
+//! A slice is as long as it says, and a `&mut` slice overlaps no other: just what the header asks of a C caller.
+
+mod raw;
+
+pub use raw::{Answer, File, Hash, Hashed, Part, Torrent};
+
+/// Whether the header declares an entry point yet. Calling one that it doesn't declare panics.
+pub fn is_declared(name: &str) -> bool {
+    raw::DECLARED.contains(&name)
+}
+
+pub fn sha256(data: &[u8]) -> Hashed {
+    unsafe { raw::kd_sha256(data.as_ptr(), data.len()) }
+}
+
+pub fn store_size(length: u64, piece_length: u64) -> Answer {
+    unsafe { raw::kd_store_size(length, piece_length) }
+}
+
+pub fn open(store: &mut [u8], length: u64, piece_length: u64, root: Hash) -> Answer {
+    unsafe { raw::kd_open(store.as_mut_ptr(), store.len(), length, piece_length, root) }
+}
+
+pub fn held(store: &[u8], layer: u64, index: u64) -> Hashed {
+    unsafe { raw::kd_held(store.as_ptr(), store.len(), layer, index) }
+}
+
+pub fn take(store: &mut [u8], message: &[u8]) -> Answer {
+    unsafe { raw::kd_take(store.as_mut_ptr(), store.len(), message.as_ptr(), message.len()) }
+}
+
+pub fn take_reject(store: &[u8], message: &[u8]) -> Answer {
+    unsafe { raw::kd_take_reject(store.as_ptr(), store.len(), message.as_ptr(), message.len()) }
+}
+
+pub fn serve(store: &[u8], request: &[u8], out: &mut [u8]) -> Answer {
+    unsafe { raw::kd_serve(store.as_ptr(), store.len(), request.as_ptr(), request.len(), out.as_mut_ptr(), out.len()) }
+}
+
+pub fn load_layer(store: &mut [u8], layer: &[u8]) -> Answer {
+    unsafe { raw::kd_load_layer(store.as_mut_ptr(), store.len(), layer.as_ptr(), layer.len()) }
+}
+
+pub fn judge_block(store: &[u8], block: u64, data: &[u8]) -> Answer {
+    unsafe { raw::kd_judge_block(store.as_ptr(), store.len(), block, data.as_ptr(), data.len()) }
+}
+
+pub fn judge_piece(store: &[u8], piece: u64, data: &[u8]) -> Answer {
+    unsafe { raw::kd_judge_piece(store.as_ptr(), store.len(), piece, data.as_ptr(), data.len()) }
+}
+
+pub fn torrent_read(torrent: &[u8]) -> Torrent {
+    unsafe { raw::kd_torrent_read(torrent.as_ptr(), torrent.len()) }
+}
+
+pub fn torrent_file(torrent: &[u8], file: u64) -> File {
+    unsafe { raw::kd_torrent_file(torrent.as_ptr(), torrent.len(), file) }
+}
+
+pub fn torrent_path(torrent: &[u8], file: u64, element: u64) -> Part {
+    unsafe { raw::kd_torrent_path(torrent.as_ptr(), torrent.len(), file, element) }
+}
+
+pub fn torrent_list(torrent: &[u8], out: &mut [u8]) -> Answer {
+    unsafe { raw::kd_torrent_list(torrent.as_ptr(), torrent.len(), out.as_mut_ptr(), out.len()) }
+}

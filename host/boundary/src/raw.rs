@@ -1,0 +1,107 @@
+//! The header's declarations, word for word.
+
+use std::mem::{offset_of, size_of};
+
+#[repr(C)]
+#[derive(Clone, Copy, Debug, PartialEq, Eq)]
+pub struct Hash {
+    pub bytes: [u8; 32],
+}
+
+#[repr(C)]
+#[derive(Clone, Copy, Debug, PartialEq, Eq)]
+pub struct Answer {
+    pub number: u32,
+    pub count: u64,
+}
+
+#[repr(C)]
+#[derive(Clone, Copy, Debug, PartialEq, Eq)]
+pub struct Hashed {
+    pub number: u32,
+    pub hash: Hash,
+}
+
+#[repr(C)]
+#[derive(Clone, Copy, Debug, PartialEq, Eq)]
+pub struct Torrent {
+    pub number: u32,
+    pub info_hash: Hash,
+    pub piece_length: u64,
+    pub files: u64,
+}
+
+#[repr(C)]
+#[derive(Clone, Copy, Debug, PartialEq, Eq)]
+pub struct File {
+    pub number: u32,
+    pub length: u64,
+    pub root: Hash,
+    pub elements: u64,
+    pub layer_start: u64,
+    pub layer_size: u64,
+}
+
+#[repr(C)]
+#[derive(Clone, Copy, Debug, PartialEq, Eq)]
+pub struct Part {
+    pub number: u32,
+    pub start: u64,
+    pub size: u64,
+}
+
+// The same sizes and offsets that the C test asserts of the header.
+const _: () = {
+    assert!(size_of::<Hash>() == 32);
+    assert!(size_of::<Answer>() == 16 && offset_of!(Answer, count) == 8);
+    assert!(size_of::<Hashed>() == 36 && offset_of!(Hashed, hash) == 4);
+    assert!(size_of::<Torrent>() == 56 && offset_of!(Torrent, info_hash) == 4);
+    assert!(offset_of!(Torrent, piece_length) == 40 && offset_of!(Torrent, files) == 48);
+    assert!(size_of::<File>() == 72 && offset_of!(File, length) == 8 && offset_of!(File, root) == 16);
+    assert!(offset_of!(File, elements) == 48 && offset_of!(File, layer_start) == 56);
+    assert!(offset_of!(File, layer_size) == 64);
+    assert!(size_of::<Part>() == 24 && offset_of!(Part, start) == 8 && offset_of!(Part, size) == 16);
+};
+
+/// Declares entry points. One that the header doesn't declare yet stands for itself with a panic, so that the tests of
+/// all entry points build on any library.
+macro_rules! entry_points {
+    ($($text:tt $name:ident($($argument:ident: $type:ty),*) -> $answer:ty;)*) => {
+        $(
+            #[cfg(declared = $text)]
+            extern "C" {
+                pub fn $name($($argument: $type),*) -> $answer;
+            }
+
+            #[cfg(not(declared = $text))]
+            pub unsafe fn $name($(_: $type),*) -> $answer {
+                panic!(concat!($text, " is not declared in the header yet"))
+            }
+        )*
+
+        pub const DECLARED: &[&str] = &[$(#[cfg(declared = $text)] $text),*];
+    };
+}
+
+entry_points! {
+    "kd_sha256" kd_sha256(data: *const u8, size: usize) -> Hashed;
+    "kd_store_size" kd_store_size(length: u64, piece_length: u64) -> Answer;
+    "kd_open" kd_open(store: *mut u8, size: usize, length: u64, piece_length: u64, root: Hash) -> Answer;
+    "kd_held" kd_held(store: *const u8, size: usize, layer: u64, index: u64) -> Hashed;
+    "kd_take" kd_take(store: *mut u8, size: usize, message: *const u8, message_size: usize) -> Answer;
+    "kd_take_reject" kd_take_reject(store: *const u8, size: usize, message: *const u8, message_size: usize) -> Answer;
+    "kd_serve" kd_serve(
+        store: *const u8, size: usize, request: *const u8, request_size: usize, out: *mut u8, out_size: usize
+    ) -> Answer;
+    "kd_load_layer" kd_load_layer(store: *mut u8, size: usize, layer: *const u8, layer_size: usize) -> Answer;
+    "kd_judge_block" kd_judge_block(
+        store: *const u8, size: usize, block: u64, data: *const u8, data_size: usize
+    ) -> Answer;
+    "kd_judge_piece" kd_judge_piece(
+        store: *const u8, size: usize, piece: u64, data: *const u8, data_size: usize
+    ) -> Answer;
+    "kd_torrent_read" kd_torrent_read(torrent: *const u8, size: usize) -> Torrent;
+    "kd_torrent_file" kd_torrent_file(torrent: *const u8, size: usize, file: u64) -> File;
+    "kd_torrent_path" kd_torrent_path(torrent: *const u8, size: usize, file: u64, element: u64) -> Part;
+    "kd_torrent_list" kd_torrent_list(torrent: *const u8, size: usize, out: *mut u8, out_size: usize) -> Answer;
+}

@@ -1,0 +1,395 @@
+//! Reading a v2 torrent: numbers 19 to 29. Section "The torrent" of document 01.
+//!
+//! The torrent is parsed to a value first. Then each of 22 to 28 is looked for in the whole of it before the next one,
+//! so that the lowest number wins.
+
+use crate::bencode::{find, read as read_bencoding, Value};
+use crate::number::*;
+use crate::pieces::over_piece_layer;
+use crate::sha256::{sha256, Hash};
+use crate::tree::{piece_length_in_range, Facts, LONGEST_FILE};
+use std::collections::{BTreeSet, HashMap};
+use std::ops::Range;
+
+pub const LARGEST: usize = 1 << 20;
+
+type Entries = [(Range<usize>, Value)];
+
+/// What a torrent says as a whole.
+#[derive(Clone, Copy, Debug, PartialEq, Eq)]
+pub struct Torrent {
+    pub number: u32,
+    pub info_hash: Hash,
+    pub piece_length: u64,
+    pub files: u64,
+}
+
+/// One file. The layer is a part of the torrent bytes; 0 0 if it has none.
+#[derive(Clone, Copy, Debug, PartialEq, Eq)]
+pub struct File {
+    pub number: u32,
+    pub length: u64,
+    pub root: Hash,
+    pub elements: u64,
+    pub layer_start: u64,
+    pub layer_size: u64,
+}
+
+/// A part of the torrent bytes.
+#[derive(Clone, Copy, Debug, PartialEq, Eq)]
+pub struct Part {
+    pub number: u32,
+    pub start: u64,
+    pub size: u64,
+}
+
+/// A file as its tree and the piece layers give it.
+#[derive(Clone, Debug, PartialEq, Eq)]
+pub struct Listed {
+    pub length: u64,
+    pub root: Hash,
+    pub path: Vec<Range<usize>>,
+    pub layer: Range<usize>,
+}
+
+/// Everything a good torrent says.
+#[derive(Clone, Debug, PartialEq, Eq)]
+pub struct Contents {
+    pub info_hash: Hash,
+    pub piece_length: u64,
+    pub files: Vec<Listed>,
+}
+
+/// The values that 22 is about, each of its type.
+struct Fields<'a> {
+    info: &'a Value,
+    file_tree: &'a Entries,
+    piece_length: i64,
+    meta_version: i64,
+    piece_layers: &'a Entries,
+}
+
+fn fields<'a>(torrent: &[u8], outer: &'a Value) -> Option<Fields<'a>> {
+    let outer = outer.dictionary()?;
+    let info = find(torrent, outer, b"info")?;
+    let inside = info.dictionary()?;
+    Some(Fields {
+        info,
+        file_tree: find(torrent, inside, b"file tree")?.dictionary()?,
+        piece_length: find(torrent, inside, b"piece length")?.integer()?,
+        meta_version: find(torrent, inside, b"meta version")?.integer()?,
+        piece_layers: find(torrent, outer, b"piece layers")?.dictionary()?,
+    })
+}
+
+/// The files below a directory, in tree order, or 25. The path so far leads to the directory.
+fn files_in(torrent: &[u8], directory: &Entries, path: &[Range<usize>]) -> Result<Vec<Listed>, u32> {
+    if directory.is_empty() {
+        return Err(WRONG_TREE);
+    }
+    let mut files = Vec::new();
+    for (name, node) in directory {
+        if name.is_empty() {
+            return Err(WRONG_TREE);
+        }
+        let node = node.dictionary().ok_or(WRONG_TREE)?;
+        let path = [path, &[name.clone()]].concat();
+        match node {
+            [(key, properties)] if key.is_empty() => files.push(file_of(torrent, properties, path)?),
+            _ => files.extend(files_in(torrent, node, &path)?),
+        }
+    }
+    Ok(files)
+}
+
+/// The file whose properties are the value of an empty key, or 25.
+fn file_of(torrent: &[u8], properties: &Value, path: Vec<Range<usize>>) -> Result<Listed, u32> {
+    let properties = properties.dictionary().ok_or(WRONG_TREE)?;
+    let length = find(torrent, properties, b"length").and_then(Value::integer).ok_or(WRONG_TREE)?;
+    let length = u64::try_from(length).map_err(|_| WRONG_TREE)?;
+    if length > LONGEST_FILE {
+        return Err(WRONG_TREE);
+    }
+    let root = find(torrent, properties, b"pieces root");
+    let root = match (length, root) {
+        (0, None) => [0; 32],
+        (0, Some(_)) | (_, None) => return Err(WRONG_TREE),
+        (_, Some(root)) => root_in(torrent, root).ok_or(WRONG_TREE)?,
+    };
+    Ok(Listed { length, root, path, layer: 0..0 })
+}
+
+fn root_in(torrent: &[u8], value: &Value) -> Option<Hash> {
+    torrent[value.string()?].try_into().ok()
+}
+
+/// 26: two non-empty files with the same root.
+fn has_same_roots(files: &[Listed]) -> bool {
+    let roots: Vec<Hash> = files.iter().filter(|file| file.length > 0).map(|file| file.root).collect();
+    roots.iter().collect::<BTreeSet<_>>().len() < roots.len()
+}
+
+fn facts(file: &Listed, piece_length: u64) -> Facts {
+    Facts { length: file.length, piece_length, root: file.root }
+}
+
+/// Gives each file longer than the piece length its layer, or 27.
+fn assign_layers(torrent: &[u8], layers: &Entries, piece_length: u64, files: &mut [Listed]) -> Result<(), u32> {
+    let mut by_root: HashMap<&[u8], &Value> = HashMap::new();
+    for (key, value) in layers {
+        by_root.insert(&torrent[key.clone()], value);
+    }
+    for file in files.iter_mut().filter(|file| file.length > piece_length) {
+        let layer = by_root.remove(&file.root[..]).and_then(Value::string).ok_or(WRONG_LAYERS)?;
+        if layer.len() as u64 != 32 * facts(file, piece_length).pieces() {
+            return Err(WRONG_LAYERS);
+        }
+        file.layer = layer;
+    }
+    // What is left is the root of no such file.
+    if by_root.is_empty() {
+        Ok(())
+    } else {
+        Err(WRONG_LAYERS)
+    }
+}
+
+/// 28: a layer that doesn't give its root.
+fn layer_differs(torrent: &[u8], file: &Listed, piece_length: u64) -> bool {
+    let worked_out = over_piece_layer(&facts(file, piece_length), &torrent[file.layer.clone()]);
+    worked_out.last().expect("a tree has a root").1 != file.root
+}
+
+/// Everything the torrent says, or the number it is refused with.
+pub fn contents(torrent: &[u8]) -> Result<Contents, u32> {
+    if torrent.len() > LARGEST {
+        return Err(TORRENT_TOO_LARGE);
+    }
+    let outer = read_bencoding(torrent)?;
+    let fields = fields(torrent, &outer).ok_or(MISSING)?;
+    if fields.meta_version != 2 {
+        return Err(OTHER_VERSION);
+    }
+    let piece_length = u64::try_from(fields.piece_length).unwrap_or(0);
+    if !piece_length_in_range(piece_length) {
+        return Err(PIECE_LENGTH_OUT_OF_RANGE);
+    }
+    let mut files = files_in(torrent, fields.file_tree, &[])?;
+    if has_same_roots(&files) {
+        return Err(SAME_ROOT);
+    }
+    assign_layers(torrent, fields.piece_layers, piece_length, &mut files)?;
+    let mut with_layer = files.iter().filter(|file| file.length > piece_length);
+    if with_layer.any(|file| layer_differs(torrent, file, piece_length)) {
+        return Err(LAYER_DIFFERS);
+    }
+    Ok(Contents { info_hash: sha256(&torrent[fields.info.part.clone()]), piece_length, files })
+}
+
+/// Info hash, piece length and file count.
+pub fn torrent_read(torrent: &[u8]) -> Torrent {
+    match contents(torrent) {
+        Ok(all) => Torrent {
+            number: DONE,
+            info_hash: all.info_hash,
+            piece_length: all.piece_length,
+            files: all.files.len() as u64,
+        },
+        Err(number) => Torrent { number, info_hash: [0; 32], piece_length: 0, files: 0 },
+    }
+}
+
+/// File number `file` in tree order.
+pub fn torrent_file(torrent: &[u8], file: u64) -> File {
+    contents(torrent).map_or_else(File::refused, |all| file_in(&all, file))
+}
+
+/// What `torrent_file` answers for a torrent with these contents.
+pub fn file_in(all: &Contents, file: u64) -> File {
+    usize::try_from(file).ok().and_then(|file| all.files.get(file)).map_or(File::refused(NO_SUCH_FILE), File::of)
+}
+
+/// Path element number `element` of file number `file`.
+pub fn torrent_path(torrent: &[u8], file: u64, element: u64) -> Part {
+    contents(torrent).map_or_else(Part::refused, |all| path_in(&all, file, element))
+}
+
+/// What `torrent_path` answers for a torrent with these contents.
+pub fn path_in(all: &Contents, file: u64, element: u64) -> Part {
+    let found = usize::try_from(file).ok().and_then(|file| all.files.get(file));
+    let found = found.and_then(|file| file.path.get(usize::try_from(element).ok()?));
+    found.map_or(Part::refused(NO_SUCH_FILE), |part| Part {
+        number: DONE,
+        start: part.start as u64,
+        size: part.len() as u64,
+    })
+}
+
+impl File {
+    fn of(listed: &Listed) -> File {
+        File {
+            number: DONE,
+            length: listed.length,
+            root: listed.root,
+            elements: listed.path.len() as u64,
+            layer_start: listed.layer.start as u64,
+            layer_size: listed.layer.len() as u64,
+        }
+    }
+
+    fn refused(number: u32) -> File {
+        File { number, length: 0, root: [0; 32], elements: 0, layer_start: 0, layer_size: 0 }
+    }
+}
+
+impl Part {
+    fn refused(number: u32) -> Part {
+        Part { number, start: 0, size: 0 }
+    }
+}
+
+#[cfg(test)]
+mod tests {
+    use super::*;
+    use crate::sha256::pair;
+
+    fn string(content: &[u8]) -> Vec<u8> {
+        [content.len().to_string().as_bytes(), b":", content].concat()
+    }
+
+    /// A torrent with this file tree and these piece layers, both already encoded.
+    fn torrent(tree: &[u8], layers: &[u8]) -> Vec<u8> {
+        with_info(tree, b"i2e", b"i16384e", layers)
+    }
+
+    fn with_info(tree: &[u8], version: &[u8], piece_length: &[u8], layers: &[u8]) -> Vec<u8> {
+        let info: [&[u8]; 7] =
+            [b"d9:file tree", tree, b"12:meta version", version, b"4:name1:x12:piece length", piece_length, b"e"];
+        [b"d4:info", &info.concat()[..], b"12:piece layers", layers, b"e"].concat()
+    }
+
+    /// An entry of a directory that is a file of this length, with a root of one byte 32 times.
+    fn file(name: &str, length: i64, root: Option<u8>) -> Vec<u8> {
+        let root = root.map_or(Vec::new(), |byte| [b"11:pieces root", &string(&[byte; 32])[..]].concat());
+        let properties = [b"d0:d6:lengthi", length.to_string().as_bytes(), b"e", &root, b"ee"].concat();
+        [string(name.as_bytes()), properties].concat()
+    }
+
+    fn directory(entries: &[Vec<u8>]) -> Vec<u8> {
+        [b"d", &entries.concat()[..], b"e"].concat()
+    }
+
+    fn number(torrent: &[u8]) -> u32 {
+        torrent_read(torrent).number
+    }
+
+    fn number_of_tree(tree: &[u8]) -> u32 {
+        number(&torrent(tree, b"de"))
+    }
+
+    #[test]
+    fn a_good_torrent_is_read() {
+        let inner = [string(b"a"), directory(&[file("b", 7, Some(1))])].concat();
+        let bytes = torrent(&directory(&[inner, file("a.txt", 0, None), file("c", 16384, Some(0))]), b"de");
+        let read = torrent_read(&bytes);
+        assert_eq!((read.number, read.piece_length, read.files), (0, 16384, 3));
+        assert_eq!(read.info_hash, sha256(&bytes[7..bytes.len() - 18]));
+        let first = torrent_file(&bytes, 0);
+        assert_eq!((first.length, first.root, first.elements, first.layer_size), (7, [1; 32], 2, 0));
+        let part = |file, element| {
+            let part = torrent_path(&bytes, file, element);
+            (part.number, bytes[part.start as usize..][..part.size as usize].to_vec())
+        };
+        assert_eq!(
+            [part(0, 0), part(0, 1), part(1, 0)],
+            [(0, b"a".to_vec()), (0, b"b".to_vec()), (0, b"a.txt".to_vec())]
+        );
+        assert_eq!([part(0, 2).0, part(3, 0).0, part(u64::MAX, 0).0], [NO_SUCH_FILE; 3]);
+        assert_eq!(torrent_file(&bytes, 1).root, [0; 32]);
+        assert_eq!(torrent_file(&bytes, 3), File::refused(NO_SUCH_FILE));
+        assert_eq!(torrent_file(b"de", 99).number, MISSING);
+    }
+
+    #[test]
+    fn sizes_and_levels() {
+        let mut large = torrent(&directory(&[file("a", 1, Some(1))]), b"de");
+        large.resize(LARGEST, b' ');
+        assert_eq!(number(&large), NOT_STRICT);
+        large.push(b' ');
+        assert_eq!(number(&large), TORRENT_TOO_LARGE);
+        let deep = |elements: usize| {
+            let tree = (1..elements)
+                .fold(directory(&[file("a", 1, Some(1))]), |below, _| directory(&[[string(b"a"), below].concat()]));
+            torrent(&tree, b"de")
+        };
+        assert_eq!((number(&deep(28)), torrent_file(&deep(28), 0).elements), (0, 28));
+        assert_eq!(number(&deep(29)), TOO_DEEP);
+    }
+
+    #[test]
+    fn missing_values_and_other_types() {
+        let tree = directory(&[file("a", 1, Some(1))]);
+        assert_eq!(number(b"de"), MISSING);
+        assert_eq!(number(b"d4:infole12:piece layersdee"), MISSING);
+        assert_eq!(number(&torrent(b"le", b"de")), MISSING);
+        assert_eq!(number(&torrent(&tree, b"le")), MISSING);
+        assert_eq!(number(&with_info(&tree, b"1:2", b"i16384e", b"de")), MISSING);
+        assert_eq!(number(&with_info(&tree, b"i3e", b"5:16384", b"de")), MISSING);
+        assert_eq!(number(&with_info(&tree, b"i3e", b"i5e", b"de")), OTHER_VERSION);
+        for piece_length in ["i0e", "i-16384e", "i8192e", "i16385e", "i33554432e", "i4294983680e"] {
+            assert_eq!(number(&with_info(b"de", b"i2e", piece_length.as_bytes(), b"de")), PIECE_LENGTH_OUT_OF_RANGE);
+        }
+    }
+
+    #[test]
+    fn wrong_trees() {
+        let good = file("b", 1, Some(1));
+        let wrong = [
+            b"de".to_vec(),
+            directory(&[b"1:ade".to_vec()]),
+            directory(&[b"1:ale".to_vec()]),
+            directory(&[b"1:ad0:i5ee".to_vec()]),
+            directory(&[b"0:d6:lengthi0ee".to_vec()]),
+            directory(&[[b"1:ad0:d6:lengthi0ee".to_vec(), good.clone(), b"e".to_vec()].concat()]),
+            directory(&[file("a", 1, None)]),
+            directory(&[file("a", 0, Some(1))]),
+            directory(&[file("a", -1, Some(1))]),
+            directory(&[file("a", (1 << 30) + 1, Some(1))]),
+            directory(&[b"1:ad0:d6:length1:5ee".to_vec()]),
+            directory(&[b"1:ad0:dee".to_vec()]),
+            directory(&[b"1:ad0:d6:lengthi1e11:pieces root31:0123456789012345678901234567890ee".to_vec()]),
+            directory(&[b"1:ad0:d6:lengthi0e11:pieces rootleee".to_vec()]),
+        ];
+        for tree in wrong {
+            assert_eq!(number_of_tree(&tree), WRONG_TREE, "{}", String::from_utf8_lossy(&tree));
+        }
+        assert_eq!(number_of_tree(b"d1:ad0:d0:le6:lengthi0e1:xleeee"), 0);
+    }
+
+    #[test]
+    fn same_roots() {
+        assert_eq!(number_of_tree(&directory(&[file("a", 1, Some(1)), file("b", 2, Some(1))])), SAME_ROOT);
+        assert_eq!(number_of_tree(&directory(&[file("a", 1, Some(0)), file("b", 0, None), file("c", 0, None)])), 0);
+    }
+
+    #[test]
+    fn layers() {
+        let layer = [[5; 32], [6; 32], [7; 32]].concat();
+        let root = pair(&pair(&[5; 32], &[6; 32]), &pair(&[7; 32], &[0; 32]));
+        let properties = [b"d6:lengthi40000e11:pieces root", &string(&root)[..], b"e"].concat();
+        let tree = [b"d1:ad0:", &properties[..], b"ee"].concat();
+        let with = |entries: &[(&[u8], Vec<u8>)]| {
+            let entries = entries.iter().map(|(key, value)| [string(key), value.clone()].concat());
+            torrent(&tree, &directory(&entries.collect::<Vec<_>>()))
+        };
+        let good = with(&[(&root, string(&layer))]);
+        let found = torrent_file(&good, 0);
+        assert_eq!((found.number, found.layer_size), (0, 96));
+        assert_eq!(good[found.layer_start as usize..][..96], layer);
+        assert_eq!(number(&with(&[])), WRONG_LAYERS);
+        assert_eq!(number(&with(&[(&root, string(&layer[..64]))])), WRONG_LAYERS);
+        assert_eq!(number(&with(&[(&root, b"le".to_vec())])), WRONG_LAYERS);
+        assert_eq!(number(&with(&[(&root, string(&layer)), (&[255; 32], string(b""))])), WRONG_LAYERS);
+        assert_eq!(number(&with(&[(&root, string(&[5; 96]))])), LAYER_DIFFERS);
+    }
+}
