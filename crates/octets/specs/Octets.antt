@@ -32,6 +32,15 @@ abbrev pub be : ℕ → ℕ → List ℕ
 be zero n = []
 be (suc k) n = (n / 256 ^ k) % 256 ∷ be k n
 
+-- the number that k bytes from `at` on write, the most significant first
+unfoldable pub numberAt : List ℕ → ℕ → ℕ → ℕ
+numberAt s at zero = 0
+numberAt s at (suc k) = numberAt s at k * 256 + getD s (at + k) 0
+
+-- s with its first n bytes zero
+unfoldable pub zeroed : List ℕ → ℕ → List ℕ
+zeroed s n = replicate n 0 ++ drop n s
+
 -- 32 zero bytes
 unfoldable pub zeroHash : List ℕ
 zeroHash = replicate 32 0

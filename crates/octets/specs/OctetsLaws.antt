@@ -5,14 +5,15 @@ use mathlib.Core.List.{List, [], _∷_, _++_, append-assoc}
 use mathlib.Core.Bool.{Bool, true, false, _&&_, false≢true, and-eq-true-iff}
 use mathlib.Core.Logic.{_⊎_, inl, inr}
 use Prim.Native.Nat.{ℕ, zero, suc, _+_, _-_, _*_, _/_, _%_, _^_, _≤_, _<_, min}
-use native.Mathlib.Nat.{mod-lt}
+use native.Mathlib.Nat.{mod-lt, mod-eq-of-lt, pow-suc, pow-zero, div-one, div-div-eq-div-mul}
+use lib.Arith.{mod-mul}
 use native.Mathlib.Omega.{arith}
 use native.Mathlib.Decide.{decLt}
-use lib.ListN.{length, take, drop, getD, set, length-append, length-take, length-drop, length-set, replicate, getD-replicate, List·getD-append, drop-of-length-le}
+use lib.ListN.{length, take, drop, getD, set, length-append, length-take, length-drop, length-set, replicate, length-replicate, getD-replicate, List·getD-append, drop-of-length-le}
 use lib.Seq.{length-take-le, take-at, drop-at, getD-take, getD-drop, getD-append-add, getD-set-other, ext-getD, take-take, take-nil, take-all, take-append-le, drop-append-le, drop-drop}
 use lib.Dec.{eqb, lit<}
 use borrow.Author.Tests.{eqb-true, eq-eqb}
-use Rattle.octets.specs.Octets.{Octets, cut, pasted, same, be, zeroHash}
+use Rattle.octets.specs.Octets.{Octets, cut, pasted, same, be, numberAt, zeroed, zeroHash}
 
 pub cut-length : (s : List ℕ) (at n : ℕ) → at + n ≤ length s → length (cut s at n) ≡ n
 unfolding cut
@@ -202,3 +203,63 @@ cut-append-left a b at n h =
 pub cut-append-right : (a b : List ℕ) (at n : ℕ) → length a ≡ at → length b ≡ n → cut (a ++ b) at n ≡ b
 unfolding cut
 cut-append-right a b at n e f = ap (λ (l : List ℕ). take n l) (drop-at a b at e) ∙ take-all n b (omega arith)
+
+pub zeroed-length : (s : List ℕ) (n : ℕ) → n ≤ length s → length (zeroed s n) ≡ length s
+unfolding zeroed
+zeroed-length s n h = simp (length-append, length-replicate, length-drop) (omega arith)
+
+pub zeroed-at : (s : List ℕ) (n i : ℕ) → i < n → getD (zeroed s n) i 0 ≡ 0
+unfolding zeroed
+zeroed-at s n i h = List·getD-append (replicate n 0) (drop n s) 0 i (omega (arith, length-replicate {A = ℕ} n 0)) ∙ getD-replicate n i 0 0 h
+
+pub zeroed-past : (s : List ℕ) (n i : ℕ) → n ≤ length s → n ≤ i → getD (zeroed s n) i 0 ≡ getD s i 0
+unfolding zeroed
+zeroed-past s n i l h =
+    let z : length {A = ℕ} (replicate n 0) + (i - n) ≡ i = omega (arith, length-replicate {A = ℕ} n 0) in
+    let e : n + (i - n) ≡ i = omega arith in
+    ap (λ (j : ℕ). getD (replicate n 0 ++ drop n s) j 0) (sym z) ∙ getD-append-add (replicate n 0) (drop n s) (i - n) 0
+    ∙ getD-drop n s (i - n) 0 ∙ ap (λ (j : ℕ). getD s j 0) e
+
+-- ---- numbers
+
+-- a number depends only on its own bytes
+pub number-same : (s t : List ℕ) (a b k : ℕ) → ((i : ℕ) → i < k → getD s (a + i) 0 ≡ getD t (b + i) 0) → numberAt s a k ≡ numberAt t b k
+unfolding numberAt
+number-same s t a b zero f = refl
+number-same s t a b (suc k) f = ap₂ (λ (x y : ℕ). x * 256 + y) (number-same s t a b k (λ i h. f i (omega arith))) (f k (omega arith))
+
+digit-at : (k i n : ℕ) → i < k → getD (be k n) i 0 ≡ n / 256 ^ (k - 1 - i) % 256
+digit-at zero i n h = absurd (omega arith)
+digit-at (suc k) zero n h = let e : suc k - 1 - 0 ≡ k = omega arith in rw e
+digit-at (suc k) (suc i) n h = let e : suc k - 1 - suc i ≡ k - 1 - i = omega arith in rw e (digit-at k i n (omega arith))
+
+-- the first i digits of a number of k are the number without its last k - i digits
+leading : (k i n : ℕ) → i ≤ k → numberAt (be k n) 0 i ≡ n / 256 ^ (k - i) % 256 ^ i
+unfolding numberAt
+leading k zero n h = omega arith
+leading k (suc i) n h =
+    let e : k - i ≡ suc (k - suc i) = omega arith in
+    let d : k - 1 - i ≡ k - suc i = omega arith in
+    let q : n / 256 ^ (k - i) ≡ n / 256 ^ (k - suc i) / 256 = rw (e, pow-suc) (sym (div-div-eq-div-mul n (256 ^ (k - suc i)) 256)) in
+    let z : 0 + i ≡ i = omega arith in
+    let g : getD (be k n) (0 + i) 0 ≡ n / 256 ^ (k - suc i) % 256 = rw (z, digit-at k i n (omega arith), d) in
+    let m = mod-mul (n / 256 ^ (k - suc i)) {m = 256 ^ i} {c = 256} (pos-pow-256 i) (lit< tt) in
+    ap₂ (λ (x y : ℕ). x * 256 + y) (leading k i n (omega arith) ∙ ap (λ (x : ℕ). x % 256 ^ i) q) g
+    ∙ sym (rw pow-suc m)
+  where
+    pos-pow-256 : (i : ℕ) → 0 < 256 ^ i
+    pos-pow-256 zero = lit< tt
+    pos-pow-256 (suc i) = rw pow-suc (omega (arith, pos-pow-256 i))
+
+-- a number that was written is read back
+pub number-of-be : (k n : ℕ) → n < 256 ^ k → numberAt (be k n) 0 k ≡ n
+number-of-be k n h =
+    let e : k - k ≡ 0 = omega arith in
+    leading k k n (omega arith) ∙ rw (e, pow-zero, div-one) (mod-eq-of-lt h)
+
+pub number-pasted : (s : List ℕ) (at k n : ℕ) → at + k ≤ length s → n < 256 ^ k → numberAt (pasted s at (be k n)) at k ≡ n
+number-pasted s at k n l h =
+    let z = be-octets k n .size in
+    number-same (pasted s at (be k n)) (be k n) at 0 k
+    (λ i g. let e : 0 + i ≡ i = omega arith in getD-pasted-in s at (be k n) (omega arith) i (omega arith) ∙ ap (λ (j : ℕ). getD (be k n) j 0) (sym e))
+    ∙ number-of-be k n h

@@ -1,6 +1,6 @@
-// A hash is a value of 32 bytes: read from and written to a place in a slice, and compared whole.
+// Bytes in slices. A hash is a value of 32 bytes: read from and written to a place, and compared whole.
 ghost use mathlib.Core.Path.{_≡_};
-ghost use Prim.Native.Nat.{_+_, _≤_};
+ghost use Prim.Native.Nat.{_+_, _^_, _≤_, _<_};
 ghost use lib.ListN.{length};
 ghost use Rattle.octets.specs.Octets as O;
 
@@ -42,4 +42,52 @@ pub fn same(a: [u8; 32], b: [u8; 32]) -> bool
         i += 1;
     }
     true
+}
+
+// A byte as a number.
+pub fn wide(x: u8) -> usize
+    ensures { λ r. ⌜ (r ≡ x) × (r < 256) ⌝ }
+{
+    x as usize
+}
+
+// The number that k bytes at `at` write, the most significant first.
+pub fn number_at(s: &[u8], at: usize, k: usize) -> usize
+    requires { ⌜ (at + k ≤ length (now s)) × (k ≤ 8) ⌝ }
+    ensures { λ r. ⌜ (r ≡ O.numberAt (now (s .entry)) at k) × (r < 256 ^ k) ⌝ }
+{
+    let mut x = 0;
+    let mut i = 0;
+    while i < k {
+        let b = wide(s[at + i]);
+        x = x * 256 + b;
+        i += 1;
+    }
+    x
+}
+
+// Writes x as k bytes at `at`, the most significant first.
+pub fn put_number(s: &mut [u8], at: usize, k: usize, x: usize)
+    requires { ⌜ (at + k ≤ length (now s)) × (k ≤ 8) ⌝ }
+    ensures { λ _. ⌜ now (s .exit) ≡ O.pasted (now (s .entry)) at (O.be k x) ⌝ }
+{
+    let mut rest = x;
+    let mut i = k;
+    while 0 < i {
+        i -= 1;
+        s[at + i] = (rest % 256) as u8;
+        rest = rest / 256;
+    }
+}
+
+// The first n bytes become zero.
+pub fn clear(s: &mut [u8], n: usize)
+    requires { ⌜ n ≤ length (now s) ⌝ }
+    ensures { λ _. ⌜ now (s .exit) ≡ O.zeroed (now (s .entry)) n ⌝ }
+{
+    let mut i = 0;
+    while i < n {
+        s[i] = 0;
+        i += 1;
+    }
 }

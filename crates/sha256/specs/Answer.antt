@@ -6,9 +6,10 @@ use Prim.Native.Nat.{ℕ, _^_}
 use lib.ListN.{length}
 use lib.Dec.{ltb}
 use Rattle.octets.specs.Octets.{zeroHash}
+use Rattle.numbers.specs.Numbers.{wrongSize}
 use Rattle.sha256.specs.Sha256.{sha256}
 use Rattle.sha256.specs.declared.Hashed.{Hashed}
 
 -- a string above 2^61 - 1 bytes is answered 4, with a zero hash
 unfoldable pub hashedOf : List ℕ → Hashed
-hashedOf m = cond (ltb (length m) (2 ^ 61)) (record { number = 0; hash = sha256 m }) (record { number = 4; hash = zeroHash })
+hashedOf m = cond (ltb (length m) (2 ^ 61)) (record { number = 0; hash = sha256 m }) (record { number = wrongSize; hash = zeroHash })

@@ -17,9 +17,6 @@ pub struct Hashed {
     pub hash: [u8; 32],
 }
 
-// No hash: the string is too long for the standard.
-const TOO_LONG: u32 = 4;
-
 fn start() -> State
     ensures { λ r. ⌜ r ≡ S.start ⌝ }
 {
@@ -123,7 +120,7 @@ pub fn sha256(s: &[u8]) -> Hashed
     }
     let none = [0u8; 32];
     Hashed {
-        number: TOO_LONG,
+        number: numbers::WRONG_SIZE,
         hash: none,
     }
 }

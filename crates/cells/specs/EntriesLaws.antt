@@ -1,0 +1,229 @@
+-- Lists of entries: put together, taken, counted; what is held stays held, and the order does not matter.
+-- All of it goes by the laws of `put`.
+-- Assumes nothing.
+use mathlib.Core.Path.{_≡_, refl, ap, ap₂, sym, _∙_}
+use mathlib.Core.List.{List, [], _∷_, _++_}
+use mathlib.Core.Bool.{Bool, true, false, not, _&&_, _||_, false≢true, and-eq-true-iff, and-assoc, and-true}
+use Prim.Native.Nat.{ℕ, zero, suc, _+_, _≤_, _<_}
+use native.Mathlib.Decide.{ℕ-discrete}
+use native.Mathlib.Omega.{arith}
+use lib.ListN.{length}
+use Rattle.octets.specs.Octets.{same}
+use Rattle.octets.specs.OctetsLaws.{same-true, same-eq}
+use Rattle.cells.specs.Cells.{Room, heldAt, hashAt, put}
+use Rattle.cells.specs.CellsLaws.{put-length, put-room, held-put-same, hash-put-same, held-put-other, hash-put-other, put-comm}
+use Rattle.cells.specs.Entries.{Entry, one, agreesAt, agrees, putAll, oneIf, newly}
+
+-- how many positions taking a list makes held, as code counts them
+unfoldable pub lacks : List ℕ → ℕ → ℕ
+lacks s n = oneIf (not (heldAt s n))
+
+unfoldable pub fresh : List ℕ → List Entry → ℕ
+fresh s [] = 0
+fresh s (e ∷ L) = lacks s (e .at) + fresh (put s (e .at) (e .hash)) L
+
+-- ---- one entry, and lists put together
+
+pub agree-one : (s : List ℕ) (n : ℕ) (h : List ℕ) → agrees s (one n h) ≡ agreesAt s n h
+unfolding agrees
+agree-one s n h = and-true (agreesAt s n h)
+
+pub put-one : (s : List ℕ) (n : ℕ) (h : List ℕ) → putAll s (one n h) ≡ put s n h
+unfolding putAll
+put-one s n h = refl
+
+pub fresh-one : (s : List ℕ) (n : ℕ) (h : List ℕ) → fresh s (one n h) ≡ lacks s n
+unfolding fresh
+fresh-one s n h = omega arith
+
+pub agree-append : (s : List ℕ) (A B : List Entry) → agrees s (A ++ B) ≡ (agrees s A && agrees s B)
+unfolding agrees
+agree-append s [] B = refl
+agree-append s (e ∷ A) B = rw (agree-append s A B) (sym (and-assoc (agreesAt s (e .at) (e .hash)) (agrees s A) (agrees s B)))
+
+pub put-append : (s : List ℕ) (A B : List Entry) → putAll s (A ++ B) ≡ putAll (putAll s A) B
+unfolding putAll
+put-append s [] B = refl
+put-append s (e ∷ A) B = put-append (put s (e .at) (e .hash)) A B
+
+pub fresh-append : (s : List ℕ) (A B : List Entry) → fresh s (A ++ B) ≡ fresh s A + fresh (putAll s A) B
+unfolding fresh putAll
+fresh-append s [] B = omega arith
+fresh-append s (e ∷ A) B = omega (arith, fresh-append (put s (e .at) (e .hash)) A B)
+
+-- ---- by cases on whether a position is held
+
+pub agrees-held : (s : List ℕ) (n : ℕ) (v : List ℕ) → heldAt s n ≡ true → agreesAt s n v ≡ same (hashAt s n) v
+unfolding agreesAt
+agrees-held s n v e = rw e
+
+pub agrees-free : (s : List ℕ) (n : ℕ) (v : List ℕ) → heldAt s n ≡ false → agreesAt s n v ≡ true
+unfolding agreesAt
+agrees-free s n v e = rw e
+
+pub lacks-held : (s : List ℕ) (n : ℕ) → heldAt s n ≡ true → lacks s n ≡ 0
+unfolding lacks
+lacks-held s n e = rw e
+
+pub lacks-free : (s : List ℕ) (n : ℕ) → heldAt s n ≡ false → lacks s n ≡ 1
+unfolding lacks
+lacks-free s n e = rw e
+
+pub lacks-small : (s : List ℕ) (n : ℕ) → lacks s n ≤ 1
+unfolding lacks
+lacks-small s n = go (heldAt s n)
+  where
+    go : (b : Bool) → oneIf (not b) ≤ 1
+    go true = omega arith
+    go false = omega arith
+
+pub fresh-small : (s : List ℕ) (L : List Entry) → fresh s L ≤ length L
+unfolding fresh
+fresh-small s [] = omega arith
+fresh-small s (e ∷ L) = omega (arith, lacks-small s (e .at), fresh-small (put s (e .at) (e .hash)) L)
+
+-- position p is held with hash v
+abbrev pub Hold : List ℕ → ℕ → List ℕ → Type 0
+Hold s p v = (heldAt s p ≡ true) × (hashAt s p ≡ v)
+
+-- every entry is a hash, at a position below N
+pub data Sound (N : ℕ) : List Entry → Type 0 where
+  none : Sound N []
+  more : {e : Entry} {L : List Entry} → e .at < N → length (e .hash) ≡ 32 → Sound N L → Sound N (e ∷ L)
+
+-- every entry at p has hash v
+pub data Says (p : ℕ) (v : List ℕ) : List Entry → Type 0 where
+  none : Says p v []
+  more : {e : Entry} {L : List Entry} → (e .at ≡ p → e .hash ≡ v) → Says p v L → Says p v (e ∷ L)
+
+-- ---- one entry
+
+hold-put : (N : ℕ) (s : List ℕ) (n : ℕ) (h : List ℕ) → Room N s → n < N → length h ≡ 32
+    → (p : ℕ) (v : List ℕ) → p < N → (n ≡ p → h ≡ v) → Hold s p v → Hold (put s n h) p v
+hold-put N s n h room below size p v b same k =
+    elim (ℕ-discrete p n) [
+      | yes e ↦ rw e (held-put-same s N n room below h size, hash-put-same s N n room below h size ∙ same (sym e))
+      | no ne ↦ (held-put-other s N n room below h size p ne ∙ k .0, hash-put-other s N n room below h size p b ne ∙ k .1)
+    ]
+
+-- ---- a list of them
+
+-- what is held stays, where the list says nothing else of it
+pub hold-putAll : (N : ℕ) (L : List Entry) (s : List ℕ) → Room N s → Sound N L → (p : ℕ) (v : List ℕ) → p < N → Says p v L → Hold s p v → Hold (putAll s L) p v
+unfolding putAll
+hold-putAll N [] s room none p v b none k = k
+hold-putAll N (e ∷ L) s room (more i l S) p v b (more f F) k =
+    hold-putAll N L (put s (e .at) (e .hash)) (put-room s N (e .at) room i (e .hash) l) S p v b F
+    (hold-put N s (e .at) (e .hash) room i l p v b f k)
+
+-- a list that agrees with the store says of what is held only what is held
+pub says-agree : (L : List Entry) (s : List ℕ) (p : ℕ) (v : List ℕ) → Hold s p v → agrees s L ≡ true → Says p v L
+unfolding agrees
+says-agree [] s p v k a = none
+says-agree (e ∷ L) s p v k a =
+    let ab = and-eq-true-iff (agreesAt s (e .at) (e .hash)) (agrees s L) .0 a in
+    more {e = e}
+    (λ q.
+    let h : heldAt s (e .at) ≡ true = rw q (k .0) in
+    let x = same-true (hashAt s (e .at)) (e .hash) (sym (agrees-held s (e .at) (e .hash) h) ∙ ab .0) in
+    sym x ∙ ap (λ (n : ℕ). hashAt s n) q ∙ k .1)
+    (says-agree L s p v k (ab .1))
+
+-- a held hash stays held with the same bytes after any list that agrees
+pub keeps : (N : ℕ) (L : List Entry) (s : List ℕ) → Room N s → Sound N L → agrees s L ≡ true
+    → (p : ℕ) → p < N → heldAt s p ≡ true → (heldAt (putAll s L) p ≡ true) × (hashAt (putAll s L) p ≡ hashAt s p)
+keeps N L s room S a p b h = hold-putAll N L s room S p (hashAt s p) b (says-agree L s p (hashAt s p) (h, refl) a) (h, refl)
+
+-- ---- the count
+
+-- nothing held is lost from s to s′
+Extends : ℕ → List ℕ → List ℕ → Type 0
+Extends N s s′ = (p : ℕ) → p < N → heldAt s p ≡ true → heldAt s′ p ≡ true
+
+module _ (N : ℕ) (s : List ℕ) (n : ℕ) (room : Room N s) (below : n < N) (h : List ℕ) (size : length h ≡ 32) (s0 : List ℕ) where
+  -- positions before n count as before
+  newly-other : (M : ℕ) → M ≤ n → newly M s0 (put s n h) ≡ newly M s0 s
+  unfolding newly
+  newly-other zero l = refl
+  newly-other (suc M) l =
+      ap₂ (λ (a : ℕ) (t : Bool). a + oneIf (t && not (heldAt s0 M))) (newly-other M (omega arith))
+      (held-put-other s N n room below h size M (λ e. omega arith))
+
+  at-n : (x y : Bool) → (x ≡ true → y ≡ true) → oneIf (true && not x) ≡ oneIf (y && not x) + oneIf (not y)
+  at-n true true f = refl
+  at-n true false f = absurd (false≢true (f refl))
+  at-n false true f = refl
+  at-n false false f = refl
+
+  newly-put : (M : ℕ) → n < M → M ≤ N → Extends N s0 s → newly M s0 (put s n h) ≡ newly M s0 s + lacks s n
+  unfolding newly lacks Extends
+  newly-put zero b l x = omega arith
+  newly-put (suc M) b l x =
+      elim (ℕ-discrete M n) [
+        | yes e ↦
+            let a = newly-other M (omega arith) in
+            let t : heldAt (put s n h) M ≡ true = rw e (held-put-same s N n room below h size) in
+            let q = at-n (heldAt s0 M) (heldAt s M) (x M (omega arith)) in
+            let r : oneIf (heldAt (put s n h) M && not (heldAt s0 M)) ≡ oneIf (heldAt s M && not (heldAt s0 M)) + oneIf (not (heldAt s M)) = rw t q in
+            let w : oneIf (not (heldAt s n)) ≡ oneIf (not (heldAt s M)) = rw e refl in
+            omega arith
+        | no ne ↦
+            let a = newly-put M (omega arith) (omega arith) x in
+            let t = ap (λ (t : Bool). oneIf (t && not (heldAt s0 M))) (held-put-other s N n room below h size M ne) in
+            omega arith
+      ]
+
+ext-put : (N : ℕ) (s0 s : List ℕ) (n : ℕ) (h : List ℕ) → Room N s → n < N → length h ≡ 32 → Extends N s0 s → Extends N s0 (put s n h)
+unfolding Extends
+ext-put N s0 s n h room b size x p l k =
+    elim (ℕ-discrete p n) [
+      | yes e ↦ rw e (held-put-same s N n room b h size)
+      | no ne ↦ held-put-other s N n room b h size p ne ∙ x p l k
+    ]
+
+newly-putAll : (N : ℕ) (L : List Entry) (s0 s : List ℕ) → Room N s → Sound N L → Extends N s0 s → newly N s0 (putAll s L) ≡ newly N s0 s + fresh s L
+unfolding putAll fresh
+newly-putAll N [] s0 s room none x = omega arith
+newly-putAll N (e ∷ L) s0 s room (more i l S) x =
+    omega (
+      arith,
+      newly-putAll N L s0 (put s (e .at) (e .hash)) (put-room s N (e .at) room i (e .hash) l) S (ext-put N s0 s (e .at) (e .hash) room i l x),
+      newly-put N s (e .at) room i (e .hash) l s0 N i (omega arith) x,
+    )
+
+pub newly-none : (N : ℕ) (s : List ℕ) → newly N s s ≡ 0
+unfolding newly
+newly-none zero s = refl
+newly-none (suc M) s = omega (arith, newly-none M s, off (heldAt s M))
+  where
+    off : (b : Bool) → oneIf (b && not b) ≡ 0
+    off true = refl
+    off false = refl
+
+-- what the code counts as it writes is how many positions are held after and not before
+pub count-fresh : (N : ℕ) (L : List Entry) (s : List ℕ) → Room N s → Sound N L → newly N s (putAll s L) ≡ fresh s L
+unfolding Extends
+count-fresh N L s room S = omega (arith, newly-putAll N L s s room S (λ p b k. k), newly-none N s)
+
+-- ---- order
+
+past : (N : ℕ) (L : List Entry) (s : List ℕ) (n : ℕ) (h : List ℕ) → Room N s → Sound N L → n < N → length h ≡ 32 → Says n h L
+    → putAll (put s n h) L ≡ put (putAll s L) n h
+unfolding putAll
+past N [] s n h room none b z none = refl
+past N (e ∷ L) s n h room (more i l S) b z (more f F) =
+    ap (λ (t : List ℕ). putAll t L) (put-comm s N n (e .at) h (e .hash) room b i z l (λ q. sym (f (sym q))))
+    ∙ past N L (put s (e .at) (e .hash)) n h (put-room s N (e .at) room i (e .hash) l) S b z F
+
+-- no entry of A says of a position what an entry of B does not
+pub data Accord (B : List Entry) : List Entry → Type 0 where
+  nil : Accord B []
+  also : {e : Entry} {A : List Entry} → Says (e .at) (e .hash) B → Accord B A → Accord B (e ∷ A)
+
+-- either first
+pub either-order : (N : ℕ) (A B : List Entry) (s : List ℕ) → Room N s → Sound N A → Sound N B → Accord B A → putAll (putAll s A) B ≡ putAll (putAll s B) A
+unfolding putAll
+either-order N [] B s room none T nil = refl
+either-order N (e ∷ A) B s room (more i l S) T (also f F) =
+    either-order N A B (put s (e .at) (e .hash)) (put-room s N (e .at) room i (e .hash) l) S T F
+    ∙ ap (λ (t : List ℕ). putAll t A) (past N B s (e .at) (e .hash) room T i l f)

@@ -1,0 +1,4 @@
+pub mod Cells
+pub mod Entries
+pub mod CellsLaws
+pub mod EntriesLaws

@@ -1,0 +1,7 @@
+-- The answers of the crates below, as the structs of include/kombudeva.h.
+-- Assumes nothing.
+use Rattle.sha256.specs.declared.Hashed.{Hashed}
+use Rattle.kombudeva.specs.declared.HashAnswer.{HashAnswer}
+
+unfoldable pub hashAnswer : Hashed → HashAnswer
+hashAnswer r = record { number = r .number; hash = record { bytes = r .hash } }

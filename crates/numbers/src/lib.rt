@@ -1,0 +1,51 @@
+// The numbers given back, by name, and the answer that carries one. Document 01's table says when each is given.
+ghost use mathlib.Core.Path.{_≡_};
+ghost use Rattle.numbers.specs.Numbers.{refused, done};
+
+pub const DONE: u32 = 0;
+
+pub const NO_MESSAGE: u32 = 1;
+
+pub const OTHER_ROOT: u32 = 2;
+
+pub const RULE_BROKEN: u32 = 3;
+
+pub const WRONG_SIZE: u32 = 4;
+
+pub const WRONG_PADDING: u32 = 5;
+
+pub const NO_ANCHOR: u32 = 6;
+
+pub const DIFFERS: u32 = 7;
+
+pub const CONFLICT: u32 = 8;
+
+pub const UNUSABLE: u32 = 9;
+
+pub const FACTS_OUT_OF_RANGE: u32 = 10;
+
+pub const NO_ROOM: u32 = 11;
+
+pub const NOT_HELD: u32 = 12;
+
+// A number, and beside it the count of newly held positions or the reply's size.
+pub struct Answer {
+    pub number: u32,
+    pub count: u64,
+}
+
+// Beside a refusal the count is zero.
+pub fn refusal(number: u32) -> Answer
+    ensures { λ r. ⌜ r ≡ refused number ⌝ }
+{
+    Answer { number, count: 0 }
+}
+
+pub fn success(count: u64) -> Answer
+    ensures { λ r. ⌜ r ≡ done count ⌝ }
+{
+    Answer {
+        number: DONE,
+        count,
+    }
+}

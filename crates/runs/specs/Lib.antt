@@ -1,0 +1,4 @@
+pub mod Subtree
+pub mod Path
+pub mod SubtreeLaws
+pub mod PathLaws
