@@ -2,12 +2,12 @@
 -- Assumes nothing.
 use mathlib.Core.Path.{_≡_, refl, ap, sym, _∙_}
 use mathlib.Core.Bool.{Bool, true, false, cond, _&&_, and-eq-true-iff}
-use Prim.Native.Nat.{ℕ, zero, suc, _+_, _-_, _*_, _/_, _%_, _^_, _≤_, _<_}
+use Prim.Native.Nat.{ℕ, zero, suc, _+_, _-_, _*_, _/_, _^_, _≤_, _<_}
 use native.Mathlib.Nat.{add-mul, one-mul, mul-one, add-div-right, zero-mul, mul-suc, mul-assoc, mul-comm, pow-succ', div-zero, div-lt-iff-lt-mul, mul-div-cancel-left, one-le-mul, mul-le-mul-left, le-antisymm}
 use native.Mathlib.Decide.{decLe, decLt}
 use native.Mathlib.Omega.{arith}
 use lib.Dec.{leb, eqb}
-use lib.Pow.{pow-pos, pow-mono, pow-lt, pow-add, shl-exact}
+use lib.Pow.{pow-pos, pow-mono, pow-lt, pow-add}
 use borrow.Author.Tests.{le-leb, lt-leb, leb-true, eqb-true, eq-eqb}
 use Rattle.tree.specs.Geometry.{blockLength, ceilDiv, blockCount, heightFrom, height, Padding, covering, nodeNumber, pieceLayer, isPieceLength, pieceCount, blockSize, pieceSize}
 
@@ -38,6 +38,7 @@ below-ceil a d i p h = by-size (decLt i (ceilDiv a d))
     by-size (yes l) = l
     by-size (no g) = let c = ceil-enough a d i p (omega arith) in absurd (omega arith)
 
+-- and back
 pub ceil-below : (a d i : ℕ) → 0 < d → i < ceilDiv a d → i * d < a
 ceil-below a d i p h = by-size (decLt (i * d) a)
   where
@@ -111,12 +112,15 @@ pub height-least : (b k : ℕ) → b ≤ 2 ^ k → height b ≤ k
 unfolding height
 height-least b k h = height-from-least b 0 b k (omega arith) h
 
+-- an empty file's tree has height 0
 pub height-zero : height 0 ≡ 0
 height-zero = let l = height-least 0 0 (omega arith) in omega arith
 
+-- and so has that of one block
 pub height-one : height 1 ≡ 0
 height-one = let l = height-least 1 0 (pow-pos 0) in omega arith
 
+-- of a power of two it is the exponent
 pub height-pow : (k : ℕ) → height (2 ^ k) ≡ k
 height-pow k = le-antisymm (height-least (2 ^ k) k (omega arith)) (at-least (decLt (height (2 ^ k)) k))
   where
@@ -128,7 +132,7 @@ height-pow k = le-antisymm (height-least (2 ^ k) k (omega arith)) (at-least (dec
 pub height-grows : (a b : ℕ) → a ≤ b → height a ≤ height b
 height-grows a b l = height-least a (height b) (omega (arith, height-enough b))
 
--- one layer up the count halves, rounded up
+-- halving the blocks, rounded up, takes the height down by one
 pub height-halves : (b : ℕ) → 1 < b → height b ≡ suc (height (ceilDiv b 2))
 height-halves b l = le-antisymm most (least (height b) refl)
   where
@@ -142,6 +146,10 @@ height-halves b l = le-antisymm most (least (height b) refl)
         let enough : b ≤ 2 * 2 ^ m = omega (arith, height-enough b, ap (λ (x : ℕ). 2 ^ x) e, pow-succ' 2 m) in
         let w = height-least (ceilDiv b 2) m (ceil-least b 2 (2 ^ m) (omega arith) (omega arith)) in
         omega arith
+
+-- a number of 64 bits has a height of at most 64
+pub height-fits : (b : ℕ) → b < 2 ^ 64 → height b ≤ 64
+height-fits b l = height-least b 64 (omega arith)
 
 -- ---- padding
 
@@ -160,10 +168,12 @@ pub padding-from-covering : (b l i : ℕ) → covering b l ≤ i → Padding b l
 unfolding covering Padding
 padding-from-covering b l i h = ceil-enough b (2 ^ l) i (pow-pos l) h
 
+-- and back
 pub covering-until-padding : (b l i : ℕ) → Padding b l i → covering b l ≤ i
 unfolding covering Padding
 covering-until-padding b l i h = ceil-least b (2 ^ l) i (pow-pos l) h
 
+-- so the positions before it aren't padding
 pub covering-not-padding : (b l i : ℕ) → i < covering b l → Padding b l i → ⊥
 covering-not-padding b l i h p = omega (arith, covering-until-padding b l i p)
 
@@ -180,7 +190,7 @@ pub covering-some : (b l : ℕ) → 1 ≤ b → 1 ≤ covering b l
 unfolding covering
 covering-some b l h = below-ceil b (2 ^ l) 0 (pow-pos l) (omega (arith, zero-mul (2 ^ l)))
 
--- without blocks there is none
+-- without blocks every position is padding
 pub covering-none : (l : ℕ) → covering 0 l ≡ 0
 unfolding covering
 covering-none l = ceil-of-zero (2 ^ l)
@@ -193,12 +203,28 @@ covering-one b l p h =
     let some = covering-some b l (omega arith) in
     omega arith
 
+-- the count without a sum that could wrap
+pub covering-step : (b l : ℕ) → (b ≡ 0 → ⊥) → covering b l ≡ (b - 1) / 2 ^ l + 1
+unfolding covering
+covering-step b l p = ceil-step b (2 ^ l) p (λ e. omega (arith, pow-pos l))
+
 -- no layer has more than the blocks
 pub covering-most : (b l : ℕ) → covering b l ≤ b
 unfolding covering
 covering-most b l = ceil-least b (2 ^ l) b (pow-pos l) (omega (arith, mul-le-mul-left b (pow-pos l), mul-one b))
 
--- they lie within the layer
+-- the left child of a position that isn't padding isn't padding
+pub covering-left : (b k j : ℕ) → (k ≡ 0 → ⊥) → j < covering b k → 2 * j < covering b (k - 1)
+covering-left b zero j n h = absurd (n refl)
+covering-left b (suc k) j n h =
+    let e : suc k - 1 ≡ k = omega arith in
+    rw e (omega (arith, ceil-below (covering b k) 2 j (omega arith) (omega (arith, covering-halves b k))))
+
+-- so the number of a position that isn't padding is, above the leaves, below half the blocks
+pub covering-doubled : (b k j : ℕ) → (k ≡ 0 → ⊥) → j < covering b k → 2 * j < b
+covering-doubled b k j n h = omega (arith, covering-left b k j n h, covering-most b (k - 1))
+
+-- the positions that aren't padding lie within the layer
 pub covering-within : (b l : ℕ) → l ≤ height b → covering b l ≤ 2 ^ (height b - l)
 unfolding covering
 covering-within b l h =
@@ -206,13 +232,15 @@ covering-within b l h =
     ceil-least b (2 ^ l) (2 ^ (height b - l)) (pow-pos l)
     (rw (← pow-add) (rw e (height-enough b)))
 
--- the blocks of a position are those of its two children: the left one's start with it, the right one's follow, and end with it
+-- the blocks of a position are those of its two children: the left one starts where it starts
 pub left-start : (i l : ℕ) → (2 * i) * 2 ^ l ≡ i * 2 ^ suc l
 left-start i l = ap (λ (x : ℕ). x * 2 ^ l) (mul-comm 2 i) ∙ mul-assoc i 2 (2 ^ l) ∙ ap (λ (x : ℕ). i * x) (sym (pow-succ' 2 l))
 
+-- the right one starts 2^l blocks later
 pub right-start : (i l : ℕ) → (2 * i + 1) * 2 ^ l ≡ (2 * i) * 2 ^ l + 2 ^ l
 right-start i l = add-mul (2 * i) 1 (2 ^ l) ∙ ap (λ (x : ℕ). (2 * i) * 2 ^ l + x) (one-mul (2 ^ l))
 
+-- and ends where its parent does
 pub right-end : (i l : ℕ) → (2 * i + 1 + 1) * 2 ^ l ≡ (i + 1) * 2 ^ suc l
 right-end i l = let e : 2 * i + 1 + 1 ≡ 2 * (i + 1) = omega arith in rw e (left-start (i + 1) l)
 
@@ -226,6 +254,7 @@ pub padding-left : (b l i : ℕ) → Padding b (suc l) i → Padding b l (2 * i)
 unfolding Padding
 padding-left b l i h = omega (arith, left-start i l)
 
+-- the right one too
 pub padding-right : (b l i : ℕ) → Padding b (suc l) i → Padding b l (2 * i + 1)
 unfolding Padding
 padding-right b l i h = omega (arith, left-start i l, right-start i l)
@@ -268,6 +297,29 @@ piece-length-accepted p l =
       le-leb (blockLength * 2 ^ p) 16777216 (omega arith),
     )
 
+and-false : (t : Bool) → (t && false) ≡ false
+and-false true = refl
+and-false false = refl
+
+and-true : (t : Bool) → (t && true) ≡ t
+and-true true = refl
+and-true false = refl
+
+-- above 16 MiB there is no piece length
+pub piece-length-large : (plen : ℕ) → 16777216 < plen → isPieceLength plen ≡ false
+unfolding isPieceLength
+piece-length-large plen l = rw (lt-leb plen 16777216 l) (and-false (eqb (blockLength * 2 ^ pieceLayer plen) plen))
+
+-- up to it, the power of two decides
+pub piece-length-small : (plen : ℕ) → plen ≤ 16777216 → isPieceLength plen ≡ eqb (blockLength * 2 ^ pieceLayer plen) plen
+unfolding isPieceLength
+piece-length-small plen l = rw (le-leb plen 16777216 l) (and-true (eqb (blockLength * 2 ^ pieceLayer plen) plen))
+
+-- and the layer is at most 10
+pub piece-layer-small : (plen : ℕ) → plen ≤ 16777216 → pieceLayer plen ≤ 10
+unfolding pieceLayer
+piece-layer-small plen l = height-least (plen / blockLength) 10 (omega arith)
+
 -- ---- blocks and pieces
 
 -- a file has a piece only for a piece length that isn't 0, and the piece starts within the file
@@ -276,12 +328,13 @@ unfolding pieceCount
 piece-starts n zero i h = absurd (omega (arith, ceil-by-zero n))
 piece-starts n (suc d) i h = omega (arith, ceil-below n (suc d) i (omega arith) h, mul-comm i (suc d))
 
--- a piece that the file has isn't empty, and no longer than the piece length
+-- a piece that the file has isn't empty
 pub piece-size-some : (n plen i : ℕ) → i < pieceCount n plen → 0 < pieceSize n plen i
 unfolding pieceCount pieceSize
 piece-size-some n zero i h = absurd (omega (arith, ceil-by-zero n))
 piece-size-some n (suc d) i h = omega (arith, piece-starts n (suc d) i h)
 
+-- none is longer than the piece length
 pub piece-size-most : (n plen i : ℕ) → pieceSize n plen i ≤ plen
 unfolding pieceSize
 piece-size-most n plen i = omega arith
@@ -302,28 +355,32 @@ pub piece-size-only : (n plen i : ℕ) → 0 < pieceSize n plen i → i < pieceC
 unfolding pieceCount pieceSize
 piece-size-only n plen i h = below-ceil n plen i (omega arith) (omega (arith, mul-comm i plen))
 
--- the same of blocks
+-- a block that the file has isn't empty
 pub block-size-some : (n i : ℕ) → i < blockCount n → 0 < blockSize n i
 unfolding blockCount ceilDiv blockSize
 block-size-some n i h = omega arith
 
+-- none is longer than 16 KiB
 pub block-size-most : (n i : ℕ) → blockSize n i ≤ blockLength
 unfolding blockSize
 block-size-most n i = omega arith
 
+-- all but the last are that long
 pub block-size-whole : (n i : ℕ) → suc i < blockCount n → blockSize n i ≡ blockLength
 unfolding blockCount ceilDiv blockSize
 block-size-whole n i h = omega arith
 
+-- past the file there is nothing
 pub block-size-past : (n i : ℕ) → blockCount n ≤ i → blockSize n i ≡ 0
 unfolding blockCount ceilDiv blockSize
 block-size-past n i h = omega arith
 
+-- and there alone
 pub block-size-only : (n i : ℕ) → 0 < blockSize n i → i < blockCount n
 unfolding blockCount ceilDiv blockSize
 block-size-only n i h = omega arith
 
--- a file has a block exactly if it has a byte
+-- a file that has a byte has a block
 pub block-count-some : (n : ℕ) → 1 ≤ n → 1 ≤ blockCount n
 unfolding blockCount ceilDiv
 block-count-some n h = omega arith
@@ -333,14 +390,17 @@ pub block-starts : (n i : ℕ) → i < blockCount n → blockLength * i < n
 unfolding blockCount ceilDiv
 block-starts n i h = omega arith
 
+-- what isn't one of its blocks starts past it
 pub block-past : (n i : ℕ) → blockCount n ≤ i → n ≤ blockLength * i
 unfolding blockCount ceilDiv
 block-past n i h = omega arith
 
+-- a block that starts within the file is one of its blocks
 pub block-within : (n i : ℕ) → blockLength * i < n → i < blockCount n
 unfolding blockCount ceilDiv
 block-within n i h = omega arith
 
+-- and any other isn't
 pub block-outside : (n i : ℕ) → n ≤ blockLength * i → blockCount n ≤ i
 unfolding blockCount ceilDiv
 block-outside n i h = omega arith
@@ -429,74 +489,12 @@ pub node-number-parent : (h l i : ℕ) → l < h → nodeNumber h (suc l) (i / 2
 unfolding nodeNumber
 node-number-parent h l i k = omega (arith, layer-doubles h l k)
 
--- its children are 2n and 2n + 1
+-- its left child is 2n
 pub node-number-left : (h l i : ℕ) → l < h → nodeNumber h l (2 * i) ≡ 2 * nodeNumber h (suc l) i
 unfolding nodeNumber
 node-number-left h l i k = omega (arith, layer-doubles h l k)
 
+-- and its right one 2n + 1
 pub node-number-right : (h l i : ℕ) → l < h → nodeNumber h l (2 * i + 1) ≡ 2 * nodeNumber h (suc l) i + 1
 unfolding nodeNumber
 node-number-right h l i k = omega (arith, layer-doubles h l k)
-
--- ---- as the code works them out
-
--- one turn of halving, rounding up, raises the height found so far by one
-pub height-turn : (b c h : ℕ) → height b ≡ h + height c → 1 < c → height b ≡ h + 1 + height (c / 2 + c % 2)
-height-turn b c h e l =
-    let s : ceilDiv c 2 ≡ c / 2 + c % 2 = unfold ceilDiv in omega arith in
-    omega (arith, height-halves c l, ap height s)
-
-pub height-done : (b c h : ℕ) → height b ≡ h + height c → c ≤ 1 → h ≡ height b
-height-done b c h e l = omega (arith, height-least c 0 l)
-
--- a number of 64 bits has a height of at most 64
-pub height-fits : (b : ℕ) → b < 2 ^ 64 → height b ≤ 64
-height-fits b l = height-least b 64 (omega arith)
-
-pub covering-step : (b l : ℕ) → (b ≡ 0 → ⊥) → covering b l ≡ (b - 1) / 2 ^ l + 1
-unfolding covering
-covering-step b l p = ceil-step b (2 ^ l) p (λ e. omega (arith, pow-pos l))
-
-and-false : (t : Bool) → (t && false) ≡ false
-and-false true = refl
-and-false false = refl
-
-and-true : (t : Bool) → (t && true) ≡ t
-and-true true = refl
-and-true false = refl
-
--- above 16 MiB there is no piece length
-pub piece-length-large : (plen : ℕ) → 16777216 < plen → isPieceLength plen ≡ false
-unfolding isPieceLength
-piece-length-large plen l = rw (lt-leb plen 16777216 l) (and-false (eqb (blockLength * 2 ^ pieceLayer plen) plen))
-
--- up to it, the power of two decides
-pub piece-length-small : (plen : ℕ) → plen ≤ 16777216 → isPieceLength plen ≡ eqb (blockLength * 2 ^ pieceLayer plen) plen
-unfolding isPieceLength
-piece-length-small plen l = rw (le-leb plen 16777216 l) (and-true (eqb (blockLength * 2 ^ pieceLayer plen) plen))
-
-pub piece-layer-small : (plen : ℕ) → plen ≤ 16777216 → pieceLayer plen ≤ 10
-unfolding pieceLayer
-piece-layer-small plen l = height-least (plen / blockLength) 10 (omega arith)
-
--- a power shifted out of 1 fits below layer 64
-pub shifted-one : (d : ℕ) → d ≤ 63 → (1 * 2 ^ d) % 18446744073709551616 ≡ 2 ^ d
-shifted-one d l = shl-exact {a = 1} 1 d 64 (omega arith) (omega arith) ∙ one-mul (2 ^ d)
-
-pub shifted-block : (d : ℕ) → d ≤ 10 → (16384 * 2 ^ d) % 18446744073709551616 ≡ 16384 * 2 ^ d
-shifted-block d l = shl-exact {a = 16384} 15 d 64 (omega arith) (omega arith)
-
--- the left child of a position that isn't padding isn't padding
-pub covering-left : (b k j : ℕ) → (k ≡ 0 → ⊥) → j < covering b k → 2 * j < covering b (k - 1)
-covering-left b zero j n h = absurd (n refl)
-covering-left b (suc k) j n h =
-    let e : suc k - 1 ≡ k = omega arith in
-    rw e (omega (arith, ceil-below (covering b k) 2 j (omega arith) (omega (arith, covering-halves b k))))
-
--- so its number is less than half the blocks
-pub covering-doubled : (b k j : ℕ) → (k ≡ 0 → ⊥) → j < covering b k → 2 * j < b
-covering-doubled b k j n h = omega (arith, covering-left b k j n h, covering-most b (k - 1))
-
--- at layer 0 every position that isn't padding is a block
-pub at-leaves : (b k j c : ℕ) → c ≡ covering b k → k ≡ 0 → j < c → j < b
-at-leaves b k j c e z l = omega (arith, covering-leaves b, ap (covering b) z)

@@ -2,19 +2,18 @@
 -- Nothing here looks into `sha256` or `pairHash`: all but the sizes holds for any of them. Assumes nothing.
 use mathlib.Core.Path.{_≡_, refl, ap, ap₂, sym, _∙_, subst}
 use mathlib.Core.List.{List, _++_}
-use Prim.Native.Nat.{ℕ, zero, suc, _+_, _-_, _*_, _/_, _^_, _≤_, _<_, min}
-use native.Mathlib.Nat.{add-mul, one-mul, mul-assoc, mul-comm, pow-succ', add-suc, add-zero}
+use Prim.Native.Nat.{ℕ, zero, suc, _+_, _-_, _*_, _/_, _^_, _≤_, _<_}
+use native.Mathlib.Nat.{add-mul, one-mul, mul-assoc, mul-comm, add-suc, add-zero}
 use native.Mathlib.Decide.{decLt}
-use native.Mathlib.Numerals.{add-one}
 use native.Mathlib.Omega.{arith}
-use lib.ListN.{length, take, drop, replicate}
+use lib.ListN.{length}
 use borrow.Author.Tests.{lt-ltb, le-ltb}
-use Rattle.octets.specs.Octets.{Octets, cut, zeroHash}
-use Rattle.octets.specs.OctetsLaws.{cut-cut, cut-size, cut-whole, cut-short, cut-append-left, cut-append-right, append-octets, zero-octets}
+use Rattle.octets.specs.Octets.{Octets, cut}
+use Rattle.octets.specs.OctetsLaws.{cut-cut, cut-size, cut-whole, cut-append-left, cut-append-right, append-octets, zero-octets}
 use Rattle.sha256.specs.Sha256Laws.{sha256-octets, pair-octets}
 use Rattle.sha256.specs.Sha256.{sha256, pairHash}
 use Rattle.tree.specs.Geometry.{blockLength, blockCount, height, Padding, covering, blockSize, pieceSize}
-use Rattle.tree.specs.GeometryLaws.{padding-from-covering, block-past, block-starts, block-within, block-outside, at-leaves, left-start, right-start, right-end}
+use Rattle.tree.specs.GeometryLaws.{padding-from-covering, block-past, block-starts, block-within, block-outside, left-start, right-start, right-end}
 use Rattle.tree.specs.Values.{node, padValue, blockOf, leafOf, piecesRoot, pieceOf, layerOf, wholeLayer, layerLeaf, layerRoot}
 
 -- ---- nodes over any leaves
@@ -81,16 +80,19 @@ padding-value file l i h =
 
 -- ---- every value is a string of 32 bytes
 
+-- a node over leaves of 32 bytes is one
 pub node-octets : (leaf : ℕ → List ℕ) → ((i : ℕ) → Octets 32 (leaf i)) → (k j : ℕ) → Octets 32 (node leaf k j)
 unfolding node
 node-octets leaf h zero j = h j
 node-octets leaf h (suc k) j = pair-octets (node leaf k (2 * j)) (node leaf k (2 * j + 1))
 
+-- a padding value
 pub pad-octets : (l : ℕ) → Octets 32 (padValue l)
 unfolding padValue
 pad-octets zero = zero-octets
 pad-octets (suc l) = pair-octets (padValue l) (padValue l)
 
+-- a leaf of a file
 pub leaf-octets : (file : List ℕ) (i : ℕ) → Octets 32 (leafOf file i)
 leaf-octets file i = by-side (decLt i (blockCount (length file)))
   where
@@ -98,13 +100,16 @@ leaf-octets file i = by-side (decLt i (blockCount (length file)))
     by-side (yes l) = rw (leaf-block file i l) (sha256-octets (blockOf file i))
     by-side (no g) = rw (leaf-padding file i (omega arith)) (pad-octets 0)
 
+-- a node of a file
 pub file-octets : (file : List ℕ) (k j : ℕ) → Octets 32 (node (leafOf file) k j)
 file-octets file = node-octets (leafOf file) (leaf-octets file)
 
+-- its pieces root
 pub root-octets : (file : List ℕ) → Octets 32 (piecesRoot file)
 unfolding piecesRoot
 root-octets file = file-octets file (height (blockCount (length file))) 0
 
+-- and c hashes of a layer are 32 times c
 pub layer-octets : (file : List ℕ) (p c : ℕ) → Octets (32 * c) (layerOf file p c)
 unfolding layerOf
 layer-octets file p zero = record { size = refl; bytes = λ i h. absurd (omega arith) }
@@ -128,11 +133,12 @@ layer-cut file p (suc c) i h = by-side (decLt i c) (layer-cut file p c i)
         cut-append-right (layerOf file p c) (node (leafOf file) p c) (32 * i) 32 (omega (arith, layer-octets file p c .size)) (file-octets file p c .size)
         ∙ ap (node (leafOf file) p) (sym e)
 
--- the hashes in a layer's string, and after them the padding value
+-- the leaves over a layer's string are its hashes
 pub layer-leaf-in : (layer : List ℕ) (p c i : ℕ) → length layer ≡ 32 * c → i < c → layerLeaf layer p i ≡ cut layer (32 * i) 32
 unfolding layerLeaf
 layer-leaf-in layer p c i e h = rw (lt-ltb i (length layer / 32) (omega arith))
 
+-- and after them the padding value
 pub layer-leaf-past : (layer : List ℕ) (p c i : ℕ) → length layer ≡ 32 * c → c ≤ i → layerLeaf layer p i ≡ padValue p
 unfolding layerLeaf
 layer-leaf-past layer p c i e h = rw (le-ltb i (length layer / 32) (omega arith))
@@ -210,12 +216,12 @@ leaf-of-piece file p i x h = by-side (decLt (i * 2 ^ p + x) (blockCount (length 
         leaf-padding (pieceOf file p i) x (block-outside (length (pieceOf file p i)) x (omega (arith, piece-bytes file p i, start, block-past (length file) (i * 2 ^ p + x) (omega arith))))
         ∙ sym (leaf-padding file (i * 2 ^ p + x) (omega arith))
 
--- a piece's node, from the piece alone and filled up to 2^p leaves, is the file's node of layer p
-pub piece-node : (file : List ℕ) (p i : ℕ) → node (leafOf (pieceOf file p i)) p 0 ≡ node (leafOf file) p i
+-- the file's node of layer p over piece i is the node of the piece alone, filled up to 2^p leaves: a piece is judged by its own bytes
+pub piece-node : (file : List ℕ) (p i : ℕ) → node (leafOf file) p i ≡ node (leafOf (pieceOf file p i)) p 0
 piece-node file p i =
-    node-same (leafOf (pieceOf file p i)) (λ x. leafOf file (i * 2 ^ p + x)) p 0 (λ x a b. leaf-of-piece file p i x (omega arith))
-    ∙ node-shift (leafOf file) p i 0
-    ∙ (let e : i + 0 ≡ i = omega arith in ap (node (leafOf file) p) e)
+    (let e : i ≡ i + 0 = omega arith in ap (node (leafOf file) p) e)
+    ∙ sym (node-shift (leafOf file) p i 0)
+    ∙ node-same (λ x. leafOf file (i * 2 ^ p + x)) (leafOf (pieceOf file p i)) p 0 (λ x a b. sym (leaf-of-piece file p i x (omega arith)))
 
 -- a file that isn't longer than the piece length is its one piece
 pub one-piece : (file : List ℕ) (p : ℕ) → length file ≤ blockLength * 2 ^ p → pieceOf file p 0 ≡ file
@@ -227,52 +233,3 @@ pub one-piece-root : (file : List ℕ) (p : ℕ) → length file ≤ blockLength
     → piecesRoot file ≡ node (leafOf (pieceOf file p 0)) (height (blockCount (length file))) 0
 unfolding piecesRoot
 one-piece-root file p h = rw (one-piece file p h)
-
--- ---- as the code works them out
-
-pub pad-first : _≡_ {A = List ℕ} (replicate 32 0) (padValue 0)
-unfolding padValue zeroHash
-pad-first = refl
-
-pub pad-next : (v w : List ℕ) (i : ℕ) → v ≡ padValue i → w ≡ pairHash v v → w ≡ padValue (i + 1)
-unfolding padValue
-pad-next v w i e f = rw add-one (f ∙ ap (λ (x : List ℕ). pairHash x x) e)
-
-pub pad-done : (v : List ℕ) (i l : ℕ) → v ≡ padValue i → i ≤ l → l ≤ i → v ≡ padValue l
-pad-done v i l e a b = let q : i ≡ l = omega arith in e ∙ ap padValue q
-
-pub leaf-hashed : (file h : List ℕ) (i s : ℕ) → i < blockCount (length file) → s ≡ blockSize (length file) i
-    → h ≡ sha256 (take (blockLength * i + s - blockLength * i) (drop (blockLength * i) file)) → h ≡ leafOf file i
-unfolding blockSize blockOf cut
-leaf-hashed file h i s l e f =
-    let q : blockLength * i + s - blockLength * i ≡ min blockLength (length file - blockLength * i) = omega arith in
-    f ∙ ap (λ (n : ℕ). sha256 (take n (drop (blockLength * i) file))) q
-    ∙ ap sha256 (cut-short file (blockLength * i) blockLength)
-    ∙ sym (leaf-block file i l)
-
-pub leaf-past : (file h : List ℕ) (i : ℕ) → blockCount (length file) ≤ i → h ≡ padValue 0 → h ≡ leafOf file i
-leaf-past file h i l e = e ∙ sym (leaf-padding file i l)
-
-pub node-leaf : (leaf : ℕ → List ℕ) (h : List ℕ) (k j : ℕ) → k ≡ 0 → h ≡ leaf j → h ≡ node leaf k j
-unfolding node
-node-leaf leaf h k j z e = rw z e
-
-pub node-pair : (leaf : ℕ → List ℕ) (h l r : List ℕ) (k j : ℕ) → (k ≡ 0 → ⊥) → l ≡ node leaf (k - 1) (2 * j) → r ≡ node leaf (k - 1) (2 * j + 1)
-    → h ≡ pairHash l r → h ≡ node leaf k j
-unfolding node
-node-pair leaf h l r zero j n e f g = absurd (n refl)
-node-pair leaf h l r (suc k) j n e f g =
-    let q : suc k - 1 ≡ k = omega arith in
-    g ∙ ap₂ (λ (x y : List ℕ). pairHash x y) (e ∙ ap (λ (d : ℕ). node leaf d (2 * j)) q) (f ∙ ap (λ (d : ℕ). node leaf d (2 * j + 1)) q)
-
-pub node-past : (file h : List ℕ) (k j b c : ℕ) → b ≡ blockCount (length file) → c ≡ covering b k → c ≤ j → h ≡ padValue k → h ≡ node (leafOf file) k j
-node-past file h k j b c e f l g =
-    g ∙ sym (padding-value file k j (padding-from-covering (blockCount (length file)) k j (omega (arith, f ∙ ap (λ (x : ℕ). covering x k) e))))
-
-pub layer-past : (layer h : List ℕ) (p k j c : ℕ) → c ≡ covering (length layer / 32) k → c ≤ j → h ≡ padValue (p + k) → h ≡ node (layerLeaf layer p) k j
-layer-past layer h p k j c e l g = g ∙ sym (layer-padding layer p k j (omega arith))
-
-pub layer-read : (layer h : List ℕ) (p k j c : ℕ) → c ≡ covering (length layer / 32) k → k ≡ 0 → j < c → h ≡ cut layer (32 * j) 32 → h ≡ node (layerLeaf layer p) k j
-unfolding layerLeaf
-layer-read layer h p k j c e z l g =
-    node-leaf (layerLeaf layer p) h k j z (rw (lt-ltb j (length layer / 32) (at-leaves (length layer / 32) k j c e z l)) g)

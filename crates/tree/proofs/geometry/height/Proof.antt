@@ -1,5 +1,6 @@
 -- Halving and rounding up takes the height down by one. Invariant: what is left has the height that is still to be counted.
-use Rattle.tree.specs.GeometryLaws.{height-turn, height-done, height-fits}
+use Rattle.tree.proofs.Steps.{height-turn, height-done}
+use Rattle.tree.specs.GeometryLaws.{height-fits}
 use Rattle.tree.specs.Geometry.{height}
 use borrow.Author.Needs.{needs}
 use native.Mathlib.Omega.{arith}

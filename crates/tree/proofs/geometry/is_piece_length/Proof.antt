@@ -1,6 +1,7 @@
 -- Up to 16 MiB the piece layer is at most 10, so the shift loses nothing.
+use Rattle.tree.proofs.Steps.{shifted-block}
 use lib.Dec.{eqb}
-use Rattle.tree.specs.GeometryLaws.{piece-length-large, piece-length-small, piece-layer-small, shifted-block}
+use Rattle.tree.specs.GeometryLaws.{piece-length-large, piece-length-small, piece-layer-small}
 use native.Mathlib.Omega.{arith}
 use Prim.Native.Nat.{ℕ, _-_, _*_, _≤_, _^_}
 use mathlib.Core.Path.{ap, sym, _∙_}

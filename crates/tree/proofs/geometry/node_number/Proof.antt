@@ -1,7 +1,7 @@
 -- The shift gives 2^(h - l), which with an index below it stays below 2^64.
+use Rattle.tree.proofs.Steps.{shifted-one}
 use lib.Pow.{pow-mono}
 use Rattle.tree.specs.Geometry.{nodeNumber}
-use Rattle.tree.specs.GeometryLaws.{shifted-one}
 use native.Mathlib.Omega.{arith}
 use Prim.Native.Nat.{ℕ, _+_, _-_, _≤_, _^_}
 use mathlib.Core.Path.{ap}

@@ -1,7 +1,7 @@
 -- A block that the file has starts within it; the part that is lent has just the block's bytes.
+use Rattle.tree.proofs.Steps.{leaf-past, leaf-hashed}
 use Rattle.tree.specs.Geometry.{blockSize}
 use Rattle.tree.specs.GeometryLaws.{block-starts, block-size-most}
-use Rattle.tree.specs.ValuesLaws.{leaf-past, leaf-hashed}
 use native.Mathlib.Omega.{arith}
 use Prim.Native.Nat.{_-_}
 use lib.ListN.{length}

@@ -1,5 +1,5 @@
 -- Invariant: after i turns the value is that of layer i.
-use Rattle.tree.specs.ValuesLaws.{pad-first, pad-next, pad-done}
+use Rattle.tree.proofs.Steps.{pad-first, pad-next, pad-done}
 use Rattle.tree.specs.Values.{padValue}
 use borrow.Author.Needs.{needs}
 use native.Mathlib.Omega.{arith}

@@ -1,0 +1,99 @@
+-- What the code's turns and returns give, over plain variables: one law for each.
+-- Assumes nothing.
+use mathlib.Core.Path.{_≡_, refl, ap, ap₂, sym, _∙_}
+use mathlib.Core.List.{List}
+use Prim.Native.Nat.{ℕ, zero, suc, _+_, _-_, _*_, _/_, _%_, _^_, _≤_, _<_, min}
+use native.Mathlib.Nat.{one-mul}
+use native.Mathlib.Numerals.{add-one}
+use native.Mathlib.Omega.{arith}
+use lib.ListN.{length, take, drop, replicate}
+use lib.Pow.{shl-exact}
+use borrow.Author.Tests.{lt-ltb}
+use Rattle.octets.specs.Octets.{cut, zeroHash}
+use Rattle.octets.specs.OctetsLaws.{cut-short}
+use Rattle.sha256.specs.Sha256.{sha256, pairHash}
+use Rattle.tree.specs.Geometry.{blockLength, ceilDiv, blockCount, height, covering, blockSize}
+use Rattle.tree.specs.GeometryLaws.{height-halves, height-least, covering-leaves, padding-from-covering}
+use Rattle.tree.specs.Values.{node, padValue, blockOf, leafOf, layerLeaf}
+use Rattle.tree.specs.ValuesLaws.{leaf-block, leaf-padding, padding-value, layer-padding}
+
+-- ---- height
+
+-- one turn of halving, rounding up, raises the height found so far by one
+pub height-turn : (b c h : ℕ) → height b ≡ h + height c → 1 < c → height b ≡ h + 1 + height (c / 2 + c % 2)
+height-turn b c h e l =
+    let s : ceilDiv c 2 ≡ c / 2 + c % 2 = unfold ceilDiv in omega arith in
+    omega (arith, height-halves c l, ap height s)
+
+-- at 1 there is nothing left to count
+pub height-done : (b c h : ℕ) → height b ≡ h + height c → c ≤ 1 → h ≡ height b
+height-done b c h e l = omega (arith, height-least c 0 l)
+
+-- ---- shifts that lose nothing
+
+pub shifted-one : (d : ℕ) → d ≤ 63 → (1 * 2 ^ d) % 18446744073709551616 ≡ 2 ^ d
+shifted-one d l = shl-exact {a = 1} 1 d 64 (omega arith) (omega arith) ∙ one-mul (2 ^ d)
+
+pub shifted-block : (d : ℕ) → d ≤ 10 → (16384 * 2 ^ d) % 18446744073709551616 ≡ 16384 * 2 ^ d
+shifted-block d l = shl-exact {a = 16384} 15 d 64 (omega arith) (omega arith)
+
+-- ---- pad_value
+
+pub pad-first : _≡_ {A = List ℕ} (replicate 32 0) (padValue 0)
+unfolding padValue zeroHash
+pad-first = refl
+
+pub pad-next : (v w : List ℕ) (i : ℕ) → v ≡ padValue i → w ≡ pairHash v v → w ≡ padValue (i + 1)
+unfolding padValue
+pad-next v w i e f = rw add-one (f ∙ ap (λ (x : List ℕ). pairHash x x) e)
+
+pub pad-done : (v : List ℕ) (i l : ℕ) → v ≡ padValue i → i ≤ l → l ≤ i → v ≡ padValue l
+pad-done v i l e a b = let q : i ≡ l = omega arith in e ∙ ap padValue q
+
+-- ---- leaf_of
+
+-- the part that is lent to the hash is the block
+pub leaf-hashed : (file h : List ℕ) (i s : ℕ) → i < blockCount (length file) → s ≡ blockSize (length file) i
+    → h ≡ sha256 (take (blockLength * i + s - blockLength * i) (drop (blockLength * i) file)) → h ≡ leafOf file i
+unfolding blockSize blockOf cut
+leaf-hashed file h i s l e f =
+    let q : blockLength * i + s - blockLength * i ≡ min blockLength (length file - blockLength * i) = omega arith in
+    f ∙ ap (λ (n : ℕ). sha256 (take n (drop (blockLength * i) file))) q
+    ∙ ap sha256 (cut-short file (blockLength * i) blockLength)
+    ∙ sym (leaf-block file i l)
+
+pub leaf-past : (file h : List ℕ) (i : ℕ) → blockCount (length file) ≤ i → h ≡ padValue 0 → h ≡ leafOf file i
+leaf-past file h i l e = e ∙ sym (leaf-padding file i l)
+
+-- ---- data_node and layer_node
+
+pub node-leaf : (leaf : ℕ → List ℕ) (h : List ℕ) (k j : ℕ) → k ≡ 0 → h ≡ leaf j → h ≡ node leaf k j
+unfolding node
+node-leaf leaf h k j z e = rw z e
+
+pub node-pair : (leaf : ℕ → List ℕ) (h l r : List ℕ) (k j : ℕ) → (k ≡ 0 → ⊥) → l ≡ node leaf (k - 1) (2 * j)
+    → r ≡ node leaf (k - 1) (2 * j + 1) → h ≡ pairHash l r → h ≡ node leaf k j
+unfolding node
+node-pair leaf h l r zero j n e f g = absurd (n refl)
+node-pair leaf h l r (suc k) j n e f g =
+    let q : suc k - 1 ≡ k = omega arith in
+    g ∙ ap₂ (λ (x y : List ℕ). pairHash x y) (e ∙ ap (λ (d : ℕ). node leaf d (2 * j)) q) (f ∙ ap (λ (d : ℕ). node leaf d (2 * j + 1)) q)
+
+pub node-past : (file h : List ℕ) (k j b c : ℕ) → b ≡ blockCount (length file) → c ≡ covering b k → c ≤ j → h ≡ padValue k
+    → h ≡ node (leafOf file) k j
+node-past file h k j b c e f l g =
+    g ∙ sym (padding-value file k j (padding-from-covering (blockCount (length file)) k j (omega (arith, f ∙ ap (λ (x : ℕ). covering x k) e))))
+
+-- at layer 0 every position that isn't padding is a block, or a hash of the string
+pub at-leaves : (b k j c : ℕ) → c ≡ covering b k → k ≡ 0 → j < c → j < b
+at-leaves b k j c e z l = omega (arith, covering-leaves b, ap (covering b) z)
+
+pub layer-past : (layer h : List ℕ) (p k j c : ℕ) → c ≡ covering (length layer / 32) k → c ≤ j → h ≡ padValue (p + k)
+    → h ≡ node (layerLeaf layer p) k j
+layer-past layer h p k j c e l g = g ∙ sym (layer-padding layer p k j (omega arith))
+
+pub layer-read : (layer h : List ℕ) (p k j c : ℕ) → c ≡ covering (length layer / 32) k → k ≡ 0 → j < c → h ≡ cut layer (32 * j) 32
+    → h ≡ node (layerLeaf layer p) k j
+unfolding layerLeaf
+layer-read layer h p k j c e z l g =
+    node-leaf (layerLeaf layer p) h k j z (rw (lt-ltb j (length layer / 32) (at-leaves (length layer / 32) k j c e z l)) g)
