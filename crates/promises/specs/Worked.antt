@@ -33,7 +33,7 @@ blocks-641 = (refl, refl)
 -- N=100000, piece 65536: B=7, h=3, two pieces, the second 34464 bytes
 pub n-100000 :
     (blockCount 100000 ≡ 7) × (height 7 ≡ 3) × (isPieceLength 65536 ≡ true) × (pieceLayer 65536 ≡ 2) × (hasLayer 100000 65536 ≡ true)
-        × (pieceCount 100000 65536 ≡ 2) × (pieceSize 100000 65536 1 ≡ 34464)
+    × (pieceCount 100000 65536 ≡ 2) × (pieceSize 100000 65536 1 ≡ 34464)
 unfolding ceilDiv blockCount heightFrom height pieceLayer isPieceLength hasLayer pieceCount pieceSize
 n-100000 = (refl, refl, refl, refl, refl, refl, refl)
 

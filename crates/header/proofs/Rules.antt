@@ -1,0 +1,128 @@
+-- One law for each way out of the rules' functions.
+-- Assumes nothing.
+use mathlib.Core.Path.{_≡_, refl, ap, sym, _∙_}
+use mathlib.Core.Bool.{Bool, true, false, _&&_, and-false}
+use mathlib.Core.List.{List}
+use Prim.Native.Nat.{ℕ, zero, suc, _+_, _-_, _*_, _/_, _%_, _^_, _≤_, _<_}
+use native.Mathlib.Omega.{arith}
+use native.Mathlib.Nat.{mod-eq-of-lt}
+use lib.ListN.{length, getD}
+use lib.Dec.{eqb, leb, ltb}
+use lib.Pow.{pow-mono}
+use borrow.Author.Tests.{eq-eqb, ne-eqb, eqb-true, le-leb, lt-leb, leb-true, lt-ltb, le-ltb}
+use Rattle.tree.specs.Geometry.{height, covering, nodeNumber}
+use Rattle.tree.specs.GeometryLaws.{height-least, height-grows, height-pow}
+use Rattle.header.specs.declared.Header.{Header}
+use Rattle.header.specs.declared.Place.{Place}
+use Rattle.header.specs.Header.{headerSize, maxRun, isHashes, isRequest, isReject, lengthRule, indexRule, rulesKept, placeOf}
+use Rattle.header.specs.HeaderLaws.{log-some}
+
+-- ---- the form
+
+pub hashes-short : (m : List ℕ) → length m < 49 → false ≡ isHashes m
+unfolding isHashes
+hashes-short m h = sym (rw (lt-leb 49 (length m) h))
+
+pub hashes-long : (m : List ℕ) → 49 ≤ length m → eqb (getD m 0 0) 22 ≡ isHashes m
+unfolding isHashes
+hashes-long m h = sym (rw (le-leb 49 (length m) h))
+
+pub request-other : (m : List ℕ) → (length m ≡ 49 → ⊥) → false ≡ isRequest m
+unfolding isRequest
+request-other m h = sym (rw (ne-eqb (length m) 49 h))
+
+pub request-sized : (m : List ℕ) → length m ≡ 49 → eqb (getD m 0 0) 21 ≡ isRequest m
+unfolding isRequest
+request-sized m h = sym (rw (eq-eqb (length m) 49 h))
+
+pub reject-other : (m : List ℕ) → (length m ≡ 49 → ⊥) → false ≡ isReject m
+unfolding isReject
+reject-other m h = sym (rw (ne-eqb (length m) 49 h))
+
+pub reject-sized : (m : List ℕ) → length m ≡ 49 → eqb (getD m 0 0) 23 ≡ isReject m
+unfolding isReject
+reject-sized m h = sym (rw (eq-eqb (length m) 49 h))
+
+-- ---- the length
+
+pub length-small : (len : ℕ) → len < 2 → false ≡ lengthRule len
+unfolding lengthRule
+length-small len h = sym (rw (lt-leb 2 len h) (ap (λ (t : Bool). t && leb len maxRun) (and-false (eqb (2 ^ height len) len))))
+
+pub length-large : (len : ℕ) → 512 < len → false ≡ lengthRule len
+unfolding lengthRule
+length-large len h = sym (rw (lt-leb len maxRun h) (and-false (eqb (2 ^ height len) len && leb 2 len)))
+
+pub log-small : (len : ℕ) → len ≤ 512 → height len ≤ 9
+log-small len h = height-least len 9 h
+
+pub length-middle : (len k : ℕ) → 2 ≤ len → len ≤ 512 → k ≡ height len → eqb (1 * 2 ^ k % 2 ^ 64) len ≡ lengthRule len
+unfolding lengthRule
+length-middle len k a b e =
+    let p : 2 ^ k ≤ 2 ^ 9 = pow-mono {i = k} {j = 9} (omega (arith, log-small len b)) in
+    let o : 1 * 2 ^ k ≡ 2 ^ k = omega arith in
+    let q : 1 * 2 ^ k % 2 ^ 64 ≡ 2 ^ height len = ap (λ (y : ℕ). y % 2 ^ 64) o ∙ mod-eq-of-lt (omega arith) ∙ ap (λ (y : ℕ). 2 ^ y) e in
+    sym (rw (le-leb 2 len a, le-leb len maxRun b) (last (eqb (2 ^ height len) len) ∙ ap (λ (y : ℕ). eqb y len) (sym q)))
+  where
+    last : (t : Bool) → (t && true && true) ≡ t
+    last true = refl
+    last false = refl
+
+pub length-two : (len : ℕ) → lengthRule len ≡ true → 2 ≤ len
+unfolding lengthRule
+length-two len e = leb-true 2 len (middle (eqb (2 ^ height len) len) (leb 2 len) (leb len maxRun) e)
+  where
+    middle : (a b c : Bool) → (a && b && c) ≡ true → b ≡ true
+    middle true true c f = refl
+    middle true false c f = f
+    middle false b c f = absurd (mathlib.Core.Bool.false≢true f)
+
+pub length-log : (len : ℕ) → lengthRule len ≡ true → height len ≤ 9
+unfolding lengthRule
+length-log len e = log-small len (leb-true len maxRun (last (eqb (2 ^ height len) len) (leb 2 len) (leb len maxRun) e))
+  where
+    last : (a b c : Bool) → (a && b && c) ≡ true → c ≡ true
+    last true true c f = f
+    last true false c f = absurd (mathlib.Core.Bool.false≢true f)
+    last false b c f = absurd (mathlib.Core.Bool.false≢true f)
+
+-- ---- all rules
+
+module _ (x : Header) (b h : ℕ) where
+  pub rules-1 : lengthRule (x .len) ≡ false → false ≡ rulesKept x b h
+  unfolding rulesKept
+  rules-1 a = sym (rw a)
+
+  module _ (a : lengthRule (x .len) ≡ true) where
+    pub rules-2 : (x .index % x .len ≡ 0 → ⊥) → false ≡ rulesKept x b h
+    unfolding rulesKept
+    rules-2 c = sym (rw (a, ne-eqb (x .index % x .len) 0 c))
+
+    module _ (c : x .index % x .len ≡ 0) (k : ℕ) (e : k ≡ height (x .len)) where
+      pub rules-3 : h < x .base + k → false ≡ rulesKept x b h
+      unfolding rulesKept
+      rules-3 d = sym (rw (a, eq-eqb (x .index % x .len) 0 c, ← e, lt-leb (x .base + k) h d))
+
+      module _ (d : x .base + k ≤ h) where
+        pub rules-4 : h ≤ x .base + x .proof → false ≡ rulesKept x b h
+        unfolding rulesKept
+        rules-4 f = sym (rw (a, eq-eqb (x .index % x .len) 0 c, ← e, le-leb (x .base + k) h d, le-ltb (x .base + x .proof) h f))
+
+        pub rules-5 : x .base + x .proof < h → indexRule b (x .base) (x .index) ≡ rulesKept x b h
+        unfolding rulesKept
+        rules-5 f = sym (rw (a, eq-eqb (x .index % x .len) 0 c, ← e, le-leb (x .base + k) h d, lt-ltb (x .base + x .proof) h f))
+
+-- ---- the place
+
+pub place-by : (x : Header) (h k u top : ℕ) → 2 ≤ x .len → k ≡ height (x .len) → ((k ≤ x .proof + 1 → u ≡ x .proof + 1 - k) × (x .proof + 1 < k → u ≡ 0))
+    → top ≡ nodeNumber h (x .base + k) (x .index / x .len)
+    → _≡_ {A = Place} (record { k = k; u = u; top = top }) (placeOf x h)
+unfolding placeOf
+place-by x h k u top l e w f =
+    let s = log-some (x .len) l in
+    let q : u ≡ x .proof - (k - 1) = by (native.Mathlib.Decide.decLe k (x .proof + 1)) in
+    cc
+  where
+    by : Dec (k ≤ x .proof + 1) → u ≡ x .proof - (k - 1)
+    by (yes g) = w .0 g ∙ omega (arith, log-some (x .len) l)
+    by (no n) = w .1 (omega arith) ∙ omega (arith, log-some (x .len) l)

@@ -1,0 +1,84 @@
+-- What the header rules say, as facts, and where a header that keeps them stands in the tree.
+-- Assumes nothing.
+use mathlib.Core.Path.{_≡_, refl, ap, sym, _∙_}
+use mathlib.Core.Bool.{Bool, true, false, _&&_, and-eq-true-iff}
+use Prim.Native.Nat.{ℕ, zero, suc, _+_, _-_, _*_, _/_, _%_, _^_, _≤_, _<_}
+use native.Mathlib.Nat.{div-lt-iff-lt-mul, sub-add-cancel, le-trans}
+use native.Mathlib.Omega.{arith}
+use lib.Dec.{eqb, leb, ltb}
+use lib.Pow.{pow-pos, pow-add, pow-mono}
+use borrow.Author.Tests.{eq-eqb, ne-eqb, eqb-true, le-leb, lt-leb, leb-true, lt-ltb, le-ltb, ltb-true}
+use Rattle.tree.specs.Geometry.{height, covering, ceilDiv, nodeNumber}
+use Rattle.tree.specs.GeometryLaws.{height-least, height-enough, height-pow, ceil-least, height-zero, height-one}
+use Rattle.header.specs.declared.Header.{Header}
+use Rattle.header.specs.Header.{maxRun, lengthRule, indexRule, rulesKept}
+
+-- four numbers of 32 bits
+pub record Small (x : Header) : Type 0 where
+  pub base : x .base < 2 ^ 32
+  pub index : x .index < 2 ^ 32
+  pub len : x .len < 2 ^ 32
+  pub proof : x .proof < 2 ^ 32
+
+-- the header rules, as 01 says them
+pub record Kept (x : Header) (b h : ℕ) : Type 0 where
+  pub power : 2 ^ height (x .len) ≡ x .len
+  pub two : 2 ≤ x .len
+  pub most : x .len ≤ maxRun
+  pub multiple : x .index % x .len ≡ 0
+  pub within : x .base + height (x .len) ≤ h
+  pub above : x .base + x .proof < h
+  pub inside : x .index < covering b (x .base)
+
+pub rules-kept : (x : Header) (b h : ℕ) → rulesKept x b h ≡ true → Kept x b h
+unfolding rulesKept lengthRule indexRule
+rules-kept x b h e =
+    let p = and-eq-true-iff _ (ltb (x .index) (covering b (x .base))) .0 e in
+    let q = and-eq-true-iff _ (ltb (x .base + x .proof) h) .0 (p .0) in
+    let r = and-eq-true-iff _ (leb (x .base + height (x .len)) h) .0 (q .0) in
+    let t = and-eq-true-iff (eqb (2 ^ height (x .len)) (x .len) && leb 2 (x .len) && leb (x .len) maxRun) (eqb (x .index % x .len) 0) .0 (r .0) in
+    let v = and-eq-true-iff _ (leb (x .len) maxRun) .0 (t .0) in
+    let w = and-eq-true-iff (eqb (2 ^ height (x .len)) (x .len)) (leb 2 (x .len)) .0 (v .0) in
+    record {
+      power = eqb-true _ _ (w .0);
+      two = leb-true _ _ (w .1);
+      most = leb-true _ _ (v .1);
+      multiple = eqb-true _ _ (t .1);
+      within = leb-true _ _ (r .1);
+      above = ltb-true _ _ (q .1);
+      inside = ltb-true _ _ (p .1);
+    }
+
+pub kept-rules : (x : Header) (b h : ℕ) → Kept x b h → rulesKept x b h ≡ true
+unfolding rulesKept lengthRule indexRule
+kept-rules x b h f =
+    rw (
+      eq-eqb (2 ^ height (x .len)) (x .len) (f .power),
+      le-leb 2 (x .len) (f .two),
+      le-leb (x .len) maxRun (f .most),
+      eq-eqb (x .index % x .len) 0 (f .multiple),
+      le-leb (x .base + height (x .len)) h (f .within),
+      lt-ltb (x .base + x .proof) h (f .above),
+      lt-ltb (x .index) (covering b (x .base)) (f .inside),
+    )
+
+-- a length from 2 on has a logarithm from 1 on
+pub log-some : (len : ℕ) → 2 ≤ len → 1 ≤ height len
+log-some len h = by (height len) (height-enough len)
+  where
+    by : (k : ℕ) → len ≤ 2 ^ k → 1 ≤ k
+    by zero e = absurd (omega arith)
+    by (suc k) e = omega arith
+
+-- the run's top is in its layer
+pub top-inside : (x : Header) (b h : ℕ) → b ≤ 2 ^ h → Kept x b h → x .index / x .len < 2 ^ (h - (x .base + height (x .len)))
+unfolding covering
+top-inside x b h e f =
+    let k : ℕ = height (x .len) in
+    let t : ℕ = h - (x .base + k) in
+    let s : t + k + x .base ≡ h = omega (arith, f .within) in
+    let p : 2 ^ (t + k) * 2 ^ x .base ≡ 2 ^ h = sym (pow-add 2 (t + k) (x .base)) ∙ ap (λ (y : ℕ). 2 ^ y) s in
+    let c : ceilDiv b (2 ^ x .base) ≤ 2 ^ (t + k) = ceil-least b (2 ^ x .base) (2 ^ (t + k)) (pow-pos (x .base)) (omega arith) in
+    let q : 2 ^ (t + k) ≡ 2 ^ t * x .len = pow-add 2 t k ∙ ap (λ (y : ℕ). 2 ^ t * y) (f .power) in
+    let l : 0 < x .len = omega (arith, f .two) in
+    div-lt-iff-lt-mul l .1 (omega (arith, f .inside))
