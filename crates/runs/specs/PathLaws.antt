@@ -81,7 +81,7 @@ path-zero hashes i u n v e = rw e
 -- else the uncle, the parent, and what the way settles from there
 pub path-up : (hashes : List ℕ) (i u n : ℕ) (v : List ℕ) → (u ≡ 0 → ⊥)
     → path hashes i u n v
-      ≡ one (sibling n) (uncle hashes i) ++ one (n / 2) (parentValue n v (uncle hashes i)) ++ path hashes (i + 1) (u - 1) (n / 2) (parentValue n v (uncle hashes i))
+    ≡ one (sibling n) (uncle hashes i) ++ one (n / 2) (parentValue n v (uncle hashes i)) ++ path hashes (i + 1) (u - 1) (n / 2) (parentValue n v (uncle hashes i))
 unfolding path
 path-up hashes i zero n v ne = absurd (ne refl)
 path-up hashes i (suc u) n v ne = let e : suc u - 1 ≡ u = omega arith in rw e

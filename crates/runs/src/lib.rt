@@ -74,7 +74,10 @@ pub fn look_run(
     let h = pair(lh, rh);
     let o = agrees_at(s, n, h);
     let all = all_three(l.agrees, r.agrees, o);
-    Seen { hash: h, agrees: all }
+    Seen {
+        hash: h,
+        agrees: all,
+    }
 }
 
 // The same over the blocks of a piece's bytes.
@@ -99,7 +102,10 @@ pub fn look_data(s: &[u8], bytes: &[u8], b: usize, k: usize, n: usize, j: usize)
     let h = pair(lh, rh);
     let o = agrees_at(s, n, h);
     let all = all_three(l.agrees, r.agrees, o);
-    Seen { hash: h, agrees: all }
+    Seen {
+        hash: h,
+        agrees: all,
+    }
 }
 
 // Every position of that subtree over a run becomes held.
@@ -113,7 +119,7 @@ pub fn write_run(
     j: usize,
 ) -> Filled
     requires { ⌜ Fit (length (now s)) b k n j ⌝ }
-    ensures { λ r. ⌜ (r .hash ≡ node (runLeaf (now (run .entry)) past) k j) × (r .new ≡ fresh (now (s .entry)) (subtree (runLeaf (now (run .entry)) past) k n j)) × (now (s .exit) ≡ putAll (now (s .entry)) (subtree (runLeaf (now (run .entry)) past) k n j)) ⌝ }
+    ensures { λ r. ⌜ (r .hash ≡ node (runLeaf (now (run .entry)) past) k j) × ((r .new ≡ fresh (now (s .entry)) (subtree (runLeaf (now (run .entry)) past) k n j)) × (now (s .exit) ≡ putAll (now (s .entry)) (subtree (runLeaf (now (run .entry)) past) k n j))) ⌝ }
 {
     if k == 0 {
         let h = run_leaf(run, past, j);
@@ -161,20 +167,15 @@ pub fn rising(n: usize, u: usize) -> usize
 }
 
 // The value u layers above n, whose value is v, by the uncles from number i on; compared on the way with what is held below b.
-pub fn climb(
-    s: &[u8],
-    hashes: &[u8],
-    b: usize,
-    i: usize,
-    u: usize,
-    n: usize,
-    v: [u8; 32],
-) -> Seen
+pub fn climb(s: &[u8], hashes: &[u8], b: usize, i: usize, u: usize, n: usize, v: [u8; 32]) -> Seen
     requires { ⌜ Way (length (now s)) (length (now hashes)) b i u n ⌝ }
     ensures { λ r. ⌜ (r .hash ≡ risen (now (hashes .entry)) i u n v) × (r .agrees ≡ agrees (now (s .entry)) (path (now (hashes .entry)) i u n v)) ⌝ }
 {
     if u == 0 {
-        return Seen { hash: v, agrees: true };
+        return Seen {
+            hash: v,
+            agrees: true,
+        };
     }
     let d = u - 1;
     let i2 = i + 1;
@@ -187,7 +188,10 @@ pub fn climb(
     let r = climb(s, hashes, b, i2, d, n2, v2);
     let h = r.hash;
     let all = all_three(o1, o2, r.agrees);
-    Seen { hash: h, agrees: all }
+    Seen {
+        hash: h,
+        agrees: all,
+    }
 }
 
 // Every uncle and every parent on that way becomes held; how many of them were not.

@@ -1,8 +1,9 @@
+-- One layer up for each uncle, by recursion on the layers left: the answer of the rest and the two tests of this layer are what `climbed-up` puts together.
+use Rattle.runs.specs.PathLaws.{sibling-below, way-on, climbed-zero, climbed-up}
 use borrow.Author.Needs.{needs}
 use native.Mathlib.Omega.{arith}
-use lib.ListN.{length, getD, set, take, drop}
-use mathlib.Core.Path.{_≡_, refl, ap, sym, _∙_}
-use Prim.Native.Nat.{ℕ, _<_, _+_, _-_, _*_, _≤_, _/_, _%_, _^_}
+use mathlib.Core.Path.{refl}
+use Prim.Native.Nat.{ℕ, _<_, _+_, _-_}
 use borrow.Fn.Kinds.{In}
 use borrow.Fn.PlainCycle.{Measures, is, falls, and}
 use Rattle.runs.proofs.climb.Reads as climb
@@ -17,7 +18,7 @@ use Rattle.runs.proofs.+climb.{statement}
 use Rattle.runs.proofs.+climb.Tie.{close}
 
 abbrev μ-climb : Measures 2 climb-kinds.ps ℕ
-μ-climb κs a = ?
+μ-climb κs a = a .1 .1 .1 .1 .0
 
 abbrev climb-at : ℕ → In 2 climb-kinds.ps
 climb-at t = and 2 climb-kinds.ps (is 2 climb-kinds.ps μ-climb t) climb.Pre
@@ -25,7 +26,6 @@ climb-at t = and 2 climb-kinds.ps (is 2 climb-kinds.ps μ-climb t) climb.Pre
 abbrev climb-below : ℕ → In 2 climb-kinds.ps
 climb-below t = and 2 climb-kinds.ps (falls 2 climb-kinds.ps _<_ μ-climb t) climb.Pre
 
--- src/lib.rt:177:9
 climb-returns : (t : ℕ) → climb-lts.Need-returns (
   hash-at-reads.Asked,
   hash-at-reads.Learnt,
@@ -40,9 +40,8 @@ climb-returns : (t : ℕ) → climb-lts.Need-returns (
   all-three-reads.Asked,
   all-three-reads.Learnt,
 ) (climb-at t) climb.Post
-climb-returns t c = search needs
+climb-returns t c = let a = c .before .before .before .args in climbed-zero (a .s .now) (a .hashes .now) (a .i) (a .u) (a .n) (a .v) (c .if1 .taken)
 
--- src/lib.rt:179:13
 climb-sub-d : (t : ℕ) → climb-lts.Need-sub-d (
   hash-at-reads.Asked,
   hash-at-reads.Learnt,
@@ -59,7 +58,6 @@ climb-sub-d : (t : ℕ) → climb-lts.Need-sub-d (
 ) (climb-at t) climb.Post
 climb-sub-d t c = search needs
 
--- src/lib.rt:180:14
 climb-add-i2 : (t : ℕ) → climb-lts.Need-add-i2 (
   hash-at-reads.Asked,
   hash-at-reads.Learnt,
@@ -74,9 +72,8 @@ climb-add-i2 : (t : ℕ) → climb-lts.Need-add-i2 (
   all-three-reads.Asked,
   all-three-reads.Learnt,
 ) (climb-at t) climb.Post
-climb-add-i2 t c = search needs
+climb-add-i2 t c = omega (arith, c .before .before .before .pre .1 .room, c .before .before .before .pre .1 .uncles, c .before .before .before .pre .1 .below)
 
--- src/lib.rt:182:29
 climb-mul-hash-at : (t : ℕ) → climb-lts.Need-mul-hash-at (
   hash-at-reads.Asked,
   hash-at-reads.Learnt,
@@ -91,9 +88,8 @@ climb-mul-hash-at : (t : ℕ) → climb-lts.Need-mul-hash-at (
   all-three-reads.Asked,
   all-three-reads.Learnt,
 ) (climb-at t) climb.Post
-climb-mul-hash-at t c = search needs
+climb-mul-hash-at t c = omega (arith, c .before .before .before .pre .1 .room, c .before .before .before .pre .1 .uncles, c .before .before .before .pre .1 .below)
 
--- src/lib.rt:182:9
 climb-hash-at-requires : (t : ℕ) → climb-lts.Need-hash-at-requires (
   hash-at-reads.Asked,
   hash-at-reads.Learnt,
@@ -108,9 +104,8 @@ climb-hash-at-requires : (t : ℕ) → climb-lts.Need-hash-at-requires (
   all-three-reads.Asked,
   all-three-reads.Learnt,
 ) (climb-at t) climb.Post
-climb-hash-at-requires t c κs = search needs
+climb-hash-at-requires t c κs = omega (arith, c .before .before .before .pre .1 .room, c .before .before .before .pre .1 .uncles, c .before .before .before .pre .1 .below)
 
--- src/lib.rt:183:9
 climb-beside-requires : (t : ℕ) → climb-lts.Need-beside-requires (
   hash-at-reads.Asked,
   hash-at-reads.Learnt,
@@ -125,9 +120,8 @@ climb-beside-requires : (t : ℕ) → climb-lts.Need-beside-requires (
   all-three-reads.Asked,
   all-three-reads.Learnt,
 ) (climb-at t) climb.Post
-climb-beside-requires t c κs = search needs
+climb-beside-requires t c κs = omega (arith, c .before .before .before .before .pre .1 .room, c .before .before .before .before .pre .1 .uncles, c .before .before .before .before .pre .1 .below)
 
--- src/lib.rt:184:9
 climb-above-requires : (t : ℕ) → climb-lts.Need-above-requires (
   hash-at-reads.Asked,
   hash-at-reads.Learnt,
@@ -144,7 +138,6 @@ climb-above-requires : (t : ℕ) → climb-lts.Need-above-requires (
 ) (climb-at t) climb.Post
 climb-above-requires t c κs = search needs
 
--- src/lib.rt:185:9
 climb-agrees-at-requires : (t : ℕ) → climb-lts.Need-agrees-at-requires (
   hash-at-reads.Asked,
   hash-at-reads.Learnt,
@@ -159,9 +152,8 @@ climb-agrees-at-requires : (t : ℕ) → climb-lts.Need-agrees-at-requires (
   all-three-reads.Asked,
   all-three-reads.Learnt,
 ) (climb-at t) climb.Post
-climb-agrees-at-requires t c κs = search needs
+climb-agrees-at-requires t c κs = omega (arith, c .before .before .before .before .before .before .pre .1 .room, c .before .beside .ensures, sibling-below (c .before .before .before .before .before .before .args .n) (c .before .before .before .before .before .before .args .b) (c .before .before .before .before .before .before .pre .1 .below) (c .before .before .before .before .before .before .pre .1 .even))
 
--- src/lib.rt:186:9
 climb-agrees-at-requires-2 : (t : ℕ) → climb-lts.Need-agrees-at-requires-2 (
   hash-at-reads.Asked,
   hash-at-reads.Learnt,
@@ -176,9 +168,8 @@ climb-agrees-at-requires-2 : (t : ℕ) → climb-lts.Need-agrees-at-requires-2 (
   all-three-reads.Asked,
   all-three-reads.Learnt,
 ) (climb-at t) climb.Post
-climb-agrees-at-requires-2 t c κs = search needs
+climb-agrees-at-requires-2 t c κs = omega (arith, c .before .before .before .before .before .before .before .pre .1 .room, c .before .before .before .before .before .before .before .pre .1 .uncles, c .before .before .before .before .before .before .before .pre .1 .below)
 
--- src/lib.rt:187:9
 climb-climb-requires : (t : ℕ) → climb-lts.Need-climb-requires (
   hash-at-reads.Asked,
   hash-at-reads.Learnt,
@@ -193,9 +184,8 @@ climb-climb-requires : (t : ℕ) → climb-lts.Need-climb-requires (
   all-three-reads.Asked,
   all-three-reads.Learnt,
 ) (climb-at t) climb.Post
-climb-climb-requires t c κs = search needs
+climb-climb-requires t c κs = (omega arith, way-on (c .before .before .before .before .before .before .before .before .pre .1) _ refl (c .before .before .before .before .before .if1 .left))
 
--- src/lib.rt:189:9
 climb-all-three-requires : (t : ℕ) → climb-lts.Need-all-three-requires (
   hash-at-reads.Asked,
   hash-at-reads.Learnt,
@@ -212,7 +202,6 @@ climb-all-three-requires : (t : ℕ) → climb-lts.Need-all-three-requires (
 ) (climb-at t) climb.Post
 climb-all-three-requires t c κs = search needs
 
--- src/lib.rt:164:1
 climb-returns-2 : (t : ℕ) → climb-lts.Need-returns-2 (
   hash-at-reads.Asked,
   hash-at-reads.Learnt,
@@ -227,7 +216,10 @@ climb-returns-2 : (t : ℕ) → climb-lts.Need-returns-2 (
   all-three-reads.Asked,
   all-three-reads.Learnt,
 ) (climb-at t) climb.Post
-climb-returns-2 t c = search needs
+climb-returns-2 t c = let a = c .before .before .before .before .before .before .before .before .before .before .before .args in
+    climbed-up (a .s .now) (a .hashes .now) (a .i) (a .u) (a .n) (c .before .before .before .before .before .before .beside .result) (a .v) (c .before .before .before .before .before .before .before .hash-at .result) (c .before .before .before .before .before .above .result)
+    (c .before .before .before .before .agrees-at .result) (c .before .before .before .agrees-at2 .result) (c .before .before .climb .result .hash) (c .before .before .climb .result .agrees) (c .all-three .result)
+    (c .before .before .before .before .before .before .before .before .if1 .left) (c .before .before .before .before .before .before .before .hash-at .ensures) (c .before .before .before .before .before .before .beside .ensures) (c .before .before .before .before .before .above .ensures) (c .before .before .before .before .agrees-at .ensures) (c .before .before .before .agrees-at2 .ensures) (c .before .before .climb .ensures) (c .all-three .ensures)
 
 pub +climb-spec : {M : Type 1} → statement M
 +climb-spec = close μ-climb λ t. climb-lts.spec (

@@ -1,8 +1,9 @@
+-- Left child, right child, top, by recursion on the height: `looked-up` puts the three tests together; every position is below b by `fit-left` and `fit-right`.
+use Rattle.runs.specs.Subtree.{runLeaf}
+use Rattle.runs.specs.SubtreeLaws.{fit-self, fit-left, fit-right, looked-zero, looked-up}
 use borrow.Author.Needs.{needs}
 use native.Mathlib.Omega.{arith}
-use lib.ListN.{length, getD, set, take, drop}
-use mathlib.Core.Path.{_≡_, refl, ap, sym, _∙_}
-use Prim.Native.Nat.{ℕ, _<_, _+_, _-_, _*_, _≤_, _/_, _%_, _^_}
+use Prim.Native.Nat.{ℕ, _<_, _+_, _-_}
 use borrow.Fn.Kinds.{In}
 use borrow.Fn.PlainCycle.{Measures, is, falls, and}
 use Rattle.runs.proofs.look_run.Reads as look-run
@@ -16,7 +17,7 @@ use Rattle.runs.proofs.+look_run.{statement}
 use Rattle.runs.proofs.+look_run.Tie.{close}
 
 abbrev μ-look-run : Measures 2 look-run-kinds.ps ℕ
-μ-look-run κs a = ?
+μ-look-run κs a = a .1 .1 .1 .1 .0
 
 abbrev look-run-at : ℕ → In 2 look-run-kinds.ps
 look-run-at t = and 2 look-run-kinds.ps (is 2 look-run-kinds.ps μ-look-run t) look-run.Pre
@@ -25,7 +26,6 @@ abbrev look-run-below : ℕ → In 2 look-run-kinds.ps
 look-run-below t =
     and 2 look-run-kinds.ps (falls 2 look-run-kinds.ps _<_ μ-look-run t) look-run.Pre
 
--- src/lib.rt:61:13
 look-run-run-leaf-requires : (t : ℕ) → look-run-lts.Need-run-leaf-requires (
   run-leaf-reads.Asked,
   run-leaf-reads.Learnt,
@@ -40,7 +40,6 @@ look-run-run-leaf-requires : (t : ℕ) → look-run-lts.Need-run-leaf-requires (
 ) (look-run-at t) look-run.Post
 look-run-run-leaf-requires t c κs = search needs
 
--- src/lib.rt:62:13
 look-run-agrees-at-requires : (t : ℕ) → look-run-lts.Need-agrees-at-requires (
   run-leaf-reads.Asked,
   run-leaf-reads.Learnt,
@@ -53,9 +52,8 @@ look-run-agrees-at-requires : (t : ℕ) → look-run-lts.Need-agrees-at-requires
   all-three-reads.Asked,
   all-three-reads.Learnt,
 ) (look-run-at t) look-run.Post
-look-run-agrees-at-requires t c κs = search needs
+look-run-agrees-at-requires t c κs = omega (arith, c .before .before .before .before .pre .1 .room, fit-self (c .before .before .before .before .pre .1))
 
--- src/lib.rt:63:9
 look-run-returns : (t : ℕ) → look-run-lts.Need-returns (
   run-leaf-reads.Asked,
   run-leaf-reads.Learnt,
@@ -68,9 +66,10 @@ look-run-returns : (t : ℕ) → look-run-lts.Need-returns (
   all-three-reads.Asked,
   all-three-reads.Learnt,
 ) (look-run-at t) look-run.Post
-look-run-returns t c = search needs
+look-run-returns t c = let a = c .before .before .before .before .before .args in
+    looked-zero (a .s .now) (runLeaf (a .run .now) (a .past)) (a .k) (a .n) (a .j) (c .before .run-leaf .result) (c .agrees-at .result)
+    (c .before .before .if1 .taken) (c .before .run-leaf .ensures) (c .agrees-at .ensures)
 
--- src/lib.rt:65:13
 look-run-sub-d : (t : ℕ) → look-run-lts.Need-sub-d (
   run-leaf-reads.Asked,
   run-leaf-reads.Learnt,
@@ -85,7 +84,6 @@ look-run-sub-d : (t : ℕ) → look-run-lts.Need-sub-d (
 ) (look-run-at t) look-run.Post
 look-run-sub-d t c = search needs
 
--- src/lib.rt:66:14
 look-run-mul-n2 : (t : ℕ) → look-run-lts.Need-mul-n2 (
   run-leaf-reads.Asked,
   run-leaf-reads.Learnt,
@@ -98,9 +96,8 @@ look-run-mul-n2 : (t : ℕ) → look-run-lts.Need-mul-n2 (
   all-three-reads.Asked,
   all-three-reads.Learnt,
 ) (look-run-at t) look-run.Post
-look-run-mul-n2 t c = search needs
+look-run-mul-n2 t c = omega (arith, c .before .before .before .pre .1 .room, c .before .before .before .pre .1 .index, fit-self (fit-right (c .before .before .before .pre .1) (c .if1 .left)))
 
--- src/lib.rt:67:14
 look-run-mul-j2 : (t : ℕ) → look-run-lts.Need-mul-j2 (
   run-leaf-reads.Asked,
   run-leaf-reads.Learnt,
@@ -113,9 +110,8 @@ look-run-mul-j2 : (t : ℕ) → look-run-lts.Need-mul-j2 (
   all-three-reads.Asked,
   all-three-reads.Learnt,
 ) (look-run-at t) look-run.Post
-look-run-mul-j2 t c = search needs
+look-run-mul-j2 t c = omega (arith, c .before .before .before .pre .1 .room, c .before .before .before .pre .1 .index, fit-self (fit-right (c .before .before .before .pre .1) (c .if1 .left)))
 
--- src/lib.rt:68:14
 look-run-add-n3 : (t : ℕ) → look-run-lts.Need-add-n3 (
   run-leaf-reads.Asked,
   run-leaf-reads.Learnt,
@@ -128,9 +124,8 @@ look-run-add-n3 : (t : ℕ) → look-run-lts.Need-add-n3 (
   all-three-reads.Asked,
   all-three-reads.Learnt,
 ) (look-run-at t) look-run.Post
-look-run-add-n3 t c = search needs
+look-run-add-n3 t c = omega (arith, c .before .before .before .pre .1 .room, c .before .before .before .pre .1 .index, fit-self (fit-right (c .before .before .before .pre .1) (c .if1 .left)))
 
--- src/lib.rt:69:14
 look-run-add-j3 : (t : ℕ) → look-run-lts.Need-add-j3 (
   run-leaf-reads.Asked,
   run-leaf-reads.Learnt,
@@ -143,9 +138,8 @@ look-run-add-j3 : (t : ℕ) → look-run-lts.Need-add-j3 (
   all-three-reads.Asked,
   all-three-reads.Learnt,
 ) (look-run-at t) look-run.Post
-look-run-add-j3 t c = search needs
+look-run-add-j3 t c = omega (arith, c .before .before .before .pre .1 .room, c .before .before .before .pre .1 .index, fit-self (fit-right (c .before .before .before .pre .1) (c .if1 .left)))
 
--- src/lib.rt:70:9
 look-run-look-run-requires : (t : ℕ) → look-run-lts.Need-look-run-requires (
   run-leaf-reads.Asked,
   run-leaf-reads.Learnt,
@@ -158,9 +152,8 @@ look-run-look-run-requires : (t : ℕ) → look-run-lts.Need-look-run-requires (
   all-three-reads.Asked,
   all-three-reads.Learnt,
 ) (look-run-at t) look-run.Post
-look-run-look-run-requires t c κs = search needs
+look-run-look-run-requires t c κs = (omega arith, fit-left (c .before .before .before .pre .1) (c .if1 .left))
 
--- src/lib.rt:71:9
 look-run-look-run-requires-2 : (t : ℕ) → look-run-lts.Need-look-run-requires-2 (
   run-leaf-reads.Asked,
   run-leaf-reads.Learnt,
@@ -173,9 +166,8 @@ look-run-look-run-requires-2 : (t : ℕ) → look-run-lts.Need-look-run-requires
   all-three-reads.Asked,
   all-three-reads.Learnt,
 ) (look-run-at t) look-run.Post
-look-run-look-run-requires-2 t c κs = search needs
+look-run-look-run-requires-2 t c κs = (omega arith, fit-right (c .before .before .before .before .pre .1) (c .before .if1 .left))
 
--- src/lib.rt:74:9
 look-run-pair-requires : (t : ℕ) → look-run-lts.Need-pair-requires (
   run-leaf-reads.Asked,
   run-leaf-reads.Learnt,
@@ -190,7 +182,6 @@ look-run-pair-requires : (t : ℕ) → look-run-lts.Need-pair-requires (
 ) (look-run-at t) look-run.Post
 look-run-pair-requires t c κs = search needs
 
--- src/lib.rt:75:9
 look-run-agrees-at-requires-2 : (t : ℕ) → look-run-lts.Need-agrees-at-requires-2 (
   run-leaf-reads.Asked,
   run-leaf-reads.Learnt,
@@ -203,9 +194,8 @@ look-run-agrees-at-requires-2 : (t : ℕ) → look-run-lts.Need-agrees-at-requir
   all-three-reads.Asked,
   all-three-reads.Learnt,
 ) (look-run-at t) look-run.Post
-look-run-agrees-at-requires-2 t c κs = search needs
+look-run-agrees-at-requires-2 t c κs = omega (arith, c .before .before .before .before .before .before .before .before .pre .1 .room, fit-self (c .before .before .before .before .before .before .before .before .pre .1))
 
--- src/lib.rt:76:9
 look-run-all-three-requires : (t : ℕ) → look-run-lts.Need-all-three-requires (
   run-leaf-reads.Asked,
   run-leaf-reads.Learnt,
@@ -220,7 +210,6 @@ look-run-all-three-requires : (t : ℕ) → look-run-lts.Need-all-three-requires
 ) (look-run-at t) look-run.Post
 look-run-all-three-requires t c κs = search needs
 
--- src/lib.rt:48:1
 look-run-returns-2 : (t : ℕ) → look-run-lts.Need-returns-2 (
   run-leaf-reads.Asked,
   run-leaf-reads.Learnt,
@@ -233,7 +222,10 @@ look-run-returns-2 : (t : ℕ) → look-run-lts.Need-returns-2 (
   all-three-reads.Asked,
   all-three-reads.Learnt,
 ) (look-run-at t) look-run.Post
-look-run-returns-2 t c = search needs
+look-run-returns-2 t c = let a = c .before .before .before .before .before .before .before .before .before .before .args in
+    looked-up (a .s .now) (runLeaf (a .run .now) (a .past)) (a .k) (a .n) (a .j)
+    (c .before .before .before .before .before .before .look-run .result .hash) (c .before .before .before .before .before .before .look-run .result .agrees) (c .before .before .before .before .before .look-run2 .result .hash) (c .before .before .before .before .before .look-run2 .result .agrees) (c .before .before .pair .result) (c .before .agrees-at2 .result) (c .all-three .result)
+    (c .before .before .before .before .before .before .before .if1 .left) (c .before .before .before .before .before .before .look-run .ensures) (c .before .before .before .before .before .look-run2 .ensures) (c .before .before .pair .ensures) (c .before .agrees-at2 .ensures) (c .all-three .ensures)
 
 pub +look-run-spec : {M : Type 1} → statement M
 +look-run-spec = close μ-look-run λ t. look-run-lts.spec (

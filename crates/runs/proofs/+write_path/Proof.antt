@@ -1,8 +1,10 @@
+-- One layer up for each uncle, by recursion on the layers left: two positions written, then the rest, as `rose-up` says; the count is at most two a layer.
+use Rattle.cells.specs.EntriesLaws.{lacks-small}
+use Rattle.runs.specs.PathLaws.{sibling-below, way-on, path-small, rose-zero, rose-up}
 use borrow.Author.Needs.{needs}
 use native.Mathlib.Omega.{arith}
-use lib.ListN.{length, getD, set, take, drop}
-use mathlib.Core.Path.{_≡_, refl, ap, sym, _∙_}
-use Prim.Native.Nat.{ℕ, _<_, _+_, _-_, _*_, _≤_, _/_, _%_, _^_}
+use mathlib.Core.Path.{_∙_}
+use Prim.Native.Nat.{ℕ, _<_, _+_, _-_, _/_}
 use borrow.Fn.Kinds.{In}
 use borrow.Fn.PlainCycle.{Measures, is, falls, and}
 use Rattle.runs.proofs.write_path.Reads as write-path
@@ -16,7 +18,7 @@ use Rattle.runs.proofs.+write_path.{statement}
 use Rattle.runs.proofs.+write_path.Tie.{close}
 
 abbrev μ-write-path : Measures 2 write-path-kinds.ps ℕ
-μ-write-path κs a = ?
+μ-write-path κs a = a .1 .1 .1 .1 .0
 
 abbrev write-path-at : ℕ → In 2 write-path-kinds.ps
 write-path-at t =
@@ -26,7 +28,6 @@ abbrev write-path-below : ℕ → In 2 write-path-kinds.ps
 write-path-below t =
     and 2 write-path-kinds.ps (falls 2 write-path-kinds.ps _<_ μ-write-path t) write-path.Pre
 
--- src/lib.rt:207:9
 write-path-returns : (t : ℕ) → write-path-lts.Need-returns (
   hash-at-reads.Asked,
   hash-at-reads.Learnt,
@@ -39,9 +40,8 @@ write-path-returns : (t : ℕ) → write-path-lts.Need-returns (
   write-path-below t,
   write-path.Post,
 ) (write-path-at t) write-path.Post
-write-path-returns t c = search needs
+write-path-returns t c = let a = c .before .before .before .args in rose-zero (a .s .now) (a .hashes .now) (a .i) (a .u) (a .n) (a .v) (c .if1 .taken)
 
--- src/lib.rt:209:13
 write-path-sub-d : (t : ℕ) → write-path-lts.Need-sub-d (
   hash-at-reads.Asked,
   hash-at-reads.Learnt,
@@ -56,7 +56,6 @@ write-path-sub-d : (t : ℕ) → write-path-lts.Need-sub-d (
 ) (write-path-at t) write-path.Post
 write-path-sub-d t c = search needs
 
--- src/lib.rt:210:14
 write-path-add-i2 : (t : ℕ) → write-path-lts.Need-add-i2 (
   hash-at-reads.Asked,
   hash-at-reads.Learnt,
@@ -69,9 +68,8 @@ write-path-add-i2 : (t : ℕ) → write-path-lts.Need-add-i2 (
   write-path-below t,
   write-path.Post,
 ) (write-path-at t) write-path.Post
-write-path-add-i2 t c = search needs
+write-path-add-i2 t c = omega (arith, c .before .before .before .pre .1 .room, c .before .before .before .pre .1 .uncles, c .before .before .before .pre .1 .below)
 
--- src/lib.rt:212:29
 write-path-mul-hash-at : (t : ℕ) → write-path-lts.Need-mul-hash-at (
   hash-at-reads.Asked,
   hash-at-reads.Learnt,
@@ -84,9 +82,8 @@ write-path-mul-hash-at : (t : ℕ) → write-path-lts.Need-mul-hash-at (
   write-path-below t,
   write-path.Post,
 ) (write-path-at t) write-path.Post
-write-path-mul-hash-at t c = search needs
+write-path-mul-hash-at t c = omega (arith, c .before .before .before .pre .1 .room, c .before .before .before .pre .1 .uncles, c .before .before .before .pre .1 .below)
 
--- src/lib.rt:212:9
 write-path-hash-at-requires : (t : ℕ) → write-path-lts.Need-hash-at-requires (
   hash-at-reads.Asked,
   hash-at-reads.Learnt,
@@ -99,9 +96,8 @@ write-path-hash-at-requires : (t : ℕ) → write-path-lts.Need-hash-at-requires
   write-path-below t,
   write-path.Post,
 ) (write-path-at t) write-path.Post
-write-path-hash-at-requires t c κs = search needs
+write-path-hash-at-requires t c κs = omega (arith, c .before .before .before .pre .1 .room, c .before .before .before .pre .1 .uncles, c .before .before .before .pre .1 .below)
 
--- src/lib.rt:213:9
 write-path-beside-requires : (t : ℕ) → write-path-lts.Need-beside-requires (
   hash-at-reads.Asked,
   hash-at-reads.Learnt,
@@ -114,9 +110,8 @@ write-path-beside-requires : (t : ℕ) → write-path-lts.Need-beside-requires (
   write-path-below t,
   write-path.Post,
 ) (write-path-at t) write-path.Post
-write-path-beside-requires t c κs = search needs
+write-path-beside-requires t c κs = omega (arith, c .before .before .before .before .pre .1 .room, c .before .before .before .before .pre .1 .uncles, c .before .before .before .before .pre .1 .below)
 
--- src/lib.rt:214:9
 write-path-above-requires : (t : ℕ) → write-path-lts.Need-above-requires (
   hash-at-reads.Asked,
   hash-at-reads.Learnt,
@@ -131,7 +126,6 @@ write-path-above-requires : (t : ℕ) → write-path-lts.Need-above-requires (
 ) (write-path-at t) write-path.Post
 write-path-above-requires t c κs = search needs
 
--- src/lib.rt:215:9
 write-path-add-at-requires : (t : ℕ) → write-path-lts.Need-add-at-requires (
   hash-at-reads.Asked,
   hash-at-reads.Learnt,
@@ -144,9 +138,8 @@ write-path-add-at-requires : (t : ℕ) → write-path-lts.Need-add-at-requires (
   write-path-below t,
   write-path.Post,
 ) (write-path-at t) write-path.Post
-write-path-add-at-requires t c κs = search needs
+write-path-add-at-requires t c κs = omega (arith, c .before .before .before .before .before .before .before .pre .1 .room, c .before .before .beside .ensures, sibling-below (c .before .before .before .before .before .before .before .args .n) (c .before .before .before .before .before .before .before .args .b) (c .before .before .before .before .before .before .before .pre .1 .below) (c .before .before .before .before .before .before .before .pre .1 .even))
 
--- src/lib.rt:216:9
 write-path-add-at-requires-2 : (t : ℕ) → write-path-lts.Need-add-at-requires-2 (
   hash-at-reads.Asked,
   hash-at-reads.Learnt,
@@ -159,9 +152,8 @@ write-path-add-at-requires-2 : (t : ℕ) → write-path-lts.Need-add-at-requires
   write-path-below t,
   write-path.Post,
 ) (write-path-at t) write-path.Post
-write-path-add-at-requires-2 t c κs = search needs
+write-path-add-at-requires-2 t c κs = omega (arith, c .before .before .before .before .before .before .before .before .before .before .before .pre .1 .room, c .before .before .before .before .before .before .before .before .before .before .before .pre .1 .uncles, c .before .before .before .before .before .before .before .before .before .before .before .pre .1 .below, c .before .before .before .add-at .kept .0)
 
--- src/lib.rt:217:9
 write-path-write-path-requires : (t : ℕ) → write-path-lts.Need-write-path-requires (
   hash-at-reads.Asked,
   hash-at-reads.Learnt,
@@ -174,9 +166,8 @@ write-path-write-path-requires : (t : ℕ) → write-path-lts.Need-write-path-re
   write-path-below t,
   write-path.Post,
 ) (write-path-at t) write-path.Post
-write-path-write-path-requires t c κs = search needs
+write-path-write-path-requires t c κs = (omega arith, way-on (c .before .before .before .before .before .before .before .before .before .before .before .before .before .before .before .pre .1) _ (c .before .before .before .add-at2 .kept .0 ∙ c .before .before .before .before .before .before .before .add-at .kept .0) (c .before .before .before .before .before .before .before .before .before .before .before .before .if1 .left))
 
--- src/lib.rt:218:5
 write-path-add-result : (t : ℕ) → write-path-lts.Need-add-result (
   hash-at-reads.Asked,
   hash-at-reads.Learnt,
@@ -189,9 +180,10 @@ write-path-add-result : (t : ℕ) → write-path-lts.Need-add-result (
   write-path-below t,
   write-path.Post,
 ) (write-path-at t) write-path.Post
-write-path-add-result t c = search needs
+write-path-add-result t c = let a = c .before .before .before .before .before .before .before .before .before .before .before .before .before .before .before .before .before .before .args in
+    let l = path-small (c .before .before .before .before .before .before .add-at2 .last .0) (a .hashes .now) (a .i + 1) (a .u - 1) (a .n / 2) (c .before .before .before .before .before .before .before .before .before .before .before .before .above .result) in
+    omega (arith, c .before .before .before .before .before .before .before .before .before .before .before .before .before .before .before .before .before .before .pre .1 .uncles, c .before .before .before .before .before .before .before .before .before .before .before .before .before .before .before .before .before .before .good .1 .0 .0, c .before .before .write-path .ensures .0, c .before .before .before .before .before .before .before .before .before .before .add-at .ensures .0, c .before .before .before .before .before .before .add-at2 .ensures .0, lacks-small (a .s .now) (c .before .before .before .before .before .before .before .before .before .before .before .before .before .beside .result), lacks-small (c .before .before .before .before .before .before .before .before .before .before .add-at .last .0) (a .n / 2))
 
--- src/lib.rt:218:5
 write-path-add-result-2 : (t : ℕ) → write-path-lts.Need-add-result-2 (
   hash-at-reads.Asked,
   hash-at-reads.Learnt,
@@ -204,9 +196,10 @@ write-path-add-result-2 : (t : ℕ) → write-path-lts.Need-add-result-2 (
   write-path-below t,
   write-path.Post,
 ) (write-path-at t) write-path.Post
-write-path-add-result-2 t c = search needs
+write-path-add-result-2 t c = let a = c .before .before .before .before .before .before .before .before .before .before .before .before .before .before .before .before .before .before .args in
+    let l = path-small (c .before .before .before .before .before .before .add-at2 .last .0) (a .hashes .now) (a .i + 1) (a .u - 1) (a .n / 2) (c .before .before .before .before .before .before .before .before .before .before .before .before .above .result) in
+    omega (arith, c .before .before .before .before .before .before .before .before .before .before .before .before .before .before .before .before .before .before .pre .1 .uncles, c .before .before .before .before .before .before .before .before .before .before .before .before .before .before .before .before .before .before .good .1 .0 .0, c .before .before .write-path .ensures .0, c .before .before .before .before .before .before .before .before .before .before .add-at .ensures .0, c .before .before .before .before .before .before .add-at2 .ensures .0, lacks-small (a .s .now) (c .before .before .before .before .before .before .before .before .before .before .before .before .before .beside .result), lacks-small (c .before .before .before .before .before .before .before .before .before .before .add-at .last .0) (a .n / 2))
 
--- src/lib.rt:194:1
 write-path-same-length : (t : ℕ) → write-path-lts.Need-same-length (
   hash-at-reads.Asked,
   hash-at-reads.Learnt,
@@ -219,9 +212,8 @@ write-path-same-length : (t : ℕ) → write-path-lts.Need-same-length (
   write-path-below t,
   write-path.Post,
 ) (write-path-at t) write-path.Post
-write-path-same-length t c = search needs
+write-path-same-length t c = c .before .before .write-path .kept .0 ∙ c .before .before .before .before .before .before .add-at2 .kept .0 ∙ c .before .before .before .before .before .before .before .before .before .before .add-at .kept .0
 
--- src/lib.rt:194:1
 write-path-returns-2 : (t : ℕ) → write-path-lts.Need-returns-2 (
   hash-at-reads.Asked,
   hash-at-reads.Learnt,
@@ -234,7 +226,10 @@ write-path-returns-2 : (t : ℕ) → write-path-lts.Need-returns-2 (
   write-path-below t,
   write-path.Post,
 ) (write-path-at t) write-path.Post
-write-path-returns-2 t c = search needs
+write-path-returns-2 t c = let a = c .before .before .before .before .before .before .before .before .before .before .before .before .before .before .before .before .before .before .args in
+    rose-up (a .s .now) (a .hashes .now) (a .i) (a .u) (a .n) (c .before .before .before .before .before .before .before .before .before .before .before .before .before .beside .result) (a .v) (c .before .before .before .before .before .before .before .before .before .before .before .before .before .before .hash-at .result) (c .before .before .before .before .before .before .before .before .before .before .before .before .above .result)
+    (c .before .before .before .before .before .before .before .before .before .before .add-at .result) (c .before .before .before .before .before .before .before .before .before .before .add-at .last .0) (c .before .before .before .before .before .before .add-at2 .result) (c .before .before .before .before .before .before .add-at2 .last .0) (c .before .before .write-path .result) (c .before .before .write-path .last .0)
+    (c .before .before .before .before .before .before .before .before .before .before .before .before .before .before .before .if1 .left) (c .before .before .before .before .before .before .before .before .before .before .before .before .before .before .hash-at .ensures) (c .before .before .before .before .before .before .before .before .before .before .before .before .before .beside .ensures) (c .before .before .before .before .before .before .before .before .before .before .before .before .above .ensures) (c .before .before .before .before .before .before .before .before .before .before .add-at .ensures .0) (c .before .before .before .before .before .before .before .before .before .before .add-at .ensures .1) (c .before .before .before .before .before .before .add-at2 .ensures .0) (c .before .before .before .before .before .before .add-at2 .ensures .1) (c .before .before .write-path .ensures)
 
 pub +write-path-spec : {M : Type 1} → statement M
 +write-path-spec = close μ-write-path λ t. write-path-lts.spec (

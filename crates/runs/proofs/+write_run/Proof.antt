@@ -1,8 +1,11 @@
+-- Left child, right child, top, by recursion on the height: `wrote-up` puts the three counts and writes together; there are fewer than 2 b of them, so the sum is a u64.
+use Rattle.cells.specs.EntriesLaws.{lacks-small}
+use Rattle.runs.specs.Subtree.{runLeaf}
+use Rattle.runs.specs.SubtreeLaws.{fit-self, fit-length, fit-left, fit-right, subtree-small, wrote-zero, wrote-up}
 use borrow.Author.Needs.{needs}
 use native.Mathlib.Omega.{arith}
-use lib.ListN.{length, getD, set, take, drop}
-use mathlib.Core.Path.{_≡_, refl, ap, sym, _∙_}
-use Prim.Native.Nat.{ℕ, _<_, _+_, _-_, _*_, _≤_, _/_, _%_, _^_}
+use mathlib.Core.Path.{_∙_}
+use Prim.Native.Nat.{ℕ, _<_, _+_, _-_, _*_}
 use borrow.Fn.Kinds.{In}
 use borrow.Fn.PlainCycle.{Measures, is, falls, and}
 use Rattle.runs.proofs.write_run.Reads as write-run
@@ -15,7 +18,7 @@ use Rattle.runs.proofs.+write_run.{statement}
 use Rattle.runs.proofs.+write_run.Tie.{close}
 
 abbrev μ-write-run : Measures 2 write-run-kinds.ps ℕ
-μ-write-run κs a = ?
+μ-write-run κs a = a .1 .1 .1 .1 .0
 
 abbrev write-run-at : ℕ → In 2 write-run-kinds.ps
 write-run-at t = and 2 write-run-kinds.ps (is 2 write-run-kinds.ps μ-write-run t) write-run.Pre
@@ -24,7 +27,6 @@ abbrev write-run-below : ℕ → In 2 write-run-kinds.ps
 write-run-below t =
     and 2 write-run-kinds.ps (falls 2 write-run-kinds.ps _<_ μ-write-run t) write-run.Pre
 
--- src/lib.rt:119:13
 write-run-run-leaf-requires : (t : ℕ) → write-run-lts.Need-run-leaf-requires (
   run-leaf-reads.Asked,
   run-leaf-reads.Learnt,
@@ -37,7 +39,6 @@ write-run-run-leaf-requires : (t : ℕ) → write-run-lts.Need-run-leaf-requires
 ) (write-run-at t) write-run.Post
 write-run-run-leaf-requires t c κs = search needs
 
--- src/lib.rt:120:13
 write-run-add-at-requires : (t : ℕ) → write-run-lts.Need-add-at-requires (
   run-leaf-reads.Asked,
   run-leaf-reads.Learnt,
@@ -48,9 +49,8 @@ write-run-add-at-requires : (t : ℕ) → write-run-lts.Need-add-at-requires (
   pair-reads.Asked,
   pair-reads.Learnt,
 ) (write-run-at t) write-run.Post
-write-run-add-at-requires t c κs = search needs
+write-run-add-at-requires t c κs = omega (arith, c .before .before .before .before .before .pre .1 .room, fit-self (c .before .before .before .before .before .pre .1))
 
--- src/lib.rt:121:9
 write-run-same-length : (t : ℕ) → write-run-lts.Need-same-length (
   run-leaf-reads.Asked,
   run-leaf-reads.Learnt,
@@ -61,9 +61,8 @@ write-run-same-length : (t : ℕ) → write-run-lts.Need-same-length (
   pair-reads.Asked,
   pair-reads.Learnt,
 ) (write-run-at t) write-run.Post
-write-run-same-length t c = search needs
+write-run-same-length t c = c .before .before .add-at .kept .0
 
--- src/lib.rt:121:9
 write-run-returns : (t : ℕ) → write-run-lts.Need-returns (
   run-leaf-reads.Asked,
   run-leaf-reads.Learnt,
@@ -74,9 +73,10 @@ write-run-returns : (t : ℕ) → write-run-lts.Need-returns (
   pair-reads.Asked,
   pair-reads.Learnt,
 ) (write-run-at t) write-run.Post
-write-run-returns t c = search needs
+write-run-returns t c = let a = c .before .before .before .before .before .before .before .before .args in
+    wrote-zero (a .s .now) (runLeaf (a .run .now) (a .past)) (a .k) (a .n) (a .j) (c .before .before .before .before .run-leaf .result) (c .before .before .add-at .result) (c .before .before .add-at .last .0)
+    (c .before .before .before .before .before .if1 .taken) (c .before .before .before .before .run-leaf .ensures) (c .before .before .add-at .ensures .0) (c .before .before .add-at .ensures .1)
 
--- src/lib.rt:123:13
 write-run-sub-d : (t : ℕ) → write-run-lts.Need-sub-d (
   run-leaf-reads.Asked,
   run-leaf-reads.Learnt,
@@ -89,7 +89,6 @@ write-run-sub-d : (t : ℕ) → write-run-lts.Need-sub-d (
 ) (write-run-at t) write-run.Post
 write-run-sub-d t c = search needs
 
--- src/lib.rt:124:14
 write-run-mul-n2 : (t : ℕ) → write-run-lts.Need-mul-n2 (
   run-leaf-reads.Asked,
   run-leaf-reads.Learnt,
@@ -100,9 +99,8 @@ write-run-mul-n2 : (t : ℕ) → write-run-lts.Need-mul-n2 (
   pair-reads.Asked,
   pair-reads.Learnt,
 ) (write-run-at t) write-run.Post
-write-run-mul-n2 t c = search needs
+write-run-mul-n2 t c = omega (arith, c .before .before .before .pre .1 .room, c .before .before .before .pre .1 .index, fit-self (fit-right (c .before .before .before .pre .1) (c .if1 .left)))
 
--- src/lib.rt:125:14
 write-run-mul-j2 : (t : ℕ) → write-run-lts.Need-mul-j2 (
   run-leaf-reads.Asked,
   run-leaf-reads.Learnt,
@@ -113,9 +111,8 @@ write-run-mul-j2 : (t : ℕ) → write-run-lts.Need-mul-j2 (
   pair-reads.Asked,
   pair-reads.Learnt,
 ) (write-run-at t) write-run.Post
-write-run-mul-j2 t c = search needs
+write-run-mul-j2 t c = omega (arith, c .before .before .before .pre .1 .room, c .before .before .before .pre .1 .index, fit-self (fit-right (c .before .before .before .pre .1) (c .if1 .left)))
 
--- src/lib.rt:126:14
 write-run-add-n3 : (t : ℕ) → write-run-lts.Need-add-n3 (
   run-leaf-reads.Asked,
   run-leaf-reads.Learnt,
@@ -126,9 +123,8 @@ write-run-add-n3 : (t : ℕ) → write-run-lts.Need-add-n3 (
   pair-reads.Asked,
   pair-reads.Learnt,
 ) (write-run-at t) write-run.Post
-write-run-add-n3 t c = search needs
+write-run-add-n3 t c = omega (arith, c .before .before .before .pre .1 .room, c .before .before .before .pre .1 .index, fit-self (fit-right (c .before .before .before .pre .1) (c .if1 .left)))
 
--- src/lib.rt:127:14
 write-run-add-j3 : (t : ℕ) → write-run-lts.Need-add-j3 (
   run-leaf-reads.Asked,
   run-leaf-reads.Learnt,
@@ -139,9 +135,8 @@ write-run-add-j3 : (t : ℕ) → write-run-lts.Need-add-j3 (
   pair-reads.Asked,
   pair-reads.Learnt,
 ) (write-run-at t) write-run.Post
-write-run-add-j3 t c = search needs
+write-run-add-j3 t c = omega (arith, c .before .before .before .pre .1 .room, c .before .before .before .pre .1 .index, fit-self (fit-right (c .before .before .before .pre .1) (c .if1 .left)))
 
--- src/lib.rt:128:9
 write-run-write-run-requires : (t : ℕ) → write-run-lts.Need-write-run-requires (
   run-leaf-reads.Asked,
   run-leaf-reads.Learnt,
@@ -152,9 +147,8 @@ write-run-write-run-requires : (t : ℕ) → write-run-lts.Need-write-run-requir
   pair-reads.Asked,
   pair-reads.Learnt,
 ) (write-run-at t) write-run.Post
-write-run-write-run-requires t c κs = search needs
+write-run-write-run-requires t c κs = (omega arith, fit-left (c .before .before .before .before .pre .1) (c .before .if1 .left))
 
--- src/lib.rt:129:9
 write-run-write-run-requires-2 : (t : ℕ) → write-run-lts.Need-write-run-requires-2 (
   run-leaf-reads.Asked,
   run-leaf-reads.Learnt,
@@ -165,9 +159,8 @@ write-run-write-run-requires-2 : (t : ℕ) → write-run-lts.Need-write-run-requ
   pair-reads.Asked,
   pair-reads.Learnt,
 ) (write-run-at t) write-run.Post
-write-run-write-run-requires-2 t c κs = search needs
+write-run-write-run-requires-2 t c κs = (omega arith, fit-length (fit-right (c .before .before .before .before .before .before .before .before .pre .1) (c .before .before .before .before .before .if1 .left)) _ (c .before .before .before .write-run .kept .0))
 
--- src/lib.rt:132:9
 write-run-pair-requires : (t : ℕ) → write-run-lts.Need-pair-requires (
   run-leaf-reads.Asked,
   run-leaf-reads.Learnt,
@@ -180,7 +173,6 @@ write-run-pair-requires : (t : ℕ) → write-run-lts.Need-pair-requires (
 ) (write-run-at t) write-run.Post
 write-run-pair-requires t c κs = search needs
 
--- src/lib.rt:133:9
 write-run-add-at-requires-2 : (t : ℕ) → write-run-lts.Need-add-at-requires-2 (
   run-leaf-reads.Asked,
   run-leaf-reads.Learnt,
@@ -191,9 +183,8 @@ write-run-add-at-requires-2 : (t : ℕ) → write-run-lts.Need-add-at-requires-2
   pair-reads.Asked,
   pair-reads.Learnt,
 ) (write-run-at t) write-run.Post
-write-run-add-at-requires-2 t c κs = search needs
+write-run-add-at-requires-2 t c κs = omega (arith, c .before .before .before .before .before .before .before .before .before .before .before .before .before .before .before .pre .1 .room, fit-self (c .before .before .before .before .before .before .before .before .before .before .before .before .before .before .before .pre .1), c .before .before .before .before .before .before .before .before .before .before .write-run .kept .0, c .before .before .before .before .before .before .write-run2 .kept .0)
 
--- src/lib.rt:134:13
 write-run-add-t : (t : ℕ) → write-run-lts.Need-add-t (
   run-leaf-reads.Asked,
   run-leaf-reads.Learnt,
@@ -204,9 +195,11 @@ write-run-add-t : (t : ℕ) → write-run-lts.Need-add-t (
   pair-reads.Asked,
   pair-reads.Learnt,
 ) (write-run-at t) write-run.Post
-write-run-add-t t c = search needs
+write-run-add-t t c = let a = c .before .before .before .before .before .before .before .before .before .before .before .before .before .before .before .before .before .before .before .before .args in
+    let l = subtree-small (a .s .now) (runLeaf (a .run .now) (a .past)) (a .b) (a .k - 1) (2 * a .n) (2 * a .j) (fit-left (c .before .before .before .before .before .before .before .before .before .before .before .before .before .before .before .before .before .before .before .before .pre .1) (c .before .before .before .before .before .before .before .before .before .before .before .before .before .before .before .before .before .if1 .left) .top) in
+    let r = subtree-small (c .before .before .before .before .before .before .before .before .before .before .before .before .before .before .before .write-run .last .0) (runLeaf (a .run .now) (a .past)) (a .b) (a .k - 1) (2 * a .n + 1) (2 * a .j + 1) (fit-right (c .before .before .before .before .before .before .before .before .before .before .before .before .before .before .before .before .before .before .before .before .pre .1) (c .before .before .before .before .before .before .before .before .before .before .before .before .before .before .before .before .before .if1 .left) .top) in
+    omega (arith, c .before .before .before .before .before .before .before .before .before .before .before .before .before .before .before .before .before .before .before .before .pre .1 .room, c .before .before .before .before .before .before .before .before .before .before .before .before .before .before .before .before .before .before .before .before .good .0 .0, c .before .before .before .before .before .before .before .before .before .before .before .before .before .before .before .write-run .ensures .1 .0, c .before .before .before .before .before .before .before .before .before .before .before .write-run2 .ensures .1 .0, c .before .before .before .before .add-at2 .ensures .0, lacks-small (c .before .before .before .before .before .before .before .before .before .before .before .write-run2 .last .0) (a .n))
 
--- src/lib.rt:134:13
 write-run-add-t-2 : (t : ℕ) → write-run-lts.Need-add-t-2 (
   run-leaf-reads.Asked,
   run-leaf-reads.Learnt,
@@ -217,9 +210,11 @@ write-run-add-t-2 : (t : ℕ) → write-run-lts.Need-add-t-2 (
   pair-reads.Asked,
   pair-reads.Learnt,
 ) (write-run-at t) write-run.Post
-write-run-add-t-2 t c = search needs
+write-run-add-t-2 t c = let a = c .before .before .before .before .before .before .before .before .before .before .before .before .before .before .before .before .before .before .before .before .args in
+    let l = subtree-small (a .s .now) (runLeaf (a .run .now) (a .past)) (a .b) (a .k - 1) (2 * a .n) (2 * a .j) (fit-left (c .before .before .before .before .before .before .before .before .before .before .before .before .before .before .before .before .before .before .before .before .pre .1) (c .before .before .before .before .before .before .before .before .before .before .before .before .before .before .before .before .before .if1 .left) .top) in
+    let r = subtree-small (c .before .before .before .before .before .before .before .before .before .before .before .before .before .before .before .write-run .last .0) (runLeaf (a .run .now) (a .past)) (a .b) (a .k - 1) (2 * a .n + 1) (2 * a .j + 1) (fit-right (c .before .before .before .before .before .before .before .before .before .before .before .before .before .before .before .before .before .before .before .before .pre .1) (c .before .before .before .before .before .before .before .before .before .before .before .before .before .before .before .before .before .if1 .left) .top) in
+    omega (arith, c .before .before .before .before .before .before .before .before .before .before .before .before .before .before .before .before .before .before .before .before .pre .1 .room, c .before .before .before .before .before .before .before .before .before .before .before .before .before .before .before .before .before .before .before .before .good .0 .0, c .before .before .before .before .before .before .before .before .before .before .before .before .before .before .before .write-run .ensures .1 .0, c .before .before .before .before .before .before .before .before .before .before .before .write-run2 .ensures .1 .0, c .before .before .before .before .add-at2 .ensures .0, lacks-small (c .before .before .before .before .before .before .before .before .before .before .before .write-run2 .last .0) (a .n))
 
--- src/lib.rt:106:1
 write-run-same-length-2 : (t : ℕ) → write-run-lts.Need-same-length-2 (
   run-leaf-reads.Asked,
   run-leaf-reads.Learnt,
@@ -230,9 +225,8 @@ write-run-same-length-2 : (t : ℕ) → write-run-lts.Need-same-length-2 (
   pair-reads.Asked,
   pair-reads.Learnt,
 ) (write-run-at t) write-run.Post
-write-run-same-length-2 t c = search needs
+write-run-same-length-2 t c = c .before .before .before .before .add-at2 .kept .0 ∙ c .before .before .before .before .before .before .before .before .before .before .before .write-run2 .kept .0 ∙ c .before .before .before .before .before .before .before .before .before .before .before .before .before .before .before .write-run .kept .0
 
--- src/lib.rt:106:1
 write-run-returns-2 : (t : ℕ) → write-run-lts.Need-returns-2 (
   run-leaf-reads.Asked,
   run-leaf-reads.Learnt,
@@ -243,7 +237,11 @@ write-run-returns-2 : (t : ℕ) → write-run-lts.Need-returns-2 (
   pair-reads.Asked,
   pair-reads.Learnt,
 ) (write-run-at t) write-run.Post
-write-run-returns-2 t c = search needs
+write-run-returns-2 t c = let a = c .before .before .before .before .before .before .before .before .before .before .before .before .before .before .before .before .before .before .before .before .args in
+    wrote-up (a .s .now) (runLeaf (a .run .now) (a .past)) (a .k) (a .n) (a .j)
+    (c .before .before .before .before .before .before .before .before .before .before .before .before .before .before .before .write-run .result .hash) (c .before .before .before .before .before .before .before .before .before .before .before .before .before .before .before .write-run .result .new) (c .before .before .before .before .before .before .before .before .before .before .before .before .before .before .before .write-run .last .0) (c .before .before .before .before .before .before .before .before .before .before .before .write-run2 .result .hash) (c .before .before .before .before .before .before .before .before .before .before .before .write-run2 .result .new) (c .before .before .before .before .before .before .before .before .before .before .before .write-run2 .last .0)
+    (c .before .before .before .before .before .before .pair .result) (c .before .before .before .before .add-at2 .result) (c .before .before .before .before .add-at2 .last .0)
+    (c .before .before .before .before .before .before .before .before .before .before .before .before .before .before .before .before .before .if1 .left) (c .before .before .before .before .before .before .before .before .before .before .before .before .before .before .before .write-run .ensures) (c .before .before .before .before .before .before .before .before .before .before .before .write-run2 .ensures) (c .before .before .before .before .before .before .pair .ensures) (c .before .before .before .before .add-at2 .ensures .0) (c .before .before .before .before .add-at2 .ensures .1)
 
 pub +write-run-spec : {M : Type 1} → statement M
 +write-run-spec = close μ-write-run λ t. write-run-lts.spec (

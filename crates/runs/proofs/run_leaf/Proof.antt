@@ -1,29 +1,22 @@
+-- The two cases of the definition: a hash of the run, or past it.
+use Rattle.runs.specs.SubtreeLaws.{run-leaf-in, run-leaf-past}
 use native.Mathlib.Omega.{arith}
-use Prim.Native.Nat.{ℕ, _+_, _-_, _*_, _≤_, _<_, _/_, _%_, _^_}
-use lib.ListN.{length, getD, set, take, drop}
-use mathlib.Core.Path.{_≡_, refl, ap, sym, _∙_}
-use borrow.Author.Needs.{needs}
+use Prim.Native.Nat.{_-_}
+use mathlib.Core.Path.{sym, _∙_}
 use Rattle.runs.proofs.run_leaf.Statement.{statement}
 use Rattle.runs.proofs.run_leaf.Tie as tie
-use Rattle.runs.proofs.run_leaf.Reads as reads
-use Rattle.runs.proofs.run_leaf.Lts as lts
-use Rattle.octets.proofs.hash_at.Reads as hash-at-reads
 
--- src/lib.rt:42:9
 returns : tie.Need-returns
-returns c = ?
+returns c = sym (run-leaf-past _ _ _ (c .if1 .taken))
 
--- src/lib.rt:44:18
 mul-hash-at : tie.Need-mul-hash-at
-mul-hash-at c = search needs
+mul-hash-at c = omega arith
 
--- src/lib.rt:44:5
 hash-at-requires : tie.Need-hash-at-requires
-hash-at-requires c κs = search needs
+hash-at-requires c κs = omega arith
 
--- src/lib.rt:37:1
 returns-2 : tie.Need-returns-2
-returns-2 c = ?
+returns-2 c = c .hash-at .ensures ∙ sym (run-leaf-in _ _ _ (omega arith))
 
 pub run-leaf-spec : {M : Type 1} → statement M
 run-leaf-spec = tie.close (tie.spec returns mul-hash-at hash-at-requires returns-2)
