@@ -1,3 +1,4 @@
+pub mod Span
 pub mod Subtree
 pub mod Path
 pub mod SubtreeLaws
