@@ -1,1 +1,2 @@
-// to be written
+// The three hash messages: a hashes message taken, an incoming reject, a request served.
+pub mod padded;

@@ -142,7 +142,7 @@ pub fn write_run(
 }
 
 // The position beside n.
-fn beside(n: usize) -> usize
+pub fn beside(n: usize) -> usize
     requires { ⌜ n + 1 < 2 ^ 64 ⌝ }
     ensures { λ r. ⌜ r ≡ sibling n ⌝ }
 {

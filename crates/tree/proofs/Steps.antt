@@ -15,7 +15,7 @@ use Rattle.sha256.specs.Sha256.{sha256, pairHash}
 use Rattle.tree.specs.Geometry.{blockLength, ceilDiv, blockCount, height, covering, blockSize}
 use Rattle.tree.specs.GeometryLaws.{height-halves, height-least, covering-leaves, padding-from-covering}
 use Rattle.tree.specs.Values.{node, padValue, blockOf, leafOf, layerLeaf}
-use Rattle.tree.specs.ValuesLaws.{leaf-block, leaf-padding, padding-value, layer-padding}
+use Rattle.tree.specs.ValuesLaws.{node-leaf, leaf-block, leaf-padding, padding-value, layer-padding}
 
 -- ---- height
 
@@ -66,18 +66,6 @@ pub leaf-past : (file h : List ℕ) (i : ℕ) → blockCount (length file) ≤ i
 leaf-past file h i l e = e ∙ sym (leaf-padding file i l)
 
 -- ---- data_node and layer_node
-
-pub node-leaf : (leaf : ℕ → List ℕ) (h : List ℕ) (k j : ℕ) → k ≡ 0 → h ≡ leaf j → h ≡ node leaf k j
-unfolding node
-node-leaf leaf h k j z e = rw z e
-
-pub node-pair : (leaf : ℕ → List ℕ) (h l r : List ℕ) (k j : ℕ) → (k ≡ 0 → ⊥) → l ≡ node leaf (k - 1) (2 * j)
-    → r ≡ node leaf (k - 1) (2 * j + 1) → h ≡ pairHash l r → h ≡ node leaf k j
-unfolding node
-node-pair leaf h l r zero j n e f g = absurd (n refl)
-node-pair leaf h l r (suc k) j n e f g =
-    let q : suc k - 1 ≡ k = omega arith in
-    g ∙ ap₂ (λ (x y : List ℕ). pairHash x y) (e ∙ ap (λ (d : ℕ). node leaf d (2 * j)) q) (f ∙ ap (λ (d : ℕ). node leaf d (2 * j + 1)) q)
 
 pub node-past : (file h : List ℕ) (k j b c : ℕ) → b ≡ blockCount (length file) → c ≡ covering b k → c ≤ j → h ≡ padValue k
     → h ≡ node (leafOf file) k j

@@ -233,3 +233,17 @@ pub one-piece-root : (file : List ℕ) (p : ℕ) → length file ≤ blockLength
     → piecesRoot file ≡ node (leafOf (pieceOf file p 0)) (height (blockCount (length file))) 0
 unfolding piecesRoot
 one-piece-root file p h = rw (one-piece file p h)
+
+-- ---- a node as code meets it: a leaf, or the hash of two
+
+pub node-leaf : (leaf : ℕ → List ℕ) (h : List ℕ) (k j : ℕ) → k ≡ 0 → h ≡ leaf j → h ≡ node leaf k j
+unfolding node
+node-leaf leaf h k j z e = rw z e
+
+pub node-pair : (leaf : ℕ → List ℕ) (h l r : List ℕ) (k j : ℕ) → (k ≡ 0 → ⊥) → l ≡ node leaf (k - 1) (2 * j)
+    → r ≡ node leaf (k - 1) (2 * j + 1) → h ≡ pairHash l r → h ≡ node leaf k j
+unfolding node
+node-pair leaf h l r zero j n e f g = absurd (n refl)
+node-pair leaf h l r (suc k) j n e f g =
+    let q : suc k - 1 ≡ k = omega arith in
+    g ∙ ap₂ (λ (x y : List ℕ). pairHash x y) (e ∙ ap (λ (d : ℕ). node leaf d (2 * j)) q) (f ∙ ap (λ (d : ℕ). node leaf d (2 * j + 1)) q)

@@ -1,5 +1,6 @@
 -- By the layers left, k. A position that covers no block has the padding value; any other is the pair of its children, whose numbers stay below the block count.
-use Rattle.tree.proofs.Steps.{node-past, node-leaf, node-pair}
+use Rattle.tree.proofs.Steps.{node-past}
+use Rattle.tree.specs.ValuesLaws.{node-leaf, node-pair}
 use Rattle.tree.specs.Values.{leafOf}
 use Rattle.tree.specs.GeometryLaws.{covering-doubled}
 use borrow.Author.Needs.{needs}

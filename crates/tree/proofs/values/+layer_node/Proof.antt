@@ -1,5 +1,6 @@
 -- By the layers left, k, as for data_node, over the hashes that the string holds.
-use Rattle.tree.proofs.Steps.{at-leaves, layer-past, layer-read, node-pair}
+use Rattle.tree.proofs.Steps.{at-leaves, layer-past, layer-read}
+use Rattle.tree.specs.ValuesLaws.{node-pair}
 use Rattle.tree.specs.Values.{layerLeaf}
 use Rattle.tree.specs.GeometryLaws.{covering-doubled}
 use borrow.Author.Needs.{needs}
