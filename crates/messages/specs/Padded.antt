@@ -18,8 +18,11 @@ allFrom run v from (suc n) = allFrom run v from n && cond (leb from n) (same (cu
 unfoldable pub runPadded : List ℕ → ℕ → ℕ → ℕ → ℕ → Bool
 runPadded run b base index len = allFrom run (padValue base) (covering b base - index) len
 
--- the uncles from number i on, u of them: each stands beside the path's position, which is x in layer l
+-- uncle number i stands beside the path's position, which is x in layer l
+unfoldable pub unclePadded : List ℕ → ℕ → ℕ → ℕ → ℕ → Bool
+unclePadded hashes b i l x = cond (leb (covering b l) (sibling x)) (same (uncle hashes i) (padValue l)) true
+
+-- the uncles from number i on, u of them
 unfoldable pub unclesPadded : List ℕ → ℕ → ℕ → ℕ → ℕ → ℕ → Bool
 unclesPadded hashes b i zero l x = true
-unclesPadded hashes b i (suc u) l x =
-    cond (leb (covering b l) (sibling x)) (same (uncle hashes i) (padValue l)) true && unclesPadded hashes b (i + 1) u (suc l) (x / 2)
+unclesPadded hashes b i (suc u) l x = unclePadded hashes b i l x && unclesPadded hashes b (i + 1) u (suc l) (x / 2)

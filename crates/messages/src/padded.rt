@@ -3,7 +3,7 @@ ghost use mathlib.Core.Path.{_≡_};
 ghost use Prim.Native.Nat.{_+_, _*_, _^_, _≤_, _<_};
 ghost use lib.ListN.{length};
 ghost use Rattle.tree.specs.Values.{padValue};
-ghost use Rattle.messages.specs.Padded.{allFrom, runPadded, unclesPadded};
+ghost use Rattle.messages.specs.Padded.{allFrom, runPadded, unclePadded, unclesPadded};
 use octets::hash_at;
 use octets::same;
 use runs::beside;
@@ -41,7 +41,20 @@ pub fn run_padded(run: &[u8], b: usize, base: usize, index: usize, len: usize) -
     all_from(run, v, c - index, len)
 }
 
-// The uncles from number i on, u of them, beside the path that is at x in layer l. v is layer l's padding value.
+// Uncle number i, beside the path that is at x in layer l. v is layer l's padding value.
+fn uncle_padded(hashes: &[u8], b: usize, i: usize, l: usize, x: usize, v: [u8; 32]) -> bool
+    requires { ⌜ (32 * (i + 1) ≤ length (now hashes)) × (x < 2 ^ 63) × (v ≡ padValue l) ⌝ }
+    ensures { λ r. ⌜ r ≡ unclePadded (now (hashes .entry)) b i l x ⌝ }
+{
+    let c = covering(b, l);
+    let y = beside(x);
+    if y < c {
+        return true;
+    }
+    same(hash_at(hashes, 32 * i), v)
+}
+
+// The uncles from number i on, u of them.
 pub fn uncles_padded(
     hashes: &[u8],
     b: usize,
@@ -61,15 +74,10 @@ pub fn uncles_padded(
     let i2 = i + 1;
     let l2 = l + 1;
     let x2 = x / 2;
-    let c = covering(b, l);
-    let y = beside(x);
-    if c <= y {
-        let w = hash_at(hashes, 32 * i);
-        let alike = same(w, v);
-        if !alike {
-            return false;
-        }
+    let right = uncle_padded(hashes, b, i, l, x, v);
+    if right {
+        let v2 = pair(v, v);
+        return uncles_padded(hashes, b, i2, d, l2, x2, v2);
     }
-    let v2 = pair(v, v);
-    uncles_padded(hashes, b, i2, d, l2, x2, v2)
+    false
 }
