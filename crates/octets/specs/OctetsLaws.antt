@@ -280,3 +280,9 @@ pasted-append s at a b h =
     ∙ drop-drop (length b) (at + length a) s
     ∙ ap (λ (n : ℕ). drop n s) e)
     ∙ ap (λ (p : List ℕ). p ++ drop (at + length (a ++ b)) s) (append-assoc (take at s) a b)
+
+-- a number read from a part is the number read from the whole
+pub number-cut : (s : List ℕ) (a m b k : ℕ) → b + k ≤ m → numberAt (cut s a m) b k ≡ numberAt s (a + b) k
+number-cut s a m b k h =
+    number-same (cut s a m) s b (a + b) k
+    (λ i l. let e : a + (b + i) ≡ a + b + i = omega arith in getD-cut s a m (b + i) (omega arith) ∙ ap (λ (j : ℕ). getD s j 0) e)

@@ -16,8 +16,8 @@ use Rattle.sha256.specs.declared.Hashed.{Hashed}
 use Rattle.tree.specs.Geometry.{blockCount, height, nodeNumber}
 use Rattle.tree.specs.GeometryLaws.{shifted-one}
 use Rattle.cells.specs.Cells.{Room, heldAt, hashAt, put}
-use Rattle.store.specs.Store.{maxLength, fileLength, pieceLength, heightOf, positions, factsInRange, storeSize, usable, sizeAnswer, opened, openAnswer, openAfter, inTree, noHash, heldAnswer}
-use Rattle.store.specs.StoreLaws.{Facts, usable-facts, facts-cell, facts-height, height-most, held-given, held-not, held-outside, open-done, open-short, positions-most, positions-some, size-given, store-size-some, tree-number, tree-says, usable-not, usable-room}
+use Rattle.store.specs.Store.{maxLength, fileLength, pieceLength, heightOf, positions, factsInRange, storeSize, usable, opened, openAnswer, openAfter, inTree, noHash, heldAnswer}
+use Rattle.store.specs.StoreLaws.{Facts, usable-facts, facts-cell, height-most, held-given, held-not, held-outside, open-done, open-short, positions-most, positions-some, tree-number, usable-not, usable-room}
 
 -- ---- the size
 
@@ -26,16 +26,20 @@ pub shifted-two : (h : ℕ) → h ≤ 62 → (2 * 2 ^ h) % 18446744073709551616 
 shifted-two h l = shl-exact {a = 2} 2 h 64 (omega arith) (omega arith)
 
 module _ (n b h : ℕ) (most : n ≤ maxLength) (blocks : b ≡ blockCount n) (layers : h ≡ height b) where
+  -- the height is small,
   pub size-height : h ≤ 16
   size-height = let e : height b ≡ height (blockCount n) = ap height blocks in omega (arith, height-most n most)
 
+  -- so the shift loses nothing,
   pub size-positions : (2 * 2 ^ h) % 18446744073709551616 ≡ positions h
   unfolding positions
   size-positions = shifted-two h (omega (arith, size-height))
 
+  -- and what it gives is small
   pub size-small : (positions h ≤ 131072) × (2 ≤ positions h)
   size-small = (positions-most h size-height, positions-some h)
 
+  -- and gives the size
   pub size-worked : (p : ℕ) → p ≡ positions h → 33 * (p - 1) + 64 ≡ storeSize n
   unfolding storeSize
   size-worked p e =
@@ -44,11 +48,13 @@ module _ (n b h : ℕ) (most : n ≤ maxLength) (blocks : b ≡ blockCount n) (l
 
 -- ---- usable
 
+-- with facts in range the room decides
 pub usable-by : (s : List ℕ) (n p z : ℕ) (t : Bool) → 64 ≤ length s → n ≡ fileLength s → p ≡ pieceLength s → t ≡ factsInRange n p → t ≡ true → z ≡ storeSize n
     → leb z (length s) ≡ usable s
 usable-by s n p z t l e f g y k =
     ap (λ (x : ℕ). leb x (length s)) (k ∙ ap storeSize e) ∙ usable-room s l (ap₂ factsInRange (sym e) (sym f) ∙ sym g ∙ y)
 
+-- without, the buffer is unusable
 pub unusable-by : (s : List ℕ) (n p : ℕ) (t : Bool) → n ≡ fileLength s → p ≡ pieceLength s → t ≡ factsInRange n p → t ≡ false → false ≡ usable s
 unusable-by s n p t e f g y = usable-not s (ap₂ factsInRange (sym e) (sym f) ∙ sym g ∙ y)
 
@@ -67,6 +73,7 @@ opened-by s s1 s2 s3 s4 s5 size n plen root a l r e1 e2 e3 e4 e5 =
     let g : be 8 n ++ be 4 plen ++ root ≡ be 8 n ++ (be 4 plen ++ root) = append-assoc (be 8 n) (be 4 plen) root in
     e5 ∙ ap (λ (t : List ℕ). put t 1 root) (e4 ∙ ap (λ (t : List ℕ). pasted t 12 root) (e3 ∙ ap (λ (t : List ℕ). pasted t 8 (be 4 plen)) (e2 ∙ ap (λ (t : List ℕ). pasted t 0 (be 8 n)) e1) ∙ p) ∙ q ∙ ap (λ (t : List ℕ). pasted (zeroed s size) 0 t) g)
 
+-- done, with the count 1
 pub open-by : (s s′ : List ℕ) (n plen z : ℕ) (root : List ℕ) (r : Answer) → factsInRange n plen ≡ true → z ≡ storeSize n → z ≤ length s
     → s′ ≡ put (pasted (zeroed s z) 0 (be 8 n ++ (be 4 plen ++ root))) 1 root → r ≡ done 1
     → (r ≡ openAnswer s n plen) × (s′ ≡ openAfter s n plen root)
@@ -76,6 +83,7 @@ open-by s s′ n plen z root r a e l w q =
     let o : s′ ≡ opened s n plen root = unfold opened in w ∙ ap (λ (x : ℕ). put (pasted (zeroed s x) 0 (be 8 n ++ (be 4 plen ++ root))) 1 root) e in
     (q ∙ d .0, o ∙ d .1)
 
+-- too little room
 pub open-short-by : (s : List ℕ) (n plen z : ℕ) (root : List ℕ) (r : Answer) → factsInRange n plen ≡ true → z ≡ storeSize n → length s < z → r ≡ refused unusable
     → (r ≡ openAnswer s n plen) × (s ≡ openAfter s n plen root)
 open-short-by s n plen z root r a e l q =
