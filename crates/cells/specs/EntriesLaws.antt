@@ -227,3 +227,12 @@ either-order N [] B s room none T nil = refl
 either-order N (e ∷ A) B s room (more i l S) T (also f F) =
     either-order N A B (put s (e .at) (e .hash)) (put-room s N (e .at) room i (e .hash) l) S T F
     ∙ ap (λ (t : List ℕ). putAll t A) (past N B s (e .at) (e .hash) room T i l f)
+
+-- ---- how much a list changes
+
+-- a list of entries changes no length
+pub putAll-length : (N : ℕ) (L : List Entry) (s : List ℕ) → Room N s → Sound N L → length (putAll s L) ≡ length s
+unfolding putAll
+putAll-length N [] s room none = refl
+putAll-length N (e ∷ L) s room (more i l S) =
+    putAll-length N L (put s (e .at) (e .hash)) (put-room s N (e .at) room i (e .hash) l) S ∙ put-length s N (e .at) room i (e .hash) l

@@ -10,7 +10,7 @@ use lib.Arith.{mod-mul}
 use native.Mathlib.Omega.{arith}
 use native.Mathlib.Decide.{decLt}
 use lib.ListN.{length, take, drop, getD, set, length-append, length-take, length-drop, length-set, replicate, length-replicate, getD-replicate, List·getD-append, drop-of-length-le}
-use lib.Seq.{length-take-le, take-at, drop-at, getD-take, getD-drop, getD-append-add, getD-set-other, ext-getD, take-take, take-nil, take-all, take-append-le, drop-append-le, drop-drop}
+use lib.Seq.{length-take-le, take-at, drop-at, getD-take, getD-drop, getD-append-add, getD-set-other, ext-getD, take-take, take-nil, take-all, take-append-le, drop-append-le, drop-append-add, drop-drop}
 use lib.Dec.{eqb, lit<}
 use borrow.Author.Tests.{eqb-true, eq-eqb}
 use Rattle.octets.specs.Octets.{Octets, cut, pasted, same, be, numberAt, zeroed, zeroHash}
@@ -263,3 +263,26 @@ number-pasted s at k n l h =
     number-same (pasted s at (be k n)) (be k n) at 0 k
     (λ i g. let e : 0 + i ≡ i = omega arith in getD-pasted-in s at (be k n) (omega arith) i (omega arith) ∙ ap (λ (j : ℕ). getD (be k n) j 0) (sym e))
     ∙ number-of-be k n h
+
+-- ---- two parts side by side
+
+-- a part put right after another is both put at once
+pub pasted-append : (s : List ℕ) (at : ℕ) (a b : List ℕ) → at + length a + length b ≤ length s
+    → pasted (pasted s at a) (at + length a) b ≡ pasted s at (a ++ b)
+unfolding pasted
+pasted-append s at a b h =
+    let hl = head-length s at a (omega arith) in
+    let e : at + length a + length b ≡ at + length (a ++ b) = simp length-append (omega arith) in
+    ap₂ (λ (p q : List ℕ). p ++ b ++ q)
+    (take-at (take at s ++ a) (drop (at + length a) s) (at + length a) hl)
+    (ap (λ (n : ℕ). drop n (take at s ++ a ++ drop (at + length a) s)) (ap (λ (n : ℕ). n + length b) (sym hl))
+    ∙ drop-append-add (take at s ++ a) (drop (at + length a) s) (length b)
+    ∙ drop-drop (length b) (at + length a) s
+    ∙ ap (λ (n : ℕ). drop n s) e)
+    ∙ ap (λ (p : List ℕ). p ++ drop (at + length (a ++ b)) s) (append-assoc (take at s) a b)
+
+-- a number read from a part is the number read from the whole
+pub number-cut : (s : List ℕ) (a m b k : ℕ) → b + k ≤ m → numberAt (cut s a m) b k ≡ numberAt s (a + b) k
+number-cut s a m b k h =
+    number-same (cut s a m) s b (a + b) k
+    (λ i l. let e : a + (b + i) ≡ a + b + i = omega arith in getD-cut s a m (b + i) (omega arith) ∙ ap (λ (j : ℕ). getD s j 0) e)

@@ -1,0 +1,33 @@
+-- For a length in range the height is at most 16, so that nothing wraps, and the shift gives the number past the last position.
+use Rattle.store.proofs.Answers.{size-height, size-positions, size-small, size-worked}
+use native.Mathlib.Omega.{arith}
+use Prim.Native.Nat.{_-_}
+use borrow.Author.Needs.{needs}
+use Rattle.store.proofs.size_in_range.Statement.{statement}
+use Rattle.store.proofs.size_in_range.Tie as tie
+
+block-count-requires : tie.Need-block-count-requires
+block-count-requires c κs = search needs
+
+height-requires : tie.Need-height-requires
+height-requires c κs = search needs
+
+shl-p : tie.Need-shl-p
+shl-p c = omega (arith, size-height _ _ _ (c .before .before .pre) (c .before .block-count .ensures) (c .height .ensures))
+
+sub-result : tie.Need-sub-result
+sub-result c = omega (arith, size-positions _ _ _ (c .before .before .pre) (c .before .block-count .ensures) (c .height .ensures), size-small _ _ _ (c .before .before .pre) (c .before .block-count .ensures) (c .height .ensures))
+
+mul-result : tie.Need-mul-result
+mul-result c = omega (arith, size-positions _ _ _ (c .before .before .pre) (c .before .block-count .ensures) (c .height .ensures), size-small _ _ _ (c .before .before .pre) (c .before .block-count .ensures) (c .height .ensures))
+
+add-result : tie.Need-add-result
+add-result c = omega (arith, size-positions _ _ _ (c .before .before .pre) (c .before .block-count .ensures) (c .height .ensures), size-small _ _ _ (c .before .before .pre) (c .before .block-count .ensures) (c .height .ensures))
+
+returns : tie.Need-returns
+returns c = size-worked _ _ _ (c .before .before .pre) (c .before .block-count .ensures) (c .height .ensures) _ (size-positions _ _ _ (c .before .before .pre) (c .before .block-count .ensures) (c .height .ensures))
+
+pub size-in-range-spec : {M : Type 1} → statement M
+size-in-range-spec =
+    tie.close
+    (tie.spec block-count-requires height-requires shl-p sub-result mul-result add-result returns)
