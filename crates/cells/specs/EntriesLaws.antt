@@ -4,6 +4,7 @@
 use mathlib.Core.Path.{_≡_, refl, ap, ap₂, sym, _∙_}
 use mathlib.Core.List.{List, [], _∷_, _++_}
 use mathlib.Core.Bool.{Bool, true, false, not, _&&_, _||_, false≢true, and-eq-true-iff, and-assoc, and-true}
+use mathlib.Core.Logic.{_⊎_, inl, inr}
 use Prim.Native.Nat.{ℕ, zero, suc, _+_, _≤_, _<_}
 use native.Mathlib.Decide.{ℕ-discrete}
 use native.Mathlib.Omega.{arith}
@@ -236,3 +237,125 @@ unfolding putAll
 putAll-length N [] s room none = refl
 putAll-length N (e ∷ L) s room (more i l S) =
     putAll-length N L (put s (e .at) (e .hash)) (put-room s N (e .at) room i (e .hash) l) S ∙ put-length s N (e .at) room i (e .hash) l
+
+-- ---- being an entry of a list
+
+pub data In (e : Entry) : List Entry → Type 0 where
+  here : {L : List Entry} → In e (e ∷ L)
+  there : {f : Entry} {L : List Entry} → In e L → In e (f ∷ L)
+
+-- position n stands in the list with hash h
+abbrev pub Has : ℕ → List ℕ → List Entry → Type 0
+Has n h L = In (record { at = n; hash = h }) L
+
+-- an entry of the first of two lists is one of both
+pub in-left : {e : Entry} (A B : List Entry) → In e A → In e (A ++ B)
+in-left (f ∷ A) B here = here
+in-left (f ∷ A) B (there i) = there (in-left A B i)
+
+-- an entry of the second too
+pub in-right : {e : Entry} (A B : List Entry) → In e B → In e (A ++ B)
+in-right [] B i = i
+in-right (f ∷ A) B i = there (in-right A B i)
+
+-- and there are no others
+pub in-cases : {e : Entry} (A B : List Entry) → In e (A ++ B) → In e A ⊎ In e B
+in-cases [] B i = inr i
+in-cases (f ∷ A) B here = inl here
+in-cases (f ∷ A) B (there i) = elim (in-cases A B i) [ inl x ↦ inl (there x) | inr y ↦ inr y ]
+
+-- the one entry of a list of one
+pub one-is : {e : Entry} (n : ℕ) (h : List ℕ) → In e (one n h) → (e .at ≡ n) × (e .hash ≡ h)
+one-is n h here = (refl, refl)
+
+in-length : {e : Entry} (L : List Entry) → In e L → 1 ≤ length L
+in-length (f ∷ L) here = omega arith
+in-length (f ∷ L) (there i) = omega (arith, in-length L i)
+
+-- the empty list has none
+pub no-entry : {e : Entry} → In e [] → ⊥
+no-entry i = omega (arith, in-length [] i)
+
+-- the same entry by other names
+pub has-same : (L : List Entry) (n m : ℕ) (h g : List ℕ) → n ≡ m → h ≡ g → Has n h L → Has m g L
+has-same L n m h g e f i = rw (sym e, sym f) i
+
+-- every entry of a sound list is a hash, at a position below N
+pub sound-in : {N : ℕ} {e : Entry} (L : List Entry) → Sound N L → In e L → (e .at < N) × (length (e .hash) ≡ 32)
+sound-in (f ∷ L) (more i l S) here = (i, l)
+sound-in (f ∷ L) (more i l S) (there k) = sound-in L S k
+
+pub sound-append : {N : ℕ} (A B : List Entry) → Sound N A → Sound N B → Sound N (A ++ B)
+sound-append [] B none T = T
+sound-append (e ∷ A) B (more i l S) T = more i l (sound-append A B S T)
+
+pub sound-one : {N : ℕ} (n : ℕ) (h : List ℕ) → n < N → length h ≡ 32 → Sound N (one n h)
+sound-one n h i l = more i l none
+
+-- a list says v of p, if each of its entries there does
+pub says-in : (L : List Entry) (p : ℕ) (v : List ℕ) → ((f : Entry) → In f L → f .at ≡ p → f .hash ≡ v) → Says p v L
+says-in [] p v k = none
+says-in (e ∷ L) p v k = more (k e here) (says-in L p v (λ f i. k f (there i)))
+
+-- a list agrees with a store exactly if each of its entries does
+pub agrees-in : (s : List ℕ) (L : List Entry) → agrees s L ≡ true → (e : Entry) → In e L → agreesAt s (e .at) (e .hash) ≡ true
+unfolding agrees
+agrees-in s (f ∷ L) a e here = and-eq-true-iff (agreesAt s (e .at) (e .hash)) (agrees s L) .0 a .0
+agrees-in s (f ∷ L) a e (there i) = agrees-in s L (and-eq-true-iff (agreesAt s (f .at) (f .hash)) (agrees s L) .0 a .1) e i
+
+pub in-agrees : (s : List ℕ) (L : List Entry) → ((e : Entry) → In e L → agreesAt s (e .at) (e .hash) ≡ true) → agrees s L ≡ true
+unfolding agrees
+in-agrees s [] k = refl
+in-agrees s (e ∷ L) k = ap₂ (λ (x y : Bool). x && y) (k e here) (in-agrees s L (λ f i. k f (there i)))
+
+-- ---- positions that are apart
+
+-- no two entries of a list have the same position
+pub data Apart : List Entry → Type 0 where
+  none : Apart []
+  more : {e : Entry} {L : List Entry} → ((f : Entry) → In f L → f .at ≡ e .at → ⊥) → Apart L → Apart (e ∷ L)
+
+-- no two entries give one position two hashes
+abbrev pub Consistent : List Entry → Type 0
+Consistent L = (e f : Entry) → In e L → In f L → e .at ≡ f .at → e .hash ≡ f .hash
+
+pub apart-one : (n : ℕ) (h : List ℕ) → Apart (one n h)
+apart-one n h = more (λ f i q. no-entry i) none
+
+-- two lists whose positions are apart, and apart from each other's
+pub apart-append : (A B : List Entry) → Apart A → Apart B → ((e f : Entry) → In e A → In f B → e .at ≡ f .at → ⊥) → Apart (A ++ B)
+apart-append [] B none T x = T
+apart-append (e ∷ A) B (more k S) T x =
+    more (λ f i q. elim (in-cases A B i) [ inl a ↦ k f a q | inr b ↦ x e f here b (sym q) ])
+    (apart-append A B S T (λ g f i j. x g f (there i) j))
+
+-- where positions are apart, none is given two hashes
+pub apart-consistent : (L : List Entry) → Apart L → Consistent L
+apart-consistent (g ∷ L) (more k S) e f here here q = refl
+apart-consistent (g ∷ L) (more k S) e f here (there j) q = absurd (k f j (sym q))
+apart-consistent (g ∷ L) (more k S) e f (there i) here q = absurd (k e i q)
+apart-consistent (g ∷ L) (more k S) e f (there i) (there j) q = apart-consistent L S e f i j q
+
+-- after a consistent list is taken, each of its entries is held
+pub entries-held : (N : ℕ) (L : List Entry) (s : List ℕ) → Room N s → Sound N L → Consistent L → (e : Entry) → In e L → Hold (putAll s L) (e .at) (e .hash)
+unfolding putAll
+entries-held N (f ∷ L) s room (more i l S) c e here =
+    hold-putAll N L (put s (e .at) (e .hash)) (put-room s N (e .at) room i (e .hash) l) S (e .at) (e .hash) i
+    (says-in L (e .at) (e .hash) (λ g k q. c g e (there k) here q))
+    (held-put-same s N (e .at) room i (e .hash) l, hash-put-same s N (e .at) room i (e .hash) l)
+entries-held N (f ∷ L) s room (more i l S) c e (there k) =
+    entries-held N L (put s (f .at) (f .hash)) (put-room s N (f .at) room i (f .hash) l) S (λ a b x y. c a b (there x) (there y)) e k
+
+-- and what is held then was held before or is one of its entries
+pub held-or-entry : (N : ℕ) (L : List Entry) (s : List ℕ) → Room N s → Sound N L → (q : ℕ) → heldAt (putAll s L) q ≡ true
+    → (heldAt s q ≡ true) ⊎ ((v : List ℕ) × Has q v L)
+unfolding putAll
+held-or-entry N [] s room none q t = inl t
+held-or-entry N (e ∷ L) s room (more i l S) q t =
+    elim (held-or-entry N L (put s (e .at) (e .hash)) (put-room s N (e .at) room i (e .hash) l) S q t) [
+      | inr o ↦ inr (o .0, there (o .1))
+      | inl k ↦ elim (ℕ-discrete q (e .at)) [
+        | yes z ↦ inr (e .hash, rw z here)
+        | no ne ↦ inl (sym (held-put-other s N (e .at) room i (e .hash) l q ne) ∙ k)
+      ]
+    ]

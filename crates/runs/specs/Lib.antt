@@ -1,5 +1,7 @@
 pub mod Span
 pub mod Subtree
 pub mod Path
+pub mod AncestorLaws
 pub mod SubtreeLaws
 pub mod PathLaws
+pub mod SettledLaws

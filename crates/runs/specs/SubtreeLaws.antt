@@ -3,24 +3,27 @@
 use mathlib.Core.Path.{_≡_, refl, ap, ap₂, sym, _∙_}
 use mathlib.Core.List.{List, [], _∷_, _++_}
 use mathlib.Core.Bool.{Bool, true, false, _&&_}
+use mathlib.Core.Logic.{_⊎_, inl, inr}
 use Prim.Native.Nat.{ℕ, zero, suc, _+_, _-_, _*_, _/_, _^_, _≤_, _<_}
-use native.Mathlib.Nat.{pow-succ', mul-assoc, le-trans, mul-le-mul-right, le-mul-of-pos-right}
+use native.Mathlib.Nat.{pow-succ', add-mul, one-mul, mul-comm, mul-assoc, le-trans, mul-le-mul-right, le-mul-of-pos-right}
 use native.Mathlib.Decide.{decLt}
 use native.Mathlib.Omega.{arith}
 use lib.ListN.{length, length-append}
-use lib.Pow.{pow-pos}
+use lib.Pow.{pow-pos, pow-add}
 use borrow.Author.Tests.{lt-ltb, le-ltb}
 use Rattle.octets.specs.Octets.{Octets, cut}
 use Rattle.octets.specs.OctetsLaws.{cut-length, cut-octets}
 use Rattle.sha256.specs.Sha256.{pairHash}
 use Rattle.sha256.specs.Sha256Laws.{pair-octets}
-use Rattle.tree.specs.Values.{node}
-use Rattle.tree.specs.ValuesLaws.{node-leaf, node-pair}
+use Rattle.tree.specs.Geometry.{nodeNumber}
+use Rattle.tree.specs.Values.{node, padValue, layerLeaf}
+use Rattle.tree.specs.ValuesLaws.{node-leaf, node-pair, node-same, node-padding}
 use Rattle.cells.specs.Cells.{put}
 use Rattle.cells.specs.Entries.{Entry, one, agreesAt, agrees, putAll}
-use Rattle.cells.specs.EntriesLaws.{lacks, fresh, agree-one, put-one, fresh-one, agree-append, put-append, fresh-append, fresh-small}
+use Rattle.cells.specs.EntriesLaws.{lacks, fresh, agree-one, put-one, fresh-one, agree-append, put-append, fresh-append, fresh-small, Sound, none, more, sound-one, sound-append, In, here, there, Has, has-same, in-left, in-right, in-cases, one-is, Apart, apart-one, apart-append}
 use Rattle.runs.specs.Span.{Within, Fit}
 use Rattle.runs.specs.Subtree.{subtree, runLeaf}
+use Rattle.runs.specs.AncestorLaws.{Under, under-self, under-parent, under-from, under-apart}
 
 -- ---- the positions below b
 
@@ -63,6 +66,15 @@ within-pow b k n h =
 pub within-of : (b k n : ℕ) → (n + 1) * 2 ^ k ≤ b → Within b k n
 unfolding Within
 within-of b k n h = h
+
+-- a position of layer l lies with all below it in a tree of height h, whose positions are those below 2^(h + 1)
+pub within-tree : (h l i : ℕ) → l ≤ h → i < 2 ^ (h - l) → Within (2 ^ suc h) l (nodeNumber h l i)
+unfolding Within nodeNumber
+within-tree h l i a b =
+    let e : h - l + l ≡ h = omega arith in
+    let p : 2 ^ (h - l) * 2 ^ l ≡ 2 ^ h = sym (pow-add 2 (h - l) l) ∙ ap (λ (x : ℕ). 2 ^ x) e in
+    let m : 2 ^ (h - l) + i + 1 ≤ 2 * 2 ^ (h - l) = omega arith in
+    le-trans (mul-le-mul-right (2 ^ l) m) (omega (arith, mul-assoc 2 (2 ^ (h - l)) (2 ^ l), pow-succ' 2 h))
 
 module _ {ls b k n j : ℕ} (f : Fit ls b k n j) where
   -- where a subtree fits, its top is below b
@@ -184,3 +196,259 @@ wrote-up s leaf k n j hl al s1 hr ar s2 h a s3 ne L R p q r =
     let v : h ≡ node leaf k j = node-pair leaf h hl hr k j ne (L .0) (R .0) p in
     let w = wrote-append s (A ++ B) (al + ar) s2 (one n h) a s3 (wrote-append s A al s1 B ar s2 (L .1) (R .1)) (wrote-one s2 n h a s3 q r) in
     (v, (cc (subtree-up leaf k n j ne), cc (subtree-up leaf k n j ne)))
+
+-- ---- every entry is a hash, at a position below b
+
+-- a node over leaves of 32 bytes is 32 bytes
+pub node-length : (leaf : ℕ → List ℕ) → ((i : ℕ) → length (leaf i) ≡ 32) → (k j : ℕ) → length (node leaf k j) ≡ 32
+unfolding node
+node-length leaf h zero j = h j
+node-length leaf h (suc k) j = pair-octets (node leaf k (2 * j)) (node leaf k (2 * j + 1)) .size
+
+pub subtree-sound : (leaf : ℕ → List ℕ) → ((i : ℕ) → length (leaf i) ≡ 32) → (b k n j : ℕ) → Within b k n → Sound b (subtree leaf k n j)
+unfolding subtree
+subtree-sound leaf h b zero n j w = sound-one n (leaf j) (within-self b zero n w) (h j)
+subtree-sound leaf h b (suc k) n j w =
+    sound-append (subtree leaf k (2 * n) (2 * j) ++ subtree leaf k (2 * n + 1) (2 * j + 1)) (one n (node leaf (suc k) j))
+    (sound-append (subtree leaf k (2 * n) (2 * j)) (subtree leaf k (2 * n + 1) (2 * j + 1))
+    (subtree-sound leaf h b k (2 * n) (2 * j) (within-left b k n w))
+    (subtree-sound leaf h b k (2 * n + 1) (2 * j + 1) (within-right b k n w)))
+    (sound-one n (node leaf (suc k) j) (within-self b (suc k) n w) (node-length leaf h (suc k) j))
+
+-- ---- where its entries are
+
+-- an entry of a subtree is below the left child, below the right child, or the top
+pub subtree-cases : (leaf : ℕ → List ℕ) (k n j : ℕ) (e : Entry) → In e (subtree leaf (suc k) n j)
+    → In e (subtree leaf k (2 * n) (2 * j)) ⊎ (In e (subtree leaf k (2 * n + 1) (2 * j + 1)) ⊎ ((e .at ≡ n) × (e .hash ≡ node leaf (suc k) j)))
+unfolding subtree
+subtree-cases leaf k n j e i =
+    let A = subtree leaf k (2 * n) (2 * j) in
+    let B = subtree leaf k (2 * n + 1) (2 * j + 1) in
+    elim (in-cases (A ++ B) (one n (node leaf (suc k) j)) i) [
+      | inl x ↦ elim (in-cases A B x) [ inl a ↦ inl a | inr b ↦ inr (inl b) ]
+      | inr y ↦ inr (inr (one-is n (node leaf (suc k) j) y))
+    ]
+
+-- what lies below the left child
+pub subtree-left : (leaf : ℕ → List ℕ) (k n j : ℕ) (e : Entry) → In e (subtree leaf k (2 * n) (2 * j)) → In e (subtree leaf (suc k) n j)
+unfolding subtree
+subtree-left leaf k n j e i =
+    let A = subtree leaf k (2 * n) (2 * j) in
+    let B = subtree leaf k (2 * n + 1) (2 * j + 1) in
+    in-left (A ++ B) (one n (node leaf (suc k) j)) (in-left A B i)
+
+-- and below the right one
+pub subtree-right : (leaf : ℕ → List ℕ) (k n j : ℕ) (e : Entry) → In e (subtree leaf k (2 * n + 1) (2 * j + 1)) → In e (subtree leaf (suc k) n j)
+unfolding subtree
+subtree-right leaf k n j e i =
+    let A = subtree leaf k (2 * n) (2 * j) in
+    let B = subtree leaf k (2 * n + 1) (2 * j + 1) in
+    in-left (A ++ B) (one n (node leaf (suc k) j)) (in-right A B i)
+
+-- the top has the value worked out
+pub subtree-top : (leaf : ℕ → List ℕ) (k n j : ℕ) → Has n (node leaf k j) (subtree leaf k n j)
+unfolding subtree node
+subtree-top leaf zero n j = here
+subtree-top leaf (suc k) n j = in-right (subtree leaf k (2 * n) (2 * j) ++ subtree leaf k (2 * n + 1) (2 * j + 1)) (one n (node leaf (suc k) j)) here
+
+-- every entry is the top or below it
+pub subtree-under : (leaf : ℕ → List ℕ) (k n j : ℕ) (e : Entry) → In e (subtree leaf k n j) → Under n (e .at)
+unfolding subtree
+subtree-under leaf zero n j e i = under-self n (e .at) (one-is n (leaf j) i .0)
+subtree-under leaf (suc k) n j e i =
+    elim (subtree-cases leaf k n j e i) [
+      | inl a ↦ under-parent (2 * n) (omega arith) (subtree-under leaf k (2 * n) (2 * j) e a)
+      | inr r ↦ elim r [
+        | inl b ↦ under-parent (2 * n + 1) (omega arith) (subtree-under leaf k (2 * n + 1) (2 * j + 1) e b)
+        | inr t ↦ under-self n (e .at) (t .0)
+      ]
+    ]
+
+-- so its number is from n on
+pub subtree-from : (leaf : ℕ → List ℕ) (k n j : ℕ) (e : Entry) → In e (subtree leaf k n j) → n ≤ e .at
+subtree-from leaf k n j e i = under-from (subtree-under leaf k n j e i)
+
+-- below a position there are positions only
+pub subtree-positive : (leaf : ℕ → List ℕ) (k n j : ℕ) → 1 ≤ n → (e : Entry) → In e (subtree leaf k n j) → 1 ≤ e .at
+subtree-positive leaf k n j h e i = omega (arith, subtree-from leaf k n j e i)
+
+-- no two entries have the same position
+pub subtree-apart : (leaf : ℕ → List ℕ) (k n j : ℕ) → 1 ≤ n → Apart (subtree leaf k n j)
+unfolding subtree
+subtree-apart leaf zero n j h = apart-one n (leaf j)
+subtree-apart leaf (suc k) n j h =
+    let A = subtree leaf k (2 * n) (2 * j) in
+    let B = subtree leaf k (2 * n + 1) (2 * j + 1) in
+    let C = one n (node leaf (suc k) j) in
+    apart-append (A ++ B) C
+    (apart-append A B (subtree-apart leaf k (2 * n) (2 * j) (omega arith)) (subtree-apart leaf k (2 * n + 1) (2 * j + 1) (omega arith))
+    (λ e f i g q.
+    under-apart (2 * n) (2 * n + 1) (e .at) (λ z. omega arith) (omega arith) (omega arith)
+    (subtree-under leaf k (2 * n) (2 * j) e i) (rw q (subtree-under leaf k (2 * n + 1) (2 * j + 1) f g))))
+    (apart-one n (node leaf (suc k) j))
+    (λ e f i g q.
+    let z = one-is n (node leaf (suc k) j) g .0 in
+    elim (in-cases A B i) [
+      | inl a ↦ omega (arith, subtree-from leaf k (2 * n) (2 * j) e a)
+      | inr b ↦ omega (arith, subtree-from leaf k (2 * n + 1) (2 * j + 1) e b)
+    ])
+
+-- ---- with which values
+
+-- the numbers `layers` below 2 m and 2 m + 1 are those one layer further below m
+below-left : (m layers : ℕ) → (2 * m) * 2 ^ layers ≡ m * 2 ^ suc layers
+below-left m layers = ap (λ (x : ℕ). x * 2 ^ layers) (mul-comm 2 m) ∙ mul-assoc m 2 (2 ^ layers) ∙ ap (λ (x : ℕ). m * x) (sym (pow-succ' 2 layers))
+
+below-right : (m layers : ℕ) → (2 * m + 1) * 2 ^ layers ≡ m * 2 ^ suc layers + 2 ^ layers
+below-right m layers = omega (arith, add-mul (2 * m) 1 (2 ^ layers), one-mul (2 ^ layers), below-left m layers)
+
+-- e is number `offset` from the left, `layers` below the top, with the value of that node
+pub record Place (leaf : ℕ → List ℕ) (k n j : ℕ) (e : Entry) : Type 0 where
+  pub layers : ℕ
+  pub offset : ℕ
+  pub reach : layers ≤ k
+  pub inside : offset < 2 ^ layers
+  pub position : e .at ≡ n * 2 ^ layers + offset
+  pub value : e .hash ≡ node leaf (k - layers) (j * 2 ^ layers + offset)
+
+place-top : (leaf : ℕ → List ℕ) (k n j : ℕ) (e : Entry) → e .at ≡ n → e .hash ≡ node leaf k j → Place leaf k n j e
+place-top leaf k n j e p v =
+    let q : n * 2 ^ 0 + 0 ≡ n = omega arith in
+    let r : j * 2 ^ 0 + 0 ≡ j = omega arith in
+    let z : k - 0 ≡ k = omega arith in
+    record {
+      layers = 0;
+      offset = 0;
+      reach = omega arith;
+      inside = omega arith;
+      position = p ∙ sym q;
+      value = v ∙ ap₂ (λ (x y : ℕ). node leaf x y) (sym z) (sym r);
+    }
+
+place-left : (leaf : ℕ → List ℕ) (k n j : ℕ) (e : Entry) → Place leaf k (2 * n) (2 * j) e → Place leaf (suc k) n j e
+place-left leaf k n j e P =
+    let z : k - P .layers ≡ suc k - suc (P .layers) = omega arith in
+    let r : 2 * j * 2 ^ P .layers + P .offset ≡ j * 2 ^ suc (P .layers) + P .offset = omega (arith, below-left j (P .layers)) in
+    record {
+      layers = suc (P .layers);
+      offset = P .offset;
+      reach = omega (arith, P .reach);
+      inside = omega (arith, P .inside, pow-succ' 2 (P .layers));
+      position = omega (arith, P .position, below-left n (P .layers));
+      value = P .value ∙ ap₂ (λ (x y : ℕ). node leaf x y) z r;
+    }
+
+place-right : (leaf : ℕ → List ℕ) (k n j : ℕ) (e : Entry) → Place leaf k (2 * n + 1) (2 * j + 1) e → Place leaf (suc k) n j e
+place-right leaf k n j e P =
+    let z : k - P .layers ≡ suc k - suc (P .layers) = omega arith in
+    let r : (2 * j + 1) * 2 ^ P .layers + P .offset ≡ j * 2 ^ suc (P .layers) + (2 ^ P .layers + P .offset) = omega (arith, below-right j (P .layers)) in
+    record {
+      layers = suc (P .layers);
+      offset = 2 ^ P .layers + P .offset;
+      reach = omega (arith, P .reach);
+      inside = omega (arith, P .inside, pow-succ' 2 (P .layers));
+      position = omega (arith, P .position, below-right n (P .layers));
+      value = P .value ∙ ap₂ (λ (x y : ℕ). node leaf x y) z r;
+    }
+
+-- every entry has such a place
+pub subtree-value : (leaf : ℕ → List ℕ) (k n j : ℕ) (e : Entry) → In e (subtree leaf k n j) → Place leaf k n j e
+unfolding subtree node
+subtree-value leaf zero n j e i = place-top leaf zero n j e (one-is n (leaf j) i .0) (one-is n (leaf j) i .1)
+subtree-value leaf (suc k) n j e i =
+    elim (subtree-cases leaf k n j e i) [
+      | inl a ↦ place-left leaf k n j e (subtree-value leaf k (2 * n) (2 * j) e a)
+      | inr r ↦ elim r [
+        | inl b ↦ place-right leaf k n j e (subtree-value leaf k (2 * n + 1) (2 * j + 1) e b)
+        | inr t ↦ place-top leaf (suc k) n j e (t .0) (t .1)
+      ]
+    ]
+
+-- and every such place has its entry
+pub subtree-has : (leaf : ℕ → List ℕ) (k n j layers offset : ℕ) → layers ≤ k → offset < 2 ^ layers
+    → Has (n * 2 ^ layers + offset) (node leaf (k - layers) (j * 2 ^ layers + offset)) (subtree leaf k n j)
+subtree-has leaf k n j zero x l h =
+    let q : n ≡ n * 2 ^ 0 + x = omega arith in
+    let r : j ≡ j * 2 ^ 0 + x = omega arith in
+    let z : k ≡ k - 0 = omega arith in
+    has-same (subtree leaf k n j) n (n * 2 ^ 0 + x) (node leaf k j) (node leaf (k - 0) (j * 2 ^ 0 + x)) q (ap₂ (λ (a b : ℕ). node leaf a b) z r) (subtree-top leaf k n j)
+subtree-has leaf zero n j (suc d) x l h = let w : ⊥ = omega arith in absurd w
+subtree-has leaf (suc k) n j (suc d) x l h =
+    let z : k - d ≡ suc k - suc d = omega arith in
+    elim (decLt x (2 ^ d)) [
+      | yes a ↦
+          let q : 2 * n * 2 ^ d + x ≡ n * 2 ^ suc d + x = omega (arith, below-left n d) in
+          let r : 2 * j * 2 ^ d + x ≡ j * 2 ^ suc d + x = omega (arith, below-left j d) in
+          has-same (subtree leaf (suc k) n j) (2 * n * 2 ^ d + x) (n * 2 ^ suc d + x) (node leaf (k - d) (2 * j * 2 ^ d + x)) (node leaf (suc k - suc d) (j * 2 ^ suc d + x))
+          q (ap₂ (λ (a b : ℕ). node leaf a b) z r) (subtree-left leaf k n j _ (subtree-has leaf k (2 * n) (2 * j) d x (omega arith) a))
+      | no g ↦
+          let q : (2 * n + 1) * 2 ^ d + (x - 2 ^ d) ≡ n * 2 ^ suc d + x = omega (arith, below-right n d) in
+          let r : (2 * j + 1) * 2 ^ d + (x - 2 ^ d) ≡ j * 2 ^ suc d + x = omega (arith, below-right j d) in
+          has-same (subtree leaf (suc k) n j) ((2 * n + 1) * 2 ^ d + (x - 2 ^ d)) (n * 2 ^ suc d + x)
+          (node leaf (k - d) ((2 * j + 1) * 2 ^ d + (x - 2 ^ d))) (node leaf (suc k - suc d) (j * 2 ^ suc d + x))
+          q (ap₂ (λ (a b : ℕ). node leaf a b) z r)
+          (subtree-right leaf k n j _ (subtree-has leaf k (2 * n + 1) (2 * j + 1) d (x - 2 ^ d) (omega arith) (omega (arith, pow-succ' 2 d))))
+    ]
+
+-- where the leaves from `from` on are layer p's padding, an entry that covers none before has the padding value of its layer
+pub place-padding : (leaf : ℕ → List ℕ) (p from : ℕ) → ((i : ℕ) → from ≤ i → leaf i ≡ padValue p) → (k n j : ℕ) (e : Entry) (P : Place leaf k n j e)
+    → from ≤ (j * 2 ^ P .layers + P .offset) * 2 ^ (k - P .layers) → e .hash ≡ padValue (p + (k - P .layers))
+place-padding leaf p from h k n j e P l = P .value ∙ node-padding leaf p from h (k - P .layers) (j * 2 ^ P .layers + P .offset) l
+
+-- a run with a layer's padding value past it is that layer
+pub run-layer : (run : List ℕ) (p i : ℕ) → runLeaf run (padValue p) i ≡ layerLeaf run p i
+unfolding runLeaf layerLeaf
+run-layer run p i = refl
+
+pub run-layer-node : (run : List ℕ) (p k j : ℕ) → node (runLeaf run (padValue p)) k j ≡ node (layerLeaf run p) k j
+run-layer-node run p k j = node-same (runLeaf run (padValue p)) (layerLeaf run p) k j (λ i a b. run-layer run p i)
+
+-- what a subtree settles depends only on the leaves below it
+pub subtree-same : (f g : ℕ → List ℕ) (k n j : ℕ) → ((i : ℕ) → j * 2 ^ k ≤ i → i < (j + 1) * 2 ^ k → f i ≡ g i) → subtree f k n j ≡ subtree g k n j
+unfolding subtree
+subtree-same f g zero n j h = ap (one n) (h j (omega arith) (omega arith))
+subtree-same f g (suc k) n j h =
+    ap₂ (λ (a b : List Entry). a ++ b)
+    (ap₂ (λ (a b : List Entry). a ++ b)
+    (subtree-same f g k (2 * n) (2 * j) (λ i a b. h i (omega (arith, below-left j k)) (omega (arith, double j k, below-right j k, add-mul (2 * j + 1) 1 (2 ^ k), add-mul (2 * j) 1 (2 ^ k), one-mul (2 ^ k)))))
+    (subtree-same f g k (2 * n + 1) (2 * j + 1) (λ i a b. h i (omega (arith, below-left j k, below-right j k)) (omega (arith, double j k)))))
+    (ap (one n) (node-same f g (suc k) j h))
+
+-- ---- each with its family
+
+-- the two children of q's parent and that parent, with the hash of the two
+pub record FamilyIn (L : List Entry) (q : ℕ) : Type 0 where
+  pub l : List ℕ
+  pub r : List ℕ
+  pub left : Has (2 * (q / 2)) l L
+  pub right : Has (2 * (q / 2) + 1) r L
+  pub parent : Has (q / 2) (pairHash l r) L
+
+-- a family stays one in a longer list
+pub family-in : {q : ℕ} (L M : List Entry) → ((e : Entry) → In e L → In e M) → FamilyIn L q → FamilyIn M q
+family-in L M f w = record { l = w .l; r = w .r; left = f _ (w .left); right = f _ (w .right); parent = f _ (w .parent) }
+
+pub family-of : (L : List Entry) (q p : ℕ) (l r : List ℕ) → q / 2 ≡ p → Has (2 * p) l L → Has (2 * p + 1) r L → Has p (pairHash l r) L → FamilyIn L q
+family-of L q p l r e a b c = record { l = l; r = r; left = rw e a; right = rw e b; parent = rw e c }
+
+-- an entry is the top, or has its family in the subtree
+pub subtree-family : (leaf : ℕ → List ℕ) (k n j : ℕ) (e : Entry) → In e (subtree leaf k n j)
+    → ((e .at ≡ n) × (e .hash ≡ node leaf k j)) ⊎ FamilyIn (subtree leaf k n j) (e .at)
+unfolding subtree node
+subtree-family leaf zero n j e i = inl (one-is n (leaf j) i)
+subtree-family leaf (suc k) n j e i =
+    let A = subtree leaf k (2 * n) (2 * j) in
+    let B = subtree leaf k (2 * n + 1) (2 * j + 1) in
+    let S = subtree leaf (suc k) n j in
+    let ha : Has (2 * n) (node leaf k (2 * j)) S = subtree-left leaf k n j _ (subtree-top leaf k (2 * n) (2 * j)) in
+    let hb : Has (2 * n + 1) (node leaf k (2 * j + 1)) S = subtree-right leaf k n j _ (subtree-top leaf k (2 * n + 1) (2 * j + 1)) in
+    let hc : Has n (pairHash (node leaf k (2 * j)) (node leaf k (2 * j + 1))) S = subtree-top leaf (suc k) n j in
+    elim (subtree-cases leaf k n j e i) [
+      | inl a ↦ elim (subtree-family leaf k (2 * n) (2 * j) e a)
+          [ inl t ↦ inr (family-of S (e .at) n _ _ (omega (arith, t .0)) ha hb hc) | inr f ↦ inr (family-in A S (subtree-left leaf k n j) f) ]
+      | inr r ↦ elim r [
+        | inl b ↦ elim (subtree-family leaf k (2 * n + 1) (2 * j + 1) e b)
+            [ inl t ↦ inr (family-of S (e .at) n _ _ (omega (arith, t .0)) ha hb hc) | inr f ↦ inr (family-in B S (subtree-right leaf k n j) f) ]
+        | inr t ↦ inl t
+      ]
+    ]

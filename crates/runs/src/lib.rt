@@ -135,10 +135,10 @@ pub fn write_run(
     let r = write_run(s, run, past, b, d, n3, j3);
     let lh = l.hash;
     let rh = r.hash;
-    let h = pair(lh, rh);
-    let a = add_at(s, n, h);
+    let v = pair(lh, rh);
+    let a = add_at(s, n, v);
     let t = l.new + r.new + a;
-    Filled { hash: h, new: t }
+    Filled { hash: v, new: t }
 }
 
 // The position beside n.

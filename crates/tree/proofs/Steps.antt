@@ -31,9 +31,6 @@ height-done b c h e l = omega (arith, height-least c 0 l)
 
 -- ---- shifts that lose nothing
 
-pub shifted-one : (d : ℕ) → d ≤ 63 → (1 * 2 ^ d) % 18446744073709551616 ≡ 2 ^ d
-shifted-one d l = shl-exact {a = 1} 1 d 64 (omega arith) (omega arith) ∙ one-mul (2 ^ d)
-
 pub shifted-block : (d : ℕ) → d ≤ 10 → (16384 * 2 ^ d) % 18446744073709551616 ≡ 16384 * 2 ^ d
 shifted-block d l = shl-exact {a = 16384} 15 d 64 (omega arith) (omega arith)
 

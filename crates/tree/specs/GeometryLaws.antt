@@ -2,12 +2,12 @@
 -- Assumes nothing.
 use mathlib.Core.Path.{_≡_, refl, ap, sym, _∙_}
 use mathlib.Core.Bool.{Bool, true, false, cond, _&&_, and-eq-true-iff}
-use Prim.Native.Nat.{ℕ, zero, suc, _+_, _-_, _*_, _/_, _^_, _≤_, _<_}
+use Prim.Native.Nat.{ℕ, zero, suc, _+_, _-_, _*_, _/_, _%_, _^_, _≤_, _<_}
 use native.Mathlib.Nat.{add-mul, one-mul, mul-one, add-div-right, zero-mul, mul-suc, mul-assoc, mul-comm, pow-succ', div-zero, div-lt-iff-lt-mul, mul-div-cancel-left, one-le-mul, mul-le-mul-left, le-antisymm}
 use native.Mathlib.Decide.{decLe, decLt}
 use native.Mathlib.Omega.{arith}
 use lib.Dec.{leb, eqb}
-use lib.Pow.{pow-pos, pow-mono, pow-lt, pow-add}
+use lib.Pow.{pow-pos, pow-mono, pow-lt, pow-add, shl-exact}
 use borrow.Author.Tests.{le-leb, lt-leb, leb-true, eqb-true, eq-eqb}
 use Rattle.tree.specs.Geometry.{blockLength, ceilDiv, blockCount, heightFrom, height, Padding, covering, nodeNumber, pieceLayer, isPieceLength, pieceCount, blockSize, pieceSize}
 
@@ -498,3 +498,7 @@ node-number-left h l i k = omega (arith, layer-doubles h l k)
 pub node-number-right : (h l i : ℕ) → l < h → nodeNumber h l (2 * i + 1) ≡ 2 * nodeNumber h (suc l) i + 1
 unfolding nodeNumber
 node-number-right h l i k = omega (arith, layer-doubles h l k)
+
+-- a power of two as code shifts it
+pub shifted-one : (d : ℕ) → d ≤ 63 → (1 * 2 ^ d) % 2 ^ 64 ≡ 2 ^ d
+shifted-one d l = shl-exact {a = 1} 1 d 64 (omega arith) (omega arith) ∙ one-mul (2 ^ d)

@@ -1,5 +1,5 @@
 -- By recursion on the layers: each is one halving.
-use Rattle.runs.specs.PathLaws.{ancestor-zero, ancestor-up}
+use Rattle.runs.specs.AncestorLaws.{ancestor-zero, ancestor-up}
 use borrow.Author.Needs.{needs}
 use mathlib.Core.Path.{sym, _∙_}
 use Prim.Native.Nat.{ℕ, _<_, _+_, _-_}

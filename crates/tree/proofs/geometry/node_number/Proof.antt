@@ -1,5 +1,5 @@
 -- The shift gives 2^(h - l), which with an index below it stays below 2^64.
-use Rattle.tree.proofs.Steps.{shifted-one}
+use Rattle.tree.specs.GeometryLaws.{shifted-one}
 use lib.Pow.{pow-mono}
 use Rattle.tree.specs.Geometry.{nodeNumber}
 use native.Mathlib.Omega.{arith}
