@@ -285,10 +285,12 @@ pub sound-in : {N : ℕ} {e : Entry} (L : List Entry) → Sound N L → In e L �
 sound-in (f ∷ L) (more i l S) here = (i, l)
 sound-in (f ∷ L) (more i l S) (there k) = sound-in L S k
 
+-- two sound lists put together are sound
 pub sound-append : {N : ℕ} (A B : List Entry) → Sound N A → Sound N B → Sound N (A ++ B)
 sound-append [] B none T = T
 sound-append (e ∷ A) B (more i l S) T = more i l (sound-append A B S T)
 
+-- so is a list of one hash
 pub sound-one : {N : ℕ} (n : ℕ) (h : List ℕ) → n < N → length h ≡ 32 → Sound N (one n h)
 sound-one n h i l = more i l none
 
@@ -303,6 +305,7 @@ unfolding agrees
 agrees-in s (f ∷ L) a e here = and-eq-true-iff (agreesAt s (e .at) (e .hash)) (agrees s L) .0 a .0
 agrees-in s (f ∷ L) a e (there i) = agrees-in s L (and-eq-true-iff (agreesAt s (f .at) (f .hash)) (agrees s L) .0 a .1) e i
 
+-- and back
 pub in-agrees : (s : List ℕ) (L : List Entry) → ((e : Entry) → In e L → agreesAt s (e .at) (e .hash) ≡ true) → agrees s L ≡ true
 unfolding agrees
 in-agrees s [] k = refl
@@ -319,6 +322,7 @@ pub data Apart : List Entry → Type 0 where
 abbrev pub Consistent : List Entry → Type 0
 Consistent L = (e f : Entry) → In e L → In f L → e .at ≡ f .at → e .hash ≡ f .hash
 
+-- one position is apart
 pub apart-one : (n : ℕ) (h : List ℕ) → Apart (one n h)
 apart-one n h = more (λ f i q. no-entry i) none
 

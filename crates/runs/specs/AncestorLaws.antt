@@ -2,9 +2,13 @@
 -- Assumes nothing.
 use mathlib.Core.Path.{_≡_, refl, ap, sym, _∙_}
 use mathlib.Core.Logic.{_⊎_, inl, inr}
-use Prim.Native.Nat.{ℕ, zero, suc, _+_, _-_, _*_, _/_, _≤_, _<_}
+use Prim.Native.Nat.{ℕ, zero, suc, _+_, _-_, _*_, _/_, _^_, _≤_, _<_}
+use native.Mathlib.Nat.{pow-succ', div-one, div-div-eq-div-mul}
 use native.Mathlib.Decide.{ℕ-discrete}
 use native.Mathlib.Omega.{arith}
+use lib.Pow.{pow-pos}
+use Rattle.tree.specs.Geometry.{nodeNumber}
+use Rattle.tree.specs.GeometryLaws.{node-number-parent}
 use Rattle.cells.specs.CellsLaws.{lt-or-ge}
 use Rattle.runs.specs.Path.{ancestor}
 
@@ -75,11 +79,31 @@ ancestor-two u t q x y p r =
       ]
     ]
 
+-- in a tree of height h, u layers above number i of layer l is number i / 2^u of layer l + u
+pub ancestor-number : (h l i u : ℕ) → l + u ≤ h → ancestor u (nodeNumber h l i) ≡ nodeNumber h (l + u) (i / 2 ^ u)
+unfolding ancestor
+ancestor-number h l i zero a =
+    let e : l + zero ≡ l = omega arith in
+    let f : i / 2 ^ zero ≡ i = div-one i in
+    rw (e, f)
+ancestor-number h l i (suc u) a =
+    let e : suc l + u ≡ l + suc u = omega arith in
+    ap (ancestor u) (sym (node-number-parent h l i (omega arith)))
+    ∙ ancestor-number h (suc l) (i / 2) u (omega arith)
+    ∙ ap (λ (x : ℕ). nodeNumber h x (i / 2 / 2 ^ u)) e
+    ∙ ap (nodeNumber h (l + suc u)) (div-div-eq-div-mul i 2 (2 ^ u) ∙ ap (λ (x : ℕ). i / x) (sym (pow-succ' 2 u)))
+
+-- and it is a position
+pub ancestor-positive : (h l i u : ℕ) → l + u ≤ h → 1 ≤ ancestor u (nodeNumber h l i)
+unfolding nodeNumber
+ancestor-positive h l i u a = omega (arith, ancestor-number h l i u a, pow-pos (h - (l + u)))
+
 -- q is n or a position below it
 pub record Under (n q : ℕ) : Type 0 where
   pub layers : ℕ
   pub is : ancestor layers q ≡ n
 
+-- a position is the first of those below it
 pub under-self : (n q : ℕ) → q ≡ n → Under n q
 unfolding ancestor
 under-self n q e = record { layers = zero; is = e }

@@ -1,14 +1,13 @@
 -- What a path of uncles settles: as code meets it, how much, where, and each position with its family.
 -- All of it holds whatever `pairHash` is. Assumes nothing.
-use mathlib.Core.Path.{_≡_, refl, ap, ap₂, sym, _∙_}
-use mathlib.Core.List.{List, [], _∷_, _++_}
-use mathlib.Core.Bool.{Bool, true, false, _&&_}
+use mathlib.Core.Path.{_≡_, refl, sym, _∙_}
+use mathlib.Core.List.{List, [], _++_}
+use mathlib.Core.Bool.{Bool, true, _&&_}
 use mathlib.Core.Logic.{_⊎_, inl, inr}
 use Prim.Native.Nat.{ℕ, zero, suc, _+_, _-_, _*_, _/_, _%_, _≤_, _<_}
 use native.Mathlib.Decide.{ℕ-discrete}
 use native.Mathlib.Omega.{arith}
 use lib.ListN.{length, length-append}
-use lib.Dec.{eqb}
 use borrow.Author.Tests.{eq-eqb, ne-eqb}
 use Rattle.octets.specs.Octets.{cut}
 use Rattle.octets.specs.OctetsLaws.{cut-length}
@@ -19,7 +18,7 @@ use Rattle.cells.specs.Entries.{Entry, one, agreesAt, agrees, putAll}
 use Rattle.cells.specs.EntriesLaws.{lacks, fresh, agree-one, agree-append, fresh-small, Sound, none, more, In, here, there, Has, in-cases, one-is, no-entry, Apart, apart-one, apart-append}
 use Rattle.runs.specs.Span.{Way}
 use Rattle.runs.specs.Path.{sibling, parentValue, uncle, ancestor, risen, path}
-use Rattle.runs.specs.AncestorLaws.{ancestor-le, ancestor-parent, Under}
+use Rattle.runs.specs.AncestorLaws.{ancestor-le, Under}
 use Rattle.runs.specs.SubtreeLaws.{Wrote, wrote-one, wrote-append, FamilyIn, family-of}
 
 -- ---- beside and above, by cases
@@ -92,10 +91,12 @@ path-small s hashes i u n v = omega (arith, fresh-small s (path hashes i u n v),
 
 -- ---- a call that looks, by its two ways
 
+-- no layer up: nothing to compare
 pub climbed-zero : (s hashes : List ℕ) (i u n : ℕ) (v : List ℕ) → u ≡ 0 → (v ≡ risen hashes i u n v) × (true ≡ agrees s (path hashes i u n v))
 unfolding agrees
 climbed-zero s hashes i u n v e = (sym (risen-zero hashes i u n v e), sym (rw (path-zero hashes i u n v e)))
 
+-- else the tests of the uncle and of the parent, and those further up
 pub climbed-up : (s hashes : List ℕ) (i u n x : ℕ) (v w v2 : List ℕ) (o1 o2 : Bool) (h : List ℕ) (o all : Bool) → (u ≡ 0 → ⊥)
     → w ≡ cut hashes (32 * i) 32 → x ≡ sibling n → v2 ≡ parentValue n v w → o1 ≡ agreesAt s x w → o2 ≡ agreesAt s (n / 2) v2
     → (h ≡ risen hashes (i + 1) (u - 1) (n / 2) v2) × (o ≡ agrees s (path hashes (i + 1) (u - 1) (n / 2) v2))
@@ -116,10 +117,12 @@ climbed-up s hashes i u n x v w v2 o1 o2 h o all ne p y q a b r t =
 
 -- ---- and one that writes
 
+-- no layer up: nothing written
 pub rose-zero : (s hashes : List ℕ) (i u n : ℕ) (v : List ℕ) → u ≡ 0 → Wrote s (path hashes i u n v) 0 s
 unfolding putAll fresh
 rose-zero s hashes i u n v e = rw (path-zero hashes i u n v e) (refl, refl)
 
+-- else the uncle, the parent, and what is further up, one after the other
 pub rose-up : (s hashes : List ℕ) (i u n x : ℕ) (v w v2 : List ℕ) (a1 : ℕ) (s1 : List ℕ) (a2 : ℕ) (s2 : List ℕ) (a : ℕ) (s3 : List ℕ) → (u ≡ 0 → ⊥)
     → w ≡ cut hashes (32 * i) 32 → x ≡ sibling n → v2 ≡ parentValue n v w
     → a1 ≡ lacks s x → s1 ≡ put s x w → a2 ≡ lacks s1 (n / 2) → s2 ≡ put s1 (n / 2) v2
@@ -154,6 +157,7 @@ unfolding risen
 risen-length hashes i zero n v e = e
 risen-length hashes i (suc u) n v e = risen-length hashes (i + 1) u (n / 2) (parentValue n v (uncle hashes i)) (parent-length n v (uncle hashes i))
 
+-- the path is sound, if the string has its uncles and b is even
 pub path-sound : (hashes : List ℕ) (b i u n : ℕ) (v : List ℕ) → 32 * (i + u) ≤ length hashes → b % 2 ≡ 0 → n < b → Sound b (path hashes i u n v)
 unfolding path
 path-sound hashes b i zero n v f e l = none

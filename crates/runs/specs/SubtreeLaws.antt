@@ -1,15 +1,15 @@
 -- What a subtree settles: as code meets it, how much, where, with which values, and each position with its family.
 -- All of it holds whatever `pairHash` is. Assumes nothing.
 use mathlib.Core.Path.{_≡_, refl, ap, ap₂, sym, _∙_}
-use mathlib.Core.List.{List, [], _∷_, _++_}
-use mathlib.Core.Bool.{Bool, true, false, _&&_}
+use mathlib.Core.List.{List, _++_}
+use mathlib.Core.Bool.{Bool, _&&_}
 use mathlib.Core.Logic.{_⊎_, inl, inr}
 use Prim.Native.Nat.{ℕ, zero, suc, _+_, _-_, _*_, _/_, _^_, _≤_, _<_}
-use native.Mathlib.Nat.{pow-succ', add-mul, one-mul, mul-comm, mul-assoc, le-trans, mul-le-mul-right, le-mul-of-pos-right}
+use native.Mathlib.Nat.{pow-succ', add-mul, one-mul, mul-comm, mul-assoc, le-trans, mul-le-mul-left, mul-le-mul-right, le-mul-of-pos-right}
 use native.Mathlib.Decide.{decLt}
 use native.Mathlib.Omega.{arith}
 use lib.ListN.{length, length-append}
-use lib.Pow.{pow-pos, pow-add}
+use lib.Pow.{pow-pos, pow-mono, pow-add}
 use borrow.Author.Tests.{lt-ltb, le-ltb}
 use Rattle.octets.specs.Octets.{Octets, cut}
 use Rattle.octets.specs.OctetsLaws.{cut-length, cut-octets}
@@ -20,7 +20,7 @@ use Rattle.tree.specs.Values.{node, padValue, layerLeaf}
 use Rattle.tree.specs.ValuesLaws.{node-leaf, node-pair, node-same, node-padding}
 use Rattle.cells.specs.Cells.{put}
 use Rattle.cells.specs.Entries.{Entry, one, agreesAt, agrees, putAll}
-use Rattle.cells.specs.EntriesLaws.{lacks, fresh, agree-one, put-one, fresh-one, agree-append, put-append, fresh-append, fresh-small, Sound, none, more, sound-one, sound-append, In, here, there, Has, has-same, in-left, in-right, in-cases, one-is, Apart, apart-one, apart-append}
+use Rattle.cells.specs.EntriesLaws.{lacks, fresh, agree-one, put-one, fresh-one, agree-append, put-append, fresh-append, fresh-small, Sound, sound-one, sound-append, In, here, Has, has-same, in-left, in-right, in-cases, one-is, Apart, apart-one, apart-append}
 use Rattle.runs.specs.Span.{Within, Fit}
 use Rattle.runs.specs.Subtree.{subtree, runLeaf}
 use Rattle.runs.specs.AncestorLaws.{Under, under-self, under-parent, under-from, under-apart}
@@ -67,14 +67,20 @@ pub within-of : (b k n : ℕ) → (n + 1) * 2 ^ k ≤ b → Within b k n
 unfolding Within
 within-of b k n h = h
 
--- a position of layer l lies with all below it in a tree of height h, whose positions are those below 2^(h + 1)
-pub within-tree : (h l i : ℕ) → l ≤ h → i < 2 ^ (h - l) → Within (2 ^ suc h) l (nodeNumber h l i)
+-- a lower subtree with the same top lies below b too
+pub within-lower : (b k m n : ℕ) → m ≤ k → Within b k n → Within b m n
+unfolding Within
+within-lower b k m n l h = le-trans (mul-le-mul-left (n + 1) (pow-mono l)) h
+
+-- a position of layer l lies with the k ≤ l layers below it in the tree of height h, whose positions are those below 2·2^h
+pub within-tree : (h l i k : ℕ) → l ≤ h → i < 2 ^ (h - l) → k ≤ l → Within (2 * 2 ^ h) k (nodeNumber h l i)
 unfolding Within nodeNumber
-within-tree h l i a b =
+within-tree h l i k a b c =
     let e : h - l + l ≡ h = omega arith in
     let p : 2 ^ (h - l) * 2 ^ l ≡ 2 ^ h = sym (pow-add 2 (h - l) l) ∙ ap (λ (x : ℕ). 2 ^ x) e in
     let m : 2 ^ (h - l) + i + 1 ≤ 2 * 2 ^ (h - l) = omega arith in
-    le-trans (mul-le-mul-right (2 ^ l) m) (omega (arith, mul-assoc 2 (2 ^ (h - l)) (2 ^ l), pow-succ' 2 h))
+    within-lower (2 * 2 ^ h) l k (2 ^ (h - l) + i) c
+    (le-trans (mul-le-mul-right (2 ^ l) m) (omega (arith, mul-assoc 2 (2 ^ (h - l)) (2 ^ l))))
 
 module _ {ls b k n j : ℕ} (f : Fit ls b k n j) where
   -- where a subtree fits, its top is below b
@@ -148,12 +154,14 @@ subtree-small s leaf b k n j w = omega (arith, fresh-small s (subtree leaf k n j
 
 -- ---- a call that looks, by its two ways
 
+-- height 0: the test of the top
 pub looked-zero : (s : List ℕ) (leaf : ℕ → List ℕ) (k n j : ℕ) (h : List ℕ) (o : Bool) → k ≡ 0
     → h ≡ leaf j → o ≡ agreesAt s n h → (h ≡ node leaf k j) × (o ≡ agrees s (subtree leaf k n j))
 looked-zero s leaf k n j h o e p q =
     let v : h ≡ node leaf k j = node-leaf leaf h k j e p in
     (v, cc (subtree-zero leaf k n j e, agree-one s n h))
 
+-- else the tests below both children, and that of the top
 pub looked-up : (s : List ℕ) (leaf : ℕ → List ℕ) (k n j : ℕ) (hl : List ℕ) (ol : Bool) (hr : List ℕ) (or : Bool) (h : List ℕ) (o all : Bool) → (k ≡ 0 → ⊥)
     → (hl ≡ node leaf (k - 1) (2 * j)) × (ol ≡ agrees s (subtree leaf (k - 1) (2 * n) (2 * j)))
     → (hr ≡ node leaf (k - 1) (2 * j + 1)) × (or ≡ agrees s (subtree leaf (k - 1) (2 * n + 1) (2 * j + 1)))
@@ -171,13 +179,16 @@ looked-up s leaf k n j hl ol hr or h o all ne L R p q t =
 abbrev pub Wrote : List ℕ → List Entry → ℕ → List ℕ → Type 0
 Wrote s L new s' = (new ≡ fresh s L) × (s' ≡ putAll s L)
 
+-- one position written
 pub wrote-one : (s : List ℕ) (n : ℕ) (h : List ℕ) (a : ℕ) (s' : List ℕ) → a ≡ lacks s n → s' ≡ put s n h → Wrote s (one n h) a s'
 wrote-one s n h a s' p q = (cc (fresh-one s n h), cc (put-one s n h))
 
+-- one list written after another
 pub wrote-append : (s : List ℕ) (A : List Entry) (a : ℕ) (s1 : List ℕ) (B : List Entry) (b : ℕ) (s2 : List ℕ)
     → Wrote s A a s1 → Wrote s1 B b s2 → Wrote s (A ++ B) (a + b) s2
 wrote-append s A a s1 B b s2 p q = (cc (fresh-append s A B), cc (put-append s A B))
 
+-- height 0: the top written
 pub wrote-zero : (s : List ℕ) (leaf : ℕ → List ℕ) (k n j : ℕ) (h : List ℕ) (a : ℕ) (s' : List ℕ) → k ≡ 0
     → h ≡ leaf j → a ≡ lacks s n → s' ≡ put s n h → (h ≡ node leaf k j) × Wrote s (subtree leaf k n j) a s'
 wrote-zero s leaf k n j h a s' e p q r =
@@ -185,6 +196,7 @@ wrote-zero s leaf k n j h a s' e p q r =
     let w = wrote-one s n h a s' q r in
     (v, (cc (subtree-zero leaf k n j e), cc (subtree-zero leaf k n j e)))
 
+-- else what is below the left child, below the right child, and the top, one after the other
 pub wrote-up : (s : List ℕ) (leaf : ℕ → List ℕ) (k n j : ℕ) (hl : List ℕ) (al : ℕ) (s1 hr : List ℕ) (ar : ℕ) (s2 h : List ℕ) (a : ℕ) (s3 : List ℕ) → (k ≡ 0 → ⊥)
     → (hl ≡ node leaf (k - 1) (2 * j)) × Wrote s (subtree leaf (k - 1) (2 * n) (2 * j)) al s1
     → (hr ≡ node leaf (k - 1) (2 * j + 1)) × Wrote s1 (subtree leaf (k - 1) (2 * n + 1) (2 * j + 1)) ar s2
@@ -205,6 +217,7 @@ unfolding node
 node-length leaf h zero j = h j
 node-length leaf h (suc k) j = pair-octets (node leaf k (2 * j)) (node leaf k (2 * j + 1)) .size
 
+-- a subtree over leaves of 32 bytes is sound
 pub subtree-sound : (leaf : ℕ → List ℕ) → ((i : ℕ) → length (leaf i) ≡ 32) → (b k n j : ℕ) → Within b k n → Sound b (subtree leaf k n j)
 unfolding subtree
 subtree-sound leaf h b zero n j w = sound-one n (leaf j) (within-self b zero n w) (h j)
@@ -390,6 +403,14 @@ subtree-has leaf (suc k) n j (suc d) x l h =
           (subtree-right leaf k n j _ (subtree-has leaf k (2 * n + 1) (2 * j + 1) d (x - 2 ^ d) (omega arith) (omega (arith, pow-succ' 2 d))))
     ]
 
+-- in a tree of height h, what stands so below number i of layer l is a number of layer l - layers
+pub number-below : (h l i layers offset : ℕ) → l ≤ h → layers ≤ l → nodeNumber h l i * 2 ^ layers + offset ≡ nodeNumber h (l - layers) (i * 2 ^ layers + offset)
+unfolding nodeNumber
+number-below h l i layers offset a b =
+    let e : h - l + layers ≡ h - (l - layers) = omega arith in
+    let p : 2 ^ (h - l) * 2 ^ layers ≡ 2 ^ (h - (l - layers)) = sym (pow-add 2 (h - l) layers) ∙ ap (λ (x : ℕ). 2 ^ x) e in
+    omega (arith, add-mul (2 ^ (h - l)) i (2 ^ layers))
+
 -- where the leaves from `from` on are layer p's padding, an entry that covers none before has the padding value of its layer
 pub place-padding : (leaf : ℕ → List ℕ) (p from : ℕ) → ((i : ℕ) → from ≤ i → leaf i ≡ padValue p) → (k n j : ℕ) (e : Entry) (P : Place leaf k n j e)
     → from ≤ (j * 2 ^ P .layers + P .offset) * 2 ^ (k - P .layers) → e .hash ≡ padValue (p + (k - P .layers))
@@ -400,6 +421,7 @@ pub run-layer : (run : List ℕ) (p i : ℕ) → runLeaf run (padValue p) i ≡ 
 unfolding runLeaf layerLeaf
 run-layer run p i = refl
 
+-- and its nodes are those above that layer
 pub run-layer-node : (run : List ℕ) (p k j : ℕ) → node (runLeaf run (padValue p)) k j ≡ node (layerLeaf run p) k j
 run-layer-node run p k j = node-same (runLeaf run (padValue p)) (layerLeaf run p) k j (λ i a b. run-layer run p i)
 
@@ -428,6 +450,7 @@ pub record FamilyIn (L : List Entry) (q : ℕ) : Type 0 where
 pub family-in : {q : ℕ} (L M : List Entry) → ((e : Entry) → In e L → In e M) → FamilyIn L q → FamilyIn M q
 family-in L M f w = record { l = w .l; r = w .r; left = f _ (w .left); right = f _ (w .right); parent = f _ (w .parent) }
 
+-- a family, from a parent p that is named otherwise
 pub family-of : (L : List Entry) (q p : ℕ) (l r : List ℕ) → q / 2 ≡ p → Has (2 * p) l L → Has (2 * p + 1) r L → Has p (pairHash l r) L → FamilyIn L q
 family-of L q p l r e a b c = record { l = l; r = r; left = rw e a; right = rw e b; parent = rw e c }
 
