@@ -1,4 +1,3 @@
 pub mod Padded
 pub mod Take
 pub mod TakeLaws
-pub mod Serve

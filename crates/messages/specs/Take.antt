@@ -46,7 +46,7 @@ given m k = runLeaf (runOf m (2 ^ k)) zeroHash
 unfoldable pub settled : List ℕ → Place → List Entry
 settled m p =
     subtree (given m (p .k)) (p .k) (p .top) 0
-        ++ path (unclesOf m (2 ^ p .k) (p .u)) 0 (p .u) (p .top) (node (given m (p .k)) (p .k) 0)
+    ++ path (unclesOf m (2 ^ p .k) (p .u)) 0 (p .u) (p .top) (node (given m (p .k)) (p .k) 0)
 
 -- the anchor's position, and its value as worked out
 unfoldable pub anchor : Place → ℕ
@@ -59,7 +59,7 @@ worked m p = risen (unclesOf m (2 ^ p .k) (p .u)) 0 (p .u) (p .top) (node (given
 unfoldable pub padded : List ℕ → Header → Place → ℕ → Bool
 padded m x p b =
     runPadded (runOf m (x .len)) b (x .base) (x .index) (x .len)
-        && unclesPadded (unclesOf m (x .len) (p .u)) b 0 (p .u) (x .base + p .k) (x .index / x .len)
+    && unclesPadded (unclesOf m (x .len) (p .u)) b 0 (p .u) (x .base + p .k) (x .index / x .len)
 
 -- 6, 7, 8 or 0: anchor held, anchor as worked out, no held hash different
 abbrev pub judged : Bool → Bool → Bool → ℕ

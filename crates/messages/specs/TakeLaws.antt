@@ -13,13 +13,14 @@ use borrow.Author.Tests.{leb-true, eqb-true}
 use Rattle.octets.specs.Octets.{cut, same, zeroHash}
 use Rattle.octets.specs.OctetsLaws.{cut-length, zero-octets}
 use Rattle.numbers.specs.Numbers.{noMessage, otherRoot, ruleBroken, wrongSize, wrongPadding, noAnchor, differs, conflict, unusable}
-use Rattle.tree.specs.Geometry.{height, nodeNumber}
-use Rattle.tree.specs.GeometryLaws.{height-enough, node-number-layer, node-number-parent}
+use Rattle.tree.specs.Geometry.{height, covering}
+use Rattle.tree.specs.GeometryLaws.{covering-most}
 use Rattle.store.specs.Store.{usable, factsRoot, blocksOf, heightOf, positions}
-use Rattle.store.specs.StoreLaws.{Facts, usable-facts, positions-even, positions-some, positions-most, blocks-most, height-most}
+use Rattle.store.specs.StoreLaws.{Facts, usable-facts, positions-even, positions-most, facts-leaves, facts-blocks-most, facts-height}
 use Rattle.runs.specs.Span.{Within}
-use Rattle.runs.specs.SubtreeLaws.{within-of}
+use Rattle.runs.specs.SubtreeLaws.{within-tree}
 use Rattle.runs.specs.Path.{ancestor}
+use Rattle.runs.specs.AncestorLaws.{ancestor-positive}
 use Rattle.header.specs.declared.Header.{Header}
 use Rattle.header.specs.declared.Place.{Place}
 use Rattle.header.specs.Header.{headerSize, maxRun, messageRoot, headerOf, isHashes, isRequest, isReject, rulesKept, placeOf, messageSize}
@@ -65,17 +66,44 @@ pub passes : (form : Bool) (s m : List ℕ) → Passed form s m → headerNumber
 unfolding headerNumber
 passes form s m p = rw (p .store, p .formed, p .root, p .rules)
 
--- ---- the place of a header that keeps the rules
+-- ---- the place of a header that keeps the rules, in a tree whose positions have numbers below n
 
--- positions below n; the run below the top and the anchor above it are among them
 pub record Placed (n : ℕ) (x : Header) (p : Place) : Type 0 where
   pub power : 2 ^ p .k ≡ x .len
   pub some : 2 ≤ x .len
   pub most : x .len ≤ maxRun
+  pub index : x .index < 2 ^ 32
   pub top : Within n (p .k) (p .top)
   pub anchor : 1 ≤ ancestor (p .u) (p .top)
   pub layers : x .base + p .k + p .u ≤ 16
   pub size : messageSize x ≡ headerSize + 32 * (x .len + p .u)
+  pub even : n % 2 ≡ 0
+  pub few : n ≤ 131072
 
-ancestor-number : (u h l i : ℕ) → l + u ≤ h → ancestor u (nodeNumber h l i) ≡ nodeNumber h (l + u) (i / 2 ^ u)
-ancestor-number u h l i e = ?
+placed-at : (x : Header) (b h : ℕ) → b ≤ 2 ^ h → b ≤ 65536 → h ≤ 16 → Kept x b h → Placed (positions h) x (placeOf x h)
+unfolding positions placeOf messageSize
+placed-at x b h e bs hs f =
+    let k : ℕ = height (x .len) in
+    let s : 1 ≤ height (x .len) = log-some (x .len) (f .two) in
+    let i : x .index / x .len < 2 ^ (h - (x .base + height (x .len))) = top-inside x b h e f in
+    let c : covering b (x .base) ≤ b = covering-most b (x .base) in
+    record {
+      power = f .power;
+      some = f .two;
+      most = f .most;
+      index = omega (arith, f .inside);
+      top = within-tree h (x .base + height (x .len)) (x .index / x .len) (height (x .len)) (f .within) i (omega arith);
+      anchor =
+          ancestor-positive h (x .base + height (x .len)) (x .index / x .len) (x .proof - (height (x .len) - 1))
+          (omega (arith, f .within, f .above));
+      layers = omega (arith, f .within, f .above);
+      size = refl;
+      even = positions-even h;
+      few = positions-most h hs;
+    }
+
+pub placed : (form : Bool) (s m : List ℕ) → Passed form s m → Placed (positions (heightOf s)) (headerOf m) (placeIn s m)
+placed form s m p =
+    let f = usable-facts s (p .store) in
+    placed-at (headerOf m) (blocksOf s) (heightOf s) (facts-leaves s f) (facts-blocks-most s f) (facts-height s f)
+    (rules-kept (headerOf m) (blocksOf s) (heightOf s) (p .rules))

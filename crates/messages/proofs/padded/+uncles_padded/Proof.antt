@@ -1,9 +1,7 @@
 use Rattle.messages.proofs.Padding.{uncles-none, uncles-wrong, uncles-right, pad-up}
 use borrow.Author.Needs.{needs}
 use native.Mathlib.Omega.{arith}
-use lib.ListN.{length, getD, set, take, drop}
-use mathlib.Core.Path.{_≡_, refl, ap, sym, _∙_}
-use Prim.Native.Nat.{ℕ, _<_, _+_, _-_, _*_, _≤_, _/_, _%_, _^_}
+use Prim.Native.Nat.{ℕ, _<_, _+_, _-_}
 use borrow.Fn.Kinds.{In}
 use borrow.Fn.PlainCycle.{Measures, is, falls, and}
 use Rattle.messages.proofs.padded.uncles_padded.Reads as uncles-padded
@@ -29,7 +27,6 @@ uncles-padded-below t =
     (falls 1 uncles-padded-kinds.ps _<_ μ-uncles-padded t)
     uncles-padded.Pre
 
--- src/padded.rt:71:9
 uncles-padded-returns : (t : ℕ) → uncles-padded-lts.Need-returns (
   uncle-padded-reads.Asked,
   uncle-padded-reads.Learnt,
@@ -40,7 +37,6 @@ uncles-padded-returns : (t : ℕ) → uncles-padded-lts.Need-returns (
 ) (uncles-padded-at t) uncles-padded.Post
 uncles-padded-returns t c = uncles-none (c .before .before .args .hashes .now) (c .before .before .args .b) (c .before .before .args .i) (c .before .before .args .u) (c .before .before .args .l) (c .before .before .args .x) (c .if1 .taken)
 
--- src/padded.rt:73:13
 uncles-padded-sub-d : (t : ℕ) → uncles-padded-lts.Need-sub-d (
   uncle-padded-reads.Asked,
   uncle-padded-reads.Learnt,
@@ -51,7 +47,6 @@ uncles-padded-sub-d : (t : ℕ) → uncles-padded-lts.Need-sub-d (
 ) (uncles-padded-at t) uncles-padded.Post
 uncles-padded-sub-d t c = search needs
 
--- src/padded.rt:74:14
 uncles-padded-add-i2 : (t : ℕ) → uncles-padded-lts.Need-add-i2 (
   uncle-padded-reads.Asked,
   uncle-padded-reads.Learnt,
@@ -62,7 +57,6 @@ uncles-padded-add-i2 : (t : ℕ) → uncles-padded-lts.Need-add-i2 (
 ) (uncles-padded-at t) uncles-padded.Post
 uncles-padded-add-i2 t c = search needs
 
--- src/padded.rt:75:14
 uncles-padded-add-l2 : (t : ℕ) → uncles-padded-lts.Need-add-l2 (
   uncle-padded-reads.Asked,
   uncle-padded-reads.Learnt,
@@ -73,7 +67,6 @@ uncles-padded-add-l2 : (t : ℕ) → uncles-padded-lts.Need-add-l2 (
 ) (uncles-padded-at t) uncles-padded.Post
 uncles-padded-add-l2 t c = search needs
 
--- src/padded.rt:77:9
 uncles-padded-uncle-padded-requires : (t : ℕ) → uncles-padded-lts.Need-uncle-padded-requires (
   uncle-padded-reads.Asked,
   uncle-padded-reads.Learnt,
@@ -82,11 +75,10 @@ uncles-padded-uncle-padded-requires : (t : ℕ) → uncles-padded-lts.Need-uncle
   uncles-padded-below t,
   uncles-padded.Post,
 ) (uncles-padded-at t) uncles-padded.Post
-uncles-padded-uncle-padded-requires t c κs = 
+uncles-padded-uncle-padded-requires t c κs =
     let q = c .before .before .pre .1 in
     (omega arith, q .2, q .3)
 
--- src/padded.rt:79:13
 uncles-padded-pair-requires : (t : ℕ) → uncles-padded-lts.Need-pair-requires (
   uncle-padded-reads.Asked,
   uncle-padded-reads.Learnt,
@@ -97,7 +89,6 @@ uncles-padded-pair-requires : (t : ℕ) → uncles-padded-lts.Need-pair-requires
 ) (uncles-padded-at t) uncles-padded.Post
 uncles-padded-pair-requires t c κs = search needs
 
--- src/padded.rt:80:9
 uncles-padded-uncles-padded-requires : (t : ℕ) → uncles-padded-lts.Need-uncles-padded-requires (
   uncle-padded-reads.Asked,
   uncle-padded-reads.Learnt,
@@ -106,12 +97,11 @@ uncles-padded-uncles-padded-requires : (t : ℕ) → uncles-padded-lts.Need-uncl
   uncles-padded-below t,
   uncles-padded.Post,
 ) (uncles-padded-at t) uncles-padded.Post
-uncles-padded-uncles-padded-requires t c κs = 
+uncles-padded-uncles-padded-requires t c κs =
     let a = c .before .before .before .before .before .args in
     let q = c .before .before .before .before .before .pre .1 in
     (omega arith, (omega arith, omega arith, omega arith, pad-up (a .v) (c .pair .result) (a .l) (q .3) (c .pair .ensures)))
 
--- src/padded.rt:80:9
 uncles-padded-returns-2 : (t : ℕ) → uncles-padded-lts.Need-returns-2 (
   uncle-padded-reads.Asked,
   uncle-padded-reads.Learnt,
@@ -122,7 +112,6 @@ uncles-padded-returns-2 : (t : ℕ) → uncles-padded-lts.Need-returns-2 (
 ) (uncles-padded-at t) uncles-padded.Post
 uncles-padded-returns-2 t c = uncles-right (c .before .before .before .before .before .before .args .hashes .now) (c .before .before .before .before .before .before .args .b) (c .before .before .before .before .before .before .args .i) (c .before .before .before .before .before .before .args .u) (c .before .before .before .before .before .before .args .l) (c .before .before .before .before .before .before .args .x) (c .before .before .before .uncle-padded .result) (c .uncles-padded .result) (c .before .before .before .before .if1 .left) (c .before .before .before .uncle-padded .ensures) (c .before .before .if2 .taken) (c .uncles-padded .ensures)
 
--- src/padded.rt:58:1
 uncles-padded-returns-3 : (t : ℕ) → uncles-padded-lts.Need-returns-3 (
   uncle-padded-reads.Asked,
   uncle-padded-reads.Learnt,

@@ -1,20 +1,15 @@
-use mathlib.Core.Bool.{true, false}
+use mathlib.Core.Bool.{true}
 use borrow.Author.Tests.{not-true, not-false}
 use mathlib.Core.List.{List}
-use Rattle.octets.specs.Octets.{same, cut}
+use Rattle.octets.specs.Octets.{same}
 use Rattle.messages.specs.Padded.{allFrom}
 use Rattle.messages.proofs.Padding.{all-none, all-more, all-done, all-fails}
 use borrow.Author.Needs.{needs}
 use native.Mathlib.Omega.{arith}
-use Prim.Native.Nat.{ℕ, _+_, _-_, _*_, _≤_, _<_, _/_, _%_, _^_}
-use lib.ListN.{length, getD, set, take, drop}
-use mathlib.Core.Path.{_≡_, refl, ap, sym, _∙_}
+use Prim.Native.Nat.{ℕ, _-_, _≤_}
+use mathlib.Core.Path.{_≡_, ap, sym, _∙_}
 use Rattle.messages.proofs.padded.all_from.Statement.{statement}
 use Rattle.messages.proofs.padded.all_from.Tie as tie
-use Rattle.messages.proofs.padded.all_from.Reads as reads
-use Rattle.messages.proofs.padded.all_from.Lts as lts
-use Rattle.octets.proofs.hash_at.Reads as hash-at-reads
-use Rattle.octets.proofs.same.Reads as same-reads
 
 abbrev Inv-loop : tie.InvT-loop
 Inv-loop run v from n i₀ i = (from ≤ i) × (allFrom run v from i ≡ true)
@@ -22,43 +17,35 @@ Inv-loop run v from n i₀ i = (from ≤ i) × (allFrom run v from i ≡ true)
 abbrev μ-loop : tie.MeasureT-loop
 μ-loop run v from n i₀ i = n - i
 
--- src/padded.rt:20:5
 loop-holds : tie.Need-loop-holds Inv-loop μ-loop
-loop-holds c = 
+loop-holds c =
     let a = c .before .args in
     (omega arith, all-none (a .run .now) (a .v) (a .from) (a .from) (omega arith))
 
--- src/padded.rt:21:30
 mul-hash-at : tie.Need-mul-hash-at Inv-loop μ-loop
 mul-hash-at c = search needs
 
--- src/padded.rt:21:13
 hash-at-requires : tie.Need-hash-at-requires Inv-loop μ-loop
 hash-at-requires c κs = search needs
 
--- src/padded.rt:22:13
 same-requires : tie.Need-same-requires Inv-loop μ-loop
 same-requires c κs = search needs
 
--- src/padded.rt:24:13
 returns : tie.Need-returns Inv-loop μ-loop
-returns c = 
+returns c =
     let a = c .before .before .before .before .before .before .args in
     let l = c .before .before .before .before .loop in
     all-fails (a .run .now) (a .v) (a .from) (a .n) (l .i) (l .inv .0) (c .before .before .before .loop-test .taken)
     (ap (λ (h : List ℕ). same h (a .v)) (sym (c .before .before .hash-at .ensures)) ∙ sym (c .before .same .ensures) ∙ not-true _ (c .if1 .taken))
 
--- src/padded.rt:26:9
 add-i : tie.Need-add-i Inv-loop μ-loop
 add-i c = search needs
 
--- src/padded.rt:20:5
 loop-less : tie.Need-loop-less Inv-loop μ-loop
 loop-less c = search needs
 
--- src/padded.rt:20:5
 loop-again : tie.Need-loop-again Inv-loop μ-loop
-loop-again c = 
+loop-again c =
     let a = c .before .before .before .before .before .before .args in
     let l = c .before .before .before .before .loop in (
       omega arith,
@@ -66,9 +53,8 @@ loop-again c =
           (ap (λ (h : List ℕ). same h (a .v)) (sym (c .before .before .hash-at .ensures)) ∙ sym (c .before .same .ensures) ∙ not-false _ (c .if1 .left)),
     )
 
--- src/padded.rt:15:1
 returns-2 : tie.Need-returns-2 Inv-loop μ-loop
-returns-2 c = 
+returns-2 c =
     let a = c .before .before .before .args in
     let l = c .before .loop in
     all-done (a .run .now) (a .v) (a .from) (a .n) (l .i) (c .loop-test .left) (l .inv .1)

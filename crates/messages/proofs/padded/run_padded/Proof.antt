@@ -1,42 +1,27 @@
 use Rattle.messages.proofs.Padding.{run-past, run-before}
-use native.Mathlib.Omega.{arith}
-use Prim.Native.Nat.{ℕ, _+_, _-_, _*_, _≤_, _<_, _/_, _%_, _^_}
-use lib.ListN.{length, getD, set, take, drop}
-use mathlib.Core.Path.{_≡_, refl, ap, sym, _∙_}
+use Prim.Native.Nat.{_-_}
 use borrow.Author.Needs.{needs}
 use Rattle.messages.proofs.padded.run_padded.Statement.{statement}
 use Rattle.messages.proofs.padded.run_padded.Tie as tie
-use Rattle.messages.proofs.padded.run_padded.Reads as reads
-use Rattle.messages.proofs.padded.run_padded.Lts as lts
-use Rattle.messages.proofs.padded.all_from.Reads as all-from-reads
-use Rattle.tree.proofs.geometry.covering.Reads as covering-reads
-use Rattle.tree.proofs.values.pad_value.Reads as pad-value-reads
 
--- src/padded.rt:36:9
 covering-requires : tie.Need-covering-requires
 covering-requires c κs = search needs
 
--- src/padded.rt:37:9
 pad-value-requires : tie.Need-pad-value-requires
 pad-value-requires c κs = search needs
 
--- src/padded.rt:39:9
 all-from-requires : tie.Need-all-from-requires
 all-from-requires c κs = search needs
 
--- src/padded.rt:39:9
 returns : tie.Need-returns
 returns c = run-past (c .before .before .before .before .before .args .run .now) (c .before .before .pad-value .result) (c .before .before .before .before .before .args .b) (c .before .before .before .before .before .args .base) (c .before .before .before .before .before .args .index) (c .before .before .before .before .before .args .len) (c .before .before .before .covering .result) (c .all-from .result) (c .before .before .before .covering .ensures) (c .before .before .pad-value .ensures) (c .before .if1 .taken) (c .all-from .ensures)
 
--- src/padded.rt:41:22
 sub-all-from : tie.Need-sub-all-from
 sub-all-from c = search needs
 
--- src/padded.rt:41:5
 all-from-requires-2 : tie.Need-all-from-requires-2
 all-from-requires-2 c κs = search needs
 
--- src/padded.rt:32:1
 returns-2 : tie.Need-returns-2
 returns-2 c = run-before (c .before .before .before .before .before .args .run .now) (c .before .before .pad-value .result) (c .before .before .before .before .before .args .b) (c .before .before .before .before .before .args .base) (c .before .before .before .before .before .args .index) (c .before .before .before .before .before .args .len) (c .before .before .before .covering .result) (c .all-from2 .result) (c .before .before .before .covering .ensures) (c .before .before .pad-value .ensures) (c .all-from2 .ensures)
 
