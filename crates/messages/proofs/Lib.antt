@@ -1,2 +1,3 @@
 pub mod Padding
 pub mod Numbers
+pub mod Taking

@@ -68,12 +68,13 @@ judged true false b = differs
 judged true true false = conflict
 judged true true true = 0
 
+unfoldable pub anchored : List ℕ → List ℕ → Place → ℕ
+anchored s m p = judged (heldAt s (anchor p)) (same (hashAt s (anchor p)) (worked m p)) (agrees s (settled m p))
+
 -- 4, 5 and then those
 unfoldable pub bodyNumber : List ℕ → List ℕ → Header → Place → ℕ
 bodyNumber s m x p =
-    cond (eqb (length m) (messageSize x))
-    (cond (padded m x p (blocksOf s)) (judged (heldAt s (anchor p)) (same (hashAt s (anchor p)) (worked m p)) (agrees s (settled m p))) wrongPadding)
-    wrongSize
+    cond (eqb (length m) (messageSize x)) (cond (padded m x p (blocksOf s)) (anchored s m p) wrongPadding) wrongSize
 
 abbrev pub placeIn : List ℕ → List ℕ → Place
 placeIn s m = placeOf (headerOf m) (heightOf s)

@@ -107,3 +107,31 @@ placed form s m p =
     let f = usable-facts s (p .store) in
     placed-at (headerOf m) (blocksOf s) (heightOf s) (facts-leaves s f) (facts-blocks-most s f) (facts-height s f)
     (rules-kept (headerOf m) (blocksOf s) (heightOf s) (p .rules))
+
+-- ---- what the functions below the entry points ask for
+
+-- a message of lm bytes carries the run and the uncles
+pub record Carried (lm : ℕ) (x : Header) (p : Place) : Type 0 where
+  pub power : 2 ^ p .k ≡ x .len
+  pub some : 2 ≤ x .len
+  pub most : x .len ≤ maxRun
+  pub index : x .index < 2 ^ 32
+  pub layers : x .base + p .k + p .u ≤ 16
+  pub carries : headerSize + 32 * (x .len + p .u) ≤ lm
+
+-- and a store of ls bytes has the positions below n, the run's and the path's among them
+pub record Ready (ls lm n : ℕ) (x : Header) (p : Place) : Type 0 where
+  pub carried : Carried lm x p
+  pub room : 31 + 33 * n ≤ ls
+  pub top : Within n (p .k) (p .top)
+  pub anchor : 1 ≤ ancestor (p .u) (p .top)
+  pub even : n % 2 ≡ 0
+  pub few : n ≤ 131072
+
+pub placed-carried : {n : ℕ} {x : Header} {p : Place} (lm : ℕ) → Placed n x p → headerSize + 32 * (x .len + p .u) ≤ lm → Carried lm x p
+placed-carried lm q h =
+    record { power = q .power; some = q .some; most = q .most; index = q .index; layers = q .layers; carries = h }
+
+pub placed-ready : {n : ℕ} {x : Header} {p : Place} (ls lm : ℕ) → Placed n x p → 31 + 33 * n ≤ ls → headerSize + 32 * (x .len + p .u) ≤ lm → Ready ls lm n x p
+placed-ready ls lm q r h =
+    record { carried = placed-carried lm q h; room = r; top = q .top; anchor = q .anchor; even = q .even; few = q .few }

@@ -1,0 +1,227 @@
+-- The functions below the entry points, each by one law over plain variables.
+-- Assumes nothing.
+use mathlib.Core.Path.{_≡_, refl, ap, ap₂, sym, _∙_, subst}
+use mathlib.Core.Bool.{Bool, true, false, cond, _&&_}
+use mathlib.Core.List.{List, _++_}
+use Prim.Native.Nat.{ℕ, zero, suc, _+_, _-_, _*_, _/_, _%_, _^_, _≤_, _<_}
+use native.Mathlib.Omega.{arith}
+use native.Mathlib.Decide.{ℕ-discrete}
+use native.Mathlib.Nat.{mod-eq-of-lt}
+use lib.ListN.{length, take, drop}
+use lib.Pow.{pow-mono}
+use lib.Dec.{eqb}
+use borrow.Author.Tests.{eq-eqb, ne-eqb, eqb-true}
+use Rattle.octets.specs.Octets.{cut, same, zeroHash}
+use Rattle.octets.specs.OctetsLaws.{cut-length, zero-octets}
+use Rattle.numbers.specs.Numbers.{refused, done, wrongSize, wrongPadding}
+use Rattle.numbers.specs.declared.Answer.{Answer}
+use Rattle.tree.specs.Values.{node, padValue}
+use Rattle.cells.specs.Cells.{Room, heldAt, hashAt}
+use Rattle.cells.specs.Entries.{Entry, agrees, putAll, newly}
+use Rattle.cells.specs.EntriesLaws.{fresh, Sound, agree-append, put-append, fresh-append, newly-none, count-fresh}
+use Rattle.store.specs.Store.{usable, blocksOf, heightOf, positions}
+use Rattle.store.specs.StoreLaws.{Facts, usable-facts, facts-height, facts-leaves}
+use Rattle.runs.specs.Span.{Within, Fit, Way}
+use Rattle.runs.specs.Subtree.{subtree, runLeaf}
+use Rattle.runs.specs.SubtreeLaws.{within-self, run-leaf-length, subtree-small}
+use Rattle.runs.specs.Path.{ancestor, risen, path}
+use Rattle.runs.specs.PathLaws.{path-small}
+use Rattle.runs.specs.AncestorLaws.{ancestor-le}
+use Rattle.runs.specs.SettledLaws.{settled-sound}
+use Rattle.header.specs.declared.Header.{Header}
+use Rattle.header.specs.declared.Place.{Place}
+use Rattle.header.specs.Header.{headerSize, headerOf, isHashes, isReject, rulesKept, placeOf, messageSize}
+use Rattle.messages.specs.Padded.{runPadded, unclesPadded}
+use Rattle.messages.specs.Take.{headerNumber, runOf, unclesOf, given, settled, anchor, worked, padded, judged, anchored, bodyNumber, placeIn, orElse, takeNumber, takeAfter, takeAnswer, rejectAnswer}
+use Rattle.messages.specs.TakeLaws.{Passed, passed, Placed, placed, Carried, Ready, placed-ready, hashes-form}
+
+-- ---- the message's parts
+
+pub run-part : (m : List ℕ) (len e : ℕ) → e ≡ 49 + 32 * len → take (e - 49) (drop 49 m) ≡ runOf m len
+unfolding runOf cut
+run-part m len e q = let w : e - 49 ≡ 32 * len = omega arith in rw w
+
+pub uncles-part : (m : List ℕ) (len u e f : ℕ) → e ≡ 49 + 32 * len → f ≡ e + 32 * u → take (f - e) (drop e m) ≡ unclesOf m len u
+unfolding unclesOf cut
+uncles-part m len u e f q w = let z : f - e ≡ 32 * u = omega arith in rw (z, q)
+
+pub run-length : (lm : ℕ) (m : List ℕ) (x : Header) (p : Place) → Carried (length m) x p → length (runOf m (x .len)) ≡ 32 * x .len
+unfolding runOf
+run-length lm m x p c = cut-length m 49 (32 * x .len) (omega (arith, c .carries))
+
+pub uncles-length : (m : List ℕ) (x : Header) (p : Place) → Carried (length m) x p → length (unclesOf m (x .len) (p .u)) ≡ 32 * p .u
+unfolding unclesOf
+uncles-length m x p c = cut-length m (49 + 32 * x .len) (32 * p .u) (omega (arith, c .carries))
+
+pub quotient-small : (i d : ℕ) → i < 2 ^ 32 → i / d < 2 ^ 63
+quotient-small i d h = omega (arith, native.Mathlib.Nat.div-le-self i d)
+
+pub shifted-two : (h k : ℕ) → h ≡ k → h ≤ 16 → 2 * 2 ^ h % 2 ^ 64 ≡ 2 * 2 ^ k
+shifted-two h k e l =
+    let w : 2 ^ h ≤ 2 ^ 16 = pow-mono {i = h} {j = 16} l in
+    mod-eq-of-lt (omega arith) ∙ ap (λ (y : ℕ). 2 * 2 ^ y) e
+
+-- ---- number 5
+
+module _ (m : List ℕ) (x : Header) (p : Place) (b : ℕ) (run : List ℕ) (t : Bool) (er : run ≡ runOf m (x .len)) (et : t ≡ runPadded run b (x .base) (x .index) (x .len)) where
+  pub padded-no : t ≡ false → false ≡ padded m x p b
+  unfolding padded
+  padded-no f = let w : runPadded (runOf m (x .len)) b (x .base) (x .index) (x .len) ≡ false = cc in sym (rw w)
+
+  pub padded-yes : (hashes : List ℕ) (r : Bool) → t ≡ true → hashes ≡ unclesOf m (x .len) (p .u)
+      → r ≡ unclesPadded hashes b 0 (p .u) (x .base + p .k) (x .index / x .len) → r ≡ padded m x p b
+  unfolding padded
+  padded-yes hashes r f eh g =
+      let w : runPadded (runOf m (x .len)) b (x .base) (x .index) (x .len) ≡ true = cc in
+      g ∙ ap (λ (h : List ℕ). unclesPadded h b 0 (p .u) (x .base + p .k) (x .index / x .len)) eh ∙ sym (rw w)
+
+-- ---- looking and writing
+
+module _ (m : List ℕ) (x : Header) (p : Place) (power : 2 ^ p .k ≡ x .len) (run past hashes : List ℕ) (er : run ≡ runOf m (x .len)) (ep : past ≡ zeroHash) (eh : hashes ≡ unclesOf m (x .len) (p .u)) where
+  leaf-is : given m (p .k) ≡ runLeaf run past
+  unfolding given
+  leaf-is = cc
+
+  uncles-are : unclesOf m (2 ^ p .k) (p .u) ≡ hashes
+  uncles-are = cc
+
+  pub anchored-by : (s v : List ℕ) (o1 : Bool) (w : List ℕ) (o2 : Bool) (a : ℕ) (held : Bool) (g : List ℕ) (alike all : Bool) (r : ℕ)
+      → (v ≡ node (runLeaf run past) (p .k) 0) × (o1 ≡ agrees s (subtree (runLeaf run past) (p .k) (p .top) 0))
+      → (w ≡ risen hashes 0 (p .u) (p .top) v) × (o2 ≡ agrees s (path hashes 0 (p .u) (p .top) v))
+      → a ≡ ancestor (p .u) (p .top) → held ≡ heldAt s a → g ≡ hashAt s a → alike ≡ same g w → all ≡ (o1 && o2) → r ≡ judged held alike all
+      → r ≡ anchored s m p
+  unfolding anchored anchor worked settled
+  anchored-by s v o1 w o2 a held g alike all r L H ea e1 e2 e3 e4 e5 =
+      let A = subtree (given m (p .k)) (p .k) (p .top) 0 in
+      let B = path (unclesOf m (2 ^ p .k) (p .u)) 0 (p .u) (p .top) (node (given m (p .k)) (p .k) 0) in
+      let l = leaf-is in
+      let u = uncles-are in
+      let ag : all ≡ agrees s (A ++ B) = cc (agree-append s A B) in
+      cc
+
+  pub wrote-by : (s v : List ℕ) (c1 : ℕ) (s1 : List ℕ) (c2 : ℕ) (s2 : List ℕ)
+      → v ≡ node (runLeaf run past) (p .k) 0 → c1 ≡ fresh s (subtree (runLeaf run past) (p .k) (p .top) 0) → s1 ≡ putAll s (subtree (runLeaf run past) (p .k) (p .top) 0)
+      → c2 ≡ fresh s1 (path hashes 0 (p .u) (p .top) v) → s2 ≡ putAll s1 (path hashes 0 (p .u) (p .top) v)
+      → (c1 + c2 ≡ fresh s (settled m p)) × (s2 ≡ putAll s (settled m p))
+  unfolding settled
+  wrote-by s v c1 s1 c2 s2 ev e1 f1 e2 f2 =
+      let A = subtree (given m (p .k)) (p .k) (p .top) 0 in
+      let B = path (unclesOf m (2 ^ p .k) (p .u)) 0 (p .u) (p .top) (node (given m (p .k)) (p .k) 0) in
+      let l = leaf-is in
+      let u = uncles-are in
+      (cc (fresh-append s A B), cc (put-append s A B))
+
+module _ (ls : ℕ) (m : List ℕ) (n : ℕ) (x : Header) (p : Place) (r : Ready ls (length m) n x p) where
+  pub ready-fit : Fit ls n (p .k) (p .top) 0
+  ready-fit = record { room = r .room; top = r .top; index = omega arith }
+
+  pub ready-way : (ls′ : ℕ) → ls′ ≡ ls → (hashes : List ℕ) → hashes ≡ unclesOf m (x .len) (p .u) → Way ls′ (length hashes) n 0 (p .u) (p .top)
+  ready-way ls′ e hashes f =
+      let l : length hashes ≡ 32 * p .u = ap length f ∙ uncles-length m x p (r .carried) in
+      record { room = omega (arith, r .room); uncles = omega arith; even = r .even; below = within-self n (p .k) (p .top) (r .top) }
+
+  pub ready-anchor : (a : ℕ) → a ≡ ancestor (p .u) (p .top) → 31 + 33 * (a + 1) ≤ ls
+  ready-anchor a e = omega (arith, r .room, ancestor-le (p .u) (p .top), within-self n (p .k) (p .top) (r .top))
+
+  pub ready-sum : (s s1 run past hashes v : List ℕ) (c1 c2 : ℕ) → c1 ≡ fresh s (subtree (runLeaf run past) (p .k) (p .top) 0) → c2 ≡ fresh s1 (path hashes 0 (p .u) (p .top) v)
+      → c1 + c2 < 2 ^ 64
+  ready-sum s s1 run past hashes v c1 c2 e f =
+      omega (
+        arith,
+        subtree-small s (runLeaf run past) n (p .k) (p .top) 0 (r .top),
+        path-small s1 hashes 0 (p .u) (p .top) v,
+        r .few,
+        r .carried .layers,
+      )
+
+  pub ready-settled : Sound n (settled m p)
+  unfolding settled given
+  ready-settled =
+      let q = r .carried .power in
+      let l : length (unclesOf m (2 ^ p .k) (p .u)) ≡ 32 * p .u = ap (λ (y : ℕ). length (unclesOf m y (p .u))) q ∙ uncles-length m x p (r .carried) in
+      settled-sound (runLeaf (runOf m (2 ^ p .k)) zeroHash) (run-leaf-length (runOf m (2 ^ p .k)) zeroHash (zero-octets .size))
+      (unclesOf m (2 ^ p .k) (p .u)) n (p .k) (p .top) 0 0 (p .u) (node (runLeaf (runOf m (2 ^ p .k)) zeroHash) (p .k) 0) (r .top) (omega arith) (r .even)
+
+-- ---- the numbers
+
+module _ (s m : List ℕ) (x : Header) (p : Place) (n : ℕ) (q : Placed n x p) where
+  pub body-4 : (length m ≡ 49 + 32 * (x .len + p .u) → ⊥) → wrongSize ≡ bodyNumber s m x p
+  unfolding bodyNumber
+  body-4 ne = sym (rw (ne-eqb (length m) (messageSize x) (λ e. ne (e ∙ q .size))))
+
+  module _ (e : length m ≡ 49 + 32 * (x .len + p .u)) (b : ℕ) (eb : b ≡ blocksOf s) (t : Bool) (et : t ≡ padded m x p b) where
+    pads : t ≡ padded m x p (blocksOf s)
+    pads = et ∙ ap (padded m x p) eb
+
+    pub body-5 : t ≡ false → wrongPadding ≡ bodyNumber s m x p
+    unfolding bodyNumber
+    body-5 f = sym (rw (eq-eqb (length m) (messageSize x) (e ∙ sym (q .size)), ← pads, f))
+
+    pub body-judged : (r : ℕ) → t ≡ true → r ≡ anchored s m p → r ≡ bodyNumber s m x p
+    unfolding bodyNumber
+    body-judged r f g = g ∙ sym (rw (eq-eqb (length m) (messageSize x) (e ∙ sym (q .size)), ← pads, f))
+
+module _ (s m : List ℕ) (form : Bool) (h : ℕ) (ef : form ≡ isHashes m) (eh : h ≡ headerNumber form s m) where
+  pub took-header : (h ≡ 0 → ⊥) → h ≡ takeNumber s m
+  unfolding takeNumber
+  took-header ne =
+      let w : h ≡ headerNumber (isHashes m) s m = cc in
+      let z : eqb (headerNumber (isHashes m) s m) 0 ≡ false = ne-eqb (headerNumber (isHashes m) s m) 0 (λ y. ne (w ∙ y)) in
+      w ∙ sym (rw z)
+
+  pub took-passed : h ≡ 0 → Passed (isHashes m) s m
+  took-passed z = passed (isHashes m) s m (cc)
+
+  pub took-body : (r : ℕ) (x : Header) (p : Place) → h ≡ 0 → x ≡ headerOf m → p ≡ placeIn s m → r ≡ bodyNumber s m x p → r ≡ takeNumber s m
+  unfolding takeNumber
+  took-body r x p z ex ep er =
+      let w : headerNumber (isHashes m) s m ≡ 0 = cc in
+      er ∙ ap₂ (λ (y : Header) (q : Place). bodyNumber s m y q) ex ep ∙ sym (rw (eq-eqb (headerNumber (isHashes m) s m) 0 w))
+
+-- ---- a number of 0, and the whole call
+
+zero-or : (n a : ℕ) → orElse n a ≡ 0 → n ≡ 0
+zero-or n a e = elim (ℕ-discrete n 0) [ yes z ↦ z | no ne ↦ rw (ne-eqb n 0 ne) at e ]
+
+pub taken-passed : (s m : List ℕ) (r : ℕ) → r ≡ takeNumber s m → r ≡ 0 → Passed (isHashes m) s m
+unfolding takeNumber
+taken-passed s m r e z = passed (isHashes m) s m (zero-or (headerNumber (isHashes m) s m) (bodyNumber s m (headerOf m) (placeIn s m)) (sym e ∙ z))
+
+body-zero : (n a : ℕ) → orElse n a ≡ 0 → a ≡ 0
+body-zero n a e = rw (eq-eqb n 0 (zero-or n a e)) at e
+
+sized : (t u : Bool) (a : ℕ) → cond t (cond u a wrongPadding) wrongSize ≡ 0 → t ≡ true
+sized true u a e = refl
+sized false u a e = let w : ⊥ = omega arith in absurd w
+
+body-sized : (s m : List ℕ) (x : Header) (p : Place) → bodyNumber s m x p ≡ 0 → length m ≡ messageSize x
+unfolding bodyNumber
+body-sized s m x p e =
+    eqb-true (length m) (messageSize x) (sized (eqb (length m) (messageSize x)) (padded m x p (blocksOf s)) (anchored s m p) e)
+
+pub taken-size : (s m : List ℕ) (r : ℕ) → r ≡ takeNumber s m → r ≡ 0 → length m ≡ messageSize (headerOf m)
+unfolding takeNumber
+taken-size s m r e z =
+    body-sized s m (headerOf m) (placeIn s m) (body-zero (headerNumber (isHashes m) s m) (bodyNumber s m (headerOf m) (placeIn s m)) (sym e ∙ z))
+
+pub taken-ready : (s m : List ℕ) (r : ℕ) → r ≡ takeNumber s m → r ≡ 0 → Ready (length s) (length m) (positions (heightOf s)) (headerOf m) (placeIn s m)
+taken-ready s m r e z =
+    let P = taken-passed s m r e z in
+    let q = placed (isHashes m) s m P in
+    placed-ready (length s) (length m) q (usable-facts s (P .store) .room) (omega (arith, taken-size s m r e z, q .size))
+
+pub take-refused : (s m : List ℕ) (r : ℕ) → r ≡ takeNumber s m → (r ≡ 0 → ⊥) → (refused r ≡ takeAnswer s m) × (s ≡ takeAfter s m)
+unfolding takeAnswer takeAfter
+take-refused s m r e ne =
+    let z : eqb (takeNumber s m) 0 ≡ false = ne-eqb (takeNumber s m) 0 (λ y. ne (e ∙ y)) in
+    rw z (cc (newly-none (positions (heightOf s)) s), refl)
+
+pub take-done : (s m s′ : List ℕ) (r c : ℕ) (p : Place) → r ≡ takeNumber s m → r ≡ 0 → p ≡ placeIn s m → c ≡ fresh s (settled m p) → s′ ≡ putAll s (settled m p)
+    → (done c ≡ takeAnswer s m) × (s′ ≡ takeAfter s m)
+unfolding takeAnswer takeAfter
+take-done s m s′ r c p e z ep ec es =
+    let t : takeNumber s m ≡ 0 = sym e ∙ z in
+    let R = taken-ready s m r e z in
+    let n = positions (heightOf s) in
+    let k = count-fresh (positions (heightOf s)) (settled m (placeIn s m)) s (R .room) (ready-settled (length s) m (positions (heightOf s)) (headerOf m) (placeIn s m) R) in
+    rw (eq-eqb (takeNumber s m) 0 t) (cc, cc)
