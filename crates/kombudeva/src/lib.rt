@@ -2,12 +2,23 @@
 // Each passes its arguments on to the crate that decides, and hands back the answer as a C struct.
 ghost use mathlib.Core.Path.{_≡_};
 ghost use Rattle.sha256.specs.Answer.{hashedOf};
-ghost use Rattle.kombudeva.specs.Boundary.{hashAnswer};
+ghost use Rattle.store.specs.Store.{sizeAnswer, openAnswer, openAfter, heldAnswer};
+ghost use Rattle.messages.specs.Take.{takeAnswer, takeAfter, rejectAnswer};
+ghost use Rattle.kombudeva.specs.Boundary.{countAnswer, hashAnswer};
+use numbers::Answer;
+use sha256::Hashed;
 
 // kd_hash
 #[repr(C)]
 pub struct Hash {
     pub bytes: [u8; 32],
+}
+
+// kd_answer
+#[repr(C)]
+pub struct CountAnswer {
+    pub number: u32,
+    pub count: u64,
 }
 
 // kd_hashed
@@ -17,15 +28,65 @@ pub struct HashAnswer {
     pub hash: Hash,
 }
 
-#[no_mangle]
-pub extern "C" fn kd_sha256(string: &[u8]) -> HashAnswer
-    ensures { λ r. ⌜ r ≡ hashAnswer (hashedOf (now (string .entry))) ⌝ }
+fn count_answer(r: Answer) -> CountAnswer
+    ensures { λ a. ⌜ a ≡ countAnswer r ⌝ }
 {
-    let r = sha256::sha256(string);
-    let h = r.hash;
-    let hash = Hash { bytes: h };
+    CountAnswer {
+        number: r.number,
+        count: r.count,
+    }
+}
+
+fn hash_answer(r: Hashed) -> HashAnswer
+    ensures { λ a. ⌜ a ≡ hashAnswer r ⌝ }
+{
+    let bytes = r.hash;
+    let hash = Hash { bytes };
     HashAnswer {
         number: r.number,
         hash,
     }
+}
+
+#[no_mangle]
+pub extern "C" fn kd_sha256(string: &[u8]) -> HashAnswer
+    ensures { λ r. ⌜ r ≡ hashAnswer (hashedOf (now (string .entry))) ⌝ }
+{
+    hash_answer(sha256::sha256(string))
+}
+
+#[no_mangle]
+pub extern "C" fn kd_store_size(length: u64, piece_length: u64) -> CountAnswer
+    ensures { λ r. ⌜ r ≡ countAnswer (sizeAnswer length «piece_length») ⌝ }
+{
+    count_answer(store::store_size(length as usize, piece_length as usize))
+}
+
+#[no_mangle]
+pub extern "C" fn kd_open(s: &mut [u8], length: u64, piece_length: u64, root: Hash) -> CountAnswer
+    ensures { λ r. ⌜ (r ≡ countAnswer (openAnswer (now (s .entry)) length «piece_length»)) × (now (s .exit) ≡ openAfter (now (s .entry)) length «piece_length» (root .bytes)) ⌝ }
+{
+    let bytes = root.bytes;
+    count_answer(store::open(s, length as usize, piece_length as usize, bytes))
+}
+
+#[no_mangle]
+pub extern "C" fn kd_held(s: &[u8], layer: u64, index: u64) -> HashAnswer
+    ensures { λ r. ⌜ r ≡ hashAnswer (heldAnswer (now (s .entry)) layer index) ⌝ }
+{
+    hash_answer(store::held_hash(s, layer as usize, index as usize))
+}
+
+#[no_mangle]
+pub extern "C" fn kd_take(s: &mut [u8], message: &[u8]) -> CountAnswer
+    ensures { λ r. ⌜ (r ≡ countAnswer (takeAnswer (now (s .entry)) (now (message .entry)))) × (now (s .exit) ≡ takeAfter (now (s .entry)) (now (message .entry))) ⌝ }
+{
+    count_answer(messages::take::take(s, message))
+}
+
+#[no_mangle]
+pub extern "C" fn kd_take_reject(s: &[u8], message: &[u8]) -> CountAnswer
+    ensures { λ r. ⌜ r ≡ countAnswer (rejectAnswer (now (s .entry)) (now (message .entry))) ⌝ }
+{
+    count_answer(messages::take::take_reject(s, message))
 }
