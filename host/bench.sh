@@ -57,7 +57,7 @@ openssl_rows() {
     fi
 }
 
-lscpu | awk -F': *' '/^Model name/ { print $2; exit }'
+lscpu | awk -F': *' '/^Model name/ && !seen++ { print $2 }'
 echo "library $KD_LIB"
 "${RUSTC:-rustc}" --version
 [ -n "$KD_RUN" ] && echo "Times UNDER THE EMULATOR on $(uname -m): they say nothing about an x86-64"

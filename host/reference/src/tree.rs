@@ -1,6 +1,8 @@
 //! The v2 hash tree of a file: its facts, its geometry, its values. Section "The tree" of document 01.
 
 use crate::sha256::{pair, sha256, Hash};
+use std::iter::successors;
+use std::sync::OnceLock;
 
 pub const BLOCK: u64 = 16384;
 pub const LONGEST_FILE: u64 = 1 << 30;
@@ -109,7 +111,9 @@ fn part_size(length: u64, part: u64, number: u64) -> Option<u64> {
 
 /// The padding value of a layer: 32 zero bytes, and above the hash of two of the layer below.
 pub fn padding(layer: u64) -> Hash {
-    (0..layer).fold([0; 32], |below, _| pair(&below, &below))
+    static TABLE: OnceLock<Vec<Hash>> = OnceLock::new();
+    let above = |below: &Hash| Some(pair(below, below));
+    TABLE.get_or_init(|| successors(Some([0; 32]), above).take(64).collect())[layer as usize]
 }
 
 /// Every position of the tree over a run of 2^k hashes that begins at `first`, the run included, from the bottom up;
