@@ -281,3 +281,18 @@ pub fn run(random: &mut Random, compared: &mut Comparison, mut go_on: impl FnMut
         compared.ask(&Call::new(Entry::TorrentPath).input(torrent).numbers(file, element));
     }
 }
+
+/// One small torrent with each of its bytes changed in turn, taken out, and with one put before it.
+pub fn run_through_every_byte(random: &mut Random, compared: &mut Comparison) {
+    let torrent = good(random).encoded();
+    for at in 0..torrent.len() {
+        let mut changed = vec![torrent.clone(); 4];
+        changed[0][at] ^= 1;
+        changed[1][at] = random.pick(b"dlie0123456789:-");
+        changed[2].remove(at);
+        changed[3].insert(at, random.pick(b"dlie0123456789:-"));
+        for torrent in changed {
+            compared.ask(&Call::new(Entry::TorrentRead).input(torrent));
+        }
+    }
+}

@@ -61,3 +61,10 @@ fn torrents_of_all_kinds() {
         compare("torrents", |random, compared, go_on| torrents::run(random, compared, go_on));
     }
 }
+
+#[test]
+fn a_torrent_with_each_byte_changed() {
+    if is_declared(Entry::TorrentRead) {
+        compare("every byte", |random, compared, _| torrents::run_through_every_byte(random, compared));
+    }
+}
