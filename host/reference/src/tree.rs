@@ -32,7 +32,7 @@ pub fn piece_length_in_range(piece_length: u64) -> bool {
 
 /// ceil(amount / 2^layer).
 pub fn halved(amount: u64, layer: u64) -> u64 {
-    (0..layer).fold(amount, |rest, _| rest / 2 + rest % 2)
+    (0..layer).fold(amount, |rest, _| rest.div_ceil(2))
 }
 
 impl Facts {
@@ -42,7 +42,7 @@ impl Facts {
 
     /// B, the number of blocks.
     pub fn blocks(&self) -> u64 {
-        (self.length + BLOCK - 1) / BLOCK
+        self.length.div_ceil(BLOCK)
     }
 
     /// h, the least with 2^h at least B.
@@ -75,7 +75,7 @@ impl Facts {
     }
 
     pub fn pieces(&self) -> u64 {
-        (self.length + self.piece_length - 1) / self.piece_length
+        self.length.div_ceil(self.piece_length)
     }
 
     /// Bytes of block `block`, or `None` past the file.

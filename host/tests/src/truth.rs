@@ -17,7 +17,7 @@ pub struct Truth {
 impl Truth {
     /// A file of which only the leaves are known: cheap, and as good as any file for messages.
     pub fn of_leaves(length: u64, piece_length: u64, random: &mut Random) -> Truth {
-        let blocks = (length + BLOCK - 1) / BLOCK;
+        let blocks = length.div_ceil(BLOCK);
         Truth::new(length, piece_length, (0..blocks).map(|_| random.hash()).collect(), Vec::new())
     }
 
