@@ -1,5 +1,6 @@
 #!/bin/bash
-# SHA-256 by the proved library against plain Rust and OpenSSL: `make bench`. KD_LIB names another library.
+# SHA-256 by the proved library against plain Rust and OpenSSL, and the stack it needs: `make bench`. KD_LIB names
+# another library.
 # Where the machine is not an x86-64, times under the emulator mean nothing, and instructions are counted as well.
 set -euo pipefail
 cd "$(dirname "$0")"
@@ -68,4 +69,6 @@ if [ -n "$KD_RUN" ]; then
     printf '%9s %-14s %12s %18s\n' bytes version instructions ratio
     counted
 fi
+$KD_CC -O2 -Wall -Wextra -Werror -I ../include bench/stack.c "$KD_LIB" -o "$work/stack"
+$KD_RUN "$work/stack"
 if command -v openssl > /dev/null; then openssl_rows; fi
