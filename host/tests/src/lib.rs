@@ -5,6 +5,7 @@ pub mod call;
 pub mod compare;
 pub mod fillings;
 pub mod random;
+pub mod replays;
 pub mod sessions;
 pub mod torrents;
 pub mod truth;
