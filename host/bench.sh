@@ -65,7 +65,7 @@ echo "library $KD_LIB"
 printf '%9s %-14s %12s %10s %7s\n' bytes version ns MB/s ratio
 $KD_RUN "$bench" | tee "$work/times"
 if [ -n "$KD_RUN" ]; then
-    echo 'x86-64 instructions for 64 KiB, counted by the emulator: the same on every machine'
+    echo 'x86-64 instructions for 64 KiB, counted by the emulator: they do not depend on the machine'
     printf '%9s %-14s %12s %18s\n' bytes version instructions ratio
     counted
 fi

@@ -130,27 +130,29 @@ pub fn by_reference(call: &Call) -> Outcome {
     Outcome { given, store, input, out }
 }
 
-/// A memory with a fence behind it, to see a byte written past the end.
+/// A memory between two fences, to see a byte written outside; the first one also puts it at an odd address.
 struct Fenced {
     bytes: Vec<u8>,
     size: usize,
 }
 
-const FENCE: [u8; 64] = [0xfe; 64];
+const BEFORE: [u8; 13] = [0xfd; 13];
+const BEHIND: [u8; 64] = [0xfe; 64];
 
 impl Fenced {
     fn new(bytes: &[u8]) -> Fenced {
-        Fenced { bytes: [bytes, &FENCE].concat(), size: bytes.len() }
+        Fenced { bytes: [&BEFORE, bytes, &BEHIND].concat(), size: bytes.len() }
     }
 
     fn lent(&mut self) -> &mut [u8] {
-        black_box(&mut self.bytes[..self.size])
+        black_box(&mut self.bytes[BEFORE.len()..][..self.size])
     }
 
-    fn taken_back(mut self) -> Vec<u8> {
-        assert_eq!(black_box(&self.bytes)[self.size..], FENCE, "bytes were written past a memory's end");
-        self.bytes.truncate(self.size);
-        self.bytes
+    fn taken_back(self) -> Vec<u8> {
+        let (before, rest) = black_box(&self.bytes).split_at(BEFORE.len());
+        let (bytes, behind) = rest.split_at(self.size);
+        assert!(before == BEFORE && behind == BEHIND, "bytes were written outside a memory");
+        bytes.to_vec()
     }
 }
 
