@@ -1,5 +1,6 @@
 #!/bin/bash
-# SHA-256 by the proved library against plain Rust and OpenSSL: `make bench`. KD_LIB names another library.
+# SHA-256 by the proved library against plain Rust and OpenSSL, and the stack it needs: `make bench`. KD_LIB names
+# another library.
 # Where the machine is not an x86-64, times under the emulator mean nothing, and instructions are counted as well.
 set -euo pipefail
 cd "$(dirname "$0")"
@@ -57,15 +58,17 @@ openssl_rows() {
     fi
 }
 
-lscpu | awk -F': *' '/^Model name/ { print $2; exit }'
+lscpu | awk -F': *' '/^Model name/ && !seen++ { print $2 }'
 echo "library $KD_LIB"
 "${RUSTC:-rustc}" --version
 [ -n "$KD_RUN" ] && echo "Times UNDER THE EMULATOR on $(uname -m): they say nothing about an x86-64"
 printf '%9s %-14s %12s %10s %7s\n' bytes version ns MB/s ratio
 $KD_RUN "$bench" | tee "$work/times"
 if [ -n "$KD_RUN" ]; then
-    echo 'x86-64 instructions for 64 KiB, counted by the emulator: the same on every machine'
+    echo 'x86-64 instructions for 64 KiB, counted by the emulator: they do not depend on the machine'
     printf '%9s %-14s %12s %18s\n' bytes version instructions ratio
     counted
 fi
+$KD_CC -O2 -Wall -Wextra -Werror -I ../include bench/stack.c "$KD_LIB" -o "$work/stack"
+$KD_RUN "$work/stack"
 if command -v openssl > /dev/null; then openssl_rows; fi

@@ -99,7 +99,7 @@ mod tests {
     }
 
     fn layer_of(bytes: &[u8], piece_layer: u64) -> Vec<u8> {
-        let blocks = (bytes.len() as u64 + BLOCK - 1) / BLOCK;
+        let blocks = (bytes.len() as u64).div_ceil(BLOCK);
         let in_layer = |at: &Position| at.layer == piece_layer && at.index << piece_layer < blocks;
         of_file(bytes).iter().filter(|(at, _)| in_layer(at)).flat_map(|(_, hash)| *hash).collect()
     }

@@ -10,6 +10,7 @@ use crate::sha256::{sha256, Hash};
 use crate::tree::{piece_length_in_range, Facts, LONGEST_FILE};
 use std::collections::{BTreeSet, HashMap};
 use std::ops::Range;
+use std::slice::from_ref;
 
 pub const LARGEST: usize = 1 << 20;
 
@@ -93,7 +94,7 @@ fn files_in(torrent: &[u8], directory: &Entries, path: &[Range<usize>]) -> Resul
             return Err(WRONG_TREE);
         }
         let node = node.dictionary().ok_or(WRONG_TREE)?;
-        let path = [path, &[name.clone()]].concat();
+        let path = [path, from_ref(name)].concat();
         match node {
             [(key, properties)] if key.is_empty() => files.push(file_of(torrent, properties, path)?),
             _ => files.extend(files_in(torrent, node, &path)?),

@@ -1,6 +1,8 @@
 //! The v2 hash tree of a file: its facts, its geometry, its values. Section "The tree" of document 01.
 
 use crate::sha256::{pair, sha256, Hash};
+use std::iter::successors;
+use std::sync::OnceLock;
 
 pub const BLOCK: u64 = 16384;
 pub const LONGEST_FILE: u64 = 1 << 30;
@@ -30,7 +32,7 @@ pub fn piece_length_in_range(piece_length: u64) -> bool {
 
 /// ceil(amount / 2^layer).
 pub fn halved(amount: u64, layer: u64) -> u64 {
-    (0..layer).fold(amount, |rest, _| rest / 2 + rest % 2)
+    (0..layer).fold(amount, |rest, _| rest.div_ceil(2))
 }
 
 impl Facts {
@@ -40,7 +42,7 @@ impl Facts {
 
     /// B, the number of blocks.
     pub fn blocks(&self) -> u64 {
-        (self.length + BLOCK - 1) / BLOCK
+        self.length.div_ceil(BLOCK)
     }
 
     /// h, the least with 2^h at least B.
@@ -73,7 +75,7 @@ impl Facts {
     }
 
     pub fn pieces(&self) -> u64 {
-        (self.length + self.piece_length - 1) / self.piece_length
+        self.length.div_ceil(self.piece_length)
     }
 
     /// Bytes of block `block`, or `None` past the file.
@@ -109,7 +111,9 @@ fn part_size(length: u64, part: u64, number: u64) -> Option<u64> {
 
 /// The padding value of a layer: 32 zero bytes, and above the hash of two of the layer below.
 pub fn padding(layer: u64) -> Hash {
-    (0..layer).fold([0; 32], |below, _| pair(&below, &below))
+    static TABLE: OnceLock<Vec<Hash>> = OnceLock::new();
+    let above = |below: &Hash| Some(pair(below, below));
+    TABLE.get_or_init(|| successors(Some([0; 32]), above).take(64).collect())[layer as usize]
 }
 
 /// Every position of the tree over a run of 2^k hashes that begins at `first`, the run included, from the bottom up;

@@ -1,3 +1,11 @@
-//! What the host tests share: inputs made by a rule, so that any program can make the same ones.
+//! What the host tests share: inputs made by a rule or from a seed, calls as values, and the comparison of a library
+//! with the reference.
 
+pub mod call;
+pub mod compare;
 pub mod fillings;
+pub mod random;
+pub mod replays;
+pub mod sessions;
+pub mod torrents;
+pub mod truth;

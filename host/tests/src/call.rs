@@ -1,0 +1,212 @@
+//! A call of an entry point as a value, so that any library can be asked it, and a difference can be made small.
+
+use reference::sha256::{sha256, Hash};
+use reference::torrent::{File, Part, Torrent};
+use reference::{messages, pieces, store, torrent, Answer, Hashed};
+use std::hint::black_box;
+
+#[derive(Clone, Copy, Debug, PartialEq, Eq, PartialOrd, Ord)]
+pub enum Entry {
+    Sha256,
+    StoreSize,
+    Open,
+    Held,
+    Take,
+    TakeReject,
+    Serve,
+    LoadLayer,
+    JudgeBlock,
+    JudgePiece,
+    TorrentRead,
+    TorrentFile,
+    TorrentPath,
+}
+
+impl Entry {
+    pub fn name(self) -> &'static str {
+        match self {
+            Entry::Sha256 => "kd_sha256",
+            Entry::StoreSize => "kd_store_size",
+            Entry::Open => "kd_open",
+            Entry::Held => "kd_held",
+            Entry::Take => "kd_take",
+            Entry::TakeReject => "kd_take_reject",
+            Entry::Serve => "kd_serve",
+            Entry::LoadLayer => "kd_load_layer",
+            Entry::JudgeBlock => "kd_judge_block",
+            Entry::JudgePiece => "kd_judge_piece",
+            Entry::TorrentRead => "kd_torrent_read",
+            Entry::TorrentFile => "kd_torrent_file",
+            Entry::TorrentPath => "kd_torrent_path",
+        }
+    }
+}
+
+/// An entry point with all it is given. What it doesn't take is empty.
+#[derive(Clone, Debug, PartialEq, Eq)]
+pub struct Call {
+    pub entry: Entry,
+    pub store: Vec<u8>,
+    /// The message, layer, block, piece, torrent or string.
+    pub input: Vec<u8>,
+    pub out: Vec<u8>,
+    /// The numbers among the arguments, in their order.
+    pub numbers: [u64; 2],
+    pub root: Hash,
+}
+
+impl Call {
+    pub fn new(entry: Entry) -> Call {
+        Call { entry, store: Vec::new(), input: Vec::new(), out: Vec::new(), numbers: [0, 0], root: [0; 32] }
+    }
+
+    pub fn on(self, store: &[u8]) -> Call {
+        Call { store: store.to_vec(), ..self }
+    }
+
+    pub fn input(self, input: Vec<u8>) -> Call {
+        Call { input, ..self }
+    }
+
+    pub fn numbers(self, first: u64, second: u64) -> Call {
+        Call { numbers: [first, second], ..self }
+    }
+}
+
+#[derive(Clone, Copy, Debug, PartialEq, Eq)]
+pub enum Given {
+    Answer(Answer),
+    Hashed(Hashed),
+    Torrent(Torrent),
+    File(File),
+    Part(Part),
+}
+
+impl Given {
+    pub fn number(&self) -> u32 {
+        match self {
+            Given::Answer(answer) => answer.number,
+            Given::Hashed(hashed) => hashed.number,
+            Given::Torrent(torrent) => torrent.number,
+            Given::File(file) => file.number,
+            Given::Part(part) => part.number,
+        }
+    }
+
+    pub fn count(&self) -> u64 {
+        match self {
+            Given::Answer(answer) => answer.count,
+            _ => 0,
+        }
+    }
+}
+
+/// What a call answers, and what it leaves in every memory it was lent.
+#[derive(Clone, Debug, PartialEq, Eq)]
+pub struct Outcome {
+    pub given: Given,
+    pub store: Vec<u8>,
+    pub input: Vec<u8>,
+    pub out: Vec<u8>,
+}
+
+pub fn by_reference(call: &Call) -> Outcome {
+    let Call { mut store, input, mut out, numbers: [first, second], root, entry } = call.clone();
+    let given = match entry {
+        Entry::Sha256 => Given::Hashed(Hashed::done(sha256(&input))),
+        Entry::StoreSize => Given::Answer(store::store_size(first, second)),
+        Entry::Open => Given::Answer(store::open(&mut store, first, second, root)),
+        Entry::Held => Given::Hashed(store::held(&store, first, second)),
+        Entry::Take => Given::Answer(messages::take(&mut store, &input)),
+        Entry::TakeReject => Given::Answer(messages::take_reject(&store, &input)),
+        Entry::Serve => Given::Answer(messages::serve(&store, &input, &mut out)),
+        Entry::LoadLayer => Given::Answer(pieces::load_layer(&mut store, &input)),
+        Entry::JudgeBlock => Given::Answer(pieces::judge_block(&store, first, &input)),
+        Entry::JudgePiece => Given::Answer(pieces::judge_piece(&store, first, &input)),
+        Entry::TorrentRead => Given::Torrent(torrent::torrent_read(&input)),
+        Entry::TorrentFile => Given::File(torrent::torrent_file(&input, first)),
+        Entry::TorrentPath => Given::Part(torrent::torrent_path(&input, first, second)),
+    };
+    Outcome { given, store, input, out }
+}
+
+/// A memory between two fences, to see a byte written outside; the first one also puts it at an odd address.
+struct Fenced {
+    bytes: Vec<u8>,
+    size: usize,
+}
+
+const BEFORE: [u8; 13] = [0xfd; 13];
+const BEHIND: [u8; 64] = [0xfe; 64];
+
+impl Fenced {
+    fn new(bytes: &[u8]) -> Fenced {
+        Fenced { bytes: [&BEFORE, bytes, &BEHIND].concat(), size: bytes.len() }
+    }
+
+    fn lent(&mut self) -> &mut [u8] {
+        black_box(&mut self.bytes[BEFORE.len()..][..self.size])
+    }
+
+    fn taken_back(self) -> Vec<u8> {
+        let (before, rest) = black_box(&self.bytes).split_at(BEFORE.len());
+        let (bytes, behind) = rest.split_at(self.size);
+        assert!(before == BEFORE && behind == BEHIND, "bytes were written outside a memory");
+        bytes.to_vec()
+    }
+}
+
+/// The proved library, over the C boundary.
+pub fn by_library(call: &Call) -> Outcome {
+    let [first, second] = call.numbers;
+    let (mut store, mut input, mut out) = (Fenced::new(&call.store), Fenced::new(&call.input), Fenced::new(&call.out));
+    let (held_bytes, message, room) = (store.lent(), input.lent(), out.lent());
+    let given = match call.entry {
+        Entry::Sha256 => hashed(boundary::sha256(message)),
+        Entry::StoreSize => answer(boundary::store_size(first, second)),
+        Entry::Open => answer(boundary::open(held_bytes, first, second, boundary::Hash { bytes: call.root })),
+        Entry::Held => hashed(boundary::held(held_bytes, first, second)),
+        Entry::Take => answer(boundary::take(held_bytes, message)),
+        Entry::TakeReject => answer(boundary::take_reject(held_bytes, message)),
+        Entry::Serve => answer(boundary::serve(held_bytes, message, room)),
+        Entry::LoadLayer => answer(boundary::load_layer(held_bytes, message)),
+        Entry::JudgeBlock => answer(boundary::judge_block(held_bytes, first, message)),
+        Entry::JudgePiece => answer(boundary::judge_piece(held_bytes, first, message)),
+        Entry::TorrentRead => torrent_of(boundary::torrent_read(message)),
+        Entry::TorrentFile => file_of(boundary::torrent_file(message, first)),
+        Entry::TorrentPath => part_of(boundary::torrent_path(message, first, second)),
+    };
+    Outcome { given, store: store.taken_back(), input: input.taken_back(), out: out.taken_back() }
+}
+
+fn answer(given: boundary::Answer) -> Given {
+    Given::Answer(Answer { number: given.number, count: given.count })
+}
+
+fn hashed(given: boundary::Hashed) -> Given {
+    Given::Hashed(Hashed { number: given.number, hash: given.hash.bytes })
+}
+
+fn torrent_of(given: boundary::Torrent) -> Given {
+    Given::Torrent(Torrent {
+        number: given.number,
+        info_hash: given.info_hash.bytes,
+        piece_length: given.piece_length,
+        files: given.files,
+    })
+}
+
+fn file_of(given: boundary::File) -> Given {
+    Given::File(File {
+        number: given.number,
+        length: given.length,
+        root: given.root.bytes,
+        elements: given.elements,
+        layer_start: given.layer_start,
+        layer_size: given.layer_size,
+    })
+}
+
+fn part_of(given: boundary::Part) -> Given {
+    Given::Part(Part { number: given.number, start: given.start, size: given.size })
+}

@@ -1,0 +1,81 @@
+//! Inputs for the replay program: sessions as records, some of them broken.
+
+use crate::random::Random;
+use crate::truth::{self, Truth};
+use reference::messages::{HASHES, HEAD};
+
+/// A record: its kind, then its body.
+fn record(kind: u8, body: &[u8]) -> Vec<u8> {
+    [&[kind], body].concat()
+}
+
+fn opening(length: u64, piece_length: u64, root: &[u8; 32]) -> Vec<u8> {
+    record(1, &[&length.to_be_bytes()[..], &(piece_length as u32).to_be_bytes(), root].concat())
+}
+
+fn opening_of(truth: &Truth) -> Vec<u8> {
+    opening(truth.facts.length, truth.facts.piece_length, &truth.facts.root)
+}
+
+/// A message of the protocol as records.
+fn message(bytes: &[u8]) -> Vec<u8> {
+    let hashes = bytes[HEAD..].chunks_exact(32).flat_map(|hash| record(3, hash));
+    record(2, &bytes[1..HEAD]).into_iter().chain(hashes).chain(record(4, &[])).collect()
+}
+
+/// A true message about a file, or one with a byte changed.
+fn about(truth: &Truth, random: &mut Random) -> Vec<u8> {
+    let Some(header) = truth.header(random) else { return record(4, &[]) };
+    let mut bytes = truth.message(&header);
+    if random.percent(20) {
+        let at = random.between(1, bytes.len() as u64 - 1) as usize;
+        bytes[at] ^= 1 << random.below(8);
+    }
+    assert_eq!(bytes[0], HASHES);
+    message(&bytes)
+}
+
+/// A refused opening: facts out of range, or more than 512 blocks.
+fn refused_opening(truth: &Truth, random: &mut Random) -> Vec<u8> {
+    let length = random.pick(&[0, 512 * 16384 + 1, 1 << 30, u64::MAX]);
+    opening(length, truth.facts.piece_length, &truth.facts.root)
+}
+
+fn many_hashes(random: &mut Random) -> Vec<u8> {
+    let count = random.pick(&[527, 528, 529, 600]);
+    let hashes = record(3, &[0; 32]).repeat(count);
+    [record(2, &[0; 48]), hashes, record(4, &[])].concat()
+}
+
+/// Something out of turn or unknown.
+fn broken(random: &mut Random) -> Vec<u8> {
+    match random.below(4) {
+        0 => record(3, &[0; 32]),
+        1 => record(4, &[]),
+        2 => record(2, &[0; 48]),
+        _ => vec![random.pick(&[0, 5, 21, 255])],
+    }
+}
+
+/// One input for the program.
+pub fn any(random: &mut Random) -> Vec<u8> {
+    let truth = truth::small(random);
+    let mut input = Vec::new();
+    if random.percent(90) {
+        input.extend(opening_of(&truth));
+    }
+    for _ in 0..random.below(9) {
+        input.extend(match random.below(40) {
+            0 => broken(random),
+            1 => many_hashes(random),
+            2 => refused_opening(&truth, random),
+            3 => opening_of(&truth),
+            4 => opening_of(&truth::small(random)),
+            _ => about(&truth, random),
+        });
+    }
+    if random.percent(20) {
+        input.truncate(random.below(input.len() as u64 + 1) as usize);
+    }
+    input
+}

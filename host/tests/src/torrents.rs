@@ -1,0 +1,298 @@
+//! Torrents, good ones and ones with something wrong: in their values, or in their bytes.
+
+use crate::call::{Call, Entry};
+use crate::compare::Comparison;
+use crate::random::Random;
+use reference::pieces::over_piece_layer;
+use reference::tree::Facts;
+use std::collections::BTreeMap;
+
+/// A value to be encoded. Integers are text, so that forms that aren't strict can be written too.
+#[derive(Clone)]
+pub enum Value {
+    Integer(String),
+    String(Vec<u8>),
+    List(Vec<Value>),
+    Dictionary(Vec<(Vec<u8>, Value)>),
+}
+
+use Value::{Dictionary, Integer, List, String as Text};
+
+impl Value {
+    pub fn encoded(&self) -> Vec<u8> {
+        let mut bytes = Vec::new();
+        self.encode(&mut bytes);
+        bytes
+    }
+
+    fn encode(&self, bytes: &mut Vec<u8>) {
+        match self {
+            Integer(digits) => bytes.extend_from_slice(format!("i{digits}e").as_bytes()),
+            Text(content) => encode_string(content, bytes),
+            List(values) => {
+                bytes.push(b'l');
+                values.iter().for_each(|value| value.encode(bytes));
+                bytes.push(b'e');
+            }
+            Dictionary(entries) => {
+                bytes.push(b'd');
+                for (key, value) in entries {
+                    encode_string(key, bytes);
+                    value.encode(bytes);
+                }
+                bytes.push(b'e');
+            }
+        }
+    }
+
+    /// This value and all below it, counted.
+    fn nodes(&self) -> u64 {
+        1 + match self {
+            List(values) => values.iter().map(Value::nodes).sum(),
+            Dictionary(entries) => entries.iter().map(|(_, value)| value.nodes()).sum(),
+            _ => 0,
+        }
+    }
+
+    /// Value number `number` of those, this one being 0.
+    fn node(&mut self, mut number: u64) -> &mut Value {
+        if number == 0 {
+            return self;
+        }
+        number -= 1;
+        let below: Vec<&mut Value> = match self {
+            List(values) => values.iter_mut().collect(),
+            Dictionary(entries) => entries.iter_mut().map(|(_, value)| value).collect(),
+            _ => Vec::new(),
+        };
+        for value in below {
+            let nodes = value.nodes();
+            if number < nodes {
+                return value.node(number);
+            }
+            number -= nodes;
+        }
+        unreachable!("the number is below the count of nodes")
+    }
+}
+
+fn encode_string(content: &[u8], bytes: &mut Vec<u8>) {
+    bytes.extend_from_slice(format!("{}:", content.len()).as_bytes());
+    bytes.extend_from_slice(content);
+}
+
+fn integer(amount: u64) -> Value {
+    Integer(amount.to_string())
+}
+
+/// A dictionary with its keys in order.
+fn dictionary(entries: BTreeMap<Vec<u8>, Value>) -> Value {
+    Dictionary(entries.into_iter().collect())
+}
+
+/// What is put together while a file tree is made: the layers of its files.
+struct Maker<'a> {
+    random: &'a mut Random,
+    piece_length: u64,
+    layers: BTreeMap<Vec<u8>, Value>,
+}
+
+impl Maker<'_> {
+    fn directory(&mut self, levels: u64) -> Value {
+        let mut entries = BTreeMap::new();
+        for _ in 0..self.random.between(1, 3) {
+            let size = self.random.between(1, 3) as usize;
+            let name = (0..size).map(|_| self.random.pick(b"ab.\xff")).collect();
+            let node = if levels == 0 || self.random.percent(70) { self.file() } else { self.directory(levels - 1) };
+            entries.insert(name, node);
+        }
+        dictionary(entries)
+    }
+
+    fn file(&mut self) -> Value {
+        let mut properties = BTreeMap::new();
+        let length = match self.random.below(10) {
+            0 => 0,
+            1 => self.piece_length,
+            2..=5 => self.random.between(1, self.piece_length),
+            _ => self.random.between(self.piece_length + 1, 6 * self.piece_length).min(1 << 30),
+        };
+        properties.insert(b"length".to_vec(), integer(length));
+        if length > 0 {
+            properties.insert(b"pieces root".to_vec(), Text(self.root(length)));
+        }
+        if self.random.percent(10) {
+            properties.insert(self.random.pick(&[b"attr".to_vec(), b"".to_vec()]), Text(b"x".to_vec()));
+        }
+        Dictionary(vec![(Vec::new(), dictionary(properties))])
+    }
+
+    /// A root for a file of this length. A file longer than the piece length gets a layer that gives it.
+    fn root(&mut self, length: u64) -> Vec<u8> {
+        let facts = Facts { length, piece_length: self.piece_length, root: [0; 32] };
+        if !facts.has_piece_layer() {
+            return if self.random.percent(3) { vec![0; 32] } else { self.random.bytes(32) };
+        }
+        let layer = self.random.bytes(32 * facts.pieces() as usize);
+        let root = over_piece_layer(&facts, &layer).last().unwrap().1.to_vec();
+        self.layers.insert(root.clone(), Text(layer));
+        root
+    }
+}
+
+/// A torrent with nothing wrong, but for a rare pair of files with the zero root.
+pub fn good(random: &mut Random) -> Value {
+    let piece_length = random.pick(&[16384, 32768, 65536, 1 << 24]);
+    let mut maker = Maker { random, piece_length, layers: BTreeMap::new() };
+    let levels = maker.random.below(4);
+    let tree = maker.directory(levels);
+    let layers = dictionary(maker.layers);
+    let info = BTreeMap::from([
+        (b"file tree".to_vec(), tree),
+        (b"meta version".to_vec(), integer(2)),
+        (b"name".to_vec(), Text(b"x".to_vec())),
+        (b"piece length".to_vec(), integer(piece_length)),
+    ]);
+    let mut outer = BTreeMap::from([(b"info".to_vec(), dictionary(info)), (b"piece layers".to_vec(), layers)]);
+    if random.percent(30) {
+        let unknown = random.pick(&[integer(7), List(vec![Dictionary(Vec::new())]), Text(random.clone().bytes(9))]);
+        outer.insert(random.pick(&[b"announce".to_vec(), b"".to_vec(), b"zz".to_vec()]), unknown);
+    }
+    dictionary(outer)
+}
+
+const INTEGERS: [&str; 20] = [
+    "0", "1", "2", "3", "-1", "-0", "", "-", "00", "02", "16383", "16384", "33554432", "1073741824", "1073741825",
+    "9223372036854775807", "9223372036854775808", "-9223372036854775808", "-9223372036854775809",
+    "99999999999999999999999999",
+];
+
+/// Changes one value somewhere.
+fn change_value(torrent: &mut Value, random: &mut Random) {
+    let number = random.below(torrent.nodes());
+    let value = torrent.node(number);
+    if random.percent(15) {
+        *value = random.pick(&[integer(5), Text(b"abc".to_vec()), List(Vec::new()), Dictionary(Vec::new())]);
+        return;
+    }
+    if random.percent(8) {
+        nest(value, random);
+        return;
+    }
+    match value {
+        Integer(digits) => *digits = random.pick(&INTEGERS).to_string(),
+        Text(content) => change_string(content, random),
+        List(values) => values.push(integer(1)),
+        Dictionary(entries) => change_entries(entries, random),
+    }
+}
+
+/// Puts a value inside lists and dictionaries, to about the deepest level.
+fn nest(value: &mut Value, random: &mut Random) {
+    for _ in 0..random.between(20, 34) {
+        let inner = value.clone();
+        *value = if random.percent(50) { List(vec![inner]) } else { Dictionary(vec![(b"a".to_vec(), inner)]) };
+    }
+}
+
+fn change_string(content: &mut Vec<u8>, random: &mut Random) {
+    match random.below(5) {
+        0 => content.clear(),
+        1 => content.push(0),
+        2 => content.truncate(content.len().saturating_sub(32)),
+        3 => content.fill(0),
+        _ => {
+            if let Some(byte) = content.last_mut() {
+                *byte ^= 1;
+            }
+        }
+    }
+}
+
+fn change_entries(entries: &mut Vec<(Vec<u8>, Value)>, random: &mut Random) {
+    if entries.is_empty() {
+        entries.push((random.bytes(32), Text(random.bytes(64))));
+        return;
+    }
+    let which = random.below(entries.len() as u64) as usize;
+    let other = random.below(entries.len() as u64) as usize;
+    match random.below(8) {
+        0 => drop(entries.remove(which)),
+        1 => entries.insert(which, entries[which].clone()),
+        2 => entries.swap(which, other),
+        3 => entries.insert(0, (Vec::new(), Dictionary(vec![(b"length".to_vec(), integer(0))]))),
+        4 => entries[which].1 = entries[other].1.clone(),
+        5 => change_string(&mut entries[which].0, random),
+        6 => entries.push((vec![0xff; 33], integer(0))),
+        _ => entries.clear(),
+    }
+}
+
+/// Gives a file the root of another: at a random place, so that it often hits nothing.
+fn share_a_string(torrent: &mut Value, random: &mut Random) {
+    let nodes = torrent.nodes();
+    let strings: Vec<u64> =
+        (0..nodes).filter(|number| matches!(torrent.node(*number), Text(content) if content.len() == 32)).collect();
+    if strings.len() > 1 {
+        let from = torrent.node(random.pick(&strings)).clone();
+        *torrent.node(random.pick(&strings)) = from;
+    }
+}
+
+/// Changes the bytes themselves.
+fn change_bytes(bytes: &mut Vec<u8>, random: &mut Random) {
+    let at = random.below(bytes.len() as u64) as usize;
+    match random.below(6) {
+        0 => bytes[at] ^= 1 << random.below(8),
+        1 => bytes[at] = random.pick(b"dlie0123456789:-"),
+        2 => drop(bytes.remove(at)),
+        3 => bytes.insert(at, random.pick(b"dlie0123456789:-")),
+        4 => bytes.truncate(at),
+        _ => bytes.extend_from_slice(random.pick(&[&b"e"[..], b"de", b"\0", b"99999999999999999999:"])),
+    }
+}
+
+/// The bytes of a torrent, good or with something wrong.
+pub fn any(random: &mut Random) -> Vec<u8> {
+    let mut torrent = good(random);
+    match random.below(10) {
+        0..=1 => (),
+        2 => share_a_string(&mut torrent, random),
+        _ => (0..random.between(1, 2)).for_each(|_| change_value(&mut torrent, random)),
+    }
+    let mut bytes = torrent.encoded();
+    if random.percent(15) {
+        change_bytes(&mut bytes, random);
+    }
+    if random.below(300) == 0 {
+        bytes.resize((1 << 20) + random.below(2) as usize, b'e');
+    }
+    bytes
+}
+
+/// Torrents, as long as wanted, each asked as a whole, for a file and for a path element.
+pub fn run(random: &mut Random, compared: &mut Comparison, mut go_on: impl FnMut(&Comparison) -> bool) {
+    while go_on(compared) {
+        let torrent = any(random);
+        compared.ask(&Call::new(Entry::TorrentRead).input(torrent.clone()));
+        let file = random.pick(&[0, 0, 1, 2, 3, 99, u64::MAX]);
+        compared.ask(&Call::new(Entry::TorrentFile).input(torrent.clone()).numbers(file, 0));
+        let element = random.pick(&[0, 0, 0, 1, 2, 99, u64::MAX]);
+        compared.ask(&Call::new(Entry::TorrentPath).input(torrent).numbers(file, element));
+    }
+}
+
+/// One small torrent with each of its bytes changed in turn, taken out, and with one put before it.
+pub fn run_through_every_byte(random: &mut Random, compared: &mut Comparison) {
+    let torrent = good(random).encoded();
+    for at in 0..torrent.len() {
+        let mut changed = vec![torrent.clone(); 4];
+        changed[0][at] ^= 1;
+        changed[1][at] = random.pick(b"dlie0123456789:-");
+        changed[2].remove(at);
+        changed[3].insert(at, random.pick(b"dlie0123456789:-"));
+        for torrent in changed {
+            compared.ask(&Call::new(Entry::TorrentRead).input(torrent));
+        }
+    }
+}

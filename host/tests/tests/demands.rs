@@ -1,0 +1,153 @@
+//! The user's demands, tried on the reference: what it is compared by ought to be right itself. Stores are opened by us
+//! and written by nobody else.
+
+use host_tests::call::{by_reference, Call, Entry, Outcome};
+use host_tests::compare::Comparison;
+use host_tests::random::Random;
+use host_tests::sessions::{Hands, Session};
+use host_tests::truth::{self, Truth};
+use reference::messages::{Header, HASHES, HEAD, REQUEST};
+use reference::number::*;
+use reference::sha256::Hash;
+use reference::store::held_at;
+use reference::tree::Position;
+use std::collections::{HashMap, HashSet};
+
+const SESSIONS: u64 = 60;
+const STEPS: u64 = 40;
+
+type Held = HashMap<Position, Hash>;
+
+fn held_in(store: &[u8], truth: &Truth) -> Held {
+    let held = |at: &Position| held_at(store, &truth.facts, *at).map(|hash| (*at, hash));
+    truth.positions().filter_map(|(at, _)| held(at)).collect()
+}
+
+/// Runs sessions on stores of our own, and looks at each call with the store before it and its outcome.
+fn look_at_calls(seed: u64, look: &mut dyn FnMut(&Truth, &Call, &Outcome)) {
+    let mut random = Random::new(seed);
+    let files = truth::with_bytes(&mut random);
+    let mut asked = Comparison::new(&by_reference, &|_| false);
+    for number in 0..SESSIONS {
+        let made = truth::small(&mut random);
+        let truth = files.get(number as usize).unwrap_or(&made);
+        let mut session = Session::begin(truth, Hands::OursAlone, &mut random, &mut asked);
+        for _ in 0..STEPS {
+            let call = session.call(&mut random);
+            let outcome = session.apply(&call, &mut asked);
+            if call.entry != Entry::StoreSize {
+                look(truth, &call, &outcome);
+            }
+        }
+    }
+}
+
+#[test]
+fn knowledge_only_grows_and_is_counted() {
+    look_at_calls(1, &mut |truth, call, outcome| {
+        let (before, after) = (held_in(&call.store, truth), held_in(&outcome.store, truth));
+        assert!(before.iter().all(|(at, hash)| after.get(at) == Some(hash)));
+        let newly = (after.len() - before.len()) as u64;
+        match call.entry {
+            Entry::Take | Entry::LoadLayer => assert_eq!(newly, outcome.given.count()),
+            _ => assert_eq!(newly, 0),
+        }
+    });
+}
+
+#[test]
+fn every_held_hash_is_the_files_own() {
+    look_at_calls(2, &mut |truth, _, outcome| {
+        assert!(held_in(&outcome.store, truth).iter().all(|(at, hash)| truth.at(*at) == *hash));
+        assert_ne!(outcome.given.number(), CONFLICT, "two strings with one SHA-256 would be shown");
+    });
+}
+
+/// The anchor of a message that passes 9, 1, 2, 3 and 4.
+fn anchor_of(message: &[u8]) -> Position {
+    let hashes: Vec<Hash> = message[HEAD..].chunks_exact(32).map(|bytes| bytes.try_into().unwrap()).collect();
+    Header::read(message).settled(&hashes).last().unwrap().0
+}
+
+fn offered(store: &[u8], message: &[u8]) -> u32 {
+    by_reference(&Call::new(Entry::Take).on(store).input(message.to_vec())).given.number()
+}
+
+#[test]
+fn the_number_of_a_reply_stays() {
+    let mut past: Vec<(Vec<u8>, u32)> = Vec::new();
+    let mut root = [0; 32];
+    look_at_calls(3, &mut |truth, call, outcome| {
+        if truth.facts.root != root {
+            root = truth.facts.root;
+            past.clear();
+        }
+        if call.entry != Entry::Take {
+            return;
+        }
+        past.push((call.input.clone(), outcome.given.number()));
+        for (message, number) in &mut past {
+            let now = offered(&outcome.store, message);
+            if *number == NO_ANCHOR {
+                let is_held = held_at(&outcome.store, &truth.facts, anchor_of(message)).is_some();
+                assert_eq!(now == NO_ANCHOR, !is_held);
+                *number = now;
+            }
+            assert_eq!(now, *number);
+        }
+    });
+}
+
+#[test]
+fn true_messages_are_taken_as_soon_as_their_anchor_is_held() {
+    let mut random = Random::new(4);
+    look_at_calls(4, &mut |truth, _, outcome| {
+        if let Some(header) = truth.header(&mut random) {
+            let message = truth.message(&header);
+            let is_held = held_at(&outcome.store, &truth.facts, anchor_of(&message)).is_some();
+            assert_eq!(offered(&outcome.store, &message), if is_held { DONE } else { NO_ANCHOR });
+        }
+    });
+}
+
+#[test]
+fn replies_of_one_store_are_taken_by_another() {
+    let mut random = Random::new(5);
+    let mut last: Option<(Hash, Vec<u8>)> = None;
+    let mut taken = 0;
+    look_at_calls(5, &mut |truth, _, outcome| {
+        if let Some(header) = truth.header(&mut random) {
+            let served = by_reference(&Call {
+                out: vec![0; header.message_size() as usize],
+                ..Call::new(Entry::Serve).on(&outcome.store).input(header.write(REQUEST))
+            });
+            match (&last, served.given.number()) {
+                (Some((root, earlier)), DONE) if *root == truth.facts.root => {
+                    let is_held = held_at(earlier, &truth.facts, anchor_of(&served.out)).is_some();
+                    assert_eq!(offered(earlier, &served.out), if is_held { DONE } else { NO_ANCHOR });
+                    assert_eq!(offered(&outcome.store, &served.out), DONE);
+                    taken += 1;
+                }
+                _ => last = Some((truth.facts.root, outcome.store.clone())),
+            }
+        }
+    });
+    assert!(taken > 100, "{taken}");
+}
+
+#[test]
+fn a_message_settles_as_many_positions_as_the_document_says() {
+    let mut random = Random::new(6);
+    for _ in 0..300 {
+        let truth = truth::small(&mut random);
+        let Some(header) = truth.header(&mut random) else { continue };
+        let message = truth.message(&header);
+        assert_eq!(message[0], HASHES);
+        let hashes: Vec<Hash> = message[HEAD..].chunks_exact(32).map(|bytes| bytes.try_into().unwrap()).collect();
+        let settled = header.settled(&hashes);
+        let distinct: HashSet<Position> = settled.iter().map(|(at, _)| *at).collect();
+        assert_eq!(distinct.len() as u64, 2 * header.length as u64 - 1 + 2 * header.uncles());
+        assert_eq!(distinct.len(), settled.len());
+        assert!(settled.iter().all(|(at, hash)| truth.facts.has_position(*at) && truth.at(*at) == *hash));
+    }
+}

@@ -1,0 +1,247 @@
+//! The comparison itself is tried: libraries that are wrong in one way have to be found out, and every number of every
+//! entry point has to come up.
+
+use host_tests::call::{by_reference, Call, Entry, Given, Outcome};
+use host_tests::compare::{report, Comparison, Library};
+use host_tests::random::Random;
+use host_tests::{sessions, torrents};
+use reference::messages::{Header, HEAD};
+use reference::number::*;
+use reference::sha256::sha256;
+use reference::store::{facts_of, hold, size_of, CELL};
+use reference::{Answer, Hashed};
+
+const CASES: u64 = 12_000;
+const SEED: u64 = 1;
+
+fn sessions(library: Library<'_>) -> Comparison<'_> {
+    let mut compared = Comparison::new(library, &|_| true);
+    sessions::run(&mut Random::new(SEED), &mut compared, |compared| {
+        compared.difference.is_none() && compared.compared < CASES
+    });
+    compared
+}
+
+fn torrents(library: Library<'_>) -> Comparison<'_> {
+    let mut compared = Comparison::new(library, &|_| true);
+    torrents::run(&mut Random::new(SEED), &mut compared, |compared| {
+        compared.difference.is_none() && compared.compared < CASES
+    });
+    compared
+}
+
+fn assert_found_out(name: &str, impostor: Library) {
+    assert!(sessions(impostor).difference.is_some(), "not found out: {name}");
+}
+
+fn answered(call: &Call, number: u32, count: u64) -> Outcome {
+    Outcome { given: Given::Answer(Answer { number, count }), ..untouched(call) }
+}
+
+fn untouched(call: &Call) -> Outcome {
+    Outcome {
+        given: Given::Answer(Answer::done(0)),
+        store: call.store.clone(),
+        input: call.input.clone(),
+        out: call.out.clone(),
+    }
+}
+
+#[test]
+fn every_number_comes_up() {
+    let expected: [(Entry, &[u32]); 9] = [
+        (Entry::StoreSize, &[0, 10]),
+        (Entry::Open, &[0, 9, 10]),
+        (Entry::Held, &[0, 3, 6, 9]),
+        (Entry::Take, &[0, 1, 2, 3, 4, 5, 6, 7, 8, 9]),
+        (Entry::TakeReject, &[0, 1, 2, 3, 9]),
+        (Entry::Serve, &[0, 1, 2, 3, 9, 11, 12]),
+        (Entry::LoadLayer, &[0, 3, 4, 6, 7, 8, 9]),
+        (Entry::JudgeBlock, &[0, 3, 4, 6, 7, 9]),
+        (Entry::JudgePiece, &[0, 3, 4, 6, 7, 8, 9]),
+    ];
+    assert_seen(&sessions(&by_reference), &expected);
+}
+
+#[test]
+fn every_number_of_a_torrent_comes_up() {
+    let refused = [19, 20, 21, 22, 23, 24, 25, 26, 27, 28];
+    let expected: [(Entry, &[u32]); 3] = [
+        (Entry::TorrentRead, &[&[0], &refused[..]].concat()),
+        (Entry::TorrentFile, &[&[0], &refused[..], &[29]].concat()),
+        (Entry::TorrentPath, &[&[0], &refused[..], &[29]].concat()),
+    ];
+    assert_seen(&torrents(&by_reference), &expected);
+}
+
+fn assert_seen(compared: &Comparison, expected: &[(Entry, &[u32])]) {
+    assert_eq!(compared.difference, None);
+    for (entry, numbers) in expected {
+        let seen: Vec<u32> = compared.seen.keys().filter(|(of, _)| of == entry).map(|(_, number)| *number).collect();
+        assert_eq!(seen, *numbers, "{}", entry.name());
+    }
+}
+
+#[test]
+fn takes_that_never_or_always_say_yes() {
+    assert_found_out("always 6", &|call| match call.entry {
+        Entry::Take => answered(call, NO_ANCHOR, 0),
+        _ => by_reference(call),
+    });
+    assert_found_out("0 with nothing stored", &|call| match (call.entry, by_reference(call)) {
+        (Entry::Take, outcome) if outcome.given.number() == DONE => answered(call, DONE, outcome.given.count()),
+        (_, outcome) => outcome,
+    });
+    assert_found_out("an invented count", &|call| match (call.entry, by_reference(call)) {
+        (Entry::Take, mut outcome) if outcome.given.number() == DONE => {
+            let header = Header::read(&call.input);
+            outcome.given = Given::Answer(Answer::done(2 * header.length as u64 - 2 + 2 * header.uncles()));
+            outcome
+        }
+        (_, outcome) => outcome,
+    });
+}
+
+#[test]
+fn openings_that_hold_or_leave_too_much() {
+    assert_found_out("all held at opening", &|call| match (call.entry, by_reference(call)) {
+        (Entry::Open, mut outcome) if outcome.given.number() == DONE => {
+            let facts = facts_of(&outcome.store).unwrap();
+            outcome.store[64..size_of(&facts) as usize].iter_mut().step_by(CELL).for_each(|mark| *mark = 1);
+            outcome
+        }
+        (_, outcome) => outcome,
+    });
+    assert_found_out("bytes beyond the store cleared", &|call| match (call.entry, by_reference(call)) {
+        (Entry::Open, mut outcome) if outcome.given.number() == DONE => {
+            let facts = facts_of(&outcome.store).unwrap();
+            outcome.store[size_of(&facts) as usize..].fill(0);
+            outcome
+        }
+        (_, outcome) => outcome,
+    });
+}
+
+#[test]
+fn stores_written_before_the_anchor_is_compared() {
+    for number in [WRONG_PADDING, NO_ANCHOR, DIFFERS, CONFLICT] {
+        assert_found_out("written too early", &|call| match (call.entry, by_reference(call)) {
+            (Entry::Take, mut outcome) if outcome.given.number() == number => {
+                let facts = facts_of(&call.store).unwrap();
+                let header = Header::read(&call.input);
+                let hashes: Vec<_> = call.input[HEAD..].chunks(32).map(|bytes| bytes.try_into().unwrap()).collect();
+                hold(&mut outcome.store, &facts, &header.settled(&hashes));
+                outcome
+            }
+            (_, outcome) => outcome,
+        });
+    }
+}
+
+/// A library that never gives `number`, but 0 and nothing else.
+fn assert_needed(entry: Entry, number: u32) {
+    assert_found_out(entry.name(), &|call| match (call.entry, by_reference(call)) {
+        (this, outcome) if this == entry && outcome.given.number() == number => untouched(call),
+        (_, outcome) => outcome,
+    });
+}
+
+#[test]
+fn checks_that_are_left_out() {
+    for number in 1..=9 {
+        assert_needed(Entry::Take, number);
+    }
+    for number in [3, 4, 6, 7, 8, 9] {
+        assert_needed(Entry::LoadLayer, number);
+        assert_needed(Entry::JudgePiece, number);
+    }
+}
+
+#[test]
+fn marks_that_say_neither_read_as_held() {
+    assert_found_out("mark 2 is held", &|call| match call.entry {
+        Entry::Held => {
+            let mut call = call.clone();
+            if let Some(facts) = facts_of(&call.store) {
+                let cells = call.store[64..size_of(&facts) as usize].iter_mut().step_by(CELL);
+                cells.filter(|mark| **mark == 2).for_each(|mark| *mark = 1);
+            }
+            Outcome { given: by_reference(&call).given, ..untouched(&call) }
+        }
+        _ => by_reference(call),
+    });
+}
+
+#[test]
+fn replies_with_wrong_bytes() {
+    assert_found_out("a reject with the request's id", &|call| match (call.entry, by_reference(call)) {
+        (Entry::Serve, mut outcome) if outcome.given.count() == 49 => {
+            outcome.out[0] = 21;
+            outcome
+        }
+        (_, outcome) => outcome,
+    });
+    assert_found_out("11 writes the head", &|call| match (call.entry, by_reference(call)) {
+        (Entry::Serve, mut outcome) if outcome.given.number() == NO_ROOM && call.out.len() >= HEAD => {
+            outcome.out[..HEAD].copy_from_slice(&call.input);
+            outcome
+        }
+        (_, outcome) => outcome,
+    });
+    assert_found_out("a small room rejects", &|call| match (call.entry, by_reference(call)) {
+        (Entry::Serve, outcome) if outcome.given.number() == NO_ROOM && call.out.len() >= HEAD => {
+            answered(call, NOT_HELD, 49)
+        }
+        (_, outcome) => outcome,
+    });
+}
+
+#[test]
+fn hashes_that_look_right() {
+    assert_found_out("a piece hashed flat", &|call| match (call.entry, facts_of(&call.store)) {
+        (Entry::JudgePiece, Some(facts)) if facts.piece_size(call.numbers[0]) == Some(call.input.len() as u64) => {
+            let node = facts.piece_position(call.numbers[0]);
+            let held = reference::store::held(&call.store, node.layer, node.index);
+            let number = match held {
+                Hashed { number: DONE, hash } if hash == sha256(&call.input) => DONE,
+                Hashed { number: DONE, .. } => DIFFERS,
+                _ => NO_ANCHOR,
+            };
+            answered(call, number, 0)
+        }
+        _ => by_reference(call),
+    });
+    assert_found_out("the last block filled up", &|call| match (call.entry, facts_of(&call.store)) {
+        (Entry::JudgeBlock, Some(_)) if call.input.len() < 16384 => {
+            let mut filled = call.input.clone();
+            filled.resize(16384, 0);
+            match (by_reference(call).given.number(), reference::store::held(&call.store, 0, call.numbers[0])) {
+                (DONE, held) if held.hash != sha256(&filled) => answered(call, DIFFERS, 0),
+                _ => by_reference(call),
+            }
+        }
+        _ => by_reference(call),
+    });
+    assert_found_out("the root among the facts is judged against", &|call| {
+        let mut changed = call.clone();
+        if let (Entry::JudgeBlock | Entry::JudgePiece | Entry::LoadLayer, Some(facts)) =
+            (call.entry, facts_of(&call.store))
+        {
+            hold(&mut changed.store, &facts, &[(facts.top(), facts.root)]);
+        }
+        let outcome = by_reference(&changed);
+        Outcome { store: if outcome.given.number() == DONE { outcome.store } else { call.store.clone() }, ..outcome }
+    });
+}
+
+#[test]
+fn a_difference_is_shown_small() {
+    let impostor: Library = &|call| match (call.entry, by_reference(call)) {
+        (Entry::Take, outcome) if outcome.given.number() == WRONG_PADDING => answered(call, DIFFERS, 0),
+        (_, outcome) => outcome,
+    };
+    let text = report(impostor, &sessions(impostor).difference.unwrap());
+    assert!(text.contains("reference: Answer(Answer { number: 5, count: 0 })"), "{text}");
+    assert!(text.contains("library:   Answer(Answer { number: 7, count: 0 })"), "{text}");
+    assert!(text.len() < 1000, "{text}");
+}
