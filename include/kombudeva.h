@@ -6,7 +6,21 @@
  * ANSWERS. Every function answers with one struct by value. Its `number` says what happened:
  *
  *     0   done
- *     4   a byte count is too long for SHA-256
+ *     1   no such message: below 49 bytes or another id; a request or a reject not of 49 bytes
+ *     2   another pieces root
+ *     3   a header rule fails; a block, piece or position that the file's tree does not have;
+ *         a layer for a file not longer than the piece length
+ *     4   the byte count isn't what header or file fixes, or is too long for SHA-256
+ *     5   a padding position with another value
+ *     6   no anchor: the anchor, leaf, piece node or, for a layer, the root is not held
+ *     7   the worked-out value differs from the held anchor, leaf or node
+ *     8   conflict: the anchor agrees, another held position differs
+ *     9   the store is unusable: it names no facts in range, or has not their room
+ *    10   facts out of range: length 1 to 2^30, piece length a power of two from 16384 to 16777216
+ *    11   the output is shorter than the reply, reject included
+ *    12   a requested hash isn't held
+ *
+ * Each function lists its numbers in the order in which they are decided: the first that applies is given.
  *
  * Beside a refusal (any number but 0) every other field is zero. Every input is answered: nothing is
  * asked of the caller's values, and no function stops the program. Compare answers field by field,
@@ -41,6 +55,9 @@ extern "C" {
 /* A hash: the 32 bytes of a SHA-256, in the order in which the standard prints them. */
 typedef struct { uint8_t bytes[32]; } kd_hash;
 
+/* A number, and beside 0 a count or a size. */
+typedef struct { uint32_t number; uint64_t count; } kd_answer;
+
 /* A number, and beside 0 a hash. */
 typedef struct { uint32_t number; kd_hash hash; } kd_hashed;
 
@@ -50,6 +67,50 @@ typedef struct { uint32_t number; kd_hash hash; } kd_hashed;
  *   4  more than 2^61 - 1 bytes, for which the standard has no hash; `hash` is zero.
  */
 kd_hashed kd_sha256(const uint8_t *data, size_t size);
+
+/* ---- The store: a lent memory that holds hashes of one file's tree. docs/LAYOUT.md gives its bytes. ---- */
+
+/*
+ * The size of a store for a file of `length` bytes.
+ *   10  facts out of range.
+ *    0  `count` is the number of bytes that a store uses. A larger memory may be lent: the rest is never touched.
+ */
+kd_answer kd_store_size(uint64_t length, uint64_t piece_length);
+
+/*
+ * Makes the memory a store for the file of this length, piece length and pieces root. The root alone is held then. A store
+ * that is opened again forgets everything: that is the one way to lose a held hash.
+ *   10  facts out of range.
+ *    9  the memory is shorter than the store.
+ *    0  `count` is 1. Every byte that the store uses has been set; the bytes behind them stay.
+ */
+kd_answer kd_open(uint8_t *store, size_t size, uint64_t length, uint64_t piece_length, kd_hash root);
+
+/*
+ * The hash held at a position: layer 0 has the blocks, the layer of the tree's height the pieces root.
+ *    9  not a store.
+ *    3  the tree has no such position.
+ *    6  the position is not held.
+ *    0  `hash` is the hash held.
+ */
+kd_hashed kd_held(const uint8_t *store, size_t size, uint64_t layer, uint64_t index);
+
+/* ---- The hash messages, without their length prefix: the id byte first. ---- */
+
+/*
+ * Offers a hashes message (id 22), asked for or not. On 0 every position that it settles is held: the hashes given, their
+ * parents, the anchor. Anything else leaves the store as it was.
+ *    9, 1, 2, 3, 4, 5, 6, 7, 8  refused, in this order.
+ *    0  `count` says how many positions are newly held.
+ */
+kd_answer kd_take(uint8_t *store, size_t size, const uint8_t *message, size_t message_size);
+
+/*
+ * Hears a reject (id 23). It changes nothing.
+ *    9, 1, 2, 3  refused, in this order.
+ *    0  a well-formed reject about this file; `count` is 0.
+ */
+kd_answer kd_take_reject(const uint8_t *store, size_t size, const uint8_t *message, size_t message_size);
 
 #ifdef __cplusplus
 }
