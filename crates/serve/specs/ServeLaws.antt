@@ -4,21 +4,22 @@
 use mathlib.Core.Path.{_≡_, refl, ap, ap₂, sym, _∙_}
 use mathlib.Core.List.{List, [], _∷_, _++_, append-assoc, append-nil}
 use mathlib.Core.Bool.{Bool, true, false, cond, _&&_, _||_, and-assoc, and-true, and-eq-true-iff}
+use mathlib.Core.Logic.{_⊎_, inl, inr}
 use Prim.Native.Nat.{ℕ, zero, suc, _+_, _-_, _*_, _/_, _%_, _^_, _≤_, _<_}
-use native.Mathlib.Nat.{add-mul, one-mul}
+use native.Mathlib.Nat.{add-mul, one-mul, mul-le-mul-left}
 use native.Mathlib.Decide.{ℕ-discrete}
 use native.Mathlib.Numerals.{add-one}
 use native.Mathlib.Omega.{arith}
 use lib.ListN.{length, length-append}
 use lib.Dec.{leb, eqb}
-use borrow.Author.Tests.{eqb-true}
+use borrow.Author.Tests.{eq-eqb, ne-eqb, le-leb, lt-leb}
 use Rattle.octets.specs.Octets.{cut, pasted}
 use Rattle.octets.specs.OctetsLaws.{cut-length}
 use Rattle.numbers.specs.Numbers.{refused, noRoom, notHeld, unusable, noMessage}
 use Rattle.numbers.specs.declared.Answer.{Answer}
 use Rattle.cells.specs.Cells.{Room, heldAt, hashAt}
 use Rattle.cells.specs.CellsLaws.{hash-length}
-use Rattle.store.specs.Store.{heightOf, positions}
+use Rattle.store.specs.Store.{usable, heightOf, positions}
 use Rattle.store.specs.StoreLaws.{Facts, usable-facts}
 use Rattle.runs.specs.Path.{sibling, ancestor}
 use Rattle.runs.specs.PathLaws.{sibling-even, sibling-odd}
@@ -120,3 +121,113 @@ fitAnswer number sent out = cond (leb (length sent) (length out)) (record { numb
 
 unfoldable pub fitAfter : List ℕ → List ℕ → List ℕ
 fitAfter sent out = cond (leb (length sent) (length out)) (pasted out 0 sent) out
+
+-- a message that fits is sent
+pub fits-sent : (number : ℕ) (sent out : List ℕ) → length sent ≤ length out
+    → (fitAnswer number sent out ≡ record { number = number; count = length sent }) × (fitAfter sent out ≡ pasted out 0 sent)
+unfolding fitAnswer fitAfter
+fits-sent number sent out l = rw (le-leb (length sent) (length out) l) (refl, refl)
+
+-- one that doesn't is 11
+pub fits-not : (number : ℕ) (sent out : List ℕ) → length out < length sent
+    → (fitAnswer number sent out ≡ refused noRoom) × (fitAfter sent out ≡ out)
+unfolding fitAnswer fitAfter
+fits-not number sent out l = rw (lt-leb (length sent) (length out) l) (refl, refl)
+
+-- ---- a request's number, and what it says
+
+-- a number that lets the next one decide is 0
+or-else-zero : (n next : ℕ) → orElse n next ≡ 0 → (n ≡ 0) × (next ≡ 0)
+or-else-zero n next e =
+    elim (ℕ-discrete n 0) [
+      | yes z ↦ (z, rw (eq-eqb n 0 z) at e)
+      | no z ↦ absurd (z (rw (ne-eqb n 0 z) at e))
+    ]
+
+cond-zero : (t : Bool) → cond t 0 notHeld ≡ 0 → t ≡ true
+cond-zero true e = refl
+cond-zero false e = let w : ⊥ = omega arith in absurd w
+
+-- a request that is answered by hashes passed 9, 1, 2 and 3,
+pub request-passes : (s m : List ℕ) → requestNumber s m ≡ 0 → headerNumber (isRequest m) s m ≡ 0
+unfolding requestNumber
+request-passes s m e = or-else-zero (headerNumber (isRequest m) s m) (cond (allHeld s (placeIn s m)) 0 notHeld) e .0
+
+-- and all its hashes are held
+pub request-held : (s m : List ℕ) → requestNumber s m ≡ 0 → allHeld s (placeIn s m) ≡ true
+unfolding requestNumber
+request-held s m e = cond-zero (allHeld s (placeIn s m)) (or-else-zero (headerNumber (isRequest m) s m) (cond (allHeld s (placeIn s m)) 0 notHeld) e .1)
+
+-- such a request is 0
+pub request-zero : (s m : List ℕ) → headerNumber (isRequest m) s m ≡ 0 → allHeld s (placeIn s m) ≡ true → requestNumber s m ≡ 0
+unfolding requestNumber
+request-zero s m e h = rw (e, h)
+
+-- a message that isn't of a request's form gets 9 or 1
+no-form : (s m : List ℕ) → isRequest m ≡ false → (requestNumber s m ≡ unusable) ⊎ (requestNumber s m ≡ noMessage)
+unfolding requestNumber headerNumber
+no-form s m e = rw e (by (usable s))
+  where
+    by : (t : Bool)
+        → (orElse (cond t noMessage unusable) (cond (allHeld s (placeIn s m)) 0 notHeld) ≡ unusable)
+        ⊎ (orElse (cond t noMessage unusable) (cond (allHeld s (placeIn s m)) 0 notHeld) ≡ noMessage)
+    by true = inr refl
+    by false = inl refl
+
+-- so what is answered has 49 bytes
+pub answered-form : (s m : List ℕ) → (requestNumber s m ≡ unusable → ⊥) → (requestNumber s m ≡ noMessage → ⊥) → length m ≡ 49
+answered-form s m a b = by (isRequest m) refl
+  where
+    by : (t : Bool) → isRequest m ≡ t → length m ≡ 49
+    by true e = request-form m e
+    by false e = elim (no-form s m e) [ inl x ↦ absurd (a x) | inr x ↦ absurd (b x) ]
+
+-- ---- a request that passes 9, 1, 2 and 3
+
+module _ (s m : List ℕ) (e : headerNumber (isRequest m) s m ≡ 0) where
+  -- it has 49 bytes
+  pub request-size : length m ≡ 49
+  request-size = request-form m (passed (isRequest m) s m e .formed)
+
+  -- its place lies in the tree
+  pub request-placed : Placed (positions (heightOf s)) (headerOf m) (placeIn s m)
+  request-placed = placed (isRequest m) s m (passed (isRequest m) s m e)
+
+  -- the run's last position,
+  pub run-inside : placeIn s m .top * 2 ^ placeIn s m .k + 2 ^ placeIn s m .k ≤ positions (heightOf s)
+  unfolding Within
+  run-inside =
+      let p = placeIn s m in
+      let w : (p .top + 1) * 2 ^ p .k ≤ positions (heightOf s) = request-placed .top in
+      let d : (p .top + 1) * 2 ^ p .k ≡ p .top * 2 ^ p .k + 2 ^ p .k = add-mul (p .top) 1 (2 ^ p .k) ∙ ap (λ (x : ℕ). p .top * 2 ^ p .k + x) (one-mul (2 ^ p .k)) in
+      omega arith
+
+  -- and the place's uncles have numbers of positions
+  pub uncles-inside : placeIn s m .top + 2 ≤ positions (heightOf s)
+  unfolding Within
+  uncles-inside =
+      let p = placeIn s m in
+      let w : (p .top + 1) * 2 ^ p .k ≤ positions (heightOf s) = request-placed .top in
+      let t : 2 ≤ 2 ^ p .k = omega (arith, request-placed .power, request-placed .some) in
+      omega (arith, mul-le-mul-left (p .top + 1) t)
+
+  -- so the store has their cells
+  pub request-reach : Reach (length s) (placeIn s m)
+  request-reach =
+      let f = usable-facts s (passed (isRequest m) s m e .store) in
+      record { run = omega (arith, f .room, run-inside); uncles = omega (arith, f .room, uncles-inside); few = omega (arith, request-placed .layers) }
+
+  -- the reply's size
+  pub reply-length : length (replyTo s m) ≡ 49 + 32 * 2 ^ placeIn s m .k + 32 * placeIn s m .u
+  unfolding replyTo
+  reply-length =
+      simp length-append (omega (arith, cut-length m 1 48 (omega (arith, request-size)), all-hashes-length s (placeIn s m) request-reach))
+
+  -- is what its header says of a hashes message
+  pub reply-size : length (replyTo s m) ≡ messageSize (headerOf m)
+  reply-size = omega (arith, reply-length, request-placed .size, request-placed .power)
+
+-- a reject has 49 bytes
+pub reject-length : (m : List ℕ) → length m ≡ 49 → length (rejectTo m) ≡ 49
+unfolding rejectTo
+reject-length m e = ap suc (cut-length m 1 48 (omega arith))

@@ -1,39 +1,36 @@
+use Rattle.serve.proofs.Answers.{run-cells, held-both, held-not}
 use borrow.Author.Needs.{needs}
 use native.Mathlib.Omega.{arith}
-use Prim.Native.Nat.{ℕ, _+_, _-_, _*_, _≤_, _<_, _/_, _%_, _^_}
-use lib.ListN.{length, getD, set, take, drop}
-use mathlib.Core.Path.{_≡_, refl, ap, sym, _∙_}
+use Prim.Native.Nat.{_-_}
+use lib.ListN.{length}
 use Rattle.serve.proofs.all_held.Statement.{statement}
 use Rattle.serve.proofs.all_held.Tie as tie
-use Rattle.serve.proofs.all_held.Reads as reads
-use Rattle.serve.proofs.all_held.Lts as lts
-use Rattle.serve.proofs.held_run.Reads as held-run-reads
-use Rattle.serve.proofs.held_uncles.Reads as held-uncles-reads
-use Rattle.serve.proofs.run_count.Reads as run-count-reads
 
--- src/lib.rt:78:9
 run-count-requires : tie.Need-run-count-requires
 run-count-requires c κs = search needs
 
--- src/lib.rt:79:13
 mul-n : tie.Need-mul-n
-mul-n c = search needs
+mul-n c =
+    let a = c .before .before .args in
+    omega (arith, run-cells (length (a .s .now)) (a .p) (c .before .before .pre) (c .run-count .result) (c .run-count .ensures .0))
 
--- src/lib.rt:80:9
 held-run-requires : tie.Need-held-run-requires
-held-run-requires c κs = search needs
+held-run-requires c κs =
+    let a = c .before .before .args in
+    run-cells (length (a .s .now)) (a .p) (c .before .before .pre) (c .run-count .result) (c .run-count .ensures .0)
 
--- src/lib.rt:82:9
 held-uncles-requires : tie.Need-held-uncles-requires
 held-uncles-requires c κs = search needs
 
--- src/lib.rt:82:9
 returns : tie.Need-returns
-returns c = search needs
+returns c =
+    let a = c .before .before .before .before .before .args in
+    held-both (a .s .now) (a .p) (c .before .before .before .run-count .result) (c .before .before .before .run-count .ensures .0) (c .before .before .held-run .result) (c .before .before .held-run .ensures) (c .held-uncles .result) (c .before .if1 .taken) (c .held-uncles .ensures)
 
--- src/lib.rt:71:1
 returns-2 : tie.Need-returns-2
-returns-2 c = search needs
+returns-2 c =
+    let a = c .before .before .before .before .args in
+    held-not (a .s .now) (a .p) (c .before .before .run-count .result) (c .before .before .run-count .ensures .0) (c .before .held-run .result) (c .before .held-run .ensures) (c .if1 .left)
 
 pub all-held-spec : {M : Type 1} → statement M
 all-held-spec =

@@ -3,15 +3,11 @@ use Rattle.serve.specs.Serve.{runHashes}
 use Rattle.serve.proofs.Loops.{copy-run-none, copy-run-more, copy-run-done}
 use borrow.Author.Needs.{needs}
 use native.Mathlib.Omega.{arith}
-use Prim.Native.Nat.{ℕ, _+_, _-_, _*_, _≤_, _<_, _/_, _%_, _^_}
-use lib.ListN.{length, getD, set, take, drop}
-use mathlib.Core.Path.{_≡_, refl, ap, sym, _∙_}
+use Prim.Native.Nat.{_-_, _≤_}
+use lib.ListN.{length}
+use mathlib.Core.Path.{_≡_, refl, _∙_}
 use Rattle.serve.proofs.copy_run.Statement.{statement}
 use Rattle.serve.proofs.copy_run.Tie as tie
-use Rattle.serve.proofs.copy_run.Reads as reads
-use Rattle.serve.proofs.copy_run.Lts as lts
-use Rattle.cells.proofs.hash_of.Reads as hash-of-reads
-use Rattle.octets.proofs.put_hash.Reads as put-hash-reads
 
 abbrev Inv-loop : tie.InvT-loop
 Inv-loop s out₀ at n c i₀ out i = (i ≤ c) × (length out ≡ length out₀) × (out ≡ pasted out₀ at (runHashes s n i))
@@ -19,43 +15,34 @@ Inv-loop s out₀ at n c i₀ out i = (i ≤ c) × (length out ≡ length out₀
 abbrev μ-loop : tie.MeasureT-loop
 μ-loop s out₀ at n c i₀ out i = c - i
 
--- src/lib.rt:134:5
 loop-holds : tie.Need-loop-holds Inv-loop μ-loop
-loop-holds c = 
+loop-holds c =
     let a = c .before .before .args in
     (omega arith, refl, copy-run-none (a .s .now) (a .n) (a .at) (a .out .now))
 
--- src/lib.rt:135:28
 add-hash-of : tie.Need-add-hash-of Inv-loop μ-loop
 add-hash-of c = omega (arith, c .before .before .before .before .pre, c .before .loop .inv .1)
 
--- src/lib.rt:135:13
 hash-of-requires : tie.Need-hash-of-requires Inv-loop μ-loop
 hash-of-requires c κs = omega (arith, c .before .before .before .before .pre, c .before .loop .inv .1)
 
--- src/lib.rt:136:28
 mul-put-hash : tie.Need-mul-put-hash Inv-loop μ-loop
 mul-put-hash c = omega (arith, c .before .before .before .before .before .before .pre, c .before .before .before .loop .inv .1)
 
--- src/lib.rt:136:23
 add-put-hash : tie.Need-add-put-hash Inv-loop μ-loop
 add-put-hash c = omega (arith, c .before .before .before .before .before .before .pre, c .before .before .before .loop .inv .1)
 
--- src/lib.rt:136:9
 put-hash-requires : tie.Need-put-hash-requires Inv-loop μ-loop
 put-hash-requires c κs = omega (arith, c .before .before .before .before .before .before .pre, c .before .before .before .loop .inv .1)
 
--- src/lib.rt:137:9
 add-i : tie.Need-add-i Inv-loop μ-loop
 add-i c = search needs
 
--- src/lib.rt:134:5
 loop-less : tie.Need-loop-less Inv-loop μ-loop
 loop-less c = search needs
 
--- src/lib.rt:134:5
 loop-again : tie.Need-loop-again Inv-loop μ-loop
-loop-again c = 
+loop-again c =
     let a = c .before .before .before .before .before .before .before .before .before .args in
     let l = c .before .before .before .before .before .before .loop in
     let q = c .before .before .before .before .before .before .before .before .before .pre in (
@@ -64,13 +51,11 @@ loop-again c =
       copy-run-more (a .s .now) (a .n) (a .at) (a .out .now) (l .i) (l .out) (c .before .before .put-hash .last .0) (c .before .before .before .before .hash-of .result) (omega (arith, q .1)) (c .before .before .put-hash .ensures) (a .c) (q .0) (omega arith) (c .before .before .before .before .hash-of .ensures) (l .inv .2),
     )
 
--- src/lib.rt:129:1
 same-length : tie.Need-same-length Inv-loop μ-loop
 same-length c = c .before .loop .inv .1
 
--- src/lib.rt:129:1
 returns : tie.Need-returns Inv-loop μ-loop
-returns c = 
+returns c =
     let a = c .before .before .before .before .args in
     let l = c .before .loop in
     copy-run-done (a .s .now) (a .n) (a .at) (a .out .now) (a .c) (l .i) (l .out) (omega arith) (omega arith) (l .inv .2)

@@ -4,16 +4,11 @@ use Rattle.serve.specs.Serve.{uncleHashes}
 use Rattle.serve.proofs.Loops.{ancestor-none, ancestor-next, ancestor-cell, uncle-cell, copy-uncles-none, copy-uncles-more, copy-uncles-done}
 use borrow.Author.Needs.{needs}
 use native.Mathlib.Omega.{arith}
-use Prim.Native.Nat.{ℕ, _+_, _-_, _*_, _≤_, _<_, _/_, _%_, _^_}
-use lib.ListN.{length, getD, set, take, drop}
-use mathlib.Core.Path.{_≡_, refl, ap, sym, _∙_}
+use Prim.Native.Nat.{_-_, _≤_}
+use lib.ListN.{length}
+use mathlib.Core.Path.{_≡_, refl, _∙_}
 use Rattle.serve.proofs.copy_uncles.Statement.{statement}
 use Rattle.serve.proofs.copy_uncles.Tie as tie
-use Rattle.serve.proofs.copy_uncles.Reads as reads
-use Rattle.serve.proofs.copy_uncles.Lts as lts
-use Rattle.cells.proofs.hash_of.Reads as hash-of-reads
-use Rattle.octets.proofs.put_hash.Reads as put-hash-reads
-use Rattle.runs.proofs.beside.Reads as beside-reads
 
 abbrev Inv-loop : tie.InvT-loop
 Inv-loop s out₀ at u n x₀ i₀ out x i = (i ≤ u) × (x ≡ ancestor i n) × (length out ≡ length out₀) × (out ≡ pasted out₀ at (uncleHashes s i n))
@@ -21,49 +16,40 @@ Inv-loop s out₀ at u n x₀ i₀ out x i = (i ≤ u) × (x ≡ ancestor i n) �
 abbrev μ-loop : tie.MeasureT-loop
 μ-loop s out₀ at u n x₀ i₀ out x i = u - i
 
--- src/lib.rt:148:5
 loop-holds : tie.Need-loop-holds Inv-loop μ-loop
-loop-holds c = 
+loop-holds c =
     let a = c .before .before .args in
     (omega arith, ancestor-none (a .n), refl, copy-uncles-none (a .s .now) (a .n) (a .at) (a .out .now))
 
--- src/lib.rt:149:13
 beside-requires : tie.Need-beside-requires Inv-loop μ-loop
-beside-requires c κs = 
+beside-requires c κs =
     let a = c .before .before .before .before .args in
     let l = c .before .loop in
     omega (arith, c .before .before .before .before .pre, ancestor-cell (l .i) (a .n) (l .x) (l .inv .1))
 
--- src/lib.rt:150:13
 hash-of-requires : tie.Need-hash-of-requires Inv-loop μ-loop
-hash-of-requires c κs = 
+hash-of-requires c κs =
     let a = c .before .before .before .before .before .args in
     let l = c .before .before .loop in
     uncle-cell (a .s .now) (a .n) (l .i) (l .x) (c .beside .result) (c .before .before .before .before .before .pre .0) (l .inv .1) (c .beside .ensures)
 
--- src/lib.rt:151:28
 mul-put-hash : tie.Need-mul-put-hash Inv-loop μ-loop
 mul-put-hash c = omega (arith, c .before .before .before .before .before .before .before .pre, c .before .before .before .before .loop .inv .2)
 
--- src/lib.rt:151:23
 add-put-hash : tie.Need-add-put-hash Inv-loop μ-loop
 add-put-hash c = omega (arith, c .before .before .before .before .before .before .before .pre, c .before .before .before .before .loop .inv .2)
 
--- src/lib.rt:151:9
 put-hash-requires : tie.Need-put-hash-requires Inv-loop μ-loop
 put-hash-requires c κs = omega (arith, c .before .before .before .before .before .before .before .pre, c .before .before .before .before .loop .inv .2)
 
--- src/lib.rt:153:9
 add-i : tie.Need-add-i Inv-loop μ-loop
 add-i c = search needs
 
--- src/lib.rt:148:5
 loop-less : tie.Need-loop-less Inv-loop μ-loop
 loop-less c = search needs
 
--- src/lib.rt:148:5
 loop-again : tie.Need-loop-again Inv-loop μ-loop
-loop-again c = 
+loop-again c =
     let a = c .before .before .before .before .before .before .before .before .before .before .args in
     let l = c .before .before .before .before .before .before .before .loop in
     let q = c .before .before .before .before .before .before .before .before .before .before .pre in (
@@ -73,13 +59,11 @@ loop-again c =
       copy-uncles-more (a .s .now) (a .n) (a .at) (a .out .now) (l .i) (l .out) (c .before .before .put-hash .last .0) (c .before .before .before .before .hash-of .result) (omega (arith, q .1)) (c .before .before .put-hash .ensures) (l .x) (c .before .before .before .before .before .beside .result) (q .0) (l .inv .1) (c .before .before .before .before .before .beside .ensures) (c .before .before .before .before .hash-of .ensures) (l .inv .3),
     )
 
--- src/lib.rt:142:1
 same-length : tie.Need-same-length Inv-loop μ-loop
 same-length c = c .before .loop .inv .2
 
--- src/lib.rt:142:1
 returns : tie.Need-returns Inv-loop μ-loop
-returns c = 
+returns c =
     let a = c .before .before .before .before .args in
     let l = c .before .loop in
     copy-uncles-done (a .s .now) (a .n) (a .at) (a .out .now) (a .u) (l .i) (l .out) (omega arith) (omega arith) (l .inv .3)

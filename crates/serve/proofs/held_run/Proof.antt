@@ -4,14 +4,10 @@ use Rattle.serve.specs.Serve.{heldRun}
 use Rattle.serve.proofs.Loops.{run-none, run-more, run-fails, run-done}
 use borrow.Author.Needs.{needs}
 use native.Mathlib.Omega.{arith}
-use Prim.Native.Nat.{ℕ, _+_, _-_, _*_, _≤_, _<_, _/_, _%_, _^_}
-use lib.ListN.{length, getD, set, take, drop}
-use mathlib.Core.Path.{_≡_, refl, ap, sym, _∙_}
+use Prim.Native.Nat.{_-_, _≤_}
+use mathlib.Core.Path.{_≡_}
 use Rattle.serve.proofs.held_run.Statement.{statement}
 use Rattle.serve.proofs.held_run.Tie as tie
-use Rattle.serve.proofs.held_run.Reads as reads
-use Rattle.serve.proofs.held_run.Lts as lts
-use Rattle.cells.proofs.held.Reads as held-reads
 
 abbrev Inv-loop : tie.InvT-loop
 Inv-loop s n c i₀ i = (i ≤ c) × (heldRun s n i ≡ true)
@@ -19,43 +15,35 @@ Inv-loop s n c i₀ i = (i ≤ c) × (heldRun s n i ≡ true)
 abbrev μ-loop : tie.MeasureT-loop
 μ-loop s n c i₀ i = c - i
 
--- src/lib.rt:33:5
 loop-holds : tie.Need-loop-holds Inv-loop μ-loop
 loop-holds c = (omega arith, run-none (c .before .args .s .now) (c .before .args .n))
 
--- src/lib.rt:34:29
 add-held : tie.Need-add-held Inv-loop μ-loop
 add-held c = search needs
 
--- src/lib.rt:34:13
 held-requires : tie.Need-held-requires Inv-loop μ-loop
 held-requires c κs = search needs
 
--- src/lib.rt:36:13
 returns : tie.Need-returns Inv-loop μ-loop
-returns c = 
+returns c =
     let a = c .before .before .before .before .before .args in
     let l = c .before .before .before .loop in
     run-fails (a .s .now) (a .n) (l .i) (c .before .held .result) (c .before .held .ensures) (a .c) (omega arith) (not-true _ (c .if1 .taken))
 
--- src/lib.rt:38:9
 add-i : tie.Need-add-i Inv-loop μ-loop
 add-i c = search needs
 
--- src/lib.rt:33:5
 loop-less : tie.Need-loop-less Inv-loop μ-loop
 loop-less c = search needs
 
--- src/lib.rt:33:5
 loop-again : tie.Need-loop-again Inv-loop μ-loop
-loop-again c = 
+loop-again c =
     let a = c .before .before .before .before .before .args in
     let l = c .before .before .before .loop in
     (omega arith, run-more (a .s .now) (a .n) (l .i) (c .before .held .result) (c .before .held .ensures) (l .inv .1) (not-false _ (c .if1 .left)))
 
--- src/lib.rt:28:1
 returns-2 : tie.Need-returns-2 Inv-loop μ-loop
-returns-2 c = 
+returns-2 c =
     let a = c .before .before .before .args in
     let l = c .before .loop in
     run-done (a .s .now) (a .n) (a .c) (l .i) (omega arith) (omega arith) (l .inv .1)

@@ -5,15 +5,10 @@ use Rattle.serve.specs.Serve.{heldUncles}
 use Rattle.serve.proofs.Loops.{ancestor-none, ancestor-next, ancestor-cell, uncle-cell, uncles-none, uncles-more, uncles-fail, uncles-done}
 use borrow.Author.Needs.{needs}
 use native.Mathlib.Omega.{arith}
-use Prim.Native.Nat.{ℕ, _+_, _-_, _*_, _≤_, _<_, _/_, _%_, _^_}
-use lib.ListN.{length, getD, set, take, drop}
-use mathlib.Core.Path.{_≡_, refl, ap, sym, _∙_}
+use Prim.Native.Nat.{_-_, _≤_}
+use mathlib.Core.Path.{_≡_}
 use Rattle.serve.proofs.held_uncles.Statement.{statement}
 use Rattle.serve.proofs.held_uncles.Tie as tie
-use Rattle.serve.proofs.held_uncles.Reads as reads
-use Rattle.serve.proofs.held_uncles.Lts as lts
-use Rattle.cells.proofs.held.Reads as held-reads
-use Rattle.runs.proofs.beside.Reads as beside-reads
 
 abbrev Inv-loop : tie.InvT-loop
 Inv-loop s u n x₀ i₀ x i = (i ≤ u) × (x ≡ ancestor i n) × (heldUncles s i n ≡ true)
@@ -21,42 +16,35 @@ Inv-loop s u n x₀ i₀ x i = (i ≤ u) × (x ≡ ancestor i n) × (heldUncles 
 abbrev μ-loop : tie.MeasureT-loop
 μ-loop s u n x₀ i₀ x i = u - i
 
--- src/lib.rt:50:5
 loop-holds : tie.Need-loop-holds Inv-loop μ-loop
 loop-holds c = (omega arith, ancestor-none (c .before .args .n), uncles-none (c .before .args .s .now) (c .before .args .n))
 
--- src/lib.rt:51:13
 beside-requires : tie.Need-beside-requires Inv-loop μ-loop
-beside-requires c κs = 
+beside-requires c κs =
     let a = c .before .before .before .args in
     let l = c .before .loop in
     omega (arith, ancestor-cell (l .i) (a .n) (l .x) (l .inv .1))
 
--- src/lib.rt:52:13
 held-requires : tie.Need-held-requires Inv-loop μ-loop
-held-requires c κs = 
+held-requires c κs =
     let a = c .before .before .before .before .args in
     let l = c .before .before .loop in
     uncle-cell (a .s .now) (a .n) (l .i) (l .x) (c .beside .result) (c .before .before .before .before .pre) (l .inv .1) (c .beside .ensures)
 
--- src/lib.rt:54:13
 returns : tie.Need-returns Inv-loop μ-loop
-returns c = 
+returns c =
     let a = c .before .before .before .before .before .before .args in
     let l = c .before .before .before .before .loop in
     uncles-fail (a .s .now) (a .n) (l .i) (l .x) (c .before .before .beside .result) (c .before .held .result) (l .inv .1) (c .before .before .beside .ensures) (c .before .held .ensures) (a .u) (omega arith) (not-true _ (c .if1 .taken))
 
--- src/lib.rt:57:9
 add-i : tie.Need-add-i Inv-loop μ-loop
 add-i c = search needs
 
--- src/lib.rt:50:5
 loop-less : tie.Need-loop-less Inv-loop μ-loop
 loop-less c = search needs
 
--- src/lib.rt:50:5
 loop-again : tie.Need-loop-again Inv-loop μ-loop
-loop-again c = 
+loop-again c =
     let a = c .before .before .before .before .before .before .args in
     let l = c .before .before .before .before .loop in (
       omega arith,
@@ -64,9 +52,8 @@ loop-again c =
       uncles-more (a .s .now) (a .n) (l .i) (l .x) (c .before .before .beside .result) (c .before .held .result) (l .inv .1) (c .before .before .beside .ensures) (c .before .held .ensures) (l .inv .2) (not-false _ (c .if1 .left)),
     )
 
--- src/lib.rt:44:1
 returns-2 : tie.Need-returns-2 Inv-loop μ-loop
-returns-2 c = 
+returns-2 c =
     let a = c .before .before .before .args in
     let l = c .before .loop in
     uncles-done (a .s .now) (a .n) (a .u) (l .i) (omega arith) (omega arith) (l .inv .2)

@@ -1,36 +1,27 @@
-use borrow.Author.Needs.{needs}
-use native.Mathlib.Omega.{arith}
-use Prim.Native.Nat.{ℕ, _+_, _-_, _*_, _≤_, _<_, _/_, _%_, _^_}
-use lib.ListN.{length, getD, set, take, drop}
-use mathlib.Core.Path.{_≡_, refl, ap, sym, _∙_}
+use Rattle.serve.proofs.Answers.{passed-long, place-asked, place-given}
+use Prim.Native.Nat.{_-_}
 use Rattle.serve.proofs.place_in.Statement.{statement}
 use Rattle.serve.proofs.place_in.Tie as tie
-use Rattle.serve.proofs.place_in.Reads as reads
-use Rattle.serve.proofs.place_in.Lts as lts
-use Rattle.header.proofs.header_of.Reads as header-of-reads
-use Rattle.header.proofs.place_of.Reads as place-of-reads
-use Rattle.store.proofs.blocks_of.Reads as blocks-of-reads
-use Rattle.store.proofs.height_of.Reads as height-of-reads
 
--- src/lib.rt:92:9
 header-of-requires : tie.Need-header-of-requires
-header-of-requires c κs = ?
+header-of-requires c κs = passed-long (c .before .before .args .s .now) (c .before .before .args .m .now) (c .before .before .pre) .1
 
--- src/lib.rt:93:9
 blocks-of-requires : tie.Need-blocks-of-requires
-blocks-of-requires c κs = ?
+blocks-of-requires c κs = passed-long (c .before .before .before .args .s .now) (c .before .before .before .args .m .now) (c .before .before .before .pre) .0
 
--- src/lib.rt:94:9
 height-of-requires : tie.Need-height-of-requires
-height-of-requires c κs = ?
+height-of-requires c κs = passed-long (c .before .before .before .before .args .s .now) (c .before .before .before .before .args .m .now) (c .before .before .before .before .pre) .0
 
--- src/lib.rt:95:5
 place-of-requires : tie.Need-place-of-requires
-place-of-requires c κs = ?
+place-of-requires c κs =
+    let a = c .before .before .before .before .before .args in
+    let q = place-asked (a .s .now) (a .m .now) (c .before .before .before .before .before .pre) (c .before .before .header-of .result) (c .before .blocks-of .result) (c .height-of .result) (c .before .before .header-of .ensures .0) (c .before .blocks-of .ensures) (c .height-of .ensures) in
+    (c .before .before .header-of .ensures .1, q .0, q .1, q .2)
 
--- src/lib.rt:88:1
 returns : tie.Need-returns
-returns c = ?
+returns c =
+    let a = c .before .before .before .before .before .before .args in
+    place-given (a .s .now) (a .m .now) (c .before .before .before .before .before .before .pre) (c .before .before .before .header-of .result) (c .before .before .blocks-of .result) (c .before .height-of .result) (c .before .before .before .header-of .ensures .0) (c .before .before .blocks-of .ensures) (c .before .height-of .ensures) (c .place-of .result) (c .place-of .ensures)
 
 pub place-in-spec : {M : Type 1} → statement M
 place-in-spec =

@@ -1,44 +1,33 @@
+use Rattle.serve.proofs.Answers.{form-long, number-refused, number-passed, number-held, number-not-held}
 use borrow.Author.Needs.{needs}
-use native.Mathlib.Omega.{arith}
-use Prim.Native.Nat.{ℕ, _+_, _-_, _*_, _≤_, _<_, _/_, _%_, _^_}
-use lib.ListN.{length, getD, set, take, drop}
-use mathlib.Core.Path.{_≡_, refl, ap, sym, _∙_}
+use Prim.Native.Nat.{_-_}
 use Rattle.serve.proofs.request_number.Statement.{statement}
 use Rattle.serve.proofs.request_number.Tie as tie
-use Rattle.serve.proofs.request_number.Reads as reads
-use Rattle.serve.proofs.request_number.Lts as lts
-use Rattle.header.proofs.is_request.Reads as is-request-reads
-use Rattle.messages.proofs.take.header_number.Reads as header-number-reads
-use Rattle.serve.proofs.all_held.Reads as all-held-reads
-use Rattle.serve.proofs.place_in.Reads as place-in-reads
 
--- src/lib.rt:102:9
 is-request-requires : tie.Need-is-request-requires
 is-request-requires c κs = search needs
 
--- src/lib.rt:103:9
 header-number-requires : tie.Need-header-number-requires
-header-number-requires c κs = search needs
+header-number-requires c κs = form-long (c .before .before .before .args .m .now) (c .is-request .result) (c .is-request .ensures)
 
--- src/lib.rt:105:9
 returns : tie.Need-returns
-returns c = search needs
+returns c = number-refused (c .before .before .before .before .before .args .s .now) (c .before .before .before .before .before .args .m .now) (c .before .before .is-request .result) (c .before .header-number .result) (c .before .before .is-request .ensures) (c .before .header-number .ensures) (c .if1 .taken)
 
--- src/lib.rt:107:9
 place-in-requires : tie.Need-place-in-requires
-place-in-requires c κs = search needs
+place-in-requires c κs = number-passed (c .before .before .before .before .before .args .s .now) (c .before .before .before .before .before .args .m .now) (c .before .before .is-request .result) (c .before .header-number .result) (c .before .before .is-request .ensures) (c .before .header-number .ensures) (c .if1 .left)
 
--- src/lib.rt:108:9
 all-held-requires : tie.Need-all-held-requires
-all-held-requires c κs = search needs
+all-held-requires c κs = c .place-in .ensures .1
 
--- src/lib.rt:110:9
 returns-2 : tie.Need-returns-2
-returns-2 c = search needs
+returns-2 c =
+    number-held (c .before .before .before .before .before .before .before .before .args .s .now) (c .before .before .before .before .before .before .before .before .args .m .now) (c .before .before .before .before .before .is-request .result) (c .before .before .before .before .header-number .result) (c .before .before .before .before .before .is-request .ensures) (c .before .before .before .before .header-number .ensures)
+    (c .before .before .before .if1 .left) (c .before .before .place-in .result) (c .before .all-held .result) (c .before .before .place-in .ensures .0) (c .before .all-held .ensures) (c .if2 .taken)
 
--- src/lib.rt:99:1
 returns-3 : tie.Need-returns-3
-returns-3 c = search needs
+returns-3 c =
+    number-not-held (c .before .before .before .before .before .before .before .before .args .s .now) (c .before .before .before .before .before .before .before .before .args .m .now) (c .before .before .before .before .before .is-request .result) (c .before .before .before .before .header-number .result) (c .before .before .before .before .before .is-request .ensures) (c .before .before .before .before .header-number .ensures)
+    (c .before .before .before .if1 .left) (c .before .before .place-in .result) (c .before .all-held .result) (c .before .before .place-in .ensures .0) (c .before .all-held .ensures) (c .if2 .left)
 
 pub request-number-spec : {M : Type 1} → statement M
 request-number-spec =

@@ -1,34 +1,28 @@
+use Rattle.serve.proofs.Answers.{reject-short, reject-sent}
 use native.Mathlib.Omega.{arith}
-use Prim.Native.Nat.{ℕ, _+_, _-_, _*_, _≤_, _<_, _/_, _%_, _^_}
-use lib.ListN.{length, getD, set, take, drop}
-use mathlib.Core.Path.{_≡_, refl, ap, sym, _∙_}
+use Prim.Native.Nat.{_-_}
 use borrow.Author.Needs.{needs}
 use Rattle.serve.proofs.send_reject.Statement.{statement}
 use Rattle.serve.proofs.send_reject.Tie as tie
-use Rattle.serve.proofs.send_reject.Reads as reads
-use Rattle.serve.proofs.send_reject.Lts as lts
-use Rattle.numbers.proofs.refusal.Reads as refusal-reads
-use Rattle.serve.proofs.write_head.Reads as write-head-reads
 
--- src/lib.rt:185:9
 refusal-requires : tie.Need-refusal-requires
 refusal-requires c κs = search needs
 
--- src/lib.rt:185:9
 returns : tie.Need-returns
-returns c = ?
+returns c =
+    let a = c .before .before .before .before .args in
+    reject-short (a .m .now) (a .out .now) (a .number) (c .before .before .before .before .pre) (c .refusal .result) (c .before .if1 .taken) (c .refusal .ensures)
 
--- src/lib.rt:187:5
 write-head-requires : tie.Need-write-head-requires
 write-head-requires c κs = search needs
 
--- src/lib.rt:180:1
 same-length : tie.Need-same-length
 same-length c = search needs
 
--- src/lib.rt:180:1
 returns-2 : tie.Need-returns-2
-returns-2 c = ?
+returns-2 c =
+    let a = c .before .before .before .before .before .before .before .args in
+    reject-sent (a .m .now) (a .out .now) (a .number) (c .before .before .before .before .before .before .before .pre) (c .before .before .write-head .last .0) (omega arith) (c .before .before .write-head .ensures)
 
 pub send-reject-spec : {M : Type 1} → statement M
 send-reject-spec =

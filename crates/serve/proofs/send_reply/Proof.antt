@@ -1,79 +1,80 @@
+use Rattle.serve.proofs.Answers.{passed-long, run-cells, reply-short, reply-sent}
 use borrow.Author.Needs.{needs}
 use native.Mathlib.Omega.{arith}
-use Prim.Native.Nat.{ℕ, _+_, _-_, _*_, _≤_, _<_, _/_, _%_, _^_}
-use lib.ListN.{length, getD, set, take, drop}
-use mathlib.Core.Path.{_≡_, refl, ap, sym, _∙_}
+use Prim.Native.Nat.{_-_}
+use lib.ListN.{length}
+use mathlib.Core.Path.{_∙_}
 use Rattle.serve.proofs.send_reply.Statement.{statement}
 use Rattle.serve.proofs.send_reply.Tie as tie
-use Rattle.serve.proofs.send_reply.Reads as reads
-use Rattle.serve.proofs.send_reply.Lts as lts
-use Rattle.numbers.proofs.refusal.Reads as refusal-reads
-use Rattle.numbers.proofs.success.Reads as success-reads
-use Rattle.serve.proofs.copy_run.Reads as copy-run-reads
-use Rattle.serve.proofs.copy_uncles.Reads as copy-uncles-reads
-use Rattle.serve.proofs.place_in.Reads as place-in-reads
-use Rattle.serve.proofs.run_count.Reads as run-count-reads
-use Rattle.serve.proofs.write_head.Reads as write-head-reads
 
--- src/lib.rt:162:9
 place-in-requires : tie.Need-place-in-requires
 place-in-requires c κs = search needs
 
--- src/lib.rt:166:9
 run-count-requires : tie.Need-run-count-requires
 run-count-requires c κs = search needs
 
--- src/lib.rt:167:13
 mul-n : tie.Need-mul-n
-mul-n c = search needs
+mul-n c =
+    let a = c .before .before .before .before .before .args in
+    let p = c .before .place-in in
+    let k = c .run-count in
+    omega (arith, run-cells (length (a .s .now)) (p .result) (p .ensures .1) (k .result) (k .ensures .0))
 
--- src/lib.rt:168:21
 mul-past : tie.Need-mul-past
 mul-past c = search needs
 
--- src/lib.rt:168:16
 add-past : tie.Need-add-past
 add-past c = search needs
 
--- src/lib.rt:169:23
 mul-size : tie.Need-mul-size
 mul-size c = search needs
 
--- src/lib.rt:169:16
 add-size : tie.Need-add-size
 add-size c = search needs
 
--- src/lib.rt:171:9
 refusal-requires : tie.Need-refusal-requires
 refusal-requires c κs = search needs
 
--- src/lib.rt:171:9
 returns : tie.Need-returns
-returns c = search needs
+returns c =
+    let a = c .before .before .before .before .before .before .before .args in
+    let p = c .before .before .before .place-in in
+    let k = c .before .before .run-count in
+    reply-short (a .s .now) (a .m .now) (a .out .now) (c .before .before .before .before .before .before .before .pre) (p .result) (p .ensures .0) (k .result) (k .ensures .0) (c .refusal .result) (c .before .if1 .taken) (c .refusal .ensures)
 
--- src/lib.rt:173:5
 write-head-requires : tie.Need-write-head-requires
-write-head-requires c κs = search needs
+write-head-requires c κs =
+    let a = c .before .before .before .before .before .before .before .args in
+    (omega arith, passed-long (a .s .now) (a .m .now) (c .before .before .before .before .before .before .before .pre) .1)
 
--- src/lib.rt:174:5
 copy-run-requires : tie.Need-copy-run-requires
-copy-run-requires c κs = search needs
+copy-run-requires c κs =
+    let a = c .before .before .before .before .before .before .before .before .before .before .before .args in
+    let p = c .before .before .before .before .before .before .before .place-in in
+    let k = c .before .before .before .before .before .before .run-count in
+    (run-cells (length (a .s .now)) (p .result) (p .ensures .1) (k .result) (k .ensures .0), omega (arith, c .before .before .before .before .before .if1 .left, c .before .before .before .write-head .kept .0))
 
--- src/lib.rt:175:5
 copy-uncles-requires : tie.Need-copy-uncles-requires
-copy-uncles-requires c κs = search needs
+copy-uncles-requires c κs =
+    let a = c .before .before .before .before .before .before .before .before .before .before .before .before .before .before .before .args in
+    let p = c .before .before .before .before .before .before .before .before .before .before .before .place-in in
+    let k = c .before .before .before .before .before .before .before .before .before .before .run-count in
+    (p .ensures .1 .uncles, omega (arith, c .before .before .before .before .before .before .before .before .before .if1 .left, c .before .before .before .before .before .before .before .write-head .kept .0, c .before .before .before .copy-run .kept .1 .0))
 
--- src/lib.rt:176:5
 success-requires : tie.Need-success-requires
 success-requires c κs = search needs
 
--- src/lib.rt:158:1
 same-length : tie.Need-same-length
-same-length c = search needs
+same-length c = c .before .before .before .copy-uncles .kept .1 .0 ∙ c .before .before .before .before .before .before .before .copy-run .kept .1 .0 ∙ c .before .before .before .before .before .before .before .before .before .before .before .write-head .kept .0
 
--- src/lib.rt:158:1
 returns-2 : tie.Need-returns-2
-returns-2 c = search needs
+returns-2 c =
+    let a = c .before .before .before .before .before .before .before .before .before .before .before .before .before .before .before .before .before .before .before .args in
+    let p = c .before .before .before .before .before .before .before .before .before .before .before .before .before .before .before .place-in in
+    let k = c .before .before .before .before .before .before .before .before .before .before .before .before .before .before .run-count in
+    reply-sent (a .s .now) (a .m .now) (a .out .now) (c .before .before .before .before .before .before .before .before .before .before .before .before .before .before .before .before .before .before .before .pre) (p .result) (p .ensures .0) (k .result) (k .ensures .0)
+    (c .before .before .before .before .before .before .before .before .before .before .before .write-head .last .0) (c .before .before .before .before .before .before .before .copy-run .last .1 .0) (c .before .before .before .copy-uncles .last .1 .0) (omega (arith, c .before .before .before .before .before .before .before .before .before .before .before .before .before .if1 .left))
+    (c .before .before .before .before .before .before .before .before .before .before .before .write-head .ensures) (c .before .before .before .before .before .before .before .copy-run .ensures) (c .before .before .before .copy-uncles .ensures) (c .success .result) (c .success .ensures)
 
 pub send-reply-spec : {M : Type 1} → statement M
 send-reply-spec =
