@@ -1,8 +1,9 @@
 -- What each function answers, from what its callees ensure and the tests it took.
 -- Assumes nothing.
 use mathlib.Core.Path.{_≡_, refl, ap, sym, _∙_}
-use mathlib.Core.Bool.{Bool, true, false, cond, _&&_}
+use mathlib.Core.Bool.{Bool, true, false}
 use mathlib.Core.List.{List, _∷_, _++_, append-assoc}
+use mathlib.Core.Logic.{inl, inr}
 use Prim.Native.Nat.{ℕ, suc, _+_, _*_, _%_, _^_, _≤_, _<_}
 use native.Mathlib.Nat.{one-mul}
 use native.Mathlib.Omega.{arith}
@@ -20,8 +21,8 @@ use Rattle.header.specs.declared.Place.{Place}
 use Rattle.header.specs.Header.{headerOf, isRequest, rulesKept, placeOf}
 use Rattle.messages.specs.Take.{headerNumber, placeIn}
 use Rattle.messages.specs.TakeLaws.{passed, request-form}
-use Rattle.serve.specs.Serve.{heldRun, heldUncles, runHashes, uncleHashes, allHeld, allHashes, replyTo, rejectTo, requestNumber, sentBack, serveAnswer, serveAfter}
-use Rattle.serve.specs.ServeLaws.{Reach, run-hashes-length, uncle-hashes-length, fitAnswer, fitAfter, fits-sent, fits-not, request-passes, answered-form, request-size, request-reach, reply-length, reject-length}
+use Rattle.serve.specs.Serve.{heldRun, heldUncles, runHashes, uncleHashes, allHeld, allHashes, replyTo, rejectTo, requestNumber, serveAnswer, serveAfter}
+use Rattle.serve.specs.ServeLaws.{Reach, run-hashes-length, uncle-hashes-length, fitAnswer, fitAfter, fits-sent, fits-not, request-passes, served-none, served-reply, served-reject, answered-form, request-size, request-reach, reply-length, reject-length}
 
 -- a power of two as it is shifted
 pub count-of : (k : ℕ) → k ≤ 16 → ((1 * 2 ^ k) % 18446744073709551616 ≡ 2 ^ k) × ((1 * 2 ^ k) % 18446744073709551616 ≤ 65536)
@@ -154,19 +155,20 @@ module _ (m out : List ℕ) (number : ℕ) (e : length m ≡ 49) where
 
 -- ---- serving
 
+-- a result and an output that are each the same as another pair of them
+along : {r a b : Answer} {o x y : List ℕ} → (r ≡ a) × (o ≡ x) → (b ≡ a) × (y ≡ x) → (r ≡ b) × (o ≡ y)
+along p q = (p .0 ∙ sym (q .0), p .1 ∙ sym (q .1))
+
 module _ (s m out : List ℕ) (n : ℕ) (e : n ≡ requestNumber s m) where
   pub serve-9 : (r : Answer) → n ≡ unusable → r ≡ refused unusable → (r ≡ serveAnswer s m out) × (out ≡ serveAfter s m out)
-  unfolding serveAnswer serveAfter
-  serve-9 r z q = rw (← e, z) (q, refl)
+  serve-9 r z q = along (q, refl) (served-none s m out unusable (sym e ∙ z) (inl refl))
 
   pub serve-1 : (r : Answer) → n ≡ noMessage → r ≡ refused noMessage → (r ≡ serveAnswer s m out) × (out ≡ serveAfter s m out)
-  unfolding serveAnswer serveAfter
-  serve-1 r z q = rw (← e, z) (q, refl)
+  serve-1 r z q = along (q, refl) (served-none s m out noMessage (sym e ∙ z) (inr refl))
 
   pub serve-reply : (r : Answer) (out1 : List ℕ) → n ≡ 0 → (r ≡ fitAnswer 0 (replyTo s m) out) × (out1 ≡ fitAfter (replyTo s m) out)
       → (r ≡ serveAnswer s m out) × (out1 ≡ serveAfter s m out)
-  unfolding serveAnswer serveAfter sentBack fitAnswer fitAfter
-  serve-reply r out1 z w = rw (← e, z) w
+  serve-reply r out1 z w = along w (served-reply s m out (sym e ∙ z))
 
   pub serve-passed : n ≡ 0 → headerNumber (isRequest m) s m ≡ 0
   serve-passed z = request-passes s m (sym e ∙ z)
@@ -177,5 +179,4 @@ module _ (s m out : List ℕ) (n : ℕ) (e : n ≡ requestNumber s m) where
 
     pub serve-reject : (r : Answer) (out1 : List ℕ) → (n ≡ 0 → ⊥) → (r ≡ fitAnswer n (rejectTo m) out) × (out1 ≡ fitAfter (rejectTo m) out)
         → (r ≡ serveAnswer s m out) × (out1 ≡ serveAfter s m out)
-    unfolding serveAnswer serveAfter sentBack fitAnswer fitAfter
-    serve-reject r out1 z w = rw (← e, ne-eqb n unusable a, ne-eqb n noMessage b, ne-eqb n 0 z) w
+    serve-reject r out1 z w = along w (served-reject s m out n (sym e) a b z)

@@ -1,6 +1,6 @@
 -- One law for each turn of a loop and each way out of it.
 -- Assumes nothing.
-use mathlib.Core.Path.{_≡_, refl, ap, ap₂, sym, _∙_, subst}
+use mathlib.Core.Path.{_≡_, refl, ap, ap₂, sym, _∙_}
 use mathlib.Core.Bool.{Bool, true, false}
 use mathlib.Core.Logic.{_⊎_, inl, inr}
 use mathlib.Core.List.{List, [], _∷_, _++_, append-nil}
@@ -12,13 +12,13 @@ use native.Mathlib.Omega.{arith}
 use lib.ListN.{length, getD, set, take, drop, length-set, length-drop, take-append-drop}
 use lib.Seq.{paste, paste-zero, paste-suc, length-paste, length-take-le, getD-drop, set-set, drop-set-lt}
 use Rattle.octets.specs.Octets.{cut, pasted}
-use Rattle.octets.specs.OctetsLaws.{pasted-append, pasted-length, cut-length}
+use Rattle.octets.specs.OctetsLaws.{pasted-append}
 use Rattle.cells.specs.Cells.{Room, heldAt, hashAt}
 use Rattle.cells.specs.CellsLaws.{hash-length}
 use Rattle.runs.specs.Path.{sibling, ancestor}
 use Rattle.runs.specs.AncestorLaws.{ancestor-le, ancestor-suc}
 use Rattle.serve.specs.Serve.{heldRun, runHashes, heldUncles, uncleHashes}
-use Rattle.serve.specs.ServeLaws.{uncle-near, run-hashes-more, uncle-hashes-more, run-hashes-length, uncle-hashes-length, held-run-at, held-uncle-at, held-run-all, held-uncles-all}
+use Rattle.serve.specs.ServeLaws.{uncle-near, run-hashes-more, uncle-hashes-more, run-hashes-length, uncle-hashes-length, held-run-at, held-uncle-at, held-uncles-all}
 
 refuted : (a b : Bool) → (b ≡ true → a ≡ true) → a ≡ false → false ≡ b
 refuted true false f e = refl

@@ -1,3 +1,4 @@
+-- The place reaches no cell past the store; the answer is that of the run, then that of the uncles.
 use Rattle.serve.proofs.Answers.{run-cells, held-both, held-not}
 use borrow.Author.Needs.{needs}
 use native.Mathlib.Omega.{arith}

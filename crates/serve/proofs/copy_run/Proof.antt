@@ -1,3 +1,4 @@
+-- The loop has written the first i hashes of the run, one after the other.
 use Rattle.octets.specs.Octets.{pasted}
 use Rattle.serve.specs.Serve.{runHashes}
 use Rattle.serve.proofs.Loops.{copy-run-none, copy-run-more, copy-run-done}

@@ -1,3 +1,4 @@
+-- The loop stands at the position i layers above n, and has written the i uncles below it.
 use Rattle.runs.specs.Path.{ancestor}
 use Rattle.octets.specs.Octets.{pasted}
 use Rattle.serve.specs.Serve.{uncleHashes}

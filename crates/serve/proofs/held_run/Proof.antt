@@ -1,3 +1,4 @@
+-- The loop has found the positions before i held; one that is not held makes the whole run not held.
 use mathlib.Core.Bool.{true}
 use borrow.Author.Tests.{not-true, not-false}
 use Rattle.serve.specs.Serve.{heldRun}

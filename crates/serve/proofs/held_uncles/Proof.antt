@@ -1,3 +1,4 @@
+-- The loop stands at the position i layers above n, and has found the uncles below it held.
 use mathlib.Core.Bool.{true}
 use borrow.Author.Tests.{not-true, not-false}
 use Rattle.runs.specs.Path.{ancestor}

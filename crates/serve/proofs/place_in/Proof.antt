@@ -1,3 +1,4 @@
+-- A request that passed 9, 1, 2 and 3 keeps the rules, so its place is in the tree, and the store has its cells.
 use Rattle.serve.proofs.Answers.{passed-long, place-asked, place-given}
 use Prim.Native.Nat.{_-_}
 use Rattle.serve.proofs.place_in.Statement.{statement}

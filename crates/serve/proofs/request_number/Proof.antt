@@ -1,3 +1,4 @@
+-- Each way out is one case of the definition.
 use Rattle.serve.proofs.Answers.{form-long, number-refused, number-passed, number-held, number-not-held}
 use borrow.Author.Needs.{needs}
 use Prim.Native.Nat.{_-_}

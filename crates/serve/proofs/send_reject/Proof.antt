@@ -1,3 +1,4 @@
+-- The reject is the head alone.
 use Rattle.serve.proofs.Answers.{reject-short, reject-sent}
 use native.Mathlib.Omega.{arith}
 use Prim.Native.Nat.{_-_}

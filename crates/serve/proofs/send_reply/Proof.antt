@@ -1,3 +1,4 @@
+-- Head, run and uncles are written side by side, which is the reply as a whole; room for all of it is known before.
 use Rattle.serve.proofs.Answers.{passed-long, run-cells, reply-short, reply-sent}
 use borrow.Author.Needs.{needs}
 use native.Mathlib.Omega.{arith}

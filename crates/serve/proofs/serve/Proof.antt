@@ -1,3 +1,4 @@
+-- Each way out is one case of the definition; a request that is answered has its 49 bytes.
 use Rattle.serve.proofs.Answers.{serve-9, serve-1, serve-passed, serve-reply, serve-form, serve-reject}
 use borrow.Author.Needs.{needs}
 use Prim.Native.Nat.{_-_}

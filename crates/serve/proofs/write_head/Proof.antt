@@ -1,3 +1,4 @@
+-- The loop has copied the bytes before number i, and the id stands before them.
 use mathlib.Core.List.{_∷_}
 use lib.Seq.{paste}
 use Rattle.serve.proofs.Loops.{head-one, head-more, head-length, head-done}
