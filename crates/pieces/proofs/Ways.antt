@@ -1,11 +1,10 @@
 -- One law for each way out of the functions that give a number: the callees' answers and the tests taken make one case of the definition.
-use mathlib.Core.Path.{_≡_, refl, ap, ap₂, sym, _∙_}
+use mathlib.Core.Path.{_≡_, ap, ap₂, sym, _∙_}
 use mathlib.Core.List.{List}
-use mathlib.Core.Bool.{Bool, true, false, cond}
+use mathlib.Core.Bool.{Bool, true, false}
 use Prim.Native.Nat.{ℕ, _+_, _-_, _*_, _^_, _≤_, _<_}
 use native.Mathlib.Omega.{arith}
 use lib.ListN.{length}
-use lib.Dec.{eqb, ltb}
 use borrow.Author.Tests.{lt-ltb, le-ltb, eq-eqb, ne-eqb}
 use Rattle.octets.specs.Octets.{same}
 use Rattle.numbers.specs.Numbers.{refused, done, ruleBroken, wrongSize, noAnchor, unusable}
@@ -15,10 +14,10 @@ use Rattle.tree.specs.Geometry.{nodeNumber, pieceLayer, hasLayer, pieceCount, b
 use Rattle.tree.specs.GeometryLaws.{node-number-range}
 use Rattle.tree.specs.Values.{node, padValue, leafOf, layerLeaf}
 use Rattle.cells.specs.Cells.{Room, heldAt, hashAt}
-use Rattle.cells.specs.Entries.{Entry, agrees, putAll, newly}
+use Rattle.cells.specs.Entries.{agrees, putAll, newly}
 use Rattle.cells.specs.EntriesLaws.{fresh, count-fresh, newly-none}
 use Rattle.store.specs.Store.{usable, fileLength, pieceLength, blocksOf, heightOf, positions}
-use Rattle.store.specs.StoreLaws.{Facts, usable-facts, facts-height, facts-leaves, facts-cell}
+use Rattle.store.specs.StoreLaws.{usable-facts, facts-height, facts-leaves, facts-cell}
 use Rattle.runs.specs.Span.{Fit}
 use Rattle.runs.specs.Subtree.{subtree, runLeaf}
 use Rattle.pieces.specs.Pieces.{judged, judgedAt, layerOfPieces, layerSettled, layerNumber, layerAfter, layerAnswer, blockNumber, pieceHeight, pieceNumber}
