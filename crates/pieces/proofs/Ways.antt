@@ -25,27 +25,32 @@ use Rattle.pieces.specs.PiecesLaws.{Layered, Placed, layered, placed, pi
 
 -- ---- 6, 7, 8 or 0
 
+-- the held hash compared with what was worked out
+pub seen-judged : (s : List ℕ) (n : ℕ) (worked mine : List ℕ) (o v : Bool) (r : ℕ) → mine ≡ hashAt s n → v ≡ same mine worked → r ≡ judged true v o
+    → r ≡ judged true (same (hashAt s n) worked) o
+seen-judged s n worked mine o v r m e q = q ∙ ap (λ (x : Bool). judged true x o) (e ∙ ap (λ (x : List ℕ). same x worked) m)
+
 module _ (s : List ℕ) (n : ℕ) (t : Bool) (a : t ≡ heldAt s n) where
   module _ (leaf : ℕ → List ℕ) (k : ℕ) where
     pub judged-6 : t ≡ false → noAnchor ≡ judgedAt s leaf k n
     unfolding judgedAt
     judged-6 f = sym (rw (← a, f))
 
-    pub judged-held : t ≡ true → (worked mine : List ℕ) (o v : Bool) (r : ℕ)
-        → (worked ≡ node leaf k 0) × (o ≡ agrees s (subtree leaf k n 0)) → mine ≡ hashAt s n → v ≡ same mine worked → r ≡ judged true v o → r ≡ judgedAt s leaf k n
+    pub judged-held : t ≡ true → (worked : List ℕ) (o : Bool) (r : ℕ)
+        → (worked ≡ node leaf k 0) × (o ≡ agrees s (subtree leaf k n 0)) → r ≡ judged true (same (hashAt s n) worked) o → r ≡ judgedAt s leaf k n
     unfolding judgedAt
-    judged-held y worked mine o v r w m e q =
-        q ∙ ap₂ (λ (x z : Bool). judged true x z) (e ∙ ap₂ (λ (x z : List ℕ). same x z) m (w .0)) (w .1)
+    judged-held y worked o r w q =
+        q ∙ ap₂ (λ (x : List ℕ) (z : Bool). judged true (same (hashAt s n) x) z) (w .0) (w .1)
         ∙ ap (λ (x : Bool). judged x (same (hashAt s n) (node leaf k 0)) (agrees s (subtree leaf k n 0))) (sym y ∙ a)
 
   module _ (block : List ℕ) where
     pub leaf-6 : t ≡ false → noAnchor ≡ judged (heldAt s n) (same (hashAt s n) (sha256 block)) true
     leaf-6 f = sym (rw (← a, f))
 
-    pub leaf-held : t ≡ true → (worked mine : List ℕ) (v : Bool) (r : ℕ)
-        → worked ≡ sha256 block → mine ≡ hashAt s n → v ≡ same mine worked → r ≡ judged true v true → r ≡ judged (heldAt s n) (same (hashAt s n) (sha256 block)) true
-    leaf-held y worked mine v r w m e q =
-        q ∙ ap (λ (x : Bool). judged true x true) (e ∙ ap₂ (λ (x z : List ℕ). same x z) m w)
+    pub leaf-held : t ≡ true → (worked : List ℕ) (r : ℕ) → worked ≡ sha256 block → r ≡ judged true (same (hashAt s n) worked) true
+        → r ≡ judged (heldAt s n) (same (hashAt s n) (sha256 block)) true
+    leaf-held y worked r w q =
+        q ∙ ap (λ (x : List ℕ). judged true (same (hashAt s n) x) true) w
         ∙ ap (λ (x : Bool). judged x (same (hashAt s n) (sha256 block)) true) (sym y ∙ a)
 
 -- a usable store has its facts

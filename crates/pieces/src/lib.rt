@@ -16,6 +16,7 @@ ghost use Rattle.runs.specs.Subtree.{runLeaf};
 ghost use Rattle.pieces.specs.Pieces as P;
 ghost use Rattle.pieces.specs.PiecesLaws.{Layered, Placed};
 use numbers::Answer;
+use runs::Seen;
 use runs::look_data;
 use runs::look_run;
 use runs::write_run;
@@ -32,7 +33,7 @@ use tree::geometry::piece_layer;
 use tree::geometry::piece_size;
 use tree::values::pad_value;
 
-// 7, 8 or 0, where the anchor is held: as worked out or not, a held hash below it different or not.
+// 7, 8 or 0, where the anchor is held: as worked out or not, another held hash different or not.
 fn judge(alike: bool, agrees: bool) -> u32
     ensures { λ r. ⌜ r ≡ P.judged true alike agrees ⌝ }
 {
@@ -45,6 +46,17 @@ fn judge(alike: bool, agrees: bool) -> u32
     numbers::DIFFERS
 }
 
+// The same for position n, which is held, by what was worked out for it.
+fn judge_seen(s: &[u8], n: usize, seen: Seen) -> u32
+    requires { ⌜ Room (n + 1) (now s) ⌝ }
+    ensures { λ r. ⌜ r ≡ P.judged true (same (hashAt (now (s .entry)) n) (seen .hash)) (seen .agrees) ⌝ }
+{
+    let worked = seen.hash;
+    let mine = cells::hash_of(s, n);
+    let alike = octets::same(mine, worked);
+    judge(alike, seen.agrees)
+}
+
 // Position n against the subtree over a run of hashes. Nothing is hashed if n is not held.
 fn judge_run(s: &[u8], run: &[u8], past: [u8; 32], b: usize, k: usize, n: usize) -> u32
     requires { ⌜ Fit (length (now s)) b k n 0 ⌝ }
@@ -53,10 +65,7 @@ fn judge_run(s: &[u8], run: &[u8], past: [u8; 32], b: usize, k: usize, n: usize)
     let held = cells::held(s, n);
     if held {
         let seen = look_run(s, run, past, b, k, n, 0);
-        let worked = seen.hash;
-        let mine = cells::hash_of(s, n);
-        let alike = octets::same(mine, worked);
-        return judge(alike, seen.agrees);
+        return judge_seen(s, n, seen);
     }
     numbers::NO_ANCHOR
 }
@@ -69,25 +78,21 @@ fn judge_data(s: &[u8], bytes: &[u8], b: usize, k: usize, n: usize) -> u32
     let held = cells::held(s, n);
     if held {
         let seen = look_data(s, bytes, b, k, n, 0);
-        let worked = seen.hash;
-        let mine = cells::hash_of(s, n);
-        let alike = octets::same(mine, worked);
-        return judge(alike, seen.agrees);
+        return judge_seen(s, n, seen);
     }
     numbers::NO_ANCHOR
 }
 
-// Leaf n against a block.
+// Leaf n against a block. Nothing lies below a leaf that could differ.
 fn judge_leaf(s: &[u8], bytes: &[u8], n: usize) -> u32
     requires { ⌜ Room (n + 1) (now s) ⌝ }
     ensures { λ r. ⌜ r ≡ P.judged (heldAt (now (s .entry)) n) (same (hashAt (now (s .entry)) n) (sha256 (now (bytes .entry)))) true ⌝ }
 {
     let held = cells::held(s, n);
     if held {
-        let worked = sha256::hash(bytes);
-        let mine = cells::hash_of(s, n);
-        let alike = octets::same(mine, worked);
-        return judge(alike, true);
+        let hash = sha256::hash(bytes);
+        let seen = Seen { hash, agrees: true };
+        return judge_seen(s, n, seen);
     }
     numbers::NO_ANCHOR
 }
@@ -124,10 +129,9 @@ fn write_layer(s: &mut [u8], layer: &[u8]) -> u64
     let h = height_of(s);
     let plen = piece_length_of(s);
     let p = piece_layer(plen);
-    let past = pad_value(p);
     let b = positions_below(h);
     let k = h - p;
-    let filled = write_run(s, layer, past, b, k, 1, 0);
+    let filled = write_run(s, layer, pad_value(p), b, k, 1, 0);
     filled.new
 }
 

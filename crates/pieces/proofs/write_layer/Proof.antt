@@ -14,23 +14,23 @@ piece-length-of-requires c κs = search needs
 piece-layer-requires : tie.Need-piece-layer-requires
 piece-layer-requires c κs = search needs
 
+positions-below-requires : tie.Need-positions-below-requires
+positions-below-requires c κs = layer-height _ (c .before .before .before .before .before .before .before .pre) _ _ _ (c .before .before .before .height-of .ensures) (c .before .piece-length-of .ensures) (c .piece-layer .ensures)
+
+sub-k : tie.Need-sub-k
+sub-k c = layer-low _ (c .before .before .before .before .before .before .before .before .pre) _ _ _ (c .before .before .before .before .height-of .ensures) (c .before .before .piece-length-of .ensures) (c .before .piece-layer .ensures)
+
 pad-value-requires : tie.Need-pad-value-requires
 pad-value-requires c κs = search needs
 
-positions-below-requires : tie.Need-positions-below-requires
-positions-below-requires c κs = layer-height _ (c .before .before .before .before .before .before .before .before .pre) _ _ _ (c .before .before .before .before .height-of .ensures) (c .before .before .piece-length-of .ensures) (c .before .piece-layer .ensures)
-
-sub-k : tie.Need-sub-k
-sub-k c = layer-low _ (c .before .before .before .before .before .before .before .before .before .pre) _ _ _ (c .before .before .before .before .before .height-of .ensures) (c .before .before .before .piece-length-of .ensures) (c .before .before .piece-layer .ensures)
-
 write-run-requires : tie.Need-write-run-requires
-write-run-requires c κs = layer-fit _ (c .before .before .before .before .before .before .before .before .before .before .pre) _ _ _ (c .before .before .before .before .before .before .height-of .ensures) (c .before .before .before .before .piece-length-of .ensures) (c .before .before .before .piece-layer .ensures) _ (c .before .positions-below .ensures)
+write-run-requires c κs = layer-fit _ (c .before .before .before .before .before .before .before .before .before .before .pre) _ _ _ (c .before .before .before .before .before .before .height-of .ensures) (c .before .before .before .before .piece-length-of .ensures) (c .before .before .before .piece-layer .ensures) _ (c .before .before .positions-below .ensures)
 
 same-length : tie.Need-same-length
 same-length c = search needs
 
 returns : tie.Need-returns
-returns c = layer-wrote _ (c .before .before .before .before .before .before .before .before .before .before .before .before .before .pre) _ _ _ (c .before .before .before .before .before .before .before .before .before .height-of .ensures) (c .before .before .before .before .before .before .before .piece-length-of .ensures) (c .before .before .before .before .before .before .piece-layer .ensures) _ _ (c .before .before .before .before .before .pad-value .ensures) _ _ (c .before .before .write-run .ensures .1)
+returns c = layer-wrote _ (c .before .before .before .before .before .before .before .before .before .before .before .before .before .pre) _ _ _ (c .before .before .before .before .before .before .before .before .before .height-of .ensures) (c .before .before .before .before .before .before .before .piece-length-of .ensures) (c .before .before .before .before .before .before .piece-layer .ensures) _ _ (c .before .before .before .pad-value .ensures) _ _ (c .before .before .write-run .ensures .1)
 
 pub write-layer-spec : {M : Type 1} → statement M
 write-layer-spec =
@@ -39,9 +39,9 @@ write-layer-spec =
     height-of-requires
     piece-length-of-requires
     piece-layer-requires
-    pad-value-requires
     positions-below-requires
     sub-k
+    pad-value-requires
     write-run-requires
     same-length
     returns)
