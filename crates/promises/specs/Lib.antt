@@ -1,1 +1,5 @@
 pub mod Worked
+pub mod Held
+pub mod History
+pub mod TakenWhen
+pub mod Grows
