@@ -3,3 +3,4 @@ pub mod Held
 pub mod History
 pub mod TakenWhen
 pub mod Grows
+pub mod Again
