@@ -5,17 +5,17 @@ use mathlib.Core.List.{List, [], _∷_}
 use mathlib.Core.Bool.{Bool, true, false, cond, _||_}
 use mathlib.Core.Logic.{_⊎_, inl, inr}
 use Prim.Native.Nat.{ℕ, _+_, _-_, _*_, _^_, _≤_, _<_}
-use native.Mathlib.Nat.{one-mul}
+use native.Mathlib.Nat.{one-mul, mul-assoc}
 use native.Mathlib.Decide.{ℕ-discrete}
 use native.Mathlib.Omega.{arith}
 use lib.ListN.{length, getD}
 use lib.Dec.{eqb, ltb}
-use lib.Pow.{pow-pos, pow-mono}
+use lib.Pow.{pow-pos, pow-mono, pow-add}
 use borrow.Author.Tests.{ltb-true, ltb-false, eqb-true, lt-ltb, eq-eqb, ne-eqb}
-use Rattle.tree.specs.Geometry.{blockLength, covering, nodeNumber, hasLayer, pieceCount, blockSize, pieceSize}
-use Rattle.tree.specs.GeometryLaws.{ceil-least, covering-most, covering-within, long-file-height, node-number-root, node-number-range, node-number-layer, node-number-covers, piece-length-form, pieces-covering}
+use Rattle.tree.specs.Geometry.{blockLength, Padding, covering, nodeNumber, hasLayer, pieceCount, blockSize, pieceSize}
+use Rattle.tree.specs.GeometryLaws.{ceil-least, covering-most, covering-within, covering-until-padding, long-file-height, node-number-root, node-number-range, node-number-layer, node-number-covers, piece-length-form, pieces-covering}
 use Rattle.tree.specs.Values.{node, padValue, leafOf, layerLeaf, layerRoot}
-use Rattle.tree.specs.ValuesLaws.{pad-octets}
+use Rattle.tree.specs.ValuesLaws.{pad-octets, node-padding, layer-leaf-past}
 use Rattle.cells.specs.Cells.{Room, heldAt, hashAt}
 use Rattle.cells.specs.Entries.{Entry, agrees, putAll}
 use Rattle.cells.specs.EntriesLaws.{Sound, fresh, Hold, keeps, newly-none, count-fresh, putAll-length, In, Has, has-same, Apart, apart-consistent, entries-held, held-or-entry, putAll-other}
@@ -27,7 +27,7 @@ use Rattle.store.specs.Store.{usable, fileLength, pieceLength, blocksOf, height
 use Rattle.store.specs.StoreLaws.{Facts, usable-facts, facts-usable, facts-blocks-most, own-size, SameFacts, FromRoot, from-root-in, putAll-same-facts, putAll-facts, putAll-past}
 use Rattle.runs.specs.Span.{Within}
 use Rattle.runs.specs.Subtree.{subtree, runLeaf}
-use Rattle.runs.specs.SubtreeLaws.{run-leaf-length, within-tree, subtree-sound, subtree-apart, subtree-value, subtree-has}
+use Rattle.runs.specs.SubtreeLaws.{run-leaf-length, within-tree, subtree-sound, subtree-apart, subtree-value, subtree-has, FamilyIn, subtree-family}
 use Rattle.pieces.specs.Pieces.{judgedAt, layerOfPieces, layerSettled, layerNumber, layerAfter, layerAnswer, blockNumber, pieceHeight, pieceNumber}
 
 -- ---- where a layer and a piece lie
@@ -106,14 +106,16 @@ module _ (s : List ℕ) (f : Facts s) where
             inside = rw (e, z) (omega (arith, one-piece-only t));
           }
 
--- ---- the whole of layer p and above, and what lies below a piece's node, lie in the store
+-- ---- what is looked at and written lies in the store
 
+-- the layers from p up lie in the store
 pub layer-within : (s : List ℕ) → Layered s → Within (positions (heightOf s)) (heightOf s - layerOfPieces s) 1
 unfolding positions
 layer-within s f =
     let z : heightOf s - heightOf s ≡ 0 = omega arith in
     rw (← node-number-root (heightOf s)) (within-tree (heightOf s) (heightOf s) 0 (heightOf s - layerOfPieces s) (omega arith) (rw z (omega arith)) (omega arith))
 
+-- so does what lies below a piece's node
 pub piece-within : (s : List ℕ) (i : ℕ) → Placed s i → Within (positions (heightOf s)) (pieceHeight s) (nodeNumber (heightOf s) (pieceHeight s) i)
 unfolding positions
 piece-within s i p = within-tree (heightOf s) (pieceHeight s) i (pieceHeight s) (p .layer) (p .inside) (omega arith)
@@ -147,12 +149,14 @@ judged-zero true true false e = let w : ⊥ = omega arith in absurd w
 judged-zero true false c e = let w : ⊥ = omega arith in absurd w
 judged-zero false b c e = let w : ⊥ = omega arith in absurd w
 
+-- of the tests of a position, 0 says this
 pub judged-says : (s : List ℕ) (leaf : ℕ → List ℕ) (k n : ℕ) → judgedAt s leaf k n ≡ 0 → Judged s leaf k n
 unfolding judgedAt
 judged-says s leaf k n e =
     let w = judged-zero (heldAt s n) (same (hashAt s n) (node leaf k 0)) (agrees s (subtree leaf k n 0)) e in
     record { held = w .0; alike = same-true (hashAt s n) (node leaf k 0) (w .1); agree = w .2 }
 
+-- and where it is so they give 0
 pub judged-enough : (s : List ℕ) (leaf : ℕ → List ℕ) (k n : ℕ) → Judged s leaf k n → judgedAt s leaf k n ≡ 0
 unfolding judgedAt
 judged-enough s leaf k n j = rw (j .held, same-eq (hashAt s n) (node leaf k 0) (j .alike), j .agree)
@@ -169,6 +173,7 @@ pub record Loads (s layer : List ℕ) : Type 0 where
   pub size : length layer ≡ 32 * pieceCount (fileLength s) (pieceLength s)
   pub root : Judged s (layerLeaf layer (layerOfPieces s)) (heightOf s - layerOfPieces s) 1
 
+-- of a layer, 0 says this
 pub layer-loads : (s layer : List ℕ) → layerNumber s layer ≡ 0 → Loads s layer
 unfolding layerNumber
 layer-loads s layer e =
@@ -201,6 +206,7 @@ pub record RightBlock (s : List ℕ) (i : ℕ) (block : List ℕ) : Type 0 where
   pub held : heldAt s (nodeNumber (heightOf s) 0 i) ≡ true
   pub alike : hashAt s (nodeNumber (heightOf s) 0 i) ≡ sha256 block
 
+-- of a block, 0 says this
 pub block-right : (s : List ℕ) (i : ℕ) (block : List ℕ) → blockNumber s i block ≡ 0 → RightBlock s i block
 unfolding blockNumber
 block-right s i block e =
@@ -231,6 +237,7 @@ pub record RightPiece (s : List ℕ) (i : ℕ) (piece : List ℕ) : Type 0 where
   pub size : length piece ≡ pieceSize (fileLength s) (pieceLength s) i
   pub node : Judged s (leafOf piece) (pieceHeight s) (nodeNumber (heightOf s) (pieceHeight s) i)
 
+-- of a piece, 0 says this
 pub piece-right : (s : List ℕ) (i : ℕ) (piece : List ℕ) → pieceNumber s i piece ≡ 0 → RightPiece s i piece
 unfolding pieceNumber
 piece-right s i piece e =
@@ -274,10 +281,11 @@ judged-true ms p q r true true = p
 judged-true ms p q r true false = r
 judged-true ms p q r false b = q
 
--- of a layer
+-- 9, 3, 4, 6, 7, 8 and 0, of a layer
 abbrev pub layerNumbers : List ℕ
 layerNumbers = 0 ∷ ruleBroken ∷ wrongSize ∷ noAnchor ∷ differs ∷ conflict ∷ unusable ∷ []
 
+-- a layer gets one of these
 pub layer-numbers : (s layer : List ℕ) → among layerNumbers (layerNumber s layer) ≡ true
 unfolding layerNumber judgedAt
 layer-numbers s layer =
@@ -291,10 +299,11 @@ layer-numbers s layer =
     refl)
     refl
 
--- of a block: nothing lies below a leaf, so never 8
+-- of a block: nothing lies below a leaf that could differ, so never 8
 abbrev pub blockNumbers : List ℕ
 blockNumbers = 0 ∷ ruleBroken ∷ wrongSize ∷ noAnchor ∷ differs ∷ unusable ∷ []
 
+-- a block gets one of these
 pub block-numbers : (s : List ℕ) (i : ℕ) (block : List ℕ) → among blockNumbers (blockNumber s i block) ≡ true
 unfolding blockNumber
 block-numbers s i block =
@@ -307,10 +316,11 @@ block-numbers s i block =
     refl)
     refl
 
--- of a piece
+-- of a piece: as of a layer
 abbrev pub pieceNumbers : List ℕ
 pieceNumbers = 0 ∷ ruleBroken ∷ wrongSize ∷ noAnchor ∷ differs ∷ conflict ∷ unusable ∷ []
 
+-- a piece gets one of these
 pub piece-numbers : (s : List ℕ) (i : ℕ) (piece : List ℕ) → among pieceNumbers (pieceNumber s i piece) ≡ true
 unfolding pieceNumber judgedAt
 piece-numbers s i piece =
@@ -420,6 +430,29 @@ module _ (s layer : List ℕ) (f : Layered s) where
   -- and all from the root's on
   pub settled-from-root : FromRoot (layerSettled s layer)
   settled-from-root = from-root-in (layerSettled s layer) (λ e x. settled-numbers e x .0)
+
+-- ---- a layer's entries keep the tree's rules
+
+-- each entry is the root, or its sibling and their parent are entries too, the parent with the hash of the two
+pub settled-family : (s layer : List ℕ) (e : Entry) → In e (layerSettled s layer) → (e .at ≡ 1) ⊎ FamilyIn (layerSettled s layer) (e .at)
+unfolding layerSettled
+settled-family s layer e x =
+    elim (subtree-family (layerLeaf layer (layerOfPieces s)) (heightOf s - layerOfPieces s) 1 0 e x) [ inl t ↦ inl (t .0) | inr w ↦ inr w ]
+
+-- a padding position has the padding value of its layer
+pub settled-padding : (s layer : List ℕ) → Loads s layer → (l i : ℕ) → layerOfPieces s ≤ l → Padding (blocksOf s) l i
+    → node (layerLeaf layer (layerOfPieces s)) (l - layerOfPieces s) i ≡ padValue l
+unfolding Padding
+settled-padding s layer w l i a b =
+    let p = layerOfPieces s in
+    let c = covering (blocksOf s) p in
+    let e : length layer ≡ 32 * c = w .size ∙ ap (λ (x : ℕ). 32 * x) (pieces-are s (usable-facts s (w .store))) in
+    let u : l - p + p ≡ l = omega arith in
+    let v : p + (l - p) ≡ l = omega arith in
+    let m : i * 2 ^ (l - p) * 2 ^ p ≡ i * 2 ^ l = mul-assoc i (2 ^ (l - p)) (2 ^ p) ∙ ap (λ (x : ℕ). i * x) (sym (pow-add 2 (l - p) p) ∙ ap (λ (x : ℕ). 2 ^ x) u) in
+    node-padding (layerLeaf layer p) p c (λ j h. layer-leaf-past layer p c j e h) (l - p) i
+    (covering-until-padding (blocksOf s) p (i * 2 ^ (l - p)) (omega arith))
+    ∙ ap padValue v
 
 -- ---- what a layer leaves
 
