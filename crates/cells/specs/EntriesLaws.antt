@@ -363,3 +363,13 @@ held-or-entry N (e ∷ L) s room (more i l S) q t =
         | no ne ↦ inl (sym (held-put-other s N (e .at) room i (e .hash) l q ne) ∙ k)
       ]
     ]
+
+-- a position that no entry has stays as it was, held or not, with the same bytes
+pub putAll-other : (N : ℕ) (L : List Entry) (s : List ℕ) → Room N s → Sound N L → (q : ℕ) → q < N → ((e : Entry) → In e L → e .at ≡ q → ⊥)
+    → (heldAt (putAll s L) q ≡ heldAt s q) × (hashAt (putAll s L) q ≡ hashAt s q)
+unfolding putAll
+putAll-other N [] s room none q b f = (refl, refl)
+putAll-other N (e ∷ L) s room (more i l S) q b f =
+    let w = putAll-other N L (put s (e .at) (e .hash)) (put-room s N (e .at) room i (e .hash) l) S q b (λ g k. f g (there k)) in
+    let ne : q ≡ e .at → ⊥ = λ z. f e here (sym z) in
+    (w .0 ∙ held-put-other s N (e .at) room i (e .hash) l q ne, w .1 ∙ hash-put-other s N (e .at) room i (e .hash) l q b ne)

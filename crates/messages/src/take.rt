@@ -224,13 +224,13 @@ fn write(s: &mut [u8], m: &[u8], x: Header, p: Place, n: usize) -> u64
 pub fn take(s: &mut [u8], m: &[u8]) -> Answer
     ensures { λ r. ⌜ (r ≡ takeAnswer (now (s .entry)) (now (m .entry))) × (now (s .exit) ≡ takeAfter (now (s .entry)) (now (m .entry))) ⌝ }
 {
-    let number = take_number(s, m);
-    if number == 0 {
+    let verdict = take_number(s, m);
+    if verdict == 0 {
         let x = header_of(m);
         let p = place_in(s, m);
         let n = positions_of(s);
         let c = write(s, m, x, p, n);
         return success(c);
     }
-    refusal(number)
+    refusal(verdict)
 }

@@ -1,0 +1,525 @@
+-- What follows from the definitions of Pieces: where a layer and a piece lie in the tree, what each number says, what loading a layer leaves.
+-- Assumes nothing.
+use mathlib.Core.Path.{_≡_, refl, ap, ap₂, sym, _∙_}
+use mathlib.Core.List.{List, [], _∷_}
+use mathlib.Core.Bool.{Bool, true, false, cond, _||_}
+use mathlib.Core.Logic.{_⊎_, inl, inr}
+use Prim.Native.Nat.{ℕ, _+_, _-_, _*_, _^_, _≤_, _<_}
+use native.Mathlib.Nat.{one-mul}
+use native.Mathlib.Decide.{ℕ-discrete}
+use native.Mathlib.Omega.{arith}
+use lib.ListN.{length, getD}
+use lib.Dec.{eqb, ltb}
+use lib.Pow.{pow-pos, pow-mono}
+use borrow.Author.Tests.{ltb-true, ltb-false, eqb-true, lt-ltb, eq-eqb, ne-eqb}
+use Rattle.tree.specs.Geometry.{blockLength, covering, nodeNumber, hasLayer, pieceCount, blockSize, pieceSize}
+use Rattle.tree.specs.GeometryLaws.{ceil-least, covering-most, covering-within, long-file-height, node-number-root, node-number-range, node-number-layer, node-number-covers, piece-length-form, pieces-covering}
+use Rattle.tree.specs.Values.{node, padValue, leafOf, layerLeaf, layerRoot}
+use Rattle.tree.specs.ValuesLaws.{pad-octets}
+use Rattle.cells.specs.Cells.{Room, heldAt, hashAt}
+use Rattle.cells.specs.Entries.{Entry, agrees, putAll}
+use Rattle.cells.specs.EntriesLaws.{Sound, fresh, Hold, keeps, newly-none, count-fresh, putAll-length, In, Has, has-same, Apart, apart-consistent, entries-held, held-or-entry, putAll-other}
+use Rattle.octets.specs.Octets.{same}
+use Rattle.octets.specs.OctetsLaws.{same-true, same-eq}
+use Rattle.sha256.specs.Sha256.{sha256}
+use Rattle.numbers.specs.Numbers.{refused, done, ruleBroken, wrongSize, noAnchor, differs, conflict, unusable}
+use Rattle.store.specs.Store.{usable, fileLength, pieceLength, blocksOf, heightOf, positions, storeSize}
+use Rattle.store.specs.StoreLaws.{Facts, usable-facts, facts-usable, facts-blocks-most, own-size, SameFacts, FromRoot, from-root-in, putAll-same-facts, putAll-facts, putAll-past}
+use Rattle.runs.specs.Span.{Within}
+use Rattle.runs.specs.Subtree.{subtree, runLeaf}
+use Rattle.runs.specs.SubtreeLaws.{run-leaf-length, within-tree, subtree-sound, subtree-apart, subtree-value, subtree-has}
+use Rattle.pieces.specs.Pieces.{judged, judgedAt, layerOfPieces, layerSettled, layerNumber, layerAfter, layerAnswer, blockNumber, pieceHeight, pieceNumber}
+
+-- ---- where a layer and a piece lie
+
+-- a store of a file that has a piece layer: its root stands above layer p
+pub record Layered (s : List ℕ) : Type 0 where
+  pub facts : Facts s
+  pub above : layerOfPieces s < heightOf s
+
+-- a store, and the node of piece i in its tree
+pub record Placed (s : List ℕ) (i : ℕ) : Type 0 where
+  pub facts : Facts s
+  pub layer : pieceHeight s ≤ heightOf s
+  pub inside : i < 2 ^ (heightOf s - pieceHeight s)
+
+module _ (s : List ℕ) (f : Facts s) where
+  plen-form : pieceLength s ≡ blockLength * 2 ^ layerOfPieces s
+  unfolding layerOfPieces
+  plen-form = piece-length-form (pieceLength s) (f .piece) .1
+
+  -- the pieces are the positions of layer p that aren't padding
+  pub pieces-are : pieceCount (fileLength s) (pieceLength s) ≡ covering (blocksOf s) (layerOfPieces s)
+  unfolding blocksOf
+  pieces-are = ap (pieceCount (fileLength s)) plen-form ∙ pieces-covering (fileLength s) (layerOfPieces s)
+
+  -- so there are at most 2^16
+  pub pieces-few : pieceCount (fileLength s) (pieceLength s) ≤ 65536
+  pieces-few = omega (arith, pieces-are, covering-most (blocksOf s) (layerOfPieces s), facts-blocks-most s f)
+
+  -- a file longer than the piece length has a root above layer p
+  pub layered : hasLayer (fileLength s) (pieceLength s) ≡ true → Layered s
+  layered t = record { facts = f; above = higher (ltb-true (pieceLength s) (fileLength s) (unfold hasLayer in t)) }
+    where
+      higher : pieceLength s < fileLength s → layerOfPieces s < heightOf s
+      higher l = unfold heightOf blocksOf in long-file-height (fileLength s) (layerOfPieces s) (omega (arith, plen-form))
+
+  -- where there is a piece layer, a piece's node is in it
+  pub height-layer : hasLayer (fileLength s) (pieceLength s) ≡ true → pieceHeight s ≡ layerOfPieces s
+  unfolding pieceHeight
+  height-layer t = rw t
+
+  -- else it is the root
+  pub height-root : hasLayer (fileLength s) (pieceLength s) ≡ false → pieceHeight s ≡ heightOf s
+  unfolding pieceHeight
+  height-root t = rw t
+
+  -- and there is one piece
+  pub one-piece-only : hasLayer (fileLength s) (pieceLength s) ≡ false → pieceCount (fileLength s) (pieceLength s) ≤ 1
+  unfolding pieceCount hasLayer
+  one-piece-only t =
+      ceil-least (fileLength s) (pieceLength s) 1 (omega (arith, plen-form, pow-pos (layerOfPieces s)))
+      (omega (arith, ltb-false (pieceLength s) (fileLength s) t, one-mul (pieceLength s)))
+
+  -- every piece of the file has its node in the tree
+  pub placed : (i : ℕ) → i < pieceCount (fileLength s) (pieceLength s) → Placed s i
+  placed i l = by-layer (hasLayer (fileLength s) (pieceLength s)) refl
+    where
+      by-layer : (t : Bool) → hasLayer (fileLength s) (pieceLength s) ≡ t → Placed s i
+      by-layer true t =
+          let e = height-layer t in
+          let a = layered t .above in
+          record {
+            facts = f;
+            layer = omega arith;
+            inside = rw e (omega (arith, pieces-are, most a));
+          }
+        where
+          most : layerOfPieces s < heightOf s → covering (blocksOf s) (layerOfPieces s) ≤ 2 ^ (heightOf s - layerOfPieces s)
+          most a = unfold heightOf in covering-within (blocksOf s) (layerOfPieces s) (omega arith)
+      by-layer false t =
+          let e = height-root t in
+          let z : heightOf s - heightOf s ≡ 0 = omega arith in
+          record {
+            facts = f;
+            layer = omega arith;
+            inside = rw (e, z) (omega (arith, one-piece-only t));
+          }
+
+-- ---- the whole of layer p and above, and what lies below a piece's node, lie in the store
+
+pub layer-within : (s : List ℕ) → Layered s → Within (positions (heightOf s)) (heightOf s - layerOfPieces s) 1
+unfolding positions
+layer-within s f =
+    let z : heightOf s - heightOf s ≡ 0 = omega arith in
+    rw (← node-number-root (heightOf s)) (within-tree (heightOf s) (heightOf s) 0 (heightOf s - layerOfPieces s) (omega arith) (rw z (omega arith)) (omega arith))
+
+pub piece-within : (s : List ℕ) (i : ℕ) → Placed s i → Within (positions (heightOf s)) (pieceHeight s) (nodeNumber (heightOf s) (pieceHeight s) i)
+unfolding positions
+piece-within s i p = within-tree (heightOf s) (pieceHeight s) i (pieceHeight s) (p .layer) (p .inside) (omega arith)
+
+-- a run with layer p's padding value past it is that layer
+pub run-leaves : (run : List ℕ) (p : ℕ) → runLeaf run (padValue p) ≡ layerLeaf run p
+unfolding runLeaf layerLeaf
+run-leaves run p = refl
+
+-- a layer's leaves have 32 bytes
+pub layer-leaf-length : (layer : List ℕ) (p i : ℕ) → length (layerLeaf layer p i) ≡ 32
+layer-leaf-length layer p i = rw (← run-leaves layer p) (run-leaf-length layer (padValue p) (pad-octets p .size) i)
+
+-- every entry of a layer is a hash, at a position of the tree
+pub layer-sound : (s layer : List ℕ) → Layered s → Sound (positions (heightOf s)) (layerSettled s layer)
+unfolding layerSettled
+layer-sound s layer f =
+    subtree-sound (layerLeaf layer (layerOfPieces s)) (layer-leaf-length layer (layerOfPieces s)) (positions (heightOf s)) (heightOf s - layerOfPieces s) 1 0 (layer-within s f)
+
+-- ---- what the number 0 is sure of
+
+-- position n is held with the value worked out from the leaves, and no held position below it differs
+pub record Judged (s : List ℕ) (leaf : ℕ → List ℕ) (k n : ℕ) : Type 0 where
+  pub held : heldAt s n ≡ true
+  pub alike : hashAt s n ≡ node leaf k 0
+  pub agree : agrees s (subtree leaf k n 0) ≡ true
+
+judged-zero : (a b c : Bool) → judged a b c ≡ 0 → (a ≡ true) × (b ≡ true) × (c ≡ true)
+judged-zero true true true e = (refl, refl, refl)
+judged-zero true true false e = let w : ⊥ = omega arith in absurd w
+judged-zero true false c e = let w : ⊥ = omega arith in absurd w
+judged-zero false b c e = let w : ⊥ = omega arith in absurd w
+
+pub judged-says : (s : List ℕ) (leaf : ℕ → List ℕ) (k n : ℕ) → judgedAt s leaf k n ≡ 0 → Judged s leaf k n
+unfolding judgedAt
+judged-says s leaf k n e =
+    let w = judged-zero (heldAt s n) (same (hashAt s n) (node leaf k 0)) (agrees s (subtree leaf k n 0)) e in
+    record { held = w .0; alike = same-true (hashAt s n) (node leaf k 0) (w .1); agree = w .2 }
+
+pub judged-enough : (s : List ℕ) (leaf : ℕ → List ℕ) (k n : ℕ) → Judged s leaf k n → judgedAt s leaf k n ≡ 0
+unfolding judgedAt
+judged-enough s leaf k n j = rw (j .held, same-eq (hashAt s n) (node leaf k 0) (j .alike), j .agree)
+
+-- a test that let the rest decide
+let-through : (t : Bool) (a n : ℕ) → (n ≡ 0 → ⊥) → cond t a n ≡ 0 → (t ≡ true) × (a ≡ 0)
+let-through true a n f e = (refl, e)
+let-through false a n f e = absurd (f e)
+
+-- a layer answered 0: of the right size, and it gives the held root
+pub record Loads (s layer : List ℕ) : Type 0 where
+  pub store : usable s ≡ true
+  pub longer : hasLayer (fileLength s) (pieceLength s) ≡ true
+  pub size : length layer ≡ 32 * pieceCount (fileLength s) (pieceLength s)
+  pub root : Judged s (layerLeaf layer (layerOfPieces s)) (heightOf s - layerOfPieces s) 1
+
+pub layer-loads : (s layer : List ℕ) → layerNumber s layer ≡ 0 → Loads s layer
+unfolding layerNumber
+layer-loads s layer e =
+    let a = let-through (usable s) _ unusable (λ z. omega arith) e in
+    let b = let-through (hasLayer (fileLength s) (pieceLength s)) _ ruleBroken (λ z. omega arith) (a .1) in
+    let c = let-through (eqb (length layer) (32 * pieceCount (fileLength s) (pieceLength s))) _ wrongSize (λ z. omega arith) (b .1) in
+    record {
+      store = a .0;
+      longer = b .0;
+      size = eqb-true (length layer) (32 * pieceCount (fileLength s) (pieceLength s)) (c .0);
+      root = judged-says s (layerLeaf layer (layerOfPieces s)) (heightOf s - layerOfPieces s) 1 (c .1);
+    }
+
+-- so it lies in the store
+pub loads-layered : (s layer : List ℕ) → Loads s layer → Layered s
+loads-layered s layer l = layered s (usable-facts s (l .store)) (l .longer)
+
+-- and a layer that is all this is answered 0
+pub loads-answered : (s layer : List ℕ) → Loads s layer → layerNumber s layer ≡ 0
+unfolding layerNumber
+loads-answered s layer l =
+    rw (l .store, l .longer, eq-eqb (length layer) (32 * pieceCount (fileLength s) (pieceLength s)) (l .size))
+    (judged-enough s (layerLeaf layer (layerOfPieces s)) (heightOf s - layerOfPieces s) 1 (l .root))
+
+-- a block answered 0: one of the file's, of its size, and its hash is the held leaf
+pub record RightBlock (s : List ℕ) (i : ℕ) (block : List ℕ) : Type 0 where
+  pub store : usable s ≡ true
+  pub inside : i < blocksOf s
+  pub size : length block ≡ blockSize (fileLength s) i
+  pub held : heldAt s (nodeNumber (heightOf s) 0 i) ≡ true
+  pub alike : hashAt s (nodeNumber (heightOf s) 0 i) ≡ sha256 block
+
+pub block-right : (s : List ℕ) (i : ℕ) (block : List ℕ) → blockNumber s i block ≡ 0 → RightBlock s i block
+unfolding blockNumber
+block-right s i block e =
+    let n = nodeNumber (heightOf s) 0 i in
+    let a = let-through (usable s) _ unusable (λ z. omega arith) e in
+    let b = let-through (ltb i (blocksOf s)) _ ruleBroken (λ z. omega arith) (a .1) in
+    let c = let-through (eqb (length block) (blockSize (fileLength s) i)) _ wrongSize (λ z. omega arith) (b .1) in
+    let d = judged-zero (heldAt s n) (same (hashAt s n) (sha256 block)) true (c .1) in
+    record {
+      store = a .0;
+      inside = ltb-true i (blocksOf s) (b .0);
+      size = eqb-true (length block) (blockSize (fileLength s) i) (c .0);
+      held = d .0;
+      alike = same-true (hashAt s n) (sha256 block) (d .1);
+    }
+
+-- and such a block is answered 0
+pub right-block : (s : List ℕ) (i : ℕ) (block : List ℕ) → RightBlock s i block → blockNumber s i block ≡ 0
+unfolding blockNumber
+right-block s i block r =
+    let n = nodeNumber (heightOf s) 0 i in
+    rw (r .store, lt-ltb i (blocksOf s) (r .inside), eq-eqb (length block) (blockSize (fileLength s) i) (r .size), r .held, same-eq (hashAt s n) (sha256 block) (r .alike))
+
+-- a piece answered 0: one of the file's, of its size, and its blocks give the held node, with no held position below it different
+pub record RightPiece (s : List ℕ) (i : ℕ) (piece : List ℕ) : Type 0 where
+  pub store : usable s ≡ true
+  pub inside : i < pieceCount (fileLength s) (pieceLength s)
+  pub size : length piece ≡ pieceSize (fileLength s) (pieceLength s) i
+  pub node : Judged s (leafOf piece) (pieceHeight s) (nodeNumber (heightOf s) (pieceHeight s) i)
+
+pub piece-right : (s : List ℕ) (i : ℕ) (piece : List ℕ) → pieceNumber s i piece ≡ 0 → RightPiece s i piece
+unfolding pieceNumber
+piece-right s i piece e =
+    let a = let-through (usable s) _ unusable (λ z. omega arith) e in
+    let b = let-through (ltb i (pieceCount (fileLength s) (pieceLength s))) _ ruleBroken (λ z. omega arith) (a .1) in
+    let c = let-through (eqb (length piece) (pieceSize (fileLength s) (pieceLength s) i)) _ wrongSize (λ z. omega arith) (b .1) in
+    record {
+      store = a .0;
+      inside = ltb-true i (pieceCount (fileLength s) (pieceLength s)) (b .0);
+      size = eqb-true (length piece) (pieceSize (fileLength s) (pieceLength s) i) (c .0);
+      node = judged-says s (leafOf piece) (pieceHeight s) (nodeNumber (heightOf s) (pieceHeight s) i) (c .1);
+    }
+
+-- and such a piece is answered 0
+pub right-piece : (s : List ℕ) (i : ℕ) (piece : List ℕ) → RightPiece s i piece → pieceNumber s i piece ≡ 0
+unfolding pieceNumber
+right-piece s i piece r =
+    rw (r .store, lt-ltb i (pieceCount (fileLength s) (pieceLength s)) (r .inside), eq-eqb (length piece) (pieceSize (fileLength s) (pieceLength s) i) (r .size))
+    (judged-enough s (leafOf piece) (pieceHeight s) (nodeNumber (heightOf s) (pieceHeight s) i) (r .node))
+
+-- ---- which numbers there are
+
+-- n is one of these numbers
+abbrev pub among : List ℕ → ℕ → Bool
+among [] n = false
+among (m ∷ ms) n = eqb n m || among ms n
+
+either : (ms : List ℕ) (t : Bool) (a n : ℕ) → among ms a ≡ true → among ms n ≡ true → among ms (cond t a n) ≡ true
+either ms true a n p q = p
+either ms false a n p q = q
+
+judged-among : (ms : List ℕ) → among ms 0 ≡ true → among ms noAnchor ≡ true → among ms differs ≡ true → among ms conflict ≡ true
+    → (a b c : Bool) → among ms (judged a b c) ≡ true
+judged-among ms p q r t true true true = p
+judged-among ms p q r t true true false = t
+judged-among ms p q r t true false c = r
+judged-among ms p q r t false b c = q
+
+judged-true : (ms : List ℕ) → among ms 0 ≡ true → among ms noAnchor ≡ true → among ms differs ≡ true → (a b : Bool) → among ms (judged a b true) ≡ true
+judged-true ms p q r true true = p
+judged-true ms p q r true false = r
+judged-true ms p q r false b = q
+
+-- of a layer
+abbrev pub layerNumbers : List ℕ
+layerNumbers = 0 ∷ ruleBroken ∷ wrongSize ∷ noAnchor ∷ differs ∷ conflict ∷ unusable ∷ []
+
+pub layer-numbers : (s layer : List ℕ) → among layerNumbers (layerNumber s layer) ≡ true
+unfolding layerNumber judgedAt
+layer-numbers s layer =
+    let leaf = layerLeaf layer (layerOfPieces s) in
+    let k = heightOf s - layerOfPieces s in
+    either layerNumbers (usable s) _ unusable
+    (either layerNumbers (hasLayer (fileLength s) (pieceLength s)) _ ruleBroken
+    (either layerNumbers (eqb (length layer) (32 * pieceCount (fileLength s) (pieceLength s))) _ wrongSize
+    (judged-among layerNumbers refl refl refl refl (heldAt s 1) (same (hashAt s 1) (node leaf k 0)) (agrees s (subtree leaf k 1 0)))
+    refl)
+    refl)
+    refl
+
+-- of a block: nothing lies below a leaf, so never 8
+abbrev pub blockNumbers : List ℕ
+blockNumbers = 0 ∷ ruleBroken ∷ wrongSize ∷ noAnchor ∷ differs ∷ unusable ∷ []
+
+pub block-numbers : (s : List ℕ) (i : ℕ) (block : List ℕ) → among blockNumbers (blockNumber s i block) ≡ true
+unfolding blockNumber
+block-numbers s i block =
+    let n = nodeNumber (heightOf s) 0 i in
+    either blockNumbers (usable s) _ unusable
+    (either blockNumbers (ltb i (blocksOf s)) _ ruleBroken
+    (either blockNumbers (eqb (length block) (blockSize (fileLength s) i)) _ wrongSize
+    (judged-true blockNumbers refl refl refl (heldAt s n) (same (hashAt s n) (sha256 block)))
+    refl)
+    refl)
+    refl
+
+-- of a piece
+abbrev pub pieceNumbers : List ℕ
+pieceNumbers = 0 ∷ ruleBroken ∷ wrongSize ∷ noAnchor ∷ differs ∷ conflict ∷ unusable ∷ []
+
+pub piece-numbers : (s : List ℕ) (i : ℕ) (piece : List ℕ) → among pieceNumbers (pieceNumber s i piece) ≡ true
+unfolding pieceNumber judgedAt
+piece-numbers s i piece =
+    let k = pieceHeight s in
+    let n = nodeNumber (heightOf s) k i in
+    either pieceNumbers (usable s) _ unusable
+    (either pieceNumbers (ltb i (pieceCount (fileLength s) (pieceLength s))) _ ruleBroken
+    (either pieceNumbers (eqb (length piece) (pieceSize (fileLength s) (pieceLength s) i)) _ wrongSize
+    (judged-among pieceNumbers refl refl refl refl (heldAt s n) (same (hashAt s n) (node (leafOf piece) k 0)) (agrees s (subtree (leafOf piece) k n 0)))
+    refl)
+    refl)
+    refl
+
+-- ---- a piece's node in the tree
+
+module _ (s : List ℕ) (f : Facts s) (i : ℕ) (l : i < pieceCount (fileLength s) (pieceLength s)) where
+  -- in a file that has a layer it is number i of layer p, and no padding
+  pub piece-in-layer : hasLayer (fileLength s) (pieceLength s) ≡ true
+      → (nodeNumber (heightOf s) (pieceHeight s) i ≡ nodeNumber (heightOf s) (layerOfPieces s) i) × (i < covering (blocksOf s) (layerOfPieces s))
+  piece-in-layer t = (ap (λ (x : ℕ). nodeNumber (heightOf s) x i) (height-layer s f t), omega (arith, pieces-are s f))
+
+  -- else the file has the one piece 0, and its node is the root
+  pub piece-at-root : hasLayer (fileLength s) (pieceLength s) ≡ false → (i ≡ 0) × (nodeNumber (heightOf s) (pieceHeight s) i ≡ 1)
+  piece-at-root t =
+      let z : i ≡ 0 = omega (arith, one-piece-only s f t) in
+      (z, ap₂ (λ (x y : ℕ). nodeNumber (heightOf s) x y) (height-root s f t) z ∙ node-number-root (heightOf s))
+
+  -- its number is that of a position of the tree
+  pub piece-position : (1 ≤ nodeNumber (heightOf s) (pieceHeight s) i) × (nodeNumber (heightOf s) (pieceHeight s) i < positions (heightOf s))
+  unfolding positions
+  piece-position = node-number-range (heightOf s) (pieceHeight s) i (placed s f i l .inside)
+
+-- ---- the positions that a layer settles
+
+-- e is a position of layer p or above it, with the value worked out from the layer
+pub record InLayers (s layer : List ℕ) (e : Entry) : Type 0 where
+  pub l : ℕ
+  pub i : ℕ
+  pub from : layerOfPieces s ≤ l
+  pub upto : l ≤ heightOf s
+  pub inside : i < 2 ^ (heightOf s - l)
+  pub position : e .at ≡ nodeNumber (heightOf s) l i
+  pub value : e .hash ≡ node (layerLeaf layer (layerOfPieces s)) (l - layerOfPieces s) i
+
+module _ (s layer : List ℕ) (f : Layered s) where
+  -- every entry is one of these
+  pub settled-in-layers : (e : Entry) → In e (layerSettled s layer) → InLayers s layer e
+  unfolding layerSettled nodeNumber
+  settled-in-layers e x =
+      let leaf = layerLeaf layer (layerOfPieces s) in
+      let P = subtree-value leaf (heightOf s - layerOfPieces s) 1 0 e x in
+      let r : P .layers ≤ heightOf s - layerOfPieces s = P .reach in
+      let d : heightOf s - (heightOf s - P .layers) ≡ P .layers = omega (arith, f .above) in
+      let u : heightOf s - layerOfPieces s - P .layers ≡ heightOf s - P .layers - layerOfPieces s = omega arith in
+      let j : 0 * 2 ^ P .layers + P .offset ≡ P .offset = omega arith in
+      record {
+        l = heightOf s - P .layers;
+        i = P .offset;
+        from = omega (arith, f .above);
+        upto = omega arith;
+        inside = rw d (P .inside);
+        position = P .position ∙ rw d (omega (arith, one-mul (2 ^ P .layers)));
+        value = P .value ∙ ap₂ (λ (a b : ℕ). node leaf a b) u j;
+      }
+
+  -- and every position of these layers is an entry
+  pub layers-in-settled : (l i : ℕ) → layerOfPieces s ≤ l → l ≤ heightOf s → i < 2 ^ (heightOf s - l)
+      → Has (nodeNumber (heightOf s) l i) (node (layerLeaf layer (layerOfPieces s)) (l - layerOfPieces s) i) (layerSettled s layer)
+  unfolding layerSettled nodeNumber
+  layers-in-settled l i a b c =
+      let leaf = layerLeaf layer (layerOfPieces s) in
+      let k = heightOf s - layerOfPieces s in
+      let u : k - (heightOf s - l) ≡ l - layerOfPieces s = omega arith in
+      let j : 0 * 2 ^ (heightOf s - l) + i ≡ i = omega arith in
+      let q : 1 * 2 ^ (heightOf s - l) + i ≡ 2 ^ (heightOf s - l) + i = omega arith in
+      has-same (subtree leaf k 1 0) (1 * 2 ^ (heightOf s - l) + i) (2 ^ (heightOf s - l) + i)
+      (node leaf (k - (heightOf s - l)) (0 * 2 ^ (heightOf s - l) + i)) (node leaf (l - layerOfPieces s) i)
+      q (ap₂ (λ (a b : ℕ). node leaf a b) u j) (subtree-has leaf k 1 0 (heightOf s - l) i (omega arith) c)
+
+  -- by their numbers: those from 1 up to 2·2^(h - p)
+  pub settled-numbers : (e : Entry) → In e (layerSettled s layer) → (1 ≤ e .at) × (e .at < 2 * 2 ^ (heightOf s - layerOfPieces s))
+  settled-numbers e x =
+      let w = settled-in-layers e x in
+      let g : 2 ^ (heightOf s - w .l) ≤ 2 ^ (heightOf s - layerOfPieces s) = pow-mono (omega (arith, w .from)) in
+      let n = node-number-layer (heightOf s) (w .l) (w .i) (w .inside) in
+      (omega (arith, w .position, pow-pos (heightOf s - w .l)), omega (arith, w .position))
+
+  -- all of them
+  pub numbers-settled : (q : ℕ) → 1 ≤ q → q < 2 * 2 ^ (heightOf s - layerOfPieces s) → (v : List ℕ) × Has q v (layerSettled s layer)
+  unfolding nodeNumber
+  numbers-settled q a b =
+      let k = heightOf s - layerOfPieces s in
+      let w = node-number-covers k q a b in
+      let d : heightOf s - (w .0 + layerOfPieces s) ≡ k - w .0 = omega arith in
+      let e : nodeNumber (heightOf s) (w .0 + layerOfPieces s) (w .1) ≡ q = rw d (sym (w .4)) in
+      let v = node (layerLeaf layer (layerOfPieces s)) (w .0 + layerOfPieces s - layerOfPieces s) (w .1) in (
+        v,
+        has-same (layerSettled s layer) (nodeNumber (heightOf s) (w .0 + layerOfPieces s) (w .1)) q v v e refl
+            (layers-in-settled (w .0 + layerOfPieces s) (w .1) (omega arith) (omega (arith, w .2, f .above)) (rw d (w .3))),
+      )
+
+  -- none of them twice
+  pub settled-apart : Apart (layerSettled s layer)
+  unfolding layerSettled
+  settled-apart = subtree-apart (layerLeaf layer (layerOfPieces s)) (heightOf s - layerOfPieces s) 1 0 (omega arith)
+
+  -- and all from the root's on
+  pub settled-from-root : FromRoot (layerSettled s layer)
+  settled-from-root = from-root-in (layerSettled s layer) (λ e x. settled-numbers e x .0)
+
+-- ---- what a layer leaves
+
+-- a refusal leaves the store
+pub layer-refused : (s layer : List ℕ) → (layerNumber s layer ≡ 0 → ⊥) → layerAfter s layer ≡ s
+unfolding layerAfter
+layer-refused s layer ne = rw (ne-eqb (layerNumber s layer) 0 ne)
+
+-- and counts nothing
+pub layer-refused-count : (s layer : List ℕ) → (layerNumber s layer ≡ 0 → ⊥) → layerAnswer s layer ≡ refused (layerNumber s layer)
+unfolding layerAnswer
+layer-refused-count s layer ne = rw (layer-refused s layer ne, newly-none (positions (heightOf s)) s)
+
+module _ (s layer : List ℕ) (z : layerNumber s layer ≡ 0) where
+  loaded : Loads s layer
+  loaded = layer-loads s layer z
+
+  layers : Layered s
+  layers = loads-layered s layer loaded
+
+  room : Room (positions (heightOf s)) s
+  room = layers .facts .room
+
+  sound : Sound (positions (heightOf s)) (layerSettled s layer)
+  sound = layer-sound s layer layers
+
+  agreed : agrees s (layerSettled s layer) ≡ true
+  unfolding layerSettled
+  agreed = loaded .root .agree
+
+  -- on 0 all settled positions are held
+  pub layer-taken : layerAfter s layer ≡ putAll s (layerSettled s layer)
+  unfolding layerAfter
+  layer-taken = rw (eq-eqb (layerNumber s layer) 0 z)
+
+  -- the hashes give the root that is held
+  pub layer-gives-root : (heldAt s 1 ≡ true) × (hashAt s 1 ≡ layerRoot layer (layerOfPieces s) (heightOf s))
+  unfolding layerRoot
+  layer-gives-root = (loaded .root .held, loaded .root .alike)
+
+  -- the facts stay
+  pub layer-same-facts : SameFacts s (layerAfter s layer)
+  layer-same-facts = rw layer-taken (putAll-same-facts s (layers .facts) (layerSettled s layer) sound (settled-from-root s layer layers))
+
+  -- the store stays usable
+  pub layer-facts : Facts (layerAfter s layer)
+  layer-facts = rw layer-taken (putAll-facts s (layers .facts) (layerSettled s layer) sound (settled-from-root s layer layers))
+
+  -- every position of layer p and above is held, with the value worked out from the layer
+  pub layer-held : (l i : ℕ) → layerOfPieces s ≤ l → l ≤ heightOf s → i < 2 ^ (heightOf s - l)
+      → Hold (layerAfter s layer) (nodeNumber (heightOf s) l i) (node (layerLeaf layer (layerOfPieces s)) (l - layerOfPieces s) i)
+  layer-held l i a b c =
+      rw layer-taken (entries-held (positions (heightOf s)) (layerSettled s layer) s room sound (apart-consistent (layerSettled s layer) (settled-apart s layer layers))
+      (record { at = nodeNumber (heightOf s) l i; hash = node (layerLeaf layer (layerOfPieces s)) (l - layerOfPieces s) i }) (layers-in-settled s layer layers l i a b c))
+
+  -- what was held stays held with the same bytes
+  pub layer-keeps : (q : ℕ) → q < positions (heightOf s) → heldAt s q ≡ true → (heldAt (layerAfter s layer) q ≡ true) × (hashAt (layerAfter s layer) q ≡ hashAt s q)
+  layer-keeps q b h = rw layer-taken (keeps (positions (heightOf s)) (layerSettled s layer) s room sound agreed q b h)
+
+  -- what lies below layer p stays as it was
+  pub layer-leaves : (q : ℕ) → 2 * 2 ^ (heightOf s - layerOfPieces s) ≤ q → q < positions (heightOf s)
+      → (heldAt (layerAfter s layer) q ≡ heldAt s q) × (hashAt (layerAfter s layer) q ≡ hashAt s q)
+  layer-leaves q a b =
+      rw layer-taken (putAll-other (positions (heightOf s)) (layerSettled s layer) s room sound q b
+      (λ e x p. omega (arith, settled-numbers s layer layers e x)))
+
+  -- so what is held then was held before, or is in layer p or above
+  pub layer-only : (q : ℕ) → heldAt (layerAfter s layer) q ≡ true → (heldAt s q ≡ true) ⊎ ((1 ≤ q) × (q < 2 * 2 ^ (heightOf s - layerOfPieces s)))
+  layer-only q h =
+      elim (held-or-entry (positions (heightOf s)) (layerSettled s layer) s room sound q (rw layer-taken at h)) [
+        | inl x ↦ inl x
+        | inr o ↦ inr (settled-numbers s layer layers (record { at = q; hash = o .0 }) (o .1))
+      ]
+
+  -- the count is the settled positions that were not held
+  pub layer-count : layerAnswer s layer ≡ done (fresh s (layerSettled s layer))
+  unfolding layerAnswer
+  layer-count = rw (z, layer-taken, count-fresh (positions (heightOf s)) (layerSettled s layer) s room sound)
+
+-- ---- whatever the number
+
+module _ (s layer : List ℕ) where
+  by-number : (P : List ℕ → Type 0) → P s → (layerNumber s layer ≡ 0 → P (layerAfter s layer)) → P (layerAfter s layer)
+  by-number P same f =
+      elim (ℕ-discrete (layerNumber s layer) 0) [ yes z ↦ f z | no ne ↦ rw (layer-refused s layer ne) same ]
+
+  -- the buffer keeps its length
+  pub layer-length : length (layerAfter s layer) ≡ length s
+  layer-length =
+      by-number (λ t. length t ≡ length s) refl
+      (λ z. rw (layer-taken s layer z) (putAll-length (positions (heightOf s)) (layerSettled s layer) s (room s layer z) (sound s layer z)))
+
+  -- is usable as before
+  pub layer-usable : usable (layerAfter s layer) ≡ usable s
+  layer-usable =
+      by-number (λ t. usable t ≡ usable s) refl
+      (λ z. facts-usable (layerAfter s layer) (layer-facts s layer z) ∙ sym (loaded s layer z .store))
+
+  -- and keeps its bytes past the store's size
+  pub layer-past : (i : ℕ) → storeSize (fileLength s) ≤ i → getD (layerAfter s layer) i 0 ≡ getD s i 0
+  layer-past i l =
+      by-number (λ t. getD t i 0 ≡ getD s i 0) refl
+      (λ z. rw (layer-taken s layer z) (putAll-past (positions (heightOf s)) (layerSettled s layer) s (room s layer z) (sound s layer z) i (omega (arith, own-size s))))

@@ -1,1 +1,258 @@
-// to be written
+// Loading a piece layer into a store, judging a block, judging a piece.
+ghost use mathlib.Core.Path.{_≡_};
+ghost use mathlib.Core.Bool.{true};
+ghost use Prim.Native.Nat.{_+_, _-_, _≤_};
+ghost use lib.ListN.{length};
+ghost use Rattle.octets.specs.Octets.{same};
+ghost use Rattle.sha256.specs.Sha256.{sha256};
+ghost use Rattle.tree.specs.Geometry.{nodeNumber};
+ghost use Rattle.tree.specs.Values.{leafOf, layerLeaf};
+ghost use Rattle.cells.specs.Cells.{Room, heldAt, hashAt};
+ghost use Rattle.cells.specs.Entries.{putAll};
+ghost use Rattle.cells.specs.EntriesLaws.{fresh};
+ghost use Rattle.store.specs.Store.{heightOf, positions};
+ghost use Rattle.runs.specs.Span.{Fit};
+ghost use Rattle.runs.specs.Subtree.{runLeaf};
+ghost use Rattle.pieces.specs.Pieces as P;
+ghost use Rattle.pieces.specs.PiecesLaws.{Layered, Placed};
+use numbers::Answer;
+use runs::Seen;
+use runs::look_data;
+use runs::look_run;
+use runs::write_run;
+use store::blocks_of;
+use store::file_length;
+use store::height_of;
+use store::is_usable;
+use store::piece_length_of;
+use tree::geometry::block_size;
+use tree::geometry::has_layer;
+use tree::geometry::node_number;
+use tree::geometry::piece_count;
+use tree::geometry::piece_layer;
+use tree::geometry::piece_size;
+use tree::values::pad_value;
+
+// 7, 8 or 0, where the anchor is held: as worked out or not, another held hash different or not.
+fn judge(alike: bool, agrees: bool) -> u32
+    ensures { λ r. ⌜ r ≡ P.judged true alike agrees ⌝ }
+{
+    if alike {
+        if agrees {
+            return numbers::DONE;
+        }
+        return numbers::CONFLICT;
+    }
+    numbers::DIFFERS
+}
+
+// The same for position n, which is held, by what was worked out for it.
+fn judge_seen(s: &[u8], n: usize, seen: Seen) -> u32
+    requires { ⌜ Room (n + 1) (now s) ⌝ }
+    ensures { λ r. ⌜ r ≡ P.judged true (same (hashAt (now (s .entry)) n) (seen .hash)) (seen .agrees) ⌝ }
+{
+    let worked = seen.hash;
+    let mine = cells::hash_of(s, n);
+    let alike = octets::same(mine, worked);
+    judge(alike, seen.agrees)
+}
+
+// Position n against the subtree over a run of hashes. Nothing is hashed if n is not held.
+fn judge_run(s: &[u8], run: &[u8], past: [u8; 32], b: usize, k: usize, n: usize) -> u32
+    requires { ⌜ Fit (length (now s)) b k n 0 ⌝ }
+    ensures { λ r. ⌜ r ≡ P.judgedAt (now (s .entry)) (runLeaf (now (run .entry)) past) k n ⌝ }
+{
+    let held = cells::held(s, n);
+    if held {
+        let seen = look_run(s, run, past, b, k, n, 0);
+        return judge_seen(s, n, seen);
+    }
+    numbers::NO_ANCHOR
+}
+
+// Position n against the subtree over the blocks of a piece.
+fn judge_data(s: &[u8], bytes: &[u8], b: usize, k: usize, n: usize) -> u32
+    requires { ⌜ Fit (length (now s)) b k n 0 ⌝ }
+    ensures { λ r. ⌜ r ≡ P.judgedAt (now (s .entry)) (leafOf (now (bytes .entry))) k n ⌝ }
+{
+    let held = cells::held(s, n);
+    if held {
+        let seen = look_data(s, bytes, b, k, n, 0);
+        return judge_seen(s, n, seen);
+    }
+    numbers::NO_ANCHOR
+}
+
+// Leaf n against a block. Nothing lies below a leaf that could differ.
+fn judge_leaf(s: &[u8], bytes: &[u8], n: usize) -> u32
+    requires { ⌜ Room (n + 1) (now s) ⌝ }
+    ensures { λ r. ⌜ r ≡ P.judged (heldAt (now (s .entry)) n) (same (hashAt (now (s .entry)) n) (sha256 (now (bytes .entry)))) true ⌝ }
+{
+    let held = cells::held(s, n);
+    if held {
+        let hash = sha256::hash(bytes);
+        let seen = Seen { hash, agrees: true };
+        return judge_seen(s, n, seen);
+    }
+    numbers::NO_ANCHOR
+}
+
+// The number that the positions of a tree of height h stay below.
+fn positions_below(h: usize) -> usize
+    requires { ⌜ h ≤ 16 ⌝ }
+    ensures { λ r. ⌜ r ≡ positions h ⌝ }
+{
+    2 << h
+}
+
+// ---- a piece layer
+
+// 6, 7, 8 or 0 of a layer of the right size.
+fn judge_layer(s: &[u8], layer: &[u8]) -> u32
+    requires { ⌜ Layered (now s) ⌝ }
+    ensures { λ r. ⌜ r ≡ P.judgedAt (now (s .entry)) (layerLeaf (now (layer .entry)) (P.layerOfPieces (now (s .entry)))) (heightOf (now (s .entry)) - P.layerOfPieces (now (s .entry))) 1 ⌝ }
+{
+    let h = height_of(s);
+    let plen = piece_length_of(s);
+    let p = piece_layer(plen);
+    let past = pad_value(p);
+    let b = positions_below(h);
+    let k = h - p;
+    judge_run(s, layer, past, b, k, 1)
+}
+
+// Layer p and all above it become held; how many of the positions were not.
+fn write_layer(s: &mut [u8], layer: &[u8]) -> u64
+    requires { ⌜ Layered (now s) ⌝ }
+    ensures { λ r. ⌜ (r ≡ fresh (now (s .entry)) (P.layerSettled (now (s .entry)) (now (layer .entry)))) × (now (s .exit) ≡ putAll (now (s .entry)) (P.layerSettled (now (s .entry)) (now (layer .entry)))) ⌝ }
+{
+    let h = height_of(s);
+    let plen = piece_length_of(s);
+    let p = piece_layer(plen);
+    let b = positions_below(h);
+    let k = h - p;
+    let filled = write_run(s, layer, pad_value(p), b, k, 1, 0);
+    filled.new
+}
+
+// What the layer gets; nothing is written.
+fn layer_number(s: &[u8], layer: &[u8]) -> u32
+    ensures { λ r. ⌜ r ≡ P.layerNumber (now (s .entry)) (now (layer .entry)) ⌝ }
+{
+    let usable = is_usable(s);
+    if usable {
+        let n = file_length(s);
+        let plen = piece_length_of(s);
+        let has = has_layer(n, plen);
+        if has {
+            let c = piece_count(n, plen);
+            if layer.len() == 32 * c {
+                return judge_layer(s, layer);
+            }
+            return numbers::WRONG_SIZE;
+        }
+        return numbers::RULE_BROKEN;
+    }
+    numbers::UNUSABLE
+}
+
+// Loads the file's piece layer, or refuses it and leaves the store as it was. The count is the positions newly held.
+pub fn load_layer(s: &mut [u8], layer: &[u8]) -> Answer
+    ensures { λ r. ⌜ (r ≡ P.layerAnswer (now (s .entry)) (now (layer .entry))) × (now (s .exit) ≡ P.layerAfter (now (s .entry)) (now (layer .entry))) ⌝ }
+{
+    let number = layer_number(s, layer);
+    if number == 0 {
+        let new = write_layer(s, layer);
+        return numbers::success(new);
+    }
+    numbers::refusal(number)
+}
+
+// ---- a block
+
+// What a block's bytes get.
+fn block_number(s: &[u8], block: usize, bytes: &[u8]) -> u32
+    ensures { λ r. ⌜ r ≡ P.blockNumber (now (s .entry)) block (now (bytes .entry)) ⌝ }
+{
+    let usable = is_usable(s);
+    if usable {
+        let c = blocks_of(s);
+        if block < c {
+            let n = file_length(s);
+            let size = block_size(n, block);
+            if bytes.len() == size {
+                let h = height_of(s);
+                let q = node_number(h, 0, block);
+                return judge_leaf(s, bytes, q);
+            }
+            return numbers::WRONG_SIZE;
+        }
+        return numbers::RULE_BROKEN;
+    }
+    numbers::UNUSABLE
+}
+
+// Judges a block's bytes against the leaf held for it. Nothing becomes held, so the count is 0.
+pub fn judge_block(s: &[u8], block: usize, bytes: &[u8]) -> Answer
+    ensures { λ r. ⌜ r ≡ P.blockAnswer (now (s .entry)) block (now (bytes .entry)) ⌝ }
+{
+    let number = block_number(s, block, bytes);
+    Answer { number, count: 0 }
+}
+
+// ---- a piece
+
+// The layer of the node that a piece is judged against: layer p, or the root's if the file has no piece layer.
+fn piece_height(s: &[u8]) -> usize
+    requires { ⌜ 64 ≤ length (now s) ⌝ }
+    ensures { λ r. ⌜ r ≡ P.pieceHeight (now (s .entry)) ⌝ }
+{
+    let n = file_length(s);
+    let plen = piece_length_of(s);
+    let has = has_layer(n, plen);
+    if has {
+        return piece_layer(plen);
+    }
+    height_of(s)
+}
+
+// 6, 7, 8 or 0 of a piece of the right size.
+fn judge_node(s: &[u8], piece: usize, bytes: &[u8]) -> u32
+    requires { ⌜ Placed (now s) piece ⌝ }
+    ensures { λ r. ⌜ r ≡ P.judgedAt (now (s .entry)) (leafOf (now (bytes .entry))) (P.pieceHeight (now (s .entry))) (nodeNumber (heightOf (now (s .entry))) (P.pieceHeight (now (s .entry))) piece) ⌝ }
+{
+    let h = height_of(s);
+    let k = piece_height(s);
+    let b = positions_below(h);
+    let q = node_number(h, k, piece);
+    judge_data(s, bytes, b, k, q)
+}
+
+// What a piece's bytes get.
+fn piece_number(s: &[u8], piece: usize, bytes: &[u8]) -> u32
+    ensures { λ r. ⌜ r ≡ P.pieceNumber (now (s .entry)) piece (now (bytes .entry)) ⌝ }
+{
+    let usable = is_usable(s);
+    if usable {
+        let n = file_length(s);
+        let plen = piece_length_of(s);
+        let c = piece_count(n, plen);
+        if piece < c {
+            let size = piece_size(n, plen, piece);
+            if bytes.len() == size {
+                return judge_node(s, piece, bytes);
+            }
+            return numbers::WRONG_SIZE;
+        }
+        return numbers::RULE_BROKEN;
+    }
+    numbers::UNUSABLE
+}
+
+// Judges a piece's bytes against the node held for it. Nothing becomes held, so the count is 0.
+pub fn judge_piece(s: &[u8], piece: usize, bytes: &[u8]) -> Answer
+    ensures { λ r. ⌜ r ≡ P.pieceAnswer (now (s .entry)) piece (now (bytes .entry)) ⌝ }
+{
+    let number = piece_number(s, piece, bytes);
+    Answer { number, count: 0 }
+}

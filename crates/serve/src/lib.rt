@@ -1,1 +1,206 @@
-// to be written
+// A request for hashes served: answered by a hashes message if all are held, by a reject if not. The store is only looked at.
+ghost use mathlib.Core.Path.{_≡_};
+ghost use mathlib.Core.List.{_∷_};
+ghost use Prim.Native.Nat.{_+_, _*_, _^_, _≤_};
+ghost use lib.ListN.{length};
+ghost use Rattle.octets.specs.Octets.{cut, pasted};
+ghost use Rattle.cells.specs.Cells.{Room};
+ghost use Rattle.header.specs.Header.{isRequest};
+ghost use Rattle.messages.specs.Take.{headerNumber, placeIn};
+ghost use Rattle.serve.specs.Serve as S;
+ghost use Rattle.serve.specs.ServeLaws.{Reach, fitAnswer, fitAfter};
+use cells::hash_of;
+use cells::held;
+use header::Place;
+use header::header_of;
+use header::is_request;
+use header::place_of;
+use messages::take::header_number;
+use numbers::Answer;
+use numbers::refusal;
+use numbers::success;
+use octets::put_hash;
+use runs::beside;
+use store::blocks_of;
+use store::height_of;
+
+// Whether the c positions from number n on are all held.
+fn held_run(s: &[u8], n: usize, c: usize) -> bool
+    requires { ⌜ Room (n + c) (now s) ⌝ }
+    ensures { λ r. ⌜ r ≡ S.heldRun (now (s .entry)) n c ⌝ }
+{
+    let mut i = 0;
+    while i < c {
+        let there = held(s, n + i);
+        if !there {
+            return false;
+        }
+        i += 1;
+    }
+    true
+}
+
+// Whether the u uncles from position n upward are all held.
+fn held_uncles(s: &[u8], u: usize, n: usize) -> bool
+    requires { ⌜ Room (n + 2) (now s) ⌝ }
+    ensures { λ r. ⌜ r ≡ S.heldUncles (now (s .entry)) u n ⌝ }
+{
+    let mut x = n;
+    let mut i = 0;
+    while i < u {
+        let q = beside(x);
+        let there = held(s, q);
+        if !there {
+            return false;
+        }
+        x = x / 2;
+        i += 1;
+    }
+    true
+}
+
+// The hashes below a position k layers down.
+fn run_count(k: usize) -> usize
+    requires { ⌜ k ≤ 16 ⌝ }
+    ensures { λ r. ⌜ (r ≡ 2 ^ k) × (r ≤ 65536) ⌝ }
+{
+    1 << k
+}
+
+// Whether run and uncles of a place are all held.
+fn all_held(s: &[u8], p: Place) -> bool
+    requires { ⌜ Reach (length (now s)) p ⌝ }
+    ensures { λ r. ⌜ r ≡ S.allHeld (now (s .entry)) p ⌝ }
+{
+    let k = p.k;
+    let u = p.u;
+    let top = p.top;
+    let c = run_count(k);
+    let n = top * c;
+    let run = held_run(s, n, c);
+    if run {
+        return held_uncles(s, u, top);
+    }
+    false
+}
+
+// The place that a request names which passed 9, 1, 2 and 3.
+fn place_in(s: &[u8], m: &[u8]) -> Place
+    requires { ⌜ headerNumber (isRequest (now m)) (now s) (now m) ≡ 0 ⌝ }
+    ensures { λ r. ⌜ (r ≡ placeIn (now (s .entry)) (now (m .entry))) × Reach (length (now (s .entry))) r ⌝ }
+{
+    let x = header_of(m);
+    let b = blocks_of(s);
+    let h = height_of(s);
+    place_of(x, b, h)
+}
+
+// What a request gets, room apart: 9, 1, 2, 3, 12 or 0.
+fn request_number(s: &[u8], m: &[u8]) -> u32
+    ensures { λ r. ⌜ r ≡ S.requestNumber (now (s .entry)) (now (m .entry)) ⌝ }
+{
+    let form = is_request(m);
+    let number = header_number(s, m, form);
+    if number != numbers::DONE {
+        return number;
+    }
+    let p = place_in(s, m);
+    let there = all_held(s, p);
+    if there {
+        return numbers::DONE;
+    }
+    numbers::NOT_HELD
+}
+
+// Writes the 49 bytes before the hashes: an id, then the request's own 48.
+fn write_head(out: &mut [u8], m: &[u8], id: u8)
+    requires { ⌜ (49 ≤ length (now out)) × (49 ≤ length (now m)) ⌝ }
+    ensures { λ _. ⌜ now (out .exit) ≡ pasted (now (out .entry)) 0 (id ∷ cut (now (m .entry)) 1 48) ⌝ }
+{
+    out[0] = id;
+    let mut i = 1;
+    while i < 49 {
+        out[i] = m[i];
+        i += 1;
+    }
+}
+
+// Copies the hashes of the c positions from number n on, one after the other, from `at` on.
+fn copy_run(s: &[u8], out: &mut [u8], at: usize, n: usize, c: usize)
+    requires { ⌜ Room (n + c) (now s) × (at + 32 * c ≤ length (now out)) ⌝ }
+    ensures { λ _. ⌜ now (out .exit) ≡ pasted (now (out .entry)) at (S.runHashes (now (s .entry)) n c) ⌝ }
+{
+    let mut i = 0;
+    while i < c {
+        let h = hash_of(s, n + i);
+        put_hash(out, at + 32 * i, h);
+        i += 1;
+    }
+}
+
+// Copies the hashes of the u uncles from position n upward, from `at` on.
+fn copy_uncles(s: &[u8], out: &mut [u8], at: usize, u: usize, n: usize)
+    requires { ⌜ Room (n + 2) (now s) × (at + 32 * u ≤ length (now out)) ⌝ }
+    ensures { λ _. ⌜ now (out .exit) ≡ pasted (now (out .entry)) at (S.uncleHashes (now (s .entry)) u n) ⌝ }
+{
+    let mut x = n;
+    let mut i = 0;
+    while i < u {
+        let q = beside(x);
+        let h = hash_of(s, q);
+        put_hash(out, at + 32 * i, h);
+        x = x / 2;
+        i += 1;
+    }
+}
+
+// Sends the hashes message, or gives 11 where the output is too short for it.
+fn send_reply(s: &[u8], m: &[u8], out: &mut [u8]) -> Answer
+    requires { ⌜ headerNumber (isRequest (now m)) (now s) (now m) ≡ 0 ⌝ }
+    ensures { λ r. ⌜ (r ≡ fitAnswer 0 (S.replyTo (now (s .entry)) (now (m .entry))) (now (out .entry))) × (now (out .exit) ≡ fitAfter (S.replyTo (now (s .entry)) (now (m .entry))) (now (out .entry))) ⌝ }
+{
+    let p = place_in(s, m);
+    let k = p.k;
+    let u = p.u;
+    let top = p.top;
+    let c = run_count(k);
+    let n = top * c;
+    let past = 49 + 32 * c;
+    let size = past + 32 * u;
+    if out.len() < size {
+        return refusal(numbers::NO_ROOM);
+    }
+    write_head(out, m, 22);
+    copy_run(s, out, 49, n, c);
+    copy_uncles(s, out, past, u, top);
+    success(size as u64)
+}
+
+// Sends the reject with that number, or gives 11 where the output is too short for it.
+fn send_reject(m: &[u8], out: &mut [u8], number: u32) -> Answer
+    requires { ⌜ length (now m) ≡ 49 ⌝ }
+    ensures { λ r. ⌜ (r ≡ fitAnswer number (S.rejectTo (now (m .entry))) (now (out .entry))) × (now (out .exit) ≡ fitAfter (S.rejectTo (now (m .entry))) (now (out .entry))) ⌝ }
+{
+    if out.len() < 49 {
+        return refusal(numbers::NO_ROOM);
+    }
+    write_head(out, m, 23);
+    Answer { number, count: 49 }
+}
+
+// Serves a request: the number, and how many bytes of `out` are the message to send back.
+pub fn serve(s: &[u8], m: &[u8], out: &mut [u8]) -> Answer
+    ensures { λ r. ⌜ (r ≡ S.serveAnswer (now (s .entry)) (now (m .entry)) (now (out .entry))) × (now (out .exit) ≡ S.serveAfter (now (s .entry)) (now (m .entry)) (now (out .entry))) ⌝ }
+{
+    let number = request_number(s, m);
+    if number == numbers::UNUSABLE {
+        return refusal(numbers::UNUSABLE);
+    }
+    if number == numbers::NO_MESSAGE {
+        return refusal(numbers::NO_MESSAGE);
+    }
+    if number == numbers::DONE {
+        return send_reply(s, m, out);
+    }
+    send_reject(m, out, number)
+}

@@ -21,7 +21,7 @@ use Rattle.tree.specs.GeometryLaws.{block-count-some, block-outside, height-eno
 use Rattle.cells.specs.Cells.{Room, heldAt, hashAt, put}
 use Rattle.cells.specs.CellsLaws.{put-length, put-room, put-outside, held-put-same, held-put-other, hash-put-same, unheld}
 use Rattle.cells.specs.Entries.{Entry, one, putAll, oneIf, newly}
-use Rattle.cells.specs.EntriesLaws.{Sound, none, more, count-fresh, fresh-one, lacks-free, put-one, putAll-length}
+use Rattle.cells.specs.EntriesLaws.{Sound, none, more, In, here, there, count-fresh, fresh-one, lacks-free, put-one, putAll-length}
 use Rattle.store.specs.Store.{maxLength, fileLength, pieceLength, factsRoot, blocksOf, heightOf, positions, factsInRange, storeSize, usable, sizeAnswer, opened, openAnswer, openAfter, inTree, noHash, heldAnswer}
 
 -- ---- facts in range, and the size they fix
@@ -621,3 +621,10 @@ module _ (s : List ℕ) (n plen : ℕ) (root : List ℕ) (ok : factsInRange n pl
       ∙ count-fresh (positions (height (blockCount n))) (one 1 root) bare bare-room (more two size none)
       ∙ fresh-one bare 1 root
       ∙ lacks-free bare 1 (bare-unheld 1 (omega arith) two)
+
+-- ---- lists of positions, entry by entry
+
+-- a list has only numbers from the root's on, if each of its entries has
+pub from-root-in : (L : List Entry) → ((e : Entry) → In e L → 1 ≤ e .at) → FromRoot L
+from-root-in [] f = empty
+from-root-in (e ∷ L) f = next (f e here) (from-root-in L (λ g k. f g (there k)))
