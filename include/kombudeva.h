@@ -112,6 +112,39 @@ kd_answer kd_take(uint8_t *store, size_t size, const uint8_t *message, size_t me
  */
 kd_answer kd_take_reject(const uint8_t *store, size_t size, const uint8_t *message, size_t message_size);
 
+/*
+ * Answers a request (id 21) from what is held, into `out`: a hashes message, or a reject with the request's 48 bytes.
+ *    9, 1  refused, in this order; nothing is written.
+ *    2, 3, 12  a reject has been written; `count` is 49.
+ *   11  too little room for the reply or the reject, whichever it is; nothing is written.
+ *    0  the hashes message has been written; `count` is its size. Bytes of `out` behind it stay.
+ */
+kd_answer kd_serve(const uint8_t *store, size_t size, const uint8_t *request, size_t request_size, uint8_t *out,
+                   size_t out_size);
+
+/* ---- The piece layer, blocks and pieces. ---- */
+
+/*
+ * Loads the piece layer: 32 bytes for each piece, as a torrent's `piece layers` has them.
+ *    9, 3, 4, 6, 7, 8  refused, in this order.
+ *    0  the piece layer and all layers above it are held; `count` says how many positions are newly held.
+ */
+kd_answer kd_load_layer(uint8_t *store, size_t size, const uint8_t *layer, size_t layer_size);
+
+/*
+ * Judges a block of 16 KiB (the last one shorter) against its leaf.
+ *    9, 3, 4, 6, 7  refused, in this order: not believed.
+ *    0  believed; `count` is 0.
+ */
+kd_answer kd_judge_block(const uint8_t *store, size_t size, uint64_t block, const uint8_t *data, size_t data_size);
+
+/*
+ * Judges a piece against its node in the piece layer, or against the held root for a file of one piece.
+ *    9, 3, 4, 6, 7, 8  refused, in this order: not believed.
+ *    0  believed; `count` is 0.
+ */
+kd_answer kd_judge_piece(const uint8_t *store, size_t size, uint64_t piece, const uint8_t *data, size_t data_size);
+
 #ifdef __cplusplus
 }
 #endif

@@ -4,6 +4,8 @@ ghost use mathlib.Core.Path.{_≡_};
 ghost use Rattle.sha256.specs.Answer.{hashedOf};
 ghost use Rattle.store.specs.Store.{sizeAnswer, openAnswer, openAfter, heldAnswer};
 ghost use Rattle.messages.specs.Take.{takeAnswer, takeAfter, rejectAnswer};
+ghost use Rattle.serve.specs.Serve.{serveAnswer, serveAfter};
+ghost use Rattle.pieces.specs.Pieces.{layerAnswer, layerAfter, blockAnswer, pieceAnswer};
 ghost use Rattle.kombudeva.specs.Boundary.{countAnswer, hashAnswer};
 use numbers::Answer;
 use sha256::Hashed;
@@ -89,4 +91,32 @@ pub extern "C" fn kd_take_reject(s: &[u8], message: &[u8]) -> CountAnswer
     ensures { λ r. ⌜ r ≡ countAnswer (rejectAnswer (now (s .entry)) (now (message .entry))) ⌝ }
 {
     count_answer(messages::take::take_reject(s, message))
+}
+
+#[no_mangle]
+pub extern "C" fn kd_serve(s: &[u8], request: &[u8], out: &mut [u8]) -> CountAnswer
+    ensures { λ r. ⌜ (r ≡ countAnswer (serveAnswer (now (s .entry)) (now (request .entry)) (now (out .entry)))) × (now (out .exit) ≡ serveAfter (now (s .entry)) (now (request .entry)) (now (out .entry))) ⌝ }
+{
+    count_answer(serve::serve(s, request, out))
+}
+
+#[no_mangle]
+pub extern "C" fn kd_load_layer(s: &mut [u8], layer: &[u8]) -> CountAnswer
+    ensures { λ r. ⌜ (r ≡ countAnswer (layerAnswer (now (s .entry)) (now (layer .entry)))) × (now (s .exit) ≡ layerAfter (now (s .entry)) (now (layer .entry))) ⌝ }
+{
+    count_answer(pieces::load_layer(s, layer))
+}
+
+#[no_mangle]
+pub extern "C" fn kd_judge_block(s: &[u8], block: u64, bytes: &[u8]) -> CountAnswer
+    ensures { λ r. ⌜ r ≡ countAnswer (blockAnswer (now (s .entry)) block (now (bytes .entry))) ⌝ }
+{
+    count_answer(pieces::judge_block(s, block as usize, bytes))
+}
+
+#[no_mangle]
+pub extern "C" fn kd_judge_piece(s: &[u8], piece: u64, bytes: &[u8]) -> CountAnswer
+    ensures { λ r. ⌜ r ≡ countAnswer (pieceAnswer (now (s .entry)) piece (now (bytes .entry))) ⌝ }
+{
+    count_answer(pieces::judge_piece(s, piece as usize, bytes))
 }
