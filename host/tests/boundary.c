@@ -1,7 +1,7 @@
 /* The header as C sees it: it compiles without a warning, its structs have the sizes and offsets that the library was
  * built for, NULL with size 0 is safe for every parameter, and calls whose every field is known come back right.
  *
- * host/test defines HAS_<name> for each function that the header declares. */
+ * host/test defines HAS_<name> for each function that the header declares: those on torrents are yet to come. */
 #include "kombudeva.h"
 
 #include <stdio.h>
@@ -85,8 +85,6 @@ static void hashes(void)
     /* No memory is that long. The call is tried all the same, since the size alone decides and no byte is read. */
     check("kd_sha256 of 2^61 bytes", is_hashed(kd_sha256((const uint8_t *)"abc", (size_t)1 << 61), 4, zero));
 }
-
-#ifdef HAS_kd_take
 
 /* The file of the session in document 01: five blocks, so a tree of height 3, in pieces of four blocks. */
 enum { BLOCK = 16384, LENGTH = 5 * BLOCK, PIECE = 4 * BLOCK, HEIGHT = 3, STORE = 33 * 15 + 64, HEAD = 49, ROOM = 320 };
@@ -197,10 +195,6 @@ static void rejects(void)
     answers("a reject about another file", kd_take_reject(store, STORE, reject, HEAD), 2, 0);
 }
 
-#endif
-
-#ifdef HAS_kd_serve
-
 static int all_are(const uint8_t *bytes, size_t size, uint8_t value)
 {
     for (size_t i = 0; i < size; i++)
@@ -235,10 +229,6 @@ static void serving(void)
     answers("kd_serve with NULL everywhere", kd_serve(NULL, 0, NULL, 0, NULL, 0), 9, 0);
 }
 
-#endif
-
-#ifdef HAS_kd_load_layer
-
 static void layers(void)
 {
     uint8_t fresh[STORE], damaged[64];
@@ -256,10 +246,6 @@ static void layers(void)
     check("layer 1 is not", is_hashed(kd_held(fresh, STORE, 1, 0), 6, zero));
 }
 
-#endif
-
-#ifdef HAS_kd_judge_block
-
 /* On the store that the session left. */
 static void blocks(void)
 {
@@ -274,10 +260,6 @@ static void blocks(void)
     answers("kd_judge_block of NULL on NULL", kd_judge_block(NULL, 0, 0, NULL, 0), 9, 0);
 }
 
-#endif
-
-#ifdef HAS_kd_judge_piece
-
 static void pieces(void)
 {
     answers("a piece", kd_judge_piece(store, STORE, 0, file, PIECE), 0, 0);
@@ -291,8 +273,6 @@ static void pieces(void)
     answers("kd_judge_piece on NULL", kd_judge_piece(NULL, 0, 0, file, PIECE), 9, 0);
     answers("kd_judge_piece of NULL on NULL", kd_judge_piece(NULL, 0, 0, NULL, 0), 9, 0);
 }
-
-#endif
 
 #ifdef HAS_kd_torrent_read
 
@@ -329,24 +309,14 @@ static void path_of_nothing(void)
 int main(void)
 {
     hashes();
-#ifdef HAS_kd_take
     make_tree();
     stores();
     session();
     rejects();
-#endif
-#ifdef HAS_kd_serve
     serving();
-#endif
-#ifdef HAS_kd_load_layer
     layers();
-#endif
-#ifdef HAS_kd_judge_block
     blocks();
-#endif
-#ifdef HAS_kd_judge_piece
     pieces();
-#endif
 #ifdef HAS_kd_torrent_read
     torrent_of_nothing();
 #endif

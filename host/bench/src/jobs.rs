@@ -43,10 +43,6 @@ const fn job(
 }
 
 impl Job {
-    pub fn is_declared(&self) -> bool {
-        boundary::is_declared(self.entry_point)
-    }
-
     /// The names of the versions, in their order.
     pub fn versions(&self) -> [&'static str; 3] {
         ["plain-rust", "careful-rust", self.entry_point]
@@ -67,9 +63,8 @@ fn bytes(size: usize) -> Vec<u8> {
 }
 
 fn hashing(size: usize) -> Vec<Box<dyn Work>> {
-    let of_version = |hash: Sha256| {
-        work((hash, bytes(size)), |_| (), |(hash, data)| _ = black_box(hash(black_box(data))))
-    };
+    let of_version =
+        |hash: Sha256| work((hash, bytes(size)), |_| (), |(hash, data)| _ = black_box(hash(black_box(data))));
     let by_library: Sha256 = |data| boundary::sha256(data).hash.bytes;
     IN_RUST.into_iter().chain([by_library]).map(of_version).collect()
 }

@@ -1,7 +1,7 @@
 //! The proved library and ordinary Rust doing the same work, in one process.
 //!
 //!   bench                a table for each job: best time of several interleaved rounds, ratio to plain Rust = 1.00
-//!   bench jobs           the names of the jobs to count instructions of, each with its versions
+//!   bench jobs           the jobs to count instructions of, a line each: name, ratio asked, versions
 //!   bench JOB VERSION    does a job once by one version, so that its instructions can be counted from outside
 //!   bench JOB            gets the same job ready and doesn't do it: what to take off
 
@@ -28,10 +28,10 @@ fn find(name: &str) -> &'static Job {
     jobs::ALL.iter().find(|job| job.name == name).expect("a job's name")
 }
 
+/// A job's name, the ratio asked or `-`, its versions.
 fn names(job: &Job) {
-    if job.is_declared() {
-        println!("{} {} {}", job.name, job.asked, job.versions().join(" "));
-    }
+    let asked = if job.asked.is_empty() { "-" } else { job.asked };
+    println!("{} {asked} {}", job.name, job.versions().join(" "));
 }
 
 fn once(job: &Job, version: &str) {
@@ -40,12 +40,8 @@ fn once(job: &Job, version: &str) {
     versions[at].run();
 }
 
-/// One line for each version: job, bytes hashed or handed on, version, ns, MB/s, ratio, and the ratio asked for.
+/// One line for each version: job, version, ns, MB/s, ratio, and the ratio asked for.
 fn table(job: &Job) {
-    if !job.is_declared() {
-        println!("{:<12} the header does not declare {} yet", job.name, job.entry_point);
-        return;
-    }
     let best = measure::best_of_rounds(&mut (job.ready)());
     for (version, time) in job.versions().iter().zip(&best) {
         let speed = job.bytes as f64 / time * 1000.0;

@@ -16,7 +16,9 @@ use std::{env, fs, io};
 
 fn main() -> io::Result<()> {
     let arguments: Vec<String> = env::args().skip(1).collect();
-    let [command, torrent, with] = &arguments[..] else { panic!("usage: interop-host fetch|serve TORRENT PORT|FOLDER") };
+    let [command, torrent, with] = &arguments[..] else {
+        panic!("usage: interop-host fetch|serve TORRENT PORT|FOLDER")
+    };
     let torrent = fs::read(torrent)?;
     let contents = Contents::read(&torrent);
     match command.as_str() {

@@ -35,10 +35,7 @@ impl<'a> Torrent<'a> {
     pub fn file(&self, file: u64) -> Answer<File<'a>> {
         let given = boundary::torrent_file(self.bytes, file);
         let layer = self.part(given.layer_start, given.layer_size);
-        Answer::of(
-            given.number,
-            File { length: given.length, root: given.root.bytes, elements: given.elements, layer },
-        )
+        Answer::of(given.number, File { length: given.length, root: given.root.bytes, elements: given.elements, layer })
     }
 
     /// An element of a file's path, from 0.

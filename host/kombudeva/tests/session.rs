@@ -105,9 +105,6 @@ fn a_store_is_found_again_in_its_bytes() {
 
 #[test]
 fn serving() {
-    if !is_declared("kd_serve") {
-        return;
-    }
     let known = known();
     let mut memory = Vec::new();
     let mut store = known.open(&mut memory);
@@ -124,9 +121,6 @@ fn serving() {
 
 #[test]
 fn layers_pieces_and_blocks() {
-    if !["kd_load_layer", "kd_judge_piece", "kd_judge_block"].into_iter().all(is_declared) {
-        return;
-    }
     let known = known();
     let mut memory = Vec::new();
     let mut store = known.open(&mut memory);
