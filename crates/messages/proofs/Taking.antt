@@ -13,7 +13,7 @@ use lib.Dec.{eqb}
 use borrow.Author.Tests.{eq-eqb, ne-eqb, eqb-true}
 use Rattle.octets.specs.Octets.{cut, same, zeroHash}
 use Rattle.octets.specs.OctetsLaws.{cut-length, zero-octets}
-use Rattle.numbers.specs.Numbers.{refused, done, wrongSize, wrongPadding}
+use Rattle.numbers.specs.Numbers.{refused, done, wrongSize, wrongPadding, judged}
 use Rattle.numbers.specs.declared.Answer.{Answer}
 use Rattle.tree.specs.Values.{node, padValue}
 use Rattle.cells.specs.Cells.{Room, heldAt, hashAt}
@@ -32,8 +32,9 @@ use Rattle.header.specs.declared.Header.{Header}
 use Rattle.header.specs.declared.Place.{Place}
 use Rattle.header.specs.Header.{headerSize, headerOf, isHashes, isReject, rulesKept, placeOf, messageSize}
 use Rattle.messages.specs.Padded.{runPadded, unclesPadded}
-use Rattle.messages.specs.Take.{headerNumber, runOf, unclesOf, given, settled, anchor, worked, padded, judged, anchored, bodyNumber, placeIn, orElse, takeNumber, takeAfter, takeAnswer, rejectAnswer}
-use Rattle.messages.specs.TakeLaws.{Passed, passed, Placed, placed, Carried, Ready, placed-ready, hashes-form}
+use Rattle.messages.specs.Take.{headerNumber, runOf, unclesOf, given, settled, anchor, worked, padded, anchored, bodyNumber, placeIn, orElse, takeNumber, takeAfter, takeAnswer, rejectAnswer}
+use Rattle.messages.specs.TakeLaws.{Passed, passed, Placed, Carried, Ready}
+use Rattle.messages.specs.TakenLaws.{uncles-length}
 
 -- ---- the message's parts
 
@@ -44,14 +45,6 @@ run-part m len e q = let w : e - 49 ≡ 32 * len = omega arith in rw w
 pub uncles-part : (m : List ℕ) (len u e f : ℕ) → e ≡ 49 + 32 * len → f ≡ e + 32 * u → take (f - e) (drop e m) ≡ unclesOf m len u
 unfolding unclesOf cut
 uncles-part m len u e f q w = let z : f - e ≡ 32 * u = omega arith in rw (z, q)
-
-pub run-length : (lm : ℕ) (m : List ℕ) (x : Header) (p : Place) → Carried (length m) x p → length (runOf m (x .len)) ≡ 32 * x .len
-unfolding runOf
-run-length lm m x p c = cut-length m 49 (32 * x .len) (omega (arith, c .carries))
-
-pub uncles-length : (m : List ℕ) (x : Header) (p : Place) → Carried (length m) x p → length (unclesOf m (x .len) (p .u)) ≡ 32 * p .u
-unfolding unclesOf
-uncles-length m x p c = cut-length m (49 + 32 * x .len) (32 * p .u) (omega (arith, c .carries))
 
 pub quotient-small : (i d : ℕ) → i < 2 ^ 32 → i / d < 2 ^ 63
 quotient-small i d h = omega (arith, native.Mathlib.Nat.div-le-self i d)
@@ -134,14 +127,6 @@ module _ (ls : ℕ) (m : List ℕ) (n : ℕ) (x : Header) (p : Place) (r : Ready
         r .carried .layers,
       )
 
-  pub ready-settled : Sound n (settled m p)
-  unfolding settled given
-  ready-settled =
-      let q = r .carried .power in
-      let l : length (unclesOf m (2 ^ p .k) (p .u)) ≡ 32 * p .u = ap (λ (y : ℕ). length (unclesOf m y (p .u))) q ∙ uncles-length m x p (r .carried) in
-      settled-sound (runLeaf (runOf m (2 ^ p .k)) zeroHash) (run-leaf-length (runOf m (2 ^ p .k)) zeroHash (zero-octets .size))
-      (unclesOf m (2 ^ p .k) (p .u)) n (p .k) (p .top) 0 0 (p .u) (node (runLeaf (runOf m (2 ^ p .k)) zeroHash) (p .k) 0) (r .top) (omega arith) (r .even)
-
 -- ---- the numbers
 
 module _ (s m : List ℕ) (x : Header) (p : Place) (n : ℕ) (q : Placed n x p) where
@@ -177,51 +162,3 @@ module _ (s m : List ℕ) (form : Bool) (h : ℕ) (ef : form ≡ isHashes m) (eh
   took-body r x p z ex ep er =
       let w : headerNumber (isHashes m) s m ≡ 0 = cc in
       er ∙ ap₂ (λ (y : Header) (q : Place). bodyNumber s m y q) ex ep ∙ sym (rw (eq-eqb (headerNumber (isHashes m) s m) 0 w))
-
--- ---- a number of 0, and the whole call
-
-zero-or : (n a : ℕ) → orElse n a ≡ 0 → n ≡ 0
-zero-or n a e = elim (ℕ-discrete n 0) [ yes z ↦ z | no ne ↦ rw (ne-eqb n 0 ne) at e ]
-
-pub taken-passed : (s m : List ℕ) (r : ℕ) → r ≡ takeNumber s m → r ≡ 0 → Passed (isHashes m) s m
-unfolding takeNumber
-taken-passed s m r e z = passed (isHashes m) s m (zero-or (headerNumber (isHashes m) s m) (bodyNumber s m (headerOf m) (placeIn s m)) (sym e ∙ z))
-
-body-zero : (n a : ℕ) → orElse n a ≡ 0 → a ≡ 0
-body-zero n a e = rw (eq-eqb n 0 (zero-or n a e)) at e
-
-sized : (t u : Bool) (a : ℕ) → cond t (cond u a wrongPadding) wrongSize ≡ 0 → t ≡ true
-sized true u a e = refl
-sized false u a e = let w : ⊥ = omega arith in absurd w
-
-body-sized : (s m : List ℕ) (x : Header) (p : Place) → bodyNumber s m x p ≡ 0 → length m ≡ messageSize x
-unfolding bodyNumber
-body-sized s m x p e =
-    eqb-true (length m) (messageSize x) (sized (eqb (length m) (messageSize x)) (padded m x p (blocksOf s)) (anchored s m p) e)
-
-pub taken-size : (s m : List ℕ) (r : ℕ) → r ≡ takeNumber s m → r ≡ 0 → length m ≡ messageSize (headerOf m)
-unfolding takeNumber
-taken-size s m r e z =
-    body-sized s m (headerOf m) (placeIn s m) (body-zero (headerNumber (isHashes m) s m) (bodyNumber s m (headerOf m) (placeIn s m)) (sym e ∙ z))
-
-pub taken-ready : (s m : List ℕ) (r : ℕ) → r ≡ takeNumber s m → r ≡ 0 → Ready (length s) (length m) (positions (heightOf s)) (headerOf m) (placeIn s m)
-taken-ready s m r e z =
-    let P = taken-passed s m r e z in
-    let q = placed (isHashes m) s m P in
-    placed-ready (length s) (length m) q (usable-facts s (P .store) .room) (omega (arith, taken-size s m r e z, q .size))
-
-pub take-refused : (s m : List ℕ) (r : ℕ) → r ≡ takeNumber s m → (r ≡ 0 → ⊥) → (refused r ≡ takeAnswer s m) × (s ≡ takeAfter s m)
-unfolding takeAnswer takeAfter
-take-refused s m r e ne =
-    let z : eqb (takeNumber s m) 0 ≡ false = ne-eqb (takeNumber s m) 0 (λ y. ne (e ∙ y)) in
-    rw z (cc (newly-none (positions (heightOf s)) s), refl)
-
-pub take-done : (s m s′ : List ℕ) (r c : ℕ) (p : Place) → r ≡ takeNumber s m → r ≡ 0 → p ≡ placeIn s m → c ≡ fresh s (settled m p) → s′ ≡ putAll s (settled m p)
-    → (done c ≡ takeAnswer s m) × (s′ ≡ takeAfter s m)
-unfolding takeAnswer takeAfter
-take-done s m s′ r c p e z ep ec es =
-    let t : takeNumber s m ≡ 0 = sym e ∙ z in
-    let R = taken-ready s m r e z in
-    let n = positions (heightOf s) in
-    let k = count-fresh (positions (heightOf s)) (settled m (placeIn s m)) s (R .room) (ready-settled (length s) m (positions (heightOf s)) (headerOf m) (placeIn s m) R) in
-    rw (eq-eqb (takeNumber s m) 0 t) (cc, cc)

@@ -1,3 +1,4 @@
 pub mod Padded
 pub mod Take
 pub mod TakeLaws
+pub mod TakenLaws

@@ -6,7 +6,7 @@ use Prim.Native.Nat.{ℕ, _+_, _*_, _/_, _^_}
 use lib.ListN.{length}
 use lib.Dec.{eqb}
 use Rattle.octets.specs.Octets.{cut, same, zeroHash}
-use Rattle.numbers.specs.Numbers.{noMessage, otherRoot, ruleBroken, wrongSize, wrongPadding, noAnchor, differs, conflict, unusable}
+use Rattle.numbers.specs.Numbers.{noMessage, otherRoot, ruleBroken, wrongSize, wrongPadding, unusable, judged}
 use Rattle.numbers.specs.declared.Answer.{Answer}
 use Rattle.tree.specs.Geometry.{height}
 use Rattle.tree.specs.Values.{node}
@@ -60,13 +60,6 @@ unfoldable pub padded : List ℕ → Header → Place → ℕ → Bool
 padded m x p b =
     runPadded (runOf m (x .len)) b (x .base) (x .index) (x .len)
     && unclesPadded (unclesOf m (x .len) (p .u)) b 0 (p .u) (x .base + p .k) (x .index / x .len)
-
--- 6, 7, 8 or 0: anchor held, anchor as worked out, no held hash different
-abbrev pub judged : Bool → Bool → Bool → ℕ
-judged false a b = noAnchor
-judged true false b = differs
-judged true true false = conflict
-judged true true true = 0
 
 unfoldable pub anchored : List ℕ → List ℕ → Place → ℕ
 anchored s m p = judged (heldAt s (anchor p)) (same (hashAt s (anchor p)) (worked m p)) (agrees s (settled m p))

@@ -9,7 +9,7 @@ ghost use Rattle.cells.specs.Entries.{putAll};
 ghost use Rattle.cells.specs.EntriesLaws.{fresh};
 ghost use Rattle.store.specs.Store.{usable, blocksOf, heightOf, positions};
 ghost use Rattle.header.specs.Header.{headerOf, rulesKept, placeOf};
-ghost use Rattle.messages.specs.Take.{headerNumber, settled, padded, judged, anchored, bodyNumber, placeIn, takeNumber, takeAfter, takeAnswer, rejectAnswer};
+ghost use Rattle.messages.specs.Take.{headerNumber, settled, padded, anchored, bodyNumber, placeIn, takeNumber, takeAfter, takeAnswer, rejectAnswer};
 ghost use Rattle.messages.specs.TakeLaws.{Placed, Carried, Ready};
 use crate::padded::run_padded;
 use crate::padded::uncles_padded;
@@ -23,6 +23,7 @@ use header::is_reject;
 use header::keeps_rules;
 use header::place_of;
 use numbers::Answer;
+use numbers::judged_number;
 use numbers::refusal;
 use numbers::success;
 use octets::hash_at;
@@ -105,22 +106,6 @@ fn both(a: bool, b: bool) -> bool
     if a { b } else { false }
 }
 
-// 6, 7, 8 or 0 by the three tests.
-fn number_by(held: bool, alike: bool, all: bool) -> u32
-    ensures { λ r. ⌜ r ≡ judged held alike all ⌝ }
-{
-    if held {
-        if alike {
-            if all {
-                return numbers::DONE;
-            }
-            return numbers::CONFLICT;
-        }
-        return numbers::DIFFERS;
-    }
-    numbers::NO_ANCHOR
-}
-
 // Works out everything that the message settles, and compares it with the anchor and with what is held. Nothing is written.
 fn judge(s: &[u8], m: &[u8], x: Header, p: Place, n: usize) -> u32
     requires { ⌜ Ready (length (now s)) (length (now m)) n x p ⌝ }
@@ -144,7 +129,7 @@ fn judge(s: &[u8], m: &[u8], x: Header, p: Place, n: usize) -> u32
     let g = hash_of(s, a);
     let alike = same(g, w);
     let all = both(low.agrees, high.agrees);
-    number_by(there, alike, all)
+    judged_number(there, alike, all)
 }
 
 // 4, 5 and then those, for a header that keeps the rules.

@@ -1,5 +1,6 @@
 -- 01, "Numbers given back": the numbers by name, and the answer that carries one.
 -- Assumes nothing.
+use mathlib.Core.Bool.{Bool, true, false}
 use Prim.Native.Nat.{ℕ}
 use Rattle.numbers.specs.declared.Answer.{Answer}
 
@@ -50,6 +51,13 @@ noRoom = 11
 -- a requested hash isn't held
 abbrev pub notHeld : ℕ
 notHeld = 12
+
+-- 6, 7, 8 or 0: the anchor held, as worked out, no held hash different
+abbrev pub judged : Bool → Bool → Bool → ℕ
+judged false alike all = noAnchor
+judged true false all = differs
+judged true true false = conflict
+judged true true true = 0
 
 -- beside a refusal the count is zero
 abbrev pub refused : ℕ → Answer

@@ -1,6 +1,6 @@
 // The numbers given back, by name, and the answer that carries one. Document 01's table says when each is given.
 ghost use mathlib.Core.Path.{_≡_};
-ghost use Rattle.numbers.specs.Numbers.{refused, done};
+ghost use Rattle.numbers.specs.Numbers.{refused, done, judged};
 
 pub const DONE: u32 = 0;
 
@@ -48,4 +48,20 @@ pub fn success(count: u64) -> Answer
         number: DONE,
         count,
     }
+}
+
+// 6, 7, 8 or 0 by the three tests: the anchor held, as worked out, no held hash different.
+pub fn judged_number(held: bool, alike: bool, all: bool) -> u32
+    ensures { λ r. ⌜ r ≡ judged held alike all ⌝ }
+{
+    if held {
+        if alike {
+            if all {
+                return DONE;
+            }
+            return CONFLICT;
+        }
+        return DIFFERS;
+    }
+    NO_ANCHOR
 }

@@ -7,7 +7,7 @@ use native.Mathlib.Omega.{arith}
 use lib.ListN.{length}
 use borrow.Author.Tests.{lt-ltb, le-ltb, eq-eqb, ne-eqb}
 use Rattle.octets.specs.Octets.{same}
-use Rattle.numbers.specs.Numbers.{refused, done, ruleBroken, wrongSize, noAnchor, unusable}
+use Rattle.numbers.specs.Numbers.{refused, done, ruleBroken, wrongSize, noAnchor, unusable, judged}
 use Rattle.numbers.specs.declared.Answer.{Answer}
 use Rattle.sha256.specs.Sha256.{sha256}
 use Rattle.tree.specs.Geometry.{nodeNumber, pieceLayer, hasLayer, pieceCount, blockSize, pieceSize}
@@ -20,7 +20,7 @@ use Rattle.store.specs.Store.{usable, fileLength, pieceLength, blocksOf, height
 use Rattle.store.specs.StoreLaws.{usable-facts, facts-height, facts-leaves, facts-cell}
 use Rattle.runs.specs.Span.{Fit}
 use Rattle.runs.specs.Subtree.{subtree, runLeaf}
-use Rattle.pieces.specs.Pieces.{judged, judgedAt, layerOfPieces, layerSettled, layerNumber, layerAfter, layerAnswer, blockNumber, pieceHeight, pieceNumber}
+use Rattle.pieces.specs.Pieces.{judgedAt, layerOfPieces, layerSettled, layerNumber, layerAfter, layerAnswer, blockNumber, pieceHeight, pieceNumber}
 use Rattle.pieces.specs.PiecesLaws.{Layered, Placed, layered, placed, pieces-few, layer-within, piece-within, run-leaves, layer-sound}
 
 -- ---- 6, 7, 8 or 0

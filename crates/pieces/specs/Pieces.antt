@@ -6,7 +6,7 @@ use Prim.Native.Nat.{ℕ, _-_, _*_}
 use lib.ListN.{length}
 use lib.Dec.{eqb, ltb}
 use Rattle.octets.specs.Octets.{same}
-use Rattle.numbers.specs.Numbers.{ruleBroken, wrongSize, noAnchor, differs, conflict, unusable}
+use Rattle.numbers.specs.Numbers.{ruleBroken, wrongSize, unusable, judged}
 use Rattle.numbers.specs.declared.Answer.{Answer}
 use Rattle.sha256.specs.Sha256.{sha256}
 use Rattle.tree.specs.Geometry.{nodeNumber, pieceLayer, hasLayer, pieceCount, blockSize, pieceSize}
@@ -15,13 +15,6 @@ use Rattle.cells.specs.Cells.{heldAt, hashAt}
 use Rattle.cells.specs.Entries.{Entry, agrees, putAll, newly}
 use Rattle.store.specs.Store.{usable, fileLength, pieceLength, blocksOf, heightOf, positions}
 use Rattle.runs.specs.Subtree.{subtree}
-
--- 6, 7, 8 or 0: the anchor held, as worked out, no held hash different
-abbrev pub judged : Bool → Bool → Bool → ℕ
-judged false a b = noAnchor
-judged true false b = differs
-judged true true false = conflict
-judged true true true = 0
 
 -- position n, against a subtree of height k over given leaves
 unfoldable pub judgedAt : List ℕ → (ℕ → List ℕ) → ℕ → ℕ → ℕ

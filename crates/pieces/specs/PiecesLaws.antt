@@ -22,13 +22,13 @@ use Rattle.cells.specs.EntriesLaws.{Sound, fresh, Hold, keeps, newly-none, coun
 use Rattle.octets.specs.Octets.{same}
 use Rattle.octets.specs.OctetsLaws.{same-true, same-eq}
 use Rattle.sha256.specs.Sha256.{sha256}
-use Rattle.numbers.specs.Numbers.{refused, done, ruleBroken, wrongSize, noAnchor, differs, conflict, unusable}
+use Rattle.numbers.specs.Numbers.{refused, done, ruleBroken, wrongSize, noAnchor, differs, conflict, unusable, judged}
 use Rattle.store.specs.Store.{usable, fileLength, pieceLength, blocksOf, heightOf, positions, storeSize}
 use Rattle.store.specs.StoreLaws.{Facts, usable-facts, facts-usable, facts-blocks-most, own-size, SameFacts, FromRoot, from-root-in, putAll-same-facts, putAll-facts, putAll-past}
 use Rattle.runs.specs.Span.{Within}
 use Rattle.runs.specs.Subtree.{subtree, runLeaf}
 use Rattle.runs.specs.SubtreeLaws.{run-leaf-length, within-tree, subtree-sound, subtree-apart, subtree-value, subtree-has}
-use Rattle.pieces.specs.Pieces.{judged, judgedAt, layerOfPieces, layerSettled, layerNumber, layerAfter, layerAnswer, blockNumber, pieceHeight, pieceNumber}
+use Rattle.pieces.specs.Pieces.{judgedAt, layerOfPieces, layerSettled, layerNumber, layerAfter, layerAnswer, blockNumber, pieceHeight, pieceNumber}
 
 -- ---- where a layer and a piece lie
 

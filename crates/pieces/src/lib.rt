@@ -3,6 +3,7 @@ ghost use mathlib.Core.Path.{_≡_};
 ghost use mathlib.Core.Bool.{true};
 ghost use Prim.Native.Nat.{_+_, _-_, _≤_};
 ghost use lib.ListN.{length};
+ghost use Rattle.numbers.specs.Numbers.{judged};
 ghost use Rattle.octets.specs.Octets.{same};
 ghost use Rattle.sha256.specs.Sha256.{sha256};
 ghost use Rattle.tree.specs.Geometry.{nodeNumber};
@@ -35,7 +36,7 @@ use tree::values::pad_value;
 
 // 7, 8 or 0, where the anchor is held: as worked out or not, another held hash different or not.
 fn judge(alike: bool, agrees: bool) -> u32
-    ensures { λ r. ⌜ r ≡ P.judged true alike agrees ⌝ }
+    ensures { λ r. ⌜ r ≡ judged true alike agrees ⌝ }
 {
     if alike {
         if agrees {
@@ -49,7 +50,7 @@ fn judge(alike: bool, agrees: bool) -> u32
 // The same for position n, which is held, by what was worked out for it.
 fn judge_seen(s: &[u8], n: usize, seen: Seen) -> u32
     requires { ⌜ Room (n + 1) (now s) ⌝ }
-    ensures { λ r. ⌜ r ≡ P.judged true (same (hashAt (now (s .entry)) n) (seen .hash)) (seen .agrees) ⌝ }
+    ensures { λ r. ⌜ r ≡ judged true (same (hashAt (now (s .entry)) n) (seen .hash)) (seen .agrees) ⌝ }
 {
     let worked = seen.hash;
     let mine = cells::hash_of(s, n);
@@ -86,7 +87,7 @@ fn judge_data(s: &[u8], bytes: &[u8], b: usize, k: usize, n: usize) -> u32
 // Leaf n against a block. Nothing lies below a leaf that could differ.
 fn judge_leaf(s: &[u8], bytes: &[u8], n: usize) -> u32
     requires { ⌜ Room (n + 1) (now s) ⌝ }
-    ensures { λ r. ⌜ r ≡ P.judged (heldAt (now (s .entry)) n) (same (hashAt (now (s .entry)) n) (sha256 (now (bytes .entry)))) true ⌝ }
+    ensures { λ r. ⌜ r ≡ judged (heldAt (now (s .entry)) n) (same (hashAt (now (s .entry)) n) (sha256 (now (bytes .entry)))) true ⌝ }
 {
     let held = cells::held(s, n);
     if held {

@@ -32,7 +32,12 @@ hash-of-requires : tie.Need-hash-of-requires Inv-loop μ-loop
 hash-of-requires c κs =
     let a = c .before .before .before .before .before .args in
     let l = c .before .before .loop in
-    uncle-cell (a .s .now) (a .n) (l .i) (l .x) (c .beside .result) (c .before .before .before .before .before .pre .0) (l .inv .1) (c .beside .ensures)
+    omega (
+      arith,
+      c .before .before .before .before .before .pre,
+      ancestor-cell (l .i) (a .n) (l .x) (l .inv .1),
+      uncle-cell (a .s .now) (a .n) (l .i) (l .x) (c .beside .result) (c .before .before .before .before .before .pre .0) (l .inv .1) (c .beside .ensures),
+    )
 
 mul-put-hash : tie.Need-mul-put-hash Inv-loop μ-loop
 mul-put-hash c = omega (arith, c .before .before .before .before .before .before .before .pre, c .before .before .before .before .loop .inv .2)

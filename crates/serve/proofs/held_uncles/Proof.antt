@@ -30,7 +30,12 @@ held-requires : tie.Need-held-requires Inv-loop μ-loop
 held-requires c κs =
     let a = c .before .before .before .before .args in
     let l = c .before .before .loop in
-    uncle-cell (a .s .now) (a .n) (l .i) (l .x) (c .beside .result) (c .before .before .before .before .pre) (l .inv .1) (c .beside .ensures)
+    omega (
+      arith,
+      c .before .before .before .before .pre,
+      ancestor-cell (l .i) (a .n) (l .x) (l .inv .1),
+      uncle-cell (a .s .now) (a .n) (l .i) (l .x) (c .beside .result) (c .before .before .before .before .pre) (l .inv .1) (c .beside .ensures),
+    )
 
 returns : tie.Need-returns Inv-loop μ-loop
 returns c =

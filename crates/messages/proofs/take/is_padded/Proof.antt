@@ -1,4 +1,5 @@
-use Rattle.messages.proofs.Taking.{run-part, uncles-part, uncles-length, padded-yes, padded-no, quotient-small}
+use Rattle.messages.proofs.Taking.{run-part, uncles-part, padded-yes, padded-no, quotient-small}
+use Rattle.messages.specs.TakenLaws.{uncles-length}
 use native.Mathlib.Omega.{arith}
 use Prim.Native.Nat.{ℕ, _+_, _-_, _*_, _≤_, _<_, _/_, _%_, _^_}
 use lib.ListN.{length, getD, set, take, drop}

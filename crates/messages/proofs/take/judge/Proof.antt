@@ -12,7 +12,6 @@ use Rattle.messages.proofs.take.judge.Lts as lts
 use Rattle.cells.proofs.hash_of.Reads as hash-of-reads
 use Rattle.cells.proofs.held.Reads as held-reads
 use Rattle.messages.proofs.take.both.Reads as both-reads
-use Rattle.messages.proofs.take.number_by.Reads as number-by-reads
 use Rattle.octets.proofs.same.Reads as same-reads
 use Rattle.runs.proofs.climb.Reads as climb-reads
 use Rattle.runs.proofs.look_run.Reads as look-run-reads
@@ -99,8 +98,8 @@ both-requires : tie.Need-both-requires
 both-requires c κs = search needs
 
 -- src/take.rt:147:5
-number-by-requires : tie.Need-number-by-requires
-number-by-requires c κs = search needs
+judged-number-requires : tie.Need-judged-number-requires
+judged-number-requires c κs = search needs
 
 -- src/take.rt:125:1
 returns : tie.Need-returns
@@ -111,8 +110,8 @@ returns c =
     let e = 49 + 32 * a .x .len in
     anchored-by (a .m .now) (a .x) (a .p) (r .carried .power) _ _ _ (run-part (a .m .now) (a .x .len) e refl) refl (uncles-part (a .m .now) (a .x .len) (a .p .u) e (e + 32 * a .p .u) refl refl) (a .s .now)
     (c .before .before .before .before .before .before .before .before .before .look-run .result .hash) (c .before .before .before .before .before .before .before .before .before .look-run .result .agrees) (c .before .before .before .before .before .before .before .climb .result .hash) (c .before .before .before .before .before .before .before .climb .result .agrees) (c .before .before .before .before .before .rising .result) (c .before .before .before .before .held .result)
-    (c .before .before .before .hash-of .result) (c .before .before .same .result) (c .before .both .result) (c .number-by .result) (c .before .before .before .before .before .before .before .before .before .look-run .ensures) (c .before .before .before .before .before .before .before .climb .ensures) (c .before .before .before .before .before .rising .ensures)
-    (c .before .before .before .before .held .ensures) (c .before .before .before .hash-of .ensures) (c .before .before .same .ensures) (c .before .both .ensures) (c .number-by .ensures)
+    (c .before .before .before .hash-of .result) (c .before .before .same .result) (c .before .both .result) (c .judged-number .result) (c .before .before .before .before .before .before .before .before .before .look-run .ensures) (c .before .before .before .before .before .before .before .climb .ensures) (c .before .before .before .before .before .rising .ensures)
+    (c .before .before .before .before .held .ensures) (c .before .before .before .hash-of .ensures) (c .before .before .same .ensures) (c .before .both .ensures) (c .judged-number .ensures)
 
 pub judge-spec : {M : Type 1} → statement M
 judge-spec =
@@ -135,5 +134,5 @@ judge-spec =
     hash-of-requires
     same-requires
     both-requires
-    number-by-requires
+    judged-number-requires
     returns)

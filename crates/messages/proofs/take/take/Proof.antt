@@ -1,4 +1,4 @@
-use Rattle.messages.proofs.Taking.{taken-passed, taken-ready, take-refused, take-done}
+use Rattle.messages.specs.TakenLaws.{taken-passed, taken-ready, take-refused, take-done}
 use Rattle.messages.specs.TakeLaws.{hashes-form}
 use native.Mathlib.Omega.{arith}
 use Prim.Native.Nat.{ℕ, _+_, _-_, _*_, _≤_, _<_, _/_, _%_, _^_}
