@@ -1,6 +1,6 @@
 #!/bin/bash
-# SHA-256 by the proved library against plain Rust and OpenSSL, and the stack it needs: `make bench`. KD_LIB names
-# another library.
+# The proved library against ordinary Rust and OpenSSL, and the stack its calls need: `make bench`. KD_LIB names another
+# library.
 # Where the machine is not an x86-64, times under the emulator mean nothing, and instructions are counted as well.
 set -euo pipefail
 cd "$(dirname "$0")"
@@ -11,23 +11,30 @@ work=$(mktemp -d)
 trap 'rm -rf "$work"' EXIT
 
 cargo build --quiet --release -p bench
-bench="target/${CARGO_BUILD_TARGET:-}/release/bench"
+bench="${CARGO_TARGET_DIR:-target}/${CARGO_BUILD_TARGET:-}/release/bench"
 
-# The instructions that the emulator runs while one version hashes so many bytes: one line of its log for each.
+# The instructions of a run of the benchmark with these arguments. The emulator logs each block of code once with its
+# instructions, and one line each time it is entered.
 instructions() {
-    local one=-singlestep
-    $KD_RUN -h | grep -q one-insn-per-tb && one=-one-insn-per-tb
-    $KD_RUN $one -d exec,nochain -D /dev/fd/3 "$bench" "$1" "$2" 3>&1 > /dev/null | grep -c '^Trace'
+    $KD_RUN -d in_asm,exec,nochain -D /dev/fd/3 "$bench" "$@" 3>&1 > /dev/null | awk '
+        /^IN:/ { size = 0 }
+        /^0x/ { if (size++ == 0) start = sprintf("%16s", substr($1, 3, length($1) - 3)); gsub(" ", "0", start)
+                sizes[start] = size }
+        /^Trace/ { split($0, part, "/"); total += sizes[part[2]] }
+        END { print total }'
 }
 
-# For each version what 64 KiB cost beyond the start of the program, with the ratio to the first.
+# For each version of a job what it costs beyond getting ready, with the ratio to the first and the ratio asked for.
 counted() {
-    local version plain='' count
-    for version in plain-rust careful-rust kd_sha256; do
-        count=$(($(instructions $version 65536) - $(instructions $version 0)))
+    local job=$1 asked=$2 ready plain='' version count
+    shift 2
+    ready=$(instructions "$job")
+    for version; do
+        count=$(($(instructions "$job" "$version") - ready))
         plain=${plain:-$count}
-        awk -v version=$version -v count=$count -v plain="$plain" \
-            'BEGIN { printf "    65536 %-14s %12d %18.2f\n", version, count, count / plain }'
+        awk -v job="$job" -v version="$version" -v count=$count -v plain="$plain" -v asked="$asked" 'BEGIN {
+            printf "%-12s %-14s %12d %16.2f %7s\n", job, version, count, count / plain,
+                version ~ /^kd_/ && asked != "-" ? asked : "" }'
     done
 }
 
@@ -40,14 +47,14 @@ openssl_speed() {
 # One row for OpenSSL. The ratio, on an x86-64 only, is to plain Rust's MB/s on 16 KiB in the table above.
 openssl_row() {
     awk -v name="$1" -v speed="$(openssl_speed "$2")" -v plain="$3" 'BEGIN {
-        printf "    16384 %-14s %12.0f %10.0f %7s\n", name, 16384 / speed * 1e9, speed / 1e6,
+        printf "%-12s %-14s %12.0f %8.0f %7s\n", "sha-16KiB", name, 16384 / speed * 1e9, speed / 1e6,
             plain == "" ? "" : sprintf("%.2f", plain / (speed / 1e6)) }'
 }
 
 openssl_rows() {
     local plain=''
     if [ "$(uname -m)" = x86_64 ]; then
-        plain=$(awk '$1 == 16384 && $2 == "plain-rust" { print $4 }' "$work/times")
+        plain=$(awk '$1 == "sha-16KiB" && $2 == "plain-rust" { print $4 }' "$work/times")
         echo 'OpenSSL, in a process of its own:'
         openssl_row openssl '' "$plain"
         openssl_row 'no SHA-NI' ':~0x20000000' "$plain"
@@ -62,13 +69,14 @@ lscpu | awk -F': *' '/^Model name/ && !seen++ { print $2 }'
 echo "library $KD_LIB"
 "${RUSTC:-rustc}" --version
 [ -n "$KD_RUN" ] && echo "Times UNDER THE EMULATOR on $(uname -m): they say nothing about an x86-64"
-printf '%9s %-14s %12s %10s %7s\n' bytes version ns MB/s ratio
+printf '%-12s %-14s %12s %8s %7s %7s\n' job version ns MB/s ratio asked
 $KD_RUN "$bench" | tee "$work/times"
+if command -v openssl > /dev/null; then openssl_rows; fi
 if [ -n "$KD_RUN" ]; then
-    echo 'x86-64 instructions for 64 KiB, counted by the emulator: they do not depend on the machine'
-    printf '%9s %-14s %12s %18s\n' bytes version instructions ratio
-    counted
+    echo 'x86-64 instructions, counted by the emulator: they do not depend on the machine'
+    printf '%-12s %-14s %12s %16s %7s\n' job version instructions ratio asked
+    # shellcheck disable=SC2086
+    $KD_RUN "$bench" jobs | while read -r line; do counted $line; done
 fi
 $KD_CC -O2 -Wall -Wextra -Werror -I ../include bench/stack.c "$KD_LIB" -o "$work/stack"
 $KD_RUN "$work/stack"
-if command -v openssl > /dev/null; then openssl_rows; fi

@@ -22,9 +22,9 @@
  *
  * Each function lists its numbers in the order in which they are decided: the first that applies is given.
  *
- * Beside a refusal (any number but 0) every other field is zero. Every input is answered: nothing is
- * asked of the caller's values, and no function stops the program. Compare answers field by field,
- * since C leaves the padding bytes of a struct open.
+ * Beside a refusal (any number but 0) every other field is zero, save for the size of the reject that
+ * kd_serve writes. Every input is answered: nothing is asked of the caller's values, and no function stops
+ * the program. Compare answers field by field, since C leaves the padding bytes of a struct open.
  *
  * LENT MEMORY. A memory is lent as a pointer and its size in bytes. The library reads and writes it during
  * the call only: it keeps no pointer, has no heap and no state of its own, so that calls on different
@@ -34,7 +34,7 @@
  *   - each memory is as long as said;
  *   - a memory that a call writes overlaps no other memory lent to that call.
  *
- * Memory marked `const` is not changed, and a refusal changes no byte of any memory.
+ * Memory marked `const` is not changed, and a refusal changes no byte of any memory, save for that reject.
  *
  * EXAMPLE
  *

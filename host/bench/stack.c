@@ -1,22 +1,97 @@
 /* How much stack the deepest call of each entry point needs: the call runs on a painted stack of its own, and afterwards
- * the paint that is gone is counted. What the frame around the call takes itself is measured and taken off. */
+ * the paint that is gone is counted. What the frame around the call takes itself is measured and taken off.
+ *
+ * The file has 65,536 blocks, the most there may be, so that the tree is as high as it can be. All its blocks are alike:
+ * the tree then costs one hash for each layer. Every call is answered 0, having gone through all it does. */
 #define _GNU_SOURCE
 #include "kombudeva.h"
 
 #include <stdio.h>
+#include <stdlib.h>
 #include <string.h>
 #include <ucontext.h>
 
 enum { STACK = 1 << 20, PAINT = 0xa5 };
+enum { BLOCK = 16384, HEIGHT = 16, BLOCKS = 1 << HEIGHT, LARGEST_PIECE = 1 << 24 };
+enum { RUN = 512, UNCLES = 7, PROOF = 15, HEAD = 49, REPLY = HEAD + 32 * (RUN + UNCLES) };
+enum { REQUEST = 21, HASHES = 22, REJECT = 23 };
+#define LENGTH ((uint64_t)BLOCKS * BLOCK)
 
 static uint8_t stack[STACK];
-static uint8_t data[1 << 16];
 static ucontext_t here, there;
+
+/* One piece, the largest; its first block is every block of the file. */
+static uint8_t piece[LARGEST_PIECE];
+/* The hash at each layer. */
+static kd_hash at_layer[HEIGHT + 1];
+static uint8_t request[HEAD], reject[HEAD], reply[REPLY], out[REPLY];
+/* The piece layer of the smallest pieces is the longest: all leaves. */
+static kd_hash layer[BLOCKS];
+static uint8_t *store;
+static size_t size;
 /* Answers go to memory that lives, so that a call's own frame is all that is measured. */
 static volatile uint32_t number;
 
 static void nothing(void) { number = 0; }
-static void hash(void) { number = kd_sha256(data, sizeof data).number; }
+static void sha256(void) { number = kd_sha256(piece, BLOCK).number; }
+static void store_size(void) { number = kd_store_size(LENGTH, BLOCK).number; }
+static void open_store(void) { number = kd_open(store, size, LENGTH, LARGEST_PIECE, at_layer[HEIGHT]).number; }
+static void open_for_layer(void) { number = kd_open(store, size, LENGTH, BLOCK, at_layer[HEIGHT]).number; }
+static void held(void) { number = kd_held(store, size, HEIGHT, 0).number; }
+static void take(void) { number = kd_take(store, size, reply, REPLY).number; }
+static void take_reject(void) { number = kd_take_reject(store, size, reject, HEAD).number; }
+static void serve(void) { number = kd_serve(store, size, request, HEAD, out, REPLY).number; }
+static void judge_block(void) { number = kd_judge_block(store, size, 0, piece, BLOCK).number; }
+static void judge_piece(void) { number = kd_judge_piece(store, size, 0, piece, LARGEST_PIECE).number; }
+static void load_layer(void) { number = kd_load_layer(store, size, layer[0].bytes, sizeof layer).number; }
+
+static kd_hash pair_of(kd_hash hash)
+{
+    kd_hash both[2] = { hash, hash };
+    return kd_sha256(both[0].bytes, sizeof both).hash;
+}
+
+/* A message for the first 512 leaves with all uncles up to the root. */
+static void write_head(uint8_t *message, uint8_t id)
+{
+    message[0] = id;
+    memcpy(message + 1, at_layer[HEIGHT].bytes, 32);
+    message[43] = RUN >> 8;
+    message[48] = PROOF;
+}
+
+static void make_inputs(void)
+{
+    at_layer[0] = kd_sha256(piece, BLOCK).hash;
+    for (int above = 1; above <= HEIGHT; above++)
+        at_layer[above] = pair_of(at_layer[above - 1]);
+    for (int block = 0; block < BLOCKS; block++)
+        layer[block] = at_layer[0];
+    write_head(request, REQUEST);
+    write_head(reject, REJECT);
+    write_head(reply, HASHES);
+    for (int i = 0; i < RUN; i++)
+        memcpy(reply + HEAD + 32 * i, at_layer[0].bytes, 32);
+    for (int i = 0; i < UNCLES; i++)
+        memcpy(reply + HEAD + 32 * (RUN + i), at_layer[9 + i].bytes, 32);
+    size = kd_store_size(LENGTH, BLOCK).count;
+    store = malloc(size);
+}
+
+/* Makes the nodes of the largest pieces, layer 10, held: the piece is then judged to its end. */
+static void take_piece_nodes(void)
+{
+    static uint8_t nodes[HEAD + 64 * 32];
+    write_head(nodes, HASHES);
+    nodes[36] = 10;
+    nodes[43] = 0;
+    nodes[44] = 64;
+    nodes[48] = 0;
+    for (int i = 0; i < 64; i++)
+        memcpy(nodes + HEAD + 32 * i, at_layer[10].bytes, 32);
+    if (kd_take(store, size, nodes, sizeof nodes).number != 0)
+        exit(1);
+}
 
 /* Bytes of the painted stack that a function has written over. */
 static size_t painted_over(void (*function)(void))
@@ -34,9 +109,31 @@ static size_t painted_over(void (*function)(void))
     return STACK - untouched;
 }
 
+static void show(const char *name, void (*function)(void))
+{
+    size_t around = painted_over(nothing), with = painted_over(function);
+    if (number != 0) {
+        printf("%s is answered %u\n", name, number);
+        exit(1);
+    }
+    printf("%-16s %7zu bytes of stack\n", name, with - around);
+}
+
 int main(void)
 {
-    size_t around = painted_over(nothing);
-    printf("%-16s %7zu bytes of stack\n", "kd_sha256", painted_over(hash) - around);
+    make_inputs();
+    show("kd_sha256", sha256);
+    show("kd_store_size", store_size);
+    show("kd_open", open_store);
+    show("kd_held", held);
+    show("kd_take", take);
+    show("kd_take_reject", take_reject);
+    show("kd_serve", serve);
+    show("kd_judge_block", judge_block);
+    take_piece_nodes();
+    show("kd_judge_piece", judge_piece);
+    open_for_layer();
+    show("kd_load_layer", load_layer);
+    free(store);
     return 0;
 }

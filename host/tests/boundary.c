@@ -1,5 +1,7 @@
-/* The header as C sees it: it compiles without a warning, its structs have the sizes and offsets that the library
- * was built for, and calls whose every field is known come back right. */
+/* The header as C sees it: it compiles without a warning, its structs have the sizes and offsets that the library was
+ * built for, NULL with size 0 is safe for every parameter, and calls whose every field is known come back right.
+ *
+ * host/test defines HAS_<name> for each function that the header declares: those on torrents are yet to come. */
 #include "kombudeva.h"
 
 #include <stdio.h>
@@ -9,6 +11,31 @@ _Static_assert(sizeof(kd_hash) == 32, "kd_hash");
 _Static_assert(sizeof(kd_hashed) == 36, "kd_hashed");
 _Static_assert(offsetof(kd_hashed, number) == 0, "kd_hashed.number");
 _Static_assert(offsetof(kd_hashed, hash) == 4, "kd_hashed.hash");
+_Static_assert(sizeof(kd_answer) == 16, "kd_answer");
+_Static_assert(offsetof(kd_answer, number) == 0, "kd_answer.number");
+_Static_assert(offsetof(kd_answer, count) == 8, "kd_answer.count");
+#ifdef HAS_kd_torrent_read
+_Static_assert(sizeof(kd_torrent) == 56, "kd_torrent");
+_Static_assert(offsetof(kd_torrent, number) == 0, "kd_torrent.number");
+_Static_assert(offsetof(kd_torrent, info_hash) == 4, "kd_torrent.info_hash");
+_Static_assert(offsetof(kd_torrent, piece_length) == 40, "kd_torrent.piece_length");
+_Static_assert(offsetof(kd_torrent, files) == 48, "kd_torrent.files");
+#endif
+#ifdef HAS_kd_torrent_file
+_Static_assert(sizeof(kd_file) == 72, "kd_file");
+_Static_assert(offsetof(kd_file, number) == 0, "kd_file.number");
+_Static_assert(offsetof(kd_file, length) == 8, "kd_file.length");
+_Static_assert(offsetof(kd_file, root) == 16, "kd_file.root");
+_Static_assert(offsetof(kd_file, elements) == 48, "kd_file.elements");
+_Static_assert(offsetof(kd_file, layer_start) == 56, "kd_file.layer_start");
+_Static_assert(offsetof(kd_file, layer_size) == 64, "kd_file.layer_size");
+#endif
+#ifdef HAS_kd_torrent_path
+_Static_assert(sizeof(kd_part) == 24, "kd_part");
+_Static_assert(offsetof(kd_part, number) == 0, "kd_part.number");
+_Static_assert(offsetof(kd_part, start) == 8, "kd_part.start");
+_Static_assert(offsetof(kd_part, size) == 16, "kd_part.size");
+#endif
 
 static unsigned passed, failed;
 
@@ -22,30 +49,283 @@ static void check(const char *what, int holds)
     }
 }
 
-/* An answer of this number with this hash, given as the 64 hexadecimal digits the standard prints. */
-static int is_hashed(kd_hashed answer, uint32_t number, const char *digits)
+static void answers(const char *what, kd_answer answer, uint32_t number, uint64_t count)
 {
-    char text[65];
-    for (int i = 0; i < 32; i++)
-        snprintf(text + 2 * i, 3, "%02x", answer.hash.bytes[i]);
-    return answer.number == number && strcmp(text, digits) == 0;
+    int holds = answer.number == number && answer.count == count;
+    check(what, holds);
+    if (!holds)
+        printf("  %u %llu\n", answer.number, (unsigned long long)answer.count);
+}
+
+static const kd_hash zero;
+
+static int is_hashed(kd_hashed answer, uint32_t number, kd_hash hash)
+{
+    return answer.number == number && memcmp(&answer.hash, &hash, sizeof hash) == 0;
+}
+
+/* A hash from the 64 hexadecimal digits that the standard prints. */
+static kd_hash hash_of_digits(const char *digits)
+{
+    kd_hash hash = zero;
+    for (int i = 0; i < 64; i++) {
+        uint8_t value = (uint8_t)(digits[i] <= '9' ? digits[i] - '0' : digits[i] - 'a' + 10);
+        hash.bytes[i / 2] = (uint8_t)(hash.bytes[i / 2] << 4 | value);
+    }
+    return hash;
 }
 
 static void hashes(void)
 {
-    static const char of_nothing[] = "e3b0c44298fc1c149afbf4c8996fb92427ae41e4649b934ca495991b7852b855";
-    static const char of_abc[] = "ba7816bf8f01cfea414140de5dae2223b00361a396177a9cb410ff61f20015ad";
-    static const char no_hash[] = "0000000000000000000000000000000000000000000000000000000000000000";
+    kd_hash of_nothing = hash_of_digits("e3b0c44298fc1c149afbf4c8996fb92427ae41e4649b934ca495991b7852b855");
+    kd_hash of_abc = hash_of_digits("ba7816bf8f01cfea414140de5dae2223b00361a396177a9cb410ff61f20015ad");
     check("kd_sha256 of NULL with size 0", is_hashed(kd_sha256(NULL, 0), 0, of_nothing));
     check("kd_sha256 of no bytes", is_hashed(kd_sha256((const uint8_t *)"abc", 0), 0, of_nothing));
     check("kd_sha256 of abc", is_hashed(kd_sha256((const uint8_t *)"abc", 3), 0, of_abc));
     /* No memory is that long. The call is tried all the same, since the size alone decides and no byte is read. */
-    check("kd_sha256 of 2^61 bytes", is_hashed(kd_sha256((const uint8_t *)"abc", (size_t)1 << 61), 4, no_hash));
+    check("kd_sha256 of 2^61 bytes", is_hashed(kd_sha256((const uint8_t *)"abc", (size_t)1 << 61), 4, zero));
 }
+
+/* The file of the session in document 01: five blocks, so a tree of height 3, in pieces of four blocks. */
+enum { BLOCK = 16384, LENGTH = 5 * BLOCK, PIECE = 4 * BLOCK, HEIGHT = 3, STORE = 33 * 15 + 64, HEAD = 49, ROOM = 320 };
+enum { REQUEST = 21, HASHES = 22, REJECT = 23 };
+
+static uint8_t file[LENGTH];
+/* tree[layer][index], made below by kd_sha256. */
+static kd_hash tree[HEIGHT + 1][8];
+static uint8_t store[STORE];
+
+/* Its pieces root, by another program: python3 -c and hashlib over the same bytes, (i*7 + i/251) mod 256. host/reference
+ * gives the same (tree::root_of_file). */
+#define ROOT "bf4e89cade8270cc7692de6d6ac11bde9697f70d0afe7ecf54cdf95d677e74b3"
+
+static kd_hash root(void) { return tree[HEIGHT][0]; }
+
+static void make_tree(void)
+{
+    for (size_t i = 0; i < LENGTH; i++)
+        file[i] = (uint8_t)(i * 7 + i / 251);
+    for (size_t block = 0; block < LENGTH / BLOCK; block++)
+        tree[0][block] = kd_sha256(file + block * BLOCK, BLOCK).hash;
+    for (int layer = 0; layer < HEIGHT; layer++)
+        for (int pair = 0; pair < 1 << (HEIGHT - layer - 1); pair++)
+            tree[layer + 1][pair] = kd_sha256(tree[layer][2 * pair].bytes, 64).hash;
+    check("the tree by kd_sha256 has the root by hashlib", memcmp(root().bytes, hash_of_digits(ROOT).bytes, 32) == 0);
+}
+
+/* The 49 bytes of a message about the file; the words that matter here are below 256. */
+static void write_head(uint8_t *message, uint8_t id, uint8_t base, uint8_t index, uint8_t length, uint8_t proof)
+{
+    memset(message, 0, HEAD);
+    message[0] = id;
+    memcpy(message + 1, root().bytes, 32);
+    message[36] = base;
+    message[40] = index;
+    message[44] = length;
+    message[48] = proof;
+}
+
+/* The true message (0,0,4,1): the first four leaves, anchor in layer 2. Its size. */
+static size_t first_leaves(uint8_t *message)
+{
+    write_head(message, HASHES, 0, 0, 4, 1);
+    memcpy(message + HEAD, tree[0], 4 * 32);
+    return HEAD + 4 * 32;
+}
+
+/* The true message (2,0,2,0): both hashes of layer 2, anchor the root. Its size. */
+static size_t upper_hashes(uint8_t *message)
+{
+    write_head(message, HASHES, 2, 0, 2, 0);
+    memcpy(message + HEAD, tree[2], 2 * 32);
+    return HEAD + 2 * 32;
+}
+
+static void stores(void)
+{
+    uint8_t larger[STORE + 1];
+    memset(larger, 0xaa, sizeof larger);
+    answers("kd_store_size", kd_store_size(LENGTH, PIECE), 0, STORE);
+    answers("kd_store_size of no bytes", kd_store_size(0, PIECE), 10, 0);
+    answers("kd_store_size of a piece length beyond 32 bits", kd_store_size(1, ((uint64_t)1 << 32) + BLOCK), 10, 0);
+    answers("kd_open of NULL", kd_open(NULL, 0, LENGTH, PIECE, root()), 9, 0);
+    answers("kd_open of NULL with facts out of range", kd_open(NULL, 0, 0, PIECE, root()), 10, 0);
+    answers("kd_open with a byte too few", kd_open(larger, STORE - 1, LENGTH, PIECE, root()), 9, 0);
+    check("a refused opening changes nothing", larger[0] == 0xaa);
+    answers("kd_open", kd_open(larger, sizeof larger, LENGTH, PIECE, root()), 0, 1);
+    check("the byte behind a store stays", larger[STORE] == 0xaa && larger[STORE - 1] == 0);
+    answers("kd_open in just the room", kd_open(store, STORE, LENGTH, PIECE, root()), 0, 1);
+    check("kd_held of NULL", is_hashed(kd_held(NULL, 0, 0, 0), 9, zero));
+    check("kd_held of the root", is_hashed(kd_held(store, STORE, HEIGHT, 0), 0, root()));
+    check("kd_held of a leaf", is_hashed(kd_held(store, STORE, 0, 4), 6, zero));
+    check("kd_held above the root", is_hashed(kd_held(store, STORE, HEIGHT + 1, 0), 3, zero));
+    check("kd_held past a layer", is_hashed(kd_held(store, STORE, 0, 8), 3, zero));
+}
+
+/* The session of document 01, then what is held. */
+static void session(void)
+{
+    uint8_t leaves[ROOM], upper[ROOM], damaged[ROOM];
+    size_t leaves_size = first_leaves(leaves), upper_size = upper_hashes(upper);
+    answers("open", kd_open(store, STORE, LENGTH, PIECE, root()), 0, 1);
+    answers("the leaves before their anchor", kd_take(store, STORE, leaves, leaves_size), 6, 0);
+    memcpy(damaged, upper, upper_size);
+    damaged[upper_size - 1] ^= 1;
+    answers("a damaged layer 2", kd_take(store, STORE, damaged, upper_size), 7, 0);
+    answers("layer 2", kd_take(store, STORE, upper, upper_size), 0, 2);
+    answers("the leaves", kd_take(store, STORE, leaves, leaves_size), 0, 6);
+    answers("the leaves again", kd_take(store, STORE, leaves, leaves_size), 0, 0);
+    for (uint64_t index = 0; index < 4; index++)
+        check("a leaf is held", is_hashed(kd_held(store, STORE, 0, index), 0, tree[0][index]));
+    check("the fifth leaf is not held", is_hashed(kd_held(store, STORE, 0, 4), 6, zero));
+    answers("kd_take on NULL", kd_take(NULL, 0, leaves, leaves_size), 9, 0);
+    answers("kd_take of NULL", kd_take(store, STORE, NULL, 0), 1, 0);
+    answers("kd_take of NULL on NULL", kd_take(NULL, 0, NULL, 0), 9, 0);
+}
+
+static void rejects(void)
+{
+    uint8_t reject[HEAD];
+    write_head(reject, REJECT, 0, 4, 4, 2);
+    answers("kd_take_reject", kd_take_reject(store, STORE, reject, HEAD), 0, 0);
+    answers("kd_take_reject on NULL", kd_take_reject(NULL, 0, reject, HEAD), 9, 0);
+    answers("kd_take_reject of NULL", kd_take_reject(store, STORE, NULL, 0), 1, 0);
+    answers("kd_take_reject of NULL on NULL", kd_take_reject(NULL, 0, NULL, 0), 9, 0);
+    reject[1] ^= 1;
+    answers("a reject about another file", kd_take_reject(store, STORE, reject, HEAD), 2, 0);
+}
+
+static int all_are(const uint8_t *bytes, size_t size, uint8_t value)
+{
+    for (size_t i = 0; i < size; i++)
+        if (bytes[i] != value)
+            return 0;
+    return 1;
+}
+
+/* On the store that the session left: the first four leaves and layer 2 are held. */
+static void serving(void)
+{
+    uint8_t request[HEAD], reject[HEAD], reply[ROOM], out[ROOM];
+    size_t size = first_leaves(reply);
+    write_head(request, REQUEST, 0, 0, 4, 1);
+    memset(out, 0xaa, ROOM);
+    answers("a reply without room", kd_serve(store, STORE, request, HEAD, out, size - 1), 11, 0);
+    answers("a reply into NULL", kd_serve(store, STORE, request, HEAD, NULL, 0), 11, 0);
+    check("without room nothing is written", all_are(out, ROOM, 0xaa));
+    answers("a reply", kd_serve(store, STORE, request, HEAD, out, ROOM), 0, size);
+    check("it is the message that was taken", memcmp(out, reply, size) == 0 && all_are(out + size, ROOM - size, 0xaa));
+
+    write_head(request, REQUEST, 0, 4, 4, 2);
+    write_head(reject, REJECT, 0, 4, 4, 2);
+    memset(out, 0xaa, ROOM);
+    answers("a reject without room", kd_serve(store, STORE, request, HEAD, out, HEAD - 1), 11, 0);
+    check("without room no reject is written", all_are(out, ROOM, 0xaa));
+    answers("a reject", kd_serve(store, STORE, request, HEAD, out, ROOM), 12, HEAD);
+    check("it has the request's 48 bytes", memcmp(out, reject, HEAD) == 0 && all_are(out + HEAD, ROOM - HEAD, 0xaa));
+
+    answers("kd_serve of NULL", kd_serve(store, STORE, NULL, 0, out, ROOM), 1, 0);
+    answers("kd_serve on NULL", kd_serve(NULL, 0, request, HEAD, out, ROOM), 9, 0);
+    answers("kd_serve with NULL everywhere", kd_serve(NULL, 0, NULL, 0, NULL, 0), 9, 0);
+}
+
+static void layers(void)
+{
+    uint8_t fresh[STORE], damaged[64];
+    memcpy(damaged, tree[2], sizeof damaged);
+    damaged[63] ^= 1;
+    kd_open(fresh, STORE, LENGTH, PIECE, root());
+    answers("a damaged layer", kd_load_layer(fresh, STORE, damaged, 64), 7, 0);
+    answers("half a layer", kd_load_layer(fresh, STORE, tree[2][0].bytes, 32), 4, 0);
+    answers("kd_load_layer of NULL", kd_load_layer(fresh, STORE, NULL, 0), 4, 0);
+    answers("kd_load_layer", kd_load_layer(fresh, STORE, tree[2][0].bytes, 64), 0, 2);
+    answers("the layer again", kd_load_layer(fresh, STORE, tree[2][0].bytes, 64), 0, 0);
+    answers("kd_load_layer on NULL", kd_load_layer(NULL, 0, tree[2][0].bytes, 64), 9, 0);
+    answers("kd_load_layer of NULL on NULL", kd_load_layer(NULL, 0, NULL, 0), 9, 0);
+    check("layer 2 is held", is_hashed(kd_held(fresh, STORE, 2, 1), 0, tree[2][1]));
+    check("layer 1 is not", is_hashed(kd_held(fresh, STORE, 1, 0), 6, zero));
+}
+
+/* On the store that the session left. */
+static void blocks(void)
+{
+    answers("a block", kd_judge_block(store, STORE, 3, file + 3 * BLOCK, BLOCK), 0, 0);
+    answers("another block's bytes", kd_judge_block(store, STORE, 3, file + 2 * BLOCK, BLOCK), 7, 0);
+    answers("a block of another size", kd_judge_block(store, STORE, 3, file + 3 * BLOCK, BLOCK - 1), 4, 0);
+    answers("a block whose leaf is not held", kd_judge_block(store, STORE, 4, file + 4 * BLOCK, BLOCK), 6, 0);
+    answers("a block past the file", kd_judge_block(store, STORE, 5, file, BLOCK), 3, 0);
+    answers("a block whose offset has no 64 bits", kd_judge_block(store, STORE, (uint64_t)1 << 60, file, BLOCK), 3, 0);
+    answers("kd_judge_block of NULL", kd_judge_block(store, STORE, 0, NULL, 0), 4, 0);
+    answers("kd_judge_block on NULL", kd_judge_block(NULL, 0, 0, file, BLOCK), 9, 0);
+    answers("kd_judge_block of NULL on NULL", kd_judge_block(NULL, 0, 0, NULL, 0), 9, 0);
+}
+
+static void pieces(void)
+{
+    answers("a piece", kd_judge_piece(store, STORE, 0, file, PIECE), 0, 0);
+    answers("the last, shorter piece", kd_judge_piece(store, STORE, 1, file + PIECE, LENGTH - PIECE), 0, 0);
+    file[PIECE - 1] ^= 1;
+    answers("a damaged piece", kd_judge_piece(store, STORE, 0, file, PIECE), 7, 0);
+    file[PIECE - 1] ^= 1;
+    answers("a last piece that is filled up", kd_judge_piece(store, STORE, 1, file, PIECE), 4, 0);
+    answers("a piece past the file", kd_judge_piece(store, STORE, 2, file, PIECE), 3, 0);
+    answers("kd_judge_piece of NULL", kd_judge_piece(store, STORE, 0, NULL, 0), 4, 0);
+    answers("kd_judge_piece on NULL", kd_judge_piece(NULL, 0, 0, file, PIECE), 9, 0);
+    answers("kd_judge_piece of NULL on NULL", kd_judge_piece(NULL, 0, 0, NULL, 0), 9, 0);
+}
+
+#ifdef HAS_kd_torrent_read
+
+static void torrent_of_nothing(void)
+{
+    kd_torrent torrent = kd_torrent_read(NULL, 0);
+    check("kd_torrent_read of NULL", torrent.number == 20 && memcmp(&torrent.info_hash, &zero, 32) == 0 &&
+                                         torrent.piece_length == 0 && torrent.files == 0);
+}
+
+#endif
+
+#ifdef HAS_kd_torrent_file
+
+static void file_of_nothing(void)
+{
+    kd_file one = kd_torrent_file(NULL, 0, 0);
+    check("kd_torrent_file of NULL", one.number == 20 && one.length == 0 && memcmp(&one.root, &zero, 32) == 0 &&
+                                         one.elements == 0 && one.layer_start == 0 && one.layer_size == 0);
+}
+
+#endif
+
+#ifdef HAS_kd_torrent_path
+
+static void path_of_nothing(void)
+{
+    kd_part part = kd_torrent_path(NULL, 0, 0, 0);
+    check("kd_torrent_path of NULL", part.number == 20 && part.start == 0 && part.size == 0);
+}
+
+#endif
 
 int main(void)
 {
     hashes();
+    make_tree();
+    stores();
+    session();
+    rejects();
+    serving();
+    layers();
+    blocks();
+    pieces();
+#ifdef HAS_kd_torrent_read
+    torrent_of_nothing();
+#endif
+#ifdef HAS_kd_torrent_file
+    file_of_nothing();
+#endif
+#ifdef HAS_kd_torrent_path
+    path_of_nothing();
+#endif
     printf("boundary.c: %u passed, %u failed\n", passed, failed);
     return failed != 0;
 }

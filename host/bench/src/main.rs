@@ -1,79 +1,53 @@
-//! SHA-256 by the proved library and by plain Rust, in one process.
+//! The proved library and ordinary Rust doing the same work, in one process.
 //!
-//!   bench              a table: best time of several interleaved rounds, ratio to plain Rust = 1.00
-//!   bench NAME SIZE    hashes SIZE bytes, at most 64 KiB, once by one version, so that
-//!                      its instructions can be counted from outside
+//!   bench                a table for each job: best time of several interleaved rounds, ratio to plain Rust = 1.00
+//!   bench jobs           the jobs to count instructions of, a line each: name, ratio asked, versions
+//!   bench JOB VERSION    does a job once by one version, so that its instructions can be counted from outside
+//!   bench JOB            gets the same job ready and doesn't do it: what to take off
 
 mod careful;
+mod jobs;
+mod measure;
+mod plain;
+mod scene;
 
-use reference::sha256::Hash;
-use std::hint::black_box;
-use std::time::{Duration, Instant};
-
-const ROUNDS: usize = 15;
-/// What one measurement takes at least.
-const SPAN: Duration = Duration::from_millis(10);
-
-const LARGEST_ONCE: usize = 65536;
-
-struct Version {
-    name: &'static str,
-    hash: fn(&[u8]) -> Hash,
-}
-
-/// Plain Rust first: the others are compared with it.
-const VERSIONS: [Version; 3] = [
-    Version { name: "plain-rust", hash: reference::sha256::sha256 },
-    Version { name: "careful-rust", hash: careful::sha256 },
-    Version { name: "kd_sha256", hash: |data| boundary::sha256(data).hash.bytes },
-];
+use jobs::Job;
 
 fn main() {
     let arguments: Vec<String> = std::env::args().skip(1).collect();
     match &arguments[..] {
-        [] => [1 << 20, 16384].into_iter().for_each(table),
-        [name, size] => once(name, size.parse().expect("a size in bytes")),
-        _ => panic!("usage: bench [NAME SIZE]"),
+        [] => jobs::ALL.iter().for_each(table),
+        [word] if word == "jobs" => jobs::ALL.iter().filter(|job| job.is_counted).for_each(names),
+        [name] => drop((find(name).ready)()),
+        [name, version] => once(find(name), version),
+        _ => panic!("usage: bench [jobs | JOB [VERSION]]"),
     }
 }
 
-fn bytes(size: usize) -> Vec<u8> {
-    (0..size).map(|i| (i * 7 + i / 251) as u8).collect()
+fn find(name: &str) -> &'static Job {
+    jobs::ALL.iter().find(|job| job.name == name).expect("a job's name")
 }
 
-fn once(name: &str, size: usize) {
-    let version = VERSIONS.iter().find(|version| version.name == name).expect("a version's name");
-    // The same buffer for every size, so that the difference of two counts is hashing alone.
-    black_box((version.hash)(black_box(&bytes(LARGEST_ONCE)[..size])));
+/// A job's name, the ratio asked or `-`, its versions.
+fn names(job: &Job) {
+    let asked = if job.asked.is_empty() { "-" } else { job.asked };
+    println!("{} {asked} {}", job.name, job.versions().join(" "));
 }
 
-fn table(size: usize) {
-    let data = bytes(size);
-    // Before the first measurement each version has hashed the buffer: code and data are warm.
-    assert!(VERSIONS.iter().all(|version| (version.hash)(&data) == (VERSIONS[0].hash)(&data)));
-    let repeats = VERSIONS.map(|version| repeats(&version, &data));
-    let mut best = [f64::INFINITY; VERSIONS.len()];
-    for _ in 0..ROUNDS {
-        for (number, version) in VERSIONS.iter().enumerate() {
-            let took = timed(version, &data, repeats[number]);
-            best[number] = best[number].min(took.as_nanos() as f64 / repeats[number] as f64);
-        }
+fn once(job: &Job, version: &str) {
+    let mut versions = (job.ready)();
+    let at = job.versions().iter().position(|name| *name == version).expect("a version's name");
+    versions[at].run();
+}
+
+/// One line for each version: job, version, ns, MB/s, ratio, and the ratio asked for.
+fn table(job: &Job) {
+    let best = measure::best_of_rounds(&mut (job.ready)());
+    for (version, time) in job.versions().iter().zip(&best) {
+        let speed = job.bytes as f64 / time * 1000.0;
+        let is_ours = *version == job.entry_point;
+        let asked = if is_ours { job.asked } else { "" };
+        let ratio = time / best[0];
+        println!("{:<12} {version:<14} {time:>12.0} {speed:>8.0} {ratio:>7.2} {asked:>7}", job.name);
     }
-    for (version, time) in VERSIONS.iter().zip(best) {
-        let speed = size as f64 / time * 1000.0;
-        println!("{:>9} {:<14} {:>12.0} {:>10.0} {:>7.2}", size, version.name, time, speed, time / best[0]);
-    }
-}
-
-/// How often to hash so that one measurement takes the span.
-fn repeats(version: &Version, data: &[u8]) -> u32 {
-    (0..).map(|power| 1 << power).find(|repeats| timed(version, data, *repeats) >= SPAN).unwrap()
-}
-
-fn timed(version: &Version, data: &[u8], repeats: u32) -> Duration {
-    let start = Instant::now();
-    for _ in 0..repeats {
-        black_box((version.hash)(black_box(data)));
-    }
-    start.elapsed()
 }

@@ -7,10 +7,8 @@ pub type Hash = [u8; 32];
 pub fn sha256(message: &[u8]) -> Hash {
     let mut state = START;
     let whole = message.len() / 64 * 64;
-    for block in message[..whole].chunks_exact(64) {
-        state = compress(state, block);
-    }
-    for block in last_blocks(&message[whole..], message.len()).chunks_exact(64) {
+    let (last, size) = last_blocks(&message[whole..], message.len());
+    for block in message[..whole].chunks_exact(64).chain(last[..size].chunks_exact(64)) {
         state = compress(state, block);
     }
     let mut hash = [0; 32];
@@ -28,15 +26,15 @@ pub fn pair(left: &Hash, right: &Hash) -> Hash {
     sha256(&both)
 }
 
-/// The rest of the message with its padding (section 5.1.1): a one bit, zeros, the length in bits.
-fn last_blocks(rest: &[u8], bytes: usize) -> Vec<u8> {
-    let mut padded = rest.to_vec();
-    padded.push(0x80);
-    while padded.len() % 64 != 56 {
-        padded.push(0);
-    }
-    padded.extend_from_slice(&(bytes as u64 * 8).to_be_bytes());
-    padded
+/// The rest of the message with its padding (section 5.1.1): a one bit, zeros, the length in bits. One block or two, with
+/// their size.
+fn last_blocks(rest: &[u8], bytes: usize) -> ([u8; 128], usize) {
+    let mut padded = [0; 128];
+    padded[..rest.len()].copy_from_slice(rest);
+    padded[rest.len()] = 0x80;
+    let size = if rest.len() < 56 { 64 } else { 128 };
+    padded[size - 8..size].copy_from_slice(&(bytes as u64 * 8).to_be_bytes());
+    (padded, size)
 }
 
 /// One block into the state (section 6.2.2).

@@ -1,0 +1,199 @@
+//! What is measured: each job by plain Rust, by careful Rust, and by the library. Plain Rust is first, and the others are
+//! compared with it. Getting a job ready checks that all versions do it alike.
+
+use crate::measure::{Prepared, Work};
+use crate::scene::{Scene, PIECE, PIECE_NUMBER, RUN, UNCLES};
+use crate::{careful, plain};
+use reference::sha256::{sha256, Hash};
+use std::hint::black_box;
+
+pub struct Job {
+    pub name: &'static str,
+    pub entry_point: &'static str,
+    /// The ratio to plain Rust that is asked of the library; empty if none is.
+    pub asked: &'static str,
+    /// Bytes hashed or handed on, for a speed.
+    pub bytes: usize,
+    /// Instructions are counted of this job.
+    pub is_counted: bool,
+    pub ready: fn() -> Vec<Box<dyn Work>>,
+}
+
+const REPLY: usize = 49 + 32 * (RUN as usize + UNCLES);
+
+pub const ALL: [Job; 7] = [
+    job("sha-1MiB", "kd_sha256", "", 1 << 20, false, || hashing(1 << 20)),
+    job("sha-64KiB", "kd_sha256", "", 65536, true, || hashing(65536)),
+    job("sha-16KiB", "kd_sha256", "", 16384, false, || hashing(16384)),
+    job("take", "kd_take", "2.2", REPLY, true, taking),
+    job("take-again", "kd_take", "", REPLY, true, taking_again),
+    job("serve", "kd_serve", "1.5", REPLY, true, serving),
+    job("piece-1MiB", "kd_judge_piece", "1.0", PIECE as usize, true, judging),
+];
+
+const fn job(
+    name: &'static str,
+    entry_point: &'static str,
+    asked: &'static str,
+    bytes: usize,
+    is_counted: bool,
+    ready: fn() -> Vec<Box<dyn Work>>,
+) -> Job {
+    Job { name, entry_point, asked, bytes, is_counted, ready }
+}
+
+impl Job {
+    /// The names of the versions, in their order.
+    pub fn versions(&self) -> [&'static str; 3] {
+        ["plain-rust", "careful-rust", self.entry_point]
+    }
+}
+
+type Sha256 = fn(&[u8]) -> Hash;
+
+/// The two versions in Rust differ in their SHA-256 only.
+const IN_RUST: [Sha256; 2] = [sha256, careful::sha256];
+
+fn work<S: 'static>(state: S, prepare: fn(&mut S), run: fn(&mut S)) -> Box<dyn Work> {
+    Box::new(Prepared { state, prepare, run })
+}
+
+fn bytes(size: usize) -> Vec<u8> {
+    (0..size).map(|i| (i * 7 + i / 251) as u8).collect()
+}
+
+fn hashing(size: usize) -> Vec<Box<dyn Work>> {
+    let of_version =
+        |hash: Sha256| work((hash, bytes(size)), |_| (), |(hash, data)| _ = black_box(hash(black_box(data))));
+    let by_library: Sha256 = |data| boundary::sha256(data).hash.bytes;
+    IN_RUST.into_iter().chain([by_library]).map(of_version).collect()
+}
+
+/// A store in plain Rust with what a job needs beside it.
+struct InRust {
+    store: plain::Store,
+    message: Vec<u8>,
+    nodes: Vec<usize>,
+    reply: Vec<u8>,
+}
+
+/// A store of the library with what a job needs beside it.
+struct InLibrary {
+    store: Vec<u8>,
+    message: Vec<u8>,
+    nodes: Vec<usize>,
+    out: Vec<u8>,
+}
+
+impl InRust {
+    fn new(scene: &Scene, sha256: Sha256, message: Vec<u8>) -> InRust {
+        let store = plain::Store::open(scene.facts.length, PIECE, scene.facts.root, sha256);
+        InRust { store, message, nodes: scene.nodes(), reply: Vec::with_capacity(REPLY) }
+    }
+
+    /// With everything held that the reply settles.
+    fn told(scene: &Scene, sha256: Sha256, message: Vec<u8>) -> InRust {
+        let mut state = InRust::new(scene, sha256, message);
+        for (node, (_, hash)) in state.nodes.iter().zip(&scene.settled) {
+            state.store.nodes[*node] = Some(*hash);
+        }
+        state
+    }
+
+    /// The root alone is held again.
+    fn forget(&mut self) {
+        for node in self.nodes.iter().filter(|node| **node != 1) {
+            self.store.nodes[*node] = None;
+        }
+    }
+
+    fn take(&mut self) -> Option<u64> {
+        black_box(self.store.take(black_box(&self.message)))
+    }
+
+    fn serve(&mut self) -> bool {
+        black_box(self.store.serve(black_box(&self.message), &mut self.reply))
+    }
+
+    fn judge(&mut self) -> bool {
+        black_box(self.store.judge_piece(PIECE_NUMBER as usize, black_box(&self.message)))
+    }
+}
+
+impl InLibrary {
+    fn new(scene: &Scene, store: Vec<u8>, message: Vec<u8>) -> InLibrary {
+        InLibrary { store, message, nodes: scene.nodes(), out: vec![0; REPLY] }
+    }
+
+    fn forget(&mut self) {
+        for node in self.nodes.iter().filter(|node| **node != 1) {
+            self.store[64 + 33 * (node - 1)..][..33].fill(0);
+        }
+    }
+
+    fn take(&mut self) -> boundary::Answer {
+        black_box(boundary::take(&mut self.store, black_box(&self.message)))
+    }
+
+    fn serve(&mut self) -> boundary::Answer {
+        black_box(boundary::serve(&self.store, black_box(&self.message), &mut self.out))
+    }
+
+    fn judge(&mut self) -> boundary::Answer {
+        black_box(boundary::judge_piece(&self.store, PIECE_NUMBER, black_box(&self.message)))
+    }
+}
+
+/// The positions that the reply makes newly held: all but the root.
+const NEWLY: u64 = 2 * RUN as u64 - 2 + 2 * UNCLES as u64;
+
+/// Taking the reply on a store that holds its anchor, the root, and nothing else.
+fn taking() -> Vec<Box<dyn Work>> {
+    let scene = Scene::without_bytes();
+    let in_rust = IN_RUST.map(|sha256| {
+        let state = InRust::new(&scene, sha256, scene.reply());
+        work(state, InRust::forget, |state| assert_eq!(state.take(), Some(NEWLY)))
+    });
+    let state = InLibrary::new(&scene, scene.opened(), scene.reply());
+    let in_library = work(state, InLibrary::forget, |state| assert_eq!(state.take().count, NEWLY));
+    in_rust.into_iter().chain([in_library]).collect()
+}
+
+/// Taking it once more.
+fn taking_again() -> Vec<Box<dyn Work>> {
+    let scene = Scene::without_bytes();
+    let in_rust = IN_RUST.map(|sha256| {
+        let state = InRust::told(&scene, sha256, scene.reply());
+        work(state, |_| (), |state| assert_eq!(state.take(), Some(0)))
+    });
+    let state = InLibrary::new(&scene, scene.told(), scene.reply());
+    let in_library = work(state, |_| (), |state| assert_eq!(state.take().number, 0));
+    in_rust.into_iter().chain([in_library]).collect()
+}
+
+/// Serving the request that the reply answers.
+fn serving() -> Vec<Box<dyn Work>> {
+    let scene = Scene::without_bytes();
+    let in_rust = IN_RUST.map(|sha256| {
+        let state = InRust::told(&scene, sha256, scene.request());
+        work(state, |_| (), |state| assert!(state.serve() && state.reply.len() == REPLY))
+    });
+    let state = InLibrary::new(&scene, scene.told(), scene.request());
+    let in_library = work(state, |_| (), |state| assert_eq!(state.serve().count, REPLY as u64));
+    in_rust.into_iter().chain([in_library]).collect()
+}
+
+/// Judging the piece that the run begins with, its leaves and its node held.
+fn judging() -> Vec<Box<dyn Work>> {
+    let piece = bytes(PIECE as usize);
+    let mut leaves: Vec<Hash> = piece.chunks(16384).map(sha256).collect();
+    leaves.resize(RUN as usize, [1; 32]);
+    let scene = Scene::new(leaves);
+    let in_rust = IN_RUST.map(|sha256| {
+        let state = InRust::told(&scene, sha256, piece.clone());
+        work(state, |_| (), |state| assert!(state.judge()))
+    });
+    let state = InLibrary::new(&scene, scene.told(), piece.clone());
+    let in_library = work(state, |_| (), |state| assert_eq!(state.judge().number, 0));
+    in_rust.into_iter().chain([in_library]).collect()
+}

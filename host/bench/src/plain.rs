@@ -1,0 +1,152 @@
+//! A store as an ordinary Rust programmer writes it, for comparison: an `Option` for each node, a `Vec` for what a message
+//! settles, every hash worked out once.
+
+use reference::sha256::Hash;
+
+const BLOCK: usize = 16384;
+const HEAD: usize = 49;
+
+pub struct Store {
+    root: Hash,
+    blocks: usize,
+    height: u32,
+    piece_length: usize,
+    /// By node number: the root is 1, the children of n are 2n and 2n + 1.
+    pub nodes: Vec<Option<Hash>>,
+    padding: Vec<Hash>,
+    sha256: fn(&[u8]) -> Hash,
+}
+
+struct Header {
+    base: u32,
+    index: usize,
+    length: usize,
+    uncles: usize,
+}
+
+impl Store {
+    pub fn open(length: u64, piece_length: u64, root: Hash, sha256: fn(&[u8]) -> Hash) -> Store {
+        let blocks = (length as usize).div_ceil(BLOCK);
+        let height = blocks.next_power_of_two().trailing_zeros();
+        let mut nodes = vec![None; 2 << height];
+        nodes[1] = Some(root);
+        let mut padding = vec![[0; 32]];
+        for layer in 0..height as usize {
+            padding.push(sha256(&[padding[layer]; 2].concat()));
+        }
+        Store { root, blocks, height, piece_length: piece_length as usize, nodes, padding, sha256 }
+    }
+
+    /// Takes a hashes message, and says how many positions are newly held.
+    pub fn take(&mut self, message: &[u8]) -> Option<u64> {
+        let header = self.header(message, 22)?;
+        if message.len() != HEAD + 32 * (header.length + header.uncles) {
+            return None;
+        }
+        let settled = self.settled(&header, &message[HEAD..])?;
+        let &(anchor, top) = settled.last()?;
+        if self.nodes[anchor] != Some(top) || !self.agree(&settled) {
+            return None;
+        }
+        let mut newly = 0;
+        for (node, hash) in settled {
+            newly += self.nodes[node].replace(hash).is_none() as u64;
+        }
+        Some(newly)
+    }
+
+    /// Answers a request with the hashes held, if they all are.
+    pub fn serve(&self, request: &[u8], reply: &mut Vec<u8>) -> bool {
+        reply.clear();
+        let Some(header) = self.header(request, 21) else { return false };
+        reply.push(22);
+        reply.extend_from_slice(&request[1..HEAD]);
+        let first = self.first_node(&header);
+        let path = (0..header.uncles).map(|uncle| (first >> (header.length.trailing_zeros() as usize + uncle)) ^ 1);
+        for node in (first..first + header.length).chain(path) {
+            let Some(hash) = &self.nodes[node] else { return false };
+            reply.extend_from_slice(hash);
+        }
+        true
+    }
+
+    /// Whether a piece has the hash held for it and contradicts none below.
+    pub fn judge_piece(&self, piece: usize, data: &[u8]) -> bool {
+        let leaves = self.piece_length / BLOCK;
+        let first = (1 << self.height) + piece * leaves;
+        let mut worked_out: Vec<(usize, Hash)> = Vec::with_capacity(2 * leaves);
+        worked_out.extend(data.chunks(BLOCK).enumerate().map(|(block, bytes)| (first + block, (self.sha256)(bytes))));
+        worked_out.extend((worked_out.len()..leaves).map(|missing| (first + missing, [0; 32])));
+        self.add_parents(&mut worked_out, leaves);
+        worked_out.last().is_some_and(|&(node, hash)| self.nodes[node] == Some(hash)) && self.agree(&worked_out)
+    }
+
+    /// The header of a message of this id, if it obeys the rules.
+    fn header(&self, message: &[u8], id: u8) -> Option<Header> {
+        if message.len() < HEAD || message[0] != id || message[1..33] != self.root {
+            return None;
+        }
+        let word = |at: usize| u32::from_be_bytes(message[at..at + 4].try_into().unwrap());
+        let (base, index, length, proof) = (word(33), word(37), word(41), word(45));
+        let layers = length.trailing_zeros();
+        let obeys = length.is_power_of_two()
+            && (2..=512).contains(&length)
+            && index % length == 0
+            && base as u64 + layers as u64 <= self.height as u64
+            && (base as u64 + proof as u64) < self.height as u64
+            && (index as usize) < self.blocks.div_ceil(1 << base);
+        let uncles = proof.saturating_sub(layers.saturating_sub(1)) as usize;
+        obeys.then_some(Header { base, index: index as usize, length: length as usize, uncles })
+    }
+
+    fn first_node(&self, header: &Header) -> usize {
+        (1 << (self.height - header.base)) + header.index
+    }
+
+    /// Every position that a message settles with its hash, the anchor last, unless a padding hash is wrong.
+    fn settled(&self, header: &Header, hashes: &[u8]) -> Option<Vec<(usize, Hash)>> {
+        let mut hashes = hashes.chunks_exact(32).map(|bytes| Hash::try_from(bytes).unwrap());
+        let mut settled = Vec::with_capacity(2 * (header.length + header.uncles));
+        settled.extend((self.first_node(header)..).zip(hashes.by_ref().take(header.length)));
+        if !settled.iter().all(|(node, hash)| self.is_right_padding(*node, hash)) {
+            return None;
+        }
+        self.add_parents(&mut settled, header.length);
+        for uncle in hashes {
+            let &(node, hash) = settled.last()?;
+            if !self.is_right_padding(node ^ 1, &uncle) {
+                return None;
+            }
+            let (left, right) = if node % 2 == 0 { (hash, uncle) } else { (uncle, hash) };
+            settled.push((node ^ 1, uncle));
+            settled.push((node / 2, self.pair(&left, &right)));
+        }
+        Some(settled)
+    }
+
+    /// The parents of a run of leaves, row by row: number i is above 2i and 2i + 1.
+    fn add_parents(&self, row: &mut Vec<(usize, Hash)>, leaves: usize) {
+        for parent in 0..leaves - 1 {
+            let ((node, left), (_, right)) = (row[2 * parent], row[2 * parent + 1]);
+            row.push((node / 2, self.pair(&left, &right)));
+        }
+    }
+
+    fn pair(&self, left: &Hash, right: &Hash) -> Hash {
+        let mut both = [0; 64];
+        both[..32].copy_from_slice(left);
+        both[32..].copy_from_slice(right);
+        (self.sha256)(&both)
+    }
+
+    fn is_right_padding(&self, node: usize, hash: &Hash) -> bool {
+        let layer = self.height - node.ilog2();
+        let index = node - (1 << node.ilog2());
+        index < self.blocks.div_ceil(1 << layer) || *hash == self.padding[layer as usize]
+    }
+
+    /// No held hash differs from what was worked out.
+    fn agree(&self, worked_out: &[(usize, Hash)]) -> bool {
+        worked_out.iter().all(|(node, hash)| self.nodes[*node].is_none_or(|held| held == *hash))
+    }
+}

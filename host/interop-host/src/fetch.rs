@@ -1,0 +1,155 @@
+//! The host as a peer of a seed: it asks for all hashes of each file, offers each reply to the library, and damaged ones
+//! in between; then it fetches all blocks and judges them.
+
+use crate::contents::{Contents, File, BLOCK};
+use crate::peer::{of_words, word, Peer, HASHES, HASH_REJECT, HASH_REQUEST, INTERESTED, PIECE, REQUEST, UNCHOKE};
+use kombudeva::{Answer, Store};
+use std::io;
+
+const LONGEST_RUN: u32 = 512;
+
+#[derive(Default)]
+struct Counts {
+    taken: u64,
+    before_their_anchor: u64,
+    refused: u64,
+    believed: u64,
+}
+
+pub fn run(contents: &Contents, port: u16) -> io::Result<()> {
+    let mut peer = Peer::connect(port, &contents.info_hash)?;
+    peer.send(&[INTERESTED])?;
+    peer.receive_one_of(&[UNCHOKE])?;
+    for file in contents.files.iter().filter(|file| file.length > 0) {
+        let mut memory = Vec::new();
+        let mut store = file.open(&mut memory);
+        let mut counts = Counts::default();
+        learn_hashes(&mut peer, file, &mut store, &mut counts)?;
+        judge_pieces(&mut peer, file, &store, &mut counts)?;
+        assert_eq!(counts.believed, file.blocks(), "every block is believed");
+        println!(
+            "{}: {} replies taken ({} of them had come before their anchor), {} damaged ones refused, {} of {} blocks \
+             believed",
+            file.path.display(),
+            counts.taken,
+            counts.before_their_anchor,
+            counts.refused,
+            counts.believed,
+            file.blocks()
+        );
+    }
+    Ok(())
+}
+
+/// The requests for every hash of a file, leaves first, so that the leaves of a large file come before their anchor.
+fn requests(file: &File) -> Vec<Vec<u8>> {
+    let leaves = runs(file, 0, |_| 0);
+    let pieces = runs(file, file.piece_layer(), |height| height - 1);
+    leaves.chain(pieces).collect()
+}
+
+/// Requests for a layer of a file in runs as long as they may be; a layer that is a run's own top or above has none.
+/// `proof` gives the proof layers for the layers there are from this one to the root.
+fn runs<'a>(file: &'a File, layer: u32, proof: fn(u32) -> u32) -> impl Iterator<Item = Vec<u8>> + 'a {
+    let above = file.height().saturating_sub(layer);
+    let length = LONGEST_RUN.min(1 << above);
+    let in_layer = if above == 0 { 0 } else { file.blocks().div_ceil(1 << layer) };
+    (0..in_layer as u32).step_by(length as usize).map(move |index| {
+        let mut request = of_words(HASH_REQUEST, &[layer, index, length, proof(above)]);
+        request.splice(1..1, file.root);
+        request
+    })
+}
+
+fn learn_hashes(peer: &mut Peer, file: &File, store: &mut Store, counts: &mut Counts) -> io::Result<()> {
+    let mut early = Vec::new();
+    for request in requests(file) {
+        peer.send(&request)?;
+        let reply = peer.receive_one_of(&[HASHES, HASH_REJECT])?;
+        assert_eq!((reply[0], &reply[1..49]), (HASHES, &request[1..]), "the seed has all hashes");
+        if offer(store, &reply, counts) == Answer::NoAnchor {
+            early.push(reply);
+        }
+    }
+    counts.before_their_anchor = early.len() as u64;
+    for reply in early {
+        assert!(offer(store, &reply, counts).is_done(), "its anchor is held by now");
+    }
+    for block in 0..file.blocks() {
+        assert!(store.held(0, block).is_done(), "every leaf is held");
+    }
+    Ok(())
+}
+
+/// Offers a true reply, and damaged ones before and after it.
+fn offer(store: &mut Store, reply: &[u8], counts: &mut Counts) -> Answer<u64> {
+    offer_damaged(store, reply, counts);
+    let answer = store.take(reply);
+    match answer {
+        Answer::Done(_) => counts.taken += 1,
+        Answer::NoAnchor => return answer,
+        refused => panic!("a true reply is refused: {refused}"),
+    }
+    offer_damaged(store, reply, counts);
+    assert_eq!(store.take(reply), Answer::Done(0), "the same reply again tells nothing new");
+    answer
+}
+
+/// Offers a reply damaged in one way after the other. Each is refused by its own number, and no byte changes.
+fn offer_damaged(store: &mut Store, reply: &[u8], counts: &mut Counts) {
+    let damaged = |change: fn(&mut Vec<u8>)| {
+        let mut message = reply.to_vec();
+        change(&mut message);
+        message
+    };
+    // The first hash of a run is above a block, so it is no padding.
+    let first_hash = damaged(|message| message[49] ^= 1);
+    let ways = [
+        (damaged(|message| message[0] = HASH_REJECT), Answer::NoMessage),
+        (damaged(|message| message[1] ^= 1), Answer::OtherRoot),
+        (damaged(|message| message[44] ^= 1), Answer::RuleBroken),
+        (damaged(|message| message.truncate(message.len() - 32)), Answer::WrongSize),
+    ];
+    let before = store.bytes().to_vec();
+    for (message, expected) in ways {
+        assert_eq!(store.take(&message), expected);
+    }
+    assert!(matches!(store.take(&first_hash), Answer::Differs | Answer::NoAnchor));
+    assert_eq!(store.bytes(), before, "a refusal loses nothing");
+    counts.refused += 5;
+}
+
+fn judge_pieces(peer: &mut Peer, file: &File, store: &Store, counts: &mut Counts) -> io::Result<()> {
+    for piece in 0..file.pieces() {
+        let start = piece * file.piece_length;
+        let size = file.piece_length.min(file.length - start);
+        let mut bytes = fetch_piece(peer, (file.first_piece + piece) as u32, size)?;
+        assert_eq!(store.judge_piece(piece, &bytes), Answer::Done(0));
+        for (offset, block) in bytes.chunks_mut(BLOCK as usize).enumerate() {
+            let number = start / BLOCK + offset as u64;
+            if store.judge_block(number, block).is_done() {
+                counts.believed += 1;
+            }
+            block[0] ^= 1;
+            assert_eq!(store.judge_block(number, block), Answer::Differs, "a damaged block is not believed");
+        }
+        assert_eq!(store.judge_piece(piece, &bytes), Answer::Differs, "nor a piece of them");
+    }
+    Ok(())
+}
+
+/// A piece of this size, block by block.
+fn fetch_piece(peer: &mut Peer, piece: u32, size: u64) -> io::Result<Vec<u8>> {
+    let mut bytes = vec![0; size as usize];
+    let starts = || (0..size).step_by(BLOCK as usize);
+    for start in starts() {
+        peer.send(&of_words(REQUEST, &[piece, start as u32, BLOCK.min(size - start) as u32]))?;
+    }
+    for _ in starts() {
+        let message = peer.receive_one_of(&[PIECE])?;
+        assert_eq!(word(&message, 1), piece);
+        let (start, block) = (word(&message, 5) as usize, &message[9..]);
+        bytes[start..start + block.len()].copy_from_slice(block);
+    }
+    Ok(bytes)
+}

@@ -1,0 +1,47 @@
+//! Kombudeva for Rust hosts: a store of BitTorrent v2 hashes that believes nothing before its chain is checked.
+//!
+//! A [`Store`] borrows the memory that it lives in, and an [`Answer`] names the number that the proved library gave.
+//! Nothing here decides anything; each method is one call over the C boundary (crate `boundary`, the only unsafe code).
+//! A call whose entry point `include/kombudeva.h` does not declare yet panics and says so.
+//!
+//! ```
+//! use kombudeva::{sha256, store_size, Answer, Store};
+//!
+//! // A file of one block: its tree is its leaf, so its pieces root is that block's hash.
+//! let file = b"3.71 V";
+//! let Answer::Done(root) = sha256(file) else { panic!("no string here is too long") };
+//!
+//! let size = store_size(file.len() as u64, 16384).done().expect("facts in range");
+//! let mut memory = vec![0; size as usize];
+//! let store = Store::open(&mut memory, file.len() as u64, 16384, root).done().expect("room for the store");
+//! assert_eq!(store.held(0, 0), Answer::Done(root));
+//! assert_eq!(store.held(0, 1), Answer::RuleBroken);
+//! ```
+#![forbid(unsafe_code)]
+
+mod answer;
+mod store;
+mod torrent;
+
+pub use answer::Answer;
+pub use store::{store_size, Served, Store};
+pub use torrent::{File, Torrent};
+
+/// A SHA-256: 32 bytes in the order in which the standard prints them.
+pub type Hash = [u8; 32];
+
+/// SHA-256 by FIPS 180-4.
+///
+/// ```
+/// let hash = kombudeva::sha256(b"abc").done().unwrap();
+/// assert_eq!(hash[..4], [0xba, 0x78, 0x16, 0xbf]);
+/// ```
+pub fn sha256(data: &[u8]) -> Answer<Hash> {
+    let given = boundary::sha256(data);
+    Answer::of(given.number, given.hash.bytes)
+}
+
+/// Whether the header declares an entry point yet, by its C name.
+pub fn is_declared(entry_point: &str) -> bool {
+    boundary::is_declared(entry_point)
+}

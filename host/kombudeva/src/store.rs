@@ -1,0 +1,93 @@
+//! The store, and what is asked of it.
+
+use crate::{Answer, Hash};
+
+/// The bytes that a store for a file of this length uses.
+///
+/// Refused: [`FactsOutOfRange`](Answer::FactsOutOfRange).
+pub fn store_size(length: u64, piece_length: u64) -> Answer<u64> {
+    count(boundary::store_size(length, piece_length))
+}
+
+fn count(given: boundary::Answer) -> Answer<u64> {
+    Answer::of(given.number, given.count)
+}
+
+/// A store of held hashes of one file's tree, in memory that it borrows.
+///
+/// Any bytes may be lent. Whether they are a store is answered by each call, so a store can be kept in a file or
+/// come from elsewhere: [`Store::over`].
+#[derive(Debug, PartialEq, Eq)]
+pub struct Store<'a> {
+    memory: &'a mut [u8],
+}
+
+/// What a request got: the answer, with the size of a hashes message beside 0, and the message to send back.
+#[derive(Clone, Copy, Debug, PartialEq, Eq)]
+pub struct Served<'a> {
+    pub answer: Answer<u64>,
+    /// The hashes message, a reject, or nothing.
+    pub reply: &'a [u8],
+}
+
+impl<'a> Store<'a> {
+    /// Makes the memory a store of which the root alone is held. Bytes behind the store's size stay.
+    ///
+    /// Refused, in this order: [`FactsOutOfRange`](Answer::FactsOutOfRange), [`Unusable`](Answer::Unusable) where the
+    /// memory is shorter than [`store_size`] says.
+    pub fn open(memory: &'a mut [u8], length: u64, piece_length: u64, root: Hash) -> Answer<Store<'a>> {
+        let given = boundary::open(memory, length, piece_length, boundary::Hash { bytes: root });
+        Answer::of(given.number, Store { memory })
+    }
+
+    /// A store opened earlier, or any bytes.
+    pub fn over(memory: &'a mut [u8]) -> Store<'a> {
+        Store { memory }
+    }
+
+    /// The store's bytes.
+    pub fn bytes(&self) -> &[u8] {
+        self.memory
+    }
+
+    /// The hash held at a position. Layer 0 has the blocks.
+    ///
+    /// Refused, in this order: [`Unusable`](Answer::Unusable), [`RuleBroken`](Answer::RuleBroken) where the tree has no
+    /// such position, [`NoAnchor`](Answer::NoAnchor) where it is not held.
+    pub fn held(&self, layer: u64, index: u64) -> Answer<Hash> {
+        let given = boundary::held(self.memory, layer, index);
+        Answer::of(given.number, given.hash.bytes)
+    }
+
+    /// Offers a hashes message (id 22), asked for or not. Done says how many positions are newly held.
+    pub fn take(&mut self, message: &[u8]) -> Answer<u64> {
+        count(boundary::take(self.memory, message))
+    }
+
+    /// Hears a reject (id 23). It changes nothing.
+    pub fn take_reject(&self, message: &[u8]) -> Answer<u64> {
+        count(boundary::take_reject(self.memory, message))
+    }
+
+    /// Answers a request (id 21) in `out`. A refusal with [`OtherRoot`](Answer::OtherRoot),
+    /// [`RuleBroken`](Answer::RuleBroken) or [`NotHeld`](Answer::NotHeld) has a reject to send back; others have nothing.
+    pub fn serve<'o>(&self, request: &[u8], out: &'o mut [u8]) -> Served<'o> {
+        let given = boundary::serve(self.memory, request, out);
+        Served { answer: count(given), reply: &out[..given.count as usize] }
+    }
+
+    /// Loads the file's piece layer: it and all above it are held then. Done says how many positions are newly held.
+    pub fn load_layer(&mut self, layer: &[u8]) -> Answer<u64> {
+        count(boundary::load_layer(self.memory, layer))
+    }
+
+    /// Judges a block against its leaf: [`Done`](Answer::Done) if it may be believed.
+    pub fn judge_block(&self, block: u64, data: &[u8]) -> Answer<u64> {
+        count(boundary::judge_block(self.memory, block, data))
+    }
+
+    /// Judges a piece against its node in the piece layer, or the root of a file not longer than the piece length.
+    pub fn judge_piece(&self, piece: u64, data: &[u8]) -> Answer<u64> {
+        count(boundary::judge_piece(self.memory, piece, data))
+    }
+}

@@ -1,0 +1,154 @@
+//! The session of document 01 through the binding, on five blocks in pieces of four. The tree is made by host/reference.
+
+use kombudeva::{is_declared, sha256, store_size, Answer, Store, Torrent};
+use reference::messages::{Header, HASHES, REJECT, REQUEST};
+use reference::tree::{of_file, Position, BLOCK};
+use std::collections::HashMap;
+
+const LENGTH: u64 = 5 * BLOCK;
+const PIECE: u64 = 4 * BLOCK;
+
+struct Known {
+    bytes: Vec<u8>,
+    tree: HashMap<Position, [u8; 32]>,
+}
+
+fn known() -> Known {
+    let bytes: Vec<u8> = (0..LENGTH).map(|i| (i * 7 + i / 251) as u8).collect();
+    let tree = of_file(&bytes).into_iter().collect();
+    Known { bytes, tree }
+}
+
+impl Known {
+    fn at(&self, layer: u64, index: u64) -> [u8; 32] {
+        self.tree[&Position { layer, index }]
+    }
+
+    fn root(&self) -> [u8; 32] {
+        self.at(3, 0)
+    }
+
+    fn header(&self, [base, index, length, proof]: [u32; 4]) -> Header {
+        Header { root: self.root(), base, index, length, proof }
+    }
+
+    fn message(&self, words: [u32; 4]) -> Vec<u8> {
+        let header = self.header(words);
+        let hashes = header.given_positions().into_iter().flat_map(|at| self.tree[&at]);
+        header.write(HASHES).into_iter().chain(hashes).collect()
+    }
+
+    fn open<'a>(&self, memory: &'a mut Vec<u8>) -> Store<'a> {
+        memory.resize(store_size(LENGTH, PIECE).done().unwrap() as usize, 0xaa);
+        Store::open(memory, LENGTH, PIECE, self.root()).done().unwrap()
+    }
+
+    fn block(&self, block: u64) -> &[u8] {
+        &self.bytes[(block * BLOCK) as usize..][..BLOCK as usize]
+    }
+}
+
+#[test]
+fn a_hash() {
+    assert_eq!(sha256(b"abc").done(), Some(reference::sha256::sha256(b"abc")));
+}
+
+#[test]
+fn the_session_of_the_document() {
+    let known = known();
+    let mut memory = Vec::new();
+    let mut store = known.open(&mut memory);
+    assert_eq!(store.held(3, 0), Answer::Done(known.root()));
+    let leaves = known.message([0, 0, 4, 1]);
+    assert_eq!(store.take(&leaves), Answer::NoAnchor);
+    assert_eq!(store.take(&known.message([2, 0, 2, 0])), Answer::Done(2));
+    assert_eq!(store.take(&leaves), Answer::Done(6));
+    assert_eq!(store.take(&leaves), Answer::Done(0));
+    assert_eq!(store.held(0, 3), Answer::Done(known.at(0, 3)));
+    assert_eq!(store.held(0, 4), Answer::NoAnchor);
+    assert_eq!(store.held(0, 8), Answer::RuleBroken);
+    assert_eq!(store.take_reject(&known.header([0, 4, 4, 2]).write(REJECT)), Answer::Done(0));
+    assert_eq!(store.take_reject(&leaves), Answer::NoMessage);
+}
+
+#[test]
+fn refusals_change_nothing() {
+    let known = known();
+    let mut memory = Vec::new();
+    let mut store = known.open(&mut memory);
+    let before = store.bytes().to_vec();
+    let mut damaged = known.message([0, 0, 8, 0]);
+    damaged[60] ^= 1;
+    assert_eq!(store.take(&damaged), Answer::Differs);
+    assert_eq!(store.take(&damaged[..100]), Answer::WrongSize);
+    assert_eq!(store.take(&[]), Answer::NoMessage);
+    assert_eq!(store.bytes(), before);
+}
+
+#[test]
+fn any_bytes_may_be_lent() {
+    let mut none = [0; 0];
+    assert_eq!(Store::over(&mut none).held(0, 0), Answer::Unusable);
+    assert_eq!(Store::over(&mut [0xff; 500]).take(&[22; 49]), Answer::Unusable);
+    assert_eq!(Store::open(&mut none, 0, PIECE, [0; 32]), Answer::FactsOutOfRange);
+    assert_eq!(Store::open(&mut none, 1, PIECE, [0; 32]), Answer::Unusable);
+    assert_eq!(store_size(1, 16385), Answer::FactsOutOfRange);
+}
+
+#[test]
+fn a_store_is_found_again_in_its_bytes() {
+    let known = known();
+    let mut memory = Vec::new();
+    assert_eq!(known.open(&mut memory).take(&known.message([0, 0, 8, 0])), Answer::Done(14));
+    assert_eq!(Store::over(&mut memory).held(0, 4), Answer::Done(known.at(0, 4)));
+}
+
+#[test]
+fn serving() {
+    let known = known();
+    let mut memory = Vec::new();
+    let mut store = known.open(&mut memory);
+    let request = known.header([0, 4, 4, 2]).write(REQUEST);
+    let mut out = [0; 300];
+    let served = store.serve(&request, &mut out);
+    assert_eq!((served.answer, served.reply), (Answer::NotHeld, &known.header([0, 4, 4, 2]).write(REJECT)[..]));
+    assert_eq!(store.take(&known.message([0, 0, 8, 0])), Answer::Done(14));
+    let served = store.serve(&request, &mut out);
+    assert_eq!((served.answer, served.reply), (Answer::Done(209), &known.message([0, 4, 4, 2])[..]));
+    let served = store.serve(&request, &mut out[..208]);
+    assert_eq!((served.answer, served.reply), (Answer::NoRoom, &[][..]));
+}
+
+#[test]
+fn layers_pieces_and_blocks() {
+    let known = known();
+    let mut memory = Vec::new();
+    let mut store = known.open(&mut memory);
+    let layer = [known.at(2, 0), known.at(2, 1)].concat();
+    let (first, last) = known.bytes.split_at(PIECE as usize);
+    assert_eq!(store.judge_piece(1, last), Answer::NoAnchor);
+    assert_eq!(store.load_layer(&layer), Answer::Done(2));
+    assert_eq!(store.judge_piece(0, first), Answer::Done(0));
+    assert_eq!(store.judge_piece(1, last), Answer::Done(0));
+    assert_eq!(store.judge_piece(2, last), Answer::RuleBroken);
+    assert_eq!(store.judge_block(4, known.block(4)), Answer::NoAnchor);
+    assert_eq!(store.take(&known.message([0, 0, 8, 0])), Answer::Done(12));
+    assert_eq!(store.judge_block(4, known.block(4)), Answer::Done(0));
+    assert_eq!(store.judge_block(4, known.block(3)), Answer::Differs);
+}
+
+#[test]
+fn a_torrent() {
+    if !["kd_torrent_read", "kd_torrent_file", "kd_torrent_path"].into_iter().all(is_declared) {
+        return;
+    }
+    let bytes = include_bytes!("../../tests/real/several.torrent");
+    let torrent = Torrent::read(bytes).done().unwrap();
+    assert_eq!((torrent.piece_length, torrent.files), (32768, 5));
+    let voltage = torrent.file(0).done().unwrap();
+    assert_eq!((voltage.length, voltage.elements, voltage.layer.len()), (100_000, 3, 4 * 32));
+    assert_eq!(torrent.path(0, 2), Answer::Done(&b"voltage"[..]));
+    assert_eq!(torrent.path(0, 3), Answer::NoSuchFile);
+    assert_eq!(torrent.file(5), Answer::NoSuchFile);
+    assert_eq!(Torrent::read(&bytes[1..]), Answer::NotStrict);
+}
