@@ -2,7 +2,9 @@
  * the paint that is gone is counted. What the frame around the call takes itself is measured and taken off.
  *
  * The file has 65,536 blocks, the most there may be, so that the tree is as high as it can be. All its blocks are alike:
- * the tree then costs one hash for each layer. Every call is answered 0, having gone through all it does. */
+ * the tree then costs one hash for each layer. Every call is answered 0, having gone through all it does.
+ *
+ * host/bench.sh defines HAS_<name> for each function that the header declares: those on torrents are yet to come. */
 #define _GNU_SOURCE
 #include "kombudeva.h"
 
@@ -44,6 +46,44 @@ static void serve(void) { number = kd_serve(store, size, request, HEAD, out, REP
 static void judge_block(void) { number = kd_judge_block(store, size, 0, piece, BLOCK).number; }
 static void judge_piece(void) { number = kd_judge_piece(store, size, 0, piece, LARGEST_PIECE).number; }
 static void load_layer(void) { number = kd_load_layer(store, size, layer[0].bytes, sizeof layer).number; }
+
+#ifdef HAS_kd_torrent_path
+
+/* A torrent of the same file, its path as deep as it may be, with the longest layer that 1 MiB has room for. */
+enum { ELEMENTS = 28, LAYER = 2, PIECES = BLOCKS >> LAYER };
+static uint8_t torrent[1 << 20];
+static size_t torrent_size;
+
+static void torrent_read(void) { number = kd_torrent_read(torrent, torrent_size).number; }
+static void torrent_file(void) { number = kd_torrent_file(torrent, torrent_size, 0).number; }
+static void torrent_path(void) { number = kd_torrent_path(torrent, torrent_size, 0, ELEMENTS - 1).number; }
+
+static void add(const void *bytes, size_t count)
+{
+    memcpy(torrent + torrent_size, bytes, count);
+    torrent_size += count;
+}
+
+static void add_text(const char *text) { add(text, strlen(text)); }
+
+static void make_torrent(void)
+{
+    add_text("d4:infod9:file treed");
+    for (int i = 0; i < ELEMENTS; i++)
+        add_text("1:ad");
+    add_text("0:d6:lengthi1073741824e11:pieces root32:");
+    add(&at_layer[HEIGHT], 32);
+    for (int i = 0; i < ELEMENTS; i++)
+        add_text("e");
+    add_text("ee12:meta versioni2e12:piece lengthi65536ee12:piece layersd32:");
+    add(&at_layer[HEIGHT], 32);
+    add_text("524288:");
+    for (int i = 0; i < PIECES; i++)
+        add(&at_layer[LAYER], 32);
+    add_text("ee");
+}
+
+#endif
 
 static kd_hash pair_of(kd_hash hash)
 {
@@ -134,6 +174,12 @@ int main(void)
     show("kd_judge_piece", judge_piece);
     open_for_layer();
     show("kd_load_layer", load_layer);
+#ifdef HAS_kd_torrent_path
+    make_torrent();
+    show("kd_torrent_read", torrent_read);
+    show("kd_torrent_file", torrent_file);
+    show("kd_torrent_path", torrent_path);
+#endif
     free(store);
     return 0;
 }

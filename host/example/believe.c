@@ -1,7 +1,7 @@
 /* May this block be believed? A gateway opens a store for a cell's history, hears a neighbour's reply about its hashes,
  * and judges blocks as they come in.
  *
- *     cc believe.c libkombudeva.a -o believe
+ *     cc -I include host/example/believe.c target/staticlib/libkombudeva.a -o believe
  */
 #include "kombudeva.h"
 

@@ -1,11 +1,15 @@
 /* The header as C sees it: it compiles without a warning, its structs have the sizes and offsets that the library was
- * built for, NULL with size 0 is safe for every parameter, and calls whose every field is known come back right.
+ * built for, NULL with size 0 is safe for every parameter, calls whose every field is known come back right, and no call
+ * touches a byte outside the memories it was lent.
  *
  * host/test defines HAS_<name> for each function that the header declares: those on torrents are yet to come. */
+#define _DEFAULT_SOURCE
 #include "kombudeva.h"
 
 #include <stdio.h>
+#include <stdlib.h>
 #include <string.h>
+#include <sys/mman.h>
 
 _Static_assert(sizeof(kd_hash) == 32, "kd_hash");
 _Static_assert(sizeof(kd_hashed) == 36, "kd_hashed");
@@ -274,6 +278,92 @@ static void pieces(void)
     answers("kd_judge_piece of NULL on NULL", kd_judge_piece(NULL, 0, 0, NULL, 0), 9, 0);
 }
 
+/* A copy of some bytes that ends where a page begins that may not be touched: one byte read or written behind it ends
+ * the program. */
+static uint8_t *guarded(const void *bytes, size_t size)
+{
+    enum { PAGE = 65536 };
+    size_t room = (size + PAGE - 1) / PAGE * PAGE;
+    uint8_t *pages = mmap(NULL, room + PAGE, PROT_READ | PROT_WRITE, MAP_PRIVATE | MAP_ANONYMOUS, -1, 0);
+    if (pages == MAP_FAILED || mprotect(pages + room, PAGE, PROT_NONE) != 0)
+        exit(2);
+    return memcpy(pages + room - size, bytes, size);
+}
+
+/* The session once more in memories with such an end. */
+static void ends_of_memories(void)
+{
+    uint8_t bytes[ROOM];
+    uint8_t *lent = guarded(store, STORE), *out;
+    size_t size = upper_hashes(bytes);
+    uint8_t *upper = guarded(bytes, size);
+    check("guarded kd_sha256", is_hashed(kd_sha256(guarded("abc", 3), 3), 0, kd_sha256((const uint8_t *)"abc", 3).hash));
+    answers("guarded kd_open", kd_open(lent, STORE, LENGTH, PIECE, root()), 0, 1);
+    answers("guarded kd_take", kd_take(lent, STORE, upper, size), 0, 2);
+    answers("guarded kd_take of a cut message", kd_take(lent, STORE, guarded(bytes, HEAD + 32), HEAD + 32), 4, 0);
+    answers("guarded kd_take of a cut head", kd_take(lent, STORE, guarded(bytes, HEAD - 1), HEAD - 1), 1, 0);
+    answers("guarded kd_take on a cut store", kd_take(guarded(lent, STORE - 1), STORE - 1, upper, size), 9, 0);
+    answers("guarded kd_take on cut facts", kd_take(guarded(lent, 40), 40, upper, size), 9, 0);
+    check("guarded kd_held", is_hashed(kd_held(lent, STORE, 0, 7), 6, zero));
+    write_head(bytes, REJECT, 2, 0, 2, 0);
+    answers("guarded kd_take_reject", kd_take_reject(lent, STORE, guarded(bytes, HEAD), HEAD), 0, 0);
+    write_head(bytes, REQUEST, 2, 0, 2, 0);
+    out = guarded(bytes, size);
+    answers("guarded kd_serve", kd_serve(lent, STORE, guarded(bytes, HEAD), HEAD, out, size), 0, size);
+    check("guarded reply", memcmp(out, upper, size) == 0);
+    answers("guarded kd_load_layer", kd_load_layer(lent, STORE, guarded(tree[2], 64), 64), 0, 0);
+    answers("guarded kd_judge_piece", kd_judge_piece(lent, STORE, 1, guarded(file + PIECE, BLOCK), BLOCK), 0, 0);
+    size = first_leaves(bytes);
+    answers("guarded leaves", kd_take(lent, STORE, guarded(bytes, size), size), 0, 6);
+    answers("guarded kd_judge_block", kd_judge_block(lent, STORE, 3, guarded(file + 3 * BLOCK, BLOCK), BLOCK), 0, 0);
+}
+
+#if defined HAS_kd_torrent_read && defined HAS_kd_torrent_file && defined HAS_kd_torrent_path
+
+/* A torrent of one file with two blocks, in pieces of one: its layer is its leaves. The texts stand around the root and
+ * the layer. */
+static const char before_root[] = "d4:infod9:file treed2:upd7:voltaged0:d6:lengthi32768e11:pieces root32:";
+static const char behind_root[] = "eeee12:meta versioni2e12:piece lengthi16384ee12:piece layersd32:";
+static const char before_layer[] = "64:";
+static const char behind_layer[] = "ee";
+
+static size_t add(uint8_t *torrent, size_t at, const void *bytes, size_t size)
+{
+    memcpy(torrent + at, bytes, size);
+    return at + size;
+}
+
+static void torrents(void)
+{
+    uint8_t torrent[400];
+    kd_hash pieces_root = tree[1][0];
+    size_t info = 7, info_end, layer, size = 0;
+    size = add(torrent, size, before_root, strlen(before_root));
+    size = add(torrent, size, &pieces_root, 32);
+    info_end = size + strlen("eeee12:meta versioni2e12:piece lengthi16384ee");
+    size = add(torrent, size, behind_root, strlen(behind_root));
+    size = add(torrent, size, &pieces_root, 32);
+    layer = size = add(torrent, size, before_layer, strlen(before_layer));
+    size = add(torrent, size, tree[0], 64);
+    size = add(torrent, size, behind_layer, strlen(behind_layer));
+    uint8_t *lent = guarded(torrent, size);
+
+    kd_torrent whole = kd_torrent_read(lent, size);
+    kd_hash info_hash = kd_sha256(torrent + info, info_end - info).hash;
+    check("kd_torrent_read", whole.number == 0 && memcmp(&whole.info_hash, &info_hash, 32) == 0 &&
+                                 whole.piece_length == 16384 && whole.files == 1);
+    kd_file one = kd_torrent_file(lent, size, 0);
+    check("kd_torrent_file", one.number == 0 && one.length == 32768 && memcmp(&one.root, &pieces_root, 32) == 0 &&
+                                 one.elements == 2 && one.layer_start == layer && one.layer_size == 64);
+    kd_part part = kd_torrent_path(lent, size, 0, 1);
+    check("kd_torrent_path", part.number == 0 && part.size == 7 && memcmp(lent + part.start, "voltage", 7) == 0);
+    check("no second file", kd_torrent_file(lent, size, 1).number == 29);
+    check("no third element", kd_torrent_path(lent, size, 0, 2).number == 29);
+    check("a torrent cut short", kd_torrent_read(guarded(torrent, size - 1), size - 1).number == 20);
+}
+
+#endif
+
 #ifdef HAS_kd_torrent_read
 
 static void torrent_of_nothing(void)
@@ -317,6 +407,10 @@ int main(void)
     layers();
     blocks();
     pieces();
+    ends_of_memories();
+#if defined HAS_kd_torrent_read && defined HAS_kd_torrent_file && defined HAS_kd_torrent_path
+    torrents();
+#endif
 #ifdef HAS_kd_torrent_read
     torrent_of_nothing();
 #endif

@@ -138,6 +138,23 @@ fn layers_pieces_and_blocks() {
 }
 
 #[test]
+fn stores_in_several_threads_at_once() {
+    let known = known();
+    std::thread::scope(|scope| {
+        for _ in 0..4 {
+            scope.spawn(|| {
+                let mut memory = Vec::new();
+                let mut store = known.open(&mut memory);
+                for (words, newly) in [([2, 0, 2, 0], 2), ([0, 0, 4, 1], 6), ([0, 4, 4, 2], 6), ([0, 0, 8, 0], 0)] {
+                    assert_eq!(store.take(&known.message(words)), Answer::Done(newly));
+                }
+                assert!((0..5).all(|block| store.judge_block(block, known.block(block)).is_done()));
+            });
+        }
+    });
+}
+
+#[test]
 fn a_torrent() {
     if !["kd_torrent_read", "kd_torrent_file", "kd_torrent_path"].into_iter().all(is_declared) {
         return;
