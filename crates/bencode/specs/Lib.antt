@@ -1,0 +1,7 @@
+pub mod Grammar
+pub mod Scalar
+pub mod Walk
+pub mod Strict
+pub mod Parts
+pub mod EndsLaws
+pub mod PartsLaws
