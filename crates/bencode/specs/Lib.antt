@@ -5,3 +5,4 @@ pub mod Strict
 pub mod Parts
 pub mod EndsLaws
 pub mod PartsLaws
+pub mod CompleteLaws
