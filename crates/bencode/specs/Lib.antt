@@ -6,3 +6,4 @@ pub mod Parts
 pub mod EndsLaws
 pub mod PartsLaws
 pub mod CompleteLaws
+pub mod SoundLaws
