@@ -7,3 +7,4 @@ pub mod EndsLaws
 pub mod PartsLaws
 pub mod CompleteLaws
 pub mod SoundLaws
+pub mod UniqueLaws
