@@ -8,3 +8,4 @@ pub mod PartsLaws
 pub mod CompleteLaws
 pub mod SoundLaws
 pub mod UniqueLaws
+pub mod DepthLaws

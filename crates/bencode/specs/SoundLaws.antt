@@ -390,7 +390,7 @@ first-byte-sound l at (c ∷ cs) ls ds p q =
     (λ g. rw (eqb-true c letterD g) (q cs (ap (λ (x : ℕ). x ∷ cs) (eqb-true c letterD g))))
     (λ g. string-value l at (c ∷ cs) (readString at (c ∷ cs)) (string-sound at (c ∷ cs)))))
 
-value-sound : (l at : ℕ) (xs : List ℕ) → ValueIs l at xs (walkValue l at xs)
+pub value-sound : (l at : ℕ) (xs : List ℕ) → ValueIs l at xs (walkValue l at xs)
 unfolding walkValue
 value-sound zero at xs = first-byte-sound 0 at xs TooDeep TooDeep (λ cs e. tt) (λ cs e. tt)
 value-sound (suc l) at xs =
