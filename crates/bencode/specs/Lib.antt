@@ -9,3 +9,4 @@ pub mod CompleteLaws
 pub mod SoundLaws
 pub mod UniqueLaws
 pub mod DepthLaws
+pub mod StrictLaws

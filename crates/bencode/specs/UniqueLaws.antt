@@ -26,7 +26,7 @@ same-size a b r q l e =
     let s : a ≡ b = sym (take-append-seam a r) ∙ ap (λ (x : List ℕ). take (length a) x) e ∙ rw l (take-append-seam b q) in
     (s, behind-same a r q (rw (sym s) at e))
 
-first-same : (a b : ℕ) (x y : List ℕ) → a ∷ x ≡ b ∷ y → a ≡ b
+pub first-same : (a b : ℕ) (x y : List ℕ) → a ∷ x ≡ b ∷ y → a ≡ b
 first-same a b x y e = cc
 
 rest-same : (a b : ℕ) (x y : List ℕ) → a ∷ x ≡ b ∷ y → x ≡ y
@@ -49,7 +49,7 @@ string-unique a b r q e =
     same-size a b r q (p .0) (p .1)
 
 -- a string's encoding begins with a digit
-not-a-string : (b r : List ℕ) (c : ℕ) (cs : List ℕ) → digitNine < c → encodeString b ++ r ≡ c ∷ cs → ⊥
+pub not-a-string : (b r : List ℕ) (c : ℕ) (cs : List ℕ) → digitNine < c → encodeString b ++ r ≡ c ∷ cs → ⊥
 unfolding BeginsWithDigit
 not-a-string b r c cs h e =
     let w = decimal-first (length b) in
@@ -84,7 +84,7 @@ signed-unique false false n m r q e = let p = decimal-unique letterE (omega arit
 
 -- ---- values
 
-other-letter : (a b : ℕ) (x y : List ℕ) → a ∷ x ≡ b ∷ y → (a ≡ b → ⊥) → ⊥
+pub other-letter : (a b : ℕ) (x y : List ℕ) → a ∷ x ≡ b ∷ y → (a ≡ b → ⊥) → ⊥
 other-letter a b x y e f = f (first-same a b x y e)
 
 mutual
