@@ -1,8 +1,8 @@
 -- The search for a key at a position of the whole input: how far the code's loop has come, and each way on from there.
 -- Assumes nothing.
 use mathlib.Core.Path.{_≡_, refl, sym, ap, _∙_}
-use mathlib.Core.Bool.{Bool, true, false, cond, false≢true}
-use mathlib.Core.List.{List, [], _∷_}
+use mathlib.Core.Bool.{true, false, cond, false≢true}
+use mathlib.Core.List.{List}
 use Prim.Native.Nat.{ℕ, zero, suc, _+_, _-_, _≤_, _<_}
 use native.Mathlib.Omega.{arith}
 use native.Mathlib.Decide.{decLt}
@@ -12,18 +12,14 @@ use lib.Dec.{eqb}
 use Rattle.octets.specs.Octets.{cut, same}
 use Rattle.bencode.specs.Grammar.{letterD, maxLevels}
 use Rattle.bencode.specs.Scalar.{readNumber, readString}
-use Rattle.bencode.specs.Walk.{between, walkValue}
-use Rattle.bencode.specs.Parts.{isDictionary, itemTo, readItem, entryTo, entryWith, readEntry, fromEntry, findIn, findKey}
+use Rattle.bencode.specs.Walk.{walkValue}
+use Rattle.bencode.specs.Parts.{isDictionary, itemTo, readItem, entryTo, entryWith, readEntry, findIn, findKey}
 use Rattle.bencode.specs.EndsLaws.{drop-further, string-ends}
 use Rattle.bencode.specs.PartsLaws.{entry-ends}
 use Rattle.bencode.proofs.Reading.{drop-end, drop-step}
-use Rattle.bencode.specs.declared.scalar.ByteString.{ByteString}
 use Rattle.bencode.specs.declared.scalar.ByteString.the-variants.{Content, NoString}
 use Rattle.bencode.specs.declared.walk.Walked.{Walked}
-use Rattle.bencode.specs.declared.walk.Walked.the-variants.{Past, Broken, TooDeep}
-use Rattle.bencode.specs.declared.parts.Found.{Found}
 use Rattle.bencode.specs.declared.parts.Found.the-variants.{Part, Missing}
-use Rattle.bencode.specs.declared.parts.Entry.{Entry}
 use Rattle.bencode.specs.declared.parts.Entry.the-variants.{Keyed, NoEntry}
 
 module _ (s : List ℕ) (i : ℕ) where

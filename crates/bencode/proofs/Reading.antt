@@ -3,7 +3,7 @@
 use mathlib.Core.Path.{_≡_, refl, sym, ap, _∙_}
 use mathlib.Core.Bool.{Bool, true, false, cond}
 use mathlib.Core.List.{List, [], _∷_}
-use Prim.Native.Nat.{ℕ, zero, suc, _+_, _-_, _*_, _^_, _≤_, _<_}
+use Prim.Native.Nat.{ℕ, _+_, _-_, _*_, _^_, _≤_, _<_}
 use native.Mathlib.Numerals.{add-one}
 use native.Mathlib.Omega.{arith}
 use lib.ListN.{length, getD, drop, take, length-drop, drop-of-length-le}
@@ -13,14 +13,12 @@ use borrow.Author.Tests.{lt-leb, le-leb, leb-false, eq-eqb, ne-eqb, eqb-true, eq
 use Rattle.octets.specs.Octets.{same, cut}
 use Rattle.bencode.specs.Grammar.{digitZero, digitNine, colon, letterE, letterI, minusSign, precedes}
 use Rattle.bencode.specs.Scalar.{bounded, readDigits, readZero, readNumber, contentIn, readString, negative, positive, readSigned, readInteger}
-use Rattle.bencode.specs.Walk.{between, readKey, inOrder, keyBefore}
+use Rattle.bencode.specs.Walk.{between, readKey, keyBefore}
 use Rattle.bencode.specs.EndsLaws.{cond-both, number-ends, string-ends, drop-further}
 use Rattle.bencode.specs.declared.decimal.Number.{Number}
 use Rattle.bencode.specs.declared.decimal.Number.the-variants.{Is, NoNumber}
-use Rattle.bencode.specs.declared.scalar.ByteString.{ByteString}
 use Rattle.bencode.specs.declared.scalar.ByteString.the-variants.{Content, NoString}
-use Rattle.bencode.specs.declared.scalar.Integer.{Integer}
-use Rattle.bencode.specs.declared.scalar.Integer.the-variants.{Whole, NoInteger}
+use Rattle.bencode.specs.declared.scalar.Integer.the-variants.{NoInteger}
 
 pub drop-end : (s : List ℕ) (i : ℕ) → length s ≤ i → drop i s ≡ []
 drop-end s i h = drop-of-length-le s {i = i} h
@@ -211,6 +209,7 @@ module _ (x y : List ℕ) (i : ℕ) where
     where
       below : (i n : ℕ) → i ≤ n → (i ≡ n → ⊥) → i < n
       below i n h e = omega arith
+
       by-end : (b : Bool) → eqb i (length y) ≡ b → same (drop i x) (drop i y) ≡ eqb i (length y)
       by-end true e = let q = eqb-true i (length y) e in same-both h (omega arith) ∙ sym e
       by-end false e = same-longer h (below i (length y) g (eqb-false i (length y) e)) ∙ sym e

@@ -1,29 +1,26 @@
 -- The walk takes the encoding of every valid value, whatever stands behind it: `complete`. By the value, with the bytes left to read
 -- as a variable, so that an encoding inside another is the same case.
 -- Assumes nothing.
-use mathlib.Core.Path.{_≡_, refl, sym, ap, _∙_}
-use mathlib.Core.Bool.{Bool, true, false, cond}
+use mathlib.Core.Path.{_≡_, refl, ap, _∙_}
+use mathlib.Core.Bool.{Bool, true, false}
 use mathlib.Core.List.{List, [], _∷_, _++_, append-assoc}
 use Prim.Native.Nat.{ℕ, zero, suc, _+_, _-_, _*_, _/_, _%_, _^_, _≤_, _<_}
 use native.Mathlib.Nat.{div-add-mod', mod-lt}
 use native.Mathlib.Omega.{arith}
-use lib.ListN.{length, take, drop, length-append}
+use lib.ListN.{length, drop, length-append}
 use lib.Seq.{drop-append-seam, take-append-seam}
-use lib.Dec.{eqb, ltb, leb}
+use lib.Dec.{ltb}
 use borrow.Author.Tests.{eq-eqb, ne-eqb, lt-ltb, le-ltb, le-leb, ltb-true, ltb-false}
 use Rattle.octets.specs.Octets.{cut}
 use Rattle.bencode.specs.Grammar.{minusSign, digitZero, digitNine, colon, letterD, letterE, letterI, letterL, Value, integer, string, list, dictionary, Items, noItems, item, Entries, noEntries, entry, decimalIn, decimal, sign, encodeString, encode, encodeItems, encodeEntries, KeyBefore, none, after, ascends, IntegerFits, Valid, ItemsValid, EntriesValid}
 use Rattle.bencode.specs.Scalar.{bounded, readDigits, readZero, readNumber, contentIn, readString, negative, positive, readSigned, readInteger}
-use Rattle.bencode.specs.Walk.{pastInteger, pastString, onward, withKey, endOr, between, inOrder, readKey, walkItems, walkEntries, walkList, walkDictionary, byFirst, walkValue}
+use Rattle.bencode.specs.Walk.{pastInteger, pastString, endOr, between, inOrder, readKey, walkItems, walkEntries, walkList, walkDictionary, byFirst, walkValue}
 use Rattle.bencode.specs.EndsLaws.{cond-case}
-use Rattle.bencode.specs.declared.decimal.Number.{Number}
-use Rattle.bencode.specs.declared.decimal.Number.the-variants.{Is, NoNumber}
-use Rattle.bencode.specs.declared.scalar.ByteString.{ByteString}
-use Rattle.bencode.specs.declared.scalar.ByteString.the-variants.{Content, NoString}
-use Rattle.bencode.specs.declared.scalar.Integer.{Integer}
-use Rattle.bencode.specs.declared.scalar.Integer.the-variants.{Whole, NoInteger}
+use Rattle.bencode.specs.declared.decimal.Number.the-variants.{Is}
+use Rattle.bencode.specs.declared.scalar.ByteString.the-variants.{Content}
+use Rattle.bencode.specs.declared.scalar.Integer.the-variants.{Whole}
 use Rattle.bencode.specs.declared.walk.Walked.{Walked}
-use Rattle.bencode.specs.declared.walk.Walked.the-variants.{Past, Broken, TooDeep}
+use Rattle.bencode.specs.declared.walk.Walked.the-variants.{Past}
 
 -- ---- numbers
 
@@ -44,14 +41,14 @@ digits-read stop at big (suc f) n r h =
     cond-case (λ (ds : List ℕ). readDigits stop 0 at (ds ++ r) ≡ readDigits stop n (at + length ds) r) (ltb n 10) _ _
     (λ e. let q = ltb-true n 10 e in let z : 0 * 10 + n ≡ n = omega arith in digit-read stop 0 at n r big q ∙ rw z refl)
     (λ e.
-      let q = ltb-false n 10 e in
-      let dm = div-mod n in
-      let ds = decimalIn f (n / 10) in
-      let o : at + length ds + 1 ≡ at + length (ds ++ (digitZero + n % 10) ∷ []) = omega (arith, length-append ds ((digitZero + n % 10) ∷ [])) in
-      rw append-assoc
-      (digits-read stop at big f (n / 10) ((digitZero + n % 10) ∷ r) (omega (arith, dm .0))
-      ∙ digit-read stop (n / 10) (at + length ds) (n % 10) r big (dm .1)
-      ∙ rw (dm .0, o) refl))
+    let q = ltb-false n 10 e in
+    let dm = div-mod n in
+    let ds = decimalIn f (n / 10) in
+    let o : at + length ds + 1 ≡ at + length (ds ++ (digitZero + n % 10) ∷ []) = omega (arith, length-append ds ((digitZero + n % 10) ∷ [])) in
+    rw append-assoc
+    (digits-read stop at big f (n / 10) ((digitZero + n % 10) ∷ r) (omega (arith, dm .0))
+    ∙ digit-read stop (n / 10) (at + length ds) (n % 10) r big (dm .1)
+    ∙ rw (dm .0, o) refl))
 
 -- ds begins with a digit, which is no 0 unless ds is the 0 of n = 0
 unfoldable pub BeginsWithDigit : List ℕ → ℕ → Type 0
@@ -64,11 +61,11 @@ first-digit (suc f) n h =
     cond-case (λ (ds : List ℕ). (c : ℕ) × (cs : List ℕ) × (ds ≡ c ∷ cs) × (digitZero ≤ c) × (c ≤ digitNine) × (0 < n → digitZero < c)) (ltb n 10) _ _
     (λ e. let q = ltb-true n 10 e in (digitZero + n, [], refl, omega arith, omega arith, λ z. omega arith))
     (λ e.
-      let q = ltb-false n 10 e in
-      let dm = div-mod n in
-      let w = first-digit f (n / 10) (omega (arith, dm .0)) in
-      let last = (digitZero + n % 10) ∷ [] in
-      (w .0, w .1 ++ last, ap (λ (ds : List ℕ). ds ++ last) (w .2), w .3, w .4, λ z. w .5 (omega (arith, dm .0, dm .1))))
+    let q = ltb-false n 10 e in
+    let dm = div-mod n in
+    let w = first-digit f (n / 10) (omega (arith, dm .0)) in
+    let last = (digitZero + n % 10) ∷ [] in
+    (w .0, w .1 ++ last, ap (λ (ds : List ℕ). ds ++ last) (w .2), w .3, w .4, λ z. w .5 (omega (arith, dm .0, dm .1))))
 
 pub decimal-first : (n : ℕ) → BeginsWithDigit (decimal n) n
 decimal-first n = first-digit (suc n) n (omega arith)
@@ -167,6 +164,14 @@ unfolding readInteger
 integer-read at minus n r h =
     let o : at + 1 + length (sign minus) + length (decimal n) + 1 ≡ at + length (encode (integer minus n)) = omega (arith, integer-length minus n) in
     rw (integer-bytes minus n r) (signed-read (at + 1) minus n r h ∙ ap (Whole minus n) o)
+
+pub list-bytes : (vs : Items) → encode (list vs) ≡ letterL ∷ encodeItems vs
+unfolding encode
+list-bytes vs = refl
+
+pub dictionary-bytes : (es : Entries) → encode (dictionary es) ≡ letterD ∷ encodeEntries es
+unfolding encode
+dictionary-bytes es = refl
 
 -- ---- a value's first byte
 
@@ -275,6 +280,7 @@ string-complete b l at r = first-is-digit ∙ ap pastString (string-read at b r)
 
 mutual
   unfolding encode Valid
+
   pub complete : (v : Value) (l at : ℕ) (r : List ℕ) → Valid v l → walkValue l at (encode v ++ r) ≡ Past (at + length (encode v))
   complete (integer minus n) l at r h = integer-complete minus n l at r h
   complete (string b) l at r h = string-complete b l at r
@@ -290,6 +296,7 @@ mutual
       walk-dictionary l at (encodeEntries es ++ r)
       ∙ entries-complete es l none (suc (length (encodeEntries es ++ r))) (at + 1) r h (omega (arith, length-append (encodeEntries es) r))
       ∙ ap Past o
+
   pub items-complete : (vs : Items) (l f at : ℕ) (r : List ℕ) → ItemsValid vs l → length (encodeItems vs) ≤ f → walkItems (walkValue l) f at (encodeItems vs ++ r) ≡ Past (at + length (encodeItems vs))
   items-complete noItems l zero at r h g = absurd (omega arith)
   items-complete noItems l (suc f) at r h g = items-none (walkValue l) f at r
@@ -302,6 +309,7 @@ mutual
       (items-one (walkValue l) f at (encode v) (encodeItems vs ++ r) (value-no-end v) (complete v l at (encodeItems vs ++ r) (h .0))
       ∙ items-complete vs l f (at + length (encode v)) r (h .1) (omega arith)
       ∙ ap Past o)
+
   pub entries-complete : (es : Entries) (l : ℕ) (j : KeyBefore) (f at : ℕ) (r : List ℕ) → EntriesValid es j l → length (encodeEntries es) ≤ f → walkEntries (walkValue l) f j at (encodeEntries es ++ r) ≡ Past (at + length (encodeEntries es))
   entries-complete noEntries l j zero at r h g = absurd (omega arith)
   entries-complete noEntries l j (suc f) at r h g = entries-none (walkValue l) f j at r

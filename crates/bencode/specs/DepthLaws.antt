@@ -3,9 +3,9 @@
 -- Assumes nothing.
 use mathlib.Core.Path.{_≡_, refl, sym, ap, _∙_}
 use mathlib.Core.Logic.{_⊎_, inl, inr}
-use mathlib.Core.Bool.{Bool, true, false, cond}
+use mathlib.Core.Bool.{true}
 use mathlib.Core.List.{List, [], _∷_, _++_, append-assoc, append-nil}
-use Prim.Native.Nat.{ℕ, zero, suc, _+_, _-_, _≤_, _<_}
+use Prim.Native.Nat.{ℕ, zero, suc, _+_, _-_, _≤_}
 use native.Mathlib.Omega.{arith}
 use lib.ListN.{length, drop, length-append}
 use lib.Seq.{drop-append-seam}
@@ -15,7 +15,7 @@ use Rattle.bencode.specs.Grammar.{letterD, letterE, letterI, letterL, Va
 use Rattle.bencode.specs.Scalar.{readString, readSigned}
 use Rattle.bencode.specs.Walk.{pastInteger, pastString, onward, withKey, endOr, between, readKey, walkItems, walkEntries, walkList, walkDictionary, byFirst, walkValue}
 use Rattle.bencode.specs.EndsLaws.{cond-case}
-use Rattle.bencode.specs.CompleteLaws.{complete, NoEnd, value-no-end, string-no-end, value-some, string-some, items-one, entries-one, key-read, past-part, walk-list, walk-dictionary}
+use Rattle.bencode.specs.CompleteLaws.{complete, NoEnd, value-no-end, string-no-end, value-some, string-some, items-one, entries-one, key-read, past-part, walk-list, walk-dictionary, list-bytes, dictionary-bytes}
 use Rattle.bencode.specs.SoundLaws.{Begins, ValueIs, rest-is, value-sound, KeyIs, key-sound}
 use Rattle.bencode.specs.declared.scalar.ByteString.{ByteString}
 use Rattle.bencode.specs.declared.scalar.ByteString.the-variants.{Content, NoString}
@@ -113,7 +113,7 @@ module _ (l : ℕ) (o : ℕ) (q : List ℕ) (opens : Opening o) (deep : (at : �
       let ld = length-append (begunEntries es) behind in
       let si = string-some i in
       let s : (encodeString i ++ (encode v ++ begunEntries es)) ++ behind ≡ encodeString i ++ (encode v ++ (begunEntries es ++ behind)) =
-        append-assoc (encodeString i) (encode v ++ begunEntries es) behind ∙ ap (λ (t : List ℕ). encodeString i ++ t) (append-assoc (encode v) (begunEntries es) behind) in
+      append-assoc (encodeString i) (encode v ++ begunEntries es) behind ∙ ap (λ (t : List ℕ). encodeString i ++ t) (append-assoc (encode v) (begunEntries es) behind) in
       rw s
       (entries-one (walkValue l) f at j i (encode v) (begunEntries es ++ behind) (h .0) (complete v l (at + length (encodeString i)) (begunEntries es ++ behind) (h .1))
       ∙ entries-deep es (after i) f (at + length (encodeString i) + length (encode v)) k (h .2) a (omega arith))
@@ -138,8 +138,8 @@ deep-complete (inDictionary {l} es k st) at c r h o =
     let ys = b .0 ∷ b .1 in
     let deep : (i : ℕ) → walkValue l i ys ≡ TooDeep = λ i. rw (b .3) at (deep-complete st i c r (h .2) o) in
     let e : (begunEntries es ++ (encodeString k ++ begun st)) ++ c ∷ r ≡ begunEntries es ++ (encodeString k ++ ys) =
-      append-assoc (begunEntries es) (encodeString k ++ begun st) (c ∷ r)
-      ∙ ap (λ (t : List ℕ). begunEntries es ++ t) (append-assoc (encodeString k) (begun st) (c ∷ r) ∙ ap (λ (t : List ℕ). encodeString k ++ t) (b .3)) in
+    append-assoc (begunEntries es) (encodeString k ++ begun st) (c ∷ r)
+    ∙ ap (λ (t : List ℕ). begunEntries es ++ t) (append-assoc (encodeString k) (begun st) (c ∷ r) ∙ ap (λ (t : List ℕ). encodeString k ++ t) (b .3)) in
     walk-dictionary l at ((begunEntries es ++ (encodeString k ++ begun st)) ++ c ∷ r)
     ∙ rw e (entries-deep l (b .0) (b .1) (b .2) deep es none (suc (length (begunEntries es ++ (encodeString k ++ ys)))) (at + 1) k (h .0) (h .1) (omega arith))
 
@@ -167,12 +167,17 @@ first-item l xs d = (noItems, xs, tt, refl, d)
 entry-before : (l : ℕ) (j : KeyBefore) (k : List ℕ) (v : Value) (xs : List ℕ) → ascends j k ≡ true → Valid v l → InEntries l (after k) xs → InEntries l j (encodeString k ++ (encode v ++ xs))
 unfolding begunEntries lastKey Valid
 entry-before l j k v xs a h p =
-    let t = encodeString (p .1) ++ p .2 in
-    ( entry k v (p .0), p .1, p .2, (a, h, p .3), p .4
-    , ap (λ (x : List ℕ). encodeString k ++ (encode v ++ x)) (p .5)
-      ∙ ap (λ (x : List ℕ). encodeString k ++ x) (sym (append-assoc (encode v) (begunEntries (p .0)) t))
-      ∙ sym (append-assoc (encodeString k) (encode v ++ begunEntries (p .0)) t)
-    , p .6)
+    let t = encodeString (p .1) ++ p .2 in (
+      entry k v (p .0),
+      p .1,
+      p .2,
+      (a, h, p .3),
+      p .4,
+      ap (λ (x : List ℕ). encodeString k ++ (encode v ++ x)) (p .5)
+          ∙ ap (λ (x : List ℕ). encodeString k ++ x) (sym (append-assoc (encode v) (begunEntries (p .0)) t))
+          ∙ sym (append-assoc (encodeString k) (encode v ++ begunEntries (p .0)) t),
+      p .6,
+    )
 
 first-entry : (l : ℕ) (j : KeyBefore) (k xs : List ℕ) → ascends j k ≡ true → OpensTooDeep l xs → InEntries l j (encodeString k ++ xs)
 unfolding begunEntries lastKey Valid
@@ -182,21 +187,31 @@ first-entry l j k xs a d = (noEntries, k, xs, tt, a, refl, d)
 list-around : (l : ℕ) (xs : List ℕ) → InItems l xs → OpensTooDeep (suc l) (letterL ∷ xs)
 unfolding begun StemValid
 list-around l xs p =
-    let d = p .4 in
-    ( inList (p .0) (d .0), d .1, d .2, (p .2, d .3), d .4
-    , ap (λ (t : List ℕ). letterL ∷ t) (p .3 ∙ ap (λ (t : List ℕ). begunItems (p .0) ++ t) (d .5) ∙ sym (append-assoc (begunItems (p .0)) (begun (d .0)) (d .1 ∷ d .2))))
+    let d = p .4 in (
+      inList (p .0) (d .0),
+      d .1,
+      d .2,
+      (p .2, d .3),
+      d .4,
+      ap (λ (t : List ℕ). letterL ∷ t) (p .3 ∙ ap (λ (t : List ℕ). begunItems (p .0) ++ t) (d .5) ∙ sym (append-assoc (begunItems (p .0)) (begun (d .0)) (d .1 ∷ d .2))),
+    )
 
 dictionary-around : (l : ℕ) (xs : List ℕ) → InEntries l none xs → OpensTooDeep (suc l) (letterD ∷ xs)
 unfolding begun StemValid
 dictionary-around l xs p =
     let d = p .6 in
-    let tail = d .1 ∷ d .2 in
-    ( inDictionary (p .0) (p .1) (d .0), d .1, d .2, (p .3, p .4, d .3), d .4
-    , ap (λ (t : List ℕ). letterD ∷ t)
-      (p .5
-      ∙ ap (λ (t : List ℕ). begunEntries (p .0) ++ (encodeString (p .1) ++ t)) (d .5)
-      ∙ ap (λ (t : List ℕ). begunEntries (p .0) ++ t) (sym (append-assoc (encodeString (p .1)) (begun (d .0)) tail))
-      ∙ sym (append-assoc (begunEntries (p .0)) (encodeString (p .1) ++ begun (d .0)) tail)))
+    let tail = d .1 ∷ d .2 in (
+      inDictionary (p .0) (p .1) (d .0),
+      d .1,
+      d .2,
+      (p .3, p .4, d .3),
+      d .4,
+      ap (λ (t : List ℕ). letterD ∷ t)
+          (p .5
+          ∙ ap (λ (t : List ℕ). begunEntries (p .0) ++ (encodeString (p .1) ++ t)) (d .5)
+          ∙ ap (λ (t : List ℕ). begunEntries (p .0) ++ t) (sym (append-assoc (encodeString (p .1)) (begun (d .0)) tail))
+          ∙ sym (append-assoc (begunEntries (p .0)) (encodeString (p .1) ++ begun (d .0)) tail)),
+    )
 
 abbrev DeepIs : (List ℕ → Type 0) → List ℕ → Walked → Type 0
 DeepIs P xs Broken = Unit {0}
@@ -306,6 +321,7 @@ deep-sound l at xs e = rw e at (deep-is l at xs)
 
 mutual
   unfolding encode Valid
+
   pub fits-or-opens : (v : Value) (n l : ℕ) → Valid v n → Valid v l ⊎ ((r : List ℕ) → OpensTooDeep l (encode v ++ r))
   fits-or-opens (integer minus m) n l h = inl h
   fits-or-opens (string b) n l h = inl tt
@@ -315,24 +331,30 @@ mutual
   fits-or-opens (dictionary es) zero l h = absurd h
   fits-or-opens (dictionary es) (suc n) zero h = inr (λ r. opens-here letterD (encodeEntries es ++ r) (inr refl))
   fits-or-opens (dictionary es) (suc n) (suc l) h = elim (entries-fit es none n l h) [ inl p ↦ inl p | inr f ↦ inr (λ r. dictionary-around l (encodeEntries es ++ r) (f r)) ]
+
   items-fit : (vs : Items) (n l : ℕ) → ItemsValid vs n → ItemsValid vs l ⊎ ((r : List ℕ) → InItems l (encodeItems vs ++ r))
   items-fit noItems n l h = inl tt
   items-fit (item v vs) n l h =
-      elim (fits-or-opens v n l (h .0))
-      [ inl p ↦ elim (items-fit vs n l (h .1))
-          [ inl q ↦ inl (p, q)
-          | inr g ↦ inr (λ r. rw append-assoc (item-before l v (encodeItems vs ++ r) p (g r))) ]
-      | inr f ↦ inr (λ r. rw append-assoc (first-item l (encode v ++ (encodeItems vs ++ r)) (f (encodeItems vs ++ r)))) ]
+      elim (fits-or-opens v n l (h .0)) [
+        | inl p ↦ elim (items-fit vs n l (h .1)) [
+          | inl q ↦ inl (p, q)
+          | inr g ↦ inr (λ r. rw append-assoc (item-before l v (encodeItems vs ++ r) p (g r)))
+        ]
+        | inr f ↦ inr (λ r. rw append-assoc (first-item l (encode v ++ (encodeItems vs ++ r)) (f (encodeItems vs ++ r))))
+      ]
+
   entries-fit : (es : Entries) (j : KeyBefore) (n l : ℕ) → EntriesValid es j n → EntriesValid es j l ⊎ ((r : List ℕ) → InEntries l j (encodeEntries es ++ r))
   entries-fit noEntries j n l h = inl tt
   entries-fit (entry k v es) j n l h =
       let regroup : (r : List ℕ) → (encodeString k ++ (encode v ++ encodeEntries es)) ++ r ≡ encodeString k ++ (encode v ++ (encodeEntries es ++ r)) =
-        λ r. append-assoc (encodeString k) (encode v ++ encodeEntries es) r ∙ ap (λ (t : List ℕ). encodeString k ++ t) (append-assoc (encode v) (encodeEntries es) r) in
-      elim (fits-or-opens v n l (h .1))
-      [ inl p ↦ elim (entries-fit es (after k) n l (h .2))
-          [ inl q ↦ inl (h .0, p, q)
-          | inr g ↦ inr (λ r. rw (regroup r) (entry-before l j k v (encodeEntries es ++ r) (h .0) p (g r))) ]
-      | inr f ↦ inr (λ r. rw (regroup r) (first-entry l j k (encode v ++ (encodeEntries es ++ r)) (h .0) (f (encodeEntries es ++ r)))) ]
+      λ r. append-assoc (encodeString k) (encode v ++ encodeEntries es) r ∙ ap (λ (t : List ℕ). encodeString k ++ t) (append-assoc (encode v) (encodeEntries es) r) in
+      elim (fits-or-opens v n l (h .1)) [
+        | inl p ↦ elim (entries-fit es (after k) n l (h .2)) [
+          | inl q ↦ inl (h .0, p, q)
+          | inr g ↦ inr (λ r. rw (regroup r) (entry-before l j k v (encodeEntries es ++ r) (h .0) p (g r)))
+        ]
+        | inr f ↦ inr (λ r. rw (regroup r) (first-entry l j k (encode v ++ (encodeEntries es ++ r)) (h .0) (f (encodeEntries es ++ r))))
+      ]
 
 -- ---- a stem can go on: with a value in its place it is the beginning of an encoding
 
@@ -368,23 +390,15 @@ entries-then-bytes (entry j w es) k v =
     ∙ ap (λ (x : List ℕ). encodeString j ++ x) (sym (append-assoc (encode w) (begunEntries es) t))
     ∙ sym (append-assoc (encodeString j) (encode w ++ begunEntries es) t)
 
-list-bytes : (vs : Items) → encode (list vs) ≡ letterL ∷ encodeItems vs
-unfolding encode
-list-bytes vs = refl
-
-dictionary-bytes : (es : Entries) → encode (dictionary es) ≡ letterD ∷ encodeEntries es
-unfolding encode
-dictionary-bytes es = refl
-
 pub filled-bytes : {l : ℕ} (st : Stem l) (v : Value) → encode (filled st v) ≡ begun st ++ (encode v ++ closing l)
 unfolding filled begun closing
 filled-bytes here v = sym (append-nil (encode v))
 filled-bytes (inList {l} vs st) v =
     let inner = encode v ++ closing l in
     let e : encode (filled st v) ++ letterE ∷ [] ≡ begun st ++ (encode v ++ (closing l ++ letterE ∷ [])) =
-      ap (λ (t : List ℕ). t ++ letterE ∷ []) (filled-bytes st v)
-      ∙ append-assoc (begun st) inner (letterE ∷ [])
-      ∙ ap (λ (t : List ℕ). begun st ++ t) (append-assoc (encode v) (closing l) (letterE ∷ [])) in
+    ap (λ (t : List ℕ). t ++ letterE ∷ []) (filled-bytes st v)
+    ∙ append-assoc (begun st) inner (letterE ∷ [])
+    ∙ ap (λ (t : List ℕ). begun st ++ t) (append-assoc (encode v) (closing l) (letterE ∷ [])) in
     list-bytes (itemsThen vs (filled st v))
     ∙ ap (λ (t : List ℕ). letterL ∷ t)
     (items-then-bytes vs (filled st v)
@@ -394,9 +408,9 @@ filled-bytes (inDictionary {l} es k st) v =
     let inner = encode v ++ closing l in
     let tail = encode v ++ (closing l ++ letterE ∷ []) in
     let e : encode (filled st v) ++ letterE ∷ [] ≡ begun st ++ tail =
-      ap (λ (t : List ℕ). t ++ letterE ∷ []) (filled-bytes st v)
-      ∙ append-assoc (begun st) inner (letterE ∷ [])
-      ∙ ap (λ (t : List ℕ). begun st ++ t) (append-assoc (encode v) (closing l) (letterE ∷ [])) in
+    ap (λ (t : List ℕ). t ++ letterE ∷ []) (filled-bytes st v)
+    ∙ append-assoc (begun st) inner (letterE ∷ [])
+    ∙ ap (λ (t : List ℕ). begun st ++ t) (append-assoc (encode v) (closing l) (letterE ∷ [])) in
     dictionary-bytes (entriesThen es k (filled st v))
     ∙ ap (λ (t : List ℕ). letterD ∷ t)
     (entries-then-bytes es k (filled st v)
@@ -407,6 +421,7 @@ filled-bytes (inDictionary {l} es k st) v =
 -- a level more does no harm
 mutual
   unfolding Valid
+
   deeper : (v : Value) (l : ℕ) → Valid v l → Valid v (suc l)
   deeper (integer minus n) l h = h
   deeper (string b) l h = tt
@@ -414,12 +429,32 @@ mutual
   deeper (list vs) (suc l) h = items-deeper vs l h
   deeper (dictionary es) zero h = absurd h
   deeper (dictionary es) (suc l) h = entries-deeper es none l h
+
   items-deeper : (vs : Items) (l : ℕ) → ItemsValid vs l → ItemsValid vs (suc l)
   items-deeper noItems l h = tt
   items-deeper (item v vs) l h = (deeper v l (h .0), items-deeper vs l (h .1))
+
   entries-deeper : (es : Entries) (j : KeyBefore) (l : ℕ) → EntriesValid es j l → EntriesValid es j (suc l)
   entries-deeper noEntries j l h = tt
   entries-deeper (entry k v es) j l h = (h .0, deeper v l (h .1), entries-deeper es (after k) l (h .2))
+
+-- nor do more
+pub more-levels : (v : Value) (l m : ℕ) → l ≤ m → Valid v l → Valid v m
+more-levels v l m h p = let e : l + (m - l) ≡ m = omega arith in rw e at (by-count (m - l))
+  where
+    by-count : (d : ℕ) → Valid v (l + d)
+    by-count zero = let e : l + 0 ≡ l = omega arith in rw e p
+    by-count (suc d) = let e : l + suc d ≡ suc (l + d) = omega arith in rw e (deeper v (l + d) (by-count d))
+
+pub entries-more-levels : (es : Entries) (j : KeyBefore) (l m : ℕ) → l ≤ m → EntriesValid es j l → EntriesValid es j m
+unfolding Valid
+entries-more-levels noEntries j l m h p = tt
+entries-more-levels (entry k v es) j l m h p = (p .0, more-levels v l m h (p .1), entries-more-levels es (after k) l m h (p .2))
+
+pub items-more-levels : (vs : Items) (l m : ℕ) → l ≤ m → ItemsValid vs l → ItemsValid vs m
+unfolding Valid
+items-more-levels noItems l m h p = tt
+items-more-levels (item v vs) l m h p = (more-levels v l m h (p .0), items-more-levels vs l m h (p .1))
 
 items-then-valid : (vs : Items) (v : Value) (l : ℕ) → ItemsValid vs l → Valid v l → ItemsValid (itemsThen vs v) l
 unfolding Valid itemsThen

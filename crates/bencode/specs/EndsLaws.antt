@@ -10,8 +10,8 @@ use lib.Seq.{drop-drop}
 use lib.Dec.{leb, ltb, eqb}
 use borrow.Author.Tests.{leb-true}
 use Rattle.bencode.specs.Grammar.{digitZero, digitNine, colon, letterD, letterE, letterI, letterL, minusSign, KeyBefore, none, after, ascends}
-use Rattle.bencode.specs.Scalar.{bounded, readDigits, readZero, readNumber, contentIn, readString, negative, positive, readSigned, readInteger}
-use Rattle.bencode.specs.Walk.{pastInteger, pastString, onward, withKey, endOr, between, inOrder, readKey, walkItems, walkEntries, walkList, walkDictionary, byFirst, walkValue}
+use Rattle.bencode.specs.Scalar.{bounded, readDigits, readZero, readNumber, contentIn, readString, negative, positive, readSigned}
+use Rattle.bencode.specs.Walk.{pastInteger, pastString, onward, withKey, endOr, between, inOrder, readKey, walkItems, walkEntries, byFirst, walkValue}
 use Rattle.bencode.specs.declared.decimal.Number.{Number}
 use Rattle.bencode.specs.declared.decimal.Number.the-variants.{Is, NoNumber}
 use Rattle.bencode.specs.declared.scalar.ByteString.{ByteString}
@@ -196,7 +196,7 @@ by-first-in at [] ls ds p q = tt
 by-first-in at (c ∷ cs) ls ds p q =
     let In = WalkedIn at (at + length (c ∷ cs)) in
     let wider : (w : Walked) → WalkedIn (at + 1) (at + 1 + length cs) w → WalkedIn at (at + length (c ∷ cs)) w =
-      λ w. walked-wider at (at + 1) (at + 1 + length cs) (at + length (c ∷ cs)) w (omega arith) (omega arith) in
+    λ w. walked-wider at (at + 1) (at + 1 + length cs) (at + length (c ∷ cs)) w (omega arith) (omega arith) in
     cond-both In (eqb c letterI) _ _ (wider (pastInteger (readSigned (at + 1) cs)) (past-integer-in (at + 1) (at + 1 + length cs) (readSigned (at + 1) cs) (signed-in (at + 1) cs)))
     (cond-both In (eqb c letterL) _ _ (wider ls p)
     (cond-both In (eqb c letterD) _ _ (wider ds q) (past-string-in at (at + length (c ∷ cs)) (readString at (c ∷ cs)) (string-in at (c ∷ cs)))))

@@ -43,9 +43,11 @@ mutual
     string : List ℕ → Value
     list : Items → Value
     dictionary : Entries → Value
+
   pub data Items : Type 0 where
     noItems : Items
     item : Value → Items → Items
+
   pub data Entries : Type 0 where
     noEntries : Entries
     entry : List ℕ → Value → Entries → Entries
@@ -72,9 +74,11 @@ unfoldable mutual
   encode (string b) = encodeString b
   encode (list vs) = letterL ∷ encodeItems vs
   encode (dictionary es) = letterD ∷ encodeEntries es
+
   pub encodeItems : Items → List ℕ
   encodeItems noItems = letterE ∷ []
   encodeItems (item v vs) = encode v ++ encodeItems vs
+
   pub encodeEntries : Entries → List ℕ
   encodeEntries noEntries = letterE ∷ []
   encodeEntries (entry k v es) = encodeString k ++ (encode v ++ encodeEntries es)
@@ -109,9 +113,11 @@ unfoldable mutual
   Valid (list vs) (suc levels) = ItemsValid vs levels
   Valid (dictionary es) zero = ⊥
   Valid (dictionary es) (suc levels) = EntriesValid es none levels
+
   pub ItemsValid : Items → ℕ → Type 0
   ItemsValid noItems levels = Unit {0}
   ItemsValid (item v vs) levels = Valid v levels × ItemsValid vs levels
+
   pub EntriesValid : Entries → KeyBefore → ℕ → Type 0
   EntriesValid noEntries j levels = Unit {0}
   EntriesValid (entry k v es) j levels = (ascends j k ≡ true) × Valid v levels × EntriesValid es (after k) levels

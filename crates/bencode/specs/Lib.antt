@@ -4,9 +4,9 @@ pub mod Walk
 pub mod Strict
 pub mod Parts
 pub mod EndsLaws
-pub mod PartsLaws
 pub mod CompleteLaws
 pub mod SoundLaws
 pub mod UniqueLaws
 pub mod DepthLaws
 pub mod StrictLaws
+pub mod PartsLaws

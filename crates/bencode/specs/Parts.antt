@@ -1,13 +1,14 @@
 -- 01, "The torrent": the value of a key is the part of the torrent bytes it stands in. Parts by their positions; `at` is where the
 -- bytes `xs` stand in the whole input.
 -- Assumes nothing.
-use mathlib.Core.Bool.{Bool, true, false, cond}
+use mathlib.Core.Path.{_≡_}
+use mathlib.Core.Bool.{Bool, false, cond}
 use mathlib.Core.List.{List, [], _∷_}
 use Prim.Native.Nat.{ℕ, zero, suc, _+_, _-_}
 use lib.ListN.{length, drop}
 use lib.Dec.{eqb}
-use Rattle.octets.specs.Octets.{same}
-use Rattle.bencode.specs.Grammar.{letterD, maxLevels}
+use Rattle.octets.specs.Octets.{same, cut}
+use Rattle.bencode.specs.Grammar.{letterD, maxLevels, Value, Entries, noEntries, entry, encode}
 use Rattle.bencode.specs.Scalar.{readString}
 use Rattle.bencode.specs.Walk.{between, walkValue}
 use Rattle.bencode.specs.declared.scalar.ByteString.{ByteString}
@@ -60,3 +61,19 @@ findIn key (suc steps) at xs =
 -- the value of a key in the dictionary that begins here
 unfoldable pub findKey : List ℕ → ℕ → List ℕ → Found
 findKey key at xs = cond (isDictionary xs) (findIn key (suc (length (drop 1 xs))) (at + 1) (drop 1 xs)) Missing
+
+-- what a dictionary has for a key
+pub data Lookup : Type 0 where
+  absent : Lookup
+  present : Value → Lookup
+
+unfoldable pub lookup : List ℕ → Entries → Lookup
+lookup key noEntries = absent
+lookup key (entry k v es) = cond (same key k) (present v) (lookup key es)
+
+-- the part of s that was found is what the dictionary has
+abbrev pub FoundIs : List ℕ → Found → Lookup → Type 0
+FoundIs s Missing absent = Unit {0}
+FoundIs s Missing (present v) = ⊥
+FoundIs s (Part a b) absent = ⊥
+FoundIs s (Part a b) (present v) = cut s a (b - a) ≡ encode v

@@ -1,6 +1,6 @@
 -- Numbers, strings and integers as they are read, from the left. `at` is where the bytes `xs` stand in the whole input.
 -- Assumes nothing.
-use mathlib.Core.Bool.{Bool, true, false, cond}
+use mathlib.Core.Bool.{true, false, cond}
 use mathlib.Core.List.{List, [], _∷_}
 use Prim.Native.Nat.{ℕ, _+_, _-_, _*_, _^_}
 use lib.ListN.{length}

@@ -9,7 +9,7 @@ use lib.ListN.{length, take, drop, length-append}
 use lib.Seq.{length-take-le, drop-append-seam}
 use lib.Dec.{eqb, ltb, leb}
 use borrow.Author.Tests.{ne-eqb, lt-ltb, le-ltb, ltb-true, ltb-false, leb-true, eqb-true, eqb-false}
-use Rattle.bencode.specs.Grammar.{minusSign, digitZero, digitNine, colon, letterD, letterE, letterI, letterL, Value, integer, string, list, dictionary, Items, noItems, item, Entries, noEntries, entry, decimalIn, decimal, sign, encodeString, encode, encodeItems, encodeEntries, KeyBefore, none, after, ascends, IntegerFits, Valid, ItemsValid, EntriesValid}
+use Rattle.bencode.specs.Grammar.{minusSign, digitZero, digitNine, colon, letterD, letterE, letterI, letterL, integer, string, list, dictionary, noItems, item, noEntries, entry, decimalIn, decimal, sign, encodeString, encode, encodeItems, encodeEntries, KeyBefore, none, after, ascends, IntegerFits, Valid, ItemsValid, EntriesValid}
 use Rattle.bencode.specs.Scalar.{bounded, readDigits, readZero, readNumber, contentIn, readString, negative, positive, readSigned}
 use Rattle.bencode.specs.Walk.{pastInteger, pastString, onward, withKey, endOr, between, inOrder, readKey, walkItems, walkEntries, walkList, walkDictionary, byFirst, walkValue}
 use Rattle.bencode.specs.EndsLaws.{cond-case}
@@ -76,11 +76,13 @@ digits-sound stop n at (c ∷ cs) h = by-byte (λ l. digits-sound stop (n * 10 +
   where
     P : Number → Type 0
     P w = NumberIs stop at (decimal n) (c ∷ cs) w
+
     digit : digitZero ≤ c → c ≤ digitNine → (0 < n * 10 + (c - digitZero) → NumberIs stop (at + 1) (decimal (n * 10 + (c - digitZero))) cs (readDigits stop (n * 10 + (c - digitZero)) (at + 1) cs)) → P (readDigits stop (n * 10 + (c - digitZero)) (at + 1) cs)
     digit l g ih =
         let o : digitZero + (c - digitZero) ≡ c = omega arith in
         let s : decimal (n * 10 + (c - digitZero)) ≡ decimal n ++ c ∷ [] = decimal-longer n (c - digitZero) h (omega arith) ∙ rw o refl in
         number-longer stop at c (decimal n) cs (readDigits stop (n * 10 + (c - digitZero)) (at + 1) cs) (rw s at (ih (omega arith)))
+
     by-byte : (0 < n * 10 + (c - digitZero) → NumberIs stop (at + 1) (decimal (n * 10 + (c - digitZero))) cs (readDigits stop (n * 10 + (c - digitZero)) (at + 1) cs))
         → P (cond (eqb c stop) (Is n (at + 1)) (cond (ltb c digitZero) NoNumber (cond (ltb digitNine c) NoNumber (readDigits stop (n * 10 + (c - digitZero)) (at + 1) cs))))
     by-byte ih = cond-case P (eqb c stop) _ _
@@ -108,8 +110,10 @@ first-sound stop c at cs not-zero not-stop =
   where
     P : Number → Type 0
     P w = NumberIs stop at [] (c ∷ cs) w
+
     some : (m : ℕ) → (m ≡ 0 → ⊥) → 0 < 0 * 10 + m
     some m f = omega arith
+
     digit : digitZero ≤ c → c ≤ digitNine → P (readDigits stop (0 * 10 + (c - digitZero)) (at + 1) cs)
     digit l g =
         let m = 0 * 10 + (c - digitZero) in
@@ -157,11 +161,13 @@ string-made at n k xs p h =
     let ln : length (take n r) ≡ n = length-take-le n r (omega arith) in
     let b = take n r in
     let e : decimal (length b) ≡ ds = rw ln d in
-    let lb = length-append ds (colon ∷ b) in
-    ( b, drop n r
-    , p .2 ∙ rw e (sym (append-assoc ds (colon ∷ b) (drop n r) ∙ ap (λ (l : List ℕ). ds ++ colon ∷ l) (take-drop n r)))
-    , rw e (p .4)
-    , rw e (omega arith))
+    let lb = length-append ds (colon ∷ b) in (
+      b,
+      drop n r,
+      p .2 ∙ rw e (sym (append-assoc ds (colon ∷ b) (drop n r) ∙ ap (λ (l : List ℕ). ds ++ colon ∷ l) (take-drop n r))),
+      rw e (p .4),
+      rw e (omega arith),
+    )
 
 content-sound : (at : ℕ) (xs : List ℕ) (w : Number) → NumberIs colon at [] xs w → StringIs at xs (contentIn (at + length xs) w)
 content-sound at xs NoNumber p = tt
@@ -259,10 +265,13 @@ module _ (l at : ℕ) (xs : List ℕ) where
       let q = b .ends in
       let o = p .ends in
       let la = length-append (encode (b .it)) (encodeItems (p .it)) in
-      record
-      { it = item (b .it) (p .it); rest = p .rest
-      ; bytes = b .bytes ∙ ap (λ (s : List ℕ). encode (b .it) ++ s) (sym z ∙ p .bytes) ∙ sym (append-assoc (encode (b .it)) (encodeItems (p .it)) (p .rest))
-      ; valid = (b .valid, p .valid); ends = omega arith }
+      record {
+        it = item (b .it) (p .it);
+        rest = p .rest;
+        bytes = b .bytes ∙ ap (λ (s : List ℕ). encode (b .it) ++ s) (sym z ∙ p .bytes) ∙ sym (append-assoc (encode (b .it)) (encodeItems (p .it)) (p .rest));
+        valid = (b .valid, p .valid);
+        ends = omega arith;
+      }
 
   items-onward : (w : Walked) (go : ℕ → Walked) → ValueIs l at xs w → ((k : ℕ) → ItemsIs l k (drop (k - at) xs) (go k)) → ItemsIs l at xs (onward w go)
   items-onward Broken go p h = tt
@@ -316,10 +325,13 @@ module _ (l : ℕ) (j : KeyBefore) (at : ℕ) (xs : List ℕ) where
         let z : drop (m - at) xs ≡ b .rest = rw (o, s) (drop-append-seam (encodeString k ++ encode v) (b .rest)) in
         let la = length-append (encodeString k) (encode v ++ encodeEntries (q .it)) in
         let lb = length-append (encode v) (encodeEntries (q .it)) in
-        record
-        { it = entry k v (q .it); rest = q .rest
-        ; bytes = s ∙ ap (λ (t : List ℕ). (encodeString k ++ encode v) ++ t) (sym z ∙ q .bytes) ∙ simp append-assoc
-        ; valid = (a, b .valid, q .valid); ends = omega arith }
+        record {
+          it = entry k v (q .it);
+          rest = q .rest;
+          bytes = s ∙ ap (λ (t : List ℕ). (encodeString k ++ encode v) ++ t) (sym z ∙ q .bytes) ∙ simp append-assoc;
+          valid = (a, b .valid, q .valid);
+          ends = omega arith;
+        }
 
     entries-onward : (w : Walked) (go : ℕ → Walked) → ValueIs l (at + length (encodeString k)) r w → ((m : ℕ) → EntriesIs l (after k) m (drop (m - at) xs) (go m)) → EntriesIs l j at xs (onward w go)
     entries-onward Broken go q f = tt

@@ -5,16 +5,16 @@ use mathlib.Core.Path.{_≡_, refl, sym, ap, _∙_}
 use mathlib.Core.Logic.{_⊎_, inl, inr}
 use mathlib.Core.Bool.{Bool, true, false, cond}
 use mathlib.Core.List.{List, [], _∷_, _++_, append-assoc, append-nil}
-use Prim.Native.Nat.{ℕ, zero, suc, _+_, _-_, _≤_, _<_}
+use Prim.Native.Nat.{ℕ, suc, _+_, _-_}
 use native.Mathlib.Omega.{arith}
 use lib.ListN.{length, length-append}
 use lib.Dec.{eqb}
 use borrow.Author.Tests.{eq-eqb, eqb-true}
-use Rattle.bencode.specs.Grammar.{letterD, letterE, letterL, digitNine, maxLevels, Value, integer, string, list, dictionary, Items, noItems, Entries, noEntries, encodeString, encode, encodeEntries, Valid}
+use Rattle.bencode.specs.Grammar.{letterD, letterE, letterL, maxLevels, Value, integer, string, list, dictionary, noItems, Entries, noEntries, encode, encodeEntries, Valid}
 use Rattle.bencode.specs.Walk.{walkValue}
 use Rattle.bencode.specs.Strict.{notStrict, nestedTooDeeply, Encoded, CanGoOn, TooDeepFirst, wholeWalk, strictness}
-use Rattle.bencode.specs.CompleteLaws.{complete}
-use Rattle.bencode.specs.SoundLaws.{Begins, sound}
+use Rattle.bencode.specs.CompleteLaws.{complete, dictionary-bytes}
+use Rattle.bencode.specs.SoundLaws.{sound}
 use Rattle.bencode.specs.UniqueLaws.{not-a-string, other-letter, first-same}
 use Rattle.bencode.specs.DepthLaws.{Stem, inList, inDictionary, begun, StemValid, Opening, OpensTooDeep, deep-complete, deep-sound, fits-or-opens, filled, entriesThen, closing, filled-bytes, filled-valid, filled-deeper}
 use Rattle.bencode.specs.declared.walk.Walked.{Walked}
@@ -175,11 +175,13 @@ split-twice (a ∷ p) [] c d x y e = inl (p, ap (λ (z : ℕ). z ∷ p) (first-s
 split-twice (a ∷ p) (b ∷ q) c d x y e =
     let h : a ≡ b = first-same a b (p ++ c ∷ x) (q ++ d ∷ y) e in
     let f : p ++ c ∷ x ≡ q ++ d ∷ y = cc in
-    elim (split-twice p q c d x y f)
-    [ inl u ↦ inl (u .0, rw (h, u .1) refl)
-    | inr w ↦ elim w
-        [ inl u ↦ inr (inl (u .0, rw (h, u .1) refl))
-        | inr u ↦ inr (inr (rw (h, u .0) refl, u .1)) ] ]
+    elim (split-twice p q c d x y f) [
+      | inl u ↦ inl (u .0, rw (h, u .1) refl)
+      | inr w ↦ elim w [
+        | inl u ↦ inr (inl (u .0, rw (h, u .1) refl))
+        | inr u ↦ inr (inr (rw (h, u .0) refl, u .1))
+      ]
+    ]
 
 shorter : (l : ℕ) (p x : List ℕ) (c : ℕ) → CanGoOn l (p ++ c ∷ x) → CanGoOn l (p ++ c ∷ [])
 shorter l p x c g =
@@ -196,17 +198,14 @@ stem-whole st s cs x y c e f h o =
     first-letter (inList vs st) cs x c y e = unfold begun in absurd (other-letter letterD letterL _ _ e (λ z. omega arith))
     first-letter (inDictionary es k st) cs x c y e = unfold begun in (_, refl)
 
-encode-dictionary : (es : Entries) → encode (dictionary es) ≡ letterD ∷ encodeEntries es
-unfolding encode
-encode-dictionary es = refl
-
 pub deep-only : (s : List ℕ) → TooDeepFirst s → strictness s ≡ nestedTooDeeply
 deep-only s t =
     let can = t .deeper-can in
     let es = can .1 .0 in
-    elim (fits-or-opens (dictionary es) (t .levels) maxLevels (can .1 .1))
-    [ inl h ↦ absurd (t .not-with-it (can .0, (es, h, can .1 .2)))
-    | inr f ↦ too-deep s t es (can .0) (can .1 .2) (f []) ]
+    elim (fits-or-opens (dictionary es) (t .levels) maxLevels (can .1 .1)) [
+      | inl h ↦ absurd (t .not-with-it (can .0, (es, h, can .1 .2)))
+      | inr f ↦ too-deep s t es (can .0) (can .1 .2) (f [])
+    ]
   where
     too-deep : (s : List ℕ) (t : TooDeepFirst s) (es : Entries) (q : List ℕ) → (t .begun ++ t .byte ∷ []) ++ q ≡ encode (dictionary es)
         → OpensTooDeep maxLevels (encode (dictionary es) ++ []) → strictness s ≡ nestedTooDeeply
@@ -217,13 +216,15 @@ deep-only s t =
         let h = d .3 in
         let o = d .4 in
         let whole : encode (dictionary es) ≡ begun st ++ c ∷ r = sym (append-nil (encode (dictionary es))) ∙ d .5 in
-        let front : letterD ∷ encodeEntries es ≡ begun st ++ c ∷ r = sym (encode-dictionary es) ∙ whole in
+        let front : letterD ∷ encodeEntries es ≡ begun st ++ c ∷ r = sym (dictionary-bytes es) ∙ whole in
         let both : t .begun ++ t .byte ∷ q ≡ begun st ++ c ∷ r = sym (append-assoc (t .begun) (t .byte ∷ []) q) ∙ e ∙ whole in
-        elim (split-twice (t .begun) (begun st) (t .byte) c q r both)
-        [ inl u ↦ absurd (stem-no-further st c (u .0 ++ t .strict-before .0) h o (rw (u .1, append-assoc) at (t .strict-before .1)))
-        | inr w ↦ elim w
-            [ inl u ↦ absurd (t .not-with-it (shorter maxLevels (t .begun) (u .0) (t .byte) (rw (u .1) at (stem-goes-on st (encodeEntries es) (c ∷ r) front h))))
-            | inr u ↦ stem-whole st s (encodeEntries es) (c ∷ r) (t .rest) c front (t .bytes ∙ rw (u .0, u .1) refl) h o ] ]
+        elim (split-twice (t .begun) (begun st) (t .byte) c q r both) [
+          | inl u ↦ absurd (stem-no-further st c (u .0 ++ t .strict-before .0) h o (rw (u .1, append-assoc) at (t .strict-before .1)))
+          | inr w ↦ elim w [
+            | inl u ↦ absurd (t .not-with-it (shorter maxLevels (t .begun) (u .0) (t .byte) (rw (u .1) at (stem-goes-on st (encodeEntries es) (c ∷ r) front h))))
+            | inr u ↦ stem-whole st s (encodeEntries es) (c ∷ r) (t .rest) c front (t .bytes ∙ rw (u .0, u .1) refl) h o
+          ]
+        ]
 
 -- ---- and 20 for all else
 
@@ -235,6 +236,7 @@ one-of-three (c ∷ cs) = by-first (eqb c letterD) (walkValue maxLevels 0 (c ∷
     by-end : (b : Bool) → (cond b 0 notStrict ≡ 0) ⊎ ((cond b 0 notStrict ≡ notStrict) ⊎ (cond b 0 notStrict ≡ nestedTooDeeply))
     by-end true = inl refl
     by-end false = inr (inl refl)
+
     by-first : (b : Bool) (w : Walked)
         → (cond b (wholeWalk (length (c ∷ cs)) w) notStrict ≡ 0) ⊎ ((cond b (wholeWalk (length (c ∷ cs)) w) notStrict ≡ notStrict) ⊎ (cond b (wholeWalk (length (c ∷ cs)) w) notStrict ≡ nestedTooDeeply))
     by-first false w = inr (inl refl)
@@ -244,11 +246,13 @@ one-of-three (c ∷ cs) = by-first (eqb c letterD) (walkValue maxLevels 0 (c ∷
 
 pub otherwise : (s : List ℕ) → (Encoded maxLevels s → ⊥) → (TooDeepFirst s → ⊥) → strictness s ≡ notStrict
 otherwise s not-encoded not-deep =
-    elim (one-of-three s)
-    [ inl e ↦ absurd (not-encoded (taken-only s e))
-    | inr w ↦ elim w [ inl e ↦ e | inr e ↦ absurd (not-deep (deep-first s e)) ] ]
+    elim (one-of-three s) [
+      | inl e ↦ absurd (not-encoded (taken-only s e))
+      | inr w ↦ elim w [ inl e ↦ e | inr e ↦ absurd (not-deep (deep-first s e)) ]
+    ]
 
 pub otherwise-only : (s : List ℕ) → strictness s ≡ notStrict → (Encoded maxLevels s → ⊥) × (TooDeepFirst s → ⊥)
-otherwise-only s e =
-    ( (λ p. let f : _≡_ {A = ℕ} 0 20 = sym (taken s p) ∙ e in omega arith)
-    , (λ p. let f : _≡_ {A = ℕ} 21 20 = sym (deep-only s p) ∙ e in omega arith) )
+otherwise-only s e = (
+  (λ p. let f : _≡_ {A = ℕ} 0 20 = sym (taken s p) ∙ e in omega arith),
+  (λ p. let f : _≡_ {A = ℕ} 21 20 = sym (deep-only s p) ∙ e in omega arith),
+)

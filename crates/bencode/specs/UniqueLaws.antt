@@ -2,18 +2,16 @@
 -- Assumes nothing.
 use mathlib.Core.Path.{_≡_, refl, sym, ap, ap₂, _∙_}
 use mathlib.Core.Bool.{Bool, true, false}
-use mathlib.Core.List.{List, [], _∷_, _++_, append-assoc}
-use Prim.Native.Nat.{ℕ, zero, suc, _+_, _≤_, _<_}
+use mathlib.Core.List.{List, _∷_, _++_, append-assoc}
+use Prim.Native.Nat.{ℕ, _+_, _<_}
 use native.Mathlib.Omega.{arith}
 use lib.ListN.{length, take, drop}
 use lib.Seq.{drop-append-seam, take-append-seam}
-use Rattle.bencode.specs.Grammar.{minusSign, digitZero, digitNine, colon, letterD, letterE, letterI, letterL, Value, integer, string, list, dictionary, Items, noItems, item, Entries, noEntries, entry, decimal, sign, encodeString, encode, encodeItems, encodeEntries}
+use Rattle.bencode.specs.Grammar.{minusSign, digitNine, colon, letterD, letterE, letterI, letterL, Value, integer, string, list, dictionary, Items, noItems, item, Entries, noEntries, entry, decimal, sign, encodeString, encode, encodeItems, encodeEntries}
 use Rattle.bencode.specs.Scalar.{readNumber}
 use Rattle.bencode.specs.Walk.{endOr}
 use Rattle.bencode.specs.CompleteLaws.{BeginsWithDigit, decimal-first, number-read, integer-bytes, NoEnd, string-no-end, value-no-end}
-use Rattle.bencode.specs.declared.decimal.Number.{Number}
 use Rattle.bencode.specs.declared.decimal.Number.the-variants.{Is}
-use Rattle.bencode.specs.declared.walk.Walked.{Walked}
 use Rattle.bencode.specs.declared.walk.Walked.the-variants.{Past, Broken}
 
 -- ---- lists
@@ -37,14 +35,14 @@ rest-same a b x y e = cc
 decimal-unique : (stop : ℕ) → digitNine < stop → (n m : ℕ) (r q : List ℕ) → decimal n ++ stop ∷ r ≡ decimal m ++ stop ∷ q → (n ≡ m) × (r ≡ q)
 decimal-unique stop big n m r q e =
     let f : Is n (0 + length (decimal n) + 1) ≡ Is m (0 + length (decimal m) + 1) =
-      sym (number-read stop big 0 r n) ∙ ap (readNumber stop 0) e ∙ number-read stop big 0 q m in
+    sym (number-read stop big 0 r n) ∙ ap (readNumber stop 0) e ∙ number-read stop big 0 q m in
     let s : n ≡ m = cc in
     (s, rest-same stop stop r q (behind-same (decimal n) (stop ∷ r) (stop ∷ q) (rw (sym s) at e)))
 
 string-unique : (a b r q : List ℕ) → encodeString a ++ r ≡ encodeString b ++ q → (a ≡ b) × (r ≡ q)
 string-unique a b r q e =
     let f : decimal (length a) ++ colon ∷ (a ++ r) ≡ decimal (length b) ++ colon ∷ (b ++ q) =
-      sym (append-assoc (decimal (length a)) (colon ∷ a) r) ∙ e ∙ append-assoc (decimal (length b)) (colon ∷ b) q in
+    sym (append-assoc (decimal (length a)) (colon ∷ a) r) ∙ e ∙ append-assoc (decimal (length b)) (colon ∷ b) q in
     let p = decimal-unique colon (omega arith) (length a) (length b) (a ++ r) (b ++ q) f in
     same-size a b r q (p .0) (p .1)
 
@@ -89,6 +87,7 @@ other-letter a b x y e f = f (first-same a b x y e)
 
 mutual
   unfolding encode
+
   pub unique : (v w : Value) (r q : List ℕ) → encode v ++ r ≡ encode w ++ q → (v ≡ w) × (r ≡ q)
   unique (integer b n) (integer c m) r q e =
       signed-unique b c n m r q
@@ -112,6 +111,7 @@ mutual
   unique (dictionary es) (dictionary fs) r q e =
       let p = unique-entries es fs r q (rest-same letterD letterD (encodeEntries es ++ r) (encodeEntries fs ++ q) e) in
       (ap dictionary (p .0), p .1)
+
   unique-items : (vs ws : Items) (r q : List ℕ) → encodeItems vs ++ r ≡ encodeItems ws ++ q → (vs ≡ ws) × (r ≡ q)
   unique-items noItems noItems r q e = (refl, rest-same letterE letterE r q e)
   unique-items noItems (item w ws) r q e = absurd (not-an-end (encode w) r (encodeItems ws ++ q) (value-no-end w) (e ∙ append-assoc (encode w) (encodeItems ws) q))
@@ -120,6 +120,7 @@ mutual
       let p = unique v w (encodeItems vs ++ r) (encodeItems ws ++ q) (sym (append-assoc (encode v) (encodeItems vs) r) ∙ e ∙ append-assoc (encode w) (encodeItems ws) q) in
       let t = unique-items vs ws r q (p .1) in
       (ap₂ (λ (a : Value) (b : Items). item a b) (p .0) (t .0), t .1)
+
   unique-entries : (es fs : Entries) (r q : List ℕ) → encodeEntries es ++ r ≡ encodeEntries fs ++ q → (es ≡ fs) × (r ≡ q)
   unique-entries noEntries noEntries r q e = (refl, rest-same letterE letterE r q e)
   unique-entries noEntries (entry j w fs) r q e =
@@ -128,9 +129,9 @@ mutual
       absurd (not-an-end (encodeString k) q ((encode v ++ encodeEntries es) ++ r) (string-no-end k) (sym e ∙ append-assoc (encodeString k) (encode v ++ encodeEntries es) r))
   unique-entries (entry k v es) (entry j w fs) r q e =
       let p = string-unique k j ((encode v ++ encodeEntries es) ++ r) ((encode w ++ encodeEntries fs) ++ q)
-        (sym (append-assoc (encodeString k) (encode v ++ encodeEntries es) r) ∙ e ∙ append-assoc (encodeString j) (encode w ++ encodeEntries fs) q) in
+      (sym (append-assoc (encodeString k) (encode v ++ encodeEntries es) r) ∙ e ∙ append-assoc (encodeString j) (encode w ++ encodeEntries fs) q) in
       let t = unique v w (encodeEntries es ++ r) (encodeEntries fs ++ q)
-        (sym (append-assoc (encode v) (encodeEntries es) r) ∙ p .1 ∙ append-assoc (encode w) (encodeEntries fs) q) in
+      (sym (append-assoc (encode v) (encodeEntries es) r) ∙ p .1 ∙ append-assoc (encode w) (encodeEntries fs) q) in
       let u = unique-entries es fs r q (t .1) in
       let same-entry : entry k v es ≡ entry j w fs = rw (p .0, t .0, u .0) refl in
       (same-entry, u .1)

@@ -67,8 +67,8 @@ walkEntries value (suc steps) j at xs =
     endOr at xs
     (withKey (readKey j at xs)
     (λ a b.
-      onward (value b (drop (b - at) xs))
-      (λ k. walkEntries value steps (after (between at xs a b)) k (drop (k - at) xs))))
+    onward (value b (drop (b - at) xs))
+    (λ k. walkEntries value steps (after (between at xs a b)) k (drop (k - at) xs))))
 
 -- a list past its `l`
 abbrev pub walkList : (ℕ → List ℕ → Walked) → ℕ → List ℕ → Walked

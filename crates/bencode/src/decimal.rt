@@ -19,7 +19,10 @@ fn digits(s: &[u8], at: usize, stop: u8) -> Number
         let c = s[i];
         if c == stop {
             if n <= 9223372036854775808 {
-                return Number::Is { value: n, next: i + 1 };
+                return Number::Is {
+                    value: n,
+                    next: i + 1,
+                };
             }
             return Number::NoNumber;
         }
@@ -46,7 +49,10 @@ fn lone_zero(s: &[u8], at: usize, stop: u8) -> Number
         return Number::NoNumber;
     }
     if s[at] == stop {
-        Number::Is { value: 0, next: at + 1 }
+        Number::Is {
+            value: 0,
+            next: at + 1,
+        }
     } else {
         Number::NoNumber
     }

@@ -1,8 +1,8 @@
 // Values as the parts of the bytes that they stand in: an entry, an item, the value of a key. For any bytes; where they are not
 // strict, there is nothing to be found from that place on.
+use crate::order::same;
 use crate::scalar::ByteString;
 use crate::scalar::read_string;
-use crate::order::same;
 use crate::walk::LEVELS;
 use crate::walk::Walked;
 use crate::walk::value_end;
@@ -18,7 +18,11 @@ pub enum Found {
 
 // A dictionary's entry: its key's content is start..value, and its value's part value..end.
 pub enum Entry {
-    Keyed { start: usize, value: usize, end: usize },
+    Keyed {
+        start: usize,
+        value: usize,
+        end: usize,
+    },
     NoEntry,
 }
 
@@ -50,7 +54,11 @@ pub fn read_entry(s: &[u8], at: usize) -> Entry
     match read_string(s, at) {
         ByteString::NoString => Entry::NoEntry,
         ByteString::Content { start, end } => match value_end(s, end, LEVELS) {
-            Walked::Past(k) => Entry::Keyed { start: start, value: end, end: k },
+            Walked::Past(k) => Entry::Keyed {
+                start: start,
+                value: end,
+                end: k,
+            },
             Walked::Broken => Entry::NoEntry,
             Walked::TooDeep => Entry::NoEntry,
         },
@@ -72,7 +80,10 @@ pub fn find(s: &[u8], at: usize, key: &[u8]) -> Found
             }
             Entry::Keyed { start, value, end } => {
                 if same(key, &s[start..value]) {
-                    return Found::Part { start: value, end: end };
+                    return Found::Part {
+                        start: value,
+                        end: end,
+                    };
                 }
                 i = end;
             }

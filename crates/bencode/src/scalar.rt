@@ -13,7 +13,11 @@ pub enum ByteString {
 
 // An integer: whether it has a minus, its size, and the position past it.
 pub enum Integer {
-    Whole { minus: bool, size: usize, next: usize },
+    Whole {
+        minus: bool,
+        size: usize,
+        next: usize,
+    },
     NoInteger,
 }
 
@@ -25,7 +29,10 @@ pub fn read_string(s: &[u8], at: usize) -> ByteString
         Number::NoNumber => ByteString::NoString,
         Number::Is { value, next } => {
             if value <= s.len() - next {
-                ByteString::Content { start: next, end: next + value }
+                ByteString::Content {
+                    start: next,
+                    end: next + value,
+                }
             } else {
                 ByteString::NoString
             }
@@ -47,7 +54,11 @@ pub fn read_signed(s: &[u8], at: usize) -> Integer
                 if value == 0 {
                     Integer::NoInteger
                 } else {
-                    Integer::Whole { minus: true, size: value, next: next }
+                    Integer::Whole {
+                        minus: true,
+                        size: value,
+                        next: next,
+                    }
                 }
             }
         }
@@ -56,7 +67,11 @@ pub fn read_signed(s: &[u8], at: usize) -> Integer
             Number::NoNumber => Integer::NoInteger,
             Number::Is { value, next } => {
                 if value < 9223372036854775808 {
-                    Integer::Whole { minus: false, size: value, next: next }
+                    Integer::Whole {
+                        minus: false,
+                        size: value,
+                        next: next,
+                    }
                 } else {
                     Integer::NoInteger
                 }

@@ -1,9 +1,9 @@
 // The strict walk over a value, from the left. Values inside one another by recursion, with the levels left; values side by side by a loop.
+use crate::order::read_key;
 use crate::scalar::ByteString;
 use crate::scalar::Integer;
-use crate::scalar::read_string;
 use crate::scalar::read_signed;
-use crate::order::read_key;
+use crate::scalar::read_string;
 ghost use mathlib.Core.Path.{_≡_};
 ghost use lib.ListN.{drop};
 ghost use Rattle.bencode.specs.Scalar.{readString, readSigned};
@@ -31,7 +31,11 @@ fn integer_end(s: &[u8], at: usize) -> Walked
     ensures { λ r. ⌜ r ≡ pastInteger (readSigned at (drop at (now (s .entry)))) ⌝ }
 {
     match read_signed(s, at) {
-        Integer::Whole { minus: _, size: _, next } => Walked::Past(next),
+        Integer::Whole {
+            minus: _,
+            size: _,
+            next,
+        } => Walked::Past(next),
         Integer::NoInteger => Walked::Broken,
     }
 }
@@ -143,12 +147,6 @@ pub fn strict(s: &[u8]) -> u32
     match value_end(s, 0, LEVELS) {
         Walked::Broken => NOT_STRICT,
         Walked::TooDeep => NESTED_TOO_DEEPLY,
-        Walked::Past(k) => {
-            if k == s.len() {
-                0
-            } else {
-                NOT_STRICT
-            }
-        }
+        Walked::Past(k) => { if k == s.len() { 0 } else { NOT_STRICT } }
     }
 }

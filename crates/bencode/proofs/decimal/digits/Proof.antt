@@ -1,16 +1,14 @@
+-- The digits passed are in n: what is left, read with n before it, gives what the whole gives. Once n is past a tenth of 2^63 one digit more passes the bound, and no further digit brings the number back.
 use Rattle.bencode.proofs.Reading.{digits-end, digits-over, digits-stop, digits-low, digits-high, digits-more}
 use borrow.Author.Tests.{le-leb, lt-leb}
 use Rattle.bencode.specs.Scalar.{bounded, readDigits}
 use borrow.Author.Needs.{needs}
 use native.Mathlib.Omega.{arith}
-use Prim.Native.Nat.{ℕ, _+_, _-_, _*_, _≤_, _<_, _/_, _%_, _^_}
-use lib.ListN.{length, getD, set, take, drop}
+use Prim.Native.Nat.{_-_}
+use lib.ListN.{length, drop}
 use mathlib.Core.Path.{_≡_, refl, ap, sym, _∙_}
 use Rattle.bencode.proofs.decimal.digits.Statement.{statement}
 use Rattle.bencode.proofs.decimal.digits.Tie as tie
-use Rattle.bencode.proofs.decimal.digits.Reads as reads
-use Rattle.bencode.proofs.decimal.digits.Lts as lts
-use Rattle.octets.proofs.wide.Reads as wide-reads
 
 abbrev Inv-loop : tie.InvT-loop
 Inv-loop s at stop i₀ n₀ i n = readDigits stop n₀ i₀ (drop i₀ s) ≡ readDigits stop n i (drop i s)
@@ -18,69 +16,53 @@ Inv-loop s at stop i₀ n₀ i n = readDigits stop n₀ i₀ (drop i₀ s) ≡ r
 abbrev μ-loop : tie.MeasureT-loop
 μ-loop s at stop i₀ n₀ i n = length s - i
 
--- src/decimal.rt:18:5
 loop-holds : tie.Need-loop-holds Inv-loop μ-loop
 loop-holds c = refl
 
--- src/decimal.rt:19:17
 shared-slice-read-c : tie.Need-shared-slice-read-c Inv-loop μ-loop
 shared-slice-read-c c = search needs
 
--- src/decimal.rt:22:53
 add-t12 : tie.Need-add-t12 Inv-loop μ-loop
 add-t12 c = search needs
 
--- src/decimal.rt:22:17
 returns : tie.Need-returns Inv-loop μ-loop
 returns c = sym (ap bounded (c .before .before .before .before .loop .inv ∙ digits-stop _ _ _ _ (c .before .before .before .loop-test .taken) (c .before .if1 .taken)) ∙ simp (le-leb _ _ (c .if2 .taken)))
 
--- src/decimal.rt:24:13
 returns-2 : tie.Need-returns-2 Inv-loop μ-loop
 returns-2 c = sym (ap bounded (c .before .before .before .before .loop .inv ∙ digits-stop _ _ _ _ (c .before .before .before .loop-test .taken) (c .before .if1 .taken)) ∙ simp (lt-leb _ _ (c .if2 .left)))
 
--- src/decimal.rt:27:13
 returns-3 : tie.Need-returns-3 Inv-loop μ-loop
 returns-3 c = sym (ap bounded (c .before .before .before .before .loop .inv ∙ digits-low _ _ _ _ (c .before .before .before .loop-test .taken) (c .before .if1 .left) (c .if3 .taken)))
 
--- src/decimal.rt:30:13
 returns-4 : tie.Need-returns-4 Inv-loop μ-loop
 returns-4 c = sym (ap bounded (c .before .before .before .before .before .loop .inv ∙ digits-high _ _ _ _ (c .before .before .before .before .loop-test .taken) (c .before .before .if1 .left) (c .before .if3 .left) (c .if4 .taken)))
 
--- src/decimal.rt:33:13
 returns-5 : tie.Need-returns-5 Inv-loop μ-loop
 returns-5 c = sym
     (ap bounded (c .before .before .before .before .before .before .loop .inv ∙ digits-more _ _ _ _ (c .before .before .before .before .before .loop-test .taken) (c .before .before .before .if1 .left) (c .before .before .if3 .left) (c .before .if4 .left))
     ∙ digits-over _ _ _ _ (omega arith))
 
--- src/decimal.rt:35:13
 mul-n : tie.Need-mul-n Inv-loop μ-loop
 mul-n c = search needs
 
--- src/decimal.rt:35:23
 wide-requires : tie.Need-wide-requires Inv-loop μ-loop
 wide-requires c κs = search needs
 
--- src/decimal.rt:35:23
 sub-n : tie.Need-sub-n Inv-loop μ-loop
 sub-n c = omega arith
 
--- src/decimal.rt:35:13
 add-n : tie.Need-add-n Inv-loop μ-loop
 add-n c = omega arith
 
--- src/decimal.rt:36:9
 add-i : tie.Need-add-i Inv-loop μ-loop
 add-i c = search needs
 
--- src/decimal.rt:18:5
 loop-less : tie.Need-loop-less Inv-loop μ-loop
 loop-less c = search needs
 
--- src/decimal.rt:18:5
 loop-again : tie.Need-loop-again Inv-loop μ-loop
 loop-again c = c .before .before .before .before .before .before .before .loop .inv ∙ digits-more _ _ _ _ (c .before .before .before .before .before .before .loop-test .taken) (c .before .before .before .before .if1 .left) (c .before .before .before .if3 .left) (c .before .before .if4 .left) ∙ cc
 
--- src/decimal.rt:13:1
 returns-6 : tie.Need-returns-6 Inv-loop μ-loop
 returns-6 c = sym (ap bounded (c .before .loop .inv ∙ digits-end _ _ _ _ (c .loop-test .left)))
 

@@ -1,15 +1,13 @@
+-- The first i bytes are the same, so that the order of the whole is the order of what is left.
 use Rattle.bencode.proofs.Reading.{precedes-end, precedes-short, precedes-step}
 use borrow.Author.Tests.{lt-ltb, le-ltb}
 use Rattle.bencode.specs.Grammar.{precedes}
 use borrow.Author.Needs.{needs}
-use native.Mathlib.Omega.{arith}
-use Prim.Native.Nat.{ℕ, _+_, _-_, _*_, _≤_, _<_, _/_, _%_, _^_}
-use lib.ListN.{length, getD, set, take, drop}
-use mathlib.Core.Path.{_≡_, refl, ap, sym, _∙_}
+use Prim.Native.Nat.{_-_}
+use lib.ListN.{length, drop}
+use mathlib.Core.Path.{_≡_, refl, sym, _∙_}
 use Rattle.bencode.proofs.order.comes_before.Statement.{statement}
 use Rattle.bencode.proofs.order.comes_before.Tie as tie
-use Rattle.bencode.proofs.order.comes_before.Reads as reads
-use Rattle.bencode.proofs.order.comes_before.Lts as lts
 
 abbrev Inv-loop : tie.InvT-loop
 Inv-loop x y i₀ i = precedes x y ≡ precedes (drop i x) (drop i y)
@@ -17,51 +15,39 @@ Inv-loop x y i₀ i = precedes x y ≡ precedes (drop i x) (drop i y)
 abbrev μ-loop : tie.MeasureT-loop
 μ-loop x y i₀ i = length y - i
 
--- src/order.rt:16:5
 loop-holds : tie.Need-loop-holds Inv-loop μ-loop
 loop-holds c = refl
 
--- src/order.rt:18:13
 returns : tie.Need-returns Inv-loop μ-loop
 returns c = sym (c .before .before .loop .inv ∙ precedes-short _ _ _ (c .before .loop-test .taken) (c .if1 .taken))
 
--- src/order.rt:20:12
 shared-slice-read-if2 : tie.Need-shared-slice-read-if2 Inv-loop μ-loop
 shared-slice-read-if2 c = search needs
 
--- src/order.rt:20:19
 shared-slice-read-if2-2 : tie.Need-shared-slice-read-if2-2 Inv-loop μ-loop
 shared-slice-read-if2-2 c = search needs
 
--- src/order.rt:21:13
 returns-2 : tie.Need-returns-2 Inv-loop μ-loop
 returns-2 c = sym (c .before .before .before .before .before .loop .inv ∙ precedes-step _ _ _ (c .before .before .before .before .loop-test .taken) (c .before .before .before .if1 .left) ∙ simp (lt-ltb _ _ (c .if2 .taken)))
 
--- src/order.rt:23:12
 shared-slice-read-if3 : tie.Need-shared-slice-read-if3 Inv-loop μ-loop
 shared-slice-read-if3 c = search needs
 
--- src/order.rt:23:19
 shared-slice-read-if3-2 : tie.Need-shared-slice-read-if3-2 Inv-loop μ-loop
 shared-slice-read-if3-2 c = search needs
 
--- src/order.rt:24:13
 returns-3 : tie.Need-returns-3 Inv-loop μ-loop
 returns-3 c = sym (c .before .before .before .before .before .before .before .before .loop .inv ∙ precedes-step _ _ _ (c .before .before .before .before .before .before .before .loop-test .taken) (c .before .before .before .before .before .before .if1 .left) ∙ simp (le-ltb _ _ (c .before .before .before .if2 .left), lt-ltb _ _ (c .if3 .taken)))
 
--- src/order.rt:26:9
 add-i : tie.Need-add-i Inv-loop μ-loop
 add-i c = search needs
 
--- src/order.rt:16:5
 loop-less : tie.Need-loop-less Inv-loop μ-loop
 loop-less c = search needs
 
--- src/order.rt:16:5
 loop-again : tie.Need-loop-again Inv-loop μ-loop
 loop-again c = c .before .before .before .before .before .before .before .before .loop .inv ∙ precedes-step _ _ _ (c .before .before .before .before .before .before .before .loop-test .taken) (c .before .before .before .before .before .before .if1 .left) ∙ simp (le-ltb _ _ (c .before .before .before .if2 .left), le-ltb _ _ (c .if3 .left))
 
--- src/order.rt:12:1
 returns-4 : tie.Need-returns-4 Inv-loop μ-loop
 returns-4 c = sym (c .before .loop .inv ∙ precedes-end _ _ _ (c .loop-test .left))
 

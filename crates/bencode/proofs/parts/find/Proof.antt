@@ -1,18 +1,14 @@
+-- The entries passed have other keys: the search from i on finds what the search of the whole finds, `FindAt`.
 use borrow.Author.Tests.{not-true, not-false}
 use Rattle.bencode.specs.PartsLaws.{entry-ends}
 use Rattle.bencode.proofs.Finding.{FindAt, find-no-dictionary, find-start, find-stop, find-end, find-here, find-on, dictionary-within}
 use borrow.Author.Needs.{needs}
 use native.Mathlib.Omega.{arith}
-use Prim.Native.Nat.{ℕ, _+_, _-_, _*_, _≤_, _<_, _/_, _%_, _^_}
-use lib.ListN.{length, getD, set, take, drop}
-use mathlib.Core.Path.{_≡_, refl, ap, sym, _∙_}
+use Prim.Native.Nat.{_-_, _<_}
+use lib.ListN.{length}
+use mathlib.Core.Path.{sym, _∙_}
 use Rattle.bencode.proofs.parts.find.Statement.{statement}
 use Rattle.bencode.proofs.parts.find.Tie as tie
-use Rattle.bencode.proofs.parts.find.Reads as reads
-use Rattle.bencode.proofs.parts.find.Lts as lts
-use Rattle.bencode.proofs.order.same.Reads as same-reads
-use Rattle.bencode.proofs.parts.is_dictionary.Reads as is-dictionary-reads
-use Rattle.bencode.proofs.parts.read_entry.Reads as read-entry-reads
 
 abbrev Inv-loop : tie.InvT-loop
 Inv-loop s at key i₀ i = FindAt key s at i
@@ -20,67 +16,51 @@ Inv-loop s at key i₀ i = FindAt key s at i
 abbrev μ-loop : tie.MeasureT-loop
 μ-loop s at key i₀ i = length s - i
 
--- src/parts.rt:64:9
 is-dictionary-requires : tie.Need-is-dictionary-requires Inv-loop μ-loop
 is-dictionary-requires c κs = search needs
 
--- src/parts.rt:65:9
 returns : tie.Need-returns Inv-loop μ-loop
 returns c = sym (find-no-dictionary _ _ _ (sym (c .before .is-dictionary .ensures) ∙ not-true _ (c .if1 .taken)))
 
--- src/parts.rt:67:17
 add-i : tie.Need-add-i Inv-loop μ-loop
 add-i c = let below : c .before .before .before .before .args .at < length (c .before .before .before .before .args .s .now) = dictionary-within _ _ (sym (c .before .is-dictionary .ensures) ∙ not-false _ (c .if1 .left)) in omega arith
 
--- src/parts.rt:68:5
 loop-holds : tie.Need-loop-holds Inv-loop μ-loop
 loop-holds c = find-start _ _ _ (sym (c .before .is-dictionary .ensures) ∙ not-false _ (c .if1 .left))
 
--- src/parts.rt:69:15
 read-entry-requires : tie.Need-read-entry-requires Inv-loop μ-loop
 read-entry-requires c κs = search needs
 
--- src/parts.rt:71:17
 enum-told : tie.Need-enum-told Inv-loop μ-loop
 enum-told c = search needs
 
--- src/parts.rt:71:17
 returns-2 : tie.Need-returns-2 Inv-loop μ-loop
 returns-2 c = sym (find-stop _ _ _ _ (c .before .before .before .before .loop .inv) (sym (c .before .before .read-entry .ensures) ∙ c .enum-told .given .1))
 
--- src/parts.rt:73:28
 enum-known-start : tie.Need-enum-known-start Inv-loop μ-loop
 enum-known-start c = search needs
 
--- src/parts.rt:74:30
 sub-same : tie.Need-sub-same Inv-loop μ-loop
 sub-same c = entry-ends _ _ _ _ _ (sym (c .before .before .before .read-entry .ensures) ∙ c .before .start .given .1) .1
 
--- src/parts.rt:74:30
 part-same-start : tie.Need-part-same-start Inv-loop μ-loop
 part-same-start c = entry-ends _ _ _ _ _ (sym (c .before .before .before .read-entry .ensures) ∙ c .before .start .given .1) .1
 
--- src/parts.rt:74:30
 part-same-end : tie.Need-part-same-end Inv-loop μ-loop
 part-same-end c = let ends = entry-ends _ _ _ _ _ (sym (c .before .before .before .read-entry .ensures) ∙ c .before .start .given .1) in let before-end = ends .2 in let within = ends .3 in omega arith
 
--- src/parts.rt:74:20
 same-requires : tie.Need-same-requires Inv-loop μ-loop
 same-requires c κs = search needs
 
--- src/parts.rt:75:21
 returns-3 : tie.Need-returns-3 Inv-loop μ-loop
 returns-3 c = sym (find-here _ _ _ _ (c .before .before .before .before .before .before .before .loop-test .taken) _ _ _ (sym (c .before .before .before .before .before .before .read-entry .ensures) ∙ c .before .before .before .before .start .given .1) (c .before .before .before .before .before .before .before .before .loop .inv) (sym (c .before .same .ensures) ∙ c .if2 .taken))
 
--- src/parts.rt:68:5
 loop-less : tie.Need-loop-less Inv-loop μ-loop
 loop-less c = let ends = entry-ends _ _ _ _ _ (sym (c .before .before .before .before .before .before .read-entry .ensures) ∙ c .before .before .before .before .start .given .1) in let a = ends .0 in let b = ends .1 in let k = ends .2 in omega arith
 
--- src/parts.rt:68:5
 loop-again : tie.Need-loop-again Inv-loop μ-loop
 loop-again c = find-on _ _ _ _ (c .before .before .before .before .before .before .before .loop-test .taken) _ _ _ (sym (c .before .before .before .before .before .before .read-entry .ensures) ∙ c .before .before .before .before .start .given .1) (c .before .before .before .before .before .before .before .before .loop .inv) (sym (c .before .same .ensures) ∙ c .if2 .left)
 
--- src/parts.rt:61:1
 returns-4 : tie.Need-returns-4 Inv-loop μ-loop
 returns-4 c = sym (find-end _ _ _ _ (c .before .loop .inv) (c .loop-test .left))
 

@@ -1,40 +1,29 @@
+-- What `itemTo` says of the walk.
 use Rattle.bencode.proofs.Finding.{item-read}
-use native.Mathlib.Omega.{arith}
-use Prim.Native.Nat.{ℕ, _+_, _-_, _*_, _≤_, _<_, _/_, _%_, _^_}
-use lib.ListN.{length, getD, set, take, drop}
-use mathlib.Core.Path.{_≡_, refl, ap, sym, _∙_}
+use Prim.Native.Nat.{_-_}
+use mathlib.Core.Path.{sym, _∙_}
 use borrow.Author.Needs.{needs}
 use Rattle.bencode.proofs.parts.read_item.Statement.{statement}
 use Rattle.bencode.proofs.parts.read_item.Tie as tie
-use Rattle.bencode.proofs.parts.read_item.Reads as reads
-use Rattle.bencode.proofs.parts.read_item.Lts as lts
-use Rattle.bencode.proofs.walk.value_end.Reads as value-end-reads
 
--- src/parts.rt:39:11
 value-end-requires : tie.Need-value-end-requires
 value-end-requires c κs = search needs
 
--- src/parts.rt:40:22
 enum-known-k : tie.Need-enum-known-k
 enum-known-k c = search needs
 
--- src/parts.rt:41:27
 enum-told : tie.Need-enum-told
 enum-told c = search needs
 
--- src/parts.rt:42:28
 enum-told-2 : tie.Need-enum-told-2
 enum-told-2 c = search needs
 
--- src/parts.rt:36:1
 returns : tie.Need-returns
 returns c = sym (item-read _ _ _ (sym (c .before .before .before .value-end .ensures) ∙ c .before .k .given .1))
 
--- src/parts.rt:36:1
 returns-2 : tie.Need-returns-2
 returns-2 c = sym (item-read _ _ _ (sym (c .before .before .value-end .ensures) ∙ c .enum-told .given .1))
 
--- src/parts.rt:36:1
 returns-3 : tie.Need-returns-3
 returns-3 c = sym (item-read _ _ _ (sym (c .before .before .value-end .ensures) ∙ c .enum-told2 .given .1))
 

@@ -1,11 +1,12 @@
+-- By the levels left: a value asks for its items or entries with a level less, these for their values with the same. The loops have come to i: what is left from there gives what the whole gives, `ListAt` and `DictionaryAt`.
 use Rattle.bencode.proofs.Walking.{ListAt, list-start, list-none, list-closed, list-broken, list-deep, list-on, DictionaryAt, dictionary-start, dictionary-none, dictionary-closed, dictionary-no-key, dictionary-broken, dictionary-deep, dictionary-on, key-ends, entry-ends, value-none, value-integer, value-list-deep, value-list, value-dictionary-deep, value-dictionary, value-string}
 use Rattle.bencode.specs.EndsLaws.{value-ends}
 use Rattle.bencode.specs.Walk.{walkValue, keyBefore}
 use borrow.Author.Needs.{needs}
 use native.Mathlib.Omega.{arith}
-use lib.ListN.{length, getD, set, take, drop}
-use mathlib.Core.Path.{_≡_, refl, ap, sym, _∙_}
-use Prim.Native.Nat.{ℕ, _<_, _+_, _-_, _*_, _≤_, _/_, _%_, _^_}
+use lib.ListN.{length}
+use mathlib.Core.Path.{sym, _∙_}
+use Prim.Native.Nat.{ℕ, _<_, _+_, _-_, _≤_}
 use borrow.Fn.Kinds.{In}
 use borrow.Fn.PlainCycle.{Measures, is, falls, and}
 use Rattle.bencode.proofs.walk.dictionary_end.Reads as dictionary-end
@@ -68,7 +69,6 @@ dictionary-end-Inv-loop s at levels i₀ seen₀ start₀ end₀ i seen start en
 abbrev dictionary-end-μ-loop : dictionary-end-lts.MeasureT-loop
 dictionary-end-μ-loop s at levels i₀ seen₀ start₀ end₀ i seen start end = length s - i
 
--- src/walk.rt:80:5
 dictionary-end-loop-holds : (t : ℕ) → dictionary-end-lts.Need-loop-holds (
   read-key-reads.Asked,
   read-key-reads.Learnt,
@@ -77,7 +77,6 @@ dictionary-end-loop-holds : (t : ℕ) → dictionary-end-lts.Need-loop-holds (
 ) (dictionary-end-at t) dictionary-end.Post dictionary-end-Inv-loop dictionary-end-μ-loop
 dictionary-end-loop-holds t c = (dictionary-start _ _ _, omega arith, omega arith)
 
--- src/walk.rt:81:12
 dictionary-end-shared-slice-read-if1 : (t : ℕ) → dictionary-end-lts.Need-shared-slice-read-if1 (
   read-key-reads.Asked,
   read-key-reads.Learnt,
@@ -86,7 +85,6 @@ dictionary-end-shared-slice-read-if1 : (t : ℕ) → dictionary-end-lts.Need-sha
 ) (dictionary-end-at t) dictionary-end.Post dictionary-end-Inv-loop dictionary-end-μ-loop
 dictionary-end-shared-slice-read-if1 t c = search needs
 
--- src/walk.rt:82:33
 dictionary-end-add-t15 : (t : ℕ) → dictionary-end-lts.Need-add-t15 (
   read-key-reads.Asked,
   read-key-reads.Learnt,
@@ -95,7 +93,6 @@ dictionary-end-add-t15 : (t : ℕ) → dictionary-end-lts.Need-add-t15 (
 ) (dictionary-end-at t) dictionary-end.Post dictionary-end-Inv-loop dictionary-end-μ-loop
 dictionary-end-add-t15 t c = search needs
 
--- src/walk.rt:82:13
 dictionary-end-returns : (t : ℕ) → dictionary-end-lts.Need-returns (
   read-key-reads.Asked,
   read-key-reads.Learnt,
@@ -104,7 +101,6 @@ dictionary-end-returns : (t : ℕ) → dictionary-end-lts.Need-returns (
 ) (dictionary-end-at t) dictionary-end.Post dictionary-end-Inv-loop dictionary-end-μ-loop
 dictionary-end-returns t c = sym (dictionary-closed _ _ (c .before .before .before .before .before .args .at) _ _ (c .before .before .loop-test .taken) (c .before .before .before .loop .inv .0) (c .if1 .taken))
 
--- src/walk.rt:84:15
 dictionary-end-read-key-requires : (t : ℕ) → dictionary-end-lts.Need-read-key-requires (
   read-key-reads.Asked,
   read-key-reads.Learnt,
@@ -113,7 +109,6 @@ dictionary-end-read-key-requires : (t : ℕ) → dictionary-end-lts.Need-read-ke
 ) (dictionary-end-at t) dictionary-end.Post dictionary-end-Inv-loop dictionary-end-μ-loop
 dictionary-end-read-key-requires t c κs = search needs
 
--- src/walk.rt:86:17
 dictionary-end-enum-told : (t : ℕ) → dictionary-end-lts.Need-enum-told (
   read-key-reads.Asked,
   read-key-reads.Learnt,
@@ -122,7 +117,6 @@ dictionary-end-enum-told : (t : ℕ) → dictionary-end-lts.Need-enum-told (
 ) (dictionary-end-at t) dictionary-end.Post dictionary-end-Inv-loop dictionary-end-μ-loop
 dictionary-end-enum-told t c = search needs
 
--- src/walk.rt:86:17
 dictionary-end-returns-2 : (t : ℕ) → dictionary-end-lts.Need-returns-2 (
   read-key-reads.Asked,
   read-key-reads.Learnt,
@@ -131,7 +125,6 @@ dictionary-end-returns-2 : (t : ℕ) → dictionary-end-lts.Need-returns-2 (
 ) (dictionary-end-at t) dictionary-end.Post dictionary-end-Inv-loop dictionary-end-μ-loop
 dictionary-end-returns-2 t c = sym (dictionary-no-key _ _ (c .before .before .before .before .before .before .before .before .args .at) _ _ (c .before .before .before .before .before .loop-test .taken) (c .before .before .before .if1 .left) (c .before .before .before .before .before .before .loop .inv .0) (sym (c .before .before .read-key .ensures) ∙ c .enum-told .given .1))
 
--- src/walk.rt:88:42
 dictionary-end-enum-known-a : (t : ℕ) → dictionary-end-lts.Need-enum-known-a (
   read-key-reads.Asked,
   read-key-reads.Learnt,
@@ -140,7 +133,6 @@ dictionary-end-enum-known-a : (t : ℕ) → dictionary-end-lts.Need-enum-known-a
 ) (dictionary-end-at t) dictionary-end.Post dictionary-end-Inv-loop dictionary-end-μ-loop
 dictionary-end-enum-known-a t c = search needs
 
--- src/walk.rt:88:63
 dictionary-end-value-end-requires : (t : ℕ) → dictionary-end-lts.Need-value-end-requires (
   read-key-reads.Asked,
   read-key-reads.Learnt,
@@ -149,7 +141,6 @@ dictionary-end-value-end-requires : (t : ℕ) → dictionary-end-lts.Need-value-
 ) (dictionary-end-at t) dictionary-end.Post dictionary-end-Inv-loop dictionary-end-μ-loop
 dictionary-end-value-end-requires t c κs = (omega arith, tt)
 
--- src/walk.rt:89:30
 dictionary-end-enum-known-k : (t : ℕ) → dictionary-end-lts.Need-enum-known-k (
   read-key-reads.Asked,
   read-key-reads.Learnt,
@@ -158,7 +149,6 @@ dictionary-end-enum-known-k : (t : ℕ) → dictionary-end-lts.Need-enum-known-k
 ) (dictionary-end-at t) dictionary-end.Post dictionary-end-Inv-loop dictionary-end-μ-loop
 dictionary-end-enum-known-k t c = search needs
 
--- src/walk.rt:80:5
 dictionary-end-loop-less : (t : ℕ) → dictionary-end-lts.Need-loop-less (
   read-key-reads.Asked,
   read-key-reads.Learnt,
@@ -167,7 +157,6 @@ dictionary-end-loop-less : (t : ℕ) → dictionary-end-lts.Need-loop-less (
 ) (dictionary-end-at t) dictionary-end.Post dictionary-end-Inv-loop dictionary-end-μ-loop
 dictionary-end-loop-less t c = let further = entry-ends _ _ _ _ _ _ _ (sym (c .before .before .before .before .before .before .before .read-key .ensures) ∙ c .before .before .before .before .before .a .given .1) (sym (c .before .before .before .value-end .ensures) ∙ c .before .k .given .1) in omega arith
 
--- src/walk.rt:80:5
 dictionary-end-loop-again : (t : ℕ) → dictionary-end-lts.Need-loop-again (
   read-key-reads.Asked,
   read-key-reads.Learnt,
@@ -176,7 +165,6 @@ dictionary-end-loop-again : (t : ℕ) → dictionary-end-lts.Need-loop-again (
 ) (dictionary-end-at t) dictionary-end.Post dictionary-end-Inv-loop dictionary-end-μ-loop
 dictionary-end-loop-again t c = (dictionary-on _ _ (c .before .before .before .before .before .before .before .before .before .before .before .before .before .args .at) _ _ (c .before .before .before .before .before .before .before .before .before .before .loop-test .taken) (c .before .before .before .before .before .before .before .before .if1 .left) _ _ (sym (c .before .before .before .before .before .before .before .read-key .ensures) ∙ c .before .before .before .before .before .a .given .1) _ (c .before .before .before .before .before .before .before .before .before .before .before .loop .inv .0) (sym (c .before .before .before .value-end .ensures) ∙ c .before .k .given .1) (entry-ends _ _ _ _ _ _ _ (sym (c .before .before .before .before .before .before .before .read-key .ensures) ∙ c .before .before .before .before .before .a .given .1) (sym (c .before .before .before .value-end .ensures) ∙ c .before .k .given .1)), key-ends _ _ _ _ _ (sym (c .before .before .before .before .before .before .before .read-key .ensures) ∙ c .before .before .before .before .before .a .given .1) .1, key-ends _ _ _ _ _ (sym (c .before .before .before .before .before .before .before .read-key .ensures) ∙ c .before .before .before .before .before .a .given .1) .2)
 
--- src/walk.rt:96:21
 dictionary-end-enum-told-2 : (t : ℕ) → dictionary-end-lts.Need-enum-told-2 (
   read-key-reads.Asked,
   read-key-reads.Learnt,
@@ -185,7 +173,6 @@ dictionary-end-enum-told-2 : (t : ℕ) → dictionary-end-lts.Need-enum-told-2 (
 ) (dictionary-end-at t) dictionary-end.Post dictionary-end-Inv-loop dictionary-end-μ-loop
 dictionary-end-enum-told-2 t c = search needs
 
--- src/walk.rt:96:21
 dictionary-end-returns-3 : (t : ℕ) → dictionary-end-lts.Need-returns-3 (
   read-key-reads.Asked,
   read-key-reads.Learnt,
@@ -194,7 +181,6 @@ dictionary-end-returns-3 : (t : ℕ) → dictionary-end-lts.Need-returns-3 (
 ) (dictionary-end-at t) dictionary-end.Post dictionary-end-Inv-loop dictionary-end-μ-loop
 dictionary-end-returns-3 t c = sym (dictionary-broken _ _ (c .before .before .before .before .before .before .before .before .before .before .before .before .args .at) _ _ (c .before .before .before .before .before .before .before .before .before .loop-test .taken) (c .before .before .before .before .before .before .before .if1 .left) _ _ (sym (c .before .before .before .before .before .before .read-key .ensures) ∙ c .before .before .before .before .a .given .1) (c .before .before .before .before .before .before .before .before .before .before .loop .inv .0) (sym (c .before .before .value-end .ensures) ∙ c .enum-told2 .given .1))
 
--- src/walk.rt:99:21
 dictionary-end-enum-told-3 : (t : ℕ) → dictionary-end-lts.Need-enum-told-3 (
   read-key-reads.Asked,
   read-key-reads.Learnt,
@@ -203,7 +189,6 @@ dictionary-end-enum-told-3 : (t : ℕ) → dictionary-end-lts.Need-enum-told-3 (
 ) (dictionary-end-at t) dictionary-end.Post dictionary-end-Inv-loop dictionary-end-μ-loop
 dictionary-end-enum-told-3 t c = search needs
 
--- src/walk.rt:99:21
 dictionary-end-returns-4 : (t : ℕ) → dictionary-end-lts.Need-returns-4 (
   read-key-reads.Asked,
   read-key-reads.Learnt,
@@ -212,7 +197,6 @@ dictionary-end-returns-4 : (t : ℕ) → dictionary-end-lts.Need-returns-4 (
 ) (dictionary-end-at t) dictionary-end.Post dictionary-end-Inv-loop dictionary-end-μ-loop
 dictionary-end-returns-4 t c = sym (dictionary-deep _ _ (c .before .before .before .before .before .before .before .before .before .before .before .before .args .at) _ _ (c .before .before .before .before .before .before .before .before .before .loop-test .taken) (c .before .before .before .before .before .before .before .if1 .left) _ _ (sym (c .before .before .before .before .before .before .read-key .ensures) ∙ c .before .before .before .before .a .given .1) (c .before .before .before .before .before .before .before .before .before .before .loop .inv .0) (sym (c .before .before .value-end .ensures) ∙ c .enum-told3 .given .1))
 
--- src/walk.rt:73:1
 dictionary-end-returns-5 : (t : ℕ) → dictionary-end-lts.Need-returns-5 (
   read-key-reads.Asked,
   read-key-reads.Learnt,
@@ -227,7 +211,6 @@ list-end-Inv-loop s at levels i₀ i = ListAt (walkValue levels) s i₀ i
 abbrev list-end-μ-loop : list-end-lts.MeasureT-loop
 list-end-μ-loop s at levels i₀ i = length s - i
 
--- src/walk.rt:53:5
 list-end-loop-holds :
     (t : ℕ) →
     list-end-lts.Need-loop-holds
@@ -238,14 +221,12 @@ list-end-loop-holds :
     list-end-μ-loop
 list-end-loop-holds t c = list-start _ _ _
 
--- src/walk.rt:54:12
 list-end-shared-slice-read-if1 : (t : ℕ) → list-end-lts.Need-shared-slice-read-if1 (
   value-end-below t,
   value-end.Post,
 ) (list-end-at t) list-end.Post list-end-Inv-loop list-end-μ-loop
 list-end-shared-slice-read-if1 t c = search needs
 
--- src/walk.rt:55:33
 list-end-add-t10 :
     (t : ℕ) →
     list-end-lts.Need-add-t10
@@ -256,7 +237,6 @@ list-end-add-t10 :
     list-end-μ-loop
 list-end-add-t10 t c = search needs
 
--- src/walk.rt:55:13
 list-end-returns :
     (t : ℕ) →
     list-end-lts.Need-returns
@@ -267,21 +247,18 @@ list-end-returns :
     list-end-μ-loop
 list-end-returns t c = sym (list-closed _ _ (c .before .before .before .before .before .args .at) _ (c .before .before .loop-test .taken) (c .before .before .before .loop .inv) (c .if1 .taken))
 
--- src/walk.rt:57:15
 list-end-value-end-requires : (t : ℕ) → list-end-lts.Need-value-end-requires (
   value-end-below t,
   value-end.Post,
 ) (list-end-at t) list-end.Post list-end-Inv-loop list-end-μ-loop
 list-end-value-end-requires t c κs = (omega arith, tt)
 
--- src/walk.rt:58:26
 list-end-enum-known-k : (t : ℕ) → list-end-lts.Need-enum-known-k (
   value-end-below t,
   value-end.Post,
 ) (list-end-at t) list-end.Post list-end-Inv-loop list-end-μ-loop
 list-end-enum-known-k t c = search needs
 
--- src/walk.rt:53:5
 list-end-loop-less :
     (t : ℕ) →
     list-end-lts.Need-loop-less
@@ -292,7 +269,6 @@ list-end-loop-less :
     list-end-μ-loop
 list-end-loop-less t c = let further = value-ends _ _ _ _ (sym (c .before .before .before .value-end .ensures) ∙ c .before .k .given .1) in omega arith
 
--- src/walk.rt:53:5
 list-end-loop-again :
     (t : ℕ) →
     list-end-lts.Need-loop-again
@@ -303,7 +279,6 @@ list-end-loop-again :
     list-end-μ-loop
 list-end-loop-again t c = list-on _ _ (c .before .before .before .before .before .before .before .before .before .args .at) _ (c .before .before .before .before .before .before .loop-test .taken) (c .before .before .before .before .if1 .left) _ (c .before .before .before .before .before .before .before .loop .inv) (sym (c .before .before .before .value-end .ensures) ∙ c .before .k .given .1) (value-ends _ _ _ _ (sym (c .before .before .before .value-end .ensures) ∙ c .before .k .given .1) .0)
 
--- src/walk.rt:62:17
 list-end-enum-told :
     (t : ℕ) →
     list-end-lts.Need-enum-told
@@ -314,7 +289,6 @@ list-end-enum-told :
     list-end-μ-loop
 list-end-enum-told t c = search needs
 
--- src/walk.rt:62:17
 list-end-returns-2 :
     (t : ℕ) →
     list-end-lts.Need-returns-2
@@ -325,7 +299,6 @@ list-end-returns-2 :
     list-end-μ-loop
 list-end-returns-2 t c = sym (list-broken _ _ (c .before .before .before .before .before .before .before .before .args .at) _ (c .before .before .before .before .before .loop-test .taken) (c .before .before .before .if1 .left) (c .before .before .before .before .before .before .loop .inv) (sym (c .before .before .value-end .ensures) ∙ c .enum-told .given .1))
 
--- src/walk.rt:65:17
 list-end-enum-told-2 :
     (t : ℕ) →
     list-end-lts.Need-enum-told-2
@@ -336,7 +309,6 @@ list-end-enum-told-2 :
     list-end-μ-loop
 list-end-enum-told-2 t c = search needs
 
--- src/walk.rt:65:17
 list-end-returns-3 :
     (t : ℕ) →
     list-end-lts.Need-returns-3
@@ -347,7 +319,6 @@ list-end-returns-3 :
     list-end-μ-loop
 list-end-returns-3 t c = sym (list-deep _ _ (c .before .before .before .before .before .before .before .before .args .at) _ (c .before .before .before .before .before .loop-test .taken) (c .before .before .before .if1 .left) (c .before .before .before .before .before .before .loop .inv) (sym (c .before .before .value-end .ensures) ∙ c .enum-told2 .given .1))
 
--- src/walk.rt:49:1
 list-end-returns-4 :
     (t : ℕ) →
     list-end-lts.Need-returns-4
@@ -358,7 +329,6 @@ list-end-returns-4 :
     list-end-μ-loop
 list-end-returns-4 t c = sym (list-none _ _ (c .before .before .before .args .at) _ (c .before .loop .inv) (c .loop-test .left))
 
--- src/walk.rt:112:9
 value-end-returns : (t : ℕ) → value-end-lts.Need-returns (
   integer-end-reads.Asked,
   integer-end-reads.Learnt,
@@ -371,7 +341,6 @@ value-end-returns : (t : ℕ) → value-end-lts.Need-returns (
 ) (value-end-at t) value-end.Post
 value-end-returns t c = sym (value-none _ _ _ (c .if1 .taken))
 
--- src/walk.rt:114:13
 value-end-shared-slice-read-c : (t : ℕ) → value-end-lts.Need-shared-slice-read-c (
   integer-end-reads.Asked,
   integer-end-reads.Learnt,
@@ -384,7 +353,6 @@ value-end-shared-slice-read-c : (t : ℕ) → value-end-lts.Need-shared-slice-re
 ) (value-end-at t) value-end.Post
 value-end-shared-slice-read-c t c = search needs
 
--- src/walk.rt:116:31
 value-end-add-integer-end : (t : ℕ) → value-end-lts.Need-add-integer-end (
   integer-end-reads.Asked,
   integer-end-reads.Learnt,
@@ -397,7 +365,6 @@ value-end-add-integer-end : (t : ℕ) → value-end-lts.Need-add-integer-end (
 ) (value-end-at t) value-end.Post
 value-end-add-integer-end t c = search needs
 
--- src/walk.rt:116:9
 value-end-integer-end-requires : (t : ℕ) → value-end-lts.Need-integer-end-requires (
   integer-end-reads.Asked,
   integer-end-reads.Learnt,
@@ -410,7 +377,6 @@ value-end-integer-end-requires : (t : ℕ) → value-end-lts.Need-integer-end-re
 ) (value-end-at t) value-end.Post
 value-end-integer-end-requires t c κs = search needs
 
--- src/walk.rt:116:9
 value-end-returns-2 : (t : ℕ) → value-end-lts.Need-returns-2 (
   integer-end-reads.Asked,
   integer-end-reads.Learnt,
@@ -423,7 +389,6 @@ value-end-returns-2 : (t : ℕ) → value-end-lts.Need-returns-2 (
 ) (value-end-at t) value-end.Post
 value-end-returns-2 t c = sym (value-integer _ _ (c .before .before .before .if1 .left) _ (c .before .if2 .taken) ∙ sym (c .integer-end .ensures))
 
--- src/walk.rt:120:13
 value-end-returns-3 : (t : ℕ) → value-end-lts.Need-returns-3 (
   integer-end-reads.Asked,
   integer-end-reads.Learnt,
@@ -436,7 +401,6 @@ value-end-returns-3 : (t : ℕ) → value-end-lts.Need-returns-3 (
 ) (value-end-at t) value-end.Post
 value-end-returns-3 t c = sym (value-list-deep _ _ (c .before .before .before .before .if1 .left) (c .before .before .if2 .left) _ (c .before .if3 .taken) (c .if4 .taken))
 
--- src/walk.rt:122:28
 value-end-add-list-end : (t : ℕ) → value-end-lts.Need-add-list-end (
   integer-end-reads.Asked,
   integer-end-reads.Learnt,
@@ -449,7 +413,6 @@ value-end-add-list-end : (t : ℕ) → value-end-lts.Need-add-list-end (
 ) (value-end-at t) value-end.Post
 value-end-add-list-end t c = search needs
 
--- src/walk.rt:122:36
 value-end-sub-list-end : (t : ℕ) → value-end-lts.Need-sub-list-end (
   integer-end-reads.Asked,
   integer-end-reads.Learnt,
@@ -462,7 +425,6 @@ value-end-sub-list-end : (t : ℕ) → value-end-lts.Need-sub-list-end (
 ) (value-end-at t) value-end.Post
 value-end-sub-list-end t c = omega arith
 
--- src/walk.rt:122:9
 value-end-list-end-requires : (t : ℕ) → value-end-lts.Need-list-end-requires (
   integer-end-reads.Asked,
   integer-end-reads.Learnt,
@@ -475,7 +437,6 @@ value-end-list-end-requires : (t : ℕ) → value-end-lts.Need-list-end-requires
 ) (value-end-at t) value-end.Post
 value-end-list-end-requires t c κs = (omega arith, tt)
 
--- src/walk.rt:122:9
 value-end-returns-4 : (t : ℕ) → value-end-lts.Need-returns-4 (
   integer-end-reads.Asked,
   integer-end-reads.Learnt,
@@ -488,7 +449,6 @@ value-end-returns-4 : (t : ℕ) → value-end-lts.Need-returns-4 (
 ) (value-end-at t) value-end.Post
 value-end-returns-4 t c = sym (value-list _ _ (c .before .before .before .before .before .if1 .left) (c .before .before .before .if2 .left) _ (c .before .before .if3 .taken) (c .before .if4 .left) ∙ sym (c .list-end .ensures))
 
--- src/walk.rt:126:13
 value-end-returns-5 : (t : ℕ) → value-end-lts.Need-returns-5 (
   integer-end-reads.Asked,
   integer-end-reads.Learnt,
@@ -501,7 +461,6 @@ value-end-returns-5 : (t : ℕ) → value-end-lts.Need-returns-5 (
 ) (value-end-at t) value-end.Post
 value-end-returns-5 t c = sym (value-dictionary-deep _ _ (c .before .before .before .before .before .if1 .left) (c .before .before .before .if2 .left) (c .before .before .if3 .left) _ (c .before .if5 .taken) (c .if6 .taken))
 
--- src/walk.rt:128:34
 value-end-add-dictionary-end : (t : ℕ) → value-end-lts.Need-add-dictionary-end (
   integer-end-reads.Asked,
   integer-end-reads.Learnt,
@@ -514,7 +473,6 @@ value-end-add-dictionary-end : (t : ℕ) → value-end-lts.Need-add-dictionary-e
 ) (value-end-at t) value-end.Post
 value-end-add-dictionary-end t c = search needs
 
--- src/walk.rt:128:42
 value-end-sub-dictionary-end : (t : ℕ) → value-end-lts.Need-sub-dictionary-end (
   integer-end-reads.Asked,
   integer-end-reads.Learnt,
@@ -527,7 +485,6 @@ value-end-sub-dictionary-end : (t : ℕ) → value-end-lts.Need-sub-dictionary-e
 ) (value-end-at t) value-end.Post
 value-end-sub-dictionary-end t c = omega arith
 
--- src/walk.rt:128:9
 value-end-dictionary-end-requires : (t : ℕ) → value-end-lts.Need-dictionary-end-requires (
   integer-end-reads.Asked,
   integer-end-reads.Learnt,
@@ -540,7 +497,6 @@ value-end-dictionary-end-requires : (t : ℕ) → value-end-lts.Need-dictionary-
 ) (value-end-at t) value-end.Post
 value-end-dictionary-end-requires t c κs = (omega arith, tt)
 
--- src/walk.rt:128:9
 value-end-returns-6 : (t : ℕ) → value-end-lts.Need-returns-6 (
   integer-end-reads.Asked,
   integer-end-reads.Learnt,
@@ -553,7 +509,6 @@ value-end-returns-6 : (t : ℕ) → value-end-lts.Need-returns-6 (
 ) (value-end-at t) value-end.Post
 value-end-returns-6 t c = sym (value-dictionary _ _ (c .before .before .before .before .before .before .if1 .left) (c .before .before .before .before .if2 .left) (c .before .before .before .if3 .left) _ (c .before .before .if5 .taken) (c .before .if6 .left) ∙ sym (c .dictionary-end .ensures))
 
--- src/walk.rt:130:5
 value-end-string-end-requires : (t : ℕ) → value-end-lts.Need-string-end-requires (
   integer-end-reads.Asked,
   integer-end-reads.Learnt,
@@ -566,7 +521,6 @@ value-end-string-end-requires : (t : ℕ) → value-end-lts.Need-string-end-requ
 ) (value-end-at t) value-end.Post
 value-end-string-end-requires t c κs = search needs
 
--- src/walk.rt:108:1
 value-end-returns-7 : (t : ℕ) → value-end-lts.Need-returns-7 (
   integer-end-reads.Asked,
   integer-end-reads.Learnt,

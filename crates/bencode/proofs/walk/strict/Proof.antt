@@ -1,57 +1,42 @@
+-- A dictionary whose walk ends where the bytes end.
 use borrow.Author.Tests.{eq-eqb, ne-eqb}
 use Rattle.bencode.proofs.Walking.{strict-empty, strict-other, strict-dictionary}
-use native.Mathlib.Omega.{arith}
-use Prim.Native.Nat.{ℕ, _+_, _-_, _*_, _≤_, _<_, _/_, _%_, _^_}
-use lib.ListN.{length, getD, set, take, drop}
-use mathlib.Core.Path.{_≡_, refl, ap, sym, _∙_}
+use Prim.Native.Nat.{_-_}
+use mathlib.Core.Path.{sym, _∙_}
 use borrow.Author.Needs.{needs}
 use Rattle.bencode.proofs.walk.strict.Statement.{statement}
 use Rattle.bencode.proofs.walk.strict.Tie as tie
-use Rattle.bencode.proofs.walk.strict.Reads as reads
-use Rattle.bencode.proofs.walk.strict.Lts as lts
-use Rattle.bencode.proofs.walk.value_end.Reads as value-end-reads
 
--- src/walk.rt:138:9
 returns : tie.Need-returns
 returns c = sym (strict-empty _ (c .if1 .taken))
 
--- src/walk.rt:140:8
 shared-slice-read-if2 : tie.Need-shared-slice-read-if2
 shared-slice-read-if2 c = search needs
 
--- src/walk.rt:141:9
 returns-2 : tie.Need-returns-2
 returns-2 c = sym (strict-other _ (c .if2 .taken))
 
--- src/walk.rt:143:11
 value-end-requires : tie.Need-value-end-requires
 value-end-requires c κs = search needs
 
--- src/walk.rt:144:27
 enum-told : tie.Need-enum-told
 enum-told c = search needs
 
--- src/walk.rt:145:28
 enum-told-2 : tie.Need-enum-told-2
 enum-told-2 c = search needs
 
--- src/walk.rt:146:22
 enum-known-k : tie.Need-enum-known-k
 enum-known-k c = search needs
 
--- src/walk.rt:134:1
 returns-3 : tie.Need-returns-3
 returns-3 c = sym (strict-dictionary _ _ (c .before .before .before .if2 .left) (sym (c .before .before .value-end .ensures) ∙ c .enum-told .given .1))
 
--- src/walk.rt:134:1
 returns-4 : tie.Need-returns-4
 returns-4 c = sym (strict-dictionary _ _ (c .before .before .before .if2 .left) (sym (c .before .before .value-end .ensures) ∙ c .enum-told2 .given .1))
 
--- src/walk.rt:134:1
 returns-5 : tie.Need-returns-5
 returns-5 c = sym (strict-dictionary _ _ (c .before .before .before .before .before .if2 .left) (sym (c .before .before .before .before .value-end .ensures) ∙ c .before .before .k .given .1) ∙ simp (eq-eqb _ _ (c .if3 .taken)))
 
--- src/walk.rt:134:1
 returns-6 : tie.Need-returns-6
 returns-6 c = sym (strict-dictionary _ _ (c .before .before .before .before .before .if2 .left) (sym (c .before .before .before .before .value-end .ensures) ∙ c .before .before .k .given .1) ∙ simp (ne-eqb _ _ (c .if3 .left)))
 
