@@ -24,6 +24,7 @@ use Rattle.bencode.specs.declared.walk.Walked.the-variants.{Past}
 
 -- ---- numbers
 
+-- a number by its last digit
 pub div-mod : (n : ℕ) → (n / 10 * 10 + n % 10 ≡ n) × (n % 10 < 10)
 div-mod n = (div-add-mod' n 10, mod-lt n (omega arith))
 
@@ -67,6 +68,7 @@ first-digit (suc f) n h =
     let last = (digitZero + n % 10) ∷ [] in
     (w .0, w .1 ++ last, ap (λ (ds : List ℕ). ds ++ last) (w .2), w .3, w .4, λ z. w .5 (omega (arith, dm .0, dm .1))))
 
+-- a number in decimal begins with a digit, and with 0 only if it is 0
 pub decimal-first : (n : ℕ) → BeginsWithDigit (decimal n) n
 decimal-first n = first-digit (suc n) n (omega arith)
 
@@ -86,6 +88,7 @@ module _ (stop : ℕ) (big : digitNine < stop) (at : ℕ) (r : List ℕ) where
   unfolding readDigits
   stop-read n k = simp (eq-eqb stop stop refl)
 
+  -- a number that was written is read back
   pub number-read : (n : ℕ) → readNumber stop at (decimal n ++ stop ∷ r) ≡ Is n (at + length (decimal n) + 1)
   number-read n = by-size n refl
     where
@@ -105,6 +108,7 @@ content-read end n k h = simp (le-leb n (end - k) h)
 abbrev pub contentStart : ℕ → List ℕ → ℕ
 contentStart at b = at + length (decimal (length b)) + 1
 
+-- so is a string
 pub string-read : (at : ℕ) (b r : List ℕ) → readString at (encodeString b ++ r) ≡ Content (contentStart at b) (at + length (encodeString b))
 string-read at b r =
     let n = length b in
@@ -128,6 +132,7 @@ content-bytes at b r =
     let s : encodeString b ++ r ≡ (d ++ colon ∷ []) ++ (b ++ r) = simp append-assoc in
     rw (o, p, s) (rw (drop-append-seam (d ++ colon ∷ []) (b ++ r)) (take-append-seam b r))
 
+-- and an integer, past its `i`
 pub signed-read : (at : ℕ) (minus : Bool) (n : ℕ) (r : List ℕ) → IntegerFits minus n
     → readSigned at (sign minus ++ (decimal n ++ letterE ∷ r)) ≡ Whole minus n (at + length (sign minus) + length (decimal n) + 1)
 unfolding readSigned
@@ -147,10 +152,12 @@ signed-read at false n r h =
     no-minus : (ds : List ℕ) → BeginsWithDigit ds n → readSigned at (ds ++ letterE ∷ r) ≡ positive (bounded (readNumber letterE at (ds ++ letterE ∷ r)))
     no-minus ds w = unfold BeginsWithDigit in rw (w .2) (simp (ne-eqb (w .0) minusSign (λ q. omega (arith, w .3))))
 
+-- an integer's encoding, with what stands behind it
 pub integer-bytes : (minus : Bool) (n : ℕ) (r : List ℕ) → encode (integer minus n) ++ r ≡ letterI ∷ (sign minus ++ (decimal n ++ letterE ∷ r))
 unfolding encode
 integer-bytes minus n r = simp append-assoc
 
+-- and its length
 pub integer-length : (minus : Bool) (n : ℕ) → length (encode (integer minus n)) ≡ 1 + length (sign minus) + length (decimal n) + 1
 unfolding encode
 integer-length minus n =
@@ -158,6 +165,7 @@ integer-length minus n =
     let lb = length-append (decimal n) (letterE ∷ []) in
     omega arith
 
+-- an integer that was written is read back
 pub integer-read : (at : ℕ) (minus : Bool) (n : ℕ) (r : List ℕ) → IntegerFits minus n
     → readInteger at (encode (integer minus n) ++ r) ≡ Whole minus n (at + length (encode (integer minus n)))
 unfolding readInteger
@@ -165,10 +173,12 @@ integer-read at minus n r h =
     let o : at + 1 + length (sign minus) + length (decimal n) + 1 ≡ at + length (encode (integer minus n)) = omega (arith, integer-length minus n) in
     rw (integer-bytes minus n r) (signed-read (at + 1) minus n r h ∙ ap (Whole minus n) o)
 
+-- a list's encoding
 pub list-bytes : (vs : Items) → encode (list vs) ≡ letterL ∷ encodeItems vs
 unfolding encode
 list-bytes vs = refl
 
+-- a dictionary's encoding
 pub dictionary-bytes : (es : Entries) → encode (dictionary es) ≡ letterD ∷ encodeEntries es
 unfolding encode
 dictionary-bytes es = refl
@@ -191,10 +201,12 @@ module _ (l at : ℕ) where
       by-level c cs h g zero = unfold walkValue byFirst in simp (ne-eqb c letterI (λ q. omega arith), ne-eqb c letterL (λ q. omega arith), ne-eqb c letterD (λ q. omega arith))
       by-level c cs h g (suc m) = unfold walkValue byFirst in simp (ne-eqb c letterI (λ q. omega arith), ne-eqb c letterL (λ q. omega arith), ne-eqb c letterD (λ q. omega arith))
 
+  -- an `l` begins a list
   pub walk-list : (xs : List ℕ) → walkValue (suc l) at (letterL ∷ xs) ≡ walkList (walkValue l) (at + 1) xs
   unfolding walkValue byFirst
   walk-list xs = refl
 
+  -- a `d` begins a dictionary
   pub walk-dictionary : (xs : List ℕ) → walkValue (suc l) at (letterD ∷ xs) ≡ walkDictionary (walkValue l) (at + 1) xs
   unfolding walkValue byFirst
   walk-dictionary xs = refl
@@ -207,9 +219,11 @@ digits-no-end : (ds ys : List ℕ) (n : ℕ) → BeginsWithDigit ds n → NoEnd 
 unfolding BeginsWithDigit NoEnd endOr
 digits-no-end ds ys n w at xs o = rw (w .2) (simp (ne-eqb (w .0) letterE (λ q. omega (arith, w .4))))
 
+-- a string's begins with a digit
 pub string-no-end : (b : List ℕ) → NoEnd (encodeString b)
 string-no-end b = digits-no-end (decimal (length b)) (colon ∷ b) (length b) (decimal-first (length b))
 
+-- a value's with a digit or one of three letters
 pub value-no-end : (v : Value) → NoEnd (encode v)
 unfolding encode
 value-no-end (integer minus n) = unfold NoEnd endOr in λ at xs w. refl
@@ -221,6 +235,7 @@ value-no-end (dictionary es) = unfold NoEnd endOr in λ at xs w. refl
 pub string-some : (b : List ℕ) → 0 < length (encodeString b)
 string-some b = omega (arith, length-append (decimal (length b)) (colon ∷ b))
 
+-- nor is that of a value
 pub value-some : (v : Value) → 0 < length (encode v)
 unfolding encode
 value-some (integer minus n) = omega arith
@@ -240,6 +255,7 @@ pub items-one : (value : ℕ → List ℕ → Walked) (f at : ℕ) (e r : List �
 unfolding walkItems NoEnd
 items-one value f at e r n q = n at r _ ∙ rw q (rw (past-part at e r) refl)
 
+-- a key that ascends is read back
 pub key-read : (at : ℕ) (k r : List ℕ) (j : KeyBefore) → ascends j k ≡ true → readKey j at (encodeString k ++ r) ≡ Content (contentStart at k) (at + length (encodeString k))
 key-read at k r j a = ap (inOrder j at (encodeString k ++ r)) (string-read at k r) ∙ rw (content-bytes at k r, a) refl
 

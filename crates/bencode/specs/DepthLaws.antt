@@ -32,14 +32,17 @@ pub data Stem : ℕ → Type 0 where
   inList : {l : ℕ} → Items → Stem l → Stem (suc l)
   inDictionary : {l : ℕ} → Entries → List ℕ → Stem l → Stem (suc l)
 
+-- items, with no `e` behind them
 unfoldable pub begunItems : Items → List ℕ
 begunItems noItems = []
 begunItems (item v vs) = encode v ++ begunItems vs
 
+-- entries, with no `e` behind them
 unfoldable pub begunEntries : Entries → List ℕ
 begunEntries noEntries = []
 begunEntries (entry k v es) = encodeString k ++ (encode v ++ begunEntries es)
 
+-- the key before what follows the entries
 unfoldable pub lastKey : KeyBefore → Entries → KeyBefore
 lastKey j noEntries = j
 lastKey j (entry k v es) = lastKey (after k) es
@@ -56,6 +59,7 @@ StemValid here = Unit {0}
 StemValid (inList {l} vs st) = ItemsValid vs l × StemValid st
 StemValid (inDictionary {l} es k st) = EntriesValid es none l × (ascends (lastKey none es) k ≡ true) × StemValid st
 
+-- a byte that opens a level
 abbrev pub Opening : ℕ → Type 0
 Opening c = (c ≡ letterL) ⊎ (c ≡ letterD)
 
@@ -123,6 +127,7 @@ unfolding walkValue byFirst
 none-left at c r (inl e) = rw e
 none-left at c r (inr e) = rw e
 
+-- a stem and an opening byte are too deep, whatever stands behind
 pub deep-complete : {l : ℕ} (st : Stem l) (at c : ℕ) (r : List ℕ) → StemValid st → Opening c → walkValue l at (begun st ++ c ∷ r) ≡ TooDeep
 unfolding begun StemValid
 deep-complete here at c r h o = none-left at c r o
@@ -314,6 +319,7 @@ deep-is (suc l) at xs =
     (λ cs e. rw e (around (InItems l) (OpensTooDeep (suc l)) cs (letterL ∷ cs) (walkList (walkValue l) (at + 1) cs) (list-around l cs) (items-is l (deep-is l) (suc (length cs)) (at + 1) cs)))
     (λ cs e. rw e (around (InEntries l none) (OpensTooDeep (suc l)) cs (letterD ∷ cs) (walkDictionary (walkValue l) (at + 1) cs) (dictionary-around l cs) (entries-is l (deep-is l) (suc (length cs)) none (at + 1) cs)))
 
+-- what the walk finds too deep begins with a stem and an opening byte
 pub deep-sound : (l at : ℕ) (xs : List ℕ) → walkValue l at xs ≡ TooDeep → OpensTooDeep l xs
 deep-sound l at xs e = rw e at (deep-is l at xs)
 
@@ -358,14 +364,17 @@ mutual
 
 -- ---- a stem can go on: with a value in its place it is the beginning of an encoding
 
+-- items with one more at the end
 unfoldable pub itemsThen : Items → Value → Items
 itemsThen noItems v = item v noItems
 itemsThen (item w vs) v = item w (itemsThen vs v)
 
+-- entries with one more at the end
 unfoldable pub entriesThen : Entries → List ℕ → Value → Entries
 entriesThen noEntries k v = entry k v noEntries
 entriesThen (entry j w es) k v = entry j w (entriesThen es k v)
 
+-- a stem with a value in its place
 unfoldable pub filled : {l : ℕ} → Stem l → Value → Value
 filled here v = v
 filled (inList vs st) v = list (itemsThen vs (filled st v))
@@ -390,6 +399,7 @@ entries-then-bytes (entry j w es) k v =
     ∙ ap (λ (x : List ℕ). encodeString j ++ x) (sym (append-assoc (encode w) (begunEntries es) t))
     ∙ sym (append-assoc (encodeString j) (encode w ++ begunEntries es) t)
 
+-- its encoding is the bytes of the stem, the value, and what closes the stem
 pub filled-bytes : {l : ℕ} (st : Stem l) (v : Value) → encode (filled st v) ≡ begun st ++ (encode v ++ closing l)
 unfolding filled begun closing
 filled-bytes here v = sym (append-nil (encode v))
@@ -446,11 +456,13 @@ more-levels v l m h p = let e : l + (m - l) ≡ m = omega arith in rw e at (by-c
     by-count zero = let e : l + 0 ≡ l = omega arith in rw e p
     by-count (suc d) = let e : l + suc d ≡ suc (l + d) = omega arith in rw e (deeper v (l + d) (by-count d))
 
+-- the same for entries
 pub entries-more-levels : (es : Entries) (j : KeyBefore) (l m : ℕ) → l ≤ m → EntriesValid es j l → EntriesValid es j m
 unfolding Valid
 entries-more-levels noEntries j l m h p = tt
 entries-more-levels (entry k v es) j l m h p = (p .0, more-levels v l m h (p .1), entries-more-levels es (after k) l m h (p .2))
 
+-- and for items
 pub items-more-levels : (vs : Items) (l m : ℕ) → l ≤ m → ItemsValid vs l → ItemsValid vs m
 unfolding Valid
 items-more-levels noItems l m h p = tt
@@ -466,12 +478,14 @@ unfolding Valid entriesThen lastKey
 entries-then-valid noEntries j k v l h a g = (a, g, tt)
 entries-then-valid (entry i w es) j k v l h a g = (h .0, h .1, entries-then-valid es (after i) k v l (h .2) a g)
 
+-- with a value that opens no level a stem is valid with its levels
 pub filled-valid : {l : ℕ} (st : Stem l) (v : Value) → StemValid st → Valid v 0 → Valid (filled st v) l
 unfolding filled StemValid Valid
 filled-valid here v h g = g
 filled-valid (inList {l} vs st) v h g = items-then-valid vs (filled st v) l (h .0) (filled-valid st v (h .1) g)
 filled-valid (inDictionary {l} es k st) v h g = entries-then-valid es none k (filled st v) l (h .0) (h .1) (filled-valid st v (h .2) g)
 
+-- with a value that opens one it is valid with one level more
 pub filled-deeper : {l : ℕ} (st : Stem l) (v : Value) → StemValid st → Valid v 1 → Valid (filled st v) (suc l)
 unfolding filled StemValid Valid
 filled-deeper here v h g = g

@@ -72,6 +72,7 @@ bounded-in : (at end : ℕ) (w : Number) → NumberIn at end w → NumberIn at e
 bounded-in at end NoNumber p = tt
 bounded-in at end (Is n k) p = cond-both (NumberIn at end) (leb n (2 ^ 63)) _ _ p tt
 
+-- a number ends past its start, within the bytes
 pub number-ends : (stop at : ℕ) (s : List ℕ) (n k : ℕ) → readNumber stop at (drop at s) ≡ Is n k → (at < k) × (k ≤ length s)
 number-ends stop at s n k e =
     let p : NumberIn at (at + length (drop at s)) (Is n k) = rw e at (number-in stop at (drop at s)) in
@@ -92,6 +93,7 @@ content-in at end (Is n k) p =
 string-in : (at : ℕ) (xs : List ℕ) → StringIn at (at + length xs) (readString at xs)
 string-in at xs = content-in at (at + length xs) (readNumber colon at xs) (number-in colon at xs)
 
+-- a string ends past its start, within the bytes, and its content lies in it
 pub string-ends : (at : ℕ) (s : List ℕ) (a b : ℕ) → readString at (drop at s) ≡ Content a b → (at < a) × (a ≤ b) × (b ≤ length s)
 string-ends at s a b e =
     let p : StringIn at (at + length (drop at s)) (Content a b) = rw e at (string-in at (drop at s)) in
@@ -209,6 +211,7 @@ value-in (suc l) at xs =
     (items-in (walkValue l) (value-in l) (suc (length (drop 1 xs))) (at + 1) (drop 1 xs))
     (entries-in (walkValue l) (value-in l) (suc (length (drop 1 xs))) none (at + 1) (drop 1 xs))
 
+-- a value ends past its start, within the bytes
 pub value-ends : (levels at : ℕ) (s : List ℕ) (k : ℕ) → walkValue levels at (drop at s) ≡ Past k → (at < k) × (k ≤ length s)
 value-ends levels at s k e =
     let p : WalkedIn at (at + length (drop at s)) (Past k) = rw e at (value-in levels at (drop at s)) in

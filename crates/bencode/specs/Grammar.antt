@@ -60,6 +60,7 @@ decimalIn (suc steps) n = cond (ltb n 10) ((digitZero + n) ∷ []) (decimalIn st
 abbrev pub decimal : ℕ → List ℕ
 decimal n = decimalIn (suc n) n
 
+-- a minus, or nothing
 abbrev pub sign : Bool → List ℕ
 sign true = minusSign ∷ []
 sign false = []
@@ -95,6 +96,7 @@ pub data KeyBefore : Type 0 where
   none : KeyBefore
   after : List ℕ → KeyBefore
 
+-- whether a key stands after the key before
 abbrev pub ascends : KeyBefore → List ℕ → Bool
 ascends none k = true
 ascends (after j) k = precedes j k

@@ -25,6 +25,7 @@ unfoldable pub isDictionary : List ℕ → Bool
 isDictionary [] = false
 isDictionary (c ∷ cs) = eqb c letterD
 
+-- the part that the walk went over
 abbrev pub itemTo : ℕ → Walked → Found
 itemTo at Broken = Missing
 itemTo at TooDeep = Missing
@@ -34,11 +35,13 @@ itemTo at (Past k) = Part at k
 unfoldable pub readItem : ℕ → List ℕ → Found
 readItem at xs = itemTo at (walkValue maxLevels at xs)
 
+-- the entry with key a to b, whose value the walk went over
 abbrev pub entryTo : ℕ → ℕ → Walked → Entry
 entryTo a b Broken = NoEntry
 entryTo a b TooDeep = NoEntry
 entryTo a b (Past k) = Keyed a b k
 
+-- the entry with this key
 abbrev pub entryWith : ℕ → List ℕ → ByteString → Entry
 entryWith at xs NoString = NoEntry
 entryWith at xs (Content a b) = entryTo a b (walkValue maxLevels b (drop (b - at) xs))
@@ -47,6 +50,7 @@ entryWith at xs (Content a b) = entryTo a b (walkValue maxLevels b (drop (b - at
 unfoldable pub readEntry : ℕ → List ℕ → Entry
 readEntry at xs = entryWith at xs (readString at xs)
 
+-- what follows from an entry, if there is one
 abbrev pub fromEntry : Entry → (ℕ → ℕ → ℕ → Found) → Found
 fromEntry NoEntry go = Missing
 fromEntry (Keyed a b k) go = go a b k

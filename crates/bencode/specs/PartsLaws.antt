@@ -32,6 +32,7 @@ use Rattle.bencode.specs.declared.parts.Entry.the-variants.{Keyed, NoEnt
 
 -- ---- where they lie
 
+-- an item lies where it was asked for, within the bytes
 pub item-ends : (at : ℕ) (s : List ℕ) (a k : ℕ) → readItem at (drop at s) ≡ Part a k → (a ≡ at) × (at < k) × (k ≤ length s)
 unfolding readItem
 item-ends at s a k e = by-walk (walkValue maxLevels at (drop at s)) refl e
@@ -66,6 +67,7 @@ entry-in at s = by-key (readString at (drop at s)) refl
         by-value p TooDeep f = tt
         by-value p (Past k) f = let r = value-ends maxLevels b s k f in (p .0, p .1, r .0, r .1)
 
+-- an entry lies past the position, key before value, within the bytes
 pub entry-ends : (at : ℕ) (s : List ℕ) (a b k : ℕ) → readEntry at (drop at s) ≡ Keyed a b k → (at < a) × (a ≤ b) × (b < k) × (k ≤ length s)
 entry-ends at s a b k e = rw e at (entry-in at s)
 
@@ -96,6 +98,7 @@ find-in key (suc f) at s = by-entry (readEntry at (drop at s)) refl (λ i. find-
             let z = p .2 in
             rw (drop-further s at k (omega arith)) (further at k (omega arith) (findIn key f k (drop k s)) (ih k))
 
+-- the value of a key lies inside the dictionary, within the bytes
 pub find-ends : (key : List ℕ) (at : ℕ) (s : List ℕ) (a b : ℕ) → findKey key at (drop at s) ≡ Part a b → (at < a) × (a < b) × (b ≤ length s)
 unfolding findKey
 find-ends key at s a b e = by-first (isDictionary (drop at s)) e
@@ -135,6 +138,7 @@ one-value v w e = unique v w [] [] (ap (λ (l : List ℕ). l ++ []) e) .0
 pub value-alone : (v : Value) (l : ℕ) → Valid v l → walkValue l 0 (encode v) ≡ Past (length (encode v))
 value-alone v l h = let o : 0 + length (encode v) ≡ length (encode v) = omega arith in rw append-nil at (complete v l 0 [] h) ∙ ap Past o
 
+-- so the part of a value, read alone, is walked over to its end
 pub part-alone : (l at k : ℕ) (s : List ℕ) → walkValue l at (drop at s) ≡ Past k → walkValue l 0 (cut s at (k - at)) ≡ Past (length (cut s at (k - at)))
 part-alone l at k s e = let p = part-is l at k s e in rw (p .2) (value-alone (p .0) l (p .1))
 
@@ -147,6 +151,7 @@ integerOf at (string b) = NoInteger
 integerOf at (list vs) = NoInteger
 integerOf at (dictionary es) = NoInteger
 
+-- an integer is read as its value, and no other value as an integer
 pub integer-is : (v : Value) (l at : ℕ) (r : List ℕ) → Valid v l → readInteger at (encode v ++ r) ≡ integerOf at v
 unfolding Valid
 integer-is (integer minus n) l at r h = integer-read at minus n r h
@@ -165,12 +170,14 @@ stringOf at (string b) = Content (contentStart at b) (at + length (encodeString 
 stringOf at (list vs) = NoString
 stringOf at (dictionary es) = NoString
 
+-- a string is read as its content, and no other value as a string
 pub string-is : (v : Value) (at : ℕ) (r : List ℕ) → readString at (encode v ++ r) ≡ stringOf at v
 string-is (integer minus n) at r = unfold encode readNumber readDigits in refl
 string-is (string b) at r = unfold encode in string-read at b r
 string-is (list vs) at r = unfold encode readNumber readDigits in refl
 string-is (dictionary es) at r = unfold encode readNumber readDigits in refl
 
+-- the content is the string
 pub content-is : (s b r : List ℕ) (at : ℕ) → drop at s ≡ encodeString b ++ r → cut s (contentStart at b) (at + length (encodeString b) - contentStart at b) ≡ b
 content-is s b r at e =
     let la = length-append (decimal (length b)) (colon ∷ b) in
@@ -180,12 +187,14 @@ content-is s b r at e =
     let a : at + length (decimal (length b) ++ colon ∷ []) ≡ contentStart at b = omega arith in
     part-bytes s (contentStart at b) _ b r o (rw a at (after-part s at (decimal (length b) ++ colon ∷ []) (b ++ r) d))
 
+-- whether a value is a dictionary
 abbrev pub isDictionaryValue : Value → Bool
 isDictionaryValue (integer minus n) = false
 isDictionaryValue (string b) = false
 isDictionaryValue (list vs) = false
 isDictionaryValue (dictionary es) = true
 
+-- the first byte says so
 pub dictionary-is : (v : Value) (r : List ℕ) → isDictionary (encode v ++ r) ≡ isDictionaryValue v
 dictionary-is (integer minus n) r = unfold encode isDictionary in refl
 dictionary-is (string b) r =
@@ -198,6 +207,7 @@ dictionary-is (dictionary es) r = unfold encode isDictionary in refl
 
 -- ---- a list's items, where `at` has come to the items vs
 
+-- an item is found, its part is its encoding, and the other items follow
 pub item-is : (s : List ℕ) (at : ℕ) (v : Value) (vs : Items) (r : List ℕ) → drop at s ≡ encodeItems (item v vs) ++ r → Valid v maxLevels
     → (readItem at (drop at s) ≡ Part at (at + length (encode v))) × (cut s at (length (encode v)) ≡ encode v) × (drop (at + length (encode v)) s ≡ encodeItems vs ++ r)
 unfolding readItem encode
@@ -213,6 +223,7 @@ unfolding walkValue byFirst readNumber readDigits
 no-value zero at r = refl
 no-value (suc l) at r = refl
 
+-- there is none at the `e`
 pub item-none : (s : List ℕ) (at : ℕ) (r : List ℕ) → drop at s ≡ encodeItems noItems ++ r → readItem at (drop at s) ≡ Missing
 unfolding readItem encode
 item-none s at r e = rw e (ap (itemTo at) (no-value maxLevels at r))
@@ -230,12 +241,14 @@ entry-read at k r v h =
     ap (entryWith at (encodeString k ++ (encode v ++ r))) (string-read at k (encode v ++ r))
     ∙ rw (past-part at (encodeString k) (encode v ++ r), complete v maxLevels (valueStart at k) r h) refl
 
+-- an entry is found: its key, its value's part, and the other entries follow
 pub record EntryIs (s : List ℕ) (at : ℕ) (k : List ℕ) (v : Value) (es : Entries) (r : List ℕ) : Type 0 where
   pub read : readEntry at (drop at s) ≡ Keyed (contentStart at k) (valueStart at k) (valueStart at k + length (encode v))
   pub key : cut s (contentStart at k) (valueStart at k - contentStart at k) ≡ k
   pub value : cut s (valueStart at k) (length (encode v)) ≡ encode v
   pub next : drop (valueStart at k + length (encode v)) s ≡ encodeEntries es ++ r
 
+-- so it is, wherever an entry stands
 pub entry-is : (s : List ℕ) (at : ℕ) (k : List ℕ) (v : Value) (es : Entries) (r : List ℕ) → drop at s ≡ encodeEntries (entry k v es) ++ r → Valid v maxLevels → EntryIs s at k v es r
 unfolding encode
 entry-is s at k v es r e h =
@@ -249,6 +262,7 @@ entry-is s at k v es r e h =
       next = after-part s (valueStart at k) (encode v) (encodeEntries es ++ r) g;
     }
 
+-- there is none at the `e`
 pub entry-none : (s : List ℕ) (at : ℕ) (r : List ℕ) → drop at s ≡ encodeEntries noEntries ++ r → readEntry at (drop at s) ≡ NoEntry
 unfolding readEntry encode readNumber readDigits
 entry-none s at r e = rw e refl
@@ -288,6 +302,7 @@ found-entries key s (entry k v es) j (suc f) at r e h g =
     (rw (is-key, behind)
     (by-key s (valueStart at k) end v (same key k) (findIn key f end (drop end s)) (lookup key es) (rw size (w .value)) (found-entries key s es (after k) f end r (w .next) (h .2) fewer)))
 
+-- a search finds what the dictionary has for the key, and nothing where it has nothing
 pub find-is : (key s : List ℕ) (at : ℕ) (es : Entries) (r : List ℕ) → drop at s ≡ encode (dictionary es) ++ r → Valid (dictionary es) maxLevels
     → FoundIs s (findKey key at (drop at s)) (lookup key es)
 unfolding findKey Valid

@@ -46,10 +46,12 @@ contentIn end (Is n k) = cond (leb n (end - k)) (Content k (k + n)) NoString
 abbrev pub readString : ℕ → List ℕ → ByteString
 readString at xs = contentIn (at + length xs) (readNumber colon at xs)
 
+-- a number behind a minus
 abbrev pub negative : Number → Integer
 negative NoNumber = NoInteger
 negative (Is n k) = cond (eqb n 0) NoInteger (Whole true n k)
 
+-- a number without one
 abbrev pub positive : Number → Integer
 positive NoNumber = NoInteger
 positive (Is n k) = cond (ltb n (2 ^ 63)) (Whole false n k) NoInteger

@@ -141,6 +141,7 @@ bounded-sound stop at xs (Is n k) p = cond-case (BoundedIs stop at xs) (leb n (2
 
 -- ---- strings
 
+-- xs begin with the encoding of a string, whose content lies from a to b
 abbrev pub StringIs : ℕ → List ℕ → ByteString → Type 0
 StringIs at xs NoString = Unit {0}
 StringIs at xs (Content a b) = (k r : List ℕ) × (xs ≡ encodeString k ++ r) × (a ≡ contentStart at k) × (b ≡ at + length (encodeString k))
@@ -175,6 +176,7 @@ content-sound at xs (Is n k) p =
     cond-case (StringIs at xs) (leb n (at + length xs - k)) (Content k (k + n)) NoString
     (λ e. string-made at n k xs p (leb-true n (at + length xs - k) e)) (λ e. tt)
 
+-- what is read as a string is one
 pub string-sound : (at : ℕ) (xs : List ℕ) → StringIs at xs (readString at xs)
 string-sound at xs = content-sound at xs (readNumber colon at xs) (number-sound colon at xs)
 
@@ -219,6 +221,7 @@ signed-sound at (c ∷ cs) =
 -- ---- values, items and entries: the bytes begin with the encoding of one that is valid
 
 module _ {A : Type 0} (enc : A → List ℕ) (ok : A → Type 0) where
+  -- xs, which stand at `at`, begin with an encoding that ends at k
   pub record Begins (at : ℕ) (xs : List ℕ) (k : ℕ) : Type 0 where
     pub it : A
     pub rest : List ℕ
@@ -226,6 +229,7 @@ module _ {A : Type 0} (enc : A → List ℕ) (ok : A → Type 0) where
     pub valid : ok it
     pub ends : k ≡ at + length (enc it)
 
+  -- what the walk says
   abbrev pub WalkedIs : ℕ → List ℕ → Walked → Type 0
   WalkedIs at xs Broken = Unit {0}
   WalkedIs at xs TooDeep = Unit {0}
@@ -235,6 +239,7 @@ module _ {A : Type 0} (enc : A → List ℕ) (ok : A → Type 0) where
   pub rest-is : (at : ℕ) (xs : List ℕ) (k : ℕ) (b : Begins at xs k) → drop (k - at) xs ≡ b .rest
   rest-is at xs k b = rw (b .ends, b .bytes) (past-part at (enc (b .it)) (b .rest))
 
+-- and for values, items, entries
 abbrev pub ValueIs : ℕ → ℕ → List ℕ → Walked → Type 0
 ValueIs l = WalkedIs encode (λ v. Valid v l)
 
@@ -305,6 +310,7 @@ in-order-sound j at xs (Content a b) p =
     cond-case (KeyIs j at xs) (ascends j (between at xs a b)) (Content a b) NoString
     (λ e. (p .0, p .1, p .2, rw s at e, s, p .4)) (λ e. tt)
 
+-- what is read as a key is one, and ascends
 pub key-sound : (j : KeyBefore) (at : ℕ) (xs : List ℕ) → KeyIs j at xs (readKey j at xs)
 key-sound j at xs = in-order-sound j at xs (readString at xs) (string-sound at xs)
 
@@ -402,6 +408,7 @@ first-byte-sound l at (c ∷ cs) ls ds p q =
     (λ g. rw (eqb-true c letterD g) (q cs (ap (λ (x : ℕ). x ∷ cs) (eqb-true c letterD g))))
     (λ g. string-value l at (c ∷ cs) (readString at (c ∷ cs)) (string-sound at (c ∷ cs)))))
 
+-- what the walk says of a value, in each of its cases
 pub value-sound : (l at : ℕ) (xs : List ℕ) → ValueIs l at xs (walkValue l at xs)
 unfolding walkValue
 value-sound zero at xs = first-byte-sound 0 at xs TooDeep TooDeep (λ cs e. tt) (λ cs e. tt)
@@ -410,5 +417,6 @@ value-sound (suc l) at xs =
     (λ cs e. rw e (list-value l at cs (walkList (walkValue l) (at + 1) cs) (items-sound l (value-sound l) (suc (length cs)) (at + 1) cs)))
     (λ cs e. rw e (dictionary-value l at cs (walkDictionary (walkValue l) (at + 1) cs) (entries-sound l (value-sound l) (suc (length cs)) none (at + 1) cs)))
 
+-- what the walk goes over is the encoding of a valid value
 pub sound : (l at : ℕ) (xs : List ℕ) (k : ℕ) → walkValue l at xs ≡ Past k → Begins encode (λ v. Valid v l) at xs k
 sound l at xs k e = rw e at (value-sound l at xs)

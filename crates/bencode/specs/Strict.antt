@@ -39,6 +39,7 @@ pub record TooDeepFirst (s : List ℕ) : Type 0 where
   pub levels : ℕ
   pub deeper-can : CanGoOn levels (begun ++ byte ∷ [])
 
+-- the number, from what the walk says of so many bytes
 abbrev pub wholeWalk : ℕ → Walked → ℕ
 wholeWalk size Broken = notStrict
 wholeWalk size TooDeep = nestedTooDeeply

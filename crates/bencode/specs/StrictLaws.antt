@@ -34,6 +34,7 @@ encoded-walk l s p =
 
 -- ---- 0
 
+-- the encoding of a valid dictionary is taken
 pub taken : (s : List ℕ) → Encoded maxLevels s → strictness s ≡ 0
 unfolding encode
 taken s p =
@@ -63,6 +64,7 @@ is-dictionary (string b) l cs r e h = absurd (not-a-string b r letterD cs (omega
 is-dictionary (list vs) l cs r e h = absurd (other-letter letterD letterL _ _ e (λ z. omega arith))
 is-dictionary (dictionary es) l cs r e h = (es, h, refl)
 
+-- and nothing else is
 pub taken-only : (s : List ℕ) → strictness s ≡ 0 → Encoded maxLevels s
 unfolding strictness
 taken-only [] e = absurd (omega arith)
@@ -154,6 +156,7 @@ opens-deep cs d =
       deeper-can = stem-deeper st cs (c ∷ d .2) c (d .5) h (d .4);
     }
 
+-- 21 is given where the depth is wrong first
 pub deep-first : (s : List ℕ) → strictness s ≡ nestedTooDeeply → TooDeepFirst s
 unfolding strictness
 deep-first [] e = absurd (omega arith)
@@ -198,18 +201,19 @@ stem-whole st s cs x y c e f h o =
     first-letter (inList vs st) cs x c y e = unfold begun in absurd (other-letter letterD letterL _ _ e (λ z. omega arith))
     first-letter (inDictionary es k st) cs x c y e = unfold begun in (_, refl)
 
-pub deep-only : (s : List ℕ) → TooDeepFirst s → strictness s ≡ nestedTooDeeply
-deep-only s t =
+-- where the depth is wrong first every level is open, and the byte is an `l` or a `d`
+pub deep-where : (s : List ℕ) (t : TooDeepFirst s) → (st : Stem maxLevels) × StemValid st × (t .begun ≡ begun st) × Opening (t .byte)
+deep-where s t =
     let can = t .deeper-can in
     let es = can .1 .0 in
     elim (fits-or-opens (dictionary es) (t .levels) maxLevels (can .1 .1)) [
       | inl h ↦ absurd (t .not-with-it (can .0, (es, h, can .1 .2)))
-      | inr f ↦ too-deep s t es (can .0) (can .1 .2) (f [])
+      | inr f ↦ at-the-stem es (can .0) (can .1 .2) (f [])
     ]
   where
-    too-deep : (s : List ℕ) (t : TooDeepFirst s) (es : Entries) (q : List ℕ) → (t .begun ++ t .byte ∷ []) ++ q ≡ encode (dictionary es)
-        → OpensTooDeep maxLevels (encode (dictionary es) ++ []) → strictness s ≡ nestedTooDeeply
-    too-deep s t es q e d =
+    at-the-stem : (es : Entries) (q : List ℕ) → (t .begun ++ t .byte ∷ []) ++ q ≡ encode (dictionary es)
+        → OpensTooDeep maxLevels (encode (dictionary es) ++ []) → (st : Stem maxLevels) × StemValid st × (t .begun ≡ begun st) × Opening (t .byte)
+    at-the-stem es q e d =
         let st = d .0 in
         let c = d .1 in
         let r = d .2 in
@@ -222,12 +226,23 @@ deep-only s t =
           | inl u ↦ absurd (stem-no-further st c (u .0 ++ t .strict-before .0) h o (rw (u .1, append-assoc) at (t .strict-before .1)))
           | inr w ↦ elim w [
             | inl u ↦ absurd (t .not-with-it (shorter maxLevels (t .begun) (u .0) (t .byte) (rw (u .1) at (stem-goes-on st (encodeEntries es) (c ∷ r) front h))))
-            | inr u ↦ stem-whole st s (encodeEntries es) (c ∷ r) (t .rest) c front (t .bytes ∙ rw (u .0, u .1) refl) h o
+            | inr u ↦ (st, h, u .0, rw (u .1) o)
           ]
         ]
 
+-- and there 21 is given
+pub deep-only : (s : List ℕ) → TooDeepFirst s → strictness s ≡ nestedTooDeeply
+deep-only s t =
+    let w = deep-where s t in
+    let st = w .0 in
+    let can = t .strict-before in
+    let front : letterD ∷ encodeEntries (can .1 .0) ≡ begun st ++ can .0 =
+    sym (dictionary-bytes (can .1 .0)) ∙ sym (can .1 .2) ∙ ap (λ (l : List ℕ). l ++ can .0) (w .2) in
+    stem-whole st s (encodeEntries (can .1 .0)) (can .0) (t .rest) (t .byte) front (t .bytes ∙ ap (λ (l : List ℕ). l ++ t .byte ∷ t .rest) (w .2)) (w .1) (w .3)
+
 -- ---- and 20 for all else
 
+-- there is no other number
 pub one-of-three : (s : List ℕ) → (strictness s ≡ 0) ⊎ ((strictness s ≡ notStrict) ⊎ (strictness s ≡ nestedTooDeeply))
 unfolding strictness
 one-of-three [] = inr (inl refl)
@@ -244,6 +259,7 @@ one-of-three (c ∷ cs) = by-first (eqb c letterD) (walkValue maxLevels 0 (c ∷
     by-first true TooDeep = inr (inr refl)
     by-first true (Past k) = by-end (eqb k (length (c ∷ cs)))
 
+-- 20 is given for all other bytes
 pub otherwise : (s : List ℕ) → (Encoded maxLevels s → ⊥) → (TooDeepFirst s → ⊥) → strictness s ≡ notStrict
 otherwise s not-encoded not-deep =
     elim (one-of-three s) [
@@ -251,6 +267,7 @@ otherwise s not-encoded not-deep =
       | inr w ↦ elim w [ inl e ↦ e | inr e ↦ absurd (not-deep (deep-first s e)) ]
     ]
 
+-- and for those alone
 pub otherwise-only : (s : List ℕ) → strictness s ≡ notStrict → (Encoded maxLevels s → ⊥) × (TooDeepFirst s → ⊥)
 otherwise-only s e = (
   (λ p. let f : _≡_ {A = ℕ} 0 20 = sym (taken s p) ∙ e in omega arith),

@@ -24,6 +24,7 @@ same-size a b r q l e =
     let s : a ≡ b = sym (take-append-seam a r) ∙ ap (λ (x : List ℕ). take (length a) x) e ∙ rw l (take-append-seam b q) in
     (s, behind-same a r q (rw (sym s) at e))
 
+-- the first bytes of the same bytes
 pub first-same : (a b : ℕ) (x y : List ℕ) → a ∷ x ≡ b ∷ y → a ≡ b
 first-same a b x y e = cc
 
@@ -82,12 +83,14 @@ signed-unique false false n m r q e = let p = decimal-unique letterE (omega arit
 
 -- ---- values
 
+-- bytes that begin otherwise are other bytes
 pub other-letter : (a b : ℕ) (x y : List ℕ) → a ∷ x ≡ b ∷ y → (a ≡ b → ⊥) → ⊥
 other-letter a b x y e f = f (first-same a b x y e)
 
 mutual
   unfolding encode
 
+  -- the same bytes are those of the same value, with the same behind it
   pub unique : (v w : Value) (r q : List ℕ) → encode v ++ r ≡ encode w ++ q → (v ≡ w) × (r ≡ q)
   unique (integer b n) (integer c m) r q e =
       signed-unique b c n m r q

@@ -15,10 +15,12 @@ use Rattle.bencode.specs.declared.scalar.Integer.the-variants.{Whole, No
 use Rattle.bencode.specs.declared.walk.Walked.{Walked}
 use Rattle.bencode.specs.declared.walk.Walked.the-variants.{Past, Broken, TooDeep}
 
+-- the position past an integer
 abbrev pub pastInteger : Integer → Walked
 pastInteger NoInteger = Broken
 pastInteger (Whole minus n k) = Past k
 
+-- the position past a string
 abbrev pub pastString : ByteString → Walked
 pastString NoString = Broken
 pastString (Content a b) = Past b
@@ -29,6 +31,7 @@ onward Broken go = Broken
 onward TooDeep go = TooDeep
 onward (Past k) go = go k
 
+-- what follows a key, from where its bytes are
 abbrev pub withKey : ByteString → (ℕ → ℕ → Walked) → Walked
 withKey NoString go = Broken
 withKey (Content a b) go = go a b
@@ -42,6 +45,7 @@ endOr at (c ∷ cs) w = cond (eqb c letterE) (Past (at + 1)) w
 abbrev pub between : ℕ → List ℕ → ℕ → ℕ → List ℕ
 between at xs a b = cut xs (a - at) (b - a)
 
+-- a string that stands after the key before
 abbrev pub inOrder : KeyBefore → ℕ → List ℕ → ByteString → ByteString
 inOrder j at xs NoString = NoString
 inOrder j at xs (Content a b) = cond (ascends j (between at xs a b)) (Content a b) NoString

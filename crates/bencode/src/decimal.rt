@@ -9,7 +9,13 @@ pub enum Number {
     NoNumber,
 }
 
-// Digits from `at` up to `stop`. A number above 2^63 is none, so that no product wraps.
+// No integer's size is above 2^63, and no length of a slice.
+pub const BOUND: usize = 9223372036854775808;
+
+// A number above this is past the bound with one digit more.
+const TENTH: usize = 922337203685477580;
+
+// Digits from `at` up to `stop`. A number above the bound is none, so that no product wraps.
 fn digits(s: &[u8], at: usize, stop: u8) -> Number
     ensures { λ r. ⌜ r ≡ bounded (readDigits stop 0 at (drop at (now (s .entry)))) ⌝ }
 {
@@ -18,7 +24,7 @@ fn digits(s: &[u8], at: usize, stop: u8) -> Number
     while i < s.len() {
         let c = s[i];
         if c == stop {
-            if n <= 9223372036854775808 {
+            if n <= BOUND {
                 return Number::Is {
                     value: n,
                     next: i + 1,
@@ -32,7 +38,7 @@ fn digits(s: &[u8], at: usize, stop: u8) -> Number
         if b'9' < c {
             return Number::NoNumber;
         }
-        if 922337203685477580 < n {
+        if TENTH < n {
             return Number::NoNumber;
         }
         n = n * 10 + (octets::wide(c) - 48);

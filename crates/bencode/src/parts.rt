@@ -55,7 +55,7 @@ pub fn read_entry(s: &[u8], at: usize) -> Entry
         ByteString::NoString => Entry::NoEntry,
         ByteString::Content { start, end } => match value_end(s, end, LEVELS) {
             Walked::Past(k) => Entry::Keyed {
-                start: start,
+                start,
                 value: end,
                 end: k,
             },
@@ -80,10 +80,7 @@ pub fn find(s: &[u8], at: usize, key: &[u8]) -> Found
             }
             Entry::Keyed { start, value, end } => {
                 if same(key, &s[start..value]) {
-                    return Found::Part {
-                        start: value,
-                        end: end,
-                    };
+                    return Found::Part { start: value, end };
                 }
                 i = end;
             }

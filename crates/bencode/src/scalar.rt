@@ -1,4 +1,5 @@
 // Strings and integers: the values that hold no others.
+use crate::decimal::BOUND;
 use crate::decimal::Number;
 use crate::decimal::read_number;
 ghost use mathlib.Core.Path.{_≡_};
@@ -57,7 +58,7 @@ pub fn read_signed(s: &[u8], at: usize) -> Integer
                     Integer::Whole {
                         minus: true,
                         size: value,
-                        next: next,
+                        next,
                     }
                 }
             }
@@ -66,11 +67,11 @@ pub fn read_signed(s: &[u8], at: usize) -> Integer
         match read_number(s, at, b'e') {
             Number::NoNumber => Integer::NoInteger,
             Number::Is { value, next } => {
-                if value < 9223372036854775808 {
+                if value < BOUND {
                     Integer::Whole {
                         minus: false,
                         size: value,
-                        next: next,
+                        next,
                     }
                 } else {
                     Integer::NoInteger
