@@ -316,3 +316,13 @@ find-is key s at es r e h =
     found-entries key s es none (suc (length (encodeEntries es ++ r))) (at + 1) r f (entries-more-levels es none (maxLevels - 1) maxLevels (omega arith) h) enough in
     let size : length (drop (at + 1) s) ≡ length (encodeEntries es ++ r) = ap length f in
     rw first (rw (d, size) found)
+
+-- and what it has is valid, with a level less
+pub lookup-valid : (key : List ℕ) (es : Entries) (j : KeyBefore) (l : ℕ) (v : Value) → EntriesValid es j l → lookup key es ≡ present v → Valid v l
+unfolding lookup Valid
+lookup-valid key noEntries j l v h e = let z : _≡_ {A = ℕ} 0 1 = cc in absurd (omega arith)
+lookup-valid key (entry k w es) j l v h e = by-same (same key k) e (lookup-valid key es (after k) l v (h .2))
+  where
+    by-same : (t : Bool) → cond t (present w) (lookup key es) ≡ present v → (lookup key es ≡ present v → Valid v l) → Valid v l
+    by-same true q f = let x : w ≡ v = cc in rw x at (h .1)
+    by-same false q f = f q

@@ -1,7 +1,6 @@
 -- One byte decides.
 use borrow.Author.Tests.{eq-eqb, ne-eqb}
 use Rattle.bencode.proofs.Reading.{zero-end, zero-step}
-use Prim.Native.Nat.{_-_}
 use mathlib.Core.Path.{sym, _∙_}
 use borrow.Author.Needs.{needs}
 use Rattle.bencode.proofs.decimal.lone_zero.Statement.{statement}

@@ -2,7 +2,6 @@
 use Rattle.bencode.specs.Scalar.{bounded}
 use borrow.Author.Tests.{eq-eqb, ne-eqb}
 use Rattle.bencode.proofs.Reading.{number-end, number-step, zero-bounded}
-use Prim.Native.Nat.{_-_}
 use mathlib.Core.Path.{ap, sym, _∙_}
 use borrow.Author.Needs.{needs}
 use Rattle.bencode.proofs.decimal.read_number.Statement.{statement}

@@ -2,7 +2,6 @@
 use Rattle.bencode.specs.Walk.{inOrder}
 use Rattle.bencode.specs.EndsLaws.{string-ends}
 use Rattle.bencode.proofs.Reading.{key-first, key-next, key-back}
-use Prim.Native.Nat.{_-_}
 use mathlib.Core.Path.{ap, sym, _∙_}
 use borrow.Author.Needs.{needs}
 use Rattle.bencode.proofs.order.read_key.Statement.{statement}

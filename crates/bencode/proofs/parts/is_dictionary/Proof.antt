@@ -1,6 +1,5 @@
 -- One byte decides.
 use Rattle.bencode.proofs.Finding.{dictionary-none, dictionary-byte}
-use Prim.Native.Nat.{_-_}
 use mathlib.Core.Path.{sym}
 use borrow.Author.Needs.{needs}
 use Rattle.bencode.proofs.parts.is_dictionary.Statement.{statement}

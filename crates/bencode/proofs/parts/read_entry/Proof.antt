@@ -1,6 +1,5 @@
 -- A key, then what `entryTo` says of the walk over the value.
 use Rattle.bencode.proofs.Finding.{entry-no-key, entry-key}
-use Prim.Native.Nat.{_-_}
 use mathlib.Core.Path.{sym, _∙_}
 use borrow.Author.Needs.{needs}
 use Rattle.bencode.proofs.parts.read_entry.Statement.{statement}

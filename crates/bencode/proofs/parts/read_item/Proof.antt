@@ -1,6 +1,5 @@
 -- What `itemTo` says of the walk.
 use Rattle.bencode.proofs.Finding.{item-read}
-use Prim.Native.Nat.{_-_}
 use mathlib.Core.Path.{sym, _∙_}
 use borrow.Author.Needs.{needs}
 use Rattle.bencode.proofs.parts.read_item.Statement.{statement}

@@ -1,7 +1,6 @@
 -- The first byte decides; the rest is the signed number.
 use borrow.Author.Tests.{eq-eqb, ne-eqb}
 use Rattle.bencode.proofs.Reading.{integer-end, integer-step}
-use Prim.Native.Nat.{_-_}
 use mathlib.Core.Path.{sym, _∙_}
 use borrow.Author.Needs.{needs}
 use Rattle.bencode.proofs.scalar.read_integer.Statement.{statement}

@@ -2,7 +2,6 @@
 use Rattle.bencode.specs.Scalar.{negative, positive}
 use borrow.Author.Tests.{eq-eqb, ne-eqb, lt-ltb, le-ltb}
 use Rattle.bencode.proofs.Reading.{signed-end, signed-step}
-use Prim.Native.Nat.{_-_}
 use mathlib.Core.Path.{ap, sym, _∙_}
 use borrow.Author.Needs.{needs}
 use Rattle.bencode.proofs.scalar.read_signed.Statement.{statement}

@@ -1,7 +1,6 @@
 -- The length is read with its bound; a slice has fewer than 2^63 bytes, so that a longer length never fits and the bound changes nothing.
 use Rattle.bencode.proofs.Reading.{length-ends, string-none, string-content, string-short}
 use native.Mathlib.Omega.{arith}
-use Prim.Native.Nat.{_-_}
 use mathlib.Core.Path.{sym, _∙_}
 use borrow.Author.Needs.{needs}
 use Rattle.bencode.proofs.scalar.read_string.Statement.{statement}

@@ -1,6 +1,5 @@
 -- What `pastInteger` says of the integer that was read.
 use Rattle.bencode.specs.Walk.{pastInteger}
-use Prim.Native.Nat.{_-_}
 use mathlib.Core.Path.{ap, sym, _∙_}
 use borrow.Author.Needs.{needs}
 use Rattle.bencode.proofs.walk.integer_end.Statement.{statement}

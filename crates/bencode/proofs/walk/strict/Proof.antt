@@ -1,7 +1,6 @@
 -- A dictionary whose walk ends where the bytes end.
 use borrow.Author.Tests.{eq-eqb, ne-eqb}
 use Rattle.bencode.proofs.Walking.{strict-empty, strict-other, strict-dictionary}
-use Prim.Native.Nat.{_-_}
 use mathlib.Core.Path.{sym, _∙_}
 use borrow.Author.Needs.{needs}
 use Rattle.bencode.proofs.walk.strict.Statement.{statement}

@@ -1,6 +1,5 @@
 -- What `pastString` says of the string that was read.
 use Rattle.bencode.specs.Walk.{pastString}
-use Prim.Native.Nat.{_-_}
 use mathlib.Core.Path.{ap, sym, _∙_}
 use borrow.Author.Needs.{needs}
 use Rattle.bencode.proofs.walk.string_end.Statement.{statement}
