@@ -1,0 +1,12 @@
+pub mod Grammar
+pub mod Scalar
+pub mod Walk
+pub mod Strict
+pub mod Parts
+pub mod EndsLaws
+pub mod CompleteLaws
+pub mod SoundLaws
+pub mod UniqueLaws
+pub mod DepthLaws
+pub mod StrictLaws
+pub mod PartsLaws

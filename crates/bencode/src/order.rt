@@ -1,0 +1,67 @@
+// Keys, compared byte for byte: their order, and whether one is a given key.
+use crate::scalar::ByteString;
+use crate::scalar::read_string;
+ghost use mathlib.Core.Path.{_≡_};
+ghost use Prim.Native.Nat.{_≤_};
+ghost use lib.ListN.{length, drop};
+ghost use Rattle.octets.specs.Octets as O;
+ghost use Rattle.bencode.specs.Grammar.{precedes};
+ghost use Rattle.bencode.specs.Walk.{readKey, keyBefore};
+
+// Whether x stands before y: at the first byte that differs x has the smaller one, or x is y's beginning.
+pub fn comes_before(x: &[u8], y: &[u8]) -> bool
+    ensures { λ r. ⌜ r ≡ precedes (now (x .entry)) (now (y .entry)) ⌝ }
+{
+    let mut i = 0;
+    while i < y.len() {
+        if x.len() <= i {
+            return true;
+        }
+        if x[i] < y[i] {
+            return true;
+        }
+        if y[i] < x[i] {
+            return false;
+        }
+        i += 1;
+    }
+    false
+}
+
+// Whether x and y are the same bytes.
+pub fn same(x: &[u8], y: &[u8]) -> bool
+    ensures { λ r. ⌜ r ≡ O.same (now (x .entry)) (now (y .entry)) ⌝ }
+{
+    let mut i = 0;
+    while i < x.len() {
+        if y.len() <= i {
+            return false;
+        }
+        if x[i] != y[i] {
+            return false;
+        }
+        i += 1;
+    }
+    i == y.len()
+}
+
+// A key at `at`, which is none unless it stands after the key before, bytes start..end, if there was one.
+pub fn read_key(s: &[u8], at: usize, seen: bool, start: usize, end: usize) -> ByteString
+    requires { ⌜ (start ≤ end) × (end ≤ length (now s)) ⌝ }
+    ensures { λ r. ⌜ r ≡ readKey (keyBefore seen start end (now (s .entry))) at (drop at (now (s .entry))) ⌝ }
+{
+    match read_string(s, at) {
+        ByteString::NoString => ByteString::NoString,
+        ByteString::Content { start: a, end: b } => {
+            if seen {
+                if comes_before(&s[start..end], &s[a..b]) {
+                    ByteString::Content { start: a, end: b }
+                } else {
+                    ByteString::NoString
+                }
+            } else {
+                ByteString::Content { start: a, end: b }
+            }
+        }
+    }
+}
