@@ -1,9 +1,11 @@
-# run: something real. test: the gate. lib: the library for hosts. bench: speed against plain Rust.
-.PHONY: run test lib bench
+# run: what the proved programs print. test: the gate. lib: the library for hosts. bench: speed against plain Rust.
+# interop: with a real client, libtorrent, on loopback. soak: generated calls compared with the second implementation, for long.
+.PHONY: run test lib bench interop soak
 
 run:
-	rt check vectors
-	@cat crates/vectors/stdout
+	rt check vectors worked
+	host/run target/bin/vectors
+	host/run target/bin/worked
 
 test:
 	bash .ci/run
@@ -14,3 +16,9 @@ lib:
 
 bench: lib
 	host/bench.sh
+
+interop: lib
+	host/interop
+
+soak: lib
+	host/soak
