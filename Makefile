@@ -4,8 +4,7 @@
 
 run:
 	rt check vectors worked
-	host/run target/bin/vectors
-	host/run target/bin/worked
+	@cat target/log/vectors.stdout target/log/worked.stdout
 
 test:
 	bash .ci/run
