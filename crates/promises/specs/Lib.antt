@@ -2,5 +2,6 @@ pub mod Worked
 pub mod Held
 pub mod History
 pub mod TakenWhen
+pub mod Settles
 pub mod Grows
 pub mod Again
