@@ -1,9 +1,24 @@
 -- 01, "Worked by hand": the lines marked P, by the definitions.
 -- Assumes nothing.
-use mathlib.Core.Path.{_≡_, refl}
-use mathlib.Core.Bool.{true, false}
-use Prim.Native.Nat.{ℕ, _-_, _^_}
-use Rattle.tree.specs.Geometry.{ceilDiv, blockCount, heightFrom, height, covering, pieceLayer, isPieceLength, hasLayer, pieceCount, pieceSize}
+use mathlib.Core.Path.{_≡_, refl, ap, sym, _∙_}
+use mathlib.Core.Bool.{Bool, true, false, cond, not, _&&_}
+use mathlib.Core.List.{List, _++_}
+use Prim.Native.Nat.{ℕ, _+_, _-_, _*_, _/_, _%_, _^_, _≤_, _<_}
+use native.Mathlib.Omega.{arith}
+use lib.ListN.{length}
+use lib.Dec.{eqb, leb, ltb}
+use borrow.Author.Tests.{le-ltb, le-leb}
+use Rattle.octets.specs.Octets.{same}
+use Rattle.numbers.specs.Numbers.{ruleBroken}
+use Rattle.store.specs.Store.{usable, fileLength, factsRoot, blocksOf, heightOf}
+use Rattle.runs.specs.Path.{ancestor}
+use Rattle.header.specs.declared.Header.{Header}
+use Rattle.header.specs.Header.{headerOf, messageRoot, isRequest, lengthRule, indexRule, rulesKept, placeOf, messageSize}
+use Rattle.messages.specs.Take.{headerNumber, anchor}
+use Rattle.messages.specs.TakeLaws.{request-form}
+use Rattle.serve.specs.Serve.{requestNumber, rejectTo, sentBack, serveAnswer}
+use Rattle.serve.specs.ServeLaws.{reject-length}
+use Rattle.tree.specs.Geometry.{nodeNumber, ceilDiv, blockCount, heightFrom, height, covering, pieceLayer, isPieceLength, hasLayer, pieceCount, pieceSize}
 
 -- N=1, h=0 (that every request is then 3 is a line of the messages)
 pub n-1 : height (blockCount 1) ≡ 0
@@ -41,3 +56,66 @@ n-100000 = (refl, refl, refl, refl, refl, refl, refl)
 pub n-50000 : (blockCount 50000 ≡ 4) × (hasLayer 50000 65536 ≡ false)
 unfolding ceilDiv blockCount hasLayer
 n-50000 = (refl, refl)
+
+-- ---- messages, with B=5 and h=3: (base, index, length, proof)
+
+abbrev header : ℕ → ℕ → ℕ → ℕ → Header
+header base index len proof = record { base = base; index = index; len = len; proof = proof }
+
+-- (0,0,2,2): u=2, 177 bytes, anchor the root
+pub message-0-0-2-2 :
+    (rulesKept (header 0 0 2 2) 5 3 ≡ true) × (placeOf (header 0 0 2 2) 3 .u ≡ 2) × (messageSize (header 0 0 2 2) ≡ 177) × (anchor (placeOf (header 0 0 2 2) 3) ≡ nodeNumber 3 3 0)
+unfolding rulesKept lengthRule indexRule placeOf messageSize anchor ancestor nodeNumber covering ceilDiv heightFrom height
+message-0-0-2-2 = (refl, refl, refl, refl)
+
+-- (0,4,4,2): u=1, 209 bytes
+pub message-0-4-4-2 : (rulesKept (header 0 4 4 2) 5 3 ≡ true) × (placeOf (header 0 4 4 2) 3 .u ≡ 1) × (messageSize (header 0 4 4 2) ≡ 209)
+unfolding rulesKept lengthRule indexRule placeOf messageSize nodeNumber covering ceilDiv heightFrom height
+message-0-4-4-2 = (refl, refl, refl)
+
+-- (0,0,4,1): u=0, anchor in layer 2
+pub message-0-0-4-1 : (rulesKept (header 0 0 4 1) 5 3 ≡ true) × (placeOf (header 0 0 4 1) 3 .u ≡ 0) × (anchor (placeOf (header 0 0 4 1) 3) ≡ nodeNumber 3 2 0)
+unfolding rulesKept lengthRule indexRule placeOf messageSize anchor ancestor nodeNumber covering ceilDiv heightFrom height
+message-0-0-4-1 = (refl, refl, refl)
+
+-- (1,2,2,1): u=1
+pub message-1-2-2-1 : (rulesKept (header 1 2 2 1) 5 3 ≡ true) × (placeOf (header 1 2 2 1) 3 .u ≡ 1)
+unfolding rulesKept lengthRule indexRule placeOf messageSize nodeNumber covering ceilDiv heightFrom height
+message-1-2-2-1 = (refl, refl)
+
+-- refused 3: (0,0,2,3) and (1,0,2,4294967295)
+pub refused-0-0-2-3 : rulesKept (header 0 0 2 3) 5 3 ≡ false
+unfolding rulesKept lengthRule indexRule covering ceilDiv heightFrom height
+refused-0-0-2-3 = refl
+
+pub refused-1-0-2-large : rulesKept (header 1 0 2 4294967295) 5 3 ≡ false
+unfolding rulesKept lengthRule indexRule covering ceilDiv heightFrom height
+refused-1-0-2-large = refl
+
+-- ---- N=1: every request of 49 bytes for its root, with room for the reject, is 3
+
+no-rule-at-height-0 : (x : Header) (b : ℕ) → rulesKept x b 0 ≡ false
+unfolding rulesKept
+no-rule-at-height-0 x b =
+    rw (le-ltb (x .base + x .proof) 0 (omega arith))
+    (last (lengthRule (x .len) && eqb (x .index % x .len) 0 && leb (x .base + height (x .len)) 0) (indexRule b (x .base) (x .index)))
+  where
+    last : (a c : Bool) → (a && false && c) ≡ false
+    last true c = refl
+    last false c = refl
+
+pub request-for-one-byte :
+    (s m out : List ℕ)
+    → usable s ≡ true
+    → fileLength s ≡ 1
+    → isRequest m ≡ true
+    → same (factsRoot s) (messageRoot m) ≡ true
+    → 49 ≤ length out
+    → serveAnswer s m out ≡ record { number = 3; count = 49 }
+unfolding serveAnswer requestNumber headerNumber heightOf blocksOf sentBack
+request-for-one-byte s m out u n q r room =
+    let h : height (blockCount (fileLength s)) ≡ 0 = ap (λ (x : ℕ). height (blockCount x)) n ∙ n-1 in
+    let k : rulesKept (headerOf m) (blockCount (fileLength s)) (height (blockCount (fileLength s))) ≡ false =
+    ap (rulesKept (headerOf m) (blockCount (fileLength s))) h ∙ no-rule-at-height-0 (headerOf m) (blockCount (fileLength s)) in
+    let l : length (rejectTo m) ≡ 49 = reject-length m (request-form m q) in
+    rw (u, q, r, k) (rw (l, le-leb 49 (length out) room))
