@@ -6,3 +6,4 @@ pub mod Settles
 pub mod Fresh
 pub mod Grows
 pub mod Again
+pub mod Refusals
