@@ -7,3 +7,4 @@ pub mod Fresh
 pub mod Grows
 pub mod Again
 pub mod Refusals
+pub mod ReadBack
