@@ -4,3 +4,4 @@ pub mod History
 pub mod TakenWhen
 pub mod Grows
 pub mod Again
+pub mod Invariant
