@@ -4,4 +4,5 @@ pub mod History
 pub mod TakenWhen
 pub mod Grows
 pub mod Again
+pub mod RightPadding
 pub mod Invariant
