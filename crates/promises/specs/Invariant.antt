@@ -9,17 +9,18 @@ use native.Mathlib.Omega.{arith}
 use native.Mathlib.Decide.{ℕ-discrete}
 use lib.ListN.{length}
 use lib.Dec.{eqb, leb}
-use borrow.Author.Tests.{eq-eqb, ne-eqb, leb-true}
+use borrow.Author.Tests.{eq-eqb, ne-eqb, eqb-true, leb-true}
 use Rattle.octets.specs.Octets.{Octets}
 use Rattle.sha256.specs.Sha256.{pairHash}
-use Rattle.tree.specs.Geometry.{blockCount, height, nodeNumber}
-use Rattle.tree.specs.Values.{node, leafOf}
+use Rattle.tree.specs.Geometry.{Padding, blockCount, height, nodeNumber}
+use Rattle.tree.specs.GeometryLaws.{node-number-root, node-number-range, node-number-distinct}
+use Rattle.tree.specs.Values.{node, padValue, leafOf, layerLeaf}
 use Rattle.tree.specs.ValuesLaws.{leaf-octets}
 use Rattle.cells.specs.Cells.{Room, heldAt, hashAt}
 use Rattle.cells.specs.Entries.{Entry, agrees, putAll}
 use Rattle.cells.specs.EntriesLaws.{Sound, Hold, keeps, In, Has, sound-in, Consistent, apart-consistent, entries-held, held-or-entry}
 use Rattle.store.specs.Store.{usable, factsRoot, blocksOf, heightOf, positions, factsInRange, storeSize, openAnswer, openAfter, opened}
-use Rattle.store.specs.StoreLaws.{Facts, SameFacts, usable-facts, positions-some, positions-even, FromRoot, from-root-in, putAll-same-facts, putAll-facts, opened-facts, opened-facts-root, opened-blocks, opened-height, opened-held, opened-hash}
+use Rattle.store.specs.StoreLaws.{Facts, SameFacts, facts-blocks, positions-some, positions-even, FromRoot, from-root-in, putAll-same-facts, putAll-facts, opened-facts, opened-facts-root, opened-blocks, opened-height, opened-held, opened-hash}
 use Rattle.runs.specs.Subtree.{subtree}
 use Rattle.runs.specs.Path.{sibling, parentValue}
 use Rattle.runs.specs.PathLaws.{sibling-even, sibling-odd, parent-even, parent-odd}
@@ -27,13 +28,14 @@ use Rattle.runs.specs.SubtreeLaws.{FamilyIn, subtree-sound, subtree-apart, subt
 use Rattle.runs.specs.SettledLaws.{settled-positive, settled-consistent, settled-family}
 use Rattle.header.specs.Header.{headerOf, isHashes}
 use Rattle.messages.specs.Take.{unclesOf, given, settled, anchor, placeIn, takeNumber, takeAfter}
-use Rattle.messages.specs.TakeLaws.{Ready}
+use Rattle.messages.specs.TakeLaws.{Ready, passed}
 use Rattle.messages.specs.TakenLaws.{ready-settled, taken-ready}
 use Rattle.pieces.specs.Pieces.{layerOfPieces, layerSettled, layerNumber, layerAfter, pieceHeight}
 use Rattle.pieces.specs.PiecesLaws.{Layered, Placed, Loads, layer-loads, loads-layered, layer-sound, layer-refused, layer-taken, layer-gives-root, piece-within}
 use Rattle.promises.specs.History.{Bytes, Steps, begin, message, layer, looked, reopened, OurStore, ours}
 use Rattle.promises.specs.TakenWhen.{taken-then-right, taken-well-formed}
 use Rattle.promises.specs.Grows.{reopen-refused}
+use Rattle.promises.specs.RightPadding.{Pads, at-place, settled-pads}
 
 -- ---- the definition
 
@@ -48,6 +50,12 @@ pub record Chained (s : List ℕ) : Type 0 where
   pub facts : Facts s
   pub root : Hold s 1 (factsRoot s)
   pub family : (n : ℕ) → 2 ≤ n → n < positions (heightOf s) → heldAt s n ≡ true → Family s n
+
+-- and every held padding position has its layer's padding value
+pub record Ours (s : List ℕ) : Type 0 where
+  pub chained : Chained s
+  pub padding : (l i : ℕ) → l ≤ heightOf s → i < 2 ^ (heightOf s - l) → Padding (blocksOf s) l i
+      → heldAt s (nodeNumber (heightOf s) l i) ≡ true → hashAt s (nodeNumber (heightOf s) l i) ≡ padValue l
 
 -- ---- a family, by its parent p
 
@@ -254,3 +262,110 @@ chained-steps c (reopened {t = t} n plen root ne h) = rw (reopen-refused t n ple
 -- so every store that only this build has written
 pub ours-chained : {t : List ℕ} → OurStore t → Chained t
 ours-chained (ours b n plen root bytes o z h) = chained-steps (chained-opened b n plen root (o .size) z) h
+
+-- ---- and the padding
+
+-- the padding clause, by positions' numbers
+abbrev PaddedStore : ℕ → ℕ → List ℕ → Type 0
+PaddedStore h b s = (n : ℕ) → n < positions h → heldAt s n ≡ true → Pads h b n (hashAt s n)
+
+ours-by-number : (s : List ℕ) → Ours s → PaddedStore (heightOf s) (blocksOf s) s
+ours-by-number s o n lt h l i lh ib q pd = ap (hashAt s) q ∙ o .padding l i lh ib pd (rw q at h)
+
+by-number-ours : (s : List ℕ) → Chained s → PaddedStore (heightOf s) (blocksOf s) s → Ours s
+unfolding positions
+by-number-ours s c f =
+    record {
+      chained = c;
+      padding = λ l i lh ib pd h. f (nodeNumber (heightOf s) l i) (node-number-range (heightOf s) l i ib .1) h l i lh ib refl pd;
+    }
+
+pads-same : (h b n n2 : ℕ) (v v2 : List ℕ) → n ≡ n2 → v ≡ v2 → Pads h b n2 v2 → Pads h b n v
+pads-same h b n n2 v v2 p r f l i lh ib q pd = r ∙ f l i lh ib (sym p ∙ q) pd
+
+-- the root is no padding
+root-pads : (s : List ℕ) (v : List ℕ) → Facts s → Pads (heightOf s) (blocksOf s) 1 v
+unfolding Padding
+root-pads s v f l i lh ib q pd =
+    let z : heightOf s - heightOf s ≡ 0 = omega arith in
+    let one : 0 < 2 ^ (heightOf s - heightOf s) = rw z (omega arith) in
+    let D = node-number-distinct (heightOf s) l i (heightOf s) 0 lh (omega arith) ib one (sym q ∙ sym (node-number-root (heightOf s))) in
+    let w : i * 2 ^ l ≡ 0 * 2 ^ l = ap (λ (y : ℕ). y * 2 ^ l) (D .1) in
+    let no : ⊥ = omega (arith, facts-blocks s f) in
+    absurd no
+
+module _ (s : List ℕ) (L : List Entry) (a : ℕ) (o : Ours s) (w : Whole (positions (heightOf s)) a L) (h : heldAt s a ≡ true) (g : agrees s L ≡ true)
+    (right : (e : Entry) → In e L → Pads (heightOf s) (blocksOf s) (e .at) (e .hash)) where
+  padded-after : PaddedStore (heightOf s) (blocksOf s) (putAll s L)
+  padded-after n lt k =
+      elim (held-or-entry (positions (heightOf s)) L s (o .chained .facts .room) (w .sound) n k) [
+        | inl x ↦ rw (stays s L a (o .chained) w h g n lt x .1) (ours-by-number s o n lt x)
+        | inr e ↦ rw (taken s L a (o .chained) w h g n (e .0) (e .1) .1) (right (record { at = n; hash = e .0 }) (e .1))
+      ]
+
+  pub ours-putAll : Ours (putAll s L)
+  ours-putAll =
+      let f = same-facts s L a (o .chained) w h g in
+      by-number-ours (putAll s L) (chained-putAll s L a (o .chained) w h g) (rw (f .layers, f .blocks) padded-after)
+
+-- AN OPENED STORE has the four clauses
+pub ours-opened : (b : List ℕ) (n plen : ℕ) (root : List ℕ) → length root ≡ 32 → openAnswer b n plen .number ≡ 0 → Ours (openAfter b n plen root)
+unfolding openAfter openAnswer
+ours-opened b n plen root size z = by (factsInRange n plen) (leb (storeSize n) (length b)) refl refl
+  where
+    by : (x y : Bool) → factsInRange n plen ≡ x → leb (storeSize n) (length b) ≡ y → Ours (openAfter b n plen root)
+    by true true p q =
+        let fits = leb-true (storeSize n) (length b) q in
+        let e : openAfter b n plen root ≡ opened b n plen root = unfold openAfter in rw (p, q) in
+        let c : Chained (opened b n plen root) = rw e at (chained-opened b n plen root size z) in
+        rw e
+        (by-number-ours (opened b n plen root) c
+        (λ k lt h l i lh ib r pd.
+        let hk = opened-held b n plen root p fits size k (omega (arith, node-number-range (heightOf (opened b n plen root)) l i ib .0)) (rw (opened-height b n plen root p fits size) at lt) in
+        root-pads (opened b n plen root) (hashAt (opened b n plen root) k) (c .facts) l i lh ib (sym (eqb-true k 1 (sym hk ∙ h)) ∙ r) pd))
+    by true false p q = let w : ⊥ = unfold openAnswer in omega (arith, rw (p, q) at z) in absurd w
+    by false y p q = let w : ⊥ = unfold openAnswer in omega (arith, rw p at z) in absurd w
+
+-- TAKING any message keeps them
+pub ours-take : (s m : List ℕ) → Ours s → Ours (takeAfter s m)
+unfolding takeAfter
+ours-take s m o =
+    elim (ℕ-discrete (takeNumber s m) 0) [
+      | yes z ↦
+          let f = taken-well-formed s m z in
+          let w = taken-then-right s m f z in
+          rw (eq-eqb (takeNumber s m) 0 z)
+          (ours-putAll s (settled m (placeIn s m)) (anchor (placeIn s m)) o (message-whole s m (taken-ready s m (takeNumber s m) refl z)) (w .held) (w .agree)
+          (settled-pads s m (passed (isHashes m) s m (f .header)) (f .size) (w .padding)))
+      | no ne ↦ rw (ne-eqb (takeNumber s m) 0 ne) o
+    ]
+
+-- LOADING any layer keeps them
+pub ours-layer : (s l : List ℕ) → Ours s → Ours (layerAfter s l)
+unfolding layerSettled
+ours-layer s l o =
+    elim (ℕ-discrete (layerNumber s l) 0) [
+      | yes z ↦
+          let w = layer-loads s l z in
+          let f = loads-layered s l w in
+          rw (layer-taken s l z)
+          (ours-putAll s (layerSettled s l) 1 o (layer-whole s l f) (w .root .held) (w .root .agree)
+          (λ e x.
+          let y = Rattle.pieces.specs.PiecesLaws.settled-in-layers s l f e x in
+          pads-same (heightOf s) (blocksOf s) (e .at) (nodeNumber (heightOf s) (y .l) (y .i)) (e .hash) (node (layerLeaf l (layerOfPieces s)) (y .l - layerOfPieces s) (y .i)) (y .position) (y .value)
+          (at-place (heightOf s) (blocksOf s) (y .l) (y .i) (node (layerLeaf l (layerOfPieces s)) (y .l - layerOfPieces s) (y .i)) (y .upto) (y .inside)
+          (Rattle.pieces.specs.PiecesLaws.settled-padding s l w (y .l) (y .i) (y .from)))))
+      | no ne ↦ rw (layer-refused s l ne) o
+    ]
+
+-- so do any steps
+pub ours-steps : {s t : List ℕ} → Ours s → Steps s t → Ours t
+ours-steps o begin = o
+ours-steps o (message {t = t} m b h) = ours-take t m (ours-steps o h)
+ours-steps o (layer {t = t} l b h) = ours-layer t l (ours-steps o h)
+ours-steps o (looked h) = ours-steps o h
+ours-steps o (reopened {t = t} n plen root ne h) = rw (reopen-refused t n plen root ne) (ours-steps o h)
+
+-- A STORE THAT ONLY THIS BUILD HAS WRITTEN has the four clauses
+pub ours-have : {t : List ℕ} → OurStore t → Ours t
+ours-have (ours b n plen root bytes o z h) = ours-steps (ours-opened b n plen root (o .size) z) h

@@ -167,7 +167,7 @@ uncle-right hashes b i l x t p =
     same-true (uncle hashes i) (padValue l) q
 
 -- one position with its value, where its own padding is right
-at-place : (h b l x : ℕ) (v : List ℕ) → l ≤ h → x < 2 ^ (h - l) → (Padding b l x → v ≡ padValue l) → Pads h b (nodeNumber h l x) v
+pub at-place : (h b l x : ℕ) (v : List ℕ) → l ≤ h → x < 2 ^ (h - l) → (Padding b l x → v ≡ padValue l) → Pads h b (nodeNumber h l x) v
 at-place h b l x v lh xb f m j mh jb q pd =
     let D = node-number-distinct h l x m j lh mh xb jb q in
     f (rw (D .0, D .1) pd) ∙ ap padValue (D .0)
