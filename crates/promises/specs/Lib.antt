@@ -6,3 +6,4 @@ pub mod Grows
 pub mod Again
 pub mod RightPadding
 pub mod Invariant
+pub mod Conflict
