@@ -8,3 +8,6 @@ pub mod Grows
 pub mod Again
 pub mod Refusals
 pub mod ReadBack
+pub mod RightPadding
+pub mod Invariant
+pub mod Conflict
