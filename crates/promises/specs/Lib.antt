@@ -7,3 +7,4 @@ pub mod Again
 pub mod RightPadding
 pub mod Invariant
 pub mod Conflict
+pub mod OwnBytes
