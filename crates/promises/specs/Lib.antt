@@ -11,3 +11,4 @@ pub mod ReadBack
 pub mod RightPadding
 pub mod Invariant
 pub mod Conflict
+pub mod OwnBytes
