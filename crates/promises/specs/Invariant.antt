@@ -215,9 +215,10 @@ chained-opened b n plen root size z = by (factsInRange n plen) (leb (storeSize n
         let o : Chained (opened b n plen root) =
         record {
           facts = opened-facts b n plen root p fits size;
-          root =
-              (opened-held b n plen root p fits size 1 (omega arith) (positions-some (height (blockCount n))),
-              opened-hash b n plen root p fits size ∙ sym (opened-facts-root b n plen root p fits size));
+          root = (
+            opened-held b n plen root p fits size 1 (omega arith) (positions-some (height (blockCount n))),
+            opened-hash b n plen root p fits size ∙ sym (opened-facts-root b n plen root p fits size),
+          );
           family =
               λ k two l h.
               let e = opened-held b n plen root p fits size k (omega arith) (rw (opened-height b n plen root p fits size) at l) in

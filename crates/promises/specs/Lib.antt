@@ -12,3 +12,5 @@ pub mod RightPadding
 pub mod Invariant
 pub mod Conflict
 pub mod OwnBytes
+pub mod Impostors
+pub mod Example

@@ -1,0 +1,180 @@
+-- A message that is taken: two leaves below the root of a file of two blocks, on a fresh store. So what the theorems say of taken
+-- messages is said of something.
+-- Assumes nothing.
+use mathlib.Core.Path.{_≡_, refl, ap, ap₂, sym, _∙_}
+use mathlib.Core.Bool.{Bool, true, false, cond, not, _&&_}
+use mathlib.Core.List.{List, [], _∷_, _++_, append-assoc}
+use Prim.Native.Nat.{ℕ, zero, suc, _+_, _-_, _*_, _/_, _%_, _^_, _≤_, _<_}
+use native.Mathlib.Omega.{arith}
+use lib.ListN.{length, getD, take, drop, length-append, List·getD-append}
+use lib.Seq.{take-at, drop-at, take-all, getD-append-add}
+use lib.Dec.{eqb, leb, lit<, lit≤}
+use Rattle.octets.specs.Octets.{Octets, cut, same, numberAt, zeroHash}
+use Rattle.octets.specs.OctetsLaws.{same-eq, number-same}
+use Rattle.sha256.specs.Sha256.{pairHash}
+use Rattle.sha256.specs.Sha256Laws.{pair-octets}
+use Rattle.tree.specs.Geometry.{ceilDiv, blockCount, heightFrom, height, nodeNumber, covering, pieceLayer, isPieceLength}
+use Rattle.tree.specs.Values.{node}
+use Rattle.cells.specs.Cells.{heldAt, hashAt}
+use Rattle.cells.specs.Entries.{agreesAt, agrees}
+use Rattle.cells.specs.EntriesLaws.{lacks, agrees-held, agrees-free}
+use Rattle.store.specs.Store.{usable, factsRoot, blocksOf, heightOf, positions, factsInRange, storeSize, opened}
+use Rattle.store.specs.StoreLaws.{opened-usable, opened-facts-root, opened-blocks, opened-height, opened-held, opened-hash}
+use Rattle.runs.specs.Subtree.{subtree, runLeaf}
+use Rattle.runs.specs.SubtreeLaws.{run-leaf-in}
+use Rattle.runs.specs.Path.{ancestor, risen, path}
+use Rattle.header.specs.declared.Header.{Header}
+use Rattle.header.specs.declared.Place.{Place}
+use Rattle.header.specs.Header.{isHashes, headerOf, messageRoot, messageSize, placeOf, rulesKept, lengthRule, indexRule}
+use Rattle.messages.specs.Padded.{allFrom, runPadded, unclesPadded}
+use Rattle.messages.specs.Take.{headerNumber, runOf, unclesOf, given, settled, anchor, worked, padded, takeNumber, takeAnswer, placeIn}
+use Rattle.messages.specs.TakeLaws.{Passed, passes}
+use Rattle.promises.specs.TakenWhen.{WellFormed, Right, right-then-taken}
+use Rattle.promises.specs.Settles.{lacking, count-lacking}
+
+abbrev numbers : List ℕ
+numbers = 0 ∷ 0 ∷ 0 ∷ 0 ∷ 0 ∷ 0 ∷ 0 ∷ 0 ∷ 0 ∷ 0 ∷ 0 ∷ 2 ∷ 0 ∷ 0 ∷ 0 ∷ 0 ∷ []
+
+-- (0,0,2,0): the two leaves of a file of two blocks
+abbrev pub twoLeaves : List ℕ → List ℕ → List ℕ
+twoLeaves a b = 22 ∷ (pairHash a b ++ (numbers ++ (a ++ b)))
+
+abbrev two : Header
+two = record { base = 0; index = 0; len = 2; proof = 0 }
+
+abbrev below-root : Place
+below-root = record { k = 1; u = 0; top = 1 }
+
+module _ (a b : List ℕ) (oa : Octets 32 a) (ob : Octets 32 b) where
+  root-size : length (pairHash a b) ≡ 32
+  root-size = pair-octets a b .size
+
+  at-numbers : (i : ℕ) → i < 16 → getD (twoLeaves a b) (33 + i) 0 ≡ getD numbers i 0
+  at-numbers i h =
+      let e : 33 + i ≡ suc (length (pairHash a b) + i) = omega (arith, root-size) in
+      ap (λ (n : ℕ). getD (twoLeaves a b) n 0) e ∙ getD-append-add (pairHash a b) (numbers ++ (a ++ b)) i 0 ∙ List·getD-append numbers (a ++ b) 0 i h
+
+  number-at : (at : ℕ) → at + 4 ≤ 16 → numberAt (twoLeaves a b) (33 + at) 4 ≡ numberAt numbers at 4
+  number-at at h =
+      number-same (twoLeaves a b) numbers (33 + at) at 4
+      (λ i l. let e : 33 + at + i ≡ 33 + (at + i) = omega arith in ap (λ (n : ℕ). getD (twoLeaves a b) n 0) e ∙ at-numbers (at + i) (omega arith))
+
+  header-is : headerOf (twoLeaves a b) ≡ two
+  unfolding headerOf
+  header-is =
+      let n0 : numberAt (twoLeaves a b) 33 4 ≡ 0 = number-at 0 (lit≤ tt) ∙ unfold numberAt in refl in
+      let n1 : numberAt (twoLeaves a b) 37 4 ≡ 0 = number-at 4 (lit≤ tt) ∙ unfold numberAt in refl in
+      let n2 : numberAt (twoLeaves a b) 41 4 ≡ 2 = number-at 8 (lit≤ tt) ∙ unfold numberAt in refl in
+      let n3 : numberAt (twoLeaves a b) 45 4 ≡ 0 = number-at 12 (lit≤ tt) ∙ unfold numberAt in refl in
+      cc
+
+  root-is : messageRoot (twoLeaves a b) ≡ pairHash a b
+  unfolding messageRoot cut
+  root-is = take-at (pairHash a b) (numbers ++ (a ++ b)) 32 root-size
+
+  size-is : length (twoLeaves a b) ≡ 113
+  size-is =
+      omega (
+        arith,
+        root-size,
+        length-append (pairHash a b) (numbers ++ (a ++ b)),
+        length-append numbers (a ++ b),
+        length-append a b,
+        oa .size,
+        ob .size,
+      )
+
+  run-is : runOf (twoLeaves a b) 2 ≡ a ++ b
+  unfolding runOf cut
+  run-is =
+      let l : length (pairHash a b ++ numbers) ≡ 48 = length-append (pairHash a b) numbers ∙ omega (arith, root-size) in
+      let d : drop 48 (pairHash a b ++ (numbers ++ (a ++ b))) ≡ a ++ b = ap (drop 48) (sym (append-assoc (pairHash a b) numbers (a ++ b))) ∙ drop-at (pairHash a b ++ numbers) (a ++ b) 48 l in
+      ap (take 64) d ∙ take-all 64 (a ++ b) (omega (arith, length-append a b, oa .size, ob .size))
+
+  run-size : length (runOf (twoLeaves a b) 2) ≡ 64
+  run-size = ap length run-is ∙ omega (arith, length-append a b, oa .size, ob .size)
+
+  first : given (twoLeaves a b) 1 0 ≡ a
+  unfolding given
+  first = run-leaf-in (runOf (twoLeaves a b) 2) zeroHash 0 (omega (arith, run-size)) ∙ ap (λ (l : List ℕ). cut l 0 32) run-is ∙ unfold cut in take-at a b 32 (oa .size)
+
+  second : given (twoLeaves a b) 1 1 ≡ b
+  unfolding given
+  second =
+      run-leaf-in (runOf (twoLeaves a b) 2) zeroHash 1 (omega (arith, run-size)) ∙ ap (λ (l : List ℕ). cut l 32 32) run-is
+      ∙ unfold cut in (ap (take 32) (drop-at a b 32 (oa .size)) ∙ take-all 32 b (omega (arith, ob .size)))
+
+  module _ (buffer : List ℕ) (fits : storeSize 32768 ≤ length buffer) where
+    fresh : List ℕ
+    fresh = opened buffer 32768 16384 (pairHash a b)
+
+    range : factsInRange 32768 16384 ≡ true
+    unfolding factsInRange isPieceLength pieceLayer height heightFrom
+    range = refl
+
+    one-high : height (blockCount 32768) ≡ 1
+    unfolding height heightFrom blockCount ceilDiv
+    one-high = refl
+
+    high : heightOf fresh ≡ 1
+    unfolding fresh
+    high = opened-height buffer 32768 16384 (pairHash a b) range fits root-size ∙ one-high
+
+    blocks : blocksOf fresh ≡ 2
+    unfolding fresh blockCount ceilDiv
+    blocks = opened-blocks buffer 32768 16384 (pairHash a b) range fits root-size
+
+    held : (q : ℕ) → 1 ≤ q → q < 4 → heldAt fresh q ≡ eqb q 1
+    unfolding fresh positions
+    held q x y = opened-held buffer 32768 16384 (pairHash a b) range fits root-size q x (rw one-high y)
+
+    place-is : placeIn fresh (twoLeaves a b) ≡ below-root
+    unfolding placeOf nodeNumber height heightFrom
+    place-is = ap₂ (λ (x : Header) (h : ℕ). placeOf x h) header-is high
+
+    well : WellFormed fresh (twoLeaves a b)
+    unfolding fresh isHashes messageSize rulesKept lengthRule indexRule covering ceilDiv height heightFrom
+    well =
+        record {
+          header =
+              passes (isHashes (twoLeaves a b)) fresh (twoLeaves a b)
+              (record {
+                store = opened-usable buffer 32768 16384 (pairHash a b) range fits root-size;
+                formed = rw size-is;
+                root = same-eq (factsRoot fresh) (messageRoot (twoLeaves a b)) (opened-facts-root buffer 32768 16384 (pairHash a b) range fits root-size ∙ sym root-is);
+                rules = rw (header-is, blocks, high);
+              });
+          size = size-is ∙ sym (ap messageSize header-is);
+        }
+
+    settled-agree : agrees fresh (settled (twoLeaves a b) below-root) ≡ true
+    unfolding fresh agrees settled subtree path node
+    settled-agree =
+        rw (
+          agrees-free fresh 2 (given (twoLeaves a b) 1 0) (held 2 (lit≤ tt) (lit< tt)),
+          agrees-free fresh 3 (given (twoLeaves a b) 1 1) (held 3 (lit≤ tt) (lit< tt)),
+          agrees-held fresh 1 (pairHash (given (twoLeaves a b) 1 0) (given (twoLeaves a b) 1 1)) (held 1 (lit≤ tt) (lit< tt)),
+          same-eq (hashAt fresh 1) (pairHash (given (twoLeaves a b) 1 0) (given (twoLeaves a b) 1 1))
+              (opened-hash buffer 32768 16384 (pairHash a b) range fits root-size ∙ sym (ap₂ pairHash first second)),
+        )
+
+    right : Right fresh (twoLeaves a b)
+    unfolding fresh padded runPadded allFrom unclesPadded covering ceilDiv anchor ancestor worked risen node
+    right =
+        record {
+          padding = rw (place-is, header-is, blocks);
+          held = rw place-is (held 1 (lit≤ tt) (lit< tt));
+          chains = rw place-is (opened-hash buffer 32768 16384 (pairHash a b) range fits root-size ∙ sym (ap₂ pairHash first second));
+          agree = rw place-is settled-agree;
+        }
+
+    taken : takeNumber fresh (twoLeaves a b) ≡ 0
+    taken = right-then-taken fresh (twoLeaves a b) well right
+
+    -- it is taken, and its two leaves are newly held
+    pub taken-with-two : (takeAnswer (opened buffer 32768 16384 (pairHash a b)) (twoLeaves a b) .number ≡ 0) × (takeAnswer (opened buffer 32768 16384 (pairHash a b)) (twoLeaves a b) .count ≡ 2)
+    unfolding fresh takeAnswer
+    taken-with-two = (taken, unfold takeAnswer in count-lacking fresh (twoLeaves a b) taken ∙ ap (λ (x : Place). lacking fresh (settled (twoLeaves a b) x)) place-is ∙ two-new)
+      where
+        two-new : lacking fresh (settled (twoLeaves a b) below-root) ≡ 2
+        two-new = unfold lacking settled subtree path lacks in rw (held 2 (lit≤ tt) (lit< tt), held 3 (lit≤ tt) (lit< tt), held 1 (lit≤ tt) (lit< tt))
