@@ -8,3 +8,4 @@ pub mod RightPadding
 pub mod Invariant
 pub mod Conflict
 pub mod OwnBytes
+pub mod Replies

@@ -1,0 +1,204 @@
+-- Demand 3: a reply built from another store of ours, its anchor held here, is taken, or the two stores show a pair;
+-- and a store of ours takes its own reply and learns nothing from it.
+-- Assumes nothing.
+use mathlib.Core.Path.{_≡_, refl, ap, ap₂, sym, _∙_}
+use mathlib.Core.Bool.{Bool, true, false, cond, not, _&&_, false≢true}
+use mathlib.Core.List.{List, [], _∷_, _++_}
+use mathlib.Core.Logic.{_⊎_, inl, inr}
+use Prim.Native.Nat.{ℕ, zero, suc, _+_, _-_, _*_, _/_, _%_, _^_, _≤_, _<_}
+use native.Mathlib.Omega.{arith}
+use native.Mathlib.Nat.{pow-succ', add-mul, one-mul, mul-le-mul-right, div-add-mod'}
+use native.Mathlib.Decide.{ℕ-discrete}
+use lib.ListN.{length}
+use lib.Dec.{leb}
+use lib.Pow.{pow-add, pow-pos}
+use borrow.Author.Tests.{eq-eqb, leb-true, le-leb, lt-leb}
+use Rattle.octets.specs.Octets.{Octets, cut, same, zeroHash}
+use Rattle.octets.specs.OctetsLaws.{same-true, same-eq, cut-length}
+use Rattle.sha256.specs.Sha256.{pairHash}
+use Rattle.numbers.specs.declared.Answer.{Answer}
+use Rattle.numbers.specs.Numbers.{done}
+use Rattle.tree.specs.Geometry.{Padding, blockCount, covering, height, nodeNumber}
+use Rattle.tree.specs.GeometryLaws.{left-start, right-start, padding-from-covering, node-number-parent}
+use Rattle.tree.specs.Values.{node, padValue}
+use Rattle.cells.specs.Cells.{heldAt, hashAt}
+use Rattle.cells.specs.Entries.{Entry, agreesAt, agrees, putAll, oneIf, newly}
+use Rattle.cells.specs.EntriesLaws.{Hold, In, Has, in-cases, one-is, no-entry, sound-in, in-agrees, agrees-held, held-or-entry}
+use Rattle.store.specs.Store.{usable, fileLength, factsRoot, blocksOf, heightOf, positions}
+use Rattle.store.specs.StoreLaws.{Facts, usable-facts, facts-usable, facts-leaves, positions-even}
+use Rattle.runs.specs.Span.{Within}
+use Rattle.runs.specs.Subtree.{subtree, runLeaf}
+use Rattle.runs.specs.SubtreeLaws.{within-left, within-right, within-self, run-leaf-in, subtree-cases, number-below}
+use Rattle.runs.specs.Path.{sibling, parentValue, uncle, ancestor, risen, path}
+use Rattle.runs.specs.PathLaws.{sibling-below, path-cases}
+use Rattle.runs.specs.AncestorLaws.{ancestor-le, ancestor-parent}
+use Rattle.header.specs.declared.Place.{Place}
+use Rattle.header.specs.Header.{headerOf, isHashes, isRequest, messageRoot, rulesKept, placeOf, messageSize}
+use Rattle.header.specs.HeaderLaws.{rules-kept, log-some, top-inside}
+use Rattle.messages.specs.Padded.{allFrom, runPadded, unclePadded, unclesPadded}
+use Rattle.messages.specs.Take.{headerNumber, runOf, unclesOf, given, settled, anchor, worked, padded, placeIn, takeNumber, takeAfter, takeAnswer}
+use Rattle.messages.specs.TakeLaws.{Passed, passed, passes, Ready}
+use Rattle.serve.specs.Serve.{replyTo, requestNumber}
+use Rattle.serve.specs.ServeLaws.{request-passes, reply-root, reply-header, reply-own-size, reply-form, reply-given, reply-uncle, run-held, uncle-held}
+use Rattle.promises.specs.History.{Bytes, OurStore}
+use Rattle.promises.specs.TakenWhen.{Right, WellFormed, right-then-taken}
+use Rattle.promises.specs.RightPadding.{doubles, sibling-number}
+use Rattle.promises.specs.Invariant.{Family, Chained, Ours, Pair, family-pair, Whole, message-whole, ours-have}
+use Rattle.promises.specs.Conflict.{Source, heldBy, Gives, Shown, same-or-shown, hash-octets, agrees-or-shown, well-ready, anchor-has}
+use Rattle.promises.specs.OwnBytes.{ours-bytes}
+
+-- ---- two stores
+
+module _ (s t : List ℕ) (cs : Chained s) (ct : Chained t) (bs : Bytes s) (bt : Bytes t)
+    (layers : heightOf s ≡ heightOf t) (roots : factsRoot s ≡ factsRoot t) where
+  -- what both hold is the same in both, or they show a pair
+  pub alike-or-shown : (d q : ℕ) → q ≤ d → 1 ≤ q → q < positions (heightOf t) → heldAt t q ≡ true → heldAt s q ≡ true
+      → Shown (heightOf t) (heldBy t) (heldBy s) ⊎ (hashAt t q ≡ hashAt s q)
+  unfolding Gives
+  alike-or-shown zero q l a b ht hs = let z : ⊥ = omega arith in absurd z
+  alike-or-shown (suc d) q l a b ht hs =
+      elim (ℕ-discrete q 1) [
+        | yes e ↦ inr (ap (hashAt t) e ∙ ct .root .1 ∙ sym roots ∙ sym (cs .root .1) ∙ ap (hashAt s) (sym e))
+        | no ne ↦
+            let p : ℕ = q / 2 in
+            let even = positions-even (heightOf t) in
+            let two : 2 ≤ q = omega arith in
+            let high : 2 * (q / 2) + 1 < positions (heightOf t) = omega arith in
+            let bs2 : q < positions (heightOf s) = rw layers b in
+            let T = family-pair t q ht (ct .family q two b ht) in
+            let S = family-pair s q hs (cs .family q two bs2 hs) in
+            elim (alike-or-shown d (q / 2) (omega arith) (omega arith) (omega arith) (T .top) (S .top)) [
+              | inl x ↦ inl x
+              | inr k ↦
+                  elim (same-or-shown (heightOf t) (heldBy t) (heldBy s) (q / 2) (omega arith) high
+                  (hashAt t (2 * (q / 2))) (hashAt t (2 * (q / 2) + 1)) (hashAt s (2 * (q / 2))) (hashAt s (2 * (q / 2) + 1))
+                  (T .left, refl) (T .right, refl) (S .left, refl) (S .right, refl)
+                  (hash-octets t (2 * (q / 2)) (ct .facts) bt (omega arith)) (hash-octets t (2 * (q / 2) + 1) (ct .facts) bt high)
+                  (hash-octets s (2 * (q / 2)) (cs .facts) bs (rw layers (omega arith))) (hash-octets s (2 * (q / 2) + 1) (cs .facts) bs (rw layers high))
+                  (sym (T .made) ∙ k ∙ S .made)) [
+                    | inl x ↦ inl x
+                    | inr o ↦ elim (ℕ-discrete (q % 2) 0) [
+                      | yes z ↦
+                          let n : q ≡ 2 * (q / 2) = omega arith in
+                          inr (ap (hashAt t) n ∙ o .0 ∙ ap (hashAt s) (sym n))
+                      | no z ↦
+                          let n : q ≡ 2 * (q / 2) + 1 = omega arith in
+                          inr (ap (hashAt t) n ∙ o .1 ∙ ap (hashAt s) (sym n))
+                    ]
+                  ]
+            ]
+      ]
+
+-- ---- what a store that chains holds with a run and its uncles
+
+module _ (s : List ℕ) (c : Chained s) where
+  parent-held : (p : ℕ) (l r : List ℕ) → 1 ≤ p → 2 * p + 1 < positions (heightOf s) → Hold s (2 * p) l → Hold s (2 * p + 1) r → Hold s p (pairHash l r)
+  parent-held p l r a b hl hr =
+      let P = family-pair s (2 * p) (hl .0) (c .family (2 * p) (omega arith) (omega arith) (hl .0)) in
+      let e : 2 * p / 2 ≡ p = omega arith in
+      let Q : Pair s p = rw e at P in
+      (Q .top, Q .made ∙ ap₂ pairHash (hl .1) (hr .1))
+
+  -- all of a subtree, whose leaves it holds
+  subtree-held : (leaf : ℕ → List ℕ) (k n j : ℕ) → 1 ≤ n → Within (positions (heightOf s)) k n
+      → ((i : ℕ) → i < 2 ^ k → Hold s (n * 2 ^ k + i) (leaf (j * 2 ^ k + i)))
+      → Hold s n (node leaf k j) × ((e : Entry) → In e (subtree leaf k n j) → Hold s (e .at) (e .hash))
+  unfolding node subtree
+  subtree-held leaf zero n j a w f =
+      let en : n * 2 ^ 0 + 0 ≡ n = omega arith in
+      let ej : j * 2 ^ 0 + 0 ≡ j = omega arith in
+      let h : Hold s n (leaf j) = rw (en, ej) at (f 0 (omega arith)) in
+      (h, λ e x. (let o = one-is n (leaf j) x in rw (o .0, o .1) h))
+  subtree-held leaf (suc k) n j a w f =
+      let d = pow-succ' 2 k in
+      let L = subtree-held leaf k (2 * n) (2 * j) (omega arith) (within-left (positions (heightOf s)) k n w)
+      (λ i l.
+      let q : n * 2 ^ suc k + i ≡ 2 * n * 2 ^ k + i = omega (arith, left-start n k) in
+      let v : j * 2 ^ suc k + i ≡ 2 * j * 2 ^ k + i = omega (arith, left-start j k) in
+      let h = f i (omega arith) in
+      (rw q at (h .0), ap (hashAt s) (sym q) ∙ h .1 ∙ ap leaf v)) in
+      let R = subtree-held leaf k (2 * n + 1) (2 * j + 1) (omega arith) (within-right (positions (heightOf s)) k n w)
+      (λ i l.
+      let q : n * 2 ^ suc k + (2 ^ k + i) ≡ (2 * n + 1) * 2 ^ k + i = omega (arith, left-start n k, right-start n k) in
+      let v : j * 2 ^ suc k + (2 ^ k + i) ≡ (2 * j + 1) * 2 ^ k + i = omega (arith, left-start j k, right-start j k) in
+      let h = f (2 ^ k + i) (omega arith) in
+      (rw q at (h .0), ap (hashAt s) (sym q) ∙ h .1 ∙ ap leaf v)) in
+      let top = parent-held n (node leaf k (2 * j)) (node leaf k (2 * j + 1)) a (within-self (positions (heightOf s)) k (2 * n + 1) (within-right (positions (heightOf s)) k n w)) (L .0) (R .0) in (
+        top,
+        λ e x. elim (subtree-cases leaf k n j e x) [
+          | inl y ↦ L .1 e y
+          | inr r ↦ elim r [ inl y ↦ R .1 e y | inr o ↦ rw (o .0, o .1) top ]
+        ],
+      )
+
+  -- all of a path, whose start and uncles it holds
+  path-held : (hashes : List ℕ) (i u n : ℕ) (v : List ℕ) → 1 ≤ ancestor u n → n < positions (heightOf s) → Hold s n v
+      → ((j : ℕ) → j < u → Hold s (sibling (ancestor j n)) (uncle hashes (i + j)))
+      → Hold s (ancestor u n) (risen hashes i u n v) × ((e : Entry) → In e (path hashes i u n v) → Hold s (e .at) (e .hash))
+  unfolding ancestor risen path
+  path-held hashes i zero n v a b h f = (h, λ e x. absurd (no-entry x))
+  path-held hashes i (suc u) n v a b h f =
+      let w = uncle hashes i in
+      let z : i + 0 ≡ i = omega arith in
+      let hs : Hold s (sibling n) (uncle hashes i) = rw z at (f 0 (omega arith)) in
+      let half : 1 ≤ n / 2 = ancestor-parent u n a in
+      let F = c .family n (omega arith) b (h .0) in
+      let up : Hold s (n / 2) (parentValue n v (uncle hashes i)) = (F .above, F .hash ∙ ap₂ (parentValue n) (h .1) (hs .1)) in
+      let R = path-held hashes (i + 1) u (n / 2) (parentValue n v (uncle hashes i)) a (omega arith) up
+      (λ j l.
+      let q : i + suc j ≡ i + 1 + j = omega arith in
+      rw q at (f (suc j) (omega arith))) in (
+        R .0,
+        λ e x. elim (path-cases hashes i u n v e x) [
+          | inl o ↦ rw (o .0, o .1) hs
+          | inr r ↦ elim r [ inl o ↦ rw (o .0, o .1) up | inr y ↦ R .1 e y ]
+        ],
+      )
+
+-- ---- a message that carries what a store holds
+
+pub record Carries (s r : List ℕ) : Type 0 where
+  pub header : headerNumber (isHashes r) s r ≡ 0
+  pub size : length r ≡ messageSize (headerOf r)
+  pub run : (j : ℕ) → j < 2 ^ placeIn s r .k → Hold s (placeIn s r .top * 2 ^ placeIn s r .k + j) (given r (placeIn s r .k) j)
+  pub uncles : (i : ℕ) → i < placeIn s r .u → Hold s (sibling (ancestor i (placeIn s r .top))) (uncle (unclesOf r (2 ^ placeIn s r .k) (placeIn s r .u)) i)
+
+-- a reply does
+pub reply-carries : (s m : List ℕ) → requestNumber s m ≡ 0 → Carries s (replyTo s m)
+reply-carries s m z =
+    let e = request-passes s m z in
+    let r = replyTo s m in
+    let P = passed (isRequest m) s m e in
+    let hd = reply-header s m e in
+    let pl : placeIn s (replyTo s m) ≡ placeIn s m = ap (λ (x : Rattle.header.specs.declared.Header.Header). placeOf x (heightOf s)) hd in
+    record {
+      header =
+          passes (isHashes (replyTo s m)) s (replyTo s m)
+          (record { store = P .store; formed = reply-form s m e; root = rw (reply-root s m e) (P .root); rules = rw hd (P .rules) });
+      size = reply-own-size s m e;
+      run = rw pl (λ j l. (run-held s m z j l, sym (reply-given s m e j l)));
+      uncles = rw pl (λ i l. (uncle-held s m z i l, sym (reply-uncle s m e i l)));
+    }
+
+-- so the store holds all that the message settles, and the anchor with the value worked out
+pub carried-held : (s r : List ℕ) → Chained s → Carries s r
+    → Hold s (anchor (placeIn s r)) (worked r (placeIn s r)) × ((e : Entry) → In e (settled r (placeIn s r)) → Hold s (e .at) (e .hash))
+unfolding anchor worked settled
+carried-held s r c w =
+    let p = placeIn s r in
+    let rd = well-ready s r (w .header) (w .size) in
+    let leaf = given r (p .k) in
+    let us = unclesOf r (2 ^ p .k) (p .u) in
+    let S = subtree-held s c leaf (p .k) (p .top) 0 (omega (arith, rd .anchor, ancestor-le (p .u) (p .top))) (rd .top)
+    (λ i l.
+    let z : i ≡ 0 * 2 ^ p .k + i = omega arith in
+    let h = w .run i l in
+    (h .0, h .1 ∙ ap leaf z)) in
+    let Q = path-held s c us 0 (p .u) (p .top) (node leaf (p .k) 0) (rd .anchor) (within-self (positions (heightOf s)) (p .k) (p .top) (rd .top)) (S .0)
+    (λ j l.
+    let z : j ≡ 0 + j = omega arith in
+    let h = w .uncles j l in
+    (h .0, h .1 ∙ ap (uncle us) z)) in (
+      Q .0,
+      λ e x. elim (in-cases (subtree leaf (p .k) (p .top) 0) (path us 0 (p .u) (p .top) (node leaf (p .k) 0)) x) [ inl a ↦ S .1 e a | inr b ↦ Q .1 e b ],
+    )
