@@ -310,3 +310,107 @@ carried-padded s r o w =
         ap₂ (λ (p q : Bool). p && q)
         (sym (ap₂ (λ (z j : ℕ). runPadded (runOf r z) (blocksOf s) (X .base) j z) pw ix) ∙ rr)
         (sym (ap (λ (z : ℕ). unclesPadded (unclesOf r z u) (blocksOf s) 0 u (X .base + height (X .len)) y) pw) ∙ ur)
+
+-- ---- a store's own reply
+
+held-agrees : (t : List ℕ) (L : List Entry) → ((e : Entry) → In e L → Hold t (e .at) (e .hash)) → agrees t L ≡ true
+held-agrees t L k =
+    in-agrees t L (λ e i. let h = k e i in agrees-held t (e .at) (e .hash) (h .0) ∙ same-eq (hashAt t (e .at)) (e .hash) (h .1))
+
+newly-nothing : (N : ℕ) (s t : List ℕ) → ((q : ℕ) → heldAt t q ≡ true → heldAt s q ≡ true) → newly N s t ≡ 0
+unfolding newly
+newly-nothing zero s t f = refl
+newly-nothing (suc n) s t f = omega (arith, newly-nothing n s t f, by (heldAt t n) (heldAt s n) (f n))
+  where
+    by : (x y : Bool) → (x ≡ true → y ≡ true) → oneIf (x && not y) ≡ 0
+    by false y g = refl
+    by true true g = refl
+    by true false g = absurd (false≢true (g refl))
+
+carried-right : (s r : List ℕ) → Ours s → Carries s r → Right s r
+carried-right s r o w =
+    let H = carried-held s r (o .chained) w in
+    record { padding = carried-padded s r o w; held = H .0 .0; chains = H .0 .1; agree = held-agrees s (settled r (placeIn s r)) (H .1) }
+
+-- a message that carries what a store of ours holds is taken there, and no position is newly held
+pub carried-own : (s r : List ℕ) → Ours s → Carries s r → takeAnswer s r ≡ done 0
+unfolding takeAnswer takeAfter
+carried-own s r o w =
+    let z = right-then-taken s r (record { header = w .header; size = w .size }) (carried-right s r o w) in
+    let H = carried-held s r (o .chained) w in
+    let rd = well-ready s r (w .header) (w .size) in
+    let n : newly (positions (heightOf s)) s (putAll s (settled r (placeIn s r))) ≡ 0 =
+    newly-nothing (positions (heightOf s)) s (putAll s (settled r (placeIn s r)))
+    (λ q h.
+    elim (held-or-entry (positions (heightOf s)) (settled r (placeIn s r)) s (o .chained .facts .room) (message-whole s r rd .sound) q h)
+    [ inl x ↦ x | inr e ↦ H .1 (record { at = q; hash = e .0 }) (e .1) .0 ]) in
+    rw (z, n)
+
+-- OWN REPLY: a store that only this build has written, offered its own reply, answers 0 with count 0
+pub own-reply : {s : List ℕ} (m : List ℕ) → OurStore s → requestNumber s m ≡ 0 → takeAnswer s (replyTo s m) ≡ done 0
+own-reply {s} m o z = carried-own s (replyTo s m) (ours-have o) (reply-carries s m z)
+
+-- ---- another store's reply
+
+module _ (s t r : List ℕ) (os : Ours s) (ot : Ours t) (bs : Bytes s) (bt : Bytes t)
+    (files : fileLength s ≡ fileLength t) (roots : factsRoot s ≡ factsRoot t) (w : Carries s r) where
+  blocks : blocksOf s ≡ blocksOf t
+  unfolding blocksOf
+  blocks = ap blockCount files
+
+  layers : heightOf s ≡ heightOf t
+  unfolding heightOf
+  layers = ap height blocks
+
+  header-here : headerNumber (isHashes r) t r ≡ 0
+  header-here = sym same-header ∙ w .header
+    where
+      same-header : headerNumber (isHashes r) s r ≡ headerNumber (isHashes r) t r
+      same-header = unfold headerNumber in rw (facts-usable s (os .chained .facts), facts-usable t (ot .chained .facts), roots, blocks, layers)
+
+  place : placeIn s r ≡ placeIn t r
+  place = ap (placeOf (headerOf r)) layers
+
+  held-there : Hold s (anchor (placeIn t r)) (worked r (placeIn t r)) × ((e : Entry) → In e (settled r (placeIn t r)) → Hold s (e .at) (e .hash))
+  held-there = rw place at (carried-held s r (os .chained) w)
+
+  padded-here : padded r (headerOf r) (placeIn t r) (blocksOf t) ≡ true
+  padded-here = rw (place, blocks) at (carried-padded s r os w)
+
+  whole : Whole (positions (heightOf t)) (anchor (placeIn t r)) (settled r (placeIn t r))
+  whole = message-whole t r (well-ready t r header-here (w .size))
+
+  octets-there : (e : Entry) → In e (settled r (placeIn t r)) → Octets 32 (e .hash)
+  octets-there e i = rw (← held-there .1 e i .1) (hash-octets s (e .at) (os .chained .facts) bs (rw layers (sound-in (settled r (placeIn t r)) (whole .sound) i .0)))
+
+  agreed-here : heldAt t (anchor (placeIn t r)) ≡ true → hashAt t (anchor (placeIn t r)) ≡ worked r (placeIn t r)
+      → Shown (heightOf t) (heldBy t) (heldBy s) ⊎ (agrees t (settled r (placeIn t r)) ≡ true)
+  unfolding Gives
+  agreed-here h v =
+      agrees-or-shown t (heldBy s) (settled r (placeIn t r)) (anchor (placeIn t r)) (worked r (placeIn t r)) (ot .chained) bt whole
+      (λ n u x. held-there .1 (record { at = n; hash = u }) x) octets-there (anchor-has r t) h v
+
+  -- a message that carries what s holds, its anchor held in t, is taken by t, or the two show a pair
+  pub carried-taken : heldAt t (anchor (placeIn t r)) ≡ true → Shown (heightOf t) (heldBy t) (heldBy s) ⊎ (takeNumber t r ≡ 0)
+  carried-taken h =
+      let a = anchor (placeIn t r) in
+      let top = anchor-has r t in
+      let low = whole .from _ top in
+      let high = sound-in (settled r (placeIn t r)) (whole .sound) top .0 in
+      elim (alike-or-shown s t (os .chained) (ot .chained) bs bt layers roots a a (omega arith) low high h (held-there .0 .0)) [
+        | inl x ↦ inl x
+        | inr k ↦
+            let v : hashAt t (anchor (placeIn t r)) ≡ worked r (placeIn t r) = k ∙ held-there .0 .1 in
+            elim (agreed-here h v) [
+              | inl x ↦ inl x
+              | inr g ↦ inr (right-then-taken t r (record { header = header-here; size = w .size }) (record { padding = padded-here; held = h; chains = v; agree = g }))
+            ]
+      ]
+
+-- ANOTHER STORE'S REPLY: served with 0 by a store that only this build has written, its anchor held in another such store of the same
+-- length and root (piece lengths may differ), it is taken there, or the two stores show two different 64-byte strings with one SHA-256
+pub other-store-reply : {s t : List ℕ} (m : List ℕ) → OurStore s → OurStore t → fileLength s ≡ fileLength t → factsRoot s ≡ factsRoot t
+    → requestNumber s m ≡ 0 → heldAt t (anchor (placeIn t (replyTo s m))) ≡ true
+    → Shown (heightOf t) (heldBy t) (heldBy s) ⊎ (takeNumber t (replyTo s m) ≡ 0)
+other-store-reply {s} {t} m os ot files roots z h =
+    carried-taken s t (replyTo s m) (ours-have os) (ours-have ot) (ours-bytes os) (ours-bytes ot) files roots (reply-carries s m z) h
