@@ -14,3 +14,4 @@ pub mod Conflict
 pub mod OwnBytes
 pub mod Impostors
 pub mod Example
+pub mod Replies

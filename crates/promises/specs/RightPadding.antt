@@ -119,10 +119,10 @@ module _ (run : List ℕ) (h b base k y : ℕ) (size : length run ≡ 32 * 2 ^ k
 
 -- ---- a path
 
-doubles : (h l : ℕ) → l < h → 2 ^ (h - l) ≡ 2 * 2 ^ (h - suc l)
+pub doubles : (h l : ℕ) → l < h → 2 ^ (h - l) ≡ 2 * 2 ^ (h - suc l)
 doubles h l k = let e : h - l ≡ suc (h - suc l) = omega arith in rw e (pow-succ' 2 (h - suc l))
 
-sibling-number : (h l x : ℕ) → l < h → sibling (nodeNumber h l x) ≡ nodeNumber h l (sibling x)
+pub sibling-number : (h l x : ℕ) → l < h → sibling (nodeNumber h l x) ≡ nodeNumber h l (sibling x)
 unfolding nodeNumber
 sibling-number h l x k =
     let d = doubles h l k in
