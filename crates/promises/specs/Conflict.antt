@@ -19,23 +19,23 @@ use Rattle.numbers.specs.Numbers.{noMessage, otherRoot, ruleBroken, wrongSize, 
 use Rattle.tree.specs.Geometry.{nodeNumber, hasLayer, pieceCount, pieceSize}
 use Rattle.tree.specs.Values.{node, padValue, leafOf, layerLeaf}
 use Rattle.tree.specs.ValuesLaws.{node-octets, leaf-octets, pad-octets}
-use Rattle.cells.specs.Cells.{Room, heldAt, hashAt}
+use Rattle.cells.specs.Cells.{heldAt, hashAt}
 use Rattle.cells.specs.Entries.{Entry, agreesAt, agrees}
 use Rattle.cells.specs.EntriesLaws.{Hold, In, here, there, Has, sound-in, in-cases, no-entry, agrees-held, agrees-free}
 use Rattle.store.specs.Store.{usable, fileLength, pieceLength, factsRoot, blocksOf, heightOf, positions}
 use Rattle.store.specs.StoreLaws.{Facts, usable-facts, positions-even}
 use Rattle.runs.specs.Subtree.{subtree, runLeaf}
 use Rattle.runs.specs.SubtreeLaws.{FamilyIn, run-leaf-octets, subtree-value, subtree-top}
-use Rattle.runs.specs.Path.{sibling, parentValue, uncle, path}
+use Rattle.runs.specs.Path.{parentValue, uncle, path}
 use Rattle.runs.specs.PathLaws.{parent-even, parent-odd, path-cases}
 use Rattle.runs.specs.SettledLaws.{settled-anchor}
 use Rattle.header.specs.Header.{headerOf, isHashes, messageRoot, rulesKept, messageSize}
 use Rattle.messages.specs.Take.{headerNumber, runOf, unclesOf, given, settled, anchor, worked, padded, anchored, bodyNumber, placeIn, orElse, takeNumber}
-use Rattle.messages.specs.TakeLaws.{Passed, passed, Placed, placed, Ready, placed-ready}
+use Rattle.messages.specs.TakeLaws.{passed, placed, Ready, placed-ready}
 use Rattle.pieces.specs.Pieces.{judgedAt, layerOfPieces, layerSettled, layerNumber, pieceHeight, pieceNumber}
 use Rattle.pieces.specs.PiecesLaws.{layered, run-leaves}
 use Rattle.promises.specs.History.{Bytes}
-use Rattle.promises.specs.Invariant.{Family, Chained, Ours, Pair, family-pair, Whole, message-whole, layer-whole, piece-whole}
+use Rattle.promises.specs.Invariant.{Chained, Ours, family-pair, Whole, message-whole, layer-whole, piece-whole}
 
 -- ---- what is shown
 

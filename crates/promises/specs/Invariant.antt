@@ -1,26 +1,25 @@
 -- What a store that only this build has written looks like: opening makes it so, and every call keeps it so.
 -- Assumes nothing.
 use mathlib.Core.Path.{_≡_, refl, ap, ap₂, sym, _∙_}
-use mathlib.Core.Bool.{Bool, true, false, _&&_, and-eq-true-iff, false≢true}
-use mathlib.Core.List.{List, _++_}
+use mathlib.Core.Bool.{Bool, true, false, false≢true}
+use mathlib.Core.List.{List}
 use mathlib.Core.Logic.{_⊎_, inl, inr}
-use Prim.Native.Nat.{ℕ, zero, suc, _+_, _-_, _*_, _/_, _%_, _^_, _≤_, _<_}
+use Prim.Native.Nat.{ℕ, _+_, _-_, _*_, _/_, _%_, _^_, _≤_, _<_}
 use native.Mathlib.Omega.{arith}
 use native.Mathlib.Decide.{ℕ-discrete}
 use lib.ListN.{length}
-use lib.Dec.{eqb, leb}
+use lib.Dec.{leb}
 use borrow.Author.Tests.{eq-eqb, ne-eqb, eqb-true, leb-true}
-use Rattle.octets.specs.Octets.{Octets}
 use Rattle.sha256.specs.Sha256.{pairHash}
 use Rattle.tree.specs.Geometry.{Padding, blockCount, height, nodeNumber}
 use Rattle.tree.specs.GeometryLaws.{node-number-root, node-number-range, node-number-distinct}
 use Rattle.tree.specs.Values.{node, padValue, leafOf, layerLeaf}
 use Rattle.tree.specs.ValuesLaws.{leaf-octets}
-use Rattle.cells.specs.Cells.{Room, heldAt, hashAt}
+use Rattle.cells.specs.Cells.{heldAt, hashAt}
 use Rattle.cells.specs.Entries.{Entry, agrees, putAll}
-use Rattle.cells.specs.EntriesLaws.{Sound, Hold, keeps, In, Has, sound-in, Consistent, apart-consistent, entries-held, held-or-entry}
-use Rattle.store.specs.Store.{usable, factsRoot, blocksOf, heightOf, positions, factsInRange, storeSize, openAnswer, openAfter, opened}
-use Rattle.store.specs.StoreLaws.{Facts, SameFacts, facts-blocks, positions-some, positions-even, FromRoot, from-root-in, putAll-same-facts, putAll-facts, opened-facts, opened-facts-root, opened-blocks, opened-height, opened-held, opened-hash}
+use Rattle.cells.specs.EntriesLaws.{Sound, Hold, keeps, In, Has, Consistent, apart-consistent, entries-held, held-or-entry}
+use Rattle.store.specs.Store.{factsRoot, blocksOf, heightOf, positions, factsInRange, storeSize, openAnswer, openAfter, opened}
+use Rattle.store.specs.StoreLaws.{Facts, SameFacts, facts-blocks, positions-some, positions-even, from-root-in, putAll-same-facts, putAll-facts, opened-facts, opened-facts-root, opened-height, opened-held, opened-hash}
 use Rattle.runs.specs.Subtree.{subtree}
 use Rattle.runs.specs.Path.{sibling, parentValue}
 use Rattle.runs.specs.PathLaws.{sibling-even, sibling-odd, parent-even, parent-odd}
@@ -31,8 +30,8 @@ use Rattle.messages.specs.Take.{unclesOf, given, settled, anchor, placeIn, take
 use Rattle.messages.specs.TakeLaws.{Ready, passed}
 use Rattle.messages.specs.TakenLaws.{ready-settled, taken-ready}
 use Rattle.pieces.specs.Pieces.{layerOfPieces, layerSettled, layerNumber, layerAfter, pieceHeight}
-use Rattle.pieces.specs.PiecesLaws.{Layered, Placed, Loads, layer-loads, loads-layered, layer-sound, layer-refused, layer-taken, layer-gives-root, piece-within}
-use Rattle.promises.specs.History.{Bytes, Steps, begin, message, layer, looked, reopened, OurStore, ours}
+use Rattle.pieces.specs.PiecesLaws.{Layered, Placed, layer-loads, loads-layered, layer-sound, layer-refused, layer-taken, piece-within}
+use Rattle.promises.specs.History.{Steps, begin, message, layer, looked, reopened, OurStore, ours}
 use Rattle.promises.specs.TakenWhen.{taken-then-right, taken-well-formed}
 use Rattle.promises.specs.Grows.{reopen-refused}
 use Rattle.promises.specs.RightPadding.{Pads, at-place, settled-pads}

@@ -1,10 +1,9 @@
 -- A store that only this build has written is a string of bytes; so the promises about it need not ask for that.
 -- Assumes nothing.
-use mathlib.Core.Path.{_≡_, refl, ap, sym, _∙_}
-use mathlib.Core.Bool.{Bool, true, false, _&&_}
+use mathlib.Core.Path.{_≡_, refl, ap, _∙_}
+use mathlib.Core.Bool.{Bool, true, false}
 use mathlib.Core.List.{List, [], _∷_, _++_}
-use mathlib.Core.Logic.{_⊎_, inl, inr}
-use Prim.Native.Nat.{ℕ, zero, suc, _+_, _-_, _*_, _^_, _≤_, _<_}
+use Prim.Native.Nat.{ℕ, zero, suc, _+_, _-_, _*_, _≤_, _<_}
 use native.Mathlib.Omega.{arith}
 use native.Mathlib.Decide.{ℕ-discrete, decLt}
 use lib.ListN.{length, getD}
@@ -14,20 +13,19 @@ use Rattle.octets.specs.Octets.{Octets, pasted, be, zeroed}
 use Rattle.octets.specs.OctetsLaws.{pasted-length, getD-pasted-before, getD-pasted-in, getD-pasted-after, append-octets, be-octets, zeroed-length, zeroed-at, zeroed-past}
 use Rattle.numbers.specs.Numbers.{conflict}
 use Rattle.cells.specs.Cells.{Room, put}
-use Rattle.cells.specs.CellsLaws.{put-length, put-room}
+use Rattle.cells.specs.CellsLaws.{put-room}
 use Rattle.cells.specs.Entries.{Entry, putAll}
 use Rattle.cells.specs.EntriesLaws.{Sound, none, more, In, here, there}
-use Rattle.store.specs.Store.{heightOf, positions, factsInRange, storeSize, openAnswer, openAfter, opened}
+use Rattle.store.specs.Store.{heightOf, positions, factsInRange, storeSize, openAfter, opened}
 use Rattle.store.specs.StoreLaws.{store-size-cells, store-size-some, positions-some}
 use Rattle.tree.specs.Geometry.{blockCount, height}
-use Rattle.header.specs.Header.{headerOf, isHashes}
 use Rattle.messages.specs.Take.{settled, placeIn, takeNumber, takeAfter}
 use Rattle.messages.specs.TakenLaws.{taken-ready}
 use Rattle.pieces.specs.Pieces.{layerSettled, layerNumber, layerAfter, pieceNumber}
 use Rattle.pieces.specs.PiecesLaws.{layer-loads, loads-layered, layer-refused, layer-taken}
 use Rattle.promises.specs.History.{Bytes, Steps, begin, message, layer, looked, reopened, OurStore, ours}
 use Rattle.promises.specs.Grows.{reopen-refused}
-use Rattle.promises.specs.Invariant.{Ours, Whole, message-whole, layer-whole, ours-opened, ours-take, ours-layer, ours-have}
+use Rattle.promises.specs.Invariant.{Ours, message-whole, layer-whole, ours-opened, ours-take, ours-layer, ours-have}
 use Rattle.promises.specs.Conflict.{Shown, heldBy, byMessage, byLayer, byPiece, message-octets, layer-octets, conflict-shows, layer-conflict-shows, piece-conflict-shows}
 
 pasted-bytes : (s : List ℕ) (at : ℕ) (h : List ℕ) → at + length h ≤ length s → Bytes s → Bytes h → Bytes (pasted s at h)

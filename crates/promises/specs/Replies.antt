@@ -3,7 +3,7 @@
 -- Assumes nothing.
 use mathlib.Core.Path.{_≡_, refl, ap, ap₂, sym, _∙_}
 use mathlib.Core.Bool.{Bool, true, false, cond, not, _&&_, false≢true}
-use mathlib.Core.List.{List, [], _∷_, _++_}
+use mathlib.Core.List.{List}
 use mathlib.Core.Logic.{_⊎_, inl, inr}
 use Prim.Native.Nat.{ℕ, zero, suc, _+_, _-_, _*_, _/_, _%_, _^_, _≤_, _<_}
 use native.Mathlib.Omega.{arith}
@@ -11,40 +11,38 @@ use native.Mathlib.Nat.{pow-succ', add-mul, one-mul, mul-le-mul-right, div-add-m
 use native.Mathlib.Decide.{ℕ-discrete}
 use lib.ListN.{length}
 use lib.Dec.{leb}
-use lib.Pow.{pow-add, pow-pos}
-use borrow.Author.Tests.{eq-eqb, leb-true, le-leb, lt-leb}
+use lib.Pow.{pow-add}
+use borrow.Author.Tests.{leb-true}
 use Rattle.octets.specs.Octets.{Octets, cut, same, zeroHash}
-use Rattle.octets.specs.OctetsLaws.{same-true, same-eq, cut-length}
+use Rattle.octets.specs.OctetsLaws.{same-eq, cut-length}
 use Rattle.sha256.specs.Sha256.{pairHash}
-use Rattle.numbers.specs.declared.Answer.{Answer}
 use Rattle.numbers.specs.Numbers.{done}
-use Rattle.tree.specs.Geometry.{Padding, blockCount, covering, height, nodeNumber}
+use Rattle.tree.specs.Geometry.{blockCount, covering, height, nodeNumber}
 use Rattle.tree.specs.GeometryLaws.{left-start, right-start, padding-from-covering, node-number-parent}
 use Rattle.tree.specs.Values.{node, padValue}
 use Rattle.cells.specs.Cells.{heldAt, hashAt}
-use Rattle.cells.specs.Entries.{Entry, agreesAt, agrees, putAll, oneIf, newly}
-use Rattle.cells.specs.EntriesLaws.{Hold, In, Has, in-cases, one-is, no-entry, sound-in, in-agrees, agrees-held, held-or-entry}
-use Rattle.store.specs.Store.{usable, fileLength, factsRoot, blocksOf, heightOf, positions}
-use Rattle.store.specs.StoreLaws.{Facts, usable-facts, facts-usable, facts-leaves, positions-even}
+use Rattle.cells.specs.Entries.{Entry, agrees, putAll, oneIf, newly}
+use Rattle.cells.specs.EntriesLaws.{Hold, In, in-cases, one-is, no-entry, sound-in, in-agrees, agrees-held, held-or-entry}
+use Rattle.store.specs.Store.{fileLength, factsRoot, blocksOf, heightOf, positions}
+use Rattle.store.specs.StoreLaws.{usable-facts, facts-usable, facts-leaves, positions-even}
 use Rattle.runs.specs.Span.{Within}
 use Rattle.runs.specs.Subtree.{subtree, runLeaf}
 use Rattle.runs.specs.SubtreeLaws.{within-left, within-right, within-self, run-leaf-in, subtree-cases, number-below}
 use Rattle.runs.specs.Path.{sibling, parentValue, uncle, ancestor, risen, path}
 use Rattle.runs.specs.PathLaws.{sibling-below, path-cases}
 use Rattle.runs.specs.AncestorLaws.{ancestor-le, ancestor-parent}
-use Rattle.header.specs.declared.Place.{Place}
-use Rattle.header.specs.Header.{headerOf, isHashes, isRequest, messageRoot, rulesKept, placeOf, messageSize}
+use Rattle.header.specs.Header.{headerOf, isHashes, isRequest, placeOf, messageSize}
 use Rattle.header.specs.HeaderLaws.{rules-kept, log-some, top-inside}
 use Rattle.messages.specs.Padded.{allFrom, runPadded, unclePadded, unclesPadded}
 use Rattle.messages.specs.Take.{headerNumber, runOf, unclesOf, given, settled, anchor, worked, padded, placeIn, takeNumber, takeAfter, takeAnswer}
-use Rattle.messages.specs.TakeLaws.{Passed, passed, passes, Ready}
+use Rattle.messages.specs.TakeLaws.{passed, passes}
 use Rattle.serve.specs.Serve.{replyTo, requestNumber}
 use Rattle.serve.specs.ServeLaws.{request-passes, reply-root, reply-header, reply-own-size, reply-form, reply-given, reply-uncle, run-held, uncle-held}
 use Rattle.promises.specs.History.{Bytes, OurStore}
-use Rattle.promises.specs.TakenWhen.{Right, WellFormed, right-then-taken}
+use Rattle.promises.specs.TakenWhen.{Right, right-then-taken}
 use Rattle.promises.specs.RightPadding.{doubles, sibling-number}
-use Rattle.promises.specs.Invariant.{Family, Chained, Ours, Pair, family-pair, Whole, message-whole, ours-have}
-use Rattle.promises.specs.Conflict.{Source, heldBy, Gives, Shown, same-or-shown, hash-octets, agrees-or-shown, well-ready, anchor-has}
+use Rattle.promises.specs.Invariant.{Chained, Ours, Pair, family-pair, Whole, message-whole, ours-have}
+use Rattle.promises.specs.Conflict.{heldBy, Gives, Shown, same-or-shown, hash-octets, agrees-or-shown, well-ready, anchor-has}
 use Rattle.promises.specs.OwnBytes.{ours-bytes}
 
 -- ---- two stores

@@ -1,16 +1,16 @@
 -- 5 tests the given hashes only; this is enough: where they are right at padding positions, so is every settled one.
 -- Assumes nothing.
 use mathlib.Core.Path.{_≡_, refl, ap, ap₂, sym, _∙_}
-use mathlib.Core.Bool.{Bool, true, false, cond, _&&_, and-eq-true-iff}
-use mathlib.Core.List.{List, _++_}
-use mathlib.Core.Logic.{_⊎_, inl, inr}
+use mathlib.Core.Bool.{true, cond, and-eq-true-iff}
+use mathlib.Core.List.{List}
+use mathlib.Core.Logic.{inl, inr}
 use Prim.Native.Nat.{ℕ, zero, suc, _+_, _-_, _*_, _/_, _%_, _^_, _≤_, _<_}
 use native.Mathlib.Omega.{arith}
-use native.Mathlib.Nat.{pow-succ', add-mul, one-mul, mul-assoc, mul-le-mul-right, div-add-mod', le-trans}
+use native.Mathlib.Nat.{pow-succ', add-mul, one-mul, mul-assoc, mul-le-mul-right, div-add-mod'}
 use native.Mathlib.Decide.{ℕ-discrete, decLt}
 use lib.ListN.{length}
 use lib.Dec.{leb}
-use lib.Pow.{pow-add, pow-pos}
+use lib.Pow.{pow-add}
 use borrow.Author.Tests.{le-leb}
 use Rattle.octets.specs.Octets.{cut, same, zeroHash}
 use Rattle.octets.specs.OctetsLaws.{same-true, cut-length}
@@ -20,15 +20,14 @@ use Rattle.tree.specs.GeometryLaws.{covering-until-padding, padding-left, paddi
 use Rattle.tree.specs.Values.{node, padValue}
 use Rattle.cells.specs.Entries.{Entry}
 use Rattle.cells.specs.EntriesLaws.{In, in-cases, no-entry}
-use Rattle.store.specs.Store.{usable, blocksOf, heightOf}
+use Rattle.store.specs.Store.{blocksOf, heightOf}
 use Rattle.store.specs.StoreLaws.{usable-facts, facts-leaves}
 use Rattle.runs.specs.Subtree.{subtree, runLeaf}
 use Rattle.runs.specs.SubtreeLaws.{run-leaf-in, run-leaf-past, subtree-value, subtree-top, subtree-same, number-below, place-padding}
 use Rattle.runs.specs.Path.{sibling, parentValue, uncle, path}
 use Rattle.runs.specs.PathLaws.{sibling-even, sibling-odd, sibling-below, parent-even, parent-odd, path-cases}
-use Rattle.header.specs.declared.Header.{Header}
-use Rattle.header.specs.Header.{headerOf, isHashes, rulesKept, placeOf, messageSize}
-use Rattle.header.specs.HeaderLaws.{Kept, rules-kept, log-some, top-inside}
+use Rattle.header.specs.Header.{headerOf, isHashes, placeOf, messageSize}
+use Rattle.header.specs.HeaderLaws.{rules-kept, log-some, top-inside}
 use Rattle.messages.specs.Padded.{allFrom, runPadded, unclePadded, unclesPadded}
 use Rattle.messages.specs.Take.{runOf, unclesOf, given, settled, padded, placeIn}
 use Rattle.messages.specs.TakeLaws.{Passed}
