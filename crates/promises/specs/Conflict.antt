@@ -34,6 +34,7 @@ use Rattle.messages.specs.Take.{headerNumber, runOf, unclesOf, given, settled, 
 use Rattle.messages.specs.TakeLaws.{passed, placed, Ready, placed-ready}
 use Rattle.pieces.specs.Pieces.{judgedAt, layerOfPieces, layerSettled, layerNumber, pieceHeight, pieceNumber}
 use Rattle.pieces.specs.PiecesLaws.{layered, run-leaves}
+use Rattle.promises.specs.Parts.{append-parts}
 use Rattle.promises.specs.History.{Bytes}
 use Rattle.promises.specs.Invariant.{Chained, Ours, family-pair, Whole, message-whole, layer-whole, piece-whole}
 
@@ -73,12 +74,6 @@ pub record Shown (h : ℕ) (x y : Source) : Type 0 where
   pub alike : sha256 (l ++ r) ≡ sha256 (l′ ++ r′)
 
 -- ---- two pairs with one hash are the same or show it
-
-append-parts : (a b c d : List ℕ) → length a ≡ length c → a ++ b ≡ c ++ d → (a ≡ c) × (b ≡ d)
-append-parts a b c d n e = (
-  sym (take-at a b (length a) refl) ∙ ap (take (length a)) e ∙ take-at c d (length a) (sym n),
-  sym (drop-at a b (length a) refl) ∙ ap (drop (length a)) e ∙ drop-at c d (length a) (sym n),
-)
 
 module _ (h : ℕ) (x y : Source) (p : ℕ) (low : 1 ≤ p) (high : 2 * p + 1 < positions h) (l r l2 r2 : List ℕ)
     (gl : Gives x (2 * p) l) (gr : Gives x (2 * p + 1) r) (gl2 : Gives y (2 * p) l2) (gr2 : Gives y (2 * p + 1) r2)

@@ -15,3 +15,5 @@ pub mod OwnBytes
 pub mod Impostors
 pub mod Example
 pub mod Replies
+pub mod Parts
+pub mod FromRoot
