@@ -6,6 +6,7 @@ pub mod Settles
 pub mod Fresh
 pub mod Grows
 pub mod Again
+pub mod Beyond
 pub mod Refusals
 pub mod ReadBack
 pub mod RightPadding

@@ -1,0 +1,146 @@
+-- Bytes of a store's memory past the size its facts give decide nothing: two memories that agree up to there get the same numbers.
+-- (A held hash: `used-answer`, in the crate store.)
+-- Assumes nothing.
+use mathlib.Core.Path.{_≡_, refl, ap, ap₂, sym, _∙_}
+use mathlib.Core.Bool.{Bool, true, false, cond, _&&_, _||_, not}
+use mathlib.Core.List.{List, [], _∷_}
+use Prim.Native.Nat.{ℕ, _+_, _-_, _*_, _^_, _≤_, _<_}
+use native.Mathlib.Omega.{arith}
+use native.Mathlib.Decide.{ℕ-discrete}
+use lib.ListN.{length}
+use lib.Dec.{eqb, ltb}
+use borrow.Author.Tests.{ne-eqb, eqb-true, ltb-true}
+use Rattle.octets.specs.Octets.{cut, same}
+use Rattle.numbers.specs.Numbers.{ruleBroken, wrongSize, wrongPadding, unusable, judged}
+use Rattle.sha256.specs.Sha256.{sha256}
+use Rattle.tree.specs.Geometry.{nodeNumber, blockSize, pieceSize, pieceCount, pieceLayer, hasLayer}
+use Rattle.tree.specs.GeometryLaws.{height-enough, node-number-range}
+use Rattle.tree.specs.Values.{leafOf, layerLeaf}
+use Rattle.tree.specs.ValuesLaws.{leaf-octets}
+use Rattle.cells.specs.Cells.{heldAt, hashAt}
+use Rattle.cells.specs.Entries.{Entry, agreesAt, agrees}
+use Rattle.cells.specs.EntriesLaws.{Sound, none, more}
+use Rattle.store.specs.Store.{usable, fileLength, pieceLength, blocksOf, heightOf, positions, storeSize}
+use Rattle.store.specs.StoreLaws.{Facts, facts-usable, used-same, used-facts, used-held, used-hash}
+use Rattle.runs.specs.AncestorLaws.{ancestor-le}
+use Rattle.runs.specs.Span.{Within}
+use Rattle.runs.specs.Subtree.{subtree}
+use Rattle.runs.specs.SubtreeLaws.{within-self, subtree-sound}
+use Rattle.header.specs.Header.{placeOf, headerOf, isHashes, messageSize}
+use Rattle.messages.specs.Take.{headerNumber, bodyNumber, padded, anchored, anchor, worked, settled, placeIn, orElse, takeNumber}
+use Rattle.messages.specs.TakeLaws.{Passed, Placed, Ready, passed, placed, placed-ready}
+use Rattle.messages.specs.TakenLaws.{ready-settled}
+use Rattle.pieces.specs.Pieces.{blockNumber, judgedAt, layerOfPieces, layerNumber, pieceHeight, pieceNumber}
+use Rattle.pieces.specs.PiecesLaws.{layered, layer-within, layer-leaf-length, piece-within}
+
+module _ (s t : List ℕ) (f : Facts s) (e : cut t 0 (storeSize (fileLength s)) ≡ cut s 0 (storeSize (fileLength s))) where
+  agrees-used : (L : List Entry) → Sound (positions (heightOf s)) L → agrees t L ≡ agrees s L
+  unfolding agrees agreesAt
+  agrees-used [] none = refl
+  agrees-used (x ∷ L) (more a b k) = rw (used-held s t f e (x .at) a, used-hash s t f e (x .at) a, agrees-used L k)
+
+  module _ (m : List ℕ) where
+    header-used : headerNumber (isHashes m) t m ≡ headerNumber (isHashes m) s m
+    unfolding headerNumber
+    header-used =
+        rw (facts-usable t (used-facts s t f e), facts-usable s f, used-same s t f e .root, used-same s t f e .blocks, used-same s t f e .layers)
+
+    place-used : placeIn t m ≡ placeIn s m
+    place-used = ap (placeOf (headerOf m)) (used-same s t f e .layers)
+
+    placed-here : headerNumber (isHashes m) s m ≡ 0 → Placed (positions (heightOf s)) (headerOf m) (placeIn s m)
+    placed-here z = placed (isHashes m) s m (passed (isHashes m) s m z)
+
+    anchor-below : headerNumber (isHashes m) s m ≡ 0 → anchor (placeIn s m) < positions (heightOf s)
+    unfolding anchor
+    anchor-below z =
+        let q = placed-here z in
+        omega (arith, ancestor-le (placeIn s m .u) (placeIn s m .top), within-self (positions (heightOf s)) (placeIn s m .k) (placeIn s m .top) (q .top))
+
+    settled-sound : headerNumber (isHashes m) s m ≡ 0 → length m ≡ messageSize (headerOf m) → Sound (positions (heightOf s)) (settled m (placeIn s m))
+    unfolding settled
+    settled-sound z n =
+        let q = placed-here z in
+        ready-settled (length s) m (positions (heightOf s)) (headerOf m) (placeIn s m) (placed-ready (length s) (length m) q (f .room) (omega (arith, q .size)))
+
+    tests-used : headerNumber (isHashes m) s m ≡ 0 → length m ≡ messageSize (headerOf m) → anchored t m (placeIn s m) ≡ anchored s m (placeIn s m)
+    unfolding anchored
+    tests-used z n =
+        rw (used-held s t f e (anchor (placeIn s m)) (anchor-below z), used-hash s t f e (anchor (placeIn s m)) (anchor-below z), agrees-used (settled m (placeIn s m)) (settled-sound z n))
+
+    body-used : headerNumber (isHashes m) s m ≡ 0 → bodyNumber t m (headerOf m) (placeIn t m) ≡ bodyNumber s m (headerOf m) (placeIn s m)
+    unfolding bodyNumber
+    body-used z = rw (place-used, used-same s t f e .blocks) (by (eqb (length m) (messageSize (headerOf m))) refl)
+      where
+        by : (b : Bool) → eqb (length m) (messageSize (headerOf m)) ≡ b
+            → cond (eqb (length m) (messageSize (headerOf m))) (cond (padded m (headerOf m) (placeIn s m) (blocksOf s)) (anchored t m (placeIn s m)) wrongPadding) wrongSize
+            ≡ cond (eqb (length m) (messageSize (headerOf m))) (cond (padded m (headerOf m) (placeIn s m) (blocksOf s)) (anchored s m (placeIn s m)) wrongPadding) wrongSize
+        by false x = rw x
+        by true x = rw (x, tests-used z (eqb-true (length m) (messageSize (headerOf m)) x))
+
+    -- a message,
+    pub take-beyond : takeNumber t m ≡ takeNumber s m
+    unfolding takeNumber
+    take-beyond =
+        ap (λ (n : ℕ). orElse n (bodyNumber t m (headerOf m) (placeIn t m))) header-used
+        ∙ elim (ℕ-discrete (headerNumber (isHashes m) s m) 0) [ yes z ↦ ap (orElse (headerNumber (isHashes m) s m)) (body-used z) | no ne ↦ rw (ne-eqb (headerNumber (isHashes m) s m) 0 ne) ]
+
+  -- a block,
+  pub block-beyond : (i : ℕ) (block : List ℕ) → blockNumber t i block ≡ blockNumber s i block
+  unfolding blockNumber
+  block-beyond i block =
+      rw (facts-usable t (used-facts s t f e), facts-usable s f, used-same s t f e .file, used-same s t f e .blocks, used-same s t f e .layers)
+      (by (ltb i (blocksOf s)) refl)
+    where
+      by : (b : Bool) → ltb i (blocksOf s) ≡ b
+          → cond (ltb i (blocksOf s)) (cond (eqb (length block) (blockSize (fileLength s) i)) (judged (heldAt t (nodeNumber (heightOf s) 0 i)) (same (hashAt t (nodeNumber (heightOf s) 0 i)) (sha256 block)) true) wrongSize) ruleBroken
+          ≡ cond (ltb i (blocksOf s)) (cond (eqb (length block) (blockSize (fileLength s) i)) (judged (heldAt s (nodeNumber (heightOf s) 0 i)) (same (hashAt s (nodeNumber (heightOf s) 0 i)) (sha256 block)) true) wrongSize) ruleBroken
+      by false x = rw x
+      by true x =
+          let z : heightOf s - 0 ≡ heightOf s = omega arith in
+          let w : i < 2 ^ (heightOf s - 0) = rw z (unfold heightOf in omega (arith, ltb-true i (blocksOf s) x, height-enough (blocksOf s))) in
+          let b : nodeNumber (heightOf s) 0 i < positions (heightOf s) = unfold positions in node-number-range (heightOf s) 0 i w .1 in
+          rw (used-held s t f e (nodeNumber (heightOf s) 0 i) b, used-hash s t f e (nodeNumber (heightOf s) 0 i) b)
+
+  judged-used : (leaf : ℕ → List ℕ) → ((i : ℕ) → length (leaf i) ≡ 32) → (k n : ℕ) → Within (positions (heightOf s)) k n → judgedAt t leaf k n ≡ judgedAt s leaf k n
+  unfolding judgedAt
+  judged-used leaf h k n w =
+      let b = within-self (positions (heightOf s)) k n w in
+      rw (used-held s t f e n b, used-hash s t f e n b, agrees-used (subtree leaf k n 0) (subtree-sound leaf h (positions (heightOf s)) k n 0 w))
+
+  layer-of-used : layerOfPieces t ≡ layerOfPieces s
+  unfolding layerOfPieces
+  layer-of-used = ap pieceLayer (used-same s t f e .piece)
+
+  piece-height-used : pieceHeight t ≡ pieceHeight s
+  unfolding pieceHeight
+  piece-height-used = rw (used-same s t f e .file, used-same s t f e .piece, used-same s t f e .layers, layer-of-used)
+
+  -- a piece
+  pub piece-beyond : (i : ℕ) (piece : List ℕ) → pieceNumber t i piece ≡ pieceNumber s i piece
+  unfolding pieceNumber
+  piece-beyond i piece =
+      rw (facts-usable t (used-facts s t f e), facts-usable s f, used-same s t f e .file, used-same s t f e .piece, used-same s t f e .layers, piece-height-used)
+      (by (ltb i (pieceCount (fileLength s) (pieceLength s))) refl)
+    where
+      by : (b : Bool) → ltb i (pieceCount (fileLength s) (pieceLength s)) ≡ b
+          → cond (ltb i (pieceCount (fileLength s) (pieceLength s))) (cond (eqb (length piece) (pieceSize (fileLength s) (pieceLength s) i)) (judgedAt t (leafOf piece) (pieceHeight s) (nodeNumber (heightOf s) (pieceHeight s) i)) wrongSize) ruleBroken
+          ≡ cond (ltb i (pieceCount (fileLength s) (pieceLength s))) (cond (eqb (length piece) (pieceSize (fileLength s) (pieceLength s) i)) (judgedAt s (leafOf piece) (pieceHeight s) (nodeNumber (heightOf s) (pieceHeight s) i)) wrongSize) ruleBroken
+      by false x = rw x
+      by true x =
+          let w = piece-within s i (Rattle.pieces.specs.PiecesLaws.placed s f i (ltb-true i (pieceCount (fileLength s) (pieceLength s)) x)) in
+          rw (judged-used (leafOf piece) (λ j. leaf-octets piece j .size) (pieceHeight s) (nodeNumber (heightOf s) (pieceHeight s) i) w)
+
+  -- and a layer get the same
+  pub layer-beyond : (layer : List ℕ) → layerNumber t layer ≡ layerNumber s layer
+  unfolding layerNumber
+  layer-beyond layer =
+      rw (facts-usable t (used-facts s t f e), facts-usable s f, used-same s t f e .file, used-same s t f e .piece, used-same s t f e .layers, layer-of-used)
+      (by (hasLayer (fileLength s) (pieceLength s)) refl)
+    where
+      by : (b : Bool) → hasLayer (fileLength s) (pieceLength s) ≡ b
+          → cond (hasLayer (fileLength s) (pieceLength s)) (cond (eqb (length layer) (32 * pieceCount (fileLength s) (pieceLength s))) (judgedAt t (layerLeaf layer (layerOfPieces s)) (heightOf s - layerOfPieces s) 1) wrongSize) ruleBroken
+          ≡ cond (hasLayer (fileLength s) (pieceLength s)) (cond (eqb (length layer) (32 * pieceCount (fileLength s) (pieceLength s))) (judgedAt s (layerLeaf layer (layerOfPieces s)) (heightOf s - layerOfPieces s) 1) wrongSize) ruleBroken
+      by false x = rw x
+      by true x =
+          rw (judged-used (layerLeaf layer (layerOfPieces s)) (layer-leaf-length layer (layerOfPieces s)) (heightOf s - layerOfPieces s) 1 (layer-within s (layered s f x)))
