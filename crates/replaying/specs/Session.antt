@@ -18,6 +18,7 @@ use Rattle.replaying.specs.declared.Line.{Line}
 use Rattle.replaying.specs.declared.Line.the-variants.{Nothing, Answered}
 use Rattle.replaying.specs.declared.Progress.{Progress}
 use Rattle.replaying.specs.declared.Stepped.{Stepped}
+use Rattle.replaying.specs.declared.Part.{Part}
 
 -- files up to this many blocks
 abbrev pub maxBlocks : ℕ
@@ -117,10 +118,35 @@ abbrev pub lineOf : Line → List Answer
 lineOf Nothing = []
 lineOf (Answered a) = a ∷ []
 
+abbrev pub silent : Line → Bool
+silent Nothing = true
+silent (Answered a) = false
+
+abbrev pub next : Session → ℕ → Outcome
+next x b = step (x .phase) (x .got) (x .store) b
+
 unfoldable pub printed : Session → List ℕ → List Answer
 printed x [] = lineOf (ending (x .phase))
-printed x (b ∷ rest) =
-    lineOf (step (x .phase) (x .got) (x .store) b .line) ++ printed (step (x .phase) (x .got) (x .store) b .session) rest
+printed x (b ∷ rest) = lineOf (next x b .line) ++ printed (next x b .session) rest
+
+-- a session over a store's lent bytes, before any input
+abbrev pub begun : List ℕ → Session
+begun lent = record { phase = Fresh; got = []; store = lent }
+
+-- ---- a piece of the input: its bytes up to the first line, how many they are, and that line
+
+pub record Reading : Type 0 where
+  pub session : Session
+  pub used : ℕ
+  pub line : Line
+
+abbrev pub further : ℕ → Reading → Reading
+further n r = record { session = r .session; used = n + r .used; line = r .line }
+
+unfoldable pub reading : Session → List ℕ → Reading
+reading x [] = record { session = x; used = 0; line = Nothing }
+reading x (b ∷ rest) =
+    cond (silent (next x b .line)) (further 1 (reading (next x b .session) rest)) (record { session = next x b .session; used = 1; line = next x b .line })
 
 -- ---- the session as the code holds it: the gathered bytes stand at the front of a lent room
 
@@ -152,3 +178,13 @@ pub record Follows (o : Outcome) (r : Stepped) (s room : List ℕ) : Type 0 wher
   pub session : seen (r .progress) s room ≡ o .session
   pub line : r .line ≡ o .line
   pub due : Due (r .progress .phase) (r .progress .at)
+
+-- and its reading of a piece
+pub record Reads (o : Reading) (r : Part) (s room : List ℕ) : Type 0 where
+  pub session : seen (r .progress) s room ≡ o .session
+  pub used : r .used ≡ o .used
+  pub line : r .line ≡ o .line
+  pub due : Due (r .progress .phase) (r .progress .at)
+
+abbrev pub started : Progress
+started = record { phase = Fresh; at = 0 }

@@ -42,6 +42,13 @@ pub struct Stepped {
     pub line: Line,
 }
 
+// What a piece of the input gives: the line that its first `used` bytes end with, if there is one.
+pub struct Part {
+    pub progress: Progress,
+    pub used: usize,
+    pub line: Line,
+}
+
 // A message of a header and 528 hashes; the lent room has at least as many bytes.
 pub const MAX_MESSAGE: usize = 16945;
 
@@ -170,5 +177,55 @@ pub fn end(p: Progress) -> Line
         Phase::Inside => Line::Answered(cut),
         Phase::Body(_) => Line::Answered(cut),
         Phase::Stopped => Line::Nothing,
+    }
+}
+
+fn is_silent(line: Line) -> bool
+    ensures { λ r. ⌜ r ≡ S.silent line ⌝ }
+{
+    match line {
+        Line::Nothing => true,
+        Line::Answered(_) => false,
+    }
+}
+
+// The next bytes of the input, as many as there are up to the first line.
+pub fn take_piece(p: Progress, s: &mut [u8], room: &mut [u8], piece: &[u8]) -> Part
+    requires { ⌜ S.Ready p (length (now room)) ⌝ }
+    ensures { λ r. ⌜ S.Reads (S.reading (S.seen p (now (s .entry)) (now (room .entry))) (now (piece .entry))) r (now (s .exit)) (now (room .exit)) ⌝ }
+{
+    let mut q = p;
+    let mut i: usize = 0;
+    while i < piece.len() {
+        let b = piece[i];
+        let f = take_byte(q, s, room, b);
+        let next = f.progress;
+        let line = f.line;
+        q = next;
+        i += 1;
+        let quiet = is_silent(line);
+        if !quiet {
+            return Part {
+                progress: next,
+                used: i,
+                line,
+            };
+        }
+    }
+    let line = Line::Nothing;
+    Part {
+        progress: q,
+        used: i,
+        line,
+    }
+}
+
+// Before any input.
+pub fn start() -> Progress
+    ensures { λ r. ⌜ r ≡ S.started ⌝ }
+{
+    Progress {
+        phase: Phase::Fresh,
+        at: 0,
     }
 }
