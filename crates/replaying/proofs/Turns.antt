@@ -13,22 +13,10 @@ use Rattle.replaying.specs.declared.Line.the-variants.{Nothing, Answered
 use Rattle.replaying.specs.declared.Progress.{Progress}
 use Rattle.replaying.specs.declared.Stepped.{Stepped}
 use Rattle.replaying.specs.declared.Part.{Part}
+use Rattle.replaying.specs.SessionLaws.{reading-on, reading-said, reading-none}
 use Rattle.replaying.specs.Session.{Session, Outcome, Reading, step, next, silent, further, reading, seen, Due, Ready, Follows, Reads, maxMessage}
 
--- ---- one byte more of a reading
-
-module _ (x : Session) (b : ℕ) (rest : List ℕ) where
-  pub reading-on : silent (next x b .line) ≡ true → reading x (b ∷ rest) ≡ further 1 (reading (next x b .session) rest)
-  unfolding reading
-  reading-on e = rw e
-
-  pub reading-said : silent (next x b .line) ≡ false → reading x (b ∷ rest) ≡ record { session = next x b .session; used = 1; line = next x b .line }
-  unfolding reading
-  reading-said e = rw e
-
-pub reading-none : (x : Session) → reading x [] ≡ record { session = x; used = 0; line = Nothing }
-unfolding reading
-reading-none x = refl
+-- ---- a reading with another count
 
 abbrev sized : Session → ℕ → Line → Reading
 sized y n l = record { session = y; used = n; line = l }
