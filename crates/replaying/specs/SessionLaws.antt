@@ -3,13 +3,22 @@
 use mathlib.Core.Path.{_≡_, refl, ap, sym, _∙_, subst}
 use mathlib.Core.Bool.{Bool, true, false, cond}
 use mathlib.Core.List.{List, [], _∷_, _++_}
-use Prim.Native.Nat.{ℕ, zero, suc, _+_, _≤_, _<_}
+use Prim.Native.Nat.{ℕ, zero, suc, _+_, _-_, _≤_, _<_}
 use native.Mathlib.Omega.{arith}
-use lib.ListN.{length, drop}
+use lib.ListN.{length, take, drop, length-take, length-drop}
 use Rattle.numbers.specs.declared.Answer.{Answer}
 use Rattle.replaying.specs.declared.Line.{Line}
 use Rattle.replaying.specs.declared.Line.the-variants.{Nothing, Answered}
-use Rattle.replaying.specs.Session.{Session, Outcome, Reading, step, next, silent, lineOf, printed, further, reading}
+use Rattle.replaying.specs.declared.Progress.{Progress}
+use Rattle.replaying.specs.Session.{Session, Outcome, Reading, step, next, silent, lineOf, printed, begun, further, reading, seen, started, Due}
+
+-- ---- at the start nothing is gathered
+
+pub started-due : (q : Progress) → q ≡ started → Due (q .phase) (q .at)
+started-due q e = rw e (omega arith)
+
+pub started-seen : (s room : List ℕ) → seen started s room ≡ begun s
+started-seen s room = refl
 
 -- ---- one byte more of a reading
 
@@ -47,12 +56,20 @@ reading-some x [] h = absurd (none h)
     none l = omega arith
 reading-some x (b ∷ rest) h = some-by x b rest (next x b .line) refl
 
+-- the same of the rest of a piece
+pub rest-used : (x : Session) (piece : List ℕ) (at u : ℕ) → at < length piece → u ≡ reading x (take (length piece - at) (drop at piece)) .used → (at + u ≤ length piece) × (1 ≤ u)
+rest-used x piece at u l e =
+    let n : length (take (length piece - at) (drop at piece)) ≡ length piece - at = simp (length-take, length-drop) (omega arith) in
+    let w = reading-within x (take (length piece - at) (drop at piece)) in
+    let v = reading-some x (take (length piece - at) (drop at piece)) (omega arith) in
+    (omega arith, omega arith)
+
 -- ---- the lines of the whole are the piece's line, if there is one, and those of what the piece left with all that follows
 
 drop-one : (n b : ℕ) (l : List ℕ) → drop (1 + n) (b ∷ l) ≡ drop n l
 drop-one n b l = let e : 1 + n ≡ suc n = omega arith in rw e
 
-abbrev left-over : List ℕ → List ℕ → Reading → List Answer
+abbrev pub left-over : List ℕ → List ℕ → Reading → List Answer
 left-over piece rest r = lineOf (r .line) ++ printed (r .session) (drop (r .used) piece ++ rest)
 
 printed-by : (x : Session) (b : ℕ) (piece rest : List ℕ) (l : Line) → next x b .line ≡ l
