@@ -10,7 +10,8 @@ use Rattle.numbers.specs.declared.Answer.{Answer}
 use Rattle.replaying.specs.declared.Line.{Line}
 use Rattle.replaying.specs.declared.Line.the-variants.{Nothing, Answered}
 use Rattle.replaying.specs.declared.Progress.{Progress}
-use Rattle.replaying.specs.Session.{Session, Outcome, Reading, step, next, silent, lineOf, printed, begun, further, reading, seen, started, Due}
+use Rattle.replaying.specs.declared.Part.{Part}
+use Rattle.replaying.specs.Session.{Session, Outcome, Reading, step, next, silent, lineOf, printed, begun, further, reading, seen, started, Due, Reads}
 
 -- ---- at the start nothing is gathered
 
@@ -82,3 +83,8 @@ printed-by x b piece rest (Answered a) e h = rw (reading-said x b piece (ap sile
 pub reading-printed : (x : Session) (piece rest : List ℕ) → printed x (piece ++ rest) ≡ left-over piece rest (reading x piece)
 reading-printed x [] rest = rw reading-none refl
 reading-printed x (b ∷ piece) rest = printed-by x b piece rest (next x b .line) refl (reading-printed (next x b .session) piece rest)
+
+-- so does the code: what it answers for a piece, with what its session prints for all that follows, are the lines of the session before
+pub reads-printed : (x : Session) (piece rest : List ℕ) (r : Part) (s room : List ℕ) → Reads (reading x piece) r s room
+    → printed x (piece ++ rest) ≡ lineOf (r .line) ++ printed (seen (r .progress) s room) (drop (r .used) piece ++ rest)
+reads-printed x piece rest r s room R = reading-printed x piece rest ∙ rw (R .session, R .used, R .line) refl
