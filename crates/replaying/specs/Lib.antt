@@ -1,0 +1,4 @@
+pub mod Session
+pub mod SessionLaws
+pub mod Lines
+pub mod LinesLaws
