@@ -16,7 +16,7 @@ use Rattle.octets.specs.OctetsLaws.{same-true, same-eq, same-false, append-octe
 use Rattle.sha256.specs.Sha256.{sha256, pairHash}
 use Rattle.sha256.specs.Sha256Laws.{pair-octets}
 use Rattle.numbers.specs.Numbers.{noMessage, otherRoot, ruleBroken, wrongSize, wrongPadding, conflict, unusable, judged}
-use Rattle.tree.specs.Geometry.{nodeNumber, hasLayer, pieceCount, pieceSize}
+use Rattle.tree.specs.Geometry.{blockCount, height, nodeNumber, hasLayer, pieceCount, pieceSize}
 use Rattle.tree.specs.Values.{node, padValue, leafOf, layerLeaf}
 use Rattle.tree.specs.ValuesLaws.{node-octets, leaf-octets, pad-octets}
 use Rattle.cells.specs.Cells.{heldAt, hashAt}
@@ -39,12 +39,14 @@ use Rattle.promises.specs.Invariant.{Chained, Ours, family-pair, Whole, 
 
 -- ---- what is shown
 
--- where a position's hash is taken from: held by a store, or given or worked out by a message, a layer or a piece that is offered to store s
+-- where a position's hash is taken from: held by a store, or given or worked out by a message, a layer or a piece that is offered to
+-- store s; or a file's own tree
 pub data Source : Type 0 where
   heldBy : (s : List ℕ) → Source
   byMessage : (s m : List ℕ) → Source
   byLayer : (s layer : List ℕ) → Source
   byPiece : (s : List ℕ) (i : ℕ) (piece : List ℕ) → Source
+  ofFile : (file : List ℕ) → Source
 
 -- the source has hash v at position n
 unfoldable pub Gives : Source → ℕ → List ℕ → Type 0
@@ -52,6 +54,7 @@ Gives (heldBy s) n v = Hold s n v
 Gives (byMessage s m) n v = Has n v (settled m (placeIn s m))
 Gives (byLayer s layer) n v = Has n v (layerSettled s layer)
 Gives (byPiece s i piece) n v = Has n v (subtree (leafOf piece) (pieceHeight s) (nodeNumber (heightOf s) (pieceHeight s) i) 0)
+Gives (ofFile file) n v = Has n v (subtree (leafOf file) (height (blockCount (length file))) 1 0)
 
 -- two different strings of 64 bytes with one SHA-256, both left child then right child of one position of a tree of height h,
 -- one as x and one as y has them
@@ -183,7 +186,7 @@ module _ (s : List ℕ) (y : Source) (L : List Entry) (a : ℕ) (v : List ℕ) (
 
 -- ---- what is given and worked out are strings of bytes
 
-subtree-octets : (leaf : ℕ → List ℕ) → ((i : ℕ) → Octets 32 (leaf i)) → (k n j : ℕ) (e : Entry) → In e (subtree leaf k n j) → Octets 32 (e .hash)
+pub subtree-octets : (leaf : ℕ → List ℕ) → ((i : ℕ) → Octets 32 (leaf i)) → (k n j : ℕ) (e : Entry) → In e (subtree leaf k n j) → Octets 32 (e .hash)
 subtree-octets leaf f k n j e i =
     let P = subtree-value leaf k n j e i in
     rw (P .value) (node-octets leaf f (k - P .layers) (j * 2 ^ P .layers + P .offset))

@@ -9,3 +9,4 @@ pub mod Invariant
 pub mod Conflict
 pub mod OwnBytes
 pub mod Replies
+pub mod RootToBlock
