@@ -210,7 +210,7 @@ path-octets hashes i (suc u) n v b l e k =
       ]
     ]
 
-sized-bytes : (n : ℕ) (l : List ℕ) → Octets n l → Bytes l
+pub sized-bytes : (n : ℕ) (l : List ℕ) → Octets n l → Bytes l
 sized-bytes n l o = rw (o .size) o
 
 pub message-octets : (s m : List ℕ) → Bytes m → Ready (length s) (length m) (positions (heightOf s)) (headerOf m) (placeIn s m)

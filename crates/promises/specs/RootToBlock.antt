@@ -5,30 +5,33 @@ use mathlib.Core.Path.{_≡_, refl, ap, ap₂, sym, _∙_}
 use mathlib.Core.Bool.{Bool, true, false, cond, _&&_}
 use mathlib.Core.List.{List}
 use mathlib.Core.Logic.{_⊎_, inl, inr}
-use Prim.Native.Nat.{ℕ, zero, suc, _+_, _-_, _*_, _/_, _^_, _≤_, _<_}
+use Prim.Native.Nat.{ℕ, zero, suc, _+_, _-_, _*_, _/_, _%_, _^_, _≤_, _<_, min}
 use native.Mathlib.Omega.{arith}
-use lib.ListN.{length}
-use borrow.Author.Tests.{eqb-true}
-use Rattle.octets.specs.Octets.{Octets, same}
-use Rattle.octets.specs.OctetsLaws.{same-true, same-eq, same-false}
-use Rattle.sha256.specs.Sha256.{sha256}
+use native.Mathlib.Nat.{pow-succ'}
+use native.Mathlib.Decide.{decLt, ℕ-discrete}
+use lib.ListN.{length, getD}
+use lib.Dec.{ltb}
+use borrow.Author.Tests.{ltb-false}
+use Rattle.octets.specs.Octets.{Octets, cut, same}
+use Rattle.octets.specs.OctetsLaws.{same-true, same-eq, same-false, cut-octets, cut-short}
+use Rattle.sha256.specs.Sha256.{sha256, pairHash}
 use Rattle.tree.specs.Geometry.{blockLength, blockCount, height, nodeNumber, hasLayer, pieceCount, blockSize, pieceSize}
-use Rattle.tree.specs.GeometryLaws.{node-number-root, node-number-range}
+use Rattle.tree.specs.GeometryLaws.{left-start, right-start, node-number-root, node-number-range, block-starts, block-outside, piece-length-form, piece-size-most}
 use Rattle.tree.specs.Values.{node, leafOf, blockOf, pieceOf, piecesRoot}
-use Rattle.tree.specs.ValuesLaws.{leaf-octets, leaf-block, block-bytes}
+use Rattle.tree.specs.ValuesLaws.{node-octets, leaf-octets, leaf-block, block-bytes, piece-bytes, leaf-of-piece, one-piece}
 use Rattle.cells.specs.Cells.{heldAt, hashAt}
 use Rattle.cells.specs.Entries.{Entry, agreesAt, agrees}
-use Rattle.cells.specs.EntriesLaws.{Hold, In, Has, has-same, apart-consistent, agrees-held, agrees-in}
+use Rattle.cells.specs.EntriesLaws.{Hold, In, Has, has-same, apart-consistent, agrees-held, agrees-in, in-agrees}
 use Rattle.store.specs.Store.{usable, fileLength, pieceLength, factsRoot, blocksOf, heightOf, positions, inTree}
-use Rattle.store.specs.StoreLaws.{Facts, facts-usable, tree-says, tree-number, positions-some}
+use Rattle.store.specs.StoreLaws.{Facts, facts-usable, facts-leaves, tree-says, tree-number, positions-some}
 use Rattle.runs.specs.Span.{Within}
 use Rattle.runs.specs.Subtree.{subtree}
-use Rattle.runs.specs.SubtreeLaws.{within-tree, subtree-sound, subtree-apart, subtree-positive, subtree-family, subtree-top, subtree-has}
-use Rattle.pieces.specs.Pieces.{blockNumber}
-use Rattle.pieces.specs.PiecesLaws.{RightBlock, block-right, right-block}
+use Rattle.runs.specs.SubtreeLaws.{within-tree, within-left, within-right, within-self, subtree-left, subtree-right, subtree-value, number-below, subtree-sound, subtree-apart, subtree-positive, subtree-family, subtree-top, subtree-has}
+use Rattle.pieces.specs.Pieces.{layerOfPieces, pieceHeight, blockNumber, pieceNumber}
+use Rattle.pieces.specs.PiecesLaws.{Placed, placed, piece-within, height-layer, height-root, piece-at-root, block-right, right-block, RightPiece, piece-right, right-piece}
 use Rattle.promises.specs.History.{Bytes, OurStore}
 use Rattle.promises.specs.Invariant.{Chained, Ours, Whole, ours-have}
-use Rattle.promises.specs.Conflict.{Shown, heldBy, ofFile, Gives, agrees-or-shown, subtree-octets}
+use Rattle.promises.specs.Conflict.{Source, Shown, heldBy, byPiece, ofFile, Gives, same-or-shown, agrees-or-shown, subtree-octets, sized-bytes}
 use Rattle.promises.specs.OwnBytes.{ours-bytes}
 
 -- s was opened with the file's own length and pieces root
@@ -95,3 +98,180 @@ pub held-is-the-files : {s : List ℕ} (file : List ℕ) → OurStore s → For 
     → hashAt s (nodeNumber (heightOf s) l i) ≡ node (leafOf file) l i)
 held-is-the-files {s} file o w =
     elim (tree-agrees file s w (ours-have o .chained) (ours-bytes o)) [ inl x ↦ inl x | inr g ↦ inr (agreed-is file s w g) ]
+
+-- ---- blocks
+
+-- two different strings with one SHA-256
+pub record OneHash (a b : List ℕ) : Type 0 where
+  pub bytes : Bytes a
+  pub bytes′ : Bytes b
+  pub differ : a ≡ b → ⊥
+  pub alike : sha256 a ≡ sha256 b
+
+block-octets : (file : List ℕ) (i : ℕ) → Bytes file → i < blockCount (length file) → Bytes (blockOf file i)
+unfolding blockOf
+block-octets file i b l =
+    let n = min blockLength (length file - blockLength * i) in
+    let s = block-starts (length file) i l in
+    let o : Octets (min blockLength (length file - blockLength * i)) (cut file (blockLength * i) (min blockLength (length file - blockLength * i))) =
+    cut-octets (blockLength * i) (min blockLength (length file - blockLength * i)) b (omega arith) in
+    rw (cut-short file (blockLength * i) blockLength) at (sized-bytes n _ o)
+
+same-or-one-hash : (a b : List ℕ) → Bytes a → Bytes b → sha256 a ≡ sha256 b → OneHash a b ⊎ (a ≡ b)
+same-or-one-hash a b x y e = by (same a b) refl
+  where
+    by : (t : Bool) → same a b ≡ t → OneHash a b ⊎ (a ≡ b)
+    by true p = inr (same-true a b p)
+    by false p = inl (record { bytes = x; bytes′ = y; differ = same-false a b p; alike = e })
+
+module _ (file s : List ℕ) (f : Facts s) (w : For file s) (i : ℕ) (l : i < blocksOf s) where
+  leaf-inside : i < 2 ^ (heightOf s - 0)
+  leaf-inside = let z : heightOf s - 0 ≡ heightOf s = omega arith in rw z (omega (arith, facts-leaves s f))
+
+  same-count : blocksOf s ≡ blockCount (length file)
+  unfolding blocksOf
+  same-count = ap blockCount (w .long)
+
+  leaf-hash : agrees s (treeOf file) ≡ true → heldAt s (nodeNumber (heightOf s) 0 i) ≡ true → hashAt s (nodeNumber (heightOf s) 0 i) ≡ sha256 (blockOf file i)
+  unfolding node
+  leaf-hash g h = agreed-is file s w g 0 i (omega arith) leaf-inside h ∙ leaf-block file i (rw same-count at l)
+
+-- A BLOCK ANSWERED 0 IS THE FILE'S, or a pair is shown, or the block and the file's block are two different strings with one SHA-256
+pub block-is-the-files : {s : List ℕ} (file : List ℕ) (i : ℕ) (block : List ℕ) → OurStore s → For file s → Bytes file → Bytes block → blockNumber s i block ≡ 0
+    → Shown (heightOf s) (heldBy s) (ofFile file) ⊎ (OneHash block (blockOf file i) ⊎ (block ≡ blockOf file i))
+block-is-the-files {s} file i block o w bf bb z =
+    let r = block-right s i block z in
+    let f = ours-have o .chained .facts in
+    elim (tree-agrees file s w (ours-have o .chained) (ours-bytes o)) [
+      | inl x ↦ inl x
+      | inr g ↦
+          inr (same-or-one-hash block (blockOf file i) bb (block-octets file i bf (rw (same-count file s f w i (r .inside)) at (r .inside)))
+          (sym (r .alike) ∙ leaf-hash file s f w i (r .inside) g (r .held)))
+    ]
+
+-- THE FILE'S OWN BLOCK, its leaf held, is answered 0, or a pair is shown
+pub true-block : {s : List ℕ} (file : List ℕ) (i : ℕ) → OurStore s → For file s → i < blocksOf s → heldAt s (nodeNumber (heightOf s) 0 i) ≡ true
+    → Shown (heightOf s) (heldBy s) (ofFile file) ⊎ (blockNumber s i (blockOf file i) ≡ 0)
+true-block {s} file i o w l h =
+    let f = ours-have o .chained .facts in
+    elim (tree-agrees file s w (ours-have o .chained) (ours-bytes o)) [
+      | inl x ↦ inl x
+      | inr g ↦
+          inr (right-block s i (blockOf file i)
+          (record {
+            store = facts-usable s f;
+            inside = l;
+            size = block-bytes file i ∙ ap (λ (n : ℕ). blockSize n i) (sym (w .long));
+            held = h;
+            alike = leaf-hash file s f w i l g h;
+          }))
+    ]
+
+-- ---- pieces
+
+-- two subtrees over the same leaves are the same
+subtree-alike : (f g : ℕ → List ℕ) (k n j j2 : ℕ) → ((x : ℕ) → x < 2 ^ k → f (j * 2 ^ k + x) ≡ g (j2 * 2 ^ k + x))
+    → (node f k j ≡ node g k j2) × (subtree f k n j ≡ subtree g k n j2)
+unfolding node subtree
+subtree-alike f g zero n j j2 h =
+    let a : j * 2 ^ 0 + 0 ≡ j = omega arith in
+    let b : j2 * 2 ^ 0 + 0 ≡ j2 = omega arith in
+    let e : f j ≡ g j2 = rw (a, b) at (h 0 (omega arith)) in
+    (e, rw e)
+subtree-alike f g (suc k) n j j2 h =
+    let d = pow-succ' 2 k in
+    let L = subtree-alike f g k (2 * n) (2 * j) (2 * j2)
+    (λ x l.
+    let a : j * 2 ^ suc k + x ≡ 2 * j * 2 ^ k + x = omega (arith, left-start j k) in
+    let b : j2 * 2 ^ suc k + x ≡ 2 * j2 * 2 ^ k + x = omega (arith, left-start j2 k) in
+    ap f (sym a) ∙ h x (omega arith) ∙ ap g b) in
+    let R = subtree-alike f g k (2 * n + 1) (2 * j + 1) (2 * j2 + 1)
+    (λ x l.
+    let a : j * 2 ^ suc k + (2 ^ k + x) ≡ (2 * j + 1) * 2 ^ k + x = omega (arith, left-start j k, right-start j k) in
+    let b : j2 * 2 ^ suc k + (2 ^ k + x) ≡ (2 * j2 + 1) * 2 ^ k + x = omega (arith, left-start j2 k, right-start j2 k) in
+    ap f (sym a) ∙ h (2 ^ k + x) (omega arith) ∙ ap g b) in
+    let e : pairHash (node f k (2 * j)) (node f k (2 * j + 1)) ≡ pairHash (node g k (2 * j2)) (node g k (2 * j2 + 1)) = ap₂ pairHash (L .0) (R .0) in
+    (e, rw (L .1, R .1, L .0, R .0))
+
+-- what lies below a position of a file's tree is part of that tree
+module _ (file s : List ℕ) (w : For file s) where
+  part-in-tree : (k i : ℕ) → k ≤ heightOf s → i < 2 ^ (heightOf s - k) → (e : Entry) → In e (subtree (leafOf file) k (nodeNumber (heightOf s) k i) i) → In e (treeOf file)
+  part-in-tree k i a b e x =
+      let h = heightOf s in
+      let P = subtree-value (leafOf file) k (nodeNumber h k i) i e x in
+      let r : P .layers ≤ k = P .reach in
+      let q : nodeNumber h k i * 2 ^ P .layers + P .offset ≡ nodeNumber h (k - P .layers) (i * 2 ^ P .layers + P .offset) = number-below h k i (P .layers) (P .offset) a (P .reach) in
+      let ex : h - k + P .layers ≡ h - (k - P .layers) = omega arith in
+      let pw : 2 ^ (h - k) * 2 ^ P .layers ≡ 2 ^ (h - (k - P .layers)) = sym (lib.Pow.pow-add 2 (h - k) (P .layers)) ∙ ap (λ (z : ℕ). 2 ^ z) ex in
+      let up : (i + 1) * 2 ^ P .layers ≤ 2 ^ (h - k) * 2 ^ P .layers = native.Mathlib.Nat.mul-le-mul-right (2 ^ P .layers) (omega arith) in
+      let ib : i * 2 ^ P .layers + P .offset < 2 ^ (h - (k - P .layers)) = omega (arith, P .inside, native.Mathlib.Nat.add-mul i 1 (2 ^ P .layers), native.Mathlib.Nat.one-mul (2 ^ P .layers)) in
+      let z = tree-has file s w (k - P .layers) (i * 2 ^ P .layers + P .offset) (omega arith) ib in
+      rw (← same-height file s w)
+      (has-same (subtree (leafOf file) h 1 0) (nodeNumber h (k - P .layers) (i * 2 ^ P .layers + P .offset)) (e .at) (node (leafOf file) (k - P .layers) (i * 2 ^ P .layers + P .offset)) (e .hash)
+      (sym q ∙ sym (P .position)) (sym (P .value)) z)
+
+-- the file's piece i, for the store's piece length
+abbrev pub pieceFor : List ℕ → List ℕ → ℕ → List ℕ
+pieceFor file s i = pieceOf file (layerOfPieces s) i
+
+module _ (file s : List ℕ) (f : Facts s) (w : For file s) (i : ℕ) (l : i < pieceCount (fileLength s) (pieceLength s)) where
+  plen-form : pieceLength s ≡ blockLength * 2 ^ layerOfPieces s
+  unfolding layerOfPieces
+  plen-form = piece-length-form (pieceLength s) (f .piece) .1
+
+  piece-leaf : (x : ℕ) → x < 2 ^ pieceHeight s → leafOf (pieceFor file s i) x ≡ leafOf file (i * 2 ^ pieceHeight s + x)
+  piece-leaf = by (hasLayer (fileLength s) (pieceLength s)) refl
+    where
+      by : (t : Bool) → hasLayer (fileLength s) (pieceLength s) ≡ t → (x : ℕ) → x < 2 ^ pieceHeight s → leafOf (pieceFor file s i) x ≡ leafOf file (i * 2 ^ pieceHeight s + x)
+      by true t x b =
+          let e = height-layer s f t in
+          rw e (leaf-of-piece file (layerOfPieces s) i x (rw e at b))
+      by false t x b =
+          let z = piece-at-root s f i l t .0 in
+          let n : fileLength s ≤ pieceLength s = ltb-false (pieceLength s) (fileLength s) (unfold hasLayer in t) in
+          let p : pieceOf file (layerOfPieces s) 0 ≡ file = one-piece file (layerOfPieces s) (omega (arith, plen-form, w .long)) in
+          let q0 : x ≡ 0 * 2 ^ pieceHeight s + x = omega arith in
+          let q : x ≡ i * 2 ^ pieceHeight s + x = q0 ∙ ap (λ (y : ℕ). y * 2 ^ pieceHeight s + x) (sym z) in
+          ap (λ (y : ℕ). leafOf (pieceOf file (layerOfPieces s) y) x) z ∙ ap (λ (g : List ℕ). leafOf g x) p ∙ ap (leafOf file) q
+
+  piece-alike : (node (leafOf (pieceFor file s i)) (pieceHeight s) 0 ≡ node (leafOf file) (pieceHeight s) i)
+      × (subtree (leafOf (pieceFor file s i)) (pieceHeight s) (nodeNumber (heightOf s) (pieceHeight s) i) 0 ≡ subtree (leafOf file) (pieceHeight s) (nodeNumber (heightOf s) (pieceHeight s) i) i)
+  piece-alike =
+      subtree-alike (leafOf (pieceFor file s i)) (leafOf file) (pieceHeight s) (nodeNumber (heightOf s) (pieceHeight s) i) 0 i
+      (λ x b.
+      let z : 0 * 2 ^ pieceHeight s + x ≡ x = omega arith in
+      ap (leafOf (pieceFor file s i)) z ∙ piece-leaf x b)
+
+  piece-size-is : length (pieceFor file s i) ≡ pieceSize (fileLength s) (pieceLength s) i
+  piece-size-is = piece-bytes file (layerOfPieces s) i ∙ ap₂ (λ (n p : ℕ). pieceSize n p i) (sym (w .long)) (sym plen-form)
+
+  piece-agrees : agrees s (treeOf file) ≡ true → agrees s (subtree (leafOf (pieceFor file s i)) (pieceHeight s) (nodeNumber (heightOf s) (pieceHeight s) i) 0) ≡ true
+  piece-agrees g =
+      let p = placed s f i l in
+      rw (piece-alike .1)
+      (in-agrees s (subtree (leafOf file) (pieceHeight s) (nodeNumber (heightOf s) (pieceHeight s) i) i)
+      (λ e x. agrees-in s (treeOf file) g e (part-in-tree file s w (pieceHeight s) i (p .layer) (p .inside) e x)))
+
+-- THE FILE'S OWN PIECE, its node held, is answered 0, or a pair is shown
+pub true-piece : {s : List ℕ} (file : List ℕ) (i : ℕ) → OurStore s → For file s → i < pieceCount (fileLength s) (pieceLength s)
+    → heldAt s (nodeNumber (heightOf s) (pieceHeight s) i) ≡ true
+    → Shown (heightOf s) (heldBy s) (ofFile file) ⊎ (pieceNumber s i (pieceFor file s i) ≡ 0)
+true-piece {s} file i o w l h =
+    let f = ours-have o .chained .facts in
+    let p = placed s f i l in
+    elim (tree-agrees file s w (ours-have o .chained) (ours-bytes o)) [
+      | inl x ↦ inl x
+      | inr g ↦
+          inr (right-piece s i (pieceFor file s i)
+          (record {
+            store = facts-usable s f;
+            inside = l;
+            size = piece-size-is file s f w i l;
+            node =
+                record {
+                  held = h;
+                  alike = agreed-is file s w g (pieceHeight s) i (p .layer) (p .inside) h ∙ sym (piece-alike file s f w i l .0);
+                  agree = piece-agrees file s f w i l g;
+                };
+          }))
+    ]
