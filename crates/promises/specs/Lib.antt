@@ -10,3 +10,4 @@ pub mod Conflict
 pub mod OwnBytes
 pub mod Replies
 pub mod RootToBlock
+pub mod PieceIsTheFiles

@@ -2,36 +2,34 @@
 -- pieces root, is the file's; so is a block that it answers 0; and the file's own blocks and pieces are answered 0. Each unless a pair is shown.
 -- Assumes nothing.
 use mathlib.Core.Path.{_≡_, refl, ap, ap₂, sym, _∙_}
-use mathlib.Core.Bool.{Bool, true, false, cond, _&&_}
+use mathlib.Core.Bool.{Bool, true, false}
 use mathlib.Core.List.{List}
 use mathlib.Core.Logic.{_⊎_, inl, inr}
-use Prim.Native.Nat.{ℕ, zero, suc, _+_, _-_, _*_, _/_, _%_, _^_, _≤_, _<_, min}
+use Prim.Native.Nat.{ℕ, zero, suc, _+_, _-_, _*_, _^_, _≤_, _<_, min}
 use native.Mathlib.Omega.{arith}
 use native.Mathlib.Nat.{pow-succ'}
-use native.Mathlib.Decide.{decLt, ℕ-discrete}
-use lib.ListN.{length, getD}
-use lib.Dec.{ltb}
+use lib.ListN.{length}
 use borrow.Author.Tests.{ltb-false}
 use Rattle.octets.specs.Octets.{Octets, cut, same}
-use Rattle.octets.specs.OctetsLaws.{same-true, same-eq, same-false, cut-octets, cut-short}
+use Rattle.octets.specs.OctetsLaws.{same-true, same-false, cut-octets, cut-short}
 use Rattle.sha256.specs.Sha256.{sha256, pairHash}
 use Rattle.tree.specs.Geometry.{blockLength, blockCount, height, nodeNumber, hasLayer, pieceCount, blockSize, pieceSize}
-use Rattle.tree.specs.GeometryLaws.{left-start, right-start, node-number-root, node-number-range, block-starts, block-outside, piece-length-form, piece-size-most}
+use Rattle.tree.specs.GeometryLaws.{left-start, right-start, node-number-root, block-starts, piece-length-form}
 use Rattle.tree.specs.Values.{node, leafOf, blockOf, pieceOf, piecesRoot}
-use Rattle.tree.specs.ValuesLaws.{node-octets, leaf-octets, leaf-block, block-bytes, piece-bytes, leaf-of-piece, one-piece}
+use Rattle.tree.specs.ValuesLaws.{leaf-octets, leaf-block, block-bytes, piece-bytes, leaf-of-piece, one-piece}
 use Rattle.cells.specs.Cells.{heldAt, hashAt}
-use Rattle.cells.specs.Entries.{Entry, agreesAt, agrees}
-use Rattle.cells.specs.EntriesLaws.{Hold, In, Has, has-same, apart-consistent, agrees-held, agrees-in, in-agrees}
-use Rattle.store.specs.Store.{usable, fileLength, pieceLength, factsRoot, blocksOf, heightOf, positions, inTree}
-use Rattle.store.specs.StoreLaws.{Facts, facts-usable, facts-leaves, tree-says, tree-number, positions-some}
+use Rattle.cells.specs.Entries.{Entry, agrees}
+use Rattle.cells.specs.EntriesLaws.{In, Has, has-same, apart-consistent, agrees-held, agrees-in, in-agrees}
+use Rattle.store.specs.Store.{fileLength, pieceLength, factsRoot, blocksOf, heightOf, positions}
+use Rattle.store.specs.StoreLaws.{Facts, facts-usable, facts-leaves}
 use Rattle.runs.specs.Span.{Within}
 use Rattle.runs.specs.Subtree.{subtree}
-use Rattle.runs.specs.SubtreeLaws.{within-tree, within-left, within-right, within-self, subtree-left, subtree-right, subtree-value, number-below, subtree-sound, subtree-apart, subtree-positive, subtree-family, subtree-top, subtree-has}
+use Rattle.runs.specs.SubtreeLaws.{within-tree, subtree-value, number-below, subtree-sound, subtree-apart, subtree-positive, subtree-family, subtree-top, subtree-has}
 use Rattle.pieces.specs.Pieces.{layerOfPieces, pieceHeight, blockNumber, pieceNumber}
-use Rattle.pieces.specs.PiecesLaws.{Placed, placed, piece-within, height-layer, height-root, piece-at-root, block-right, right-block, RightPiece, piece-right, right-piece}
+use Rattle.pieces.specs.PiecesLaws.{placed, height-layer, piece-at-root, block-right, right-block, right-piece}
 use Rattle.promises.specs.History.{Bytes, OurStore}
-use Rattle.promises.specs.Invariant.{Chained, Ours, Whole, ours-have}
-use Rattle.promises.specs.Conflict.{Source, Shown, heldBy, byPiece, ofFile, Gives, same-or-shown, agrees-or-shown, subtree-octets, sized-bytes}
+use Rattle.promises.specs.Invariant.{Chained, Whole, ours-have}
+use Rattle.promises.specs.Conflict.{Shown, heldBy, ofFile, Gives, agrees-or-shown, subtree-octets, sized-bytes}
 use Rattle.promises.specs.OwnBytes.{ours-bytes}
 
 -- s was opened with the file's own length and pieces root
@@ -59,11 +57,11 @@ tree-whole file h =
     }
 
 module _ (file s : List ℕ) (w : For file s) where
-  same-height : heightOf s ≡ height (blockCount (length file))
+  pub same-height : heightOf s ≡ height (blockCount (length file))
   unfolding heightOf blocksOf
   same-height = ap (λ (n : ℕ). height (blockCount n)) (w .long)
 
-  tree-agrees : Chained s → Bytes s → Shown (heightOf s) (heldBy s) (ofFile file) ⊎ (agrees s (treeOf file) ≡ true)
+  pub tree-agrees : Chained s → Bytes s → Shown (heightOf s) (heldBy s) (ofFile file) ⊎ (agrees s (treeOf file) ≡ true)
   unfolding Gives piecesRoot
   tree-agrees c b =
       let h = height (blockCount (length file)) in
@@ -72,7 +70,7 @@ module _ (file s : List ℕ) (w : For file s) where
       (subtree-top (leafOf file) h 1 0) (c .root .0) (c .root .1 ∙ w .root)
 
   -- position i of layer l is in the file's tree, with the file's hash
-  tree-has : (l i : ℕ) → l ≤ heightOf s → i < 2 ^ (heightOf s - l) → Has (nodeNumber (heightOf s) l i) (node (leafOf file) l i) (subtree (leafOf file) (heightOf s) 1 0)
+  pub tree-has : (l i : ℕ) → l ≤ heightOf s → i < 2 ^ (heightOf s - l) → Has (nodeNumber (heightOf s) l i) (node (leafOf file) l i) (subtree (leafOf file) (heightOf s) 1 0)
   unfolding nodeNumber
   tree-has l i a b =
       let h = heightOf s in
@@ -82,7 +80,7 @@ module _ (file s : List ℕ) (w : For file s) where
       has-same (subtree (leafOf file) h 1 0) (1 * 2 ^ (h - l) + i) (2 ^ (h - l) + i) (node (leafOf file) (h - (h - l)) (0 * 2 ^ (h - l) + i)) (node (leafOf file) l i)
       e (ap₂ (λ (x y : ℕ). node (leafOf file) x y) k j) (subtree-has (leafOf file) h 1 0 (h - l) i (omega arith) b)
 
-  agreed-is : agrees s (treeOf file) ≡ true → (l i : ℕ) → l ≤ heightOf s → i < 2 ^ (heightOf s - l)
+  pub agreed-is : agrees s (treeOf file) ≡ true → (l i : ℕ) → l ≤ heightOf s → i < 2 ^ (heightOf s - l)
       → heldAt s (nodeNumber (heightOf s) l i) ≡ true → hashAt s (nodeNumber (heightOf s) l i) ≡ node (leafOf file) l i
   agreed-is g l i a b h =
       let n = nodeNumber (heightOf s) l i in
@@ -108,7 +106,7 @@ pub record OneHash (a b : List ℕ) : Type 0 where
   pub differ : a ≡ b → ⊥
   pub alike : sha256 a ≡ sha256 b
 
-block-octets : (file : List ℕ) (i : ℕ) → Bytes file → i < blockCount (length file) → Bytes (blockOf file i)
+pub block-octets : (file : List ℕ) (i : ℕ) → Bytes file → i < blockCount (length file) → Bytes (blockOf file i)
 unfolding blockOf
 block-octets file i b l =
     let n = min blockLength (length file - blockLength * i) in
@@ -117,7 +115,7 @@ block-octets file i b l =
     cut-octets (blockLength * i) (min blockLength (length file - blockLength * i)) b (omega arith) in
     rw (cut-short file (blockLength * i) blockLength) at (sized-bytes n _ o)
 
-same-or-one-hash : (a b : List ℕ) → Bytes a → Bytes b → sha256 a ≡ sha256 b → OneHash a b ⊎ (a ≡ b)
+pub same-or-one-hash : (a b : List ℕ) → Bytes a → Bytes b → sha256 a ≡ sha256 b → OneHash a b ⊎ (a ≡ b)
 same-or-one-hash a b x y e = by (same a b) refl
   where
     by : (t : Bool) → same a b ≡ t → OneHash a b ⊎ (a ≡ b)
@@ -195,7 +193,7 @@ subtree-alike f g (suc k) n j j2 h =
 
 -- what lies below a position of a file's tree is part of that tree
 module _ (file s : List ℕ) (w : For file s) where
-  part-in-tree : (k i : ℕ) → k ≤ heightOf s → i < 2 ^ (heightOf s - k) → (e : Entry) → In e (subtree (leafOf file) k (nodeNumber (heightOf s) k i) i) → In e (treeOf file)
+  pub part-in-tree : (k i : ℕ) → k ≤ heightOf s → i < 2 ^ (heightOf s - k) → (e : Entry) → In e (subtree (leafOf file) k (nodeNumber (heightOf s) k i) i) → In e (treeOf file)
   part-in-tree k i a b e x =
       let h = heightOf s in
       let P = subtree-value (leafOf file) k (nodeNumber h k i) i e x in
@@ -215,11 +213,11 @@ abbrev pub pieceFor : List ℕ → List ℕ → ℕ → List ℕ
 pieceFor file s i = pieceOf file (layerOfPieces s) i
 
 module _ (file s : List ℕ) (f : Facts s) (w : For file s) (i : ℕ) (l : i < pieceCount (fileLength s) (pieceLength s)) where
-  plen-form : pieceLength s ≡ blockLength * 2 ^ layerOfPieces s
+  pub plen-form : pieceLength s ≡ blockLength * 2 ^ layerOfPieces s
   unfolding layerOfPieces
   plen-form = piece-length-form (pieceLength s) (f .piece) .1
 
-  piece-leaf : (x : ℕ) → x < 2 ^ pieceHeight s → leafOf (pieceFor file s i) x ≡ leafOf file (i * 2 ^ pieceHeight s + x)
+  pub piece-leaf : (x : ℕ) → x < 2 ^ pieceHeight s → leafOf (pieceFor file s i) x ≡ leafOf file (i * 2 ^ pieceHeight s + x)
   piece-leaf = by (hasLayer (fileLength s) (pieceLength s)) refl
     where
       by : (t : Bool) → hasLayer (fileLength s) (pieceLength s) ≡ t → (x : ℕ) → x < 2 ^ pieceHeight s → leafOf (pieceFor file s i) x ≡ leafOf file (i * 2 ^ pieceHeight s + x)
@@ -242,7 +240,7 @@ module _ (file s : List ℕ) (f : Facts s) (w : For file s) (i : ℕ) (l : i < p
       let z : 0 * 2 ^ pieceHeight s + x ≡ x = omega arith in
       ap (leafOf (pieceFor file s i)) z ∙ piece-leaf x b)
 
-  piece-size-is : length (pieceFor file s i) ≡ pieceSize (fileLength s) (pieceLength s) i
+  pub piece-size-is : length (pieceFor file s i) ≡ pieceSize (fileLength s) (pieceLength s) i
   piece-size-is = piece-bytes file (layerOfPieces s) i ∙ ap₂ (λ (n p : ℕ). pieceSize n p i) (sym (w .long)) (sym plen-form)
 
   piece-agrees : agrees s (treeOf file) ≡ true → agrees s (subtree (leafOf (pieceFor file s i)) (pieceHeight s) (nodeNumber (heightOf s) (pieceHeight s) i) 0) ≡ true
