@@ -11,3 +11,4 @@ pub mod OwnBytes
 pub mod Replies
 pub mod RootToBlock
 pub mod PieceIsTheFiles
+pub mod TrueMessage

@@ -47,7 +47,7 @@ tree-within h =
     let z : h - h ≡ 0 = omega arith in
     rw (← node-number-root h) (within-tree h h 0 h (omega arith) (rw z (omega arith)) (omega arith))
 
-tree-whole : (file : List ℕ) (h : ℕ) → Whole (positions h) 1 (subtree (leafOf file) h 1 0)
+pub tree-whole : (file : List ℕ) (h : ℕ) → Whole (positions h) 1 (subtree (leafOf file) h 1 0)
 tree-whole file h =
     record {
       sound = subtree-sound (leafOf file) (λ j. leaf-octets file j .size) (positions h) h 1 0 (tree-within h);
