@@ -12,3 +12,4 @@ pub mod Replies
 pub mod RootToBlock
 pub mod PieceIsTheFiles
 pub mod TrueMessage
+pub mod AnchorHeld

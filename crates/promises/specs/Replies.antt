@@ -366,7 +366,7 @@ module _ (s t r : List ℕ) (os : Ours s) (ot : Ours t) (bs : Bytes s) (bt : Byt
   unfolding heightOf
   layers = ap height blocks
 
-  header-here : headerNumber (isHashes r) t r ≡ 0
+  pub header-here : headerNumber (isHashes r) t r ≡ 0
   header-here = sym same-header ∙ w .header
     where
       same-header : headerNumber (isHashes r) s r ≡ headerNumber (isHashes r) t r

@@ -4,7 +4,7 @@ use mathlib.Core.Path.{_≡_, refl, ap, ap₂, sym, _∙_}
 use mathlib.Core.Bool.{true}
 use mathlib.Core.List.{List}
 use mathlib.Core.Logic.{_⊎_, inl, inr}
-use Prim.Native.Nat.{ℕ, zero, suc, _+_, _-_, _*_, _/_, _%_, _^_, _≤_, _<_}
+use Prim.Native.Nat.{ℕ, zero, suc, _+_, _*_, _/_, _%_, _^_, _≤_, _<_}
 use native.Mathlib.Omega.{arith}
 use native.Mathlib.Nat.{pow-succ'}
 use native.Mathlib.Decide.{ℕ-discrete}
@@ -16,7 +16,7 @@ use Rattle.tree.specs.GeometryLaws.{left-start, right-start}
 use Rattle.tree.specs.Values.{node, leafOf}
 use Rattle.tree.specs.ValuesLaws.{padding-value}
 use Rattle.cells.specs.Cells.{heldAt, hashAt}
-use Rattle.cells.specs.Entries.{Entry, agrees}
+use Rattle.cells.specs.Entries.{Entry}
 use Rattle.cells.specs.EntriesLaws.{In, Has, has-same, in-cases, one-is, no-entry, agrees-held, agrees-in, in-agrees}
 use Rattle.store.specs.Store.{blocksOf, heightOf, positions}
 use Rattle.runs.specs.Subtree.{subtree}
