@@ -83,6 +83,7 @@ module _ (form : Bool) (s m : List ℕ) (P : Passed form s m) where
 
 -- ---- a store of ours that there is
 
+-- a store that we opened is ours
 pub opened-is-ours : (b : List ℕ) (n plen : ℕ) (root : List ℕ) → Bytes b → Octets 32 root → openAnswer b n plen .number ≡ 0 → OurStore (openAfter b n plen root)
 opened-is-ours b n plen root x y z = ours b n plen root x y z begin
 

@@ -107,6 +107,7 @@ module _ (h : ℕ) (x y : Source) (p : ℕ) (low : 1 ≤ p) (high : 2 * p + 1 < 
         alike = e;
       }
 
+  -- two pairs of children of p with one hash are the same, or show it
   pub same-or-shown : Shown h x y ⊎ ((l ≡ l2) × (r ≡ r2))
   same-or-shown = by (same l l2) (same r r2) refl refl
     where
@@ -186,6 +187,7 @@ module _ (s : List ℕ) (y : Source) (L : List Entry) (a : ℕ) (v : List ℕ) (
 
 -- ---- what is given and worked out are strings of bytes
 
+-- a subtree over leaves of 32 bytes
 pub subtree-octets : (leaf : ℕ → List ℕ) → ((i : ℕ) → Octets 32 (leaf i)) → (k n j : ℕ) (e : Entry) → In e (subtree leaf k n j) → Octets 32 (e .hash)
 subtree-octets leaf f k n j e i =
     let P = subtree-value leaf k n j e i in
@@ -210,9 +212,11 @@ path-octets hashes i (suc u) n v b l e k =
       ]
     ]
 
+-- a string of stated length is a string of bytes
 pub sized-bytes : (n : ℕ) (l : List ℕ) → Octets n l → Bytes l
 sized-bytes n l o = rw (o .size) o
 
+-- what a message settles
 pub message-octets : (s m : List ℕ) → Bytes m → Ready (length s) (length m) (positions (heightOf s)) (headerOf m) (placeIn s m)
     → (e : Entry) → In e (settled m (placeIn s m)) → Octets 32 (e .hash)
 unfolding settled given runOf unclesOf
@@ -229,6 +233,7 @@ message-octets s m b r e i =
       | inr x ↦ path-octets us 0 (p .u) (p .top) (node leaf (p .k) 0) (sized-bytes (32 * p .u) us uo) (omega (arith, uo .size)) e x
     ]
 
+-- what a layer settles
 pub layer-octets : (s layer : List ℕ) → Bytes layer → (e : Entry) → In e (layerSettled s layer) → Octets 32 (e .hash)
 unfolding layerSettled
 layer-octets s layer b e i =
@@ -291,6 +296,7 @@ well-ready s m h e =
     let q = placed (isHashes m) s m P in
     placed-ready (length s) (length m) q (usable-facts s (P .store) .room) (omega (arith, q .size))
 
+-- a message settles its anchor with the value worked out
 pub anchor-has : (m : List ℕ) (s : List ℕ) → Has (anchor (placeIn s m)) (worked m (placeIn s m)) (settled m (placeIn s m))
 unfolding anchor worked settled
 anchor-has m s =

@@ -155,6 +155,7 @@ module _ (s : List ℕ) (c : Chained s) where
 
 -- ---- a message that carries what a store holds
 
+-- well-formed for s, and each given hash is held by s at its position
 pub record Carries (s r : List ℕ) : Type 0 where
   pub header : headerNumber (isHashes r) s r ≡ 0
   pub size : length r ≡ messageSize (headerOf r)
@@ -366,6 +367,7 @@ module _ (s t r : List ℕ) (os : Ours s) (ot : Ours t) (bs : Bytes s) (bt : Byt
   unfolding heightOf
   layers = ap height blocks
 
+  -- the header passes here as it does there
   pub header-here : headerNumber (isHashes r) t r ≡ 0
   header-here = sym same-header ∙ w .header
     where
