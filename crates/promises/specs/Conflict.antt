@@ -16,7 +16,7 @@ use Rattle.octets.specs.OctetsLaws.{same-true, same-eq, same-false, append-octe
 use Rattle.sha256.specs.Sha256.{sha256, pairHash}
 use Rattle.sha256.specs.Sha256Laws.{pair-octets}
 use Rattle.numbers.specs.Numbers.{noMessage, otherRoot, ruleBroken, wrongSize, wrongPadding, conflict, unusable, judged}
-use Rattle.tree.specs.Geometry.{nodeNumber, hasLayer, pieceCount, pieceSize}
+use Rattle.tree.specs.Geometry.{blockCount, height, nodeNumber, hasLayer, pieceCount, pieceSize}
 use Rattle.tree.specs.Values.{node, padValue, leafOf, layerLeaf}
 use Rattle.tree.specs.ValuesLaws.{node-octets, leaf-octets, pad-octets}
 use Rattle.cells.specs.Cells.{heldAt, hashAt}
@@ -34,18 +34,19 @@ use Rattle.messages.specs.Take.{headerNumber, runOf, unclesOf, given, settled, 
 use Rattle.messages.specs.TakeLaws.{passed, placed, Ready, placed-ready}
 use Rattle.pieces.specs.Pieces.{judgedAt, layerOfPieces, layerSettled, layerNumber, pieceHeight, pieceNumber}
 use Rattle.pieces.specs.PiecesLaws.{layered, run-leaves}
-use Rattle.promises.specs.Parts.{append-parts}
 use Rattle.promises.specs.History.{Bytes}
 use Rattle.promises.specs.Invariant.{Chained, Ours, family-pair, Whole, message-whole, layer-whole, piece-whole}
 
 -- ---- what is shown
 
--- where a position's hash is taken from: held by a store, or given or worked out by a message, a layer or a piece that is offered to store s
+-- where a position's hash is taken from: held by a store, or given or worked out by a message, a layer or a piece that is offered to
+-- store s; or a file's own tree
 pub data Source : Type 0 where
   heldBy : (s : List ℕ) → Source
   byMessage : (s m : List ℕ) → Source
   byLayer : (s layer : List ℕ) → Source
   byPiece : (s : List ℕ) (i : ℕ) (piece : List ℕ) → Source
+  ofFile : (file : List ℕ) → Source
 
 -- the source has hash v at position n
 unfoldable pub Gives : Source → ℕ → List ℕ → Type 0
@@ -53,6 +54,7 @@ Gives (heldBy s) n v = Hold s n v
 Gives (byMessage s m) n v = Has n v (settled m (placeIn s m))
 Gives (byLayer s layer) n v = Has n v (layerSettled s layer)
 Gives (byPiece s i piece) n v = Has n v (subtree (leafOf piece) (pieceHeight s) (nodeNumber (heightOf s) (pieceHeight s) i) 0)
+Gives (ofFile file) n v = Has n v (subtree (leafOf file) (height (blockCount (length file))) 1 0)
 
 -- two different strings of 64 bytes with one SHA-256, both left child then right child of one position of a tree of height h,
 -- one as x and one as y has them
@@ -74,6 +76,12 @@ pub record Shown (h : ℕ) (x y : Source) : Type 0 where
   pub alike : sha256 (l ++ r) ≡ sha256 (l′ ++ r′)
 
 -- ---- two pairs with one hash are the same or show it
+
+append-parts : (a b c d : List ℕ) → length a ≡ length c → a ++ b ≡ c ++ d → (a ≡ c) × (b ≡ d)
+append-parts a b c d n e = (
+  sym (take-at a b (length a) refl) ∙ ap (take (length a)) e ∙ take-at c d (length a) (sym n),
+  sym (drop-at a b (length a) refl) ∙ ap (drop (length a)) e ∙ drop-at c d (length a) (sym n),
+)
 
 module _ (h : ℕ) (x y : Source) (p : ℕ) (low : 1 ≤ p) (high : 2 * p + 1 < positions h) (l r l2 r2 : List ℕ)
     (gl : Gives x (2 * p) l) (gr : Gives x (2 * p + 1) r) (gl2 : Gives y (2 * p) l2) (gr2 : Gives y (2 * p + 1) r2)
@@ -99,6 +107,7 @@ module _ (h : ℕ) (x y : Source) (p : ℕ) (low : 1 ≤ p) (high : 2 * p + 1 < 
         alike = e;
       }
 
+  -- two pairs of children of p with one hash are the same, or show it
   pub same-or-shown : Shown h x y ⊎ ((l ≡ l2) × (r ≡ r2))
   same-or-shown = by (same l l2) (same r r2) refl refl
     where
@@ -178,7 +187,8 @@ module _ (s : List ℕ) (y : Source) (L : List Entry) (a : ℕ) (v : List ℕ) (
 
 -- ---- what is given and worked out are strings of bytes
 
-subtree-octets : (leaf : ℕ → List ℕ) → ((i : ℕ) → Octets 32 (leaf i)) → (k n j : ℕ) (e : Entry) → In e (subtree leaf k n j) → Octets 32 (e .hash)
+-- a subtree over leaves of 32 bytes
+pub subtree-octets : (leaf : ℕ → List ℕ) → ((i : ℕ) → Octets 32 (leaf i)) → (k n j : ℕ) (e : Entry) → In e (subtree leaf k n j) → Octets 32 (e .hash)
 subtree-octets leaf f k n j e i =
     let P = subtree-value leaf k n j e i in
     rw (P .value) (node-octets leaf f (k - P .layers) (j * 2 ^ P .layers + P .offset))
@@ -202,9 +212,11 @@ path-octets hashes i (suc u) n v b l e k =
       ]
     ]
 
-sized-bytes : (n : ℕ) (l : List ℕ) → Octets n l → Bytes l
+-- a string of stated length is a string of bytes
+pub sized-bytes : (n : ℕ) (l : List ℕ) → Octets n l → Bytes l
 sized-bytes n l o = rw (o .size) o
 
+-- what a message settles
 pub message-octets : (s m : List ℕ) → Bytes m → Ready (length s) (length m) (positions (heightOf s)) (headerOf m) (placeIn s m)
     → (e : Entry) → In e (settled m (placeIn s m)) → Octets 32 (e .hash)
 unfolding settled given runOf unclesOf
@@ -221,6 +233,7 @@ message-octets s m b r e i =
       | inr x ↦ path-octets us 0 (p .u) (p .top) (node leaf (p .k) 0) (sized-bytes (32 * p .u) us uo) (omega (arith, uo .size)) e x
     ]
 
+-- what a layer settles
 pub layer-octets : (s layer : List ℕ) → Bytes layer → (e : Entry) → In e (layerSettled s layer) → Octets 32 (e .hash)
 unfolding layerSettled
 layer-octets s layer b e i =
@@ -283,6 +296,7 @@ well-ready s m h e =
     let q = placed (isHashes m) s m P in
     placed-ready (length s) (length m) q (usable-facts s (P .store) .room) (omega (arith, q .size))
 
+-- a message settles its anchor with the value worked out
 pub anchor-has : (m : List ℕ) (s : List ℕ) → Has (anchor (placeIn s m)) (worked m (placeIn s m)) (settled m (placeIn s m))
 unfolding anchor worked settled
 anchor-has m s =

@@ -58,12 +58,14 @@ pub record Ours (s : List ℕ) : Type 0 where
 
 -- ---- a family, by its parent p
 
+-- p and both its children are held, and p is the hash of the two
 pub record Pair (s : List ℕ) (p : ℕ) : Type 0 where
   pub top : heldAt s p ≡ true
   pub left : heldAt s (2 * p) ≡ true
   pub right : heldAt s (2 * p + 1) ≡ true
   pub made : hashAt s p ≡ pairHash (hashAt s (2 * p)) (hashAt s (2 * p + 1))
 
+-- a held position with its family is such a pair
 pub family-pair : (s : List ℕ) (n : ℕ) → heldAt s n ≡ true → Family s n → Pair s (n / 2)
 family-pair s n h F =
     elim (ℕ-discrete (n % 2) 0) [
@@ -87,6 +89,7 @@ family-pair s n h F =
           }
     ]
 
+-- and such a pair is the family of either child
 pub pair-family : (s : List ℕ) (n : ℕ) → Pair s (n / 2) → Family s n
 pair-family s n P =
     elim (ℕ-discrete (n % 2) 0) [
@@ -117,6 +120,7 @@ pub record Whole (N a : ℕ) (L : List Entry) : Type 0 where
   pub alone : Consistent L
   pub family : (e : Entry) → In e L → (e .at ≡ a) ⊎ FamilyIn L (e .at)
 
+-- a message that lies in the tree settles such a list, up to its anchor
 pub message-whole : (s m : List ℕ) → Ready (length s) (length m) (positions (heightOf s)) (headerOf m) (placeIn s m)
     → Whole (positions (heightOf s)) (anchor (placeIn s m)) (settled m (placeIn s m))
 unfolding settled anchor
@@ -131,6 +135,7 @@ message-whole s m r =
       family = settled-family leaf us (p .k) (p .top) 0 0 (p .u) (r .anchor);
     }
 
+-- so does a layer, up to the root
 pub layer-whole : (s l : List ℕ) → Layered s → Whole (positions (heightOf s)) 1 (layerSettled s l)
 layer-whole s l f =
     record {
@@ -140,6 +145,7 @@ layer-whole s l f =
       family = Rattle.pieces.specs.PiecesLaws.settled-family s l;
     }
 
+-- and a piece, up to its node
 pub piece-whole : (s : List ℕ) (i : ℕ) (piece : List ℕ) → Placed s i
     → Whole (positions (heightOf s)) (nodeNumber (heightOf s) (pieceHeight s) i) (subtree (leafOf piece) (pieceHeight s) (nodeNumber (heightOf s) (pieceHeight s) i) 0)
 piece-whole s i piece p =
@@ -192,6 +198,7 @@ module _ (s : List ℕ) (L : List Entry) (a : ℕ) (c : Chained s) (w : Whole (p
       was : heldAt s n ≡ true → Family (putAll s L) n
       was x = pair-family (putAll s L) n (pair-stays (n / 2) (omega (arith, positions-even (heightOf s))) (family-pair s n x (c .family n two b x)))
 
+  -- the store in which such a list is held chains, if its anchor was held and no held hash differs
   pub chained-putAll : Chained (putAll s L)
   chained-putAll =
       let r = stays 1 (positions-some (heightOf s)) (c .root .0) in
@@ -303,6 +310,7 @@ module _ (s : List ℕ) (L : List Entry) (a : ℕ) (o : Ours s) (w : Whole (posi
         | inr e ↦ rw (taken s L a (o .chained) w h g n (e .0) (e .1) .1) (right (record { at = n; hash = e .0 }) (e .1))
       ]
 
+  -- and has all four clauses, if the list is right where it is padding
   pub ours-putAll : Ours (putAll s L)
   ours-putAll =
       let f = same-facts s L a (o .chained) w h g in

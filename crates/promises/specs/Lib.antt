@@ -16,5 +16,7 @@ pub mod OwnBytes
 pub mod Impostors
 pub mod Example
 pub mod Replies
-pub mod Parts
-pub mod FromRoot
+pub mod RootToBlock
+pub mod PieceIsTheFiles
+pub mod TrueMessage
+pub mod AnchorHeld

@@ -78,6 +78,7 @@ putAll-bytes N [] s room none f bs = bs
 putAll-bytes N (e ∷ L) s room (more i l S) f bs =
     putAll-bytes N L (put s (e .at) (e .hash)) (put-room s N (e .at) room i (e .hash) l) S (λ g x. f g (there x)) (put-bytes N s (e .at) (e .hash) room i bs (f e here))
 
+-- opening leaves bytes
 pub bytes-opened : (b : List ℕ) (n plen : ℕ) (root : List ℕ) → Bytes b → Octets 32 root → Bytes (openAfter b n plen root)
 unfolding openAfter opened
 bytes-opened b n plen root bb o = by (factsInRange n plen) (leb (storeSize n) (length b)) refl refl
@@ -98,6 +99,7 @@ bytes-opened b n plen root bb o = by (factsInRange n plen) (leb (storeSize n) (l
     by true false p q = unfold openAfter in rw (p, q) bb
     by false y p q = unfold openAfter in rw p bb
 
+-- so does a message
 pub bytes-take : (s m : List ℕ) → Ours s → Bytes s → Bytes m → Bytes (takeAfter s m)
 unfolding takeAfter
 bytes-take s m o bs bm =
@@ -109,6 +111,7 @@ bytes-take s m o bs bm =
       | no ne ↦ rw (ne-eqb (takeNumber s m) 0 ne) bs
     ]
 
+-- so does a layer
 pub bytes-layer : (s l : List ℕ) → Ours s → Bytes s → Bytes l → Bytes (layerAfter s l)
 bytes-layer s l o bs bl =
     elim (ℕ-discrete (layerNumber s l) 0) [

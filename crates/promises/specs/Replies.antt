@@ -40,7 +40,7 @@ use Rattle.serve.specs.Serve.{replyTo, requestNumber}
 use Rattle.serve.specs.ServeLaws.{request-passes, reply-root, reply-header, reply-own-size, reply-form, reply-given, reply-uncle, run-held, uncle-held}
 use Rattle.promises.specs.History.{Bytes, OurStore}
 use Rattle.promises.specs.TakenWhen.{Right, right-then-taken}
-use Rattle.promises.specs.RightPadding.{doubles, sibling-number}
+use Rattle.promises.specs.RightPadding.{Pads, doubles, sibling-number}
 use Rattle.promises.specs.Invariant.{Chained, Ours, Pair, family-pair, Whole, message-whole, ours-have}
 use Rattle.promises.specs.Conflict.{heldBy, Gives, Shown, same-or-shown, hash-octets, agrees-or-shown, well-ready, anchor-has}
 use Rattle.promises.specs.OwnBytes.{ours-bytes}
@@ -155,6 +155,7 @@ module _ (s : List ℕ) (c : Chained s) where
 
 -- ---- a message that carries what a store holds
 
+-- well-formed for s, and each given hash is held by s at its position
 pub record Carries (s r : List ℕ) : Type 0 where
   pub header : headerNumber (isHashes r) s r ≡ 0
   pub size : length r ≡ messageSize (headerOf r)
@@ -213,29 +214,28 @@ all-from run v from (suc n) f =
     by true e = rw e (same-eq (cut run (32 * n) 32) v (f n (leb-true from n e) (omega arith)))
     by false e = rw e
 
-uncles-right : (s : List ℕ) → Ours s → (hashes : List ℕ) (i u l x : ℕ) → l + u ≤ heightOf s → x < 2 ^ (heightOf s - l)
-    → ((j : ℕ) → j < u → Hold s (sibling (ancestor j (nodeNumber (heightOf s) l x))) (uncle hashes (i + j)))
-    → unclesPadded hashes (blocksOf s) i u l x ≡ true
+uncles-right : (h b : ℕ) (hashes : List ℕ) (i u l x : ℕ) → l + u ≤ h → x < 2 ^ (h - l)
+    → ((j : ℕ) → j < u → Pads h b (sibling (ancestor j (nodeNumber h l x))) (uncle hashes (i + j)))
+    → unclesPadded hashes b i u l x ≡ true
 unfolding unclesPadded unclePadded ancestor
-uncles-right s o hashes i zero l x a b f = refl
-uncles-right s o hashes i (suc u) l x a b f =
-    let h = heightOf s in
-    let lt : l < heightOf s = omega arith in
-    let d = doubles (heightOf s) l lt in
-    let half : x / 2 < 2 ^ (heightOf s - suc l) = omega arith in
+uncles-right h b hashes i zero l x a c f = refl
+uncles-right h b hashes i (suc u) l x a c f =
+    let lt : l < h = omega arith in
+    let d = doubles h l lt in
+    let half : x / 2 < 2 ^ (h - suc l) = omega arith in
     let z : i + 0 ≡ i = omega arith in
-    let hs : Hold s (nodeNumber (heightOf s) l (sibling x)) (uncle hashes i) = rw (z, sibling-number (heightOf s) l x lt) at (f 0 (omega arith)) in
-    ap₂ (λ (p q : Bool). p && q) (by hs (sibling-below x (2 ^ (heightOf s - l)) b (omega arith)) (leb (covering (blocksOf s) l) (sibling x)) refl)
-    (uncles-right s o hashes (i + 1) u (suc l) (x / 2) (omega arith) half
+    let hs : Pads h b (nodeNumber h l (sibling x)) (uncle hashes i) = rw (z, sibling-number h l x lt) at (f 0 (omega arith)) in
+    ap₂ (λ (p q : Bool). p && q) (by hs (sibling-below x (2 ^ (h - l)) c (omega arith)) (leb (covering b l) (sibling x)) refl)
+    (uncles-right h b hashes (i + 1) u (suc l) (x / 2) (omega arith) half
     (λ j k.
     let q : i + suc j ≡ i + 1 + j = omega arith in
-    rw (node-number-parent (heightOf s) l x lt) (rw q at (f (suc j) (omega arith)))))
+    rw (node-number-parent h l x lt) (rw q at (f (suc j) (omega arith)))))
   where
-    by : Hold s (nodeNumber (heightOf s) l (sibling x)) (uncle hashes i) → sibling x < 2 ^ (heightOf s - l) → (t : Bool) → leb (covering (blocksOf s) l) (sibling x) ≡ t
-        → cond (leb (covering (blocksOf s) l) (sibling x)) (same (uncle hashes i) (padValue l)) true ≡ true
+    by : Pads h b (nodeNumber h l (sibling x)) (uncle hashes i) → sibling x < 2 ^ (h - l) → (t : Bool) → leb (covering b l) (sibling x) ≡ t
+        → cond (leb (covering b l) (sibling x)) (same (uncle hashes i) (padValue l)) true ≡ true
     by hs in2 true e =
-        let pd = padding-from-covering (blocksOf s) l (sibling x) (leb-true (covering (blocksOf s) l) (sibling x) e) in
-        rw e (same-eq (uncle hashes i) (padValue l) (sym (hs .1) ∙ o .padding l (sibling x) (omega arith) in2 pd (hs .0)))
+        let pd = padding-from-covering b l (sibling x) (leb-true (covering b l) (sibling x) e) in
+        rw e (same-eq (uncle hashes i) (padValue l) (hs l (sibling x) (omega arith) in2 refl pd))
     by hs in2 false e = rw e
 
 run-size : (m : List ℕ) (c : ℕ) → 49 + 32 * c ≤ length m → length (runOf m c) ≡ 32 * c
@@ -245,33 +245,35 @@ run-size m c h = cut-length m 49 (32 * c) h
 exact : (i d : ℕ) → i % d ≡ 0 → i / d * d ≡ i
 exact i d z = omega (arith, div-add-mod' i d)
 
-run-right : (s : List ℕ) → Ours s → (run : List ℕ) (base k y : ℕ) → length run ≡ 32 * 2 ^ k → base + k ≤ heightOf s → y < 2 ^ (heightOf s - (base + k))
-    → ((j : ℕ) → j < 2 ^ k → Hold s (nodeNumber (heightOf s) (base + k) y * 2 ^ k + j) (runLeaf run zeroHash j))
-    → runPadded run (blocksOf s) base (y * 2 ^ k) (2 ^ k) ≡ true
+run-right : (h b : ℕ) (run : List ℕ) (base k y : ℕ) → length run ≡ 32 * 2 ^ k → base + k ≤ h → y < 2 ^ (h - (base + k))
+    → ((j : ℕ) → j < 2 ^ k → Pads h b (nodeNumber h (base + k) y * 2 ^ k + j) (runLeaf run zeroHash j))
+    → runPadded run b base (y * 2 ^ k) (2 ^ k) ≡ true
 unfolding runPadded
-run-right s o run base k y size high inside f =
-    all-from run (padValue base) (covering (blocksOf s) base - y * 2 ^ k) (2 ^ k)
-    (λ j a b.
-    let h = f j b in
+run-right h b run base k y size high inside f =
+    all-from run (padValue base) (covering b base - y * 2 ^ k) (2 ^ k)
+    (λ j a c.
     let e : base + k - k ≡ base = omega arith in
-    let q : nodeNumber (heightOf s) (base + k) y * 2 ^ k + j ≡ nodeNumber (heightOf s) base (y * 2 ^ k + j) =
-    number-below (heightOf s) (base + k) y k j high (omega arith) ∙ ap (λ (l : ℕ). nodeNumber (heightOf s) l (y * 2 ^ k + j)) e in
-    let ex : heightOf s - (base + k) + k ≡ heightOf s - base = omega arith in
-    let pw : 2 ^ (heightOf s - (base + k)) * 2 ^ k ≡ 2 ^ (heightOf s - base) = sym (pow-add 2 (heightOf s - (base + k)) k) ∙ ap (λ (z : ℕ). 2 ^ z) ex in
-    let up : (y + 1) * 2 ^ k ≤ 2 ^ (heightOf s - (base + k)) * 2 ^ k = mul-le-mul-right (2 ^ k) (omega arith) in
-    let ib : y * 2 ^ k + j < 2 ^ (heightOf s - base) = omega (arith, add-mul y 1 (2 ^ k), one-mul (2 ^ k)) in
-    let pd = padding-from-covering (blocksOf s) base (y * 2 ^ k + j) (omega arith) in
+    let q : nodeNumber h (base + k) y * 2 ^ k + j ≡ nodeNumber h base (y * 2 ^ k + j) =
+    number-below h (base + k) y k j high (omega arith) ∙ ap (λ (l : ℕ). nodeNumber h l (y * 2 ^ k + j)) e in
+    let ex : h - (base + k) + k ≡ h - base = omega arith in
+    let pw : 2 ^ (h - (base + k)) * 2 ^ k ≡ 2 ^ (h - base) = sym (pow-add 2 (h - (base + k)) k) ∙ ap (λ (z : ℕ). 2 ^ z) ex in
+    let up : (y + 1) * 2 ^ k ≤ 2 ^ (h - (base + k)) * 2 ^ k = mul-le-mul-right (2 ^ k) (omega arith) in
+    let ib : y * 2 ^ k + j < 2 ^ (h - base) = omega (arith, add-mul y 1 (2 ^ k), one-mul (2 ^ k)) in
+    let pd = padding-from-covering b base (y * 2 ^ k + j) (omega arith) in
     let lt : j < length run / 32 = omega arith in
-    sym (run-leaf-in run zeroHash j lt) ∙ sym (h .1) ∙ ap (hashAt s) q ∙ o .padding base (y * 2 ^ k + j) (omega arith) ib pd (rw q at (h .0)))
+    sym (run-leaf-in run zeroHash j lt) ∙ f j c base (y * 2 ^ k + j) (omega arith) ib q pd)
 
--- a message that carries what a store of ours holds has its padding right
-pub carried-padded : (s r : List ℕ) → Ours s → Carries s r → padded r (headerOf r) (placeIn s r) (blocksOf s) ≡ true
+-- a well-formed message whose given hashes are right where they are padding passes 5
+pub padded-when : (s r : List ℕ) → headerNumber (isHashes r) s r ≡ 0 → length r ≡ messageSize (headerOf r)
+    → ((j : ℕ) → j < 2 ^ placeIn s r .k → Pads (heightOf s) (blocksOf s) (placeIn s r .top * 2 ^ placeIn s r .k + j) (given r (placeIn s r .k) j))
+    → ((i : ℕ) → i < placeIn s r .u → Pads (heightOf s) (blocksOf s) (sibling (ancestor i (placeIn s r .top))) (uncle (unclesOf r (2 ^ placeIn s r .k) (placeIn s r .u)) i))
+    → padded r (headerOf r) (placeIn s r) (blocksOf s) ≡ true
 unfolding padded
-carried-padded s r o w =
+padded-when s r header sz run uncles =
     let X = headerOf r in
     let b = blocksOf s in
     let h = heightOf s in
-    let P = passed (isHashes r) s r (w .header) in
+    let P = passed (isHashes r) s r header in
     let F = usable-facts s (P .store) in
     let K = rules-kept X b h (P .rules) in
     let y = X .index / X .len in
@@ -279,12 +281,11 @@ carried-padded s r o w =
     let one : 1 ≤ height (X .len) = log-some (X .len) (K .two) in
     let ix : y * 2 ^ height (X .len) ≡ X .index = ap (λ (z : ℕ). y * z) pw ∙ exact (X .index) (X .len) (K .multiple) in
     let ins = top-inside X b h (facts-leaves s F) K in
-    let sz : length r ≡ messageSize (headerOf r) = w .size in
-    parts (w .run) (w .uncles) pw ix (K .within) (K .above) one ins sz
+    parts run uncles pw ix (K .within) (K .above) one ins sz
   where
     parts :
-        ((j : ℕ) → j < 2 ^ placeIn s r .k → Hold s (placeIn s r .top * 2 ^ placeIn s r .k + j) (given r (placeIn s r .k) j))
-        → ((i : ℕ) → i < placeIn s r .u → Hold s (sibling (ancestor i (placeIn s r .top))) (uncle (unclesOf r (2 ^ placeIn s r .k) (placeIn s r .u)) i))
+        ((j : ℕ) → j < 2 ^ placeIn s r .k → Pads (heightOf s) (blocksOf s) (placeIn s r .top * 2 ^ placeIn s r .k + j) (given r (placeIn s r .k) j))
+        → ((i : ℕ) → i < placeIn s r .u → Pads (heightOf s) (blocksOf s) (sibling (ancestor i (placeIn s r .top))) (uncle (unclesOf r (2 ^ placeIn s r .k) (placeIn s r .u)) i))
         → 2 ^ height (headerOf r .len) ≡ headerOf r .len
         → headerOf r .index / headerOf r .len * 2 ^ height (headerOf r .len) ≡ headerOf r .index
         → headerOf r .base + height (headerOf r .len) ≤ heightOf s
@@ -299,15 +300,21 @@ carried-padded s r o w =
         let k = height (X .len) in
         let y = X .index / X .len in
         let u = X .proof - (height (X .len) - 1) in
-        let rr = run-right s o (runOf r (2 ^ height (X .len))) (X .base) (height (X .len)) y (run-size r (2 ^ height (X .len)) (omega arith)) within ins run in
-        let ur = uncles-right s o (unclesOf r (2 ^ height (X .len)) u) 0 u (X .base + height (X .len)) y (omega arith) ins
+        let rr = run-right (heightOf s) (blocksOf s) (runOf r (2 ^ height (X .len))) (X .base) (height (X .len)) y (run-size r (2 ^ height (X .len)) (omega arith)) within ins run in
+        let ur = uncles-right (heightOf s) (blocksOf s) (unclesOf r (2 ^ height (X .len)) u) 0 u (X .base + height (X .len)) y (omega arith) ins
         (λ j l.
-        let z : j ≡ 0 + j = omega arith in
-        let q = uncles j l in
-        (q .0, q .1 ∙ ap (uncle (unclesOf r (2 ^ height (X .len)) u)) z)) in
+        let z : 0 + j ≡ j = omega arith in
+        rw z (uncles j l)) in
         ap₂ (λ (p q : Bool). p && q)
         (sym (ap₂ (λ (z j : ℕ). runPadded (runOf r z) (blocksOf s) (X .base) j z) pw ix) ∙ rr)
         (sym (ap (λ (z : ℕ). unclesPadded (unclesOf r z u) (blocksOf s) 0 u (X .base + height (X .len)) y) pw) ∙ ur)
+
+hold-pads : (s : List ℕ) (n : ℕ) (v : List ℕ) → Ours s → Hold s n v → Pads (heightOf s) (blocksOf s) n v
+hold-pads s n v o h l i lh ib q pd = sym (h .1) ∙ ap (hashAt s) q ∙ o .padding l i lh ib pd (rw q at (h .0))
+
+-- a message that carries what a store of ours holds has its padding right
+pub carried-padded : (s r : List ℕ) → Ours s → Carries s r → padded r (headerOf r) (placeIn s r) (blocksOf s) ≡ true
+carried-padded s r o w = padded-when s r (w .header) (w .size) (λ j l. hold-pads s _ _ o (w .run j l)) (λ i l. hold-pads s _ _ o (w .uncles i l))
 
 -- ---- a store's own reply
 
@@ -360,7 +367,8 @@ module _ (s t r : List ℕ) (os : Ours s) (ot : Ours t) (bs : Bytes s) (bt : Byt
   unfolding heightOf
   layers = ap height blocks
 
-  header-here : headerNumber (isHashes r) t r ≡ 0
+  -- the header passes here as it does there
+  pub header-here : headerNumber (isHashes r) t r ≡ 0
   header-here = sym same-header ∙ w .header
     where
       same-header : headerNumber (isHashes r) s r ≡ headerNumber (isHashes r) t r

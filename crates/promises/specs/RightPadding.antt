@@ -118,9 +118,11 @@ module _ (run : List ℕ) (h b base k y : ℕ) (size : length run ≡ 32 * 2 ^ k
 
 -- ---- a path
 
+-- one layer down there are twice as many positions
 pub doubles : (h l : ℕ) → l < h → 2 ^ (h - l) ≡ 2 * 2 ^ (h - suc l)
 doubles h l k = let e : h - l ≡ suc (h - suc l) = omega arith in rw e (pow-succ' 2 (h - suc l))
 
+-- beside number x of a layer stands the number beside x
 pub sibling-number : (h l x : ℕ) → l < h → sibling (nodeNumber h l x) ≡ nodeNumber h l (sibling x)
 unfolding nodeNumber
 sibling-number h l x k =
@@ -171,6 +173,7 @@ at-place h b l x v lh xb f m j mh jb q pd =
     let D = node-number-distinct h l x m j lh mh xb jb q in
     f (rw (D .0, D .1) pd) ∙ ap padValue (D .0)
 
+-- every position of a path of uncles, if its start is right
 pub path-pads : (h b : ℕ) (hashes : List ℕ) (i u l x : ℕ) (v : List ℕ) → l + u ≤ h → x < 2 ^ (h - l) → unclesPadded hashes b i u l x ≡ true
     → (Padding b l x → v ≡ padValue l) → (e : Entry) → In e (path hashes i u (nodeNumber h l x) v) → Pads h b (e .at) (e .hash)
 unfolding unclesPadded path

@@ -1,0 +1,107 @@
+-- "Its anchor is held" as kd_held answers it: by the layer and the index that 01 gives the anchor; and a store of ours that there is.
+-- Assumes nothing.
+use mathlib.Core.Path.{_≡_, refl, ap, sym, _∙_}
+use mathlib.Core.Bool.{Bool, true, false}
+use mathlib.Core.List.{List}
+use mathlib.Core.Logic.{_⊎_}
+use Prim.Native.Nat.{ℕ, _+_, _-_, _*_, _/_, _^_, _≤_, _<_}
+use native.Mathlib.Omega.{arith}
+use native.Mathlib.Nat.{div-lt-iff-lt-mul}
+use lib.ListN.{replicate, getD, getD-replicate}
+use lib.Pow.{pow-add, pow-pos}
+use borrow.Author.Tests.{le-leb, lt-ltb}
+use Rattle.octets.specs.Octets.{Octets, zeroHash}
+use Rattle.octets.specs.OctetsLaws.{zero-octets}
+use Rattle.sha256.specs.declared.Hashed.{Hashed}
+use Rattle.tree.specs.Geometry.{ceilDiv, blockCount, heightFrom, height, nodeNumber, pieceLayer, isPieceLength}
+use Rattle.cells.specs.Cells.{heldAt}
+use Rattle.store.specs.Store.{fileLength, factsRoot, blocksOf, heightOf, positions, factsInRange, storeSize, inTree, heldAnswer, openAnswer, openAfter}
+use Rattle.store.specs.StoreLaws.{usable-facts, facts-leaves, held-given, held-not}
+use Rattle.runs.specs.AncestorLaws.{ancestor-number}
+use Rattle.header.specs.Header.{headerOf, isHashes, placeOf}
+use Rattle.header.specs.HeaderLaws.{rules-kept, log-some, top-inside}
+use Rattle.messages.specs.Take.{anchor, placeIn, takeNumber}
+use Rattle.messages.specs.TakeLaws.{Passed, passed}
+use Rattle.serve.specs.Serve.{replyTo, requestNumber}
+use Rattle.promises.specs.History.{Bytes, begin, OurStore, ours}
+use Rattle.promises.specs.Invariant.{ours-have}
+use Rattle.promises.specs.Conflict.{Shown, heldBy}
+use Rattle.promises.specs.OwnBytes.{ours-bytes}
+use Rattle.promises.specs.Replies.{other-store-reply, header-here, reply-carries}
+
+-- 01: u, the anchor's layer, base + log2(length) + u, and the index of the path's position there
+abbrev pub unclesIn : List ℕ → ℕ
+unclesIn m = headerOf m .proof - (height (headerOf m .len) - 1)
+
+abbrev pub anchorLayer : List ℕ → ℕ
+anchorLayer m = headerOf m .base + height (headerOf m .len) + unclesIn m
+
+abbrev pub anchorIndex : List ℕ → ℕ
+anchorIndex m = headerOf m .index / headerOf m .len / 2 ^ unclesIn m
+
+module _ (form : Bool) (s m : List ℕ) (P : Passed form s m) where
+  -- the anchor's number is that of this layer and index
+  pub anchor-number : anchor (placeIn s m) ≡ nodeNumber (heightOf s) (anchorLayer m) (anchorIndex m)
+  unfolding anchor placeOf
+  anchor-number =
+      let X = headerOf m in
+      let K = rules-kept X (blocksOf s) (heightOf s) (P .rules) in
+      let one = log-some (X .len) (K .two) in
+      ancestor-number (heightOf s) (X .base + height (X .len)) (X .index / X .len) (X .proof - (height (X .len) - 1)) (omega (arith, K .within, K .above))
+
+  -- it is a position of the tree
+  pub anchor-in-tree : inTree (heightOf s) (anchorLayer m) (anchorIndex m) ≡ true
+  unfolding inTree
+  anchor-in-tree =
+      let X = headerOf m in
+      let h = heightOf s in
+      let K = rules-kept X (blocksOf s) (heightOf s) (P .rules) in
+      let one = log-some (X .len) (K .two) in
+      let ins = top-inside X (blocksOf s) h (facts-leaves s (usable-facts s (P .store))) K in
+      let up : anchorLayer m ≤ heightOf s = omega (arith, K .within, K .above) in
+      let ex : heightOf s - anchorLayer m + unclesIn m ≡ heightOf s - (X .base + height (X .len)) = omega (arith, K .within, K .above) in
+      let pw : 2 ^ (heightOf s - anchorLayer m) * 2 ^ unclesIn m ≡ 2 ^ (heightOf s - (X .base + height (X .len))) =
+      sym (pow-add 2 (heightOf s - anchorLayer m) (unclesIn m)) ∙ ap (λ (z : ℕ). 2 ^ z) ex in
+      let ib : anchorIndex m < 2 ^ (heightOf s - anchorLayer m) = div-lt-iff-lt-mul (pow-pos (unclesIn m)) .1 (omega arith) in
+      rw (le-leb (anchorLayer m) (heightOf s) up, lt-ltb (anchorIndex m) (2 ^ (heightOf s - anchorLayer m)) ib)
+
+  -- where kd_held answers 0 for it, it is held
+  pub asked-held : heldAnswer s (anchorLayer m) (anchorIndex m) .number ≡ 0 → heldAt s (anchor (placeIn s m)) ≡ true
+  asked-held z = by (heldAt s (nodeNumber (heightOf s) (anchorLayer m) (anchorIndex m))) refl
+    where
+      by : (b : Bool) → heldAt s (nodeNumber (heightOf s) (anchorLayer m) (anchorIndex m)) ≡ b → heldAt s (anchor (placeIn s m)) ≡ true
+      by true e = ap (heldAt s) anchor-number ∙ e
+      by false e =
+          let g = ap (λ (r : Hashed). r .number) (held-not s (anchorLayer m) (anchorIndex m) (P .store) anchor-in-tree e) in
+          let w : ⊥ = omega arith in
+          absurd w
+
+  -- and where it is held, kd_held answers 0
+  pub held-asked : heldAt s (anchor (placeIn s m)) ≡ true → heldAnswer s (anchorLayer m) (anchorIndex m) .number ≡ 0
+  held-asked h =
+      sym (ap (λ (r : Hashed). r .number) (held-given s (anchorLayer m) (anchorIndex m) (P .store) anchor-in-tree (sym (ap (heldAt s) anchor-number) ∙ h)))
+
+-- ---- a store of ours that there is
+
+-- a store that we opened is ours
+pub opened-is-ours : (b : List ℕ) (n plen : ℕ) (root : List ℕ) → Bytes b → Octets 32 root → openAnswer b n plen .number ≡ 0 → OurStore (openAfter b n plen root)
+opened-is-ours b n plen root x y z = ours b n plen root x y z begin
+
+zeros-bytes : Bytes (replicate 97 0)
+zeros-bytes = record { size = refl; bytes = λ i l. let e : _≡_ {A = ℕ} (getD (replicate 97 0) i 0) 0 = getD-replicate {A = ℕ} 97 i 0 0 l in omega arith }
+
+-- 97 zero bytes, opened for a file of one byte
+pub one-store : OurStore (openAfter (replicate 97 0) 1 16384 zeroHash)
+unfolding openAnswer factsInRange storeSize positions isPieceLength pieceLayer blockCount ceilDiv height heightFrom
+one-store = opened-is-ours (replicate 97 0) 1 16384 zeroHash zeros-bytes zero-octets refl
+
+-- ---- the promise about another store's reply, with "held" as kd_held answers
+
+-- ANOTHER STORE'S REPLY, its anchor held here: taken, or the two stores show two different 64-byte strings with one SHA-256
+pub other-store-reply-taken : {s t : List ℕ} (m : List ℕ) → OurStore s → OurStore t → fileLength s ≡ fileLength t → factsRoot s ≡ factsRoot t
+    → requestNumber s m ≡ 0 → heldAnswer t (anchorLayer (replyTo s m)) (anchorIndex (replyTo s m)) .number ≡ 0
+    → Shown (heightOf t) (heldBy t) (heldBy s) ⊎ (takeNumber t (replyTo s m) ≡ 0)
+other-store-reply-taken {s} {t} m os ot files roots z h =
+    let r = replyTo s m in
+    let p = header-here s t (replyTo s m) (ours-have os) (ours-have ot) (ours-bytes os) (ours-bytes ot) files roots (reply-carries s m z) in
+    other-store-reply m os ot files roots z (asked-held (isHashes (replyTo s m)) t (replyTo s m) (passed (isHashes (replyTo s m)) t (replyTo s m) p) h)
