@@ -3,8 +3,8 @@
 .PHONY: run test lib bench interop soak
 
 run:
-	rt check vectors worked
-	@cat target/log/vectors.stdout target/log/worked.stdout
+	rt check replay vectors worked
+	@cat target/log/replay.stdout target/log/vectors.stdout target/log/worked.stdout
 
 test:
 	bash .ci/run
