@@ -2,6 +2,7 @@ pub mod Worked
 pub mod Held
 pub mod History
 pub mod TakenWhen
+pub mod Chains
 pub mod Settles
 pub mod Fresh
 pub mod Grows
