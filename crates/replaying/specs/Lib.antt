@@ -2,3 +2,4 @@ pub mod Session
 pub mod SessionLaws
 pub mod Lines
 pub mod LinesLaws
+pub mod RoomLaws

@@ -28,6 +28,10 @@ maxBlocks = 512
 abbrev pub maxMessage : ℕ
 maxMessage = 49 + 32 * 528
 
+-- the bytes of a store for them
+abbrev pub maxStore : ℕ
+maxStore = 33823
+
 -- ---- where a session stands: its phase, the bytes of the opening or message gathered so far, the store's bytes
 
 pub record Session : Type 0 where

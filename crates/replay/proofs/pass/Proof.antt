@@ -1,3 +1,5 @@
+-- Each turn uses at least one byte of the piece and none past it.
+-- Assumes nothing.
 use Rattle.replaying.specs.Session.{Due}
 use Rattle.replaying.specs.SessionLaws.{rest-used}
 use borrow.Author.Needs.{needs}

@@ -1,3 +1,5 @@
+-- The measure is the number of turns that are left.
+-- Assumes nothing.
 use Rattle.replaying.specs.Session.{Due}
 use Rattle.replaying.specs.SessionLaws.{started-due}
 use borrow.Author.Needs.{needs}

@@ -1,3 +1,5 @@
+-- The phase decides.
+-- Assumes nothing.
 use Rattle.replaying.specs.declared.Line.the-variants.{Answered}
 use Rattle.replaying.specs.Session.{ending}
 use Prim.Native.Nat.{_-_}

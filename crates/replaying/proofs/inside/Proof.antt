@@ -1,3 +1,5 @@
+-- One more hash, one too many, the message's end, any other kind.
+-- Assumes nothing.
 use Rattle.replaying.proofs.Steps.{inside-hash, inside-full, inside-end, inside-other}
 use native.Mathlib.Omega.{arith}
 use Prim.Native.Nat.{_-_, _≤_}

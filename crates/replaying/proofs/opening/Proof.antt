@@ -1,3 +1,5 @@
+-- The facts are read from the front of the room; too many blocks, a refusal, an open store.
+-- Assumes nothing.
 use Rattle.tree.specs.Geometry.{blockCount}
 use Rattle.replaying.proofs.Steps.{opening-large, opening-done, opening-refused}
 use native.Mathlib.Omega.{arith}

@@ -1,3 +1,5 @@
+-- An opening, a header once a store is open, any other kind.
+-- Assumes nothing.
 use Rattle.replaying.proofs.Steps.{outside-opening, outside-header, outside-other, outside-fresh}
 use native.Mathlib.Omega.{arith}
 use Prim.Native.Nat.{_-_}

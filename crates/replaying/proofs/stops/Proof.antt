@@ -1,3 +1,5 @@
+-- A refusal as the last line.
+-- Assumes nothing.
 use Rattle.replaying.specs.declared.Phase.the-variants.{Stopped}
 use Rattle.replaying.specs.Session.{saysAt}
 use Rattle.numbers.specs.declared.Answer.{Answer}

@@ -1,3 +1,5 @@
+-- The phase decides; each arm follows its part of the session's step.
+-- Assumes nothing.
 use Rattle.replaying.specs.Session.{outside, inside}
 use Rattle.replaying.proofs.Steps.{opening-more, opening-last, body-more, body-last, goes-follows, by-phase, due-of}
 use native.Mathlib.Omega.{arith}

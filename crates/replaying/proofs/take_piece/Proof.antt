@@ -1,3 +1,5 @@
+-- The invariant: the bytes so far gave no line, and the reading goes on from where they led.
+-- Assumes nothing.
 use borrow.Author.Tests.{not-false, not-true}
 use Rattle.replaying.proofs.Turns.{Reached, reached-start, reached-end, reached-next, reached-said}
 use Rattle.replaying.specs.Session.{seen}
