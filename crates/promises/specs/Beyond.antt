@@ -4,14 +4,14 @@
 use mathlib.Core.Path.{_≡_, refl, ap, ap₂, sym, _∙_}
 use mathlib.Core.Bool.{Bool, true, false, cond, _&&_, _||_, not}
 use mathlib.Core.List.{List, [], _∷_}
-use Prim.Native.Nat.{ℕ, _+_, _-_, _*_, _^_, _≤_, _<_}
+use Prim.Native.Nat.{ℕ, zero, suc, _+_, _/_, _-_, _*_, _^_, _≤_, _<_}
 use native.Mathlib.Omega.{arith}
 use native.Mathlib.Decide.{ℕ-discrete}
 use lib.ListN.{length}
 use lib.Dec.{eqb, ltb}
 use borrow.Author.Tests.{ne-eqb, eqb-true, ltb-true}
 use Rattle.octets.specs.Octets.{cut, same}
-use Rattle.numbers.specs.Numbers.{ruleBroken, wrongSize, wrongPadding, unusable, judged}
+use Rattle.numbers.specs.Numbers.{ruleBroken, wrongSize, wrongPadding, unusable, notHeld, judged}
 use Rattle.sha256.specs.Sha256.{sha256}
 use Rattle.tree.specs.Geometry.{nodeNumber, blockSize, pieceSize, pieceCount, pieceLayer, hasLayer}
 use Rattle.tree.specs.GeometryLaws.{height-enough, node-number-range}
@@ -22,14 +22,17 @@ use Rattle.cells.specs.Entries.{Entry, agreesAt, agrees}
 use Rattle.cells.specs.EntriesLaws.{Sound, none, more}
 use Rattle.store.specs.Store.{usable, fileLength, pieceLength, blocksOf, heightOf, positions, storeSize}
 use Rattle.store.specs.StoreLaws.{Facts, facts-usable, used-same, used-facts, used-held, used-hash}
+use Rattle.runs.specs.Path.{sibling}
 use Rattle.runs.specs.AncestorLaws.{ancestor-le}
 use Rattle.runs.specs.Span.{Within}
 use Rattle.runs.specs.Subtree.{subtree}
 use Rattle.runs.specs.SubtreeLaws.{within-self, subtree-sound}
-use Rattle.header.specs.Header.{placeOf, headerOf, isHashes, messageSize}
+use Rattle.header.specs.Header.{placeOf, headerOf, isHashes, isRequest, messageSize}
 use Rattle.messages.specs.Take.{headerNumber, bodyNumber, padded, anchored, anchor, worked, settled, placeIn, orElse, takeNumber}
 use Rattle.messages.specs.TakeLaws.{Passed, Placed, Ready, passed, placed, placed-ready}
 use Rattle.messages.specs.TakenLaws.{ready-settled}
+use Rattle.serve.specs.Serve.{heldRun, runHashes, heldUncles, uncleHashes, allHeld, allHashes, replyTo, requestNumber, sentBack, serveAnswer, serveAfter}
+use Rattle.serve.specs.ServeLaws.{sibling-near, request-passes, run-inside, uncles-inside}
 use Rattle.pieces.specs.Pieces.{blockNumber, judgedAt, layerOfPieces, layerNumber, pieceHeight, pieceNumber}
 use Rattle.pieces.specs.PiecesLaws.{layered, layer-within, layer-leaf-length, piece-within}
 
@@ -131,7 +134,7 @@ module _ (s t : List ℕ) (f : Facts s) (e : cut t 0 (storeSize (fileLength s)) 
           let w = piece-within s i (Rattle.pieces.specs.PiecesLaws.placed s f i (ltb-true i (pieceCount (fileLength s) (pieceLength s)) x)) in
           rw (judged-used (leafOf piece) (λ j. leaf-octets piece j .size) (pieceHeight s) (nodeNumber (heightOf s) (pieceHeight s) i) w)
 
-  -- and a layer get the same
+  -- a layer,
   pub layer-beyond : (layer : List ℕ) → layerNumber t layer ≡ layerNumber s layer
   unfolding layerNumber
   layer-beyond layer =
@@ -144,3 +147,63 @@ module _ (s t : List ℕ) (f : Facts s) (e : cut t 0 (storeSize (fileLength s)) 
       by false x = rw x
       by true x =
           rw (judged-used (layerLeaf layer (layerOfPieces s)) (layer-leaf-length layer (layerOfPieces s)) (heightOf s - layerOfPieces s) 1 (layer-within s (layered s f x)))
+
+  held-run-used : (n c : ℕ) → n + c ≤ positions (heightOf s) → heldRun t n c ≡ heldRun s n c
+  unfolding heldRun
+  held-run-used n zero l = refl
+  held-run-used n (suc c) l = rw (held-run-used n c (omega arith), used-held s t f e (n + c) (omega arith))
+
+  run-hashes-used : (n c : ℕ) → n + c ≤ positions (heightOf s) → runHashes t n c ≡ runHashes s n c
+  unfolding runHashes
+  run-hashes-used n zero l = refl
+  run-hashes-used n (suc c) l = rw (run-hashes-used n c (omega arith), used-hash s t f e (n + c) (omega arith))
+
+  held-uncles-used : (u n : ℕ) → n + 2 ≤ positions (heightOf s) → heldUncles t u n ≡ heldUncles s u n
+  unfolding heldUncles
+  held-uncles-used zero n l = refl
+  held-uncles-used (suc u) n l = rw (used-held s t f e (sibling n) (omega (arith, sibling-near n)), held-uncles-used u (n / 2) (omega arith))
+
+  uncle-hashes-used : (u n : ℕ) → n + 2 ≤ positions (heightOf s) → uncleHashes t u n ≡ uncleHashes s u n
+  unfolding uncleHashes
+  uncle-hashes-used zero n l = refl
+  uncle-hashes-used (suc u) n l = rw (used-hash s t f e (sibling n) (omega (arith, sibling-near n)), uncle-hashes-used u (n / 2) (omega arith))
+
+  module _ (m : List ℕ) where
+    request-header-used : headerNumber (isRequest m) t m ≡ headerNumber (isRequest m) s m
+    unfolding headerNumber
+    request-header-used =
+        rw (facts-usable t (used-facts s t f e), facts-usable s f, used-same s t f e .root, used-same s t f e .blocks, used-same s t f e .layers)
+
+    all-held-used : headerNumber (isRequest m) s m ≡ 0 → allHeld t (placeIn s m) ≡ allHeld s (placeIn s m)
+    unfolding allHeld
+    all-held-used z =
+        let p = placeIn s m in
+        rw (held-run-used (p .top * 2 ^ p .k) (2 ^ p .k) (run-inside s m z), held-uncles-used (p .u) (p .top) (uncles-inside s m z))
+
+    all-hashes-used : headerNumber (isRequest m) s m ≡ 0 → allHashes t (placeIn s m) ≡ allHashes s (placeIn s m)
+    unfolding allHashes
+    all-hashes-used z =
+        let p = placeIn s m in
+        rw (run-hashes-used (p .top * 2 ^ p .k) (2 ^ p .k) (run-inside s m z), uncle-hashes-used (p .u) (p .top) (uncles-inside s m z))
+
+    request-beyond : requestNumber t m ≡ requestNumber s m
+    unfolding requestNumber
+    request-beyond =
+        ap (λ (n : ℕ). orElse n (cond (allHeld t (placeIn t m)) 0 notHeld)) request-header-used
+        ∙ elim (ℕ-discrete (headerNumber (isRequest m) s m) 0) [
+          | yes z ↦ rw (place-used m, all-held-used z)
+          | no ne ↦ rw (ne-eqb (headerNumber (isRequest m) s m) 0 ne)
+        ]
+
+    sent-beyond : sentBack t m ≡ sentBack s m
+    unfolding sentBack replyTo
+    sent-beyond =
+        elim (ℕ-discrete (requestNumber s m) 0) [
+          | yes z ↦ rw (request-beyond, place-used m, all-hashes-used (request-passes s m z))
+          | no ne ↦ rw (request-beyond, ne-eqb (requestNumber s m) 0 ne)
+        ]
+
+    -- and a request get the same; so does the output
+    pub serve-beyond : (out : List ℕ) → (serveAnswer t m out ≡ serveAnswer s m out) × (serveAfter t m out ≡ serveAfter s m out)
+    unfolding serveAnswer serveAfter
+    serve-beyond out = (rw (request-beyond, sent-beyond), rw (request-beyond, sent-beyond))
