@@ -2,39 +2,42 @@
 -- (A held hash: `used-answer`, in the crate store.)
 -- Assumes nothing.
 use mathlib.Core.Path.{_≡_, refl, ap, ap₂, sym, _∙_}
-use mathlib.Core.Bool.{Bool, true, false, cond, _&&_, _||_, not}
+use mathlib.Core.Bool.{Bool, true, false, cond}
 use mathlib.Core.List.{List, [], _∷_}
 use Prim.Native.Nat.{ℕ, zero, suc, _+_, _/_, _-_, _*_, _^_, _≤_, _<_}
 use native.Mathlib.Omega.{arith}
 use native.Mathlib.Decide.{ℕ-discrete}
-use lib.ListN.{length}
+use lib.ListN.{length, getD}
 use lib.Dec.{eqb, ltb}
-use borrow.Author.Tests.{ne-eqb, eqb-true, ltb-true}
+use borrow.Author.Tests.{eq-eqb, ne-eqb, eqb-true, ltb-true}
 use Rattle.octets.specs.Octets.{cut, same}
-use Rattle.numbers.specs.Numbers.{ruleBroken, wrongSize, wrongPadding, unusable, notHeld, judged}
+use Rattle.octets.specs.OctetsLaws.{getD-cut}
+use Rattle.numbers.specs.Numbers.{ruleBroken, wrongSize, wrongPadding, notHeld, judged}
 use Rattle.sha256.specs.Sha256.{sha256}
 use Rattle.tree.specs.Geometry.{nodeNumber, blockSize, pieceSize, pieceCount, pieceLayer, hasLayer}
 use Rattle.tree.specs.GeometryLaws.{height-enough, node-number-range}
 use Rattle.tree.specs.Values.{leafOf, layerLeaf}
 use Rattle.tree.specs.ValuesLaws.{leaf-octets}
 use Rattle.cells.specs.Cells.{heldAt, hashAt}
-use Rattle.cells.specs.Entries.{Entry, agreesAt, agrees}
+use Rattle.cells.specs.Entries.{Entry, agreesAt, agrees, putAll, newly}
 use Rattle.cells.specs.EntriesLaws.{Sound, none, more}
-use Rattle.store.specs.Store.{usable, fileLength, pieceLength, blocksOf, heightOf, positions, storeSize}
-use Rattle.store.specs.StoreLaws.{Facts, facts-usable, used-same, used-facts, used-held, used-hash}
+use Rattle.store.specs.Store.{fileLength, pieceLength, blocksOf, heightOf, positions, storeSize}
+use Rattle.store.specs.StoreLaws.{Facts, own-size, putAll-past, facts-usable, used-same, used-facts, used-held, used-hash}
 use Rattle.runs.specs.Path.{sibling}
 use Rattle.runs.specs.AncestorLaws.{ancestor-le}
 use Rattle.runs.specs.Span.{Within}
 use Rattle.runs.specs.Subtree.{subtree}
 use Rattle.runs.specs.SubtreeLaws.{within-self, subtree-sound}
 use Rattle.header.specs.Header.{placeOf, headerOf, isHashes, isRequest, messageSize}
-use Rattle.messages.specs.Take.{headerNumber, bodyNumber, padded, anchored, anchor, worked, settled, placeIn, orElse, takeNumber}
-use Rattle.messages.specs.TakeLaws.{Passed, Placed, Ready, passed, placed, placed-ready}
+use Rattle.messages.specs.Take.{headerNumber, bodyNumber, padded, anchored, anchor, settled, placeIn, orElse, takeNumber, takeAnswer, takeAfter}
+use Rattle.messages.specs.TakeLaws.{Placed, passed, placed, placed-ready}
 use Rattle.messages.specs.TakenLaws.{ready-settled}
 use Rattle.serve.specs.Serve.{heldRun, runHashes, heldUncles, uncleHashes, allHeld, allHashes, replyTo, requestNumber, sentBack, serveAnswer, serveAfter}
 use Rattle.serve.specs.ServeLaws.{sibling-near, request-passes, run-inside, uncles-inside}
-use Rattle.pieces.specs.Pieces.{blockNumber, judgedAt, layerOfPieces, layerNumber, pieceHeight, pieceNumber}
-use Rattle.pieces.specs.PiecesLaws.{layered, layer-within, layer-leaf-length, piece-within}
+use Rattle.pieces.specs.Pieces.{blockNumber, judgedAt, layerOfPieces, layerNumber, layerSettled, layerAfter, layerAnswer, pieceHeight, pieceNumber}
+use Rattle.pieces.specs.PiecesLaws.{layered, layer-within, layer-leaf-length, piece-within, layer-sound, loads-layered, layer-loads}
+use Rattle.promises.specs.TakenWhen.{taken-well-formed}
+use Rattle.promises.specs.BytesLeft.{SameCells, putAll-same, newly-same}
 
 module _ (s t : List ℕ) (f : Facts s) (e : cut t 0 (storeSize (fileLength s)) ≡ cut s 0 (storeSize (fileLength s))) where
   agrees-used : (L : List Entry) → Sound (positions (heightOf s)) L → agrees t L ≡ agrees s L
@@ -207,3 +210,78 @@ module _ (s t : List ℕ) (f : Facts s) (e : cut t 0 (storeSize (fileLength s)) 
     pub serve-beyond : (out : List ℕ) → (serveAnswer t m out ≡ serveAnswer s m out) × (serveAfter t m out ≡ serveAfter s m out)
     unfolding serveAnswer serveAfter
     serve-beyond out = (rw (request-beyond, sent-beyond), rw (request-beyond, sent-beyond))
+
+  -- ---- what the calls leave
+
+  cells-used : SameCells (positions (heightOf s)) s t
+  cells-used =
+      record {
+        room = f .room;
+        room′ = rw (used-same s t f e .layers) at (used-facts s t f e .room);
+        same = λ i l.
+            let b : i < storeSize (fileLength s) = omega (arith, own-size s) in
+            let z : 0 + i ≡ i = omega arith in
+            let g : (u : List ℕ) → getD (cut u 0 (storeSize (fileLength s))) i 0 ≡ getD u i 0 = λ u. getD-cut u 0 (storeSize (fileLength s)) i b ∙ ap (λ (x : ℕ). getD u x 0) z in
+            sym (g t) ∙ ap (λ (u : List ℕ). getD u i 0) e ∙ g s;
+      }
+
+  left-alike : (n : ℕ) (L : List Entry) → (n ≡ 0 → Sound (positions (heightOf s)) L)
+      → SameCells (positions (heightOf s)) (cond (eqb n 0) (putAll s L) s) (cond (eqb n 0) (putAll t L) t)
+  left-alike n L k =
+      elim (ℕ-discrete n 0) [
+        | yes z ↦ rw (eq-eqb n 0 z) (putAll-same (positions (heightOf s)) L s t (k z) cells-used)
+        | no ne ↦ rw (ne-eqb n 0 ne) cells-used
+      ]
+
+  -- a message leaves the same cells,
+  pub take-leaves : (m : List ℕ) → SameCells (positions (heightOf s)) (takeAfter s m) (takeAfter t m)
+  unfolding takeAfter
+  take-leaves m =
+      rw (take-beyond m, place-used m)
+      (left-alike (takeNumber s m) (settled m (placeIn s m)) (λ z. let w = taken-well-formed s m z in settled-sound m (w .header) (w .size)))
+
+  -- and gets the same answer, the count too
+  pub take-answer-beyond : (m : List ℕ) → takeAnswer t m ≡ takeAnswer s m
+  unfolding takeAnswer
+  take-answer-beyond m =
+      ap₂ (λ (n c : ℕ). record { number = n; count = c }) (take-beyond m)
+      (ap (λ (h : ℕ). newly (positions h) t (takeAfter t m)) (used-same s t f e .layers)
+      ∙ newly-same (positions (heightOf s)) (positions (heightOf s)) s t (takeAfter s m) (takeAfter t m) (omega arith) cells-used (take-leaves m))
+
+  -- a layer too
+  settled-layer-used : (layer : List ℕ) → layerSettled t layer ≡ layerSettled s layer
+  unfolding layerSettled
+  settled-layer-used layer = rw (used-same s t f e .layers, layer-of-used)
+
+  pub layer-leaves : (layer : List ℕ) → SameCells (positions (heightOf s)) (layerAfter s layer) (layerAfter t layer)
+  unfolding layerAfter
+  layer-leaves layer =
+      rw (layer-beyond layer, settled-layer-used layer)
+      (left-alike (layerNumber s layer) (layerSettled s layer) (λ z. layer-sound s layer (loads-layered s layer (layer-loads s layer z))))
+
+  pub layer-answer-beyond : (layer : List ℕ) → layerAnswer t layer ≡ layerAnswer s layer
+  unfolding layerAnswer
+  layer-answer-beyond layer =
+      ap₂ (λ (n c : ℕ). record { number = n; count = c }) (layer-beyond layer)
+      (ap (λ (h : ℕ). newly (positions h) t (layerAfter t layer)) (used-same s t f e .layers)
+      ∙ newly-same (positions (heightOf s)) (positions (heightOf s)) s t (layerAfter s layer) (layerAfter t layer) (omega arith) cells-used (layer-leaves layer))
+
+  -- ---- and what stands behind the size stays
+
+  past-alike : (n : ℕ) (L : List Entry) → (n ≡ 0 → Sound (positions (heightOf s)) L) → (i : ℕ) → storeSize (fileLength s) ≤ i
+      → getD (cond (eqb n 0) (putAll s L) s) i 0 ≡ getD s i 0
+  past-alike n L k i l =
+      elim (ℕ-discrete n 0) [
+        | yes z ↦ rw (eq-eqb n 0 z) (putAll-past (positions (heightOf s)) L s (f .room) (k z) i (omega (arith, own-size s)))
+        | no ne ↦ rw (ne-eqb n 0 ne)
+      ]
+
+  pub take-past : (m : List ℕ) (i : ℕ) → storeSize (fileLength s) ≤ i → getD (takeAfter s m) i 0 ≡ getD s i 0
+  unfolding takeAfter
+  take-past m =
+      past-alike (takeNumber s m) (settled m (placeIn s m)) (λ z. let w = taken-well-formed s m z in settled-sound m (w .header) (w .size))
+
+  pub layer-past : (layer : List ℕ) (i : ℕ) → storeSize (fileLength s) ≤ i → getD (layerAfter s layer) i 0 ≡ getD s i 0
+  unfolding layerAfter
+  layer-past layer =
+      past-alike (layerNumber s layer) (layerSettled s layer) (λ z. layer-sound s layer (loads-layered s layer (layer-loads s layer z)))

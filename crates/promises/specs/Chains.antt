@@ -18,7 +18,7 @@ use Rattle.runs.specs.PathLaws.{parent-even, parent-odd}
 use Rattle.header.specs.Header.{headerOf}
 use Rattle.header.specs.declared.Place.{Place}
 use Rattle.messages.specs.Take.{given, unclesOf, settled, anchor, worked, padded, placeIn, takeNumber}
-use Rattle.promises.specs.TakenWhen.{WellFormed, Right, taken-then-right, right-then-taken}
+use Rattle.promises.specs.TakenWhen.{WellFormed, taken-then-right, right-then-taken}
 
 -- the c hashes from number a on make the hash v: one makes itself; two neighbouring runs of one size make the hash of left then right
 pub data Makes (leaf : ℕ → List ℕ) : ℕ → ℕ → List ℕ → Type 0 where

@@ -7,6 +7,7 @@ pub mod Settles
 pub mod Fresh
 pub mod Grows
 pub mod Again
+pub mod BytesLeft
 pub mod Beyond
 pub mod Refusals
 pub mod ReadBack
