@@ -34,7 +34,7 @@ use Rattle.promises.specs.Grows.{Grown, grown-take, grown-on, steps-grow
 
 -- ---- a held hash stays held with the same bytes
 
-what-is-held : (s : List ℕ) (l i : ℕ) (v : List ℕ) → Facts s → Holds s l i v
+pub what-is-held : (s : List ℕ) (l i : ℕ) (v : List ℕ) → Facts s → Holds s l i v
     → (inTree (heightOf s) l i ≡ true) × (heldAt s (nodeNumber (heightOf s) l i) ≡ true) × (hashAt s (nodeNumber (heightOf s) l i) ≡ v)
 what-is-held s l i v f h = by-place (inTree (heightOf s) l i) refl
   where

@@ -7,15 +7,12 @@ use mathlib.Core.Logic.{_⊎_}
 use Prim.Native.Nat.{ℕ, _+_, _-_, _*_, _/_, _^_, _≤_, _<_}
 use native.Mathlib.Omega.{arith}
 use native.Mathlib.Nat.{div-lt-iff-lt-mul}
-use lib.ListN.{replicate, getD, getD-replicate}
 use lib.Pow.{pow-add, pow-pos}
 use borrow.Author.Tests.{le-leb, lt-ltb}
-use Rattle.octets.specs.Octets.{Octets, zeroHash}
-use Rattle.octets.specs.OctetsLaws.{zero-octets}
 use Rattle.sha256.specs.declared.Hashed.{Hashed}
-use Rattle.tree.specs.Geometry.{ceilDiv, blockCount, heightFrom, height, nodeNumber, pieceLayer, isPieceLength}
+use Rattle.tree.specs.Geometry.{height, nodeNumber}
 use Rattle.cells.specs.Cells.{heldAt}
-use Rattle.store.specs.Store.{fileLength, factsRoot, blocksOf, heightOf, positions, factsInRange, storeSize, inTree, heldAnswer, openAnswer, openAfter}
+use Rattle.store.specs.Store.{fileLength, factsRoot, blocksOf, heightOf, inTree, heldAnswer}
 use Rattle.store.specs.StoreLaws.{usable-facts, facts-leaves, held-given, held-not}
 use Rattle.runs.specs.AncestorLaws.{ancestor-number}
 use Rattle.header.specs.Header.{headerOf, isHashes, placeOf}
@@ -23,7 +20,7 @@ use Rattle.header.specs.HeaderLaws.{rules-kept, log-some, top-inside}
 use Rattle.messages.specs.Take.{anchor, placeIn, takeNumber}
 use Rattle.messages.specs.TakeLaws.{Passed, passed}
 use Rattle.serve.specs.Serve.{replyTo, requestNumber}
-use Rattle.promises.specs.History.{Bytes, begin, OurStore, ours}
+use Rattle.promises.specs.History.{OurStore}
 use Rattle.promises.specs.Invariant.{ours-have}
 use Rattle.promises.specs.Conflict.{Shown, heldBy}
 use Rattle.promises.specs.OwnBytes.{ours-bytes}
@@ -80,20 +77,6 @@ module _ (form : Bool) (s m : List ℕ) (P : Passed form s m) where
   pub held-asked : heldAt s (anchor (placeIn s m)) ≡ true → heldAnswer s (anchorLayer m) (anchorIndex m) .number ≡ 0
   held-asked h =
       sym (ap (λ (r : Hashed). r .number) (held-given s (anchorLayer m) (anchorIndex m) (P .store) anchor-in-tree (sym (ap (heldAt s) anchor-number) ∙ h)))
-
--- ---- a store of ours that there is
-
--- a store that we opened is ours
-pub opened-is-ours : (b : List ℕ) (n plen : ℕ) (root : List ℕ) → Bytes b → Octets 32 root → openAnswer b n plen .number ≡ 0 → OurStore (openAfter b n plen root)
-opened-is-ours b n plen root x y z = ours b n plen root x y z begin
-
-zeros-bytes : Bytes (replicate 97 0)
-zeros-bytes = record { size = refl; bytes = λ i l. let e : _≡_ {A = ℕ} (getD (replicate 97 0) i 0) 0 = getD-replicate {A = ℕ} 97 i 0 0 l in omega arith }
-
--- 97 zero bytes, opened for a file of one byte
-pub one-store : OurStore (openAfter (replicate 97 0) 1 16384 zeroHash)
-unfolding openAnswer factsInRange storeSize positions isPieceLength pieceLayer blockCount ceilDiv height heightFrom
-one-store = opened-is-ours (replicate 97 0) 1 16384 zeroHash zeros-bytes zero-octets refl
 
 -- ---- the promise about another store's reply, with "held" as kd_held answers
 

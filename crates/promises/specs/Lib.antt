@@ -11,6 +11,7 @@ pub mod BytesLeft
 pub mod Beyond
 pub mod Refusals
 pub mod ReadBack
+pub mod ReadThere
 pub mod RightPadding
 pub mod Invariant
 pub mod Conflict
@@ -22,3 +23,4 @@ pub mod RootToBlock
 pub mod PieceIsTheFiles
 pub mod TrueMessage
 pub mod AnchorHeld
+pub mod Known

@@ -50,6 +50,59 @@ sibling-number h l y a =
       | no z ↦ sibling-odd (2 ^ (h - l) + y) (λ q. z (omega arith)) ∙ omega (arith, sibling-odd y z)
     ]
 
+-- ---- the positions that a header names, by layer and index, and their numbers in a tree of height h over b blocks
+
+module _ (x : Header) (b h : ℕ) (leaves : b ≤ 2 ^ h) (K : Kept x b h) where
+  inside : x .index / x .len < 2 ^ (h - (x .base + height (x .len)))
+  inside = top-inside x b h leaves K
+
+  whole : x .index / x .len * 2 ^ height (x .len) ≡ x .index
+  whole = ap (λ (y : ℕ). x .index / x .len * y) (K .power) ∙ omega (arith, div-add-mod' (x .index) (x .len), K .multiple)
+
+  -- hash j of the run is position index + j of the base layer,
+  pub run-number : (j : ℕ) → j < 2 ^ height (x .len) → placeOf x h .top * 2 ^ placeOf x h .k + j ≡ nodeNumber h (x .base) (x .index + j)
+  unfolding placeOf
+  run-number j l =
+      let k = height (x .len) in
+      number-below h (x .base + k) (x .index / x .len) k j (K .within) (omega arith)
+      ∙ ap₂ (λ (a c : ℕ). nodeNumber h a (c + j)) (let q : x .base + k - k ≡ x .base = omega arith in q) whole
+
+  -- which the layer has,
+  pub run-in-layer : (j : ℕ) → j < 2 ^ height (x .len) → x .index + j < 2 ^ (h - x .base)
+  run-in-layer j l =
+      let k = height (x .len) in
+      let w : 2 ^ (h - (x .base + k)) * 2 ^ k ≡ 2 ^ (h - x .base) =
+      sym (pow-add 2 (h - (x .base + k)) k) ∙ ap (λ (y : ℕ). 2 ^ y) (let q : h - (x .base + k) + k ≡ h - x .base = omega (arith, K .within) in q) in
+      let up : (x .index / x .len + 1) * 2 ^ k ≤ 2 ^ (h - (x .base + k)) * 2 ^ k = mul-le-mul-right (2 ^ k) (let q : x .index / x .len + 1 ≤ 2 ^ (h - (x .base + k)) = omega (arith, inside) in q) in
+      omega (arith, add-mul (x .index / x .len) 1 (2 ^ k), whole)
+
+  -- and uncle i stands beside the path in its layer
+  pub uncle-layer : (i : ℕ) → i < placeOf x h .u → x .base + height (x .len) + i < h
+  unfolding placeOf
+  uncle-layer i l = omega (arith, K .within, K .above, log-some (x .len) (K .two))
+
+  pub uncle-number : (i : ℕ) → i < placeOf x h .u
+      → sibling (ancestor i (placeOf x h .top)) ≡ nodeNumber h (x .base + height (x .len) + i) (sibling (x .index / x .len / 2 ^ i))
+  unfolding placeOf
+  uncle-number i l =
+      let k = height (x .len) in
+      let below = uncle-layer i l in
+      ap sibling (ancestor-number h (x .base + k) (x .index / x .len) i (omega arith)) ∙ sibling-number h (x .base + k + i) (x .index / x .len / 2 ^ i) below
+
+  pub uncle-in-layer : (i : ℕ) → i < placeOf x h .u → sibling (x .index / x .len / 2 ^ i) < 2 ^ (h - (x .base + height (x .len) + i))
+  uncle-in-layer i l =
+      let k = height (x .len) in
+      let y = x .index / x .len / 2 ^ i in
+      let below = uncle-layer i l in
+      let e : h - (x .base + k + i) + i ≡ h - (x .base + k) = omega arith in
+      let c : y < 2 ^ (h - (x .base + k + i)) = shr-lt (h - (x .base + k + i)) i (rw e inside) in
+      let f : h - (x .base + k + i) ≡ suc (h - (x .base + k + i) - 1) = omega arith in
+      let even : 2 ^ (h - (x .base + k + i)) % 2 ≡ 0 =
+      (let p : 2 ^ (h - (x .base + k + i)) ≡ 2 ^ (h - (x .base + k + i) - 1) * 2 = ap (λ (v : ℕ). 2 ^ v) f ∙ pow-suc 2 (h - (x .base + k + i) - 1) in omega arith) in
+      sibling-below y (2 ^ (h - (x .base + k + i))) c even
+
+-- ---- what a request is answered with
+
 module _ (s m : List ℕ) (z : requestNumber s m ≡ 0) where
   P : Passed (isRequest m) s m
   P = passed (isRequest m) s m (request-passes s m z)
@@ -57,16 +110,8 @@ module _ (s m : List ℕ) (z : requestNumber s m ≡ 0) where
   facts : Facts s
   facts = usable-facts s (P .store)
 
-  K : Kept (headerOf m) (blocksOf s) (heightOf s)
-  K = rules-kept (headerOf m) (blocksOf s) (heightOf s) (P .rules)
-
-  inside : headerOf m .index / headerOf m .len < 2 ^ (heightOf s - (headerOf m .base + height (headerOf m .len)))
-  inside = top-inside (headerOf m) (blocksOf s) (heightOf s) (facts-leaves s facts) K
-
-  whole : headerOf m .index / headerOf m .len * 2 ^ height (headerOf m .len) ≡ headerOf m .index
-  whole =
-      ap (λ (y : ℕ). headerOf m .index / headerOf m .len * y) (K .power)
-      ∙ omega (arith, div-add-mod' (headerOf m .index) (headerOf m .len), K .multiple)
+  kept : Kept (headerOf m) (blocksOf s) (heightOf s)
+  kept = rules-kept (headerOf m) (blocksOf s) (heightOf s) (P .rules)
 
   -- the reply has the request's header
   pub reply-has-header : (isHashes (replyTo s m) ≡ true) × (messageRoot (replyTo s m) ≡ messageRoot m) × (headerOf (replyTo s m) ≡ headerOf m)
@@ -75,39 +120,24 @@ module _ (s m : List ℕ) (z : requestNumber s m ≡ 0) where
 
   -- and at hash j of its run, the hash that was held at position index + j of the base layer
   pub run-reads-back : (j : ℕ) → j < headerOf m .len → Holds s (headerOf m .base) (headerOf m .index + j) (cut (replyTo s m) (49 + 32 * j) 32)
-  unfolding placeOf
   run-reads-back j l =
       let x = headerOf m in
-      let h = heightOf s in
-      let k = height (headerOf m .len) in
-      let l′ : j < 2 ^ height (headerOf m .len) = omega (arith, K .power) in
-      let n : placeIn s m .top * 2 ^ placeIn s m .k + j ≡ nodeNumber (heightOf s) (headerOf m .base) (headerOf m .index + j) =
-      number-below (heightOf s) (x .base + k) (x .index / x .len) k j (K .within) (omega arith)
-      ∙ ap₂ (λ (a b : ℕ). nodeNumber (heightOf s) a (b + j)) (let q : x .base + k - k ≡ x .base = omega arith in q) whole in
-      let w : 2 ^ (h - (x .base + k)) * 2 ^ k ≡ 2 ^ (h - x .base) =
-      sym (pow-add 2 (h - (x .base + k)) k) ∙ ap (λ (y : ℕ). 2 ^ y) (let q : h - (x .base + k) + k ≡ h - x .base = omega (arith, K .within) in q) in
-      let up : (x .index / x .len + 1) * 2 ^ k ≤ 2 ^ (h - (x .base + k)) * 2 ^ k = mul-le-mul-right (2 ^ k) (let q : x .index / x .len + 1 ≤ 2 ^ (h - (x .base + k)) = omega (arith, inside) in q) in
-      let b : x .index + j < 2 ^ (h - x .base) = omega (arith, add-mul (x .index / x .len) 1 (2 ^ k), whole) in
-      subst (Holds s (x .base) (x .index + j)) (ap (hashAt s) (sym n) ∙ sym (reply-hash s m (request-passes s m z) j l′))
-      (holds-at s (x .base) (x .index + j) facts (omega (arith, K .within)) b (rw (← n) (run-held s m z j l′)))
+      let l′ : j < 2 ^ height (headerOf m .len) = omega (arith, kept .power) in
+      let n = run-number (headerOf m) (blocksOf s) (heightOf s) (facts-leaves s facts) kept j l′ in
+      let b = run-in-layer (headerOf m) (blocksOf s) (heightOf s) (facts-leaves s facts) kept j l′ in
+      subst (Holds s (x .base) (x .index + j)) (ap (hashAt s) (sym n) ∙ sym (reply-hash s m (request-passes s m z) j (rw k-is l′)))
+      (holds-at s (x .base) (x .index + j) facts (omega (arith, kept .within)) b (rw (← n) (run-held s m z j (rw k-is l′))))
+    where
+      k-is : placeIn s m .k ≡ height (headerOf m .len)
+      k-is = unfold placeOf in refl
 
   -- and at uncle i, the hash that was held beside the path in its layer
   pub uncle-reads-back : (i : ℕ) → i < placeIn s m .u
       → Holds s (headerOf m .base + height (headerOf m .len) + i) (sibling (headerOf m .index / headerOf m .len / 2 ^ i)) (uncle (unclesOf (replyTo s m) (2 ^ placeIn s m .k) (placeIn s m .u)) i)
-  unfolding placeOf
   uncle-reads-back i l =
       let x = headerOf m in
-      let h = heightOf s in
-      let k = height (headerOf m .len) in
-      let y = headerOf m .index / headerOf m .len / 2 ^ i in
-      let some = log-some (headerOf m .len) (K .two) in
-      let below : x .base + k + i < h = omega (arith, K .within, K .above) in
-      let n : sibling (ancestor i (placeIn s m .top)) ≡ nodeNumber (heightOf s) (x .base + k + i) (sibling y) =
-      ap sibling (ancestor-number (heightOf s) (x .base + k) (x .index / x .len) i (omega arith)) ∙ sibling-number (heightOf s) (x .base + k + i) y below in
-      let e : h - (x .base + k + i) + i ≡ h - (x .base + k) = omega arith in
-      let b : y < 2 ^ (h - (x .base + k + i)) = shr-lt (h - (x .base + k + i)) i (rw e inside) in
-      let f : h - (x .base + k + i) ≡ suc (h - (x .base + k + i) - 1) = omega arith in
-      let even : 2 ^ (h - (x .base + k + i)) % 2 ≡ 0 =
-      (let p : 2 ^ (h - (x .base + k + i)) ≡ 2 ^ (h - (x .base + k + i) - 1) * 2 = ap (λ (v : ℕ). 2 ^ v) f ∙ pow-suc 2 (h - (x .base + k + i) - 1) in omega arith) in
-      subst (Holds s (x .base + k + i) (sibling y)) (ap (hashAt s) (sym n) ∙ sym (reply-uncle s m (request-passes s m z) i l))
-      (holds-at s (x .base + k + i) (sibling y) facts (omega arith) (sibling-below y (2 ^ (h - (x .base + k + i))) b even) (rw (← n) (uncle-held s m z i l)))
+      let n = uncle-number (headerOf m) (blocksOf s) (heightOf s) (facts-leaves s facts) kept i l in
+      let b = uncle-in-layer (headerOf m) (blocksOf s) (heightOf s) (facts-leaves s facts) kept i l in
+      let a = uncle-layer (headerOf m) (blocksOf s) (heightOf s) (facts-leaves s facts) kept i l in
+      subst (Holds s (x .base + height (x .len) + i) (sibling (x .index / x .len / 2 ^ i))) (ap (hashAt s) (sym n) ∙ sym (reply-uncle s m (request-passes s m z) i l))
+      (holds-at s (x .base + height (x .len) + i) (sibling (x .index / x .len / 2 ^ i)) facts (omega arith) b (rw (← n) (uncle-held s m z i l)))
