@@ -24,3 +24,4 @@ pub mod PieceIsTheFiles
 pub mod TrueMessage
 pub mod AnchorHeld
 pub mod Known
+pub mod Table
