@@ -1,0 +1,3 @@
+pub mod File
+pub mod Walk
+pub mod WalkLaws
