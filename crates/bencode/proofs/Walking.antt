@@ -13,7 +13,8 @@ use Rattle.octets.specs.Octets.{cut}
 use Rattle.bencode.specs.Grammar.{letterD, letterE, letterI, letterL, maxLevels, KeyBefore, none, after, ascends}
 use Rattle.bencode.specs.Scalar.{readString, readSigned}
 use Rattle.bencode.specs.Walk.{pastInteger, pastString, onward, withKey, endOr, between, inOrder, readKey, walkItems, walkEntries, walkList, walkDictionary, byFirst, walkValue}
-use Rattle.bencode.specs.Strict.{notStrict, wholeWalk, strictness}
+use Rattle.numbers.specs.Numbers.{notStrict}
+use Rattle.bencode.specs.Strict.{wholeWalk, strictness}
 use Rattle.bencode.specs.EndsLaws.{drop-further, string-ends, value-ends}
 use Rattle.bencode.proofs.Reading.{drop-end, drop-step}
 use Rattle.bencode.specs.declared.scalar.ByteString.{ByteString}

@@ -7,18 +7,11 @@ use mathlib.Core.List.{List, [], _∷_, _++_}
 use Prim.Native.Nat.{ℕ}
 use lib.ListN.{length}
 use lib.Dec.{eqb}
+use Rattle.numbers.specs.Numbers.{notStrict, nestedTooDeeply}
 use Rattle.bencode.specs.Grammar.{letterD, maxLevels, Entries, dictionary, encode, Valid}
 use Rattle.bencode.specs.Walk.{walkValue}
 use Rattle.bencode.specs.declared.walk.Walked.{Walked}
 use Rattle.bencode.specs.declared.walk.Walked.the-variants.{Past, Broken, TooDeep}
-
--- not strict bencoding
-abbrev pub notStrict : ℕ
-notStrict = 20
-
--- nested too deeply, before anything else is wrong
-abbrev pub nestedTooDeeply : ℕ
-nestedTooDeeply = 21
 
 -- s is the encoding of a dictionary that is valid with so many levels
 abbrev pub Encoded : ℕ → List ℕ → Type 0

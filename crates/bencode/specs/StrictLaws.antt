@@ -12,7 +12,8 @@ use lib.Dec.{eqb}
 use borrow.Author.Tests.{eq-eqb, eqb-true}
 use Rattle.bencode.specs.Grammar.{letterD, letterE, letterL, maxLevels, Value, integer, string, list, dictionary, noItems, Entries, noEntries, encode, encodeEntries, Valid}
 use Rattle.bencode.specs.Walk.{walkValue}
-use Rattle.bencode.specs.Strict.{notStrict, nestedTooDeeply, Encoded, CanGoOn, TooDeepFirst, wholeWalk, strictness}
+use Rattle.numbers.specs.Numbers.{notStrict, nestedTooDeeply}
+use Rattle.bencode.specs.Strict.{Encoded, CanGoOn, TooDeepFirst, wholeWalk, strictness}
 use Rattle.bencode.specs.CompleteLaws.{complete, dictionary-bytes}
 use Rattle.bencode.specs.SoundLaws.{sound}
 use Rattle.bencode.specs.UniqueLaws.{not-a-string, other-letter, first-same}

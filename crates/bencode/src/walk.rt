@@ -13,12 +13,6 @@ ghost use Rattle.bencode.specs.Strict.{strictness};
 // Lists and dictionaries stand inside one another to so many levels, the outer one being the first.
 pub const LEVELS: usize = 32;
 
-// The bytes are not strict bencoding.
-pub const NOT_STRICT: u32 = 20;
-
-// They are nested too deeply, before anything else is wrong.
-pub const NESTED_TOO_DEEPLY: u32 = 21;
-
 // The position past a value, or what is wrong first.
 pub enum Walked {
     Past(usize),
@@ -139,14 +133,14 @@ pub fn strict(s: &[u8]) -> u32
     ensures { λ r. ⌜ r ≡ strictness (now (s .entry)) ⌝ }
 {
     if s.len() == 0 {
-        return NOT_STRICT;
+        return numbers::NOT_STRICT;
     }
     if s[0] != b'd' {
-        return NOT_STRICT;
+        return numbers::NOT_STRICT;
     }
     match value_end(s, 0, LEVELS) {
-        Walked::Broken => NOT_STRICT,
-        Walked::TooDeep => NESTED_TOO_DEEPLY,
-        Walked::Past(k) => { if k == s.len() { 0 } else { NOT_STRICT } }
+        Walked::Broken => numbers::NOT_STRICT,
+        Walked::TooDeep => numbers::NESTED_TOO_DEEPLY,
+        Walked::Past(k) => { if k == s.len() { 0 } else { numbers::NOT_STRICT } }
     }
 }

@@ -52,6 +52,50 @@ noRoom = 11
 abbrev pub notHeld : ℕ
 notHeld = 12
 
+-- a torrent above 1 MiB
+abbrev pub torrentTooLarge : ℕ
+torrentTooLarge = 19
+
+-- not strict bencoding
+abbrev pub notStrict : ℕ
+notStrict = 20
+
+-- nested too deeply, before anything else is wrong
+abbrev pub nestedTooDeeply : ℕ
+nestedTooDeeply = 21
+
+-- `info`, `file tree`, `piece length`, `meta version` or `piece layers` missing or of another type
+abbrev pub keyMissing : ℕ
+keyMissing = 22
+
+-- the version isn't 2
+abbrev pub otherVersion : ℕ
+otherVersion = 23
+
+-- the piece length out of range
+abbrev pub pieceLengthOutOfRange : ℕ
+pieceLengthOutOfRange = 24
+
+-- the file tree isn't right
+abbrev pub wrongTree : ℕ
+wrongTree = 25
+
+-- two non-empty files with the same root
+abbrev pub sameRoot : ℕ
+sameRoot = 26
+
+-- `piece layers` aren't those of the files longer than the piece length, each of its size
+abbrev pub layersAmiss : ℕ
+layersAmiss = 27
+
+-- a layer doesn't give its root
+abbrev pub layerDiffers : ℕ
+layerDiffers = 28
+
+-- no file, or no path element, of that number
+abbrev pub noSuchFile : ℕ
+noSuchFile = 29
+
 -- 6, 7, 8 or 0: the anchor held, as worked out, no held hash different
 abbrev pub judged : Bool → Bool → Bool → ℕ
 judged false alike all = noAnchor

@@ -28,6 +28,28 @@ pub const NO_ROOM: u32 = 11;
 
 pub const NOT_HELD: u32 = 12;
 
+pub const TORRENT_TOO_LARGE: u32 = 19;
+
+pub const NOT_STRICT: u32 = 20;
+
+pub const NESTED_TOO_DEEPLY: u32 = 21;
+
+pub const KEY_MISSING: u32 = 22;
+
+pub const OTHER_VERSION: u32 = 23;
+
+pub const PIECE_LENGTH_OUT_OF_RANGE: u32 = 24;
+
+pub const WRONG_TREE: u32 = 25;
+
+pub const SAME_ROOT: u32 = 26;
+
+pub const LAYERS_AMISS: u32 = 27;
+
+pub const LAYER_DIFFERS: u32 = 28;
+
+pub const NO_SUCH_FILE: u32 = 29;
+
 // A number, and beside it the count of newly held positions or the reply's size.
 pub struct Answer {
     pub number: u32,
