@@ -7,7 +7,7 @@ use native.Mathlib.Omega.{arith}
 use lib.ListN.{length, set, length-set}
 use borrow.Author.Tests.{lt-ltb, le-ltb, eq-eqb, ne-eqb}
 use Rattle.files.specs.Walk.{maxElements, tokenAt, setElement, Reached, reach, onToken, nextIn, nextFile}
-use Rattle.files.specs.WalkLaws.{opened-ends, token-none, next-step, next-bad}
+use Rattle.files.specs.WalkLaws.{element-length, opened-ends, token-none, next-step, next-bad}
 use Rattle.files.specs.declared.walk.Token.{Token}
 use Rattle.files.specs.declared.walk.Token.the-variants.{Opened, Closed, Leaf, BadToken}
 use Rattle.files.specs.declared.walk.Next.{Next}
@@ -16,9 +16,6 @@ use Rattle.files.specs.declared.walk.Next.the-variants.{Placed, NoMore, 
 -- the search that gives `whole` has come to i, with d directories open and the path p
 abbrev pub NextAt : List ℕ → Reached → ℕ → ℕ → List ℕ → Type 0
 NextAt s whole i d p = (length p ≡ 56) × ((steps : ℕ) × (length s < i + steps) × (whole ≡ nextIn steps s i d p))
-
-pub element-length : (p : List ℕ) (d a b : ℕ) → length (setElement p d a b) ≡ length p
-element-length p d a b = length-set (set p (2 * d) a) (2 * d + 1) b ∙ length-set p (2 * d) a
 
 pub next-start : (s : List ℕ) (at d : ℕ) (p : List ℕ) → length p ≡ 56 → NextAt s (nextFile s at d p) at d p
 unfolding nextFile

@@ -1,3 +1,4 @@
 pub mod File
 pub mod Walk
+pub mod SizeLaws
 pub mod WalkLaws

@@ -8,7 +8,7 @@ use native.Mathlib.Omega.{arith}
 use native.Mathlib.Decide.{decLt}
 use lib.ListN.{length, drop, set, drop-of-length-le, length-set}
 use lib.Dec.{eqb, ltb}
-use borrow.Author.Tests.{eqb-false, lt-ltb, le-ltb, eq-eqb, ne-eqb}
+use borrow.Author.Tests.{eqb-false, ltb-true, lt-ltb, le-ltb, eq-eqb, ne-eqb}
 use Rattle.bencode.specs.Grammar.{maxLevels}
 use Rattle.bencode.specs.Scalar.{readString, readNumber}
 use Rattle.bencode.specs.Walk.{walkValue}
@@ -19,6 +19,7 @@ use Rattle.bencode.specs.declared.scalar.ByteString.the-variants.{Content, NoSt
 use Rattle.bencode.specs.declared.walk.Walked.{Walked}
 use Rattle.bencode.specs.declared.walk.Walked.the-variants.{Past, Broken, TooDeep}
 use Rattle.files.specs.File.{fileAt}
+use Rattle.files.specs.SizeLaws.{full-size}
 use Rattle.files.specs.Walk.{maxElements, endsHere, behindFile, pastFile, withFile, fileToken, firstKey, nodeToken, keyToken, tokenAt, setElement, Reached, reach, onToken, nextIn, nextFile}
 use Rattle.files.specs.declared.file.File.{File}
 use Rattle.files.specs.declared.file.File.the-variants.{Right, WrongFile}
@@ -43,49 +44,56 @@ dictionary-inside s i e = by-length (decLt i (length s))
     by-length (yes h) = h
     by-length (no g) = absurd (false≢true (rw (drop-of-length-le s {i = i} (omega arith)) at e))
 
+-- a file that is not empty takes at least 64 bytes, 32 of them its root
+abbrev pub Takes : ℕ → ℕ → ℕ → ℕ → ℕ → Type 0
+Takes at end n r k = (n ≡ 0 → ⊥) → (at + 64 ≤ k) × (r + 32 ≤ end)
+
 -- a token from `at` on lies behind it, within the bytes
 abbrev pub TokenIn : ℕ → ℕ → Token → Type 0
 TokenIn at end BadToken = Unit {0}
 TokenIn at end Closed = at < end
 TokenIn at end (Opened a b) = (at < b) × (b < end)
-TokenIn at end (Leaf a b n r k) = (at < k) × (k ≤ end)
+TokenIn at end (Leaf a b n r k) = (at < k) × (k ≤ end) × Takes at end n r k
 
-past-in : (s : List ℕ) (at a b n r x : ℕ) → at < x → TokenIn at (length s) (pastFile s a b n r x)
+past-in : (s : List ℕ) (at a b n r x : ℕ) → fileAt s x ≡ Right n r → at + 4 ≤ x → TokenIn at (length s) (pastFile s a b n r x)
 unfolding pastFile
-past-in s at a b n r x h = by-walk (walkValue maxLevels x (drop x s)) refl
+past-in s at a b n r x f h = by-walk (walkValue maxLevels x (drop x s)) refl
   where
-    by-end : (k : ℕ) → x < k → (t : Bool) → endsHere (drop k s) ≡ t → TokenIn at (length s) (cond t (Leaf a b n r (k + 1)) BadToken)
-    by-end k g true e = let below = ends-inside s k e in (omega arith, omega arith)
-    by-end k g false e = tt
+    by-end : (k : ℕ) → walkValue maxLevels x (drop x s) ≡ Past k → (t : Bool) → endsHere (drop k s) ≡ t → TokenIn at (length s) (cond t (Leaf a b n r (k + 1)) BadToken)
+    by-end k q true e =
+        let below = ends-inside s k e in
+        let g = value-ends maxLevels x s k q .0 in
+        (omega arith, omega arith, (λ nz. let z = full-size s x k n r q f nz in let u = z .0 in (omega arith, z .1)))
+    by-end k q false e = tt
 
     by-walk : (w : Walked) → walkValue maxLevels x (drop x s) ≡ w → TokenIn at (length s) (behindFile s a b n r w)
     by-walk Broken q = tt
     by-walk TooDeep q = tt
-    by-walk (Past k) q = by-end k (value-ends maxLevels x s k q .0) (endsHere (drop k s)) refl
+    by-walk (Past k) q = by-end k q (endsHere (drop k s)) refl
 
-file-in : (s : List ℕ) (at a b x : ℕ) → at < x → TokenIn at (length s) (fileToken s a b x)
+file-in : (s : List ℕ) (at a b x : ℕ) → at + 4 ≤ x → TokenIn at (length s) (fileToken s a b x)
 unfolding fileToken
-file-in s at a b x h = by-file (fileAt s x)
+file-in s at a b x h = by-file (fileAt s x) refl
   where
-    by-file : (w : File) → TokenIn at (length s) (withFile s a b x w)
-    by-file WrongFile = tt
-    by-file (Right n r) = past-in s at a b n r x h
+    by-file : (w : File) → fileAt s x ≡ w → TokenIn at (length s) (withFile s a b x w)
+    by-file WrongFile f = tt
+    by-file (Right n r) f = past-in s at a b n r x f h
 
-first-in : (s : List ℕ) (at a b i : ℕ) → at < b → b < length s → at < i → (w : ByteString) → readString i (drop i s) ≡ w → TokenIn at (length s) (firstKey s a b w)
-first-in s at a b i h l g NoString e = tt
-first-in s at a b i h l g (Content x y) e = by-empty (eqb x y)
+first-in : (s : List ℕ) (at a b : ℕ) → at + 2 ≤ b → b < length s → (w : ByteString) → readString (b + 1) (drop (b + 1) s) ≡ w → TokenIn at (length s) (firstKey s a b w)
+first-in s at a b h l NoString e = tt
+first-in s at a b h l (Content x y) e = by-empty (eqb x y)
   where
     by-empty : (t : Bool) → TokenIn at (length s) (cond t (fileToken s a b y) (Opened a b))
-    by-empty true = let p = string-ends i s x y e in let u = p .0 in let v = p .1 in file-in s at a b y (omega arith)
-    by-empty false = (h, l)
+    by-empty true = let p = string-ends (b + 1) s x y e in let u = p .0 in let v = p .1 in file-in s at a b y (omega arith)
+    by-empty false = (omega arith, l)
 
-node-in : (s : List ℕ) (at a b : ℕ) → at < b → TokenIn at (length s) (nodeToken s a b)
+node-in : (s : List ℕ) (at a b : ℕ) → at + 2 ≤ b → TokenIn at (length s) (nodeToken s a b)
 unfolding nodeToken
 node-in s at a b h = by-kind (isDictionary (drop b s)) refl
   where
     by-end : b < length s → (t : Bool) → TokenIn at (length s) (cond t BadToken (firstKey s a b (readString (b + 1) (drop (b + 1) s))))
     by-end l true = tt
-    by-end l false = first-in s at a b (b + 1) h l (omega arith) (readString (b + 1) (drop (b + 1) s)) refl
+    by-end l false = first-in s at a b h l (readString (b + 1) (drop (b + 1) s)) refl
 
     by-kind : (t : Bool) → isDictionary (drop b s) ≡ t → TokenIn at (length s) (cond t (cond (endsHere (drop (b + 1) s)) BadToken (firstKey s a b (readString (b + 1) (drop (b + 1) s)))) BadToken)
     by-kind true e = by-end (dictionary-inside s b e) (endsHere (drop (b + 1) s))
@@ -97,11 +105,16 @@ token-in s at = by-end (endsHere (drop at s)) refl
   where
     by-key : (w : ByteString) → readString at (drop at s) ≡ w → TokenIn at (length s) (keyToken s w)
     by-key NoString e = tt
-    by-key (Content a b) e = by-empty (eqb a b)
+    by-key (Content a b) e = by-empty (eqb a b) refl
       where
-        by-empty : (t : Bool) → TokenIn at (length s) (cond t BadToken (nodeToken s a b))
-        by-empty true = tt
-        by-empty false = let p = string-ends at s a b e in let u = p .0 in let v = p .1 in node-in s at a b (omega arith)
+        by-empty : (t : Bool) → eqb a b ≡ t → TokenIn at (length s) (cond t BadToken (nodeToken s a b))
+        by-empty true q = tt
+        by-empty false q =
+            let p = string-ends at s a b e in
+            let u = p .0 in
+            let v = p .1 in
+            let other : (a ≡ b → ⊥) = eqb-false a b q in
+            node-in s at a b (omega arith)
 
     by-end : (t : Bool) → endsHere (drop at s) ≡ t → TokenIn at (length s) (cond t Closed (keyToken s (readString at (drop at s))))
     by-end true e = ends-inside s at e
@@ -110,7 +123,7 @@ token-in s at = by-end (endsHere (drop at s)) refl
 pub opened-ends : (s : List ℕ) (at a b : ℕ) → tokenAt s at ≡ Opened a b → (at < b) × (b < length s)
 opened-ends s at a b e = rw e at (token-in s at)
 
-pub leaf-ends : (s : List ℕ) (at a b n r k : ℕ) → tokenAt s at ≡ Leaf a b n r k → (at < k) × (k ≤ length s)
+pub leaf-ends : (s : List ℕ) (at a b n r k : ℕ) → tokenAt s at ≡ Leaf a b n r k → (at < k) × (k ≤ length s) × Takes at (length s) n r k
 leaf-ends s at a b n r k e = rw e at (token-in s at)
 
 -- past the end there is none
@@ -129,3 +142,63 @@ pub next-bad : (steps : ℕ) (s : List ℕ) (at d : ℕ) (path : List ℕ) → t
 unfolding nextIn
 next-bad zero s at d path e = refl
 next-bad (suc n) s at d path e = ap (onToken (nextIn n s) at d path) e
+
+-- ---- the next file
+
+abbrev pub PlacedIn : ℕ → ℕ → Next → Type 0
+PlacedIn at end NoMore = Unit {0}
+PlacedIn at end WrongTree = Unit {0}
+PlacedIn at end (Placed n r k d) = (at < k) × (k ≤ end) × Takes at end n r k × (d < maxElements)
+
+-- it lies behind `at`, within the bytes, and the path keeps its length
+abbrev pub NextIn : ℕ → ℕ → ℕ → Reached → Type 0
+NextIn at end size w = (length (w .path) ≡ size) × PlacedIn at end (w .answer)
+
+-- from further on it does so all the more
+further : (at x end size : ℕ) (w : Reached) → at ≤ x → NextIn x end size w → NextIn at end size w
+further at x end size w h p = (p .0, on (w .answer) (p .1))
+  where
+    on : (a : Next) → PlacedIn x end a → PlacedIn at end a
+    on NoMore q = tt
+    on WrongTree q = tt
+    on (Placed n r k d) q = let g = q .0 in (omega arith, q .1, (λ nz. let z = q .2 nz in let u = z .0 in (omega arith, z .1)), q .3)
+
+pub element-length : (p : List ℕ) (d a b : ℕ) → length (setElement p d a b) ≡ length p
+element-length p d a b = length-set (set p (2 * d) a) (2 * d + 1) b ∙ length-set p (2 * d) a
+
+next-in : (steps : ℕ) (s : List ℕ) (at d : ℕ) (path : List ℕ) → NextIn at (length s) (length path) (nextIn steps s at d path)
+unfolding nextIn
+next-in zero s at d path = (refl, tt)
+next-in (suc n) s at d path = by-token (tokenAt s at) (token-in s at) (next-in n s)
+  where
+    by-depth : (t : Bool) (a b m r k : ℕ) → ltb d maxElements ≡ t → TokenIn at (length s) (Leaf a b m r k)
+        → NextIn at (length s) (length path) (cond t (reach (Placed m r k d) (setElement path d a b)) (reach WrongTree path))
+    by-depth true a b m r k e p = (element-length path d a b, (p .0, p .1, p .2, ltb-true d maxElements e))
+    by-depth false a b m r k e p = (refl, tt)
+
+    Later : Type 0
+    Later = (i e : ℕ) (q : List ℕ) → NextIn i (length s) (length q) (nextIn n s i e q)
+
+    by-open : (t : Bool) (a b : ℕ) → at < b → Later → NextIn at (length s) (length path) (cond t (nextIn n s (b + 1) (d + 1) (setElement path d a b)) (reach WrongTree path))
+    by-open true a b h later = further at (b + 1) (length s) (length path) (nextIn n s (b + 1) (d + 1) (setElement path d a b)) (omega arith) (rw (element-length path d a b) at (later (b + 1) (d + 1) (setElement path d a b)))
+    by-open false a b h later = (refl, tt)
+
+    by-zero : (t : Bool) → Later → NextIn at (length s) (length path) (cond t (reach NoMore path) (nextIn n s (at + 1) (d - 1) path))
+    by-zero true later = (refl, tt)
+    by-zero false later = further at (at + 1) (length s) (length path) (nextIn n s (at + 1) (d - 1) path) (omega arith) (later (at + 1) (d - 1) path)
+
+    by-token : (t : Token) → TokenIn at (length s) t → Later → NextIn at (length s) (length path) (onToken (nextIn n s) at d path t)
+    by-token BadToken p later = (refl, tt)
+    by-token Closed p later = by-zero (eqb d 0) later
+    by-token (Opened a b) p later = by-open (ltb d maxElements) a b (p .0) later
+    by-token (Leaf a b m r k) p later = by-depth (ltb d maxElements) a b m r k refl p
+
+-- the next file lies behind `at`, and a file that is not empty takes at least 64 bytes
+pub next-file-in : (s : List ℕ) (at d : ℕ) (path : List ℕ) → NextIn at (length s) (length path) (nextFile s at d path)
+unfolding nextFile
+next-file-in s at d path = next-in (suc (length s)) s at d path
+
+-- past the end there is none
+pub next-file-none : (s : List ℕ) (at d : ℕ) (path : List ℕ) → length s ≤ at → nextFile s at d path ≡ reach WrongTree path
+unfolding nextFile
+next-file-none s at d path h = next-bad (suc (length s)) s at d path (token-none s at h)

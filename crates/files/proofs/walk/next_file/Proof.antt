@@ -1,6 +1,6 @@
 use Rattle.files.specs.Walk.{Reached, nextFile, setElement}
-use Rattle.files.specs.WalkLaws.{opened-ends}
-use Rattle.files.proofs.Walking.{NextAt, element-length, next-start, stop-bad, stop-end, stop-closed, on-closed, stop-opened, on-opened, stop-deep, stop-leaf}
+use Rattle.files.specs.WalkLaws.{opened-ends, element-length}
+use Rattle.files.proofs.Walking.{NextAt, next-start, stop-bad, stop-end, stop-closed, on-closed, stop-opened, on-opened, stop-deep, stop-leaf}
 use lib.ListN.{length-set}
 use borrow.Author.Needs.{needs}
 use native.Mathlib.Omega.{arith}
