@@ -1,0 +1,4 @@
+pub mod Telling
+pub mod Merging
+pub mod Climbing
+pub mod Narrowing
