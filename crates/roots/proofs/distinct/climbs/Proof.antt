@@ -3,15 +3,11 @@ use Rattle.roots.proofs.Telling.{told}
 use borrow.Author.Tests.{not-true, not-false}
 use borrow.Author.Needs.{needs}
 use native.Mathlib.Omega.{arith}
-use Prim.Native.Nat.{ℕ, _+_, _-_, _*_, _≤_, _<_, _/_, _%_, _^_}
-use lib.ListN.{length, getD, set, take, drop}
-use mathlib.Core.Path.{_≡_, refl, ap, sym, _∙_}
+use Prim.Native.Nat.{_-_}
+use lib.ListN.{length}
+use mathlib.Core.Path.{sym}
 use Rattle.roots.proofs.distinct.climbs.Statement.{statement}
 use Rattle.roots.proofs.distinct.climbs.Tie as tie
-use Rattle.roots.proofs.distinct.climbs.Reads as reads
-use Rattle.roots.proofs.distinct.climbs.Lts as lts
-use Rattle.roots.proofs.compare.before.Reads as before-reads
-use Rattle.roots.proofs.compare.index.Reads as index-reads
 
 abbrev Inv-loop : tie.InvT-loop
 Inv-loop s at i₀ i = ClimbingAt s at i
@@ -19,39 +15,30 @@ Inv-loop s at i₀ i = ClimbingAt s at i
 abbrev μ-loop : tie.MeasureT-loop
 μ-loop s at i₀ i = length at - i
 
--- src/distinct.rt:17:5
 loop-holds : tie.Need-loop-holds Inv-loop μ-loop
 loop-holds c = climbing-start _ _
 
--- src/distinct.rt:18:26
 sub-index : tie.Need-sub-index Inv-loop μ-loop
 sub-index c = search needs
 
--- src/distinct.rt:18:23
 mul-index : tie.Need-mul-index Inv-loop μ-loop
 mul-index c = search needs
 
--- src/distinct.rt:18:23
 shared-slice-read-index : tie.Need-shared-slice-read-index Inv-loop μ-loop
 shared-slice-read-index c = search needs
 
--- src/distinct.rt:18:13
 index-requires : tie.Need-index-requires Inv-loop μ-loop
 index-requires c κs = search needs
 
--- src/distinct.rt:19:23
 mul-index-2 : tie.Need-mul-index-2 Inv-loop μ-loop
 mul-index-2 c = search needs
 
--- src/distinct.rt:19:23
 shared-slice-read-index-2 : tie.Need-shared-slice-read-index-2 Inv-loop μ-loop
 shared-slice-read-index-2 c = search needs
 
--- src/distinct.rt:19:13
 index-requires-2 : tie.Need-index-requires-2 Inv-loop μ-loop
 index-requires-2 c κs = search needs
 
--- src/distinct.rt:20:13
 before-requires : tie.Need-before-requires Inv-loop μ-loop
 before-requires c κs =
     let l = c .before .before .before .before .before in
@@ -61,29 +48,24 @@ before-requires c κs =
     let high = fit n (omega arith) in
     (omega (arith, c .before .before .index .ensures, low), omega (arith, c .index2 .ensures, high))
 
--- src/distinct.rt:21:13
 returns : tie.Need-returns Inv-loop μ-loop
 returns c =
     let l = c .before .before .before .before .before .before .before in
     sym (climbing-stop _ _ _ (l .loop .inv) (c .before .before .before .before .before .before .loop-test .taken)
     (told _ _ _ _ _ _ _ (c .before .before .before .before .index .ensures) (c .before .before .index2 .ensures) (c .before .before2 .ensures) (not-true _ (c .if1 .taken))))
 
--- src/distinct.rt:23:9
 add-i : tie.Need-add-i Inv-loop μ-loop
 add-i c = search needs
 
--- src/distinct.rt:17:5
 loop-less : tie.Need-loop-less Inv-loop μ-loop
 loop-less c = search needs
 
--- src/distinct.rt:17:5
 loop-again : tie.Need-loop-again Inv-loop μ-loop
 loop-again c =
     let l = c .before .before .before .before .before .before .before in
     climbing-on _ _ _ (l .loop .inv) (c .before .before .before .before .before .before .loop-test .taken)
     (told _ _ _ _ _ _ _ (c .before .before .before .before .index .ensures) (c .before .before .index2 .ensures) (c .before .before2 .ensures) (not-false _ (c .if1 .left)))
 
--- src/distinct.rt:12:1
 returns-2 : tie.Need-returns-2 Inv-loop μ-loop
 returns-2 c = sym (climbing-end _ _ _ (c .before .loop .inv) (c .loop-test .left))
 

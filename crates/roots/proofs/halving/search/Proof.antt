@@ -2,15 +2,10 @@ use Rattle.roots.proofs.Narrowing.{Narrowed, narrowed-start, narrowed-n
 use Rattle.roots.proofs.Telling.{told}
 use borrow.Author.Needs.{needs}
 use native.Mathlib.Omega.{arith}
-use Prim.Native.Nat.{ℕ, _+_, _-_, _*_, _≤_, _<_, _/_, _%_, _^_}
-use lib.ListN.{length, getD, set, take, drop}
-use mathlib.Core.Path.{_≡_, refl, ap, sym, _∙_}
+use Prim.Native.Nat.{_+_, _-_, _/_}
+use mathlib.Core.Path.{refl}
 use Rattle.roots.proofs.halving.search.Statement.{statement}
 use Rattle.roots.proofs.halving.search.Tie as tie
-use Rattle.roots.proofs.halving.search.Reads as reads
-use Rattle.roots.proofs.halving.search.Lts as lts
-use Rattle.roots.proofs.compare.before.Reads as before-reads
-use Rattle.roots.proofs.compare.index.Reads as index-reads
 
 abbrev Inv-loop : tie.InvT-loop
 Inv-loop s at count root low₀ high₀ low high = Narrowed s at count root low high
@@ -18,46 +13,36 @@ Inv-loop s at count root low₀ high₀ low high = Narrowed s at count root low 
 abbrev μ-loop : tie.MeasureT-loop
 μ-loop s at count root low₀ high₀ low high = high - low
 
--- src/halving.rt:17:5
 loop-holds : tie.Need-loop-holds Inv-loop μ-loop
 loop-holds c = narrowed-start _ _ _ _
 
--- src/halving.rt:18:29
 sub-middle : tie.Need-sub-middle Inv-loop μ-loop
 sub-middle c = search needs
 
--- src/halving.rt:18:22
 add-middle : tie.Need-add-middle Inv-loop μ-loop
 add-middle c = search needs
 
--- src/halving.rt:19:23
 mul-index : tie.Need-mul-index Inv-loop μ-loop
 mul-index c = search needs
 
--- src/halving.rt:19:23
 shared-slice-read-index : tie.Need-shared-slice-read-index Inv-loop μ-loop
 shared-slice-read-index c = search needs
 
--- src/halving.rt:19:13
 index-requires : tie.Need-index-requires Inv-loop μ-loop
 index-requires c κs = search needs
 
--- src/halving.rt:20:12
 before-requires : tie.Need-before-requires Inv-loop μ-loop
 before-requires c κs =
     let b = c .before .before .before .before .before .before in
     let fit = b .pre .2 (c .before .before .before .loop .low + (c .before .before .before .loop .high - c .before .before .before .loop .low) / 2) (omega arith) in
     (omega (arith, c .index .ensures, fit), b .pre .1)
 
--- src/halving.rt:21:19
 add-low : tie.Need-add-low Inv-loop μ-loop
 add-low c = search needs
 
--- src/halving.rt:17:5
 loop-less : tie.Need-loop-less Inv-loop μ-loop
 loop-less c = search needs
 
--- src/halving.rt:17:5
 loop-again : tie.Need-loop-again Inv-loop μ-loop
 loop-again c =
     let l = c .before .before .before .before .before .loop in
@@ -65,18 +50,15 @@ loop-again c =
     narrowed-up _ _ _ _ _ _ (l .inv) (l .low + (l .high - l .low) / 2) (omega arith) (omega (arith, c .before .before .before .before .loop-test .taken)) (b .pre .3)
     (told _ _ _ _ _ _ _ (c .before .before .index .ensures) refl (c .before .before2 .ensures) (c .if1 .taken))
 
--- src/halving.rt:22:19
 before-requires-2 : tie.Need-before-requires-2 Inv-loop μ-loop
 before-requires-2 c κs =
     let b = c .before .before .before .before .before .before .before .before in
     let fit = b .pre .2 (c .before .before .before .before .before .loop .low + (c .before .before .before .before .before .loop .high - c .before .before .before .before .before .loop .low) / 2) (omega arith) in
     (b .pre .1, omega (arith, c .before .before .index .ensures, fit))
 
--- src/halving.rt:17:5
 loop-less-2 : tie.Need-loop-less-2 Inv-loop μ-loop
 loop-less-2 c = search needs
 
--- src/halving.rt:17:5
 loop-again-2 : tie.Need-loop-again-2 Inv-loop μ-loop
 loop-again-2 c =
     let l = c .before .before .before .before .before .before .before .loop in
@@ -84,7 +66,6 @@ loop-again-2 c =
     narrowed-down _ _ _ _ _ _ (l .inv) (l .low + (l .high - l .low) / 2) (omega arith) (omega (arith, c .before .before .before .before .before .before .loop-test .taken)) (b .pre .3)
     (told _ _ _ _ _ _ _ refl (c .before .before .before .before .index .ensures) (c .before .before3 .ensures) (c .if2 .taken))
 
--- src/halving.rt:25:13
 returns : tie.Need-returns Inv-loop μ-loop
 returns c =
     let l = c .before .before .before .before .before .before .before .loop in
@@ -92,7 +73,6 @@ returns c =
     (told _ _ _ _ _ _ _ (c .before .before .before .before .index .ensures) refl (c .before .before .before .before2 .ensures) (c .before .before .if1 .left))
     (told _ _ _ _ _ _ _ refl (c .before .before .before .before .index .ensures) (c .before .before3 .ensures) (c .if2 .left))
 
--- src/halving.rt:11:1
 returns-2 : tie.Need-returns-2 Inv-loop μ-loop
 returns-2 c = narrowed-none _ _ _ _ _ _ (c .before .loop .inv) (c .loop-test .left)
 
