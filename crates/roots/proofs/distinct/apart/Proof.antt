@@ -1,3 +1,4 @@
+-- Sorted, the positions are the same ones and their strings rise; then the strings are all different where each stands before the next.
 use Rattle.roots.proofs.Climbing.{first-fit, sorted-fit, climbing-apart}
 use lib.Seq.{length-take-le}
 use native.Mathlib.Omega.{arith}

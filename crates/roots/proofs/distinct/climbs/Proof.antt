@@ -1,3 +1,4 @@
+-- The strings up to the one before i climb, so that all do where those from there on do, `ClimbingAt`.
 use Rattle.roots.proofs.Climbing.{ClimbingAt, climbing-start, climbing-end, climbing-stop, climbing-on}
 use Rattle.roots.proofs.Telling.{told}
 use borrow.Author.Tests.{not-true, not-false}

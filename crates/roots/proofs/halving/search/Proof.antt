@@ -1,3 +1,4 @@
+-- What stands before `low` or from `high` on is not the string that is looked for, `Narrowed`.
 use Rattle.roots.proofs.Narrowing.{Narrowed, narrowed-start, narrowed-none, narrowed-found, narrowed-up, narrowed-down}
 use Rattle.roots.proofs.Telling.{told}
 use borrow.Author.Needs.{needs}
