@@ -36,7 +36,7 @@ before-requires : tie.Need-before-requires Inv-loop μ-loop
 before-requires c κs =
     let b = c .before .before .before .before .before .before in
     let fit = b .pre .2 (c .before .before .before .loop .low + (c .before .before .before .loop .high - c .before .before .before .loop .low) / 2) (omega arith) in
-    (omega (arith, c .index .ensures, fit), b .pre .1)
+    (omega (arith, c .index .ensures, fit, b .pre .1), omega (arith, c .index .ensures, fit, b .pre .1))
 
 add-low : tie.Need-add-low Inv-loop μ-loop
 add-low c = search needs
@@ -55,7 +55,7 @@ before-requires-2 : tie.Need-before-requires-2 Inv-loop μ-loop
 before-requires-2 c κs =
     let b = c .before .before .before .before .before .before .before .before in
     let fit = b .pre .2 (c .before .before .before .before .before .loop .low + (c .before .before .before .before .before .loop .high - c .before .before .before .before .before .loop .low) / 2) (omega arith) in
-    (b .pre .1, omega (arith, c .before .before .index .ensures, fit))
+    (omega (arith, c .before .before .index .ensures, fit, b .pre .1), omega (arith, c .before .before .index .ensures, fit, b .pre .1))
 
 loop-less-2 : tie.Need-loop-less-2 Inv-loop μ-loop
 loop-less-2 c = search needs
