@@ -4,9 +4,12 @@ use files::walk::ends_here;
 use files::walk::next_file;
 use tree::geometry::has_layer;
 ghost use mathlib.Core.Path.{_≡_};
-ghost use mathlib.Core.Bool.{true};
-ghost use Prim.Native.Nat.{_^_, _≤_};
-ghost use lib.ListN.{length, take};
+ghost use mathlib.Core.Bool.{true, cond};
+ghost use Prim.Native.Nat.{_+_, _^_, _≤_, _<_};
+ghost use lib.ListN as L;
+ghost use lib.ListN.{set, take};
+ghost use lib.Dec.{eqb};
+ghost use Rattle.tree.specs.Geometry.{hasLayer};
 ghost use Rattle.listing.specs.Listing.{filesIn, right, listed, rootsOf, noTally, tallyOf};
 
 // A file that is not empty takes 64 bytes or more: a torrent of 1 MiB has no more of them.
@@ -32,10 +35,33 @@ fn no_tally() -> Tally
     }
 }
 
+// The root's position goes behind the `full` that are there, if the file is not empty; how many there are then.
+fn keep_root(roots: &mut [u32], full: usize, length: usize, root: usize) -> usize
+    requires { ⌜ (full < L.length (now roots)) × (root < 2 ^ 32) ⌝ }
+    ensures { λ r. ⌜ (r ≡ cond (eqb length 0) full (full + 1)) × (now (roots .exit) ≡ cond (eqb length 0) (now (roots .entry)) (set (now (roots .entry)) full root)) ⌝ }
+{
+    if length == 0 {
+        return full;
+    }
+    roots[full] = root as u32;
+    full + 1
+}
+
+// One more, if a file of this length has a layer.
+fn one_more(long: usize, length: usize, plen: usize) -> usize
+    requires { ⌜ long < 2 ^ 63 ⌝ }
+    ensures { λ r. ⌜ r ≡ cond (hasLayer length plen) (long + 1) long ⌝ }
+{
+    if has_layer(length, plen) {
+        return long + 1;
+    }
+    long
+}
+
 // The files of the `file tree` at `tree`; the positions of the roots of those that are not empty, in order, are left in `roots`.
 pub fn count_files(s: &[u8], tree: usize, plen: usize, roots: &mut [u32]) -> Tally
-    requires { ⌜ (length (now s) ≤ 2 ^ 20) × (16384 ≤ length (now roots)) ⌝ }
-    ensures { λ r. ⌜ (r ≡ tallyOf plen (filesIn (now (s .entry)) tree)) × (right (filesIn (now (s .entry)) tree) ≡ true → take (length (rootsOf (listed (filesIn (now (s .entry)) tree)))) (now (roots .exit)) ≡ rootsOf (listed (filesIn (now (s .entry)) tree))) ⌝ }
+    requires { ⌜ (L.length (now s) ≤ 2 ^ 20) × (16384 ≤ L.length (now roots)) ⌝ }
+    ensures { λ r. ⌜ (r ≡ tallyOf plen (filesIn (now (s .entry)) tree)) × (right (filesIn (now (s .entry)) tree) ≡ true → take (L.length (rootsOf (listed (filesIn (now (s .entry)) tree)))) (now (roots .exit)) ≡ rootsOf (listed (filesIn (now (s .entry)) tree))) ⌝ }
 {
     if s.len() <= tree {
         return no_tally();
@@ -69,13 +95,8 @@ pub fn count_files(s: &[u8], tree: usize, plen: usize, roots: &mut [u32]) -> Tal
                 depth: open,
             } => {
                 count += 1;
-                if length != 0 {
-                    roots[full] = root as u32;
-                    full += 1;
-                }
-                if has_layer(length, plen) {
-                    long += 1;
-                }
+                full = keep_root(roots, full, length, root);
+                long = one_more(long, length, plen);
                 at = next;
                 depth = open;
             }

@@ -1,0 +1,5 @@
+pub mod Telling
+pub mod Sorting
+pub mod Merging
+pub mod Climbing
+pub mod Narrowing

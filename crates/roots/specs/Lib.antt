@@ -1,0 +1,6 @@
+pub mod Roots
+pub mod Order
+pub mod PrecedesLaws
+pub mod MovedLaws
+pub mod OrderLaws
+pub mod RootsLaws
