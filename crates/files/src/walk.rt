@@ -1,13 +1,13 @@
 // The file tree from the left, without recursion: how many directories are open says where in the tree a position is.
 // Each node shows in its first key what it is: a file's is empty, a directory's is not.
+use crate::file::File;
+use crate::file::read_file;
 use bencode::parts::is_dictionary;
 use bencode::scalar::ByteString;
 use bencode::scalar::read_string;
 use bencode::walk::LEVELS;
 use bencode::walk::Walked;
 use bencode::walk::value_end;
-use crate::file::File;
-use crate::file::read_file;
 ghost use mathlib.Core.Path.{_≡_};
 ghost use Prim.Native.Nat.{_*_, _<_};
 ghost use lib.ListN.{length, drop};
@@ -22,7 +22,10 @@ pub const PATH: usize = 56;
 
 // What stands next in an open directory: a directory with its key; the end of the open one; a file with its key; nothing that may.
 pub enum Token {
-    Opened { start: usize, end: usize },
+    Opened {
+        start: usize,
+        end: usize,
+    },
     Closed,
     Leaf {
         start: usize,

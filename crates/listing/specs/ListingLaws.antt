@@ -36,7 +36,7 @@ unfolding filesIn right
 files-empty s tree e = rw e refl
 
 -- where a next one is wrong, the tree is wrong from there on
-from-wrong : (steps : ℕ) (s : List ℕ) (at d : ℕ) (path : List ℕ) → nextFile s at d path .answer ≡ WrongTree → right (filesFrom steps s at d path) ≡ false
+pub from-wrong : (steps : ℕ) (s : List ℕ) (at d : ℕ) (path : List ℕ) → nextFile s at d path .answer ≡ WrongTree → right (filesFrom steps s at d path) ≡ false
 unfolding filesFrom right
 from-wrong zero s at d path e = refl
 from-wrong (suc n) s at d path e = ap (λ (w : Next). right (onNext (filesFrom n s) (nextFile s at d path .path) w)) e

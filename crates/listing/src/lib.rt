@@ -37,7 +37,7 @@ fn no_tally() -> Tally
 
 // The root's position goes behind the `full` that are there, if the file is not empty; how many there are then.
 fn keep_root(roots: &mut [u32], full: usize, length: usize, root: usize) -> usize
-    requires { ⌜ (full < L.length (now roots)) × (root < 2 ^ 32) ⌝ }
+    requires { ⌜ (full < L.length (now roots)) × ((length ≡ 0 → ⊥) → root < 2 ^ 32) ⌝ }
     ensures { λ r. ⌜ (r ≡ cond (eqb length 0) full (full + 1)) × (now (roots .exit) ≡ cond (eqb length 0) (now (roots .entry)) (set (now (roots .entry)) full root)) ⌝ }
 {
     if length == 0 {

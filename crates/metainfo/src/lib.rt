@@ -67,7 +67,16 @@ fn find_integer(s: &[u8], at: usize, key: &[u8]) -> Integer
 }
 
 // 23, 24 or 0, where no key is missing.
-fn right_keys(info: usize, past: usize, tree: usize, below: bool, plen: usize, minus: bool, version: usize, layers: usize) -> Keys
+fn right_keys(
+    info: usize,
+    past: usize,
+    tree: usize,
+    below: bool,
+    plen: usize,
+    minus: bool,
+    version: usize,
+    layers: usize,
+) -> Keys
     ensures { λ r. ⌜ r ≡ rightKeys info past tree below plen minus version layers ⌝ }
 {
     if minus {
@@ -93,12 +102,30 @@ fn right_keys(info: usize, past: usize, tree: usize, below: bool, plen: usize, m
 }
 
 // The same, with `piece layers` still to find.
-fn layer_keys(s: &[u8], info: usize, past: usize, tree: usize, below: bool, plen: usize, minus: bool, version: usize) -> Keys
+fn layer_keys(
+    s: &[u8],
+    info: usize,
+    past: usize,
+    tree: usize,
+    below: bool,
+    plen: usize,
+    minus: bool,
+    version: usize,
+) -> Keys
     ensures { λ r. ⌜ r ≡ layerKeys (now (s .entry)) info past tree below plen minus version ⌝ }
 {
     match find_dictionary(s, 0, b"piece layers") {
         Found::Missing => no_keys(numbers::KEY_MISSING),
-        Found::Part { start, end: _ } => right_keys(info, past, tree, below, plen, minus, version, start),
+        Found::Part { start, end: _ } => right_keys(
+            info,
+            past,
+            tree,
+            below,
+            plen,
+            minus,
+            version,
+            start,
+        ),
     }
 }
 

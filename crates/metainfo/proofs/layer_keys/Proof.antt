@@ -1,46 +1,31 @@
 use Rattle.metainfo.proofs.Finding.{layers-found}
-use native.Mathlib.Omega.{arith}
-use Prim.Native.Nat.{ℕ, _+_, _-_, _*_, _≤_, _<_, _/_, _%_, _^_}
-use lib.ListN.{length, getD, set, take, drop}
-use mathlib.Core.Path.{_≡_, refl, ap, sym, _∙_}
+use Prim.Native.Nat.{_-_}
+use mathlib.Core.Path.{sym, _∙_}
 use borrow.Author.Needs.{needs}
 use Rattle.metainfo.proofs.layer_keys.Statement.{statement}
 use Rattle.metainfo.proofs.layer_keys.Tie as tie
-use Rattle.metainfo.proofs.layer_keys.Reads as reads
-use Rattle.metainfo.proofs.layer_keys.Lts as lts
-use Rattle.metainfo.proofs.find_dictionary.Reads as find-dictionary-reads
-use Rattle.metainfo.proofs.no_keys.Reads as no-keys-reads
-use Rattle.metainfo.proofs.right_keys.Reads as right-keys-reads
 
--- src/lib.rt:99:33
 slice-aggregate-find-dictionary : tie.Need-slice-aggregate-find-dictionary
 slice-aggregate-find-dictionary c = search needs
 
--- src/lib.rt:99:11
 find-dictionary-requires : tie.Need-find-dictionary-requires
 find-dictionary-requires c κs = search needs
 
--- src/lib.rt:100:27
 enum-told : tie.Need-enum-told
 enum-told c = search needs
 
--- src/lib.rt:100:27
 no-keys-requires : tie.Need-no-keys-requires
 no-keys-requires c κs = search needs
 
--- src/lib.rt:101:23
 enum-known-start : tie.Need-enum-known-start
 enum-known-start c = search needs
 
--- src/lib.rt:101:42
 right-keys-requires : tie.Need-right-keys-requires
 right-keys-requires c κs = search needs
 
--- src/lib.rt:96:1
 returns : tie.Need-returns
 returns c = c .no-keys .ensures ∙ sym (layers-found _ _ _ _ _ _ _ 0 _ _ (sym (c .before .before .before .find-dictionary .ensures) ∙ c .before .enum-told .given .1))
 
--- src/lib.rt:96:1
 returns-2 : tie.Need-returns-2
 returns-2 c = c .right-keys .ensures ∙ sym (layers-found _ _ _ _ _ _ _ 0 _ _ (sym (c .before .before .before .before .find-dictionary .ensures) ∙ c .before .before .start .given .1))
 

@@ -1,41 +1,29 @@
 use Rattle.files.specs.File.{lengthOf}
 use Rattle.files.proofs.Reading.{length-minus, length-fits, length-long}
-use native.Mathlib.Omega.{arith}
-use Prim.Native.Nat.{ℕ, _+_, _-_, _*_, _≤_, _<_, _/_, _%_, _^_}
-use lib.ListN.{length, getD, set, take, drop}
-use mathlib.Core.Path.{_≡_, refl, ap, sym, _∙_}
+use Prim.Native.Nat.{_-_}
+use mathlib.Core.Path.{ap, sym, _∙_}
 use borrow.Author.Needs.{needs}
 use Rattle.files.proofs.file.length_here.Statement.{statement}
 use Rattle.files.proofs.file.length_here.Tie as tie
-use Rattle.files.proofs.file.length_here.Reads as reads
-use Rattle.files.proofs.file.length_here.Lts as lts
-use Rattle.bencode.proofs.scalar.read_integer.Reads as read-integer-reads
 
--- src/file.rt:41:11
 read-integer-requires : tie.Need-read-integer-requires
 read-integer-requires c κs = search needs
 
--- src/file.rt:42:31
 enum-told : tie.Need-enum-told
 enum-told c = search needs
 
--- src/file.rt:44:13
 enum-known-minus : tie.Need-enum-known-minus
 enum-known-minus c = search needs
 
--- src/file.rt:49:17
 returns : tie.Need-returns
 returns c = sym (length-minus _ _ _ _ (sym (c .before .before .before .before .read-integer .ensures) ∙ c .before .before .minus .given .1) (c .if1 .taken))
 
--- src/file.rt:52:17
 returns-2 : tie.Need-returns-2
 returns-2 c = sym (length-fits _ _ _ _ (sym (c .before .before .before .before .before .read-integer .ensures) ∙ c .before .before .before .minus .given .1) (c .before .if1 .left) (c .if2 .taken))
 
--- src/file.rt:38:1
 returns-3 : tie.Need-returns-3
 returns-3 c = sym (ap lengthOf (sym (c .before .before .read-integer .ensures) ∙ c .enum-told .given .1))
 
--- src/file.rt:38:1
 returns-4 : tie.Need-returns-4
 returns-4 c = sym (length-long _ _ _ _ (sym (c .before .before .before .before .before .read-integer .ensures) ∙ c .before .before .before .minus .given .1) (c .before .if1 .left) (c .if2 .left))
 

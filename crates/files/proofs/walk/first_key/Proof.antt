@@ -1,42 +1,29 @@
 use Rattle.files.specs.Walk.{firstKey}
 use Rattle.files.proofs.Reading.{key-empty, key-full}
-use native.Mathlib.Omega.{arith}
-use Prim.Native.Nat.{ℕ, _+_, _-_, _*_, _≤_, _<_, _/_, _%_, _^_}
-use lib.ListN.{length, getD, set, take, drop}
-use mathlib.Core.Path.{_≡_, refl, ap, sym, _∙_}
+use Prim.Native.Nat.{_-_}
+use mathlib.Core.Path.{ap, sym, _∙_}
 use borrow.Author.Needs.{needs}
 use Rattle.files.proofs.walk.first_key.Statement.{statement}
 use Rattle.files.proofs.walk.first_key.Tie as tie
-use Rattle.files.proofs.walk.first_key.Reads as reads
-use Rattle.files.proofs.walk.first_key.Lts as lts
-use Rattle.bencode.proofs.scalar.read_string.Reads as read-string-reads
-use Rattle.files.proofs.walk.file_token.Reads as file-token-reads
 
--- src/walk.rt:95:11
 read-string-requires : tie.Need-read-string-requires
 read-string-requires c κs = search needs
 
--- src/walk.rt:96:33
 enum-told : tie.Need-enum-told
 enum-told c = search needs
 
--- src/walk.rt:97:38
 enum-known-a : tie.Need-enum-known-a
 enum-known-a c = search needs
 
--- src/walk.rt:99:17
 file-token-requires : tie.Need-file-token-requires
 file-token-requires c κs = search needs
 
--- src/walk.rt:99:17
 returns : tie.Need-returns
 returns c = c .file-token .ensures ∙ sym (key-empty _ _ _ _ _ _ (sym (c .before .before .before .before .before .read-string .ensures) ∙ c .before .before .before .a .given .1) (c .before .if1 .taken))
 
--- src/walk.rt:92:1
 returns-2 : tie.Need-returns-2
 returns-2 c = sym (ap (firstKey (c .before .before .before .before .args .s .now) (c .before .before .before .before .args .start) (c .before .before .before .before .args .end)) (sym (c .before .before .read-string .ensures) ∙ c .enum-told .given .1))
 
--- src/walk.rt:92:1
 returns-3 : tie.Need-returns-3
 returns-3 c = sym (key-full _ _ _ _ _ _ (sym (c .before .before .before .before .read-string .ensures) ∙ c .before .before .a .given .1) (c .if1 .left))
 

@@ -1,17 +1,14 @@
-use Rattle.files.specs.Walk.{Reached, nextFile, setElement}
+use Rattle.files.specs.Walk.{Reached, nextFile}
 use Rattle.files.specs.WalkLaws.{opened-ends, element-length}
 use Rattle.files.proofs.Walking.{NextAt, next-start, stop-bad, stop-end, stop-closed, on-closed, stop-opened, on-opened, stop-deep, stop-leaf}
 use lib.ListN.{length-set}
 use borrow.Author.Needs.{needs}
 use native.Mathlib.Omega.{arith}
-use Prim.Native.Nat.{ℕ, _+_, _-_, _*_, _≤_, _<_, _/_, _%_, _^_}
-use lib.ListN.{length, getD, set, take, drop}
-use mathlib.Core.Path.{_≡_, refl, ap, sym, _∙_}
+use Prim.Native.Nat.{_-_, _*_}
+use lib.ListN.{length}
+use mathlib.Core.Path.{ap, sym, _∙_}
 use Rattle.files.proofs.walk.next_file.Statement.{statement}
 use Rattle.files.proofs.walk.next_file.Tie as tie
-use Rattle.files.proofs.walk.next_file.Reads as reads
-use Rattle.files.proofs.walk.next_file.Lts as lts
-use Rattle.files.proofs.walk.read_token.Reads as read-token-reads
 
 abbrev Inv-loop : tie.InvT-loop
 Inv-loop s at depth path₀ i₀ d₀ path i d = NextAt s (nextFile s at depth path₀) i d path
@@ -19,163 +16,123 @@ Inv-loop s at depth path₀ i₀ d₀ path i d = NextAt s (nextFile s at depth p
 abbrev μ-loop : tie.MeasureT-loop
 μ-loop s at depth path₀ i₀ d₀ path i d = length s - i
 
--- src/walk.rt:146:5
 loop-holds : tie.Need-loop-holds Inv-loop μ-loop
 loop-holds c = next-start _ _ _ _ (c .before .before .pre)
 
--- src/walk.rt:147:15
 read-token-requires : tie.Need-read-token-requires Inv-loop μ-loop
 read-token-requires c κs = search needs
 
--- src/walk.rt:149:17
 enum-told : tie.Need-enum-told Inv-loop μ-loop
 enum-told c = search needs
 
--- src/walk.rt:149:17
 same-length : tie.Need-same-length Inv-loop μ-loop
 same-length c = c .before .before .before .before .loop .inv .0 ∙ sym (c .before .before .before .before .before .before .before .pre)
 
--- src/walk.rt:149:17
 returns : tie.Need-returns Inv-loop μ-loop
 returns c = let e = stop-bad _ _ _ _ _ (c .before .before .before .before .loop .inv) (sym (c .before .before .read-token .ensures) ∙ c .enum-told .given .1) in (sym (ap (λ (z : Reached). z .answer) e), sym (ap (λ (z : Reached). z .path) e))
 
--- src/walk.rt:152:20
 enum-told-2 : tie.Need-enum-told-2 Inv-loop μ-loop
 enum-told-2 c = search needs
 
--- src/walk.rt:153:21
 same-length-2 : tie.Need-same-length-2 Inv-loop μ-loop
 same-length-2 c = c .before .before .before .before .before .loop .inv .0 ∙ sym (c .before .before .before .before .before .before .before .before .pre)
 
--- src/walk.rt:153:21
 returns-2 : tie.Need-returns-2 Inv-loop μ-loop
 returns-2 c = let e = stop-closed _ _ _ _ _ (c .before .before .before .before .before .loop .inv) (c .before .before .before .before .loop-test .taken) (sym (c .before .before .before .read-token .ensures) ∙ c .before .enum-told2 .given .1) (c .if1 .taken) in (sym (ap (λ (z : Reached). z .answer) e), sym (ap (λ (z : Reached). z .path) e))
 
--- src/walk.rt:155:17
 sub-d : tie.Need-sub-d Inv-loop μ-loop
 sub-d c = search needs
 
--- src/walk.rt:156:17
 add-i : tie.Need-add-i Inv-loop μ-loop
 add-i c = search needs
 
--- src/walk.rt:146:5
 loop-less : tie.Need-loop-less Inv-loop μ-loop
 loop-less c = search needs
 
--- src/walk.rt:146:5
 loop-again : tie.Need-loop-again Inv-loop μ-loop
 loop-again c = on-closed _ _ _ _ _ (c .before .before .before .before .before .loop .inv) (c .before .before .before .before .loop-test .taken) (sym (c .before .before .before .read-token .ensures) ∙ c .before .enum-told2 .given .1) (c .if1 .left)
 
--- src/walk.rt:158:29
 enum-known-start : tie.Need-enum-known-start Inv-loop μ-loop
 enum-known-start c = search needs
 
--- src/walk.rt:160:21
 same-length-3 : tie.Need-same-length-3 Inv-loop μ-loop
 same-length-3 c = c .before .before .before .before .before .before .loop .inv .0 ∙ sym (c .before .before .before .before .before .before .before .before .before .pre)
 
--- src/walk.rt:160:21
 returns-3 : tie.Need-returns-3 Inv-loop μ-loop
 returns-3 c = let e = stop-opened _ _ _ _ _ (c .before .before .before .before .before .before .loop .inv) (c .before .before .before .before .before .loop-test .taken) _ _ (sym (c .before .before .before .before .read-token .ensures) ∙ c .before .before .start .given .1) (c .if2 .taken) in (sym (ap (λ (z : Reached). z .answer) e), sym (ap (λ (z : Reached). z .path) e))
 
--- src/walk.rt:162:22
 mul-path : tie.Need-mul-path Inv-loop μ-loop
 mul-path c = search needs
 
--- src/walk.rt:162:17
 mul-path-2 : tie.Need-mul-path-2 Inv-loop μ-loop
 mul-path-2 c = search needs
 
--- src/walk.rt:162:17
 slice-write-path : tie.Need-slice-write-path Inv-loop μ-loop
 slice-write-path c = search needs
 
--- src/walk.rt:163:22
 mul-path-3 : tie.Need-mul-path-3 Inv-loop μ-loop
 mul-path-3 c = search needs
 
--- src/walk.rt:163:22
 add-path : tie.Need-add-path Inv-loop μ-loop
 add-path c = search needs
 
--- src/walk.rt:163:17
 mul-path-4 : tie.Need-mul-path-4 Inv-loop μ-loop
 mul-path-4 c = search needs
 
--- src/walk.rt:163:17
 slice-write-path-2 : tie.Need-slice-write-path-2 Inv-loop μ-loop
 slice-write-path-2 c = let l = c .before .before .before .before .before .before .loop .inv .0 in let m = length-set (c .before .before .before .before .before .before .loop .path) (2 * c .before .before .before .before .before .before .loop .d) (c .before .before .start .given .0 .0) in let x = c .if2 .left in omega arith
 
--- src/walk.rt:164:17
 add-d : tie.Need-add-d Inv-loop μ-loop
 add-d c = search needs
 
--- src/walk.rt:165:21
 add-i-2 : tie.Need-add-i-2 Inv-loop μ-loop
 add-i-2 c = let ends = opened-ends _ _ _ _ (sym (c .before .before .before .before .read-token .ensures) ∙ c .before .before .start .given .1) in let x = ends .1 in omega arith
 
--- src/walk.rt:146:5
 loop-less-2 : tie.Need-loop-less-2 Inv-loop μ-loop
 loop-less-2 c = let ends = opened-ends _ _ _ _ (sym (c .before .before .before .before .read-token .ensures) ∙ c .before .before .start .given .1) in let x = ends .0 in let y = ends .1 in omega arith
 
--- src/walk.rt:146:5
 loop-again-2 : tie.Need-loop-again-2 Inv-loop μ-loop
 loop-again-2 c = on-opened _ _ _ _ _ (c .before .before .before .before .before .before .loop .inv) (c .before .before .before .before .before .loop-test .taken) _ _ (sym (c .before .before .before .before .read-token .ensures) ∙ c .before .before .start .given .1) (c .if2 .left)
 
--- src/walk.rt:168:17
 enum-known-start-2 : tie.Need-enum-known-start-2 Inv-loop μ-loop
 enum-known-start-2 c = search needs
 
--- src/walk.rt:175:21
 same-length-4 : tie.Need-same-length-4 Inv-loop μ-loop
 same-length-4 c = c .before .before .before .before .before .before .loop .inv .0 ∙ sym (c .before .before .before .before .before .before .before .before .before .pre)
 
--- src/walk.rt:175:21
 returns-4 : tie.Need-returns-4 Inv-loop μ-loop
 returns-4 c = let e = stop-deep _ _ _ _ _ (c .before .before .before .before .before .before .loop .inv) (c .before .before .before .before .before .loop-test .taken) _ _ _ _ _ (sym (c .before .before .before .before .read-token .ensures) ∙ c .before .before .start2 .given .1) (c .if3 .taken) in (sym (ap (λ (z : Reached). z .answer) e), sym (ap (λ (z : Reached). z .path) e))
 
--- src/walk.rt:177:22
 mul-path-5 : tie.Need-mul-path-5 Inv-loop μ-loop
 mul-path-5 c = search needs
 
--- src/walk.rt:177:17
 mul-path-6 : tie.Need-mul-path-6 Inv-loop μ-loop
 mul-path-6 c = search needs
 
--- src/walk.rt:177:17
 slice-write-path-3 : tie.Need-slice-write-path-3 Inv-loop μ-loop
 slice-write-path-3 c = search needs
 
--- src/walk.rt:178:22
 mul-path-7 : tie.Need-mul-path-7 Inv-loop μ-loop
 mul-path-7 c = search needs
 
--- src/walk.rt:178:22
 add-path-2 : tie.Need-add-path-2 Inv-loop μ-loop
 add-path-2 c = search needs
 
--- src/walk.rt:178:17
 mul-path-8 : tie.Need-mul-path-8 Inv-loop μ-loop
 mul-path-8 c = search needs
 
--- src/walk.rt:178:17
 slice-write-path-4 : tie.Need-slice-write-path-4 Inv-loop μ-loop
 slice-write-path-4 c = let l = c .before .before .before .before .before .before .loop .inv .0 in let m = length-set (c .before .before .before .before .before .before .loop .path) (2 * c .before .before .before .before .before .before .loop .d) (c .before .before .start2 .given .0 .0) in let x = c .if3 .left in omega arith
 
--- src/walk.rt:179:17
 same-length-5 : tie.Need-same-length-5 Inv-loop μ-loop
 same-length-5 c = element-length (c .before .before .before .before .before .before .loop .path) (c .before .before .before .before .before .before .loop .d) (c .before .before .start2 .given .0 .0) (c .before .before .start2 .given .0 .1 .0) ∙ c .before .before .before .before .before .before .loop .inv .0 ∙ sym (c .before .before .before .before .before .before .before .before .before .pre)
 
--- src/walk.rt:179:17
 returns-5 : tie.Need-returns-5 Inv-loop μ-loop
 returns-5 c = let e = stop-leaf _ _ _ _ _ (c .before .before .before .before .before .before .loop .inv) (c .before .before .before .before .before .loop-test .taken) _ _ _ _ _ (sym (c .before .before .before .before .read-token .ensures) ∙ c .before .before .start2 .given .1) (c .if3 .left) in (sym (ap (λ (z : Reached). z .answer) e), sym (ap (λ (z : Reached). z .path) e))
 
--- src/walk.rt:140:1
 same-length-6 : tie.Need-same-length-6 Inv-loop μ-loop
 same-length-6 c = c .before .loop .inv .0 ∙ sym (c .before .before .before .before .pre)
 
--- src/walk.rt:140:1
 returns-6 : tie.Need-returns-6 Inv-loop μ-loop
 returns-6 c = let e = stop-end _ _ _ _ _ (c .before .loop .inv) (c .loop-test .left) in (sym (ap (λ (z : Reached). z .answer) e), sym (ap (λ (z : Reached). z .path) e))
 

@@ -1,43 +1,31 @@
 use Rattle.bencode.proofs.Finding.{dictionary-within}
 use Rattle.files.proofs.Reading.{node-other, node-empty, node-full}
 use native.Mathlib.Omega.{arith}
-use Prim.Native.Nat.{ℕ, _+_, _-_, _*_, _≤_, _<_, _/_, _%_, _^_}
-use lib.ListN.{length, getD, set, take, drop}
-use mathlib.Core.Path.{_≡_, refl, ap, sym, _∙_}
+use Prim.Native.Nat.{_-_, _<_}
+use lib.ListN.{length}
+use mathlib.Core.Path.{sym, _∙_}
 use borrow.Author.Needs.{needs}
 use Rattle.files.proofs.walk.node_token.Statement.{statement}
 use Rattle.files.proofs.walk.node_token.Tie as tie
-use Rattle.files.proofs.walk.node_token.Reads as reads
-use Rattle.files.proofs.walk.node_token.Lts as lts
-use Rattle.bencode.proofs.parts.is_dictionary.Reads as is-dictionary-reads
-use Rattle.files.proofs.walk.ends_here.Reads as ends-here-reads
-use Rattle.files.proofs.walk.first_key.Reads as first-key-reads
 
--- src/walk.rt:110:8
 is-dictionary-requires : tie.Need-is-dictionary-requires
 is-dictionary-requires c κs = search needs
 
--- src/walk.rt:111:18
 add-at : tie.Need-add-at
 add-at c = let below : c .before .before .before .args .end < length (c .before .before .before .args .s .now) = dictionary-within _ _ (sym (c .before .is-dictionary .ensures) ∙ c .if1 .taken) in omega arith
 
--- src/walk.rt:112:12
 ends-here-requires : tie.Need-ends-here-requires
 ends-here-requires c κs = search needs
 
--- src/walk.rt:113:13
 returns : tie.Need-returns
 returns c = sym (node-empty _ _ _ (sym (c .before .before .before .is-dictionary .ensures) ∙ c .before .before .if1 .taken) (sym (c .before .ends-here .ensures) ∙ c .if2 .taken))
 
--- src/walk.rt:115:9
 first-key-requires : tie.Need-first-key-requires
 first-key-requires c κs = search needs
 
--- src/walk.rt:115:9
 returns-2 : tie.Need-returns-2
 returns-2 c = c .first-key .ensures ∙ sym (node-full _ _ _ (sym (c .before .before .before .before .is-dictionary .ensures) ∙ c .before .before .before .if1 .taken) (sym (c .before .before .ends-here .ensures) ∙ c .before .if2 .left))
 
--- src/walk.rt:107:1
 returns-3 : tie.Need-returns-3
 returns-3 c = sym (node-other _ _ _ (sym (c .before .is-dictionary .ensures) ∙ c .if1 .left))
 

@@ -1,53 +1,39 @@
 use Rattle.files.proofs.Reading.{ends-within, past-wrong, past-end, past-more}
 use native.Mathlib.Omega.{arith}
-use Prim.Native.Nat.{ℕ, _+_, _-_, _*_, _≤_, _<_, _/_, _%_, _^_}
-use lib.ListN.{length, getD, set, take, drop}
-use mathlib.Core.Path.{_≡_, refl, ap, sym, _∙_}
+use Prim.Native.Nat.{_-_, _<_}
+use lib.ListN.{length}
+use mathlib.Core.Path.{sym, _∙_}
 use borrow.Author.Needs.{needs}
 use Rattle.files.proofs.walk.past_file.Statement.{statement}
 use Rattle.files.proofs.walk.past_file.Tie as tie
-use Rattle.files.proofs.walk.past_file.Reads as reads
-use Rattle.files.proofs.walk.past_file.Lts as lts
-use Rattle.bencode.proofs.walk.value_end.Reads as value-end-reads
-use Rattle.files.proofs.walk.ends_here.Reads as ends-here-reads
 
--- src/walk.rt:63:11
 value-end-requires : tie.Need-value-end-requires
 value-end-requires c κs = search needs
 
--- src/walk.rt:64:27
 enum-told : tie.Need-enum-told
 enum-told c = search needs
 
--- src/walk.rt:65:28
 enum-told-2 : tie.Need-enum-told-2
 enum-told-2 c = search needs
 
--- src/walk.rt:66:22
 enum-known-k : tie.Need-enum-known-k
 enum-known-k c = search needs
 
--- src/walk.rt:67:16
 ends-here-requires : tie.Need-ends-here-requires
 ends-here-requires c κs = search needs
 
--- src/walk.rt:73:27
 add-t11 : tie.Need-add-t11
 add-t11 c = let below : c .before .before .before .k .given .0 .0 < length (c .before .before .before .before .before .before .before .args .s .now) = ends-within _ _ (sym (c .before .ends-here .ensures) ∙ c .if1 .taken) in omega arith
 
--- src/walk.rt:68:17
 returns : tie.Need-returns
 returns c = sym (past-end _ _ _ _ _ _ _ (sym (c .before .before .before .before .before .value-end .ensures) ∙ c .before .before .before .k .given .1) (sym (c .before .ends-here .ensures) ∙ c .if1 .taken))
 
--- src/walk.rt:60:1
 returns-2 : tie.Need-returns-2
 returns-2 c = sym (past-wrong _ _ _ _ _ _ _ (sym (c .before .before .value-end .ensures) ∙ c .enum-told .given .1))
 
--- src/walk.rt:60:1
 returns-3 : tie.Need-returns-3
 returns-3 c = sym (past-wrong _ _ _ _ _ _ _ (sym (c .before .before .value-end .ensures) ∙ c .enum-told2 .given .1))
 
--- src/walk.rt:60:1
 returns-4 : tie.Need-returns-4
 returns-4 c = sym (past-more _ _ _ _ _ _ _ (sym (c .before .before .before .before .before .value-end .ensures) ∙ c .before .before .before .k .given .1) (sym (c .before .ends-here .ensures) ∙ c .if1 .left))
 

@@ -1,50 +1,34 @@
 use Rattle.files.proofs.Reading.{token-closed, token-key, token-empty, token-node}
-use native.Mathlib.Omega.{arith}
-use Prim.Native.Nat.{ℕ, _+_, _-_, _*_, _≤_, _<_, _/_, _%_, _^_}
-use lib.ListN.{length, getD, set, take, drop}
-use mathlib.Core.Path.{_≡_, refl, ap, sym, _∙_}
+use Prim.Native.Nat.{_-_}
+use mathlib.Core.Path.{sym, _∙_}
 use borrow.Author.Needs.{needs}
 use Rattle.files.proofs.walk.read_token.Statement.{statement}
 use Rattle.files.proofs.walk.read_token.Tie as tie
-use Rattle.files.proofs.walk.read_token.Reads as reads
-use Rattle.files.proofs.walk.read_token.Lts as lts
-use Rattle.bencode.proofs.scalar.read_string.Reads as read-string-reads
-use Rattle.files.proofs.walk.ends_here.Reads as ends-here-reads
-use Rattle.files.proofs.walk.node_token.Reads as node-token-reads
 
--- src/walk.rt:124:8
 ends-here-requires : tie.Need-ends-here-requires
 ends-here-requires c κs = search needs
 
--- src/walk.rt:125:9
 returns : tie.Need-returns
 returns c = sym (token-closed _ _ (sym (c .before .ends-here .ensures) ∙ c .if1 .taken))
 
--- src/walk.rt:127:11
 read-string-requires : tie.Need-read-string-requires
 read-string-requires c κs = search needs
 
--- src/walk.rt:128:33
 enum-told : tie.Need-enum-told
 enum-told c = search needs
 
--- src/walk.rt:129:31
 enum-known-start : tie.Need-enum-known-start
 enum-known-start c = search needs
 
--- src/walk.rt:131:17
 returns-2 : tie.Need-returns-2
 returns-2 c = sym (token-empty _ _ (sym (c .before .before .before .before .before .before .ends-here .ensures) ∙ c .before .before .before .before .before .if1 .left) _ _ (sym (c .before .before .before .before .read-string .ensures) ∙ c .before .before .start .given .1) (c .if2 .taken))
 
--- src/walk.rt:133:13
 node-token-requires : tie.Need-node-token-requires
 node-token-requires c κs = search needs
 
--- src/walk.rt:121:1
 returns-3 : tie.Need-returns-3
 returns-3 c = sym (token-key _ _ (sym (c .before .before .before .before .ends-here .ensures) ∙ c .before .before .before .if1 .left) _ (sym (c .before .before .read-string .ensures) ∙ c .enum-told .given .1))
 
--- src/walk.rt:121:1
 returns-4 : tie.Need-returns-4
 returns-4 c = c .node-token .ensures ∙ sym (token-node _ _ (sym (c .before .before .before .before .before .before .before .ends-here .ensures) ∙ c .before .before .before .before .before .before .if1 .left) _ _ (sym (c .before .before .before .before .before .read-string .ensures) ∙ c .before .before .before .start .given .1) (c .before .if2 .left))
 

@@ -1,4 +1,3 @@
--- crates/torrent/specs/Examples.antt, checked as it stands. Left: an example of 28, by a layer that does not give its root.
 -- Small torrents, and the number of each, by the definitions.
 -- Assumes nothing.
 use mathlib.Core.Path.{_≡_, refl}
@@ -9,7 +8,9 @@ use Rattle.octets.specs.Octets.{zeroHash, same}
 use Rattle.tree.specs.Geometry.{isPieceLength, pieceLayer, height, heightFrom, hasLayer}
 use Rattle.bencode.specs.Grammar.{Value, integer, string, list, dictionary, Entries, noEntries, entry}
 use Rattle.bencode.specs.Parts.{lookup}
-use Rattle.torrent.specs.Torrent.{keyInfo, keyFileTree, keyPieceLength, keyMetaVersion, keyPieceLayers, keyLength, keyPiecesRoot, hasKeys, fileRight, nodeRight, branchRight, nodesRight, treeRight, filesBelow, filesIn, noneWith, rootsApart, layersFit, someLonger, noOthers, layersGiveRoots, valueNumber}
+use Rattle.files.specs.File.{keyLength, keyPiecesRoot}
+use Rattle.metainfo.specs.Metainfo.{keyInfo, keyFileTree, keyPieceLength, keyMetaVersion, keyPieceLayers}
+use Rattle.meaning.specs.Torrent.{hasKeys, fileRight, nodeRight, branchRight, nodesRight, treeRight, filesBelow, filesIn, noneWith, rootsApart, layersFit, someLonger, noOthers, layersGiveRoots, valueNumber}
 
 -- a torrent of these parts
 abbrev torrent : ℕ → ℕ → Entries → Entries → Entries

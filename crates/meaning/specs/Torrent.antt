@@ -1,4 +1,3 @@
--- crates/torrent/specs/Torrent.antt, checked as it stands. Left: 19 and 29, the info hash, parts by position (bencode's findKey), the code and its proofs; 26 and 27 without a heap (positions of the roots on the stack, sorted; a bound on the files in 1 MiB).
 -- 01, "The torrent": what the numbers 22 to 28 mean of the value that a torrent encodes, and what is read from it.
 -- Assumes nothing.
 use mathlib.Core.Bool.{Bool, true, false, cond, _&&_, _||_, not}
@@ -11,39 +10,8 @@ use Rattle.tree.specs.Geometry.{blockCount, height, isPieceLength, pieceLayer, 
 use Rattle.tree.specs.Values.{node, layerLeaf}
 use Rattle.bencode.specs.Grammar.{Value, integer, string, list, dictionary, Items, Entries, noEntries, entry}
 use Rattle.bencode.specs.Parts.{Lookup, absent, present, lookup}
-
--- ---- the keys, as ASCII
-
--- `info`
-abbrev pub keyInfo : List ℕ
-keyInfo = 105 ∷ 110 ∷ 102 ∷ 111 ∷ []
-
--- `file tree`
-abbrev pub keyFileTree : List ℕ
-keyFileTree = 102 ∷ 105 ∷ 108 ∷ 101 ∷ 32 ∷ 116 ∷ 114 ∷ 101 ∷ 101 ∷ []
-
--- `piece length`
-abbrev pub keyPieceLength : List ℕ
-keyPieceLength = 112 ∷ 105 ∷ 101 ∷ 99 ∷ 101 ∷ 32 ∷ 108 ∷ 101 ∷ 110 ∷ 103 ∷ 116 ∷ 104 ∷ []
-
--- `meta version`
-abbrev pub keyMetaVersion : List ℕ
-keyMetaVersion = 109 ∷ 101 ∷ 116 ∷ 97 ∷ 32 ∷ 118 ∷ 101 ∷ 114 ∷ 115 ∷ 105 ∷ 111 ∷ 110 ∷ []
-
--- `piece layers`
-abbrev pub keyPieceLayers : List ℕ
-keyPieceLayers = 112 ∷ 105 ∷ 101 ∷ 99 ∷ 101 ∷ 32 ∷ 108 ∷ 97 ∷ 121 ∷ 101 ∷ 114 ∷ 115 ∷ []
-
--- `length`
-abbrev pub keyLength : List ℕ
-keyLength = 108 ∷ 101 ∷ 110 ∷ 103 ∷ 116 ∷ 104 ∷ []
-
--- `pieces root`
-abbrev pub keyPiecesRoot : List ℕ
-keyPiecesRoot = 112 ∷ 105 ∷ 101 ∷ 99 ∷ 101 ∷ 115 ∷ 32 ∷ 114 ∷ 111 ∷ 111 ∷ 116 ∷ []
-
-abbrev pub maxFileLength : ℕ
-maxFileLength = 2 ^ 30
+use Rattle.files.specs.File.{keyLength, keyPiecesRoot, maxFileLength}
+use Rattle.metainfo.specs.Metainfo.{keyInfo, keyFileTree, keyPieceLength, keyMetaVersion, keyPieceLayers}
 
 -- ---- 22: the five keys, each of its type
 
