@@ -18,8 +18,8 @@ use Rattle.bencode.specs.declared.scalar.ByteString.{ByteString}
 use Rattle.bencode.specs.declared.scalar.ByteString.the-variants.{Content, NoString}
 use Rattle.bencode.specs.declared.walk.Walked.{Walked}
 use Rattle.bencode.specs.declared.walk.Walked.the-variants.{Past, Broken, TooDeep}
-use Rattle.files.specs.File.{fileAt}
-use Rattle.files.specs.SizeLaws.{full-size}
+use Rattle.files.specs.File.{maxFileLength, fileAt}
+use Rattle.files.specs.SizeLaws.{file-small, full-size}
 use Rattle.files.specs.Walk.{maxElements, endsHere, behindFile, pastFile, withFile, fileToken, firstKey, nodeToken, keyToken, tokenAt, setElement, Reached, reach, onToken, nextIn, nextFile}
 use Rattle.files.specs.declared.file.File.{File}
 use Rattle.files.specs.declared.file.File.the-variants.{Right, WrongFile}
@@ -53,7 +53,7 @@ abbrev pub TokenIn : ℕ → ℕ → Token → Type 0
 TokenIn at end BadToken = Unit {0}
 TokenIn at end Closed = at < end
 TokenIn at end (Opened a b) = (at < b) × (b < end)
-TokenIn at end (Leaf a b n r k) = (at < k) × (k ≤ end) × Takes at end n r k
+TokenIn at end (Leaf a b n r k) = (at < k) × (k ≤ end) × Takes at end n r k × (n ≤ maxFileLength)
 
 past-in : (s : List ℕ) (at a b n r x : ℕ) → fileAt s x ≡ Right n r → at + 4 ≤ x → TokenIn at (length s) (pastFile s a b n r x)
 unfolding pastFile
@@ -63,7 +63,7 @@ past-in s at a b n r x f h = by-walk (walkValue maxLevels x (drop x s)) refl
     by-end k q true e =
         let below = ends-inside s k e in
         let g = value-ends maxLevels x s k q .0 in
-        (omega arith, omega arith, (λ nz. let z = full-size s x k n r q f nz in let u = z .0 in (omega arith, z .1)))
+        (omega arith, omega arith, (λ nz. let z = full-size s x k n r q f nz in let u = z .0 in (omega arith, z .1)), file-small s x n r f)
     by-end k q false e = tt
 
     by-walk : (w : Walked) → walkValue maxLevels x (drop x s) ≡ w → TokenIn at (length s) (behindFile s a b n r w)
@@ -123,7 +123,7 @@ token-in s at = by-end (endsHere (drop at s)) refl
 pub opened-ends : (s : List ℕ) (at a b : ℕ) → tokenAt s at ≡ Opened a b → (at < b) × (b < length s)
 opened-ends s at a b e = rw e at (token-in s at)
 
-pub leaf-ends : (s : List ℕ) (at a b n r k : ℕ) → tokenAt s at ≡ Leaf a b n r k → (at < k) × (k ≤ length s) × Takes at (length s) n r k
+pub leaf-ends : (s : List ℕ) (at a b n r k : ℕ) → tokenAt s at ≡ Leaf a b n r k → (at < k) × (k ≤ length s) × Takes at (length s) n r k × (n ≤ maxFileLength)
 leaf-ends s at a b n r k e = rw e at (token-in s at)
 
 -- past the end there is none
@@ -148,7 +148,7 @@ next-bad (suc n) s at d path e = ap (onToken (nextIn n s) at d path) e
 abbrev pub PlacedIn : ℕ → ℕ → Next → Type 0
 PlacedIn at end NoMore = Unit {0}
 PlacedIn at end WrongTree = Unit {0}
-PlacedIn at end (Placed n r k d) = (at < k) × (k ≤ end) × Takes at end n r k × (d < maxElements)
+PlacedIn at end (Placed n r k d) = (at < k) × (k ≤ end) × Takes at end n r k × (n ≤ maxFileLength) × (d < maxElements)
 
 -- it lies behind `at`, within the bytes, and the path keeps its length
 abbrev pub NextIn : ℕ → ℕ → ℕ → Reached → Type 0
@@ -161,7 +161,7 @@ further at x end size w h p = (p .0, on (w .answer) (p .1))
     on : (a : Next) → PlacedIn x end a → PlacedIn at end a
     on NoMore q = tt
     on WrongTree q = tt
-    on (Placed n r k d) q = let g = q .0 in (omega arith, q .1, (λ nz. let z = q .2 nz in let u = z .0 in (omega arith, z .1)), q .3)
+    on (Placed n r k d) q = let g = q .0 in (omega arith, q .1, (λ nz. let z = q .2 nz in let u = z .0 in (omega arith, z .1)), q .3, q .4)
 
 pub element-length : (p : List ℕ) (d a b : ℕ) → length (setElement p d a b) ≡ length p
 element-length p d a b = length-set (set p (2 * d) a) (2 * d + 1) b ∙ length-set p (2 * d) a
@@ -173,7 +173,7 @@ next-in (suc n) s at d path = by-token (tokenAt s at) (token-in s at) (next-in n
   where
     by-depth : (t : Bool) (a b m r k : ℕ) → ltb d maxElements ≡ t → TokenIn at (length s) (Leaf a b m r k)
         → NextIn at (length s) (length path) (cond t (reach (Placed m r k d) (setElement path d a b)) (reach WrongTree path))
-    by-depth true a b m r k e p = (element-length path d a b, (p .0, p .1, p .2, ltb-true d maxElements e))
+    by-depth true a b m r k e p = (element-length path d a b, (p .0, p .1, p .2, p .3, ltb-true d maxElements e))
     by-depth false a b m r k e p = (refl, tt)
 
     Later : Type 0
