@@ -1,0 +1,4 @@
+pub mod Searching
+pub mod Indexing
+pub mod Finding
+pub mod Judging

@@ -14,12 +14,13 @@ use tree::geometry::piece_count;
 use tree::geometry::piece_layer;
 use tree::values::layer_node;
 ghost use mathlib.Core.Path.{_≡_};
-ghost use mathlib.Core.Bool.{true, _&&_};
+ghost use mathlib.Core.Bool.{true, cond, _&&_};
 ghost use Prim.Native.Nat.{_+_, _*_, _-_, _^_, _≤_, _<_};
 ghost use lib.ListN as L;
 ghost use lib.ListN.{take};
 ghost use lib.Dec.{eqb};
 ghost use Rattle.octets.specs.Octets.{cut, same};
+ghost use Rattle.numbers.specs.Numbers.{layerDiffers};
 ghost use Rattle.tree.specs.Geometry as G;
 ghost use Rattle.tree.specs.Geometry.{blockCount, isPieceLength, pieceLayer, hasLayer};
 ghost use Rattle.tree.specs.Values.{layerRoot};
@@ -105,7 +106,15 @@ fn of_layer(s: &[u8], plen: usize, n: usize, root: usize, layer: ByteString) -> 
 }
 
 // The same, its layer to be found; 0 of a file that has none.
-fn layer_number(s: &[u8], layers: usize, keys: &[u32], count: usize, plen: usize, n: usize, root: usize) -> u32
+fn layer_number(
+    s: &[u8],
+    layers: usize,
+    keys: &[u32],
+    count: usize,
+    plen: usize,
+    n: usize,
+    root: usize,
+) -> u32
     requires { ⌜ Indexed (now s) layers (now keys) count × (isPieceLength plen ≡ true) × (n ≤ 2 ^ 30) × ((n ≡ 0 → ⊥) → root + 32 ≤ L.length (now s)) ⌝ }
     ensures { λ r. ⌜ r ≡ layerNumber (now (s .entry)) layers plen n root ⌝ }
 {
@@ -116,8 +125,25 @@ fn layer_number(s: &[u8], layers: usize, keys: &[u32], count: usize, plen: usize
     0
 }
 
+// 28 if a file has it, else the number before.
+fn raised(number: u32, n: u32) -> u32
+    ensures { λ r. ⌜ r ≡ cond (eqb n 0) number layerDiffers ⌝ }
+{
+    if n == 0 {
+        return number;
+    }
+    numbers::LAYER_DIFFERS
+}
+
 // 0, 27 or 28 of all files of the `file tree` at `tree`.
-pub fn judge_layers(s: &[u8], tree: usize, layers: usize, keys: &[u32], count: usize, plen: usize) -> u32
+pub fn judge_layers(
+    s: &[u8],
+    tree: usize,
+    layers: usize,
+    keys: &[u32],
+    count: usize,
+    plen: usize,
+) -> u32
     requires { ⌜ Indexed (now s) layers (now keys) count × (isPieceLength plen ≡ true) × (right (filesIn (now s) tree) ≡ true) ⌝ }
     ensures { λ r. ⌜ r ≡ worst (now (s .entry)) layers plen 0 (listed (filesIn (now (s .entry)) tree)) ⌝ }
 {
@@ -143,9 +169,7 @@ pub fn judge_layers(s: &[u8], tree: usize, layers: usize, keys: &[u32], count: u
                 if n == numbers::LAYERS_AMISS {
                     return n;
                 }
-                if n != 0 {
-                    number = numbers::LAYER_DIFFERS;
-                }
+                number = raised(number, n);
                 at = next;
                 depth = open;
             }

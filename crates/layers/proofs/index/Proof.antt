@@ -1,99 +1,78 @@
+use Rattle.layers.proofs.Indexing.{IndexAt, index-start, index-last, index-past, index-narrow, index-full, index-behind, index-more}
+use lib.ListN.{length-set}
 use borrow.Author.Needs.{needs}
 use native.Mathlib.Omega.{arith}
-use Prim.Native.Nat.{ℕ, _+_, _-_, _*_, _≤_, _<_, _/_, _%_, _^_}
-use lib.ListN.{length, getD, set, take, drop}
-use mathlib.Core.Path.{_≡_, refl, ap, sym, _∙_}
+use Prim.Native.Nat.{_-_}
+use lib.ListN.{length}
+use mathlib.Core.Path.{_≡_, refl, sym, _∙_}
 use Rattle.layers.proofs.index.Statement.{statement}
 use Rattle.layers.proofs.index.Tie as tie
-use Rattle.layers.proofs.index.Reads as reads
-use Rattle.layers.proofs.index.Lts as lts
-use Rattle.bencode.proofs.parts.read_entry.Reads as read-entry-reads
 
 abbrev Inv-loop : tie.InvT-loop
-Inv-loop s layers keys₀ most i₀ n₀ keys i n = ?
+Inv-loop s layers keys₀ most i₀ n₀ keys i n = IndexAt s layers keys most i n × (length keys ≡ length keys₀)
 
 abbrev μ-loop : tie.MeasureT-loop
-μ-loop s layers keys₀ most i₀ n₀ keys i n = ?
+μ-loop s layers keys₀ most i₀ n₀ keys i n = length s - i
 
--- src/lib.rt:37:17
 add-i : tie.Need-add-i Inv-loop μ-loop
 add-i c = search needs
 
--- src/lib.rt:39:5
 loop-holds : tie.Need-loop-holds Inv-loop μ-loop
-loop-holds c = search needs
+loop-holds c = (index-start _ _ _ _ (c .before .before .pre .1), refl)
 
--- src/lib.rt:40:15
 read-entry-requires : tie.Need-read-entry-requires Inv-loop μ-loop
 read-entry-requires c κs = search needs
 
--- src/lib.rt:42:17
 enum-told : tie.Need-enum-told Inv-loop μ-loop
 enum-told c = search needs
 
--- src/lib.rt:42:17
 same-length : tie.Need-same-length Inv-loop μ-loop
-same-length c = search needs
+same-length c = c .before .before .before .before .loop .inv .1
 
--- src/lib.rt:42:17
 returns : tie.Need-returns Inv-loop μ-loop
-returns c = search needs
+returns c = index-last _ _ _ _ _ _ (c .before .before .before .before .loop .inv .0) (sym (c .before .before .read-entry .ensures) ∙ c .enum-told .given .1) _ refl
 
--- src/lib.rt:44:28
 enum-known-start : tie.Need-enum-known-start Inv-loop μ-loop
 enum-known-start c = search needs
 
--- src/lib.rt:45:20
 sub-if1 : tie.Need-sub-if1 Inv-loop μ-loop
-sub-if1 c = search needs
+sub-if1 c = index-behind _ _ _ _ _ _ (c .before .before .before .before .before .loop .inv .0) (c .before .before .before .before .loop-test .taken) _ _ _ (sym (c .before .before .before .read-entry .ensures) ∙ c .before .start .given .1) .2
 
--- src/lib.rt:46:21
 same-length-2 : tie.Need-same-length-2 Inv-loop μ-loop
-same-length-2 c = search needs
+same-length-2 c = c .before .before .before .before .before .before .loop .inv .1
 
--- src/lib.rt:46:21
 returns-2 : tie.Need-returns-2 Inv-loop μ-loop
-returns-2 c = search needs
+returns-2 c = index-narrow _ _ _ _ _ _ (c .before .before .before .before .before .before .loop .inv .0) (c .before .before .before .before .before .loop-test .taken) _ _ _ (sym (c .before .before .before .before .read-entry .ensures) ∙ c .before .before .start .given .1) (c .if1 .taken)
 
--- src/lib.rt:49:21
 same-length-3 : tie.Need-same-length-3 Inv-loop μ-loop
-same-length-3 c = search needs
+same-length-3 c = c .before .before .before .before .before .before .before .loop .inv .1
 
--- src/lib.rt:49:21
 returns-3 : tie.Need-returns-3 Inv-loop μ-loop
-returns-3 c = search needs
+returns-3 c = index-full _ _ _ _ _ _ (c .before .before .before .before .before .before .before .loop .inv .0) (c .before .before .before .before .before .before .loop-test .taken) _ _ _ (sym (c .before .before .before .before .before .read-entry .ensures) ∙ c .before .before .before .start .given .1) (c .if2 .taken)
 
--- src/lib.rt:51:27
 cast-keys : tie.Need-cast-keys Inv-loop μ-loop
-cast-keys c = search needs
+cast-keys c = let x = index-behind _ _ _ _ _ _ (c .before .before .before .before .before .before .before .loop .inv .0) (c .before .before .before .before .before .before .loop-test .taken) _ _ _ (sym (c .before .before .before .before .before .read-entry .ensures) ∙ c .before .before .before .start .given .1) .3 in let y = c .before .before .before .before .before .before .before .before .before .before .pre .0 in omega arith
 
--- src/lib.rt:51:17
 mul-keys : tie.Need-mul-keys Inv-loop μ-loop
 mul-keys c = search needs
 
--- src/lib.rt:51:17
 slice-write-keys : tie.Need-slice-write-keys Inv-loop μ-loop
-slice-write-keys c = search needs
+slice-write-keys c = let x = c .before .before .before .before .before .before .before .loop .inv .1 in let y = c .before .before .before .before .before .before .before .before .before .before .pre .2 in let z = c .if2 .left in omega arith
 
--- src/lib.rt:52:17
 add-n : tie.Need-add-n Inv-loop μ-loop
 add-n c = search needs
 
--- src/lib.rt:39:5
 loop-less : tie.Need-loop-less Inv-loop μ-loop
-loop-less c = search needs
+loop-less c = let x = index-behind _ _ _ _ _ _ (c .before .before .before .before .before .before .before .loop .inv .0) (c .before .before .before .before .before .before .loop-test .taken) _ _ _ (sym (c .before .before .before .before .before .read-entry .ensures) ∙ c .before .before .before .start .given .1) in let y = x .0 in let z = x .1 in omega arith
 
--- src/lib.rt:39:5
 loop-again : tie.Need-loop-again Inv-loop μ-loop
-loop-again c = search needs
+loop-again c = let x = c .before .before .before .before .before .before .before .loop .inv .1 in let y = c .before .before .before .before .before .before .before .before .before .before .pre .2 in let z = c .if2 .left in (index-more _ _ _ _ _ _ (c .before .before .before .before .before .before .before .loop .inv .0) (c .before .before .before .before .before .before .loop-test .taken) _ _ _ (sym (c .before .before .before .before .before .read-entry .ensures) ∙ c .before .before .before .start .given .1) (c .before .if1 .left) (c .if2 .left) (omega arith), length-set (c .before .before .before .before .before .before .before .loop .keys) (c .before .before .before .before .before .before .before .loop .n) (c .before .before .before .start .given .0 .0) ∙ x)
 
--- src/lib.rt:33:1
 same-length-4 : tie.Need-same-length-4 Inv-loop μ-loop
-same-length-4 c = search needs
+same-length-4 c = c .before .loop .inv .1
 
--- src/lib.rt:33:1
 returns-4 : tie.Need-returns-4 Inv-loop μ-loop
-returns-4 c = search needs
+returns-4 c = index-past _ _ _ _ _ _ (c .before .loop .inv .0) (c .loop-test .left) _ refl
 
 pub index-spec : {M : Type 1} → statement M
 index-spec =

@@ -1,66 +1,49 @@
+use Rattle.layers.proofs.Finding.{pieces-few, of-size, of-root, of-other}
 use native.Mathlib.Omega.{arith}
-use Prim.Native.Nat.{ℕ, _+_, _-_, _*_, _≤_, _<_, _/_, _%_, _^_}
-use lib.ListN.{length, getD, set, take, drop}
-use mathlib.Core.Path.{_≡_, refl, ap, sym, _∙_}
+use Prim.Native.Nat.{_-_}
+use mathlib.Core.Path.{sym}
 use borrow.Author.Needs.{needs}
 use Rattle.layers.proofs.of_layer.Statement.{statement}
 use Rattle.layers.proofs.of_layer.Tie as tie
-use Rattle.layers.proofs.of_layer.Reads as reads
-use Rattle.layers.proofs.of_layer.Lts as lts
-use Rattle.layers.proofs.gives_root.Reads as gives-root-reads
-use Rattle.tree.proofs.geometry.piece_count.Reads as piece-count-reads
 
--- src/lib.rt:93:33
 enum-told : tie.Need-enum-told
 enum-told c = search needs
 
--- src/lib.rt:94:31
 enum-known-layer : tie.Need-enum-known-layer
 enum-known-layer c = search needs
 
--- src/lib.rt:95:17
 piece-count-requires : tie.Need-piece-count-requires
 piece-count-requires c κs = search needs
 
--- src/lib.rt:96:16
 sub-if1 : tie.Need-sub-if1
-sub-if1 c = ?
+sub-if1 c = (rw (c .before .before .layer .given .1) at (c .before .before .before .before .before .pre .4)) .0
 
--- src/lib.rt:96:31
 mul-if1 : tie.Need-mul-if1
-mul-if1 c = ?
+mul-if1 c = let x = pieces-few _ _ (c .before .before .before .before .before .pre .0) (c .before .before .before .before .before .pre .1) (c .before .before .before .before .before .pre .2) in let y = c .piece-count .ensures in omega arith
 
--- src/lib.rt:97:34
 sub-gives-root : tie.Need-sub-gives-root
-sub-gives-root c = ?
+sub-gives-root c = (rw (c .before .before .before .layer .given .1) at (c .before .before .before .before .before .before .pre .4)) .0
 
--- src/lib.rt:97:34
 part-gives-root-start : tie.Need-part-gives-root-start
-part-gives-root-start c = ?
+part-gives-root-start c = (rw (c .before .before .before .layer .given .1) at (c .before .before .before .before .before .before .pre .4)) .0
 
--- src/lib.rt:97:34
 part-gives-root-end : tie.Need-part-gives-root-end
-part-gives-root-end c = ?
+part-gives-root-end c = (rw (c .before .before .before .layer .given .1) at (c .before .before .before .before .before .before .pre .4)) .1
 
--- src/lib.rt:97:20
 gives-root-requires : tie.Need-gives-root-requires
 gives-root-requires c κs = search needs
 
--- src/lib.rt:98:21
 returns : tie.Need-returns
-returns c = ?
+returns c = sym (of-root _ _ _ _ _ _ _ (c .before .before .before .before .before .before .layer .given .1) _ (c .before .before .before .before .piece-count .ensures) (c .before .before .before .if1 .taken) _ (c .before .gives-root .ensures) (c .if2 .taken))
 
--- src/lib.rt:100:17
 returns-2 : tie.Need-returns-2
-returns-2 c = ?
+returns-2 c = sym (of-other _ _ _ _ _ _ _ (c .before .before .before .before .before .before .layer .given .1) _ (c .before .before .before .before .piece-count .ensures) (c .before .before .before .if1 .taken) _ (c .before .gives-root .ensures) (c .if2 .left))
 
--- src/lib.rt:88:1
 returns-3 : tie.Need-returns-3
 returns-3 c = search needs
 
--- src/lib.rt:88:1
 returns-4 : tie.Need-returns-4
-returns-4 c = ?
+returns-4 c = sym (of-size _ _ _ _ _ _ _ (c .before .before .before .layer .given .1) _ (c .before .piece-count .ensures) (c .if1 .left))
 
 pub of-layer-spec : {M : Type 1} → statement M
 of-layer-spec =

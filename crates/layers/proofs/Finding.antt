@@ -1,0 +1,112 @@
+-- What halving gives, as a layer; and a file's number from its layer.
+-- Assumes nothing.
+use mathlib.Core.Path.{_≡_, refl, sym, ap, _∙_}
+use mathlib.Core.Logic.{_⊎_, inl, inr}
+use mathlib.Core.Bool.{Bool, true, false, cond}
+use mathlib.Core.List.{List}
+use Prim.Native.Nat.{ℕ, _+_, _-_, _*_, _^_, _≤_, _<_}
+use native.Mathlib.Omega.{arith}
+use lib.ListN.{length, take, drop, getD}
+use lib.Dec.{eqb}
+use borrow.Author.Tests.{eq-eqb, ne-eqb, ltb-true}
+use Rattle.octets.specs.Octets.{cut, same}
+use Rattle.numbers.specs.Numbers.{layersAmiss, layerDiffers}
+use Rattle.tree.specs.Geometry.{blockLength, blockCount, covering, height, isPieceLength, pieceLayer, pieceCount, hasLayer}
+use Rattle.tree.specs.GeometryLaws.{ceil-least, covering-most, pieces-covering, piece-length-form, long-file-height}
+use Rattle.tree.specs.Values.{layerRoot, layerLeaf, node}
+use Rattle.bencode.specs.Scalar.{readString}
+use Rattle.bencode.specs.EndsLaws.{string-ends}
+use Rattle.bencode.specs.declared.scalar.ByteString.{ByteString}
+use Rattle.bencode.specs.declared.scalar.ByteString.the-variants.{Content, NoString}
+use Rattle.bencode.specs.declared.parts.Found.{Found}
+use Rattle.bencode.specs.declared.parts.Found.the-variants.{Part, Missing}
+use Rattle.bencode.specs.Parts.{findKey}
+use Rattle.roots.specs.Roots.{SearchedFor}
+use Rattle.layers.specs.Layers.{Inside, stringIn, layerAt, Indexed, ofLayer, layerNumber}
+use Rattle.layers.proofs.Searching.{index-within, indexed-found, indexed-none}
+
+module _ (s : List ℕ) (layers : ℕ) (keys : List ℕ) (count : ℕ) (x : Indexed s layers keys count) (root r : ℕ) (w : SearchedFor s keys count root r) where
+  pub found-here : r < count → layerAt s layers root ≡ readString (getD keys r 0 + 32) (drop (getD keys r 0 + 32) s)
+  found-here h = elim w [ inl p ↦ indexed-found s layers keys count x root r h (p .1) | inr p ↦ let e = p .0 in let z : ⊥ = omega arith in absurd z ]
+
+  pub found-nowhere : count ≤ r → layerAt s layers root ≡ NoString
+  found-nowhere h = elim w [ inl p ↦ let e = p .0 in let z : ⊥ = omega arith in absurd z | inr p ↦ indexed-none s layers keys count x root (p .1) ]
+
+-- a layer that is found lies within the bytes
+pub layer-inside : (s : List ℕ) (layers root : ℕ) → Inside (length s) (layerAt s layers root)
+unfolding layerAt
+layer-inside s layers root = by-found (findKey (cut s root 32) layers (drop layers s))
+  where
+    by-string : (a : ℕ) (w : ByteString) → readString a (drop a s) ≡ w → Inside (length s) w
+    by-string a NoString e = tt
+    by-string a (Content b c) e = let p = string-ends a s b c e in (p .1, p .2)
+
+    by-found : (w : Found) → Inside (length s) (stringIn s w)
+    by-found Missing = tt
+    by-found (Part a b) = by-string a (readString a (drop a s)) refl
+
+-- ---- a file longer than the piece length
+
+-- it is not empty
+pub long-some : (n plen : ℕ) → hasLayer n plen ≡ true → n ≡ 0 → ⊥
+unfolding hasLayer
+long-some n plen h e = let l = ltb-true plen n h in omega arith
+
+module _ (plen n : ℕ) (p : isPieceLength plen ≡ true) (h : hasLayer n plen ≡ true) where
+  longer : plen < n
+  unfolding hasLayer
+  longer = ltb-true plen n h
+
+  pub layer-below : pieceLayer plen ≤ height (blockCount n)
+  layer-below =
+      let f = piece-length-form plen p in
+      let l : blockLength * 2 ^ pieceLayer plen < n = rw (f .1) at longer in
+      let g = long-file-height n (pieceLayer plen) l in
+      omega arith
+
+  pub pieces-few : n ≤ 2 ^ 30 → pieceCount n plen ≤ 2 ^ 30
+  pieces-few l =
+      let form = piece-length-form plen p .1 in
+      let c : pieceCount n plen ≡ covering (blockCount n) (pieceLayer plen) = ap (pieceCount n) form ∙ pieces-covering n (pieceLayer plen) in
+      let few = covering-most (blockCount n) (pieceLayer plen) in
+      let blocks = blocks-few in
+      omega arith
+    where
+      blocks-few : blockCount n ≤ n
+      blocks-few = unfold blockCount in ceil-least n 16384 n (omega arith) (omega arith)
+
+  pub layer-under : (q b h : ℕ) → q ≡ pieceLayer plen → b ≡ blockCount n → h ≡ height b → q ≤ h
+  layer-under q b h eq eb eh = rw (eq, eh, eb) layer-below
+
+-- the root that is worked out, as the code does it
+pub root-worked : (s layer : List ℕ) (plen n root q b h : ℕ) (worked mine : List ℕ) (r : Bool) → q ≡ pieceLayer plen → b ≡ blockCount n → h ≡ height b
+    → worked ≡ node (layerLeaf layer q) (h - q) 0 → mine ≡ cut s root 32 → r ≡ same worked mine
+    → r ≡ same (layerRoot layer (pieceLayer plen) (height (blockCount n))) (cut s root 32)
+unfolding layerRoot
+root-worked s layer plen n root q b h worked mine r eq eb eh ew em er = er ∙ rw (ew, em, eh, eb, eq) refl
+
+-- ---- a file's number from its layer
+
+module _ (s : List ℕ) (plen n root : ℕ) (w : ByteString) (a b : ℕ) (e : w ≡ Content a b) where
+  pub of-size : (c : ℕ) → c ≡ pieceCount n plen → (b - a ≡ 32 * c → ⊥) → ofLayer s plen n root w ≡ layersAmiss
+  of-size c q d = ap (ofLayer s plen n root) e ∙ simp (ne-eqb (b - a) (32 * pieceCount n plen) (λ z. d (z ∙ ap (λ (x : ℕ). 32 * x) (sym q))))
+
+  module _ (c : ℕ) (q : c ≡ pieceCount n plen) (d : b - a ≡ 32 * c) (r : Bool) (g : r ≡ same (layerRoot (take (b - a) (drop a s)) (pieceLayer plen) (height (blockCount n))) (cut s root 32)) where
+    by-root : ofLayer s plen n root w ≡ cond r 0 layerDiffers
+    unfolding cut
+    by-root = ap (ofLayer s plen n root) e ∙ rw (eq-eqb (b - a) (32 * pieceCount n plen) (d ∙ ap (λ (x : ℕ). 32 * x) q), sym g) refl
+
+    pub of-root : r ≡ true → ofLayer s plen n root w ≡ 0
+    of-root h = by-root ∙ rw h refl
+
+    pub of-other : r ≡ false → ofLayer s plen n root w ≡ layerDiffers
+    of-other h = by-root ∙ rw h refl
+
+module _ (s : List ℕ) (layers plen n root : ℕ) where
+  pub number-none : hasLayer n plen ≡ false → layerNumber s layers plen n root ≡ 0
+  unfolding layerNumber
+  number-none h = rw h refl
+
+  pub number-layer : hasLayer n plen ≡ true → (w : ByteString) → w ≡ layerAt s layers root → layerNumber s layers plen n root ≡ ofLayer s plen n root w
+  unfolding layerNumber
+  number-layer h w e = rw h (ap (ofLayer s plen n root) (sym e))

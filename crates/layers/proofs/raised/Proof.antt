@@ -1,0 +1,13 @@
+use borrow.Author.Tests.{eq-eqb, ne-eqb}
+use Prim.Native.Nat.{_-_}
+use Rattle.layers.proofs.raised.Statement.{statement}
+use Rattle.layers.proofs.raised.Tie as tie
+
+returns : tie.Need-returns
+returns c = simp (eq-eqb _ _ (c .if1 .taken))
+
+returns-2 : tie.Need-returns-2
+returns-2 c = simp (ne-eqb _ _ (c .if1 .left))
+
+pub raised-spec : {M : Type 1} → statement M
+raised-spec = tie.close (tie.spec returns returns-2)
