@@ -6,7 +6,8 @@ use mathlib.Core.List.{List, [], _∷_}
 use Prim.Native.Nat.{ℕ, zero, suc, _+_, _-_, _*_, _≤_, _<_}
 use native.Mathlib.Omega.{arith}
 use native.Mathlib.Decide.{decLt}
-use lib.ListN.{length, drop, set, drop-of-length-le, length-set}
+use lib.ListN.{length, drop, getD, set, drop-of-length-le, length-set}
+use lib.Seq.{getD-set-same, getD-set-other}
 use lib.Dec.{eqb, ltb}
 use borrow.Author.Tests.{eqb-false, ltb-true, lt-ltb, le-ltb, eq-eqb, ne-eqb}
 use Rattle.bencode.specs.Grammar.{maxLevels}
@@ -52,18 +53,18 @@ Takes at end n r k = (n ≡ 0 → ⊥) → (at + 64 ≤ k) × (r + 32 ≤ end)
 abbrev pub TokenIn : ℕ → ℕ → Token → Type 0
 TokenIn at end BadToken = Unit {0}
 TokenIn at end Closed = at < end
-TokenIn at end (Opened a b) = (at < b) × (b < end)
-TokenIn at end (Leaf a b n r k) = (at < k) × (k ≤ end) × Takes at end n r k × (n ≤ maxFileLength)
+TokenIn at end (Opened a b) = (at < b) × (b < end) × (a ≤ b)
+TokenIn at end (Leaf a b n r k) = (at < k) × (k ≤ end) × Takes at end n r k × (n ≤ maxFileLength) × (a ≤ b) × (b ≤ end)
 
-past-in : (s : List ℕ) (at a b n r x : ℕ) → fileAt s x ≡ Right n r → at + 4 ≤ x → TokenIn at (length s) (pastFile s a b n r x)
+past-in : (s : List ℕ) (at a b n r x : ℕ) → (a ≤ b) × (b ≤ length s) → fileAt s x ≡ Right n r → at + 4 ≤ x → TokenIn at (length s) (pastFile s a b n r x)
 unfolding pastFile
-past-in s at a b n r x f h = by-walk (walkValue maxLevels x (drop x s)) refl
+past-in s at a b n r x o f h = by-walk (walkValue maxLevels x (drop x s)) refl
   where
     by-end : (k : ℕ) → walkValue maxLevels x (drop x s) ≡ Past k → (t : Bool) → endsHere (drop k s) ≡ t → TokenIn at (length s) (cond t (Leaf a b n r (k + 1)) BadToken)
     by-end k q true e =
         let below = ends-inside s k e in
         let g = value-ends maxLevels x s k q .0 in
-        (omega arith, omega arith, (λ nz. let z = full-size s x k n r q f nz in let u = z .0 in (omega arith, z .1)), file-small s x n r f)
+        (omega arith, omega arith, (λ nz. let z = full-size s x k n r q f nz in let u = z .0 in (omega arith, z .1)), file-small s x n r f, o .0, o .1)
     by-end k q false e = tt
 
     by-walk : (w : Walked) → walkValue maxLevels x (drop x s) ≡ w → TokenIn at (length s) (behindFile s a b n r w)
@@ -71,29 +72,29 @@ past-in s at a b n r x f h = by-walk (walkValue maxLevels x (drop x s)) refl
     by-walk TooDeep q = tt
     by-walk (Past k) q = by-end k q (endsHere (drop k s)) refl
 
-file-in : (s : List ℕ) (at a b x : ℕ) → at + 4 ≤ x → TokenIn at (length s) (fileToken s a b x)
+file-in : (s : List ℕ) (at a b x : ℕ) → (a ≤ b) × (b ≤ length s) → at + 4 ≤ x → TokenIn at (length s) (fileToken s a b x)
 unfolding fileToken
-file-in s at a b x h = by-file (fileAt s x) refl
+file-in s at a b x o h = by-file (fileAt s x) refl
   where
     by-file : (w : File) → fileAt s x ≡ w → TokenIn at (length s) (withFile s a b x w)
     by-file WrongFile f = tt
-    by-file (Right n r) f = past-in s at a b n r x f h
+    by-file (Right n r) f = past-in s at a b n r x o f h
 
-first-in : (s : List ℕ) (at a b : ℕ) → at + 2 ≤ b → b < length s → (w : ByteString) → readString (b + 1) (drop (b + 1) s) ≡ w → TokenIn at (length s) (firstKey s a b w)
-first-in s at a b h l NoString e = tt
-first-in s at a b h l (Content x y) e = by-empty (eqb x y)
+first-in : (s : List ℕ) (at a b : ℕ) → a ≤ b → at + 2 ≤ b → b < length s → (w : ByteString) → readString (b + 1) (drop (b + 1) s) ≡ w → TokenIn at (length s) (firstKey s a b w)
+first-in s at a b o h l NoString e = tt
+first-in s at a b o h l (Content x y) e = by-empty (eqb x y)
   where
     by-empty : (t : Bool) → TokenIn at (length s) (cond t (fileToken s a b y) (Opened a b))
-    by-empty true = let p = string-ends (b + 1) s x y e in let u = p .0 in let v = p .1 in file-in s at a b y (omega arith)
-    by-empty false = (omega arith, l)
+    by-empty true = let p = string-ends (b + 1) s x y e in let u = p .0 in let v = p .1 in file-in s at a b y (o, omega arith) (omega arith)
+    by-empty false = (omega arith, l, o)
 
-node-in : (s : List ℕ) (at a b : ℕ) → at + 2 ≤ b → TokenIn at (length s) (nodeToken s a b)
+node-in : (s : List ℕ) (at a b : ℕ) → a ≤ b → at + 2 ≤ b → TokenIn at (length s) (nodeToken s a b)
 unfolding nodeToken
-node-in s at a b h = by-kind (isDictionary (drop b s)) refl
+node-in s at a b o h = by-kind (isDictionary (drop b s)) refl
   where
     by-end : b < length s → (t : Bool) → TokenIn at (length s) (cond t BadToken (firstKey s a b (readString (b + 1) (drop (b + 1) s))))
     by-end l true = tt
-    by-end l false = first-in s at a b h l (readString (b + 1) (drop (b + 1) s)) refl
+    by-end l false = first-in s at a b o h l (readString (b + 1) (drop (b + 1) s)) refl
 
     by-kind : (t : Bool) → isDictionary (drop b s) ≡ t → TokenIn at (length s) (cond t (cond (endsHere (drop (b + 1) s)) BadToken (firstKey s a b (readString (b + 1) (drop (b + 1) s)))) BadToken)
     by-kind true e = by-end (dictionary-inside s b e) (endsHere (drop (b + 1) s))
@@ -114,16 +115,16 @@ token-in s at = by-end (endsHere (drop at s)) refl
             let u = p .0 in
             let v = p .1 in
             let other : (a ≡ b → ⊥) = eqb-false a b q in
-            node-in s at a b (omega arith)
+            node-in s at a b v (omega arith)
 
     by-end : (t : Bool) → endsHere (drop at s) ≡ t → TokenIn at (length s) (cond t Closed (keyToken s (readString at (drop at s))))
     by-end true e = ends-inside s at e
     by-end false e = by-key (readString at (drop at s)) refl
 
-pub opened-ends : (s : List ℕ) (at a b : ℕ) → tokenAt s at ≡ Opened a b → (at < b) × (b < length s)
+pub opened-ends : (s : List ℕ) (at a b : ℕ) → tokenAt s at ≡ Opened a b → (at < b) × (b < length s) × (a ≤ b)
 opened-ends s at a b e = rw e at (token-in s at)
 
-pub leaf-ends : (s : List ℕ) (at a b n r k : ℕ) → tokenAt s at ≡ Leaf a b n r k → (at < k) × (k ≤ length s) × Takes at (length s) n r k × (n ≤ maxFileLength)
+pub leaf-ends : (s : List ℕ) (at a b n r k : ℕ) → tokenAt s at ≡ Leaf a b n r k → (at < k) × (k ≤ length s) × Takes at (length s) n r k × (n ≤ maxFileLength) × (a ≤ b) × (b ≤ length s)
 leaf-ends s at a b n r k e = rw e at (token-in s at)
 
 -- past the end there is none
@@ -202,3 +203,69 @@ next-file-in s at d path = next-in (suc (length s)) s at d path
 pub next-file-none : (s : List ℕ) (at d : ℕ) (path : List ℕ) → length s ≤ at → nextFile s at d path ≡ reach WrongTree path
 unfolding nextFile
 next-file-none s at d path h = next-bad (suc (length s)) s at d path (token-none s at h)
+
+-- ---- the path
+
+-- its first d elements lie within the bytes, each from its start to its end
+abbrev pub PathRight : ℕ → List ℕ → ℕ → Type 0
+PathRight end path d = (k : ℕ) → k < d → (getD path (2 * k) 0 ≤ getD path (2 * k + 1) 0) × (getD path (2 * k + 1) 0 ≤ end)
+
+element-right : (end : ℕ) (path : List ℕ) (d a b : ℕ) → length path ≡ 56 → d < maxElements → PathRight end path d → a ≤ b → b ≤ end → PathRight end (setElement path d a b) (d + 1)
+element-right end path d a b l h p ab be k g = by-last (decLt k d)
+  where
+    here : k ≡ d → (getD (setElement path d a b) (2 * k) 0 ≤ getD (setElement path d a b) (2 * k + 1) 0) × (getD (setElement path d a b) (2 * k + 1) 0 ≤ end)
+    here e =
+        let x : getD (setElement path d a b) (2 * d) 0 ≡ a = getD-set-other (set path (2 * d) a) (2 * d + 1) (2 * d) b 0 (λ q. omega arith) ∙ getD-set-same path (2 * d) a 0 (omega arith) in
+        let y : getD (setElement path d a b) (2 * d + 1) 0 ≡ b = getD-set-same (set path (2 * d) a) (2 * d + 1) b 0 (omega (arith, length-set path (2 * d) a)) in
+        rw (e, x, y) (ab, be)
+
+    before : k < d → (getD (setElement path d a b) (2 * k) 0 ≤ getD (setElement path d a b) (2 * k + 1) 0) × (getD (setElement path d a b) (2 * k + 1) 0 ≤ end)
+    before m =
+        let other : (j : ℕ) → j < 2 * d → getD (setElement path d a b) j 0 ≡ getD path j 0 =
+        λ j z. getD-set-other (set path (2 * d) a) (2 * d + 1) j b 0 (λ q. omega arith) ∙ getD-set-other path (2 * d) j a 0 (λ q. omega arith) in
+        let x = other (2 * k) (omega arith) in
+        let y = other (2 * k + 1) (omega arith) in
+        rw (x, y) (p k m)
+
+    by-last : Dec (k < d) → (getD (setElement path d a b) (2 * k) 0 ≤ getD (setElement path d a b) (2 * k + 1) 0) × (getD (setElement path d a b) (2 * k + 1) 0 ≤ end)
+    by-last (yes m) = before m
+    by-last (no m) = here (omega arith)
+
+abbrev pub AnswerRight : ℕ → List ℕ → Next → Type 0
+AnswerRight end path NoMore = Unit {0}
+AnswerRight end path WrongTree = Unit {0}
+AnswerRight end path (Placed n r k d) = PathRight end path (d + 1)
+
+abbrev ReachedRight : ℕ → Reached → Type 0
+ReachedRight end w = AnswerRight end (w .path) (w .answer)
+
+path-in : (steps : ℕ) (s : List ℕ) (at d : ℕ) (path : List ℕ) → length path ≡ 56 → PathRight (length s) path d → ReachedRight (length s) (nextIn steps s at d path)
+unfolding nextIn
+path-in zero s at d path l p = tt
+path-in (suc n) s at d path l p = by-token (tokenAt s at) (token-in s at) (path-in n s)
+  where
+    Later : Type 0
+    Later = (i e : ℕ) (q : List ℕ) → length q ≡ 56 → PathRight (length s) q e → ReachedRight (length s) (nextIn n s i e q)
+
+    by-depth : (t : Bool) (a b m r k : ℕ) → ltb d maxElements ≡ t → a ≤ b → b ≤ length s → ReachedRight (length s) (cond t (reach (Placed m r k d) (setElement path d a b)) (reach WrongTree path))
+    by-depth true a b m r k e ab be = element-right (length s) path d a b l (ltb-true d maxElements e) p ab be
+    by-depth false a b m r k e ab be = tt
+
+    by-open : (t : Bool) (a b : ℕ) → ltb d maxElements ≡ t → a ≤ b → b ≤ length s → Later → ReachedRight (length s) (cond t (nextIn n s (b + 1) (d + 1) (setElement path d a b)) (reach WrongTree path))
+    by-open true a b e ab be later = later (b + 1) (d + 1) (setElement path d a b) (element-length path d a b ∙ l) (element-right (length s) path d a b l (ltb-true d maxElements e) p ab be)
+    by-open false a b e ab be later = tt
+
+    by-zero : (t : Bool) → Later → ReachedRight (length s) (cond t (reach NoMore path) (nextIn n s (at + 1) (d - 1) path))
+    by-zero true later = tt
+    by-zero false later = later (at + 1) (d - 1) path l (λ k g. p k (omega arith))
+
+    by-token : (t : Token) → TokenIn at (length s) t → Later → ReachedRight (length s) (onToken (nextIn n s) at d path t)
+    by-token BadToken i later = tt
+    by-token Closed i later = by-zero (eqb d 0) later
+    by-token (Opened a b) i later = let x = i .1 in by-open (ltb d maxElements) a b refl (i .2) (omega arith) later
+    by-token (Leaf a b m r k) i later = by-depth (ltb d maxElements) a b m r k refl (i .4) (i .5)
+
+-- the elements of a file's path lie within the bytes
+pub next-path-right : (s : List ℕ) (at d : ℕ) (path : List ℕ) → length path ≡ 56 → PathRight (length s) path d → AnswerRight (length s) (nextFile s at d path .path) (nextFile s at d path .answer)
+unfolding nextFile
+next-path-right s at d path l p = path-in (suc (length s)) s at d path l p

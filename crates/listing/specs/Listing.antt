@@ -50,6 +50,15 @@ noPath = replicate 56 0
 unfoldable pub filesIn : List ℕ → ℕ → Files
 filesIn s tree = cond (endsHere (drop (tree + 1) s)) (ends false) (filesFrom (suc (length s)) s (tree + 1) 0 noPath)
 
+-- file n, from 0
+abbrev pub noFile : Listed
+noFile = record { size = 0; root = 0; elements = 0; path = noPath }
+
+unfoldable pub fileNumber : List Listed → ℕ → Listed
+fileNumber [] n = noFile
+fileNumber (f ∷ fs) zero = f
+fileNumber (f ∷ fs) (suc n) = fileNumber fs n
+
 -- where the roots of the files that are not empty stand
 unfoldable pub rootsOf : List Listed → List ℕ
 rootsOf [] = []
