@@ -1,0 +1,2 @@
+pub mod Torrent
+pub mod CheckLaws

@@ -1,0 +1,2 @@
+// A torrent read (BEP 52): its number, info hash, files and their paths, one by one or all in one list.
+pub mod check;
