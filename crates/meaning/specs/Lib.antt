@@ -1,2 +1,4 @@
 pub mod Torrent
 pub mod Examples
+pub mod Reading
+pub mod FileLaws
