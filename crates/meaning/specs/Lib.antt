@@ -2,3 +2,4 @@ pub mod Torrent
 pub mod Examples
 pub mod Reading
 pub mod FileLaws
+pub mod TokenLaws
