@@ -3,3 +3,4 @@ pub mod Examples
 pub mod Reading
 pub mod FileLaws
 pub mod TokenLaws
+pub mod FlatLaws
