@@ -2,23 +2,18 @@
 -- Assumes nothing.
 use mathlib.Core.Path.{_≡_, refl, sym, ap, _∙_}
 use mathlib.Core.Bool.{Bool, true, false, cond, _&&_}
-use mathlib.Core.List.{List, [], _∷_, _++_}
-use Prim.Native.Nat.{ℕ, zero, suc, _+_, _-_, _≤_, _<_}
+use mathlib.Core.List.{List, _∷_, _++_}
+use Prim.Native.Nat.{ℕ, _+_, _-_}
 use native.Mathlib.Omega.{arith}
-use lib.ListN.{length, drop, take, length-append, take-append-drop}
+use lib.ListN.{length, drop, length-append, take-append-drop}
 use lib.Dec.{eqb, leb}
 use borrow.Author.Tests.{eqb-true, eqb-false, ne-eqb}
-use Rattle.octets.specs.Octets.{cut, zeroHash}
+use Rattle.octets.specs.Octets.{cut}
 use Rattle.bencode.specs.Grammar.{colon, maxLevels, Value, integer, string, list, dictionary, Entries, decimal, encodeString, encode, none, Valid}
 use Rattle.bencode.specs.Scalar.{readString, readInteger}
 use Rattle.bencode.specs.Parts.{isDictionary, findKey, Lookup, absent, present, lookup, FoundIs}
 use Rattle.bencode.specs.CompleteLaws.{contentStart}
-use Rattle.bencode.specs.DepthLaws.{more-levels}
-use Rattle.bencode.specs.PartsLaws.{find-is, integer-is, integerOf, string-is, stringOf, content-is, dictionary-is, isDictionaryValue, lookup-valid}
-use Rattle.bencode.specs.declared.scalar.ByteString.{ByteString}
-use Rattle.bencode.specs.declared.scalar.ByteString.the-variants.{Content, NoString}
-use Rattle.bencode.specs.declared.scalar.Integer.{Integer}
-use Rattle.bencode.specs.declared.scalar.Integer.the-variants.{Whole, NoInteger}
+use Rattle.bencode.specs.PartsLaws.{find-is, integer-is, integerOf, string-is, stringOf, content-is, dictionary-is, lookup-valid}
 use Rattle.bencode.specs.declared.parts.Found.{Found}
 use Rattle.bencode.specs.declared.parts.Found.the-variants.{Part, Missing}
 use Rattle.files.specs.File.{keyLength, keyPiecesRoot, maxFileLength, lengthOf, rootOf, lengthIn, rootIn, fileLength, fileRoot, emptyFile, fullFile, withLength, fileAt}

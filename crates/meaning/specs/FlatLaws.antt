@@ -2,18 +2,17 @@
 -- Assumes nothing.
 use mathlib.Core.Path.{_≡_, refl, sym, ap, _∙_}
 use mathlib.Core.Bool.{Bool, true, false, cond}
-use mathlib.Core.List.{List, [], _∷_, _++_}
-use Prim.Native.Nat.{ℕ, zero, suc, _+_, _-_, _*_, _≤_, _<_}
+use mathlib.Core.List.{List}
+use Prim.Native.Nat.{ℕ, zero, suc, _+_, _-_, _<_}
 use native.Mathlib.Omega.{arith}
-use lib.ListN.{length, drop}
+use lib.ListN.{length}
 use lib.Dec.{eqb, ltb}
 use Rattle.files.specs.Walk.{maxElements, tokenAt, setElement, Reached, reach, onToken, nextIn, nextFile}
 use Rattle.files.specs.WalkLaws.{TokenIn, token-in, token-none, next-bad}
 use Rattle.files.specs.declared.walk.Token.{Token}
 use Rattle.files.specs.declared.walk.Token.the-variants.{Opened, Closed, Leaf, BadToken}
-use Rattle.files.specs.declared.walk.Next.{Next}
 use Rattle.files.specs.declared.walk.Next.the-variants.{Placed, NoMore, WrongTree}
-use Rattle.listing.specs.Listing.{Listed, Files, ends, more, onNext, filesFrom}
+use Rattle.listing.specs.Listing.{Files, ends, more, onNext, filesFrom}
 use Rattle.listing.specs.ListingLaws.{fileOf}
 
 -- from one token on; `go` goes on from a position, with so many directories open and a path

@@ -4,3 +4,4 @@ pub mod Reading
 pub mod FileLaws
 pub mod TokenLaws
 pub mod FlatLaws
+pub mod TreeLaws

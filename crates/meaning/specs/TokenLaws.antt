@@ -1,25 +1,23 @@
 -- What stands next in an open directory, by the value of the entry there.
 -- Assumes nothing.
 use mathlib.Core.Path.{_≡_, refl, sym, ap, _∙_}
-use mathlib.Core.Bool.{Bool, true, false, cond}
+use mathlib.Core.Bool.{false, cond}
 use mathlib.Core.List.{List, [], _∷_, _++_, append-assoc}
-use Prim.Native.Nat.{ℕ, zero, suc, _+_, _-_, _≤_, _<_}
+use Prim.Native.Nat.{ℕ, _+_}
 use native.Mathlib.Omega.{arith}
 use lib.ListN.{length, drop, length-append}
 use lib.Seq.{drop-drop, drop-append-seam}
 use lib.Dec.{eqb}
 use borrow.Author.Tests.{eq-eqb, ne-eqb}
-use Rattle.bencode.specs.Grammar.{colon, letterD, letterE, maxLevels, Value, integer, string, list, dictionary, Entries, noEntries, entry, decimal, encodeString, encode, encodeEntries, Valid}
+use Rattle.bencode.specs.Grammar.{colon, letterD, letterE, maxLevels, Value, dictionary, Entries, noEntries, entry, decimal, encodeString, encode, encodeEntries, Valid}
 use Rattle.bencode.specs.Scalar.{readString}
 use Rattle.bencode.specs.Walk.{walkValue}
 use Rattle.bencode.specs.Parts.{isDictionary}
 use Rattle.bencode.specs.CompleteLaws.{BeginsWithDigit, decimal-first, contentStart, string-read, dictionary-bytes, complete}
 use Rattle.bencode.specs.PartsLaws.{valueStart, dictionary-is}
 use Rattle.files.specs.File.{fileAt}
-use Rattle.files.specs.Walk.{endsHere, behindFile, pastFile, withFile, fileToken, firstKey, nodeToken, keyToken, tokenAt}
-use Rattle.files.specs.declared.file.File.{File}
+use Rattle.files.specs.Walk.{endsHere, pastFile, fileToken, firstKey, nodeToken, tokenAt}
 use Rattle.files.specs.declared.file.File.the-variants.{Right, WrongFile}
-use Rattle.files.specs.declared.walk.Token.{Token}
 use Rattle.files.specs.declared.walk.Token.the-variants.{Opened, Closed, Leaf, BadToken}
 use Rattle.meaning.specs.Torrent.{noMore}
 
