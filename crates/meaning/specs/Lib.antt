@@ -5,3 +5,4 @@ pub mod FileLaws
 pub mod TokenLaws
 pub mod FlatLaws
 pub mod TreeLaws
+pub mod KeysLaws
