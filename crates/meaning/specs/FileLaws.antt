@@ -54,6 +54,7 @@ abbrev LengthIs : Length → Lookup → Type 0
 LengthIs NoLength x = isNatural x && leb (numberOf x) maxFileLength ≡ false
 LengthIs (Bytes n) x = (isNatural x && leb (numberOf x) maxFileLength ≡ true) × (n ≡ numberOf x)
 
+-- an integer is a length if it is from 0 to 2^30, and no other value is one
 length-of : (a : ℕ) (v : Value) → LengthIs (lengthOf (integerOf a v)) (present v)
 length-of a (integer true n) = refl
 length-of a (integer false n) = by-range (leb n maxFileLength) refl
@@ -65,6 +66,7 @@ length-of a (string b) = refl
 length-of a (list vs) = refl
 length-of a (dictionary es) = refl
 
+-- the length found is that of the value
 length-is : (s : List ℕ) (l : ℕ) (x : Lookup) (w : Found) → ((v : Value) → x ≡ present v → Valid v l) → FoundIs s w x → LengthIs (lengthIn s w) x
 length-is s l absent Missing h f = refl
 length-is s l absent (Part a b) h f = absurd f
@@ -76,6 +78,7 @@ abbrev RootIs : List ℕ → Root → Lookup → Type 0
 RootIs s NoRoot x = rootRight false x ≡ false
 RootIs s (At r) x = (rootRight false x ≡ true) × (cut s r 32 ≡ rootValue x)
 
+-- a string of 32 bytes is a root, and no other value is one
 root-of : (s : List ℕ) (a b : ℕ) (v : Value) → cut s a (b - a) ≡ encode v → RootIs s (rootOf (stringOf a v)) (present v)
 root-of s a b (integer minus n) e = refl
 root-of s a b (list vs) e = refl
@@ -95,6 +98,7 @@ root-of s a b (string x) e = by-size (eqb (a + length (encodeString x) - content
         (rw size at q, rw o at (content-is s x (drop (b - a) (drop a s)) a p))
     by-size false q = rw size at q
 
+-- the root found is that of the value
 root-is : (s : List ℕ) (x : Lookup) (w : Found) → FoundIs s w x → RootIs s (rootIn s w) x
 root-is s absent Missing f = refl
 root-is s absent (Part a b) f = absurd f
@@ -106,6 +110,7 @@ abbrev withParts : List ℕ → Found → Length → File
 withParts s w NoLength = WrongFile
 withParts s w (Bytes n) = cond (eqb n 0) (emptyFile w) (fullFile n (rootIn s w))
 
+-- the file is made of these two
 with-parts : (s : List ℕ) (at : ℕ) (z : Length) → withLength s at z ≡ withParts s (findKey keyPiecesRoot at (drop at s)) z
 unfolding fileRoot
 with-parts s at NoLength = refl

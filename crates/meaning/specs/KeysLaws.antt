@@ -52,18 +52,21 @@ abbrev DictionaryIs : List ℕ → Found → Lookup → Type 0
 DictionaryIs s Missing x = isDictionary x ≡ false
 DictionaryIs s (Part a b) x = (x ≡ present (dictionary (entriesOf x))) × (cut s a (b - a) ≡ encode (dictionary (entriesOf x)))
 
+-- a dictionary is its entries
 is-dictionary : (v : Value) → isDictionaryValue v ≡ true → v ≡ dictionary (entriesOf (present v))
 is-dictionary (integer minus n) e = absurd (false≢true e)
 is-dictionary (string b) e = absurd (false≢true e)
 is-dictionary (list vs) e = absurd (false≢true e)
 is-dictionary (dictionary es) e = refl
 
+-- another value is no dictionary
 no-dictionary : (v : Value) → isDictionaryValue v ≡ false → isDictionary (present v) ≡ false
 no-dictionary (integer minus n) e = refl
 no-dictionary (string b) e = refl
 no-dictionary (list vs) e = refl
 no-dictionary (dictionary es) e = e
 
+-- what is found for a key, if it is a dictionary
 dictionary-of : (s : List ℕ) (w : Found) (x : Lookup) → FoundIs s w x → DictionaryIs s (dictionaryIn s w) x
 dictionary-of s Missing absent f = refl
 dictionary-of s Missing (present v) f = absurd f
@@ -79,12 +82,14 @@ abbrev IntegerIs : Integer → Lookup → Type 0
 IntegerIs NoInteger x = isInteger x ≡ false
 IntegerIs (Whole minus n next) x = x ≡ present (integer minus n)
 
+-- an integer is read as its value, and no other value is one
 integer-value : (a : ℕ) (v : Value) → IntegerIs (integerOf a v) (present v)
 integer-value a (integer minus n) = refl
 integer-value a (string b) = refl
 integer-value a (list vs) = refl
 integer-value a (dictionary es) = refl
 
+-- what is found for a key, if it is an integer
 integer-of : (s : List ℕ) (l : ℕ) (w : Found) (x : Lookup) → ((v : Value) → x ≡ present v → Valid v l) → FoundIs s w x → IntegerIs (integerIn s w) x
 integer-of s l Missing absent h f = refl
 integer-of s l Missing (present v) h f = absurd f
@@ -94,9 +99,11 @@ integer-of s l (Part a b) (present v) h f = rw (integer-there s a b l v f (h v r
 -- ---- a key of a dictionary
 
 module _ (s key : List ℕ) (at : ℕ) (es : Entries) (r : List ℕ) (l : ℕ) (e : drop at s ≡ encode (dictionary es) ++ r) (h : Valid (dictionary es) (suc l)) (fits : l < maxLevels) where
+  -- a search finds what the key has
   found : FoundIs s (findKey key at (drop at s)) (lookup key es)
   found = find-is key s at es r e (more-levels (dictionary es) (suc l) maxLevels (omega arith) h)
 
+  -- and that is valid, with a level less
   has-valid : (v : Value) → lookup key es ≡ present v → Valid v l
   unfolding Valid
   has-valid v q = lookup-valid key es none l v h q
@@ -121,10 +128,12 @@ abbrev KeysAre : List ℕ → Entries → Keys → Type 0
 KeysAre s torrent k = (k .number ≡ keysNumber torrent) × (k .number ≡ 0 → KeysAt s torrent k)
 
 module _ (s : List ℕ) (torrent : Entries) (start : s ≡ encode (dictionary torrent)) (valid : Valid (dictionary torrent) maxLevels) where
+  -- a key that is missing or of another type gives 22
   missing : hasKeys torrent ≡ false → KeysAre s torrent (noKeys keyMissing)
   unfolding keysNumber
   missing q = (rw q refl, λ z. absurd (omega arith))
 
+  -- the torrent is all of the bytes
   whole : drop 0 s ≡ encode (dictionary torrent) ++ []
   whole = start ∙ sym (append-nil (encode (dictionary torrent)))
 
@@ -137,18 +146,22 @@ module _ (s : List ℕ) (torrent : Entries) (start : s ≡ encode (dictionary to
     pub the-layers : DictionaryIs s (Part layers layersEnd) (lookup keyPieceLayers torrent)
 
   module _ (info past : ℕ) (i : DictionaryIs s (Part info past) (lookup keyInfo torrent)) where
+    -- `info` stands where it was found
     info-there : drop info s ≡ encode (dictionary (infoOf torrent)) ++ drop (past - info) (drop info s)
     info-there = part-front s info past (dictionary (infoOf torrent)) (i .1)
 
+    -- and is valid with a level less
     info-valid : Valid (dictionary (infoOf torrent)) 31
     info-valid = has-valid s keyInfo 0 torrent [] 31 whole valid (omega arith) (dictionary (infoOf torrent)) (i .0)
 
   module _ (info past tree treeEnd layers layersEnd : ℕ) (below : Bool) (plen : ℕ) (minus : Bool) (version : ℕ)
       (f : Five info past tree treeEnd layers layersEnd below plen minus version) where
+    -- no key is missing
     all-there : hasKeys torrent ≡ true
     unfolding hasKeys
     all-there = rw (f .the-plen, f .the-version, f .the-layers .0, f .the-tree .0, f .the-info .0) refl
 
+    -- the positions are those of the values
     keys-at : (k : Keys) → k .info ≡ info → k .past ≡ past → k .tree ≡ tree → k .plen ≡ plen → k .layers ≡ layers → below ≡ false → KeysAt s torrent k
     keys-at k ei ep et en el q =
         record {
@@ -172,30 +185,36 @@ module _ (s : List ℕ) (torrent : Entries) (start : s ≡ encode (dictionary to
     abbrev Numbered : ℕ → Keys → Type 0
     Numbered n k = (k .number ≡ n) × (k .number ≡ 0 → KeysAt s torrent k)
 
+    -- beside a refusal nothing is pointed at
     refused : (n : ℕ) → (n ≡ 0 → ⊥) → Numbered n (noKeys n)
     refused n h = (refl, λ z. absurd (h z))
 
+    -- by the piece length
     by-piece : (t : Bool) → below ≡ false → Numbered (cond t 0 pieceLengthOutOfRange) (cond t here (noKeys pieceLengthOutOfRange))
     by-piece true q = (refl, λ z. keys-at here refl refl refl refl refl q)
     by-piece false q = refused pieceLengthOutOfRange (λ z. omega arith)
 
+    -- a negative one is none
     by-below : (c : Bool) → below ≡ c
         → Numbered (cond (isPieceLength (numberOf (present (integer c plen)))) 0 pieceLengthOutOfRange) (cond c (noKeys pieceLengthOutOfRange) (cond (isPieceLength plen) here (noKeys pieceLengthOutOfRange)))
     by-below true q = rw zero-no-piece (refused pieceLengthOutOfRange (λ z. omega arith))
     by-below false q = by-piece (isPieceLength plen) q
 
+    -- by the version
     by-version : (t : Bool)
         → Numbered (cond t (cond (isPieceLength (numberOf (present (integer below plen)))) 0 pieceLengthOutOfRange) otherVersion)
         (cond t (cond below (noKeys pieceLengthOutOfRange) (cond (isPieceLength plen) here (noKeys pieceLengthOutOfRange))) (noKeys otherVersion))
     by-version true = by-below below refl
     by-version false = refused otherVersion (λ z. omega arith)
 
+    -- a negative one is not 2
     by-minus : (d : Bool)
         → Numbered (cond (isNumber 2 (present (integer d version))) (cond (isPieceLength (numberOf (present (integer below plen)))) 0 pieceLengthOutOfRange) otherVersion)
         (cond d (noKeys otherVersion) (cond (eqb version 2) (cond below (noKeys pieceLengthOutOfRange) (cond (isPieceLength plen) here (noKeys pieceLengthOutOfRange))) (noKeys otherVersion)))
     by-minus true = refused otherVersion (λ z. omega arith)
     by-minus false = by-version (eqb version 2)
 
+    -- the value's number, where all five are found
     number-is : keysNumber torrent ≡ cond (isNumber 2 (present (integer minus version))) (cond (isPieceLength (numberOf (present (integer below plen)))) 0 pieceLengthOutOfRange) otherVersion
     unfolding keysNumber
     number-is = rw (all-there, f .the-version, f .the-plen) refl
@@ -207,6 +226,7 @@ module _ (s : List ℕ) (torrent : Entries) (start : s ≡ encode (dictionary to
 
   -- ---- step by step
 
+  -- with the four keys of `info`, by `piece layers`
   layers-are : (info past tree treeEnd : ℕ) (below : Bool) (plen : ℕ) (minus : Bool) (version : ℕ) → DictionaryIs s (Part info past) (lookup keyInfo torrent)
       → DictionaryIs s (Part tree treeEnd) (lookup keyFileTree (infoOf torrent)) → lookup keyPieceLength (infoOf torrent) ≡ present (integer below plen)
       → lookup keyMetaVersion (infoOf torrent) ≡ present (integer minus version) → (w : Found) → DictionaryIs s w (lookup keyPieceLayers torrent)
@@ -218,6 +238,7 @@ module _ (s : List ℕ) (torrent : Entries) (start : s ≡ encode (dictionary to
   layers-are info past tree treeEnd below plen minus version i t p v (Part layers layersEnd) q =
       values-are info past tree treeEnd layers layersEnd below plen minus version (record { the-info = i; the-tree = t; the-plen = p; the-version = v; the-layers = q })
 
+  -- by `meta version`
   version-are : (info past tree treeEnd : ℕ) (below : Bool) (plen : ℕ) → DictionaryIs s (Part info past) (lookup keyInfo torrent)
       → DictionaryIs s (Part tree treeEnd) (lookup keyFileTree (infoOf torrent)) → lookup keyPieceLength (infoOf torrent) ≡ present (integer below plen)
       → (w : Integer) → IntegerIs w (lookup keyMetaVersion (infoOf torrent)) → KeysAre s torrent (withVersion s info past tree below plen w)
@@ -228,6 +249,7 @@ module _ (s : List ℕ) (torrent : Entries) (start : s ≡ encode (dictionary to
   version-are info past tree treeEnd below plen i t p (Whole minus version next) q =
       unfold layerKeys in layers-are info past tree treeEnd below plen minus version i t p q (findDictionary s 0 keyPieceLayers) (dictionary-found s keyPieceLayers 0 torrent [] 31 whole valid (omega arith))
 
+  -- by `piece length`
   piece-are : (info past tree treeEnd : ℕ) → DictionaryIs s (Part info past) (lookup keyInfo torrent) → DictionaryIs s (Part tree treeEnd) (lookup keyFileTree (infoOf torrent))
       → (w : Integer) → IntegerIs w (lookup keyPieceLength (infoOf torrent)) → KeysAre s torrent (withPieceLength s info past tree w)
   piece-are info past tree treeEnd i t NoInteger q = missing lacks
@@ -238,6 +260,7 @@ module _ (s : List ℕ) (torrent : Entries) (start : s ≡ encode (dictionary to
       version-are info past tree treeEnd below plen i t q (findInteger s info keyMetaVersion)
       (integer-found s keyMetaVersion info (infoOf torrent) (drop (past - info) (drop info s)) 30 (info-there info past i) (info-valid info past i) (omega arith))
 
+  -- by `file tree`
   tree-are : (info past : ℕ) → DictionaryIs s (Part info past) (lookup keyInfo torrent) → (w : Found) → DictionaryIs s w (lookup keyFileTree (infoOf torrent)) → KeysAre s torrent (withTree s info past w)
   tree-are info past i Missing q = missing lacks
     where
@@ -247,6 +270,7 @@ module _ (s : List ℕ) (torrent : Entries) (start : s ≡ encode (dictionary to
       piece-are info past tree treeEnd i q (findInteger s info keyPieceLength)
       (integer-found s keyPieceLength info (infoOf torrent) (drop (past - info) (drop info s)) 30 (info-there info past i) (info-valid info past i) (omega arith))
 
+  -- by `info`
   info-are : (w : Found) → DictionaryIs s w (lookup keyInfo torrent) → KeysAre s torrent (withInfo s w)
   info-are Missing q = missing lacks
     where
@@ -256,6 +280,7 @@ module _ (s : List ℕ) (torrent : Entries) (start : s ≡ encode (dictionary to
       unfold infoKeys in tree-are info past q (findDictionary s info keyFileTree)
       (dictionary-found s keyFileTree info (infoOf torrent) (drop (past - info) (drop info s)) 30 (info-there info past q) (info-valid info past q) (omega arith))
 
+  -- so are the keys of the torrent
   keys-are : KeysAre s torrent (keysOf s)
   unfolding keysOf
   keys-are = info-are (findDictionary s 0 keyInfo) (dictionary-found s keyInfo 0 torrent [] 31 whole valid (omega arith))

@@ -6,3 +6,4 @@ pub mod TokenLaws
 pub mod FlatLaws
 pub mod TreeLaws
 pub mod KeysLaws
+pub mod StrictTorrentLaws

@@ -52,9 +52,11 @@ pub token-end : (s : List ℕ) (at : ℕ) (r : List ℕ) → drop at s ≡ encod
 unfolding tokenAt
 token-end s at r e = rw (e, ends-is noEntries r) refl
 
+-- a key's value stands right behind its bytes
 content-size : (at : ℕ) (k : List ℕ) → valueStart at k ≡ contentStart at k + length k
 content-size at k = let lc = length-append (decimal (length k)) (colon ∷ k) in omega arith
 
+-- at a key the token is by whether the key is empty
 key-token : (s : List ℕ) (at : ℕ) (k q : List ℕ) → drop at s ≡ encodeString k ++ q
     → tokenAt s at ≡ cond (eqb (contentStart at k) (valueStart at k)) BadToken (nodeToken s (contentStart at k) (valueStart at k))
 unfolding tokenAt
@@ -77,6 +79,7 @@ module _ (s : List ℕ) (a b : ℕ) (q : List ℕ) where
   unfolding nodeToken
   node-other e = rw e refl
 
+  -- a node that is a dictionary, by its first key
   node-dictionary : (es : Entries) → drop b s ≡ encode (dictionary es) ++ q
       → nodeToken s a b ≡ cond (noMore es) BadToken (firstKey s a b (readString (b + 1) (encodeEntries es ++ q)))
   unfolding nodeToken

@@ -32,9 +32,11 @@ use Rattle.meaning.specs.FlatLaws.{tokensFrom, tokens-step, tokens-bad, 
 
 -- ---- the path
 
+-- a new element leaves those before it
 set-keeps : (path : List ℕ) (d a b i : ℕ) → i < 2 * d → getD (setElement path d a b) i 0 ≡ getD path i 0
 set-keeps path d a b i h = getD-set-other (set path (2 * d) a) (2 * d + 1) i b 0 (λ e. omega arith) ∙ getD-set-other path (2 * d) i a 0 (λ e. omega arith)
 
+-- the elements are by the first numbers of the path alone
 elements-kept : (s p q : List ℕ) (d : ℕ) → ((i : ℕ) → i < 2 * d → getD p i 0 ≡ getD q i 0) → elementsOf s p d ≡ elementsOf s q d
 unfolding elementsOf
 elements-kept s p q zero h = refl
@@ -44,6 +46,7 @@ elements-kept s p q (suc d) h =
     let z = elements-kept s p q d (λ i g. h i (omega arith)) in
     rw (x, y, z) refl
 
+-- a new element stands behind those before it
 elements-set : (s path : List ℕ) (d a b : ℕ) (k : List ℕ) → 2 * d + 1 < length path → cut s a (b - a) ≡ k → elementsOf s (setElement path d a b) (d + 1) ≡ elementsOf s path d ++ (k ∷ [])
 elements-set s path d a b k h e =
     let o : d + 1 ≡ suc d = omega arith in
@@ -60,24 +63,29 @@ elements-set s path d a b k h e =
 
 -- ---- files before others
 
+-- files, and then those of a walk
 abbrev prepend : List Listed → Files → Files
 prepend [] w = w
 prepend (f ∷ fs) w = more f (prepend fs w)
 
+-- files before the others leave it right or wrong
 prepend-right : (fs : List Listed) (w : Files) → right (prepend fs w) ≡ right w
 unfolding right
 prepend-right [] w = refl
 prepend-right (f ∷ fs) w = prepend-right fs w
 
+-- they are listed first
 prepend-listed : (fs : List Listed) (w : Files) → listed (prepend fs w) ≡ fs ++ listed w
 unfolding listed
 prepend-listed [] w = refl
 prepend-listed (f ∷ fs) w = ap (λ (l : List Listed). f ∷ l) (prepend-listed fs w)
 
+-- one part after another
 prepend-append : (fs gs : List Listed) (w : Files) → prepend (fs ++ gs) w ≡ prepend fs (prepend gs w)
 prepend-append [] gs w = refl
 prepend-append (f ∷ fs) gs w = ap (more f) (prepend-append fs gs w)
 
+-- files are read one by one
 read-append : (s : List ℕ) (fs gs : List Listed) → readFiles s (fs ++ gs) ≡ readFiles s fs ++ readFiles s gs
 read-append s [] gs = refl
 read-append s (f ∷ fs) gs = ap (λ (l : List File). readFile s f ∷ l) (read-append s fs gs)
@@ -122,12 +130,14 @@ both true true s m at d path t u fs gs w g =
       read = read-append s (w .found) (x .found) ∙ ap (λ (l : List File). l ++ readFiles s (x .found)) (w .read) ∙ ap (λ (l : List File). fs ++ l) (x .read);
     }
 
+-- a walk that ends wrong is wrong
 right-ends : (w : Files) → w ≡ ends false → right w ≡ false
 unfolding right
 right-ends w e = ap right e
 
 -- ---- what a level of nesting is needed for
 
+-- a right file is a dictionary, and takes a level
 file-level : (w : Value) (l : ℕ) → Valid w l → fileRight w ≡ true → 0 < l
 unfolding Valid fileRight
 file-level (dictionary es) zero h e = absurd h
@@ -136,6 +146,7 @@ file-level (integer minus n) l h e = absurd (false≢true e)
 file-level (string b) l h e = absurd (false≢true e)
 file-level (list vs) l h e = absurd (false≢true e)
 
+-- without a level no node is right
 node-level : (w : Value) → Valid w 0 → nodeRight w ≡ false
 unfolding Valid nodeRight
 node-level (dictionary es) h = absurd h
@@ -153,6 +164,7 @@ record NodeAt (s : List ℕ) (at : ℕ) (k : List ℕ) (v : Value) (t : List ℕ
   pub inside : at < length s
   pub behind : at < valueStart at k
 
+-- so it is where its bytes stand
 node-at : (s : List ℕ) (at c : ℕ) (cs : List ℕ) (v : Value) (t : List ℕ) → drop at s ≡ encodeString (c ∷ cs) ++ (encode v ++ t) → NodeAt s at (c ∷ cs) v t
 node-at s at c cs v t e =
     record {
@@ -163,6 +175,7 @@ node-at s at c cs v t e =
       behind = omega (arith, string-some (c ∷ cs));
     }
 
+-- at a wrong token the tree is wrong
 bad-walk : (s : List ℕ) (m at d : ℕ) (path : List ℕ) → tokenAt s at ≡ BadToken → right (tokensFrom m s at d path) ≡ false
 bad-walk s m at d path e = right-ends (tokensFrom m s at d path) (tokens-bad m s at d path e)
 
@@ -177,6 +190,7 @@ past-end : (s : List ℕ) (at : ℕ) (t : List ℕ) → drop at s ≡ encodeEntr
 unfolding encode
 past-end s at t e = after-bytes s at (letterE ∷ []) t e
 
+-- an end is a byte
 end-inside : (s : List ℕ) (at : ℕ) (t : List ℕ) → drop at s ≡ encodeEntries noEntries ++ t → at < length s
 unfolding encode
 end-inside s at t e = omega (arith, length-drop at s, ap length e)
@@ -336,6 +350,7 @@ mutual
   node-walk (dictionary es) s c cs t zero m at d path n h depth sized enough = absurd h
   node-walk (dictionary es) s c cs t (suc l) m at d path n h depth sized enough = branch-walk es s (c ∷ cs) t l m at d path (nodes-walk es s) n h depth sized enough
 
+  -- the entries of a directory, one after the other
   nodes-walk : (es : Entries) (s : List ℕ) → Walks s es
   nodes-walk noEntries s = none-walk s
   nodes-walk (entry [] v es) s = λ l r j m at d path e h depth sized enough.
@@ -352,6 +367,7 @@ abbrev TreeIs : Bool → List ℕ → Files → List File → Type 0
 TreeIs true s w fs = (right w ≡ true) × (readFiles s (listed w) ≡ fs)
 TreeIs false s w fs = right w ≡ false
 
+-- the walk over all entries of the tree ends at the end of the tree
 tree-end : (o : Bool) (s : List ℕ) (m at : ℕ) (t : List ℕ) (fs : List File) → Outcome o s m at 0 noPath (encodeEntries noEntries ++ t) fs → TreeIs o s (tokensFrom m s at 0 noPath) fs
 unfolding right listed
 tree-end false s m at t fs w = w
@@ -365,6 +381,7 @@ tree-end true s m at t fs w = by-steps (w .steps) refl
         w .goes-on ∙ ap (λ (z : ℕ). prepend (w .found) (tokensFrom z s (w .end) 0 (w .kept))) e ∙ ap (prepend (w .found)) last in
         (ap right all ∙ prepend-right (w .found) (ends true), ap (λ (z : Files). readFiles s (listed z)) all ∙ ap (readFiles s) (prepend-listed (w .found) (ends true) ∙ append-nil (w .found)) ∙ w .read)
 
+-- the walk over the tree gives what the value says
 tree-is : (s : List ℕ) (tree : ℕ) (es : Entries) (r : List ℕ) → drop tree s ≡ encode (dictionary es) ++ r → Valid (dictionary es) 30 → TreeIs (treeRight es) s (filesAt s tree) (filesIn [] es)
 unfolding filesAt treeRight Valid right elementsOf
 tree-is s tree noEntries r e h = rw (entries-there s tree noEntries r e, ends-is noEntries r) refl
