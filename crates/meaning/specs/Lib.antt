@@ -1,2 +1,4 @@
 pub mod Torrent
+pub mod Counting
+pub mod RootsMeaning
 pub mod Examples
