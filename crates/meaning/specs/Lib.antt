@@ -1,4 +1,8 @@
 pub mod Torrent
+pub mod Counting
+pub mod RootsMeaning
+pub mod LayersRead
+pub mod LayersMeaning
 pub mod Examples
 pub mod Reading
 pub mod FileLaws

@@ -2,12 +2,12 @@
 -- Assumes nothing.
 use mathlib.Core.Bool.{Bool, true, false, cond, _&&_, _||_, not}
 use mathlib.Core.List.{List, [], _∷_, _++_}
-use Prim.Native.Nat.{ℕ, zero, suc, _+_, _-_, _*_, _^_}
+use Prim.Native.Nat.{ℕ, zero, suc, _+_, _*_, _^_}
 use lib.ListN.{length}
 use lib.Dec.{eqb, leb, ltb}
 use Rattle.octets.specs.Octets.{same, zeroHash}
 use Rattle.tree.specs.Geometry.{blockCount, height, isPieceLength, pieceLayer, pieceCount, hasLayer}
-use Rattle.tree.specs.Values.{node, layerLeaf}
+use Rattle.tree.specs.Values.{layerRoot}
 use Rattle.bencode.specs.Grammar.{Value, integer, string, list, dictionary, Items, Entries, noEntries, entry}
 use Rattle.bencode.specs.Parts.{Lookup, absent, present, lookup}
 use Rattle.files.specs.File.{keyLength, keyPiecesRoot, maxFileLength}
@@ -194,7 +194,7 @@ layerOf (present (list vs)) = []
 layerOf (present (dictionary es)) = []
 
 abbrev pub givesRoot : ℕ → File → List ℕ → Bool
-givesRoot plen f layer = same (node (layerLeaf layer (pieceLayer plen)) (height (blockCount (f .size)) - pieceLayer plen) 0) (f .root)
+givesRoot plen f layer = same (layerRoot layer (pieceLayer plen) (height (blockCount (f .size)))) (f .root)
 
 unfoldable pub layersGiveRoots : ℕ → Entries → List File → Bool
 layersGiveRoots plen layers [] = true
