@@ -70,22 +70,26 @@ fn counted(number: u32, files: usize, long: usize) -> Judged
     refused(number)
 }
 
-// 25 to 28 or 0 of the `file tree` at `tree` and the `piece layers` at `layers`. No file more than 16,384 fits in a torrent, unless
-// it is empty.
-fn judge(s: &[u8], tree: usize, plen: usize, layers: usize) -> Judged
-    requires { ⌜ (length (now s) ≤ 2 ^ 20) × (isPieceLength plen ≡ true) × LayersOpen (now s) layers ⌝ }
+// 25 to 28 or 0 of the `file tree` at `tree` and the `piece layers` at `layers`; `roots` and `room` are work space.
+fn judge_in(
+    s: &[u8],
+    tree: usize,
+    plen: usize,
+    layers: usize,
+    roots: &mut [u32],
+    room: &mut [u32],
+) -> Judged
+    requires { ⌜ (length (now s) ≤ 2 ^ 20) × (isPieceLength plen ≡ true) × LayersOpen (now s) layers × (length (now roots) ≡ 16384) × (length (now room) ≡ 16384) ⌝ }
     ensures { λ r. ⌜ r ≡ judgedOf (now (s .entry)) tree plen layers ⌝ }
 {
-    let mut roots = [0u32; 16384];
-    let mut room = [0u32; 16384];
-    let tally = count_files(s, tree, plen, &mut roots);
+    let tally = count_files(s, tree, plen, roots);
     let files = tally.files;
     let full = tally.roots;
     let long = tally.long;
     if tally.right {
-        if apart(s, &mut roots, &mut room, full) {
-            if index(s, layers, &mut roots, long) {
-                let number = judge_layers(s, tree, layers, &roots, long, plen);
+        if apart(s, roots, room, full) {
+            if index(s, layers, roots, long) {
+                let number = judge_layers(s, tree, layers, roots, long, plen);
                 return counted(number, files, long);
             }
             return refused(numbers::LAYERS_AMISS);
@@ -93,6 +97,16 @@ fn judge(s: &[u8], tree: usize, plen: usize, layers: usize) -> Judged
         return refused(numbers::SAME_ROOT);
     }
     refused(numbers::WRONG_TREE)
+}
+
+// The same. A torrent has no more than 16,384 files that are not empty.
+fn judge(s: &[u8], tree: usize, plen: usize, layers: usize) -> Judged
+    requires { ⌜ (length (now s) ≤ 2 ^ 20) × (isPieceLength plen ≡ true) × LayersOpen (now s) layers ⌝ }
+    ensures { λ r. ⌜ r ≡ judgedOf (now (s .entry)) tree plen layers ⌝ }
+{
+    let mut roots = [0u32; 16384];
+    let mut room = [0u32; 16384];
+    judge_in(s, tree, plen, layers, &mut roots, &mut room)
 }
 
 // 19 to 28 or 0 of any bytes.

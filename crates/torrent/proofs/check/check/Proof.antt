@@ -1,43 +1,30 @@
-use native.Mathlib.Omega.{arith}
-use Prim.Native.Nat.{ℕ, _+_, _-_, _*_, _≤_, _<_, _/_, _%_, _^_}
-use lib.ListN.{length, getD, set, take, drop}
-use mathlib.Core.Path.{_≡_, refl, ap, sym, _∙_}
+use Rattle.torrent.proofs.Checking.{keys-refused, keys-small, keys-length, keys-open, number-refused, number-done}
+use Prim.Native.Nat.{_-_}
+use mathlib.Core.Path.{_∙_}
 use borrow.Author.Needs.{needs}
 use Rattle.torrent.proofs.check.check.Statement.{statement}
 use Rattle.torrent.proofs.check.check.Tie as tie
-use Rattle.torrent.proofs.check.check.Reads as reads
-use Rattle.torrent.proofs.check.check.Lts as lts
-use Rattle.metainfo.proofs.read_keys.Reads as read-keys-reads
-use Rattle.torrent.proofs.check.judge.Reads as judge-reads
-use Rattle.torrent.proofs.check.not_read.Reads as not-read-reads
 
--- src/check.rt:102:9
 read-keys-requires : tie.Need-read-keys-requires
 read-keys-requires c κs = search needs
 
--- src/check.rt:108:13
 judge-requires : tie.Need-judge-requires
-judge-requires c κs = ?
+judge-requires c κs = (keys-small _ _ (c .before .read-keys .ensures) (c .if1 .taken), keys-length _ _ (c .before .read-keys .ensures) (c .if1 .taken), keys-open _ _ (c .before .read-keys .ensures) (c .if1 .taken))
 
--- src/check.rt:111:13
 returns : tie.Need-returns
-returns c = ?
+returns c = number-done _ _ (c .before .before .before .read-keys .ensures) (c .before .before .if1 .taken) _ (c .before .judge .ensures) (c .if2 .taken)
 
--- src/check.rt:122:9
 not-read-requires : tie.Need-not-read-requires
 not-read-requires c κs = search needs
 
--- src/check.rt:122:9
 returns-2 : tie.Need-returns-2
-returns-2 c = ?
+returns-2 c = c .not-read .ensures ∙ number-refused _ _ (c .before .before .before .before .read-keys .ensures) (c .before .before .before .if1 .taken) _ (c .before .before .judge .ensures) (c .before .if2 .left)
 
--- src/check.rt:124:5
 not-read-requires-2 : tie.Need-not-read-requires-2
 not-read-requires-2 c κs = search needs
 
--- src/check.rt:99:1
 returns-3 : tie.Need-returns-3
-returns-3 c = ?
+returns-3 c = c .not-read2 .ensures ∙ keys-refused _ _ (c .before .before .read-keys .ensures) (c .before .if1 .left)
 
 pub check-spec : {M : Type 1} → statement M
 check-spec =
