@@ -20,6 +20,10 @@ use Rattle.listing.specs.Listing.{Listed, Files, right, listed, filesIn, rootsO
 use Rattle.layers.specs.Layers.{keysWide, layerKeys, layerAt, worst}
 use Rattle.torrent.specs.declared.check.Judged.{Judged}
 use Rattle.torrent.specs.declared.check.Checked.{Checked}
+use Rattle.torrent.specs.declared.one.Place.{Place}
+use Rattle.torrent.specs.declared.read.Torrent.{Torrent}
+use Rattle.torrent.specs.declared.read.FileRead.{FileRead}
+use Rattle.torrent.specs.declared.read.Piece.{Piece}
 
 -- ---- 25 to 28, the lowest
 
@@ -57,3 +61,85 @@ withKeys s k = cond (eqb (k .number) 0) (withJudged k (judgedOf s (k .tree) (k .
 
 unfoldable pub checkedOf : List ℕ → Checked
 checkedOf s = withKeys s (metainfoOf s)
+
+-- ---- the torrent itself
+
+-- beside a refusal all are zero
+abbrev pub noTorrent : ℕ → Torrent
+noTorrent n = record { number = n; hash = zeroHash; plen = 0; files = 0 }
+
+-- the info hash is that of the value of `info` as it stands
+abbrev pub withChecked : List ℕ → Checked → Torrent
+withChecked s c =
+    cond (eqb (c .number) 0)
+    (record { number = 0; hash = sha256 (cut s (c .info) (c .past - c .info)); plen = c .plen; files = c .files })
+    (noTorrent (c .number))
+
+unfoldable pub readOf : List ℕ → Torrent
+readOf s = withChecked s (checkedOf s)
+
+-- ---- file n
+
+abbrev pub placeOf : Listed → Place
+placeOf f = record { length = f .size; root = f .root; elements = f .elements }
+
+-- an empty file has the root of 32 zero bytes
+unfoldable pub rootBytes : List ℕ → ℕ → ℕ → List ℕ
+rootBytes s n r = cond (eqb n 0) zeroHash (cut s r 32)
+
+-- only a file longer than the piece length has a layer
+unfoldable pub layerString : List ℕ → ℕ → ℕ → ℕ → ℕ → ByteString
+layerString s layers plen n r = cond (hasLayer n plen) (layerAt s layers r) NoString
+
+-- where a string's content begins, and its size; 0 and 0 where there is none
+abbrev pub startOf : ByteString → ℕ
+startOf NoString = 0
+startOf (Content a b) = a
+
+abbrev pub sizeOf : ByteString → ℕ
+sizeOf NoString = 0
+sizeOf (Content a b) = b - a
+
+abbrev pub noFileRead : ℕ → FileRead
+noFileRead n = record { number = n; length = 0; root = zeroHash; elements = 0; start = 0; size = 0 }
+
+abbrev pub fileAnswer : List ℕ → ℕ → ℕ → Listed → FileRead
+fileAnswer s layers plen f =
+    record {
+      number = 0;
+      length = f .size;
+      root = rootBytes s (f .size) (f .root);
+      elements = f .elements;
+      start = startOf (layerString s layers plen (f .size) (f .root));
+      size = sizeOf (layerString s layers plen (f .size) (f .root));
+    }
+
+-- 29 comes after all of 19 to 28
+abbrev pub fileIn : List ℕ → ℕ → Checked → FileRead
+fileIn s n c =
+    cond (eqb (c .number) 0)
+    (cond (ltb n (c .files)) (fileAnswer s (c .layers) (c .plen) (fileNumber (listed (filesIn s (c .tree))) n)) (noFileRead noSuchFile))
+    (noFileRead (c .number))
+
+unfoldable pub fileRead : List ℕ → ℕ → FileRead
+fileRead s n = fileIn s n (checkedOf s)
+
+-- ---- element k of its path
+
+abbrev pub noPart : ℕ → Piece
+noPart n = record { number = n; start = 0; size = 0 }
+
+abbrev pub elementAnswer : Listed → ℕ → Piece
+elementAnswer f k =
+    cond (ltb k (f .elements))
+    (record { number = 0; start = getD (f .path) (2 * k) 0; size = getD (f .path) (2 * k + 1) 0 - getD (f .path) (2 * k) 0 })
+    (noPart noSuchFile)
+
+abbrev pub pathIn : List ℕ → ℕ → ℕ → Checked → Piece
+pathIn s n k c =
+    cond (eqb (c .number) 0)
+    (cond (ltb n (c .files)) (elementAnswer (fileNumber (listed (filesIn s (c .tree))) n) k) (noPart noSuchFile))
+    (noPart (c .number))
+
+unfoldable pub pathRead : List ℕ → ℕ → ℕ → Piece
+pathRead s n k = pathIn s n k (checkedOf s)
