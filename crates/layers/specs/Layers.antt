@@ -7,7 +7,7 @@ use mathlib.Core.List.{List, [], _∷_}
 use Prim.Native.Nat.{ℕ, zero, suc, _+_, _-_, _*_, _≤_, _<_}
 use lib.ListN.{length, drop, take, getD}
 use lib.Dec.{eqb}
-use Rattle.octets.specs.Octets.{cut, same}
+use Rattle.octets.specs.Octets.{cut, same, zeroHash}
 use Rattle.numbers.specs.Numbers.{layersAmiss, layerDiffers}
 use Rattle.tree.specs.Geometry.{blockCount, height, pieceLayer, pieceCount, hasLayer}
 use Rattle.tree.specs.Values.{layerRoot}
@@ -91,3 +91,22 @@ worst s layers plen w [] = w
 worst s layers plen w (f ∷ fs) =
     cond (eqb (layerNumber s layers plen (f .size) (f .root)) layersAmiss) layersAmiss
     (worst s layers plen (cond (eqb (layerNumber s layers plen (f .size) (f .root)) 0) w layerDiffers) fs)
+
+-- ---- what is answered of a file
+
+-- an empty file has the root of 32 zero bytes
+unfoldable pub rootBytes : List ℕ → ℕ → ℕ → List ℕ
+rootBytes s n r = cond (eqb n 0) zeroHash (cut s r 32)
+
+-- only a file longer than the piece length has a layer
+unfoldable pub layerString : List ℕ → ℕ → ℕ → ℕ → ℕ → ByteString
+layerString s layers plen n r = cond (hasLayer n plen) (layerAt s layers r) NoString
+
+-- where a string's content begins, and its size; 0 and 0 where there is none
+abbrev pub startOf : ByteString → ℕ
+startOf NoString = 0
+startOf (Content a b) = a
+
+abbrev pub sizeOf : ByteString → ℕ
+sizeOf NoString = 0
+sizeOf (Content a b) = b - a

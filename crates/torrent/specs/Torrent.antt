@@ -10,14 +10,11 @@ use Rattle.octets.specs.Octets.{cut, zeroHash, be}
 use Rattle.numbers.specs.Numbers.{noRoom, wrongTree, sameRoot, layersAmiss, noSuchFile, refused, done}
 use Rattle.numbers.specs.declared.Answer.{Answer}
 use Rattle.sha256.specs.Sha256.{sha256}
-use Rattle.tree.specs.Geometry.{hasLayer}
-use Rattle.bencode.specs.declared.scalar.ByteString.{ByteString}
-use Rattle.bencode.specs.declared.scalar.ByteString.the-variants.{Content, NoString}
 use Rattle.roots.specs.Roots.{apart, stringsAt}
 use Rattle.metainfo.specs.Metainfo.{metainfoOf}
 use Rattle.metainfo.specs.declared.Keys.{Keys}
 use Rattle.listing.specs.Listing.{Listed, Files, right, listed, filesIn, rootsOf, longs, fileNumber}
-use Rattle.layers.specs.Layers.{keysWide, layerKeys, layerAt, worst}
+use Rattle.layers.specs.Layers.{keysWide, layerKeys, worst, rootBytes, layerString, startOf, sizeOf}
 use Rattle.torrent.specs.declared.check.Judged.{Judged}
 use Rattle.torrent.specs.declared.check.Checked.{Checked}
 use Rattle.torrent.specs.declared.one.Place.{Place}
@@ -82,23 +79,6 @@ readOf s = withChecked s (checkedOf s)
 
 abbrev pub placeOf : Listed → Place
 placeOf f = record { length = f .size; root = f .root; elements = f .elements }
-
--- an empty file has the root of 32 zero bytes
-unfoldable pub rootBytes : List ℕ → ℕ → ℕ → List ℕ
-rootBytes s n r = cond (eqb n 0) zeroHash (cut s r 32)
-
--- only a file longer than the piece length has a layer
-unfoldable pub layerString : List ℕ → ℕ → ℕ → ℕ → ℕ → ByteString
-layerString s layers plen n r = cond (hasLayer n plen) (layerAt s layers r) NoString
-
--- where a string's content begins, and its size; 0 and 0 where there is none
-abbrev pub startOf : ByteString → ℕ
-startOf NoString = 0
-startOf (Content a b) = a
-
-abbrev pub sizeOf : ByteString → ℕ
-sizeOf NoString = 0
-sizeOf (Content a b) = b - a
 
 abbrev pub noFileRead : ℕ → FileRead
 noFileRead n = record { number = n; length = 0; root = zeroHash; elements = 0; start = 0; size = 0 }

@@ -12,8 +12,8 @@ ghost use mathlib.Core.Bool.{true};
 ghost use Prim.Native.Nat.{_+_, _≤_, _<_};
 ghost use lib.ListN as L;
 ghost use Rattle.listing.specs.Listing.{noPath, filesIn, right, listed, fileNumber};
-ghost use Rattle.layers.specs.Layers.{layerAt};
-ghost use Rattle.torrent.specs.Torrent.{placeOf, rootBytes, layerString};
+ghost use Rattle.layers.specs.Layers.{layerAt, rootBytes, layerString};
+ghost use Rattle.torrent.specs.Torrent.{placeOf};
 
 // A file's length, its root's position (0 if it is empty), and how many path elements it has.
 pub struct Place {
