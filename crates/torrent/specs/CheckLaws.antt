@@ -3,9 +3,12 @@
 use mathlib.Core.Path.{_≡_, refl, sym, ap, _∙_}
 use mathlib.Core.Bool.{Bool, true, false, cond}
 use mathlib.Core.List.{List}
-use Prim.Native.Nat.{ℕ, _+_, _≤_, _<_}
+use Prim.Native.Nat.{ℕ, zero, suc, _+_, _≤_, _<_}
 use native.Mathlib.Omega.{arith}
 use lib.ListN.{length, take, drop, getD}
+use lib.Dec.{eqb}
+use borrow.Author.Tests.{eqb-true, eqb-false, ne-eqb}
+use Rattle.numbers.specs.Numbers.{wrongTree}
 use Rattle.bencode.specs.Grammar.{maxLevels, encode, dictionary}
 use Rattle.bencode.specs.Parts.{isDictionary, findKey}
 use Rattle.bencode.specs.PartsLaws.{find-ends}
@@ -13,13 +16,16 @@ use Rattle.bencode.specs.StrictLaws.{taken-only}
 use Rattle.bencode.specs.declared.parts.Found.{Found}
 use Rattle.bencode.specs.declared.parts.Found.the-variants.{Part, Missing}
 use Rattle.roots.specs.Roots.{Ascending}
-use Rattle.metainfo.specs.Metainfo.{keyPieceLayers, dictionaryIn, keysOf, metainfoOf}
+use Rattle.metainfo.specs.Metainfo.{keyInfo, keyPieceLayers, dictionaryIn, keysOf, metainfoOf}
 use Rattle.metainfo.specs.MetainfoLaws.{Located, Right, metainfo-right}
 use Rattle.metainfo.specs.declared.Keys.{Keys}
+use Rattle.listing.specs.Listing.{Files, right, listed, filesIn, longs}
 use Rattle.layers.specs.Layers.{keysWide, layerKeys}
 use Rattle.layers.specs.KeysLaws.{keys-ascending}
 use Rattle.meaning.specs.Torrent.{layersOf}
 use Rattle.meaning.specs.KeysLaws.{KeysAt, keys-point}
+use Rattle.torrent.specs.Torrent.{filesNumber, treeNumber, judgedAs, judgedOf, unread, withJudged, checkedOf}
+use Rattle.torrent.specs.declared.check.Checked.{Checked}
 
 -- a dictionary that is found is one, and lies within the bytes
 pub dictionary-found : (s key : List ℕ) (at a b : ℕ) → dictionaryIn s (findKey key at (drop at s)) ≡ Part a b → (findKey key at (drop at s) ≡ Part a b) × (isDictionary (drop a s) ≡ true)
@@ -55,3 +61,57 @@ layers-open s e =
       within = omega arith;
       ascending = rw place at (keys-ascending s (keysOf s .layers) (layersOf (v .0)) (k .layersRest) (k .layers-bytes) 31 (omega arith) (k .layers-valid));
     }
+
+-- ---- a torrent that gets 0
+
+-- its tree is right, its counts are those of its files, its parts where its keys are
+pub record Whole (s : List ℕ) (c : Checked) : Type 0 where
+  pub keys-right : metainfoOf s .number ≡ 0
+  pub number-right : treeNumber s (c .plen) (c .layers) (filesIn s (c .tree)) ≡ 0
+  pub tree-right : right (filesIn s (c .tree)) ≡ true
+  pub all-files : c .files ≡ length (listed (filesIn s (c .tree)))
+  pub all-long : c .long ≡ longs (c .plen) (listed (filesIn s (c .tree)))
+  pub info-is : c .info ≡ metainfoOf s .info
+  pub past-is : c .past ≡ metainfoOf s .past
+  pub tree-is : c .tree ≡ metainfoOf s .tree
+  pub plen-is : c .plen ≡ metainfoOf s .plen
+  pub layers-is : c .layers ≡ metainfoOf s .layers
+
+-- only a right tree gets 0
+right-tree : (s : List ℕ) (plen layers : ℕ) (fs : Files) → treeNumber s plen layers fs ≡ 0 → right fs ≡ true
+unfolding treeNumber
+right-tree s plen layers fs e = by-right (right fs) e
+  where
+    by-right : (b : Bool) → cond b (filesNumber s plen layers (listed fs)) wrongTree ≡ 0 → b ≡ true
+    by-right true q = refl
+    by-right false q = let z : ⊥ = omega arith in absurd z
+
+pub checked-whole : (s : List ℕ) → checkedOf s .number ≡ 0 → Whole s (checkedOf s)
+unfolding checkedOf judgedOf
+checked-whole s e = by-keys (eqb (metainfoOf s .number) 0) refl e
+  where
+    by-number : (n : ℕ) → treeNumber s (metainfoOf s .plen) (metainfoOf s .layers) (filesIn s (metainfoOf s .tree)) ≡ n → metainfoOf s .number ≡ 0
+        → withJudged (metainfoOf s) (judgedAs n (length (listed (filesIn s (metainfoOf s .tree)))) (longs (metainfoOf s .plen) (listed (filesIn s (metainfoOf s .tree))))) .number ≡ 0
+        → Whole s (withJudged (metainfoOf s) (judgedAs n (length (listed (filesIn s (metainfoOf s .tree)))) (longs (metainfoOf s .plen) (listed (filesIn s (metainfoOf s .tree))))))
+    by-number zero q g f =
+        record { keys-right = g; number-right = q; tree-right = right-tree s (metainfoOf s .plen) (metainfoOf s .layers) (filesIn s (metainfoOf s .tree)) q; all-files = refl; all-long = refl; info-is = refl; past-is = refl; tree-is = refl; plen-is = refl; layers-is = refl }
+    by-number (suc n) q g f = let o : (suc n ≡ 0 → ⊥) = λ z. omega arith in let h : suc n ≡ 0 = simp (ne-eqb (suc n) 0 o) at f in absurd (o h)
+
+    by-keys : (b : Bool) → eqb (metainfoOf s .number) 0 ≡ b
+        → cond b (withJudged (metainfoOf s) (judgedAs (treeNumber s (metainfoOf s .plen) (metainfoOf s .layers) (filesIn s (metainfoOf s .tree))) (length (listed (filesIn s (metainfoOf s .tree)))) (longs (metainfoOf s .plen) (listed (filesIn s (metainfoOf s .tree)))))) (unread (metainfoOf s .number)) .number ≡ 0
+        → Whole s (cond b (withJudged (metainfoOf s) (judgedAs (treeNumber s (metainfoOf s .plen) (metainfoOf s .layers) (filesIn s (metainfoOf s .tree))) (length (listed (filesIn s (metainfoOf s .tree)))) (longs (metainfoOf s .plen) (listed (filesIn s (metainfoOf s .tree)))))) (unread (metainfoOf s .number)))
+    by-keys true q f = by-number (treeNumber s (metainfoOf s .plen) (metainfoOf s .layers) (filesIn s (metainfoOf s .tree))) refl (eqb-true (metainfoOf s .number) 0 q) f
+    by-keys false q f = absurd (eqb-false (metainfoOf s .number) 0 q f)
+
+pub checked-so : (s : List ℕ) (c : Checked) → c ≡ checkedOf s → c .number ≡ 0 → Whole s c
+checked-so s c e h = rw e (checked-whole s (ap (λ (z : Checked). z .number) (sym e) ∙ h))
+
+-- `info` lies within the torrent
+pub info-within : (s : List ℕ) (c : Checked) → Whole s c → (c .info ≤ c .past) × (c .past ≤ length s)
+info-within s c w =
+    let r = metainfo-right s (w .keys-right) in
+    let f = dictionary-found s keyInfo 0 (metainfoOf s .info) (metainfoOf s .past) (r .located .info-found) in
+    let p = find-ends keyInfo 0 s (metainfoOf s .info) (metainfoOf s .past) (f .0) in
+    let x = p .1 in
+    let y = p .2 in
+    rw (w .info-is, w .past-is) (omega arith, y)

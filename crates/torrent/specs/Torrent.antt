@@ -20,7 +20,7 @@ use Rattle.torrent.specs.declared.check.Checked.{Checked}
 use Rattle.torrent.specs.declared.one.Place.{Place}
 use Rattle.torrent.specs.declared.read.Torrent.{Torrent}
 use Rattle.torrent.specs.declared.read.FileRead.{FileRead}
-use Rattle.torrent.specs.declared.read.Piece.{Piece}
+use Rattle.torrent.specs.declared.read.PartRead.{PartRead}
 
 -- ---- 25 to 28, the lowest
 
@@ -106,20 +106,23 @@ fileRead s n = fileIn s n (checkedOf s)
 
 -- ---- element k of its path
 
-abbrev pub noPart : ℕ → Piece
+abbrev pub noPart : ℕ → PartRead
 noPart n = record { number = n; start = 0; size = 0 }
 
-abbrev pub elementAnswer : Listed → ℕ → Piece
-elementAnswer f k =
-    cond (ltb k (f .elements))
-    (record { number = 0; start = getD (f .path) (2 * k) 0; size = getD (f .path) (2 * k + 1) 0 - getD (f .path) (2 * k) 0 })
+unfoldable pub elementIn : List ℕ → ℕ → ℕ → PartRead
+elementIn path elements k =
+    cond (ltb k elements)
+    (record { number = 0; start = getD path (2 * k) 0; size = getD path (2 * k + 1) 0 - getD path (2 * k) 0 })
     (noPart noSuchFile)
 
-abbrev pub pathIn : List ℕ → ℕ → ℕ → Checked → Piece
+abbrev pub elementAnswer : Listed → ℕ → PartRead
+elementAnswer f k = elementIn (f .path) (f .elements) k
+
+abbrev pub pathIn : List ℕ → ℕ → ℕ → Checked → PartRead
 pathIn s n k c =
     cond (eqb (c .number) 0)
     (cond (ltb n (c .files)) (elementAnswer (fileNumber (listed (filesIn s (c .tree))) n) k) (noPart noSuchFile))
     (noPart (c .number))
 
-unfoldable pub pathRead : List ℕ → ℕ → ℕ → Piece
+unfoldable pub pathRead : List ℕ → ℕ → ℕ → PartRead
 pathRead s n k = pathIn s n k (checkedOf s)

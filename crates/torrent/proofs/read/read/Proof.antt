@@ -1,47 +1,34 @@
-use native.Mathlib.Omega.{arith}
-use Prim.Native.Nat.{ℕ, _+_, _-_, _*_, _≤_, _<_, _/_, _%_, _^_}
-use lib.ListN.{length, getD, set, take, drop}
-use mathlib.Core.Path.{_≡_, refl, ap, sym, _∙_}
+use Rattle.torrent.proofs.Answering.{read-refused, read-done}
+use Rattle.torrent.specs.CheckLaws.{checked-so, info-within}
+use Prim.Native.Nat.{_-_}
+use mathlib.Core.Path.{_∙_}
 use borrow.Author.Needs.{needs}
 use Rattle.torrent.proofs.read.read.Statement.{statement}
 use Rattle.torrent.proofs.read.read.Tie as tie
-use Rattle.torrent.proofs.read.read.Reads as reads
-use Rattle.torrent.proofs.read.read.Lts as lts
-use Rattle.sha256.proofs.hash.Reads as hash-reads
-use Rattle.torrent.proofs.check.check.Reads as check-reads
-use Rattle.torrent.proofs.read.no_torrent.Reads as no-torrent-reads
 
--- src/read.rt:73:9
 check-requires : tie.Need-check-requires
 check-requires c κs = search needs
 
--- src/read.rt:78:33
 sub-hash : tie.Need-sub-hash
-sub-hash c = ?
+sub-hash c = info-within _ _ (checked-so _ _ (c .before .check .ensures) (c .if1 .taken)) .0
 
--- src/read.rt:78:33
 part-hash-start : tie.Need-part-hash-start
-part-hash-start c = ?
+part-hash-start c = info-within _ _ (checked-so _ _ (c .before .check .ensures) (c .if1 .taken)) .0
 
--- src/read.rt:78:33
 part-hash-end : tie.Need-part-hash-end
-part-hash-end c = ?
+part-hash-end c = info-within _ _ (checked-so _ _ (c .before .check .ensures) (c .if1 .taken)) .1
 
--- src/read.rt:78:13
 hash-requires : tie.Need-hash-requires
 hash-requires c κs = search needs
 
--- src/read.rt:79:9
 returns : tie.Need-returns
-returns c = ?
+returns c = read-done _ _ (c .before .before .before .check .ensures) (c .before .before .if1 .taken) _ (c .hash .ensures)
 
--- src/read.rt:86:5
 no-torrent-requires : tie.Need-no-torrent-requires
 no-torrent-requires c κs = search needs
 
--- src/read.rt:70:1
 returns-2 : tie.Need-returns-2
-returns-2 c = ?
+returns-2 c = c .no-torrent .ensures ∙ read-refused _ _ (c .before .before .check .ensures) (c .before .if1 .left)
 
 pub read-spec : {M : Type 1} → statement M
 read-spec =

@@ -1,89 +1,40 @@
-use native.Mathlib.Omega.{arith}
-use Prim.Native.Nat.{ℕ, _+_, _-_, _*_, _≤_, _<_, _/_, _%_, _^_}
-use lib.ListN.{length, getD, set, take, drop}
-use mathlib.Core.Path.{_≡_, refl, ap, sym, _∙_}
+use Rattle.torrent.proofs.Answering.{file-refused, file-past, file-done}
+use Rattle.torrent.specs.CheckLaws.{checked-so}
+use Prim.Native.Nat.{_-_}
+use mathlib.Core.Path.{_∙_}
 use borrow.Author.Needs.{needs}
 use Rattle.torrent.proofs.read.read_file.Statement.{statement}
 use Rattle.torrent.proofs.read.read_file.Tie as tie
-use Rattle.torrent.proofs.read.read_file.Reads as reads
-use Rattle.torrent.proofs.read.read_file.Lts as lts
-use Rattle.torrent.proofs.check.check.Reads as check-reads
-use Rattle.torrent.proofs.one.find_file.Reads as find-file-reads
-use Rattle.torrent.proofs.one.layer_of.Reads as layer-of-reads
-use Rattle.torrent.proofs.one.root_of.Reads as root-of-reads
-use Rattle.torrent.proofs.read.no_file.Reads as no-file-reads
 
--- src/read.rt:93:9
 check-requires : tie.Need-check-requires
 check-requires c κs = search needs
 
--- src/read.rt:102:43
-slice-aggregate-find-file : tie.Need-slice-aggregate-find-file
-slice-aggregate-find-file c = search needs
+one-file-requires : tie.Need-one-file-requires
+one-file-requires c κs = let w = checked-so _ _ (c .before .before .check .ensures) (c .before .if1 .taken) in (w .tree-right, rw (w .all-files) at (c .if2 .taken))
 
--- src/read.rt:102:17
-find-file-requires : tie.Need-find-file-requires
-find-file-requires c κs = ?
-
--- src/read.rt:105:17
-root-of-requires : tie.Need-root-of-requires
-root-of-requires c κs = ?
-
--- src/read.rt:106:19
-layer-of-requires : tie.Need-layer-of-requires
-layer-of-requires c κs = ?
-
--- src/read.rt:108:21
-enum-told : tie.Need-enum-told
-enum-told c = search needs
-
--- src/read.rt:108:21
 returns : tie.Need-returns
-returns c = ?
+returns c = c .one-file .ensures ∙ file-done _ _ (c .before .before .before .check .ensures) (c .before .before .if1 .taken) _ (c .before .if2 .taken)
 
--- src/read.rt:117:39
-enum-known-start : tie.Need-enum-known-start
-enum-known-start c = search needs
-
--- src/read.rt:124:31
-sub-t21 : tie.Need-sub-t21
-sub-t21 c = ?
-
--- src/read.rt:118:21
-returns-2 : tie.Need-returns-2
-returns-2 c = ?
-
--- src/read.rt:129:9
 no-file-requires : tie.Need-no-file-requires
 no-file-requires c κs = search needs
 
--- src/read.rt:129:9
-returns-3 : tie.Need-returns-3
-returns-3 c = ?
+returns-2 : tie.Need-returns-2
+returns-2 c = c .no-file .ensures ∙ file-past _ _ (c .before .before .before .check .ensures) (c .before .before .if1 .taken) _ (c .before .if2 .left)
 
--- src/read.rt:131:5
 no-file-requires-2 : tie.Need-no-file-requires-2
 no-file-requires-2 c κs = search needs
 
--- src/read.rt:90:1
-returns-4 : tie.Need-returns-4
-returns-4 c = ?
+returns-3 : tie.Need-returns-3
+returns-3 c = c .no-file2 .ensures ∙ file-refused _ _ (c .before .before .check .ensures) _ (c .before .if1 .left)
 
 pub read-file-spec : {M : Type 1} → statement M
 read-file-spec =
     tie.close
     (tie.spec
     check-requires
-    slice-aggregate-find-file
-    find-file-requires
-    root-of-requires
-    layer-of-requires
-    enum-told
+    one-file-requires
     returns
-    enum-known-start
-    sub-t21
-    returns-2
     no-file-requires
-    returns-3
+    returns-2
     no-file-requires-2
-    returns-4)
+    returns-3)
