@@ -161,11 +161,11 @@ fn a_torrent() {
     }
     let bytes = include_bytes!("../../tests/real/several.torrent");
     let torrent = Torrent::read(bytes).done().unwrap();
-    assert_eq!((torrent.piece_length, torrent.files), (32768, 5));
+    assert_eq!((torrent.piece_length, torrent.files), (32768, 6));
     let voltage = torrent.file(0).done().unwrap();
     assert_eq!((voltage.length, voltage.elements, voltage.layer.len()), (100_000, 3, 4 * 32));
     assert_eq!(torrent.path(0, 2), Answer::Done(&b"voltage"[..]));
     assert_eq!(torrent.path(0, 3), Answer::NoSuchFile);
-    assert_eq!(torrent.file(5), Answer::NoSuchFile);
+    assert_eq!(torrent.file(6), Answer::NoSuchFile);
     assert_eq!(Torrent::read(&bytes[1..]), Answer::NotStrict);
 }

@@ -1,9 +1,10 @@
 //! Torrents, good ones and ones with something wrong: in their values, or in their bytes.
 
-use crate::call::{Call, Entry};
+use crate::call::{Call, Entry, Given};
 use crate::compare::Comparison;
 use crate::random::Random;
 use reference::pieces::over_piece_layer;
+use reference::torrent::RECORD;
 use reference::tree::Facts;
 use std::collections::BTreeMap;
 
@@ -161,6 +162,19 @@ pub fn good(random: &mut Random) -> Value {
     dictionary(outer)
 }
 
+/// A good torrent of a few hundred bytes that has a layer, an empty file and a folder.
+pub fn small(random: &mut Random) -> Vec<u8> {
+    loop {
+        let torrent = good(random).encoded();
+        let files = reference::torrent::contents(&torrent).map_or(Vec::new(), |all| all.files);
+        let has_layer = files.iter().any(|file| !file.layer.is_empty());
+        let has_empty = files.iter().any(|file| file.length == 0);
+        if torrent.len() < 700 && has_layer && has_empty && files.iter().any(|file| file.path.len() > 1) {
+            return torrent;
+        }
+    }
+}
+
 const INTEGERS: [&str; 20] = [
     "0", "1", "2", "3", "-1", "-0", "", "-", "00", "02", "16383", "16384", "33554432", "1073741824", "1073741825",
     "9223372036854775807", "9223372036854775808", "-9223372036854775808", "-9223372036854775809",
@@ -270,29 +284,70 @@ pub fn any(random: &mut Random) -> Vec<u8> {
     bytes
 }
 
-/// Torrents, as long as wanted, each asked as a whole, for a file and for a path element.
-pub fn run(random: &mut Random, compared: &mut Comparison, mut go_on: impl FnMut(&Comparison) -> bool) {
-    while go_on(compared) {
-        let torrent = any(random);
-        compared.ask(&Call::new(Entry::TorrentRead).input(torrent.clone()));
-        let file = random.pick(&[0, 0, 1, 2, 3, 99, u64::MAX]);
-        compared.ask(&Call::new(Entry::TorrentFile).input(torrent.clone()).numbers(file, 0));
-        let element = random.pick(&[0, 0, 0, 1, 2, 99, u64::MAX]);
-        compared.ask(&Call::new(Entry::TorrentPath).input(torrent).numbers(file, element));
+/// Numbers to ask for: all below `count` or, of many, some; then two that are past them.
+fn some(count: u64) -> impl Iterator<Item = u64> {
+    let below = if count <= 12 { (0..count).collect() } else { vec![0, 1, count / 2, count - 1] };
+    below.into_iter().chain([count, u64::MAX])
+}
+
+/// Everything that can be asked about a torrent: as a whole, its files, their path elements, and the list in just the room, in
+/// more, in a byte less and in none.
+pub fn ask_all(torrent: &[u8], compared: &mut Comparison) {
+    let about = |entry| Call::new(entry).input(torrent.to_vec());
+    let Given::Torrent(whole) = compared.ask(&about(Entry::TorrentRead)).given else { unreachable!() };
+    for file in some(whole.files) {
+        let Given::File(found) = compared.ask(&about(Entry::TorrentFile).numbers(file, 0)).given else {
+            unreachable!()
+        };
+        for element in some(found.elements) {
+            compared.ask(&about(Entry::TorrentPath).numbers(file, element));
+        }
+    }
+    let size = whole.files as usize * RECORD;
+    for room in [size, size + 9, size.saturating_sub(1), 0] {
+        compared.ask(&about(Entry::TorrentList).out(vec![0xaa; room]));
     }
 }
 
-/// One small torrent with each of its bytes changed in turn, taken out, and with one put before it.
-pub fn run_through_every_byte(random: &mut Random, compared: &mut Comparison) {
-    let torrent = good(random).encoded();
+/// The same of a torrent that is likely to be refused: one call of each entry point then.
+fn ask_some(torrent: &[u8], compared: &mut Comparison) {
+    if reference::torrent::contents(torrent).is_ok() {
+        return ask_all(torrent, compared);
+    }
+    for entry in [Entry::TorrentRead, Entry::TorrentFile, Entry::TorrentPath, Entry::TorrentList] {
+        compared.ask(&Call::new(entry).input(torrent.to_vec()).out(vec![0xaa; RECORD]));
+    }
+}
+
+/// Torrents, as long as wanted.
+pub fn run(random: &mut Random, compared: &mut Comparison, mut go_on: impl FnMut(&Comparison) -> bool) {
+    while go_on(compared) {
+        ask_some(&any(random), compared);
+    }
+}
+
+/// What each byte is changed to: bytes that mean something in bencoding, and some that don't.
+const OTHERS: &[u8] = b"dlie01239:-\0 \x7f\x80\xff";
+
+/// A torrent with each of its bytes changed in turn to each of `OTHERS` and in each bit, taken out, and with one put before it.
+pub fn run_through_every_byte(torrent: &[u8], compared: &mut Comparison) {
     for at in 0..torrent.len() {
-        let mut changed = vec![torrent.clone(); 4];
-        changed[0][at] ^= 1;
-        changed[1][at] = random.pick(b"dlie0123456789:-");
-        changed[2].remove(at);
-        changed[3].insert(at, random.pick(b"dlie0123456789:-"));
-        for torrent in changed {
-            compared.ask(&Call::new(Entry::TorrentRead).input(torrent));
+        let flipped = (0..8).map(|bit| torrent[at] ^ 1 << bit);
+        let mut values: Vec<u8> = OTHERS.iter().copied().chain(flipped).filter(|byte| *byte != torrent[at]).collect();
+        values.sort();
+        values.dedup();
+        let (before, behind) = torrent.split_at(at);
+        for value in values {
+            ask_some(&[before, &[value], &behind[1..]].concat(), compared);
         }
+        ask_some(&[before, &behind[1..]].concat(), compared);
+        ask_some(&[before, &OTHERS[at % OTHERS.len()..][..1], behind].concat(), compared);
+    }
+}
+
+/// A torrent cut at each of its bytes.
+pub fn run_through_every_cut(torrent: &[u8], compared: &mut Comparison) {
+    for size in 0..torrent.len() {
+        ask_some(&torrent[..size], compared);
     }
 }
