@@ -14,8 +14,11 @@ pub struct Shape {
     pub number: u32,
 }
 
+/// The name of the ordinary one.
+pub const ORDINARY: &str = "10000-files";
+
 pub const ALL: [Shape; 11] = [
-    shape("10000-files", ten_thousand_files, DONE),
+    shape(ORDINARY, ten_thousand_files, DONE),
     shape("many-files", || files(1, random_root), DONE),
     shape("empty-files", empty_files, DONE),
     shape("like-roots", || files(1, like_root), DONE),
@@ -201,7 +204,7 @@ mod tests {
                 torrent.len(),
                 read.map_or(0, |all| all.files.len())
             );
-            let least = if shape.name == "10000-files" { 770_000 } else { LARGEST - 500 };
+            let least = if shape.name == ORDINARY { 770_000 } else { LARGEST - 500 };
             assert!((least..=LARGEST).contains(&torrent.len()), "{}", shape.name);
         }
     }
