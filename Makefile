@@ -5,7 +5,7 @@
 
 run:
 	rt check replay vectors worked
-	@cat target/log/replay.stdout target/log/vectors.stdout target/log/worked.stdout
+	@for program in replay vectors worked; do echo "-- $$program"; cat target/log/$$program.stdout; done
 
 test:
 	bash .ci/run
