@@ -110,6 +110,13 @@ impl Maker<'_> {
         dictionary(entries)
     }
 
+    /// A folder of many files, at some level.
+    fn folder_of_many(&mut self, levels: u64) -> Value {
+        let name = |number: u64| (number as u16).to_be_bytes().to_vec();
+        let files = (0..self.random.between(10, 300)).map(|number| (name(number), self.file())).collect();
+        (0..levels).fold(dictionary(files), |below, _| Dictionary(vec![(b"a".to_vec(), below)]))
+    }
+
     fn file(&mut self) -> Value {
         let mut properties = BTreeMap::new();
         let length = match self.random.below(10) {
@@ -132,7 +139,12 @@ impl Maker<'_> {
     fn root(&mut self, length: u64) -> Vec<u8> {
         let facts = Facts { length, piece_length: self.piece_length, root: [0; 32] };
         if !facts.has_piece_layer() {
-            return if self.random.percent(3) { vec![0; 32] } else { self.random.bytes(32) };
+            return match self.random.below(20) {
+                0 => vec![0; 32],
+                // Some that differ in their last bytes only.
+                1..=5 => [vec![0xee; 29], self.random.bytes(3)].concat(),
+                _ => self.random.bytes(32),
+            };
         }
         let layer = self.random.bytes(32 * facts.pieces() as usize);
         let root = over_piece_layer(&facts, &layer).last().unwrap().1.to_vec();
@@ -146,7 +158,7 @@ pub fn good(random: &mut Random) -> Value {
     let piece_length = random.pick(&[16384, 32768, 65536, 1 << 24]);
     let mut maker = Maker { random, piece_length, layers: BTreeMap::new() };
     let levels = maker.random.below(4);
-    let tree = maker.directory(levels);
+    let tree = if maker.random.percent(5) { maker.folder_of_many(levels) } else { maker.directory(levels) };
     let layers = dictionary(maker.layers);
     let info = BTreeMap::from([
         (b"file tree".to_vec(), tree),
@@ -175,10 +187,11 @@ pub fn small(random: &mut Random) -> Vec<u8> {
     }
 }
 
-const INTEGERS: [&str; 20] = [
+/// Among them some that are in range if they are cut to 32 or 64 bits.
+const INTEGERS: [&str; 24] = [
     "0", "1", "2", "3", "-1", "-0", "", "-", "00", "02", "16383", "16384", "33554432", "1073741824", "1073741825",
     "9223372036854775807", "9223372036854775808", "-9223372036854775808", "-9223372036854775809",
-    "99999999999999999999999999",
+    "99999999999999999999999999", "4294967298", "18446744073709551618", "4294983680", "18446744073709568000",
 ];
 
 /// Changes one value somewhere.
@@ -256,14 +269,31 @@ fn share_a_string(torrent: &mut Value, random: &mut Random) {
 /// Changes the bytes themselves.
 fn change_bytes(bytes: &mut Vec<u8>, random: &mut Random) {
     let at = random.below(bytes.len() as u64) as usize;
-    match random.below(6) {
+    match random.below(8) {
         0 => bytes[at] ^= 1 << random.below(8),
         1 => bytes[at] = random.pick(b"dlie0123456789:-"),
         2 => drop(bytes.remove(at)),
         3 => bytes.insert(at, random.pick(b"dlie0123456789:-")),
         4 => bytes.truncate(at),
+        5..=6 => change_prefix(bytes, random),
         _ => bytes.extend_from_slice(random.pick(&[&b"e"[..], b"de", b"\0", b"99999999999999999999:"])),
     }
+}
+
+/// Changes a string's length prefix: by one, with a zero before it, or to one that is the same if it is cut to 32 or 64 bits.
+fn change_prefix(bytes: &mut Vec<u8>, random: &mut Random) {
+    let ends = |at: &usize| bytes[*at] == b':' && bytes[at - 1].is_ascii_digit();
+    let ends: Vec<usize> = (1..bytes.len()).filter(ends).collect();
+    if ends.is_empty() {
+        return;
+    }
+    let end = random.pick(&ends);
+    let start = bytes[..end].iter().rposition(|byte| !byte.is_ascii_digit()).map_or(0, |before| before + 1);
+    let Ok(size) = String::from_utf8_lossy(&bytes[start..end]).parse::<u64>() else { return };
+    let size = u128::from(size);
+    let others = [size + 1, size.saturating_sub(1), size + (1 << 32), size + (1 << 64)].map(|other| other.to_string());
+    let changed = if random.percent(20) { format!("0{size}") } else { random.pick(&others) };
+    bytes.splice(start..end, changed.into_bytes());
 }
 
 /// The bytes of a torrent, good or with something wrong.
