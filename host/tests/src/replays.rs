@@ -3,6 +3,7 @@
 use crate::random::Random;
 use crate::truth::{self, Truth};
 use reference::messages::{Header, HASHES, HEAD};
+use std::ffi::OsStr;
 use std::os::fd::OwnedFd;
 use std::os::unix::net::UnixDatagram;
 use std::path::{Path, PathBuf};
@@ -99,11 +100,9 @@ pub fn program() -> Option<PathBuf> {
 /// Starts the program, under the emulator that KD_RUN names if there is one.
 fn start(program: &Path, input: Stdio) -> Child {
     let emulator = env::var("KD_RUN").unwrap_or_default();
-    let mut command = if emulator.is_empty() { Command::new(program) } else { Command::new(emulator) };
-    if command.get_program() != program {
-        command.arg(program);
-    }
-    command.stdin(input).stdout(Stdio::piped()).spawn().expect("the replay program starts")
+    let mut words = emulator.split_whitespace().map(OsStr::new).chain([program.as_os_str()]);
+    let mut command = Command::new(words.next().expect("at least the program"));
+    command.args(words).stdin(input).stdout(Stdio::piped()).spawn().expect("the replay program starts")
 }
 
 fn printed(child: Child) -> String {
