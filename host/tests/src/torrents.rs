@@ -339,7 +339,7 @@ pub fn ask_all(torrent: &[u8], compared: &mut Comparison) {
     }
 }
 
-/// The same of a torrent that is likely to be refused: one call of each entry point then.
+/// The same of a torrent that is likely to be refused: one call of each entry point then, and the list without room.
 fn ask_some(torrent: &[u8], compared: &mut Comparison) {
     if reference::torrent::contents(torrent).is_ok() {
         return ask_all(torrent, compared);
@@ -347,6 +347,7 @@ fn ask_some(torrent: &[u8], compared: &mut Comparison) {
     for entry in [Entry::TorrentRead, Entry::TorrentFile, Entry::TorrentPath, Entry::TorrentList] {
         compared.ask(&Call::new(entry).input(torrent.to_vec()).out(vec![0xaa; RECORD]));
     }
+    compared.ask(&Call::new(Entry::TorrentList).input(torrent.to_vec()));
 }
 
 /// One call of each entry point, about the last file, on a torrent so large that every call takes its time.
