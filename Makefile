@@ -1,10 +1,11 @@
 # run: what the proved programs print. test: the gate. lib: the library for hosts. bench: speed against plain Rust.
-# interop: with a real client, libtorrent, on loopback. soak: generated calls compared with the second implementation, for long.
-.PHONY: run test lib bench interop soak
+# interop: with a real client, libtorrent, on loopback. torrents: read those that libtorrent makes.
+# soak: generated calls compared with the second implementation, for long.
+.PHONY: run test lib bench interop torrents soak
 
 run:
 	rt check replay vectors worked
-	@cat target/log/replay.stdout target/log/vectors.stdout target/log/worked.stdout
+	@for program in replay vectors worked; do echo "-- $$program"; cat target/log/$$program.stdout; done
 
 test:
 	bash .ci/run
@@ -18,6 +19,9 @@ bench: lib
 
 interop: lib
 	host/interop
+
+torrents: lib
+	host/torrents
 
 soak: lib
 	host/soak

@@ -13,15 +13,10 @@ trap 'rm -rf "$work"' EXIT
 cargo build --quiet --release -p bench
 bench="${CARGO_TARGET_DIR:-target}/${CARGO_BUILD_TARGET:-}/release/bench"
 
-# The instructions of a run of the benchmark with these arguments. The emulator logs each block of code once with its
-# instructions, and one line each time it is entered.
+# The instructions of a run of the benchmark with these arguments, counted by a plugin of the emulator.
 instructions() {
-    $KD_RUN -d in_asm,exec,nochain -D /dev/fd/3 "$bench" "$@" 3>&1 > /dev/null | awk '
-        /^IN:/ { size = 0 }
-        /^0x/ { if (size++ == 0) start = sprintf("%16s", substr($1, 3, length($1) - 3)); gsub(" ", "0", start)
-                sizes[start] = size }
-        /^Trace/ { split($0, part, "/"); total += sizes[part[2]] }
-        END { print total }'
+    $KD_RUN -plugin "file=$work/count.so,out=$work/count" "$bench" "$@" > /dev/null
+    cat "$work/count"
 }
 
 # For each version of a job what it costs beyond getting ready, with the ratio to the first and the ratio asked for.
@@ -33,7 +28,7 @@ counted() {
         count=$(($(instructions "$job" "$version") - ready))
         plain=${plain:-$count}
         awk -v job="$job" -v version="$version" -v count=$count -v plain="$plain" -v asked="$asked" 'BEGIN {
-            printf "%-12s %-14s %12d %16.2f %7s\n", job, version, count, count / plain,
+            printf "%-18s %-16s %12d %16.2f %7s\n", job, version, count, count / plain,
                 version ~ /^kd_/ && asked != "-" ? asked : "" }'
     done
 }
@@ -47,7 +42,7 @@ openssl_speed() {
 # One row for OpenSSL. The ratio, on an x86-64 only, is to plain Rust's MB/s on 16 KiB in the table above.
 openssl_row() {
     awk -v name="$1" -v speed="$(openssl_speed "$2")" -v plain="$3" 'BEGIN {
-        printf "%-12s %-14s %12.0f %8.0f %7s\n", "sha-16KiB", name, 16384 / speed * 1e9, speed / 1e6,
+        printf "%-18s %-16s %12.0f %8.0f %7s\n", "sha-16KiB", name, 16384 / speed * 1e9, speed / 1e6,
             plain == "" ? "" : sprintf("%.2f", plain / (speed / 1e6)) }'
 }
 
@@ -69,12 +64,13 @@ lscpu | awk -F': *' '/^Model name/ && !seen++ { print $2 }'
 echo "library $KD_LIB"
 "${RUSTC:-rustc}" --version
 [ -n "$KD_RUN" ] && echo "Times UNDER THE EMULATOR on $(uname -m): they say nothing about an x86-64"
-printf '%-12s %-14s %12s %8s %7s %7s\n' job version ns MB/s ratio asked
+printf '%-18s %-16s %12s %8s %7s %7s\n' job version ns MB/s ratio asked
 $KD_RUN "$bench" | tee "$work/times"
 if command -v openssl > /dev/null; then openssl_rows; fi
 if [ -n "$KD_RUN" ]; then
     echo 'x86-64 instructions, counted by the emulator: they do not depend on the machine'
-    printf '%-12s %-14s %12s %16s %7s\n' job version instructions ratio asked
+    gcc -shared -fPIC -O2 -Wall -Wextra -Werror bench/count.c -o "$work/count.so"
+    printf '%-18s %-16s %12s %16s %7s\n' job version instructions ratio asked
     # shellcheck disable=SC2086
     $KD_RUN "$bench" jobs | while read -r line; do counted $line; done
 fi

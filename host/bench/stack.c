@@ -13,7 +13,7 @@
 #include <string.h>
 #include <ucontext.h>
 
-enum { STACK = 1 << 20, PAINT = 0xa5 };
+enum { STACK = 1 << 22, PAINT = 0xa5 };
 enum { BLOCK = 16384, HEIGHT = 16, BLOCKS = 1 << HEIGHT, LARGEST_PIECE = 1 << 24 };
 enum { RUN = 512, UNCLES = 7, PROOF = 15, HEAD = 49, REPLY = HEAD + 32 * (RUN + UNCLES) };
 enum { REQUEST = 21, HASHES = 22, REJECT = 23 };
@@ -49,14 +49,20 @@ static void load_layer(void) { number = kd_load_layer(store, size, layer[0].byte
 
 #ifdef HAS_kd_torrent_path
 
+static void show(const char *name, void (*function)(void));
+
 /* A torrent of the same file, its path as deep as it may be, with the longest layer that 1 MiB has room for. */
-enum { ELEMENTS = 28, LAYER = 2, PIECES = BLOCKS >> LAYER };
+enum { ELEMENTS = 28, LAYER = 2, PIECES = BLOCKS >> LAYER, FILES = 14000 };
 static uint8_t torrent[1 << 20];
 static size_t torrent_size;
 
 static void torrent_read(void) { number = kd_torrent_read(torrent, torrent_size).number; }
 static void torrent_file(void) { number = kd_torrent_file(torrent, torrent_size, 0).number; }
 static void torrent_path(void) { number = kd_torrent_path(torrent, torrent_size, 0, ELEMENTS - 1).number; }
+#ifdef HAS_kd_torrent_list
+static uint8_t list[FILES * 280];
+static void torrent_list(void) { number = kd_torrent_list(torrent, torrent_size, list, sizeof list).number; }
+#endif
 
 static void add(const void *bytes, size_t count)
 {
@@ -81,6 +87,39 @@ static void make_torrent(void)
     for (int i = 0; i < PIECES; i++)
         add(&at_layer[LAYER], 32);
     add_text("ee");
+}
+
+/* A torrent with many files that have a root, in one folder at the deepest level; the roots come in descending order. */
+static void make_torrent_of_many(void)
+{
+    torrent_size = 0;
+    add_text("d4:infod9:file treed");
+    for (int i = 1; i < ELEMENTS; i++)
+        add_text("1:ad");
+    for (int i = 0; i < FILES; i++) {
+        uint8_t name[2] = { (uint8_t)(i >> 8), (uint8_t)i };
+        kd_hash root = { { (uint8_t)(0xff - name[0]), (uint8_t)(0xff - name[1]) } };
+        add_text("2:");
+        add(name, 2);
+        add_text("d0:d6:lengthi1e11:pieces root32:");
+        add(&root, 32);
+        add_text("ee");
+    }
+    for (int i = 0; i < ELEMENTS; i++)
+        add_text("e");
+    add_text("12:meta versioni2e12:piece lengthi65536ee12:piece layersdee");
+}
+
+/* The entry points on the torrent that has been made. */
+static void show_torrent(const char *what)
+{
+    printf("on a torrent %s:\n", what);
+    show("kd_torrent_read", torrent_read);
+    show("kd_torrent_file", torrent_file);
+    show("kd_torrent_path", torrent_path);
+#ifdef HAS_kd_torrent_list
+    show("kd_torrent_list", torrent_list);
+#endif
 }
 
 #endif
@@ -176,9 +215,9 @@ int main(void)
     show("kd_load_layer", load_layer);
 #ifdef HAS_kd_torrent_path
     make_torrent();
-    show("kd_torrent_read", torrent_read);
-    show("kd_torrent_file", torrent_file);
-    show("kd_torrent_path", torrent_path);
+    show_torrent("of one file with a long layer");
+    make_torrent_of_many();
+    show_torrent("of 14,000 files");
 #endif
     free(store);
     return 0;

@@ -333,6 +333,43 @@ static size_t add(uint8_t *torrent, size_t at, const void *bytes, size_t size)
     return at + size;
 }
 
+#ifdef HAS_kd_torrent_list
+
+/* The number in some bytes, big-endian. */
+static uint64_t number_at(const uint8_t *bytes, size_t size)
+{
+    uint64_t number = 0;
+    for (size_t i = 0; i < size; i++)
+        number = number << 8 | bytes[i];
+    return number;
+}
+
+/* The list of this torrent, whose one file is known: every byte of its record. */
+static void list(const uint8_t *torrent, size_t size, const kd_file *one)
+{
+    enum { RECORD = 280, ELEMENTS = 28 };
+    uint8_t room[RECORD + 1];
+    memset(room, 0xaa, sizeof room);
+    answers("a list without room", kd_torrent_list(torrent, size, room, RECORD - 1), 11, 0);
+    answers("a list into NULL", kd_torrent_list(torrent, size, NULL, 0), 11, 0);
+    answers("a list of a torrent cut short", kd_torrent_list(torrent, size - 1, room, sizeof room), 20, 0);
+    check("a refused list writes nothing", all_are(room, sizeof room, 0xaa));
+    answers("kd_torrent_list", kd_torrent_list(torrent, size, room, sizeof room), 0, RECORD);
+    check("the byte behind a list stays", room[RECORD] == 0xaa);
+    uint8_t *end = guarded(room, RECORD);
+    answers("guarded kd_torrent_list", kd_torrent_list(torrent, size, end, RECORD), 0, RECORD);
+    check("length and root", number_at(end, 8) == one->length && memcmp(end + 8, &one->root, 32) == 0);
+    check("layer", number_at(end + 40, 4) == one->layer_start && number_at(end + 44, 4) == one->layer_size);
+    check("number of path elements", number_at(end + 48, 4) == one->elements && number_at(end + 52, 4) == 0);
+    for (uint64_t element = 0; element < ELEMENTS; element++) {
+        kd_part part = kd_torrent_path(torrent, size, 0, element);
+        const uint8_t *given = end + 56 + 8 * element;
+        check("path element", number_at(given, 4) == part.start && number_at(given + 4, 4) == part.size);
+    }
+}
+
+#endif
+
 static void torrents(void)
 {
     uint8_t torrent[400];
@@ -360,6 +397,9 @@ static void torrents(void)
     check("no second file", kd_torrent_file(lent, size, 1).number == 29);
     check("no third element", kd_torrent_path(lent, size, 0, 2).number == 29);
     check("a torrent cut short", kd_torrent_read(guarded(torrent, size - 1), size - 1).number == 20);
+#ifdef HAS_kd_torrent_list
+    list(lent, size, &one);
+#endif
 }
 
 #endif
@@ -419,6 +459,9 @@ int main(void)
 #endif
 #ifdef HAS_kd_torrent_path
     path_of_nothing();
+#endif
+#ifdef HAS_kd_torrent_list
+    answers("kd_torrent_list of NULL", kd_torrent_list(NULL, 0, NULL, 0), 20, 0);
 #endif
     printf("boundary.c: %u passed, %u failed\n", passed, failed);
     return failed != 0;

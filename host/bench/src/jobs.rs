@@ -1,14 +1,16 @@
 //! What is measured: each job by plain Rust, by careful Rust, and by the library. Plain Rust is first, and the others are
-//! compared with it. Getting a job ready checks that all versions do it alike.
+//! compared with it. Each run checks that its version gives what all of them have to.
 
 use crate::measure::{Prepared, Work};
 use crate::scene::{Scene, PIECE, PIECE_NUMBER, RUN, UNCLES};
 use crate::{careful, plain};
+use host_tests::shapes;
 use reference::sha256::{sha256, Hash};
+use reference::torrent::{contents, RECORD};
 use std::hint::black_box;
 
 pub struct Job {
-    pub name: &'static str,
+    pub name: String,
     pub entry_point: &'static str,
     /// The ratio to plain Rust that is asked of the library; empty if none is.
     pub asked: &'static str,
@@ -16,36 +18,65 @@ pub struct Job {
     pub bytes: usize,
     /// Instructions are counted of this job.
     pub is_counted: bool,
-    pub ready: fn() -> Vec<Box<dyn Work>>,
+    /// Careful Rust has a version of its own.
+    has_careful: bool,
+    pub ready: Box<dyn Fn() -> Vec<Box<dyn Work>>>,
 }
 
 const REPLY: usize = 49 + 32 * (RUN as usize + UNCLES);
 
-pub const ALL: [Job; 7] = [
-    job("sha-1MiB", "kd_sha256", "", 1 << 20, false, || hashing(1 << 20)),
-    job("sha-64KiB", "kd_sha256", "", 65536, true, || hashing(65536)),
-    job("sha-16KiB", "kd_sha256", "", 16384, false, || hashing(16384)),
-    job("take", "kd_take", "2.2", REPLY, true, taking),
-    job("take-again", "kd_take", "", REPLY, true, taking_again),
-    job("serve", "kd_serve", "1.5", REPLY, true, serving),
-    job("piece-1MiB", "kd_judge_piece", "1.0", PIECE as usize, true, judging),
-];
+/// The shapes whose list is measured too: the ordinary one, the one with the most files, the deepest.
+const LISTED: [&str; 3] = [shapes::ORDINARY, "empty-files", "28-elements"];
 
-const fn job(
+/// All jobs; those on torrents once the header declares them.
+pub fn all() -> Vec<Job> {
+    let mut jobs = vec![
+        job("sha-1MiB", "kd_sha256", "", 1 << 20, || hashing(1 << 20)).not_counted(),
+        job("sha-64KiB", "kd_sha256", "", 65536, || hashing(65536)),
+        job("sha-16KiB", "kd_sha256", "", 16384, || hashing(16384)).not_counted(),
+        job("take", "kd_take", "2.2", REPLY, taking),
+        job("take-again", "kd_take", "", REPLY, taking_again),
+        job("serve", "kd_serve", "1.5", REPLY, serving),
+        job("piece-1MiB", "kd_judge_piece", "1.0", PIECE as usize, judging),
+    ];
+    if boundary::is_declared("kd_torrent_read") {
+        jobs.extend(shapes::ALL.iter().map(|shape| on_torrent(shape, "kd_torrent_read", reading)));
+    }
+    if boundary::is_declared("kd_torrent_list") {
+        let listed = shapes::ALL.iter().filter(|shape| LISTED.contains(&shape.name));
+        jobs.extend(listed.map(|shape| on_torrent(shape, "kd_torrent_list", listing)));
+    }
+    jobs
+}
+
+fn job(
     name: &'static str,
     entry_point: &'static str,
     asked: &'static str,
     bytes: usize,
-    is_counted: bool,
-    ready: fn() -> Vec<Box<dyn Work>>,
+    ready: impl Fn() -> Vec<Box<dyn Work>> + 'static,
 ) -> Job {
-    Job { name, entry_point, asked, bytes, is_counted, ready }
+    let name = name.to_string();
+    Job { name, entry_point, asked, bytes, is_counted: true, has_careful: true, ready: Box::new(ready) }
+}
+
+/// A job on a torrent of one shape, asked for the ratio if it is the ordinary one.
+fn on_torrent(shape: &shapes::Shape, entry_point: &'static str, ready: fn(Vec<u8>, u32) -> Vec<Box<dyn Work>>) -> Job {
+    let (make, number) = (shape.make, shape.number);
+    let asked = if shape.name == shapes::ORDINARY { "3.0" } else { "" };
+    let job = job(shape.name, entry_point, asked, 1 << 20, move || ready(make(), number));
+    Job { name: format!("{}:{}", &entry_point["kd_torrent_".len()..], shape.name), has_careful: false, ..job }
 }
 
 impl Job {
+    fn not_counted(self) -> Job {
+        Job { is_counted: false, ..self }
+    }
+
     /// The names of the versions, in their order.
-    pub fn versions(&self) -> [&'static str; 3] {
-        ["plain-rust", "careful-rust", self.entry_point]
+    pub fn versions(&self) -> Vec<&'static str> {
+        let all = ["plain-rust", "careful-rust", self.entry_point];
+        all.into_iter().filter(|version| self.has_careful || *version != "careful-rust").collect()
     }
 }
 
@@ -196,4 +227,35 @@ fn judging() -> Vec<Box<dyn Work>> {
     let state = InLibrary::new(&scene, scene.told(), piece.clone());
     let in_library = work(state, |_| (), |state| assert_eq!(state.judge().number, 0));
     in_rust.into_iter().chain([in_library]).collect()
+}
+
+/// Reading a torrent as a whole. Plain Rust is host/reference's reader, which has all files then.
+fn reading(torrent: Vec<u8>, number: u32) -> Vec<Box<dyn Work>> {
+    let in_rust = work(
+        (torrent.clone(), number),
+        |_| (),
+        |(torrent, number)| {
+            assert_eq!(black_box(contents(black_box(torrent))).map_or_else(|number| number, |_| 0), *number)
+        },
+    );
+    let in_library = work(
+        (torrent, number),
+        |_| (),
+        |(torrent, number)| assert_eq!(black_box(boundary::torrent_read(black_box(torrent))).number, *number),
+    );
+    vec![in_rust, in_library]
+}
+
+/// All files with their paths: for plain Rust the same reading, for the library the list.
+fn listing(torrent: Vec<u8>, number: u32) -> Vec<Box<dyn Work>> {
+    let room = vec![0; contents(&torrent).map_or(0, |all| all.files.len() * RECORD)];
+    let in_rust = reading(torrent.clone(), number).swap_remove(0);
+    let in_library = work(
+        (torrent, room, number),
+        |_| (),
+        |(torrent, room, number)| {
+            assert_eq!(black_box(boundary::torrent_list(black_box(torrent), room)).number, *number)
+        },
+    );
+    vec![in_rust, in_library]
 }

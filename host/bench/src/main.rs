@@ -16,16 +16,16 @@ use jobs::Job;
 fn main() {
     let arguments: Vec<String> = std::env::args().skip(1).collect();
     match &arguments[..] {
-        [] => jobs::ALL.iter().for_each(table),
-        [word] if word == "jobs" => jobs::ALL.iter().filter(|job| job.is_counted).for_each(names),
+        [] => jobs::all().iter().for_each(table),
+        [word] if word == "jobs" => jobs::all().iter().filter(|job| job.is_counted).for_each(names),
         [name] => drop((find(name).ready)()),
-        [name, version] => once(find(name), version),
+        [name, version] => once(&find(name), version),
         _ => panic!("usage: bench [jobs | JOB [VERSION]]"),
     }
 }
 
-fn find(name: &str) -> &'static Job {
-    jobs::ALL.iter().find(|job| job.name == name).expect("a job's name")
+fn find(name: &str) -> Job {
+    jobs::all().into_iter().find(|job| job.name == name).expect("a job's name")
 }
 
 /// A job's name, the ratio asked or `-`, its versions.
@@ -48,6 +48,6 @@ fn table(job: &Job) {
         let is_ours = *version == job.entry_point;
         let asked = if is_ours { job.asked } else { "" };
         let ratio = time / best[0];
-        println!("{:<12} {version:<14} {time:>12.0} {speed:>8.0} {ratio:>7.2} {asked:>7}", job.name);
+        println!("{:<18} {version:<16} {time:>12.0} {speed:>8.0} {ratio:>7.2} {asked:>7}", job.name);
     }
 }

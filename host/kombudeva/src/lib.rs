@@ -27,7 +27,7 @@ mod torrent;
 
 pub use answer::Answer;
 pub use store::{store_size, Served, Store};
-pub use torrent::{File, Torrent};
+pub use torrent::{File, List, Listed, Torrent};
 
 /// A SHA-256: 32 bytes in the order in which the standard prints them.
 pub type Hash = [u8; 32];

@@ -1,4 +1,20 @@
 //! Reading a v2 torrent.
+//!
+//! ```no_run
+//! use kombudeva::{Answer, Torrent};
+//!
+//! let bytes = std::fs::read("cells.torrent").unwrap();
+//! match Torrent::read(&bytes) {
+//!     Answer::Done(torrent) => {
+//!         let mut memory = vec![0; torrent.list_size()];
+//!         for listed in torrent.list(&mut memory).done().expect("room for the list") {
+//!             let path: Vec<&[u8]> = listed.path().collect();
+//!             println!("{} bytes: {path:?}", listed.file.length);
+//!         }
+//!     }
+//!     refused => println!("{}", refused.words()),
+//! }
+//! ```
 
 use crate::{Answer, Hash};
 
@@ -24,6 +40,27 @@ pub struct File<'a> {
     pub layer: &'a [u8],
 }
 
+/// The bytes of a file's record in the list that the library writes.
+const RECORD: usize = 280;
+/// Where the parts of the path begin in a record.
+const PATH: usize = 56;
+
+/// Every file of a torrent in tree order, over the memory that the library wrote the list to.
+#[derive(Clone, Debug)]
+pub struct List<'a, 'm> {
+    torrent: &'a [u8],
+    records: std::slice::ChunksExact<'m, u8>,
+}
+
+/// One file of the list, with its path.
+#[derive(Clone, Copy, Debug, PartialEq, Eq)]
+pub struct Listed<'a, 'm> {
+    pub file: File<'a>,
+    torrent: &'a [u8],
+    /// Start and size of each path element.
+    parts: &'m [u8],
+}
+
 impl<'a> Torrent<'a> {
     /// Reads a whole torrent. Refused by the numbers 19 to 28.
     pub fn read(bytes: &'a [u8]) -> Answer<Torrent<'a>> {
@@ -31,7 +68,7 @@ impl<'a> Torrent<'a> {
         Answer::of(number, Torrent { bytes, info_hash: info_hash.bytes, piece_length, files })
     }
 
-    /// A file by its number in tree order.
+    /// A file by its number in tree order. Each call checks the whole torrent anew; [`Torrent::list`] has all files in one pass.
     pub fn file(&self, file: u64) -> Answer<File<'a>> {
         let given = boundary::torrent_file(self.bytes, file);
         let layer = self.part(given.layer_start, given.layer_size);
@@ -44,8 +81,73 @@ impl<'a> Torrent<'a> {
         Answer::of(given.number, self.part(given.start, given.size))
     }
 
+    /// The bytes of memory that [`Torrent::list`] needs.
+    pub fn list_size(&self) -> usize {
+        self.files as usize * RECORD
+    }
+
+    /// All files with their paths in one pass, into lent memory. Refused with 11 if that is too small.
+    pub fn list<'m>(&self, memory: &'m mut [u8]) -> Answer<List<'a, 'm>> {
+        let given = boundary::torrent_list(self.bytes, memory);
+        let records = memory[..given.count as usize].chunks_exact(RECORD);
+        Answer::of(given.number, List { torrent: self.bytes, records })
+    }
+
     /// A part of the torrent's bytes; beside a refusal it is empty.
     fn part(&self, start: u64, size: u64) -> &'a [u8] {
-        &self.bytes[start as usize..][..size as usize]
+        part_of(self.bytes, start, size)
+    }
+}
+
+fn part_of(torrent: &[u8], start: u64, size: u64) -> &[u8] {
+    &torrent[start as usize..][..size as usize]
+}
+
+/// The number in some bytes, big-endian.
+fn number(bytes: &[u8]) -> u64 {
+    bytes.iter().fold(0, |number, byte| number << 8 | u64::from(*byte))
+}
+
+impl<'a, 'm> List<'a, 'm> {
+    /// A file by its number in tree order.
+    pub fn get(&self, file: usize) -> Option<Listed<'a, 'm>> {
+        self.clone().nth(file)
+    }
+
+    fn listed(&self, record: &'m [u8]) -> Listed<'a, 'm> {
+        let elements = number(&record[48..52]);
+        let layer = part_of(self.torrent, number(&record[40..44]), number(&record[44..48]));
+        let root = record[8..40].try_into().expect("32 bytes");
+        let file = File { length: number(&record[..8]), root, elements, layer };
+        Listed { file, torrent: self.torrent, parts: &record[PATH..][..elements as usize * 8] }
+    }
+}
+
+impl<'a, 'm> Iterator for List<'a, 'm> {
+    type Item = Listed<'a, 'm>;
+
+    fn next(&mut self) -> Option<Listed<'a, 'm>> {
+        self.records.next().map(|record| self.listed(record))
+    }
+
+    fn nth(&mut self, file: usize) -> Option<Listed<'a, 'm>> {
+        self.records.nth(file).map(|record| self.listed(record))
+    }
+
+    fn size_hint(&self) -> (usize, Option<usize>) {
+        self.records.size_hint()
+    }
+}
+
+impl ExactSizeIterator for List<'_, '_> {}
+
+impl<'a, 'm> Listed<'a, 'm> {
+    /// The path, element by element: any bytes.
+    pub fn path(&self) -> impl ExactSizeIterator<Item = &'a [u8]> + 'm
+    where
+        'a: 'm,
+    {
+        let torrent = self.torrent;
+        self.parts.chunks_exact(8).map(move |part| part_of(torrent, number(&part[..4]), number(&part[4..])))
     }
 }

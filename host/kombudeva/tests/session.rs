@@ -154,18 +154,58 @@ fn stores_in_several_threads_at_once() {
     });
 }
 
+/// A torrent of libtorrent's: six files, the first in two folders, the third empty.
+const SEVERAL: &[u8] = include_bytes!("../../tests/real/several.torrent");
+
 #[test]
 fn a_torrent() {
     if !["kd_torrent_read", "kd_torrent_file", "kd_torrent_path"].into_iter().all(is_declared) {
         return;
     }
-    let bytes = include_bytes!("../../tests/real/several.torrent");
-    let torrent = Torrent::read(bytes).done().unwrap();
-    assert_eq!((torrent.piece_length, torrent.files), (32768, 5));
+    let torrent = Torrent::read(SEVERAL).done().unwrap();
+    assert_eq!((torrent.piece_length, torrent.files), (32768, 6));
     let voltage = torrent.file(0).done().unwrap();
     assert_eq!((voltage.length, voltage.elements, voltage.layer.len()), (100_000, 3, 4 * 32));
     assert_eq!(torrent.path(0, 2), Answer::Done(&b"voltage"[..]));
+    assert_eq!(torrent.path(4, 1), Answer::Done(&b"\xff\xfe"[..]));
     assert_eq!(torrent.path(0, 3), Answer::NoSuchFile);
-    assert_eq!(torrent.file(5), Answer::NoSuchFile);
-    assert_eq!(Torrent::read(&bytes[1..]), Answer::NotStrict);
+    assert_eq!(torrent.file(6), Answer::NoSuchFile);
+    assert_eq!(Torrent::read(&SEVERAL[1..]), Answer::NotStrict);
+}
+
+#[test]
+fn a_list_of_files() {
+    if !["kd_torrent_read", "kd_torrent_file", "kd_torrent_path", "kd_torrent_list"].into_iter().all(is_declared) {
+        return;
+    }
+    let torrent = Torrent::read(SEVERAL).done().unwrap();
+    let mut memory = vec![0xaa; torrent.list_size() + 1];
+    let short = memory.len() - 2;
+    assert_eq!(torrent.list(&mut memory[..short]).number(), 11);
+    let list = torrent.list(&mut memory).done().unwrap();
+    assert_eq!(list.len(), 6);
+    for (number, listed) in list.clone().enumerate() {
+        assert_eq!(Answer::Done(listed.file), torrent.file(number as u64));
+        let path: Vec<&[u8]> = listed.path().collect();
+        assert_eq!(path.len() as u64, listed.file.elements);
+        for (element, name) in path.into_iter().enumerate() {
+            assert_eq!(torrent.path(number as u64, element as u64), Answer::Done(name));
+        }
+    }
+    assert_eq!(list.get(5).unwrap().path().collect::<Vec<_>>(), [b"readme"]);
+    assert_eq!(list.get(6), None);
+}
+
+/// A store that is opened and filled with nothing but what a torrent says.
+#[test]
+fn from_the_torrent_to_the_store() {
+    if !["kd_torrent_read", "kd_torrent_file"].into_iter().all(is_declared) {
+        return;
+    }
+    let torrent = Torrent::read(SEVERAL).done().unwrap();
+    let file = torrent.file(0).done().unwrap();
+    let mut memory = vec![0; store_size(file.length, torrent.piece_length).done().unwrap() as usize];
+    let mut store = Store::open(&mut memory, file.length, torrent.piece_length, file.root).done().unwrap();
+    // Four pieces, that is layers 1, 2 and 3 of seven blocks, the root held before.
+    assert_eq!(store.load_layer(file.layer), Answer::Done(6));
 }

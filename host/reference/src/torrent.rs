@@ -1,16 +1,16 @@
 //! Reading a v2 torrent: numbers 19 to 29. Section "The torrent" of document 01.
 //!
-//! The torrent is parsed to a value first. Then each of 22 to 28 is looked for in the whole of it before the next one,
-//! so that the lowest number wins.
+//! The torrent is parsed once, to a value. Then each of 22 to 28 is looked for in the whole of it before the next one, so
+//! that the lowest number wins. The benchmarks call this reader 1.00: roots are found by hashing, every layer is worked out
+//! once.
 
 use crate::bencode::{find, read as read_bencoding, Value};
 use crate::number::*;
-use crate::pieces::over_piece_layer;
-use crate::sha256::{sha256, Hash};
-use crate::tree::{piece_length_in_range, Facts, LONGEST_FILE};
-use std::collections::{BTreeSet, HashMap};
+use crate::sha256::{pair, sha256, Hash};
+use crate::tree::{padding, piece_length_in_range, Facts, BLOCK, LONGEST_FILE};
+use crate::Answer;
+use std::collections::{HashMap, HashSet};
 use std::ops::Range;
-use std::slice::from_ref;
 
 pub const LARGEST: usize = 1 << 20;
 
@@ -83,24 +83,28 @@ fn fields<'a>(torrent: &[u8], outer: &'a Value) -> Option<Fields<'a>> {
     })
 }
 
-/// The files below a directory, in tree order, or 25. The path so far leads to the directory.
-fn files_in(torrent: &[u8], directory: &Entries, path: &[Range<usize>]) -> Result<Vec<Listed>, u32> {
+/// Adds the files below a directory in tree order, or answers 25. The path so far leads to the directory.
+fn add_files(
+    torrent: &[u8],
+    directory: &Entries,
+    path: &mut Vec<Range<usize>>,
+    files: &mut Vec<Listed>,
+) -> Result<(), u32> {
     if directory.is_empty() {
         return Err(WRONG_TREE);
     }
-    let mut files = Vec::new();
     for (name, node) in directory {
         if name.is_empty() {
             return Err(WRONG_TREE);
         }
-        let node = node.dictionary().ok_or(WRONG_TREE)?;
-        let path = [path, from_ref(name)].concat();
-        match node {
-            [(key, properties)] if key.is_empty() => files.push(file_of(torrent, properties, path)?),
-            _ => files.extend(files_in(torrent, node, &path)?),
+        path.push(name.clone());
+        match node.dictionary().ok_or(WRONG_TREE)? {
+            [(key, properties)] if key.is_empty() => files.push(file_of(torrent, properties, path.clone())?),
+            inner => add_files(torrent, inner, path, files)?,
         }
+        path.pop();
     }
-    Ok(files)
+    Ok(())
 }
 
 /// The file whose properties are the value of an empty key, or 25.
@@ -126,8 +130,8 @@ fn root_in(torrent: &[u8], value: &Value) -> Option<Hash> {
 
 /// 26: two non-empty files with the same root.
 fn has_same_roots(files: &[Listed]) -> bool {
-    let roots: Vec<Hash> = files.iter().filter(|file| file.length > 0).map(|file| file.root).collect();
-    roots.iter().collect::<BTreeSet<_>>().len() < roots.len()
+    let mut roots = HashSet::new();
+    files.iter().filter(|file| file.length > 0).any(|file| !roots.insert(&file.root))
 }
 
 fn facts(file: &Listed, piece_length: u64) -> Facts {
@@ -155,10 +159,15 @@ fn assign_layers(torrent: &[u8], layers: &Entries, piece_length: u64, files: &mu
     }
 }
 
-/// 28: a layer that doesn't give its root.
-fn layer_differs(torrent: &[u8], file: &Listed, piece_length: u64) -> bool {
-    let worked_out = over_piece_layer(&facts(file, piece_length), &torrent[file.layer.clone()]);
-    worked_out.last().expect("a tree has a root").1 != file.root
+/// 28: a layer that doesn't give its root. Behind its hashes it is filled up with the padding value of its layer.
+fn layer_differs(torrent: &[u8], file: &Listed, filler: Hash) -> bool {
+    let mut row: Vec<Hash> =
+        torrent[file.layer.clone()].chunks_exact(32).map(|hash| hash.try_into().unwrap()).collect();
+    row.resize(row.len().next_power_of_two(), filler);
+    while row.len() > 1 {
+        row = row.chunks_exact(2).map(|children| pair(&children[0], &children[1])).collect();
+    }
+    row[0] != file.root
 }
 
 /// Everything the torrent says, or the number it is refused with.
@@ -175,13 +184,14 @@ pub fn contents(torrent: &[u8]) -> Result<Contents, u32> {
     if !piece_length_in_range(piece_length) {
         return Err(PIECE_LENGTH_OUT_OF_RANGE);
     }
-    let mut files = files_in(torrent, fields.file_tree, &[])?;
+    let mut files = Vec::new();
+    add_files(torrent, fields.file_tree, &mut Vec::new(), &mut files)?;
     if has_same_roots(&files) {
         return Err(SAME_ROOT);
     }
     assign_layers(torrent, fields.piece_layers, piece_length, &mut files)?;
-    let mut with_layer = files.iter().filter(|file| file.length > piece_length);
-    if with_layer.any(|file| layer_differs(torrent, file, piece_length)) {
+    let filler = padding((piece_length / BLOCK).trailing_zeros() as u64);
+    if files.iter().filter(|file| file.length > piece_length).any(|file| layer_differs(torrent, file, filler)) {
         return Err(LAYER_DIFFERS);
     }
     Ok(Contents { info_hash: sha256(&torrent[fields.info.part.clone()]), piece_length, files })
@@ -226,6 +236,38 @@ pub fn path_in(all: &Contents, file: u64, element: u64) -> Part {
     })
 }
 
+/// The bytes of a file's record in the list, and the path elements that it has room for: a deeper file is 21.
+pub const RECORD: usize = 280;
+const MOST_ELEMENTS: usize = 28;
+
+/// Every file in tree order as a record into `out`; the count is the bytes written.
+pub fn torrent_list(torrent: &[u8], out: &mut [u8]) -> Answer {
+    contents(torrent).map_or_else(Answer::refused, |all| list_in(&all, out))
+}
+
+/// What `torrent_list` answers and writes for a torrent with these contents.
+pub fn list_in(all: &Contents, out: &mut [u8]) -> Answer {
+    let Some(out) = out.get_mut(..all.files.len() * RECORD) else { return Answer::refused(NO_ROOM) };
+    for (record, file) in out.chunks_exact_mut(RECORD).zip(&all.files) {
+        record.copy_from_slice(&record_of(file));
+    }
+    Answer::done(out.len() as u64)
+}
+
+/// Length (8 bytes), root (32), layer's start and size (4 each), number of path elements (4), zero (4), then start and size
+/// (4 each) of the path elements, zeros for those that it doesn't have. All big-endian.
+fn record_of(file: &Listed) -> [u8; RECORD] {
+    let word = |number: usize| (number as u32).to_be_bytes();
+    let part = |part: &Range<usize>| [word(part.start), word(part.len())].concat();
+    let mut bytes = [&file.length.to_be_bytes()[..], &file.root].concat();
+    bytes.extend(part(&file.layer));
+    bytes.extend(word(file.path.len()));
+    bytes.extend(word(0));
+    bytes.extend(file.path.iter().flat_map(part));
+    bytes.extend((file.path.len()..MOST_ELEMENTS).flat_map(|_| [0; 8]));
+    bytes.try_into().expect("a record's size")
+}
+
 impl File {
     fn of(listed: &Listed) -> File {
         File {
@@ -252,7 +294,6 @@ impl Part {
 #[cfg(test)]
 mod tests {
     use super::*;
-    use crate::sha256::pair;
 
     fn string(content: &[u8]) -> Vec<u8> {
         [content.len().to_string().as_bytes(), b":", content].concat()
@@ -309,6 +350,24 @@ mod tests {
         assert_eq!(torrent_file(&bytes, 1).root, [0; 32]);
         assert_eq!(torrent_file(&bytes, 3), File::refused(NO_SUCH_FILE));
         assert_eq!(torrent_file(b"de", 99).number, MISSING);
+    }
+
+    #[test]
+    fn the_list() {
+        let inner = [string(b"a"), directory(&[file("b", 7, Some(1))])].concat();
+        let bytes = torrent(&directory(&[inner, file("a.txt", 0, None)]), b"de");
+        let mut out = [0xaa; 2 * RECORD + 1];
+        assert_eq!(torrent_list(&bytes, &mut out[..2 * RECORD - 1]), Answer::refused(NO_ROOM));
+        assert_eq!(torrent_list(b"de", &mut []), Answer::refused(MISSING));
+        assert_eq!(out, [0xaa; 2 * RECORD + 1]);
+        assert_eq!(torrent_list(&bytes, &mut out), Answer::done(2 * RECORD as u64));
+        // `d4:infod9:file treed1:ad1:b`: `a` at 22, `b` at 26.
+        let first = [0, 0, 0, 0, 0, 0, 0, 7].into_iter().chain([1; 32]).chain([0; 8]);
+        let first = first.chain([0, 0, 0, 2, 0, 0, 0, 0]).chain([0, 0, 0, 22, 0, 0, 0, 1]);
+        let first = first.chain([0, 0, 0, 26, 0, 0, 0, 1]).chain([0; 8 * 26]);
+        assert_eq!(out[..RECORD], first.collect::<Vec<u8>>());
+        assert_eq!(out[RECORD..][..56], [&[0; 48][..], &[0, 0, 0, 1, 0, 0, 0, 0]].concat());
+        assert_eq!(out[2 * RECORD - 8..], [0, 0, 0, 0, 0, 0, 0, 0, 0xaa]);
     }
 
     #[test]

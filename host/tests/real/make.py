@@ -1,63 +1,179 @@
-"""Makes the torrents in this folder with libtorrent (Debian's python3-libtorrent), and beside each one a listing of
-what libtorrent itself says of it: info hash, piece length, then for each file in tree order its length, root and path.
-Run it with the system's python3; the files of the torrents are made by a rule and thrown away."""
+"""Makes torrents with libtorrent (Debian's python3-libtorrent), and beside each one a text of what libtorrent says of it:
+
+    info hash
+    piece length
+    for each file in tree order: length, pieces root, piece layer (`-` if it has none), path elements with `/` between
+
+Hashes, layers and path elements are in hexadecimal digits, since a name may be any bytes.
+
+    make.py            makes the ones of KEPT in this folder
+    make.py FOLDER     makes all of them in FOLDER; host/torrents does that, and compares
+
+Run it with the system's python3. The files of the torrents are made by a rule and thrown away.
+
+Two things that libtorrent says are asked, and have to agree: its decoder (`bdecode`), which gives keys and values as they
+stand, and its reader (`torrent_info`), which the info hash comes from. The reader's list of files is not the torrent's own:
+  - it has padding files between the files, in a v2-only torrent too, where no byte of the torrent speaks of them; they are
+    left out here;
+  - its paths begin with the torrent's name, unless there is one file;
+  - names that aren't UTF-8, control characters and backslashes are mended (b"d\\xe4" becomes `d_`): so the elements are the
+    decoder's, and the reader's paths are compared where it leaves them alone;
+  - it gives no layers: those are the decoder's too.
+Its order is the tree's: by raw bytes, element by element, whatever order the files were added in.
+What libtorrent takes and 01 refuses is not made here: two equal files (26), a file above 1 GiB (25).
+"""
 import os
+import sys
 import tempfile
 
 import libtorrent
 
 HERE = os.path.dirname(os.path.abspath(__file__))
+V2_ONLY, HYBRID = libtorrent.create_torrent.v2_only, 0
+KEPT = ["single", "several", "hybrid"]
 
-# Torrent name: flags, piece length, and each file's path and length.
+# Torrent name: flags, piece length, and each file's path and length. libtorrent's binding takes text only: in the
+# torrents of RAW each character stands for the byte of its number, which is put into the torrent afterwards.
 TORRENTS = {
-    "single": (libtorrent.create_torrent.v2_only, 16384, {"history": 40001}),
+    "single": (V2_ONLY, 16384, {"history": 40001}),
     "several": (
-        libtorrent.create_torrent.v2_only,
+        V2_ONLY,
         32768,
-        {"cells/a/voltage": 100000, "cells/a.txt": 17, "cells/leer": 0, "cells/zähler": 32768, "readme": 32769},
+        {
+            "cells/a/voltage": 100000,
+            "cells/a.txt": 17,
+            "cells/leer": 0,
+            "cells/z\xe4hler": 32768,
+            "cells/\xff\xfe/\x80": 32769,
+            "readme": 5,
+        },
     ),
-    "hybrid": (0, 16384, {"firmware/image": 81920, "firmware/note": 5, "history": 16385}),
+    "hybrid": (
+        HYBRID,
+        16384,
+        {"firmware/image": 81920, "firmware/note": 5, "firmware/z\xe4hler": 100, "history": 16385, "leer": 0, "\xff": 1},
+    ),
+    "byte": (V2_ONLY, 16384, {"history": 1}),
+    "block": (V2_ONLY, 16384, {"history": 16384}),
+    "piece": (V2_ONLY, 65536, {"history": 65536}),
+    "past-a-piece": (V2_ONLY, 65536, {"history": 65537}),
+    "hybrid-single": (HYBRID, 16384, {"history": 50000}),
+    "large-pieces": (V2_ONLY, 1 << 20, {"a": 3500000, "b": 1 << 20, "c": (1 << 20) + 1}),
+    "utf-8": (V2_ONLY, 16384, {"z\xe4hler/spannung": 20000, "z\xe4hler/strom": 5, "\u96fb\u6c60": 7}),
+    "deep": (V2_ONLY, 16384, {"/".join("abcdefghijklmnopqrstuvwxyzAB"): 20000, "a/b/zz": 1, "a.b": 2}),
+    "wide": (V2_ONLY, 16384, {f"{i % 7}/{i}": i * 97 for i in range(300)}),
+    "hybrid-wide": (HYBRID, 16384, {f"{i % 5}/x{i}": i * 397 for i in range(60)}),
+    "any-bytes": (
+        V2_ONLY,
+        16384,
+        {"\x01": 1, "\x02\n": 2, "a\\b": 3, " ": 4, "\xc3(": 17000, "\xed\xa0\x80": 5, "x" * 200: 6, ".hidden/..x": 7},
+    ),
+    "full": (HYBRID, 16384, {"bin/tool": 30000, "doc": 9}),
 }
+RAW = {"several", "hybrid", "any-bytes"}
 
 
 def content(path, length):
-    seed = sum(path.encode())
+    seed = sum(path)
     return bytes((i * 7 + i // 251 + seed) % 256 for i in range(length))
+
+
+def written(name, path):
+    """The bytes of a path as they stand in the torrent."""
+    return path.encode("latin-1" if name in RAW else "utf-8")
+
+
+def renamed(tree, elements):
+    """A file tree whose keys have the bytes that `elements` gives for them."""
+    return {elements.get(key, key): renamed(value, elements) if key != b"" else value for key, value in tree.items()}
+
+
+def put_raw_names(info, paths):
+    elements = {e.encode("utf-8"): e.encode("latin-1") for path in paths for e in path.split("/")}
+    info[b"file tree"] = renamed(info[b"file tree"], elements)
+    for entry in info.get(b"files", []):
+        entry[b"path"] = [elements.get(element, element) for element in entry[b"path"]]
+
+
+def fill(torrent):
+    """Keys that readers of v2 skip."""
+    torrent.add_tracker("http://127.0.0.1/announce", 0)
+    torrent.add_tracker("http://127.0.0.2/announce", 1)
+    torrent.add_url_seed("http://127.0.0.3/")
+    torrent.add_node("127.0.0.4", 6881)
+    torrent.set_comment("filled")
+    torrent.set_creator("make.py")
+    torrent.set_priv(True)
 
 
 def make(name, flags, piece_length, files):
     with tempfile.TemporaryDirectory() as folder:
         storage = libtorrent.file_storage()
-        for path, length in files.items():
-            path = path if len(files) == 1 else os.path.join(name, path)
-            whole = os.path.join(folder, path)
+        # In an order that is not the tree's: libtorrent puts them in it.
+        for number, (path, length) in enumerate(reversed(files.items())):
+            on_disk = path if len(files) == 1 else os.path.join(name, path)
+            whole = os.path.join(folder, on_disk)
             os.makedirs(os.path.dirname(whole), exist_ok=True)
             with open(whole, "wb") as file:
-                file.write(content(path, length))
-            storage.add_file(path, length)
+                file.write(content(written(name, path), length))
+            executable = libtorrent.file_flags_t.flag_executable if name == "full" and number == 0 else 0
+            storage.add_file(on_disk, length, executable)
         torrent = libtorrent.create_torrent(storage, piece_length, flags)
+        if name == "full":
+            fill(torrent)
         libtorrent.set_piece_hashes(torrent, folder)
         made = torrent.generate()
-        made.pop(b"creation date", None)  # so that a second run makes the same bytes
-        return libtorrent.bencode(made)
+    made.pop(b"creation date", None)  # so that a second run makes the same bytes
+    if name in RAW:
+        put_raw_names(made[b"info"], files)
+    return libtorrent.bencode(made)
 
 
-def listing(encoded, files):
-    info = libtorrent.torrent_info(libtorrent.bdecode(encoded))
+def walk(tree, path=()):
+    """Each file's path and properties, by raw bytes."""
+    for key, node in sorted(tree.items()):
+        if set(node) == {b""}:
+            yield path + (key,), node[b""]
+        else:
+            yield from walk(node, path + (key,))
+
+
+def is_left_alone(path):
+    """Whether the reader gives this path as it stands."""
+    try:
+        text = b"/".join(path).decode("utf-8")
+    except UnicodeDecodeError:
+        return False
+    return text.isprintable() and "\\" not in text
+
+
+def listing(encoded):
+    decoded = libtorrent.bdecode(encoded)
+    files = list(walk(decoded[b"info"][b"file tree"]))
+    info = libtorrent.torrent_info(encoded)
     storage = info.files()
+    pad = libtorrent.file_flags_t.flag_pad_file
+    read = [i for i in range(storage.num_files()) if not storage.file_flags(i) & pad]
+    assert len(read) == len(files)
     yield str(info.info_hashes().v2)
     yield str(info.piece_length())
-    for i in range(storage.num_files()):
-        if storage.file_flags(i) & libtorrent.file_flags_t.flag_pad_file:
-            continue
-        path = storage.file_path(i)
-        path = path if len(files) == 1 else path.split("/", 1)[1]
-        yield f"{storage.file_size(i)} {storage.root(i)} {path}"
+    for i, (path, properties) in zip(read, files):
+        length, root = properties[b"length"], properties.get(b"pieces root", bytes(32))
+        assert storage.file_size(i) == length and storage.root(i).to_bytes() == root
+        whole = path if len(files) == 1 else (decoded[b"info"][b"name"],) + path
+        assert not is_left_alone(path) or storage.file_path(i).encode() == b"/".join(whole), whole
+        layer = decoded[b"piece layers"].get(root, b"").hex() or "-"
+        yield f"{length} {root.hex()} {layer} {'/'.join(element.hex() for element in path)}"
 
 
-for name, (flags, piece_length, files) in TORRENTS.items():
-    encoded = make(name, flags, piece_length, files)
-    with open(os.path.join(HERE, name + ".torrent"), "wb") as file:
-        file.write(encoded)
-    with open(os.path.join(HERE, name + ".txt"), "w") as file:
-        file.write("\n".join(listing(encoded, files)) + "\n")
+def main():
+    folder, names = (sys.argv[1], TORRENTS) if len(sys.argv) > 1 else (HERE, KEPT)
+    for name in names:
+        encoded = make(name, *TORRENTS[name])
+        with open(os.path.join(folder, name + ".torrent"), "wb") as file:
+            file.write(encoded)
+        with open(os.path.join(folder, name + ".txt"), "w", encoding="ascii") as file:
+            file.write("\n".join(listing(encoded)) + "\n")
+
+
+main()

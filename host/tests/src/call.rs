@@ -20,6 +20,7 @@ pub enum Entry {
     TorrentRead,
     TorrentFile,
     TorrentPath,
+    TorrentList,
 }
 
 impl Entry {
@@ -38,6 +39,7 @@ impl Entry {
             Entry::TorrentRead => "kd_torrent_read",
             Entry::TorrentFile => "kd_torrent_file",
             Entry::TorrentPath => "kd_torrent_path",
+            Entry::TorrentList => "kd_torrent_list",
         }
     }
 }
@@ -66,6 +68,10 @@ impl Call {
 
     pub fn input(self, input: Vec<u8>) -> Call {
         Call { input, ..self }
+    }
+
+    pub fn out(self, out: Vec<u8>) -> Call {
+        Call { out, ..self }
     }
 
     pub fn numbers(self, first: u64, second: u64) -> Call {
@@ -126,6 +132,7 @@ pub fn by_reference(call: &Call) -> Outcome {
         Entry::TorrentRead => Given::Torrent(torrent::torrent_read(&input)),
         Entry::TorrentFile => Given::File(torrent::torrent_file(&input, first)),
         Entry::TorrentPath => Given::Part(torrent::torrent_path(&input, first, second)),
+        Entry::TorrentList => Given::Answer(torrent::torrent_list(&input, &mut out)),
     };
     Outcome { given, store, input, out }
 }
@@ -175,6 +182,7 @@ pub fn by_library(call: &Call) -> Outcome {
         Entry::TorrentRead => torrent_of(boundary::torrent_read(message)),
         Entry::TorrentFile => file_of(boundary::torrent_file(message, first)),
         Entry::TorrentPath => part_of(boundary::torrent_path(message, first, second)),
+        Entry::TorrentList => answer(boundary::torrent_list(message, room)),
     };
     Outcome { given, store: store.taken_back(), input: input.taken_back(), out: out.taken_back() }
 }

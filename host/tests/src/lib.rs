@@ -7,5 +7,6 @@ pub mod fillings;
 pub mod random;
 pub mod replays;
 pub mod sessions;
+pub mod shapes;
 pub mod torrents;
 pub mod truth;

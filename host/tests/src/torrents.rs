@@ -1,9 +1,10 @@
 //! Torrents, good ones and ones with something wrong: in their values, or in their bytes.
 
-use crate::call::{Call, Entry};
+use crate::call::{Call, Entry, Given};
 use crate::compare::Comparison;
 use crate::random::Random;
 use reference::pieces::over_piece_layer;
+use reference::torrent::RECORD;
 use reference::tree::Facts;
 use std::collections::BTreeMap;
 
@@ -109,6 +110,13 @@ impl Maker<'_> {
         dictionary(entries)
     }
 
+    /// A folder of many files, at some level.
+    fn folder_of_many(&mut self, levels: u64) -> Value {
+        let name = |number: u64| (number as u16).to_be_bytes().to_vec();
+        let files = (0..self.random.between(10, 300)).map(|number| (name(number), self.file())).collect();
+        (0..levels).fold(dictionary(files), |below, _| Dictionary(vec![(b"a".to_vec(), below)]))
+    }
+
     fn file(&mut self) -> Value {
         let mut properties = BTreeMap::new();
         let length = match self.random.below(10) {
@@ -131,7 +139,12 @@ impl Maker<'_> {
     fn root(&mut self, length: u64) -> Vec<u8> {
         let facts = Facts { length, piece_length: self.piece_length, root: [0; 32] };
         if !facts.has_piece_layer() {
-            return if self.random.percent(3) { vec![0; 32] } else { self.random.bytes(32) };
+            return match self.random.below(20) {
+                0 => vec![0; 32],
+                // Some that differ in their last bytes only.
+                1..=5 => [vec![0xee; 29], self.random.bytes(3)].concat(),
+                _ => self.random.bytes(32),
+            };
         }
         let layer = self.random.bytes(32 * facts.pieces() as usize);
         let root = over_piece_layer(&facts, &layer).last().unwrap().1.to_vec();
@@ -145,7 +158,7 @@ pub fn good(random: &mut Random) -> Value {
     let piece_length = random.pick(&[16384, 32768, 65536, 1 << 24]);
     let mut maker = Maker { random, piece_length, layers: BTreeMap::new() };
     let levels = maker.random.below(4);
-    let tree = maker.directory(levels);
+    let tree = if maker.random.percent(5) { maker.folder_of_many(levels) } else { maker.directory(levels) };
     let layers = dictionary(maker.layers);
     let info = BTreeMap::from([
         (b"file tree".to_vec(), tree),
@@ -161,10 +174,24 @@ pub fn good(random: &mut Random) -> Value {
     dictionary(outer)
 }
 
-const INTEGERS: [&str; 20] = [
+/// A good torrent of a few hundred bytes that has a layer, an empty file and a folder.
+pub fn small(random: &mut Random) -> Vec<u8> {
+    loop {
+        let torrent = good(random).encoded();
+        let files = reference::torrent::contents(&torrent).map_or(Vec::new(), |all| all.files);
+        let has_layer = files.iter().any(|file| !file.layer.is_empty());
+        let has_empty = files.iter().any(|file| file.length == 0);
+        if torrent.len() < 500 && has_layer && has_empty && files.iter().any(|file| file.path.len() > 1) {
+            return torrent;
+        }
+    }
+}
+
+/// Among them some that are in range if they are cut to 32 or 64 bits.
+const INTEGERS: [&str; 24] = [
     "0", "1", "2", "3", "-1", "-0", "", "-", "00", "02", "16383", "16384", "33554432", "1073741824", "1073741825",
     "9223372036854775807", "9223372036854775808", "-9223372036854775808", "-9223372036854775809",
-    "99999999999999999999999999",
+    "99999999999999999999999999", "4294967298", "18446744073709551618", "4294983680", "18446744073709568000",
 ];
 
 /// Changes one value somewhere.
@@ -242,14 +269,31 @@ fn share_a_string(torrent: &mut Value, random: &mut Random) {
 /// Changes the bytes themselves.
 fn change_bytes(bytes: &mut Vec<u8>, random: &mut Random) {
     let at = random.below(bytes.len() as u64) as usize;
-    match random.below(6) {
+    match random.below(8) {
         0 => bytes[at] ^= 1 << random.below(8),
         1 => bytes[at] = random.pick(b"dlie0123456789:-"),
         2 => drop(bytes.remove(at)),
         3 => bytes.insert(at, random.pick(b"dlie0123456789:-")),
         4 => bytes.truncate(at),
+        5..=6 => change_prefix(bytes, random),
         _ => bytes.extend_from_slice(random.pick(&[&b"e"[..], b"de", b"\0", b"99999999999999999999:"])),
     }
+}
+
+/// Changes a string's length prefix: by one, with a zero before it, or to one that is the same if it is cut to 32 or 64 bits.
+fn change_prefix(bytes: &mut Vec<u8>, random: &mut Random) {
+    let ends = |at: &usize| bytes[*at] == b':' && bytes[at - 1].is_ascii_digit();
+    let ends: Vec<usize> = (1..bytes.len()).filter(ends).collect();
+    if ends.is_empty() {
+        return;
+    }
+    let end = random.pick(&ends);
+    let start = bytes[..end].iter().rposition(|byte| !byte.is_ascii_digit()).map_or(0, |before| before + 1);
+    let Ok(size) = String::from_utf8_lossy(&bytes[start..end]).parse::<u64>() else { return };
+    let size = u128::from(size);
+    let others = [size + 1, size.saturating_sub(1), size + (1 << 32), size + (1 << 64)].map(|other| other.to_string());
+    let changed = if random.percent(20) { format!("0{size}") } else { random.pick(&others) };
+    bytes.splice(start..end, changed.into_bytes());
 }
 
 /// The bytes of a torrent, good or with something wrong.
@@ -270,29 +314,81 @@ pub fn any(random: &mut Random) -> Vec<u8> {
     bytes
 }
 
-/// Torrents, as long as wanted, each asked as a whole, for a file and for a path element.
-pub fn run(random: &mut Random, compared: &mut Comparison, mut go_on: impl FnMut(&Comparison) -> bool) {
-    while go_on(compared) {
-        let torrent = any(random);
-        compared.ask(&Call::new(Entry::TorrentRead).input(torrent.clone()));
-        let file = random.pick(&[0, 0, 1, 2, 3, 99, u64::MAX]);
-        compared.ask(&Call::new(Entry::TorrentFile).input(torrent.clone()).numbers(file, 0));
-        let element = random.pick(&[0, 0, 0, 1, 2, 99, u64::MAX]);
-        compared.ask(&Call::new(Entry::TorrentPath).input(torrent).numbers(file, element));
+/// Numbers to ask for: all below `count` or, of many, some; then two that are past them.
+fn some(count: u64) -> impl Iterator<Item = u64> {
+    let below = if count <= 12 { (0..count).collect() } else { vec![0, 1, count / 2, count - 1] };
+    below.into_iter().chain([count, u64::MAX])
+}
+
+/// Everything that can be asked about a torrent: as a whole, its files, their path elements, and the list in just the room, in
+/// more, in a byte less and in none.
+pub fn ask_all(torrent: &[u8], compared: &mut Comparison) {
+    let about = |entry| Call::new(entry).input(torrent.to_vec());
+    let Given::Torrent(whole) = compared.ask(&about(Entry::TorrentRead)).given else { unreachable!() };
+    for file in some(whole.files) {
+        let Given::File(found) = compared.ask(&about(Entry::TorrentFile).numbers(file, 0)).given else {
+            unreachable!()
+        };
+        for element in some(found.elements) {
+            compared.ask(&about(Entry::TorrentPath).numbers(file, element));
+        }
+    }
+    let size = whole.files as usize * RECORD;
+    for room in [size, size + 9, size.saturating_sub(1), 0] {
+        compared.ask(&about(Entry::TorrentList).out(vec![0xaa; room]));
     }
 }
 
-/// One small torrent with each of its bytes changed in turn, taken out, and with one put before it.
-pub fn run_through_every_byte(random: &mut Random, compared: &mut Comparison) {
-    let torrent = good(random).encoded();
+/// The same of a torrent that is likely to be refused: one call of each entry point then, and the list without room.
+fn ask_some(torrent: &[u8], compared: &mut Comparison) {
+    if reference::torrent::contents(torrent).is_ok() {
+        return ask_all(torrent, compared);
+    }
+    for entry in [Entry::TorrentRead, Entry::TorrentFile, Entry::TorrentPath, Entry::TorrentList] {
+        compared.ask(&Call::new(entry).input(torrent.to_vec()).out(vec![0xaa; RECORD]));
+    }
+    compared.ask(&Call::new(Entry::TorrentList).input(torrent.to_vec()));
+}
+
+/// One call of each entry point, about the last file, on a torrent so large that every call takes its time.
+pub fn ask_few(torrent: &[u8], compared: &mut Comparison) {
+    let about = |entry| Call::new(entry).input(torrent.to_vec());
+    let Given::Torrent(whole) = compared.ask(&about(Entry::TorrentRead)).given else { unreachable!() };
+    let last = whole.files.saturating_sub(1);
+    compared.ask(&about(Entry::TorrentFile).numbers(last, 0));
+    compared.ask(&about(Entry::TorrentPath).numbers(last, 0));
+    compared.ask(&about(Entry::TorrentList).out(vec![0xaa; whole.files as usize * RECORD]));
+}
+
+/// Torrents, as long as wanted.
+pub fn run(random: &mut Random, compared: &mut Comparison, mut go_on: impl FnMut(&Comparison) -> bool) {
+    while go_on(compared) {
+        ask_some(&any(random), compared);
+    }
+}
+
+/// What each byte is changed to: bytes that mean something in bencoding, and some that don't.
+const OTHERS: &[u8] = b"dlie01239:-\0 \x7f\x80\xff";
+
+/// A torrent with each of its bytes changed in turn to each of `OTHERS` and in each bit, taken out, and with one put before it.
+pub fn run_through_every_byte(torrent: &[u8], compared: &mut Comparison) {
     for at in 0..torrent.len() {
-        let mut changed = vec![torrent.clone(); 4];
-        changed[0][at] ^= 1;
-        changed[1][at] = random.pick(b"dlie0123456789:-");
-        changed[2].remove(at);
-        changed[3].insert(at, random.pick(b"dlie0123456789:-"));
-        for torrent in changed {
-            compared.ask(&Call::new(Entry::TorrentRead).input(torrent));
+        let flipped = (0..8).map(|bit| torrent[at] ^ 1 << bit);
+        let mut values: Vec<u8> = OTHERS.iter().copied().chain(flipped).filter(|byte| *byte != torrent[at]).collect();
+        values.sort();
+        values.dedup();
+        let (before, behind) = torrent.split_at(at);
+        for value in values {
+            ask_some(&[before, &[value], &behind[1..]].concat(), compared);
         }
+        ask_some(&[before, &behind[1..]].concat(), compared);
+        ask_some(&[before, &OTHERS[at % OTHERS.len()..][..1], behind].concat(), compared);
+    }
+}
+
+/// A torrent cut at each of its bytes.
+pub fn run_through_every_cut(torrent: &[u8], compared: &mut Comparison) {
+    for size in 0..torrent.len() {
+        ask_some(&torrent[..size], compared);
     }
 }

@@ -4,7 +4,7 @@
 use host_tests::call::{by_library, Entry};
 use host_tests::compare::{report, Comparison};
 use host_tests::random::Random;
-use host_tests::{sessions, torrents};
+use host_tests::{sessions, shapes, torrents};
 use std::env;
 use std::time::{Duration, Instant, SystemTime, UNIX_EPOCH};
 
@@ -62,9 +62,31 @@ fn torrents_of_all_kinds() {
     }
 }
 
+/// A torrent of libtorrent's, with a layer.
+const SINGLE: &[u8] = include_bytes!("../real/single.torrent");
+
 #[test]
 fn a_torrent_with_each_byte_changed() {
     if is_declared(Entry::TorrentRead) {
-        compare("every byte", |random, compared, _| torrents::run_through_every_byte(random, compared));
+        compare("every byte of single.torrent", |_, compared, _| torrents::run_through_every_byte(SINGLE, compared));
+        compare("every byte of a small torrent", |random, compared, _| {
+            torrents::run_through_every_byte(&torrents::small(random), compared)
+        });
+    }
+}
+
+#[test]
+fn a_torrent_cut_at_each_byte() {
+    if is_declared(Entry::TorrentRead) {
+        compare("every cut of single.torrent", |_, compared, _| torrents::run_through_every_cut(SINGLE, compared));
+    }
+}
+
+#[test]
+fn torrents_of_hostile_shapes() {
+    if is_declared(Entry::TorrentRead) {
+        compare("shapes", |_, compared, _| {
+            shapes::ALL.iter().for_each(|shape| torrents::ask_few(&(shape.make)(), compared));
+        });
     }
 }

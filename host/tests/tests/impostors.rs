@@ -9,6 +9,7 @@ use reference::messages::{Header, HEAD};
 use reference::number::*;
 use reference::sha256::sha256;
 use reference::store::{facts_of, hold, size_of, CELL};
+use reference::torrent::{File, Torrent, RECORD};
 use reference::{Answer, Hashed};
 
 const CASES: u64 = 12_000;
@@ -32,6 +33,10 @@ fn torrents(library: Library<'_>) -> Comparison<'_> {
 
 fn assert_found_out(name: &str, impostor: Library) {
     assert!(sessions(impostor).difference.is_some(), "not found out: {name}");
+}
+
+fn assert_torrent_found_out(name: &str, impostor: Library) {
+    assert!(torrents(impostor).difference.is_some(), "not found out: {name}");
 }
 
 fn answered(call: &Call, number: u32, count: u64) -> Outcome {
@@ -66,10 +71,11 @@ fn every_number_comes_up() {
 #[test]
 fn every_number_of_a_torrent_comes_up() {
     let refused = [19, 20, 21, 22, 23, 24, 25, 26, 27, 28];
-    let expected: [(Entry, &[u32]); 3] = [
+    let expected: [(Entry, &[u32]); 4] = [
         (Entry::TorrentRead, &[&[0], &refused[..]].concat()),
         (Entry::TorrentFile, &[&[0], &refused[..], &[29]].concat()),
         (Entry::TorrentPath, &[&[0], &refused[..], &[29]].concat()),
+        (Entry::TorrentList, &[&[0, 11], &refused[..]].concat()),
     ];
     assert_seen(&torrents(&by_reference), &expected);
 }
@@ -231,6 +237,77 @@ fn hashes_that_look_right() {
         }
         let outcome = by_reference(&changed);
         Outcome { store: if outcome.given.number() == DONE { outcome.store } else { call.store.clone() }, ..outcome }
+    });
+}
+
+/// A number that is never given: the answer is 0 with what the call would give for a good torrent of nothing.
+#[test]
+fn numbers_of_a_torrent_that_are_left_out() {
+    for left_out in 19..=28 {
+        assert_torrent_found_out("a number left out", &|call| {
+            let mut outcome = by_reference(call);
+            if let Given::Torrent(torrent) = &mut outcome.given {
+                torrent.number = if torrent.number == left_out { DONE } else { torrent.number };
+            }
+            outcome
+        });
+    }
+}
+
+#[test]
+fn torrents_read_wrong() {
+    assert_torrent_found_out("the info hash of the whole torrent", &|call| match by_reference(call) {
+        Outcome { given: Given::Torrent(torrent), .. } if torrent.number == DONE => {
+            let given = Given::Torrent(Torrent { info_hash: sha256(&call.input), ..torrent });
+            Outcome { given, ..untouched(call) }
+        }
+        outcome => outcome,
+    });
+    assert_torrent_found_out("a layer with its length prefix", &|call| match by_reference(call) {
+        Outcome { given: Given::File(file), .. } if file.layer_size == 64 => {
+            let given = Given::File(File { layer_start: file.layer_start - 3, layer_size: 67, ..file });
+            Outcome { given, ..untouched(call) }
+        }
+        outcome => outcome,
+    });
+    assert_torrent_found_out("29 before the torrent's own number", &|call| match (call.entry, by_reference(call)) {
+        (Entry::TorrentFile, outcome) if outcome.given.number() == DONE => outcome,
+        (Entry::TorrentFile, outcome) => Outcome { given: torrent_file_refused(NO_SUCH_FILE), ..outcome },
+        (_, outcome) => outcome,
+    });
+}
+
+fn torrent_file_refused(number: u32) -> Given {
+    Given::File(File { number, length: 0, root: [0; 32], elements: 0, layer_start: 0, layer_size: 0 })
+}
+
+#[test]
+fn lists_written_wrong() {
+    assert_torrent_found_out("11 before the torrent's own number", &|call| match (call.entry, by_reference(call)) {
+        (Entry::TorrentList, outcome) if outcome.given.number() != DONE => answered(call, NO_ROOM, 0),
+        (_, outcome) => outcome,
+    });
+    assert_torrent_found_out("what fits is written before 11", &|call| match (call.entry, by_reference(call)) {
+        (Entry::TorrentList, mut outcome) if outcome.given.number() == NO_ROOM => {
+            outcome.out.iter_mut().take(8).for_each(|byte| *byte = 0);
+            outcome
+        }
+        (_, outcome) => outcome,
+    });
+    assert_torrent_found_out("the room behind is cleared", &|call| match (call.entry, by_reference(call)) {
+        (Entry::TorrentList, mut outcome) if outcome.given.number() == DONE => {
+            let written = outcome.given.count() as usize;
+            outcome.out[written..].fill(0);
+            outcome
+        }
+        (_, outcome) => outcome,
+    });
+    assert_torrent_found_out("unused path elements are left", &|call| match (call.entry, by_reference(call)) {
+        (Entry::TorrentList, mut outcome) if outcome.given.number() == DONE => {
+            outcome.out[RECORD - 8..RECORD].copy_from_slice(&call.out[RECORD - 8..RECORD]);
+            outcome
+        }
+        (_, outcome) => outcome,
     });
 }
 
