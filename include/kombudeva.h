@@ -19,6 +19,17 @@
  *    10   facts out of range: length 1 to 2^30, piece length a power of two from 16384 to 16777216
  *    11   the output is shorter than the reply, reject included
  *    12   a requested hash isn't held
+ *    19   a torrent above 1 MiB
+ *    20   the torrent is not one dictionary in strict bencoding
+ *    21   nested deeper than 32 levels, before anything else is wrong
+ *    22   `info`, its `file tree`, `piece length` or `meta version`, or `piece layers` missing or of another type
+ *    23   the version isn't 2
+ *    24   the piece length out of range
+ *    25   the file tree isn't right
+ *    26   two files that aren't empty with the same root
+ *    27   `piece layers` hasn't exactly the roots of the files longer than the piece length, or not 32 bytes per piece
+ *    28   a layer doesn't give its root
+ *    29   no file, or no path element, of that number
  *
  * Each function lists its numbers in the order in which they are decided: the first that applies is given.
  *
@@ -144,6 +155,43 @@ kd_answer kd_judge_block(const uint8_t *store, size_t size, uint64_t block, cons
  *    0  believed; `count` is 0.
  */
 kd_answer kd_judge_piece(const uint8_t *store, size_t size, uint64_t piece, const uint8_t *data, size_t data_size);
+
+/* ---- Reading a v2 torrent: the bytes of a .torrent file, at most 1 MiB. ---- */
+
+/* A number, and beside 0 what a torrent says as a whole. */
+typedef struct { uint32_t number; kd_hash info_hash; uint64_t piece_length; uint64_t files; } kd_torrent;
+
+/*
+ * A number, and beside 0 one file: the pieces root (zero for an empty file), the number of path elements, and the part of the
+ * torrent's bytes that is its piece layer, as kd_load_layer takes it (0 0 if it has none).
+ */
+typedef struct {
+    uint32_t number; uint64_t length; kd_hash root; uint64_t elements; uint64_t layer_start; uint64_t layer_size;
+} kd_file;
+
+/* A number, and beside 0 a part of the torrent's bytes: a string's content, without its length prefix. */
+typedef struct { uint32_t number; uint64_t start; uint64_t size; } kd_part;
+
+/*
+ * Reads a whole torrent.
+ *   19, 20 or 21, 22, 23, 24, 25, 26, 27, 28  refused, in this order.
+ *    0  the info hash, the piece length and the number of files.
+ */
+kd_torrent kd_torrent_read(const uint8_t *torrent, size_t size);
+
+/*
+ * File number `file` in tree order, from 0. Each call checks the whole torrent anew: kd_torrent_list gives all files at once.
+ *   19 to 28 as above, then 29: no such file.
+ *    0  the file.
+ */
+kd_file kd_torrent_file(const uint8_t *torrent, size_t size, uint64_t file);
+
+/*
+ * Path element number `element` of a file, from 0: any bytes, not always text. Checks the whole torrent anew.
+ *   19 to 28 as above, then 29: no such file, or no such element.
+ *    0  where it stands.
+ */
+kd_part kd_torrent_path(const uint8_t *torrent, size_t size, uint64_t file, uint64_t element);
 
 #ifdef __cplusplus
 }

@@ -2,11 +2,27 @@
 -- Assumes nothing.
 use Rattle.numbers.specs.declared.Answer.{Answer}
 use Rattle.sha256.specs.declared.Hashed.{Hashed}
+use Rattle.torrent.specs.declared.read.Torrent.{Torrent}
+use Rattle.torrent.specs.declared.read.FileRead.{FileRead}
+use Rattle.torrent.specs.declared.read.PartRead.{PartRead}
 use Rattle.kombudeva.specs.declared.CountAnswer.{CountAnswer}
 use Rattle.kombudeva.specs.declared.HashAnswer.{HashAnswer}
+use Rattle.kombudeva.specs.declared.TorrentAnswer.{TorrentAnswer}
+use Rattle.kombudeva.specs.declared.FileAnswer.{FileAnswer}
+use Rattle.kombudeva.specs.declared.PartAnswer.{PartAnswer}
 
 unfoldable pub countAnswer : Answer → CountAnswer
 countAnswer r = record { number = r .number; count = r .count }
 
 unfoldable pub hashAnswer : Hashed → HashAnswer
 hashAnswer r = record { number = r .number; hash = record { bytes = r .hash } }
+
+unfoldable pub torrentAnswer : Torrent → TorrentAnswer
+torrentAnswer r = record { number = r .number; «info_hash» = record { bytes = r .hash }; «piece_length» = r .plen; files = r .files }
+
+unfoldable pub fileAnswer : FileRead → FileAnswer
+fileAnswer r =
+    record { number = r .number; length = r .length; root = record { bytes = r .root }; elements = r .elements; «layer_start» = r .start; «layer_size» = r .size }
+
+unfoldable pub partAnswer : PartRead → PartAnswer
+partAnswer r = record { number = r .number; start = r .start; size = r .size }

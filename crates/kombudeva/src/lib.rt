@@ -6,9 +6,13 @@ ghost use Rattle.store.specs.Store.{sizeAnswer, openAnswer, openAfter, heldAnsw
 ghost use Rattle.messages.specs.Take.{takeAnswer, takeAfter, rejectAnswer};
 ghost use Rattle.serve.specs.Serve.{serveAnswer, serveAfter};
 ghost use Rattle.pieces.specs.Pieces.{layerAnswer, layerAfter, blockAnswer, pieceAnswer};
-ghost use Rattle.kombudeva.specs.Boundary.{countAnswer, hashAnswer};
+ghost use Rattle.torrent.specs.Torrent.{readOf, fileRead, pathRead};
+ghost use Rattle.kombudeva.specs.Boundary.{countAnswer, hashAnswer, torrentAnswer, fileAnswer, partAnswer};
 use numbers::Answer;
 use sha256::Hashed;
+use torrent::read::FileRead;
+use torrent::read::PartRead;
+use torrent::read::Torrent;
 
 // kd_hash
 #[repr(C)]
@@ -30,6 +34,34 @@ pub struct HashAnswer {
     pub hash: Hash,
 }
 
+// kd_torrent
+#[repr(C)]
+pub struct TorrentAnswer {
+    pub number: u32,
+    pub info_hash: Hash,
+    pub piece_length: u64,
+    pub files: u64,
+}
+
+// kd_file
+#[repr(C)]
+pub struct FileAnswer {
+    pub number: u32,
+    pub length: u64,
+    pub root: Hash,
+    pub elements: u64,
+    pub layer_start: u64,
+    pub layer_size: u64,
+}
+
+// kd_part
+#[repr(C)]
+pub struct PartAnswer {
+    pub number: u32,
+    pub start: u64,
+    pub size: u64,
+}
+
 fn count_answer(r: Answer) -> CountAnswer
     ensures { λ a. ⌜ a ≡ countAnswer r ⌝ }
 {
@@ -47,6 +79,44 @@ fn hash_answer(r: Hashed) -> HashAnswer
     HashAnswer {
         number: r.number,
         hash,
+    }
+}
+
+fn torrent_answer(r: Torrent) -> TorrentAnswer
+    ensures { λ a. ⌜ a ≡ torrentAnswer r ⌝ }
+{
+    let bytes = r.hash;
+    let info_hash = Hash { bytes };
+    TorrentAnswer {
+        number: r.number,
+        info_hash,
+        piece_length: r.plen as u64,
+        files: r.files as u64,
+    }
+}
+
+fn file_answer(r: FileRead) -> FileAnswer
+    ensures { λ a. ⌜ a ≡ fileAnswer r ⌝ }
+{
+    let bytes = r.root;
+    let root = Hash { bytes };
+    FileAnswer {
+        number: r.number,
+        length: r.length as u64,
+        root,
+        elements: r.elements as u64,
+        layer_start: r.start as u64,
+        layer_size: r.size as u64,
+    }
+}
+
+fn part_answer(r: PartRead) -> PartAnswer
+    ensures { λ a. ⌜ a ≡ partAnswer r ⌝ }
+{
+    PartAnswer {
+        number: r.number,
+        start: r.start as u64,
+        size: r.size as u64,
     }
 }
 
@@ -119,4 +189,25 @@ pub extern "C" fn kd_judge_piece(s: &[u8], piece: u64, bytes: &[u8]) -> CountAns
     ensures { λ r. ⌜ r ≡ countAnswer (pieceAnswer (now (s .entry)) piece (now (bytes .entry))) ⌝ }
 {
     count_answer(pieces::judge_piece(s, piece as usize, bytes))
+}
+
+#[no_mangle]
+pub extern "C" fn kd_torrent_read(torrent: &[u8]) -> TorrentAnswer
+    ensures { λ r. ⌜ r ≡ torrentAnswer (readOf (now (torrent .entry))) ⌝ }
+{
+    torrent_answer(torrent::read::read(torrent))
+}
+
+#[no_mangle]
+pub extern "C" fn kd_torrent_file(torrent: &[u8], file: u64) -> FileAnswer
+    ensures { λ r. ⌜ r ≡ fileAnswer (fileRead (now (torrent .entry)) file) ⌝ }
+{
+    file_answer(torrent::read::read_file(torrent, file as usize))
+}
+
+#[no_mangle]
+pub extern "C" fn kd_torrent_path(torrent: &[u8], file: u64, element: u64) -> PartAnswer
+    ensures { λ r. ⌜ r ≡ partAnswer (pathRead (now (torrent .entry)) file element) ⌝ }
+{
+    part_answer(torrent::read::read_path(torrent, file as usize, element as usize))
 }
