@@ -29,12 +29,10 @@ pasted-none s at = let e : at + 0 ≡ at = omega arith in rw e (take-drop at s)
     take-drop (suc n) [] = refl
     take-drop (suc n) (x ∷ l) = ap (λ (t : List ℕ). x ∷ t) (take-drop n l)
 
+-- b behind a
 module _ (s t u a b : List ℕ) (at n : ℕ) (p : t ≡ pasted s at a) (q : u ≡ pasted t (at + n) b) (e : length a ≡ n) (h : at + n + length b ≤ length s) where
   pub then-pasted : u ≡ pasted s at (a ++ b)
   then-pasted = q ∙ rw (p, sym e) (pasted-append s at a b (rw e h))
-
-  pub then-length : length u ≡ length s
-  then-length = ap length then-pasted ∙ pasted-length s at (a ++ b) (rw (length-append a b) (omega arith))
 
 pub put-length : (s t a : List ℕ) (at n : ℕ) → t ≡ pasted s at a → length a ≡ n → at + n ≤ length s → length t ≡ length s
 put-length s t a at n p e h = ap length p ∙ pasted-length s at a (rw e h)
@@ -57,7 +55,7 @@ pub elements-start : (out path : List ℕ) (at n : ℕ) → out ≡ pasted out a
 unfolding elementsBytes
 elements-start out path at n = sym (pasted-none out at)
 
-module _ (out₀ out path : List ℕ) (at n k : ℕ) (h : at + 224 ≤ length out₀) (p : out ≡ pasted out₀ at (elementsBytes path n k)) where
+module _ (out₀ out path : List ℕ) (at n k : ℕ) (h : at + 8 * maxElements ≤ length out₀) (p : out ≡ pasted out₀ at (elementsBytes path n k)) where
   pub elements-room : k ≤ maxElements → length out ≡ length out₀
   elements-room l = put-length out₀ out (elementsBytes path n k) at (8 * k) p (elements-length path n k) (omega arith)
 
@@ -73,22 +71,32 @@ module _ (out₀ out path : List ℕ) (at n k : ℕ) (h : at + 224 ≤ length ou
   pub elements-all : k ≤ maxElements → maxElements ≤ k → out ≡ pasted out₀ at (elementsBytes path n maxElements)
   elements-all l g = let e : k ≡ maxElements = omega arith in p ∙ ap (λ (m : ℕ). pasted out₀ at (elementsBytes path n m)) e
 
--- ---- the head
+-- ---- the head, its layer first
+
+module _ (s t : List ℕ) (at : ℕ) (layer : ByteString) where
+  pub no-layer-written : layer ≡ NoString → t ≡ pasted s at (partBytes 0 0) → t ≡ pasted s at (partBytes (startOf layer) (sizeOf layer))
+  no-layer-written e p = rw e p
+
+  pub layer-written : (a b : ℕ) → layer ≡ Content a b → t ≡ pasted s at (partBytes a (b - a)) → t ≡ pasted s at (partBytes (startOf layer) (sizeOf layer))
+  layer-written a b e p = rw e p
+
+pub layer-forward : (layer : ByteString) (a b : ℕ) → layer ≡ Content a b → Forward layer → a ≤ b
+layer-forward layer a b e p = rw e at p
 
 module _ (s : List ℕ) (at n : ℕ) (root : List ℕ) (layer : ByteString) (elements : ℕ) (r : length root ≡ 32) (h : at + 56 ≤ length s)
     (t₁ : List ℕ) (p₁ : t₁ ≡ pasted s at (be 8 n)) where
-  pub length-first : length t₁ ≡ length s
+  length-first : length t₁ ≡ length s
   length-first = put-length s t₁ (be 8 n) at 8 p₁ (be-octets 8 n .size) (omega arith)
 
   module _ (t₂ : List ℕ) (p₂ : t₂ ≡ pasted t₁ (at + 8) root) where
-    pub length-second : length t₂ ≡ length s
+    length-second : length t₂ ≡ length s
     length-second = put-length t₁ t₂ root (at + 8) 32 p₂ r (omega (arith, length-first)) ∙ length-first
 
     two : t₂ ≡ pasted s at (be 8 n ++ root)
     two = then-pasted s t₁ t₂ (be 8 n) root at 8 p₁ p₂ (be-octets 8 n .size) (omega arith)
 
     module _ (t₃ : List ℕ) (p₃ : t₃ ≡ pasted t₂ (at + 40) (partBytes (startOf layer) (sizeOf layer))) where
-      pub length-third : length t₃ ≡ length s
+      length-third : length t₃ ≡ length s
       length-third = put-length t₂ t₃ (partBytes (startOf layer) (sizeOf layer)) (at + 40) 8 p₃ (part-length (startOf layer) (sizeOf layer)) (omega (arith, length-second)) ∙ length-second
 
       three : t₃ ≡ pasted s at (be 8 n ++ root ++ partBytes (startOf layer) (sizeOf layer))
@@ -97,7 +105,7 @@ module _ (s : List ℕ) (at n : ℕ) (root : List ℕ) (layer : ByteString) (ele
           (omega (arith, part-length (startOf layer) (sizeOf layer)))
 
       module _ (t₄ : List ℕ) (p₄ : t₄ ≡ pasted t₃ (at + 48) (be 4 elements)) where
-        pub length-fourth : length t₄ ≡ length s
+        length-fourth : length t₄ ≡ length s
         length-fourth = put-length t₃ t₄ (be 4 elements) (at + 48) 4 p₄ (be-octets 4 elements .size) (omega (arith, length-third)) ∙ length-third
 
         abbrev a : List ℕ
@@ -158,13 +166,3 @@ module _ (s out₀ : List ℕ) (at layers plen n r elements : ℕ) (path : List 
       then-pasted out₀ out₁ out₂ (headBytes n root layer elements) (elementsBytes path elements maxElements) at 56 p q (head-length n root layer elements root-size)
       (omega (arith, elements-length path elements maxElements))
       ∙ rw (er, el) refl
-
-module _ (s t : List ℕ) (at : ℕ) (layer : ByteString) where
-  pub no-layer-written : layer ≡ NoString → t ≡ pasted s at (partBytes 0 0) → t ≡ pasted s at (partBytes (startOf layer) (sizeOf layer))
-  no-layer-written e p = rw e p
-
-  pub layer-written : (a b : ℕ) → layer ≡ Content a b → t ≡ pasted s at (partBytes a (b - a)) → t ≡ pasted s at (partBytes (startOf layer) (sizeOf layer))
-  layer-written a b e p = rw e p
-
-pub layer-forward : (layer : ByteString) (a b : ℕ) → layer ≡ Content a b → Forward layer → a ≤ b
-layer-forward layer a b e p = rw e at p

@@ -6,10 +6,11 @@ use mathlib.Core.List.{List, [], _∷_, _++_, append-assoc, append-nil}
 use Prim.Native.Nat.{ℕ, zero, suc, _+_, _-_, _*_, _^_, _≤_, _<_}
 use native.Mathlib.Omega.{arith}
 use native.Mathlib.Decide.{decLe}
-use lib.ListN.{length, drop, getD, length-append}
+use lib.ListN.{length, take, drop, getD, length-append}
+use lib.Seq.{take-at, drop-append-add}
 use lib.Dec.{eqb, ltb}
-use borrow.Author.Tests.{eqb-true, eqb-false}
-use Rattle.octets.specs.Octets.{cut, zeroHash, be}
+use borrow.Author.Tests.{eqb-true, eqb-false, eq-eqb, le-ltb}
+use Rattle.octets.specs.Octets.{cut, zeroHash, be, pasted}
 use Rattle.octets.specs.OctetsLaws.{cut-length, be-octets, zero-octets}
 use Rattle.numbers.specs.Numbers.{wrongTree, sameRoot, layersAmiss}
 use Rattle.bencode.specs.declared.scalar.ByteString.{ByteString}
@@ -24,13 +25,13 @@ use Rattle.metainfo.specs.MetainfoLaws.{metainfo-right}
 use Rattle.metainfo.specs.declared.Keys.{Keys}
 use Rattle.listing.specs.Listing.{Listed, Files, ends, right, listed, onNext, filesFrom, noPath, filesIn, rootsOf, longs, fileNumber}
 use Rattle.listing.specs.ListingLaws.{FilesAt, from-wrong}
-use Rattle.listing.specs.FilesLaws.{FileRight, files-right, longs-roots, number-right, number-here}
+use Rattle.listing.specs.FilesLaws.{FileRight, AllRight, files-right, longs-roots, number-right, number-here}
 use Rattle.layers.specs.Layers.{keysWide, layerKeys, worst, rootBytes, layerString, startOf, sizeOf}
 use Rattle.torrent.specs.Torrent.{filesNumber, treeNumber, judgedAs, judgedOf, unread, withJudged, withKeys, checkedOf}
 use Rattle.torrent.specs.CheckLaws.{LayersOpen, layers-open}
 use Rattle.torrent.specs.declared.check.Judged.{Judged}
 use Rattle.torrent.specs.declared.check.Checked.{Checked}
-use Rattle.catalogue.specs.Catalogue.{partBytes, elementBytes, elementsBytes, headBytes, recordOf, recordSize, recordsOf}
+use Rattle.catalogue.specs.Catalogue.{partBytes, elementBytes, elementsBytes, headBytes, recordOf, recordSize, recordsOf, listAfter}
 
 -- each of the n elements of a path ends where it begins, or behind that
 abbrev pub InOrder : List ℕ → ℕ → Type 0
@@ -97,6 +98,28 @@ records-more s layers plen [] f = append-nil (recordOf s layers plen f)
 records-more s layers plen (x ∷ fs) f =
     ap (λ (l : List ℕ). recordOf s layers plen x ++ l) (records-more s layers plen fs f)
     ∙ sym (append-assoc (recordOf s layers plen x) (recordsOf s layers plen fs) (recordOf s layers plen f))
+
+-- ---- the list
+
+pub records-length : (s : List ℕ) (layers plen : ℕ) (fs : List Listed) → AllRight (length s) fs → length (recordsOf s layers plen fs) ≡ recordSize * length fs
+unfolding recordsOf
+records-length s layers plen [] p = refl
+records-length s layers plen (f ∷ fs) p =
+    length-append (recordOf s layers plen f) (recordsOf s layers plen fs)
+    ∙ omega (arith, record-length s layers plen f (p .0 .root-within), records-length s layers plen fs (p .1))
+
+-- the record of file i stands at 280 · i
+pub record-at : (s : List ℕ) (layers plen : ℕ) (fs : List Listed) → AllRight (length s) fs → (i : ℕ) → i < length fs
+    → cut (recordsOf s layers plen fs) (recordSize * i) recordSize ≡ recordOf s layers plen (fileNumber fs i)
+unfolding recordsOf fileNumber cut
+record-at s layers plen [] p i h = absurd (omega arith)
+record-at s layers plen (f ∷ fs) p zero h = take-at (recordOf s layers plen f) (recordsOf s layers plen fs) recordSize (record-length s layers plen f (p .0 .root-within))
+record-at s layers plen (f ∷ fs) p (suc i) h =
+    let l = record-length s layers plen f (p .0 .root-within) in
+    let e : recordSize * suc i ≡ length (recordOf s layers plen f) + recordSize * i = omega arith in
+    ap (λ (n : ℕ). take recordSize (drop n (recordOf s layers plen f ++ recordsOf s layers plen fs))) e
+    ∙ ap (λ (x : List ℕ). take recordSize x) (drop-append-add (recordOf s layers plen f) (recordsOf s layers plen fs) (recordSize * i))
+    ∙ record-at s layers plen fs (p .1) i (omega arith)
 
 -- ---- how many files there can be
 
@@ -226,3 +249,13 @@ file-passed s tree before f at d path w =
     let n : length before < length (listed (filesIn s tree)) = rw (e, length-append before (f ∷ rest)) (omega arith) in
     let here : fileNumber (listed (filesIn s tree)) (length before) ≡ f = ap (λ (l : List Listed). fileNumber l (length before)) e ∙ number-here before f rest in
     (rw here at (number-right (length s) (listed (filesIn s tree)) (length before) (files-right s tree) n), n)
+
+-- the whole output where the list has room: the records, and the bytes behind them as they were
+pub list-whole : (s out : List ℕ) → checkedOf s .number ≡ 0 → recordSize * checkedOf s .files ≤ length out
+    → listAfter s out ≡ recordsOf s (checkedOf s .layers) (checkedOf s .plen) (listed (filesIn s (checkedOf s .tree))) ++ drop (recordSize * checkedOf s .files) out
+unfolding listAfter pasted
+list-whole s out z h =
+    let fs = listed (filesIn s (checkedOf s .tree)) in
+    let records = recordsOf s (checkedOf s .layers) (checkedOf s .plen) fs in
+    let e : 0 + length records ≡ recordSize * checkedOf s .files = omega (arith, records-length s (checkedOf s .layers) (checkedOf s .plen) fs (files-right s (checkedOf s .tree)), checked-ready s z .all) in
+    rw (eq-eqb (checkedOf s .number) 0 z, le-ltb (length out) (recordSize * checkedOf s .files) h) (ap (λ (n : ℕ). records ++ drop n out) e)

@@ -75,7 +75,8 @@ fn put_records(
     }
 }
 
-// The same; `keys` is work space, for where the keys of `piece layers` stand.
+// The same of a torrent that gets 0; `keys` is work space, for where the keys of `piece layers` stand. They are as many as they should
+// be: `check` has seen it, so that `index` need not be asked again.
 fn list_in(
     s: &[u8],
     tree: usize,

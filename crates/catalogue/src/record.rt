@@ -1,4 +1,5 @@
-// The record of one file: 56 bytes of its length, root, layer and number of path elements, then 28 places for these.
+// The record of one file: 56 bytes for its length, its root, its layer's part and how many path elements it has; then a place for each of
+// 28 of these. Numbers are written with the most significant byte first.
 use bencode::scalar::ByteString;
 use layers::find_layer;
 use octets::hash_at;
@@ -13,7 +14,7 @@ ghost use Rattle.octets.specs.Octets.{pasted};
 ghost use Rattle.files.specs.Walk.{maxElements};
 ghost use Rattle.listing.specs.FilesLaws.{FileRight};
 ghost use Rattle.layers.specs.Layers.{Indexed, rootBytes, layerString, startOf, sizeOf};
-ghost use Rattle.catalogue.specs.Catalogue.{partBytes, elementBytes, elementsBytes, headBytes, recordOf};
+ghost use Rattle.catalogue.specs.Catalogue.{partBytes, elementBytes, elementsBytes, headBytes, recordOf, recordSize};
 ghost use Rattle.catalogue.specs.CatalogueLaws.{InOrder, Forward};
 
 // A path has at most so many elements.
@@ -45,7 +46,7 @@ fn put_element(out: &mut [u8], at: usize, path: &[usize], n: usize, k: usize)
 
 // Writes the 28 places for the n elements of a path.
 fn put_elements(out: &mut [u8], at: usize, path: &[usize], n: usize)
-    requires { ⌜ (at + 224 ≤ L.length (now out)) × (L.length (now path) ≡ 56) × InOrder (now path) n ⌝ }
+    requires { ⌜ (at + 8 * maxElements ≤ L.length (now out)) × (L.length (now path) ≡ 56) × InOrder (now path) n ⌝ }
     ensures { λ _. ⌜ now (out .exit) ≡ pasted (now (out .entry)) at (elementsBytes (now (path .entry)) n maxElements) ⌝ }
 {
     let mut k = 0;
@@ -129,7 +130,7 @@ pub fn put_record(
     out: &mut [u8],
     at: usize,
 )
-    requires { ⌜ Indexed (now s) layers (now keys) count × FileRight (L.length (now s)) (record { size = n; root = root; elements = elements; path = now path }) × (at + 280 ≤ L.length (now out)) ⌝ }
+    requires { ⌜ Indexed (now s) layers (now keys) count × FileRight (L.length (now s)) (record { size = n; root = root; elements = elements; path = now path }) × (at + recordSize ≤ L.length (now out)) ⌝ }
     ensures { λ _. ⌜ now (out .exit) ≡ pasted (now (out .entry)) at (recordOf (now (s .entry)) layers plen (record { size = n; root = root; elements = elements; path = now (path .entry) })) ⌝ }
 {
     let hash = root_of(s, n, root);

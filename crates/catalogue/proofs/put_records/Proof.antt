@@ -1,3 +1,4 @@
+-- The records of the files passed stand at the start of the output, and the loop stands behind these files in the tree.
 use Rattle.layers.proofs.Judging.{tree-within}
 use Rattle.catalogue.proofs.Filling.{FilledAt, filled-start, filled-length, filled-wrong, filled-past, filled-last, file-behind, file-right, file-room, filled-file}
 use borrow.Author.Needs.{needs}

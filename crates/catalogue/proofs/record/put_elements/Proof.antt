@@ -1,3 +1,4 @@
+-- The first k places are written.
 use Rattle.catalogue.specs.Catalogue.{elementsBytes}
 use Rattle.files.specs.Walk.{maxElements}
 use Rattle.octets.specs.Octets.{pasted}
