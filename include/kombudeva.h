@@ -17,7 +17,7 @@
  *     8   conflict: the anchor agrees, another held position differs
  *     9   the store is unusable: it names no facts in range, or has not their room
  *    10   facts out of range: length 1 to 2^30, piece length a power of two from 16384 to 16777216
- *    11   the output is shorter than the reply, reject included
+ *    11   the output is shorter than the reply, reject included; or than a torrent's list
  *    12   a requested hash isn't held
  *    19   a torrent above 1 MiB
  *    20   the torrent is not one dictionary in strict bencoding
@@ -192,6 +192,16 @@ kd_file kd_torrent_file(const uint8_t *torrent, size_t size, uint64_t file);
  *    0  where it stands.
  */
 kd_part kd_torrent_path(const uint8_t *torrent, size_t size, uint64_t file, uint64_t element);
+
+/*
+ * All files in tree order in one pass, a record of 280 bytes each, all numbers big-endian:
+ *    0  length (8 bytes)             8  pieces root (32), zero for an empty file
+ *   40  layer's start (4), size (4)  48  number of path elements (4), 1 to 28; then 4 bytes zero
+ *   56  start (4) and size (4) of each of 28 path elements; zero for those that it does not have
+ *   19 to 28 as above, then 11: too little room; nothing is written.
+ *    0  `count` is the number of bytes written, 280 for each file. Bytes of `out` behind them stay.
+ */
+kd_answer kd_torrent_list(const uint8_t *torrent, size_t size, uint8_t *out, size_t out_size);
 
 #ifdef __cplusplus
 }

@@ -7,6 +7,7 @@ ghost use Rattle.messages.specs.Take.{takeAnswer, takeAfter, rejectAnswer};
 ghost use Rattle.serve.specs.Serve.{serveAnswer, serveAfter};
 ghost use Rattle.pieces.specs.Pieces.{layerAnswer, layerAfter, blockAnswer, pieceAnswer};
 ghost use Rattle.torrent.specs.Torrent.{readOf, fileRead, pathRead};
+ghost use Rattle.catalogue.specs.Catalogue.{listAnswer, listAfter};
 ghost use Rattle.kombudeva.specs.Boundary.{countAnswer, hashAnswer, torrentAnswer, fileAnswer, partAnswer};
 use numbers::Answer;
 use sha256::Hashed;
@@ -210,4 +211,11 @@ pub extern "C" fn kd_torrent_path(torrent: &[u8], file: u64, element: u64) -> Pa
     ensures { λ r. ⌜ r ≡ partAnswer (pathRead (now (torrent .entry)) file element) ⌝ }
 {
     part_answer(torrent::read::read_path(torrent, file as usize, element as usize))
+}
+
+#[no_mangle]
+pub extern "C" fn kd_torrent_list(torrent: &[u8], out: &mut [u8]) -> CountAnswer
+    ensures { λ r. ⌜ (r ≡ countAnswer (listAnswer (now (torrent .entry)) (now (out .entry)))) × (now (out .exit) ≡ listAfter (now (torrent .entry)) (now (out .entry))) ⌝ }
+{
+    count_answer(catalogue::list(torrent, out))
 }
