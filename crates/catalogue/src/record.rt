@@ -2,9 +2,9 @@
 // 28 of these. Numbers are written with the most significant byte first.
 use bencode::scalar::ByteString;
 use layers::find_layer;
-use octets::hash_at;
 use octets::put_hash;
 use octets::put_number;
+use torrent::one::root_of;
 use tree::geometry::has_layer;
 ghost use mathlib.Core.Path.{_≡_};
 ghost use Prim.Native.Nat.{_+_, _*_, _≤_, _<_};
@@ -84,17 +84,6 @@ fn put_head(
     put_layer(out, at + 40, layer);
     put_number(out, at + 48, 4, elements);
     put_number(out, at + 52, 4, 0);
-}
-
-// The root of a file of n bytes: 32 zero bytes if it is empty.
-fn root_of(s: &[u8], n: usize, root: usize) -> [u8; 32]
-    requires { ⌜ ((n ≡ 0 → ⊥) → root + 32 ≤ L.length (now s)) ⌝ }
-    ensures { λ r. ⌜ r ≡ rootBytes (now (s .entry)) n root ⌝ }
-{
-    if n == 0 {
-        return [0u8; 32];
-    }
-    hash_at(s, root)
 }
 
 // The layer of a file of n bytes; none if it is not longer than the piece length.

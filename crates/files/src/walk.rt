@@ -113,7 +113,7 @@ fn node_token(s: &[u8], start: usize, end: usize) -> Token
     if is_dictionary(s, end) {
         let at = end + 1;
         if ends_here(s, at) {
-            return Token::BadToken;
+            return Token::BadToken; // an empty directory
         }
         return first_key(s, start, end, at);
     }
