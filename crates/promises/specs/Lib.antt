@@ -25,3 +25,4 @@ pub mod TrueMessage
 pub mod AnchorHeld
 pub mod Known
 pub mod Table
+pub mod Positions

@@ -1,0 +1,428 @@
+-- What a message settles, by layer and index and from its bytes alone, as 01 says it: given hashes and their parents, the last
+-- of which is the anchor; and that these are the positions which the contracts speak of.
+-- Assumes nothing.
+use mathlib.Core.Path.{_≡_, refl, ap, ap₂, sym, _∙_, subst}
+use mathlib.Core.Bool.{true}
+use mathlib.Core.List.{List, _++_}
+use mathlib.Core.Logic.{_⊎_, inl, inr, _↔_}
+use Prim.Native.Nat.{ℕ, zero, suc, _+_, _-_, _*_, _/_, _%_, _^_, _≤_, _<_}
+use native.Mathlib.Omega.{arith}
+use native.Mathlib.Nat.{pow-succ', pow-zero, mul-assoc, add-mul, one-mul, mul-le-mul-right, div-add-mod', div-div-eq-div-mul}
+use native.Mathlib.Decide.{ℕ-discrete}
+use lib.ListN.{length}
+use lib.Pow.{pow-add, pow-pos}
+use Rattle.octets.specs.Octets.{cut, zeroHash}
+use Rattle.octets.specs.OctetsLaws.{cut-cut, cut-length}
+use Rattle.sha256.specs.Sha256.{pairHash}
+use Rattle.tree.specs.Geometry.{height, nodeNumber}
+use Rattle.tree.specs.GeometryLaws.{node-number-left, node-number-right, node-number-parent, node-number-distinct}
+use Rattle.tree.specs.Values.{node}
+use Rattle.cells.specs.Entries.{Entry}
+use Rattle.cells.specs.EntriesLaws.{In, here, there, Has, has-same, in-left, in-right, in-cases, no-entry, Consistent}
+use Rattle.store.specs.Store.{blocksOf, heightOf}
+use Rattle.store.specs.StoreLaws.{Facts, usable-facts, facts-leaves, tree-says}
+use Rattle.runs.specs.Subtree.{subtree, runLeaf}
+use Rattle.runs.specs.SubtreeLaws.{FamilyIn, subtree-has, subtree-value, number-below, run-leaf-in}
+use Rattle.runs.specs.Path.{sibling, uncle, ancestor, parentValue, path}
+use Rattle.runs.specs.PathLaws.{path-cases, sibling-even, sibling-odd, sibling-below, parent-even, parent-odd}
+use Rattle.runs.specs.SettledLaws.{settled-consistent, settled-anchor, settled-family}
+use Rattle.header.specs.declared.Header.{Header}
+use Rattle.header.specs.Header.{headerOf, isHashes, placeOf, messageSize}
+use Rattle.header.specs.HeaderLaws.{Kept, rules-kept, log-some, top-inside}
+use Rattle.messages.specs.Take.{runOf, given, unclesOf, settled, anchor, worked, placeIn}
+use Rattle.messages.specs.TakeLaws.{Passed, passed, Placed, placed}
+use Rattle.promises.specs.TakenWhen.{WellFormed}
+use Rattle.promises.specs.Chains.{Chain, worked-chains, chain-is-worked}
+use Rattle.promises.specs.RightPadding.{sibling-number}
+use Rattle.promises.specs.ReadBack.{run-number, run-in-layer, uncle-layer, uncle-number, uncle-in-layer}
+use Rattle.promises.specs.AnchorHeld.{unclesIn, anchorLayer, anchorIndex, anchor-number, anchor-in-tree}
+
+-- hash j of a message: the base run, then the uncles
+abbrev pub hashIn : List ℕ → ℕ → List ℕ
+hashIn m j = cut m (49 + 32 * j) 32
+
+-- the run's top: its layer, base + log2(length), and its index there
+abbrev pub topLayer : List ℕ → ℕ
+topLayer m = headerOf m .base + height (headerOf m .len)
+
+abbrev pub topIndex : List ℕ → ℕ
+topIndex m = headerOf m .index / headerOf m .len
+
+-- the message settles position i of layer l with hash v: it gives it, in the base run or as an uncle, which stands beside the
+-- path's position of its layer; or it settles both children, left and right, and v is the hash of the two
+pub data Settles (m : List ℕ) : ℕ → ℕ → List ℕ → Type 0 where
+  inRun : (j : ℕ) → j < headerOf m .len → Settles m (headerOf m .base) (headerOf m .index + j) (hashIn m j)
+  asUncle : (j : ℕ) → j < unclesIn m → Settles m (topLayer m + j) (sibling (topIndex m / 2 ^ j)) (hashIn m (headerOf m .len + j))
+  parent : (l i : ℕ) (x y : List ℕ) → Settles m l (2 * i) x → Settles m l (2 * i + 1) y → Settles m (suc l) i (pairHash x y)
+
+-- ---- each of these is an entry
+
+-- each uncle stands in the path, beside it
+path-uncle : (hashes : List ℕ) (a u n : ℕ) (v : List ℕ) (i : ℕ) → i < u → Has (sibling (ancestor i n)) (uncle hashes (a + i)) (path hashes a u n v)
+unfolding path ancestor
+path-uncle hashes a zero n v i l = let w : ⊥ = omega arith in absurd w
+path-uncle hashes a (suc u) n v zero l =
+    has-same (path hashes a (suc u) n v) (sibling n) (sibling n) (uncle hashes a) (uncle hashes (a + 0)) refl (let q : a ≡ a + 0 = omega arith in ap (uncle hashes) q) here
+path-uncle hashes a (suc u) n v (suc i) l =
+    let q : a + 1 + i ≡ a + suc i = omega arith in
+    there (there (has-same (path hashes (a + 1) u (n / 2) (parentValue n v (uncle hashes a))) (sibling (ancestor i (n / 2))) (sibling (ancestor i (n / 2))) (uncle hashes (a + 1 + i)) (uncle hashes (a + suc i)) refl (ap (uncle hashes) q)
+    (path-uncle hashes (a + 1) u (n / 2) (parentValue n v (uncle hashes a)) i (omega arith))))
+
+-- position n has an entry with hash v, and it is position i of layer l
+pub record Entered (h : ℕ) (L : List Entry) (l i : ℕ) (v : List ℕ) : Type 0 where
+  pub low : l ≤ h
+  pub inside : i < 2 ^ (h - l)
+  pub has : Has (nodeNumber h l i) v L
+
+-- a list in which each entry is the anchor's or has its family, has the parent of every two children
+module _ (h a : ℕ) (L : List Entry) (c : Consistent L) (f : (e : Entry) → In e L → (e .at ≡ a) ⊎ FamilyIn L (e .at)) where
+  family-parent : (q n : ℕ) (x y : List ℕ) → q / 2 ≡ n → Has (2 * n) x L → Has (2 * n + 1) y L → FamilyIn L q → Has n (pairHash x y) L
+  family-parent q n x y e p r w =
+      let l : Has (2 * n) (w .l) L = rw e at (w .left) in
+      let g : Has (2 * n + 1) (w .r) L = rw e at (w .right) in
+      let t : Has n (pairHash (w .l) (w .r)) L = rw e at (w .parent) in
+      let ex = c (record { at = 2 * n; hash = w .l }) (record { at = 2 * n; hash = x }) l p refl in
+      let ey = c (record { at = 2 * n + 1; hash = w .r }) (record { at = 2 * n + 1; hash = y }) g r refl in
+      has-same L n n (pairHash (w .l) (w .r)) (pairHash x y) refl (ap₂ pairHash ex ey) t
+
+  number-parent : (n : ℕ) (x y : List ℕ) → Has (2 * n) x L → Has (2 * n + 1) y L → Has n (pairHash x y) L
+  number-parent n x y p r =
+      elim (f (record { at = 2 * n; hash = x }) p) [
+        | inr w ↦ family-parent (2 * n) n x y (omega arith) p r w
+        | inl e ↦ elim (f (record { at = 2 * n + 1; hash = y }) r) [
+          | inr w ↦ family-parent (2 * n + 1) n x y (omega arith) p r w
+          | inl g ↦ let w : ⊥ = omega arith in absurd w
+        ]
+      ]
+
+  entered-parent : (l i : ℕ) (x y : List ℕ) → Entered h L l (2 * i) x → Entered h L l (2 * i + 1) y → Entered h L (suc l) i (pairHash x y)
+  entered-parent l i x y p r =
+      let lt = below l i (p .low) (r .inside) in
+      let d : h - l ≡ suc (h - suc l) = omega arith in
+      let w : 2 ^ (h - l) ≡ 2 * 2 ^ (h - suc l) = ap (λ (z : ℕ). 2 ^ z) d ∙ pow-succ' 2 (h - suc l) in
+      record {
+        low = omega arith;
+        inside = omega (arith, r .inside);
+        has =
+            number-parent (nodeNumber h (suc l) i) x y (rw (node-number-left h l i lt) at (p .has)) (rw (node-number-right h l i lt) at (r .has));
+      }
+    where
+      below : (l i : ℕ) → l ≤ h → 2 * i + 1 < 2 ^ (h - l) → l < h
+      below l i g k =
+          elim (ℕ-discrete l h) [
+            | yes e ↦
+                let z : h - l ≡ 0 = omega arith in
+                let o : 2 ^ (h - l) ≡ 1 = ap (λ (y : ℕ). 2 ^ y) z ∙ pow-zero 2 in
+                let w : ⊥ = omega arith in
+                absurd w
+            | no ne ↦ omega arith
+          ]
+
+module _ (s m : List ℕ) (W : WellFormed s m) where
+  P : Passed (isHashes m) s m
+  P = passed (isHashes m) s m (W .header)
+
+  facts : Facts s
+  facts = usable-facts s (P .store)
+
+  kept : Kept (headerOf m) (blocksOf s) (heightOf s)
+  kept = rules-kept (headerOf m) (blocksOf s) (heightOf s) (P .rules)
+
+  k-is : placeIn s m .k ≡ height (headerOf m .len)
+  unfolding placeOf
+  k-is = refl
+
+  u-is : placeIn s m .u ≡ unclesIn m
+  unfolding placeOf
+  u-is = refl
+
+  top-is : placeIn s m .top ≡ nodeNumber (heightOf s) (topLayer m) (topIndex m)
+  unfolding placeOf
+  top-is = refl
+
+  whole-size : 49 + 32 * (headerOf m .len + unclesIn m) ≡ length m
+  unfolding messageSize
+  whole-size = sym (W .size)
+
+  -- hash j of the base run, and uncle j, are the message's hashes in their order
+  given-is : (j : ℕ) → j < 2 ^ placeIn s m .k → given m (placeIn s m .k) j ≡ hashIn m j
+  unfolding given runOf
+  given-is j l =
+      let q = placed (isHashes m) s m P in
+      let long : length (cut m 49 (32 * 2 ^ placeIn s m .k)) ≡ 32 * 2 ^ placeIn s m .k = cut-length m 49 (32 * 2 ^ placeIn s m .k) (omega (arith, q .size, W .size)) in
+      run-leaf-in (cut m 49 (32 * 2 ^ placeIn s m .k)) zeroHash j (omega (arith, long)) ∙ cut-cut m 49 (32 * 2 ^ placeIn s m .k) (32 * j) 32 (omega arith)
+
+  uncle-is : (j : ℕ) → j < placeIn s m .u → uncle (unclesOf m (2 ^ placeIn s m .k) (placeIn s m .u)) j ≡ hashIn m (headerOf m .len + j)
+  unfolding uncle unclesOf
+  uncle-is j l =
+      let q = placed (isHashes m) s m P in
+      let e : 49 + 32 * 2 ^ placeIn s m .k + 32 * j ≡ 49 + 32 * (headerOf m .len + j) = omega (arith, q .power) in
+      cut-cut m (49 + 32 * 2 ^ placeIn s m .k) (32 * placeIn s m .u) (32 * j) 32 (omega arith) ∙ ap (λ (y : ℕ). cut m y 32) e
+
+  run-entry : (j : ℕ) → j < 2 ^ placeIn s m .k → Has (placeIn s m .top * 2 ^ placeIn s m .k + j) (given m (placeIn s m .k) j) (settled m (placeIn s m))
+  unfolding settled node
+  run-entry j l =
+      let p = placeIn s m in
+      let leaf = given m (p .k) in
+      let A = subtree leaf (p .k) (p .top) 0 in
+      let e : p .k - p .k ≡ 0 = omega arith in
+      let q : 0 * 2 ^ p .k + j ≡ j = omega arith in
+      in-left A (path (unclesOf m (2 ^ p .k) (p .u)) 0 (p .u) (p .top) (node leaf (p .k) 0))
+      (has-same A (p .top * 2 ^ p .k + j) (p .top * 2 ^ p .k + j) (node leaf (p .k - p .k) (0 * 2 ^ p .k + j)) (leaf j) refl
+      (ap (λ (y : ℕ). node leaf y (0 * 2 ^ p .k + j)) e ∙ ap leaf q) (subtree-has leaf (p .k) (p .top) 0 (p .k) j (omega arith) l))
+
+  uncle-entry : (i : ℕ) → i < placeIn s m .u
+      → Has (sibling (ancestor i (placeIn s m .top))) (uncle (unclesOf m (2 ^ placeIn s m .k) (placeIn s m .u)) i) (settled m (placeIn s m))
+  unfolding settled
+  uncle-entry i l =
+      let p = placeIn s m in
+      let us = unclesOf m (2 ^ p .k) (p .u) in
+      let q : 0 + i ≡ i = omega arith in
+      let B = path us 0 (p .u) (p .top) (node (given m (p .k)) (p .k) 0) in
+      in-right (subtree (given m (p .k)) (p .k) (p .top) 0) B
+      (has-same B (sibling (ancestor i (p .top))) (sibling (ancestor i (p .top))) (uncle us (0 + i)) (uncle us i) refl (ap (uncle us) q)
+      (path-uncle us 0 (p .u) (p .top) (node (given m (p .k)) (p .k) 0) i l))
+
+  consistent : Consistent (settled m (placeIn s m))
+  unfolding settled
+  consistent =
+      let p = placeIn s m in
+      settled-consistent (given m (p .k)) (unclesOf m (2 ^ p .k) (p .u)) (p .k) (p .top) 0 0 (p .u) (node (given m (p .k)) (p .k) 0) (placed (isHashes m) s m P .anchor)
+
+  families : (e : Entry) → In e (settled m (placeIn s m)) → (e .at ≡ ancestor (placeIn s m .u) (placeIn s m .top)) ⊎ FamilyIn (settled m (placeIn s m)) (e .at)
+  unfolding settled
+  families =
+      let p = placeIn s m in
+      settled-family (given m (p .k)) (unclesOf m (2 ^ p .k) (p .u)) (p .k) (p .top) 0 0 (p .u) (placed (isHashes m) s m P .anchor)
+
+  -- what the message settles are entries, at positions of the tree
+  pub settles-entered : (l i : ℕ) (v : List ℕ) → Settles m l i v → Entered (heightOf s) (settled m (placeIn s m)) l i v
+  settles-entered l i v (inRun j a) =
+      let X = headerOf m in
+      let a′ : j < 2 ^ height (headerOf m .len) = omega (arith, kept .power) in
+      let w : j < 2 ^ placeIn s m .k = rw k-is a′ in
+      record {
+        low = omega (arith, kept .within);
+        inside = run-in-layer (headerOf m) (blocksOf s) (heightOf s) (facts-leaves s facts) kept j a′;
+        has =
+            has-same (settled m (placeIn s m)) (placeIn s m .top * 2 ^ placeIn s m .k + j) (nodeNumber (heightOf s) (X .base) (X .index + j)) (given m (placeIn s m .k) j) (hashIn m j)
+            (run-number (headerOf m) (blocksOf s) (heightOf s) (facts-leaves s facts) kept j a′) (given-is j w) (run-entry j w);
+      }
+  settles-entered l i v (asUncle j a) =
+      let X = headerOf m in
+      let a′ : j < placeIn s m .u = rw u-is a in
+      let lay = uncle-layer (headerOf m) (blocksOf s) (heightOf s) (facts-leaves s facts) kept j a′ in
+      record {
+        low = omega arith;
+        inside = uncle-in-layer (headerOf m) (blocksOf s) (heightOf s) (facts-leaves s facts) kept j a′;
+        has =
+            has-same (settled m (placeIn s m)) (sibling (ancestor j (placeIn s m .top))) (nodeNumber (heightOf s) (topLayer m + j) (sibling (topIndex m / 2 ^ j))) (uncle (unclesOf m (2 ^ placeIn s m .k) (placeIn s m .u)) j) (hashIn m (X .len + j))
+            (uncle-number (headerOf m) (blocksOf s) (heightOf s) (facts-leaves s facts) kept j a′) (uncle-is j a′) (uncle-entry j a′);
+      }
+  settles-entered l i v (parent b c x y p q) =
+      entered-parent (heightOf s) (ancestor (placeIn s m .u) (placeIn s m .top)) (settled m (placeIn s m)) consistent families b c x y
+      (settles-entered b (2 * c) x p) (settles-entered b (2 * c + 1) y q)
+
+-- ---- and each entry is one of these
+
+-- beside an even number stands the next, beside an odd one the one before
+beside : (m : List ℕ) (l x n : ℕ) (v w : List ℕ) → n % 2 ≡ x % 2 → Settles m l x v → Settles m l (sibling x) w → Settles m (suc l) (x / 2) (parentValue n v w)
+beside m l x n v w e p q =
+    elim (ℕ-discrete (x % 2) 0) [
+      | yes z ↦
+          let a : x ≡ 2 * (x / 2) = omega arith in
+          let b : sibling x ≡ 2 * (x / 2) + 1 = omega (arith, sibling-even x z) in
+          let z′ : n % 2 ≡ 0 = e ∙ z in
+          rw (parent-even n v w z′) (parent l (x / 2) v w (subst (λ (y : ℕ). Settles m l y v) a p) (subst (λ (y : ℕ). Settles m l y w) b q))
+      | no z ↦
+          let a : x ≡ 2 * (x / 2) + 1 = omega arith in
+          let b : sibling x ≡ 2 * (x / 2) = omega (arith, sibling-odd x z) in
+          let z′ : n % 2 ≡ 0 → ⊥ = λ y. z (sym e ∙ y) in
+          rw (parent-odd n v w z′) (parent l (x / 2) w v (subst (λ (y : ℕ). Settles m l y w) b q) (subst (λ (y : ℕ). Settles m l y v) a p))
+    ]
+
+-- a number of the tree is position i of layer l, and the message settles it with v
+pub record Settled (h : ℕ) (m : List ℕ) (n : ℕ) (v : List ℕ) : Type 0 where
+  pub l : ℕ
+  pub i : ℕ
+  pub low : l ≤ h
+  pub inside : i < 2 ^ (h - l)
+  pub number : n ≡ nodeNumber h l i
+  pub settles : Settles m l i v
+
+even-number : (h l x : ℕ) → l < h → nodeNumber h l x % 2 ≡ x % 2
+unfolding nodeNumber
+even-number h l x k =
+    let d : h - l ≡ suc (h - suc l) = omega arith in
+    let w : 2 ^ (h - l) ≡ 2 * 2 ^ (h - suc l) = ap (λ (z : ℕ). 2 ^ z) d ∙ pow-succ' 2 (h - suc l) in
+    omega arith
+
+halved : (x j : ℕ) → x / 2 / 2 ^ j ≡ x / 2 ^ suc j
+halved x j = div-div-eq-div-mul x 2 (2 ^ j) ∙ ap (λ (y : ℕ). x / y) (sym (pow-succ' 2 j))
+
+-- the entries of a path that begins at a settled position
+path-settled : (h : ℕ) (m hashes : List ℕ) (a u l x : ℕ) (v : List ℕ) → l + u ≤ h → x < 2 ^ (h - l) → Settles m l x v
+    → ((j : ℕ) → j < u → Settles m (l + j) (sibling (x / 2 ^ j)) (uncle hashes (a + j)))
+    → (e : Entry) → In e (path hashes a u (nodeNumber h l x) v) → Settled h m (e .at) (e .hash)
+unfolding path
+path-settled h m hashes a zero l x v lh xb p f e k = absurd (no-entry k)
+path-settled h m hashes a (suc u) l x v lh xb p f e k =
+    let lt : l < h = omega arith in
+    let d : h - l ≡ suc (h - suc l) = omega arith in
+    let w : 2 ^ (h - l) ≡ 2 * 2 ^ (h - suc l) = ap (λ (z : ℕ). 2 ^ z) d ∙ pow-succ' 2 (h - suc l) in
+    let half : x / 2 < 2 ^ (h - suc l) = omega arith in
+    let n = nodeNumber h l x in
+    let z0 : l + 0 ≡ l = omega arith in
+    let z1 : a + 0 ≡ a = omega arith in
+    let z2 : x / 2 ^ 0 ≡ x = ap (λ (y : ℕ). x / y) (pow-zero 2) ∙ omega arith in
+    let q : Settles m l (sibling x) (uncle hashes a) = rw (z0, z1, z2) at (f 0 (omega arith)) in
+    let up : Settles m (suc l) (x / 2) (parentValue (nodeNumber h l x) v (uncle hashes a)) = beside m l x (nodeNumber h l x) v (uncle hashes a) (even-number h l x lt) p q in
+    let on : (j : ℕ) → j < u → Settles m (suc l + j) (sibling (x / 2 / 2 ^ j)) (uncle hashes (a + 1 + j)) =
+    λ j g.
+    (let y0 : l + suc j ≡ suc l + j = omega arith in
+    let y1 : a + suc j ≡ a + 1 + j = omega arith in
+    rw (y0, y1, ← halved x j) at (f (suc j) (omega arith))) in
+    elim (path-cases hashes a u (nodeNumber h l x) v e k) [
+      | inl c ↦
+          record { l = l; i = sibling x; low = omega arith; inside = sibling-below x (2 ^ (h - l)) xb (omega arith); number = c .0 ∙ sibling-number h l x lt; settles = rw (c .1) q }
+      | inr r ↦ elim r [
+        | inl c ↦
+            record { l = suc l; i = x / 2; low = omega arith; inside = half; number = c .0 ∙ sym (node-number-parent h l x lt); settles = rw (c .1) up }
+        | inr z ↦
+            path-settled h m hashes (a + 1) u (suc l) (x / 2) (parentValue (nodeNumber h l x) v (uncle hashes a)) (omega arith) half up on e
+            (rw (node-number-parent h l x lt) z)
+      ]
+    ]
+
+-- the nodes over the base run: number o of the run's layer d, where the run is number y of its height
+run-nodes : (m : List ℕ) (leaf : ℕ → List ℕ) (base y k : ℕ) → ((j : ℕ) → j < 2 ^ k → Settles m base (y * 2 ^ k + j) (leaf j))
+    → (d o : ℕ) → d ≤ k → o < 2 ^ (k - d) → Settles m (base + d) (y * 2 ^ (k - d) + o) (node leaf d o)
+unfolding node
+run-nodes m leaf base y k f zero o a b =
+    let e : k - 0 ≡ k = omega arith in
+    let z : base ≡ base + 0 = omega arith in
+    rw e (subst (λ (x : ℕ). Settles m x (y * 2 ^ k + o) (leaf o)) z (f o (rw e at b)))
+run-nodes m leaf base y k f (suc d) o a b =
+    let e : k - d ≡ suc (k - suc d) = omega arith in
+    let w : 2 ^ (k - d) ≡ 2 * 2 ^ (k - suc d) = ap (λ (z : ℕ). 2 ^ z) e ∙ pow-succ' 2 (k - suc d) in
+    let i : ℕ = y * 2 ^ (k - suc d) + o in
+    let t : y * 2 ^ (k - d) ≡ 2 * (y * 2 ^ (k - suc d)) = ap (λ (z : ℕ). y * z) w ∙ twice y (2 ^ (k - suc d)) in
+    let l : y * 2 ^ (k - d) + 2 * o ≡ 2 * (y * 2 ^ (k - suc d) + o) = omega arith in
+    let r : y * 2 ^ (k - d) + (2 * o + 1) ≡ 2 * (y * 2 ^ (k - suc d) + o) + 1 = omega arith in
+    let z : suc (base + d) ≡ base + suc d = omega arith in
+    let pl = run-nodes m leaf base y k f d (2 * o) (omega arith) (omega arith) in
+    let pr = run-nodes m leaf base y k f d (2 * o + 1) (omega arith) (omega arith) in
+    subst (λ (x : ℕ). Settles m x (y * 2 ^ (k - suc d) + o) (pairHash (node leaf d (2 * o)) (node leaf d (2 * o + 1)))) z
+    (parent (base + d) (y * 2 ^ (k - suc d) + o) (node leaf d (2 * o)) (node leaf d (2 * o + 1))
+    (subst (λ (x : ℕ). Settles m (base + d) x (node leaf d (2 * o))) l pl) (subst (λ (x : ℕ). Settles m (base + d) x (node leaf d (2 * o + 1))) r pr))
+  where
+    twice : (a b : ℕ) → a * (2 * b) ≡ 2 * (a * b)
+    twice a b = sym (mul-assoc a 2 b) ∙ ap (λ (x : ℕ). x * b) (let q : a * 2 ≡ 2 * a = omega arith in q) ∙ mul-assoc 2 a b
+
+-- what lies d layers below a position of the tree is in the tree
+below-inside : (h base k y d o : ℕ) → base + k ≤ h → y < 2 ^ (h - (base + k)) → d ≤ k → o < 2 ^ d → y * 2 ^ d + o < 2 ^ (h - (base + (k - d)))
+below-inside h base k y d o a b c g =
+    let ex : h - (base + k) + d ≡ h - (base + (k - d)) = omega arith in
+    let pw : 2 ^ (h - (base + k)) * 2 ^ d ≡ 2 ^ (h - (base + (k - d))) = sym (pow-add 2 (h - (base + k)) d) ∙ ap (λ (z : ℕ). 2 ^ z) ex in
+    let up : (y + 1) * 2 ^ d ≤ 2 ^ (h - (base + k)) * 2 ^ d = mul-le-mul-right (2 ^ d) (omega arith) in
+    omega (arith, add-mul y 1 (2 ^ d), one-mul (2 ^ d))
+
+module _ (s m : List ℕ) (W : WellFormed s m) where
+  leaves-settled : (j : ℕ) → j < 2 ^ placeIn s m .k → Settles m (headerOf m .base) (topIndex m * 2 ^ placeIn s m .k + j) (given m (placeIn s m .k) j)
+  leaves-settled j l =
+      let K = kept s m W in
+      let q = placed (isHashes m) s m (P s m W) in
+      let e : topIndex m * 2 ^ placeIn s m .k ≡ headerOf m .index = ap (λ (y : ℕ). topIndex m * y) (q .power) ∙ omega (arith, div-add-mod' (headerOf m .index) (headerOf m .len), K .multiple) in
+      rw (e, given-is s m W j l) (inRun j (omega (arith, q .power)))
+
+  top-settled : Settles m (topLayer m) (topIndex m) (node (given m (placeIn s m .k)) (placeIn s m .k) 0)
+  top-settled =
+      let k = placeIn s m .k in
+      let e : placeIn s m .k - placeIn s m .k ≡ 0 = omega arith in
+      let w : topIndex m * 2 ^ (placeIn s m .k - placeIn s m .k) + 0 ≡ topIndex m = ap (λ (z : ℕ). topIndex m * 2 ^ z + 0) e ∙ omega (arith, pow-zero 2) in
+      let b : 0 < 2 ^ (placeIn s m .k - placeIn s m .k) = pow-pos (placeIn s m .k - placeIn s m .k) in
+      let x : Settles m (headerOf m .base + placeIn s m .k) (topIndex m * 2 ^ (placeIn s m .k - placeIn s m .k) + 0) (node (given m (placeIn s m .k)) (placeIn s m .k) 0) =
+      run-nodes m (given m (placeIn s m .k)) (headerOf m .base) (topIndex m) (placeIn s m .k) leaves-settled (placeIn s m .k) 0 (omega arith) b in
+      rw w at (subst (λ (y : ℕ). Settles m (headerOf m .base + y) (topIndex m * 2 ^ (placeIn s m .k - placeIn s m .k) + 0) (node (given m (placeIn s m .k)) (placeIn s m .k) 0)) (k-is s m W) x)
+
+  run-settled : (e : Entry) → In e (subtree (given m (placeIn s m .k)) (placeIn s m .k) (placeIn s m .top) 0) → Settled (heightOf s) m (e .at) (e .hash)
+  run-settled e x =
+      let K = kept s m W in
+      let k = placeIn s m .k in
+      let leaf = given m (placeIn s m .k) in
+      let Q = subtree-value leaf (placeIn s m .k) (placeIn s m .top) 0 e x in
+      let r : Q .layers ≤ placeIn s m .k = Q .reach in
+      let wi : headerOf m .base + placeIn s m .k ≤ heightOf s = rw (k-is s m W) (K .within) in
+      let ti = top-inside (headerOf m) (blocksOf s) (heightOf s) (facts-leaves s (facts s m W)) K in
+      let ti′ : topIndex m < 2 ^ (heightOf s - (headerOf m .base + placeIn s m .k)) = rw (k-is s m W) ti in
+      let tp : placeIn s m .top ≡ nodeNumber (heightOf s) (headerOf m .base + placeIn s m .k) (topIndex m) = rw (k-is s m W) (top-is s m W) in
+      let ly : headerOf m .base + placeIn s m .k - Q .layers ≡ headerOf m .base + (placeIn s m .k - Q .layers) = omega arith in
+      let bk : placeIn s m .k - (placeIn s m .k - Q .layers) ≡ Q .layers = omega arith in
+      let nb = number-below (heightOf s) (headerOf m .base + placeIn s m .k) (topIndex m) (Q .layers) (Q .offset) wi (omega arith) in
+      let z : 0 * 2 ^ Q .layers + Q .offset ≡ Q .offset = omega arith in
+      let ob : Q .offset < 2 ^ (placeIn s m .k - (placeIn s m .k - Q .layers)) = rw bk (Q .inside) in
+      let st = run-nodes m leaf (headerOf m .base) (topIndex m) (placeIn s m .k) leaves-settled (placeIn s m .k - Q .layers) (Q .offset) (omega arith) ob in
+      let v : node leaf (placeIn s m .k - Q .layers) (Q .offset) ≡ e .hash = sym (Q .value ∙ ap (node leaf (placeIn s m .k - Q .layers)) z) in
+      record {
+        l = headerOf m .base + (placeIn s m .k - Q .layers);
+        i = topIndex m * 2 ^ Q .layers + Q .offset;
+        low = omega arith;
+        inside = below-inside (heightOf s) (headerOf m .base) (placeIn s m .k) (topIndex m) (Q .layers) (Q .offset) wi ti′ r (Q .inside);
+        number = Q .position ∙ ap (λ (y : ℕ). y * 2 ^ Q .layers + Q .offset) tp ∙ nb ∙ ap (λ (y : ℕ). nodeNumber (heightOf s) y (topIndex m * 2 ^ Q .layers + Q .offset)) ly;
+        settles = rw v at (rw bk at st);
+      }
+
+  -- every entry of a message is a position that it settles
+  pub entry-settled : (e : Entry) → In e (settled m (placeIn s m)) → Settled (heightOf s) m (e .at) (e .hash)
+  unfolding settled
+  entry-settled e x =
+      let K = kept s m W in
+      let p = placeIn s m in
+      let us = unclesOf m (2 ^ p .k) (p .u) in
+      let v = node (given m (p .k)) (p .k) 0 in
+      let ti = top-inside (headerOf m) (blocksOf s) (heightOf s) (facts-leaves s (facts s m W)) K in
+      let uw : placeIn s m .u ≡ headerOf m .proof - (height (headerOf m .len) - 1) = u-is s m W in
+      let one = log-some (headerOf m .len) (K .two) in
+      elim (in-cases (subtree (given m (p .k)) (p .k) (p .top) 0) (path us 0 (p .u) (p .top) v) x) [
+        | inl a ↦ run-settled e a
+        | inr c ↦
+            path-settled (heightOf s) m us 0 (p .u) (topLayer m) (topIndex m) v (omega (arith, K .within, K .above)) ti top-settled
+            (λ j l.
+            let z : 0 + j ≡ j = omega arith in
+            rw (z, uncle-is s m W j l) (asUncle j (rw (u-is s m W) at l))) e (rw (top-is s m W) at c)
+      ]
+
+  -- A MESSAGE SETTLES exactly the positions of its entries, which are positions of the tree
+  pub settles-exactly : (l i : ℕ) (v : List ℕ) → Settles m l i v ↔ Entered (heightOf s) (settled m (placeIn s m)) l i v
+  settles-exactly l i v = (settles-entered s m W l i v, back)
+    where
+      back : Entered (heightOf s) (settled m (placeIn s m)) l i v → Settles m l i v
+      back e =
+          let S = entry-settled (record { at = nodeNumber (heightOf s) l i; hash = v }) (e .has) in
+          let d = node-number-distinct (heightOf s) l i (S .l) (S .i) (e .low) (S .low) (e .inside) (S .inside) (S .number) in
+          rw (← d .0, ← d .1) at (S .settles)
+
+  -- none with two hashes
+  pub settles-once : (l i : ℕ) (v w : List ℕ) → Settles m l i v → Settles m l i w → v ≡ w
+  settles-once l i v w a b =
+      consistent s m W (record { at = nodeNumber (heightOf s) l i; hash = v }) (record { at = nodeNumber (heightOf s) l i; hash = w })
+      (settles-entered s m W l i v a .has) (settles-entered s m W l i w b .has) refl
+
+  -- its anchor with the hash that its hashes chain to
+  anchor-entry : Has (anchor (placeIn s m)) (worked m (placeIn s m)) (settled m (placeIn s m))
+  unfolding anchor worked settled
+  anchor-entry =
+      let p = placeIn s m in
+      settled-anchor (given m (p .k)) (unclesOf m (2 ^ p .k) (p .u)) (p .k) (p .top) 0 0 (p .u)
+
+  anchor-worked : Settles m (anchorLayer m) (anchorIndex m) (worked m (placeIn s m))
+  anchor-worked =
+      let t = tree-says (heightOf s) (anchorLayer m) (anchorIndex m) (anchor-in-tree (isHashes m) s m (P s m W)) in
+      settles-exactly (anchorLayer m) (anchorIndex m) (worked m (placeIn s m)) .1
+      (record { low = t .0; inside = t .1; has = rw (anchor-number (isHashes m) s m (P s m W)) at anchor-entry })
+
+  pub anchor-settled : (w : List ℕ) → Settles m (anchorLayer m) (anchorIndex m) w ↔ Chain m (placeIn s m) w
+  anchor-settled w = (
+    λ a. (let e = settles-once (anchorLayer m) (anchorIndex m) w (worked m (placeIn s m)) a anchor-worked in rw e (worked-chains m (placeIn s m))),
+    λ c. (let e = chain-is-worked m (placeIn s m) w c in rw e anchor-worked),
+  )
