@@ -26,3 +26,4 @@ pub mod AnchorHeld
 pub mod Known
 pub mod Table
 pub mod Positions
+pub mod HeldWhen

@@ -2,8 +2,7 @@
 -- of which is the anchor; and that these are the positions which the contracts speak of.
 -- Assumes nothing.
 use mathlib.Core.Path.{_≡_, refl, ap, ap₂, sym, _∙_, subst}
-use mathlib.Core.Bool.{true}
-use mathlib.Core.List.{List, _++_}
+use mathlib.Core.List.{List}
 use mathlib.Core.Logic.{_⊎_, inl, inr, _↔_}
 use Prim.Native.Nat.{ℕ, zero, suc, _+_, _-_, _*_, _/_, _%_, _^_, _≤_, _<_}
 use native.Mathlib.Omega.{arith}
@@ -21,16 +20,15 @@ use Rattle.cells.specs.Entries.{Entry}
 use Rattle.cells.specs.EntriesLaws.{In, here, there, Has, has-same, in-left, in-right, in-cases, no-entry, Consistent}
 use Rattle.store.specs.Store.{blocksOf, heightOf}
 use Rattle.store.specs.StoreLaws.{Facts, usable-facts, facts-leaves, tree-says}
-use Rattle.runs.specs.Subtree.{subtree, runLeaf}
+use Rattle.runs.specs.Subtree.{subtree}
 use Rattle.runs.specs.SubtreeLaws.{FamilyIn, subtree-has, subtree-value, number-below, run-leaf-in}
 use Rattle.runs.specs.Path.{sibling, uncle, ancestor, parentValue, path}
 use Rattle.runs.specs.PathLaws.{path-cases, sibling-even, sibling-odd, sibling-below, parent-even, parent-odd}
 use Rattle.runs.specs.SettledLaws.{settled-consistent, settled-anchor, settled-family}
-use Rattle.header.specs.declared.Header.{Header}
 use Rattle.header.specs.Header.{headerOf, isHashes, placeOf, messageSize}
 use Rattle.header.specs.HeaderLaws.{Kept, rules-kept, log-some, top-inside}
 use Rattle.messages.specs.Take.{runOf, given, unclesOf, settled, anchor, worked, placeIn}
-use Rattle.messages.specs.TakeLaws.{Passed, passed, Placed, placed}
+use Rattle.messages.specs.TakeLaws.{Passed, passed, placed}
 use Rattle.promises.specs.TakenWhen.{WellFormed}
 use Rattle.promises.specs.Chains.{Chain, worked-chains, chain-is-worked}
 use Rattle.promises.specs.RightPadding.{sibling-number}
@@ -159,7 +157,7 @@ module _ (s m : List ℕ) (W : WellFormed s m) where
       let e : 49 + 32 * 2 ^ placeIn s m .k + 32 * j ≡ 49 + 32 * (headerOf m .len + j) = omega (arith, q .power) in
       cut-cut m (49 + 32 * 2 ^ placeIn s m .k) (32 * placeIn s m .u) (32 * j) 32 (omega arith) ∙ ap (λ (y : ℕ). cut m y 32) e
 
-  run-entry : (j : ℕ) → j < 2 ^ placeIn s m .k → Has (placeIn s m .top * 2 ^ placeIn s m .k + j) (given m (placeIn s m .k) j) (settled m (placeIn s m))
+  pub run-entry : (j : ℕ) → j < 2 ^ placeIn s m .k → Has (placeIn s m .top * 2 ^ placeIn s m .k + j) (given m (placeIn s m .k) j) (settled m (placeIn s m))
   unfolding settled node
   run-entry j l =
       let p = placeIn s m in
@@ -171,7 +169,7 @@ module _ (s m : List ℕ) (W : WellFormed s m) where
       (has-same A (p .top * 2 ^ p .k + j) (p .top * 2 ^ p .k + j) (node leaf (p .k - p .k) (0 * 2 ^ p .k + j)) (leaf j) refl
       (ap (λ (y : ℕ). node leaf y (0 * 2 ^ p .k + j)) e ∙ ap leaf q) (subtree-has leaf (p .k) (p .top) 0 (p .k) j (omega arith) l))
 
-  uncle-entry : (i : ℕ) → i < placeIn s m .u
+  pub uncle-entry : (i : ℕ) → i < placeIn s m .u
       → Has (sibling (ancestor i (placeIn s m .top))) (uncle (unclesOf m (2 ^ placeIn s m .k) (placeIn s m .u)) i) (settled m (placeIn s m))
   unfolding settled
   uncle-entry i l =
