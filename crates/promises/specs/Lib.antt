@@ -27,3 +27,4 @@ pub mod Known
 pub mod Table
 pub mod Positions
 pub mod HeldWhen
+pub mod HeldAfter
