@@ -1,31 +1,26 @@
 -- Demand 2: "its positions and no others", with "held" as kd_held answers: after a message that is taken, and after a layer that is
 -- loaded, a position is held exactly if it was, with the same bytes, or the message or layer settles it, with its value.
 -- Assumes nothing.
-use mathlib.Core.Path.{_≡_, refl, ap, sym, _∙_, subst}
+use mathlib.Core.Path.{_≡_, ap, sym, _∙_, subst}
 use mathlib.Core.Bool.{true}
 use mathlib.Core.List.{List}
 use mathlib.Core.Logic.{_⊎_, inl, inr, _↔_}
-use Prim.Native.Nat.{ℕ, _+_, _-_, _*_, _^_, _≤_, _<_}
-use native.Mathlib.Omega.{arith}
+use Prim.Native.Nat.{ℕ, _<_}
 use Rattle.tree.specs.Geometry.{nodeNumber}
-use Rattle.tree.specs.Values.{node, layerLeaf}
 use Rattle.cells.specs.Cells.{heldAt, hashAt}
-use Rattle.cells.specs.Entries.{Entry}
 use Rattle.store.specs.Store.{heightOf, positions}
 use Rattle.store.specs.StoreLaws.{Facts, usable-facts, tree-says, tree-number}
 use Rattle.header.specs.Header.{isHashes}
-use Rattle.messages.specs.Take.{settled, placeIn, takeNumber, takeAfter}
+use Rattle.messages.specs.Take.{takeNumber, takeAfter}
 use Rattle.messages.specs.TakeLaws.{passed}
-use Rattle.pieces.specs.Pieces.{layerOfPieces, layerNumber, layerAfter}
-use Rattle.pieces.specs.PiecesLaws.{layer-loads, layer-held, layer-only}
 use Rattle.promises.specs.Held.{Holds}
 use Rattle.promises.specs.TakenWhen.{WellFormed, taken-well-formed}
 use Rattle.promises.specs.Settles.{settled-held, no-others}
-use Rattle.promises.specs.Grows.{Grown, grown-take, grown-layer}
+use Rattle.promises.specs.Grows.{Grown, grown-take}
 use Rattle.promises.specs.Again.{what-is-held}
 use Rattle.promises.specs.ReadBack.{holds-at}
 use Rattle.promises.specs.ReadThere.{settled-holds}
-use Rattle.promises.specs.Positions.{Settles, Entered, settles-entered, settles-exactly}
+use Rattle.promises.specs.Positions.{Settles, settles-entered, settles-exactly}
 
 -- ---- from a store to one that holds at least as much
 

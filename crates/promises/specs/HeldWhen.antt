@@ -2,8 +2,8 @@
 -- answers; positions are layers and indices.
 -- Assumes nothing.
 use mathlib.Core.Path.{_≡_, refl, ap, sym, _∙_}
-use mathlib.Core.Bool.{Bool, true, false, cond, false≢true}
-use mathlib.Core.List.{List, [], _∷_}
+use mathlib.Core.Bool.{Bool, true, false, cond}
+use mathlib.Core.List.{List}
 use mathlib.Core.Logic.{_⊎_, inl, inr, _↔_}
 use Prim.Native.Nat.{ℕ, _+_, _*_, _^_}
 use native.Mathlib.Omega.{arith}
@@ -14,8 +14,8 @@ use Rattle.numbers.specs.Numbers.{wrongPadding, noAnchor, differs, conflict, ju
 use Rattle.tree.specs.Geometry.{Padding, nodeNumber}
 use Rattle.tree.specs.Values.{padValue}
 use Rattle.cells.specs.Cells.{heldAt, hashAt}
-use Rattle.cells.specs.Entries.{Entry, agreesAt, agrees}
-use Rattle.cells.specs.EntriesLaws.{In, here, there, no-entry, agrees-held, agrees-free, agrees-in, in-agrees}
+use Rattle.cells.specs.Entries.{Entry, agrees}
+use Rattle.cells.specs.EntriesLaws.{In}
 use Rattle.store.specs.Store.{blocksOf, heightOf}
 use Rattle.store.specs.StoreLaws.{Facts, usable-facts, tree-says}
 use Rattle.runs.specs.Path.{sibling, uncle, ancestor}
@@ -30,6 +30,7 @@ use Rattle.promises.specs.ReadBack.{holds-at}
 use Rattle.promises.specs.RightPadding.{Pads, at-place, settled-pads}
 use Rattle.promises.specs.Replies.{padded-when}
 use Rattle.promises.specs.AnchorHeld.{anchorLayer, anchorIndex, anchor-number, anchor-in-tree}
+use Rattle.promises.specs.Differing.{NoneDiffers, OneDiffers, either, not-both, each-or, none-differs, one-differs, differs-one, differs-none}
 use Rattle.promises.specs.Positions.{Settles, Settled, settles-entered, entry-settled, run-entry, uncle-entry}
 
 -- ---- what each number is about
@@ -54,27 +55,13 @@ AnchorIs s m w = Holds s (anchorLayer m) (anchorIndex m) w
 abbrev pub AnchorLacks : List ℕ → List ℕ → Type 0
 AnchorLacks s m = (w : List ℕ) → Holds s (anchorLayer m) (anchorIndex m) w → ⊥
 
--- no held hash differs from what the message settles
-abbrev pub NoneDiffers : List ℕ → List ℕ → Type 0
-NoneDiffers s m = (l i : ℕ) (v w : List ℕ) → Settles m l i v → Holds s l i w → w ≡ v
-
--- one does
-pub record OneDiffers (s m : List ℕ) : Type 0 where
-  pub l : ℕ
-  pub i : ℕ
-  pub v : List ℕ
-  pub w : List ℕ
-  pub settles : Settles m l i v
-  pub held : Holds s l i w
-  pub other : w ≡ v → ⊥
-
 -- 0: its padding is right, its hashes chain to its anchor, which is held, and no held hash differs
 pub record Acceptable (s m : List ℕ) : Type 0 where
   pub padding : PaddingRight s m
   pub w : List ℕ
   pub held : AnchorIs s m w
   pub chains : Chain m (placeIn s m) w
-  pub agree : NoneDiffers s m
+  pub agree : NoneDiffers s (Settles m)
 
 -- 6: its padding is right, its anchor is not held
 pub record Unanchored (s m : List ℕ) : Type 0 where
@@ -94,32 +81,9 @@ pub record Conflicting (s m : List ℕ) : Type 0 where
   pub w : List ℕ
   pub held : AnchorIs s m w
   pub chains : Chain m (placeIn s m) w
-  pub one : OneDiffers s m
+  pub one : OneDiffers s (Settles m)
 
 -- ---- from the tests to these
-
-either : (b : Bool) → (b ≡ true) ⊎ (b ≡ false)
-either true = inl refl
-either false = inr refl
-
-not-both : {b : Bool} → b ≡ true → b ≡ false → ⊥
-not-both t f = false≢true (sym f ∙ t)
-
--- each entry of a list is right, or there is one wrong
-each-or : (L : List Entry) (A : Entry → Type 0) (B : Type 0) → ((e : Entry) → In e L → A e ⊎ B) → ((e : Entry) → In e L → A e) ⊎ B
-each-or [] A B f = inl (λ e x. absurd (no-entry x))
-each-or (g ∷ L) A B f =
-    elim (f g here) [
-      | inr b ↦ inr b
-      | inl a ↦ elim (each-or L A B (λ e x. f e (there x))) [
-        | inr b ↦ inr b
-        | inl k ↦ inl (λ e x. cases a k e x)
-      ]
-    ]
-  where
-    cases : A g → ((e : Entry) → In e L → A e) → (e : Entry) → In e (g ∷ L) → A e
-    cases a k e here = a
-    cases a k e (there x) = k e x
 
 module _ (s m : List ℕ) (W : WellFormed s m) where
   P : Passed (isHashes m) s m
@@ -197,50 +161,6 @@ module _ (s m : List ℕ) (W : WellFormed s m) where
   anchor-lacks : heldAt s (anchor (placeIn s m)) ≡ false → AnchorLacks s m
   anchor-lacks f w h = not-both (holds-anchor w h .0) f
 
-  -- held hashes
-
-  none-differs : agrees s (settled m (placeIn s m)) ≡ true → NoneDiffers s m
-  none-differs a l i v w x h =
-      let E = settles-entered s m W l i v x in
-      let k = what-is-held s l i w facts h in
-      let o = agrees-in s (settled m (placeIn s m)) a (record { at = nodeNumber (heightOf s) l i; hash = v }) (E .has) in
-      sym (k .2) ∙ same-true (hashAt s (nodeNumber (heightOf s) l i)) v (sym (agrees-held s (nodeNumber (heightOf s) l i) v (k .1)) ∙ o)
-
-  held-entry : (e : Entry) → (S : Settled (heightOf s) m (e .at) (e .hash)) → heldAt s (e .at) ≡ true → Holds s (S .l) (S .i) (hashAt s (e .at))
-  held-entry e S h = let n = S .number in rw n (holds-at s (S .l) (S .i) facts (S .low) (S .inside) (rw n at h))
-
-  agrees-or : (e : Entry) → In e (settled m (placeIn s m)) → (agreesAt s (e .at) (e .hash) ≡ true) ⊎ OneDiffers s m
-  agrees-or e x =
-      let S = entry-settled s m W e x in
-      elim (either (heldAt s (e .at))) [
-        | inr f ↦ inl (agrees-free s (e .at) (e .hash) f)
-        | inl h ↦ elim (either (same (hashAt s (e .at)) (e .hash))) [
-          | inl t ↦ inl (agrees-held s (e .at) (e .hash) h ∙ t)
-          | inr f ↦ inr (record { l = S .l; i = S .i; v = e .hash; w = hashAt s (e .at); settles = S .settles; held = held-entry e S h; other = same-false (hashAt s (e .at)) (e .hash) f })
-        ]
-      ]
-
-  one-differs : agrees s (settled m (placeIn s m)) ≡ false → OneDiffers s m
-  one-differs f =
-      elim (each-or (settled m (placeIn s m)) (λ e. agreesAt s (e .at) (e .hash) ≡ true) (OneDiffers s m) agrees-or) [
-        | inl k ↦ absurd (not-both (in-agrees s (settled m (placeIn s m)) k) f)
-        | inr w ↦ w
-      ]
-
-  differs-one : OneDiffers s m → agrees s (settled m (placeIn s m)) ≡ false
-  differs-one d =
-      elim (either (agrees s (settled m (placeIn s m)))) [
-        | inl t ↦ absurd (d .other (none-differs t (d .l) (d .i) (d .v) (d .w) (d .settles) (d .held)))
-        | inr f ↦ f
-      ]
-
-  differs-none : NoneDiffers s m → agrees s (settled m (placeIn s m)) ≡ true
-  differs-none n =
-      elim (either (agrees s (settled m (placeIn s m)))) [
-        | inl t ↦ t
-        | inr f ↦ let d = one-differs f in absurd (d .other (n (d .l) (d .i) (d .v) (d .w) (d .settles) (d .held)))
-      ]
-
 -- ---- the numbers
 
 five : (p h a g : Bool) → cond p (judged h a g) wrongPadding ≡ wrongPadding → p ≡ false
@@ -299,7 +219,7 @@ module _ (s m : List ℕ) (W : WellFormed s m) where
           w = hashAt s (anchor (placeIn s m));
           held = anchor-holds s m W (r .held);
           chains = rw (r .chains) (worked-chains m (placeIn s m));
-          agree = none-differs s m W (r .agree);
+          agree = none-differs s (facts s m W) (Settles m) (settled m (placeIn s m)) (settles-entered s m W) (entry-settled s m W) (r .agree);
         }),
     λ b.
         (let k = holds-anchor s m W (b .w) (b .held) in
@@ -308,7 +228,7 @@ module _ (s m : List ℕ) (W : WellFormed s m) where
           padding = right-padding s m W (b .padding);
           held = k .0;
           chains = k .1 ∙ chain-is-worked m (placeIn s m) (b .w) (b .chains);
-          agree = differs-none s m W (b .agree);
+          agree = differs-none s (facts s m W) (Settles m) (settled m (placeIn s m)) (settles-entered s m W) (entry-settled s m W) (b .agree);
         })),
   )
 
@@ -360,9 +280,9 @@ module _ (s m : List ℕ) (W : WellFormed s m) where
           w = hashAt s (anchor (placeIn s m));
           held = anchor-holds s m W (t .1);
           chains = rw c (worked-chains m (placeIn s m));
-          one = one-differs s m W (t .3);
+          one = one-differs s (facts s m W) (Settles m) (settled m (placeIn s m)) (settles-entered s m W) (entry-settled s m W) (t .3);
         }),
     λ d.
         (let k = holds-anchor s m W (d .w) (d .held) in
-        held-differs-then-8 s m W (right-padding s m W (d .padding)) (k .0) (k .1 ∙ chain-is-worked m (placeIn s m) (d .w) (d .chains)) (differs-one s m W (d .one))),
+        held-differs-then-8 s m W (right-padding s m W (d .padding)) (k .0) (k .1 ∙ chain-is-worked m (placeIn s m) (d .w) (d .chains)) (differs-one s (facts s m W) (Settles m) (settled m (placeIn s m)) (settles-entered s m W) (entry-settled s m W) (d .one))),
   )

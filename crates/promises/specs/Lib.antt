@@ -25,6 +25,8 @@ pub mod TrueMessage
 pub mod AnchorHeld
 pub mod Known
 pub mod Table
+pub mod Over
+pub mod Differing
 pub mod Positions
 pub mod HeldWhen
 pub mod HeldAfter

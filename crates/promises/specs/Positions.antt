@@ -1,27 +1,26 @@
 -- What a message settles, by layer and index and from its bytes alone, as 01 says it: given hashes and their parents, the last
 -- of which is the anchor; and that these are the positions which the contracts speak of.
 -- Assumes nothing.
-use mathlib.Core.Path.{_≡_, refl, ap, ap₂, sym, _∙_, subst}
+use mathlib.Core.Path.{_≡_, refl, ap, sym, _∙_, subst}
 use mathlib.Core.List.{List}
 use mathlib.Core.Logic.{_⊎_, inl, inr, _↔_}
 use Prim.Native.Nat.{ℕ, zero, suc, _+_, _-_, _*_, _/_, _%_, _^_, _≤_, _<_}
 use native.Mathlib.Omega.{arith}
-use native.Mathlib.Nat.{pow-succ', pow-zero, mul-assoc, add-mul, one-mul, mul-le-mul-right, div-add-mod', div-div-eq-div-mul}
+use native.Mathlib.Nat.{pow-succ', pow-zero, div-add-mod', div-div-eq-div-mul}
 use native.Mathlib.Decide.{ℕ-discrete}
 use lib.ListN.{length}
-use lib.Pow.{pow-add, pow-pos}
 use Rattle.octets.specs.Octets.{cut, zeroHash}
 use Rattle.octets.specs.OctetsLaws.{cut-cut, cut-length}
 use Rattle.sha256.specs.Sha256.{pairHash}
 use Rattle.tree.specs.Geometry.{height, nodeNumber}
-use Rattle.tree.specs.GeometryLaws.{node-number-left, node-number-right, node-number-parent, node-number-distinct}
+use Rattle.tree.specs.GeometryLaws.{node-number-parent}
 use Rattle.tree.specs.Values.{node}
 use Rattle.cells.specs.Entries.{Entry}
 use Rattle.cells.specs.EntriesLaws.{In, here, there, Has, has-same, in-left, in-right, in-cases, no-entry, Consistent}
 use Rattle.store.specs.Store.{blocksOf, heightOf}
 use Rattle.store.specs.StoreLaws.{Facts, usable-facts, facts-leaves, tree-says}
 use Rattle.runs.specs.Subtree.{subtree}
-use Rattle.runs.specs.SubtreeLaws.{FamilyIn, subtree-has, subtree-value, number-below, run-leaf-in}
+use Rattle.runs.specs.SubtreeLaws.{FamilyIn, subtree-has, run-leaf-in}
 use Rattle.runs.specs.Path.{sibling, uncle, ancestor, parentValue, path}
 use Rattle.runs.specs.PathLaws.{path-cases, sibling-even, sibling-odd, sibling-below, parent-even, parent-odd}
 use Rattle.runs.specs.SettledLaws.{settled-consistent, settled-anchor, settled-family}
@@ -33,6 +32,7 @@ use Rattle.promises.specs.TakenWhen.{WellFormed}
 use Rattle.promises.specs.Chains.{Chain, worked-chains, chain-is-worked}
 use Rattle.promises.specs.RightPadding.{sibling-number}
 use Rattle.promises.specs.ReadBack.{run-number, run-in-layer, uncle-layer, uncle-number, uncle-in-layer}
+use Rattle.promises.specs.Over.{Entered, Found, entered-parent, found-at, top-over, subtree-found}
 use Rattle.promises.specs.AnchorHeld.{unclesIn, anchorLayer, anchorIndex, anchor-number, anchor-in-tree}
 
 -- hash j of a message: the base run, then the uncles
@@ -65,56 +65,6 @@ path-uncle hashes a (suc u) n v (suc i) l =
     let q : a + 1 + i ≡ a + suc i = omega arith in
     there (there (has-same (path hashes (a + 1) u (n / 2) (parentValue n v (uncle hashes a))) (sibling (ancestor i (n / 2))) (sibling (ancestor i (n / 2))) (uncle hashes (a + 1 + i)) (uncle hashes (a + suc i)) refl (ap (uncle hashes) q)
     (path-uncle hashes (a + 1) u (n / 2) (parentValue n v (uncle hashes a)) i (omega arith))))
-
--- position n has an entry with hash v, and it is position i of layer l
-pub record Entered (h : ℕ) (L : List Entry) (l i : ℕ) (v : List ℕ) : Type 0 where
-  pub low : l ≤ h
-  pub inside : i < 2 ^ (h - l)
-  pub has : Has (nodeNumber h l i) v L
-
--- a list in which each entry is the anchor's or has its family, has the parent of every two children
-module _ (h a : ℕ) (L : List Entry) (c : Consistent L) (f : (e : Entry) → In e L → (e .at ≡ a) ⊎ FamilyIn L (e .at)) where
-  family-parent : (q n : ℕ) (x y : List ℕ) → q / 2 ≡ n → Has (2 * n) x L → Has (2 * n + 1) y L → FamilyIn L q → Has n (pairHash x y) L
-  family-parent q n x y e p r w =
-      let l : Has (2 * n) (w .l) L = rw e at (w .left) in
-      let g : Has (2 * n + 1) (w .r) L = rw e at (w .right) in
-      let t : Has n (pairHash (w .l) (w .r)) L = rw e at (w .parent) in
-      let ex = c (record { at = 2 * n; hash = w .l }) (record { at = 2 * n; hash = x }) l p refl in
-      let ey = c (record { at = 2 * n + 1; hash = w .r }) (record { at = 2 * n + 1; hash = y }) g r refl in
-      has-same L n n (pairHash (w .l) (w .r)) (pairHash x y) refl (ap₂ pairHash ex ey) t
-
-  number-parent : (n : ℕ) (x y : List ℕ) → Has (2 * n) x L → Has (2 * n + 1) y L → Has n (pairHash x y) L
-  number-parent n x y p r =
-      elim (f (record { at = 2 * n; hash = x }) p) [
-        | inr w ↦ family-parent (2 * n) n x y (omega arith) p r w
-        | inl e ↦ elim (f (record { at = 2 * n + 1; hash = y }) r) [
-          | inr w ↦ family-parent (2 * n + 1) n x y (omega arith) p r w
-          | inl g ↦ let w : ⊥ = omega arith in absurd w
-        ]
-      ]
-
-  entered-parent : (l i : ℕ) (x y : List ℕ) → Entered h L l (2 * i) x → Entered h L l (2 * i + 1) y → Entered h L (suc l) i (pairHash x y)
-  entered-parent l i x y p r =
-      let lt = below l i (p .low) (r .inside) in
-      let d : h - l ≡ suc (h - suc l) = omega arith in
-      let w : 2 ^ (h - l) ≡ 2 * 2 ^ (h - suc l) = ap (λ (z : ℕ). 2 ^ z) d ∙ pow-succ' 2 (h - suc l) in
-      record {
-        low = omega arith;
-        inside = omega (arith, r .inside);
-        has =
-            number-parent (nodeNumber h (suc l) i) x y (rw (node-number-left h l i lt) at (p .has)) (rw (node-number-right h l i lt) at (r .has));
-      }
-    where
-      below : (l i : ℕ) → l ≤ h → 2 * i + 1 < 2 ^ (h - l) → l < h
-      below l i g k =
-          elim (ℕ-discrete l h) [
-            | yes e ↦
-                let z : h - l ≡ 0 = omega arith in
-                let o : 2 ^ (h - l) ≡ 1 = ap (λ (y : ℕ). 2 ^ y) z ∙ pow-zero 2 in
-                let w : ⊥ = omega arith in
-                absurd w
-            | no ne ↦ omega arith
-          ]
 
 module _ (s m : List ℕ) (W : WellFormed s m) where
   P : Passed (isHashes m) s m
@@ -240,13 +190,8 @@ beside m l x n v w e p q =
     ]
 
 -- a number of the tree is position i of layer l, and the message settles it with v
-pub record Settled (h : ℕ) (m : List ℕ) (n : ℕ) (v : List ℕ) : Type 0 where
-  pub l : ℕ
-  pub i : ℕ
-  pub low : l ≤ h
-  pub inside : i < 2 ^ (h - l)
-  pub number : n ≡ nodeNumber h l i
-  pub settles : Settles m l i v
+abbrev pub Settled : ℕ → List ℕ → ℕ → List ℕ → Type 0
+Settled h m = Found h (Settles m)
 
 even-number : (h l x : ℕ) → l < h → nodeNumber h l x % 2 ≡ x % 2
 unfolding nodeNumber
@@ -292,39 +237,6 @@ path-settled h m hashes a (suc u) l x v lh xb p f e k =
       ]
     ]
 
--- the nodes over the base run: number o of the run's layer d, where the run is number y of its height
-run-nodes : (m : List ℕ) (leaf : ℕ → List ℕ) (base y k : ℕ) → ((j : ℕ) → j < 2 ^ k → Settles m base (y * 2 ^ k + j) (leaf j))
-    → (d o : ℕ) → d ≤ k → o < 2 ^ (k - d) → Settles m (base + d) (y * 2 ^ (k - d) + o) (node leaf d o)
-unfolding node
-run-nodes m leaf base y k f zero o a b =
-    let e : k - 0 ≡ k = omega arith in
-    let z : base ≡ base + 0 = omega arith in
-    rw e (subst (λ (x : ℕ). Settles m x (y * 2 ^ k + o) (leaf o)) z (f o (rw e at b)))
-run-nodes m leaf base y k f (suc d) o a b =
-    let e : k - d ≡ suc (k - suc d) = omega arith in
-    let w : 2 ^ (k - d) ≡ 2 * 2 ^ (k - suc d) = ap (λ (z : ℕ). 2 ^ z) e ∙ pow-succ' 2 (k - suc d) in
-    let i : ℕ = y * 2 ^ (k - suc d) + o in
-    let t : y * 2 ^ (k - d) ≡ 2 * (y * 2 ^ (k - suc d)) = ap (λ (z : ℕ). y * z) w ∙ twice y (2 ^ (k - suc d)) in
-    let l : y * 2 ^ (k - d) + 2 * o ≡ 2 * (y * 2 ^ (k - suc d) + o) = omega arith in
-    let r : y * 2 ^ (k - d) + (2 * o + 1) ≡ 2 * (y * 2 ^ (k - suc d) + o) + 1 = omega arith in
-    let z : suc (base + d) ≡ base + suc d = omega arith in
-    let pl = run-nodes m leaf base y k f d (2 * o) (omega arith) (omega arith) in
-    let pr = run-nodes m leaf base y k f d (2 * o + 1) (omega arith) (omega arith) in
-    subst (λ (x : ℕ). Settles m x (y * 2 ^ (k - suc d) + o) (pairHash (node leaf d (2 * o)) (node leaf d (2 * o + 1)))) z
-    (parent (base + d) (y * 2 ^ (k - suc d) + o) (node leaf d (2 * o)) (node leaf d (2 * o + 1))
-    (subst (λ (x : ℕ). Settles m (base + d) x (node leaf d (2 * o))) l pl) (subst (λ (x : ℕ). Settles m (base + d) x (node leaf d (2 * o + 1))) r pr))
-  where
-    twice : (a b : ℕ) → a * (2 * b) ≡ 2 * (a * b)
-    twice a b = sym (mul-assoc a 2 b) ∙ ap (λ (x : ℕ). x * b) (let q : a * 2 ≡ 2 * a = omega arith in q) ∙ mul-assoc 2 a b
-
--- what lies d layers below a position of the tree is in the tree
-below-inside : (h base k y d o : ℕ) → base + k ≤ h → y < 2 ^ (h - (base + k)) → d ≤ k → o < 2 ^ d → y * 2 ^ d + o < 2 ^ (h - (base + (k - d)))
-below-inside h base k y d o a b c g =
-    let ex : h - (base + k) + d ≡ h - (base + (k - d)) = omega arith in
-    let pw : 2 ^ (h - (base + k)) * 2 ^ d ≡ 2 ^ (h - (base + (k - d))) = sym (pow-add 2 (h - (base + k)) d) ∙ ap (λ (z : ℕ). 2 ^ z) ex in
-    let up : (y + 1) * 2 ^ d ≤ 2 ^ (h - (base + k)) * 2 ^ d = mul-le-mul-right (2 ^ d) (omega arith) in
-    omega (arith, add-mul y 1 (2 ^ d), one-mul (2 ^ d))
-
 module _ (s m : List ℕ) (W : WellFormed s m) where
   leaves-settled : (j : ℕ) → j < 2 ^ placeIn s m .k → Settles m (headerOf m .base) (topIndex m * 2 ^ placeIn s m .k + j) (given m (placeIn s m .k) j)
   leaves-settled j l =
@@ -335,40 +247,17 @@ module _ (s m : List ℕ) (W : WellFormed s m) where
 
   top-settled : Settles m (topLayer m) (topIndex m) (node (given m (placeIn s m .k)) (placeIn s m .k) 0)
   top-settled =
-      let k = placeIn s m .k in
-      let e : placeIn s m .k - placeIn s m .k ≡ 0 = omega arith in
-      let w : topIndex m * 2 ^ (placeIn s m .k - placeIn s m .k) + 0 ≡ topIndex m = ap (λ (z : ℕ). topIndex m * 2 ^ z + 0) e ∙ omega (arith, pow-zero 2) in
-      let b : 0 < 2 ^ (placeIn s m .k - placeIn s m .k) = pow-pos (placeIn s m .k - placeIn s m .k) in
-      let x : Settles m (headerOf m .base + placeIn s m .k) (topIndex m * 2 ^ (placeIn s m .k - placeIn s m .k) + 0) (node (given m (placeIn s m .k)) (placeIn s m .k) 0) =
-      run-nodes m (given m (placeIn s m .k)) (headerOf m .base) (topIndex m) (placeIn s m .k) leaves-settled (placeIn s m .k) 0 (omega arith) b in
-      rw w at (subst (λ (y : ℕ). Settles m (headerOf m .base + y) (topIndex m * 2 ^ (placeIn s m .k - placeIn s m .k) + 0) (node (given m (placeIn s m .k)) (placeIn s m .k) 0)) (k-is s m W) x)
+      subst (λ (y : ℕ). Settles m (headerOf m .base + y) (topIndex m) (node (given m (placeIn s m .k)) (placeIn s m .k) 0)) (k-is s m W)
+      (top-over (Settles m) parent (given m (placeIn s m .k)) (headerOf m .base) (topIndex m) (placeIn s m .k) leaves-settled)
 
   run-settled : (e : Entry) → In e (subtree (given m (placeIn s m .k)) (placeIn s m .k) (placeIn s m .top) 0) → Settled (heightOf s) m (e .at) (e .hash)
   run-settled e x =
       let K = kept s m W in
-      let k = placeIn s m .k in
-      let leaf = given m (placeIn s m .k) in
-      let Q = subtree-value leaf (placeIn s m .k) (placeIn s m .top) 0 e x in
-      let r : Q .layers ≤ placeIn s m .k = Q .reach in
       let wi : headerOf m .base + placeIn s m .k ≤ heightOf s = rw (k-is s m W) (K .within) in
       let ti = top-inside (headerOf m) (blocksOf s) (heightOf s) (facts-leaves s (facts s m W)) K in
       let ti′ : topIndex m < 2 ^ (heightOf s - (headerOf m .base + placeIn s m .k)) = rw (k-is s m W) ti in
       let tp : placeIn s m .top ≡ nodeNumber (heightOf s) (headerOf m .base + placeIn s m .k) (topIndex m) = rw (k-is s m W) (top-is s m W) in
-      let ly : headerOf m .base + placeIn s m .k - Q .layers ≡ headerOf m .base + (placeIn s m .k - Q .layers) = omega arith in
-      let bk : placeIn s m .k - (placeIn s m .k - Q .layers) ≡ Q .layers = omega arith in
-      let nb = number-below (heightOf s) (headerOf m .base + placeIn s m .k) (topIndex m) (Q .layers) (Q .offset) wi (omega arith) in
-      let z : 0 * 2 ^ Q .layers + Q .offset ≡ Q .offset = omega arith in
-      let ob : Q .offset < 2 ^ (placeIn s m .k - (placeIn s m .k - Q .layers)) = rw bk (Q .inside) in
-      let st = run-nodes m leaf (headerOf m .base) (topIndex m) (placeIn s m .k) leaves-settled (placeIn s m .k - Q .layers) (Q .offset) (omega arith) ob in
-      let v : node leaf (placeIn s m .k - Q .layers) (Q .offset) ≡ e .hash = sym (Q .value ∙ ap (node leaf (placeIn s m .k - Q .layers)) z) in
-      record {
-        l = headerOf m .base + (placeIn s m .k - Q .layers);
-        i = topIndex m * 2 ^ Q .layers + Q .offset;
-        low = omega arith;
-        inside = below-inside (heightOf s) (headerOf m .base) (placeIn s m .k) (topIndex m) (Q .layers) (Q .offset) wi ti′ r (Q .inside);
-        number = Q .position ∙ ap (λ (y : ℕ). y * 2 ^ Q .layers + Q .offset) tp ∙ nb ∙ ap (λ (y : ℕ). nodeNumber (heightOf s) y (topIndex m * 2 ^ Q .layers + Q .offset)) ly;
-        settles = rw v at (rw bk at st);
-      }
+      subtree-found (Settles m) parent (given m (placeIn s m .k)) (headerOf m .base) (topIndex m) (placeIn s m .k) leaves-settled (heightOf s) wi ti′ e (rw tp at x)
 
   -- every entry of a message is a position that it settles
   pub entry-settled : (e : Entry) → In e (settled m (placeIn s m)) → Settled (heightOf s) m (e .at) (e .hash)
@@ -395,10 +284,7 @@ module _ (s m : List ℕ) (W : WellFormed s m) where
   settles-exactly l i v = (settles-entered s m W l i v, back)
     where
       back : Entered (heightOf s) (settled m (placeIn s m)) l i v → Settles m l i v
-      back e =
-          let S = entry-settled (record { at = nodeNumber (heightOf s) l i; hash = v }) (e .has) in
-          let d = node-number-distinct (heightOf s) l i (S .l) (S .i) (e .low) (S .low) (e .inside) (S .inside) (S .number) in
-          rw (← d .0, ← d .1) at (S .settles)
+      back e = found-at (heightOf s) (Settles m) l i v (e .low) (e .inside) (entry-settled (record { at = nodeNumber (heightOf s) l i; hash = v }) (e .has))
 
   -- none with two hashes
   pub settles-once : (l i : ℕ) (v w : List ℕ) → Settles m l i v → Settles m l i w → v ≡ w
