@@ -27,6 +27,8 @@ pub mod Known
 pub mod Table
 pub mod Over
 pub mod Differing
+pub mod Verdicts
+pub mod JudgedWhen
 pub mod Positions
 pub mod HeldWhen
 pub mod HeldAfter

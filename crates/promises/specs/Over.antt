@@ -26,10 +26,10 @@ Hashes = ℕ → ℕ → List ℕ → Type 0
 abbrev pub Rises : Hashes → Type 0
 Rises R = (l i : ℕ) (x y : List ℕ) → R l (2 * i) x → R l (2 * i + 1) y → R (suc l) i (pairHash x y)
 
--- c hashes stand in layer b from index f on; and above two children the hash of left then right
-pub data Over (leaf : ℕ → List ℕ) (b f c : ℕ) : ℕ → ℕ → List ℕ → Type 0 where
-  atLeaf : (j : ℕ) → j < c → Over leaf b f c b (f + j) (leaf j)
-  above : (l i : ℕ) (x y : List ℕ) → Over leaf b f c l (2 * i) x → Over leaf b f c l (2 * i + 1) y → Over leaf b f c (suc l) i (pairHash x y)
+-- 2^k leaves stand in layer b, those under number y of the layer k above it; and above two children the hash of left then right
+pub data Over (leaf : ℕ → List ℕ) (b y k : ℕ) : ℕ → ℕ → List ℕ → Type 0 where
+  atLeaf : (j : ℕ) → j < 2 ^ k → Over leaf b y k b (y * 2 ^ k + j) (leaf j)
+  above : (l i : ℕ) (v w : List ℕ) → Over leaf b y k l (2 * i) v → Over leaf b y k l (2 * i + 1) w → Over leaf b y k (suc l) i (pairHash v w)
 
 -- ---- positions and entries
 
@@ -161,9 +161,6 @@ module _ (R : Hashes) (rises : Rises R) (leaf : ℕ → List ℕ) (base y k : �
       }
 
 module _ (leaf : ℕ → List ℕ) (h base y k : ℕ) (wi : base + k ≤ h) (ti : y < 2 ^ (h - (base + k))) where
-  n : ℕ
-  n = nodeNumber h (base + k) y
-
   subtree-consistent : Consistent (subtree leaf k (nodeNumber h (base + k) y) 0)
   subtree-consistent =
       apart-consistent (subtree leaf k (nodeNumber h (base + k) y) 0) (subtree-apart leaf k (nodeNumber h (base + k) y) 0 (node-number-range h (base + k) y ti .0))
@@ -190,23 +187,23 @@ module _ (leaf : ℕ → List ℕ) (h base y k : ℕ) (wi : base + k ≤ h) (ti 
       }
 
   -- what stands over leaves is an entry of their subtree,
-  pub over-entered : (l i : ℕ) (v : List ℕ) → Over leaf base (y * 2 ^ k) (2 ^ k) l i v → Entered h (subtree leaf k (nodeNumber h (base + k) y) 0) l i v
+  pub over-entered : (l i : ℕ) (v : List ℕ) → Over leaf base y k l i v → Entered h (subtree leaf k (nodeNumber h (base + k) y) 0) l i v
   over-entered l i v (atLeaf j a) = leaf-entered j a
   over-entered l i v (above b c p q s t) =
       entered-parent h (nodeNumber h (base + k) y) (subtree leaf k (nodeNumber h (base + k) y) 0) subtree-consistent families b c p q
       (over-entered b (2 * c) p s) (over-entered b (2 * c + 1) q t)
 
   -- and every entry stands over them
-  pub entry-over : (e : Entry) → In e (subtree leaf k (nodeNumber h (base + k) y) 0) → Found h (Over leaf base (y * 2 ^ k) (2 ^ k)) (e .at) (e .hash)
-  entry-over e x = subtree-found (Over leaf base (y * 2 ^ k) (2 ^ k)) above leaf base y k atLeaf h wi ti e x
+  pub entry-over : (e : Entry) → In e (subtree leaf k (nodeNumber h (base + k) y) 0) → Found h (Over leaf base y k) (e .at) (e .hash)
+  entry-over e x = subtree-found (Over leaf base y k) above leaf base y k atLeaf h wi ti e x
 
   -- each position has one hash
-  pub over-once : (l i : ℕ) (v w : List ℕ) → Over leaf base (y * 2 ^ k) (2 ^ k) l i v → Over leaf base (y * 2 ^ k) (2 ^ k) l i w → v ≡ w
+  pub over-once : (l i : ℕ) (v w : List ℕ) → Over leaf base y k l i v → Over leaf base y k l i w → v ≡ w
   over-once l i v w a b =
       subtree-consistent (record { at = nodeNumber h l i; hash = v }) (record { at = nodeNumber h l i; hash = w }) (over-entered l i v a .has) (over-entered l i w b .has) refl
 
   -- the topmost has the node worked out
-  pub over-top : (w : List ℕ) → Over leaf base (y * 2 ^ k) (2 ^ k) (base + k) y w ↔ (w ≡ node leaf k 0)
+  pub over-top : (w : List ℕ) → Over leaf base y k (base + k) y w ↔ (w ≡ node leaf k 0)
   over-top w =
-      let t = top-over (Over leaf base (y * 2 ^ k) (2 ^ k)) above leaf base y k atLeaf in
+      let t = top-over (Over leaf base y k) above leaf base y k atLeaf in
       (λ a. over-once (base + k) y w (node leaf k 0) a t, λ e. rw e t)
