@@ -5,21 +5,31 @@ use mathlib.Core.Path.{_≡_, ap, sym, _∙_, subst}
 use mathlib.Core.Bool.{true}
 use mathlib.Core.List.{List}
 use mathlib.Core.Logic.{_⊎_, inl, inr, _↔_}
-use Prim.Native.Nat.{ℕ, _<_}
+use Prim.Native.Nat.{ℕ, suc, _+_, _-_, _*_, _^_, _≤_, _<_}
+use native.Mathlib.Omega.{arith}
+use native.Mathlib.Nat.{pow-succ', lt-of-not-le}
+use native.Mathlib.Decide.{decLe}
+use lib.Pow.{pow-pos, pow-mono}
 use Rattle.tree.specs.Geometry.{nodeNumber}
+use Rattle.tree.specs.GeometryLaws.{node-number-layer}
+use Rattle.tree.specs.Values.{node, layerLeaf}
 use Rattle.cells.specs.Cells.{heldAt, hashAt}
-use Rattle.store.specs.Store.{heightOf, positions}
+use Rattle.store.specs.Store.{fileLength, pieceLength, heightOf, positions}
 use Rattle.store.specs.StoreLaws.{Facts, usable-facts, tree-says, tree-number}
 use Rattle.header.specs.Header.{isHashes}
 use Rattle.messages.specs.Take.{takeNumber, takeAfter}
 use Rattle.messages.specs.TakeLaws.{passed}
+use Rattle.pieces.specs.Pieces.{layerOfPieces, layerNumber, layerAfter}
+use Rattle.pieces.specs.PiecesLaws.{layered, layer-held, layer-only}
 use Rattle.promises.specs.Held.{Holds}
 use Rattle.promises.specs.TakenWhen.{WellFormed, taken-well-formed}
 use Rattle.promises.specs.Settles.{settled-held, no-others}
-use Rattle.promises.specs.Grows.{Grown, grown-take}
+use Rattle.promises.specs.Grows.{Grown, grown-take, grown-layer}
 use Rattle.promises.specs.Again.{what-is-held}
 use Rattle.promises.specs.ReadBack.{holds-at}
 use Rattle.promises.specs.ReadThere.{settled-holds}
+use Rattle.promises.specs.Over.{Over, atLeaf, above, nodes-over, over-entered, over-once}
+use Rattle.promises.specs.JudgedWhen.{LayerFormed, LayerSettles, longer-has, layer-0}
 use Rattle.promises.specs.Positions.{Settles, settles-entered, settles-exactly}
 
 -- ---- from a store to one that holds at least as much
@@ -82,4 +92,100 @@ module _ (s m : List ℕ) (z : takeNumber s m ≡ 0) where
   held-after l i v = (
     only l i v,
     λ c. elim c [ inl h ↦ stays s (takeAfter s m) facts g l i v h | inr x ↦ settles-then-holds l i v x ],
+  )
+
+-- ---- a layer
+
+-- nothing stands below the leaves
+over-low : (leaf : ℕ → List ℕ) (b y k l i : ℕ) (v : List ℕ) → Over leaf b y k l i v → b ≤ l
+over-low leaf b y k l i v (atLeaf j a) = omega arith
+over-low leaf b y k l i v (above c j p q x z) = omega (arith, over-low leaf b y k c (2 * j) p x)
+
+module _ (s layer : List ℕ) (F : LayerFormed s layer) where
+  layer-facts : Facts s
+  layer-facts = usable-facts s (F .store)
+
+  apart : layerOfPieces s < heightOf s
+  apart = layered s layer-facts (longer-has (fileLength s) (pieceLength s) (F .longer)) .above
+
+  reaches : layerOfPieces s + (heightOf s - layerOfPieces s) ≡ heightOf s
+  reaches = omega (arith, apart)
+
+  node-settled : (l i : ℕ) → layerOfPieces s ≤ l → l ≤ heightOf s → i < 2 ^ (heightOf s - l)
+      → LayerSettles s layer l i (node (layerLeaf layer (layerOfPieces s)) (l - layerOfPieces s) i)
+  node-settled l i a b c =
+      let p = layerOfPieces s in
+      let d : layerOfPieces s + (l - layerOfPieces s) ≡ l = omega arith in
+      let k : heightOf s - layerOfPieces s - (l - layerOfPieces s) ≡ heightOf s - l = omega arith in
+      let z : 0 * 2 ^ (heightOf s - l) + i ≡ i = omega arith in
+      let o : i < 2 ^ (heightOf s - layerOfPieces s - (l - layerOfPieces s)) = rw k c in
+      rw (k, d, z) at (nodes-over (LayerSettles s layer) above (layerLeaf layer (layerOfPieces s)) (layerOfPieces s) 0 (heightOf s - layerOfPieces s) atLeaf (l - layerOfPieces s) i (omega arith) o)
+
+  -- A LAYER SETTLES exactly the positions of layer p and of all layers above it, up to the root
+  pub layer-settles-where : (l i : ℕ) → ((v : List ℕ) × LayerSettles s layer l i v) ↔ ((layerOfPieces s ≤ l) × (l ≤ heightOf s) × (i < 2 ^ (heightOf s - l)))
+  layer-settles-where l i = (
+    λ x.
+        (let p = layerOfPieces s in
+        let E = over-entered (layerLeaf layer (layerOfPieces s)) (heightOf s) (layerOfPieces s) 0 (heightOf s - layerOfPieces s) (omega (arith, reaches)) (pow-pos (heightOf s - (layerOfPieces s + (heightOf s - layerOfPieces s)))) l i (x .0) (x .1) in
+        (over-low (layerLeaf layer (layerOfPieces s)) (layerOfPieces s) 0 (heightOf s - layerOfPieces s) l i (x .0) (x .1), E .low, E .inside)),
+    λ t. (node (layerLeaf layer (layerOfPieces s)) (l - layerOfPieces s) i, node-settled l i (t .0) (t .1) (t .2)),
+  )
+
+  -- each with one hash
+  pub layer-settles-once : (l i : ℕ) (v w : List ℕ) → LayerSettles s layer l i v → LayerSettles s layer l i w → v ≡ w
+  layer-settles-once l i v w =
+      over-once (layerLeaf layer (layerOfPieces s)) (heightOf s) (layerOfPieces s) 0 (heightOf s - layerOfPieces s) (omega (arith, reaches)) (pow-pos (heightOf s - (layerOfPieces s + (heightOf s - layerOfPieces s)))) l i v w
+
+module _ (s layer : List ℕ) (z : layerNumber s layer ≡ 0) where
+  formed : LayerFormed s layer
+  formed = layer-0 s layer .0 z .0
+
+  grown : Grown s (layerAfter s layer)
+  grown = grown-layer s layer (layer-facts s layer formed)
+
+  -- every position of layer p and above it is held, with the layer's value
+  pub layer-settles-then-holds : (l i : ℕ) (v : List ℕ) → LayerSettles s layer l i v → Holds (layerAfter s layer) l i v
+  layer-settles-then-holds l i v x =
+      let t = layer-settles-where s layer formed l i .0 (v, x) in
+      let e = grown .same .layers in
+      let h = layer-held s layer z l i (t .0) (t .1) (t .2) in
+      let q = layer-settles-once s layer formed l i (node (layerLeaf layer (layerOfPieces s)) (l - layerOfPieces s) i) v (node-settled s layer formed l i (t .0) (t .1) (t .2)) x in
+      subst (Holds (layerAfter s layer) l i) (ap (λ (y : ℕ). hashAt (layerAfter s layer) (nodeNumber y l i)) e ∙ h .1 ∙ q)
+      (holds-at (layerAfter s layer) l i (grown .facts) (rw e (t .1)) (rw e (t .2)) (rw e (h .0)))
+
+  high : (l i : ℕ) → l ≤ heightOf s → i < 2 ^ (heightOf s - l) → nodeNumber (heightOf s) l i < 2 * 2 ^ (heightOf s - layerOfPieces s) → layerOfPieces s ≤ l
+  high l i a b c =
+      elim (decLe (layerOfPieces s) l) [
+        | yes y ↦ y
+        | no n ↦
+            let g = node-number-layer (heightOf s) l i b in
+            let p : 2 ^ suc (heightOf s - layerOfPieces s) ≤ 2 ^ (heightOf s - l) = pow-mono (omega (arith, lt-of-not-le n, apart s layer formed)) in
+            let w : ⊥ = omega (arith, pow-succ' 2 (heightOf s - layerOfPieces s)) in
+            absurd w
+      ]
+
+  layer-adds : (l i : ℕ) (v : List ℕ) → Holds (layerAfter s layer) l i v → Holds s l i v ⊎ LayerSettles s layer l i v
+  layer-adds l i v h =
+      let k = what-is-held (layerAfter s layer) l i v (grown .facts) h in
+      let e = grown .same .layers in
+      let a = tree-says (heightOf (layerAfter s layer)) l i (k .0) in
+      let lh : l ≤ heightOf s = rw e at (a .0) in
+      let ib : i < 2 ^ (heightOf s - l) = rw e at (a .1) in
+      let x : heldAt (layerAfter s layer) (nodeNumber (heightOf s) l i) ≡ true = rw e at (k .1) in
+      let q : hashAt (layerAfter s layer) (nodeNumber (heightOf s) l i) ≡ v = rw e at (k .2) in
+      elim (layer-only s layer z (nodeNumber (heightOf s) l i) x) [
+        | inl b ↦ inl (was s (layerAfter s layer) (layer-facts s layer formed) grown l i v h b)
+        | inr c ↦
+            let p = high l i lh ib (c .1) in
+            let w = layer-held s layer z l i p lh ib in
+            let r : node (layerLeaf layer (layerOfPieces s)) (l - layerOfPieces s) i ≡ v = sym (w .1) ∙ q in
+            inr (rw r at (node-settled s layer formed l i p lh ib))
+      ]
+
+  -- LAYER P AND ALL ABOVE, AND NO OTHERS: after a layer is loaded a position is held exactly if it was held, with the same bytes, or the
+  -- layer settles it, with the layer's value
+  pub layer-held-after : (l i : ℕ) (v : List ℕ) → Holds (layerAfter s layer) l i v ↔ (Holds s l i v ⊎ LayerSettles s layer l i v)
+  layer-held-after l i v = (
+    layer-adds l i v,
+    λ c. elim c [ inl h ↦ stays s (layerAfter s layer) (layer-facts s layer formed) grown l i v h | inr x ↦ layer-settles-then-holds l i v x ],
   )

@@ -57,7 +57,7 @@ has-longer : (n plen : ℕ) → hasLayer n plen ≡ true → plen < n
 unfolding hasLayer
 has-longer n plen t = ltb-true plen n t
 
-longer-has : (n plen : ℕ) → plen < n → hasLayer n plen ≡ true
+pub longer-has : (n plen : ℕ) → plen < n → hasLayer n plen ≡ true
 unfolding hasLayer
 longer-has n plen t = lt-ltb plen n t
 
