@@ -30,5 +30,6 @@ pub mod Differing
 pub mod Verdicts
 pub mod JudgedWhen
 pub mod Positions
+pub mod FormedWhen
 pub mod HeldWhen
 pub mod HeldAfter
