@@ -33,3 +33,4 @@ pub mod Positions
 pub mod FormedWhen
 pub mod HeldWhen
 pub mod HeldAfter
+pub mod SettledMany
