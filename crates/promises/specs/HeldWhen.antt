@@ -24,13 +24,14 @@ use Rattle.messages.specs.Take.{given, unclesOf, settled, anchor, worked, padde
 use Rattle.messages.specs.TakeLaws.{Passed, passed}
 use Rattle.promises.specs.Held.{Holds}
 use Rattle.promises.specs.TakenWhen.{WellFormed, well-formed-number, right-then-taken, taken-then-right, wrong-padding-then-5, no-anchor-then-6, other-anchor-then-7, held-differs-then-8}
-use Rattle.promises.specs.Chains.{Chain, worked-chains, chain-is-worked}
+use Rattle.promises.specs.Chains.{worked-chains, chain-is-worked}
 use Rattle.promises.specs.Again.{what-is-held}
 use Rattle.promises.specs.ReadBack.{holds-at}
 use Rattle.promises.specs.RightPadding.{Pads, at-place, settled-pads}
 use Rattle.promises.specs.Replies.{padded-when}
 use Rattle.promises.specs.AnchorHeld.{anchorLayer, anchorIndex, anchor-number, anchor-in-tree}
 use Rattle.promises.specs.Differing.{NoneDiffers, OneDiffers, either, not-both, each-or, none-differs, one-differs, differs-one, differs-none}
+use Rattle.promises.specs.ChainsTo.{ChainsTo, chains-exactly}
 use Rattle.promises.specs.Positions.{Settles, Settled, settles-entered, entry-settled, run-entry, uncle-entry}
 
 -- ---- what each number is about
@@ -60,7 +61,7 @@ pub record Acceptable (s m : List ℕ) : Type 0 where
   pub padding : PaddingRight s m
   pub w : List ℕ
   pub held : AnchorIs s m w
-  pub chains : Chain m (placeIn s m) w
+  pub chains : ChainsTo m w
   pub agree : NoneDiffers s (Settles m)
 
 -- 6: its padding is right, its anchor is not held
@@ -73,14 +74,14 @@ pub record Elsewhere (s m : List ℕ) : Type 0 where
   pub padding : PaddingRight s m
   pub w : List ℕ
   pub held : AnchorIs s m w
-  pub other : Chain m (placeIn s m) w → ⊥
+  pub other : ChainsTo m w → ⊥
 
 -- 8: its padding is right, its hashes chain to its anchor, which is held, and a held hash differs
 pub record Conflicting (s m : List ℕ) : Type 0 where
   pub padding : PaddingRight s m
   pub w : List ℕ
   pub held : AnchorIs s m w
-  pub chains : Chain m (placeIn s m) w
+  pub chains : ChainsTo m w
   pub one : OneDiffers s (Settles m)
 
 -- ---- from the tests to these
@@ -161,6 +162,14 @@ module _ (s m : List ℕ) (W : WellFormed s m) where
   anchor-lacks : heldAt s (anchor (placeIn s m)) ≡ false → AnchorLacks s m
   anchor-lacks f w h = not-both (holds-anchor w h .0) f
 
+  -- the chain
+
+  worked-to : (w : List ℕ) → w ≡ worked m (placeIn s m) → ChainsTo m w
+  worked-to w e = chains-exactly s m W w .1 (rw e (worked-chains m (placeIn s m)))
+
+  to-worked : (w : List ℕ) → ChainsTo m w → w ≡ worked m (placeIn s m)
+  to-worked w c = chain-is-worked m (placeIn s m) w (chains-exactly s m W w .0 c)
+
 -- ---- the numbers
 
 five : (p h a g : Bool) → cond p (judged h a g) wrongPadding ≡ wrongPadding → p ≡ false
@@ -218,7 +227,7 @@ module _ (s m : List ℕ) (W : WellFormed s m) where
           padding = padding-right s m W (r .padding);
           w = hashAt s (anchor (placeIn s m));
           held = anchor-holds s m W (r .held);
-          chains = rw (r .chains) (worked-chains m (placeIn s m));
+          chains = worked-to s m W (hashAt s (anchor (placeIn s m))) (r .chains);
           agree = none-differs s (facts s m W) (Settles m) (settled m (placeIn s m)) (settles-entered s m W) (entry-settled s m W) (r .agree);
         }),
     λ b.
@@ -227,7 +236,7 @@ module _ (s m : List ℕ) (W : WellFormed s m) where
         (record {
           padding = right-padding s m W (b .padding);
           held = k .0;
-          chains = k .1 ∙ chain-is-worked m (placeIn s m) (b .w) (b .chains);
+          chains = k .1 ∙ to-worked s m W (b .w) (b .chains);
           agree = differs-none s (facts s m W) (Settles m) (settled m (placeIn s m)) (settles-entered s m W) (entry-settled s m W) (b .agree);
         })),
   )
@@ -259,14 +268,14 @@ module _ (s m : List ℕ) (W : WellFormed s m) where
           held = anchor-holds s m W (t .1);
           other =
               λ c.
-              same-false (hashAt s (anchor (placeIn s m))) (worked m (placeIn s m)) (t .2) (chain-is-worked m (placeIn s m) (hashAt s (anchor (placeIn s m))) c);
+              same-false (hashAt s (anchor (placeIn s m))) (worked m (placeIn s m)) (t .2) (to-worked s m W (hashAt s (anchor (placeIn s m))) c);
         }),
     λ d.
         (let k = holds-anchor s m W (d .w) (d .held) in
         other-anchor-then-7 s m W (right-padding s m W (d .padding)) (k .0)
         (λ e.
         let q : d .w ≡ worked m (placeIn s m) = sym (k .1) ∙ e in
-        d .other (rw q (worked-chains m (placeIn s m))))),
+        d .other (worked-to s m W (d .w) q))),
   )
 
   -- 8 EXACTLY WHEN its padding is right, its hashes chain to its anchor, its anchor is held, and a held hash differs
@@ -279,10 +288,10 @@ module _ (s m : List ℕ) (W : WellFormed s m) where
           padding = padding-right s m W (t .0);
           w = hashAt s (anchor (placeIn s m));
           held = anchor-holds s m W (t .1);
-          chains = rw c (worked-chains m (placeIn s m));
+          chains = worked-to s m W (hashAt s (anchor (placeIn s m))) c;
           one = one-differs s (facts s m W) (Settles m) (settled m (placeIn s m)) (settles-entered s m W) (entry-settled s m W) (t .3);
         }),
     λ d.
         (let k = holds-anchor s m W (d .w) (d .held) in
-        held-differs-then-8 s m W (right-padding s m W (d .padding)) (k .0) (k .1 ∙ chain-is-worked m (placeIn s m) (d .w) (d .chains)) (differs-one s (facts s m W) (Settles m) (settled m (placeIn s m)) (settles-entered s m W) (entry-settled s m W) (d .one))),
+        held-differs-then-8 s m W (right-padding s m W (d .padding)) (k .0) (k .1 ∙ to-worked s m W (d .w) (d .chains)) (differs-one s (facts s m W) (Settles m) (settled m (placeIn s m)) (settles-entered s m W) (entry-settled s m W) (d .one))),
   )

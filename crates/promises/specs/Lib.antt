@@ -31,6 +31,7 @@ pub mod Verdicts
 pub mod JudgedWhen
 pub mod Positions
 pub mod FormedWhen
+pub mod ChainsTo
 pub mod HeldWhen
 pub mod HeldAfter
 pub mod SettledMany

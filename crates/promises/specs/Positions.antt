@@ -80,11 +80,11 @@ module _ (s m : List ℕ) (W : WellFormed s m) where
   unfolding placeOf
   k-is = refl
 
-  u-is : placeIn s m .u ≡ unclesIn m
+  pub u-is : placeIn s m .u ≡ unclesIn m
   unfolding placeOf
   u-is = refl
 
-  top-is : placeIn s m .top ≡ nodeNumber (heightOf s) (topLayer m) (topIndex m)
+  pub top-is : placeIn s m .top ≡ nodeNumber (heightOf s) (topLayer m) (topIndex m)
   unfolding placeOf
   top-is = refl
 
@@ -93,14 +93,14 @@ module _ (s m : List ℕ) (W : WellFormed s m) where
   whole-size = sym (W .size)
 
   -- hash j of the base run, and uncle j, are the message's hashes in their order
-  given-is : (j : ℕ) → j < 2 ^ placeIn s m .k → given m (placeIn s m .k) j ≡ hashIn m j
+  pub given-is : (j : ℕ) → j < 2 ^ placeIn s m .k → given m (placeIn s m .k) j ≡ hashIn m j
   unfolding given runOf
   given-is j l =
       let q = placed (isHashes m) s m P in
       let long : length (cut m 49 (32 * 2 ^ placeIn s m .k)) ≡ 32 * 2 ^ placeIn s m .k = cut-length m 49 (32 * 2 ^ placeIn s m .k) (omega (arith, q .size, W .size)) in
       run-leaf-in (cut m 49 (32 * 2 ^ placeIn s m .k)) zeroHash j (omega (arith, long)) ∙ cut-cut m 49 (32 * 2 ^ placeIn s m .k) (32 * j) 32 (omega arith)
 
-  uncle-is : (j : ℕ) → j < placeIn s m .u → uncle (unclesOf m (2 ^ placeIn s m .k) (placeIn s m .u)) j ≡ hashIn m (headerOf m .len + j)
+  pub uncle-is : (j : ℕ) → j < placeIn s m .u → uncle (unclesOf m (2 ^ placeIn s m .k) (placeIn s m .u)) j ≡ hashIn m (headerOf m .len + j)
   unfolding uncle unclesOf
   uncle-is j l =
       let q = placed (isHashes m) s m P in
@@ -193,7 +193,7 @@ beside m l x n v w e p q =
 abbrev pub Settled : ℕ → List ℕ → ℕ → List ℕ → Type 0
 Settled h m = Found h (Settles m)
 
-even-number : (h l x : ℕ) → l < h → nodeNumber h l x % 2 ≡ x % 2
+pub even-number : (h l x : ℕ) → l < h → nodeNumber h l x % 2 ≡ x % 2
 unfolding nodeNumber
 even-number h l x k =
     let d : h - l ≡ suc (h - suc l) = omega arith in
