@@ -31,6 +31,7 @@ use Rattle.promises.specs.RightPadding.{Pads, at-place, settled-pads}
 use Rattle.promises.specs.Replies.{padded-when}
 use Rattle.promises.specs.AnchorHeld.{anchorLayer, anchorIndex, anchor-number, anchor-in-tree}
 use Rattle.promises.specs.Differing.{NoneDiffers, OneDiffers, either, not-both, each-or, none-differs, one-differs, differs-one, differs-none}
+use Rattle.promises.specs.Verdicts.{Lacks}
 use Rattle.promises.specs.ChainsTo.{ChainsTo, chains-exactly}
 use Rattle.promises.specs.Positions.{Settles, Settled, settles-entered, entry-settled, run-entry, uncle-entry}
 
@@ -54,7 +55,7 @@ abbrev pub AnchorIs : List ℕ → List ℕ → List ℕ → Type 0
 AnchorIs s m w = Holds s (anchorLayer m) (anchorIndex m) w
 
 abbrev pub AnchorLacks : List ℕ → List ℕ → Type 0
-AnchorLacks s m = (w : List ℕ) → Holds s (anchorLayer m) (anchorIndex m) w → ⊥
+AnchorLacks s m = Lacks s (anchorLayer m) (anchorIndex m)
 
 -- 0: its padding is right, its hashes chain to its anchor, which is held, and no held hash differs
 pub record Acceptable (s m : List ℕ) : Type 0 where

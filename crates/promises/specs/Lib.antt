@@ -35,3 +35,4 @@ pub mod ChainsTo
 pub mod HeldWhen
 pub mod HeldAfter
 pub mod SettledMany
+pub mod LayerExample
