@@ -35,6 +35,7 @@ pub record OneDiffers (s : List ℕ) (R : Hashes) : Type 0 where
 
 -- ---- what a test says
 
+-- a test comes out one way or the other, never both
 pub either : (b : Bool) → (b ≡ true) ⊎ (b ≡ false)
 either true = inl refl
 either false = inr refl
@@ -61,6 +62,7 @@ each-or (g ∷ L) A B f =
 -- a list whose entries are these hashes
 module _ (s : List ℕ) (facts : Facts s) (R : Hashes) (L : List Entry) (to : (l i : ℕ) (v : List ℕ) → R l i v → Entered (heightOf s) L l i v)
     (from : (e : Entry) → In e L → Found (heightOf s) R (e .at) (e .hash)) where
+  -- the test passed says that no held hash differs
   pub none-differs : agrees s L ≡ true → NoneDiffers s R
   none-differs a l i v w x h =
       let E = to l i v x in
@@ -82,6 +84,7 @@ module _ (s : List ℕ) (facts : Facts s) (R : Hashes) (L : List Entry) (to : (l
         ]
       ]
 
+  -- the test failed shows one that does
   pub one-differs : agrees s L ≡ false → OneDiffers s R
   one-differs f =
       elim (each-or L (λ e. agreesAt s (e .at) (e .hash) ≡ true) (OneDiffers s R) agrees-or) [
@@ -89,6 +92,7 @@ module _ (s : List ℕ) (facts : Facts s) (R : Hashes) (L : List Entry) (to : (l
         | inr w ↦ w
       ]
 
+  -- and where one does, the test fails
   pub differs-one : OneDiffers s R → agrees s L ≡ false
   differs-one d =
       elim (either (agrees s L)) [
@@ -96,6 +100,7 @@ module _ (s : List ℕ) (facts : Facts s) (R : Hashes) (L : List Entry) (to : (l
         | inr f ↦ f
       ]
 
+  -- and where none does, it passes
   pub differs-none : NoneDiffers s R → agrees s L ≡ true
   differs-none n =
       elim (either (agrees s L)) [

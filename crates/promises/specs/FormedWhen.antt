@@ -33,16 +33,18 @@ pub record HashesForm (m : List ℕ) : Type 0 where
 abbrev pub OtherForm : List ℕ → Type 0
 OtherForm m = (length m < 49) ⊎ (getD m 0 0 ≡ 22 → ⊥)
 
--- it passes 9 and 1; and 2; and 3
+-- it passes 9 and 1
 pub record Readable (s m : List ℕ) : Type 0 where
   pub store : usable s ≡ true
   pub form : HashesForm m
 
+-- and 2
 pub record Addressed (s m : List ℕ) : Type 0 where
   pub store : usable s ≡ true
   pub form : HashesForm m
   pub root : factsRoot s ≡ messageRoot m
 
+-- and 3
 pub record Ruled (s m : List ℕ) : Type 0 where
   pub store : usable s ≡ true
   pub form : HashesForm m

@@ -60,6 +60,7 @@ module _ (h a : ℕ) (L : List Entry) (c : Consistent L) (f : (e : Entry) → In
         ]
       ]
 
+  -- so where both children have entries, their parent has one with the hash of left then right
   pub entered-parent : (l i : ℕ) (x y : List ℕ) → Entered h L l (2 * i) x → Entered h L l (2 * i + 1) y → Entered h L (suc l) i (pairHash x y)
   entered-parent l i x y p r =
       let lt = below l i (p .low) (r .inside) in

@@ -80,6 +80,7 @@ module _ (s m : List ℕ) (W : WellFormed s m) where
   unfolding placeOf
   k-is = refl
 
+  -- the uncles, and the run's top, as 01 has them
   pub u-is : placeIn s m .u ≡ unclesIn m
   unfolding placeOf
   u-is = refl
@@ -107,6 +108,7 @@ module _ (s m : List ℕ) (W : WellFormed s m) where
       let e : 49 + 32 * 2 ^ placeIn s m .k + 32 * j ≡ 49 + 32 * (headerOf m .len + j) = omega (arith, q .power) in
       cut-cut m (49 + 32 * 2 ^ placeIn s m .k) (32 * placeIn s m .u) (32 * j) 32 (omega arith) ∙ ap (λ (y : ℕ). cut m y 32) e
 
+  -- each hash of the run, and each uncle, is an entry
   pub run-entry : (j : ℕ) → j < 2 ^ placeIn s m .k → Has (placeIn s m .top * 2 ^ placeIn s m .k + j) (given m (placeIn s m .k) j) (settled m (placeIn s m))
   unfolding settled node
   run-entry j l =
@@ -193,6 +195,7 @@ beside m l x n v w e p q =
 abbrev pub Settled : ℕ → List ℕ → ℕ → List ℕ → Type 0
 Settled h m = Found h (Settles m)
 
+-- below the root a position's number is even exactly if its index is
 pub even-number : (h l x : ℕ) → l < h → nodeNumber h l x % 2 ≡ x % 2
 unfolding nodeNumber
 even-number h l x k =
@@ -292,7 +295,6 @@ module _ (s m : List ℕ) (W : WellFormed s m) where
       consistent s m W (record { at = nodeNumber (heightOf s) l i; hash = v }) (record { at = nodeNumber (heightOf s) l i; hash = w })
       (settles-entered s m W l i v a .has) (settles-entered s m W l i w b .has) refl
 
-  -- its anchor with the hash that its hashes chain to
   anchor-entry : Has (anchor (placeIn s m)) (worked m (placeIn s m)) (settled m (placeIn s m))
   unfolding anchor worked settled
   anchor-entry =
@@ -305,6 +307,7 @@ module _ (s m : List ℕ) (W : WellFormed s m) where
       settles-exactly (anchorLayer m) (anchorIndex m) (worked m (placeIn s m)) .1
       (record { low = t .0; inside = t .1; has = rw (anchor-number (isHashes m) s m (P s m W)) at anchor-entry })
 
+  -- ITS ANCHOR is settled with the hash that its hashes chain to
   pub anchor-settled : (w : List ℕ) → Settles m (anchorLayer m) (anchorIndex m) w ↔ Chain m (placeIn s m) w
   anchor-settled w = (
     λ a. (let e = settles-once (anchorLayer m) (anchorIndex m) w (worked m (placeIn s m)) a anchor-worked in rw e (worked-chains m (placeIn s m))),

@@ -52,24 +52,28 @@ pub record Clashes (s : List ℕ) (R : Hashes) (l i : ℕ) : Type 0 where
 
 -- ---- the three tests
 
+-- 0: all three passed
 pub judged-0 : (a b c : Bool) → judged a b c ≡ 0 → (a ≡ true) × (b ≡ true) × (c ≡ true)
 judged-0 false b c e = let w : ⊥ = omega arith in absurd w
 judged-0 true false c e = let w : ⊥ = omega arith in absurd w
 judged-0 true true false e = let w : ⊥ = omega arith in absurd w
 judged-0 true true true e = (refl, refl, refl)
 
+-- 6: the first failed
 pub judged-6 : (a b c : Bool) → judged a b c ≡ noAnchor → a ≡ false
 judged-6 false b c e = refl
 judged-6 true false c e = let w : ⊥ = omega arith in absurd w
 judged-6 true true false e = let w : ⊥ = omega arith in absurd w
 judged-6 true true true e = let w : ⊥ = omega arith in absurd w
 
+-- 7: the first passed, the second failed
 pub judged-7 : (a b c : Bool) → judged a b c ≡ differs → (a ≡ true) × (b ≡ false)
 judged-7 false b c e = let w : ⊥ = omega arith in absurd w
 judged-7 true false c e = (refl, refl)
 judged-7 true true false e = let w : ⊥ = omega arith in absurd w
 judged-7 true true true e = let w : ⊥ = omega arith in absurd w
 
+-- 8: two passed, the third failed
 pub judged-8 : (a b c : Bool) → judged a b c ≡ conflict → (a ≡ true) × (b ≡ true) × (c ≡ false)
 judged-8 false b c e = let w : ⊥ = omega arith in absurd w
 judged-8 true false c e = let w : ⊥ = omega arith in absurd w
@@ -85,27 +89,32 @@ judged-not n z s d k true true true e = z (sym e)
 
 -- ---- 9, 3 and 4 before them
 
+-- 9 unless the first test passes, then 3 unless the second does, then 4 unless the third does, then n
 abbrev pub gated : Bool → Bool → Bool → ℕ → ℕ
 gated u l z n = cond u (cond l (cond z n wrongSize) ruleBroken) unusable
 
+-- 9: the first failed
 pub gated-9 : (u l z : Bool) (n : ℕ) → (n ≡ unusable → ⊥) → gated u l z n ≡ unusable → u ≡ false
 gated-9 false l z n f e = refl
 gated-9 true false z n f e = let w : ⊥ = omega arith in absurd w
 gated-9 true true false n f e = let w : ⊥ = omega arith in absurd w
 gated-9 true true true n f e = absurd (f e)
 
+-- 3: the first passed, the second failed
 pub gated-3 : (u l z : Bool) (n : ℕ) → (n ≡ ruleBroken → ⊥) → gated u l z n ≡ ruleBroken → (u ≡ true) × (l ≡ false)
 gated-3 false l z n f e = let w : ⊥ = omega arith in absurd w
 gated-3 true false z n f e = (refl, refl)
 gated-3 true true false n f e = let w : ⊥ = omega arith in absurd w
 gated-3 true true true n f e = absurd (f e)
 
+-- 4: two passed, the third failed
 pub gated-4 : (u l z : Bool) (n : ℕ) → (n ≡ wrongSize → ⊥) → gated u l z n ≡ wrongSize → (u ≡ true) × (l ≡ true) × (z ≡ false)
 gated-4 false l z n f e = let w : ⊥ = omega arith in absurd w
 gated-4 true false z n f e = let w : ⊥ = omega arith in absurd w
 gated-4 true true false n f e = (refl, refl, refl)
 gated-4 true true true n f e = absurd (f e)
 
+-- any other number: all three passed, and it is n
 pub gated-on : (k : ℕ) → (k ≡ unusable → ⊥) → (k ≡ ruleBroken → ⊥) → (k ≡ wrongSize → ⊥) → (u l z : Bool) (n : ℕ) → gated u l z n ≡ k → (u ≡ true) × (l ≡ true) × (z ≡ true) × (n ≡ k)
 gated-on k a b c false l z n e = absurd (a (sym e))
 gated-on k a b c true false z n e = absurd (b (sym e))
@@ -115,15 +124,19 @@ gated-on k a b c true true true n e = (refl, refl, refl, e)
 -- ---- one position
 
 module _ (s : List ℕ) (f : Facts s) (l i : ℕ) (lh : l ≤ heightOf s) (ib : i < 2 ^ (heightOf s - l)) where
+  -- what the cell of a position holds is what kd_held answers for it
   pub marked-holds : heldAt s (nodeNumber (heightOf s) l i) ≡ true → Holds s l i (hashAt s (nodeNumber (heightOf s) l i))
   marked-holds h = holds-at s l i f lh ib h
 
+  -- and back
   pub holds-marked : (w : List ℕ) → Holds s l i w → (heldAt s (nodeNumber (heightOf s) l i) ≡ true) × (hashAt s (nodeNumber (heightOf s) l i) ≡ w)
   holds-marked w h = let k = what-is-held s l i w f h in (k .1, k .2)
 
+  -- a cell that is not marked as held is not held, as kd_held answers
   pub marked-lacks : heldAt s (nodeNumber (heightOf s) l i) ≡ false → Lacks s l i
   marked-lacks z w h = not-both (holds-marked w h .0) z
 
+  -- and back
   pub lacks-marked : Lacks s l i → heldAt s (nodeNumber (heightOf s) l i) ≡ false
   lacks-marked g =
       elim (either (heldAt s (nodeNumber (heightOf s) l i))) [ inl t ↦ absurd (g (hashAt s (nodeNumber (heightOf s) l i)) (marked-holds t)) | inr x ↦ x ]
@@ -143,6 +156,7 @@ abbrev top : List ℕ → ℕ → ℕ → ℕ → ℕ
 top s base y k = nodeNumber (heightOf s) (base + k) y
 
 module _ (s : List ℕ) (f : Facts s) (leaf : ℕ → List ℕ) (base y k : ℕ) (wi : base + k ≤ heightOf s) (ti : y < 2 ^ (heightOf s - (base + k))) where
+  -- 0 EXACTLY WHEN the position is held with the hash that the leaves give, and no held hash differs
   pub judged-fits : (judgedAt s leaf k (nodeNumber (heightOf s) (base + k) y) ≡ 0) ↔ Fits s (Over leaf base y k) (base + k) y
   unfolding judgedAt
   judged-fits = (
@@ -164,6 +178,7 @@ module _ (s : List ℕ) (f : Facts s) (leaf : ℕ → List ℕ) (base y k : ℕ)
         )),
   )
 
+  -- 6 EXACTLY WHEN it is not held
   pub judged-lacks : (judgedAt s leaf k (nodeNumber (heightOf s) (base + k) y) ≡ noAnchor) ↔ Lacks s (base + k) y
   unfolding judgedAt
   judged-lacks = (
@@ -173,6 +188,7 @@ module _ (s : List ℕ) (f : Facts s) (leaf : ℕ → List ℕ) (base y k : ℕ)
     λ g. rw (lacks-marked s f (base + k) y wi ti g),
   )
 
+  -- 7 EXACTLY WHEN it is held with another hash
   pub judged-misfits : (judgedAt s leaf k (nodeNumber (heightOf s) (base + k) y) ≡ differs) ↔ Misfits s (Over leaf base y k) (base + k) y
   unfolding judgedAt
   judged-misfits = (
@@ -191,6 +207,7 @@ module _ (s : List ℕ) (f : Facts s) (leaf : ℕ → List ℕ) (base y k : ℕ)
         rw (h .0, same-ne (hashAt s (top s base y k)) (node leaf k 0) d)),
   )
 
+  -- 8 EXACTLY WHEN it is held with that hash, and another held hash differs
   pub judged-clashes : (judgedAt s leaf k (nodeNumber (heightOf s) (base + k) y) ≡ conflict) ↔ Clashes s (Over leaf base y k) (base + k) y
   unfolding judgedAt
   judged-clashes = (
