@@ -11,6 +11,7 @@ pub mod BytesLeft
 pub mod Beyond
 pub mod Refusals
 pub mod ReadBack
+pub mod Sent
 pub mod ReadThere
 pub mod RightPadding
 pub mod Invariant
