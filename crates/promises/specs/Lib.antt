@@ -24,5 +24,6 @@ pub mod RootToBlock
 pub mod PieceIsTheFiles
 pub mod TrueMessage
 pub mod AnchorHeld
+pub mod NoAnchor
 pub mod Known
 pub mod Table
