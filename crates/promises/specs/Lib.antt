@@ -25,5 +25,6 @@ pub mod PieceIsTheFiles
 pub mod TrueMessage
 pub mod AnchorHeld
 pub mod NoAnchor
+pub mod ParentsThere
 pub mod Known
 pub mod Table
