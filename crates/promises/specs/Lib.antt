@@ -18,7 +18,9 @@ pub mod Invariant
 pub mod Conflict
 pub mod OwnBytes
 pub mod Impostors
+pub mod TwoHashes
 pub mod Example
+pub mod EachNumber
 pub mod Replies
 pub mod RootToBlock
 pub mod PieceIsTheFiles
