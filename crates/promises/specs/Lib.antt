@@ -4,7 +4,6 @@ pub mod History
 pub mod TakenWhen
 pub mod Chains
 pub mod Settles
-pub mod Fresh
 pub mod Grows
 pub mod Again
 pub mod BytesLeft
