@@ -24,6 +24,7 @@ pub mod Replies
 pub mod RootToBlock
 pub mod PieceIsTheFiles
 pub mod TrueMessage
+pub mod TrueLayer
 pub mod AnchorHeld
 pub mod NoAnchor
 pub mod ParentsThere
