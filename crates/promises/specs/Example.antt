@@ -49,14 +49,16 @@ module _ (a b : List ℕ) (oa : Octets 32 a) (ob : Octets 32 b) where
   root-size : length (pairHash a b) ≡ 32
   root-size = pair-octets a b .size
 
-  header-two : headerOf (twoLeaves a b) ≡ two
+  pub header-two : headerOf (twoLeaves a b) ≡ two
   unfolding numberAt
   header-two = header-is (pairHash a b) numbers a b root-size refl (oa .size) (ob .size)
 
-  first : given (twoLeaves a b) 1 0 ≡ a
+  -- its first hash,
+  pub first : given (twoLeaves a b) 1 0 ≡ a
   first = first-hash (pairHash a b) numbers a b root-size refl (oa .size) (ob .size)
 
-  second : given (twoLeaves a b) 1 1 ≡ b
+  -- and its second
+  pub second : given (twoLeaves a b) 1 1 ≡ b
   second = second-hash (pairHash a b) numbers a b root-size refl (oa .size) (ob .size)
 
   module _ (buffer : List ℕ) (fits : storeSize 32768 ≤ length buffer) where
@@ -124,3 +126,16 @@ module _ (a b : List ℕ) (oa : Octets 32 a) (ob : Octets 32 b) where
       where
         two-new : lacking fresh (settled (twoLeaves a b) below-root) ≡ 2
         two-new = unfold lacking settled subtree path lacks in rw (held 2 (lit≤ tt) (lit< tt), held 3 (lit≤ tt) (lit< tt), held 1 (lit≤ tt) (lit< tt))
+
+    -- the same for who wants to go on from there: it is taken, well-formed, and its place is the two leaves below the root
+    pub two-taken : takeNumber (opened buffer 32768 16384 (pairHash a b)) (twoLeaves a b) ≡ 0
+    unfolding fresh
+    two-taken = taken
+
+    pub two-well-formed : WellFormed (opened buffer 32768 16384 (pairHash a b)) (twoLeaves a b)
+    unfolding fresh
+    two-well-formed = well
+
+    pub two-place : placeIn (opened buffer 32768 16384 (pairHash a b)) (twoLeaves a b) ≡ record { k = 1; u = 0; top = 1 }
+    unfolding fresh
+    two-place = place-is

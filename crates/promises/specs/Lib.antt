@@ -29,4 +29,5 @@ pub mod AnchorHeld
 pub mod NoAnchor
 pub mod ParentsThere
 pub mod Known
+pub mod Witness
 pub mod Table
