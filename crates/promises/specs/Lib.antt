@@ -31,3 +31,4 @@ pub mod ParentsThere
 pub mod Known
 pub mod Witness
 pub mod Table
+pub mod OneOutcome
