@@ -38,11 +38,13 @@ unfoldable pub otherThan : List ℕ → List ℕ
 otherThan [] = []
 otherThan (x ∷ l) = cond (eqb x 0) 1 0 ∷ l
 
+-- as long as the first,
 pub other-length : (v : List ℕ) → length (otherThan v) ≡ length v
 unfolding otherThan
 other-length [] = refl
 other-length (x ∷ l) = refl
 
+-- and not the same
 pub other-differs : (v : List ℕ) → 1 ≤ length v → otherThan v ≡ v → ⊥
 unfolding otherThan
 other-differs [] l e = omega arith
@@ -296,14 +298,18 @@ room-for-two : storeSize 32768 ≤ length {A = ℕ} (replicate 163 0)
 unfolding storeSize positions height heightFrom blockCount ceilDiv
 room-for-two = lit≤ tt
 
+-- 5: padding with another value
 pub a-5 : takeNumber (opened (replicate 295 0) 49152 16384 zeroHash) (twoHashes zeroHash nextTwo zeroHash ones) ≡ 5
 a-5 = gets-5 (replicate 295 0) zeroHash zeroHash ones room-for-three zeros-size zeros-size refl ones-differ
 
+-- 6: the anchor not held
 pub a-6 : takeNumber (opened (replicate 295 0) 49152 16384 zeroHash) (twoHashes zeroHash firstTwo zeroHash ones) ≡ 6
 a-6 = gets-6 (replicate 295 0) zeroHash zeroHash ones room-for-three zeros-size zeros-size refl
 
+-- 7: the held anchor differs
 pub a-7 : takeNumber (opened (replicate 163 0) 32768 16384 (otherThan (pairHash zeroHash ones))) (twoHashes (otherThan (pairHash zeroHash ones)) firstTwo zeroHash ones) ≡ 7
 a-7 = gets-7 (replicate 163 0) zeroHash ones room-for-two zeros-size refl
 
+-- 8: the anchor agrees, a held leaf differs
 pub an-8 : takeNumber (put (opened (replicate 163 0) 32768 16384 (pairHash zeroHash ones)) 2 (otherThan zeroHash)) (twoHashes (pairHash zeroHash ones) firstTwo zeroHash ones) ≡ 8
 an-8 = gets-8 (replicate 163 0) zeroHash ones room-for-two zeros-size refl

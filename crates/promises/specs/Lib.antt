@@ -10,7 +10,6 @@ pub mod BytesLeft
 pub mod Beyond
 pub mod Refusals
 pub mod ReadBack
-pub mod Sent
 pub mod ReadThere
 pub mod RightPadding
 pub mod Invariant
@@ -28,6 +27,7 @@ pub mod TrueLayer
 pub mod AnchorHeld
 pub mod NoAnchor
 pub mod ParentsThere
+pub mod Sent
 pub mod Known
 pub mod Witness
 pub mod Table

@@ -137,6 +137,7 @@ broken : (form : Bool) (s m : List ℕ) → usable s ≡ true → form ≡ true 
 unfolding headerNumber
 broken form s m u f r k = rw (u, f, r, k)
 
+-- refused 3, in whichever of the three forms it comes
 pub record Refused3 (s m : List ℕ) : Type 0 where
   pub hashes : isHashes m ≡ true → takeNumber s m ≡ 3
   pub request : isRequest m ≡ true → requestNumber s m ≡ 3
