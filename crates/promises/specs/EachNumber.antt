@@ -31,7 +31,7 @@ use Rattle.header.specs.Header.{headerOf, messageSize, placeOf, rulesKept, leng
 use Rattle.messages.specs.Padded.{allFrom, runPadded, unclesPadded}
 use Rattle.messages.specs.Take.{runOf, unclesOf, given, settled, anchor, worked, padded, placeIn, takeNumber}
 use Rattle.promises.specs.TakenWhen.{WellFormed, wrong-padding-then-5, no-anchor-then-6, other-anchor-then-7, held-differs-then-8}
-use Rattle.promises.specs.TwoHashes.{twoHashes, header-is, run-is, first-hash, second-hash, well-formed-in}
+use Rattle.promises.specs.Offered.{twoHashes, offered-header, run-is, first-hash, second-hash, two-size, well-formed-in}
 
 -- another string of the same length
 unfoldable pub otherThan : List ℕ → List ℕ
@@ -68,11 +68,11 @@ header index = record { base = 0; index = index; len = 2; proof = 0 }
 module _ (root a b : List ℕ) (lr : length root ≡ 32) (la : length a ≡ 32) (lb : length b ≡ 32) where
   header-first : headerOf (twoHashes root firstTwo a b) ≡ header 0
   unfolding numberAt
-  header-first = header-is root firstTwo a b lr refl la lb
+  header-first = offered-header root firstTwo (a ++ b) lr refl
 
   header-next : headerOf (twoHashes root nextTwo a b) ≡ header 2
   unfolding numberAt
-  header-next = header-is root nextTwo a b lr refl la lb
+  header-next = offered-header root nextTwo (a ++ b) lr refl
 
 -- ---- 5 and 6: a fresh store of a file of three blocks
 
@@ -113,8 +113,8 @@ module _ (buffer root a b : List ℕ) (fits : storeSize 49152 ≤ length buffer)
   well-next : WellFormed three (twoHashes root nextTwo a b)
   unfolding three messageSize rulesKept lengthRule indexRule covering ceilDiv height heightFrom
   well-next =
-      well-formed-in root nextTwo a b lr refl la lb three (header 2) 3 2 (header-next root a b lr la lb) (opened-usable buffer 49152 16384 root range3 fits lr)
-      (opened-facts-root buffer 49152 16384 root range3 fits lr) blocks3 high3 refl refl
+      well-formed-in root nextTwo (a ++ b) lr refl three (header 2) 3 2 (header-next root a b lr la lb) (opened-usable buffer 49152 16384 root range3 fits lr)
+      (opened-facts-root buffer 49152 16384 root range3 fits lr) blocks3 high3 refl (sym (two-size root firstTwo a b lr refl la lb))
 
   padding-next : same b zeroHash ≡ false → padded (twoHashes root nextTwo a b) (header 2) next-place 3 ≡ false
   unfolding padded runPadded allFrom unclesPadded covering ceilDiv padValue
@@ -134,8 +134,8 @@ module _ (buffer root a b : List ℕ) (fits : storeSize 49152 ≤ length buffer)
   well-first : WellFormed three (twoHashes root firstTwo a b)
   unfolding three messageSize rulesKept lengthRule indexRule covering ceilDiv height heightFrom
   well-first =
-      well-formed-in root firstTwo a b lr refl la lb three (header 0) 3 2 (header-first root a b lr la lb) (opened-usable buffer 49152 16384 root range3 fits lr)
-      (opened-facts-root buffer 49152 16384 root range3 fits lr) blocks3 high3 refl refl
+      well-formed-in root firstTwo (a ++ b) lr refl three (header 0) 3 2 (header-first root a b lr la lb) (opened-usable buffer 49152 16384 root range3 fits lr)
+      (opened-facts-root buffer 49152 16384 root range3 fits lr) blocks3 high3 refl (sym (two-size root firstTwo a b lr refl la lb))
 
   padding-first : padded (twoHashes root firstTwo a b) (header 0) first-place 3 ≡ true
   unfolding padded runPadded allFrom unclesPadded covering ceilDiv
@@ -160,7 +160,7 @@ module _ (s root a b : List ℕ) (lr : length root ≡ 32) (la : length a ≡ 32
 
   well : WellFormed s (twoHashes root firstTwo a b)
   unfolding messageSize rulesKept lengthRule indexRule covering ceilDiv height heightFrom
-  well = well-formed-in root firstTwo a b lr refl la lb s (header 0) 2 1 (header-first root a b lr la lb) u r blocks high refl refl
+  well = well-formed-in root firstTwo (a ++ b) lr refl s (header 0) 2 1 (header-first root a b lr la lb) u r blocks high refl (sym (two-size root firstTwo a b lr refl la lb))
 
   padding-is : padded (twoHashes root firstTwo a b) (headerOf (twoHashes root firstTwo a b)) (placeIn s (twoHashes root firstTwo a b)) (blocksOf s) ≡ true
   unfolding padded runPadded allFrom unclesPadded covering ceilDiv

@@ -29,7 +29,7 @@ use Rattle.messages.specs.Padded.{allFrom, runPadded, unclesPadded}
 use Rattle.messages.specs.Take.{headerNumber, runOf, unclesOf, given, settled, anchor, worked, padded, takeNumber, takeAnswer, placeIn}
 use Rattle.messages.specs.TakeLaws.{Passed, passes}
 use Rattle.promises.specs.TakenWhen.{WellFormed, Right, right-then-taken}
-use Rattle.promises.specs.TwoHashes.{twoHashes, header-is, first-hash, second-hash, well-formed-in}
+use Rattle.promises.specs.Offered.{twoHashes, offered-header, first-hash, second-hash, two-size, well-formed-in}
 use Rattle.promises.specs.Settles.{lacking, count-lacking}
 
 abbrev numbers : List ℕ
@@ -51,7 +51,7 @@ module _ (a b : List ℕ) (oa : Octets 32 a) (ob : Octets 32 b) where
 
   pub header-two : headerOf (twoLeaves a b) ≡ two
   unfolding numberAt
-  header-two = header-is (pairHash a b) numbers a b root-size refl (oa .size) (ob .size)
+  header-two = offered-header (pairHash a b) numbers (a ++ b) root-size refl
 
   -- its first hash,
   pub first : given (twoLeaves a b) 1 0 ≡ a
@@ -92,8 +92,8 @@ module _ (a b : List ℕ) (oa : Octets 32 a) (ob : Octets 32 b) where
     well : WellFormed fresh (twoLeaves a b)
     unfolding fresh messageSize rulesKept lengthRule indexRule covering ceilDiv height heightFrom
     well =
-        well-formed-in (pairHash a b) numbers a b root-size refl (oa .size) (ob .size) fresh two 2 1 header-two
-        (opened-usable buffer 32768 16384 (pairHash a b) range fits root-size) (opened-facts-root buffer 32768 16384 (pairHash a b) range fits root-size) blocks high refl refl
+        well-formed-in (pairHash a b) numbers (a ++ b) root-size refl fresh two 2 1 header-two
+        (opened-usable buffer 32768 16384 (pairHash a b) range fits root-size) (opened-facts-root buffer 32768 16384 (pairHash a b) range fits root-size) blocks high refl (sym (two-size (pairHash a b) numbers a b root-size refl (oa .size) (ob .size)))
 
     settled-agree : agrees fresh (settled (twoLeaves a b) below-root) ≡ true
     unfolding fresh agrees settled subtree path node

@@ -16,7 +16,7 @@ pub mod Invariant
 pub mod Conflict
 pub mod OwnBytes
 pub mod Impostors
-pub mod TwoHashes
+pub mod Offered
 pub mod Example
 pub mod EachNumber
 pub mod Replies
