@@ -19,6 +19,7 @@ pub mod Impostors
 pub mod Offered
 pub mod Example
 pub mod EachNumber
+pub mod TrueFirstPair
 pub mod Replies
 pub mod RootToBlock
 pub mod PieceIsTheFiles
