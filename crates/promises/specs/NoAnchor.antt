@@ -70,3 +70,9 @@ module _ {s t : List ℕ} (m : List ℕ) (six : takeNumber s m ≡ noAnchor) (h 
       by : (b : Bool) → heldAt t (nodeNumber (heightOf t) (anchorLayer m) (anchorIndex m)) ≡ b → heldAnswer t (anchorLayer m) (anchorIndex m) .number ≡ noAnchor
       by true q = absurd (anchor-held-not-6 t m (ap (heldAt t) (anchor-number (isHashes m) t m there) ∙ q) e)
       by false q = sym (ap (λ (r : Hashed). r .number) (held-not t (anchorLayer m) (anchorIndex m) (there .store) (anchor-in-tree (isHashes m) t m there) q))
+
+  -- so 6 of the reply and 6 of kd_held for its anchor go together
+  pub six-exactly-while-not-held :
+      (takeNumber t m ≡ noAnchor → heldAnswer t (anchorLayer m) (anchorIndex m) .number ≡ noAnchor)
+      × (heldAnswer t (anchorLayer m) (anchorIndex m) .number ≡ noAnchor → takeNumber t m ≡ noAnchor)
+  six-exactly-while-not-held = (six-then-not-held, λ e. not-held-then-6 (λ z. omega arith))

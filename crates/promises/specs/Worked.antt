@@ -197,3 +197,10 @@ request-for-one-byte s m out u n q r room =
     ap (rulesKept (headerOf m) (blockCount (fileLength s))) h ∙ no-rule-at-height-0 (headerOf m) (blockCount (fileLength s)) in
     let l : length (rejectTo m) ≡ 49 = reject-length m (request-form m q) in
     rw (u, q, r, k) (rw (l, le-leb 49 (length out) room))
+
+-- and so is every hashes message, request and reject of the right form for that root
+pub message-for-one-byte : (s m : List ℕ) → usable s ≡ true → fileLength s ≡ 1 → same (factsRoot s) (messageRoot m) ≡ true → Refused3 s m
+unfolding heightOf blocksOf
+message-for-one-byte s m u n r =
+    let h : height (blockCount (fileLength s)) ≡ 0 = ap (λ (x : ℕ). height (blockCount x)) n ∙ n-1 in
+    broken-3 s m u r (ap (rulesKept (headerOf m) (blockCount (fileLength s))) h ∙ no-rule-at-height-0 (headerOf m) (blockCount (fileLength s)))
