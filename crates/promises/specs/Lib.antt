@@ -31,5 +31,6 @@ pub mod ParentsThere
 pub mod Sent
 pub mod Known
 pub mod Witness
+pub mod ServedAndTaken
 pub mod Table
 pub mod OneOutcome

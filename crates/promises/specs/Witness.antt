@@ -46,7 +46,7 @@ opens : (buffer : List ℕ) → storeSize 32768 ≤ length buffer → openAnswer
 unfolding openAnswer
 opens buffer fits = rw (range, le-leb (storeSize 32768) (length buffer) fits)
 
-open-is : (buffer root : List ℕ) → storeSize 32768 ≤ length buffer → openAfter buffer 32768 16384 root ≡ opened buffer 32768 16384 root
+pub open-is : (buffer root : List ℕ) → storeSize 32768 ≤ length buffer → openAfter buffer 32768 16384 root ≡ opened buffer 32768 16384 root
 unfolding openAfter
 open-is buffer root fits = rw (range, le-leb (storeSize 32768) (length buffer) fits)
 
