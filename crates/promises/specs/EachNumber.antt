@@ -2,15 +2,15 @@
 -- There are well-formed messages that get 5, 6, 7 and 8 (0 is in Example), whatever SHA-256 may give.
 -- Assumes nothing.
 use mathlib.Core.Path.{_≡_, refl, ap, ap₂, sym, _∙_}
-use mathlib.Core.Bool.{Bool, true, false, cond, not, _&&_, _||_}
+use mathlib.Core.Bool.{true, false, cond}
 use mathlib.Core.List.{List, [], _∷_, _++_}
-use Prim.Native.Nat.{ℕ, zero, suc, _+_, _-_, _*_, _/_, _%_, _^_, _≤_, _<_}
+use Prim.Native.Nat.{ℕ, _+_, _*_, _≤_, _<_}
 use native.Mathlib.Omega.{arith}
 use native.Mathlib.Decide.{ℕ-discrete}
 use lib.ListN.{length, getD, replicate}
-use lib.Dec.{eqb, leb, lit<, lit≤}
+use lib.Dec.{eqb, lit<, lit≤}
 use borrow.Author.Tests.{eq-eqb, ne-eqb}
-use Rattle.octets.specs.Octets.{cut, same, numberAt, zeroHash}
+use Rattle.octets.specs.Octets.{same, numberAt, zeroHash}
 use Rattle.octets.specs.OctetsLaws.{same-ne, cut-append-right}
 use Rattle.numbers.specs.Numbers.{wrongPadding, noAnchor, differs, conflict}
 use Rattle.sha256.specs.Sha256.{pairHash}
@@ -22,14 +22,14 @@ use Rattle.cells.specs.CellsLaws.{held-put-same, held-put-other, hash-put-same,
 use Rattle.cells.specs.Entries.{one, agrees, putAll}
 use Rattle.cells.specs.EntriesLaws.{sound-one, one-is, agrees-held}
 use Rattle.store.specs.Store.{usable, factsRoot, blocksOf, heightOf, positions, factsInRange, storeSize, opened}
-use Rattle.store.specs.StoreLaws.{Facts, usable-facts, SameFacts, FromRoot, from-root-in, putAll-same-facts, putAll-usable, opened-usable, opened-facts-root, opened-blocks, opened-height, opened-held, opened-hash}
+use Rattle.store.specs.StoreLaws.{usable-facts, SameFacts, from-root-in, putAll-same-facts, putAll-usable, opened-usable, opened-facts-root, opened-blocks, opened-height, opened-held, opened-hash}
 use Rattle.runs.specs.Subtree.{subtree}
 use Rattle.runs.specs.Path.{ancestor, risen, path}
 use Rattle.header.specs.declared.Header.{Header}
 use Rattle.header.specs.declared.Place.{Place}
 use Rattle.header.specs.Header.{headerOf, messageSize, placeOf, rulesKept, lengthRule, indexRule}
 use Rattle.messages.specs.Padded.{allFrom, runPadded, unclesPadded}
-use Rattle.messages.specs.Take.{runOf, unclesOf, given, settled, anchor, worked, padded, placeIn, takeNumber}
+use Rattle.messages.specs.Take.{given, settled, anchor, worked, padded, placeIn, takeNumber}
 use Rattle.promises.specs.TakenWhen.{WellFormed, wrong-padding-then-5, no-anchor-then-6, other-anchor-then-7, held-differs-then-8}
 use Rattle.promises.specs.Offered.{twoHashes, offered-header, run-is, first-hash, second-hash, two-size, well-formed-in}
 

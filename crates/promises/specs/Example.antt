@@ -2,12 +2,11 @@
 -- messages is said of something.
 -- Assumes nothing.
 use mathlib.Core.Path.{_≡_, refl, ap, ap₂, sym, _∙_}
-use mathlib.Core.Bool.{Bool, true, false, cond, not, _&&_}
+use mathlib.Core.Bool.{true}
 use mathlib.Core.List.{List, [], _∷_, _++_}
-use Prim.Native.Nat.{ℕ, zero, suc, _+_, _-_, _*_, _/_, _%_, _^_, _≤_, _<_}
-use native.Mathlib.Omega.{arith}
+use Prim.Native.Nat.{ℕ, _≤_, _<_}
 use lib.ListN.{length}
-use lib.Dec.{eqb, leb, lit<, lit≤}
+use lib.Dec.{eqb, lit<, lit≤}
 use Rattle.octets.specs.Octets.{Octets, numberAt}
 use Rattle.octets.specs.OctetsLaws.{same-eq}
 use Rattle.sha256.specs.Sha256.{pairHash}
@@ -15,19 +14,17 @@ use Rattle.sha256.specs.Sha256Laws.{pair-octets}
 use Rattle.tree.specs.Geometry.{ceilDiv, blockCount, heightFrom, height, nodeNumber, covering, pieceLayer, isPieceLength}
 use Rattle.tree.specs.Values.{node}
 use Rattle.cells.specs.Cells.{heldAt, hashAt}
-use Rattle.cells.specs.Entries.{agreesAt, agrees}
+use Rattle.cells.specs.Entries.{agrees}
 use Rattle.cells.specs.EntriesLaws.{lacks, agrees-held, agrees-free}
-use Rattle.store.specs.Store.{usable, factsRoot, blocksOf, heightOf, positions, factsInRange, storeSize, opened}
+use Rattle.store.specs.Store.{blocksOf, heightOf, positions, factsInRange, storeSize, opened}
 use Rattle.store.specs.StoreLaws.{opened-usable, opened-facts-root, opened-blocks, opened-height, opened-held, opened-hash}
-use Rattle.runs.specs.Subtree.{subtree, runLeaf}
-use Rattle.runs.specs.SubtreeLaws.{run-leaf-in}
+use Rattle.runs.specs.Subtree.{subtree}
 use Rattle.runs.specs.Path.{ancestor, risen, path}
 use Rattle.header.specs.declared.Header.{Header}
 use Rattle.header.specs.declared.Place.{Place}
-use Rattle.header.specs.Header.{isHashes, headerOf, messageRoot, messageSize, placeOf, rulesKept, lengthRule, indexRule}
+use Rattle.header.specs.Header.{headerOf, messageSize, placeOf, rulesKept, lengthRule, indexRule}
 use Rattle.messages.specs.Padded.{allFrom, runPadded, unclesPadded}
-use Rattle.messages.specs.Take.{headerNumber, runOf, unclesOf, given, settled, anchor, worked, padded, takeNumber, takeAnswer, placeIn}
-use Rattle.messages.specs.TakeLaws.{Passed, passes}
+use Rattle.messages.specs.Take.{given, settled, anchor, worked, padded, takeNumber, takeAnswer, placeIn}
 use Rattle.promises.specs.TakenWhen.{WellFormed, Right, right-then-taken}
 use Rattle.promises.specs.Offered.{twoHashes, offered-header, first-hash, second-hash, two-size, well-formed-in}
 use Rattle.promises.specs.Settles.{lacking, count-lacking}

@@ -1,21 +1,18 @@
 -- A hashes message by its parts: root, the sixteen bytes of the four numbers, the hashes; and such a message offered to a store. The
 -- examples are made of these.
 -- Assumes nothing.
-use mathlib.Core.Path.{_≡_, refl, ap, ap₂, sym, _∙_}
-use mathlib.Core.Bool.{Bool, true, false, cond, _&&_}
+use mathlib.Core.Path.{_≡_, ap, ap₂, sym, _∙_}
+use mathlib.Core.Bool.{true}
 use mathlib.Core.List.{List, [], _∷_, _++_, append-assoc, append-nil}
-use Prim.Native.Nat.{ℕ, zero, suc, _+_, _-_, _*_, _/_, _%_, _^_, _≤_, _<_}
+use Prim.Native.Nat.{ℕ, suc, _+_, _≤_, _<_}
 use native.Mathlib.Omega.{arith}
 use lib.ListN.{length, getD, take, drop, length-append, List·getD-append}
 use lib.Seq.{take-at, drop-append-add, getD-append-add}
-use lib.Dec.{eqb, leb, lit<, lit≤}
+use lib.Dec.{lit≤}
 use borrow.Author.Tests.{le-leb}
-use Rattle.octets.specs.Octets.{cut, same, numberAt, zeroHash}
+use Rattle.octets.specs.Octets.{cut, numberAt, zeroHash}
 use Rattle.octets.specs.OctetsLaws.{same-eq, number-same, cut-whole, cut-append-left, cut-append-right}
-use Rattle.tree.specs.Geometry.{blockCount, height}
-use Rattle.store.specs.Store.{usable, factsRoot, blocksOf, heightOf, factsInRange, storeSize, opened}
-use Rattle.store.specs.StoreLaws.{opened-usable, opened-facts-root, opened-blocks, opened-height}
-use Rattle.runs.specs.Subtree.{runLeaf}
+use Rattle.store.specs.Store.{usable, factsRoot, blocksOf, heightOf}
 use Rattle.runs.specs.SubtreeLaws.{run-leaf-in}
 use Rattle.header.specs.declared.Header.{Header}
 use Rattle.header.specs.Header.{isHashes, headerOf, messageRoot, messageSize, rulesKept}

@@ -2,23 +2,20 @@
 -- is worked out from the reply's hashes, position by position, as kd_held answers.
 -- Assumes nothing.
 use mathlib.Core.Path.{_≡_, refl, ap, ap₂, sym, _∙_, subst}
-use mathlib.Core.Bool.{true}
-use mathlib.Core.List.{List, _++_}
+use mathlib.Core.List.{List}
 use Prim.Native.Nat.{ℕ, zero, suc, _+_, _-_, _*_, _/_, _%_, _^_, _≤_, _<_}
 use native.Mathlib.Omega.{arith}
-use native.Mathlib.Nat.{div-add-mod', mul-assoc, mul-comm, mul-div-cancel-left, add-mul, one-mul, mul-le-mul-right, pow-suc}
+use native.Mathlib.Nat.{div-add-mod', mul-assoc, mul-comm, mul-div-cancel-left, add-mul, mul-le-mul-right, pow-suc}
 use native.Mathlib.Decide.{ℕ-discrete}
-use lib.ListN.{length}
 use lib.Pow.{pow-add, pow-pos, shr-lt}
 use Rattle.octets.specs.Octets.{cut}
 use Rattle.tree.specs.Geometry.{height, nodeNumber}
 use Rattle.tree.specs.GeometryLaws.{node-number-parent}
 use Rattle.tree.specs.Values.{node}
 use Rattle.tree.specs.ValuesLaws.{node-same}
-use Rattle.cells.specs.Entries.{Entry}
-use Rattle.cells.specs.EntriesLaws.{In, here, there, Has, has-same, in-left, in-right}
+use Rattle.cells.specs.EntriesLaws.{here, there, Has, has-same, in-left, in-right}
 use Rattle.store.specs.Store.{blocksOf, heightOf}
-use Rattle.store.specs.StoreLaws.{Facts, usable-facts, facts-leaves}
+use Rattle.store.specs.StoreLaws.{usable-facts, facts-leaves}
 use Rattle.runs.specs.Subtree.{subtree}
 use Rattle.runs.specs.SubtreeLaws.{subtree-has, number-below}
 use Rattle.runs.specs.Path.{uncle, ancestor, parentValue, risen, path}

@@ -1,6 +1,6 @@
 -- Demand 2, from the call to the reply: what kd_serve leaves in the output beside 0 is the reply that is read back as what was held.
 -- Assumes nothing.
-use mathlib.Core.Path.{_≡_, refl, ap, sym, _∙_}
+use mathlib.Core.Path.{_≡_, refl, ap, _∙_}
 use mathlib.Core.Bool.{Bool, true, false, cond}
 use mathlib.Core.List.{List}
 use Prim.Native.Nat.{ℕ, _+_, _-_, _*_, _/_, _^_, _≤_, _<_}
@@ -8,7 +8,7 @@ use native.Mathlib.Omega.{arith}
 use native.Mathlib.Decide.{decLe}
 use lib.ListN.{length}
 use lib.Dec.{leb}
-use Rattle.octets.specs.Octets.{cut, pasted}
+use Rattle.octets.specs.Octets.{cut}
 use Rattle.octets.specs.OctetsLaws.{cut-pasted-same}
 use Rattle.numbers.specs.Numbers.{refused}
 use Rattle.numbers.specs.declared.Answer.{Answer}

@@ -1,13 +1,11 @@
 -- What the theorems about our replies ask for can be met: a store of ours serves a request with 0, and another store takes the reply.
 -- Assumes nothing.
-use mathlib.Core.Path.{_≡_, refl, ap, ap₂, sym, _∙_, subst}
-use mathlib.Core.Bool.{Bool, true, false, cond, _&&_}
+use mathlib.Core.Path.{_≡_, refl, ap, ap₂, sym, _∙_}
+use mathlib.Core.Bool.{true}
 use mathlib.Core.List.{List, [], _∷_, _++_, append-assoc, append-nil}
-use Prim.Native.Nat.{ℕ, zero, suc, _+_, _-_, _*_, _/_, _%_, _^_, _≤_, _<_}
+use Prim.Native.Nat.{ℕ, _+_, _≤_}
 use native.Mathlib.Omega.{arith}
-use lib.ListN.{length, take, drop, length-append}
-use lib.Dec.{eqb, leb, ltb, lit<, lit≤}
-use borrow.Author.Tests.{le-leb}
+use lib.ListN.{length, length-append}
 use Rattle.octets.specs.Octets.{Octets, cut, same}
 use Rattle.octets.specs.OctetsLaws.{same-eq, cut-whole, cut-append-left}
 use Rattle.numbers.specs.declared.Answer.{Answer}
@@ -15,22 +13,21 @@ use Rattle.sha256.specs.Sha256.{pairHash}
 use Rattle.sha256.specs.Sha256Laws.{pair-octets}
 use Rattle.tree.specs.Geometry.{ceilDiv, blockCount, heightFrom, height, nodeNumber, covering, pieceLayer, isPieceLength}
 use Rattle.cells.specs.Cells.{heldAt, hashAt}
-use Rattle.store.specs.Store.{usable, factsRoot, blocksOf, heightOf, factsInRange, storeSize, openAfter, opened}
+use Rattle.store.specs.Store.{factsRoot, blocksOf, heightOf, factsInRange, storeSize, openAfter, opened}
 use Rattle.store.specs.StoreLaws.{Facts, facts-usable, usable-facts, opened-usable, opened-facts-root, opened-blocks, opened-height}
 use Rattle.header.specs.declared.Header.{Header}
-use Rattle.header.specs.declared.Place.{Place}
 use Rattle.header.specs.Header.{headerOf, messageRoot, isRequest, placeOf, rulesKept, lengthRule, indexRule}
 use Rattle.messages.specs.Take.{headerNumber, placeIn, takeNumber, takeAfter}
 use Rattle.messages.specs.TakeLaws.{passes}
 use Rattle.serve.specs.Serve.{heldRun, runHashes, heldUncles, uncleHashes, allHeld, allHashes, requestNumber, replyTo, serveAnswer}
 use Rattle.serve.specs.ServeLaws.{head-same, request-zero, served-reply, fits-sent}
 use Rattle.promises.specs.Held.{Holds}
-use Rattle.promises.specs.History.{Bytes, OurStore}
+use Rattle.promises.specs.History.{Bytes}
 use Rattle.promises.specs.Grows.{Grown, grown-take}
 use Rattle.promises.specs.Again.{what-is-held}
 use Rattle.promises.specs.Offered.{offered-root, offered-size, two-size}
 use Rattle.promises.specs.Example.{twoLeaves, header-two, two-taken}
-use Rattle.promises.specs.Witness.{ours-with-two-leaves, two-leaves-held, open-is}
+use Rattle.promises.specs.Witness.{two-leaves-held, open-is}
 
 abbrev numbers : List ℕ
 numbers = 0 ∷ 0 ∷ 0 ∷ 0 ∷ 0 ∷ 0 ∷ 0 ∷ 0 ∷ 0 ∷ 0 ∷ 0 ∷ 2 ∷ 0 ∷ 0 ∷ 0 ∷ 0 ∷ []

@@ -1,23 +1,23 @@
 -- Demand 2, from the root to the block: the file's own piece layer is loaded, or a pair is shown.
 -- Assumes nothing.
-use mathlib.Core.Path.{_≡_, refl, ap, ap₂, sym, _∙_}
+use mathlib.Core.Path.{_≡_, ap, sym, _∙_}
 use mathlib.Core.Bool.{true}
 use mathlib.Core.List.{List}
 use mathlib.Core.Logic.{_⊎_, inl, inr}
-use Prim.Native.Nat.{ℕ, _+_, _-_, _*_, _^_, _≤_, _<_}
+use Prim.Native.Nat.{ℕ, _+_, _-_, _*_, _<_}
 use native.Mathlib.Omega.{arith}
 use lib.ListN.{length}
-use Rattle.tree.specs.Geometry.{blockCount, height, nodeNumber, covering, hasLayer, pieceCount}
-use Rattle.tree.specs.Values.{node, leafOf, layerOf, wholeLayer, layerLeaf, layerRoot, piecesRoot}
-use Rattle.tree.specs.ValuesLaws.{layer-octets, layer-cut, node-of-layer, root-of-whole-layer}
-use Rattle.cells.specs.Cells.{heldAt, hashAt}
-use Rattle.cells.specs.Entries.{Entry, agreesAt, agrees}
-use Rattle.cells.specs.EntriesLaws.{In, has-same, agrees-in, in-agrees}
-use Rattle.store.specs.Store.{fileLength, pieceLength, factsRoot, blocksOf, heightOf}
-use Rattle.store.specs.StoreLaws.{Facts, facts-usable}
+use Rattle.tree.specs.Geometry.{blockCount, nodeNumber, covering, hasLayer, pieceCount}
+use Rattle.tree.specs.Values.{node, leafOf, wholeLayer, layerLeaf, piecesRoot}
+use Rattle.tree.specs.ValuesLaws.{layer-octets, layer-cut, node-of-layer}
+use Rattle.cells.specs.Cells.{hashAt}
+use Rattle.cells.specs.Entries.{agrees}
+use Rattle.cells.specs.EntriesLaws.{has-same, agrees-in, in-agrees}
+use Rattle.store.specs.Store.{fileLength, pieceLength, blocksOf, heightOf}
+use Rattle.store.specs.StoreLaws.{facts-usable}
 use Rattle.runs.specs.Subtree.{subtree}
 use Rattle.pieces.specs.Pieces.{layerOfPieces, layerSettled, layerNumber}
-use Rattle.pieces.specs.PiecesLaws.{Layered, layered, pieces-are, Loads, loads-answered, settled-in-layers}
+use Rattle.pieces.specs.PiecesLaws.{layered, pieces-are, loads-answered, settled-in-layers}
 use Rattle.promises.specs.History.{OurStore}
 use Rattle.promises.specs.Invariant.{Chained, ours-have}
 use Rattle.promises.specs.Conflict.{Shown, heldBy, ofFile}

@@ -2,12 +2,12 @@
 -- opened for it, and a message with that file's own hashes.
 -- Assumes nothing.
 use mathlib.Core.Path.{_≡_, refl, ap, ap₂, sym, _∙_, subst}
-use mathlib.Core.Bool.{Bool, true, false, cond, _&&_}
+use mathlib.Core.Bool.{true}
 use mathlib.Core.List.{List, [], _∷_, _++_}
 use Prim.Native.Nat.{ℕ, zero, suc, _+_, _-_, _*_, _/_, _^_, _≤_, _<_}
 use native.Mathlib.Omega.{arith}
 use lib.ListN.{length, getD, replicate, length-replicate}
-use lib.Dec.{leb, lit<, lit≤}
+use lib.Dec.{lit<, lit≤}
 use lib.Pow.{pow-pos}
 use borrow.Author.Tests.{le-leb}
 use Rattle.octets.specs.Octets.{Octets, be, cut, zeroHash}
@@ -17,10 +17,9 @@ use Rattle.sha256.specs.Sha256Laws.{pair-octets}
 use Rattle.tree.specs.Geometry.{ceilDiv, blockCount, heightFrom, height, pieceLayer, isPieceLength}
 use Rattle.tree.specs.Values.{node, leafOf, piecesRoot}
 use Rattle.tree.specs.ValuesLaws.{leaf-octets}
-use Rattle.cells.specs.Entries.{one}
-use Rattle.cells.specs.EntriesLaws.{In, here, there, Has, has-same}
-use Rattle.store.specs.Store.{fileLength, factsRoot, factsInRange, storeSize, openAnswer, openAfter, opened, positions, heldAnswer}
-use Rattle.store.specs.StoreLaws.{opened-file, opened-facts-root, opened-usable}
+use Rattle.cells.specs.EntriesLaws.{here, there, Has}
+use Rattle.store.specs.Store.{factsInRange, storeSize, openAnswer, openAfter, opened, positions, heldAnswer}
+use Rattle.store.specs.StoreLaws.{opened-file, opened-facts-root}
 use Rattle.runs.specs.Subtree.{subtree}
 use Rattle.header.specs.declared.Header.{Header}
 use Rattle.header.specs.declared.Place.{Place}
@@ -28,7 +27,7 @@ use Rattle.header.specs.Header.{headerOf, isHashes}
 use Rattle.messages.specs.Take.{given, placeIn, takeNumber, takeAfter}
 use Rattle.messages.specs.TakeLaws.{passed}
 use Rattle.promises.specs.Held.{Holds}
-use Rattle.promises.specs.History.{Bytes, Steps, begin, message, OurStore, ours}
+use Rattle.promises.specs.History.{Bytes, begin, message, OurStore, ours}
 use Rattle.promises.specs.TakenWhen.{taken-then-right}
 use Rattle.promises.specs.AnchorHeld.{anchorLayer, anchorIndex, held-asked}
 use Rattle.promises.specs.ReadThere.{run-holds, given-is}
