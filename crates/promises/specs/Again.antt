@@ -81,7 +81,7 @@ module _ (s t m : List ℕ) (f : Facts s) (g : Grown s t) where
   same-place : placeIn t m ≡ placeIn s m
   same-place = ap (placeOf (headerOf m)) (g .same .layers)
 
-  same-header : (form : Bool) → headerNumber form t m ≡ headerNumber form s m
+  pub same-header : (form : Bool) → headerNumber form t m ≡ headerNumber form s m
   unfolding headerNumber
   same-header form = rw (facts-usable t (g .facts), facts-usable s f, g .same .root, g .same .blocks, g .same .layers)
 
@@ -235,7 +235,7 @@ header-not-6 true true false k e = omega arith
 header-not-6 true false r k e = omega arith
 header-not-6 false form r k e = omega arith
 
-header-number-not-6 : (form : Bool) (s m : List ℕ) → headerNumber form s m ≡ noAnchor → ⊥
+pub header-number-not-6 : (form : Bool) (s m : List ℕ) → headerNumber form s m ≡ noAnchor → ⊥
 unfolding headerNumber
 header-number-not-6 form s m e =
     header-not-6 (usable s) form (same (factsRoot s) (messageRoot m)) (rulesKept (headerOf m) (blocksOf s) (heightOf s)) e

@@ -21,7 +21,7 @@ use Rattle.messages.specs.Take.{unclesOf, given, settled, placeIn, takeNumber, 
 use Rattle.messages.specs.TakenLaws.{ready-settled, taken-ready}
 use Rattle.pieces.specs.Pieces.{layerNumber, layerAfter}
 use Rattle.pieces.specs.PiecesLaws.{layer-refused, layer-same-facts, layer-facts, layer-keeps}
-use Rattle.promises.specs.History.{Bytes, Steps, begin, message, layer, looked, reopened}
+use Rattle.promises.specs.History.{Bytes, Steps, begin, message, reject-heard, request-served, hash-asked, layer, block-judged, piece-judged, reopened}
 use Rattle.promises.specs.TakenWhen.{taken-then-right, taken-well-formed}
 
 -- the facts are the same, and what s holds t holds with the same bytes
@@ -114,5 +114,9 @@ pub steps-grow : {s t : List ℕ} → Facts s → Steps s t → Grown s t
 steps-grow {s} f begin = grown-same s f
 steps-grow f (message {t = t} m b h) = let g = steps-grow f h in grown-on g (grown-take t m (g .facts))
 steps-grow f (layer {t = t} l b h) = let g = steps-grow f h in grown-on g (grown-layer t l (g .facts))
-steps-grow f (looked h) = steps-grow f h
+steps-grow f (reject-heard m x h) = steps-grow f h
+steps-grow f (request-served m out x y h) = steps-grow f h
+steps-grow f (hash-asked l i h) = steps-grow f h
+steps-grow f (block-judged i d x h) = steps-grow f h
+steps-grow f (piece-judged i d x h) = steps-grow f h
 steps-grow f (reopened {t = t} n plen root ne h) = rw (reopen-refused t n plen root ne) (steps-grow f h)

@@ -23,7 +23,7 @@ use Rattle.messages.specs.Take.{settled, placeIn, takeNumber, takeAfter}
 use Rattle.messages.specs.TakenLaws.{taken-ready}
 use Rattle.pieces.specs.Pieces.{layerSettled, layerNumber, layerAfter, pieceNumber}
 use Rattle.pieces.specs.PiecesLaws.{layer-loads, loads-layered, layer-refused, layer-taken}
-use Rattle.promises.specs.History.{Bytes, Steps, begin, message, layer, looked, reopened, OurStore, ours}
+use Rattle.promises.specs.History.{Bytes, Steps, begin, message, reject-heard, request-served, hash-asked, layer, block-judged, piece-judged, reopened, OurStore, ours}
 use Rattle.promises.specs.Grows.{reopen-refused}
 use Rattle.promises.specs.Invariant.{Ours, message-whole, layer-whole, ours-opened, ours-take, ours-layer, ours-have}
 use Rattle.promises.specs.Conflict.{Shown, heldBy, byMessage, byLayer, byPiece, message-octets, layer-octets, conflict-shows, layer-conflict-shows, piece-conflict-shows}
@@ -126,7 +126,11 @@ bytes-steps : {s t : List ℕ} → Ours s → Bytes s → Steps s t → Ours t �
 bytes-steps o b begin = (o, b)
 bytes-steps o b (message {t = t} m bm h) = let w = bytes-steps o b h in (ours-take t m (w .0), bytes-take t m (w .0) (w .1) bm)
 bytes-steps o b (layer {t = t} l bl h) = let w = bytes-steps o b h in (ours-layer t l (w .0), bytes-layer t l (w .0) (w .1) bl)
-bytes-steps o b (looked h) = bytes-steps o b h
+bytes-steps o b (reject-heard m x h) = bytes-steps o b h
+bytes-steps o b (request-served m out x y h) = bytes-steps o b h
+bytes-steps o b (hash-asked l i h) = bytes-steps o b h
+bytes-steps o b (block-judged i d x h) = bytes-steps o b h
+bytes-steps o b (piece-judged i d x h) = bytes-steps o b h
 bytes-steps o b (reopened {t = t} n plen root ne h) = rw (reopen-refused t n plen root ne) (bytes-steps o b h)
 
 -- a store that only this build has written is a string of bytes

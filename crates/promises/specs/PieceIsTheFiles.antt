@@ -1,6 +1,6 @@
 -- Demand 2, from the root to the block: a piece answered 0 is the file's, or a pair is shown, or two blocks have one SHA-256.
 -- Assumes nothing.
-use mathlib.Core.Path.{_≡_, refl, ap, sym, _∙_}
+use mathlib.Core.Path.{_≡_, refl, ap, sym, _∙_, subst}
 use mathlib.Core.Bool.{Bool, true, false}
 use mathlib.Core.List.{List}
 use mathlib.Core.Logic.{_⊎_, inl, inr}
@@ -12,7 +12,7 @@ use lib.ListN.{length, getD}
 use lib.Seq.{ext-getD}
 use Rattle.octets.specs.Octets.{Octets, cut}
 use Rattle.octets.specs.OctetsLaws.{getD-cut, cut-size}
-use Rattle.tree.specs.Geometry.{blockLength, blockCount, nodeNumber, hasLayer, pieceCount, pieceSize}
+use Rattle.tree.specs.Geometry.{blockLength, blockCount, nodeNumber, hasLayer, pieceCount, blockSize, pieceSize}
 use Rattle.tree.specs.GeometryLaws.{left-start, right-start, node-number-range, block-within, block-outside, piece-size-most}
 use Rattle.tree.specs.Values.{node, leafOf, blockOf, pieceOf}
 use Rattle.tree.specs.ValuesLaws.{node-octets, leaf-octets, leaf-block}
@@ -77,8 +77,8 @@ leaves-or-shown h x y f g (suc k) n j j2 a w gx gy of og e =
     ]
 
 -- the first block that differs, of c
-search : (a b : List ℕ) (c : ℕ) → ((x : ℕ) → x < c → OneHash (blockOf a x) (blockOf b x) ⊎ (blockOf a x ≡ blockOf b x))
-    → ((x : ℕ) × OneHash (blockOf a x) (blockOf b x)) ⊎ ((x : ℕ) → x < c → blockOf a x ≡ blockOf b x)
+search : (a b : List ℕ) (c : ℕ) → ((x : ℕ) → x < c → OneHash (blockSize (length a) x) (blockOf a x) (blockOf b x) ⊎ (blockOf a x ≡ blockOf b x))
+    → ((x : ℕ) × OneHash (blockSize (length a) x) (blockOf a x) (blockOf b x)) ⊎ ((x : ℕ) → x < c → blockOf a x ≡ blockOf b x)
 search a b zero f = inr (λ x l. absurd (omega arith))
 search a b (suc c) f =
     elim (search a b c (λ x l. f x (omega arith))) [
@@ -104,12 +104,12 @@ by-blocks a b n f =
     ∙ getD-cut b (blockLength * (i / 16384)) blockLength (i % 16384) m ∙ ap (λ (y : ℕ). getD b y 0) e)
 
 -- what a piece answered 0 is: the file's own piece; or the store and the file's tree show a pair; or the piece and the file's tree do;
--- or a block of it and the file's are two different strings with one SHA-256
+-- or a block of it and the file's are two different strings of that block's size with one SHA-256
 pub data PieceIs (file s : List ℕ) (i : ℕ) (piece : List ℕ) : Type 0 where
   theFiles : piece ≡ pieceFor file s i → PieceIs file s i piece
   storeShows : Shown (heightOf s) (heldBy s) (ofFile file) → PieceIs file s i piece
   pieceShows : Shown (heightOf s) (byPiece s i piece) (ofFile file) → PieceIs file s i piece
-  blockShows : (x : ℕ) → OneHash (blockOf piece x) (blockOf (pieceFor file s i) x) → PieceIs file s i piece
+  blockShows : (x : ℕ) → OneHash (blockSize (length piece) x) (blockOf piece x) (blockOf (pieceFor file s i) x) → PieceIs file s i piece
 
 module _ (file s : List ℕ) (f : Facts s) (w : For file s) (i : ℕ) (l : i < pieceCount (fileLength s) (pieceLength s))
     (piece : List ℕ) (size : length piece ≡ pieceSize (fileLength s) (pieceLength s) i) (bf : Bytes file) (bp : Bytes piece) where
@@ -154,7 +154,8 @@ module _ (file s : List ℕ) (f : Facts s) (w : For file s) (i : ℕ) (l : i < p
       elim (search piece (pieceFor file s i) (blockCount (length piece))
       (λ x b.
       let c : x < blockCount (length (pieceFor file s i)) = rw same-size at b in
-      same-or-one-hash (blockOf piece x) (blockOf (pieceFor file s i) x) (block-octets piece x bp b) (block-octets (pieceFor file s i) x true-bytes c)
+      same-or-one-hash (blockSize (length piece) x) (blockOf piece x) (blockOf (pieceFor file s i) x) (block-octets piece x bp b)
+      (subst (λ (n : ℕ). Octets (blockSize n x) (blockOf (pieceFor file s i) x)) (sym same-size) (block-octets (pieceFor file s i) x true-bytes c))
       (sym (leaf-block piece x b) ∙ k x (omega (arith, few)) ∙ leaf-block (pieceFor file s i) x c))) [
         | inl o ↦ blockShows (o .0) (o .1)
         | inr e ↦ theFiles (by-blocks piece (pieceFor file s i) same-size e)

@@ -94,7 +94,8 @@ module _ (t r : List ℕ) (z : takeNumber t r ≡ 0) where
   unfolding placeOf
   k-is = refl
 
-  given-is : (j : ℕ) → j < 2 ^ placeIn t r .k → given r (placeIn t r .k) j ≡ cut r (49 + 32 * j) 32
+  -- hash j of the run as it stands in the message
+  pub given-is : (j : ℕ) → j < 2 ^ placeIn t r .k → given r (placeIn t r .k) j ≡ cut r (49 + 32 * j) 32
   unfolding given runOf
   given-is j l =
       let c = 2 ^ placeIn t r .k in
@@ -134,11 +135,11 @@ run-held-there s t m z y j l =
     (run-reads-back s m z j l, rw h at (run-holds t (replyTo s m) y j (rw h l)))
 
 -- how many hashes and uncles there are is said by the header alone
-same-run : (s t m : List ℕ) → requestNumber s m ≡ 0 → placeIn t (replyTo s m) .k ≡ placeIn s m .k
+pub same-run : (s t m : List ℕ) → requestNumber s m ≡ 0 → placeIn t (replyTo s m) .k ≡ placeIn s m .k
 unfolding placeOf
 same-run s t m z = ap (λ (x : Header). height (x .len)) (reply-has-header s m z .2)
 
-same-uncles : (s t m : List ℕ) → requestNumber s m ≡ 0 → placeIn t (replyTo s m) .u ≡ placeIn s m .u
+pub same-uncles : (s t m : List ℕ) → requestNumber s m ≡ 0 → placeIn t (replyTo s m) .u ≡ placeIn s m .u
 unfolding placeOf
 same-uncles s t m z = ap (λ (x : Header). x .proof - (height (x .len) - 1)) (reply-has-header s m z .2)
 

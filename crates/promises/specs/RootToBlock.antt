@@ -1,7 +1,7 @@
 -- Demand 2, from the root to the block: what a store that only this build has written holds, opened with a file's own length and
 -- pieces root, is the file's; so is a block that it answers 0; and the file's own blocks and pieces are answered 0. Each unless a pair is shown.
 -- Assumes nothing.
-use mathlib.Core.Path.{_≡_, refl, ap, ap₂, sym, _∙_}
+use mathlib.Core.Path.{_≡_, refl, ap, ap₂, sym, _∙_, subst}
 use mathlib.Core.Bool.{Bool, true, false}
 use mathlib.Core.List.{List}
 use mathlib.Core.Logic.{_⊎_, inl, inr}
@@ -29,7 +29,7 @@ use Rattle.pieces.specs.Pieces.{layerOfPieces, pieceHeight, blockNumber, pieceN
 use Rattle.pieces.specs.PiecesLaws.{placed, height-layer, piece-at-root, block-right, right-block, right-piece}
 use Rattle.promises.specs.History.{Bytes, OurStore}
 use Rattle.promises.specs.Invariant.{Chained, Whole, ours-have}
-use Rattle.promises.specs.Conflict.{Shown, heldBy, ofFile, Gives, agrees-or-shown, subtree-octets, sized-bytes}
+use Rattle.promises.specs.Conflict.{Shown, heldBy, ofFile, Gives, agrees-or-shown, subtree-octets}
 use Rattle.promises.specs.OwnBytes.{ours-bytes}
 
 -- s was opened with the file's own length and pieces root
@@ -99,26 +99,26 @@ held-is-the-files {s} file o w =
 
 -- ---- blocks
 
--- two different strings with one SHA-256
-pub record OneHash (a b : List ℕ) : Type 0 where
-  pub bytes : Bytes a
-  pub bytes′ : Bytes b
+-- two different strings of n bytes with one SHA-256
+pub record OneHash (n : ℕ) (a b : List ℕ) : Type 0 where
+  pub bytes : Octets n a
+  pub bytes′ : Octets n b
   pub differ : a ≡ b → ⊥
   pub alike : sha256 a ≡ sha256 b
 
-pub block-octets : (file : List ℕ) (i : ℕ) → Bytes file → i < blockCount (length file) → Bytes (blockOf file i)
-unfolding blockOf
+-- block i of a string of bytes is one of the size that 01 gives it
+pub block-octets : (file : List ℕ) (i : ℕ) → Bytes file → i < blockCount (length file) → Octets (blockSize (length file) i) (blockOf file i)
+unfolding blockOf blockSize
 block-octets file i b l =
-    let n = min blockLength (length file - blockLength * i) in
     let s = block-starts (length file) i l in
     let o : Octets (min blockLength (length file - blockLength * i)) (cut file (blockLength * i) (min blockLength (length file - blockLength * i))) =
     cut-octets (blockLength * i) (min blockLength (length file - blockLength * i)) b (omega arith) in
-    rw (cut-short file (blockLength * i) blockLength) at (sized-bytes n _ o)
+    subst (Octets (min blockLength (length file - blockLength * i))) (cut-short file (blockLength * i) blockLength) o
 
-pub same-or-one-hash : (a b : List ℕ) → Bytes a → Bytes b → sha256 a ≡ sha256 b → OneHash a b ⊎ (a ≡ b)
-same-or-one-hash a b x y e = by (same a b) refl
+pub same-or-one-hash : (n : ℕ) (a b : List ℕ) → Octets n a → Octets n b → sha256 a ≡ sha256 b → OneHash n a b ⊎ (a ≡ b)
+same-or-one-hash n a b x y e = by (same a b) refl
   where
-    by : (t : Bool) → same a b ≡ t → OneHash a b ⊎ (a ≡ b)
+    by : (t : Bool) → same a b ≡ t → OneHash n a b ⊎ (a ≡ b)
     by true p = inr (same-true a b p)
     by false p = inl (record { bytes = x; bytes′ = y; differ = same-false a b p; alike = e })
 
@@ -134,17 +134,19 @@ module _ (file s : List ℕ) (f : Facts s) (w : For file s) (i : ℕ) (l : i < b
   unfolding node
   leaf-hash g h = agreed-is file s w g 0 i (omega arith) leaf-inside h ∙ leaf-block file i (rw same-count at l)
 
--- A BLOCK ANSWERED 0 IS THE FILE'S, or a pair is shown, or the block and the file's block are two different strings with one SHA-256
+-- A BLOCK ANSWERED 0 IS THE FILE'S, or a pair is shown, or the block and the file's block are two different strings of the block's size
+-- with one SHA-256
 pub block-is-the-files : {s : List ℕ} (file : List ℕ) (i : ℕ) (block : List ℕ) → OurStore s → For file s → Bytes file → Bytes block → blockNumber s i block ≡ 0
-    → Shown (heightOf s) (heldBy s) (ofFile file) ⊎ (OneHash block (blockOf file i) ⊎ (block ≡ blockOf file i))
+    → Shown (heightOf s) (heldBy s) (ofFile file) ⊎ (OneHash (blockSize (fileLength s) i) block (blockOf file i) ⊎ (block ≡ blockOf file i))
 block-is-the-files {s} file i block o w bf bb z =
     let r = block-right s i block z in
     let f = ours-have o .chained .facts in
+    let mine : Octets (blockSize (fileLength s) i) block = subst (λ (n : ℕ). Octets n block) (r .size) bb in
+    let its : Octets (blockSize (fileLength s) i) (blockOf file i) =
+    subst (λ (n : ℕ). Octets (blockSize n i) (blockOf file i)) (sym (w .long)) (block-octets file i bf (rw (same-count file s f w i (r .inside)) at (r .inside))) in
     elim (tree-agrees file s w (ours-have o .chained) (ours-bytes o)) [
       | inl x ↦ inl x
-      | inr g ↦
-          inr (same-or-one-hash block (blockOf file i) bb (block-octets file i bf (rw (same-count file s f w i (r .inside)) at (r .inside)))
-          (sym (r .alike) ∙ leaf-hash file s f w i (r .inside) g (r .held)))
+      | inr g ↦ inr (same-or-one-hash (blockSize (fileLength s) i) block (blockOf file i) mine its (sym (r .alike) ∙ leaf-hash file s f w i (r .inside) g (r .held)))
     ]
 
 -- THE FILE'S OWN BLOCK, its leaf held, is answered 0, or a pair is shown

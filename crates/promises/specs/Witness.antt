@@ -1,0 +1,215 @@
+-- What the theorems ask for can be met: a store that only this build has written, of two blocks and with a message taken; a file, a store
+-- opened for it, and a message with that file's own hashes.
+-- Assumes nothing.
+use mathlib.Core.Path.{_≡_, refl, ap, ap₂, sym, _∙_, subst}
+use mathlib.Core.Bool.{true}
+use mathlib.Core.List.{List, [], _∷_, _++_}
+use Prim.Native.Nat.{ℕ, zero, suc, _+_, _-_, _*_, _/_, _^_, _≤_, _<_}
+use native.Mathlib.Omega.{arith}
+use lib.ListN.{length, getD, replicate, length-replicate}
+use lib.Dec.{lit<, lit≤}
+use lib.Pow.{pow-pos}
+use borrow.Author.Tests.{le-leb}
+use Rattle.octets.specs.Octets.{Octets, be, cut, zeroHash}
+use Rattle.octets.specs.OctetsLaws.{zero-octets, be-octets, append-octets}
+use Rattle.sha256.specs.Sha256.{pairHash}
+use Rattle.sha256.specs.Sha256Laws.{pair-octets}
+use Rattle.tree.specs.Geometry.{ceilDiv, blockCount, heightFrom, height, pieceLayer, isPieceLength}
+use Rattle.tree.specs.Values.{node, leafOf, piecesRoot}
+use Rattle.tree.specs.ValuesLaws.{leaf-octets}
+use Rattle.cells.specs.EntriesLaws.{here, there, Has}
+use Rattle.store.specs.Store.{factsInRange, storeSize, openAnswer, openAfter, opened, positions, heldAnswer}
+use Rattle.store.specs.StoreLaws.{opened-file, opened-facts-root}
+use Rattle.runs.specs.Subtree.{subtree}
+use Rattle.header.specs.declared.Header.{Header}
+use Rattle.header.specs.declared.Place.{Place}
+use Rattle.header.specs.Header.{headerOf, isHashes}
+use Rattle.messages.specs.Take.{given, placeIn, takeNumber, takeAfter}
+use Rattle.messages.specs.TakeLaws.{passed}
+use Rattle.promises.specs.Held.{Holds}
+use Rattle.promises.specs.History.{Bytes, begin, message, OurStore, ours}
+use Rattle.promises.specs.TakenWhen.{taken-then-right}
+use Rattle.promises.specs.AnchorHeld.{anchorLayer, anchorIndex, held-asked}
+use Rattle.promises.specs.ReadThere.{run-holds, given-is}
+use Rattle.promises.specs.ParentsThere.{hashOf, parent-holds}
+use Rattle.promises.specs.Conflict.{sized-bytes}
+use Rattle.promises.specs.RootToBlock.{For, treeOf}
+use Rattle.promises.specs.TrueMessage.{Tells}
+use Rattle.promises.specs.Example.{twoLeaves, header-two, first, second, two-taken, two-well-formed, two-place}
+
+range : factsInRange 32768 16384 ≡ true
+unfolding factsInRange isPieceLength pieceLayer height heightFrom
+range = refl
+
+opens : (buffer : List ℕ) → storeSize 32768 ≤ length buffer → openAnswer buffer 32768 16384 .number ≡ 0
+unfolding openAnswer
+opens buffer fits = rw (range, le-leb (storeSize 32768) (length buffer) fits)
+
+pub open-is : (buffer root : List ℕ) → storeSize 32768 ≤ length buffer → openAfter buffer 32768 16384 root ≡ opened buffer 32768 16384 root
+unfolding openAfter
+open-is buffer root fits = rw (range, le-leb (storeSize 32768) (length buffer) fits)
+
+-- the message is a string of bytes
+one-byte : Octets 1 (22 ∷ [])
+one-byte = be-octets 1 22
+
+four-numbers : Octets 16 (be 4 0 ++ (be 4 0 ++ (be 4 2 ++ be 4 0)))
+four-numbers = append-octets (be-octets 4 0) (append-octets (be-octets 4 0) (append-octets (be-octets 4 2) (be-octets 4 0)))
+
+leaves-bytes : (a b : List ℕ) → Octets 32 a → Octets 32 b → Bytes (twoLeaves a b)
+leaves-bytes a b oa ob = sized-bytes 113 (twoLeaves a b) (append-octets one-byte (append-octets (pair-octets a b) (append-octets four-numbers (append-octets oa ob))))
+
+-- ---- a store of ours with more than its root
+
+module _ (a b : List ℕ) (oa : Octets 32 a) (ob : Octets 32 b) (buffer : List ℕ) (bytes : Bytes buffer) (fits : storeSize 32768 ≤ length buffer) where
+  -- a store of two blocks, opened by us, that has heard its two leaves: written by this build only,
+  pub ours-with-two-leaves : OurStore (takeAfter (openAfter buffer 32768 16384 (pairHash a b)) (twoLeaves a b))
+  ours-with-two-leaves = ours buffer 32768 16384 (pairHash a b) bytes (pair-octets a b) (opens buffer fits) (message (twoLeaves a b) (leaves-bytes a b oa ob) begin)
+
+  opened-two : List ℕ
+  opened-two = opened buffer 32768 16384 (pairHash a b)
+
+  taken : takeNumber opened-two (twoLeaves a b) ≡ 0
+  unfolding opened-two
+  taken = two-taken a b oa ob buffer fits
+
+  hash-is : (j : ℕ) → j < 2 → cut (twoLeaves a b) (49 + 32 * j) 32 ≡ given (twoLeaves a b) 1 j
+  unfolding opened-two
+  hash-is j l =
+      let m = twoLeaves a b in
+      let e : placeIn opened-two (twoLeaves a b) .k ≡ 1 = ap (λ (p : Place). p .k) (two-place a b oa ob buffer fits) in
+      sym (given-is opened-two m taken j (rw e l)) ∙ ap (λ (k : ℕ). given m k j) e
+
+  leaf-held : (j : ℕ) → j < 2 → Holds (takeAfter opened-two (twoLeaves a b)) 0 (0 + j) (given (twoLeaves a b) 1 j)
+  leaf-held j l =
+      let m = twoLeaves a b in
+      let h = header-two a b oa ob in
+      subst (λ (x : Header). Holds (takeAfter opened-two m) (x .base) (x .index + j) (given m 1 j)) h
+      (rw (← hash-is j l) (run-holds opened-two m taken j (rw h l)))
+
+  some-high : 1 ≤ height 2
+  unfolding height heightFrom
+  some-high = lit≤ tt
+
+  parent-is : node (hashOf (twoLeaves a b)) 1 0 ≡ pairHash a b
+  unfolding node
+  parent-is = ap₂ pairHash (hash-is 0 (lit< tt) ∙ first a b oa ob) (hash-is 1 (lit< tt) ∙ second a b oa ob)
+
+  root-held : Holds (takeAfter opened-two (twoLeaves a b)) 1 0 (pairHash a b)
+  root-held =
+      let m = twoLeaves a b in
+      let h = header-two a b oa ob in
+      subst (Holds (takeAfter opened-two m) 1 0) parent-is
+      (subst (λ (x : Header). Holds (takeAfter opened-two m) (x .base + 1) (x .index / 2 ^ 1 + 0) (node (hashOf m) 1 0)) h
+      (parent-holds opened-two m taken 1 0 (rw h some-high) (pow-pos (height (headerOf m .len) - 1))))
+
+  -- and kd_held gives both leaves and the root
+  pub two-leaves-held :
+      Holds (takeAfter (openAfter buffer 32768 16384 (pairHash a b)) (twoLeaves a b)) 0 0 a × Holds (takeAfter (openAfter buffer 32768 16384 (pairHash a b)) (twoLeaves a b)) 0 1 b
+      × Holds (takeAfter (openAfter buffer 32768 16384 (pairHash a b)) (twoLeaves a b)) 1 0 (pairHash a b)
+  unfolding opened-two
+  two-leaves-held =
+      let s = takeAfter opened-two (twoLeaves a b) in
+      rw (open-is buffer (pairHash a b) fits) (subst (Holds s 0 0) (first a b oa ob) (leaf-held 0 (lit< tt)), subst (Holds s 0 1) (second a b oa ob) (leaf-held 1 (lit< tt)), root-held)
+
+-- ---- a file of two blocks, whatever its bytes, a store opened for it, and the message with its two leaves
+
+module _ (file buffer : List ℕ) (two-blocks : length file ≡ 32768) (fits : storeSize 32768 ≤ length buffer) where
+  one-high : height (blockCount (length file)) ≡ 1
+  unfolding height heightFrom blockCount ceilDiv
+  one-high = rw two-blocks
+
+  root-is : piecesRoot file ≡ pairHash (leafOf file 0) (leafOf file 1)
+  unfolding piecesRoot node
+  root-is = rw one-high
+
+  tree-is : treeOf file ≡ subtree (leafOf file) 1 1 0
+  tree-is = rw one-high
+
+  -- the store was opened with the file's own length and pieces root,
+  pub for-the-file : For file (opened buffer 32768 16384 (piecesRoot file))
+  for-the-file =
+      let size : length (piecesRoot file) ≡ 32 = ap length root-is ∙ pair-octets (leafOf file 0) (leafOf file 1) .size in
+      record {
+        long = opened-file buffer 32768 16384 (piecesRoot file) range fits size ∙ sym two-blocks;
+        root = opened-facts-root buffer 32768 16384 (piecesRoot file) range fits size;
+      }
+
+  stands : (j : ℕ) → j < 2 → Has (1 * 2 ^ 1 + j) (given (twoLeaves (leafOf file 0) (leafOf file 1)) 1 j) (subtree (leafOf file) 1 1 0)
+  unfolding subtree
+  stands zero l = rw (first (leafOf file 0) (leafOf file 1) (leaf-octets file 0) (leaf-octets file 1)) here
+  stands (suc zero) l = rw (second (leafOf file 0) (leafOf file 1) (leaf-octets file 0) (leaf-octets file 1)) (there here)
+  stands (suc (suc j)) l = let w : ⊥ = omega arith in absurd w
+
+  told : Tells file (opened buffer 32768 16384 (pairHash (leafOf file 0) (leafOf file 1))) (twoLeaves (leafOf file 0) (leafOf file 1))
+  told =
+      let a = leafOf file 0 in
+      let b = leafOf file 1 in
+      let place = two-place (leafOf file 0) (leafOf file 1) (leaf-octets file 0) (leaf-octets file 1) buffer fits in
+      let well = two-well-formed (leafOf file 0) (leafOf file 1) (leaf-octets file 0) (leaf-octets file 1) buffer fits in
+      record {
+        header = well .header;
+        size = well .size;
+        run = λ j l. rw (place, tree-is) (stands j (rw place at l));
+        uncles = λ i l. (let n : i < 0 = rw place at l in let w : ⊥ = omega arith in absurd w);
+      }
+
+  -- and the message tells it the file's own two leaves
+  pub tells-the-file : Tells file (opened buffer 32768 16384 (piecesRoot file)) (twoLeaves (leafOf file 0) (leafOf file 1))
+  tells-the-file = rw root-is told
+
+  -- the store is one that only this build has written,
+  pub ours-for-the-file : Bytes buffer → OurStore (opened buffer 32768 16384 (piecesRoot file))
+  ours-for-the-file bytes =
+      let o : Octets 32 (piecesRoot file) = rw root-is (pair-octets (leafOf file 0) (leafOf file 1)) in
+      rw (← open-is buffer (piecesRoot file) fits) (ours buffer 32768 16384 (piecesRoot file) bytes o (opens buffer fits) begin)
+
+  -- and kd_held gives the message's anchor
+  pub anchor-for-the-file :
+      heldAnswer (opened buffer 32768 16384 (piecesRoot file)) (anchorLayer (twoLeaves (leafOf file 0) (leafOf file 1))) (anchorIndex (twoLeaves (leafOf file 0) (leafOf file 1))) .number ≡ 0
+  anchor-for-the-file =
+      let a = leafOf file 0 in
+      let b = leafOf file 1 in
+      let m = twoLeaves (leafOf file 0) (leafOf file 1) in
+      let s = opened buffer 32768 16384 (pairHash (leafOf file 0) (leafOf file 1)) in
+      let well = two-well-formed (leafOf file 0) (leafOf file 1) (leaf-octets file 0) (leaf-octets file 1) buffer fits in
+      let z = two-taken (leafOf file 0) (leafOf file 1) (leaf-octets file 0) (leaf-octets file 1) buffer fits in
+      rw root-is (held-asked (isHashes m) s m (passed (isHashes m) s m (well .header)) (taken-then-right s m well z .held))
+
+-- ---- the same with every byte said: 163 zero bytes lent, a file of 32768 zero bytes
+
+zeros : (n i : ℕ) → getD (replicate n 0) i 0 < 256
+zeros zero i = lit< tt
+zeros (suc n) zero = lit< tt
+zeros (suc n) (suc i) = zeros n i
+
+zero-bytes : (n : ℕ) → Bytes (replicate n 0)
+zero-bytes n = record { size = refl; bytes = λ i l. zeros n i }
+
+room-for-two : storeSize 32768 ≤ length {A = ℕ} (replicate 163 0)
+unfolding storeSize positions height heightFrom blockCount ceilDiv
+room-for-two = lit≤ tt
+
+-- a store of ours of two blocks, after a message that was taken
+pub a-store-of-two-blocks : OurStore (takeAfter (openAfter (replicate 163 0) 32768 16384 (pairHash zeroHash zeroHash)) (twoLeaves zeroHash zeroHash))
+a-store-of-two-blocks = ours-with-two-leaves zeroHash zeroHash zero-octets zero-octets (replicate 163 0) (zero-bytes 163) room-for-two
+
+-- what `true-message` asks for, met at once
+pub record Met (file s r : List ℕ) : Type 0 where
+  pub ours : OurStore s
+  pub opened : For file s
+  pub tells : Tells file s r
+  pub anchor : heldAnswer s (anchorLayer r) (anchorIndex r) .number ≡ 0
+
+met : (file : List ℕ) → length file ≡ 32768 → Met file (opened (replicate 163 0) 32768 16384 (piecesRoot file)) (twoLeaves (leafOf file 0) (leafOf file 1))
+met file e =
+    record {
+      ours = ours-for-the-file file (replicate 163 0) e room-for-two (zero-bytes 163);
+      opened = for-the-file file (replicate 163 0) e room-for-two;
+      tells = tells-the-file file (replicate 163 0) e room-for-two;
+      anchor = anchor-for-the-file file (replicate 163 0) e room-for-two;
+    }
+
+pub a-file-store-and-message :
+    Met (replicate 32768 0) (opened (replicate 163 0) 32768 16384 (piecesRoot (replicate 32768 0))) (twoLeaves (leafOf (replicate 32768 0) 0) (leafOf (replicate 32768 0) 1))
+a-file-store-and-message = met (replicate 32768 0) (length-replicate {A = ℕ} 32768 0)
