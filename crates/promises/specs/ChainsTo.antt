@@ -17,8 +17,8 @@ use Rattle.messages.specs.Take.{given, unclesOf, placeIn}
 use Rattle.messages.specs.TakeLaws.{Passed, passed, placed}
 use Rattle.promises.specs.TakenWhen.{WellFormed}
 use Rattle.promises.specs.Chains.{Makes, alone, pair, Climbs, there, left, right, Chain}
-use Rattle.promises.specs.AnchorHeld.{unclesIn, anchorLayer, anchorIndex}
-use Rattle.promises.specs.Positions.{hashIn, topLayer, topIndex, Settles, even-number, given-is, uncle-is, u-is, top-is, anchor-settled}
+use Rattle.promises.specs.Settles.{unclesIn, hashIn, topLayer, topIndex, anchorLayer, anchorIndex, Settles}
+use Rattle.promises.specs.Positions.{even-number, given-is, uncle-is, u-is, top-is, anchor-settled}
 
 -- the base run makes a hash that leads to w by the message's uncles, the path going up from the run's index
 pub record ChainsTo (m w : List ℕ) : Type 0 where

@@ -27,7 +27,7 @@ use Rattle.messages.specs.Padded.{allFrom, runPadded, unclesPadded}
 use Rattle.messages.specs.Take.{given, settled, anchor, worked, padded, takeNumber, takeAnswer, placeIn}
 use Rattle.promises.specs.TakenWhen.{WellFormed, Right, right-then-taken}
 use Rattle.promises.specs.Offered.{twoHashes, offered-header, first-hash, second-hash, two-size, well-formed-in}
-use Rattle.promises.specs.Settles.{lacking, count-lacking}
+use Rattle.promises.specs.TakenEntries.{lacking, count-lacking}
 
 abbrev numbers : List ℕ
 numbers = 0 ∷ 0 ∷ 0 ∷ 0 ∷ 0 ∷ 0 ∷ 0 ∷ 0 ∷ 0 ∷ 0 ∷ 0 ∷ 2 ∷ 0 ∷ 0 ∷ 0 ∷ 0 ∷ []

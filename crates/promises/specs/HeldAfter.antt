@@ -23,26 +23,16 @@ use Rattle.pieces.specs.Pieces.{layerOfPieces, layerNumber, layerAfter}
 use Rattle.pieces.specs.PiecesLaws.{layered, layer-held, layer-only}
 use Rattle.promises.specs.Held.{Holds}
 use Rattle.promises.specs.TakenWhen.{WellFormed, taken-well-formed}
-use Rattle.promises.specs.Settles.{settled-held, no-others}
+use Rattle.promises.specs.TakenEntries.{settled-held, no-others}
 use Rattle.promises.specs.Grows.{Grown, grown-take, grown-layer}
-use Rattle.promises.specs.Again.{what-is-held}
+use Rattle.promises.specs.Again.{what-is-held, grown-holds}
 use Rattle.promises.specs.ReadBack.{holds-at}
-use Rattle.promises.specs.ReadThere.{settled-holds}
 use Rattle.promises.specs.Over.{Over, atLeaf, above, nodes-over, over-entered, over-once}
 use Rattle.promises.specs.JudgedWhen.{LayerFormed, LayerSettles, longer-has, layer-0}
-use Rattle.promises.specs.Positions.{Settles, settles-entered, settles-exactly}
+use Rattle.promises.specs.Settles.{Settles}
+use Rattle.promises.specs.Positions.{settles-entered, settles-exactly}
 
 -- ---- from a store to one that holds at least as much
-
--- what is held stays held
-stays : (s t : List ℕ) → Facts s → Grown s t → (l i : ℕ) (v : List ℕ) → Holds s l i v → Holds t l i v
-stays s t f g l i v h =
-    let k = what-is-held s l i v f h in
-    let a = tree-says (heightOf s) l i (k .0) in
-    let e = g .same .layers in
-    let w = g .kept (nodeNumber (heightOf s) l i) (tree-number (heightOf s) l i (k .0) .1) (k .1) in
-    subst (Holds t l i) (ap (λ (y : ℕ). hashAt t (nodeNumber y l i)) e ∙ w .1 ∙ k .2)
-    (holds-at t l i (g .facts) (rw e (a .0)) (rw e (a .1)) (rw e (w .0)))
 
 -- what is held there, at a position that was held, was held with the same bytes
 was : (s t : List ℕ) → Facts s → Grown s t → (l i : ℕ) (v : List ℕ) → Holds t l i v → heldAt s (nodeNumber (heightOf s) l i) ≡ true → Holds s l i v
@@ -69,7 +59,12 @@ module _ (s m : List ℕ) (z : takeNumber s m ≡ 0) where
 
   -- every position that it settles is held, with the message's value
   pub settles-then-holds : (l i : ℕ) (v : List ℕ) → Settles m l i v → Holds (takeAfter s m) l i v
-  settles-then-holds l i v x = let E = settles-entered s m W l i v x in settled-holds s m z l i v (E .low) (E .inside) (E .has)
+  settles-then-holds l i v x =
+      let E = settles-entered s m W l i v x in
+      let e = g .same .layers in
+      let h = settled-held s m z (record { at = nodeNumber (heightOf s) l i; hash = v }) (E .has) in
+      subst (Holds (takeAfter s m) l i) (ap (λ (y : ℕ). hashAt (takeAfter s m) (nodeNumber y l i)) e ∙ h .1)
+      (holds-at (takeAfter s m) l i (g .facts) (rw e (E .low)) (rw e (E .inside)) (rw e (h .0)))
 
   only : (l i : ℕ) (v : List ℕ) → Holds (takeAfter s m) l i v → Holds s l i v ⊎ Settles m l i v
   only l i v h =
@@ -91,7 +86,7 @@ module _ (s m : List ℕ) (z : takeNumber s m ≡ 0) where
   pub held-after : (l i : ℕ) (v : List ℕ) → Holds (takeAfter s m) l i v ↔ (Holds s l i v ⊎ Settles m l i v)
   held-after l i v = (
     only l i v,
-    λ c. elim c [ inl h ↦ stays s (takeAfter s m) facts g l i v h | inr x ↦ settles-then-holds l i v x ],
+    λ c. elim c [ inl h ↦ grown-holds s (takeAfter s m) facts g l i v h | inr x ↦ settles-then-holds l i v x ],
   )
 
 -- ---- a layer
@@ -187,5 +182,5 @@ module _ (s layer : List ℕ) (z : layerNumber s layer ≡ 0) where
   pub layer-held-after : (l i : ℕ) (v : List ℕ) → Holds (layerAfter s layer) l i v ↔ (Holds s l i v ⊎ LayerSettles s layer l i v)
   layer-held-after l i v = (
     layer-adds l i v,
-    λ c. elim c [ inl h ↦ stays s (layerAfter s layer) (layer-facts s layer formed) grown l i v h | inr x ↦ layer-settles-then-holds l i v x ],
+    λ c. elim c [ inl h ↦ grown-holds s (layerAfter s layer) (layer-facts s layer formed) grown l i v h | inr x ↦ layer-settles-then-holds l i v x ],
   )

@@ -29,11 +29,12 @@ use Rattle.promises.specs.Again.{what-is-held}
 use Rattle.promises.specs.ReadBack.{holds-at}
 use Rattle.promises.specs.RightPadding.{Pads, at-place, settled-pads}
 use Rattle.promises.specs.Replies.{padded-when}
-use Rattle.promises.specs.AnchorHeld.{anchorLayer, anchorIndex, anchor-number, anchor-in-tree}
+use Rattle.promises.specs.Settles.{anchorLayer, anchorIndex, Settles}
+use Rattle.promises.specs.AnchorHeld.{anchor-number, anchor-in-tree}
 use Rattle.promises.specs.Differing.{NoneDiffers, OneDiffers, either, not-both, each-or, none-differs, one-differs, differs-one, differs-none}
 use Rattle.promises.specs.Verdicts.{Lacks}
 use Rattle.promises.specs.ChainsTo.{ChainsTo, chains-exactly}
-use Rattle.promises.specs.Positions.{Settles, Settled, settles-entered, entry-settled, run-entry, uncle-entry}
+use Rattle.promises.specs.Positions.{SettlesNumber, settles-entered, entry-settled, run-entry, uncle-entry}
 
 -- ---- what each number is about
 
@@ -106,7 +107,7 @@ module _ (s m : List ℕ) (W : WellFormed s m) where
       (λ j l. f (record { at = placeIn s m .top * 2 ^ placeIn s m .k + j; hash = given m (placeIn s m .k) j }) (run-entry s m W j l))
       (λ i l. f (record { at = sibling (ancestor i (placeIn s m .top)); hash = uncle (unclesOf m (2 ^ placeIn s m .k) (placeIn s m .u)) i }) (uncle-entry s m W i l))
 
-  settled-place : (h b n : ℕ) (v : List ℕ) (S : Settled h m n v) → (Padding b (S .l) (S .i) → v ≡ padValue (S .l)) → Pads h b n v
+  settled-place : (h b n : ℕ) (v : List ℕ) (S : SettlesNumber h m n v) → (Padding b (S .l) (S .i) → v ≡ padValue (S .l)) → Pads h b n v
   settled-place h b n v S f = rw (S .number) (at-place h b (S .l) (S .i) v (S .low) (S .inside) f)
 
   right-padding : PaddingRight s m → padded m (headerOf m) (placeIn s m) (blocksOf s) ≡ true

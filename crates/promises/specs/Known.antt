@@ -19,7 +19,8 @@ use Rattle.promises.specs.Invariant.{ours-have}
 use Rattle.promises.specs.Conflict.{Shown, heldBy, ofFile}
 use Rattle.promises.specs.RootToBlock.{For, held-is-the-files, pieceFor, true-block, true-piece}
 use Rattle.promises.specs.TrueMessage.{Tells, true-message}
-use Rattle.promises.specs.AnchorHeld.{anchorLayer, anchorIndex, asked-held}
+use Rattle.promises.specs.Settles.{anchorLayer, anchorIndex}
+use Rattle.promises.specs.AnchorHeld.{asked-held}
 
 module _ {s : List ℕ} (file : List ℕ) (o : OurStore s) (w : For file s) where
   -- EVERY HASH THAT kd_held GIVES is the file's, or a pair is shown

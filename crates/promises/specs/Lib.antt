@@ -2,6 +2,7 @@ pub mod Held
 pub mod History
 pub mod TakenWhen
 pub mod Chains
+pub mod TakenEntries
 pub mod Settles
 pub mod Worked
 pub mod Grows
@@ -9,9 +10,8 @@ pub mod Again
 pub mod BytesLeft
 pub mod Beyond
 pub mod Refusals
-pub mod ReadBack
-pub mod ReadThere
 pub mod RightPadding
+pub mod ReadBack
 pub mod Invariant
 pub mod Conflict
 pub mod OwnBytes
@@ -26,12 +26,9 @@ pub mod PieceIsTheFiles
 pub mod TrueMessage
 pub mod TrueLayer
 pub mod AnchorHeld
+pub mod OtherStore
 pub mod NoAnchor
-pub mod ParentsThere
-pub mod Sent
 pub mod Known
-pub mod Witness
-pub mod ServedAndTaken
 pub mod Table
 pub mod Over
 pub mod Differing
@@ -42,6 +39,10 @@ pub mod FormedWhen
 pub mod ChainsTo
 pub mod HeldWhen
 pub mod HeldAfter
+pub mod ReadThere
+pub mod Sent
+pub mod Witness
+pub mod ServedAndTaken
 pub mod SettledMany
 pub mod LayerExample
 pub mod OneOutcome

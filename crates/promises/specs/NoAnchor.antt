@@ -20,7 +20,8 @@ use Rattle.promises.specs.Held.{Holds}
 use Rattle.promises.specs.History.{Steps}
 use Rattle.promises.specs.Grows.{steps-grow}
 use Rattle.promises.specs.Again.{knowledge-only-grows, same-header, header-number-not-6, no-anchor-stays, anchor-held-not-6}
-use Rattle.promises.specs.AnchorHeld.{anchorLayer, anchorIndex, anchor-number, anchor-in-tree, asked-held, held-asked}
+use Rattle.promises.specs.Settles.{anchorLayer, anchorIndex}
+use Rattle.promises.specs.AnchorHeld.{anchor-number, anchor-in-tree, asked-held, held-asked}
 
 -- a message that gets 6 passes 9, 1, 2 and 3
 six-or : (n a : ℕ) → orElse n a ≡ noAnchor → (n ≡ noAnchor → ⊥) → n ≡ 0

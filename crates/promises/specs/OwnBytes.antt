@@ -26,7 +26,7 @@ use Rattle.pieces.specs.PiecesLaws.{layer-loads, loads-layered, layer-refused, 
 use Rattle.promises.specs.History.{Bytes, Steps, begin, message, reject-heard, request-served, hash-asked, layer, block-judged, piece-judged, reopened, OurStore, ours}
 use Rattle.promises.specs.Grows.{reopen-refused}
 use Rattle.promises.specs.Invariant.{Ours, message-whole, layer-whole, ours-opened, ours-take, ours-layer, ours-have}
-use Rattle.promises.specs.Conflict.{Shown, heldBy, byMessage, byLayer, byPiece, message-octets, layer-octets, conflict-shows, layer-conflict-shows, piece-conflict-shows}
+use Rattle.promises.specs.Conflict.{Shown, heldBy, byMessage, byLayer, byPiece, sized-bytes, message-octets, layer-octets, conflict-shows, layer-conflict-shows, piece-conflict-shows}
 
 pasted-bytes : (s : List ℕ) (at : ℕ) (h : List ℕ) → at + length h ≤ length s → Bytes s → Bytes h → Bytes (pasted s at h)
 pasted-bytes s at h fit bs bh = record { size = refl; bytes = λ i l. by i (rw (pasted-length s at h fit) at l) }
@@ -64,13 +64,10 @@ byte-one = record { size = refl; bytes = by }
     by zero l = omega arith
     by (suc i) l = let w : ⊥ = omega arith in absurd w
 
-sized : (n : ℕ) (l : List ℕ) → Octets n l → Bytes l
-sized n l o = rw (o .size) o
-
 put-bytes : (N : ℕ) (s : List ℕ) (n : ℕ) (h : List ℕ) → Room N s → n < N → Bytes s → Octets 32 h → Bytes (put s n h)
 unfolding put
 put-bytes N s n h room b bs o =
-    pasted-bytes s (31 + 33 * n) (1 ∷ h) (omega (arith, o .size)) bs (sized 33 (1 ∷ h) (append-octets byte-one o))
+    pasted-bytes s (31 + 33 * n) (1 ∷ h) (omega (arith, o .size)) bs (sized-bytes 33 (1 ∷ h) (append-octets byte-one o))
 
 putAll-bytes : (N : ℕ) (L : List Entry) (s : List ℕ) → Room N s → Sound N L → ((e : Entry) → In e L → Octets 32 (e .hash)) → Bytes s → Bytes (putAll s L)
 unfolding putAll
@@ -92,7 +89,7 @@ bytes-opened b n plen root bb o = by (factsInRange n plen) (leb (storeSize n) (l
         let nf : 0 + length named ≤ length (zeroed b (storeSize n)) = omega (arith, no .size, store-size-some n) in
         let bare = pasted (zeroed b (storeSize n)) 0 named in
         let bl : length (pasted (zeroed b (storeSize n)) 0 named) ≡ length (zeroed b (storeSize n)) = pasted-length (zeroed b (storeSize n)) 0 named nf in
-        let bb2 : Bytes (pasted (zeroed b (storeSize n)) 0 named) = pasted-bytes (zeroed b (storeSize n)) 0 named nf (zeroed-bytes b (storeSize n) fits bb) (sized 44 named no) in
+        let bb2 : Bytes (pasted (zeroed b (storeSize n)) 0 named) = pasted-bytes (zeroed b (storeSize n)) 0 named nf (zeroed-bytes b (storeSize n) fits bb) (sized-bytes 44 named no) in
         unfold openAfter opened in
         rw (p, q)
         (put-bytes (positions (height (blockCount n))) (pasted (zeroed b (storeSize n)) 0 named) 1 root (omega (arith, store-size-cells n)) (positions-some (height (blockCount n))) bb2 o)

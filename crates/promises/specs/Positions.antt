@@ -1,5 +1,4 @@
--- What a message settles, by layer and index and from its bytes alone, as 01 says it: given hashes and their parents, the last
--- of which is the anchor; and that these are the positions which the contracts speak of.
+-- What a message settles, by layer and index, are the positions which the contracts speak of.
 -- Assumes nothing.
 use mathlib.Core.Path.{_≡_, refl, ap, sym, _∙_, subst}
 use mathlib.Core.List.{List}
@@ -11,7 +10,6 @@ use native.Mathlib.Decide.{ℕ-discrete}
 use lib.ListN.{length}
 use Rattle.octets.specs.Octets.{cut, zeroHash}
 use Rattle.octets.specs.OctetsLaws.{cut-cut, cut-length}
-use Rattle.sha256.specs.Sha256.{pairHash}
 use Rattle.tree.specs.Geometry.{height, nodeNumber}
 use Rattle.tree.specs.GeometryLaws.{node-number-parent}
 use Rattle.tree.specs.Values.{node}
@@ -23,7 +21,7 @@ use Rattle.runs.specs.Subtree.{subtree}
 use Rattle.runs.specs.SubtreeLaws.{FamilyIn, subtree-has, run-leaf-in}
 use Rattle.runs.specs.Path.{sibling, uncle, ancestor, parentValue, path}
 use Rattle.runs.specs.PathLaws.{path-cases, sibling-even, sibling-odd, sibling-below, parent-even, parent-odd}
-use Rattle.runs.specs.SettledLaws.{settled-consistent, settled-anchor, settled-family}
+use Rattle.runs.specs.SettledLaws.{settled-consistent, settled-family}
 use Rattle.header.specs.Header.{headerOf, isHashes, placeOf, messageSize}
 use Rattle.header.specs.HeaderLaws.{Kept, rules-kept, log-some, top-inside}
 use Rattle.messages.specs.Take.{runOf, given, unclesOf, settled, anchor, worked, placeIn}
@@ -31,27 +29,11 @@ use Rattle.messages.specs.TakeLaws.{Passed, passed, placed}
 use Rattle.promises.specs.TakenWhen.{WellFormed}
 use Rattle.promises.specs.Chains.{Chain, worked-chains, chain-is-worked}
 use Rattle.promises.specs.RightPadding.{sibling-number}
-use Rattle.promises.specs.ReadBack.{run-number, run-in-layer, uncle-layer, uncle-number, uncle-in-layer}
+use Rattle.promises.specs.Conflict.{anchor-has}
+use Rattle.promises.specs.ReadBack.{uncle-cut, run-number, run-in-layer, uncle-layer, uncle-number, uncle-in-layer}
 use Rattle.promises.specs.Over.{Entered, Found, entered-parent, found-at, top-over, subtree-found}
-use Rattle.promises.specs.AnchorHeld.{unclesIn, anchorLayer, anchorIndex, anchor-number, anchor-in-tree}
-
--- hash j of a message: the base run, then the uncles
-abbrev pub hashIn : List ℕ → ℕ → List ℕ
-hashIn m j = cut m (49 + 32 * j) 32
-
--- the run's top: its layer, base + log2(length), and its index there
-abbrev pub topLayer : List ℕ → ℕ
-topLayer m = headerOf m .base + height (headerOf m .len)
-
-abbrev pub topIndex : List ℕ → ℕ
-topIndex m = headerOf m .index / headerOf m .len
-
--- the message settles position i of layer l with hash v: it gives it, in the base run or as an uncle, which stands beside the
--- path's position of its layer; or it settles both children, left and right, and v is the hash of the two
-pub data Settles (m : List ℕ) : ℕ → ℕ → List ℕ → Type 0 where
-  inRun : (j : ℕ) → j < headerOf m .len → Settles m (headerOf m .base) (headerOf m .index + j) (hashIn m j)
-  asUncle : (j : ℕ) → j < unclesIn m → Settles m (topLayer m + j) (sibling (topIndex m / 2 ^ j)) (hashIn m (headerOf m .len + j))
-  parent : (l i : ℕ) (x y : List ℕ) → Settles m l (2 * i) x → Settles m l (2 * i + 1) y → Settles m (suc l) i (pairHash x y)
+use Rattle.promises.specs.Settles.{unclesIn, hashIn, topLayer, topIndex, anchorLayer, anchorIndex, Settles, inRun, asUncle, parent}
+use Rattle.promises.specs.AnchorHeld.{anchor-number, anchor-in-tree}
 
 -- ---- each of these is an entry
 
@@ -102,11 +84,9 @@ module _ (s m : List ℕ) (W : WellFormed s m) where
       run-leaf-in (cut m 49 (32 * 2 ^ placeIn s m .k)) zeroHash j (omega (arith, long)) ∙ cut-cut m 49 (32 * 2 ^ placeIn s m .k) (32 * j) 32 (omega arith)
 
   pub uncle-is : (j : ℕ) → j < placeIn s m .u → uncle (unclesOf m (2 ^ placeIn s m .k) (placeIn s m .u)) j ≡ hashIn m (headerOf m .len + j)
-  unfolding uncle unclesOf
   uncle-is j l =
       let q = placed (isHashes m) s m P in
-      let e : 49 + 32 * 2 ^ placeIn s m .k + 32 * j ≡ 49 + 32 * (headerOf m .len + j) = omega (arith, q .power) in
-      cut-cut m (49 + 32 * 2 ^ placeIn s m .k) (32 * placeIn s m .u) (32 * j) 32 (omega arith) ∙ ap (λ (y : ℕ). cut m y 32) e
+      uncle-cut m (2 ^ placeIn s m .k) (placeIn s m .u) j l ∙ ap (λ (y : ℕ). hashIn m (y + j)) (q .power)
 
   -- each hash of the run, and each uncle, is an entry
   pub run-entry : (j : ℕ) → j < 2 ^ placeIn s m .k → Has (placeIn s m .top * 2 ^ placeIn s m .k + j) (given m (placeIn s m .k) j) (settled m (placeIn s m))
@@ -192,8 +172,8 @@ beside m l x n v w e p q =
     ]
 
 -- a number of the tree is position i of layer l, and the message settles it with v
-abbrev pub Settled : ℕ → List ℕ → ℕ → List ℕ → Type 0
-Settled h m = Found h (Settles m)
+abbrev pub SettlesNumber : ℕ → List ℕ → ℕ → List ℕ → Type 0
+SettlesNumber h m = Found h (Settles m)
 
 -- below the root a position's number is even exactly if its index is
 pub even-number : (h l x : ℕ) → l < h → nodeNumber h l x % 2 ≡ x % 2
@@ -209,7 +189,7 @@ halved x j = div-div-eq-div-mul x 2 (2 ^ j) ∙ ap (λ (y : ℕ). x / y) (sym (p
 -- the entries of a path that begins at a settled position
 path-settled : (h : ℕ) (m hashes : List ℕ) (a u l x : ℕ) (v : List ℕ) → l + u ≤ h → x < 2 ^ (h - l) → Settles m l x v
     → ((j : ℕ) → j < u → Settles m (l + j) (sibling (x / 2 ^ j)) (uncle hashes (a + j)))
-    → (e : Entry) → In e (path hashes a u (nodeNumber h l x) v) → Settled h m (e .at) (e .hash)
+    → (e : Entry) → In e (path hashes a u (nodeNumber h l x) v) → SettlesNumber h m (e .at) (e .hash)
 unfolding path
 path-settled h m hashes a zero l x v lh xb p f e k = absurd (no-entry k)
 path-settled h m hashes a (suc u) l x v lh xb p f e k =
@@ -253,7 +233,7 @@ module _ (s m : List ℕ) (W : WellFormed s m) where
       subst (λ (y : ℕ). Settles m (headerOf m .base + y) (topIndex m) (node (given m (placeIn s m .k)) (placeIn s m .k) 0)) (k-is s m W)
       (top-over (Settles m) parent (given m (placeIn s m .k)) (headerOf m .base) (topIndex m) (placeIn s m .k) leaves-settled)
 
-  run-settled : (e : Entry) → In e (subtree (given m (placeIn s m .k)) (placeIn s m .k) (placeIn s m .top) 0) → Settled (heightOf s) m (e .at) (e .hash)
+  run-settled : (e : Entry) → In e (subtree (given m (placeIn s m .k)) (placeIn s m .k) (placeIn s m .top) 0) → SettlesNumber (heightOf s) m (e .at) (e .hash)
   run-settled e x =
       let K = kept s m W in
       let wi : headerOf m .base + placeIn s m .k ≤ heightOf s = rw (k-is s m W) (K .within) in
@@ -263,7 +243,7 @@ module _ (s m : List ℕ) (W : WellFormed s m) where
       subtree-found (Settles m) parent (given m (placeIn s m .k)) (headerOf m .base) (topIndex m) (placeIn s m .k) leaves-settled (heightOf s) wi ti′ e (rw tp at x)
 
   -- every entry of a message is a position that it settles
-  pub entry-settled : (e : Entry) → In e (settled m (placeIn s m)) → Settled (heightOf s) m (e .at) (e .hash)
+  pub entry-settled : (e : Entry) → In e (settled m (placeIn s m)) → SettlesNumber (heightOf s) m (e .at) (e .hash)
   unfolding settled
   entry-settled e x =
       let K = kept s m W in
@@ -295,17 +275,11 @@ module _ (s m : List ℕ) (W : WellFormed s m) where
       consistent s m W (record { at = nodeNumber (heightOf s) l i; hash = v }) (record { at = nodeNumber (heightOf s) l i; hash = w })
       (settles-entered s m W l i v a .has) (settles-entered s m W l i w b .has) refl
 
-  anchor-entry : Has (anchor (placeIn s m)) (worked m (placeIn s m)) (settled m (placeIn s m))
-  unfolding anchor worked settled
-  anchor-entry =
-      let p = placeIn s m in
-      settled-anchor (given m (p .k)) (unclesOf m (2 ^ p .k) (p .u)) (p .k) (p .top) 0 0 (p .u)
-
   anchor-worked : Settles m (anchorLayer m) (anchorIndex m) (worked m (placeIn s m))
   anchor-worked =
       let t = tree-says (heightOf s) (anchorLayer m) (anchorIndex m) (anchor-in-tree (isHashes m) s m (P s m W)) in
       settles-exactly (anchorLayer m) (anchorIndex m) (worked m (placeIn s m)) .1
-      (record { low = t .0; inside = t .1; has = rw (anchor-number (isHashes m) s m (P s m W)) at anchor-entry })
+      (record { low = t .0; inside = t .1; has = rw (anchor-number (isHashes m) s m (P s m W)) at (anchor-has m s) })
 
   -- ITS ANCHOR is settled with the hash that its hashes chain to
   pub anchor-settled : (w : List ℕ) → Settles m (anchorLayer m) (anchorIndex m) w ↔ Chain m (placeIn s m) w

@@ -22,7 +22,7 @@ use Rattle.tree.specs.GeometryLaws.{left-start, right-start, padding-from-cover
 use Rattle.tree.specs.Values.{node, padValue}
 use Rattle.cells.specs.Cells.{heldAt, hashAt}
 use Rattle.cells.specs.Entries.{Entry, agrees, putAll, oneIf, newly}
-use Rattle.cells.specs.EntriesLaws.{Hold, In, in-cases, one-is, no-entry, sound-in, in-agrees, agrees-held, held-or-entry}
+use Rattle.cells.specs.EntriesLaws.{Hold, In, in-cases, one-is, no-entry, sound-in, held-or-entry}
 use Rattle.store.specs.Store.{fileLength, factsRoot, blocksOf, heightOf, positions}
 use Rattle.store.specs.StoreLaws.{usable-facts, facts-usable, facts-leaves, positions-even}
 use Rattle.runs.specs.Span.{Within}
@@ -40,6 +40,7 @@ use Rattle.serve.specs.Serve.{replyTo, requestNumber}
 use Rattle.serve.specs.ServeLaws.{request-passes, reply-root, reply-header, reply-own-size, reply-form, reply-given, reply-uncle, run-held, uncle-held}
 use Rattle.promises.specs.History.{Bytes, OurStore}
 use Rattle.promises.specs.TakenWhen.{Right, right-then-taken}
+use Rattle.promises.specs.Again.{held-agrees}
 use Rattle.promises.specs.RightPadding.{Pads, doubles, sibling-number}
 use Rattle.promises.specs.Invariant.{Chained, Ours, Pair, family-pair, Whole, message-whole, ours-have}
 use Rattle.promises.specs.Conflict.{heldBy, Gives, Shown, same-or-shown, hash-octets, agrees-or-shown, well-ready, anchor-has}
@@ -317,10 +318,6 @@ pub carried-padded : (s r : List ℕ) → Ours s → Carries s r → padded r (h
 carried-padded s r o w = padded-when s r (w .header) (w .size) (λ j l. hold-pads s _ _ o (w .run j l)) (λ i l. hold-pads s _ _ o (w .uncles i l))
 
 -- ---- a store's own reply
-
-held-agrees : (t : List ℕ) (L : List Entry) → ((e : Entry) → In e L → Hold t (e .at) (e .hash)) → agrees t L ≡ true
-held-agrees t L k =
-    in-agrees t L (λ e i. let h = k e i in agrees-held t (e .at) (e .hash) (h .0) ∙ same-eq (hashAt t (e .at)) (e .hash) (h .1))
 
 newly-nothing : (N : ℕ) (s t : List ℕ) → ((q : ℕ) → heldAt t q ≡ true → heldAt s q ≡ true) → newly N s t ≡ 0
 unfolding newly

@@ -3,7 +3,7 @@
 use mathlib.Core.Path.{_≡_, refl, ap, _∙_}
 use mathlib.Core.Bool.{Bool, true, false, cond}
 use mathlib.Core.List.{List}
-use Prim.Native.Nat.{ℕ, _+_, _-_, _*_, _/_, _^_, _≤_, _<_}
+use Prim.Native.Nat.{ℕ, suc, _+_, _*_, _/_, _^_, _<_}
 use native.Mathlib.Omega.{arith}
 use native.Mathlib.Decide.{decLe}
 use lib.ListN.{length}
@@ -12,17 +12,18 @@ use Rattle.octets.specs.Octets.{cut}
 use Rattle.octets.specs.OctetsLaws.{cut-pasted-same}
 use Rattle.numbers.specs.Numbers.{refused}
 use Rattle.numbers.specs.declared.Answer.{Answer}
-use Rattle.tree.specs.Geometry.{height}
-use Rattle.runs.specs.Path.{sibling, uncle}
+use Rattle.sha256.specs.Sha256.{pairHash}
+use Rattle.runs.specs.Path.{sibling}
 use Rattle.header.specs.Header.{headerOf, messageRoot, isHashes, messageSize}
-use Rattle.messages.specs.Take.{placeIn, unclesOf, takeNumber, takeAfter}
+use Rattle.messages.specs.Take.{takeNumber, takeAfter}
 use Rattle.serve.specs.Serve.{requestNumber, replyTo, sentBack, unanswered, serveAnswer, serveAfter}
 use Rattle.serve.specs.ServeLaws.{fits-sent, fits-not, served-reply}
 use Rattle.promises.specs.Held.{Holds}
+use Rattle.promises.specs.Settles.{unclesIn, hashIn, topLayer, topIndex, anchorLayer, anchorIndex, Settles, parent}
 use Rattle.promises.specs.ReadBack.{reply-has-header, run-reads-back, uncle-reads-back}
-use Rattle.promises.specs.ReadThere.{run-held-there, uncle-held-there}
-use Rattle.promises.specs.AnchorHeld.{unclesIn, anchorLayer, anchorIndex}
-use Rattle.promises.specs.ParentsThere.{workedInside, workedAbove, parent-held-there, above-held-there, anchor-held-there}
+use Rattle.promises.specs.ChainsTo.{ChainsTo}
+use Rattle.promises.specs.HeldAfter.{settles-then-holds}
+use Rattle.promises.specs.ReadThere.{run-held-there, uncle-held-there, anchor-held-there}
 
 zero-then-zero : (none fits : Bool) (n count : ℕ) → cond none (refused n) (cond fits (record { number = n; count = count }) (refused 11)) .number ≡ 0 → n ≡ 0
 zero-then-zero true fits n count e = e
@@ -60,39 +61,31 @@ module _ (s m out : List ℕ) (z : serveAnswer s m out .number ≡ 0) where
   sent-has-header = rw (served-then-reply .1) (reply-has-header s m served-then-valid)
 
   -- at hash j of the run the hash that was held at position index + j of the base layer,
-  pub sent-run : (j : ℕ) → j < headerOf m .len → Holds s (headerOf m .base) (headerOf m .index + j) (cut (sent s m out) (49 + 32 * j) 32)
+  pub sent-run : (j : ℕ) → j < headerOf m .len → Holds s (headerOf m .base) (headerOf m .index + j) (hashIn (sent s m out) j)
   sent-run j l = rw (served-then-reply .1) (run-reads-back s m served-then-valid j l)
 
   -- and at uncle i the hash that was held beside the path in its layer
-  pub sent-uncle : (i : ℕ) → i < placeIn s m .u
-      → Holds s (headerOf m .base + height (headerOf m .len) + i) (sibling (headerOf m .index / headerOf m .len / 2 ^ i))
-      (uncle (unclesOf (sent s m out) (2 ^ placeIn s m .k) (placeIn s m .u)) i)
+  pub sent-uncle : (i : ℕ) → i < unclesIn m → Holds s (topLayer m + i) (sibling (topIndex m / 2 ^ i)) (hashIn (sent s m out) (headerOf m .len + i))
   sent-uncle i l = rw (served-then-reply .1) (uncle-reads-back s m served-then-valid i l)
 
-  -- WHERE ANOTHER STORE ANSWERS THOSE BYTES 0, each hash of the run is held there with the bytes that were sent,
   module _ (t : List ℕ) (y : takeNumber t (sent s m out) ≡ 0) where
     taken-there : takeNumber t (replyTo s m) ≡ 0
     taken-there = rw (served-then-reply .1) at y
 
-    pub sent-run-there : (j : ℕ) → j < headerOf m .len → Holds (takeAfter t (sent s m out)) (headerOf m .base) (headerOf m .index + j) (cut (sent s m out) (49 + 32 * j) 32)
+    -- WHERE ANOTHER STORE ANSWERS THOSE BYTES 0, each hash of the run is held there with the bytes that were sent,
+    pub sent-run-there : (j : ℕ) → j < headerOf m .len → Holds (takeAfter t (sent s m out)) (headerOf m .base) (headerOf m .index + j) (hashIn (sent s m out) j)
     sent-run-there j l = rw (served-then-reply .1) (run-held-there s t m served-then-valid taken-there j l .1)
 
     -- each uncle too,
-    pub sent-uncle-there : (i : ℕ) → i < placeIn s m .u
-        → Holds (takeAfter t (sent s m out)) (headerOf m .base + height (headerOf m .len) + i) (sibling (headerOf m .index / headerOf m .len / 2 ^ i))
-        (uncle (unclesOf (sent s m out) (2 ^ placeIn s m .k) (placeIn s m .u)) i)
+    pub sent-uncle-there : (i : ℕ) → i < unclesIn m
+        → Holds (takeAfter t (sent s m out)) (topLayer m + i) (sibling (topIndex m / 2 ^ i)) (hashIn (sent s m out) (headerOf m .len + i))
     sent-uncle-there i l = rw (served-then-reply .1) (uncle-held-there s t m served-then-valid taken-there i l .1)
 
-    -- and with what is worked out from them the parents inside the run,
-    pub sent-parent-there : (d j : ℕ) → d ≤ height (headerOf m .len) → j < 2 ^ (height (headerOf m .len) - d)
-        → Holds (takeAfter t (sent s m out)) (headerOf m .base + d) (headerOf m .index / 2 ^ d + j) (workedInside (sent s m out) d j)
-    sent-parent-there d j l i = rw (served-then-reply .1) (parent-held-there s t m served-then-valid taken-there d j l i)
+    -- each parent, above two settled children, with the hash of left then right,
+    pub sent-parent-there : (l i : ℕ) (x w : List ℕ) → Settles (sent s m out) l (2 * i) x → Settles (sent s m out) l (2 * i + 1) w
+        → Holds (takeAfter t (sent s m out)) (suc l) i (pairHash x w)
+    sent-parent-there l i x w p q = settles-then-holds t (sent s m out) y (suc l) i (pairHash x w) (parent l i x w p q)
 
-    -- those on the way up,
-    pub sent-above-there : (i : ℕ) → i ≤ unclesIn m
-        → Holds (takeAfter t (sent s m out)) (headerOf m .base + height (headerOf m .len) + i) (headerOf m .index / headerOf m .len / 2 ^ i) (workedAbove (sent s m out) i)
-    sent-above-there i l = rw (served-then-reply .1) (above-held-there s t m served-then-valid taken-there i l)
-
-    -- and the anchor
-    pub sent-anchor-there : Holds (takeAfter t (sent s m out)) (anchorLayer m) (anchorIndex m) (workedAbove (sent s m out) (unclesIn m))
-    sent-anchor-there = rw (served-then-reply .1) (anchor-held-there s t m served-then-valid taken-there)
+    -- and the anchor with the hash that the sent hashes chain to
+    pub sent-anchor-there : (w : List ℕ) → ChainsTo (sent s m out) w → Holds (takeAfter t (sent s m out)) (anchorLayer m) (anchorIndex m) w
+    sent-anchor-there w c = rw (served-then-reply .1) (anchor-held-there s t m served-then-valid taken-there w (rw (served-then-reply .1) at c))

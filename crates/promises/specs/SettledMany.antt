@@ -28,10 +28,10 @@ use Rattle.header.specs.Header.{headerOf, isHashes, placeOf}
 use Rattle.messages.specs.Take.{given, unclesOf, settled, placeIn, takeNumber, takeAnswer}
 use Rattle.messages.specs.TakeLaws.{Passed, passed, placed}
 use Rattle.promises.specs.TakenWhen.{WellFormed, taken-well-formed}
-use Rattle.promises.specs.Settles.{lacking, count-lacking, count-most}
+use Rattle.promises.specs.TakenEntries.{lacking, count-lacking, count-most}
 use Rattle.promises.specs.Over.{Hashes, Entered, Found}
-use Rattle.promises.specs.AnchorHeld.{unclesIn}
-use Rattle.promises.specs.Positions.{Settles, settles-entered, entry-settled}
+use Rattle.promises.specs.Settles.{unclesIn, Settles}
+use Rattle.promises.specs.Positions.{settles-entered, entry-settled}
 
 -- a position with its hash
 pub record Spot : Type 0 where

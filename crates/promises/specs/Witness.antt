@@ -1,16 +1,15 @@
 -- What the theorems ask for can be met: a store that only this build has written, of two blocks and with a message taken; a file, a store
 -- opened for it, and a message with that file's own hashes.
 -- Assumes nothing.
-use mathlib.Core.Path.{_≡_, refl, ap, ap₂, sym, _∙_, subst}
+use mathlib.Core.Path.{_≡_, refl, ap, sym, _∙_, subst}
 use mathlib.Core.Bool.{true}
 use mathlib.Core.List.{List, [], _∷_, _++_}
-use Prim.Native.Nat.{ℕ, zero, suc, _+_, _-_, _*_, _/_, _^_, _≤_, _<_}
+use Prim.Native.Nat.{ℕ, zero, suc, _+_, _-_, _*_, _^_, _≤_, _<_}
 use native.Mathlib.Omega.{arith}
 use lib.ListN.{length, getD, replicate, length-replicate}
 use lib.Dec.{lit<, lit≤}
-use lib.Pow.{pow-pos}
 use borrow.Author.Tests.{le-leb}
-use Rattle.octets.specs.Octets.{Octets, be, cut, zeroHash}
+use Rattle.octets.specs.Octets.{Octets, be, zeroHash}
 use Rattle.octets.specs.OctetsLaws.{zero-octets, be-octets, append-octets}
 use Rattle.sha256.specs.Sha256.{pairHash}
 use Rattle.sha256.specs.Sha256Laws.{pair-octets}
@@ -23,15 +22,16 @@ use Rattle.store.specs.StoreLaws.{opened-file, opened-facts-root}
 use Rattle.runs.specs.Subtree.{subtree}
 use Rattle.header.specs.declared.Header.{Header}
 use Rattle.header.specs.declared.Place.{Place}
-use Rattle.header.specs.Header.{headerOf, isHashes}
+use Rattle.header.specs.Header.{isHashes}
 use Rattle.messages.specs.Take.{given, placeIn, takeNumber, takeAfter}
 use Rattle.messages.specs.TakeLaws.{passed}
 use Rattle.promises.specs.Held.{Holds}
 use Rattle.promises.specs.History.{Bytes, begin, message, OurStore, ours}
 use Rattle.promises.specs.TakenWhen.{taken-then-right}
-use Rattle.promises.specs.AnchorHeld.{anchorLayer, anchorIndex, held-asked}
-use Rattle.promises.specs.ReadThere.{run-holds, given-is}
-use Rattle.promises.specs.ParentsThere.{hashOf, parent-holds}
+use Rattle.promises.specs.Settles.{hashIn, anchorLayer, anchorIndex, Settles, inRun, parent}
+use Rattle.promises.specs.AnchorHeld.{held-asked}
+use Rattle.promises.specs.Positions.{given-is}
+use Rattle.promises.specs.HeldAfter.{settles-then-holds}
 use Rattle.promises.specs.Conflict.{sized-bytes}
 use Rattle.promises.specs.RootToBlock.{For, treeOf}
 use Rattle.promises.specs.TrueMessage.{Tells}
@@ -73,35 +73,24 @@ module _ (a b : List ℕ) (oa : Octets 32 a) (ob : Octets 32 b) (buffer : List �
   unfolding opened-two
   taken = two-taken a b oa ob buffer fits
 
-  hash-is : (j : ℕ) → j < 2 → cut (twoLeaves a b) (49 + 32 * j) 32 ≡ given (twoLeaves a b) 1 j
+  hash-is : (j : ℕ) → j < 2 → hashIn (twoLeaves a b) j ≡ given (twoLeaves a b) 1 j
   unfolding opened-two
   hash-is j l =
       let m = twoLeaves a b in
       let e : placeIn opened-two (twoLeaves a b) .k ≡ 1 = ap (λ (p : Place). p .k) (two-place a b oa ob buffer fits) in
-      sym (given-is opened-two m taken j (rw e l)) ∙ ap (λ (k : ℕ). given m k j) e
+      sym (given-is opened-two m (two-well-formed a b oa ob buffer fits) j (rw e l)) ∙ ap (λ (k : ℕ). given m k j) e
 
-  leaf-held : (j : ℕ) → j < 2 → Holds (takeAfter opened-two (twoLeaves a b)) 0 (0 + j) (given (twoLeaves a b) 1 j)
-  leaf-held j l =
+  leaf-settled : (j : ℕ) → j < 2 → Settles (twoLeaves a b) 0 (0 + j) (given (twoLeaves a b) 1 j)
+  leaf-settled j l =
       let m = twoLeaves a b in
       let h = header-two a b oa ob in
-      subst (λ (x : Header). Holds (takeAfter opened-two m) (x .base) (x .index + j) (given m 1 j)) h
-      (rw (← hash-is j l) (run-holds opened-two m taken j (rw h l)))
+      rw (← hash-is j l) (subst (λ (x : Header). Settles m (x .base) (x .index + j) (hashIn m j)) h (inRun j (rw h l)))
 
-  some-high : 1 ≤ height 2
-  unfolding height heightFrom
-  some-high = lit≤ tt
+  left-settled : Settles (twoLeaves a b) 0 0 a
+  left-settled = subst (Settles (twoLeaves a b) 0 0) (first a b oa ob) (leaf-settled 0 (lit< tt))
 
-  parent-is : node (hashOf (twoLeaves a b)) 1 0 ≡ pairHash a b
-  unfolding node
-  parent-is = ap₂ pairHash (hash-is 0 (lit< tt) ∙ first a b oa ob) (hash-is 1 (lit< tt) ∙ second a b oa ob)
-
-  root-held : Holds (takeAfter opened-two (twoLeaves a b)) 1 0 (pairHash a b)
-  root-held =
-      let m = twoLeaves a b in
-      let h = header-two a b oa ob in
-      subst (Holds (takeAfter opened-two m) 1 0) parent-is
-      (subst (λ (x : Header). Holds (takeAfter opened-two m) (x .base + 1) (x .index / 2 ^ 1 + 0) (node (hashOf m) 1 0)) h
-      (parent-holds opened-two m taken 1 0 (rw h some-high) (pow-pos (height (headerOf m .len) - 1))))
+  right-settled : Settles (twoLeaves a b) 0 1 b
+  right-settled = subst (Settles (twoLeaves a b) 0 1) (second a b oa ob) (leaf-settled 1 (lit< tt))
 
   -- and kd_held gives both leaves and the root
   pub two-leaves-held :
@@ -109,8 +98,12 @@ module _ (a b : List ℕ) (oa : Octets 32 a) (ob : Octets 32 b) (buffer : List �
       × Holds (takeAfter (openAfter buffer 32768 16384 (pairHash a b)) (twoLeaves a b)) 1 0 (pairHash a b)
   unfolding opened-two
   two-leaves-held =
-      let s = takeAfter opened-two (twoLeaves a b) in
-      rw (open-is buffer (pairHash a b) fits) (subst (Holds s 0 0) (first a b oa ob) (leaf-held 0 (lit< tt)), subst (Holds s 0 1) (second a b oa ob) (leaf-held 1 (lit< tt)), root-held)
+      let m = twoLeaves a b in
+      rw (open-is buffer (pairHash a b) fits) (
+        settles-then-holds opened-two m taken 0 0 a left-settled,
+        settles-then-holds opened-two m taken 0 1 b right-settled,
+        settles-then-holds opened-two m taken 1 0 (pairHash a b) (parent 0 0 a b left-settled right-settled),
+      )
 
 -- ---- a file of two blocks, whatever its bytes, a store opened for it, and the message with its two leaves
 
