@@ -11,7 +11,6 @@ use lib.Dec.{leb}
 use borrow.Author.Tests.{eq-eqb, ne-eqb, leb-true}
 use Rattle.octets.specs.Octets.{Octets, pasted, be, zeroed}
 use Rattle.octets.specs.OctetsLaws.{pasted-length, getD-pasted-before, getD-pasted-in, getD-pasted-after, append-octets, be-octets, zeroed-length, zeroed-at, zeroed-past}
-use Rattle.numbers.specs.Numbers.{conflict}
 use Rattle.cells.specs.Cells.{Room, put}
 use Rattle.cells.specs.CellsLaws.{put-room}
 use Rattle.cells.specs.Entries.{Entry, putAll}
@@ -21,12 +20,12 @@ use Rattle.store.specs.StoreLaws.{store-size-cells, store-size-some, positions-
 use Rattle.tree.specs.Geometry.{blockCount, height}
 use Rattle.messages.specs.Take.{settled, placeIn, takeNumber, takeAfter}
 use Rattle.messages.specs.TakenLaws.{taken-ready}
-use Rattle.pieces.specs.Pieces.{layerSettled, layerNumber, layerAfter, pieceNumber}
+use Rattle.pieces.specs.Pieces.{layerSettled, layerNumber, layerAfter}
 use Rattle.pieces.specs.PiecesLaws.{layer-loads, loads-layered, layer-refused, layer-taken}
 use Rattle.promises.specs.History.{Bytes, Steps, begin, message, reject-heard, request-served, hash-asked, layer, block-judged, piece-judged, reopened, OurStore, ours}
 use Rattle.promises.specs.Grows.{reopen-refused}
-use Rattle.promises.specs.Invariant.{Ours, message-whole, layer-whole, ours-opened, ours-take, ours-layer, ours-have}
-use Rattle.promises.specs.Conflict.{Shown, heldBy, byMessage, byLayer, byPiece, sized-bytes, message-octets, layer-octets, conflict-shows, layer-conflict-shows, piece-conflict-shows}
+use Rattle.promises.specs.Invariant.{Ours, message-whole, layer-whole, ours-opened, ours-take, ours-layer}
+use Rattle.promises.specs.Conflict.{sized-bytes, message-octets, layer-octets}
 
 pasted-bytes : (s : List ℕ) (at : ℕ) (h : List ℕ) → at + length h ≤ length s → Bytes s → Bytes h → Bytes (pasted s at h)
 pasted-bytes s at h fit bs bh = record { size = refl; bytes = λ i l. by i (rw (pasted-length s at h fit) at l) }
@@ -134,15 +133,3 @@ bytes-steps o b (reopened {t = t} n plen root ne h) = rw (reopen-refused t n ple
 pub ours-bytes : {t : List ℕ} → OurStore t → Bytes t
 ours-bytes (ours b n plen root bytes o z h) =
     bytes-steps (ours-opened b n plen root (o .size) z) (bytes-opened b n plen root bytes o) h .1
-
--- IN A STORE THAT ONLY THIS BUILD HAS WRITTEN, "conflict" shows two different 64-byte strings with one SHA-256: of a message,
-pub our-conflict-shows : {s : List ℕ} (m : List ℕ) → OurStore s → Bytes m → takeNumber s m ≡ conflict → Shown (heightOf s) (heldBy s) (byMessage s m)
-our-conflict-shows {s} m o bm e = conflict-shows s m (ours-have o) (ours-bytes o) bm e
-
--- of a layer,
-pub our-layer-conflict-shows : {s : List ℕ} (l : List ℕ) → OurStore s → Bytes l → layerNumber s l ≡ conflict → Shown (heightOf s) (heldBy s) (byLayer s l)
-our-layer-conflict-shows {s} l o bl e = layer-conflict-shows s l (ours-have o) (ours-bytes o) bl e
-
--- of a piece
-pub our-piece-conflict-shows : {s : List ℕ} (i : ℕ) (piece : List ℕ) → OurStore s → pieceNumber s i piece ≡ conflict → Shown (heightOf s) (heldBy s) (byPiece s i piece)
-our-piece-conflict-shows {s} i piece o e = piece-conflict-shows s i piece (ours-have o) (ours-bytes o) e

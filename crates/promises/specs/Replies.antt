@@ -43,7 +43,7 @@ use Rattle.promises.specs.TakenWhen.{Right, right-then-taken}
 use Rattle.promises.specs.Again.{held-agrees}
 use Rattle.promises.specs.RightPadding.{Pads, doubles, sibling-number}
 use Rattle.promises.specs.Invariant.{Chained, Ours, Pair, family-pair, Whole, message-whole, ours-have}
-use Rattle.promises.specs.Conflict.{heldBy, Gives, Shown, same-or-shown, hash-octets, agrees-or-shown, well-ready, anchor-has}
+use Rattle.promises.specs.Conflict.{heldBy, GivesAt, ShownAt, same-or-shown, hash-octets, agrees-or-shown, well-ready, anchor-has}
 use Rattle.promises.specs.OwnBytes.{ours-bytes}
 
 -- ---- two stores
@@ -52,8 +52,8 @@ module _ (s t : List ℕ) (cs : Chained s) (ct : Chained t) (bs : Bytes s) (bt :
     (layers : heightOf s ≡ heightOf t) (roots : factsRoot s ≡ factsRoot t) where
   -- what both hold is the same in both, or they show a pair
   pub alike-or-shown : (d q : ℕ) → q ≤ d → 1 ≤ q → q < positions (heightOf t) → heldAt t q ≡ true → heldAt s q ≡ true
-      → Shown (heightOf t) (heldBy t) (heldBy s) ⊎ (hashAt t q ≡ hashAt s q)
-  unfolding Gives
+      → ShownAt (heightOf t) (heldBy t) (heldBy s) ⊎ (hashAt t q ≡ hashAt s q)
+  unfolding GivesAt
   alike-or-shown zero q l a b ht hs = let z : ⊥ = omega arith in absurd z
   alike-or-shown (suc d) q l a b ht hs =
       elim (ℕ-discrete q 1) [
@@ -387,14 +387,14 @@ module _ (s t r : List ℕ) (os : Ours s) (ot : Ours t) (bs : Bytes s) (bt : Byt
   octets-there e i = rw (← held-there .1 e i .1) (hash-octets s (e .at) (os .chained .facts) bs (rw layers (sound-in (settled r (placeIn t r)) (whole .sound) i .0)))
 
   agreed-here : heldAt t (anchor (placeIn t r)) ≡ true → hashAt t (anchor (placeIn t r)) ≡ worked r (placeIn t r)
-      → Shown (heightOf t) (heldBy t) (heldBy s) ⊎ (agrees t (settled r (placeIn t r)) ≡ true)
-  unfolding Gives
+      → ShownAt (heightOf t) (heldBy t) (heldBy s) ⊎ (agrees t (settled r (placeIn t r)) ≡ true)
+  unfolding GivesAt
   agreed-here h v =
       agrees-or-shown t (heldBy s) (settled r (placeIn t r)) (anchor (placeIn t r)) (worked r (placeIn t r)) (ot .chained) bt whole
       (λ n u x. held-there .1 (record { at = n; hash = u }) x) octets-there (anchor-has r t) h v
 
   -- a message that carries what s holds, its anchor held in t, is taken by t, or the two show a pair
-  pub carried-taken : heldAt t (anchor (placeIn t r)) ≡ true → Shown (heightOf t) (heldBy t) (heldBy s) ⊎ (takeNumber t r ≡ 0)
+  pub carried-taken : heldAt t (anchor (placeIn t r)) ≡ true → ShownAt (heightOf t) (heldBy t) (heldBy s) ⊎ (takeNumber t r ≡ 0)
   carried-taken h =
       let a = anchor (placeIn t r) in
       let top = anchor-has r t in
@@ -414,6 +414,6 @@ module _ (s t r : List ℕ) (os : Ours s) (ot : Ours t) (bs : Bytes s) (bt : Byt
 -- length and root (piece lengths may differ), it is taken there, or the two stores show two different 64-byte strings with one SHA-256
 pub other-store-reply : {s t : List ℕ} (m : List ℕ) → OurStore s → OurStore t → fileLength s ≡ fileLength t → factsRoot s ≡ factsRoot t
     → requestNumber s m ≡ 0 → heldAt t (anchor (placeIn t (replyTo s m))) ≡ true
-    → Shown (heightOf t) (heldBy t) (heldBy s) ⊎ (takeNumber t (replyTo s m) ≡ 0)
+    → ShownAt (heightOf t) (heldBy t) (heldBy s) ⊎ (takeNumber t (replyTo s m) ≡ 0)
 other-store-reply {s} {t} m os ot files roots z h =
     carried-taken s t (replyTo s m) (ours-have os) (ours-have ot) (ours-bytes os) (ours-bytes ot) files roots (reply-carries s m z) h

@@ -29,7 +29,7 @@ use Rattle.pieces.specs.Pieces.{layerOfPieces, pieceHeight, blockNumber, pieceN
 use Rattle.pieces.specs.PiecesLaws.{placed, height-layer, piece-at-root, block-right, right-block, right-piece}
 use Rattle.promises.specs.History.{Bytes, OurStore}
 use Rattle.promises.specs.Invariant.{Chained, Whole, ours-have}
-use Rattle.promises.specs.Conflict.{Shown, heldBy, ofFile, Gives, agrees-or-shown, subtree-octets}
+use Rattle.promises.specs.Conflict.{ShownAt, heldBy, ofFile, GivesAt, agrees-or-shown, subtree-octets}
 use Rattle.promises.specs.OwnBytes.{ours-bytes}
 
 -- s was opened with the file's own length and pieces root
@@ -61,8 +61,8 @@ module _ (file s : List ℕ) (w : For file s) where
   unfolding heightOf blocksOf
   same-height = ap (λ (n : ℕ). height (blockCount n)) (w .long)
 
-  pub tree-agrees : Chained s → Bytes s → Shown (heightOf s) (heldBy s) (ofFile file) ⊎ (agrees s (treeOf file) ≡ true)
-  unfolding Gives piecesRoot
+  pub tree-agrees : Chained s → Bytes s → ShownAt (heightOf s) (heldBy s) (ofFile file) ⊎ (agrees s (treeOf file) ≡ true)
+  unfolding GivesAt piecesRoot
   tree-agrees c b =
       let h = height (blockCount (length file)) in
       agrees-or-shown s (ofFile file) (treeOf file) 1 (node (leafOf file) h 0) c b
@@ -90,11 +90,11 @@ module _ (file s : List ℕ) (w : For file s) where
       same-true (hashAt s n) v (sym (agrees-held s n v h) ∙ x)
 
 -- EVERY HELD HASH IS THE FILE'S, or a pair is shown
-pub held-is-the-files : {s : List ℕ} (file : List ℕ) → OurStore s → For file s
-    → Shown (heightOf s) (heldBy s) (ofFile file)
+pub held-is-the-files-at : {s : List ℕ} (file : List ℕ) → OurStore s → For file s
+    → ShownAt (heightOf s) (heldBy s) (ofFile file)
     ⊎ ((l i : ℕ) → l ≤ heightOf s → i < 2 ^ (heightOf s - l) → heldAt s (nodeNumber (heightOf s) l i) ≡ true
     → hashAt s (nodeNumber (heightOf s) l i) ≡ node (leafOf file) l i)
-held-is-the-files {s} file o w =
+held-is-the-files-at {s} file o w =
     elim (tree-agrees file s w (ours-have o .chained) (ours-bytes o)) [ inl x ↦ inl x | inr g ↦ inr (agreed-is file s w g) ]
 
 -- ---- blocks
@@ -136,9 +136,9 @@ module _ (file s : List ℕ) (f : Facts s) (w : For file s) (i : ℕ) (l : i < b
 
 -- A BLOCK ANSWERED 0 IS THE FILE'S, or a pair is shown, or the block and the file's block are two different strings of the block's size
 -- with one SHA-256
-pub block-is-the-files : {s : List ℕ} (file : List ℕ) (i : ℕ) (block : List ℕ) → OurStore s → For file s → Bytes file → Bytes block → blockNumber s i block ≡ 0
-    → Shown (heightOf s) (heldBy s) (ofFile file) ⊎ (OneHash (blockSize (fileLength s) i) block (blockOf file i) ⊎ (block ≡ blockOf file i))
-block-is-the-files {s} file i block o w bf bb z =
+pub block-is-the-files-at : {s : List ℕ} (file : List ℕ) (i : ℕ) (block : List ℕ) → OurStore s → For file s → Bytes file → Bytes block → blockNumber s i block ≡ 0
+    → ShownAt (heightOf s) (heldBy s) (ofFile file) ⊎ (OneHash (blockSize (fileLength s) i) block (blockOf file i) ⊎ (block ≡ blockOf file i))
+block-is-the-files-at {s} file i block o w bf bb z =
     let r = block-right s i block z in
     let f = ours-have o .chained .facts in
     let mine : Octets (blockSize (fileLength s) i) block = subst (λ (n : ℕ). Octets n block) (r .size) bb in
@@ -151,7 +151,7 @@ block-is-the-files {s} file i block o w bf bb z =
 
 -- THE FILE'S OWN BLOCK, its leaf held, is answered 0, or a pair is shown
 pub true-block : {s : List ℕ} (file : List ℕ) (i : ℕ) → OurStore s → For file s → i < blocksOf s → heldAt s (nodeNumber (heightOf s) 0 i) ≡ true
-    → Shown (heightOf s) (heldBy s) (ofFile file) ⊎ (blockNumber s i (blockOf file i) ≡ 0)
+    → ShownAt (heightOf s) (heldBy s) (ofFile file) ⊎ (blockNumber s i (blockOf file i) ≡ 0)
 true-block {s} file i o w l h =
     let f = ours-have o .chained .facts in
     elim (tree-agrees file s w (ours-have o .chained) (ours-bytes o)) [
@@ -255,7 +255,7 @@ module _ (file s : List ℕ) (f : Facts s) (w : For file s) (i : ℕ) (l : i < p
 -- THE FILE'S OWN PIECE, its node held, is answered 0, or a pair is shown
 pub true-piece : {s : List ℕ} (file : List ℕ) (i : ℕ) → OurStore s → For file s → i < pieceCount (fileLength s) (pieceLength s)
     → heldAt s (nodeNumber (heightOf s) (pieceHeight s) i) ≡ true
-    → Shown (heightOf s) (heldBy s) (ofFile file) ⊎ (pieceNumber s i (pieceFor file s i) ≡ 0)
+    → ShownAt (heightOf s) (heldBy s) (ofFile file) ⊎ (pieceNumber s i (pieceFor file s i) ≡ 0)
 true-piece {s} file i o w l h =
     let f = ours-have o .chained .facts in
     let p = placed s f i l in

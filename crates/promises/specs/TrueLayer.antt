@@ -20,7 +20,7 @@ use Rattle.pieces.specs.Pieces.{layerOfPieces, layerSettled, layerNumber}
 use Rattle.pieces.specs.PiecesLaws.{layered, pieces-are, loads-answered, settled-in-layers}
 use Rattle.promises.specs.History.{OurStore}
 use Rattle.promises.specs.Invariant.{Chained, ours-have}
-use Rattle.promises.specs.Conflict.{Shown, heldBy, ofFile}
+use Rattle.promises.specs.Conflict.{ShownAt, heldBy, ofFile}
 use Rattle.promises.specs.OwnBytes.{ours-bytes}
 use Rattle.promises.specs.RootToBlock.{For, treeOf, same-height, tree-agrees, tree-has}
 
@@ -70,7 +70,7 @@ module _ (file s : List ℕ) (c : Chained s) (w : For file s) (longer : hasLayer
 
 -- THE FILE'S OWN PIECE LAYER is answered 0, or a pair is shown
 pub true-layer : {s : List ℕ} (file : List ℕ) → OurStore s → For file s → hasLayer (fileLength s) (pieceLength s) ≡ true
-    → Shown (heightOf s) (heldBy s) (ofFile file) ⊎ (layerNumber s (layerFor file s) ≡ 0)
+    → ShownAt (heightOf s) (heldBy s) (ofFile file) ⊎ (layerNumber s (layerFor file s) ≡ 0)
 unfolding layerSettled
 true-layer {s} file o w longer =
     let c = ours-have o .chained in

@@ -4,7 +4,7 @@
 use mathlib.Core.Path.{_≡_, refl, ap, sym, _∙_, subst}
 use mathlib.Core.Bool.{true}
 use mathlib.Core.List.{List, [], _∷_, _++_}
-use Prim.Native.Nat.{ℕ, zero, suc, _+_, _-_, _*_, _^_, _≤_, _<_}
+use Prim.Native.Nat.{ℕ, zero, suc, _+_, _-_, _≤_, _<_}
 use native.Mathlib.Omega.{arith}
 use lib.ListN.{length, getD, replicate, length-replicate}
 use lib.Dec.{lit<, lit≤}
@@ -16,13 +16,11 @@ use Rattle.sha256.specs.Sha256Laws.{pair-octets}
 use Rattle.tree.specs.Geometry.{ceilDiv, blockCount, heightFrom, height, pieceLayer, isPieceLength}
 use Rattle.tree.specs.Values.{node, leafOf, piecesRoot}
 use Rattle.tree.specs.ValuesLaws.{leaf-octets}
-use Rattle.cells.specs.EntriesLaws.{here, there, Has}
 use Rattle.store.specs.Store.{factsInRange, storeSize, openAnswer, openAfter, opened, positions, heldAnswer}
 use Rattle.store.specs.StoreLaws.{opened-file, opened-facts-root}
-use Rattle.runs.specs.Subtree.{subtree}
 use Rattle.header.specs.declared.Header.{Header}
 use Rattle.header.specs.declared.Place.{Place}
-use Rattle.header.specs.Header.{isHashes}
+use Rattle.header.specs.Header.{headerOf, isHashes}
 use Rattle.messages.specs.Take.{given, placeIn, takeNumber, takeAfter}
 use Rattle.messages.specs.TakeLaws.{passed}
 use Rattle.promises.specs.Held.{Holds}
@@ -33,8 +31,8 @@ use Rattle.promises.specs.AnchorHeld.{held-asked}
 use Rattle.promises.specs.Positions.{given-is}
 use Rattle.promises.specs.HeldAfter.{settles-then-holds}
 use Rattle.promises.specs.Conflict.{sized-bytes}
-use Rattle.promises.specs.RootToBlock.{For, treeOf}
-use Rattle.promises.specs.TrueMessage.{Tells}
+use Rattle.promises.specs.RootToBlock.{For}
+use Rattle.promises.specs.Known.{TrueHashes}
 use Rattle.promises.specs.Example.{twoLeaves, header-two, first, second, two-taken, two-well-formed, two-place}
 
 range : factsInRange 32768 16384 ≡ true
@@ -59,6 +57,15 @@ four-numbers = append-octets (be-octets 4 0) (append-octets (be-octets 4 0) (app
 leaves-bytes : (a b : List ℕ) → Octets 32 a → Octets 32 b → Bytes (twoLeaves a b)
 leaves-bytes a b oa ob = sized-bytes 113 (twoLeaves a b) (append-octets one-byte (append-octets (pair-octets a b) (append-octets four-numbers (append-octets oa ob))))
 
+-- hash j of the message is leaf j
+module _ (a b : List ℕ) (oa : Octets 32 a) (ob : Octets 32 b) (buffer : List ℕ) (fits : storeSize 32768 ≤ length buffer) where
+  hash-is : (j : ℕ) → j < 2 → hashIn (twoLeaves a b) j ≡ given (twoLeaves a b) 1 j
+  hash-is j l =
+      let m = twoLeaves a b in
+      let t = opened buffer 32768 16384 (pairHash a b) in
+      let e : placeIn (opened buffer 32768 16384 (pairHash a b)) (twoLeaves a b) .k ≡ 1 = ap (λ (p : Place). p .k) (two-place a b oa ob buffer fits) in
+      sym (given-is t m (two-well-formed a b oa ob buffer fits) j (rw e l)) ∙ ap (λ (k : ℕ). given m k j) e
+
 -- ---- a store of ours with more than its root
 
 module _ (a b : List ℕ) (oa : Octets 32 a) (ob : Octets 32 b) (buffer : List ℕ) (bytes : Bytes buffer) (fits : storeSize 32768 ≤ length buffer) where
@@ -73,18 +80,11 @@ module _ (a b : List ℕ) (oa : Octets 32 a) (ob : Octets 32 b) (buffer : List �
   unfolding opened-two
   taken = two-taken a b oa ob buffer fits
 
-  hash-is : (j : ℕ) → j < 2 → hashIn (twoLeaves a b) j ≡ given (twoLeaves a b) 1 j
-  unfolding opened-two
-  hash-is j l =
-      let m = twoLeaves a b in
-      let e : placeIn opened-two (twoLeaves a b) .k ≡ 1 = ap (λ (p : Place). p .k) (two-place a b oa ob buffer fits) in
-      sym (given-is opened-two m (two-well-formed a b oa ob buffer fits) j (rw e l)) ∙ ap (λ (k : ℕ). given m k j) e
-
   leaf-settled : (j : ℕ) → j < 2 → Settles (twoLeaves a b) 0 (0 + j) (given (twoLeaves a b) 1 j)
   leaf-settled j l =
       let m = twoLeaves a b in
       let h = header-two a b oa ob in
-      rw (← hash-is j l) (subst (λ (x : Header). Settles m (x .base) (x .index + j) (hashIn m j)) h (inRun j (rw h l)))
+      rw (← hash-is a b oa ob buffer fits j l) (subst (λ (x : Header). Settles m (x .base) (x .index + j) (hashIn m j)) h (inRun j (rw h l)))
 
   left-settled : Settles (twoLeaves a b) 0 0 a
   left-settled = subst (Settles (twoLeaves a b) 0 0) (first a b oa ob) (leaf-settled 0 (lit< tt))
@@ -116,9 +116,6 @@ module _ (file buffer : List ℕ) (two-blocks : length file ≡ 32768) (fits : s
   unfolding piecesRoot node
   root-is = rw one-high
 
-  tree-is : treeOf file ≡ subtree (leafOf file) 1 1 0
-  tree-is = rw one-high
-
   -- the store was opened with the file's own length and pieces root,
   pub for-the-file : For file (opened buffer 32768 16384 (piecesRoot file))
   for-the-file =
@@ -128,28 +125,34 @@ module _ (file buffer : List ℕ) (two-blocks : length file ≡ 32768) (fits : s
         root = opened-facts-root buffer 32768 16384 (piecesRoot file) range fits size;
       }
 
-  stands : (j : ℕ) → j < 2 → Has (1 * 2 ^ 1 + j) (given (twoLeaves (leafOf file 0) (leafOf file 1)) 1 j) (subtree (leafOf file) 1 1 0)
-  unfolding subtree
-  stands zero l = rw (first (leafOf file 0) (leafOf file 1) (leaf-octets file 0) (leaf-octets file 1)) here
-  stands (suc zero) l = rw (second (leafOf file 0) (leafOf file 1) (leaf-octets file 0) (leaf-octets file 1)) (there here)
-  stands (suc (suc j)) l = let w : ⊥ = omega arith in absurd w
+  leaf-told : (j : ℕ) → j < 2 → hashIn (twoLeaves (leafOf file 0) (leafOf file 1)) j ≡ leafOf file j
+  leaf-told zero l =
+      hash-is (leafOf file 0) (leafOf file 1) (leaf-octets file 0) (leaf-octets file 1) buffer fits 0 l ∙ first (leafOf file 0) (leafOf file 1) (leaf-octets file 0) (leaf-octets file 1)
+  leaf-told (suc zero) l =
+      hash-is (leafOf file 0) (leafOf file 1) (leaf-octets file 0) (leaf-octets file 1) buffer fits 1 l ∙ second (leafOf file 0) (leafOf file 1) (leaf-octets file 0) (leaf-octets file 1)
+  leaf-told (suc (suc j)) l = let w : ⊥ = omega arith in absurd w
 
-  told : Tells file (opened buffer 32768 16384 (pairHash (leafOf file 0) (leafOf file 1))) (twoLeaves (leafOf file 0) (leafOf file 1))
+  run-told : (j : ℕ) → (x : Header) → x ≡ record { base = 0; index = 0; len = 2; proof = 0 } → j < x .len
+      → hashIn (twoLeaves (leafOf file 0) (leafOf file 1)) j ≡ node (leafOf file) (x .base) (x .index + j)
+  unfolding node
+  run-told j x e l = let z : j ≡ 0 + j = omega arith in rw e (leaf-told j (rw e at l) ∙ ap (leafOf file) z)
+
+  none-told : (j : ℕ) → (x : Header) → x ≡ record { base = 0; index = 0; len = 2; proof = 0 } → j < x .proof - (height (x .len) - 1) → ⊥
+  none-told j x e l = let w : j < 0 - (height 2 - 1) = rw e at l in omega arith
+
+  told : TrueHashes file (opened buffer 32768 16384 (pairHash (leafOf file 0) (leafOf file 1))) (twoLeaves (leafOf file 0) (leafOf file 1))
   told =
-      let a = leafOf file 0 in
-      let b = leafOf file 1 in
-      let place = two-place (leafOf file 0) (leafOf file 1) (leaf-octets file 0) (leaf-octets file 1) buffer fits in
-      let well = two-well-formed (leafOf file 0) (leafOf file 1) (leaf-octets file 0) (leaf-octets file 1) buffer fits in
+      let m = twoLeaves (leafOf file 0) (leafOf file 1) in
+      let h = header-two (leafOf file 0) (leafOf file 1) (leaf-octets file 0) (leaf-octets file 1) in
       record {
-        header = well .header;
-        size = well .size;
-        run = λ j l. rw (place, tree-is) (stands j (rw place at l));
-        uncles = λ i l. (let n : i < 0 = rw place at l in let w : ⊥ = omega arith in absurd w);
+        formed = two-well-formed (leafOf file 0) (leafOf file 1) (leaf-octets file 0) (leaf-octets file 1) buffer fits;
+        run = λ j l. run-told j (headerOf m) h l;
+        uncles = λ j l. absurd (none-told j (headerOf m) h l);
       }
 
-  -- and the message tells it the file's own two leaves
-  pub tells-the-file : Tells file (opened buffer 32768 16384 (piecesRoot file)) (twoLeaves (leafOf file 0) (leafOf file 1))
-  tells-the-file = rw root-is told
+  -- and the message has the file's own two leaves
+  pub true-for-the-file : TrueHashes file (opened buffer 32768 16384 (piecesRoot file)) (twoLeaves (leafOf file 0) (leafOf file 1))
+  true-for-the-file = rw root-is told
 
   -- the store is one that only this build has written,
   pub ours-for-the-file : Bytes buffer → OurStore (opened buffer 32768 16384 (piecesRoot file))
@@ -187,11 +190,11 @@ room-for-two = lit≤ tt
 pub a-store-of-two-blocks : OurStore (takeAfter (openAfter (replicate 163 0) 32768 16384 (pairHash zeroHash zeroHash)) (twoLeaves zeroHash zeroHash))
 a-store-of-two-blocks = ours-with-two-leaves zeroHash zeroHash zero-octets zero-octets (replicate 163 0) (zero-bytes 163) room-for-two
 
--- what `true-message` asks for, met at once
+-- what `known-message` asks for, met at once
 pub record Met (file s r : List ℕ) : Type 0 where
   pub ours : OurStore s
   pub opened : For file s
-  pub tells : Tells file s r
+  pub hashes : TrueHashes file s r
   pub anchor : heldAnswer s (anchorLayer r) (anchorIndex r) .number ≡ 0
 
 met : (file : List ℕ) → length file ≡ 32768 → Met file (opened (replicate 163 0) 32768 16384 (piecesRoot file)) (twoLeaves (leafOf file 0) (leafOf file 1))
@@ -199,7 +202,7 @@ met file e =
     record {
       ours = ours-for-the-file file (replicate 163 0) e room-for-two (zero-bytes 163);
       opened = for-the-file file (replicate 163 0) e room-for-two;
-      tells = tells-the-file file (replicate 163 0) e room-for-two;
+      hashes = true-for-the-file file (replicate 163 0) e room-for-two;
       anchor = anchor-for-the-file file (replicate 163 0) e room-for-two;
     }
 
