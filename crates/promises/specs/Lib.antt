@@ -47,3 +47,4 @@ pub mod ServedAndTaken
 pub mod SettledMany
 pub mod LayerExample
 pub mod OneOutcome
+pub mod InTable

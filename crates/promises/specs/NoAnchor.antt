@@ -1,8 +1,9 @@
 -- Demand 3: a reply's number is 6 as long as its anchor is not held, and never 6 again as soon as it is, with "held" as kd_held answers.
 -- Assumes nothing.
-use mathlib.Core.Path.{_≡_, refl, ap, sym, _∙_}
+use mathlib.Core.Path.{_≡_, refl, ap, sym, _∙_, subst}
 use mathlib.Core.Bool.{Bool, true, false}
 use mathlib.Core.List.{List}
+use mathlib.Core.Logic.{_↔_}
 use Prim.Native.Nat.{ℕ}
 use native.Mathlib.Omega.{arith}
 use native.Mathlib.Decide.{ℕ-discrete}
@@ -14,12 +15,13 @@ use Rattle.cells.specs.Cells.{heldAt}
 use Rattle.store.specs.Store.{usable, heightOf, heldAnswer}
 use Rattle.store.specs.StoreLaws.{usable-facts, held-unusable, held-not}
 use Rattle.header.specs.Header.{headerOf, isHashes}
-use Rattle.messages.specs.Take.{headerNumber, anchor, bodyNumber, placeIn, orElse, takeNumber}
+use Rattle.messages.specs.Take.{headerNumber, anchor, bodyNumber, placeIn, orElse, takeNumber, takeAfter, takeAnswer}
 use Rattle.messages.specs.TakeLaws.{Passed, passed, passes}
 use Rattle.promises.specs.Held.{Holds}
 use Rattle.promises.specs.History.{Steps}
 use Rattle.promises.specs.Grows.{steps-grow}
-use Rattle.promises.specs.Again.{knowledge-only-grows, same-header, header-number-not-6, no-anchor-stays, anchor-held-not-6}
+use Rattle.promises.specs.Again.{knowledge-only-grows, number-stays, same-header, header-number-not-6, no-anchor-stays, anchor-held-not-6}
+use Rattle.promises.specs.Refusals.{message-refused}
 use Rattle.promises.specs.Settles.{anchorLayer, anchorIndex}
 use Rattle.promises.specs.AnchorHeld.{anchor-number, anchor-in-tree, asked-held, held-asked}
 
@@ -77,3 +79,28 @@ module _ {s t : List ℕ} (m : List ℕ) (six : takeNumber s m ≡ noAnchor) (h 
       (takeNumber t m ≡ noAnchor → heldAnswer t (anchorLayer m) (anchorIndex m) .number ≡ noAnchor)
       × (heldAnswer t (anchorLayer m) (anchorIndex m) .number ≡ noAnchor → takeNumber t m ≡ noAnchor)
   six-exactly-while-not-held = (six-then-not-held, λ e. not-held-then-6 (λ z. omega arith))
+
+-- ONLY "NO ANCHOR" CAN CHANGE: the number that a reply got is another at a later offer exactly if it was 6 and kd_held gives its anchor by then
+pub changes-exactly-when : {t : List ℕ} (s m : List ℕ) → usable s ≡ true → Steps (takeAfter s m) t
+    → (takeNumber t m ≡ takeNumber s m → ⊥) ↔ ((takeNumber s m ≡ noAnchor) × (heldAnswer t (anchorLayer m) (anchorIndex m) .number ≡ 0))
+changes-exactly-when {t} s m u h = (to, λ w e. six-or-held (w .0) (w .1) (e ∙ w .0))
+  where
+    from-there : takeNumber s m ≡ noAnchor → Steps s t
+    from-there six = subst (λ (x : List ℕ). Steps x t) (message-refused s m (λ z. omega (arith, six-answer six, z)) .0) h
+      where
+        six-answer : takeNumber s m ≡ noAnchor → takeAnswer s m .number ≡ noAnchor
+        six-answer e = unfold takeAnswer in e
+
+    six-or-held : takeNumber s m ≡ noAnchor → heldAnswer t (anchorLayer m) (anchorIndex m) .number ≡ 0 → takeNumber t m ≡ noAnchor → ⊥
+    six-or-held six z e = let g = six-then-not-held m six (from-there six) e in omega arith
+
+    to : (takeNumber t m ≡ takeNumber s m → ⊥) → (takeNumber s m ≡ noAnchor) × (heldAnswer t (anchorLayer m) (anchorIndex m) .number ≡ 0)
+    to ne =
+        elim (ℕ-discrete (takeNumber s m) noAnchor) [
+          | no k ↦ absurd (ne (number-stays s m u h k))
+          | yes six ↦
+              elim (ℕ-discrete (heldAnswer t (anchorLayer m) (anchorIndex m) .number) 0) [
+                | yes z ↦ (six, z)
+                | no k ↦ absurd (ne (not-held-then-6 m six (from-there six) k ∙ sym six))
+              ]
+        ]

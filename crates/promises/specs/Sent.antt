@@ -10,15 +10,17 @@ use lib.ListN.{length}
 use lib.Dec.{leb}
 use Rattle.octets.specs.Octets.{cut}
 use Rattle.octets.specs.OctetsLaws.{cut-pasted-same}
-use Rattle.numbers.specs.Numbers.{refused}
+use Rattle.numbers.specs.Numbers.{refused, done}
 use Rattle.numbers.specs.declared.Answer.{Answer}
 use Rattle.sha256.specs.Sha256.{pairHash}
 use Rattle.runs.specs.Path.{sibling}
 use Rattle.header.specs.Header.{headerOf, messageRoot, isHashes, messageSize}
-use Rattle.messages.specs.Take.{takeNumber, takeAfter}
+use Rattle.messages.specs.Take.{takeNumber, takeAfter, takeAnswer}
 use Rattle.serve.specs.Serve.{requestNumber, replyTo, sentBack, unanswered, serveAnswer, serveAfter}
 use Rattle.serve.specs.ServeLaws.{fits-sent, fits-not, served-reply}
 use Rattle.promises.specs.Held.{Holds}
+use Rattle.promises.specs.History.{OurStore}
+use Rattle.promises.specs.Replies.{own-reply}
 use Rattle.promises.specs.Settles.{unclesIn, hashIn, topLayer, topIndex, anchorLayer, anchorIndex, Settles, parent}
 use Rattle.promises.specs.ReadBack.{reply-has-header, run-reads-back, uncle-reads-back}
 use Rattle.promises.specs.ChainsTo.{ChainsTo}
@@ -67,6 +69,10 @@ module _ (s m out : List ℕ) (z : serveAnswer s m out .number ≡ 0) where
   -- and at uncle i the hash that was held beside the path in its layer
   pub sent-uncle : (i : ℕ) → i < unclesIn m → Holds s (topLayer m + i) (sibling (topIndex m / 2 ^ i)) (hashIn (sent s m out) (headerOf m .len + i))
   sent-uncle i l = rw (served-then-reply .1) (uncle-reads-back s m served-then-valid i l)
+
+  -- THE STORE'S OWN REPLY: a store that only this build has written answers the bytes that it sent 0, with count 0
+  pub sent-own : OurStore s → takeAnswer s (sent s m out) ≡ done 0
+  sent-own o = rw (served-then-reply .1) (own-reply m o served-then-valid)
 
   module _ (t : List ℕ) (y : takeNumber t (sent s m out) ≡ 0) where
     taken-there : takeNumber t (replyTo s m) ≡ 0
