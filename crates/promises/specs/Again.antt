@@ -34,6 +34,7 @@ use Rattle.promises.specs.Grows.{Grown, grown-take, grown-on, steps-grow
 
 -- ---- a held hash stays held with the same bytes
 
+-- what kd_held answers 0 for is a position of the tree whose cell is held with that hash
 pub what-is-held : (s : List ℕ) (l i : ℕ) (v : List ℕ) → Facts s → Holds s l i v
     → (inTree (heightOf s) l i ≡ true) × (heldAt s (nodeNumber (heightOf s) l i) ≡ true) × (hashAt s (nodeNumber (heightOf s) l i) ≡ v)
 what-is-held s l i v f h = by-place (inTree (heightOf s) l i) refl
@@ -82,6 +83,7 @@ module _ (s t m : List ℕ) (f : Facts s) (g : Grown s t) where
   same-place : placeIn t m ≡ placeIn s m
   same-place = ap (placeOf (headerOf m)) (g .same .layers)
 
+  -- with more held, 9, 1, 2 and 3 come out as they did
   pub same-header : (form : Bool) → headerNumber form t m ≡ headerNumber form s m
   unfolding headerNumber
   same-header form = rw (facts-usable t (g .facts), facts-usable s f, g .same .root, g .same .blocks, g .same .layers)
@@ -236,6 +238,7 @@ header-not-6 true true false k e = omega arith
 header-not-6 true false r k e = omega arith
 header-not-6 false form r k e = omega arith
 
+-- 9, 1, 2 and 3 are not 6
 pub header-number-not-6 : (form : Bool) (s m : List ℕ) → headerNumber form s m ≡ noAnchor → ⊥
 unfolding headerNumber
 header-number-not-6 form s m e =

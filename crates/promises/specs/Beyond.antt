@@ -253,12 +253,14 @@ module _ (s t : List ℕ) (f : Facts s) (e : cut t 0 (storeSize (fileLength s)) 
   unfolding layerSettled
   settled-layer-used layer = rw (used-same s t f e .layers, layer-of-used)
 
+  -- a layer leaves the same cells,
   pub layer-leaves-alike : (layer : List ℕ) → SameCells (positions (heightOf s)) (layerAfter s layer) (layerAfter t layer)
   unfolding layerAfter
   layer-leaves-alike layer =
       rw (layer-beyond layer, settled-layer-used layer)
       (left-alike (layerNumber s layer) (layerSettled s layer) (λ z. layer-sound s layer (loads-layered s layer (layer-loads s layer z))))
 
+  -- and gets the same answer, the count too
   pub layer-answer-beyond : (layer : List ℕ) → layerAnswer t layer ≡ layerAnswer s layer
   unfolding layerAnswer
   layer-answer-beyond layer =
@@ -276,11 +278,13 @@ module _ (s t : List ℕ) (f : Facts s) (e : cut t 0 (storeSize (fileLength s)) 
         | no ne ↦ rw (ne-eqb n 0 ne)
       ]
 
+  -- bytes behind the store's size stay as they are when a message is heard,
   pub take-stays-past : (m : List ℕ) (i : ℕ) → storeSize (fileLength s) ≤ i → getD (takeAfter s m) i 0 ≡ getD s i 0
   unfolding takeAfter
   take-stays-past m =
       past-alike (takeNumber s m) (settled m (placeIn s m)) (λ z. let w = taken-well-formed s m z in settled-sound m (w .header) (w .size))
 
+  -- and when a layer is loaded
   pub layer-stays-past : (layer : List ℕ) (i : ℕ) → storeSize (fileLength s) ≤ i → getD (layerAfter s layer) i 0 ≡ getD s i 0
   unfolding layerAfter
   layer-stays-past layer =

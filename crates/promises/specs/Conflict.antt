@@ -271,6 +271,7 @@ pub record Conflicts (s m : List ℕ) : Type 0 where
   pub chains : hashAt s (anchor (placeIn s m)) ≡ worked m (placeIn s m)
   pub differs : agrees s (settled m (placeIn s m)) ≡ false
 
+-- so is every message that gets 8
 pub take-conflicts : (s m : List ℕ) → takeNumber s m ≡ conflict → Conflicts s m
 unfolding takeNumber bodyNumber anchored headerNumber
 take-conflicts s m e =

@@ -29,6 +29,7 @@ use Rattle.promises.specs.AnchorHeld.{anchor-number, anchor-in-tree, ask
 six-or : (n a : ℕ) → orElse n a ≡ noAnchor → (n ≡ noAnchor → ⊥) → n ≡ 0
 six-or n a e k = elim (ℕ-discrete n 0) [ yes z ↦ z | no ne ↦ absurd (k (rw (ne-eqb n 0 ne) at e)) ]
 
+-- so 6 is given by a usable store, to a message of its root that keeps the rules
 pub six-passed : (t m : List ℕ) → takeNumber t m ≡ noAnchor → Passed (isHashes m) t m
 unfolding takeNumber
 six-passed t m e = passed (isHashes m) t m (six-or (headerNumber (isHashes m) t m) (bodyNumber t m (headerOf m) (placeIn t m)) e (header-number-not-6 (isHashes m) t m))
@@ -59,6 +60,7 @@ module _ {s t : List ℕ} (m : List ℕ) (six : takeNumber s m ≡ noAnchor) (h 
       let f = usable-facts s (p .store) in
       passed (isHashes m) t m (same-header s t m f (steps-grow f h) (isHashes m) ∙ passes (isHashes m) s m p)
 
+  -- 6 again as long as kd_held does not give the anchor,
   pub not-held-then-6 : (heldAnswer t (anchorLayer m) (anchorIndex m) .number ≡ 0 → ⊥) → takeNumber t m ≡ noAnchor
   not-held-then-6 k = no-anchor-stays s m (six-passed s m six .store) h six (by (heldAt t (anchor (placeIn t m))) refl)
     where

@@ -47,6 +47,7 @@ tree-within h =
     let z : h - h ≡ 0 = omega arith in
     rw (← node-number-root h) (within-tree h h 0 h (omega arith) (rw z (omega arith)) (omega arith))
 
+-- the file's tree gives each of its positions one hash, that of its two children
 pub tree-whole : (file : List ℕ) (h : ℕ) → Whole (positions h) 1 (subtree (leafOf file) h 1 0)
 tree-whole file h =
     record {
@@ -57,10 +58,12 @@ tree-whole file h =
     }
 
 module _ (file s : List ℕ) (w : For file s) where
+  -- the store's tree is as high as the file's
   pub same-height : heightOf s ≡ height (blockCount (length file))
   unfolding heightOf blocksOf
   same-height = ap (λ (n : ℕ). height (blockCount n)) (w .long)
 
+  -- what a chained store holds agrees with the file's tree, or a pair is shown
   pub tree-agrees : Chained s → Bytes s → ShownAt (heightOf s) (heldBy s) (ofFile file) ⊎ (agrees s (treeOf file) ≡ true)
   unfolding GivesAt piecesRoot
   tree-agrees c b =
@@ -80,6 +83,7 @@ module _ (file s : List ℕ) (w : For file s) where
       has-same (subtree (leafOf file) h 1 0) (1 * 2 ^ (h - l) + i) (2 ^ (h - l) + i) (node (leafOf file) (h - (h - l)) (0 * 2 ^ (h - l) + i)) (node (leafOf file) l i)
       e (ap₂ (λ (x y : ℕ). node (leafOf file) x y) k j) (subtree-has (leafOf file) h 1 0 (h - l) i (omega arith) b)
 
+  -- where it agrees, every held hash is the file's
   pub agreed-is : agrees s (treeOf file) ≡ true → (l i : ℕ) → l ≤ heightOf s → i < 2 ^ (heightOf s - l)
       → heldAt s (nodeNumber (heightOf s) l i) ≡ true → hashAt s (nodeNumber (heightOf s) l i) ≡ node (leafOf file) l i
   agreed-is g l i a b h =
@@ -115,6 +119,7 @@ block-octets file i b l =
     cut-octets (blockLength * i) (min blockLength (length file - blockLength * i)) b (omega arith) in
     subst (Octets (min blockLength (length file - blockLength * i))) (cut-short file (blockLength * i) blockLength) o
 
+-- two strings with one SHA-256 are the same, or two different ones
 pub same-or-one-hash : (n : ℕ) (a b : List ℕ) → Octets n a → Octets n b → sha256 a ≡ sha256 b → OneHash n a b ⊎ (a ≡ b)
 same-or-one-hash n a b x y e = by (same a b) refl
   where
@@ -195,6 +200,7 @@ subtree-alike f g (suc k) n j j2 h =
 
 -- what lies below a position of a file's tree is part of that tree
 module _ (file s : List ℕ) (w : For file s) where
+  -- each entry below position i of layer k is one of the tree
   pub part-in-tree : (k i : ℕ) → k ≤ heightOf s → i < 2 ^ (heightOf s - k) → (e : Entry) → In e (subtree (leafOf file) k (nodeNumber (heightOf s) k i) i) → In e (treeOf file)
   part-in-tree k i a b e x =
       let h = heightOf s in
@@ -215,10 +221,12 @@ abbrev pub pieceFor : List ℕ → List ℕ → ℕ → List ℕ
 pieceFor file s i = pieceOf file (layerOfPieces s) i
 
 module _ (file s : List ℕ) (f : Facts s) (w : For file s) (i : ℕ) (l : i < pieceCount (fileLength s) (pieceLength s)) where
+  -- the piece length is 16384·2^p
   pub plen-form : pieceLength s ≡ blockLength * 2 ^ layerOfPieces s
   unfolding layerOfPieces
   plen-form = piece-length-form (pieceLength s) (f .piece) .1
 
+  -- leaf x of the file's piece i is the file's
   pub piece-leaf : (x : ℕ) → x < 2 ^ pieceHeight s → leafOf (pieceFor file s i) x ≡ leafOf file (i * 2 ^ pieceHeight s + x)
   piece-leaf = by (hasLayer (fileLength s) (pieceLength s)) refl
     where
@@ -242,6 +250,7 @@ module _ (file s : List ℕ) (f : Facts s) (w : For file s) (i : ℕ) (l : i < p
       let z : 0 * 2 ^ pieceHeight s + x ≡ x = omega arith in
       ap (leafOf (pieceFor file s i)) z ∙ piece-leaf x b)
 
+  -- the file's piece has the size that the store asks for
   pub piece-size-is : length (pieceFor file s i) ≡ pieceSize (fileLength s) (pieceLength s) i
   piece-size-is = piece-bytes file (layerOfPieces s) i ∙ ap₂ (λ (n p : ℕ). pieceSize n p i) (sym (w .long)) (sym plen-form)
 

@@ -1,33 +1,37 @@
 -- What the theorems about our replies ask for can be met: a store of ours serves a request with 0, and another store takes the reply.
 -- Assumes nothing.
-use mathlib.Core.Path.{_≡_, refl, ap, ap₂, sym, _∙_}
+use mathlib.Core.Path.{_≡_, refl, ap, ap₂, sym, _∙_, subst}
 use mathlib.Core.Bool.{true}
 use mathlib.Core.List.{List, [], _∷_, _++_, append-assoc, append-nil}
-use Prim.Native.Nat.{ℕ, _+_, _≤_}
+use Prim.Native.Nat.{ℕ, _+_, _-_, _/_, _^_, _≤_}
 use native.Mathlib.Omega.{arith}
-use lib.ListN.{length, length-append}
-use Rattle.octets.specs.Octets.{Octets, cut, same}
-use Rattle.octets.specs.OctetsLaws.{same-eq, cut-whole, cut-append-left}
+use lib.ListN.{length, replicate, length-append}
+use lib.Dec.{lit≤}
+use Rattle.octets.specs.Octets.{Octets, cut, same, zeroHash}
+use Rattle.octets.specs.OctetsLaws.{zero-octets, same-eq, cut-whole, cut-append-left}
 use Rattle.numbers.specs.declared.Answer.{Answer}
 use Rattle.sha256.specs.Sha256.{pairHash}
 use Rattle.sha256.specs.Sha256Laws.{pair-octets}
 use Rattle.tree.specs.Geometry.{ceilDiv, blockCount, heightFrom, height, nodeNumber, covering, pieceLayer, isPieceLength}
 use Rattle.cells.specs.Cells.{heldAt, hashAt}
-use Rattle.store.specs.Store.{factsRoot, blocksOf, heightOf, factsInRange, storeSize, openAfter, opened}
-use Rattle.store.specs.StoreLaws.{Facts, facts-usable, usable-facts, opened-usable, opened-facts-root, opened-blocks, opened-height}
+use Rattle.store.specs.Store.{fileLength, heldAnswer, factsRoot, blocksOf, heightOf, factsInRange, storeSize, openAfter, opened}
+use Rattle.store.specs.StoreLaws.{Facts, facts-usable, usable-facts, opened-usable, opened-file, opened-facts-root, opened-blocks, opened-height}
 use Rattle.header.specs.declared.Header.{Header}
-use Rattle.header.specs.Header.{headerOf, messageRoot, isRequest, placeOf, rulesKept, lengthRule, indexRule}
+use Rattle.header.specs.Header.{headerOf, messageRoot, isHashes, isRequest, placeOf, rulesKept, lengthRule, indexRule}
 use Rattle.messages.specs.Take.{headerNumber, placeIn, takeNumber, takeAfter}
-use Rattle.messages.specs.TakeLaws.{passes}
+use Rattle.messages.specs.TakeLaws.{passed, passes}
 use Rattle.serve.specs.Serve.{heldRun, runHashes, heldUncles, uncleHashes, allHeld, allHashes, requestNumber, replyTo, serveAnswer}
 use Rattle.serve.specs.ServeLaws.{head-same, request-zero, served-reply, fits-sent}
 use Rattle.promises.specs.Held.{Holds}
-use Rattle.promises.specs.History.{Bytes}
+use Rattle.promises.specs.History.{Bytes, begin, OurStore, ours}
 use Rattle.promises.specs.Grows.{Grown, grown-take}
 use Rattle.promises.specs.Again.{what-is-held}
 use Rattle.promises.specs.Offered.{offered-root, offered-size, two-size}
-use Rattle.promises.specs.Example.{twoLeaves, header-two, two-taken}
-use Rattle.promises.specs.Witness.{two-leaves-held, open-is}
+use Rattle.promises.specs.Example.{twoLeaves, header-two, two-taken, two-well-formed}
+use Rattle.promises.specs.Witness.{ours-with-two-leaves, two-leaves-held, opens, open-is, zero-bytes, room-for-two}
+use Rattle.promises.specs.Settles.{anchorLayer, anchorIndex}
+use Rattle.promises.specs.TakenWhen.{taken-then-right}
+use Rattle.promises.specs.AnchorHeld.{held-asked}
 
 abbrev numbers : List ℕ
 numbers = 0 ∷ 0 ∷ 0 ∷ 0 ∷ 0 ∷ 0 ∷ 0 ∷ 0 ∷ 0 ∷ 0 ∷ 0 ∷ 2 ∷ 0 ∷ 0 ∷ 0 ∷ 0 ∷ []
@@ -155,3 +159,60 @@ module _ (a b : List ℕ) (oa : Octets 32 a) (ob : Octets 32 b) where
         let m = askForTwo a b in
         let l : length (replyTo (withTwo buffer a b) (askForTwo a b)) ≡ 113 = ap length reply-is ∙ offered-size (pairHash a b) numbers (a ++ b) root-size refl ∙ two-size (pairHash a b) numbers a b root-size refl (oa .size) (ob .size) in
         ap (λ (x : Answer). x .number) (served-reply s m out asked-is-0 .0 ∙ fits-sent 0 (replyTo s m) out (omega arith) .0)
+
+-- ---- what `other-store-reply-taken` asks for, met at once
+
+-- two stores written by this build only, of one length and root; one serves the request with 0, and kd_held gives the anchor in the other
+pub record MetByTwo (s t m out : List ℕ) : Type 0 where
+  pub ours : OurStore s
+  pub theirs : OurStore t
+  pub files : fileLength s ≡ fileLength t
+  pub roots : factsRoot s ≡ factsRoot t
+  pub served : serveAnswer s m out .number ≡ 0
+  pub anchor : heldAnswer t (anchorLayer m) (anchorIndex m) .number ≡ 0
+
+module _ (a b : List ℕ) (oa : Octets 32 a) (ob : Octets 32 b) (buffer other out : List ℕ) (bytes : Bytes buffer) (theirs : Bytes other)
+    (fits : storeSize 32768 ≤ length buffer) (room : storeSize 32768 ≤ length other) (long : 113 ≤ length out) where
+  opened-there : List ℕ
+  opened-there = opened other 32768 16384 (pairHash a b)
+
+  anchor-there : heldAnswer opened-there (anchorLayer (twoLeaves a b)) (anchorIndex (twoLeaves a b)) .number ≡ 0
+  unfolding opened-there
+  anchor-there =
+      let m = twoLeaves a b in
+      let well = two-well-formed a b oa ob other room in
+      let z = two-taken a b oa ob other room in
+      held-asked (isHashes m) opened-there m (passed (isHashes m) opened-there m (well .header)) (taken-then-right opened-there m well z .held)
+
+  anchor-asked : heldAnswer opened-there (anchorLayer (askForTwo a b)) (anchorIndex (askForTwo a b)) .number ≡ 0
+  anchor-asked =
+      subst (λ (x : Header). heldAnswer opened-there (x .base + height (x .len) + (x .proof - (height (x .len) - 1))) (x .index / x .len / 2 ^ (x .proof - (height (x .len) - 1))) .number ≡ 0)
+      (header-two a b oa ob ∙ sym (header-is a b oa ob)) anchor-there
+
+  file-here : fileLength (withTwo buffer a b) ≡ 32768
+  unfolding fresh
+  file-here =
+      ap fileLength (with-is a b oa ob buffer bytes fits) ∙ grown a b oa ob buffer bytes fits .same .file
+      ∙ opened-file buffer 32768 16384 (pairHash a b) (range a b oa ob buffer bytes fits) fits (root-size a b oa ob)
+
+  -- one has heard its two leaves, the other is only opened
+  pub met-by-two : MetByTwo (withTwo buffer a b) (openAfter other 32768 16384 (pairHash a b)) (askForTwo a b) out
+  unfolding opened-there
+  met-by-two =
+      let R = pairHash a b in
+      let ok = range a b oa ob buffer bytes fits in
+      let e = open-is other (pairHash a b) room in
+      record {
+        ours = ours-with-two-leaves a b oa ob buffer bytes fits;
+        theirs = ours other 32768 16384 (pairHash a b) theirs (pair-octets a b) (opens other room) begin;
+        files = file-here ∙ sym (ap fileLength e ∙ opened-file other 32768 16384 R ok room (root-size a b oa ob));
+        roots = root a b oa ob buffer bytes fits ∙ sym (ap factsRoot e ∙ opened-facts-root other 32768 16384 R ok room (root-size a b oa ob));
+        served = served-with-0 a b oa ob buffer bytes fits out long;
+        anchor = rw e anchor-asked;
+      }
+
+-- with every byte said
+pub two-stores-and-a-request :
+    MetByTwo (withTwo (replicate 163 0) zeroHash zeroHash) (openAfter (replicate 163 0) 32768 16384 (pairHash zeroHash zeroHash)) (askForTwo zeroHash zeroHash) (replicate 163 0)
+two-stores-and-a-request =
+    met-by-two zeroHash zeroHash zero-octets zero-octets (replicate 163 0) (replicate 163 0) (replicate 163 0) (zero-bytes 163) (zero-bytes 163) room-for-two room-for-two (lit≤ tt)

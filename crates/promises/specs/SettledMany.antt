@@ -1,5 +1,5 @@
 -- Demand 2: the positions that a message settles, by layer and index, are 2·length − 1 + 2u, distinct, in the tree; the count of a taken
--- message is those for which kd_held did not answer 0 before.
+-- message is those for which kd_held did not answer 0 before. The same for a piece layer.
 -- Assumes nothing.
 use mathlib.Core.Path.{_≡_, refl, ap, ap₂, sym, _∙_}
 use mathlib.Core.Bool.{Bool, true, false, not}
@@ -10,28 +10,32 @@ use native.Mathlib.Omega.{arith}
 use lib.ListN.{length, length-append}
 use lib.Dec.{eqb}
 use borrow.Author.Tests.{eq-eqb, ne-eqb, le-leb, lt-ltb}
+use lib.Pow.{pow-pos}
 use Rattle.sha256.specs.declared.Hashed.{Hashed}
 use Rattle.tree.specs.Geometry.{nodeNumber}
-use Rattle.tree.specs.GeometryLaws.{node-number-distinct}
-use Rattle.tree.specs.Values.{node}
+use Rattle.tree.specs.GeometryLaws.{node-number-distinct, node-number-root}
+use Rattle.tree.specs.Values.{node, layerLeaf}
 use Rattle.cells.specs.Cells.{heldAt}
-use Rattle.cells.specs.Entries.{Entry, oneIf}
-use Rattle.cells.specs.EntriesLaws.{lacks, In, here, there, Apart}
-use Rattle.store.specs.Store.{usable, heightOf, inTree, heldAnswer}
-use Rattle.store.specs.StoreLaws.{held-given, held-not}
+use Rattle.cells.specs.Entries.{Entry, oneIf, newly}
+use Rattle.cells.specs.EntriesLaws.{lacks, In, here, there, Apart, Sound, count-fresh}
+use Rattle.store.specs.Store.{usable, heightOf, inTree, heldAnswer, fileLength, pieceLength, positions}
+use Rattle.store.specs.StoreLaws.{held-given, held-not, Facts, usable-facts}
 use Rattle.runs.specs.Subtree.{subtree}
-use Rattle.runs.specs.SubtreeLaws.{subtree-length}
+use Rattle.runs.specs.SubtreeLaws.{subtree-length, subtree-apart}
 use Rattle.runs.specs.Path.{path}
 use Rattle.runs.specs.PathLaws.{path-length}
 use Rattle.runs.specs.SettledLaws.{settled-apart}
 use Rattle.header.specs.Header.{headerOf, isHashes, placeOf}
 use Rattle.messages.specs.Take.{given, unclesOf, settled, placeIn, takeNumber, takeAnswer}
 use Rattle.messages.specs.TakeLaws.{Passed, passed, placed}
+use Rattle.pieces.specs.Pieces.{layerOfPieces, layerSettled, layerNumber, layerAnswer}
+use Rattle.pieces.specs.PiecesLaws.{Layered, layered, layer-sound, layer-taken}
 use Rattle.promises.specs.TakenWhen.{WellFormed, taken-well-formed}
-use Rattle.promises.specs.TakenEntries.{lacking, count-lacking, count-most}
-use Rattle.promises.specs.Over.{Hashes, Entered, Found}
+use Rattle.promises.specs.TakenEntries.{lacking, count-lacking, count-most, fresh-lacking}
+use Rattle.promises.specs.Over.{Hashes, Entered, Found, over-entered, entry-over}
 use Rattle.promises.specs.Settles.{unclesIn, Settles}
 use Rattle.promises.specs.Positions.{settles-entered, entry-settled}
+use Rattle.promises.specs.JudgedWhen.{LayerFormed, LayerSettles, longer-has, layer-0}
 
 -- a position with its hash
 pub record Spot : Type 0 where
@@ -194,3 +198,60 @@ module _ (s m : List ℕ) (z : takeNumber s m ≡ 0) where
   -- at most 2·length − 2 + 2u
   pub count-bound : takeAnswer s m .count ≤ 2 * headerOf m .len - 2 + 2 * unclesIn m
   count-bound = omega (arith, count-most s m z, run-is s m well, uncles-are s m well)
+
+-- ---- a layer
+
+module _ (s layer : List ℕ) (F : LayerFormed s layer) where
+  facts : Facts s
+  facts = usable-facts s (F .store)
+
+  lies : Layered s
+  lies = layered s facts (longer-has (fileLength s) (pieceLength s) (F .longer))
+
+  reaches : layerOfPieces s + (heightOf s - layerOfPieces s) ≡ heightOf s
+  reaches = omega (arith, lies .above)
+
+  root-is : nodeNumber (heightOf s) (layerOfPieces s + (heightOf s - layerOfPieces s)) 0 ≡ 1
+  root-is = ap (λ (y : ℕ). nodeNumber (heightOf s) y 0) reaches ∙ node-number-root (heightOf s)
+
+  some : 0 < 2 ^ (heightOf s - (layerOfPieces s + (heightOf s - layerOfPieces s)))
+  some = pow-pos (heightOf s - (layerOfPieces s + (heightOf s - layerOfPieces s)))
+
+  layer-entered : (l i : ℕ) (v : List ℕ) → LayerSettles s layer l i v → Entered (heightOf s) (layerSettled s layer) l i v
+  unfolding layerSettled
+  layer-entered l i v x =
+      rw root-is at (over-entered (layerLeaf layer (layerOfPieces s)) (heightOf s) (layerOfPieces s) 0 (heightOf s - layerOfPieces s) (omega (arith, reaches)) some l i v x)
+
+  layer-found : (e : Entry) → In e (layerSettled s layer) → Found (heightOf s) (LayerSettles s layer) (e .at) (e .hash)
+  unfolding layerSettled
+  layer-found e x =
+      entry-over (layerLeaf layer (layerOfPieces s)) (heightOf s) (layerOfPieces s) 0 (heightOf s - layerOfPieces s) (omega (arith, reaches)) some e (rw root-is x)
+
+  apart : Apart (layerSettled s layer)
+  unfolding layerSettled
+  apart = subtree-apart (layerLeaf layer (layerOfPieces s)) (heightOf s - layerOfPieces s) 1 0 (omega arith)
+
+  many : length (layerSettled s layer) ≡ 2 * 2 ^ (heightOf s - layerOfPieces s) - 1
+  unfolding layerSettled
+  many = omega (arith, subtree-length (layerLeaf layer (layerOfPieces s)) (heightOf s - layerOfPieces s) 1 0)
+
+  -- A LAYER SETTLES 2·2^(h − p) − 1 positions, each with one hash
+  pub layer-settles-many : All (LayerSettles s layer) (2 * 2 ^ (heightOf s - layerOfPieces s) - 1)
+  layer-settles-many =
+      all-of (heightOf s) (LayerSettles s layer) (layerSettled s layer) layer-entered layer-found apart (2 * 2 ^ (heightOf s - layerOfPieces s) - 1) many
+
+module _ (s layer : List ℕ) (z : layerNumber s layer ≡ 0) where
+  formed : LayerFormed s layer
+  formed = layer-0 s layer .0 z .0
+
+  sound : Sound (positions (heightOf s)) (layerSettled s layer)
+  sound = layer-sound s layer (lies s layer formed)
+
+  -- THE COUNT of a layer that is loaded: the positions of layer p and above it for which kd_held did not answer 0
+  pub layer-count-unheld : layerAnswer s layer .count ≡ unheld s (layer-settles-many s layer (layer-0 s layer .0 z .0) .spots)
+  unfolding layerAnswer layer-settles-many all-of formed
+  layer-count-unheld =
+      ap (newly (positions (heightOf s)) s) (layer-taken s layer z)
+      ∙ count-fresh (positions (heightOf s)) (layerSettled s layer) s (facts s layer formed .room) sound
+      ∙ fresh-lacking (positions (heightOf s)) (layerSettled s layer) s (facts s layer formed .room) sound (apart s layer formed)
+      ∙ sym (spots-unheld s (formed .store) (LayerSettles s layer) (layerSettled s layer) (layer-found s layer formed))

@@ -13,16 +13,19 @@ use Rattle.octets.specs.Octets.{Octets, be, zeroHash}
 use Rattle.octets.specs.OctetsLaws.{zero-octets, be-octets, append-octets}
 use Rattle.sha256.specs.Sha256.{pairHash}
 use Rattle.sha256.specs.Sha256Laws.{pair-octets}
-use Rattle.tree.specs.Geometry.{ceilDiv, blockCount, heightFrom, height, pieceLayer, isPieceLength}
-use Rattle.tree.specs.Values.{node, leafOf, piecesRoot}
-use Rattle.tree.specs.ValuesLaws.{leaf-octets}
-use Rattle.store.specs.Store.{factsInRange, storeSize, openAnswer, openAfter, opened, positions, heldAnswer}
-use Rattle.store.specs.StoreLaws.{opened-file, opened-facts-root}
+use Rattle.tree.specs.Geometry.{ceilDiv, blockCount, blockSize, heightFrom, height, pieceLayer, isPieceLength}
+use Rattle.tree.specs.Values.{node, leafOf, blockOf, piecesRoot}
+use Rattle.tree.specs.ValuesLaws.{leaf-octets, leaf-block, block-bytes}
+use Rattle.store.specs.Store.{blocksOf, factsInRange, storeSize, openAnswer, openAfter, opened, positions, heldAnswer}
+use Rattle.pieces.specs.Pieces.{blockNumber}
+use Rattle.store.specs.StoreLaws.{Facts, facts-usable, usable-facts, opened-usable, opened-file, opened-facts-root}
 use Rattle.header.specs.declared.Header.{Header}
 use Rattle.header.specs.declared.Place.{Place}
 use Rattle.header.specs.Header.{headerOf, isHashes}
 use Rattle.messages.specs.Take.{given, placeIn, takeNumber, takeAfter}
 use Rattle.messages.specs.TakeLaws.{passed}
+use Rattle.promises.specs.Grows.{Grown, grown-take}
+use Rattle.promises.specs.JudgedWhen.{block-0}
 use Rattle.promises.specs.Held.{Holds}
 use Rattle.promises.specs.History.{Bytes, begin, message, OurStore, ours}
 use Rattle.promises.specs.TakenWhen.{taken-then-right}
@@ -39,10 +42,12 @@ range : factsInRange 32768 16384 ≡ true
 unfolding factsInRange isPieceLength pieceLayer height heightFrom
 range = refl
 
-opens : (buffer : List ℕ) → storeSize 32768 ≤ length buffer → openAnswer buffer 32768 16384 .number ≡ 0
+-- the opening is answered 0,
+pub opens : (buffer : List ℕ) → storeSize 32768 ≤ length buffer → openAnswer buffer 32768 16384 .number ≡ 0
 unfolding openAnswer
 opens buffer fits = rw (range, le-leb (storeSize 32768) (length buffer) fits)
 
+-- and leaves an opened store
 pub open-is : (buffer root : List ℕ) → storeSize 32768 ≤ length buffer → openAfter buffer 32768 16384 root ≡ opened buffer 32768 16384 root
 unfolding openAfter
 open-is buffer root fits = rw (range, le-leb (storeSize 32768) (length buffer) fits)
@@ -179,10 +184,12 @@ zeros zero i = lit< tt
 zeros (suc n) zero = lit< tt
 zeros (suc n) (suc i) = zeros n i
 
-zero-bytes : (n : ℕ) → Bytes (replicate n 0)
+-- any number of zero bytes are bytes
+pub zero-bytes : (n : ℕ) → Bytes (replicate n 0)
 zero-bytes n = record { size = refl; bytes = λ i l. zeros n i }
 
-room-for-two : storeSize 32768 ≤ length {A = ℕ} (replicate 163 0)
+-- and 163 are room for a file of two blocks
+pub room-for-two : storeSize 32768 ≤ length {A = ℕ} (replicate 163 0)
 unfolding storeSize positions height heightFrom blockCount ceilDiv
 room-for-two = lit≤ tt
 
@@ -206,6 +213,74 @@ met file e =
       anchor = anchor-for-the-file file (replicate 163 0) e room-for-two;
     }
 
+-- all of it, with every byte said
 pub a-file-store-and-message :
     Met (replicate 32768 0) (opened (replicate 163 0) 32768 16384 (piecesRoot (replicate 32768 0))) (twoLeaves (leafOf (replicate 32768 0) 0) (leafOf (replicate 32768 0) 1))
 a-file-store-and-message = met (replicate 32768 0) (length-replicate {A = ℕ} 32768 0)
+
+-- ---- and after that message: what the theorems about blocks and pieces ask for, met at once
+
+-- written by this build only, opened for the file, its two leaves given by kd_held, and the file's own first block answered 0
+pub record MetAfter (file s : List ℕ) : Type 0 where
+  pub ours : OurStore s
+  pub opened : For file s
+  pub left : Holds s 0 0 (leafOf file 0)
+  pub right : Holds s 0 1 (leafOf file 1)
+  pub block : blockNumber s 0 (blockOf file 0) ≡ 0
+
+-- for every file of two blocks
+module _ (file buffer : List ℕ) (two-blocks : length file ≡ 32768) (bytes : Bytes buffer) (fits : storeSize 32768 ≤ length buffer) where
+  heard : List ℕ
+  heard = takeAfter (openAfter buffer 32768 16384 (pairHash (leafOf file 0) (leafOf file 1))) (twoLeaves (leafOf file 0) (leafOf file 1))
+
+  begun : List ℕ
+  begun = openAfter buffer 32768 16384 (pairHash (leafOf file 0) (leafOf file 1))
+
+  begun-for : For file begun
+  unfolding begun
+  begun-for = rw (open-is buffer (pairHash (leafOf file 0) (leafOf file 1)) fits, ← root-is file buffer two-blocks fits) (for-the-file file buffer two-blocks fits)
+
+  begun-facts : Facts begun
+  unfolding begun
+  begun-facts =
+      let root = pairHash (leafOf file 0) (leafOf file 1) in
+      rw (open-is buffer root fits) (usable-facts (opened buffer 32768 16384 root) (opened-usable buffer 32768 16384 root range fits (pair-octets (leafOf file 0) (leafOf file 1) .size)))
+
+  grown : Grown begun heard
+  unfolding begun heard
+  grown = grown-take begun (twoLeaves (leafOf file 0) (leafOf file 1)) begun-facts
+
+  heard-for : For file heard
+  heard-for = record { long = grown .same .file ∙ begun-for .long; root = grown .same .root ∙ begun-for .root }
+
+  some-blocks : 0 < blockCount (length file)
+  unfolding blockCount ceilDiv
+  some-blocks = rw two-blocks (lit< tt)
+
+  heard-blocks : 0 < blocksOf heard
+  unfolding blocksOf
+  heard-blocks = rw (heard-for .long) some-blocks
+
+  -- the store after its opening and that message
+  pub met-after : MetAfter file (takeAfter (openAfter buffer 32768 16384 (pairHash (leafOf file 0) (leafOf file 1))) (twoLeaves (leafOf file 0) (leafOf file 1)))
+  unfolding heard
+  met-after =
+      let a = leafOf file 0 in
+      let b = leafOf file 1 in
+      let H = two-leaves-held (leafOf file 0) (leafOf file 1) (leaf-octets file 0) (leaf-octets file 1) buffer bytes fits in
+      record {
+        ours = ours-with-two-leaves (leafOf file 0) (leafOf file 1) (leaf-octets file 0) (leaf-octets file 1) buffer bytes fits;
+        opened = heard-for;
+        left = H .0;
+        right = H .1;
+        block =
+            block-0 heard 0 (blockOf file 0) .1 (
+              record { store = facts-usable heard (grown .facts); inside = heard-blocks; size = block-bytes file 0 ∙ ap (λ (n : ℕ). blockSize n 0) (sym (heard-for .long)) },
+              subst (Holds heard 0 0) (leaf-block file 0 some-blocks) (H .0),
+            );
+      }
+
+-- with every byte said
+pub a-store-after-its-leaves :
+    MetAfter (replicate 32768 0) (takeAfter (openAfter (replicate 163 0) 32768 16384 (pairHash (leafOf (replicate 32768 0) 0) (leafOf (replicate 32768 0) 1))) (twoLeaves (leafOf (replicate 32768 0) 0) (leafOf (replicate 32768 0) 1)))
+a-store-after-its-leaves = met-after (replicate 32768 0) (replicate 163 0) (length-replicate {A = ℕ} 32768 0) (zero-bytes 163) room-for-two

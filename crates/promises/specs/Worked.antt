@@ -182,6 +182,7 @@ no-rule-at-height-0 x b =
     last true c = refl
     last false c = refl
 
+-- a request of 49 bytes for the root of a file of one byte
 pub request-for-one-byte :
     (s m out : List ℕ)
     → usable s ≡ true
