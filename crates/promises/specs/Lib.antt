@@ -47,4 +47,6 @@ pub mod ServedAndTaken
 pub mod SettledMany
 pub mod LayerExample
 pub mod OneOutcome
+pub mod ServedWhen
+pub mod RootAlone
 pub mod InTable
