@@ -83,16 +83,17 @@ module _ (s m out : List ℕ) where
         | no x ↦ let g = fits-not n (rejectTo m) out (omega arith) in untouched 11 (inr (inr refl)) (sr .0 ∙ g .0) (sr .1 ∙ g .1)
       ]
 
+  -- the number of a request, before its room is looked at: 0, 9, 1; or 2, 3, 12
+  pub which-number : ((requestNumber s m ≡ 0) ⊎ ((requestNumber s m ≡ 9) ⊎ (requestNumber s m ≡ 1))) ⊎ ((requestNumber s m ≡ 2) ⊎ ((requestNumber s m ≡ 3) ⊎ (requestNumber s m ≡ 12)))
+  unfolding requestNumber headerNumber
+  which-number =
+      request-values (usable s) (Rattle.header.specs.Header.isRequest m) (same (factsRoot s) (messageRoot m)) (rulesKept (headerOf m) (blocksOf s) (heightOf s))
+      (Rattle.serve.specs.Serve.allHeld s (placeIn s m))
+
   -- every request is answered in one of the three ways
   pub served : Outcome s m out
-  served = by (values)
+  served = by which-number
     where
-      values : ((requestNumber s m ≡ 0) ⊎ ((requestNumber s m ≡ 9) ⊎ (requestNumber s m ≡ 1))) ⊎ ((requestNumber s m ≡ 2) ⊎ ((requestNumber s m ≡ 3) ⊎ (requestNumber s m ≡ 12)))
-      values =
-          unfold requestNumber headerNumber in
-          request-values (usable s) (Rattle.header.specs.Header.isRequest m) (same (factsRoot s) (messageRoot m)) (rulesKept (headerOf m) (blocksOf s) (heightOf s))
-          (Rattle.serve.specs.Serve.allHeld s (placeIn s m))
-
       by : ((requestNumber s m ≡ 0) ⊎ ((requestNumber s m ≡ 9) ⊎ (requestNumber s m ≡ 1))) ⊎ ((requestNumber s m ≡ 2) ⊎ ((requestNumber s m ≡ 3) ⊎ (requestNumber s m ≡ 12))) → Outcome s m out
       by (inl (inl z)) =
           let sr = served-reply s m out z in

@@ -12,7 +12,7 @@ use lib.Dec.{eqb}
 use borrow.Author.Tests.{eq-eqb, eqb-true}
 use Rattle.octets.specs.Octets.{same}
 use Rattle.octets.specs.OctetsLaws.{same-true, same-eq}
-use Rattle.numbers.specs.Numbers.{noMessage, otherRoot, ruleBroken, notHeld, unusable}
+use Rattle.numbers.specs.Numbers.{noMessage, otherRoot, ruleBroken, noRoom, notHeld, unusable}
 use Rattle.numbers.specs.declared.Answer.{Answer}
 use Rattle.tree.specs.Geometry.{height}
 use Rattle.cells.specs.Cells.{heldAt}
@@ -23,13 +23,14 @@ use Rattle.header.specs.Header.{headerOf, messageRoot, isRequest, isReject, rul
 use Rattle.header.specs.HeaderLaws.{Kept, rules-kept, kept-rules}
 use Rattle.messages.specs.Take.{headerNumber, placeIn, orElse, rejectAnswer}
 use Rattle.messages.specs.TakeLaws.{passes}
-use Rattle.serve.specs.Serve.{allHeld, requestNumber, replyTo, serveAnswer}
-use Rattle.serve.specs.ServeLaws.{held-run-all, held-uncles-all, request-zero, served-reply, fits-sent, fits-not}
+use Rattle.serve.specs.Serve.{allHeld, requestNumber, replyTo, rejectTo, serveAnswer}
+use Rattle.serve.specs.ServeLaws.{held-run-all, held-uncles-all, request-zero, fitAnswer, served-none, served-reply, served-reject, answered-form, reject-length, fits-sent, fits-not}
 use Rattle.promises.specs.Held.{Holds}
 use Rattle.promises.specs.Settles.{unclesIn, topLayer, topIndex}
 use Rattle.promises.specs.Again.{what-is-held}
 use Rattle.promises.specs.ReadBack.{run-number, uncle-number, reply-has-header, run-reads-back, uncle-reads-back}
 use Rattle.promises.specs.Differing.{either, not-both}
+use Rattle.promises.specs.Refusals.{which-number}
 use Rattle.promises.specs.Sent.{served-then-valid}
 
 -- exactly 49 bytes, and this id
@@ -294,3 +295,73 @@ module _ (s m : List ℕ) where
       from t =
           let z = request-0 .1 (t .0, t .1) in
           ap (λ (a : Answer). a .number) (served-reply s m out z .0 ∙ fits-sent 0 (replyTo s m) out (omega (arith, size-is z)) .0)
+
+-- ---- room for a reject
+
+-- a request that gets a reject
+abbrev pub Rejected : ℕ → Type 0
+Rejected n = (n ≡ otherRoot) ⊎ ((n ≡ ruleBroken) ⊎ (n ≡ notHeld))
+
+module _ (s m out : List ℕ) where
+  reject-size : (n : ℕ) → requestNumber s m ≡ n → Rejected n → length (rejectTo m) ≡ 49
+  reject-size n e r =
+      reject-length m
+      (answered-form s m
+      (λ z. elim r [ inl a ↦ omega arith | inr b ↦ elim b [ inl a ↦ omega arith | inr a ↦ omega arith ] ])
+      (λ z. elim r [ inl a ↦ omega arith | inr b ↦ elim b [ inl a ↦ omega arith | inr a ↦ omega arith ] ]))
+
+  answer-rejected : (n : ℕ) → requestNumber s m ≡ n → Rejected n → serveAnswer s m out ≡ fitAnswer n (rejectTo m) out
+  answer-rejected n e r =
+      served-reject s m out n e
+      (λ z. elim r [ inl a ↦ omega arith | inr b ↦ elim b [ inl a ↦ omega arith | inr a ↦ omega arith ] ])
+      (λ z. elim r [ inl a ↦ omega arith | inr b ↦ elim b [ inl a ↦ omega arith | inr a ↦ omega arith ] ])
+      (λ z. elim r [ inl a ↦ omega arith | inr b ↦ elim b [ inl a ↦ omega arith | inr a ↦ omega arith ] ]) .0
+
+  with-room : (n : ℕ) → requestNumber s m ≡ n → Rejected n → 49 ≤ length out → serveAnswer s m out .number ≡ n
+  with-room n e r l =
+      ap (λ (a : Answer). a .number) (answer-rejected n e r ∙ fits-sent n (rejectTo m) out (omega (arith, reject-size n e r)) .0)
+
+  without-room : (n : ℕ) → requestNumber s m ≡ n → Rejected n → length out < 49 → serveAnswer s m out .number ≡ noRoom
+  without-room n e r l =
+      ap (λ (a : Answer). a .number) (answer-rejected n e r ∙ fits-not n (rejectTo m) out (omega (arith, reject-size n e r)) .0)
+
+  size-is : requestNumber s m ≡ 0 → length (replyTo s m) ≡ messageSize (headerOf m)
+  size-is z = let h = reply-has-header s m z in h .3 ∙ ap messageSize (h .2)
+
+  cut-short : requestNumber s m ≡ 0 → length out < messageSize (headerOf m) → serveAnswer s m out .number ≡ noRoom
+  cut-short z l = ap (λ (a : Answer). a .number) (served-reply s m out z .0 ∙ fits-not 0 (replyTo s m) out (omega (arith, size-is z)) .0)
+
+  -- what serving answers, by the request's number and the room
+  pub data Answered : Type 0 where
+    sends : requestNumber s m ≡ 0 → messageSize (headerOf m) ≤ length out → serveAnswer s m out .number ≡ 0 → Answered
+    rejects : (n : ℕ) → Rejected n → requestNumber s m ≡ n → 49 ≤ length out → serveAnswer s m out .number ≡ n → Answered
+    lacksRoom : (requestNumber s m ≡ 0) × (length out < messageSize (headerOf m)) → serveAnswer s m out .number ≡ noRoom → Answered
+    lacksRejectRoom : (n : ℕ) → Rejected n → requestNumber s m ≡ n → length out < 49 → serveAnswer s m out .number ≡ noRoom → Answered
+    silent : (n : ℕ) → (n ≡ unusable) ⊎ (n ≡ noMessage) → requestNumber s m ≡ n → serveAnswer s m out .number ≡ n → Answered
+
+  rejected-or-not : (n : ℕ) → Rejected n → requestNumber s m ≡ n → Answered
+  rejected-or-not n r e =
+      elim (decLe 49 (length out)) [
+        | yes y ↦ rejects n r e y (with-room n e r y)
+        | no x ↦ lacksRejectRoom n r e (omega arith) (without-room n e r (omega arith))
+      ]
+
+  -- 9 AND 1 GET NOTHING; 2, 3 AND 12 GET A REJECT where 49 bytes fit, 0 A REPLY where it fits, AND TOO LITTLE ROOM FOR THAT ONE GIVES 11
+  pub answered-by-room : Answered
+  answered-by-room =
+      elim (which-number s m out) [
+        | inl a ↦ elim a [
+          | inl z ↦ elim (decLe (messageSize (headerOf m)) (length out)) [
+            | yes y ↦ sends z y (ap (λ (b : Answer). b .number) (served-reply s m out z .0 ∙ fits-sent 0 (replyTo s m) out (omega (arith, size-is z)) .0))
+            | no x ↦ lacksRoom (z, omega arith) (cut-short z (omega arith))
+          ]
+          | inr b ↦ elim b [
+            | inl z ↦ silent 9 (inl refl) z (ap (λ (c : Answer). c .number) (served-none s m out 9 z (inl refl) .0))
+            | inr z ↦ silent 1 (inr refl) z (ap (λ (c : Answer). c .number) (served-none s m out 1 z (inr refl) .0))
+          ]
+        ]
+        | inr a ↦ elim a [
+          | inl z ↦ rejected-or-not 2 (inl refl) z
+          | inr b ↦ elim b [ inl z ↦ rejected-or-not 3 (inr (inl refl)) z | inr z ↦ rejected-or-not 12 (inr (inr refl)) z ]
+        ]
+      ]
