@@ -1,9 +1,9 @@
 -- Demand 3: a held hash stays held, and the number that a reply gets stays the same at every later offer.
 -- Assumes nothing.
 use mathlib.Core.Path.{_≡_, refl, ap, ap₂, sym, _∙_}
-use mathlib.Core.Bool.{Bool, true, false, cond, _&&_, false≢true}
-use mathlib.Core.List.{List, _++_}
-use Prim.Native.Nat.{ℕ, zero, suc, _+_, _*_, _^_, _≤_, _<_}
+use mathlib.Core.Bool.{Bool, true, false, cond}
+use mathlib.Core.List.{List}
+use Prim.Native.Nat.{ℕ, zero, _^_, _<_}
 use native.Mathlib.Omega.{arith}
 use native.Mathlib.Decide.{ℕ-discrete}
 use lib.ListN.{length}
@@ -11,14 +11,14 @@ use lib.Dec.{eqb}
 use borrow.Author.Tests.{eq-eqb, ne-eqb}
 use Rattle.octets.specs.Octets.{same}
 use Rattle.octets.specs.OctetsLaws.{same-true, same-eq}
-use Rattle.numbers.specs.Numbers.{wrongSize, wrongPadding, noAnchor, differs, conflict, judged}
+use Rattle.numbers.specs.Numbers.{wrongSize, wrongPadding, noAnchor, judged}
 use Rattle.tree.specs.Geometry.{nodeNumber}
 use Rattle.tree.specs.Values.{node}
 use Rattle.cells.specs.Cells.{heldAt, hashAt}
 use Rattle.cells.specs.Entries.{Entry, agreesAt, agrees, putAll}
 use Rattle.cells.specs.EntriesLaws.{Sound, In, sound-in, agrees-held, agrees-free, agrees-in, in-agrees, entries-held}
 use Rattle.store.specs.Store.{usable, factsRoot, blocksOf, heightOf, positions, inTree, heldAnswer}
-use Rattle.store.specs.StoreLaws.{Facts, usable-facts, facts-usable, tree-number, held-unusable, held-outside, held-not, held-given}
+use Rattle.store.specs.StoreLaws.{Facts, usable-facts, facts-usable, tree-number, held-outside, held-not, held-given}
 use Rattle.runs.specs.AncestorLaws.{ancestor-le}
 use Rattle.runs.specs.SubtreeLaws.{within-self}
 use Rattle.runs.specs.SettledLaws.{settled-consistent}
@@ -29,11 +29,12 @@ use Rattle.messages.specs.TakeLaws.{Passed, passed, Placed, placed, Ready, plac
 use Rattle.messages.specs.TakenLaws.{ready-settled, taken-ready}
 use Rattle.promises.specs.Held.{Holds}
 use Rattle.promises.specs.History.{Steps}
-use Rattle.promises.specs.TakenWhen.{taken-then-right, taken-well-formed}
+use Rattle.promises.specs.TakenWhen.{taken-well-formed}
 use Rattle.promises.specs.Grows.{Grown, grown-take, grown-on, steps-grow}
 
 -- ---- a held hash stays held with the same bytes
 
+-- what kd_held answers 0 for is a position of the tree whose cell is held with that hash
 pub what-is-held : (s : List ℕ) (l i : ℕ) (v : List ℕ) → Facts s → Holds s l i v
     → (inTree (heightOf s) l i ≡ true) × (heldAt s (nodeNumber (heightOf s) l i) ≡ true) × (hashAt s (nodeNumber (heightOf s) l i) ≡ v)
 what-is-held s l i v f h = by-place (inTree (heightOf s) l i) refl
@@ -59,7 +60,8 @@ what-is-held s l i v f h = by-place (inTree (heightOf s) l i) refl
         let w : ⊥ = omega (arith, h .given) in
         absurd w
 
-grown-holds : (s t : List ℕ) → Facts s → Grown s t → (l i : ℕ) (v : List ℕ) → Holds s l i v → Holds t l i v
+-- from a store to one that holds at least as much, what is held stays held
+pub grown-holds : (s t : List ℕ) → Facts s → Grown s t → (l i : ℕ) (v : List ℕ) → Holds s l i v → Holds t l i v
 grown-holds s t f g l i v h =
     let w = what-is-held s l i v f h in
     let k = g .kept (nodeNumber (heightOf s) l i) (tree-number (heightOf s) l i (w .0) .1) (w .1) in
@@ -81,7 +83,8 @@ module _ (s t m : List ℕ) (f : Facts s) (g : Grown s t) where
   same-place : placeIn t m ≡ placeIn s m
   same-place = ap (placeOf (headerOf m)) (g .same .layers)
 
-  same-header : (form : Bool) → headerNumber form t m ≡ headerNumber form s m
+  -- with more held, 9, 1, 2 and 3 come out as they did
+  pub same-header : (form : Bool) → headerNumber form t m ≡ headerNumber form s m
   unfolding headerNumber
   same-header form = rw (facts-usable t (g .facts), facts-usable s f, g .same .root, g .same .blocks, g .same .layers)
 
@@ -104,7 +107,7 @@ less-agrees s t L g S a =
         agrees-held s (e .at) (e .hash) h ∙ same-eq (hashAt s (e .at)) (e .hash) (sym (k .1) ∙ w)
 
 -- what is held with an entry's hash agrees with it
-held-agrees : (t : List ℕ) (L : List Entry) → ((e : Entry) → In e L → (heldAt t (e .at) ≡ true) × (hashAt t (e .at) ≡ e .hash)) → agrees t L ≡ true
+pub held-agrees : (t : List ℕ) (L : List Entry) → ((e : Entry) → In e L → (heldAt t (e .at) ≡ true) × (hashAt t (e .at) ≡ e .hash)) → agrees t L ≡ true
 held-agrees t L k =
     in-agrees t L (λ e i. let h = k e i in agrees-held t (e .at) (e .hash) (h .0) ∙ same-eq (hashAt t (e .at)) (e .hash) (h .1))
 
@@ -235,7 +238,8 @@ header-not-6 true true false k e = omega arith
 header-not-6 true false r k e = omega arith
 header-not-6 false form r k e = omega arith
 
-header-number-not-6 : (form : Bool) (s m : List ℕ) → headerNumber form s m ≡ noAnchor → ⊥
+-- 9, 1, 2 and 3 are not 6
+pub header-number-not-6 : (form : Bool) (s m : List ℕ) → headerNumber form s m ≡ noAnchor → ⊥
 unfolding headerNumber
 header-number-not-6 form s m e =
     header-not-6 (usable s) form (same (factsRoot s) (messageRoot m)) (rulesKept (headerOf m) (blocksOf s) (heightOf s)) e

@@ -1,9 +1,8 @@
--- "Its anchor is held" as kd_held answers it: by the layer and the index that 01 gives the anchor; and a store of ours that there is.
+-- "Its anchor is held" as kd_held answers it: by the layer and the index that 01 gives the anchor.
 -- Assumes nothing.
 use mathlib.Core.Path.{_≡_, refl, ap, sym, _∙_}
 use mathlib.Core.Bool.{Bool, true, false}
 use mathlib.Core.List.{List}
-use mathlib.Core.Logic.{_⊎_}
 use Prim.Native.Nat.{ℕ, _+_, _-_, _*_, _/_, _^_, _≤_, _<_}
 use native.Mathlib.Omega.{arith}
 use native.Mathlib.Nat.{div-lt-iff-lt-mul}
@@ -12,29 +11,14 @@ use borrow.Author.Tests.{le-leb, lt-ltb}
 use Rattle.sha256.specs.declared.Hashed.{Hashed}
 use Rattle.tree.specs.Geometry.{height, nodeNumber}
 use Rattle.cells.specs.Cells.{heldAt}
-use Rattle.store.specs.Store.{fileLength, factsRoot, blocksOf, heightOf, inTree, heldAnswer}
+use Rattle.store.specs.Store.{blocksOf, heightOf, inTree, heldAnswer}
 use Rattle.store.specs.StoreLaws.{usable-facts, facts-leaves, held-given, held-not}
 use Rattle.runs.specs.AncestorLaws.{ancestor-number}
-use Rattle.header.specs.Header.{headerOf, isHashes, placeOf}
+use Rattle.header.specs.Header.{headerOf, placeOf}
 use Rattle.header.specs.HeaderLaws.{rules-kept, log-some, top-inside}
-use Rattle.messages.specs.Take.{anchor, placeIn, takeNumber}
-use Rattle.messages.specs.TakeLaws.{Passed, passed}
-use Rattle.serve.specs.Serve.{replyTo, requestNumber}
-use Rattle.promises.specs.History.{OurStore}
-use Rattle.promises.specs.Invariant.{ours-have}
-use Rattle.promises.specs.Conflict.{Shown, heldBy}
-use Rattle.promises.specs.OwnBytes.{ours-bytes}
-use Rattle.promises.specs.Replies.{other-store-reply, header-here, reply-carries}
-
--- 01: u, the anchor's layer, base + log2(length) + u, and the index of the path's position there
-abbrev pub unclesIn : List ℕ → ℕ
-unclesIn m = headerOf m .proof - (height (headerOf m .len) - 1)
-
-abbrev pub anchorLayer : List ℕ → ℕ
-anchorLayer m = headerOf m .base + height (headerOf m .len) + unclesIn m
-
-abbrev pub anchorIndex : List ℕ → ℕ
-anchorIndex m = headerOf m .index / headerOf m .len / 2 ^ unclesIn m
+use Rattle.messages.specs.Take.{anchor, placeIn}
+use Rattle.messages.specs.TakeLaws.{Passed}
+use Rattle.promises.specs.Settles.{unclesIn, anchorLayer, anchorIndex}
 
 module _ (form : Bool) (s m : List ℕ) (P : Passed form s m) where
   -- the anchor's number is that of this layer and index
@@ -77,14 +61,3 @@ module _ (form : Bool) (s m : List ℕ) (P : Passed form s m) where
   pub held-asked : heldAt s (anchor (placeIn s m)) ≡ true → heldAnswer s (anchorLayer m) (anchorIndex m) .number ≡ 0
   held-asked h =
       sym (ap (λ (r : Hashed). r .number) (held-given s (anchorLayer m) (anchorIndex m) (P .store) anchor-in-tree (sym (ap (heldAt s) anchor-number) ∙ h)))
-
--- ---- the promise about another store's reply, with "held" as kd_held answers
-
--- ANOTHER STORE'S REPLY, its anchor held here: taken, or the two stores show two different 64-byte strings with one SHA-256
-pub other-store-reply-taken : {s t : List ℕ} (m : List ℕ) → OurStore s → OurStore t → fileLength s ≡ fileLength t → factsRoot s ≡ factsRoot t
-    → requestNumber s m ≡ 0 → heldAnswer t (anchorLayer (replyTo s m)) (anchorIndex (replyTo s m)) .number ≡ 0
-    → Shown (heightOf t) (heldBy t) (heldBy s) ⊎ (takeNumber t (replyTo s m) ≡ 0)
-other-store-reply-taken {s} {t} m os ot files roots z h =
-    let r = replyTo s m in
-    let p = header-here s t (replyTo s m) (ours-have os) (ours-have ot) (ours-bytes os) (ours-bytes ot) files roots (reply-carries s m z) in
-    other-store-reply m os ot files roots z (asked-held (isHashes (replyTo s m)) t (replyTo s m) (passed (isHashes (replyTo s m)) t (replyTo s m) p) h)

@@ -28,8 +28,8 @@ use Rattle.runs.specs.AncestorLaws.{ancestor-le}
 use Rattle.runs.specs.Span.{Within}
 use Rattle.runs.specs.Subtree.{subtree}
 use Rattle.runs.specs.SubtreeLaws.{within-self, subtree-sound}
-use Rattle.header.specs.Header.{placeOf, headerOf, isHashes, isRequest, messageSize}
-use Rattle.messages.specs.Take.{headerNumber, bodyNumber, padded, anchored, anchor, settled, placeIn, orElse, takeNumber, takeAnswer, takeAfter}
+use Rattle.header.specs.Header.{placeOf, headerOf, isHashes, isRequest, isReject, messageSize}
+use Rattle.messages.specs.Take.{headerNumber, bodyNumber, padded, anchored, anchor, settled, placeIn, orElse, takeNumber, takeAnswer, takeAfter, rejectAnswer}
 use Rattle.messages.specs.TakeLaws.{Placed, passed, placed, placed-ready}
 use Rattle.messages.specs.TakenLaws.{ready-settled}
 use Rattle.serve.specs.Serve.{heldRun, runHashes, heldUncles, uncleHashes, allHeld, allHashes, replyTo, requestNumber, sentBack, serveAnswer, serveAfter}
@@ -46,9 +46,9 @@ module _ (s t : List ℕ) (f : Facts s) (e : cut t 0 (storeSize (fileLength s)) 
   agrees-used (x ∷ L) (more a b k) = rw (used-held s t f e (x .at) a, used-hash s t f e (x .at) a, agrees-used L k)
 
   module _ (m : List ℕ) where
-    header-used : headerNumber (isHashes m) t m ≡ headerNumber (isHashes m) s m
+    header-used : (form : Bool) → headerNumber form t m ≡ headerNumber form s m
     unfolding headerNumber
-    header-used =
+    header-used form =
         rw (facts-usable t (used-facts s t f e), facts-usable s f, used-same s t f e .root, used-same s t f e .blocks, used-same s t f e .layers)
 
     place-used : placeIn t m ≡ placeIn s m
@@ -88,8 +88,13 @@ module _ (s t : List ℕ) (f : Facts s) (e : cut t 0 (storeSize (fileLength s)) 
     pub take-beyond : takeNumber t m ≡ takeNumber s m
     unfolding takeNumber
     take-beyond =
-        ap (λ (n : ℕ). orElse n (bodyNumber t m (headerOf m) (placeIn t m))) header-used
+        ap (λ (n : ℕ). orElse n (bodyNumber t m (headerOf m) (placeIn t m))) (header-used (isHashes m))
         ∙ elim (ℕ-discrete (headerNumber (isHashes m) s m) 0) [ yes z ↦ ap (orElse (headerNumber (isHashes m) s m)) (body-used z) | no ne ↦ rw (ne-eqb (headerNumber (isHashes m) s m) 0 ne) ]
+
+  -- an incoming reject,
+  pub reject-beyond : (m : List ℕ) → rejectAnswer t m ≡ rejectAnswer s m
+  unfolding rejectAnswer
+  reject-beyond m = ap (λ (n : ℕ). record { number = n; count = 0 }) (header-used m (isReject m))
 
   -- a block,
   pub block-beyond : (i : ℕ) (block : List ℕ) → blockNumber t i block ≡ blockNumber s i block
@@ -172,11 +177,6 @@ module _ (s t : List ℕ) (f : Facts s) (e : cut t 0 (storeSize (fileLength s)) 
   uncle-hashes-used (suc u) n l = rw (used-hash s t f e (sibling n) (omega (arith, sibling-near n)), uncle-hashes-used u (n / 2) (omega arith))
 
   module _ (m : List ℕ) where
-    request-header-used : headerNumber (isRequest m) t m ≡ headerNumber (isRequest m) s m
-    unfolding headerNumber
-    request-header-used =
-        rw (facts-usable t (used-facts s t f e), facts-usable s f, used-same s t f e .root, used-same s t f e .blocks, used-same s t f e .layers)
-
     all-held-used : headerNumber (isRequest m) s m ≡ 0 → allHeld t (placeIn s m) ≡ allHeld s (placeIn s m)
     unfolding allHeld
     all-held-used z =
@@ -192,7 +192,7 @@ module _ (s t : List ℕ) (f : Facts s) (e : cut t 0 (storeSize (fileLength s)) 
     request-beyond : requestNumber t m ≡ requestNumber s m
     unfolding requestNumber
     request-beyond =
-        ap (λ (n : ℕ). orElse n (cond (allHeld t (placeIn t m)) 0 notHeld)) request-header-used
+        ap (λ (n : ℕ). orElse n (cond (allHeld t (placeIn t m)) 0 notHeld)) (header-used m (isRequest m))
         ∙ elim (ℕ-discrete (headerNumber (isRequest m) s m) 0) [
           | yes z ↦ rw (place-used m, all-held-used z)
           | no ne ↦ rw (ne-eqb (headerNumber (isRequest m) s m) 0 ne)
@@ -234,9 +234,9 @@ module _ (s t : List ℕ) (f : Facts s) (e : cut t 0 (storeSize (fileLength s)) 
       ]
 
   -- a message leaves the same cells,
-  pub take-leaves : (m : List ℕ) → SameCells (positions (heightOf s)) (takeAfter s m) (takeAfter t m)
+  pub take-leaves-alike : (m : List ℕ) → SameCells (positions (heightOf s)) (takeAfter s m) (takeAfter t m)
   unfolding takeAfter
-  take-leaves m =
+  take-leaves-alike m =
       rw (take-beyond m, place-used m)
       (left-alike (takeNumber s m) (settled m (placeIn s m)) (λ z. let w = taken-well-formed s m z in settled-sound m (w .header) (w .size)))
 
@@ -246,25 +246,27 @@ module _ (s t : List ℕ) (f : Facts s) (e : cut t 0 (storeSize (fileLength s)) 
   take-answer-beyond m =
       ap₂ (λ (n c : ℕ). record { number = n; count = c }) (take-beyond m)
       (ap (λ (h : ℕ). newly (positions h) t (takeAfter t m)) (used-same s t f e .layers)
-      ∙ newly-same (positions (heightOf s)) (positions (heightOf s)) s t (takeAfter s m) (takeAfter t m) (omega arith) cells-used (take-leaves m))
+      ∙ newly-same (positions (heightOf s)) (positions (heightOf s)) s t (takeAfter s m) (takeAfter t m) (omega arith) cells-used (take-leaves-alike m))
 
   -- a layer too
   settled-layer-used : (layer : List ℕ) → layerSettled t layer ≡ layerSettled s layer
   unfolding layerSettled
   settled-layer-used layer = rw (used-same s t f e .layers, layer-of-used)
 
-  pub layer-leaves : (layer : List ℕ) → SameCells (positions (heightOf s)) (layerAfter s layer) (layerAfter t layer)
+  -- a layer leaves the same cells,
+  pub layer-leaves-alike : (layer : List ℕ) → SameCells (positions (heightOf s)) (layerAfter s layer) (layerAfter t layer)
   unfolding layerAfter
-  layer-leaves layer =
+  layer-leaves-alike layer =
       rw (layer-beyond layer, settled-layer-used layer)
       (left-alike (layerNumber s layer) (layerSettled s layer) (λ z. layer-sound s layer (loads-layered s layer (layer-loads s layer z))))
 
+  -- and gets the same answer, the count too
   pub layer-answer-beyond : (layer : List ℕ) → layerAnswer t layer ≡ layerAnswer s layer
   unfolding layerAnswer
   layer-answer-beyond layer =
       ap₂ (λ (n c : ℕ). record { number = n; count = c }) (layer-beyond layer)
       (ap (λ (h : ℕ). newly (positions h) t (layerAfter t layer)) (used-same s t f e .layers)
-      ∙ newly-same (positions (heightOf s)) (positions (heightOf s)) s t (layerAfter s layer) (layerAfter t layer) (omega arith) cells-used (layer-leaves layer))
+      ∙ newly-same (positions (heightOf s)) (positions (heightOf s)) s t (layerAfter s layer) (layerAfter t layer) (omega arith) cells-used (layer-leaves-alike layer))
 
   -- ---- and what stands behind the size stays
 
@@ -276,12 +278,14 @@ module _ (s t : List ℕ) (f : Facts s) (e : cut t 0 (storeSize (fileLength s)) 
         | no ne ↦ rw (ne-eqb n 0 ne)
       ]
 
-  pub take-past : (m : List ℕ) (i : ℕ) → storeSize (fileLength s) ≤ i → getD (takeAfter s m) i 0 ≡ getD s i 0
+  -- bytes behind the store's size stay as they are when a message is heard,
+  pub take-stays-past : (m : List ℕ) (i : ℕ) → storeSize (fileLength s) ≤ i → getD (takeAfter s m) i 0 ≡ getD s i 0
   unfolding takeAfter
-  take-past m =
+  take-stays-past m =
       past-alike (takeNumber s m) (settled m (placeIn s m)) (λ z. let w = taken-well-formed s m z in settled-sound m (w .header) (w .size))
 
-  pub layer-past : (layer : List ℕ) (i : ℕ) → storeSize (fileLength s) ≤ i → getD (layerAfter s layer) i 0 ≡ getD s i 0
+  -- and when a layer is loaded
+  pub layer-stays-past : (layer : List ℕ) (i : ℕ) → storeSize (fileLength s) ≤ i → getD (layerAfter s layer) i 0 ≡ getD s i 0
   unfolding layerAfter
-  layer-past layer =
+  layer-stays-past layer =
       past-alike (layerNumber s layer) (layerSettled s layer) (λ z. layer-sound s layer (loads-layered s layer (layer-loads s layer z)))

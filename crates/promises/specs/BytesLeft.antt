@@ -44,6 +44,7 @@ put-same N n h a b l z c =
           ];
     }
 
+-- entries written into the same cells leave the same cells
 pub putAll-same : (N : ℕ) (L : List Entry) (a b : List ℕ) → Sound N L → SameCells N a b → SameCells N (putAll a L) (putAll b L)
 unfolding putAll
 putAll-same N [] a b none c = c
@@ -53,6 +54,7 @@ same-held : (N : ℕ) (a b : List ℕ) → SameCells N a b → (q : ℕ) → q <
 unfolding heldAt
 same-held N a b c q l = ap (λ (x : ℕ). eqb x 1) (c .same (31 + 33 * q) (omega arith))
 
+-- and as many positions are newly held
 pub newly-same : (N k : ℕ) (a b a′ b′ : List ℕ) → k ≤ N → SameCells N a b → SameCells N a′ b′ → newly k b b′ ≡ newly k a a′
 unfolding newly
 newly-same N zero a b a′ b′ l c d = refl

@@ -81,6 +81,7 @@ climbs-risen hashes i u n v w (right a b c d g e q) =
     let z : c % 2 ≡ 0 → ⊥ = λ y. omega arith in
     rw (parent-odd c d (uncle hashes a) z) (climbs-risen hashes (a + 1) b (c / 2) (pairHash (uncle hashes a) d) g q)
 
+-- a message's hashes chain to the hash that is worked out,
 pub worked-chains : (m : List ℕ) (p : Place) → Chain m p (worked m p)
 unfolding worked
 worked-chains m p =
@@ -90,6 +91,7 @@ worked-chains m p =
       climb = risen-climbs (unclesOf m (2 ^ p .k) (p .u)) 0 (p .u) (p .top) (node (given m (p .k)) (p .k) 0);
     }
 
+-- and to no other
 pub chain-is-worked : (m : List ℕ) (p : Place) (w : List ℕ) → Chain m p w → w ≡ worked m p
 unfolding worked
 chain-is-worked m p w c =
@@ -111,6 +113,7 @@ taken-then-believed s m f z =
     let r = taken-then-right s m f z in
     record { padding = r .padding; held = r .held; chains = rw (r .chains) (worked-chains m (placeIn s m)); agree = r .agree }
 
+-- and a well-formed message that is all this is taken
 pub believed-then-taken : (s m : List ℕ) → WellFormed s m → Believed s m → takeNumber s m ≡ 0
 believed-then-taken s m f b =
     right-then-taken s m f

@@ -48,17 +48,17 @@ pub data Source : Type 0 where
   byPiece : (s : List ℕ) (i : ℕ) (piece : List ℕ) → Source
   ofFile : (file : List ℕ) → Source
 
--- the source has hash v at position n
-unfoldable pub Gives : Source → ℕ → List ℕ → Type 0
-Gives (heldBy s) n v = Hold s n v
-Gives (byMessage s m) n v = Has n v (settled m (placeIn s m))
-Gives (byLayer s layer) n v = Has n v (layerSettled s layer)
-Gives (byPiece s i piece) n v = Has n v (subtree (leafOf piece) (pieceHeight s) (nodeNumber (heightOf s) (pieceHeight s) i) 0)
-Gives (ofFile file) n v = Has n v (subtree (leafOf file) (height (blockCount (length file))) 1 0)
+-- the source has hash v at the position of number n
+unfoldable pub GivesAt : Source → ℕ → List ℕ → Type 0
+GivesAt (heldBy s) n v = Hold s n v
+GivesAt (byMessage s m) n v = Has n v (settled m (placeIn s m))
+GivesAt (byLayer s layer) n v = Has n v (layerSettled s layer)
+GivesAt (byPiece s i piece) n v = Has n v (subtree (leafOf piece) (pieceHeight s) (nodeNumber (heightOf s) (pieceHeight s) i) 0)
+GivesAt (ofFile file) n v = Has n v (subtree (leafOf file) (height (blockCount (length file))) 1 0)
 
--- two different strings of 64 bytes with one SHA-256, both left child then right child of one position of a tree of height h,
--- one as x and one as y has them
-pub record Shown (h : ℕ) (x y : Source) : Type 0 where
+-- two different strings of 64 bytes with one SHA-256, both left child then right child of the position of one number of a tree of
+-- height h, one as x and one as y has them (Shown.antt says it by layer and index)
+pub record ShownAt (h : ℕ) (x y : Source) : Type 0 where
   pub at : ℕ
   pub low : 1 ≤ at
   pub high : 2 * at + 1 < positions h
@@ -66,10 +66,10 @@ pub record Shown (h : ℕ) (x y : Source) : Type 0 where
   pub r : List ℕ
   pub l′ : List ℕ
   pub r′ : List ℕ
-  pub left : Gives x (2 * at) l
-  pub right : Gives x (2 * at + 1) r
-  pub left′ : Gives y (2 * at) l′
-  pub right′ : Gives y (2 * at + 1) r′
+  pub left : GivesAt x (2 * at) l
+  pub right : GivesAt x (2 * at + 1) r
+  pub left′ : GivesAt y (2 * at) l′
+  pub right′ : GivesAt y (2 * at + 1) r′
   pub bytes : Octets 64 (l ++ r)
   pub bytes′ : Octets 64 (l′ ++ r′)
   pub differ : l ++ r ≡ l′ ++ r′ → ⊥
@@ -84,9 +84,9 @@ append-parts a b c d n e = (
 )
 
 module _ (h : ℕ) (x y : Source) (p : ℕ) (low : 1 ≤ p) (high : 2 * p + 1 < positions h) (l r l2 r2 : List ℕ)
-    (gl : Gives x (2 * p) l) (gr : Gives x (2 * p + 1) r) (gl2 : Gives y (2 * p) l2) (gr2 : Gives y (2 * p + 1) r2)
+    (gl : GivesAt x (2 * p) l) (gr : GivesAt x (2 * p + 1) r) (gl2 : GivesAt y (2 * p) l2) (gr2 : GivesAt y (2 * p + 1) r2)
     (ol : Octets 32 l) (or : Octets 32 r) (ol2 : Octets 32 l2) (or2 : Octets 32 r2) (e : pairHash l r ≡ pairHash l2 r2) where
-  shows : (l ++ r ≡ l2 ++ r2 → ⊥) → Shown h x y
+  shows : (l ++ r ≡ l2 ++ r2 → ⊥) → ShownAt h x y
   unfolding pairHash
   shows d =
       record {
@@ -108,13 +108,13 @@ module _ (h : ℕ) (x y : Source) (p : ℕ) (low : 1 ≤ p) (high : 2 * p + 1 < 
       }
 
   -- two pairs of children of p with one hash are the same, or show it
-  pub same-or-shown : Shown h x y ⊎ ((l ≡ l2) × (r ≡ r2))
+  pub same-or-shown : ShownAt h x y ⊎ ((l ≡ l2) × (r ≡ r2))
   same-or-shown = by (same l l2) (same r r2) refl refl
     where
       n : length l ≡ length l2
       n = ol .size ∙ sym (ol2 .size)
 
-      by : (a b : Bool) → same l l2 ≡ a → same r r2 ≡ b → Shown h x y ⊎ ((l ≡ l2) × (r ≡ r2))
+      by : (a b : Bool) → same l l2 ≡ a → same r r2 ≡ b → ShownAt h x y ⊎ ((l ≡ l2) × (r ≡ r2))
       by false b p q = inl (shows (λ z. same-false l l2 p (append-parts l r l2 r2 n z .0)))
       by true false p q = inl (shows (λ z. same-false r r2 q (append-parts l r l2 r2 n z .1)))
       by true true p q = inr (same-true l l2 p, same-true r r2 q)
@@ -127,12 +127,12 @@ hash-octets s n f b l = cut-octets (32 + 33 * n) 32 b (omega (arith, f .room))
 -- ---- a list against a store
 
 module _ (s : List ℕ) (y : Source) (L : List Entry) (a : ℕ) (v : List ℕ) (c : Chained s) (bytes : Bytes s)
-    (w : Whole (positions (heightOf s)) a L) (gives : (n : ℕ) (u : List ℕ) → Has n u L → Gives y n u)
+    (w : Whole (positions (heightOf s)) a L) (gives : (n : ℕ) (u : List ℕ) → Has n u L → GivesAt y n u)
     (octets : (e : Entry) → In e L → Octets 32 (e .hash)) (top : Has a v L) (held : heldAt s a ≡ true) (agree : hashAt s a ≡ v) where
   -- an entry at q, its family in L, its parent agreeing
   child : (e : Entry) → In e L → heldAt s (e .at) ≡ true → (F : FamilyIn L (e .at)) → agreesAt s (e .at / 2) (pairHash (F .l) (F .r)) ≡ true
-      → Shown (heightOf s) (heldBy s) y ⊎ (agreesAt s (e .at) (e .hash) ≡ true)
-  unfolding Gives
+      → ShownAt (heightOf s) (heldBy s) y ⊎ (agreesAt s (e .at) (e .hash) ≡ true)
+  unfolding GivesAt
   child e i h F ok =
       let q = e .at in
       let p = e .at / 2 in
@@ -156,7 +156,7 @@ module _ (s : List ℕ) (y : Source) (L : List Entry) (a : ℕ) (v : List ℕ) (
         ]
       ]
 
-  each : (d : ℕ) (e : Entry) → In e L → e .at ≤ d → Shown (heightOf s) (heldBy s) y ⊎ (agreesAt s (e .at) (e .hash) ≡ true)
+  each : (d : ℕ) (e : Entry) → In e L → e .at ≤ d → ShownAt (heightOf s) (heldBy s) y ⊎ (agreesAt s (e .at) (e .hash) ≡ true)
   each zero e i l = let z : ⊥ = omega (arith, w .from e i) in absurd z
   each (suc d) e i l =
       elim (w .family e i) [
@@ -166,13 +166,13 @@ module _ (s : List ℕ) (y : Source) (L : List Entry) (a : ℕ) (v : List ℕ) (
         | inr F ↦ by F (heldAt s (e .at)) refl (each d (record { at = e .at / 2; hash = pairHash (F .l) (F .r) }) (F .parent) (omega (arith, w .from e i)))
       ]
     where
-      by : (F : FamilyIn L (e .at)) (b : Bool) → heldAt s (e .at) ≡ b → Shown (heightOf s) (heldBy s) y ⊎ (agreesAt s (e .at / 2) (pairHash (F .l) (F .r)) ≡ true)
-          → Shown (heightOf s) (heldBy s) y ⊎ (agreesAt s (e .at) (e .hash) ≡ true)
+      by : (F : FamilyIn L (e .at)) (b : Bool) → heldAt s (e .at) ≡ b → ShownAt (heightOf s) (heldBy s) y ⊎ (agreesAt s (e .at / 2) (pairHash (F .l) (F .r)) ≡ true)
+          → ShownAt (heightOf s) (heldBy s) y ⊎ (agreesAt s (e .at) (e .hash) ≡ true)
       by F false h o = inr (agrees-free s (e .at) (e .hash) h)
       by F true h (inl x) = inl x
       by F true h (inr ok) = child e i h F ok
 
-  all : (M : List Entry) → ((e : Entry) → In e M → In e L) → Shown (heightOf s) (heldBy s) y ⊎ (agrees s M ≡ true)
+  all : (M : List Entry) → ((e : Entry) → In e M → In e L) → ShownAt (heightOf s) (heldBy s) y ⊎ (agrees s M ≡ true)
   unfolding agrees
   all [] f = inr refl
   all (e ∷ M) f =
@@ -182,7 +182,7 @@ module _ (s : List ℕ) (y : Source) (L : List Entry) (a : ℕ) (v : List ℕ) (
       ]
 
   -- where the anchor agrees, all does, or a pair is shown
-  pub agrees-or-shown : Shown (heightOf s) (heldBy s) y ⊎ (agrees s L ≡ true)
+  pub agrees-or-shown : ShownAt (heightOf s) (heldBy s) y ⊎ (agrees s L ≡ true)
   agrees-or-shown = all L (λ e i. i)
 
 -- ---- what is given and worked out are strings of bytes
@@ -271,7 +271,8 @@ pub record Conflicts (s m : List ℕ) : Type 0 where
   pub chains : hashAt s (anchor (placeIn s m)) ≡ worked m (placeIn s m)
   pub differs : agrees s (settled m (placeIn s m)) ≡ false
 
-take-conflicts : (s m : List ℕ) → takeNumber s m ≡ conflict → Conflicts s m
+-- so is every message that gets 8
+pub take-conflicts : (s m : List ℕ) → takeNumber s m ≡ conflict → Conflicts s m
 unfolding takeNumber bodyNumber anchored headerNumber
 take-conflicts s m e =
     let p = placeIn s m in
@@ -306,8 +307,8 @@ anchor-has m s =
 -- where a well-formed message's anchor is held with the value that its hashes chain to, no held hash differs, or a pair is shown
 pub message-or-shown : (s m : List ℕ) → Chained s → Bytes s → Bytes m → headerNumber (isHashes m) s m ≡ 0 → length m ≡ messageSize (headerOf m)
     → heldAt s (anchor (placeIn s m)) ≡ true → hashAt s (anchor (placeIn s m)) ≡ worked m (placeIn s m)
-    → Shown (heightOf s) (heldBy s) (byMessage s m) ⊎ (agrees s (settled m (placeIn s m)) ≡ true)
-unfolding Gives
+    → ShownAt (heightOf s) (heldBy s) (byMessage s m) ⊎ (agrees s (settled m (placeIn s m)) ≡ true)
+unfolding GivesAt
 message-or-shown s m c bs bm h e k v =
     let r = well-ready s m h e in
     agrees-or-shown s (byMessage s m) (settled m (placeIn s m)) (anchor (placeIn s m)) (worked m (placeIn s m)) c bs (message-whole s m r) (λ n u x. x)
@@ -318,14 +319,14 @@ not-both b f (inl x) = x
 not-both b f (inr t) = absurd (false≢true (sym f ∙ t))
 
 -- CONFLICT SHOWS A PAIR: a message
-pub conflict-shows : (s m : List ℕ) → Ours s → Bytes s → Bytes m → takeNumber s m ≡ conflict → Shown (heightOf s) (heldBy s) (byMessage s m)
+pub conflict-shows : (s m : List ℕ) → Ours s → Bytes s → Bytes m → takeNumber s m ≡ conflict → ShownAt (heightOf s) (heldBy s) (byMessage s m)
 conflict-shows s m o bs bm e =
     let q = take-conflicts s m e in
     not-both (agrees s (settled m (placeIn s m))) (q .differs) (message-or-shown s m (o .chained) bs bm (q .header) (q .size) (q .held) (q .chains))
 
 -- a layer
-pub layer-conflict-shows : (s layer : List ℕ) → Ours s → Bytes s → Bytes layer → layerNumber s layer ≡ conflict → Shown (heightOf s) (heldBy s) (byLayer s layer)
-unfolding layerNumber judgedAt Gives layerSettled
+pub layer-conflict-shows : (s layer : List ℕ) → Ours s → Bytes s → Bytes layer → layerNumber s layer ≡ conflict → ShownAt (heightOf s) (heldBy s) (byLayer s layer)
+unfolding layerNumber judgedAt GivesAt layerSettled
 layer-conflict-shows s layer o bs bl e =
     let leaf = layerLeaf layer (layerOfPieces s) in
     let k = heightOf s - layerOfPieces s in
@@ -340,8 +341,8 @@ layer-conflict-shows s layer o bs bl e =
 
 -- a piece
 pub piece-conflict-shows : (s : List ℕ) (i : ℕ) (piece : List ℕ) → Ours s → Bytes s → pieceNumber s i piece ≡ conflict
-    → Shown (heightOf s) (heldBy s) (byPiece s i piece)
-unfolding pieceNumber judgedAt Gives
+    → ShownAt (heightOf s) (heldBy s) (byPiece s i piece)
+unfolding pieceNumber judgedAt GivesAt
 piece-conflict-shows s i piece o bs e =
     let leaf = leafOf piece in
     let k = pieceHeight s in

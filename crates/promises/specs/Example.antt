@@ -2,42 +2,39 @@
 -- messages is said of something.
 -- Assumes nothing.
 use mathlib.Core.Path.{_≡_, refl, ap, ap₂, sym, _∙_}
-use mathlib.Core.Bool.{Bool, true, false, cond, not, _&&_}
-use mathlib.Core.List.{List, [], _∷_, _++_, append-assoc}
-use Prim.Native.Nat.{ℕ, zero, suc, _+_, _-_, _*_, _/_, _%_, _^_, _≤_, _<_}
-use native.Mathlib.Omega.{arith}
-use lib.ListN.{length, getD, take, drop, length-append, List·getD-append}
-use lib.Seq.{take-at, drop-at, take-all, getD-append-add}
-use lib.Dec.{eqb, leb, lit<, lit≤}
-use Rattle.octets.specs.Octets.{Octets, cut, same, numberAt, zeroHash}
-use Rattle.octets.specs.OctetsLaws.{same-eq, number-same}
+use mathlib.Core.Bool.{true}
+use mathlib.Core.List.{List, [], _∷_, _++_}
+use Prim.Native.Nat.{ℕ, _≤_, _<_}
+use lib.ListN.{length}
+use lib.Dec.{eqb, lit<, lit≤}
+use Rattle.octets.specs.Octets.{Octets, numberAt}
+use Rattle.octets.specs.OctetsLaws.{same-eq}
 use Rattle.sha256.specs.Sha256.{pairHash}
 use Rattle.sha256.specs.Sha256Laws.{pair-octets}
 use Rattle.tree.specs.Geometry.{ceilDiv, blockCount, heightFrom, height, nodeNumber, covering, pieceLayer, isPieceLength}
 use Rattle.tree.specs.Values.{node}
 use Rattle.cells.specs.Cells.{heldAt, hashAt}
-use Rattle.cells.specs.Entries.{agreesAt, agrees}
+use Rattle.cells.specs.Entries.{agrees}
 use Rattle.cells.specs.EntriesLaws.{lacks, agrees-held, agrees-free}
-use Rattle.store.specs.Store.{usable, factsRoot, blocksOf, heightOf, positions, factsInRange, storeSize, opened}
+use Rattle.store.specs.Store.{blocksOf, heightOf, positions, factsInRange, storeSize, opened}
 use Rattle.store.specs.StoreLaws.{opened-usable, opened-facts-root, opened-blocks, opened-height, opened-held, opened-hash}
-use Rattle.runs.specs.Subtree.{subtree, runLeaf}
-use Rattle.runs.specs.SubtreeLaws.{run-leaf-in}
+use Rattle.runs.specs.Subtree.{subtree}
 use Rattle.runs.specs.Path.{ancestor, risen, path}
 use Rattle.header.specs.declared.Header.{Header}
 use Rattle.header.specs.declared.Place.{Place}
-use Rattle.header.specs.Header.{isHashes, headerOf, messageRoot, messageSize, placeOf, rulesKept, lengthRule, indexRule}
+use Rattle.header.specs.Header.{headerOf, messageSize, placeOf, rulesKept, lengthRule, indexRule}
 use Rattle.messages.specs.Padded.{allFrom, runPadded, unclesPadded}
-use Rattle.messages.specs.Take.{headerNumber, runOf, unclesOf, given, settled, anchor, worked, padded, takeNumber, takeAnswer, placeIn}
-use Rattle.messages.specs.TakeLaws.{Passed, passes}
+use Rattle.messages.specs.Take.{given, settled, anchor, worked, padded, takeNumber, takeAnswer, placeIn}
 use Rattle.promises.specs.TakenWhen.{WellFormed, Right, right-then-taken}
-use Rattle.promises.specs.Settles.{lacking, count-lacking}
+use Rattle.promises.specs.Offered.{twoHashes, offered-header, first-hash, second-hash, two-size, well-formed-in}
+use Rattle.promises.specs.TakenEntries.{lacking, count-lacking}
 
 abbrev numbers : List ℕ
 numbers = 0 ∷ 0 ∷ 0 ∷ 0 ∷ 0 ∷ 0 ∷ 0 ∷ 0 ∷ 0 ∷ 0 ∷ 0 ∷ 2 ∷ 0 ∷ 0 ∷ 0 ∷ 0 ∷ []
 
 -- (0,0,2,0): the two leaves of a file of two blocks
 abbrev pub twoLeaves : List ℕ → List ℕ → List ℕ
-twoLeaves a b = 22 ∷ (pairHash a b ++ (numbers ++ (a ++ b)))
+twoLeaves a b = twoHashes (pairHash a b) numbers a b
 
 abbrev two : Header
 two = record { base = 0; index = 0; len = 2; proof = 0 }
@@ -49,60 +46,17 @@ module _ (a b : List ℕ) (oa : Octets 32 a) (ob : Octets 32 b) where
   root-size : length (pairHash a b) ≡ 32
   root-size = pair-octets a b .size
 
-  at-numbers : (i : ℕ) → i < 16 → getD (twoLeaves a b) (33 + i) 0 ≡ getD numbers i 0
-  at-numbers i h =
-      let e : 33 + i ≡ suc (length (pairHash a b) + i) = omega (arith, root-size) in
-      ap (λ (n : ℕ). getD (twoLeaves a b) n 0) e ∙ getD-append-add (pairHash a b) (numbers ++ (a ++ b)) i 0 ∙ List·getD-append numbers (a ++ b) 0 i h
+  pub header-two : headerOf (twoLeaves a b) ≡ two
+  unfolding numberAt
+  header-two = offered-header (pairHash a b) numbers (a ++ b) root-size refl
 
-  number-at : (at : ℕ) → at + 4 ≤ 16 → numberAt (twoLeaves a b) (33 + at) 4 ≡ numberAt numbers at 4
-  number-at at h =
-      number-same (twoLeaves a b) numbers (33 + at) at 4
-      (λ i l. let e : 33 + at + i ≡ 33 + (at + i) = omega arith in ap (λ (n : ℕ). getD (twoLeaves a b) n 0) e ∙ at-numbers (at + i) (omega arith))
+  -- its first hash,
+  pub first : given (twoLeaves a b) 1 0 ≡ a
+  first = first-hash (pairHash a b) numbers a b root-size refl (oa .size) (ob .size)
 
-  header-is : headerOf (twoLeaves a b) ≡ two
-  unfolding headerOf
-  header-is =
-      let n0 : numberAt (twoLeaves a b) 33 4 ≡ 0 = number-at 0 (lit≤ tt) ∙ unfold numberAt in refl in
-      let n1 : numberAt (twoLeaves a b) 37 4 ≡ 0 = number-at 4 (lit≤ tt) ∙ unfold numberAt in refl in
-      let n2 : numberAt (twoLeaves a b) 41 4 ≡ 2 = number-at 8 (lit≤ tt) ∙ unfold numberAt in refl in
-      let n3 : numberAt (twoLeaves a b) 45 4 ≡ 0 = number-at 12 (lit≤ tt) ∙ unfold numberAt in refl in
-      cc
-
-  root-is : messageRoot (twoLeaves a b) ≡ pairHash a b
-  unfolding messageRoot cut
-  root-is = take-at (pairHash a b) (numbers ++ (a ++ b)) 32 root-size
-
-  size-is : length (twoLeaves a b) ≡ 113
-  size-is =
-      omega (
-        arith,
-        root-size,
-        length-append (pairHash a b) (numbers ++ (a ++ b)),
-        length-append numbers (a ++ b),
-        length-append a b,
-        oa .size,
-        ob .size,
-      )
-
-  run-is : runOf (twoLeaves a b) 2 ≡ a ++ b
-  unfolding runOf cut
-  run-is =
-      let l : length (pairHash a b ++ numbers) ≡ 48 = length-append (pairHash a b) numbers ∙ omega (arith, root-size) in
-      let d : drop 48 (pairHash a b ++ (numbers ++ (a ++ b))) ≡ a ++ b = ap (drop 48) (sym (append-assoc (pairHash a b) numbers (a ++ b))) ∙ drop-at (pairHash a b ++ numbers) (a ++ b) 48 l in
-      ap (take 64) d ∙ take-all 64 (a ++ b) (omega (arith, length-append a b, oa .size, ob .size))
-
-  run-size : length (runOf (twoLeaves a b) 2) ≡ 64
-  run-size = ap length run-is ∙ omega (arith, length-append a b, oa .size, ob .size)
-
-  first : given (twoLeaves a b) 1 0 ≡ a
-  unfolding given
-  first = run-leaf-in (runOf (twoLeaves a b) 2) zeroHash 0 (omega (arith, run-size)) ∙ ap (λ (l : List ℕ). cut l 0 32) run-is ∙ unfold cut in take-at a b 32 (oa .size)
-
-  second : given (twoLeaves a b) 1 1 ≡ b
-  unfolding given
-  second =
-      run-leaf-in (runOf (twoLeaves a b) 2) zeroHash 1 (omega (arith, run-size)) ∙ ap (λ (l : List ℕ). cut l 32 32) run-is
-      ∙ unfold cut in (ap (take 32) (drop-at a b 32 (oa .size)) ∙ take-all 32 b (omega (arith, ob .size)))
+  -- and its second
+  pub second : given (twoLeaves a b) 1 1 ≡ b
+  second = second-hash (pairHash a b) numbers a b root-size refl (oa .size) (ob .size)
 
   module _ (buffer : List ℕ) (fits : storeSize 32768 ≤ length buffer) where
     fresh : List ℕ
@@ -130,22 +84,13 @@ module _ (a b : List ℕ) (oa : Octets 32 a) (ob : Octets 32 b) where
 
     place-is : placeIn fresh (twoLeaves a b) ≡ below-root
     unfolding placeOf nodeNumber height heightFrom
-    place-is = ap₂ (λ (x : Header) (h : ℕ). placeOf x h) header-is high
+    place-is = ap₂ (λ (x : Header) (h : ℕ). placeOf x h) header-two high
 
     well : WellFormed fresh (twoLeaves a b)
-    unfolding fresh isHashes messageSize rulesKept lengthRule indexRule covering ceilDiv height heightFrom
+    unfolding fresh messageSize rulesKept lengthRule indexRule covering ceilDiv height heightFrom
     well =
-        record {
-          header =
-              passes (isHashes (twoLeaves a b)) fresh (twoLeaves a b)
-              (record {
-                store = opened-usable buffer 32768 16384 (pairHash a b) range fits root-size;
-                formed = rw size-is;
-                root = same-eq (factsRoot fresh) (messageRoot (twoLeaves a b)) (opened-facts-root buffer 32768 16384 (pairHash a b) range fits root-size ∙ sym root-is);
-                rules = rw (header-is, blocks, high);
-              });
-          size = size-is ∙ sym (ap messageSize header-is);
-        }
+        well-formed-in (pairHash a b) numbers (a ++ b) root-size refl fresh two 2 1 header-two
+        (opened-usable buffer 32768 16384 (pairHash a b) range fits root-size) (opened-facts-root buffer 32768 16384 (pairHash a b) range fits root-size) blocks high refl (sym (two-size (pairHash a b) numbers a b root-size refl (oa .size) (ob .size)))
 
     settled-agree : agrees fresh (settled (twoLeaves a b) below-root) ≡ true
     unfolding fresh agrees settled subtree path node
@@ -162,7 +107,7 @@ module _ (a b : List ℕ) (oa : Octets 32 a) (ob : Octets 32 b) where
     unfolding fresh padded runPadded allFrom unclesPadded covering ceilDiv anchor ancestor worked risen node
     right =
         record {
-          padding = rw (place-is, header-is, blocks);
+          padding = rw (place-is, header-two, blocks);
           held = rw place-is (held 1 (lit≤ tt) (lit< tt));
           chains = rw place-is (opened-hash buffer 32768 16384 (pairHash a b) range fits root-size ∙ sym (ap₂ pairHash first second));
           agree = rw place-is settled-agree;
@@ -178,3 +123,16 @@ module _ (a b : List ℕ) (oa : Octets 32 a) (ob : Octets 32 b) where
       where
         two-new : lacking fresh (settled (twoLeaves a b) below-root) ≡ 2
         two-new = unfold lacking settled subtree path lacks in rw (held 2 (lit≤ tt) (lit< tt), held 3 (lit≤ tt) (lit< tt), held 1 (lit≤ tt) (lit< tt))
+
+    -- the same for who wants to go on from there: it is taken, well-formed, and its place is the two leaves below the root
+    pub two-taken : takeNumber (opened buffer 32768 16384 (pairHash a b)) (twoLeaves a b) ≡ 0
+    unfolding fresh
+    two-taken = taken
+
+    pub two-well-formed : WellFormed (opened buffer 32768 16384 (pairHash a b)) (twoLeaves a b)
+    unfolding fresh
+    two-well-formed = well
+
+    pub two-place : placeIn (opened buffer 32768 16384 (pairHash a b)) (twoLeaves a b) ≡ record { k = 1; u = 0; top = 1 }
+    unfolding fresh
+    two-place = place-is

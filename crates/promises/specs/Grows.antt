@@ -21,7 +21,7 @@ use Rattle.messages.specs.Take.{unclesOf, given, settled, placeIn, takeNumber, 
 use Rattle.messages.specs.TakenLaws.{ready-settled, taken-ready}
 use Rattle.pieces.specs.Pieces.{layerNumber, layerAfter}
 use Rattle.pieces.specs.PiecesLaws.{layer-refused, layer-same-facts, layer-facts, layer-keeps}
-use Rattle.promises.specs.History.{Bytes, Steps, begin, message, layer, looked, reopened}
+use Rattle.promises.specs.History.{Bytes, Steps, begin, message, reject-heard, request-served, hash-asked, layer, block-judged, piece-judged, reopened}
 use Rattle.promises.specs.TakenWhen.{taken-then-right, taken-well-formed}
 
 -- the facts are the same, and what s holds t holds with the same bytes
@@ -30,6 +30,7 @@ pub record Grown (s t : List ℕ) : Type 0 where
   pub facts : Facts t
   pub kept : (q : ℕ) → q < positions (heightOf s) → heldAt s q ≡ true → (heldAt t q ≡ true) × (hashAt t q ≡ hashAt s q)
 
+-- nothing done
 pub grown-same : (s : List ℕ) → Facts s → Grown s s
 grown-same s f =
     record {
@@ -38,6 +39,7 @@ grown-same s f =
       kept = λ q l h. (h, refl);
     }
 
+-- one after the other
 pub grown-on : {s t u : List ℕ} → Grown s t → Grown t u → Grown s u
 grown-on {s} {t} {u} a b =
     record {
@@ -73,6 +75,7 @@ from-in : (L : List Entry) → ((e : Entry) → In e L → 1 ≤ e .at) → From
 from-in [] k = empty
 from-in (e ∷ L) k = next (k e here) (from-in L (λ f i. k f (there i)))
 
+-- a taken message writes no byte of the facts
 pub settled-from-root : (s m : List ℕ) → takeNumber s m ≡ 0 → FromRoot (settled m (placeIn s m))
 unfolding settled
 settled-from-root s m z =
@@ -80,6 +83,7 @@ settled-from-root s m z =
     let r = taken-ready s m (takeNumber s m) refl z in
     from-in _ (λ e i. settled-positive (given m (p .k)) (unclesOf m (2 ^ p .k) (p .u)) (p .k) (p .top) 0 0 (p .u) (node (given m (p .k)) (p .k) 0) (r .anchor) e i)
 
+-- a message, whatever it gets
 pub grown-take : (s m : List ℕ) → Facts s → Grown s (takeAfter s m)
 unfolding takeAfter
 grown-take s m f =
@@ -92,6 +96,7 @@ grown-take s m f =
       | no ne ↦ rw (ne-eqb (takeNumber s m) 0 ne) (grown-same s f)
     ]
 
+-- a layer, whatever it gets
 pub grown-layer : (s l : List ℕ) → Facts s → Grown s (layerAfter s l)
 grown-layer s l f =
     elim (ℕ-discrete (layerNumber s l) 0) [
@@ -114,5 +119,9 @@ pub steps-grow : {s t : List ℕ} → Facts s → Steps s t → Grown s t
 steps-grow {s} f begin = grown-same s f
 steps-grow f (message {t = t} m b h) = let g = steps-grow f h in grown-on g (grown-take t m (g .facts))
 steps-grow f (layer {t = t} l b h) = let g = steps-grow f h in grown-on g (grown-layer t l (g .facts))
-steps-grow f (looked h) = steps-grow f h
+steps-grow f (reject-heard m x h) = steps-grow f h
+steps-grow f (request-served m out x y h) = steps-grow f h
+steps-grow f (hash-asked l i h) = steps-grow f h
+steps-grow f (block-judged i d x h) = steps-grow f h
+steps-grow f (piece-judged i d x h) = steps-grow f h
 steps-grow f (reopened {t = t} n plen root ne h) = rw (reopen-refused t n plen root ne) (steps-grow f h)

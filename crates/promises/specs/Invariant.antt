@@ -31,7 +31,7 @@ use Rattle.messages.specs.TakeLaws.{Ready, passed}
 use Rattle.messages.specs.TakenLaws.{ready-settled, taken-ready}
 use Rattle.pieces.specs.Pieces.{layerOfPieces, layerSettled, layerNumber, layerAfter, pieceHeight}
 use Rattle.pieces.specs.PiecesLaws.{Layered, Placed, layer-loads, loads-layered, layer-sound, layer-refused, layer-taken, piece-within}
-use Rattle.promises.specs.History.{Steps, begin, message, layer, looked, reopened, OurStore, ours}
+use Rattle.promises.specs.History.{Steps, begin, message, reject-heard, request-served, hash-asked, layer, block-judged, piece-judged, reopened, OurStore, ours}
 use Rattle.promises.specs.TakenWhen.{taken-then-right, taken-well-formed}
 use Rattle.promises.specs.Grows.{reopen-refused}
 use Rattle.promises.specs.RightPadding.{Pads, at-place, settled-pads}
@@ -263,7 +263,11 @@ pub chained-steps : {s t : List ℕ} → Chained s → Steps s t → Chained t
 chained-steps c begin = c
 chained-steps c (message {t = t} m b h) = chained-take t m (chained-steps c h)
 chained-steps c (layer {t = t} l b h) = chained-layer t l (chained-steps c h)
-chained-steps c (looked h) = chained-steps c h
+chained-steps c (reject-heard m x h) = chained-steps c h
+chained-steps c (request-served m out x y h) = chained-steps c h
+chained-steps c (hash-asked l i h) = chained-steps c h
+chained-steps c (block-judged i d x h) = chained-steps c h
+chained-steps c (piece-judged i d x h) = chained-steps c h
 chained-steps c (reopened {t = t} n plen root ne h) = rw (reopen-refused t n plen root ne) (chained-steps c h)
 
 -- so every store that only this build has written
@@ -371,7 +375,11 @@ pub ours-steps : {s t : List ℕ} → Ours s → Steps s t → Ours t
 ours-steps o begin = o
 ours-steps o (message {t = t} m b h) = ours-take t m (ours-steps o h)
 ours-steps o (layer {t = t} l b h) = ours-layer t l (ours-steps o h)
-ours-steps o (looked h) = ours-steps o h
+ours-steps o (reject-heard m x h) = ours-steps o h
+ours-steps o (request-served m out x y h) = ours-steps o h
+ours-steps o (hash-asked l i h) = ours-steps o h
+ours-steps o (block-judged i d x h) = ours-steps o h
+ours-steps o (piece-judged i d x h) = ours-steps o h
 ours-steps o (reopened {t = t} n plen root ne h) = rw (reopen-refused t n plen root ne) (ours-steps o h)
 
 -- A STORE THAT ONLY THIS BUILD HAS WRITTEN has the four clauses

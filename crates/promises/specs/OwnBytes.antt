@@ -11,7 +11,6 @@ use lib.Dec.{leb}
 use borrow.Author.Tests.{eq-eqb, ne-eqb, leb-true}
 use Rattle.octets.specs.Octets.{Octets, pasted, be, zeroed}
 use Rattle.octets.specs.OctetsLaws.{pasted-length, getD-pasted-before, getD-pasted-in, getD-pasted-after, append-octets, be-octets, zeroed-length, zeroed-at, zeroed-past}
-use Rattle.numbers.specs.Numbers.{conflict}
 use Rattle.cells.specs.Cells.{Room, put}
 use Rattle.cells.specs.CellsLaws.{put-room}
 use Rattle.cells.specs.Entries.{Entry, putAll}
@@ -21,12 +20,12 @@ use Rattle.store.specs.StoreLaws.{store-size-cells, store-size-some, positions-
 use Rattle.tree.specs.Geometry.{blockCount, height}
 use Rattle.messages.specs.Take.{settled, placeIn, takeNumber, takeAfter}
 use Rattle.messages.specs.TakenLaws.{taken-ready}
-use Rattle.pieces.specs.Pieces.{layerSettled, layerNumber, layerAfter, pieceNumber}
+use Rattle.pieces.specs.Pieces.{layerSettled, layerNumber, layerAfter}
 use Rattle.pieces.specs.PiecesLaws.{layer-loads, loads-layered, layer-refused, layer-taken}
-use Rattle.promises.specs.History.{Bytes, Steps, begin, message, layer, looked, reopened, OurStore, ours}
+use Rattle.promises.specs.History.{Bytes, Steps, begin, message, reject-heard, request-served, hash-asked, layer, block-judged, piece-judged, reopened, OurStore, ours}
 use Rattle.promises.specs.Grows.{reopen-refused}
-use Rattle.promises.specs.Invariant.{Ours, message-whole, layer-whole, ours-opened, ours-take, ours-layer, ours-have}
-use Rattle.promises.specs.Conflict.{Shown, heldBy, byMessage, byLayer, byPiece, message-octets, layer-octets, conflict-shows, layer-conflict-shows, piece-conflict-shows}
+use Rattle.promises.specs.Invariant.{Ours, message-whole, layer-whole, ours-opened, ours-take, ours-layer}
+use Rattle.promises.specs.Conflict.{sized-bytes, message-octets, layer-octets}
 
 pasted-bytes : (s : List ℕ) (at : ℕ) (h : List ℕ) → at + length h ≤ length s → Bytes s → Bytes h → Bytes (pasted s at h)
 pasted-bytes s at h fit bs bh = record { size = refl; bytes = λ i l. by i (rw (pasted-length s at h fit) at l) }
@@ -64,13 +63,10 @@ byte-one = record { size = refl; bytes = by }
     by zero l = omega arith
     by (suc i) l = let w : ⊥ = omega arith in absurd w
 
-sized : (n : ℕ) (l : List ℕ) → Octets n l → Bytes l
-sized n l o = rw (o .size) o
-
 put-bytes : (N : ℕ) (s : List ℕ) (n : ℕ) (h : List ℕ) → Room N s → n < N → Bytes s → Octets 32 h → Bytes (put s n h)
 unfolding put
 put-bytes N s n h room b bs o =
-    pasted-bytes s (31 + 33 * n) (1 ∷ h) (omega (arith, o .size)) bs (sized 33 (1 ∷ h) (append-octets byte-one o))
+    pasted-bytes s (31 + 33 * n) (1 ∷ h) (omega (arith, o .size)) bs (sized-bytes 33 (1 ∷ h) (append-octets byte-one o))
 
 putAll-bytes : (N : ℕ) (L : List Entry) (s : List ℕ) → Room N s → Sound N L → ((e : Entry) → In e L → Octets 32 (e .hash)) → Bytes s → Bytes (putAll s L)
 unfolding putAll
@@ -92,7 +88,7 @@ bytes-opened b n plen root bb o = by (factsInRange n plen) (leb (storeSize n) (l
         let nf : 0 + length named ≤ length (zeroed b (storeSize n)) = omega (arith, no .size, store-size-some n) in
         let bare = pasted (zeroed b (storeSize n)) 0 named in
         let bl : length (pasted (zeroed b (storeSize n)) 0 named) ≡ length (zeroed b (storeSize n)) = pasted-length (zeroed b (storeSize n)) 0 named nf in
-        let bb2 : Bytes (pasted (zeroed b (storeSize n)) 0 named) = pasted-bytes (zeroed b (storeSize n)) 0 named nf (zeroed-bytes b (storeSize n) fits bb) (sized 44 named no) in
+        let bb2 : Bytes (pasted (zeroed b (storeSize n)) 0 named) = pasted-bytes (zeroed b (storeSize n)) 0 named nf (zeroed-bytes b (storeSize n) fits bb) (sized-bytes 44 named no) in
         unfold openAfter opened in
         rw (p, q)
         (put-bytes (positions (height (blockCount n))) (pasted (zeroed b (storeSize n)) 0 named) 1 root (omega (arith, store-size-cells n)) (positions-some (height (blockCount n))) bb2 o)
@@ -126,22 +122,14 @@ bytes-steps : {s t : List ℕ} → Ours s → Bytes s → Steps s t → Ours t �
 bytes-steps o b begin = (o, b)
 bytes-steps o b (message {t = t} m bm h) = let w = bytes-steps o b h in (ours-take t m (w .0), bytes-take t m (w .0) (w .1) bm)
 bytes-steps o b (layer {t = t} l bl h) = let w = bytes-steps o b h in (ours-layer t l (w .0), bytes-layer t l (w .0) (w .1) bl)
-bytes-steps o b (looked h) = bytes-steps o b h
+bytes-steps o b (reject-heard m x h) = bytes-steps o b h
+bytes-steps o b (request-served m out x y h) = bytes-steps o b h
+bytes-steps o b (hash-asked l i h) = bytes-steps o b h
+bytes-steps o b (block-judged i d x h) = bytes-steps o b h
+bytes-steps o b (piece-judged i d x h) = bytes-steps o b h
 bytes-steps o b (reopened {t = t} n plen root ne h) = rw (reopen-refused t n plen root ne) (bytes-steps o b h)
 
 -- a store that only this build has written is a string of bytes
 pub ours-bytes : {t : List ℕ} → OurStore t → Bytes t
 ours-bytes (ours b n plen root bytes o z h) =
     bytes-steps (ours-opened b n plen root (o .size) z) (bytes-opened b n plen root bytes o) h .1
-
--- IN A STORE THAT ONLY THIS BUILD HAS WRITTEN, "conflict" shows two different 64-byte strings with one SHA-256: of a message,
-pub our-conflict-shows : {s : List ℕ} (m : List ℕ) → OurStore s → Bytes m → takeNumber s m ≡ conflict → Shown (heightOf s) (heldBy s) (byMessage s m)
-our-conflict-shows {s} m o bm e = conflict-shows s m (ours-have o) (ours-bytes o) bm e
-
--- of a layer,
-pub our-layer-conflict-shows : {s : List ℕ} (l : List ℕ) → OurStore s → Bytes l → layerNumber s l ≡ conflict → Shown (heightOf s) (heldBy s) (byLayer s l)
-our-layer-conflict-shows {s} l o bl e = layer-conflict-shows s l (ours-have o) (ours-bytes o) bl e
-
--- of a piece
-pub our-piece-conflict-shows : {s : List ℕ} (i : ℕ) (piece : List ℕ) → OurStore s → pieceNumber s i piece ≡ conflict → Shown (heightOf s) (heldBy s) (byPiece s i piece)
-our-piece-conflict-shows {s} i piece o e = piece-conflict-shows s i piece (ours-have o) (ours-bytes o) e

@@ -1,24 +1,23 @@
 -- Demand 2: our replies are read back as what was held.
 -- Assumes nothing.
 use mathlib.Core.Path.{_≡_, refl, ap, ap₂, sym, _∙_, subst}
-use mathlib.Core.Bool.{Bool, true, false, _&&_}
+use mathlib.Core.Bool.{true}
 use mathlib.Core.List.{List}
-use Prim.Native.Nat.{ℕ, zero, suc, _+_, _-_, _*_, _/_, _%_, _^_, _≤_, _<_}
+use Prim.Native.Nat.{ℕ, suc, _+_, _-_, _*_, _/_, _%_, _^_, _≤_, _<_}
 use native.Mathlib.Omega.{arith}
-use native.Mathlib.Nat.{div-add-mod', pow-suc, pow-succ', add-mul, mul-le-mul-right, one-mul}
-use native.Mathlib.Decide.{ℕ-discrete}
+use native.Mathlib.Nat.{div-add-mod', pow-suc, add-mul, mul-le-mul-right}
 use lib.ListN.{length}
-use lib.Dec.{leb, ltb}
-use lib.Pow.{pow-add, pow-pos, shr-lt}
+use lib.Pow.{pow-add, shr-lt}
 use borrow.Author.Tests.{le-leb, lt-ltb}
 use Rattle.octets.specs.Octets.{cut}
+use Rattle.octets.specs.OctetsLaws.{cut-cut}
 use Rattle.tree.specs.Geometry.{height, nodeNumber}
 use Rattle.cells.specs.Cells.{heldAt, hashAt}
 use Rattle.store.specs.Store.{blocksOf, heightOf, positions, inTree}
 use Rattle.store.specs.StoreLaws.{Facts, usable-facts, facts-usable, facts-leaves, held-given}
 use Rattle.sha256.specs.declared.Hashed.{Hashed}
 use Rattle.runs.specs.Path.{sibling, uncle, ancestor}
-use Rattle.runs.specs.PathLaws.{sibling-even, sibling-odd, sibling-below}
+use Rattle.runs.specs.PathLaws.{sibling-below}
 use Rattle.runs.specs.AncestorLaws.{ancestor-number}
 use Rattle.runs.specs.SubtreeLaws.{number-below}
 use Rattle.header.specs.declared.Header.{Header}
@@ -29,6 +28,8 @@ use Rattle.messages.specs.TakeLaws.{Passed, passed}
 use Rattle.serve.specs.Serve.{requestNumber, replyTo}
 use Rattle.serve.specs.ServeLaws.{request-passes, run-held, uncle-held, reply-hash, reply-uncle, reply-header, reply-root, reply-form, reply-own-size}
 use Rattle.promises.specs.Held.{Holds}
+use Rattle.promises.specs.Settles.{unclesIn, hashIn, topLayer, topIndex}
+use Rattle.promises.specs.RightPadding.{sibling-number}
 
 -- what a cell holds is what kd_held answers
 pub holds-at : (s : List ℕ) (l i : ℕ) → Facts s → l ≤ heightOf s → i < 2 ^ (heightOf s - l) → heldAt s (nodeNumber (heightOf s) l i) ≡ true
@@ -39,16 +40,12 @@ holds-at s l i f a b h =
     let g = held-given s l i (facts-usable s f) t h in
     record { given = sym (ap (λ (r : Hashed). r .number) g); hash = sym (ap (λ (r : Hashed). r .hash) g) }
 
--- the number of the position beside
-sibling-number : (h l y : ℕ) → l < h → sibling (nodeNumber h l y) ≡ nodeNumber h l (sibling y)
-unfolding nodeNumber
-sibling-number h l y a =
-    let e : h - l ≡ suc (h - l - 1) = omega arith in
-    let p : 2 ^ (h - l) ≡ 2 ^ (h - l - 1) * 2 = ap (λ (x : ℕ). 2 ^ x) e ∙ pow-suc 2 (h - l - 1) in
-    elim (ℕ-discrete (y % 2) 0) [
-      | yes z ↦ sibling-even (2 ^ (h - l) + y) (omega arith) ∙ omega (arith, sibling-even y z)
-      | no z ↦ sibling-odd (2 ^ (h - l) + y) (λ q. z (omega arith)) ∙ omega (arith, sibling-odd y z)
-    ]
+-- uncle j is the message's hash behind its run
+pub uncle-cut : (m : List ℕ) (c u j : ℕ) → j < u → uncle (unclesOf m c u) j ≡ hashIn m (c + j)
+unfolding uncle unclesOf
+uncle-cut m c u j l =
+    let e : 49 + 32 * c + 32 * j ≡ 49 + 32 * (c + j) = omega arith in
+    cut-cut m (49 + 32 * c) (32 * u) (32 * j) 32 (omega arith) ∙ ap (λ (y : ℕ). cut m y 32) e
 
 -- ---- the positions that a header names, by layer and index, and their numbers in a tree of height h over b blocks
 
@@ -119,7 +116,7 @@ module _ (s m : List ℕ) (z : requestNumber s m ≡ 0) where
   reply-has-header = let e = request-passes s m z in (reply-form s m e, reply-root s m e, reply-header s m e, reply-own-size s m e)
 
   -- and at hash j of its run, the hash that was held at position index + j of the base layer
-  pub run-reads-back : (j : ℕ) → j < headerOf m .len → Holds s (headerOf m .base) (headerOf m .index + j) (cut (replyTo s m) (49 + 32 * j) 32)
+  pub run-reads-back : (j : ℕ) → j < headerOf m .len → Holds s (headerOf m .base) (headerOf m .index + j) (hashIn (replyTo s m) j)
   run-reads-back j l =
       let x = headerOf m in
       let l′ : j < 2 ^ height (headerOf m .len) = omega (arith, kept .power) in
@@ -132,12 +129,14 @@ module _ (s m : List ℕ) (z : requestNumber s m ≡ 0) where
       k-is = unfold placeOf in refl
 
   -- and at uncle i, the hash that was held beside the path in its layer
-  pub uncle-reads-back : (i : ℕ) → i < placeIn s m .u
-      → Holds s (headerOf m .base + height (headerOf m .len) + i) (sibling (headerOf m .index / headerOf m .len / 2 ^ i)) (uncle (unclesOf (replyTo s m) (2 ^ placeIn s m .k) (placeIn s m .u)) i)
+  pub uncle-reads-back : (i : ℕ) → i < unclesIn m → Holds s (topLayer m + i) (sibling (topIndex m / 2 ^ i)) (hashIn (replyTo s m) (headerOf m .len + i))
+  unfolding placeOf
   uncle-reads-back i l =
-      let x = headerOf m in
+      let c = 2 ^ height (headerOf m .len) in
       let n = uncle-number (headerOf m) (blocksOf s) (heightOf s) (facts-leaves s facts) kept i l in
       let b = uncle-in-layer (headerOf m) (blocksOf s) (heightOf s) (facts-leaves s facts) kept i l in
       let a = uncle-layer (headerOf m) (blocksOf s) (heightOf s) (facts-leaves s facts) kept i l in
-      subst (Holds s (x .base + height (x .len) + i) (sibling (x .index / x .len / 2 ^ i))) (ap (hashAt s) (sym n) ∙ sym (reply-uncle s m (request-passes s m z) i l))
-      (holds-at s (x .base + height (x .len) + i) (sibling (x .index / x .len / 2 ^ i)) facts (omega arith) b (rw (← n) (uncle-held s m z i l)))
+      let e : uncle (unclesOf (replyTo s m) (2 ^ height (headerOf m .len)) (unclesIn m)) i ≡ hashIn (replyTo s m) (headerOf m .len + i) =
+      uncle-cut (replyTo s m) c (unclesIn m) i l ∙ ap (λ (y : ℕ). hashIn (replyTo s m) (y + i)) (kept .power) in
+      subst (Holds s (topLayer m + i) (sibling (topIndex m / 2 ^ i))) (ap (hashAt s) (sym n) ∙ sym (reply-uncle s m (request-passes s m z) i l) ∙ e)
+      (holds-at s (topLayer m + i) (sibling (topIndex m / 2 ^ i)) facts (omega arith) b (rw (← n) (uncle-held s m z i l)))

@@ -28,6 +28,7 @@ use Rattle.promises.specs.Grows.{reopen-refused}
 
 -- ---- a refusal leaves every byte, and its count is zero
 
+-- an opening
 pub opening-refused : (s : List ℕ) (n plen : ℕ) (root : List ℕ) → (openAnswer s n plen .number ≡ 0 → ⊥) → (openAfter s n plen root ≡ s) × (openAnswer s n plen .count ≡ 0)
 opening-refused s n plen root ne = (reopen-refused s n plen root ne, count)
   where
@@ -40,18 +41,21 @@ opening-refused s n plen root ne = (reopen-refused s n plen root ne, count)
     count : openAnswer s n plen .count ≡ 0
     count = unfold openAnswer in by (factsInRange n plen) (leb (storeSize n) (length s)) (unfold openAnswer in ne)
 
+-- a message
 pub message-refused : (s m : List ℕ) → (takeAnswer s m .number ≡ 0 → ⊥) → (takeAfter s m ≡ s) × (takeAnswer s m .count ≡ 0)
 unfolding takeAnswer
 message-refused s m ne =
     let r = take-refused s m (takeNumber s m) refl ne in
     (sym (r .1), sym (ap (λ (a : Answer). a .count) (r .0)))
 
+-- a layer
 pub layer-not-loaded : (s l : List ℕ) → (layerAnswer s l .number ≡ 0 → ⊥) → (layerAfter s l ≡ s) × (layerAnswer s l .count ≡ 0)
 unfolding layerAnswer
 layer-not-loaded s l ne = (layer-refused s l ne, ap (λ (a : Answer). a .count) (layer-refused-count s l ne))
 
 -- ---- serving: a reply, a reject, or nothing
 
+-- what a request is answered with
 pub data Outcome (s m out : List ℕ) : Type 0 where
   -- the hashes message, and its size
   replied : serveAnswer s m out ≡ record { number = 0; count = length (replyTo s m) } → serveAfter s m out ≡ pasted out 0 (replyTo s m) → Outcome s m out
@@ -79,16 +83,17 @@ module _ (s m out : List ℕ) where
         | no x ↦ let g = fits-not n (rejectTo m) out (omega arith) in untouched 11 (inr (inr refl)) (sr .0 ∙ g .0) (sr .1 ∙ g .1)
       ]
 
+  -- the number of a request, before its room is looked at: 0, 9, 1; or 2, 3, 12
+  pub which-number : ((requestNumber s m ≡ 0) ⊎ ((requestNumber s m ≡ 9) ⊎ (requestNumber s m ≡ 1))) ⊎ ((requestNumber s m ≡ 2) ⊎ ((requestNumber s m ≡ 3) ⊎ (requestNumber s m ≡ 12)))
+  unfolding requestNumber headerNumber
+  which-number =
+      request-values (usable s) (Rattle.header.specs.Header.isRequest m) (same (factsRoot s) (messageRoot m)) (rulesKept (headerOf m) (blocksOf s) (heightOf s))
+      (Rattle.serve.specs.Serve.allHeld s (placeIn s m))
+
   -- every request is answered in one of the three ways
   pub served : Outcome s m out
-  served = by (values)
+  served = by which-number
     where
-      values : ((requestNumber s m ≡ 0) ⊎ ((requestNumber s m ≡ 9) ⊎ (requestNumber s m ≡ 1))) ⊎ ((requestNumber s m ≡ 2) ⊎ ((requestNumber s m ≡ 3) ⊎ (requestNumber s m ≡ 12)))
-      values =
-          unfold requestNumber headerNumber in
-          request-values (usable s) (Rattle.header.specs.Header.isRequest m) (same (factsRoot s) (messageRoot m)) (rulesKept (headerOf m) (blocksOf s) (heightOf s))
-          (Rattle.serve.specs.Serve.allHeld s (placeIn s m))
-
       by : ((requestNumber s m ≡ 0) ⊎ ((requestNumber s m ≡ 9) ⊎ (requestNumber s m ≡ 1))) ⊎ ((requestNumber s m ≡ 2) ⊎ ((requestNumber s m ≡ 3) ⊎ (requestNumber s m ≡ 12))) → Outcome s m out
       by (inl (inl z)) =
           let sr = served-reply s m out z in
@@ -119,6 +124,7 @@ take-values true true false k size pad j h = omega arith
 take-values true false r k size pad j h = omega arith
 take-values false form r k size pad j h = omega arith
 
+-- a message gets one of 0 to 9
 pub message-number-in-table : (s m : List ℕ) → takeAnswer s m .number ≤ 9
 unfolding takeAnswer takeNumber bodyNumber headerNumber anchored
 message-number-in-table s m =

@@ -22,7 +22,7 @@ use Rattle.tree.specs.GeometryLaws.{left-start, right-start, padding-from-cover
 use Rattle.tree.specs.Values.{node, padValue}
 use Rattle.cells.specs.Cells.{heldAt, hashAt}
 use Rattle.cells.specs.Entries.{Entry, agrees, putAll, oneIf, newly}
-use Rattle.cells.specs.EntriesLaws.{Hold, In, in-cases, one-is, no-entry, sound-in, in-agrees, agrees-held, held-or-entry}
+use Rattle.cells.specs.EntriesLaws.{Hold, In, in-cases, one-is, no-entry, sound-in, held-or-entry}
 use Rattle.store.specs.Store.{fileLength, factsRoot, blocksOf, heightOf, positions}
 use Rattle.store.specs.StoreLaws.{usable-facts, facts-usable, facts-leaves, positions-even}
 use Rattle.runs.specs.Span.{Within}
@@ -40,9 +40,10 @@ use Rattle.serve.specs.Serve.{replyTo, requestNumber}
 use Rattle.serve.specs.ServeLaws.{request-passes, reply-root, reply-header, reply-own-size, reply-form, reply-given, reply-uncle, run-held, uncle-held}
 use Rattle.promises.specs.History.{Bytes, OurStore}
 use Rattle.promises.specs.TakenWhen.{Right, right-then-taken}
+use Rattle.promises.specs.Again.{held-agrees}
 use Rattle.promises.specs.RightPadding.{Pads, doubles, sibling-number}
 use Rattle.promises.specs.Invariant.{Chained, Ours, Pair, family-pair, Whole, message-whole, ours-have}
-use Rattle.promises.specs.Conflict.{heldBy, Gives, Shown, same-or-shown, hash-octets, agrees-or-shown, well-ready, anchor-has}
+use Rattle.promises.specs.Conflict.{heldBy, GivesAt, ShownAt, same-or-shown, hash-octets, agrees-or-shown, well-ready, anchor-has}
 use Rattle.promises.specs.OwnBytes.{ours-bytes}
 
 -- ---- two stores
@@ -51,8 +52,8 @@ module _ (s t : List ℕ) (cs : Chained s) (ct : Chained t) (bs : Bytes s) (bt :
     (layers : heightOf s ≡ heightOf t) (roots : factsRoot s ≡ factsRoot t) where
   -- what both hold is the same in both, or they show a pair
   pub alike-or-shown : (d q : ℕ) → q ≤ d → 1 ≤ q → q < positions (heightOf t) → heldAt t q ≡ true → heldAt s q ≡ true
-      → Shown (heightOf t) (heldBy t) (heldBy s) ⊎ (hashAt t q ≡ hashAt s q)
-  unfolding Gives
+      → ShownAt (heightOf t) (heldBy t) (heldBy s) ⊎ (hashAt t q ≡ hashAt s q)
+  unfolding GivesAt
   alike-or-shown zero q l a b ht hs = let z : ⊥ = omega arith in absurd z
   alike-or-shown (suc d) q l a b ht hs =
       elim (ℕ-discrete q 1) [
@@ -318,10 +319,6 @@ carried-padded s r o w = padded-when s r (w .header) (w .size) (λ j l. hold-pad
 
 -- ---- a store's own reply
 
-held-agrees : (t : List ℕ) (L : List Entry) → ((e : Entry) → In e L → Hold t (e .at) (e .hash)) → agrees t L ≡ true
-held-agrees t L k =
-    in-agrees t L (λ e i. let h = k e i in agrees-held t (e .at) (e .hash) (h .0) ∙ same-eq (hashAt t (e .at)) (e .hash) (h .1))
-
 newly-nothing : (N : ℕ) (s t : List ℕ) → ((q : ℕ) → heldAt t q ≡ true → heldAt s q ≡ true) → newly N s t ≡ 0
 unfolding newly
 newly-nothing zero s t f = refl
@@ -390,14 +387,14 @@ module _ (s t r : List ℕ) (os : Ours s) (ot : Ours t) (bs : Bytes s) (bt : Byt
   octets-there e i = rw (← held-there .1 e i .1) (hash-octets s (e .at) (os .chained .facts) bs (rw layers (sound-in (settled r (placeIn t r)) (whole .sound) i .0)))
 
   agreed-here : heldAt t (anchor (placeIn t r)) ≡ true → hashAt t (anchor (placeIn t r)) ≡ worked r (placeIn t r)
-      → Shown (heightOf t) (heldBy t) (heldBy s) ⊎ (agrees t (settled r (placeIn t r)) ≡ true)
-  unfolding Gives
+      → ShownAt (heightOf t) (heldBy t) (heldBy s) ⊎ (agrees t (settled r (placeIn t r)) ≡ true)
+  unfolding GivesAt
   agreed-here h v =
       agrees-or-shown t (heldBy s) (settled r (placeIn t r)) (anchor (placeIn t r)) (worked r (placeIn t r)) (ot .chained) bt whole
       (λ n u x. held-there .1 (record { at = n; hash = u }) x) octets-there (anchor-has r t) h v
 
   -- a message that carries what s holds, its anchor held in t, is taken by t, or the two show a pair
-  pub carried-taken : heldAt t (anchor (placeIn t r)) ≡ true → Shown (heightOf t) (heldBy t) (heldBy s) ⊎ (takeNumber t r ≡ 0)
+  pub carried-taken : heldAt t (anchor (placeIn t r)) ≡ true → ShownAt (heightOf t) (heldBy t) (heldBy s) ⊎ (takeNumber t r ≡ 0)
   carried-taken h =
       let a = anchor (placeIn t r) in
       let top = anchor-has r t in
@@ -417,6 +414,6 @@ module _ (s t r : List ℕ) (os : Ours s) (ot : Ours t) (bs : Bytes s) (bt : Byt
 -- length and root (piece lengths may differ), it is taken there, or the two stores show two different 64-byte strings with one SHA-256
 pub other-store-reply : {s t : List ℕ} (m : List ℕ) → OurStore s → OurStore t → fileLength s ≡ fileLength t → factsRoot s ≡ factsRoot t
     → requestNumber s m ≡ 0 → heldAt t (anchor (placeIn t (replyTo s m))) ≡ true
-    → Shown (heightOf t) (heldBy t) (heldBy s) ⊎ (takeNumber t (replyTo s m) ≡ 0)
+    → ShownAt (heightOf t) (heldBy t) (heldBy s) ⊎ (takeNumber t (replyTo s m) ≡ 0)
 other-store-reply {s} {t} m os ot files roots z h =
     carried-taken s t (replyTo s m) (ours-have os) (ours-have ot) (ours-bytes os) (ours-bytes ot) files roots (reply-carries s m z) h

@@ -1,7 +1,7 @@
 -- Demand 2, from the root to the block: what a store that only this build has written holds, opened with a file's own length and
 -- pieces root, is the file's; so is a block that it answers 0; and the file's own blocks and pieces are answered 0. Each unless a pair is shown.
 -- Assumes nothing.
-use mathlib.Core.Path.{_≡_, refl, ap, ap₂, sym, _∙_}
+use mathlib.Core.Path.{_≡_, refl, ap, ap₂, sym, _∙_, subst}
 use mathlib.Core.Bool.{Bool, true, false}
 use mathlib.Core.List.{List}
 use mathlib.Core.Logic.{_⊎_, inl, inr}
@@ -29,7 +29,7 @@ use Rattle.pieces.specs.Pieces.{layerOfPieces, pieceHeight, blockNumber, pieceN
 use Rattle.pieces.specs.PiecesLaws.{placed, height-layer, piece-at-root, block-right, right-block, right-piece}
 use Rattle.promises.specs.History.{Bytes, OurStore}
 use Rattle.promises.specs.Invariant.{Chained, Whole, ours-have}
-use Rattle.promises.specs.Conflict.{Shown, heldBy, ofFile, Gives, agrees-or-shown, subtree-octets, sized-bytes}
+use Rattle.promises.specs.Conflict.{ShownAt, heldBy, ofFile, GivesAt, agrees-or-shown, subtree-octets}
 use Rattle.promises.specs.OwnBytes.{ours-bytes}
 
 -- s was opened with the file's own length and pieces root
@@ -47,6 +47,7 @@ tree-within h =
     let z : h - h ≡ 0 = omega arith in
     rw (← node-number-root h) (within-tree h h 0 h (omega arith) (rw z (omega arith)) (omega arith))
 
+-- the file's tree gives each of its positions one hash, that of its two children
 pub tree-whole : (file : List ℕ) (h : ℕ) → Whole (positions h) 1 (subtree (leafOf file) h 1 0)
 tree-whole file h =
     record {
@@ -57,12 +58,14 @@ tree-whole file h =
     }
 
 module _ (file s : List ℕ) (w : For file s) where
+  -- the store's tree is as high as the file's
   pub same-height : heightOf s ≡ height (blockCount (length file))
   unfolding heightOf blocksOf
   same-height = ap (λ (n : ℕ). height (blockCount n)) (w .long)
 
-  pub tree-agrees : Chained s → Bytes s → Shown (heightOf s) (heldBy s) (ofFile file) ⊎ (agrees s (treeOf file) ≡ true)
-  unfolding Gives piecesRoot
+  -- what a chained store holds agrees with the file's tree, or a pair is shown
+  pub tree-agrees : Chained s → Bytes s → ShownAt (heightOf s) (heldBy s) (ofFile file) ⊎ (agrees s (treeOf file) ≡ true)
+  unfolding GivesAt piecesRoot
   tree-agrees c b =
       let h = height (blockCount (length file)) in
       agrees-or-shown s (ofFile file) (treeOf file) 1 (node (leafOf file) h 0) c b
@@ -80,6 +83,7 @@ module _ (file s : List ℕ) (w : For file s) where
       has-same (subtree (leafOf file) h 1 0) (1 * 2 ^ (h - l) + i) (2 ^ (h - l) + i) (node (leafOf file) (h - (h - l)) (0 * 2 ^ (h - l) + i)) (node (leafOf file) l i)
       e (ap₂ (λ (x y : ℕ). node (leafOf file) x y) k j) (subtree-has (leafOf file) h 1 0 (h - l) i (omega arith) b)
 
+  -- where it agrees, every held hash is the file's
   pub agreed-is : agrees s (treeOf file) ≡ true → (l i : ℕ) → l ≤ heightOf s → i < 2 ^ (heightOf s - l)
       → heldAt s (nodeNumber (heightOf s) l i) ≡ true → hashAt s (nodeNumber (heightOf s) l i) ≡ node (leafOf file) l i
   agreed-is g l i a b h =
@@ -90,35 +94,36 @@ module _ (file s : List ℕ) (w : For file s) where
       same-true (hashAt s n) v (sym (agrees-held s n v h) ∙ x)
 
 -- EVERY HELD HASH IS THE FILE'S, or a pair is shown
-pub held-is-the-files : {s : List ℕ} (file : List ℕ) → OurStore s → For file s
-    → Shown (heightOf s) (heldBy s) (ofFile file)
+pub held-is-the-files-at : {s : List ℕ} (file : List ℕ) → OurStore s → For file s
+    → ShownAt (heightOf s) (heldBy s) (ofFile file)
     ⊎ ((l i : ℕ) → l ≤ heightOf s → i < 2 ^ (heightOf s - l) → heldAt s (nodeNumber (heightOf s) l i) ≡ true
     → hashAt s (nodeNumber (heightOf s) l i) ≡ node (leafOf file) l i)
-held-is-the-files {s} file o w =
+held-is-the-files-at {s} file o w =
     elim (tree-agrees file s w (ours-have o .chained) (ours-bytes o)) [ inl x ↦ inl x | inr g ↦ inr (agreed-is file s w g) ]
 
 -- ---- blocks
 
--- two different strings with one SHA-256
-pub record OneHash (a b : List ℕ) : Type 0 where
-  pub bytes : Bytes a
-  pub bytes′ : Bytes b
+-- two different strings of n bytes with one SHA-256
+pub record OneHash (n : ℕ) (a b : List ℕ) : Type 0 where
+  pub bytes : Octets n a
+  pub bytes′ : Octets n b
   pub differ : a ≡ b → ⊥
   pub alike : sha256 a ≡ sha256 b
 
-pub block-octets : (file : List ℕ) (i : ℕ) → Bytes file → i < blockCount (length file) → Bytes (blockOf file i)
-unfolding blockOf
+-- block i of a string of bytes is one of the size that 01 gives it
+pub block-octets : (file : List ℕ) (i : ℕ) → Bytes file → i < blockCount (length file) → Octets (blockSize (length file) i) (blockOf file i)
+unfolding blockOf blockSize
 block-octets file i b l =
-    let n = min blockLength (length file - blockLength * i) in
     let s = block-starts (length file) i l in
     let o : Octets (min blockLength (length file - blockLength * i)) (cut file (blockLength * i) (min blockLength (length file - blockLength * i))) =
     cut-octets (blockLength * i) (min blockLength (length file - blockLength * i)) b (omega arith) in
-    rw (cut-short file (blockLength * i) blockLength) at (sized-bytes n _ o)
+    subst (Octets (min blockLength (length file - blockLength * i))) (cut-short file (blockLength * i) blockLength) o
 
-pub same-or-one-hash : (a b : List ℕ) → Bytes a → Bytes b → sha256 a ≡ sha256 b → OneHash a b ⊎ (a ≡ b)
-same-or-one-hash a b x y e = by (same a b) refl
+-- two strings with one SHA-256 are the same, or two different ones
+pub same-or-one-hash : (n : ℕ) (a b : List ℕ) → Octets n a → Octets n b → sha256 a ≡ sha256 b → OneHash n a b ⊎ (a ≡ b)
+same-or-one-hash n a b x y e = by (same a b) refl
   where
-    by : (t : Bool) → same a b ≡ t → OneHash a b ⊎ (a ≡ b)
+    by : (t : Bool) → same a b ≡ t → OneHash n a b ⊎ (a ≡ b)
     by true p = inr (same-true a b p)
     by false p = inl (record { bytes = x; bytes′ = y; differ = same-false a b p; alike = e })
 
@@ -134,22 +139,24 @@ module _ (file s : List ℕ) (f : Facts s) (w : For file s) (i : ℕ) (l : i < b
   unfolding node
   leaf-hash g h = agreed-is file s w g 0 i (omega arith) leaf-inside h ∙ leaf-block file i (rw same-count at l)
 
--- A BLOCK ANSWERED 0 IS THE FILE'S, or a pair is shown, or the block and the file's block are two different strings with one SHA-256
-pub block-is-the-files : {s : List ℕ} (file : List ℕ) (i : ℕ) (block : List ℕ) → OurStore s → For file s → Bytes file → Bytes block → blockNumber s i block ≡ 0
-    → Shown (heightOf s) (heldBy s) (ofFile file) ⊎ (OneHash block (blockOf file i) ⊎ (block ≡ blockOf file i))
-block-is-the-files {s} file i block o w bf bb z =
+-- A BLOCK ANSWERED 0 IS THE FILE'S, or a pair is shown, or the block and the file's block are two different strings of the block's size
+-- with one SHA-256
+pub block-is-the-files-at : {s : List ℕ} (file : List ℕ) (i : ℕ) (block : List ℕ) → OurStore s → For file s → Bytes file → Bytes block → blockNumber s i block ≡ 0
+    → ShownAt (heightOf s) (heldBy s) (ofFile file) ⊎ (OneHash (blockSize (fileLength s) i) block (blockOf file i) ⊎ (block ≡ blockOf file i))
+block-is-the-files-at {s} file i block o w bf bb z =
     let r = block-right s i block z in
     let f = ours-have o .chained .facts in
+    let mine : Octets (blockSize (fileLength s) i) block = subst (λ (n : ℕ). Octets n block) (r .size) bb in
+    let its : Octets (blockSize (fileLength s) i) (blockOf file i) =
+    subst (λ (n : ℕ). Octets (blockSize n i) (blockOf file i)) (sym (w .long)) (block-octets file i bf (rw (same-count file s f w i (r .inside)) at (r .inside))) in
     elim (tree-agrees file s w (ours-have o .chained) (ours-bytes o)) [
       | inl x ↦ inl x
-      | inr g ↦
-          inr (same-or-one-hash block (blockOf file i) bb (block-octets file i bf (rw (same-count file s f w i (r .inside)) at (r .inside)))
-          (sym (r .alike) ∙ leaf-hash file s f w i (r .inside) g (r .held)))
+      | inr g ↦ inr (same-or-one-hash (blockSize (fileLength s) i) block (blockOf file i) mine its (sym (r .alike) ∙ leaf-hash file s f w i (r .inside) g (r .held)))
     ]
 
 -- THE FILE'S OWN BLOCK, its leaf held, is answered 0, or a pair is shown
 pub true-block : {s : List ℕ} (file : List ℕ) (i : ℕ) → OurStore s → For file s → i < blocksOf s → heldAt s (nodeNumber (heightOf s) 0 i) ≡ true
-    → Shown (heightOf s) (heldBy s) (ofFile file) ⊎ (blockNumber s i (blockOf file i) ≡ 0)
+    → ShownAt (heightOf s) (heldBy s) (ofFile file) ⊎ (blockNumber s i (blockOf file i) ≡ 0)
 true-block {s} file i o w l h =
     let f = ours-have o .chained .facts in
     elim (tree-agrees file s w (ours-have o .chained) (ours-bytes o)) [
@@ -193,6 +200,7 @@ subtree-alike f g (suc k) n j j2 h =
 
 -- what lies below a position of a file's tree is part of that tree
 module _ (file s : List ℕ) (w : For file s) where
+  -- each entry below position i of layer k is one of the tree
   pub part-in-tree : (k i : ℕ) → k ≤ heightOf s → i < 2 ^ (heightOf s - k) → (e : Entry) → In e (subtree (leafOf file) k (nodeNumber (heightOf s) k i) i) → In e (treeOf file)
   part-in-tree k i a b e x =
       let h = heightOf s in
@@ -213,10 +221,12 @@ abbrev pub pieceFor : List ℕ → List ℕ → ℕ → List ℕ
 pieceFor file s i = pieceOf file (layerOfPieces s) i
 
 module _ (file s : List ℕ) (f : Facts s) (w : For file s) (i : ℕ) (l : i < pieceCount (fileLength s) (pieceLength s)) where
+  -- the piece length is 16384·2^p
   pub plen-form : pieceLength s ≡ blockLength * 2 ^ layerOfPieces s
   unfolding layerOfPieces
   plen-form = piece-length-form (pieceLength s) (f .piece) .1
 
+  -- leaf x of the file's piece i is the file's
   pub piece-leaf : (x : ℕ) → x < 2 ^ pieceHeight s → leafOf (pieceFor file s i) x ≡ leafOf file (i * 2 ^ pieceHeight s + x)
   piece-leaf = by (hasLayer (fileLength s) (pieceLength s)) refl
     where
@@ -240,6 +250,7 @@ module _ (file s : List ℕ) (f : Facts s) (w : For file s) (i : ℕ) (l : i < p
       let z : 0 * 2 ^ pieceHeight s + x ≡ x = omega arith in
       ap (leafOf (pieceFor file s i)) z ∙ piece-leaf x b)
 
+  -- the file's piece has the size that the store asks for
   pub piece-size-is : length (pieceFor file s i) ≡ pieceSize (fileLength s) (pieceLength s) i
   piece-size-is = piece-bytes file (layerOfPieces s) i ∙ ap₂ (λ (n p : ℕ). pieceSize n p i) (sym (w .long)) (sym plen-form)
 
@@ -253,7 +264,7 @@ module _ (file s : List ℕ) (f : Facts s) (w : For file s) (i : ℕ) (l : i < p
 -- THE FILE'S OWN PIECE, its node held, is answered 0, or a pair is shown
 pub true-piece : {s : List ℕ} (file : List ℕ) (i : ℕ) → OurStore s → For file s → i < pieceCount (fileLength s) (pieceLength s)
     → heldAt s (nodeNumber (heightOf s) (pieceHeight s) i) ≡ true
-    → Shown (heightOf s) (heldBy s) (ofFile file) ⊎ (pieceNumber s i (pieceFor file s i) ≡ 0)
+    → ShownAt (heightOf s) (heldBy s) (ofFile file) ⊎ (pieceNumber s i (pieceFor file s i) ≡ 0)
 true-piece {s} file i o w l h =
     let f = ours-have o .chained .facts in
     let p = placed s f i l in

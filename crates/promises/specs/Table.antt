@@ -65,6 +65,7 @@ pub data OneOfHashed (a : Hashed) : Type 0 where
   isNoPosition : a ≡ noHash ruleBroken → OneOfHashed a
   isNotHeld : a ≡ noHash noAnchor → OneOfHashed a
 
+-- and no other answer
 pub held-numbers : (s : List ℕ) (l i : ℕ) → OneOfHashed (heldAnswer s l i)
 unfolding heldAnswer
 held-numbers s l i = by (usable s) (inTree (heightOf s) l i) (heldAt s (nodeNumber (heightOf s) l i))

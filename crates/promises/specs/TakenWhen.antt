@@ -56,6 +56,7 @@ taken-then-right s m w e =
     let j = judged-taken (heldAt s (anchor (placeIn s m))) (same (hashAt s (anchor (placeIn s m))) (worked m (placeIn s m))) (agrees s (settled m (placeIn s m))) (a .1) in
     record { padding = a .0; held = j .0; chains = same-true _ _ (j .1); agree = j .2 }
 
+-- and one that is right is taken
 pub right-then-taken : (s m : List ℕ) → WellFormed s m → Right s m → takeNumber s m ≡ 0
 unfolding anchored
 right-then-taken s m w r =
@@ -97,6 +98,7 @@ sized : (t : Bool) (a : ℕ) → cond t a wrongSize ≡ 0 → t ≡ true
 sized true a e = refl
 sized false a e = let w : ⊥ = omega arith in absurd w
 
+-- so its header and its size are right
 pub taken-well-formed : (s m : List ℕ) → takeNumber s m ≡ 0 → WellFormed s m
 unfolding takeNumber bodyNumber
 taken-well-formed s m e =

@@ -30,7 +30,7 @@ use Rattle.promises.specs.History.{OurStore}
 use Rattle.promises.specs.TakenWhen.{right-then-taken}
 use Rattle.promises.specs.RightPadding.{Pads}
 use Rattle.promises.specs.Invariant.{Whole, ours-have}
-use Rattle.promises.specs.Conflict.{Shown, heldBy, ofFile, well-ready}
+use Rattle.promises.specs.Conflict.{ShownAt, heldBy, ofFile, well-ready}
 use Rattle.promises.specs.OwnBytes.{ours-bytes}
 use Rattle.promises.specs.Replies.{padded-when}
 use Rattle.promises.specs.RootToBlock.{For, treeOf, tree-whole, same-height, tree-agrees, tree-has}
@@ -160,7 +160,7 @@ module _ (file s r : List ℕ) (f : For file s) (w : Tells file s r) where
 
 -- THE FILE'S TRUE HASHES, their anchor held, are taken, or a pair is shown
 pub true-message : {s : List ℕ} (file r : List ℕ) → OurStore s → For file s → Tells file s r → heldAt s (anchor (placeIn s r)) ≡ true
-    → Shown (heightOf s) (heldBy s) (ofFile file) ⊎ (takeNumber s r ≡ 0)
+    → ShownAt (heightOf s) (heldBy s) (ofFile file) ⊎ (takeNumber s r ≡ 0)
 true-message {s} file r o f w h =
     let T = told file s r f w in
     let a = anchor (placeIn s r) in

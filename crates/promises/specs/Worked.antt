@@ -1,26 +1,32 @@
 -- 01, "Worked by hand": the lines marked P, by the definitions.
 -- Assumes nothing.
-use mathlib.Core.Path.{_≡_, refl, ap, sym, _∙_}
-use mathlib.Core.Bool.{Bool, true, false, cond, not, _&&_}
-use mathlib.Core.List.{List, _++_}
-use Prim.Native.Nat.{ℕ, _+_, _-_, _*_, _/_, _%_, _^_, _≤_, _<_}
+use mathlib.Core.Path.{_≡_, refl, ap, ap₂, _∙_}
+use mathlib.Core.Bool.{Bool, true, false, _&&_}
+use mathlib.Core.List.{List}
+use Prim.Native.Nat.{ℕ, _+_, _-_, _%_, _^_, _≤_, _<_}
 use native.Mathlib.Omega.{arith}
 use lib.ListN.{length}
-use lib.Dec.{eqb, leb, ltb}
+use lib.Dec.{eqb, leb, lit<, lit≤}
 use borrow.Author.Tests.{le-ltb, le-leb}
 use Rattle.octets.specs.Octets.{same}
 use Rattle.numbers.specs.Numbers.{ruleBroken}
-use Rattle.store.specs.Store.{usable, fileLength, factsRoot, blocksOf, heightOf}
-use Rattle.runs.specs.Path.{ancestor}
+use Rattle.tree.specs.Geometry.{nodeNumber, ceilDiv, blockCount, heightFrom, height, covering, pieceLayer, isPieceLength, hasLayer, pieceCount, pieceSize}
+use Rattle.cells.specs.Cells.{heldAt}
+use Rattle.cells.specs.EntriesLaws.{lacks}
+use Rattle.store.specs.Store.{usable, fileLength, factsRoot, blocksOf, heightOf, positions, factsInRange, storeSize, opened}
+use Rattle.store.specs.StoreLaws.{opened-height, opened-held}
+use Rattle.runs.specs.Subtree.{subtree}
+use Rattle.runs.specs.Path.{sibling, ancestor, path}
 use Rattle.header.specs.declared.Header.{Header}
-use Rattle.header.specs.Header.{headerOf, messageRoot, isRequest, lengthRule, indexRule, rulesKept, placeOf, messageSize}
-use Rattle.messages.specs.Take.{headerNumber, anchor}
+use Rattle.header.specs.declared.Place.{Place}
+use Rattle.header.specs.Header.{headerOf, messageRoot, isHashes, isRequest, isReject, lengthRule, indexRule, rulesKept, placeOf, messageSize}
+use Rattle.messages.specs.Take.{headerNumber, settled, anchor, placeIn, takeNumber, takeAnswer, rejectAnswer}
 use Rattle.messages.specs.TakeLaws.{request-form}
 use Rattle.serve.specs.Serve.{requestNumber, rejectTo, sentBack, serveAnswer}
 use Rattle.serve.specs.ServeLaws.{reject-length}
-use Rattle.tree.specs.Geometry.{nodeNumber, ceilDiv, blockCount, heightFrom, height, covering, pieceLayer, isPieceLength, hasLayer, pieceCount, pieceSize}
+use Rattle.promises.specs.TakenEntries.{lacking, count-lacking}
 
--- N=1, h=0 (that every request is then 3 is a line of the messages)
+-- N=1, h=0 (that every request is then 3: `request-for-one-byte` below)
 pub n-1 : height (blockCount 1) ≡ 0
 unfolding ceilDiv blockCount heightFrom height
 n-1 = refl
@@ -68,6 +74,46 @@ pub message-0-0-2-2 :
 unfolding rulesKept lengthRule indexRule placeOf messageSize anchor ancestor nodeNumber covering ceilDiv heightFrom height
 message-0-0-2-2 = (refl, refl, refl, refl)
 
+abbrev first-pair : Header
+first-pair = record { base = 0; index = 0; len = 2; proof = 2 }
+
+abbrev first-pair-place : Place
+first-pair-place = record { k = 1; u = 2; top = 4 }
+
+place-is : placeOf first-pair 3 ≡ first-pair-place
+unfolding placeOf nodeNumber heightFrom height
+place-is = refl
+
+height-is : height (blockCount 81920) ≡ 3
+unfolding ceilDiv blockCount heightFrom height
+height-is = refl
+
+seven : (s m : List ℕ)
+    → lacking s (settled m first-pair-place) ≡ lacks s 8 + (lacks s 9 + (lacks s 4 + (lacks s 5 + (lacks s 2 + (lacks s 3 + (lacks s 1 + 0))))))
+unfolding settled subtree path sibling lacking
+seven s m = refl
+
+-- (0,0,2,2), taken on a fresh store: 6 new
+pub six-new : (b : List ℕ) (plen : ℕ) (root m : List ℕ) → factsInRange 81920 plen ≡ true → storeSize 81920 ≤ length b → length root ≡ 32
+    → headerOf m ≡ record { base = 0; index = 0; len = 2; proof = 2 } → takeNumber (opened b 81920 plen root) m ≡ 0
+    → takeAnswer (opened b 81920 plen root) m .count ≡ 6
+unfolding lacks positions
+six-new b plen root m ok fits size h z =
+    let s = opened b 81920 plen root in
+    let e : heightOf s ≡ 3 = opened-height b 81920 plen root ok fits size ∙ height-is in
+    let p : placeIn s m ≡ first-pair-place = ap₂ (λ (x : Header) (y : ℕ). placeOf x y) h e ∙ place-is in
+    let held : (q : ℕ) → 1 ≤ q → q < 16 → heldAt s q ≡ eqb q 1 = λ q l g. opened-held b 81920 plen root ok fits size q l (rw height-is g) in
+    count-lacking s m z ∙ ap (λ (x : Place). lacking s (settled m x)) p ∙ seven s m
+    ∙ rw (
+      held 8 (lit≤ tt) (lit< tt),
+      held 9 (lit≤ tt) (lit< tt),
+      held 4 (lit≤ tt) (lit< tt),
+      held 5 (lit≤ tt) (lit< tt),
+      held 2 (lit≤ tt) (lit< tt),
+      held 3 (lit≤ tt) (lit< tt),
+      held 1 (lit≤ tt) (lit< tt),
+    )
+
 -- (0,4,4,2): u=1, 209 bytes
 pub message-0-4-4-2 : (rulesKept (header 0 4 4 2) 5 3 ≡ true) × (placeOf (header 0 4 4 2) 3 .u ≡ 1) × (messageSize (header 0 4 4 2) ≡ 209)
 unfolding rulesKept lengthRule indexRule placeOf messageSize nodeNumber covering ceilDiv heightFrom height
@@ -83,14 +129,46 @@ pub message-1-2-2-1 : (rulesKept (header 1 2 2 1) 5 3 ≡ true) × (placeOf (hea
 unfolding rulesKept lengthRule indexRule placeOf messageSize nodeNumber covering ceilDiv heightFrom height
 message-1-2-2-1 = (refl, refl)
 
--- refused 3: (0,0,2,3) and (1,0,2,4294967295)
-pub refused-0-0-2-3 : rulesKept (header 0 0 2 3) 5 3 ≡ false
-unfolding rulesKept lengthRule indexRule covering ceilDiv heightFrom height
-refused-0-0-2-3 = refl
+-- ---- refused 3, in every usable store of N=81920: as a hashes message, as a request, as a reject
 
-pub refused-1-0-2-large : rulesKept (header 1 0 2 4294967295) 5 3 ≡ false
-unfolding rulesKept lengthRule indexRule covering ceilDiv heightFrom height
-refused-1-0-2-large = refl
+-- a rule that fails, in a usable store with the message's root, is 3
+broken : (form : Bool) (s m : List ℕ) → usable s ≡ true → form ≡ true → same (factsRoot s) (messageRoot m) ≡ true
+    → rulesKept (headerOf m) (blocksOf s) (heightOf s) ≡ false → headerNumber form s m ≡ ruleBroken
+unfolding headerNumber
+broken form s m u f r k = rw (u, f, r, k)
+
+-- refused 3, in whichever of the three forms it comes
+pub record Refused3 (s m : List ℕ) : Type 0 where
+  pub hashes : isHashes m ≡ true → takeNumber s m ≡ 3
+  pub request : isRequest m ≡ true → requestNumber s m ≡ 3
+  pub reject : isReject m ≡ true → rejectAnswer s m .number ≡ 3
+
+broken-3 : (s m : List ℕ) → usable s ≡ true → same (factsRoot s) (messageRoot m) ≡ true → rulesKept (headerOf m) (blocksOf s) (heightOf s) ≡ false → Refused3 s m
+unfolding takeNumber requestNumber rejectAnswer
+broken-3 s m u r k =
+    record {
+      hashes = λ f. rw (broken (isHashes m) s m u f r k);
+      request = λ f. rw (broken (isRequest m) s m u f r k);
+      reject = λ f. broken (isReject m) s m u f r k;
+    }
+
+of-five : (s m : List ℕ) (x : Header) → fileLength s ≡ 81920 → headerOf m ≡ x → rulesKept x 5 3 ≡ false → rulesKept (headerOf m) (blocksOf s) (heightOf s) ≡ false
+unfolding heightOf blocksOf ceilDiv blockCount heightFrom height
+of-five s m x n e k = rw (n, e) k
+
+-- (0,0,2,3)
+pub refused-0-0-2-3 : (s m : List ℕ) → usable s ≡ true → fileLength s ≡ 81920 → same (factsRoot s) (messageRoot m) ≡ true → headerOf m ≡ header 0 0 2 3 → Refused3 s m
+refused-0-0-2-3 s m u n r e = broken-3 s m u r (of-five s m (header 0 0 2 3) n e fails)
+  where
+    fails : rulesKept (header 0 0 2 3) 5 3 ≡ false
+    fails = unfold rulesKept lengthRule indexRule covering ceilDiv heightFrom height in refl
+
+-- (1,0,2,4294967295)
+pub refused-1-0-2-large : (s m : List ℕ) → usable s ≡ true → fileLength s ≡ 81920 → same (factsRoot s) (messageRoot m) ≡ true → headerOf m ≡ header 1 0 2 4294967295 → Refused3 s m
+refused-1-0-2-large s m u n r e = broken-3 s m u r (of-five s m (header 1 0 2 4294967295) n e fails)
+  where
+    fails : rulesKept (header 1 0 2 4294967295) 5 3 ≡ false
+    fails = unfold rulesKept lengthRule indexRule covering ceilDiv heightFrom height in refl
 
 -- ---- N=1: every request of 49 bytes for its root, with room for the reject, is 3
 
@@ -104,6 +182,7 @@ no-rule-at-height-0 x b =
     last true c = refl
     last false c = refl
 
+-- a request of 49 bytes for the root of a file of one byte
 pub request-for-one-byte :
     (s m out : List ℕ)
     → usable s ≡ true
@@ -119,3 +198,10 @@ request-for-one-byte s m out u n q r room =
     ap (rulesKept (headerOf m) (blockCount (fileLength s))) h ∙ no-rule-at-height-0 (headerOf m) (blockCount (fileLength s)) in
     let l : length (rejectTo m) ≡ 49 = reject-length m (request-form m q) in
     rw (u, q, r, k) (rw (l, le-leb 49 (length out) room))
+
+-- and so is every hashes message, request and reject of the right form for that root
+pub message-for-one-byte : (s m : List ℕ) → usable s ≡ true → fileLength s ≡ 1 → same (factsRoot s) (messageRoot m) ≡ true → Refused3 s m
+unfolding heightOf blocksOf
+message-for-one-byte s m u n r =
+    let h : height (blockCount (fileLength s)) ≡ 0 = ap (λ (x : ℕ). height (blockCount x)) n ∙ n-1 in
+    broken-3 s m u r (ap (rulesKept (headerOf m) (blockCount (fileLength s))) h ∙ no-rule-at-height-0 (headerOf m) (blockCount (fileLength s)))

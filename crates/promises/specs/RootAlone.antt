@@ -1,0 +1,143 @@
+-- 01, "The store": what an opening answers, each number exactly when, and that afterwards the root alone is held. "Held" is what kd_held
+-- answers.
+-- Assumes nothing.
+use mathlib.Core.Path.{_≡_, refl, ap, sym, _∙_, subst}
+use mathlib.Core.Bool.{Bool, true, false, cond, false≢true}
+use mathlib.Core.List.{List}
+use mathlib.Core.Logic.{_↔_}
+use Prim.Native.Nat.{ℕ, _-_, _*_, _^_, _≤_, _<_}
+use native.Mathlib.Omega.{arith}
+use native.Mathlib.Decide.{ℕ-discrete}
+use lib.ListN.{length}
+use lib.Dec.{eqb, leb}
+use lib.Pow.{pow-pos}
+use borrow.Author.Tests.{ne-eqb, le-leb, leb-true, leb-false, lt-leb}
+use Rattle.numbers.specs.Numbers.{refused, unusable, factsOutOfRange}
+use Rattle.tree.specs.Geometry.{blockCount, height, nodeNumber, pieceLayer}
+use Rattle.tree.specs.GeometryLaws.{piece-length-form, piece-length-accepted, node-number-root, node-number-distinct}
+use Rattle.cells.specs.Cells.{heldAt, hashAt}
+use Rattle.store.specs.Store.{heightOf, positions, maxLength, factsInRange, storeSize, openAnswer, openAfter, opened}
+use Rattle.store.specs.StoreLaws.{opened-facts, opened-height, opened-held, opened-hash, tree-says, tree-number, positions-some, range-says}
+use Rattle.promises.specs.Held.{Holds}
+use Rattle.promises.specs.Again.{what-is-held}
+use Rattle.promises.specs.ReadBack.{holds-at}
+
+-- N is 1 to 2^30, and the piece length 16384·2^p for a p up to 10, which is a power of two, 16384 to 16777216
+pub record InRange (n plen : ℕ) : Type 0 where
+  pub some : 1 ≤ n
+  pub most : n ≤ 1073741824
+  pub p : ℕ
+  pub small : p ≤ 10
+  pub power : plen ≡ 16384 * 2 ^ p
+
+-- the range test says this
+pub range-exactly : (n plen : ℕ) → (factsInRange n plen ≡ true) ↔ InRange n plen
+unfolding factsInRange
+range-exactly n plen = (
+  λ t.
+      (let r = range-says n plen t in
+      let f = piece-length-form plen (r .2) in
+      record { some = r .0; most = r .1; p = pieceLayer plen; small = f .0; power = f .1 }),
+  λ r. rw (le-leb 1 n (r .some), le-leb n maxLength (r .most), r .power) (piece-length-accepted (r .p) (r .small)),
+)
+
+abbrev opens : Bool → Bool → ℕ
+opens r f = cond r (cond f 0 unusable) factsOutOfRange
+
+opens-10 : (r f : Bool) → opens r f ≡ factsOutOfRange → r ≡ false
+opens-10 false f e = refl
+opens-10 true true e = let w : ⊥ = omega arith in absurd w
+opens-10 true false e = let w : ⊥ = omega arith in absurd w
+
+opens-9 : (r f : Bool) → opens r f ≡ unusable → (r ≡ true) × (f ≡ false)
+opens-9 true false e = (refl, refl)
+opens-9 true true e = let w : ⊥ = omega arith in absurd w
+opens-9 false f e = let w : ⊥ = omega arith in absurd w
+
+opens-0 : (r f : Bool) → opens r f ≡ 0 → (r ≡ true) × (f ≡ true)
+opens-0 true true e = (refl, refl)
+opens-0 true false e = let w : ⊥ = omega arith in absurd w
+opens-0 false f e = let w : ⊥ = omega arith in absurd w
+
+number-is : (s : List ℕ) (n plen : ℕ) → openAnswer s n plen .number ≡ opens (factsInRange n plen) (leb (storeSize n) (length s))
+unfolding openAnswer
+number-is s n plen = by (factsInRange n plen) (leb (storeSize n) (length s))
+  where
+    by : (r f : Bool) → cond r (cond f (record { number = 0; count = 1 }) (refused unusable)) (refused factsOutOfRange) .number ≡ opens r f
+    by true true = refl
+    by true false = refl
+    by false f = refl
+
+module _ (s : List ℕ) (n plen : ℕ) where
+  -- 10 EXACTLY WHEN the facts are out of range
+  pub opening-10 : (openAnswer s n plen .number ≡ factsOutOfRange) ↔ (factsInRange n plen ≡ false)
+  opening-10 = (
+    λ e. opens-10 (factsInRange n plen) (leb (storeSize n) (length s)) (sym (number-is s n plen) ∙ e),
+    λ r. number-is s n plen ∙ rw r,
+  )
+
+  -- 9 EXACTLY WHEN they are in range and the buffer has not the store's size
+  pub opening-9 : (openAnswer s n plen .number ≡ unusable) ↔ ((factsInRange n plen ≡ true) × (length s < storeSize n))
+  opening-9 = (
+    λ e.
+        (let t = opens-9 (factsInRange n plen) (leb (storeSize n) (length s)) (sym (number-is s n plen) ∙ e) in
+        (t .0, leb-false (storeSize n) (length s) (t .1))),
+    λ t. number-is s n plen ∙ rw (t .0, lt-leb (storeSize n) (length s) (t .1)),
+  )
+
+  -- 0 EXACTLY WHEN they are in range and it has
+  pub opening-0 : (openAnswer s n plen .number ≡ 0) ↔ ((factsInRange n plen ≡ true) × (storeSize n ≤ length s))
+  opening-0 = (
+    λ e.
+        (let t = opens-0 (factsInRange n plen) (leb (storeSize n) (length s)) (sym (number-is s n plen) ∙ e) in
+        (t .0, leb-true (storeSize n) (length s) (t .1))),
+    λ t. number-is s n plen ∙ rw (t .0, le-leb (storeSize n) (length s) (t .1)),
+  )
+
+module _ (s : List ℕ) (n plen : ℕ) (root : List ℕ) (size : length root ≡ 32) (z : openAnswer s n plen .number ≡ 0) where
+  ok : factsInRange n plen ≡ true
+  ok = opening-0 s n plen .0 z .0
+
+  fits : storeSize n ≤ length s
+  fits = opening-0 s n plen .0 z .1
+
+  after : openAfter s n plen root ≡ opened s n plen root
+  unfolding openAfter
+  after = rw (ok, le-leb (storeSize n) (length s) fits)
+
+  high : heightOf (opened s n plen root) ≡ height (blockCount n)
+  high = opened-height s n plen root ok fits size
+
+  held-then : (l i : ℕ) (v : List ℕ) → Holds (opened s n plen root) l i v → (l ≡ height (blockCount n)) × (i ≡ 0) × (v ≡ root)
+  held-then l i v h =
+      let t = opened s n plen root in
+      let k = what-is-held t l i v (opened-facts s n plen root ok fits size) h in
+      let a = tree-says (heightOf t) l i (k .0) in
+      let b = tree-number (heightOf t) l i (k .0) in
+      elim (ℕ-discrete (nodeNumber (heightOf t) l i) 1) [
+        | no ne ↦
+            let f : heldAt t (nodeNumber (heightOf t) l i) ≡ eqb (nodeNumber (heightOf t) l i) 1 = opened-held s n plen root ok fits size (nodeNumber (heightOf t) l i) (b .0) (subst (λ (h : ℕ). nodeNumber (heightOf t) l i < positions h) high (b .1)) in
+            absurd (false≢true (sym (ne-eqb (nodeNumber (heightOf t) l i) 1 ne) ∙ sym f ∙ k .1))
+        | yes e ↦
+            let d = node-number-distinct (heightOf t) l i (heightOf t) 0 (a .0) (omega arith) (a .1) (pow-pos (heightOf t - heightOf t)) (e ∙ sym (node-number-root (heightOf t))) in
+            (d .0 ∙ high, d .1, sym (k .2) ∙ ap (hashAt t) e ∙ opened-hash s n plen root ok fits size)
+      ]
+
+  root-held : Holds (opened s n plen root) (height (blockCount n)) 0 root
+  root-held =
+      let t = opened s n plen root in
+      let e = node-number-root (heightOf t) in
+      let one : 1 < positions (height (blockCount n)) = positions-some (height (blockCount n)) in
+      let m : heldAt t (nodeNumber (heightOf t) (heightOf t) 0) ≡ true = ap (heldAt t) e ∙ opened-held s n plen root ok fits size 1 (omega arith) one in
+      let h = holds-at t (heightOf t) 0 (opened-facts s n plen root ok fits size) (omega arith) (pow-pos (heightOf t - heightOf t)) m in
+      subst (λ (y : ℕ). Holds t y 0 root) high (subst (Holds t (heightOf t) 0) (ap (hashAt t) e ∙ opened-hash s n plen root ok fits size) h)
+
+  -- THE ROOT ALONE IS HELD after an opening answered 0, whatever the buffer held before: kd_held gives the root at layer h, and no other
+  -- position
+  pub root-alone : (l i : ℕ) (v : List ℕ) → Holds (openAfter s n plen root) l i v ↔ ((l ≡ height (blockCount n)) × (i ≡ 0) × (v ≡ root))
+  root-alone l i v = rw after (held-then l i v, λ t. rw (t .0, t .1, t .2) root-held)
+
+  -- and the count is 1
+  pub opening-counts-one : openAnswer s n plen .count ≡ 1
+  unfolding openAnswer
+  opening-counts-one = rw (ok, le-leb (storeSize n) (length s) fits)
