@@ -1,2 +1,3 @@
 pub mod Torrent
 pub mod CheckLaws
+pub mod NumberMeans
