@@ -1,3 +1,4 @@
 pub mod Torrent
 pub mod CheckLaws
 pub mod NumberMeans
+pub mod ReadMeans
