@@ -2,3 +2,4 @@ pub mod Torrent
 pub mod CheckLaws
 pub mod NumberMeans
 pub mod ReadMeans
+pub mod Example
