@@ -3,3 +3,4 @@ pub mod CheckLaws
 pub mod NumberMeans
 pub mod ReadMeans
 pub mod Example
+pub mod LayerExample
