@@ -53,18 +53,17 @@ module _ (root : List ℕ) where
   abbrev theFile : File
   theFile = record { size = 16385; root = root; path = (99 ∷ []) ∷ [] }
 
+  -- it is valid
   with-valid : Valid (dictionary withRoot) maxLevels
   unfolding Valid precedes
   with-valid = (refl, (refl, (refl, (refl, (refl, omega arith, (refl, tt, tt)), tt), tt), (refl, omega arith, (refl, omega arith, tt))), (refl, (refl, tt, tt), tt))
 
-  the-files : filesOf withRoot ≡ theFile ∷ []
-  unfolding lookup same filesIn filesBelow
-  the-files = refl
-
+  -- its piece layers
   the-layers : layersOf withRoot ≡ layers
   unfolding lookup same
   the-layers = refl
 
+  -- and passes the tests, one after the other
   keys-right : hasKeys withRoot ≡ true
   unfolding lookup same hasKeys
   keys-right = refl
@@ -118,6 +117,7 @@ module _ (root : List ℕ) where
 
 -- ---- its size
 
+-- a dictionary takes a byte more than its entries with their end, an entry takes its key and its value
 dictionary-size : (es : Entries) → length (encode (dictionary es)) ≡ suc (length (encodeEntries es))
 unfolding encode
 dictionary-size es = refl
@@ -145,23 +145,12 @@ fixed-sizes : (length (encodeString keyInfo) ≡ 6) × (length (encodeString key
 unfolding encode decimalIn zeroHash
 fixed-sizes = (refl, refl, refl, refl, refl, refl, refl, refl, refl, refl, refl)
 
+-- the torrent has 255 bytes
 with-size : (root : List ℕ) → length root ≡ 32 → length (encode (dictionary (withRoot root))) ≡ 255
 with-size root e =
     let leaf : Entries = entry keyLength (integer false 16385) (entry keyPiecesRoot (string root) noEntries) in
     let node : Entries = entry [] (dictionary leaf) noEntries in
     let layers-entry : Entries = entry keyPieceLayers (dictionary (layers root)) noEntries in
-    let f = fixed-sizes in
-    let f0 = f .0 in
-    let f1 = f .1 in
-    let f2 = f .2 in
-    let f3 = f .3 in
-    let f4 = f .4 in
-    let f5 = f .5 in
-    let f6 = f .6 in
-    let f7 = f .7 in
-    let f8 = f .8 in
-    let f9 = f .9 in
-    let f10 = f .10 in
     let in-leaf = entry-size keyLength (integer false 16385) (entry keyPiecesRoot (string root) noEntries) in
     let in-root = entry-size keyPiecesRoot (string root) noEntries in
     let in-node = entry-size [] (dictionary leaf) noEntries in
@@ -172,6 +161,7 @@ with-size root e =
     let in-torrent = entry-size keyInfo (dictionary (info root)) layers-entry in
     omega (
       arith,
+      fixed-sizes,
       string-size root e,
       value-size root e,
       dictionary-size leaf,
@@ -184,6 +174,7 @@ with-size root e =
 
 -- ---- the torrent
 
+-- the root that the layer gives
 abbrev pub theRoot : List ℕ
 theRoot = layerRoot layer 0 1
 
@@ -191,12 +182,14 @@ root-size : length theRoot ≡ 32
 unfolding layerRoot node
 root-size = pair-octets (node (layerLeaf layer 0) 0 0) (node (layerLeaf layer 0) 0 1) .size
 
+-- the torrent with that root, and its one file
 abbrev pub long : Entries
 long = withRoot theRoot
 
 abbrev pub longFile : File
 longFile = theFile theRoot
 
+-- it is valid
 pub long-valid : Valid (dictionary long) maxLevels
 long-valid = with-valid theRoot
 
@@ -215,11 +208,12 @@ the-first = refl
 pub long-first : FileIs (encode (dictionary long)) long longFile (fileRead (encode (dictionary long)) 0)
 long-first = file-is (encode (dictionary long)) long refl long-valid long-taken 0 longFile the-first
 
--- that is the 64 bytes of zeros
+-- it is longer than a piece
 longer : plenOf long < longFile .size
 unfolding lookup same
 longer = omega arith
 
+-- `piece layers` has the 64 bytes for it
 has-layer : lookup (longFile .root) (layersOf long) ≡ present (string layer)
 has-layer = ap (lookup theRoot) (the-layers theRoot) ∙ the-key theRoot
 
@@ -230,6 +224,7 @@ layer-size = refl
 one-string : (a b : List ℕ) → present (string a) ≡ present (string b) → a ≡ b
 one-string a b e = cc
 
+-- so these 64 bytes are what is answered
 pub long-layer : (fileRead (encode (dictionary long)) 0 .size ≡ 64) × (cut (encode (dictionary long)) (fileRead (encode (dictionary long)) 0 .start) (fileRead (encode (dictionary long)) 0 .size) ≡ zeroHash ++ zeroHash)
 long-layer =
     let w = long-first .layer longer in

@@ -11,7 +11,7 @@ use lib.ListN.{length, drop}
 use lib.Dec.{eqb, leb}
 use borrow.Author.Tests.{eqb-true, eqb-false, ne-eqb, le-leb, lt-leb, leb-true, leb-false}
 use Rattle.octets.specs.Octets.{cut}
-use Rattle.numbers.specs.Numbers.{torrentTooLarge, notStrict, nestedTooDeeply, wrongTree, sameRoot, layersAmiss, layerDiffers}
+use Rattle.numbers.specs.Numbers.{torrentTooLarge, notStrict, nestedTooDeeply, wrongTree, sameRoot, layersAmiss, layerDiffers, noSuchFile}
 use Rattle.sha256.specs.Sha256.{sha256}
 use Rattle.tree.specs.Geometry.{isPieceLength}
 use Rattle.bencode.specs.Grammar.{maxLevels, dictionary, Entries, encode, Valid}
@@ -31,6 +31,8 @@ use Rattle.meaning.specs.LayersMeaning.{RootsWithin, layers-number}
 use Rattle.meaning.specs.KeysLaws.{KeysAt, keys-number, keys-point, none-exactly}
 use Rattle.meaning.specs.StrictTorrentLaws.{strict-keys, keys-first, tree-next, torrent-tree, torrent-files}
 use Rattle.torrent.specs.Torrent.{filesNumber, treeNumber, judgedAs, judgedOf, unread, withJudged, checkedOf, noTorrent, readOf, noFileRead, fileRead, noPart, pathRead}
+use Rattle.torrent.specs.declared.read.FileRead.{FileRead}
+use Rattle.torrent.specs.declared.read.PartRead.{PartRead}
 
 -- ---- the files by positions and the files of the value
 
@@ -165,7 +167,7 @@ no-other-number s n (encodes h es v b e) = e ∙ sym (number-is-the-values s es 
 
 -- ---- 19, 20 and 21 only then
 
--- no value has one of these numbers
+-- the tests of a value, one after the other, give none of these numbers
 seven-tests : (a b c d e f g : Bool) (n : ℕ) → 0 < n → n < 22 → cond a (cond b (cond c (cond d (cond e (cond f (cond g 0 28) 27) 26) 25) 24) 23) 22 ≡ n → ⊥
 seven-tests false b c d e f g n l h q = omega arith
 seven-tests true false c d e f g n l h q = omega arith
@@ -176,6 +178,7 @@ seven-tests true true true true true false g n l h q = omega arith
 seven-tests true true true true true true false n l h q = omega arith
 seven-tests true true true true true true true n l h q = omega arith
 
+-- so no value has one of them
 no-value-has : (es : Entries) (n : ℕ) → 0 < n → n < 22 → valueNumber es ≡ n → ⊥
 unfolding valueNumber
 no-value-has es n l h q =
@@ -226,6 +229,34 @@ value-only s e = by-case (torrent-number s)
     by-case (tooDeep h d q) = absurd (other nestedTooDeeply q (omega arith) (omega arith))
     by-case (encodes h es v b q) = (h, (es, v, b, q))
 
+-- ---- none above 28
+
+seven-below : (a b c d e f g : Bool) → cond a (cond b (cond c (cond d (cond e (cond f (cond g 0 28) 27) 26) 25) 24) 23) 22 < 29
+seven-below false b c d e f g = omega arith
+seven-below true false c d e f g = omega arith
+seven-below true true false d e f g = omega arith
+seven-below true true true false e f g = omega arith
+seven-below true true true true false f g = omega arith
+seven-below true true true true true false g = omega arith
+seven-below true true true true true true false = omega arith
+seven-below true true true true true true true = omega arith
+
+value-below : (es : Entries) → valueNumber es < noSuchFile
+unfolding valueNumber
+value-below es =
+    seven-below (hasKeys es) (isNumber 2 (lookup keyMetaVersion (infoOf es))) (isPieceLength (plenOf es)) (treeRight (entriesOf (lookup keyFileTree (infoOf es)))) (rootsApart (filesOf es))
+    (layersFit (plenOf es) (layersOf es) (filesOf es) && noOthers (plenOf es) (filesOf es) (layersOf es)) (layersGiveRoots (plenOf es) (layersOf es) (filesOf es))
+
+-- 29 is never the number of the torrent itself
+number-below : (s : List ℕ) → checkedOf s .number < noSuchFile
+number-below s = by-case (torrent-number s)
+  where
+    by-case : Says s (checkedOf s .number) → checkedOf s .number < noSuchFile
+    by-case (tooLarge h q) = omega arith
+    by-case (noEncoding h a b q) = omega arith
+    by-case (tooDeep h d q) = omega arith
+    by-case (encodes h es v b q) = omega (arith, value-below es)
+
 -- ---- the same number from every call
 
 -- the torrent is answered with that number
@@ -237,6 +268,17 @@ read-number s = by-number (eqb (checkedOf s .number) 0) refl
         → cond b (record { number = 0; hash = sha256 (cut s (checkedOf s .info) (checkedOf s .past - checkedOf s .info)); plen = checkedOf s .plen; files = checkedOf s .files }) (noTorrent (checkedOf s .number)) .number ≡ checkedOf s .number
     by-number true q = sym (eqb-true (checkedOf s .number) 0 q)
     by-number false q = refl
+
+-- so what the number says of the bytes is so of the number that is read
+pub read-says : (s : List ℕ) → Says s (readOf s .number)
+read-says s = rw (read-number s) (torrent-number s)
+
+-- 0 is read only from the encoding of a valid dictionary, of at most 1 MiB, of which 01 says 0
+pub read-encodes : (s : List ℕ) → readOf s .number ≡ 0 → (length s ≤ maxTorrent) × ((es : Entries) × Valid (dictionary es) maxLevels × (s ≡ encode (dictionary es)) × (valueNumber es ≡ 0))
+read-encodes s e =
+    let z = sym (read-number s) ∙ e in
+    let v = value-only s (inl z) in
+    (v .0, (v .1 .0, v .1 .1, v .1 .2, sym (v .1 .3) ∙ z))
 
 -- a refused torrent is answered with its number beside zeros
 pub refused-read : (s : List ℕ) → (checkedOf s .number ≡ 0 → ⊥) → readOf s ≡ noTorrent (checkedOf s .number)
@@ -252,3 +294,25 @@ refused-file s n h = rw (ne-eqb (checkedOf s .number) 0 h) refl
 pub refused-path : (s : List ℕ) (n k : ℕ) → (checkedOf s .number ≡ 0 → ⊥) → pathRead s n k ≡ noPart (checkedOf s .number)
 unfolding pathRead
 refused-path s n k h = rw (ne-eqb (checkedOf s .number) 0 h) refl
+
+-- so 29 for a file is after all of 19 to 28: the torrent itself is read with 0
+pub file-29-after : (s : List ℕ) (n : ℕ) → fileRead s n .number ≡ noSuchFile → readOf s .number ≡ 0
+file-29-after s n e = by-number (eqb (checkedOf s .number) 0) refl
+  where
+    by-number : (b : Bool) → eqb (checkedOf s .number) 0 ≡ b → readOf s .number ≡ 0
+    by-number true q = read-number s ∙ eqb-true (checkedOf s .number) 0 q
+    by-number false q =
+        let f : fileRead s n .number ≡ checkedOf s .number = ap (λ (z : FileRead). z .number) (refused-file s n (eqb-false (checkedOf s .number) 0 q)) in
+        let w : ⊥ = omega (arith, number-below s) in
+        absurd w
+
+-- and so it is for a path element
+pub path-29-after : (s : List ℕ) (n k : ℕ) → pathRead s n k .number ≡ noSuchFile → readOf s .number ≡ 0
+path-29-after s n k e = by-number (eqb (checkedOf s .number) 0) refl
+  where
+    by-number : (b : Bool) → eqb (checkedOf s .number) 0 ≡ b → readOf s .number ≡ 0
+    by-number true q = read-number s ∙ eqb-true (checkedOf s .number) 0 q
+    by-number false q =
+        let f : pathRead s n k .number ≡ checkedOf s .number = ap (λ (z : PartRead). z .number) (refused-path s n k (eqb-false (checkedOf s .number) 0 q)) in
+        let w : ⊥ = omega (arith, number-below s) in
+        absurd w

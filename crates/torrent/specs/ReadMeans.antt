@@ -6,6 +6,7 @@ use mathlib.Core.Logic.{_⊎_, inl, inr}
 use mathlib.Core.Bool.{Bool, true, false, cond, not, _&&_, _||_, false≢true, and-eq-true-iff}
 use mathlib.Core.List.{List, [], _∷_, _++_}
 use Prim.Native.Nat.{ℕ, zero, suc, _+_, _-_, _*_, _≤_, _<_}
+use native.Mathlib.Decide.{decLt}
 use native.Mathlib.Omega.{arith}
 use lib.ListN.{length, drop, getD, length-append}
 use borrow.Author.Tests.{eq-eqb, ne-eqb, lt-ltb, le-ltb}
@@ -49,20 +50,21 @@ module _ {A : Type 0} where
   Nth (y ∷ ys) zero x = x ≡ y
   Nth (y ∷ ys) (suc n) x = Nth ys n x
 
-  -- there is one exactly for the numbers below the length
+  -- there is one for each number below the length
   pub nth-some : (xs : List A) (n : ℕ) → n < length xs → (x : A) × Nth xs n x
   unfolding Nth
   nth-some [] n h = absurd (omega arith)
   nth-some (x ∷ xs) zero h = (x, refl)
   nth-some (x ∷ xs) (suc n) h = nth-some xs n (omega arith)
 
+  -- and for no other
   pub nth-below : (xs : List A) (n : ℕ) (x : A) → Nth xs n x → n < length xs
   unfolding Nth
   nth-below [] n x e = absurd e
   nth-below (y ∷ ys) zero x e = omega arith
   nth-below (y ∷ ys) (suc n) x e = let h = nth-below ys n x e in omega arith
 
-  -- and only one
+  -- there is only one
   pub nth-one : (xs : List A) (n : ℕ) (x y : A) → Nth xs n x → Nth xs n y → x ≡ y
   unfolding Nth
   nth-one [] n x y e f = absurd e
@@ -180,6 +182,7 @@ fits-string plen v (present (dictionary es)) e = absurd (false≢true e)
 abbrev ContentIs : List ℕ → List ℕ → ByteString → Type 0
 ContentIs s b w = (sizeOf w ≡ length b) × (cut s (startOf w) (sizeOf w) ≡ b)
 
+-- a string that is found is read as its content
 found-string : (s b : List ℕ) (w : Found) → FoundIs s w (present (string b)) → ContentIs s b (stringIn s w)
 found-string s b Missing e = absurd e
 found-string s b (Part a k) e =
@@ -232,12 +235,15 @@ pub record PartIs (s x : List ℕ) (r : PartRead) : Type 0 where
 module _ (s : List ℕ) (es : Entries) (start : s ≡ encode (dictionary es)) (valid : Valid (dictionary es) maxLevels) (taken : readOf s .number ≡ 0) where
   -- ---- where it stands
 
+  -- the number by positions is that one
   number-zero : checkedOf s .number ≡ 0
   number-zero = sym (read-number s) ∙ taken
 
+  -- so its tree is right and its parts are where its keys are
   whole : Whole s (checkedOf s)
   whole = checked-whole s number-zero
 
+  -- the keys are those of the torrent's bytes, and point at the values
   as-keys : metainfoOf s ≡ keysOf s
   as-keys = metainfo-right s (whole .keys-right) .same-keys
 
@@ -247,6 +253,7 @@ module _ (s : List ℕ) (es : Entries) (start : s ≡ encode (dictionary es)) (v
   at-values : KeysAt s es (keysOf s)
   at-values = keys-point s es start valid keys-zero
 
+  -- the parts are where the keys point
   same-info : checkedOf s .info ≡ keysOf s .info
   same-info = whole .info-is ∙ ap (λ (z : Keys). z .info) as-keys
 
@@ -266,9 +273,11 @@ module _ (s : List ℕ) (es : Entries) (start : s ≡ encode (dictionary es)) (v
   abbrev files : List Listed
   files = listed (filesIn s (checkedOf s .tree))
 
+  -- read, they are the files of the value
   same-files : readFiles s files ≡ filesOf es
   same-files = rw same-tree (torrent-files s es start valid keys-zero (rw same-tree at (whole .tree-right)))
 
+  -- and as many
   count-files : checkedOf s .files ≡ length (filesOf es)
   count-files = whole .all-files ∙ sym (read-count s files) ∙ ap length same-files
 
@@ -355,6 +364,14 @@ module _ (s : List ℕ) (es : Entries) (start : s ≡ encode (dictionary es)) (v
   unfolding fileRead
   no-file n h = rw (number-zero, le-ltb n (checkedOf s .files) (omega (arith, count-files))) refl
 
+  -- and only there
+  pub no-file-only : (n : ℕ) → fileRead s n .number ≡ noSuchFile → length (filesOf es) ≤ n
+  no-file-only n e = by-count (decLt n (length (filesOf es)))
+    where
+      by-count : Dec (n < length (filesOf es)) → length (filesOf es) ≤ n
+      by-count (yes h) = let v = nth-some (filesOf es) n h in absurd (omega (arith, file-is n (v .0) (v .1) .number))
+      by-count (no h) = omega arith
+
   -- ---- element k of its path
 
   -- its answer by positions
@@ -392,7 +409,15 @@ module _ (s : List ℕ) (es : Entries) (start : s ≡ encode (dictionary es)) (v
       let count : length (v .path) ≡ f .elements = ap length (path-read s f v (p .2)) ∙ elements-count s (f .path) (f .elements) in
       path-answer n k (p .0) ∙ element-lacking (f .path) (f .elements) k (omega arith)
 
-  -- and where there is no file n
+  -- and only there, if there is a file n
+  pub no-element-only : (n : ℕ) (v : File) → Nth (filesOf es) n v → (k : ℕ) → pathRead s n k .number ≡ noSuchFile → length (v .path) ≤ k
+  no-element-only n v at k e = by-count (decLt k (length (v .path)))
+    where
+      by-count : Dec (k < length (v .path)) → length (v .path) ≤ k
+      by-count (yes h) = let x = nth-some (v .path) k h in absurd (omega (arith, element-is n v at k (x .0) (x .1) .number))
+      by-count (no h) = omega arith
+
+  -- 29 for every element where there is no file n
   pub no-path : (n k : ℕ) → length (filesOf es) ≤ n → pathRead s n k ≡ noPart noSuchFile
   unfolding pathRead
   no-path n k h = rw (number-zero, le-ltb n (checkedOf s .files) (omega (arith, count-files))) refl
