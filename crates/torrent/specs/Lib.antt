@@ -1,2 +1,6 @@
 pub mod Torrent
 pub mod CheckLaws
+pub mod NumberMeans
+pub mod ReadMeans
+pub mod Example
+pub mod LayerExample

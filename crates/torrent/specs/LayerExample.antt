@@ -1,0 +1,232 @@
+-- A torrent with a piece layer that gets 0: one file of 16385 bytes in pieces of 16384, so of two pieces, whose hashes are both zeros. Its
+-- root is what the layer gives; no hash is worked out here, only that it has 32 bytes.
+-- Assumes nothing.
+use mathlib.Core.Path.{_≡_, refl, sym, ap, _∙_}
+use mathlib.Core.Bool.{Bool, true, false, cond, not, _&&_, _||_}
+use mathlib.Core.List.{List, [], _∷_, _++_}
+use Prim.Native.Nat.{ℕ, suc, _+_, _<_}
+use native.Mathlib.Omega.{arith}
+use lib.ListN.{length, length-append}
+use borrow.Author.Tests.{eq-eqb}
+use Rattle.octets.specs.Octets.{cut, zeroHash, same}
+use Rattle.octets.specs.OctetsLaws.{same-refl}
+use Rattle.sha256.specs.Sha256Laws.{pair-octets}
+use Rattle.tree.specs.Geometry.{blockCount, ceilDiv, isPieceLength, pieceLayer, pieceCount, height, heightFrom, hasLayer}
+use Rattle.tree.specs.Values.{node, layerLeaf, layerRoot}
+use Rattle.bencode.specs.Grammar.{colon, maxLevels, Value, integer, string, dictionary, Entries, noEntries, entry, decimalIn, decimal, encodeString, encode, encodeEntries, precedes, Valid}
+use Rattle.bencode.specs.Parts.{Lookup, present, absent, lookup}
+use Rattle.files.specs.File.{keyLength, keyPiecesRoot}
+use Rattle.metainfo.specs.Metainfo.{keyInfo, keyFileTree, keyPieceLength, keyMetaVersion, keyPieceLayers}
+use Rattle.meaning.specs.Torrent.{File, entriesOf, isNumber, infoOf, filesOf, plenOf, layersOf, hasKeys, fileRight, nodeRight, branchRight, nodesRight, treeRight, filesBelow, filesIn, noneWith, rootsApart, layerFits, layersFit, someLonger, noOthers, givesRoot, layerOf, layersGiveRoots, valueNumber}
+use Rattle.torrent.specs.Torrent.{readOf, fileRead}
+use Rattle.torrent.specs.NumberMeans.{number-is-the-values, read-number}
+use Rattle.torrent.specs.ReadMeans.{Nth, FileIs, file-is}
+
+-- ---- a torrent gets 0 where all seven tests of its value pass
+
+all-pass : (es : Entries) → hasKeys es ≡ true → isNumber 2 (lookup keyMetaVersion (infoOf es)) ≡ true → isPieceLength (plenOf es) ≡ true
+    → treeRight (entriesOf (lookup keyFileTree (infoOf es))) ≡ true → rootsApart (filesOf es) ≡ true → layersFit (plenOf es) (layersOf es) (filesOf es) ≡ true
+    → noOthers (plenOf es) (filesOf es) (layersOf es) ≡ true → layersGiveRoots (plenOf es) (layersOf es) (filesOf es) ≡ true → valueNumber es ≡ 0
+unfolding valueNumber
+all-pass es a b c d e f g h = rw (a, b, c, d, e, f, g, h) refl
+
+-- ---- with any root
+
+-- the two hashes of the layer
+abbrev layer : List ℕ
+layer = zeroHash ++ zeroHash
+
+module _ (root : List ℕ) where
+  abbrev tree : Entries
+  tree = entry (99 ∷ []) (dictionary (entry [] (dictionary (entry keyLength (integer false 16385) (entry keyPiecesRoot (string root) noEntries))) noEntries)) noEntries
+
+  abbrev info : Entries
+  info = entry keyFileTree (dictionary tree) (entry keyMetaVersion (integer false 2) (entry keyPieceLength (integer false 16384) noEntries))
+
+  abbrev layers : Entries
+  layers = entry root (string layer) noEntries
+
+  abbrev withRoot : Entries
+  withRoot = entry keyInfo (dictionary info) (entry keyPieceLayers (dictionary layers) noEntries)
+
+  -- its one file
+  abbrev theFile : File
+  theFile = record { size = 16385; root = root; path = (99 ∷ []) ∷ [] }
+
+  -- it is valid
+  with-valid : Valid (dictionary withRoot) maxLevels
+  unfolding Valid precedes
+  with-valid = (refl, (refl, (refl, (refl, (refl, omega arith, (refl, tt, tt)), tt), tt), (refl, omega arith, (refl, omega arith, tt))), (refl, (refl, tt, tt), tt))
+
+  -- its piece layers
+  the-layers : layersOf withRoot ≡ layers
+  unfolding lookup same
+  the-layers = refl
+
+  -- and passes the tests, one after the other
+  keys-right : hasKeys withRoot ≡ true
+  unfolding lookup same hasKeys
+  keys-right = refl
+
+  version-right : isNumber 2 (lookup keyMetaVersion (infoOf withRoot)) ≡ true
+  unfolding lookup same
+  version-right = refl
+
+  piece-right : isPieceLength (plenOf withRoot) ≡ true
+  unfolding lookup same isPieceLength pieceLayer height heightFrom
+  piece-right = refl
+
+  tree-right : length root ≡ 32 → treeRight (entriesOf (lookup keyFileTree (infoOf withRoot))) ≡ true
+  unfolding lookup same treeRight branchRight nodeRight nodesRight fileRight
+  tree-right e = ap (λ (t : Bool). t && true) (eq-eqb (length root) 32 e)
+
+  apart-right : rootsApart (filesOf withRoot) ≡ true
+  unfolding lookup same filesIn filesBelow rootsApart noneWith
+  apart-right = refl
+
+  -- the root is the one key
+  the-key : lookup root layers ≡ present (string layer)
+  unfolding lookup
+  the-key = ap (λ (t : Bool). cond t (present (string layer)) absent) (same-refl root)
+
+  -- 32 bytes for each of two pieces
+  two-pieces : layerFits 16384 theFile (present (string layer)) ≡ true
+  unfolding zeroHash pieceCount ceilDiv
+  two-pieces = refl
+
+  fit-right : layersFit (plenOf withRoot) (layersOf withRoot) (filesOf withRoot) ≡ true
+  unfolding lookup same filesIn filesBelow layersFit hasLayer
+  fit-right = ap (λ (t : Bool). t && true) (ap (layerFits 16384 theFile) the-key ∙ two-pieces)
+
+  others-right : noOthers (plenOf withRoot) (filesOf withRoot) (layersOf withRoot) ≡ true
+  unfolding lookup same filesIn filesBelow noOthers someLonger hasLayer
+  others-right = ap (λ (t : Bool). (t || false) && true) (same-refl root)
+
+  -- the layer gives the root
+  gives : layerRoot layer 0 1 ≡ root → givesRoot 16384 theFile layer ≡ true
+  unfolding pieceLayer height heightFrom blockCount ceilDiv
+  gives e = rw e (same-refl root)
+
+  gives-right : layerRoot layer 0 1 ≡ root → layersGiveRoots (plenOf withRoot) (layersOf withRoot) (filesOf withRoot) ≡ true
+  unfolding lookup same filesIn filesBelow layersGiveRoots hasLayer
+  gives-right e = ap (λ (t : Bool). t && true) (ap (λ (x : Lookup). givesRoot 16384 theFile (layerOf x)) the-key ∙ gives e)
+
+  -- all tests pass
+  with-right : length root ≡ 32 → layerRoot layer 0 1 ≡ root → valueNumber withRoot ≡ 0
+  with-right l e = all-pass withRoot keys-right version-right piece-right (tree-right l) apart-right fit-right others-right (gives-right e)
+
+-- ---- its size
+
+-- a dictionary takes a byte more than its entries with their end, an entry takes its key and its value
+dictionary-size : (es : Entries) → length (encode (dictionary es)) ≡ suc (length (encodeEntries es))
+unfolding encode
+dictionary-size es = refl
+
+entry-size : (k : List ℕ) (v : Value) (es : Entries) → length (encodeEntries (entry k v es)) ≡ length (encodeString k) + length (encode v) + length (encodeEntries es)
+unfolding encode
+entry-size k v es = let la = length-append (encodeString k) (encode v ++ encodeEntries es) in let lb = length-append (encode v) (encodeEntries es) in omega arith
+
+-- a string of 32 bytes takes 35
+string-size : (b : List ℕ) → length b ≡ 32 → length (encodeString b) ≡ 35
+unfolding decimalIn
+string-size b e = let la = length-append (decimal (length b)) (colon ∷ b) in let d : length (decimal (length b)) ≡ 2 = rw e refl in omega arith
+
+value-size : (b : List ℕ) → length b ≡ 32 → length (encode (string b)) ≡ 35
+unfolding encode
+value-size b e = string-size b e
+
+-- what does not depend on the root
+abbrev afterTree : Entries
+afterTree = entry keyMetaVersion (integer false 2) (entry keyPieceLength (integer false 16384) noEntries)
+
+fixed-sizes : (length (encodeString keyInfo) ≡ 6) × (length (encodeString keyPieceLayers) ≡ 15) × (length (encodeString keyFileTree) ≡ 11) × (length (encodeString (99 ∷ [])) ≡ 3)
+    × (length (encodeString []) ≡ 2) × (length (encodeString keyLength) ≡ 8) × (length (encodeString keyPiecesRoot) ≡ 14) × (length (encode (integer false 16385)) ≡ 7)
+    × (length (encode (string layer)) ≡ 67) × (length (encodeEntries afterTree) ≡ 41) × (length (encodeEntries noEntries) ≡ 1)
+unfolding encode decimalIn zeroHash
+fixed-sizes = (refl, refl, refl, refl, refl, refl, refl, refl, refl, refl, refl)
+
+-- the torrent has 255 bytes
+with-size : (root : List ℕ) → length root ≡ 32 → length (encode (dictionary (withRoot root))) ≡ 255
+with-size root e =
+    let leaf : Entries = entry keyLength (integer false 16385) (entry keyPiecesRoot (string root) noEntries) in
+    let node : Entries = entry [] (dictionary leaf) noEntries in
+    let layers-entry : Entries = entry keyPieceLayers (dictionary (layers root)) noEntries in
+    let in-leaf = entry-size keyLength (integer false 16385) (entry keyPiecesRoot (string root) noEntries) in
+    let in-root = entry-size keyPiecesRoot (string root) noEntries in
+    let in-node = entry-size [] (dictionary leaf) noEntries in
+    let in-tree = entry-size (99 ∷ []) (dictionary node) noEntries in
+    let in-info = entry-size keyFileTree (dictionary (tree root)) afterTree in
+    let in-layers = entry-size root (string layer) noEntries in
+    let in-last = entry-size keyPieceLayers (dictionary (layers root)) noEntries in
+    let in-torrent = entry-size keyInfo (dictionary (info root)) layers-entry in
+    omega (
+      arith,
+      fixed-sizes,
+      string-size root e,
+      value-size root e,
+      dictionary-size leaf,
+      dictionary-size node,
+      dictionary-size (tree root),
+      dictionary-size (info root),
+      dictionary-size (layers root),
+      dictionary-size (withRoot root),
+    )
+
+-- ---- the torrent
+
+-- the root that the layer gives
+abbrev pub theRoot : List ℕ
+theRoot = layerRoot layer 0 1
+
+root-size : length theRoot ≡ 32
+unfolding layerRoot node
+root-size = pair-octets (node (layerLeaf layer 0) 0 0) (node (layerLeaf layer 0) 0 1) .size
+
+-- the torrent with that root, and its one file
+abbrev pub long : Entries
+long = withRoot theRoot
+
+abbrev pub longFile : File
+longFile = theFile theRoot
+
+-- it is valid
+pub long-valid : Valid (dictionary long) maxLevels
+long-valid = with-valid theRoot
+
+-- it gets 0
+pub long-taken : readOf (encode (dictionary long)) .number ≡ 0
+long-taken =
+    read-number (encode (dictionary long))
+    ∙ number-is-the-values (encode (dictionary long)) long refl long-valid (let n = with-size theRoot root-size in omega arith)
+    ∙ with-right theRoot root-size refl
+
+the-first : Nth (filesOf long) 0 longFile
+unfolding Nth lookup same filesIn filesBelow
+the-first = refl
+
+-- and its file is answered with the layer that `piece layers` has for its root
+pub long-first : FileIs (encode (dictionary long)) long longFile (fileRead (encode (dictionary long)) 0)
+long-first = file-is (encode (dictionary long)) long refl long-valid long-taken 0 longFile the-first
+
+-- it is longer than a piece
+longer : plenOf long < longFile .size
+unfolding lookup same
+longer = omega arith
+
+-- `piece layers` has the 64 bytes for it
+has-layer : lookup (longFile .root) (layersOf long) ≡ present (string layer)
+has-layer = ap (lookup theRoot) (the-layers theRoot) ∙ the-key theRoot
+
+layer-size : length layer ≡ 64
+unfolding zeroHash
+layer-size = refl
+
+one-string : (a b : List ℕ) → present (string a) ≡ present (string b) → a ≡ b
+one-string a b e = cc
+
+-- so these 64 bytes are what is answered
+pub long-layer : (fileRead (encode (dictionary long)) 0 .size ≡ 64) × (cut (encode (dictionary long)) (fileRead (encode (dictionary long)) 0 .start) (fileRead (encode (dictionary long)) 0 .size) ≡ zeroHash ++ zeroHash)
+long-layer =
+    let w = long-first .layer longer in
+    let b : w .0 ≡ layer = one-string (w .0) layer (sym (w .1) ∙ has-layer) in
+    (w .2 ∙ ap length b ∙ layer-size, w .3 ∙ b)
