@@ -133,7 +133,7 @@ answer-wrong roots plen whole t q e = (q ∙ tally-wrong plen whole e, λ f. abs
 
 pub answer-right : (roots : List ℕ) (plen : ℕ) (whole : Files) (count full long : ℕ)
     → (right whole ≡ true) × (count ≡ length (listed whole)) × (full ≡ length (rootsOf (listed whole))) × (long ≡ longs plen (listed whole)) × (take (length (rootsOf (listed whole))) roots ≡ rootsOf (listed whole))
-    → Answered roots plen whole (record { right = true; files = count; roots = full; long = long })
+    → Answered roots plen whole (record { files = count; roots = full; long = long })
 answer-right roots plen whole count full long p = (rw (p .1, p .2, p .3) (tally-right plen whole (listed whole) (p .0) refl), λ f. p .4)
 
 -- past the end of the bytes there is no tree

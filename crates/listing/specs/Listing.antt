@@ -69,12 +69,12 @@ unfoldable pub longs : ℕ → List Listed → ℕ
 longs plen [] = 0
 longs plen (f ∷ fs) = cond (hasLayer (f .size) plen) (suc (longs plen fs)) (longs plen fs)
 
--- what is counted of a tree that is right
+-- what is counted of a tree that is right; of another nothing
 abbrev pub tallied : ℕ → List Listed → Tally
-tallied plen fs = record { right = true; files = length fs; roots = length (rootsOf fs); long = longs plen fs }
+tallied plen fs = record { files = length fs; roots = length (rootsOf fs); long = longs plen fs }
 
 abbrev pub noTally : Tally
-noTally = record { right = false; files = 0; roots = 0; long = 0 }
+noTally = record { files = 0; roots = 0; long = 0 }
 
 unfoldable pub tallyOf : ℕ → Files → Tally
 tallyOf plen fs = cond (right fs) (tallied plen (listed fs)) noTally

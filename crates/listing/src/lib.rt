@@ -15,10 +15,9 @@ ghost use Rattle.listing.specs.Listing.{filesIn, right, listed, rootsOf,
 // A file that is not empty takes 64 bytes or more: a torrent of 1 MiB has no more of them.
 pub const MOST: usize = 16384;
 
-// Whether the tree is right to its end; if so, how many files it has, how many of them are not empty, and how many are longer than
-// the piece length.
+// How many files a right tree has, how many of them are not empty, and how many are longer than the piece length; zeros of a tree
+// that isn't right.
 pub struct Tally {
-    pub right: bool,
     pub files: usize,
     pub roots: usize,
     pub long: usize,
@@ -28,7 +27,6 @@ fn no_tally() -> Tally
     ensures { λ r. ⌜ r ≡ noTally ⌝ }
 {
     Tally {
-        right: false,
         files: 0,
         roots: 0,
         long: 0,
@@ -82,7 +80,6 @@ pub fn count_files(s: &[u8], tree: usize, plen: usize, roots: &mut [u32]) -> Tal
             }
             Next::NoMore => {
                 return Tally {
-                    right: true,
                     files: count,
                     roots: full,
                     long,

@@ -48,31 +48,17 @@ module _ (plen : ℕ) (whole : Files) (t : Tally) (e : t ≡ tallyOf plen whole)
   unfolding tallyOf
   by-right b q = e ∙ rw q refl
 
-  pub counted-right : t .right ≡ true → (right whole ≡ true) × (t ≡ tallied plen (listed whole))
-  counted-right h = on (right whole) refl
-    where
-      on : (b : Bool) → right whole ≡ b → (right whole ≡ true) × (t ≡ tallied plen (listed whole))
-      on true q = (q, by-right true q)
-      on false q = absurd (false≢true (sym (ap (λ (z : Tally). z .right) (by-right false q)) ∙ h))
+  counted-right : right whole ≡ true → t ≡ tallied plen (listed whole)
+  counted-right h = by-right true h
 
-  pub counted-wrong : t .right ≡ false → right whole ≡ false
-  counted-wrong h = on (right whole) refl
-    where
-      on : (b : Bool) → right whole ≡ b → right whole ≡ false
-      on true q = absurd (false≢true (sym h ∙ ap (λ (z : Tally). z .right) (by-right true q)))
-      on false q = q
+pub judged-wrong : (s : List ℕ) (tree plen layers : ℕ) → right (filesIn s tree) ≡ false → _≡_ {A = Judged} (record { number = wrongTree; files = 0; long = 0 }) (judgedOf s tree plen layers)
+unfolding judgedOf treeNumber
+judged-wrong s tree plen layers h = rw h refl
 
 module _ (s : List ℕ) (tree plen layers : ℕ) (t : Tally) (e : t ≡ tallyOf plen (filesIn s tree)) where
-  fs : List Listed
-  fs = listed (filesIn s tree)
-
-  pub judged-wrong : t .right ≡ false → _≡_ {A = Judged} (record { number = wrongTree; files = 0; long = 0 }) (judgedOf s tree plen layers)
-  unfolding judgedOf treeNumber
-  judged-wrong h = rw (counted-wrong plen (filesIn s tree) t e h) refl
-
-  module _ (h : t .right ≡ true) (roots : List ℕ) (kept : right (filesIn s tree) ≡ true → take (length (rootsOf (listed (filesIn s tree)))) roots ≡ rootsOf (listed (filesIn s tree))) where
+  module _ (h : right (filesIn s tree) ≡ true) (roots : List ℕ) (kept : right (filesIn s tree) ≡ true → take (length (rootsOf (listed (filesIn s tree)))) roots ≡ rootsOf (listed (filesIn s tree))) where
     so : (right (filesIn s tree) ≡ true) × (t ≡ tallied plen (listed (filesIn s tree)))
-    so = counted-right plen (filesIn s tree) t e h
+    so = (h, counted-right plen (filesIn s tree) t e h)
 
     full : t .roots ≡ length (rootsOf (listed (filesIn s tree)))
     full = ap (λ (z : Tally). z .roots) (so .1)
@@ -125,9 +111,6 @@ module _ (s : List ℕ) (tree plen layers : ℕ) (t : Tally) (e : t ≡ tallyOf 
             first : (a b : Bool) → (a && b) ≡ true → a ≡ true
             first true b z = refl
             first false b z = absurd (false≢true z)
-
-    pub right-so : right (filesIn s tree) ≡ true
-    right-so = so .0
 
 -- ---- from the keys on
 

@@ -2,6 +2,7 @@
 use layers::index;
 use layers::judge_layers;
 use listing::count_files;
+use listing::tree_right;
 use metainfo::read_keys;
 use roots::distinct::apart;
 ghost use mathlib.Core.Path.{_≡_};
@@ -82,11 +83,11 @@ fn judge_in(
     requires { ⌜ (length (now s) ≤ 2 ^ 20) × (isPieceLength plen ≡ true) × LayersOpen (now s) layers × (length (now roots) ≡ 16384) × (length (now room) ≡ 16384) ⌝ }
     ensures { λ r. ⌜ r ≡ judgedOf (now (s .entry)) tree plen layers ⌝ }
 {
-    let tally = count_files(s, tree, plen, roots);
-    let files = tally.files;
-    let full = tally.roots;
-    let long = tally.long;
-    if tally.right {
+    if tree_right(s, tree) {
+        let tally = count_files(s, tree, plen, roots);
+        let files = tally.files;
+        let full = tally.roots;
+        let long = tally.long;
         if apart(s, roots, room, full) {
             if index(s, layers, roots, long) {
                 let number = judge_layers(s, tree, layers, roots, long, plen);
