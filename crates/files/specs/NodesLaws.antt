@@ -6,8 +6,20 @@ use mathlib.Core.List.{List}
 use Prim.Native.Nat.{ℕ, zero, suc, _+_, _-_, _≤_, _<_}
 use native.Mathlib.Omega.{arith}
 use lib.ListN.{length, drop}
-use Rattle.files.specs.Walk.{maxElements, endsHere, tokenAt}
-use Rattle.files.specs.WalkLaws.{TokenIn, token-in, token-none}
+use lib.Dec.{eqb}
+use Rattle.bencode.specs.Grammar.{maxLevels}
+use Rattle.bencode.specs.Scalar.{readString}
+use Rattle.bencode.specs.Walk.{walkValue}
+use Rattle.bencode.specs.Parts.{isDictionary}
+use Rattle.bencode.specs.declared.scalar.ByteString.{ByteString}
+use Rattle.bencode.specs.declared.scalar.ByteString.the-variants.{Content, NoString}
+use Rattle.bencode.specs.declared.walk.Walked.{Walked}
+use Rattle.bencode.specs.declared.walk.Walked.the-variants as walked
+use Rattle.files.specs.File.{fileAt}
+use Rattle.files.specs.declared.file.File.{File}
+use Rattle.files.specs.declared.file.File.the-variants.{Right, WrongFile}
+use Rattle.files.specs.Walk.{endsHere, behindFile, pastFile, withFile, fileToken, firstKey, nodeToken, keyToken, tokenAt}
+use Rattle.files.specs.WalkLaws.{TokenIn, token-in}
 use Rattle.files.specs.Nodes.{pastDirectory, onNode, walkTokens, walkDirectory}
 use Rattle.files.specs.declared.walk.Token.{Token}
 use Rattle.files.specs.declared.walk.Token.the-variants.{Opened, Closed, Leaf, BadToken}
@@ -51,6 +63,10 @@ directory-ends l s at k e = rw e at (directory-in l s at)
 
 -- ---- one step of the walk over a directory's nodes
 
+pub nodes-zero : (sub : ℕ → Ending) (s : List ℕ) (at : ℕ) → walkTokens sub zero s at ≡ WrongDirectory
+unfolding walkTokens
+nodes-zero sub s at = refl
+
 pub nodes-step : (sub : ℕ → Ending) (steps : ℕ) (s : List ℕ) (at : ℕ) (t : Token) → tokenAt s at ≡ t → walkTokens sub (suc steps) s at ≡ onNode sub (walkTokens sub steps s) at t
 unfolding walkTokens
 nodes-step sub steps s at t e = ap (onNode sub (walkTokens sub steps s) at) e
@@ -71,3 +87,75 @@ pub directory-up : (l : ℕ) (s : List ℕ) (at : ℕ) → (l ≡ 0 → ⊥) →
 unfolding walkDirectory
 directory-up zero s at e = absurd (e refl)
 directory-up (suc l) s at e = let q : suc l - 1 ≡ l = omega arith in rw q refl
+
+-- ---- what is open is not empty
+
+-- no end stands here, and a directory that opens is not empty
+abbrev pub InsideToken : List ℕ → Token → Type 0
+InsideToken s BadToken = Unit {0}
+InsideToken s Closed = ⊥
+InsideToken s (Opened a b) = endsHere (drop (b + 1) s) ≡ false
+InsideToken s (Leaf a b n r k) = Unit {0}
+
+file-inside : (s : List ℕ) (a b at : ℕ) → InsideToken s (fileToken s a b at)
+unfolding fileToken pastFile
+file-inside s a b at = by-file (fileAt s at)
+  where
+    by-end : (n r k : ℕ) (t : Bool) → InsideToken s (cond t (Leaf a b n r (k + 1)) BadToken)
+    by-end n r k true = tt
+    by-end n r k false = tt
+
+    by-walk : (n r : ℕ) (w : Walked) → InsideToken s (behindFile s a b n r w)
+    by-walk n r walked.Broken = tt
+    by-walk n r walked.TooDeep = tt
+    by-walk n r (walked.Past k) = by-end n r k (endsHere (drop k s))
+
+    by-file : (w : File) → InsideToken s (withFile s a b at w)
+    by-file WrongFile = tt
+    by-file (Right n r) = by-walk n r (walkValue maxLevels at (drop at s))
+
+node-inside : (s : List ℕ) (a b : ℕ) → InsideToken s (nodeToken s a b)
+unfolding nodeToken
+node-inside s a b = by-kind (isDictionary (drop b s))
+  where
+    by-empty : endsHere (drop (b + 1) s) ≡ false → (y : ℕ) (t : Bool) → InsideToken s (cond t (fileToken s a b y) (Opened a b))
+    by-empty e y true = file-inside s a b y
+    by-empty e y false = e
+
+    by-key : endsHere (drop (b + 1) s) ≡ false → (w : ByteString) → InsideToken s (firstKey s a b w)
+    by-key e NoString = tt
+    by-key e (Content x y) = by-empty e y (eqb x y)
+
+    by-end : (t : Bool) → endsHere (drop (b + 1) s) ≡ t → InsideToken s (cond t BadToken (firstKey s a b (readString (b + 1) (drop (b + 1) s))))
+    by-end true e = tt
+    by-end false e = by-key e (readString (b + 1) (drop (b + 1) s))
+
+    by-kind : (t : Bool) → InsideToken s (cond t (cond (endsHere (drop (b + 1) s)) BadToken (firstKey s a b (readString (b + 1) (drop (b + 1) s)))) BadToken)
+    by-kind true = by-end (endsHere (drop (b + 1) s)) refl
+    by-kind false = tt
+
+key-inside : (s : List ℕ) (w : ByteString) → InsideToken s (keyToken s w)
+key-inside s NoString = tt
+key-inside s (Content a b) = by-empty (eqb a b)
+  where
+    by-empty : (t : Bool) → InsideToken s (cond t BadToken (nodeToken s a b))
+    by-empty true = tt
+    by-empty false = node-inside s a b
+
+pub token-inside : (s : List ℕ) (at : ℕ) → endsHere (drop at s) ≡ false → InsideToken s (tokenAt s at)
+unfolding tokenAt
+token-inside s at e = rw e (key-inside s (readString at (drop at s)))
+
+token-closed : (s : List ℕ) (at : ℕ) → endsHere (drop at s) ≡ true → tokenAt s at ≡ Closed
+unfolding tokenAt
+token-closed s at e = rw e refl
+
+pub opened-full : (s : List ℕ) (at a b : ℕ) → tokenAt s at ≡ Opened a b → endsHere (drop (b + 1) s) ≡ false
+opened-full s at a b e = by-end (endsHere (drop at s)) refl
+  where
+    not-closed : Closed ≡ Opened a b → ⊥
+    not-closed q = let z : _≡_ {A = ℕ} 0 1 = cc in omega arith
+
+    by-end : (t : Bool) → endsHere (drop at s) ≡ t → endsHere (drop (b + 1) s) ≡ false
+    by-end true q = absurd (not-closed (sym (token-closed s at q) ∙ e))
+    by-end false q = rw e at (token-inside s at q)
