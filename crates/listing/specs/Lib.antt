@@ -1,3 +1,5 @@
 pub mod Listing
 pub mod ListingLaws
 pub mod FilesLaws
+pub mod FlatLaws
+pub mod NodesLaws

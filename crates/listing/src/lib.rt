@@ -1,4 +1,7 @@
 // All files of a torrent, one after the other: how many there are, how many need a layer, and where their roots stand.
+use files::nodes::Ending;
+use files::nodes::directory_end;
+use files::walk::ELEMENTS;
 use files::walk::Next;
 use files::walk::ends_here;
 use files::walk::next_file;
@@ -100,4 +103,21 @@ pub fn count_files(s: &[u8], tree: usize, plen: usize, roots: &mut [u32]) -> Tal
         }
     }
     no_tally()
+}
+
+// Whether the `file tree` at `tree` is right to its end: directory inside directory, with the levels left.
+pub fn tree_right(s: &[u8], tree: usize) -> bool
+    ensures { λ r. ⌜ r ≡ right (filesIn (now (s .entry)) tree) ⌝ }
+{
+    if s.len() <= tree {
+        return false;
+    }
+    let at = tree + 1;
+    if ends_here(s, at) {
+        return false; // an empty one
+    }
+    match directory_end(s, at, ELEMENTS) {
+        Ending::Past(_) => true,
+        Ending::WrongDirectory => false,
+    }
 }

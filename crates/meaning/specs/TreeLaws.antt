@@ -28,7 +28,7 @@ use Rattle.meaning.specs.Torrent.{File, entriesOf, numberOf, rootOf, fil
 use Rattle.meaning.specs.Reading.{element, elementsOf, rootRead, readFile, readFiles}
 use Rattle.meaning.specs.FileLaws.{FileIs, file-is}
 use Rattle.meaning.specs.TokenLaws.{after-bytes, entries-there, entry-bytes, ends-is, token-end, token-empty, token-node, node-other, node-empty, node-opened, node-file, file-wrong, file-right}
-use Rattle.meaning.specs.FlatLaws.{tokensFrom, tokens-step, tokens-bad, files-by-tokens}
+use Rattle.listing.specs.FlatLaws.{tokensFrom, tokens-step, tokens-bad, files-by-tokens}
 
 -- ---- the path
 
