@@ -49,4 +49,5 @@ pub mod LayerExample
 pub mod OneOutcome
 pub mod ServedWhen
 pub mod RootAlone
+pub mod EachImpostor
 pub mod InTable

@@ -6,8 +6,8 @@ use mathlib.Core.Bool.{true}
 use mathlib.Core.List.{List, [], _∷_, _++_}
 use Prim.Native.Nat.{ℕ, zero, suc, _+_, _-_, _≤_, _<_}
 use native.Mathlib.Omega.{arith}
-use lib.ListN.{length, getD, replicate, length-replicate}
-use lib.Dec.{lit<, lit≤}
+use lib.ListN.{length, replicate, length-replicate}
+use lib.Dec.{lit<}
 use borrow.Author.Tests.{le-leb}
 use Rattle.octets.specs.Octets.{Octets, be, zeroHash}
 use Rattle.octets.specs.OctetsLaws.{zero-octets, be-octets, append-octets}
@@ -16,7 +16,7 @@ use Rattle.sha256.specs.Sha256Laws.{pair-octets}
 use Rattle.tree.specs.Geometry.{ceilDiv, blockCount, blockSize, heightFrom, height, pieceLayer, isPieceLength}
 use Rattle.tree.specs.Values.{node, leafOf, blockOf, piecesRoot}
 use Rattle.tree.specs.ValuesLaws.{leaf-octets, leaf-block, block-bytes}
-use Rattle.store.specs.Store.{blocksOf, factsInRange, storeSize, openAnswer, openAfter, opened, positions, heldAnswer}
+use Rattle.store.specs.Store.{blocksOf, factsInRange, storeSize, openAnswer, openAfter, opened, heldAnswer}
 use Rattle.pieces.specs.Pieces.{blockNumber}
 use Rattle.store.specs.StoreLaws.{Facts, facts-usable, usable-facts, opened-usable, opened-file, opened-facts-root}
 use Rattle.header.specs.declared.Header.{Header}
@@ -35,6 +35,8 @@ use Rattle.promises.specs.Positions.{given-is}
 use Rattle.promises.specs.HeldAfter.{settles-then-holds}
 use Rattle.promises.specs.Conflict.{sized-bytes}
 use Rattle.promises.specs.RootToBlock.{For}
+use Rattle.promises.specs.Impostors.{zero-bytes}
+use Rattle.promises.specs.EachNumber.{room-for-two}
 use Rattle.promises.specs.Known.{TrueHashes}
 use Rattle.promises.specs.Example.{twoLeaves, header-two, first, second, two-taken, two-well-formed, two-place}
 
@@ -178,20 +180,6 @@ module _ (file buffer : List ℕ) (two-blocks : length file ≡ 32768) (fits : s
       rw root-is (held-asked (isHashes m) s m (passed (isHashes m) s m (well .header)) (taken-then-right s m well z .held))
 
 -- ---- the same with every byte said: 163 zero bytes lent, a file of 32768 zero bytes
-
-zeros : (n i : ℕ) → getD (replicate n 0) i 0 < 256
-zeros zero i = lit< tt
-zeros (suc n) zero = lit< tt
-zeros (suc n) (suc i) = zeros n i
-
--- any number of zero bytes are bytes
-pub zero-bytes : (n : ℕ) → Bytes (replicate n 0)
-zero-bytes n = record { size = refl; bytes = λ i l. zeros n i }
-
--- and 163 are room for a file of two blocks
-pub room-for-two : storeSize 32768 ≤ length {A = ℕ} (replicate 163 0)
-unfolding storeSize positions height heightFrom blockCount ceilDiv
-room-for-two = lit≤ tt
 
 -- a store of ours of two blocks, after a message that was taken
 pub a-store-of-two-blocks : OurStore (takeAfter (openAfter (replicate 163 0) 32768 16384 (pairHash zeroHash zeroHash)) (twoLeaves zeroHash zeroHash))
