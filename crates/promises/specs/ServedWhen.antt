@@ -39,7 +39,7 @@ pub record Form (id : ℕ) (m : List ℕ) : Type 0 where
   pub first : getD m 0 0 ≡ id
 
 -- a request (id 21) or a reject (id 23) that passes 9, 1, 2 and 3
-pub record Valid (id : ℕ) (s m : List ℕ) : Type 0 where
+pub record ValidHeader (id : ℕ) (s m : List ℕ) : Type 0 where
   pub store : usable s ≡ true
   pub form : Form id m
   pub root : factsRoot s ≡ messageRoot m
@@ -156,7 +156,7 @@ module _ (id : ℕ) (s m : List ℕ) (n : ℕ) (a : Bool)
     λ t. tests ∙ rw (t .0, form-is id m .1 (t .1), root-is s m .1 (t .2), says-not (rules-are s m) .1 (t .3)),
   )
 
-  by-on : (k : ℕ) → (k ≡ 0) ⊎ (k ≡ notHeld) → (n ≡ k) ↔ (Valid id s m × (cond a 0 notHeld ≡ k))
+  by-on : (k : ℕ) → (k ≡ 0) ⊎ (k ≡ notHeld) → (n ≡ k) ↔ (ValidHeader id s m × (cond a 0 notHeld ≡ k))
   by-on k o = (
     λ e.
         (let t = ahead-on k o (usable s) (formed id m) (same (factsRoot s) (messageRoot m)) (rulesKept (headerOf m) (blocksOf s) (heightOf s)) a (sym tests ∙ e) in
@@ -196,7 +196,7 @@ module _ (s m : List ℕ) where
   reject-3 = by-3 23 s m (rejectAnswer s m .number) true reject-tests
 
   -- 0 EXACTLY WHEN none of these applies
-  pub reject-0 : (rejectAnswer s m .number ≡ 0) ↔ Valid 23 s m
+  pub reject-0 : (rejectAnswer s m .number ≡ 0) ↔ ValidHeader 23 s m
   reject-0 = let p = by-on 23 s m (rejectAnswer s m .number) true reject-tests 0 (inl refl) in (λ e. p .0 e .0, λ v. p .1 (v, refl))
 
 -- ---- a request
@@ -223,7 +223,7 @@ module _ (s m : List ℕ) where
       ↔ ((usable s ≡ true) × Form 21 m × (factsRoot s ≡ messageRoot m) × (Kept (headerOf m) (blocksOf s) (heightOf s) → ⊥))
   request-3 = by-3 21 s m (requestNumber s m) (allHeld s (placeIn s m)) request-tests
 
-  module _ (ok : Valid 21 s m) where
+  module _ (ok : ValidHeader 21 s m) where
     facts : Facts s
     facts = usable-facts s (ok .store)
 
@@ -256,7 +256,7 @@ module _ (s m : List ℕ) where
         record { run = λ j l. (_, run-reads-back s m z j l); uncles = λ j l. (_, uncle-reads-back s m z j l) }
 
   -- 0, if there is room for the reply, EXACTLY WHEN it passes these and kd_held gives every hash that it asks for
-  pub request-0 : (requestNumber s m ≡ 0) ↔ (Valid 21 s m × AllGiven s m)
+  pub request-0 : (requestNumber s m ≡ 0) ↔ (ValidHeader 21 s m × AllGiven s m)
   request-0 =
       let p = by-on 21 s m (requestNumber s m) (allHeld s (placeIn s m)) request-tests 0 (inl refl) in (
         λ e. (let w = p .0 e in (w .0, all-given (w .0) (all-or-12 (allHeld s (placeIn s m)) (w .1)))),
@@ -264,7 +264,7 @@ module _ (s m : List ℕ) where
       )
 
   -- 12 EXACTLY WHEN it passes these and kd_held does not give them all
-  pub request-12 : (requestNumber s m ≡ notHeld) ↔ (Valid 21 s m × (AllGiven s m → ⊥))
+  pub request-12 : (requestNumber s m ≡ notHeld) ↔ (ValidHeader 21 s m × (AllGiven s m → ⊥))
   request-12 =
       let p = by-on 21 s m (requestNumber s m) (allHeld s (placeIn s m)) request-tests notHeld (inr refl) in (
         λ e. (let w = p .0 e in (w .0, λ A. not-both (given-all (w .0) A) (not-all (allHeld s (placeIn s m)) (w .1)))),
@@ -272,13 +272,13 @@ module _ (s m : List ℕ) where
       )
 
   -- A HASHES MESSAGE IS SENT, with 0, EXACTLY WHEN the request is valid, kd_held gives every hash that it asks for, and the output has room
-  pub served-0 : (out : List ℕ) → (serveAnswer s m out .number ≡ 0) ↔ (Valid 21 s m × AllGiven s m × (messageSize (headerOf m) ≤ length out))
+  pub served-0 : (out : List ℕ) → (serveAnswer s m out .number ≡ 0) ↔ (ValidHeader 21 s m × AllGiven s m × (messageSize (headerOf m) ≤ length out))
   served-0 out = (to, from)
     where
       size-is : requestNumber s m ≡ 0 → length (replyTo s m) ≡ messageSize (headerOf m)
       size-is z = let h = reply-has-header s m z in h .3 ∙ ap messageSize (h .2)
 
-      to : serveAnswer s m out .number ≡ 0 → Valid 21 s m × AllGiven s m × (messageSize (headerOf m) ≤ length out)
+      to : serveAnswer s m out .number ≡ 0 → ValidHeader 21 s m × AllGiven s m × (messageSize (headerOf m) ≤ length out)
       to e =
           let z = served-then-valid s m out e in
           let w = request-0 .0 z in
@@ -291,7 +291,7 @@ module _ (s m : List ℕ) where
                 absurd b
           ]
 
-      from : Valid 21 s m × AllGiven s m × (messageSize (headerOf m) ≤ length out) → serveAnswer s m out .number ≡ 0
+      from : ValidHeader 21 s m × AllGiven s m × (messageSize (headerOf m) ≤ length out) → serveAnswer s m out .number ≡ 0
       from t =
           let z = request-0 .1 (t .0, t .1) in
           ap (λ (a : Answer). a .number) (served-reply s m out z .0 ∙ fits-sent 0 (replyTo s m) out (omega (arith, size-is z)) .0)
