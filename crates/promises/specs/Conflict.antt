@@ -234,9 +234,9 @@ message-octets s m b r e i =
     ]
 
 -- what a layer settles
-pub layer-octets : (s layer : List ℕ) → Bytes layer → (e : Entry) → In e (layerSettled s layer) → Octets 32 (e .hash)
+pub layer-gives-octets : (s layer : List ℕ) → Bytes layer → (e : Entry) → In e (layerSettled s layer) → Octets 32 (e .hash)
 unfolding layerSettled
-layer-octets s layer b e i =
+layer-gives-octets s layer b e i =
     let p = layerOfPieces s in
     subtree-octets (layerLeaf layer (layerOfPieces s)) (λ j. rw (← run-leaves layer (layerOfPieces s)) (run-leaf-octets layer (padValue (layerOfPieces s)) b (pad-octets (layerOfPieces s)) j))
     (heightOf s - layerOfPieces s) 1 0 e i
@@ -336,7 +336,7 @@ layer-conflict-shows s layer o bs bl e =
     let j = judged-eight (heldAt s 1) (same (hashAt s 1) (node leaf k 0)) (agrees s (subtree leaf k 1 0)) (c .1) in
     not-both (agrees s (subtree leaf k 1 0)) (j .2)
     (agrees-or-shown s (byLayer s layer) (subtree leaf k 1 0) 1 (node leaf k 0) (o .chained) bs
-    (layer-whole s layer (layered s (usable-facts s (a .0)) (b .0))) (λ n u x. x) (layer-octets s layer bl)
+    (layer-whole s layer (layered s (usable-facts s (a .0)) (b .0))) (λ n u x. x) (layer-gives-octets s layer bl)
     (subtree-top leaf k 1 0) (j .0) (same-true (hashAt s 1) (node leaf k 0) (j .1)))
 
 -- a piece

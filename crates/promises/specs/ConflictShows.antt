@@ -23,11 +23,11 @@ use Rattle.promises.specs.AnchorHeld.{asked-held}
 use Rattle.promises.specs.ReadBack.{reply-has-header}
 use Rattle.promises.specs.Replies.{other-store-reply, header-here, reply-carries}
 use Rattle.promises.specs.JudgedWhen.{layer-8, piece-8}
-use Rattle.promises.specs.Shown.{Shown, Reads, shown, reads-held, reads-message, reads-layer, reads-piece}
+use Rattle.promises.specs.Shown.{Shown, Positioned, shown, reads-held, reads-message, reads-layer, reads-piece}
 use Rattle.promises.specs.Sent.{sent, served-then-valid, served-then-reply}
 
 -- what a store of ours holds, by layer and index
-pub ours-reads : {s : List ℕ} → OurStore s → Reads (heightOf s) (heldBy s)
+pub ours-reads : {s : List ℕ} → OurStore s → Positioned (heightOf s) (heldBy s)
 ours-reads {s} o = reads-held s (ours-have o .chained .facts)
 
 -- IN A STORE THAT ONLY THIS BUILD HAS WRITTEN, "conflict" shows two different 64-byte strings with one SHA-256, one as the store holds
@@ -55,8 +55,8 @@ module _ {s t : List ℕ} (os : OurStore s) (ot : OurStore t) (files : fileLengt
   unfolding heightOf blocksOf
   heights = ap (λ (n : ℕ). height (blockCount n)) files
 
-  reads-other : Reads (heightOf t) (heldBy s)
-  reads-other = subst (λ (h : ℕ). Reads h (heldBy s)) heights (ours-reads os)
+  reads-other : Positioned (heightOf t) (heldBy s)
+  reads-other = subst (λ (h : ℕ). Positioned h (heldBy s)) heights (ours-reads os)
 
   reply-taken-or-shown : (m : List ℕ) → requestNumber s m ≡ 0 → heldAnswer t (anchorLayer (replyTo s m)) (anchorIndex (replyTo s m)) .number ≡ 0
       → Shown (heightOf t) (heldBy t) (heldBy s) ⊎ (takeNumber t (replyTo s m) ≡ 0)

@@ -294,7 +294,8 @@ room-for-three : storeSize 49152 ≤ length {A = ℕ} (replicate 295 0)
 unfolding storeSize positions height heightFrom blockCount ceilDiv
 room-for-three = lit≤ tt
 
-room-for-two : storeSize 32768 ≤ length {A = ℕ} (replicate 163 0)
+-- 163 bytes are room for a file of two blocks
+pub room-for-two : storeSize 32768 ≤ length {A = ℕ} (replicate 163 0)
 unfolding storeSize positions height heightFrom blockCount ceilDiv
 room-for-two = lit≤ tt
 

@@ -76,9 +76,9 @@ from-in [] k = empty
 from-in (e ∷ L) k = next (k e here) (from-in L (λ f i. k f (there i)))
 
 -- a taken message writes no byte of the facts
-pub settled-from-root : (s m : List ℕ) → takeNumber s m ≡ 0 → FromRoot (settled m (placeIn s m))
+pub taken-from-root : (s m : List ℕ) → takeNumber s m ≡ 0 → FromRoot (settled m (placeIn s m))
 unfolding settled
-settled-from-root s m z =
+taken-from-root s m z =
     let p = placeIn s m in
     let r = taken-ready s m (takeNumber s m) refl z in
     from-in _ (λ e i. settled-positive (given m (p .k)) (unclesOf m (2 ^ p .k) (p .u)) (p .k) (p .top) 0 0 (p .u) (node (given m (p .k)) (p .k) 0) (r .anchor) e i)
@@ -92,7 +92,7 @@ grown-take s m f =
           let r = taken-ready s m (takeNumber s m) refl z in
           let w = taken-then-right s m (taken-well-formed s m z) z in
           rw (eq-eqb (takeNumber s m) 0 z)
-          (grown-putAll s (settled m (placeIn s m)) f (ready-settled (length s) m (positions (heightOf s)) (headerOf m) (placeIn s m) r) (settled-from-root s m z) (w .agree))
+          (grown-putAll s (settled m (placeIn s m)) f (ready-settled (length s) m (positions (heightOf s)) (headerOf m) (placeIn s m) r) (taken-from-root s m z) (w .agree))
       | no ne ↦ rw (ne-eqb (takeNumber s m) 0 ne) (grown-same s f)
     ]
 

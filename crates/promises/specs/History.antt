@@ -36,7 +36,8 @@ pub data Steps (s : List ℕ) : List ℕ → Type 0 where
   -- kd_open, refused
   reopened : {t : List ℕ} (n plen : ℕ) (root : List ℕ) → (openAnswer t n plen .number ≡ 0 → ⊥) → Steps s t → Steps s (openAfter t n plen root)
 
--- the bytes of a store that only this build has written: opened by us, and changed since by our calls that take it as their store
+-- the bytes of a store that only this build has written: opened by us, and changed since by our calls that take it as their store. It is a
+-- statement about what happened: whatever a buffer held before, it begins with an opening, and filling it as an output is no step.
 pub data OurStore (t : List ℕ) : Type 0 where
   ours : (b : List ℕ) (n plen : ℕ) (root : List ℕ) → Bytes b → Octets 32 root → openAnswer b n plen .number ≡ 0
       → Steps (openAfter b n plen root) t → OurStore t

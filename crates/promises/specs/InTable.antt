@@ -24,7 +24,7 @@ use Rattle.messages.specs.Take.{headerNumber, takeAnswer, rejectAnswer}
 use Rattle.serve.specs.Serve.{serveAnswer}
 use Rattle.pieces.specs.Pieces.{judgedAt, layerNumber, layerAnswer, blockNumber, blockAnswer, pieceHeight, pieceNumber, pieceAnswer}
 use Rattle.promises.specs.Table.{Listed, first, later, OneOf, fine, refusal, size-numbers, OneOfHashed, given, isUnusable, isNoPosition, isNotHeld, held-numbers}
-use Rattle.promises.specs.Refusals.{Outcome, replied, rejected, untouched, served, message-number-in-table}
+use Rattle.promises.specs.Refusals.{ServeOutcome, replied, rejected, untouched, served, message-number-in-table}
 use Rattle.promises.specs.Verdicts.{gated}
 
 -- the numbers of the table
@@ -124,7 +124,7 @@ reject-in-table s m = low _ (header-low (usable s) (isReject m) (same (factsRoot
 pub serve-in-table : (s m out : List ℕ) → InTable (serveAnswer s m out .number)
 serve-in-table s m out = by (served s m out)
   where
-    by : Outcome s m out → InTable (serveAnswer s m out .number)
+    by : ServeOutcome s m out → InTable (serveAnswer s m out .number)
     by (replied e a) = rw e (low 0 (omega arith))
     by (rejected n c e a) = rw e (low n (elim c [ inl z ↦ omega arith | inr d ↦ elim d [ inl z ↦ omega arith | inr z ↦ omega arith ] ]))
     by (untouched n c e a) = rw e (low n (elim c [ inl z ↦ omega arith | inr d ↦ elim d [ inl z ↦ omega arith | inr z ↦ omega arith ] ]))

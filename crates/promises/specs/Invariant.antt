@@ -90,8 +90,8 @@ family-pair s n h F =
     ]
 
 -- and such a pair is the family of either child
-pub pair-family : (s : List ℕ) (n : ℕ) → Pair s (n / 2) → Family s n
-pair-family s n P =
+pub family-of-pair : (s : List ℕ) (n : ℕ) → Pair s (n / 2) → Family s n
+family-of-pair s n P =
     elim (ℕ-discrete (n % 2) 0) [
       | yes z ↦
           let en : 2 * (n / 2) ≡ n = omega arith in
@@ -191,12 +191,12 @@ module _ (s : List ℕ) (L : List Entry) (a : ℕ) (c : Chained s) (w : Whole (p
         | inl x ↦ was x
         | inr o ↦ elim (w .family (record { at = n; hash = o .0 }) (o .1)) [
           | inl e ↦ was (rw e h)
-          | inr F ↦ pair-family (putAll s L) n (pair-taken n F)
+          | inr F ↦ family-of-pair (putAll s L) n (pair-taken n F)
         ]
       ]
     where
       was : heldAt s n ≡ true → Family (putAll s L) n
-      was x = pair-family (putAll s L) n (pair-stays (n / 2) (omega (arith, positions-even (heightOf s))) (family-pair s n x (c .family n two b x)))
+      was x = family-of-pair (putAll s L) n (pair-stays (n / 2) (omega (arith, positions-even (heightOf s))) (family-pair s n x (c .family n two b x)))
 
   -- the store in which such a list is held chains, if its anchor was held and no held hash differs
   pub chained-putAll : Chained (putAll s L)

@@ -47,6 +47,9 @@ pub mod ServedAndTaken
 pub mod SettledMany
 pub mod LayerExample
 pub mod OneOutcome
+pub mod FourClauses
+pub mod AskedWhen
 pub mod ServedWhen
 pub mod RootAlone
+pub mod EachImpostor
 pub mod InTable

@@ -45,9 +45,9 @@ pub one-loading : (s layer : List ℕ) (x y : Answer) (t u : List ℕ) → (x �
 one-loading s layer x y t u p q = (p .0 ∙ sym (q .0), p .1 ∙ sym (q .1))
 
 -- kd_judge_block
-pub one-block : (s : List ℕ) (i : ℕ) (block : List ℕ) (x y : Answer) → x ≡ blockAnswer s i block → y ≡ blockAnswer s i block → x ≡ y
-one-block s i block x y p q = p ∙ sym q
+pub one-block-verdict : (s : List ℕ) (i : ℕ) (block : List ℕ) (x y : Answer) → x ≡ blockAnswer s i block → y ≡ blockAnswer s i block → x ≡ y
+one-block-verdict s i block x y p q = p ∙ sym q
 
 -- kd_judge_piece
-pub one-piece : (s : List ℕ) (i : ℕ) (piece : List ℕ) (x y : Answer) → x ≡ pieceAnswer s i piece → y ≡ pieceAnswer s i piece → x ≡ y
-one-piece s i piece x y p q = p ∙ sym q
+pub one-piece-verdict : (s : List ℕ) (i : ℕ) (piece : List ℕ) (x y : Answer) → x ≡ pieceAnswer s i piece → y ≡ pieceAnswer s i piece → x ≡ y
+one-piece-verdict s i piece x y p q = p ∙ sym q

@@ -25,7 +25,7 @@ use Rattle.pieces.specs.PiecesLaws.{layer-loads, loads-layered, layer-refused, 
 use Rattle.promises.specs.History.{Bytes, Steps, begin, message, reject-heard, request-served, hash-asked, layer, block-judged, piece-judged, reopened, OurStore, ours}
 use Rattle.promises.specs.Grows.{reopen-refused}
 use Rattle.promises.specs.Invariant.{Ours, message-whole, layer-whole, ours-opened, ours-take, ours-layer}
-use Rattle.promises.specs.Conflict.{sized-bytes, message-octets, layer-octets}
+use Rattle.promises.specs.Conflict.{sized-bytes, message-octets, layer-gives-octets}
 
 pasted-bytes : (s : List ℕ) (at : ℕ) (h : List ℕ) → at + length h ≤ length s → Bytes s → Bytes h → Bytes (pasted s at h)
 pasted-bytes s at h fit bs bh = record { size = refl; bytes = λ i l. by i (rw (pasted-length s at h fit) at l) }
@@ -114,7 +114,7 @@ bytes-layer s l o bs bl =
       | yes z ↦
           let f = loads-layered s l (layer-loads s l z) in
           rw (layer-taken s l z)
-          (putAll-bytes (positions (heightOf s)) (layerSettled s l) s (o .chained .facts .room) (layer-whole s l f .sound) (layer-octets s l bl) bs)
+          (putAll-bytes (positions (heightOf s)) (layerSettled s l) s (o .chained .facts .room) (layer-whole s l f .sound) (layer-gives-octets s l bl) bs)
       | no ne ↦ rw (layer-refused s l ne) bs
     ]
 

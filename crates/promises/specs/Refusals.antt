@@ -56,13 +56,13 @@ layer-not-loaded s l ne = (layer-refused s l ne, ap (λ (a : Answer). a .count) 
 -- ---- serving: a reply, a reject, or nothing
 
 -- what a request is answered with
-pub data Outcome (s m out : List ℕ) : Type 0 where
+pub data ServeOutcome (s m out : List ℕ) : Type 0 where
   -- the hashes message, and its size
-  replied : serveAnswer s m out ≡ record { number = 0; count = length (replyTo s m) } → serveAfter s m out ≡ pasted out 0 (replyTo s m) → Outcome s m out
+  replied : serveAnswer s m out ≡ record { number = 0; count = length (replyTo s m) } → serveAfter s m out ≡ pasted out 0 (replyTo s m) → ServeOutcome s m out
   -- 2, 3 or 12 with a reject of 49 bytes
-  rejected : (n : ℕ) → (n ≡ 2) ⊎ ((n ≡ 3) ⊎ (n ≡ 12)) → serveAnswer s m out ≡ record { number = n; count = 49 } → serveAfter s m out ≡ pasted out 0 (rejectTo m) → Outcome s m out
+  rejected : (n : ℕ) → (n ≡ 2) ⊎ ((n ≡ 3) ⊎ (n ≡ 12)) → serveAnswer s m out ≡ record { number = n; count = 49 } → serveAfter s m out ≡ pasted out 0 (rejectTo m) → ServeOutcome s m out
   -- 9, 1 or 11: no byte changes, the size is zero
-  untouched : (n : ℕ) → (n ≡ 9) ⊎ ((n ≡ 1) ⊎ (n ≡ 11)) → serveAnswer s m out ≡ refused n → serveAfter s m out ≡ out → Outcome s m out
+  untouched : (n : ℕ) → (n ≡ 9) ⊎ ((n ≡ 1) ⊎ (n ≡ 11)) → serveAnswer s m out ≡ refused n → serveAfter s m out ≡ out → ServeOutcome s m out
 
 request-values : (u form r k held : Bool) → let n : ℕ = orElse (cond u (cond form (cond r (cond k 0 3) 2) 1) 9) (cond held 0 12) in
     ((n ≡ 0) ⊎ ((n ≡ 9) ⊎ (n ≡ 1))) ⊎ ((n ≡ 2) ⊎ ((n ≡ 3) ⊎ (n ≡ 12)))
@@ -74,7 +74,7 @@ request-values true false r k held = inl (inr (inr refl))
 request-values false form r k held = inl (inr (inl refl))
 
 module _ (s m out : List ℕ) where
-  no-room-or-sent : (n : ℕ) → requestNumber s m ≡ n → (n ≡ 2) ⊎ ((n ≡ 3) ⊎ (n ≡ 12)) → (n ≡ 9 → ⊥) → (n ≡ 1 → ⊥) → (n ≡ 0 → ⊥) → Outcome s m out
+  no-room-or-sent : (n : ℕ) → requestNumber s m ≡ n → (n ≡ 2) ⊎ ((n ≡ 3) ⊎ (n ≡ 12)) → (n ≡ 9 → ⊥) → (n ≡ 1 → ⊥) → (n ≡ 0 → ⊥) → ServeOutcome s m out
   no-room-or-sent n e w a b c =
       let sr = served-reject s m out n e a b c in
       let l : length (rejectTo m) ≡ 49 = reject-length m (answered-form s m (λ x. a (sym e ∙ x)) (λ x. b (sym e ∙ x))) in
@@ -91,10 +91,10 @@ module _ (s m out : List ℕ) where
       (Rattle.serve.specs.Serve.allHeld s (placeIn s m))
 
   -- every request is answered in one of the three ways
-  pub served : Outcome s m out
+  pub served : ServeOutcome s m out
   served = by which-number
     where
-      by : ((requestNumber s m ≡ 0) ⊎ ((requestNumber s m ≡ 9) ⊎ (requestNumber s m ≡ 1))) ⊎ ((requestNumber s m ≡ 2) ⊎ ((requestNumber s m ≡ 3) ⊎ (requestNumber s m ≡ 12))) → Outcome s m out
+      by : ((requestNumber s m ≡ 0) ⊎ ((requestNumber s m ≡ 9) ⊎ (requestNumber s m ≡ 1))) ⊎ ((requestNumber s m ≡ 2) ⊎ ((requestNumber s m ≡ 3) ⊎ (requestNumber s m ≡ 12))) → ServeOutcome s m out
       by (inl (inl z)) =
           let sr = served-reply s m out z in
           elim (decLe (length (replyTo s m)) (length out)) [

@@ -1,25 +1,26 @@
--- 01, "The store": what an opening answers, each number exactly when, and that afterwards the root alone is held. "Held" is what kd_held
+-- 01, "The store": which buffer is usable, how large a store is, what an opening answers, each number exactly when, and that afterwards the root alone is held. "Held" is what kd_held
 -- answers.
 -- Assumes nothing.
 use mathlib.Core.Path.{_≡_, refl, ap, sym, _∙_, subst}
-use mathlib.Core.Bool.{Bool, true, false, cond, false≢true}
+use mathlib.Core.Bool.{Bool, true, false, cond, _&&_, and-eq-true-iff, false≢true}
 use mathlib.Core.List.{List}
-use mathlib.Core.Logic.{_↔_}
-use Prim.Native.Nat.{ℕ, _-_, _*_, _^_, _≤_, _<_}
+use mathlib.Core.Logic.{inl, inr, _↔_}
+use Prim.Native.Nat.{ℕ, _+_, _-_, _*_, _^_, _≤_, _<_}
 use native.Mathlib.Omega.{arith}
 use native.Mathlib.Decide.{ℕ-discrete}
 use lib.ListN.{length}
 use lib.Dec.{eqb, leb}
 use lib.Pow.{pow-pos}
 use borrow.Author.Tests.{ne-eqb, le-leb, leb-true, leb-false, lt-leb}
-use Rattle.numbers.specs.Numbers.{refused, unusable, factsOutOfRange}
+use Rattle.numbers.specs.Numbers.{done, refused, unusable, factsOutOfRange}
 use Rattle.tree.specs.Geometry.{blockCount, height, nodeNumber, pieceLayer}
 use Rattle.tree.specs.GeometryLaws.{piece-length-form, piece-length-accepted, node-number-root, node-number-distinct}
 use Rattle.cells.specs.Cells.{heldAt, hashAt}
-use Rattle.store.specs.Store.{heightOf, positions, maxLength, factsInRange, storeSize, openAnswer, openAfter, opened}
-use Rattle.store.specs.StoreLaws.{opened-facts, opened-height, opened-held, opened-hash, tree-says, tree-number, positions-some, range-says}
+use Rattle.store.specs.Store.{usable, fileLength, pieceLength, sizeAnswer, heightOf, positions, maxLength, factsInRange, storeSize, openAnswer, openAfter, opened}
+use Rattle.store.specs.StoreLaws.{opened-facts, opened-height, opened-held, opened-hash, tree-says, tree-number, positions-some, range-says, store-size-some}
 use Rattle.promises.specs.Held.{Holds}
 use Rattle.promises.specs.Again.{what-is-held}
+use Rattle.promises.specs.Differing.{either, not-both}
 use Rattle.promises.specs.ReadBack.{holds-at}
 
 -- N is 1 to 2^30, and the piece length 16384·2^p for a p up to 10, which is a power of two, 16384 to 16777216
@@ -68,35 +69,65 @@ number-is s n plen = by (factsInRange n plen) (leb (storeSize n) (length s))
     by true false = refl
     by false f = refl
 
+-- where the test fails, the facts are out of range
+out-of-range : (n plen : ℕ) → (factsInRange n plen ≡ false) ↔ (InRange n plen → ⊥)
+out-of-range n plen = (
+  λ f r. not-both (range-exactly n plen .1 r) f,
+  λ k. elim (either (factsInRange n plen)) [ inl t ↦ absurd (k (range-exactly n plen .0 t)) | inr f ↦ f ],
+)
+
 module _ (s : List ℕ) (n plen : ℕ) where
   -- 10 EXACTLY WHEN the facts are out of range
-  pub opening-10 : (openAnswer s n plen .number ≡ factsOutOfRange) ↔ (factsInRange n plen ≡ false)
+  pub opening-10 : (openAnswer s n plen .number ≡ factsOutOfRange) ↔ (InRange n plen → ⊥)
   opening-10 = (
-    λ e. opens-10 (factsInRange n plen) (leb (storeSize n) (length s)) (sym (number-is s n plen) ∙ e),
-    λ r. number-is s n plen ∙ rw r,
+    λ e. out-of-range n plen .0 (opens-10 (factsInRange n plen) (leb (storeSize n) (length s)) (sym (number-is s n plen) ∙ e)),
+    λ k. number-is s n plen ∙ rw (out-of-range n plen .1 k),
   )
 
   -- 9 EXACTLY WHEN they are in range and the buffer has not the store's size
-  pub opening-9 : (openAnswer s n plen .number ≡ unusable) ↔ ((factsInRange n plen ≡ true) × (length s < storeSize n))
+  pub opening-9 : (openAnswer s n plen .number ≡ unusable) ↔ (InRange n plen × (length s < storeSize n))
   opening-9 = (
     λ e.
         (let t = opens-9 (factsInRange n plen) (leb (storeSize n) (length s)) (sym (number-is s n plen) ∙ e) in
-        (t .0, leb-false (storeSize n) (length s) (t .1))),
-    λ t. number-is s n plen ∙ rw (t .0, lt-leb (storeSize n) (length s) (t .1)),
+        (range-exactly n plen .0 (t .0), leb-false (storeSize n) (length s) (t .1))),
+    λ t. number-is s n plen ∙ rw (range-exactly n plen .1 (t .0), lt-leb (storeSize n) (length s) (t .1)),
   )
 
   -- 0 EXACTLY WHEN they are in range and it has
-  pub opening-0 : (openAnswer s n plen .number ≡ 0) ↔ ((factsInRange n plen ≡ true) × (storeSize n ≤ length s))
+  pub opening-0 : (openAnswer s n plen .number ≡ 0) ↔ (InRange n plen × (storeSize n ≤ length s))
   opening-0 = (
     λ e.
         (let t = opens-0 (factsInRange n plen) (leb (storeSize n) (length s)) (sym (number-is s n plen) ∙ e) in
-        (t .0, leb-true (storeSize n) (length s) (t .1))),
-    λ t. number-is s n plen ∙ rw (t .0, le-leb (storeSize n) (length s) (t .1)),
+        (range-exactly n plen .0 (t .0), leb-true (storeSize n) (length s) (t .1))),
+    λ t. number-is s n plen ∙ rw (range-exactly n plen .1 (t .0), le-leb (storeSize n) (length s) (t .1)),
   )
+
+-- A BUFFER IS USABLE EXACTLY WHEN it names facts in range and has their room; nothing else makes it unusable
+pub usable-exactly : (s : List ℕ) → (usable s ≡ true) ↔ (InRange (fileLength s) (pieceLength s) × (storeSize (fileLength s) ≤ length s))
+unfolding usable
+usable-exactly s = (
+  λ u.
+      (let a = and-eq-true-iff (leb 64 (length s) && factsInRange (fileLength s) (pieceLength s)) (leb (storeSize (fileLength s)) (length s)) .0 u in
+      let b = and-eq-true-iff (leb 64 (length s)) (factsInRange (fileLength s) (pieceLength s)) .0 (a .0) in
+      (range-exactly (fileLength s) (pieceLength s) .0 (b .1), leb-true (storeSize (fileLength s)) (length s) (a .1))),
+  λ t.
+      rw (le-leb 64 (length s) (omega (arith, store-size-some (fileLength s))), range-exactly (fileLength s) (pieceLength s) .1 (t .0), le-leb (storeSize (fileLength s)) (length s) (t .1)),
+)
+
+module _ (n plen : ℕ) where
+  -- THE SIZE OF A STORE is 33·(2·2^h − 1) + 64 where the facts are in range,
+  pub size-is : InRange n plen → sizeAnswer n plen ≡ done (33 * (2 * 2 ^ height (blockCount n) - 1) + 64)
+  unfolding sizeAnswer storeSize positions
+  size-is r = rw (range-exactly n plen .1 r)
+
+  -- and 10, with the size 0, where they are not
+  pub size-is-10 : (InRange n plen → ⊥) → sizeAnswer n plen ≡ refused factsOutOfRange
+  unfolding sizeAnswer
+  size-is-10 k = rw (out-of-range n plen .1 k)
 
 module _ (s : List ℕ) (n plen : ℕ) (root : List ℕ) (size : length root ≡ 32) (z : openAnswer s n plen .number ≡ 0) where
   ok : factsInRange n plen ≡ true
-  ok = opening-0 s n plen .0 z .0
+  ok = range-exactly n plen .1 (opening-0 s n plen .0 z .0)
 
   fits : storeSize n ≤ length s
   fits = opening-0 s n plen .0 z .1

@@ -261,26 +261,27 @@ module _ (file s : List ℕ) (f : Facts s) (w : For file s) (i : ℕ) (l : i < p
       (in-agrees s (subtree (leafOf file) (pieceHeight s) (nodeNumber (heightOf s) (pieceHeight s) i) i)
       (λ e x. agrees-in s (treeOf file) g e (part-in-tree file s w (pieceHeight s) i (p .layer) (p .inside) e x)))
 
+-- where the store agrees with the file's tree, the file's own piece, its node held, is answered 0
+pub agreed-piece : {s : List ℕ} (file : List ℕ) (i : ℕ) → Facts s → For file s → i < pieceCount (fileLength s) (pieceLength s) → agrees s (treeOf file) ≡ true
+    → heldAt s (nodeNumber (heightOf s) (pieceHeight s) i) ≡ true → pieceNumber s i (pieceFor file s i) ≡ 0
+agreed-piece {s} file i f w l g h =
+    let p = placed s f i l in
+    right-piece s i (pieceFor file s i)
+    (record {
+      store = facts-usable s f;
+      inside = l;
+      size = piece-size-is file s f w i l;
+      node =
+          record {
+            held = h;
+            alike = agreed-is file s w g (pieceHeight s) i (p .layer) (p .inside) h ∙ sym (piece-alike file s f w i l .0);
+            agree = piece-agrees file s f w i l g;
+          };
+    })
+
 -- THE FILE'S OWN PIECE, its node held, is answered 0, or a pair is shown
 pub true-piece : {s : List ℕ} (file : List ℕ) (i : ℕ) → OurStore s → For file s → i < pieceCount (fileLength s) (pieceLength s)
     → heldAt s (nodeNumber (heightOf s) (pieceHeight s) i) ≡ true
     → ShownAt (heightOf s) (heldBy s) (ofFile file) ⊎ (pieceNumber s i (pieceFor file s i) ≡ 0)
 true-piece {s} file i o w l h =
-    let f = ours-have o .chained .facts in
-    let p = placed s f i l in
-    elim (tree-agrees file s w (ours-have o .chained) (ours-bytes o)) [
-      | inl x ↦ inl x
-      | inr g ↦
-          inr (right-piece s i (pieceFor file s i)
-          (record {
-            store = facts-usable s f;
-            inside = l;
-            size = piece-size-is file s f w i l;
-            node =
-                record {
-                  held = h;
-                  alike = agreed-is file s w g (pieceHeight s) i (p .layer) (p .inside) h ∙ sym (piece-alike file s f w i l .0);
-                  agree = piece-agrees file s f w i l g;
-                };
-          }))
-    ]
+    elim (tree-agrees file s w (ours-have o .chained) (ours-bytes o)) [ inl x ↦ inl x | inr g ↦ inr (agreed-piece file i (ours-have o .chained .facts) w l g h) ]

@@ -28,7 +28,9 @@ use Rattle.promises.specs.Grows.{Grown, grown-take}
 use Rattle.promises.specs.Again.{what-is-held}
 use Rattle.promises.specs.Offered.{offered-root, offered-size, two-size}
 use Rattle.promises.specs.Example.{twoLeaves, header-two, two-taken, two-well-formed}
-use Rattle.promises.specs.Witness.{ours-with-two-leaves, two-leaves-held, opens, open-is, zero-bytes, room-for-two}
+use Rattle.promises.specs.Witness.{ours-with-two-leaves, two-leaves-held, opens, open-is}
+use Rattle.promises.specs.Impostors.{zero-bytes}
+use Rattle.promises.specs.EachNumber.{room-for-two}
 use Rattle.promises.specs.Settles.{anchorLayer, anchorIndex}
 use Rattle.promises.specs.TakenWhen.{taken-then-right}
 use Rattle.promises.specs.AnchorHeld.{held-asked}

@@ -2,7 +2,7 @@
 -- Assumes nothing.
 use mathlib.Core.Path.{_≡_, refl, ap, sym, _∙_}
 use mathlib.Core.Bool.{Bool, true, false, cond, _&&_, and-eq-true-iff}
-use mathlib.Core.List.{List}
+use mathlib.Core.List.{List, _∷_}
 use mathlib.Core.Logic.{_⊎_, inl, inr, _↔_}
 use Prim.Native.Nat.{ℕ, _+_, _*_, _/_, _^_, _≤_, _<_}
 use native.Mathlib.Omega.{arith}
@@ -10,8 +10,8 @@ use native.Mathlib.Decide.{decLe}
 use lib.ListN.{length, getD}
 use lib.Dec.{eqb}
 use borrow.Author.Tests.{eq-eqb, eqb-true}
-use Rattle.octets.specs.Octets.{same}
-use Rattle.octets.specs.OctetsLaws.{same-true, same-eq}
+use Rattle.octets.specs.Octets.{cut, pasted, same}
+use Rattle.octets.specs.OctetsLaws.{same-true, same-eq, cut-pasted-same, cut-whole, cut-length}
 use Rattle.numbers.specs.Numbers.{noMessage, otherRoot, ruleBroken, noRoom, notHeld, unusable}
 use Rattle.numbers.specs.declared.Answer.{Answer}
 use Rattle.tree.specs.Geometry.{height}
@@ -23,15 +23,15 @@ use Rattle.header.specs.Header.{headerOf, messageRoot, isRequest, isReject, rul
 use Rattle.header.specs.HeaderLaws.{Kept, rules-kept, kept-rules}
 use Rattle.messages.specs.Take.{headerNumber, placeIn, orElse, rejectAnswer}
 use Rattle.messages.specs.TakeLaws.{passes}
-use Rattle.serve.specs.Serve.{allHeld, requestNumber, replyTo, rejectTo, serveAnswer}
-use Rattle.serve.specs.ServeLaws.{held-run-all, held-uncles-all, request-zero, fitAnswer, served-none, served-reply, served-reject, answered-form, reject-length, fits-sent, fits-not}
+use Rattle.serve.specs.Serve.{allHeld, requestNumber, replyTo, rejectTo, serveAnswer, serveAfter}
+use Rattle.serve.specs.ServeLaws.{fitAfter, head-same, held-run-all, held-uncles-all, request-zero, fitAnswer, served-none, served-reply, served-reject, answered-form, reject-length, fits-sent, fits-not}
 use Rattle.promises.specs.Held.{Holds}
 use Rattle.promises.specs.Settles.{unclesIn, topLayer, topIndex}
 use Rattle.promises.specs.Again.{what-is-held}
 use Rattle.promises.specs.ReadBack.{run-number, uncle-number, reply-has-header, run-reads-back, uncle-reads-back}
 use Rattle.promises.specs.Differing.{either, not-both}
 use Rattle.promises.specs.Refusals.{which-number}
-use Rattle.promises.specs.Sent.{served-then-valid}
+use Rattle.promises.specs.Sent.{sent, served-then-valid}
 
 -- exactly 49 bytes, and this id
 pub record Form (id : ℕ) (m : List ℕ) : Type 0 where
@@ -39,7 +39,7 @@ pub record Form (id : ℕ) (m : List ℕ) : Type 0 where
   pub first : getD m 0 0 ≡ id
 
 -- a request (id 21) or a reject (id 23) that passes 9, 1, 2 and 3
-pub record Valid (id : ℕ) (s m : List ℕ) : Type 0 where
+pub record ValidHeader (id : ℕ) (s m : List ℕ) : Type 0 where
   pub store : usable s ≡ true
   pub form : Form id m
   pub root : factsRoot s ≡ messageRoot m
@@ -156,7 +156,7 @@ module _ (id : ℕ) (s m : List ℕ) (n : ℕ) (a : Bool)
     λ t. tests ∙ rw (t .0, form-is id m .1 (t .1), root-is s m .1 (t .2), says-not (rules-are s m) .1 (t .3)),
   )
 
-  by-on : (k : ℕ) → (k ≡ 0) ⊎ (k ≡ notHeld) → (n ≡ k) ↔ (Valid id s m × (cond a 0 notHeld ≡ k))
+  by-on : (k : ℕ) → (k ≡ 0) ⊎ (k ≡ notHeld) → (n ≡ k) ↔ (ValidHeader id s m × (cond a 0 notHeld ≡ k))
   by-on k o = (
     λ e.
         (let t = ahead-on k o (usable s) (formed id m) (same (factsRoot s) (messageRoot m)) (rulesKept (headerOf m) (blocksOf s) (heightOf s)) a (sym tests ∙ e) in
@@ -196,7 +196,7 @@ module _ (s m : List ℕ) where
   reject-3 = by-3 23 s m (rejectAnswer s m .number) true reject-tests
 
   -- 0 EXACTLY WHEN none of these applies
-  pub reject-0 : (rejectAnswer s m .number ≡ 0) ↔ Valid 23 s m
+  pub reject-0 : (rejectAnswer s m .number ≡ 0) ↔ ValidHeader 23 s m
   reject-0 = let p = by-on 23 s m (rejectAnswer s m .number) true reject-tests 0 (inl refl) in (λ e. p .0 e .0, λ v. p .1 (v, refl))
 
 -- ---- a request
@@ -223,7 +223,7 @@ module _ (s m : List ℕ) where
       ↔ ((usable s ≡ true) × Form 21 m × (factsRoot s ≡ messageRoot m) × (Kept (headerOf m) (blocksOf s) (heightOf s) → ⊥))
   request-3 = by-3 21 s m (requestNumber s m) (allHeld s (placeIn s m)) request-tests
 
-  module _ (ok : Valid 21 s m) where
+  module _ (ok : ValidHeader 21 s m) where
     facts : Facts s
     facts = usable-facts s (ok .store)
 
@@ -256,7 +256,7 @@ module _ (s m : List ℕ) where
         record { run = λ j l. (_, run-reads-back s m z j l); uncles = λ j l. (_, uncle-reads-back s m z j l) }
 
   -- 0, if there is room for the reply, EXACTLY WHEN it passes these and kd_held gives every hash that it asks for
-  pub request-0 : (requestNumber s m ≡ 0) ↔ (Valid 21 s m × AllGiven s m)
+  pub request-0 : (requestNumber s m ≡ 0) ↔ (ValidHeader 21 s m × AllGiven s m)
   request-0 =
       let p = by-on 21 s m (requestNumber s m) (allHeld s (placeIn s m)) request-tests 0 (inl refl) in (
         λ e. (let w = p .0 e in (w .0, all-given (w .0) (all-or-12 (allHeld s (placeIn s m)) (w .1)))),
@@ -264,7 +264,7 @@ module _ (s m : List ℕ) where
       )
 
   -- 12 EXACTLY WHEN it passes these and kd_held does not give them all
-  pub request-12 : (requestNumber s m ≡ notHeld) ↔ (Valid 21 s m × (AllGiven s m → ⊥))
+  pub request-12 : (requestNumber s m ≡ notHeld) ↔ (ValidHeader 21 s m × (AllGiven s m → ⊥))
   request-12 =
       let p = by-on 21 s m (requestNumber s m) (allHeld s (placeIn s m)) request-tests notHeld (inr refl) in (
         λ e. (let w = p .0 e in (w .0, λ A. not-both (given-all (w .0) A) (not-all (allHeld s (placeIn s m)) (w .1)))),
@@ -272,13 +272,13 @@ module _ (s m : List ℕ) where
       )
 
   -- A HASHES MESSAGE IS SENT, with 0, EXACTLY WHEN the request is valid, kd_held gives every hash that it asks for, and the output has room
-  pub served-0 : (out : List ℕ) → (serveAnswer s m out .number ≡ 0) ↔ (Valid 21 s m × AllGiven s m × (messageSize (headerOf m) ≤ length out))
+  pub served-0 : (out : List ℕ) → (serveAnswer s m out .number ≡ 0) ↔ (ValidHeader 21 s m × AllGiven s m × (messageSize (headerOf m) ≤ length out))
   served-0 out = (to, from)
     where
       size-is : requestNumber s m ≡ 0 → length (replyTo s m) ≡ messageSize (headerOf m)
       size-is z = let h = reply-has-header s m z in h .3 ∙ ap messageSize (h .2)
 
-      to : serveAnswer s m out .number ≡ 0 → Valid 21 s m × AllGiven s m × (messageSize (headerOf m) ≤ length out)
+      to : serveAnswer s m out .number ≡ 0 → ValidHeader 21 s m × AllGiven s m × (messageSize (headerOf m) ≤ length out)
       to e =
           let z = served-then-valid s m out e in
           let w = request-0 .0 z in
@@ -291,7 +291,7 @@ module _ (s m : List ℕ) where
                 absurd b
           ]
 
-      from : Valid 21 s m × AllGiven s m × (messageSize (headerOf m) ≤ length out) → serveAnswer s m out .number ≡ 0
+      from : ValidHeader 21 s m × AllGiven s m × (messageSize (headerOf m) ≤ length out) → serveAnswer s m out .number ≡ 0
       from t =
           let z = request-0 .1 (t .0, t .1) in
           ap (λ (a : Answer). a .number) (served-reply s m out z .0 ∙ fits-sent 0 (replyTo s m) out (omega (arith, size-is z)) .0)
@@ -303,12 +303,14 @@ abbrev pub Rejected : ℕ → Type 0
 Rejected n = (n ≡ otherRoot) ⊎ ((n ≡ ruleBroken) ⊎ (n ≡ notHeld))
 
 module _ (s m out : List ℕ) where
-  reject-size : (n : ℕ) → requestNumber s m ≡ n → Rejected n → length (rejectTo m) ≡ 49
-  reject-size n e r =
-      reject-length m
+  request-size : (n : ℕ) → requestNumber s m ≡ n → Rejected n → length m ≡ 49
+  request-size n e r =
       (answered-form s m
       (λ z. elim r [ inl a ↦ omega arith | inr b ↦ elim b [ inl a ↦ omega arith | inr a ↦ omega arith ] ])
       (λ z. elim r [ inl a ↦ omega arith | inr b ↦ elim b [ inl a ↦ omega arith | inr a ↦ omega arith ] ]))
+
+  reject-size : (n : ℕ) → requestNumber s m ≡ n → Rejected n → length (rejectTo m) ≡ 49
+  reject-size n e r = reject-length m (request-size n e r)
 
   answer-rejected : (n : ℕ) → requestNumber s m ≡ n → Rejected n → serveAnswer s m out ≡ fitAnswer n (rejectTo m) out
   answer-rejected n e r =
@@ -316,6 +318,13 @@ module _ (s m out : List ℕ) where
       (λ z. elim r [ inl a ↦ omega arith | inr b ↦ elim b [ inl a ↦ omega arith | inr a ↦ omega arith ] ])
       (λ z. elim r [ inl a ↦ omega arith | inr b ↦ elim b [ inl a ↦ omega arith | inr a ↦ omega arith ] ])
       (λ z. elim r [ inl a ↦ omega arith | inr b ↦ elim b [ inl a ↦ omega arith | inr a ↦ omega arith ] ]) .0
+
+  left-rejected : (n : ℕ) → requestNumber s m ≡ n → Rejected n → serveAfter s m out ≡ fitAfter (rejectTo m) out
+  left-rejected n e r =
+      served-reject s m out n e
+      (λ z. elim r [ inl a ↦ omega arith | inr b ↦ elim b [ inl a ↦ omega arith | inr a ↦ omega arith ] ])
+      (λ z. elim r [ inl a ↦ omega arith | inr b ↦ elim b [ inl a ↦ omega arith | inr a ↦ omega arith ] ])
+      (λ z. elim r [ inl a ↦ omega arith | inr b ↦ elim b [ inl a ↦ omega arith | inr a ↦ omega arith ] ]) .1
 
   with-room : (n : ℕ) → requestNumber s m ≡ n → Rejected n → 49 ≤ length out → serveAnswer s m out .number ≡ n
   with-room n e r l =
@@ -365,3 +374,35 @@ module _ (s m out : List ℕ) where
           | inr b ↦ elim b [ inl z ↦ rejected-or-not 3 (inr (inl refl)) z | inr z ↦ rejected-or-not 12 (inr (inr refl)) z ]
         ]
       ]
+
+-- ---- the reject, read back
+
+module _ (s m out : List ℕ) (n : ℕ) (r : Rejected n) (e : requestNumber s m ≡ n) (room : 49 ≤ length out) where
+  fits : length (rejectTo m) ≤ length out
+  fits = omega (arith, reject-size s m out n e r)
+
+  -- A REJECT IS SENT, beside 2, 3 and 12: the size is 49, and the output begins with the id 23 and the request's 48 bytes
+  pub reject-sent : (serveAnswer s m out ≡ record { number = n; count = 49 }) × (sent s m out ≡ 23 ∷ cut m 1 48)
+  unfolding rejectTo
+  reject-sent =
+      let z = reject-size s m out n e r in
+      let a : serveAnswer s m out ≡ record { number = n; count = 49 } =
+      answer-rejected s m out n e r ∙ fits-sent n (rejectTo m) out fits .0 ∙ ap (λ (k : ℕ). record { number = n; count = k }) z in
+      let c : serveAnswer s m out .count ≡ 49 = ap (λ (x : Answer). x .count) a in
+      let b : serveAfter s m out ≡ pasted out 0 (rejectTo m) = left-rejected s m out n e r ∙ fits-sent n (rejectTo m) out fits .1 in
+      (a, rw (c, b) (cut-pasted-same out 0 (rejectTo m) 49 z (omega arith)))
+
+  head-is : cut (23 ∷ cut m 1 48) 1 48 ≡ cut m 1 48
+  unfolding cut
+  head-is = cut-whole (cut m 1 48) 48 short
+    where
+      short : length (cut m 1 48) ≤ 48
+      short = omega (arith, cut-length m 1 48 (omega (arith, request-size s m out n e r)))
+
+  -- it is read as a reject with the request's root and header
+  pub reject-reads-back : (isReject (sent s m out) ≡ true) × (messageRoot (sent s m out) ≡ messageRoot m) × (headerOf (sent s m out) ≡ headerOf m)
+  unfolding isReject
+  reject-reads-back =
+      let h = head-same (23 ∷ cut m 1 48) m head-is in
+      let l : length (cut m 1 48) ≡ 48 = cut-length m 1 48 (omega (arith, request-size s m out n e r)) in
+      rw (reject-sent .1) (rw l, h .0, h .1)

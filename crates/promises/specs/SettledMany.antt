@@ -61,9 +61,9 @@ pub record All (R : Hashes) (n : ℕ) : Type 0 where
   pub exactly : (l i : ℕ) (v : List ℕ) → Stands l i v spots ↔ R l i v
 
 -- how many positions of a list kd_held does not answer 0 for
-unfoldable pub unheld : List ℕ → List Spot → ℕ
-unheld s [] = 0
-unheld s (x ∷ L) = oneIf (not (eqb (heldAnswer s (x .l) (x .i) .number) 0)) + unheld s L
+unfoldable pub unheldAmong : List ℕ → List Spot → ℕ
+unheldAmong s [] = 0
+unheldAmong s (x ∷ L) = oneIf (not (eqb (heldAnswer s (x .l) (x .i) .number) 0)) + unheldAmong s L
 
 -- ---- from entries
 
@@ -178,8 +178,8 @@ asked s u l i a b = by (heldAt s (nodeNumber (heightOf s) l i)) refl
         let q : heldAnswer s l i .number ≡ 6 = sym (ap (λ (r : Hashed). r .number) (held-not s l i u t e)) in
         ne-eqb (heldAnswer s l i .number) 0 (λ z. omega arith) ∙ sym e
 
-spots-unheld : (s : List ℕ) → usable s ≡ true → (R : Hashes) (L : List Entry) (f : (e : Entry) → In e L → Found (heightOf s) R (e .at) (e .hash)) → unheld s (spotsOf (heightOf s) R L f) ≡ lacking s L
-unfolding spotsOf unheld lacking lacks
+spots-unheld : (s : List ℕ) → usable s ≡ true → (R : Hashes) (L : List Entry) (f : (e : Entry) → In e L → Found (heightOf s) R (e .at) (e .hash)) → unheldAmong s (spotsOf (heightOf s) R L f) ≡ lacking s L
+unfolding spotsOf unheldAmong lacking lacks
 spots-unheld s u R [] f = refl
 spots-unheld s u R (e ∷ L) f =
     let S = f e here in
@@ -191,7 +191,7 @@ module _ (s m : List ℕ) (z : takeNumber s m ≡ 0) where
   well = taken-well-formed s m z
 
   -- THE COUNT of a taken message: the positions that it settles and for which kd_held did not answer 0
-  pub count-unheld : takeAnswer s m .count ≡ unheld s (settles-many s m (taken-well-formed s m z) .spots)
+  pub count-unheld : takeAnswer s m .count ≡ unheldAmong s (settles-many s m (taken-well-formed s m z) .spots)
   unfolding settles-many all-of well
   count-unheld = count-lacking s m z ∙ sym (spots-unheld s (P s m well .store) (Settles m) (settled m (placeIn s m)) (entry-settled s m well))
 
@@ -248,7 +248,7 @@ module _ (s layer : List ℕ) (z : layerNumber s layer ≡ 0) where
   sound = layer-sound s layer (lies s layer formed)
 
   -- THE COUNT of a layer that is loaded: the positions of layer p and above it for which kd_held did not answer 0
-  pub layer-count-unheld : layerAnswer s layer .count ≡ unheld s (layer-settles-many s layer (layer-0 s layer .0 z .0) .spots)
+  pub layer-count-unheld : layerAnswer s layer .count ≡ unheldAmong s (layer-settles-many s layer (layer-0 s layer .0 z .0) .spots)
   unfolding layerAnswer layer-settles-many all-of formed
   layer-count-unheld =
       ap (newly (positions (heightOf s)) s) (layer-taken s layer z)

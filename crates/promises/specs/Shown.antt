@@ -65,8 +65,8 @@ pub record Shown (h : ℕ) (x y : Source) : Type 0 where
 -- ---- from numbers
 
 -- what the source has at a position's number, it has at the position
-abbrev pub Reads : ℕ → Source → Type 0
-Reads h x = (l i : ℕ) (v : List ℕ) → l ≤ h → i < 2 ^ (h - l) → GivesAt x (nodeNumber h l i) v → Gives x l i v
+abbrev pub Positioned : ℕ → Source → Type 0
+Positioned h x = (l i : ℕ) (v : List ℕ) → l ≤ h → i < 2 ^ (h - l) → GivesAt x (nodeNumber h l i) v → Gives x l i v
 
 -- no leaf has children
 leaf-childless : (h n i : ℕ) → 2 * n + 1 < positions h → n ≡ nodeNumber h 0 i → ⊥
@@ -74,7 +74,7 @@ unfolding positions nodeNumber
 leaf-childless h n i a e = let z : h - 0 ≡ h = omega arith in let f : n ≡ 2 ^ h + i = rw z at e in omega arith
 
 -- a pair shown at a number is shown at its position
-pub shown : (h : ℕ) (x y : Source) → Reads h x → Reads h y → ShownAt h x y → Shown h x y
+pub shown : (h : ℕ) (x y : Source) → Positioned h x → Positioned h y → ShownAt h x y → Shown h x y
 unfolding positions
 shown h x y rx ry S =
     let small : S .at < 2 * 2 ^ h = omega (arith, S .high) in
@@ -110,17 +110,17 @@ shown h x y rx ry S =
         }
 
 -- a store
-pub reads-held : (s : List ℕ) → Facts s → Reads (heightOf s) (heldBy s)
+pub reads-held : (s : List ℕ) → Facts s → Positioned (heightOf s) (heldBy s)
 unfolding Gives GivesAt
 reads-held s f l i v a b g = subst (Holds s l i) (g .1) (holds-at s l i f a b (g .0))
 
 -- a message
-pub reads-message : (s m : List ℕ) → WellFormed s m → Reads (heightOf s) (byMessage s m)
+pub reads-message : (s m : List ℕ) → WellFormed s m → Positioned (heightOf s) (byMessage s m)
 unfolding Gives GivesAt
 reads-message s m W l i v a b x = settles-exactly s m W l i v .1 (record { low = a; inside = b; has = x })
 
 -- a layer
-pub reads-layer : (s layer : List ℕ) → LayerFormed s layer → Reads (heightOf s) (byLayer s layer)
+pub reads-layer : (s layer : List ℕ) → LayerFormed s layer → Positioned (heightOf s) (byLayer s layer)
 unfolding Gives GivesAt layerSettled
 reads-layer s layer F l i v a b x =
     let p = layerOfPieces s in
@@ -132,7 +132,7 @@ reads-layer s layer F l i v a b x =
     (record { at = nodeNumber (heightOf s) l i; hash = v }) (rw n x))
 
 -- a piece
-pub reads-piece : (s : List ℕ) (j : ℕ) (piece : List ℕ) → PieceFormed s j piece → Reads (heightOf s) (byPiece s j piece)
+pub reads-piece : (s : List ℕ) (j : ℕ) (piece : List ℕ) → PieceFormed s j piece → Positioned (heightOf s) (byPiece s j piece)
 unfolding Gives GivesAt
 reads-piece s j piece F l i v a b x =
     let P = placed s (usable-facts s (F .store)) j (F .inside) in
@@ -145,7 +145,7 @@ tree-of-store : (file s : List ℕ) → For file s → (n : ℕ) (v : List ℕ) 
 tree-of-store file s w n v x = rw (same-height file s w) x
 
 -- a file
-pub reads-file : (file s : List ℕ) → For file s → Reads (heightOf s) (ofFile file)
+pub reads-file : (file s : List ℕ) → For file s → Positioned (heightOf s) (ofFile file)
 unfolding Gives GivesAt
 reads-file file s w l i v a b x =
     let e = same-height file s w in

@@ -6,24 +6,29 @@ use mathlib.Core.Bool.{true}
 use mathlib.Core.List.{List, [], _∷_, _++_}
 use Prim.Native.Nat.{ℕ, zero, suc, _+_, _-_, _≤_, _<_}
 use native.Mathlib.Omega.{arith}
-use lib.ListN.{length, getD, replicate, length-replicate}
-use lib.Dec.{lit<, lit≤}
+use lib.ListN.{length, replicate, length-replicate}
+use lib.Dec.{lit<}
 use borrow.Author.Tests.{le-leb}
 use Rattle.octets.specs.Octets.{Octets, be, zeroHash}
-use Rattle.octets.specs.OctetsLaws.{zero-octets, be-octets, append-octets}
+use Rattle.octets.specs.OctetsLaws.{same-eq, zero-octets, be-octets, append-octets}
 use Rattle.sha256.specs.Sha256.{pairHash}
 use Rattle.sha256.specs.Sha256Laws.{pair-octets}
-use Rattle.tree.specs.Geometry.{ceilDiv, blockCount, blockSize, heightFrom, height, pieceLayer, isPieceLength}
+use Rattle.tree.specs.Geometry.{nodeNumber, hasLayer, pieceCount, ceilDiv, blockCount, blockSize, heightFrom, height, pieceLayer, isPieceLength}
 use Rattle.tree.specs.Values.{node, leafOf, blockOf, piecesRoot}
 use Rattle.tree.specs.ValuesLaws.{leaf-octets, leaf-block, block-bytes}
-use Rattle.store.specs.Store.{blocksOf, factsInRange, storeSize, openAnswer, openAfter, opened, positions, heldAnswer}
-use Rattle.pieces.specs.Pieces.{blockNumber}
-use Rattle.store.specs.StoreLaws.{Facts, facts-usable, usable-facts, opened-usable, opened-file, opened-facts-root}
+use Rattle.cells.specs.Cells.{heldAt, hashAt}
+use Rattle.cells.specs.Entries.{agreesAt, agrees}
+use Rattle.cells.specs.EntriesLaws.{agrees-held}
+use Rattle.runs.specs.Subtree.{subtree}
+use Rattle.store.specs.Store.{heightOf, fileLength, pieceLength, blocksOf, factsInRange, storeSize, openAnswer, openAfter, opened, heldAnswer}
+use Rattle.pieces.specs.Pieces.{layerOfPieces, blockNumber, pieceHeight, pieceNumber}
+use Rattle.store.specs.StoreLaws.{opened-piece, Facts, facts-usable, usable-facts, opened-usable, opened-file, opened-facts-root}
 use Rattle.header.specs.declared.Header.{Header}
 use Rattle.header.specs.declared.Place.{Place}
 use Rattle.header.specs.Header.{headerOf, isHashes}
 use Rattle.messages.specs.Take.{given, placeIn, takeNumber, takeAfter}
 use Rattle.messages.specs.TakeLaws.{passed}
+use Rattle.promises.specs.Again.{what-is-held}
 use Rattle.promises.specs.Grows.{Grown, grown-take}
 use Rattle.promises.specs.JudgedWhen.{block-0}
 use Rattle.promises.specs.Held.{Holds}
@@ -34,7 +39,9 @@ use Rattle.promises.specs.AnchorHeld.{held-asked}
 use Rattle.promises.specs.Positions.{given-is}
 use Rattle.promises.specs.HeldAfter.{settles-then-holds}
 use Rattle.promises.specs.Conflict.{sized-bytes}
-use Rattle.promises.specs.RootToBlock.{For}
+use Rattle.promises.specs.RootToBlock.{For, treeOf, same-height, pieceFor, agreed-piece}
+use Rattle.promises.specs.Impostors.{zero-bytes}
+use Rattle.promises.specs.EachNumber.{room-for-two}
 use Rattle.promises.specs.Known.{TrueHashes}
 use Rattle.promises.specs.Example.{twoLeaves, header-two, first, second, two-taken, two-well-formed, two-place}
 
@@ -179,20 +186,6 @@ module _ (file buffer : List ℕ) (two-blocks : length file ≡ 32768) (fits : s
 
 -- ---- the same with every byte said: 163 zero bytes lent, a file of 32768 zero bytes
 
-zeros : (n i : ℕ) → getD (replicate n 0) i 0 < 256
-zeros zero i = lit< tt
-zeros (suc n) zero = lit< tt
-zeros (suc n) (suc i) = zeros n i
-
--- any number of zero bytes are bytes
-pub zero-bytes : (n : ℕ) → Bytes (replicate n 0)
-zero-bytes n = record { size = refl; bytes = λ i l. zeros n i }
-
--- and 163 are room for a file of two blocks
-pub room-for-two : storeSize 32768 ≤ length {A = ℕ} (replicate 163 0)
-unfolding storeSize positions height heightFrom blockCount ceilDiv
-room-for-two = lit≤ tt
-
 -- a store of ours of two blocks, after a message that was taken
 pub a-store-of-two-blocks : OurStore (takeAfter (openAfter (replicate 163 0) 32768 16384 (pairHash zeroHash zeroHash)) (twoLeaves zeroHash zeroHash))
 a-store-of-two-blocks = ours-with-two-leaves zeroHash zeroHash zero-octets zero-octets (replicate 163 0) (zero-bytes 163) room-for-two
@@ -220,13 +213,15 @@ a-file-store-and-message = met (replicate 32768 0) (length-replicate {A = ℕ} 3
 
 -- ---- and after that message: what the theorems about blocks and pieces ask for, met at once
 
--- written by this build only, opened for the file, its two leaves given by kd_held, and the file's own first block answered 0
+-- written by this build only, opened for the file, its two leaves given by kd_held, and the file's own first block and piece answered 0
 pub record MetAfter (file s : List ℕ) : Type 0 where
   pub ours : OurStore s
   pub opened : For file s
   pub left : Holds s 0 0 (leafOf file 0)
   pub right : Holds s 0 1 (leafOf file 1)
   pub block : blockNumber s 0 (blockOf file 0) ≡ 0
+  pub node : Holds s (pieceHeight s) 0 (leafOf file 0)
+  pub piece : pieceNumber s 0 (pieceFor file s 0) ≡ 0
 
 -- for every file of two blocks
 module _ (file buffer : List ℕ) (two-blocks : length file ≡ 32768) (bytes : Bytes buffer) (fits : storeSize 32768 ≤ length buffer) where
@@ -261,6 +256,61 @@ module _ (file buffer : List ℕ) (two-blocks : length file ≡ 32768) (bytes : 
   unfolding blocksOf
   heard-blocks = rw (heard-for .long) some-blocks
 
+  held-here : Holds heard 0 0 (leafOf file 0) × Holds heard 0 1 (leafOf file 1) × Holds heard 1 0 (pairHash (leafOf file 0) (leafOf file 1))
+  unfolding heard
+  held-here = two-leaves-held (leafOf file 0) (leafOf file 1) (leaf-octets file 0) (leaf-octets file 1) buffer bytes fits
+
+  high : heightOf heard ≡ 1
+  high = same-height file heard heard-for ∙ one-high file buffer two-blocks fits
+
+  agrees-here : (l i : ℕ) (v : List ℕ) → Holds heard l i v → agreesAt heard (nodeNumber 1 l i) v ≡ true
+  agrees-here l i v h =
+      let k = what-is-held heard l i v (grown .facts) h in
+      let n : nodeNumber (heightOf heard) l i ≡ nodeNumber 1 l i = ap (λ (y : ℕ). nodeNumber y l i) high in
+      agrees-held heard (nodeNumber 1 l i) v (ap (heldAt heard) (sym n) ∙ k .1) ∙ same-eq (hashAt heard (nodeNumber 1 l i)) v (ap (hashAt heard) (sym n) ∙ k .2)
+
+  at-one : agreesAt heard 1 (pairHash (leafOf file 0) (leafOf file 1)) ≡ true
+  unfolding nodeNumber
+  at-one = agrees-here 1 0 (pairHash (leafOf file 0) (leafOf file 1)) (held-here .2)
+
+  at-two : agreesAt heard 2 (leafOf file 0) ≡ true
+  unfolding nodeNumber
+  at-two = agrees-here 0 0 (leafOf file 0) (held-here .0)
+
+  at-three : agreesAt heard 3 (leafOf file 1) ≡ true
+  unfolding nodeNumber
+  at-three = agrees-here 0 1 (leafOf file 1) (held-here .1)
+
+  tree-of-two : agrees heard (subtree (leafOf file) 1 1 0) ≡ true
+  unfolding agrees subtree node
+  tree-of-two = rw (at-one, at-two, at-three)
+
+  tree-agreed : agrees heard (treeOf file) ≡ true
+  tree-agreed = rw (one-high file buffer two-blocks fits) tree-of-two
+
+  piece-length : pieceLength heard ≡ 16384
+  unfolding begun
+  piece-length =
+      let root = pairHash (leafOf file 0) (leafOf file 1) in
+      grown .same .piece ∙ ap pieceLength (open-is buffer root fits) ∙ opened-piece buffer 32768 16384 root range fits (pair-octets (leafOf file 0) (leafOf file 1) .size)
+
+  file-length : fileLength heard ≡ 32768
+  file-length = heard-for .long ∙ two-blocks
+
+  leaf-pieces : pieceHeight heard ≡ 0
+  unfolding pieceHeight hasLayer layerOfPieces pieceLayer height heightFrom
+  leaf-pieces = rw (file-length, piece-length)
+
+  one-piece : 0 < pieceCount (fileLength heard) (pieceLength heard)
+  unfolding pieceCount ceilDiv
+  one-piece = rw (file-length, piece-length) (lit< tt)
+
+  node-held : Holds heard (pieceHeight heard) 0 (leafOf file 0)
+  node-held = rw leaf-pieces (held-here .0)
+
+  piece-answered : pieceNumber heard 0 (pieceFor file heard 0) ≡ 0
+  piece-answered = agreed-piece file 0 (grown .facts) heard-for one-piece tree-agreed (what-is-held heard (pieceHeight heard) 0 (leafOf file 0) (grown .facts) node-held .1)
+
   -- the store after its opening and that message
   pub met-after : MetAfter file (takeAfter (openAfter buffer 32768 16384 (pairHash (leafOf file 0) (leafOf file 1))) (twoLeaves (leafOf file 0) (leafOf file 1)))
   unfolding heard
@@ -278,6 +328,8 @@ module _ (file buffer : List ℕ) (two-blocks : length file ≡ 32768) (bytes : 
               record { store = facts-usable heard (grown .facts); inside = heard-blocks; size = block-bytes file 0 ∙ ap (λ (n : ℕ). blockSize n 0) (sym (heard-for .long)) },
               subst (Holds heard 0 0) (leaf-block file 0 some-blocks) (H .0),
             );
+        node = node-held;
+        piece = piece-answered;
       }
 
 -- with every byte said
