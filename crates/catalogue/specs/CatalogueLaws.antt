@@ -9,10 +9,10 @@ use native.Mathlib.Decide.{decLe}
 use lib.ListN.{length, take, drop, getD, length-append}
 use lib.Seq.{take-at, drop-append-add}
 use lib.Dec.{eqb, ltb}
-use borrow.Author.Tests.{eqb-true, eqb-false, eq-eqb, le-ltb}
+use borrow.Author.Tests.{eqb-true, eqb-false, eq-eqb, ne-eqb, le-ltb}
 use Rattle.octets.specs.Octets.{cut, zeroHash, be, pasted}
 use Rattle.octets.specs.OctetsLaws.{cut-length, be-octets, zero-octets}
-use Rattle.numbers.specs.Numbers.{wrongTree, sameRoot, layersAmiss}
+use Rattle.numbers.specs.Numbers.{noRoom, wrongTree, sameRoot, layersAmiss, refused, done}
 use Rattle.bencode.specs.declared.scalar.ByteString.{ByteString}
 use Rattle.bencode.specs.declared.scalar.ByteString.the-variants.{Content, NoString}
 use Rattle.roots.specs.Roots.{apart, stringsAt}
@@ -31,7 +31,7 @@ use Rattle.torrent.specs.Torrent.{filesNumber, treeNumber, judgedAs, judgedOf, 
 use Rattle.torrent.specs.CheckLaws.{LayersOpen, layers-open}
 use Rattle.torrent.specs.declared.check.Judged.{Judged}
 use Rattle.torrent.specs.declared.check.Checked.{Checked}
-use Rattle.catalogue.specs.Catalogue.{partBytes, elementBytes, elementsBytes, headBytes, recordOf, recordSize, recordsOf, listAfter}
+use Rattle.catalogue.specs.Catalogue.{partBytes, elementBytes, elementsBytes, headBytes, recordOf, recordSize, recordsOf, listAnswer, listAfter}
 
 -- each of the n elements of a path ends where it begins, or behind that
 abbrev pub InOrder : List ℕ → ℕ → Type 0
@@ -259,3 +259,23 @@ list-whole s out z h =
     let records = recordsOf s (checkedOf s .layers) (checkedOf s .plen) fs in
     let e : 0 + length records ≡ recordSize * checkedOf s .files = omega (arith, records-length s (checkedOf s .layers) (checkedOf s .plen) fs (files-right s (checkedOf s .tree)), checked-ready s z .all) in
     rw (eq-eqb (checkedOf s .number) 0 z, le-ltb (length out) (recordSize * checkedOf s .files) h) (ap (λ (n : ℕ). records ++ drop n out) e)
+
+-- ---- a refusal
+
+-- whatever is refused is left as it was, with no count
+pub list-refused : (s out : List ℕ) → (listAnswer s out .number ≡ 0 → ⊥) → (listAfter s out ≡ out) × (listAnswer s out .count ≡ 0)
+unfolding listAnswer listAfter
+list-refused s out h = by-number (eqb (checkedOf s .number) 0) (ltb (length out) (recordSize * checkedOf s .files)) h
+  where
+    by-number : (a b : Bool)
+        → (cond a (cond b (refused noRoom) (done (recordSize * checkedOf s .files))) (refused (checkedOf s .number)) .number ≡ 0 → ⊥)
+        → (cond a (cond b out (pasted out 0 (recordsOf s (checkedOf s .layers) (checkedOf s .plen) (listed (filesIn s (checkedOf s .tree)))))) out ≡ out)
+        × (cond a (cond b (refused noRoom) (done (recordSize * checkedOf s .files))) (refused (checkedOf s .number)) .count ≡ 0)
+    by-number true true g = (refl, refl)
+    by-number true false g = absurd (g refl)
+    by-number false b g = (refl, refl)
+
+-- the torrent's own number comes before 11
+pub list-own-number : (s out : List ℕ) → (checkedOf s .number ≡ 0 → ⊥) → listAnswer s out .number ≡ checkedOf s .number
+unfolding listAnswer
+list-own-number s out h = simp (ne-eqb (checkedOf s .number) 0 h)

@@ -3,8 +3,10 @@ pub mod record;
 
 use crate::record::put_record;
 use files::walk::Next;
+use files::walk::PATH;
 use files::walk::next_file;
 use layers::index;
+use listing::MOST;
 use numbers::Answer;
 use numbers::refusal;
 use numbers::success;
@@ -35,7 +37,7 @@ fn put_records(
     requires { ⌜ Indexed (now s) layers (now keys) count × (right (filesIn (now s) tree) ≡ true) × (recordSize * L.length (listed (filesIn (now s) tree)) ≤ L.length (now out)) ⌝ }
     ensures { λ _. ⌜ now (out .exit) ≡ pasted (now (out .entry)) 0 (recordsOf (now (s .entry)) layers plen (listed (filesIn (now (s .entry)) tree))) ⌝ }
 {
-    let mut path = [0usize; 56];
+    let mut path = [0usize; PATH];
     let mut at = tree + 1;
     let mut depth = 0;
     let mut to = 0;
@@ -110,7 +112,7 @@ pub fn list(s: &[u8], out: &mut [u8]) -> Answer
         if out.len() < size {
             return refusal(numbers::NO_ROOM);
         }
-        let mut keys = [0u32; 16384];
+        let mut keys = [0u32; MOST];
         list_in(s, tree, plen, layers, files, long, &mut keys, out);
         return success(size as u64);
     }

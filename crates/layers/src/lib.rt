@@ -4,6 +4,7 @@ use bencode::parts::read_entry;
 use bencode::scalar::ByteString;
 use bencode::scalar::read_string;
 use files::walk::Next;
+use files::walk::PATH;
 use files::walk::next_file;
 use octets::hash_at;
 use roots::halving::search;
@@ -147,7 +148,7 @@ pub fn judge_layers(
     requires { ⌜ Indexed (now s) layers (now keys) count × (isPieceLength plen ≡ true) × (right (filesIn (now s) tree) ≡ true) ⌝ }
     ensures { λ r. ⌜ r ≡ worst (now (s .entry)) layers plen 0 (listed (filesIn (now (s .entry)) tree)) ⌝ }
 {
-    let mut path = [0usize; 56];
+    let mut path = [0usize; PATH];
     let mut at = tree + 1;
     let mut depth = 0;
     let mut number = 0;

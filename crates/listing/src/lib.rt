@@ -3,6 +3,7 @@ use files::nodes::Ending;
 use files::nodes::directory_end;
 use files::walk::ELEMENTS;
 use files::walk::Next;
+use files::walk::PATH;
 use files::walk::ends_here;
 use files::walk::next_file;
 use tree::geometry::has_layer;
@@ -71,7 +72,7 @@ pub fn count_files(s: &[u8], tree: usize, plen: usize, roots: &mut [u32]) -> Tal
     if ends_here(s, at) {
         return no_tally();
     }
-    let mut path = [0usize; 56];
+    let mut path = [0usize; PATH];
     let mut depth = 0;
     let mut count = 0;
     let mut full = 0;

@@ -57,8 +57,8 @@ fn pass_all(s: &mut [u8], room: &mut [u8], buf: &mut [u8]) -> Progress
 }
 
 fn main() {
-    let mut s = [0u8; 33823];
-    let mut room = [0u8; 16945];
+    let mut s = [0u8; replaying::MAX_STORE];
+    let mut room = [0u8; replaying::MAX_MESSAGE];
     let mut buf = io::large_buffer();
     let last = pass_all(&mut s, &mut room, &mut buf);
     show(replaying::end(last));

@@ -1,6 +1,7 @@
 // The numbers 19 to 28 of a torrent, the lowest; and where its parts are, if it gets 0.
 use layers::index;
 use layers::judge_layers;
+use listing::MOST;
 use listing::count_files;
 use listing::tree_right;
 use metainfo::read_keys;
@@ -105,8 +106,8 @@ fn judge(s: &[u8], tree: usize, plen: usize, layers: usize) -> Judged
     requires { ⌜ (length (now s) ≤ 2 ^ 20) × (isPieceLength plen ≡ true) × LayersOpen (now s) layers ⌝ }
     ensures { λ r. ⌜ r ≡ judgedOf (now (s .entry)) tree plen layers ⌝ }
 {
-    let mut roots = [0u32; 16384];
-    let mut room = [0u32; 16384];
+    let mut roots = [0u32; MOST];
+    let mut room = [0u32; MOST];
     judge_in(s, tree, plen, layers, &mut roots, &mut room)
 }
 

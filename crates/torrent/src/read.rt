@@ -4,6 +4,7 @@ use crate::one::find_file;
 use crate::one::layer_of;
 use crate::one::root_of;
 use bencode::scalar::ByteString;
+use files::walk::PATH;
 ghost use mathlib.Core.Path.{_≡_};
 ghost use mathlib.Core.Bool.{true};
 ghost use Prim.Native.Nat.{ℕ, _+_, _*_, _≤_, _<_};
@@ -96,7 +97,7 @@ fn one_file(s: &[u8], tree: usize, plen: usize, layers: usize, n: usize) -> File
     requires { ⌜ (right (filesIn (now s) tree) ≡ true) × (n < L.length (listed (filesIn (now s) tree))) ⌝ }
     ensures { λ r. ⌜ r ≡ fileAnswer (now (s .entry)) layers plen (fileNumber (listed (filesIn (now (s .entry)) tree)) n) ⌝ }
 {
-    let mut path = [0usize; 56];
+    let mut path = [0usize; PATH];
     let f = find_file(s, tree, n, &mut path);
     let length = f.length;
     let at = f.root;
@@ -163,7 +164,7 @@ fn one_element(s: &[u8], tree: usize, n: usize, k: usize) -> PartRead
     requires { ⌜ (right (filesIn (now s) tree) ≡ true) × (n < L.length (listed (filesIn (now s) tree))) ⌝ }
     ensures { λ r. ⌜ r ≡ elementAnswer (fileNumber (listed (filesIn (now (s .entry)) tree)) n) k ⌝ }
 {
-    let mut path = [0usize; 56];
+    let mut path = [0usize; PATH];
     let f = find_file(s, tree, n, &mut path);
     element_of(&path, f.elements, k)
 }
