@@ -1,5 +1,9 @@
 //! Strings for the hash tests. `hashes.py` makes the same ones.
 
+use crate::call::{Call, Entry};
+use crate::compare::Comparison;
+use crate::random::Random;
+
 pub const FILLINGS: u32 = 4;
 
 /// Every length around the block edges, and some large ones.
@@ -19,5 +23,16 @@ fn byte(i: u32, filling: u32) -> u8 {
         1 => 0xff,
         2 => i as u8,
         _ => (i * i * 3 + i * 7 + 11) as u8,
+    }
+}
+
+const STRINGS: u64 = 20_000;
+
+/// Any strings, their lengths mostly around the edges of the first blocks.
+pub fn run(random: &mut Random, compared: &mut Comparison) {
+    for _ in 0..STRINGS {
+        let most = random.pick(&[64, 64, 130, 130, 300, 2000]);
+        let size = random.between(0, most) as usize;
+        compared.ask(&Call::new(Entry::Sha256).input(random.bytes(size)));
     }
 }

@@ -4,7 +4,7 @@
 use crate::call::{Call, Entry, Outcome};
 use crate::compare::Comparison;
 use crate::random::Random;
-use crate::truth::{self, Truth};
+use crate::truth::{self, Pair, Truth};
 use reference::messages::{Header, HASHES, HEAD, REJECT, REQUEST};
 use reference::store::{facts_of, size_of, CELL, HEAD as FACTS, HELD};
 use reference::tree::{padding, Position, BLOCK, LONGEST_FILE};
@@ -28,8 +28,7 @@ pub enum Hands {
 /// One sequence of calls about one file.
 pub struct Session<'a> {
     pub truth: &'a Truth,
-    /// Another file of the same facts but for the root: its replies are well-formed and wrong.
-    forged: Truth,
+    forged: &'a Truth,
     pub store: Vec<u8>,
     hands: Hands,
     last_reply: Vec<u8>,
@@ -37,8 +36,8 @@ pub struct Session<'a> {
 
 impl<'a> Session<'a> {
     /// A session whose store is opened, foreign or hostile.
-    pub fn begin(truth: &'a Truth, hands: Hands, random: &mut Random, compared: &mut Comparison) -> Session<'a> {
-        let forged = Truth::of_leaves(truth.facts.length, truth.facts.piece_length, random);
+    pub fn begin(files: &'a Pair, hands: Hands, random: &mut Random, compared: &mut Comparison) -> Session<'a> {
+        let Pair { truth, forged } = files;
         let mut session = Session { truth, forged, store: Vec::new(), hands, last_reply: Vec::new() };
         session.store = session.buffer(random);
         if hands == Hands::OursAlone || random.percent(70) {
@@ -106,7 +105,7 @@ impl<'a> Session<'a> {
 
     /// A call about this session's file.
     pub fn call(&self, random: &mut Random) -> Call {
-        let judges = if self.truth.bytes.is_empty() { 4 } else { 40 };
+        let judges = if self.truth.bytes.is_empty() { 1 } else { 40 };
         match random.below(100 + judges) {
             0..=49 => Call::new(Entry::Take).on(&self.store).input(self.hashes(random)),
             50..=69 => self.request(random),
@@ -213,7 +212,8 @@ impl<'a> Session<'a> {
         }
         // Just enough room, one byte too little, room for a reject only, or a lot.
         let fitting = if header.obeys_the_rules(&self.truth.facts) { header.message_size() } else { HEAD as u64 };
-        let room = random.pick(&[fitting, fitting, fitting, fitting - 1, fitting + 7, 20_000, 20_000, 48, 49, 0]);
+        let a_lot = if random.percent(10) { 20_000 } else { fitting + 600 };
+        let room = random.pick(&[fitting, fitting, fitting, fitting - 1, fitting + 7, a_lot, a_lot, 48, 49, 0]);
         let out = vec![random.pick(&[0, 0x55]); room as usize];
         Call { out, ..Call::new(Entry::Serve).on(&self.store).input(request) }
     }
@@ -277,6 +277,8 @@ impl<'a> Session<'a> {
         let number = match random.below(12) {
             0 => parts,
             1 => random.pick(&HOSTILE_NUMBERS),
+            // The last one is often short.
+            2..=6 => parts - 1,
             _ => random.below(parts),
         };
         let size = if is_block { facts.block_size(number) } else { facts.piece_size(number) };
@@ -320,18 +322,22 @@ fn resize(bytes: &mut Vec<u8>, random: &mut Random) {
     bytes.resize(other, 0);
 }
 
-/// Sessions on small files, as long as wanted.
+/// Files kept for more than one session: making a tree costs as much as many calls. Another comes for one of them now and
+/// then.
+const KEPT: u64 = 40;
+
+/// Sessions on small files, as long as wanted. To judge a block or a piece costs as much as ten other calls, so that few
+/// sessions are on files with bytes.
 pub fn run(random: &mut Random, compared: &mut Comparison, mut go_on: impl FnMut(&Comparison) -> bool) {
-    let files = truth::with_bytes(random);
+    let with_bytes = truth::with_bytes(random);
+    let mut small: Vec<Pair> = (0..KEPT).map(|_| Pair::new(truth::small(random), random)).collect();
     while go_on(compared) {
-        let made;
-        let truth = if random.percent(10) {
-            &files[random.below(files.len() as u64) as usize]
-        } else {
-            made = truth::small(random);
-            &made
-        };
-        let mut session = Session::begin(truth, Hands::Others, random, compared);
+        let which = random.below(KEPT) as usize;
+        if random.percent(10) {
+            small[which] = Pair::new(truth::small(random), random);
+        }
+        let files = if random.percent(4) { &with_bytes[which % with_bytes.len()] } else { &small[which] };
+        let mut session = Session::begin(files, Hands::Others, random, compared);
         for _ in 0..random.between(1, 40) {
             session.step(random, compared);
             // An unusable store has one answer to everything.
@@ -344,8 +350,8 @@ pub fn run(random: &mut Random, compared: &mut Comparison, mut go_on: impl FnMut
 
 /// One session on a file of the largest size: 65536 blocks, and a store of 4 MiB.
 pub fn run_on_the_largest_file(random: &mut Random, compared: &mut Comparison, steps: u64) {
-    let truth = Truth::of_leaves(LONGEST_FILE, 1 << 20, random);
-    let mut session = Session::begin(&truth, Hands::OursAlone, random, compared);
+    let files = Pair::new(Truth::of_leaves(LONGEST_FILE, 1 << 20, random), random);
+    let mut session = Session::begin(&files, Hands::OursAlone, random, compared);
     for _ in 0..steps {
         session.step(random, compared);
     }

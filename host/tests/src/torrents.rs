@@ -3,8 +3,9 @@
 use crate::call::{Call, Entry, Given};
 use crate::compare::Comparison;
 use crate::random::Random;
+use reference::number::DONE;
 use reference::pieces::over_piece_layer;
-use reference::torrent::RECORD;
+use reference::torrent::{Torrent, RECORD};
 use reference::tree::Facts;
 use std::collections::BTreeMap;
 
@@ -158,7 +159,8 @@ pub fn good(random: &mut Random) -> Value {
     let piece_length = random.pick(&[16384, 32768, 65536, 1 << 24]);
     let mut maker = Maker { random, piece_length, layers: BTreeMap::new() };
     let levels = maker.random.below(4);
-    let tree = if maker.random.percent(5) { maker.folder_of_many(levels) } else { maker.directory(levels) };
+    let has_many = maker.random.below(200) == 0;
+    let tree = if has_many { maker.folder_of_many(levels) } else { maker.directory(levels) };
     let layers = dictionary(maker.layers);
     let info = BTreeMap::from([
         (b"file tree".to_vec(), tree),
@@ -296,19 +298,19 @@ fn change_prefix(bytes: &mut Vec<u8>, random: &mut Random) {
     bytes.splice(start..end, changed.into_bytes());
 }
 
-/// The bytes of a torrent, good or with something wrong.
-pub fn any(random: &mut Random) -> Vec<u8> {
-    let mut torrent = good(random);
-    match random.below(10) {
-        0..=1 => (),
-        2 => share_a_string(&mut torrent, random),
+/// The bytes of a good torrent with something wrong in its values, its bytes or both.
+fn damaged(good: &Value, random: &mut Random) -> Vec<u8> {
+    let mut torrent = good.clone();
+    match random.below(20) {
+        0..=10 => (),
+        11..=12 => share_a_string(&mut torrent, random),
         _ => (0..random.between(1, 2)).for_each(|_| change_value(&mut torrent, random)),
     }
     let mut bytes = torrent.encoded();
-    if random.percent(15) {
+    if bytes == good.encoded() || random.percent(15) {
         change_bytes(&mut bytes, random);
     }
-    if random.below(300) == 0 {
+    if random.below(500) == 0 {
         bytes.resize((1 << 20) + random.below(2) as usize, b'e');
     }
     bytes
@@ -320,12 +322,23 @@ fn some(count: u64) -> impl Iterator<Item = u64> {
     below.into_iter().chain([count, u64::MAX])
 }
 
+fn ask_whole(torrent: &[u8], compared: &mut Comparison) -> Torrent {
+    match compared.ask(&Call::new(Entry::TorrentRead).input(torrent.to_vec())).given {
+        Given::Torrent(whole) => whole,
+        _ => unreachable!(),
+    }
+}
+
 /// Everything that can be asked about a torrent: as a whole, its files, their path elements, and the list in just the room, in
 /// more, in a byte less and in none.
 pub fn ask_all(torrent: &[u8], compared: &mut Comparison) {
+    let whole = ask_whole(torrent, compared);
+    ask_about_files(torrent, whole.files, compared);
+}
+
+fn ask_about_files(torrent: &[u8], files: u64, compared: &mut Comparison) {
     let about = |entry| Call::new(entry).input(torrent.to_vec());
-    let Given::Torrent(whole) = compared.ask(&about(Entry::TorrentRead)).given else { unreachable!() };
-    for file in some(whole.files) {
+    for file in some(files) {
         let Given::File(found) = compared.ask(&about(Entry::TorrentFile).numbers(file, 0)).given else {
             unreachable!()
         };
@@ -333,7 +346,7 @@ pub fn ask_all(torrent: &[u8], compared: &mut Comparison) {
             compared.ask(&about(Entry::TorrentPath).numbers(file, element));
         }
     }
-    let size = whole.files as usize * RECORD;
+    let size = files as usize * RECORD;
     for room in [size, size + 9, size.saturating_sub(1), 0] {
         compared.ask(&about(Entry::TorrentList).out(vec![0xaa; room]));
     }
@@ -341,10 +354,11 @@ pub fn ask_all(torrent: &[u8], compared: &mut Comparison) {
 
 /// The same of a torrent that is likely to be refused: one call of each entry point then, and the list without room.
 fn ask_some(torrent: &[u8], compared: &mut Comparison) {
-    if reference::torrent::contents(torrent).is_ok() {
-        return ask_all(torrent, compared);
+    let whole = ask_whole(torrent, compared);
+    if whole.number == DONE {
+        return ask_about_files(torrent, whole.files, compared);
     }
-    for entry in [Entry::TorrentRead, Entry::TorrentFile, Entry::TorrentPath, Entry::TorrentList] {
+    for entry in [Entry::TorrentFile, Entry::TorrentPath, Entry::TorrentList] {
         compared.ask(&Call::new(entry).input(torrent.to_vec()).out(vec![0xaa; RECORD]));
     }
     compared.ask(&Call::new(Entry::TorrentList).input(torrent.to_vec()));
@@ -353,7 +367,7 @@ fn ask_some(torrent: &[u8], compared: &mut Comparison) {
 /// One call of each entry point, about the last file, on a torrent so large that every call takes its time.
 pub fn ask_few(torrent: &[u8], compared: &mut Comparison) {
     let about = |entry| Call::new(entry).input(torrent.to_vec());
-    let Given::Torrent(whole) = compared.ask(&about(Entry::TorrentRead)).given else { unreachable!() };
+    let whole = ask_whole(torrent, compared);
     let last = whole.files.saturating_sub(1);
     compared.ask(&about(Entry::TorrentFile).numbers(last, 0));
     compared.ask(&about(Entry::TorrentPath).numbers(last, 0));
@@ -363,7 +377,13 @@ pub fn ask_few(torrent: &[u8], compared: &mut Comparison) {
 /// Torrents, as long as wanted.
 pub fn run(random: &mut Random, compared: &mut Comparison, mut go_on: impl FnMut(&Comparison) -> bool) {
     while go_on(compared) {
-        ask_some(&any(random), compared);
+        let good = good(random);
+        if random.percent(30) {
+            ask_some(&good.encoded(), compared);
+        }
+        for _ in 0..random.between(1, 7) {
+            ask_some(&damaged(&good, random), compared);
+        }
     }
 }
 

@@ -85,11 +85,24 @@ impl Truth {
     }
 }
 
+/// A file, and another of the same facts but for the root: its replies are well-formed and wrong.
+pub struct Pair {
+    pub truth: Truth,
+    pub forged: Truth,
+}
+
+impl Pair {
+    pub fn new(truth: Truth, random: &mut Random) -> Pair {
+        let forged = Truth::of_leaves(truth.facts.length, truth.facts.piece_length, random);
+        Pair { truth, forged }
+    }
+}
+
 const PIECE_LENGTHS: [u64; 5] = [16384, 32768, 65536, 1 << 20, 1 << 24];
 
 /// A file with a small tree, its length often at the edge of a block or of a height.
 pub fn small(random: &mut Random) -> Truth {
-    let most = random.pick(&[3, 9, 9, 20, 40]);
+    let most = random.pick(&[2, 3, 5, 9, 9, 9, 20, 40]);
     let blocks = random.between(1, most);
     let length = match random.below(3) {
         0 => blocks * BLOCK,
@@ -101,8 +114,9 @@ pub fn small(random: &mut Random) -> Truth {
 }
 
 /// Files with their bytes, made once: hashing them is most of what their cases cost.
-pub fn with_bytes(random: &mut Random) -> Vec<Truth> {
+pub fn with_bytes(random: &mut Random) -> Vec<Pair> {
     let lengths = [1, 100, 16383, 16384, 16385, 32769, 50_000, 81920, 100_000, 200_000];
     let pieces = [16384, 16384, 16384, 1 << 24, 16384, 32768, 65536, 65536, 65536, 32768];
-    lengths.iter().zip(pieces).map(|(length, piece)| Truth::of_bytes(random.bytes(*length), piece)).collect()
+    let files = lengths.into_iter().zip(pieces);
+    files.map(|(length, piece)| Pair::new(Truth::of_bytes(random.bytes(length), piece), random)).collect()
 }

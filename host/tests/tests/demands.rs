@@ -5,7 +5,7 @@ use host_tests::call::{by_reference, Call, Entry, Outcome};
 use host_tests::compare::Comparison;
 use host_tests::random::Random;
 use host_tests::sessions::{Hands, Session};
-use host_tests::truth::{self, Truth};
+use host_tests::truth::{self, Pair, Truth};
 use reference::messages::{Header, HASHES, HEAD, REQUEST};
 use reference::number::*;
 use reference::sha256::Hash;
@@ -26,17 +26,17 @@ fn held_in(store: &[u8], truth: &Truth) -> Held {
 /// Runs sessions on stores of our own, and looks at each call with the store before it and its outcome.
 fn look_at_calls(seed: u64, look: &mut dyn FnMut(&Truth, &Call, &Outcome)) {
     let mut random = Random::new(seed);
-    let files = truth::with_bytes(&mut random);
+    let with_bytes = truth::with_bytes(&mut random);
     let mut asked = Comparison::new(&by_reference, &|_| false);
     for number in 0..SESSIONS {
-        let made = truth::small(&mut random);
-        let truth = files.get(number as usize).unwrap_or(&made);
-        let mut session = Session::begin(truth, Hands::OursAlone, &mut random, &mut asked);
+        let small = Pair::new(truth::small(&mut random), &mut random);
+        let files = with_bytes.get(number as usize).unwrap_or(&small);
+        let mut session = Session::begin(files, Hands::OursAlone, &mut random, &mut asked);
         for _ in 0..STEPS {
             let call = session.call(&mut random);
             let outcome = session.apply(&call, &mut asked);
             if call.entry != Entry::StoreSize {
-                look(truth, &call, &outcome);
+                look(&files.truth, &call, &outcome);
             }
         }
     }

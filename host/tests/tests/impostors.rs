@@ -12,7 +12,7 @@ use reference::store::{facts_of, hold, size_of, CELL};
 use reference::torrent::{File, Torrent, RECORD};
 use reference::{Answer, Hashed};
 
-const CASES: u64 = 12_000;
+const CASES: u64 = 60_000;
 const SEED: u64 = 1;
 
 fn sessions(library: Library<'_>) -> Comparison<'_> {
