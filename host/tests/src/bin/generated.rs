@@ -1,9 +1,8 @@
 //! The library against the reference on generated calls. KD_CASES sets how many, KD_SECONDS how long at most, KD_SEED
 //! the seed; each part prints its own. Arguments name the parts to run; `but` before them runs all others, and no argument all.
 //!
-//! It is a program with one thread, and no test under cargo's harness, which starts threads: an emulator of x86-64 on a
-//! machine with weaker memory order puts a barrier at every access once there is a second thread, and takes three to four
-//! times as long.
+//! It is a program with one thread, and no test under cargo's harness, which starts threads: with a second thread an
+//! emulator of x86-64 was seen to take three to four times as long, we think for the barriers that it then needs.
 
 use host_tests::call::{by_library, Entry};
 use host_tests::compare::{report, Comparison};
