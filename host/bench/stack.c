@@ -4,7 +4,7 @@
  * The file has 65,536 blocks, the most there may be, so that the tree is as high as it can be. All its blocks are alike:
  * the tree then costs one hash for each layer. Every call is answered 0, having gone through all it does.
  *
- * host/bench.sh defines HAS_<name> for each function that the header declares: those on torrents are yet to come. */
+ * host/bench.sh defines HAS_<name> for each function that the header declares. */
 #define _GNU_SOURCE
 #include "kombudeva.h"
 
