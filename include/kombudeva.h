@@ -47,8 +47,8 @@
  *
  * Memory marked `const` is not changed, and a refusal changes no byte of any memory, save for that reject.
  *
- * STACK. Calls on a store need at most 6.4 kB of stack, kd_torrent_list 203 kB, the other calls on a torrent 138 kB
- * (measured, docs/BENCHMARKS.md). None depends on what stands in the bytes by more than some hundreds of bytes.
+ * STACK. Calls on a store were seen to need at most 6.4 kB of stack, kd_torrent_list 203 kB, the other calls on a
+ * torrent 138 kB: measured on the largest file and on torrents nested as deep as they may be (docs/BENCHMARKS.md).
  *
  * EXAMPLE
  *
