@@ -1,0 +1,23 @@
+-- 01: how large things may be. Each limit stands here once for the contracts, and once in src/ for the code.
+-- Assumes nothing.
+use Prim.Native.Nat.{ℕ, _^_}
+
+-- the longest file, in bytes
+abbrev pub longestFile : ℕ
+longestFile = 2 ^ 30
+
+-- the height of its tree
+abbrev pub tallestTree : ℕ
+tallestTree = 16
+
+-- the longest base run of a message, in hashes
+abbrev pub longestRun : ℕ
+longestRun = 512
+
+-- the largest torrent, in bytes
+abbrev pub largestTorrent : ℕ
+largestTorrent = 2 ^ 20
+
+-- how deeply a torrent may be nested, the outer dictionary being the first level
+abbrev pub maxLevels : ℕ
+maxLevels = 32
