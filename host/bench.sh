@@ -74,7 +74,5 @@ if [ -n "$KD_RUN" ]; then
     # shellcheck disable=SC2086
     $KD_RUN "$bench" jobs | while read -r line; do counted $line; done
 fi
-# shellcheck disable=SC2046
-$KD_CC -O2 -Wall -Wextra -Werror $(sed -n 's/^kd_[a-z]* \+\(kd_[a-z0-9_]*\)(.*/-DHAS_\1/p' ../include/kombudeva.h) \
-    -I ../include bench/stack.c "$KD_LIB" -o "$work/stack"
+$KD_CC -O2 -Wall -Wextra -Werror -I ../include bench/stack.c "$KD_LIB" -o "$work/stack"
 $KD_RUN "$work/stack"

@@ -3,37 +3,12 @@
  *
  * This header is the whole boundary between the proved library, libkombudeva.a, and a host program.
  *
- * ANSWERS. Every function answers with one struct by value. Its `number` says what happened:
- *
- *     0   done
- *     1   no such message: below 49 bytes or another id; a request or a reject not of 49 bytes
- *     2   another pieces root
- *     3   a header rule fails; a block, piece or position that the file's tree does not have;
- *         a layer for a file not longer than the piece length
- *     4   the byte count isn't what header or file fixes, or is too long for SHA-256
- *     5   a padding position with another value
- *     6   no anchor: the anchor, leaf, piece node or, for a layer, the root is not held
- *     7   the worked-out value differs from the held anchor, leaf or node
- *     8   conflict: the anchor agrees, another held position differs
- *     9   the store is unusable: it names no facts in range, or has not their room
- *    10   facts out of range: length 1 to 2^30, piece length a power of two from 16384 to 16777216
- *    11   the output is shorter than the reply, reject included; or than a torrent's list
- *    12   a requested hash isn't held
- *    19   a torrent above 1 MiB
- *    20   the torrent is not one dictionary in strict bencoding
- *    21   nested deeper than 32 levels, before anything else is wrong
- *    22   `info`, its `file tree`, `piece length` or `meta version`, or `piece layers` missing or of another type
- *    23   the version isn't 2
- *    24   the piece length out of range
- *    25   the file tree isn't right
- *    26   two files that aren't empty with the same root
- *    27   `piece layers` hasn't exactly the roots of the files longer than the piece length, or not 32 bytes per piece
- *    28   a layer doesn't give its root
- *    29   no file, or no path element, of that number
+ * ANSWERS. Every function answers with one struct by value. Its `number` says what happened: KD_DONE, which is 0, or one of
+ * the refusals by name below.
  *
  * Each function lists its numbers in the order in which they are decided: the first that applies is given.
  *
- * Beside a refusal (any number but 0) every other field is zero, save for the size of the reject that
+ * Beside a refusal (any number but KD_DONE) every other field is zero, save for the size of the reject that
  * kd_serve writes. Every input is answered: nothing is asked of the caller's values, and no function stops
  * the program. Compare answers field by field, since C leaves the padding bytes of a struct open.
  *
@@ -53,7 +28,7 @@
  * EXAMPLE
  *
  *     kd_hashed answer = kd_sha256((const uint8_t *)"abc", 3);
- *     if (answer.number == 0)
+ *     if (answer.number == KD_DONE)
  *         use(answer.hash.bytes);      // ba 78 16 bf ... 15 ad
  */
 #ifndef KOMBUDEVA_H
@@ -66,19 +41,67 @@
 extern "C" {
 #endif
 
+/* The version of header and library. Its second figure rises whenever a struct, a function or an answer changes. */
+#define KD_VERSION "0.1.0"
+
+/* ---- The numbers given back, each with what it says. ---- */
+
+#define KD_DONE 0
+#define KD_NO_MESSAGE 1                 /* below 49 bytes or another id; a request or a reject not of 49 bytes */
+#define KD_OTHER_ROOT 2                 /* another pieces root */
+#define KD_RULE_BROKEN 3                /* a header rule fails; a block, piece or position that the file's tree does not
+                                           have; a layer for a file not longer than the piece length */
+#define KD_WRONG_SIZE 4                 /* the byte count isn't what header or file fixes, or is too long for SHA-256 */
+#define KD_WRONG_PADDING 5              /* a padding position with another value */
+#define KD_NO_ANCHOR 6                  /* the anchor, leaf, piece node or, for a layer, the root is not held */
+#define KD_DIFFERS 7                    /* the worked-out value differs from the held anchor, leaf or node */
+#define KD_CONFLICT 8                   /* the anchor agrees, another held position differs */
+#define KD_UNUSABLE 9                   /* not a store: it names no facts in range, or has not their room */
+#define KD_FACTS_OUT_OF_RANGE 10        /* a length or a piece length that no store is opened with */
+#define KD_NO_ROOM 11                   /* the output is shorter than the reply, reject included; or than a torrent's list */
+#define KD_NOT_HELD 12                  /* a requested hash isn't held */
+#define KD_TORRENT_TOO_LARGE 19         /* a torrent above KD_LARGEST_TORRENT */
+#define KD_NOT_STRICT 20                /* the torrent is not one dictionary in strict bencoding */
+#define KD_NESTED_TOO_DEEPLY 21         /* deeper than KD_LEVELS, before anything else is wrong */
+#define KD_KEY_MISSING 22               /* `info`, its `file tree`, `piece length` or `meta version`, or `piece layers`
+                                           missing or of another type */
+#define KD_OTHER_VERSION 23             /* the version isn't 2 */
+#define KD_PIECE_LENGTH_OUT_OF_RANGE 24
+#define KD_WRONG_TREE 25                /* the file tree isn't right */
+#define KD_SAME_ROOT 26                 /* two files that aren't empty with the same root */
+#define KD_LAYERS_AMISS 27              /* `piece layers` hasn't exactly the roots of the files longer than the piece length,
+                                           or not 32 bytes per piece */
+#define KD_LAYER_DIFFERS 28             /* a layer doesn't give its root */
+#define KD_NO_SUCH_FILE 29              /* no file, or no path element, of that number */
+
+/* ---- How large things may be. ---- */
+
+#define KD_BLOCK 16384                  /* the bytes of a block; the last one of a file may have fewer */
+#define KD_SMALLEST_PIECE_LENGTH 16384  /* a piece length is a power of two from this */
+#define KD_LARGEST_PIECE_LENGTH 16777216 /* to this */
+#define KD_LONGEST_FILE 1073741824      /* in bytes; the shortest has 1 */
+#define KD_TALLEST_TREE 16              /* its tree's height, so its root's layer */
+#define KD_LONGEST_RUN 512              /* the `length` of a hash message, in hashes */
+#define KD_LARGEST_TORRENT 1048576      /* in bytes */
+#define KD_LEVELS 32                    /* how deeply a torrent may be nested, its outer dictionary being the first level */
+#define KD_ELEMENTS 28                  /* the most path elements of a file */
+#define KD_RECORD 280                   /* the bytes of a file's record in kd_torrent_list */
+
+/* ---- Answers. ---- */
+
 /* A hash: the 32 bytes of a SHA-256, in the order in which the standard prints them. */
 typedef struct { uint8_t bytes[32]; } kd_hash;
 
-/* A number, and beside 0 a count or a size. */
+/* A number, and beside KD_DONE a count or a size. */
 typedef struct { uint32_t number; uint64_t count; } kd_answer;
 
-/* A number, and beside 0 a hash. */
+/* A number, and beside KD_DONE a hash. */
 typedef struct { uint32_t number; kd_hash hash; } kd_hashed;
 
 /*
  * SHA-256 by FIPS 180-4 of the `size` bytes at `data`.
- *   0  `hash` is the hash.
- *   4  more than 2^61 - 1 bytes, for which the standard has no hash; `hash` is zero.
+ *   KD_WRONG_SIZE  more than 2^61 - 1 bytes, for which the standard has no hash.
+ *   KD_DONE  `hash` is the hash.
  */
 kd_hashed kd_sha256(const uint8_t *data, size_t size);
 
@@ -86,52 +109,53 @@ kd_hashed kd_sha256(const uint8_t *data, size_t size);
 
 /*
  * The size of a store for a file of `length` bytes.
- *   10  facts out of range.
- *    0  `count` is the number of bytes that a store uses. A larger memory may be lent: the rest is never touched.
+ *   KD_FACTS_OUT_OF_RANGE  the length is not from 1 to KD_LONGEST_FILE, or the piece length not in its range.
+ *   KD_DONE  `count` is the number of bytes that a store uses. A larger memory may be lent: the rest is never touched.
  */
 kd_answer kd_store_size(uint64_t length, uint64_t piece_length);
 
 /*
  * Makes the memory a store for the file of this length, piece length and pieces root. The root alone is held then. A store
  * that is opened again forgets everything: that is the one way to lose a held hash.
- *   10  facts out of range.
- *    9  the memory is shorter than the store.
- *    0  `count` is 1. Every byte that the store uses has been set; the bytes behind them stay.
+ *   KD_FACTS_OUT_OF_RANGE  as above.
+ *   KD_UNUSABLE  the memory is shorter than the store.
+ *   KD_DONE  `count` is 1. Every byte that the store uses has been set; the bytes behind them stay.
  */
 kd_answer kd_open(uint8_t *store, size_t size, uint64_t length, uint64_t piece_length, kd_hash root);
 
 /*
  * The hash held at a position: layer 0 has the blocks, the layer of the tree's height the pieces root.
- *    9  not a store.
- *    3  the tree has no such position.
- *    6  the position is not held.
- *    0  `hash` is the hash held.
+ *   KD_UNUSABLE
+ *   KD_RULE_BROKEN  the tree has no such position.
+ *   KD_NO_ANCHOR  the position is not held.
+ *   KD_DONE  `hash` is the hash held.
  */
 kd_hashed kd_held(const uint8_t *store, size_t size, uint64_t layer, uint64_t index);
 
 /* ---- The hash messages, without their length prefix: the id byte first. ---- */
 
 /*
- * Offers a hashes message (id 22), asked for or not. On 0 every position that it settles is held: the hashes given, their
- * parents, the anchor. Anything else leaves the store as it was.
- *    9, 1, 2, 3, 4, 5, 6, 7, 8  refused, in this order.
- *    0  `count` says how many positions are newly held.
+ * Offers a hashes message (id 22), asked for or not. On KD_DONE every position that it settles is held: the hashes given,
+ * their parents, the anchor. Anything else leaves the store as it was.
+ *   KD_UNUSABLE, KD_NO_MESSAGE, KD_OTHER_ROOT, KD_RULE_BROKEN, KD_WRONG_SIZE, KD_WRONG_PADDING, KD_NO_ANCHOR, KD_DIFFERS,
+ *   KD_CONFLICT
+ *   KD_DONE  `count` says how many positions are newly held.
  */
 kd_answer kd_take(uint8_t *store, size_t size, const uint8_t *message, size_t message_size);
 
 /*
  * Hears a reject (id 23). It changes nothing.
- *    9, 1, 2, 3  refused, in this order.
- *    0  a well-formed reject about this file; `count` is 0.
+ *   KD_UNUSABLE, KD_NO_MESSAGE, KD_OTHER_ROOT, KD_RULE_BROKEN
+ *   KD_DONE  a well-formed reject about this file; `count` is 0.
  */
 kd_answer kd_take_reject(const uint8_t *store, size_t size, const uint8_t *message, size_t message_size);
 
 /*
  * Answers a request (id 21) from what is held, into `out`: a hashes message, or a reject with the request's 48 bytes.
- *    9, 1  refused, in this order; nothing is written.
- *    2, 3, 12  a reject has been written; `count` is 49.
- *   11  too little room for the reply or the reject, whichever it is; nothing is written.
- *    0  the hashes message has been written; `count` is its size. Bytes of `out` behind it stay.
+ *   KD_UNUSABLE, KD_NO_MESSAGE  nothing is written.
+ *   KD_OTHER_ROOT, KD_RULE_BROKEN, KD_NOT_HELD  a reject has been written; `count` is 49.
+ *   KD_NO_ROOM  in place of the reply or the reject, whichever there is no room for; nothing is written.
+ *   KD_DONE  the hashes message has been written; `count` is its size. Bytes of `out` behind it stay.
  */
 kd_answer kd_serve(const uint8_t *store, size_t size, const uint8_t *request, size_t request_size, uint8_t *out,
                    size_t out_size);
@@ -140,69 +164,69 @@ kd_answer kd_serve(const uint8_t *store, size_t size, const uint8_t *request, si
 
 /*
  * Loads the piece layer: 32 bytes for each piece, as a torrent's `piece layers` has them.
- *    9, 3, 4, 6, 7, 8  refused, in this order.
- *    0  the piece layer and all layers above it are held; `count` says how many positions are newly held.
+ *   KD_UNUSABLE, KD_RULE_BROKEN, KD_WRONG_SIZE, KD_NO_ANCHOR, KD_DIFFERS, KD_CONFLICT
+ *   KD_DONE  the piece layer and all layers above it are held; `count` says how many positions are newly held.
  */
 kd_answer kd_load_layer(uint8_t *store, size_t size, const uint8_t *layer, size_t layer_size);
 
 /*
- * Judges a block of 16 KiB (the last one shorter) against its leaf.
- *    9, 3, 4, 6, 7  refused, in this order: not believed.
- *    0  believed; `count` is 0.
+ * Judges a block of KD_BLOCK bytes (the last one shorter) against its leaf.
+ *   KD_UNUSABLE, KD_RULE_BROKEN, KD_WRONG_SIZE, KD_NO_ANCHOR, KD_DIFFERS  not believed.
+ *   KD_DONE  believed; `count` is 0.
  */
 kd_answer kd_judge_block(const uint8_t *store, size_t size, uint64_t block, const uint8_t *data, size_t data_size);
 
 /*
  * Judges a piece against its node in the piece layer, or against the held root for a file of one piece.
- *    9, 3, 4, 6, 7, 8  refused, in this order: not believed.
- *    0  believed; `count` is 0.
+ *   KD_UNUSABLE, KD_RULE_BROKEN, KD_WRONG_SIZE, KD_NO_ANCHOR, KD_DIFFERS, KD_CONFLICT  not believed.
+ *   KD_DONE  believed; `count` is 0.
  */
 kd_answer kd_judge_piece(const uint8_t *store, size_t size, uint64_t piece, const uint8_t *data, size_t data_size);
 
-/* ---- Reading a v2 torrent: the bytes of a .torrent file, at most 1 MiB. ---- */
+/* ---- Reading a v2 torrent: the bytes of a .torrent file, at most KD_LARGEST_TORRENT. ---- */
 
-/* A number, and beside 0 what a torrent says as a whole. */
+/* A number, and beside KD_DONE what a torrent says as a whole. */
 typedef struct { uint32_t number; kd_hash info_hash; uint64_t piece_length; uint64_t files; } kd_torrent;
 
 /*
- * A number, and beside 0 one file: the pieces root (zero for an empty file), the number of path elements, and the part of the
- * torrent's bytes that is its piece layer, as kd_load_layer takes it (0 0 if it has none).
+ * A number, and beside KD_DONE one file: the pieces root (zero for an empty file), the number of path elements, and the part
+ * of the torrent's bytes that is its piece layer, as kd_load_layer takes it (0 0 if it has none).
  */
 typedef struct {
     uint32_t number; uint64_t length; kd_hash root; uint64_t elements; uint64_t layer_start; uint64_t layer_size;
 } kd_file;
 
-/* A number, and beside 0 a part of the torrent's bytes: a string's content, without its length prefix. */
+/* A number, and beside KD_DONE a part of the torrent's bytes: a string's content, without its length prefix. */
 typedef struct { uint32_t number; uint64_t start; uint64_t size; } kd_part;
 
 /*
  * Reads a whole torrent.
- *   19, 20 or 21, 22, 23, 24, 25, 26, 27, 28  refused, in this order.
- *    0  the info hash, the piece length and the number of files.
+ *   19 to 28, KD_TORRENT_TOO_LARGE to KD_LAYER_DIFFERS: the lowest, but of 20 and 21 the one met first from the left.
+ *   KD_DONE  the info hash, the piece length and the number of files.
  */
 kd_torrent kd_torrent_read(const uint8_t *torrent, size_t size);
 
 /*
  * File number `file` in tree order, from 0. Each call checks the whole torrent anew: kd_torrent_list gives all files at once.
- *   19 to 28 as above, then 29: no such file.
- *    0  the file.
+ *   19 to 28 as above, then KD_NO_SUCH_FILE.
+ *   KD_DONE  the file.
  */
 kd_file kd_torrent_file(const uint8_t *torrent, size_t size, uint64_t file);
 
 /*
  * Path element number `element` of a file, from 0: any bytes, not always text. Checks the whole torrent anew.
- *   19 to 28 as above, then 29: no such file, or no such element.
- *    0  where it stands.
+ *   19 to 28 as above, then KD_NO_SUCH_FILE: no such file, or no such element.
+ *   KD_DONE  where it stands.
  */
 kd_part kd_torrent_path(const uint8_t *torrent, size_t size, uint64_t file, uint64_t element);
 
 /*
- * All files in tree order in one pass, a record of 280 bytes each, all numbers big-endian:
+ * All files in tree order in one pass, a record of KD_RECORD bytes each, all numbers big-endian:
  *    0  length (8 bytes)             8  pieces root (32), zero for an empty file
- *   40  layer's start (4), size (4)  48  number of path elements (4), 1 to 28; then 4 bytes zero
- *   56  start (4) and size (4) of each of 28 path elements; zero for those that it does not have
- *   19 to 28 as above, then 11: too little room; nothing is written.
- *    0  `count` is the number of bytes written, 280 for each file. Bytes of `out` behind them stay.
+ *   40  layer's start (4), size (4)  48  number of path elements (4), 1 to KD_ELEMENTS; then 4 bytes zero
+ *   56  start (4) and size (4) of each of KD_ELEMENTS path elements; zero for those that it does not have
+ *   19 to 28 as above, then KD_NO_ROOM; nothing is written.
+ *   KD_DONE  `count` is the number of bytes written, KD_RECORD for each file. Bytes of `out` behind them stay.
  */
 kd_answer kd_torrent_list(const uint8_t *torrent, size_t size, uint8_t *out, size_t out_size);
 

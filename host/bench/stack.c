@@ -2,9 +2,7 @@
  * the paint that is gone is counted. What the frame around the call takes itself is measured and taken off.
  *
  * The file has 65,536 blocks, the most there may be, so that the tree is as high as it can be. All its blocks are alike:
- * the tree then costs one hash for each layer. Every call is answered 0, having gone through all it does.
- *
- * host/bench.sh defines HAS_<name> for each function that the header declares. */
+ * the tree then costs one hash for each layer. Every call is answered KD_DONE, having gone all its way. */
 #define _GNU_SOURCE
 #include "kombudeva.h"
 
@@ -14,8 +12,8 @@
 #include <ucontext.h>
 
 enum { STACK = 1 << 22, PAINT = 0xa5 };
-enum { BLOCK = 16384, HEIGHT = 16, BLOCKS = 1 << HEIGHT, LARGEST_PIECE = 1 << 24 };
-enum { RUN = 512, UNCLES = 7, PROOF = 15, HEAD = 49, REPLY = HEAD + 32 * (RUN + UNCLES) };
+enum { BLOCK = KD_BLOCK, HEIGHT = KD_TALLEST_TREE, BLOCKS = 1 << HEIGHT, LARGEST_PIECE = KD_LARGEST_PIECE_LENGTH };
+enum { RUN = KD_LONGEST_RUN, UNCLES = 7, PROOF = 15, HEAD = 49, REPLY = HEAD + 32 * (RUN + UNCLES) };
 enum { REQUEST = 21, HASHES = 22, REJECT = 23 };
 #define LENGTH ((uint64_t)BLOCKS * BLOCK)
 
@@ -47,22 +45,18 @@ static void judge_block(void) { number = kd_judge_block(store, size, 0, piece, B
 static void judge_piece(void) { number = kd_judge_piece(store, size, 0, piece, LARGEST_PIECE).number; }
 static void load_layer(void) { number = kd_load_layer(store, size, layer[0].bytes, sizeof layer).number; }
 
-#ifdef HAS_kd_torrent_path
-
 static void show(const char *name, void (*function)(void));
 
 /* A torrent of the same file, its path as deep as it may be, with the longest layer that 1 MiB has room for. */
-enum { ELEMENTS = 28, LAYER = 2, PIECES = BLOCKS >> LAYER, FILES = 14000 };
-static uint8_t torrent[1 << 20];
+enum { ELEMENTS = KD_ELEMENTS, LAYER = 2, PIECES = BLOCKS >> LAYER, FILES = 14000 };
+static uint8_t torrent[KD_LARGEST_TORRENT];
 static size_t torrent_size;
 
 static void torrent_read(void) { number = kd_torrent_read(torrent, torrent_size).number; }
 static void torrent_file(void) { number = kd_torrent_file(torrent, torrent_size, 0).number; }
 static void torrent_path(void) { number = kd_torrent_path(torrent, torrent_size, 0, ELEMENTS - 1).number; }
-#ifdef HAS_kd_torrent_list
-static uint8_t list[FILES * 280];
+static uint8_t list[FILES * KD_RECORD];
 static void torrent_list(void) { number = kd_torrent_list(torrent, torrent_size, list, sizeof list).number; }
-#endif
 
 static void add(const void *bytes, size_t count)
 {
@@ -117,12 +111,8 @@ static void show_torrent(const char *what)
     show("kd_torrent_read", torrent_read);
     show("kd_torrent_file", torrent_file);
     show("kd_torrent_path", torrent_path);
-#ifdef HAS_kd_torrent_list
     show("kd_torrent_list", torrent_list);
-#endif
 }
-
-#endif
 
 static kd_hash pair_of(kd_hash hash)
 {
@@ -168,7 +158,7 @@ static void take_piece_nodes(void)
     nodes[48] = 0;
     for (int i = 0; i < 64; i++)
         memcpy(nodes + HEAD + 32 * i, at_layer[10].bytes, 32);
-    if (kd_take(store, size, nodes, sizeof nodes).number != 0)
+    if (kd_take(store, size, nodes, sizeof nodes).number != KD_DONE)
         exit(1);
 }
 
@@ -191,7 +181,7 @@ static size_t painted_over(void (*function)(void))
 static void show(const char *name, void (*function)(void))
 {
     size_t around = painted_over(nothing), with = painted_over(function);
-    if (number != 0) {
+    if (number != KD_DONE) {
         printf("%s is answered %u\n", name, number);
         exit(1);
     }
@@ -213,12 +203,10 @@ int main(void)
     show("kd_judge_piece", judge_piece);
     open_for_layer();
     show("kd_load_layer", load_layer);
-#ifdef HAS_kd_torrent_path
     make_torrent();
     show_torrent("of one file with a long layer");
     make_torrent_of_many();
     show_torrent("of 14,000 files");
-#endif
     free(store);
     return 0;
 }

@@ -1,7 +1,7 @@
 /* May this block be believed? A gateway opens a store for a cell's history, hears a neighbour's reply about its hashes,
  * and judges blocks as they come in.
  *
- *     cc -I include host/example/believe.c target/staticlib/libkombudeva.a -o believe
+ *     cc believe.c $(pkg-config --cflags --libs kombudeva) -o believe
  */
 #include "kombudeva.h"
 
@@ -10,7 +10,7 @@
 #include <string.h>
 
 /* The history: two blocks of 16 KiB, the second one cut short. Its tree has two leaves and the root above them. */
-enum { BLOCK = 16384, LENGTH = BLOCK + 1000, PIECE_LENGTH = 16384 };
+enum { LENGTH = KD_BLOCK + 1000, PIECE_LENGTH = KD_SMALLEST_PIECE_LENGTH };
 
 /* Message 22, hashes: id, pieces root, base layer, index, length, proof layers, then here the two leaves. */
 enum { HASHES = 22, HEAD = 49, REPLY = HEAD + 2 * 32 };
@@ -18,10 +18,10 @@ enum { HASHES = 22, HEAD = 49, REPLY = HEAD + 2 * 32 };
 static const char *in_words(uint32_t number)
 {
     switch (number) {
-    case 0: return "it may be believed";
-    case 4: return "no: a block of this file has another size";
-    case 6: return "not yet: no hash is held to compare it with";
-    case 7: return "no: its hash is not the one held";
+    case KD_DONE: return "it may be believed";
+    case KD_WRONG_SIZE: return "no: a block of this file has another size";
+    case KD_NO_ANCHOR: return "not yet: no hash is held to compare it with";
+    case KD_DIFFERS: return "no: its hash is not the one held";
     default: return "no";
     }
 }
@@ -35,7 +35,7 @@ static void judge(const uint8_t *store, size_t size, const char *what, uint64_t 
 static void hear(uint8_t *store, size_t size, const char *what, const uint8_t *reply)
 {
     kd_answer answer = kd_take(store, size, reply, REPLY);
-    if (answer.number == 0)
+    if (answer.number == KD_DONE)
         printf("%s: taken, %llu hashes newly held\n", what, (unsigned long long)answer.count);
     else
         printf("%s: refused (%u), nothing is lost\n", what, answer.number);
@@ -45,8 +45,8 @@ static void hear(uint8_t *store, size_t size, const char *what, const uint8_t *r
 static void neighbours_reply(uint8_t reply[REPLY], const uint8_t *history, kd_hash *root)
 {
     kd_hash leaves[2] = {
-        kd_sha256(history, BLOCK).hash,
-        kd_sha256(history + BLOCK, LENGTH - BLOCK).hash,
+        kd_sha256(history, KD_BLOCK).hash,
+        kd_sha256(history + KD_BLOCK, LENGTH - KD_BLOCK).hash,
     };
     *root = kd_sha256(leaves[0].bytes, sizeof leaves).hash;
     memset(reply, 0, REPLY);
@@ -70,19 +70,19 @@ int main(void)
     /* A real gateway has length, piece length and pieces root from the torrent. */
     size_t size = kd_store_size(LENGTH, PIECE_LENGTH).count;
     uint8_t *store = malloc(size);
-    if (store == NULL || kd_open(store, size, LENGTH, PIECE_LENGTH, root).number != 0)
+    if (store == NULL || kd_open(store, size, LENGTH, PIECE_LENGTH, root).number != KD_DONE)
         return 1;
 
-    judge(store, size, "block 0 before any reply", 0, today, BLOCK);
+    judge(store, size, "block 0 before any reply", 0, today, KD_BLOCK);
     hear(store, size, "a reply about yesterday's file", old_reply);
     reply[HEAD] ^= 1;
     hear(store, size, "a damaged reply", reply);
     reply[HEAD] ^= 1;
     hear(store, size, "the true reply", reply);
-    judge(store, size, "block 0 of today", 0, today, BLOCK);
-    judge(store, size, "block 0 of yesterday", 0, yesterday, BLOCK);
-    judge(store, size, "block 1 of today", 1, today + BLOCK, LENGTH - BLOCK);
-    judge(store, size, "block 1 with its end missing", 1, today + BLOCK, 500);
+    judge(store, size, "block 0 of today", 0, today, KD_BLOCK);
+    judge(store, size, "block 0 of yesterday", 0, yesterday, KD_BLOCK);
+    judge(store, size, "block 1 of today", 1, today + KD_BLOCK, LENGTH - KD_BLOCK);
+    judge(store, size, "block 1 with its end missing", 1, today + KD_BLOCK, 500);
     free(store);
     return 0;
 }

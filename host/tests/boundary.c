@@ -1,8 +1,6 @@
 /* The header as C sees it: it compiles without a warning, its structs have the sizes and offsets that the library was
- * built for, NULL with size 0 is safe for every parameter, calls whose every field is known come back right, and no call
- * touches a byte outside the memories it was lent.
- *
- * host/test defines HAS_<name> for each function that the header declares: those on torrents are yet to come. */
+ * built for, NULL with size 0 is safe for every parameter, calls whose every field is known come back right, no call
+ * touches a byte outside the memories it was lent, and the limits by name are the library's. */
 #define _DEFAULT_SOURCE
 #include "kombudeva.h"
 
@@ -18,14 +16,11 @@ _Static_assert(offsetof(kd_hashed, hash) == 4, "kd_hashed.hash");
 _Static_assert(sizeof(kd_answer) == 16, "kd_answer");
 _Static_assert(offsetof(kd_answer, number) == 0, "kd_answer.number");
 _Static_assert(offsetof(kd_answer, count) == 8, "kd_answer.count");
-#ifdef HAS_kd_torrent_read
 _Static_assert(sizeof(kd_torrent) == 56, "kd_torrent");
 _Static_assert(offsetof(kd_torrent, number) == 0, "kd_torrent.number");
 _Static_assert(offsetof(kd_torrent, info_hash) == 4, "kd_torrent.info_hash");
 _Static_assert(offsetof(kd_torrent, piece_length) == 40, "kd_torrent.piece_length");
 _Static_assert(offsetof(kd_torrent, files) == 48, "kd_torrent.files");
-#endif
-#ifdef HAS_kd_torrent_file
 _Static_assert(sizeof(kd_file) == 72, "kd_file");
 _Static_assert(offsetof(kd_file, number) == 0, "kd_file.number");
 _Static_assert(offsetof(kd_file, length) == 8, "kd_file.length");
@@ -33,13 +28,10 @@ _Static_assert(offsetof(kd_file, root) == 16, "kd_file.root");
 _Static_assert(offsetof(kd_file, elements) == 48, "kd_file.elements");
 _Static_assert(offsetof(kd_file, layer_start) == 56, "kd_file.layer_start");
 _Static_assert(offsetof(kd_file, layer_size) == 64, "kd_file.layer_size");
-#endif
-#ifdef HAS_kd_torrent_path
 _Static_assert(sizeof(kd_part) == 24, "kd_part");
 _Static_assert(offsetof(kd_part, number) == 0, "kd_part.number");
 _Static_assert(offsetof(kd_part, start) == 8, "kd_part.start");
 _Static_assert(offsetof(kd_part, size) == 16, "kd_part.size");
-#endif
 
 static unsigned passed, failed;
 
@@ -83,15 +75,17 @@ static void hashes(void)
 {
     kd_hash of_nothing = hash_of_digits("e3b0c44298fc1c149afbf4c8996fb92427ae41e4649b934ca495991b7852b855");
     kd_hash of_abc = hash_of_digits("ba7816bf8f01cfea414140de5dae2223b00361a396177a9cb410ff61f20015ad");
-    check("kd_sha256 of NULL with size 0", is_hashed(kd_sha256(NULL, 0), 0, of_nothing));
-    check("kd_sha256 of no bytes", is_hashed(kd_sha256((const uint8_t *)"abc", 0), 0, of_nothing));
-    check("kd_sha256 of abc", is_hashed(kd_sha256((const uint8_t *)"abc", 3), 0, of_abc));
+    check("kd_sha256 of NULL with size 0", is_hashed(kd_sha256(NULL, 0), KD_DONE, of_nothing));
+    check("kd_sha256 of no bytes", is_hashed(kd_sha256((const uint8_t *)"abc", 0), KD_DONE, of_nothing));
+    check("kd_sha256 of abc", is_hashed(kd_sha256((const uint8_t *)"abc", 3), KD_DONE, of_abc));
     /* No memory is that long. The call is tried all the same, since the size alone decides and no byte is read. */
-    check("kd_sha256 of 2^61 bytes", is_hashed(kd_sha256((const uint8_t *)"abc", (size_t)1 << 61), 4, zero));
+    check("kd_sha256 of 2^61 bytes",
+            is_hashed(kd_sha256((const uint8_t *)"abc", (size_t)1 << 61), KD_WRONG_SIZE, zero));
 }
 
 /* The file of the session in document 01: five blocks, so a tree of height 3, in pieces of four blocks. */
-enum { BLOCK = 16384, LENGTH = 5 * BLOCK, PIECE = 4 * BLOCK, HEIGHT = 3, STORE = 33 * 15 + 64, HEAD = 49, ROOM = 320 };
+enum { BLOCK = KD_BLOCK, LENGTH = 5 * BLOCK, PIECE = 4 * BLOCK, HEIGHT = 3 };
+enum { STORE = 33 * 15 + 64, HEAD = 49, ROOM = 320 };
 enum { REQUEST = 21, HASHES = 22, REJECT = 23 };
 
 static uint8_t file[LENGTH];
@@ -149,21 +143,22 @@ static void stores(void)
 {
     uint8_t larger[STORE + 1];
     memset(larger, 0xaa, sizeof larger);
-    answers("kd_store_size", kd_store_size(LENGTH, PIECE), 0, STORE);
-    answers("kd_store_size of no bytes", kd_store_size(0, PIECE), 10, 0);
-    answers("kd_store_size of a piece length beyond 32 bits", kd_store_size(1, ((uint64_t)1 << 32) + BLOCK), 10, 0);
-    answers("kd_open of NULL", kd_open(NULL, 0, LENGTH, PIECE, root()), 9, 0);
-    answers("kd_open of NULL with facts out of range", kd_open(NULL, 0, 0, PIECE, root()), 10, 0);
-    answers("kd_open with a byte too few", kd_open(larger, STORE - 1, LENGTH, PIECE, root()), 9, 0);
+    answers("kd_store_size", kd_store_size(LENGTH, PIECE), KD_DONE, STORE);
+    answers("kd_store_size of no bytes", kd_store_size(0, PIECE), KD_FACTS_OUT_OF_RANGE, 0);
+    answers("kd_store_size of a piece length beyond 32 bits",
+            kd_store_size(1, ((uint64_t)1 << 32) + BLOCK), KD_FACTS_OUT_OF_RANGE, 0);
+    answers("kd_open of NULL", kd_open(NULL, 0, LENGTH, PIECE, root()), KD_UNUSABLE, 0);
+    answers("kd_open of NULL with facts out of range", kd_open(NULL, 0, 0, PIECE, root()), KD_FACTS_OUT_OF_RANGE, 0);
+    answers("kd_open with a byte too few", kd_open(larger, STORE - 1, LENGTH, PIECE, root()), KD_UNUSABLE, 0);
     check("a refused opening changes nothing", larger[0] == 0xaa);
-    answers("kd_open", kd_open(larger, sizeof larger, LENGTH, PIECE, root()), 0, 1);
+    answers("kd_open", kd_open(larger, sizeof larger, LENGTH, PIECE, root()), KD_DONE, 1);
     check("the byte behind a store stays", larger[STORE] == 0xaa && larger[STORE - 1] == 0);
-    answers("kd_open in just the room", kd_open(store, STORE, LENGTH, PIECE, root()), 0, 1);
-    check("kd_held of NULL", is_hashed(kd_held(NULL, 0, 0, 0), 9, zero));
-    check("kd_held of the root", is_hashed(kd_held(store, STORE, HEIGHT, 0), 0, root()));
-    check("kd_held of a leaf", is_hashed(kd_held(store, STORE, 0, 4), 6, zero));
-    check("kd_held above the root", is_hashed(kd_held(store, STORE, HEIGHT + 1, 0), 3, zero));
-    check("kd_held past a layer", is_hashed(kd_held(store, STORE, 0, 8), 3, zero));
+    answers("kd_open in just the room", kd_open(store, STORE, LENGTH, PIECE, root()), KD_DONE, 1);
+    check("kd_held of NULL", is_hashed(kd_held(NULL, 0, 0, 0), KD_UNUSABLE, zero));
+    check("kd_held of the root", is_hashed(kd_held(store, STORE, HEIGHT, 0), KD_DONE, root()));
+    check("kd_held of a leaf", is_hashed(kd_held(store, STORE, 0, 4), KD_NO_ANCHOR, zero));
+    check("kd_held above the root", is_hashed(kd_held(store, STORE, HEIGHT + 1, 0), KD_RULE_BROKEN, zero));
+    check("kd_held past a layer", is_hashed(kd_held(store, STORE, 0, 8), KD_RULE_BROKEN, zero));
 }
 
 /* The session of document 01, then what is held. */
@@ -171,32 +166,32 @@ static void session(void)
 {
     uint8_t leaves[ROOM], upper[ROOM], damaged[ROOM];
     size_t leaves_size = first_leaves(leaves), upper_size = upper_hashes(upper);
-    answers("open", kd_open(store, STORE, LENGTH, PIECE, root()), 0, 1);
-    answers("the leaves before their anchor", kd_take(store, STORE, leaves, leaves_size), 6, 0);
+    answers("open", kd_open(store, STORE, LENGTH, PIECE, root()), KD_DONE, 1);
+    answers("the leaves before their anchor", kd_take(store, STORE, leaves, leaves_size), KD_NO_ANCHOR, 0);
     memcpy(damaged, upper, upper_size);
     damaged[upper_size - 1] ^= 1;
-    answers("a damaged layer 2", kd_take(store, STORE, damaged, upper_size), 7, 0);
-    answers("layer 2", kd_take(store, STORE, upper, upper_size), 0, 2);
-    answers("the leaves", kd_take(store, STORE, leaves, leaves_size), 0, 6);
-    answers("the leaves again", kd_take(store, STORE, leaves, leaves_size), 0, 0);
+    answers("a damaged layer 2", kd_take(store, STORE, damaged, upper_size), KD_DIFFERS, 0);
+    answers("layer 2", kd_take(store, STORE, upper, upper_size), KD_DONE, 2);
+    answers("the leaves", kd_take(store, STORE, leaves, leaves_size), KD_DONE, 6);
+    answers("the leaves again", kd_take(store, STORE, leaves, leaves_size), KD_DONE, 0);
     for (uint64_t index = 0; index < 4; index++)
-        check("a leaf is held", is_hashed(kd_held(store, STORE, 0, index), 0, tree[0][index]));
-    check("the fifth leaf is not held", is_hashed(kd_held(store, STORE, 0, 4), 6, zero));
-    answers("kd_take on NULL", kd_take(NULL, 0, leaves, leaves_size), 9, 0);
-    answers("kd_take of NULL", kd_take(store, STORE, NULL, 0), 1, 0);
-    answers("kd_take of NULL on NULL", kd_take(NULL, 0, NULL, 0), 9, 0);
+        check("a leaf is held", is_hashed(kd_held(store, STORE, 0, index), KD_DONE, tree[0][index]));
+    check("the fifth leaf is not held", is_hashed(kd_held(store, STORE, 0, 4), KD_NO_ANCHOR, zero));
+    answers("kd_take on NULL", kd_take(NULL, 0, leaves, leaves_size), KD_UNUSABLE, 0);
+    answers("kd_take of NULL", kd_take(store, STORE, NULL, 0), KD_NO_MESSAGE, 0);
+    answers("kd_take of NULL on NULL", kd_take(NULL, 0, NULL, 0), KD_UNUSABLE, 0);
 }
 
 static void rejects(void)
 {
     uint8_t reject[HEAD];
     write_head(reject, REJECT, 0, 4, 4, 2);
-    answers("kd_take_reject", kd_take_reject(store, STORE, reject, HEAD), 0, 0);
-    answers("kd_take_reject on NULL", kd_take_reject(NULL, 0, reject, HEAD), 9, 0);
-    answers("kd_take_reject of NULL", kd_take_reject(store, STORE, NULL, 0), 1, 0);
-    answers("kd_take_reject of NULL on NULL", kd_take_reject(NULL, 0, NULL, 0), 9, 0);
+    answers("kd_take_reject", kd_take_reject(store, STORE, reject, HEAD), KD_DONE, 0);
+    answers("kd_take_reject on NULL", kd_take_reject(NULL, 0, reject, HEAD), KD_UNUSABLE, 0);
+    answers("kd_take_reject of NULL", kd_take_reject(store, STORE, NULL, 0), KD_NO_MESSAGE, 0);
+    answers("kd_take_reject of NULL on NULL", kd_take_reject(NULL, 0, NULL, 0), KD_UNUSABLE, 0);
     reject[1] ^= 1;
-    answers("a reject about another file", kd_take_reject(store, STORE, reject, HEAD), 2, 0);
+    answers("a reject about another file", kd_take_reject(store, STORE, reject, HEAD), KD_OTHER_ROOT, 0);
 }
 
 static int all_are(const uint8_t *bytes, size_t size, uint8_t value)
@@ -214,23 +209,23 @@ static void serving(void)
     size_t size = first_leaves(reply);
     write_head(request, REQUEST, 0, 0, 4, 1);
     memset(out, 0xaa, ROOM);
-    answers("a reply without room", kd_serve(store, STORE, request, HEAD, out, size - 1), 11, 0);
-    answers("a reply into NULL", kd_serve(store, STORE, request, HEAD, NULL, 0), 11, 0);
+    answers("a reply without room", kd_serve(store, STORE, request, HEAD, out, size - 1), KD_NO_ROOM, 0);
+    answers("a reply into NULL", kd_serve(store, STORE, request, HEAD, NULL, 0), KD_NO_ROOM, 0);
     check("without room nothing is written", all_are(out, ROOM, 0xaa));
-    answers("a reply", kd_serve(store, STORE, request, HEAD, out, ROOM), 0, size);
+    answers("a reply", kd_serve(store, STORE, request, HEAD, out, ROOM), KD_DONE, size);
     check("it is the message that was taken", memcmp(out, reply, size) == 0 && all_are(out + size, ROOM - size, 0xaa));
 
     write_head(request, REQUEST, 0, 4, 4, 2);
     write_head(reject, REJECT, 0, 4, 4, 2);
     memset(out, 0xaa, ROOM);
-    answers("a reject without room", kd_serve(store, STORE, request, HEAD, out, HEAD - 1), 11, 0);
+    answers("a reject without room", kd_serve(store, STORE, request, HEAD, out, HEAD - 1), KD_NO_ROOM, 0);
     check("without room no reject is written", all_are(out, ROOM, 0xaa));
-    answers("a reject", kd_serve(store, STORE, request, HEAD, out, ROOM), 12, HEAD);
+    answers("a reject", kd_serve(store, STORE, request, HEAD, out, ROOM), KD_NOT_HELD, HEAD);
     check("it has the request's 48 bytes", memcmp(out, reject, HEAD) == 0 && all_are(out + HEAD, ROOM - HEAD, 0xaa));
 
-    answers("kd_serve of NULL", kd_serve(store, STORE, NULL, 0, out, ROOM), 1, 0);
-    answers("kd_serve on NULL", kd_serve(NULL, 0, request, HEAD, out, ROOM), 9, 0);
-    answers("kd_serve with NULL everywhere", kd_serve(NULL, 0, NULL, 0, NULL, 0), 9, 0);
+    answers("kd_serve of NULL", kd_serve(store, STORE, NULL, 0, out, ROOM), KD_NO_MESSAGE, 0);
+    answers("kd_serve on NULL", kd_serve(NULL, 0, request, HEAD, out, ROOM), KD_UNUSABLE, 0);
+    answers("kd_serve with NULL everywhere", kd_serve(NULL, 0, NULL, 0, NULL, 0), KD_UNUSABLE, 0);
 }
 
 static void layers(void)
@@ -239,43 +234,45 @@ static void layers(void)
     memcpy(damaged, tree[2], sizeof damaged);
     damaged[63] ^= 1;
     kd_open(fresh, STORE, LENGTH, PIECE, root());
-    answers("a damaged layer", kd_load_layer(fresh, STORE, damaged, 64), 7, 0);
-    answers("half a layer", kd_load_layer(fresh, STORE, tree[2][0].bytes, 32), 4, 0);
-    answers("kd_load_layer of NULL", kd_load_layer(fresh, STORE, NULL, 0), 4, 0);
-    answers("kd_load_layer", kd_load_layer(fresh, STORE, tree[2][0].bytes, 64), 0, 2);
-    answers("the layer again", kd_load_layer(fresh, STORE, tree[2][0].bytes, 64), 0, 0);
-    answers("kd_load_layer on NULL", kd_load_layer(NULL, 0, tree[2][0].bytes, 64), 9, 0);
-    answers("kd_load_layer of NULL on NULL", kd_load_layer(NULL, 0, NULL, 0), 9, 0);
-    check("layer 2 is held", is_hashed(kd_held(fresh, STORE, 2, 1), 0, tree[2][1]));
-    check("layer 1 is not", is_hashed(kd_held(fresh, STORE, 1, 0), 6, zero));
+    answers("a damaged layer", kd_load_layer(fresh, STORE, damaged, 64), KD_DIFFERS, 0);
+    answers("half a layer", kd_load_layer(fresh, STORE, tree[2][0].bytes, 32), KD_WRONG_SIZE, 0);
+    answers("kd_load_layer of NULL", kd_load_layer(fresh, STORE, NULL, 0), KD_WRONG_SIZE, 0);
+    answers("kd_load_layer", kd_load_layer(fresh, STORE, tree[2][0].bytes, 64), KD_DONE, 2);
+    answers("the layer again", kd_load_layer(fresh, STORE, tree[2][0].bytes, 64), KD_DONE, 0);
+    answers("kd_load_layer on NULL", kd_load_layer(NULL, 0, tree[2][0].bytes, 64), KD_UNUSABLE, 0);
+    answers("kd_load_layer of NULL on NULL", kd_load_layer(NULL, 0, NULL, 0), KD_UNUSABLE, 0);
+    check("layer 2 is held", is_hashed(kd_held(fresh, STORE, 2, 1), KD_DONE, tree[2][1]));
+    check("layer 1 is not", is_hashed(kd_held(fresh, STORE, 1, 0), KD_NO_ANCHOR, zero));
 }
 
 /* On the store that the session left. */
 static void blocks(void)
 {
-    answers("a block", kd_judge_block(store, STORE, 3, file + 3 * BLOCK, BLOCK), 0, 0);
-    answers("another block's bytes", kd_judge_block(store, STORE, 3, file + 2 * BLOCK, BLOCK), 7, 0);
-    answers("a block of another size", kd_judge_block(store, STORE, 3, file + 3 * BLOCK, BLOCK - 1), 4, 0);
-    answers("a block whose leaf is not held", kd_judge_block(store, STORE, 4, file + 4 * BLOCK, BLOCK), 6, 0);
-    answers("a block past the file", kd_judge_block(store, STORE, 5, file, BLOCK), 3, 0);
-    answers("a block whose offset has no 64 bits", kd_judge_block(store, STORE, (uint64_t)1 << 60, file, BLOCK), 3, 0);
-    answers("kd_judge_block of NULL", kd_judge_block(store, STORE, 0, NULL, 0), 4, 0);
-    answers("kd_judge_block on NULL", kd_judge_block(NULL, 0, 0, file, BLOCK), 9, 0);
-    answers("kd_judge_block of NULL on NULL", kd_judge_block(NULL, 0, 0, NULL, 0), 9, 0);
+    answers("a block", kd_judge_block(store, STORE, 3, file + 3 * BLOCK, BLOCK), KD_DONE, 0);
+    answers("another block's bytes", kd_judge_block(store, STORE, 3, file + 2 * BLOCK, BLOCK), KD_DIFFERS, 0);
+    answers("a block of another size", kd_judge_block(store, STORE, 3, file + 3 * BLOCK, BLOCK - 1), KD_WRONG_SIZE, 0);
+    answers("a block whose leaf is not held",
+            kd_judge_block(store, STORE, 4, file + 4 * BLOCK, BLOCK), KD_NO_ANCHOR, 0);
+    answers("a block past the file", kd_judge_block(store, STORE, 5, file, BLOCK), KD_RULE_BROKEN, 0);
+    answers("a block whose offset has no 64 bits",
+            kd_judge_block(store, STORE, (uint64_t)1 << 60, file, BLOCK), KD_RULE_BROKEN, 0);
+    answers("kd_judge_block of NULL", kd_judge_block(store, STORE, 0, NULL, 0), KD_WRONG_SIZE, 0);
+    answers("kd_judge_block on NULL", kd_judge_block(NULL, 0, 0, file, BLOCK), KD_UNUSABLE, 0);
+    answers("kd_judge_block of NULL on NULL", kd_judge_block(NULL, 0, 0, NULL, 0), KD_UNUSABLE, 0);
 }
 
 static void pieces(void)
 {
-    answers("a piece", kd_judge_piece(store, STORE, 0, file, PIECE), 0, 0);
-    answers("the last, shorter piece", kd_judge_piece(store, STORE, 1, file + PIECE, LENGTH - PIECE), 0, 0);
+    answers("a piece", kd_judge_piece(store, STORE, 0, file, PIECE), KD_DONE, 0);
+    answers("the last, shorter piece", kd_judge_piece(store, STORE, 1, file + PIECE, LENGTH - PIECE), KD_DONE, 0);
     file[PIECE - 1] ^= 1;
-    answers("a damaged piece", kd_judge_piece(store, STORE, 0, file, PIECE), 7, 0);
+    answers("a damaged piece", kd_judge_piece(store, STORE, 0, file, PIECE), KD_DIFFERS, 0);
     file[PIECE - 1] ^= 1;
-    answers("a last piece that is filled up", kd_judge_piece(store, STORE, 1, file, PIECE), 4, 0);
-    answers("a piece past the file", kd_judge_piece(store, STORE, 2, file, PIECE), 3, 0);
-    answers("kd_judge_piece of NULL", kd_judge_piece(store, STORE, 0, NULL, 0), 4, 0);
-    answers("kd_judge_piece on NULL", kd_judge_piece(NULL, 0, 0, file, PIECE), 9, 0);
-    answers("kd_judge_piece of NULL on NULL", kd_judge_piece(NULL, 0, 0, NULL, 0), 9, 0);
+    answers("a last piece that is filled up", kd_judge_piece(store, STORE, 1, file, PIECE), KD_WRONG_SIZE, 0);
+    answers("a piece past the file", kd_judge_piece(store, STORE, 2, file, PIECE), KD_RULE_BROKEN, 0);
+    answers("kd_judge_piece of NULL", kd_judge_piece(store, STORE, 0, NULL, 0), KD_WRONG_SIZE, 0);
+    answers("kd_judge_piece on NULL", kd_judge_piece(NULL, 0, 0, file, PIECE), KD_UNUSABLE, 0);
+    answers("kd_judge_piece of NULL on NULL", kd_judge_piece(NULL, 0, 0, NULL, 0), KD_UNUSABLE, 0);
 }
 
 /* A copy of some bytes that ends where a page begins that may not be touched: one byte read or written behind it ends
@@ -297,28 +294,31 @@ static void ends_of_memories(void)
     uint8_t *lent = guarded(store, STORE), *out;
     size_t size = upper_hashes(bytes);
     uint8_t *upper = guarded(bytes, size);
-    check("guarded kd_sha256", is_hashed(kd_sha256(guarded("abc", 3), 3), 0, kd_sha256((const uint8_t *)"abc", 3).hash));
-    answers("guarded kd_open", kd_open(lent, STORE, LENGTH, PIECE, root()), 0, 1);
-    answers("guarded kd_take", kd_take(lent, STORE, upper, size), 0, 2);
-    answers("guarded kd_take of a cut message", kd_take(lent, STORE, guarded(bytes, HEAD + 32), HEAD + 32), 4, 0);
-    answers("guarded kd_take of a cut head", kd_take(lent, STORE, guarded(bytes, HEAD - 1), HEAD - 1), 1, 0);
-    answers("guarded kd_take on a cut store", kd_take(guarded(lent, STORE - 1), STORE - 1, upper, size), 9, 0);
-    answers("guarded kd_take on cut facts", kd_take(guarded(lent, 40), 40, upper, size), 9, 0);
-    check("guarded kd_held", is_hashed(kd_held(lent, STORE, 0, 7), 6, zero));
+    check("guarded kd_sha256",
+            is_hashed(kd_sha256(guarded("abc", 3), 3), KD_DONE, kd_sha256((const uint8_t *)"abc", 3).hash));
+    answers("guarded kd_open", kd_open(lent, STORE, LENGTH, PIECE, root()), KD_DONE, 1);
+    answers("guarded kd_take", kd_take(lent, STORE, upper, size), KD_DONE, 2);
+    answers("guarded kd_take of a cut message",
+            kd_take(lent, STORE, guarded(bytes, HEAD + 32), HEAD + 32), KD_WRONG_SIZE, 0);
+    answers("guarded kd_take of a cut head",
+            kd_take(lent, STORE, guarded(bytes, HEAD - 1), HEAD - 1), KD_NO_MESSAGE, 0);
+    answers("guarded kd_take on a cut store",
+            kd_take(guarded(lent, STORE - 1), STORE - 1, upper, size), KD_UNUSABLE, 0);
+    answers("guarded kd_take on cut facts", kd_take(guarded(lent, 40), 40, upper, size), KD_UNUSABLE, 0);
+    check("guarded kd_held", is_hashed(kd_held(lent, STORE, 0, 7), KD_NO_ANCHOR, zero));
     write_head(bytes, REJECT, 2, 0, 2, 0);
-    answers("guarded kd_take_reject", kd_take_reject(lent, STORE, guarded(bytes, HEAD), HEAD), 0, 0);
+    answers("guarded kd_take_reject", kd_take_reject(lent, STORE, guarded(bytes, HEAD), HEAD), KD_DONE, 0);
     write_head(bytes, REQUEST, 2, 0, 2, 0);
     out = guarded(bytes, size);
-    answers("guarded kd_serve", kd_serve(lent, STORE, guarded(bytes, HEAD), HEAD, out, size), 0, size);
+    answers("guarded kd_serve", kd_serve(lent, STORE, guarded(bytes, HEAD), HEAD, out, size), KD_DONE, size);
     check("guarded reply", memcmp(out, upper, size) == 0);
-    answers("guarded kd_load_layer", kd_load_layer(lent, STORE, guarded(tree[2], 64), 64), 0, 0);
-    answers("guarded kd_judge_piece", kd_judge_piece(lent, STORE, 1, guarded(file + PIECE, BLOCK), BLOCK), 0, 0);
+    answers("guarded kd_load_layer", kd_load_layer(lent, STORE, guarded(tree[2], 64), 64), KD_DONE, 0);
+    answers("guarded kd_judge_piece", kd_judge_piece(lent, STORE, 1, guarded(file + PIECE, BLOCK), BLOCK), KD_DONE, 0);
     size = first_leaves(bytes);
-    answers("guarded leaves", kd_take(lent, STORE, guarded(bytes, size), size), 0, 6);
-    answers("guarded kd_judge_block", kd_judge_block(lent, STORE, 3, guarded(file + 3 * BLOCK, BLOCK), BLOCK), 0, 0);
+    answers("guarded leaves", kd_take(lent, STORE, guarded(bytes, size), size), KD_DONE, 6);
+    answers("guarded kd_judge_block",
+            kd_judge_block(lent, STORE, 3, guarded(file + 3 * BLOCK, BLOCK), BLOCK), KD_DONE, 0);
 }
-
-#if defined HAS_kd_torrent_read && defined HAS_kd_torrent_file && defined HAS_kd_torrent_path
 
 /* A torrent of one file with two blocks, in pieces of one: its layer is its leaves. The texts stand around the root and
  * the layer. */
@@ -333,8 +333,6 @@ static size_t add(uint8_t *torrent, size_t at, const void *bytes, size_t size)
     return at + size;
 }
 
-#ifdef HAS_kd_torrent_list
-
 /* The number in some bytes, big-endian. */
 static uint64_t number_at(const uint8_t *bytes, size_t size)
 {
@@ -347,28 +345,25 @@ static uint64_t number_at(const uint8_t *bytes, size_t size)
 /* The list of this torrent, whose one file is known: every byte of its record. */
 static void list(const uint8_t *torrent, size_t size, const kd_file *one)
 {
-    enum { RECORD = 280, ELEMENTS = 28 };
-    uint8_t room[RECORD + 1];
+    uint8_t room[KD_RECORD + 1];
     memset(room, 0xaa, sizeof room);
-    answers("a list without room", kd_torrent_list(torrent, size, room, RECORD - 1), 11, 0);
-    answers("a list into NULL", kd_torrent_list(torrent, size, NULL, 0), 11, 0);
-    answers("a list of a torrent cut short", kd_torrent_list(torrent, size - 1, room, sizeof room), 20, 0);
+    answers("a list without room", kd_torrent_list(torrent, size, room, KD_RECORD - 1), KD_NO_ROOM, 0);
+    answers("a list into NULL", kd_torrent_list(torrent, size, NULL, 0), KD_NO_ROOM, 0);
+    answers("a list of a torrent cut short", kd_torrent_list(torrent, size - 1, room, sizeof room), KD_NOT_STRICT, 0);
     check("a refused list writes nothing", all_are(room, sizeof room, 0xaa));
-    answers("kd_torrent_list", kd_torrent_list(torrent, size, room, sizeof room), 0, RECORD);
-    check("the byte behind a list stays", room[RECORD] == 0xaa);
-    uint8_t *end = guarded(room, RECORD);
-    answers("guarded kd_torrent_list", kd_torrent_list(torrent, size, end, RECORD), 0, RECORD);
+    answers("kd_torrent_list", kd_torrent_list(torrent, size, room, sizeof room), KD_DONE, KD_RECORD);
+    check("the byte behind a list stays", room[KD_RECORD] == 0xaa);
+    uint8_t *end = guarded(room, KD_RECORD);
+    answers("guarded kd_torrent_list", kd_torrent_list(torrent, size, end, KD_RECORD), KD_DONE, KD_RECORD);
     check("length and root", number_at(end, 8) == one->length && memcmp(end + 8, &one->root, 32) == 0);
     check("layer", number_at(end + 40, 4) == one->layer_start && number_at(end + 44, 4) == one->layer_size);
     check("number of path elements", number_at(end + 48, 4) == one->elements && number_at(end + 52, 4) == 0);
-    for (uint64_t element = 0; element < ELEMENTS; element++) {
+    for (uint64_t element = 0; element < KD_ELEMENTS; element++) {
         kd_part part = kd_torrent_path(torrent, size, 0, element);
         const uint8_t *given = end + 56 + 8 * element;
         check("path element", number_at(given, 4) == part.start && number_at(given + 4, 4) == part.size);
     }
 }
-
-#endif
 
 static void torrents(void)
 {
@@ -387,54 +382,74 @@ static void torrents(void)
 
     kd_torrent whole = kd_torrent_read(lent, size);
     kd_hash info_hash = kd_sha256(torrent + info, info_end - info).hash;
-    check("kd_torrent_read", whole.number == 0 && memcmp(&whole.info_hash, &info_hash, 32) == 0 &&
+    check("kd_torrent_read", whole.number == KD_DONE && memcmp(&whole.info_hash, &info_hash, 32) == 0 &&
                                  whole.piece_length == 16384 && whole.files == 1);
     kd_file one = kd_torrent_file(lent, size, 0);
-    check("kd_torrent_file", one.number == 0 && one.length == 32768 && memcmp(&one.root, &pieces_root, 32) == 0 &&
+    check("kd_torrent_file", one.number == KD_DONE && one.length == 32768 && memcmp(&one.root, &pieces_root, 32) == 0 &&
                                  one.elements == 2 && one.layer_start == layer && one.layer_size == 64);
     kd_part part = kd_torrent_path(lent, size, 0, 1);
-    check("kd_torrent_path", part.number == 0 && part.size == 7 && memcmp(lent + part.start, "voltage", 7) == 0);
-    check("no second file", kd_torrent_file(lent, size, 1).number == 29);
-    check("no third element", kd_torrent_path(lent, size, 0, 2).number == 29);
-    check("a torrent cut short", kd_torrent_read(guarded(torrent, size - 1), size - 1).number == 20);
-#ifdef HAS_kd_torrent_list
+    check("kd_torrent_path", part.number == KD_DONE && part.size == 7 && memcmp(lent + part.start, "voltage", 7) == 0);
+    check("no second file", kd_torrent_file(lent, size, 1).number == KD_NO_SUCH_FILE);
+    check("no third element", kd_torrent_path(lent, size, 0, 2).number == KD_NO_SUCH_FILE);
+    check("a torrent cut short", kd_torrent_read(guarded(torrent, size - 1), size - 1).number == KD_NOT_STRICT);
     list(lent, size, &one);
-#endif
 }
-
-#endif
-
-#ifdef HAS_kd_torrent_read
 
 static void torrent_of_nothing(void)
 {
     kd_torrent torrent = kd_torrent_read(NULL, 0);
-    check("kd_torrent_read of NULL", torrent.number == 20 && memcmp(&torrent.info_hash, &zero, 32) == 0 &&
+    check("kd_torrent_read of NULL", torrent.number == KD_NOT_STRICT && memcmp(&torrent.info_hash, &zero, 32) == 0 &&
                                          torrent.piece_length == 0 && torrent.files == 0);
 }
-
-#endif
-
-#ifdef HAS_kd_torrent_file
 
 static void file_of_nothing(void)
 {
     kd_file one = kd_torrent_file(NULL, 0, 0);
-    check("kd_torrent_file of NULL", one.number == 20 && one.length == 0 && memcmp(&one.root, &zero, 32) == 0 &&
-                                         one.elements == 0 && one.layer_start == 0 && one.layer_size == 0);
+    check("kd_torrent_file of NULL",
+            one.number == KD_NOT_STRICT && one.length == 0 && memcmp(&one.root, &zero, 32) == 0 && one.elements == 0 &&
+                one.layer_start == 0 && one.layer_size == 0);
 }
-
-#endif
-
-#ifdef HAS_kd_torrent_path
 
 static void path_of_nothing(void)
 {
     kd_part part = kd_torrent_path(NULL, 0, 0, 0);
-    check("kd_torrent_path of NULL", part.number == 20 && part.start == 0 && part.size == 0);
+    check("kd_torrent_path of NULL", part.number == KD_NOT_STRICT && part.start == 0 && part.size == 0);
 }
 
-#endif
+/* Each limit by its name, and one past it. */
+static void limits(void)
+{
+    uint64_t longest = KD_LONGEST_FILE, smallest = KD_SMALLEST_PIECE_LENGTH, largest = KD_LARGEST_PIECE_LENGTH;
+    kd_answer whole = kd_store_size(longest, smallest);
+    check("the longest file", whole.number == KD_DONE);
+    answers("a longer file", kd_store_size(longest + 1, smallest), KD_FACTS_OUT_OF_RANGE, 0);
+    answers("a smaller piece length", kd_store_size(longest, smallest / 2), KD_FACTS_OUT_OF_RANGE, 0);
+    answers("the largest piece length", kd_store_size(longest, largest), KD_DONE, whole.count);
+    answers("a larger piece length", kd_store_size(longest, 2 * largest), KD_FACTS_OUT_OF_RANGE, 0);
+
+    uint8_t *tallest = malloc(whole.count), reject[HEAD];
+    if (tallest == NULL || kd_open(tallest, whole.count, longest, smallest, root()).number != KD_DONE)
+        exit(2);
+    check("the tallest tree", is_hashed(kd_held(tallest, whole.count, KD_TALLEST_TREE, 0), KD_DONE, root()));
+    check("a taller tree", kd_held(tallest, whole.count, KD_TALLEST_TREE + 1, 0).number == KD_RULE_BROKEN);
+    write_head(reject, REJECT, 0, 0, 0, 0);
+    reject[43] = KD_LONGEST_RUN >> 8;
+    answers("the longest run", kd_take_reject(tallest, whole.count, reject, HEAD), KD_DONE, 0);
+    reject[43] = 2 * KD_LONGEST_RUN >> 8;
+    answers("a longer run", kd_take_reject(tallest, whole.count, reject, HEAD), KD_RULE_BROKEN, 0);
+    free(tallest);
+
+    static uint8_t bytes[KD_LARGEST_TORRENT + 1];
+    check("the largest torrent", kd_torrent_read(bytes, KD_LARGEST_TORRENT).number == KD_NOT_STRICT);
+    check("a larger torrent", kd_torrent_read(bytes, KD_LARGEST_TORRENT + 1).number == KD_TORRENT_TOO_LARGE);
+    for (size_t levels = KD_LEVELS; levels <= KD_LEVELS + 1; levels++) {
+        size_t size = add(bytes, 0, "d1:a", 4);
+        memset(bytes + size, 'l', levels - 1);
+        memset(bytes + size + levels - 1, 'e', levels);
+        uint32_t number = levels == KD_LEVELS ? KD_KEY_MISSING : KD_NESTED_TOO_DEEPLY;
+        check("the deepest torrent, and a deeper one", kd_torrent_read(bytes, size + 2 * levels - 1).number == number);
+    }
+}
 
 int main(void)
 {
@@ -448,21 +463,12 @@ int main(void)
     blocks();
     pieces();
     ends_of_memories();
-#if defined HAS_kd_torrent_read && defined HAS_kd_torrent_file && defined HAS_kd_torrent_path
     torrents();
-#endif
-#ifdef HAS_kd_torrent_read
     torrent_of_nothing();
-#endif
-#ifdef HAS_kd_torrent_file
     file_of_nothing();
-#endif
-#ifdef HAS_kd_torrent_path
     path_of_nothing();
-#endif
-#ifdef HAS_kd_torrent_list
-    answers("kd_torrent_list of NULL", kd_torrent_list(NULL, 0, NULL, 0), 20, 0);
-#endif
+    limits();
+    answers("kd_torrent_list of NULL", kd_torrent_list(NULL, 0, NULL, 0), KD_NOT_STRICT, 0);
     printf("boundary.c: %u passed, %u failed\n", passed, failed);
     return failed != 0;
 }

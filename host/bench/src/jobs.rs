@@ -5,8 +5,9 @@ use crate::measure::{Prepared, Work};
 use crate::scene::{Scene, PIECE, PIECE_NUMBER, RUN, UNCLES};
 use crate::{careful, plain};
 use host_tests::shapes;
+use reference::limits::RECORD;
 use reference::sha256::{sha256, Hash};
-use reference::torrent::{contents, RECORD};
+use reference::torrent::contents;
 use std::hint::black_box;
 
 pub struct Job {
@@ -28,7 +29,7 @@ const REPLY: usize = 49 + 32 * (RUN as usize + UNCLES);
 /// The shapes whose list is measured too: the ordinary one, the one with the most files, the deepest.
 const LISTED: [&str; 3] = [shapes::ORDINARY, "empty-files", "28-elements"];
 
-/// All jobs; those on torrents once the header declares them.
+/// All jobs.
 pub fn all() -> Vec<Job> {
     let mut jobs = vec![
         job("sha-1MiB", "kd_sha256", "", 1 << 20, || hashing(1 << 20)).not_counted(),
@@ -39,13 +40,9 @@ pub fn all() -> Vec<Job> {
         job("serve", "kd_serve", "1.5", REPLY, serving),
         job("piece-1MiB", "kd_judge_piece", "1.0", PIECE as usize, judging),
     ];
-    if boundary::is_declared("kd_torrent_read") {
-        jobs.extend(shapes::ALL.iter().map(|shape| on_torrent(shape, "kd_torrent_read", reading)));
-    }
-    if boundary::is_declared("kd_torrent_list") {
-        let listed = shapes::ALL.iter().filter(|shape| LISTED.contains(&shape.name));
-        jobs.extend(listed.map(|shape| on_torrent(shape, "kd_torrent_list", listing)));
-    }
+    jobs.extend(shapes::ALL.iter().map(|shape| on_torrent(shape, "kd_torrent_read", reading)));
+    let listed = shapes::ALL.iter().filter(|shape| LISTED.contains(&shape.name));
+    jobs.extend(listed.map(|shape| on_torrent(shape, "kd_torrent_list", listing)));
     jobs
 }
 

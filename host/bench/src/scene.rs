@@ -2,10 +2,11 @@
 //!
 //! All blocks outside the run are alike, so that the tree costs a few hundred hashes and not 131,071.
 
+use reference::limits::BLOCK;
 use reference::messages::{Header, HASHES, REQUEST};
 use reference::sha256::{pair, Hash};
 use reference::store::{self, hold, store_size};
-use reference::tree::{Facts, Settled, BLOCK};
+use reference::tree::{Facts, Settled};
 
 pub const PIECE: u64 = 1 << 20;
 pub const RUN: u32 = 512;

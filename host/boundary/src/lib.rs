@@ -6,11 +6,6 @@ mod raw;
 
 pub use raw::{Answer, File, Hash, Hashed, Part, Torrent};
 
-/// Whether the header declares an entry point yet. Calling one that it doesn't declare panics.
-pub fn is_declared(name: &str) -> bool {
-    raw::DECLARED.contains(&name)
-}
-
 pub fn sha256(data: &[u8]) -> Hashed {
     unsafe { raw::kd_sha256(data.as_ptr(), data.len()) }
 }

@@ -63,45 +63,26 @@ const _: () = {
     assert!(size_of::<Part>() == 24 && offset_of!(Part, start) == 8 && offset_of!(Part, size) == 16);
 };
 
-/// Declares entry points. One that the header doesn't declare yet stands for itself with a panic, so that the tests of
-/// all entry points build on any library.
-macro_rules! entry_points {
-    ($($text:tt $name:ident($($argument:ident: $type:ty),*) -> $answer:ty;)*) => {
-        $(
-            #[cfg(declared = $text)]
-            extern "C" {
-                pub fn $name($($argument: $type),*) -> $answer;
-            }
-
-            #[cfg(not(declared = $text))]
-            pub unsafe fn $name($(_: $type),*) -> $answer {
-                panic!(concat!($text, " is not declared in the header yet"))
-            }
-        )*
-
-        pub const DECLARED: &[&str] = &[$(#[cfg(declared = $text)] $text),*];
-    };
-}
-
-entry_points! {
-    "kd_sha256" kd_sha256(data: *const u8, size: usize) -> Hashed;
-    "kd_store_size" kd_store_size(length: u64, piece_length: u64) -> Answer;
-    "kd_open" kd_open(store: *mut u8, size: usize, length: u64, piece_length: u64, root: Hash) -> Answer;
-    "kd_held" kd_held(store: *const u8, size: usize, layer: u64, index: u64) -> Hashed;
-    "kd_take" kd_take(store: *mut u8, size: usize, message: *const u8, message_size: usize) -> Answer;
-    "kd_take_reject" kd_take_reject(store: *const u8, size: usize, message: *const u8, message_size: usize) -> Answer;
-    "kd_serve" kd_serve(
-        store: *const u8, size: usize, request: *const u8, request_size: usize, out: *mut u8, out_size: usize
+extern "C" {
+    pub fn kd_sha256(data: *const u8, size: usize) -> Hashed;
+    pub fn kd_store_size(length: u64, piece_length: u64) -> Answer;
+    pub fn kd_open(store: *mut u8, size: usize, length: u64, piece_length: u64, root: Hash) -> Answer;
+    pub fn kd_held(store: *const u8, size: usize, layer: u64, index: u64) -> Hashed;
+    pub fn kd_take(store: *mut u8, size: usize, message: *const u8, message_size: usize) -> Answer;
+    pub fn kd_take_reject(store: *const u8, size: usize, message: *const u8, message_size: usize) -> Answer;
+    pub fn kd_serve(
+        store: *const u8,
+        size: usize,
+        request: *const u8,
+        request_size: usize,
+        out: *mut u8,
+        out_size: usize,
     ) -> Answer;
-    "kd_load_layer" kd_load_layer(store: *mut u8, size: usize, layer: *const u8, layer_size: usize) -> Answer;
-    "kd_judge_block" kd_judge_block(
-        store: *const u8, size: usize, block: u64, data: *const u8, data_size: usize
-    ) -> Answer;
-    "kd_judge_piece" kd_judge_piece(
-        store: *const u8, size: usize, piece: u64, data: *const u8, data_size: usize
-    ) -> Answer;
-    "kd_torrent_read" kd_torrent_read(torrent: *const u8, size: usize) -> Torrent;
-    "kd_torrent_file" kd_torrent_file(torrent: *const u8, size: usize, file: u64) -> File;
-    "kd_torrent_path" kd_torrent_path(torrent: *const u8, size: usize, file: u64, element: u64) -> Part;
-    "kd_torrent_list" kd_torrent_list(torrent: *const u8, size: usize, out: *mut u8, out_size: usize) -> Answer;
+    pub fn kd_load_layer(store: *mut u8, size: usize, layer: *const u8, layer_size: usize) -> Answer;
+    pub fn kd_judge_block(store: *const u8, size: usize, block: u64, data: *const u8, data_size: usize) -> Answer;
+    pub fn kd_judge_piece(store: *const u8, size: usize, piece: u64, data: *const u8, data_size: usize) -> Answer;
+    pub fn kd_torrent_read(torrent: *const u8, size: usize) -> Torrent;
+    pub fn kd_torrent_file(torrent: *const u8, size: usize, file: u64) -> File;
+    pub fn kd_torrent_path(torrent: *const u8, size: usize, file: u64, element: u64) -> Part;
+    pub fn kd_torrent_list(torrent: *const u8, size: usize, out: *mut u8, out_size: usize) -> Answer;
 }

@@ -1,11 +1,10 @@
-//! What the host has from a torrent. The library reads it, or the reference until the header declares that.
+//! What the host has from a torrent, read by the library.
 
-use kombudeva::{is_declared, store_size, Hash, Store, Torrent};
+use kombudeva::limits::BLOCK;
+use kombudeva::{store_size, Hash, Store, Torrent};
 use reference::bencode;
 use std::ops::Range;
 use std::path::PathBuf;
-
-pub const BLOCK: u64 = 16384;
 
 pub struct Contents<'a> {
     pub info_hash: Hash,
@@ -26,8 +25,7 @@ pub struct File<'a> {
 
 impl<'a> Contents<'a> {
     pub fn read(torrent: &'a [u8]) -> Contents<'a> {
-        let (info_hash, mut files) =
-            if is_declared("kd_torrent_path") { by_library(torrent) } else { by_reference(torrent) };
+        let (info_hash, mut files) = read(torrent);
         let mut pieces = 0;
         for file in &mut files {
             file.first_piece = pieces;
@@ -67,9 +65,8 @@ impl File<'_> {
     }
 }
 
-type Read<'a> = (Hash, Vec<File<'a>>);
-
-fn by_library(bytes: &[u8]) -> Read<'_> {
+/// The info hash, and the files without the numbers of their pieces.
+fn read(bytes: &[u8]) -> (Hash, Vec<File<'_>>) {
     let torrent = Torrent::read(bytes).done().expect("a good torrent");
     let file = |number| {
         let file = torrent.file(number).done().expect("a file of the torrent");
@@ -79,19 +76,6 @@ fn by_library(bytes: &[u8]) -> Read<'_> {
         File { length: file.length, root: file.root, path, layer: file.layer, first_piece: 0, piece_length }
     };
     (torrent.info_hash, (0..torrent.files).map(file).collect())
-}
-
-fn by_reference(bytes: &[u8]) -> Read<'_> {
-    let torrent = reference::torrent::contents(bytes).expect("a good torrent");
-    let files = torrent.files.iter().map(|file| File {
-        length: file.length,
-        root: file.root,
-        path: file.path.iter().map(|part| text(&bytes[part.clone()])).collect(),
-        layer: &bytes[file.layer.clone()],
-        first_piece: 0,
-        piece_length: torrent.piece_length,
-    });
-    (torrent.info_hash, files.collect())
 }
 
 fn text(element: &[u8]) -> &str {

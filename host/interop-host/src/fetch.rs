@@ -1,12 +1,11 @@
 //! The host as a peer of a seed: it asks for all hashes of each file, offers each reply to the library, and damaged ones
 //! in between; then it fetches all blocks and judges them.
 
-use crate::contents::{Contents, File, BLOCK};
+use crate::contents::{Contents, File};
 use crate::peer::{of_words, word, Peer, HASHES, HASH_REJECT, HASH_REQUEST, INTERESTED, PIECE, REQUEST, UNCHOKE};
+use kombudeva::limits::{BLOCK, LONGEST_RUN};
 use kombudeva::{Answer, Store};
 use std::io;
-
-const LONGEST_RUN: u32 = 512;
 
 #[derive(Default)]
 struct Counts {

@@ -39,19 +39,19 @@ pub enum Answer<T> {
     /// 20: not strict bencoding
     NotStrict,
     /// 21: nested deeper than 32
-    TooDeep,
+    NestedTooDeeply,
     /// 22: `info`, `file tree`, `piece length`, `meta version` or `piece layers` missing or of another type
-    Missing,
+    KeyMissing,
     /// 23: the version isn't 2
     OtherVersion,
     /// 24: the piece length out of range
-    WrongPieceLength,
+    PieceLengthOutOfRange,
     /// 25: a file tree against the rules
     WrongTree,
     /// 26: two non-empty files with the same root
     SameRoot,
     /// 27: the piece layers aren't those of the files, or have another size
-    WrongLayers,
+    LayersAmiss,
     /// 28: a layer doesn't give its root
     LayerDiffers,
     /// 29: no file or path element of that number
@@ -113,13 +113,13 @@ refusals! {
     12 NotHeld "a requested hash is not held";
     19 TorrentTooLarge "a torrent above 1 MiB";
     20 NotStrict "not strict bencoding";
-    21 TooDeep "nested too deep";
-    22 Missing "a key missing or of another type";
+    21 NestedTooDeeply "nested too deep";
+    22 KeyMissing "a key missing or of another type";
     23 OtherVersion "another version than 2";
-    24 WrongPieceLength "the piece length out of range";
+    24 PieceLengthOutOfRange "the piece length out of range";
     25 WrongTree "a wrong file tree";
     26 SameRoot "two files with the same root";
-    27 WrongLayers "piece layers that are not those of the files";
+    27 LayersAmiss "piece layers that are not those of the files";
     28 LayerDiffers "a piece layer that does not give its root";
     29 NoSuchFile "no such file or path element";
 }

@@ -2,7 +2,6 @@
 //!
 //! A [`Store`] borrows the memory that it lives in, and an [`Answer`] names the number that the proved library gave.
 //! Nothing here decides anything; each method is one call over the C boundary (crate `boundary`, the only unsafe code).
-//! A call whose entry point `include/kombudeva.h` does not declare yet panics and says so.
 //!
 //! ```
 //! use kombudeva::{sha256, store_size, Answer, Store};
@@ -22,6 +21,7 @@
 #![forbid(unsafe_code)]
 
 mod answer;
+pub mod limits;
 mod store;
 mod torrent;
 
@@ -41,9 +41,4 @@ pub type Hash = [u8; 32];
 pub fn sha256(data: &[u8]) -> Answer<Hash> {
     let given = boundary::sha256(data);
     Answer::of(given.number, given.hash.bytes)
-}
-
-/// Whether the header declares an entry point yet, by its C name.
-pub fn is_declared(entry_point: &str) -> bool {
-    boundary::is_declared(entry_point)
 }

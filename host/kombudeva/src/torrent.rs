@@ -16,6 +16,7 @@
 //! }
 //! ```
 
+use crate::limits::RECORD;
 use crate::{Answer, Hash};
 
 /// A good torrent, read from bytes that it borrows.
@@ -40,8 +41,6 @@ pub struct File<'a> {
     pub layer: &'a [u8],
 }
 
-/// The bytes of a file's record in the list that the library writes.
-const RECORD: usize = 280;
 /// Where the parts of the path begin in a record.
 const PATH: usize = 56;
 

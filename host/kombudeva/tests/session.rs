@@ -1,8 +1,9 @@
 //! The session of document 01 through the binding, on five blocks in pieces of four. The tree is made by host/reference.
 
-use kombudeva::{is_declared, sha256, store_size, Answer, Store, Torrent};
+use kombudeva::{sha256, store_size, Answer, Store, Torrent};
+use reference::limits::BLOCK;
 use reference::messages::{Header, HASHES, REJECT, REQUEST};
-use reference::tree::{of_file, Position, BLOCK};
+use reference::tree::{of_file, Position};
 use std::collections::HashMap;
 
 const LENGTH: u64 = 5 * BLOCK;
@@ -159,9 +160,6 @@ const SEVERAL: &[u8] = include_bytes!("../../tests/real/several.torrent");
 
 #[test]
 fn a_torrent() {
-    if !["kd_torrent_read", "kd_torrent_file", "kd_torrent_path"].into_iter().all(is_declared) {
-        return;
-    }
     let torrent = Torrent::read(SEVERAL).done().unwrap();
     assert_eq!((torrent.piece_length, torrent.files), (32768, 6));
     let voltage = torrent.file(0).done().unwrap();
@@ -175,13 +173,10 @@ fn a_torrent() {
 
 #[test]
 fn a_list_of_files() {
-    if !["kd_torrent_read", "kd_torrent_file", "kd_torrent_path", "kd_torrent_list"].into_iter().all(is_declared) {
-        return;
-    }
     let torrent = Torrent::read(SEVERAL).done().unwrap();
     let mut memory = vec![0xaa; torrent.list_size() + 1];
     let short = memory.len() - 2;
-    assert_eq!(torrent.list(&mut memory[..short]).number(), 11);
+    assert!(matches!(torrent.list(&mut memory[..short]), Answer::NoRoom));
     let list = torrent.list(&mut memory).done().unwrap();
     assert_eq!(list.len(), 6);
     for (number, listed) in list.clone().enumerate() {
@@ -199,9 +194,6 @@ fn a_list_of_files() {
 /// A store that is opened and filled with nothing but what a torrent says.
 #[test]
 fn from_the_torrent_to_the_store() {
-    if !["kd_torrent_read", "kd_torrent_file"].into_iter().all(is_declared) {
-        return;
-    }
     let torrent = Torrent::read(SEVERAL).done().unwrap();
     let file = torrent.file(0).done().unwrap();
     let mut memory = vec![0; store_size(file.length, torrent.piece_length).done().unwrap() as usize];

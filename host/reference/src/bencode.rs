@@ -3,10 +3,9 @@
 //! The reader goes from the left and stops at the first byte at which it can't go on. There it answers 21 if that byte
 //! opens a level too many where a value may stand, and 20 otherwise: so whichever comes first wins.
 
-use crate::number::{NOT_STRICT, TOO_DEEP};
+use crate::limits::LEVELS;
+use crate::number::{NESTED_TOO_DEEPLY, NOT_STRICT};
 use std::ops::Range;
-
-pub const LEVELS: u32 = 32;
 
 /// A value, and the part of the bytes it stands in.
 #[derive(Clone, Debug, PartialEq, Eq)]
@@ -67,7 +66,7 @@ impl Reader<'_> {
     fn value(&mut self, levels: u32) -> Result<Value, u32> {
         let start = self.at;
         let kind = match self.peek() {
-            Some(b'd' | b'l') if levels == 0 => return Err(TOO_DEEP),
+            Some(b'd' | b'l') if levels == 0 => return Err(NESTED_TOO_DEEPLY),
             Some(b'd') => self.dictionary(levels - 1)?,
             Some(b'l') => self.list(levels - 1)?,
             Some(b'i') => Kind::Integer(self.integer()?),
@@ -214,20 +213,20 @@ mod tests {
     #[test]
     fn levels_are_counted_with_the_outer_dictionary() {
         assert_eq!(number(&nested(31)), 0);
-        assert_eq!(number(&nested(32)), TOO_DEEP);
+        assert_eq!(number(&nested(32)), NESTED_TOO_DEEPLY);
     }
 
     #[test]
     fn whichever_comes_first_wins() {
         let mut late = nested(32);
         late.extend_from_slice(b"junk");
-        assert_eq!(number(&late), TOO_DEEP);
+        assert_eq!(number(&late), NESTED_TOO_DEEPLY);
         let early = [&b"d1:b0:1:a"[..], &nested(40)].concat();
         assert_eq!(number(&early), NOT_STRICT);
         // On level 32 a dictionary is open and a key is due: another level's `d` stands where no value may.
         let key_due = [&b"d1:a"[..], &[b'l'; 30], b"dd"].concat();
         assert_eq!(number(&key_due), NOT_STRICT);
         let value_due = [&b"d1:a"[..], &[b'l'; 30], b"d0:d"].concat();
-        assert_eq!(number(&value_due), TOO_DEEP);
+        assert_eq!(number(&value_due), NESTED_TOO_DEEPLY);
     }
 }

@@ -8,6 +8,7 @@
 #![forbid(unsafe_code)]
 
 pub mod bencode;
+pub mod limits;
 pub mod messages;
 pub mod number;
 pub mod pieces;

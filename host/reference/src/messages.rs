@@ -1,5 +1,6 @@
 //! The three hash messages: request, hashes, reject. Section "The hash messages" of document 01.
 
+use crate::limits::LONGEST_RUN;
 use crate::number::*;
 use crate::sha256::{pair, Hash};
 use crate::store::{any_differs, facts_of, held_at, hold};
@@ -50,7 +51,7 @@ impl Header {
     pub fn obeys_the_rules(&self, facts: &Facts) -> bool {
         let (base, index, proof) = (self.base as u64, self.index as u64, self.proof as u64);
         self.length.is_power_of_two()
-            && (2..=512).contains(&self.length)
+            && (2..=LONGEST_RUN).contains(&self.length)
             && self.index % self.length == 0
             && base + self.run_layers() <= facts.height()
             && base + proof < facts.height()
@@ -102,14 +103,14 @@ impl Header {
 fn read_head(store: &[u8], message: &[u8], is_that_message: bool) -> Result<(Facts, Header), u32> {
     let facts = facts_of(store).ok_or(UNUSABLE)?;
     if !is_that_message {
-        return Err(NOT_THAT_MESSAGE);
+        return Err(NO_MESSAGE);
     }
     let header = Header::read(message);
     if header.root != facts.root {
         return Err(OTHER_ROOT);
     }
     if !header.obeys_the_rules(&facts) {
-        return Err(AGAINST_THE_RULES);
+        return Err(RULE_BROKEN);
     }
     Ok((facts, header))
 }
@@ -163,7 +164,7 @@ fn reply_to(store: &[u8], request: &[u8]) -> (u32, Vec<u8>) {
     let is_request = request.len() == HEAD && request[0] == REQUEST;
     let (facts, header) = match read_head(store, request, is_request) {
         Ok(both) => both,
-        Err(number @ (OTHER_ROOT | AGAINST_THE_RULES)) => return (number, reject()),
+        Err(number @ (OTHER_ROOT | RULE_BROKEN)) => return (number, reject()),
         Err(number) => return (number, Vec::new()),
     };
     let mut reply = header.write(HASHES);
@@ -189,8 +190,9 @@ pub fn serve(store: &[u8], request: &[u8], out: &mut [u8]) -> Answer {
 #[cfg(test)]
 mod tests {
     use super::*;
+    use crate::limits::BLOCK;
     use crate::store::{held, open, store_size};
-    use crate::tree::{of_file, BLOCK};
+    use crate::tree::of_file;
     use std::collections::HashMap;
 
     struct Case {
@@ -273,7 +275,7 @@ mod tests {
         ];
         for words in refused {
             assert!(!five.header(words).obeys_the_rules(&five.facts), "{words:?}");
-            assert_eq!(five.serve(words), (AGAINST_THE_RULES, 49));
+            assert_eq!(five.serve(words), (RULE_BROKEN, 49));
         }
     }
 
@@ -281,7 +283,7 @@ mod tests {
     fn every_request_for_a_one_block_file_is_3() {
         let one = case(1);
         for words in [(0, 0, 2, 0), (0, 0, 0, 0), (0, 0, 1, 0), (4294967295, 0, 2, 4294967295)] {
-            assert_eq!(one.serve(words), (AGAINST_THE_RULES, 49));
+            assert_eq!(one.serve(words), (RULE_BROKEN, 49));
         }
     }
 
@@ -338,10 +340,10 @@ mod tests {
             assert!(number == DONE || five.store == before);
             number
         };
-        assert_eq!(number(&|m| m.truncate(48)), NOT_THAT_MESSAGE);
-        assert_eq!(number(&|m| m[0] = REQUEST), NOT_THAT_MESSAGE);
+        assert_eq!(number(&|m| m.truncate(48)), NO_MESSAGE);
+        assert_eq!(number(&|m| m[0] = REQUEST), NO_MESSAGE);
         assert_eq!(number(&|m| m[1] ^= 1), OTHER_ROOT);
-        assert_eq!(number(&|m| m[44] = 3), AGAINST_THE_RULES);
+        assert_eq!(number(&|m| m[44] = 3), RULE_BROKEN);
         assert_eq!(number(&|m| m.truncate(49)), WRONG_SIZE);
         assert_eq!(number(&|m| m.push(0)), WRONG_SIZE);
         assert_eq!(number(&|m| m[49 + 32] = 1), WRONG_PADDING);

@@ -37,7 +37,7 @@ pub fn load_layer(store: &mut [u8], layer: &[u8]) -> Answer {
 fn load(store: &mut [u8], layer: &[u8]) -> Result<u64, u32> {
     let facts = facts_of(store).ok_or(UNUSABLE)?;
     if !facts.has_piece_layer() {
-        return Err(AGAINST_THE_RULES);
+        return Err(RULE_BROKEN);
     }
     if layer.len() as u64 != 32 * facts.pieces() {
         return Err(WRONG_SIZE);
@@ -54,7 +54,7 @@ pub fn judge_block(store: &[u8], block: u64, data: &[u8]) -> Answer {
 
 fn block_judged(store: &[u8], block: u64, data: &[u8]) -> Result<u64, u32> {
     let facts = facts_of(store).ok_or(UNUSABLE)?;
-    let size = facts.block_size(block).ok_or(AGAINST_THE_RULES)?;
+    let size = facts.block_size(block).ok_or(RULE_BROKEN)?;
     if data.len() as u64 != size {
         return Err(WRONG_SIZE);
     }
@@ -69,7 +69,7 @@ pub fn judge_piece(store: &[u8], piece: u64, data: &[u8]) -> Answer {
 
 fn piece_judged(store: &[u8], piece: u64, data: &[u8]) -> Result<u64, u32> {
     let facts = facts_of(store).ok_or(UNUSABLE)?;
-    let size = facts.piece_size(piece).ok_or(AGAINST_THE_RULES)?;
+    let size = facts.piece_size(piece).ok_or(RULE_BROKEN)?;
     if data.len() as u64 != size {
         return Err(WRONG_SIZE);
     }
@@ -83,8 +83,9 @@ fn piece_judged(store: &[u8], piece: u64, data: &[u8]) -> Result<u64, u32> {
 #[cfg(test)]
 mod tests {
     use super::*;
+    use crate::limits::BLOCK;
     use crate::store::{held, open, store_size};
-    use crate::tree::{of_file, root_of_file, BLOCK};
+    use crate::tree::{of_file, root_of_file};
 
     const PIECE: u64 = 65536;
 
@@ -125,9 +126,9 @@ mod tests {
     fn a_short_file_has_no_layer_and_one_piece() {
         let bytes = file(50_000);
         let mut store = opened(&bytes, PIECE);
-        assert_eq!(load_layer(&mut store, &[]).number, AGAINST_THE_RULES);
+        assert_eq!(load_layer(&mut store, &[]).number, RULE_BROKEN);
         assert_eq!(judge_piece(&store, 0, &bytes), Answer::done(0));
-        assert_eq!(judge_piece(&store, 1, &bytes).number, AGAINST_THE_RULES);
+        assert_eq!(judge_piece(&store, 1, &bytes).number, RULE_BROKEN);
         assert_eq!(judge_piece(&store, 0, &bytes[1..]).number, WRONG_SIZE);
         assert_eq!(judge_block(&store, 0, &bytes[..16384]).number, NO_ANCHOR);
     }

@@ -1,9 +1,10 @@
 //! What the replay program prints for an input. Section "The replay program" of document 01.
 
+use crate::limits::BLOCK;
 use crate::messages::{take, HASHES};
 use crate::number::DONE;
 use crate::store::{open, store_size};
-use crate::tree::{Facts, BLOCK};
+use crate::tree::Facts;
 use crate::Answer;
 
 const MOST_HASHES: usize = 528;

@@ -97,7 +97,7 @@ pub fn held(store: &[u8], layer: u64, index: u64) -> Hashed {
     let Some(facts) = facts_of(store) else { return Hashed::refused(UNUSABLE) };
     let at = Position { layer, index };
     if !facts.has_position(at) {
-        return Hashed::refused(AGAINST_THE_RULES);
+        return Hashed::refused(RULE_BROKEN);
     }
     held_at(store, &facts, at).map_or(Hashed::refused(NO_ANCHOR), Hashed::done)
 }
@@ -144,8 +144,8 @@ mod tests {
         open(&mut store, 1, 16384, [3; 32]);
         assert_eq!(held(&store[..96], 0, 0).number, UNUSABLE);
         assert_eq!(held(&store, 0, 0), Hashed::done([3; 32]));
-        assert_eq!(held(&store, 0, 1).number, AGAINST_THE_RULES);
-        assert_eq!(held(&store, 1 << 40, 0).number, AGAINST_THE_RULES);
+        assert_eq!(held(&store, 0, 1).number, RULE_BROKEN);
+        assert_eq!(held(&store, 1 << 40, 0).number, RULE_BROKEN);
         store[64] = 2;
         assert_eq!(held(&store, 0, 0).number, NO_ANCHOR);
         store[50] = 9;

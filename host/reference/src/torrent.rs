@@ -5,14 +5,13 @@
 //! once.
 
 use crate::bencode::{find, read as read_bencoding, Value};
+use crate::limits::{BLOCK, ELEMENTS, LARGEST_TORRENT, LONGEST_FILE, RECORD};
 use crate::number::*;
 use crate::sha256::{pair, sha256, Hash};
-use crate::tree::{padding, piece_length_in_range, Facts, BLOCK, LONGEST_FILE};
+use crate::tree::{padding, piece_length_in_range, Facts};
 use crate::Answer;
 use std::collections::{HashMap, HashSet};
 use std::ops::Range;
-
-pub const LARGEST: usize = 1 << 20;
 
 type Entries = [(Range<usize>, Value)];
 
@@ -145,9 +144,9 @@ fn assign_layers(torrent: &[u8], layers: &Entries, piece_length: u64, files: &mu
         by_root.insert(&torrent[key.clone()], value);
     }
     for file in files.iter_mut().filter(|file| file.length > piece_length) {
-        let layer = by_root.remove(&file.root[..]).and_then(Value::string).ok_or(WRONG_LAYERS)?;
+        let layer = by_root.remove(&file.root[..]).and_then(Value::string).ok_or(LAYERS_AMISS)?;
         if layer.len() as u64 != 32 * facts(file, piece_length).pieces() {
-            return Err(WRONG_LAYERS);
+            return Err(LAYERS_AMISS);
         }
         file.layer = layer;
     }
@@ -155,7 +154,7 @@ fn assign_layers(torrent: &[u8], layers: &Entries, piece_length: u64, files: &mu
     if by_root.is_empty() {
         Ok(())
     } else {
-        Err(WRONG_LAYERS)
+        Err(LAYERS_AMISS)
     }
 }
 
@@ -172,11 +171,11 @@ fn layer_differs(torrent: &[u8], file: &Listed, filler: Hash) -> bool {
 
 /// Everything the torrent says, or the number it is refused with.
 pub fn contents(torrent: &[u8]) -> Result<Contents, u32> {
-    if torrent.len() > LARGEST {
+    if torrent.len() > LARGEST_TORRENT {
         return Err(TORRENT_TOO_LARGE);
     }
     let outer = read_bencoding(torrent)?;
-    let fields = fields(torrent, &outer).ok_or(MISSING)?;
+    let fields = fields(torrent, &outer).ok_or(KEY_MISSING)?;
     if fields.meta_version != 2 {
         return Err(OTHER_VERSION);
     }
@@ -236,10 +235,6 @@ pub fn path_in(all: &Contents, file: u64, element: u64) -> Part {
     })
 }
 
-/// The bytes of a file's record in the list, and the path elements that it has room for: a deeper file is 21.
-pub const RECORD: usize = 280;
-const MOST_ELEMENTS: usize = 28;
-
 /// Every file in tree order as a record into `out`; the count is the bytes written.
 pub fn torrent_list(torrent: &[u8], out: &mut [u8]) -> Answer {
     contents(torrent).map_or_else(Answer::refused, |all| list_in(&all, out))
@@ -264,7 +259,7 @@ fn record_of(file: &Listed) -> [u8; RECORD] {
     bytes.extend(word(file.path.len()));
     bytes.extend(word(0));
     bytes.extend(file.path.iter().flat_map(part));
-    bytes.extend((file.path.len()..MOST_ELEMENTS).flat_map(|_| [0; 8]));
+    bytes.extend((file.path.len()..ELEMENTS).flat_map(|_| [0; 8]));
     bytes.try_into().expect("a record's size")
 }
 
@@ -349,7 +344,7 @@ mod tests {
         assert_eq!([part(0, 2).0, part(3, 0).0, part(u64::MAX, 0).0], [NO_SUCH_FILE; 3]);
         assert_eq!(torrent_file(&bytes, 1).root, [0; 32]);
         assert_eq!(torrent_file(&bytes, 3), File::refused(NO_SUCH_FILE));
-        assert_eq!(torrent_file(b"de", 99).number, MISSING);
+        assert_eq!(torrent_file(b"de", 99).number, KEY_MISSING);
     }
 
     #[test]
@@ -358,7 +353,7 @@ mod tests {
         let bytes = torrent(&directory(&[inner, file("a.txt", 0, None)]), b"de");
         let mut out = [0xaa; 2 * RECORD + 1];
         assert_eq!(torrent_list(&bytes, &mut out[..2 * RECORD - 1]), Answer::refused(NO_ROOM));
-        assert_eq!(torrent_list(b"de", &mut []), Answer::refused(MISSING));
+        assert_eq!(torrent_list(b"de", &mut []), Answer::refused(KEY_MISSING));
         assert_eq!(out, [0xaa; 2 * RECORD + 1]);
         assert_eq!(torrent_list(&bytes, &mut out), Answer::done(2 * RECORD as u64));
         // `d4:infod9:file treed1:ad1:b`: `a` at 22, `b` at 26.
@@ -373,7 +368,7 @@ mod tests {
     #[test]
     fn sizes_and_levels() {
         let mut large = torrent(&directory(&[file("a", 1, Some(1))]), b"de");
-        large.resize(LARGEST, b' ');
+        large.resize(LARGEST_TORRENT, b' ');
         assert_eq!(number(&large), NOT_STRICT);
         large.push(b' ');
         assert_eq!(number(&large), TORRENT_TOO_LARGE);
@@ -383,18 +378,18 @@ mod tests {
             torrent(&tree, b"de")
         };
         assert_eq!((number(&deep(28)), torrent_file(&deep(28), 0).elements), (0, 28));
-        assert_eq!(number(&deep(29)), TOO_DEEP);
+        assert_eq!(number(&deep(29)), NESTED_TOO_DEEPLY);
     }
 
     #[test]
     fn missing_values_and_other_types() {
         let tree = directory(&[file("a", 1, Some(1))]);
-        assert_eq!(number(b"de"), MISSING);
-        assert_eq!(number(b"d4:infole12:piece layersdee"), MISSING);
-        assert_eq!(number(&torrent(b"le", b"de")), MISSING);
-        assert_eq!(number(&torrent(&tree, b"le")), MISSING);
-        assert_eq!(number(&with_info(&tree, b"1:2", b"i16384e", b"de")), MISSING);
-        assert_eq!(number(&with_info(&tree, b"i3e", b"5:16384", b"de")), MISSING);
+        assert_eq!(number(b"de"), KEY_MISSING);
+        assert_eq!(number(b"d4:infole12:piece layersdee"), KEY_MISSING);
+        assert_eq!(number(&torrent(b"le", b"de")), KEY_MISSING);
+        assert_eq!(number(&torrent(&tree, b"le")), KEY_MISSING);
+        assert_eq!(number(&with_info(&tree, b"1:2", b"i16384e", b"de")), KEY_MISSING);
+        assert_eq!(number(&with_info(&tree, b"i3e", b"5:16384", b"de")), KEY_MISSING);
         assert_eq!(number(&with_info(&tree, b"i3e", b"i5e", b"de")), OTHER_VERSION);
         for piece_length in ["i0e", "i-16384e", "i8192e", "i16385e", "i33554432e", "i4294983680e"] {
             assert_eq!(number(&with_info(b"de", b"i2e", piece_length.as_bytes(), b"de")), PIECE_LENGTH_OUT_OF_RANGE);
@@ -446,10 +441,10 @@ mod tests {
         let found = torrent_file(&good, 0);
         assert_eq!((found.number, found.layer_size), (0, 96));
         assert_eq!(good[found.layer_start as usize..][..96], layer);
-        assert_eq!(number(&with(&[])), WRONG_LAYERS);
-        assert_eq!(number(&with(&[(&root, string(&layer[..64]))])), WRONG_LAYERS);
-        assert_eq!(number(&with(&[(&root, b"le".to_vec())])), WRONG_LAYERS);
-        assert_eq!(number(&with(&[(&root, string(&layer)), (&[255; 32], string(b""))])), WRONG_LAYERS);
+        assert_eq!(number(&with(&[])), LAYERS_AMISS);
+        assert_eq!(number(&with(&[(&root, string(&layer[..64]))])), LAYERS_AMISS);
+        assert_eq!(number(&with(&[(&root, b"le".to_vec())])), LAYERS_AMISS);
+        assert_eq!(number(&with(&[(&root, string(&layer)), (&[255; 32], string(b""))])), LAYERS_AMISS);
         assert_eq!(number(&with(&[(&root, string(&[5; 96]))])), LAYER_DIFFERS);
     }
 }

@@ -1,12 +1,9 @@
 //! The v2 hash tree of a file: its facts, its geometry, its values. Section "The tree" of document 01.
 
+use crate::limits::{BLOCK, LARGEST_PIECE_LENGTH, LONGEST_FILE, SMALLEST_PIECE_LENGTH};
 use crate::sha256::{pair, sha256, Hash};
 use std::iter::successors;
 use std::sync::OnceLock;
-
-pub const BLOCK: u64 = 16384;
-pub const LONGEST_FILE: u64 = 1 << 30;
-pub const LONGEST_PIECE: u64 = 16_777_216;
 
 /// What a store is opened with: N, the piece length, the pieces root.
 #[derive(Clone, Copy, Debug, PartialEq, Eq)]
@@ -27,7 +24,7 @@ pub struct Position {
 pub type Settled = (Position, Hash);
 
 pub fn piece_length_in_range(piece_length: u64) -> bool {
-    piece_length.is_power_of_two() && (BLOCK..=LONGEST_PIECE).contains(&piece_length)
+    piece_length.is_power_of_two() && (SMALLEST_PIECE_LENGTH..=LARGEST_PIECE_LENGTH).contains(&piece_length)
 }
 
 /// ceil(amount / 2^layer).
@@ -155,6 +152,7 @@ pub fn root_of_file(bytes: &[u8]) -> Hash {
 #[cfg(test)]
 mod tests {
     use super::*;
+    use crate::limits::TALLEST_TREE;
 
     fn facts(length: u64, piece_length: u64) -> Facts {
         Facts { length, piece_length, root: [0; 32] }
@@ -172,7 +170,7 @@ mod tests {
         assert_eq!(blocks_and_height(16385), (2, 1));
         assert_eq!(blocks_and_height(81920), (5, 3));
         assert_eq!(blocks_and_height(641 * BLOCK), (641, 10));
-        assert_eq!(blocks_and_height(LONGEST_FILE), (65536, 16));
+        assert_eq!(blocks_and_height(LONGEST_FILE), (65536, TALLEST_TREE));
     }
 
     #[test]

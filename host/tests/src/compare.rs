@@ -12,8 +12,6 @@ pub type Seen = BTreeMap<(Entry, u32), u64>;
 /// Compares calls as they come, and counts them.
 pub struct Comparison<'a> {
     library: Library<'a>,
-    /// Entry points that the library has; others are asked of the reference alone.
-    has: &'a dyn Fn(Entry) -> bool,
     pub seen: Seen,
     pub compared: u64,
     /// The first call on which the library differs.
@@ -21,14 +19,14 @@ pub struct Comparison<'a> {
 }
 
 impl<'a> Comparison<'a> {
-    pub fn new(library: Library<'a>, has: &'a dyn Fn(Entry) -> bool) -> Comparison<'a> {
-        Comparison { library, has, seen: Seen::new(), compared: 0, difference: None }
+    pub fn new(library: Library<'a>) -> Comparison<'a> {
+        Comparison { library, seen: Seen::new(), compared: 0, difference: None }
     }
 
     /// The reference's outcome. The first call on which the library's differs is kept.
     pub fn ask(&mut self, call: &Call) -> Outcome {
         let expected = by_reference(call);
-        if (self.has)(call.entry) && self.difference.is_none() {
+        if self.difference.is_none() {
             *self.seen.entry((call.entry, expected.given.number())).or_default() += 1;
             self.compared += 1;
             if (self.library)(call) != expected || changed_by_refusal(call, &expected) {

@@ -5,9 +5,10 @@ use crate::call::{Call, Entry, Outcome};
 use crate::compare::Comparison;
 use crate::random::Random;
 use crate::truth::{self, Pair, Truth};
+use reference::limits::{BLOCK, LONGEST_FILE};
 use reference::messages::{Header, HASHES, HEAD, REJECT, REQUEST};
 use reference::store::{facts_of, size_of, CELL, HEAD as FACTS, HELD};
-use reference::tree::{padding, Position, BLOCK, LONGEST_FILE};
+use reference::tree::{padding, Position};
 
 const HOSTILE_WORDS: [u32; 20] =
     [0, 1, 2, 3, 4, 5, 6, 8, 9, 15, 16, 31, 32, 33, 64, 512, 1024, 1 << 31, u32::MAX - 1, u32::MAX];

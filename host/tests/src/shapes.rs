@@ -1,9 +1,9 @@
 //! Torrents whose shape makes a reader work: an ordinary one of 10,000 files, and hostile ones of 1 MiB, as much as may be.
 
 use crate::random::Random;
+use reference::limits::LARGEST_TORRENT;
 use reference::number::{DONE, NOT_STRICT};
 use reference::sha256::{pair, Hash};
-use reference::torrent::LARGEST;
 use reference::tree::padding;
 use std::collections::{BTreeMap, HashMap};
 
@@ -49,10 +49,10 @@ fn torrent(unknown: &[u8], tree: &[u8], piece_length: u64, layers: &[u8]) -> Vec
 
 /// As many of these entries as make a torrent of 1 MiB, if `around` bytes stand around them, one behind the other.
 fn as_many_as_fit(around: usize, entry: impl Fn(u32) -> Vec<u8>) -> Vec<u8> {
-    let mut entries = Vec::with_capacity(LARGEST);
+    let mut entries = Vec::with_capacity(LARGEST_TORRENT);
     for number in 0.. {
         let next = entry(number);
-        if around + entries.len() + next.len() > LARGEST {
+        if around + entries.len() + next.len() > LARGEST_TORRENT {
             break;
         }
         entries.extend(next);
@@ -146,7 +146,7 @@ fn many_layers() -> Vec<u8> {
         let entry = [name(number), file(3 << 24, &root)].concat();
         let value = string(&layer.concat());
         size += entry.len() + string(&root).len() + value.len();
-        if size > LARGEST {
+        if size > LARGEST_TORRENT {
             break;
         }
         files.extend(entry);
@@ -184,7 +184,7 @@ fn small_keys() -> Vec<u8> {
 
 /// A length prefix of a million digits.
 fn huge_prefix() -> Vec<u8> {
-    [&b"d"[..], &vec![b'9'; LARGEST - 1]].concat()
+    [&b"d"[..], &vec![b'9'; LARGEST_TORRENT - 1]].concat()
 }
 
 #[cfg(test)]
@@ -204,8 +204,8 @@ mod tests {
                 torrent.len(),
                 read.map_or(0, |all| all.files.len())
             );
-            let least = if shape.name == ORDINARY { 770_000 } else { LARGEST - 500 };
-            assert!((least..=LARGEST).contains(&torrent.len()), "{}", shape.name);
+            let least = if shape.name == ORDINARY { 770_000 } else { LARGEST_TORRENT - 500 };
+            assert!((least..=LARGEST_TORRENT).contains(&torrent.len()), "{}", shape.name);
         }
     }
 }

@@ -3,9 +3,10 @@
 use crate::call::{Call, Entry, Given};
 use crate::compare::Comparison;
 use crate::random::Random;
+use reference::limits::RECORD;
 use reference::number::DONE;
 use reference::pieces::over_piece_layer;
-use reference::torrent::{Torrent, RECORD};
+use reference::torrent::Torrent;
 use reference::tree::Facts;
 use std::collections::BTreeMap;
 

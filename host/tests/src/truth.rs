@@ -1,9 +1,10 @@
 //! Files with their true trees, and the true messages and layers about them.
 
 use crate::random::Random;
+use reference::limits::BLOCK;
 use reference::messages::{Header, HASHES};
 use reference::sha256::{sha256, Hash};
-use reference::tree::{halved, over_run, Facts, Position, BLOCK};
+use reference::tree::{halved, over_run, Facts, Position};
 use std::collections::HashMap;
 
 /// A file's facts and tree; its bytes too, where blocks and pieces are to be judged.

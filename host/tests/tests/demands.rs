@@ -27,7 +27,7 @@ fn held_in(store: &[u8], truth: &Truth) -> Held {
 fn look_at_calls(seed: u64, look: &mut dyn FnMut(&Truth, &Call, &Outcome)) {
     let mut random = Random::new(seed);
     let with_bytes = truth::with_bytes(&mut random);
-    let mut asked = Comparison::new(&by_reference, &|_| false);
+    let mut asked = Comparison::new(&by_reference);
     for number in 0..SESSIONS {
         let small = Pair::new(truth::small(&mut random), &mut random);
         let files = with_bytes.get(number as usize).unwrap_or(&small);

@@ -5,18 +5,19 @@ use host_tests::call::{by_reference, Call, Entry, Given, Outcome};
 use host_tests::compare::{report, Comparison, Library};
 use host_tests::random::Random;
 use host_tests::{sessions, torrents};
+use reference::limits::RECORD;
 use reference::messages::{Header, HEAD};
 use reference::number::*;
 use reference::sha256::sha256;
 use reference::store::{facts_of, hold, size_of, CELL};
-use reference::torrent::{File, Torrent, RECORD};
+use reference::torrent::{File, Torrent};
 use reference::{Answer, Hashed};
 
 const CASES: u64 = 60_000;
 const SEED: u64 = 1;
 
 fn sessions(library: Library<'_>) -> Comparison<'_> {
-    let mut compared = Comparison::new(library, &|_| true);
+    let mut compared = Comparison::new(library);
     sessions::run(&mut Random::new(SEED), &mut compared, |compared| {
         compared.difference.is_none() && compared.compared < CASES
     });
@@ -24,7 +25,7 @@ fn sessions(library: Library<'_>) -> Comparison<'_> {
 }
 
 fn torrents(library: Library<'_>) -> Comparison<'_> {
-    let mut compared = Comparison::new(library, &|_| true);
+    let mut compared = Comparison::new(library);
     torrents::run(&mut Random::new(SEED), &mut compared, |compared| {
         compared.difference.is_none() && compared.compared < CASES
     });

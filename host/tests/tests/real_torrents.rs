@@ -1,8 +1,8 @@
 //! Torrents made by libtorrent, kept in `real/` with a text of what libtorrent says of each (`make.py` has its form): the
-//! reference has to say the same, trees included, and the library too as soon as it reads torrents. KD_TORRENTS names another
+//! reference has to say the same, trees included, and the library too. KD_TORRENTS names another
 //! folder of such torrents.
 
-use host_tests::call::{by_library, Entry};
+use host_tests::call::by_library;
 use host_tests::compare::{report, Comparison};
 use host_tests::torrents::ask_all;
 use reference::torrent::contents;
@@ -53,8 +53,7 @@ fn the_reference_says_what_libtorrent_says() {
 
 #[test]
 fn the_library_says_what_the_reference_says() {
-    let has = |entry: Entry| boundary::is_declared(entry.name());
-    let mut compared = Comparison::new(&by_library, &has);
+    let mut compared = Comparison::new(&by_library);
     for (_, torrent, _) in torrents() {
         ask_all(&torrent, &mut compared);
     }

@@ -1,17 +1,17 @@
-//! Torrents by hand with the number that document 01 gives them, clause by clause. Each is asked of the reference, and of the
-//! library as soon as the header declares its calls.
+//! Torrents by hand with the number that document 01 gives them, clause by clause. Each is asked of the reference and of the
+//! library.
 
 use host_tests::call::{by_library, Entry, Given};
 use host_tests::compare::{report, Comparison};
 use host_tests::torrents::ask_all;
+use reference::limits::LARGEST_TORRENT;
 use reference::sha256::{pair, Hash};
-use reference::torrent::{torrent_file, torrent_path, torrent_read, LARGEST};
+use reference::torrent::{torrent_file, torrent_path, torrent_read};
 
 fn assert_number(torrent: &[u8], number: u32) {
     let shown = String::from_utf8_lossy(&torrent[..torrent.len().min(600)]);
     assert_eq!(torrent_read(torrent).number, number, "{shown}");
-    let has = |entry: Entry| boundary::is_declared(entry.name());
-    let mut compared = Comparison::new(&by_library, &has);
+    let mut compared = Comparison::new(&by_library);
     ask_all(torrent, &mut compared);
     assert!(compared.difference.is_none(), "{}", report(&by_library, &compared.difference.unwrap()));
 }
@@ -94,12 +94,12 @@ fn with_tree(entries: &[&[u8]]) -> Vec<u8> {
 fn number_19_is_above_a_mebibyte() {
     let size = |string_size: usize| with_unknown(&string(&vec![b'x'; string_size]));
     let around = size(1_000_000).len() - 1_000_000;
-    let most = size(LARGEST - around);
-    assert_eq!(most.len(), LARGEST);
+    let most = size(LARGEST_TORRENT - around);
+    assert_eq!(most.len(), LARGEST_TORRENT);
     assert_number(&most, 0);
-    assert_number(&size(LARGEST - around + 1), 19);
-    assert_number(&vec![b'x'; LARGEST], 20);
-    assert_number(&vec![b'x'; LARGEST + 1], 19);
+    assert_number(&size(LARGEST_TORRENT - around + 1), 19);
+    assert_number(&vec![b'x'; LARGEST_TORRENT], 20);
+    assert_number(&vec![b'x'; LARGEST_TORRENT + 1], 19);
 }
 
 #[test]
@@ -497,7 +497,7 @@ fn tree_order() {
 /// What the comparison asks for is what is counted here: every entry point, on a good torrent.
 #[test]
 fn all_is_asked() {
-    let mut compared = Comparison::new(&host_tests::call::by_reference, &|_| true);
+    let mut compared = Comparison::new(&host_tests::call::by_reference);
     ask_all(&Parts::good().torrent(), &mut compared);
     let asked = |entry: Entry, number| compared.seen.get(&(entry, number)).copied().unwrap_or(0);
     assert_eq!((asked(Entry::TorrentRead, 0), asked(Entry::TorrentFile, 0), asked(Entry::TorrentFile, 29)), (1, 1, 2));

@@ -4,7 +4,7 @@
 //! It is a program with one thread, and no test under cargo's harness, which starts threads: with a second thread an
 //! emulator of x86-64 was seen to take three to four times as long, we think for the barriers that it then needs.
 
-use host_tests::call::{by_library, Entry};
+use host_tests::call::by_library;
 use host_tests::compare::{report, Comparison};
 use host_tests::random::Random;
 use host_tests::{fillings, sessions, shapes, torrents};
@@ -21,17 +21,11 @@ fn seed() -> u64 {
     setting("KD_SEED", SystemTime::now().duration_since(UNIX_EPOCH).unwrap().as_secs())
 }
 
-fn is_declared(entry: Entry) -> bool {
-    boundary::is_declared(entry.name())
-}
-
 type Cases = fn(&mut Random, &mut Comparison, &mut dyn FnMut(&Comparison) -> bool);
 
 struct Part {
     /// What its calls are about.
     name: &'static str,
-    /// Without its declaration the part is left out.
-    needs: Entry,
     /// Those that don't ask whether to go on end by themselves.
     cases: Cases,
 }
@@ -40,51 +34,29 @@ struct Part {
 const SINGLE: &[u8] = include_bytes!("../../real/single.torrent");
 
 const PARTS: [Part; 8] = [
-    Part { name: "strings", needs: Entry::Sha256, cases: |random, compared, _| fillings::run(random, compared) },
-    Part {
-        name: "sessions",
-        needs: Entry::Open,
-        cases: |random, compared, go_on| sessions::run(random, compared, go_on),
-    },
-    Part {
-        name: "largest-file",
-        needs: Entry::Open,
-        cases: |random, compared, _| sessions::run_on_the_largest_file(random, compared, 40),
-    },
-    Part {
-        name: "torrents",
-        needs: Entry::TorrentRead,
-        cases: |random, compared, go_on| torrents::run(random, compared, go_on),
-    },
-    Part {
-        name: "each-byte-of-single",
-        needs: Entry::TorrentRead,
-        cases: |_, compared, _| torrents::run_through_every_byte(SINGLE, compared),
-    },
+    Part { name: "strings", cases: |random, compared, _| fillings::run(random, compared) },
+    Part { name: "sessions", cases: |random, compared, go_on| sessions::run(random, compared, go_on) },
+    Part { name: "largest-file", cases: |random, compared, _| sessions::run_on_the_largest_file(random, compared, 40) },
+    Part { name: "torrents", cases: |random, compared, go_on| torrents::run(random, compared, go_on) },
+    Part { name: "each-byte-of-single", cases: |_, compared, _| torrents::run_through_every_byte(SINGLE, compared) },
     Part {
         name: "each-byte-of-a-small-one",
-        needs: Entry::TorrentRead,
         cases: |random, compared, _| torrents::run_through_every_byte(&torrents::small(random), compared),
     },
-    Part {
-        name: "each-cut-of-single",
-        needs: Entry::TorrentRead,
-        cases: |_, compared, _| torrents::run_through_every_cut(SINGLE, compared),
-    },
+    Part { name: "each-cut-of-single", cases: |_, compared, _| torrents::run_through_every_cut(SINGLE, compared) },
     Part {
         name: "hostile-shapes",
-        needs: Entry::TorrentRead,
         cases: |_, compared, _| shapes::ALL.iter().for_each(|shape| torrents::ask_few(&(shape.make)(), compared)),
     },
 ];
 
 /// Runs a part with a bound on calls and time, and says what was compared.
-fn compare(Part { name, cases, .. }: &Part) {
+fn compare(Part { name, cases }: &Part) {
     let seed = seed();
     let most = setting("KD_CASES", 800_000);
     let began = Instant::now();
     let end = began + Duration::from_secs(setting("KD_SECONDS", 75));
-    let mut compared = Comparison::new(&by_library, &is_declared);
+    let mut compared = Comparison::new(&by_library);
     let mut asked = 0;
     cases(&mut Random::new(seed), &mut compared, &mut |compared| {
         asked += 1;
@@ -109,7 +81,6 @@ fn main() {
         exit(2);
     }
     let is_wanted = |part: &&Part| named.iter().any(|name| name == part.name) != is_but;
-    let parts = PARTS.iter().filter(is_wanted).filter(|part| is_declared(part.needs));
-    let run = parts.map(compare).count();
+    let run = PARTS.iter().filter(is_wanted).map(compare).count();
     println!("{run} passed");
 }

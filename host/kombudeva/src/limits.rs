@@ -1,0 +1,22 @@
+//! How large things may be, by the header's names.
+
+/// The bytes of a block; the last one of a file may have fewer.
+pub const BLOCK: u64 = 16384;
+/// A piece length is a power of two from this on.
+pub const SMALLEST_PIECE_LENGTH: u64 = 16384;
+/// A piece length is a power of two up to this.
+pub const LARGEST_PIECE_LENGTH: u64 = 16777216;
+/// The longest file, in bytes; the shortest has 1.
+pub const LONGEST_FILE: u64 = 1073741824;
+/// The height of its tree, so the layer of its root.
+pub const TALLEST_TREE: u64 = 16;
+/// The longest run of hashes that a message may give or ask for.
+pub const LONGEST_RUN: u32 = 512;
+/// The largest torrent, in bytes.
+pub const LARGEST_TORRENT: usize = 1048576;
+/// How deeply a torrent may be nested, its outer dictionary being the first level.
+pub const LEVELS: u32 = 32;
+/// The most path elements of a file.
+pub const ELEMENTS: usize = 28;
+/// The bytes of memory that [`Torrent::list`](crate::Torrent::list) needs for each file.
+pub const RECORD: usize = 280;

@@ -1,0 +1,116 @@
+//! One vocabulary: the header has the names and values of `crates/numbers` and `crates/limits`, and so have the reference and
+//! the binding. All of it is read from the sources.
+
+use std::collections::BTreeMap;
+use std::fs;
+use std::path::Path;
+
+type Names = BTreeMap<String, u64>;
+
+fn source(path: &str) -> String {
+    let repository = Path::new(env!("CARGO_MANIFEST_DIR")).join("../..");
+    fs::read_to_string(repository.join(path)).unwrap_or_else(|error| panic!("{path}: {error}"))
+}
+
+/// A value as these sources write them: a decimal, or `2 ^ n`.
+fn value(text: &str) -> u64 {
+    let decimal = |text: &str| text.trim().parse::<u64>().unwrap_or_else(|_| panic!("{text} is no number"));
+    text.split_once('^').map_or_else(|| decimal(text), |(base, power)| decimal(base).pow(decimal(power) as u32))
+}
+
+/// `#define KD_NAME value`, without the version.
+fn header() -> Names {
+    let text = source("include/kombudeva.h");
+    let defined = text.lines().filter_map(|line| line.strip_prefix("#define KD_")?.split_once(' '));
+    let names = defined.filter(|(name, _)| *name != "VERSION");
+    names.map(|(name, rest)| (name.to_string(), value(rest.split("/*").next().unwrap()))).collect()
+}
+
+/// `pub const NAME: type = value;`, in Rattle and in Rust.
+fn constants(path: &str) -> Names {
+    let text = source(path);
+    let parts = text.lines().filter_map(|line| line.strip_prefix("pub const ")?.strip_suffix(';')?.split_once(" = "));
+    parts.map(|(name, text)| (name.split(':').next().unwrap().to_string(), value(text))).collect()
+}
+
+/// `name = value` of a spec, as a constant's name.
+fn defined(path: &str) -> Names {
+    let is_value = |text: &str| text.starts_with(|first: char| first.is_ascii_digit());
+    let parts = source(path);
+    let parts = parts.lines().filter_map(|line| line.split_once(" = ")).filter(|(_, text)| is_value(text));
+    parts.filter(|(name, _)| !name.contains(' ')).map(|(name, text)| (from_camel(name), value(text))).collect()
+}
+
+/// The binding's table: number, name, words.
+fn refusals() -> Names {
+    let text = source("host/kombudeva/src/answer.rs");
+    let (_, table) = text.split_once("\nrefusals! {\n").unwrap();
+    let (table, _) = table.split_once("\n}").unwrap();
+    let row = |line: &str| {
+        let mut words = line.split_whitespace();
+        let number = value(words.next().unwrap());
+        (from_camel(words.next().unwrap()), number)
+    };
+    table.lines().map(row).collect()
+}
+
+/// `noMessage` or `NoMessage` as `NO_MESSAGE`.
+fn from_camel(name: &str) -> String {
+    let spaced = name.char_indices().flat_map(|(at, letter)| {
+        let gap = if at > 0 && letter.is_uppercase() { "_" } else { "" };
+        gap.chars().chain(letter.to_uppercase())
+    });
+    spaced.collect()
+}
+
+fn numbers() -> Names {
+    constants("crates/numbers/src/lib.rt")
+}
+
+/// The numbers but 0: a spec's and the binding's 0 carry what was asked for.
+fn refused() -> Names {
+    numbers().into_iter().filter(|(name, _)| name != "DONE").collect()
+}
+
+#[test]
+fn the_numbers_of_the_table() {
+    let values: Vec<u64> = {
+        let mut values: Vec<u64> = numbers().into_values().collect();
+        values.sort();
+        values
+    };
+    assert_eq!(values, (0..=12).chain(19..=29).collect::<Vec<u64>>());
+}
+
+#[test]
+fn the_header_has_the_numbers_and_the_limits() {
+    let mut expected = numbers();
+    expected.extend(constants("host/reference/src/limits.rs"));
+    assert_eq!(header(), expected);
+}
+
+#[test]
+fn the_numbers_have_one_name_each() {
+    assert_eq!(constants("host/reference/src/number.rs"), numbers());
+    assert_eq!(defined("crates/numbers/specs/Numbers.antt"), refused());
+    assert_eq!(refusals(), refused());
+}
+
+#[test]
+fn the_limits_have_one_name_each() {
+    let limits = constants("host/reference/src/limits.rs");
+    assert_eq!(constants("host/kombudeva/src/limits.rs"), limits);
+    let proved = constants("crates/limits/src/lib.rt");
+    assert!(proved.len() >= 5);
+    for (name, value) in proved {
+        assert_eq!(limits.get(&name), Some(&value), "{name}");
+    }
+}
+
+#[test]
+fn the_version_is_the_bindings() {
+    let header = source("include/kombudeva.h");
+    let (_, rest) = header.split_once("#define KD_VERSION \"").unwrap();
+    let (version, _) = rest.split_once('"').unwrap();
+    assert!(source("host/kombudeva/Cargo.toml").contains(&format!("\nversion = \"{version}\"\n")));
+}
