@@ -1,18 +1,28 @@
-# run: what the proved programs print. test: the gate. lib: the library for hosts. bench: speed against plain Rust.
-# interop: with a real client, libtorrent, on loopback. torrents: read those that libtorrent makes.
-# soak: generated calls compared with the second implementation, for long.
-.PHONY: run test lib bench interop torrents soak
+# run: proves the library and its programs, and shows what they are for. test: the gate.
+# lib: the library for hosts. install, uninstall: header, archive and pkg-config file below PREFIX.
+# bench: speed against plain Rust. interop: with a real client, libtorrent, on loopback. torrents: read those that libtorrent
+# makes. soak: generated calls compared with the second implementation, for long.
+.PHONY: run test lib install uninstall bench interop torrents soak
+
+PREFIX ?= /usr/local
+export PREFIX DESTDIR
 
 run:
-	rt check replay vectors worked
-	@for program in replay vectors worked; do echo "-- $$program"; cat target/log/$$program.stdout; done
+	@host/run
 
 test:
-	bash .ci/run
+	@bash .ci/run
 
 lib:
 	rt staticlib kombudeva
 	@echo target/staticlib/libkombudeva.a
+
+install:
+	@[ -f target/staticlib/libkombudeva.a ] || $(MAKE) lib
+	@host/install
+
+uninstall:
+	@host/install remove
 
 bench: lib
 	host/bench.sh
