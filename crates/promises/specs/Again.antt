@@ -1,7 +1,7 @@
 -- Demand 3: a held hash stays held, and the number that a reply gets stays the same at every later offer.
 -- Assumes nothing.
 use mathlib.Core.Path.{_≡_, refl, ap, ap₂, sym, _∙_}
-use mathlib.Core.Bool.{Bool, true, false, cond}
+use mathlib.Core.Bool.{false≢true, Bool, true, false, cond}
 use mathlib.Core.List.{List}
 use Prim.Native.Nat.{ℕ, zero, _^_, _<_}
 use native.Mathlib.Omega.{arith}
@@ -18,17 +18,20 @@ use Rattle.cells.specs.Cells.{heldAt, hashAt}
 use Rattle.cells.specs.Entries.{Entry, agreesAt, agrees, putAll}
 use Rattle.cells.specs.EntriesLaws.{Sound, In, sound-in, agrees-held, agrees-free, agrees-in, in-agrees, entries-held}
 use Rattle.store.specs.Store.{usable, factsRoot, blocksOf, heightOf, positions, inTree, heldAnswer}
-use Rattle.store.specs.StoreLaws.{Facts, usable-facts, facts-usable, tree-number, held-outside, held-not, held-given}
+use Rattle.store.specs.StoreLaws.{Facts, usable-facts, facts-usable, tree-number, held-unusable, held-outside, held-not, held-given}
 use Rattle.runs.specs.AncestorLaws.{ancestor-le}
 use Rattle.runs.specs.SubtreeLaws.{within-self}
 use Rattle.runs.specs.SettledLaws.{settled-consistent}
 use Rattle.header.specs.Header.{headerOf, isHashes, messageRoot, rulesKept, placeOf, messageSize}
 use Rattle.header.specs.declared.Place.{Place}
 use Rattle.messages.specs.Take.{headerNumber, unclesOf, given, settled, anchor, worked, padded, anchored, bodyNumber, placeIn, orElse, takeNumber, takeAfter}
+use Rattle.pieces.specs.Pieces.{layerNumber}
+use Rattle.pieces.specs.PiecesLaws.{layer-refused}
 use Rattle.messages.specs.TakeLaws.{Passed, passed, Placed, placed, Ready, placed-ready}
 use Rattle.messages.specs.TakenLaws.{ready-settled, taken-ready}
 use Rattle.promises.specs.Held.{Holds}
 use Rattle.promises.specs.History.{Steps}
+use Rattle.promises.specs.Through.{Kept, through}
 use Rattle.promises.specs.TakenWhen.{taken-well-formed}
 use Rattle.promises.specs.Grows.{Grown, grown-take, grown-on, steps-grow}
 
@@ -73,9 +76,22 @@ grown-holds s t f g l i v h =
       hash = sym (ap (λ (r : Rattle.sha256.specs.declared.Hashed.Hashed). r .hash) a) ∙ ap (λ (h : ℕ). hashAt t (nodeNumber h l i)) e ∙ k .1 ∙ w .2;
     }
 
+-- what kd_held answers 0 for is asked of a usable store
+pub held-usable : (s : List ℕ) (l i : ℕ) → heldAnswer s l i .number ≡ 0 → usable s ≡ true
+held-usable s l i z = by (usable s) refl
+  where
+    by : (b : Bool) → usable s ≡ b → usable s ≡ true
+    by true e = e
+    by false e =
+        let g = ap (λ (r : Rattle.sha256.specs.declared.Hashed.Hashed). r .number) (held-unusable s l i e) in
+        let w : ⊥ = omega arith in
+        absurd w
+
 -- KNOWLEDGE ONLY GROWS: through any messages and layer loads, a held hash stays held with the same bytes
-pub knowledge-only-grows : {s t : List ℕ} → usable s ≡ true → Steps s t → (l i : ℕ) (v : List ℕ) → Holds s l i v → Holds t l i v
-knowledge-only-grows {s} {t} u h = let f = usable-facts s u in grown-holds s t f (steps-grow f h)
+pub knowledge-only-grows : {s t : List ℕ} → Steps s t → (l i : ℕ) (v : List ℕ) → Holds s l i v → Holds t l i v
+knowledge-only-grows {s} {t} h l i v k =
+    let f = usable-facts s (held-usable s l i (k .given)) in
+    grown-holds s t f (steps-grow f h) l i v k
 
 -- ---- a reply's number stays
 
@@ -200,16 +216,41 @@ body-again s t m f g₁ z not6 =
 follow : (n a b : ℕ) → (n ≡ 0 → a ≡ b) → orElse n a ≡ orElse n b
 follow n a b k = elim (ℕ-discrete n 0) [ yes z ↦ ap (orElse n) (k z) | no ne ↦ rw (ne-eqb n 0 ne) ]
 
--- THE NUMBER STAYS: what a reply got, it gets at every later offer, unless it was 6
-pub number-stays : {t : List ℕ} (s m : List ℕ) → usable s ≡ true → Steps (takeAfter s m) t → (takeNumber s m ≡ noAnchor → ⊥) → takeNumber t m ≡ takeNumber s m
+-- a store that is not usable stays as it is
+unusable-stays : (s : List ℕ) → usable s ≡ false → {t : List ℕ} → Steps s t → t ≡ s
+unusable-stays s u h = through (λ (t : List ℕ). t ≡ s) each h refl
+  where
+    refused : (m : List ℕ) → takeAfter s m ≡ s
+    refused m = unfold takeAfter takeNumber headerNumber in rw u
+
+    each : Kept (λ (t : List ℕ). t ≡ s)
+    each =
+        record {
+          taken = λ t m b e. rw e (refused m);
+          loaded = λ t l b e. rw e (layer-refused s l (λ z. let w : ⊥ = unfold layerNumber in omega (arith, rw u at z) in w));
+          moved = λ t x b e q. absurd (false≢true (sym u ∙ ap usable (sym q) ∙ e .store));
+        }
+
+-- what a reply got at a usable store, it gets at every later offer, unless it was 6
+stays-usable : {t : List ℕ} (s m : List ℕ) → usable s ≡ true → Steps (takeAfter s m) t → (takeNumber s m ≡ noAnchor → ⊥) → takeNumber t m ≡ takeNumber s m
 unfolding takeNumber
-number-stays {t} s m u h not6 =
+stays-usable {t} s m u h not6 =
     let f = usable-facts s u in
     let g₁ = steps-grow (grown-take s m f .facts) h in
     let g = grown-on (grown-take s m f) g₁ in
     ap (λ (n : ℕ). orElse n (bodyNumber t m (headerOf m) (placeIn t m))) (same-header s t m f g (isHashes m))
     ∙ follow (headerNumber (isHashes m) s m) (bodyNumber t m (headerOf m) (placeIn t m)) (bodyNumber s m (headerOf m) (placeIn s m))
     (λ z. body-again s t m f g₁ z (λ e. not6 (rw (eq-eqb (headerNumber (isHashes m) s m) 0 z) e)))
+
+-- THE NUMBER STAYS: what a reply got, it gets at every later offer, unless it was 6
+pub number-stays : {t : List ℕ} (s m : List ℕ) → Steps (takeAfter s m) t → (takeNumber s m ≡ noAnchor → ⊥) → takeNumber t m ≡ takeNumber s m
+number-stays {t} s m h not6 = by (usable s) refl
+  where
+    by : (b : Bool) → usable s ≡ b → takeNumber t m ≡ takeNumber s m
+    by true u = stays-usable s m u h not6
+    by false u =
+        let e : takeAfter s m ≡ s = unfold takeAfter takeNumber headerNumber in rw u in
+        ap (λ (x : List ℕ). takeNumber x m) (unusable-stays s u (rw e at h))
 
 -- 6 as long as the anchor is not held
 pub no-anchor-stays : {t : List ℕ} (s m : List ℕ) → usable s ≡ true → Steps s t → takeNumber s m ≡ noAnchor → heldAt t (anchor (placeIn t m)) ≡ false

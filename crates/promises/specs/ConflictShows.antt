@@ -16,9 +16,8 @@ use Rattle.serve.specs.Serve.{replyTo, requestNumber, serveAnswer}
 use Rattle.pieces.specs.Pieces.{layerNumber, pieceNumber}
 use Rattle.promises.specs.History.{Bytes, OurStore}
 use Rattle.promises.specs.Settles.{anchorLayer, anchorIndex}
-use Rattle.promises.specs.Invariant.{ours-have}
+use Rattle.promises.specs.OwnBytes.{ours-have, ours-bytes}
 use Rattle.promises.specs.Conflict.{heldBy, byMessage, byLayer, byPiece, take-conflicts, conflict-shows, layer-conflict-shows, piece-conflict-shows}
-use Rattle.promises.specs.OwnBytes.{ours-bytes}
 use Rattle.promises.specs.AnchorHeld.{asked-held}
 use Rattle.promises.specs.ReadBack.{reply-has-header}
 use Rattle.promises.specs.Replies.{other-store-reply, header-here, reply-carries}

@@ -21,7 +21,8 @@ use Rattle.promises.specs.History.{OurStore}
 use Rattle.promises.specs.RightPadding.{doubles, sibling-number}
 use Rattle.promises.specs.Again.{what-is-held}
 use Rattle.promises.specs.ReadBack.{holds-at}
-use Rattle.promises.specs.Invariant.{Ours, Pair, family-pair, ours-have}
+use Rattle.promises.specs.Invariant.{Ours, Pair, family-pair}
+use Rattle.promises.specs.OwnBytes.{ours-have}
 
 -- the four clauses
 pub record FourClauses (s : List ℕ) : Type 0 where

@@ -13,7 +13,7 @@ use Rattle.cells.specs.Cells.{heldAt, hashAt}
 use Rattle.cells.specs.Entries.{Entry, agrees, putAll}
 use Rattle.cells.specs.EntriesLaws.{Sound, keeps, In, here, there}
 use Rattle.store.specs.Store.{usable, fileLength, pieceLength, factsRoot, blocksOf, heightOf, positions, openAnswer, openAfter, opened, factsInRange, storeSize}
-use Rattle.store.specs.StoreLaws.{Facts, SameFacts, usable-facts, facts-usable, FromRoot, empty, next, putAll-same-facts, putAll-facts}
+use Rattle.store.specs.StoreLaws.{Facts, SameFacts, usable-facts, facts-usable, FromRoot, empty, next, putAll-same-facts, putAll-facts, used-same, used-facts, used-held, used-hash}
 use Rattle.runs.specs.SettledLaws.{settled-positive}
 use Rattle.tree.specs.Values.{node}
 use Rattle.header.specs.Header.{headerOf}
@@ -21,7 +21,8 @@ use Rattle.messages.specs.Take.{unclesOf, given, settled, placeIn, takeNumber, 
 use Rattle.messages.specs.TakenLaws.{ready-settled, taken-ready}
 use Rattle.pieces.specs.Pieces.{layerNumber, layerAfter}
 use Rattle.pieces.specs.PiecesLaws.{layer-refused, layer-same-facts, layer-facts, layer-keeps}
-use Rattle.promises.specs.History.{Bytes, Steps, begin, message, reject-heard, request-served, hash-asked, layer, block-judged, piece-judged, reopened}
+use Rattle.promises.specs.History.{SameStore, Steps}
+use Rattle.promises.specs.Through.{Kept, through}
 use Rattle.promises.specs.TakenWhen.{taken-then-right, taken-well-formed}
 
 -- the facts are the same, and what s holds t holds with the same bytes
@@ -104,24 +105,23 @@ grown-layer s l f =
       | no ne ↦ rw (layer-refused s l ne) (grown-same s f)
     ]
 
--- an opening that is refused leaves every byte
-pub reopen-refused : (s : List ℕ) (n plen : ℕ) (root : List ℕ) → (openAnswer s n plen .number ≡ 0 → ⊥) → openAfter s n plen root ≡ s
-unfolding openAnswer openAfter
-reopen-refused s n plen root ne = by (factsInRange n plen) (leb (storeSize n) (length s)) refl refl
-  where
-    by : (a b : Bool) → factsInRange n plen ≡ a → leb (storeSize n) (length s) ≡ b → cond (factsInRange n plen && leb (storeSize n) (length s)) (opened s n plen root) s ≡ s
-    by true true p q = absurd (ne (unfold openAnswer in rw (p, q)))
-    by true false p q = rw (p, q)
-    by false b p q = rw p
+-- other bytes behind the store
+pub grown-moved : (s t : List ℕ) → Facts s → SameStore s t → Grown s t
+grown-moved s t f e =
+    record {
+      same = used-same s t f (e .bytes);
+      facts = used-facts s t f (e .bytes);
+      kept = λ q l h. (used-held s t f (e .bytes) q l ∙ h, used-hash s t f (e .bytes) q l);
+    }
 
 -- through any steps
 pub steps-grow : {s t : List ℕ} → Facts s → Steps s t → Grown s t
-steps-grow {s} f begin = grown-same s f
-steps-grow f (message {t = t} m b h) = let g = steps-grow f h in grown-on g (grown-take t m (g .facts))
-steps-grow f (layer {t = t} l b h) = let g = steps-grow f h in grown-on g (grown-layer t l (g .facts))
-steps-grow f (reject-heard m x h) = steps-grow f h
-steps-grow f (request-served m out x y h) = steps-grow f h
-steps-grow f (hash-asked l i h) = steps-grow f h
-steps-grow f (block-judged i d x h) = steps-grow f h
-steps-grow f (piece-judged i d x h) = steps-grow f h
-steps-grow f (reopened {t = t} n plen root ne h) = rw (reopen-refused t n plen root ne) (steps-grow f h)
+steps-grow {s} f h = through (Grown s) each h (grown-same s f)
+  where
+    each : Kept (Grown s)
+    each =
+        record {
+          taken = λ t m b g. grown-on g (grown-take t m (g .facts));
+          loaded = λ t l b g. grown-on g (grown-layer t l (g .facts));
+          moved = λ t u b e g. grown-on g (grown-moved t u (g .facts) e);
+        }

@@ -2,11 +2,12 @@
 -- hand in its bytes".
 -- Assumes nothing.
 use mathlib.Core.Path.{_≡_}
+use mathlib.Core.Bool.{true}
 use mathlib.Core.List.{List}
-use Prim.Native.Nat.{ℕ, _<_}
-use lib.ListN.{length, getD}
-use Rattle.octets.specs.Octets.{Octets}
-use Rattle.store.specs.Store.{openAnswer, openAfter, opened}
+use Prim.Native.Nat.{ℕ}
+use lib.ListN.{length}
+use Rattle.octets.specs.Octets.{Octets, cut}
+use Rattle.store.specs.Store.{fileLength, storeSize, usable, openAnswer, openAfter}
 use Rattle.messages.specs.Take.{takeAfter}
 use Rattle.pieces.specs.Pieces.{layerAfter}
 
@@ -14,27 +15,62 @@ use Rattle.pieces.specs.Pieces.{layerAfter}
 abbrev pub Bytes : List ℕ → Type 0
 Bytes l = Octets (length l) l
 
--- from the bytes s to the bytes t by calls that take them as their store, one constructor for each call of the interface. Hearing a
--- reject, serving a request, asking for a held hash and judging a block or a piece are lent the store as `&`, so each leaves the bytes
--- as they are; an opening that is answered other than 0 does too. An opening answered 0 is no step: it begins a new history.
+-- the calls of the interface that take a store, each with what else it is given
+pub data Call : Type 0 where
+  -- kd_take: a hashes message
+  take : (m : List ℕ) → Bytes m → Call
+  -- kd_take_reject: a reject that came in
+  takeReject : (m : List ℕ) → Bytes m → Call
+  -- kd_serve: a request, and an output apart from the store
+  serve : (m out : List ℕ) → Bytes m → Bytes out → Call
+  -- kd_held: a layer and an index
+  held : (l i : ℕ) → Call
+  -- kd_load_layer: a piece layer
+  loadLayer : (layer : List ℕ) → Bytes layer → Call
+  -- kd_judge_block, kd_judge_piece: a block or a piece and its number
+  judgeBlock : (i : ℕ) (block : List ℕ) → Bytes block → Call
+  judgePiece : (i : ℕ) (piece : List ℕ) → Bytes piece → Call
+  -- kd_open, of bytes that may be a store already: a file's length, a piece length and a pieces root
+  reopen : (n plen : ℕ) (root : List ℕ) → Octets 32 root → Call
+
+-- what a call leaves in the bytes s that it takes as its store. All but three are lent them as `&`.
+abbrev pub after : Call → List ℕ → List ℕ
+after (take m b) s = takeAfter s m
+after (takeReject m b) s = s
+after (serve m out b c) s = s
+after (held l i) s = s
+after (loadLayer l b) s = layerAfter s l
+after (judgeBlock i d b) s = s
+after (judgePiece i d b) s = s
+after (reopen n plen root o) s = openAfter s n plen root
+
+-- the call is an opening and is answered 0
+abbrev pub Opens : Call → List ℕ → Type 0
+Opens (take m b) s = ⊥
+Opens (takeReject m b) s = ⊥
+Opens (serve m out b c) s = ⊥
+Opens (held l i) s = ⊥
+Opens (loadLayer l b) s = ⊥
+Opens (judgeBlock i d b) s = ⊥
+Opens (judgePiece i d b) s = ⊥
+Opens (reopen n plen root o) s = openAnswer s n plen .number ≡ 0
+
+-- s and t are the same store: s is usable, and t has its bytes up to the store's size
+pub record SameStore (s t : List ℕ) : Type 0 where
+  pub store : usable s ≡ true
+  pub bytes : cut t 0 (storeSize (fileLength s)) ≡ cut s 0 (storeSize (fileLength s))
+
+-- one step from the bytes s to the bytes t
+pub data Step (s : List ℕ) : List ℕ → Type 0 where
+  -- any call, whatever it answers; only an opening that is answered 0 begins another history
+  call : (c : Call) → (Opens c s → ⊥) → Step s (after c s)
+  -- a store is its own bytes only: the host may change the bytes behind them, or lend a longer or a shorter memory at the next call
+  lent : (t : List ℕ) → Bytes t → SameStore s t → Step s t
+
+-- any number of steps from s to t
 pub data Steps (s : List ℕ) : List ℕ → Type 0 where
   begin : Steps s s
-  -- kd_take, whatever it answers
-  message : {t : List ℕ} (m : List ℕ) → Bytes m → Steps s t → Steps s (takeAfter t m)
-  -- kd_take_reject
-  reject-heard : {t : List ℕ} (m : List ℕ) → Bytes m → Steps s t → Steps s t
-  -- kd_serve, into an output apart from the store
-  request-served : {t : List ℕ} (m out : List ℕ) → Bytes m → Bytes out → Steps s t → Steps s t
-  -- kd_held
-  hash-asked : {t : List ℕ} (l i : ℕ) → Steps s t → Steps s t
-  -- kd_load_layer, whatever it answers
-  layer : {t : List ℕ} (l : List ℕ) → Bytes l → Steps s t → Steps s (layerAfter t l)
-  -- kd_judge_block
-  block-judged : {t : List ℕ} (i : ℕ) (b : List ℕ) → Bytes b → Steps s t → Steps s t
-  -- kd_judge_piece
-  piece-judged : {t : List ℕ} (i : ℕ) (b : List ℕ) → Bytes b → Steps s t → Steps s t
-  -- kd_open, refused
-  reopened : {t : List ℕ} (n plen : ℕ) (root : List ℕ) → (openAnswer t n plen .number ≡ 0 → ⊥) → Steps s t → Steps s (openAfter t n plen root)
+  next : {t u : List ℕ} → Steps s t → Step t u → Steps s u
 
 -- the bytes of a store that only this build has written: opened by us, and changed since by our calls that take it as their store. It is a
 -- statement about what happened: whatever a buffer held before, it begins with an opening, and filling it as an output is no step.

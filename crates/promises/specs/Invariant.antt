@@ -19,7 +19,7 @@ use Rattle.cells.specs.Cells.{heldAt, hashAt}
 use Rattle.cells.specs.Entries.{Entry, agrees, putAll}
 use Rattle.cells.specs.EntriesLaws.{Sound, Hold, keeps, In, Has, Consistent, apart-consistent, entries-held, held-or-entry}
 use Rattle.store.specs.Store.{factsRoot, blocksOf, heightOf, positions, factsInRange, storeSize, openAnswer, openAfter, opened}
-use Rattle.store.specs.StoreLaws.{Facts, SameFacts, facts-blocks, positions-some, positions-even, from-root-in, putAll-same-facts, putAll-facts, opened-facts, opened-facts-root, opened-height, opened-held, opened-hash}
+use Rattle.store.specs.StoreLaws.{Facts, SameFacts, facts-blocks, positions-some, positions-even, from-root-in, putAll-same-facts, putAll-facts, opened-facts, opened-facts-root, opened-height, opened-held, opened-hash, used-same, used-facts, used-held, used-hash}
 use Rattle.runs.specs.Subtree.{subtree}
 use Rattle.runs.specs.Path.{sibling, parentValue}
 use Rattle.runs.specs.PathLaws.{sibling-even, sibling-odd, parent-even, parent-odd}
@@ -31,9 +31,8 @@ use Rattle.messages.specs.TakeLaws.{Ready, passed}
 use Rattle.messages.specs.TakenLaws.{ready-settled, taken-ready}
 use Rattle.pieces.specs.Pieces.{layerOfPieces, layerSettled, layerNumber, layerAfter, pieceHeight}
 use Rattle.pieces.specs.PiecesLaws.{Layered, Placed, layer-loads, loads-layered, layer-sound, layer-refused, layer-taken, piece-within}
-use Rattle.promises.specs.History.{Steps, begin, message, reject-heard, request-served, hash-asked, layer, block-judged, piece-judged, reopened, OurStore, ours}
+use Rattle.promises.specs.History.{SameStore}
 use Rattle.promises.specs.TakenWhen.{taken-then-right, taken-well-formed}
-use Rattle.promises.specs.Grows.{reopen-refused}
 use Rattle.promises.specs.RightPadding.{Pads, at-place, settled-pads}
 
 -- ---- the definition
@@ -258,22 +257,6 @@ chained-layer s l c =
       | no ne ↦ rw (layer-refused s l ne) c
     ]
 
--- any steps
-pub chained-steps : {s t : List ℕ} → Chained s → Steps s t → Chained t
-chained-steps c begin = c
-chained-steps c (message {t = t} m b h) = chained-take t m (chained-steps c h)
-chained-steps c (layer {t = t} l b h) = chained-layer t l (chained-steps c h)
-chained-steps c (reject-heard m x h) = chained-steps c h
-chained-steps c (request-served m out x y h) = chained-steps c h
-chained-steps c (hash-asked l i h) = chained-steps c h
-chained-steps c (block-judged i d x h) = chained-steps c h
-chained-steps c (piece-judged i d x h) = chained-steps c h
-chained-steps c (reopened {t = t} n plen root ne h) = rw (reopen-refused t n plen root ne) (chained-steps c h)
-
--- so every store that only this build has written
-pub ours-chained : {t : List ℕ} → OurStore t → Chained t
-ours-chained (ours b n plen root bytes o z h) = chained-steps (chained-opened b n plen root (o .size) z) h
-
 -- ---- and the padding
 
 -- the padding clause, by positions' numbers
@@ -370,18 +353,43 @@ ours-layer s l o =
       | no ne ↦ rw (layer-refused s l ne) o
     ]
 
--- so do any steps
-pub ours-steps : {s t : List ℕ} → Ours s → Steps s t → Ours t
-ours-steps o begin = o
-ours-steps o (message {t = t} m b h) = ours-take t m (ours-steps o h)
-ours-steps o (layer {t = t} l b h) = ours-layer t l (ours-steps o h)
-ours-steps o (reject-heard m x h) = ours-steps o h
-ours-steps o (request-served m out x y h) = ours-steps o h
-ours-steps o (hash-asked l i h) = ours-steps o h
-ours-steps o (block-judged i d x h) = ours-steps o h
-ours-steps o (piece-judged i d x h) = ours-steps o h
-ours-steps o (reopened {t = t} n plen root ne h) = rw (reopen-refused t n plen root ne) (ours-steps o h)
+-- OTHER BYTES BEHIND THE STORE keep them
+pub ours-moved : (s t : List ℕ) → Ours s → SameStore s t → Ours t
+ours-moved s t o e =
+    let f = o .chained .facts in
+    let g = used-same s t f (e .bytes) in
+    by-number-ours t
+    (record {
+      facts = used-facts s t f (e .bytes);
+      root = (used-held s t f (e .bytes) 1 (positions-some (heightOf s)) ∙ o .chained .root .0, used-hash s t f (e .bytes) 1 (positions-some (heightOf s)) ∙ o .chained .root .1 ∙ sym (g .root));
+      family = λ n two b k. family-moved n two (rw (g .layers) at b) k;
+    })
+    (rw (g .layers, g .blocks) padded-moved)
+  where
+    f : Facts s
+    f = o .chained .facts
 
--- A STORE THAT ONLY THIS BUILD HAS WRITTEN has the four clauses
-pub ours-have : {t : List ℕ} → OurStore t → Ours t
-ours-have (ours b n plen root bytes o z h) = ours-steps (ours-opened b n plen root (o .size) z) h
+    held-as : (q : ℕ) → q < positions (heightOf s) → heldAt t q ≡ heldAt s q
+    held-as = used-held s t f (e .bytes)
+
+    hash-as : (q : ℕ) → q < positions (heightOf s) → hashAt t q ≡ hashAt s q
+    hash-as = used-hash s t f (e .bytes)
+
+    family-moved : (n : ℕ) → 2 ≤ n → n < positions (heightOf s) → heldAt t n ≡ true → Family t n
+    family-moved n two b k =
+        let x : heldAt s n ≡ true = sym (held-as n b) ∙ k in
+        let P = family-pair s n x (o .chained .family n two b x) in
+        let even = positions-even (heightOf s) in
+        let top : n / 2 < positions (heightOf s) = omega arith in
+        let left : 2 * (n / 2) < positions (heightOf s) = omega arith in
+        let right : 2 * (n / 2) + 1 < positions (heightOf s) = omega (arith, even) in
+        family-of-pair t n
+        (record {
+          top = held-as (n / 2) top ∙ P .top;
+          left = held-as (2 * (n / 2)) left ∙ P .left;
+          right = held-as (2 * (n / 2) + 1) right ∙ P .right;
+          made = hash-as (n / 2) top ∙ P .made ∙ sym (ap₂ pairHash (hash-as (2 * (n / 2)) left) (hash-as (2 * (n / 2) + 1) right));
+        })
+
+    padded-moved : PaddedStore (heightOf s) (blocksOf s) t
+    padded-moved n lt k = rw (hash-as n lt) (ours-by-number s o n lt (sym (held-as n lt) ∙ k))

@@ -25,7 +25,7 @@ use Rattle.promises.specs.TakenWhen.{WellFormed}
 use Rattle.promises.specs.Settles.{unclesIn, hashIn, topLayer, topIndex, anchorLayer, anchorIndex}
 use Rattle.promises.specs.Again.{what-is-held}
 use Rattle.promises.specs.ReadBack.{run-number, run-in-layer, uncle-layer, uncle-number, uncle-in-layer}
-use Rattle.promises.specs.Invariant.{ours-have}
+use Rattle.promises.specs.OwnBytes.{ours-have}
 use Rattle.promises.specs.Conflict.{heldBy, byPiece, ofFile, ShownAt}
 use Rattle.promises.specs.RootToBlock.{For, OneHash, treeOf, same-height, tree-has, held-is-the-files-at, block-is-the-files-at, pieceFor, true-block, true-piece}
 use Rattle.promises.specs.PieceIsTheFiles.{PieceIsAt, theFilesAt, storeShowsAt, pieceShowsAt, blockShowsAt, piece-is-the-files-at}

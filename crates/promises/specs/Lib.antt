@@ -1,5 +1,6 @@
 pub mod Held
 pub mod History
+pub mod Through
 pub mod TakenWhen
 pub mod Chains
 pub mod TakenEntries

@@ -34,22 +34,10 @@ pub six-passed : (t m : List ℕ) → takeNumber t m ≡ noAnchor → Passed (is
 unfolding takeNumber
 six-passed t m e = passed (isHashes m) t m (six-or (headerNumber (isHashes m) t m) (bodyNumber t m (headerOf m) (placeIn t m)) e (header-number-not-6 (isHashes m) t m))
 
--- what kd_held answers 0 for is asked of a usable store
-pub held-usable : (s : List ℕ) (l i : ℕ) → heldAnswer s l i .number ≡ 0 → usable s ≡ true
-held-usable s l i z = by (usable s) refl
-  where
-    by : (b : Bool) → usable s ≡ b → usable s ≡ true
-    by true e = e
-    by false e =
-        let g = ap (λ (r : Hashed). r .number) (held-unusable s l i e) in
-        let w : ⊥ = omega arith in
-        absurd w
-
 -- NEVER 6 AGAIN: once kd_held gives a reply's anchor, that reply is not answered 6, then or later
 pub never-6-again : {s t : List ℕ} (m v : List ℕ) → Steps s t → Holds s (anchorLayer m) (anchorIndex m) v → takeNumber t m ≡ noAnchor → ⊥
 never-6-again {s} {t} m v h k e =
-    let u = held-usable s (anchorLayer m) (anchorIndex m) (k .given) in
-    let k′ = knowledge-only-grows u h (anchorLayer m) (anchorIndex m) v k in
+    let k′ = knowledge-only-grows h (anchorLayer m) (anchorIndex m) v k in
     anchor-held-not-6 t m (asked-held (isHashes m) t m (six-passed t m e) (k′ .given)) e
 
 -- 6 WHILE THE ANCHOR IS NOT HELD: a reply that got 6 gets 6 at a later offer exactly if kd_held does not give its anchor then
@@ -83,9 +71,9 @@ module _ {s t : List ℕ} (m : List ℕ) (six : takeNumber s m ≡ noAnchor) (h 
   six-exactly-while-not-held = (six-then-not-held, λ e. not-held-then-6 (λ z. omega arith))
 
 -- ONLY "NO ANCHOR" CAN CHANGE: the number that a reply got is another at a later offer exactly if it was 6 and kd_held gives its anchor by then
-pub changes-exactly-when : {t : List ℕ} (s m : List ℕ) → usable s ≡ true → Steps (takeAfter s m) t
+pub changes-exactly-when : {t : List ℕ} (s m : List ℕ) → Steps (takeAfter s m) t
     → (takeNumber t m ≡ takeNumber s m → ⊥) ↔ ((takeNumber s m ≡ noAnchor) × (heldAnswer t (anchorLayer m) (anchorIndex m) .number ≡ 0))
-changes-exactly-when {t} s m u h = (to, λ w e. six-or-held (w .0) (w .1) (e ∙ w .0))
+changes-exactly-when {t} s m h = (to, λ w e. six-or-held (w .0) (w .1) (e ∙ w .0))
   where
     from-there : takeNumber s m ≡ noAnchor → Steps s t
     from-there six = subst (λ (x : List ℕ). Steps x t) (message-refused s m (λ z. omega (arith, six-answer six, z)) .0) h
@@ -99,7 +87,7 @@ changes-exactly-when {t} s m u h = (to, λ w e. six-or-held (w .0) (w .1) (e ∙
     to : (takeNumber t m ≡ takeNumber s m → ⊥) → (takeNumber s m ≡ noAnchor) × (heldAnswer t (anchorLayer m) (anchorIndex m) .number ≡ 0)
     to ne =
         elim (ℕ-discrete (takeNumber s m) noAnchor) [
-          | no k ↦ absurd (ne (number-stays s m u h k))
+          | no k ↦ absurd (ne (number-stays s m h k))
           | yes six ↦
               elim (ℕ-discrete (heldAnswer t (anchorLayer m) (anchorIndex m) .number) 0) [
                 | yes z ↦ (six, z)

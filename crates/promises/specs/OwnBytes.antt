@@ -22,9 +22,9 @@ use Rattle.messages.specs.Take.{settled, placeIn, takeNumber, takeAfter}
 use Rattle.messages.specs.TakenLaws.{taken-ready}
 use Rattle.pieces.specs.Pieces.{layerSettled, layerNumber, layerAfter}
 use Rattle.pieces.specs.PiecesLaws.{layer-loads, loads-layered, layer-refused, layer-taken}
-use Rattle.promises.specs.History.{Bytes, Steps, begin, message, reject-heard, request-served, hash-asked, layer, block-judged, piece-judged, reopened, OurStore, ours}
-use Rattle.promises.specs.Grows.{reopen-refused}
-use Rattle.promises.specs.Invariant.{Ours, message-whole, layer-whole, ours-opened, ours-take, ours-layer}
+use Rattle.promises.specs.History.{Bytes, OurStore, ours}
+use Rattle.promises.specs.Through.{through}
+use Rattle.promises.specs.Invariant.{Ours, message-whole, layer-whole, ours-opened, ours-take, ours-layer, ours-moved}
 use Rattle.promises.specs.Conflict.{sized-bytes, message-octets, layer-gives-octets}
 
 pasted-bytes : (s : List ℕ) (at : ℕ) (h : List ℕ) → at + length h ≤ length s → Bytes s → Bytes h → Bytes (pasted s at h)
@@ -118,18 +118,19 @@ bytes-layer s l o bs bl =
       | no ne ↦ rw (layer-refused s l ne) bs
     ]
 
-bytes-steps : {s t : List ℕ} → Ours s → Bytes s → Steps s t → Ours t × Bytes t
-bytes-steps o b begin = (o, b)
-bytes-steps o b (message {t = t} m bm h) = let w = bytes-steps o b h in (ours-take t m (w .0), bytes-take t m (w .0) (w .1) bm)
-bytes-steps o b (layer {t = t} l bl h) = let w = bytes-steps o b h in (ours-layer t l (w .0), bytes-layer t l (w .0) (w .1) bl)
-bytes-steps o b (reject-heard m x h) = bytes-steps o b h
-bytes-steps o b (request-served m out x y h) = bytes-steps o b h
-bytes-steps o b (hash-asked l i h) = bytes-steps o b h
-bytes-steps o b (block-judged i d x h) = bytes-steps o b h
-bytes-steps o b (piece-judged i d x h) = bytes-steps o b h
-bytes-steps o b (reopened {t = t} n plen root ne h) = rw (reopen-refused t n plen root ne) (bytes-steps o b h)
+-- a store that only this build has written has the four clauses, and is a string of bytes
+ours-both : {t : List ℕ} → OurStore t → Ours t × Bytes t
+ours-both (ours b n plen root bytes o z h) =
+    through (λ (t : List ℕ). Ours t × Bytes t)
+    (record {
+      taken = λ s m bm w. (ours-take s m (w .0), bytes-take s m (w .0) (w .1) bm);
+      loaded = λ s l bl w. (ours-layer s l (w .0), bytes-layer s l (w .0) (w .1) bl);
+      moved = λ s t bt e w. (ours-moved s t (w .0) e, bt);
+    })
+    h (ours-opened b n plen root (o .size) z, bytes-opened b n plen root bytes o)
 
--- a store that only this build has written is a string of bytes
+pub ours-have : {t : List ℕ} → OurStore t → Ours t
+ours-have w = ours-both w .0
+
 pub ours-bytes : {t : List ℕ} → OurStore t → Bytes t
-ours-bytes (ours b n plen root bytes o z h) =
-    bytes-steps (ours-opened b n plen root (o .size) z) (bytes-opened b n plen root bytes o) h .1
+ours-bytes w = ours-both w .1

@@ -26,9 +26,8 @@ use Rattle.runs.specs.SubtreeLaws.{within-left, within-right, within-self, subt
 use Rattle.pieces.specs.Pieces.{layerOfPieces, pieceHeight, pieceNumber}
 use Rattle.pieces.specs.PiecesLaws.{placed, piece-within, height-layer, height-root, piece-right}
 use Rattle.promises.specs.History.{Bytes, OurStore}
-use Rattle.promises.specs.Invariant.{ours-have}
+use Rattle.promises.specs.OwnBytes.{ours-have, ours-bytes}
 use Rattle.promises.specs.Conflict.{Source, ShownAt, heldBy, byPiece, ofFile, GivesAt, same-or-shown}
-use Rattle.promises.specs.OwnBytes.{ours-bytes}
 use Rattle.promises.specs.RootToBlock.{For, OneHash, same-or-one-hash, block-octets, tree-agrees, agreed-is, part-in-tree, pieceFor, plen-form, piece-leaf, piece-size-is}
 
 -- two subtrees at one position whose tops agree have the same leaves, or show a pair

@@ -24,7 +24,7 @@ use Rattle.serve.specs.Serve.{requestNumber, rejectTo, replyTo, serveAnswer, se
 use Rattle.serve.specs.ServeLaws.{fitAnswer, fitAfter, fits-sent, fits-not, served-none, served-reply, served-reject, answered-form, reject-length, request-numbers, ServeNumber}
 use Rattle.pieces.specs.Pieces.{layerNumber, layerAfter, layerAnswer}
 use Rattle.pieces.specs.PiecesLaws.{layer-refused, layer-refused-count}
-use Rattle.promises.specs.Grows.{reopen-refused}
+use Rattle.promises.specs.Through.{reopen-refused}
 
 -- ---- a refusal leaves every byte, and its count is zero
 

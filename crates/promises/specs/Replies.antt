@@ -42,9 +42,9 @@ use Rattle.promises.specs.History.{Bytes, OurStore}
 use Rattle.promises.specs.TakenWhen.{Right, right-then-taken}
 use Rattle.promises.specs.Again.{held-agrees}
 use Rattle.promises.specs.RightPadding.{Pads, doubles, sibling-number}
-use Rattle.promises.specs.Invariant.{Chained, Ours, Pair, family-pair, Whole, message-whole, ours-have}
+use Rattle.promises.specs.Invariant.{Chained, Ours, Pair, family-pair, Whole, message-whole}
+use Rattle.promises.specs.OwnBytes.{ours-have, ours-bytes}
 use Rattle.promises.specs.Conflict.{heldBy, GivesAt, ShownAt, same-or-shown, hash-octets, agrees-or-shown, well-ready, anchor-has}
-use Rattle.promises.specs.OwnBytes.{ours-bytes}
 
 -- ---- two stores
 

@@ -28,9 +28,9 @@ use Rattle.runs.specs.SubtreeLaws.{within-tree, subtree-value, number-below, su
 use Rattle.pieces.specs.Pieces.{layerOfPieces, pieceHeight, blockNumber, pieceNumber}
 use Rattle.pieces.specs.PiecesLaws.{placed, height-layer, piece-at-root, block-right, right-block, right-piece}
 use Rattle.promises.specs.History.{Bytes, OurStore}
-use Rattle.promises.specs.Invariant.{Chained, Whole, ours-have}
+use Rattle.promises.specs.Invariant.{Chained, Whole}
+use Rattle.promises.specs.OwnBytes.{ours-have, ours-bytes}
 use Rattle.promises.specs.Conflict.{ShownAt, heldBy, ofFile, GivesAt, agrees-or-shown, subtree-octets}
-use Rattle.promises.specs.OwnBytes.{ours-bytes}
 
 -- s was opened with the file's own length and pieces root
 pub record For (file s : List ℕ) : Type 0 where

@@ -19,9 +19,9 @@ use Rattle.runs.specs.Subtree.{subtree}
 use Rattle.pieces.specs.Pieces.{layerOfPieces, layerSettled, layerNumber}
 use Rattle.pieces.specs.PiecesLaws.{layered, pieces-are, loads-answered, settled-in-layers}
 use Rattle.promises.specs.History.{OurStore}
-use Rattle.promises.specs.Invariant.{Chained, ours-have}
+use Rattle.promises.specs.Invariant.{Chained}
+use Rattle.promises.specs.OwnBytes.{ours-have, ours-bytes}
 use Rattle.promises.specs.Conflict.{ShownAt, heldBy, ofFile}
-use Rattle.promises.specs.OwnBytes.{ours-bytes}
 use Rattle.promises.specs.RootToBlock.{For, treeOf, same-height, tree-agrees, tree-has}
 
 -- the string of the file's piece layer, for the store's piece length

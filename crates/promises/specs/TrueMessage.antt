@@ -29,9 +29,9 @@ use Rattle.messages.specs.Take.{headerNumber, unclesOf, given, settled, anchor,
 use Rattle.promises.specs.History.{OurStore}
 use Rattle.promises.specs.TakenWhen.{right-then-taken}
 use Rattle.promises.specs.RightPadding.{Pads}
-use Rattle.promises.specs.Invariant.{Whole, ours-have}
+use Rattle.promises.specs.Invariant.{Whole}
+use Rattle.promises.specs.OwnBytes.{ours-have, ours-bytes}
 use Rattle.promises.specs.Conflict.{ShownAt, heldBy, ofFile, well-ready}
-use Rattle.promises.specs.OwnBytes.{ours-bytes}
 use Rattle.promises.specs.Replies.{padded-when}
 use Rattle.promises.specs.RootToBlock.{For, treeOf, tree-whole, same-height, tree-agrees, tree-has}
 
