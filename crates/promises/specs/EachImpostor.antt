@@ -14,10 +14,10 @@ use Rattle.sha256.specs.Sha256Laws.{pair-octets}
 use Rattle.tree.specs.Geometry.{ceilDiv, blockCount, heightFrom, height}
 use Rattle.store.specs.Store.{openAfter, opened}
 use Rattle.messages.specs.Take.{takeNumber, takeAnswer, takeAfter}
-use Rattle.promises.specs.Held.{Holds}
+use Rattle.words.specs.Held.{Holds}
+use Rattle.knowledge.specs.RootAlone.{root-alone}
+use Rattle.knowledge.specs.Replies.{own-reply}
 use Rattle.promises.specs.Example.{twoLeaves, taken-with-two}
-use Rattle.promises.specs.RootAlone.{root-alone}
-use Rattle.promises.specs.Replies.{own-reply}
 use Rattle.promises.specs.Offered.{twoHashes}
 use Rattle.promises.specs.EachNumber.{firstTwo, ones, room-for-two, a-6}
 use Rattle.promises.specs.Witness.{ours-with-two-leaves, two-leaves-held, opens, open-is}

@@ -30,7 +30,8 @@ use Rattle.header.specs.declared.Place.{Place}
 use Rattle.header.specs.Header.{headerOf, messageSize, placeOf, rulesKept, lengthRule, indexRule}
 use Rattle.messages.specs.Padded.{allFrom, runPadded, unclesPadded}
 use Rattle.messages.specs.Take.{given, settled, anchor, worked, padded, placeIn, takeNumber}
-use Rattle.promises.specs.TakenWhen.{WellFormed, wrong-padding-then-5, no-anchor-then-6, other-anchor-then-7, held-differs-then-8}
+use Rattle.words.specs.Messages.{WellFormed}
+use Rattle.knowledge.specs.TakenWhen.{wrong-padding-then-5, no-anchor-then-6, other-anchor-then-7, held-differs-then-8}
 use Rattle.promises.specs.Offered.{twoHashes, offered-header, run-is, first-hash, second-hash, two-size, well-formed-in}
 
 -- another string of the same length

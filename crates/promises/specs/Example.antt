@@ -25,9 +25,10 @@ use Rattle.header.specs.declared.Place.{Place}
 use Rattle.header.specs.Header.{headerOf, messageSize, placeOf, rulesKept, lengthRule, indexRule}
 use Rattle.messages.specs.Padded.{allFrom, runPadded, unclesPadded}
 use Rattle.messages.specs.Take.{given, settled, anchor, worked, padded, takeNumber, takeAnswer, placeIn}
-use Rattle.promises.specs.TakenWhen.{WellFormed, Right, right-then-taken}
+use Rattle.words.specs.Messages.{WellFormed}
+use Rattle.knowledge.specs.TakenWhen.{Right, right-then-taken}
+use Rattle.knowledge.specs.TakenEntries.{lacking, count-lacking}
 use Rattle.promises.specs.Offered.{twoHashes, offered-header, first-hash, second-hash, two-size, well-formed-in}
-use Rattle.promises.specs.TakenEntries.{lacking, count-lacking}
 
 abbrev numbers : List ℕ
 numbers = 0 ∷ 0 ∷ 0 ∷ 0 ∷ 0 ∷ 0 ∷ 0 ∷ 0 ∷ 0 ∷ 0 ∷ 0 ∷ 2 ∷ 0 ∷ 0 ∷ 0 ∷ 0 ∷ []

@@ -13,7 +13,7 @@ use Rattle.cells.specs.Entries.{newly}
 use Rattle.cells.specs.EntriesLaws.{newly-none}
 use Rattle.store.specs.Store.{heightOf, positions, factsInRange, storeSize, openAnswer, openAfter}
 use Rattle.messages.specs.Take.{takeAfter, takeAnswer}
-use Rattle.promises.specs.History.{Bytes, begin, OurStore, ours}
+use Rattle.words.specs.History.{Bytes, begin, OurStore, ours}
 
 -- 0 with nothing stored, or a store that never learns: where something is newly held, the bytes have changed
 pub learns : (s m : List ℕ) → 0 < takeAnswer s m .count → takeAfter s m ≡ s → ⊥

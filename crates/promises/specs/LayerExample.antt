@@ -20,13 +20,12 @@ use Rattle.cells.specs.Cells.{heldAt, hashAt}
 use Rattle.store.specs.Store.{fileLength, pieceLength, heightOf, positions, factsInRange, storeSize, opened}
 use Rattle.store.specs.StoreLaws.{Facts, opened-usable, opened-facts, opened-file, opened-piece, opened-height, opened-held, opened-hash, tree-says, tree-number}
 use Rattle.pieces.specs.Pieces.{layerOfPieces, layerNumber}
-use Rattle.promises.specs.Held.{Holds}
-use Rattle.promises.specs.Again.{what-is-held}
-use Rattle.promises.specs.ReadBack.{holds-at}
-use Rattle.promises.specs.Over.{Over, atLeaf, above}
-use Rattle.promises.specs.Differing.{NoneDiffers}
-use Rattle.promises.specs.JudgedWhen.{LayerFormed, LayerSettles, layer-0}
-use Rattle.promises.specs.HeldAfter.{layer-settles-once}
+use Rattle.words.specs.Held.{Holds, NoneDiffers}
+use Rattle.words.specs.Pieces.{Over, atLeaf, above, LayerFormed, LayerSettles}
+use Rattle.knowledge.specs.Again.{what-is-held}
+use Rattle.knowledge.specs.ReadBack.{holds-at}
+use Rattle.knowledge.specs.JudgedWhen.{layer-0}
+use Rattle.knowledge.specs.HeldAfter.{layer-settles-once}
 
 module _ (a b : List ℕ) (oa : Octets 32 a) (ob : Octets 32 b) (buffer : List ℕ) (fits : storeSize 32768 ≤ length buffer) where
   fresh : List ℕ

@@ -18,7 +18,7 @@ use Rattle.header.specs.declared.Header.{Header}
 use Rattle.header.specs.Header.{isHashes, headerOf, messageRoot, messageSize, rulesKept}
 use Rattle.messages.specs.Take.{runOf, given}
 use Rattle.messages.specs.TakeLaws.{passes}
-use Rattle.promises.specs.TakenWhen.{WellFormed}
+use Rattle.words.specs.Messages.{WellFormed}
 
 -- a hashes message by its parts
 abbrev pub offered : List ℕ → List ℕ → List ℕ → List ℕ

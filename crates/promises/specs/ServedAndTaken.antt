@@ -22,18 +22,18 @@ use Rattle.messages.specs.Take.{headerNumber, placeIn, takeNumber, takeAfter}
 use Rattle.messages.specs.TakeLaws.{passed, passes}
 use Rattle.serve.specs.Serve.{heldRun, runHashes, heldUncles, uncleHashes, allHeld, allHashes, requestNumber, replyTo, serveAnswer}
 use Rattle.serve.specs.ServeLaws.{head-same, request-zero, served-reply, fits-sent}
-use Rattle.promises.specs.Held.{Holds}
-use Rattle.promises.specs.History.{Bytes, begin, OurStore, ours}
-use Rattle.promises.specs.Grows.{Grown, grown-take}
-use Rattle.promises.specs.Again.{what-is-held}
+use Rattle.words.specs.Held.{Holds}
+use Rattle.words.specs.History.{Bytes, begin, OurStore, ours}
+use Rattle.words.specs.Messages.{anchorLayer, anchorIndex}
+use Rattle.knowledge.specs.Grows.{Grown, grown-take}
+use Rattle.knowledge.specs.Again.{what-is-held}
+use Rattle.knowledge.specs.TakenWhen.{taken-then-right}
+use Rattle.knowledge.specs.AnchorHeld.{held-asked}
 use Rattle.promises.specs.Offered.{offered-root, offered-size, two-size}
 use Rattle.promises.specs.Example.{twoLeaves, header-two, two-taken, two-well-formed}
 use Rattle.promises.specs.Witness.{ours-with-two-leaves, two-leaves-held, opens, open-is}
 use Rattle.promises.specs.Impostors.{zero-bytes}
 use Rattle.promises.specs.EachNumber.{room-for-two}
-use Rattle.promises.specs.Settles.{anchorLayer, anchorIndex}
-use Rattle.promises.specs.TakenWhen.{taken-then-right}
-use Rattle.promises.specs.AnchorHeld.{held-asked}
 
 abbrev numbers : List ℕ
 numbers = 0 ∷ 0 ∷ 0 ∷ 0 ∷ 0 ∷ 0 ∷ 0 ∷ 0 ∷ 0 ∷ 0 ∷ 0 ∷ 2 ∷ 0 ∷ 0 ∷ 0 ∷ 0 ∷ []

@@ -25,7 +25,8 @@ use Rattle.header.specs.declared.Place.{Place}
 use Rattle.header.specs.Header.{headerOf, messageSize, placeOf, rulesKept, lengthRule, indexRule}
 use Rattle.messages.specs.Padded.{allFrom, runPadded, unclePadded, unclesPadded}
 use Rattle.messages.specs.Take.{unclesOf, given, settled, anchor, worked, padded, placeIn, takeNumber, takeAnswer}
-use Rattle.promises.specs.TakenWhen.{WellFormed, Right, right-then-taken}
+use Rattle.words.specs.Messages.{WellFormed}
+use Rattle.knowledge.specs.TakenWhen.{Right, right-then-taken}
 use Rattle.promises.specs.Offered.{offered, offered-header, offered-past, first-given, second-given, well-formed-in}
 use Rattle.promises.specs.Worked.{six-new}
 

@@ -28,21 +28,21 @@ use Rattle.header.specs.declared.Place.{Place}
 use Rattle.header.specs.Header.{headerOf, isHashes}
 use Rattle.messages.specs.Take.{given, placeIn, takeNumber, takeAfter}
 use Rattle.messages.specs.TakeLaws.{passed}
-use Rattle.promises.specs.Again.{what-is-held}
-use Rattle.promises.specs.Grows.{Grown, grown-take}
-use Rattle.promises.specs.JudgedWhen.{block-0}
-use Rattle.promises.specs.Held.{Holds}
-use Rattle.promises.specs.History.{Bytes, take, call, begin, next, OurStore, ours}
-use Rattle.promises.specs.TakenWhen.{taken-then-right}
-use Rattle.promises.specs.Settles.{hashIn, anchorLayer, anchorIndex, Settles, inRun, parent}
-use Rattle.promises.specs.AnchorHeld.{held-asked}
-use Rattle.promises.specs.Positions.{given-is}
-use Rattle.promises.specs.HeldAfter.{settles-then-holds}
-use Rattle.promises.specs.Conflict.{sized-bytes}
-use Rattle.promises.specs.RootToBlock.{For, treeOf, same-height, pieceFor, agreed-piece}
+use Rattle.words.specs.Held.{Holds}
+use Rattle.words.specs.History.{Bytes, take, call, begin, next, OurStore, ours}
+use Rattle.words.specs.Messages.{hashIn, anchorLayer, anchorIndex, Settles, inRun, parent}
+use Rattle.words.specs.File.{For, pieceFor, TrueHashes}
+use Rattle.knowledge.specs.Again.{what-is-held}
+use Rattle.knowledge.specs.Grows.{Grown, grown-take}
+use Rattle.knowledge.specs.JudgedWhen.{block-0}
+use Rattle.knowledge.specs.TakenWhen.{taken-then-right}
+use Rattle.knowledge.specs.AnchorHeld.{held-asked}
+use Rattle.knowledge.specs.Positions.{given-is}
+use Rattle.knowledge.specs.HeldAfter.{settles-then-holds}
+use Rattle.knowledge.specs.Conflict.{sized-bytes}
+use Rattle.knowledge.specs.RootToBlock.{treeOf, same-height, agreed-piece}
 use Rattle.promises.specs.Impostors.{zero-bytes}
 use Rattle.promises.specs.EachNumber.{room-for-two}
-use Rattle.promises.specs.Known.{TrueHashes}
 use Rattle.promises.specs.Example.{twoLeaves, header-two, first, second, two-taken, two-well-formed, two-place}
 
 range : factsInRange 32768 16384 ≡ true

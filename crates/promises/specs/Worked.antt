@@ -24,7 +24,7 @@ use Rattle.messages.specs.Take.{headerNumber, settled, anchor, placeIn, takeNum
 use Rattle.messages.specs.TakeLaws.{request-form}
 use Rattle.serve.specs.Serve.{requestNumber, rejectTo, sentBack, serveAnswer}
 use Rattle.serve.specs.ServeLaws.{reject-length}
-use Rattle.promises.specs.TakenEntries.{lacking, count-lacking}
+use Rattle.knowledge.specs.TakenEntries.{lacking, count-lacking}
 
 -- N=1, h=0 (that every request is then 3: `request-for-one-byte` below)
 pub n-1 : height (blockCount 1) ≡ 0

@@ -1,0 +1,193 @@
+-- Demand 1: every entry point answers with a number from the table; beside a refusal every count, size and value is zero, beside a
+-- reject the size is 49. What a refusal leaves is said in Refusals.antt.
+-- Assumes nothing.
+use mathlib.Core.Path.{_≡_, refl, ap}
+use mathlib.Core.Bool.{Bool, true, false, cond}
+use mathlib.Core.List.{List, [], _∷_}
+use mathlib.Core.Logic.{inl, inr}
+use Prim.Native.Nat.{ℕ, zero, suc, _^_, _≤_}
+use native.Mathlib.Omega.{arith}
+use lib.ListN.{length}
+use lib.Dec.{eqb, leb, ltb}
+use Rattle.octets.specs.Octets.{same, zeroHash}
+use Rattle.numbers.specs.Numbers.{refused, judged}
+use Rattle.numbers.specs.declared.Answer.{Answer}
+use Rattle.sha256.specs.Sha256.{sha256}
+use Rattle.sha256.specs.Answer.{hashedOf}
+use Rattle.sha256.specs.declared.Hashed.{Hashed}
+use Rattle.tree.specs.Geometry.{nodeNumber, blockSize, pieceSize, pieceCount, hasLayer}
+use Rattle.cells.specs.Cells.{heldAt, hashAt}
+use Rattle.cells.specs.Entries.{agrees}
+use Rattle.store.specs.Store.{usable, factsRoot, fileLength, pieceLength, blocksOf, heightOf, factsInRange, storeSize, sizeAnswer, openAnswer, heldAnswer}
+use Rattle.header.specs.Header.{headerOf, messageRoot, isReject, rulesKept}
+use Rattle.messages.specs.Take.{headerNumber, takeAnswer, rejectAnswer}
+use Rattle.serve.specs.Serve.{serveAnswer}
+use Rattle.pieces.specs.Pieces.{judgedAt, layerNumber, layerAnswer, blockNumber, blockAnswer, pieceHeight, pieceNumber, pieceAnswer}
+use Rattle.words.specs.Answers.{Listed, first, later, OneOf, fine, refusal, OneOfHashed, given, isUnusable, isNoPosition, isNotHeld, ServeOutcome, replied, rejected, untouched, InTable}
+use Rattle.knowledge.specs.Table.{size-numbers, held-numbers}
+use Rattle.knowledge.specs.Refusals.{served, message-number-in-table}
+use Rattle.knowledge.specs.Verdicts.{gated}
+
+-- 0 to 12 are
+low : (n : ℕ) → n ≤ 12 → InTable n
+low zero l = first
+low (suc zero) l = later first
+low (suc (suc zero)) l = later (later first)
+low (suc (suc (suc zero))) l = later (later (later first))
+low (suc (suc (suc (suc zero)))) l = later (later (later (later first)))
+low (suc (suc (suc (suc (suc zero))))) l = later (later (later (later (later first))))
+low (suc (suc (suc (suc (suc (suc zero)))))) l = later (later (later (later (later (later first)))))
+low (suc (suc (suc (suc (suc (suc (suc zero))))))) l = later (later (later (later (later (later (later first))))))
+low (suc (suc (suc (suc (suc (suc (suc (suc zero)))))))) l = later (later (later (later (later (later (later (later first)))))))
+low (suc (suc (suc (suc (suc (suc (suc (suc (suc zero))))))))) l = later (later (later (later (later (later (later (later (later first))))))))
+low (suc (suc (suc (suc (suc (suc (suc (suc (suc (suc zero)))))))))) l = later (later (later (later (later (later (later (later (later (later first)))))))))
+low (suc (suc (suc (suc (suc (suc (suc (suc (suc (suc (suc zero))))))))))) l = later (later (later (later (later (later (later (later (later (later (later first))))))))))
+low (suc (suc (suc (suc (suc (suc (suc (suc (suc (suc (suc (suc zero)))))))))))) l =
+    later (later (later (later (later (later (later (later (later (later (later (later first)))))))))))
+low (suc (suc (suc (suc (suc (suc (suc (suc (suc (suc (suc (suc (suc n))))))))))))) l = let w : ⊥ = omega arith in absurd w
+
+judged-low : (x y z : Bool) → judged x y z ≤ 8
+judged-low false y z = omega arith
+judged-low true false z = omega arith
+judged-low true true false = omega arith
+judged-low true true true = omega arith
+
+gated-low : (u l z : Bool) (n : ℕ) → n ≤ 8 → gated u l z n ≤ 12
+gated-low true true true n h = omega arith
+gated-low true true false n h = omega arith
+gated-low true false z n h = omega arith
+gated-low false l z n h = omega arith
+
+-- ---- the number of each entry point is in the table
+
+-- kd_sha256
+pub hash-in-table : (m : List ℕ) → InTable (hashedOf m .number)
+unfolding hashedOf
+hash-in-table m = by (ltb (length m) (2 ^ 61))
+  where
+    by : (b : Bool) → InTable (cond {A = Hashed} b (record { number = 0; hash = sha256 m }) (record { number = 4; hash = zeroHash }) .number)
+    by true = low 0 (omega arith)
+    by false = low 4 (omega arith)
+
+-- kd_store_size
+pub size-in-table : (n plen : ℕ) → InTable (sizeAnswer n plen .number)
+unfolding sizeAnswer
+size-in-table n plen = by (factsInRange n plen)
+  where
+    by : (b : Bool) → InTable (cond b (record { number = 0; count = storeSize n }) (refused 10) .number)
+    by true = low 0 (omega arith)
+    by false = low 10 (omega arith)
+
+-- kd_open
+pub open-in-table : (s : List ℕ) (n plen : ℕ) → InTable (openAnswer s n plen .number)
+unfolding openAnswer
+open-in-table s n plen = by (factsInRange n plen) (leb (storeSize n) (length s))
+  where
+    by : (b c : Bool) → InTable (cond b (cond c (record { number = 0; count = 1 }) (refused 9)) (refused 10) .number)
+    by true true = low 0 (omega arith)
+    by true false = low 9 (omega arith)
+    by false c = low 10 (omega arith)
+
+-- kd_held
+pub held-in-table : (s : List ℕ) (l i : ℕ) → InTable (heldAnswer s l i .number)
+held-in-table s l i = by (held-numbers s l i)
+  where
+    by : OneOfHashed (heldAnswer s l i) → InTable (heldAnswer s l i .number)
+    by (given e) = rw e (low 0 (omega arith))
+    by (isUnusable e) = rw e (low 9 (omega arith))
+    by (isNoPosition e) = rw e (low 3 (omega arith))
+    by (isNotHeld e) = rw e (low 6 (omega arith))
+
+-- kd_take
+pub take-in-table : (s m : List ℕ) → InTable (takeAnswer s m .number)
+take-in-table s m = low (takeAnswer s m .number) (omega (arith, message-number-in-table s m))
+
+header-low : (u f r k : Bool) → cond u (cond f (cond r (cond k 0 3) 2) 1) 9 ≤ 12
+header-low true true true true = omega arith
+header-low true true true false = omega arith
+header-low true true false k = omega arith
+header-low true false r k = omega arith
+header-low false f r k = omega arith
+
+-- kd_take_reject
+pub reject-in-table : (s m : List ℕ) → InTable (rejectAnswer s m .number)
+unfolding rejectAnswer headerNumber
+reject-in-table s m = low _ (header-low (usable s) (isReject m) (same (factsRoot s) (messageRoot m)) (rulesKept (headerOf m) (blocksOf s) (heightOf s)))
+
+-- kd_serve
+pub serve-in-table : (s m out : List ℕ) → InTable (serveAnswer s m out .number)
+serve-in-table s m out = by (served s m out)
+  where
+    by : ServeOutcome s m out → InTable (serveAnswer s m out .number)
+    by (replied e a) = rw e (low 0 (omega arith))
+    by (rejected n c e a) = rw e (low n (elim c [ inl z ↦ omega arith | inr d ↦ elim d [ inl z ↦ omega arith | inr z ↦ omega arith ] ]))
+    by (untouched n c e a) = rw e (low n (elim c [ inl z ↦ omega arith | inr d ↦ elim d [ inl z ↦ omega arith | inr z ↦ omega arith ] ]))
+
+-- kd_load_layer
+pub layer-in-table : (s layer : List ℕ) → InTable (layerAnswer s layer .number)
+unfolding layerAnswer layerNumber judgedAt
+layer-in-table s layer =
+    low _
+    (gated-low (usable s) (hasLayer (fileLength s) (pieceLength s)) (eqb (length layer) _) _
+    (judged-low (heldAt s 1) (same (hashAt s 1) _) (agrees s _)))
+
+-- kd_judge_block
+pub block-in-table : (s : List ℕ) (i : ℕ) (block : List ℕ) → InTable (blockAnswer s i block .number)
+unfolding blockAnswer blockNumber
+block-in-table s i block =
+    low _
+    (gated-low (usable s) (ltb i (blocksOf s)) (eqb (length block) (blockSize (fileLength s) i)) _
+    (judged-low (heldAt s (nodeNumber (heightOf s) 0 i)) (same (hashAt s (nodeNumber (heightOf s) 0 i)) (sha256 block)) true))
+
+-- kd_judge_piece
+pub piece-in-table : (s : List ℕ) (i : ℕ) (piece : List ℕ) → InTable (pieceAnswer s i piece .number)
+unfolding pieceAnswer pieceNumber judgedAt
+piece-in-table s i piece =
+    low _
+    (gated-low (usable s) (ltb i (pieceCount (fileLength s) (pieceLength s))) (eqb (length piece) (pieceSize (fileLength s) (pieceLength s) i)) _
+    (judged-low (heldAt s (nodeNumber (heightOf s) (pieceHeight s) i)) (same (hashAt s (nodeNumber (heightOf s) (pieceHeight s) i)) _) (agrees s _)))
+
+-- ---- beside a refusal every value is zero (opening, a message and a layer: Refusals.antt)
+
+-- kd_sha256: the hash is 32 zero bytes
+pub no-hash-beside-4 : (m : List ℕ) → (hashedOf m .number ≡ 0 → ⊥) → hashedOf m .hash ≡ zeroHash
+unfolding hashedOf
+no-hash-beside-4 m = by (ltb (length m) (2 ^ 61))
+  where
+    by : (b : Bool) → (cond {A = Hashed} b (record { number = 0; hash = sha256 m }) (record { number = 4; hash = zeroHash }) .number ≡ 0 → ⊥)
+        → cond {A = Hashed} b (record { number = 0; hash = sha256 m }) (record { number = 4; hash = zeroHash }) .hash ≡ zeroHash
+    by true ne = absurd (ne refl)
+    by false ne = refl
+
+-- kd_store_size: the size is 0
+pub no-size-beside-10 : (n plen : ℕ) → (sizeAnswer n plen .number ≡ 0 → ⊥) → sizeAnswer n plen .count ≡ 0
+no-size-beside-10 n plen ne = by (size-numbers n plen)
+  where
+    by : OneOf (10 ∷ []) (sizeAnswer n plen) → sizeAnswer n plen .count ≡ 0
+    by (fine e) = absurd (ne e)
+    by (refusal k l e) = ap (λ (a : Answer). a .count) e
+
+-- kd_held: the hash is 32 zero bytes
+pub no-held-hash-beside-a-refusal : (s : List ℕ) (l i : ℕ) → (heldAnswer s l i .number ≡ 0 → ⊥) → heldAnswer s l i .hash ≡ zeroHash
+no-held-hash-beside-a-refusal s l i ne = by (held-numbers s l i)
+  where
+    by : OneOfHashed (heldAnswer s l i) → heldAnswer s l i .hash ≡ zeroHash
+    by (given e) = absurd (ne e)
+    by (isUnusable e) = ap (λ (a : Hashed). a .hash) e
+    by (isNoPosition e) = ap (λ (a : Hashed). a .hash) e
+    by (isNotHeld e) = ap (λ (a : Hashed). a .hash) e
+
+-- kd_take_reject, kd_judge_block and kd_judge_piece: the count is 0, whatever the number
+pub reject-counts-none : (s m : List ℕ) → rejectAnswer s m .count ≡ 0
+unfolding rejectAnswer
+reject-counts-none s m = refl
+
+-- a block
+pub block-counts-none : (s : List ℕ) (i : ℕ) (block : List ℕ) → blockAnswer s i block .count ≡ 0
+unfolding blockAnswer
+block-counts-none s i block = refl
+
+-- a piece
+pub piece-counts-none : (s : List ℕ) (i : ℕ) (piece : List ℕ) → pieceAnswer s i piece .count ≡ 0
+unfolding pieceAnswer
+piece-counts-none s i piece = refl
