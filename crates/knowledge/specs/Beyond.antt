@@ -22,7 +22,7 @@ use Rattle.cells.specs.Cells.{heldAt, hashAt}
 use Rattle.cells.specs.Entries.{Entry, agreesAt, agrees, putAll, newly}
 use Rattle.cells.specs.EntriesLaws.{Sound, none, more}
 use Rattle.store.specs.Store.{fileLength, pieceLength, blocksOf, heightOf, positions, storeSize}
-use Rattle.store.specs.StoreLaws.{Facts, own-size, putAll-past, facts-usable, used-same, used-facts, used-held, used-hash}
+use Rattle.store.specs.StoreLaws.{Facts, putAll-past, facts-usable, used-same, used-facts, used-held, used-hash}
 use Rattle.runs.specs.Path.{sibling}
 use Rattle.runs.specs.AncestorLaws.{ancestor-le}
 use Rattle.runs.specs.Span.{Within}
@@ -37,6 +37,7 @@ use Rattle.serve.specs.ServeLaws.{sibling-near, request-passes, run-inside, unc
 use Rattle.pieces.specs.Pieces.{blockNumber, judgedAt, layerOfPieces, layerNumber, layerSettled, layerAfter, layerAnswer, pieceHeight, pieceNumber}
 use Rattle.pieces.specs.PiecesLaws.{layered, layer-within, layer-leaf-length, piece-within, layer-sound, loads-layered, layer-loads}
 use Rattle.knowledge.specs.TakenWhen.{taken-well-formed}
+use Rattle.knowledge.specs.Size.{cells-in-store}
 use Rattle.knowledge.specs.BytesLeft.{SameCells, putAll-same, newly-same}
 
 module _ (s t : List ℕ) (f : Facts s) (e : cut t 0 (storeSize (fileLength s)) ≡ cut s 0 (storeSize (fileLength s))) where
@@ -213,16 +214,19 @@ module _ (s t : List ℕ) (f : Facts s) (e : cut t 0 (storeSize (fileLength s)) 
 
   -- ---- what the calls leave
 
+  -- byte for byte,
+  pub same-byte : (i : ℕ) → i < storeSize (fileLength s) → getD t i 0 ≡ getD s i 0
+  same-byte i b =
+      let z : 0 + i ≡ i = omega arith in
+      let g : (u : List ℕ) → getD (cut u 0 (storeSize (fileLength s))) i 0 ≡ getD u i 0 = λ u. getD-cut u 0 (storeSize (fileLength s)) i b ∙ ap (λ (x : ℕ). getD u x 0) z in
+      sym (g t) ∙ ap (λ (u : List ℕ). getD u i 0) e ∙ g s
+
   cells-used : SameCells (positions (heightOf s)) s t
   cells-used =
       record {
         room = f .room;
         room′ = rw (used-same s t f e .layers) at (used-facts s t f e .room);
-        same = λ i l.
-            let b : i < storeSize (fileLength s) = omega (arith, own-size s) in
-            let z : 0 + i ≡ i = omega arith in
-            let g : (u : List ℕ) → getD (cut u 0 (storeSize (fileLength s))) i 0 ≡ getD u i 0 = λ u. getD-cut u 0 (storeSize (fileLength s)) i b ∙ ap (λ (x : ℕ). getD u x 0) z in
-            sym (g t) ∙ ap (λ (u : List ℕ). getD u i 0) e ∙ g s;
+        same = λ i l. same-byte i (omega (arith, cells-in-store s));
       }
 
   left-alike : (n : ℕ) (L : List Entry) → (n ≡ 0 → Sound (positions (heightOf s)) L)
@@ -270,22 +274,22 @@ module _ (s t : List ℕ) (f : Facts s) (e : cut t 0 (storeSize (fileLength s)) 
 
   -- ---- and what stands behind the size stays
 
-  past-alike : (n : ℕ) (L : List Entry) → (n ≡ 0 → Sound (positions (heightOf s)) L) → (i : ℕ) → storeSize (fileLength s) ≤ i
+  past-alike : (n : ℕ) (L : List Entry) → (n ≡ 0 → Sound (positions (heightOf s)) L) → (i : ℕ) → 31 + 33 * positions (heightOf s) ≤ i
       → getD (cond (eqb n 0) (putAll s L) s) i 0 ≡ getD s i 0
   past-alike n L k i l =
       elim (ℕ-discrete n 0) [
-        | yes z ↦ rw (eq-eqb n 0 z) (putAll-past (positions (heightOf s)) L s (f .room) (k z) i (omega (arith, own-size s)))
+        | yes z ↦ rw (eq-eqb n 0 z) (putAll-past (positions (heightOf s)) L s (f .room) (k z) i l)
         | no ne ↦ rw (ne-eqb n 0 ne)
       ]
 
-  -- bytes behind the store's size stay as they are when a message is heard,
-  pub take-stays-past : (m : List ℕ) (i : ℕ) → storeSize (fileLength s) ≤ i → getD (takeAfter s m) i 0 ≡ getD s i 0
+  -- bytes behind the cells stay as they are when a message is heard,
+  pub take-past : (m : List ℕ) (i : ℕ) → 31 + 33 * positions (heightOf s) ≤ i → getD (takeAfter s m) i 0 ≡ getD s i 0
   unfolding takeAfter
-  take-stays-past m =
+  take-past m =
       past-alike (takeNumber s m) (settled m (placeIn s m)) (λ z. let w = taken-well-formed s m z in settled-sound m (w .header) (w .size))
 
   -- and when a layer is loaded
-  pub layer-stays-past : (layer : List ℕ) (i : ℕ) → storeSize (fileLength s) ≤ i → getD (layerAfter s layer) i 0 ≡ getD s i 0
+  pub layer-past : (layer : List ℕ) (i : ℕ) → 31 + 33 * positions (heightOf s) ≤ i → getD (layerAfter s layer) i 0 ≡ getD s i 0
   unfolding layerAfter
-  layer-stays-past layer =
+  layer-past layer =
       past-alike (layerNumber s layer) (layerSettled s layer) (λ z. layer-sound s layer (loads-layered s layer (layer-loads s layer z)))

@@ -1,5 +1,4 @@
--- Demand 1: every entry point answers with a number from the table; beside a refusal every count, size and value is zero, beside a
--- reject the size is 49. What a refusal leaves is said in Refusals.antt.
+-- Demand 1: each number is in the table; a refusal leaves every byte of the store, and beside it every count, size and value is zero.
 -- Assumes nothing.
 use mathlib.Core.Path.{_≡_, refl, ap}
 use mathlib.Core.Bool.{Bool, true, false, cond}
@@ -18,14 +17,14 @@ use Rattle.sha256.specs.declared.Hashed.{Hashed}
 use Rattle.tree.specs.Geometry.{nodeNumber, blockSize, pieceSize, pieceCount, hasLayer}
 use Rattle.cells.specs.Cells.{heldAt, hashAt}
 use Rattle.cells.specs.Entries.{agrees}
-use Rattle.store.specs.Store.{usable, factsRoot, fileLength, pieceLength, blocksOf, heightOf, factsInRange, storeSize, sizeAnswer, openAnswer, heldAnswer}
+use Rattle.store.specs.Store.{usable, factsRoot, fileLength, pieceLength, blocksOf, heightOf, factsInRange, storeSize, inTree, noHash, sizeAnswer, openAnswer, heldAnswer}
 use Rattle.header.specs.Header.{headerOf, messageRoot, isReject, rulesKept}
 use Rattle.messages.specs.Take.{headerNumber, takeAnswer, rejectAnswer}
 use Rattle.serve.specs.Serve.{serveAnswer}
 use Rattle.pieces.specs.Pieces.{judgedAt, layerNumber, layerAnswer, blockNumber, blockAnswer, pieceHeight, pieceNumber, pieceAnswer}
-use Rattle.words.specs.Answers.{Listed, first, later, OneOf, fine, refusal, OneOfHashed, given, isUnusable, isNoPosition, isNotHeld, ServeOutcome, replied, rejected, untouched, InTable}
-use Rattle.knowledge.specs.Table.{size-numbers, held-numbers}
-use Rattle.knowledge.specs.Refusals.{served, message-number-in-table}
+use Rattle.words.specs.History.{Call, take, takeReject, serve, held, loadLayer, judgeBlock, judgePiece, reopen, answer, number, after}
+use Rattle.words.specs.Answers.{table, Listed, first, later, InTable, ServeOutcome, replied, rejected, untouched, Beside, noCount, zeroBytes, reject}
+use Rattle.knowledge.specs.Refusals.{opening-refused, message-refused, layer-not-loaded, served, message-number-in-table}
 use Rattle.knowledge.specs.Verdicts.{gated}
 
 -- 0 to 12 are
@@ -88,15 +87,16 @@ open-in-table s n plen = by (factsInRange n plen) (leb (storeSize n) (length s))
     by true false = low 9 (omega arith)
     by false c = low 10 (omega arith)
 
+held-low : (a b c : Bool) (v : List ℕ) → cond {A = Hashed} a (cond b (cond c (record { number = 0; hash = v }) (noHash 6)) (noHash 3)) (noHash 9) .number ≤ 12
+held-low true true true v = omega arith
+held-low true true false v = omega arith
+held-low true false c v = omega arith
+held-low false b c v = omega arith
+
 -- kd_held
 pub held-in-table : (s : List ℕ) (l i : ℕ) → InTable (heldAnswer s l i .number)
-held-in-table s l i = by (held-numbers s l i)
-  where
-    by : OneOfHashed (heldAnswer s l i) → InTable (heldAnswer s l i .number)
-    by (given e) = rw e (low 0 (omega arith))
-    by (isUnusable e) = rw e (low 9 (omega arith))
-    by (isNoPosition e) = rw e (low 3 (omega arith))
-    by (isNotHeld e) = rw e (low 6 (omega arith))
+unfolding heldAnswer
+held-in-table s l i = low _ (held-low (usable s) (inTree (heightOf s) l i) (heldAt s (nodeNumber (heightOf s) l i)) (hashAt s (nodeNumber (heightOf s) l i)))
 
 -- kd_take
 pub take-in-table : (s m : List ℕ) → InTable (takeAnswer s m .number)
@@ -147,7 +147,7 @@ piece-in-table s i piece =
     (gated-low (usable s) (ltb i (pieceCount (fileLength s) (pieceLength s))) (eqb (length piece) (pieceSize (fileLength s) (pieceLength s) i)) _
     (judged-low (heldAt s (nodeNumber (heightOf s) (pieceHeight s) i)) (same (hashAt s (nodeNumber (heightOf s) (pieceHeight s) i)) _) (agrees s _)))
 
--- ---- beside a refusal every value is zero (opening, a message and a layer: Refusals.antt)
+-- ---- beside a refusal every value is zero
 
 -- kd_sha256: the hash is 32 zero bytes
 pub no-hash-beside-4 : (m : List ℕ) → (hashedOf m .number ≡ 0 → ⊥) → hashedOf m .hash ≡ zeroHash
@@ -161,33 +161,62 @@ no-hash-beside-4 m = by (ltb (length m) (2 ^ 61))
 
 -- kd_store_size: the size is 0
 pub no-size-beside-10 : (n plen : ℕ) → (sizeAnswer n plen .number ≡ 0 → ⊥) → sizeAnswer n plen .count ≡ 0
-no-size-beside-10 n plen ne = by (size-numbers n plen)
+unfolding sizeAnswer
+no-size-beside-10 n plen = by (factsInRange n plen)
   where
-    by : OneOf (10 ∷ []) (sizeAnswer n plen) → sizeAnswer n plen .count ≡ 0
-    by (fine e) = absurd (ne e)
-    by (refusal k l e) = ap (λ (a : Answer). a .count) e
+    by : (b : Bool) → (cond b (record { number = 0; count = storeSize n }) (refused 10) .number ≡ 0 → ⊥) → cond b (record { number = 0; count = storeSize n }) (refused 10) .count ≡ 0
+    by true ne = absurd (ne refl)
+    by false ne = refl
 
 -- kd_held: the hash is 32 zero bytes
-pub no-held-hash-beside-a-refusal : (s : List ℕ) (l i : ℕ) → (heldAnswer s l i .number ≡ 0 → ⊥) → heldAnswer s l i .hash ≡ zeroHash
-no-held-hash-beside-a-refusal s l i ne = by (held-numbers s l i)
+no-hash : (s : List ℕ) (l i : ℕ) → (heldAnswer s l i .number ≡ 0 → ⊥) → heldAnswer s l i .hash ≡ zeroHash
+unfolding heldAnswer
+no-hash s l i = by (usable s) (inTree (heightOf s) l i) (heldAt s (nodeNumber (heightOf s) l i)) (hashAt s (nodeNumber (heightOf s) l i))
   where
-    by : OneOfHashed (heldAnswer s l i) → heldAnswer s l i .hash ≡ zeroHash
-    by (given e) = absurd (ne e)
-    by (isUnusable e) = ap (λ (a : Hashed). a .hash) e
-    by (isNoPosition e) = ap (λ (a : Hashed). a .hash) e
-    by (isNotHeld e) = ap (λ (a : Hashed). a .hash) e
+    by : (a b c : Bool) (v : List ℕ) → (cond {A = Hashed} a (cond b (cond c (record { number = 0; hash = v }) (noHash 6)) (noHash 3)) (noHash 9) .number ≡ 0 → ⊥)
+        → cond {A = Hashed} a (cond b (cond c (record { number = 0; hash = v }) (noHash 6)) (noHash 3)) (noHash 9) .hash ≡ zeroHash
+    by true true true v ne = absurd (ne refl)
+    by true true false v ne = refl
+    by true false c v ne = refl
+    by false b c v ne = refl
 
--- kd_take_reject, kd_judge_block and kd_judge_piece: the count is 0, whatever the number
-pub reject-counts-none : (s m : List ℕ) → rejectAnswer s m .count ≡ 0
-unfolding rejectAnswer
-reject-counts-none s m = refl
+-- ---- by call
 
--- a block
-pub block-counts-none : (s : List ℕ) (i : ℕ) (block : List ℕ) → blockAnswer s i block .count ≡ 0
-unfolding blockAnswer
-block-counts-none s i block = refl
+-- every call's number is in the table
+pub call-in-table : (c : Call) (s : List ℕ) → InTable (number c s)
+call-in-table (take m b) s = take-in-table s m
+call-in-table (takeReject m b) s = reject-in-table s m
+call-in-table (serve m out b c) s = serve-in-table s m out
+call-in-table (held l i) s = held-in-table s l i
+call-in-table (loadLayer l b) s = layer-in-table s l
+call-in-table (judgeBlock i d b) s = block-in-table s i d
+call-in-table (judgePiece i d b) s = piece-in-table s i d
+call-in-table (reopen n plen root o) s = open-in-table s n plen
 
--- a piece
-pub piece-counts-none : (s : List ℕ) (i : ℕ) (piece : List ℕ) → pieceAnswer s i piece .count ≡ 0
-unfolding pieceAnswer
-piece-counts-none s i piece = refl
+-- a refusal leaves every byte of the store
+pub refused-leaves : (c : Call) (s : List ℕ) → (number c s ≡ 0 → ⊥) → after c s ≡ s
+refused-leaves (take m b) s ne = message-refused s m ne .0
+refused-leaves (takeReject m b) s ne = refl
+refused-leaves (serve m out b c) s ne = refl
+refused-leaves (held l i) s ne = refl
+refused-leaves (loadLayer l b) s ne = layer-not-loaded s l ne .0
+refused-leaves (judgeBlock i d b) s ne = refl
+refused-leaves (judgePiece i d b) s ne = refl
+refused-leaves (reopen n plen root o) s ne = opening-refused s n plen root ne .0
+
+-- and beside it every count, size and value is zero
+pub beside-refusal : (c : Call) (s : List ℕ) → (number c s ≡ 0 → ⊥) → Beside c (answer c s)
+unfolding rejectAnswer blockAnswer pieceAnswer
+beside-refusal (take m b) s ne = noCount (message-refused s m ne .1)
+beside-refusal (takeReject m b) s ne = noCount refl
+beside-refusal (serve m out b c) s ne = by (served s m out)
+  where
+    by : ServeOutcome s m out → Beside (serve m out b c) (inl (serveAnswer s m out))
+    by (replied e a) = absurd (ne (ap (λ (x : Answer). x .number) e))
+    by (rejected n r e a) = reject {a = serveAnswer s m out} (rw e r) (ap (λ (x : Answer). x .count) e)
+    by (untouched n r e a) = noCount (ap (λ (x : Answer). x .count) e)
+beside-refusal (held l i) s ne = zeroBytes (no-hash s l i ne)
+beside-refusal (loadLayer l b) s ne = noCount (layer-not-loaded s l ne .1)
+beside-refusal (judgeBlock i d b) s ne = noCount refl
+beside-refusal (judgePiece i d b) s ne = noCount refl
+beside-refusal (reopen n plen root o) s ne = noCount (opening-refused s n plen root ne .1)

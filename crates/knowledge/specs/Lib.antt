@@ -1,3 +1,4 @@
+pub mod Size
 pub mod Through
 pub mod TakenWhen
 pub mod Chains
@@ -33,10 +34,10 @@ pub mod JudgedWhen
 pub mod ServedWhen
 pub mod AskedWhen
 pub mod RootAlone
+pub mod SameStore
 pub mod Sent
 pub mod Shown
 pub mod ConflictShows
 pub mod Known
 pub mod Refusals
-pub mod Table
 pub mod InTable

@@ -24,6 +24,7 @@ use Rattle.serve.specs.Serve.{requestNumber, rejectTo, replyTo, serveAnswer, se
 use Rattle.serve.specs.ServeLaws.{fitAnswer, fitAfter, fits-sent, fits-not, served-none, served-reply, served-reject, answered-form, reject-length, request-numbers, ServeNumber}
 use Rattle.pieces.specs.Pieces.{layerNumber, layerAfter, layerAnswer}
 use Rattle.pieces.specs.PiecesLaws.{layer-refused, layer-refused-count}
+use Rattle.words.specs.Messages.{Rejected}
 use Rattle.words.specs.Answers.{ServeOutcome, replied, rejected, untouched}
 use Rattle.knowledge.specs.Through.{reopen-refused}
 
@@ -66,7 +67,7 @@ request-values true false r k held = inl (inr (inr refl))
 request-values false form r k held = inl (inr (inl refl))
 
 module _ (s m out : List ℕ) where
-  no-room-or-sent : (n : ℕ) → requestNumber s m ≡ n → (n ≡ 2) ⊎ ((n ≡ 3) ⊎ (n ≡ 12)) → (n ≡ 9 → ⊥) → (n ≡ 1 → ⊥) → (n ≡ 0 → ⊥) → ServeOutcome s m out
+  no-room-or-sent : (n : ℕ) → requestNumber s m ≡ n → Rejected n → (n ≡ 9 → ⊥) → (n ≡ 1 → ⊥) → (n ≡ 0 → ⊥) → ServeOutcome s m out
   no-room-or-sent n e w a b c =
       let sr = served-reject s m out n e a b c in
       let l : length (rejectTo m) ≡ 49 = reject-length m (answered-form s m (λ x. a (sym e ∙ x)) (λ x. b (sym e ∙ x))) in

@@ -9,7 +9,7 @@ use lib.Dec.{leb}
 use Rattle.store.specs.Store.{openAnswer, openAfter, opened, factsInRange, storeSize}
 use Rattle.messages.specs.Take.{takeAfter}
 use Rattle.pieces.specs.Pieces.{layerAfter}
-use Rattle.words.specs.History.{Bytes, Call, take, takeReject, serve, held, loadLayer, judgeBlock, judgePiece, reopen, after, Opens, SameStore, Step, call, lent, Steps, begin, next}
+use Rattle.words.specs.History.{Bytes, Call, take, takeReject, serve, held, loadLayer, judgeBlock, judgePiece, reopen, number, after, Opening, SameStore, Step, call, lent, Steps, begin, next}
 
 -- an opening that is refused leaves every byte
 pub reopen-refused : (s : List ℕ) (n plen : ℕ) (root : List ℕ) → (openAnswer s n plen .number ≡ 0 → ⊥) → openAfter s n plen root ≡ s
@@ -28,7 +28,7 @@ pub record Kept (P : List ℕ → Type 0) : Type 0 where
   pub moved : (s t : List ℕ) → Bytes t → SameStore s t → P s → P t
 
 module _ (P : List ℕ → Type 0) (k : Kept P) where
-  by-call : (c : Call) (s : List ℕ) → (Opens c s → ⊥) → P s → P (after c s)
+  by-call : (c : Call) (s : List ℕ) → (Opening c → number c s ≡ 0 → ⊥) → P s → P (after c s)
   by-call (take m b) s x p = k .taken s m b p
   by-call (takeReject m b) s x p = p
   by-call (serve m out b c) s x p = p
@@ -36,7 +36,7 @@ module _ (P : List ℕ → Type 0) (k : Kept P) where
   by-call (loadLayer l b) s x p = k .loaded s l b p
   by-call (judgeBlock i d b) s x p = p
   by-call (judgePiece i d b) s x p = p
-  by-call (reopen n plen root o) s x p = subst P (sym (reopen-refused s n plen root x)) p
+  by-call (reopen n plen root o) s x p = subst P (sym (reopen-refused s n plen root (x tt))) p
 
   by-step : {s t : List ℕ} → Step s t → P s → P t
   by-step {s} (call c x) p = by-call c s x p

@@ -83,7 +83,7 @@ module _ (a b : List ℕ) (oa : Octets 32 a) (ob : Octets 32 b) (buffer : List �
 module _ (a b : List ℕ) (oa : Octets 32 a) (ob : Octets 32 b) (buffer : List ℕ) (bytes : Bytes buffer) (fits : storeSize 32768 ≤ length buffer) where
   -- a store of two blocks, opened by us, that has heard its two leaves: written by this build only,
   pub ours-with-two-leaves : OurStore (takeAfter (openAfter buffer 32768 16384 (pairHash a b)) (twoLeaves a b))
-  ours-with-two-leaves = ours buffer 32768 16384 (pairHash a b) bytes (pair-octets a b) (opens buffer fits) (next begin (call (take (twoLeaves a b) (leaves-bytes a b oa ob)) (λ x. x)))
+  ours-with-two-leaves = ours buffer 32768 16384 (pairHash a b) bytes (pair-octets a b) (opens buffer fits) (next begin (call (take (twoLeaves a b) (leaves-bytes a b oa ob)) (λ x. absurd x)))
 
   opened-two : List ℕ
   opened-two = opened buffer 32768 16384 (pairHash a b)

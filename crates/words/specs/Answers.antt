@@ -2,17 +2,18 @@
 -- Assumes nothing.
 use mathlib.Core.Path.{_≡_}
 use mathlib.Core.List.{List, [], _∷_}
-use mathlib.Core.Logic.{_⊎_}
+use mathlib.Core.Logic.{_⊎_, inl, inr}
 use Prim.Native.Nat.{ℕ, _*_, _^_, _≤_}
 use lib.ListN.{length}
-use Rattle.octets.specs.Octets.{pasted}
-use Rattle.numbers.specs.Numbers.{refused, ruleBroken, noAnchor, unusable}
+use Rattle.octets.specs.Octets.{pasted, zeroHash}
+use Rattle.numbers.specs.Numbers.{refused}
 use Rattle.numbers.specs.declared.Answer.{Answer}
 use Rattle.limits.specs.Limits.{longestFile}
 use Rattle.sha256.specs.declared.Hashed.{Hashed}
 use Rattle.tree.specs.Geometry.{blockLength}
-use Rattle.store.specs.Store.{noHash}
 use Rattle.serve.specs.Serve.{replyTo, rejectTo, serveAnswer, serveAfter}
+use Rattle.words.specs.Messages.{Rejected}
+use Rattle.words.specs.History.{Bytes, Call, serve}
 
 -- the numbers of the table
 abbrev pub table : List ℕ
@@ -26,24 +27,18 @@ pub data Listed (n : ℕ) : List ℕ → Type 0 where
 abbrev pub InTable : ℕ → Type 0
 InTable n = Listed n table
 
--- an answer is 0, or one of these refusals, with the count zero
-pub data OneOf (refusals : List ℕ) (a : Answer) : Type 0 where
-  fine : a .number ≡ 0 → OneOf refusals a
-  refusal : (n : ℕ) → Listed n refusals → a ≡ refused n → OneOf refusals a
-
--- a held hash: 9, 3, 6, each with 32 zero bytes, or 0
-pub data OneOfHashed (a : Hashed) : Type 0 where
-  given : a .number ≡ 0 → OneOfHashed a
-  isUnusable : a ≡ noHash unusable → OneOfHashed a
-  isNoPosition : a ≡ noHash ruleBroken → OneOfHashed a
-  isNotHeld : a ≡ noHash noAnchor → OneOfHashed a
+-- what stands beside a refusal: a count or a size of zero, or 32 zero bytes; beside a reject, the reject's size
+pub data Beside : Call → Answer ⊎ Hashed → Type 0 where
+  noCount : {c : Call} {a : Answer} → a .count ≡ 0 → Beside c (inl a)
+  zeroBytes : {c : Call} {h : Hashed} → h .hash ≡ zeroHash → Beside c (inr h)
+  reject : {m out : List ℕ} {x : Bytes m} {y : Bytes out} {a : Answer} → Rejected (a .number) → a .count ≡ 49 → Beside (serve m out x y) (inl a)
 
 -- what a request is answered with
 pub data ServeOutcome (s m out : List ℕ) : Type 0 where
   -- the hashes message, and its size
   replied : serveAnswer s m out ≡ record { number = 0; count = length (replyTo s m) } → serveAfter s m out ≡ pasted out 0 (replyTo s m) → ServeOutcome s m out
   -- 2, 3 or 12 with a reject of 49 bytes
-  rejected : (n : ℕ) → (n ≡ 2) ⊎ ((n ≡ 3) ⊎ (n ≡ 12)) → serveAnswer s m out ≡ record { number = n; count = 49 } → serveAfter s m out ≡ pasted out 0 (rejectTo m) → ServeOutcome s m out
+  rejected : (n : ℕ) → Rejected n → serveAnswer s m out ≡ record { number = n; count = 49 } → serveAfter s m out ≡ pasted out 0 (rejectTo m) → ServeOutcome s m out
   -- 9, 1 or 11: no byte changes, the size is zero
   untouched : (n : ℕ) → (n ≡ 9) ⊎ ((n ≡ 1) ⊎ (n ≡ 11)) → serveAnswer s m out ≡ refused n → serveAfter s m out ≡ out → ServeOutcome s m out
 
