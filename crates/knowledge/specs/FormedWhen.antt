@@ -107,6 +107,15 @@ whole-4 true true true false z x n e = let w : ⊥ = omega arith in absurd w
 whole-4 true true true true false x n e = (refl, refl, refl, refl, refl)
 whole-4 true true true true true x n e = absurd (n e)
 
+whole-on : (n : ℕ) → (n ≡ unusable → ⊥) → (n ≡ noMessage → ⊥) → (n ≡ otherRoot → ⊥) → (n ≡ ruleBroken → ⊥) → (n ≡ wrongSize → ⊥)
+    → (u f r k z : Bool) (x : ℕ) → whole u f r k z x ≡ n → (u ≡ true) × (f ≡ true) × (r ≡ true) × (k ≡ true) × (z ≡ true)
+whole-on n n9 n1 n2 n3 n4 false f r k z x e = absurd (n9 (sym e))
+whole-on n n9 n1 n2 n3 n4 true false r k z x e = absurd (n1 (sym e))
+whole-on n n9 n1 n2 n3 n4 true true false k z x e = absurd (n2 (sym e))
+whole-on n n9 n1 n2 n3 n4 true true true false z x e = absurd (n3 (sym e))
+whole-on n n9 n1 n2 n3 n4 true true true true false x e = absurd (n4 (sym e))
+whole-on n n9 n1 n2 n3 n4 true true true true true x e = (refl, refl, refl, refl, refl)
+
 -- what comes behind is 5, 6, 7, 8 or 0
 body-not : (n : ℕ) → (n ≡ 0 → ⊥) → (n ≡ wrongPadding → ⊥) → (n ≡ noAnchor → ⊥) → (n ≡ differs → ⊥) → (n ≡ conflict → ⊥) → (p a b c : Bool) → cond p (judged a b c) wrongPadding ≡ n → ⊥
 body-not n z f s d k false a b c e = f (sym e)
@@ -202,3 +211,34 @@ module _ (s m : List ℕ) where
       size = t .1;
     },
   )
+
+  -- what gets none of those five numbers is well-formed
+  formed-on : (n : ℕ) → (n ≡ unusable → ⊥) → (n ≡ noMessage → ⊥) → (n ≡ otherRoot → ⊥) → (n ≡ ruleBroken → ⊥) → (n ≡ wrongSize → ⊥) → takeNumber s m ≡ n → WellFormed s m
+  formed-on n n9 n1 n2 n3 n4 e =
+      let t = whole-on n n9 n1 n2 n3 n4 (usable s) (isHashes m) (rootIn s m) (rulesIn s m) (sizedIn m) (behind s m) (sym tests ∙ e) in
+      well-formed-exactly-when .1 (
+        record { store = t .0; form = form-true m (t .1); root = same-true (factsRoot s) (messageRoot m) (t .2); rules = rules-kept (headerOf m) (blocksOf s) (heightOf s) (t .3) },
+        eqb-true (length m) (messageSize (headerOf m)) (t .4),
+      )
+
+  -- so 5, 6, 7, 8 and 0 are given to well-formed messages alone
+  pub formed-by : (n : ℕ) → (n ≡ 0) ⊎ ((5 ≤ n) × (n ≤ 8)) → {A : Type 0} → (WellFormed s m → (takeNumber s m ≡ n) ↔ A) → (takeNumber s m ≡ n) ↔ (WellFormed s m × A)
+  formed-by n o f = (
+    λ e. (let w = formed-on n not-9 not-1 not-2 not-3 not-4 e in (w, f w .0 e)),
+    λ t. f (t .0) .1 (t .1),
+  )
+    where
+      not-9 : n ≡ unusable → ⊥
+      not-9 z = elim o [ inl a ↦ omega arith | inr b ↦ omega (arith, b .0, b .1) ]
+
+      not-1 : n ≡ noMessage → ⊥
+      not-1 z = elim o [ inl a ↦ omega arith | inr b ↦ omega (arith, b .0, b .1) ]
+
+      not-2 : n ≡ otherRoot → ⊥
+      not-2 z = elim o [ inl a ↦ omega arith | inr b ↦ omega (arith, b .0, b .1) ]
+
+      not-3 : n ≡ ruleBroken → ⊥
+      not-3 z = elim o [ inl a ↦ omega arith | inr b ↦ omega (arith, b .0, b .1) ]
+
+      not-4 : n ≡ wrongSize → ⊥
+      not-4 z = elim o [ inl a ↦ omega arith | inr b ↦ omega (arith, b .0, b .1) ]

@@ -1,5 +1,5 @@
--- 01, "The store": which buffer is usable, how large a store is, what an opening answers, each number exactly when, and that afterwards the root alone is held. "Held" is what kd_held
--- answers.
+-- 01, "The store": which buffer is usable, how large a store is, what an opening answers, each number exactly when, and that afterwards
+-- the root alone is held.
 -- Assumes nothing.
 use mathlib.Core.Path.{_≡_, refl, ap, sym, _∙_, subst}
 use mathlib.Core.Bool.{Bool, true, false, cond, _&&_, and-eq-true-iff, false≢true}
@@ -95,6 +95,13 @@ module _ (s : List ℕ) (n plen : ℕ) where
     λ t. number-is s n plen ∙ rw (range-exactly n plen .1 (t .0), le-leb (storeSize n) (length s) (t .1)),
   )
 
+-- the count of an opening is 1
+pub opening-counts-one : (s : List ℕ) (n plen : ℕ) → openAnswer s n plen .number ≡ 0 → openAnswer s n plen .count ≡ 1
+unfolding openAnswer
+opening-counts-one s n plen z =
+    let t = opening-0 s n plen .0 (unfold openAnswer in z) in
+    rw (range-exactly n plen .1 (t .0), le-leb (storeSize n) (length s) (t .1))
+
 -- A BUFFER IS USABLE EXACTLY WHEN it names facts in range and has their room; nothing else makes it unusable
 pub usable-exactly : (s : List ℕ) → (usable s ≡ true) ↔ (InRange (fileLength s) (pieceLength s) × (storeSize (fileLength s) ≤ length s))
 unfolding usable
@@ -160,8 +167,3 @@ module _ (s : List ℕ) (n plen : ℕ) (root : List ℕ) (size : length root ≡
   -- position
   pub root-alone : (l i : ℕ) (v : List ℕ) → Holds (openAfter s n plen root) l i v ↔ ((l ≡ height (blockCount n)) × (i ≡ 0) × (v ≡ root))
   root-alone l i v = rw after (held-then l i v, λ t. rw (t .0, t .1, t .2) root-held)
-
-  -- and the count is 1
-  pub opening-counts-one : openAnswer s n plen .count ≡ 1
-  unfolding openAnswer
-  opening-counts-one = rw (ok, le-leb (storeSize n) (length s) fits)

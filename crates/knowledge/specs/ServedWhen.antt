@@ -26,7 +26,7 @@ use Rattle.messages.specs.TakeLaws.{passes}
 use Rattle.serve.specs.Serve.{allHeld, requestNumber, replyTo, rejectTo, serveAnswer, serveAfter}
 use Rattle.serve.specs.ServeLaws.{fitAfter, head-same, held-run-all, held-uncles-all, request-zero, fitAnswer, served-none, served-reply, served-reject, answered-form, reject-length, fits-sent, fits-not}
 use Rattle.words.specs.Held.{Holds}
-use Rattle.words.specs.Messages.{unclesIn, topLayer, topIndex, sent, Form, ValidHeader, AllGiven, Rejected}
+use Rattle.words.specs.Messages.{unclesIn, topLayer, topIndex, sent, Form, ValidHeader, AllGiven, Rejected, RejectDue, forRoot, forRule, forHash, NoRoomFor, forReply, forReject}
 use Rattle.knowledge.specs.Again.{what-is-held}
 use Rattle.knowledge.specs.ReadBack.{run-number, uncle-number, reply-has-header, run-reads-back, uncle-reads-back}
 use Rattle.knowledge.specs.Differing.{either, not-both}
@@ -353,6 +353,61 @@ module _ (s m out : List ℕ) where
           | inr b ↦ elim b [ inl z ↦ rejected-or-not 3 (inr (inl refl)) z | inr z ↦ rejected-or-not 12 (inr (inr refl)) z ]
         ]
       ]
+
+-- ---- each number that kd_serve gives back
+
+module _ (s m out : List ℕ) where
+  -- but for 11, it is the request's; and 2, 3 and 12 are given where a reject has room
+  serve-is : (n : ℕ) → (n ≡ noRoom → ⊥) → serveAnswer s m out .number ≡ n → (requestNumber s m ≡ n) × (Rejected n → 49 ≤ length out)
+  serve-is n ne e = by (answered-by-room s m out)
+    where
+      by : Answered s m out → (requestNumber s m ≡ n) × (Rejected n → 49 ≤ length out)
+      by (sends z y a) = (z ∙ sym a ∙ e, λ r. (let q : n ≡ 0 = sym e ∙ a in elim r [ inl x ↦ (let w : ⊥ = omega arith in absurd w) | inr x ↦ elim x [ inl b ↦ (let w : ⊥ = omega arith in absurd w) | inr b ↦ (let w : ⊥ = omega arith in absurd w) ] ]))
+      by (rejects k r q y a) = (q ∙ sym a ∙ e, λ x. y)
+      by (lacksRoom x a) = absurd (ne (sym e ∙ a))
+      by (lacksRejectRoom k r q l a) = absurd (ne (sym e ∙ a))
+      by (silent k o q a) = (q ∙ sym a ∙ e, λ r. (let z : n ≡ k = sym e ∙ a in elim o [ inl c ↦ not-rejected (inl (z ∙ c)) r | inr c ↦ not-rejected (inr (z ∙ c)) r ]))
+        where
+          not-rejected : (n ≡ unusable) ⊎ (n ≡ noMessage) → Rejected n → 49 ≤ length out
+          not-rejected c (inl x) = elim c [ inl y ↦ (let w : ⊥ = omega arith in absurd w) | inr y ↦ (let w : ⊥ = omega arith in absurd w) ]
+          not-rejected c (inr (inl x)) = elim c [ inl y ↦ (let w : ⊥ = omega arith in absurd w) | inr y ↦ (let w : ⊥ = omega arith in absurd w) ]
+          not-rejected c (inr (inr x)) = elim c [ inl y ↦ (let w : ⊥ = omega arith in absurd w) | inr y ↦ (let w : ⊥ = omega arith in absurd w) ]
+
+  -- 9 and 1 are the request's
+  pub serve-silent : (n : ℕ) → (n ≡ unusable) ⊎ (n ≡ noMessage) → (serveAnswer s m out .number ≡ n) ↔ (requestNumber s m ≡ n)
+  serve-silent n o = (
+    λ e. serve-is n (λ z. elim o [ inl a ↦ omega arith | inr a ↦ omega arith ]) e .0,
+    λ e. ap (λ (c : Answer). c .number) (served-none s m out n e o .0),
+  )
+
+  -- 2, 3 and 12 are too, where a reject has room
+  pub serve-rejects : (n : ℕ) → Rejected n → (serveAnswer s m out .number ≡ n) ↔ ((requestNumber s m ≡ n) × (49 ≤ length out))
+  serve-rejects n r = (
+    λ e. (let t = serve-is n (λ z. elim r [ inl a ↦ omega arith | inr b ↦ elim b [ inl a ↦ omega arith | inr a ↦ omega arith ] ]) e in (t .0, t .1 r)),
+    λ t. with-room s m out n (t .0) r (t .1),
+  )
+
+  -- and 11 is given where what is due has no room
+  pub serve-11 : (serveAnswer s m out .number ≡ noRoom) ↔ NoRoomFor s m out
+  serve-11 = (λ e. to (answered-by-room s m out) e, from)
+    where
+      to : Answered s m out → serveAnswer s m out .number ≡ noRoom → NoRoomFor s m out
+      to (sends z y a) e = let w : ⊥ = omega arith in absurd w
+      to (rejects k r q y a) e = elim r [ inl x ↦ (let w : ⊥ = omega arith in absurd w) | inr x ↦ elim x [ inl b ↦ (let w : ⊥ = omega arith in absurd w) | inr b ↦ (let w : ⊥ = omega arith in absurd w) ] ]
+      to (lacksRoom x a) e = let w = request-0 s m .0 (x .0) in forReply (w .0) (w .1) (x .1)
+      to (lacksRejectRoom k r q l a) e = forReject (rejected-is k r q) l
+        where
+          rejected-is : (k : ℕ) → Rejected k → requestNumber s m ≡ k → RejectDue s m
+          rejected-is k (inl x) q = let w = request-2 s m .0 (q ∙ x) in forRoot (w .0) (w .1) (w .2)
+          rejected-is k (inr (inl x)) q = let w = request-3 s m .0 (q ∙ x) in forRule (w .0) (w .1) (w .2) (w .3)
+          rejected-is k (inr (inr x)) q = let w = request-12 s m .0 (q ∙ x) in forHash (w .0) (w .1)
+      to (silent k o q a) e = elim o [ inl b ↦ (let w : ⊥ = omega arith in absurd w) | inr b ↦ (let w : ⊥ = omega arith in absurd w) ]
+
+      from : NoRoomFor s m out → serveAnswer s m out .number ≡ noRoom
+      from (forReply v g l) = cut-short s m out (request-0 s m .1 (v, g)) l
+      from (forReject (forRoot u f n) l) = without-room s m out otherRoot (request-2 s m .1 (u, f, n)) (inl refl) l
+      from (forReject (forRule u f e n) l) = without-room s m out ruleBroken (request-3 s m .1 (u, f, e, n)) (inr (inl refl)) l
+      from (forReject (forHash v n) l) = without-room s m out notHeld (request-12 s m .1 (v, n)) (inr (inr refl)) l
 
 -- ---- the reject, read back
 

@@ -19,7 +19,7 @@ use Rattle.knowledge.specs.RootAlone.{root-alone}
 use Rattle.knowledge.specs.Replies.{own-reply}
 use Rattle.promises.specs.Example.{twoLeaves, taken-with-two}
 use Rattle.promises.specs.Offered.{twoHashes}
-use Rattle.promises.specs.EachNumber.{firstTwo, ones, room-for-two, a-6}
+use Rattle.promises.specs.NumbersGiven.{firstTwo, ones, room-for-two, a-6}
 use Rattle.promises.specs.Witness.{ours-with-two-leaves, two-leaves-held, opens, open-is}
 use Rattle.promises.specs.Impostors.{learns, zero-bytes}
 use Rattle.promises.specs.ServedAndTaken.{askForTwo, asked-is-0, reply-is}
@@ -59,6 +59,6 @@ counts-differ =
     let again = own-reply m (ours-with-two-leaves zeroHash zeroHash zero-octets zero-octets (replicate 163 0) (zero-bytes 163) room-for-two) z in
     (not-always-6 .1, rw (reply-is zeroHash zeroHash zero-octets zero-octets (replicate 163 0) (zero-bytes 163) room-for-two) at again)
 
--- ALWAYS 0: a message whose anchor is not held is to be answered 6, and others 5, 7 and 8 (EachNumber.antt)
+-- ALWAYS 0: a message whose anchor is not held is to be answered 6, and others 5, 7 and 8 (NumbersGiven.antt)
 pub not-always-0 : takeNumber (opened (replicate 295 0) 49152 16384 zeroHash) (twoHashes zeroHash firstTwo zeroHash ones) ≡ 6
 not-always-0 = a-6

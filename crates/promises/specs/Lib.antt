@@ -3,6 +3,7 @@ pub mod Impostors
 pub mod Offered
 pub mod Example
 pub mod EachNumber
+pub mod NumbersGiven
 pub mod TrueFirstPair
 pub mod Witness
 pub mod ServedAndTaken

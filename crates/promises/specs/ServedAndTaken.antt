@@ -33,7 +33,7 @@ use Rattle.promises.specs.Offered.{offered-root, offered-size, two-size}
 use Rattle.promises.specs.Example.{twoLeaves, header-two, two-taken, two-well-formed}
 use Rattle.promises.specs.Witness.{ours-with-two-leaves, two-leaves-held, opens, open-is}
 use Rattle.promises.specs.Impostors.{zero-bytes}
-use Rattle.promises.specs.EachNumber.{room-for-two}
+use Rattle.promises.specs.NumbersGiven.{room-for-two}
 
 abbrev numbers : List ℕ
 numbers = 0 ∷ 0 ∷ 0 ∷ 0 ∷ 0 ∷ 0 ∷ 0 ∷ 0 ∷ 0 ∷ 0 ∷ 0 ∷ 2 ∷ 0 ∷ 0 ∷ 0 ∷ 0 ∷ []

@@ -42,7 +42,7 @@ use Rattle.knowledge.specs.HeldAfter.{settles-then-holds}
 use Rattle.knowledge.specs.Conflict.{sized-bytes}
 use Rattle.knowledge.specs.RootToBlock.{treeOf, same-height, agreed-piece}
 use Rattle.promises.specs.Impostors.{zero-bytes}
-use Rattle.promises.specs.EachNumber.{room-for-two}
+use Rattle.promises.specs.NumbersGiven.{room-for-two}
 use Rattle.promises.specs.Example.{twoLeaves, header-two, first, second, two-taken, two-well-formed, two-place}
 
 range : factsInRange 32768 16384 ≡ true

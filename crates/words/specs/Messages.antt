@@ -178,6 +178,17 @@ pub record AllGiven (s m : List ℕ) : Type 0 where
 abbrev pub Rejected : ℕ → Type 0
 Rejected n = (n ≡ otherRoot) ⊎ ((n ≡ ruleBroken) ⊎ (n ≡ notHeld))
 
+-- a request is due a reject: for another root (2), for a header rule (3), or for a hash that is not held (12)
+pub data RejectDue (s m : List ℕ) : Type 0 where
+  forRoot : usable s ≡ true → Form 21 m → (factsRoot s ≡ messageRoot m → ⊥) → RejectDue s m
+  forRule : usable s ≡ true → Form 21 m → factsRoot s ≡ messageRoot m → (Kept (headerOf m) (blocksOf s) (heightOf s) → ⊥) → RejectDue s m
+  forHash : ValidHeader 21 s m → (AllGiven s m → ⊥) → RejectDue s m
+
+-- and the output has no room for what it is due (11)
+pub data NoRoomFor (s m out : List ℕ) : Type 0 where
+  forReply : ValidHeader 21 s m → AllGiven s m → length out < messageSize (headerOf m) → NoRoomFor s m out
+  forReject : RejectDue s m → length out < 49 → NoRoomFor s m out
+
 -- the bytes of the output that the answer counts
 abbrev pub sent : List ℕ → List ℕ → List ℕ → List ℕ
 sent s m out = cut (serveAfter s m out) 0 (serveAnswer s m out .count)
