@@ -165,9 +165,12 @@ module _ (s m : List ℕ) (z : takeNumber s m ≡ 0) where
   well = taken-well-formed s m z
 
   -- THE COUNT of a taken message: the positions that it settles and for which kd_held did not answer 0
-  pub count-unheld : takeAnswer s m .count ≡ unheldAmong s (settles-many s m (taken-well-formed s m z) .spots)
+  count-unheld : takeAnswer s m .count ≡ unheldAmong s (settles-many s m (taken-well-formed s m z) .spots)
   unfolding settles-many all-of well
   count-unheld = count-lacking s m z ∙ sym (spots-unheld s (P s m well .store) (Settles m) (settled m (placeIn s m)) (entry-settled s m well))
+
+  pub counted : (A : All (Settles m) (2 * headerOf m .len - 1 + 2 * unclesIn m)) × (takeAnswer s m .count ≡ unheldAmong s (A .spots))
+  counted = (settles-many s m (taken-well-formed s m z), count-unheld)
 
   -- at most 2·length − 2 + 2u
   pub count-bound : takeAnswer s m .count ≤ 2 * headerOf m .len - 2 + 2 * unclesIn m
@@ -222,10 +225,13 @@ module _ (s layer : List ℕ) (z : layerNumber s layer ≡ 0) where
   sound = layer-sound s layer (lies s layer formed)
 
   -- THE COUNT of a layer that is loaded: the positions of layer p and above it for which kd_held did not answer 0
-  pub layer-count-unheld : layerAnswer s layer .count ≡ unheldAmong s (layer-settles-many s layer (layer-0 s layer .0 z .0) .spots)
+  layer-count-unheld : layerAnswer s layer .count ≡ unheldAmong s (layer-settles-many s layer (layer-0 s layer .0 z .0) .spots)
   unfolding layerAnswer layer-settles-many all-of formed
   layer-count-unheld =
       ap (newly (positions (heightOf s)) s) (layer-taken s layer z)
       ∙ count-fresh (positions (heightOf s)) (layerSettled s layer) s (facts s layer formed .room) sound
       ∙ fresh-lacking (positions (heightOf s)) (layerSettled s layer) s (facts s layer formed .room) sound (apart s layer formed)
       ∙ sym (spots-unheld s (formed .store) (LayerSettles s layer) (layerSettled s layer) (layer-found s layer formed))
+
+  pub layer-counted : (A : All (LayerSettles s layer) (2 * 2 ^ (heightOf s - layerOfPieces s) - 1)) × (layerAnswer s layer .count ≡ unheldAmong s (A .spots))
+  layer-counted = (layer-settles-many s layer (layer-0 s layer .0 z .0), layer-count-unheld)

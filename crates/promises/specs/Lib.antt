@@ -2,7 +2,11 @@ pub mod Worked
 pub mod Impostors
 pub mod Offered
 pub mod Example
+pub mod Demand1
+pub mod Demand2
+pub mod Demand3
 pub mod EachNumber
+pub mod FromRootToBlock
 pub mod NumbersGiven
 pub mod TrueFirstPair
 pub mod Witness
