@@ -32,6 +32,7 @@ use Rattle.messages.specs.Padded.{allFrom, runPadded, unclesPadded}
 use Rattle.messages.specs.Take.{given, settled, anchor, worked, padded, placeIn, takeNumber}
 use Rattle.words.specs.Messages.{WellFormed}
 use Rattle.knowledge.specs.TakenWhen.{wrong-padding-then-5, no-anchor-then-6, other-anchor-then-7, held-differs-then-8}
+use Rattle.promises.specs.Lent.{lent, lent-room}
 use Rattle.promises.specs.Offered.{twoHashes, offered-header, run-is, first-hash, second-hash, two-size, well-formed-in}
 
 -- another string of the same length
@@ -278,7 +279,7 @@ gets-8 buffer a b fits la lb =
     (held-put-same fresh 4 2 space (lit< tt) c lc)
     (λ e. other-differs a (omega arith) (sym (hash-put-same fresh 4 2 space (lit< tt) c lc) ∙ e))
 
--- ---- the same with every byte said: 295 and 163 zero bytes lent, hashes of 32 zero bytes and of 32 ones
+-- ---- the same with every byte said: zero bytes lent, hashes of 32 zero bytes and of 32 ones
 
 abbrev pub ones : List ℕ
 ones = replicate 32 1
@@ -291,27 +292,18 @@ ones-differ : ones ≡ zeroHash → ⊥
 unfolding zeroHash
 ones-differ e = let f : _≡_ {A = ℕ} 1 0 = ap (λ (w : List ℕ). getD w 0 0) e in omega arith
 
-room-for-three : storeSize 49152 ≤ length {A = ℕ} (replicate 295 0)
-unfolding storeSize positions height heightFrom blockCount ceilDiv
-room-for-three = lit≤ tt
-
--- 163 bytes are room for a file of two blocks
-pub room-for-two : storeSize 32768 ≤ length {A = ℕ} (replicate 163 0)
-unfolding storeSize positions height heightFrom blockCount ceilDiv
-room-for-two = lit≤ tt
-
 -- 5: padding with another value
-pub a-5 : takeNumber (opened (replicate 295 0) 49152 16384 zeroHash) (twoHashes zeroHash nextTwo zeroHash ones) ≡ 5
-a-5 = gets-5 (replicate 295 0) zeroHash zeroHash ones room-for-three zeros-size zeros-size refl ones-differ
+pub a-5 : takeNumber (opened (lent 49152) 49152 16384 zeroHash) (twoHashes zeroHash nextTwo zeroHash ones) ≡ 5
+a-5 = gets-5 (lent 49152) zeroHash zeroHash ones (lent-room 49152) zeros-size zeros-size refl ones-differ
 
 -- 6: the anchor not held
-pub a-6 : takeNumber (opened (replicate 295 0) 49152 16384 zeroHash) (twoHashes zeroHash firstTwo zeroHash ones) ≡ 6
-a-6 = gets-6 (replicate 295 0) zeroHash zeroHash ones room-for-three zeros-size zeros-size refl
+pub a-6 : takeNumber (opened (lent 49152) 49152 16384 zeroHash) (twoHashes zeroHash firstTwo zeroHash ones) ≡ 6
+a-6 = gets-6 (lent 49152) zeroHash zeroHash ones (lent-room 49152) zeros-size zeros-size refl
 
 -- 7: the held anchor differs
-pub a-7 : takeNumber (opened (replicate 163 0) 32768 16384 (otherThan (pairHash zeroHash ones))) (twoHashes (otherThan (pairHash zeroHash ones)) firstTwo zeroHash ones) ≡ 7
-a-7 = gets-7 (replicate 163 0) zeroHash ones room-for-two zeros-size refl
+pub a-7 : takeNumber (opened (lent 32768) 32768 16384 (otherThan (pairHash zeroHash ones))) (twoHashes (otherThan (pairHash zeroHash ones)) firstTwo zeroHash ones) ≡ 7
+a-7 = gets-7 (lent 32768) zeroHash ones (lent-room 32768) zeros-size refl
 
 -- 8: the anchor agrees, a held leaf differs
-pub an-8 : takeNumber (put (opened (replicate 163 0) 32768 16384 (pairHash zeroHash ones)) 2 (otherThan zeroHash)) (twoHashes (pairHash zeroHash ones) firstTwo zeroHash ones) ≡ 8
-an-8 = gets-8 (replicate 163 0) zeroHash ones room-for-two zeros-size refl
+pub an-8 : takeNumber (put (opened (lent 32768) 32768 16384 (pairHash zeroHash ones)) 2 (otherThan zeroHash)) (twoHashes (pairHash zeroHash ones) firstTwo zeroHash ones) ≡ 8
+an-8 = gets-8 (lent 32768) zeroHash ones (lent-room 32768) zeros-size refl

@@ -32,8 +32,7 @@ use Rattle.knowledge.specs.AnchorHeld.{held-asked}
 use Rattle.promises.specs.Offered.{offered-root, offered-size, two-size}
 use Rattle.promises.specs.Example.{twoLeaves, header-two, two-taken, two-well-formed}
 use Rattle.promises.specs.Witness.{ours-with-two-leaves, two-leaves-held, opens, open-is}
-use Rattle.promises.specs.Impostors.{zero-bytes}
-use Rattle.promises.specs.NumbersGiven.{room-for-two}
+use Rattle.promises.specs.Lent.{lent, lent-room, lent-bytes}
 
 abbrev numbers : List ℕ
 numbers = 0 ∷ 0 ∷ 0 ∷ 0 ∷ 0 ∷ 0 ∷ 0 ∷ 0 ∷ 0 ∷ 0 ∷ 0 ∷ 2 ∷ 0 ∷ 0 ∷ 0 ∷ 0 ∷ []
@@ -215,6 +214,6 @@ module _ (a b : List ℕ) (oa : Octets 32 a) (ob : Octets 32 b) (buffer other ou
 
 -- with every byte said
 pub two-stores-and-a-request :
-    MetByTwo (withTwo (replicate 163 0) zeroHash zeroHash) (openAfter (replicate 163 0) 32768 16384 (pairHash zeroHash zeroHash)) (askForTwo zeroHash zeroHash) (replicate 163 0)
+    MetByTwo (withTwo (lent 32768) zeroHash zeroHash) (openAfter (lent 32768) 32768 16384 (pairHash zeroHash zeroHash)) (askForTwo zeroHash zeroHash) (replicate 113 0)
 two-stores-and-a-request =
-    met-by-two zeroHash zeroHash zero-octets zero-octets (replicate 163 0) (replicate 163 0) (replicate 163 0) (zero-bytes 163) (zero-bytes 163) room-for-two room-for-two (lit≤ tt)
+    met-by-two zeroHash zeroHash zero-octets zero-octets (lent 32768) (lent 32768) (replicate 113 0) (lent-bytes 32768) (lent-bytes 32768) (lent-room 32768) (lent-room 32768) (lit≤ tt)

@@ -41,8 +41,7 @@ use Rattle.knowledge.specs.Positions.{given-is}
 use Rattle.knowledge.specs.HeldAfter.{settles-then-holds}
 use Rattle.knowledge.specs.Conflict.{sized-bytes}
 use Rattle.knowledge.specs.RootToBlock.{treeOf, same-height, agreed-piece}
-use Rattle.promises.specs.Impostors.{zero-bytes}
-use Rattle.promises.specs.NumbersGiven.{room-for-two}
+use Rattle.promises.specs.Lent.{lent, lent-room, lent-bytes, lent-opens}
 use Rattle.promises.specs.Example.{twoLeaves, header-two, first, second, two-taken, two-well-formed, two-place}
 
 range : factsInRange 32768 16384 ≡ true
@@ -184,11 +183,18 @@ module _ (file buffer : List ℕ) (two-blocks : length file ≡ 32768) (fits : s
       let z = two-taken (leafOf file 0) (leafOf file 1) (leaf-octets file 0) (leaf-octets file 1) buffer fits in
       rw root-is (held-asked (isHashes m) s m (passed (isHashes m) s m (well .header)) (taken-then-right s m well z .held))
 
--- ---- the same with every byte said: 163 zero bytes lent, a file of 32768 zero bytes
+-- ---- the same with every byte said: zero bytes lent, a file of 32768 zero bytes
+
+-- a store of ours exists: a file of one byte
+pub a-store-of-ours : OurStore (openAfter (lent 1) 1 16384 zeroHash)
+a-store-of-ours = ours (lent 1) 1 16384 zeroHash (lent-bytes 1) zero-octets (lent-opens 1 16384 in-range) begin
+  where
+    in-range : factsInRange 1 16384 ≡ true
+    in-range = unfold factsInRange isPieceLength pieceLayer height heightFrom in refl
 
 -- a store of ours of two blocks, after a message that was taken
-pub a-store-of-two-blocks : OurStore (takeAfter (openAfter (replicate 163 0) 32768 16384 (pairHash zeroHash zeroHash)) (twoLeaves zeroHash zeroHash))
-a-store-of-two-blocks = ours-with-two-leaves zeroHash zeroHash zero-octets zero-octets (replicate 163 0) (zero-bytes 163) room-for-two
+pub a-store-of-two-blocks : OurStore (takeAfter (openAfter (lent 32768) 32768 16384 (pairHash zeroHash zeroHash)) (twoLeaves zeroHash zeroHash))
+a-store-of-two-blocks = ours-with-two-leaves zeroHash zeroHash zero-octets zero-octets (lent 32768) (lent-bytes 32768) (lent-room 32768)
 
 -- what `known-message` asks for, met at once
 pub record Met (file s r : List ℕ) : Type 0 where
@@ -197,18 +203,18 @@ pub record Met (file s r : List ℕ) : Type 0 where
   pub hashes : TrueHashes file s r
   pub anchor : heldAnswer s (anchorLayer r) (anchorIndex r) .number ≡ 0
 
-met : (file : List ℕ) → length file ≡ 32768 → Met file (opened (replicate 163 0) 32768 16384 (piecesRoot file)) (twoLeaves (leafOf file 0) (leafOf file 1))
+met : (file : List ℕ) → length file ≡ 32768 → Met file (opened (lent 32768) 32768 16384 (piecesRoot file)) (twoLeaves (leafOf file 0) (leafOf file 1))
 met file e =
     record {
-      ours = ours-for-the-file file (replicate 163 0) e room-for-two (zero-bytes 163);
-      opened = for-the-file file (replicate 163 0) e room-for-two;
-      hashes = true-for-the-file file (replicate 163 0) e room-for-two;
-      anchor = anchor-for-the-file file (replicate 163 0) e room-for-two;
+      ours = ours-for-the-file file (lent 32768) e (lent-room 32768) (lent-bytes 32768);
+      opened = for-the-file file (lent 32768) e (lent-room 32768);
+      hashes = true-for-the-file file (lent 32768) e (lent-room 32768);
+      anchor = anchor-for-the-file file (lent 32768) e (lent-room 32768);
     }
 
 -- all of it, with every byte said
 pub a-file-store-and-message :
-    Met (replicate 32768 0) (opened (replicate 163 0) 32768 16384 (piecesRoot (replicate 32768 0))) (twoLeaves (leafOf (replicate 32768 0) 0) (leafOf (replicate 32768 0) 1))
+    Met (replicate 32768 0) (opened (lent 32768) 32768 16384 (piecesRoot (replicate 32768 0))) (twoLeaves (leafOf (replicate 32768 0) 0) (leafOf (replicate 32768 0) 1))
 a-file-store-and-message = met (replicate 32768 0) (length-replicate {A = ℕ} 32768 0)
 
 -- ---- and after that message: what the theorems about blocks and pieces ask for, met at once
@@ -334,5 +340,5 @@ module _ (file buffer : List ℕ) (two-blocks : length file ≡ 32768) (bytes : 
 
 -- with every byte said
 pub a-store-after-its-leaves :
-    MetAfter (replicate 32768 0) (takeAfter (openAfter (replicate 163 0) 32768 16384 (pairHash (leafOf (replicate 32768 0) 0) (leafOf (replicate 32768 0) 1))) (twoLeaves (leafOf (replicate 32768 0) 0) (leafOf (replicate 32768 0) 1)))
-a-store-after-its-leaves = met-after (replicate 32768 0) (replicate 163 0) (length-replicate {A = ℕ} 32768 0) (zero-bytes 163) room-for-two
+    MetAfter (replicate 32768 0) (takeAfter (openAfter (lent 32768) 32768 16384 (pairHash (leafOf (replicate 32768 0) 0) (leafOf (replicate 32768 0) 1))) (twoLeaves (leafOf (replicate 32768 0) 0) (leafOf (replicate 32768 0) 1)))
+a-store-after-its-leaves = met-after (replicate 32768 0) (lent 32768) (length-replicate {A = ℕ} 32768 0) (lent-bytes 32768) (lent-room 32768)
