@@ -41,3 +41,4 @@ pub mod ConflictShows
 pub mod Known
 pub mod Refusals
 pub mod InTable
+pub mod ByHand

@@ -14,7 +14,7 @@ use Rattle.tree.specs.Geometry.{ceilDiv, blockCount, heightFrom, height}
 use Rattle.cells.specs.Entries.{newly}
 use Rattle.cells.specs.EntriesLaws.{newly-none}
 use Rattle.store.specs.Store.{heightOf, positions, openAfter, opened}
-use Rattle.messages.specs.Take.{takeNumber, takeAnswer, takeAfter}
+use Rattle.messages.specs.Take.{takeAnswer, takeAfter}
 use Rattle.words.specs.Held.{Holds}
 use Rattle.knowledge.specs.RootAlone.{root-alone}
 use Rattle.knowledge.specs.Replies.{own-reply}
@@ -66,5 +66,5 @@ counts-differ =
     (not-always-6 .1, rw (reply-is zeroHash zeroHash zero-octets zero-octets (lent 32768) (lent-bytes 32768) (lent-room 32768)) at again)
 
 -- ALWAYS 0: a message whose anchor is not held is to be answered 6, and others 5, 7 and 8 (NumbersGiven.antt)
-pub not-always-0 : takeNumber (opened (lent 49152) 49152 16384 zeroHash) (twoHashes zeroHash firstTwo zeroHash ones) ≡ 6
+pub not-always-0 : takeAnswer (opened (lent 49152) 49152 16384 zeroHash) (twoHashes zeroHash firstTwo zeroHash ones) .number ≡ 6
 not-always-0 = a-6

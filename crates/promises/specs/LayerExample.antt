@@ -19,7 +19,7 @@ use Rattle.tree.specs.Values.{layerLeaf}
 use Rattle.cells.specs.Cells.{heldAt, hashAt}
 use Rattle.store.specs.Store.{fileLength, pieceLength, heightOf, positions, factsInRange, storeSize, opened}
 use Rattle.store.specs.StoreLaws.{Facts, opened-usable, opened-facts, opened-file, opened-piece, opened-height, opened-held, opened-hash, tree-says, tree-number}
-use Rattle.pieces.specs.Pieces.{layerOfPieces, layerNumber}
+use Rattle.pieces.specs.Pieces.{layerOfPieces, layerAnswer}
 use Rattle.words.specs.Held.{Holds, NoneDiffers}
 use Rattle.words.specs.Pieces.{Over, atLeaf, above, LayerFormed, LayerSettles}
 use Rattle.knowledge.specs.Again.{what-is-held}
@@ -125,6 +125,6 @@ module _ (a b : List ℕ) (oa : Octets 32 a) (ob : Octets 32 b) (buffer : List �
       sym (k .2) ∙ ap (hashAt fresh) q ∙ hash ∙ layer-settles-once fresh (a ++ b) formed l i (pairHash a b) v y x
 
   -- it is loaded
-  pub loaded-with-two : layerNumber (opened buffer 32768 16384 (pairHash a b)) (a ++ b) ≡ 0
-  unfolding fresh
+  pub loaded-with-two : layerAnswer (opened buffer 32768 16384 (pairHash a b)) (a ++ b) .number ≡ 0
+  unfolding fresh layerAnswer
   loaded-with-two = layer-0 fresh (a ++ b) .1 (formed, record { w = pairHash a b; held = root-held; gives = gives; agree = none })

@@ -154,8 +154,8 @@ module _ (a b c d : List ℕ) (la : length a ≡ 32) (lb : length b ≡ 32) (lc 
         }
 
     -- it is taken,
-    pub first-pair-taken : takeNumber (opened buffer 81920 plen (rootOf a b c d)) (firstPair a b c d) ≡ 0
-    unfolding fresh
+    pub first-pair-taken : takeAnswer (opened buffer 81920 plen (rootOf a b c d)) (firstPair a b c d) .number ≡ 0
+    unfolding fresh takeAnswer
     first-pair-taken = right-then-taken fresh (firstPair a b c d) well right
 
     -- and makes 6 positions newly held

@@ -14,9 +14,9 @@ use Rattle.tree.specs.Geometry.{Padding, height}
 use Rattle.tree.specs.Values.{padValue}
 use Rattle.store.specs.Store.{usable, factsRoot, blocksOf, heightOf}
 use Rattle.runs.specs.Path.{sibling}
-use Rattle.header.specs.Header.{headerOf, messageRoot, isHashes, messageSize}
+use Rattle.header.specs.Header.{headerOf, messageRoot, isHashes, isRequest, isReject, messageSize}
 use Rattle.header.specs.HeaderLaws.{Kept}
-use Rattle.messages.specs.Take.{headerNumber}
+use Rattle.messages.specs.Take.{headerNumber, takeAnswer, rejectAnswer}
 use Rattle.serve.specs.Serve.{serveAnswer, serveAfter}
 use Rattle.words.specs.Held.{Holds, Lacks, NoneDiffers, OneDiffers}
 
@@ -188,6 +188,12 @@ pub data RejectDue (s m : List ℕ) : Type 0 where
 pub data NoRoomFor (s m out : List ℕ) : Type 0 where
   forReply : ValidHeader 21 s m → AllGiven s m → length out < messageSize (headerOf m) → NoRoomFor s m out
   forReject : RejectDue s m → length out < 49 → NoRoomFor s m out
+
+-- a message refused 3, in whichever of the three forms it comes, a request with room for the reject
+pub record Refused3 (s m : List ℕ) : Type 0 where
+  pub hashes : isHashes m ≡ true → takeAnswer s m .number ≡ ruleBroken
+  pub request : (out : List ℕ) → isRequest m ≡ true → 49 ≤ length out → serveAnswer s m out .number ≡ ruleBroken
+  pub reject : isReject m ≡ true → rejectAnswer s m .number ≡ ruleBroken
 
 -- the bytes of the output that the answer counts
 abbrev pub sent : List ℕ → List ℕ → List ℕ → List ℕ
