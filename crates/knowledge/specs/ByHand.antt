@@ -4,27 +4,25 @@ use mathlib.Core.Path.{_≡_, refl, ap, ap₂, _∙_}
 use mathlib.Core.Bool.{Bool, true, false, _&&_}
 use mathlib.Core.List.{List}
 use mathlib.Core.Logic.{inl, inr}
-use Prim.Native.Nat.{ℕ, _+_, _-_, _%_, _^_, _≤_, _<_}
+use Prim.Native.Nat.{ℕ, _+_, _-_, _%_, _≤_, _<_}
 use native.Mathlib.Omega.{arith}
 use lib.ListN.{length}
 use lib.Dec.{eqb, leb, lit<, lit≤}
-use borrow.Author.Tests.{le-ltb, le-leb}
+use borrow.Author.Tests.{le-ltb}
 use Rattle.octets.specs.Octets.{same}
 use Rattle.numbers.specs.Numbers.{ruleBroken}
-use Rattle.tree.specs.Geometry.{nodeNumber, ceilDiv, blockCount, heightFrom, height, covering, pieceLayer, isPieceLength, hasLayer, pieceCount, pieceSize}
+use Rattle.tree.specs.Geometry.{nodeNumber, ceilDiv, blockCount, heightFrom, height}
 use Rattle.cells.specs.Cells.{heldAt}
 use Rattle.cells.specs.EntriesLaws.{lacks}
 use Rattle.store.specs.Store.{usable, fileLength, factsRoot, blocksOf, heightOf, positions, factsInRange, storeSize, opened}
 use Rattle.store.specs.StoreLaws.{opened-height, opened-held}
 use Rattle.runs.specs.Subtree.{subtree}
-use Rattle.runs.specs.Path.{sibling, ancestor, path}
+use Rattle.runs.specs.Path.{sibling, path}
 use Rattle.header.specs.declared.Header.{Header}
 use Rattle.header.specs.declared.Place.{Place}
-use Rattle.header.specs.Header.{headerOf, messageRoot, isHashes, isRequest, isReject, lengthRule, indexRule, rulesKept, placeOf, messageSize}
-use Rattle.messages.specs.Take.{headerNumber, settled, anchor, placeIn, takeNumber, takeAnswer, rejectAnswer}
-use Rattle.messages.specs.TakeLaws.{request-form}
-use Rattle.serve.specs.Serve.{requestNumber, rejectTo, sentBack, serveAnswer}
-use Rattle.serve.specs.ServeLaws.{reject-length}
+use Rattle.header.specs.Header.{headerOf, messageRoot, isHashes, isRequest, isReject, lengthRule, indexRule, rulesKept, placeOf}
+use Rattle.messages.specs.Take.{headerNumber, settled, placeIn, takeNumber, takeAnswer, rejectAnswer}
+use Rattle.serve.specs.Serve.{requestNumber}
 use Rattle.knowledge.specs.TakenEntries.{lacking, count-lacking}
 use Rattle.words.specs.Messages.{Refused3}
 use Rattle.knowledge.specs.ServedWhen.{serve-rejects}

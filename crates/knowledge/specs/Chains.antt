@@ -1,25 +1,19 @@
--- Demand 2: "its hashes chain to its anchor", as a relation on hashes; and that a message is taken exactly when they do.
+-- Demand 2: "its hashes chain to its anchor", as a relation on hashes: there is one hash that they lead to, the one worked out.
 -- Assumes nothing.
 use mathlib.Core.Path.{_≡_, refl, ap, ap₂, _∙_}
-use mathlib.Core.Bool.{true}
 use mathlib.Core.List.{List}
-use Prim.Native.Nat.{ℕ, zero, suc, _+_, _*_, _/_, _%_, _^_, _≤_, _<_}
+use Prim.Native.Nat.{ℕ, zero, suc, _+_, _*_, _/_, _%_, _^_}
 use native.Mathlib.Omega.{arith}
 use native.Mathlib.Nat.{pow-suc, pow-zero}
 use native.Mathlib.Decide.{ℕ-discrete}
 use Rattle.sha256.specs.Sha256.{pairHash}
 use Rattle.tree.specs.GeometryLaws.{left-start, right-start}
 use Rattle.tree.specs.Values.{node}
-use Rattle.cells.specs.Cells.{heldAt, hashAt}
-use Rattle.cells.specs.Entries.{agrees}
-use Rattle.store.specs.Store.{blocksOf}
 use Rattle.runs.specs.Path.{uncle, risen, parentValue}
 use Rattle.runs.specs.PathLaws.{parent-even, parent-odd}
-use Rattle.header.specs.Header.{headerOf}
 use Rattle.header.specs.declared.Place.{Place}
-use Rattle.messages.specs.Take.{given, unclesOf, settled, anchor, worked, padded, placeIn, takeNumber}
-use Rattle.words.specs.Messages.{WellFormed, Makes, alone, pair, Climbs, there, left, right}
-use Rattle.knowledge.specs.TakenWhen.{taken-then-right, right-then-taken}
+use Rattle.messages.specs.Take.{given, unclesOf, worked}
+use Rattle.words.specs.Messages.{Makes, alone, pair, Climbs, there, left, right}
 
 -- the base run makes a hash that leads to w by the message's uncles
 pub record Chain (m : List ℕ) (p : Place) (w : List ℕ) : Type 0 where
@@ -86,24 +80,3 @@ unfolding worked
 chain-is-worked m p w c =
     let t : c .top ≡ node (given m (p .k)) (p .k) 0 = makes-node (given m (p .k)) 0 (2 ^ p .k) (c .top) (c .run) (p .k) 0 (omega arith) refl in
     climbs-risen (unclesOf m (2 ^ p .k) (p .u)) 0 (p .u) (p .top) (c .top) w (c .climb) ∙ ap (risen (unclesOf m (2 ^ p .k) (p .u)) 0 (p .u) (p .top)) t
-
--- ---- taken exactly when
-
--- its padding is right, its anchor is held, its hashes chain to the anchor's hash, and no held hash differs from it
-pub record Believed (s m : List ℕ) : Type 0 where
-  pub padding : padded m (headerOf m) (placeIn s m) (blocksOf s) ≡ true
-  pub held : heldAt s (anchor (placeIn s m)) ≡ true
-  pub chains : Chain m (placeIn s m) (hashAt s (anchor (placeIn s m)))
-  pub agree : agrees s (settled m (placeIn s m)) ≡ true
-
--- A WELL-FORMED MESSAGE IS TAKEN exactly when it is so
-pub taken-then-believed : (s m : List ℕ) → WellFormed s m → takeNumber s m ≡ 0 → Believed s m
-taken-then-believed s m f z =
-    let r = taken-then-right s m f z in
-    record { padding = r .padding; held = r .held; chains = rw (r .chains) (worked-chains m (placeIn s m)); agree = r .agree }
-
--- and a well-formed message that is all this is taken
-pub believed-then-taken : (s m : List ℕ) → WellFormed s m → Believed s m → takeNumber s m ≡ 0
-believed-then-taken s m f b =
-    right-then-taken s m f
-    (record { padding = b .padding; held = b .held; chains = chain-is-worked m (placeIn s m) (hashAt s (anchor (placeIn s m))) (b .chains); agree = b .agree })

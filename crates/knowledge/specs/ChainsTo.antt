@@ -15,7 +15,7 @@ use Rattle.header.specs.Header.{headerOf, isHashes}
 use Rattle.header.specs.HeaderLaws.{Kept, rules-kept, log-some}
 use Rattle.messages.specs.Take.{given, unclesOf, placeIn}
 use Rattle.messages.specs.TakeLaws.{Passed, passed, placed}
-use Rattle.words.specs.Messages.{WellFormed, Makes, alone, pair, Climbs, there, left, right, unclesIn, hashIn, topLayer, topIndex, anchorLayer, anchorIndex, Settles, ChainsTo}
+use Rattle.words.specs.Messages.{WellFormed, Makes, alone, pair, Climbs, there, left, right, hashIn, topLayer, topIndex, anchorLayer, anchorIndex, Settles, ChainsTo}
 use Rattle.knowledge.specs.Chains.{Chain}
 use Rattle.knowledge.specs.Positions.{even-number, given-is, uncle-is, u-is, top-is, anchor-settled}
 

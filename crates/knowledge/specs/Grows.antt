@@ -1,19 +1,17 @@
 -- Demand 3: knowledge only grows.
 -- Assumes nothing.
-use mathlib.Core.Path.{_≡_, refl, ap, ap₂, sym, _∙_, subst}
-use mathlib.Core.Bool.{Bool, true, false, cond, _&&_}
-use mathlib.Core.List.{List, [], _∷_, _++_}
-use Prim.Native.Nat.{ℕ, zero, suc, _+_, _*_, _^_, _≤_, _<_}
-use native.Mathlib.Omega.{arith}
+use mathlib.Core.Path.{_≡_, refl, _∙_}
+use mathlib.Core.Bool.{true}
+use mathlib.Core.List.{List, [], _∷_}
+use Prim.Native.Nat.{ℕ, _^_, _≤_, _<_}
 use native.Mathlib.Decide.{ℕ-discrete}
 use lib.ListN.{length}
-use lib.Dec.{eqb, leb}
 use borrow.Author.Tests.{eq-eqb, ne-eqb}
 use Rattle.cells.specs.Cells.{heldAt, hashAt}
 use Rattle.cells.specs.Entries.{Entry, agrees, putAll}
 use Rattle.cells.specs.EntriesLaws.{Sound, keeps, In, here, there}
-use Rattle.store.specs.Store.{usable, fileLength, pieceLength, factsRoot, blocksOf, heightOf, positions, openAnswer, openAfter, opened, factsInRange, storeSize}
-use Rattle.store.specs.StoreLaws.{Facts, SameFacts, usable-facts, facts-usable, FromRoot, empty, next, putAll-same-facts, putAll-facts, used-same, used-facts, used-held, used-hash}
+use Rattle.store.specs.Store.{heightOf, positions}
+use Rattle.store.specs.StoreLaws.{Facts, SameFacts, FromRoot, empty, next, putAll-same-facts, putAll-facts, used-same, used-facts, used-held, used-hash}
 use Rattle.runs.specs.SettledLaws.{settled-positive}
 use Rattle.tree.specs.Values.{node}
 use Rattle.header.specs.Header.{headerOf}

@@ -22,7 +22,6 @@ use Rattle.runs.specs.Path.{sibling, uncle, ancestor}
 use Rattle.header.specs.Header.{headerOf, isHashes}
 use Rattle.messages.specs.Take.{given, unclesOf, settled, anchor, worked, padded, anchored, placeIn, takeNumber}
 use Rattle.messages.specs.TakeLaws.{Passed, passed}
-use Rattle.words.specs.Held.{Holds, NoneDiffers, OneDiffers, Lacks}
 use Rattle.words.specs.Messages.{WellFormed, anchorLayer, anchorIndex, Settles, ChainsTo, PaddingRight, PaddingWrong, AnchorIs, AnchorLacks, Acceptable, Unanchored, Elsewhere, Conflicting}
 use Rattle.knowledge.specs.TakenWhen.{well-formed-number, right-then-taken, taken-then-right, wrong-padding-then-5, no-anchor-then-6, other-anchor-then-7, held-differs-then-8}
 use Rattle.knowledge.specs.Chains.{worked-chains, chain-is-worked}

@@ -2,7 +2,7 @@
 -- Assumes nothing.
 use mathlib.Core.Path.{_≡_, refl, ap}
 use mathlib.Core.Bool.{Bool, true, false, cond}
-use mathlib.Core.List.{List, [], _∷_}
+use mathlib.Core.List.{List}
 use mathlib.Core.Logic.{inl, inr}
 use Prim.Native.Nat.{ℕ, zero, suc, _^_, _≤_}
 use native.Mathlib.Omega.{arith}
@@ -23,7 +23,7 @@ use Rattle.messages.specs.Take.{headerNumber, takeAnswer, rejectAnswer}
 use Rattle.serve.specs.Serve.{serveAnswer}
 use Rattle.pieces.specs.Pieces.{judgedAt, layerNumber, layerAnswer, blockNumber, blockAnswer, pieceHeight, pieceNumber, pieceAnswer}
 use Rattle.words.specs.History.{Call, take, takeReject, serve, held, loadLayer, judgeBlock, judgePiece, reopen, answer, number, after}
-use Rattle.words.specs.Answers.{table, Listed, first, later, InTable, ServeOutcome, replied, rejected, untouched, Beside, noCount, zeroBytes, reject}
+use Rattle.words.specs.Answers.{first, later, InTable, ServeOutcome, replied, rejected, untouched, Beside, noCount, zeroBytes, reject}
 use Rattle.knowledge.specs.Refusals.{opening-refused, message-refused, layer-not-loaded, served, message-number-in-table}
 use Rattle.knowledge.specs.Verdicts.{gated}
 

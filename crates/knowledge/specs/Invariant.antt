@@ -233,30 +233,6 @@ chained-opened b n plen root size z = by (factsInRange n plen) (leb (storeSize n
     by true false p q = let w : ⊥ = unfold openAnswer in omega (arith, rw (p, q) at z) in absurd w
     by false y p q = let w : ⊥ = unfold openAnswer in omega (arith, rw p at z) in absurd w
 
--- a message
-pub chained-take : (s m : List ℕ) → Chained s → Chained (takeAfter s m)
-unfolding takeAfter
-chained-take s m c =
-    elim (ℕ-discrete (takeNumber s m) 0) [
-      | yes z ↦
-          let w = taken-then-right s m (taken-well-formed s m z) z in
-          rw (eq-eqb (takeNumber s m) 0 z)
-          (chained-putAll s (settled m (placeIn s m)) (anchor (placeIn s m)) c (message-whole s m (taken-ready s m (takeNumber s m) refl z)) (w .held) (w .agree))
-      | no ne ↦ rw (ne-eqb (takeNumber s m) 0 ne) c
-    ]
-
--- a layer
-pub chained-layer : (s l : List ℕ) → Chained s → Chained (layerAfter s l)
-unfolding layerSettled
-chained-layer s l c =
-    elim (ℕ-discrete (layerNumber s l) 0) [
-      | yes z ↦
-          let w = layer-loads s l z in
-          rw (layer-taken s l z)
-          (chained-putAll s (layerSettled s l) 1 c (layer-whole s l (loads-layered s l w)) (w .root .held) (w .root .agree))
-      | no ne ↦ rw (layer-refused s l ne) c
-    ]
-
 -- ---- and the padding
 
 -- the padding clause, by positions' numbers

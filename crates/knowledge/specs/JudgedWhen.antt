@@ -25,8 +25,8 @@ use Rattle.store.specs.StoreLaws.{Facts, usable-facts, facts-leaves}
 use Rattle.runs.specs.Subtree.{subtree}
 use Rattle.pieces.specs.Pieces.{judgedAt, layerOfPieces, layerNumber, blockNumber, pieceHeight, pieceNumber}
 use Rattle.pieces.specs.PiecesLaws.{layered, placed}
-use Rattle.words.specs.Held.{Holds, Hashes, Lacks, Fits, Misfits, Clashes}
-use Rattle.words.specs.Pieces.{Over, LayerFormed, LayerSettles, BlockFormed, OtherLeaf, PieceFormed, PieceSettles}
+use Rattle.words.specs.Held.{Holds, Lacks, Fits, Misfits, Clashes}
+use Rattle.words.specs.Pieces.{LayerFormed, LayerSettles, BlockFormed, OtherLeaf, PieceFormed, PieceSettles}
 use Rattle.knowledge.specs.Differing.{not-both}
 use Rattle.knowledge.specs.Verdicts.{judged-0, judged-6, judged-7, judged-8, judged-not, gated, gated-9, gated-3, gated-4, gated-on, marked-holds, holds-marked, marked-lacks, lacks-marked, judged-fits, judged-lacks, judged-misfits, judged-clashes}
 

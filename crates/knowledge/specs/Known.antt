@@ -6,7 +6,6 @@ use mathlib.Core.List.{List}
 use mathlib.Core.Logic.{_⊎_, inl, inr}
 use Prim.Native.Nat.{ℕ, _+_, _-_, _*_, _/_, _^_, _≤_, _<_}
 use native.Mathlib.Omega.{arith}
-use lib.ListN.{length}
 use Rattle.tree.specs.Geometry.{height, nodeNumber, blockSize, pieceCount}
 use Rattle.tree.specs.Values.{node, leafOf, blockOf}
 use Rattle.cells.specs.EntriesLaws.{Has, has-same}
@@ -21,7 +20,7 @@ use Rattle.messages.specs.TakeLaws.{Passed, passed}
 use Rattle.pieces.specs.Pieces.{blockNumber, pieceHeight, pieceNumber, layerNumber}
 use Rattle.words.specs.Held.{Holds}
 use Rattle.words.specs.History.{Bytes, OurStore}
-use Rattle.words.specs.Messages.{WellFormed, unclesIn, hashIn, topLayer, topIndex, anchorLayer, anchorIndex}
+use Rattle.words.specs.Messages.{topLayer, topIndex, anchorLayer, anchorIndex}
 use Rattle.words.specs.Shown.{heldBy, byPiece, ofFile, OneHash, Shown}
 use Rattle.words.specs.File.{For, pieceFor, layerFor, TrueHashes, PieceIs, theFiles, storeShows, pieceShows, blockShows}
 use Rattle.knowledge.specs.Again.{what-is-held}

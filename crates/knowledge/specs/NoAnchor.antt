@@ -12,8 +12,8 @@ use Rattle.numbers.specs.Numbers.{noAnchor}
 use Rattle.sha256.specs.declared.Hashed.{Hashed}
 use Rattle.tree.specs.Geometry.{nodeNumber}
 use Rattle.cells.specs.Cells.{heldAt}
-use Rattle.store.specs.Store.{usable, heightOf, heldAnswer}
-use Rattle.store.specs.StoreLaws.{usable-facts, held-unusable, held-not}
+use Rattle.store.specs.Store.{heightOf, heldAnswer}
+use Rattle.store.specs.StoreLaws.{usable-facts, held-not}
 use Rattle.header.specs.Header.{headerOf, isHashes}
 use Rattle.messages.specs.Take.{headerNumber, anchor, bodyNumber, placeIn, orElse, takeNumber, takeAfter, takeAnswer}
 use Rattle.messages.specs.TakeLaws.{Passed, passed, passes}
@@ -63,12 +63,6 @@ module _ {s t : List ℕ} (m : List ℕ) (six : takeNumber s m ≡ noAnchor) (h 
       by : (b : Bool) → heldAt t (nodeNumber (heightOf t) (anchorLayer m) (anchorIndex m)) ≡ b → heldAnswer t (anchorLayer m) (anchorIndex m) .number ≡ noAnchor
       by true q = absurd (anchor-held-not-6 t m (ap (heldAt t) (anchor-number (isHashes m) t m there) ∙ q) e)
       by false q = sym (ap (λ (r : Hashed). r .number) (held-not t (anchorLayer m) (anchorIndex m) (there .store) (anchor-in-tree (isHashes m) t m there) q))
-
-  -- so 6 of the reply and 6 of kd_held for its anchor go together
-  pub six-exactly-while-not-held :
-      (takeNumber t m ≡ noAnchor → heldAnswer t (anchorLayer m) (anchorIndex m) .number ≡ noAnchor)
-      × (heldAnswer t (anchorLayer m) (anchorIndex m) .number ≡ noAnchor → takeNumber t m ≡ noAnchor)
-  six-exactly-while-not-held = (six-then-not-held, λ e. not-held-then-6 (λ z. omega arith))
 
 -- ONLY "NO ANCHOR" CAN CHANGE: the number that a reply got is another at a later offer exactly if it was 6 and kd_held gives its anchor by then
 pub changes-exactly-when : {t : List ℕ} (s m : List ℕ) → Steps (takeAfter s m) t

@@ -22,7 +22,7 @@ use Rattle.runs.specs.SubtreeLaws.{FamilyIn, subtree-has, run-leaf-in}
 use Rattle.runs.specs.Path.{sibling, uncle, ancestor, parentValue, path}
 use Rattle.runs.specs.PathLaws.{path-cases, sibling-even, sibling-odd, sibling-below, parent-even, parent-odd}
 use Rattle.runs.specs.SettledLaws.{settled-consistent, settled-family}
-use Rattle.header.specs.Header.{headerOf, isHashes, placeOf, messageSize}
+use Rattle.header.specs.Header.{headerOf, isHashes, placeOf}
 use Rattle.header.specs.HeaderLaws.{Kept, rules-kept, log-some, top-inside}
 use Rattle.messages.specs.Take.{runOf, given, unclesOf, settled, anchor, worked, placeIn}
 use Rattle.messages.specs.TakeLaws.{Passed, passed, placed}
@@ -69,10 +69,6 @@ module _ (s m : List ℕ) (W : WellFormed s m) where
   pub top-is : placeIn s m .top ≡ nodeNumber (heightOf s) (topLayer m) (topIndex m)
   unfolding placeOf
   top-is = refl
-
-  whole-size : 49 + 32 * (headerOf m .len + unclesIn m) ≡ length m
-  unfolding messageSize
-  whole-size = sym (W .size)
 
   -- hash j of the base run, and uncle j, are the message's hashes in their order
   pub given-is : (j : ℕ) → j < 2 ^ placeIn s m .k → given m (placeIn s m .k) j ≡ hashIn m j

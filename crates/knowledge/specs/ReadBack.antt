@@ -13,7 +13,7 @@ use Rattle.octets.specs.Octets.{cut}
 use Rattle.octets.specs.OctetsLaws.{cut-cut}
 use Rattle.tree.specs.Geometry.{height, nodeNumber}
 use Rattle.cells.specs.Cells.{heldAt, hashAt}
-use Rattle.store.specs.Store.{blocksOf, heightOf, positions, inTree}
+use Rattle.store.specs.Store.{blocksOf, heightOf, inTree}
 use Rattle.store.specs.StoreLaws.{Facts, usable-facts, facts-usable, facts-leaves, held-given}
 use Rattle.sha256.specs.declared.Hashed.{Hashed}
 use Rattle.runs.specs.Path.{sibling, uncle, ancestor}

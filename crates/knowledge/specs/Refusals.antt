@@ -1,28 +1,27 @@
 -- Demand 1: every entry point answers with a number from the table, and on a refusal changes no byte it was lent, save for the
 -- reject message that a refused request gets. (That nothing is asked of the caller is seen in the contracts: none has a `requires`.)
 -- Assumes nothing.
-use mathlib.Core.Path.{_≡_, refl, ap, ap₂, sym, _∙_}
-use mathlib.Core.Bool.{Bool, true, false, cond, _&&_}
-use mathlib.Core.List.{List, [], _∷_, _++_}
+use mathlib.Core.Path.{_≡_, refl, ap, sym, _∙_}
+use mathlib.Core.Bool.{Bool, true, false, cond}
+use mathlib.Core.List.{List}
 use mathlib.Core.Logic.{_⊎_, inl, inr}
-use Prim.Native.Nat.{ℕ, zero, suc, _+_, _≤_, _<_}
+use Prim.Native.Nat.{ℕ, _≤_}
 use native.Mathlib.Omega.{arith}
-use native.Mathlib.Decide.{ℕ-discrete, decLe}
+use native.Mathlib.Decide.{decLe}
 use lib.ListN.{length}
 use lib.Dec.{eqb, leb}
-use borrow.Author.Tests.{eq-eqb, ne-eqb}
-use Rattle.octets.specs.Octets.{same, pasted}
+use Rattle.octets.specs.Octets.{same}
 use Rattle.numbers.specs.Numbers.{refused, judged}
 use Rattle.numbers.specs.declared.Answer.{Answer}
 use Rattle.cells.specs.Cells.{heldAt, hashAt}
 use Rattle.cells.specs.Entries.{agrees}
 use Rattle.store.specs.Store.{usable, factsRoot, blocksOf, heightOf, openAnswer, openAfter, factsInRange, storeSize}
 use Rattle.header.specs.Header.{headerOf, isHashes, messageRoot, rulesKept, messageSize}
-use Rattle.messages.specs.Take.{headerNumber, settled, anchor, worked, padded, anchored, bodyNumber, placeIn, orElse, takeNumber, takeAfter, takeAnswer, rejectAnswer}
+use Rattle.messages.specs.Take.{headerNumber, settled, anchor, worked, padded, anchored, bodyNumber, placeIn, orElse, takeNumber, takeAfter, takeAnswer}
 use Rattle.messages.specs.TakenLaws.{take-refused}
-use Rattle.serve.specs.Serve.{requestNumber, rejectTo, replyTo, serveAnswer, serveAfter}
-use Rattle.serve.specs.ServeLaws.{fitAnswer, fitAfter, fits-sent, fits-not, served-none, served-reply, served-reject, answered-form, reject-length, request-numbers, ServeNumber}
-use Rattle.pieces.specs.Pieces.{layerNumber, layerAfter, layerAnswer}
+use Rattle.serve.specs.Serve.{requestNumber, rejectTo, replyTo}
+use Rattle.serve.specs.ServeLaws.{fits-sent, fits-not, served-none, served-reply, served-reject, answered-form, reject-length}
+use Rattle.pieces.specs.Pieces.{layerAfter, layerAnswer}
 use Rattle.pieces.specs.PiecesLaws.{layer-refused, layer-refused-count}
 use Rattle.words.specs.Messages.{Rejected}
 use Rattle.words.specs.Answers.{ServeOutcome, replied, rejected, untouched}

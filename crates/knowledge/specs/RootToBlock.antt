@@ -20,7 +20,7 @@ use Rattle.tree.specs.ValuesLaws.{leaf-octets, leaf-block, block-bytes, piece-b
 use Rattle.cells.specs.Cells.{heldAt, hashAt}
 use Rattle.cells.specs.Entries.{Entry, agrees}
 use Rattle.cells.specs.EntriesLaws.{In, Has, has-same, apart-consistent, agrees-held, agrees-in, in-agrees}
-use Rattle.store.specs.Store.{fileLength, pieceLength, factsRoot, blocksOf, heightOf, positions}
+use Rattle.store.specs.Store.{fileLength, pieceLength, blocksOf, heightOf, positions}
 use Rattle.store.specs.StoreLaws.{Facts, facts-usable, facts-leaves}
 use Rattle.runs.specs.Span.{Within}
 use Rattle.runs.specs.Subtree.{subtree}

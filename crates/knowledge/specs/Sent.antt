@@ -8,7 +8,6 @@ use native.Mathlib.Omega.{arith}
 use native.Mathlib.Decide.{decLe}
 use lib.ListN.{length}
 use lib.Dec.{leb}
-use Rattle.octets.specs.Octets.{cut}
 use Rattle.octets.specs.OctetsLaws.{cut-pasted-same}
 use Rattle.numbers.specs.Numbers.{refused, done}
 use Rattle.numbers.specs.declared.Answer.{Answer}
@@ -16,7 +15,7 @@ use Rattle.sha256.specs.Sha256.{pairHash}
 use Rattle.runs.specs.Path.{sibling}
 use Rattle.header.specs.Header.{headerOf, messageRoot, isHashes, messageSize}
 use Rattle.messages.specs.Take.{takeNumber, takeAfter, takeAnswer}
-use Rattle.serve.specs.Serve.{requestNumber, replyTo, sentBack, unanswered, serveAnswer, serveAfter}
+use Rattle.serve.specs.Serve.{requestNumber, replyTo, sentBack, unanswered, serveAnswer}
 use Rattle.serve.specs.ServeLaws.{fits-sent, fits-not, served-reply}
 use Rattle.words.specs.Held.{Holds}
 use Rattle.words.specs.History.{OurStore}

@@ -25,7 +25,6 @@ use Rattle.messages.specs.Take.{headerNumber, placeIn, orElse, rejectAnswer}
 use Rattle.messages.specs.TakeLaws.{passes}
 use Rattle.serve.specs.Serve.{allHeld, requestNumber, replyTo, rejectTo, serveAnswer, serveAfter}
 use Rattle.serve.specs.ServeLaws.{fitAfter, head-same, held-run-all, held-uncles-all, request-zero, fitAnswer, served-none, served-reply, served-reject, answered-form, reject-length, fits-sent, fits-not}
-use Rattle.words.specs.Held.{Holds}
 use Rattle.words.specs.Messages.{unclesIn, topLayer, topIndex, sent, Form, ValidHeader, AllGiven, Rejected, RejectDue, forRoot, forRule, forHash, NoRoomFor, forReply, forReject}
 use Rattle.knowledge.specs.Again.{what-is-held}
 use Rattle.knowledge.specs.ReadBack.{run-number, uncle-number, reply-has-header, run-reads-back, uncle-reads-back}

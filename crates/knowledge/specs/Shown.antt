@@ -1,13 +1,11 @@
 -- 01, "The store": when two different 64-byte strings with one SHA-256 are *shown*, by layer and index.
 -- Assumes nothing.
 use mathlib.Core.Path.{_≡_, refl, ap, sym, _∙_, subst}
-use mathlib.Core.List.{List, _++_}
+use mathlib.Core.List.{List}
 use Prim.Native.Nat.{ℕ, zero, suc, _+_, _-_, _*_, _^_, _≤_, _<_}
 use native.Mathlib.Omega.{arith}
 use lib.ListN.{length}
 use lib.Pow.{pow-pos}
-use Rattle.octets.specs.Octets.{Octets}
-use Rattle.sha256.specs.Sha256.{sha256}
 use Rattle.tree.specs.Geometry.{blockCount, height, nodeNumber}
 use Rattle.tree.specs.GeometryLaws.{node-number-covers, node-number-left, node-number-right, node-number-root}
 use Rattle.tree.specs.Values.{node, leafOf, layerLeaf}
@@ -18,7 +16,7 @@ use Rattle.runs.specs.Subtree.{subtree}
 use Rattle.pieces.specs.Pieces.{layerOfPieces, layerSettled, pieceHeight}
 use Rattle.pieces.specs.PiecesLaws.{layered, placed}
 use Rattle.words.specs.Held.{Holds}
-use Rattle.words.specs.Messages.{WellFormed, Settles}
+use Rattle.words.specs.Messages.{WellFormed}
 use Rattle.words.specs.Shown.{Source, heldBy, byMessage, byLayer, byPiece, ofFile, Gives, Shown}
 use Rattle.words.specs.File.{For}
 use Rattle.words.specs.Pieces.{LayerFormed, LayerSettles, PieceFormed, PieceSettles}

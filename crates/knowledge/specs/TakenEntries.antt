@@ -12,13 +12,13 @@ use Rattle.tree.specs.Values.{node}
 use Rattle.cells.specs.Cells.{Room, heldAt, hashAt, put}
 use Rattle.cells.specs.CellsLaws.{put-room, held-put-other}
 use Rattle.cells.specs.Entries.{Entry, putAll, oneIf, newly}
-use Rattle.cells.specs.EntriesLaws.{lacks, fresh, lacks-held, lacks-small, Sound, sound-in, In, here, there, Has, Apart, entries-held, held-or-entry, keeps, count-fresh}
+use Rattle.cells.specs.EntriesLaws.{lacks, fresh, lacks-held, lacks-small, Sound, In, here, there, Has, Apart, entries-held, held-or-entry, count-fresh}
 use Rattle.store.specs.Store.{heightOf, positions}
 use Rattle.runs.specs.Subtree.{subtree}
 use Rattle.runs.specs.SubtreeLaws.{subtree-length}
 use Rattle.runs.specs.Path.{path}
 use Rattle.runs.specs.PathLaws.{path-length}
-use Rattle.runs.specs.SettledLaws.{settled-apart, settled-consistent, settled-anchor, settled-positive}
+use Rattle.runs.specs.SettledLaws.{settled-apart, settled-consistent, settled-anchor}
 use Rattle.header.specs.Header.{headerOf}
 use Rattle.messages.specs.Take.{unclesOf, given, settled, anchor, placeIn, takeNumber, takeAfter, takeAnswer}
 use Rattle.messages.specs.TakenLaws.{ready-settled, taken-ready}
@@ -42,12 +42,6 @@ module _ (s m : List ℕ) (z : takeNumber s m ≡ 0) where
       (entries-held (positions (heightOf s)) (settled m (placeIn s m)) s (r .room) sound
       (settled-consistent (given m (p .k)) (unclesOf m (2 ^ p .k) (p .u)) (p .k) (p .top) 0 0 (p .u) (node (given m (p .k)) (p .k) 0) (r .anchor)) e i)
 
-  -- what was held stays, with the same bytes
-  pub held-stays : (q : ℕ) → q < positions (heightOf s) → heldAt s q ≡ true → (heldAt (takeAfter s m) q ≡ true) × (hashAt (takeAfter s m) q ≡ hashAt s q)
-  held-stays q l h =
-      let r = taken-ready s m (takeNumber s m) refl z in
-      rw taken-is (keeps (positions (heightOf s)) (settled m (placeIn s m)) s (r .room) sound (taken-then-right s m (taken-well-formed s m z) z .agree) q l h)
-
   -- and no others
   pub no-others : (q : ℕ) → heldAt (takeAfter s m) q ≡ true → (heldAt s q ≡ true) ⊎ ((v : List ℕ) × Has q v (settled m (placeIn s m)))
   no-others q h =
@@ -66,16 +60,6 @@ module _ (s m : List ℕ) (z : takeNumber s m ≡ 0) where
         length-append A B,
         subtree-length (given m (p .k)) (p .k) (p .top) 0,
         path-length (unclesOf m (2 ^ p .k) (p .u)) 0 (p .u) (p .top) (node (given m (p .k)) (p .k) 0),
-      )
-
-  -- in the tree: the root has number 1, and every position a number below positions h
-  pub settled-in-tree : (e : Entry) → In e (settled m (placeIn s m)) → (1 ≤ e .at) × (e .at < positions (heightOf s))
-  unfolding settled
-  settled-in-tree e i =
-      let p = placeIn s m in
-      let r = taken-ready s m (takeNumber s m) refl z in (
-        settled-positive (given m (p .k)) (unclesOf m (2 ^ p .k) (p .u)) (p .k) (p .top) 0 0 (p .u) (node (given m (p .k)) (p .k) 0) (r .anchor) e i,
-        sound-in (settled m (placeIn s m)) sound i .0,
       )
 
   -- distinct

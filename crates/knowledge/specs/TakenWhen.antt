@@ -1,9 +1,9 @@
 -- Demand 2: when a message that passes 9, 1, 2, 3 and 4 gets 0, 5, 6, 7 or 8.
 -- Assumes nothing.
-use mathlib.Core.Path.{_≡_, refl, ap, ap₂, sym, _∙_}
-use mathlib.Core.Bool.{Bool, true, false, cond, _&&_, false≢true}
+use mathlib.Core.Path.{_≡_, refl, sym, _∙_}
+use mathlib.Core.Bool.{Bool, true, false, cond}
 use mathlib.Core.List.{List}
-use Prim.Native.Nat.{ℕ, zero, suc, _+_, _*_, _^_, _≤_, _<_}
+use Prim.Native.Nat.{ℕ}
 use native.Mathlib.Omega.{arith}
 use native.Mathlib.Decide.{ℕ-discrete}
 use lib.ListN.{length}
@@ -14,10 +14,9 @@ use Rattle.octets.specs.OctetsLaws.{same-true, same-eq, same-ne}
 use Rattle.numbers.specs.Numbers.{wrongSize, wrongPadding, noAnchor, differs, conflict, judged}
 use Rattle.cells.specs.Cells.{heldAt, hashAt}
 use Rattle.cells.specs.Entries.{agrees}
-use Rattle.store.specs.Store.{blocksOf, heightOf}
+use Rattle.store.specs.Store.{blocksOf}
 use Rattle.header.specs.Header.{headerOf, isHashes, messageSize}
-use Rattle.messages.specs.Take.{headerNumber, settled, anchor, worked, padded, anchored, bodyNumber, placeIn, orElse, takeNumber, takeAfter}
-use Rattle.messages.specs.TakeLaws.{Passed, passed, passes}
+use Rattle.messages.specs.Take.{headerNumber, settled, anchor, worked, padded, anchored, bodyNumber, placeIn, orElse, takeNumber}
 use Rattle.words.specs.Messages.{WellFormed}
 
 -- its padding is right, its anchor is held, its hashes chain to the anchor, and no held hash differs from it

@@ -1,13 +1,12 @@
 -- Demand 2, for a layer and a piece alike: a position is judged against the hash that leaves below it give, 6, 7, 8 or 0 each exactly
 -- when 01 says, with "held" as kd_held answers.
 -- Assumes nothing.
-use mathlib.Core.Path.{_≡_, refl, ap, sym, _∙_}
+use mathlib.Core.Path.{_≡_, refl, sym, _∙_}
 use mathlib.Core.Bool.{Bool, true, false, cond}
 use mathlib.Core.List.{List}
 use mathlib.Core.Logic.{inl, inr, _↔_}
 use Prim.Native.Nat.{ℕ, _+_, _-_, _^_, _≤_, _<_}
 use native.Mathlib.Omega.{arith}
-use borrow.Author.Tests.{le-leb, lt-ltb}
 use Rattle.octets.specs.Octets.{same}
 use Rattle.octets.specs.OctetsLaws.{same-true, same-eq, same-false, same-ne}
 use Rattle.numbers.specs.Numbers.{ruleBroken, wrongSize, noAnchor, differs, conflict, unusable, judged}
@@ -16,11 +15,11 @@ use Rattle.tree.specs.Geometry.{nodeNumber}
 use Rattle.tree.specs.Values.{node}
 use Rattle.cells.specs.Cells.{heldAt, hashAt}
 use Rattle.cells.specs.Entries.{agrees}
-use Rattle.store.specs.Store.{heightOf, inTree, heldAnswer}
-use Rattle.store.specs.StoreLaws.{Facts, facts-usable, held-not}
+use Rattle.store.specs.Store.{heightOf}
+use Rattle.store.specs.StoreLaws.{Facts}
 use Rattle.runs.specs.Subtree.{subtree}
 use Rattle.pieces.specs.Pieces.{judgedAt}
-use Rattle.words.specs.Held.{Holds, Hashes, NoneDiffers, OneDiffers, Lacks, Fits, Misfits, Clashes}
+use Rattle.words.specs.Held.{Holds, Lacks, Fits, Misfits, Clashes}
 use Rattle.words.specs.Pieces.{Over}
 use Rattle.knowledge.specs.Again.{what-is-held}
 use Rattle.knowledge.specs.ReadBack.{holds-at}
@@ -117,15 +116,6 @@ module _ (s : List ℕ) (f : Facts s) (l i : ℕ) (lh : l ≤ heightOf s) (ib : 
   pub lacks-marked : Lacks s l i → heldAt s (nodeNumber (heightOf s) l i) ≡ false
   lacks-marked g =
       elim (either (heldAt s (nodeNumber (heightOf s) l i))) [ inl t ↦ absurd (g (hashAt s (nodeNumber (heightOf s) l i)) (marked-holds t)) | inr x ↦ x ]
-
-  -- NOT HELD is what kd_held answers 6 for, at a position of the tree
-  pub lacks-exactly : Lacks s l i ↔ (heldAnswer s l i .number ≡ noAnchor)
-  unfolding inTree
-  lacks-exactly =
-      let t : inTree (heightOf s) l i ≡ true = rw (le-leb l (heightOf s) lh, lt-ltb i (2 ^ (heightOf s - l)) ib) in (
-        λ g. sym (ap (λ (r : Hashed). r .number) (held-not s l i (facts-usable s f) t (lacks-marked g))),
-        λ e w h. let z : ⊥ = omega (arith, h .given) in z,
-      )
 
 -- ---- a position against leaves below it
 

@@ -14,10 +14,9 @@ use Rattle.store.specs.Store.{heightOf}
 use Rattle.runs.specs.Path.{sibling}
 use Rattle.header.specs.Header.{headerOf, messageRoot, isHashes, isReject, messageSize}
 use Rattle.messages.specs.Take.{takeAnswer, takeAfter}
-use Rattle.messages.specs.TakeLaws.{passed}
 use Rattle.serve.specs.Serve.{serveAnswer}
 use Rattle.pieces.specs.Pieces.{layerOfPieces, layerAnswer, layerAfter}
-use Rattle.words.specs.Held.{Holds, Fits, All, unheldAmong}
+use Rattle.words.specs.Held.{Holds, All, unheldAmong}
 use Rattle.words.specs.Messages.{unclesIn, hashIn, topLayer, topIndex, anchorLayer, anchorIndex, Settles, ChainsTo, Ruled, WellFormed, Acceptable, Rejected, sent}
 use Rattle.words.specs.Pieces.{LayerFormed, LayerSettles}
 use Rattle.words.specs.History.{OurStore}

@@ -24,7 +24,7 @@ use Rattle.header.specs.declared.Header.{Header}
 use Rattle.header.specs.declared.Place.{Place}
 use Rattle.header.specs.Header.{headerOf, messageSize, placeOf, rulesKept, lengthRule, indexRule}
 use Rattle.messages.specs.Padded.{allFrom, runPadded, unclePadded, unclesPadded}
-use Rattle.messages.specs.Take.{unclesOf, given, settled, anchor, worked, padded, placeIn, takeNumber, takeAnswer}
+use Rattle.messages.specs.Take.{unclesOf, given, settled, anchor, worked, padded, placeIn, takeAnswer}
 use Rattle.words.specs.Messages.{WellFormed}
 use Rattle.knowledge.specs.TakenWhen.{Right, right-then-taken}
 use Rattle.promises.specs.Offered.{offered, offered-header, offered-past, first-given, second-given, well-formed-in}

@@ -1,32 +1,22 @@
 -- 01, "Worked by hand": the lines marked P, in the order of 01, each above its theorem. The lines without P are run and compared by the
 -- program `worked`.
 -- Assumes nothing.
-use mathlib.Core.Path.{_≡_, refl, ap, ap₂, _∙_}
-use mathlib.Core.Bool.{Bool, true, false, _&&_}
+use mathlib.Core.Path.{_≡_, refl, ap, _∙_}
+use mathlib.Core.Bool.{true, false}
 use mathlib.Core.List.{List}
-use Prim.Native.Nat.{ℕ, _+_, _-_, _%_, _^_, _≤_, _<_}
-use native.Mathlib.Omega.{arith}
+use Prim.Native.Nat.{ℕ, _-_, _^_, _≤_}
 use lib.ListN.{length}
-use lib.Dec.{eqb, leb, lit<, lit≤}
-use borrow.Author.Tests.{le-ltb, le-leb}
 use Rattle.octets.specs.Octets.{same}
 use Rattle.numbers.specs.Numbers.{ruleBroken}
 use Rattle.tree.specs.Geometry.{nodeNumber, ceilDiv, blockCount, heightFrom, height, covering, pieceLayer, isPieceLength, hasLayer, pieceCount, pieceSize}
-use Rattle.cells.specs.Cells.{heldAt}
-use Rattle.cells.specs.EntriesLaws.{lacks}
-use Rattle.store.specs.Store.{usable, fileLength, factsRoot, blocksOf, heightOf, positions, factsInRange, storeSize, opened}
-use Rattle.store.specs.StoreLaws.{opened-height, opened-held}
-use Rattle.runs.specs.Subtree.{subtree}
-use Rattle.runs.specs.Path.{sibling, ancestor, path}
+use Rattle.store.specs.Store.{usable, fileLength, factsRoot, blocksOf, heightOf, factsInRange, storeSize, opened}
+use Rattle.runs.specs.Path.{ancestor}
 use Rattle.header.specs.declared.Header.{Header}
 use Rattle.header.specs.declared.Place.{Place}
-use Rattle.header.specs.Header.{headerOf, messageRoot, isHashes, isRequest, isReject, lengthRule, indexRule, rulesKept, placeOf, messageSize}
-use Rattle.messages.specs.Take.{headerNumber, settled, anchor, placeIn, takeNumber, takeAnswer, rejectAnswer}
-use Rattle.messages.specs.TakeLaws.{request-form}
-use Rattle.serve.specs.Serve.{requestNumber, rejectTo, sentBack, serveAnswer}
-use Rattle.serve.specs.ServeLaws.{reject-length}
-use Rattle.knowledge.specs.TakenEntries.{lacking, count-lacking}
-use Rattle.words.specs.Messages.{unclesIn, Refused3}
+use Rattle.header.specs.Header.{headerOf, messageRoot, isRequest, lengthRule, indexRule, rulesKept, placeOf, messageSize}
+use Rattle.messages.specs.Take.{anchor, takeAnswer}
+use Rattle.serve.specs.Serve.{serveAnswer}
+use Rattle.words.specs.Messages.{Refused3}
 use Rattle.knowledge.specs.ByHand.{broken-3, of-five, no-rule-at-height-0}
 
 -- "N=1, h=0: every request of 49 bytes for its root, with room for the reject, is 3."
