@@ -4,7 +4,6 @@ pub mod Demand3
 pub mod EachNumber
 pub mod FromRootToBlock
 pub mod Worked
-pub mod OneOutcome
 pub mod Lent
 pub mod Offered
 pub mod Example
