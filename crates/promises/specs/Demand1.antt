@@ -28,7 +28,7 @@ sha256-in-table = Rattle.knowledge.specs.InTable.hash-in-table
 pub size-in-table : (n plen : ℕ) → InTable (sizeAnswer n plen .number)
 size-in-table = Rattle.knowledge.specs.InTable.size-in-table
 
--- "asks nothing of its caller,": no contract of crates/kombudeva has a `requires`.
+-- "asks nothing of its caller,": crates/contracts, read from the contracts.
 
 -- "and on a refusal changes no byte it was lent,": of the store,
 pub refusal-leaves-store : (c : Call) (s : List ℕ) → (number c s ≡ 0 → ⊥) → after c s ≡ s
