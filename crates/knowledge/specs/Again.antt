@@ -31,7 +31,7 @@ use Rattle.messages.specs.TakeLaws.{Passed, passed, Placed, placed, Ready, plac
 use Rattle.messages.specs.TakenLaws.{ready-settled, taken-ready}
 use Rattle.words.specs.Held.{Holds}
 use Rattle.words.specs.History.{Steps}
-use Rattle.knowledge.specs.Through.{Kept, through}
+use Rattle.knowledge.specs.Through.{Preserved, through}
 use Rattle.knowledge.specs.TakenWhen.{taken-well-formed}
 use Rattle.knowledge.specs.Grows.{Grown, grown-take, grown-on, steps-grow}
 
@@ -223,7 +223,7 @@ unusable-stays s u h = through (λ (t : List ℕ). t ≡ s) each h refl
     refused : (m : List ℕ) → takeAfter s m ≡ s
     refused m = unfold takeAfter takeNumber headerNumber in rw u
 
-    each : Kept (λ (t : List ℕ). t ≡ s)
+    each : Preserved (λ (t : List ℕ). t ≡ s)
     each =
         record {
           taken = λ t m b e. rw e (refused m);

@@ -20,7 +20,7 @@ use Rattle.messages.specs.TakenLaws.{ready-settled, taken-ready}
 use Rattle.pieces.specs.Pieces.{layerNumber, layerAfter}
 use Rattle.pieces.specs.PiecesLaws.{layer-refused, layer-same-facts, layer-facts, layer-keeps}
 use Rattle.words.specs.History.{SameStore, Steps}
-use Rattle.knowledge.specs.Through.{Kept, through}
+use Rattle.knowledge.specs.Through.{Preserved, through}
 use Rattle.knowledge.specs.TakenWhen.{taken-then-right, taken-well-formed}
 
 -- the facts are the same, and what s holds t holds with the same bytes
@@ -116,7 +116,7 @@ grown-moved s t f e =
 pub steps-grow : {s t : List ℕ} → Facts s → Steps s t → Grown s t
 steps-grow {s} f h = through (Grown s) each h (grown-same s f)
   where
-    each : Kept (Grown s)
+    each : Preserved (Grown s)
     each =
         record {
           taken = λ t m b g. grown-on g (grown-take t m (g .facts));

@@ -22,12 +22,12 @@ reopen-refused s n plen root ne = by (factsInRange n plen) (leb (storeSize n) (l
     by false b p q = rw p
 
 -- a property of a store's bytes that each step keeps: the calls that write, and other bytes behind the store
-pub record Kept (P : List ℕ → Type 0) : Type 0 where
+pub record Preserved (P : List ℕ → Type 0) : Type 0 where
   pub taken : (s m : List ℕ) → Bytes m → P s → P (takeAfter s m)
   pub loaded : (s l : List ℕ) → Bytes l → P s → P (layerAfter s l)
   pub moved : (s t : List ℕ) → Bytes t → SameStore s t → P s → P t
 
-module _ (P : List ℕ → Type 0) (k : Kept P) where
+module _ (P : List ℕ → Type 0) (k : Preserved P) where
   by-call : (c : Call) (s : List ℕ) → (Opening c → number c s ≡ 0 → ⊥) → P s → P (after c s)
   by-call (take m b) s x p = k .taken s m b p
   by-call (takeReject m b) s x p = p
