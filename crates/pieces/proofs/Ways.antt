@@ -14,14 +14,15 @@ use Rattle.tree.specs.Geometry.{nodeNumber, pieceLayer, hasLayer, pieceCount, b
 use Rattle.tree.specs.GeometryLaws.{node-number-range}
 use Rattle.tree.specs.Values.{node, padValue, leafOf, layerLeaf}
 use Rattle.cells.specs.Cells.{Room, heldAt, hashAt}
-use Rattle.cells.specs.Entries.{agrees, putAll, newly}
-use Rattle.cells.specs.EntriesLaws.{fresh, count-fresh, newly-none}
+use Rattle.cells.specs.Entries.{agrees, putAll, newly, fresh}
+use Rattle.cells.specs.EntriesLaws.{count-fresh, newly-none}
 use Rattle.store.specs.Store.{usable, fileLength, pieceLength, blocksOf, heightOf, positions}
 use Rattle.store.specs.StoreLaws.{usable-facts, facts-height, facts-leaves, facts-cell}
-use Rattle.runs.specs.Span.{Fit}
-use Rattle.runs.specs.Subtree.{subtree, runLeaf}
+use Rattle.settling.specs.Span.{Fit}
+use Rattle.settling.specs.Subtree.{subtree, runLeaf}
 use Rattle.pieces.specs.Pieces.{judgedAt, layerOfPieces, layerSettled, layerNumber, layerAfter, layerAnswer, blockNumber, pieceHeight, pieceNumber}
-use Rattle.pieces.specs.PiecesLaws.{Layered, Placed, layered, placed, pieces-few, layer-within, piece-within, run-leaves, layer-sound}
+use Rattle.pieces.specs.Asks.{Layered, Placed}
+use Rattle.pieces.specs.PiecesLaws.{layered, placed, pieces-few, layer-within, piece-within, run-leaves, layer-sound}
 
 -- ---- 6, 7, 8 or 0
 

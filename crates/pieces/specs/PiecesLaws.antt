@@ -17,17 +17,17 @@ use Rattle.tree.specs.GeometryLaws.{ceil-least, covering-most, covering-within,
 use Rattle.tree.specs.Values.{node, padValue, leafOf, layerLeaf, layerRoot}
 use Rattle.tree.specs.ValuesLaws.{pad-octets, node-padding, layer-leaf-past}
 use Rattle.cells.specs.Cells.{Room, heldAt, hashAt}
-use Rattle.cells.specs.Entries.{Entry, agrees, putAll}
-use Rattle.cells.specs.EntriesLaws.{Sound, fresh, Hold, keeps, newly-none, count-fresh, putAll-length, In, Has, has-same, Apart, apart-consistent, entries-held, held-or-entry, putAll-other}
+use Rattle.cells.specs.Entries.{Entry, agrees, putAll, fresh}
+use Rattle.cells.specs.EntriesLaws.{Sound, Hold, keeps, newly-none, count-fresh, putAll-length, In, Has, has-same, Apart, apart-consistent, entries-held, held-or-entry, putAll-other, FromRoot, from-root-in}
 use Rattle.octets.specs.Octets.{same}
 use Rattle.octets.specs.OctetsLaws.{same-true, same-eq}
 use Rattle.sha256.specs.Sha256.{sha256}
 use Rattle.numbers.specs.Numbers.{refused, done, ruleBroken, wrongSize, noAnchor, differs, conflict, unusable, judged}
-use Rattle.store.specs.Store.{usable, fileLength, pieceLength, blocksOf, heightOf, positions, storeSize}
-use Rattle.store.specs.StoreLaws.{Facts, usable-facts, facts-usable, facts-blocks-most, own-size, SameFacts, FromRoot, from-root-in, putAll-same-facts, putAll-facts, putAll-past}
-use Rattle.runs.specs.Span.{Within}
-use Rattle.runs.specs.Subtree.{subtree, runLeaf}
-use Rattle.runs.specs.SubtreeLaws.{run-leaf-length, within-tree, subtree-sound, subtree-apart, subtree-value, subtree-has, FamilyIn, subtree-family}
+use Rattle.store.specs.Store.{usable, fileLength, pieceLength, blocksOf, heightOf, positions, storeSize, Facts, SameFacts}
+use Rattle.store.specs.StoreLaws.{usable-facts, facts-usable, facts-blocks-most, own-size, putAll-same-facts, putAll-facts, putAll-past}
+use Rattle.settling.specs.Span.{Within}
+use Rattle.settling.specs.Subtree.{subtree, runLeaf}
+use Rattle.settling.specs.SubtreeLaws.{run-leaf-length, within-tree, subtree-sound, subtree-apart, subtree-value, subtree-has, FamilyIn, subtree-family}
 use Rattle.pieces.specs.Pieces.{judgedAt, layerOfPieces, layerSettled, layerNumber, layerAfter, layerAnswer, blockNumber, pieceHeight, pieceNumber}
 
 -- ---- where a layer and a piece lie

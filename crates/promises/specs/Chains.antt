@@ -13,8 +13,8 @@ use Rattle.tree.specs.Values.{node}
 use Rattle.cells.specs.Cells.{heldAt, hashAt}
 use Rattle.cells.specs.Entries.{agrees}
 use Rattle.store.specs.Store.{blocksOf}
-use Rattle.runs.specs.Path.{uncle, risen, parentValue}
-use Rattle.runs.specs.PathLaws.{parent-even, parent-odd}
+use Rattle.settling.specs.Path.{uncle, risen, parentValue}
+use Rattle.settling.specs.PathLaws.{parent-even, parent-odd}
 use Rattle.header.specs.Header.{headerOf}
 use Rattle.header.specs.declared.Place.{Place}
 use Rattle.messages.specs.Take.{given, unclesOf, settled, anchor, worked, padded, placeIn, takeNumber}

@@ -12,10 +12,10 @@ use Rattle.tree.specs.Geometry.{Padding, nodeNumber}
 use Rattle.tree.specs.GeometryLaws.{node-number-root, node-number-left, node-number-right}
 use Rattle.tree.specs.Values.{padValue}
 use Rattle.cells.specs.Cells.{heldAt, hashAt}
-use Rattle.store.specs.Store.{factsRoot, blocksOf, heightOf, positions}
-use Rattle.store.specs.StoreLaws.{Facts, tree-says, tree-number}
-use Rattle.runs.specs.Path.{sibling}
-use Rattle.runs.specs.PathLaws.{sibling-below}
+use Rattle.store.specs.Store.{factsRoot, blocksOf, heightOf, positions, Facts}
+use Rattle.store.specs.StoreLaws.{tree-says, tree-number}
+use Rattle.settling.specs.Path.{sibling}
+use Rattle.settling.specs.PathLaws.{sibling-below}
 use Rattle.promises.specs.Held.{Holds}
 use Rattle.promises.specs.History.{OurStore}
 use Rattle.promises.specs.RightPadding.{doubles, sibling-number}

@@ -11,10 +11,10 @@ use lib.Dec.{eqb, leb}
 use borrow.Author.Tests.{eq-eqb, ne-eqb}
 use Rattle.cells.specs.Cells.{heldAt, hashAt}
 use Rattle.cells.specs.Entries.{Entry, agrees, putAll}
-use Rattle.cells.specs.EntriesLaws.{Sound, keeps, In, here, there}
-use Rattle.store.specs.Store.{usable, fileLength, pieceLength, factsRoot, blocksOf, heightOf, positions, openAnswer, openAfter, opened, factsInRange, storeSize}
-use Rattle.store.specs.StoreLaws.{Facts, SameFacts, usable-facts, facts-usable, FromRoot, empty, next, putAll-same-facts, putAll-facts}
-use Rattle.runs.specs.SettledLaws.{settled-positive}
+use Rattle.cells.specs.EntriesLaws.{Sound, keeps, In, here, there, FromRoot, empty, next}
+use Rattle.store.specs.Store.{usable, fileLength, pieceLength, factsRoot, blocksOf, heightOf, positions, openAnswer, openAfter, opened, factsInRange, storeSize, Facts, SameFacts}
+use Rattle.store.specs.StoreLaws.{usable-facts, facts-usable, putAll-same-facts, putAll-facts}
+use Rattle.settling.specs.SettledLaws.{settled-positive}
 use Rattle.tree.specs.Values.{node}
 use Rattle.header.specs.Header.{headerOf}
 use Rattle.messages.specs.Take.{unclesOf, given, settled, placeIn, takeNumber, takeAfter}

@@ -20,9 +20,9 @@ use Rattle.tree.specs.GeometryLaws.{node-number-root}
 use Rattle.tree.specs.Values.{node, leafOf, layerLeaf}
 use Rattle.cells.specs.Cells.{heldAt, hashAt}
 use Rattle.cells.specs.Entries.{agrees}
-use Rattle.store.specs.Store.{usable, fileLength, pieceLength, blocksOf, heightOf}
-use Rattle.store.specs.StoreLaws.{Facts, usable-facts, facts-leaves}
-use Rattle.runs.specs.Subtree.{subtree}
+use Rattle.store.specs.Store.{usable, fileLength, pieceLength, blocksOf, heightOf, Facts}
+use Rattle.store.specs.StoreLaws.{usable-facts, facts-leaves}
+use Rattle.settling.specs.Subtree.{subtree}
 use Rattle.pieces.specs.Pieces.{judgedAt, layerOfPieces, layerNumber, blockNumber, pieceHeight, pieceNumber}
 use Rattle.pieces.specs.PiecesLaws.{layered, placed}
 use Rattle.promises.specs.Held.{Holds}

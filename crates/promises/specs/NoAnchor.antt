@@ -16,7 +16,8 @@ use Rattle.store.specs.Store.{usable, heightOf, heldAnswer}
 use Rattle.store.specs.StoreLaws.{usable-facts, held-unusable, held-not}
 use Rattle.header.specs.Header.{headerOf, isHashes}
 use Rattle.messages.specs.Take.{headerNumber, anchor, bodyNumber, placeIn, orElse, takeNumber, takeAfter, takeAnswer}
-use Rattle.messages.specs.TakeLaws.{Passed, passed, passes}
+use Rattle.messages.specs.Asks.{Passed}
+use Rattle.messages.specs.TakeLaws.{passed, passes}
 use Rattle.promises.specs.Held.{Holds}
 use Rattle.promises.specs.History.{Steps}
 use Rattle.promises.specs.Grows.{steps-grow}

@@ -18,11 +18,11 @@ use Rattle.tree.specs.Values.{node, leafOf, blockOf, pieceOf}
 use Rattle.tree.specs.ValuesLaws.{node-octets, leaf-octets, leaf-block}
 use Rattle.cells.specs.Entries.{Entry}
 use Rattle.cells.specs.EntriesLaws.{In}
-use Rattle.store.specs.Store.{fileLength, pieceLength, blocksOf, heightOf, positions}
-use Rattle.store.specs.StoreLaws.{Facts, facts-leaves}
-use Rattle.runs.specs.Span.{Within}
-use Rattle.runs.specs.Subtree.{subtree}
-use Rattle.runs.specs.SubtreeLaws.{within-left, within-right, within-self, subtree-left, subtree-right, subtree-top}
+use Rattle.store.specs.Store.{fileLength, pieceLength, blocksOf, heightOf, positions, Facts}
+use Rattle.store.specs.StoreLaws.{facts-leaves}
+use Rattle.settling.specs.Span.{Within}
+use Rattle.settling.specs.Subtree.{subtree}
+use Rattle.settling.specs.SubtreeLaws.{within-left, within-right, within-self, subtree-left, subtree-right, subtree-top}
 use Rattle.pieces.specs.Pieces.{layerOfPieces, pieceHeight, pieceNumber}
 use Rattle.pieces.specs.PiecesLaws.{placed, piece-within, height-layer, height-root, piece-right}
 use Rattle.promises.specs.History.{Bytes, OurStore}

@@ -16,7 +16,8 @@ use Rattle.numbers.specs.Numbers.{done, refused, unusable, factsOutOfRange}
 use Rattle.tree.specs.Geometry.{blockCount, height, nodeNumber, pieceLayer}
 use Rattle.tree.specs.GeometryLaws.{piece-length-form, piece-length-accepted, node-number-root, node-number-distinct}
 use Rattle.cells.specs.Cells.{heldAt, hashAt}
-use Rattle.store.specs.Store.{usable, fileLength, pieceLength, sizeAnswer, heightOf, positions, maxLength, factsInRange, storeSize, openAnswer, openAfter, opened}
+use Rattle.limits.specs.Limits.{longestFile}
+use Rattle.store.specs.Store.{usable, fileLength, pieceLength, sizeAnswer, heightOf, positions, factsInRange, storeSize, openAnswer, openAfter, opened}
 use Rattle.store.specs.StoreLaws.{opened-facts, opened-height, opened-held, opened-hash, tree-says, tree-number, positions-some, range-says, store-size-some}
 use Rattle.promises.specs.Held.{Holds}
 use Rattle.promises.specs.Again.{what-is-held}
@@ -39,7 +40,7 @@ range-exactly n plen = (
       (let r = range-says n plen t in
       let f = piece-length-form plen (r .2) in
       record { some = r .0; most = r .1; p = pieceLayer plen; small = f .0; power = f .1 }),
-  λ r. rw (le-leb 1 n (r .some), le-leb n maxLength (r .most), r .power) (piece-length-accepted (r .p) (r .small)),
+  λ r. rw (le-leb 1 n (r .some), le-leb n longestFile (r .most), r .power) (piece-length-accepted (r .p) (r .small)),
 )
 
 abbrev opens : Bool → Bool → ℕ

@@ -20,11 +20,11 @@ use Rattle.tree.specs.ValuesLaws.{leaf-octets, leaf-block, block-bytes, piece-b
 use Rattle.cells.specs.Cells.{heldAt, hashAt}
 use Rattle.cells.specs.Entries.{Entry, agrees}
 use Rattle.cells.specs.EntriesLaws.{In, Has, has-same, apart-consistent, agrees-held, agrees-in, in-agrees}
-use Rattle.store.specs.Store.{fileLength, pieceLength, factsRoot, blocksOf, heightOf, positions}
-use Rattle.store.specs.StoreLaws.{Facts, facts-usable, facts-leaves}
-use Rattle.runs.specs.Span.{Within}
-use Rattle.runs.specs.Subtree.{subtree}
-use Rattle.runs.specs.SubtreeLaws.{within-tree, subtree-value, number-below, subtree-sound, subtree-apart, subtree-positive, subtree-family, subtree-top, subtree-has}
+use Rattle.store.specs.Store.{fileLength, pieceLength, factsRoot, blocksOf, heightOf, positions, Facts}
+use Rattle.store.specs.StoreLaws.{facts-usable, facts-leaves}
+use Rattle.settling.specs.Span.{Within}
+use Rattle.settling.specs.Subtree.{subtree}
+use Rattle.settling.specs.SubtreeLaws.{within-tree, subtree-value, number-below, subtree-sound, subtree-apart, subtree-positive, subtree-family, subtree-top, subtree-has}
 use Rattle.pieces.specs.Pieces.{layerOfPieces, pieceHeight, blockNumber, pieceNumber}
 use Rattle.pieces.specs.PiecesLaws.{placed, height-layer, piece-at-root, block-right, right-block, right-piece}
 use Rattle.promises.specs.History.{Bytes, OurStore}

@@ -16,15 +16,15 @@ use Rattle.numbers.specs.Numbers.{noMessage, otherRoot, ruleBroken, noRoom, not
 use Rattle.numbers.specs.declared.Answer.{Answer}
 use Rattle.tree.specs.Geometry.{height}
 use Rattle.cells.specs.Cells.{heldAt}
-use Rattle.store.specs.Store.{usable, factsRoot, blocksOf, heightOf}
-use Rattle.store.specs.StoreLaws.{Facts, usable-facts, facts-leaves}
-use Rattle.runs.specs.Path.{sibling}
-use Rattle.header.specs.Header.{headerOf, messageRoot, isRequest, isReject, rulesKept, placeOf, messageSize}
-use Rattle.header.specs.HeaderLaws.{Kept, rules-kept, kept-rules}
+use Rattle.store.specs.Store.{usable, factsRoot, blocksOf, heightOf, Facts}
+use Rattle.store.specs.StoreLaws.{usable-facts, facts-leaves}
+use Rattle.settling.specs.Path.{sibling}
+use Rattle.header.specs.Header.{headerOf, messageRoot, isRequest, isReject, rulesKept, placeOf, messageSize, Kept}
+use Rattle.header.specs.HeaderLaws.{rules-kept, kept-rules}
 use Rattle.messages.specs.Take.{headerNumber, placeIn, orElse, rejectAnswer}
 use Rattle.messages.specs.TakeLaws.{passes}
-use Rattle.serve.specs.Serve.{allHeld, requestNumber, replyTo, rejectTo, serveAnswer, serveAfter}
-use Rattle.serve.specs.ServeLaws.{fitAfter, head-same, held-run-all, held-uncles-all, request-zero, fitAnswer, served-none, served-reply, served-reject, answered-form, reject-length, fits-sent, fits-not}
+use Rattle.serve.specs.Serve.{allHeld, requestNumber, replyTo, rejectTo, serveAnswer, serveAfter, fitAfter, fitAnswer}
+use Rattle.serve.specs.ServeLaws.{head-same, held-run-all, held-uncles-all, request-zero, served-none, served-reply, served-reject, answered-form, reject-length, fits-sent, fits-not}
 use Rattle.promises.specs.Held.{Holds}
 use Rattle.promises.specs.Settles.{unclesIn, topLayer, topIndex}
 use Rattle.promises.specs.Again.{what-is-held}

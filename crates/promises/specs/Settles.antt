@@ -5,7 +5,7 @@ use Prim.Native.Nat.{ℕ, suc, _+_, _-_, _*_, _/_, _^_, _<_}
 use Rattle.octets.specs.Octets.{cut}
 use Rattle.sha256.specs.Sha256.{pairHash}
 use Rattle.tree.specs.Geometry.{height}
-use Rattle.runs.specs.Path.{sibling}
+use Rattle.settling.specs.Path.{sibling}
 use Rattle.header.specs.Header.{headerOf}
 
 -- u, how many uncles it has: proof layers − (log2(length) − 1), or 0 if that is negative

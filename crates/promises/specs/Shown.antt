@@ -12,9 +12,9 @@ use Rattle.tree.specs.Geometry.{blockCount, height, nodeNumber}
 use Rattle.tree.specs.GeometryLaws.{node-number-covers, node-number-left, node-number-right, node-number-root}
 use Rattle.tree.specs.Values.{node, leafOf, layerLeaf}
 use Rattle.cells.specs.EntriesLaws.{Has}
-use Rattle.store.specs.Store.{fileLength, pieceLength, heightOf, positions}
-use Rattle.store.specs.StoreLaws.{Facts, usable-facts}
-use Rattle.runs.specs.Subtree.{subtree}
+use Rattle.store.specs.Store.{fileLength, pieceLength, heightOf, positions, Facts}
+use Rattle.store.specs.StoreLaws.{usable-facts}
+use Rattle.settling.specs.Subtree.{subtree}
 use Rattle.pieces.specs.Pieces.{layerOfPieces, layerSettled, pieceHeight}
 use Rattle.pieces.specs.PiecesLaws.{layered, placed}
 use Rattle.promises.specs.Held.{Holds}

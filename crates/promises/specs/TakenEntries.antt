@@ -11,14 +11,14 @@ use borrow.Author.Tests.{eq-eqb}
 use Rattle.tree.specs.Values.{node}
 use Rattle.cells.specs.Cells.{Room, heldAt, hashAt, put}
 use Rattle.cells.specs.CellsLaws.{put-room, held-put-other}
-use Rattle.cells.specs.Entries.{Entry, putAll, oneIf, newly}
-use Rattle.cells.specs.EntriesLaws.{lacks, fresh, lacks-held, lacks-small, Sound, sound-in, In, here, there, Has, Apart, entries-held, held-or-entry, keeps, count-fresh}
+use Rattle.cells.specs.Entries.{Entry, putAll, oneIf, newly, lacks, fresh}
+use Rattle.cells.specs.EntriesLaws.{lacks-held, lacks-small, Sound, sound-in, In, here, there, Has, Apart, entries-held, held-or-entry, keeps, count-fresh}
 use Rattle.store.specs.Store.{heightOf, positions}
-use Rattle.runs.specs.Subtree.{subtree}
-use Rattle.runs.specs.SubtreeLaws.{subtree-length}
-use Rattle.runs.specs.Path.{path}
-use Rattle.runs.specs.PathLaws.{path-length}
-use Rattle.runs.specs.SettledLaws.{settled-apart, settled-consistent, settled-anchor, settled-positive}
+use Rattle.settling.specs.Subtree.{subtree}
+use Rattle.settling.specs.SubtreeLaws.{subtree-length}
+use Rattle.settling.specs.Path.{path}
+use Rattle.settling.specs.PathLaws.{path-length}
+use Rattle.settling.specs.SettledLaws.{settled-apart, settled-consistent, settled-anchor, settled-positive}
 use Rattle.header.specs.Header.{headerOf}
 use Rattle.messages.specs.Take.{unclesOf, given, settled, anchor, placeIn, takeNumber, takeAfter, takeAnswer}
 use Rattle.messages.specs.TakenLaws.{ready-settled, taken-ready}

@@ -17,7 +17,8 @@ use Rattle.cells.specs.Entries.{agrees}
 use Rattle.store.specs.Store.{blocksOf, heightOf}
 use Rattle.header.specs.Header.{headerOf, isHashes, messageSize}
 use Rattle.messages.specs.Take.{headerNumber, settled, anchor, worked, padded, anchored, bodyNumber, placeIn, orElse, takeNumber, takeAfter}
-use Rattle.messages.specs.TakeLaws.{Passed, passed, passes}
+use Rattle.messages.specs.Asks.{Passed}
+use Rattle.messages.specs.TakeLaws.{passed, passes}
 
 -- a well-formed message: 9, 1, 2, 3 and 4 are not given
 pub record WellFormed (s m : List ℕ) : Type 0 where

@@ -16,9 +16,9 @@ use Rattle.tree.specs.Geometry.{nodeNumber}
 use Rattle.tree.specs.Values.{node}
 use Rattle.cells.specs.Cells.{heldAt, hashAt}
 use Rattle.cells.specs.Entries.{agrees}
-use Rattle.store.specs.Store.{heightOf, inTree, heldAnswer}
-use Rattle.store.specs.StoreLaws.{Facts, facts-usable, held-not}
-use Rattle.runs.specs.Subtree.{subtree}
+use Rattle.store.specs.Store.{heightOf, inTree, heldAnswer, Facts}
+use Rattle.store.specs.StoreLaws.{facts-usable, held-not}
+use Rattle.settling.specs.Subtree.{subtree}
 use Rattle.pieces.specs.Pieces.{judgedAt}
 use Rattle.promises.specs.Held.{Holds}
 use Rattle.promises.specs.Again.{what-is-held}

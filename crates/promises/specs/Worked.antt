@@ -12,11 +12,11 @@ use Rattle.octets.specs.Octets.{same}
 use Rattle.numbers.specs.Numbers.{ruleBroken}
 use Rattle.tree.specs.Geometry.{nodeNumber, ceilDiv, blockCount, heightFrom, height, covering, pieceLayer, isPieceLength, hasLayer, pieceCount, pieceSize}
 use Rattle.cells.specs.Cells.{heldAt}
-use Rattle.cells.specs.EntriesLaws.{lacks}
+use Rattle.cells.specs.Entries.{lacks}
 use Rattle.store.specs.Store.{usable, fileLength, factsRoot, blocksOf, heightOf, positions, factsInRange, storeSize, opened}
 use Rattle.store.specs.StoreLaws.{opened-height, opened-held}
-use Rattle.runs.specs.Subtree.{subtree}
-use Rattle.runs.specs.Path.{sibling, ancestor, path}
+use Rattle.settling.specs.Subtree.{subtree}
+use Rattle.settling.specs.Path.{sibling, ancestor, path}
 use Rattle.header.specs.declared.Header.{Header}
 use Rattle.header.specs.declared.Place.{Place}
 use Rattle.header.specs.Header.{headerOf, messageRoot, isHashes, isRequest, isReject, lengthRule, indexRule, rulesKept, placeOf, messageSize}

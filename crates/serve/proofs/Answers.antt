@@ -14,15 +14,16 @@ use Rattle.octets.specs.Octets.{cut, pasted}
 use Rattle.octets.specs.OctetsLaws.{cut-length, pasted-append}
 use Rattle.numbers.specs.Numbers.{refused, done, unusable, noMessage, noRoom, notHeld}
 use Rattle.numbers.specs.declared.Answer.{Answer}
-use Rattle.store.specs.Store.{blocksOf, heightOf}
-use Rattle.store.specs.StoreLaws.{Facts, usable-facts, facts-height, facts-leaves}
+use Rattle.store.specs.Store.{blocksOf, heightOf, Facts}
+use Rattle.store.specs.StoreLaws.{usable-facts, facts-height, facts-leaves}
 use Rattle.header.specs.declared.Header.{Header}
 use Rattle.header.specs.declared.Place.{Place}
 use Rattle.header.specs.Header.{headerOf, isRequest, rulesKept, placeOf}
 use Rattle.messages.specs.Take.{headerNumber, placeIn}
 use Rattle.messages.specs.TakeLaws.{passed, request-form}
-use Rattle.serve.specs.Serve.{heldRun, heldUncles, runHashes, uncleHashes, allHeld, allHashes, replyTo, rejectTo, requestNumber, serveAnswer, serveAfter}
-use Rattle.serve.specs.ServeLaws.{Reach, run-hashes-length, uncle-hashes-length, fitAnswer, fitAfter, fits-sent, fits-not, request-passes, served-none, served-reply, served-reject, answered-form, request-size, request-reach, reply-length, reject-length}
+use Rattle.serve.specs.Serve.{heldRun, heldUncles, runHashes, uncleHashes, allHeld, allHashes, replyTo, rejectTo, requestNumber, serveAnswer, serveAfter, fitAnswer, fitAfter}
+use Rattle.serve.specs.Asks.{Reach}
+use Rattle.serve.specs.ServeLaws.{run-hashes-length, uncle-hashes-length, fits-sent, fits-not, request-passes, served-none, served-reply, served-reject, answered-form, request-size, request-reach, reply-length, reject-length}
 
 -- a power of two as it is shifted
 pub count-of : (k : ℕ) → k ≤ 16 → ((1 * 2 ^ k) % 18446744073709551616 ≡ 2 ^ k) × ((1 * 2 ^ k) % 18446744073709551616 ≤ 65536)

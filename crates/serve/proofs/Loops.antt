@@ -15,8 +15,8 @@ use Rattle.octets.specs.Octets.{cut, pasted}
 use Rattle.octets.specs.OctetsLaws.{pasted-append}
 use Rattle.cells.specs.Cells.{Room, heldAt, hashAt}
 use Rattle.cells.specs.CellsLaws.{hash-length}
-use Rattle.runs.specs.Path.{sibling, ancestor}
-use Rattle.runs.specs.AncestorLaws.{ancestor-le, ancestor-suc}
+use Rattle.settling.specs.Path.{sibling, ancestor}
+use Rattle.settling.specs.AncestorLaws.{ancestor-le, ancestor-suc}
 use Rattle.serve.specs.Serve.{heldRun, runHashes, heldUncles, uncleHashes}
 use Rattle.serve.specs.ServeLaws.{uncle-near, run-hashes-more, uncle-hashes-more, run-hashes-length, uncle-hashes-length, held-run-at, held-uncle-at, held-uncles-all}
 

@@ -9,7 +9,7 @@ use Rattle.octets.specs.Octets.{cut, pasted}
 use Rattle.numbers.specs.Numbers.{refused, noMessage, unusable, noRoom, notHeld}
 use Rattle.numbers.specs.declared.Answer.{Answer}
 use Rattle.cells.specs.Cells.{heldAt, hashAt}
-use Rattle.runs.specs.Path.{sibling}
+use Rattle.settling.specs.Path.{sibling}
 use Rattle.header.specs.declared.Place.{Place}
 use Rattle.header.specs.Header.{isRequest}
 use Rattle.messages.specs.Take.{headerNumber, placeIn, orElse}

@@ -22,15 +22,16 @@ use Rattle.cells.specs.Cells.{Room, heldAt, hashAt}
 use Rattle.cells.specs.CellsLaws.{hash-length}
 use Rattle.store.specs.Store.{usable, factsRoot, blocksOf, heightOf, positions}
 use Rattle.store.specs.StoreLaws.{usable-facts}
-use Rattle.runs.specs.Path.{sibling, ancestor, uncle}
-use Rattle.runs.specs.PathLaws.{sibling-even, sibling-odd, sibling-parent}
-use Rattle.runs.specs.AncestorLaws.{ancestor-le, ancestor-add, ancestor-parent}
-use Rattle.runs.specs.Span.{Within}
-use Rattle.runs.specs.SubtreeLaws.{run-leaf-in}
+use Rattle.settling.specs.Path.{sibling, ancestor, uncle}
+use Rattle.settling.specs.PathLaws.{sibling-even, sibling-odd, sibling-parent}
+use Rattle.settling.specs.AncestorLaws.{ancestor-le, ancestor-add, ancestor-parent}
+use Rattle.settling.specs.Span.{Within}
+use Rattle.settling.specs.SubtreeLaws.{run-leaf-in}
 use Rattle.header.specs.declared.Place.{Place}
 use Rattle.header.specs.Header.{messageRoot, headerOf, isHashes, isRequest, isReject, rulesKept, messageSize}
 use Rattle.messages.specs.Take.{headerNumber, runOf, unclesOf, given, placeIn, orElse}
-use Rattle.messages.specs.TakeLaws.{passed, Placed, placed, request-form}
+use Rattle.messages.specs.Asks.{Placed}
+use Rattle.messages.specs.TakeLaws.{passed, placed, request-form}
 use Rattle.serve.specs.Serve.{heldRun, runHashes, heldUncles, uncleHashes, allHeld, allHashes, replyTo, rejectTo, requestNumber, sentBack, unanswered, serveAnswer, serveAfter}
 
 -- ---- the positions of a place

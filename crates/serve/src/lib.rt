@@ -8,7 +8,8 @@ ghost use Rattle.cells.specs.Cells.{Room};
 ghost use Rattle.header.specs.Header.{isRequest};
 ghost use Rattle.messages.specs.Take.{headerNumber, placeIn};
 ghost use Rattle.serve.specs.Serve as S;
-ghost use Rattle.serve.specs.ServeLaws.{Reach, fitAnswer, fitAfter};
+ghost use Rattle.serve.specs.Asks.{Reach};
+ghost use Rattle.serve.specs.Serve.{fitAnswer, fitAfter};
 use cells::hash_of;
 use cells::held;
 use header::Place;
@@ -20,7 +21,7 @@ use numbers::Answer;
 use numbers::refusal;
 use numbers::success;
 use octets::put_hash;
-use runs::beside;
+use settling::beside;
 use store::blocks_of;
 use store::height_of;
 

@@ -1,7 +1,7 @@
 -- Each turn uses at least one byte of the piece and none past it.
 -- Assumes nothing.
-use Rattle.replaying.specs.Session.{Due}
-use Rattle.replaying.specs.SessionLaws.{rest-used}
+use Rattle.session.specs.Session.{Due}
+use Rattle.session.specs.SessionLaws.{rest-used}
 use borrow.Author.Needs.{needs}
 use native.Mathlib.Omega.{arith}
 use Prim.Native.Nat.{_-_, _≤_}

@@ -1,7 +1,7 @@
 -- The measure is the number of turns that are left.
 -- Assumes nothing.
-use Rattle.replaying.specs.Session.{Due}
-use Rattle.replaying.specs.SessionLaws.{started-due}
+use Rattle.session.specs.Session.{Due}
+use Rattle.session.specs.SessionLaws.{started-due}
 use borrow.Author.Needs.{needs}
 use native.Mathlib.Omega.{arith}
 use Prim.Native.Nat.{_-_}
