@@ -27,7 +27,7 @@ use Rattle.limits.specs.Limits.{tallestTree}
 use Rattle.header.specs.Header.{headerSize, messageId, requestId, hashesId, rejectId, messageRoot, headerOf, isHashes, isRequest, isReject, rulesKept, placeOf, messageSize, Kept}
 use Rattle.header.specs.HeaderLaws.{rules-kept, log-some, top-inside}
 use Rattle.messages.specs.Take.{headerNumber, placeIn}
-use Rattle.messages.specs.Asks.{Passed, Placed, Carried, Ready}
+use Rattle.messages.specs.Asks.{firstNumber, Passed, Placed, Carried, Ready}
 
 -- a form has its header's bytes
 pub hashes-form : (m : List ℕ) → isHashes m ≡ true → headerSize ≤ length m
@@ -45,7 +45,7 @@ reject-form m e = eqb-true (length m) headerSize (and-eq-true-iff (eqb (length m
 -- ---- a header number of 0
 
 -- a test that let the rest decide
-pub let-through : (t : Bool) (a n : ℕ) → (n ≡ 0 → ⊥) → cond t a n ≡ 0 → (t ≡ true) × (a ≡ 0)
+let-through : (t : Bool) (a n : ℕ) → (n ≡ 0 → ⊥) → cond t a n ≡ 0 → (t ≡ true) × (a ≡ 0)
 let-through true a n f e = (refl, e)
 let-through false a n f e = absurd (f e)
 
@@ -61,6 +61,44 @@ passed form s m e =
 pub passes : (form : Bool) (s m : List ℕ) → Passed form s m → headerNumber form s m ≡ 0
 unfolding headerNumber
 passes form s m p = rw (p .store, p .formed, p .root, p .rules)
+
+-- ---- 9, 1, 2 and then 3
+
+module _ (form : Bool) (s m : List ℕ) (r : ℕ) (e : r ≡ firstNumber form s m) where
+  -- a refusal by the first three is the header's
+  pub first-refused : (r ≡ 0 → ⊥) → r ≡ headerNumber form s m
+  unfolding firstNumber headerNumber
+  first-refused ne = by (usable s) form (same (factsRoot s) (messageRoot m)) _ e
+    where
+      by : (u f v : Bool) (q : ℕ) → r ≡ cond u (cond f (cond v 0 otherRoot) noMessage) unusable → r ≡ cond u (cond f (cond v q otherRoot) noMessage) unusable
+      by true true true q w = absurd (ne w)
+      by true true false q w = w
+      by true false v q w = w
+      by false f v q w = w
+
+  module _ (z : r ≡ 0) where
+    -- none of them
+    pub first-passed : (usable s ≡ true) × (form ≡ true) × (same (factsRoot s) (messageRoot m) ≡ true)
+    unfolding firstNumber
+    first-passed =
+        let a = let-through (usable s) _ unusable (λ y. omega arith) (sym e ∙ z) in
+        let b = let-through form _ noMessage (λ y. omega arith) (a .1) in
+        let c = let-through (same (factsRoot s) (messageRoot m)) 0 otherRoot (λ y. omega arith) (b .1) in
+        (a .0, b .0, c .0)
+
+    module _ (x : Header) (k : Bool) (ex : x ≡ headerOf m) (ek : k ≡ rulesKept x (blocksOf s) (heightOf s)) where
+      rules : k ≡ rulesKept (headerOf m) (blocksOf s) (heightOf s)
+      rules = ek ∙ ap (λ (y : Header). rulesKept y (blocksOf s) (heightOf s)) ex
+
+      pub rules-broken : k ≡ false → ruleBroken ≡ headerNumber form s m
+      unfolding headerNumber
+      rules-broken y = sym (rw (first-passed .0, first-passed .1, first-passed .2, ← rules, y))
+
+      pub rules-passed : k ≡ true → Passed form s m
+      rules-passed y = record { store = first-passed .0; formed = first-passed .1; root = first-passed .2; rules = sym rules ∙ y }
+
+      pub rules-done : k ≡ true → 0 ≡ headerNumber form s m
+      rules-done y = sym (passes form s m (rules-passed y))
 
 -- ---- the place of a header that keeps the rules, in a tree whose positions have numbers below n
 

@@ -1,5 +1,5 @@
+use Rattle.messages.specs.TakeLaws.{first-refused, first-passed, rules-broken, rules-done}
 use borrow.Author.Tests.{not-true, not-false}
-use Rattle.messages.proofs.Numbers.{first-refused, first-passed, rules-broken, rules-done}
 use Prim.Native.Nat.{_-_}
 use borrow.Author.Needs.{needs}
 use Rattle.messages.proofs.take.header_number.Statement.{statement}

@@ -14,11 +14,11 @@ height-of-requires c κs = usable-facts (c .before .before .args .s .now) (c .be
 
 place-of-requires : tie.Need-place-of-requires
 place-of-requires c κs = let f = usable-facts (c .before .before .before .args .s .now) (c .before .before .before .pre .0) in (
-      c .before .before .before .pre .1,
-      omega (arith, facts-height (c .before .before .before .args .s .now) f, c .height-of .ensures),
-      rw (c .before .blocks-of .ensures, c .height-of .ensures) (facts-leaves (c .before .before .before .args .s .now) f),
-      rw (c .before .blocks-of .ensures, c .height-of .ensures) (c .before .before .before .pre .2),
-    )
+  c .before .before .before .pre .1,
+  omega (arith, facts-height (c .before .before .before .args .s .now) f, c .height-of .ensures),
+  rw (c .before .blocks-of .ensures, c .height-of .ensures) (facts-leaves (c .before .before .before .args .s .now) f),
+  rw (c .before .blocks-of .ensures, c .height-of .ensures) (c .before .before .before .pre .2),
+)
 
 returns : tie.Need-returns
 returns c = c .place-of .ensures ∙ ap (λ (h : ℕ). placeOf (c .before .before .before .before .args .x) h) (c .before .height-of .ensures)

@@ -6,9 +6,8 @@ use Rattle.store.specs.StoreLaws.{usable-facts}
 use Rattle.numbers.specs.Numbers.{ruleBroken}
 use borrow.Author.Tests.{not-true, not-false}
 use Rattle.messages.proofs.Taking.{took-header, took-body}
-use Rattle.messages.proofs.Numbers.{first-refused, first-passed, rules-broken, rules-passed, rules-done}
 use Rattle.messages.specs.TakenLaws.{taken-ready, take-refused, take-done}
-use Rattle.messages.specs.TakeLaws.{hashes-form, placed}
+use Rattle.messages.specs.TakeLaws.{hashes-form, placed, first-refused, first-passed, rules-broken, rules-passed, rules-done}
 use native.Mathlib.Omega.{arith}
 use Prim.Native.Nat.{_-_}
 use mathlib.Core.Path.{_≡_, refl, ap, sym, _∙_}
