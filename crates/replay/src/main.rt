@@ -22,7 +22,7 @@ fn show(line: Line) {
 
 // A piece of the input, line by line.
 fn pass(p: Progress, s: &mut [u8], room: &mut [u8], piece: &[u8]) -> Progress
-    requires { ⌜ S.Ready p (length (now room)) ⌝ }
+    requires { ⌜ S.Lent p (length (now s)) (length (now room)) ⌝ }
     ensures { λ r. ⌜ S.Due (r .phase) (r .at) ⌝ }
 {
     let mut q = p;
@@ -40,7 +40,7 @@ fn pass(p: Progress, s: &mut [u8], room: &mut [u8], piece: &[u8]) -> Progress
 
 // The whole input. A proved loop has to end, and nothing says that an input does: the turns are counted down from a number that no run uses up.
 fn pass_all(s: &mut [u8], room: &mut [u8], buf: &mut [u8]) -> Progress
-    requires { ⌜ S.maxMessage ≤ length (now room) ⌝ }
+    requires { ⌜ (S.maxStore ≤ length (now s)) × (S.maxMessage ≤ length (now room)) ⌝ }
 {
     let mut q = session::start();
     let mut turns = u64::MAX;
@@ -57,7 +57,7 @@ fn pass_all(s: &mut [u8], room: &mut [u8], buf: &mut [u8]) -> Progress
 }
 
 fn main() {
-    let mut s = [0u8; session::MAX_STORE];
+    let mut s = session::new_store();
     let mut room = [0u8; session::MAX_MESSAGE];
     let mut buf = io::large_buffer();
     let last = pass_all(&mut s, &mut room, &mut buf);

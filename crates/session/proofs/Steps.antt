@@ -12,10 +12,11 @@ use lib.Dec.{leb, eqb}
 use borrow.Author.Tests.{eq-eqb, ne-eqb, le-leb, lt-leb}
 use Rattle.octets.specs.Octets.{cut, numberAt}
 use Rattle.octets.specs.OctetsLaws.{number-same, cut-cut}
-use Rattle.numbers.specs.Numbers.{refused, noMessage, factsOutOfRange}
+use Rattle.numbers.specs.Numbers.{refused, done, noMessage, factsOutOfRange}
 use Rattle.numbers.specs.declared.Answer.{Answer}
 use Rattle.tree.specs.Geometry.{blockCount}
-use Rattle.store.specs.Store.{openAnswer, openAfter, factsInRange, storeSize}
+use Rattle.store.specs.Store.{openAnswer, openAfter, opened, factsInRange, storeSize}
+use Rattle.header.specs.Header.{hashesId}
 use Rattle.messages.specs.Take.{takeAnswer, takeAfter}
 use Rattle.session.specs.declared.Phase.{Phase}
 use Rattle.session.specs.declared.Phase.the-variants.{Fresh, Open, Opening, Inside, Body, Stopped}
@@ -23,7 +24,8 @@ use Rattle.session.specs.declared.Line.{Line}
 use Rattle.session.specs.declared.Line.the-variants.{Nothing, Answered}
 use Rattle.session.specs.declared.Progress.{Progress}
 use Rattle.session.specs.declared.Stepped.{Stepped}
-use Rattle.session.specs.Session.{Outcome, goes, says, broken, shut, outside, inside, opening, openingByte, bodyByte, step, seen, goesAt, saysAt, Due, Follows, maxMessage, lengthIn, pieceIn, rootIn}
+use Rattle.session.specs.Session.{Outcome, goes, says, broken, shut, outside, inside, opening, openingByte, bodyByte, step, seen, goesAt, saysAt, Due, Follows, maxBlocks, maxStore, maxMessage, lengthIn, pieceIn, rootIn}
+use Rattle.session.specs.RoomLaws.{store-room, open-with-room}
 
 -- ---- the two forms of an answer
 
@@ -40,10 +42,10 @@ module _ (opened : Bool) (s room : List ℕ) (k : ℕ) (r : Stepped) where
   unfolding outside
   outside-opening e er = goes-follows _ r s room [] (Opening 43) 0 er (simp (eq-eqb k 1 e)) refl refl
 
-  pub outside-header : (k ≡ 1 → ⊥) → opened ≡ true → k ≡ 2 → 0 < length room → r ≡ goesAt (Body 47) 1 → Follows (outside opened s k) r s (set room 0 22)
+  pub outside-header : (k ≡ 1 → ⊥) → opened ≡ true → k ≡ 2 → 0 < length room → r ≡ goesAt (Body 47) 1 → Follows (outside opened s k) r s (set room 0 hashesId)
   unfolding outside
   outside-header n t e l er =
-      goes-follows _ r s (set room 0 22) (22 ∷ []) (Body 47) 1 er (simp (ne-eqb k 1 n, t, eq-eqb k 2 e)) (take-suc-set room 0 22 l) (omega arith)
+      goes-follows _ r s (set room 0 hashesId) (hashesId ∷ []) (Body 47) 1 er (simp (ne-eqb k 1 n, t, eq-eqb k 2 e)) (take-suc-set room 0 hashesId l) (omega arith)
 
   pub outside-other : (k ≡ 1 → ⊥) → opened ≡ true → (k ≡ 2 → ⊥) → r ≡ saysAt Stopped (refused noMessage) → Follows (outside opened s k) r s room
   unfolding outside
@@ -91,47 +93,54 @@ cut-front : (room : List ℕ) → cut room 12 32 ≡ cut (take 44 room) 12 32
 unfolding cut
 cut-front room = sym (cut-cut room 0 44 12 32 (omega arith))
 
-refused-same : (s : List ℕ) (n plen : ℕ) (root : List ℕ) → (openAnswer s n plen .number ≡ 0 → ⊥) → openAfter s n plen root ≡ s
-unfolding openAnswer openAfter
-refused-same s n plen root f = by-tests (factsInRange n plen) (leb (storeSize n) (length s)) _ _ f
-  where
-    by-tests : (t u : Bool) (x y : List ℕ) → ((cond t (cond u (record { number = 0; count = 1 }) (refused 9)) (refused factsOutOfRange)) .number ≡ 0 → ⊥) → cond (t && u) x y ≡ y
-    by-tests true true x y g = absurd (g refl)
-    by-tests true false x y g = refl
-    by-tests false u x y g = refl
-
 module _ (s room : List ℕ) (n : ℕ) (r : Stepped) (en : n ≡ numberAt room 0 8) where
   len-in : n ≡ lengthIn (take 44 room)
   len-in = en ∙ number-front room 0 8 (omega arith)
 
-  pub opening-large : 512 < blockCount n → r ≡ saysAt Stopped (refused factsOutOfRange) → Follows (opening (take 44 room) s) r s room
+  pub opening-large : maxBlocks < blockCount n → r ≡ saysAt Stopped (refused factsOutOfRange) → Follows (opening (take 44 room) s) r s room
   unfolding opening
   opening-large m er =
       says-follows _ r s room Stopped (refused factsOutOfRange) er
-      (simp (← len-in, lt-leb (blockCount n) 512 m)) (omega arith)
+      (simp (← len-in, lt-leb (blockCount n) maxBlocks m)) (omega arith)
 
-  module _ (plen : ℕ) (root s′ : List ℕ) (a : Answer) (few : blockCount n ≤ 512) (ep : plen ≡ numberAt room 8 4) (et : root ≡ cut room 12 32)
-      (ea : a ≡ openAnswer s n plen) (es : s′ ≡ openAfter s n plen root) where
+  module _ (plen : ℕ) (root s′ : List ℕ) (a : Answer) (few : blockCount n ≤ maxBlocks) (room-for : maxStore ≤ length s) (ep : plen ≡ numberAt room 8 4)
+      (et : root ≡ cut room 12 32) (ea : a ≡ openAnswer s n plen) (es : s′ ≡ openAfter s n plen root) where
     piece-in : plen ≡ pieceIn (take 44 room)
     piece-in = ep ∙ number-front room 8 4 (omega arith)
 
     root-in : root ≡ rootIn (take 44 room)
     root-in = et ∙ cut-front room
 
+    -- with room for the store the facts alone decide
+    answer-is : a ≡ cond (factsInRange n plen) (done 1) (refused factsOutOfRange)
+    answer-is = ea ∙ open-with-room s n plen room-for few
+
+    fits : leb (storeSize n) (length s) ≡ true
+    fits = le-leb (storeSize n) (length s) (omega (arith, store-room n few))
+
+    in-range : (t : Bool) (b : Answer) → factsInRange n plen ≡ t → b ≡ cond t (done 1) (refused factsOutOfRange) → b .number ≡ 0 → (factsInRange n plen ≡ true) × (b ≡ done 1)
+    in-range true b f e z = (f, e)
+    in-range false b f e z = let w : factsOutOfRange ≡ 0 = ap (λ (y : Answer). y .number) (sym e) ∙ z in let v : ⊥ = omega arith in absurd v
+
+    not-in-range : (t : Bool) (b : Answer) → factsInRange n plen ≡ t → b ≡ cond t (done 1) (refused factsOutOfRange) → (b .number ≡ 0 → ⊥) → factsInRange n plen ≡ false
+    not-in-range true b f e z = absurd (z (ap (λ (y : Answer). y .number) e))
+    not-in-range false b f e z = f
+
     pub opening-done : a .number ≡ 0 → r ≡ saysAt Open a → Follows (opening (take 44 room) s) r s′ room
-    unfolding opening
+    unfolding opening openAfter
     opening-done z er =
-        let z′ : openAnswer s n plen .number ≡ 0 = ap (λ (b : Answer). b .number) (sym ea) ∙ z in
+        let w = in-range (factsInRange n plen) a refl answer-is z in
+        let k : s′ ≡ opened s n plen root = es ∙ rw (w .0, fits) refl in
         says-follows _ r s′ room Open a er
-        (rw (← len-in, ← piece-in, ← root-in, le-leb (blockCount n) 512 few, eq-eqb (openAnswer s n plen .number) 0 z′, ← ea, ← es) refl) (omega arith)
+        (rw (← len-in, ← piece-in, ← root-in, le-leb (blockCount n) maxBlocks few, w .0, w .1, k) refl) (omega arith)
 
     pub opening-refused : (a .number ≡ 0 → ⊥) → r ≡ saysAt Stopped (refused factsOutOfRange) → Follows (opening (take 44 room) s) r s′ room
-    unfolding opening
+    unfolding opening openAfter
     opening-refused z er =
-        let z′ : openAnswer s n plen .number ≡ 0 → ⊥ = λ q. z (ap (λ (b : Answer). b .number) ea ∙ q) in
-        let k : s′ ≡ s = es ∙ refused-same s n plen root z′ in
+        let w = not-in-range (factsInRange n plen) a refl answer-is z in
+        let k : s′ ≡ s = es ∙ rw w refl in
         says-follows _ r s′ room Stopped (refused factsOutOfRange) er
-        (rw (← len-in, ← piece-in, le-leb (blockCount n) 512 few, ne-eqb (openAnswer s n plen .number) 0 z′, k) refl) (omega arith)
+        (rw (← len-in, ← piece-in, le-leb (blockCount n) maxBlocks few, w, k) refl) (omega arith)
 
 -- ---- a body's byte
 

@@ -14,7 +14,7 @@ use Rattle.session.specs.declared.Progress.{Progress}
 use Rattle.session.specs.declared.Stepped.{Stepped}
 use Rattle.session.specs.declared.Part.{Part}
 use Rattle.session.specs.SessionLaws.{reading-on, reading-said, reading-none}
-use Rattle.session.specs.Session.{Session, Outcome, Reading, step, next, silent, further, reading, seen, Due, Ready, Follows, Reads, maxMessage}
+use Rattle.session.specs.Session.{Session, Outcome, Reading, step, next, silent, further, reading, seen, Due, Follows, Reads, maxMessage}
 
 -- ---- a reading with another count
 

@@ -6,6 +6,8 @@ ghost use Prim.Native.Nat.{_+_, _≤_, _<_};
 ghost use lib.ListN.{length, take};
 ghost use Rattle.numbers.specs.Numbers.{refused};
 ghost use Rattle.session.specs.Session as S;
+use header::HASHES;
+use header::HEADER_SIZE;
 use numbers::Answer;
 use numbers::refusal;
 use tree::geometry::block_count;
@@ -49,11 +51,23 @@ pub struct Part {
     pub line: Line,
 }
 
-// A message of a header and 528 hashes; the lent room has at least as many bytes.
-pub const MAX_MESSAGE: usize = 16945;
+// The replay's own limits: the blocks of a file, and the hashes of a message.
+const MAX_BLOCKS: usize = 512;
 
-// The bytes of a store for 512 blocks.
+const MAX_HASHES: usize = 528;
+
+// The bytes of a message with as many hashes; the lent room has at least as many.
+pub const MAX_MESSAGE: usize = HEADER_SIZE + 32 * MAX_HASHES;
+
+// The bytes of a store for as many blocks; the lent store has at least as many.
 pub const MAX_STORE: usize = 33823;
+
+// A store's bytes for any file that the replay takes, to lend.
+pub fn new_store() -> [u8; MAX_STORE]
+    ensures { λ r. ⌜ S.maxStore ≤ length r ⌝ }
+{
+    [0u8; MAX_STORE]
+}
 
 // Nothing to print.
 fn goes(phase: Phase, at: usize) -> Stepped
@@ -90,7 +104,7 @@ fn outside(opened: bool, s: &[u8], room: &mut [u8], kind: u8) -> Stepped
     }
     if opened {
         if kind == 2 {
-            room[0] = 22;
+            room[0] = HASHES;
             return goes(Phase::Body(47), 1);
         }
         return stops(numbers::NO_MESSAGE);
@@ -118,12 +132,12 @@ fn inside(s: &mut [u8], room: &[u8], at: usize, kind: u8) -> Stepped
 
 // A whole opening stands at the front of the room.
 fn opening(s: &mut [u8], room: &[u8]) -> Stepped
-    requires { ⌜ 44 ≤ length (now room) ⌝ }
+    requires { ⌜ (44 ≤ length (now room)) × (S.maxStore ≤ length (now s)) ⌝ }
     ensures { λ r. ⌜ S.Follows (S.opening (take 44 (now (room .entry))) (now (s .entry))) r (now (s .exit)) (now (room .entry)) ⌝ }
 {
     let n = octets::number_at(room, 0, 8);
     let blocks = block_count(n);
-    if blocks <= 512 {
+    if blocks <= MAX_BLOCKS {
         let plen = octets::number_at(room, 8, 4);
         let root = octets::hash_at(room, 12);
         let answer = store::open(s, n, plen, root);
@@ -137,7 +151,7 @@ fn opening(s: &mut [u8], room: &[u8]) -> Stepped
 
 // The next byte of the input.
 pub fn take_byte(p: Progress, s: &mut [u8], room: &mut [u8], b: u8) -> Stepped
-    requires { ⌜ S.Ready p (length (now room)) ⌝ }
+    requires { ⌜ S.Lent p (length (now s)) (length (now room)) ⌝ }
     ensures { λ r. ⌜ S.Follows (S.step (p .phase) (take (p .at) (now (room .entry))) (now (s .entry)) b) r (now (s .exit)) (now (room .exit)) ⌝ }
 {
     let at = p.at;
@@ -191,7 +205,7 @@ fn is_silent(line: Line) -> bool
 
 // The next bytes of the input, as many as there are up to the first line.
 pub fn take_piece(p: Progress, s: &mut [u8], room: &mut [u8], piece: &[u8]) -> Part
-    requires { ⌜ S.Ready p (length (now room)) ⌝ }
+    requires { ⌜ S.Lent p (length (now s)) (length (now room)) ⌝ }
     ensures { λ r. ⌜ S.Reads (S.reading (S.seen p (now (s .entry)) (now (room .entry))) (now (piece .entry))) r (now (s .exit)) (now (room .exit)) ⌝ }
 {
     let mut q = p;

@@ -29,7 +29,7 @@ slice-write-room : tie.Need-slice-write-room
 slice-write-room c = let a = c .before .before .before .before .before .args in let d = due-of (a .p .at) (c .before .phase .given .1) (c .before .before .before .before .before .pre .due) in omega (arith, d, c .before .before .before .before .before .pre .room)
 
 opening-requires : tie.Need-opening-requires
-opening-requires c κs = simp length-set (omega (arith, c .before .before .before .before .before .before .before .before .pre .room))
+opening-requires c κs = (simp length-set (omega (arith, c .before .before .before .before .before .before .before .before .pre .room)), c .before .before .before .before .before .before .before .before .pre .store)
 
 same-length : tie.Need-same-length
 same-length c = search needs

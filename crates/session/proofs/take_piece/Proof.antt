@@ -24,7 +24,11 @@ shared-slice-read-b : tie.Need-shared-slice-read-b Inv-loop μ-loop
 shared-slice-read-b c = search needs
 
 take-byte-requires : tie.Need-take-byte-requires Inv-loop μ-loop
-take-byte-requires c κs = record { room = omega (arith, c .before .before .before .before .loop .inv .room-kept, c .before .before .before .before .before .before .before .before .pre .room); due = c .before .before .before .before .loop .inv .due }
+take-byte-requires c κs = record {
+  store = omega (arith, c .before .before .before .before .loop .inv .store-kept, c .before .before .before .before .before .before .before .before .pre .store);
+  room = omega (arith, c .before .before .before .before .loop .inv .room-kept, c .before .before .before .before .before .before .before .before .pre .room);
+  due = c .before .before .before .before .loop .inv .due;
+}
 
 add-i : tie.Need-add-i Inv-loop μ-loop
 add-i c = search needs
