@@ -22,7 +22,7 @@ use Rattle.cells.specs.Cells.{heldAt, hashAt}
 use Rattle.cells.specs.Entries.{Entry, agreesAt, agrees, putAll, newly}
 use Rattle.cells.specs.EntriesLaws.{Sound, none, more}
 use Rattle.store.specs.Store.{fileLength, pieceLength, blocksOf, heightOf, positions, storeSize, Facts}
-use Rattle.store.specs.StoreLaws.{own-size, putAll-past, facts-usable, used-same, used-facts, used-held, used-hash}
+use Rattle.store.specs.StoreLaws.{own-cells, putAll-past, facts-usable, used-same, used-facts, used-held, used-hash}
 use Rattle.settling.specs.Path.{sibling}
 use Rattle.settling.specs.AncestorLaws.{ancestor-le}
 use Rattle.settling.specs.Span.{Within}
@@ -140,7 +140,7 @@ module _ (s t : List ℕ) (f : Facts s) (e : cut t 0 (storeSize (fileLength s)) 
           ≡ cond (ltb i (pieceCount (fileLength s) (pieceLength s))) (cond (eqb (length piece) (pieceSize (fileLength s) (pieceLength s) i)) (judgedAt s (leafOf piece) (pieceHeight s) (nodeNumber (heightOf s) (pieceHeight s) i)) wrongSize) ruleBroken
       by false x = rw x
       by true x =
-          let w = piece-within s i (Rattle.pieces.specs.PiecesLaws.placed s f i (ltb-true i (pieceCount (fileLength s) (pieceLength s)) x)) in
+          let w = piece-within s i (Rattle.pieces.specs.PiecesLaws.piece-in s f i (ltb-true i (pieceCount (fileLength s) (pieceLength s)) x)) in
           rw (judged-used (leafOf piece) (λ j. leaf-octets piece j .size) (pieceHeight s) (nodeNumber (heightOf s) (pieceHeight s) i) w)
 
   -- a layer,
@@ -220,7 +220,7 @@ module _ (s t : List ℕ) (f : Facts s) (e : cut t 0 (storeSize (fileLength s)) 
         room = f .room;
         room′ = rw (used-same s t f e .layers) at (used-facts s t f e .room);
         same = λ i l.
-            let b : i < storeSize (fileLength s) = omega (arith, own-size s) in
+            let b : i < storeSize (fileLength s) = omega (arith, own-cells s) in
             let z : 0 + i ≡ i = omega arith in
             let g : (u : List ℕ) → getD (cut u 0 (storeSize (fileLength s))) i 0 ≡ getD u i 0 = λ u. getD-cut u 0 (storeSize (fileLength s)) i b ∙ ap (λ (x : ℕ). getD u x 0) z in
             sym (g t) ∙ ap (λ (u : List ℕ). getD u i 0) e ∙ g s;
@@ -275,7 +275,7 @@ module _ (s t : List ℕ) (f : Facts s) (e : cut t 0 (storeSize (fileLength s)) 
       → getD (cond (eqb n 0) (putAll s L) s) i 0 ≡ getD s i 0
   past-alike n L k i l =
       elim (ℕ-discrete n 0) [
-        | yes z ↦ rw (eq-eqb n 0 z) (putAll-past (positions (heightOf s)) L s (f .room) (k z) i (omega (arith, own-size s)))
+        | yes z ↦ rw (eq-eqb n 0 z) (putAll-past (positions (heightOf s)) L s (f .room) (k z) i (omega (arith, own-cells s)))
         | no ne ↦ rw (ne-eqb n 0 ne)
       ]
 

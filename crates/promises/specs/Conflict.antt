@@ -354,6 +354,6 @@ piece-conflict-shows s i piece o bs e =
     let j = judged-eight (heldAt s n) (same (hashAt s n) (node leaf k 0)) (agrees s (subtree leaf k n 0)) (c .1) in
     not-both (agrees s (subtree leaf k n 0)) (j .2)
     (agrees-or-shown s (byPiece s i piece) (subtree leaf k n 0) n (node leaf k 0) (o .chained) bs
-    (piece-whole s i piece (Rattle.pieces.specs.PiecesLaws.placed s (usable-facts s (a .0)) i (ltb-true i (pieceCount (fileLength s) (pieceLength s)) (b .0)))) (λ m u x. x)
+    (piece-whole s i piece (Rattle.pieces.specs.PiecesLaws.piece-in s (usable-facts s (a .0)) i (ltb-true i (pieceCount (fileLength s) (pieceLength s)) (b .0)))) (λ m u x. x)
     (subtree-octets leaf (leaf-octets piece) k n 0)
     (subtree-top leaf k n 0) (j .0) (same-true (hashAt s n) (node leaf k 0) (j .1)))

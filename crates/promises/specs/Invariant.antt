@@ -31,7 +31,7 @@ use Rattle.messages.specs.Asks.{Ready}
 use Rattle.messages.specs.TakeLaws.{passed}
 use Rattle.messages.specs.TakenLaws.{ready-settled, taken-ready}
 use Rattle.pieces.specs.Pieces.{layerOfPieces, layerSettled, layerNumber, layerAfter, pieceHeight}
-use Rattle.pieces.specs.Asks.{Layered, Placed}
+use Rattle.pieces.specs.Asks.{Layered, PieceIn}
 use Rattle.pieces.specs.PiecesLaws.{layer-loads, loads-layered, layer-sound, layer-refused, layer-taken, piece-within}
 use Rattle.promises.specs.History.{Steps, begin, message, reject-heard, request-served, hash-asked, layer, block-judged, piece-judged, reopened, OurStore, ours}
 use Rattle.promises.specs.TakenWhen.{taken-then-right, taken-well-formed}
@@ -148,7 +148,7 @@ layer-whole s l f =
     }
 
 -- and a piece, up to its node
-pub piece-whole : (s : List ℕ) (i : ℕ) (piece : List ℕ) → Placed s i
+pub piece-whole : (s : List ℕ) (i : ℕ) (piece : List ℕ) → PieceIn s i
     → Whole (positions (heightOf s)) (nodeNumber (heightOf s) (pieceHeight s) i) (subtree (leafOf piece) (pieceHeight s) (nodeNumber (heightOf s) (pieceHeight s) i) 0)
 piece-whole s i piece p =
     let k = pieceHeight s in

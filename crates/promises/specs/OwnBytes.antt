@@ -16,7 +16,7 @@ use Rattle.cells.specs.CellsLaws.{put-room}
 use Rattle.cells.specs.Entries.{Entry, putAll}
 use Rattle.cells.specs.EntriesLaws.{Sound, none, more, In, here, there}
 use Rattle.store.specs.Store.{heightOf, positions, factsInRange, storeSize, openAfter, opened}
-use Rattle.store.specs.StoreLaws.{store-size-cells, store-size-some, positions-some}
+use Rattle.store.specs.StoreLaws.{cells-within, store-size-some, positions-some}
 use Rattle.tree.specs.Geometry.{blockCount, height}
 use Rattle.messages.specs.Take.{settled, placeIn, takeNumber, takeAfter}
 use Rattle.messages.specs.TakenLaws.{taken-ready}
@@ -91,7 +91,7 @@ bytes-opened b n plen root bb o = by (factsInRange n plen) (leb (storeSize n) (l
         let bb2 : Bytes (pasted (zeroed b (storeSize n)) 0 named) = pasted-bytes (zeroed b (storeSize n)) 0 named nf (zeroed-bytes b (storeSize n) fits bb) (sized-bytes 44 named no) in
         unfold openAfter opened in
         rw (p, q)
-        (put-bytes (positions (height (blockCount n))) (pasted (zeroed b (storeSize n)) 0 named) 1 root (omega (arith, store-size-cells n)) (positions-some (height (blockCount n))) bb2 o)
+        (put-bytes (positions (height (blockCount n))) (pasted (zeroed b (storeSize n)) 0 named) 1 root (omega (arith, cells-within n)) (positions-some (height (blockCount n))) bb2 o)
     by true false p q = unfold openAfter in rw (p, q) bb
     by false y p q = unfold openAfter in rw p bb
 

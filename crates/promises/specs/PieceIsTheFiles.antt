@@ -24,7 +24,7 @@ use Rattle.settling.specs.Span.{Within}
 use Rattle.settling.specs.Subtree.{subtree}
 use Rattle.settling.specs.SubtreeLaws.{within-left, within-right, within-self, subtree-left, subtree-right, subtree-top}
 use Rattle.pieces.specs.Pieces.{layerOfPieces, pieceHeight, pieceNumber}
-use Rattle.pieces.specs.PiecesLaws.{placed, piece-within, height-layer, height-root, piece-right}
+use Rattle.pieces.specs.PiecesLaws.{piece-in, piece-within, height-layer, height-root, piece-right}
 use Rattle.promises.specs.History.{Bytes, OurStore}
 use Rattle.promises.specs.Invariant.{ours-have}
 use Rattle.promises.specs.Conflict.{Source, ShownAt, heldBy, byPiece, ofFile, GivesAt, same-or-shown}
@@ -168,7 +168,7 @@ unfolding GivesAt
 piece-is-the-files-at {s} file i piece o w bf bp z =
     let r = piece-right s i piece z in
     let f = ours-have o .chained .facts in
-    let p = placed s f i (r .inside) in
+    let p = piece-in s f i (r .inside) in
     let k = pieceHeight s in
     let n = nodeNumber (heightOf s) (pieceHeight s) i in
     elim (tree-agrees file s w (ours-have o .chained) (ours-bytes o)) [

@@ -20,7 +20,8 @@ use Rattle.store.specs.Store.{usable, factsRoot, blocksOf, heightOf, openAnswer
 use Rattle.header.specs.Header.{headerOf, isHashes, messageRoot, rulesKept, messageSize}
 use Rattle.messages.specs.Take.{headerNumber, settled, anchor, worked, padded, anchored, bodyNumber, placeIn, orElse, takeNumber, takeAfter, takeAnswer, rejectAnswer}
 use Rattle.messages.specs.TakenLaws.{take-refused}
-use Rattle.serve.specs.Serve.{requestNumber, rejectTo, replyTo, serveAnswer, serveAfter, fitAnswer, fitAfter}
+use Rattle.serve.specs.Serve.{requestNumber, rejectTo, replyTo, serveAnswer, serveAfter}
+use Rattle.serve.specs.Asks.{fitAnswer, fitAfter}
 use Rattle.serve.specs.ServeLaws.{fits-sent, fits-not, served-none, served-reply, served-reject, answered-form, reject-length, request-numbers, ServeNumber}
 use Rattle.pieces.specs.Pieces.{layerNumber, layerAfter, layerAnswer}
 use Rattle.pieces.specs.PiecesLaws.{layer-refused, layer-refused-count}

@@ -322,7 +322,8 @@ carried-padded s r o w = padded-when s r (w .header) (w .size) (λ j l. hold-pad
 newly-nothing : (N : ℕ) (s t : List ℕ) → ((q : ℕ) → heldAt t q ≡ true → heldAt s q ≡ true) → newly N s t ≡ 0
 unfolding newly
 newly-nothing zero s t f = refl
-newly-nothing (suc n) s t f = omega (arith, newly-nothing n s t f, by (heldAt t n) (heldAt s n) (f n))
+newly-nothing (suc zero) s t f = refl
+newly-nothing (suc (suc n)) s t f = omega (arith, newly-nothing (suc n) s t f, by (heldAt t (suc n)) (heldAt s (suc n)) (f (suc n)))
   where
     by : (x y : Bool) → (x ≡ true → y ≡ true) → oneIf (x && not y) ≡ 0
     by false y g = refl

@@ -24,10 +24,10 @@ use Rattle.promises.specs.Again.{what-is-held}
 use Rattle.promises.specs.Differing.{either, not-both}
 use Rattle.promises.specs.ReadBack.{holds-at}
 
--- N is 1 to 2^30, and the piece length 16384·2^p for a p up to 10, which is a power of two, 16384 to 16777216
+-- N is 1 to the longest file, and the piece length 16384·2^p for a p up to 10, which is a power of two, 16384 to 16777216
 pub record InRange (n plen : ℕ) : Type 0 where
   pub some : 1 ≤ n
-  pub most : n ≤ 1073741824
+  pub most : n ≤ longestFile
   pub p : ℕ
   pub small : p ≤ 10
   pub power : plen ≡ 16384 * 2 ^ p

@@ -23,7 +23,8 @@ use Rattle.header.specs.Header.{headerOf, messageRoot, isRequest, isReject, rul
 use Rattle.header.specs.HeaderLaws.{rules-kept, kept-rules}
 use Rattle.messages.specs.Take.{headerNumber, placeIn, orElse, rejectAnswer}
 use Rattle.messages.specs.TakeLaws.{passes}
-use Rattle.serve.specs.Serve.{allHeld, requestNumber, replyTo, rejectTo, serveAnswer, serveAfter, fitAfter, fitAnswer}
+use Rattle.serve.specs.Serve.{allHeld, requestNumber, replyTo, rejectTo, serveAnswer, serveAfter}
+use Rattle.serve.specs.Asks.{fitAfter, fitAnswer}
 use Rattle.serve.specs.ServeLaws.{head-same, held-run-all, held-uncles-all, request-zero, served-none, served-reply, served-reject, answered-form, reject-length, fits-sent, fits-not}
 use Rattle.promises.specs.Held.{Holds}
 use Rattle.promises.specs.Settles.{unclesIn, topLayer, topIndex}

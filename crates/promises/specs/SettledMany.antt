@@ -31,7 +31,7 @@ use Rattle.messages.specs.Asks.{Passed}
 use Rattle.messages.specs.TakeLaws.{passed, placed}
 use Rattle.pieces.specs.Pieces.{layerOfPieces, layerSettled, layerNumber, layerAnswer}
 use Rattle.pieces.specs.Asks.{Layered}
-use Rattle.pieces.specs.PiecesLaws.{layered, layer-sound, layer-taken}
+use Rattle.pieces.specs.PiecesLaws.{layered, layer-sound, layer-taken, settled-from-root}
 use Rattle.promises.specs.TakenWhen.{WellFormed, taken-well-formed}
 use Rattle.promises.specs.TakenEntries.{lacking, count-lacking, count-most, fresh-lacking}
 use Rattle.promises.specs.Over.{Hashes, Entered, Found, over-entered, entry-over}
@@ -254,6 +254,6 @@ module _ (s layer : List ℕ) (z : layerNumber s layer ≡ 0) where
   unfolding layerAnswer layer-settles-many all-of formed
   layer-count-unheld =
       ap (newly (positions (heightOf s)) s) (layer-taken s layer z)
-      ∙ count-fresh (positions (heightOf s)) (layerSettled s layer) s (facts s layer formed .room) sound
+      ∙ count-fresh (positions (heightOf s)) (layerSettled s layer) s (facts s layer formed .room) sound (settled-from-root s layer (lies s layer formed))
       ∙ fresh-lacking (positions (heightOf s)) (layerSettled s layer) s (facts s layer formed .room) sound (apart s layer formed)
       ∙ sym (spots-unheld s (formed .store) (LayerSettles s layer) (layerSettled s layer) (layer-found s layer formed))

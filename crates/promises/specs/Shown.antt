@@ -16,7 +16,7 @@ use Rattle.store.specs.Store.{fileLength, pieceLength, heightOf, positions, Fac
 use Rattle.store.specs.StoreLaws.{usable-facts}
 use Rattle.settling.specs.Subtree.{subtree}
 use Rattle.pieces.specs.Pieces.{layerOfPieces, layerSettled, pieceHeight}
-use Rattle.pieces.specs.PiecesLaws.{layered, placed}
+use Rattle.pieces.specs.PiecesLaws.{layered, piece-in}
 use Rattle.promises.specs.Held.{Holds}
 use Rattle.promises.specs.TakenWhen.{WellFormed}
 use Rattle.promises.specs.Settles.{Settles}
@@ -135,7 +135,7 @@ reads-layer s layer F l i v a b x =
 pub reads-piece : (s : List ℕ) (j : ℕ) (piece : List ℕ) → PieceFormed s j piece → Positioned (heightOf s) (byPiece s j piece)
 unfolding Gives GivesAt
 reads-piece s j piece F l i v a b x =
-    let P = placed s (usable-facts s (F .store)) j (F .inside) in
+    let P = piece-in s (usable-facts s (F .store)) j (F .inside) in
     let e : 0 + pieceHeight s ≡ pieceHeight s = omega arith in
     found-at (heightOf s) (PieceSettles s j piece) l i v a b
     (entry-over (leafOf piece) (heightOf s) 0 j (pieceHeight s) (omega (arith, P .layer)) (rw e (P .inside)) (record { at = nodeNumber (heightOf s) l i; hash = v }) (rw e x))

@@ -21,7 +21,7 @@ use Rattle.settling.specs.PathLaws.{path-length}
 use Rattle.settling.specs.SettledLaws.{settled-apart, settled-consistent, settled-anchor, settled-positive}
 use Rattle.header.specs.Header.{headerOf}
 use Rattle.messages.specs.Take.{unclesOf, given, settled, anchor, placeIn, takeNumber, takeAfter, takeAnswer}
-use Rattle.messages.specs.TakenLaws.{ready-settled, taken-ready}
+use Rattle.messages.specs.TakenLaws.{ready-settled, ready-from-root, taken-ready}
 use Rattle.promises.specs.TakenWhen.{taken-then-right, taken-well-formed}
 
 module _ (s m : List ℕ) (z : takeNumber s m ≡ 0) where
@@ -126,6 +126,7 @@ module _ (s m : List ℕ) (z : takeNumber s m ≡ 0) where
       let r = taken-ready s m (takeNumber s m) refl z in
       ap (newly (positions (heightOf s)) s) (taken-is s m z)
       ∙ count-fresh (positions (heightOf s)) (settled m (placeIn s m)) s (r .room) (sound s m z)
+      (ready-from-root (length s) m (positions (heightOf s)) (headerOf m) (placeIn s m) r)
       ∙ fresh-lacking (positions (heightOf s)) (settled m (placeIn s m)) s (r .room) (sound s m z) (settled-distinct s m z)
 
   -- at most 2·length − 2 + 2u, since the anchor was held

@@ -176,7 +176,7 @@ no-rule-at-height-0 : (x : Header) (b : ℕ) → rulesKept x b 0 ≡ false
 unfolding rulesKept
 no-rule-at-height-0 x b =
     rw (le-ltb (x .base + x .proof) 0 (omega arith))
-    (last (lengthRule (x .len) && eqb (x .index % x .len) 0 && leb (x .base + height (x .len)) 0) (indexRule b (x .base) (x .index)))
+    (last (lengthRule (x .len) && eqb (x .index % x .len) 0 && leb (x .base + height (x .len)) 0) (indexRule x b 0))
   where
     last : (a c : Bool) → (a && false && c) ≡ false
     last true c = refl
