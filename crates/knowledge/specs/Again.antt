@@ -17,17 +17,18 @@ use Rattle.tree.specs.Values.{node}
 use Rattle.cells.specs.Cells.{heldAt, hashAt}
 use Rattle.cells.specs.Entries.{Entry, agreesAt, agrees, putAll}
 use Rattle.cells.specs.EntriesLaws.{Sound, In, sound-in, agrees-held, agrees-free, agrees-in, in-agrees, entries-held}
-use Rattle.store.specs.Store.{usable, factsRoot, blocksOf, heightOf, positions, inTree, heldAnswer}
-use Rattle.store.specs.StoreLaws.{Facts, usable-facts, facts-usable, tree-number, held-unusable, held-outside, held-not, held-given}
-use Rattle.runs.specs.AncestorLaws.{ancestor-le}
-use Rattle.runs.specs.SubtreeLaws.{within-self}
-use Rattle.runs.specs.SettledLaws.{settled-consistent}
+use Rattle.store.specs.Store.{usable, factsRoot, blocksOf, heightOf, positions, inTree, heldAnswer, Facts}
+use Rattle.store.specs.StoreLaws.{usable-facts, facts-usable, tree-number, held-unusable, held-outside, held-not, held-given}
+use Rattle.settling.specs.AncestorLaws.{ancestor-le}
+use Rattle.settling.specs.SubtreeLaws.{within-self}
+use Rattle.settling.specs.SettledLaws.{settled-consistent}
 use Rattle.header.specs.Header.{headerOf, isHashes, messageRoot, rulesKept, placeOf, messageSize}
 use Rattle.header.specs.declared.Place.{Place}
 use Rattle.messages.specs.Take.{headerNumber, unclesOf, given, settled, anchor, worked, padded, anchored, bodyNumber, placeIn, orElse, takeNumber, takeAfter}
 use Rattle.pieces.specs.Pieces.{layerNumber}
 use Rattle.pieces.specs.PiecesLaws.{layer-refused}
-use Rattle.messages.specs.TakeLaws.{Passed, passed, Placed, placed, Ready, placed-ready}
+use Rattle.messages.specs.Asks.{Passed, Placed, Ready}
+use Rattle.messages.specs.TakeLaws.{passed, placed, placed-ready}
 use Rattle.messages.specs.TakenLaws.{ready-settled, taken-ready}
 use Rattle.words.specs.Held.{Holds}
 use Rattle.words.specs.History.{Steps}

@@ -13,11 +13,11 @@ use Rattle.tree.specs.Geometry.{height, nodeNumber}
 use Rattle.cells.specs.Cells.{heldAt}
 use Rattle.store.specs.Store.{blocksOf, heightOf, inTree, heldAnswer}
 use Rattle.store.specs.StoreLaws.{usable-facts, facts-leaves, held-given, held-not}
-use Rattle.runs.specs.AncestorLaws.{ancestor-number}
+use Rattle.settling.specs.AncestorLaws.{ancestor-number}
 use Rattle.header.specs.Header.{headerOf, placeOf}
 use Rattle.header.specs.HeaderLaws.{rules-kept, log-some, top-inside}
 use Rattle.messages.specs.Take.{anchor, placeIn}
-use Rattle.messages.specs.TakeLaws.{Passed}
+use Rattle.messages.specs.Asks.{Passed}
 use Rattle.words.specs.Messages.{unclesIn, anchorLayer, anchorIndex}
 
 module _ (form : Bool) (s m : List ℕ) (P : Passed form s m) where

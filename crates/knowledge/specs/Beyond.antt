@@ -21,16 +21,17 @@ use Rattle.tree.specs.ValuesLaws.{leaf-octets}
 use Rattle.cells.specs.Cells.{heldAt, hashAt}
 use Rattle.cells.specs.Entries.{Entry, agreesAt, agrees, putAll, newly}
 use Rattle.cells.specs.EntriesLaws.{Sound, none, more}
-use Rattle.store.specs.Store.{fileLength, pieceLength, blocksOf, heightOf, positions, storeSize}
-use Rattle.store.specs.StoreLaws.{Facts, putAll-past, facts-usable, used-same, used-facts, used-held, used-hash}
-use Rattle.runs.specs.Path.{sibling}
-use Rattle.runs.specs.AncestorLaws.{ancestor-le}
-use Rattle.runs.specs.Span.{Within}
-use Rattle.runs.specs.Subtree.{subtree}
-use Rattle.runs.specs.SubtreeLaws.{within-self, subtree-sound}
+use Rattle.store.specs.Store.{fileLength, pieceLength, blocksOf, heightOf, positions, storeSize, Facts}
+use Rattle.store.specs.StoreLaws.{putAll-past, facts-usable, used-same, used-facts, used-held, used-hash}
+use Rattle.settling.specs.Path.{sibling}
+use Rattle.settling.specs.AncestorLaws.{ancestor-le}
+use Rattle.settling.specs.Span.{Within}
+use Rattle.settling.specs.Subtree.{subtree}
+use Rattle.settling.specs.SubtreeLaws.{within-self, subtree-sound}
 use Rattle.header.specs.Header.{placeOf, headerOf, isHashes, isRequest, isReject, messageSize}
 use Rattle.messages.specs.Take.{headerNumber, bodyNumber, padded, anchored, anchor, settled, placeIn, orElse, takeNumber, takeAnswer, takeAfter, rejectAnswer}
-use Rattle.messages.specs.TakeLaws.{Placed, passed, placed, placed-ready}
+use Rattle.messages.specs.Asks.{Placed}
+use Rattle.messages.specs.TakeLaws.{passed, placed, placed-ready}
 use Rattle.messages.specs.TakenLaws.{ready-settled}
 use Rattle.serve.specs.Serve.{heldRun, runHashes, heldUncles, uncleHashes, allHeld, allHashes, replyTo, requestNumber, sentBack, serveAnswer, serveAfter}
 use Rattle.serve.specs.ServeLaws.{sibling-near, request-passes, run-inside, uncles-inside}
@@ -140,7 +141,7 @@ module _ (s t : List ℕ) (f : Facts s) (e : cut t 0 (storeSize (fileLength s)) 
           ≡ cond (ltb i (pieceCount (fileLength s) (pieceLength s))) (cond (eqb (length piece) (pieceSize (fileLength s) (pieceLength s) i)) (judgedAt s (leafOf piece) (pieceHeight s) (nodeNumber (heightOf s) (pieceHeight s) i)) wrongSize) ruleBroken
       by false x = rw x
       by true x =
-          let w = piece-within s i (Rattle.pieces.specs.PiecesLaws.placed s f i (ltb-true i (pieceCount (fileLength s) (pieceLength s)) x)) in
+          let w = piece-within s i (Rattle.pieces.specs.PiecesLaws.piece-in s f i (ltb-true i (pieceCount (fileLength s) (pieceLength s)) x)) in
           rw (judged-used (leafOf piece) (λ j. leaf-octets piece j .size) (pieceHeight s) (nodeNumber (heightOf s) (pieceHeight s) i) w)
 
   -- a layer,

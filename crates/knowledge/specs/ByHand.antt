@@ -13,11 +13,11 @@ use Rattle.octets.specs.Octets.{same}
 use Rattle.numbers.specs.Numbers.{ruleBroken}
 use Rattle.tree.specs.Geometry.{nodeNumber, ceilDiv, blockCount, heightFrom, height}
 use Rattle.cells.specs.Cells.{heldAt}
-use Rattle.cells.specs.EntriesLaws.{lacks}
+use Rattle.cells.specs.Entries.{lacks}
 use Rattle.store.specs.Store.{usable, fileLength, factsRoot, blocksOf, heightOf, positions, factsInRange, storeSize, opened}
 use Rattle.store.specs.StoreLaws.{opened-height, opened-held}
-use Rattle.runs.specs.Subtree.{subtree}
-use Rattle.runs.specs.Path.{sibling, path}
+use Rattle.settling.specs.Subtree.{subtree}
+use Rattle.settling.specs.Path.{sibling, path}
 use Rattle.header.specs.declared.Header.{Header}
 use Rattle.header.specs.declared.Place.{Place}
 use Rattle.header.specs.Header.{headerOf, messageRoot, isHashes, isRequest, isReject, lengthRule, indexRule, rulesKept, placeOf}
@@ -96,7 +96,7 @@ pub no-rule-at-height-0 : (x : Header) (b : ℕ) → rulesKept x b 0 ≡ false
 unfolding rulesKept
 no-rule-at-height-0 x b =
     rw (le-ltb (x .base + x .proof) 0 (omega arith))
-    (last (lengthRule (x .len) && eqb (x .index % x .len) 0 && leb (x .base + height (x .len)) 0) (indexRule b (x .base) (x .index)))
+    (last (lengthRule (x .len) && eqb (x .index % x .len) 0 && leb (x .base + height (x .len)) 0) (indexRule x b 0))
   where
     last : (a c : Bool) → (a && false && c) ≡ false
     last true c = refl

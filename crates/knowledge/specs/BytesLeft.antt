@@ -58,4 +58,6 @@ same-held N a b c q l = ap (λ (x : ℕ). eqb x 1) (c .same (31 + 33 * q) (omega
 pub newly-same : (N k : ℕ) (a b a′ b′ : List ℕ) → k ≤ N → SameCells N a b → SameCells N a′ b′ → newly k b b′ ≡ newly k a a′
 unfolding newly
 newly-same N zero a b a′ b′ l c d = refl
-newly-same N (suc k) a b a′ b′ l c d = rw (newly-same N k a b a′ b′ (omega arith) c d, same-held N a b c k (omega arith), same-held N a′ b′ d k (omega arith))
+newly-same N (suc zero) a b a′ b′ l c d = refl
+newly-same N (suc (suc k)) a b a′ b′ l c d =
+    rw (newly-same N (suc k) a b a′ b′ (omega arith) c d, same-held N a b c (suc k) (omega arith), same-held N a′ b′ d (suc k) (omega arith))

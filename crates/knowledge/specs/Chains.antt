@@ -9,8 +9,8 @@ use native.Mathlib.Decide.{ℕ-discrete}
 use Rattle.sha256.specs.Sha256.{pairHash}
 use Rattle.tree.specs.GeometryLaws.{left-start, right-start}
 use Rattle.tree.specs.Values.{node}
-use Rattle.runs.specs.Path.{uncle, risen, parentValue}
-use Rattle.runs.specs.PathLaws.{parent-even, parent-odd}
+use Rattle.settling.specs.Path.{uncle, risen, parentValue}
+use Rattle.settling.specs.PathLaws.{parent-even, parent-odd}
 use Rattle.header.specs.declared.Place.{Place}
 use Rattle.messages.specs.Take.{given, unclesOf, worked}
 use Rattle.words.specs.Messages.{Makes, alone, pair, Climbs, there, left, right}

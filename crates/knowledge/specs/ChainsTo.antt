@@ -10,11 +10,12 @@ use Rattle.sha256.specs.Sha256.{pairHash}
 use Rattle.tree.specs.Geometry.{nodeNumber}
 use Rattle.tree.specs.GeometryLaws.{node-number-parent}
 use Rattle.store.specs.Store.{blocksOf, heightOf}
-use Rattle.runs.specs.Path.{uncle}
-use Rattle.header.specs.Header.{headerOf, isHashes}
-use Rattle.header.specs.HeaderLaws.{Kept, rules-kept, log-some}
+use Rattle.settling.specs.Path.{uncle}
+use Rattle.header.specs.Header.{headerOf, isHashes, Kept}
+use Rattle.header.specs.HeaderLaws.{rules-kept, log-some}
 use Rattle.messages.specs.Take.{given, unclesOf, placeIn}
-use Rattle.messages.specs.TakeLaws.{Passed, passed, placed}
+use Rattle.messages.specs.Asks.{Passed}
+use Rattle.messages.specs.TakeLaws.{passed, placed}
 use Rattle.words.specs.Messages.{WellFormed, Makes, alone, pair, Climbs, there, left, right, hashIn, topLayer, topIndex, anchorLayer, anchorIndex, Settles, ChainsTo}
 use Rattle.knowledge.specs.Chains.{Chain}
 use Rattle.knowledge.specs.Positions.{even-number, given-is, uncle-is, u-is, top-is, anchor-settled}

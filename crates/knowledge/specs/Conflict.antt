@@ -22,16 +22,17 @@ use Rattle.tree.specs.ValuesLaws.{node-octets, leaf-octets, pad-octets}
 use Rattle.cells.specs.Cells.{heldAt, hashAt}
 use Rattle.cells.specs.Entries.{Entry, agreesAt, agrees}
 use Rattle.cells.specs.EntriesLaws.{Hold, In, here, there, Has, sound-in, in-cases, no-entry, agrees-held, agrees-free}
-use Rattle.store.specs.Store.{usable, fileLength, pieceLength, factsRoot, blocksOf, heightOf, positions}
-use Rattle.store.specs.StoreLaws.{Facts, usable-facts, positions-even}
-use Rattle.runs.specs.Subtree.{subtree, runLeaf}
-use Rattle.runs.specs.SubtreeLaws.{FamilyIn, run-leaf-octets, subtree-value, subtree-top}
-use Rattle.runs.specs.Path.{parentValue, uncle, path}
-use Rattle.runs.specs.PathLaws.{parent-even, parent-odd, path-cases}
-use Rattle.runs.specs.SettledLaws.{settled-anchor}
+use Rattle.store.specs.Store.{usable, fileLength, pieceLength, factsRoot, blocksOf, heightOf, positions, Facts}
+use Rattle.store.specs.StoreLaws.{usable-facts, positions-even}
+use Rattle.settling.specs.Subtree.{subtree, runLeaf}
+use Rattle.settling.specs.SubtreeLaws.{FamilyIn, run-leaf-octets, subtree-value, subtree-top}
+use Rattle.settling.specs.Path.{parentValue, uncle, path}
+use Rattle.settling.specs.PathLaws.{parent-even, parent-odd, path-cases}
+use Rattle.settling.specs.SettledLaws.{settled-anchor}
 use Rattle.header.specs.Header.{headerOf, isHashes, messageRoot, rulesKept, messageSize}
 use Rattle.messages.specs.Take.{headerNumber, runOf, unclesOf, given, settled, anchor, worked, padded, anchored, bodyNumber, placeIn, orElse, takeNumber}
-use Rattle.messages.specs.TakeLaws.{passed, placed, Ready, placed-ready}
+use Rattle.messages.specs.Asks.{Ready}
+use Rattle.messages.specs.TakeLaws.{passed, placed, placed-ready}
 use Rattle.pieces.specs.Pieces.{judgedAt, layerOfPieces, layerSettled, layerNumber, pieceHeight, pieceNumber}
 use Rattle.pieces.specs.PiecesLaws.{layered, run-leaves}
 use Rattle.words.specs.History.{Bytes}
@@ -345,6 +346,6 @@ piece-conflict-shows s i piece o bs e =
     let j = judged-eight (heldAt s n) (same (hashAt s n) (node leaf k 0)) (agrees s (subtree leaf k n 0)) (c .1) in
     not-both (agrees s (subtree leaf k n 0)) (j .2)
     (agrees-or-shown s (byPiece s i piece) (subtree leaf k n 0) n (node leaf k 0) (o .chained) bs
-    (piece-whole s i piece (Rattle.pieces.specs.PiecesLaws.placed s (usable-facts s (a .0)) i (ltb-true i (pieceCount (fileLength s) (pieceLength s)) (b .0)))) (λ m u x. x)
+    (piece-whole s i piece (Rattle.pieces.specs.PiecesLaws.piece-in s (usable-facts s (a .0)) i (ltb-true i (pieceCount (fileLength s) (pieceLength s)) (b .0)))) (λ m u x. x)
     (subtree-octets leaf (leaf-octets piece) k n 0)
     (subtree-top leaf k n 0) (j .0) (same-true (hashAt s n) (node leaf k 0) (j .1)))

@@ -12,8 +12,7 @@ use Rattle.tree.specs.Geometry.{nodeNumber}
 use Rattle.cells.specs.Cells.{heldAt, hashAt}
 use Rattle.cells.specs.Entries.{Entry, agreesAt, agrees}
 use Rattle.cells.specs.EntriesLaws.{In, here, there, no-entry, agrees-held, agrees-free, agrees-in, in-agrees}
-use Rattle.store.specs.Store.{heightOf}
-use Rattle.store.specs.StoreLaws.{Facts}
+use Rattle.store.specs.Store.{heightOf, Facts}
 use Rattle.words.specs.Held.{Holds, Hashes, NoneDiffers, OneDiffers}
 use Rattle.knowledge.specs.Again.{what-is-held}
 use Rattle.knowledge.specs.ReadBack.{holds-at}

@@ -17,8 +17,8 @@ use Rattle.cells.specs.Cells.{heldAt, hashAt}
 use Rattle.cells.specs.CellsLaws.{lt-or-ge}
 use Rattle.cells.specs.Entries.{agrees}
 use Rattle.store.specs.Store.{usable, factsRoot, blocksOf, heightOf}
-use Rattle.header.specs.Header.{headerOf, messageRoot, isHashes, rulesKept, messageSize}
-use Rattle.header.specs.HeaderLaws.{Kept, rules-kept, kept-rules}
+use Rattle.header.specs.Header.{headerOf, messageRoot, isHashes, rulesKept, messageSize, Kept}
+use Rattle.header.specs.HeaderLaws.{rules-kept, kept-rules}
 use Rattle.messages.specs.Take.{headerNumber, settled, anchor, worked, padded, anchored, bodyNumber, placeIn, orElse, takeNumber}
 use Rattle.messages.specs.TakeLaws.{passed, passes}
 use Rattle.words.specs.Messages.{WellFormed, HashesForm, OtherForm, Readable, Addressed, Ruled}

@@ -15,10 +15,10 @@ use Rattle.tree.specs.GeometryLaws.{node-number-root, node-number-left, node-nu
 use Rattle.tree.specs.Values.{padValue}
 use Rattle.cells.specs.Cells.{heldAt, hashAt}
 use Rattle.cells.specs.EntriesLaws.{Hold}
-use Rattle.store.specs.Store.{factsRoot, blocksOf, heightOf, positions}
-use Rattle.store.specs.StoreLaws.{Facts, usable-facts, tree-says, tree-number}
-use Rattle.runs.specs.Path.{sibling}
-use Rattle.runs.specs.PathLaws.{sibling-below, sibling-even, sibling-odd, parent-even, parent-odd}
+use Rattle.store.specs.Store.{factsRoot, blocksOf, heightOf, positions, Facts}
+use Rattle.store.specs.StoreLaws.{usable-facts, tree-says, tree-number}
+use Rattle.settling.specs.Path.{sibling}
+use Rattle.settling.specs.PathLaws.{sibling-below, sibling-even, sibling-odd, parent-even, parent-odd}
 use Rattle.words.specs.Held.{Holds}
 use Rattle.words.specs.History.{OurStore}
 use Rattle.words.specs.FourClauses.{FourClauses}

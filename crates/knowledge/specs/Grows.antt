@@ -9,10 +9,10 @@ use lib.ListN.{length}
 use borrow.Author.Tests.{eq-eqb, ne-eqb}
 use Rattle.cells.specs.Cells.{heldAt, hashAt}
 use Rattle.cells.specs.Entries.{Entry, agrees, putAll}
-use Rattle.cells.specs.EntriesLaws.{Sound, keeps, In, here, there}
-use Rattle.store.specs.Store.{heightOf, positions}
-use Rattle.store.specs.StoreLaws.{Facts, SameFacts, FromRoot, empty, next, putAll-same-facts, putAll-facts, used-same, used-facts, used-held, used-hash}
-use Rattle.runs.specs.SettledLaws.{settled-positive}
+use Rattle.cells.specs.EntriesLaws.{Sound, keeps, In, here, there, FromRoot, empty, next}
+use Rattle.store.specs.Store.{heightOf, positions, Facts, SameFacts}
+use Rattle.store.specs.StoreLaws.{putAll-same-facts, putAll-facts, used-same, used-facts, used-held, used-hash}
+use Rattle.settling.specs.SettledLaws.{settled-positive}
 use Rattle.tree.specs.Values.{node}
 use Rattle.header.specs.Header.{headerOf}
 use Rattle.messages.specs.Take.{unclesOf, given, settled, placeIn, takeNumber, takeAfter}

@@ -14,8 +14,8 @@ use Rattle.tree.specs.Geometry.{nodeNumber}
 use Rattle.tree.specs.GeometryLaws.{node-number-layer}
 use Rattle.tree.specs.Values.{node, layerLeaf}
 use Rattle.cells.specs.Cells.{heldAt, hashAt}
-use Rattle.store.specs.Store.{fileLength, pieceLength, heightOf, positions}
-use Rattle.store.specs.StoreLaws.{Facts, usable-facts, tree-says, tree-number}
+use Rattle.store.specs.Store.{fileLength, pieceLength, heightOf, positions, Facts}
+use Rattle.store.specs.StoreLaws.{usable-facts, tree-says, tree-number}
 use Rattle.header.specs.Header.{isHashes}
 use Rattle.messages.specs.Take.{takeNumber, takeAfter}
 use Rattle.messages.specs.TakeLaws.{passed}

@@ -16,12 +16,13 @@ use Rattle.tree.specs.Values.{padValue}
 use Rattle.cells.specs.Cells.{heldAt, hashAt}
 use Rattle.cells.specs.Entries.{Entry, agrees}
 use Rattle.cells.specs.EntriesLaws.{In}
-use Rattle.store.specs.Store.{blocksOf, heightOf}
-use Rattle.store.specs.StoreLaws.{Facts, usable-facts, tree-says}
-use Rattle.runs.specs.Path.{sibling, uncle, ancestor}
+use Rattle.store.specs.Store.{blocksOf, heightOf, Facts}
+use Rattle.store.specs.StoreLaws.{usable-facts, tree-says}
+use Rattle.settling.specs.Path.{sibling, uncle, ancestor}
 use Rattle.header.specs.Header.{headerOf, isHashes}
 use Rattle.messages.specs.Take.{given, unclesOf, settled, anchor, worked, padded, anchored, placeIn, takeNumber}
-use Rattle.messages.specs.TakeLaws.{Passed, passed}
+use Rattle.messages.specs.Asks.{Passed}
+use Rattle.messages.specs.TakeLaws.{passed}
 use Rattle.words.specs.Messages.{WellFormed, anchorLayer, anchorIndex, Settles, ChainsTo, PaddingRight, PaddingWrong, AnchorIs, AnchorLacks, Acceptable, Unanchored, Elsewhere, Conflicting}
 use Rattle.knowledge.specs.TakenWhen.{well-formed-number, right-then-taken, taken-then-right, wrong-padding-then-5, no-anchor-then-6, other-anchor-then-7, held-differs-then-8}
 use Rattle.knowledge.specs.Chains.{worked-chains, chain-is-worked}

@@ -17,20 +17,22 @@ use Rattle.tree.specs.Values.{node, padValue, leafOf, layerLeaf}
 use Rattle.tree.specs.ValuesLaws.{leaf-octets}
 use Rattle.cells.specs.Cells.{heldAt, hashAt}
 use Rattle.cells.specs.Entries.{Entry, agrees, putAll}
-use Rattle.cells.specs.EntriesLaws.{Sound, Hold, keeps, In, Has, Consistent, apart-consistent, entries-held, held-or-entry}
-use Rattle.store.specs.Store.{factsRoot, blocksOf, heightOf, positions, factsInRange, storeSize, openAnswer, openAfter, opened}
-use Rattle.store.specs.StoreLaws.{Facts, SameFacts, facts-blocks, positions-some, positions-even, from-root-in, putAll-same-facts, putAll-facts, opened-facts, opened-facts-root, opened-height, opened-held, opened-hash, used-same, used-facts, used-held, used-hash}
-use Rattle.runs.specs.Subtree.{subtree}
-use Rattle.runs.specs.Path.{sibling, parentValue}
-use Rattle.runs.specs.PathLaws.{sibling-even, sibling-odd, parent-even, parent-odd}
-use Rattle.runs.specs.SubtreeLaws.{FamilyIn, subtree-sound, subtree-apart, subtree-family, subtree-positive}
-use Rattle.runs.specs.SettledLaws.{settled-positive, settled-consistent, settled-family}
+use Rattle.cells.specs.EntriesLaws.{Sound, Hold, keeps, In, Has, Consistent, apart-consistent, entries-held, held-or-entry, from-root-in}
+use Rattle.store.specs.Store.{factsRoot, blocksOf, heightOf, positions, factsInRange, storeSize, openAnswer, openAfter, opened, Facts, SameFacts}
+use Rattle.store.specs.StoreLaws.{facts-blocks, positions-some, positions-even, putAll-same-facts, putAll-facts, opened-facts, opened-facts-root, opened-height, opened-held, opened-hash, used-same, used-facts, used-held, used-hash}
+use Rattle.settling.specs.Subtree.{subtree}
+use Rattle.settling.specs.Path.{sibling, parentValue}
+use Rattle.settling.specs.PathLaws.{sibling-even, sibling-odd, parent-even, parent-odd}
+use Rattle.settling.specs.SubtreeLaws.{FamilyIn, subtree-sound, subtree-apart, subtree-family, subtree-positive}
+use Rattle.settling.specs.SettledLaws.{settled-positive, settled-consistent, settled-family}
 use Rattle.header.specs.Header.{headerOf, isHashes}
 use Rattle.messages.specs.Take.{unclesOf, given, settled, anchor, placeIn, takeNumber, takeAfter}
-use Rattle.messages.specs.TakeLaws.{Ready, passed}
+use Rattle.messages.specs.Asks.{Ready}
+use Rattle.messages.specs.TakeLaws.{passed}
 use Rattle.messages.specs.TakenLaws.{ready-settled, taken-ready}
 use Rattle.pieces.specs.Pieces.{layerOfPieces, layerSettled, layerNumber, layerAfter, pieceHeight}
-use Rattle.pieces.specs.PiecesLaws.{Layered, Placed, layer-loads, loads-layered, layer-sound, layer-refused, layer-taken, piece-within}
+use Rattle.pieces.specs.Asks.{Layered, PieceIn}
+use Rattle.pieces.specs.PiecesLaws.{layer-loads, loads-layered, layer-sound, layer-refused, layer-taken, piece-within}
 use Rattle.words.specs.History.{SameStore}
 use Rattle.knowledge.specs.TakenWhen.{taken-then-right, taken-well-formed}
 use Rattle.knowledge.specs.RightPadding.{Pads, at-place, settled-pads}
@@ -145,7 +147,7 @@ layer-whole s l f =
     }
 
 -- and a piece, up to its node
-pub piece-whole : (s : List ℕ) (i : ℕ) (piece : List ℕ) → Placed s i
+pub piece-whole : (s : List ℕ) (i : ℕ) (piece : List ℕ) → PieceIn s i
     → Whole (positions (heightOf s)) (nodeNumber (heightOf s) (pieceHeight s) i) (subtree (leafOf piece) (pieceHeight s) (nodeNumber (heightOf s) (pieceHeight s) i) 0)
 piece-whole s i piece p =
     let k = pieceHeight s in

@@ -20,11 +20,11 @@ use Rattle.tree.specs.GeometryLaws.{node-number-root}
 use Rattle.tree.specs.Values.{node, leafOf, layerLeaf}
 use Rattle.cells.specs.Cells.{heldAt, hashAt}
 use Rattle.cells.specs.Entries.{agrees}
-use Rattle.store.specs.Store.{usable, fileLength, pieceLength, blocksOf, heightOf}
-use Rattle.store.specs.StoreLaws.{Facts, usable-facts, facts-leaves}
-use Rattle.runs.specs.Subtree.{subtree}
+use Rattle.store.specs.Store.{usable, fileLength, pieceLength, blocksOf, heightOf, Facts}
+use Rattle.store.specs.StoreLaws.{usable-facts, facts-leaves}
+use Rattle.settling.specs.Subtree.{subtree}
 use Rattle.pieces.specs.Pieces.{judgedAt, layerOfPieces, layerNumber, blockNumber, pieceHeight, pieceNumber}
-use Rattle.pieces.specs.PiecesLaws.{layered, placed}
+use Rattle.pieces.specs.PiecesLaws.{layered, piece-in}
 use Rattle.words.specs.Held.{Holds, Lacks, Fits, Misfits, Clashes}
 use Rattle.words.specs.Pieces.{LayerFormed, LayerSettles, BlockFormed, OtherLeaf, PieceFormed, PieceSettles}
 use Rattle.knowledge.specs.Differing.{not-both}
@@ -309,10 +309,10 @@ module _ (s : List ℕ) (i : ℕ) (piece : List ℕ) where
   from-leaves = omega arith
 
   node-low : PieceFormed s i piece → 0 + pieceHeight s ≤ heightOf s
-  node-low f = omega (arith, placed s (piece-facts f) i (f .inside) .layer)
+  node-low f = omega (arith, piece-in s (piece-facts f) i (f .inside) .layer)
 
   node-inside : PieceFormed s i piece → i < 2 ^ (heightOf s - (0 + pieceHeight s))
-  node-inside f = rw from-leaves (placed s (piece-facts f) i (f .inside) .inside)
+  node-inside f = rw from-leaves (piece-in s (piece-facts f) i (f .inside) .inside)
 
   -- 6 EXACTLY WHEN it passes 9, 3 and 4, and its node is not held
   pub piece-6 : (pieceNumber s i piece ≡ noAnchor) ↔ (PieceFormed s i piece × Lacks s (pieceHeight s) i)

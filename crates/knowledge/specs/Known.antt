@@ -11,12 +11,13 @@ use Rattle.tree.specs.Values.{node, leafOf, blockOf}
 use Rattle.cells.specs.EntriesLaws.{Has, has-same}
 use Rattle.store.specs.Store.{fileLength, pieceLength, blocksOf, heightOf, heldAnswer}
 use Rattle.store.specs.StoreLaws.{tree-says, usable-facts, facts-leaves}
-use Rattle.runs.specs.Subtree.{subtree}
-use Rattle.runs.specs.Path.{sibling, uncle, ancestor}
-use Rattle.header.specs.Header.{headerOf, isHashes, placeOf}
-use Rattle.header.specs.HeaderLaws.{Kept, rules-kept}
+use Rattle.settling.specs.Subtree.{subtree}
+use Rattle.settling.specs.Path.{sibling, uncle, ancestor}
+use Rattle.header.specs.Header.{headerOf, isHashes, placeOf, Kept}
+use Rattle.header.specs.HeaderLaws.{rules-kept}
 use Rattle.messages.specs.Take.{given, unclesOf, placeIn, takeNumber}
-use Rattle.messages.specs.TakeLaws.{Passed, passed}
+use Rattle.messages.specs.Asks.{Passed}
+use Rattle.messages.specs.TakeLaws.{passed}
 use Rattle.pieces.specs.Pieces.{blockNumber, pieceHeight, pieceNumber, layerNumber}
 use Rattle.words.specs.Held.{Holds}
 use Rattle.words.specs.History.{Bytes, OurStore}

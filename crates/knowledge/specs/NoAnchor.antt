@@ -16,7 +16,8 @@ use Rattle.store.specs.Store.{heightOf, heldAnswer}
 use Rattle.store.specs.StoreLaws.{usable-facts, held-not}
 use Rattle.header.specs.Header.{headerOf, isHashes}
 use Rattle.messages.specs.Take.{headerNumber, anchor, bodyNumber, placeIn, orElse, takeNumber, takeAfter, takeAnswer}
-use Rattle.messages.specs.TakeLaws.{Passed, passed, passes}
+use Rattle.messages.specs.Asks.{Passed}
+use Rattle.messages.specs.TakeLaws.{passed, passes}
 use Rattle.words.specs.Held.{Holds}
 use Rattle.words.specs.History.{Steps}
 use Rattle.words.specs.Messages.{anchorLayer, anchorIndex}

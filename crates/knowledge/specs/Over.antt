@@ -15,8 +15,8 @@ use Rattle.tree.specs.GeometryLaws.{node-number-left, node-number-right, node-n
 use Rattle.tree.specs.Values.{node}
 use Rattle.cells.specs.Entries.{Entry}
 use Rattle.cells.specs.EntriesLaws.{In, Has, has-same, Consistent, apart-consistent}
-use Rattle.runs.specs.Subtree.{subtree}
-use Rattle.runs.specs.SubtreeLaws.{FamilyIn, subtree-has, subtree-value, subtree-apart, subtree-family, number-below}
+use Rattle.settling.specs.Subtree.{subtree}
+use Rattle.settling.specs.SubtreeLaws.{FamilyIn, subtree-has, subtree-value, subtree-apart, subtree-family, number-below}
 use Rattle.words.specs.Held.{Hashes}
 use Rattle.words.specs.Pieces.{Over, atLeaf, above}
 

@@ -18,13 +18,13 @@ use Rattle.tree.specs.Values.{node, leafOf, blockOf, pieceOf}
 use Rattle.tree.specs.ValuesLaws.{node-octets, leaf-octets, leaf-block}
 use Rattle.cells.specs.Entries.{Entry}
 use Rattle.cells.specs.EntriesLaws.{In}
-use Rattle.store.specs.Store.{fileLength, pieceLength, blocksOf, heightOf, positions}
-use Rattle.store.specs.StoreLaws.{Facts, facts-leaves}
-use Rattle.runs.specs.Span.{Within}
-use Rattle.runs.specs.Subtree.{subtree}
-use Rattle.runs.specs.SubtreeLaws.{within-left, within-right, within-self, subtree-left, subtree-right, subtree-top}
+use Rattle.store.specs.Store.{fileLength, pieceLength, blocksOf, heightOf, positions, Facts}
+use Rattle.store.specs.StoreLaws.{facts-leaves}
+use Rattle.settling.specs.Span.{Within}
+use Rattle.settling.specs.Subtree.{subtree}
+use Rattle.settling.specs.SubtreeLaws.{within-left, within-right, within-self, subtree-left, subtree-right, subtree-top}
 use Rattle.pieces.specs.Pieces.{layerOfPieces, pieceHeight, pieceNumber}
-use Rattle.pieces.specs.PiecesLaws.{placed, piece-within, height-layer, height-root, piece-right}
+use Rattle.pieces.specs.PiecesLaws.{piece-in, piece-within, height-layer, height-root, piece-right}
 use Rattle.words.specs.History.{Bytes, OurStore}
 use Rattle.words.specs.Shown.{Source, heldBy, byPiece, ofFile, OneHash}
 use Rattle.words.specs.File.{For, pieceFor}
@@ -169,7 +169,7 @@ unfolding GivesAt
 piece-is-the-files-at {s} file i piece o w bf bp z =
     let r = piece-right s i piece z in
     let f = ours-have o .chained .facts in
-    let p = placed s f i (r .inside) in
+    let p = piece-in s f i (r .inside) in
     let k = pieceHeight s in
     let n = nodeNumber (heightOf s) (pieceHeight s) i in
     elim (tree-agrees file s w (ours-have o .chained) (ours-bytes o)) [

@@ -15,17 +15,18 @@ use Rattle.tree.specs.GeometryLaws.{node-number-parent}
 use Rattle.tree.specs.Values.{node}
 use Rattle.cells.specs.Entries.{Entry}
 use Rattle.cells.specs.EntriesLaws.{In, here, there, Has, has-same, in-left, in-right, in-cases, no-entry, Consistent}
-use Rattle.store.specs.Store.{blocksOf, heightOf}
-use Rattle.store.specs.StoreLaws.{Facts, usable-facts, facts-leaves, tree-says}
-use Rattle.runs.specs.Subtree.{subtree}
-use Rattle.runs.specs.SubtreeLaws.{FamilyIn, subtree-has, run-leaf-in}
-use Rattle.runs.specs.Path.{sibling, uncle, ancestor, parentValue, path}
-use Rattle.runs.specs.PathLaws.{path-cases, sibling-even, sibling-odd, sibling-below, parent-even, parent-odd}
-use Rattle.runs.specs.SettledLaws.{settled-consistent, settled-family}
-use Rattle.header.specs.Header.{headerOf, isHashes, placeOf}
-use Rattle.header.specs.HeaderLaws.{Kept, rules-kept, log-some, top-inside}
+use Rattle.store.specs.Store.{blocksOf, heightOf, Facts}
+use Rattle.store.specs.StoreLaws.{usable-facts, facts-leaves, tree-says}
+use Rattle.settling.specs.Subtree.{subtree}
+use Rattle.settling.specs.SubtreeLaws.{FamilyIn, subtree-has, run-leaf-in}
+use Rattle.settling.specs.Path.{sibling, uncle, ancestor, parentValue, path}
+use Rattle.settling.specs.PathLaws.{path-cases, sibling-even, sibling-odd, sibling-below, parent-even, parent-odd}
+use Rattle.settling.specs.SettledLaws.{settled-consistent, settled-family}
+use Rattle.header.specs.Header.{headerOf, isHashes, placeOf, Kept}
+use Rattle.header.specs.HeaderLaws.{rules-kept, log-some, top-inside}
 use Rattle.messages.specs.Take.{runOf, given, unclesOf, settled, anchor, worked, placeIn}
-use Rattle.messages.specs.TakeLaws.{Passed, passed, placed}
+use Rattle.messages.specs.Asks.{Passed}
+use Rattle.messages.specs.TakeLaws.{passed, placed}
 use Rattle.words.specs.Messages.{WellFormed, unclesIn, hashIn, topLayer, topIndex, anchorLayer, anchorIndex, Settles, inRun, asUncle, parent}
 use Rattle.knowledge.specs.Chains.{Chain, worked-chains, chain-is-worked}
 use Rattle.knowledge.specs.RightPadding.{sibling-number}

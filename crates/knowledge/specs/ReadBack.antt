@@ -13,18 +13,19 @@ use Rattle.octets.specs.Octets.{cut}
 use Rattle.octets.specs.OctetsLaws.{cut-cut}
 use Rattle.tree.specs.Geometry.{height, nodeNumber}
 use Rattle.cells.specs.Cells.{heldAt, hashAt}
-use Rattle.store.specs.Store.{blocksOf, heightOf, inTree}
-use Rattle.store.specs.StoreLaws.{Facts, usable-facts, facts-usable, facts-leaves, held-given}
+use Rattle.store.specs.Store.{blocksOf, heightOf, inTree, Facts}
+use Rattle.store.specs.StoreLaws.{usable-facts, facts-usable, facts-leaves, held-given}
 use Rattle.sha256.specs.declared.Hashed.{Hashed}
-use Rattle.runs.specs.Path.{sibling, uncle, ancestor}
-use Rattle.runs.specs.PathLaws.{sibling-below}
-use Rattle.runs.specs.AncestorLaws.{ancestor-number}
-use Rattle.runs.specs.SubtreeLaws.{number-below}
+use Rattle.settling.specs.Path.{sibling, uncle, ancestor}
+use Rattle.settling.specs.PathLaws.{sibling-below}
+use Rattle.settling.specs.AncestorLaws.{ancestor-number}
+use Rattle.settling.specs.SubtreeLaws.{number-below}
 use Rattle.header.specs.declared.Header.{Header}
-use Rattle.header.specs.Header.{headerOf, messageRoot, isRequest, isHashes, placeOf, messageSize}
-use Rattle.header.specs.HeaderLaws.{Kept, rules-kept, top-inside, log-some}
+use Rattle.header.specs.Header.{headerOf, messageRoot, isRequest, isHashes, placeOf, messageSize, Kept}
+use Rattle.header.specs.HeaderLaws.{rules-kept, top-inside, log-some}
 use Rattle.messages.specs.Take.{placeIn, unclesOf}
-use Rattle.messages.specs.TakeLaws.{Passed, passed}
+use Rattle.messages.specs.Asks.{Passed}
+use Rattle.messages.specs.TakeLaws.{passed}
 use Rattle.serve.specs.Serve.{requestNumber, replyTo}
 use Rattle.serve.specs.ServeLaws.{request-passes, run-held, uncle-held, reply-hash, reply-uncle, reply-header, reply-root, reply-form, reply-own-size}
 use Rattle.words.specs.Held.{Holds}

@@ -25,12 +25,12 @@ use Rattle.cells.specs.Entries.{Entry, agrees, putAll, oneIf, newly}
 use Rattle.cells.specs.EntriesLaws.{Hold, In, in-cases, one-is, no-entry, sound-in, held-or-entry}
 use Rattle.store.specs.Store.{fileLength, factsRoot, blocksOf, heightOf, positions}
 use Rattle.store.specs.StoreLaws.{usable-facts, facts-usable, facts-leaves, positions-even}
-use Rattle.runs.specs.Span.{Within}
-use Rattle.runs.specs.Subtree.{subtree, runLeaf}
-use Rattle.runs.specs.SubtreeLaws.{within-left, within-right, within-self, run-leaf-in, subtree-cases, number-below}
-use Rattle.runs.specs.Path.{sibling, parentValue, uncle, ancestor, risen, path}
-use Rattle.runs.specs.PathLaws.{sibling-below, path-cases}
-use Rattle.runs.specs.AncestorLaws.{ancestor-le, ancestor-parent}
+use Rattle.settling.specs.Span.{Within}
+use Rattle.settling.specs.Subtree.{subtree, runLeaf}
+use Rattle.settling.specs.SubtreeLaws.{within-left, within-right, within-self, run-leaf-in, subtree-cases, number-below}
+use Rattle.settling.specs.Path.{sibling, parentValue, uncle, ancestor, risen, path}
+use Rattle.settling.specs.PathLaws.{sibling-below, path-cases}
+use Rattle.settling.specs.AncestorLaws.{ancestor-le, ancestor-parent}
 use Rattle.header.specs.Header.{headerOf, isHashes, isRequest, placeOf, messageSize}
 use Rattle.header.specs.HeaderLaws.{rules-kept, log-some, top-inside}
 use Rattle.messages.specs.Padded.{allFrom, runPadded, unclePadded, unclesPadded}
@@ -323,7 +323,8 @@ carried-padded s r o w = padded-when s r (w .header) (w .size) (λ j l. hold-pad
 newly-nothing : (N : ℕ) (s t : List ℕ) → ((q : ℕ) → heldAt t q ≡ true → heldAt s q ≡ true) → newly N s t ≡ 0
 unfolding newly
 newly-nothing zero s t f = refl
-newly-nothing (suc n) s t f = omega (arith, newly-nothing n s t f, by (heldAt t n) (heldAt s n) (f n))
+newly-nothing (suc zero) s t f = refl
+newly-nothing (suc (suc n)) s t f = omega (arith, newly-nothing (suc n) s t f, by (heldAt t (suc n)) (heldAt s (suc n)) (f (suc n)))
   where
     by : (x y : Bool) → (x ≡ true → y ≡ true) → oneIf (x && not y) ≡ 0
     by false y g = refl

@@ -22,15 +22,15 @@ use Rattle.cells.specs.Entries.{Entry}
 use Rattle.cells.specs.EntriesLaws.{In, in-cases, no-entry}
 use Rattle.store.specs.Store.{blocksOf, heightOf}
 use Rattle.store.specs.StoreLaws.{usable-facts, facts-leaves}
-use Rattle.runs.specs.Subtree.{subtree, runLeaf}
-use Rattle.runs.specs.SubtreeLaws.{run-leaf-in, run-leaf-past, subtree-value, subtree-top, subtree-same, number-below, place-padding}
-use Rattle.runs.specs.Path.{sibling, parentValue, uncle, path}
-use Rattle.runs.specs.PathLaws.{sibling-even, sibling-odd, sibling-below, parent-even, parent-odd, path-cases}
+use Rattle.settling.specs.Subtree.{subtree, runLeaf}
+use Rattle.settling.specs.SubtreeLaws.{run-leaf-in, run-leaf-past, subtree-value, subtree-top, subtree-same, number-below, spot-padding}
+use Rattle.settling.specs.Path.{sibling, parentValue, uncle, path}
+use Rattle.settling.specs.PathLaws.{sibling-even, sibling-odd, sibling-below, parent-even, parent-odd, path-cases}
 use Rattle.header.specs.Header.{headerOf, isHashes, placeOf, messageSize}
 use Rattle.header.specs.HeaderLaws.{rules-kept, log-some, top-inside}
 use Rattle.messages.specs.Padded.{allFrom, runPadded, unclePadded, unclesPadded}
 use Rattle.messages.specs.Take.{runOf, unclesOf, given, settled, padded, placeIn}
-use Rattle.messages.specs.TakeLaws.{Passed}
+use Rattle.messages.specs.Asks.{Passed}
 
 -- in a tree of height h over b blocks: where position n is padding, v is its layer's padding value
 abbrev pub Pads : ℕ → ℕ → ℕ → List ℕ → Type 0
@@ -105,7 +105,7 @@ module _ (run : List ℕ) (h b base k y : ℕ) (size : length run ≡ 32 * 2 ^ k
       let e1 : i * 2 ^ (k - P .layers) ≡ y * 2 ^ k + P .offset * 2 ^ (k - P .layers) =
       ap (λ (z : ℕ). z * 2 ^ (k - P .layers)) (D .1) ∙ split (P .layers) (P .offset) (P .reach) in
       let e2 : (0 * 2 ^ P .layers + P .offset) * 2 ^ (k - P .layers) ≡ P .offset * 2 ^ (k - P .layers) = ap (λ (z : ℕ). z * 2 ^ (k - P .layers)) (zeros (P .layers) (P .offset)) in
-      place-padding leaf base (covering b base - y * 2 ^ k) leaf-right k n 0 e P (omega arith) ∙ ap padValue (sym le)
+      spot-padding leaf base (covering b base - y * 2 ^ k) leaf-right k n 0 e P (omega arith) ∙ ap padValue (sym le)
     where
       zeros : (d o : ℕ) → 0 * 2 ^ d + o ≡ o
       zeros d o = omega arith

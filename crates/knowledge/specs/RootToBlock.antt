@@ -20,13 +20,13 @@ use Rattle.tree.specs.ValuesLaws.{leaf-octets, leaf-block, block-bytes, piece-b
 use Rattle.cells.specs.Cells.{heldAt, hashAt}
 use Rattle.cells.specs.Entries.{Entry, agrees}
 use Rattle.cells.specs.EntriesLaws.{In, Has, has-same, apart-consistent, agrees-held, agrees-in, in-agrees}
-use Rattle.store.specs.Store.{fileLength, pieceLength, blocksOf, heightOf, positions}
-use Rattle.store.specs.StoreLaws.{Facts, facts-usable, facts-leaves}
-use Rattle.runs.specs.Span.{Within}
-use Rattle.runs.specs.Subtree.{subtree}
-use Rattle.runs.specs.SubtreeLaws.{within-tree, subtree-value, number-below, subtree-sound, subtree-apart, subtree-positive, subtree-family, subtree-top, subtree-has}
+use Rattle.store.specs.Store.{fileLength, pieceLength, blocksOf, heightOf, positions, Facts}
+use Rattle.store.specs.StoreLaws.{facts-usable, facts-leaves}
+use Rattle.settling.specs.Span.{Within}
+use Rattle.settling.specs.Subtree.{subtree}
+use Rattle.settling.specs.SubtreeLaws.{within-tree, subtree-value, number-below, subtree-sound, subtree-apart, subtree-positive, subtree-family, subtree-top, subtree-has}
 use Rattle.pieces.specs.Pieces.{layerOfPieces, pieceHeight, blockNumber, pieceNumber}
-use Rattle.pieces.specs.PiecesLaws.{placed, height-layer, piece-at-root, block-right, right-block, right-piece}
+use Rattle.pieces.specs.PiecesLaws.{piece-in, height-layer, piece-at-root, block-right, right-block, right-piece}
 use Rattle.words.specs.History.{Bytes, OurStore}
 use Rattle.words.specs.Shown.{heldBy, ofFile, OneHash}
 use Rattle.words.specs.File.{For, pieceFor}
@@ -242,7 +242,7 @@ module _ (file s : List ℕ) (f : Facts s) (w : For file s) (i : ℕ) (l : i < p
 
   piece-agrees : agrees s (treeOf file) ≡ true → agrees s (subtree (leafOf (pieceFor file s i)) (pieceHeight s) (nodeNumber (heightOf s) (pieceHeight s) i) 0) ≡ true
   piece-agrees g =
-      let p = placed s f i l in
+      let p = piece-in s f i l in
       rw (piece-alike .1)
       (in-agrees s (subtree (leafOf file) (pieceHeight s) (nodeNumber (heightOf s) (pieceHeight s) i) i)
       (λ e x. agrees-in s (treeOf file) g e (part-in-tree file s w (pieceHeight s) i (p .layer) (p .inside) e x)))
@@ -251,7 +251,7 @@ module _ (file s : List ℕ) (f : Facts s) (w : For file s) (i : ℕ) (l : i < p
 pub agreed-piece : {s : List ℕ} (file : List ℕ) (i : ℕ) → Facts s → For file s → i < pieceCount (fileLength s) (pieceLength s) → agrees s (treeOf file) ≡ true
     → heldAt s (nodeNumber (heightOf s) (pieceHeight s) i) ≡ true → pieceNumber s i (pieceFor file s i) ≡ 0
 agreed-piece {s} file i f w l g h =
-    let p = placed s f i l in
+    let p = piece-in s f i l in
     right-piece s i (pieceFor file s i)
     (record {
       store = facts-usable s f;

@@ -14,8 +14,8 @@ use Rattle.octets.specs.Octets.{cut}
 use Rattle.octets.specs.OctetsLaws.{cut-length, getD-cut}
 use Rattle.numbers.specs.declared.Answer.{Answer}
 use Rattle.sha256.specs.declared.Hashed.{Hashed}
-use Rattle.store.specs.Store.{usable, fileLength, heightOf, positions, storeSize}
-use Rattle.store.specs.StoreLaws.{Facts, usable-facts, facts-usable, used-same, used-facts, used-answer}
+use Rattle.store.specs.Store.{usable, fileLength, heightOf, positions, storeSize, Facts}
+use Rattle.store.specs.StoreLaws.{usable-facts, facts-usable, used-same, used-facts, used-answer}
 use Rattle.messages.specs.Take.{takeAfter}
 use Rattle.serve.specs.Serve.{serveAfter}
 use Rattle.pieces.specs.Pieces.{layerAfter, blockAnswer, pieceAnswer}

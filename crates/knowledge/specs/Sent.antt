@@ -12,7 +12,7 @@ use Rattle.octets.specs.OctetsLaws.{cut-pasted-same}
 use Rattle.numbers.specs.Numbers.{refused, done}
 use Rattle.numbers.specs.declared.Answer.{Answer}
 use Rattle.sha256.specs.Sha256.{pairHash}
-use Rattle.runs.specs.Path.{sibling}
+use Rattle.settling.specs.Path.{sibling}
 use Rattle.header.specs.Header.{headerOf, messageRoot, isHashes, messageSize}
 use Rattle.messages.specs.Take.{takeNumber, takeAfter, takeAnswer}
 use Rattle.serve.specs.Serve.{requestNumber, replyTo, sentBack, unanswered, serveAnswer}

@@ -16,15 +16,16 @@ use Rattle.numbers.specs.Numbers.{noMessage, otherRoot, ruleBroken, noRoom, not
 use Rattle.numbers.specs.declared.Answer.{Answer}
 use Rattle.tree.specs.Geometry.{height}
 use Rattle.cells.specs.Cells.{heldAt}
-use Rattle.store.specs.Store.{usable, factsRoot, blocksOf, heightOf}
-use Rattle.store.specs.StoreLaws.{Facts, usable-facts, facts-leaves}
-use Rattle.runs.specs.Path.{sibling}
-use Rattle.header.specs.Header.{headerOf, messageRoot, isRequest, isReject, rulesKept, placeOf, messageSize}
-use Rattle.header.specs.HeaderLaws.{Kept, rules-kept, kept-rules}
+use Rattle.store.specs.Store.{usable, factsRoot, blocksOf, heightOf, Facts}
+use Rattle.store.specs.StoreLaws.{usable-facts, facts-leaves}
+use Rattle.settling.specs.Path.{sibling}
+use Rattle.header.specs.Header.{headerOf, messageRoot, isRequest, isReject, rulesKept, placeOf, messageSize, Kept}
+use Rattle.header.specs.HeaderLaws.{rules-kept, kept-rules}
 use Rattle.messages.specs.Take.{headerNumber, placeIn, orElse, rejectAnswer}
 use Rattle.messages.specs.TakeLaws.{passes}
 use Rattle.serve.specs.Serve.{allHeld, requestNumber, replyTo, rejectTo, serveAnswer, serveAfter}
-use Rattle.serve.specs.ServeLaws.{fitAfter, head-same, held-run-all, held-uncles-all, request-zero, fitAnswer, served-none, served-reply, served-reject, answered-form, reject-length, fits-sent, fits-not}
+use Rattle.serve.specs.Asks.{fitAfter, fitAnswer}
+use Rattle.serve.specs.ServeLaws.{head-same, held-run-all, held-uncles-all, request-zero, served-none, served-reply, served-reject, answered-form, reject-length, fits-sent, fits-not}
 use Rattle.words.specs.Messages.{unclesIn, topLayer, topIndex, sent, Form, ValidHeader, AllGiven, Rejected, RejectDue, forRoot, forRule, forHash, NoRoomFor, forReply, forReject}
 use Rattle.knowledge.specs.Again.{what-is-held}
 use Rattle.knowledge.specs.ReadBack.{run-number, uncle-number, reply-has-header, run-reads-back, uncle-reads-back}

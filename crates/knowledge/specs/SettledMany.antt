@@ -15,20 +15,22 @@ use Rattle.tree.specs.Geometry.{nodeNumber}
 use Rattle.tree.specs.GeometryLaws.{node-number-distinct, node-number-root}
 use Rattle.tree.specs.Values.{node, layerLeaf}
 use Rattle.cells.specs.Cells.{heldAt}
-use Rattle.cells.specs.Entries.{Entry, oneIf, newly}
-use Rattle.cells.specs.EntriesLaws.{lacks, In, here, there, Apart, Sound, count-fresh}
-use Rattle.store.specs.Store.{usable, heightOf, inTree, heldAnswer, fileLength, pieceLength, positions}
-use Rattle.store.specs.StoreLaws.{held-given, held-not, Facts, usable-facts}
-use Rattle.runs.specs.Subtree.{subtree}
-use Rattle.runs.specs.SubtreeLaws.{subtree-length, subtree-apart}
-use Rattle.runs.specs.Path.{path}
-use Rattle.runs.specs.PathLaws.{path-length}
-use Rattle.runs.specs.SettledLaws.{settled-apart}
+use Rattle.cells.specs.Entries.{Entry, oneIf, newly, lacks}
+use Rattle.cells.specs.EntriesLaws.{In, here, there, Apart, Sound, count-fresh}
+use Rattle.store.specs.Store.{usable, heightOf, inTree, heldAnswer, fileLength, pieceLength, positions, Facts}
+use Rattle.store.specs.StoreLaws.{held-given, held-not, usable-facts}
+use Rattle.settling.specs.Subtree.{subtree}
+use Rattle.settling.specs.SubtreeLaws.{subtree-length, subtree-apart}
+use Rattle.settling.specs.Path.{path}
+use Rattle.settling.specs.PathLaws.{path-length}
+use Rattle.settling.specs.SettledLaws.{settled-apart}
 use Rattle.header.specs.Header.{headerOf, isHashes, placeOf}
 use Rattle.messages.specs.Take.{given, unclesOf, settled, placeIn, takeNumber, takeAnswer}
-use Rattle.messages.specs.TakeLaws.{Passed, passed, placed}
+use Rattle.messages.specs.Asks.{Passed}
+use Rattle.messages.specs.TakeLaws.{passed, placed}
 use Rattle.pieces.specs.Pieces.{layerOfPieces, layerSettled, layerNumber, layerAnswer}
-use Rattle.pieces.specs.PiecesLaws.{Layered, layered, layer-sound, layer-taken}
+use Rattle.pieces.specs.Asks.{Layered}
+use Rattle.pieces.specs.PiecesLaws.{layered, layer-sound, layer-taken, settled-from-root}
 use Rattle.words.specs.Messages.{WellFormed, unclesIn, Settles}
 use Rattle.words.specs.Held.{Hashes, Spot, Stands, first, later, Distinct, none, more, All, unheldAmong}
 use Rattle.words.specs.Pieces.{LayerFormed, LayerSettles}
@@ -228,7 +230,7 @@ module _ (s layer : List ℕ) (z : layerNumber s layer ≡ 0) where
   unfolding layerAnswer layer-settles-many all-of formed
   layer-count-unheld =
       ap (newly (positions (heightOf s)) s) (layer-taken s layer z)
-      ∙ count-fresh (positions (heightOf s)) (layerSettled s layer) s (facts s layer formed .room) sound
+      ∙ count-fresh (positions (heightOf s)) (layerSettled s layer) s (facts s layer formed .room) sound (settled-from-root s layer (lies s layer formed))
       ∙ fresh-lacking (positions (heightOf s)) (layerSettled s layer) s (facts s layer formed .room) sound (apart s layer formed)
       ∙ sym (spots-unheld s (formed .store) (LayerSettles s layer) (layerSettled s layer) (layer-found s layer formed))
 

@@ -10,11 +10,11 @@ use Rattle.tree.specs.Geometry.{blockCount, height, nodeNumber}
 use Rattle.tree.specs.GeometryLaws.{node-number-covers, node-number-left, node-number-right, node-number-root}
 use Rattle.tree.specs.Values.{node, leafOf, layerLeaf}
 use Rattle.cells.specs.EntriesLaws.{Has}
-use Rattle.store.specs.Store.{fileLength, pieceLength, heightOf, positions}
-use Rattle.store.specs.StoreLaws.{Facts, usable-facts}
-use Rattle.runs.specs.Subtree.{subtree}
+use Rattle.store.specs.Store.{fileLength, pieceLength, heightOf, positions, Facts}
+use Rattle.store.specs.StoreLaws.{usable-facts}
+use Rattle.settling.specs.Subtree.{subtree}
 use Rattle.pieces.specs.Pieces.{layerOfPieces, layerSettled, pieceHeight}
-use Rattle.pieces.specs.PiecesLaws.{layered, placed}
+use Rattle.pieces.specs.PiecesLaws.{layered, piece-in}
 use Rattle.words.specs.Held.{Holds}
 use Rattle.words.specs.Messages.{WellFormed}
 use Rattle.words.specs.Shown.{Source, heldBy, byMessage, byLayer, byPiece, ofFile, Gives, Shown}
@@ -101,7 +101,7 @@ reads-layer s layer F l i v a b x =
 pub reads-piece : (s : List ℕ) (j : ℕ) (piece : List ℕ) → PieceFormed s j piece → Positioned (heightOf s) (byPiece s j piece)
 unfolding Gives GivesAt
 reads-piece s j piece F l i v a b x =
-    let P = placed s (usable-facts s (F .store)) j (F .inside) in
+    let P = piece-in s (usable-facts s (F .store)) j (F .inside) in
     let e : 0 + pieceHeight s ≡ pieceHeight s = omega arith in
     found-at (heightOf s) (PieceSettles s j piece) l i v a b
     (entry-over (leafOf piece) (heightOf s) 0 j (pieceHeight s) (omega (arith, P .layer)) (rw e (P .inside)) (record { at = nodeNumber (heightOf s) l i; hash = v }) (rw e x))

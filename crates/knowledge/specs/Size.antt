@@ -6,12 +6,12 @@ use Prim.Native.Nat.{ℕ, _+_, _*_, _≤_}
 use native.Mathlib.Omega.{arith}
 use Rattle.tree.specs.Geometry.{blockCount, height}
 use Rattle.store.specs.Store.{fileLength, heightOf, positions, storeSize}
-use Rattle.store.specs.StoreLaws.{store-size-cells, own-size}
+use Rattle.store.specs.StoreLaws.{cells-within, own-cells}
 
 -- by the file's length
 pub cells-in-size : (n : ℕ) → 31 + 33 * positions (height (blockCount n)) ≤ storeSize n
-cells-in-size n = omega (arith, store-size-cells n)
+cells-in-size n = omega (arith, cells-within n)
 
 -- by the store's own facts
 pub cells-in-store : (s : List ℕ) → 31 + 33 * positions (heightOf s) ≤ storeSize (fileLength s)
-cells-in-store s = omega (arith, own-size s)
+cells-in-store s = omega (arith, own-cells s)

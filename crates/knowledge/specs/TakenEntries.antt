@@ -11,17 +11,17 @@ use borrow.Author.Tests.{eq-eqb}
 use Rattle.tree.specs.Values.{node}
 use Rattle.cells.specs.Cells.{Room, heldAt, hashAt, put}
 use Rattle.cells.specs.CellsLaws.{put-room, held-put-other}
-use Rattle.cells.specs.Entries.{Entry, putAll, oneIf, newly}
-use Rattle.cells.specs.EntriesLaws.{lacks, fresh, lacks-held, lacks-small, Sound, In, here, there, Has, Apart, entries-held, held-or-entry, count-fresh}
+use Rattle.cells.specs.Entries.{Entry, putAll, oneIf, newly, lacks, fresh}
+use Rattle.cells.specs.EntriesLaws.{lacks-held, lacks-small, Sound, In, here, there, Has, Apart, entries-held, held-or-entry, count-fresh}
 use Rattle.store.specs.Store.{heightOf, positions}
-use Rattle.runs.specs.Subtree.{subtree}
-use Rattle.runs.specs.SubtreeLaws.{subtree-length}
-use Rattle.runs.specs.Path.{path}
-use Rattle.runs.specs.PathLaws.{path-length}
-use Rattle.runs.specs.SettledLaws.{settled-apart, settled-consistent, settled-anchor}
+use Rattle.settling.specs.Subtree.{subtree}
+use Rattle.settling.specs.SubtreeLaws.{subtree-length}
+use Rattle.settling.specs.Path.{path}
+use Rattle.settling.specs.PathLaws.{path-length}
+use Rattle.settling.specs.SettledLaws.{settled-apart, settled-consistent, settled-anchor}
 use Rattle.header.specs.Header.{headerOf}
 use Rattle.messages.specs.Take.{unclesOf, given, settled, anchor, placeIn, takeNumber, takeAfter, takeAnswer}
-use Rattle.messages.specs.TakenLaws.{ready-settled, taken-ready}
+use Rattle.messages.specs.TakenLaws.{ready-from-root, ready-settled, taken-ready}
 use Rattle.knowledge.specs.TakenWhen.{taken-then-right, taken-well-formed}
 
 module _ (s m : List ℕ) (z : takeNumber s m ≡ 0) where
@@ -110,6 +110,7 @@ module _ (s m : List ℕ) (z : takeNumber s m ≡ 0) where
       let r = taken-ready s m (takeNumber s m) refl z in
       ap (newly (positions (heightOf s)) s) (taken-is s m z)
       ∙ count-fresh (positions (heightOf s)) (settled m (placeIn s m)) s (r .room) (sound s m z)
+      (ready-from-root (length s) m (positions (heightOf s)) (headerOf m) (placeIn s m) r)
       ∙ fresh-lacking (positions (heightOf s)) (settled m (placeIn s m)) s (r .room) (sound s m z) (settled-distinct s m z)
 
   -- at most 2·length − 2 + 2u, since the anchor was held

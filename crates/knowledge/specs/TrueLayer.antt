@@ -15,7 +15,7 @@ use Rattle.cells.specs.Entries.{agrees}
 use Rattle.cells.specs.EntriesLaws.{has-same, agrees-in, in-agrees}
 use Rattle.store.specs.Store.{fileLength, pieceLength, blocksOf, heightOf}
 use Rattle.store.specs.StoreLaws.{facts-usable}
-use Rattle.runs.specs.Subtree.{subtree}
+use Rattle.settling.specs.Subtree.{subtree}
 use Rattle.pieces.specs.Pieces.{layerOfPieces, layerSettled, layerNumber}
 use Rattle.pieces.specs.PiecesLaws.{layered, pieces-are, loads-answered, settled-in-layers}
 use Rattle.words.specs.History.{OurStore}

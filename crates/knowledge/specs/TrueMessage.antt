@@ -19,11 +19,11 @@ use Rattle.cells.specs.Cells.{heldAt, hashAt}
 use Rattle.cells.specs.Entries.{Entry}
 use Rattle.cells.specs.EntriesLaws.{In, Has, has-same, in-cases, one-is, no-entry, agrees-held, agrees-in, in-agrees}
 use Rattle.store.specs.Store.{blocksOf, heightOf, positions}
-use Rattle.runs.specs.Subtree.{subtree}
-use Rattle.runs.specs.SubtreeLaws.{subtree-cases}
-use Rattle.runs.specs.Path.{sibling, parentValue, uncle, ancestor, risen, path}
-use Rattle.runs.specs.PathLaws.{sibling-even, sibling-odd, parent-even, parent-odd, path-cases}
-use Rattle.runs.specs.AncestorLaws.{ancestor-le, ancestor-parent}
+use Rattle.settling.specs.Subtree.{subtree}
+use Rattle.settling.specs.SubtreeLaws.{subtree-cases}
+use Rattle.settling.specs.Path.{sibling, parentValue, uncle, ancestor, risen, path}
+use Rattle.settling.specs.PathLaws.{sibling-even, sibling-odd, parent-even, parent-odd, path-cases}
+use Rattle.settling.specs.AncestorLaws.{ancestor-le, ancestor-parent}
 use Rattle.header.specs.Header.{headerOf, isHashes, messageSize}
 use Rattle.messages.specs.Take.{headerNumber, unclesOf, given, settled, anchor, worked, placeIn, takeNumber}
 use Rattle.words.specs.History.{OurStore}

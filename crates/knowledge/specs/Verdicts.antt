@@ -15,9 +15,8 @@ use Rattle.tree.specs.Geometry.{nodeNumber}
 use Rattle.tree.specs.Values.{node}
 use Rattle.cells.specs.Cells.{heldAt, hashAt}
 use Rattle.cells.specs.Entries.{agrees}
-use Rattle.store.specs.Store.{heightOf}
-use Rattle.store.specs.StoreLaws.{Facts}
-use Rattle.runs.specs.Subtree.{subtree}
+use Rattle.store.specs.Store.{heightOf, Facts}
+use Rattle.settling.specs.Subtree.{subtree}
 use Rattle.pieces.specs.Pieces.{judgedAt}
 use Rattle.words.specs.Held.{Holds, Lacks, Fits, Misfits, Clashes}
 use Rattle.words.specs.Pieces.{Over}

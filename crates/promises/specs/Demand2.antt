@@ -11,7 +11,7 @@ use Rattle.numbers.specs.Numbers.{done}
 use Rattle.numbers.specs.declared.Answer.{Answer}
 use Rattle.sha256.specs.Sha256.{pairHash}
 use Rattle.store.specs.Store.{heightOf}
-use Rattle.runs.specs.Path.{sibling}
+use Rattle.settling.specs.Path.{sibling}
 use Rattle.header.specs.Header.{headerOf, messageRoot, isHashes, isReject, messageSize}
 use Rattle.messages.specs.Take.{takeAnswer, takeAfter}
 use Rattle.serve.specs.Serve.{serveAnswer}

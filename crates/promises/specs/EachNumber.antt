@@ -15,8 +15,7 @@ use Rattle.sha256.specs.Sha256.{sha256}
 use Rattle.sha256.specs.Answer.{hashedOf}
 use Rattle.tree.specs.Geometry.{blockCount, height, blockSize, pieceSize, pieceCount}
 use Rattle.store.specs.Store.{usable, fileLength, pieceLength, factsRoot, blocksOf, heightOf, storeSize, sizeAnswer, openAnswer, openAfter, heldAnswer}
-use Rattle.header.specs.Header.{headerOf, messageRoot, messageSize}
-use Rattle.header.specs.HeaderLaws.{Kept}
+use Rattle.header.specs.Header.{headerOf, messageRoot, messageSize, Kept}
 use Rattle.messages.specs.Take.{takeAnswer, rejectAnswer}
 use Rattle.serve.specs.Serve.{serveAnswer}
 use Rattle.pieces.specs.Pieces.{layerAnswer, blockAnswer, pieceHeight, pieceAnswer}

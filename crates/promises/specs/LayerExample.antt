@@ -17,8 +17,8 @@ use Rattle.tree.specs.Geometry.{ceilDiv, blockCount, heightFrom, height, nodeNu
 use Rattle.tree.specs.GeometryLaws.{node-number-root, node-number-distinct}
 use Rattle.tree.specs.Values.{layerLeaf}
 use Rattle.cells.specs.Cells.{heldAt, hashAt}
-use Rattle.store.specs.Store.{fileLength, pieceLength, heightOf, positions, factsInRange, storeSize, opened}
-use Rattle.store.specs.StoreLaws.{Facts, opened-usable, opened-facts, opened-file, opened-piece, opened-height, opened-held, opened-hash, tree-says, tree-number}
+use Rattle.store.specs.Store.{fileLength, pieceLength, heightOf, positions, factsInRange, storeSize, opened, Facts}
+use Rattle.store.specs.StoreLaws.{opened-usable, opened-facts, opened-file, opened-piece, opened-height, opened-held, opened-hash, tree-says, tree-number}
 use Rattle.pieces.specs.Pieces.{layerOfPieces, layerAnswer}
 use Rattle.words.specs.Held.{Holds, NoneDiffers}
 use Rattle.words.specs.Pieces.{Over, atLeaf, above, LayerFormed, LayerSettles}

@@ -20,11 +20,11 @@ use Rattle.tree.specs.Values.{node, padValue}
 use Rattle.cells.specs.Cells.{heldAt, hashAt, put}
 use Rattle.cells.specs.CellsLaws.{held-put-same, held-put-other, hash-put-same, hash-put-other}
 use Rattle.cells.specs.Entries.{one, agrees, putAll}
-use Rattle.cells.specs.EntriesLaws.{sound-one, one-is, agrees-held}
-use Rattle.store.specs.Store.{usable, factsRoot, blocksOf, heightOf, positions, factsInRange, storeSize, opened}
-use Rattle.store.specs.StoreLaws.{usable-facts, SameFacts, from-root-in, putAll-same-facts, putAll-usable, opened-usable, opened-facts-root, opened-blocks, opened-height, opened-held, opened-hash}
-use Rattle.runs.specs.Subtree.{subtree}
-use Rattle.runs.specs.Path.{ancestor, risen, path}
+use Rattle.cells.specs.EntriesLaws.{sound-one, one-is, agrees-held, from-root-in}
+use Rattle.store.specs.Store.{usable, factsRoot, blocksOf, heightOf, positions, factsInRange, storeSize, opened, SameFacts}
+use Rattle.store.specs.StoreLaws.{usable-facts, putAll-same-facts, putAll-usable, opened-usable, opened-facts-root, opened-blocks, opened-height, opened-held, opened-hash}
+use Rattle.settling.specs.Subtree.{subtree}
+use Rattle.settling.specs.Path.{ancestor, risen, path}
 use Rattle.header.specs.declared.Header.{Header}
 use Rattle.header.specs.declared.Place.{Place}
 use Rattle.header.specs.Header.{headerOf, messageSize, placeOf, rulesKept, lengthRule, indexRule}

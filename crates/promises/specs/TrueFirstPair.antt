@@ -18,8 +18,8 @@ use Rattle.cells.specs.Entries.{agrees}
 use Rattle.cells.specs.EntriesLaws.{agrees-held, agrees-free}
 use Rattle.store.specs.Store.{blocksOf, heightOf, positions, factsInRange, storeSize, opened}
 use Rattle.store.specs.StoreLaws.{opened-usable, opened-facts-root, opened-blocks, opened-height, opened-held, opened-hash}
-use Rattle.runs.specs.Subtree.{subtree}
-use Rattle.runs.specs.Path.{sibling, uncle, parentValue, ancestor, risen, path}
+use Rattle.settling.specs.Subtree.{subtree}
+use Rattle.settling.specs.Path.{sibling, uncle, parentValue, ancestor, risen, path}
 use Rattle.header.specs.declared.Header.{Header}
 use Rattle.header.specs.declared.Place.{Place}
 use Rattle.header.specs.Header.{headerOf, messageSize, placeOf, rulesKept, lengthRule, indexRule}

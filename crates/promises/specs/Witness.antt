@@ -19,10 +19,10 @@ use Rattle.tree.specs.ValuesLaws.{leaf-octets, leaf-block, block-bytes}
 use Rattle.cells.specs.Cells.{heldAt, hashAt}
 use Rattle.cells.specs.Entries.{agreesAt, agrees}
 use Rattle.cells.specs.EntriesLaws.{agrees-held}
-use Rattle.runs.specs.Subtree.{subtree}
-use Rattle.store.specs.Store.{heightOf, fileLength, pieceLength, blocksOf, factsInRange, storeSize, openAnswer, openAfter, opened, heldAnswer}
+use Rattle.settling.specs.Subtree.{subtree}
+use Rattle.store.specs.Store.{heightOf, fileLength, pieceLength, blocksOf, factsInRange, storeSize, openAnswer, openAfter, opened, heldAnswer, Facts}
 use Rattle.pieces.specs.Pieces.{layerOfPieces, blockNumber, pieceHeight, pieceNumber}
-use Rattle.store.specs.StoreLaws.{opened-piece, Facts, facts-usable, usable-facts, opened-usable, opened-file, opened-facts-root}
+use Rattle.store.specs.StoreLaws.{opened-piece, facts-usable, usable-facts, opened-usable, opened-file, opened-facts-root}
 use Rattle.header.specs.declared.Header.{Header}
 use Rattle.header.specs.declared.Place.{Place}
 use Rattle.header.specs.Header.{headerOf, isHashes}

@@ -10,7 +10,7 @@ use Rattle.octets.specs.Octets.{same}
 use Rattle.numbers.specs.Numbers.{ruleBroken}
 use Rattle.tree.specs.Geometry.{nodeNumber, ceilDiv, blockCount, heightFrom, height, covering, pieceLayer, isPieceLength, hasLayer, pieceCount, pieceSize}
 use Rattle.store.specs.Store.{usable, fileLength, factsRoot, blocksOf, heightOf, factsInRange, storeSize, opened}
-use Rattle.runs.specs.Path.{ancestor}
+use Rattle.settling.specs.Path.{ancestor}
 use Rattle.header.specs.declared.Header.{Header}
 use Rattle.header.specs.declared.Place.{Place}
 use Rattle.header.specs.Header.{headerOf, messageRoot, isRequest, lengthRule, indexRule, rulesKept, placeOf, messageSize}

@@ -7,7 +7,7 @@ use lib.ListN.{length}
 use Rattle.tree.specs.Geometry.{blockSize}
 use Rattle.tree.specs.Values.{node, leafOf, blockOf, pieceOf, wholeLayer, piecesRoot}
 use Rattle.store.specs.Store.{fileLength, factsRoot, heightOf}
-use Rattle.runs.specs.Path.{sibling}
+use Rattle.settling.specs.Path.{sibling}
 use Rattle.header.specs.Header.{headerOf}
 use Rattle.pieces.specs.Pieces.{layerOfPieces}
 use Rattle.words.specs.Messages.{unclesIn, hashIn, topLayer, topIndex, WellFormed}

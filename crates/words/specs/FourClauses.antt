@@ -7,7 +7,7 @@ use Rattle.sha256.specs.Sha256.{pairHash}
 use Rattle.tree.specs.Geometry.{Padding}
 use Rattle.tree.specs.Values.{padValue}
 use Rattle.store.specs.Store.{factsRoot, blocksOf, heightOf}
-use Rattle.runs.specs.Path.{sibling}
+use Rattle.settling.specs.Path.{sibling}
 use Rattle.words.specs.Held.{Holds}
 
 -- the root is held with the facts' value; beside every other held position its sibling; above two held children their parent, with the

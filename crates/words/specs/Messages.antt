@@ -13,9 +13,8 @@ use Rattle.sha256.specs.Sha256.{pairHash}
 use Rattle.tree.specs.Geometry.{Padding, height}
 use Rattle.tree.specs.Values.{padValue}
 use Rattle.store.specs.Store.{usable, factsRoot, blocksOf, heightOf}
-use Rattle.runs.specs.Path.{sibling}
-use Rattle.header.specs.Header.{headerOf, messageRoot, isHashes, isRequest, isReject, messageSize}
-use Rattle.header.specs.HeaderLaws.{Kept}
+use Rattle.settling.specs.Path.{sibling}
+use Rattle.header.specs.Header.{headerOf, messageRoot, isHashes, isRequest, isReject, messageSize, Kept}
 use Rattle.messages.specs.Take.{headerNumber, takeAnswer, rejectAnswer}
 use Rattle.serve.specs.Serve.{serveAnswer, serveAfter}
 use Rattle.words.specs.Held.{Holds, Lacks, NoneDiffers, OneDiffers}
