@@ -22,7 +22,7 @@ use Rattle.cells.specs.Cells.{heldAt, hashAt}
 use Rattle.cells.specs.Entries.{Entry, agreesAt, agrees, putAll, newly}
 use Rattle.cells.specs.EntriesLaws.{Sound, none, more}
 use Rattle.store.specs.Store.{fileLength, pieceLength, blocksOf, heightOf, positions, storeSize, Facts}
-use Rattle.store.specs.StoreLaws.{putAll-past, facts-usable, used-same, used-facts, used-held, used-hash}
+use Rattle.store.specs.StoreLaws.{own-cells, putAll-past, facts-usable, used-same, used-facts, used-held, used-hash}
 use Rattle.settling.specs.Path.{sibling}
 use Rattle.settling.specs.AncestorLaws.{ancestor-le}
 use Rattle.settling.specs.Span.{Within}
@@ -38,7 +38,6 @@ use Rattle.serve.specs.ServeLaws.{sibling-near, request-passes, run-inside, unc
 use Rattle.pieces.specs.Pieces.{blockNumber, judgedAt, layerOfPieces, layerNumber, layerSettled, layerAfter, layerAnswer, pieceHeight, pieceNumber}
 use Rattle.pieces.specs.PiecesLaws.{layered, layer-within, layer-leaf-length, piece-within, layer-sound, loads-layered, layer-loads}
 use Rattle.knowledge.specs.TakenWhen.{taken-well-formed}
-use Rattle.knowledge.specs.Size.{cells-in-store}
 use Rattle.knowledge.specs.BytesLeft.{SameCells, putAll-same, newly-same}
 
 module _ (s t : List ℕ) (f : Facts s) (e : cut t 0 (storeSize (fileLength s)) ≡ cut s 0 (storeSize (fileLength s))) where
@@ -227,7 +226,7 @@ module _ (s t : List ℕ) (f : Facts s) (e : cut t 0 (storeSize (fileLength s)) 
       record {
         room = f .room;
         room′ = rw (used-same s t f e .layers) at (used-facts s t f e .room);
-        same = λ i l. same-byte i (omega (arith, cells-in-store s));
+        same = λ i l. same-byte i (omega (arith, own-cells s));
       }
 
   left-alike : (n : ℕ) (L : List Entry) → (n ≡ 0 → Sound (positions (heightOf s)) L)

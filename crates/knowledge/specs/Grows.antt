@@ -2,21 +2,19 @@
 -- Assumes nothing.
 use mathlib.Core.Path.{_≡_, refl, _∙_}
 use mathlib.Core.Bool.{true}
-use mathlib.Core.List.{List, [], _∷_}
-use Prim.Native.Nat.{ℕ, _^_, _≤_, _<_}
+use mathlib.Core.List.{List}
+use Prim.Native.Nat.{ℕ, _<_}
 use native.Mathlib.Decide.{ℕ-discrete}
 use lib.ListN.{length}
 use borrow.Author.Tests.{eq-eqb, ne-eqb}
 use Rattle.cells.specs.Cells.{heldAt, hashAt}
 use Rattle.cells.specs.Entries.{Entry, agrees, putAll}
-use Rattle.cells.specs.EntriesLaws.{Sound, keeps, In, here, there, FromRoot, empty, next}
+use Rattle.cells.specs.EntriesLaws.{Sound, keeps, FromRoot}
 use Rattle.store.specs.Store.{heightOf, positions, Facts, SameFacts}
 use Rattle.store.specs.StoreLaws.{putAll-same-facts, putAll-facts, used-same, used-facts, used-held, used-hash}
-use Rattle.settling.specs.SettledLaws.{settled-positive}
-use Rattle.tree.specs.Values.{node}
 use Rattle.header.specs.Header.{headerOf}
-use Rattle.messages.specs.Take.{unclesOf, given, settled, placeIn, takeNumber, takeAfter}
-use Rattle.messages.specs.TakenLaws.{ready-settled, taken-ready}
+use Rattle.messages.specs.Take.{settled, placeIn, takeNumber, takeAfter}
+use Rattle.messages.specs.TakenLaws.{ready-from-root, ready-settled, taken-ready}
 use Rattle.pieces.specs.Pieces.{layerNumber, layerAfter}
 use Rattle.pieces.specs.PiecesLaws.{layer-refused, layer-same-facts, layer-facts, layer-keeps}
 use Rattle.words.specs.History.{SameStore, Steps}
@@ -70,17 +68,9 @@ grown-putAll s L f S r a =
 
 -- ---- each step
 
-from-in : (L : List Entry) → ((e : Entry) → In e L → 1 ≤ e .at) → FromRoot L
-from-in [] k = empty
-from-in (e ∷ L) k = next (k e here) (from-in L (λ f i. k f (there i)))
-
 -- a taken message writes no byte of the facts
 pub taken-from-root : (s m : List ℕ) → takeNumber s m ≡ 0 → FromRoot (settled m (placeIn s m))
-unfolding settled
-taken-from-root s m z =
-    let p = placeIn s m in
-    let r = taken-ready s m (takeNumber s m) refl z in
-    from-in _ (λ e i. settled-positive (given m (p .k)) (unclesOf m (2 ^ p .k) (p .u)) (p .k) (p .top) 0 0 (p .u) (node (given m (p .k)) (p .k) 0) (r .anchor) e i)
+taken-from-root s m z = ready-from-root (length s) m (positions (heightOf s)) (headerOf m) (placeIn s m) (taken-ready s m (takeNumber s m) refl z)
 
 -- a message, whatever it gets
 pub grown-take : (s m : List ℕ) → Facts s → Grown s (takeAfter s m)

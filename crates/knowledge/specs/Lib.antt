@@ -1,4 +1,3 @@
-pub mod Size
 pub mod Through
 pub mod TakenWhen
 pub mod Chains

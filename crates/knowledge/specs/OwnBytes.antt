@@ -16,14 +16,13 @@ use Rattle.cells.specs.CellsLaws.{put-room}
 use Rattle.cells.specs.Entries.{Entry, putAll}
 use Rattle.cells.specs.EntriesLaws.{Sound, none, more, In, here, there}
 use Rattle.store.specs.Store.{heightOf, positions, factsInRange, storeSize, openAfter, opened}
-use Rattle.store.specs.StoreLaws.{store-size-some, positions-some}
+use Rattle.store.specs.StoreLaws.{cells-within, store-size-some, positions-some}
 use Rattle.tree.specs.Geometry.{blockCount, height}
 use Rattle.messages.specs.Take.{settled, placeIn, takeNumber, takeAfter}
 use Rattle.messages.specs.TakenLaws.{taken-ready}
 use Rattle.pieces.specs.Pieces.{layerSettled, layerNumber, layerAfter}
 use Rattle.pieces.specs.PiecesLaws.{layer-loads, loads-layered, layer-refused, layer-taken}
 use Rattle.words.specs.History.{Bytes, OurStore, ours}
-use Rattle.knowledge.specs.Size.{cells-in-size}
 use Rattle.knowledge.specs.Through.{through}
 use Rattle.knowledge.specs.Invariant.{Ours, message-whole, layer-whole, ours-opened, ours-take, ours-layer, ours-moved}
 use Rattle.knowledge.specs.Conflict.{sized-bytes, message-octets, layer-gives-octets}
@@ -92,7 +91,7 @@ bytes-opened b n plen root bb o = by (factsInRange n plen) (leb (storeSize n) (l
         let bb2 : Bytes (pasted (zeroed b (storeSize n)) 0 named) = pasted-bytes (zeroed b (storeSize n)) 0 named nf (zeroed-bytes b (storeSize n) fits bb) (sized-bytes 44 named no) in
         unfold openAfter opened in
         rw (p, q)
-        (put-bytes (positions (height (blockCount n))) (pasted (zeroed b (storeSize n)) 0 named) 1 root (omega (arith, cells-in-size n)) (positions-some (height (blockCount n))) bb2 o)
+        (put-bytes (positions (height (blockCount n))) (pasted (zeroed b (storeSize n)) 0 named) 1 root (omega (arith, cells-within n)) (positions-some (height (blockCount n))) bb2 o)
     by true false p q = unfold openAfter in rw (p, q) bb
     by false y p q = unfold openAfter in rw p bb
 

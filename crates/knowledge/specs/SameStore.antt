@@ -15,12 +15,11 @@ use Rattle.octets.specs.OctetsLaws.{cut-length, getD-cut}
 use Rattle.numbers.specs.declared.Answer.{Answer}
 use Rattle.sha256.specs.declared.Hashed.{Hashed}
 use Rattle.store.specs.Store.{usable, fileLength, heightOf, positions, storeSize, Facts}
-use Rattle.store.specs.StoreLaws.{usable-facts, facts-usable, used-same, used-facts, used-answer}
+use Rattle.store.specs.StoreLaws.{own-cells, usable-facts, facts-usable, used-same, used-facts, used-answer}
 use Rattle.messages.specs.Take.{takeAfter}
 use Rattle.serve.specs.Serve.{serveAfter}
 use Rattle.pieces.specs.Pieces.{layerAfter, blockAnswer, pieceAnswer}
 use Rattle.words.specs.History.{Call, take, takeReject, serve, held, loadLayer, judgeBlock, judgePiece, reopen, answer, after, Opening, SameStore}
-use Rattle.knowledge.specs.Size.{cells-in-store}
 use Rattle.knowledge.specs.BytesLeft.{SameCells}
 use Rattle.knowledge.specs.Grows.{Grown, grown-take, grown-layer}
 use Rattle.knowledge.specs.Beyond.{same-byte, take-answer-beyond, reject-beyond, serve-beyond, layer-answer-beyond, block-beyond, piece-beyond, take-leaves-alike, layer-leaves-alike, take-past, layer-past}
@@ -104,11 +103,11 @@ module _ (s t : List ℕ) (S : SameStore s t) where
 -- the bytes behind the store's size stay
 module _ (s : List ℕ) (u : usable s ≡ true) where
   pub behind-stays : (c : Call) → (Opening c → ⊥) → (i : ℕ) → storeSize (fileLength s) ≤ i → getD (after c s) i 0 ≡ getD s i 0
-  behind-stays (take m b) x i l = take-past s s (usable-facts s u) refl m i (omega (arith, cells-in-store s))
+  behind-stays (take m b) x i l = take-past s s (usable-facts s u) refl m i (omega (arith, own-cells s))
   behind-stays (takeReject m b) x i l = refl
   behind-stays (serve m out b c) x i l = refl
   behind-stays (held j k) x i l = refl
-  behind-stays (loadLayer d b) x i l = layer-past s s (usable-facts s u) refl d i (omega (arith, cells-in-store s))
+  behind-stays (loadLayer d b) x i l = layer-past s s (usable-facts s u) refl d i (omega (arith, own-cells s))
   behind-stays (judgeBlock j d b) x i l = refl
   behind-stays (judgePiece j d b) x i l = refl
   behind-stays (reopen n plen root o) x i l = absurd (x tt)

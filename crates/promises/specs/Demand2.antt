@@ -12,7 +12,7 @@ use Rattle.numbers.specs.declared.Answer.{Answer}
 use Rattle.sha256.specs.Sha256.{pairHash}
 use Rattle.store.specs.Store.{heightOf}
 use Rattle.settling.specs.Path.{sibling}
-use Rattle.header.specs.Header.{headerOf, messageRoot, isHashes, isReject, messageSize}
+use Rattle.header.specs.Header.{headerSize, headerOf, messageRoot, isHashes, isReject, messageSize}
 use Rattle.messages.specs.Take.{takeAnswer, takeAfter}
 use Rattle.serve.specs.Serve.{serveAnswer}
 use Rattle.pieces.specs.Pieces.{layerOfPieces, layerAnswer, layerAfter}
@@ -111,7 +111,7 @@ module _ (s m out : List ℕ) (z : serveAnswer s m out .number ≡ 0) where
 
 -- 01, "Serving": a refused request is answered by "a reject with the same 48 bytes, and that number"
 pub reject-reads-back : (s m out : List ℕ) → Rejected (serveAnswer s m out .number)
-    → (serveAnswer s m out .count ≡ 49) × (isReject (sent s m out) ≡ true) × (messageRoot (sent s m out) ≡ messageRoot m) × (headerOf (sent s m out) ≡ headerOf m)
+    → (serveAnswer s m out .count ≡ headerSize) × (isReject (sent s m out) ≡ true) × (messageRoot (sent s m out) ≡ messageRoot m) × (headerOf (sent s m out) ≡ headerOf m)
 reject-reads-back s m out r =
     let w = Rattle.knowledge.specs.ServedWhen.serve-rejects s m out (serveAnswer s m out .number) r .0 refl in
     let c = Rattle.knowledge.specs.ServedWhen.reject-sent s m out (serveAnswer s m out .number) r (w .0) (w .1) in

@@ -15,7 +15,7 @@ use Rattle.sha256.specs.Sha256.{sha256}
 use Rattle.sha256.specs.Answer.{hashedOf}
 use Rattle.tree.specs.Geometry.{blockCount, height, blockSize, pieceSize, pieceCount}
 use Rattle.store.specs.Store.{usable, fileLength, pieceLength, factsRoot, blocksOf, heightOf, storeSize, sizeAnswer, openAnswer, openAfter, heldAnswer}
-use Rattle.header.specs.Header.{headerOf, messageRoot, messageSize, Kept}
+use Rattle.header.specs.Header.{requestId, rejectId, headerSize, headerOf, messageRoot, messageSize, Kept}
 use Rattle.messages.specs.Take.{takeAnswer, rejectAnswer}
 use Rattle.serve.specs.Serve.{serveAnswer}
 use Rattle.pieces.specs.Pieces.{layerAnswer, blockAnswer, pieceHeight, pieceAnswer}
@@ -151,17 +151,17 @@ module _ (s m : List ℕ) where
   pub reject-9 : (rejectAnswer s m .number ≡ unusable) ↔ (usable s ≡ false)
   reject-9 = Rattle.knowledge.specs.ServedWhen.reject-9 s m
 
-  pub reject-1 : (rejectAnswer s m .number ≡ noMessage) ↔ ((usable s ≡ true) × (Form 23 m → ⊥))
+  pub reject-1 : (rejectAnswer s m .number ≡ noMessage) ↔ ((usable s ≡ true) × (Form rejectId m → ⊥))
   reject-1 = Rattle.knowledge.specs.ServedWhen.reject-1 s m
 
-  pub reject-2 : (rejectAnswer s m .number ≡ otherRoot) ↔ ((usable s ≡ true) × Form 23 m × (factsRoot s ≡ messageRoot m → ⊥))
+  pub reject-2 : (rejectAnswer s m .number ≡ otherRoot) ↔ ((usable s ≡ true) × Form rejectId m × (factsRoot s ≡ messageRoot m → ⊥))
   reject-2 = Rattle.knowledge.specs.ServedWhen.reject-2 s m
 
   pub reject-3 : (rejectAnswer s m .number ≡ ruleBroken)
-      ↔ ((usable s ≡ true) × Form 23 m × (factsRoot s ≡ messageRoot m) × (Kept (headerOf m) (blocksOf s) (heightOf s) → ⊥))
+      ↔ ((usable s ≡ true) × Form rejectId m × (factsRoot s ≡ messageRoot m) × (Kept (headerOf m) (blocksOf s) (heightOf s) → ⊥))
   reject-3 = Rattle.knowledge.specs.ServedWhen.reject-3 s m
 
-  pub reject-0 : (rejectAnswer s m .number ≡ 0) ↔ ValidHeader 23 s m
+  pub reject-0 : (rejectAnswer s m .number ≡ 0) ↔ ValidHeader rejectId s m
   reject-0 = Rattle.knowledge.specs.ServedWhen.reject-0 s m
 
 -- ---- kd_serve: 9, 1; then 2, 3, 12 settle whether it gets a reply or a reject, and too little room for that one gives 11
@@ -170,23 +170,23 @@ module _ (s m out : List ℕ) where
   pub serve-9 : (serveAnswer s m out .number ≡ unusable) ↔ (usable s ≡ false)
   serve-9 = on (serve-silent s m out unusable (inl refl)) (request-9 s m)
 
-  pub serve-1 : (serveAnswer s m out .number ≡ noMessage) ↔ ((usable s ≡ true) × (Form 21 m → ⊥))
+  pub serve-1 : (serveAnswer s m out .number ≡ noMessage) ↔ ((usable s ≡ true) × (Form requestId m → ⊥))
   serve-1 = on (serve-silent s m out noMessage (inr refl)) (request-1 s m)
 
-  pub serve-2 : (serveAnswer s m out .number ≡ otherRoot) ↔ (((usable s ≡ true) × Form 21 m × (factsRoot s ≡ messageRoot m → ⊥)) × (49 ≤ length out))
+  pub serve-2 : (serveAnswer s m out .number ≡ otherRoot) ↔ (((usable s ≡ true) × Form requestId m × (factsRoot s ≡ messageRoot m → ⊥)) × (headerSize ≤ length out))
   serve-2 = beside (serve-rejects s m out otherRoot (inl refl)) (request-2 s m)
 
   pub serve-3 : (serveAnswer s m out .number ≡ ruleBroken)
-      ↔ (((usable s ≡ true) × Form 21 m × (factsRoot s ≡ messageRoot m) × (Kept (headerOf m) (blocksOf s) (heightOf s) → ⊥)) × (49 ≤ length out))
+      ↔ (((usable s ≡ true) × Form requestId m × (factsRoot s ≡ messageRoot m) × (Kept (headerOf m) (blocksOf s) (heightOf s) → ⊥)) × (headerSize ≤ length out))
   serve-3 = beside (serve-rejects s m out ruleBroken (inr (inl refl))) (request-3 s m)
 
-  pub serve-12 : (serveAnswer s m out .number ≡ notHeld) ↔ ((ValidHeader 21 s m × (AllGiven s m → ⊥)) × (49 ≤ length out))
+  pub serve-12 : (serveAnswer s m out .number ≡ notHeld) ↔ ((ValidHeader requestId s m × (AllGiven s m → ⊥)) × (headerSize ≤ length out))
   serve-12 = beside (serve-rejects s m out notHeld (inr (inr refl))) (request-12 s m)
 
   pub serve-11 : (serveAnswer s m out .number ≡ noRoom) ↔ NoRoomFor s m out
   serve-11 = Rattle.knowledge.specs.ServedWhen.serve-11 s m out
 
-  pub serve-0 : (serveAnswer s m out .number ≡ 0) ↔ (ValidHeader 21 s m × AllGiven s m × (messageSize (headerOf m) ≤ length out))
+  pub serve-0 : (serveAnswer s m out .number ≡ 0) ↔ (ValidHeader requestId s m × AllGiven s m × (messageSize (headerOf m) ≤ length out))
   serve-0 = Rattle.knowledge.specs.ServedWhen.served-0 s m out
 
 -- ---- kd_load_layer: 9, 3, 4, 6, 7, 8, 0

@@ -13,7 +13,7 @@ use Rattle.store.specs.Store.{usable, fileLength, factsRoot, blocksOf, heightOf
 use Rattle.settling.specs.Path.{ancestor}
 use Rattle.header.specs.declared.Header.{Header}
 use Rattle.header.specs.declared.Place.{Place}
-use Rattle.header.specs.Header.{headerOf, messageRoot, isRequest, lengthRule, indexRule, rulesKept, placeOf, messageSize}
+use Rattle.header.specs.Header.{headerSize, headerOf, messageRoot, isRequest, lengthRule, indexRule, rulesKept, placeOf, messageSize}
 use Rattle.messages.specs.Take.{anchor, takeAnswer}
 use Rattle.serve.specs.Serve.{serveAnswer}
 use Rattle.words.specs.Messages.{Refused3}
@@ -31,7 +31,7 @@ message-for-one-byte s m u n r =
     let h : height (blockCount (fileLength s)) ≡ 0 = ap (λ (x : ℕ). height (blockCount x)) n ∙ n-1 in
     broken-3 s m u r (ap (rulesKept (headerOf m) (blockCount (fileLength s))) h ∙ no-rule-at-height-0 (headerOf m) (blockCount (fileLength s)))
 
-pub request-for-one-byte : (s m out : List ℕ) → usable s ≡ true → fileLength s ≡ 1 → isRequest m ≡ true → same (factsRoot s) (messageRoot m) ≡ true → 49 ≤ length out
+pub request-for-one-byte : (s m out : List ℕ) → usable s ≡ true → fileLength s ≡ 1 → isRequest m ≡ true → same (factsRoot s) (messageRoot m) ≡ true → headerSize ≤ length out
     → serveAnswer s m out .number ≡ ruleBroken
 request-for-one-byte s m out u n q r room = message-for-one-byte s m u n r .request out q room
 

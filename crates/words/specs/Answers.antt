@@ -11,6 +11,7 @@ use Rattle.numbers.specs.declared.Answer.{Answer}
 use Rattle.limits.specs.Limits.{longestFile}
 use Rattle.sha256.specs.declared.Hashed.{Hashed}
 use Rattle.tree.specs.Geometry.{blockLength}
+use Rattle.header.specs.Header.{headerSize}
 use Rattle.serve.specs.Serve.{replyTo, rejectTo, serveAnswer, serveAfter}
 use Rattle.words.specs.Messages.{Rejected}
 use Rattle.words.specs.History.{Bytes, Call, serve}
@@ -31,14 +32,14 @@ InTable n = Listed n table
 pub data Beside : Call → Answer ⊎ Hashed → Type 0 where
   noCount : {c : Call} {a : Answer} → a .count ≡ 0 → Beside c (inl a)
   zeroBytes : {c : Call} {h : Hashed} → h .hash ≡ zeroHash → Beside c (inr h)
-  reject : {m out : List ℕ} {x : Bytes m} {y : Bytes out} {a : Answer} → Rejected (a .number) → a .count ≡ 49 → Beside (serve m out x y) (inl a)
+  reject : {m out : List ℕ} {x : Bytes m} {y : Bytes out} {a : Answer} → Rejected (a .number) → a .count ≡ headerSize → Beside (serve m out x y) (inl a)
 
 -- what a request is answered with
 pub data ServeOutcome (s m out : List ℕ) : Type 0 where
   -- the hashes message, and its size
   replied : serveAnswer s m out ≡ record { number = 0; count = length (replyTo s m) } → serveAfter s m out ≡ pasted out 0 (replyTo s m) → ServeOutcome s m out
-  -- 2, 3 or 12 with a reject of 49 bytes
-  rejected : (n : ℕ) → Rejected n → serveAnswer s m out ≡ record { number = n; count = 49 } → serveAfter s m out ≡ pasted out 0 (rejectTo m) → ServeOutcome s m out
+  -- 2, 3 or 12 with a reject, of a header's size
+  rejected : (n : ℕ) → Rejected n → serveAnswer s m out ≡ record { number = n; count = headerSize } → serveAfter s m out ≡ pasted out 0 (rejectTo m) → ServeOutcome s m out
   -- 9, 1 or 11: no byte changes, the size is zero
   untouched : (n : ℕ) → (n ≡ 9) ⊎ ((n ≡ 1) ⊎ (n ≡ 11)) → serveAnswer s m out ≡ refused n → serveAfter s m out ≡ out → ServeOutcome s m out
 

@@ -5,16 +5,16 @@ use mathlib.Core.Path.{_≡_}
 use mathlib.Core.Bool.{true}
 use mathlib.Core.List.{List}
 use mathlib.Core.Logic.{_⊎_}
-use Prim.Native.Nat.{ℕ, suc, _+_, _-_, _*_, _/_, _%_, _^_, _≤_, _<_}
-use lib.ListN.{length, getD}
+use Prim.Native.Nat.{ℕ, suc, _+_, _*_, _/_, _%_, _^_, _≤_, _<_}
+use lib.ListN.{length}
 use Rattle.octets.specs.Octets.{cut}
 use Rattle.numbers.specs.Numbers.{otherRoot, ruleBroken, notHeld}
 use Rattle.sha256.specs.Sha256.{pairHash}
-use Rattle.tree.specs.Geometry.{Padding, height}
+use Rattle.tree.specs.Geometry.{Padding, log2}
 use Rattle.tree.specs.Values.{padValue}
 use Rattle.store.specs.Store.{usable, factsRoot, blocksOf, heightOf}
 use Rattle.settling.specs.Path.{sibling}
-use Rattle.header.specs.Header.{headerOf, messageRoot, isHashes, isRequest, isReject, messageSize, Kept}
+use Rattle.header.specs.Header.{requestId, hashesId, headerSize, messageId, headerOf, messageRoot, isHashes, isRequest, isReject, messageSize, Kept, uncleCount}
 use Rattle.messages.specs.Take.{headerNumber, takeAnswer, rejectAnswer}
 use Rattle.serve.specs.Serve.{serveAnswer, serveAfter}
 use Rattle.words.specs.Held.{Holds, Lacks, NoneDiffers, OneDiffers}
@@ -23,15 +23,15 @@ use Rattle.words.specs.Held.{Holds, Lacks, NoneDiffers, OneDiffers}
 
 -- u, how many uncles it has: proof layers − (log2(length) − 1), or 0 if that is negative
 abbrev pub unclesIn : List ℕ → ℕ
-unclesIn m = headerOf m .proof - (height (headerOf m .len) - 1)
+unclesIn m = uncleCount (headerOf m)
 
 -- hash j of a message: the base run, then the uncles
 abbrev pub hashIn : List ℕ → ℕ → List ℕ
-hashIn m j = cut m (49 + 32 * j) 32
+hashIn m j = cut m (headerSize + 32 * j) 32
 
 -- the run's top: its layer, base + log2(length), and its index there
 abbrev pub topLayer : List ℕ → ℕ
-topLayer m = headerOf m .base + height (headerOf m .len)
+topLayer m = headerOf m .base + log2 (headerOf m .len)
 
 abbrev pub topIndex : List ℕ → ℕ
 topIndex m = headerOf m .index / headerOf m .len
@@ -72,14 +72,14 @@ pub record ChainsTo (m w : List ℕ) : Type 0 where
 
 -- ---- how far a message comes: each passes what stands before it
 
--- a hashes message by its form: its header's 49 bytes at least, and the id 22
+-- a hashes message by its form: its header's 49 bytes at least, and its id
 pub record HashesForm (m : List ℕ) : Type 0 where
-  pub long : 49 ≤ length m
-  pub id : getD m 0 0 ≡ 22
+  pub long : headerSize ≤ length m
+  pub id : messageId m ≡ hashesId
 
 -- below 49 bytes, or another id
 abbrev pub OtherForm : List ℕ → Type 0
-OtherForm m = (length m < 49) ⊎ (getD m 0 0 ≡ 22 → ⊥)
+OtherForm m = (length m < headerSize) ⊎ (messageId m ≡ hashesId → ⊥)
 
 -- it passes 9 and 1
 pub record Readable (s m : List ℕ) : Type 0 where
@@ -158,10 +158,10 @@ pub record Conflicting (s m : List ℕ) : Type 0 where
 
 -- exactly 49 bytes, and this id
 pub record Form (id : ℕ) (m : List ℕ) : Type 0 where
-  pub size : length m ≡ 49
-  pub first : getD m 0 0 ≡ id
+  pub size : length m ≡ headerSize
+  pub first : messageId m ≡ id
 
--- a request (id 21) or a reject (id 23) that passes 9, 1, 2 and 3
+-- a request or a reject, by its id, that passes 9, 1, 2 and 3
 pub record ValidHeader (id : ℕ) (s m : List ℕ) : Type 0 where
   pub store : usable s ≡ true
   pub form : Form id m
@@ -179,19 +179,19 @@ Rejected n = (n ≡ otherRoot) ⊎ ((n ≡ ruleBroken) ⊎ (n ≡ notHeld))
 
 -- a request is due a reject: for another root (2), for a header rule (3), or for a hash that is not held (12)
 pub data RejectDue (s m : List ℕ) : Type 0 where
-  forRoot : usable s ≡ true → Form 21 m → (factsRoot s ≡ messageRoot m → ⊥) → RejectDue s m
-  forRule : usable s ≡ true → Form 21 m → factsRoot s ≡ messageRoot m → (Kept (headerOf m) (blocksOf s) (heightOf s) → ⊥) → RejectDue s m
-  forHash : ValidHeader 21 s m → (AllGiven s m → ⊥) → RejectDue s m
+  forRoot : usable s ≡ true → Form requestId m → (factsRoot s ≡ messageRoot m → ⊥) → RejectDue s m
+  forRule : usable s ≡ true → Form requestId m → factsRoot s ≡ messageRoot m → (Kept (headerOf m) (blocksOf s) (heightOf s) → ⊥) → RejectDue s m
+  forHash : ValidHeader requestId s m → (AllGiven s m → ⊥) → RejectDue s m
 
 -- and the output has no room for what it is due (11)
 pub data NoRoomFor (s m out : List ℕ) : Type 0 where
-  forReply : ValidHeader 21 s m → AllGiven s m → length out < messageSize (headerOf m) → NoRoomFor s m out
-  forReject : RejectDue s m → length out < 49 → NoRoomFor s m out
+  forReply : ValidHeader requestId s m → AllGiven s m → length out < messageSize (headerOf m) → NoRoomFor s m out
+  forReject : RejectDue s m → length out < headerSize → NoRoomFor s m out
 
 -- a message refused 3, in whichever of the three forms it comes, a request with room for the reject
 pub record Refused3 (s m : List ℕ) : Type 0 where
   pub hashes : isHashes m ≡ true → takeAnswer s m .number ≡ ruleBroken
-  pub request : (out : List ℕ) → isRequest m ≡ true → 49 ≤ length out → serveAnswer s m out .number ≡ ruleBroken
+  pub request : (out : List ℕ) → isRequest m ≡ true → headerSize ≤ length out → serveAnswer s m out .number ≡ ruleBroken
   pub reject : isReject m ≡ true → rejectAnswer s m .number ≡ ruleBroken
 
 -- the bytes of the output that the answer counts
