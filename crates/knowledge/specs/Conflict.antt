@@ -29,7 +29,7 @@ use Rattle.settling.specs.SubtreeLaws.{FamilyIn, run-leaf-octets, subtree-value
 use Rattle.settling.specs.Path.{parentValue, uncle, path}
 use Rattle.settling.specs.PathLaws.{parent-even, parent-odd, path-cases}
 use Rattle.settling.specs.SettledLaws.{settled-anchor}
-use Rattle.header.specs.Header.{headerOf, isHashes, messageRoot, rulesKept, messageSize}
+use Rattle.header.specs.Header.{headerSize, headerOf, isHashes, messageRoot, rulesKept, messageSize}
 use Rattle.messages.specs.Take.{headerNumber, runOf, unclesOf, given, settled, anchor, worked, padded, anchored, bodyNumber, placeIn, orElse, takeNumber}
 use Rattle.messages.specs.Asks.{Ready}
 use Rattle.messages.specs.TakeLaws.{passed, placed, placed-ready}
@@ -216,10 +216,10 @@ unfolding settled given runOf unclesOf
 message-octets s m b r e i =
     let p = placeIn s m in
     let c = r .carried in
-    let run = cut m 49 (32 * 2 ^ p .k) in
-    let us = cut m (49 + 32 * 2 ^ p .k) (32 * p .u) in
-    let ro : Octets (32 * 2 ^ p .k) run = cut-octets 49 (32 * 2 ^ p .k) b (omega (arith, c .carries, c .power)) in
-    let uo : Octets (32 * p .u) us = cut-octets (49 + 32 * 2 ^ p .k) (32 * p .u) b (omega (arith, c .carries, c .power)) in
+    let run = cut m headerSize (32 * 2 ^ p .k) in
+    let us = cut m (headerSize + 32 * 2 ^ p .k) (32 * p .u) in
+    let ro : Octets (32 * 2 ^ p .k) run = cut-octets headerSize (32 * 2 ^ p .k) b (omega (arith, c .carries, c .power)) in
+    let uo : Octets (32 * p .u) us = cut-octets (headerSize + 32 * 2 ^ p .k) (32 * p .u) b (omega (arith, c .carries, c .power)) in
     let leaf = runLeaf run zeroHash in
     elim (in-cases (subtree leaf (p .k) (p .top) 0) (path us 0 (p .u) (p .top) (node leaf (p .k) 0)) i) [
       | inl x ↦ subtree-octets leaf (run-leaf-octets run zeroHash (sized-bytes (32 * 2 ^ p .k) run ro) zero-octets) (p .k) (p .top) 0 e x

@@ -7,7 +7,7 @@ use mathlib.Core.List.{List}
 use mathlib.Core.Logic.{_⊎_, inl, inr, _↔_}
 use Prim.Native.Nat.{ℕ, _≤_}
 use native.Mathlib.Omega.{arith}
-use lib.ListN.{length, getD}
+use lib.ListN.{length}
 use lib.Dec.{eqb, leb}
 use borrow.Author.Tests.{eq-eqb, ne-eqb, eqb-true, le-leb, leb-true}
 use Rattle.octets.specs.Octets.{same}
@@ -17,7 +17,7 @@ use Rattle.cells.specs.Cells.{heldAt, hashAt}
 use Rattle.cells.specs.CellsLaws.{lt-or-ge}
 use Rattle.cells.specs.Entries.{agrees}
 use Rattle.store.specs.Store.{usable, factsRoot, blocksOf, heightOf}
-use Rattle.header.specs.Header.{headerOf, messageRoot, isHashes, rulesKept, messageSize, Kept}
+use Rattle.header.specs.Header.{hashesId, headerSize, messageId, headerOf, messageRoot, isHashes, rulesKept, messageSize, Kept}
 use Rattle.header.specs.HeaderLaws.{rules-kept, kept-rules}
 use Rattle.messages.specs.Take.{headerNumber, settled, anchor, worked, padded, anchored, bodyNumber, placeIn, orElse, takeNumber}
 use Rattle.messages.specs.TakeLaws.{passed, passes}
@@ -29,16 +29,16 @@ use Rattle.knowledge.specs.Differing.{either, not-both}
 form-true : (m : List ℕ) → isHashes m ≡ true → HashesForm m
 unfolding isHashes
 form-true m e =
-    let t = and-eq-true-iff (leb 49 (length m)) (eqb (getD m 0 0) 22) .0 e in
-    record { long = leb-true 49 (length m) (t .0); id = eqb-true (getD m 0 0) 22 (t .1) }
+    let t = and-eq-true-iff (leb headerSize (length m)) (eqb (messageId m) hashesId) .0 e in
+    record { long = leb-true headerSize (length m) (t .0); id = eqb-true (messageId m) hashesId (t .1) }
 
 true-form : (m : List ℕ) → HashesForm m → isHashes m ≡ true
 unfolding isHashes
-true-form m f = rw (le-leb 49 (length m) (f .long), eq-eqb (getD m 0 0) 22 (f .id))
+true-form m f = rw (le-leb headerSize (length m) (f .long), eq-eqb (messageId m) hashesId (f .id))
 
 form-false : (m : List ℕ) → isHashes m ≡ false → OtherForm m
 form-false m e =
-    elim (lt-or-ge (length m) 49) [
+    elim (lt-or-ge (length m) headerSize) [
       | inl l ↦ inl l
       | inr g ↦ inr (λ q. not-both (true-form m (record { long = g; id = q })) e)
     ]

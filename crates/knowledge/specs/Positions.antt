@@ -22,7 +22,7 @@ use Rattle.settling.specs.SubtreeLaws.{FamilyIn, subtree-has, run-leaf-in}
 use Rattle.settling.specs.Path.{sibling, uncle, ancestor, parentValue, path}
 use Rattle.settling.specs.PathLaws.{path-cases, sibling-even, sibling-odd, sibling-below, parent-even, parent-odd}
 use Rattle.settling.specs.SettledLaws.{settled-consistent, settled-family}
-use Rattle.header.specs.Header.{headerOf, isHashes, placeOf, Kept}
+use Rattle.header.specs.Header.{headerSize, headerOf, isHashes, placeOf, Kept}
 use Rattle.header.specs.HeaderLaws.{rules-kept, log-some, top-inside}
 use Rattle.messages.specs.Take.{runOf, given, unclesOf, settled, anchor, worked, placeIn}
 use Rattle.messages.specs.Asks.{Passed}
@@ -76,8 +76,8 @@ module _ (s m : List ℕ) (W : WellFormed s m) where
   unfolding given runOf
   given-is j l =
       let q = placed (isHashes m) s m P in
-      let long : length (cut m 49 (32 * 2 ^ placeIn s m .k)) ≡ 32 * 2 ^ placeIn s m .k = cut-length m 49 (32 * 2 ^ placeIn s m .k) (omega (arith, q .size, W .size)) in
-      run-leaf-in (cut m 49 (32 * 2 ^ placeIn s m .k)) zeroHash j (omega (arith, long)) ∙ cut-cut m 49 (32 * 2 ^ placeIn s m .k) (32 * j) 32 (omega arith)
+      let long : length (cut m headerSize (32 * 2 ^ placeIn s m .k)) ≡ 32 * 2 ^ placeIn s m .k = cut-length m headerSize (32 * 2 ^ placeIn s m .k) (omega (arith, q .size, W .size)) in
+      run-leaf-in (cut m headerSize (32 * 2 ^ placeIn s m .k)) zeroHash j (omega (arith, long)) ∙ cut-cut m headerSize (32 * 2 ^ placeIn s m .k) (32 * j) 32 (omega arith)
 
   pub uncle-is : (j : ℕ) → j < placeIn s m .u → uncle (unclesOf m (2 ^ placeIn s m .k) (placeIn s m .u)) j ≡ hashIn m (headerOf m .len + j)
   uncle-is j l =

@@ -21,7 +21,7 @@ use Rattle.settling.specs.PathLaws.{sibling-below}
 use Rattle.settling.specs.AncestorLaws.{ancestor-number}
 use Rattle.settling.specs.SubtreeLaws.{number-below}
 use Rattle.header.specs.declared.Header.{Header}
-use Rattle.header.specs.Header.{headerOf, messageRoot, isRequest, isHashes, placeOf, messageSize, Kept}
+use Rattle.header.specs.Header.{headerSize, headerOf, messageRoot, isRequest, isHashes, placeOf, messageSize, Kept}
 use Rattle.header.specs.HeaderLaws.{rules-kept, top-inside, log-some}
 use Rattle.messages.specs.Take.{placeIn, unclesOf}
 use Rattle.messages.specs.Asks.{Passed}
@@ -45,8 +45,8 @@ holds-at s l i f a b h =
 pub uncle-cut : (m : List ℕ) (c u j : ℕ) → j < u → uncle (unclesOf m c u) j ≡ hashIn m (c + j)
 unfolding uncle unclesOf
 uncle-cut m c u j l =
-    let e : 49 + 32 * c + 32 * j ≡ 49 + 32 * (c + j) = omega arith in
-    cut-cut m (49 + 32 * c) (32 * u) (32 * j) 32 (omega arith) ∙ ap (λ (y : ℕ). cut m y 32) e
+    let e : headerSize + 32 * c + 32 * j ≡ headerSize + 32 * (c + j) = omega arith in
+    cut-cut m (headerSize + 32 * c) (32 * u) (32 * j) 32 (omega arith) ∙ ap (λ (y : ℕ). cut m y 32) e
 
 -- ---- the positions that a header names, by layer and index, and their numbers in a tree of height h over b blocks
 

@@ -16,7 +16,7 @@ use Rattle.numbers.specs.declared.Answer.{Answer}
 use Rattle.cells.specs.Cells.{heldAt, hashAt}
 use Rattle.cells.specs.Entries.{agrees}
 use Rattle.store.specs.Store.{usable, factsRoot, blocksOf, heightOf, openAnswer, openAfter, factsInRange, storeSize}
-use Rattle.header.specs.Header.{headerOf, isHashes, messageRoot, rulesKept, messageSize}
+use Rattle.header.specs.Header.{headerSize, headerOf, isHashes, messageRoot, rulesKept, messageSize}
 use Rattle.messages.specs.Take.{headerNumber, settled, anchor, worked, padded, anchored, bodyNumber, placeIn, orElse, takeNumber, takeAfter, takeAnswer}
 use Rattle.messages.specs.TakenLaws.{take-refused}
 use Rattle.serve.specs.Serve.{requestNumber, rejectTo, replyTo}
@@ -69,7 +69,7 @@ module _ (s m out : List ℕ) where
   no-room-or-sent : (n : ℕ) → requestNumber s m ≡ n → Rejected n → (n ≡ 9 → ⊥) → (n ≡ 1 → ⊥) → (n ≡ 0 → ⊥) → ServeOutcome s m out
   no-room-or-sent n e w a b c =
       let sr = served-reject s m out n e a b c in
-      let l : length (rejectTo m) ≡ 49 = reject-length m (answered-form s m (λ x. a (sym e ∙ x)) (λ x. b (sym e ∙ x))) in
+      let l : length (rejectTo m) ≡ headerSize = reject-length m (answered-form s m (λ x. a (sym e ∙ x)) (λ x. b (sym e ∙ x))) in
       elim (decLe (length (rejectTo m)) (length out)) [
         | yes y ↦ let g = fits-sent n (rejectTo m) out y in rejected n w (sr .0 ∙ g .0 ∙ ap (λ (x : ℕ). record { number = n; count = x }) l) (sr .1 ∙ g .1)
         | no x ↦ let g = fits-not n (rejectTo m) out (omega arith) in untouched 11 (inr (inr refl)) (sr .0 ∙ g .0) (sr .1 ∙ g .1)

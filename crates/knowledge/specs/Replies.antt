@@ -31,7 +31,7 @@ use Rattle.settling.specs.SubtreeLaws.{within-left, within-right, within-self, 
 use Rattle.settling.specs.Path.{sibling, parentValue, uncle, ancestor, risen, path}
 use Rattle.settling.specs.PathLaws.{sibling-below, path-cases}
 use Rattle.settling.specs.AncestorLaws.{ancestor-le, ancestor-parent}
-use Rattle.header.specs.Header.{headerOf, isHashes, isRequest, placeOf, messageSize}
+use Rattle.header.specs.Header.{headerSize, headerOf, isHashes, isRequest, placeOf, messageSize}
 use Rattle.header.specs.HeaderLaws.{rules-kept, log-some, top-inside}
 use Rattle.messages.specs.Padded.{allFrom, runPadded, unclePadded, unclesPadded}
 use Rattle.messages.specs.Take.{headerNumber, runOf, unclesOf, given, settled, anchor, worked, padded, placeIn, takeNumber, takeAfter, takeAnswer}
@@ -240,9 +240,9 @@ uncles-right h b hashes i (suc u) l x a c f =
         rw e (same-eq (uncle hashes i) (padValue l) (hs l (sibling x) (omega arith) in2 refl pd))
     by hs in2 false e = rw e
 
-run-size : (m : List ℕ) (c : ℕ) → 49 + 32 * c ≤ length m → length (runOf m c) ≡ 32 * c
+run-size : (m : List ℕ) (c : ℕ) → headerSize + 32 * c ≤ length m → length (runOf m c) ≡ 32 * c
 unfolding runOf
-run-size m c h = cut-length m 49 (32 * c) h
+run-size m c h = cut-length m headerSize (32 * c) h
 
 exact : (i d : ℕ) → i % d ≡ 0 → i / d * d ≡ i
 exact i d z = omega (arith, div-add-mod' i d)

@@ -26,7 +26,7 @@ use Rattle.settling.specs.Subtree.{subtree, runLeaf}
 use Rattle.settling.specs.SubtreeLaws.{run-leaf-in, run-leaf-past, subtree-value, subtree-top, subtree-same, number-below, spot-padding}
 use Rattle.settling.specs.Path.{sibling, parentValue, uncle, path}
 use Rattle.settling.specs.PathLaws.{sibling-even, sibling-odd, sibling-below, parent-even, parent-odd, path-cases}
-use Rattle.header.specs.Header.{headerOf, isHashes, placeOf, messageSize}
+use Rattle.header.specs.Header.{headerSize, headerOf, isHashes, placeOf, messageSize}
 use Rattle.header.specs.HeaderLaws.{rules-kept, log-some, top-inside}
 use Rattle.messages.specs.Padded.{allFrom, runPadded, unclePadded, unclesPadded}
 use Rattle.messages.specs.Take.{runOf, unclesOf, given, settled, padded, placeIn}
@@ -59,9 +59,9 @@ shift b base l i d e pd =
     let m : i * 2 ^ l ≡ i * 2 ^ d * 2 ^ base = ap (λ (z : ℕ). i * z) pw ∙ sym (mul-assoc i (2 ^ d) (2 ^ base)) in
     omega arith
 
-run-size : (m : List ℕ) (c : ℕ) → 49 + 32 * c ≤ length m → length (runOf m c) ≡ 32 * c
+run-size : (m : List ℕ) (c : ℕ) → headerSize + 32 * c ≤ length m → length (runOf m c) ≡ 32 * c
 unfolding runOf
-run-size m c h = cut-length m 49 (32 * c) h
+run-size m c h = cut-length m headerSize (32 * c) h
 
 module _ (run : List ℕ) (h b base k y : ℕ) (size : length run ≡ 32 * 2 ^ k) (high : base + k ≤ h) (inside : y < 2 ^ (h - (base + k)))
     (right : runPadded run b base (y * 2 ^ k) (2 ^ k) ≡ true) where

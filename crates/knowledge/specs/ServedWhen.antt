@@ -7,7 +7,7 @@ use mathlib.Core.Logic.{_⊎_, inl, inr, _↔_}
 use Prim.Native.Nat.{ℕ, _+_, _*_, _/_, _^_, _≤_, _<_}
 use native.Mathlib.Omega.{arith}
 use native.Mathlib.Decide.{decLe}
-use lib.ListN.{length, getD}
+use lib.ListN.{length}
 use lib.Dec.{eqb}
 use borrow.Author.Tests.{eq-eqb, eqb-true}
 use Rattle.octets.specs.Octets.{cut, pasted, same}
@@ -19,7 +19,7 @@ use Rattle.cells.specs.Cells.{heldAt}
 use Rattle.store.specs.Store.{usable, factsRoot, blocksOf, heightOf, Facts}
 use Rattle.store.specs.StoreLaws.{usable-facts, facts-leaves}
 use Rattle.settling.specs.Path.{sibling}
-use Rattle.header.specs.Header.{headerOf, messageRoot, isRequest, isReject, rulesKept, placeOf, messageSize, Kept}
+use Rattle.header.specs.Header.{requestId, rejectId, headerSize, messageId, headerBytes, headerOf, messageRoot, isRequest, isReject, rulesKept, placeOf, messageSize, Kept}
 use Rattle.header.specs.HeaderLaws.{rules-kept, kept-rules}
 use Rattle.messages.specs.Take.{headerNumber, placeIn, orElse, rejectAnswer}
 use Rattle.messages.specs.TakeLaws.{passes}
@@ -36,12 +36,12 @@ use Rattle.knowledge.specs.Sent.{served-then-valid}
 -- ---- the tests
 
 abbrev formed : ℕ → List ℕ → Bool
-formed id m = eqb (length m) 49 && eqb (getD m 0 0) id
+formed id m = eqb (length m) headerSize && eqb (messageId m) id
 
 form-is : (id : ℕ) (m : List ℕ) → (formed id m ≡ true) ↔ Form id m
 form-is id m = (
-  λ e. (let t = and-eq-true-iff (eqb (length m) 49) (eqb (getD m 0 0) id) .0 e in record { size = eqb-true (length m) 49 (t .0); first = eqb-true (getD m 0 0) id (t .1) }),
-  λ f. rw (eq-eqb (length m) 49 (f .size), eq-eqb (getD m 0 0) id (f .first)),
+  λ e. (let t = and-eq-true-iff (eqb (length m) headerSize) (eqb (messageId m) id) .0 e in record { size = eqb-true (length m) headerSize (t .0); first = eqb-true (messageId m) id (t .1) }),
+  λ f. rw (eq-eqb (length m) headerSize (f .size), eq-eqb (messageId m) id (f .first)),
 )
 
 root-is : (s m : List ℕ) → (same (factsRoot s) (messageRoot m) ≡ true) ↔ (factsRoot s ≡ messageRoot m)
@@ -150,9 +150,9 @@ module _ (id : ℕ) (s m : List ℕ) (n : ℕ) (a : Bool)
 -- ---- a reject that comes in
 
 module _ (s m : List ℕ) where
-  reject-tests : rejectAnswer s m .number ≡ ahead (usable s) (formed 23 m) (same (factsRoot s) (messageRoot m)) (rulesKept (headerOf m) (blocksOf s) (heightOf s)) true
+  reject-tests : rejectAnswer s m .number ≡ ahead (usable s) (formed rejectId m) (same (factsRoot s) (messageRoot m)) (rulesKept (headerOf m) (blocksOf s) (heightOf s)) true
   unfolding rejectAnswer headerNumber isReject
-  reject-tests = by (usable s) (formed 23 m) (same (factsRoot s) (messageRoot m)) (rulesKept (headerOf m) (blocksOf s) (heightOf s))
+  reject-tests = by (usable s) (formed rejectId m) (same (factsRoot s) (messageRoot m)) (rulesKept (headerOf m) (blocksOf s) (heightOf s))
     where
       by : (u f r k : Bool) → cond u (cond f (cond r (cond k 0 ruleBroken) otherRoot) noMessage) unusable ≡ ahead u f r k true
       by true true true true = refl
@@ -163,50 +163,50 @@ module _ (s m : List ℕ) where
 
   -- 9 EXACTLY WHEN the store is unusable
   pub reject-9 : (rejectAnswer s m .number ≡ unusable) ↔ (usable s ≡ false)
-  reject-9 = by-9 23 s m (rejectAnswer s m .number) true reject-tests
+  reject-9 = by-9 rejectId s m (rejectAnswer s m .number) true reject-tests
 
   -- 1 EXACTLY WHEN it is not 49 bytes with the id 23
-  pub reject-1 : (rejectAnswer s m .number ≡ noMessage) ↔ ((usable s ≡ true) × (Form 23 m → ⊥))
-  reject-1 = by-1 23 s m (rejectAnswer s m .number) true reject-tests
+  pub reject-1 : (rejectAnswer s m .number ≡ noMessage) ↔ ((usable s ≡ true) × (Form rejectId m → ⊥))
+  reject-1 = by-1 rejectId s m (rejectAnswer s m .number) true reject-tests
 
   -- 2 EXACTLY WHEN it is, and has another pieces root
-  pub reject-2 : (rejectAnswer s m .number ≡ otherRoot) ↔ ((usable s ≡ true) × Form 23 m × (factsRoot s ≡ messageRoot m → ⊥))
-  reject-2 = by-2 23 s m (rejectAnswer s m .number) true reject-tests
+  pub reject-2 : (rejectAnswer s m .number ≡ otherRoot) ↔ ((usable s ≡ true) × Form rejectId m × (factsRoot s ≡ messageRoot m → ⊥))
+  reject-2 = by-2 rejectId s m (rejectAnswer s m .number) true reject-tests
 
   -- 3 EXACTLY WHEN it has this root, and a header rule fails
   pub reject-3 : (rejectAnswer s m .number ≡ ruleBroken)
-      ↔ ((usable s ≡ true) × Form 23 m × (factsRoot s ≡ messageRoot m) × (Kept (headerOf m) (blocksOf s) (heightOf s) → ⊥))
-  reject-3 = by-3 23 s m (rejectAnswer s m .number) true reject-tests
+      ↔ ((usable s ≡ true) × Form rejectId m × (factsRoot s ≡ messageRoot m) × (Kept (headerOf m) (blocksOf s) (heightOf s) → ⊥))
+  reject-3 = by-3 rejectId s m (rejectAnswer s m .number) true reject-tests
 
   -- 0 EXACTLY WHEN none of these applies
-  pub reject-0 : (rejectAnswer s m .number ≡ 0) ↔ ValidHeader 23 s m
-  reject-0 = let p = by-on 23 s m (rejectAnswer s m .number) true reject-tests 0 (inl refl) in (λ e. p .0 e .0, λ v. p .1 (v, refl))
+  pub reject-0 : (rejectAnswer s m .number ≡ 0) ↔ ValidHeader rejectId s m
+  reject-0 = let p = by-on rejectId s m (rejectAnswer s m .number) true reject-tests 0 (inl refl) in (λ e. p .0 e .0, λ v. p .1 (v, refl))
 
 -- ---- a request
 
 module _ (s m : List ℕ) where
-  request-tests : requestNumber s m ≡ ahead (usable s) (formed 21 m) (same (factsRoot s) (messageRoot m)) (rulesKept (headerOf m) (blocksOf s) (heightOf s)) (allHeld s (placeIn s m))
+  request-tests : requestNumber s m ≡ ahead (usable s) (formed requestId m) (same (factsRoot s) (messageRoot m)) (rulesKept (headerOf m) (blocksOf s) (heightOf s)) (allHeld s (placeIn s m))
   unfolding requestNumber headerNumber isRequest
   request-tests = refl
 
   -- 9 EXACTLY WHEN the store is unusable
   pub request-9 : (requestNumber s m ≡ unusable) ↔ (usable s ≡ false)
-  request-9 = by-9 21 s m (requestNumber s m) (allHeld s (placeIn s m)) request-tests
+  request-9 = by-9 requestId s m (requestNumber s m) (allHeld s (placeIn s m)) request-tests
 
   -- 1 EXACTLY WHEN it is not 49 bytes with the id 21
-  pub request-1 : (requestNumber s m ≡ noMessage) ↔ ((usable s ≡ true) × (Form 21 m → ⊥))
-  request-1 = by-1 21 s m (requestNumber s m) (allHeld s (placeIn s m)) request-tests
+  pub request-1 : (requestNumber s m ≡ noMessage) ↔ ((usable s ≡ true) × (Form requestId m → ⊥))
+  request-1 = by-1 requestId s m (requestNumber s m) (allHeld s (placeIn s m)) request-tests
 
   -- 2 EXACTLY WHEN it is, and has another pieces root
-  pub request-2 : (requestNumber s m ≡ otherRoot) ↔ ((usable s ≡ true) × Form 21 m × (factsRoot s ≡ messageRoot m → ⊥))
-  request-2 = by-2 21 s m (requestNumber s m) (allHeld s (placeIn s m)) request-tests
+  pub request-2 : (requestNumber s m ≡ otherRoot) ↔ ((usable s ≡ true) × Form requestId m × (factsRoot s ≡ messageRoot m → ⊥))
+  request-2 = by-2 requestId s m (requestNumber s m) (allHeld s (placeIn s m)) request-tests
 
   -- 3 EXACTLY WHEN it has this root, and a header rule fails
   pub request-3 : (requestNumber s m ≡ ruleBroken)
-      ↔ ((usable s ≡ true) × Form 21 m × (factsRoot s ≡ messageRoot m) × (Kept (headerOf m) (blocksOf s) (heightOf s) → ⊥))
-  request-3 = by-3 21 s m (requestNumber s m) (allHeld s (placeIn s m)) request-tests
+      ↔ ((usable s ≡ true) × Form requestId m × (factsRoot s ≡ messageRoot m) × (Kept (headerOf m) (blocksOf s) (heightOf s) → ⊥))
+  request-3 = by-3 requestId s m (requestNumber s m) (allHeld s (placeIn s m)) request-tests
 
-  module _ (ok : ValidHeader 21 s m) where
+  module _ (ok : ValidHeader requestId s m) where
     facts : Facts s
     facts = usable-facts s (ok .store)
 
@@ -214,7 +214,7 @@ module _ (s m : List ℕ) where
     unfolding isRequest
     passing =
         passes (isRequest m) s m
-        (record { store = ok .store; formed = form-is 21 m .1 (ok .form); root = root-is s m .1 (ok .root); rules = rules-are s m .1 (ok .rules) })
+        (record { store = ok .store; formed = form-is requestId m .1 (ok .form); root = root-is s m .1 (ok .root); rules = rules-are s m .1 (ok .rules) })
 
     given-all : AllGiven s m → allHeld s (placeIn s m) ≡ true
     unfolding allHeld placeOf
@@ -239,29 +239,29 @@ module _ (s m : List ℕ) where
         record { run = λ j l. (_, run-reads-back s m z j l); uncles = λ j l. (_, uncle-reads-back s m z j l) }
 
   -- 0, if there is room for the reply, EXACTLY WHEN it passes these and kd_held gives every hash that it asks for
-  pub request-0 : (requestNumber s m ≡ 0) ↔ (ValidHeader 21 s m × AllGiven s m)
+  pub request-0 : (requestNumber s m ≡ 0) ↔ (ValidHeader requestId s m × AllGiven s m)
   request-0 =
-      let p = by-on 21 s m (requestNumber s m) (allHeld s (placeIn s m)) request-tests 0 (inl refl) in (
+      let p = by-on requestId s m (requestNumber s m) (allHeld s (placeIn s m)) request-tests 0 (inl refl) in (
         λ e. (let w = p .0 e in (w .0, all-given (w .0) (all-or-12 (allHeld s (placeIn s m)) (w .1)))),
         λ w. p .1 (w .0, rw (given-all (w .0) (w .1))),
       )
 
   -- 12 EXACTLY WHEN it passes these and kd_held does not give them all
-  pub request-12 : (requestNumber s m ≡ notHeld) ↔ (ValidHeader 21 s m × (AllGiven s m → ⊥))
+  pub request-12 : (requestNumber s m ≡ notHeld) ↔ (ValidHeader requestId s m × (AllGiven s m → ⊥))
   request-12 =
-      let p = by-on 21 s m (requestNumber s m) (allHeld s (placeIn s m)) request-tests notHeld (inr refl) in (
+      let p = by-on requestId s m (requestNumber s m) (allHeld s (placeIn s m)) request-tests notHeld (inr refl) in (
         λ e. (let w = p .0 e in (w .0, λ A. not-both (given-all (w .0) A) (not-all (allHeld s (placeIn s m)) (w .1)))),
         λ w. p .1 (w .0, elim (either (allHeld s (placeIn s m))) [ inl t ↦ absurd (w .1 (all-given (w .0) t)) | inr f ↦ rw f ]),
       )
 
   -- A HASHES MESSAGE IS SENT, with 0, EXACTLY WHEN the request is valid, kd_held gives every hash that it asks for, and the output has room
-  pub served-0 : (out : List ℕ) → (serveAnswer s m out .number ≡ 0) ↔ (ValidHeader 21 s m × AllGiven s m × (messageSize (headerOf m) ≤ length out))
+  pub served-0 : (out : List ℕ) → (serveAnswer s m out .number ≡ 0) ↔ (ValidHeader requestId s m × AllGiven s m × (messageSize (headerOf m) ≤ length out))
   served-0 out = (to, from)
     where
       size-is : requestNumber s m ≡ 0 → length (replyTo s m) ≡ messageSize (headerOf m)
       size-is z = let h = reply-has-header s m z in h .3 ∙ ap messageSize (h .2)
 
-      to : serveAnswer s m out .number ≡ 0 → ValidHeader 21 s m × AllGiven s m × (messageSize (headerOf m) ≤ length out)
+      to : serveAnswer s m out .number ≡ 0 → ValidHeader requestId s m × AllGiven s m × (messageSize (headerOf m) ≤ length out)
       to e =
           let z = served-then-valid s m out e in
           let w = request-0 .0 z in
@@ -274,7 +274,7 @@ module _ (s m : List ℕ) where
                 absurd b
           ]
 
-      from : ValidHeader 21 s m × AllGiven s m × (messageSize (headerOf m) ≤ length out) → serveAnswer s m out .number ≡ 0
+      from : ValidHeader requestId s m × AllGiven s m × (messageSize (headerOf m) ≤ length out) → serveAnswer s m out .number ≡ 0
       from t =
           let z = request-0 .1 (t .0, t .1) in
           ap (λ (a : Answer). a .number) (served-reply s m out z .0 ∙ fits-sent 0 (replyTo s m) out (omega (arith, size-is z)) .0)
@@ -282,13 +282,13 @@ module _ (s m : List ℕ) where
 -- ---- room for a reject
 
 module _ (s m out : List ℕ) where
-  request-size : (n : ℕ) → requestNumber s m ≡ n → Rejected n → length m ≡ 49
+  request-size : (n : ℕ) → requestNumber s m ≡ n → Rejected n → length m ≡ headerSize
   request-size n e r =
       (answered-form s m
       (λ z. elim r [ inl a ↦ omega arith | inr b ↦ elim b [ inl a ↦ omega arith | inr a ↦ omega arith ] ])
       (λ z. elim r [ inl a ↦ omega arith | inr b ↦ elim b [ inl a ↦ omega arith | inr a ↦ omega arith ] ]))
 
-  reject-size : (n : ℕ) → requestNumber s m ≡ n → Rejected n → length (rejectTo m) ≡ 49
+  reject-size : (n : ℕ) → requestNumber s m ≡ n → Rejected n → length (rejectTo m) ≡ headerSize
   reject-size n e r = reject-length m (request-size n e r)
 
   answer-rejected : (n : ℕ) → requestNumber s m ≡ n → Rejected n → serveAnswer s m out ≡ fitAnswer n (rejectTo m) out
@@ -305,11 +305,11 @@ module _ (s m out : List ℕ) where
       (λ z. elim r [ inl a ↦ omega arith | inr b ↦ elim b [ inl a ↦ omega arith | inr a ↦ omega arith ] ])
       (λ z. elim r [ inl a ↦ omega arith | inr b ↦ elim b [ inl a ↦ omega arith | inr a ↦ omega arith ] ]) .1
 
-  with-room : (n : ℕ) → requestNumber s m ≡ n → Rejected n → 49 ≤ length out → serveAnswer s m out .number ≡ n
+  with-room : (n : ℕ) → requestNumber s m ≡ n → Rejected n → headerSize ≤ length out → serveAnswer s m out .number ≡ n
   with-room n e r l =
       ap (λ (a : Answer). a .number) (answer-rejected n e r ∙ fits-sent n (rejectTo m) out (omega (arith, reject-size n e r)) .0)
 
-  without-room : (n : ℕ) → requestNumber s m ≡ n → Rejected n → length out < 49 → serveAnswer s m out .number ≡ noRoom
+  without-room : (n : ℕ) → requestNumber s m ≡ n → Rejected n → length out < headerSize → serveAnswer s m out .number ≡ noRoom
   without-room n e r l =
       ap (λ (a : Answer). a .number) (answer-rejected n e r ∙ fits-not n (rejectTo m) out (omega (arith, reject-size n e r)) .0)
 
@@ -322,14 +322,14 @@ module _ (s m out : List ℕ) where
   -- what serving answers, by the request's number and the room
   pub data Answered : Type 0 where
     sends : requestNumber s m ≡ 0 → messageSize (headerOf m) ≤ length out → serveAnswer s m out .number ≡ 0 → Answered
-    rejects : (n : ℕ) → Rejected n → requestNumber s m ≡ n → 49 ≤ length out → serveAnswer s m out .number ≡ n → Answered
+    rejects : (n : ℕ) → Rejected n → requestNumber s m ≡ n → headerSize ≤ length out → serveAnswer s m out .number ≡ n → Answered
     lacksRoom : (requestNumber s m ≡ 0) × (length out < messageSize (headerOf m)) → serveAnswer s m out .number ≡ noRoom → Answered
-    lacksRejectRoom : (n : ℕ) → Rejected n → requestNumber s m ≡ n → length out < 49 → serveAnswer s m out .number ≡ noRoom → Answered
+    lacksRejectRoom : (n : ℕ) → Rejected n → requestNumber s m ≡ n → length out < headerSize → serveAnswer s m out .number ≡ noRoom → Answered
     silent : (n : ℕ) → (n ≡ unusable) ⊎ (n ≡ noMessage) → requestNumber s m ≡ n → serveAnswer s m out .number ≡ n → Answered
 
   rejected-or-not : (n : ℕ) → Rejected n → requestNumber s m ≡ n → Answered
   rejected-or-not n r e =
-      elim (decLe 49 (length out)) [
+      elim (decLe headerSize (length out)) [
         | yes y ↦ rejects n r e y (with-room n e r y)
         | no x ↦ lacksRejectRoom n r e (omega arith) (without-room n e r (omega arith))
       ]
@@ -358,17 +358,17 @@ module _ (s m out : List ℕ) where
 
 module _ (s m out : List ℕ) where
   -- but for 11, it is the request's; and 2, 3 and 12 are given where a reject has room
-  serve-is : (n : ℕ) → (n ≡ noRoom → ⊥) → serveAnswer s m out .number ≡ n → (requestNumber s m ≡ n) × (Rejected n → 49 ≤ length out)
+  serve-is : (n : ℕ) → (n ≡ noRoom → ⊥) → serveAnswer s m out .number ≡ n → (requestNumber s m ≡ n) × (Rejected n → headerSize ≤ length out)
   serve-is n ne e = by (answered-by-room s m out)
     where
-      by : Answered s m out → (requestNumber s m ≡ n) × (Rejected n → 49 ≤ length out)
+      by : Answered s m out → (requestNumber s m ≡ n) × (Rejected n → headerSize ≤ length out)
       by (sends z y a) = (z ∙ sym a ∙ e, λ r. (let q : n ≡ 0 = sym e ∙ a in elim r [ inl x ↦ (let w : ⊥ = omega arith in absurd w) | inr x ↦ elim x [ inl b ↦ (let w : ⊥ = omega arith in absurd w) | inr b ↦ (let w : ⊥ = omega arith in absurd w) ] ]))
       by (rejects k r q y a) = (q ∙ sym a ∙ e, λ x. y)
       by (lacksRoom x a) = absurd (ne (sym e ∙ a))
       by (lacksRejectRoom k r q l a) = absurd (ne (sym e ∙ a))
       by (silent k o q a) = (q ∙ sym a ∙ e, λ r. (let z : n ≡ k = sym e ∙ a in elim o [ inl c ↦ not-rejected (inl (z ∙ c)) r | inr c ↦ not-rejected (inr (z ∙ c)) r ]))
         where
-          not-rejected : (n ≡ unusable) ⊎ (n ≡ noMessage) → Rejected n → 49 ≤ length out
+          not-rejected : (n ≡ unusable) ⊎ (n ≡ noMessage) → Rejected n → headerSize ≤ length out
           not-rejected c (inl x) = elim c [ inl y ↦ (let w : ⊥ = omega arith in absurd w) | inr y ↦ (let w : ⊥ = omega arith in absurd w) ]
           not-rejected c (inr (inl x)) = elim c [ inl y ↦ (let w : ⊥ = omega arith in absurd w) | inr y ↦ (let w : ⊥ = omega arith in absurd w) ]
           not-rejected c (inr (inr x)) = elim c [ inl y ↦ (let w : ⊥ = omega arith in absurd w) | inr y ↦ (let w : ⊥ = omega arith in absurd w) ]
@@ -381,7 +381,7 @@ module _ (s m out : List ℕ) where
   )
 
   -- 2, 3 and 12 are too, where a reject has room
-  pub serve-rejects : (n : ℕ) → Rejected n → (serveAnswer s m out .number ≡ n) ↔ ((requestNumber s m ≡ n) × (49 ≤ length out))
+  pub serve-rejects : (n : ℕ) → Rejected n → (serveAnswer s m out .number ≡ n) ↔ ((requestNumber s m ≡ n) × (headerSize ≤ length out))
   serve-rejects n r = (
     λ e. (let t = serve-is n (λ z. elim r [ inl a ↦ omega arith | inr b ↦ elim b [ inl a ↦ omega arith | inr a ↦ omega arith ] ]) e in (t .0, t .1 r)),
     λ t. with-room s m out n (t .0) r (t .1),
@@ -411,32 +411,32 @@ module _ (s m out : List ℕ) where
 
 -- ---- the reject, read back
 
-module _ (s m out : List ℕ) (n : ℕ) (r : Rejected n) (e : requestNumber s m ≡ n) (room : 49 ≤ length out) where
+module _ (s m out : List ℕ) (n : ℕ) (r : Rejected n) (e : requestNumber s m ≡ n) (room : headerSize ≤ length out) where
   fits : length (rejectTo m) ≤ length out
   fits = omega (arith, reject-size s m out n e r)
 
   -- A REJECT IS SENT, beside 2, 3 and 12: the size is 49, and the output begins with the id 23 and the request's 48 bytes
-  pub reject-sent : (serveAnswer s m out ≡ record { number = n; count = 49 }) × (sent s m out ≡ 23 ∷ cut m 1 48)
+  pub reject-sent : (serveAnswer s m out ≡ record { number = n; count = headerSize }) × (sent s m out ≡ rejectId ∷ headerBytes m)
   unfolding rejectTo
   reject-sent =
       let z = reject-size s m out n e r in
-      let a : serveAnswer s m out ≡ record { number = n; count = 49 } =
+      let a : serveAnswer s m out ≡ record { number = n; count = headerSize } =
       answer-rejected s m out n e r ∙ fits-sent n (rejectTo m) out fits .0 ∙ ap (λ (k : ℕ). record { number = n; count = k }) z in
-      let c : serveAnswer s m out .count ≡ 49 = ap (λ (x : Answer). x .count) a in
+      let c : serveAnswer s m out .count ≡ headerSize = ap (λ (x : Answer). x .count) a in
       let b : serveAfter s m out ≡ pasted out 0 (rejectTo m) = left-rejected s m out n e r ∙ fits-sent n (rejectTo m) out fits .1 in
-      (a, rw (c, b) (cut-pasted-same out 0 (rejectTo m) 49 z (omega arith)))
+      (a, rw (c, b) (cut-pasted-same out 0 (rejectTo m) headerSize z (omega arith)))
 
-  head-is : cut (23 ∷ cut m 1 48) 1 48 ≡ cut m 1 48
+  head-is : cut (rejectId ∷ headerBytes m) 1 48 ≡ headerBytes m
   unfolding cut
-  head-is = cut-whole (cut m 1 48) 48 short
+  head-is = cut-whole (headerBytes m) 48 short
     where
-      short : length (cut m 1 48) ≤ 48
+      short : length (headerBytes m) ≤ 48
       short = omega (arith, cut-length m 1 48 (omega (arith, request-size s m out n e r)))
 
   -- it is read as a reject with the request's root and header
   pub reject-reads-back : (isReject (sent s m out) ≡ true) × (messageRoot (sent s m out) ≡ messageRoot m) × (headerOf (sent s m out) ≡ headerOf m)
   unfolding isReject
   reject-reads-back =
-      let h = head-same (23 ∷ cut m 1 48) m head-is in
-      let l : length (cut m 1 48) ≡ 48 = cut-length m 1 48 (omega (arith, request-size s m out n e r)) in
+      let h = head-same (rejectId ∷ headerBytes m) m head-is in
+      let l : length (headerBytes m) ≡ 48 = cut-length m 1 48 (omega (arith, request-size s m out n e r)) in
       rw (reject-sent .1) (rw l, h .0, h .1)
