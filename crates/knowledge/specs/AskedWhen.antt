@@ -14,7 +14,7 @@ use Rattle.cells.specs.Cells.{heldAt, hashAt}
 use Rattle.store.specs.Store.{usable, heightOf, inTree, noHash, heldAnswer}
 use Rattle.store.specs.StoreLaws.{usable-facts, tree-says}
 use Rattle.words.specs.Held.{Lacks, Position}
-use Rattle.knowledge.specs.Differing.{either, not-both}
+use Rattle.knowledge.specs.Tests.{either, not-both}
 use Rattle.knowledge.specs.Verdicts.{marked-lacks, lacks-marked}
 
 abbrev asks : Bool → Bool → Bool → ℕ

@@ -15,7 +15,7 @@ use Rattle.octets.specs.Octets.{Octets, cut, same, zeroHash}
 use Rattle.octets.specs.OctetsLaws.{same-true, same-eq, same-false, append-octets, cut-octets, zero-octets}
 use Rattle.sha256.specs.Sha256.{sha256, pairHash}
 use Rattle.sha256.specs.Sha256Laws.{pair-octets}
-use Rattle.numbers.specs.Numbers.{noMessage, otherRoot, ruleBroken, wrongSize, wrongPadding, conflict, unusable, judged}
+use Rattle.numbers.specs.Numbers.{noMessage, otherRoot, ruleBroken, wrongSize, wrongPadding, conflict, unusable}
 use Rattle.tree.specs.Geometry.{blockCount, height, nodeNumber, hasLayer, pieceCount, pieceSize}
 use Rattle.tree.specs.Values.{node, padValue, leafOf, layerLeaf}
 use Rattle.tree.specs.ValuesLaws.{node-octets, leaf-octets, pad-octets}
@@ -38,6 +38,7 @@ use Rattle.pieces.specs.PiecesLaws.{layered, run-leaves}
 use Rattle.words.specs.History.{Bytes}
 use Rattle.words.specs.Shown.{Source, heldBy, byMessage, byLayer, byPiece, ofFile}
 use Rattle.knowledge.specs.Invariant.{Chained, Ours, family-pair, Whole, message-whole, layer-whole, piece-whole}
+use Rattle.knowledge.specs.Tests.{judged-8}
 
 -- ---- what is shown
 
@@ -236,12 +237,6 @@ layer-gives-octets s layer b e i =
 
 -- ---- what 8 says
 
-judged-eight : (x y z : Bool) → judged x y z ≡ conflict → (x ≡ true) × (y ≡ true) × (z ≡ false)
-judged-eight false y z e = let w : ⊥ = omega arith in absurd w
-judged-eight true false z e = let w : ⊥ = omega arith in absurd w
-judged-eight true true false e = (refl, refl, refl)
-judged-eight true true true e = let w : ⊥ = omega arith in absurd w
-
 let-eight : (t : Bool) (a n : ℕ) → (n ≡ conflict → ⊥) → cond t a n ≡ conflict → (t ≡ true) × (a ≡ conflict)
 let-eight true a n f e = (refl, e)
 let-eight false a n f e = absurd (f e)
@@ -273,7 +268,7 @@ take-conflicts s m e =
     (header-not-8 (usable s) (isHashes m) (same (factsRoot s) (messageRoot m)) (rulesKept (headerOf m) (blocksOf s) (heightOf s))) e in
     let a = let-eight (eqb (length m) (messageSize (headerOf m))) _ wrongSize (λ z. omega arith) (h .1) in
     let b = let-eight (padded m (headerOf m) (placeIn s m) (blocksOf s)) _ wrongPadding (λ z. omega arith) (a .1) in
-    let j = judged-eight (heldAt s (anchor p)) (same (hashAt s (anchor p)) (worked m p)) (agrees s (settled m p)) (b .1) in
+    let j = judged-8 (heldAt s (anchor p)) (same (hashAt s (anchor p)) (worked m p)) (agrees s (settled m p)) (b .1) in
     record {
       header = h .0;
       size = eqb-true (length m) (messageSize (headerOf m)) (a .0);
@@ -326,7 +321,7 @@ layer-conflict-shows s layer o bs bl e =
     let a = let-eight (usable s) _ unusable (λ z. omega arith) e in
     let b = let-eight (hasLayer (fileLength s) (pieceLength s)) _ ruleBroken (λ z. omega arith) (a .1) in
     let c = let-eight (eqb (length layer) (32 * pieceCount (fileLength s) (pieceLength s))) _ wrongSize (λ z. omega arith) (b .1) in
-    let j = judged-eight (heldAt s 1) (same (hashAt s 1) (node leaf k 0)) (agrees s (subtree leaf k 1 0)) (c .1) in
+    let j = judged-8 (heldAt s 1) (same (hashAt s 1) (node leaf k 0)) (agrees s (subtree leaf k 1 0)) (c .1) in
     not-both (agrees s (subtree leaf k 1 0)) (j .2)
     (agrees-or-shown s (byLayer s layer) (subtree leaf k 1 0) 1 (node leaf k 0) (o .chained) bs
     (layer-whole s layer (layered s (usable-facts s (a .0)) (b .0))) (λ n u x. x) (layer-gives-octets s layer bl)
@@ -343,7 +338,7 @@ piece-conflict-shows s i piece o bs e =
     let a = let-eight (usable s) _ unusable (λ z. omega arith) e in
     let b = let-eight (ltb i (pieceCount (fileLength s) (pieceLength s))) _ ruleBroken (λ z. omega arith) (a .1) in
     let c = let-eight (eqb (length piece) (pieceSize (fileLength s) (pieceLength s) i)) _ wrongSize (λ z. omega arith) (b .1) in
-    let j = judged-eight (heldAt s n) (same (hashAt s n) (node leaf k 0)) (agrees s (subtree leaf k n 0)) (c .1) in
+    let j = judged-8 (heldAt s n) (same (hashAt s n) (node leaf k 0)) (agrees s (subtree leaf k n 0)) (c .1) in
     not-both (agrees s (subtree leaf k n 0)) (j .2)
     (agrees-or-shown s (byPiece s i piece) (subtree leaf k n 0) n (node leaf k 0) (o .chained) bs
     (piece-whole s i piece (Rattle.pieces.specs.PiecesLaws.piece-in s (usable-facts s (a .0)) i (ltb-true i (pieceCount (fileLength s) (pieceLength s)) (b .0)))) (λ m u x. x)

@@ -1,8 +1,8 @@
 -- "No held hash differs" as kd_held answers: between a store and the hashes that a message, a layer or a piece settles, by layer and
 -- index; and the test of it.
 -- Assumes nothing.
-use mathlib.Core.Path.{_≡_, refl, sym, _∙_}
-use mathlib.Core.Bool.{Bool, true, false, false≢true}
+use mathlib.Core.Path.{_≡_, sym, _∙_}
+use mathlib.Core.Bool.{true, false}
 use mathlib.Core.List.{List, [], _∷_}
 use mathlib.Core.Logic.{_⊎_, inl, inr}
 use Prim.Native.Nat.{ℕ}
@@ -17,16 +17,9 @@ use Rattle.words.specs.Held.{Holds, Hashes, NoneDiffers, OneDiffers}
 use Rattle.knowledge.specs.Again.{what-is-held}
 use Rattle.knowledge.specs.ReadBack.{holds-at}
 use Rattle.knowledge.specs.Over.{Entered, Found}
+use Rattle.knowledge.specs.Tests.{either, not-both}
 
--- ---- what a test says
-
--- a test comes out one way or the other, never both
-pub either : (b : Bool) → (b ≡ true) ⊎ (b ≡ false)
-either true = inl refl
-either false = inr refl
-
-pub not-both : {b : Bool} → b ≡ true → b ≡ false → ⊥
-not-both t f = false≢true (sym f ∙ t)
+-- ---- the test
 
 -- each entry of a list is right, or there is one wrong
 pub each-or : (L : List Entry) (A : Entry → Type 0) (B : Type 0) → ((e : Entry) → In e L → A e ⊎ B) → ((e : Entry) → In e L → A e) ⊎ B

@@ -22,7 +22,7 @@ use Rattle.header.specs.HeaderLaws.{rules-kept, kept-rules}
 use Rattle.messages.specs.Take.{headerNumber, settled, anchor, worked, padded, anchored, bodyNumber, placeIn, orElse, takeNumber}
 use Rattle.messages.specs.TakeLaws.{passed, passes}
 use Rattle.words.specs.Messages.{WellFormed, HashesForm, OtherForm, Readable, Addressed, Ruled}
-use Rattle.knowledge.specs.Differing.{either, not-both}
+use Rattle.knowledge.specs.Tests.{either, not-both}
 
 -- ---- the tests
 

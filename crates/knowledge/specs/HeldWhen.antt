@@ -31,7 +31,8 @@ use Rattle.knowledge.specs.ReadBack.{holds-at}
 use Rattle.knowledge.specs.RightPadding.{Pads, at-place, settled-pads}
 use Rattle.knowledge.specs.Replies.{padded-when}
 use Rattle.knowledge.specs.AnchorHeld.{anchor-number, anchor-in-tree}
-use Rattle.knowledge.specs.Differing.{either, not-both, each-or, none-differs, one-differs, differs-one, differs-none}
+use Rattle.knowledge.specs.Differing.{each-or, none-differs, one-differs, differs-one, differs-none}
+use Rattle.knowledge.specs.Tests.{either, not-both}
 use Rattle.knowledge.specs.ChainsTo.{chains-exactly}
 use Rattle.knowledge.specs.Positions.{SettlesNumber, settles-entered, entry-settled, run-entry, uncle-entry}
 

@@ -9,7 +9,7 @@ use native.Mathlib.Omega.{arith}
 use lib.ListN.{length}
 use lib.Dec.{eqb, leb, ltb}
 use Rattle.octets.specs.Octets.{same, zeroHash}
-use Rattle.numbers.specs.Numbers.{refused, judged}
+use Rattle.numbers.specs.Numbers.{refused}
 use Rattle.numbers.specs.declared.Answer.{Answer}
 use Rattle.sha256.specs.Sha256.{sha256}
 use Rattle.sha256.specs.Answer.{hashedOf}
@@ -25,7 +25,7 @@ use Rattle.pieces.specs.Pieces.{judgedAt, layerNumber, layerAnswer, blockNumber
 use Rattle.words.specs.History.{Call, take, takeReject, serve, held, loadLayer, judgeBlock, judgePiece, reopen, answer, number, after}
 use Rattle.words.specs.Answers.{first, later, InTable, ServeOutcome, replied, rejected, untouched, Beside, noCount, zeroBytes, reject}
 use Rattle.knowledge.specs.Refusals.{opening-refused, message-refused, layer-not-loaded, served, message-number-in-table}
-use Rattle.knowledge.specs.Verdicts.{gated}
+use Rattle.knowledge.specs.Tests.{gated, judged-most}
 
 -- 0 to 12 are
 low : (n : ℕ) → n ≤ 12 → InTable n
@@ -44,12 +44,6 @@ low (suc (suc (suc (suc (suc (suc (suc (suc (suc (suc (suc zero))))))))))) l = l
 low (suc (suc (suc (suc (suc (suc (suc (suc (suc (suc (suc (suc zero)))))))))))) l =
     later (later (later (later (later (later (later (later (later (later (later (later first)))))))))))
 low (suc (suc (suc (suc (suc (suc (suc (suc (suc (suc (suc (suc (suc n))))))))))))) l = let w : ⊥ = omega arith in absurd w
-
-judged-low : (x y z : Bool) → judged x y z ≤ 8
-judged-low false y z = omega arith
-judged-low true false z = omega arith
-judged-low true true false = omega arith
-judged-low true true true = omega arith
 
 gated-low : (u l z : Bool) (n : ℕ) → n ≤ 8 → gated u l z n ≤ 12
 gated-low true true true n h = omega arith
@@ -129,7 +123,7 @@ unfolding layerAnswer layerNumber judgedAt
 layer-in-table s layer =
     low _
     (gated-low (usable s) (hasLayer (fileLength s) (pieceLength s)) (eqb (length layer) _) _
-    (judged-low (heldAt s 1) (same (hashAt s 1) _) (agrees s _)))
+    (judged-most (heldAt s 1) (same (hashAt s 1) _) (agrees s _)))
 
 -- kd_judge_block
 pub block-in-table : (s : List ℕ) (i : ℕ) (block : List ℕ) → InTable (blockAnswer s i block .number)
@@ -137,7 +131,7 @@ unfolding blockAnswer blockNumber
 block-in-table s i block =
     low _
     (gated-low (usable s) (ltb i (blocksOf s)) (eqb (length block) (blockSize (fileLength s) i)) _
-    (judged-low (heldAt s (nodeNumber (heightOf s) 0 i)) (same (hashAt s (nodeNumber (heightOf s) 0 i)) (sha256 block)) true))
+    (judged-most (heldAt s (nodeNumber (heightOf s) 0 i)) (same (hashAt s (nodeNumber (heightOf s) 0 i)) (sha256 block)) true))
 
 -- kd_judge_piece
 pub piece-in-table : (s : List ℕ) (i : ℕ) (piece : List ℕ) → InTable (pieceAnswer s i piece .number)
@@ -145,7 +139,7 @@ unfolding pieceAnswer pieceNumber judgedAt
 piece-in-table s i piece =
     low _
     (gated-low (usable s) (ltb i (pieceCount (fileLength s) (pieceLength s))) (eqb (length piece) (pieceSize (fileLength s) (pieceLength s) i)) _
-    (judged-low (heldAt s (nodeNumber (heightOf s) (pieceHeight s) i)) (same (hashAt s (nodeNumber (heightOf s) (pieceHeight s) i)) _) (agrees s _)))
+    (judged-most (heldAt s (nodeNumber (heightOf s) (pieceHeight s) i)) (same (hashAt s (nodeNumber (heightOf s) (pieceHeight s) i)) _) (agrees s _)))
 
 -- ---- beside a refusal every value is zero
 

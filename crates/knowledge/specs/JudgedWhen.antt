@@ -27,8 +27,8 @@ use Rattle.pieces.specs.Pieces.{judgedAt, layerOfPieces, layerNumber, blockNumb
 use Rattle.pieces.specs.PiecesLaws.{layered, piece-in}
 use Rattle.words.specs.Held.{Holds, Lacks, Fits, Misfits, Clashes}
 use Rattle.words.specs.Pieces.{LayerFormed, LayerSettles, BlockFormed, OtherLeaf, PieceFormed, PieceSettles}
-use Rattle.knowledge.specs.Differing.{not-both}
-use Rattle.knowledge.specs.Verdicts.{judged-0, judged-6, judged-7, judged-8, judged-not, gated, gated-9, gated-3, gated-4, gated-on, marked-holds, holds-marked, marked-lacks, lacks-marked, judged-fits, judged-lacks, judged-misfits, judged-clashes}
+use Rattle.knowledge.specs.Tests.{not-both, judged-0, judged-6, judged-7, judged-8, judged-not, gated, gated-9, gated-3, gated-4, gated-on}
+use Rattle.knowledge.specs.Verdicts.{marked-holds, holds-marked, marked-lacks, lacks-marked, judged-fits, judged-lacks, judged-misfits, judged-clashes}
 
 -- ---- a layer
 

@@ -1,3 +1,4 @@
+pub mod Tests
 pub mod Through
 pub mod TakenWhen
 pub mod Chains

@@ -26,6 +26,7 @@ use Rattle.pieces.specs.PiecesLaws.{layer-refused, layer-refused-count}
 use Rattle.words.specs.Messages.{Rejected}
 use Rattle.words.specs.Answers.{ServeOutcome, replied, rejected, untouched}
 use Rattle.knowledge.specs.Through.{reopen-refused}
+use Rattle.knowledge.specs.Tests.{judged-most}
 
 -- ---- a refusal leaves every byte, and its count is zero
 
@@ -101,12 +102,6 @@ module _ (s m out : List ℕ) where
 
 -- ---- every number of a message is in the table
 
-judged-table : (x y z : Bool) → judged x y z ≤ 8
-judged-table false y z = omega arith
-judged-table true false z = omega arith
-judged-table true true false = omega arith
-judged-table true true true = omega arith
-
 take-values : (u form r k size pad : Bool) (j : ℕ) → j ≤ 8 → orElse (cond u (cond form (cond r (cond k 0 3) 2) 1) 9) (cond size (cond pad j 5) 4) ≤ 9
 take-values true true true true true true j h = omega arith
 take-values true true true true true false j h = omega arith
@@ -122,4 +117,4 @@ unfolding takeAnswer takeNumber bodyNumber headerNumber anchored
 message-number-in-table s m =
     take-values (usable s) (isHashes m) (same (factsRoot s) (messageRoot m)) (rulesKept (headerOf m) (blocksOf s) (heightOf s)) (eqb (length m) (messageSize (headerOf m))) (padded m (headerOf m) (placeIn s m) (blocksOf s))
     (judged (heldAt s (anchor (placeIn s m))) (same (hashAt s (anchor (placeIn s m))) (worked m (placeIn s m))) (agrees s (settled m (placeIn s m))))
-    (judged-table (heldAt s (anchor (placeIn s m))) (same (hashAt s (anchor (placeIn s m))) (worked m (placeIn s m))) (agrees s (settled m (placeIn s m))))
+    (judged-most (heldAt s (anchor (placeIn s m))) (same (hashAt s (anchor (placeIn s m))) (worked m (placeIn s m))) (agrees s (settled m (placeIn s m))))

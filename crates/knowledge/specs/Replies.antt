@@ -14,7 +14,7 @@ use lib.Dec.{leb}
 use lib.Pow.{pow-add}
 use borrow.Author.Tests.{leb-true}
 use Rattle.octets.specs.Octets.{Octets, cut, same, zeroHash}
-use Rattle.octets.specs.OctetsLaws.{same-eq, cut-length}
+use Rattle.octets.specs.OctetsLaws.{same-eq}
 use Rattle.sha256.specs.Sha256.{pairHash}
 use Rattle.numbers.specs.Numbers.{done}
 use Rattle.tree.specs.Geometry.{blockCount, covering, height, nodeNumber}
@@ -31,7 +31,7 @@ use Rattle.settling.specs.SubtreeLaws.{within-left, within-right, within-self, 
 use Rattle.settling.specs.Path.{sibling, parentValue, uncle, ancestor, risen, path}
 use Rattle.settling.specs.PathLaws.{sibling-below, path-cases}
 use Rattle.settling.specs.AncestorLaws.{ancestor-le, ancestor-parent}
-use Rattle.header.specs.Header.{headerSize, headerOf, isHashes, isRequest, placeOf, messageSize}
+use Rattle.header.specs.Header.{headerOf, isHashes, isRequest, placeOf, messageSize}
 use Rattle.header.specs.HeaderLaws.{rules-kept, log-some, top-inside}
 use Rattle.messages.specs.Padded.{allFrom, runPadded, unclePadded, unclesPadded}
 use Rattle.messages.specs.Take.{headerNumber, runOf, unclesOf, given, settled, anchor, worked, padded, placeIn, takeNumber, takeAfter, takeAnswer}
@@ -42,7 +42,7 @@ use Rattle.words.specs.History.{Bytes, OurStore}
 use Rattle.words.specs.Shown.{heldBy}
 use Rattle.knowledge.specs.TakenWhen.{Right, right-then-taken}
 use Rattle.knowledge.specs.Again.{held-agrees}
-use Rattle.knowledge.specs.RightPadding.{Pads, doubles, sibling-number}
+use Rattle.knowledge.specs.RightPadding.{Pads, doubles, sibling-number, run-size}
 use Rattle.knowledge.specs.Invariant.{Chained, Ours, Pair, family-pair, Whole, message-whole}
 use Rattle.knowledge.specs.OwnBytes.{ours-have, ours-bytes}
 use Rattle.knowledge.specs.Conflict.{GivesAt, ShownAt, same-or-shown, hash-octets, agrees-or-shown, well-ready, anchor-has}
@@ -239,10 +239,6 @@ uncles-right h b hashes i (suc u) l x a c f =
         let pd = padding-from-covering b l (sibling x) (leb-true (covering b l) (sibling x) e) in
         rw e (same-eq (uncle hashes i) (padValue l) (hs l (sibling x) (omega arith) in2 refl pd))
     by hs in2 false e = rw e
-
-run-size : (m : List ℕ) (c : ℕ) → headerSize + 32 * c ≤ length m → length (runOf m c) ≡ 32 * c
-unfolding runOf
-run-size m c h = cut-length m headerSize (32 * c) h
 
 exact : (i d : ℕ) → i % d ≡ 0 → i / d * d ≡ i
 exact i d z = omega (arith, div-add-mod' i d)

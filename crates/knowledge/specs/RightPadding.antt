@@ -59,7 +59,8 @@ shift b base l i d e pd =
     let m : i * 2 ^ l ≡ i * 2 ^ d * 2 ^ base = ap (λ (z : ℕ). i * z) pw ∙ sym (mul-assoc i (2 ^ d) (2 ^ base)) in
     omega arith
 
-run-size : (m : List ℕ) (c : ℕ) → headerSize + 32 * c ≤ length m → length (runOf m c) ≡ 32 * c
+-- a run is as long as its hashes
+pub run-size : (m : List ℕ) (c : ℕ) → headerSize + 32 * c ≤ length m → length (runOf m c) ≡ 32 * c
 unfolding runOf
 run-size m c h = cut-length m headerSize (32 * c) h
 

@@ -22,7 +22,7 @@ use Rattle.store.specs.StoreLaws.{opened-facts, opened-height, opened-held, ope
 use Rattle.words.specs.Held.{Holds}
 use Rattle.words.specs.Answers.{InRange}
 use Rattle.knowledge.specs.Again.{what-is-held}
-use Rattle.knowledge.specs.Differing.{either, not-both}
+use Rattle.knowledge.specs.Tests.{either, not-both}
 use Rattle.knowledge.specs.ReadBack.{holds-at}
 
 -- the range test says this

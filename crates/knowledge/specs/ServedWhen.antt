@@ -29,7 +29,7 @@ use Rattle.serve.specs.ServeLaws.{head-same, held-run-all, held-uncles-all, req
 use Rattle.words.specs.Messages.{unclesIn, topLayer, topIndex, sent, Form, ValidHeader, AllGiven, Rejected, RejectDue, forRoot, forRule, forHash, NoRoomFor, forReply, forReject}
 use Rattle.knowledge.specs.Again.{what-is-held}
 use Rattle.knowledge.specs.ReadBack.{run-number, uncle-number, reply-has-header, run-reads-back, uncle-reads-back}
-use Rattle.knowledge.specs.Differing.{either, not-both}
+use Rattle.knowledge.specs.Tests.{either, not-both}
 use Rattle.knowledge.specs.Refusals.{which-number}
 use Rattle.knowledge.specs.Sent.{served-then-valid}
 

@@ -11,13 +11,14 @@ use lib.Dec.{eqb}
 use borrow.Author.Tests.{eq-eqb, ne-eqb, eqb-true}
 use Rattle.octets.specs.Octets.{same}
 use Rattle.octets.specs.OctetsLaws.{same-true, same-eq, same-ne}
-use Rattle.numbers.specs.Numbers.{wrongSize, wrongPadding, noAnchor, differs, conflict, judged}
+use Rattle.numbers.specs.Numbers.{wrongSize, wrongPadding, noAnchor, differs, conflict}
 use Rattle.cells.specs.Cells.{heldAt, hashAt}
 use Rattle.cells.specs.Entries.{agrees}
 use Rattle.store.specs.Store.{blocksOf}
 use Rattle.header.specs.Header.{headerOf, isHashes, messageSize}
 use Rattle.messages.specs.Take.{headerNumber, settled, anchor, worked, padded, anchored, bodyNumber, placeIn, orElse, takeNumber}
 use Rattle.words.specs.Messages.{WellFormed}
+use Rattle.knowledge.specs.Tests.{judged-0}
 
 -- its padding is right, its anchor is held, its hashes chain to the anchor, and no held hash differs from it
 pub record Right (s m : List ℕ) : Type 0 where
@@ -33,12 +34,6 @@ unfolding takeNumber bodyNumber
 well-formed-number s m w =
     rw (eq-eqb (headerNumber (isHashes m) s m) 0 (w .header)) (rw (eq-eqb (length m) (messageSize (headerOf m)) (w .size)))
 
-judged-taken : (x y z : Bool) → judged x y z ≡ 0 → (x ≡ true) × (y ≡ true) × (z ≡ true)
-judged-taken false y z e = let w : ⊥ = omega arith in absurd w
-judged-taken true false z e = let w : ⊥ = omega arith in absurd w
-judged-taken true true false e = let w : ⊥ = omega arith in absurd w
-judged-taken true true true e = (refl, refl, refl)
-
 let-on : (t : Bool) (a : ℕ) → cond t a wrongPadding ≡ 0 → (t ≡ true) × (a ≡ 0)
 let-on true a e = (refl, e)
 let-on false a e = let w : ⊥ = omega arith in absurd w
@@ -48,7 +43,7 @@ pub taken-then-right : (s m : List ℕ) → WellFormed s m → takeNumber s m �
 unfolding anchored
 taken-then-right s m w e =
     let a = let-on (padded m (headerOf m) (placeIn s m) (blocksOf s)) (anchored s m (placeIn s m)) (sym (well-formed-number s m w) ∙ e) in
-    let j = judged-taken (heldAt s (anchor (placeIn s m))) (same (hashAt s (anchor (placeIn s m))) (worked m (placeIn s m))) (agrees s (settled m (placeIn s m))) (a .1) in
+    let j = judged-0 (heldAt s (anchor (placeIn s m))) (same (hashAt s (anchor (placeIn s m))) (worked m (placeIn s m))) (agrees s (settled m (placeIn s m))) (a .1) in
     record { padding = a .0; held = j .0; chains = same-true _ _ (j .1); agree = j .2 }
 
 -- and one that is right is taken

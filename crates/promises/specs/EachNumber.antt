@@ -23,7 +23,7 @@ use Rattle.words.specs.Held.{Holds, Lacks, Position, Fits, Misfits, Clashes}
 use Rattle.words.specs.Messages.{OtherForm, Readable, Addressed, Ruled, WellFormed, PaddingWrong, Acceptable, Unanchored, Elsewhere, Conflicting, Form, ValidHeader, AllGiven, NoRoomFor}
 use Rattle.words.specs.Pieces.{LayerFormed, LayerSettles, BlockFormed, OtherLeaf, PieceFormed, PieceSettles}
 use Rattle.words.specs.Answers.{InRange}
-use Rattle.knowledge.specs.Differing.{either}
+use Rattle.knowledge.specs.Tests.{either}
 use Rattle.knowledge.specs.FormedWhen.{nine-exactly-when, one-exactly-when, two-exactly-when, three-exactly-when, four-exactly-when, formed-by}
 use Rattle.knowledge.specs.HeldWhen.{taken-exactly-when, five-exactly-when, six-exactly-when, seven-exactly-when, eight-exactly-when}
 use Rattle.knowledge.specs.ServedWhen.{request-9, request-1, request-2, request-3, request-12, serve-silent, serve-rejects}
