@@ -69,6 +69,10 @@ module _ (s t : List ℕ) (S : SameStore s t) where
   there : Facts t
   there = used-facts s t facts (S .bytes)
 
+  -- the other is usable too,
+  pub usable-there : usable t ≡ true
+  usable-there = facts-usable t there
+
   -- every call but an opening answers the same,
   pub answers-alike : (c : Call) → (Opening c → ⊥) → answer c t ≡ answer c s
   unfolding blockAnswer pieceAnswer
