@@ -21,7 +21,8 @@ use Rattle.knowledge.specs.Replies.{own-reply}
 use Rattle.promises.specs.Example.{twoLeaves, taken-with-two}
 use Rattle.promises.specs.Offered.{twoHashes}
 use Rattle.promises.specs.NumbersGiven.{firstTwo, ones, a-6}
-use Rattle.promises.specs.Witness.{ours-with-two-leaves, two-leaves-held, opens, open-is}
+use Rattle.promises.specs.Witness.{ours-with-two-leaves, two-leaves-held}
+use Rattle.promises.specs.TwoBlocks.{opens, open-is}
 use Rattle.promises.specs.Lent.{lent, lent-room, lent-bytes}
 use Rattle.promises.specs.ServedAndTaken.{askForTwo, asked-is-0, reply-is}
 

@@ -5,6 +5,7 @@ pub mod EachNumber
 pub mod FromRootToBlock
 pub mod Worked
 pub mod Lent
+pub mod TwoBlocks
 pub mod Offered
 pub mod Example
 pub mod LayerExample

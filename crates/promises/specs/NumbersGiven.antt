@@ -22,7 +22,7 @@ use Rattle.cells.specs.CellsLaws.{held-put-same, held-put-other, hash-put-same,
 use Rattle.cells.specs.Entries.{one, agrees, putAll}
 use Rattle.cells.specs.EntriesLaws.{sound-one, one-is, agrees-held, from-root-in}
 use Rattle.store.specs.Store.{usable, factsRoot, blocksOf, heightOf, positions, factsInRange, storeSize, opened, SameFacts}
-use Rattle.store.specs.StoreLaws.{usable-facts, putAll-same-facts, putAll-usable, opened-usable, opened-facts-root, opened-blocks, opened-height, opened-held, opened-hash}
+use Rattle.store.specs.StoreLaws.{putAll-same-facts, putAll-usable, opened-usable, opened-facts-root, opened-blocks, opened-height, opened-held}
 use Rattle.settling.specs.Subtree.{subtree}
 use Rattle.settling.specs.Path.{ancestor, risen, path}
 use Rattle.header.specs.declared.Header.{Header}
@@ -34,6 +34,7 @@ use Rattle.words.specs.Messages.{WellFormed}
 use Rattle.knowledge.specs.TakenWhen.{wrong-padding-then-5, no-anchor-then-6, other-anchor-then-7, held-differs-then-8}
 use Rattle.promises.specs.Lent.{lent, lent-room}
 use Rattle.promises.specs.Offered.{twoHashes, offered-header, run-is, first-hash, second-hash, two-size, well-formed-in}
+use Rattle.promises.specs.TwoBlocks.{high, blocks, store, facts, root-is, held, hash}
 
 -- another string of the same length
 unfoldable pub otherThan : List ℕ → List ℕ
@@ -193,89 +194,53 @@ module _ (s root a b : List ℕ) (lr : length root ≡ 32) (la : length a ≡ 32
       held-differs-then-8 s (twoHashes root firstTwo a b) well padding-is (rw anchor-is h) (ap (hashAt s) anchor-is ∙ e ∙ sym worked-is) (rw place-is (leaf-differs k ne))
 
 module _ (buffer root : List ℕ) (fits : storeSize 32768 ≤ length buffer) (lr : length root ≡ 32) where
-  pair : List ℕ
-  pair = opened buffer 32768 16384 root
-
-  range2 : factsInRange 32768 16384 ≡ true
-  unfolding factsInRange isPieceLength pieceLayer height heightFrom
-  range2 = refl
-
-  one-high : height (blockCount 32768) ≡ 1
-  unfolding height heightFrom blockCount ceilDiv
-  one-high = refl
-
-  high2 : heightOf pair ≡ 1
-  unfolding pair
-  high2 = opened-height buffer 32768 16384 root range2 fits lr ∙ one-high
-
-  blocks2 : blocksOf pair ≡ 2
-  unfolding pair blockCount ceilDiv
-  blocks2 = opened-blocks buffer 32768 16384 root range2 fits lr
-
-  usable2 : usable pair ≡ true
-  unfolding pair
-  usable2 = opened-usable buffer 32768 16384 root range2 fits lr
-
-  root2 : factsRoot pair ≡ root
-  unfolding pair
-  root2 = opened-facts-root buffer 32768 16384 root range2 fits lr
-
-  held2 : heldAt pair 1 ≡ true
-  unfolding pair positions
-  held2 = opened-held buffer 32768 16384 root range2 fits lr 1 (lit≤ tt) (rw one-high (lit< tt))
-
-  hash2 : hashAt pair 1 ≡ root
-  unfolding pair
-  hash2 = opened-hash buffer 32768 16384 root range2 fits lr
-
   -- a store that another hand wrote: the first leaf held too
   module _ (c : List ℕ) (lc : length c ≡ 32) where
     foreign : List ℕ
-    foreign = put pair 2 c
+    foreign = put (opened buffer 32768 16384 root) 2 c
 
-    cells : positions (heightOf pair) ≡ 4
+    cells : positions (heightOf (opened buffer 32768 16384 root)) ≡ 4
     unfolding positions
-    cells = rw high2
+    cells = rw (high buffer root fits lr)
 
-    room : 31 + 33 * 4 ≤ length pair
-    room = omega (arith, usable-facts pair usable2 .room, cells)
+    room : 31 + 33 * 4 ≤ length (opened buffer 32768 16384 root)
+    room = omega (arith, facts buffer root fits lr .room, cells)
 
-    foreign-same : SameFacts pair foreign
+    foreign-same : SameFacts (opened buffer 32768 16384 root) foreign
     unfolding foreign putAll
     foreign-same =
-        putAll-same-facts pair (usable-facts pair usable2) (one 2 c) (sound-one 2 c (omega (arith, cells)) lc) (from-root-in (one 2 c) (λ e i. omega (arith, one-is 2 c i .0)))
+        putAll-same-facts (opened buffer 32768 16384 root) (facts buffer root fits lr) (one 2 c) (sound-one 2 c (omega (arith, cells)) lc) (from-root-in (one 2 c) (λ e i. omega (arith, one-is 2 c i .0)))
 
     foreign-usable : usable foreign ≡ true
     unfolding foreign putAll
     foreign-usable =
-        putAll-usable pair (usable-facts pair usable2) (one 2 c) (sound-one 2 c (omega (arith, cells)) lc) (from-root-in (one 2 c) (λ e i. omega (arith, one-is 2 c i .0))) ∙ usable2
+        putAll-usable (opened buffer 32768 16384 root) (facts buffer root fits lr) (one 2 c) (sound-one 2 c (omega (arith, cells)) lc) (from-root-in (one 2 c) (λ e i. omega (arith, one-is 2 c i .0))) ∙ (store buffer root fits lr)
 
 -- two leaves that don't give the root, on a fresh store: 7
 pub gets-7 : (buffer a b : List ℕ) → storeSize 32768 ≤ length buffer → length a ≡ 32 → length b ≡ 32
     → takeNumber (opened buffer 32768 16384 (otherThan (pairHash a b))) (twoHashes (otherThan (pairHash a b)) firstTwo a b) ≡ differs
-unfolding pair
 gets-7 buffer a b fits la lb =
     let root = otherThan (pairHash a b) in
     let size = pair-octets a b .size in
     let lr : length (otherThan (pairHash a b)) ≡ 32 = other-length (pairHash a b) ∙ size in
-    at-7 (pair buffer root fits lr) root a b lr la lb (usable2 buffer root fits lr) (root2 buffer root fits lr) (blocks2 buffer root fits lr) (high2 buffer root fits lr)
-    (held2 buffer root fits lr) (λ e. other-differs (pairHash a b) (omega arith) (sym (hash2 buffer root fits lr) ∙ e))
+    at-7 (opened buffer 32768 16384 root) root a b lr la lb (store buffer root fits lr) (root-is buffer root fits lr) (blocks buffer root fits lr) (high buffer root fits lr)
+    (held buffer root fits lr 1 (lit≤ tt) (lit< tt)) (λ e. other-differs (pairHash a b) (omega arith) (sym (hash buffer root fits lr) ∙ e))
 
 -- two leaves that give the root, in a store where another hand wrote another first leaf: 8
 pub gets-8 : (buffer a b : List ℕ) → storeSize 32768 ≤ length buffer → length a ≡ 32 → length b ≡ 32
     → takeNumber (put (opened buffer 32768 16384 (pairHash a b)) 2 (otherThan a)) (twoHashes (pairHash a b) firstTwo a b) ≡ conflict
-unfolding pair foreign
+unfolding foreign
 gets-8 buffer a b fits la lb =
     let root = pairHash a b in
     let lr : length (pairHash a b) ≡ 32 = pair-octets a b .size in
     let c = otherThan a in
     let lc : length (otherThan a) ≡ 32 = other-length a ∙ la in
-    let fresh = pair buffer root fits lr in
+    let fresh = (opened buffer 32768 16384 root) in
     let same = foreign-same buffer root fits lr c lc in
     let space = room buffer root fits lr c lc in
-    at-8 (foreign buffer root fits lr c lc) root a b lr la lb (foreign-usable buffer root fits lr c lc) (same .root ∙ root2 buffer root fits lr) (same .blocks ∙ blocks2 buffer root fits lr) (same .layers ∙ high2 buffer root fits lr)
-    (held-put-other fresh 4 2 space (lit< tt) c lc 1 (λ e. omega arith) ∙ held2 buffer root fits lr)
-    (hash-put-other fresh 4 2 space (lit< tt) c lc 1 (lit< tt) (λ e. omega arith) ∙ hash2 buffer root fits lr)
+    at-8 (foreign buffer root fits lr c lc) root a b lr la lb (foreign-usable buffer root fits lr c lc) (same .root ∙ root-is buffer root fits lr) (same .blocks ∙ blocks buffer root fits lr) (same .layers ∙ high buffer root fits lr)
+    (held-put-other fresh 4 2 space (lit< tt) c lc 1 (λ e. omega arith) ∙ held buffer root fits lr 1 (lit≤ tt) (lit< tt))
+    (hash-put-other fresh 4 2 space (lit< tt) c lc 1 (lit< tt) (λ e. omega arith) ∙ hash buffer root fits lr)
     (held-put-same fresh 4 2 space (lit< tt) c lc)
     (λ e. other-differs a (omega arith) (sym (hash-put-same fresh 4 2 space (lit< tt) c lc) ∙ e))
 

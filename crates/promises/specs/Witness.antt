@@ -8,7 +8,6 @@ use Prim.Native.Nat.{ℕ, zero, suc, _+_, _-_, _≤_, _<_}
 use native.Mathlib.Omega.{arith}
 use lib.ListN.{length, replicate, length-replicate}
 use lib.Dec.{lit<}
-use borrow.Author.Tests.{le-leb}
 use Rattle.octets.specs.Octets.{Octets, be, zeroHash}
 use Rattle.octets.specs.OctetsLaws.{same-eq, zero-octets, be-octets, append-octets}
 use Rattle.sha256.specs.Sha256.{pairHash}
@@ -20,7 +19,7 @@ use Rattle.cells.specs.Cells.{heldAt, hashAt}
 use Rattle.cells.specs.Entries.{agreesAt, agrees}
 use Rattle.cells.specs.EntriesLaws.{agrees-held}
 use Rattle.settling.specs.Subtree.{subtree}
-use Rattle.store.specs.Store.{heightOf, fileLength, pieceLength, blocksOf, factsInRange, storeSize, openAnswer, openAfter, opened, heldAnswer, Facts}
+use Rattle.store.specs.Store.{heightOf, fileLength, pieceLength, blocksOf, factsInRange, storeSize, openAfter, opened, heldAnswer, Facts}
 use Rattle.pieces.specs.Pieces.{layerOfPieces, blockNumber, pieceHeight, pieceNumber}
 use Rattle.store.specs.StoreLaws.{opened-piece, facts-usable, usable-facts, opened-usable, opened-file, opened-facts-root}
 use Rattle.header.specs.declared.Header.{Header}
@@ -43,20 +42,7 @@ use Rattle.knowledge.specs.Conflict.{sized-bytes}
 use Rattle.knowledge.specs.RootToBlock.{treeOf, same-height, agreed-piece}
 use Rattle.promises.specs.Lent.{lent, lent-room, lent-bytes, lent-opens}
 use Rattle.promises.specs.Example.{twoLeaves, header-two, first, second, two-taken, two-well-formed, two-place}
-
-range : factsInRange 32768 16384 ≡ true
-unfolding factsInRange isPieceLength pieceLayer height heightFrom
-range = refl
-
--- the opening is answered 0,
-pub opens : (buffer : List ℕ) → storeSize 32768 ≤ length buffer → openAnswer buffer 32768 16384 .number ≡ 0
-unfolding openAnswer
-opens buffer fits = rw (range, le-leb (storeSize 32768) (length buffer) fits)
-
--- and leaves an opened store
-pub open-is : (buffer root : List ℕ) → storeSize 32768 ≤ length buffer → openAfter buffer 32768 16384 root ≡ opened buffer 32768 16384 root
-unfolding openAfter
-open-is buffer root fits = rw (range, le-leb (storeSize 32768) (length buffer) fits)
+use Rattle.promises.specs.TwoBlocks.{range, opens, open-is}
 
 -- the message is a string of bytes
 one-byte : Octets 1 (22 ∷ [])
