@@ -15,34 +15,34 @@ use Rattle.tree.specs.GeometryLaws.{height-least, height-grows, height-pow}
 use Rattle.header.specs.declared.Header.{Header}
 use Rattle.header.specs.declared.Place.{Place}
 use Rattle.limits.specs.Limits.{longestRun}
-use Rattle.header.specs.Header.{headerSize, isHashes, isRequest, isReject, lengthRule, indexRule, rulesKept, placeOf}
+use Rattle.header.specs.Header.{headerSize, messageId, requestId, hashesId, rejectId, isHashes, isRequest, isReject, lengthRule, indexRule, rulesKept, placeOf}
 use Rattle.header.specs.HeaderLaws.{log-some}
 
 -- ---- the form
 
-pub hashes-short : (m : List ℕ) → length m < 49 → false ≡ isHashes m
+pub hashes-short : (m : List ℕ) → length m < headerSize → false ≡ isHashes m
 unfolding isHashes
-hashes-short m h = sym (rw (lt-leb 49 (length m) h))
+hashes-short m h = sym (rw (lt-leb headerSize (length m) h))
 
-pub hashes-long : (m : List ℕ) → 49 ≤ length m → eqb (getD m 0 0) 22 ≡ isHashes m
+pub hashes-long : (m : List ℕ) → headerSize ≤ length m → eqb (messageId m) hashesId ≡ isHashes m
 unfolding isHashes
-hashes-long m h = sym (rw (le-leb 49 (length m) h))
+hashes-long m h = sym (rw (le-leb headerSize (length m) h))
 
-pub request-other : (m : List ℕ) → (length m ≡ 49 → ⊥) → false ≡ isRequest m
+pub request-other : (m : List ℕ) → (length m ≡ headerSize → ⊥) → false ≡ isRequest m
 unfolding isRequest
-request-other m h = sym (rw (ne-eqb (length m) 49 h))
+request-other m h = sym (rw (ne-eqb (length m) headerSize h))
 
-pub request-sized : (m : List ℕ) → length m ≡ 49 → eqb (getD m 0 0) 21 ≡ isRequest m
+pub request-sized : (m : List ℕ) → length m ≡ headerSize → eqb (messageId m) requestId ≡ isRequest m
 unfolding isRequest
-request-sized m h = sym (rw (eq-eqb (length m) 49 h))
+request-sized m h = sym (rw (eq-eqb (length m) headerSize h))
 
-pub reject-other : (m : List ℕ) → (length m ≡ 49 → ⊥) → false ≡ isReject m
+pub reject-other : (m : List ℕ) → (length m ≡ headerSize → ⊥) → false ≡ isReject m
 unfolding isReject
-reject-other m h = sym (rw (ne-eqb (length m) 49 h))
+reject-other m h = sym (rw (ne-eqb (length m) headerSize h))
 
-pub reject-sized : (m : List ℕ) → length m ≡ 49 → eqb (getD m 0 0) 23 ≡ isReject m
+pub reject-sized : (m : List ℕ) → length m ≡ headerSize → eqb (messageId m) rejectId ≡ isReject m
 unfolding isReject
-reject-sized m h = sym (rw (eq-eqb (length m) 49 h))
+reject-sized m h = sym (rw (eq-eqb (length m) headerSize h))
 
 -- ---- the length
 

@@ -31,7 +31,7 @@ pub struct Place {
 }
 
 pub fn header_of(m: &[u8]) -> Header
-    requires { ⌜ 49 ≤ length (now m) ⌝ }
+    requires { ⌜ Hd.headerSize ≤ length (now m) ⌝ }
     ensures { λ r. ⌜ (r ≡ Hd.headerOf (now (m .entry))) × Hd.Small r ⌝ }
 {
     let base = octets::number_at(m, 33, 4);

@@ -3,7 +3,7 @@ ghost use mathlib.Core.Path.{_≡_};
 ghost use mathlib.Core.Bool.{true};
 ghost use mathlib.Core.List.{[], _∷_};
 ghost use Prim.Native.Nat.{_+_, _≤_, _<_};
-ghost use lib.ListN.{length, take};
+ghost use lib.ListN.{length, take, replicate};
 ghost use Rattle.numbers.specs.Numbers.{refused};
 ghost use Rattle.session.specs.Session as S;
 use header::HASHES;
@@ -64,7 +64,7 @@ pub const MAX_STORE: usize = 33823;
 
 // A store's bytes for any file that the replay takes, to lend.
 pub fn new_store() -> [u8; MAX_STORE]
-    ensures { λ r. ⌜ S.maxStore ≤ length r ⌝ }
+    ensures { λ r. ⌜ (r ≡ replicate S.maxStore 0) × (S.maxStore ≤ length r) ⌝ }
 {
     [0u8; MAX_STORE]
 }

@@ -4,6 +4,7 @@ use native.Mathlib.Omega.{arith}
 use Prim.Native.Nat.{_+_, _-_, _*_}
 use lib.ListN.{length}
 use mathlib.Core.Path.{refl, ap}
+use Rattle.header.specs.Header.{headerSize}
 use borrow.Author.Needs.{needs}
 use Rattle.messages.proofs.take.is_padded.Statement.{statement}
 use Rattle.messages.proofs.take.is_padded.Tie as tie
@@ -54,7 +55,7 @@ uncles-padded-requires : tie.Need-uncles-padded-requires
 uncles-padded-requires c κs =
     let a = c .before .before .before .before .before .before .args in
     let q = c .before .before .before .before .before .before .pre in
-    let e = 49 + 32 * a .x .len in
+    let e = headerSize + 32 * a .x .len in
     let h = uncles-part (a .m .now) (a .x .len) (a .p .u) e (e + 32 * a .p .u) refl refl in
     let l = uncles-length (a .m .now) (a .x) (a .p) q in
     (omega (arith, ap length h), omega (arith, q .layers), quotient-small (a .x .index) (a .x .len) (q .index), c .pad-value .ensures)
@@ -63,7 +64,7 @@ returns : tie.Need-returns
 returns c =
     let a = c .before .before .before .before .before .before .before .args in
     let q = c .before .before .before .before .before .before .before .pre in
-    let e = 49 + 32 * a .x .len in
+    let e = headerSize + 32 * a .x .len in
     padded-yes (a .m .now) (a .x) (a .p) (a .b) _ (c .before .before .before .before .run-padded .result) (run-part (a .m .now) (a .x .len) e refl) (c .before .before .before .before .run-padded .ensures) _ (c .uncles-padded .result)
     (c .before .before .before .if1 .taken) (uncles-part (a .m .now) (a .x .len) (a .p .u) e (e + 32 * a .p .u) refl refl) (c .uncles-padded .ensures)
 
@@ -71,7 +72,7 @@ returns-2 : tie.Need-returns-2
 returns-2 c =
     let a = c .before .before .before .before .args in
     let q = c .before .before .before .before .pre in
-    let e = 49 + 32 * a .x .len in
+    let e = headerSize + 32 * a .x .len in
     padded-no (a .m .now) (a .x) (a .p) (a .b) _ (c .before .run-padded .result) (run-part (a .m .now) (a .x .len) e refl) (c .before .run-padded .ensures) (c .if1 .left)
 
 pub is-padded-spec : {M : Type 1} → statement M

@@ -3,6 +3,7 @@ use Rattle.messages.proofs.Taking.{run-part, uncles-part, wrote-by, rea
 use Prim.Native.Nat.{_+_, _-_, _*_}
 use lib.ListN.{length}
 use mathlib.Core.Path.{refl}
+use Rattle.header.specs.Header.{headerSize}
 use borrow.Author.Needs.{needs}
 use Rattle.messages.proofs.take.write.Statement.{statement}
 use Rattle.messages.proofs.take.write.Tie as tie
@@ -44,14 +45,14 @@ write-path-requires : tie.Need-write-path-requires
 write-path-requires c κs =
     let a = c .before .before .before .before .before .before .before .before .before .before .args in
     let r = c .before .before .before .before .before .before .before .before .before .before .pre in
-    let e = 49 + 32 * a .x .len in
+    let e = headerSize + 32 * a .x .len in
     ready-way (length (a .s .now)) (a .m .now) (a .n) (a .x) (a .p) r _ (c .before .before .before .before .write-run .kept .0) _ (uncles-part (a .m .now) (a .x .len) (a .p .u) e (e + 32 * a .p .u) refl refl)
 
 add-result : tie.Need-add-result
 add-result c =
     let a = c .before .before .before .before .before .before .before .before .before .before .before .before .before .before .args in
     let r = c .before .before .before .before .before .before .before .before .before .before .before .before .before .before .pre in
-    let e = 49 + 32 * a .x .len in
+    let e = headerSize + 32 * a .x .len in
     record { fits = ready-sum (length (a .s .now)) (a .m .now) (a .n) (a .x) (a .p) r (a .s .now) _ _ _ _ _ (c .before .before .before .before .before .before .before .before .write-run .result .new) (c .before .before .before .write-path .result) (c .before .before .before .before .before .before .before .before .write-run .ensures .1 .0) (c .before .before .before .write-path .ensures .0) }
 
 same-length : tie.Need-same-length
@@ -62,7 +63,7 @@ unfolding zeroHash
 returns c =
     let a = c .before .before .before .before .before .before .before .before .before .before .before .before .before .before .args in
     let r = c .before .before .before .before .before .before .before .before .before .before .before .before .before .before .pre in
-    let e = 49 + 32 * a .x .len in
+    let e = headerSize + 32 * a .x .len in
     wrote-by (a .m .now) (a .x) (a .p) (r .carried .power) _ _ _ (run-part (a .m .now) (a .x .len) e refl) refl (uncles-part (a .m .now) (a .x .len) (a .p .u) e (e + 32 * a .p .u) refl refl) (a .s .now) (c .before .before .before .before .before .before .before .before .write-run .result .hash) (c .before .before .before .before .before .before .before .before .write-run .result .new) _ (c .before .before .before .write-path .result) _
     (c .before .before .before .before .before .before .before .before .write-run .ensures .0) (c .before .before .before .before .before .before .before .before .write-run .ensures .1 .0) (c .before .before .before .before .before .before .before .before .write-run .ensures .1 .1) (c .before .before .before .write-path .ensures .0) (c .before .before .before .write-path .ensures .1)
 
