@@ -31,7 +31,17 @@ abbrev pub oneIf : Bool → ℕ
 oneIf true = 1
 oneIf false = 0
 
--- how many positions below b are held in s′ and not in s
+-- how many positions, from the root's 1 up to b - 1, are held in s′ and not in s
 unfoldable pub newly : ℕ → List ℕ → List ℕ → ℕ
 newly zero s s′ = 0
-newly (suc n) s s′ = newly n s s′ + oneIf (heldAt s′ n && not (heldAt s n))
+newly (suc zero) s s′ = 0
+newly (suc (suc n)) s s′ = newly (suc n) s s′ + oneIf (heldAt s′ (suc n) && not (heldAt s (suc n)))
+
+-- 1 where position n is not held
+unfoldable pub lacks : List ℕ → ℕ → ℕ
+lacks s n = oneIf (not (heldAt s n))
+
+-- how many positions taking the entries makes held, counted one after the other
+unfoldable pub fresh : List ℕ → List Entry → ℕ
+fresh s [] = 0
+fresh s (e ∷ L) = lacks s (e .at) + fresh (put s (e .at) (e .hash)) L

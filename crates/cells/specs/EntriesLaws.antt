@@ -13,15 +13,7 @@ use Rattle.octets.specs.Octets.{same}
 use Rattle.octets.specs.OctetsLaws.{same-true, same-eq}
 use Rattle.cells.specs.Cells.{Room, heldAt, hashAt, put}
 use Rattle.cells.specs.CellsLaws.{put-length, put-room, held-put-same, hash-put-same, held-put-other, hash-put-other, put-comm}
-use Rattle.cells.specs.Entries.{Entry, one, agreesAt, agrees, putAll, oneIf, newly}
-
--- how many positions taking a list makes held, as code counts them
-unfoldable pub lacks : List ℕ → ℕ → ℕ
-lacks s n = oneIf (not (heldAt s n))
-
-unfoldable pub fresh : List ℕ → List Entry → ℕ
-fresh s [] = 0
-fresh s (e ∷ L) = lacks s (e .at) + fresh (put s (e .at) (e .hash)) L
+use Rattle.cells.specs.Entries.{Entry, one, agreesAt, agrees, putAll, oneIf, newly, lacks, fresh}
 
 -- ---- one entry, and lists put together
 
@@ -92,6 +84,11 @@ pub data Sound (N : ℕ) : List Entry → Type 0 where
   none : Sound N []
   more : {e : Entry} {L : List Entry} → e .at < N → length (e .hash) ≡ 32 → Sound N L → Sound N (e ∷ L)
 
+-- every entry has the number of a position, from the root's on
+pub data FromRoot : List Entry → Type 0 where
+  empty : FromRoot []
+  next : {e : Entry} {L : List Entry} → 1 ≤ e .at → FromRoot L → FromRoot (e ∷ L)
+
 -- every entry at p has hash v
 pub data Says (p : ℕ) (v : List ℕ) : List Entry → Type 0 where
   none : Says p v []
@@ -146,9 +143,10 @@ module _ (N : ℕ) (s : List ℕ) (n : ℕ) (room : Room N s) (below : n < N) (h
   newly-other : (M : ℕ) → M ≤ n → newly M s0 (put s n h) ≡ newly M s0 s
   unfolding newly
   newly-other zero l = refl
-  newly-other (suc M) l =
-      ap₂ (λ (a : ℕ) (t : Bool). a + oneIf (t && not (heldAt s0 M))) (newly-other M (omega arith))
-      (held-put-other s N n room below h size M (λ e. omega arith))
+  newly-other (suc zero) l = refl
+  newly-other (suc (suc M)) l =
+      ap₂ (λ (a : ℕ) (t : Bool). a + oneIf (t && not (heldAt s0 (suc M)))) (newly-other (suc M) (omega arith))
+      (held-put-other s N n room below h size (suc M) (λ e. omega arith))
 
   at-n : (x y : Bool) → (x ≡ true → y ≡ true) → oneIf (true && not x) ≡ oneIf (y && not x) + oneIf (not y)
   at-n true true f = refl
@@ -156,21 +154,22 @@ module _ (N : ℕ) (s : List ℕ) (n : ℕ) (room : Room N s) (below : n < N) (h
   at-n false true f = refl
   at-n false false f = refl
 
-  newly-put : (M : ℕ) → n < M → M ≤ N → Extends N s0 s → newly M s0 (put s n h) ≡ newly M s0 s + lacks s n
+  newly-put : 1 ≤ n → (M : ℕ) → n < M → M ≤ N → Extends N s0 s → newly M s0 (put s n h) ≡ newly M s0 s + lacks s n
   unfolding newly lacks Extends
-  newly-put zero b l x = omega arith
-  newly-put (suc M) b l x =
-      elim (ℕ-discrete M n) [
+  newly-put low zero b l x = omega arith
+  newly-put low (suc zero) b l x = omega arith
+  newly-put low (suc (suc m)) b l x =
+      elim (ℕ-discrete (suc m) n) [
         | yes e ↦
-            let a = newly-other M (omega arith) in
-            let t : heldAt (put s n h) M ≡ true = rw e (held-put-same s N n room below h size) in
-            let q = at-n (heldAt s0 M) (heldAt s M) (x M (omega arith)) in
-            let r : oneIf (heldAt (put s n h) M && not (heldAt s0 M)) ≡ oneIf (heldAt s M && not (heldAt s0 M)) + oneIf (not (heldAt s M)) = rw t q in
-            let w : oneIf (not (heldAt s n)) ≡ oneIf (not (heldAt s M)) = rw e refl in
+            let a = newly-other (suc m) (omega arith) in
+            let t : heldAt (put s n h) (suc m) ≡ true = rw e (held-put-same s N n room below h size) in
+            let q = at-n (heldAt s0 (suc m)) (heldAt s (suc m)) (x (suc m) (omega arith)) in
+            let r : oneIf (heldAt (put s n h) (suc m) && not (heldAt s0 (suc m))) ≡ oneIf (heldAt s (suc m) && not (heldAt s0 (suc m))) + oneIf (not (heldAt s (suc m))) = rw t q in
+            let w : oneIf (not (heldAt s n)) ≡ oneIf (not (heldAt s (suc m))) = rw e refl in
             omega arith
         | no ne ↦
-            let a = newly-put M (omega arith) (omega arith) x in
-            let t = ap (λ (t : Bool). oneIf (t && not (heldAt s0 M))) (held-put-other s N n room below h size M ne) in
+            let a = newly-put low (suc m) (omega arith) (omega arith) x in
+            let t = ap (λ (t : Bool). oneIf (t && not (heldAt s0 (suc m)))) (held-put-other s N n room below h size (suc m) ne) in
             omega arith
       ]
 
@@ -182,29 +181,30 @@ ext-put N s0 s n h room b size x p l k =
       | no ne ↦ held-put-other s N n room b h size p ne ∙ x p l k
     ]
 
-newly-putAll : (N : ℕ) (L : List Entry) (s0 s : List ℕ) → Room N s → Sound N L → Extends N s0 s → newly N s0 (putAll s L) ≡ newly N s0 s + fresh s L
+newly-putAll : (N : ℕ) (L : List Entry) (s0 s : List ℕ) → Room N s → Sound N L → FromRoot L → Extends N s0 s → newly N s0 (putAll s L) ≡ newly N s0 s + fresh s L
 unfolding putAll fresh
-newly-putAll N [] s0 s room none x = omega arith
-newly-putAll N (e ∷ L) s0 s room (more i l S) x =
+newly-putAll N [] s0 s room none empty x = omega arith
+newly-putAll N (e ∷ L) s0 s room (more i l S) (next a F) x =
     omega (
       arith,
-      newly-putAll N L s0 (put s (e .at) (e .hash)) (put-room s N (e .at) room i (e .hash) l) S (ext-put N s0 s (e .at) (e .hash) room i l x),
-      newly-put N s (e .at) room i (e .hash) l s0 N i (omega arith) x,
+      newly-putAll N L s0 (put s (e .at) (e .hash)) (put-room s N (e .at) room i (e .hash) l) S F (ext-put N s0 s (e .at) (e .hash) room i l x),
+      newly-put N s (e .at) room i (e .hash) l s0 a N i (omega arith) x,
     )
 
 pub newly-none : (N : ℕ) (s : List ℕ) → newly N s s ≡ 0
 unfolding newly
 newly-none zero s = refl
-newly-none (suc M) s = omega (arith, newly-none M s, off (heldAt s M))
+newly-none (suc zero) s = refl
+newly-none (suc (suc M)) s = omega (arith, newly-none (suc M) s, off (heldAt s (suc M)))
   where
     off : (b : Bool) → oneIf (b && not b) ≡ 0
     off true = refl
     off false = refl
 
 -- what the code counts as it writes is how many positions are held after and not before
-pub count-fresh : (N : ℕ) (L : List Entry) (s : List ℕ) → Room N s → Sound N L → newly N s (putAll s L) ≡ fresh s L
+pub count-fresh : (N : ℕ) (L : List Entry) (s : List ℕ) → Room N s → Sound N L → FromRoot L → newly N s (putAll s L) ≡ fresh s L
 unfolding Extends
-count-fresh N L s room S = omega (arith, newly-putAll N L s s room S (λ p b k. k), newly-none N s)
+count-fresh N L s room S F = omega (arith, newly-putAll N L s s room S F (λ p b k. k), newly-none N s)
 
 -- ---- order
 
@@ -293,6 +293,16 @@ sound-append (e ∷ A) B (more i l S) T = more i l (sound-append A B S T)
 -- so is a list of one hash
 pub sound-one : {N : ℕ} (n : ℕ) (h : List ℕ) → n < N → length h ≡ 32 → Sound N (one n h)
 sound-one n h i l = more i l none
+
+-- two lists from the root's number on are one
+pub from-root-append : (A B : List Entry) → FromRoot A → FromRoot B → FromRoot (A ++ B)
+from-root-append [] B empty q = q
+from-root-append (e ∷ A) B (next l p) q = next l (from-root-append A B p q)
+
+-- a list has only numbers from the root's on, if each of its entries has
+pub from-root-in : (L : List Entry) → ((e : Entry) → In e L → 1 ≤ e .at) → FromRoot L
+from-root-in [] f = empty
+from-root-in (e ∷ L) f = next (f e here) (from-root-in L (λ g k. f g (there k)))
 
 -- a list says v of p, if each of its entries there does
 pub says-in : (L : List Entry) (p : ℕ) (v : List ℕ) → ((f : Entry) → In f L → f .at ≡ p → f .hash ≡ v) → Says p v L

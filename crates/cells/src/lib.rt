@@ -2,8 +2,7 @@
 ghost use mathlib.Core.Path.{_≡_};
 ghost use Prim.Native.Nat.{_+_};
 ghost use Rattle.cells.specs.Cells.{Room, heldAt, hashAt, put};
-ghost use Rattle.cells.specs.Entries.{agreesAt};
-ghost use Rattle.cells.specs.EntriesLaws.{lacks};
+ghost use Rattle.cells.specs.Entries.{agreesAt, lacks};
 
 // Whether position n is held.
 pub fn held(s: &[u8], n: usize) -> bool

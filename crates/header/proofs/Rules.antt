@@ -14,55 +14,57 @@ use Rattle.tree.specs.Geometry.{height, covering, nodeNumber}
 use Rattle.tree.specs.GeometryLaws.{height-least, height-grows, height-pow}
 use Rattle.header.specs.declared.Header.{Header}
 use Rattle.header.specs.declared.Place.{Place}
-use Rattle.header.specs.Header.{headerSize, maxRun, isHashes, isRequest, isReject, lengthRule, indexRule, rulesKept, placeOf}
+use Rattle.limits.specs.Limits.{longestRun}
+use Rattle.header.specs.Header.{headerSize, messageId, requestId, hashesId, rejectId, isHashes, isRequest, isReject, lengthRule, indexRule, rulesKept, placeOf}
 use Rattle.header.specs.HeaderLaws.{log-some}
 
 -- ---- the form
 
-pub hashes-short : (m : List ℕ) → length m < 49 → false ≡ isHashes m
+pub hashes-short : (m : List ℕ) → length m < headerSize → false ≡ isHashes m
 unfolding isHashes
-hashes-short m h = sym (rw (lt-leb 49 (length m) h))
+hashes-short m h = sym (rw (lt-leb headerSize (length m) h))
 
-pub hashes-long : (m : List ℕ) → 49 ≤ length m → eqb (getD m 0 0) 22 ≡ isHashes m
+pub hashes-long : (m : List ℕ) → headerSize ≤ length m → eqb (messageId m) hashesId ≡ isHashes m
 unfolding isHashes
-hashes-long m h = sym (rw (le-leb 49 (length m) h))
+hashes-long m h = sym (rw (le-leb headerSize (length m) h))
 
-pub request-other : (m : List ℕ) → (length m ≡ 49 → ⊥) → false ≡ isRequest m
+pub request-other : (m : List ℕ) → (length m ≡ headerSize → ⊥) → false ≡ isRequest m
 unfolding isRequest
-request-other m h = sym (rw (ne-eqb (length m) 49 h))
+request-other m h = sym (rw (ne-eqb (length m) headerSize h))
 
-pub request-sized : (m : List ℕ) → length m ≡ 49 → eqb (getD m 0 0) 21 ≡ isRequest m
+pub request-sized : (m : List ℕ) → length m ≡ headerSize → eqb (messageId m) requestId ≡ isRequest m
 unfolding isRequest
-request-sized m h = sym (rw (eq-eqb (length m) 49 h))
+request-sized m h = sym (rw (eq-eqb (length m) headerSize h))
 
-pub reject-other : (m : List ℕ) → (length m ≡ 49 → ⊥) → false ≡ isReject m
+pub reject-other : (m : List ℕ) → (length m ≡ headerSize → ⊥) → false ≡ isReject m
 unfolding isReject
-reject-other m h = sym (rw (ne-eqb (length m) 49 h))
+reject-other m h = sym (rw (ne-eqb (length m) headerSize h))
 
-pub reject-sized : (m : List ℕ) → length m ≡ 49 → eqb (getD m 0 0) 23 ≡ isReject m
+pub reject-sized : (m : List ℕ) → length m ≡ headerSize → eqb (messageId m) rejectId ≡ isReject m
 unfolding isReject
-reject-sized m h = sym (rw (eq-eqb (length m) 49 h))
+reject-sized m h = sym (rw (eq-eqb (length m) headerSize h))
 
 -- ---- the length
 
 pub length-small : (len : ℕ) → len < 2 → false ≡ lengthRule len
 unfolding lengthRule
-length-small len h = sym (rw (lt-leb 2 len h) (ap (λ (t : Bool). t && leb len maxRun) (and-false (eqb (2 ^ height len) len))))
+length-small len h = sym (rw (lt-leb 2 len h) (ap (λ (t : Bool). t && leb len longestRun) (and-false (eqb (2 ^ height len) len))))
 
-pub length-large : (len : ℕ) → 512 < len → false ≡ lengthRule len
+pub length-large : (len : ℕ) → longestRun < len → false ≡ lengthRule len
 unfolding lengthRule
-length-large len h = sym (rw (lt-leb len maxRun h) (and-false (eqb (2 ^ height len) len && leb 2 len)))
+length-large len h = sym (rw (lt-leb len longestRun h) (and-false (eqb (2 ^ height len) len && leb 2 len)))
 
-pub log-small : (len : ℕ) → len ≤ 512 → height len ≤ 9
-log-small len h = height-least len 9 h
+-- a run's length is a number of 32 bits
+pub log-small : (len : ℕ) → len ≤ longestRun → height len ≤ 32
+log-small len h = height-least len 32 (omega arith)
 
-pub length-middle : (len k : ℕ) → 2 ≤ len → len ≤ 512 → k ≡ height len → eqb (1 * 2 ^ k % 2 ^ 64) len ≡ lengthRule len
+pub length-middle : (len k : ℕ) → 2 ≤ len → len ≤ longestRun → k ≡ height len → eqb (1 * 2 ^ k % 2 ^ 64) len ≡ lengthRule len
 unfolding lengthRule
 length-middle len k a b e =
-    let p : 2 ^ k ≤ 2 ^ 9 = pow-mono {i = k} {j = 9} (omega (arith, log-small len b)) in
+    let p : 2 ^ k ≤ 2 ^ 32 = pow-mono {i = k} {j = 32} (omega (arith, log-small len b)) in
     let o : 1 * 2 ^ k ≡ 2 ^ k = omega arith in
     let q : 1 * 2 ^ k % 2 ^ 64 ≡ 2 ^ height len = ap (λ (y : ℕ). y % 2 ^ 64) o ∙ mod-eq-of-lt (omega arith) ∙ ap (λ (y : ℕ). 2 ^ y) e in
-    sym (rw (le-leb 2 len a, le-leb len maxRun b) (last (eqb (2 ^ height len) len) ∙ ap (λ (y : ℕ). eqb y len) (sym q)))
+    sym (rw (le-leb 2 len a, le-leb len longestRun b) (last (eqb (2 ^ height len) len) ∙ ap (λ (y : ℕ). eqb y len) (sym q)))
   where
     last : (t : Bool) → (t && true && true) ≡ t
     last true = refl
@@ -70,16 +72,16 @@ length-middle len k a b e =
 
 pub length-two : (len : ℕ) → lengthRule len ≡ true → 2 ≤ len
 unfolding lengthRule
-length-two len e = leb-true 2 len (middle (eqb (2 ^ height len) len) (leb 2 len) (leb len maxRun) e)
+length-two len e = leb-true 2 len (middle (eqb (2 ^ height len) len) (leb 2 len) (leb len longestRun) e)
   where
     middle : (a b c : Bool) → (a && b && c) ≡ true → b ≡ true
     middle true true c f = refl
     middle true false c f = f
     middle false b c f = absurd (mathlib.Core.Bool.false≢true f)
 
-pub length-log : (len : ℕ) → lengthRule len ≡ true → height len ≤ 9
+pub length-log : (len : ℕ) → lengthRule len ≡ true → height len ≤ 32
 unfolding lengthRule
-length-log len e = log-small len (leb-true len maxRun (last (eqb (2 ^ height len) len) (leb 2 len) (leb len maxRun) e))
+length-log len e = log-small len (leb-true len longestRun (last (eqb (2 ^ height len) len) (leb 2 len) (leb len longestRun) e))
   where
     last : (a b c : Bool) → (a && b && c) ≡ true → c ≡ true
     last true true c f = f
@@ -108,7 +110,7 @@ module _ (x : Header) (b h : ℕ) where
         unfolding rulesKept
         rules-4 f = sym (rw (a, eq-eqb (x .index % x .len) 0 c, ← e, le-leb (x .base + k) h d, le-ltb (x .base + x .proof) h f))
 
-        pub rules-5 : x .base + x .proof < h → indexRule b (x .base) (x .index) ≡ rulesKept x b h
+        pub rules-5 : x .base + x .proof < h → indexRule x b h ≡ rulesKept x b h
         unfolding rulesKept
         rules-5 f = sym (rw (a, eq-eqb (x .index % x .len) 0 c, ← e, le-leb (x .base + k) h d, lt-ltb (x .base + x .proof) h f))
 

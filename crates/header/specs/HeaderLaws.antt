@@ -11,24 +11,8 @@ use borrow.Author.Tests.{eq-eqb, ne-eqb, eqb-true, le-leb, lt-leb, leb-true, lt-
 use Rattle.tree.specs.Geometry.{height, covering, ceilDiv, nodeNumber}
 use Rattle.tree.specs.GeometryLaws.{height-least, height-enough, height-pow, ceil-least, height-zero, height-one}
 use Rattle.header.specs.declared.Header.{Header}
-use Rattle.header.specs.Header.{maxRun, lengthRule, indexRule, rulesKept}
-
--- four numbers of 32 bits
-pub record Small (x : Header) : Type 0 where
-  pub base : x .base < 2 ^ 32
-  pub index : x .index < 2 ^ 32
-  pub len : x .len < 2 ^ 32
-  pub proof : x .proof < 2 ^ 32
-
--- the header rules, as 01 says them
-pub record Kept (x : Header) (b h : ℕ) : Type 0 where
-  pub power : 2 ^ height (x .len) ≡ x .len
-  pub two : 2 ≤ x .len
-  pub most : x .len ≤ maxRun
-  pub multiple : x .index % x .len ≡ 0
-  pub within : x .base + height (x .len) ≤ h
-  pub above : x .base + x .proof < h
-  pub inside : x .index < covering b (x .base)
+use Rattle.limits.specs.Limits.{longestRun}
+use Rattle.header.specs.Header.{lengthRule, indexRule, rulesKept, Kept}
 
 pub rules-kept : (x : Header) (b h : ℕ) → rulesKept x b h ≡ true → Kept x b h
 unfolding rulesKept lengthRule indexRule
@@ -36,8 +20,8 @@ rules-kept x b h e =
     let p = and-eq-true-iff _ (ltb (x .index) (covering b (x .base))) .0 e in
     let q = and-eq-true-iff _ (ltb (x .base + x .proof) h) .0 (p .0) in
     let r = and-eq-true-iff _ (leb (x .base + height (x .len)) h) .0 (q .0) in
-    let t = and-eq-true-iff (eqb (2 ^ height (x .len)) (x .len) && leb 2 (x .len) && leb (x .len) maxRun) (eqb (x .index % x .len) 0) .0 (r .0) in
-    let v = and-eq-true-iff _ (leb (x .len) maxRun) .0 (t .0) in
+    let t = and-eq-true-iff (eqb (2 ^ height (x .len)) (x .len) && leb 2 (x .len) && leb (x .len) longestRun) (eqb (x .index % x .len) 0) .0 (r .0) in
+    let v = and-eq-true-iff _ (leb (x .len) longestRun) .0 (t .0) in
     let w = and-eq-true-iff (eqb (2 ^ height (x .len)) (x .len)) (leb 2 (x .len)) .0 (v .0) in
     record {
       power = eqb-true _ _ (w .0);
@@ -55,7 +39,7 @@ kept-rules x b h f =
     rw (
       eq-eqb (2 ^ height (x .len)) (x .len) (f .power),
       le-leb 2 (x .len) (f .two),
-      le-leb (x .len) maxRun (f .most),
+      le-leb (x .len) longestRun (f .most),
       eq-eqb (x .index % x .len) 0 (f .multiple),
       le-leb (x .base + height (x .len)) h (f .within),
       lt-ltb (x .base + x .proof) h (f .above),

@@ -4,7 +4,16 @@ ghost use Prim.Native.Nat.{_+_, _^_, _≤_, _<_};
 ghost use lib.ListN.{length};
 ghost use Rattle.header.specs.Header as Hd;
 ghost use mathlib.Core.Bool.{true};
-ghost use Rattle.header.specs.HeaderLaws.{Small};
+
+// The ids of the three messages.
+pub const REQUEST: u8 = 21;
+
+pub const HASHES: u8 = 22;
+
+pub const REJECT: u8 = 23;
+
+// The bytes before a message's hashes.
+pub const HEADER_SIZE: usize = 49;
 
 // The header's four numbers.
 pub struct Header {
@@ -22,8 +31,8 @@ pub struct Place {
 }
 
 pub fn header_of(m: &[u8]) -> Header
-    requires { ⌜ 49 ≤ length (now m) ⌝ }
-    ensures { λ r. ⌜ (r ≡ Hd.headerOf (now (m .entry))) × Small r ⌝ }
+    requires { ⌜ Hd.headerSize ≤ length (now m) ⌝ }
+    ensures { λ r. ⌜ (r ≡ Hd.headerOf (now (m .entry))) × Hd.Small r ⌝ }
 {
     let base = octets::number_at(m, 33, 4);
     let index = octets::number_at(m, 37, 4);
@@ -40,28 +49,28 @@ pub fn header_of(m: &[u8]) -> Header
 pub fn is_hashes(m: &[u8]) -> bool
     ensures { λ r. ⌜ r ≡ Hd.isHashes (now (m .entry)) ⌝ }
 {
-    if m.len() < 49 {
+    if m.len() < HEADER_SIZE {
         return false;
     }
-    m[0] == 22
+    m[0] == HASHES
 }
 
 pub fn is_request(m: &[u8]) -> bool
     ensures { λ r. ⌜ r ≡ Hd.isRequest (now (m .entry)) ⌝ }
 {
-    if m.len() != 49 {
+    if m.len() != HEADER_SIZE {
         return false;
     }
-    m[0] == 21
+    m[0] == REQUEST
 }
 
 pub fn is_reject(m: &[u8]) -> bool
     ensures { λ r. ⌜ r ≡ Hd.isReject (now (m .entry)) ⌝ }
 {
-    if m.len() != 49 {
+    if m.len() != HEADER_SIZE {
         return false;
     }
-    m[0] == 23
+    m[0] == REJECT
 }
 
 fn length_rule(len: usize) -> bool
@@ -70,23 +79,26 @@ fn length_rule(len: usize) -> bool
     if len < 2 {
         return false;
     }
-    if 512 < len {
+    if limits::LONGEST_RUN < len {
         return false;
     }
-    let k = tree::geometry::height(len);
+    let k = tree::geometry::log2(len);
     1 << k == len
 }
 
-fn index_rule(b: usize, base: usize, index: usize) -> bool
-    ensures { λ r. ⌜ r ≡ Hd.indexRule b base index ⌝ }
+// Whether the run begins in the file, of b blocks and height h.
+fn index_rule(x: Header, b: usize, h: usize) -> bool
+    ensures { λ r. ⌜ r ≡ Hd.indexRule x b h ⌝ }
 {
+    let base = x.base;
+    let index = x.index;
     let c = tree::geometry::covering(b, base);
     index < c
 }
 
 // Whether a header keeps the rules, for a file of b blocks and height h.
 pub fn keeps_rules(x: Header, b: usize, h: usize) -> bool
-    requires { ⌜ Small x ⌝ }
+    requires { ⌜ Hd.Small x ⌝ }
     ensures { λ r. ⌜ r ≡ Hd.rulesKept x b h ⌝ }
 {
     let base = x.base;
@@ -100,26 +112,26 @@ pub fn keeps_rules(x: Header, b: usize, h: usize) -> bool
     if index % len != 0 {
         return false;
     }
-    let k = tree::geometry::height(len);
+    let k = tree::geometry::log2(len);
     if h < base + k {
         return false;
     }
     if h <= base + proof {
         return false;
     }
-    index_rule(b, base, index)
+    index_rule(x, b, h)
 }
 
 // The place that a header names which keeps the rules.
 pub fn place_of(x: Header, b: usize, h: usize) -> Place
-    requires { ⌜ Small x × (h ≤ 32) × (b ≤ 2 ^ h) × (Hd.rulesKept x b h ≡ true) ⌝ }
+    requires { ⌜ Hd.Small x × (h ≤ 32) × (b ≤ 2 ^ h) × (Hd.rulesKept x b h ≡ true) ⌝ }
     ensures { λ r. ⌜ r ≡ Hd.placeOf x h ⌝ }
 {
     let base = x.base;
     let index = x.index;
     let len = x.len;
     let proof = x.proof;
-    let k = tree::geometry::height(len);
+    let k = tree::geometry::log2(len);
     let mut u = 0;
     if k <= proof + 1 {
         u = proof + 1 - k;

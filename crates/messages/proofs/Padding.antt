@@ -13,7 +13,7 @@ use Rattle.octets.specs.Octets.{cut, same}
 use Rattle.sha256.specs.Sha256.{pairHash}
 use Rattle.tree.specs.Geometry.{covering}
 use Rattle.tree.specs.Values.{padValue}
-use Rattle.runs.specs.Path.{sibling, uncle}
+use Rattle.settling.specs.Path.{sibling, uncle}
 use Rattle.messages.specs.Padded.{allFrom, runPadded, unclePadded, unclesPadded}
 
 -- ---- a run

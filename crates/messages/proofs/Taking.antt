@@ -13,46 +13,41 @@ use lib.Dec.{eqb}
 use borrow.Author.Tests.{eq-eqb, ne-eqb, eqb-true}
 use Rattle.octets.specs.Octets.{cut, same, zeroHash}
 use Rattle.octets.specs.OctetsLaws.{cut-length, zero-octets}
-use Rattle.numbers.specs.Numbers.{refused, done, wrongSize, wrongPadding, judged}
+use Rattle.numbers.specs.Numbers.{refused, done, wrongSize, wrongPadding, noAnchor, judged}
 use Rattle.numbers.specs.declared.Answer.{Answer}
 use Rattle.tree.specs.Values.{node, padValue}
 use Rattle.cells.specs.Cells.{Room, heldAt, hashAt}
-use Rattle.cells.specs.Entries.{Entry, agrees, putAll, newly}
-use Rattle.cells.specs.EntriesLaws.{fresh, Sound, agree-append, put-append, fresh-append, newly-none, count-fresh}
-use Rattle.store.specs.Store.{usable, blocksOf, heightOf, positions}
-use Rattle.store.specs.StoreLaws.{Facts, usable-facts, facts-height, facts-leaves}
-use Rattle.runs.specs.Span.{Within, Fit, Way}
-use Rattle.runs.specs.Subtree.{subtree, runLeaf}
-use Rattle.runs.specs.SubtreeLaws.{within-self, run-leaf-length, subtree-small}
-use Rattle.runs.specs.Path.{ancestor, risen, path}
-use Rattle.runs.specs.PathLaws.{path-small}
-use Rattle.runs.specs.AncestorLaws.{ancestor-le}
-use Rattle.runs.specs.SettledLaws.{settled-sound}
+use Rattle.cells.specs.Entries.{Entry, agrees, putAll, newly, fresh}
+use Rattle.cells.specs.EntriesLaws.{Sound, agree-append, put-append, fresh-append, newly-none, count-fresh}
+use Rattle.store.specs.Store.{usable, blocksOf, heightOf, positions, Facts}
+use Rattle.store.specs.StoreLaws.{usable-facts, facts-height, facts-leaves}
+use Rattle.settling.specs.Span.{Within, Fit, Way}
+use Rattle.settling.specs.Subtree.{subtree, runLeaf}
+use Rattle.settling.specs.SubtreeLaws.{within-self, run-leaf-length, subtree-small}
+use Rattle.settling.specs.Path.{ancestor, risen, path}
+use Rattle.settling.specs.PathLaws.{path-small}
+use Rattle.settling.specs.AncestorLaws.{ancestor-le}
+use Rattle.settling.specs.SettledLaws.{settled-sound}
 use Rattle.header.specs.declared.Header.{Header}
 use Rattle.header.specs.declared.Place.{Place}
 use Rattle.header.specs.Header.{headerSize, headerOf, isHashes, isReject, rulesKept, placeOf, messageSize}
 use Rattle.messages.specs.Padded.{runPadded, unclesPadded}
 use Rattle.messages.specs.Take.{headerNumber, runOf, unclesOf, given, settled, anchor, worked, padded, anchored, bodyNumber, placeIn, orElse, takeNumber, takeAfter, takeAnswer, rejectAnswer}
-use Rattle.messages.specs.TakeLaws.{Passed, passed, Placed, Carried, Ready}
+use Rattle.messages.specs.Asks.{Passed, Placed, Carried, Ready}
 use Rattle.messages.specs.TakenLaws.{uncles-length}
 
 -- ---- the message's parts
 
-pub run-part : (m : List ℕ) (len e : ℕ) → e ≡ 49 + 32 * len → take (e - 49) (drop 49 m) ≡ runOf m len
+pub run-part : (m : List ℕ) (len e : ℕ) → e ≡ headerSize + 32 * len → take (e - headerSize) (drop headerSize m) ≡ runOf m len
 unfolding runOf cut
-run-part m len e q = let w : e - 49 ≡ 32 * len = omega arith in rw w
+run-part m len e q = let w : e - headerSize ≡ 32 * len = omega arith in rw w
 
-pub uncles-part : (m : List ℕ) (len u e f : ℕ) → e ≡ 49 + 32 * len → f ≡ e + 32 * u → take (f - e) (drop e m) ≡ unclesOf m len u
+pub uncles-part : (m : List ℕ) (len u e f : ℕ) → e ≡ headerSize + 32 * len → f ≡ e + 32 * u → take (f - e) (drop e m) ≡ unclesOf m len u
 unfolding unclesOf cut
 uncles-part m len u e f q w = let z : f - e ≡ 32 * u = omega arith in rw (z, q)
 
 pub quotient-small : (i d : ℕ) → i < 2 ^ 32 → i / d < 2 ^ 63
 quotient-small i d h = omega (arith, native.Mathlib.Nat.div-le-self i d)
-
-pub shifted-two : (h k : ℕ) → h ≡ k → h ≤ 16 → 2 * 2 ^ h % 2 ^ 64 ≡ 2 * 2 ^ k
-shifted-two h k e l =
-    let w : 2 ^ h ≤ 2 ^ 16 = pow-mono {i = h} {j = 16} l in
-    mod-eq-of-lt (omega arith) ∙ ap (λ (y : ℕ). 2 * 2 ^ y) e
 
 -- ---- number 5
 
@@ -78,13 +73,13 @@ module _ (m : List ℕ) (x : Header) (p : Place) (power : 2 ^ p .k ≡ x .len) (
   uncles-are : unclesOf m (2 ^ p .k) (p .u) ≡ hashes
   uncles-are = cc
 
-  pub anchored-by : (s v : List ℕ) (o1 : Bool) (w : List ℕ) (o2 : Bool) (a : ℕ) (held : Bool) (g : List ℕ) (alike all : Bool) (r : ℕ)
+  pub compared-by : (s v : List ℕ) (o1 : Bool) (w : List ℕ) (o2 : Bool) (a : ℕ) (g : List ℕ) (alike all : Bool) (r : ℕ)
       → (v ≡ node (runLeaf run past) (p .k) 0) × (o1 ≡ agrees s (subtree (runLeaf run past) (p .k) (p .top) 0))
       → (w ≡ risen hashes 0 (p .u) (p .top) v) × (o2 ≡ agrees s (path hashes 0 (p .u) (p .top) v))
-      → a ≡ ancestor (p .u) (p .top) → held ≡ heldAt s a → g ≡ hashAt s a → alike ≡ same g w → all ≡ (o1 && o2) → r ≡ judged held alike all
-      → r ≡ anchored s m p
-  unfolding anchored anchor worked settled
-  anchored-by s v o1 w o2 a held g alike all r L H ea e1 e2 e3 e4 e5 =
+      → g ≡ hashAt s a → alike ≡ same g w → all ≡ (o1 && o2) → r ≡ judged true alike all
+      → r ≡ judged true (same (hashAt s a) (worked m p)) (agrees s (settled m p))
+  unfolding worked settled
+  compared-by s v o1 w o2 a g alike all r L H e2 e3 e4 e5 =
       let A = subtree (given m (p .k)) (p .k) (p .top) 0 in
       let B = path (unclesOf m (2 ^ p .k) (p .u)) 0 (p .u) (p .top) (node (given m (p .k)) (p .k) 0) in
       let l = leaf-is in
@@ -103,6 +98,20 @@ module _ (m : List ℕ) (x : Header) (p : Place) (power : 2 ^ p .k ≡ x .len) (
       let l = leaf-is in
       let u = uncles-are in
       (cc (fresh-append s A B), cc (put-append s A B))
+
+-- the anchor is looked at first
+module _ (s m : List ℕ) (p : Place) (a : ℕ) (ea : a ≡ ancestor (p .u) (p .top)) (t : Bool) (et : t ≡ heldAt s a) where
+  here : heldAt s (anchor p) ≡ t
+  unfolding anchor
+  here = ap (heldAt s) (sym ea) ∙ sym et
+
+  pub anchor-lacks : t ≡ false → noAnchor ≡ anchored s m p
+  unfolding anchored
+  anchor-lacks f = sym (rw (here, f))
+
+  pub anchor-there : (r : ℕ) → t ≡ true → r ≡ judged true (same (hashAt s a) (worked m p)) (agrees s (settled m p)) → r ≡ anchored s m p
+  unfolding anchored anchor
+  anchor-there r f e = e ∙ sym (rw (← ea, ← et, f))
 
 module _ (ls : ℕ) (m : List ℕ) (n : ℕ) (x : Header) (p : Place) (r : Ready ls (length m) n x p) where
   pub ready-fit : Fit ls n (p .k) (p .top) 0
@@ -130,11 +139,11 @@ module _ (ls : ℕ) (m : List ℕ) (n : ℕ) (x : Header) (p : Place) (r : Ready
 -- ---- the numbers
 
 module _ (s m : List ℕ) (x : Header) (p : Place) (n : ℕ) (q : Placed n x p) where
-  pub body-4 : (length m ≡ 49 + 32 * (x .len + p .u) → ⊥) → wrongSize ≡ bodyNumber s m x p
+  pub body-4 : (length m ≡ headerSize + 32 * (x .len + p .u) → ⊥) → wrongSize ≡ bodyNumber s m x p
   unfolding bodyNumber
   body-4 ne = sym (rw (ne-eqb (length m) (messageSize x) (λ e. ne (e ∙ q .size))))
 
-  module _ (e : length m ≡ 49 + 32 * (x .len + p .u)) (b : ℕ) (eb : b ≡ blocksOf s) (t : Bool) (et : t ≡ padded m x p b) where
+  module _ (e : length m ≡ headerSize + 32 * (x .len + p .u)) (b : ℕ) (eb : b ≡ blocksOf s) (t : Bool) (et : t ≡ padded m x p b) where
     pads : t ≡ padded m x p (blocksOf s)
     pads = et ∙ ap (padded m x p) eb
 
@@ -153,9 +162,6 @@ module _ (s m : List ℕ) (form : Bool) (h : ℕ) (ef : form ≡ isHashes m) (eh
       let w : h ≡ headerNumber (isHashes m) s m = cc in
       let z : eqb (headerNumber (isHashes m) s m) 0 ≡ false = ne-eqb (headerNumber (isHashes m) s m) 0 (λ y. ne (w ∙ y)) in
       w ∙ sym (rw z)
-
-  pub took-passed : h ≡ 0 → Passed (isHashes m) s m
-  took-passed z = passed (isHashes m) s m (cc)
 
   pub took-body : (r : ℕ) (x : Header) (p : Place) → h ≡ 0 → x ≡ headerOf m → p ≡ placeIn s m → r ≡ bodyNumber s m x p → r ≡ takeNumber s m
   unfolding takeNumber

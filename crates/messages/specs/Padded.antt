@@ -7,7 +7,7 @@ use lib.Dec.{leb}
 use Rattle.octets.specs.Octets.{cut, same}
 use Rattle.tree.specs.Geometry.{covering}
 use Rattle.tree.specs.Values.{padValue}
-use Rattle.runs.specs.Path.{sibling, uncle}
+use Rattle.settling.specs.Path.{sibling, uncle}
 
 -- the hashes from number `from` on, of the first n of a string, are all v
 unfoldable pub allFrom : List ℕ → List ℕ → ℕ → ℕ → Bool

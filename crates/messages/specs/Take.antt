@@ -13,8 +13,8 @@ use Rattle.tree.specs.Values.{node}
 use Rattle.cells.specs.Cells.{heldAt, hashAt}
 use Rattle.cells.specs.Entries.{Entry, agrees, putAll, newly}
 use Rattle.store.specs.Store.{usable, factsRoot, blocksOf, heightOf, positions}
-use Rattle.runs.specs.Subtree.{subtree, runLeaf}
-use Rattle.runs.specs.Path.{ancestor, risen, path}
+use Rattle.settling.specs.Subtree.{subtree, runLeaf}
+use Rattle.settling.specs.Path.{ancestor, risen, path}
 use Rattle.header.specs.declared.Header.{Header}
 use Rattle.header.specs.declared.Place.{Place}
 use Rattle.header.specs.Header.{headerSize, messageRoot, headerOf, isHashes, isReject, rulesKept, placeOf, messageSize}
@@ -61,10 +61,11 @@ padded m x p b =
     runPadded (runOf m (x .len)) b (x .base) (x .index) (x .len)
     && unclesPadded (unclesOf m (x .len) (p .u)) b 0 (p .u) (x .base + p .k) (x .index / x .len)
 
+-- 6, 7, 8 or 0: the anchor held, its value as worked out, no held hash different
 unfoldable pub anchored : List ℕ → List ℕ → Place → ℕ
 anchored s m p = judged (heldAt s (anchor p)) (same (hashAt s (anchor p)) (worked m p)) (agrees s (settled m p))
 
--- 4, 5 and then those
+-- 4, 5, then 6, 7, 8 or 0
 unfoldable pub bodyNumber : List ℕ → List ℕ → Header → Place → ℕ
 bodyNumber s m x p =
     cond (eqb (length m) (messageSize x)) (cond (padded m x p (blocksOf s)) (anchored s m p) wrongPadding) wrongSize

@@ -15,38 +15,34 @@ use Rattle.octets.specs.OctetsLaws.{cut-length, zero-octets}
 use Rattle.numbers.specs.Numbers.{noMessage, otherRoot, ruleBroken, wrongSize, wrongPadding, noAnchor, differs, conflict, unusable}
 use Rattle.tree.specs.Geometry.{height, covering}
 use Rattle.tree.specs.GeometryLaws.{covering-most}
-use Rattle.store.specs.Store.{usable, factsRoot, blocksOf, heightOf, positions}
-use Rattle.store.specs.StoreLaws.{Facts, usable-facts, positions-even, positions-most, facts-leaves, facts-blocks-most, facts-height}
-use Rattle.runs.specs.Span.{Within}
-use Rattle.runs.specs.SubtreeLaws.{within-tree}
-use Rattle.runs.specs.Path.{ancestor}
-use Rattle.runs.specs.AncestorLaws.{ancestor-positive}
+use Rattle.store.specs.Store.{usable, factsRoot, blocksOf, heightOf, positions, Facts}
+use Rattle.store.specs.StoreLaws.{usable-facts, positions-even, positions-most, facts-leaves, facts-blocks-most, facts-height}
+use Rattle.settling.specs.Span.{Within}
+use Rattle.settling.specs.SubtreeLaws.{within-tree}
+use Rattle.settling.specs.Path.{ancestor}
+use Rattle.settling.specs.AncestorLaws.{ancestor-positive}
 use Rattle.header.specs.declared.Header.{Header}
 use Rattle.header.specs.declared.Place.{Place}
-use Rattle.header.specs.Header.{headerSize, maxRun, messageRoot, headerOf, isHashes, isRequest, isReject, rulesKept, placeOf, messageSize}
-use Rattle.header.specs.HeaderLaws.{Small, Kept, rules-kept, log-some, top-inside}
+use Rattle.limits.specs.Limits.{tallestTree}
+use Rattle.header.specs.Header.{headerSize, messageId, requestId, hashesId, rejectId, messageRoot, headerOf, isHashes, isRequest, isReject, rulesKept, placeOf, messageSize, Kept}
+use Rattle.header.specs.HeaderLaws.{rules-kept, log-some, top-inside}
 use Rattle.messages.specs.Take.{headerNumber, placeIn}
+use Rattle.messages.specs.Asks.{firstNumber, Passed, Placed, Carried, Ready}
 
--- a form has its header's 49 bytes
-pub hashes-form : (m : List ℕ) → isHashes m ≡ true → 49 ≤ length m
+-- a form has its header's bytes
+pub hashes-form : (m : List ℕ) → isHashes m ≡ true → headerSize ≤ length m
 unfolding isHashes
-hashes-form m e = leb-true 49 (length m) (and-eq-true-iff (leb 49 (length m)) (eqb (getD m 0 0) 22) .0 e .0)
+hashes-form m e = leb-true headerSize (length m) (and-eq-true-iff (leb headerSize (length m)) (eqb (messageId m) hashesId) .0 e .0)
 
-pub request-form : (m : List ℕ) → isRequest m ≡ true → length m ≡ 49
+pub request-form : (m : List ℕ) → isRequest m ≡ true → length m ≡ headerSize
 unfolding isRequest
-request-form m e = eqb-true (length m) 49 (and-eq-true-iff (eqb (length m) 49) (eqb (getD m 0 0) 21) .0 e .0)
+request-form m e = eqb-true (length m) headerSize (and-eq-true-iff (eqb (length m) headerSize) (eqb (messageId m) requestId) .0 e .0)
 
-pub reject-form : (m : List ℕ) → isReject m ≡ true → length m ≡ 49
+pub reject-form : (m : List ℕ) → isReject m ≡ true → length m ≡ headerSize
 unfolding isReject
-reject-form m e = eqb-true (length m) 49 (and-eq-true-iff (eqb (length m) 49) (eqb (getD m 0 0) 23) .0 e .0)
+reject-form m e = eqb-true (length m) headerSize (and-eq-true-iff (eqb (length m) headerSize) (eqb (messageId m) rejectId) .0 e .0)
 
 -- ---- a header number of 0
-
-pub record Passed (form : Bool) (s m : List ℕ) : Type 0 where
-  pub store : usable s ≡ true
-  pub formed : form ≡ true
-  pub root : same (factsRoot s) (messageRoot m) ≡ true
-  pub rules : rulesKept (headerOf m) (blocksOf s) (heightOf s) ≡ true
 
 -- a test that let the rest decide
 let-through : (t : Bool) (a n : ℕ) → (n ≡ 0 → ⊥) → cond t a n ≡ 0 → (t ≡ true) × (a ≡ 0)
@@ -66,21 +62,47 @@ pub passes : (form : Bool) (s m : List ℕ) → Passed form s m → headerNumber
 unfolding headerNumber
 passes form s m p = rw (p .store, p .formed, p .root, p .rules)
 
+-- ---- 9, 1, 2 and then 3
+
+module _ (form : Bool) (s m : List ℕ) (r : ℕ) (e : r ≡ firstNumber form s m) where
+  -- a refusal by the first three is the header's
+  pub first-refused : (r ≡ 0 → ⊥) → r ≡ headerNumber form s m
+  unfolding firstNumber headerNumber
+  first-refused ne = by (usable s) form (same (factsRoot s) (messageRoot m)) _ e
+    where
+      by : (u f v : Bool) (q : ℕ) → r ≡ cond u (cond f (cond v 0 otherRoot) noMessage) unusable → r ≡ cond u (cond f (cond v q otherRoot) noMessage) unusable
+      by true true true q w = absurd (ne w)
+      by true true false q w = w
+      by true false v q w = w
+      by false f v q w = w
+
+  module _ (z : r ≡ 0) where
+    -- none of them
+    pub first-passed : (usable s ≡ true) × (form ≡ true) × (same (factsRoot s) (messageRoot m) ≡ true)
+    unfolding firstNumber
+    first-passed =
+        let a = let-through (usable s) _ unusable (λ y. omega arith) (sym e ∙ z) in
+        let b = let-through form _ noMessage (λ y. omega arith) (a .1) in
+        let c = let-through (same (factsRoot s) (messageRoot m)) 0 otherRoot (λ y. omega arith) (b .1) in
+        (a .0, b .0, c .0)
+
+    module _ (x : Header) (k : Bool) (ex : x ≡ headerOf m) (ek : k ≡ rulesKept x (blocksOf s) (heightOf s)) where
+      rules : k ≡ rulesKept (headerOf m) (blocksOf s) (heightOf s)
+      rules = ek ∙ ap (λ (y : Header). rulesKept y (blocksOf s) (heightOf s)) ex
+
+      pub rules-broken : k ≡ false → ruleBroken ≡ headerNumber form s m
+      unfolding headerNumber
+      rules-broken y = sym (rw (first-passed .0, first-passed .1, first-passed .2, ← rules, y))
+
+      pub rules-passed : k ≡ true → Passed form s m
+      rules-passed y = record { store = first-passed .0; formed = first-passed .1; root = first-passed .2; rules = sym rules ∙ y }
+
+      pub rules-done : k ≡ true → 0 ≡ headerNumber form s m
+      rules-done y = sym (passes form s m (rules-passed y))
+
 -- ---- the place of a header that keeps the rules, in a tree whose positions have numbers below n
 
-pub record Placed (n : ℕ) (x : Header) (p : Place) : Type 0 where
-  pub power : 2 ^ p .k ≡ x .len
-  pub some : 2 ≤ x .len
-  pub most : x .len ≤ maxRun
-  pub index : x .index < 2 ^ 32
-  pub top : Within n (p .k) (p .top)
-  pub anchor : 1 ≤ ancestor (p .u) (p .top)
-  pub layers : x .base + p .k + p .u ≤ 16
-  pub size : messageSize x ≡ headerSize + 32 * (x .len + p .u)
-  pub even : n % 2 ≡ 0
-  pub few : n ≤ 131072
-
-placed-at : (x : Header) (b h : ℕ) → b ≤ 2 ^ h → b ≤ 65536 → h ≤ 16 → Kept x b h → Placed (positions h) x (placeOf x h)
+placed-at : (x : Header) (b h : ℕ) → b ≤ 2 ^ h → b ≤ 2 ^ tallestTree → h ≤ tallestTree → Kept x b h → Placed (positions h) x (placeOf x h)
 unfolding positions placeOf messageSize
 placed-at x b h e bs hs f =
     let k : ℕ = height (x .len) in
@@ -108,25 +130,7 @@ placed form s m p =
     placed-at (headerOf m) (blocksOf s) (heightOf s) (facts-leaves s f) (facts-blocks-most s f) (facts-height s f)
     (rules-kept (headerOf m) (blocksOf s) (heightOf s) (p .rules))
 
--- ---- what the functions below the entry points ask for
-
--- a message of lm bytes carries the run and the uncles
-pub record Carried (lm : ℕ) (x : Header) (p : Place) : Type 0 where
-  pub power : 2 ^ p .k ≡ x .len
-  pub some : 2 ≤ x .len
-  pub most : x .len ≤ maxRun
-  pub index : x .index < 2 ^ 32
-  pub layers : x .base + p .k + p .u ≤ 16
-  pub carries : headerSize + 32 * (x .len + p .u) ≤ lm
-
--- and a store of ls bytes has the positions below n, the run's and the path's among them
-pub record Ready (ls lm n : ℕ) (x : Header) (p : Place) : Type 0 where
-  pub carried : Carried lm x p
-  pub room : 31 + 33 * n ≤ ls
-  pub top : Within n (p .k) (p .top)
-  pub anchor : 1 ≤ ancestor (p .u) (p .top)
-  pub even : n % 2 ≡ 0
-  pub few : n ≤ 131072
+-- ---- from one to the next
 
 pub placed-carried : {n : ℕ} {x : Header} {p : Place} (lm : ℕ) → Placed n x p → headerSize + 32 * (x .len + p .u) ≤ lm → Carried lm x p
 placed-carried lm q h =

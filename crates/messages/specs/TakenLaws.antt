@@ -13,22 +13,23 @@ use Rattle.octets.specs.Octets.{zeroHash}
 use Rattle.octets.specs.OctetsLaws.{cut-length, zero-octets}
 use Rattle.numbers.specs.Numbers.{refused, done, wrongSize, wrongPadding}
 use Rattle.tree.specs.Values.{node}
-use Rattle.cells.specs.Entries.{putAll, newly}
-use Rattle.cells.specs.EntriesLaws.{fresh, Sound, newly-none, count-fresh}
+use Rattle.cells.specs.Entries.{putAll, newly, fresh}
+use Rattle.cells.specs.EntriesLaws.{Sound, FromRoot, from-root-in, newly-none, count-fresh}
 use Rattle.store.specs.Store.{blocksOf, heightOf, positions}
 use Rattle.store.specs.StoreLaws.{usable-facts}
-use Rattle.runs.specs.Subtree.{runLeaf}
-use Rattle.runs.specs.SubtreeLaws.{run-leaf-length}
-use Rattle.runs.specs.SettledLaws.{settled-sound}
+use Rattle.settling.specs.Subtree.{runLeaf}
+use Rattle.settling.specs.SubtreeLaws.{run-leaf-length}
+use Rattle.settling.specs.SettledLaws.{settled-sound, settled-positive}
 use Rattle.header.specs.declared.Header.{Header}
 use Rattle.header.specs.declared.Place.{Place}
-use Rattle.header.specs.Header.{headerOf, isHashes, messageSize}
+use Rattle.header.specs.Header.{headerSize, headerOf, isHashes, messageSize}
 use Rattle.messages.specs.Take.{headerNumber, runOf, unclesOf, given, settled, padded, anchored, bodyNumber, placeIn, orElse, takeNumber, takeAfter, takeAnswer}
-use Rattle.messages.specs.TakeLaws.{Passed, passed, Placed, placed, Carried, Ready, placed-ready}
+use Rattle.messages.specs.Asks.{Passed, Placed, Carried, Ready}
+use Rattle.messages.specs.TakeLaws.{passed, placed, placed-ready}
 
 pub uncles-length : (m : List ℕ) (x : Header) (p : Place) → Carried (length m) x p → length (unclesOf m (x .len) (p .u)) ≡ 32 * p .u
 unfolding unclesOf
-uncles-length m x p c = cut-length m (49 + 32 * x .len) (32 * p .u) (omega (arith, c .carries))
+uncles-length m x p c = cut-length m (headerSize + 32 * x .len) (32 * p .u) (omega (arith, c .carries))
 
 -- what a message settles are hashes, at positions of the tree
 pub ready-settled : (ls : ℕ) (m : List ℕ) (n : ℕ) (x : Header) (p : Place) → Ready ls (length m) n x p → Sound n (settled m p)
@@ -38,6 +39,14 @@ ready-settled ls m n x p r =
     let l : length (unclesOf m (2 ^ p .k) (p .u)) ≡ 32 * p .u = ap (λ (y : ℕ). length (unclesOf m y (p .u))) q ∙ uncles-length m x p (r .carried) in
     settled-sound (runLeaf (runOf m (2 ^ p .k)) zeroHash) (run-leaf-length (runOf m (2 ^ p .k)) zeroHash (zero-octets .size))
     (unclesOf m (2 ^ p .k) (p .u)) n (p .k) (p .top) 0 0 (p .u) (node (runLeaf (runOf m (2 ^ p .k)) zeroHash) (p .k) 0) (r .top) (omega arith) (r .even)
+
+-- at positions from the root's on
+pub ready-from-root : (ls : ℕ) (m : List ℕ) (n : ℕ) (x : Header) (p : Place) → Ready ls (length m) n x p → FromRoot (settled m p)
+unfolding settled
+ready-from-root ls m n x p r =
+    from-root-in _
+    (λ e i.
+    settled-positive (given m (p .k)) (unclesOf m (2 ^ p .k) (p .u)) (p .k) (p .top) 0 0 (p .u) (node (given m (p .k)) (p .k) 0) (r .anchor) e i)
 
 -- ---- a number of 0, and the whole call
 
@@ -84,5 +93,6 @@ take-done s m s′ r c p e z ep ec es =
     let t : takeNumber s m ≡ 0 = sym e ∙ z in
     let R = taken-ready s m r e z in
     let n = positions (heightOf s) in
-    let k = count-fresh (positions (heightOf s)) (settled m (placeIn s m)) s (R .room) (ready-settled (length s) m (positions (heightOf s)) (headerOf m) (placeIn s m) R) in
+    let k = count-fresh (positions (heightOf s)) (settled m (placeIn s m)) s (R .room) (ready-settled (length s) m (positions (heightOf s)) (headerOf m) (placeIn s m) R)
+    (ready-from-root (length s) m (positions (heightOf s)) (headerOf m) (placeIn s m) R) in
     rw (eq-eqb (takeNumber s m) 0 t) (cc, cc)

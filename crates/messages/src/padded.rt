@@ -6,7 +6,7 @@ ghost use Rattle.tree.specs.Values.{padValue};
 ghost use Rattle.messages.specs.Padded.{allFrom, runPadded, unclePadded, unclesPadded};
 use octets::hash_at;
 use octets::same;
-use runs::beside;
+use settling::beside;
 use sha256::pair;
 use tree::geometry::covering;
 use tree::values::pad_value;

@@ -1,20 +1,21 @@
 // A hashes message: what it gets, worked out before anything is written; and taking it.
 ghost use mathlib.Core.Path.{_≡_};
-ghost use mathlib.Core.Bool.{true};
-ghost use Prim.Native.Nat.{_≤_};
+ghost use mathlib.Core.Bool.{true, _&&_};
+ghost use Prim.Native.Nat.{_+_, _*_, _≤_};
 ghost use lib.ListN.{length};
-ghost use mathlib.Core.Bool.{_&&_};
-ghost use Prim.Native.Nat.{_+_, _*_};
-ghost use Rattle.cells.specs.Entries.{putAll};
-ghost use Rattle.cells.specs.EntriesLaws.{fresh};
-ghost use Rattle.store.specs.Store.{usable, blocksOf, heightOf, positions};
-ghost use Rattle.header.specs.Header.{headerOf, rulesKept, placeOf};
-ghost use Rattle.messages.specs.Take.{headerNumber, settled, padded, anchored, bodyNumber, placeIn, takeNumber, takeAfter, takeAnswer, rejectAnswer};
-ghost use Rattle.messages.specs.TakeLaws.{Placed, Carried, Ready};
+ghost use Rattle.octets.specs.Octets as O;
+ghost use Rattle.numbers.specs.Numbers.{judged};
+ghost use Rattle.cells.specs.Cells.{hashAt};
+ghost use Rattle.cells.specs.Entries.{agrees, putAll, fresh};
+ghost use Rattle.store.specs.Store.{usable, blocksOf, heightOf};
+ghost use Rattle.header.specs.Header.{headerSize, Small, rulesKept, placeOf};
+ghost use Rattle.messages.specs.Take.{headerNumber, settled, anchor, worked, padded, anchored, bodyNumber, takeAfter, takeAnswer, rejectAnswer};
+ghost use Rattle.messages.specs.Asks.{firstNumber, Placed, Carried, Ready};
 use crate::padded::run_padded;
 use crate::padded::uncles_padded;
 use cells::hash_of;
 use cells::held;
+use header::HEADER_SIZE;
 use header::Header;
 use header::Place;
 use header::header_of;
@@ -28,43 +29,74 @@ use numbers::refusal;
 use numbers::success;
 use octets::hash_at;
 use octets::same;
-use runs::climb;
-use runs::look_run;
-use runs::rising;
-use runs::write_path;
-use runs::write_run;
+use settling::climb;
+use settling::look_run;
+use settling::rising;
+use settling::write_path;
+use settling::write_run;
 use store::blocks_of;
 use store::facts_root;
 use store::height_of;
 use store::is_usable;
+use store::positions_of;
 use tree::values::pad_value;
 
-// 9, 1, 2, 3: the same for every message, but for its form.
-pub fn header_number(s: &[u8], m: &[u8], form: bool) -> u32
-    requires { ⌜ (form ≡ true → 49 ≤ length (now m)) ⌝ }
-    ensures { λ r. ⌜ r ≡ headerNumber form (now (s .entry)) (now (m .entry)) ⌝ }
+// 9, 1, 2: the store, the message's form, its root.
+pub fn first_number(s: &[u8], m: &[u8], form: bool) -> u32
+    requires { ⌜ (form ≡ true → headerSize ≤ length (now m)) ⌝ }
+    ensures { λ r. ⌜ r ≡ firstNumber form (now (s .entry)) (now (m .entry)) ⌝ }
 {
     let usable = is_usable(s);
-    if usable {
-        if form {
-            let mine = facts_root(s);
-            let theirs = hash_at(m, 1);
-            let alike = same(mine, theirs);
-            if alike {
-                let x = header_of(m);
-                let b = blocks_of(s);
-                let h = height_of(s);
-                let kept = keeps_rules(x, b, h);
-                if kept {
-                    return numbers::DONE;
-                }
-                return numbers::RULE_BROKEN;
-            }
-            return numbers::OTHER_ROOT;
-        }
+    if !usable {
+        return numbers::UNUSABLE;
+    }
+    if !form {
         return numbers::NO_MESSAGE;
     }
-    numbers::UNUSABLE
+    let mine = facts_root(s);
+    let theirs = hash_at(m, 1);
+    let alike = same(mine, theirs);
+    if !alike {
+        return numbers::OTHER_ROOT;
+    }
+    numbers::DONE
+}
+
+// Whether a header keeps the rules in the store's tree.
+pub fn rules_in(s: &[u8], x: Header) -> bool
+    requires { ⌜ (usable (now s) ≡ true) × Small x ⌝ }
+    ensures { λ r. ⌜ r ≡ rulesKept x (blocksOf (now (s .entry))) (heightOf (now (s .entry))) ⌝ }
+{
+    let b = blocks_of(s);
+    let h = height_of(s);
+    keeps_rules(x, b, h)
+}
+
+// The place in the store's tree that such a header names.
+pub fn place_in(s: &[u8], x: Header) -> Place
+    requires { ⌜ (usable (now s) ≡ true) × Small x × (rulesKept x (blocksOf (now s)) (heightOf (now s)) ≡ true) ⌝ }
+    ensures { λ r. ⌜ r ≡ placeOf x (heightOf (now (s .entry))) ⌝ }
+{
+    let b = blocks_of(s);
+    let h = height_of(s);
+    place_of(x, b, h)
+}
+
+// 9, 1, 2, 3: the same for every message, but for its form.
+fn header_number(s: &[u8], m: &[u8], form: bool) -> u32
+    requires { ⌜ (form ≡ true → headerSize ≤ length (now m)) ⌝ }
+    ensures { λ r. ⌜ r ≡ headerNumber form (now (s .entry)) (now (m .entry)) ⌝ }
+{
+    let first = first_number(s, m, form);
+    if first != numbers::DONE {
+        return first;
+    }
+    let x = header_of(m);
+    let kept = rules_in(s, x);
+    if !kept {
+        return numbers::RULE_BROKEN;
+    }
+    numbers::DONE
 }
 
 // A reject that comes in changes nothing.
@@ -86,9 +118,9 @@ fn is_padded(m: &[u8], x: Header, p: Place, b: usize) -> bool
     let index = x.index;
     let k = p.k;
     let u = p.u;
-    let e = 49 + 32 * len;
+    let e = HEADER_SIZE + 32 * len;
     let f = e + 32 * u;
-    let run = &m[49..e];
+    let run = &m[HEADER_SIZE..e];
     let right = run_padded(run, b, base, index, len);
     if right {
         let hashes = &m[e..f];
@@ -106,83 +138,61 @@ fn both(a: bool, b: bool) -> bool
     if a { b } else { false }
 }
 
-// Works out everything that the message settles, and compares it with the anchor and with what is held. Nothing is written.
-fn judge(s: &[u8], m: &[u8], x: Header, p: Place, n: usize) -> u32
-    requires { ⌜ Ready (length (now s)) (length (now m)) n x p ⌝ }
-    ensures { λ r. ⌜ r ≡ anchored (now (s .entry)) (now (m .entry)) p ⌝ }
+// 7, 8 or 0, where the anchor a is held: everything that the message settles is worked out, and compared with the anchor and
+// with what is held. Nothing is written.
+fn compare(s: &[u8], m: &[u8], x: Header, p: Place, n: usize, a: usize) -> u32
+    requires { ⌜ Ready (length (now s)) (length (now m)) n x p × (a ≡ anchor p) ⌝ }
+    ensures { λ r. ⌜ r ≡ judged true (O.same (hashAt (now (s .entry)) a) (worked (now (m .entry)) p)) (agrees (now (s .entry)) (settled (now (m .entry)) p)) ⌝ }
 {
     let len = x.len;
     let k = p.k;
     let u = p.u;
     let top = p.top;
-    let e = 49 + 32 * len;
+    let e = HEADER_SIZE + 32 * len;
     let f = e + 32 * u;
     let past = [0u8; 32];
-    let run = &m[49..e];
+    let run = &m[HEADER_SIZE..e];
     let hashes = &m[e..f];
     let low = look_run(s, run, past, n, k, top, 0);
     let v = low.hash;
     let high = climb(s, hashes, n, 0, u, top, v);
     let w = high.hash;
-    let a = rising(top, u);
-    let there = held(s, a);
     let g = hash_of(s, a);
     let alike = same(g, w);
     let all = both(low.agrees, high.agrees);
-    judged_number(there, alike, all)
+    judged_number(true, alike, all)
 }
 
-// 4, 5 and then those, for a header that keeps the rules.
+// 6, 7, 8 or 0, for a message of the right size and with right padding. Nothing is hashed if the anchor is not held.
+fn judge(s: &[u8], m: &[u8], x: Header, p: Place, n: usize) -> u32
+    requires { ⌜ Ready (length (now s)) (length (now m)) n x p ⌝ }
+    ensures { λ r. ⌜ r ≡ anchored (now (s .entry)) (now (m .entry)) p ⌝ }
+{
+    let u = p.u;
+    let top = p.top;
+    let a = rising(top, u);
+    let there = held(s, a);
+    if !there {
+        return numbers::NO_ANCHOR;
+    }
+    compare(s, m, x, p, n, a)
+}
+
+// 4, 5, 6, 7, 8 or 0, for a header that keeps the rules.
 fn body_number(s: &[u8], m: &[u8], x: Header, p: Place, b: usize, n: usize) -> u32
     requires { ⌜ Placed n x p × (31 + 33 * n ≤ length (now s)) × (b ≡ blocksOf (now s)) ⌝ }
     ensures { λ r. ⌜ r ≡ bodyNumber (now (s .entry)) (now (m .entry)) x p ⌝ }
 {
     let len = x.len;
     let u = p.u;
-    if m.len() != 49 + 32 * (len + u) {
+    if m.len() != HEADER_SIZE + 32 * (len + u) {
         return numbers::WRONG_SIZE;
     }
     let right = is_padded(m, x, p, b);
-    if right {
-        return judge(s, m, x, p, n);
+    if !right {
+        return numbers::WRONG_PADDING;
     }
-    numbers::WRONG_PADDING
-}
-
-// The place that the message's header names in the store's tree.
-fn place_in(s: &[u8], m: &[u8]) -> Place
-    requires { ⌜ (usable (now s) ≡ true) × (49 ≤ length (now m)) × (rulesKept (headerOf (now m)) (blocksOf (now s)) (heightOf (now s)) ≡ true) ⌝ }
-    ensures { λ r. ⌜ r ≡ placeIn (now (s .entry)) (now (m .entry)) ⌝ }
-{
-    let x = header_of(m);
-    let b = blocks_of(s);
-    let h = height_of(s);
-    place_of(x, b, h)
-}
-
-// The positions of the store's tree have the numbers from 1 up to this.
-fn positions_of(s: &[u8]) -> usize
-    requires { ⌜ usable (now s) ≡ true ⌝ }
-    ensures { λ r. ⌜ r ≡ positions (heightOf (now (s .entry))) ⌝ }
-{
-    let h = height_of(s);
-    2 << h
-}
-
-// What the message gets, in the order 9, 1, 2, 3, 4, 5, 6, 7, 8. Nothing is written.
-fn take_number(s: &[u8], m: &[u8]) -> u32
-    ensures { λ r. ⌜ r ≡ takeNumber (now (s .entry)) (now (m .entry)) ⌝ }
-{
-    let form = is_hashes(m);
-    let number = header_number(s, m, form);
-    if number == 0 {
-        let x = header_of(m);
-        let b = blocks_of(s);
-        let p = place_in(s, m);
-        let n = positions_of(s);
-        return body_number(s, m, x, p, b, n);
-    }
-    number
+    judge(s, m, x, p, n)
 }
 
 // Every position that the message settles becomes held; how many of them were not.
@@ -194,10 +204,10 @@ fn write(s: &mut [u8], m: &[u8], x: Header, p: Place, n: usize) -> u64
     let k = p.k;
     let u = p.u;
     let top = p.top;
-    let e = 49 + 32 * len;
+    let e = HEADER_SIZE + 32 * len;
     let f = e + 32 * u;
     let past = [0u8; 32];
-    let run = &m[49..e];
+    let run = &m[HEADER_SIZE..e];
     let hashes = &m[e..f];
     let low = write_run(s, run, past, n, k, top, 0);
     let v = low.hash;
@@ -205,17 +215,27 @@ fn write(s: &mut [u8], m: &[u8], x: Header, p: Place, n: usize) -> u64
     low.new + c
 }
 
-// Takes a hashes message, or refuses it and leaves the store as it was.
+// Takes a hashes message, or refuses it and leaves the store as it was: 9, 1, 2, 3, 4, 5, 6, 7, 8 in this order.
 pub fn take(s: &mut [u8], m: &[u8]) -> Answer
     ensures { λ r. ⌜ (r ≡ takeAnswer (now (s .entry)) (now (m .entry))) × (now (s .exit) ≡ takeAfter (now (s .entry)) (now (m .entry))) ⌝ }
 {
-    let verdict = take_number(s, m);
-    if verdict == 0 {
-        let x = header_of(m);
-        let p = place_in(s, m);
-        let n = positions_of(s);
-        let c = write(s, m, x, p, n);
-        return success(c);
+    let form = is_hashes(m);
+    let first = first_number(s, m, form);
+    if first != numbers::DONE {
+        return refusal(first);
     }
-    refusal(verdict)
+    let x = header_of(m);
+    let kept = rules_in(s, x);
+    if !kept {
+        return refusal(numbers::RULE_BROKEN);
+    }
+    let p = place_in(s, x);
+    let b = blocks_of(s);
+    let n = positions_of(s);
+    let verdict = body_number(s, m, x, p, b, n);
+    if verdict != numbers::DONE {
+        return refusal(verdict);
+    }
+    let c = write(s, m, x, p, n);
+    success(c)
 }

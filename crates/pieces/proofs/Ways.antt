@@ -14,14 +14,16 @@ use Rattle.tree.specs.Geometry.{nodeNumber, pieceLayer, hasLayer, pieceCount, b
 use Rattle.tree.specs.GeometryLaws.{node-number-range}
 use Rattle.tree.specs.Values.{node, padValue, leafOf, layerLeaf}
 use Rattle.cells.specs.Cells.{Room, heldAt, hashAt}
-use Rattle.cells.specs.Entries.{agrees, putAll, newly}
-use Rattle.cells.specs.EntriesLaws.{fresh, count-fresh, newly-none}
+use Rattle.cells.specs.Entries.{agrees, putAll, newly, fresh}
+use Rattle.cells.specs.EntriesLaws.{count-fresh, newly-none}
 use Rattle.store.specs.Store.{usable, fileLength, pieceLength, blocksOf, heightOf, positions}
 use Rattle.store.specs.StoreLaws.{usable-facts, facts-height, facts-leaves, facts-cell}
-use Rattle.runs.specs.Span.{Fit}
-use Rattle.runs.specs.Subtree.{subtree, runLeaf}
+use Rattle.settling.specs.Span.{Fit}
+use Rattle.settling.specs.Subtree.{subtree, runLeaf}
+use Rattle.limits.specs.Limits.{tallestTree}
 use Rattle.pieces.specs.Pieces.{judgedAt, layerOfPieces, layerSettled, layerNumber, layerAfter, layerAnswer, blockNumber, pieceHeight, pieceNumber}
-use Rattle.pieces.specs.PiecesLaws.{Layered, Placed, layered, placed, pieces-few, layer-within, piece-within, run-leaves, layer-sound}
+use Rattle.pieces.specs.Asks.{Layered, PieceIn}
+use Rattle.pieces.specs.PiecesLaws.{layered, piece-in, pieces-few, layer-within, piece-within, run-leaves, layer-sound, settled-from-root}
 
 -- ---- 6, 7, 8 or 0
 
@@ -67,16 +69,11 @@ module _ (s : List ℕ) (f : Layered s) (h plen p : ℕ) (eh : h ≡ heightOf s)
   pub layer-low : p ≤ h
   layer-low = omega (arith, layer-number-is, f .above)
 
-  pub layer-height : h ≤ 16
-  layer-height = omega (arith, facts-height s (f .facts))
-
   depth : h - p ≡ heightOf s - layerOfPieces s
   depth = ap₂ (λ (x y : ℕ). x - y) eh layer-number-is
 
-  pub layer-fit : (b : ℕ) → b ≡ positions h → Fit (length s) b (h - p) 1 0
-  layer-fit b e =
-      let q : b ≡ positions (heightOf s) = e ∙ ap positions eh in
-      record { room = omega (arith, f .facts .room); top = rw (q, depth) (layer-within s f); index = omega arith }
+  pub layer-fit : (b : ℕ) → b ≡ positions (heightOf s) → Fit (length s) b (h - p) 1 0
+  layer-fit b q = record { room = omega (arith, f .facts .room); top = rw (q, depth) (layer-within s f); index = omega arith }
 
   module _ (layer past : List ℕ) (e : past ≡ padValue p) where
     leaves : runLeaf layer past ≡ layerLeaf layer (layerOfPieces s)
@@ -116,7 +113,7 @@ module _ (s layer : List ℕ) (t : Bool) (a : t ≡ usable s) where
         count : c ≡ pieceCount (fileLength s) (pieceLength s)
         count = ec ∙ ap₂ pieceCount en ep
 
-        pub layer-few : c ≤ 65536
+        pub layer-few : c ≤ 2 ^ tallestTree
         layer-few = omega (arith, count, pieces-few s (usable-facts s (sym a ∙ b)))
 
         pub layer-4 : (length layer ≡ 32 * c → ⊥) → wrongSize ≡ layerNumber s layer
@@ -151,7 +148,7 @@ module _ (s layer : List ℕ) (d : ℕ) (e : d ≡ layerNumber s layer) where
       → (r : Answer) → r ≡ done new → (r ≡ layerAnswer s layer) × (s′ ≡ layerAfter s layer)
   load-done y f new s′ w r q =
       let k = taken y in
-      (q ∙ answered s layer 0 new (sym y ∙ e) (rw k (count-fresh (positions (heightOf s)) (layerSettled s layer) s (f .facts .room) (layer-sound s layer f) ∙ sym (w .0))), w .1 ∙ sym k)
+      (q ∙ answered s layer 0 new (sym y ∙ e) (rw k (count-fresh (positions (heightOf s)) (layerSettled s layer) s (f .facts .room) (layer-sound s layer f) (settled-from-root s layer f) ∙ sym (w .0))), w .1 ∙ sym k)
 
 -- ---- a block's number
 
@@ -209,8 +206,8 @@ module _ (s : List ℕ) (n plen : ℕ) (v : Bool) (en : n ≡ fileLength s) (ep 
   unfolding pieceHeight
   height-at-root z r q = q ∙ sym (rw (← piece-has, z))
 
-module _ (s : List ℕ) (i h k : ℕ) (f : Placed s i) (eh : h ≡ heightOf s) (ek : k ≡ pieceHeight s) where
-  pub node-low : h ≤ 16
+module _ (s : List ℕ) (i h k : ℕ) (f : PieceIn s i) (eh : h ≡ heightOf s) (ek : k ≡ pieceHeight s) where
+  node-low : h ≤ tallestTree
   node-low = omega (arith, facts-height s (f .facts))
 
   pub node-inside : (k ≤ h) × (h ≤ 63) × (i < 2 ^ (h - k))
@@ -222,10 +219,8 @@ module _ (s : List ℕ) (i h k : ℕ) (f : Placed s i) (eh : h ≡ heightOf s) (
     node-is : q ≡ nodeNumber (heightOf s) (pieceHeight s) i
     node-is = eq ∙ ap₂ (λ (x y : ℕ). nodeNumber x y i) eh ek
 
-    pub node-fit : (b : ℕ) → b ≡ positions h → Fit (length s) b k q 0
-    node-fit b e =
-        let z : b ≡ positions (heightOf s) = e ∙ ap positions eh in
-        record { room = omega (arith, f .facts .room); top = rw (z, ek, node-is) (piece-within s i f); index = omega arith }
+    pub node-fit : (b : ℕ) → b ≡ positions (heightOf s) → Fit (length s) b k q 0
+    node-fit b z = record { room = omega (arith, f .facts .room); top = rw (z, ek, node-is) (piece-within s i f); index = omega arith }
 
     pub node-judged : (piece : List ℕ) (r : ℕ) → r ≡ judgedAt s (leafOf piece) k q → r ≡ judgedAt s (leafOf piece) (pieceHeight s) (nodeNumber (heightOf s) (pieceHeight s) i)
     node-judged piece r w = w ∙ ap₂ (λ (x y : ℕ). judgedAt s (leafOf piece) x y) ek node-is
@@ -244,8 +239,8 @@ module _ (s : List ℕ) (i : ℕ) (piece : List ℕ) (t : Bool) (a : t ≡ usabl
     piece-3 l = sym (rw (← a, b, ← pieces, le-ltb i c l))
 
     module _ (l : i < c) where
-      pub piece-placed : Placed s i
-      piece-placed = placed s (usable-facts s (sym a ∙ b)) i (omega (arith, pieces))
+      pub piece-there : PieceIn s i
+      piece-there = piece-in s (usable-facts s (sym a ∙ b)) i (omega (arith, pieces))
 
       module _ (size : ℕ) (es : size ≡ pieceSize n plen i) where
         piece-length : size ≡ pieceSize (fileLength s) (pieceLength s) i

@@ -1,2 +1,3 @@
 pub mod Pieces
+pub mod Asks
 pub mod PiecesLaws

@@ -14,7 +14,7 @@ use Rattle.tree.specs.Values.{node, leafOf, layerLeaf}
 use Rattle.cells.specs.Cells.{heldAt, hashAt}
 use Rattle.cells.specs.Entries.{Entry, agrees, putAll, newly}
 use Rattle.store.specs.Store.{usable, fileLength, pieceLength, blocksOf, heightOf, positions}
-use Rattle.runs.specs.Subtree.{subtree}
+use Rattle.settling.specs.Subtree.{subtree}
 
 -- position n, against a subtree of height k over given leaves
 unfoldable pub judgedAt : List ℕ → (ℕ → List ℕ) → ℕ → ℕ → ℕ

@@ -17,31 +17,22 @@ use Rattle.tree.specs.GeometryLaws.{ceil-least, covering-most, covering-within,
 use Rattle.tree.specs.Values.{node, padValue, leafOf, layerLeaf, layerRoot}
 use Rattle.tree.specs.ValuesLaws.{pad-octets, node-padding, layer-leaf-past}
 use Rattle.cells.specs.Cells.{Room, heldAt, hashAt}
-use Rattle.cells.specs.Entries.{Entry, agrees, putAll}
-use Rattle.cells.specs.EntriesLaws.{Sound, fresh, Hold, keeps, newly-none, count-fresh, putAll-length, In, Has, has-same, Apart, apart-consistent, entries-held, held-or-entry, putAll-other}
+use Rattle.cells.specs.Entries.{Entry, agrees, putAll, fresh}
+use Rattle.cells.specs.EntriesLaws.{Sound, Hold, keeps, newly-none, count-fresh, putAll-length, In, Has, has-same, Apart, apart-consistent, entries-held, held-or-entry, putAll-other, FromRoot, from-root-in}
 use Rattle.octets.specs.Octets.{same}
 use Rattle.octets.specs.OctetsLaws.{same-true, same-eq}
 use Rattle.sha256.specs.Sha256.{sha256}
 use Rattle.numbers.specs.Numbers.{refused, done, ruleBroken, wrongSize, noAnchor, differs, conflict, unusable, judged}
-use Rattle.store.specs.Store.{usable, fileLength, pieceLength, blocksOf, heightOf, positions, storeSize}
-use Rattle.store.specs.StoreLaws.{Facts, usable-facts, facts-usable, facts-blocks-most, own-size, SameFacts, FromRoot, from-root-in, putAll-same-facts, putAll-facts, putAll-past}
-use Rattle.runs.specs.Span.{Within}
-use Rattle.runs.specs.Subtree.{subtree, runLeaf}
-use Rattle.runs.specs.SubtreeLaws.{run-leaf-length, within-tree, subtree-sound, subtree-apart, subtree-value, subtree-has, FamilyIn, subtree-family}
+use Rattle.store.specs.Store.{usable, fileLength, pieceLength, blocksOf, heightOf, positions, storeSize, Facts, SameFacts}
+use Rattle.store.specs.StoreLaws.{usable-facts, facts-usable, facts-blocks-most, own-cells, putAll-same-facts, putAll-facts, putAll-past}
+use Rattle.settling.specs.Span.{Within}
+use Rattle.settling.specs.Subtree.{subtree, runLeaf}
+use Rattle.settling.specs.SubtreeLaws.{run-leaf-length, within-tree, subtree-sound, subtree-apart, subtree-value, subtree-has, FamilyIn, subtree-family}
+use Rattle.limits.specs.Limits.{tallestTree}
+use Rattle.pieces.specs.Asks.{Layered, PieceIn}
 use Rattle.pieces.specs.Pieces.{judgedAt, layerOfPieces, layerSettled, layerNumber, layerAfter, layerAnswer, blockNumber, pieceHeight, pieceNumber}
 
 -- ---- where a layer and a piece lie
-
--- a store of a file that has a piece layer: its root stands above layer p
-pub record Layered (s : List ℕ) : Type 0 where
-  pub facts : Facts s
-  pub above : layerOfPieces s < heightOf s
-
--- a store, and the node of piece i in its tree
-pub record Placed (s : List ℕ) (i : ℕ) : Type 0 where
-  pub facts : Facts s
-  pub layer : pieceHeight s ≤ heightOf s
-  pub inside : i < 2 ^ (heightOf s - pieceHeight s)
 
 module _ (s : List ℕ) (f : Facts s) where
   plen-form : pieceLength s ≡ blockLength * 2 ^ layerOfPieces s
@@ -53,8 +44,8 @@ module _ (s : List ℕ) (f : Facts s) where
   unfolding blocksOf
   pieces-are = ap (pieceCount (fileLength s)) plen-form ∙ pieces-covering (fileLength s) (layerOfPieces s)
 
-  -- so there are at most 2^16
-  pub pieces-few : pieceCount (fileLength s) (pieceLength s) ≤ 65536
+  -- so there are no more than the tallest tree has leaves
+  pub pieces-few : pieceCount (fileLength s) (pieceLength s) ≤ 2 ^ tallestTree
   pieces-few = omega (arith, pieces-are, covering-most (blocksOf s) (layerOfPieces s), facts-blocks-most s f)
 
   -- a file longer than the piece length has a root above layer p
@@ -82,10 +73,10 @@ module _ (s : List ℕ) (f : Facts s) where
       (omega (arith, ltb-false (pieceLength s) (fileLength s) t, one-mul (pieceLength s)))
 
   -- every piece of the file has its node in the tree
-  pub placed : (i : ℕ) → i < pieceCount (fileLength s) (pieceLength s) → Placed s i
-  placed i l = by-layer (hasLayer (fileLength s) (pieceLength s)) refl
+  pub piece-in : (i : ℕ) → i < pieceCount (fileLength s) (pieceLength s) → PieceIn s i
+  piece-in i l = by-layer (hasLayer (fileLength s) (pieceLength s)) refl
     where
-      by-layer : (t : Bool) → hasLayer (fileLength s) (pieceLength s) ≡ t → Placed s i
+      by-layer : (t : Bool) → hasLayer (fileLength s) (pieceLength s) ≡ t → PieceIn s i
       by-layer true t =
           let e = height-layer t in
           let a = layered t .above in
@@ -116,7 +107,7 @@ layer-within s f =
     rw (← node-number-root (heightOf s)) (within-tree (heightOf s) (heightOf s) 0 (heightOf s - layerOfPieces s) (omega arith) (rw z (omega arith)) (omega arith))
 
 -- so does what lies below a piece's node
-pub piece-within : (s : List ℕ) (i : ℕ) → Placed s i → Within (positions (heightOf s)) (pieceHeight s) (nodeNumber (heightOf s) (pieceHeight s) i)
+pub piece-within : (s : List ℕ) (i : ℕ) → PieceIn s i → Within (positions (heightOf s)) (pieceHeight s) (nodeNumber (heightOf s) (pieceHeight s) i)
 unfolding positions
 piece-within s i p = within-tree (heightOf s) (pieceHeight s) i (pieceHeight s) (p .layer) (p .inside) (omega arith)
 
@@ -351,7 +342,7 @@ module _ (s : List ℕ) (f : Facts s) (i : ℕ) (l : i < pieceCount (fileLength 
   -- its number is that of a position of the tree
   pub piece-position : (1 ≤ nodeNumber (heightOf s) (pieceHeight s) i) × (nodeNumber (heightOf s) (pieceHeight s) i < positions (heightOf s))
   unfolding positions
-  piece-position = node-number-range (heightOf s) (pieceHeight s) i (placed s f i l .inside)
+  piece-position = node-number-range (heightOf s) (pieceHeight s) i (piece-in s f i l .inside)
 
 -- ---- the positions that a layer settles
 
@@ -530,7 +521,7 @@ module _ (s layer : List ℕ) (z : layerNumber s layer ≡ 0) where
   -- the count is the settled positions that were not held
   pub layer-count : layerAnswer s layer ≡ done (fresh s (layerSettled s layer))
   unfolding layerAnswer
-  layer-count = rw (z, layer-taken, count-fresh (positions (heightOf s)) (layerSettled s layer) s room sound)
+  layer-count = rw (z, layer-taken, count-fresh (positions (heightOf s)) (layerSettled s layer) s room sound (settled-from-root s layer layers))
 
 -- ---- whatever the number
 
@@ -555,4 +546,4 @@ module _ (s layer : List ℕ) where
   pub layer-past : (i : ℕ) → storeSize (fileLength s) ≤ i → getD (layerAfter s layer) i 0 ≡ getD s i 0
   layer-past i l =
       by-number (λ t. getD t i 0 ≡ getD s i 0) refl
-      (λ z. rw (layer-taken s layer z) (putAll-past (positions (heightOf s)) (layerSettled s layer) s (room s layer z) (sound s layer z) i (omega (arith, own-size s))))
+      (λ z. rw (layer-taken s layer z) (putAll-past (positions (heightOf s)) (layerSettled s layer) s (room s layer z) (sound s layer z) i (omega (arith, own-cells s))))

@@ -9,23 +9,23 @@ ghost use Rattle.sha256.specs.Sha256.{sha256};
 ghost use Rattle.tree.specs.Geometry.{nodeNumber};
 ghost use Rattle.tree.specs.Values.{leafOf, layerLeaf};
 ghost use Rattle.cells.specs.Cells.{Room, heldAt, hashAt};
-ghost use Rattle.cells.specs.Entries.{putAll};
-ghost use Rattle.cells.specs.EntriesLaws.{fresh};
-ghost use Rattle.store.specs.Store.{heightOf, positions};
-ghost use Rattle.runs.specs.Span.{Fit};
-ghost use Rattle.runs.specs.Subtree.{runLeaf};
+ghost use Rattle.cells.specs.Entries.{putAll, fresh};
+ghost use Rattle.store.specs.Store.{heightOf};
+ghost use Rattle.settling.specs.Span.{Fit};
+ghost use Rattle.settling.specs.Subtree.{runLeaf};
 ghost use Rattle.pieces.specs.Pieces as P;
-ghost use Rattle.pieces.specs.PiecesLaws.{Layered, Placed};
+ghost use Rattle.pieces.specs.Asks.{Layered, PieceIn};
 use numbers::Answer;
-use runs::Seen;
-use runs::look_data;
-use runs::look_run;
-use runs::write_run;
+use settling::Seen;
+use settling::look_data;
+use settling::look_run;
+use settling::write_run;
 use store::blocks_of;
 use store::file_length;
 use store::height_of;
 use store::is_usable;
 use store::piece_length_of;
+use store::positions_of;
 use tree::geometry::block_size;
 use tree::geometry::has_layer;
 use tree::geometry::node_number;
@@ -34,20 +34,7 @@ use tree::geometry::piece_layer;
 use tree::geometry::piece_size;
 use tree::values::pad_value;
 
-// 7, 8 or 0, where the anchor is held: as worked out or not, another held hash different or not.
-fn judge(alike: bool, agrees: bool) -> u32
-    ensures { λ r. ⌜ r ≡ judged true alike agrees ⌝ }
-{
-    if alike {
-        if agrees {
-            return numbers::DONE;
-        }
-        return numbers::CONFLICT;
-    }
-    numbers::DIFFERS
-}
-
-// The same for position n, which is held, by what was worked out for it.
+// 7, 8 or 0 for position n, which is held, by what was worked out for it.
 fn judge_seen(s: &[u8], n: usize, seen: Seen) -> u32
     requires { ⌜ Room (n + 1) (now s) ⌝ }
     ensures { λ r. ⌜ r ≡ judged true (same (hashAt (now (s .entry)) n) (seen .hash)) (seen .agrees) ⌝ }
@@ -55,7 +42,7 @@ fn judge_seen(s: &[u8], n: usize, seen: Seen) -> u32
     let worked = seen.hash;
     let mine = cells::hash_of(s, n);
     let alike = octets::same(mine, worked);
-    judge(alike, seen.agrees)
+    numbers::judged_number(true, alike, seen.agrees)
 }
 
 // Position n against the subtree over a run of hashes. Nothing is hashed if n is not held.
@@ -98,14 +85,6 @@ fn judge_leaf(s: &[u8], bytes: &[u8], n: usize) -> u32
     numbers::NO_ANCHOR
 }
 
-// The number that the positions of a tree of height h stay below.
-fn positions_below(h: usize) -> usize
-    requires { ⌜ h ≤ 16 ⌝ }
-    ensures { λ r. ⌜ r ≡ positions h ⌝ }
-{
-    2 << h
-}
-
 // ---- a piece layer
 
 // 6, 7, 8 or 0 of a layer of the right size.
@@ -117,7 +96,7 @@ fn judge_layer(s: &[u8], layer: &[u8]) -> u32
     let plen = piece_length_of(s);
     let p = piece_layer(plen);
     let past = pad_value(p);
-    let b = positions_below(h);
+    let b = positions_of(s);
     let k = h - p;
     judge_run(s, layer, past, b, k, 1)
 }
@@ -130,7 +109,7 @@ fn write_layer(s: &mut [u8], layer: &[u8]) -> u64
     let h = height_of(s);
     let plen = piece_length_of(s);
     let p = piece_layer(plen);
-    let b = positions_below(h);
+    let b = positions_of(s);
     let k = h - p;
     let filled = write_run(s, layer, pad_value(p), b, k, 1, 0);
     filled.new
@@ -219,12 +198,12 @@ fn piece_height(s: &[u8]) -> usize
 
 // 6, 7, 8 or 0 of a piece of the right size.
 fn judge_node(s: &[u8], piece: usize, bytes: &[u8]) -> u32
-    requires { ⌜ Placed (now s) piece ⌝ }
+    requires { ⌜ PieceIn (now s) piece ⌝ }
     ensures { λ r. ⌜ r ≡ P.judgedAt (now (s .entry)) (leafOf (now (bytes .entry))) (P.pieceHeight (now (s .entry))) (nodeNumber (heightOf (now (s .entry))) (P.pieceHeight (now (s .entry))) piece) ⌝ }
 {
     let h = height_of(s);
     let k = piece_height(s);
-    let b = positions_below(h);
+    let b = positions_of(s);
     let q = node_number(h, k, piece);
     judge_data(s, bytes, b, k, q)
 }

@@ -1,316 +1,291 @@
--- 01, "How much each contract says": a program that is right on 9, 1, 2, 3 and 4 and gives every other message one number is shut out.
--- There are well-formed messages that get 5, 6, 7 and 8 (0 is in Example), whatever SHA-256 may give.
+-- 01, "Numbers given back": each number by entry point, exactly when it is given, in the order of 01. "Held" is what kd_held answers.
+-- (The numbers of the torrent calls: crates/torrent.)
 -- Assumes nothing.
-use mathlib.Core.Path.{_≡_, refl, ap, ap₂, sym, _∙_}
-use mathlib.Core.Bool.{true, false, cond}
-use mathlib.Core.List.{List, [], _∷_, _++_}
-use Prim.Native.Nat.{ℕ, _+_, _*_, _≤_, _<_}
+use mathlib.Core.Path.{_≡_, refl}
+use mathlib.Core.Bool.{true, false}
+use mathlib.Core.List.{List}
+use mathlib.Core.Logic.{_↔_, inl, inr}
+use Prim.Native.Nat.{ℕ, _+_, _-_, _*_, _^_, _≤_, _<_}
 use native.Mathlib.Omega.{arith}
-use native.Mathlib.Decide.{ℕ-discrete}
-use lib.ListN.{length, getD, replicate}
-use lib.Dec.{eqb, lit<, lit≤}
-use borrow.Author.Tests.{eq-eqb, ne-eqb}
-use Rattle.octets.specs.Octets.{same, numberAt, zeroHash}
-use Rattle.octets.specs.OctetsLaws.{same-ne, cut-append-right}
-use Rattle.numbers.specs.Numbers.{wrongPadding, noAnchor, differs, conflict}
-use Rattle.sha256.specs.Sha256.{pairHash}
-use Rattle.sha256.specs.Sha256Laws.{pair-octets}
-use Rattle.tree.specs.Geometry.{ceilDiv, blockCount, heightFrom, height, nodeNumber, covering, pieceLayer, isPieceLength}
-use Rattle.tree.specs.Values.{node, padValue}
-use Rattle.cells.specs.Cells.{heldAt, hashAt, put}
-use Rattle.cells.specs.CellsLaws.{held-put-same, held-put-other, hash-put-same, hash-put-other}
-use Rattle.cells.specs.Entries.{one, agrees, putAll}
-use Rattle.cells.specs.EntriesLaws.{sound-one, one-is, agrees-held}
-use Rattle.store.specs.Store.{usable, factsRoot, blocksOf, heightOf, positions, factsInRange, storeSize, opened}
-use Rattle.store.specs.StoreLaws.{usable-facts, SameFacts, from-root-in, putAll-same-facts, putAll-usable, opened-usable, opened-facts-root, opened-blocks, opened-height, opened-held, opened-hash}
-use Rattle.runs.specs.Subtree.{subtree}
-use Rattle.runs.specs.Path.{ancestor, risen, path}
-use Rattle.header.specs.declared.Header.{Header}
-use Rattle.header.specs.declared.Place.{Place}
-use Rattle.header.specs.Header.{headerOf, messageSize, placeOf, rulesKept, lengthRule, indexRule}
-use Rattle.messages.specs.Padded.{allFrom, runPadded, unclesPadded}
-use Rattle.messages.specs.Take.{given, settled, anchor, worked, padded, placeIn, takeNumber}
-use Rattle.promises.specs.TakenWhen.{WellFormed, wrong-padding-then-5, no-anchor-then-6, other-anchor-then-7, held-differs-then-8}
-use Rattle.promises.specs.Offered.{twoHashes, offered-header, run-is, first-hash, second-hash, two-size, well-formed-in}
+use lib.ListN.{length}
+use lib.Dec.{ltb}
+use borrow.Author.Tests.{lt-ltb, le-ltb, ltb-false}
+use Rattle.numbers.specs.Numbers.{done, refused, noMessage, otherRoot, ruleBroken, wrongSize, wrongPadding, noAnchor, differs, conflict, unusable, factsOutOfRange, noRoom, notHeld}
+use Rattle.sha256.specs.Sha256.{sha256}
+use Rattle.sha256.specs.Answer.{hashedOf}
+use Rattle.tree.specs.Geometry.{blockCount, height, blockSize, pieceSize, pieceCount}
+use Rattle.store.specs.Store.{usable, fileLength, pieceLength, factsRoot, blocksOf, heightOf, storeSize, sizeAnswer, openAnswer, openAfter, heldAnswer}
+use Rattle.header.specs.Header.{requestId, rejectId, headerSize, headerOf, messageRoot, messageSize, Kept}
+use Rattle.messages.specs.Take.{takeAnswer, rejectAnswer}
+use Rattle.serve.specs.Serve.{serveAnswer}
+use Rattle.pieces.specs.Pieces.{layerAnswer, blockAnswer, pieceHeight, pieceAnswer}
+use Rattle.words.specs.Held.{Holds, Lacks, Position, Fits, Misfits, Clashes}
+use Rattle.words.specs.Messages.{OtherForm, Readable, Addressed, Ruled, WellFormed, PaddingWrong, Acceptable, Unanchored, Elsewhere, Conflicting, Form, ValidHeader, AllGiven, NoRoomFor}
+use Rattle.words.specs.Pieces.{LayerFormed, LayerSettles, BlockFormed, OtherLeaf, PieceFormed, PieceSettles}
+use Rattle.words.specs.Answers.{InRange}
+use Rattle.knowledge.specs.Tests.{either}
+use Rattle.knowledge.specs.FormedWhen.{nine-exactly-when, one-exactly-when, two-exactly-when, three-exactly-when, four-exactly-when, formed-by}
+use Rattle.knowledge.specs.HeldWhen.{taken-exactly-when, five-exactly-when, six-exactly-when, seven-exactly-when, eight-exactly-when}
+use Rattle.knowledge.specs.ServedWhen.{request-9, request-1, request-2, request-3, request-12, serve-silent, serve-rejects}
 
--- another string of the same length
-unfoldable pub otherThan : List ℕ → List ℕ
-otherThan [] = []
-otherThan (x ∷ l) = cond (eqb x 0) 1 0 ∷ l
+-- where A holds exactly if B does, and B exactly if C, A holds exactly if C does
+on : {A B C : Type 0} → A ↔ B → B ↔ C → A ↔ C
+on p q = (λ a. q .0 (p .0 a), λ c. p .1 (q .1 c))
 
--- as long as the first,
-pub other-length : (v : List ℕ) → length (otherThan v) ≡ length v
-unfolding otherThan
-other-length [] = refl
-other-length (x ∷ l) = refl
+-- the same beside a fact that stays
+beside : {A B C D : Type 0} → A ↔ (B × D) → B ↔ C → A ↔ (C × D)
+beside p q = (λ a. (let x = p .0 a in (q .0 (x .0), x .1)), λ y. p .1 (q .1 (y .0), y .1))
 
--- and not the same
-pub other-differs : (v : List ℕ) → 1 ≤ length v → otherThan v ≡ v → ⊥
-unfolding otherThan
-other-differs [] l e = omega arith
-other-differs (x ∷ v) l e =
-    let f : cond (eqb x 0) 1 0 ≡ x = ap (λ (w : List ℕ). getD w 0 0) e in
-    elim (ℕ-discrete x 0) [
-      | yes z ↦ let g : 1 ≡ x = sym (rw (eq-eqb x 0 z)) ∙ f in omega arith
-      | no z ↦ let g : 0 ≡ x = sym (rw (ne-eqb x 0 z)) ∙ f in z (sym g)
-    ]
+-- ---- kd_sha256: 4, and else the hash
 
--- (0,0,2,0) and (0,2,2,0)
-abbrev pub firstTwo : List ℕ
-firstTwo = 0 ∷ 0 ∷ 0 ∷ 0 ∷ 0 ∷ 0 ∷ 0 ∷ 0 ∷ 0 ∷ 0 ∷ 0 ∷ 2 ∷ 0 ∷ 0 ∷ 0 ∷ 0 ∷ []
+module _ (m : List ℕ) where
+  pub sha256-4 : (hashedOf m .number ≡ wrongSize) ↔ (2 ^ 61 ≤ length m)
+  unfolding hashedOf
+  sha256-4 = (
+    λ e. elim (either (ltb (length m) (2 ^ 61))) [ inl t ↦ (let w : ⊥ = omega (arith, rw t at e) in absurd w) | inr f ↦ ltb-false (length m) (2 ^ 61) f ],
+    λ l. rw (le-ltb (length m) (2 ^ 61) l),
+  )
 
-abbrev pub nextTwo : List ℕ
-nextTwo = 0 ∷ 0 ∷ 0 ∷ 0 ∷ 0 ∷ 0 ∷ 0 ∷ 2 ∷ 0 ∷ 0 ∷ 0 ∷ 2 ∷ 0 ∷ 0 ∷ 0 ∷ 0 ∷ []
+  pub sha256-0 : length m < 2 ^ 61 → hashedOf m ≡ record { number = 0; hash = sha256 m }
+  unfolding hashedOf
+  sha256-0 l = rw (lt-ltb (length m) (2 ^ 61) l)
 
-abbrev header : ℕ → Header
-header index = record { base = 0; index = index; len = 2; proof = 0 }
+-- ---- kd_store_size: 10, and else the size
 
-module _ (root a b : List ℕ) (lr : length root ≡ 32) (la : length a ≡ 32) (lb : length b ≡ 32) where
-  header-first : headerOf (twoHashes root firstTwo a b) ≡ header 0
-  unfolding numberAt
-  header-first = offered-header root firstTwo (a ++ b) lr refl
+module _ (n plen : ℕ) where
+  pub size-10 : (InRange n plen → ⊥) → sizeAnswer n plen ≡ refused factsOutOfRange
+  size-10 = Rattle.knowledge.specs.RootAlone.size-is-10 n plen
 
-  header-next : headerOf (twoHashes root nextTwo a b) ≡ header 2
-  unfolding numberAt
-  header-next = offered-header root nextTwo (a ++ b) lr refl
+  pub size-0 : InRange n plen → sizeAnswer n plen ≡ done (33 * (2 * 2 ^ height (blockCount n) - 1) + 64)
+  size-0 = Rattle.knowledge.specs.RootAlone.size-is n plen
 
--- ---- 5 and 6: a fresh store of a file of three blocks
+-- ---- kd_open: 10, 9, 0; a buffer is usable exactly if it names facts in range and has their room
 
-abbrev first-place : Place
-first-place = record { k = 1; u = 0; top = 2 }
+module _ (s : List ℕ) (n plen : ℕ) where
+  pub open-10 : (openAnswer s n plen .number ≡ factsOutOfRange) ↔ (InRange n plen → ⊥)
+  open-10 = Rattle.knowledge.specs.RootAlone.opening-10 s n plen
 
-abbrev next-place : Place
-next-place = record { k = 1; u = 0; top = 3 }
+  pub open-9 : (openAnswer s n plen .number ≡ unusable) ↔ (InRange n plen × (length s < storeSize n))
+  open-9 = Rattle.knowledge.specs.RootAlone.opening-9 s n plen
 
-module _ (buffer root a b : List ℕ) (fits : storeSize 49152 ≤ length buffer) (lr : length root ≡ 32) (la : length a ≡ 32) (lb : length b ≡ 32) where
-  three : List ℕ
-  three = opened buffer 49152 16384 root
+  pub open-0 : (openAnswer s n plen .number ≡ 0) ↔ (InRange n plen × (storeSize n ≤ length s))
+  open-0 = Rattle.knowledge.specs.RootAlone.opening-0 s n plen
 
-  range3 : factsInRange 49152 16384 ≡ true
-  unfolding factsInRange isPieceLength pieceLayer height heightFrom
-  range3 = refl
+  pub open-counts-1 : openAnswer s n plen .number ≡ 0 → openAnswer s n plen .count ≡ 1
+  open-counts-1 = Rattle.knowledge.specs.RootAlone.opening-counts-one s n plen
 
-  two-high : height (blockCount 49152) ≡ 2
-  unfolding height heightFrom blockCount ceilDiv
-  two-high = refl
+  -- the root alone is held afterwards, whatever the buffer held before
+  pub root-alone : (root : List ℕ) → length root ≡ 32 → openAnswer s n plen .number ≡ 0
+      → (l i : ℕ) (v : List ℕ) → Holds (openAfter s n plen root) l i v ↔ ((l ≡ height (blockCount n)) × (i ≡ 0) × (v ≡ root))
+  root-alone = Rattle.knowledge.specs.RootAlone.root-alone s n plen
 
-  high3 : heightOf three ≡ 2
-  unfolding three
-  high3 = opened-height buffer 49152 16384 root range3 fits lr ∙ two-high
+pub usable-exactly : (s : List ℕ) → (usable s ≡ true) ↔ (InRange (fileLength s) (pieceLength s) × (storeSize (fileLength s) ≤ length s))
+usable-exactly = Rattle.knowledge.specs.RootAlone.usable-exactly
 
-  blocks3 : blocksOf three ≡ 3
-  unfolding three blockCount ceilDiv
-  blocks3 = opened-blocks buffer 49152 16384 root range3 fits lr
+-- ---- kd_held: 9, 3, 6, 0 (docs/DECISIONS.md reads the table's rows so)
 
-  held3 : (q : ℕ) → 1 ≤ q → q < 8 → heldAt three q ≡ eqb q 1
-  unfolding three positions
-  held3 q x y = opened-held buffer 49152 16384 root range3 fits lr q x (rw two-high y)
+module _ (s : List ℕ) (l i : ℕ) where
+  pub held-9 : (heldAnswer s l i .number ≡ unusable) ↔ (usable s ≡ false)
+  held-9 = Rattle.knowledge.specs.AskedWhen.asked-9 s l i
 
-  place-next : placeIn three (twoHashes root nextTwo a b) ≡ next-place
-  unfolding placeOf nodeNumber height heightFrom
-  place-next = ap₂ (λ (x : Header) (h : ℕ). placeOf x h) (header-next root a b lr la lb) high3
+  pub held-3 : (heldAnswer s l i .number ≡ ruleBroken) ↔ ((usable s ≡ true) × (Position (heightOf s) l i → ⊥))
+  held-3 = Rattle.knowledge.specs.AskedWhen.asked-3 s l i
 
-  well-next : WellFormed three (twoHashes root nextTwo a b)
-  unfolding three messageSize rulesKept lengthRule indexRule covering ceilDiv height heightFrom
-  well-next =
-      well-formed-in root nextTwo (a ++ b) lr refl three (header 2) 3 2 (header-next root a b lr la lb) (opened-usable buffer 49152 16384 root range3 fits lr)
-      (opened-facts-root buffer 49152 16384 root range3 fits lr) blocks3 high3 refl (sym (two-size root firstTwo a b lr refl la lb))
+  pub held-6 : (heldAnswer s l i .number ≡ noAnchor) ↔ ((usable s ≡ true) × Position (heightOf s) l i × Lacks s l i)
+  held-6 = Rattle.knowledge.specs.AskedWhen.asked-6 s l i
 
-  padding-next : same b zeroHash ≡ false → padded (twoHashes root nextTwo a b) (header 2) next-place 3 ≡ false
-  unfolding padded runPadded allFrom unclesPadded covering ceilDiv padValue
-  padding-next e = rw (run-is root nextTwo a b lr refl la lb, cut-append-right a b 32 32 la lb, e)
+-- ---- kd_take: 9, 1, 2, 3, 4, 5, 6, 7, 8, 0
 
-  -- the third leaf, and beside it, where the file has none, a hash that is not 32 zero bytes: 5
-  pub gets-5 : (b ≡ zeroHash → ⊥) → takeNumber (opened buffer 49152 16384 root) (twoHashes root nextTwo a b) ≡ wrongPadding
-  unfolding three
-  gets-5 ne =
-      wrong-padding-then-5 three (twoHashes root nextTwo a b) well-next
-      (rw (place-next, header-next root a b lr la lb, blocks3) (padding-next (same-ne b zeroHash ne)))
+module _ (s m : List ℕ) where
+  pub take-9 : (takeAnswer s m .number ≡ unusable) ↔ (usable s ≡ false)
+  unfolding takeAnswer
+  take-9 = nine-exactly-when s m
 
-  place-first : placeIn three (twoHashes root firstTwo a b) ≡ first-place
-  unfolding placeOf nodeNumber height heightFrom
-  place-first = ap₂ (λ (x : Header) (h : ℕ). placeOf x h) (header-first root a b lr la lb) high3
+  -- below 49 bytes or another id
+  pub take-1 : (takeAnswer s m .number ≡ noMessage) ↔ ((usable s ≡ true) × OtherForm m)
+  unfolding takeAnswer
+  take-1 = one-exactly-when s m
 
-  well-first : WellFormed three (twoHashes root firstTwo a b)
-  unfolding three messageSize rulesKept lengthRule indexRule covering ceilDiv height heightFrom
-  well-first =
-      well-formed-in root firstTwo (a ++ b) lr refl three (header 0) 3 2 (header-first root a b lr la lb) (opened-usable buffer 49152 16384 root range3 fits lr)
-      (opened-facts-root buffer 49152 16384 root range3 fits lr) blocks3 high3 refl (sym (two-size root firstTwo a b lr refl la lb))
+  -- another pieces root
+  pub take-2 : (takeAnswer s m .number ≡ otherRoot) ↔ (Readable s m × (factsRoot s ≡ messageRoot m → ⊥))
+  unfolding takeAnswer
+  take-2 = two-exactly-when s m
 
-  padding-first : padded (twoHashes root firstTwo a b) (header 0) first-place 3 ≡ true
-  unfolding padded runPadded allFrom unclesPadded covering ceilDiv
-  padding-first = refl
+  -- a header rule fails
+  pub take-3 : (takeAnswer s m .number ≡ ruleBroken) ↔ (Addressed s m × (Kept (headerOf m) (blocksOf s) (heightOf s) → ⊥))
+  unfolding takeAnswer
+  take-3 = three-exactly-when s m
 
-  -- the first two leaves, whose parent a fresh store does not hold: 6
-  pub gets-6 : takeNumber (opened buffer 49152 16384 root) (twoHashes root firstTwo a b) ≡ noAnchor
-  unfolding three anchor ancestor
-  gets-6 =
-      no-anchor-then-6 three (twoHashes root firstTwo a b) well-first
-      (rw (place-first, header-first root a b lr la lb, blocks3) padding-first) (rw place-first (held3 2 (lit≤ tt) (lit< tt)))
+  -- byte count isn't what the header fixes
+  pub take-4 : (takeAnswer s m .number ≡ wrongSize) ↔ (Ruled s m × (length m ≡ messageSize (headerOf m) → ⊥))
+  unfolding takeAnswer
+  take-4 = four-exactly-when s m
 
--- ---- 7 and 8: a store of a file of two blocks
+  -- a padding position with another value
+  pub take-5 : (takeAnswer s m .number ≡ wrongPadding) ↔ (WellFormed s m × PaddingWrong s m)
+  unfolding takeAnswer
+  take-5 = formed-by s m wrongPadding (inr (omega arith, omega arith)) (five-exactly-when s m)
 
-abbrev below-root : Place
-below-root = record { k = 1; u = 0; top = 1 }
+  -- anchor not held
+  pub take-6 : (takeAnswer s m .number ≡ noAnchor) ↔ (WellFormed s m × Unanchored s m)
+  unfolding takeAnswer
+  take-6 = formed-by s m noAnchor (inr (omega arith, omega arith)) (six-exactly-when s m)
 
-module _ (s root a b : List ℕ) (lr : length root ≡ 32) (la : length a ≡ 32) (lb : length b ≡ 32) (u : usable s ≡ true) (r : factsRoot s ≡ root) (blocks : blocksOf s ≡ 2) (high : heightOf s ≡ 1) where
-  place-is : placeIn s (twoHashes root firstTwo a b) ≡ below-root
-  unfolding placeOf nodeNumber height heightFrom
-  place-is = ap₂ (λ (x : Header) (h : ℕ). placeOf x h) (header-first root a b lr la lb) high
+  -- worked-out value differs from the held anchor
+  pub take-7 : (takeAnswer s m .number ≡ differs) ↔ (WellFormed s m × Elsewhere s m)
+  unfolding takeAnswer
+  take-7 = formed-by s m differs (inr (omega arith, omega arith)) (seven-exactly-when s m)
 
-  well : WellFormed s (twoHashes root firstTwo a b)
-  unfolding messageSize rulesKept lengthRule indexRule covering ceilDiv height heightFrom
-  well = well-formed-in root firstTwo (a ++ b) lr refl s (header 0) 2 1 (header-first root a b lr la lb) u r blocks high refl (sym (two-size root firstTwo a b lr refl la lb))
+  -- anchor agrees, another held position differs
+  pub take-8 : (takeAnswer s m .number ≡ conflict) ↔ (WellFormed s m × Conflicting s m)
+  unfolding takeAnswer
+  take-8 = formed-by s m conflict (inr (omega arith, omega arith)) (eight-exactly-when s m)
 
-  padding-is : padded (twoHashes root firstTwo a b) (headerOf (twoHashes root firstTwo a b)) (placeIn s (twoHashes root firstTwo a b)) (blocksOf s) ≡ true
-  unfolding padded runPadded allFrom unclesPadded covering ceilDiv
-  padding-is = rw (place-is, header-first root a b lr la lb, blocks)
+  pub take-0 : (takeAnswer s m .number ≡ 0) ↔ (WellFormed s m × Acceptable s m)
+  unfolding takeAnswer
+  take-0 = formed-by s m 0 (inl refl) (taken-exactly-when s m)
 
-  anchor-is : anchor (placeIn s (twoHashes root firstTwo a b)) ≡ 1
-  unfolding anchor ancestor
-  anchor-is = rw place-is
+-- ---- kd_take_reject: 9, 1, 2, 3, 0
 
-  worked-is : worked (twoHashes root firstTwo a b) (placeIn s (twoHashes root firstTwo a b)) ≡ pairHash a b
-  unfolding worked risen node
-  worked-is = rw place-is (ap₂ pairHash (first-hash root firstTwo a b lr refl la lb) (second-hash root firstTwo a b lr refl la lb))
+module _ (s m : List ℕ) where
+  pub reject-9 : (rejectAnswer s m .number ≡ unusable) ↔ (usable s ≡ false)
+  reject-9 = Rattle.knowledge.specs.ServedWhen.reject-9 s m
 
-  -- the root held with another value than the two hashes give: 7
-  at-7 : heldAt s 1 ≡ true → (hashAt s 1 ≡ pairHash a b → ⊥) → takeNumber s (twoHashes root firstTwo a b) ≡ differs
-  at-7 h ne =
-      other-anchor-then-7 s (twoHashes root firstTwo a b) well padding-is (rw anchor-is h) (λ e. ne (ap (hashAt s) (sym anchor-is) ∙ e ∙ worked-is))
+  pub reject-1 : (rejectAnswer s m .number ≡ noMessage) ↔ ((usable s ≡ true) × (Form rejectId m → ⊥))
+  reject-1 = Rattle.knowledge.specs.ServedWhen.reject-1 s m
 
-  leaf-differs : heldAt s 2 ≡ true → (hashAt s 2 ≡ a → ⊥) → agrees s (settled (twoHashes root firstTwo a b) below-root) ≡ false
-  unfolding agrees settled subtree path
-  leaf-differs h ne =
-      let m = twoHashes root firstTwo a b in
-      rw (agrees-held s 2 (given m 1 0) h, same-ne (hashAt s 2) (given m 1 0) (λ e. ne (e ∙ first-hash root firstTwo a b lr refl la lb)))
+  pub reject-2 : (rejectAnswer s m .number ≡ otherRoot) ↔ ((usable s ≡ true) × Form rejectId m × (factsRoot s ≡ messageRoot m → ⊥))
+  reject-2 = Rattle.knowledge.specs.ServedWhen.reject-2 s m
 
-  -- the root held with what the two hashes give, the first leaf with another value: 8
-  at-8 : heldAt s 1 ≡ true → hashAt s 1 ≡ pairHash a b → heldAt s 2 ≡ true → (hashAt s 2 ≡ a → ⊥) → takeNumber s (twoHashes root firstTwo a b) ≡ conflict
-  at-8 h e k ne =
-      held-differs-then-8 s (twoHashes root firstTwo a b) well padding-is (rw anchor-is h) (ap (hashAt s) anchor-is ∙ e ∙ sym worked-is) (rw place-is (leaf-differs k ne))
+  pub reject-3 : (rejectAnswer s m .number ≡ ruleBroken)
+      ↔ ((usable s ≡ true) × Form rejectId m × (factsRoot s ≡ messageRoot m) × (Kept (headerOf m) (blocksOf s) (heightOf s) → ⊥))
+  reject-3 = Rattle.knowledge.specs.ServedWhen.reject-3 s m
 
-module _ (buffer root : List ℕ) (fits : storeSize 32768 ≤ length buffer) (lr : length root ≡ 32) where
-  pair : List ℕ
-  pair = opened buffer 32768 16384 root
+  pub reject-0 : (rejectAnswer s m .number ≡ 0) ↔ ValidHeader rejectId s m
+  reject-0 = Rattle.knowledge.specs.ServedWhen.reject-0 s m
 
-  range2 : factsInRange 32768 16384 ≡ true
-  unfolding factsInRange isPieceLength pieceLayer height heightFrom
-  range2 = refl
+-- ---- kd_serve: 9, 1; then 2, 3, 12 settle whether it gets a reply or a reject, and too little room for that one gives 11
 
-  one-high : height (blockCount 32768) ≡ 1
-  unfolding height heightFrom blockCount ceilDiv
-  one-high = refl
+module _ (s m out : List ℕ) where
+  pub serve-9 : (serveAnswer s m out .number ≡ unusable) ↔ (usable s ≡ false)
+  serve-9 = on (serve-silent s m out unusable (inl refl)) (request-9 s m)
 
-  high2 : heightOf pair ≡ 1
-  unfolding pair
-  high2 = opened-height buffer 32768 16384 root range2 fits lr ∙ one-high
+  pub serve-1 : (serveAnswer s m out .number ≡ noMessage) ↔ ((usable s ≡ true) × (Form requestId m → ⊥))
+  serve-1 = on (serve-silent s m out noMessage (inr refl)) (request-1 s m)
 
-  blocks2 : blocksOf pair ≡ 2
-  unfolding pair blockCount ceilDiv
-  blocks2 = opened-blocks buffer 32768 16384 root range2 fits lr
+  pub serve-2 : (serveAnswer s m out .number ≡ otherRoot) ↔ (((usable s ≡ true) × Form requestId m × (factsRoot s ≡ messageRoot m → ⊥)) × (headerSize ≤ length out))
+  serve-2 = beside (serve-rejects s m out otherRoot (inl refl)) (request-2 s m)
 
-  usable2 : usable pair ≡ true
-  unfolding pair
-  usable2 = opened-usable buffer 32768 16384 root range2 fits lr
+  pub serve-3 : (serveAnswer s m out .number ≡ ruleBroken)
+      ↔ (((usable s ≡ true) × Form requestId m × (factsRoot s ≡ messageRoot m) × (Kept (headerOf m) (blocksOf s) (heightOf s) → ⊥)) × (headerSize ≤ length out))
+  serve-3 = beside (serve-rejects s m out ruleBroken (inr (inl refl))) (request-3 s m)
 
-  root2 : factsRoot pair ≡ root
-  unfolding pair
-  root2 = opened-facts-root buffer 32768 16384 root range2 fits lr
+  pub serve-12 : (serveAnswer s m out .number ≡ notHeld) ↔ ((ValidHeader requestId s m × (AllGiven s m → ⊥)) × (headerSize ≤ length out))
+  serve-12 = beside (serve-rejects s m out notHeld (inr (inr refl))) (request-12 s m)
 
-  held2 : heldAt pair 1 ≡ true
-  unfolding pair positions
-  held2 = opened-held buffer 32768 16384 root range2 fits lr 1 (lit≤ tt) (rw one-high (lit< tt))
+  pub serve-11 : (serveAnswer s m out .number ≡ noRoom) ↔ NoRoomFor s m out
+  serve-11 = Rattle.knowledge.specs.ServedWhen.serve-11 s m out
 
-  hash2 : hashAt pair 1 ≡ root
-  unfolding pair
-  hash2 = opened-hash buffer 32768 16384 root range2 fits lr
+  pub serve-0 : (serveAnswer s m out .number ≡ 0) ↔ (ValidHeader requestId s m × AllGiven s m × (messageSize (headerOf m) ≤ length out))
+  serve-0 = Rattle.knowledge.specs.ServedWhen.served-0 s m out
 
-  -- a store that another hand wrote: the first leaf held too
-  module _ (c : List ℕ) (lc : length c ≡ 32) where
-    foreign : List ℕ
-    foreign = put pair 2 c
+-- ---- kd_load_layer: 9, 3, 4, 6, 7, 8, 0
 
-    cells : positions (heightOf pair) ≡ 4
-    unfolding positions
-    cells = rw high2
+module _ (s layer : List ℕ) where
+  pub layer-9 : (layerAnswer s layer .number ≡ unusable) ↔ (usable s ≡ false)
+  unfolding layerAnswer
+  layer-9 = Rattle.knowledge.specs.JudgedWhen.layer-9 s layer
 
-    room : 31 + 33 * 4 ≤ length pair
-    room = omega (arith, usable-facts pair usable2 .room, cells)
+  -- layer for a file not longer than the piece length
+  pub layer-3 : (layerAnswer s layer .number ≡ ruleBroken) ↔ ((usable s ≡ true) × (fileLength s ≤ pieceLength s))
+  unfolding layerAnswer
+  layer-3 = Rattle.knowledge.specs.JudgedWhen.layer-3 s layer
 
-    foreign-same : SameFacts pair foreign
-    unfolding foreign putAll
-    foreign-same =
-        putAll-same-facts pair (usable-facts pair usable2) (one 2 c) (sound-one 2 c (omega (arith, cells)) lc) (from-root-in (one 2 c) (λ e i. omega (arith, one-is 2 c i .0)))
+  pub layer-4 : (layerAnswer s layer .number ≡ wrongSize)
+      ↔ ((usable s ≡ true) × (pieceLength s < fileLength s) × (length layer ≡ 32 * pieceCount (fileLength s) (pieceLength s) → ⊥))
+  unfolding layerAnswer
+  layer-4 = Rattle.knowledge.specs.JudgedWhen.layer-4 s layer
 
-    foreign-usable : usable foreign ≡ true
-    unfolding foreign putAll
-    foreign-usable =
-        putAll-usable pair (usable-facts pair usable2) (one 2 c) (sound-one 2 c (omega (arith, cells)) lc) (from-root-in (one 2 c) (λ e i. omega (arith, one-is 2 c i .0))) ∙ usable2
+  -- the root not held
+  pub layer-6 : (layerAnswer s layer .number ≡ noAnchor) ↔ (LayerFormed s layer × Lacks s (heightOf s) 0)
+  unfolding layerAnswer
+  layer-6 = Rattle.knowledge.specs.JudgedWhen.layer-6 s layer
 
--- two leaves that don't give the root, on a fresh store: 7
-pub gets-7 : (buffer a b : List ℕ) → storeSize 32768 ≤ length buffer → length a ≡ 32 → length b ≡ 32
-    → takeNumber (opened buffer 32768 16384 (otherThan (pairHash a b))) (twoHashes (otherThan (pairHash a b)) firstTwo a b) ≡ differs
-unfolding pair
-gets-7 buffer a b fits la lb =
-    let root = otherThan (pairHash a b) in
-    let size = pair-octets a b .size in
-    let lr : length (otherThan (pairHash a b)) ≡ 32 = other-length (pairHash a b) ∙ size in
-    at-7 (pair buffer root fits lr) root a b lr la lb (usable2 buffer root fits lr) (root2 buffer root fits lr) (blocks2 buffer root fits lr) (high2 buffer root fits lr)
-    (held2 buffer root fits lr) (λ e. other-differs (pairHash a b) (omega arith) (sym (hash2 buffer root fits lr) ∙ e))
+  pub layer-7 : (layerAnswer s layer .number ≡ differs) ↔ (LayerFormed s layer × Misfits s (LayerSettles s layer) (heightOf s) 0)
+  unfolding layerAnswer
+  layer-7 = Rattle.knowledge.specs.JudgedWhen.layer-7 s layer
 
--- two leaves that give the root, in a store where another hand wrote another first leaf: 8
-pub gets-8 : (buffer a b : List ℕ) → storeSize 32768 ≤ length buffer → length a ≡ 32 → length b ≡ 32
-    → takeNumber (put (opened buffer 32768 16384 (pairHash a b)) 2 (otherThan a)) (twoHashes (pairHash a b) firstTwo a b) ≡ conflict
-unfolding pair foreign
-gets-8 buffer a b fits la lb =
-    let root = pairHash a b in
-    let lr : length (pairHash a b) ≡ 32 = pair-octets a b .size in
-    let c = otherThan a in
-    let lc : length (otherThan a) ≡ 32 = other-length a ∙ la in
-    let fresh = pair buffer root fits lr in
-    let same = foreign-same buffer root fits lr c lc in
-    let space = room buffer root fits lr c lc in
-    at-8 (foreign buffer root fits lr c lc) root a b lr la lb (foreign-usable buffer root fits lr c lc) (same .root ∙ root2 buffer root fits lr) (same .blocks ∙ blocks2 buffer root fits lr) (same .layers ∙ high2 buffer root fits lr)
-    (held-put-other fresh 4 2 space (lit< tt) c lc 1 (λ e. omega arith) ∙ held2 buffer root fits lr)
-    (hash-put-other fresh 4 2 space (lit< tt) c lc 1 (lit< tt) (λ e. omega arith) ∙ hash2 buffer root fits lr)
-    (held-put-same fresh 4 2 space (lit< tt) c lc)
-    (λ e. other-differs a (omega arith) (sym (hash-put-same fresh 4 2 space (lit< tt) c lc) ∙ e))
+  pub layer-8 : (layerAnswer s layer .number ≡ conflict) ↔ (LayerFormed s layer × Clashes s (LayerSettles s layer) (heightOf s) 0)
+  unfolding layerAnswer
+  layer-8 = Rattle.knowledge.specs.JudgedWhen.layer-8 s layer
 
--- ---- the same with every byte said: 295 and 163 zero bytes lent, hashes of 32 zero bytes and of 32 ones
+  pub layer-0 : (layerAnswer s layer .number ≡ 0) ↔ (LayerFormed s layer × Fits s (LayerSettles s layer) (heightOf s) 0)
+  unfolding layerAnswer
+  layer-0 = Rattle.knowledge.specs.JudgedWhen.layer-0 s layer
 
-abbrev pub ones : List ℕ
-ones = replicate 32 1
+-- ---- kd_judge_block: 9, 3, 4, 6, 7, 0, and never 8
 
-zeros-size : length zeroHash ≡ 32
-unfolding zeroHash
-zeros-size = refl
+module _ (s : List ℕ) (i : ℕ) (block : List ℕ) where
+  pub block-9 : (blockAnswer s i block .number ≡ unusable) ↔ (usable s ≡ false)
+  unfolding blockAnswer
+  block-9 = Rattle.knowledge.specs.JudgedWhen.block-9 s i block
 
-ones-differ : ones ≡ zeroHash → ⊥
-unfolding zeroHash
-ones-differ e = let f : _≡_ {A = ℕ} 1 0 = ap (λ (w : List ℕ). getD w 0 0) e in omega arith
+  -- block number past the file
+  pub block-3 : (blockAnswer s i block .number ≡ ruleBroken) ↔ ((usable s ≡ true) × (blocksOf s ≤ i))
+  unfolding blockAnswer
+  block-3 = Rattle.knowledge.specs.JudgedWhen.block-3 s i block
 
-room-for-three : storeSize 49152 ≤ length {A = ℕ} (replicate 295 0)
-unfolding storeSize positions height heightFrom blockCount ceilDiv
-room-for-three = lit≤ tt
+  pub block-4 : (blockAnswer s i block .number ≡ wrongSize) ↔ ((usable s ≡ true) × (i < blocksOf s) × (length block ≡ blockSize (fileLength s) i → ⊥))
+  unfolding blockAnswer
+  block-4 = Rattle.knowledge.specs.JudgedWhen.block-4 s i block
 
--- 163 bytes are room for a file of two blocks
-pub room-for-two : storeSize 32768 ≤ length {A = ℕ} (replicate 163 0)
-unfolding storeSize positions height heightFrom blockCount ceilDiv
-room-for-two = lit≤ tt
+  -- leaf not held
+  pub block-6 : (blockAnswer s i block .number ≡ noAnchor) ↔ (BlockFormed s i block × Lacks s 0 i)
+  unfolding blockAnswer
+  block-6 = Rattle.knowledge.specs.JudgedWhen.block-6 s i block
 
--- 5: padding with another value
-pub a-5 : takeNumber (opened (replicate 295 0) 49152 16384 zeroHash) (twoHashes zeroHash nextTwo zeroHash ones) ≡ 5
-a-5 = gets-5 (replicate 295 0) zeroHash zeroHash ones room-for-three zeros-size zeros-size refl ones-differ
+  pub block-7 : (blockAnswer s i block .number ≡ differs) ↔ (BlockFormed s i block × OtherLeaf s i block)
+  unfolding blockAnswer
+  block-7 = Rattle.knowledge.specs.JudgedWhen.block-7 s i block
 
--- 6: the anchor not held
-pub a-6 : takeNumber (opened (replicate 295 0) 49152 16384 zeroHash) (twoHashes zeroHash firstTwo zeroHash ones) ≡ 6
-a-6 = gets-6 (replicate 295 0) zeroHash zeroHash ones room-for-three zeros-size zeros-size refl
+  pub block-0 : (blockAnswer s i block .number ≡ 0) ↔ (BlockFormed s i block × Holds s 0 i (sha256 block))
+  unfolding blockAnswer
+  block-0 = Rattle.knowledge.specs.JudgedWhen.block-0 s i block
 
--- 7: the held anchor differs
-pub a-7 : takeNumber (opened (replicate 163 0) 32768 16384 (otherThan (pairHash zeroHash ones))) (twoHashes (otherThan (pairHash zeroHash ones)) firstTwo zeroHash ones) ≡ 7
-a-7 = gets-7 (replicate 163 0) zeroHash ones room-for-two zeros-size refl
+  pub block-not-8 : blockAnswer s i block .number ≡ conflict → ⊥
+  unfolding blockAnswer
+  block-not-8 = Rattle.knowledge.specs.JudgedWhen.block-not-8 s i block
 
--- 8: the anchor agrees, a held leaf differs
-pub an-8 : takeNumber (put (opened (replicate 163 0) 32768 16384 (pairHash zeroHash ones)) 2 (otherThan zeroHash)) (twoHashes (pairHash zeroHash ones) firstTwo zeroHash ones) ≡ 8
-an-8 = gets-8 (replicate 163 0) zeroHash ones room-for-two zeros-size refl
+-- ---- kd_judge_piece: 9, 3, 4, 6, 7, 8, 0
+
+module _ (s : List ℕ) (i : ℕ) (piece : List ℕ) where
+  pub piece-9 : (pieceAnswer s i piece .number ≡ unusable) ↔ (usable s ≡ false)
+  unfolding pieceAnswer
+  piece-9 = Rattle.knowledge.specs.JudgedWhen.piece-9 s i piece
+
+  -- piece number past the file
+  pub piece-3 : (pieceAnswer s i piece .number ≡ ruleBroken) ↔ ((usable s ≡ true) × (pieceCount (fileLength s) (pieceLength s) ≤ i))
+  unfolding pieceAnswer
+  piece-3 = Rattle.knowledge.specs.JudgedWhen.piece-3 s i piece
+
+  pub piece-4 : (pieceAnswer s i piece .number ≡ wrongSize)
+      ↔ ((usable s ≡ true) × (i < pieceCount (fileLength s) (pieceLength s)) × (length piece ≡ pieceSize (fileLength s) (pieceLength s) i → ⊥))
+  unfolding pieceAnswer
+  piece-4 = Rattle.knowledge.specs.JudgedWhen.piece-4 s i piece
+
+  -- piece node not held
+  pub piece-6 : (pieceAnswer s i piece .number ≡ noAnchor) ↔ (PieceFormed s i piece × Lacks s (pieceHeight s) i)
+  unfolding pieceAnswer
+  piece-6 = Rattle.knowledge.specs.JudgedWhen.piece-6 s i piece
+
+  pub piece-7 : (pieceAnswer s i piece .number ≡ differs) ↔ (PieceFormed s i piece × Misfits s (PieceSettles s i piece) (pieceHeight s) i)
+  unfolding pieceAnswer
+  piece-7 = Rattle.knowledge.specs.JudgedWhen.piece-7 s i piece
+
+  pub piece-8 : (pieceAnswer s i piece .number ≡ conflict) ↔ (PieceFormed s i piece × Clashes s (PieceSettles s i piece) (pieceHeight s) i)
+  unfolding pieceAnswer
+  piece-8 = Rattle.knowledge.specs.JudgedWhen.piece-8 s i piece
+
+  pub piece-0 : (pieceAnswer s i piece .number ≡ 0) ↔ (PieceFormed s i piece × Fits s (PieceSettles s i piece) (pieceHeight s) i)
+  unfolding pieceAnswer
+  piece-0 = Rattle.knowledge.specs.JudgedWhen.piece-0 s i piece

@@ -1,37 +1,71 @@
--- What shuts out a store that never learns (EachImpostor.antt has the inputs); and that there is a store which only this build has written.
+-- 01, "How much each contract says": the impostors, each refuted by an input with every byte said. The store: zero bytes, as many as it uses, opened
+-- for a file of two blocks whose leaves are 32 zero bytes each; the message: those two leaves.
 -- Assumes nothing.
-use mathlib.Core.Path.{_≡_, refl, ap}
+use mathlib.Core.Path.{_≡_, ap}
 use mathlib.Core.List.{List}
-use Prim.Native.Nat.{ℕ, zero, suc, _-_, _<_}
+use Prim.Native.Nat.{ℕ, _<_}
 use native.Mathlib.Omega.{arith}
-use lib.ListN.{getD, replicate}
-use lib.Dec.{lit<}
 use Rattle.octets.specs.Octets.{zeroHash}
 use Rattle.octets.specs.OctetsLaws.{zero-octets}
-use Rattle.tree.specs.Geometry.{ceilDiv, blockCount, heightFrom, height, pieceLayer, isPieceLength}
+use Rattle.numbers.specs.Numbers.{done}
+use Rattle.sha256.specs.Sha256.{pairHash}
+use Rattle.sha256.specs.Sha256Laws.{pair-octets}
+use Rattle.tree.specs.Geometry.{ceilDiv, blockCount, heightFrom, height}
 use Rattle.cells.specs.Entries.{newly}
 use Rattle.cells.specs.EntriesLaws.{newly-none}
-use Rattle.store.specs.Store.{heightOf, positions, factsInRange, storeSize, openAnswer, openAfter}
-use Rattle.messages.specs.Take.{takeAfter, takeAnswer}
-use Rattle.promises.specs.History.{Bytes, begin, OurStore, ours}
+use Rattle.store.specs.Store.{heightOf, positions, openAfter, opened}
+use Rattle.messages.specs.Take.{takeAnswer, takeAfter}
+use Rattle.words.specs.Held.{Holds}
+use Rattle.knowledge.specs.RootAlone.{root-alone}
+use Rattle.knowledge.specs.Replies.{own-reply}
+use Rattle.promises.specs.Example.{twoLeaves, taken-with-two}
+use Rattle.promises.specs.Offered.{twoHashes}
+use Rattle.promises.specs.NumbersGiven.{firstTwo, ones, a-6}
+use Rattle.promises.specs.Witness.{ours-with-two-leaves, two-leaves-held}
+use Rattle.promises.specs.TwoBlocks.{opens, open-is}
+use Rattle.promises.specs.Lent.{lent, lent-room, lent-bytes}
+use Rattle.promises.specs.ServedAndTaken.{askForTwo, asked-is-0, reply-is}
 
--- 0 with nothing stored, or a store that never learns: where something is newly held, the bytes have changed
+-- the store and the message
+abbrev pub justOpened : List ℕ
+justOpened = openAfter (lent 32768) 32768 16384 (pairHash zeroHash zeroHash)
+
+abbrev pub itsLeaves : List ℕ
+itsLeaves = twoLeaves zeroHash zeroHash
+
+-- ALWAYS 6: this message is to be answered 0, with count 2
+pub not-always-6 : (takeAnswer justOpened itsLeaves .number ≡ 0) × (takeAnswer justOpened itsLeaves .count ≡ 2)
+not-always-6 = rw (open-is (lent 32768) (pairHash zeroHash zeroHash) (lent-room 32768)) (taken-with-two zeroHash zeroHash zero-octets zero-octets (lent 32768) (lent-room 32768))
+
+-- where something is newly held, the bytes have changed
 pub learns : (s m : List ℕ) → 0 < takeAnswer s m .count → takeAfter s m ≡ s → ⊥
 unfolding takeAnswer
 learns s m c e = omega (arith, ap (newly (positions (heightOf s)) s) e, newly-none (positions (heightOf s)) s)
 
-zeros : (n i : ℕ) → getD (replicate n 0) i 0 < 256
-zeros zero i = lit< tt
-zeros (suc n) zero = lit< tt
-zeros (suc n) (suc i) = zeros n i
+-- 0 WITH NOTHING STORED: the bytes are to change
+pub something-stored : takeAfter justOpened itsLeaves ≡ justOpened → ⊥
+something-stored e = learns justOpened itsLeaves (omega (arith, not-always-6 .1)) e
 
--- any number of zero bytes are bytes
-pub zero-bytes : (n : ℕ) → Bytes (replicate n 0)
-zero-bytes n = record { size = refl; bytes = λ i l. zeros n i }
+-- ALL HELD AT OPENING: kd_held gives neither leaf
+pub no-leaf-at-opening : (i : ℕ) (v : List ℕ) → Holds justOpened 0 i v → ⊥
+unfolding height heightFrom blockCount ceilDiv
+no-leaf-at-opening i v h =
+    let t = root-alone (lent 32768) 32768 16384 (pairHash zeroHash zeroHash) (pair-octets zeroHash zeroHash .size) (opens (lent 32768) (lent-room 32768)) 0 i v .0 h in
+    let w : _≡_ {A = ℕ} 0 1 = t .0 in
+    omega arith
 
--- a store of ours exists: 97 bytes, a file of one byte
-pub a-store-of-ours : OurStore (openAfter (replicate 97 0) 1 16384 zeroHash)
-a-store-of-ours = ours (replicate 97 0) 1 16384 zeroHash (zero-bytes 97) zero-octets opens begin
-  where
-    opens : openAnswer (replicate 97 0) 1 16384 .number ≡ 0
-    opens = unfold openAnswer factsInRange isPieceLength pieceLayer storeSize positions height heightFrom blockCount ceilDiv in refl
+-- A STORE THAT NEVER LEARNS: after the message kd_held gives both
+pub both-leaves-after : Holds (takeAfter justOpened itsLeaves) 0 0 zeroHash × Holds (takeAfter justOpened itsLeaves) 0 1 zeroHash
+both-leaves-after = let h = two-leaves-held zeroHash zeroHash zero-octets zero-octets (lent 32768) (lent-bytes 32768) (lent-room 32768) in (h .0, h .1)
+
+-- AN INVENTED COUNT: it is 2, and of the same message, offered again, 0
+pub counts-differ : (takeAnswer justOpened itsLeaves .count ≡ 2) × (takeAnswer (takeAfter justOpened itsLeaves) itsLeaves ≡ done 0)
+counts-differ =
+    let m = askForTwo zeroHash zeroHash in
+    let z = asked-is-0 zeroHash zeroHash zero-octets zero-octets (lent 32768) (lent-bytes 32768) (lent-room 32768) in
+    let again = own-reply m (ours-with-two-leaves zeroHash zeroHash zero-octets zero-octets (lent 32768) (lent-bytes 32768) (lent-room 32768)) z in
+    (not-always-6 .1, rw (reply-is zeroHash zeroHash zero-octets zero-octets (lent 32768) (lent-bytes 32768) (lent-room 32768)) at again)
+
+-- ALWAYS 0: a message whose anchor is not held is to be answered 6, and others 5, 7 and 8 (NumbersGiven.antt)
+pub not-always-0 : takeAnswer (opened (lent 49152) 49152 16384 zeroHash) (twoHashes zeroHash firstTwo zeroHash ones) .number ≡ 6
+not-always-0 = a-6

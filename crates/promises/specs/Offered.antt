@@ -13,12 +13,12 @@ use borrow.Author.Tests.{le-leb}
 use Rattle.octets.specs.Octets.{cut, numberAt, zeroHash}
 use Rattle.octets.specs.OctetsLaws.{same-eq, number-same, cut-whole, cut-append-left, cut-append-right}
 use Rattle.store.specs.Store.{usable, factsRoot, blocksOf, heightOf}
-use Rattle.runs.specs.SubtreeLaws.{run-leaf-in}
+use Rattle.settling.specs.SubtreeLaws.{run-leaf-in}
 use Rattle.header.specs.declared.Header.{Header}
 use Rattle.header.specs.Header.{isHashes, headerOf, messageRoot, messageSize, rulesKept}
 use Rattle.messages.specs.Take.{runOf, given}
 use Rattle.messages.specs.TakeLaws.{passes}
-use Rattle.promises.specs.TakenWhen.{WellFormed}
+use Rattle.words.specs.Messages.{WellFormed}
 
 -- a hashes message by its parts
 abbrev pub offered : List ℕ → List ℕ → List ℕ → List ℕ

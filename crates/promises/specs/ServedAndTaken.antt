@@ -12,28 +12,28 @@ use Rattle.octets.specs.OctetsLaws.{zero-octets, same-eq, cut-whole, cut-append
 use Rattle.numbers.specs.declared.Answer.{Answer}
 use Rattle.sha256.specs.Sha256.{pairHash}
 use Rattle.sha256.specs.Sha256Laws.{pair-octets}
-use Rattle.tree.specs.Geometry.{ceilDiv, blockCount, heightFrom, height, nodeNumber, covering, pieceLayer, isPieceLength}
+use Rattle.tree.specs.Geometry.{ceilDiv, blockCount, heightFrom, height, nodeNumber, covering}
 use Rattle.cells.specs.Cells.{heldAt, hashAt}
-use Rattle.store.specs.Store.{fileLength, heldAnswer, factsRoot, blocksOf, heightOf, factsInRange, storeSize, openAfter, opened}
-use Rattle.store.specs.StoreLaws.{Facts, facts-usable, usable-facts, opened-usable, opened-file, opened-facts-root, opened-blocks, opened-height}
+use Rattle.store.specs.Store.{fileLength, heldAnswer, factsRoot, blocksOf, heightOf, storeSize, openAfter, opened, Facts}
+use Rattle.store.specs.StoreLaws.{facts-usable, usable-facts, opened-usable, opened-file, opened-facts-root, opened-blocks, opened-height}
 use Rattle.header.specs.declared.Header.{Header}
 use Rattle.header.specs.Header.{headerOf, messageRoot, isHashes, isRequest, placeOf, rulesKept, lengthRule, indexRule}
 use Rattle.messages.specs.Take.{headerNumber, placeIn, takeNumber, takeAfter}
 use Rattle.messages.specs.TakeLaws.{passed, passes}
 use Rattle.serve.specs.Serve.{heldRun, runHashes, heldUncles, uncleHashes, allHeld, allHashes, requestNumber, replyTo, serveAnswer}
 use Rattle.serve.specs.ServeLaws.{head-same, request-zero, served-reply, fits-sent}
-use Rattle.promises.specs.Held.{Holds}
-use Rattle.promises.specs.History.{Bytes, begin, OurStore, ours}
-use Rattle.promises.specs.Grows.{Grown, grown-take}
-use Rattle.promises.specs.Again.{what-is-held}
+use Rattle.words.specs.Held.{Holds}
+use Rattle.words.specs.History.{Bytes, begin, OurStore, ours}
+use Rattle.words.specs.Messages.{anchorLayer, anchorIndex}
+use Rattle.knowledge.specs.Grows.{Grown, grown-take}
+use Rattle.knowledge.specs.Again.{what-is-held}
+use Rattle.knowledge.specs.TakenWhen.{taken-then-right}
+use Rattle.knowledge.specs.AnchorHeld.{held-asked}
 use Rattle.promises.specs.Offered.{offered-root, offered-size, two-size}
 use Rattle.promises.specs.Example.{twoLeaves, header-two, two-taken, two-well-formed}
-use Rattle.promises.specs.Witness.{ours-with-two-leaves, two-leaves-held, opens, open-is}
-use Rattle.promises.specs.Impostors.{zero-bytes}
-use Rattle.promises.specs.EachNumber.{room-for-two}
-use Rattle.promises.specs.Settles.{anchorLayer, anchorIndex}
-use Rattle.promises.specs.TakenWhen.{taken-then-right}
-use Rattle.promises.specs.AnchorHeld.{held-asked}
+use Rattle.promises.specs.Witness.{ours-with-two-leaves, two-leaves-held}
+use Rattle.promises.specs.TwoBlocks.{range, opens, open-is}
+use Rattle.promises.specs.Lent.{lent, lent-room, lent-bytes}
 
 abbrev numbers : List ℕ
 numbers = 0 ∷ 0 ∷ 0 ∷ 0 ∷ 0 ∷ 0 ∷ 0 ∷ 0 ∷ 0 ∷ 0 ∷ 0 ∷ 2 ∷ 0 ∷ 0 ∷ 0 ∷ 0 ∷ []
@@ -76,10 +76,6 @@ module _ (a b : List ℕ) (oa : Octets 32 a) (ob : Octets 32 b) where
   module _ (buffer : List ℕ) (bytes : Bytes buffer) (fits : storeSize 32768 ≤ length buffer) where
     fresh : List ℕ
     fresh = opened buffer 32768 16384 (pairHash a b)
-
-    range : factsInRange 32768 16384 ≡ true
-    unfolding factsInRange isPieceLength pieceLayer height heightFrom
-    range = refl
 
     fresh-facts : Facts fresh
     unfolding fresh
@@ -195,14 +191,14 @@ module _ (a b : List ℕ) (oa : Octets 32 a) (ob : Octets 32 b) (buffer other ou
   unfolding fresh
   file-here =
       ap fileLength (with-is a b oa ob buffer bytes fits) ∙ grown a b oa ob buffer bytes fits .same .file
-      ∙ opened-file buffer 32768 16384 (pairHash a b) (range a b oa ob buffer bytes fits) fits (root-size a b oa ob)
+      ∙ opened-file buffer 32768 16384 (pairHash a b) range fits (root-size a b oa ob)
 
   -- one has heard its two leaves, the other is only opened
   pub met-by-two : MetByTwo (withTwo buffer a b) (openAfter other 32768 16384 (pairHash a b)) (askForTwo a b) out
   unfolding opened-there
   met-by-two =
       let R = pairHash a b in
-      let ok = range a b oa ob buffer bytes fits in
+      let ok = range in
       let e = open-is other (pairHash a b) room in
       record {
         ours = ours-with-two-leaves a b oa ob buffer bytes fits;
@@ -215,6 +211,6 @@ module _ (a b : List ℕ) (oa : Octets 32 a) (ob : Octets 32 b) (buffer other ou
 
 -- with every byte said
 pub two-stores-and-a-request :
-    MetByTwo (withTwo (replicate 163 0) zeroHash zeroHash) (openAfter (replicate 163 0) 32768 16384 (pairHash zeroHash zeroHash)) (askForTwo zeroHash zeroHash) (replicate 163 0)
+    MetByTwo (withTwo (lent 32768) zeroHash zeroHash) (openAfter (lent 32768) 32768 16384 (pairHash zeroHash zeroHash)) (askForTwo zeroHash zeroHash) (replicate 113 0)
 two-stores-and-a-request =
-    met-by-two zeroHash zeroHash zero-octets zero-octets (replicate 163 0) (replicate 163 0) (replicate 163 0) (zero-bytes 163) (zero-bytes 163) room-for-two room-for-two (lit≤ tt)
+    met-by-two zeroHash zeroHash zero-octets zero-octets (lent 32768) (lent 32768) (replicate 113 0) (lent-bytes 32768) (lent-bytes 32768) (lent-room 32768) (lent-room 32768) (lit≤ tt)

@@ -18,14 +18,15 @@ use Rattle.cells.specs.Entries.{agrees}
 use Rattle.cells.specs.EntriesLaws.{agrees-held, agrees-free}
 use Rattle.store.specs.Store.{blocksOf, heightOf, positions, factsInRange, storeSize, opened}
 use Rattle.store.specs.StoreLaws.{opened-usable, opened-facts-root, opened-blocks, opened-height, opened-held, opened-hash}
-use Rattle.runs.specs.Subtree.{subtree}
-use Rattle.runs.specs.Path.{sibling, uncle, parentValue, ancestor, risen, path}
+use Rattle.settling.specs.Subtree.{subtree}
+use Rattle.settling.specs.Path.{sibling, uncle, parentValue, ancestor, risen, path}
 use Rattle.header.specs.declared.Header.{Header}
 use Rattle.header.specs.declared.Place.{Place}
 use Rattle.header.specs.Header.{headerOf, messageSize, placeOf, rulesKept, lengthRule, indexRule}
 use Rattle.messages.specs.Padded.{allFrom, runPadded, unclePadded, unclesPadded}
-use Rattle.messages.specs.Take.{unclesOf, given, settled, anchor, worked, padded, placeIn, takeNumber, takeAnswer}
-use Rattle.promises.specs.TakenWhen.{WellFormed, Right, right-then-taken}
+use Rattle.messages.specs.Take.{unclesOf, given, settled, anchor, worked, padded, placeIn, takeAnswer}
+use Rattle.words.specs.Messages.{WellFormed}
+use Rattle.knowledge.specs.TakenWhen.{Right, right-then-taken}
 use Rattle.promises.specs.Offered.{offered, offered-header, offered-past, first-given, second-given, well-formed-in}
 use Rattle.promises.specs.Worked.{six-new}
 
@@ -153,8 +154,8 @@ module _ (a b c d : List ℕ) (la : length a ≡ 32) (lb : length b ≡ 32) (lc 
         }
 
     -- it is taken,
-    pub first-pair-taken : takeNumber (opened buffer 81920 plen (rootOf a b c d)) (firstPair a b c d) ≡ 0
-    unfolding fresh
+    pub first-pair-taken : takeAnswer (opened buffer 81920 plen (rootOf a b c d)) (firstPair a b c d) .number ≡ 0
+    unfolding fresh takeAnswer
     first-pair-taken = right-then-taken fresh (firstPair a b c d) well right
 
     -- and makes 6 positions newly held

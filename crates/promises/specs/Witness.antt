@@ -8,7 +8,6 @@ use Prim.Native.Nat.{ℕ, zero, suc, _+_, _-_, _≤_, _<_}
 use native.Mathlib.Omega.{arith}
 use lib.ListN.{length, replicate, length-replicate}
 use lib.Dec.{lit<}
-use borrow.Author.Tests.{le-leb}
 use Rattle.octets.specs.Octets.{Octets, be, zeroHash}
 use Rattle.octets.specs.OctetsLaws.{same-eq, zero-octets, be-octets, append-octets}
 use Rattle.sha256.specs.Sha256.{pairHash}
@@ -19,45 +18,31 @@ use Rattle.tree.specs.ValuesLaws.{leaf-octets, leaf-block, block-bytes}
 use Rattle.cells.specs.Cells.{heldAt, hashAt}
 use Rattle.cells.specs.Entries.{agreesAt, agrees}
 use Rattle.cells.specs.EntriesLaws.{agrees-held}
-use Rattle.runs.specs.Subtree.{subtree}
-use Rattle.store.specs.Store.{heightOf, fileLength, pieceLength, blocksOf, factsInRange, storeSize, openAnswer, openAfter, opened, heldAnswer}
+use Rattle.settling.specs.Subtree.{subtree}
+use Rattle.store.specs.Store.{heightOf, fileLength, pieceLength, blocksOf, factsInRange, storeSize, openAfter, opened, heldAnswer, Facts}
 use Rattle.pieces.specs.Pieces.{layerOfPieces, blockNumber, pieceHeight, pieceNumber}
-use Rattle.store.specs.StoreLaws.{opened-piece, Facts, facts-usable, usable-facts, opened-usable, opened-file, opened-facts-root}
+use Rattle.store.specs.StoreLaws.{opened-piece, facts-usable, usable-facts, opened-usable, opened-file, opened-facts-root}
 use Rattle.header.specs.declared.Header.{Header}
 use Rattle.header.specs.declared.Place.{Place}
 use Rattle.header.specs.Header.{headerOf, isHashes}
 use Rattle.messages.specs.Take.{given, placeIn, takeNumber, takeAfter}
 use Rattle.messages.specs.TakeLaws.{passed}
-use Rattle.promises.specs.Again.{what-is-held}
-use Rattle.promises.specs.Grows.{Grown, grown-take}
-use Rattle.promises.specs.JudgedWhen.{block-0}
-use Rattle.promises.specs.Held.{Holds}
-use Rattle.promises.specs.History.{Bytes, begin, message, OurStore, ours}
-use Rattle.promises.specs.TakenWhen.{taken-then-right}
-use Rattle.promises.specs.Settles.{hashIn, anchorLayer, anchorIndex, Settles, inRun, parent}
-use Rattle.promises.specs.AnchorHeld.{held-asked}
-use Rattle.promises.specs.Positions.{given-is}
-use Rattle.promises.specs.HeldAfter.{settles-then-holds}
-use Rattle.promises.specs.Conflict.{sized-bytes}
-use Rattle.promises.specs.RootToBlock.{For, treeOf, same-height, pieceFor, agreed-piece}
-use Rattle.promises.specs.Impostors.{zero-bytes}
-use Rattle.promises.specs.EachNumber.{room-for-two}
-use Rattle.promises.specs.Known.{TrueHashes}
+use Rattle.words.specs.Held.{Holds}
+use Rattle.words.specs.History.{Bytes, take, call, begin, next, OurStore, ours}
+use Rattle.words.specs.Messages.{hashIn, anchorLayer, anchorIndex, Settles, inRun, parent}
+use Rattle.words.specs.File.{For, pieceFor, TrueHashes}
+use Rattle.knowledge.specs.Again.{what-is-held}
+use Rattle.knowledge.specs.Grows.{Grown, grown-take}
+use Rattle.knowledge.specs.JudgedWhen.{block-0}
+use Rattle.knowledge.specs.TakenWhen.{taken-then-right}
+use Rattle.knowledge.specs.AnchorHeld.{held-asked}
+use Rattle.knowledge.specs.Positions.{given-is}
+use Rattle.knowledge.specs.HeldAfter.{settles-then-holds}
+use Rattle.knowledge.specs.Conflict.{sized-bytes}
+use Rattle.knowledge.specs.RootToBlock.{treeOf, same-height, agreed-piece}
+use Rattle.promises.specs.Lent.{lent, lent-room, lent-bytes, lent-opens}
 use Rattle.promises.specs.Example.{twoLeaves, header-two, first, second, two-taken, two-well-formed, two-place}
-
-range : factsInRange 32768 16384 ≡ true
-unfolding factsInRange isPieceLength pieceLayer height heightFrom
-range = refl
-
--- the opening is answered 0,
-pub opens : (buffer : List ℕ) → storeSize 32768 ≤ length buffer → openAnswer buffer 32768 16384 .number ≡ 0
-unfolding openAnswer
-opens buffer fits = rw (range, le-leb (storeSize 32768) (length buffer) fits)
-
--- and leaves an opened store
-pub open-is : (buffer root : List ℕ) → storeSize 32768 ≤ length buffer → openAfter buffer 32768 16384 root ≡ opened buffer 32768 16384 root
-unfolding openAfter
-open-is buffer root fits = rw (range, le-leb (storeSize 32768) (length buffer) fits)
+use Rattle.promises.specs.TwoBlocks.{range, opens, open-is}
 
 -- the message is a string of bytes
 one-byte : Octets 1 (22 ∷ [])
@@ -83,7 +68,7 @@ module _ (a b : List ℕ) (oa : Octets 32 a) (ob : Octets 32 b) (buffer : List �
 module _ (a b : List ℕ) (oa : Octets 32 a) (ob : Octets 32 b) (buffer : List ℕ) (bytes : Bytes buffer) (fits : storeSize 32768 ≤ length buffer) where
   -- a store of two blocks, opened by us, that has heard its two leaves: written by this build only,
   pub ours-with-two-leaves : OurStore (takeAfter (openAfter buffer 32768 16384 (pairHash a b)) (twoLeaves a b))
-  ours-with-two-leaves = ours buffer 32768 16384 (pairHash a b) bytes (pair-octets a b) (opens buffer fits) (message (twoLeaves a b) (leaves-bytes a b oa ob) begin)
+  ours-with-two-leaves = ours buffer 32768 16384 (pairHash a b) bytes (pair-octets a b) (opens buffer fits) (next begin (call (take (twoLeaves a b) (leaves-bytes a b oa ob)) (λ x. absurd x)))
 
   opened-two : List ℕ
   opened-two = opened buffer 32768 16384 (pairHash a b)
@@ -184,11 +169,18 @@ module _ (file buffer : List ℕ) (two-blocks : length file ≡ 32768) (fits : s
       let z = two-taken (leafOf file 0) (leafOf file 1) (leaf-octets file 0) (leaf-octets file 1) buffer fits in
       rw root-is (held-asked (isHashes m) s m (passed (isHashes m) s m (well .header)) (taken-then-right s m well z .held))
 
--- ---- the same with every byte said: 163 zero bytes lent, a file of 32768 zero bytes
+-- ---- the same with every byte said: zero bytes lent, a file of 32768 zero bytes
+
+-- a store of ours exists: a file of one byte
+pub a-store-of-ours : OurStore (openAfter (lent 1) 1 16384 zeroHash)
+a-store-of-ours = ours (lent 1) 1 16384 zeroHash (lent-bytes 1) zero-octets (lent-opens 1 16384 in-range) begin
+  where
+    in-range : factsInRange 1 16384 ≡ true
+    in-range = unfold factsInRange isPieceLength pieceLayer height heightFrom in refl
 
 -- a store of ours of two blocks, after a message that was taken
-pub a-store-of-two-blocks : OurStore (takeAfter (openAfter (replicate 163 0) 32768 16384 (pairHash zeroHash zeroHash)) (twoLeaves zeroHash zeroHash))
-a-store-of-two-blocks = ours-with-two-leaves zeroHash zeroHash zero-octets zero-octets (replicate 163 0) (zero-bytes 163) room-for-two
+pub a-store-of-two-blocks : OurStore (takeAfter (openAfter (lent 32768) 32768 16384 (pairHash zeroHash zeroHash)) (twoLeaves zeroHash zeroHash))
+a-store-of-two-blocks = ours-with-two-leaves zeroHash zeroHash zero-octets zero-octets (lent 32768) (lent-bytes 32768) (lent-room 32768)
 
 -- what `known-message` asks for, met at once
 pub record Met (file s r : List ℕ) : Type 0 where
@@ -197,18 +189,18 @@ pub record Met (file s r : List ℕ) : Type 0 where
   pub hashes : TrueHashes file s r
   pub anchor : heldAnswer s (anchorLayer r) (anchorIndex r) .number ≡ 0
 
-met : (file : List ℕ) → length file ≡ 32768 → Met file (opened (replicate 163 0) 32768 16384 (piecesRoot file)) (twoLeaves (leafOf file 0) (leafOf file 1))
+met : (file : List ℕ) → length file ≡ 32768 → Met file (opened (lent 32768) 32768 16384 (piecesRoot file)) (twoLeaves (leafOf file 0) (leafOf file 1))
 met file e =
     record {
-      ours = ours-for-the-file file (replicate 163 0) e room-for-two (zero-bytes 163);
-      opened = for-the-file file (replicate 163 0) e room-for-two;
-      hashes = true-for-the-file file (replicate 163 0) e room-for-two;
-      anchor = anchor-for-the-file file (replicate 163 0) e room-for-two;
+      ours = ours-for-the-file file (lent 32768) e (lent-room 32768) (lent-bytes 32768);
+      opened = for-the-file file (lent 32768) e (lent-room 32768);
+      hashes = true-for-the-file file (lent 32768) e (lent-room 32768);
+      anchor = anchor-for-the-file file (lent 32768) e (lent-room 32768);
     }
 
 -- all of it, with every byte said
 pub a-file-store-and-message :
-    Met (replicate 32768 0) (opened (replicate 163 0) 32768 16384 (piecesRoot (replicate 32768 0))) (twoLeaves (leafOf (replicate 32768 0) 0) (leafOf (replicate 32768 0) 1))
+    Met (replicate 32768 0) (opened (lent 32768) 32768 16384 (piecesRoot (replicate 32768 0))) (twoLeaves (leafOf (replicate 32768 0) 0) (leafOf (replicate 32768 0) 1))
 a-file-store-and-message = met (replicate 32768 0) (length-replicate {A = ℕ} 32768 0)
 
 -- ---- and after that message: what the theorems about blocks and pieces ask for, met at once
@@ -334,5 +326,5 @@ module _ (file buffer : List ℕ) (two-blocks : length file ≡ 32768) (bytes : 
 
 -- with every byte said
 pub a-store-after-its-leaves :
-    MetAfter (replicate 32768 0) (takeAfter (openAfter (replicate 163 0) 32768 16384 (pairHash (leafOf (replicate 32768 0) 0) (leafOf (replicate 32768 0) 1))) (twoLeaves (leafOf (replicate 32768 0) 0) (leafOf (replicate 32768 0) 1)))
-a-store-after-its-leaves = met-after (replicate 32768 0) (replicate 163 0) (length-replicate {A = ℕ} 32768 0) (zero-bytes 163) room-for-two
+    MetAfter (replicate 32768 0) (takeAfter (openAfter (lent 32768) 32768 16384 (pairHash (leafOf (replicate 32768 0) 0) (leafOf (replicate 32768 0) 1))) (twoLeaves (leafOf (replicate 32768 0) 0) (leafOf (replicate 32768 0) 1)))
+a-store-after-its-leaves = met-after (replicate 32768 0) (lent 32768) (length-replicate {A = ℕ} 32768 0) (lent-bytes 32768) (lent-room 32768)

@@ -1,11 +1,11 @@
 // Replays a session: reads records from standard input to its end, in whatever pieces they come, and prints the lines that they give.
 ghost use Prim.Native.Nat.{_≤_};
 ghost use lib.ListN.{length};
-ghost use Rattle.replaying.specs.Session as S;
+ghost use Rattle.session.specs.Session as S;
 use libc::STDIN_FILENO;
 use libc::STDOUT_FILENO;
-use replaying::Line;
-use replaying::Progress;
+use session::Line;
+use session::Progress;
 
 // The number, a space, the count.
 fn show(line: Line) {
@@ -22,13 +22,13 @@ fn show(line: Line) {
 
 // A piece of the input, line by line.
 fn pass(p: Progress, s: &mut [u8], room: &mut [u8], piece: &[u8]) -> Progress
-    requires { ⌜ S.Ready p (length (now room)) ⌝ }
+    requires { ⌜ S.Lent p (length (now s)) (length (now room)) ⌝ }
     ensures { λ r. ⌜ S.Due (r .phase) (r .at) ⌝ }
 {
     let mut q = p;
     let mut at: usize = 0;
     while at < piece.len() {
-        let part = replaying::take_piece(q, s, room, &piece[at..]);
+        let part = session::take_piece(q, s, room, &piece[at..]);
         let line = part.line;
         show(line);
         let next = part.progress;
@@ -40,9 +40,9 @@ fn pass(p: Progress, s: &mut [u8], room: &mut [u8], piece: &[u8]) -> Progress
 
 // The whole input. A proved loop has to end, and nothing says that an input does: the turns are counted down from a number that no run uses up.
 fn pass_all(s: &mut [u8], room: &mut [u8], buf: &mut [u8]) -> Progress
-    requires { ⌜ S.maxMessage ≤ length (now room) ⌝ }
+    requires { ⌜ (S.maxStore ≤ length (now s)) × (S.maxMessage ≤ length (now room)) ⌝ }
 {
-    let mut q = replaying::start();
+    let mut q = session::start();
     let mut turns = u64::MAX;
     while turns > 0 {
         let got = libc::read(STDIN_FILENO, buf);
@@ -57,10 +57,10 @@ fn pass_all(s: &mut [u8], room: &mut [u8], buf: &mut [u8]) -> Progress
 }
 
 fn main() {
-    let mut s = [0u8; replaying::MAX_STORE];
-    let mut room = [0u8; replaying::MAX_MESSAGE];
+    let mut s = session::new_store();
+    let mut room = [0u8; session::MAX_MESSAGE];
     let mut buf = io::large_buffer();
     let last = pass_all(&mut s, &mut room, &mut buf);
-    show(replaying::end(last));
+    show(session::end(last));
     io::write_all(STDOUT_FILENO, b"end\n");
 }

@@ -14,48 +14,39 @@ use Rattle.octets.specs.Octets.{cut, pasted}
 use Rattle.octets.specs.OctetsLaws.{cut-length, pasted-append}
 use Rattle.numbers.specs.Numbers.{refused, done, unusable, noMessage, noRoom, notHeld}
 use Rattle.numbers.specs.declared.Answer.{Answer}
-use Rattle.store.specs.Store.{blocksOf, heightOf}
-use Rattle.store.specs.StoreLaws.{Facts, usable-facts, facts-height, facts-leaves}
-use Rattle.header.specs.declared.Header.{Header}
+use Rattle.limits.specs.Limits.{tallestTree}
+use Rattle.store.specs.Store.{Facts}
+use Rattle.store.specs.StoreLaws.{usable-facts}
 use Rattle.header.specs.declared.Place.{Place}
-use Rattle.header.specs.Header.{headerOf, isRequest, rulesKept, placeOf}
+use Rattle.header.specs.Header.{headerSize, headerBytes, hashesId, rejectId, isRequest}
 use Rattle.messages.specs.Take.{headerNumber, placeIn}
 use Rattle.messages.specs.TakeLaws.{passed, request-form}
 use Rattle.serve.specs.Serve.{heldRun, heldUncles, runHashes, uncleHashes, allHeld, allHashes, replyTo, rejectTo, requestNumber, serveAnswer, serveAfter}
-use Rattle.serve.specs.ServeLaws.{Reach, run-hashes-length, uncle-hashes-length, fitAnswer, fitAfter, fits-sent, fits-not, request-passes, served-none, served-reply, served-reject, answered-form, request-size, request-reach, reply-length, reject-length}
+use Rattle.serve.specs.Asks.{Reach, fitAnswer, fitAfter}
+use Rattle.serve.specs.ServeLaws.{run-hashes-length, uncle-hashes-length, fits-sent, fits-not, request-passes, served-none, served-reply, served-reject, answered-form, request-size, request-reach, reply-length, reject-length}
 
 -- a power of two as it is shifted
-pub count-of : (k : ℕ) → k ≤ 16 → ((1 * 2 ^ k) % 18446744073709551616 ≡ 2 ^ k) × ((1 * 2 ^ k) % 18446744073709551616 ≤ 65536)
+pub count-of : (k : ℕ) → k ≤ tallestTree → ((1 * 2 ^ k) % 18446744073709551616 ≡ 2 ^ k) × ((1 * 2 ^ k) % 18446744073709551616 ≤ 2 ^ tallestTree)
 count-of k l =
     let e : (1 * 2 ^ k) % 18446744073709551616 ≡ 2 ^ k = shl-exact {a = 1} 1 k 64 (omega arith) (omega arith) ∙ one-mul (2 ^ k) in
-    let w : 2 ^ k ≤ 2 ^ 16 = pow-mono {i = k} {j = 16} l in
+    let w : 2 ^ k ≤ 2 ^ tallestTree = pow-mono {i = k} {j = tallestTree} l in
     (e, omega arith)
 
 -- ---- the place of a request
 
-pub form-long : (m : List ℕ) (t : Bool) → t ≡ isRequest m → t ≡ true → 49 ≤ length m
+pub form-long : (m : List ℕ) (t : Bool) → t ≡ isRequest m → t ≡ true → headerSize ≤ length m
 form-long m t e f = omega (arith, request-form m (sym e ∙ f))
 
 module _ (s m : List ℕ) (e : headerNumber (isRequest m) s m ≡ 0) where
   facts : Facts s
   facts = usable-facts s (passed (isRequest m) s m e .store)
 
-  pub passed-long : (64 ≤ length s) × (49 ≤ length m)
+  pub passed-long : (64 ≤ length s) × (headerSize ≤ length m)
   passed-long = (facts .long, omega (arith, request-size s m e))
 
-  module _ (x : Header) (b h : ℕ) (ex : x ≡ headerOf m) (eb : b ≡ blocksOf s) (eh : h ≡ heightOf s) where
-    pub place-asked : (h ≤ 32) × (b ≤ 2 ^ h) × (rulesKept x b h ≡ true)
-    place-asked =
-        let k : rulesKept x b h ≡ rulesKept (headerOf m) (blocksOf s) (heightOf s) = cc in (
-          omega (arith, facts-height s facts),
-          rw (eb, eh) (facts-leaves s facts),
-          k ∙ passed (isRequest m) s m e .rules,
-        )
-
-    pub place-given : (p : Place) → p ≡ placeOf x h → (p ≡ placeIn s m) × Reach (length s) p
-    place-given p ep =
-        let q : p ≡ placeIn s m = cc in
-        (q, rw q (request-reach s m e))
+  -- its place is in the tree, and the store has its cells
+  pub place-reach : (p : Place) → p ≡ placeIn s m → Reach (length s) p
+  place-reach p q = rw q (request-reach s m e)
 
 -- ---- looking at a place
 
@@ -101,53 +92,53 @@ module _ (s m : List ℕ) (t : Bool) (n : ℕ) (a : t ≡ isRequest m) (b : n �
 -- ---- sending
 
 module _ (s m out : List ℕ) (e : headerNumber (isRequest m) s m ≡ 0) (p : Place) (f : p ≡ placeIn s m) (c : ℕ) (g : c ≡ 2 ^ p .k) where
-  size-is : 49 + 32 * c + 32 * p .u ≡ length (replyTo s m)
+  size-is : headerSize + 32 * c + 32 * p .u ≡ length (replyTo s m)
   size-is = rw (g, f) (sym (reply-length s m e))
 
-  pub reply-short : (r : Answer) → length out < 49 + 32 * c + 32 * p .u → r ≡ refused noRoom
+  pub reply-short : (r : Answer) → length out < headerSize + 32 * c + 32 * p .u → r ≡ refused noRoom
       → (r ≡ fitAnswer 0 (replyTo s m) out) × (out ≡ fitAfter (replyTo s m) out)
   reply-short r l q =
       let w = fits-not 0 (replyTo s m) out (omega (arith, size-is)) in
       (q ∙ sym (w .0), sym (w .1))
 
-  module _ (out1 out2 out3 : List ℕ) (l : 49 + 32 * c + 32 * p .u ≤ length out) (a : out1 ≡ pasted out 0 (22 ∷ cut m 1 48))
-      (b : out2 ≡ pasted out1 49 (runHashes s (p .top * c) c)) (d : out3 ≡ pasted out2 (49 + 32 * c) (uncleHashes s (p .u) (p .top))) where
+  module _ (out1 out2 out3 : List ℕ) (l : headerSize + 32 * c + 32 * p .u ≤ length out) (a : out1 ≡ pasted out 0 (hashesId ∷ headerBytes m))
+      (b : out2 ≡ pasted out1 headerSize (runHashes s (p .top * c) c)) (d : out3 ≡ pasted out2 (headerSize + 32 * c) (uncleHashes s (p .u) (p .top))) where
     written : out3 ≡ pasted out 0 (replyTo s m)
     unfolding replyTo allHashes
     written =
         let r = request-reach s m e in
-        let H : List ℕ = 22 ∷ cut m 1 48 in
+        let H : List ℕ = hashesId ∷ headerBytes m in
         let R = runHashes s (p .top * c) c in
         let U = uncleHashes s (p .u) (p .top) in
-        let hl : length (22 ∷ cut m 1 48) ≡ 49 = ap suc (cut-length m 1 48 (omega (arith, request-size s m e))) in
+        let hl : length (hashesId ∷ headerBytes m) ≡ headerSize = ap suc (cut-length m 1 48 (omega (arith, request-size s m e))) in
         let rl : length (runHashes s (p .top * c) c) ≡ 32 * c = run-hashes-length s (p .top * c) c (run-cells (length s) p (rw f r) c g) in
         let ul : length (uncleHashes s (p .u) (p .top)) ≡ 32 * p .u = uncle-hashes-length s (p .u) (p .top) (rw f (r .uncles)) in
         let one : pasted (pasted out 0 H) (0 + length H) R ≡ pasted out 0 (H ++ R) = pasted-append out 0 H R (omega arith) in
-        let hr : length (H ++ R) ≡ 49 + 32 * c = length-append H R ∙ omega arith in
+        let hr : length (H ++ R) ≡ headerSize + 32 * c = length-append H R ∙ omega arith in
         let two : pasted (pasted out 0 (H ++ R)) (0 + length (H ++ R)) U ≡ pasted out 0 (H ++ R ++ U) = pasted-append out 0 (H ++ R) U (omega arith) in
-        let p1 : 0 + length H ≡ 49 = omega arith in
-        let p2 : 0 + length (H ++ R) ≡ 49 + 32 * c = omega arith in
+        let p1 : 0 + length H ≡ headerSize = omega arith in
+        let p2 : 0 + length (H ++ R) ≡ headerSize + 32 * c = omega arith in
         let whole : H ++ R ++ U ≡ H ++ (R ++ U) = append-assoc H R U in
         let same : R ++ U ≡ allHashes s (placeIn s m) = rw (g, f) in
-        d ∙ ap (λ (t : List ℕ). pasted t (49 + 32 * c) U) (b ∙ ap (λ (t : List ℕ). pasted t 49 R) a ∙ ap (λ (k : ℕ). pasted (pasted out 0 H) k R) (sym p1) ∙ one)
+        d ∙ ap (λ (t : List ℕ). pasted t (headerSize + 32 * c) U) (b ∙ ap (λ (t : List ℕ). pasted t headerSize R) a ∙ ap (λ (k : ℕ). pasted (pasted out 0 H) k R) (sym p1) ∙ one)
         ∙ ap (λ (k : ℕ). pasted (pasted out 0 (H ++ R)) k U) (sym p2)
         ∙ two
         ∙ ap (pasted out 0) (whole ∙ ap (λ (t : List ℕ). H ++ t) same)
 
-    pub reply-sent : (r : Answer) → r ≡ done (49 + 32 * c + 32 * p .u)
+    pub reply-sent : (r : Answer) → r ≡ done (headerSize + 32 * c + 32 * p .u)
         → (r ≡ fitAnswer 0 (replyTo s m) out) × (out3 ≡ fitAfter (replyTo s m) out)
     reply-sent r q =
         let w = fits-sent 0 (replyTo s m) out (omega (arith, size-is)) in
         (q ∙ ap (λ (k : ℕ). record { number = 0; count = k }) size-is ∙ sym (w .0), written ∙ sym (w .1))
 
-module _ (m out : List ℕ) (number : ℕ) (e : length m ≡ 49) where
-  pub reject-short : (r : Answer) → length out < 49 → r ≡ refused noRoom → (r ≡ fitAnswer number (rejectTo m) out) × (out ≡ fitAfter (rejectTo m) out)
+module _ (m out : List ℕ) (number : ℕ) (e : length m ≡ headerSize) where
+  pub reject-short : (r : Answer) → length out < headerSize → r ≡ refused noRoom → (r ≡ fitAnswer number (rejectTo m) out) × (out ≡ fitAfter (rejectTo m) out)
   reject-short r l q =
       let w = fits-not number (rejectTo m) out (omega (arith, reject-length m e)) in
       (q ∙ sym (w .0), sym (w .1))
 
-  pub reject-sent : (out1 : List ℕ) → 49 ≤ length out → out1 ≡ pasted out 0 (23 ∷ cut m 1 48)
-      → (record { number = number; count = 49 } ≡ fitAnswer number (rejectTo m) out) × (out1 ≡ fitAfter (rejectTo m) out)
+  pub reject-sent : (out1 : List ℕ) → headerSize ≤ length out → out1 ≡ pasted out 0 (rejectId ∷ headerBytes m)
+      → (record { number = number; count = headerSize } ≡ fitAnswer number (rejectTo m) out) × (out1 ≡ fitAfter (rejectTo m) out)
   unfolding rejectTo
   reject-sent out1 l a =
       let w = fits-sent number (rejectTo m) out (omega (arith, reject-length m e)) in
@@ -174,7 +165,7 @@ module _ (s m out : List ℕ) (n : ℕ) (e : n ≡ requestNumber s m) where
   serve-passed z = request-passes s m (sym e ∙ z)
 
   module _ (a : n ≡ unusable → ⊥) (b : n ≡ noMessage → ⊥) where
-    pub serve-form : length m ≡ 49
+    pub serve-form : length m ≡ headerSize
     serve-form = answered-form s m (λ z. a (e ∙ z)) (λ z. b (e ∙ z))
 
     pub serve-reject : (r : Answer) (out1 : List ℕ) → (n ≡ 0 → ⊥) → (r ≡ fitAnswer n (rejectTo m) out) × (out1 ≡ fitAfter (rejectTo m) out)

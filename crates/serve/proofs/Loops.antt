@@ -15,8 +15,9 @@ use Rattle.octets.specs.Octets.{cut, pasted}
 use Rattle.octets.specs.OctetsLaws.{pasted-append}
 use Rattle.cells.specs.Cells.{Room, heldAt, hashAt}
 use Rattle.cells.specs.CellsLaws.{hash-length}
-use Rattle.runs.specs.Path.{sibling, ancestor}
-use Rattle.runs.specs.AncestorLaws.{ancestor-le, ancestor-suc}
+use Rattle.settling.specs.Path.{sibling, ancestor}
+use Rattle.settling.specs.AncestorLaws.{ancestor-le, ancestor-suc}
+use Rattle.header.specs.Header.{headerSize, headerBytes}
 use Rattle.serve.specs.Serve.{heldRun, runHashes, heldUncles, uncleHashes}
 use Rattle.serve.specs.ServeLaws.{uncle-near, run-hashes-more, uncle-hashes-more, run-hashes-length, uncle-hashes-length, held-run-at, held-uncle-at, held-uncles-all}
 
@@ -139,8 +140,8 @@ head-byte id m zero a = absurd (omega arith)
 head-byte id m (suc i) a = let e : 1 + i ≡ suc i = omega arith in sym (getD-drop 1 m i 0 ∙ ap (λ (k : ℕ). getD m k 0) e)
 
 -- the loop starts with the id in its place
-module _ (o m : List ℕ) (id : ℕ) (lo : 49 ≤ length o) (lm : 49 ≤ length m) where
-  head-size : 49 ≤ length (id ∷ drop 1 m)
+module _ (o m : List ℕ) (id : ℕ) (lo : headerSize ≤ length o) (lm : headerSize ≤ length m) where
+  head-size : headerSize ≤ length (id ∷ drop 1 m)
   head-size = omega (arith, length-drop 1 m)
 
   first-length : length (set o 0 id) ≡ length o
@@ -153,21 +154,21 @@ module _ (o m : List ℕ) (id : ℕ) (lo : 49 ≤ length o) (lm : 49 ≤ length 
       ∙ paste-suc (set o 0 id) 0 (id ∷ drop 1 m) 0 0 (omega (arith, first-length)) (omega (arith, head-size))
 
   module _ (i : ℕ) (out : List ℕ) (e : out ≡ paste (set o 0 id) 0 (id ∷ drop 1 m) i) where
-    pub head-more : 1 ≤ i → i < 49 → set out i (getD m i 0) ≡ paste (set o 0 id) 0 (id ∷ drop 1 m) (i + 1)
+    pub head-more : 1 ≤ i → i < headerSize → set out i (getD m i 0) ≡ paste (set o 0 id) 0 (id ∷ drop 1 m) (i + 1)
     head-more a b =
         ap₂ (λ (l : List ℕ) (v : ℕ). set l i v) e (head-byte id m i a)
         ∙ ap (λ (k : ℕ). set (paste (set o 0 id) 0 (id ∷ drop 1 m) i) k (getD (id ∷ drop 1 m) i 0)) (sym (zero-add i))
         ∙ paste-suc (set o 0 id) 0 (id ∷ drop 1 m) i 0 (omega (arith, first-length)) (omega (arith, head-size))
         ∙ ap (paste (set o 0 id) 0 (id ∷ drop 1 m)) (sym (add-one i))
 
-    pub head-length : i ≤ 49 → length out ≡ length o
+    pub head-length : i ≤ headerSize → length out ≡ length o
     head-length a = ap length e ∙ length-paste (set o 0 id) 0 (id ∷ drop 1 m) i (omega (arith, first-length)) (omega (arith, head-size)) ∙ first-length
 
-    pub head-done : i ≤ 49 → 49 ≤ i → out ≡ pasted o 0 (id ∷ cut m 1 48)
+    pub head-done : i ≤ headerSize → headerSize ≤ i → out ≡ pasted o 0 (id ∷ headerBytes m)
     unfolding pasted cut
     head-done a b =
-        let k : i ≡ 49 = omega arith in
-        let z : length (id ∷ take 48 (drop 1 m)) ≡ 49 = ap suc (length-take-le 48 (drop 1 m) (omega (arith, length-drop 1 m))) in
+        let k : i ≡ headerSize = omega arith in
+        let z : length (id ∷ take 48 (drop 1 m)) ≡ headerSize = ap suc (length-take-le 48 (drop 1 m) (omega (arith, length-drop 1 m))) in
         e ∙ ap (paste (set o 0 id) 0 (id ∷ drop 1 m)) k
-        ∙ ap (λ (l : List ℕ). (id ∷ take 48 (drop 1 m)) ++ l) (drop-set-lt 49 o 0 id (omega arith))
+        ∙ ap (λ (l : List ℕ). (id ∷ take 48 (drop 1 m)) ++ l) (drop-set-lt headerSize o 0 id (omega arith))
         ∙ ap (λ (j : ℕ). (id ∷ take 48 (drop 1 m)) ++ drop (0 + j) o) (sym z)

@@ -5,13 +5,13 @@ use mathlib.Core.Bool.{Bool, true, cond, _&&_, _||_}
 use Prim.Native.Nat.{ℕ, zero, suc, _+_, _*_, _/_, _^_}
 use lib.ListN.{length}
 use lib.Dec.{eqb, leb}
-use Rattle.octets.specs.Octets.{cut, pasted}
+use Rattle.octets.specs.Octets.{pasted}
 use Rattle.numbers.specs.Numbers.{refused, noMessage, unusable, noRoom, notHeld}
 use Rattle.numbers.specs.declared.Answer.{Answer}
 use Rattle.cells.specs.Cells.{heldAt, hashAt}
-use Rattle.runs.specs.Path.{sibling}
+use Rattle.settling.specs.Path.{sibling}
 use Rattle.header.specs.declared.Place.{Place}
-use Rattle.header.specs.Header.{isRequest}
+use Rattle.header.specs.Header.{hashesId, rejectId, headerBytes, isRequest}
 use Rattle.messages.specs.Take.{headerNumber, placeIn, orElse}
 
 -- the c positions from number n on, side by side in their layer: whether all are held, and their hashes one after the other
@@ -39,12 +39,12 @@ allHeld s p = heldRun s (p .top * 2 ^ p .k) (2 ^ p .k) && heldUncles s (p .u) (p
 unfoldable pub allHashes : List ℕ → Place → List ℕ
 allHashes s p = runHashes s (p .top * 2 ^ p .k) (2 ^ p .k) ++ uncleHashes s (p .u) (p .top)
 
--- a reply and a reject repeat the request's 48 bytes
+-- a reply and a reject repeat the request's 48 bytes behind the id
 unfoldable pub replyTo : List ℕ → List ℕ → List ℕ
-replyTo s m = 22 ∷ (cut m 1 48 ++ allHashes s (placeIn s m))
+replyTo s m = hashesId ∷ (headerBytes m ++ allHashes s (placeIn s m))
 
 unfoldable pub rejectTo : List ℕ → List ℕ
-rejectTo m = 23 ∷ cut m 1 48
+rejectTo m = rejectId ∷ headerBytes m
 
 unfoldable pub requestNumber : List ℕ → List ℕ → ℕ
 requestNumber s m = orElse (headerNumber (isRequest m) s m) (cond (allHeld s (placeIn s m)) 0 notHeld)

@@ -22,24 +22,20 @@ use Rattle.cells.specs.Cells.{Room, heldAt, hashAt}
 use Rattle.cells.specs.CellsLaws.{hash-length}
 use Rattle.store.specs.Store.{usable, factsRoot, blocksOf, heightOf, positions}
 use Rattle.store.specs.StoreLaws.{usable-facts}
-use Rattle.runs.specs.Path.{sibling, ancestor, uncle}
-use Rattle.runs.specs.PathLaws.{sibling-even, sibling-odd, sibling-parent}
-use Rattle.runs.specs.AncestorLaws.{ancestor-le, ancestor-add, ancestor-parent}
-use Rattle.runs.specs.Span.{Within}
-use Rattle.runs.specs.SubtreeLaws.{run-leaf-in}
+use Rattle.settling.specs.Path.{sibling, ancestor, uncle}
+use Rattle.settling.specs.PathLaws.{sibling-even, sibling-odd, sibling-parent}
+use Rattle.settling.specs.AncestorLaws.{ancestor-le, ancestor-add, ancestor-parent}
+use Rattle.settling.specs.Span.{Within}
+use Rattle.settling.specs.SubtreeLaws.{run-leaf-in}
 use Rattle.header.specs.declared.Place.{Place}
-use Rattle.header.specs.Header.{messageRoot, headerOf, isHashes, isRequest, isReject, rulesKept, messageSize}
+use Rattle.header.specs.Header.{headerSize, headerBytes, hashesId, rejectId, messageRoot, headerOf, isHashes, isRequest, isReject, rulesKept, messageSize}
 use Rattle.messages.specs.Take.{headerNumber, runOf, unclesOf, given, placeIn, orElse}
-use Rattle.messages.specs.TakeLaws.{passed, Placed, placed, request-form}
+use Rattle.messages.specs.Asks.{Placed}
+use Rattle.messages.specs.TakeLaws.{passed, placed, request-form}
+use Rattle.serve.specs.Asks.{Reach, fitAnswer, fitAfter}
 use Rattle.serve.specs.Serve.{heldRun, runHashes, heldUncles, uncleHashes, allHeld, allHashes, replyTo, rejectTo, requestNumber, sentBack, unanswered, serveAnswer, serveAfter}
 
 -- ---- the positions of a place
-
--- a store of ls bytes has the cells of the place's run and of its uncles, and both are few
-pub record Reach (ls : ℕ) (p : Place) : Type 0 where
-  pub run : 31 + 33 * (p .top * 2 ^ p .k + 2 ^ p .k) ≤ ls
-  pub uncles : 31 + 33 * (p .top + 2) ≤ ls
-  pub few : p .k + p .u ≤ 16
 
 -- what stands beside a position is at most one further
 pub sibling-near : (n : ℕ) → sibling n < n + 2
@@ -117,13 +113,6 @@ held-uncles-all s (suc u) n f = rw (f 0 (omega arith), held-uncles-all s u (n / 
 
 -- ---- what is sent back, by the room there is
 
--- the answer with a number and its message, or 11
-unfoldable pub fitAnswer : ℕ → List ℕ → List ℕ → Answer
-fitAnswer number sent out = cond (leb (length sent) (length out)) (record { number = number; count = length sent }) (refused noRoom)
-
-unfoldable pub fitAfter : List ℕ → List ℕ → List ℕ
-fitAfter sent out = cond (leb (length sent) (length out)) (pasted out 0 sent) out
-
 -- a message that fits is sent
 pub fits-sent : (number : ℕ) (sent out : List ℕ) → length sent ≤ length out
     → (fitAnswer number sent out ≡ record { number = number; count = length sent }) × (fitAfter sent out ≡ pasted out 0 sent)
@@ -176,19 +165,19 @@ no-form s m e = rw e (by (usable s))
     by true = inr refl
     by false = inl refl
 
--- so what is answered has 49 bytes
-pub answered-form : (s m : List ℕ) → (requestNumber s m ≡ unusable → ⊥) → (requestNumber s m ≡ noMessage → ⊥) → length m ≡ 49
+-- so what is answered has a header's bytes
+pub answered-form : (s m : List ℕ) → (requestNumber s m ≡ unusable → ⊥) → (requestNumber s m ≡ noMessage → ⊥) → length m ≡ headerSize
 answered-form s m a b = by (isRequest m) refl
   where
-    by : (t : Bool) → isRequest m ≡ t → length m ≡ 49
+    by : (t : Bool) → isRequest m ≡ t → length m ≡ headerSize
     by true e = request-form m e
     by false e = elim (no-form s m e) [ inl x ↦ absurd (a x) | inr x ↦ absurd (b x) ]
 
 -- ---- a request that passes 9, 1, 2 and 3
 
 module _ (s m : List ℕ) (e : headerNumber (isRequest m) s m ≡ 0) where
-  -- it has 49 bytes
-  pub request-size : length m ≡ 49
+  -- it has a header's bytes
+  pub request-size : length m ≡ headerSize
   request-size = request-form m (passed (isRequest m) s m e .formed)
 
   -- its place lies in the tree
@@ -220,7 +209,7 @@ module _ (s m : List ℕ) (e : headerNumber (isRequest m) s m ≡ 0) where
       record { run = omega (arith, f .room, run-inside); uncles = omega (arith, f .room, uncles-inside); few = omega (arith, request-placed .layers) }
 
   -- the reply's size
-  pub reply-length : length (replyTo s m) ≡ 49 + 32 * 2 ^ placeIn s m .k + 32 * placeIn s m .u
+  pub reply-length : length (replyTo s m) ≡ headerSize + 32 * 2 ^ placeIn s m .k + 32 * placeIn s m .u
   unfolding replyTo
   reply-length =
       simp length-append (omega (arith, cut-length m 1 48 (omega (arith, request-size)), all-hashes-length s (placeIn s m) request-reach))
@@ -229,8 +218,8 @@ module _ (s m : List ℕ) (e : headerNumber (isRequest m) s m ≡ 0) where
   pub reply-size : length (replyTo s m) ≡ messageSize (headerOf m)
   reply-size = omega (arith, reply-length, request-placed .size, request-placed .power)
 
--- a reject has 49 bytes
-pub reject-length : (m : List ℕ) → length m ≡ 49 → length (rejectTo m) ≡ 49
+-- a reject has a header's bytes
+pub reject-length : (m : List ℕ) → length m ≡ headerSize → length (rejectTo m) ≡ headerSize
 unfolding rejectTo
 reject-length m e = ap suc (cut-length m 1 48 (omega arith))
 
@@ -308,7 +297,7 @@ uncle-hash-at s (suc u) n r (suc i) l =
     ∙ uncle-hash-at s u (n / 2) (omega arith) i (omega arith)
 
 -- two messages with the same 48 bytes after the id name the same root and have the same header
-pub head-same : (a b : List ℕ) → cut a 1 48 ≡ cut b 1 48 → (messageRoot a ≡ messageRoot b) × (headerOf a ≡ headerOf b)
+pub head-same : (a b : List ℕ) → headerBytes a ≡ headerBytes b → (messageRoot a ≡ messageRoot b) × (headerOf a ≡ headerOf b)
 unfolding messageRoot headerOf
 head-same a b e = (
   sym (cut-cut a 1 48 0 32 (omega arith)) ∙ ap (λ (l : List ℕ). cut l 0 32) e ∙ cut-cut b 1 48 0 32 (omega arith),
@@ -319,23 +308,23 @@ head-same a b e = (
     number at l = sym (number-cut a 1 48 at 4 l) ∙ ap (λ (l : List ℕ). numberAt l at 4) e ∙ number-cut b 1 48 at 4 l
 
 -- a reject repeats the request's,
-pub reject-head : (m : List ℕ) → length m ≡ 49 → cut (rejectTo m) 1 48 ≡ cut m 1 48
+pub reject-head : (m : List ℕ) → length m ≡ headerSize → cut (rejectTo m) 1 48 ≡ headerBytes m
 unfolding rejectTo cut
-reject-head m e = cut-whole (cut m 1 48) 48 (omega (arith, cut-length m 1 48 (omega arith)))
+reject-head m e = cut-whole (headerBytes m) 48 (omega (arith, cut-length m 1 48 (omega arith)))
 
 -- and is one
-pub reject-form-sent : (m : List ℕ) → length m ≡ 49 → isReject (rejectTo m) ≡ true
+pub reject-form-sent : (m : List ℕ) → length m ≡ headerSize → isReject (rejectTo m) ≡ true
 unfolding isReject rejectTo
-reject-form-sent m e = rw (eq-eqb (length (rejectTo m)) 49 (reject-length m e))
+reject-form-sent m e = rw (eq-eqb (length (rejectTo m)) headerSize (reject-length m e))
 
 module _ (s m : List ℕ) (e : headerNumber (isRequest m) s m ≡ 0) where
-  request-head : length (cut m 1 48) ≡ 48
+  request-head : length (headerBytes m) ≡ 48
   request-head = cut-length m 1 48 (omega (arith, request-size s m e))
 
   -- a reply repeats the request's 48 bytes
-  pub reply-head : cut (replyTo s m) 1 48 ≡ cut m 1 48
+  pub reply-head : cut (replyTo s m) 1 48 ≡ headerBytes m
   unfolding replyTo cut
-  reply-head = cut-append-left (cut m 1 48) (allHashes s (placeIn s m)) 0 48 (omega (arith, request-head)) ∙ cut-whole (cut m 1 48) 48 (omega (arith, request-head))
+  reply-head = cut-append-left (headerBytes m) (allHashes s (placeIn s m)) 0 48 (omega (arith, request-head)) ∙ cut-whole (headerBytes m) 48 (omega (arith, request-head))
 
   -- so it names the same root
   pub reply-root : messageRoot (replyTo s m) ≡ messageRoot m
@@ -352,14 +341,14 @@ module _ (s m : List ℕ) (e : headerNumber (isRequest m) s m ≡ 0) where
   -- and is a hashes message
   pub reply-form : isHashes (replyTo s m) ≡ true
   unfolding isHashes replyTo
-  reply-form = rw (le-leb 49 (length (replyTo s m)) (omega (arith, reply-length s m e)))
+  reply-form = rw (le-leb headerSize (length (replyTo s m)) (omega (arith, reply-length s m e)))
 
   -- what stands behind the head
-  reply-past : (at n : ℕ) → cut (replyTo s m) (49 + at) n ≡ cut (allHashes s (placeIn s m)) at n
+  reply-past : (at n : ℕ) → cut (replyTo s m) (headerSize + at) n ≡ cut (allHashes s (placeIn s m)) at n
   unfolding replyTo
   reply-past at n =
-      let H : List ℕ = 22 ∷ cut m 1 48 in
-      let l : 49 + at ≡ length H + at = omega (arith, request-head) in
+      let H : List ℕ = hashesId ∷ headerBytes m in
+      let l : headerSize + at ≡ length H + at = omega (arith, request-head) in
       ap (λ (k : ℕ). cut (H ++ allHashes s (placeIn s m)) k n) l ∙ cut-append-add H (allHashes s (placeIn s m)) at n
 
   -- is the run
@@ -395,11 +384,11 @@ module _ (s m : List ℕ) (e : headerNumber (isRequest m) s m ≡ 0) where
       (run-leaf-in (runHashes s n (2 ^ p .k)) zeroHash j (omega arith) ∙ run-hash-at s n (2 ^ p .k) (request-reach s m e .run) j l)
 
   -- at byte 49 + 32·j,
-  pub reply-hash : (j : ℕ) → j < 2 ^ placeIn s m .k → cut (replyTo s m) (49 + 32 * j) 32 ≡ hashAt s (placeIn s m .top * 2 ^ placeIn s m .k + j)
+  pub reply-hash : (j : ℕ) → j < 2 ^ placeIn s m .k → cut (replyTo s m) (headerSize + 32 * j) 32 ≡ hashAt s (placeIn s m .top * 2 ^ placeIn s m .k + j)
   unfolding runOf
   reply-hash j l =
       let p = placeIn s m in
-      sym (cut-cut (replyTo s m) 49 (32 * 2 ^ p .k) (32 * j) 32 (omega arith))
+      sym (cut-cut (replyTo s m) headerSize (32 * 2 ^ p .k) (32 * j) 32 (omega arith))
       ∙ ap (λ (x : List ℕ). cut x (32 * j) 32) reply-run
       ∙ run-hash-at s (p .top * 2 ^ p .k) (2 ^ p .k) (request-reach s m e .run) j l
 

@@ -3,26 +3,29 @@ ghost use mathlib.Core.Path.{_≡_};
 ghost use mathlib.Core.List.{_∷_};
 ghost use Prim.Native.Nat.{_+_, _*_, _^_, _≤_};
 ghost use lib.ListN.{length};
-ghost use Rattle.octets.specs.Octets.{cut, pasted};
+ghost use Rattle.limits.specs.Limits.{tallestTree};
+ghost use Rattle.octets.specs.Octets.{pasted};
 ghost use Rattle.cells.specs.Cells.{Room};
-ghost use Rattle.header.specs.Header.{isRequest};
+ghost use Rattle.header.specs.Header.{headerSize, headerBytes, isRequest};
 ghost use Rattle.messages.specs.Take.{headerNumber, placeIn};
 ghost use Rattle.serve.specs.Serve as S;
-ghost use Rattle.serve.specs.ServeLaws.{Reach, fitAnswer, fitAfter};
+ghost use Rattle.serve.specs.Asks.{Reach, fitAnswer, fitAfter};
 use cells::hash_of;
 use cells::held;
+use header::HASHES;
+use header::HEADER_SIZE;
 use header::Place;
+use header::REJECT;
 use header::header_of;
 use header::is_request;
-use header::place_of;
-use messages::take::header_number;
+use messages::take::first_number;
+use messages::take::place_in;
+use messages::take::rules_in;
 use numbers::Answer;
 use numbers::refusal;
 use numbers::success;
 use octets::put_hash;
-use runs::beside;
-use store::blocks_of;
-use store::height_of;
+use settling::beside;
 
 // Whether the c positions from number n on are all held.
 fn held_run(s: &[u8], n: usize, c: usize) -> bool
@@ -61,8 +64,8 @@ fn held_uncles(s: &[u8], u: usize, n: usize) -> bool
 
 // The hashes below a position k layers down.
 fn run_count(k: usize) -> usize
-    requires { ⌜ k ≤ 16 ⌝ }
-    ensures { λ r. ⌜ (r ≡ 2 ^ k) × (r ≤ 65536) ⌝ }
+    requires { ⌜ k ≤ tallestTree ⌝ }
+    ensures { λ r. ⌜ (r ≡ 2 ^ k) × (r ≤ 2 ^ tallestTree) ⌝ }
 {
     1 << k
 }
@@ -84,42 +87,14 @@ fn all_held(s: &[u8], p: Place) -> bool
     false
 }
 
-// The place that a request names which passed 9, 1, 2 and 3.
-fn place_in(s: &[u8], m: &[u8]) -> Place
-    requires { ⌜ headerNumber (isRequest (now m)) (now s) (now m) ≡ 0 ⌝ }
-    ensures { λ r. ⌜ (r ≡ placeIn (now (s .entry)) (now (m .entry))) × Reach (length (now (s .entry))) r ⌝ }
-{
-    let x = header_of(m);
-    let b = blocks_of(s);
-    let h = height_of(s);
-    place_of(x, b, h)
-}
-
-// What a request gets, room apart: 9, 1, 2, 3, 12 or 0.
-fn request_number(s: &[u8], m: &[u8]) -> u32
-    ensures { λ r. ⌜ r ≡ S.requestNumber (now (s .entry)) (now (m .entry)) ⌝ }
-{
-    let form = is_request(m);
-    let number = header_number(s, m, form);
-    if number != numbers::DONE {
-        return number;
-    }
-    let p = place_in(s, m);
-    let there = all_held(s, p);
-    if there {
-        return numbers::DONE;
-    }
-    numbers::NOT_HELD
-}
-
 // Writes the 49 bytes before the hashes: an id, then the request's own 48.
 fn write_head(out: &mut [u8], m: &[u8], id: u8)
-    requires { ⌜ (49 ≤ length (now out)) × (49 ≤ length (now m)) ⌝ }
-    ensures { λ _. ⌜ now (out .exit) ≡ pasted (now (out .entry)) 0 (id ∷ cut (now (m .entry)) 1 48) ⌝ }
+    requires { ⌜ (headerSize ≤ length (now out)) × (headerSize ≤ length (now m)) ⌝ }
+    ensures { λ _. ⌜ now (out .exit) ≡ pasted (now (out .entry)) 0 (id ∷ headerBytes (now (m .entry))) ⌝ }
 {
     out[0] = id;
     let mut i = 1;
-    while i < 49 {
+    while i < HEADER_SIZE {
         out[i] = m[i];
         i += 1;
     }
@@ -155,52 +130,63 @@ fn copy_uncles(s: &[u8], out: &mut [u8], at: usize, u: usize, n: usize)
 }
 
 // Sends the hashes message, or gives 11 where the output is too short for it.
-fn send_reply(s: &[u8], m: &[u8], out: &mut [u8]) -> Answer
-    requires { ⌜ headerNumber (isRequest (now m)) (now s) (now m) ≡ 0 ⌝ }
+fn send_reply(s: &[u8], m: &[u8], p: Place, out: &mut [u8]) -> Answer
+    requires { ⌜ (headerNumber (isRequest (now m)) (now s) (now m) ≡ 0) × (p ≡ placeIn (now s) (now m)) ⌝ }
     ensures { λ r. ⌜ (r ≡ fitAnswer 0 (S.replyTo (now (s .entry)) (now (m .entry))) (now (out .entry))) × (now (out .exit) ≡ fitAfter (S.replyTo (now (s .entry)) (now (m .entry))) (now (out .entry))) ⌝ }
 {
-    let p = place_in(s, m);
     let k = p.k;
     let u = p.u;
     let top = p.top;
     let c = run_count(k);
     let n = top * c;
-    let past = 49 + 32 * c;
+    let past = HEADER_SIZE + 32 * c;
     let size = past + 32 * u;
     if out.len() < size {
         return refusal(numbers::NO_ROOM);
     }
-    write_head(out, m, 22);
-    copy_run(s, out, 49, n, c);
+    write_head(out, m, HASHES);
+    copy_run(s, out, HEADER_SIZE, n, c);
     copy_uncles(s, out, past, u, top);
     success(size as u64)
 }
 
 // Sends the reject with that number, or gives 11 where the output is too short for it.
 fn send_reject(m: &[u8], out: &mut [u8], number: u32) -> Answer
-    requires { ⌜ length (now m) ≡ 49 ⌝ }
+    requires { ⌜ length (now m) ≡ headerSize ⌝ }
     ensures { λ r. ⌜ (r ≡ fitAnswer number (S.rejectTo (now (m .entry))) (now (out .entry))) × (now (out .exit) ≡ fitAfter (S.rejectTo (now (m .entry))) (now (out .entry))) ⌝ }
 {
-    if out.len() < 49 {
+    if out.len() < HEADER_SIZE {
         return refusal(numbers::NO_ROOM);
     }
-    write_head(out, m, 23);
-    Answer { number, count: 49 }
+    write_head(out, m, REJECT);
+    let count = HEADER_SIZE as u64;
+    Answer { number, count }
 }
 
 // Serves a request: the number, and how many bytes of `out` are the message to send back.
 pub fn serve(s: &[u8], m: &[u8], out: &mut [u8]) -> Answer
     ensures { λ r. ⌜ (r ≡ S.serveAnswer (now (s .entry)) (now (m .entry)) (now (out .entry))) × (now (out .exit) ≡ S.serveAfter (now (s .entry)) (now (m .entry)) (now (out .entry))) ⌝ }
 {
-    let number = request_number(s, m);
-    if number == numbers::UNUSABLE {
+    let form = is_request(m);
+    let first = first_number(s, m, form);
+    if first == numbers::UNUSABLE {
         return refusal(numbers::UNUSABLE);
     }
-    if number == numbers::NO_MESSAGE {
+    if first == numbers::NO_MESSAGE {
         return refusal(numbers::NO_MESSAGE);
     }
-    if number == numbers::DONE {
-        return send_reply(s, m, out);
+    if first != numbers::DONE {
+        return send_reject(m, out, first);
     }
-    send_reject(m, out, number)
+    let x = header_of(m);
+    let kept = rules_in(s, x);
+    if !kept {
+        return send_reject(m, out, numbers::RULE_BROKEN);
+    }
+    let p = place_in(s, x);
+    let there = all_held(s, p);
+    if !there {
+        return send_reject(m, out, numbers::NOT_HELD);
+    }
+    send_reply(s, m, p, out)
 }

@@ -16,18 +16,19 @@ use Rattle.sha256.specs.declared.Hashed.{Hashed}
 use Rattle.tree.specs.Geometry.{blockCount, height, nodeNumber}
 use Rattle.tree.specs.GeometryLaws.{shifted-one}
 use Rattle.cells.specs.Cells.{Room, heldAt, hashAt, put}
-use Rattle.store.specs.Store.{maxLength, fileLength, pieceLength, heightOf, positions, factsInRange, storeSize, usable, opened, openAnswer, openAfter, inTree, noHash, heldAnswer}
-use Rattle.store.specs.StoreLaws.{Facts, usable-facts, facts-cell, height-most, held-given, held-not, held-outside, open-done, open-short, positions-most, positions-some, tree-number, usable-not, usable-room}
+use Rattle.limits.specs.Limits.{longestFile, tallestTree}
+use Rattle.store.specs.Store.{fileLength, pieceLength, heightOf, positions, factsInRange, storeSize, usable, opened, openAnswer, openAfter, inTree, noHash, heldAnswer, Facts}
+use Rattle.store.specs.StoreLaws.{usable-facts, facts-cell, height-most, held-given, held-not, held-outside, open-done, open-short, positions-most, positions-some, tree-number, usable-not, usable-room}
 
 -- ---- the size
 
--- 2 shifted by a height
+-- 2 shifted by a height, as the machine does it
 pub shifted-two : (h : ℕ) → h ≤ 62 → (2 * 2 ^ h) % 18446744073709551616 ≡ 2 * 2 ^ h
 shifted-two h l = shl-exact {a = 2} 2 h 64 (omega arith) (omega arith)
 
-module _ (n b h : ℕ) (most : n ≤ maxLength) (blocks : b ≡ blockCount n) (layers : h ≡ height b) where
+module _ (n b h : ℕ) (most : n ≤ longestFile) (blocks : b ≡ blockCount n) (layers : h ≡ height b) where
   -- the height is small,
-  pub size-height : h ≤ 16
+  pub size-height : h ≤ tallestTree
   size-height = let e : height b ≡ height (blockCount n) = ap height blocks in omega (arith, height-most n most)
 
   -- so the shift loses nothing,
@@ -36,7 +37,7 @@ module _ (n b h : ℕ) (most : n ≤ maxLength) (blocks : b ≡ blockCount n) (l
   size-positions = shifted-two h (omega (arith, size-height))
 
   -- and what it gives is small
-  pub size-small : (positions h ≤ 131072) × (2 ≤ positions h)
+  pub size-small : (positions h ≤ 2 * 2 ^ tallestTree) × (2 ≤ positions h)
   size-small = (positions-most h size-height, positions-some h)
 
   -- and gives the size

@@ -1,8 +1,9 @@
 -- 01, "The store", and docs/LAYOUT.md: the facts, whether a buffer is a store, its size, opening one, asking for a held hash.
 -- Assumes nothing.
 use mathlib.Core.List.{List, _++_}
-use mathlib.Core.Bool.{Bool, cond, _&&_}
-use Prim.Native.Nat.{ℕ, _+_, _-_, _*_, _^_}
+use mathlib.Core.Bool.{Bool, true, cond, _&&_}
+use mathlib.Core.Path.{_≡_}
+use Prim.Native.Nat.{ℕ, _+_, _-_, _*_, _^_, _≤_}
 use lib.ListN.{length}
 use lib.Dec.{leb, ltb}
 use Rattle.octets.specs.Octets.{cut, pasted, be, numberAt, zeroed, zeroHash}
@@ -10,11 +11,8 @@ use Rattle.numbers.specs.Numbers.{refused, done, ruleBroken, noAnchor, unusable
 use Rattle.numbers.specs.declared.Answer.{Answer}
 use Rattle.sha256.specs.declared.Hashed.{Hashed}
 use Rattle.tree.specs.Geometry.{blockCount, height, nodeNumber, isPieceLength}
-use Rattle.cells.specs.Cells.{heldAt, hashAt, put}
-
--- the longest file: 2^30 bytes
-abbrev pub maxLength : ℕ
-maxLength = 1073741824
+use Rattle.cells.specs.Cells.{Room, heldAt, hashAt, put}
+use Rattle.limits.specs.Limits.{longestFile}
 
 -- the facts, in the first 64 bytes: the file's length N, the piece length, the pieces root; 20 bytes are spare
 unfoldable pub fileLength : List ℕ → ℕ
@@ -33,12 +31,12 @@ blocksOf s = blockCount (fileLength s)
 unfoldable pub heightOf : List ℕ → ℕ
 heightOf s = height (blocksOf s)
 
--- the positions of a tree of height h have the numbers from 1 up to this, which is none
+-- a tree of height h has 2·2^h - 1 positions; their numbers go from 1 to that, so they are below this
 unfoldable pub positions : ℕ → ℕ
 positions h = 2 * 2 ^ h
 
 unfoldable pub factsInRange : ℕ → ℕ → Bool
-factsInRange n plen = leb 1 n && leb n maxLength && isPieceLength plen
+factsInRange n plen = leb 1 n && leb n longestFile && isPieceLength plen
 
 -- the bytes that a store for a file of n bytes uses
 unfoldable pub storeSize : ℕ → ℕ
@@ -47,6 +45,27 @@ storeSize n = 33 * (positions (height (blockCount n)) - 1) + 64
 -- a buffer names such facts and has that room; nothing else makes it unusable
 unfoldable pub usable : List ℕ → Bool
 usable s = leb 64 (length s) && factsInRange (fileLength s) (pieceLength s) && leb (storeSize (fileLength s)) (length s)
+
+-- what a usable store is sure of: facts in range, the store's size, and in it a cell for every position
+pub record Facts (s : List ℕ) : Type 0 where
+  pub long : 64 ≤ length s
+  pub some : 1 ≤ fileLength s
+  pub most : fileLength s ≤ longestFile
+  pub piece : isPieceLength (pieceLength s) ≡ true
+  pub size : storeSize (fileLength s) ≤ length s
+  pub room : Room (positions (heightOf s)) s
+
+-- the bytes that hold the facts
+abbrev pub factBytes : List ℕ → List ℕ
+factBytes s = cut s 0 64
+
+-- t names the facts that s names
+pub record SameFacts (s t : List ℕ) : Type 0 where
+  pub file : fileLength t ≡ fileLength s
+  pub piece : pieceLength t ≡ pieceLength s
+  pub root : factsRoot t ≡ factsRoot s
+  pub blocks : blocksOf t ≡ blocksOf s
+  pub layers : heightOf t ≡ heightOf s
 
 -- ---- the size that a host has to lend
 

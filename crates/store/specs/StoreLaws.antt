@@ -17,12 +17,13 @@ use Rattle.octets.specs.Octets.{cut, pasted, be, numberAt, zeroed}
 use Rattle.octets.specs.OctetsLaws.{be-octets, cut-append-right, cut-cut, cut-pasted-other, cut-pasted-same, cut-size, getD-cut, getD-pasted-in, getD-pasted-after, number-cut, number-of-be, number-same, pasted-length, zeroed-at, zeroed-length, zeroed-past}
 use Rattle.numbers.specs.Numbers.{refused, done, ruleBroken, noAnchor, unusable, factsOutOfRange}
 use Rattle.tree.specs.Geometry.{blockLength, blockCount, height, nodeNumber, pieceLayer, isPieceLength}
-use Rattle.tree.specs.GeometryLaws.{block-count-some, block-outside, height-enough, node-number-range, short-file-height}
+use Rattle.tree.specs.GeometryLaws.{block-count-some, block-outside, height-enough, height-grows, node-number-range, short-file-height}
 use Rattle.cells.specs.Cells.{Room, heldAt, hashAt, put}
 use Rattle.cells.specs.CellsLaws.{put-length, put-room, put-outside, held-put-same, held-put-other, hash-put-same, unheld}
 use Rattle.cells.specs.Entries.{Entry, one, putAll, oneIf, newly}
-use Rattle.cells.specs.EntriesLaws.{Sound, none, more, In, here, there, count-fresh, fresh-one, lacks-free, put-one, putAll-length}
-use Rattle.store.specs.Store.{maxLength, fileLength, pieceLength, factsRoot, blocksOf, heightOf, positions, factsInRange, storeSize, usable, sizeAnswer, opened, openAnswer, openAfter, inTree, noHash, heldAnswer}
+use Rattle.cells.specs.EntriesLaws.{Sound, none, more, FromRoot, empty, next, count-fresh, fresh-one, lacks-free, put-one, putAll-length}
+use Rattle.limits.specs.Limits.{longestFile, tallestTree}
+use Rattle.store.specs.Store.{fileLength, pieceLength, factsRoot, blocksOf, heightOf, positions, factsInRange, storeSize, usable, sizeAnswer, opened, openAnswer, openAfter, inTree, noHash, heldAnswer, Facts, SameFacts, factBytes}
 
 -- ---- facts in range, and the size they fix
 
@@ -32,36 +33,36 @@ module _ (n plen : ℕ) where
   unfolding factsInRange
   range-none a = sym (simp (lt-leb 1 n a))
 
-  -- so is more than 2^30
-  pub range-long : 1 ≤ n → maxLength < n → false ≡ factsInRange n plen
+  -- so is more than the longest file
+  pub range-long : 1 ≤ n → longestFile < n → false ≡ factsInRange n plen
   unfolding factsInRange
-  range-long a b = sym (simp (le-leb 1 n a, lt-leb n maxLength b))
+  range-long a b = sym (simp (le-leb 1 n a, lt-leb n longestFile b))
 
   -- otherwise the piece length decides
-  pub range-piece : 1 ≤ n → n ≤ maxLength → isPieceLength plen ≡ factsInRange n plen
+  pub range-piece : 1 ≤ n → n ≤ longestFile → isPieceLength plen ≡ factsInRange n plen
   unfolding factsInRange
-  range-piece a b = sym (simp (le-leb 1 n a, le-leb n maxLength b))
+  range-piece a b = sym (simp (le-leb 1 n a, le-leb n longestFile b))
 
   -- what facts in range say
-  pub range-says : factsInRange n plen ≡ true → (1 ≤ n) × (n ≤ maxLength) × (isPieceLength plen ≡ true)
+  pub range-says : factsInRange n plen ≡ true → (1 ≤ n) × (n ≤ longestFile) × (isPieceLength plen ≡ true)
   unfolding factsInRange
   range-says t =
-      let a = and-eq-true-iff (leb 1 n && leb n maxLength) (isPieceLength plen) .0 t in
-      let b = and-eq-true-iff (leb 1 n) (leb n maxLength) .0 (a .0) in
-      (leb-true 1 n (b .0), leb-true n maxLength (b .1), a .1)
+      let a = and-eq-true-iff (leb 1 n && leb n longestFile) (isPieceLength plen) .0 t in
+      let b = and-eq-true-iff (leb 1 n) (leb n longestFile) .0 (a .0) in
+      (leb-true 1 n (b .0), leb-true n longestFile (b .1), a .1)
 
 -- a piece length is at most 16 MiB
 pub piece-length-most : (plen : ℕ) → isPieceLength plen ≡ true → plen ≤ 16777216
 unfolding isPieceLength
 piece-length-most plen t = leb-true plen 16777216 (and-eq-true-iff (eqb (blockLength * 2 ^ pieceLayer plen) plen) (leb plen 16777216) .0 t .1)
 
--- a file in range has at most 2^16 blocks
-pub blocks-most : (n : ℕ) → n ≤ maxLength → blockCount n ≤ 65536
-blocks-most n l = block-outside n 65536 l
+-- the longest file fills the tallest tree, so a file in range has at most as many blocks as that has leaves
+pub blocks-most : (n : ℕ) → n ≤ longestFile → blockCount n ≤ 2 ^ tallestTree
+blocks-most n l = block-outside n (2 ^ tallestTree) (omega arith)
 
--- and a tree of at most 16 layers above its leaves
-pub height-most : (n : ℕ) → n ≤ maxLength → height (blockCount n) ≤ 16
-height-most n l = short-file-height n 16 l
+-- and no taller a tree
+pub height-most : (n : ℕ) → n ≤ longestFile → height (blockCount n) ≤ tallestTree
+height-most n l = short-file-height n tallestTree (omega arith)
 
 -- every tree has the root's number
 pub positions-some : (h : ℕ) → 2 ≤ positions h
@@ -73,38 +74,33 @@ pub positions-even : (h : ℕ) → positions h % 2 ≡ 0
 unfolding positions
 positions-even h = omega arith
 
--- in a tree of at most 16 layers above the leaves the numbers stay below 2^17
-pub positions-most : (h : ℕ) → h ≤ 16 → positions h ≤ 131072
+-- no tree has more positions than the tallest
+pub positions-most : (h : ℕ) → h ≤ tallestTree → positions h ≤ 2 * 2 ^ tallestTree
 unfolding positions
-positions-most h l = let w : 2 ^ h ≤ 2 ^ 16 = pow-mono {i = h} {j = 16} l in omega arith
+positions-most h l = let w : 2 ^ h ≤ 2 ^ tallestTree = pow-mono {i = h} {j = tallestTree} l in omega arith
 
--- a store is as long as the cells up to its last position reach
-pub store-size-cells : (n : ℕ) → storeSize n ≡ 31 + 33 * positions (height (blockCount n))
+-- the cells of all positions lie within the store's size
+pub cells-within : (n : ℕ) → 31 + 33 * positions (height (blockCount n)) ≤ storeSize n
 unfolding storeSize
-store-size-cells n = omega (arith, positions-some (height (blockCount n)))
+cells-within n = omega (arith, positions-some (height (blockCount n)))
 
 -- no store is shorter than the facts and the root's cell
 pub store-size-some : (n : ℕ) → 97 ≤ storeSize n
-store-size-some n = omega (arith, store-size-cells n, positions-some (height (blockCount n)))
+store-size-some n = omega (arith, cells-within n, positions-some (height (blockCount n)))
 
--- none is longer than about 4 MiB
-pub store-size-most : (n : ℕ) → n ≤ maxLength → storeSize n ≤ 4325407
-store-size-most n l = omega (arith, store-size-cells n, positions-most (height (blockCount n)) (height-most n l))
+-- a file of no more blocks has no larger store
+pub store-size-grows : (n m : ℕ) → blockCount n ≤ blockCount m → storeSize n ≤ storeSize m
+unfolding storeSize positions
+store-size-grows n m l =
+    let w : 2 ^ height (blockCount n) ≤ 2 ^ height (blockCount m) = pow-mono {i = height (blockCount n)} {j = height (blockCount m)} (height-grows (blockCount n) (blockCount m) l) in
+    omega arith
 
 -- ---- what a usable store is sure of
 
--- the facts are in range, and every position has its cell
-pub record Facts (s : List ℕ) : Type 0 where
-  pub long : 64 ≤ length s
-  pub some : 1 ≤ fileLength s
-  pub most : fileLength s ≤ maxLength
-  pub piece : isPieceLength (pieceLength s) ≡ true
-  pub room : Room (positions (heightOf s)) s
-
--- the store's size by its own facts
-pub own-size : (s : List ℕ) → storeSize (fileLength s) ≡ 31 + 33 * positions (heightOf s)
+-- the cells of a store's own positions lie within its size
+pub own-cells : (s : List ℕ) → 31 + 33 * positions (heightOf s) ≤ storeSize (fileLength s)
 unfolding heightOf blocksOf
-own-size s = store-size-cells (fileLength s)
+own-cells s = cells-within (fileLength s)
 
 -- a usable store is sure of these
 pub usable-facts : (s : List ℕ) → usable s ≡ true → Facts s
@@ -118,7 +114,8 @@ usable-facts s t =
       some = r .0;
       most = r .1;
       piece = r .2;
-      room = omega (arith, leb-true (storeSize (fileLength s)) (length s) (a .1), own-size s);
+      size = leb-true (storeSize (fileLength s)) (length s) (a .1);
+      room = omega (arith, leb-true (storeSize (fileLength s)) (length s) (a .1), own-cells s);
     }
 
 -- and they are enough
@@ -126,8 +123,7 @@ pub facts-usable : (s : List ℕ) → Facts s → usable s ≡ true
 unfolding usable
 facts-usable s f =
     let r : factsInRange (fileLength s) (pieceLength s) ≡ true = sym (range-piece (fileLength s) (pieceLength s) (f .some) (f .most)) ∙ f .piece in
-    let l : storeSize (fileLength s) ≤ length s = omega (arith, own-size s) in
-    simp (le-leb 64 (length s) (f .long), r, le-leb (storeSize (fileLength s)) (length s) l)
+    simp (le-leb 64 (length s) (f .long), r, le-leb (storeSize (fileLength s)) (length s) (f .size))
 
 module _ (s : List ℕ) (f : Facts s) where
   -- the file has a block
@@ -135,18 +131,18 @@ module _ (s : List ℕ) (f : Facts s) where
   unfolding blocksOf
   facts-blocks = block-count-some (fileLength s) (f .some)
 
-  -- and at most 2^16
-  pub facts-blocks-most : blocksOf s ≤ 65536
+  -- and no more than the tallest tree has leaves
+  pub facts-blocks-most : blocksOf s ≤ 2 ^ tallestTree
   unfolding blocksOf
   facts-blocks-most = blocks-most (fileLength s) (f .most)
 
-  -- its tree has at most 16 layers above the leaves
-  pub facts-height : heightOf s ≤ 16
+  -- its tree is no taller
+  pub facts-height : heightOf s ≤ tallestTree
   unfolding heightOf blocksOf
   facts-height = height-most (fileLength s) (f .most)
 
-  -- and the numbers of its positions stay below 2^17
-  pub facts-positions : positions (heightOf s) ≤ 131072
+  -- and has no more positions
+  pub facts-positions : positions (heightOf s) ≤ 2 * 2 ^ tallestTree
   facts-positions = positions-most (heightOf s) facts-height
 
   -- the leaves reach for every block
@@ -249,18 +245,6 @@ module _ (s : List ℕ) (l i : ℕ) where
 
 -- ---- what the facts rest on
 
--- the bytes that hold the facts
-abbrev pub factBytes : List ℕ → List ℕ
-factBytes s = cut s 0 64
-
--- t names the facts that s names
-pub record SameFacts (s t : List ℕ) : Type 0 where
-  pub file : fileLength t ≡ fileLength s
-  pub piece : pieceLength t ≡ pieceLength s
-  pub root : factsRoot t ≡ factsRoot s
-  pub blocks : blocksOf t ≡ blocksOf s
-  pub layers : heightOf t ≡ heightOf s
-
 module _ (s t : List ℕ) (e : factBytes t ≡ factBytes s) where
   same-file : fileLength t ≡ fileLength s
   unfolding fileLength
@@ -286,36 +270,26 @@ module _ (s t : List ℕ) (e : factBytes t ≡ factBytes s) where
   pub same-facts : SameFacts s t
   same-facts = record { file = same-file; piece = same-piece; root = same-root; blocks = same-blocks; layers = same-layers }
 
-  -- a buffer with a usable store's facts and the room is usable
-  pub facts-same : Facts s → Room (positions (heightOf s)) t → Facts t
-  facts-same f room =
+  -- a buffer with a usable store's facts and its size is usable
+  pub facts-same : Facts s → storeSize (fileLength s) ≤ length t → Facts t
+  facts-same f l =
       let p : positions (heightOf t) ≡ positions (heightOf s) = ap positions same-layers in
+      let c = own-cells s in
       record {
         long = omega (arith, positions-some (heightOf s));
         some = rw same-file (f .some);
         most = rw same-file (f .most);
         piece = rw same-piece (f .piece);
+        size = rw same-file l;
         room = omega arith;
       }
-
-  -- where both have the room, both are usable or neither
-  pub usable-same : Room (positions (heightOf s)) s → Room (positions (heightOf s)) t → usable t ≡ usable s
-  unfolding usable
-  usable-same a b =
-      let p = positions-some (heightOf s) in
-      let q : storeSize (fileLength t) ≡ storeSize (fileLength s) = ap storeSize same-file in
-      let ls : storeSize (fileLength s) ≤ length s = omega (arith, own-size s) in
-      let lt : storeSize (fileLength t) ≤ length t = omega (arith, own-size s) in
-      let fs : 64 ≤ length s = omega arith in
-      let ft : 64 ≤ length t = omega arith in
-      simp (same-file, same-piece, le-leb 64 (length s) fs, le-leb 64 (length t) ft, le-leb (storeSize (fileLength s)) (length s) ls, le-leb (storeSize (fileLength s)) (length t) (rw (← q) lt))
 
 -- a store and a buffer with the same bytes in the store's size: bytes past them decide nothing
 module _ (s t : List ℕ) (f : Facts s) (e : cut t 0 (storeSize (fileLength s)) ≡ cut s 0 (storeSize (fileLength s))) where
   used-length : storeSize (fileLength s) ≤ length t
   used-length =
       let k : length (cut t 0 (storeSize (fileLength s))) ≡ length (cut s 0 (storeSize (fileLength s))) = ap length e in
-      omega (arith, cut-size t 0 (storeSize (fileLength s)), cut-size s 0 (storeSize (fileLength s)), f .room, own-size s)
+      omega (arith, cut-size t 0 (storeSize (fileLength s)), cut-size s 0 (storeSize (fileLength s)), f .size)
 
   part-same : (a n : ℕ) → a + n ≤ storeSize (fileLength s) → cut t a n ≡ cut s a n
   part-same a n l =
@@ -338,17 +312,17 @@ module _ (s t : List ℕ) (f : Facts s) (e : cut t 0 (storeSize (fileLength s)) 
 
   -- is usable,
   pub used-facts : Facts t
-  used-facts = facts-same s t used-bytes f (omega (arith, used-length, own-size s))
+  used-facts = facts-same s t used-bytes f used-length
 
   -- holds the same positions,
   pub used-held : (q : ℕ) → q < positions (heightOf s) → heldAt t q ≡ heldAt s q
   unfolding heldAt
-  used-held q b = ap (λ (x : ℕ). eqb x 1) (byte-same (31 + 33 * q) (omega (arith, own-size s)))
+  used-held q b = ap (λ (x : ℕ). eqb x 1) (byte-same (31 + 33 * q) (omega (arith, own-cells s)))
 
   -- with the same hashes,
   pub used-hash : (q : ℕ) → q < positions (heightOf s) → hashAt t q ≡ hashAt s q
   unfolding hashAt
-  used-hash q b = part-same (32 + 33 * q) 32 (omega (arith, own-size s))
+  used-hash q b = part-same (32 + 33 * q) 32 (omega (arith, own-cells s))
 
   -- and so answers the same
   pub used-answer : (l i : ℕ) → heldAnswer t l i ≡ heldAnswer s l i
@@ -383,16 +357,6 @@ module _ (s t : List ℕ) (f : Facts s) (e : cut t 0 (storeSize (fileLength s)) 
 
 -- ---- what taking hashes leaves
 
--- every entry has the number of a position, from the root's on
-pub data FromRoot : List Entry → Type 0 where
-  empty : FromRoot []
-  next : {e : Entry} {L : List Entry} → 1 ≤ e .at → FromRoot L → FromRoot (e ∷ L)
-
--- two such lists together are one
-pub from-root-append : (A B : List Entry) → FromRoot A → FromRoot B → FromRoot (A ++ B)
-from-root-append [] B empty q = q
-from-root-append (e ∷ A) B (next l p) q = next l (from-root-append A B p q)
-
 put-bytes : (s : List ℕ) (N n : ℕ) (h : List ℕ) → Room N s → 1 ≤ n → n < N → length h ≡ 32 → factBytes (put s n h) ≡ factBytes s
 unfolding put
 put-bytes s N n h room low below size =
@@ -415,7 +379,7 @@ module _ (s : List ℕ) (f : Facts s) (n : ℕ) (low : 1 ≤ n) (below : n < pos
 
   -- and leaves the store usable
   pub put-facts : Facts (put s n h)
-  put-facts = facts-same s (put s n h) put-fact-bytes f (put-room s (positions (heightOf s)) n (f .room) below h size)
+  put-facts = facts-same s (put s n h) put-fact-bytes f (omega (arith, put-length s (positions (heightOf s)) n (f .room) below h size, f .size))
 
   -- so usable is what it was
   pub put-usable : usable (put s n h) ≡ usable s
@@ -432,7 +396,7 @@ module _ (s : List ℕ) (f : Facts s) (L : List Entry) (sound : Sound (positions
 
   -- and leaves the store usable
   pub putAll-facts : Facts (putAll s L)
-  putAll-facts = facts-same s (putAll s L) putAll-fact-bytes f (omega (arith, putAll-length (positions (heightOf s)) L s (f .room) sound, f .room))
+  putAll-facts = facts-same s (putAll s L) putAll-fact-bytes f (omega (arith, putAll-length (positions (heightOf s)) L s (f .room) sound, f .size))
 
   -- so usable is what it was
   pub putAll-usable : usable (putAll s L) ≡ usable s
@@ -491,7 +455,7 @@ module _ (s : List ℕ) (n plen : ℕ) (root : List ℕ) (ok : factsInRange n pl
   bare-length = pasted-length (zeroed s (storeSize n)) 0 named named-fits ∙ zero-length
 
   bare-room : Room (positions (height (blockCount n))) bare
-  bare-room = omega (arith, bare-length, store-size-cells n)
+  bare-room = omega (arith, bare-length, cells-within n)
 
   two : 1 < positions (height (blockCount n))
   two = positions-some (height (blockCount n))
@@ -574,7 +538,8 @@ module _ (s : List ℕ) (n plen : ℕ) (root : List ℕ) (ok : factsInRange n pl
         some = rw opened-file (r .0);
         most = rw opened-file (r .1);
         piece = rw opened-piece (r .2);
-        room = omega (arith, opened-length, store-size-cells n);
+        size = rw opened-file (omega (arith, opened-length));
+        room = omega (arith, opened-length, cells-within n);
       }
 
   -- as its answers see it
@@ -583,7 +548,7 @@ module _ (s : List ℕ) (n plen : ℕ) (root : List ℕ) (ok : factsInRange n pl
 
   bare-unheld : (q : ℕ) → 1 ≤ q → q < positions (height (blockCount n)) → heldAt bare q ≡ false
   bare-unheld q a b =
-      unheld bare q (bare-past (31 + 33 * q) (omega arith) ∙ zeroed-at s (storeSize n) (31 + 33 * q) (omega (arith, store-size-cells n)))
+      unheld bare q (bare-past (31 + 33 * q) (omega arith) ∙ zeroed-at s (storeSize n) (31 + 33 * q) (omega (arith, cells-within n)))
 
   -- the root alone is held,
   pub opened-held : (q : ℕ) → 1 ≤ q → q < positions (height (blockCount n)) → heldAt (opened s n plen root) q ≡ eqb q 1
@@ -603,7 +568,7 @@ module _ (s : List ℕ) (n plen : ℕ) (root : List ℕ) (ok : factsInRange n pl
   pub opened-past : (i : ℕ) → storeSize n ≤ i → getD (opened s n plen root) i 0 ≡ getD s i 0
   unfolding opened bare named
   opened-past i l =
-      put-outside bare (positions (height (blockCount n))) 1 bare-room two root size i (λ c. omega (arith, store-size-cells n, two))
+      put-outside bare (positions (height (blockCount n))) 1 bare-room two root size i (λ c. omega (arith, cells-within n, two))
       ∙ bare-past i (omega (arith, store-size-some n))
       ∙ zeroed-past s (storeSize n) i fits l
 
@@ -618,13 +583,6 @@ module _ (s : List ℕ) (n plen : ℕ) (root : List ℕ) (ok : factsInRange n pl
   unfolding opened bare named
   opened-newly =
       ap (newly (positions (height (blockCount n))) bare) (sym (put-one bare 1 root))
-      ∙ count-fresh (positions (height (blockCount n))) (one 1 root) bare bare-room (more two size none)
+      ∙ count-fresh (positions (height (blockCount n))) (one 1 root) bare bare-room (more two size none) (next (omega arith) empty)
       ∙ fresh-one bare 1 root
       ∙ lacks-free bare 1 (bare-unheld 1 (omega arith) two)
-
--- ---- lists of positions, entry by entry
-
--- a list has only numbers from the root's on, if each of its entries has
-pub from-root-in : (L : List Entry) → ((e : Entry) → In e L → 1 ≤ e .at) → FromRoot L
-from-root-in [] f = empty
-from-root-in (e ∷ L) f = next (f e here) (from-root-in L (λ g k. f g (there k)))

@@ -1,10 +1,12 @@
 // Whether a lent buffer is a store, the size a host has to lend, opening a store, asking for a held hash.
 ghost use mathlib.Core.Path.{_≡_};
+ghost use mathlib.Core.Bool.{true};
 ghost use mathlib.Core.List.{_++_};
 ghost use Prim.Native.Nat.{_≤_};
 ghost use lib.ListN.{length};
 ghost use Rattle.octets.specs.Octets.{pasted, zeroed, be};
 ghost use Rattle.cells.specs.Cells.{put};
+ghost use Rattle.limits.specs.Limits.{longestFile};
 ghost use Rattle.store.specs.Store as S;
 use numbers::Answer;
 use numbers::refusal;
@@ -62,7 +64,7 @@ fn facts_in_range(n: usize, plen: usize) -> bool
     if n < 1 {
         return false;
     }
-    if n > 1073741824 {
+    if n > limits::LONGEST_FILE {
         return false;
     }
     is_piece_length(plen)
@@ -70,7 +72,7 @@ fn facts_in_range(n: usize, plen: usize) -> bool
 
 // The bytes that a store for a file of n bytes uses. For an n near 2^64 they would not fit a number.
 fn size_in_range(n: usize) -> usize
-    requires { ⌜ n ≤ S.maxLength ⌝ }
+    requires { ⌜ n ≤ longestFile ⌝ }
     ensures { λ r. ⌜ r ≡ S.storeSize n ⌝ }
 {
     let b = block_count(n);
@@ -94,6 +96,15 @@ pub fn is_usable(s: &[u8]) -> bool
         return size <= s.len();
     }
     false
+}
+
+// The number that the positions of a store's tree stay below.
+pub fn positions_of(s: &[u8]) -> usize
+    requires { ⌜ S.usable (now s) ≡ true ⌝ }
+    ensures { λ r. ⌜ r ≡ S.positions (S.heightOf (now (s .entry))) ⌝ }
+{
+    let h = height_of(s);
+    2 << h
 }
 
 // The size of a store, or 10.

@@ -13,9 +13,9 @@ use Rattle.octets.specs.Octets.{cut, zeroHash}
 use Rattle.octets.specs.OctetsLaws.{cut-short}
 use Rattle.sha256.specs.Sha256.{sha256, pairHash}
 use Rattle.tree.specs.Geometry.{blockLength, ceilDiv, blockCount, height, covering, blockSize}
-use Rattle.tree.specs.GeometryLaws.{height-halves, height-least, covering-leaves, padding-from-covering}
+use Rattle.tree.specs.GeometryLaws.{height-halves, height-least, covering-leaves}
 use Rattle.tree.specs.Values.{node, padValue, blockOf, leafOf, layerLeaf}
-use Rattle.tree.specs.ValuesLaws.{node-leaf, leaf-block, leaf-padding, padding-value, layer-padding}
+use Rattle.tree.specs.ValuesLaws.{node-leaf, leaf-block, leaf-padding, layer-padding}
 
 -- ---- height
 
@@ -62,14 +62,9 @@ leaf-hashed file h i s l e f =
 pub leaf-past : (file h : List ℕ) (i : ℕ) → blockCount (length file) ≤ i → h ≡ padValue 0 → h ≡ leafOf file i
 leaf-past file h i l e = e ∙ sym (leaf-padding file i l)
 
--- ---- data_node and layer_node
+-- ---- layer_node
 
-pub node-past : (file h : List ℕ) (k j b c : ℕ) → b ≡ blockCount (length file) → c ≡ covering b k → c ≤ j → h ≡ padValue k
-    → h ≡ node (leafOf file) k j
-node-past file h k j b c e f l g =
-    g ∙ sym (padding-value file k j (padding-from-covering (blockCount (length file)) k j (omega (arith, f ∙ ap (λ (x : ℕ). covering x k) e))))
-
--- at layer 0 every position that isn't padding is a block, or a hash of the string
+-- at layer 0 every position that isn't padding is a hash of the string
 pub at-leaves : (b k j c : ℕ) → c ≡ covering b k → k ≡ 0 → j < c → j < b
 at-leaves b k j c e z l = omega (arith, covering-leaves b, ap (covering b) z)
 

@@ -26,6 +26,10 @@ heightFrom (suc f) k b = let higher : ℕ = heightFrom f (suc k) b in cond (leb 
 unfoldable pub height : ℕ → ℕ
 height b = heightFrom b 0 b
 
+-- the logarithm of a power of two
+abbrev pub log2 : ℕ → ℕ
+log2 n = height n
+
 -- a position covers the blocks from i·2^l up to (i + 1)·2^l; it is padding if the file has none of them
 unfoldable pub Padding : ℕ → ℕ → ℕ → Type 0
 Padding b l i = b ≤ i * 2 ^ l

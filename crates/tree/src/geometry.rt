@@ -36,6 +36,13 @@ pub fn height(b: usize) -> usize
     h
 }
 
+// The logarithm of a power of two.
+pub fn log2(n: usize) -> usize
+    ensures { λ r. ⌜ r ≡ G.log2 n ⌝ }
+{
+    height(n)
+}
+
 // How many positions of layer l aren't padding, for a file of b blocks.
 pub fn covering(b: usize, l: usize) -> usize
     ensures { λ r. ⌜ r ≡ G.covering b l ⌝ }

@@ -38,26 +38,6 @@ pub fn leaf_of(bytes: &[u8], i: usize) -> [u8; 32]
     hash(&bytes[a..e])
 }
 
-// The node k layers above the leaves of `bytes`, number j. What covers no block isn't looked at.
-pub fn data_node(bytes: &[u8], k: usize, j: usize) -> [u8; 32]
-    ensures { λ r. ⌜ r ≡ node (leafOf (now (bytes .entry))) k j ⌝ }
-{
-    let b = block_count(bytes.len());
-    let c = covering(b, k);
-    if j >= c {
-        return pad_value(k);
-    }
-    if k == 0 {
-        return leaf_of(bytes, j);
-    }
-    let d = k - 1;
-    let j2 = 2 * j;
-    let j3 = j2 + 1;
-    let l = data_node(bytes, d, j2);
-    let r = data_node(bytes, d, j3);
-    pair(l, r)
-}
-
 // The node k layers above layer p, number j, from the string of that layer's hashes that aren't padding.
 pub fn layer_node(layer: &[u8], p: usize, k: usize, j: usize) -> [u8; 32]
     requires { ⌜ p + k < 2 ^ 64 ⌝ }

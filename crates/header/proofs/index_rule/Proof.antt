@@ -11,7 +11,7 @@ covering-requires c κs = search needs
 
 returns : tie.Need-returns
 unfolding indexRule
-returns c = ap (ltb (c .before .args .index)) (c .covering .ensures)
+returns c = ap (ltb (c .before .args .x .index)) (c .covering .ensures)
 
 pub index-rule-spec : {M : Type 1} → statement M
 index-rule-spec = tie.close (tie.spec covering-requires returns)

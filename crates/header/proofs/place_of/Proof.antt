@@ -7,8 +7,8 @@ use borrow.Author.Needs.{needs}
 use Rattle.header.proofs.place_of.Statement.{statement}
 use Rattle.header.proofs.place_of.Tie as tie
 
-height-requires : tie.Need-height-requires
-height-requires c κs = search needs
+log2-requires : tie.Need-log2-requires
+log2-requires c κs = search needs
 
 add-if1 : tie.Need-add-if1
 add-if1 c = search needs
@@ -23,7 +23,7 @@ add-l : tie.Need-add-l
 add-l c =
     let a = c .before .before .args in
     let K = rules-kept (a .x) (a .b) (a .h) (c .before .before .pre .3) in
-    omega (arith, K .within, c .before .height .ensures)
+    omega (arith, K .within, c .before .log2 .ensures)
 
 div-i : tie.Need-div-i
 div-i c =
@@ -35,14 +35,14 @@ node-number-requires : tie.Need-node-number-requires
 node-number-requires c κs =
     let a = c .before .before .args in
     let K = rules-kept (a .x) (a .b) (a .h) (c .before .before .pre .3) in
-    let e = c .before .height .ensures in
+    let e = c .before .log2 .ensures in
     (omega (arith, K .within, e), omega arith, rw e (top-inside (a .x) (a .b) (a .h) (c .before .before .pre .2) K))
 
 returns : tie.Need-returns
 returns c =
     let a = c .before .before .before .args in
     let K = rules-kept (a .x) (a .b) (a .h) (c .before .before .before .pre .3) in
-    let k = c .before .before .height in
+    let k = c .before .before .log2 in
     place-by (a .x) (a .h) (k .result) (c .before .if1 .u) (c .node-number .result) (K .two) (k .ensures)
     (λ g. ⊎-elim (λ w. w .1) (λ w. absurd (omega arith)) (c .before .if1 .came), λ g. ⊎-elim (λ w. absurd (omega arith)) (λ w. w .1) (c .before .if1 .came))
     (c .node-number .ensures)
@@ -50,4 +50,4 @@ returns c =
 pub place-of-spec : {M : Type 1} → statement M
 place-of-spec =
     tie.close
-    (tie.spec height-requires add-if1 add-u sub-u add-l div-i node-number-requires returns)
+    (tie.spec log2-requires add-if1 add-u sub-u add-l div-i node-number-requires returns)

@@ -1,5 +1,6 @@
 -- The piece's node and all below it lie in the tree, so the subtree fits the store.
-use Rattle.pieces.proofs.Ways.{node-low, node-inside, node-fit, node-judged}
+use Rattle.store.specs.StoreLaws.{facts-usable}
+use Rattle.pieces.proofs.Ways.{node-inside, node-fit, node-judged}
 use Prim.Native.Nat.{_-_}
 use borrow.Author.Needs.{needs}
 use Rattle.pieces.proofs.judge_node.Statement.{statement}
@@ -11,14 +12,14 @@ height-of-requires c κs = search needs
 piece-height-requires : tie.Need-piece-height-requires
 piece-height-requires c κs = search needs
 
-positions-below-requires : tie.Need-positions-below-requires
-positions-below-requires c κs = node-low _ _ _ _ (c .before .before .before .before .pre) (c .before .height-of .ensures) (c .piece-height .ensures)
+positions-of-requires : tie.Need-positions-of-requires
+positions-of-requires c κs = facts-usable _ (c .before .before .before .before .pre .facts)
 
 node-number-requires : tie.Need-node-number-requires
 node-number-requires c κs = node-inside _ _ _ _ (c .before .before .before .before .before .pre) (c .before .before .height-of .ensures) (c .before .piece-height .ensures)
 
 judge-data-requires : tie.Need-judge-data-requires
-judge-data-requires c κs = node-fit _ _ _ _ (c .before .before .before .before .before .before .pre) (c .before .before .before .height-of .ensures) (c .before .before .piece-height .ensures) _ (c .node-number .ensures) _ (c .before .positions-below .ensures)
+judge-data-requires c κs = node-fit _ _ _ _ (c .before .before .before .before .before .before .pre) (c .before .before .before .height-of .ensures) (c .before .before .piece-height .ensures) _ (c .node-number .ensures) _ (c .before .positions-of .ensures)
 
 returns : tie.Need-returns
 returns c = node-judged _ _ _ _ (c .before .before .before .before .before .before .before .pre) (c .before .before .before .before .height-of .ensures) (c .before .before .before .piece-height .ensures) _ (c .before .node-number .ensures) _ _ (c .judge-data .ensures)
@@ -29,7 +30,7 @@ judge-node-spec =
     (tie.spec
     height-of-requires
     piece-height-requires
-    positions-below-requires
+    positions-of-requires
     node-number-requires
     judge-data-requires
     returns)

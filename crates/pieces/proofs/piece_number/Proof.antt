@@ -1,5 +1,5 @@
 -- Each return is one case of the definition; a piece of the file has its node in the tree.
-use Rattle.pieces.proofs.Ways.{usable-long, piece-placed, piece-rest, piece-4, piece-3, piece-9}
+use Rattle.pieces.proofs.Ways.{usable-long, piece-there, piece-rest, piece-4, piece-3, piece-9}
 use Prim.Native.Nat.{_-_}
 use borrow.Author.Needs.{needs}
 use Rattle.pieces.proofs.piece_number.Statement.{statement}
@@ -21,7 +21,7 @@ piece-size-requires : tie.Need-piece-size-requires
 piece-size-requires c κs = search needs
 
 judge-node-requires : tie.Need-judge-node-requires
-judge-node-requires c κs = piece-placed _ _ (c .before .before .before .before .before .before .before .before .before .before .args .bytes .now) _ (c .before .before .before .before .before .before .before .is-usable .ensures) (c .before .before .before .before .before .before .if1 .taken) _ _ _ (c .before .before .before .before .before .file-length .ensures) (c .before .before .before .before .piece-length-of .ensures) (c .before .before .before .piece-count .ensures) (c .before .before .if2 .taken)
+judge-node-requires c κs = piece-there _ _ (c .before .before .before .before .before .before .before .before .before .before .args .bytes .now) _ (c .before .before .before .before .before .before .before .is-usable .ensures) (c .before .before .before .before .before .before .if1 .taken) _ _ _ (c .before .before .before .before .before .file-length .ensures) (c .before .before .before .before .piece-length-of .ensures) (c .before .before .before .piece-count .ensures) (c .before .before .if2 .taken)
 
 returns : tie.Need-returns
 returns c = piece-rest _ _ _ _ (c .before .before .before .before .before .before .before .before .is-usable .ensures) (c .before .before .before .before .before .before .before .if1 .taken) _ _ _ (c .before .before .before .before .before .before .file-length .ensures) (c .before .before .before .before .before .piece-length-of .ensures) (c .before .before .before .before .piece-count .ensures) (c .before .before .before .if2 .taken) _ (c .before .before .piece-size .ensures) (c .before .if3 .taken) _ (c .judge-node .ensures)

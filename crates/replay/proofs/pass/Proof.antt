@@ -1,7 +1,7 @@
 -- Each turn uses at least one byte of the piece and none past it.
 -- Assumes nothing.
-use Rattle.replaying.specs.Session.{Due}
-use Rattle.replaying.specs.SessionLaws.{rest-used}
+use Rattle.session.specs.Session.{Due}
+use Rattle.session.specs.SessionLaws.{rest-used}
 use borrow.Author.Needs.{needs}
 use native.Mathlib.Omega.{arith}
 use Prim.Native.Nat.{_-_, _≤_}
@@ -29,7 +29,7 @@ part-take-piece-end : tie.Need-part-take-piece-end Inv-loop μ-loop
 part-take-piece-end c = search needs
 
 take-piece-requires : tie.Need-take-piece-requires Inv-loop μ-loop
-take-piece-requires c κs = record { room = omega (arith, c .before .before .before .before .loop .inv .3, c .before .before .before .before .before .before .before .before .pre .room); due = c .before .before .before .before .loop .inv .1 }
+take-piece-requires c κs = record { store = omega (arith, c .before .before .before .before .loop .inv .2, c .before .before .before .before .before .before .before .before .pre .store); room = omega (arith, c .before .before .before .before .loop .inv .3, c .before .before .before .before .before .before .before .before .pre .room); due = c .before .before .before .before .loop .inv .1 }
 
 show-requires : tie.Need-show-requires Inv-loop μ-loop
 show-requires c κs = search needs

@@ -1,7 +1,7 @@
 -- The measure is the number of turns that are left.
 -- Assumes nothing.
-use Rattle.replaying.specs.Session.{Due}
-use Rattle.replaying.specs.SessionLaws.{started-due}
+use Rattle.session.specs.Session.{Due}
+use Rattle.session.specs.SessionLaws.{started-due}
 use borrow.Author.Needs.{needs}
 use native.Mathlib.Omega.{arith}
 use Prim.Native.Nat.{_-_}
@@ -47,7 +47,7 @@ slice-aggregate-pass : tie.Need-slice-aggregate-pass Inv-loop μ-loop
 slice-aggregate-pass c = search needs
 
 pass-requires : tie.Need-pass-requires Inv-loop μ-loop
-pass-requires c κs = record { room = omega (arith, c .before .before .before .before .before .before .before .before .before .before .before .loop .inv .2, c .before .before .before .before .before .before .before .before .before .before .before .before .before .before .before .before .pre); due = c .before .before .before .before .before .before .before .before .before .before .before .loop .inv .0 }
+pass-requires c κs = record { store = omega (arith, c .before .before .before .before .before .before .before .before .before .before .before .loop .inv .1, c .before .before .before .before .before .before .before .before .before .before .before .before .before .before .before .before .pre .0); room = omega (arith, c .before .before .before .before .before .before .before .before .before .before .before .loop .inv .2, c .before .before .before .before .before .before .before .before .before .before .before .before .before .before .before .before .pre .1); due = c .before .before .before .before .before .before .before .before .before .before .before .loop .inv .0 }
 
 sub-turns : tie.Need-sub-turns Inv-loop μ-loop
 sub-turns c = search needs

@@ -1,5 +1,5 @@
 -- The loop stands at the position i layers above n, and has written the i uncles below it.
-use Rattle.runs.specs.Path.{ancestor}
+use Rattle.settling.specs.Path.{ancestor}
 use Rattle.octets.specs.Octets.{pasted}
 use Rattle.serve.specs.Serve.{uncleHashes}
 use Rattle.serve.proofs.Loops.{ancestor-none, ancestor-next, ancestor-cell, uncle-cell, copy-uncles-none, copy-uncles-more, copy-uncles-done}

@@ -1,7 +1,7 @@
 -- The loop stands at the position i layers above n, and has found the uncles below it held.
 use mathlib.Core.Bool.{true}
 use borrow.Author.Tests.{not-true, not-false}
-use Rattle.runs.specs.Path.{ancestor}
+use Rattle.settling.specs.Path.{ancestor}
 use Rattle.serve.specs.Serve.{heldUncles}
 use Rattle.serve.proofs.Loops.{ancestor-none, ancestor-next, ancestor-cell, uncle-cell, uncles-none, uncles-more, uncles-fail, uncles-done}
 use borrow.Author.Needs.{needs}

@@ -1,4 +1,4 @@
--- A shift of 1 by at most 16 loses nothing.
+-- A shift of 1 by no more than a tree is tall loses nothing.
 use Rattle.serve.proofs.Answers.{count-of}
 use Prim.Native.Nat.{_-_}
 use borrow.Author.Needs.{needs}

@@ -1,25 +1,21 @@
 -- Head, run and uncles are written side by side, which is the reply as a whole; room for all of it is known before.
-use Rattle.serve.proofs.Answers.{passed-long, run-cells, reply-short, reply-sent}
-use borrow.Author.Needs.{needs}
+use Rattle.serve.proofs.Answers.{passed-long, place-reach, run-cells, reply-short, reply-sent}
 use native.Mathlib.Omega.{arith}
 use Prim.Native.Nat.{_-_}
 use lib.ListN.{length}
-use mathlib.Core.Path.{_∙_}
+use borrow.Author.Needs.{needs}
 use Rattle.serve.proofs.send_reply.Statement.{statement}
 use Rattle.serve.proofs.send_reply.Tie as tie
 
-place-in-requires : tie.Need-place-in-requires
-place-in-requires c κs = search needs
-
 run-count-requires : tie.Need-run-count-requires
-run-count-requires c κs = search needs
+run-count-requires c κs = let a = c .before .before .before .args in
+    let R = place-reach (a .s .now) (a .m .now) (c .before .before .before .pre .0) (a .p) (c .before .before .before .pre .1) in
+    omega (arith, R .few)
 
 mul-n : tie.Need-mul-n
-mul-n c =
-    let a = c .before .before .before .before .before .args in
-    let p = c .before .place-in in
-    let k = c .run-count in
-    omega (arith, run-cells (length (a .s .now)) (p .result) (p .ensures .1) (k .result) (k .ensures .0))
+mul-n c = let a = c .before .before .before .before .args in
+    let R = place-reach (a .s .now) (a .m .now) (c .before .before .before .before .pre .0) (a .p) (c .before .before .before .before .pre .1) in
+    omega (arith, run-cells (length (a .s .now)) (a .p) R (c .run-count .result) (c .run-count .ensures .0))
 
 mul-past : tie.Need-mul-past
 mul-past c = search needs
@@ -28,52 +24,45 @@ add-past : tie.Need-add-past
 add-past c = search needs
 
 mul-size : tie.Need-mul-size
-mul-size c = search needs
+mul-size c = let a = c .before .before .before .before .args in
+    let R = place-reach (a .s .now) (a .m .now) (c .before .before .before .before .pre .0) (a .p) (c .before .before .before .before .pre .1) in
+    omega (arith, R .few)
 
 add-size : tie.Need-add-size
-add-size c = search needs
+add-size c = let a = c .before .before .before .before .args in
+    let R = place-reach (a .s .now) (a .m .now) (c .before .before .before .before .pre .0) (a .p) (c .before .before .before .before .pre .1) in
+    omega (arith, R .few, c .run-count .ensures .1)
 
 refusal-requires : tie.Need-refusal-requires
 refusal-requires c κs = search needs
 
 returns : tie.Need-returns
-returns c =
-    let a = c .before .before .before .before .before .before .before .args in
-    let p = c .before .before .before .place-in in
-    let k = c .before .before .run-count in
-    reply-short (a .s .now) (a .m .now) (a .out .now) (c .before .before .before .before .before .before .before .pre) (p .result) (p .ensures .0) (k .result) (k .ensures .0) (c .refusal .result) (c .before .if1 .taken) (c .refusal .ensures)
+returns c = let a = c .before .before .before .before .before .before .args in
+    reply-short (a .s .now) (a .m .now) (a .out .now) (c .before .before .before .before .before .before .pre .0) (a .p) (c .before .before .before .before .before .before .pre .1) (c .before .before .run-count .result) (c .before .before .run-count .ensures .0) (c .refusal .result) (c .before .if1 .taken) (c .refusal .ensures)
 
 write-head-requires : tie.Need-write-head-requires
-write-head-requires c κs =
-    let a = c .before .before .before .before .before .before .before .args in
-    (omega arith, passed-long (a .s .now) (a .m .now) (c .before .before .before .before .before .before .before .pre) .1)
+write-head-requires c κs = let a = c .before .before .before .before .before .before .args in
+    (omega (arith, c .before .if1 .left), passed-long (a .s .now) (a .m .now) (c .before .before .before .before .before .before .pre .0) .1)
 
 copy-run-requires : tie.Need-copy-run-requires
-copy-run-requires c κs =
-    let a = c .before .before .before .before .before .before .before .before .before .before .before .args in
-    let p = c .before .before .before .before .before .before .before .place-in in
-    let k = c .before .before .before .before .before .before .run-count in
-    (run-cells (length (a .s .now)) (p .result) (p .ensures .1) (k .result) (k .ensures .0), omega (arith, c .before .before .before .before .before .if1 .left, c .before .before .before .write-head .kept .0))
+copy-run-requires c κs = let a = c .before .before .before .before .before .before .before .before .before .before .args in
+    let R = place-reach (a .s .now) (a .m .now) (c .before .before .before .before .before .before .before .before .before .before .pre .0) (a .p) (c .before .before .before .before .before .before .before .before .before .before .pre .1) in
+    (run-cells (length (a .s .now)) (a .p) R (c .before .before .before .before .before .before .run-count .result) (c .before .before .before .before .before .before .run-count .ensures .0), omega (arith, c .before .before .before .before .before .if1 .left, c .before .before .before .write-head .kept .0))
 
 copy-uncles-requires : tie.Need-copy-uncles-requires
-copy-uncles-requires c κs =
-    let a = c .before .before .before .before .before .before .before .before .before .before .before .before .before .before .before .args in
-    let p = c .before .before .before .before .before .before .before .before .before .before .before .place-in in
-    let k = c .before .before .before .before .before .before .before .before .before .before .run-count in
-    (p .ensures .1 .uncles, omega (arith, c .before .before .before .before .before .before .before .before .before .if1 .left, c .before .before .before .before .before .before .before .write-head .kept .0, c .before .before .before .copy-run .kept .1 .0))
+copy-uncles-requires c κs = let a = c .before .before .before .before .before .before .before .before .before .before .before .before .before .before .args in
+    let R = place-reach (a .s .now) (a .m .now) (c .before .before .before .before .before .before .before .before .before .before .before .before .before .before .pre .0) (a .p) (c .before .before .before .before .before .before .before .before .before .before .before .before .before .before .pre .1) in
+    (R .uncles, omega (arith, c .before .before .before .before .before .before .before .before .before .if1 .left, c .before .before .before .before .before .before .before .write-head .kept .0, c .before .before .before .copy-run .kept .1 .0))
 
 success-requires : tie.Need-success-requires
 success-requires c κs = search needs
 
 same-length : tie.Need-same-length
-same-length c = c .before .before .before .copy-uncles .kept .1 .0 ∙ c .before .before .before .before .before .before .before .copy-run .kept .1 .0 ∙ c .before .before .before .before .before .before .before .before .before .before .before .write-head .kept .0
+same-length c = search needs
 
 returns-2 : tie.Need-returns-2
-returns-2 c =
-    let a = c .before .before .before .before .before .before .before .before .before .before .before .before .before .before .before .before .before .before .before .args in
-    let p = c .before .before .before .before .before .before .before .before .before .before .before .before .before .before .before .place-in in
-    let k = c .before .before .before .before .before .before .before .before .before .before .before .before .before .before .run-count in
-    reply-sent (a .s .now) (a .m .now) (a .out .now) (c .before .before .before .before .before .before .before .before .before .before .before .before .before .before .before .before .before .before .before .pre) (p .result) (p .ensures .0) (k .result) (k .ensures .0)
+returns-2 c = let a = c .before .before .before .before .before .before .before .before .before .before .before .before .before .before .before .before .before .before .args in
+    reply-sent (a .s .now) (a .m .now) (a .out .now) (c .before .before .before .before .before .before .before .before .before .before .before .before .before .before .before .before .before .before .pre .0) (a .p) (c .before .before .before .before .before .before .before .before .before .before .before .before .before .before .before .before .before .before .pre .1) (c .before .before .before .before .before .before .before .before .before .before .before .before .before .before .run-count .result) (c .before .before .before .before .before .before .before .before .before .before .before .before .before .before .run-count .ensures .0)
     (c .before .before .before .before .before .before .before .before .before .before .before .write-head .last .0) (c .before .before .before .before .before .before .before .copy-run .last .1 .0) (c .before .before .before .copy-uncles .last .1 .0) (omega (arith, c .before .before .before .before .before .before .before .before .before .before .before .before .before .if1 .left))
     (c .before .before .before .before .before .before .before .before .before .before .before .write-head .ensures) (c .before .before .before .before .before .before .before .copy-run .ensures) (c .before .before .before .copy-uncles .ensures) (c .success .result) (c .success .ensures)
 
@@ -81,7 +70,6 @@ pub send-reply-spec : {M : Type 1} → statement M
 send-reply-spec =
     tie.close
     (tie.spec
-    place-in-requires
     run-count-requires
     mul-n
     mul-past

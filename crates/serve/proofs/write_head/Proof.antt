@@ -2,6 +2,7 @@
 use mathlib.Core.List.{_∷_}
 use lib.Seq.{paste}
 use Rattle.serve.proofs.Loops.{head-one, head-more, head-length, head-done}
+use Rattle.header.specs.Header.{headerSize}
 use borrow.Author.Needs.{needs}
 use native.Mathlib.Omega.{arith}
 use Prim.Native.Nat.{_-_, _≤_}
@@ -11,10 +12,10 @@ use Rattle.serve.proofs.write_head.Statement.{statement}
 use Rattle.serve.proofs.write_head.Tie as tie
 
 abbrev Inv-loop : tie.InvT-loop
-Inv-loop out₀ m id i₀ out i = (1 ≤ i) × (i ≤ 49) × (out ≡ paste (out₀) 0 (id ∷ drop 1 m) i)
+Inv-loop out₀ m id i₀ out i = (1 ≤ i) × (i ≤ headerSize) × (out ≡ paste (out₀) 0 (id ∷ drop 1 m) i)
 
 abbrev μ-loop : tie.MeasureT-loop
-μ-loop out₀ m id i₀ out i = 49 - i
+μ-loop out₀ m id i₀ out i = headerSize - i
 
 slice-write-out : tie.Need-slice-write-out Inv-loop μ-loop
 slice-write-out c = search needs

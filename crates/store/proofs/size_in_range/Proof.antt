@@ -1,4 +1,4 @@
--- For a length in range the height is at most 16, so that nothing wraps, and the shift gives the number past the last position.
+-- For a length in range the height is small, so that nothing wraps, and the shift gives the number past the last position.
 use Rattle.store.proofs.Answers.{size-height, size-positions, size-small, size-worked}
 use native.Mathlib.Omega.{arith}
 use Prim.Native.Nat.{_-_}

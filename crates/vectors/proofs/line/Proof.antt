@@ -16,59 +16,45 @@ Inv-loop h out₀ i₀ out i = (i ≤ 32) × (length out ≡ 65)
 abbrev μ-loop : tie.MeasureT-loop
 μ-loop h out₀ i₀ out i = 32 - i
 
--- src/main.rt:17:5
 loop-holds : tie.Need-loop-holds Inv-loop μ-loop
 loop-holds c = search needs
 
--- src/main.rt:18:28
 array-read-digit : tie.Need-array-read-digit Inv-loop μ-loop
 array-read-digit c = search needs
 
--- src/main.rt:18:22
 digit-requires : tie.Need-digit-requires Inv-loop μ-loop
 digit-requires c κs = search needs
 
--- src/main.rt:18:13
 mul-out : tie.Need-mul-out Inv-loop μ-loop
 mul-out c = search needs
 
--- src/main.rt:18:9
 array-write-out : tie.Need-array-write-out Inv-loop μ-loop
 array-write-out c = search needs
 
--- src/main.rt:19:32
 array-read-digit-2 : tie.Need-array-read-digit-2 Inv-loop μ-loop
 array-read-digit-2 c = search needs
 
--- src/main.rt:19:26
 digit-requires-2 : tie.Need-digit-requires-2 Inv-loop μ-loop
 digit-requires-2 c κs = search needs
 
--- src/main.rt:19:13
 mul-out-2 : tie.Need-mul-out-2 Inv-loop μ-loop
 mul-out-2 c = search needs
 
--- src/main.rt:19:13
 add-out : tie.Need-add-out Inv-loop μ-loop
 add-out c = search needs
 
--- src/main.rt:19:9
 array-write-out-2 : tie.Need-array-write-out-2 Inv-loop μ-loop
 array-write-out-2 c = search needs
 
--- src/main.rt:20:9
 add-i : tie.Need-add-i Inv-loop μ-loop
 add-i c = search needs
 
--- src/main.rt:17:5
 loop-less : tie.Need-loop-less Inv-loop μ-loop
 loop-less c = search needs
 
--- src/main.rt:17:5
 loop-again : tie.Need-loop-again Inv-loop μ-loop
 loop-again c = (omega arith, simp length-set (search needs))
 
--- src/main.rt:12:1
 returns : tie.Need-returns Inv-loop μ-loop
 returns c = search needs
 

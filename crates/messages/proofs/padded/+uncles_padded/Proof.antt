@@ -27,103 +27,8 @@ uncles-padded-below t =
     (falls 1 uncles-padded-kinds.ps _<_ μ-uncles-padded t)
     uncles-padded.Pre
 
-uncles-padded-returns : (t : ℕ) → uncles-padded-lts.Need-returns (
-  uncle-padded-reads.Asked,
-  uncle-padded-reads.Learnt,
-  pair-reads.Asked,
-  pair-reads.Learnt,
-  uncles-padded-below t,
-  uncles-padded.Post,
-) (uncles-padded-at t) uncles-padded.Post
-uncles-padded-returns t c = uncles-none (c .before .before .args .hashes .now) (c .before .before .args .b) (c .before .before .args .i) (c .before .before .args .u) (c .before .before .args .l) (c .before .before .args .x) (c .if1 .taken)
-
-uncles-padded-sub-d : (t : ℕ) → uncles-padded-lts.Need-sub-d (
-  uncle-padded-reads.Asked,
-  uncle-padded-reads.Learnt,
-  pair-reads.Asked,
-  pair-reads.Learnt,
-  uncles-padded-below t,
-  uncles-padded.Post,
-) (uncles-padded-at t) uncles-padded.Post
-uncles-padded-sub-d t c = search needs
-
-uncles-padded-add-i2 : (t : ℕ) → uncles-padded-lts.Need-add-i2 (
-  uncle-padded-reads.Asked,
-  uncle-padded-reads.Learnt,
-  pair-reads.Asked,
-  pair-reads.Learnt,
-  uncles-padded-below t,
-  uncles-padded.Post,
-) (uncles-padded-at t) uncles-padded.Post
-uncles-padded-add-i2 t c = search needs
-
-uncles-padded-add-l2 : (t : ℕ) → uncles-padded-lts.Need-add-l2 (
-  uncle-padded-reads.Asked,
-  uncle-padded-reads.Learnt,
-  pair-reads.Asked,
-  pair-reads.Learnt,
-  uncles-padded-below t,
-  uncles-padded.Post,
-) (uncles-padded-at t) uncles-padded.Post
-uncles-padded-add-l2 t c = search needs
-
-uncles-padded-uncle-padded-requires : (t : ℕ) → uncles-padded-lts.Need-uncle-padded-requires (
-  uncle-padded-reads.Asked,
-  uncle-padded-reads.Learnt,
-  pair-reads.Asked,
-  pair-reads.Learnt,
-  uncles-padded-below t,
-  uncles-padded.Post,
-) (uncles-padded-at t) uncles-padded.Post
-uncles-padded-uncle-padded-requires t c κs =
-    let q = c .before .before .pre .1 in
-    (omega arith, q .2, q .3)
-
-uncles-padded-pair-requires : (t : ℕ) → uncles-padded-lts.Need-pair-requires (
-  uncle-padded-reads.Asked,
-  uncle-padded-reads.Learnt,
-  pair-reads.Asked,
-  pair-reads.Learnt,
-  uncles-padded-below t,
-  uncles-padded.Post,
-) (uncles-padded-at t) uncles-padded.Post
-uncles-padded-pair-requires t c κs = search needs
-
-uncles-padded-uncles-padded-requires : (t : ℕ) → uncles-padded-lts.Need-uncles-padded-requires (
-  uncle-padded-reads.Asked,
-  uncle-padded-reads.Learnt,
-  pair-reads.Asked,
-  pair-reads.Learnt,
-  uncles-padded-below t,
-  uncles-padded.Post,
-) (uncles-padded-at t) uncles-padded.Post
-uncles-padded-uncles-padded-requires t c κs =
-    let a = c .before .before .before .before .before .args in
-    let q = c .before .before .before .before .before .pre .1 in
-    (omega arith, (omega arith, omega arith, omega arith, pad-up (a .v) (c .pair .result) (a .l) (q .3) (c .pair .ensures)))
-
-uncles-padded-returns-2 : (t : ℕ) → uncles-padded-lts.Need-returns-2 (
-  uncle-padded-reads.Asked,
-  uncle-padded-reads.Learnt,
-  pair-reads.Asked,
-  pair-reads.Learnt,
-  uncles-padded-below t,
-  uncles-padded.Post,
-) (uncles-padded-at t) uncles-padded.Post
-uncles-padded-returns-2 t c = uncles-right (c .before .before .before .before .before .before .args .hashes .now) (c .before .before .before .before .before .before .args .b) (c .before .before .before .before .before .before .args .i) (c .before .before .before .before .before .before .args .u) (c .before .before .before .before .before .before .args .l) (c .before .before .before .before .before .before .args .x) (c .before .before .before .uncle-padded .result) (c .uncles-padded .result) (c .before .before .before .before .if1 .left) (c .before .before .before .uncle-padded .ensures) (c .before .before .if2 .taken) (c .uncles-padded .ensures)
-
-uncles-padded-returns-3 : (t : ℕ) → uncles-padded-lts.Need-returns-3 (
-  uncle-padded-reads.Asked,
-  uncle-padded-reads.Learnt,
-  pair-reads.Asked,
-  pair-reads.Learnt,
-  uncles-padded-below t,
-  uncles-padded.Post,
-) (uncles-padded-at t) uncles-padded.Post
-uncles-padded-returns-3 t c = uncles-wrong (c .before .before .before .before .args .hashes .now) (c .before .before .before .before .args .b) (c .before .before .before .before .args .i) (c .before .before .before .before .args .u) (c .before .before .before .before .args .l) (c .before .before .before .before .args .x) (c .before .uncle-padded .result) (c .before .before .if1 .left) (c .before .uncle-padded .ensures) (c .if2 .left)
-
-pub +uncles-padded-spec : {M : Type 1} → statement M
-+uncles-padded-spec = close μ-uncles-padded λ t. uncles-padded-lts.spec (
+abbrev uncles-padded-claims : ℕ → uncles-padded-lts.Claims
+uncles-padded-claims t = (
   uncle-padded-reads.Asked,
   uncle-padded-reads.Learnt,
   pair-reads.Asked,
@@ -131,6 +36,41 @@ pub +uncles-padded-spec : {M : Type 1} → statement M
   uncles-padded-below t,
   uncles-padded.Post,
 )
+
+uncles-padded-returns : (t : ℕ) → uncles-padded-lts.Need-returns (uncles-padded-claims t) (uncles-padded-at t) uncles-padded.Post
+uncles-padded-returns t c = uncles-none (c .before .before .args .hashes .now) (c .before .before .args .b) (c .before .before .args .i) (c .before .before .args .u) (c .before .before .args .l) (c .before .before .args .x) (c .if1 .taken)
+
+uncles-padded-sub-d : (t : ℕ) → uncles-padded-lts.Need-sub-d (uncles-padded-claims t) (uncles-padded-at t) uncles-padded.Post
+uncles-padded-sub-d t c = search needs
+
+uncles-padded-add-i2 : (t : ℕ) → uncles-padded-lts.Need-add-i2 (uncles-padded-claims t) (uncles-padded-at t) uncles-padded.Post
+uncles-padded-add-i2 t c = search needs
+
+uncles-padded-add-l2 : (t : ℕ) → uncles-padded-lts.Need-add-l2 (uncles-padded-claims t) (uncles-padded-at t) uncles-padded.Post
+uncles-padded-add-l2 t c = search needs
+
+uncles-padded-uncle-padded-requires : (t : ℕ) → uncles-padded-lts.Need-uncle-padded-requires (uncles-padded-claims t) (uncles-padded-at t) uncles-padded.Post
+uncles-padded-uncle-padded-requires t c κs =
+    let q = c .before .before .pre .1 in
+    (omega arith, q .2, q .3)
+
+uncles-padded-pair-requires : (t : ℕ) → uncles-padded-lts.Need-pair-requires (uncles-padded-claims t) (uncles-padded-at t) uncles-padded.Post
+uncles-padded-pair-requires t c κs = search needs
+
+uncles-padded-uncles-padded-requires : (t : ℕ) → uncles-padded-lts.Need-uncles-padded-requires (uncles-padded-claims t) (uncles-padded-at t) uncles-padded.Post
+uncles-padded-uncles-padded-requires t c κs =
+    let a = c .before .before .before .before .before .args in
+    let q = c .before .before .before .before .before .pre .1 in
+    (omega arith, (omega arith, omega arith, omega arith, pad-up (a .v) (c .pair .result) (a .l) (q .3) (c .pair .ensures)))
+
+uncles-padded-returns-2 : (t : ℕ) → uncles-padded-lts.Need-returns-2 (uncles-padded-claims t) (uncles-padded-at t) uncles-padded.Post
+uncles-padded-returns-2 t c = uncles-right (c .before .before .before .before .before .before .args .hashes .now) (c .before .before .before .before .before .before .args .b) (c .before .before .before .before .before .before .args .i) (c .before .before .before .before .before .before .args .u) (c .before .before .before .before .before .before .args .l) (c .before .before .before .before .before .before .args .x) (c .before .before .before .uncle-padded .result) (c .uncles-padded .result) (c .before .before .before .before .if1 .left) (c .before .before .before .uncle-padded .ensures) (c .before .before .if2 .taken) (c .uncles-padded .ensures)
+
+uncles-padded-returns-3 : (t : ℕ) → uncles-padded-lts.Need-returns-3 (uncles-padded-claims t) (uncles-padded-at t) uncles-padded.Post
+uncles-padded-returns-3 t c = uncles-wrong (c .before .before .before .before .args .hashes .now) (c .before .before .before .before .args .b) (c .before .before .before .before .args .i) (c .before .before .before .before .args .u) (c .before .before .before .before .args .l) (c .before .before .before .before .args .x) (c .before .uncle-padded .result) (c .before .before .if1 .left) (c .before .uncle-padded .ensures) (c .if2 .left)
+
+pub +uncles-padded-spec : {M : Type 1} → statement M
++uncles-padded-spec = close μ-uncles-padded λ t. uncles-padded-lts.spec (uncles-padded-claims t)
     (uncles-padded-at t)
     uncles-padded.Post
     (uncles-padded-returns t)

@@ -1,87 +1,117 @@
-use Rattle.messages.specs.TakenLaws.{taken-passed, taken-ready, take-refused, take-done}
-use Rattle.messages.specs.TakeLaws.{hashes-form}
+use Rattle.messages.specs.Take.{placeIn}
+use Rattle.store.specs.Store.{heightOf}
+use Rattle.header.specs.Header.{placeOf}
+use Rattle.header.specs.declared.Header.{Header}
+use Rattle.store.specs.StoreLaws.{usable-facts}
+use Rattle.numbers.specs.Numbers.{ruleBroken}
+use borrow.Author.Tests.{not-true, not-false}
+use Rattle.messages.proofs.Taking.{took-header, took-body}
+use Rattle.messages.specs.TakenLaws.{taken-ready, take-refused, take-done}
+use Rattle.messages.specs.TakeLaws.{hashes-form, placed, first-refused, first-passed, rules-broken, rules-passed, rules-done}
 use native.Mathlib.Omega.{arith}
-use Prim.Native.Nat.{ℕ, _+_, _-_, _*_, _≤_, _<_, _/_, _%_, _^_}
-use lib.ListN.{length, getD, set, take, drop}
+use Prim.Native.Nat.{_-_}
 use mathlib.Core.Path.{_≡_, refl, ap, sym, _∙_}
 use borrow.Author.Needs.{needs}
 use Rattle.messages.proofs.take.take.Statement.{statement}
 use Rattle.messages.proofs.take.take.Tie as tie
-use Rattle.messages.proofs.take.take.Reads as reads
-use Rattle.messages.proofs.take.take.Lts as lts
-use Rattle.header.proofs.header_of.Reads as header-of-reads
-use Rattle.messages.proofs.take.place_in.Reads as place-in-reads
-use Rattle.messages.proofs.take.positions_of.Reads as positions-of-reads
-use Rattle.messages.proofs.take.take_number.Reads as take-number-reads
-use Rattle.messages.proofs.take.write.Reads as write-reads
-use Rattle.numbers.proofs.refusal.Reads as refusal-reads
-use Rattle.numbers.proofs.success.Reads as success-reads
 
--- src/take.rt:227:9
-take-number-requires : tie.Need-take-number-requires
-take-number-requires c κs = search needs
+is-hashes-requires : tie.Need-is-hashes-requires
+is-hashes-requires c κs = search needs
 
--- src/take.rt:229:13
-header-of-requires : tie.Need-header-of-requires
-header-of-requires c κs = hashes-form (c .before .before .before .before .before .args .m .now) (taken-passed (c .before .before .before .before .before .args .s .now) (c .before .before .before .before .before .args .m .now) (c .before .take-number .result) (c .before .take-number .ensures) (c .if1 .taken) .formed)
+first-number-requires : tie.Need-first-number-requires
+first-number-requires c κs = λ e. hashes-form (c .before .before .before .before .args .m .now) (sym (c .before .is-hashes .ensures) ∙ e)
 
--- src/take.rt:230:13
-place-in-requires : tie.Need-place-in-requires
-place-in-requires c κs =
-    let P = taken-passed (c .before .before .before .before .before .before .before .args .s .now) (c .before .before .before .before .before .before .before .args .m .now) (c .before .before .before .take-number .result) (c .before .before .before .take-number .ensures) (c .before .before .if1 .taken) in
-    (P .store, hashes-form (c .before .before .before .before .before .before .before .args .m .now) (P .formed), P .rules)
-
--- src/take.rt:231:13
-positions-of-requires : tie.Need-positions-of-requires
-positions-of-requires c κs = taken-passed (c .before .before .before .before .before .before .before .before .before .args .s .now) (c .before .before .before .before .before .before .before .before .before .args .m .now) (c .before .before .before .before .before .take-number .result) (c .before .before .before .before .before .take-number .ensures) (c .before .before .before .before .if1 .taken) .store
-
--- src/take.rt:232:13
-write-requires : tie.Need-write-requires
-write-requires c κs =
-    rw (c .before .positions-of .ensures, c .before .before .before .before .before .header-of .ensures .0, c .before .before .before .place-in .ensures) (taken-ready (c .before .before .before .before .before .before .before .before .before .before .before .args .s .now) (c .before .before .before .before .before .before .before .before .before .before .before .args .m .now) (c .before .before .before .before .before .before .before .take-number .result) (c .before .before .before .before .before .before .before .take-number .ensures) (c .before .before .before .before .before .before .if1 .taken))
-
--- src/take.rt:233:9
-success-requires : tie.Need-success-requires
-success-requires c κs = search needs
-
--- src/take.rt:233:9
-same-length : tie.Need-same-length
-same-length c = search needs
-
--- src/take.rt:233:9
-returns : tie.Need-returns
-returns c =
-    let a = c .before .before .before .before .before .before .before .before .before .before .before .before .before .before .before .args in
-    let d = take-done (a .s .now) (a .m .now) _ (c .before .before .before .before .before .before .before .before .before .before .before .take-number .result) (c .before .before .before .write .result) (c .before .before .before .before .before .before .before .place-in .result) (c .before .before .before .before .before .before .before .before .before .before .before .take-number .ensures) (c .before .before .before .before .before .before .before .before .before .before .if1 .taken) (c .before .before .before .before .before .before .before .place-in .ensures) (c .before .before .before .write .ensures .0) (c .before .before .before .write .ensures .1) in
-    (c .success .ensures ∙ d .0, d .1)
-
--- src/take.rt:235:5
 refusal-requires : tie.Need-refusal-requires
 refusal-requires c κs = search needs
 
--- src/take.rt:224:1
+same-length : tie.Need-same-length
+same-length c = search needs
+
+returns : tie.Need-returns
+returns c = let d = take-refused (c .before .before .before .before .before .before .before .args .s .now) (c .before .before .before .before .before .before .before .args .m .now) (c .before .before .first-number .result)
+    (took-header (c .before .before .before .before .before .before .before .args .s .now) (c .before .before .before .before .before .before .before .args .m .now) (c .before .before .before .before .is-hashes .result) (c .before .before .first-number .result) (c .before .before .before .before .is-hashes .ensures) (first-refused (c .before .before .before .before .is-hashes .result) (c .before .before .before .before .before .before .before .args .s .now) (c .before .before .before .before .before .before .before .args .m .now) (c .before .before .first-number .result) (c .before .before .first-number .ensures) (c .before .if1 .taken)) (c .before .if1 .taken)) (c .before .if1 .taken) in
+    (c .refusal .ensures ∙ d .0, d .1)
+
+header-of-requires : tie.Need-header-of-requires
+header-of-requires c κs = hashes-form (c .before .before .before .before .before .before .args .m .now) (sym (c .before .before .before .is-hashes .ensures) ∙ first-passed (c .before .before .before .is-hashes .result) (c .before .before .before .before .before .before .args .s .now) (c .before .before .before .before .before .before .args .m .now) (c .before .first-number .result) (c .before .first-number .ensures) (c .if1 .left) .1)
+
+rules-in-requires : tie.Need-rules-in-requires
+rules-in-requires c κs = (first-passed (c .before .before .before .before .before .is-hashes .result) (c .before .before .before .before .before .before .before .before .args .s .now) (c .before .before .before .before .before .before .before .before .args .m .now) (c .before .before .before .first-number .result) (c .before .before .before .first-number .ensures) (c .before .before .if1 .left) .0, c .before .header-of .ensures .1)
+
+refusal-requires-2 : tie.Need-refusal-requires-2
+refusal-requires-2 c κs = search needs
+
 same-length-2 : tie.Need-same-length-2
 same-length-2 c = search needs
 
--- src/take.rt:224:1
 returns-2 : tie.Need-returns-2
-returns-2 c =
-    let a = c .before .before .before .before .before .before .args in
-    let d = take-refused (a .s .now) (a .m .now) (c .before .before .take-number .result) (c .before .before .take-number .ensures) (c .before .if1 .left) in
-    (c .refusal .ensures ∙ d .0, d .1)
+returns-2 c = let e = rules-broken (c .before .before .before .before .before .before .before .before .is-hashes .result) (c .before .before .before .before .before .before .before .before .before .before .before .args .s .now) (c .before .before .before .before .before .before .before .before .before .before .before .args .m .now) (c .before .before .before .before .before .before .first-number .result) (c .before .before .before .before .before .before .first-number .ensures) (c .before .before .before .before .before .if1 .left) (c .before .before .before .before .header-of .result) (c .before .before .rules-in .result) (c .before .before .before .before .header-of .ensures .0) (c .before .before .rules-in .ensures) (not-true _ (c .before .if2 .taken)) in
+    let d = take-refused (c .before .before .before .before .before .before .before .before .before .before .before .args .s .now) (c .before .before .before .before .before .before .before .before .before .before .before .args .m .now) ruleBroken (took-header (c .before .before .before .before .before .before .before .before .before .before .before .args .s .now) (c .before .before .before .before .before .before .before .before .before .before .before .args .m .now) (c .before .before .before .before .before .before .before .before .is-hashes .result) ruleBroken (c .before .before .before .before .before .before .before .before .is-hashes .ensures) e (λ z. omega arith)) (λ z. omega arith) in
+    (c .refusal2 .ensures ∙ d .0, d .1)
+
+place-in-requires : tie.Need-place-in-requires
+place-in-requires c κs = (first-passed (c .before .before .before .before .before .before .before .before .is-hashes .result) (c .before .before .before .before .before .before .before .before .before .before .before .args .s .now) (c .before .before .before .before .before .before .before .before .before .before .before .args .m .now) (c .before .before .before .before .before .before .first-number .result) (c .before .before .before .before .before .before .first-number .ensures) (c .before .before .before .before .before .if1 .left) .0, c .before .before .before .before .header-of .ensures .1, sym (c .before .before .rules-in .ensures) ∙ not-false _ (c .before .if2 .left))
+
+blocks-of-requires : tie.Need-blocks-of-requires
+blocks-of-requires c κs = usable-facts (c .before .before .before .before .before .before .before .before .before .before .before .before .before .args .s .now) (first-passed (c .before .before .before .before .before .before .before .before .before .before .is-hashes .result) (c .before .before .before .before .before .before .before .before .before .before .before .before .before .args .s .now) (c .before .before .before .before .before .before .before .before .before .before .before .before .before .args .m .now) (c .before .before .before .before .before .before .before .before .first-number .result) (c .before .before .before .before .before .before .before .before .first-number .ensures) (c .before .before .before .before .before .before .before .if1 .left) .0) .long
+
+positions-of-requires : tie.Need-positions-of-requires
+positions-of-requires c κs = first-passed (c .before .before .before .before .before .before .before .before .before .before .before .before .is-hashes .result) (c .before .before .before .before .before .before .before .before .before .before .before .before .before .before .before .args .s .now) (c .before .before .before .before .before .before .before .before .before .before .before .before .before .before .before .args .m .now) (c .before .before .before .before .before .before .before .before .before .before .first-number .result) (c .before .before .before .before .before .before .before .before .before .before .first-number .ensures) (c .before .before .before .before .before .before .before .before .before .if1 .left) .0
+
+body-number-requires : tie.Need-body-number-requires
+body-number-requires c κs = let P = rules-passed (c .before .before .before .before .before .before .before .before .before .before .before .before .before .before .is-hashes .result) (c .before .before .before .before .before .before .before .before .before .before .before .before .before .before .before .before .before .args .s .now) (c .before .before .before .before .before .before .before .before .before .before .before .before .before .before .before .before .before .args .m .now) (c .before .before .before .before .before .before .before .before .before .before .before .before .first-number .result) (c .before .before .before .before .before .before .before .before .before .before .before .before .first-number .ensures) (c .before .before .before .before .before .before .before .before .before .before .before .if1 .left) (c .before .before .before .before .before .before .before .before .before .before .header-of .result) (c .before .before .before .before .before .before .before .before .rules-in .result) (c .before .before .before .before .before .before .before .before .before .before .header-of .ensures .0) (c .before .before .before .before .before .before .before .before .rules-in .ensures) (not-false _ (c .before .before .before .before .before .before .before .if2 .left)) in
+    let ep : c .before .before .before .before .before .place-in .result ≡ placeIn (c .before .before .before .before .before .before .before .before .before .before .before .before .before .before .before .before .before .args .s .now) (c .before .before .before .before .before .before .before .before .before .before .before .before .before .before .before .before .before .args .m .now) = c .before .before .before .before .before .place-in .ensures ∙ ap (λ (y : Header). placeOf y (heightOf (c .before .before .before .before .before .before .before .before .before .before .before .before .before .before .before .before .before .args .s .now))) (c .before .before .before .before .before .before .before .before .before .before .header-of .ensures .0) in (
+      rw (c .before .positions-of .ensures, c .before .before .before .before .before .before .before .before .before .before .header-of .ensures .0, ep) (placed (c .before .before .before .before .before .before .before .before .before .before .before .before .before .before .is-hashes .result) (c .before .before .before .before .before .before .before .before .before .before .before .before .before .before .before .before .before .args .s .now) (c .before .before .before .before .before .before .before .before .before .before .before .before .before .before .before .before .before .args .m .now) P),
+      omega (arith, c .before .positions-of .ensures, usable-facts (c .before .before .before .before .before .before .before .before .before .before .before .before .before .before .before .before .before .args .s .now) (P .store) .room),
+      c .before .before .before .blocks-of .ensures,
+    )
+
+refusal-requires-3 : tie.Need-refusal-requires-3
+refusal-requires-3 c κs = search needs
+
+same-length-3 : tie.Need-same-length-3
+same-length-3 c = search needs
+
+returns-3 : tie.Need-returns-3
+returns-3 c = let d = take-refused (c .before .before .before .before .before .before .before .before .before .before .before .before .before .before .before .before .before .before .before .before .args .s .now) (c .before .before .before .before .before .before .before .before .before .before .before .before .before .before .before .before .before .before .before .before .args .m .now) (c .before .before .body-number .result) (took-body (c .before .before .before .before .before .before .before .before .before .before .before .before .before .before .before .before .before .before .before .before .args .s .now) (c .before .before .before .before .before .before .before .before .before .before .before .before .before .before .before .before .before .before .before .before .args .m .now) (c .before .before .before .before .before .before .before .before .before .before .before .before .before .before .before .before .before .is-hashes .result) 0 (c .before .before .before .before .before .before .before .before .before .before .before .before .before .before .before .before .before .is-hashes .ensures) (rules-done (c .before .before .before .before .before .before .before .before .before .before .before .before .before .before .before .before .before .is-hashes .result) (c .before .before .before .before .before .before .before .before .before .before .before .before .before .before .before .before .before .before .before .before .args .s .now) (c .before .before .before .before .before .before .before .before .before .before .before .before .before .before .before .before .before .before .before .before .args .m .now) (c .before .before .before .before .before .before .before .before .before .before .before .before .before .before .before .first-number .result) (c .before .before .before .before .before .before .before .before .before .before .before .before .before .before .before .first-number .ensures) (c .before .before .before .before .before .before .before .before .before .before .before .before .before .before .if1 .left) (c .before .before .before .before .before .before .before .before .before .before .before .before .before .header-of .result) (c .before .before .before .before .before .before .before .before .before .before .before .rules-in .result) (c .before .before .before .before .before .before .before .before .before .before .before .before .before .header-of .ensures .0) (c .before .before .before .before .before .before .before .before .before .before .before .rules-in .ensures) (not-false _ (c .before .before .before .before .before .before .before .before .before .before .if2 .left))) (c .before .before .body-number .result) (c .before .before .before .before .before .before .before .before .before .before .before .before .before .header-of .result) (c .before .before .before .before .before .before .before .before .place-in .result) refl (c .before .before .before .before .before .before .before .before .before .before .before .before .before .header-of .ensures .0) (c .before .before .before .before .before .before .before .before .place-in .ensures ∙ ap (λ (y : Header). placeOf y (heightOf (c .before .before .before .before .before .before .before .before .before .before .before .before .before .before .before .before .before .before .before .before .args .s .now))) (c .before .before .before .before .before .before .before .before .before .before .before .before .before .header-of .ensures .0)) (c .before .before .body-number .ensures)) (c .before .if3 .taken) in
+    (c .refusal3 .ensures ∙ d .0, d .1)
+
+write-requires : tie.Need-write-requires
+write-requires c κs = let ep : c .before .before .before .before .before .before .before .before .place-in .result ≡ placeIn (c .before .before .before .before .before .before .before .before .before .before .before .before .before .before .before .before .before .before .before .before .args .s .now) (c .before .before .before .before .before .before .before .before .before .before .before .before .before .before .before .before .before .before .before .before .args .m .now) = c .before .before .before .before .before .before .before .before .place-in .ensures ∙ ap (λ (y : Header). placeOf y (heightOf (c .before .before .before .before .before .before .before .before .before .before .before .before .before .before .before .before .before .before .before .before .args .s .now))) (c .before .before .before .before .before .before .before .before .before .before .before .before .before .header-of .ensures .0) in
+    rw (c .before .before .before .before .positions-of .ensures, c .before .before .before .before .before .before .before .before .before .before .before .before .before .header-of .ensures .0, ep) (taken-ready (c .before .before .before .before .before .before .before .before .before .before .before .before .before .before .before .before .before .before .before .before .args .s .now) (c .before .before .before .before .before .before .before .before .before .before .before .before .before .before .before .before .before .before .before .before .args .m .now) (c .before .before .body-number .result) (took-body (c .before .before .before .before .before .before .before .before .before .before .before .before .before .before .before .before .before .before .before .before .args .s .now) (c .before .before .before .before .before .before .before .before .before .before .before .before .before .before .before .before .before .before .before .before .args .m .now) (c .before .before .before .before .before .before .before .before .before .before .before .before .before .before .before .before .before .is-hashes .result) 0 (c .before .before .before .before .before .before .before .before .before .before .before .before .before .before .before .before .before .is-hashes .ensures) (rules-done (c .before .before .before .before .before .before .before .before .before .before .before .before .before .before .before .before .before .is-hashes .result) (c .before .before .before .before .before .before .before .before .before .before .before .before .before .before .before .before .before .before .before .before .args .s .now) (c .before .before .before .before .before .before .before .before .before .before .before .before .before .before .before .before .before .before .before .before .args .m .now) (c .before .before .before .before .before .before .before .before .before .before .before .before .before .before .before .first-number .result) (c .before .before .before .before .before .before .before .before .before .before .before .before .before .before .before .first-number .ensures) (c .before .before .before .before .before .before .before .before .before .before .before .before .before .before .if1 .left) (c .before .before .before .before .before .before .before .before .before .before .before .before .before .header-of .result) (c .before .before .before .before .before .before .before .before .before .before .before .rules-in .result) (c .before .before .before .before .before .before .before .before .before .before .before .before .before .header-of .ensures .0) (c .before .before .before .before .before .before .before .before .before .before .before .rules-in .ensures) (not-false _ (c .before .before .before .before .before .before .before .before .before .before .if2 .left))) (c .before .before .body-number .result) (c .before .before .before .before .before .before .before .before .before .before .before .before .before .header-of .result) (c .before .before .before .before .before .before .before .before .place-in .result) refl (c .before .before .before .before .before .before .before .before .before .before .before .before .before .header-of .ensures .0) (c .before .before .before .before .before .before .before .before .place-in .ensures ∙ ap (λ (y : Header). placeOf y (heightOf (c .before .before .before .before .before .before .before .before .before .before .before .before .before .before .before .before .before .before .before .before .args .s .now))) (c .before .before .before .before .before .before .before .before .before .before .before .before .before .header-of .ensures .0)) (c .before .before .body-number .ensures)) (c .before .if3 .left))
+
+success-requires : tie.Need-success-requires
+success-requires c κs = search needs
+
+same-length-4 : tie.Need-same-length-4
+same-length-4 c = search needs
+
+returns-4 : tie.Need-returns-4
+returns-4 c = let d = take-done (c .before .before .before .before .before .before .before .before .before .before .before .before .before .before .before .before .before .before .before .before .before .before .before .before .args .s .now) (c .before .before .before .before .before .before .before .before .before .before .before .before .before .before .before .before .before .before .before .before .before .before .before .before .args .m .now) _ (c .before .before .before .before .before .before .body-number .result) (c .before .before .before .write .result) (c .before .before .before .before .before .before .before .before .before .before .before .before .place-in .result) (took-body (c .before .before .before .before .before .before .before .before .before .before .before .before .before .before .before .before .before .before .before .before .before .before .before .before .args .s .now) (c .before .before .before .before .before .before .before .before .before .before .before .before .before .before .before .before .before .before .before .before .before .before .before .before .args .m .now) (c .before .before .before .before .before .before .before .before .before .before .before .before .before .before .before .before .before .before .before .before .before .is-hashes .result) 0 (c .before .before .before .before .before .before .before .before .before .before .before .before .before .before .before .before .before .before .before .before .before .is-hashes .ensures) (rules-done (c .before .before .before .before .before .before .before .before .before .before .before .before .before .before .before .before .before .before .before .before .before .is-hashes .result) (c .before .before .before .before .before .before .before .before .before .before .before .before .before .before .before .before .before .before .before .before .before .before .before .before .args .s .now) (c .before .before .before .before .before .before .before .before .before .before .before .before .before .before .before .before .before .before .before .before .before .before .before .before .args .m .now) (c .before .before .before .before .before .before .before .before .before .before .before .before .before .before .before .before .before .before .before .first-number .result) (c .before .before .before .before .before .before .before .before .before .before .before .before .before .before .before .before .before .before .before .first-number .ensures) (c .before .before .before .before .before .before .before .before .before .before .before .before .before .before .before .before .before .before .if1 .left) (c .before .before .before .before .before .before .before .before .before .before .before .before .before .before .before .before .before .header-of .result) (c .before .before .before .before .before .before .before .before .before .before .before .before .before .before .before .rules-in .result) (c .before .before .before .before .before .before .before .before .before .before .before .before .before .before .before .before .before .header-of .ensures .0) (c .before .before .before .before .before .before .before .before .before .before .before .before .before .before .before .rules-in .ensures) (not-false _ (c .before .before .before .before .before .before .before .before .before .before .before .before .before .before .if2 .left))) (c .before .before .before .before .before .before .body-number .result) (c .before .before .before .before .before .before .before .before .before .before .before .before .before .before .before .before .before .header-of .result) (c .before .before .before .before .before .before .before .before .before .before .before .before .place-in .result) refl (c .before .before .before .before .before .before .before .before .before .before .before .before .before .before .before .before .before .header-of .ensures .0) (c .before .before .before .before .before .before .before .before .before .before .before .before .place-in .ensures ∙ ap (λ (y : Header). placeOf y (heightOf (c .before .before .before .before .before .before .before .before .before .before .before .before .before .before .before .before .before .before .before .before .before .before .before .before .args .s .now))) (c .before .before .before .before .before .before .before .before .before .before .before .before .before .before .before .before .before .header-of .ensures .0)) (c .before .before .before .before .before .before .body-number .ensures)) (c .before .before .before .before .before .if3 .left) (c .before .before .before .before .before .before .before .before .before .before .before .before .place-in .ensures ∙ ap (λ (y : Header). placeOf y (heightOf (c .before .before .before .before .before .before .before .before .before .before .before .before .before .before .before .before .before .before .before .before .before .before .before .before .args .s .now))) (c .before .before .before .before .before .before .before .before .before .before .before .before .before .before .before .before .before .header-of .ensures .0)) (c .before .before .before .write .ensures .0) (c .before .before .before .write .ensures .1) in
+    (c .success .ensures ∙ d .0, d .1)
 
 pub take-spec : {M : Type 1} → statement M
 take-spec =
     tie.close
     (tie.spec
-    take-number-requires
-    header-of-requires
-    place-in-requires
-    positions-of-requires
-    write-requires
-    success-requires
+    is-hashes-requires
+    first-number-requires
+    refusal-requires
     same-length
     returns
-    refusal-requires
+    header-of-requires
+    rules-in-requires
+    refusal-requires-2
     same-length-2
-    returns-2)
+    returns-2
+    place-in-requires
+    blocks-of-requires
+    positions-of-requires
+    body-number-requires
+    refusal-requires-3
+    same-length-3
+    returns-3
+    write-requires
+    success-requires
+    same-length-4
+    returns-4)

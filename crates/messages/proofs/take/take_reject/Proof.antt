@@ -3,31 +3,21 @@ use Rattle.numbers.specs.Numbers.{refused}
 use Rattle.messages.specs.Take.{rejectAnswer, headerNumber}
 use Rattle.messages.specs.TakeLaws.{reject-form}
 use native.Mathlib.Omega.{arith}
-use Prim.Native.Nat.{ℕ, _+_, _-_, _*_, _≤_, _<_, _/_, _%_, _^_}
-use lib.ListN.{length, getD, set, take, drop}
-use mathlib.Core.Path.{_≡_, refl, ap, sym, _∙_}
+use Prim.Native.Nat.{_-_}
+use mathlib.Core.Path.{ap, sym, _∙_}
 use borrow.Author.Needs.{needs}
 use Rattle.messages.proofs.take.take_reject.Statement.{statement}
 use Rattle.messages.proofs.take.take_reject.Tie as tie
-use Rattle.messages.proofs.take.take_reject.Reads as reads
-use Rattle.messages.proofs.take.take_reject.Lts as lts
-use Rattle.header.proofs.is_reject.Reads as is-reject-reads
-use Rattle.messages.proofs.take.header_number.Reads as header-number-reads
-use Rattle.numbers.proofs.refusal.Reads as refusal-reads
 
--- src/take.rt:73:9
 is-reject-requires : tie.Need-is-reject-requires
 is-reject-requires c κs = search needs
 
--- src/take.rt:74:9
 header-number-requires : tie.Need-header-number-requires
 header-number-requires c κs = λ e. omega (arith, reject-form (c .before .before .before .args .m .now) (sym (c .is-reject .ensures) ∙ e))
 
--- src/take.rt:75:5
 refusal-requires : tie.Need-refusal-requires
 refusal-requires c κs = search needs
 
--- src/take.rt:70:1
 returns : tie.Need-returns
 unfolding rejectAnswer
 returns c =

@@ -1,0 +1,154 @@
+-- 00, demand 1, and 01, "How much each contract says", of the contracts of crates/kombudeva themselves. `Asked` is what a caller has to
+-- show, `Learnt` what it then knows of the answer and of the memory that it lent: both are read from the contract. A contract that asks
+-- something, or says less than the answer and every byte left, is refused here.
+-- Assumes nothing.
+use Prim.Native.Nat.{ℕ}
+use mathlib.Core.Path.{_≡_, sym, _∙_}
+use mathlib.Core.List.{List}
+use contract.Lifetimes.{Lfts}
+use borrow.Fn.Kinds.{PK, RK, Dens, resT, endedOf, In, Out}
+use denote.Triple.Clauses.{AtExit}
+use denote.Ref.{now}
+use Rattle.kombudeva.proofs.kd_sha256 as hash
+use Rattle.kombudeva.proofs.kd_store_size as size
+use Rattle.kombudeva.proofs.kd_open as opening
+use Rattle.kombudeva.proofs.kd_held as held
+use Rattle.kombudeva.proofs.kd_take as taking
+use Rattle.kombudeva.proofs.kd_take_reject as reject
+use Rattle.kombudeva.proofs.kd_serve as serving
+use Rattle.kombudeva.proofs.kd_load_layer as loading
+use Rattle.kombudeva.proofs.kd_judge_block as block
+use Rattle.kombudeva.proofs.kd_judge_piece as piece
+use Rattle.kombudeva.proofs.kd_torrent_read as torrent
+use Rattle.kombudeva.proofs.kd_torrent_file as file
+use Rattle.kombudeva.proofs.kd_torrent_path as path
+use Rattle.kombudeva.proofs.kd_torrent_list as list
+
+-- nothing is asked of the caller, whatever the arguments are
+abbrev pub AsksNothing : (n : ℕ) (ps : List (PK n)) → In n ps → Type 0
+AsksNothing n ps asked = (κs : Lfts n) (a : Dens κs ps) → asked κs a
+
+-- two answers that satisfy the contract on the same arguments are the same
+abbrev pub OneAnswer : (n : ℕ) (ps : List (PK n)) (r : RK n) → Out n ps r → Type 0
+OneAnswer n ps r learnt = (κs : Lfts n) (a : Dens κs ps) (x y : resT r κs .Denot) (t u : AtExit (endedOf n ps r) κs) → learnt κs a x t → learnt κs a y u → x ≡ y
+
+-- ---- every entry point "asks nothing of its caller"
+
+-- kd_sha256
+pub hash-asks-nothing : AsksNothing 1 hash.Kinds.ps hash.Reads.Asked
+hash-asks-nothing κs a = tt
+
+-- kd_store_size
+pub size-asks-nothing : AsksNothing 0 size.Kinds.ps size.Reads.Asked
+size-asks-nothing κs a = tt
+
+-- kd_open
+pub opening-asks-nothing : AsksNothing 1 opening.Kinds.ps opening.Reads.Asked
+opening-asks-nothing κs a = tt
+
+-- kd_held
+pub held-asks-nothing : AsksNothing 1 held.Kinds.ps held.Reads.Asked
+held-asks-nothing κs a = tt
+
+-- kd_take
+pub taking-asks-nothing : AsksNothing 2 taking.Kinds.ps taking.Reads.Asked
+taking-asks-nothing κs a = tt
+
+-- kd_take_reject
+pub reject-asks-nothing : AsksNothing 2 reject.Kinds.ps reject.Reads.Asked
+reject-asks-nothing κs a = tt
+
+-- kd_serve
+pub serving-asks-nothing : AsksNothing 3 serving.Kinds.ps serving.Reads.Asked
+serving-asks-nothing κs a = tt
+
+-- kd_load_layer
+pub loading-asks-nothing : AsksNothing 2 loading.Kinds.ps loading.Reads.Asked
+loading-asks-nothing κs a = tt
+
+-- kd_judge_block
+pub block-asks-nothing : AsksNothing 2 block.Kinds.ps block.Reads.Asked
+block-asks-nothing κs a = tt
+
+-- kd_judge_piece
+pub piece-asks-nothing : AsksNothing 2 piece.Kinds.ps piece.Reads.Asked
+piece-asks-nothing κs a = tt
+
+-- kd_torrent_read
+pub torrent-asks-nothing : AsksNothing 1 torrent.Kinds.ps torrent.Reads.Asked
+torrent-asks-nothing κs a = tt
+
+-- kd_torrent_file
+pub file-asks-nothing : AsksNothing 1 file.Kinds.ps file.Reads.Asked
+file-asks-nothing κs a = tt
+
+-- kd_torrent_path
+pub path-asks-nothing : AsksNothing 1 path.Kinds.ps path.Reads.Asked
+path-asks-nothing κs a = tt
+
+-- kd_torrent_list
+pub list-asks-nothing : AsksNothing 2 list.Kinds.ps list.Reads.Asked
+list-asks-nothing κs a = tt
+
+-- ---- "no second outcome satisfies it": the answer, and every byte left of what was lent to be written
+
+-- kd_sha256
+pub one-hash : OneAnswer 1 hash.Kinds.ps hash.Kinds.r hash.Reads.Learnt
+one-hash κs a x y t u p q = p ∙ sym q
+
+-- kd_store_size
+pub one-size : OneAnswer 0 size.Kinds.ps size.Kinds.r size.Reads.Learnt
+one-size κs a x y t u p q = p ∙ sym q
+
+-- kd_open: the answer, and the store's bytes
+pub one-opening : (κs : Lfts 1) (a : Dens κs opening.Kinds.ps) (x y : resT opening.Kinds.r κs .Denot) (t u : AtExit (endedOf 1 opening.Kinds.ps opening.Kinds.r) κs)
+    → opening.Reads.Learnt κs a x t → opening.Reads.Learnt κs a y u → (x ≡ y) × (now (t .0) ≡ now (u .0))
+one-opening κs a x y t u p q = (p .0 ∙ sym (q .0), p .1 ∙ sym (q .1))
+
+-- kd_held
+pub one-held : OneAnswer 1 held.Kinds.ps held.Kinds.r held.Reads.Learnt
+one-held κs a x y t u p q = p ∙ sym q
+
+-- kd_take: the answer, and the store's bytes
+pub one-taking : (κs : Lfts 2) (a : Dens κs taking.Kinds.ps) (x y : resT taking.Kinds.r κs .Denot) (t u : AtExit (endedOf 2 taking.Kinds.ps taking.Kinds.r) κs)
+    → taking.Reads.Learnt κs a x t → taking.Reads.Learnt κs a y u → (x ≡ y) × (now (t .0) ≡ now (u .0))
+one-taking κs a x y t u p q = (p .0 ∙ sym (q .0), p .1 ∙ sym (q .1))
+
+-- kd_take_reject
+pub one-reject : OneAnswer 2 reject.Kinds.ps reject.Kinds.r reject.Reads.Learnt
+one-reject κs a x y t u p q = p ∙ sym q
+
+-- kd_serve: the answer, and the output's bytes
+pub one-serving : (κs : Lfts 3) (a : Dens κs serving.Kinds.ps) (x y : resT serving.Kinds.r κs .Denot) (t u : AtExit (endedOf 3 serving.Kinds.ps serving.Kinds.r) κs)
+    → serving.Reads.Learnt κs a x t → serving.Reads.Learnt κs a y u → (x ≡ y) × (now (t .1 .1 .0) ≡ now (u .1 .1 .0))
+one-serving κs a x y t u p q = (p .0 ∙ sym (q .0), p .1 ∙ sym (q .1))
+
+-- kd_load_layer: the answer, and the store's bytes
+pub one-loading : (κs : Lfts 2) (a : Dens κs loading.Kinds.ps) (x y : resT loading.Kinds.r κs .Denot) (t u : AtExit (endedOf 2 loading.Kinds.ps loading.Kinds.r) κs)
+    → loading.Reads.Learnt κs a x t → loading.Reads.Learnt κs a y u → (x ≡ y) × (now (t .0) ≡ now (u .0))
+one-loading κs a x y t u p q = (p .0 ∙ sym (q .0), p .1 ∙ sym (q .1))
+
+-- kd_judge_block
+pub one-block : OneAnswer 2 block.Kinds.ps block.Kinds.r block.Reads.Learnt
+one-block κs a x y t u p q = p ∙ sym q
+
+-- kd_judge_piece
+pub one-piece : OneAnswer 2 piece.Kinds.ps piece.Kinds.r piece.Reads.Learnt
+one-piece κs a x y t u p q = p ∙ sym q
+
+-- kd_torrent_read
+pub one-torrent : OneAnswer 1 torrent.Kinds.ps torrent.Kinds.r torrent.Reads.Learnt
+one-torrent κs a x y t u p q = p ∙ sym q
+
+-- kd_torrent_file
+pub one-file : OneAnswer 1 file.Kinds.ps file.Kinds.r file.Reads.Learnt
+one-file κs a x y t u p q = p ∙ sym q
+
+-- kd_torrent_path
+pub one-path : OneAnswer 1 path.Kinds.ps path.Kinds.r path.Reads.Learnt
+one-path κs a x y t u p q = p ∙ sym q
+
+-- kd_torrent_list: the answer, and the output's bytes
+pub one-list : (κs : Lfts 2) (a : Dens κs list.Kinds.ps) (x y : resT list.Kinds.r κs .Denot) (t u : AtExit (endedOf 2 list.Kinds.ps list.Kinds.r) κs)
+    → list.Reads.Learnt κs a x t → list.Reads.Learnt κs a y u → (x ≡ y) × (now (t .1 .0) ≡ now (u .1 .0))
+one-list κs a x y t u p q = (p .0 ∙ sym (q .0), p .1 ∙ sym (q .1))

@@ -1,0 +1,22 @@
+use Rattle.store.specs.StoreLaws.{usable-facts}
+use Prim.Native.Nat.{_-_}
+use mathlib.Core.Path.{refl, _∙_}
+use borrow.Author.Needs.{needs}
+use Rattle.messages.proofs.take.rules_in.Statement.{statement}
+use Rattle.messages.proofs.take.rules_in.Tie as tie
+
+blocks-of-requires : tie.Need-blocks-of-requires
+blocks-of-requires c κs = usable-facts (c .before .args .s .now) (c .before .pre .0) .long
+
+height-of-requires : tie.Need-height-of-requires
+height-of-requires c κs = usable-facts (c .before .before .args .s .now) (c .before .before .pre .0) .long
+
+keeps-rules-requires : tie.Need-keeps-rules-requires
+keeps-rules-requires c κs = search needs
+
+returns : tie.Need-returns
+returns c = c .keeps-rules .ensures ∙ rw (c .before .before .blocks-of .ensures, c .before .height-of .ensures) refl
+
+pub rules-in-spec : {M : Type 1} → statement M
+rules-in-spec =
+    tie.close (tie.spec blocks-of-requires height-of-requires keeps-rules-requires returns)
