@@ -1,7 +1,7 @@
 //! One vocabulary: the header has the names and values of `crates/numbers` and `crates/limits`, and so have the reference and
 //! the binding. All of it is read from the sources.
 
-use std::collections::BTreeMap;
+use std::collections::{BTreeMap, BTreeSet};
 use std::fs;
 use std::path::Path;
 
@@ -74,12 +74,10 @@ fn refused() -> Names {
 
 #[test]
 fn the_numbers_of_the_table() {
-    let values: Vec<u64> = {
-        let mut values: Vec<u64> = numbers().into_values().collect();
-        values.sort();
-        values
-    };
-    assert_eq!(values, (0..=12).chain(19..=29).collect::<Vec<u64>>());
+    let numbers = numbers();
+    let values: BTreeSet<u64> = numbers.values().copied().collect();
+    assert_eq!(values, (0..=12).chain(19..=29).collect());
+    assert_eq!(values.len(), numbers.len());
 }
 
 #[test]
