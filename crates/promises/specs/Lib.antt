@@ -7,7 +7,7 @@ pub mod EachNumber
 pub mod FromRootToBlock
 pub mod Worked
 -- the premises can be met
-pub mod Lent
+pub mod Blank
 pub mod TwoBlocks
 pub mod Offered
 pub mod Example
