@@ -31,10 +31,10 @@ use Rattle.messages.specs.TakeLaws.{passed, placed}
 use Rattle.pieces.specs.Pieces.{layerOfPieces, layerSettled, layerNumber, layerAnswer}
 use Rattle.pieces.specs.Asks.{Layered}
 use Rattle.pieces.specs.PiecesLaws.{layered, layer-sound, layer-taken, settled-from-root}
-use Rattle.words.specs.Messages.{WellFormed, unclesIn, Settles}
+use Rattle.words.specs.Messages.{unclesIn, Settles}
 use Rattle.words.specs.Held.{Hashes, Spot, Stands, first, later, Distinct, none, more, All, unheldAmong}
 use Rattle.words.specs.Pieces.{LayerFormed, LayerSettles}
-use Rattle.knowledge.specs.TakenWhen.{taken-well-formed}
+use Rattle.knowledge.specs.TakenWhen.{Formed, taken-well-formed}
 use Rattle.knowledge.specs.TakenEntries.{lacking, count-lacking, count-most, fresh-lacking}
 use Rattle.knowledge.specs.Over.{Entered, Found, over-entered, entry-over}
 use Rattle.knowledge.specs.Positions.{settles-entered, entry-settled}
@@ -97,7 +97,7 @@ module _ (h : ℕ) (R : Hashes) where
 
 -- ---- a message
 
-module _ (s m : List ℕ) (W : WellFormed s m) where
+module _ (s m : List ℕ) (W : Formed s m) where
   P : Passed (isHashes m) s m
   P = passed (isHashes m) s m (W .header)
 
@@ -162,7 +162,7 @@ spots-unheld s u R (e ∷ L) f =
     ap₂ (λ (b : Bool) (n : ℕ). oneIf (not b) + n) q (spots-unheld s u R L (λ g y. f g (there y)))
 
 module _ (s m : List ℕ) (z : takeNumber s m ≡ 0) where
-  well : WellFormed s m
+  well : Formed s m
   well = taken-well-formed s m z
 
   -- THE COUNT of a taken message: the positions that it settles and for which kd_held did not answer 0

@@ -30,8 +30,7 @@ use Rattle.header.specs.declared.Place.{Place}
 use Rattle.header.specs.Header.{headerOf, messageSize, placeOf, rulesKept, lengthRule, indexRule}
 use Rattle.messages.specs.Padded.{allFrom, runPadded, unclesPadded}
 use Rattle.messages.specs.Take.{given, settled, anchor, worked, padded, placeIn, takeNumber, takeAnswer}
-use Rattle.words.specs.Messages.{WellFormed}
-use Rattle.knowledge.specs.TakenWhen.{wrong-padding-then-5, no-anchor-then-6, other-anchor-then-7, held-differs-then-8}
+use Rattle.knowledge.specs.TakenWhen.{Formed, wrong-padding-then-5, no-anchor-then-6, other-anchor-then-7, held-differs-then-8}
 use Rattle.promises.specs.Blank.{blank, blank-room}
 use Rattle.promises.specs.Offered.{twoHashes, offered-header, run-is, first-hash, second-hash, two-size, well-formed-in}
 use Rattle.promises.specs.TwoBlocks.{high, blocks, store, facts, root-is, held, hash}
@@ -113,7 +112,7 @@ module _ (buffer root a b : List ℕ) (fits : storeSize 49152 ≤ length buffer)
   unfolding placeOf nodeNumber height heightFrom
   place-next = ap₂ (λ (x : Header) (h : ℕ). placeOf x h) (header-next root a b lr la lb) high3
 
-  well-next : WellFormed three (twoHashes root nextTwo a b)
+  well-next : Formed three (twoHashes root nextTwo a b)
   unfolding three messageSize rulesKept lengthRule indexRule covering ceilDiv height heightFrom
   well-next =
       well-formed-in root nextTwo (a ++ b) lr refl three (header 2) 3 2 (header-next root a b lr la lb) (opened-usable buffer 49152 16384 root range3 fits lr)
@@ -134,7 +133,7 @@ module _ (buffer root a b : List ℕ) (fits : storeSize 49152 ≤ length buffer)
   unfolding placeOf nodeNumber height heightFrom
   place-first = ap₂ (λ (x : Header) (h : ℕ). placeOf x h) (header-first root a b lr la lb) high3
 
-  well-first : WellFormed three (twoHashes root firstTwo a b)
+  well-first : Formed three (twoHashes root firstTwo a b)
   unfolding three messageSize rulesKept lengthRule indexRule covering ceilDiv height heightFrom
   well-first =
       well-formed-in root firstTwo (a ++ b) lr refl three (header 0) 3 2 (header-first root a b lr la lb) (opened-usable buffer 49152 16384 root range3 fits lr)
@@ -161,7 +160,7 @@ module _ (s root a b : List ℕ) (lr : length root ≡ 32) (la : length a ≡ 32
   unfolding placeOf nodeNumber height heightFrom
   place-is = ap₂ (λ (x : Header) (h : ℕ). placeOf x h) (header-first root a b lr la lb) high
 
-  well : WellFormed s (twoHashes root firstTwo a b)
+  well : Formed s (twoHashes root firstTwo a b)
   unfolding messageSize rulesKept lengthRule indexRule covering ceilDiv height heightFrom
   well = well-formed-in root firstTwo (a ++ b) lr refl s (header 0) 2 1 (header-first root a b lr la lb) u r blocks high refl (sym (two-size root firstTwo a b lr refl la lb))
 

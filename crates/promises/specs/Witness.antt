@@ -44,6 +44,7 @@ use Rattle.knowledge.specs.RootToBlock.{treeOf, same-height, agreed-piece}
 use Rattle.promises.specs.Blank.{blank, blank-room, blank-bytes, blank-opens}
 use Rattle.promises.specs.Example.{twoLeaves, header-two, first, second, two-taken, two-well-formed, two-place}
 use Rattle.promises.specs.TwoBlocks.{range, opens, open-is}
+use Rattle.knowledge.specs.FormedWhen.{well-formed}
 
 -- the message is a string of bytes
 one-byte : Octets 1 (22 ∷ [])
@@ -143,7 +144,7 @@ module _ (file buffer : List ℕ) (two-blocks : length file ≡ 32768) (fits : s
       let m = twoLeaves (leafOf file 0) (leafOf file 1) in
       let h = header-two (leafOf file 0) (leafOf file 1) (leaf-octets file 0) (leaf-octets file 1) in
       record {
-        formed = two-well-formed (leafOf file 0) (leafOf file 1) (leaf-octets file 0) (leaf-octets file 1) buffer fits;
+        formed = well-formed _ m .1 (two-well-formed (leafOf file 0) (leafOf file 1) (leaf-octets file 0) (leaf-octets file 1) buffer fits);
         run = λ j l. run-told j (headerOf m) h l;
         uncles = λ j l. absurd (none-told j (headerOf m) h l);
       }
