@@ -25,7 +25,8 @@ use Rattle.knowledge.specs.FormedWhen.{well-formed}
 -- "Trees, torrents and messages mean what BEP 52, BEP 3 and FIPS 180-4 say.": what they mean are the definitions in the files specs/ of
 -- sha256 and below it, tree, header, bencode, meaning.
 
--- "A well-formed reply" (`WellFormed`: it passes 9, 1, 2, 3 and 4) "is taken exactly when its padding is right, its hashes chain to its anchor, already held, and no held hash differs from it;"
+-- "A well-formed reply" (`WellFormed`: it passes 9, 1, 2, 3 and 4) "is taken exactly when its padding is right, its hashes chain to its
+-- anchor, already held, and no held hash differs from it;"
 pub taken-exactly-when : (s m : List ℕ) → WellFormed s m → (takeAnswer s m .number ≡ 0) ↔ Acceptable s m
 unfolding takeAnswer
 taken-exactly-when s m w = Rattle.knowledge.specs.HeldWhen.taken-exactly-when s m (well-formed s m .0 w)
@@ -47,7 +48,7 @@ pub anchor-settled : (s m : List ℕ) → WellFormed s m → (w : List ℕ) → 
 anchor-settled s m w = Rattle.knowledge.specs.ChainsTo.chain-settles s m (well-formed s m .0 w)
 
 pub count-is-newly-held : (s m : List ℕ) → takeAnswer s m .number ≡ 0
-    → (A : All (Settles m) (2 * headerOf m .len - 1 + 2 * unclesIn m)) × (takeAnswer s m .count ≡ unheldAmong s (A .spots))
+    → (A : All (Settles m) (2 * headerOf m .len - 1 + 2 * unclesIn m)) × (takeAnswer s m .count ≡ unheldAmong s (A .all))
 unfolding takeAnswer
 count-is-newly-held = Rattle.knowledge.specs.SettledMany.counted
 
@@ -66,7 +67,7 @@ pub layer-settles-where : (s layer : List ℕ) → LayerFormed s layer
 layer-settles-where = Rattle.knowledge.specs.HeldAfter.layer-settles-where
 
 pub layer-count-is-newly-held : (s layer : List ℕ) → layerAnswer s layer .number ≡ 0
-    → (A : All (LayerSettles s layer) (2 * 2 ^ (heightOf s - layerOfPieces s) - 1)) × (layerAnswer s layer .count ≡ unheldAmong s (A .spots))
+    → (A : All (LayerSettles s layer) (2 * 2 ^ (heightOf s - layerOfPieces s) - 1)) × (layerAnswer s layer .count ≡ unheldAmong s (A .all))
 unfolding layerAnswer
 layer-count-is-newly-held = Rattle.knowledge.specs.SettledMany.layer-counted
 
