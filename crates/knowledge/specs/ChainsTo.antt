@@ -16,9 +16,10 @@ use Rattle.header.specs.HeaderLaws.{rules-kept, log-some}
 use Rattle.messages.specs.Take.{given, unclesOf, placeIn}
 use Rattle.messages.specs.Asks.{Passed}
 use Rattle.messages.specs.TakeLaws.{passed, placed}
-use Rattle.words.specs.Messages.{WellFormed, Makes, alone, pair, Climbs, there, left, right, hashIn, topLayer, topIndex, anchorLayer, anchorIndex, Settles, ChainsTo}
+use Rattle.words.specs.Messages.{Makes, alone, pair, Climbs, there, left, right, hashIn, topLayer, topIndex, anchorLayer, anchorIndex, Settles, ChainsTo}
 use Rattle.knowledge.specs.Chains.{Chain}
 use Rattle.knowledge.specs.Positions.{even-number, given-is, uncle-is, u-is, top-is, anchor-settled}
+use Rattle.knowledge.specs.TakenWhen.{Formed}
 
 -- what leaves make depends on those leaves alone
 makes-same : (f g : ℕ → List ℕ) (b a c : ℕ) (v : List ℕ) → ((j : ℕ) → j < b → f j ≡ g j) → Makes f a c v → a + c ≤ b → Makes g a c v
@@ -58,7 +59,7 @@ climbs-up f g b h l i u n x v w e a c q (right d k y z t o r) =
     let r2 = climbs-up f g b h (suc l) (d + 1) k (n / 2) (x / 2) (pairHash (g d) z) t e (omega arith) (omega arith) hp r in
     right d k n z t (ap (λ (p : ℕ). p % 2) q ∙ nx ∙ o) (rw (e d (omega arith)) at r2)
 
-module _ (s m : List ℕ) (W : WellFormed s m) where
+module _ (s m : List ℕ) (W : Formed s m) where
   P : Passed (isHashes m) s m
   P = passed (isHashes m) s m (W .header)
 

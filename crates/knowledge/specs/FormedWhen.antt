@@ -23,6 +23,7 @@ use Rattle.messages.specs.Take.{headerNumber, settled, anchor, worked, padded, 
 use Rattle.messages.specs.TakeLaws.{passed, passes}
 use Rattle.words.specs.Messages.{WellFormed, HashesForm, OtherForm, Readable, Addressed, Ruled}
 use Rattle.knowledge.specs.Tests.{either, not-both}
+use Rattle.knowledge.specs.TakenWhen.{Formed}
 
 -- ---- the tests
 
@@ -199,33 +200,36 @@ module _ (s m : List ℕ) where
   )
 
   -- WELL-FORMED is what passes all of these
-  pub well-formed-exactly-when : WellFormed s m ↔ (Ruled s m × (length m ≡ messageSize (headerOf m)))
-  well-formed-exactly-when = (
-    λ w.
-        (let P = passed (isHashes m) s m (w .header) in
-        (record { store = P .store; form = form-true m (P .formed); root = same-true (factsRoot s) (messageRoot m) (P .root); rules = rules-kept (headerOf m) (blocksOf s) (heightOf s) (P .rules) }, w .size)),
-    λ t. record {
+  pub well-formed : WellFormed s m ↔ Formed s m
+  well-formed = (
+    λ w. record {
       header =
           passes (isHashes m) s m
-          (record { store = t .0 .store; formed = true-form m (t .0 .form); root = same-eq (factsRoot s) (messageRoot m) (t .0 .root); rules = kept-rules (headerOf m) (blocksOf s) (heightOf s) (t .0 .rules) });
-      size = t .1;
+          (record { store = w .ruled .store; formed = true-form m (w .ruled .form); root = same-eq (factsRoot s) (messageRoot m) (w .ruled .root); rules = kept-rules (headerOf m) (blocksOf s) (heightOf s) (w .ruled .rules) });
+      size = w .size;
     },
+    λ w.
+        (let P = passed (isHashes m) s m (w .header) in
+        record {
+          ruled = record { store = P .store; form = form-true m (P .formed); root = same-true (factsRoot s) (messageRoot m) (P .root); rules = rules-kept (headerOf m) (blocksOf s) (heightOf s) (P .rules) };
+          size = w .size;
+        }),
   )
 
   -- what gets none of those five numbers is well-formed
   formed-on : (n : ℕ) → (n ≡ unusable → ⊥) → (n ≡ noMessage → ⊥) → (n ≡ otherRoot → ⊥) → (n ≡ ruleBroken → ⊥) → (n ≡ wrongSize → ⊥) → takeNumber s m ≡ n → WellFormed s m
   formed-on n n9 n1 n2 n3 n4 e =
       let t = whole-on n n9 n1 n2 n3 n4 (usable s) (isHashes m) (rootIn s m) (rulesIn s m) (sizedIn m) (behind s m) (sym tests ∙ e) in
-      well-formed-exactly-when .1 (
-        record { store = t .0; form = form-true m (t .1); root = same-true (factsRoot s) (messageRoot m) (t .2); rules = rules-kept (headerOf m) (blocksOf s) (heightOf s) (t .3) },
-        eqb-true (length m) (messageSize (headerOf m)) (t .4),
-      )
+      record {
+        ruled = record { store = t .0; form = form-true m (t .1); root = same-true (factsRoot s) (messageRoot m) (t .2); rules = rules-kept (headerOf m) (blocksOf s) (heightOf s) (t .3) };
+        size = eqb-true (length m) (messageSize (headerOf m)) (t .4);
+      }
 
   -- so 5, 6, 7, 8 and 0 are given to well-formed messages alone
-  pub formed-by : (n : ℕ) → (n ≡ 0) ⊎ ((5 ≤ n) × (n ≤ 8)) → {A : Type 0} → (WellFormed s m → (takeNumber s m ≡ n) ↔ A) → (takeNumber s m ≡ n) ↔ (WellFormed s m × A)
+  pub formed-by : (n : ℕ) → (n ≡ 0) ⊎ ((5 ≤ n) × (n ≤ 8)) → {A : Type 0} → (Formed s m → (takeNumber s m ≡ n) ↔ A) → (takeNumber s m ≡ n) ↔ (WellFormed s m × A)
   formed-by n o f = (
-    λ e. (let w = formed-on n not-9 not-1 not-2 not-3 not-4 e in (w, f w .0 e)),
-    λ t. f (t .0) .1 (t .1),
+    λ e. (let w = formed-on n not-9 not-1 not-2 not-3 not-4 e in (w, f (well-formed .0 w) .0 e)),
+    λ t. f (well-formed .0 (t .0)) .1 (t .1),
   )
     where
       not-9 : n ≡ unusable → ⊥

@@ -22,9 +22,9 @@ use Rattle.messages.specs.TakeLaws.{passed}
 use Rattle.pieces.specs.Pieces.{layerOfPieces, layerNumber, layerAfter}
 use Rattle.pieces.specs.PiecesLaws.{layered, layer-held, layer-only}
 use Rattle.words.specs.Held.{Holds}
-use Rattle.words.specs.Messages.{WellFormed, Settles}
+use Rattle.words.specs.Messages.{Settles}
 use Rattle.words.specs.Pieces.{Over, atLeaf, above, LayerFormed, LayerSettles}
-use Rattle.knowledge.specs.TakenWhen.{taken-well-formed}
+use Rattle.knowledge.specs.TakenWhen.{Formed, taken-well-formed}
 use Rattle.knowledge.specs.TakenEntries.{settled-held, no-others}
 use Rattle.knowledge.specs.Grows.{Grown, grown-take, grown-layer}
 use Rattle.knowledge.specs.Again.{what-is-held, grown-holds}
@@ -49,7 +49,7 @@ was s t f g l i v h x =
 -- ---- a message
 
 module _ (s m : List ℕ) (z : takeNumber s m ≡ 0) where
-  W : WellFormed s m
+  W : Formed s m
   W = taken-well-formed s m z
 
   facts : Facts s

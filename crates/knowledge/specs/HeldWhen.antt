@@ -23,8 +23,8 @@ use Rattle.header.specs.Header.{headerOf, isHashes}
 use Rattle.messages.specs.Take.{given, unclesOf, settled, anchor, worked, padded, anchored, placeIn, takeNumber}
 use Rattle.messages.specs.Asks.{Passed}
 use Rattle.messages.specs.TakeLaws.{passed}
-use Rattle.words.specs.Messages.{WellFormed, anchorLayer, anchorIndex, Settles, ChainsTo, PaddingRight, PaddingWrong, AnchorIs, AnchorLacks, Acceptable, Unanchored, Elsewhere, Conflicting}
-use Rattle.knowledge.specs.TakenWhen.{well-formed-number, right-then-taken, taken-then-right, wrong-padding-then-5, no-anchor-then-6, other-anchor-then-7, held-differs-then-8}
+use Rattle.words.specs.Messages.{anchorLayer, anchorIndex, Settles, ChainsTo, PaddingRight, PaddingWrong, AnchorIs, AnchorLacks, Acceptable, Unanchored, Elsewhere, Conflicting}
+use Rattle.knowledge.specs.TakenWhen.{Formed, well-formed-number, right-then-taken, taken-then-right, wrong-padding-then-5, no-anchor-then-6, other-anchor-then-7, held-differs-then-8}
 use Rattle.knowledge.specs.Chains.{worked-chains, chain-is-worked}
 use Rattle.knowledge.specs.Again.{what-is-held}
 use Rattle.knowledge.specs.ReadBack.{holds-at}
@@ -40,7 +40,7 @@ use Rattle.knowledge.specs.Positions.{SettlesNumber, settles-entered, en
 
 -- ---- from the tests to these
 
-module _ (s m : List ℕ) (W : WellFormed s m) where
+module _ (s m : List ℕ) (W : Formed s m) where
   P : Passed (isHashes m) s m
   P = passed (isHashes m) s m (W .header)
 
@@ -167,11 +167,11 @@ chainsIn s m = same (hashAt s (anchor (placeIn s m))) (worked m (placeIn s m))
 abbrev agreesIn : List ℕ → List ℕ → Bool
 agreesIn s m = agrees s (settled m (placeIn s m))
 
-tests : (s m : List ℕ) → WellFormed s m → takeNumber s m ≡ cond (paddedIn s m) (judged (anchorIn s m) (chainsIn s m) (agreesIn s m)) wrongPadding
+tests : (s m : List ℕ) → Formed s m → takeNumber s m ≡ cond (paddedIn s m) (judged (anchorIn s m) (chainsIn s m) (agreesIn s m)) wrongPadding
 unfolding anchored
 tests s m W = well-formed-number s m W
 
-module _ (s m : List ℕ) (W : WellFormed s m) where
+module _ (s m : List ℕ) (W : Formed s m) where
   -- TAKEN EXACTLY WHEN its padding is right, its hashes chain to its anchor, its anchor is held, and no held hash differs
   pub taken-exactly-when : (takeNumber s m ≡ 0) ↔ Acceptable s m
   taken-exactly-when = (

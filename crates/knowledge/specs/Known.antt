@@ -37,10 +37,15 @@ use Rattle.knowledge.specs.JudgedWhen.{longer-has, piece-0}
 use Rattle.knowledge.specs.Positions.{given-is, uncle-is}
 use Rattle.knowledge.specs.Shown.{shown, reads-piece, reads-file}
 use Rattle.knowledge.specs.ConflictShows.{ours-reads}
+use Rattle.knowledge.specs.TakenWhen.{Formed}
+use Rattle.knowledge.specs.FormedWhen.{well-formed}
 
 module _ (file s m : List ℕ) (w : For file s) (T : TrueHashes file s m) where
+  formed : Formed s m
+  formed = well-formed s m .0 (T .formed)
+
   P : Passed (isHashes m) s m
-  P = passed (isHashes m) s m (T .formed .header)
+  P = passed (isHashes m) s m (formed .header)
 
   kept : Kept (headerOf m) (blocksOf s) (heightOf s)
   kept = rules-kept (headerOf m) (blocksOf s) (heightOf s) (P .rules)
@@ -58,7 +63,7 @@ module _ (file s m : List ℕ) (w : For file s) (T : TrueHashes file s m) where
       let X = headerOf m in
       let c : j < headerOf m .len = omega (arith, kept .power) in
       in-tree (placeOf X (heightOf s) .top * 2 ^ height (X .len) + j) (X .base) (X .index + j) (given m (height (X .len)) j) (omega (arith, kept .within))
-      (run-in-layer X (blocksOf s) (heightOf s) leaves kept j l) (sym (run-number X (blocksOf s) (heightOf s) leaves kept j l)) (sym (T .run j c) ∙ sym (given-is s m (T .formed) j l))
+      (run-in-layer X (blocksOf s) (heightOf s) leaves kept j l) (sym (run-number X (blocksOf s) (heightOf s) leaves kept j l)) (sym (T .run j c) ∙ sym (given-is s m formed j l))
 
   uncle-told : (i : ℕ) → i < placeIn s m .u
       → Has (sibling (ancestor i (placeIn s m .top))) (uncle (unclesOf m (2 ^ placeIn s m .k) (placeIn s m .u)) i) (treeOf file)
@@ -68,10 +73,10 @@ module _ (file s m : List ℕ) (w : For file s) (T : TrueHashes file s m) where
       let b = uncle-layer X (blocksOf s) (heightOf s) leaves kept i l in
       in-tree (sibling (ancestor i (placeIn s m .top))) (topLayer m + i) (sibling (topIndex m / 2 ^ i)) (uncle (unclesOf m (2 ^ placeIn s m .k) (placeIn s m .u)) i) (omega arith)
       (uncle-in-layer X (blocksOf s) (heightOf s) leaves kept i l) (sym (uncle-number X (blocksOf s) (heightOf s) leaves kept i l))
-      (sym (T .uncles i l) ∙ sym (uncle-is s m (T .formed) i l))
+      (sym (T .uncles i l) ∙ sym (uncle-is s m formed i l))
 
   tells : Tells file s m
-  tells = record { header = T .formed .header; size = T .formed .size; run = run-told; uncles = uncle-told }
+  tells = record { header = formed .header; size = formed .size; run = run-told; uncles = uncle-told }
 
 module _ {s : List ℕ} (file : List ℕ) (o : OurStore s) (w : For file s) where
   store-shows : ShownAt (heightOf s) (heldBy s) (ofFile file) → Shown (heightOf s) (heldBy s) (ofFile file)

@@ -1,44 +1,56 @@
+-- tests, and what they say
 pub mod Tests
-pub mod Through
+-- a message by numbers of positions: when it is taken, what it settles
 pub mod TakenWhen
 pub mod Chains
 pub mod TakenEntries
+pub mod RightPadding
+-- histories: what each step keeps, what stays
+pub mod Through
 pub mod Grows
 pub mod Again
+-- bytes behind the store
 pub mod BytesLeft
 pub mod Beyond
-pub mod RightPadding
-pub mod ReadBack
+pub mod SameStore
+-- what a store that only this build has written looks like
 pub mod Invariant
-pub mod Conflict
 pub mod OwnBytes
-pub mod Replies
-pub mod RootToBlock
-pub mod PieceIsTheFiles
-pub mod TrueMessage
-pub mod TrueLayer
+pub mod FourClauses
+-- two strings with one SHA-256
+pub mod Conflict
+pub mod Shown
+pub mod ConflictShows
+-- from numbers to layers and indices
+pub mod ReadBack
 pub mod AnchorHeld
 pub mod Over
-pub mod Differing
-pub mod Verdicts
 pub mod Positions
 pub mod ChainsTo
-pub mod HeldAfter
-pub mod ReadThere
-pub mod SettledMany
-pub mod FourClauses
-pub mod NoAnchor
+pub mod Differing
+-- each number exactly when
 pub mod FormedWhen
 pub mod HeldWhen
+pub mod Verdicts
 pub mod JudgedWhen
 pub mod ServedWhen
 pub mod AskedWhen
 pub mod RootAlone
-pub mod SameStore
+pub mod NoAnchor
+-- what is held and counted afterwards
+pub mod HeldAfter
+pub mod SettledMany
+-- replies, read back
+pub mod Replies
+pub mod ReadThere
 pub mod Sent
-pub mod Shown
-pub mod ConflictShows
+-- from the root to the block
+pub mod RootToBlock
+pub mod PieceIsTheFiles
+pub mod TrueMessage
+pub mod TrueLayer
 pub mod Known
+-- refusals, the table, the cases worked by hand
 pub mod Refusals
 pub mod InTable
 pub mod ByHand

@@ -27,13 +27,14 @@ use Rattle.header.specs.HeaderLaws.{rules-kept, log-some, top-inside}
 use Rattle.messages.specs.Take.{runOf, given, unclesOf, settled, anchor, worked, placeIn}
 use Rattle.messages.specs.Asks.{Passed}
 use Rattle.messages.specs.TakeLaws.{passed, placed}
-use Rattle.words.specs.Messages.{WellFormed, unclesIn, hashIn, topLayer, topIndex, anchorLayer, anchorIndex, Settles, inRun, asUncle, parent}
+use Rattle.words.specs.Messages.{unclesIn, hashIn, topLayer, topIndex, anchorLayer, anchorIndex, Settles, inRun, asUncle, parent}
 use Rattle.knowledge.specs.Chains.{Chain, worked-chains, chain-is-worked}
 use Rattle.knowledge.specs.RightPadding.{sibling-number}
 use Rattle.knowledge.specs.Conflict.{anchor-has}
 use Rattle.knowledge.specs.ReadBack.{uncle-cut, run-number, run-in-layer, uncle-layer, uncle-number, uncle-in-layer}
 use Rattle.knowledge.specs.Over.{Entered, Found, entered-parent, found-at, top-over, subtree-found}
 use Rattle.knowledge.specs.AnchorHeld.{anchor-number, anchor-in-tree}
+use Rattle.knowledge.specs.TakenWhen.{Formed}
 
 -- ---- each of these is an entry
 
@@ -48,7 +49,7 @@ path-uncle hashes a (suc u) n v (suc i) l =
     there (there (has-same (path hashes (a + 1) u (n / 2) (parentValue n v (uncle hashes a))) (sibling (ancestor i (n / 2))) (sibling (ancestor i (n / 2))) (uncle hashes (a + 1 + i)) (uncle hashes (a + suc i)) refl (ap (uncle hashes) q)
     (path-uncle hashes (a + 1) u (n / 2) (parentValue n v (uncle hashes a)) i (omega arith))))
 
-module _ (s m : List ℕ) (W : WellFormed s m) where
+module _ (s m : List ℕ) (W : Formed s m) where
   P : Passed (isHashes m) s m
   P = passed (isHashes m) s m (W .header)
 
@@ -216,7 +217,7 @@ path-settled h m hashes a (suc u) l x v lh xb p f e k =
       ]
     ]
 
-module _ (s m : List ℕ) (W : WellFormed s m) where
+module _ (s m : List ℕ) (W : Formed s m) where
   leaves-settled : (j : ℕ) → j < 2 ^ placeIn s m .k → Settles m (headerOf m .base) (topIndex m * 2 ^ placeIn s m .k + j) (given m (placeIn s m .k) j)
   leaves-settled j l =
       let K = kept s m W in

@@ -31,10 +31,10 @@ use Rattle.messages.specs.TakeLaws.{passed, placed}
 use Rattle.pieces.specs.Pieces.{layerOfPieces, layerSettled, layerNumber, layerAnswer}
 use Rattle.pieces.specs.Asks.{Layered}
 use Rattle.pieces.specs.PiecesLaws.{layered, layer-sound, layer-taken, settled-from-root}
-use Rattle.words.specs.Messages.{WellFormed, unclesIn, Settles}
-use Rattle.words.specs.Held.{Hashes, Spot, Stands, first, later, Distinct, none, more, All, unheldAmong}
+use Rattle.words.specs.Messages.{unclesIn, Settles}
+use Rattle.words.specs.Held.{Hashes, Fixed, Stands, first, later, Distinct, none, more, All, unheldAmong}
 use Rattle.words.specs.Pieces.{LayerFormed, LayerSettles}
-use Rattle.knowledge.specs.TakenWhen.{taken-well-formed}
+use Rattle.knowledge.specs.TakenWhen.{Formed, taken-well-formed}
 use Rattle.knowledge.specs.TakenEntries.{lacking, count-lacking, count-most, fresh-lacking}
 use Rattle.knowledge.specs.Over.{Entered, Found, over-entered, entry-over}
 use Rattle.knowledge.specs.Positions.{settles-entered, entry-settled}
@@ -43,51 +43,51 @@ use Rattle.knowledge.specs.JudgedWhen.{longer-has, layer-0}
 -- ---- from entries
 
 module _ (h : ℕ) (R : Hashes) where
-  unfoldable spotsOf : (L : List Entry) → ((e : Entry) → In e L → Found h R (e .at) (e .hash)) → List Spot
-  spotsOf [] f = []
-  spotsOf (e ∷ L) f = record { l = f e here .l; i = f e here .i; v = e .hash } ∷ spotsOf L (λ g x. f g (there x))
+  unfoldable fixedIn : (L : List Entry) → ((e : Entry) → In e L → Found h R (e .at) (e .hash)) → List Fixed
+  fixedIn [] f = []
+  fixedIn (e ∷ L) f = record { l = f e here .l; i = f e here .i; v = e .hash } ∷ fixedIn L (λ g x. f g (there x))
 
-  spots-many : (L : List Entry) (f : (e : Entry) → In e L → Found h R (e .at) (e .hash)) → length (spotsOf L f) ≡ length L
-  unfolding spotsOf
-  spots-many [] f = refl
-  spots-many (e ∷ L) f = omega (arith, spots-many L (λ g x. f g (there x)))
+  fixed-many : (L : List Entry) (f : (e : Entry) → In e L → Found h R (e .at) (e .hash)) → length (fixedIn L f) ≡ length L
+  unfolding fixedIn
+  fixed-many [] f = refl
+  fixed-many (e ∷ L) f = omega (arith, fixed-many L (λ g x. f g (there x)))
 
   -- what stands among them is settled,
-  stands-settled : (L : List Entry) (f : (e : Entry) → In e L → Found h R (e .at) (e .hash)) (l i : ℕ) (v : List ℕ) → Stands l i v (spotsOf L f) → R l i v
-  unfolding spotsOf
+  stands-settled : (L : List Entry) (f : (e : Entry) → In e L → Found h R (e .at) (e .hash)) (l i : ℕ) (v : List ℕ) → Stands l i v (fixedIn L f) → R l i v
+  unfolding fixedIn
   stands-settled (e ∷ L) f l i v first = f e here .settles
   stands-settled (e ∷ L) f l i v (later x) = stands-settled L (λ g y. f g (there y)) l i v x
 
   -- by an entry at its number
-  stands-entry : (L : List Entry) (f : (e : Entry) → In e L → Found h R (e .at) (e .hash)) (l i : ℕ) (v : List ℕ) → Stands l i v (spotsOf L f)
+  stands-entry : (L : List Entry) (f : (e : Entry) → In e L → Found h R (e .at) (e .hash)) (l i : ℕ) (v : List ℕ) → Stands l i v (fixedIn L f)
       → (e : Entry) × In e L × (e .at ≡ nodeNumber h l i)
-  unfolding spotsOf
+  unfolding fixedIn
   stands-entry (e ∷ L) f l i v first = (e, here, f e here .number)
   stands-entry (e ∷ L) f l i v (later x) = let w = stands-entry L (λ g y. f g (there y)) l i v x in (w .0, there (w .1), w .2)
 
   -- and every entry's position stands among them
   entry-stands : (L : List Entry) (f : (e : Entry) → In e L → Found h R (e .at) (e .hash)) (l i : ℕ) → l ≤ h → i < 2 ^ (h - l)
-      → (e : Entry) → In e L → e .at ≡ nodeNumber h l i → Stands l i (e .hash) (spotsOf L f)
-  unfolding spotsOf
+      → (e : Entry) → In e L → e .at ≡ nodeNumber h l i → Stands l i (e .hash) (fixedIn L f)
+  unfolding fixedIn
   entry-stands (g ∷ L) f l i a b e here q =
       let S = f e here in
       let d = node-number-distinct h l i (S .l) (S .i) a (S .low) b (S .inside) (sym q ∙ S .number) in
       rw (← d .0, ← d .1) first
   entry-stands (g ∷ L) f l i a b e (there x) q = later (entry-stands L (λ k y. f k (there y)) l i a b e x q)
 
-  spots-distinct : (L : List Entry) (f : (e : Entry) → In e L → Found h R (e .at) (e .hash)) → Apart L → Distinct (spotsOf L f)
-  unfolding spotsOf
-  spots-distinct [] f Rattle.cells.specs.EntriesLaws.Apart.none = none
-  spots-distinct (e ∷ L) f (Rattle.cells.specs.EntriesLaws.Apart.more k A) =
+  fixed-distinct : (L : List Entry) (f : (e : Entry) → In e L → Found h R (e .at) (e .hash)) → Apart L → Distinct (fixedIn L f)
+  unfolding fixedIn
+  fixed-distinct [] f Rattle.cells.specs.EntriesLaws.Apart.none = none
+  fixed-distinct (e ∷ L) f (Rattle.cells.specs.EntriesLaws.Apart.more k A) =
       more (λ v x. let w = stands-entry L (λ g y. f g (there y)) (f e here .l) (f e here .i) v x in k (w .0) (w .1) (w .2 ∙ sym (f e here .number)))
-      (spots-distinct L (λ g y. f g (there y)) A)
+      (fixed-distinct L (λ g y. f g (there y)) A)
 
   all-of : (L : List Entry) → ((l i : ℕ) (v : List ℕ) → R l i v → Entered h L l i v) → ((e : Entry) → In e L → Found h R (e .at) (e .hash)) → Apart L → (n : ℕ) → length L ≡ n → All R n
   all-of L to f A n q =
       record {
-        spots = spotsOf L f;
-        many = spots-many L f ∙ q;
-        distinct = spots-distinct L f A;
+        all = fixedIn L f;
+        many = fixed-many L f ∙ q;
+        distinct = fixed-distinct L f A;
         exactly =
             λ l i v. (
               stands-settled L f l i v,
@@ -97,7 +97,7 @@ module _ (h : ℕ) (R : Hashes) where
 
 -- ---- a message
 
-module _ (s m : List ℕ) (W : WellFormed s m) where
+module _ (s m : List ℕ) (W : Formed s m) where
   P : Passed (isHashes m) s m
   P = passed (isHashes m) s m (W .header)
 
@@ -153,24 +153,24 @@ asked s u l i a b = by (heldAt s (nodeNumber (heightOf s) l i)) refl
         let q : heldAnswer s l i .number ≡ 6 = sym (ap (λ (r : Hashed). r .number) (held-not s l i u t e)) in
         ne-eqb (heldAnswer s l i .number) 0 (λ z. omega arith) ∙ sym e
 
-spots-unheld : (s : List ℕ) → usable s ≡ true → (R : Hashes) (L : List Entry) (f : (e : Entry) → In e L → Found (heightOf s) R (e .at) (e .hash)) → unheldAmong s (spotsOf (heightOf s) R L f) ≡ lacking s L
-unfolding spotsOf unheldAmong lacking lacks
-spots-unheld s u R [] f = refl
-spots-unheld s u R (e ∷ L) f =
+fixed-unheld : (s : List ℕ) → usable s ≡ true → (R : Hashes) (L : List Entry) (f : (e : Entry) → In e L → Found (heightOf s) R (e .at) (e .hash)) → unheldAmong s (fixedIn (heightOf s) R L f) ≡ lacking s L
+unfolding fixedIn unheldAmong lacking lacks
+fixed-unheld s u R [] f = refl
+fixed-unheld s u R (e ∷ L) f =
     let S = f e here in
     let q : eqb (heldAnswer s (S .l) (S .i) .number) 0 ≡ heldAt s (e .at) = asked s u (S .l) (S .i) (S .low) (S .inside) ∙ sym (ap (heldAt s) (S .number)) in
-    ap₂ (λ (b : Bool) (n : ℕ). oneIf (not b) + n) q (spots-unheld s u R L (λ g y. f g (there y)))
+    ap₂ (λ (b : Bool) (n : ℕ). oneIf (not b) + n) q (fixed-unheld s u R L (λ g y. f g (there y)))
 
 module _ (s m : List ℕ) (z : takeNumber s m ≡ 0) where
-  well : WellFormed s m
+  well : Formed s m
   well = taken-well-formed s m z
 
   -- THE COUNT of a taken message: the positions that it settles and for which kd_held did not answer 0
-  count-unheld : takeAnswer s m .count ≡ unheldAmong s (settles-many s m (taken-well-formed s m z) .spots)
+  count-unheld : takeAnswer s m .count ≡ unheldAmong s (settles-many s m (taken-well-formed s m z) .all)
   unfolding settles-many all-of well
-  count-unheld = count-lacking s m z ∙ sym (spots-unheld s (P s m well .store) (Settles m) (settled m (placeIn s m)) (entry-settled s m well))
+  count-unheld = count-lacking s m z ∙ sym (fixed-unheld s (P s m well .store) (Settles m) (settled m (placeIn s m)) (entry-settled s m well))
 
-  pub counted : (A : All (Settles m) (2 * headerOf m .len - 1 + 2 * unclesIn m)) × (takeAnswer s m .count ≡ unheldAmong s (A .spots))
+  pub counted : (A : All (Settles m) (2 * headerOf m .len - 1 + 2 * unclesIn m)) × (takeAnswer s m .count ≡ unheldAmong s (A .all))
   counted = (settles-many s m (taken-well-formed s m z), count-unheld)
 
   -- at most 2·length − 2 + 2u
@@ -226,13 +226,13 @@ module _ (s layer : List ℕ) (z : layerNumber s layer ≡ 0) where
   sound = layer-sound s layer (lies s layer formed)
 
   -- THE COUNT of a layer that is loaded: the positions of layer p and above it for which kd_held did not answer 0
-  layer-count-unheld : layerAnswer s layer .count ≡ unheldAmong s (layer-settles-many s layer (layer-0 s layer .0 z .0) .spots)
+  layer-count-unheld : layerAnswer s layer .count ≡ unheldAmong s (layer-settles-many s layer (layer-0 s layer .0 z .0) .all)
   unfolding layerAnswer layer-settles-many all-of formed
   layer-count-unheld =
       ap (newly (positions (heightOf s)) s) (layer-taken s layer z)
       ∙ count-fresh (positions (heightOf s)) (layerSettled s layer) s (facts s layer formed .room) sound (settled-from-root s layer (lies s layer formed))
       ∙ fresh-lacking (positions (heightOf s)) (layerSettled s layer) s (facts s layer formed .room) sound (apart s layer formed)
-      ∙ sym (spots-unheld s (formed .store) (LayerSettles s layer) (layerSettled s layer) (layer-found s layer formed))
+      ∙ sym (fixed-unheld s (formed .store) (LayerSettles s layer) (layerSettled s layer) (layer-found s layer formed))
 
-  pub layer-counted : (A : All (LayerSettles s layer) (2 * 2 ^ (heightOf s - layerOfPieces s) - 1)) × (layerAnswer s layer .count ≡ unheldAmong s (A .spots))
+  pub layer-counted : (A : All (LayerSettles s layer) (2 * 2 ^ (heightOf s - layerOfPieces s) - 1)) × (layerAnswer s layer .count ≡ unheldAmong s (A .all))
   layer-counted = (layer-settles-many s layer (layer-0 s layer .0 z .0), layer-count-unheld)

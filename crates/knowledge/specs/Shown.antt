@@ -16,7 +16,6 @@ use Rattle.settling.specs.Subtree.{subtree}
 use Rattle.pieces.specs.Pieces.{layerOfPieces, layerSettled, pieceHeight}
 use Rattle.pieces.specs.PiecesLaws.{layered, piece-in}
 use Rattle.words.specs.Held.{Holds}
-use Rattle.words.specs.Messages.{WellFormed}
 use Rattle.words.specs.Shown.{Source, heldBy, byMessage, byLayer, byPiece, ofFile, Gives, Shown}
 use Rattle.words.specs.File.{For}
 use Rattle.words.specs.Pieces.{LayerFormed, LayerSettles, PieceFormed, PieceSettles}
@@ -27,6 +26,7 @@ use Rattle.knowledge.specs.RootToBlock.{same-height, tree-has, tree-whol
 use Rattle.knowledge.specs.Over.{found-at, entry-over}
 use Rattle.knowledge.specs.JudgedWhen.{longer-has}
 use Rattle.knowledge.specs.Positions.{settles-exactly}
+use Rattle.knowledge.specs.TakenWhen.{Formed}
 
 -- ---- from numbers
 
@@ -81,7 +81,7 @@ unfolding Gives GivesAt
 reads-held s f l i v a b g = subst (Holds s l i) (g .1) (holds-at s l i f a b (g .0))
 
 -- a message
-pub reads-message : (s m : List ℕ) → WellFormed s m → Positioned (heightOf s) (byMessage s m)
+pub reads-message : (s m : List ℕ) → Formed s m → Positioned (heightOf s) (byMessage s m)
 unfolding Gives GivesAt
 reads-message s m W l i v a b x = settles-exactly s m W l i v .1 (record { low = a; inside = b; has = x })
 

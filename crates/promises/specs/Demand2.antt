@@ -17,21 +17,19 @@ use Rattle.messages.specs.Take.{takeAnswer, takeAfter}
 use Rattle.serve.specs.Serve.{serveAnswer}
 use Rattle.pieces.specs.Pieces.{layerOfPieces, layerAnswer, layerAfter}
 use Rattle.words.specs.Held.{Holds, All, unheldAmong}
-use Rattle.words.specs.Messages.{unclesIn, hashIn, topLayer, topIndex, anchorLayer, anchorIndex, Settles, ChainsTo, Ruled, WellFormed, Acceptable, Rejected, sent}
+use Rattle.words.specs.Messages.{unclesIn, hashIn, topLayer, topIndex, anchorLayer, anchorIndex, Settles, ChainsTo, WellFormed, Acceptable, Rejected, sent}
 use Rattle.words.specs.Pieces.{LayerFormed, LayerSettles}
 use Rattle.words.specs.History.{OurStore}
+use Rattle.knowledge.specs.FormedWhen.{well-formed}
 
 -- "Trees, torrents and messages mean what BEP 52, BEP 3 and FIPS 180-4 say.": what they mean are the definitions in the files specs/ of
 -- sha256 and below it, tree, header, bencode, meaning.
 
--- "A well-formed reply" passes 9, 1, 2, 3 and 4:
-pub well-formed-exactly-when : (s m : List ℕ) → WellFormed s m ↔ (Ruled s m × (length m ≡ messageSize (headerOf m)))
-well-formed-exactly-when = Rattle.knowledge.specs.FormedWhen.well-formed-exactly-when
-
--- it "is taken exactly when its padding is right, its hashes chain to its anchor, already held, and no held hash differs from it;"
+-- "A well-formed reply" (`WellFormed`: it passes 9, 1, 2, 3 and 4) "is taken exactly when its padding is right, its hashes chain to its
+-- anchor, already held, and no held hash differs from it;"
 pub taken-exactly-when : (s m : List ℕ) → WellFormed s m → (takeAnswer s m .number ≡ 0) ↔ Acceptable s m
 unfolding takeAnswer
-taken-exactly-when = Rattle.knowledge.specs.HeldWhen.taken-exactly-when
+taken-exactly-when s m w = Rattle.knowledge.specs.HeldWhen.taken-exactly-when s m (well-formed s m .0 w)
 
 -- "then its positions and no others become held.": held is then what was held, with the same bytes, and what the message settles,
 pub held-after : (s m : List ℕ) → takeAnswer s m .number ≡ 0 → (l i : ℕ) (v : List ℕ) → Holds (takeAfter s m) l i v ↔ (Holds s l i v ⊎ Settles m l i v)
@@ -41,16 +39,16 @@ held-after = Rattle.knowledge.specs.HeldAfter.held-after
 -- 01: "A message settles 2·length − 1 + 2u positions: given hashes, their parents, the anchor." All of them in the tree, each with one hash;
 -- and the count is those that were not held
 pub settles-in-tree : (s m : List ℕ) → WellFormed s m → (l i : ℕ) (v : List ℕ) → Settles m l i v → (l ≤ heightOf s) × (i < 2 ^ (heightOf s - l))
-settles-in-tree = Rattle.knowledge.specs.SettledMany.settles-in-tree
+settles-in-tree s m w = Rattle.knowledge.specs.SettledMany.settles-in-tree s m (well-formed s m .0 w)
 
 pub settles-many : (s m : List ℕ) → WellFormed s m → All (Settles m) (2 * headerOf m .len - 1 + 2 * unclesIn m)
-settles-many = Rattle.knowledge.specs.SettledMany.settles-many
+settles-many s m w = Rattle.knowledge.specs.SettledMany.settles-many s m (well-formed s m .0 w)
 
 pub anchor-settled : (s m : List ℕ) → WellFormed s m → (w : List ℕ) → ChainsTo m w ↔ Settles m (anchorLayer m) (anchorIndex m) w
-anchor-settled = Rattle.knowledge.specs.ChainsTo.chain-settles
+anchor-settled s m w = Rattle.knowledge.specs.ChainsTo.chain-settles s m (well-formed s m .0 w)
 
 pub count-is-newly-held : (s m : List ℕ) → takeAnswer s m .number ≡ 0
-    → (A : All (Settles m) (2 * headerOf m .len - 1 + 2 * unclesIn m)) × (takeAnswer s m .count ≡ unheldAmong s (A .spots))
+    → (A : All (Settles m) (2 * headerOf m .len - 1 + 2 * unclesIn m)) × (takeAnswer s m .count ≡ unheldAmong s (A .all))
 unfolding takeAnswer
 count-is-newly-held = Rattle.knowledge.specs.SettledMany.counted
 
@@ -69,7 +67,7 @@ pub layer-settles-where : (s layer : List ℕ) → LayerFormed s layer
 layer-settles-where = Rattle.knowledge.specs.HeldAfter.layer-settles-where
 
 pub layer-count-is-newly-held : (s layer : List ℕ) → layerAnswer s layer .number ≡ 0
-    → (A : All (LayerSettles s layer) (2 * 2 ^ (heightOf s - layerOfPieces s) - 1)) × (layerAnswer s layer .count ≡ unheldAmong s (A .spots))
+    → (A : All (LayerSettles s layer) (2 * 2 ^ (heightOf s - layerOfPieces s) - 1)) × (layerAnswer s layer .count ≡ unheldAmong s (A .all))
 unfolding layerAnswer
 layer-count-is-newly-held = Rattle.knowledge.specs.SettledMany.layer-counted
 

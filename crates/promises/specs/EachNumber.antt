@@ -94,6 +94,9 @@ module _ (s : List ℕ) (l i : ℕ) where
   pub held-6 : (heldAnswer s l i .number ≡ noAnchor) ↔ ((usable s ≡ true) × Position (heightOf s) l i × Lacks s l i)
   held-6 = Rattle.knowledge.specs.AskedWhen.asked-6 s l i
 
+  pub held-0 : (heldAnswer s l i .number ≡ 0) ↔ ((v : List ℕ) × Holds s l i v)
+  held-0 = (λ z. (heldAnswer s l i .hash, record { given = z; hash = refl }), λ t. t .1 .given)
+
 -- ---- kd_take: 9, 1, 2, 3, 4, 5, 6, 7, 8, 0
 
 module _ (s m : List ℕ) where

@@ -24,8 +24,7 @@ use Rattle.header.specs.declared.Place.{Place}
 use Rattle.header.specs.Header.{headerOf, messageSize, placeOf, rulesKept, lengthRule, indexRule}
 use Rattle.messages.specs.Padded.{allFrom, runPadded, unclesPadded}
 use Rattle.messages.specs.Take.{given, settled, anchor, worked, padded, takeNumber, takeAnswer, placeIn}
-use Rattle.words.specs.Messages.{WellFormed}
-use Rattle.knowledge.specs.TakenWhen.{Right, right-then-taken}
+use Rattle.knowledge.specs.TakenWhen.{Formed, Right, right-then-taken}
 use Rattle.knowledge.specs.TakenEntries.{lacking, count-lacking}
 use Rattle.promises.specs.Offered.{twoHashes, offered-header, first-hash, second-hash, two-size, well-formed-in}
 use Rattle.promises.specs.TwoBlocks.{high, blocks, store, root-is, held, hash}
@@ -64,7 +63,7 @@ module _ (a b : List ℕ) (oa : Octets 32 a) (ob : Octets 32 b) where
     unfolding placeOf nodeNumber height heightFrom
     place-is = ap₂ (λ (x : Header) (h : ℕ). placeOf x h) header-two (high buffer (pairHash a b) fits root-size)
 
-    well : WellFormed (opened buffer 32768 16384 (pairHash a b)) (twoLeaves a b)
+    well : Formed (opened buffer 32768 16384 (pairHash a b)) (twoLeaves a b)
     unfolding messageSize rulesKept lengthRule indexRule covering ceilDiv height heightFrom
     well =
         well-formed-in (pairHash a b) numbers (a ++ b) root-size refl (opened buffer 32768 16384 (pairHash a b)) two 2 1 header-two
@@ -106,7 +105,7 @@ module _ (a b : List ℕ) (oa : Octets 32 a) (ob : Octets 32 b) where
     pub two-taken : takeNumber (opened buffer 32768 16384 (pairHash a b)) (twoLeaves a b) ≡ 0
     two-taken = taken
 
-    pub two-well-formed : WellFormed (opened buffer 32768 16384 (pairHash a b)) (twoLeaves a b)
+    pub two-well-formed : Formed (opened buffer 32768 16384 (pairHash a b)) (twoLeaves a b)
     two-well-formed = well
 
     pub two-place : placeIn (opened buffer 32768 16384 (pairHash a b)) (twoLeaves a b) ≡ record { k = 1; u = 0; top = 1 }

@@ -1,16 +1,20 @@
+-- the demands, sentence by sentence
 pub mod Demand1
 pub mod Demand2
 pub mod Demand3
+-- 01: each number by entry point; from the root to the block; the cases worked by hand
 pub mod EachNumber
 pub mod FromRootToBlock
 pub mod Worked
-pub mod Lent
+-- the premises can be met
+pub mod Blank
 pub mod TwoBlocks
 pub mod Offered
 pub mod Example
 pub mod LayerExample
-pub mod NumbersGiven
 pub mod TrueFirstPair
 pub mod Witness
 pub mod ServedAndTaken
+-- the impostors
+pub mod NumbersGiven
 pub mod Impostors

@@ -30,9 +30,8 @@ use Rattle.header.specs.declared.Place.{Place}
 use Rattle.header.specs.Header.{headerOf, messageSize, placeOf, rulesKept, lengthRule, indexRule}
 use Rattle.messages.specs.Padded.{allFrom, runPadded, unclesPadded}
 use Rattle.messages.specs.Take.{given, settled, anchor, worked, padded, placeIn, takeNumber, takeAnswer}
-use Rattle.words.specs.Messages.{WellFormed}
-use Rattle.knowledge.specs.TakenWhen.{wrong-padding-then-5, no-anchor-then-6, other-anchor-then-7, held-differs-then-8}
-use Rattle.promises.specs.Lent.{lent, lent-room}
+use Rattle.knowledge.specs.TakenWhen.{Formed, wrong-padding-then-5, no-anchor-then-6, other-anchor-then-7, held-differs-then-8}
+use Rattle.promises.specs.Blank.{blank, blank-room}
 use Rattle.promises.specs.Offered.{twoHashes, offered-header, run-is, first-hash, second-hash, two-size, well-formed-in}
 use Rattle.promises.specs.TwoBlocks.{high, blocks, store, facts, root-is, held, hash}
 
@@ -113,7 +112,7 @@ module _ (buffer root a b : List ℕ) (fits : storeSize 49152 ≤ length buffer)
   unfolding placeOf nodeNumber height heightFrom
   place-next = ap₂ (λ (x : Header) (h : ℕ). placeOf x h) (header-next root a b lr la lb) high3
 
-  well-next : WellFormed three (twoHashes root nextTwo a b)
+  well-next : Formed three (twoHashes root nextTwo a b)
   unfolding three messageSize rulesKept lengthRule indexRule covering ceilDiv height heightFrom
   well-next =
       well-formed-in root nextTwo (a ++ b) lr refl three (header 2) 3 2 (header-next root a b lr la lb) (opened-usable buffer 49152 16384 root range3 fits lr)
@@ -134,7 +133,7 @@ module _ (buffer root a b : List ℕ) (fits : storeSize 49152 ≤ length buffer)
   unfolding placeOf nodeNumber height heightFrom
   place-first = ap₂ (λ (x : Header) (h : ℕ). placeOf x h) (header-first root a b lr la lb) high3
 
-  well-first : WellFormed three (twoHashes root firstTwo a b)
+  well-first : Formed three (twoHashes root firstTwo a b)
   unfolding three messageSize rulesKept lengthRule indexRule covering ceilDiv height heightFrom
   well-first =
       well-formed-in root firstTwo (a ++ b) lr refl three (header 0) 3 2 (header-first root a b lr la lb) (opened-usable buffer 49152 16384 root range3 fits lr)
@@ -161,7 +160,7 @@ module _ (s root a b : List ℕ) (lr : length root ≡ 32) (la : length a ≡ 32
   unfolding placeOf nodeNumber height heightFrom
   place-is = ap₂ (λ (x : Header) (h : ℕ). placeOf x h) (header-first root a b lr la lb) high
 
-  well : WellFormed s (twoHashes root firstTwo a b)
+  well : Formed s (twoHashes root firstTwo a b)
   unfolding messageSize rulesKept lengthRule indexRule covering ceilDiv height heightFrom
   well = well-formed-in root firstTwo (a ++ b) lr refl s (header 0) 2 1 (header-first root a b lr la lb) u r blocks high refl (sym (two-size root firstTwo a b lr refl la lb))
 
@@ -258,21 +257,21 @@ unfolding zeroHash
 ones-differ e = let f : _≡_ {A = ℕ} 1 0 = ap (λ (w : List ℕ). getD w 0 0) e in omega arith
 
 -- 5: padding with another value
-pub a-5 : takeAnswer (opened (lent 49152) 49152 16384 zeroHash) (twoHashes zeroHash nextTwo zeroHash ones) .number ≡ 5
+pub a-5 : takeAnswer (opened (blank 49152) 49152 16384 zeroHash) (twoHashes zeroHash nextTwo zeroHash ones) .number ≡ 5
 unfolding takeAnswer
-a-5 = gets-5 (lent 49152) zeroHash zeroHash ones (lent-room 49152) zeros-size zeros-size refl ones-differ
+a-5 = gets-5 (blank 49152) zeroHash zeroHash ones (blank-room 49152) zeros-size zeros-size refl ones-differ
 
 -- 6: the anchor not held
-pub a-6 : takeAnswer (opened (lent 49152) 49152 16384 zeroHash) (twoHashes zeroHash firstTwo zeroHash ones) .number ≡ 6
+pub a-6 : takeAnswer (opened (blank 49152) 49152 16384 zeroHash) (twoHashes zeroHash firstTwo zeroHash ones) .number ≡ 6
 unfolding takeAnswer
-a-6 = gets-6 (lent 49152) zeroHash zeroHash ones (lent-room 49152) zeros-size zeros-size refl
+a-6 = gets-6 (blank 49152) zeroHash zeroHash ones (blank-room 49152) zeros-size zeros-size refl
 
 -- 7: the held anchor differs
-pub a-7 : takeAnswer (opened (lent 32768) 32768 16384 (otherThan (pairHash zeroHash ones))) (twoHashes (otherThan (pairHash zeroHash ones)) firstTwo zeroHash ones) .number ≡ 7
+pub a-7 : takeAnswer (opened (blank 32768) 32768 16384 (otherThan (pairHash zeroHash ones))) (twoHashes (otherThan (pairHash zeroHash ones)) firstTwo zeroHash ones) .number ≡ 7
 unfolding takeAnswer
-a-7 = gets-7 (lent 32768) zeroHash ones (lent-room 32768) zeros-size refl
+a-7 = gets-7 (blank 32768) zeroHash ones (blank-room 32768) zeros-size refl
 
 -- 8: the anchor agrees, a held leaf differs
-pub an-8 : takeAnswer (put (opened (lent 32768) 32768 16384 (pairHash zeroHash ones)) 2 (otherThan zeroHash)) (twoHashes (pairHash zeroHash ones) firstTwo zeroHash ones) .number ≡ 8
+pub an-8 : takeAnswer (put (opened (blank 32768) 32768 16384 (pairHash zeroHash ones)) 2 (otherThan zeroHash)) (twoHashes (pairHash zeroHash ones) firstTwo zeroHash ones) .number ≡ 8
 unfolding takeAnswer
-an-8 = gets-8 (lent 32768) zeroHash ones (lent-room 32768) zeros-size refl
+an-8 = gets-8 (blank 32768) zeroHash ones (blank-room 32768) zeros-size refl

@@ -18,7 +18,7 @@ use Rattle.header.specs.declared.Header.{Header}
 use Rattle.header.specs.Header.{isHashes, headerOf, messageRoot, messageSize, rulesKept}
 use Rattle.messages.specs.Take.{runOf, given}
 use Rattle.messages.specs.TakeLaws.{passes}
-use Rattle.words.specs.Messages.{WellFormed}
+use Rattle.knowledge.specs.TakenWhen.{Formed}
 
 -- a hashes message by its parts
 abbrev pub offered : List ℕ → List ℕ → List ℕ → List ℕ
@@ -72,7 +72,7 @@ module _ (root numbers hashes : List ℕ) (lr : length root ≡ 32) (ln : length
   -- offered to a usable store with this root, of a file whose blocks and height let its header keep the rules, with as many hashes as the
   -- header says, it is well-formed
   pub well-formed-in : (s : List ℕ) (x : Header) (blocks h : ℕ) → headerOf (offered root numbers hashes) ≡ x → usable s ≡ true → factsRoot s ≡ root
-      → blocksOf s ≡ blocks → heightOf s ≡ h → rulesKept x blocks h ≡ true → messageSize x ≡ 49 + length hashes → WellFormed s (offered root numbers hashes)
+      → blocksOf s ≡ blocks → heightOf s ≡ h → rulesKept x blocks h ≡ true → messageSize x ≡ 49 + length hashes → Formed s (offered root numbers hashes)
   well-formed-in s x blocks h e u r eb eh k z =
       record {
         header =

@@ -33,7 +33,7 @@ use Rattle.promises.specs.Offered.{offered-root, offered-size, two-size}
 use Rattle.promises.specs.Example.{twoLeaves, header-two, two-taken, two-well-formed}
 use Rattle.promises.specs.Witness.{ours-with-two-leaves, two-leaves-held}
 use Rattle.promises.specs.TwoBlocks.{range, opens, open-is}
-use Rattle.promises.specs.Lent.{lent, lent-room, lent-bytes}
+use Rattle.promises.specs.Blank.{blank, blank-room, blank-bytes}
 
 abbrev numbers : List ℕ
 numbers = 0 ∷ 0 ∷ 0 ∷ 0 ∷ 0 ∷ 0 ∷ 0 ∷ 0 ∷ 0 ∷ 0 ∷ 0 ∷ 2 ∷ 0 ∷ 0 ∷ 0 ∷ 0 ∷ []
@@ -211,6 +211,6 @@ module _ (a b : List ℕ) (oa : Octets 32 a) (ob : Octets 32 b) (buffer other ou
 
 -- with every byte said
 pub two-stores-and-a-request :
-    MetByTwo (withTwo (lent 32768) zeroHash zeroHash) (openAfter (lent 32768) 32768 16384 (pairHash zeroHash zeroHash)) (askForTwo zeroHash zeroHash) (replicate 113 0)
+    MetByTwo (withTwo (blank 32768) zeroHash zeroHash) (openAfter (blank 32768) 32768 16384 (pairHash zeroHash zeroHash)) (askForTwo zeroHash zeroHash) (replicate 113 0)
 two-stores-and-a-request =
-    met-by-two zeroHash zeroHash zero-octets zero-octets (lent 32768) (lent 32768) (replicate 113 0) (lent-bytes 32768) (lent-bytes 32768) (lent-room 32768) (lent-room 32768) (lit≤ tt)
+    met-by-two zeroHash zeroHash zero-octets zero-octets (blank 32768) (blank 32768) (replicate 113 0) (blank-bytes 32768) (blank-bytes 32768) (blank-room 32768) (blank-room 32768) (lit≤ tt)

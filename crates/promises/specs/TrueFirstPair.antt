@@ -25,8 +25,7 @@ use Rattle.header.specs.declared.Place.{Place}
 use Rattle.header.specs.Header.{headerOf, messageSize, placeOf, rulesKept, lengthRule, indexRule}
 use Rattle.messages.specs.Padded.{allFrom, runPadded, unclePadded, unclesPadded}
 use Rattle.messages.specs.Take.{unclesOf, given, settled, anchor, worked, padded, placeIn, takeAnswer}
-use Rattle.words.specs.Messages.{WellFormed}
-use Rattle.knowledge.specs.TakenWhen.{Right, right-then-taken}
+use Rattle.knowledge.specs.TakenWhen.{Formed, Right, right-then-taken}
 use Rattle.promises.specs.Offered.{offered, offered-header, offered-past, first-given, second-given, well-formed-in}
 use Rattle.promises.specs.Worked.{six-new}
 
@@ -114,7 +113,7 @@ module _ (a b c d : List ℕ) (la : length a ≡ 32) (lb : length b ≡ 32) (lc 
     unfolding placeOf nodeNumber height heightFrom
     place-is = ap₂ (λ (x : Header) (h : ℕ). placeOf x h) header-is high
 
-    well : WellFormed fresh (firstPair a b c d)
+    well : Formed fresh (firstPair a b c d)
     unfolding fresh messageSize rulesKept lengthRule indexRule covering ceilDiv height heightFrom
     well =
         well-formed-in (rootOf a b c d) numbers ((a ++ b) ++ (c ++ d)) root-size refl fresh header 5 3 header-is

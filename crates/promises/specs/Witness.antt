@@ -6,10 +6,10 @@ use mathlib.Core.Bool.{true}
 use mathlib.Core.List.{List, [], _∷_, _++_}
 use Prim.Native.Nat.{ℕ, zero, suc, _+_, _-_, _≤_, _<_}
 use native.Mathlib.Omega.{arith}
-use lib.ListN.{length, replicate, length-replicate}
+use lib.ListN.{length, getD, replicate, length-replicate}
 use lib.Dec.{lit<}
 use Rattle.octets.specs.Octets.{Octets, be, zeroHash}
-use Rattle.octets.specs.OctetsLaws.{same-eq, zero-octets, be-octets, append-octets}
+use Rattle.octets.specs.OctetsLaws.{same-eq, zero-octets, be-octets, append-octets, cut-append-left}
 use Rattle.sha256.specs.Sha256.{pairHash}
 use Rattle.sha256.specs.Sha256Laws.{pair-octets}
 use Rattle.tree.specs.Geometry.{nodeNumber, hasLayer, pieceCount, ceilDiv, blockCount, blockSize, heightFrom, height, pieceLayer, isPieceLength}
@@ -28,7 +28,7 @@ use Rattle.header.specs.Header.{headerOf, isHashes}
 use Rattle.messages.specs.Take.{given, placeIn, takeNumber, takeAfter}
 use Rattle.messages.specs.TakeLaws.{passed}
 use Rattle.words.specs.Held.{Holds}
-use Rattle.words.specs.History.{Bytes, take, call, begin, next, OurStore, ours}
+use Rattle.words.specs.History.{Bytes, take, call, lent, begin, next, OurStore, ours}
 use Rattle.words.specs.Messages.{hashIn, anchorLayer, anchorIndex, Settles, inRun, parent}
 use Rattle.words.specs.File.{For, pieceFor, TrueHashes}
 use Rattle.knowledge.specs.Again.{what-is-held}
@@ -39,10 +39,12 @@ use Rattle.knowledge.specs.AnchorHeld.{held-asked}
 use Rattle.knowledge.specs.Positions.{given-is}
 use Rattle.knowledge.specs.HeldAfter.{settles-then-holds}
 use Rattle.knowledge.specs.Conflict.{sized-bytes}
+use Rattle.knowledge.specs.OwnBytes.{ours-have, ours-bytes}
 use Rattle.knowledge.specs.RootToBlock.{treeOf, same-height, agreed-piece}
-use Rattle.promises.specs.Lent.{lent, lent-room, lent-bytes, lent-opens}
+use Rattle.promises.specs.Blank.{blank, blank-room, blank-bytes, blank-opens}
 use Rattle.promises.specs.Example.{twoLeaves, header-two, first, second, two-taken, two-well-formed, two-place}
 use Rattle.promises.specs.TwoBlocks.{range, opens, open-is}
+use Rattle.knowledge.specs.FormedWhen.{well-formed}
 
 -- the message is a string of bytes
 one-byte : Octets 1 (22 ∷ [])
@@ -142,7 +144,7 @@ module _ (file buffer : List ℕ) (two-blocks : length file ≡ 32768) (fits : s
       let m = twoLeaves (leafOf file 0) (leafOf file 1) in
       let h = header-two (leafOf file 0) (leafOf file 1) (leaf-octets file 0) (leaf-octets file 1) in
       record {
-        formed = two-well-formed (leafOf file 0) (leafOf file 1) (leaf-octets file 0) (leaf-octets file 1) buffer fits;
+        formed = well-formed _ m .1 (two-well-formed (leafOf file 0) (leafOf file 1) (leaf-octets file 0) (leaf-octets file 1) buffer fits);
         run = λ j l. run-told j (headerOf m) h l;
         uncles = λ j l. absurd (none-told j (headerOf m) h l);
       }
@@ -172,15 +174,37 @@ module _ (file buffer : List ℕ) (two-blocks : length file ≡ 32768) (fits : s
 -- ---- the same with every byte said: zero bytes lent, a file of 32768 zero bytes
 
 -- a store of ours exists: a file of one byte
-pub a-store-of-ours : OurStore (openAfter (lent 1) 1 16384 zeroHash)
-a-store-of-ours = ours (lent 1) 1 16384 zeroHash (lent-bytes 1) zero-octets (lent-opens 1 16384 in-range) begin
+pub a-store-of-ours : OurStore (openAfter (blank 1) 1 16384 zeroHash)
+a-store-of-ours = ours (blank 1) 1 16384 zeroHash (blank-bytes 1) zero-octets (blank-opens 1 16384 in-range) begin
   where
     in-range : factsInRange 1 16384 ≡ true
     in-range = unfold factsInRange isPieceLength pieceLayer height heightFrom in refl
 
+-- and is one still in a memory that is a byte longer, whatever the byte is
+pub a-store-lent-longer : (x : ℕ) → x < 256 → OurStore (openAfter (blank 1) 1 16384 zeroHash ++ (x ∷ []))
+a-store-lent-longer x b = by a-store-of-ours
+  where
+    s : List ℕ
+    s = openAfter (blank 1) 1 16384 zeroHash
+
+    one : Octets 1 (x ∷ [])
+    one = record { size = refl; bytes = λ i l. byte i l }
+      where
+        byte : (i : ℕ) → i < 1 → getD (x ∷ []) i 0 < 256
+        byte zero l = b
+        byte (suc i) l = let w : ⊥ = omega arith in absurd w
+
+    by : OurStore s → OurStore (s ++ (x ∷ []))
+    by (ours m n plen root bytes o z h) =
+        let f = ours-have (ours m n plen root bytes o z h) .chained .facts in
+        let c = append-octets (ours-bytes (ours m n plen root bytes o z h)) one in
+        ours m n plen root bytes o z
+        (next h (lent (s ++ (x ∷ [])) (sized-bytes (length s + 1) (s ++ (x ∷ [])) c)
+        (record { store = facts-usable s f; bytes = cut-append-left s (x ∷ []) 0 (storeSize (fileLength s)) (omega (arith, f .size)) })))
+
 -- a store of ours of two blocks, after a message that was taken
-pub a-store-of-two-blocks : OurStore (takeAfter (openAfter (lent 32768) 32768 16384 (pairHash zeroHash zeroHash)) (twoLeaves zeroHash zeroHash))
-a-store-of-two-blocks = ours-with-two-leaves zeroHash zeroHash zero-octets zero-octets (lent 32768) (lent-bytes 32768) (lent-room 32768)
+pub a-store-of-two-blocks : OurStore (takeAfter (openAfter (blank 32768) 32768 16384 (pairHash zeroHash zeroHash)) (twoLeaves zeroHash zeroHash))
+a-store-of-two-blocks = ours-with-two-leaves zeroHash zeroHash zero-octets zero-octets (blank 32768) (blank-bytes 32768) (blank-room 32768)
 
 -- what `known-message` asks for, met at once
 pub record Met (file s r : List ℕ) : Type 0 where
@@ -189,18 +213,18 @@ pub record Met (file s r : List ℕ) : Type 0 where
   pub hashes : TrueHashes file s r
   pub anchor : heldAnswer s (anchorLayer r) (anchorIndex r) .number ≡ 0
 
-met : (file : List ℕ) → length file ≡ 32768 → Met file (opened (lent 32768) 32768 16384 (piecesRoot file)) (twoLeaves (leafOf file 0) (leafOf file 1))
+met : (file : List ℕ) → length file ≡ 32768 → Met file (opened (blank 32768) 32768 16384 (piecesRoot file)) (twoLeaves (leafOf file 0) (leafOf file 1))
 met file e =
     record {
-      ours = ours-for-the-file file (lent 32768) e (lent-room 32768) (lent-bytes 32768);
-      opened = for-the-file file (lent 32768) e (lent-room 32768);
-      hashes = true-for-the-file file (lent 32768) e (lent-room 32768);
-      anchor = anchor-for-the-file file (lent 32768) e (lent-room 32768);
+      ours = ours-for-the-file file (blank 32768) e (blank-room 32768) (blank-bytes 32768);
+      opened = for-the-file file (blank 32768) e (blank-room 32768);
+      hashes = true-for-the-file file (blank 32768) e (blank-room 32768);
+      anchor = anchor-for-the-file file (blank 32768) e (blank-room 32768);
     }
 
 -- all of it, with every byte said
 pub a-file-store-and-message :
-    Met (replicate 32768 0) (opened (lent 32768) 32768 16384 (piecesRoot (replicate 32768 0))) (twoLeaves (leafOf (replicate 32768 0) 0) (leafOf (replicate 32768 0) 1))
+    Met (replicate 32768 0) (opened (blank 32768) 32768 16384 (piecesRoot (replicate 32768 0))) (twoLeaves (leafOf (replicate 32768 0) 0) (leafOf (replicate 32768 0) 1))
 a-file-store-and-message = met (replicate 32768 0) (length-replicate {A = ℕ} 32768 0)
 
 -- ---- and after that message: what the theorems about blocks and pieces ask for, met at once
@@ -326,5 +350,5 @@ module _ (file buffer : List ℕ) (two-blocks : length file ≡ 32768) (bytes : 
 
 -- with every byte said
 pub a-store-after-its-leaves :
-    MetAfter (replicate 32768 0) (takeAfter (openAfter (lent 32768) 32768 16384 (pairHash (leafOf (replicate 32768 0) 0) (leafOf (replicate 32768 0) 1))) (twoLeaves (leafOf (replicate 32768 0) 0) (leafOf (replicate 32768 0) 1)))
-a-store-after-its-leaves = met-after (replicate 32768 0) (lent 32768) (length-replicate {A = ℕ} 32768 0) (lent-bytes 32768) (lent-room 32768)
+    MetAfter (replicate 32768 0) (takeAfter (openAfter (blank 32768) 32768 16384 (pairHash (leafOf (replicate 32768 0) 0) (leafOf (replicate 32768 0) 1))) (twoLeaves (leafOf (replicate 32768 0) 0) (leafOf (replicate 32768 0) 1)))
+a-store-after-its-leaves = met-after (replicate 32768 0) (blank 32768) (length-replicate {A = ℕ} 32768 0) (blank-bytes 32768) (blank-room 32768)

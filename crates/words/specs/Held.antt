@@ -67,30 +67,30 @@ pub record Clashes (s : List ℕ) (R : Hashes) (l i : ℕ) : Type 0 where
 
 -- ---- positions counted
 
--- a position with its hash
-pub record Spot : Type 0 where
+-- a position, fixed by layer and index, with its hash
+pub record Fixed : Type 0 where
   pub l : ℕ
   pub i : ℕ
   pub v : List ℕ
 
 -- position i of layer l stands in a list with hash v
-pub data Stands (l i : ℕ) (v : List ℕ) : List Spot → Type 0 where
-  first : {L : List Spot} → Stands l i v (record { l = l; i = i; v = v } ∷ L)
-  later : {x : Spot} {L : List Spot} → Stands l i v L → Stands l i v (x ∷ L)
+pub data Stands (l i : ℕ) (v : List ℕ) : List Fixed → Type 0 where
+  first : {L : List Fixed} → Stands l i v (record { l = l; i = i; v = v } ∷ L)
+  later : {x : Fixed} {L : List Fixed} → Stands l i v L → Stands l i v (x ∷ L)
 
 -- no position stands in a list twice
-pub data Distinct : List Spot → Type 0 where
+pub data Distinct : List Fixed → Type 0 where
   none : Distinct []
-  more : {x : Spot} {L : List Spot} → ((v : List ℕ) → Stands (x .l) (x .i) v L → ⊥) → Distinct L → Distinct (x ∷ L)
+  more : {x : Fixed} {L : List Fixed} → ((v : List ℕ) → Stands (x .l) (x .i) v L → ⊥) → Distinct L → Distinct (x ∷ L)
 
 -- all positions that have these hashes, each once: n of them
 pub record All (R : Hashes) (n : ℕ) : Type 0 where
-  pub spots : List Spot
-  pub many : length spots ≡ n
-  pub distinct : Distinct spots
-  pub exactly : (l i : ℕ) (v : List ℕ) → Stands l i v spots ↔ R l i v
+  pub all : List Fixed
+  pub many : length all ≡ n
+  pub distinct : Distinct all
+  pub exactly : (l i : ℕ) (v : List ℕ) → Stands l i v all ↔ R l i v
 
 -- how many positions of a list kd_held does not answer 0 for
-unfoldable pub unheldAmong : List ℕ → List Spot → ℕ
+unfoldable pub unheldAmong : List ℕ → List Fixed → ℕ
 unheldAmong s [] = 0
 unheldAmong s (x ∷ L) = oneIf (not (eqb (heldAnswer s (x .l) (x .i) .number) 0)) + unheldAmong s L

@@ -15,7 +15,7 @@ use Rattle.tree.specs.Values.{padValue}
 use Rattle.store.specs.Store.{usable, factsRoot, blocksOf, heightOf}
 use Rattle.settling.specs.Path.{sibling}
 use Rattle.header.specs.Header.{requestId, hashesId, headerSize, messageId, headerOf, messageRoot, isHashes, isRequest, isReject, messageSize, Kept, uncleCount}
-use Rattle.messages.specs.Take.{headerNumber, takeAnswer, rejectAnswer}
+use Rattle.messages.specs.Take.{takeAnswer, rejectAnswer}
 use Rattle.serve.specs.Serve.{serveAnswer, serveAfter}
 use Rattle.words.specs.Held.{Holds, Lacks, NoneDiffers, OneDiffers}
 
@@ -99,9 +99,9 @@ pub record Ruled (s m : List ℕ) : Type 0 where
   pub root : factsRoot s ≡ messageRoot m
   pub rules : Kept (headerOf m) (blocksOf s) (heightOf s)
 
--- a well-formed message: 9, 1, 2, 3 and 4 are not given
+-- a well-formed message has the size that its header fixes, and so passes 4 too
 pub record WellFormed (s m : List ℕ) : Type 0 where
-  pub header : headerNumber (isHashes m) s m ≡ 0
+  pub ruled : Ruled s m
   pub size : length m ≡ messageSize (headerOf m)
 
 -- ---- what decides a well-formed message

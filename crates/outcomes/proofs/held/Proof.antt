@@ -12,7 +12,7 @@ kd-held-requires-2 : tie.Need-kd-held-requires-2
 kd-held-requires-2 c κs = search needs
 
 returns : tie.Need-returns
-returns c = c .before .kd-held .ensures ∙ sym (c .kd-held2 .ensures)
+returns c = (c .before .kd-held .ensures, c .before .kd-held .ensures ∙ sym (c .kd-held2 .ensures))
 
 pub held-spec : {M : Type 1} → statement M
 held-spec = tie.close (tie.spec kd-held-requires kd-held-requires-2 returns)

@@ -12,7 +12,7 @@ kd-judge-block-requires-2 : tie.Need-kd-judge-block-requires-2
 kd-judge-block-requires-2 c κs = search needs
 
 returns : tie.Need-returns
-returns c = c .before .kd-judge-block .ensures ∙ sym (c .kd-judge-block2 .ensures)
+returns c = (c .before .kd-judge-block .ensures, c .before .kd-judge-block .ensures ∙ sym (c .kd-judge-block2 .ensures))
 
 pub judge-block-spec : {M : Type 1} → statement M
 judge-block-spec = tie.close (tie.spec kd-judge-block-requires kd-judge-block-requires-2 returns)

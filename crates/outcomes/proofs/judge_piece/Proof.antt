@@ -12,7 +12,7 @@ kd-judge-piece-requires-2 : tie.Need-kd-judge-piece-requires-2
 kd-judge-piece-requires-2 c κs = search needs
 
 returns : tie.Need-returns
-returns c = c .before .kd-judge-piece .ensures ∙ sym (c .kd-judge-piece2 .ensures)
+returns c = (c .before .kd-judge-piece .ensures, c .before .kd-judge-piece .ensures ∙ sym (c .kd-judge-piece2 .ensures))
 
 pub judge-piece-spec : {M : Type 1} → statement M
 judge-piece-spec = tie.close (tie.spec kd-judge-piece-requires kd-judge-piece-requires-2 returns)

@@ -12,7 +12,7 @@ kd-sha256-requires-2 : tie.Need-kd-sha256-requires-2
 kd-sha256-requires-2 c κs = search needs
 
 returns : tie.Need-returns
-returns c = c .before .kd-sha256 .ensures ∙ sym (c .kd-sha2562 .ensures)
+returns c = (c .before .kd-sha256 .ensures, c .before .kd-sha256 .ensures ∙ sym (c .kd-sha2562 .ensures))
 
 pub sha256-spec : {M : Type 1} → statement M
 sha256-spec = tie.close (tie.spec kd-sha256-requires kd-sha256-requires-2 returns)

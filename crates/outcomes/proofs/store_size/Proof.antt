@@ -12,7 +12,7 @@ kd-store-size-requires-2 : tie.Need-kd-store-size-requires-2
 kd-store-size-requires-2 c κs = search needs
 
 returns : tie.Need-returns
-returns c = c .before .kd-store-size .ensures ∙ sym (c .kd-store-size2 .ensures)
+returns c = (c .before .kd-store-size .ensures, c .before .kd-store-size .ensures ∙ sym (c .kd-store-size2 .ensures))
 
 pub store-size-spec : {M : Type 1} → statement M
 store-size-spec = tie.close (tie.spec kd-store-size-requires kd-store-size-requires-2 returns)

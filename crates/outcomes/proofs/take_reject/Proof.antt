@@ -12,7 +12,7 @@ kd-take-reject-requires-2 : tie.Need-kd-take-reject-requires-2
 kd-take-reject-requires-2 c κs = search needs
 
 returns : tie.Need-returns
-returns c = c .before .kd-take-reject .ensures ∙ sym (c .kd-take-reject2 .ensures)
+returns c = (c .before .kd-take-reject .ensures, c .before .kd-take-reject .ensures ∙ sym (c .kd-take-reject2 .ensures))
 
 pub take-reject-spec : {M : Type 1} → statement M
 take-reject-spec = tie.close (tie.spec kd-take-reject-requires kd-take-reject-requires-2 returns)

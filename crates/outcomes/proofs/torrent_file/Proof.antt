@@ -12,7 +12,7 @@ kd-torrent-file-requires-2 : tie.Need-kd-torrent-file-requires-2
 kd-torrent-file-requires-2 c κs = search needs
 
 returns : tie.Need-returns
-returns c = c .before .kd-torrent-file .ensures ∙ sym (c .kd-torrent-file2 .ensures)
+returns c = (c .before .kd-torrent-file .ensures, c .before .kd-torrent-file .ensures ∙ sym (c .kd-torrent-file2 .ensures))
 
 pub torrent-file-spec : {M : Type 1} → statement M
 torrent-file-spec =

@@ -17,7 +17,12 @@ same-length-2 : tie.Need-same-length-2
 same-length-2 c = search needs
 
 returns : tie.Need-returns
-returns c = (cc (c .before .before .before .before .before .before .before .before .before .before .before .pre, c .before .before .before .before .before .before .kd-torrent-list .ensures .0, c .before .before .kd-torrent-list2 .ensures .0), cc (c .before .before .before .before .before .before .before .before .before .before .before .pre, c .before .before .before .before .before .before .kd-torrent-list .ensures .1, c .before .before .kd-torrent-list2 .ensures .1))
+returns c = (
+      c .before .before .before .before .before .before .kd-torrent-list .ensures .0,
+      cc (c .before .before .before .before .before .before .before .before .before .before .before .pre, c .before .before .before .before .before .before .kd-torrent-list .ensures .0, c .before .before .kd-torrent-list2 .ensures .0),
+      c .before .before .before .before .before .before .kd-torrent-list .ensures .1,
+      cc (c .before .before .before .before .before .before .before .before .before .before .before .pre, c .before .before .before .before .before .before .kd-torrent-list .ensures .1, c .before .before .kd-torrent-list2 .ensures .1),
+    )
 
 pub torrent-list-spec : {M : Type 1} → statement M
 torrent-list-spec =

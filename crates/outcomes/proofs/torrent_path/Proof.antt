@@ -12,7 +12,7 @@ kd-torrent-path-requires-2 : tie.Need-kd-torrent-path-requires-2
 kd-torrent-path-requires-2 c κs = search needs
 
 returns : tie.Need-returns
-returns c = c .before .kd-torrent-path .ensures ∙ sym (c .kd-torrent-path2 .ensures)
+returns c = (c .before .kd-torrent-path .ensures, c .before .kd-torrent-path .ensures ∙ sym (c .kd-torrent-path2 .ensures))
 
 pub torrent-path-spec : {M : Type 1} → statement M
 torrent-path-spec =

@@ -12,7 +12,7 @@ kd-torrent-read-requires-2 : tie.Need-kd-torrent-read-requires-2
 kd-torrent-read-requires-2 c κs = search needs
 
 returns : tie.Need-returns
-returns c = c .before .kd-torrent-read .ensures ∙ sym (c .kd-torrent-read2 .ensures)
+returns c = (c .before .kd-torrent-read .ensures, c .before .kd-torrent-read .ensures ∙ sym (c .kd-torrent-read2 .ensures))
 
 pub torrent-read-spec : {M : Type 1} → statement M
 torrent-read-spec =
