@@ -9,7 +9,9 @@ use native.Mathlib.Decide.{decLt}
 use lib.ListN.{length, getD, drop}
 use lib.Dec.{eqb, leb}
 use borrow.Author.Tests.{eq-eqb, ne-eqb, le-leb, lt-leb}
-use Rattle.bencode.specs.Grammar.{letterE, letterD, maxLevels}
+use Rattle.meaning.specs.Keys.{keyLength, keyPiecesRoot}
+use Rattle.limits.specs.Limits.{maxLevels, longestFile}
+use Rattle.bencode.specs.Grammar.{letterE, letterD}
 use Rattle.bencode.specs.Scalar.{readInteger, readString}
 use Rattle.bencode.specs.Walk.{walkValue}
 use Rattle.bencode.specs.Parts.{isDictionary, findKey}
@@ -22,7 +24,7 @@ use Rattle.bencode.specs.declared.walk.Walked.the-variants.{Past, Broken, TooDe
 use Rattle.bencode.specs.declared.parts.Found.{Found}
 use Rattle.bencode.specs.declared.parts.Found.the-variants.{Part, Missing}
 use Rattle.bencode.proofs.Reading.{drop-end, drop-step}
-use Rattle.files.specs.File.{keyLength, keyPiecesRoot, maxFileLength, lengthOf, rootOf, lengthIn, rootIn, fileLength, fileRoot, emptyFile, fullFile, withLength, fileAt}
+use Rattle.files.specs.File.{lengthOf, rootOf, lengthIn, rootIn, fileLength, fileRoot, emptyFile, fullFile, withLength, fileAt}
 use Rattle.files.specs.Walk.{endsHere, behindFile, pastFile, withFile, fileToken, firstKey, nodeToken, keyToken, tokenAt}
 use Rattle.files.specs.declared.file.Length.{Length}
 use Rattle.files.specs.declared.file.Length.the-variants.{Bytes, NoLength}
@@ -38,11 +40,11 @@ use Rattle.files.specs.declared.walk.Token.the-variants.{Opened, Closed,
 pub length-minus : (i : Integer) (m : Bool) (n k : ℕ) → i ≡ Whole m n k → m ≡ true → lengthOf i ≡ NoLength
 length-minus i m n k e h = rw (e, h) refl
 
-pub length-fits : (i : Integer) (m : Bool) (n k : ℕ) → i ≡ Whole m n k → m ≡ false → n ≤ maxFileLength → lengthOf i ≡ Bytes n
-length-fits i m n k e h l = rw (e, h) (simp (le-leb n maxFileLength l))
+pub length-fits : (i : Integer) (m : Bool) (n k : ℕ) → i ≡ Whole m n k → m ≡ false → n ≤ longestFile → lengthOf i ≡ Bytes n
+length-fits i m n k e h l = rw (e, h) (simp (le-leb n longestFile l))
 
-pub length-long : (i : Integer) (m : Bool) (n k : ℕ) → i ≡ Whole m n k → m ≡ false → maxFileLength < n → lengthOf i ≡ NoLength
-length-long i m n k e h l = rw (e, h) (simp (lt-leb n maxFileLength l))
+pub length-long : (i : Integer) (m : Bool) (n k : ℕ) → i ≡ Whole m n k → m ≡ false → longestFile < n → lengthOf i ≡ NoLength
+length-long i m n k e h l = rw (e, h) (simp (lt-leb n longestFile l))
 
 pub root-right : (b : ByteString) (x y : ℕ) → b ≡ Content x y → y - x ≡ 32 → rootOf b ≡ At x
 root-right b x y e h = rw e (simp (eq-eqb (y - x) 32 h))

@@ -1,10 +1,12 @@
 -- 01, "The torrent", 25: what the value of an empty key says of a file, by positions of the torrent s.
 -- Assumes nothing.
 use mathlib.Core.Bool.{Bool, true, false, cond}
-use mathlib.Core.List.{List, [], _∷_}
-use Prim.Native.Nat.{ℕ, _-_, _^_}
+use mathlib.Core.List.{List}
+use Prim.Native.Nat.{ℕ, _-_}
 use lib.ListN.{drop}
 use lib.Dec.{eqb, leb}
+use Rattle.limits.specs.Limits.{longestFile}
+use Rattle.meaning.specs.Keys.{keyLength, keyPiecesRoot}
 use Rattle.bencode.specs.Scalar.{readInteger, readString}
 use Rattle.bencode.specs.Parts.{findKey}
 use Rattle.bencode.specs.declared.scalar.ByteString.{ByteString}
@@ -20,22 +22,11 @@ use Rattle.files.specs.declared.file.Root.the-variants.{At, NoRoot}
 use Rattle.files.specs.declared.file.File.{File}
 use Rattle.files.specs.declared.file.File.the-variants.{Right, WrongFile}
 
--- `length`
-abbrev pub keyLength : List ℕ
-keyLength = 108 ∷ 101 ∷ 110 ∷ 103 ∷ 116 ∷ 104 ∷ []
-
--- `pieces root`
-abbrev pub keyPiecesRoot : List ℕ
-keyPiecesRoot = 112 ∷ 105 ∷ 101 ∷ 99 ∷ 101 ∷ 115 ∷ 32 ∷ 114 ∷ 111 ∷ 111 ∷ 116 ∷ []
-
-abbrev pub maxFileLength : ℕ
-maxFileLength = 2 ^ 30
-
--- an integer from 0 to 2^30
+-- an integer from 0 to the longest file
 abbrev pub lengthOf : Integer → Length
 lengthOf NoInteger = NoLength
 lengthOf (Whole true n k) = NoLength
-lengthOf (Whole false n k) = cond (leb n maxFileLength) (Bytes n) NoLength
+lengthOf (Whole false n k) = cond (leb n longestFile) (Bytes n) NoLength
 
 -- a string of 32 bytes
 abbrev pub rootOf : ByteString → Root

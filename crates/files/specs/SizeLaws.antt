@@ -9,9 +9,11 @@ use lib.ListN.{length, drop, take, length-append, take-append-drop}
 use lib.Seq.{drop-drop}
 use lib.Dec.{eqb, leb}
 use borrow.Author.Tests.{eqb-true, eqb-false, leb-true}
+use Rattle.meaning.specs.Keys.{keyLength, keyPiecesRoot}
+use Rattle.limits.specs.Limits.{maxLevels, longestFile}
 use Rattle.octets.specs.Octets.{same, cut}
 use Rattle.octets.specs.OctetsLaws.{same-true, same-eq}
-use Rattle.bencode.specs.Grammar.{colon, letterD, letterE, maxLevels, Value, integer, string, list, dictionary, Entries, noEntries, entry, decimal, decimalIn, encodeString, encode, encodeEntries, Valid}
+use Rattle.bencode.specs.Grammar.{colon, letterD, letterE, Value, integer, string, list, dictionary, Entries, noEntries, entry, decimal, decimalIn, encodeString, encode, encodeEntries, Valid}
 use Rattle.bencode.specs.Scalar.{readString, readInteger}
 use Rattle.bencode.specs.Walk.{walkValue}
 use Rattle.bencode.specs.Parts.{isDictionary, findKey, Lookup, absent, present, lookup, FoundIs}
@@ -27,7 +29,7 @@ use Rattle.bencode.specs.declared.walk.Walked.{Walked}
 use Rattle.bencode.specs.declared.walk.Walked.the-variants.{Past, Broken, TooDeep}
 use Rattle.bencode.specs.declared.parts.Found.{Found}
 use Rattle.bencode.specs.declared.parts.Found.the-variants.{Part, Missing}
-use Rattle.files.specs.File.{keyLength, keyPiecesRoot, maxFileLength, lengthOf, rootOf, lengthIn, rootIn, fileLength, fileRoot, emptyFile, fullFile, withLength, fileAt}
+use Rattle.files.specs.File.{lengthOf, rootOf, lengthIn, rootIn, fileLength, fileRoot, emptyFile, fullFile, withLength, fileAt}
 use Rattle.files.specs.declared.file.Length.{Length}
 use Rattle.files.specs.declared.file.Length.the-variants.{Bytes, NoLength}
 use Rattle.files.specs.declared.file.Root.{Root}
@@ -155,19 +157,19 @@ full-file s at n r e nz = by-length (findKey keyLength at (drop at s)) refl e
     by-length (Part a b) q f = by-value a b q (lengthOf (readInteger a (drop a s))) refl f
 
 -- a length is from 0 to 2^30
-length-small : (i : Integer) (n : ℕ) → lengthOf i ≡ Bytes n → n ≤ maxFileLength
+length-small : (i : Integer) (n : ℕ) → lengthOf i ≡ Bytes n → n ≤ longestFile
 length-small NoInteger n e = let z : _≡_ {A = ℕ} 0 1 = cc in absurd (omega arith)
 length-small (Whole true m k) n e = let z : _≡_ {A = ℕ} 0 1 = cc in absurd (omega arith)
-length-small (Whole false m k) n e = by-size (leb m maxFileLength) refl e
+length-small (Whole false m k) n e = by-size (leb m longestFile) refl e
   where
-    by-size : (t : Bool) → leb m maxFileLength ≡ t → cond t (Bytes m) NoLength ≡ Bytes n → n ≤ maxFileLength
-    by-size true q f = let x : m ≡ n = cc in let l = leb-true m maxFileLength q in omega arith
+    by-size : (t : Bool) → leb m longestFile ≡ t → cond t (Bytes m) NoLength ≡ Bytes n → n ≤ longestFile
+    by-size true q f = let x : m ≡ n = cc in let l = leb-true m longestFile q in omega arith
     by-size false q f = let z : _≡_ {A = ℕ} 0 1 = cc in absurd (omega arith)
 
-pub file-small : (s : List ℕ) (at n r : ℕ) → fileAt s at ≡ Right n r → n ≤ maxFileLength
+pub file-small : (s : List ℕ) (at n r : ℕ) → fileAt s at ≡ Right n r → n ≤ longestFile
 file-small s at n r e = by-zero n refl
   where
-    by-zero : (m : ℕ) → n ≡ m → n ≤ maxFileLength
+    by-zero : (m : ℕ) → n ≡ m → n ≤ longestFile
     by-zero zero q = omega (arith, q)
     by-zero (suc m) q = let f = full-file s at n r e (λ z. omega arith) in length-small (readInteger (f .lengthFrom) (drop (f .lengthFrom) s)) n (f .length-is)
 

@@ -6,7 +6,8 @@ use mathlib.Core.List.{List, [], _∷_}
 use Prim.Native.Nat.{ℕ, zero, suc, _+_, _-_, _*_}
 use lib.ListN.{length, drop, set}
 use lib.Dec.{eqb, ltb}
-use Rattle.bencode.specs.Grammar.{letterE, maxLevels}
+use Rattle.limits.specs.Limits.{maxLevels}
+use Rattle.bencode.specs.Grammar.{letterE}
 use Rattle.bencode.specs.Scalar.{readString}
 use Rattle.bencode.specs.Walk.{walkValue}
 use Rattle.bencode.specs.Parts.{isDictionary}

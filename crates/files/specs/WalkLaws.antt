@@ -10,7 +10,7 @@ use lib.ListN.{length, drop, getD, set, drop-of-length-le, length-set}
 use lib.Seq.{getD-set-same, getD-set-other}
 use lib.Dec.{eqb, ltb}
 use borrow.Author.Tests.{eqb-false, ltb-true, lt-ltb, le-ltb, eq-eqb, ne-eqb}
-use Rattle.bencode.specs.Grammar.{maxLevels}
+use Rattle.limits.specs.Limits.{maxLevels, longestFile}
 use Rattle.bencode.specs.Scalar.{readString, readNumber}
 use Rattle.bencode.specs.Walk.{walkValue}
 use Rattle.bencode.specs.Parts.{isDictionary}
@@ -19,7 +19,7 @@ use Rattle.bencode.specs.declared.scalar.ByteString.{ByteString}
 use Rattle.bencode.specs.declared.scalar.ByteString.the-variants.{Content, NoString}
 use Rattle.bencode.specs.declared.walk.Walked.{Walked}
 use Rattle.bencode.specs.declared.walk.Walked.the-variants.{Past, Broken, TooDeep}
-use Rattle.files.specs.File.{maxFileLength, fileAt}
+use Rattle.files.specs.File.{fileAt}
 use Rattle.files.specs.SizeLaws.{file-small, full-size}
 use Rattle.files.specs.Walk.{maxElements, endsHere, behindFile, pastFile, withFile, fileToken, firstKey, nodeToken, keyToken, tokenAt, setElement, Reached, reach, onToken, nextIn, nextFile}
 use Rattle.files.specs.declared.file.File.{File}
@@ -54,7 +54,7 @@ abbrev pub TokenIn : ℕ → ℕ → Token → Type 0
 TokenIn at end BadToken = Unit {0}
 TokenIn at end Closed = at < end
 TokenIn at end (Opened a b) = (at < b) × (b < end) × (a ≤ b)
-TokenIn at end (Leaf a b n r k) = (at < k) × (k ≤ end) × Takes at end n r k × (n ≤ maxFileLength) × (a ≤ b) × (b ≤ end)
+TokenIn at end (Leaf a b n r k) = (at < k) × (k ≤ end) × Takes at end n r k × (n ≤ longestFile) × (a ≤ b) × (b ≤ end)
 
 past-in : (s : List ℕ) (at a b n r x : ℕ) → (a ≤ b) × (b ≤ length s) → fileAt s x ≡ Right n r → at + 4 ≤ x → TokenIn at (length s) (pastFile s a b n r x)
 unfolding pastFile
@@ -124,7 +124,7 @@ token-in s at = by-end (endsHere (drop at s)) refl
 pub opened-ends : (s : List ℕ) (at a b : ℕ) → tokenAt s at ≡ Opened a b → (at < b) × (b < length s) × (a ≤ b)
 opened-ends s at a b e = rw e at (token-in s at)
 
-pub leaf-ends : (s : List ℕ) (at a b n r k : ℕ) → tokenAt s at ≡ Leaf a b n r k → (at < k) × (k ≤ length s) × Takes at (length s) n r k × (n ≤ maxFileLength) × (a ≤ b) × (b ≤ length s)
+pub leaf-ends : (s : List ℕ) (at a b n r k : ℕ) → tokenAt s at ≡ Leaf a b n r k → (at < k) × (k ≤ length s) × Takes at (length s) n r k × (n ≤ longestFile) × (a ≤ b) × (b ≤ length s)
 leaf-ends s at a b n r k e = rw e at (token-in s at)
 
 -- past the end there is none
@@ -149,7 +149,7 @@ next-bad (suc n) s at d path e = ap (onToken (nextIn n s) at d path) e
 abbrev pub PlacedIn : ℕ → ℕ → Next → Type 0
 PlacedIn at end NoMore = Unit {0}
 PlacedIn at end WrongTree = Unit {0}
-PlacedIn at end (Placed n r k d) = (at < k) × (k ≤ end) × Takes at end n r k × (n ≤ maxFileLength) × (d < maxElements)
+PlacedIn at end (Placed n r k d) = (at < k) × (k ≤ end) × Takes at end n r k × (n ≤ longestFile) × (d < maxElements)
 
 -- it lies behind `at`, within the bytes, and the path keeps its length
 abbrev pub NextIn : ℕ → ℕ → ℕ → Reached → Type 0

@@ -11,8 +11,9 @@ use lib.ListN.{length, drop, take, getD, length-append}
 use lib.Seq.{drop-drop, getD-take, length-take-le}
 use lib.Dec.{eqb}
 use borrow.Author.Tests.{eqb-true}
+use Rattle.limits.specs.Limits.{maxLevels}
 use Rattle.octets.specs.Octets.{cut}
-use Rattle.bencode.specs.Grammar.{colon, letterD, maxLevels, Value, dictionary, Entries, noEntries, entry, decimal, encodeString, encode, encodeEntries, precedes, KeyBefore, none, after, Valid, EntriesValid}
+use Rattle.bencode.specs.Grammar.{colon, letterD, Value, dictionary, Entries, noEntries, entry, decimal, encodeString, encode, encodeEntries, precedes, KeyBefore, none, after, Valid, EntriesValid}
 use Rattle.bencode.specs.Parts.{readEntry}
 use Rattle.bencode.specs.CompleteLaws.{contentStart, string-some, dictionary-bytes}
 use Rattle.bencode.specs.PartsLaws.{valueStart, entry-is, entry-none, entry-ends, dictionary-is}

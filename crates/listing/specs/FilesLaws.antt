@@ -8,8 +8,8 @@ use native.Mathlib.Omega.{arith}
 use lib.ListN.{length, drop, getD, length-replicate}
 use lib.Dec.{eqb}
 use borrow.Author.Tests.{eqb-true, eqb-false, ltb-true}
+use Rattle.limits.specs.Limits.{longestFile}
 use Rattle.tree.specs.Geometry.{hasLayer}
-use Rattle.files.specs.File.{maxFileLength}
 use Rattle.files.specs.Walk.{maxElements, endsHere, Reached, nextFile}
 use Rattle.files.specs.WalkLaws.{PlacedIn, next-file-in, PathRight, AnswerRight, next-path-right}
 use Rattle.files.specs.declared.walk.Next.{Next}
@@ -19,7 +19,7 @@ use Rattle.listing.specs.Listing.{Listed, Files, ends, more, right, list
 -- in a torrent of so many bytes: a root within it, unless the file is empty; at most 2^30 bytes; 1 to 28 path elements within it
 pub record FileRight (end : ℕ) (f : Listed) : Type 0 where
   pub root-within : (f .size ≡ 0 → ⊥) → f .root + 32 ≤ end
-  pub small : f .size ≤ maxFileLength
+  pub small : f .size ≤ longestFile
   pub some : 1 ≤ f .elements
   pub few : f .elements ≤ maxElements
   pub sized : length (f .path) ≡ 56

@@ -1,12 +1,8 @@
+pub mod Keys
+pub mod Nth
 pub mod Torrent
+pub mod Amiss
+pub mod TestsLaws
+pub mod AmissLaws
 pub mod Counting
-pub mod RootsMeaning
-pub mod LayersRead
-pub mod LayersMeaning
 pub mod Examples
-pub mod Reading
-pub mod FileLaws
-pub mod TokenLaws
-pub mod TreeLaws
-pub mod KeysLaws
-pub mod StrictTorrentLaws

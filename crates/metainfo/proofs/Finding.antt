@@ -8,6 +8,8 @@ use native.Mathlib.Omega.{arith}
 use lib.ListN.{length, drop}
 use lib.Dec.{eqb, leb}
 use borrow.Author.Tests.{eq-eqb, ne-eqb, le-leb, lt-leb}
+use Rattle.meaning.specs.Keys.{keyInfo, keyFileTree, keyPieceLength, keyMetaVersion, keyPieceLayers}
+use Rattle.limits.specs.Limits.{largestTorrent}
 use Rattle.numbers.specs.Numbers.{torrentTooLarge, otherVersion, pieceLengthOutOfRange}
 use Rattle.tree.specs.Geometry.{isPieceLength}
 use Rattle.bencode.specs.Strict.{strictness}
@@ -16,7 +18,7 @@ use Rattle.bencode.specs.declared.scalar.Integer.{Integer}
 use Rattle.bencode.specs.declared.scalar.Integer.the-variants.{Whole, NoInteger}
 use Rattle.bencode.specs.declared.parts.Found.{Found}
 use Rattle.bencode.specs.declared.parts.Found.the-variants.{Part, Missing}
-use Rattle.metainfo.specs.Metainfo.{maxTorrent, keyInfo, keyFileTree, keyPieceLength, keyMetaVersion, keyPieceLayers, dictionaryIn, integerIn, findDictionary, findInteger, noKeys, rightKeys, withLayers, layerKeys, withVersion, withPieceLength, withTree, infoKeys, withInfo, keysOf, ifStrict, metainfoOf}
+use Rattle.metainfo.specs.Metainfo.{dictionaryIn, integerIn, findDictionary, findInteger, noKeys, rightKeys, withLayers, layerKeys, withVersion, withPieceLength, withTree, infoKeys, withInfo, keysOf, ifStrict, metainfoOf}
 use Rattle.metainfo.specs.declared.Keys.{Keys}
 
 pub dictionary-so : (s : List ℕ) (w : Found) (a b : ℕ) → w ≡ Part a b → isDictionary (drop a s) ≡ true → dictionaryIn s w ≡ Part a b
@@ -72,18 +74,18 @@ module _ (s : List ℕ) where
   unfolding keysOf
   info-found w e = ap (withInfo s) e
 
-  pub too-large : maxTorrent < length s → metainfoOf s ≡ noKeys torrentTooLarge
+  pub too-large : largestTorrent < length s → metainfoOf s ≡ noKeys torrentTooLarge
   unfolding metainfoOf
-  too-large h = rw (lt-leb (length s) maxTorrent h) refl
+  too-large h = rw (lt-leb (length s) largestTorrent h) refl
 
-  pub strict-keys : length s ≤ maxTorrent → strictness s ≡ 0 → metainfoOf s ≡ keysOf s
+  pub strict-keys : length s ≤ largestTorrent → strictness s ≡ 0 → metainfoOf s ≡ keysOf s
   unfolding metainfoOf
-  strict-keys h e = rw (le-leb (length s) maxTorrent h) (ap (ifStrict s) e)
+  strict-keys h e = rw (le-leb (length s) largestTorrent h) (ap (ifStrict s) e)
 
   not-strict : (n : ℕ) → (n ≡ 0 → ⊥) → ifStrict s n ≡ noKeys n
   not-strict zero h = absurd (h refl)
   not-strict (suc n) h = refl
 
-  pub other-keys : length s ≤ maxTorrent → (strictness s ≡ 0 → ⊥) → metainfoOf s ≡ noKeys (strictness s)
+  pub other-keys : length s ≤ largestTorrent → (strictness s ≡ 0 → ⊥) → metainfoOf s ≡ noKeys (strictness s)
   unfolding metainfoOf
-  other-keys h e = rw (le-leb (length s) maxTorrent h) (not-strict (strictness s) e)
+  other-keys h e = rw (le-leb (length s) largestTorrent h) (not-strict (strictness s) e)

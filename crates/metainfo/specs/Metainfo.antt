@@ -1,46 +1,22 @@
 -- 01, "The torrent": the keys of a torrent s by their positions, and the numbers 19 to 24.
 -- Assumes nothing.
 use mathlib.Core.Bool.{Bool, true, false, cond}
-use mathlib.Core.List.{List, [], _∷_}
-use Prim.Native.Nat.{ℕ, zero, suc, _^_}
+use mathlib.Core.List.{List}
+use Prim.Native.Nat.{ℕ, zero, suc}
 use lib.ListN.{length, drop}
 use lib.Dec.{eqb, leb}
+use Rattle.limits.specs.Limits.{largestTorrent}
 use Rattle.numbers.specs.Numbers.{torrentTooLarge, keyMissing, otherVersion, pieceLengthOutOfRange}
 use Rattle.tree.specs.Geometry.{isPieceLength}
 use Rattle.bencode.specs.Scalar.{readInteger}
 use Rattle.bencode.specs.Strict.{strictness}
 use Rattle.bencode.specs.Parts.{isDictionary, findKey}
+use Rattle.meaning.specs.Keys.{keyInfo, keyFileTree, keyPieceLength, keyMetaVersion, keyPieceLayers}
 use Rattle.bencode.specs.declared.scalar.Integer.{Integer}
 use Rattle.bencode.specs.declared.scalar.Integer.the-variants.{Whole, NoInteger}
 use Rattle.bencode.specs.declared.parts.Found.{Found}
 use Rattle.bencode.specs.declared.parts.Found.the-variants.{Part, Missing}
 use Rattle.metainfo.specs.declared.Keys.{Keys}
-
--- 1 MiB
-abbrev pub maxTorrent : ℕ
-maxTorrent = 2 ^ 20
-
--- ---- the keys, as ASCII
-
--- `info`
-abbrev pub keyInfo : List ℕ
-keyInfo = 105 ∷ 110 ∷ 102 ∷ 111 ∷ []
-
--- `file tree`
-abbrev pub keyFileTree : List ℕ
-keyFileTree = 102 ∷ 105 ∷ 108 ∷ 101 ∷ 32 ∷ 116 ∷ 114 ∷ 101 ∷ 101 ∷ []
-
--- `piece length`
-abbrev pub keyPieceLength : List ℕ
-keyPieceLength = 112 ∷ 105 ∷ 101 ∷ 99 ∷ 101 ∷ 32 ∷ 108 ∷ 101 ∷ 110 ∷ 103 ∷ 116 ∷ 104 ∷ []
-
--- `meta version`
-abbrev pub keyMetaVersion : List ℕ
-keyMetaVersion = 109 ∷ 101 ∷ 116 ∷ 97 ∷ 32 ∷ 118 ∷ 101 ∷ 114 ∷ 115 ∷ 105 ∷ 111 ∷ 110 ∷ []
-
--- `piece layers`
-abbrev pub keyPieceLayers : List ℕ
-keyPieceLayers = 112 ∷ 105 ∷ 101 ∷ 99 ∷ 101 ∷ 32 ∷ 108 ∷ 97 ∷ 121 ∷ 101 ∷ 114 ∷ 115 ∷ []
 
 -- ---- what is found, if it is of the type
 
@@ -110,4 +86,4 @@ ifStrict s zero = keysOf s
 ifStrict s (suc n) = noKeys (suc n)
 
 unfoldable pub metainfoOf : List ℕ → Keys
-metainfoOf s = cond (leb (length s) maxTorrent) (ifStrict s (strictness s)) (noKeys torrentTooLarge)
+metainfoOf s = cond (leb (length s) largestTorrent) (ifStrict s (strictness s)) (noKeys torrentTooLarge)

@@ -8,6 +8,8 @@ use native.Mathlib.Omega.{arith}
 use lib.ListN.{length, drop}
 use lib.Dec.{eqb, leb}
 use borrow.Author.Tests.{leb-true}
+use Rattle.meaning.specs.Keys.{keyInfo, keyFileTree, keyPieceLength, keyMetaVersion, keyPieceLayers}
+use Rattle.limits.specs.Limits.{largestTorrent}
 use Rattle.numbers.specs.Numbers.{torrentTooLarge, keyMissing, otherVersion, pieceLengthOutOfRange}
 use Rattle.tree.specs.Geometry.{isPieceLength}
 use Rattle.bencode.specs.Strict.{strictness}
@@ -16,7 +18,7 @@ use Rattle.bencode.specs.declared.scalar.Integer.{Integer}
 use Rattle.bencode.specs.declared.scalar.Integer.the-variants.{Whole, NoInteger}
 use Rattle.bencode.specs.declared.parts.Found.{Found}
 use Rattle.bencode.specs.declared.parts.Found.the-variants.{Part, Missing}
-use Rattle.metainfo.specs.Metainfo.{maxTorrent, keyInfo, keyFileTree, keyPieceLength, keyMetaVersion, keyPieceLayers, dictionaryIn, integerIn, findDictionary, findInteger, noKeys, rightKeys, withLayers, layerKeys, withVersion, withPieceLength, withTree, infoKeys, withInfo, keysOf, ifStrict, metainfoOf}
+use Rattle.metainfo.specs.Metainfo.{dictionaryIn, integerIn, findDictionary, findInteger, noKeys, rightKeys, withLayers, layerKeys, withVersion, withPieceLength, withTree, infoKeys, withInfo, keysOf, ifStrict, metainfoOf}
 use Rattle.metainfo.specs.declared.Keys.{Keys}
 
 -- the keys are found where k says, and the piece length is one
@@ -85,21 +87,21 @@ module _ (s : List ℕ) where
 
 -- a torrent that gets 0 so far is small, strict, and has its keys
 pub record Right (s : List ℕ) : Type 0 where
-  pub small : length s ≤ maxTorrent
+  pub small : length s ≤ largestTorrent
   pub strict : strictness s ≡ 0
   pub same-keys : metainfoOf s ≡ keysOf s
   pub located : Located s (metainfoOf s)
 
 pub metainfo-right : (s : List ℕ) → metainfoOf s .number ≡ 0 → Right s
 unfolding metainfoOf
-metainfo-right s e = by-size (leb (length s) maxTorrent) refl e
+metainfo-right s e = by-size (leb (length s) largestTorrent) refl e
   where
-    by-strict : length s ≤ maxTorrent → leb (length s) maxTorrent ≡ true → (n : ℕ) → strictness s ≡ n → ifStrict s n .number ≡ 0 → Right s
+    by-strict : length s ≤ largestTorrent → leb (length s) largestTorrent ≡ true → (n : ℕ) → strictness s ≡ n → ifStrict s n .number ≡ 0 → Right s
     by-strict l t zero q f =
         let k : metainfoOf s ≡ keysOf s = rw t (ap (ifStrict s) q) in
         record { small = l; strict = q; same-keys = k; located = rw k (keys-located s f) }
     by-strict l t (suc n) q f = refusal (suc n) (λ z. omega arith) f
 
-    by-size : (t : Bool) → leb (length s) maxTorrent ≡ t → cond t (ifStrict s (strictness s)) (noKeys torrentTooLarge) .number ≡ 0 → Right s
-    by-size true q f = by-strict (leb-true (length s) maxTorrent q) q (strictness s) refl f
+    by-size : (t : Bool) → leb (length s) largestTorrent ≡ t → cond t (ifStrict s (strictness s)) (noKeys torrentTooLarge) .number ≡ 0 → Right s
+    by-size true q f = by-strict (leb-true (length s) largestTorrent q) q (strictness s) refl f
     by-size false q f = refusal 19 (λ z. omega arith) f

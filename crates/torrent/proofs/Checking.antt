@@ -10,10 +10,11 @@ use lib.ListN.{length, take, drop, getD}
 use lib.Seq.{take-all, getD-take}
 use lib.Dec.{eqb}
 use borrow.Author.Tests.{eq-eqb, ne-eqb, eqb-true}
+use Rattle.limits.specs.Limits.{largestTorrent}
 use Rattle.numbers.specs.Numbers.{wrongTree, sameRoot, layersAmiss}
 use Rattle.tree.specs.Geometry.{isPieceLength}
 use Rattle.roots.specs.Roots.{apart, stringsAt}
-use Rattle.metainfo.specs.Metainfo.{maxTorrent, metainfoOf}
+use Rattle.metainfo.specs.Metainfo.{metainfoOf}
 use Rattle.metainfo.specs.MetainfoLaws.{Located, Right, metainfo-right}
 use Rattle.metainfo.specs.declared.Keys.{Keys}
 use Rattle.listing.specs.Listing.{Listed, Files, right, listed, filesIn, rootsOf, longs, tallied, noTally, tallyOf}

@@ -8,22 +8,24 @@ use native.Mathlib.Omega.{arith}
 use lib.ListN.{length, take, drop, getD}
 use lib.Dec.{eqb}
 use borrow.Author.Tests.{eqb-true, eqb-false, ne-eqb}
+use Rattle.meaning.specs.Keys.{keyInfo, keyPieceLayers}
+use Rattle.limits.specs.Limits.{maxLevels}
 use Rattle.numbers.specs.Numbers.{wrongTree}
-use Rattle.bencode.specs.Grammar.{maxLevels, encode, dictionary}
+use Rattle.bencode.specs.Grammar.{encode, dictionary}
 use Rattle.bencode.specs.Parts.{isDictionary, findKey}
 use Rattle.bencode.specs.PartsLaws.{find-ends}
 use Rattle.bencode.specs.StrictLaws.{taken-only}
 use Rattle.bencode.specs.declared.parts.Found.{Found}
 use Rattle.bencode.specs.declared.parts.Found.the-variants.{Part, Missing}
 use Rattle.roots.specs.Roots.{Ascending}
-use Rattle.metainfo.specs.Metainfo.{keyInfo, keyPieceLayers, dictionaryIn, keysOf, metainfoOf}
+use Rattle.metainfo.specs.Metainfo.{dictionaryIn, keysOf, metainfoOf}
 use Rattle.metainfo.specs.MetainfoLaws.{Located, Right, metainfo-right}
 use Rattle.metainfo.specs.declared.Keys.{Keys}
 use Rattle.listing.specs.Listing.{Files, right, listed, filesIn, longs}
 use Rattle.layers.specs.Layers.{keysWide, layerKeys}
 use Rattle.layers.specs.KeysLaws.{keys-ascending}
 use Rattle.meaning.specs.Torrent.{layersOf}
-use Rattle.meaning.specs.KeysLaws.{KeysAt, keys-point}
+use Rattle.joined.specs.KeysLaws.{KeysAt, keys-point}
 use Rattle.torrent.specs.Torrent.{filesNumber, treeNumber, judgedAs, judgedOf, unread, withJudged, checkedOf}
 use Rattle.torrent.specs.declared.check.Checked.{Checked}
 

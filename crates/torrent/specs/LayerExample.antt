@@ -8,16 +8,16 @@ use Prim.Native.Nat.{ℕ, suc, _+_, _<_}
 use native.Mathlib.Omega.{arith}
 use lib.ListN.{length, length-append}
 use borrow.Author.Tests.{eq-eqb}
+use Rattle.meaning.specs.Keys.{keyLength, keyPiecesRoot, keyInfo, keyFileTree, keyPieceLength, keyMetaVersion, keyPieceLayers}
+use Rattle.limits.specs.Limits.{maxLevels}
 use Rattle.octets.specs.Octets.{cut, zeroHash, same}
 use Rattle.octets.specs.OctetsLaws.{same-refl}
 use Rattle.sha256.specs.Sha256Laws.{pair-octets}
 use Rattle.tree.specs.Geometry.{blockCount, ceilDiv, isPieceLength, pieceLayer, pieceCount, height, heightFrom, hasLayer}
 use Rattle.tree.specs.Values.{node, layerLeaf, layerRoot}
-use Rattle.bencode.specs.Grammar.{colon, maxLevels, Value, integer, string, dictionary, Entries, noEntries, entry, decimalIn, decimal, encodeString, encode, encodeEntries, precedes, Valid}
+use Rattle.bencode.specs.Grammar.{colon, Value, integer, string, dictionary, Entries, noEntries, entry, decimalIn, decimal, encodeString, encode, encodeEntries, precedes, Valid}
 use Rattle.bencode.specs.Parts.{Lookup, present, absent, lookup}
-use Rattle.files.specs.File.{keyLength, keyPiecesRoot}
-use Rattle.metainfo.specs.Metainfo.{keyInfo, keyFileTree, keyPieceLength, keyMetaVersion, keyPieceLayers}
-use Rattle.meaning.specs.Torrent.{File, entriesOf, isNumber, infoOf, filesOf, plenOf, layersOf, hasKeys, fileRight, nodeRight, branchRight, nodesRight, treeRight, filesBelow, filesIn, noneWith, rootsApart, layerFits, layersFit, someLonger, noOthers, givesRoot, layerOf, layersGiveRoots, valueNumber}
+use Rattle.meaning.specs.Torrent.{File, entriesOf, isNumber, infoOf, filesOf, plenOf, layersOf, hasKeys, elementRight, fileRight, nodeRight, branchRight, nodesRight, treeRight, filesOfNode, filesOfEntries, noneWith, rootsApart, layerFits, layersFit, someLonger, noOthers, givesRoot, layerOf, layersGiveRoots, valueNumber}
 use Rattle.torrent.specs.Torrent.{readOf, fileRead}
 use Rattle.torrent.specs.NumberMeans.{number-is-the-values, read-number}
 use Rattle.torrent.specs.ReadMeans.{Nth, FileIs, file-is}
@@ -77,11 +77,11 @@ module _ (root : List ℕ) where
   piece-right = refl
 
   tree-right : length root ≡ 32 → treeRight (entriesOf (lookup keyFileTree (infoOf withRoot))) ≡ true
-  unfolding lookup same treeRight branchRight nodeRight nodesRight fileRight
+  unfolding lookup same treeRight branchRight nodeRight nodesRight elementRight fileRight
   tree-right e = ap (λ (t : Bool). t && true) (eq-eqb (length root) 32 e)
 
   apart-right : rootsApart (filesOf withRoot) ≡ true
-  unfolding lookup same filesIn filesBelow rootsApart noneWith
+  unfolding lookup same filesOfEntries filesOfNode rootsApart noneWith
   apart-right = refl
 
   -- the root is the one key
@@ -95,11 +95,11 @@ module _ (root : List ℕ) where
   two-pieces = refl
 
   fit-right : layersFit (plenOf withRoot) (layersOf withRoot) (filesOf withRoot) ≡ true
-  unfolding lookup same filesIn filesBelow layersFit hasLayer
+  unfolding lookup same filesOfEntries filesOfNode layersFit hasLayer
   fit-right = ap (λ (t : Bool). t && true) (ap (layerFits 16384 theFile) the-key ∙ two-pieces)
 
   others-right : noOthers (plenOf withRoot) (filesOf withRoot) (layersOf withRoot) ≡ true
-  unfolding lookup same filesIn filesBelow noOthers someLonger hasLayer
+  unfolding lookup same filesOfEntries filesOfNode noOthers someLonger hasLayer
   others-right = ap (λ (t : Bool). (t || false) && true) (same-refl root)
 
   -- the layer gives the root
@@ -108,7 +108,7 @@ module _ (root : List ℕ) where
   gives e = rw e (same-refl root)
 
   gives-right : layerRoot layer 0 1 ≡ root → layersGiveRoots (plenOf withRoot) (layersOf withRoot) (filesOf withRoot) ≡ true
-  unfolding lookup same filesIn filesBelow layersGiveRoots hasLayer
+  unfolding lookup same filesOfEntries filesOfNode layersGiveRoots hasLayer
   gives-right e = ap (λ (t : Bool). t && true) (ap (λ (x : Lookup). givesRoot 16384 theFile (layerOf x)) the-key ∙ gives e)
 
   -- all tests pass
@@ -201,7 +201,7 @@ long-taken =
     ∙ with-right theRoot root-size refl
 
 the-first : Nth (filesOf long) 0 longFile
-unfolding Nth lookup same filesIn filesBelow
+unfolding Nth lookup same filesOfEntries filesOfNode
 the-first = refl
 
 -- and its file is answered with the layer that `piece layers` has for its root

@@ -10,26 +10,28 @@ use native.Mathlib.Omega.{arith}
 use lib.ListN.{length, drop}
 use lib.Dec.{eqb, leb}
 use borrow.Author.Tests.{eqb-true, eqb-false, ne-eqb, le-leb, lt-leb, leb-true, leb-false}
+use Rattle.meaning.specs.Keys.{keyFileTree, keyMetaVersion}
+use Rattle.limits.specs.Limits.{maxLevels, largestTorrent}
 use Rattle.octets.specs.Octets.{cut}
 use Rattle.numbers.specs.Numbers.{torrentTooLarge, notStrict, nestedTooDeeply, wrongTree, sameRoot, layersAmiss, layerDiffers, noSuchFile}
 use Rattle.sha256.specs.Sha256.{sha256}
 use Rattle.tree.specs.Geometry.{isPieceLength}
-use Rattle.bencode.specs.Grammar.{maxLevels, dictionary, Entries, encode, Valid}
+use Rattle.bencode.specs.Grammar.{dictionary, Entries, encode, Valid}
 use Rattle.bencode.specs.Parts.{lookup}
 use Rattle.bencode.specs.DepthLaws.{more-levels}
 use Rattle.bencode.specs.Strict.{Encoded, TooDeepFirst, strictness}
 use Rattle.bencode.specs.StrictLaws.{taken, taken-only, deep-first, deep-only, one-of-three, otherwise, otherwise-only}
-use Rattle.metainfo.specs.Metainfo.{maxTorrent, keyFileTree, keyMetaVersion, noKeys, keysOf, metainfoOf}
+use Rattle.metainfo.specs.Metainfo.{noKeys, keysOf, metainfoOf}
 use Rattle.metainfo.specs.declared.Keys.{Keys}
 use Rattle.listing.specs.Listing.{Listed, Files, right, listed, filesIn, longs}
 use Rattle.listing.specs.FilesLaws.{AllRight, files-right}
 use Rattle.layers.specs.Layers.{keysWide, layerKeys, worst}
 use Rattle.meaning.specs.Torrent.{File, entriesOf, isNumber, infoOf, hasKeys, treeRight, filesOf, rootsApart, layersFit, noOthers, layersGiveRoots, plenOf, layersOf, valueNumber}
-use Rattle.meaning.specs.Reading.{readFile, readFiles}
-use Rattle.meaning.specs.RootsMeaning.{AllAlike, roots-apart}
-use Rattle.meaning.specs.LayersMeaning.{RootsWithin, layers-number}
-use Rattle.meaning.specs.KeysLaws.{KeysAt, keys-number, keys-point, none-exactly}
-use Rattle.meaning.specs.StrictTorrentLaws.{strict-keys, keys-first, tree-next, torrent-tree, torrent-files}
+use Rattle.joined.specs.Reading.{readFile, readFiles}
+use Rattle.joined.specs.RootsMeaning.{AllAlike, roots-apart}
+use Rattle.joined.specs.LayersMeaning.{RootsWithin, layers-number}
+use Rattle.joined.specs.KeysLaws.{KeysAt, keys-number, keys-point, none-exactly}
+use Rattle.joined.specs.StrictTorrentLaws.{strict-keys, keys-first, tree-next, torrent-tree, torrent-files}
 use Rattle.torrent.specs.Torrent.{filesNumber, treeNumber, judgedAs, judgedOf, unread, withJudged, checkedOf, noTorrent, readOf, noFileRead, fileRead, noPart, pathRead}
 use Rattle.torrent.specs.declared.read.FileRead.{FileRead}
 use Rattle.torrent.specs.declared.read.PartRead.{PartRead}
@@ -102,7 +104,7 @@ module _ (s : List ℕ) (es : Entries) (start : s ≡ encode (dictionary es)) (v
           ∙ sym (from-files es (none-exactly s es start valid .0 e) (sym same-tree ∙ q))
 
   -- a torrent of at most 1 MiB that encodes a valid value gets the number of that value
-  pub number-is-the-values : length s ≤ maxTorrent → checkedOf s .number ≡ valueNumber es
+  pub number-is-the-values : length s ≤ largestTorrent → checkedOf s .number ≡ valueNumber es
   unfolding checkedOf judgedOf
   number-is-the-values small = rw (strict-keys s small (taken s (es, valid, start))) (by-keys (eqb (keysOf s .number) 0) refl)
     where
@@ -128,35 +130,35 @@ unfolding checkedOf
 checked-refused s n e h = rw e (rw (ne-eqb n 0 h) refl)
 
 -- more than 1 MiB
-large-keys : (s : List ℕ) → maxTorrent < length s → metainfoOf s ≡ noKeys torrentTooLarge
+large-keys : (s : List ℕ) → largestTorrent < length s → metainfoOf s ≡ noKeys torrentTooLarge
 unfolding metainfoOf
-large-keys s h = rw (lt-leb (length s) maxTorrent h) refl
+large-keys s h = rw (lt-leb (length s) largestTorrent h) refl
 
 -- bytes that are not strict
-broken-keys : (s : List ℕ) (n : ℕ) → length s ≤ maxTorrent → strictness s ≡ suc n → metainfoOf s ≡ noKeys (suc n)
+broken-keys : (s : List ℕ) (n : ℕ) → length s ≤ largestTorrent → strictness s ≡ suc n → metainfoOf s ≡ noKeys (suc n)
 unfolding metainfoOf
-broken-keys s n h e = rw (le-leb (length s) maxTorrent h, e) refl
+broken-keys s n h e = rw (le-leb (length s) largestTorrent h, e) refl
 
 -- what the number n says of the bytes s: they are more than 1 MiB; or they are no strict bencoding, and the depth is not wrong first; or
 -- it is; or they encode a valid dictionary, and n is what 01 says of that value
 pub data Says (s : List ℕ) (n : ℕ) : Type 0 where
-  tooLarge : maxTorrent < length s → n ≡ torrentTooLarge → Says s n
-  noEncoding : length s ≤ maxTorrent → (Encoded maxLevels s → ⊥) → (TooDeepFirst s → ⊥) → n ≡ notStrict → Says s n
-  tooDeep : length s ≤ maxTorrent → TooDeepFirst s → n ≡ nestedTooDeeply → Says s n
-  encodes : length s ≤ maxTorrent → (es : Entries) → Valid (dictionary es) maxLevels → s ≡ encode (dictionary es) → n ≡ valueNumber es → Says s n
+  tooLarge : largestTorrent < length s → n ≡ torrentTooLarge → Says s n
+  noEncoding : length s ≤ largestTorrent → (Encoded maxLevels s → ⊥) → (TooDeepFirst s → ⊥) → n ≡ notStrict → Says s n
+  tooDeep : length s ≤ largestTorrent → TooDeepFirst s → n ≡ nestedTooDeeply → Says s n
+  encodes : length s ≤ largestTorrent → (es : Entries) → Valid (dictionary es) maxLevels → s ≡ encode (dictionary es) → n ≡ valueNumber es → Says s n
 
 -- so it is of the number that is answered, whatever the bytes are
 pub torrent-number : (s : List ℕ) → Says s (checkedOf s .number)
-torrent-number s = by-size (leb (length s) maxTorrent) refl
+torrent-number s = by-size (leb (length s) largestTorrent) refl
   where
-    by-strict : length s ≤ maxTorrent → (strictness s ≡ 0) ⊎ ((strictness s ≡ notStrict) ⊎ (strictness s ≡ nestedTooDeeply)) → Says s (checkedOf s .number)
+    by-strict : length s ≤ largestTorrent → (strictness s ≡ 0) ⊎ ((strictness s ≡ notStrict) ⊎ (strictness s ≡ nestedTooDeeply)) → Says s (checkedOf s .number)
     by-strict h (inl e) = let v = taken-only s e in encodes h (v .0) (v .1) (v .2) (number-is-the-values s (v .0) (v .2) (v .1) h)
     by-strict h (inr (inl e)) = let o = otherwise-only s e in noEncoding h (o .0) (o .1) (checked-refused s notStrict (broken-keys s 19 h e) (λ z. omega arith))
     by-strict h (inr (inr e)) = tooDeep h (deep-first s e) (checked-refused s nestedTooDeeply (broken-keys s 20 h e) (λ z. omega arith))
 
-    by-size : (b : Bool) → leb (length s) maxTorrent ≡ b → Says s (checkedOf s .number)
-    by-size true e = by-strict (leb-true (length s) maxTorrent e) (one-of-three s)
-    by-size false e = let h = leb-false (length s) maxTorrent e in tooLarge h (checked-refused s torrentTooLarge (large-keys s h) (λ z. omega arith))
+    by-size : (b : Bool) → leb (length s) largestTorrent ≡ b → Says s (checkedOf s .number)
+    by-size true e = by-strict (leb-true (length s) largestTorrent e) (one-of-three s)
+    by-size false e = let h = leb-false (length s) largestTorrent e in tooLarge h (checked-refused s torrentTooLarge (large-keys s h) (λ z. omega arith))
 
 -- and of no other number
 pub no-other-number : (s : List ℕ) (n : ℕ) → Says s n → n ≡ checkedOf s .number
@@ -186,30 +188,30 @@ no-value-has es n l h q =
     (layersFit (plenOf es) (layersOf es) (filesOf es) && noOthers (plenOf es) (filesOf es) (layersOf es)) (layersGiveRoots (plenOf es) (layersOf es) (filesOf es)) n l h q
 
 -- 19 only for more than 1 MiB
-pub large-only : (s : List ℕ) → checkedOf s .number ≡ torrentTooLarge → maxTorrent < length s
+pub large-only : (s : List ℕ) → checkedOf s .number ≡ torrentTooLarge → largestTorrent < length s
 large-only s e = by-case (torrent-number s)
   where
-    by-case : Says s (checkedOf s .number) → maxTorrent < length s
+    by-case : Says s (checkedOf s .number) → largestTorrent < length s
     by-case (tooLarge h q) = h
     by-case (noEncoding h a b q) = absurd (omega arith)
     by-case (tooDeep h d q) = absurd (omega arith)
     by-case (encodes h es v b q) = absurd (no-value-has es torrentTooLarge (omega arith) (omega arith) (sym q ∙ e))
 
 -- 20 only for bytes that encode no valid dictionary, and in which the depth is not wrong first
-pub broken-only : (s : List ℕ) → checkedOf s .number ≡ notStrict → (length s ≤ maxTorrent) × (Encoded maxLevels s → ⊥) × (TooDeepFirst s → ⊥)
+pub broken-only : (s : List ℕ) → checkedOf s .number ≡ notStrict → (length s ≤ largestTorrent) × (Encoded maxLevels s → ⊥) × (TooDeepFirst s → ⊥)
 broken-only s e = by-case (torrent-number s)
   where
-    by-case : Says s (checkedOf s .number) → (length s ≤ maxTorrent) × (Encoded maxLevels s → ⊥) × (TooDeepFirst s → ⊥)
+    by-case : Says s (checkedOf s .number) → (length s ≤ largestTorrent) × (Encoded maxLevels s → ⊥) × (TooDeepFirst s → ⊥)
     by-case (tooLarge h q) = absurd (omega arith)
     by-case (noEncoding h a b q) = (h, a, b)
     by-case (tooDeep h d q) = absurd (omega arith)
     by-case (encodes h es v b q) = absurd (no-value-has es notStrict (omega arith) (omega arith) (sym q ∙ e))
 
 -- 21 only where the depth is wrong first
-pub too-deep-only : (s : List ℕ) → checkedOf s .number ≡ nestedTooDeeply → (length s ≤ maxTorrent) × TooDeepFirst s
+pub too-deep-only : (s : List ℕ) → checkedOf s .number ≡ nestedTooDeeply → (length s ≤ largestTorrent) × TooDeepFirst s
 too-deep-only s e = by-case (torrent-number s)
   where
-    by-case : Says s (checkedOf s .number) → (length s ≤ maxTorrent) × TooDeepFirst s
+    by-case : Says s (checkedOf s .number) → (length s ≤ largestTorrent) × TooDeepFirst s
     by-case (tooLarge h q) = absurd (omega arith)
     by-case (noEncoding h a b q) = absurd (omega arith)
     by-case (tooDeep h d q) = (h, d)
@@ -217,13 +219,13 @@ too-deep-only s e = by-case (torrent-number s)
 
 -- every other number, 0 among them, is what 01 says of the value that the bytes encode
 pub value-only : (s : List ℕ) → (checkedOf s .number ≡ 0) ⊎ (22 ≤ checkedOf s .number)
-    → (length s ≤ maxTorrent) × ((es : Entries) × Valid (dictionary es) maxLevels × (s ≡ encode (dictionary es)) × (checkedOf s .number ≡ valueNumber es))
+    → (length s ≤ largestTorrent) × ((es : Entries) × Valid (dictionary es) maxLevels × (s ≡ encode (dictionary es)) × (checkedOf s .number ≡ valueNumber es))
 value-only s e = by-case (torrent-number s)
   where
     other : (n : ℕ) → checkedOf s .number ≡ n → 0 < n → n < 22 → ⊥
     other n q l h = elim e [ inl z ↦ omega arith | inr z ↦ omega arith ]
 
-    by-case : Says s (checkedOf s .number) → (length s ≤ maxTorrent) × ((es : Entries) × Valid (dictionary es) maxLevels × (s ≡ encode (dictionary es)) × (checkedOf s .number ≡ valueNumber es))
+    by-case : Says s (checkedOf s .number) → (length s ≤ largestTorrent) × ((es : Entries) × Valid (dictionary es) maxLevels × (s ≡ encode (dictionary es)) × (checkedOf s .number ≡ valueNumber es))
     by-case (tooLarge h q) = absurd (other torrentTooLarge q (omega arith) (omega arith))
     by-case (noEncoding h a b q) = absurd (other notStrict q (omega arith) (omega arith))
     by-case (tooDeep h d q) = absurd (other nestedTooDeeply q (omega arith) (omega arith))
@@ -274,7 +276,7 @@ pub read-says : (s : List ℕ) → Says s (readOf s .number)
 read-says s = rw (read-number s) (torrent-number s)
 
 -- 0 is read only from the encoding of a valid dictionary, of at most 1 MiB, of which 01 says 0
-pub read-encodes : (s : List ℕ) → readOf s .number ≡ 0 → (length s ≤ maxTorrent) × ((es : Entries) × Valid (dictionary es) maxLevels × (s ≡ encode (dictionary es)) × (valueNumber es ≡ 0))
+pub read-encodes : (s : List ℕ) → readOf s .number ≡ 0 → (length s ≤ largestTorrent) × ((es : Entries) × Valid (dictionary es) maxLevels × (s ≡ encode (dictionary es)) × (valueNumber es ≡ 0))
 read-encodes s e =
     let z = sym (read-number s) ∙ e in
     let v = value-only s (inl z) in

@@ -10,31 +10,33 @@ use native.Mathlib.Decide.{decLt}
 use native.Mathlib.Omega.{arith}
 use lib.ListN.{length, drop, getD, length-append}
 use borrow.Author.Tests.{eq-eqb, ne-eqb, lt-ltb, le-ltb}
+use Rattle.meaning.specs.Keys.{keyInfo, keyFileTree, keyMetaVersion}
+use Rattle.limits.specs.Limits.{maxLevels}
 use Rattle.octets.specs.Octets.{cut, zeroHash}
 use Rattle.octets.specs.OctetsLaws.{cut-length}
 use Rattle.numbers.specs.Numbers.{noSuchFile}
 use Rattle.sha256.specs.Sha256.{sha256}
 use Rattle.tree.specs.Geometry.{isPieceLength, hasLayer}
-use Rattle.bencode.specs.Grammar.{colon, maxLevels, integer, string, list, dictionary, Entries, decimal, encodeString, encode, Valid}
+use Rattle.bencode.specs.Grammar.{colon, integer, string, list, dictionary, Entries, decimal, encodeString, encode, Valid}
 use Rattle.bencode.specs.Parts.{findKey, Lookup, absent, present, lookup, FoundIs}
 use Rattle.bencode.specs.CompleteLaws.{contentStart}
 use Rattle.bencode.specs.DepthLaws.{more-levels}
-use Rattle.bencode.specs.PartsLaws.{find-is, content-is}
+use Rattle.bencode.specs.PartsLaws.{part-front, find-is, content-is}
 use Rattle.bencode.specs.declared.scalar.ByteString.{ByteString}
 use Rattle.bencode.specs.declared.scalar.ByteString.the-variants.{NoString}
 use Rattle.bencode.specs.declared.parts.Found.{Found}
 use Rattle.bencode.specs.declared.parts.Found.the-variants.{Part, Missing}
-use Rattle.metainfo.specs.Metainfo.{keyInfo, keyFileTree, keyMetaVersion, keysOf, metainfoOf}
+use Rattle.metainfo.specs.Metainfo.{keysOf, metainfoOf}
 use Rattle.metainfo.specs.MetainfoLaws.{metainfo-right}
 use Rattle.metainfo.specs.declared.Keys.{Keys}
 use Rattle.listing.specs.Listing.{Listed, listed, filesIn, fileNumber}
 use Rattle.listing.specs.FilesLaws.{FileRight, files-right, number-right}
 use Rattle.layers.specs.Layers.{stringIn, layerAt, rootBytes, layerString, startOf, sizeOf}
 use Rattle.meaning.specs.Torrent.{File, entriesOf, isNumber, infoOf, hasKeys, treeRight, filesOf, rootsApart, layerFits, layersFit, noOthers, layersGiveRoots, plenOf, layersOf, valueNumber}
-use Rattle.meaning.specs.Reading.{element, elementsOf, readFile, readFiles}
-use Rattle.meaning.specs.FileLaws.{part-front, string-there}
-use Rattle.meaning.specs.KeysLaws.{KeysAt, keys-point}
-use Rattle.meaning.specs.StrictTorrentLaws.{torrent-files}
+use Rattle.joined.specs.Reading.{element, elementsOf, readFile, readFiles}
+use Rattle.joined.specs.FileLaws.{string-there}
+use Rattle.joined.specs.KeysLaws.{KeysAt, keys-point}
+use Rattle.joined.specs.StrictTorrentLaws.{torrent-files}
 use Rattle.torrent.specs.Torrent.{checkedOf, readOf, noFileRead, fileAnswer, fileRead, noPart, elementIn, pathRead}
 use Rattle.torrent.specs.CheckLaws.{Whole, checked-whole}
 use Rattle.torrent.specs.NumberMeans.{number-is-the-values, read-number}

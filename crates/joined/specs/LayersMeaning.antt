@@ -11,20 +11,21 @@ use native.Mathlib.Omega.{arith}
 use lib.ListN.{length, drop}
 use lib.Dec.{eqb}
 use borrow.Author.Tests.{eqb-true, eq-eqb, ne-eqb, not-true}
+use Rattle.limits.specs.Limits.{maxLevels}
 use Rattle.octets.specs.Octets.{same}
 use Rattle.octets.specs.OctetsLaws.{cut-length, same-true, same-false}
 use Rattle.numbers.specs.Numbers.{layersAmiss, layerDiffers}
 use Rattle.tree.specs.Geometry.{hasLayer}
-use Rattle.bencode.specs.Grammar.{maxLevels, dictionary, Entries, noEntries, entry, encode, precedes, KeyBefore, none, after, Valid, EntriesValid}
+use Rattle.bencode.specs.Grammar.{dictionary, Entries, noEntries, entry, encode, precedes, KeyBefore, none, after, Valid, EntriesValid}
 use Rattle.bencode.specs.Parts.{present, lookup}
 use Rattle.roots.specs.PrecedesLaws.{precedes-trans, precedes-differ}
 use Rattle.listing.specs.Listing.{Listed, longs}
 use Rattle.layers.specs.Layers.{layerKeys, keysWide, worst}
 use Rattle.layers.specs.KeysLaws.{entryKeys, allWide, keys-wide, keys-count}
 use Rattle.meaning.specs.Torrent.{File, noneWith, rootsApart, layerFits, layersFit, someLonger, noOthers, layersGiveRoots}
 use Rattle.meaning.specs.Counting.{Member, Distinct, Contained, contained-fewer, contained-all}
-use Rattle.meaning.specs.RootsMeaning.{AllAlike}
-use Rattle.meaning.specs.LayersRead.{long-full, alike-root, worst-number}
+use Rattle.joined.specs.RootsMeaning.{AllAlike}
+use Rattle.joined.specs.LayersRead.{long-full, alike-root, worst-number}
 
 -- the roots of the files longer than the piece length
 unfoldable pub longRoots : ℕ → List File → List (List ℕ)

@@ -9,10 +9,11 @@ use native.Mathlib.Omega.{arith}
 use lib.ListN.{length, drop, length-append, take-append-drop}
 use lib.Dec.{eqb}
 use borrow.Author.Tests.{ltb-true, ne-eqb}
+use Rattle.limits.specs.Limits.{maxLevels}
 use Rattle.octets.specs.Octets.{cut, zeroHash}
 use Rattle.numbers.specs.Numbers.{layersAmiss, layerDiffers}
 use Rattle.tree.specs.Geometry.{hasLayer}
-use Rattle.bencode.specs.Grammar.{colon, maxLevels, Value, integer, string, list, dictionary, Entries, decimal, encodeString, encode, Valid}
+use Rattle.bencode.specs.Grammar.{colon, Value, integer, string, list, dictionary, Entries, decimal, encodeString, encode, Valid}
 use Rattle.bencode.specs.Scalar.{readString}
 use Rattle.bencode.specs.Parts.{findKey, Lookup, absent, present, lookup, FoundIs}
 use Rattle.bencode.specs.CompleteLaws.{contentStart}
@@ -21,8 +22,8 @@ use Rattle.bencode.specs.declared.parts.Found.{Found}
 use Rattle.bencode.specs.declared.parts.Found.the-variants.{Part, Missing}
 use Rattle.listing.specs.Listing.{Listed}
 use Rattle.layers.specs.Layers.{stringIn, layerAt, ofLayer, layerNumber, worst}
-use Rattle.meaning.specs.Torrent.{File, layerFits, layersFit, layerOf, givesRoot, layersGiveRoots}
-use Rattle.meaning.specs.RootsMeaning.{Alike, AllAlike}
+use Rattle.meaning.specs.Torrent.{File, layerFits, layersFit, layerBytes, givesRoot, layersGiveRoots}
+use Rattle.joined.specs.RootsMeaning.{Alike, AllAlike}
 
 -- a file longer than the piece length is not empty
 pub long-full : (n plen : ℕ) → hasLayer n plen ≡ true → n ≡ 0 → ⊥
@@ -35,7 +36,7 @@ alike-root s f v a n = a .root ∙ ap (λ (t : Bool). cond t zeroHash (cut s (f 
 
 -- the number of a file longer than the piece length, by what `piece layers` has for its root
 abbrev pub layerJudged : ℕ → File → Lookup → ℕ
-layerJudged plen v y = cond (layerFits plen v y) (cond (givesRoot plen v (layerOf y)) 0 layerDiffers) layersAmiss
+layerJudged plen v y = cond (layerFits plen v y) (cond (givesRoot plen v (layerBytes y)) 0 layerDiffers) layersAmiss
 
 -- the bytes of a part that was found
 part-front : (s : List ℕ) (a n : ℕ) (u : List ℕ) → cut s a n ≡ u → drop a s ≡ u ++ drop n (drop a s)
@@ -107,5 +108,5 @@ module _ (s : List ℕ) (layers : ℕ) (ls : Entries) (r : List ℕ) (bytes : dr
   worst-number [] (v ∷ vs) a w = absurd a
   worst-number (f ∷ fs) [] a w = absurd a
   worst-number (f ∷ fs) (v ∷ vs) a w =
-      step (hasLayer (v .size) plen) (layerFits plen v (lookup (v .root) ls)) (givesRoot plen v (layerOf (lookup (v .root) ls))) (layersFit plen ls vs)
+      step (hasLayer (v .size) plen) (layerFits plen v (lookup (v .root) ls)) (givesRoot plen v (layerBytes (lookup (v .root) ls))) (layersFit plen ls vs)
       (layersGiveRoots plen ls vs) (λ n. worst s layers plen n fs) w (worst-number fs vs (a .1)) (layerNumber s layers plen (f .size) (f .root)) (file-number f v (a .0))

@@ -7,22 +7,24 @@ use Prim.Native.Nat.{ℕ, _≤_}
 use native.Mathlib.Omega.{arith}
 use lib.ListN.{length}
 use borrow.Author.Tests.{le-leb}
+use Rattle.meaning.specs.Keys.{keyFileTree, keyMetaVersion}
+use Rattle.limits.specs.Limits.{maxLevels, largestTorrent}
 use Rattle.numbers.specs.Numbers.{keyMissing, otherVersion, pieceLengthOutOfRange, wrongTree}
 use Rattle.tree.specs.Geometry.{isPieceLength}
-use Rattle.bencode.specs.Grammar.{maxLevels, dictionary, Entries, encode, Valid}
+use Rattle.bencode.specs.Grammar.{dictionary, Entries, encode, Valid}
 use Rattle.bencode.specs.Parts.{lookup}
 use Rattle.bencode.specs.Strict.{strictness}
-use Rattle.metainfo.specs.Metainfo.{maxTorrent, keyFileTree, keyMetaVersion, keysOf, metainfoOf}
-use Rattle.listing.specs.Listing.{right, listed, filesIn as filesAt}
+use Rattle.metainfo.specs.Metainfo.{keysOf, metainfoOf}
+use Rattle.listing.specs.Listing.{right, listed, filesIn}
 use Rattle.meaning.specs.Torrent.{entriesOf, isNumber, infoOf, hasKeys, plenOf, treeRight, filesOf, valueNumber}
-use Rattle.meaning.specs.Reading.{readFiles}
-use Rattle.meaning.specs.TreeLaws.{tree-right, tree-files}
-use Rattle.meaning.specs.KeysLaws.{keysNumber, KeysAt, keys-point}
+use Rattle.joined.specs.Reading.{readFiles}
+use Rattle.joined.specs.TreeLaws.{tree-right, tree-files}
+use Rattle.joined.specs.KeysLaws.{keysNumber, KeysAt, keys-point}
 
 -- what is answered for strict bytes of at most 1 MiB is what their keys say
-pub strict-keys : (s : List ℕ) → length s ≤ maxTorrent → strictness s ≡ 0 → metainfoOf s ≡ keysOf s
+pub strict-keys : (s : List ℕ) → length s ≤ largestTorrent → strictness s ≡ 0 → metainfoOf s ≡ keysOf s
 unfolding metainfoOf
-strict-keys s h e = rw (le-leb (length s) maxTorrent h, e) refl
+strict-keys s h e = rw (le-leb (length s) largestTorrent h, e) refl
 
 -- ---- the order of the numbers
 
@@ -62,10 +64,10 @@ module _ (s : List ℕ) (torrent : Entries) (start : s ≡ encode (dictionary to
   at-values = keys-point s torrent start valid e
 
   -- the tree that the keys point at is right exactly if the value's is
-  pub torrent-tree : right (filesAt s (keysOf s .tree)) ≡ treeRight (entriesOf (lookup keyFileTree (infoOf torrent)))
+  pub torrent-tree : right (filesIn s (keysOf s .tree)) ≡ treeRight (entriesOf (lookup keyFileTree (infoOf torrent)))
   torrent-tree = tree-right s (keysOf s .tree) (entriesOf (lookup keyFileTree (infoOf torrent))) (at-values .treeRest) (at-values .tree-bytes) (at-values .tree-valid)
 
   -- and then its files are those of the value
-  pub torrent-files : right (filesAt s (keysOf s .tree)) ≡ true → readFiles s (listed (filesAt s (keysOf s .tree))) ≡ filesOf torrent
+  pub torrent-files : right (filesIn s (keysOf s .tree)) ≡ true → readFiles s (listed (filesIn s (keysOf s .tree))) ≡ filesOf torrent
   torrent-files q =
       tree-files s (keysOf s .tree) (entriesOf (lookup keyFileTree (infoOf torrent))) (at-values .treeRest) (at-values .tree-bytes) (at-values .tree-valid) (sym torrent-tree ∙ q)

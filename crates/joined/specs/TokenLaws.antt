@@ -9,7 +9,8 @@ use lib.ListN.{length, drop, length-append}
 use lib.Seq.{drop-drop, drop-append-seam}
 use lib.Dec.{eqb}
 use borrow.Author.Tests.{eq-eqb, ne-eqb}
-use Rattle.bencode.specs.Grammar.{colon, letterD, letterE, maxLevels, Value, dictionary, Entries, noEntries, entry, decimal, encodeString, encode, encodeEntries, Valid}
+use Rattle.limits.specs.Limits.{maxLevels}
+use Rattle.bencode.specs.Grammar.{colon, letterD, letterE, Value, dictionary, Entries, noEntries, entry, decimal, encodeString, encode, encodeEntries, Valid}
 use Rattle.bencode.specs.Scalar.{readString}
 use Rattle.bencode.specs.Walk.{walkValue}
 use Rattle.bencode.specs.Parts.{isDictionary}

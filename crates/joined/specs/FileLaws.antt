@@ -8,28 +8,25 @@ use native.Mathlib.Omega.{arith}
 use lib.ListN.{length, drop, length-append, take-append-drop}
 use lib.Dec.{eqb, leb}
 use borrow.Author.Tests.{eqb-true, eqb-false, ne-eqb}
+use Rattle.meaning.specs.Keys.{keyLength, keyPiecesRoot}
+use Rattle.limits.specs.Limits.{maxLevels, longestFile}
 use Rattle.octets.specs.Octets.{cut}
-use Rattle.bencode.specs.Grammar.{colon, maxLevels, Value, integer, string, list, dictionary, Entries, decimal, encodeString, encode, none, Valid}
+use Rattle.bencode.specs.Grammar.{colon, Value, integer, string, list, dictionary, Entries, decimal, encodeString, encode, none, Valid}
 use Rattle.bencode.specs.Scalar.{readString, readInteger}
 use Rattle.bencode.specs.Parts.{isDictionary, findKey, Lookup, absent, present, lookup, FoundIs}
 use Rattle.bencode.specs.CompleteLaws.{contentStart}
-use Rattle.bencode.specs.PartsLaws.{find-is, integer-is, integerOf, string-is, stringOf, content-is, dictionary-is, lookup-valid}
+use Rattle.bencode.specs.PartsLaws.{part-front, find-is, integer-is, integerOf, string-is, stringOf, content-is, dictionary-is, lookup-valid}
 use Rattle.bencode.specs.declared.parts.Found.{Found}
 use Rattle.bencode.specs.declared.parts.Found.the-variants.{Part, Missing}
-use Rattle.files.specs.File.{keyLength, keyPiecesRoot, maxFileLength, lengthOf, rootOf, lengthIn, rootIn, fileLength, fileRoot, emptyFile, fullFile, withLength, fileAt}
+use Rattle.files.specs.File.{lengthOf, rootOf, lengthIn, rootIn, fileLength, fileRoot, emptyFile, fullFile, withLength, fileAt}
 use Rattle.files.specs.declared.file.Length.{Length}
 use Rattle.files.specs.declared.file.Length.the-variants.{Bytes, NoLength}
 use Rattle.files.specs.declared.file.Root.{Root}
 use Rattle.files.specs.declared.file.Root.the-variants.{At, NoRoot}
 use Rattle.files.specs.declared.file.File.{File}
 use Rattle.files.specs.declared.file.File.the-variants.{Right, WrongFile}
-use Rattle.meaning.specs.Torrent.{entriesOf, isNatural, numberOf, rootRight, fileRight, rootOf as rootValue}
-use Rattle.meaning.specs.Reading.{rootRead}
-
--- a part that is an encoding stands at the front of the bytes from there on
-pub part-front : (s : List ℕ) (a b : ℕ) (v : Value) → cut s a (b - a) ≡ encode v → drop a s ≡ encode v ++ drop (b - a) (drop a s)
-unfolding cut
-part-front s a b v e = sym (take-append-drop (b - a) (drop a s)) ∙ ap (λ (l : List ℕ). l ++ drop (b - a) (drop a s)) e
+use Rattle.meaning.specs.Torrent.{entriesOf, isNatural, numberOf, rootRight, fileRight, rootString}
+use Rattle.joined.specs.Reading.{rootRead}
 
 -- no key is found in what is no dictionary
 pub find-none : (key s : List ℕ) (at : ℕ) → isDictionary (drop at s) ≡ false → findKey key at (drop at s) ≡ Missing
@@ -45,21 +42,21 @@ pub string-there : (s : List ℕ) (a b : ℕ) (v : Value) → cut s a (b - a) �
 string-there s a b v e = ap (readString a) (part-front s a b v e) ∙ string-is v a (drop (b - a) (drop a s))
 
 -- what is read of a file is what its value says
-abbrev pub FileIs : List ℕ → Bool → Entries → File → Type 0
-FileIs s b es WrongFile = b ≡ false
-FileIs s b es (Right n r) = (b ≡ true) × (n ≡ numberOf (lookup keyLength es)) × (rootRead s n r ≡ rootValue (lookup keyPiecesRoot es))
+abbrev pub FileAgrees : List ℕ → Bool → Entries → File → Type 0
+FileAgrees s b es WrongFile = b ≡ false
+FileAgrees s b es (Right n r) = (b ≡ true) × (n ≡ numberOf (lookup keyLength es)) × (rootRead s n r ≡ rootString (lookup keyPiecesRoot es))
 
 -- the length is the value's, if that is in range
 abbrev LengthIs : Length → Lookup → Type 0
-LengthIs NoLength x = isNatural x && leb (numberOf x) maxFileLength ≡ false
-LengthIs (Bytes n) x = (isNatural x && leb (numberOf x) maxFileLength ≡ true) × (n ≡ numberOf x)
+LengthIs NoLength x = isNatural x && leb (numberOf x) longestFile ≡ false
+LengthIs (Bytes n) x = (isNatural x && leb (numberOf x) longestFile ≡ true) × (n ≡ numberOf x)
 
 -- an integer is a length if it is from 0 to 2^30, and no other value is one
 length-of : (a : ℕ) (v : Value) → LengthIs (lengthOf (integerOf a v)) (present v)
 length-of a (integer true n) = refl
-length-of a (integer false n) = by-range (leb n maxFileLength) refl
+length-of a (integer false n) = by-range (leb n longestFile) refl
   where
-    by-range : (t : Bool) → leb n maxFileLength ≡ t → LengthIs (cond t (Bytes n) NoLength) (present (integer false n))
+    by-range : (t : Bool) → leb n longestFile ≡ t → LengthIs (cond t (Bytes n) NoLength) (present (integer false n))
     by-range true e = (e, refl)
     by-range false e = e
 length-of a (string b) = refl
@@ -76,7 +73,7 @@ length-is s l (present v) (Part a b) h f = rw (integer-there s a b l v f (h v re
 -- the root is the value's, if that is a string of 32 bytes
 abbrev RootIs : List ℕ → Root → Lookup → Type 0
 RootIs s NoRoot x = rootRight false x ≡ false
-RootIs s (At r) x = (rootRight false x ≡ true) × (cut s r 32 ≡ rootValue x)
+RootIs s (At r) x = (rootRight false x ≡ true) × (cut s r 32 ≡ rootString x)
 
 -- a string of 32 bytes is a root, and no other value is one
 root-of : (s : List ℕ) (a b : ℕ) (v : Value) → cut s a (b - a) ≡ encode v → RootIs s (rootOf (stringOf a v)) (present v)
@@ -118,27 +115,27 @@ with-parts s at (Bytes n) = refl
 
 -- both together
 both-are : (s : List ℕ) (es : Entries) (z : Length) (w : Found) → LengthIs z (lookup keyLength es) → FoundIs s w (lookup keyPiecesRoot es)
-    → FileIs s (isNatural (lookup keyLength es) && leb (numberOf (lookup keyLength es)) maxFileLength && rootRight (eqb (numberOf (lookup keyLength es)) 0) (lookup keyPiecesRoot es)) es
+    → FileAgrees s (isNatural (lookup keyLength es) && leb (numberOf (lookup keyLength es)) longestFile && rootRight (eqb (numberOf (lookup keyLength es)) 0) (lookup keyPiecesRoot es)) es
     (withParts s w z)
 both-are s es NoLength w l f = rw l refl
 both-are s es (Bytes n) w l f = rw (l .0, sym (l .1)) (by-size (eqb n 0) refl)
   where
-    empty : (y : Lookup) (u : Found) → lookup keyPiecesRoot es ≡ y → FoundIs s u y → 0 ≡ numberOf (lookup keyLength es) → FileIs s (true && rootRight true y) es (emptyFile u)
+    empty : (y : Lookup) (u : Found) → lookup keyPiecesRoot es ≡ y → FoundIs s u y → 0 ≡ numberOf (lookup keyLength es) → FileAgrees s (true && rootRight true y) es (emptyFile u)
     empty absent Missing e g o = (refl, o, rw e refl)
     empty absent (Part a b) e g o = absurd g
     empty (present v) Missing e g o = absurd g
     empty (present v) (Part a b) e g o = refl
 
-    full : (n ≡ 0 → ⊥) → (u : Root) → RootIs s u (lookup keyPiecesRoot es) → FileIs s (true && rootRight false (lookup keyPiecesRoot es)) es (fullFile n u)
+    full : (n ≡ 0 → ⊥) → (u : Root) → RootIs s u (lookup keyPiecesRoot es) → FileAgrees s (true && rootRight false (lookup keyPiecesRoot es)) es (fullFile n u)
     full nz NoRoot g = g
     full nz (At r) g = (g .0, l .1, rw (ne-eqb n 0 nz) (g .1))
 
-    by-size : (t : Bool) → eqb n 0 ≡ t → FileIs s (true && rootRight t (lookup keyPiecesRoot es)) es (cond t (emptyFile w) (fullFile n (rootIn s w)))
+    by-size : (t : Bool) → eqb n 0 ≡ t → FileAgrees s (true && rootRight t (lookup keyPiecesRoot es)) es (cond t (emptyFile w) (fullFile n (rootIn s w)))
     by-size true q = empty (lookup keyPiecesRoot es) w refl f (sym (eqb-true n 0 q) ∙ l .1)
     by-size false q = full (eqb-false n 0 q) (rootIn s w) (root-is s (lookup keyPiecesRoot es) w f)
 
 -- the file whose dictionary is the value w is right exactly if the value is, and then has the value's length and root
-pub file-is : (s : List ℕ) (at : ℕ) (w : Value) (r : List ℕ) → drop at s ≡ encode w ++ r → Valid w maxLevels → FileIs s (fileRight w) (entriesOf (present w)) (fileAt s at)
+pub file-is : (s : List ℕ) (at : ℕ) (w : Value) (r : List ℕ) → drop at s ≡ encode w ++ r → Valid w maxLevels → FileAgrees s (fileRight w) (entriesOf (present w)) (fileAt s at)
 unfolding fileAt fileLength fileRoot fileRight Valid
 file-is s at (dictionary es) r e h =
     rw (with-parts s at (lengthIn s (findKey keyLength at (drop at s))))

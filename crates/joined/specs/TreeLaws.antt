@@ -10,24 +10,26 @@ use native.Mathlib.Omega.{arith}
 use lib.ListN.{length, drop, set, getD, length-append, length-drop, length-replicate, length-set}
 use lib.Seq.{getD-set-same, getD-set-other}
 use borrow.Author.Tests.{lt-ltb, le-ltb, ne-eqb}
+use Rattle.meaning.specs.Keys.{keyLength, keyPiecesRoot}
+use Rattle.limits.specs.Limits.{maxLevels}
 use Rattle.octets.specs.Octets.{cut}
-use Rattle.bencode.specs.Grammar.{letterE, maxLevels, Value, integer, string, list, dictionary, Entries, noEntries, entry, encodeString, encode, encodeEntries, KeyBefore, none, after, Valid, EntriesValid}
+use Rattle.bencode.specs.Grammar.{letterE, Value, integer, string, list, dictionary, Entries, noEntries, entry, encodeString, encode, encodeEntries, KeyBefore, none, after, Valid, EntriesValid}
 use Rattle.bencode.specs.Parts.{isDictionary, present, lookup}
 use Rattle.bencode.specs.CompleteLaws.{contentStart, string-some}
 use Rattle.bencode.specs.DepthLaws.{more-levels}
 use Rattle.bencode.specs.PartsLaws.{valueStart, content-is, dictionary-is, isDictionaryValue}
-use Rattle.files.specs.File.{keyLength, keyPiecesRoot, fileAt}
+use Rattle.files.specs.File.{fileAt}
 use Rattle.files.specs.Walk.{maxElements, endsHere, tokenAt, nodeToken, fileToken, setElement}
 use Rattle.files.specs.WalkLaws.{element-length}
 use Rattle.files.specs.declared.file.File.{File as FileFound}
 use Rattle.files.specs.declared.file.File.the-variants.{Right, WrongFile}
 use Rattle.files.specs.declared.walk.Token.the-variants.{Opened, Closed, Leaf, BadToken}
-use Rattle.listing.specs.Listing.{Listed, Files, ends, more, right, listed, noPath, filesIn as filesAt}
+use Rattle.listing.specs.Listing.{Listed, Files, ends, more, right, listed, noPath, filesIn}
 use Rattle.listing.specs.ListingLaws.{fileOf}
-use Rattle.meaning.specs.Torrent.{File, entriesOf, numberOf, rootOf, fileRight, noMore, nodeRight, branchRight, nodesRight, treeRight, filesBelow, filesIn, fileAt as fileValue}
-use Rattle.meaning.specs.Reading.{element, elementsOf, rootRead, readFile, readFiles}
-use Rattle.meaning.specs.FileLaws.{FileIs, file-is}
-use Rattle.meaning.specs.TokenLaws.{after-bytes, entries-there, entry-bytes, ends-is, token-end, token-empty, token-node, node-other, node-empty, node-opened, node-file, file-wrong, file-right}
+use Rattle.meaning.specs.Torrent.{File, entriesOf, numberOf, rootString, fileRight, noMore, nodeRight, branchRight, nodesRight, elementRight, treeRight, filesOfNode, filesOfEntries, fileValue}
+use Rattle.joined.specs.Reading.{element, elementsOf, rootRead, readFile, readFiles}
+use Rattle.joined.specs.FileLaws.{FileAgrees, file-is}
+use Rattle.joined.specs.TokenLaws.{after-bytes, entries-there, entry-bytes, ends-is, token-end, token-empty, token-node, node-other, node-empty, node-opened, node-file, file-wrong, file-right}
 use Rattle.listing.specs.FlatLaws.{tokensFrom, tokens-step, tokens-bad, files-by-tokens}
 
 -- ---- the path
@@ -197,7 +199,7 @@ end-inside s at t e = omega (arith, length-drop at s, ap length e)
 
 -- a file that is right, alone in its node
 leaf-walk : (s k : List ℕ) (t : List ℕ) (m at d a b n r x : ℕ) (path : List ℕ) (es : Entries) → tokenAt s at ≡ Leaf a b n r x → drop x s ≡ t → at < x → at < length s
-    → cut s a (b - a) ≡ k → n ≡ numberOf (lookup keyLength es) → rootRead s n r ≡ rootOf (lookup keyPiecesRoot es) → d < 28 → length path ≡ 56 → length s < at + m
+    → cut s a (b - a) ≡ k → n ≡ numberOf (lookup keyLength es) → rootRead s n r ≡ rootString (lookup keyPiecesRoot es) → d < 28 → length path ≡ 56 → length s < at + m
     → Onward s m at d path t (fileValue (elementsOf s path d ++ (k ∷ [])) es ∷ [])
 leaf-walk s k t zero at d a b n r x path es token here behind inside key size root shallow sized enough = absurd (omega arith)
 leaf-walk s k t (suc m) at d a b n r x path es token here behind inside key size root shallow sized enough =
@@ -243,7 +245,7 @@ file-walk w es s k t l m at d path n h depth sized enough = by-file (fileAt s y)
     token : tokenAt s at ≡ fileToken s a b y
     token = n .token ∙ node-file s a b t w es (n .value)
 
-    by-more : (es′ : Entries) → es ≡ es′ → (size r : ℕ) → fileAt s y ≡ Right size r → FileIs s (fileRight w) (entriesOf (present w)) (Right size r)
+    by-more : (es′ : Entries) → es ≡ es′ → (size r : ℕ) → fileAt s y ≡ Right size r → FileAgrees s (fileRight w) (entriesOf (present w)) (Right size r)
         → Outcome (noMore es′ && true) s m at d path t (fileValue (elementsOf s path d ++ (k ∷ [])) (entriesOf (present w)) ∷ [])
     by-more (entry x u us) q size r f g = bad-walk s m at d path (token ∙ file-right s a b y size r w es t f there valid ∙ rw q refl)
     by-more noEntries q size r f g =
@@ -254,7 +256,7 @@ file-walk w es s k t l m at d path n h depth sized enough = by-file (fileAt s y)
         leaf-walk s k t m at d a b size r (end + 1) path (entriesOf (present w)) (token ∙ file-right s a b y size r w es t f there valid ∙ rw q refl) (past-end s end t here) (omega arith) (n .inside) (n .key) (g .1) (g .2)
         (omega arith) sized enough
 
-    by-file : (f : FileFound) → fileAt s y ≡ f → FileIs s (fileRight w) (entriesOf (present w)) f
+    by-file : (f : FileFound) → fileAt s y ≡ f → FileAgrees s (fileRight w) (entriesOf (present w)) f
         → Outcome (noMore es && fileRight w) s m at d path t (fileValue (elementsOf s path d ++ (k ∷ [])) (entriesOf (present w)) ∷ [])
     by-file WrongFile f g = rw (g, and-false (noMore es)) (bad-walk s m at d path (token ∙ file-wrong s a b y f))
     by-file (Right size r) f g = rw (g .0) (by-more es refl size r f g)
@@ -290,12 +292,12 @@ open-walk true s t m at d a b path fs token shallow w = by-steps (w .steps) refl
 -- the walk over the entries es of a directory
 abbrev Walks : List ℕ → Entries → Type 0
 Walks s es = (l : ℕ) (r : List ℕ) (j : KeyBefore) (m at d : ℕ) (path : List ℕ) → drop at s ≡ encodeEntries es ++ r → EntriesValid es j l → d + l ≡ 29 → length path ≡ 56
-    → length s < at + m → Outcome (nodesRight es) s m at d path (encodeEntries noEntries ++ r) (filesIn (elementsOf s path d) es)
+    → length s < at + m → Outcome (nodesRight es) s m at d path (encodeEntries noEntries ++ r) (filesOfEntries (elementsOf s path d) es)
 
 -- a node that is a directory
 directory-walk : (c : ℕ) (cs : List ℕ) (w : Value) (es : Entries) (s k t : List ℕ) (l m at d : ℕ) (path : List ℕ) → Walks s (entry (c ∷ cs) w es) → NodeAt s at k (dictionary (entry (c ∷ cs) w es)) t
     → EntriesValid (entry (c ∷ cs) w es) none l → d + suc l ≡ 29 → length path ≡ 56 → length s < at + m
-    → Outcome (nodesRight (entry (c ∷ cs) w es)) s m at d path t (filesIn (elementsOf s path d ++ (k ∷ [])) (entry (c ∷ cs) w es))
+    → Outcome (nodesRight (entry (c ∷ cs) w es)) s m at d path t (filesOfEntries (elementsOf s path d ++ (k ∷ [])) (entry (c ∷ cs) w es))
 directory-walk c cs w es s k t l zero at d path walks n h depth sized enough = absurd (omega (arith, n .inside))
 directory-walk c cs w es s k t l (suc m) at d path walks n h depth sized enough = by-depth l refl
   where
@@ -309,22 +311,22 @@ directory-walk c cs w es s k t l (suc m) at d path walks n h depth sized enough 
     token = n .token ∙ node-opened s a b t c cs w es (n .value)
 
     too-deep : EntriesValid (entry (c ∷ cs) w es) none 0 → nodesRight (entry (c ∷ cs) w es) ≡ false
-    too-deep g = unfold Valid nodesRight in rw (node-level w (g .1)) refl
+    too-deep g = unfold Valid nodesRight elementRight in rw (node-level w (g .1)) refl
 
-    by-depth : (i : ℕ) → l ≡ i → Outcome (nodesRight (entry (c ∷ cs) w es)) s (suc m) at d path t (filesIn (elementsOf s path d ++ (k ∷ [])) (entry (c ∷ cs) w es))
+    by-depth : (i : ℕ) → l ≡ i → Outcome (nodesRight (entry (c ∷ cs) w es)) s (suc m) at d path t (filesOfEntries (elementsOf s path d ++ (k ∷ [])) (entry (c ∷ cs) w es))
     by-depth zero q =
         rw (too-deep (rw q at h))
         (right-ends (tokensFrom (suc m) s at d path) (tokens-step m s at d path (Opened a b) token ∙ rw (le-ltb d maxElements (omega arith)) refl))
     by-depth (suc i) q =
         let behind = n .behind in
         let names = elements-set s path d a b k (omega arith) (n .key) in
-        open-walk (nodesRight (entry (c ∷ cs) w es)) s t m at d a b path (filesIn (elementsOf s path d ++ (k ∷ [])) (entry (c ∷ cs) w es)) token (omega arith)
+        open-walk (nodesRight (entry (c ∷ cs) w es)) s t m at d a b path (filesOfEntries (elementsOf s path d ++ (k ∷ [])) (entry (c ∷ cs) w es)) token (omega arith)
         (rw names at (walks l t none m (b + 1) (d + 1) (setElement path d a b) (entries-there s b (entry (c ∷ cs) w es) t (n .value)) h (omega arith) (element-length path d a b ∙ sized) (omega arith)))
 
 -- a node that is a dictionary, by its first key
 branch-walk : (es : Entries) (s k t : List ℕ) (l m at d : ℕ) (path : List ℕ) → Walks s es → NodeAt s at k (dictionary es) t → EntriesValid es none l → d + suc l ≡ 29 → length path ≡ 56
-    → length s < at + m → Outcome (branchRight es) s m at d path t (filesIn (elementsOf s path d ++ (k ∷ [])) es)
-unfolding branchRight nodesRight filesIn Valid
+    → length s < at + m → Outcome (branchRight es) s m at d path t (filesOfEntries (elementsOf s path d ++ (k ∷ [])) es)
+unfolding branchRight nodesRight elementRight filesOfEntries Valid
 branch-walk noEntries s k t l m at d path walks n h depth sized enough =
     bad-walk s m at d path (n .token ∙ node-empty s (contentStart at k) (valueStart at k) t (n .value))
 branch-walk (entry [] w es) s k t l m at d path walks n h depth sized enough = file-walk w es s k t l m at d path n (h .1) depth sized enough
@@ -334,16 +336,16 @@ branch-walk (entry (c ∷ cs) w es) s k t l m at d path walks n h depth sized en
 
 -- none
 none-walk : (s : List ℕ) → Walks s noEntries
-unfolding nodesRight filesIn
+unfolding nodesRight filesOfEntries
 none-walk s l r j m at d path e h depth sized enough =
     record { steps = m; end = at; kept = path; found = []; enough = enough; here = e; sized = sized; keeps = λ i g. refl; goes-on = refl; read = refl }
 
 mutual
-  unfolding nodeRight branchRight nodesRight filesBelow filesIn Valid
+  unfolding nodeRight branchRight nodesRight elementRight filesOfNode filesOfEntries Valid
 
   -- a node, and behind it the other entries
   node-walk : (v : Value) (s : List ℕ) (c : ℕ) (cs t : List ℕ) (l m at d : ℕ) (path : List ℕ) → NodeAt s at (c ∷ cs) v t → Valid v l → d + l ≡ 29 → length path ≡ 56 → length s < at + m
-      → Outcome (nodeRight v) s m at d path t (filesBelow (elementsOf s path d ++ ((c ∷ cs) ∷ [])) v)
+      → Outcome (nodeRight v) s m at d path t (filesOfNode (elementsOf s path d ++ ((c ∷ cs) ∷ [])) v)
   node-walk (integer minus i) s c cs t l m at d path n h depth sized enough = other-walk s (c ∷ cs) (integer minus i) t m at d path n refl
   node-walk (string b) s c cs t l m at d path n h depth sized enough = other-walk s (c ∷ cs) (string b) t m at d path n refl
   node-walk (list vs) s c cs t l m at d path n h depth sized enough = other-walk s (c ∷ cs) (list vs) t m at d path n refl
@@ -356,7 +358,7 @@ mutual
   nodes-walk (entry [] v es) s = λ l r j m at d path e h depth sized enough.
       bad-walk s m at d path (token-empty s at (encode v ++ (encodeEntries es ++ r)) (e ∙ entry-bytes [] v es r))
   nodes-walk (entry (c ∷ cs) v es) s = λ l r j m at d path e h depth sized enough.
-      both (nodeRight v) (nodesRight es) s m at d path (encodeEntries es ++ r) (encodeEntries noEntries ++ r) (filesBelow (elementsOf s path d ++ ((c ∷ cs) ∷ [])) v) (filesIn (elementsOf s path d) es)
+      both (nodeRight v) (nodesRight es) s m at d path (encodeEntries es ++ r) (encodeEntries noEntries ++ r) (filesOfNode (elementsOf s path d ++ ((c ∷ cs) ∷ [])) v) (filesOfEntries (elementsOf s path d) es)
       (node-walk v s c cs (encodeEntries es ++ r) l m at d path (node-at s at c cs v (encodeEntries es ++ r) (e ∙ entry-bytes (c ∷ cs) v es r)) (h .1) depth sized enough)
       (λ x. rw (elements-kept s (x .kept) path d (x .keeps)) at (nodes-walk es s l r (after (c ∷ cs)) (x .steps) (x .end) d (x .kept) (x .here) (h .2) depth (x .sized) (x .enough)))
 
@@ -382,29 +384,29 @@ tree-end true s m at t fs w = by-steps (w .steps) refl
         (ap right all ∙ prepend-right (w .found) (ends true), ap (λ (z : Files). readFiles s (listed z)) all ∙ ap (readFiles s) (prepend-listed (w .found) (ends true) ∙ append-nil (w .found)) ∙ w .read)
 
 -- the walk over the tree gives what the value says
-tree-is : (s : List ℕ) (tree : ℕ) (es : Entries) (r : List ℕ) → drop tree s ≡ encode (dictionary es) ++ r → Valid (dictionary es) 30 → TreeIs (treeRight es) s (filesAt s tree) (filesIn [] es)
-unfolding filesAt treeRight Valid right elementsOf
+tree-is : (s : List ℕ) (tree : ℕ) (es : Entries) (r : List ℕ) → drop tree s ≡ encode (dictionary es) ++ r → Valid (dictionary es) 30 → TreeIs (treeRight es) s (filesIn s tree) (filesOfEntries [] es)
+unfolding filesIn treeRight Valid right elementsOf
 tree-is s tree noEntries r e h = rw (entries-there s tree noEntries r e, ends-is noEntries r) refl
 tree-is s tree (entry k v es) r e h =
     let there = entries-there s tree (entry k v es) r e in
     let walked = nodes-walk (entry k v es) s 29 r none (suc (length s)) (tree + 1) 0 noPath there h refl (length-replicate {A = ℕ} 56 0) (omega arith) in
     let flat = files-by-tokens (length s) (suc (length s)) s (tree + 1) 0 noPath (omega arith) (omega arith) in
     rw (ap endsHere there ∙ ends-is (entry k v es) r)
-    (rw flat (tree-end (nodesRight (entry k v es)) s (suc (length s)) (tree + 1) r (filesIn [] (entry k v es)) walked))
+    (rw flat (tree-end (nodesRight (entry k v es)) s (suc (length s)) (tree + 1) r (filesOfEntries [] (entry k v es)) walked))
 
 module _ (s : List ℕ) (tree : ℕ) (es : Entries) (r : List ℕ) (e : drop tree s ≡ encode (dictionary es) ++ r) (h : Valid (dictionary es) 30) where
   -- the tree at a position is right exactly if the value there is
-  pub tree-right : right (filesAt s tree) ≡ treeRight es
+  pub tree-right : right (filesIn s tree) ≡ treeRight es
   tree-right = by-right (treeRight es) (tree-is s tree es r e h)
     where
-      by-right : (o : Bool) → TreeIs o s (filesAt s tree) (filesIn [] es) → right (filesAt s tree) ≡ o
+      by-right : (o : Bool) → TreeIs o s (filesIn s tree) (filesOfEntries [] es) → right (filesIn s tree) ≡ o
       by-right true w = w .0
       by-right false w = w
 
   -- and then its files are those of the value, in the same order
-  pub tree-files : treeRight es ≡ true → readFiles s (listed (filesAt s tree)) ≡ filesIn [] es
+  pub tree-files : treeRight es ≡ true → readFiles s (listed (filesIn s tree)) ≡ filesOfEntries [] es
   tree-files q = by-right (treeRight es) q (tree-is s tree es r e h)
     where
-      by-right : (o : Bool) → o ≡ true → TreeIs o s (filesAt s tree) (filesIn [] es) → readFiles s (listed (filesAt s tree)) ≡ filesIn [] es
+      by-right : (o : Bool) → o ≡ true → TreeIs o s (filesIn s tree) (filesOfEntries [] es) → readFiles s (listed (filesIn s tree)) ≡ filesOfEntries [] es
       by-right true g w = w .1
       by-right false g w = absurd (false≢true g)

@@ -8,21 +8,23 @@ use Prim.Native.Nat.{ℕ, suc, _-_, _<_}
 use native.Mathlib.Omega.{arith}
 use lib.ListN.{drop}
 use lib.Dec.{eqb}
+use Rattle.meaning.specs.Keys.{keyInfo, keyFileTree, keyPieceLength, keyMetaVersion, keyPieceLayers}
+use Rattle.limits.specs.Limits.{maxLevels}
 use Rattle.octets.specs.Octets.{cut}
 use Rattle.numbers.specs.Numbers.{keyMissing, otherVersion, pieceLengthOutOfRange}
 use Rattle.tree.specs.Geometry.{isPieceLength, pieceLayer, height, heightFrom}
-use Rattle.bencode.specs.Grammar.{maxLevels, Value, integer, string, list, dictionary, Entries, encode, none, Valid}
-use Rattle.bencode.specs.Parts.{isDictionary as dictionaryHere, findKey, Lookup, absent, present, lookup, FoundIs}
+use Rattle.bencode.specs.Grammar.{Value, integer, string, list, dictionary, Entries, encode, none, Valid}
+use Rattle.bencode.specs.Parts.{isDictionary, findKey, Lookup, absent, present, lookup, FoundIs}
 use Rattle.bencode.specs.DepthLaws.{more-levels}
-use Rattle.bencode.specs.PartsLaws.{find-is, integerOf, dictionary-is, isDictionaryValue, lookup-valid}
+use Rattle.bencode.specs.PartsLaws.{part-front, find-is, integerOf, dictionary-is, isDictionaryValue, lookup-valid}
 use Rattle.bencode.specs.declared.scalar.Integer.{Integer}
 use Rattle.bencode.specs.declared.scalar.Integer.the-variants.{Whole, NoInteger}
 use Rattle.bencode.specs.declared.parts.Found.{Found}
 use Rattle.bencode.specs.declared.parts.Found.the-variants.{Part, Missing}
-use Rattle.metainfo.specs.Metainfo.{keyInfo, keyFileTree, keyPieceLength, keyMetaVersion, keyPieceLayers, dictionaryIn, integerIn, findDictionary, findInteger, noKeys, rightKeys, withLayers, layerKeys, withVersion, withPieceLength, withTree, infoKeys, withInfo, keysOf}
+use Rattle.metainfo.specs.Metainfo.{dictionaryIn, integerIn, findDictionary, findInteger, noKeys, rightKeys, withLayers, layerKeys, withVersion, withPieceLength, withTree, infoKeys, withInfo, keysOf}
 use Rattle.metainfo.specs.declared.Keys.{Keys}
-use Rattle.meaning.specs.Torrent.{isDictionary, isInteger, entriesOf, isNumber, numberOf, infoOf, hasKeys, plenOf, layersOf}
-use Rattle.meaning.specs.FileLaws.{part-front, integer-there}
+use Rattle.meaning.specs.Torrent.{hasDictionary, hasInteger, entriesOf, isNumber, numberOf, infoOf, hasKeys, plenOf, layersOf}
+use Rattle.joined.specs.FileLaws.{integer-there}
 
 -- the number of a value as far as its keys go: 22, 23, 24, or none of them
 unfoldable pub keysNumber : Entries → ℕ
@@ -49,7 +51,7 @@ pub record KeysAt (s : List ℕ) (torrent : Entries) (k : Keys) : Type 0 where
 
 -- a dictionary that is found is the one that the key has
 abbrev DictionaryIs : List ℕ → Found → Lookup → Type 0
-DictionaryIs s Missing x = isDictionary x ≡ false
+DictionaryIs s Missing x = hasDictionary x ≡ false
 DictionaryIs s (Part a b) x = (x ≡ present (dictionary (entriesOf x))) × (cut s a (b - a) ≡ encode (dictionary (entriesOf x)))
 
 -- a dictionary is its entries
@@ -60,7 +62,7 @@ is-dictionary (list vs) e = absurd (false≢true e)
 is-dictionary (dictionary es) e = refl
 
 -- another value is no dictionary
-no-dictionary : (v : Value) → isDictionaryValue v ≡ false → isDictionary (present v) ≡ false
+no-dictionary : (v : Value) → isDictionaryValue v ≡ false → hasDictionary (present v) ≡ false
 no-dictionary (integer minus n) e = refl
 no-dictionary (string b) e = refl
 no-dictionary (list vs) e = refl
@@ -71,7 +73,7 @@ dictionary-of : (s : List ℕ) (w : Found) (x : Lookup) → FoundIs s w x → Di
 dictionary-of s Missing absent f = refl
 dictionary-of s Missing (present v) f = absurd f
 dictionary-of s (Part a b) absent f = absurd f
-dictionary-of s (Part a b) (present v) f = by-kind (dictionaryHere (drop a s)) (ap dictionaryHere (part-front s a b v f) ∙ dictionary-is v (drop (b - a) (drop a s)))
+dictionary-of s (Part a b) (present v) f = by-kind (isDictionary (drop a s)) (ap isDictionary (part-front s a b v f) ∙ dictionary-is v (drop (b - a) (drop a s)))
   where
     by-kind : (t : Bool) → t ≡ isDictionaryValue v → DictionaryIs s (cond t (Part a b) Missing) (present v)
     by-kind true e = let d = is-dictionary v (sym e) in (ap present d, f ∙ ap encode d)
@@ -79,7 +81,7 @@ dictionary-of s (Part a b) (present v) f = by-kind (dictionaryHere (drop a s)) (
 
 -- an integer that is found is the one that the key has
 abbrev IntegerIs : Integer → Lookup → Type 0
-IntegerIs NoInteger x = isInteger x ≡ false
+IntegerIs NoInteger x = hasInteger x ≡ false
 IntegerIs (Whole minus n next) x = x ≡ present (integer minus n)
 
 -- an integer is read as its value, and no other value is one
