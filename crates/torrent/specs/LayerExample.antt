@@ -17,7 +17,7 @@ use Rattle.tree.specs.Geometry.{blockCount, ceilDiv, isPieceLength, pieceLayer,
 use Rattle.tree.specs.Values.{node, layerLeaf, layerRoot}
 use Rattle.bencode.specs.Grammar.{colon, Value, integer, string, dictionary, Entries, noEntries, entry, decimalIn, decimal, encodeString, encode, encodeEntries, precedes, Valid}
 use Rattle.bencode.specs.Parts.{Lookup, present, absent, lookup}
-use Rattle.meaning.specs.Torrent.{File, entriesOf, isNumber, infoOf, filesOf, plenOf, layersOf, hasKeys, elementRight, fileRight, nodeRight, branchRight, nodesRight, treeRight, filesOfNode, filesOfEntries, noneWith, rootsApart, layerFits, layersFit, someLonger, noOthers, givesRoot, layerOf, layersGiveRoots, valueNumber}
+use Rattle.meaning.specs.Torrent.{File, entriesOf, isNumber, infoOf, filesOf, plenOf, layersOf, hasKeys, elementRight, fileRight, nodeRight, branchRight, nodesRight, treeRight, filesOfNode, filesOfEntries, noneWith, rootsApart, layerFits, layersFit, someLonger, noOthers, givesRoot, layerBytes, layersGiveRoots, valueNumber}
 use Rattle.torrent.specs.Torrent.{readOf, fileRead}
 use Rattle.torrent.specs.NumberMeans.{number-is-the-values, read-number}
 use Rattle.torrent.specs.ReadMeans.{Nth, FileIs, file-is}
@@ -109,7 +109,7 @@ module _ (root : List ℕ) where
 
   gives-right : layerRoot layer 0 1 ≡ root → layersGiveRoots (plenOf withRoot) (layersOf withRoot) (filesOf withRoot) ≡ true
   unfolding lookup same filesOfEntries filesOfNode layersGiveRoots hasLayer
-  gives-right e = ap (λ (t : Bool). t && true) (ap (λ (x : Lookup). givesRoot 16384 theFile (layerOf x)) the-key ∙ gives e)
+  gives-right e = ap (λ (t : Bool). t && true) (ap (λ (x : Lookup). givesRoot 16384 theFile (layerBytes x)) the-key ∙ gives e)
 
   -- all tests pass
   with-right : length root ≡ 32 → layerRoot layer 0 1 ≡ root → valueNumber withRoot ≡ 0
