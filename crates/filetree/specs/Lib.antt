@@ -1,0 +1,5 @@
+pub mod File
+pub mod Token
+pub mod Tree
+pub mod SizeLaws
+pub mod TokenLaws
