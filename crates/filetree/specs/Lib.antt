@@ -1,5 +1,7 @@
 pub mod File
 pub mod Token
 pub mod Tree
+pub mod Count
 pub mod SizeLaws
 pub mod TokenLaws
+pub mod CountLaws
