@@ -4,4 +4,5 @@ pub mod Tree
 pub mod Count
 pub mod SizeLaws
 pub mod TokenLaws
+pub mod TreeLaws
 pub mod CountLaws

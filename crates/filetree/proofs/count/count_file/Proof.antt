@@ -1,3 +1,4 @@
+use Rattle.filetree.proofs.Counting.{one-counted}
 use native.Mathlib.Omega.{arith}
 use Prim.Native.Nat.{ℕ, _+_, _-_, _*_, _≤_, _<_, _/_, _%_, _^_}
 use lib.ListN.{length, getD, set, take, drop}
@@ -28,7 +29,7 @@ same-length c = search needs
 
 -- src/count.rt:64:1
 returns : tie.Need-returns
-returns c = ?
+returns c = (one-counted _ _ _ _ _ (c .before .before .before .before .keep-root .ensures .0) (c .before .one-more .ensures), c .before .before .before .before .keep-root .ensures .1)
 
 pub count-file-spec : {M : Type 1} → statement M
 count-file-spec =
