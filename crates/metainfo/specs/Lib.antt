@@ -1,2 +1,1 @@
 pub mod Metainfo
-pub mod MetainfoLaws
