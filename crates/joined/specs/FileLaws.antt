@@ -18,13 +18,13 @@ use Rattle.bencode.specs.CompleteLaws.{contentStart}
 use Rattle.bencode.specs.PartsLaws.{part-front, find-is, integer-is, integerOf, string-is, stringOf, content-is, dictionary-is, lookup-valid}
 use Rattle.bencode.specs.declared.parts.Found.{Found}
 use Rattle.bencode.specs.declared.parts.Found.the-variants.{Part, Missing}
-use Rattle.files.specs.File.{lengthOf, rootOf, lengthIn, rootIn, fileLength, fileRoot, emptyFile, fullFile, withLength, fileAt}
-use Rattle.files.specs.declared.file.Length.{Length}
-use Rattle.files.specs.declared.file.Length.the-variants.{Bytes, NoLength}
-use Rattle.files.specs.declared.file.Root.{Root}
-use Rattle.files.specs.declared.file.Root.the-variants.{At, NoRoot}
-use Rattle.files.specs.declared.file.File.{File}
-use Rattle.files.specs.declared.file.File.the-variants.{Right, WrongFile}
+use Rattle.filetree.specs.File.{lengthOf, rootOf, lengthIn, rootIn, fileLength, fileRoot, emptyFile, fullFile, withLength, fileAt}
+use Rattle.filetree.specs.declared.file.Length.{Length}
+use Rattle.filetree.specs.declared.file.Length.the-variants.{Bytes, NoLength}
+use Rattle.filetree.specs.declared.file.Root.{Root}
+use Rattle.filetree.specs.declared.file.Root.the-variants.{At, NoRoot}
+use Rattle.filetree.specs.declared.file.File.{File}
+use Rattle.filetree.specs.declared.file.File.the-variants.{Right, WrongFile}
 use Rattle.meaning.specs.Torrent.{entriesOf, isNatural, numberOf, rootRight, fileRight, rootString}
 use Rattle.joined.specs.Reading.{rootRead}
 

@@ -21,9 +21,10 @@ use Rattle.bencode.specs.declared.scalar.Integer.{Integer}
 use Rattle.bencode.specs.declared.scalar.Integer.the-variants.{Whole, NoInteger}
 use Rattle.bencode.specs.declared.parts.Found.{Found}
 use Rattle.bencode.specs.declared.parts.Found.the-variants.{Part, Missing}
-use Rattle.metainfo.specs.Metainfo.{dictionaryIn, integerIn, findDictionary, findInteger, noKeys, rightKeys, withLayers, layerKeys, withVersion, withPieceLength, withTree, infoKeys, withInfo, keysOf}
+use Rattle.metainfo.specs.Metainfo.{partOf, bytesIn, dictionaryIn, integerIn, findDictionary, findInteger, noKeys, rightKeys, withVersion, withPieceLength, infoKeys, withLayers, withTree, dictionaryKeys, withInfo, keysOf}
+use Rattle.metainfo.specs.declared.Part.{Part as PartOf}
 use Rattle.metainfo.specs.declared.Keys.{Keys}
-use Rattle.meaning.specs.Torrent.{hasDictionary, hasInteger, entriesOf, isNumber, numberOf, infoOf, hasKeys, plenOf, layersOf}
+use Rattle.meaning.specs.Torrent.{hasDictionary, hasInteger, entriesOf, isNumber, numberOf, infoOf, treeOf, hasKeys, plenOf, layersOf}
 use Rattle.joined.specs.FileLaws.{integer-there}
 
 -- the number of a value as far as its keys go: 22, 23, 24, or none of them
@@ -35,16 +36,14 @@ keysNumber torrent =
     otherVersion)
     keyMissing
 
--- where the keys are right, they point at the values
+-- where the keys are right, their parts are the values
 pub record KeysAt (s : List ℕ) (torrent : Entries) (k : Keys) : Type 0 where
   pub info-value : lookup keyInfo torrent ≡ present (dictionary (infoOf torrent))
-  pub info-bytes : cut s (k .info) (k .past - k .info) ≡ encode (dictionary (infoOf torrent))
+  pub info-bytes : bytesIn s (k .info) ≡ encode (dictionary (infoOf torrent))
   pub plen-is : k .plen ≡ plenOf torrent
-  pub treeRest : List ℕ
-  pub tree-bytes : drop (k .tree) s ≡ encode (dictionary (entriesOf (lookup keyFileTree (infoOf torrent)))) ++ treeRest
-  pub tree-valid : Valid (dictionary (entriesOf (lookup keyFileTree (infoOf torrent)))) 30
-  pub layersRest : List ℕ
-  pub layers-bytes : drop (k .layers) s ≡ encode (dictionary (layersOf torrent)) ++ layersRest
+  pub tree-bytes : bytesIn s (k .tree) ≡ encode (dictionary (treeOf torrent))
+  pub tree-valid : Valid (dictionary (treeOf torrent)) 30
+  pub layers-bytes : bytesIn s (k .layers) ≡ encode (dictionary (layersOf torrent))
   pub layers-valid : Valid (dictionary (layersOf torrent)) 31
 
 -- ---- a value of its type
@@ -140,60 +139,61 @@ module _ (s : List ℕ) (torrent : Entries) (start : s ≡ encode (dictionary to
   whole = start ∙ sym (append-nil (encode (dictionary torrent)))
 
   -- what is known where all five are found
-  record Five (info past tree treeEnd layers layersEnd : ℕ) (below : Bool) (plen : ℕ) (minus : Bool) (version : ℕ) : Type 0 where
-    pub the-info : DictionaryIs s (Part info past) (lookup keyInfo torrent)
-    pub the-tree : DictionaryIs s (Part tree treeEnd) (lookup keyFileTree (infoOf torrent))
+  record Five (info tree layers : PartOf) (below : Bool) (plen : ℕ) (minus : Bool) (version : ℕ) : Type 0 where
+    pub the-info : DictionaryIs s (Part (info .start) (info .end)) (lookup keyInfo torrent)
+    pub the-tree : DictionaryIs s (Part (tree .start) (tree .end)) (lookup keyFileTree (infoOf torrent))
+    pub the-layers : DictionaryIs s (Part (layers .start) (layers .end)) (lookup keyPieceLayers torrent)
     pub the-plen : lookup keyPieceLength (infoOf torrent) ≡ present (integer below plen)
     pub the-version : lookup keyMetaVersion (infoOf torrent) ≡ present (integer minus version)
-    pub the-layers : DictionaryIs s (Part layers layersEnd) (lookup keyPieceLayers torrent)
 
-  module _ (info past : ℕ) (i : DictionaryIs s (Part info past) (lookup keyInfo torrent)) where
+  module _ (info : PartOf) (i : DictionaryIs s (Part (info .start) (info .end)) (lookup keyInfo torrent)) where
+    -- what stands behind `info`
+    abbrev behind : List ℕ
+    behind = drop (info .end - info .start) (drop (info .start) s)
+
     -- `info` stands where it was found
-    info-there : drop info s ≡ encode (dictionary (infoOf torrent)) ++ drop (past - info) (drop info s)
-    info-there = part-front s info past (dictionary (infoOf torrent)) (i .1)
+    info-there : drop (info .start) s ≡ encode (dictionary (infoOf torrent)) ++ behind
+    info-there = part-front s (info .start) (info .end) (dictionary (infoOf torrent)) (i .1)
 
     -- and is valid with a level less
     info-valid : Valid (dictionary (infoOf torrent)) 31
     info-valid = has-valid s keyInfo 0 torrent [] 31 whole valid (omega arith) (dictionary (infoOf torrent)) (i .0)
 
-  module _ (info past tree treeEnd layers layersEnd : ℕ) (below : Bool) (plen : ℕ) (minus : Bool) (version : ℕ)
-      (f : Five info past tree treeEnd layers layersEnd below plen minus version) where
+  module _ (info tree layers : PartOf) (below : Bool) (plen : ℕ) (minus : Bool) (version : ℕ) (f : Five info tree layers below plen minus version) where
     -- no key is missing
     all-there : hasKeys torrent ≡ true
     unfolding hasKeys
     all-there = rw (f .the-plen, f .the-version, f .the-layers .0, f .the-tree .0, f .the-info .0) refl
 
-    -- the positions are those of the values
-    keys-at : (k : Keys) → k .info ≡ info → k .past ≡ past → k .tree ≡ tree → k .plen ≡ plen → k .layers ≡ layers → below ≡ false → KeysAt s torrent k
-    keys-at k ei ep et en el q =
+    -- where all is right
+    abbrev here : Keys
+    here = record { number = 0; plen = plen; info = info; tree = tree; layers = layers }
+
+    -- the parts are the values
+    keys-at : below ≡ false → KeysAt s torrent here
+    keys-at q =
         record {
           info-value = f .the-info .0;
-          info-bytes = rw (ei, ep) (f .the-info .1);
-          plen-is = en ∙ sym (rw (f .the-plen, q) refl);
-          treeRest = drop (treeEnd - tree) (drop tree s);
-          tree-bytes = rw et (part-front s tree treeEnd (dictionary (entriesOf (lookup keyFileTree (infoOf torrent)))) (f .the-tree .1));
-          tree-valid = has-valid s keyFileTree info (infoOf torrent) (drop (past - info) (drop info s)) 30 (info-there info past (f .the-info)) (info-valid info past (f .the-info)) (omega arith)
-              (dictionary (entriesOf (lookup keyFileTree (infoOf torrent)))) (f .the-tree .0);
-          layersRest = drop (layersEnd - layers) (drop layers s);
-          layers-bytes = rw el (part-front s layers layersEnd (dictionary (layersOf torrent)) (f .the-layers .1));
+          info-bytes = f .the-info .1;
+          plen-is = sym (rw (f .the-plen, q) refl);
+          tree-bytes = f .the-tree .1;
+          tree-valid = has-valid s keyFileTree (info .start) (infoOf torrent) (behind info (f .the-info)) 30 (info-there info (f .the-info)) (info-valid info (f .the-info)) (omega arith)
+              (dictionary (treeOf torrent)) (f .the-tree .0);
+          layers-bytes = f .the-layers .1;
           layers-valid = has-valid s keyPieceLayers 0 torrent [] 31 whole valid (omega arith) (dictionary (layersOf torrent)) (f .the-layers .0);
         }
 
-    -- where all is right
-    abbrev here : Keys
-    here = record { number = 0; info = info; past = past; tree = tree; plen = plen; layers = layers }
-
-    -- the keys k have the number n, and point at the values if that is none
+    -- the keys k have the number n, and their parts are the values if that is none
     abbrev Numbered : ℕ → Keys → Type 0
     Numbered n k = (k .number ≡ n) × (k .number ≡ 0 → KeysAt s torrent k)
 
-    -- beside a refusal nothing is pointed at
+    -- beside a refusal there are none
     refused : (n : ℕ) → (n ≡ 0 → ⊥) → Numbered n (noKeys n)
     refused n h = (refl, λ z. absurd (h z))
 
     -- by the piece length
     by-piece : (t : Bool) → below ≡ false → Numbered (cond t 0 pieceLengthOutOfRange) (cond t here (noKeys pieceLengthOutOfRange))
-    by-piece true q = (refl, λ z. keys-at here refl refl refl refl refl q)
+    by-piece true q = (refl, λ z. keys-at q)
     by-piece false q = refused pieceLengthOutOfRange (λ z. omega arith)
 
     -- a negative one is none
@@ -222,55 +222,56 @@ module _ (s : List ℕ) (torrent : Entries) (start : s ≡ encode (dictionary to
     number-is = rw (all-there, f .the-version, f .the-plen) refl
 
     -- where all five are found it is 23, 24 or none
-    values-are : KeysAre s torrent (rightKeys info past tree below plen minus version layers)
+    values-are : KeysAre s torrent (rightKeys here below minus version)
     unfolding rightKeys
     values-are = rw number-is (by-minus minus)
 
   -- ---- step by step
 
-  -- with the four keys of `info`, by `piece layers`
-  layers-are : (info past tree treeEnd : ℕ) (below : Bool) (plen : ℕ) (minus : Bool) (version : ℕ) → DictionaryIs s (Part info past) (lookup keyInfo torrent)
-      → DictionaryIs s (Part tree treeEnd) (lookup keyFileTree (infoOf torrent)) → lookup keyPieceLength (infoOf torrent) ≡ present (integer below plen)
-      → lookup keyMetaVersion (infoOf torrent) ≡ present (integer minus version) → (w : Found) → DictionaryIs s w (lookup keyPieceLayers torrent)
-      → KeysAre s torrent (withLayers info past tree below plen minus version w)
-  layers-are info past tree treeEnd below plen minus version i t p v Missing q = missing lacks
-    where
-      lacks : hasKeys torrent ≡ false
-      lacks = unfold hasKeys in rw (q, and-false) refl
-  layers-are info past tree treeEnd below plen minus version i t p v (Part layers layersEnd) q =
-      values-are info past tree treeEnd layers layersEnd below plen minus version (record { the-info = i; the-tree = t; the-plen = p; the-version = v; the-layers = q })
+  module _ (info : PartOf) (i : DictionaryIs s (Part (info .start) (info .end)) (lookup keyInfo torrent)) where
+    -- a dictionary of `info`
+    info-dictionary : (key : List ℕ) → DictionaryIs s (findDictionary s (info .start) key) (lookup key (infoOf torrent))
+    info-dictionary key = dictionary-found s key (info .start) (infoOf torrent) (behind info i) 30 (info-there info i) (info-valid info i) (omega arith)
 
-  -- by `meta version`
-  version-are : (info past tree treeEnd : ℕ) (below : Bool) (plen : ℕ) → DictionaryIs s (Part info past) (lookup keyInfo torrent)
-      → DictionaryIs s (Part tree treeEnd) (lookup keyFileTree (infoOf torrent)) → lookup keyPieceLength (infoOf torrent) ≡ present (integer below plen)
-      → (w : Integer) → IntegerIs w (lookup keyMetaVersion (infoOf torrent)) → KeysAre s torrent (withVersion s info past tree below plen w)
-  version-are info past tree treeEnd below plen i t p NoInteger q = missing lacks
-    where
-      lacks : hasKeys torrent ≡ false
-      lacks = unfold hasKeys in rw (q, and-false) refl
-  version-are info past tree treeEnd below plen i t p (Whole minus version next) q =
-      unfold layerKeys in layers-are info past tree treeEnd below plen minus version i t p q (findDictionary s 0 keyPieceLayers) (dictionary-found s keyPieceLayers 0 torrent [] 31 whole valid (omega arith))
+    -- an integer of `info`
+    info-integer : (key : List ℕ) → IntegerIs (findInteger s (info .start) key) (lookup key (infoOf torrent))
+    info-integer key = integer-found s key (info .start) (infoOf torrent) (behind info i) 30 (info-there info i) (info-valid info i) (omega arith)
 
-  -- by `piece length`
-  piece-are : (info past tree treeEnd : ℕ) → DictionaryIs s (Part info past) (lookup keyInfo torrent) → DictionaryIs s (Part tree treeEnd) (lookup keyFileTree (infoOf torrent))
-      → (w : Integer) → IntegerIs w (lookup keyPieceLength (infoOf torrent)) → KeysAre s torrent (withPieceLength s info past tree w)
-  piece-are info past tree treeEnd i t NoInteger q = missing lacks
-    where
-      lacks : hasKeys torrent ≡ false
-      lacks = unfold hasKeys in rw (q, and-false) refl
-  piece-are info past tree treeEnd i t (Whole below plen next) q =
-      version-are info past tree treeEnd below plen i t q (findInteger s info keyMetaVersion)
-      (integer-found s keyMetaVersion info (infoOf torrent) (drop (past - info) (drop info s)) 30 (info-there info past i) (info-valid info past i) (omega arith))
+    module _ (tree : PartOf) (t : DictionaryIs s (Part (tree .start) (tree .end)) (lookup keyFileTree (infoOf torrent))) where
+      module _ (layers : PartOf) (l : DictionaryIs s (Part (layers .start) (layers .end)) (lookup keyPieceLayers torrent)) where
+        -- by `meta version`
+        version-are : (below : Bool) (plen : ℕ) → lookup keyPieceLength (infoOf torrent) ≡ present (integer below plen) → (w : Integer) → IntegerIs w (lookup keyMetaVersion (infoOf torrent))
+            → KeysAre s torrent (withVersion info tree layers below plen w)
+        version-are below plen p NoInteger q = missing lacks
+          where
+            lacks : hasKeys torrent ≡ false
+            lacks = unfold hasKeys in rw (q, and-false) refl
+        version-are below plen p (Whole minus version next) q =
+            values-are info tree layers below plen minus version (record { the-info = i; the-tree = t; the-layers = l; the-plen = p; the-version = q })
 
-  -- by `file tree`
-  tree-are : (info past : ℕ) → DictionaryIs s (Part info past) (lookup keyInfo torrent) → (w : Found) → DictionaryIs s w (lookup keyFileTree (infoOf torrent)) → KeysAre s torrent (withTree s info past w)
-  tree-are info past i Missing q = missing lacks
-    where
-      lacks : hasKeys torrent ≡ false
-      lacks = unfold hasKeys in rw (q, and-false) refl
-  tree-are info past i (Part tree treeEnd) q =
-      piece-are info past tree treeEnd i q (findInteger s info keyPieceLength)
-      (integer-found s keyPieceLength info (infoOf torrent) (drop (past - info) (drop info s)) 30 (info-there info past i) (info-valid info past i) (omega arith))
+        -- by `piece length`
+        piece-are : (w : Integer) → IntegerIs w (lookup keyPieceLength (infoOf torrent)) → KeysAre s torrent (withPieceLength s info tree layers w)
+        piece-are NoInteger q = missing lacks
+          where
+            lacks : hasKeys torrent ≡ false
+            lacks = unfold hasKeys in rw (q, and-false) refl
+        piece-are (Whole below plen next) q = version-are below plen q (findInteger s (info .start) keyMetaVersion) (info-integer keyMetaVersion)
+
+      -- by `piece layers`
+      layers-are : (w : Found) → DictionaryIs s w (lookup keyPieceLayers torrent) → KeysAre s torrent (withLayers s info tree w)
+      layers-are Missing q = missing lacks
+        where
+          lacks : hasKeys torrent ≡ false
+          lacks = unfold hasKeys in rw (q, and-false) refl
+      layers-are (Part a b) q = unfold infoKeys in piece-are (partOf a b) q (findInteger s (info .start) keyPieceLength) (info-integer keyPieceLength)
+
+    -- by `file tree`
+    tree-are : (w : Found) → DictionaryIs s w (lookup keyFileTree (infoOf torrent)) → KeysAre s torrent (withTree s info w)
+    tree-are Missing q = missing lacks
+      where
+        lacks : hasKeys torrent ≡ false
+        lacks = unfold hasKeys in rw (q, and-false) refl
+    tree-are (Part a b) q = layers-are (partOf a b) q (findDictionary s 0 keyPieceLayers) (dictionary-found s keyPieceLayers 0 torrent [] 31 whole valid (omega arith))
 
   -- by `info`
   info-are : (w : Found) → DictionaryIs s w (lookup keyInfo torrent) → KeysAre s torrent (withInfo s w)
@@ -278,9 +279,7 @@ module _ (s : List ℕ) (torrent : Entries) (start : s ≡ encode (dictionary to
     where
       lacks : hasKeys torrent ≡ false
       lacks = unfold hasKeys in rw q refl
-  info-are (Part info past) q =
-      unfold infoKeys in tree-are info past q (findDictionary s info keyFileTree)
-      (dictionary-found s keyFileTree info (infoOf torrent) (drop (past - info) (drop info s)) 30 (info-there info past q) (info-valid info past q) (omega arith))
+  info-are (Part a b) q = unfold dictionaryKeys in tree-are (partOf a b) q (findDictionary s a keyFileTree) (info-dictionary (partOf a b) q keyFileTree)
 
   -- so are the keys of the torrent
   keys-are : KeysAre s torrent (keysOf s)
@@ -297,44 +296,7 @@ module _ (s : List ℕ) (torrent : Entries) (start : s ≡ encode (dictionary to
   pub keys-point : keysOf s .number ≡ 0 → KeysAt s torrent (keysOf s)
   keys-point = keys-are .1
 
-  -- 22 exactly if a key is missing or of another type
-  pub missing-exactly : (keysOf s .number ≡ keyMissing → hasKeys torrent ≡ false) × (hasKeys torrent ≡ false → keysOf s .number ≡ keyMissing)
-  unfolding keysNumber
-  missing-exactly = ((λ e. only (hasKeys torrent) (isNumber 2 (lookup keyMetaVersion (infoOf torrent))) (isPieceLength (plenOf torrent)) (sym keys-number ∙ e)), (λ e. keys-number ∙ rw e refl))
-    where
-      only : (a b c : Bool) → cond a (cond b (cond c 0 pieceLengthOutOfRange) otherVersion) keyMissing ≡ keyMissing → a ≡ false
-      only false b c e = refl
-      only true false c e = absurd (omega arith)
-      only true true false e = absurd (omega arith)
-      only true true true e = absurd (omega arith)
-
-  -- else 23 exactly if the version is not 2
-  pub version-exactly : (keysOf s .number ≡ otherVersion → (hasKeys torrent ≡ true) × (isNumber 2 (lookup keyMetaVersion (infoOf torrent)) ≡ false))
-      × (hasKeys torrent ≡ true → isNumber 2 (lookup keyMetaVersion (infoOf torrent)) ≡ false → keysOf s .number ≡ otherVersion)
-  unfolding keysNumber
-  version-exactly =
-      ((λ e. only (hasKeys torrent) (isNumber 2 (lookup keyMetaVersion (infoOf torrent))) (isPieceLength (plenOf torrent)) (sym keys-number ∙ e)), (λ e f. keys-number ∙ rw (e, f) refl))
-    where
-      only : (a b c : Bool) → cond a (cond b (cond c 0 pieceLengthOutOfRange) otherVersion) keyMissing ≡ otherVersion → (a ≡ true) × (b ≡ false)
-      only false b c e = absurd (omega arith)
-      only true false c e = (refl, refl)
-      only true true false e = absurd (omega arith)
-      only true true true e = absurd (omega arith)
-
-  -- else 24 exactly if the piece length is out of range
-  pub range-exactly : (keysOf s .number ≡ pieceLengthOutOfRange → (hasKeys torrent ≡ true) × (isNumber 2 (lookup keyMetaVersion (infoOf torrent)) ≡ true) × (isPieceLength (plenOf torrent) ≡ false))
-      × (hasKeys torrent ≡ true → isNumber 2 (lookup keyMetaVersion (infoOf torrent)) ≡ true → isPieceLength (plenOf torrent) ≡ false → keysOf s .number ≡ pieceLengthOutOfRange)
-  unfolding keysNumber
-  range-exactly =
-      ((λ e. only (hasKeys torrent) (isNumber 2 (lookup keyMetaVersion (infoOf torrent))) (isPieceLength (plenOf torrent)) (sym keys-number ∙ e)), (λ e f g. keys-number ∙ rw (e, f, g) refl))
-    where
-      only : (a b c : Bool) → cond a (cond b (cond c 0 pieceLengthOutOfRange) otherVersion) keyMissing ≡ pieceLengthOutOfRange → (a ≡ true) × (b ≡ true) × (c ≡ false)
-      only false b c e = absurd (omega arith)
-      only true false c e = absurd (omega arith)
-      only true true false e = (refl, refl, refl)
-      only true true true e = absurd (omega arith)
-
-  -- else none of them
+  -- none of them exactly if the keys are there and right
   pub none-exactly : (keysOf s .number ≡ 0 → (hasKeys torrent ≡ true) × (isNumber 2 (lookup keyMetaVersion (infoOf torrent)) ≡ true) × (isPieceLength (plenOf torrent) ≡ true))
       × (hasKeys torrent ≡ true → isNumber 2 (lookup keyMetaVersion (infoOf torrent)) ≡ true → isPieceLength (plenOf torrent) ≡ true → keysOf s .number ≡ 0)
   unfolding keysNumber

@@ -5,10 +5,10 @@
 use mathlib.Core.Path.{_≡_, refl, sym, ap, ap₂, _∙_}
 use mathlib.Core.Logic.{_⊎_, inl, inr}
 use mathlib.Core.Bool.{Bool, true, false, cond, not, _&&_, _||_, false≢true, and-eq-true-iff}
-use mathlib.Core.List.{List, [], _∷_, _++_}
+use mathlib.Core.List.{List, [], _∷_, _++_, append-nil}
 use Prim.Native.Nat.{ℕ, suc, _+_, _-_, _≤_}
 use native.Mathlib.Omega.{arith}
-use lib.ListN.{length, drop}
+use lib.ListN.{length}
 use lib.Dec.{eqb}
 use borrow.Author.Tests.{eqb-true, eq-eqb, ne-eqb, not-true}
 use Rattle.limits.specs.Limits.{maxLevels}
@@ -19,7 +19,7 @@ use Rattle.tree.specs.Geometry.{hasLayer}
 use Rattle.bencode.specs.Grammar.{dictionary, Entries, noEntries, entry, encode, precedes, KeyBefore, none, after, Valid, EntriesValid}
 use Rattle.bencode.specs.Parts.{present, lookup}
 use Rattle.roots.specs.PrecedesLaws.{precedes-trans, precedes-differ}
-use Rattle.listing.specs.Listing.{Listed, longs}
+use Rattle.filetree.specs.Tree.{Listed, longs}
 use Rattle.layers.specs.Layers.{layerKeys, keysWide, worst}
 use Rattle.layers.specs.KeysLaws.{entryKeys, allWide, keys-wide, keys-count}
 use Rattle.meaning.specs.Torrent.{File, noneWith, rootsApart, layerFits, layersFit, someLonger, noOthers, layersGiveRoots}
@@ -203,20 +203,23 @@ and-no : (t : Bool) → t && false ≡ false
 and-no true = refl
 and-no false = refl
 
-module _ (s : List ℕ) (layers : ℕ) (ls : Entries) (r : List ℕ) (bytes : drop layers s ≡ encode (dictionary ls) ++ r) (valid : Valid (dictionary ls) maxLevels) (plen : ℕ) (fs : List Listed)
+module _ (s l : List ℕ) (ls : Entries) (bytes : l ≡ encode (dictionary ls)) (valid : Valid (dictionary ls) maxLevels) (plen : ℕ) (fs : List Listed)
     (vs : List File) (alike : AllAlike s fs vs) (within : RootsWithin s fs) (apart : rootsApart vs ≡ true) where
+  whole : l ≡ encode (dictionary ls) ++ []
+  whole = bytes ∙ sym (append-nil (encode (dictionary ls)))
+
   distinct-keys : Distinct (entryKeys ls)
   unfolding Valid
   distinct-keys = keys-distinct ls none (maxLevels - 1) valid
 
-  key-count : length (layerKeys s layers) ≡ length (entryKeys ls)
-  key-count = keys-count s layers ls r bytes maxLevels (omega arith) valid
+  key-count : length (layerKeys l) ≡ length (entryKeys ls)
+  key-count = keys-count l ls [] whole maxLevels (omega arith) valid
 
-  key-width : keysWide s layers ≡ allWide ls
-  key-width = keys-wide s layers ls r bytes maxLevels (omega arith) valid
+  key-width : keysWide l ≡ allWide ls
+  key-width = keys-wide l ls [] whole maxLevels (omega arith) valid
 
   -- where each layer fits, no key is left over exactly if there are as many, of 32 bytes, as longer files
-  pub keys-counted : layersFit plen ls vs ≡ true → keysWide s layers && eqb (length (layerKeys s layers)) (longs plen fs) ≡ noOthers plen vs ls
+  pub keys-counted : layersFit plen ls vs ≡ true → keysWide l && eqb (length (layerKeys l)) (longs plen fs) ≡ noOthers plen vs ls
   keys-counted fit = by-others (noOthers plen vs ls) refl
     where
       roots : List (List ℕ)
@@ -228,26 +231,26 @@ module _ (s : List ℕ) (layers : ℕ) (ls : Entries) (r : List ℕ) (bytes : dr
       are-keys : Contained roots (entryKeys ls)
       are-keys = long-keys plen ls vs fit
 
-      by-count : LeftOver plen vs ls → (t : Bool) → eqb (length (layerKeys s layers)) (longs plen fs) ≡ t → keysWide s layers && t ≡ false
+      by-count : LeftOver plen vs ls → (t : Bool) → eqb (length (layerKeys l)) (longs plen fs) ≡ t → keysWide l && t ≡ false
       by-count w true e =
-          let q = eqb-true (length (layerKeys s layers)) (longs plen fs) e in
+          let q = eqb-true (length (layerKeys l)) (longs plen fs) e in
           absurd (contained-all roots (entryKeys ls) (long-distinct plen vs apart) are-keys (omega (arith, key-count, file-count)) (w .0) (w .1) (w .2))
-      by-count w false e = and-no (keysWide s layers)
+      by-count w false e = and-no (keysWide l)
 
-      by-others : (t : Bool) → noOthers plen vs ls ≡ t → keysWide s layers && eqb (length (layerKeys s layers)) (longs plen fs) ≡ t
+      by-others : (t : Bool) → noOthers plen vs ls ≡ t → keysWide l && eqb (length (layerKeys l)) (longs plen fs) ≡ t
       by-others true e =
           let are-roots = keys-long plen vs ls e in
           let up = contained-fewer roots (entryKeys ls) (long-distinct plen vs apart) are-keys in
           let down = contained-fewer (entryKeys ls) roots distinct-keys are-roots in
-          let wide : keysWide s layers ≡ true = key-width ∙ keys-all-wide ls (λ k m. long-wide plen s fs vs alike within k (are-roots k m)) in
-          let many : eqb (length (layerKeys s layers)) (longs plen fs) ≡ true = eq-eqb (length (layerKeys s layers)) (longs plen fs) (omega (arith, key-count, file-count)) in
+          let wide : keysWide l ≡ true = key-width ∙ keys-all-wide ls (λ k m. long-wide plen s fs vs alike within k (are-roots k m)) in
+          let many : eqb (length (layerKeys l)) (longs plen fs) ≡ true = eq-eqb (length (layerKeys l)) (longs plen fs) (omega (arith, key-count, file-count)) in
           ap₂ _&&_ wide many
-      by-others false e = by-count (key-left plen vs ls e) (eqb (length (layerKeys s layers)) (longs plen fs)) refl
+      by-others false e = by-count (key-left plen vs ls e) (eqb (length (layerKeys l)) (longs plen fs)) refl
 
   -- 27 and 28 by positions are 27 and 28 of the value
-  pub layers-number : cond (keysWide s layers && eqb (length (layerKeys s layers)) (longs plen fs)) (worst s layers plen 0 fs) layersAmiss
+  pub layers-number : cond (keysWide l && eqb (length (layerKeys l)) (longs plen fs)) (worst s l plen 0 fs) layersAmiss
       ≡ cond (layersFit plen ls vs && noOthers plen vs ls) (cond (layersGiveRoots plen ls vs) 0 layerDiffers) layersAmiss
-  layers-number = rw (worst-number s layers ls r bytes valid plen fs vs alike 0) (by-fit (layersFit plen ls vs) refl)
+  layers-number = rw (worst-number s l ls bytes valid plen fs vs alike 0) (by-fit (layersFit plen ls vs) refl)
     where
       given : ℕ
       given = cond (layersGiveRoots plen ls vs) 0 layerDiffers
@@ -257,6 +260,6 @@ module _ (s : List ℕ) (layers : ℕ) (ls : Entries) (r : List ℕ) (bytes : dr
       either false = refl
 
       by-fit : (t : Bool) → layersFit plen ls vs ≡ t
-          → cond (keysWide s layers && eqb (length (layerKeys s layers)) (longs plen fs)) (cond t given layersAmiss) layersAmiss ≡ cond (t && noOthers plen vs ls) given layersAmiss
+          → cond (keysWide l && eqb (length (layerKeys l)) (longs plen fs)) (cond t given layersAmiss) layersAmiss ≡ cond (t && noOthers plen vs ls) given layersAmiss
       by-fit true e = ap (λ (t : Bool). cond t given layersAmiss) (keys-counted e)
-      by-fit false e = either (keysWide s layers && eqb (length (layerKeys s layers)) (longs plen fs))
+      by-fit false e = either (keysWide l && eqb (length (layerKeys l)) (longs plen fs))

@@ -1,29 +1,26 @@
--- A file as the torrent's bytes s have it, from the positions that were noted of it.
+-- A file as the bytes t of a tree have it, from the positions that were noted of it.
 -- Assumes nothing.
 use mathlib.Core.Bool.{cond}
-use mathlib.Core.List.{List, [], _∷_, _++_, map}
-use Prim.Native.Nat.{ℕ, zero, suc, _+_, _-_, _*_}
-use lib.ListN.{getD}
+use mathlib.Core.List.{List, map}
+use Prim.Native.Nat.{ℕ, _-_}
 use lib.Dec.{eqb}
 use Rattle.octets.specs.Octets.{cut, zeroHash}
-use Rattle.listing.specs.Listing.{Listed}
+use Rattle.filetree.specs.Tree.{Element, Listed}
 use Rattle.meaning.specs.Torrent.{File}
 
--- path element d: the bytes from its start to its end
-abbrev pub element : List ℕ → List ℕ → ℕ → List ℕ
-element s path d = cut s (getD path (2 * d) 0) (getD path (2 * d + 1) 0 - getD path (2 * d) 0)
+-- a path element: the bytes from its start to its end
+abbrev pub element : List ℕ → Element → List ℕ
+element t e = cut t (e .start) (e .end - e .start)
 
--- the first k elements
-unfoldable pub elementsOf : List ℕ → List ℕ → ℕ → List (List ℕ)
-elementsOf s path zero = []
-elementsOf s path (suc k) = elementsOf s path k ++ (element s path k ∷ [])
+abbrev pub elements : List ℕ → List Element → List (List ℕ)
+elements t path = map (element t) path
 
 -- the root's 32 bytes; an empty file has the root of 32 zero bytes
 abbrev pub rootRead : List ℕ → ℕ → ℕ → List ℕ
-rootRead s size root = cond (eqb size 0) zeroHash (cut s root 32)
+rootRead t size root = cond (eqb size 0) zeroHash (cut t root 32)
 
 unfoldable pub readFile : List ℕ → Listed → File
-readFile s f = record { size = f .size; root = rootRead s (f .size) (f .root); path = elementsOf s (f .path) (f .elements) }
+readFile t f = record { size = f .size; root = rootRead t (f .size) (f .root); path = elements t (f .path) }
 
 abbrev pub readFiles : List ℕ → List Listed → List File
-readFiles s fs = map (readFile s) fs
+readFiles t fs = map (readFile t) fs

@@ -8,7 +8,7 @@ use Prim.Native.Nat.{ℕ}
 use lib.Dec.{eqb}
 use Rattle.octets.specs.Octets.{cut, same, zeroHash}
 use Rattle.roots.specs.Roots.{stringsAt, noneSame, apart}
-use Rattle.listing.specs.Listing.{Listed, rootsOf}
+use Rattle.filetree.specs.Tree.{Listed, rootsOf}
 use Rattle.meaning.specs.Torrent.{File, noneWith, rootsApart}
 
 -- a file by its positions in s and a file of the value: one length and, in s, one root; an empty file has the root of zeros

@@ -7,16 +7,16 @@ use Prim.Native.Nat.{ℕ, _≤_}
 use native.Mathlib.Omega.{arith}
 use lib.ListN.{length}
 use borrow.Author.Tests.{le-leb}
-use Rattle.meaning.specs.Keys.{keyFileTree, keyMetaVersion}
+use Rattle.meaning.specs.Keys.{keyMetaVersion}
 use Rattle.limits.specs.Limits.{maxLevels, largestTorrent}
 use Rattle.numbers.specs.Numbers.{keyMissing, otherVersion, pieceLengthOutOfRange, wrongTree}
 use Rattle.tree.specs.Geometry.{isPieceLength}
 use Rattle.bencode.specs.Grammar.{dictionary, Entries, encode, Valid}
 use Rattle.bencode.specs.Parts.{lookup}
 use Rattle.bencode.specs.Strict.{strictness}
-use Rattle.metainfo.specs.Metainfo.{keysOf, metainfoOf}
-use Rattle.listing.specs.Listing.{right, listed, filesIn}
-use Rattle.meaning.specs.Torrent.{entriesOf, isNumber, infoOf, hasKeys, plenOf, treeRight, filesOf, valueNumber}
+use Rattle.metainfo.specs.Metainfo.{bytesIn, keysOf, metainfoOf}
+use Rattle.filetree.specs.Tree.{right, listed, filesIn}
+use Rattle.meaning.specs.Torrent.{isNumber, infoOf, treeOf, hasKeys, plenOf, treeRight, filesOf, valueNumber}
 use Rattle.joined.specs.Reading.{readFiles}
 use Rattle.joined.specs.TreeLaws.{tree-right, tree-files}
 use Rattle.joined.specs.KeysLaws.{keysNumber, KeysAt, keys-point}
@@ -52,7 +52,7 @@ unfolding keysNumber valueNumber
 keys-first torrent h = some-fails (hasKeys torrent) (isNumber 2 (lookup keyMetaVersion (infoOf torrent))) (isPieceLength (plenOf torrent)) _ h
 
 -- where they are right and the tree is not, it is 25
-pub tree-next : (torrent : Entries) → keysNumber torrent ≡ 0 → treeRight (entriesOf (lookup keyFileTree (infoOf torrent))) ≡ false → valueNumber torrent ≡ wrongTree
+pub tree-next : (torrent : Entries) → keysNumber torrent ≡ 0 → treeRight (treeOf torrent) ≡ false → valueNumber torrent ≡ wrongTree
 unfolding keysNumber valueNumber
 tree-next torrent h e = none-fails (hasKeys torrent) (isNumber 2 (lookup keyMetaVersion (infoOf torrent))) (isPieceLength (plenOf torrent)) _ h ∙ rw e refl
 
@@ -63,11 +63,10 @@ module _ (s : List ℕ) (torrent : Entries) (start : s ≡ encode (dictionary to
   at-values : KeysAt s torrent (keysOf s)
   at-values = keys-point s torrent start valid e
 
-  -- the tree that the keys point at is right exactly if the value's is
-  pub torrent-tree : right (filesIn s (keysOf s .tree)) ≡ treeRight (entriesOf (lookup keyFileTree (infoOf torrent)))
-  torrent-tree = tree-right s (keysOf s .tree) (entriesOf (lookup keyFileTree (infoOf torrent))) (at-values .treeRest) (at-values .tree-bytes) (at-values .tree-valid)
+  -- the tree's part is right exactly if the value's tree is
+  pub torrent-tree : right (filesIn (bytesIn s (keysOf s .tree))) ≡ treeRight (treeOf torrent)
+  torrent-tree = tree-right (bytesIn s (keysOf s .tree)) (treeOf torrent) (at-values .tree-bytes) (at-values .tree-valid)
 
   -- and then its files are those of the value
-  pub torrent-files : right (filesIn s (keysOf s .tree)) ≡ true → readFiles s (listed (filesIn s (keysOf s .tree))) ≡ filesOf torrent
-  torrent-files q =
-      tree-files s (keysOf s .tree) (entriesOf (lookup keyFileTree (infoOf torrent))) (at-values .treeRest) (at-values .tree-bytes) (at-values .tree-valid) (sym torrent-tree ∙ q)
+  pub torrent-files : right (filesIn (bytesIn s (keysOf s .tree))) ≡ true → readFiles (bytesIn s (keysOf s .tree)) (listed (filesIn (bytesIn s (keysOf s .tree)))) ≡ filesOf torrent
+  torrent-files q = tree-files (bytesIn s (keysOf s .tree)) (treeOf torrent) (at-values .tree-bytes) (at-values .tree-valid) (sym torrent-tree ∙ q)

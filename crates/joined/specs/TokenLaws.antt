@@ -15,12 +15,12 @@ use Rattle.bencode.specs.Scalar.{readString}
 use Rattle.bencode.specs.Walk.{walkValue}
 use Rattle.bencode.specs.Parts.{isDictionary}
 use Rattle.bencode.specs.CompleteLaws.{BeginsWithDigit, decimal-first, contentStart, string-read, dictionary-bytes, complete}
-use Rattle.bencode.specs.PartsLaws.{valueStart, dictionary-is}
-use Rattle.files.specs.File.{fileAt}
-use Rattle.files.specs.Walk.{endsHere, pastFile, fileToken, firstKey, nodeToken, tokenAt}
-use Rattle.files.specs.declared.file.File.the-variants.{Right, WrongFile}
-use Rattle.files.specs.declared.walk.Token.the-variants.{Opened, Closed, Leaf, BadToken}
-use Rattle.meaning.specs.Torrent.{noMore}
+use Rattle.bencode.specs.PartsLaws.{valueStart, dictionary-is, content-is}
+use Rattle.filetree.specs.File.{fileAt}
+use Rattle.filetree.specs.Token.{endsHere, pastFile, fileToken, firstKey, nodeToken, tokenAt}
+use Rattle.filetree.specs.declared.file.File.the-variants.{Right, WrongFile}
+use Rattle.filetree.specs.declared.token.Token.the-variants.{Opened, Closed, Leaf, BadToken}
+use Rattle.meaning.specs.Torrent.{elementRight, noMore}
 
 -- behind the bytes p
 pub after-bytes : (s : List ℕ) (at : ℕ) (p q : List ℕ) → drop at s ≡ p ++ q → drop (at + length p) s ≡ q
@@ -57,22 +57,11 @@ token-end s at r e = rw (e, ends-is noEntries r) refl
 content-size : (at : ℕ) (k : List ℕ) → valueStart at k ≡ contentStart at k + length k
 content-size at k = let lc = length-append (decimal (length k)) (colon ∷ k) in omega arith
 
--- at a key the token is by whether the key is empty
-key-token : (s : List ℕ) (at : ℕ) (k q : List ℕ) → drop at s ≡ encodeString k ++ q
-    → tokenAt s at ≡ cond (eqb (contentStart at k) (valueStart at k)) BadToken (nodeToken s (contentStart at k) (valueStart at k))
+-- at a key the token is by whether the key is a path element
+pub key-token : (s : List ℕ) (at : ℕ) (k q : List ℕ) → drop at s ≡ encodeString k ++ q
+    → tokenAt s at ≡ cond (elementRight k) (nodeToken s (contentStart at k) (valueStart at k)) BadToken
 unfolding tokenAt
-key-token s at k q e = rw e (rw (string-goes-on k q, string-read at k q) refl)
-
--- an empty key is wrong in a directory
-pub token-empty : (s : List ℕ) (at : ℕ) (q : List ℕ) → drop at s ≡ encodeString [] ++ q → tokenAt s at ≡ BadToken
-token-empty s at q e = key-token s at [] q e ∙ rw (eq-eqb (contentStart at []) (valueStart at []) (let o = content-size at [] in omega arith)) refl
-
--- another begins a node
-pub token-node : (s : List ℕ) (at c : ℕ) (cs q : List ℕ) → drop at s ≡ encodeString (c ∷ cs) ++ q → tokenAt s at ≡ nodeToken s (contentStart at (c ∷ cs)) (valueStart at (c ∷ cs))
-token-node s at c cs q e =
-    let k = c ∷ cs in
-    let o = content-size at k in
-    key-token s at k q e ∙ rw (ne-eqb (contentStart at k) (valueStart at k) (λ z. omega arith)) refl
+key-token s at k q e = rw e (rw (string-goes-on k q, string-read at k q, content-is s k q at e) refl)
 
 module _ (s : List ℕ) (a b : ℕ) (q : List ℕ) where
   -- a node that is no dictionary is wrong

@@ -1,154 +1,72 @@
--- The file tree by positions is the file tree of the value: right exactly if that is, and with its files. By the entries: from a place
--- in the tree the walk goes over the files of the entries there, and on from behind them. A level of nesting is left for each directory
--- that may still be opened, so that no right tree has a path longer than what is kept.
+-- The files by positions are the files of the value: the walk of the tree's bytes t is right exactly if the value is, and then has its
+-- files in the same order. By induction on the value, with the levels left beside it.
 -- Assumes nothing.
-use mathlib.Core.Path.{_≡_, refl, sym, ap, _∙_}
-use mathlib.Core.Bool.{Bool, true, false, _&&_, and-false, false≢true}
+use mathlib.Core.Path.{_≡_, refl, sym, ap, ap₂, _∙_}
+use mathlib.Core.Bool.{Bool, true, false, cond, _&&_, and-false, false≢true}
 use mathlib.Core.List.{List, [], _∷_, _++_, append-nil}
-use Prim.Native.Nat.{ℕ, zero, suc, _+_, _-_, _*_, _<_}
+use Prim.Native.Nat.{ℕ, zero, suc, _+_, _-_, _≤_}
 use native.Mathlib.Omega.{arith}
-use lib.ListN.{length, drop, set, getD, length-append, length-drop, length-replicate, length-set}
-use lib.Seq.{getD-set-same, getD-set-other}
-use borrow.Author.Tests.{lt-ltb, le-ltb, ne-eqb}
-use Rattle.meaning.specs.Keys.{keyLength, keyPiecesRoot}
-use Rattle.limits.specs.Limits.{maxLevels}
+use lib.ListN.{length, drop, length-append}
+use lib.Seq.{drop-drop}
 use Rattle.octets.specs.Octets.{cut}
-use Rattle.bencode.specs.Grammar.{letterE, Value, integer, string, list, dictionary, Entries, noEntries, entry, encodeString, encode, encodeEntries, KeyBefore, none, after, Valid, EntriesValid}
+use Rattle.limits.specs.Limits.{maxLevels}
+use Rattle.bencode.specs.Grammar.{colon, letterD, letterE, Value, integer, string, list, dictionary, Entries, noEntries, entry, decimalIn, encodeString, encode, encodeEntries, KeyBefore, none, after as afterKey, Valid, EntriesValid}
 use Rattle.bencode.specs.Parts.{isDictionary, present, lookup}
-use Rattle.bencode.specs.CompleteLaws.{contentStart, string-some}
+use Rattle.bencode.specs.CompleteLaws.{contentStart, string-some, dictionary-bytes}
 use Rattle.bencode.specs.DepthLaws.{more-levels}
-use Rattle.bencode.specs.PartsLaws.{valueStart, content-is, dictionary-is, isDictionaryValue}
-use Rattle.files.specs.File.{fileAt}
-use Rattle.files.specs.Walk.{maxElements, endsHere, tokenAt, nodeToken, fileToken, setElement}
-use Rattle.files.specs.WalkLaws.{element-length}
-use Rattle.files.specs.declared.file.File.{File as FileFound}
-use Rattle.files.specs.declared.file.File.the-variants.{Right, WrongFile}
-use Rattle.files.specs.declared.walk.Token.the-variants.{Opened, Closed, Leaf, BadToken}
-use Rattle.listing.specs.Listing.{Listed, Files, ends, more, right, listed, noPath, filesIn}
-use Rattle.listing.specs.ListingLaws.{fileOf}
-use Rattle.meaning.specs.Torrent.{File, entriesOf, numberOf, rootString, fileRight, noMore, nodeRight, branchRight, nodesRight, elementRight, treeRight, filesOfNode, filesOfEntries, fileValue}
-use Rattle.joined.specs.Reading.{element, elementsOf, rootRead, readFile, readFiles}
+use Rattle.bencode.specs.PartsLaws.{valueStart, content-is, dictionary-is, isDictionaryValue, entries-length, entries-some}
+use Rattle.filetree.specs.File.{fileAt}
+use Rattle.filetree.specs.Token.{endsHere, nodeToken, fileToken, tokenAt}
+use Rattle.filetree.specs.Tree.{maxElements, Element, Listed, Files, wrong, files, down, listedAs, after, onward, onToken, filesFrom, filesBelow, filesIn, right, listed}
+use Rattle.filetree.specs.declared.file.File.{File as FileFound}
+use Rattle.filetree.specs.declared.file.File.the-variants.{Right, WrongFile}
+use Rattle.filetree.specs.declared.token.Token.{Token}
+use Rattle.filetree.specs.declared.token.Token.the-variants.{Opened, Closed, Leaf, BadToken}
+use Rattle.meaning.specs.Torrent.{File, entriesOf, fileRight, elementRight, noMore, nodeRight, branchRight, nodesRight, treeRight, filesOfNode, filesOfEntries, fileValue}
+use Rattle.joined.specs.Reading.{element, elements, rootRead, readFile, readFiles}
 use Rattle.joined.specs.FileLaws.{FileAgrees, file-is}
-use Rattle.joined.specs.TokenLaws.{after-bytes, entries-there, entry-bytes, ends-is, token-end, token-empty, token-node, node-other, node-empty, node-opened, node-file, file-wrong, file-right}
-use Rattle.listing.specs.FlatLaws.{tokensFrom, tokens-step, tokens-bad, files-by-tokens}
+use Rattle.joined.specs.TokenLaws.{after-bytes, entries-there, entry-bytes, ends-is, token-end, key-token, node-other, node-empty, node-opened, node-file, file-wrong, file-right}
 
--- ---- the path
+-- ---- files and paths as they are read
 
--- a new element leaves those before it
-set-keeps : (path : List ℕ) (d a b i : ℕ) → i < 2 * d → getD (setElement path d a b) i 0 ≡ getD path i 0
-set-keeps path d a b i h = getD-set-other (set path (2 * d) a) (2 * d + 1) i b 0 (λ e. omega arith) ∙ getD-set-other path (2 * d) i a 0 (λ e. omega arith)
+read-append : (t : List ℕ) (fs gs : List Listed) → readFiles t (fs ++ gs) ≡ readFiles t fs ++ readFiles t gs
+read-append t [] gs = refl
+read-append t (f ∷ fs) gs = ap (λ (l : List File). readFile t f ∷ l) (read-append t fs gs)
 
--- the elements are by the first numbers of the path alone
-elements-kept : (s p q : List ℕ) (d : ℕ) → ((i : ℕ) → i < 2 * d → getD p i 0 ≡ getD q i 0) → elementsOf s p d ≡ elementsOf s q d
-unfolding elementsOf
-elements-kept s p q zero h = refl
-elements-kept s p q (suc d) h =
-    let x : getD p (2 * d) 0 ≡ getD q (2 * d) 0 = h (2 * d) (omega arith) in
-    let y : getD p (2 * d + 1) 0 ≡ getD q (2 * d + 1) 0 = h (2 * d + 1) (omega arith) in
-    let z = elements-kept s p q d (λ i g. h i (omega arith)) in
-    rw (x, y, z) refl
+-- one element more
+elements-down : (t : List ℕ) (path : List Element) (a b : ℕ) (k : List ℕ) → cut t a (b - a) ≡ k → elements t (down path a b) ≡ elements t path ++ (k ∷ [])
+elements-down t [] a b k e = ap (λ (x : List ℕ). x ∷ []) e
+elements-down t (x ∷ path) a b k e = ap (λ (l : List (List ℕ)). element t x ∷ l) (elements-down t path a b k e)
 
--- a new element stands behind those before it
-elements-set : (s path : List ℕ) (d a b : ℕ) (k : List ℕ) → 2 * d + 1 < length path → cut s a (b - a) ≡ k → elementsOf s (setElement path d a b) (d + 1) ≡ elementsOf s path d ++ (k ∷ [])
-elements-set s path d a b k h e =
-    let o : d + 1 ≡ suc d = omega arith in
-    rw o (up ∙ rw (x, y, e) (ap (λ (l : List (List ℕ)). l ++ (k ∷ [])) (elements-kept s (setElement path d a b) path d (set-keeps path d a b))))
-  where
-    up : elementsOf s (setElement path d a b) (suc d) ≡ elementsOf s (setElement path d a b) d ++ (element s (setElement path d a b) d ∷ [])
-    up = unfold elementsOf in refl
+-- ---- what a walk gives
 
-    x : getD (setElement path d a b) (2 * d) 0 ≡ a
-    x = getD-set-other (set path (2 * d) a) (2 * d + 1) (2 * d) b 0 (λ q. omega arith) ∙ getD-set-same path (2 * d) a 0 (omega arith)
+-- all entries of a directory: the files vs, and the position past them
+abbrev Gives : Bool → List ℕ → Files → ℕ → List File → Type 0
+Gives false t w end vs = w ≡ wrong
+Gives true t w end vs = (fs : List Listed) × (w ≡ files fs end) × (readFiles t fs ≡ vs)
 
-    y : getD (setElement path d a b) (2 * d + 1) 0 ≡ b
-    y = getD-set-same (set path (2 * d) a) (2 * d + 1) b 0 (omega (arith, length-set path (2 * d) a))
+-- one node: the files vs, and then what `go` has from behind it
+abbrev NodeGives : Bool → List ℕ → Files → (ℕ → Files) → ℕ → List File → Type 0
+NodeGives false t w go end vs = w ≡ wrong
+NodeGives true t w go end vs = (fs : List Listed) × (w ≡ after fs (go end)) × (readFiles t fs ≡ vs)
 
--- ---- files before others
-
--- files, and then those of a walk
-abbrev prepend : List Listed → Files → Files
-prepend [] w = w
-prepend (f ∷ fs) w = more f (prepend fs w)
-
--- files before the others leave it right or wrong
-prepend-right : (fs : List Listed) (w : Files) → right (prepend fs w) ≡ right w
-unfolding right
-prepend-right [] w = refl
-prepend-right (f ∷ fs) w = prepend-right fs w
-
--- they are listed first
-prepend-listed : (fs : List Listed) (w : Files) → listed (prepend fs w) ≡ fs ++ listed w
-unfolding listed
-prepend-listed [] w = refl
-prepend-listed (f ∷ fs) w = ap (λ (l : List Listed). f ∷ l) (prepend-listed fs w)
-
--- one part after another
-prepend-append : (fs gs : List Listed) (w : Files) → prepend (fs ++ gs) w ≡ prepend fs (prepend gs w)
-prepend-append [] gs w = refl
-prepend-append (f ∷ fs) gs w = ap (more f) (prepend-append fs gs w)
-
--- files are read one by one
-read-append : (s : List ℕ) (fs gs : List Listed) → readFiles s (fs ++ gs) ≡ readFiles s fs ++ readFiles s gs
-read-append s [] gs = refl
-read-append s (f ∷ fs) gs = ap (λ (l : List File). readFile s f ∷ l) (read-append s fs gs)
-
--- ---- how far the walk comes
-
--- from `at` it goes over the files fs, and on from where the bytes t stand, with as many directories open and the same path to them
-record Onward (s : List ℕ) (m at d : ℕ) (path t : List ℕ) (fs : List File) : Type 0 where
-  pub steps : ℕ
-  pub end : ℕ
-  pub kept : List ℕ
-  pub found : List Listed
-  pub enough : length s < end + steps
-  pub here : drop end s ≡ t
-  pub sized : length kept ≡ 56
-  pub keeps : (i : ℕ) → i < 2 * d → getD kept i 0 ≡ getD path i 0
-  pub goes-on : tokensFrom m s at d path ≡ prepend found (tokensFrom steps s end d kept)
-  pub read : readFiles s found ≡ fs
-
--- if what stands there is right; else the tree is wrong
-abbrev Outcome : Bool → List ℕ → ℕ → ℕ → ℕ → List ℕ → List ℕ → List File → Type 0
-Outcome true s m at d path t fs = Onward s m at d path t fs
-Outcome false s m at d path t fs = right (tokensFrom m s at d path) ≡ false
-
--- one thing after another
-both : (a b : Bool) (s : List ℕ) (m at d : ℕ) (path t u : List ℕ) (fs gs : List File) → Outcome a s m at d path t fs
-    → ((x : Onward s m at d path t fs) → Outcome b s (x .steps) (x .end) d (x .kept) u gs) → Outcome (a && b) s m at d path u (fs ++ gs)
-both false b s m at d path t u fs gs w g = w
-both true false s m at d path t u fs gs w g = ap right (w .goes-on) ∙ prepend-right (w .found) (tokensFrom (w .steps) s (w .end) d (w .kept)) ∙ g w
-both true true s m at d path t u fs gs w g =
-    let x = g w in
-    record {
-      steps = x .steps;
-      end = x .end;
-      kept = x .kept;
-      found = w .found ++ x .found;
-      enough = x .enough;
-      here = x .here;
-      sized = x .sized;
-      keeps = λ i h. x .keeps i h ∙ w .keeps i h;
-      goes-on = w .goes-on ∙ ap (prepend (w .found)) (x .goes-on) ∙ sym (prepend-append (w .found) (x .found) (tokensFrom (x .steps) s (x .end) d (x .kept)));
-      read = read-append s (w .found) (x .found) ∙ ap (λ (l : List File). l ++ readFiles s (x .found)) (w .read) ∙ ap (λ (l : List File). fs ++ l) (x .read);
-    }
-
--- a walk that ends wrong is wrong
-right-ends : (w : Files) → w ≡ ends false → right w ≡ false
-unfolding right
-right-ends w e = ap right e
+-- a node, and the entries behind it
+both : (a b : Bool) (t : List ℕ) (w : Files) (go : ℕ → Files) (mid end : ℕ) (vs us : List File) → NodeGives a t w go mid vs → Gives b t (go mid) end us → Gives (a && b) t w end (vs ++ us)
+both false b t w go mid end vs us n g = n
+both true false t w go mid end vs us n g = n .1 ∙ ap (after (n .0)) g
+both true true t w go mid end vs us n g =
+    (n .0 ++ g .0, n .1 ∙ ap (after (n .0)) (g .1), read-append t (n .0) (g .0) ∙ ap₂ _++_ (n .2) (g .2))
 
 -- ---- what a level of nesting is needed for
 
--- a right file is a dictionary, and takes a level
-file-level : (w : Value) (l : ℕ) → Valid w l → fileRight w ≡ true → 0 < l
+-- without a level nothing is a dictionary
+file-level : (w : Value) → Valid w 0 → fileRight w ≡ false
 unfolding Valid fileRight
-file-level (dictionary es) zero h e = absurd h
-file-level (dictionary es) (suc l) h e = omega arith
-file-level (integer minus n) l h e = absurd (false≢true e)
-file-level (string b) l h e = absurd (false≢true e)
-file-level (list vs) l h e = absurd (false≢true e)
+file-level (dictionary es) h = absurd h
+file-level (integer minus n) h = refl
+file-level (string b) h = refl
+file-level (list vs) h = refl
 
--- without a level no node is right
 node-level : (w : Value) → Valid w 0 → nodeRight w ≡ false
 unfolding Valid nodeRight
 node-level (dictionary es) h = absurd h
@@ -156,257 +74,283 @@ node-level (integer minus n) h = refl
 node-level (string b) h = refl
 node-level (list vs) h = refl
 
--- ---- a node, whose key is not empty
+-- with one level no node is right: it takes one, and the file's dictionary another
+branch-level : (es : Entries) (j : KeyBefore) → EntriesValid es j 0 → branchRight es ≡ false
+unfolding branchRight Valid
+branch-level noEntries j h = refl
+branch-level (entry [] w es) j h = rw (file-level w (h .1)) (and-false (noMore es))
+branch-level (entry (c ∷ cs) w es) j h = rw (node-level w (h .1)) (and-false (elementRight (c ∷ cs)))
 
--- the node v with the key k stands at `at`, and behind it the bytes t
-record NodeAt (s : List ℕ) (at : ℕ) (k : List ℕ) (v : Value) (t : List ℕ) : Type 0 where
-  pub token : tokenAt s at ≡ nodeToken s (contentStart at k) (valueStart at k)
-  pub value : drop (valueStart at k) s ≡ encode v ++ t
-  pub key : cut s (contentStart at k) (valueStart at k - contentStart at k) ≡ k
-  pub inside : at < length s
-  pub behind : at < valueStart at k
+node-shallow : (v : Value) → Valid v 1 → nodeRight v ≡ false
+unfolding nodeRight Valid
+node-shallow (dictionary es) h = branch-level es none h
+node-shallow (integer minus n) h = refl
+node-shallow (string b) h = refl
+node-shallow (list vs) h = refl
 
--- so it is where its bytes stand
-node-at : (s : List ℕ) (at c : ℕ) (cs : List ℕ) (v : Value) (t : List ℕ) → drop at s ≡ encodeString (c ∷ cs) ++ (encode v ++ t) → NodeAt s at (c ∷ cs) v t
-node-at s at c cs v t e =
+-- so no directory is
+nodes-shallow : (k : List ℕ) (v : Value) (es : Entries) (j : KeyBefore) → EntriesValid (entry k v es) j 1 → nodesRight (entry k v es) ≡ false
+unfolding nodesRight Valid
+nodes-shallow k v es j h = rw (node-shallow v (h .1)) (and-false (elementRight k))
+
+-- ---- one node
+
+-- its bytes: its key at `at`, and q behind it
+record NodeAt (t : List ℕ) (at : ℕ) (k : List ℕ) (v : Value) (q : List ℕ) : Type 0 where
+  pub token : tokenAt t at ≡ nodeToken t (contentStart at k) (valueStart at k)
+  pub value : drop (valueStart at k) t ≡ encode v ++ q
+  pub key : cut t (contentStart at k) (valueStart at k - contentStart at k) ≡ k
+
+node-at : (t : List ℕ) (at : ℕ) (k : List ℕ) (v : Value) (q : List ℕ) → elementRight k ≡ true → drop at t ≡ encodeString k ++ (encode v ++ q) → NodeAt t at k v q
+node-at t at k v q r e =
     record {
-      token = token-node s at c cs (encode v ++ t) e;
-      value = after-bytes s at (encodeString (c ∷ cs)) (encode v ++ t) e;
-      key = content-is s (c ∷ cs) (encode v ++ t) at e;
-      inside = omega (arith, length-drop at s, ap length e, length-append (encodeString (c ∷ cs)) (encode v ++ t), string-some (c ∷ cs));
-      behind = omega (arith, string-some (c ∷ cs));
+      token = key-token t at k (encode v ++ q) e ∙ rw r refl;
+      value = after-bytes t at (encodeString k) (encode v ++ q) e;
+      key = content-is t k (encode v ++ q) at e;
     }
 
--- at a wrong token the tree is wrong
-bad-walk : (s : List ℕ) (m at d : ℕ) (path : List ℕ) → tokenAt s at ≡ BadToken → right (tokensFrom m s at d path) ≡ false
-bad-walk s m at d path e = right-ends (tokensFrom m s at d path) (tokens-bad m s at d path e)
+-- the empty key has two bytes
+empty-key : length (encodeString []) ≡ 2
+unfolding decimalIn
+empty-key = refl
 
--- a node that is no dictionary
-other-walk : (s : List ℕ) (k : List ℕ) (v : Value) (t : List ℕ) (m at d : ℕ) (path : List ℕ) → NodeAt s at k v t → isDictionaryValue v ≡ false → right (tokensFrom m s at d path) ≡ false
-other-walk s k v t m at d path n q =
-    bad-walk s m at d path
-    (n .token ∙ node-other s (contentStart at k) (valueStart at k) t (ap isDictionary (n .value) ∙ dictionary-is v t ∙ q))
+module _ (t : List ℕ) (sub : ℕ → List Element → Files) (go : ℕ → Files) (at : ℕ) (path : List Element) (k q : List ℕ) where
+  -- what stands at `at`, and where
+  abbrev here : Files
+  here = onToken sub go at path (tokenAt t at)
 
--- where a dictionary's end is, behind it
-past-end : (s : List ℕ) (at : ℕ) (t : List ℕ) → drop at s ≡ encodeEntries noEntries ++ t → drop (at + 1) s ≡ t
-unfolding encode
-past-end s at t e = after-bytes s at (letterE ∷ []) t e
+  abbrev a : ℕ
+  a = contentStart at k
 
--- an end is a byte
-end-inside : (s : List ℕ) (at : ℕ) (t : List ℕ) → drop at s ≡ encodeEntries noEntries ++ t → at < length s
-unfolding encode
-end-inside s at t e = omega (arith, length-drop at s, ap length e)
+  abbrev b : ℕ
+  b = valueStart at k
 
--- a file that is right, alone in its node
-leaf-walk : (s k : List ℕ) (t : List ℕ) (m at d a b n r x : ℕ) (path : List ℕ) (es : Entries) → tokenAt s at ≡ Leaf a b n r x → drop x s ≡ t → at < x → at < length s
-    → cut s a (b - a) ≡ k → n ≡ numberOf (lookup keyLength es) → rootRead s n r ≡ rootString (lookup keyPiecesRoot es) → d < 28 → length path ≡ 56 → length s < at + m
-    → Onward s m at d path t (fileValue (elementsOf s path d ++ (k ∷ [])) es ∷ [])
-leaf-walk s k t zero at d a b n r x path es token here behind inside key size root shallow sized enough = absurd (omega arith)
-leaf-walk s k t (suc m) at d a b n r x path es token here behind inside key size root shallow sized enough =
-    record {
-      steps = m;
-      end = x;
-      kept = setElement path d a b;
-      found = fileOf n r d (setElement path d a b) ∷ [];
-      enough = omega arith;
-      here = here;
-      sized = element-length path d a b ∙ sized;
-      keeps = set-keeps path d a b;
-      goes-on = tokens-step m s at d path (Leaf a b n r x) token ∙ rw (lt-ltb d maxElements shallow) refl;
-      read = ap (λ (f : File). f ∷ []) is-read;
-    }
-  where
-    is-read : readFile s (fileOf n r d (setElement path d a b)) ≡ fileValue (elementsOf s path d ++ (k ∷ [])) es
-    is-read = unfold readFile in rw (root, size, elements-set s path d a b k (omega arith) key) refl
+  -- the files below it
+  abbrev inside : List (List ℕ)
+  inside = elements t path ++ (k ∷ [])
 
--- a node whose first key is empty: a file
-file-walk : (w : Value) (es : Entries) (s k t : List ℕ) (l m at d : ℕ) (path : List ℕ) → NodeAt s at k (dictionary (entry [] w es)) t → Valid w l → d + suc l ≡ 29 → length path ≡ 56
-    → length s < at + m → Outcome (noMore es && fileRight w) s m at d path t (fileValue (elementsOf s path d ++ (k ∷ [])) (entriesOf (present w)) ∷ [])
-file-walk w es s k t l m at d path n h depth sized enough = by-file (fileAt s y) refl (file-is s y w (encodeEntries es ++ t) there valid)
-  where
-    a : ℕ
-    a = contentStart at k
+  bad : tokenAt t at ≡ BadToken → here ≡ wrong
+  bad e = ap (onToken sub go at path) e
 
-    b : ℕ
-    b = valueStart at k
+  -- a node that is no dictionary
+  other-gives : (v : Value) → NodeAt t at k v q → isDictionaryValue v ≡ false → here ≡ wrong
+  other-gives v n e = bad (n .token ∙ node-other t a b q (ap isDictionary (n .value) ∙ dictionary-is v q ∙ e))
 
-    y : ℕ
-    y = valueStart (b + 1) []
+  -- a node whose first key is empty: a file
+  file-gives : (w : Value) (es : Entries) → NodeAt t at k (dictionary (entry [] w es)) q → Valid w maxLevels
+      → NodeGives (noMore es && fileRight w) t here go (b + length (encode (dictionary (entry [] w es)))) (fileValue inside (entriesOf (present w)) ∷ [])
+  file-gives w es n valid = by-file (fileAt t y) refl (file-is t y w (encodeEntries es ++ q) there valid)
+    where
+      y : ℕ
+      y = valueStart (b + 1) []
 
-    first : drop (b + 1) s ≡ encodeString [] ++ (encode w ++ (encodeEntries es ++ t))
-    first = entries-there s b (entry [] w es) t (n .value) ∙ entry-bytes [] w es t
+      first : drop (b + 1) t ≡ encodeString [] ++ (encode w ++ (encodeEntries es ++ q))
+      first = entries-there t b (entry [] w es) q (n .value) ∙ entry-bytes [] w es q
 
-    there : drop y s ≡ encode w ++ (encodeEntries es ++ t)
-    there = after-bytes s (b + 1) (encodeString []) (encode w ++ (encodeEntries es ++ t)) first
+      there : drop y t ≡ encode w ++ (encodeEntries es ++ q)
+      there = after-bytes t (b + 1) (encodeString []) (encode w ++ (encodeEntries es ++ q)) first
 
-    valid : Valid w maxLevels
-    valid = more-levels w l maxLevels (omega arith) h
+      token : tokenAt t at ≡ fileToken t a b y
+      token = n .token ∙ node-file t a b q w es (n .value)
 
-    token : tokenAt s at ≡ fileToken s a b y
-    token = n .token ∙ node-file s a b t w es (n .value)
+      -- behind the file's own end
+      past : y + length (encode w) + 1 ≡ b + length (encode (dictionary (entry [] w noEntries)))
+      past = unfold encode in omega (arith, empty-key, length-append (encodeString []) (encode w ++ encodeEntries noEntries), length-append (encode w) (encodeEntries noEntries))
 
-    by-more : (es′ : Entries) → es ≡ es′ → (size r : ℕ) → fileAt s y ≡ Right size r → FileAgrees s (fileRight w) (entriesOf (present w)) (Right size r)
-        → Outcome (noMore es′ && true) s m at d path t (fileValue (elementsOf s path d ++ (k ∷ [])) (entriesOf (present w)) ∷ [])
-    by-more (entry x u us) q size r f g = bad-walk s m at d path (token ∙ file-right s a b y size r w es t f there valid ∙ rw q refl)
-    by-more noEntries q size r f g =
-        let end = y + length (encode w) in
-        let here : drop end s ≡ encodeEntries noEntries ++ t = after-bytes s y (encode w) (encodeEntries es ++ t) there ∙ ap (λ (z : Entries). encodeEntries z ++ t) q in
-        let level = file-level w l h (g .0) in
-        let behind = n .behind in
-        leaf-walk s k t m at d a b size r (end + 1) path (entriesOf (present w)) (token ∙ file-right s a b y size r w es t f there valid ∙ rw q refl) (past-end s end t here) (omega arith) (n .inside) (n .key) (g .1) (g .2)
-        (omega arith) sized enough
+      by-more : (us : Entries) → es ≡ us → (size r : ℕ) → fileAt t y ≡ Right size r → FileAgrees t (fileRight w) (entriesOf (present w)) (Right size r)
+          → NodeGives (noMore us && true) t here go (b + length (encode (dictionary (entry [] w us)))) (fileValue inside (entriesOf (present w)) ∷ [])
+      by-more (entry x u us) e size r f g = bad (token ∙ file-right t a b y size r w es q f there valid ∙ rw e refl)
+      by-more noEntries e size r f g =
+          let leaf : tokenAt t at ≡ Leaf a b size r (y + length (encode w) + 1) = token ∙ file-right t a b y size r w es q f there valid ∙ rw e refl in (
+            listedAs size r (down path a b) ∷ [],
+            ap (onToken sub go at path) leaf ∙ ap (λ (z : ℕ). after (listedAs size r (down path a b) ∷ []) (go z)) past,
+            ap (λ (z : File). z ∷ []) (is-read size r g),
+          )
+        where
+          is-read : (size r : ℕ) → FileAgrees t (fileRight w) (entriesOf (present w)) (Right size r) → readFile t (listedAs size r (down path a b)) ≡ fileValue inside (entriesOf (present w))
+          is-read size r g = unfold readFile in rw (g .2, g .1, elements-down t path a b k (n .key)) refl
 
-    by-file : (f : FileFound) → fileAt s y ≡ f → FileAgrees s (fileRight w) (entriesOf (present w)) f
-        → Outcome (noMore es && fileRight w) s m at d path t (fileValue (elementsOf s path d ++ (k ∷ [])) (entriesOf (present w)) ∷ [])
-    by-file WrongFile f g = rw (g, and-false (noMore es)) (bad-walk s m at d path (token ∙ file-wrong s a b y f))
-    by-file (Right size r) f g = rw (g .0) (by-more es refl size r f g)
+      by-file : (f : FileFound) → fileAt t y ≡ f → FileAgrees t (fileRight w) (entriesOf (present w)) f
+          → NodeGives (noMore es && fileRight w) t here go (b + length (encode (dictionary (entry [] w es)))) (fileValue inside (entriesOf (present w)) ∷ [])
+      by-file WrongFile f g = rw (g, and-false (noMore es)) (bad (token ∙ file-wrong t a b y f))
+      by-file (Right size r) f g = rw (g .0) (by-more es refl size r f g)
 
--- into a directory, and out of it at its end
-open-walk : (o : Bool) (s t : List ℕ) (m at d a b : ℕ) (path : List ℕ) (fs : List File) → tokenAt s at ≡ Opened a b → d < 28
-    → Outcome o s m (b + 1) (d + 1) (setElement path d a b) (encodeEntries noEntries ++ t) fs → Outcome o s (suc m) at d path t fs
-open-walk false s t m at d a b path fs token shallow w = ap right (tokens-step m s at d path (Opened a b) token ∙ rw (lt-ltb d maxElements shallow) refl) ∙ w
-open-walk true s t m at d a b path fs token shallow w = by-steps (w .steps) refl
-  where
-    into : tokensFrom (suc m) s at d path ≡ tokensFrom m s (b + 1) (d + 1) (setElement path d a b)
-    into = tokens-step m s at d path (Opened a b) token ∙ rw (lt-ltb d maxElements shallow) refl
+  -- a node that is a directory, by what is inside
+  open-gives : (o : Bool) (c : ℕ) (cs : List ℕ) (w : Value) (es : Entries) (vs : List File) → NodeAt t at k (dictionary (entry (c ∷ cs) w es)) q
+      → Gives o t (sub (b + 1) (down path a b)) (b + 1 + length (encodeEntries (entry (c ∷ cs) w es))) vs
+      → NodeGives o t here go (b + length (encode (dictionary (entry (c ∷ cs) w es)))) vs
+  open-gives false c cs w es vs n g = ap (onToken sub go at path) (n .token ∙ node-opened t a b q c cs w es (n .value)) ∙ ap (λ (z : Files). onward z go) g
+  open-gives true c cs w es vs n g =
+      let opens : here ≡ onward (sub (b + 1) (down path a b)) go = ap (onToken sub go at path) (n .token ∙ node-opened t a b q c cs w es (n .value)) in
+      let end : b + 1 + length (encodeEntries (entry (c ∷ cs) w es)) ≡ b + length (encode (dictionary (entry (c ∷ cs) w es))) = omega (arith, ap length (dictionary-bytes (entry (c ∷ cs) w es))) in
+      (g .0, opens ∙ ap (λ (z : Files). onward z go) (g .1) ∙ ap (λ (z : ℕ). after (g .0) (go z)) end, g .2)
 
-    by-steps : (n : ℕ) → w .steps ≡ n → Onward s (suc m) at d path t fs
-    by-steps zero e = absurd (omega (arith, end-inside s (w .end) t (w .here), w .enough))
-    by-steps (suc n) e =
-        let o : d + 1 - 1 ≡ d = omega arith in
-        let out : tokensFrom (suc n) s (w .end) (d + 1) (w .kept) ≡ tokensFrom n s (w .end + 1) d (w .kept) =
-        tokens-step n s (w .end) (d + 1) (w .kept) Closed (token-end s (w .end) t (w .here)) ∙ rw (ne-eqb (d + 1) 0 (λ z. omega arith), o) refl in
-        record {
-          steps = n;
-          end = w .end + 1;
-          kept = w .kept;
-          found = w .found;
-          enough = omega (arith, w .enough);
-          here = past-end s (w .end) t (w .here);
-          sized = w .sized;
-          keeps = λ i h. w .keeps i (omega arith) ∙ set-keeps path d a b i h;
-          goes-on = into ∙ w .goes-on ∙ ap (λ (z : ℕ). prepend (w .found) (tokensFrom z s (w .end) (d + 1) (w .kept))) e ∙ ap (prepend (w .found)) out;
-          read = w .read;
-        }
+-- ---- all entries of a directory, in levels and entries
 
--- the walk over the entries es of a directory
+-- the entries es of the directory `path` give what their value says, with a level below them or more
 abbrev Walks : List ℕ → Entries → Type 0
-Walks s es = (l : ℕ) (r : List ℕ) (j : KeyBefore) (m at d : ℕ) (path : List ℕ) → drop at s ≡ encodeEntries es ++ r → EntriesValid es j l → d + l ≡ 29 → length path ≡ 56
-    → length s < at + m → Outcome (nodesRight es) s m at d path (encodeEntries noEntries ++ r) (filesOfEntries (elementsOf s path d) es)
+Walks t es = (l at steps : ℕ) (r : List ℕ) (j : KeyBefore) (path : List Element) → drop at t ≡ encodeEntries es ++ r → EntriesValid es j (suc (suc l)) → suc (suc l) ≤ maxLevels
+    → length (encodeEntries es) ≤ steps
+    → Gives (nodesRight es) t (filesFrom (filesBelow l t) steps t at path) (at + length (encodeEntries es)) (filesOfEntries (elements t path) es)
 
--- a node that is a directory
-directory-walk : (c : ℕ) (cs : List ℕ) (w : Value) (es : Entries) (s k t : List ℕ) (l m at d : ℕ) (path : List ℕ) → Walks s (entry (c ∷ cs) w es) → NodeAt s at k (dictionary (entry (c ∷ cs) w es)) t
-    → EntriesValid (entry (c ∷ cs) w es) none l → d + suc l ≡ 29 → length path ≡ 56 → length s < at + m
-    → Outcome (nodesRight (entry (c ∷ cs) w es)) s m at d path t (filesOfEntries (elementsOf s path d ++ (k ∷ [])) (entry (c ∷ cs) w es))
-directory-walk c cs w es s k t l zero at d path walks n h depth sized enough = absurd (omega (arith, n .inside))
-directory-walk c cs w es s k t l (suc m) at d path walks n h depth sized enough = by-depth l refl
+-- more steps than bytes are enough
+steps-enough : (t : List ℕ) (at : ℕ) (es : Entries) (r : List ℕ) → drop at t ≡ encodeEntries es ++ r → length (encodeEntries es) ≤ suc (length t)
+steps-enough t at es r e = omega (arith, ap length e, length-append (encodeEntries es) r, drop-shorter t at)
   where
-    a : ℕ
-    a = contentStart at k
+    drop-shorter : (t : List ℕ) (n : ℕ) → length (drop n t) ≤ length t
+    drop-shorter [] zero = omega arith
+    drop-shorter [] (suc n) = omega arith
+    drop-shorter (x ∷ t) zero = omega arith
+    drop-shorter (x ∷ t) (suc n) = omega (arith, drop-shorter t n)
 
-    b : ℕ
-    b = valueStart at k
-
-    token : tokenAt s at ≡ Opened a b
-    token = n .token ∙ node-opened s a b t c cs w es (n .value)
-
-    too-deep : EntriesValid (entry (c ∷ cs) w es) none 0 → nodesRight (entry (c ∷ cs) w es) ≡ false
-    too-deep g = unfold Valid nodesRight elementRight in rw (node-level w (g .1)) refl
-
-    by-depth : (i : ℕ) → l ≡ i → Outcome (nodesRight (entry (c ∷ cs) w es)) s (suc m) at d path t (filesOfEntries (elementsOf s path d ++ (k ∷ [])) (entry (c ∷ cs) w es))
-    by-depth zero q =
-        rw (too-deep (rw q at h))
-        (right-ends (tokensFrom (suc m) s at d path) (tokens-step m s at d path (Opened a b) token ∙ rw (le-ltb d maxElements (omega arith)) refl))
-    by-depth (suc i) q =
-        let behind = n .behind in
-        let names = elements-set s path d a b k (omega arith) (n .key) in
-        open-walk (nodesRight (entry (c ∷ cs) w es)) s t m at d a b path (filesOfEntries (elementsOf s path d ++ (k ∷ [])) (entry (c ∷ cs) w es)) token (omega arith)
-        (rw names at (walks l t none m (b + 1) (d + 1) (setElement path d a b) (entries-there s b (entry (c ∷ cs) w es) t (n .value)) h (omega arith) (element-length path d a b ∙ sized) (omega arith)))
+-- a directory inside: too deep, or its entries
+inside-gives : (t : List ℕ) (l at : ℕ) (path : List Element) (c : ℕ) (cs : List ℕ) (w : Value) (es : Entries) (r : List ℕ) → Walks t (entry (c ∷ cs) w es)
+    → drop at t ≡ encodeEntries (entry (c ∷ cs) w es) ++ r → EntriesValid (entry (c ∷ cs) w es) none (suc l) → suc l ≤ maxLevels
+    → Gives (nodesRight (entry (c ∷ cs) w es)) t (filesBelow l t at path) (at + length (encodeEntries (entry (c ∷ cs) w es))) (filesOfEntries (elements t path) (entry (c ∷ cs) w es))
+unfolding filesBelow
+inside-gives t zero at path c cs w es r walks e h m = rw (nodes-shallow (c ∷ cs) w es none h) refl
+inside-gives t (suc l) at path c cs w es r walks e h m = walks l at (suc (length t)) r none path e h m (steps-enough t at (entry (c ∷ cs) w es) r e)
 
 -- a node that is a dictionary, by its first key
-branch-walk : (es : Entries) (s k t : List ℕ) (l m at d : ℕ) (path : List ℕ) → Walks s es → NodeAt s at k (dictionary es) t → EntriesValid es none l → d + suc l ≡ 29 → length path ≡ 56
-    → length s < at + m → Outcome (branchRight es) s m at d path t (filesOfEntries (elementsOf s path d ++ (k ∷ [])) es)
-unfolding branchRight nodesRight elementRight filesOfEntries Valid
-branch-walk noEntries s k t l m at d path walks n h depth sized enough =
-    bad-walk s m at d path (n .token ∙ node-empty s (contentStart at k) (valueStart at k) t (n .value))
-branch-walk (entry [] w es) s k t l m at d path walks n h depth sized enough = file-walk w es s k t l m at d path n (h .1) depth sized enough
-branch-walk (entry (c ∷ cs) w es) s k t l m at d path walks n h depth sized enough = directory-walk c cs w es s k t l m at d path walks n h depth sized enough
+branch-gives : (es : Entries) (t : List ℕ) → Walks t es → (l at : ℕ) (k q : List ℕ) (path : List Element) (go : ℕ → Files) → NodeAt t at k (dictionary es) q → EntriesValid es none (suc l)
+    → suc l ≤ maxLevels
+    → NodeGives (branchRight es) t (onToken (filesBelow l t) go at path (tokenAt t at)) go (valueStart at k + length (encode (dictionary es))) (filesOfEntries (elements t path ++ (k ∷ [])) es)
+unfolding branchRight nodesRight filesOfEntries Valid
+branch-gives noEntries t walks l at k q path go n h m = bad t (filesBelow l t) go at path k q (n .token ∙ node-empty t (contentStart at k) (valueStart at k) q (n .value))
+branch-gives (entry [] w es) t walks l at k q path go n h m = file-gives t (filesBelow l t) go at path k q w es n (more-levels w (suc l) maxLevels m (h .1))
+branch-gives (entry (c ∷ cs) w es) t walks l at k q path go n h m =
+    let b = valueStart at k in
+    let below = inside-gives t l (b + 1) (down path (contentStart at k) b) c cs w es q walks (entries-there t b (entry (c ∷ cs) w es) q (n .value)) h m in
+    open-gives t (filesBelow l t) go at path k q (nodesRight (entry (c ∷ cs) w es)) c cs w es (filesOfEntries (elements t path ++ (k ∷ [])) (entry (c ∷ cs) w es)) n
+    (rw (elements-down t path (contentStart at k) b k (n .key)) at below)
 
--- ---- all entries of a directory
+-- one step of the walk
+from-step : (sub : ℕ → List Element → Files) (steps : ℕ) (t : List ℕ) (at : ℕ) (path : List Element)
+    → filesFrom sub (suc steps) t at path ≡ onToken sub (λ k. filesFrom sub steps t k path) at path (tokenAt t at)
+unfolding filesFrom
+from-step sub steps t at path = refl
 
--- none
-none-walk : (s : List ℕ) → Walks s noEntries
-unfolding nodesRight filesOfEntries
-none-walk s l r j m at d path e h depth sized enough =
-    record { steps = m; end = at; kept = path; found = []; enough = enough; here = e; sized = sized; keeps = λ i g. refl; goes-on = refl; read = refl }
+-- an end
+none-gives : (t : List ℕ) → Walks t noEntries
+unfolding nodesRight filesOfEntries encode
+none-gives t l at zero r j path e h m g = absurd (omega arith)
+none-gives t l at (suc steps) r j path e h m g =
+    ([], from-step (filesBelow l t) steps t at path ∙ ap (onToken (filesBelow l t) (λ k. filesFrom (filesBelow l t) steps t k path) at path) (token-end t at r e), refl)
+
+-- a key that is no path element
+key-wrong : (sub : ℕ → List Element → Files) (go : ℕ → Files) (t : List ℕ) (at : ℕ) (path : List Element) (k q : List ℕ) → drop at t ≡ encodeString k ++ q → elementRight k ≡ false
+    → onToken sub go at path (tokenAt t at) ≡ wrong
+key-wrong sub go t at path k q e r =
+    let token : tokenAt t at ≡ BadToken = key-token t at k q e ∙ rw r refl in
+    ap (onToken sub go at path) token
+
+first-wrong : (t : List ℕ) (l at steps : ℕ) (path : List Element) (k q : List ℕ) → drop at t ≡ encodeString k ++ q → elementRight k ≡ false → filesFrom (filesBelow l t) steps t at path ≡ wrong
+unfolding filesFrom
+first-wrong t l at zero path k q e r = refl
+first-wrong t l at (suc steps) path k q e r = key-wrong (filesBelow l t) (λ i. filesFrom (filesBelow l t) steps t i path) t at path k q e r
+
+-- an entry, if its key is a path element, and those behind it
+module _ (k : List ℕ) (v : Value) (es : Entries) (t : List ℕ) (l at : ℕ) (r : List ℕ) (path : List Element) (vs : List File) where
+  -- behind its value
+  abbrev mid : ℕ
+  mid = valueStart at k + length (encode v)
+
+  -- the same end
+  end-same : mid + length (encodeEntries es) ≡ at + length (encodeEntries (entry k v es))
+  end-same = omega (arith, entries-length k v es)
+
+  entry-gives : (steps : ℕ) → drop at t ≡ encodeEntries (entry k v es) ++ r → length (encodeEntries (entry k v es)) ≤ steps
+      → (elementRight k ≡ true → (go : ℕ → Files) → NodeGives (nodeRight v) t (onToken (filesBelow l t) go at path (tokenAt t at)) go mid vs)
+      → ((n : ℕ) → drop mid t ≡ encodeEntries es ++ r → length (encodeEntries es) ≤ n
+      → Gives (nodesRight es) t (filesFrom (filesBelow l t) n t mid path) (mid + length (encodeEntries es)) (filesOfEntries (elements t path) es))
+      → Gives (elementRight k && (nodeRight v && nodesRight es)) t (filesFrom (filesBelow l t) steps t at path) (at + length (encodeEntries (entry k v es)))
+      (vs ++ filesOfEntries (elements t path) es)
+  entry-gives zero e g n m = absurd (omega (arith, entries-some (entry k v es)))
+  entry-gives (suc steps) e g n m = rw (from-step (filesBelow l t) steps t at path) (by-key (elementRight k) refl)
+    where
+      go : ℕ → Files
+      go i = filesFrom (filesBelow l t) steps t i path
+
+      there : drop at t ≡ encodeString k ++ (encode v ++ (encodeEntries es ++ r))
+      there = e ∙ entry-bytes k v es r
+
+      behind : drop mid t ≡ encodeEntries es ++ r
+      behind = after-bytes t (valueStart at k) (encode v) (encodeEntries es ++ r) (after-bytes t at (encodeString k) (encode v ++ (encodeEntries es ++ r)) there)
+
+      rest : Gives (nodesRight es) t (go mid) (at + length (encodeEntries (entry k v es))) (filesOfEntries (elements t path) es)
+      rest = rw end-same at (m steps behind (omega (arith, entries-length k v es, string-some k)))
+
+      by-key : (o : Bool) → elementRight k ≡ o
+          → Gives (o && (nodeRight v && nodesRight es)) t (onToken (filesBelow l t) go at path (tokenAt t at)) (at + length (encodeEntries (entry k v es))) (vs ++ filesOfEntries (elements t path) es)
+      by-key false q = key-wrong (filesBelow l t) go t at path k (encode v ++ (encodeEntries es ++ r)) there q
+      by-key true q =
+          both (nodeRight v) (nodesRight es) t (onToken (filesBelow l t) go at path (tokenAt t at)) go mid (at + length (encodeEntries (entry k v es))) vs (filesOfEntries (elements t path) es) (n q go) rest
 
 mutual
   unfolding nodeRight branchRight nodesRight elementRight filesOfNode filesOfEntries Valid
 
-  -- a node, and behind it the other entries
-  node-walk : (v : Value) (s : List ℕ) (c : ℕ) (cs t : List ℕ) (l m at d : ℕ) (path : List ℕ) → NodeAt s at (c ∷ cs) v t → Valid v l → d + l ≡ 29 → length path ≡ 56 → length s < at + m
-      → Outcome (nodeRight v) s m at d path t (filesOfNode (elementsOf s path d ++ ((c ∷ cs) ∷ [])) v)
-  node-walk (integer minus i) s c cs t l m at d path n h depth sized enough = other-walk s (c ∷ cs) (integer minus i) t m at d path n refl
-  node-walk (string b) s c cs t l m at d path n h depth sized enough = other-walk s (c ∷ cs) (string b) t m at d path n refl
-  node-walk (list vs) s c cs t l m at d path n h depth sized enough = other-walk s (c ∷ cs) (list vs) t m at d path n refl
-  node-walk (dictionary es) s c cs t zero m at d path n h depth sized enough = absurd h
-  node-walk (dictionary es) s c cs t (suc l) m at d path n h depth sized enough = branch-walk es s (c ∷ cs) t l m at d path (nodes-walk es s) n h depth sized enough
+  -- a node gives what its value says
+  node-gives : (v : Value) (t : List ℕ) (l at : ℕ) (k q : List ℕ) (path : List Element) (go : ℕ → Files) → NodeAt t at k v q → Valid v (suc (suc l)) → suc (suc l) ≤ maxLevels
+      → NodeGives (nodeRight v) t (onToken (filesBelow l t) go at path (tokenAt t at)) go (valueStart at k + length (encode v)) (filesOfNode (elements t path ++ (k ∷ [])) v)
+  node-gives (integer minus i) t l at k q path go n h m = other-gives t (filesBelow l t) go at path k q (integer minus i) n refl
+  node-gives (string b) t l at k q path go n h m = other-gives t (filesBelow l t) go at path k q (string b) n refl
+  node-gives (list vs) t l at k q path go n h m = other-gives t (filesBelow l t) go at path k q (list vs) n refl
+  node-gives (dictionary es) t l at k q path go n h m = branch-gives es t (entries-give es t) l at k q path go n h (omega arith)
 
   -- the entries of a directory, one after the other
-  nodes-walk : (es : Entries) (s : List ℕ) → Walks s es
-  nodes-walk noEntries s = none-walk s
-  nodes-walk (entry [] v es) s = λ l r j m at d path e h depth sized enough.
-      bad-walk s m at d path (token-empty s at (encode v ++ (encodeEntries es ++ r)) (e ∙ entry-bytes [] v es r))
-  nodes-walk (entry (c ∷ cs) v es) s = λ l r j m at d path e h depth sized enough.
-      both (nodeRight v) (nodesRight es) s m at d path (encodeEntries es ++ r) (encodeEntries noEntries ++ r) (filesOfNode (elementsOf s path d ++ ((c ∷ cs) ∷ [])) v) (filesOfEntries (elementsOf s path d) es)
-      (node-walk v s c cs (encodeEntries es ++ r) l m at d path (node-at s at c cs v (encodeEntries es ++ r) (e ∙ entry-bytes (c ∷ cs) v es r)) (h .1) depth sized enough)
-      (λ x. rw (elements-kept s (x .kept) path d (x .keeps)) at (nodes-walk es s l r (after (c ∷ cs)) (x .steps) (x .end) d (x .kept) (x .here) (h .2) depth (x .sized) (x .enough)))
+  entries-give : (es : Entries) (t : List ℕ) → Walks t es
+  entries-give noEntries t = none-gives t
+  entries-give (entry [] v es) t = λ l at steps r j path e h m g. first-wrong t l at steps path [] (encode v ++ (encodeEntries es ++ r)) (e ∙ entry-bytes [] v es r) refl
+  entries-give (entry (c ∷ cs) v es) t = λ l at steps r j path e h m g.
+      entry-gives (c ∷ cs) v es t l at r path (filesOfNode (elements t path ++ ((c ∷ cs) ∷ [])) v) steps e g
+      (λ o go. node-gives v t l at (c ∷ cs) (encodeEntries es ++ r) path go (node-at t at (c ∷ cs) v (encodeEntries es ++ r) o (e ∙ entry-bytes (c ∷ cs) v es r)) (h .1) m)
+      (λ n f k. entries-give es t l (valueStart at (c ∷ cs) + length (encode v)) n r (afterKey (c ∷ cs)) path f (h .2) m k)
 
 -- ---- the file tree
 
--- what the whole walk gives
+-- what is read of the whole tree
 abbrev TreeIs : Bool → List ℕ → Files → List File → Type 0
-TreeIs true s w fs = (right w ≡ true) × (readFiles s (listed w) ≡ fs)
-TreeIs false s w fs = right w ≡ false
+TreeIs false t w vs = right w ≡ false
+TreeIs true t w vs = (right w ≡ true) × (readFiles t (listed w) ≡ vs)
 
--- the walk over all entries of the tree ends at the end of the tree
-tree-end : (o : Bool) (s : List ℕ) (m at : ℕ) (t : List ℕ) (fs : List File) → Outcome o s m at 0 noPath (encodeEntries noEntries ++ t) fs → TreeIs o s (tokensFrom m s at 0 noPath) fs
+tree-gives : (o : Bool) (t : List ℕ) (w : Files) (end : ℕ) (vs : List File) → Gives o t w end vs → TreeIs o t w vs
 unfolding right listed
-tree-end false s m at t fs w = w
-tree-end true s m at t fs w = by-steps (w .steps) refl
+tree-gives false t w end vs g = ap right g
+tree-gives true t w end vs g = (ap right (g .1), ap (λ (z : Files). readFiles t (listed z)) (g .1) ∙ g .2)
+
+-- the walk from the top
+top-step : (t : List ℕ) → filesBelow maxElements t 1 [] ≡ filesFrom (filesBelow 27 t) (suc (length t)) t 1 []
+unfolding filesBelow
+top-step t = refl
+
+tree-is : (t : List ℕ) (es : Entries) → t ≡ encode (dictionary es) → Valid (dictionary es) 30 → TreeIs (treeRight es) t (filesIn t) (filesOfEntries [] es)
+unfolding filesIn treeRight Valid
+tree-is t es e h = by-first es refl (behind ∙ sym (append-nil (encodeEntries es))) h
   where
-    by-steps : (n : ℕ) → w .steps ≡ n → TreeIs true s (tokensFrom m s at 0 noPath) fs
-    by-steps zero e = absurd (omega (arith, end-inside s (w .end) t (w .here), w .enough))
-    by-steps (suc n) e =
-        let last : tokensFrom (suc n) s (w .end) 0 (w .kept) ≡ ends true = tokens-step n s (w .end) 0 (w .kept) Closed (token-end s (w .end) t (w .here)) in
-        let all : tokensFrom m s at 0 noPath ≡ prepend (w .found) (ends true) =
-        w .goes-on ∙ ap (λ (z : ℕ). prepend (w .found) (tokensFrom z s (w .end) 0 (w .kept))) e ∙ ap (prepend (w .found)) last in
-        (ap right all ∙ prepend-right (w .found) (ends true), ap (λ (z : Files). readFiles s (listed z)) all ∙ ap (readFiles s) (prepend-listed (w .found) (ends true) ∙ append-nil (w .found)) ∙ w .read)
+    behind : drop 1 t ≡ encodeEntries es
+    behind = ap (λ (x : List ℕ). drop 1 x) (e ∙ dictionary-bytes es)
 
--- the walk over the tree gives what the value says
-tree-is : (s : List ℕ) (tree : ℕ) (es : Entries) (r : List ℕ) → drop tree s ≡ encode (dictionary es) ++ r → Valid (dictionary es) 30 → TreeIs (treeRight es) s (filesIn s tree) (filesOfEntries [] es)
-unfolding filesIn treeRight Valid right elementsOf
-tree-is s tree noEntries r e h = rw (entries-there s tree noEntries r e, ends-is noEntries r) refl
-tree-is s tree (entry k v es) r e h =
-    let there = entries-there s tree (entry k v es) r e in
-    let walked = nodes-walk (entry k v es) s 29 r none (suc (length s)) (tree + 1) 0 noPath there h refl (length-replicate {A = ℕ} 56 0) (omega arith) in
-    let flat = files-by-tokens (length s) (suc (length s)) s (tree + 1) 0 noPath (omega arith) (omega arith) in
-    rw (ap endsHere there ∙ ends-is (entry k v es) r)
-    (rw flat (tree-end (nodesRight (entry k v es)) s (suc (length s)) (tree + 1) r (filesOfEntries [] (entry k v es)) walked))
+    by-first : (us : Entries) → es ≡ us → drop 1 t ≡ encodeEntries us ++ [] → EntriesValid us none 29 → TreeIs (treeRight us) t (filesIn t) (filesOfEntries [] us)
+    by-first noEntries q f v = rw (ap endsHere f ∙ ends-is noEntries []) (unfold right in refl)
+    by-first (entry k u us) q f v =
+        rw (ap endsHere f ∙ ends-is (entry k u us) [])
+        (rw (top-step t)
+        (tree-gives (nodesRight (entry k u us)) t (filesFrom (filesBelow 27 t) (suc (length t)) t 1 []) (1 + length (encodeEntries (entry k u us))) (filesOfEntries [] (entry k u us))
+        (entries-give (entry k u us) t 27 1 (suc (length t)) [] none [] f v (omega arith) (steps-enough t 1 (entry k u us) [] f))))
 
-module _ (s : List ℕ) (tree : ℕ) (es : Entries) (r : List ℕ) (e : drop tree s ≡ encode (dictionary es) ++ r) (h : Valid (dictionary es) 30) where
-  -- the tree at a position is right exactly if the value there is
-  pub tree-right : right (filesIn s tree) ≡ treeRight es
-  tree-right = by-right (treeRight es) (tree-is s tree es r e h)
+module _ (t : List ℕ) (es : Entries) (e : t ≡ encode (dictionary es)) (h : Valid (dictionary es) 30) where
+  -- the tree's bytes are right exactly if the value is
+  pub tree-right : right (filesIn t) ≡ treeRight es
+  tree-right = by-right (treeRight es) (tree-is t es e h)
     where
-      by-right : (o : Bool) → TreeIs o s (filesIn s tree) (filesOfEntries [] es) → right (filesIn s tree) ≡ o
+      by-right : (o : Bool) → TreeIs o t (filesIn t) (filesOfEntries [] es) → right (filesIn t) ≡ o
       by-right true w = w .0
       by-right false w = w
 
   -- and then its files are those of the value, in the same order
-  pub tree-files : treeRight es ≡ true → readFiles s (listed (filesIn s tree)) ≡ filesOfEntries [] es
-  tree-files q = by-right (treeRight es) q (tree-is s tree es r e h)
+  pub tree-files : treeRight es ≡ true → readFiles t (listed (filesIn t)) ≡ filesOfEntries [] es
+  tree-files q = by-right (treeRight es) q (tree-is t es e h)
     where
-      by-right : (o : Bool) → o ≡ true → TreeIs o s (filesIn s tree) (filesOfEntries [] es) → readFiles s (listed (filesIn s tree)) ≡ filesOfEntries [] es
+      by-right : (o : Bool) → o ≡ true → TreeIs o t (filesIn t) (filesOfEntries [] es) → readFiles t (listed (filesIn t)) ≡ filesOfEntries [] es
       by-right true g w = w .1
       by-right false g w = absurd (false≢true g)
