@@ -25,17 +25,17 @@ use Rattle.roots.specs.Roots.{SearchedFor}
 use Rattle.layers.specs.Layers.{Inside, stringIn, layerAt, Indexed, ofLayer, layerNumber}
 use Rattle.layers.proofs.Searching.{index-within, indexed-found, indexed-none}
 
-module _ (s : List ℕ) (layers : ℕ) (keys : List ℕ) (count : ℕ) (x : Indexed s layers keys count) (root r : ℕ) (w : SearchedFor s keys count root r) where
-  pub found-here : r < count → layerAt s layers root ≡ readString (getD keys r 0 + 32) (drop (getD keys r 0 + 32) s)
+module _ (s keys : List ℕ) (count : ℕ) (x : Indexed s keys count) (root r : ℕ) (w : SearchedFor s keys count root r) where
+  pub found-here : r < count → layerAt s key ≡ readString (getD keys r 0 + 32) (drop (getD keys r 0 + 32) s)
   found-here h = elim w [ inl p ↦ indexed-found s layers keys count x root r h (p .1) | inr p ↦ let e = p .0 in let z : ⊥ = omega arith in absurd z ]
 
-  pub found-nowhere : count ≤ r → layerAt s layers root ≡ NoString
+  pub found-nowhere : count ≤ r → layerAt s key ≡ NoString
   found-nowhere h = elim w [ inl p ↦ let e = p .0 in let z : ⊥ = omega arith in absurd z | inr p ↦ indexed-none s layers keys count x root (p .1) ]
 
 -- a layer that is found lies within the bytes
-pub layer-inside : (s : List ℕ) (layers root : ℕ) → Inside (length s) (layerAt s layers root)
+pub layer-inside : (s : List ℕ) (layers root : ℕ) → Inside (length s) (layerAt s key)
 unfolding layerAt
-layer-inside s layers root = by-found (findKey (cut s root 32) layers (drop layers s))
+layer-inside s layers root = by-found (findKey (cut s root 32) layers (s))
   where
     by-string : (a : ℕ) (w : ByteString) → readString a (drop a s) ≡ w → Inside (length s) w
     by-string a NoString e = tt
@@ -107,6 +107,6 @@ module _ (s : List ℕ) (layers plen n root : ℕ) where
   unfolding layerNumber
   number-none h = rw h refl
 
-  pub number-layer : hasLayer n plen ≡ true → (w : ByteString) → w ≡ layerAt s layers root → layerNumber s layers plen n root ≡ ofLayer s plen n root w
+  pub number-layer : hasLayer n plen ≡ true → (w : ByteString) → w ≡ layerAt s key → layerNumber s layers plen n root ≡ ofLayer s plen n root w
   unfolding layerNumber
   number-layer h w e = rw h (ap (ofLayer s plen n root) (sym e))
