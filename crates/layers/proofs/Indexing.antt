@@ -27,13 +27,13 @@ pub record IndexAt (s keys : List ℕ) (most i n : ℕ) : Type 0 where
   pub kept : take n keys ≡ before
   pub few : n ≤ most
 
-pub index-start : (s keys : List ℕ) (most : ℕ) → layers < length s → IndexAt s keys most 1 0
+pub index-start : (s keys : List ℕ) (most : ℕ) → IndexAt s keys most 1 0
 unfolding layerKeys keysWide
-index-start s layers keys most h =
-    record { steps = suc (length (drop 1 s)); before = []; enough = omega (arith, length-drop 1 s, length-s); others = refl; wide = refl; all = refl; kept = refl; few = omega arith }
+index-start s keys most =
+    record { steps = suc (length (drop 1 s)); before = []; enough = omega (arith, length-drop 1 s); others = refl; wide = refl; all = refl; kept = refl; few = omega arith }
 
 -- what is answered: whether there are so many keys, each wide
-abbrev pub IndexAnswer : List ℕ → ℕ → List ℕ → ℕ → Bool → Type 0
+abbrev pub IndexAnswer : List ℕ → List ℕ → ℕ → Bool → Type 0
 IndexAnswer s keys most r = (r ≡ (keysWide s && eqb (length (layerKeys s)) most)) × (r ≡ true → take most keys ≡ layerKeys s)
 
 and-false : (a : Bool) → (a && false) ≡ false
@@ -85,7 +85,7 @@ module _ (s keys : List ℕ) (most i n : ℕ) (w : IndexAt s keys most i n) wher
     pub index-behind : (i < k) × (k ≤ length s) × (a ≤ b) × (a ≤ length s)
     index-behind = let p = entry-ends i s a b k e in let x = p .0 in let y = p .1 in let z = p .2 in let u = p .3 in (omega arith, u, y, omega arith)
 
-    pub index-more : b - a ≡ 32 → n < most → n < length keys → IndexAt s layers (set keys n a) most k (n + 1)
+    pub index-more : b - a ≡ 32 → n < most → n < length keys → IndexAt s (set keys n a) most k (n + 1)
     index-more d g l =
         let t = step (w .steps) (w .enough) in
         let p = index-behind .0 in

@@ -14,17 +14,17 @@ use Rattle.filetree.specs.Tree.{maxElements, Element, Listed, listedAs, down, F
 use Rattle.filetree.specs.TreeLaws.{empty-tree, tree-below, Passed, passed-none, passed-bad, passed-end, passed-closed, passed-file, passed-wrong, inside-ends, passed-directory}
 use Rattle.filetree.specs.declared.token.Token.the-variants.{Opened, Closed, Leaf, BadToken}
 use Rattle.layers.specs.Layers.{layerNumber, lower, worst}
-use Rattle.layers.specs.declared.Judged.{Judged}
-use Rattle.layers.specs.declared.Judged.the-variants.{Past, WrongTree}
+use Rattle.layers.specs.declared.Numbered.{Numbered}
+use Rattle.layers.specs.declared.Numbered.the-variants.{Past, WrongTree}
 
 -- the number w and those of the files of a directory
-unfoldable pub judgedAs : List ℕ → List ℕ → ℕ → ℕ → Files → Judged
-judgedAs t l plen w wrong = WrongTree
-judgedAs t l plen w (files fs k) = Past k (worst t l plen w fs)
+unfoldable pub numberedOf : List ℕ → List ℕ → ℕ → ℕ → Files → Numbered
+numberedOf t l plen w wrong = WrongTree
+numberedOf t l plen w (files fs k) = Past k (worst t l plen w fs)
 
 -- it is so under any path
-abbrev pub Judges : List ℕ → ℕ → ℕ → List ℕ → ℕ → ℕ → Judged → Type 0
-Judges t at levels l plen w r = (path : List Element) → r ≡ judgedAs t l plen w (filesBelow levels t at path)
+abbrev pub Judges : List ℕ → ℕ → ℕ → List ℕ → ℕ → ℕ → Numbered → Type 0
+Judges t at levels l plen w r = (path : List Element) → r ≡ numberedOf t l plen w (filesBelow levels t at path)
 
 worst-append : (t l : List ℕ) (plen w : ℕ) (fs gs : List Listed) → worst t l plen w (fs ++ gs) ≡ worst t l plen (worst t l plen w fs) gs
 unfolding worst
@@ -40,13 +40,13 @@ unfolding worst
 worst-none t l plen w = refl
 
 -- a number tells what was judged
-only-wrong : (t l : List ℕ) (plen w : ℕ) (x : Files) → WrongTree ≡ judgedAs t l plen w x → x ≡ wrong
-unfolding judgedAs
+only-wrong : (t l : List ℕ) (plen w : ℕ) (x : Files) → WrongTree ≡ numberedOf t l plen w x → x ≡ wrong
+unfolding numberedOf
 only-wrong t l plen w wrong g = refl
 only-wrong t l plen w (files gs k) g = let z : _≡_ {A = ℕ} 0 1 = cc in absurd (omega arith)
 
-only-right : (t l : List ℕ) (plen w k m : ℕ) (x : Files) → Past k m ≡ judgedAs t l plen w x → (gs : List Listed) × (x ≡ files gs k) × (m ≡ worst t l plen w gs)
-unfolding judgedAs
+only-right : (t l : List ℕ) (plen w k m : ℕ) (x : Files) → Past k m ≡ numberedOf t l plen w x → (gs : List Listed) × (x ≡ files gs k) × (m ≡ worst t l plen w gs)
+unfolding numberedOf
 only-right t l plen w k m wrong g = let z : _≡_ {A = ℕ} 0 1 = cc in absurd (omega arith)
 only-right t l plen w k m (files gs j) g = let p : k ≡ j = cc in let q : m ≡ worst t l plen w gs = cc in (gs, ap (files gs) (sym p), q)
 
@@ -60,8 +60,8 @@ pub judged-start : (t : List ℕ) (at levels : ℕ) (l : List ℕ) (plen w : ℕ
 judged-start t at levels l plen w h path = ([], passed-none t levels at path h, sym (worst-none t l plen w))
 
 pub judges-wrong : (t : List ℕ) (at levels : ℕ) (l : List ℕ) (plen w : ℕ) → ((path : List Element) → filesBelow levels t at path ≡ wrong) → Judges t at levels l plen w WrongTree
-unfolding judgedAs
-judges-wrong t at levels l plen w h path = sym (ap (judgedAs t l plen w) (h path))
+unfolding numberedOf
+judges-wrong t at levels l plen w h path = sym (ap (numberedOf t l plen w) (h path))
 
 module _ (t : List ℕ) (at levels : ℕ) (l : List ℕ) (plen w below i m : ℕ) (x : JudgedAt t at levels l plen w below i m) where
   abbrev whole : List Element → Files
@@ -75,8 +75,8 @@ module _ (t : List ℕ) (at levels : ℕ) (l : List ℕ) (plen w below i m : ℕ
 
   module _ (h : i < length t) where
     pub judges-closed : tokenAt t i ≡ Closed → Judges t at levels l plen w (Past (i + 1) m)
-    unfolding judgedAs
-    judges-closed e path = sym (ap (judgedAs t l plen w) (passed-closed t (whole path) below path i (x path .0) (x path .1) h e) ∙ ap (Past (i + 1)) (sym (x path .2)))
+    unfolding numberedOf
+    judges-closed e path = sym (ap (numberedOf t l plen w) (passed-closed t (whole path) below path i (x path .0) (x path .1) h e) ∙ ap (Past (i + 1)) (sym (x path .2)))
 
     module _ (a b n r k : ℕ) (e : tokenAt t i ≡ Leaf a b n r k) where
       pub file-behind : (i < k) × (k ≤ length t) × (n ≤ longestFile) × ((n ≡ 0 → ⊥) → r + 32 ≤ length t)

@@ -8,11 +8,12 @@ use Prim.Native.Nat.{ℕ, zero, suc, _+_, _-_, _≤_, _<_}
 use native.Mathlib.Omega.{arith}
 use native.Mathlib.Numerals.{add-one}
 use lib.ListN.{length, drop, take, getD, length-append}
-use lib.Seq.{drop-drop, getD-take, length-take-le}
+use lib.Seq.{getD-take, length-take-le}
 use lib.Dec.{eqb}
 use borrow.Author.Tests.{eqb-true}
 use Rattle.octets.specs.Octets.{cut}
-use Rattle.bencode.specs.Grammar.{colon, letterD, maxLevels, Value, dictionary, Entries, noEntries, entry, decimal, encodeString, encode, encodeEntries, precedes, KeyBefore, none, after, Valid, EntriesValid}
+use Rattle.limits.specs.Limits.{maxLevels}
+use Rattle.bencode.specs.Grammar.{colon, letterD, Value, dictionary, Entries, noEntries, entry, decimal, encodeString, encode, encodeEntries, precedes, KeyBefore, none, after, Valid, EntriesValid}
 use Rattle.bencode.specs.Parts.{readEntry}
 use Rattle.bencode.specs.CompleteLaws.{contentStart, string-some, dictionary-bytes}
 use Rattle.bencode.specs.PartsLaws.{valueStart, entry-is, entry-none, entry-ends, dictionary-is}
@@ -127,14 +128,14 @@ taken keys all count room e =
     (sym (length-take-le count keys room) ∙ ap length e, λ i h. sym (getD-take count keys i 0 h) ∙ ap (λ (l : List ℕ). getD l i 0) e)
 
 -- keys of 32 bytes lie within the bytes, in an array that begins with their positions
-pub keys-within : (s : List ℕ) (layers : ℕ) → keysWide s ≡ true → (keys : List ℕ) (count : ℕ) → count ≤ length keys → take count keys ≡ layerKeys s
+pub keys-within : (s : List ℕ) → keysWide s ≡ true → (keys : List ℕ) (count : ℕ) → count ≤ length keys → take count keys ≡ layerKeys s
     → (i : ℕ) → i < count → getD keys i 0 + 32 ≤ length s
 unfolding layerKeys keysWide
-keys-within s layers w keys count room e i h =
+keys-within s w keys count room e i h =
     let t = taken keys (layerKeys s) count room e in
     rw (t .1 i h) (from-within s (suc (length (drop 1 s))) 1 w i (omega (arith, t .0)))
 
-module _ (s : List ℕ) (layers : ℕ) (es : Entries) (r : List ℕ) (bytes : s ≡ encode (dictionary es) ++ r) (l : ℕ) (low : l ≤ maxLevels) (valid : Valid (dictionary es) l) where
+module _ (s : List ℕ) (es : Entries) (r : List ℕ) (bytes : s ≡ encode (dictionary es) ++ r) (l : ℕ) (low : l ≤ maxLevels) (valid : Valid (dictionary es) l) where
   levels : EntriesValid es none maxLevels
   unfolding Valid
   levels = entries-more-levels es none (maxLevels - 1) maxLevels (omega arith) (more-levels (dictionary es) l maxLevels low valid)
@@ -145,7 +146,7 @@ module _ (s : List ℕ) (layers : ℕ) (es : Entries) (r : List ℕ) (bytes : s 
       let front : encode (dictionary es) ++ r ≡ letterD ∷ (encodeEntries es ++ r) = ap (λ (t : List ℕ). t ++ r) (dictionary-bytes es) in
       let behind : drop 1 s ≡ encodeEntries es ++ r = ap (λ (t : List ℕ). drop 1 t) (bytes ∙ front) in
       let size : length (drop 1 s) ≡ length (encodeEntries es ++ r) = ap length behind in
-      from-stand s es none (suc (length (drop 1 s))) 1 r (sym (drop-drop 1 layers s) ∙ behind) levels
+      from-stand s es none (suc (length (drop 1 s))) 1 r behind levels
       (omega (arith, length-append (encodeEntries es) r))
 
   -- each key stands at its position

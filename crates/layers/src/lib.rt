@@ -116,7 +116,7 @@ pub struct Judging {
 }
 
 // The position past a directory and the number then; or something in it is wrong.
-pub enum Judged {
+pub enum Numbered {
     Past { next: usize, number: u32 },
     WrongTree,
 }
@@ -156,12 +156,12 @@ fn judge_directory(
     l: &[u8],
     keys: &[u32],
     job: Judging,
-) -> Judged
+) -> Numbered
     requires { ⌜ Indexed (now l) (now keys) (job .count) × (isPieceLength (job .plen) ≡ true) ⌝ }
     ensures { λ r. ⌜ Judges (now (t .entry)) at levels (now (l .entry)) (job .plen) (job .number) r ⌝ }
 {
     if levels == 0 {
-        return Judged::WrongTree;
+        return Numbered::WrongTree;
     }
     let below = levels - 1;
     let count = job.count;
@@ -171,10 +171,10 @@ fn judge_directory(
     while i < t.len() {
         match read_token(t, i) {
             Token::BadToken => {
-                return Judged::WrongTree;
+                return Numbered::WrongTree;
             }
             Token::Closed => {
-                return Judged::Past {
+                return Numbered::Past {
                     next: i + 1,
                     number,
                 };
@@ -202,21 +202,21 @@ fn judge_directory(
                     number,
                 };
                 match judge_directory(t, end + 1, below, l, keys, here) {
-                    Judged::Past {
+                    Numbered::Past {
                         next,
                         number: inside,
                     } => {
                         number = inside;
                         i = next;
                     }
-                    Judged::WrongTree => {
-                        return Judged::WrongTree;
+                    Numbered::WrongTree => {
+                        return Numbered::WrongTree;
                     }
                 }
             }
         }
     }
-    Judged::WrongTree
+    Numbered::WrongTree
 }
 
 // 0, 27 or 28 of all files of the tree t.
@@ -230,7 +230,7 @@ pub fn judge_layers(t: &[u8], l: &[u8], keys: &[u32], count: usize, plen: usize)
         number: 0,
     };
     match judge_directory(t, 1, ELEMENTS, l, keys, job) {
-        Judged::Past { next: _, number } => number,
-        Judged::WrongTree => 0, // not of a right tree
+        Numbered::Past { next: _, number } => number,
+        Numbered::WrongTree => 0, // not of a right tree
     }
 }
