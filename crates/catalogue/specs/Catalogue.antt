@@ -5,7 +5,7 @@ use mathlib.Core.List.{List, [], _∷_, _++_}
 use Prim.Native.Nat.{ℕ, zero, suc, _+_, _-_, _*_}
 use lib.ListN.{length}
 use lib.Dec.{eqb, ltb}
-use Rattle.octets.specs.Octets.{be, pasted}
+use Rattle.octets.specs.Octets.{cut, be, pasted}
 use Rattle.numbers.specs.Numbers.{noRoom, refused, done}
 use Rattle.numbers.specs.declared.Answer.{Answer}
 use Rattle.bencode.specs.declared.scalar.ByteString.{ByteString}
@@ -44,7 +44,7 @@ pub record Parts : Type 0 where
 -- the head, and 28 elements of 8 bytes
 unfoldable pub recordOf : Parts → Listed → List ℕ
 recordOf p f =
-    headBytes (p .layers) (f .size) (rootBytes (p .t) (f .size) (f .root)) (layerString (p .t) (p .l) (p .plen) (f .size) (f .root)) (length (f .path))
+    headBytes (p .layers) (f .size) (rootBytes (p .t) (f .size) (f .root)) (layerString (p .l) (p .plen) (f .size) (cut (p .t) (f .root) 32)) (length (f .path))
     ++ elementsBytes (p .tree) (f .path) maxElements
 
 abbrev pub recordSize : ℕ

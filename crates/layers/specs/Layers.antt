@@ -73,26 +73,26 @@ pub record Indexed (l keys : List ℕ) (count : ℕ) : Type 0 where
 
 -- ---- the number of one file, and of all
 
--- 32 bytes for each piece, and the tree over them has the root at r
-abbrev pub ofLayer : List ℕ → List ℕ → ℕ → ℕ → ℕ → ByteString → ℕ
-ofLayer t l plen n r NoString = layersAmiss
-ofLayer t l plen n r (Content a b) =
+-- 32 bytes for each piece, and the tree over them has the root
+abbrev pub ofLayer : List ℕ → ℕ → ℕ → List ℕ → ByteString → ℕ
+ofLayer l plen n root NoString = layersAmiss
+ofLayer l plen n root (Content a b) =
     cond (eqb (b - a) (32 * pieceCount n plen))
-    (cond (same (layerRoot (cut l a (b - a)) (pieceLayer plen) (height (blockCount n))) (cut t r 32)) 0 layerDiffers)
+    (cond (same (layerRoot (cut l a (b - a)) (pieceLayer plen) (height (blockCount n))) root) 0 layerDiffers)
     layersAmiss
 
--- of a file of n bytes with its root at r; 0 of one that has no layer
-unfoldable pub layerNumber : List ℕ → List ℕ → ℕ → ℕ → ℕ → ℕ
-layerNumber t l plen n r = cond (hasLayer n plen) (ofLayer t l plen n r (layerAt l (cut t r 32))) 0
+-- of a file of n bytes with this root; 0 of one that has no layer
+unfoldable pub layerNumber : List ℕ → ℕ → ℕ → List ℕ → ℕ
+layerNumber l plen n root = cond (hasLayer n plen) (ofLayer l plen n root (layerAt l root)) 0
 
--- 27 if one of two numbers is it, else 28 if one is it, else 0
+-- of two numbers that are 0, 27 or 28 the lowest that is not 0
 unfoldable pub lower : ℕ → ℕ → ℕ
-lower w n = cond (eqb w layersAmiss) layersAmiss (cond (eqb n 0) w n)
+lower w n = cond (eqb w layersAmiss) w (cond (eqb n 0) w n)
 
 -- the lowest of the files fs and w
 unfoldable pub worst : List ℕ → List ℕ → ℕ → ℕ → List Listed → ℕ
 worst t l plen w [] = w
-worst t l plen w (f ∷ fs) = worst t l plen (lower w (layerNumber t l plen (f .size) (f .root))) fs
+worst t l plen w (f ∷ fs) = worst t l plen (lower w (layerNumber l plen (f .size) (cut t (f .root) 32))) fs
 
 -- ---- what is answered of a file
 
@@ -101,8 +101,8 @@ unfoldable pub rootBytes : List ℕ → ℕ → ℕ → List ℕ
 rootBytes t n r = cond (eqb n 0) zeroHash (cut t r 32)
 
 -- only a file longer than the piece length has a layer
-unfoldable pub layerString : List ℕ → List ℕ → ℕ → ℕ → ℕ → ByteString
-layerString t l plen n r = cond (hasLayer n plen) (layerAt l (cut t r 32)) NoString
+unfoldable pub layerString : List ℕ → ℕ → ℕ → List ℕ → ByteString
+layerString l plen n root = cond (hasLayer n plen) (layerAt l root) NoString
 
 -- where a string's content begins in the torrent, of which l begins at `base`, and its size; 0 and 0 where there is none
 abbrev pub startOf : ℕ → ByteString → ℕ

@@ -15,46 +15,46 @@ use Rattle.roots.specs.PrecedesLaws.{precedes-either, precedes-differ, p
 use Rattle.roots.specs.RootsLaws.{ascending-all}
 
 -- the strings before `low` stand before the one that is looked for, and those from `high` on behind it
-pub record Narrowed (s at : List ℕ) (count root low high : ℕ) : Type 0 where
+pub record Narrowed (s at : List ℕ) (count : ℕ) (key : List ℕ) (low high : ℕ) : Type 0 where
   pub order : low ≤ high
   pub within : high ≤ count
-  pub below : (i : ℕ) → i < low → precedes (cut s (getD at i 0) 32) (cut s root 32) ≡ true
-  pub above : (i : ℕ) → high ≤ i → i < count → precedes (cut s root 32) (cut s (getD at i 0) 32) ≡ true
+  pub below : (i : ℕ) → i < low → precedes (cut s (getD at i 0) 32) key ≡ true
+  pub above : (i : ℕ) → high ≤ i → i < count → precedes key (cut s (getD at i 0) 32) ≡ true
 
-module _ (s at : List ℕ) (count root : ℕ) where
-  pub narrowed-start : Narrowed s at count root 0 count
+module _ (s at : List ℕ) (count : ℕ) (key : List ℕ) where
+  pub narrowed-start : Narrowed s at count key 0 count
   narrowed-start = record { order = omega arith; within = omega arith; below = λ i h. absurd (omega arith); above = λ i h g. absurd (omega arith) }
 
-  module _ (low high : ℕ) (m : Narrowed s at count root low high) where
+  module _ (low high : ℕ) (m : Narrowed s at count key low high) where
     -- nothing is left
-    pub narrowed-none : high ≤ low → SearchedFor s at count root count
+    pub narrowed-none : high ≤ low → SearchedFor s at count key count
     narrowed-none h = inr (refl, λ i g e. by-side i g e (decLt i low))
       where
-        by-side : (i : ℕ) → i < count → cut s (getD at i 0) 32 ≡ cut s root 32 → Dec (i < low) → ⊥
-        by-side i g e (yes l) = precedes-differ (cut s (getD at i 0) 32) (cut s root 32) (m .below i l) e
-        by-side i g e (no l) = precedes-differ (cut s root 32) (cut s (getD at i 0) 32) (m .above i (omega arith) g) (sym e)
+        by-side : (i : ℕ) → i < count → cut s (getD at i 0) 32 ≡ key → Dec (i < low) → ⊥
+        by-side i g e (yes l) = precedes-differ (cut s (getD at i 0) 32) key (m .below i l) e
+        by-side i g e (no l) = precedes-differ key (cut s (getD at i 0) 32) (m .above i (omega arith) g) (sym e)
 
     module _ (middle : ℕ) (l : low ≤ middle) (h : middle < high) where
-      pub narrowed-found : precedes (cut s (getD at middle 0) 32) (cut s root 32) ≡ false → precedes (cut s root 32) (cut s (getD at middle 0) 32) ≡ false
-          → SearchedFor s at count root middle
-      narrowed-found p q = let w = m .within in inl (omega arith, precedes-either (cut s (getD at middle 0) 32) (cut s root 32) p q)
+      pub narrowed-found : precedes (cut s (getD at middle 0) 32) key ≡ false → precedes key (cut s (getD at middle 0) 32) ≡ false
+          → SearchedFor s at count key middle
+      narrowed-found p q = let w = m .within in inl (omega arith, precedes-either (cut s (getD at middle 0) 32) key p q)
 
       module _ (a : Ascending s at count) where
-        pub narrowed-up : precedes (cut s (getD at middle 0) 32) (cut s root 32) ≡ true → Narrowed s at count root (middle + 1) high
+        pub narrowed-up : precedes (cut s (getD at middle 0) 32) key ≡ true → Narrowed s at count key (middle + 1) high
         narrowed-up p =
             record { order = omega arith; within = m .within; below = λ i g. by-side i g (decLt i middle); above = m .above }
           where
-            by-side : (i : ℕ) → i < middle + 1 → Dec (i < middle) → precedes (cut s (getD at i 0) 32) (cut s root 32) ≡ true
+            by-side : (i : ℕ) → i < middle + 1 → Dec (i < middle) → precedes (cut s (getD at i 0) 32) key ≡ true
             by-side i g (yes k) =
                 let w = m .within in
-                precedes-trans (cut s (getD at i 0) 32) (cut s (getD at middle 0) 32) (cut s root 32) (ascending-all s at count a i middle k (omega arith)) p
+                precedes-trans (cut s (getD at i 0) 32) (cut s (getD at middle 0) 32) key (ascending-all s at count a i middle k (omega arith)) p
             by-side i g (no k) = let e : i ≡ middle = omega arith in rw e p
 
-        pub narrowed-down : precedes (cut s root 32) (cut s (getD at middle 0) 32) ≡ true → Narrowed s at count root low middle
+        pub narrowed-down : precedes key (cut s (getD at middle 0) 32) ≡ true → Narrowed s at count key low middle
         narrowed-down q =
             record { order = l; within = let w = m .within in omega arith; below = m .below; above = λ i g f. by-side i g f (decLt middle i) }
           where
-            by-side : (i : ℕ) → middle ≤ i → i < count → Dec (middle < i) → precedes (cut s root 32) (cut s (getD at i 0) 32) ≡ true
+            by-side : (i : ℕ) → middle ≤ i → i < count → Dec (middle < i) → precedes key (cut s (getD at i 0) 32) ≡ true
             by-side i g f (yes k) =
-                precedes-trans (cut s root 32) (cut s (getD at middle 0) 32) (cut s (getD at i 0) 32) q (ascending-all s at count a middle i k f)
+                precedes-trans key (cut s (getD at middle 0) 32) (cut s (getD at i 0) 32) q (ascending-all s at count a middle i k f)
             by-side i g f (no k) = let e : i ≡ middle = omega arith in rw e q

@@ -6,7 +6,7 @@ use mathlib.Core.List.{List, [], _∷_}
 use Prim.Native.Nat.{ℕ, zero, suc, _+_, _-_}
 use lib.ListN.{length}
 use lib.Dec.{eqb, ltb}
-use Rattle.octets.specs.Octets.{zeroHash}
+use Rattle.octets.specs.Octets.{cut, zeroHash}
 use Rattle.numbers.specs.Numbers.{wrongTree, sameRoot, layersAmiss, noSuchFile}
 use Rattle.sha256.specs.Sha256.{sha256}
 use Rattle.roots.specs.Roots.{apart, stringsAt}
@@ -85,8 +85,8 @@ fileAnswer t l base plen f =
       length = f .size;
       root = rootBytes t (f .size) (f .root);
       elements = length (f .path);
-      start = startOf base (layerString t l plen (f .size) (f .root));
-      size = sizeOf (layerString t l plen (f .size) (f .root));
+      start = startOf base (layerString l plen (f .size) (cut t (f .root) 32));
+      size = sizeOf (layerString l plen (f .size) (cut t (f .root) 32));
     }
 
 -- 29 comes after all of 19 to 28

@@ -1,6 +1,6 @@
 -- What stands before `low` or from `high` on is not the string that is looked for, `Narrowed`.
 use Rattle.roots.proofs.Narrowing.{Narrowed, narrowed-start, narrowed-none, narrowed-found, narrowed-up, narrowed-down}
-use Rattle.roots.proofs.Telling.{told}
+use Rattle.roots.proofs.Telling.{told-before, told-behind}
 use borrow.Author.Needs.{needs}
 use native.Mathlib.Omega.{arith}
 use Prim.Native.Nat.{_+_, _-_, _/_}
@@ -9,10 +9,10 @@ use Rattle.roots.proofs.halving.search.Statement.{statement}
 use Rattle.roots.proofs.halving.search.Tie as tie
 
 abbrev Inv-loop : tie.InvT-loop
-Inv-loop s at count root low₀ high₀ low high = Narrowed s at count root low high
+Inv-loop s at count key low₀ high₀ low high = Narrowed s at count key low high
 
 abbrev μ-loop : tie.MeasureT-loop
-μ-loop s at count root low₀ high₀ low high = high - low
+μ-loop s at count key low₀ high₀ low high = high - low
 
 loop-holds : tie.Need-loop-holds Inv-loop μ-loop
 loop-holds c = narrowed-start _ _ _ _
@@ -32,11 +32,11 @@ shared-slice-read-index c = search needs
 index-requires : tie.Need-index-requires Inv-loop μ-loop
 index-requires c κs = search needs
 
-before-requires : tie.Need-before-requires Inv-loop μ-loop
-before-requires c κs =
-    let b = c .before .before .before .before .before .before in
-    let fit = b .pre .2 (c .before .before .before .loop .low + (c .before .before .before .loop .high - c .before .before .before .loop .low) / 2) (omega arith) in
-    (omega (arith, c .index .ensures, fit, b .pre .1), omega (arith, c .index .ensures, fit, b .pre .1))
+precedes-key-requires : tie.Need-precedes-key-requires Inv-loop μ-loop
+precedes-key-requires c κs =
+    let b = c .before .before .before .before .before .before .before in
+    let fit = b .pre .1 (c .before .before .before .loop .low + (c .before .before .before .loop .high - c .before .before .before .loop .low) / 2) (omega arith) in
+    omega (arith, c .index .ensures, fit)
 
 add-low : tie.Need-add-low Inv-loop μ-loop
 add-low c = search needs
@@ -47,15 +47,15 @@ loop-less c = search needs
 loop-again : tie.Need-loop-again Inv-loop μ-loop
 loop-again c =
     let l = c .before .before .before .before .before .loop in
-    let b = c .before .before .before .before .before .before .before .before in
-    narrowed-up _ _ _ _ _ _ (l .inv) (l .low + (l .high - l .low) / 2) (omega arith) (omega (arith, c .before .before .before .before .loop-test .taken)) (b .pre .3)
-    (told _ _ _ _ _ _ _ (c .before .before .index .ensures) refl (c .before .before2 .ensures) (c .if1 .taken))
+    let b = c .before .before .before .before .before .before .before .before .before in
+    narrowed-up _ _ _ _ _ _ (l .inv) (l .low + (l .high - l .low) / 2) (omega arith) (omega (arith, c .before .before .before .before .loop-test .taken)) (b .pre .2)
+    (told-before _ _ _ _ _ _ (c .before .before .index .ensures) (c .before .precedes-key .ensures) (c .if1 .taken))
 
-before-requires-2 : tie.Need-before-requires-2 Inv-loop μ-loop
-before-requires-2 c κs =
-    let b = c .before .before .before .before .before .before .before .before in
-    let fit = b .pre .2 (c .before .before .before .before .before .loop .low + (c .before .before .before .before .before .loop .high - c .before .before .before .before .before .loop .low) / 2) (omega arith) in
-    (omega (arith, c .before .before .index .ensures, fit, b .pre .1), omega (arith, c .before .before .index .ensures, fit, b .pre .1))
+follows-key-requires : tie.Need-follows-key-requires Inv-loop μ-loop
+follows-key-requires c κs =
+    let b = c .before .before .before .before .before .before .before .before .before in
+    let fit = b .pre .1 (c .before .before .before .before .before .loop .low + (c .before .before .before .before .before .loop .high - c .before .before .before .before .before .loop .low) / 2) (omega arith) in
+    omega (arith, c .before .before .index .ensures, fit)
 
 loop-less-2 : tie.Need-loop-less-2 Inv-loop μ-loop
 loop-less-2 c = search needs
@@ -63,16 +63,16 @@ loop-less-2 c = search needs
 loop-again-2 : tie.Need-loop-again-2 Inv-loop μ-loop
 loop-again-2 c =
     let l = c .before .before .before .before .before .before .before .loop in
-    let b = c .before .before .before .before .before .before .before .before .before .before in
-    narrowed-down _ _ _ _ _ _ (l .inv) (l .low + (l .high - l .low) / 2) (omega arith) (omega (arith, c .before .before .before .before .before .before .loop-test .taken)) (b .pre .3)
-    (told _ _ _ _ _ _ _ refl (c .before .before .before .before .index .ensures) (c .before .before3 .ensures) (c .if2 .taken))
+    let b = c .before .before .before .before .before .before .before .before .before .before .before in
+    narrowed-down _ _ _ _ _ _ (l .inv) (l .low + (l .high - l .low) / 2) (omega arith) (omega (arith, c .before .before .before .before .before .before .loop-test .taken)) (b .pre .2)
+    (told-behind _ _ _ _ _ _ (c .before .before .before .before .index .ensures) (c .before .follows-key .ensures) (c .if2 .taken))
 
 returns : tie.Need-returns Inv-loop μ-loop
 returns c =
     let l = c .before .before .before .before .before .before .before .loop in
     narrowed-found _ _ _ _ _ _ (l .inv) (l .low + (l .high - l .low) / 2) (omega arith) (omega (arith, c .before .before .before .before .before .before .loop-test .taken))
-    (told _ _ _ _ _ _ _ (c .before .before .before .before .index .ensures) refl (c .before .before .before .before2 .ensures) (c .before .before .if1 .left))
-    (told _ _ _ _ _ _ _ refl (c .before .before .before .before .index .ensures) (c .before .before3 .ensures) (c .if2 .left))
+    (told-before _ _ _ _ _ _ (c .before .before .before .before .index .ensures) (c .before .before .before .precedes-key .ensures) (c .before .before .if1 .left))
+    (told-behind _ _ _ _ _ _ (c .before .before .before .before .index .ensures) (c .before .follows-key .ensures) (c .if2 .left))
 
 returns-2 : tie.Need-returns-2 Inv-loop μ-loop
 returns-2 c = narrowed-none _ _ _ _ _ _ (c .before .loop .inv) (c .loop-test .left)
@@ -89,11 +89,11 @@ search-spec =
     mul-index
     shared-slice-read-index
     index-requires
-    before-requires
+    precedes-key-requires
     add-low
     loop-less
     loop-again
-    before-requires-2
+    follows-key-requires
     loop-less-2
     loop-again-2
     returns
