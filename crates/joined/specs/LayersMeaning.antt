@@ -23,19 +23,15 @@ use Rattle.filetree.specs.Tree.{Listed, longs}
 use Rattle.layers.specs.Layers.{layerKeys, keysWide, worst}
 use Rattle.layers.specs.KeysLaws.{entryKeys, allWide, keys-wide, keys-count}
 use Rattle.meaning.specs.Torrent.{File, noneWith, rootsApart, layerFits, layersFit, someLonger, noOthers, layersGiveRoots}
+use Rattle.meaning.specs.FilesLaws.{RootsWide}
 use Rattle.meaning.specs.Counting.{Member, Distinct, Contained, contained-fewer, contained-all}
 use Rattle.joined.specs.RootsMeaning.{AllAlike}
-use Rattle.joined.specs.LayersRead.{long-full, alike-root, worst-number}
+use Rattle.joined.specs.LayersRead.{long-full, worst-number}
 
 -- the roots of the files longer than the piece length
 unfoldable pub longRoots : ℕ → List File → List (List ℕ)
 longRoots plen [] = []
 longRoots plen (v ∷ vs) = cond (hasLayer (v .size) plen) (v .root ∷ longRoots plen vs) (longRoots plen vs)
-
--- the root of each file that is not empty lies in the bytes
-unfoldable pub RootsWithin : List ℕ → List Listed → Type 0
-RootsWithin s [] = Unit {0}
-RootsWithin s (f ∷ fs) = ((f .size ≡ 0 → ⊥) → f .root + 32 ≤ length s) × RootsWithin s fs
 
 -- a first root that is there only if t
 first-only : (t : Bool) (k x : List ℕ) (xs : List (List ℕ)) → Member k (cond t (x ∷ xs) xs) → ((t ≡ true) × (k ≡ x)) ⊎ Member k xs
@@ -61,18 +57,13 @@ module _ (plen : ℕ) where
       by-length false ih = ih
 
   -- of 32 bytes
-  long-wide : (s : List ℕ) (fs : List Listed) (vs : List File) → AllAlike s fs vs → RootsWithin s fs → (k : List ℕ) → Member k (longRoots plen vs) → length k ≡ 32
-  unfolding AllAlike RootsWithin longRoots
-  long-wide s [] [] a w k m = absurd (unfold Member in m)
-  long-wide s [] (v ∷ vs) a w k m = absurd a
-  long-wide s (f ∷ fs) [] a w k m = absurd a
-  long-wide s (f ∷ fs) (v ∷ vs) a w k m =
+  long-wide : (vs : List File) → RootsWide vs → (k : List ℕ) → Member k (longRoots plen vs) → length k ≡ 32
+  unfolding RootsWide longRoots
+  long-wide [] w k m = absurd (unfold Member in m)
+  long-wide (v ∷ vs) w k m =
       elim (first-only (hasLayer (v .size) plen) k (v .root) (longRoots plen vs) m) [
-        | inl p ↦ (
-            let full : f .size ≡ 0 → ⊥ = λ z. long-full (v .size) plen (p .0) (a .0 .size ∙ z) in
-            ap length (p .1 ∙ alike-root s f v (a .0) full) ∙ cut-length s (f .root) 32 (w .0 full)
-            )
-        | inr n ↦ long-wide s fs vs (a .1) (w .1) k n
+        | inl p ↦ ap length (p .1) ∙ w .0 (long-full (v .size) plen (p .0))
+        | inr n ↦ long-wide vs (w .1) k n
       ]
 
   -- a root that no file has is none of them
@@ -204,7 +195,7 @@ and-no true = refl
 and-no false = refl
 
 module _ (s l : List ℕ) (ls : Entries) (bytes : l ≡ encode (dictionary ls)) (valid : Valid (dictionary ls) maxLevels) (plen : ℕ) (fs : List Listed)
-    (vs : List File) (alike : AllAlike s fs vs) (within : RootsWithin s fs) (apart : rootsApart vs ≡ true) where
+    (vs : List File) (alike : AllAlike s fs vs) (within : RootsWide vs) (apart : rootsApart vs ≡ true) where
   whole : l ≡ encode (dictionary ls) ++ []
   whole = bytes ∙ sym (append-nil (encode (dictionary ls)))
 
@@ -242,7 +233,7 @@ module _ (s l : List ℕ) (ls : Entries) (bytes : l ≡ encode (dictionary ls)) 
           let are-roots = keys-long plen vs ls e in
           let up = contained-fewer roots (entryKeys ls) (long-distinct plen vs apart) are-keys in
           let down = contained-fewer (entryKeys ls) roots distinct-keys are-roots in
-          let wide : keysWide l ≡ true = key-width ∙ keys-all-wide ls (λ k m. long-wide plen s fs vs alike within k (are-roots k m)) in
+          let wide : keysWide l ≡ true = key-width ∙ keys-all-wide ls (λ k m. long-wide plen vs within k (are-roots k m)) in
           let many : eqb (length (layerKeys l)) (longs plen fs) ≡ true = eq-eqb (length (layerKeys l)) (longs plen fs) (omega (arith, key-count, file-count)) in
           ap₂ _&&_ wide many
       by-others false e = by-count (key-left plen vs ls e) (eqb (length (layerKeys l)) (longs plen fs)) refl

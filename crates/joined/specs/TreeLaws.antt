@@ -10,7 +10,7 @@ use lib.ListN.{length, drop, length-append}
 use lib.Seq.{drop-drop}
 use Rattle.octets.specs.Octets.{cut}
 use Rattle.limits.specs.Limits.{maxLevels}
-use Rattle.bencode.specs.Grammar.{colon, letterD, letterE, Value, integer, string, list, dictionary, Entries, noEntries, entry, decimalIn, encodeString, encode, encodeEntries, KeyBefore, none, after as afterKey, Valid, EntriesValid}
+use Rattle.bencode.specs.Grammar.{colon, letterD, letterE, Value, integer, string, list, dictionary, Entries, noEntries, entry, decimal, decimalIn, encodeString, encode, encodeEntries, KeyBefore, none, after as afterKey, Valid, EntriesValid}
 use Rattle.bencode.specs.Parts.{isDictionary, present, lookup}
 use Rattle.bencode.specs.CompleteLaws.{contentStart, string-some, dictionary-bytes}
 use Rattle.bencode.specs.DepthLaws.{more-levels}
@@ -38,24 +38,44 @@ elements-down : (t : List ℕ) (path : List Element) (a b : ℕ) (k : List ℕ) 
 elements-down t [] a b k e = ap (λ (x : List ℕ). x ∷ []) e
 elements-down t (x ∷ path) a b k e = ap (λ (l : List (List ℕ)). element t x ∷ l) (elements-down t path a b k e)
 
+-- each element has the bytes that its positions say
+unfoldable pub Fits : List ℕ → List Element → Type 0
+Fits t [] = Unit {0}
+Fits t (e ∷ path) = (length (element t e) ≡ e .end - e .start) × Fits t path
+
+fits-down : (t : List ℕ) (path : List Element) (a b : ℕ) (k : List ℕ) → Fits t path → cut t a (b - a) ≡ k → length k ≡ b - a → Fits t (down path a b)
+unfolding Fits
+fits-down t [] a b k f e n = (ap length e ∙ n, tt)
+fits-down t (x ∷ path) a b k f e n = (f .0, fits-down t path a b k (f .1) e n)
+
+-- so has each element of each file
+unfoldable pub AllFit : List ℕ → List Listed → Type 0
+AllFit t [] = Unit {0}
+AllFit t (f ∷ fs) = Fits t (f .path) × AllFit t fs
+
+fit-append : (t : List ℕ) (fs gs : List Listed) → AllFit t fs → AllFit t gs → AllFit t (fs ++ gs)
+unfolding AllFit
+fit-append t [] gs x y = y
+fit-append t (f ∷ fs) gs x y = (x .0, fit-append t fs gs (x .1) y)
+
 -- ---- what a walk gives
 
 -- all entries of a directory: the files vs, and the position past them
 abbrev Gives : Bool → List ℕ → Files → ℕ → List File → Type 0
 Gives false t w end vs = w ≡ wrong
-Gives true t w end vs = (fs : List Listed) × (w ≡ files fs end) × (readFiles t fs ≡ vs)
+Gives true t w end vs = (fs : List Listed) × (w ≡ files fs end) × (readFiles t fs ≡ vs) × AllFit t fs
 
 -- one node: the files vs, and then what `go` has from behind it
 abbrev NodeGives : Bool → List ℕ → Files → (ℕ → Files) → ℕ → List File → Type 0
 NodeGives false t w go end vs = w ≡ wrong
-NodeGives true t w go end vs = (fs : List Listed) × (w ≡ after fs (go end)) × (readFiles t fs ≡ vs)
+NodeGives true t w go end vs = (fs : List Listed) × (w ≡ after fs (go end)) × (readFiles t fs ≡ vs) × AllFit t fs
 
 -- a node, and the entries behind it
 both : (a b : Bool) (t : List ℕ) (w : Files) (go : ℕ → Files) (mid end : ℕ) (vs us : List File) → NodeGives a t w go mid vs → Gives b t (go mid) end us → Gives (a && b) t w end (vs ++ us)
 both false b t w go mid end vs us n g = n
 both true false t w go mid end vs us n g = n .1 ∙ ap (after (n .0)) g
 both true true t w go mid end vs us n g =
-    (n .0 ++ g .0, n .1 ∙ ap (after (n .0)) (g .1), read-append t (n .0) (g .0) ∙ ap₂ _++_ (n .2) (g .2))
+    (n .0 ++ g .0, n .1 ∙ ap (after (n .0)) (g .1), read-append t (n .0) (g .0) ∙ ap₂ _++_ (n .2) (g .2), fit-append t (n .0) (g .0) (n .3) (g .3))
 
 -- ---- what a level of nesting is needed for
 
@@ -132,14 +152,18 @@ module _ (t : List ℕ) (sub : ℕ → List Element → Files) (go : ℕ → Fil
   bad : tokenAt t at ≡ BadToken → here ≡ wrong
   bad e = ap (onToken sub go at path) e
 
+  -- the key has the bytes between its positions
+  key-size : length k ≡ b - a
+  key-size = omega (arith, length-append (decimal (length k)) (colon ∷ k))
+
   -- a node that is no dictionary
   other-gives : (v : Value) → NodeAt t at k v q → isDictionaryValue v ≡ false → here ≡ wrong
   other-gives v n e = bad (n .token ∙ node-other t a b q (ap isDictionary (n .value) ∙ dictionary-is v q ∙ e))
 
   -- a node whose first key is empty: a file
-  file-gives : (w : Value) (es : Entries) → NodeAt t at k (dictionary (entry [] w es)) q → Valid w maxLevels
+  file-gives : (w : Value) (es : Entries) → NodeAt t at k (dictionary (entry [] w es)) q → Valid w maxLevels → Fits t path
       → NodeGives (noMore es && fileRight w) t here go (b + length (encode (dictionary (entry [] w es)))) (fileValue inside (entriesOf (present w)) ∷ [])
-  file-gives w es n valid = by-file (fileAt t y) refl (file-is t y w (encodeEntries es ++ q) there valid)
+  file-gives w es n valid fit = by-file (fileAt t y) refl (file-is t y w (encodeEntries es ++ q) there valid)
     where
       y : ℕ
       y = valueStart (b + 1) []
@@ -165,6 +189,7 @@ module _ (t : List ℕ) (sub : ℕ → List Element → Files) (go : ℕ → Fil
             listedAs size r (down path a b) ∷ [],
             ap (onToken sub go at path) leaf ∙ ap (λ (z : ℕ). after (listedAs size r (down path a b) ∷ []) (go z)) past,
             ap (λ (z : File). z ∷ []) (is-read size r g),
+            unfold AllFit in (fits-down t path a b k fit (n .key) key-size, tt),
           )
         where
           is-read : (size r : ℕ) → FileAgrees t (fileRight w) (entriesOf (present w)) (Right size r) → readFile t (listedAs size r (down path a b)) ≡ fileValue inside (entriesOf (present w))
@@ -183,14 +208,14 @@ module _ (t : List ℕ) (sub : ℕ → List Element → Files) (go : ℕ → Fil
   open-gives true c cs w es vs n g =
       let opens : here ≡ onward (sub (b + 1) (down path a b)) go = ap (onToken sub go at path) (n .token ∙ node-opened t a b q c cs w es (n .value)) in
       let end : b + 1 + length (encodeEntries (entry (c ∷ cs) w es)) ≡ b + length (encode (dictionary (entry (c ∷ cs) w es))) = omega (arith, ap length (dictionary-bytes (entry (c ∷ cs) w es))) in
-      (g .0, opens ∙ ap (λ (z : Files). onward z go) (g .1) ∙ ap (λ (z : ℕ). after (g .0) (go z)) end, g .2)
+      (g .0, opens ∙ ap (λ (z : Files). onward z go) (g .1) ∙ ap (λ (z : ℕ). after (g .0) (go z)) end, g .2, g .3)
 
 -- ---- all entries of a directory, in levels and entries
 
 -- the entries es of the directory `path` give what their value says, with a level below them or more
 abbrev Walks : List ℕ → Entries → Type 0
 Walks t es = (l at steps : ℕ) (r : List ℕ) (j : KeyBefore) (path : List Element) → drop at t ≡ encodeEntries es ++ r → EntriesValid es j (suc (suc l)) → suc (suc l) ≤ maxLevels
-    → length (encodeEntries es) ≤ steps
+    → length (encodeEntries es) ≤ steps → Fits t path
     → Gives (nodesRight es) t (filesFrom (filesBelow l t) steps t at path) (at + length (encodeEntries es)) (filesOfEntries (elements t path) es)
 
 -- more steps than bytes are enough
@@ -205,22 +230,23 @@ steps-enough t at es r e = omega (arith, ap length e, length-append (encodeEntri
 
 -- a directory inside: too deep, or its entries
 inside-gives : (t : List ℕ) (l at : ℕ) (path : List Element) (c : ℕ) (cs : List ℕ) (w : Value) (es : Entries) (r : List ℕ) → Walks t (entry (c ∷ cs) w es)
-    → drop at t ≡ encodeEntries (entry (c ∷ cs) w es) ++ r → EntriesValid (entry (c ∷ cs) w es) none (suc l) → suc l ≤ maxLevels
+    → drop at t ≡ encodeEntries (entry (c ∷ cs) w es) ++ r → EntriesValid (entry (c ∷ cs) w es) none (suc l) → suc l ≤ maxLevels → Fits t path
     → Gives (nodesRight (entry (c ∷ cs) w es)) t (filesBelow l t at path) (at + length (encodeEntries (entry (c ∷ cs) w es))) (filesOfEntries (elements t path) (entry (c ∷ cs) w es))
 unfolding filesBelow
-inside-gives t zero at path c cs w es r walks e h m = rw (nodes-shallow (c ∷ cs) w es none h) refl
-inside-gives t (suc l) at path c cs w es r walks e h m = walks l at (suc (length t)) r none path e h m (steps-enough t at (entry (c ∷ cs) w es) r e)
+inside-gives t zero at path c cs w es r walks e h m fit = rw (nodes-shallow (c ∷ cs) w es none h) refl
+inside-gives t (suc l) at path c cs w es r walks e h m fit = walks l at (suc (length t)) r none path e h m (steps-enough t at (entry (c ∷ cs) w es) r e) fit
 
 -- a node that is a dictionary, by its first key
 branch-gives : (es : Entries) (t : List ℕ) → Walks t es → (l at : ℕ) (k q : List ℕ) (path : List Element) (go : ℕ → Files) → NodeAt t at k (dictionary es) q → EntriesValid es none (suc l)
-    → suc l ≤ maxLevels
+    → suc l ≤ maxLevels → Fits t path
     → NodeGives (branchRight es) t (onToken (filesBelow l t) go at path (tokenAt t at)) go (valueStart at k + length (encode (dictionary es))) (filesOfEntries (elements t path ++ (k ∷ [])) es)
 unfolding branchRight nodesRight filesOfEntries Valid
-branch-gives noEntries t walks l at k q path go n h m = bad t (filesBelow l t) go at path k q (n .token ∙ node-empty t (contentStart at k) (valueStart at k) q (n .value))
-branch-gives (entry [] w es) t walks l at k q path go n h m = file-gives t (filesBelow l t) go at path k q w es n (more-levels w (suc l) maxLevels m (h .1))
-branch-gives (entry (c ∷ cs) w es) t walks l at k q path go n h m =
+branch-gives noEntries t walks l at k q path go n h m fit = bad t (filesBelow l t) go at path k q (n .token ∙ node-empty t (contentStart at k) (valueStart at k) q (n .value))
+branch-gives (entry [] w es) t walks l at k q path go n h m fit = file-gives t (filesBelow l t) go at path k q w es n (more-levels w (suc l) maxLevels m (h .1)) fit
+branch-gives (entry (c ∷ cs) w es) t walks l at k q path go n h m fit =
     let b = valueStart at k in
-    let below = inside-gives t l (b + 1) (down path (contentStart at k) b) c cs w es q walks (entries-there t b (entry (c ∷ cs) w es) q (n .value)) h m in
+    let below = inside-gives t l (b + 1) (down path (contentStart at k) b) c cs w es q walks (entries-there t b (entry (c ∷ cs) w es) q (n .value)) h m
+    (fits-down t path (contentStart at k) b k fit (n .key) (key-size t (filesBelow l t) go at path k q)) in
     open-gives t (filesBelow l t) go at path k q (nodesRight (entry (c ∷ cs) w es)) c cs w es (filesOfEntries (elements t path ++ (k ∷ [])) (entry (c ∷ cs) w es)) n
     (rw (elements-down t path (contentStart at k) b k (n .key)) at below)
 
@@ -233,9 +259,9 @@ from-step sub steps t at path = refl
 -- an end
 none-gives : (t : List ℕ) → Walks t noEntries
 unfolding nodesRight filesOfEntries encode
-none-gives t l at zero r j path e h m g = absurd (omega arith)
-none-gives t l at (suc steps) r j path e h m g =
-    ([], from-step (filesBelow l t) steps t at path ∙ ap (onToken (filesBelow l t) (λ k. filesFrom (filesBelow l t) steps t k path) at path) (token-end t at r e), refl)
+none-gives t l at zero r j path e h m g fit = absurd (omega arith)
+none-gives t l at (suc steps) r j path e h m g fit =
+    ([], from-step (filesBelow l t) steps t at path ∙ ap (onToken (filesBelow l t) (λ k. filesFrom (filesBelow l t) steps t k path) at path) (token-end t at r e), refl, unfold AllFit in tt)
 
 -- a key that is no path element
 key-wrong : (sub : ℕ → List Element → Files) (go : ℕ → Files) (t : List ℕ) (at : ℕ) (path : List Element) (k q : List ℕ) → drop at t ≡ encodeString k ++ q → elementRight k ≡ false
@@ -290,33 +316,33 @@ mutual
   unfolding nodeRight branchRight nodesRight elementRight filesOfNode filesOfEntries Valid
 
   -- a node gives what its value says
-  node-gives : (v : Value) (t : List ℕ) (l at : ℕ) (k q : List ℕ) (path : List Element) (go : ℕ → Files) → NodeAt t at k v q → Valid v (suc (suc l)) → suc (suc l) ≤ maxLevels
+  node-gives : (v : Value) (t : List ℕ) (l at : ℕ) (k q : List ℕ) (path : List Element) (go : ℕ → Files) → NodeAt t at k v q → Valid v (suc (suc l)) → suc (suc l) ≤ maxLevels → Fits t path
       → NodeGives (nodeRight v) t (onToken (filesBelow l t) go at path (tokenAt t at)) go (valueStart at k + length (encode v)) (filesOfNode (elements t path ++ (k ∷ [])) v)
-  node-gives (integer minus i) t l at k q path go n h m = other-gives t (filesBelow l t) go at path k q (integer minus i) n refl
-  node-gives (string b) t l at k q path go n h m = other-gives t (filesBelow l t) go at path k q (string b) n refl
-  node-gives (list vs) t l at k q path go n h m = other-gives t (filesBelow l t) go at path k q (list vs) n refl
-  node-gives (dictionary es) t l at k q path go n h m = branch-gives es t (entries-give es t) l at k q path go n h (omega arith)
+  node-gives (integer minus i) t l at k q path go n h m fit = other-gives t (filesBelow l t) go at path k q (integer minus i) n refl
+  node-gives (string b) t l at k q path go n h m fit = other-gives t (filesBelow l t) go at path k q (string b) n refl
+  node-gives (list vs) t l at k q path go n h m fit = other-gives t (filesBelow l t) go at path k q (list vs) n refl
+  node-gives (dictionary es) t l at k q path go n h m fit = branch-gives es t (entries-give es t) l at k q path go n h (omega arith) fit
 
   -- the entries of a directory, one after the other
   entries-give : (es : Entries) (t : List ℕ) → Walks t es
   entries-give noEntries t = none-gives t
-  entries-give (entry [] v es) t = λ l at steps r j path e h m g. first-wrong t l at steps path [] (encode v ++ (encodeEntries es ++ r)) (e ∙ entry-bytes [] v es r) refl
-  entries-give (entry (c ∷ cs) v es) t = λ l at steps r j path e h m g.
+  entries-give (entry [] v es) t = λ l at steps r j path e h m g fit. first-wrong t l at steps path [] (encode v ++ (encodeEntries es ++ r)) (e ∙ entry-bytes [] v es r) refl
+  entries-give (entry (c ∷ cs) v es) t = λ l at steps r j path e h m g fit.
       entry-gives (c ∷ cs) v es t l at r path (filesOfNode (elements t path ++ ((c ∷ cs) ∷ [])) v) steps e g
-      (λ o go. node-gives v t l at (c ∷ cs) (encodeEntries es ++ r) path go (node-at t at (c ∷ cs) v (encodeEntries es ++ r) o (e ∙ entry-bytes (c ∷ cs) v es r)) (h .1) m)
-      (λ n f k. entries-give es t l (valueStart at (c ∷ cs) + length (encode v)) n r (afterKey (c ∷ cs)) path f (h .2) m k)
+      (λ o go. node-gives v t l at (c ∷ cs) (encodeEntries es ++ r) path go (node-at t at (c ∷ cs) v (encodeEntries es ++ r) o (e ∙ entry-bytes (c ∷ cs) v es r)) (h .1) m fit)
+      (λ n f k. entries-give es t l (valueStart at (c ∷ cs) + length (encode v)) n r (afterKey (c ∷ cs)) path f (h .2) m k fit)
 
 -- ---- the file tree
 
 -- what is read of the whole tree
 abbrev TreeIs : Bool → List ℕ → Files → List File → Type 0
 TreeIs false t w vs = right w ≡ false
-TreeIs true t w vs = (right w ≡ true) × (readFiles t (listed w) ≡ vs)
+TreeIs true t w vs = (right w ≡ true) × (readFiles t (listed w) ≡ vs) × AllFit t (listed w)
 
 tree-gives : (o : Bool) (t : List ℕ) (w : Files) (end : ℕ) (vs : List File) → Gives o t w end vs → TreeIs o t w vs
 unfolding right listed
 tree-gives false t w end vs g = ap right g
-tree-gives true t w end vs g = (ap right (g .1), ap (λ (z : Files). readFiles t (listed z)) (g .1) ∙ g .2)
+tree-gives true t w end vs g = (ap right (g .1), ap (λ (z : Files). readFiles t (listed z)) (g .1) ∙ g .2, rw (g .1) (g .3))
 
 -- the walk from the top
 top-step : (t : List ℕ) → filesBelow maxElements t 1 [] ≡ filesFrom (filesBelow 27 t) (suc (length t)) t 1 []
@@ -336,7 +362,7 @@ tree-is t es e h = by-first es refl (behind ∙ sym (append-nil (encodeEntries e
         rw (ap endsHere f ∙ ends-is (entry k u us) [])
         (rw (top-step t)
         (tree-gives (nodesRight (entry k u us)) t (filesFrom (filesBelow 27 t) (suc (length t)) t 1 []) (1 + length (encodeEntries (entry k u us))) (filesOfEntries [] (entry k u us))
-        (entries-give (entry k u us) t 27 1 (suc (length t)) [] none [] f v (omega arith) (steps-enough t 1 (entry k u us) [] f))))
+        (entries-give (entry k u us) t 27 1 (suc (length t)) [] none [] f v (omega arith) (steps-enough t 1 (entry k u us) [] f) (unfold Fits in tt))))
 
 module _ (t : List ℕ) (es : Entries) (e : t ≡ encode (dictionary es)) (h : Valid (dictionary es) 30) where
   -- the tree's bytes are right exactly if the value is
@@ -353,4 +379,12 @@ module _ (t : List ℕ) (es : Entries) (e : t ≡ encode (dictionary es)) (h : V
     where
       by-right : (o : Bool) → o ≡ true → TreeIs o t (filesIn t) (filesOfEntries [] es) → readFiles t (listed (filesIn t)) ≡ filesOfEntries [] es
       by-right true g w = w .1
+      by-right false g w = absurd (false≢true g)
+
+  -- and their path elements have the bytes that their positions say
+  pub tree-fits : treeRight es ≡ true → AllFit t (listed (filesIn t))
+  tree-fits q = by-right (treeRight es) q (tree-is t es e h)
+    where
+      by-right : (o : Bool) → o ≡ true → TreeIs o t (filesIn t) (filesOfEntries [] es) → AllFit t (listed (filesIn t))
+      by-right true g w = w .2
       by-right false g w = absurd (false≢true g)

@@ -1,8 +1,10 @@
 pub mod Keys
 pub mod Nth
+pub mod NthLaws
 pub mod Torrent
 pub mod Amiss
 pub mod TestsLaws
 pub mod AmissLaws
+pub mod FilesLaws
 pub mod Counting
 pub mod Examples

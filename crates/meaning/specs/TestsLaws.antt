@@ -189,7 +189,7 @@ root-some (present (integer minus n)) e = absurd (false≢true e)
 root-some (present (list vs)) e = absurd (false≢true e)
 root-some (present (dictionary es)) e = absurd (false≢true e)
 
-file-yes : (v : Value) → fileRight v ≡ true → RightFile v
+pub file-yes : (v : Value) → fileRight v ≡ true → RightFile v
 unfolding fileRight
 file-yes (integer minus n) e = absurd (false≢true e)
 file-yes (string b) e = absurd (false≢true e)
@@ -229,7 +229,7 @@ first-right k v noEntries e n r = one k v e n
 first-right k v (entry j u es) e n r = more k v (entry j u es) e n r
 
 -- three tests
-three-true : (a b c : Bool) → a && (b && c) ≡ true → (a ≡ true) × (b ≡ true) × (c ≡ true)
+pub three-true : (a b c : Bool) → a && (b && c) ≡ true → (a ≡ true) × (b ≡ true) × (c ≡ true)
 three-true true true c q = (refl, refl, q)
 three-true false b c q = absurd (false≢true q)
 three-true true false c q = absurd (false≢true q)
