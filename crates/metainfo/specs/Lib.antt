@@ -1,1 +1,2 @@
 pub mod Metainfo
+pub mod MetainfoLaws

@@ -1,3 +1,4 @@
+use Rattle.metainfo.proofs.Finding.{tree-found, layers-found}
 use native.Mathlib.Omega.{arith}
 use Prim.Native.Nat.{ℕ, _+_, _-_, _*_, _≤_, _<_, _/_, _%_, _^_}
 use lib.ListN.{length, getD, set, take, drop}
@@ -57,15 +58,15 @@ info-keys-requires c κs = search needs
 
 -- src/lib.rt:127:1
 returns : tie.Need-returns
-returns c = ?
+returns c = c .no-keys .ensures ∙ sym (tree-found _ _ _ (sym (c .before .before .before .find-dictionary .ensures) ∙ c .before .enum-told .given .1))
 
 -- src/lib.rt:127:1
 returns-2 : tie.Need-returns-2
-returns-2 c = ?
+returns-2 c = c .no-keys2 .ensures ∙ sym (layers-found _ _ _ _ _ (sym (c .before .before .before .before .before .before .before .before .find-dictionary .ensures) ∙ c .before .before .before .before .before .before .start .given .1) (sym (c .before .before .before .find-dictionary2 .ensures) ∙ c .before .enum-told2 .given .1))
 
 -- src/lib.rt:127:1
 returns-3 : tie.Need-returns-3
-returns-3 c = ?
+returns-3 c = c .info-keys .ensures ∙ sym (layers-found _ _ _ _ _ (sym (c .before .before .before .before .before .before .before .before .before .find-dictionary .ensures) ∙ c .before .before .before .before .before .before .before .start .given .1) (sym (c .before .before .before .before .find-dictionary2 .ensures) ∙ c .before .before .layers .given .1))
 
 pub dictionary-keys-spec : {M : Type 1} → statement M
 dictionary-keys-spec =

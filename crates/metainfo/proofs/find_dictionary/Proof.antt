@@ -1,42 +1,31 @@
-use native.Mathlib.Omega.{arith}
-use Prim.Native.Nat.{ℕ, _+_, _-_, _*_, _≤_, _<_, _/_, _%_, _^_}
-use lib.ListN.{length, getD, set, take, drop}
-use mathlib.Core.Path.{_≡_, refl, ap, sym, _∙_}
+use Rattle.metainfo.proofs.Finding.{dictionary-so, dictionary-not}
+use Rattle.metainfo.specs.Metainfo.{dictionaryIn}
+use Prim.Native.Nat.{_-_}
+use mathlib.Core.Path.{ap, sym, _∙_}
 use borrow.Author.Needs.{needs}
 use Rattle.metainfo.proofs.find_dictionary.Statement.{statement}
 use Rattle.metainfo.proofs.find_dictionary.Tie as tie
-use Rattle.metainfo.proofs.find_dictionary.Reads as reads
-use Rattle.metainfo.proofs.find_dictionary.Lts as lts
-use Rattle.bencode.proofs.parts.find.Reads as find-reads
-use Rattle.bencode.proofs.parts.is_dictionary.Reads as is-dictionary-reads
 
--- src/lib.rt:55:11
 find-requires : tie.Need-find-requires
 find-requires c κs = search needs
 
--- src/lib.rt:56:27
 enum-told : tie.Need-enum-told
 enum-told c = search needs
 
--- src/lib.rt:57:23
 enum-known-start : tie.Need-enum-known-start
 enum-known-start c = search needs
 
--- src/lib.rt:58:16
 is-dictionary-requires : tie.Need-is-dictionary-requires
 is-dictionary-requires c κs = search needs
 
--- src/lib.rt:59:17
 returns : tie.Need-returns
-returns c = ?
+returns c = sym (dictionary-so _ _ _ _ (sym (c .before .before .before .before .before .find .ensures) ∙ c .before .before .before .start .given .1) (sym (c .before .is-dictionary .ensures) ∙ c .if1 .taken))
 
--- src/lib.rt:52:1
 returns-2 : tie.Need-returns-2
-returns-2 c = ?
+returns-2 c = sym (ap (dictionaryIn (c .before .before .before .before .before .args .s .now)) (sym (c .before .before .find .ensures) ∙ c .enum-told .given .1))
 
--- src/lib.rt:52:1
 returns-3 : tie.Need-returns-3
-returns-3 c = ?
+returns-3 c = sym (dictionary-not _ _ _ _ (sym (c .before .before .before .before .before .find .ensures) ∙ c .before .before .before .start .given .1) (sym (c .before .is-dictionary .ensures) ∙ c .if1 .left))
 
 pub find-dictionary-spec : {M : Type 1} → statement M
 find-dictionary-spec =

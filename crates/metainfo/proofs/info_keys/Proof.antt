@@ -1,3 +1,4 @@
+use Rattle.metainfo.proofs.Finding.{length-found, version-found}
 use native.Mathlib.Omega.{arith}
 use Prim.Native.Nat.{ℕ, _+_, _-_, _*_, _≤_, _<_, _/_, _%_, _^_}
 use lib.ListN.{length, getD, set, take, drop}
@@ -57,15 +58,15 @@ right-keys-requires c κs = search needs
 
 -- src/lib.rt:96:1
 returns : tie.Need-returns
-returns c = ?
+returns c = c .no-keys .ensures ∙ sym (length-found _ _ _ _ _ (sym (c .before .before .before .find-integer .ensures) ∙ c .before .enum-told .given .1))
 
 -- src/lib.rt:96:1
 returns-2 : tie.Need-returns-2
-returns-2 c = ?
+returns-2 c = c .no-keys2 .ensures ∙ sym (version-found _ _ _ _ _ _ _ _ (sym (c .before .before .before .before .before .before .before .before .find-integer .ensures) ∙ c .before .before .before .before .before .before .below .given .1) (sym (c .before .before .before .find-integer2 .ensures) ∙ c .before .enum-told2 .given .1))
 
 -- src/lib.rt:96:1
 returns-3 : tie.Need-returns-3
-returns-3 c = ?
+returns-3 c = c .right-keys .ensures ∙ sym (version-found _ _ _ _ _ _ _ _ (sym (c .before .before .before .before .before .before .before .before .before .find-integer .ensures) ∙ c .before .before .before .before .before .before .before .below .given .1) (sym (c .before .before .before .before .find-integer2 .ensures) ∙ c .before .before .minus .given .1))
 
 pub info-keys-spec : {M : Type 1} → statement M
 info-keys-spec =

@@ -1,3 +1,4 @@
+use Rattle.metainfo.proofs.Finding.{none-found}
 use native.Mathlib.Omega.{arith}
 use Prim.Native.Nat.{ℕ, _+_, _-_, _*_, _≤_, _<_, _/_, _%_, _^_}
 use lib.ListN.{length, getD, set, take, drop}
@@ -23,7 +24,7 @@ no-part-requires-3 c κs = search needs
 
 -- src/lib.rt:39:1
 returns : tie.Need-returns
-returns c = ?
+returns c = none-found _ _ _ _ (c .before .before .no-part .ensures) (c .before .no-part2 .ensures) (c .no-part3 .ensures)
 
 pub no-keys-spec : {M : Type 1} → statement M
 no-keys-spec = tie.close (tie.spec no-part-requires no-part-requires-2 no-part-requires-3 returns)
