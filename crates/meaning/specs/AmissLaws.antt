@@ -11,7 +11,7 @@ use Rattle.bencode.specs.Grammar.{Entries}
 use Rattle.bencode.specs.Parts.{lookup}
 use Rattle.meaning.specs.Keys.{keyMetaVersion}
 use Rattle.meaning.specs.Torrent.{hasKeys, isNumber, infoOf, treeOf, plenOf, layersOf, filesOf, treeRight, rootsApart, layersFit, noOthers, layersGiveRoots, valueNumber}
-use Rattle.meaning.specs.Amiss.{Amiss22, Amiss23, Amiss24, Amiss25, Amiss26, Amiss27, Amiss28, NoneBelow23, NoneBelow24, NoneBelow25, NoneBelow26, NoneBelow27, NoneBelow28, NoneAmiss}
+use Rattle.meaning.specs.Amiss.{RightDirectory, LayersRight, Amiss22, Amiss23, Amiss24, Amiss25, Amiss26, Amiss27, Amiss28, NoneBelow23, NoneBelow24, NoneBelow25, NoneBelow26, NoneBelow27, NoneBelow28, NoneAmiss}
 use Rattle.meaning.specs.TestsLaws.{keys-amiss, keys-right, version-amiss, version-right, piece-amiss, piece-right, tree-yes, tree-no, roots-amiss, roots-right, layers-yes, layers-no, gives-amiss, gives-right}
 
 -- ---- a test, the number if it fails, and what comes else
@@ -257,3 +257,11 @@ module _ (torrent : Entries) where
             ∙ rw (a-no (w .0 .0 .0 .0 .0 .0), b-no (w .0 .0 .0 .0 .0 .1), c-no (w .0 .0 .0 .0 .1), d-no (w .0 .0 .0 .1), e-no (w .0 .0 .1), f-no (w .0 .1), is-true g (g-false (f-no (w .0 .1))) (w .1))
             refl,
   )
+
+  -- so where the number is 0 the tree is right
+  pub right-tree : valueNumber torrent ≡ 0 → RightDirectory (treeOf torrent)
+  right-tree q = tree-yes (treeOf torrent) (on d from26 wrongTree 0 (λ z. omega arith) (past24 0 (inl refl) q .1) .0)
+
+  -- and so are the layers
+  pub all-layers : valueNumber torrent ≡ 0 → LayersRight (plenOf torrent) (layersOf torrent) (filesOf torrent)
+  all-layers q = layers-yes (plenOf torrent) (layersOf torrent) (filesOf torrent) (past27 0 (inl refl) q .1)

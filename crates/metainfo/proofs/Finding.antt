@@ -8,6 +8,7 @@ use native.Mathlib.Omega.{arith}
 use lib.ListN.{length, drop}
 use lib.Dec.{eqb, leb}
 use borrow.Author.Tests.{eq-eqb, ne-eqb, le-leb, lt-leb}
+use Rattle.meaning.specs.Keys.{keyInfo, keyFileTree, keyPieceLength, keyMetaVersion, keyPieceLayers}
 use Rattle.limits.specs.Limits.{largestTorrent}
 use Rattle.numbers.specs.Numbers.{torrentTooLarge, keyMissing, otherVersion, pieceLengthOutOfRange}
 use Rattle.tree.specs.Geometry.{isPieceLength}
@@ -17,7 +18,7 @@ use Rattle.bencode.specs.declared.scalar.Integer.{Integer}
 use Rattle.bencode.specs.declared.scalar.Integer.the-variants.{Whole, NoInteger}
 use Rattle.bencode.specs.declared.parts.Found.{Found}
 use Rattle.bencode.specs.declared.parts.Found.the-variants.{Part, Missing}
-use Rattle.metainfo.specs.Metainfo.{keyInfo, keyFileTree, keyPieceLength, keyMetaVersion, keyPieceLayers, dictionaryIn, findDictionary, findInteger, partOf, noPart, noKeys, rightKeys, withVersion, withPieceLength, infoKeys, withLayers, withTree, dictionaryKeys, withInfo, keysOf, ifStrict, metainfoOf}
+use Rattle.metainfo.specs.Metainfo.{dictionaryIn, findDictionary, findInteger, partOf, noPart, noKeys, rightKeys, withVersion, withPieceLength, infoKeys, withLayers, withTree, dictionaryKeys, withInfo, keysOf, ifStrict, metainfoOf}
 use Rattle.metainfo.specs.declared.Part.{Part as PartOf}
 use Rattle.metainfo.specs.declared.Keys.{Keys}
 
