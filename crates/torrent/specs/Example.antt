@@ -14,10 +14,12 @@ use Rattle.numbers.specs.Numbers.{noSuchFile}
 use Rattle.tree.specs.Geometry.{isPieceLength, pieceLayer, height, heightFrom, hasLayer}
 use Rattle.bencode.specs.Grammar.{Value, integer, string, dictionary, Entries, noEntries, entry, decimalIn, encode, precedes, Valid}
 use Rattle.bencode.specs.Parts.{lookup}
+use Rattle.meaning.specs.Nth.{Nth}
 use Rattle.meaning.specs.Torrent.{File, filesOf, hasKeys, elementRight, fileRight, nodeRight, branchRight, nodesRight, treeRight, filesOfNode, filesOfEntries, noneWith, rootsApart, layersFit, noOthers, layersGiveRoots, valueNumber}
 use Rattle.torrent.specs.Torrent.{readOf, noFileRead, fileRead, pathRead}
 use Rattle.torrent.specs.NumberMeans.{number-is-the-values, read-number}
-use Rattle.torrent.specs.ReadMeans.{Nth, FileIs, PartIs, file-is, no-file, element-is}
+use Rattle.torrent.specs.Answers.{FileIs, PartIs}
+use Rattle.torrent.specs.ReadMeans.{file-is, no-file, element-is}
 
 -- a file, by an empty key alone
 abbrev file : Entries → Value

@@ -16,16 +16,19 @@ use Rattle.sha256.specs.Sha256Laws.{pair-octets}
 use Rattle.tree.specs.Geometry.{blockCount, ceilDiv, isPieceLength, pieceLayer, pieceCount, height, heightFrom, hasLayer}
 use Rattle.tree.specs.Values.{node, layerLeaf, layerRoot}
 use Rattle.bencode.specs.Grammar.{colon, Value, integer, string, dictionary, Entries, noEntries, entry, decimalIn, decimal, encodeString, encode, encodeEntries, precedes, Valid}
+use Rattle.bencode.specs.PartsLaws.{entries-length}
 use Rattle.bencode.specs.Parts.{Lookup, present, absent, lookup}
-use Rattle.meaning.specs.Torrent.{File, entriesOf, isNumber, infoOf, filesOf, plenOf, layersOf, hasKeys, elementRight, fileRight, nodeRight, branchRight, nodesRight, treeRight, filesOfNode, filesOfEntries, noneWith, rootsApart, layerFits, layersFit, someLonger, noOthers, givesRoot, layerBytes, layersGiveRoots, valueNumber}
+use Rattle.meaning.specs.Nth.{Nth}
+use Rattle.meaning.specs.Torrent.{File, isNumber, infoOf, treeOf, filesOf, plenOf, layersOf, hasKeys, elementRight, fileRight, nodeRight, branchRight, nodesRight, treeRight, filesOfNode, filesOfEntries, noneWith, rootsApart, layerFits, layersFit, someLonger, noOthers, givesRoot, layerBytes, layersGiveRoots, valueNumber}
 use Rattle.torrent.specs.Torrent.{readOf, fileRead}
 use Rattle.torrent.specs.NumberMeans.{number-is-the-values, read-number}
-use Rattle.torrent.specs.ReadMeans.{Nth, FileIs, file-is}
+use Rattle.torrent.specs.Answers.{FileIs}
+use Rattle.torrent.specs.ReadMeans.{file-is}
 
 -- ---- a torrent gets 0 where all seven tests of its value pass
 
 all-pass : (es : Entries) → hasKeys es ≡ true → isNumber 2 (lookup keyMetaVersion (infoOf es)) ≡ true → isPieceLength (plenOf es) ≡ true
-    → treeRight (entriesOf (lookup keyFileTree (infoOf es))) ≡ true → rootsApart (filesOf es) ≡ true → layersFit (plenOf es) (layersOf es) (filesOf es) ≡ true
+    → treeRight (treeOf es) ≡ true → rootsApart (filesOf es) ≡ true → layersFit (plenOf es) (layersOf es) (filesOf es) ≡ true
     → noOthers (plenOf es) (filesOf es) (layersOf es) ≡ true → layersGiveRoots (plenOf es) (layersOf es) (filesOf es) ≡ true → valueNumber es ≡ 0
 unfolding valueNumber
 all-pass es a b c d e f g h = rw (a, b, c, d, e, f, g, h) refl
@@ -76,7 +79,7 @@ module _ (root : List ℕ) where
   unfolding lookup same isPieceLength pieceLayer height heightFrom
   piece-right = refl
 
-  tree-right : length root ≡ 32 → treeRight (entriesOf (lookup keyFileTree (infoOf withRoot))) ≡ true
+  tree-right : length root ≡ 32 → treeRight (treeOf withRoot) ≡ true
   unfolding lookup same treeRight branchRight nodeRight nodesRight elementRight fileRight
   tree-right e = ap (λ (t : Bool). t && true) (eq-eqb (length root) 32 e)
 
@@ -117,14 +120,10 @@ module _ (root : List ℕ) where
 
 -- ---- its size
 
--- a dictionary takes a byte more than its entries with their end, an entry takes its key and its value
+-- a dictionary takes a byte more than its entries with their end
 dictionary-size : (es : Entries) → length (encode (dictionary es)) ≡ suc (length (encodeEntries es))
 unfolding encode
 dictionary-size es = refl
-
-entry-size : (k : List ℕ) (v : Value) (es : Entries) → length (encodeEntries (entry k v es)) ≡ length (encodeString k) + length (encode v) + length (encodeEntries es)
-unfolding encode
-entry-size k v es = let la = length-append (encodeString k) (encode v ++ encodeEntries es) in let lb = length-append (encode v) (encodeEntries es) in omega arith
 
 -- a string of 32 bytes takes 35
 string-size : (b : List ℕ) → length b ≡ 32 → length (encodeString b) ≡ 35
@@ -151,14 +150,14 @@ with-size root e =
     let leaf : Entries = entry keyLength (integer false 16385) (entry keyPiecesRoot (string root) noEntries) in
     let node : Entries = entry [] (dictionary leaf) noEntries in
     let layers-entry : Entries = entry keyPieceLayers (dictionary (layers root)) noEntries in
-    let in-leaf = entry-size keyLength (integer false 16385) (entry keyPiecesRoot (string root) noEntries) in
-    let in-root = entry-size keyPiecesRoot (string root) noEntries in
-    let in-node = entry-size [] (dictionary leaf) noEntries in
-    let in-tree = entry-size (99 ∷ []) (dictionary node) noEntries in
-    let in-info = entry-size keyFileTree (dictionary (tree root)) afterTree in
-    let in-layers = entry-size root (string layer) noEntries in
-    let in-last = entry-size keyPieceLayers (dictionary (layers root)) noEntries in
-    let in-torrent = entry-size keyInfo (dictionary (info root)) layers-entry in
+    let in-leaf = entries-length keyLength (integer false 16385) (entry keyPiecesRoot (string root) noEntries) in
+    let in-root = entries-length keyPiecesRoot (string root) noEntries in
+    let in-node = entries-length [] (dictionary leaf) noEntries in
+    let in-tree = entries-length (99 ∷ []) (dictionary node) noEntries in
+    let in-info = entries-length keyFileTree (dictionary (tree root)) afterTree in
+    let in-layers = entries-length root (string layer) noEntries in
+    let in-last = entries-length keyPieceLayers (dictionary (layers root)) noEntries in
+    let in-torrent = entries-length keyInfo (dictionary (info root)) layers-entry in
     omega (
       arith,
       fixed-sizes,

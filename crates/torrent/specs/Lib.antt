@@ -1,4 +1,5 @@
 pub mod Torrent
+pub mod Answers
 pub mod CheckLaws
 pub mod NumberMeans
 pub mod ReadMeans
