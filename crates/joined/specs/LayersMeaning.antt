@@ -23,7 +23,7 @@ use Rattle.filetree.specs.Tree.{Listed, longs}
 use Rattle.layers.specs.Layers.{layerKeys, keysWide, worst}
 use Rattle.layers.specs.KeysLaws.{entryKeys, allWide, keys-wide, keys-count}
 use Rattle.meaning.specs.Torrent.{File, noneWith, rootsApart, layerFits, layersFit, someLonger, noOthers, layersGiveRoots}
-use Rattle.meaning.specs.FilesLaws.{RootsWide}
+use Rattle.meaning.specs.FilesLaws.{AllHold}
 use Rattle.meaning.specs.Counting.{Member, Distinct, Contained, contained-fewer, contained-all}
 use Rattle.joined.specs.RootsMeaning.{AllAlike}
 use Rattle.joined.specs.LayersRead.{long-full, worst-number}
@@ -57,12 +57,12 @@ module _ (plen : ℕ) where
       by-length false ih = ih
 
   -- of 32 bytes
-  long-wide : (vs : List File) → RootsWide vs → (k : List ℕ) → Member k (longRoots plen vs) → length k ≡ 32
-  unfolding RootsWide longRoots
+  long-wide : (vs : List File) → AllHold vs → (k : List ℕ) → Member k (longRoots plen vs) → length k ≡ 32
+  unfolding AllHold longRoots
   long-wide [] w k m = absurd (unfold Member in m)
   long-wide (v ∷ vs) w k m =
       elim (first-only (hasLayer (v .size) plen) k (v .root) (longRoots plen vs) m) [
-        | inl p ↦ ap length (p .1) ∙ w .0 (long-full (v .size) plen (p .0))
+        | inl p ↦ ap length (p .1) ∙ w .0 .wide (long-full (v .size) plen (p .0))
         | inr n ↦ long-wide vs (w .1) k n
       ]
 
@@ -195,7 +195,7 @@ and-no true = refl
 and-no false = refl
 
 module _ (s l : List ℕ) (ls : Entries) (bytes : l ≡ encode (dictionary ls)) (valid : Valid (dictionary ls) maxLevels) (plen : ℕ) (fs : List Listed)
-    (vs : List File) (alike : AllAlike s fs vs) (within : RootsWide vs) (apart : rootsApart vs ≡ true) where
+    (vs : List File) (alike : AllAlike s fs vs) (hold : AllHold vs) (apart : rootsApart vs ≡ true) where
   whole : l ≡ encode (dictionary ls) ++ []
   whole = bytes ∙ sym (append-nil (encode (dictionary ls)))
 
@@ -233,7 +233,7 @@ module _ (s l : List ℕ) (ls : Entries) (bytes : l ≡ encode (dictionary ls)) 
           let are-roots = keys-long plen vs ls e in
           let up = contained-fewer roots (entryKeys ls) (long-distinct plen vs apart) are-keys in
           let down = contained-fewer (entryKeys ls) roots distinct-keys are-roots in
-          let wide : keysWide l ≡ true = key-width ∙ keys-all-wide ls (λ k m. long-wide plen vs within k (are-roots k m)) in
+          let wide : keysWide l ≡ true = key-width ∙ keys-all-wide ls (λ k m. long-wide plen vs hold k (are-roots k m)) in
           let many : eqb (length (layerKeys l)) (longs plen fs) ≡ true = eq-eqb (length (layerKeys l)) (longs plen fs) (omega (arith, key-count, file-count)) in
           ap₂ _&&_ wide many
       by-others false e = by-count (key-left plen vs ls e) (eqb (length (layerKeys l)) (longs plen fs)) refl

@@ -21,7 +21,7 @@ use Rattle.bencode.specs.StrictLaws.{taken, taken-only, deep-first, deep-only, 
 use Rattle.meaning.specs.Keys.{keyMetaVersion}
 use Rattle.meaning.specs.Torrent.{File, isNumber, infoOf, treeOf, hasKeys, treeRight, filesOf, rootsApart, layersFit, noOthers, layersGiveRoots, plenOf, layersOf, valueNumber}
 use Rattle.meaning.specs.AmissLaws.{value-ranged}
-use Rattle.meaning.specs.FilesLaws.{RootsWide, roots-wide}
+use Rattle.meaning.specs.FilesLaws.{AllHold, files-hold}
 use Rattle.metainfo.specs.Metainfo.{bytesIn, noKeys, keysOf, metainfoOf}
 use Rattle.metainfo.specs.declared.Keys.{Keys}
 use Rattle.filetree.specs.Tree.{Listed, Files, right, listed, filesIn, longs}
@@ -53,14 +53,14 @@ filesValue plen ls vs =
 
 -- 26 to 28 by positions are those of the value
 files-number : (t l : List ℕ) (ls : Entries) → l ≡ encode (dictionary ls) → Valid (dictionary ls) maxLevels → (plen : ℕ) (fs : List Listed) (vs : List File)
-    → AllAlike t fs vs → RootsWide vs → filesNumber t l plen fs ≡ filesValue plen ls vs
+    → AllAlike t fs vs → AllHold vs → filesNumber t l plen fs ≡ filesValue plen ls vs
 unfolding filesNumber
-files-number t l ls bytes valid plen fs vs alike wide = rw (roots-apart t fs vs alike) (by-apart (rootsApart vs) refl)
+files-number t l ls bytes valid plen fs vs alike hold = rw (roots-apart t fs vs alike) (by-apart (rootsApart vs) refl)
   where
     by-apart : (o : Bool) → rootsApart vs ≡ o
         → cond o (cond (keysWide l && eqb (length (layerKeys l)) (longs plen fs)) (worst t l plen 0 fs) layersAmiss) sameRoot
         ≡ cond o (cond (layersFit plen ls vs && noOthers plen vs ls) (cond (layersGiveRoots plen ls vs) 0 layerDiffers) layersAmiss) sameRoot
-    by-apart true e = layers-number t l ls bytes valid plen fs vs alike wide e
+    by-apart true e = layers-number t l ls bytes valid plen fs vs alike hold e
     by-apart false e = refl
 
 -- where keys and tree are right, the value's number is that of its files
@@ -101,8 +101,8 @@ module _ (s : List ℕ) (es : Entries) (start : s ≡ encode (dictionary es)) (v
           let fs = listed (filesIn t) in
           let alike : AllAlike t fs (filesOf es) = rw (torrent-files s es start valid e q) at (all-alike t fs) in
           let deep : Valid (dictionary (layersOf es)) maxLevels = more-levels (dictionary (layersOf es)) 31 maxLevels (omega arith) (k .layers-valid) in
-          let wide = roots-wide (treeOf es) (sym same-tree ∙ q) in
-          files-number t l (layersOf es) (k .layers-bytes) deep (keysOf s .plen) fs (filesOf es) alike wide
+          let hold = files-hold (treeOf es) (k .tree-valid) (sym same-tree ∙ q) in
+          files-number t l (layersOf es) (k .layers-bytes) deep (keysOf s .plen) fs (filesOf es) alike hold
           ∙ ap (λ (p : ℕ). filesValue p (layersOf es) (filesOf es)) (k .plen-is)
           ∙ sym (from-files es (none-exactly s es start valid .0 e) (sym same-tree ∙ q))
 
