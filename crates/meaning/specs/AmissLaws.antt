@@ -258,7 +258,11 @@ module _ (torrent : Entries) where
             refl,
   )
 
-  -- so where the number is 0 the tree is right
+  -- so where the number is 0 the piece length is in range
+  pub right-piece : valueNumber torrent ≡ 0 → isPieceLength (plenOf torrent) ≡ true
+  right-piece q = on c from25 pieceLengthOutOfRange 0 (λ z. omega arith) (past23 0 (λ z. omega arith) (λ z. omega arith) q .1) .0
+
+  -- the tree is right
   pub right-tree : valueNumber torrent ≡ 0 → RightDirectory (treeOf torrent)
   right-tree q = tree-yes (treeOf torrent) (on d from26 wrongTree 0 (λ z. omega arith) (past24 0 (inl refl) q .1) .0)
 

@@ -145,26 +145,18 @@ above-zero (present (dictionary es)) h = absurd (omega arith)
 above-zero (present (string b)) h = absurd (omega arith)
 above-zero (present (list vs)) h = absurd (omega arith)
 
+-- a piece length is above 0
+pub piece-some : (n : ℕ) → isPieceLength n ≡ true → 0 < n
+piece-some n e = let f = piece-length-form n e in omega (arith, f .1, power-some (pieceLayer n))
+  where
+    power-some : (p : ℕ) → 1 ≤ 2 ^ p
+    power-some zero = omega arith
+    power-some (suc p) = omega (arith, power-some p)
+
 pub piece-right : (torrent : Entries) → isPieceLength (plenOf torrent) ≡ true → PieceLengthOutOfRange torrent → ⊥
 piece-right torrent e w =
     let f = piece-length-form (plenOf torrent) e in
-    let x = lookup keyPieceLength (infoOf torrent) in
-    let positive : 0 < numberOf x = by-size (numberOf x) refl e in
-    w (pieceLayer (plenOf torrent)) (f .0) (above-zero x positive ∙ ap (λ (z : ℕ). present (integer false z)) (f .1))
-  where
-    zero-no : isPieceLength 0 ≡ true → ⊥
-    zero-no q = let f = piece-length-form 0 q in let g = f .0 in let o : _≡_ {A = ℕ} 0 (blockLength * 2 ^ pieceLayer 0) = f .1 in some-power (pieceLayer 0) o
-      where
-        some-power : (p : ℕ) → _≡_ {A = ℕ} 0 (blockLength * 2 ^ p) → ⊥
-        some-power p o = omega (arith, power-some p)
-          where
-            power-some : (p : ℕ) → 1 ≤ 2 ^ p
-            power-some zero = omega arith
-            power-some (suc p) = omega (arith, power-some p)
-
-    by-size : (n : ℕ) → plenOf torrent ≡ n → isPieceLength (plenOf torrent) ≡ true → 0 < n
-    by-size zero q r = absurd (zero-no (ap isPieceLength (sym q) ∙ r))
-    by-size (suc n) q r = omega arith
+    w (pieceLayer (plenOf torrent)) (f .0) (above-zero (lookup keyPieceLength (infoOf torrent)) (piece-some (plenOf torrent) e) ∙ ap (λ (z : ℕ). present (integer false z)) (f .1))
 
 -- ---- 25
 

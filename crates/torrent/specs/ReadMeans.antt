@@ -57,7 +57,7 @@ take-there zero xs e = omega arith
 take-there (suc n) [] e = absurd (omega arith)
 take-there (suc n) (x ∷ xs) e = let h = take-there n xs (omega arith) in omega arith
 
-part-within : (t : List ℕ) (a n : ℕ) → length (cut t a n) ≡ n → (n ≡ 0 → ⊥) → a + n ≤ length t
+pub part-within : (t : List ℕ) (a n : ℕ) → length (cut t a n) ≡ n → (n ≡ 0 → ⊥) → a + n ≤ length t
 unfolding cut
 part-within t a n e h = let w = take-there n (drop a t) e in omega (arith, length-drop a t)
 
@@ -227,7 +227,7 @@ module _ (s : List ℕ) (es : Entries) (start : s ≡ encode (dictionary es)) (v
   -- ---- where it stands
 
   -- the number by positions is that one
-  number-zero : checkedOf s .keys .number ≡ 0
+  pub number-zero : checkedOf s .keys .number ≡ 0
   number-zero = sym (read-number s) ∙ taken
 
   so : Taken s
@@ -240,14 +240,14 @@ module _ (s : List ℕ) (es : Entries) (start : s ≡ encode (dictionary es)) (v
   keys-zero : keysOf s .number ≡ 0
   keys-zero = ap (λ (z : Keys). z .number) (sym as-keys) ∙ so .keys-zero
 
-  same-keys : checkedOf s .keys ≡ keysOf s
+  pub same-keys : checkedOf s .keys ≡ keysOf s
   same-keys = so .keys-are ∙ as-keys
 
-  at-values : KeysAt s es (keysOf s)
+  pub at-values : KeysAt s es (keysOf s)
   at-values = keys-point s es start valid keys-zero
 
   -- the value's number is 0
-  value-zero : valueNumber es ≡ 0
+  pub value-zero : valueNumber es ≡ 0
   value-zero = sym (number-is-the-values s es start valid (metainfo-right s (so .keys-zero) .small)) ∙ number-zero
 
   -- the parts that `file tree` and `piece layers` are
@@ -261,15 +261,15 @@ module _ (s : List ℕ) (es : Entries) (start : s ≡ encode (dictionary es)) (v
   abbrev files : List Listed
   files = listed (filesIn t)
 
-  is-right : right (filesIn t) ≡ true
+  pub is-right : right (filesIn t) ≡ true
   is-right = ap (λ (z : Keys). right (filesIn (bytesIn s (z .tree)))) (sym as-keys) ∙ so .tree-right
 
   -- read, they are the files of the value
-  same-files : readFiles t files ≡ filesOf es
+  pub same-files : readFiles t files ≡ filesOf es
   same-files = torrent-files s es start valid keys-zero is-right
 
   -- and as many
-  all-files : checkedOf s .files ≡ length files
+  pub all-files : checkedOf s .files ≡ length files
   all-files = so .all-files ∙ ap (λ (z : Keys). length (listed (filesIn (bytesIn s (z .tree))))) as-keys
 
   count-files : checkedOf s .files ≡ length (filesOf es)
@@ -307,14 +307,14 @@ module _ (s : List ℕ) (es : Entries) (start : s ≡ encode (dictionary es)) (v
   -- ---- file n
 
   -- file n of the value is read from the positions of file n
-  file-read : (n : ℕ) (v : File) → Nth (filesOf es) n v → (n < checkedOf s .files) × (n < length files) × (v ≡ readFile t (fileNumber files n))
+  pub file-read : (n : ℕ) (v : File) → Nth (filesOf es) n v → (n < checkedOf s .files) × (n < length files) × (v ≡ readFile t (fileNumber files n))
   file-read n v e =
       let p = nth-read t files n v (rw same-files e) in
       let h = p .0 in
       (omega (arith, all-files), h, p .1)
 
   -- its answer by positions
-  file-answer : (n : ℕ) → n < checkedOf s .files → fileRead s n ≡ fileAnswer t l (keysOf s .layers .start) (keysOf s .plen) (fileNumber files n)
+  pub file-answer : (n : ℕ) → n < checkedOf s .files → fileRead s n ≡ fileAnswer t l (keysOf s .layers .start) (keysOf s .plen) (fileNumber files n)
   unfolding fileRead
   file-answer n h = rw (number-zero, lt-ltb n (checkedOf s .files) h, same-keys) refl
 
@@ -372,7 +372,7 @@ module _ (s : List ℕ) (es : Entries) (start : s ≡ encode (dictionary es)) (v
   -- ---- element k of its path
 
   -- its answer by positions
-  path-answer : (n k : ℕ) → n < checkedOf s .files → pathRead s n k ≡ elementIn (keysOf s .tree .start) (fileNumber files n .path) k
+  pub path-answer : (n k : ℕ) → n < checkedOf s .files → pathRead s n k ≡ elementIn (keysOf s .tree .start) (fileNumber files n .path) k
   unfolding pathRead
   path-answer n k h = rw (number-zero, lt-ltb n (checkedOf s .files) h, same-keys) refl
 
