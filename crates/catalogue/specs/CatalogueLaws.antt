@@ -15,7 +15,7 @@ use Rattle.octets.specs.OctetsLaws.{cut-length, be-octets, zero-octets}
 use Rattle.numbers.specs.Numbers.{noRoom, wrongTree, sameRoot, layersAmiss, refused, done}
 use Rattle.bencode.specs.declared.scalar.ByteString.{ByteString}
 use Rattle.bencode.specs.declared.scalar.ByteString.the-variants.{Content, NoString}
-use Rattle.roots.specs.Roots.{apart, stringsAt}
+use Rattle.sorting.specs.Sorting.{apart, stringsAt}
 use Rattle.files.specs.Walk.{maxElements, endsHere, Reached, nextFile}
 use Rattle.files.specs.WalkLaws.{PlacedIn, next-file-in, next-file-none}
 use Rattle.files.specs.declared.walk.Next.{Next}

@@ -18,7 +18,7 @@ use Rattle.numbers.specs.Numbers.{layersAmiss, layerDiffers}
 use Rattle.tree.specs.Geometry.{hasLayer}
 use Rattle.bencode.specs.Grammar.{dictionary, Entries, noEntries, entry, encode, precedes, KeyBefore, none, after, Valid, EntriesValid}
 use Rattle.bencode.specs.Parts.{present, lookup}
-use Rattle.roots.specs.PrecedesLaws.{precedes-trans, precedes-differ}
+use Rattle.sorting.specs.PrecedesLaws.{precedes-trans, precedes-differ}
 use Rattle.filetree.specs.Tree.{Listed, longs}
 use Rattle.layers.specs.Layers.{layerKeys, keysWide, worst}
 use Rattle.layers.specs.KeysLaws.{entryKeys, allWide, keys-wide, keys-count}

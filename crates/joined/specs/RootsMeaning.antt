@@ -7,7 +7,7 @@ use mathlib.Core.List.{List, [], _∷_}
 use Prim.Native.Nat.{ℕ}
 use lib.Dec.{eqb}
 use Rattle.octets.specs.Octets.{cut, same, zeroHash}
-use Rattle.roots.specs.Roots.{stringsAt, noneSame, apart}
+use Rattle.sorting.specs.Sorting.{stringsAt, noneSame, apart}
 use Rattle.filetree.specs.Tree.{Listed, rootsOf}
 use Rattle.meaning.specs.Torrent.{File, noneWith, rootsApart}
 

@@ -24,8 +24,8 @@ use Rattle.bencode.specs.declared.scalar.ByteString.the-variants.{Content, NoSt
 use Rattle.bencode.specs.declared.parts.Found.{Found}
 use Rattle.bencode.specs.declared.parts.Found.the-variants.{Part, Missing}
 use Rattle.bencode.specs.Parts.{findKey}
-use Rattle.roots.proofs.Telling.{part-is}
-use Rattle.roots.specs.Roots.{SearchedFor}
+use Rattle.sorting.proofs.Telling.{part-is}
+use Rattle.sorting.specs.Sorting.{SearchedFor}
 use Rattle.layers.specs.Layers.{Inside, stringIn, layerAt, Indexed, ofLayer, layerNumber, lower}
 use Rattle.layers.proofs.Searching.{index-within, indexed-found, indexed-none}
 

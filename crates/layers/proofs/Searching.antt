@@ -22,8 +22,8 @@ use Rattle.bencode.specs.declared.parts.Found.{Found}
 use Rattle.bencode.specs.declared.parts.Found.the-variants.{Part, Missing}
 use Rattle.bencode.specs.declared.parts.Entry.{Entry}
 use Rattle.bencode.specs.declared.parts.Entry.the-variants.{Keyed, NoEntry}
-use Rattle.roots.specs.Roots.{Ascending, SearchedFor}
-use Rattle.roots.specs.RootsLaws.{ascending-one}
+use Rattle.sorting.specs.Sorting.{Ascending, SearchedFor}
+use Rattle.sorting.specs.SortingLaws.{ascending-one}
 use Rattle.layers.specs.Layers.{stringIn, layerAt, keysOn, keysFrom, wideOn, wideFrom, layerKeys, keysWide, Indexed}
 
 -- an entry's key of 32 bytes

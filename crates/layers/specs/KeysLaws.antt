@@ -20,7 +20,7 @@ use Rattle.bencode.specs.PartsLaws.{valueStart, entry-is, entry-none, entry-end
 use Rattle.bencode.specs.DepthLaws.{more-levels, entries-more-levels}
 use Rattle.bencode.specs.declared.parts.Entry.{Entry}
 use Rattle.bencode.specs.declared.parts.Entry.the-variants.{Keyed, NoEntry}
-use Rattle.roots.specs.Roots.{stringsAt, Ascending}
+use Rattle.sorting.specs.Sorting.{stringsAt, Ascending}
 use Rattle.layers.specs.Layers.{keysOn, keysFrom, wideOn, wideFrom, layerKeys, keysWide, Indexed}
 
 -- the keys of a dictionary, in order

@@ -19,7 +19,7 @@ use Rattle.bencode.specs.declared.parts.Found.{Found}
 use Rattle.bencode.specs.declared.parts.Found.the-variants.{Part, Missing}
 use Rattle.bencode.specs.declared.parts.Entry.{Entry}
 use Rattle.bencode.specs.declared.parts.Entry.the-variants.{Keyed, NoEntry}
-use Rattle.roots.specs.Roots.{Ascending}
+use Rattle.sorting.specs.Sorting.{Ascending}
 use Rattle.filetree.specs.Tree.{Listed}
 
 -- ---- a layer by its root

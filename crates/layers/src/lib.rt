@@ -8,7 +8,7 @@ use filetree::count::ELEMENTS;
 use filetree::token::Token;
 use filetree::token::read_token;
 use octets::hash_at;
-use roots::halving::search;
+use sorting::halving::search;
 use tree::geometry::block_count;
 use tree::geometry::has_layer;
 use tree::geometry::height;

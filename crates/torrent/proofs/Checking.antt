@@ -13,7 +13,7 @@ use borrow.Author.Tests.{eq-eqb, ne-eqb, eqb-true}
 use Rattle.limits.specs.Limits.{largestTorrent}
 use Rattle.numbers.specs.Numbers.{wrongTree, sameRoot, layersAmiss}
 use Rattle.tree.specs.Geometry.{isPieceLength}
-use Rattle.roots.specs.Roots.{apart, stringsAt}
+use Rattle.sorting.specs.Sorting.{apart, stringsAt}
 use Rattle.metainfo.specs.Metainfo.{metainfoOf}
 use Rattle.metainfo.specs.MetainfoLaws.{Located, Right, metainfo-right}
 use Rattle.metainfo.specs.declared.Keys.{Keys}

@@ -17,7 +17,7 @@ use Rattle.bencode.specs.PartsLaws.{find-ends}
 use Rattle.bencode.specs.StrictLaws.{taken-only}
 use Rattle.bencode.specs.declared.parts.Found.{Found}
 use Rattle.bencode.specs.declared.parts.Found.the-variants.{Part, Missing}
-use Rattle.roots.specs.Roots.{Ascending}
+use Rattle.sorting.specs.Sorting.{Ascending}
 use Rattle.metainfo.specs.Metainfo.{dictionaryIn, keysOf, metainfoOf}
 use Rattle.metainfo.specs.MetainfoLaws.{Located, Right, metainfo-right}
 use Rattle.metainfo.specs.declared.Keys.{Keys}

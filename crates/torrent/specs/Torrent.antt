@@ -9,7 +9,7 @@ use lib.Dec.{eqb, ltb}
 use Rattle.octets.specs.Octets.{cut, zeroHash}
 use Rattle.numbers.specs.Numbers.{wrongTree, sameRoot, layersAmiss, noSuchFile}
 use Rattle.sha256.specs.Sha256.{sha256}
-use Rattle.roots.specs.Roots.{apart, stringsAt}
+use Rattle.sorting.specs.Sorting.{apart, stringsAt}
 use Rattle.metainfo.specs.Metainfo.{bytesIn, noKeys, metainfoOf}
 use Rattle.metainfo.specs.declared.Keys.{Keys}
 use Rattle.filetree.specs.Tree.{Element, Listed, Files, right, listed, filesIn, rootsOf, longs, fileNumber}

@@ -5,7 +5,7 @@ use listing::MOST;
 use listing::count_files;
 use listing::tree_right;
 use metainfo::read_keys;
-use roots::distinct::apart;
+use sorting::distinct::apart;
 ghost use mathlib.Core.Path.{_≡_};
 ghost use mathlib.Core.Bool.{true};
 ghost use Prim.Native.Nat.{_^_, _≤_};

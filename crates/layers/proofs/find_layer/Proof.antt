@@ -10,7 +10,7 @@ use Rattle.layers.proofs.find_layer.Tie as tie
 use Rattle.layers.proofs.find_layer.Reads as reads
 use Rattle.layers.proofs.find_layer.Lts as lts
 use Rattle.bencode.proofs.scalar.read_string.Reads as read-string-reads
-use Rattle.roots.proofs.halving.search.Reads as search-reads
+use Rattle.sorting.proofs.halving.search.Reads as search-reads
 
 -- src/lib.rt:69:9
 search-requires : tie.Need-search-requires
