@@ -1,6 +1,3 @@
 pub mod Torrent
 pub mod CheckLaws
-pub mod NumberMeans
-pub mod ReadMeans
-pub mod Example
-pub mod LayerExample
+pub mod FindLaws
