@@ -68,10 +68,10 @@ string-inside l plen n root = by-long (hasLayer n plen)
 pub string-order : (l : List ℕ) (plen n : ℕ) (root : List ℕ) (w : ByteString) (a b : ℕ) → w ≡ layerString l plen n root → w ≡ Content a b → (a ≤ b) × (b ≤ length l)
 string-order l plen n root w a b e f = rw (sym e ∙ f) at (string-inside l plen n root)
 
-pub one-answer : (t l : List ℕ) (base plen : ℕ) (f : Listed) (p : Place) → p ≡ placeOf f → (root : List ℕ) → root ≡ rootBytes t (p .length) (p .root)
+pub one-answer : (t l : List ℕ) (base plen n : ℕ) (p : Place) → p ≡ placeOf (fileNumber (listed (filesIn t)) n) → (root : List ℕ) → root ≡ rootBytes t (p .length) (p .root)
     → (w v : ByteString) → w ≡ layerString l plen (p .length) (cut t (p .root) 32) → w ≡ v
-    → _≡_ {A = FileRead} (record { number = 0; length = p .length; root = root; elements = p .elements; start = startOf base v; size = sizeOf v }) (fileAnswer t l base plen f)
-one-answer t l base plen f p ep root er w v ew ev = rw (er, sym ev, ew, ep) refl
+    → _≡_ {A = FileRead} (record { number = 0; length = p .length; root = root; elements = p .elements; start = startOf base v; size = sizeOf v }) (fileAnswer t l base plen (fileNumber (listed (filesIn t)) n))
+one-answer t l base plen n p ep root er w v ew ev = rw (er, sym ev, ew, ep) refl
 
 -- ---- answers
 

@@ -1,3 +1,4 @@
+use Rattle.torrent.specs.FindLaws.{tree-found, never-past, never-wrong}
 use native.Mathlib.Omega.{arith}
 use Prim.Native.Nat.{ℕ, _+_, _-_, _*_, _≤_, _<_, _/_, _%_, _^_}
 use lib.ListN.{length, getD, set, take, drop}
@@ -40,7 +41,7 @@ same-length c = search needs
 
 -- src/one.rt:108:1
 returns : tie.Need-returns
-returns c = ?
+returns c = tree-found _ _ _ _ (c .before .before .before .before .before .before .before .before .before .pre .0) (c .before .before .before .before .before .before .before .before .before .pre .1) _ (rw (c .before .place .given .1) at (c .before .before .before .before .before .find-in .ensures))
 
 -- src/one.rt:108:1
 same-length-2 : tie.Need-same-length-2
@@ -48,7 +49,7 @@ same-length-2 c = search needs
 
 -- src/one.rt:108:1
 returns-2 : tie.Need-returns-2
-returns-2 c = ?
+returns-2 c = never-past _ _ _ _ (c .before .before .before .before .before .before .before .before .before .pre .0) (c .before .before .before .before .before .before .before .before .before .pre .1) _ _ (rw (c .before .enum-told .given .1) at (c .before .before .before .before .before .find-in .ensures))
 
 -- src/one.rt:108:1
 same-length-3 : tie.Need-same-length-3
@@ -56,7 +57,7 @@ same-length-3 c = search needs
 
 -- src/one.rt:108:1
 returns-3 : tie.Need-returns-3
-returns-3 c = ?
+returns-3 c = never-wrong _ _ _ _ (c .before .before .before .before .before .before .before .before .before .pre .0) (c .before .before .before .before .before .before .before .before .before .pre .1) (rw (c .before .enum-told2 .given .1) at (c .before .before .before .before .before .find-in .ensures))
 
 pub find-file-spec : {M : Type 1} → statement M
 find-file-spec =

@@ -1,3 +1,4 @@
+use Rattle.octets.specs.Octets.{zeroHash}
 use Rattle.torrent.proofs.Answering.{root-none, root-some}
 use borrow.Author.Needs.{needs}
 use native.Mathlib.Omega.{arith}
@@ -12,7 +13,7 @@ use Rattle.octets.proofs.hash_at.Reads as hash-at-reads
 
 -- src/one.rt:125:9
 returns : tie.Need-returns
-returns c = root-none _ _ _ (c .if1 .taken)
+returns c = unfold zeroHash in root-none _ _ _ (c .if1 .taken)
 
 -- src/one.rt:127:5
 hash-at-requires : tie.Need-hash-at-requires

@@ -1,6 +1,7 @@
+use Rattle.torrent.specs.FindLaws.{found-path, found-element}
 use native.Mathlib.Omega.{arith}
 use Prim.Native.Nat.{ℕ, _+_, _-_, _*_, _≤_, _<_, _/_, _%_, _^_}
-use lib.ListN.{length, getD, set, take, drop}
+use lib.ListN.{length, getD, set, take, drop, length-replicate}
 use mathlib.Core.Path.{_≡_, refl, ap, sym, _∙_}
 use borrow.Author.Needs.{needs}
 use Rattle.torrent.proofs.read.one_element.Statement.{statement}
@@ -24,11 +25,11 @@ slice-aggregate-element-of c = search needs
 
 -- src/read.rt:172:5
 element-of-requires : tie.Need-element-of-requires
-element-of-requires c κs = ?
+element-of-requires c κs = found-path _ _ (c .before .before .before .before .before .pre .1) _ _ (c .before .before .find-file .ensures) (c .before .before .find-file .kept .1 .1 .0 ∙ length-replicate {A = ℕ} 56 0) _ (c .before .before .before .before .before .pre .2)
 
 -- src/read.rt:166:1
 returns : tie.Need-returns
-returns c = ?
+returns c = found-element _ _ (c .before .before .before .before .before .before .pre .1) _ _ (c .before .before .before .find-file .ensures) _ _ _ (c .element-of .ensures)
 
 pub one-element-spec : {M : Type 1} → statement M
 one-element-spec =

@@ -1,3 +1,4 @@
+use Rattle.torrent.proofs.Answering.{whole, path-asked, path-done, path-past, path-refused}
 use native.Mathlib.Omega.{arith}
 use Prim.Native.Nat.{ℕ, _+_, _-_, _*_, _≤_, _<_, _/_, _%_, _^_}
 use lib.ListN.{length, getD, set, take, drop}
@@ -17,23 +18,23 @@ check-requires c κs = search needs
 
 -- src/read.rt:186:32
 sub-one-element : tie.Need-sub-one-element
-sub-one-element c = ?
+sub-one-element c = (whole _ _ (c .before .before .check .ensures) (c .before .if1 .taken) .opened) .tree-forward
 
 -- src/read.rt:186:32
 part-one-element-start : tie.Need-part-one-element-start
-part-one-element-start c = ?
+part-one-element-start c = (whole _ _ (c .before .before .check .ensures) (c .before .if1 .taken) .opened) .tree-forward
 
 -- src/read.rt:186:32
 part-one-element-end : tie.Need-part-one-element-end
-part-one-element-end c = ?
+part-one-element-end c = (whole _ _ (c .before .before .check .ensures) (c .before .if1 .taken) .opened) .tree-within
 
 -- src/read.rt:186:13
 one-element-requires : tie.Need-one-element-requires
-one-element-requires c κs = ?
+one-element-requires c κs = path-asked _ _ (c .before .before .before .check .ensures) (c .before .before .if1 .taken) _ (c .before .if2 .taken)
 
 -- src/read.rt:186:13
 returns : tie.Need-returns
-returns c = ?
+returns c = path-done _ _ (c .before .before .before .before .check .ensures) (c .before .before .before .if1 .taken) _ (c .before .before .if2 .taken) _ _ (c .one-element .ensures)
 
 -- src/read.rt:188:9
 no-part-requires : tie.Need-no-part-requires
@@ -41,7 +42,7 @@ no-part-requires c κs = search needs
 
 -- src/read.rt:188:9
 returns-2 : tie.Need-returns-2
-returns-2 c = ?
+returns-2 c = c .no-part .ensures ∙ path-past _ _ (c .before .before .before .check .ensures) (c .before .before .if1 .taken) _ _ (c .before .if2 .left)
 
 -- src/read.rt:190:5
 no-part-requires-2 : tie.Need-no-part-requires-2
@@ -49,7 +50,7 @@ no-part-requires-2 c κs = search needs
 
 -- src/read.rt:176:1
 returns-3 : tie.Need-returns-3
-returns-3 c = ?
+returns-3 c = c .no-part2 .ensures ∙ path-refused _ _ (c .before .before .check .ensures) _ _ (c .before .if1 .left)
 
 pub read-path-spec : {M : Type 1} → statement M
 read-path-spec =
