@@ -6,3 +6,5 @@ pub mod SizeLaws
 pub mod TokenLaws
 pub mod TreeLaws
 pub mod CountLaws
+pub mod PathLaws
+pub mod FilesLaws

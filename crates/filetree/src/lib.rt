@@ -2,4 +2,5 @@
 pub mod count;
 pub mod element;
 pub mod file;
+pub mod path;
 pub mod token;

@@ -36,7 +36,7 @@ fn no_part() -> Part
     Part { start: 0, end: 0 }
 }
 
-fn no_keys(number: u32) -> Keys
+pub fn no_keys(number: u32) -> Keys
     ensures { λ r. ⌜ r ≡ noKeys number ⌝ }
 {
     Keys {
