@@ -42,7 +42,7 @@ index-requires c κs = (c .before .before .before .before .before .before .befor
 
 -- src/check.rt:83:25
 judge-layers-requires : tie.Need-judge-layers-requires
-judge-layers-requires c κs = (keys-indexed _ _ _ _ _ _ _ (rw (c .before .before .before .before .before .before .before .before .before .before .before .before .before .before .before .tally .given .1) at (c .before .before .before .before .before .before .before .before .before .before .before .before .before .before .before .before .before .before .before .count-files .ensures)) (c .before .before .before .before .before .before .before .before .before .before .before .before .before .before .before .before .before .before .before .count-files .kept .1 .1 .0 ∙ c .before .before .before .before .before .before .before .before .before .before .before .before .before .before .before .before .before .before .before .before .before .before .before .before .before .pre .3) _ (c .before .before .before .before .before .before .before .before .before .before .before .apart .ensures) (c .before .before .before .before .before .before .if1 .taken) _ (c .before .before .before .before .index .ensures .0) (c .before .if2 .taken) _ (c .before .before .before .before .index .kept .1 .0 ∙ c .before .before .before .before .before .before .before .before .before .before .before .apart .kept .1 .0 ∙ (c .before .before .before .before .before .before .before .before .before .before .before .before .before .before .before .before .before .before .before .count-files .kept .1 .1 .0 ∙ c .before .before .before .before .before .before .before .before .before .before .before .before .before .before .before .before .before .before .before .before .before .before .before .before .before .pre .3)) (c .before .before .before .before .index .ensures .1) (c .before .before .before .before .before .before .before .before .before .before .before .before .before .before .before .before .before .before .before .before .before .before .before .before .before .pre .2), c .before .before .before .before .before .before .before .before .before .before .before .before .before .before .before .before .before .before .before .before .before .before .before .before .before .pre .1, counted-right _ [] _ _ _ _ _ (rw (c .before .before .before .before .before .before .before .before .before .before .before .before .before .before .before .tally .given .1) at (c .before .before .before .before .before .before .before .before .before .before .before .before .before .before .before .before .before .before .before .count-files .ensures)) (c .before .before .before .before .before .before .before .before .before .before .before .before .before .before .before .before .before .before .before .count-files .kept .1 .1 .0 ∙ c .before .before .before .before .before .before .before .before .before .before .before .before .before .before .before .before .before .before .before .before .before .before .before .before .before .pre .3))
+judge-layers-requires c κs = (keys-indexed _ _ _ _ _ _ _ (rw (c .before .before .before .before .before .before .before .before .before .before .before .before .before .before .before .tally .given .1) at (c .before .before .before .before .before .before .before .before .before .before .before .before .before .before .before .before .before .before .before .count-files .ensures)) (c .before .before .before .before .before .before .before .before .before .before .before .before .before .before .before .before .before .before .before .count-files .kept .1 .1 .0 ∙ c .before .before .before .before .before .before .before .before .before .before .before .before .before .before .before .before .before .before .before .before .before .before .before .before .before .pre .3) _ (c .before .before .before .before .before .before .before .before .before .before .before .apart .ensures .0) (c .before .before .before .before .before .before .if1 .taken) _ (c .before .before .before .before .index .ensures .0) (c .before .if2 .taken) _ (c .before .before .before .before .index .kept .1 .0 ∙ c .before .before .before .before .before .before .before .before .before .before .before .apart .kept .1 .0 ∙ (c .before .before .before .before .before .before .before .before .before .before .before .before .before .before .before .before .before .before .before .count-files .kept .1 .1 .0 ∙ c .before .before .before .before .before .before .before .before .before .before .before .before .before .before .before .before .before .before .before .before .before .before .before .before .before .pre .3)) (c .before .before .before .before .index .ensures .1) (c .before .before .before .before .before .before .before .before .before .before .before .before .before .before .before .before .before .before .before .before .before .before .before .before .before .pre .2), c .before .before .before .before .before .before .before .before .before .before .before .before .before .before .before .before .before .before .before .before .before .before .before .before .before .pre .1, counted-right _ [] _ _ _ _ _ (rw (c .before .before .before .before .before .before .before .before .before .before .before .before .before .before .before .tally .given .1) at (c .before .before .before .before .before .before .before .before .before .before .before .before .before .before .before .before .before .before .before .count-files .ensures)) (c .before .before .before .before .before .before .before .before .before .before .before .before .before .before .before .before .before .before .before .count-files .kept .1 .1 .0 ∙ c .before .before .before .before .before .before .before .before .before .before .before .before .before .before .before .before .before .before .before .before .before .before .before .before .before .pre .3))
 
 -- src/check.rt:84:21
 counted-requires : tie.Need-counted-requires
@@ -58,7 +58,7 @@ same-length-2 c = search needs
 
 -- src/check.rt:84:21
 returns : tie.Need-returns
-returns c = c .counted .ensures ∙ judged-number _ _ _ _ _ _ _ (rw (c .before .before .before .before .before .before .before .before .before .before .before .before .before .before .before .before .before .tally .given .1) at (c .before .before .before .before .before .before .before .before .before .before .before .before .before .before .before .before .before .before .before .before .before .count-files .ensures)) (c .before .before .before .before .before .before .before .before .before .before .before .before .before .before .before .before .before .before .before .before .before .count-files .kept .1 .1 .0 ∙ c .before .before .before .before .before .before .before .before .before .before .before .before .before .before .before .before .before .before .before .before .before .before .before .before .before .before .before .pre .3) _ (c .before .before .before .before .before .before .before .before .before .before .before .before .before .apart .ensures) (c .before .before .before .before .before .before .before .before .if1 .taken) _ (c .before .before .before .before .before .before .index .ensures .0) (c .before .before .before .if2 .taken) _ (c .before .judge-layers .ensures)
+returns c = c .counted .ensures ∙ judged-number _ _ _ _ _ _ _ (rw (c .before .before .before .before .before .before .before .before .before .before .before .before .before .before .before .before .before .tally .given .1) at (c .before .before .before .before .before .before .before .before .before .before .before .before .before .before .before .before .before .before .before .before .before .count-files .ensures)) (c .before .before .before .before .before .before .before .before .before .before .before .before .before .before .before .before .before .before .before .before .before .count-files .kept .1 .1 .0 ∙ c .before .before .before .before .before .before .before .before .before .before .before .before .before .before .before .before .before .before .before .before .before .before .before .before .before .before .before .pre .3) _ (c .before .before .before .before .before .before .before .before .before .before .before .before .before .apart .ensures .0) (c .before .before .before .before .before .before .before .before .if1 .taken) _ (c .before .before .before .before .before .before .index .ensures .0) (c .before .before .before .if2 .taken) _ (c .before .judge-layers .ensures)
 
 -- src/check.rt:86:17
 refused-requires-2 : tie.Need-refused-requires-2
@@ -74,7 +74,7 @@ same-length-4 c = search needs
 
 -- src/check.rt:86:17
 returns-2 : tie.Need-returns-2
-returns-2 c = c .refused2 .ensures ∙ judged-amiss _ _ _ _ _ _ _ (rw (c .before .before .before .before .before .before .before .before .before .before .before .before .before .before .before .tally .given .1) at (c .before .before .before .before .before .before .before .before .before .before .before .before .before .before .before .before .before .before .before .count-files .ensures)) (c .before .before .before .before .before .before .before .before .before .before .before .before .before .before .before .before .before .before .before .count-files .kept .1 .1 .0 ∙ c .before .before .before .before .before .before .before .before .before .before .before .before .before .before .before .before .before .before .before .before .before .before .before .before .before .pre .3) _ (c .before .before .before .before .before .before .before .before .before .before .before .apart .ensures) (c .before .before .before .before .before .before .if1 .taken) _ (c .before .before .before .before .index .ensures .0) (c .before .if2 .left)
+returns-2 c = c .refused2 .ensures ∙ judged-amiss _ _ _ _ _ _ _ (rw (c .before .before .before .before .before .before .before .before .before .before .before .before .before .before .before .tally .given .1) at (c .before .before .before .before .before .before .before .before .before .before .before .before .before .before .before .before .before .before .before .count-files .ensures)) (c .before .before .before .before .before .before .before .before .before .before .before .before .before .before .before .before .before .before .before .count-files .kept .1 .1 .0 ∙ c .before .before .before .before .before .before .before .before .before .before .before .before .before .before .before .before .before .before .before .before .before .before .before .before .before .pre .3) _ (c .before .before .before .before .before .before .before .before .before .before .before .apart .ensures .0) (c .before .before .before .before .before .before .if1 .taken) _ (c .before .before .before .before .index .ensures .0) (c .before .if2 .left)
 
 -- src/check.rt:88:13
 refused-requires-3 : tie.Need-refused-requires-3
@@ -98,7 +98,7 @@ same-length-7 c = search needs
 
 -- src/check.rt:71:1
 returns-4 : tie.Need-returns-4
-returns-4 c = c .refused3 .ensures ∙ judged-same _ _ _ _ _ _ _ (rw (c .before .before .before .before .before .before .before .before .before .before .tally .given .1) at (c .before .before .before .before .before .before .before .before .before .before .before .before .before .before .count-files .ensures)) (c .before .before .before .before .before .before .before .before .before .before .before .before .before .before .count-files .kept .1 .1 .0 ∙ c .before .before .before .before .before .before .before .before .before .before .before .before .before .before .before .before .before .before .before .before .pre .3) _ (c .before .before .before .before .before .before .apart .ensures) (c .before .if1 .left)
+returns-4 c = c .refused3 .ensures ∙ judged-same _ _ _ _ _ _ _ (rw (c .before .before .before .before .before .before .before .before .before .before .tally .given .1) at (c .before .before .before .before .before .before .before .before .before .before .before .before .before .before .count-files .ensures)) (c .before .before .before .before .before .before .before .before .before .before .before .before .before .before .count-files .kept .1 .1 .0 ∙ c .before .before .before .before .before .before .before .before .before .before .before .before .before .before .before .before .before .before .before .before .pre .3) _ (c .before .before .before .before .before .before .apart .ensures .0) (c .before .if1 .left)
 
 pub judge-in-spec : {M : Type 1} → statement M
 judge-in-spec =
