@@ -22,11 +22,16 @@ use Rattle.torrent.specs.declared.check.Checked.{Checked}
 abbrev pub partBytes : ℕ → ℕ → List ℕ
 partBytes start size = be 4 start ++ be 4 size
 
--- the next m places for elements of a path, eight bytes each: its elements, of a tree that begins at `base`, then zeros
+-- element k of a path, of a tree that begins at `base`; eight zero bytes if there is none
+unfoldable pub elementBytes : ℕ → List Element → ℕ → List ℕ
+elementBytes base [] k = be 8 0
+elementBytes base (e ∷ es) zero = partBytes (base + e .start) (e .end - e .start)
+elementBytes base (e ∷ es) (suc k) = elementBytes base es k
+
+-- the first m of them, one after the other
 unfoldable pub elementsBytes : ℕ → List Element → ℕ → List ℕ
 elementsBytes base path zero = []
-elementsBytes base [] (suc m) = be 8 0 ++ elementsBytes base [] m
-elementsBytes base (e ∷ es) (suc m) = partBytes (base + e .start) (e .end - e .start) ++ elementsBytes base es m
+elementsBytes base path (suc m) = elementsBytes base path m ++ elementBytes base path m
 
 -- 56 bytes: length, root, layer, how many path elements, four zero bytes
 unfoldable pub headBytes : ℕ → ℕ → List ℕ → ByteString → ℕ → List ℕ

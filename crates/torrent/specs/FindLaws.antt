@@ -79,7 +79,7 @@ pub element-past : (path : List ℕ) (elements base k : ℕ) → elements ≤ k 
 element-past path elements base k h p w l = sym (element-none base p k (rw l at h))
 
 -- the path to a directory is in the path to what is inside
-holds-up : (path : List ℕ) (d : ℕ) (p : List Element) (a b : ℕ) → d ≡ length p → Holds path (d + 1) (down p a b) → Holds path d p
+pub holds-up : (path : List ℕ) (d : ℕ) (p : List Element) (a b : ℕ) → d ≡ length p → Holds path (d + 1) (down p a b) → Holds path d p
 holds-up path d p a b e w =
     sym (take-take (2 * d) (2 * (d + 1)) path (omega arith)) ∙ ap (take (2 * d)) (w ∙ flat-down p a b) ∙ take-at (flat p) (a ∷ b ∷ []) (2 * d) (flat-length p ∙ ap (λ (z : ℕ). 2 * z) (sym e))
 
@@ -101,25 +101,25 @@ pub find-start : (t : List ℕ) (at levels n : ℕ) (path : List ℕ) → (level
 find-start t at levels n path h l = record { in-order = omega arith; sized = l; passed = λ p w e. ([], passed-none t levels at p h, omega arith, w) }
 
 -- a right directory is not wrong
-not-wrong : {A : Type 0} (x : Files) → right x ≡ true → x ≡ wrong → A
+pub not-wrong : {A : Type 0} (x : Files) → right x ≡ true → x ≡ wrong → A
 unfolding right
 not-wrong x e q = absurd (false≢true (sym (ap right q) ∙ e))
 
-is-right : (x : Files) (fs : List Listed) (k : ℕ) → x ≡ files fs k → right x ≡ true
+pub is-right : (x : Files) (fs : List Listed) (k : ℕ) → x ≡ files fs k → right x ≡ true
 unfolding right
 is-right x fs k e = ap right e
 
-right-is : (x : Files) → right x ≡ true → (fs : List Listed) × (k : ℕ) × (x ≡ files fs k)
+pub right-is : (x : Files) → right x ≡ true → (fs : List Listed) × (k : ℕ) × (x ≡ files fs k)
 unfolding right
 right-is wrong e = absurd (false≢true e)
 right-is (files fs k) e = (fs, k, refl)
 
 -- files with others behind them
-split : (xs : List Listed) (w : Files) (fs : List Listed) (k : ℕ) → after xs w ≡ files fs k → (ys : List Listed) × (fs ≡ xs ++ ys)
+pub split : (xs : List Listed) (w : Files) (fs : List Listed) (k : ℕ) → after xs w ≡ files fs k → (ys : List Listed) × (fs ≡ xs ++ ys)
 split xs wrong fs k e = let z : _≡_ {A = ℕ} 0 1 = cc in absurd (omega arith)
 split xs (files ys j) fs k e = (ys, cc)
 
-same-files : (fs gs : List Listed) (j k : ℕ) → files fs j ≡ files gs k → (fs ≡ gs) × (j ≡ k)
+pub same-files : (fs gs : List Listed) (j k : ℕ) → files fs j ≡ files gs k → (fs ≡ gs) × (j ≡ k)
 same-files fs gs j k e = (cc, cc)
 
 module _ (t : List ℕ) (at levels n : ℕ) (path₀ : List ℕ) where
