@@ -37,7 +37,7 @@ use Rattle.torrent.specs.NumberMeans.{read-number, read-encodes}
 use Rattle.torrent.specs.ReadMeans.{part-within, at-values, value-zero, same-keys, same-files, all-files, torrent-is, file-read, file-answer, path-answer, file-is, element-is}
 use Rattle.torrent.specs.declared.read.FileRead.{FileRead}
 use Rattle.torrent.specs.declared.read.PartRead.{PartRead}
-use Rattle.catalogue.specs.Catalogue.{partBytes, elementsBytes, headBytes, Parts, recordOf, recordSize, recordsOf, partsOf, listAnswer, listAfter}
+use Rattle.catalogue.specs.Catalogue.{partBytes, elementBytes, elementsBytes, headBytes, Parts, recordOf, recordSize, recordsOf, partsOf, listAnswer, listAfter}
 use Rattle.calls.specs.Calls.{RecordIs}
 
 -- ---- numbers among other bytes
@@ -158,48 +158,52 @@ module _ (base n : ℕ) (root : List ℕ) (layer : ByteString) (elements : ℕ) 
 
 -- ---- the elements
 
+element-size-is : (base : ℕ) (path : List Element) (k : ℕ) → length (elementBytes base path k) ≡ 8
+unfolding elementBytes
+element-size-is base [] k = be-size 8 0
+element-size-is base (e ∷ path) zero = part-size (base + e .start) (e .end - e .start)
+element-size-is base (e ∷ path) (suc k) = element-size-is base path k
+
 elements-size : (base : ℕ) (path : List Element) (m : ℕ) → length (elementsBytes base path m) ≡ 8 * m
 unfolding elementsBytes
 elements-size base path zero = refl
-elements-size base [] (suc m) = omega (arith, length-append (be 8 0) (elementsBytes base [] m), be-size 8 0, elements-size base [] m)
-elements-size base (e ∷ path) (suc m) =
-    omega (
-      arith,
-      length-append (partBytes (base + e .start) (e .end - e .start)) (elementsBytes base path m),
-      part-size (base + e .start) (e .end - e .start),
-      elements-size base path m,
-    )
+elements-size base path (suc m) =
+    omega (arith, length-append (elementsBytes base path m) (elementBytes base path m), element-size-is base path m, elements-size base path m)
+
+-- a number in the place of element k
+element-number : (base : ℕ) (path : List Element) (m k i n : ℕ) → k < m → i + n ≤ 8 → numberAt (elementsBytes base path m) (i + 8 * k) n ≡ numberAt (elementBytes base path k) i n
+unfolding elementsBytes
+element-number base path zero k i n h l = absurd (omega arith)
+element-number base path (suc m) k i n h l = by-place (decLt k m) (element-number base path m k i n)
+  where
+    by-place : Dec (k < m) → (k < m → i + n ≤ 8 → numberAt (elementsBytes base path m) (i + 8 * k) n ≡ numberAt (elementBytes base path k) i n)
+        → numberAt (elementsBytes base path m ++ elementBytes base path m) (i + 8 * k) n ≡ numberAt (elementBytes base path k) i n
+    by-place (yes g) ih =
+        number-same (elementsBytes base path m ++ elementBytes base path m) (elementsBytes base path m) (i + 8 * k) (i + 8 * k) n
+        (λ j o. List·getD-append (elementsBytes base path m) (elementBytes base path m) 0 (i + 8 * k + j) (omega (arith, elements-size base path m)))
+        ∙ ih g l
+    by-place (no g) ih =
+        let e : k ≡ m = omega arith in
+        number-behind (elementsBytes base path m) (elementBytes base path m) (i + 8 * k) i n (omega (arith, elements-size base path m)) ∙ rw e refl
 
 -- element k as it is answered
-element-place : (base : ℕ) (path : List Element) (m k : ℕ) → k < m → k < length path → elementIn base path k .start < 256 ^ 4 → elementIn base path k .size < 256 ^ 4
-    → (numberAt (elementsBytes base path m) (8 * k) 4 ≡ elementIn base path k .start) × (numberAt (elementsBytes base path m) (4 + 8 * k) 4 ≡ elementIn base path k .size)
-unfolding elementsBytes elementIn
-element-place base path zero k h l x y = absurd (omega arith)
-element-place base [] (suc m) k h l x y = absurd (omega arith)
-element-place base (e ∷ path) (suc m) zero h l x y =
+element-place : (base : ℕ) (path : List Element) (k : ℕ) → k < length path → elementIn base path k .start < 256 ^ 4 → elementIn base path k .size < 256 ^ 4
+    → (numberAt (elementBytes base path k) 0 4 ≡ elementIn base path k .start) × (numberAt (elementBytes base path k) 4 4 ≡ elementIn base path k .size)
+unfolding elementBytes elementIn
+element-place base [] k l x y = absurd (omega arith)
+element-place base (e ∷ path) zero l x y =
     let a = base + e .start in
     let n = e .end - e .start in
-    let rest = elementsBytes base path m in
-    let split = append-assoc (be 4 a) (be 4 n) rest in
-    (ap (λ (z : List ℕ). numberAt z 0 4) split ∙ number-first 4 a (be 4 n ++ rest) x,
-    ap (λ (z : List ℕ). numberAt z 4 4) split ∙ number-behind (be 4 a) (be 4 n ++ rest) 4 0 4 (omega (arith, be-size 4 a)) ∙ number-first 4 n rest y)
-element-place base (e ∷ path) (suc m) (suc k) h l x y =
-    let part = partBytes (base + e .start) (e .end - e .start) in
-    let rest = elementsBytes base path m in
-    let w = element-place base path m k (omega arith) (omega arith) x y in
-    let eight = part-size (base + e .start) (e .end - e .start) in
-    (number-behind part rest (8 * suc k) (8 * k) 4 (omega arith) ∙ w .0, number-behind part rest (4 + 8 * suc k) (4 + 8 * k) 4 (omega arith) ∙ w .1)
+    (number-first 4 a (be 4 n) x,
+    number-behind (be 4 a) (be 4 n) 4 0 4 (omega (arith, be-size 4 a)) ∙ number-of-be 4 n y)
+element-place base (e ∷ path) (suc k) l x y = element-place base path k (omega arith) x y
 
 -- and nothing behind the last
-element-none : (base : ℕ) (path : List Element) (m k : ℕ) → k < m → length path ≤ k → numberAt (elementsBytes base path m) (8 * k) 8 ≡ 0
-unfolding elementsBytes
-element-none base path zero k h l = absurd (omega arith)
-element-none base [] (suc m) zero h l = number-first 8 0 (elementsBytes base [] m) (omega arith)
-element-none base [] (suc m) (suc k) h l = number-behind (be 8 0) (elementsBytes base [] m) (8 * suc k) (8 * k) 8 (omega (arith, be-size 8 0)) ∙ element-none base [] m k (omega arith) (omega arith)
-element-none base (e ∷ path) (suc m) zero h l = absurd (omega arith)
-element-none base (e ∷ path) (suc m) (suc k) h l =
-    number-behind (partBytes (base + e .start) (e .end - e .start)) (elementsBytes base path m) (8 * suc k) (8 * k) 8 (omega (arith, part-size (base + e .start) (e .end - e .start)))
-    ∙ element-none base path m k (omega arith) (omega arith)
+element-none : (base : ℕ) (path : List Element) (k : ℕ) → length path ≤ k → elementBytes base path k ≡ be 8 0
+unfolding elementBytes
+element-none base [] k l = refl
+element-none base (e ∷ path) zero l = absurd (omega arith)
+element-none base (e ∷ path) (suc k) l = element-none base path k (omega arith)
 
 -- ---- one record, and all
 
@@ -279,7 +283,12 @@ record-carries p f part w long start size few is small =
               ∙ head-past (p .layers) (f .size) root layer count rest w (4 + 8 * k) 4
               ∙ place k h .1
               ∙ ap (λ (z : PartRead). z .size) (sym (is k));
-      behind = λ k h l. head-past (p .layers) (f .size) root layer count rest w (8 * k) 8 ∙ element-none (p .tree) (f .path) maxElements k (omega arith) h;
+      behind = λ k h l.
+          head-past (p .layers) (f .size) root layer count rest w (8 * k) 8
+              ∙ ap (λ (z : ℕ). numberAt rest z 8) (let o : 8 * k ≡ 0 + 8 * k = omega arith in o)
+              ∙ element-number (p .tree) (f .path) maxElements k 0 8 (omega arith) (omega arith)
+              ∙ ap (λ (z : List ℕ). numberAt z 0 8) (element-none (p .tree) (f .path) k h)
+              ∙ number-of-be 8 0 (omega arith);
     }
   where
     root : List ℕ
@@ -297,7 +306,12 @@ record-carries p f part w long start size few is small =
     place : (k : ℕ) → k < length (f .path)
         → (numberAt (elementsBytes (p .tree) (f .path) maxElements) (8 * k) 4 ≡ elementIn (p .tree) (f .path) k .start)
         × (numberAt (elementsBytes (p .tree) (f .path) maxElements) (4 + 8 * k) 4 ≡ elementIn (p .tree) (f .path) k .size)
-    place k h = let s = small k h in element-place (p .tree) (f .path) maxElements k (omega arith) h (s .0) (s .1)
+    place k h =
+        let s = small k h in
+        let w = element-place (p .tree) (f .path) k h (s .0) (s .1) in
+        let o : 8 * k ≡ 0 + 8 * k = omega arith in
+        (ap (λ (z : ℕ). numberAt rest z 4) o ∙ element-number (p .tree) (f .path) maxElements k 0 4 (omega arith) (omega arith) ∙ w .0,
+        element-number (p .tree) (f .path) maxElements k 4 4 (omega arith) (omega arith) ∙ w .1)
 
 -- ---- the list of a torrent
 
