@@ -11,9 +11,9 @@ use lib.Seq.{drop-drop, drop-append-seam, take-append-seam}
 use borrow.Author.Tests.{ne-eqb}
 use Rattle.limits.specs.Limits.{maxLevels}
 use Rattle.octets.specs.Octets.{same, cut}
-use Rattle.bencode.specs.Grammar.{colon, letterD, letterE, letterI, Value, integer, string, list, dictionary, Entries, noEntries, entry, decimal, encodeString, encode, encodeEntries, KeyBefore, none, after, Valid, EntriesValid}
+use Rattle.bencode.specs.Grammar.{colon, letterD, letterI, Value, integer, string, list, dictionary, Entries, noEntries, entry, decimal, encodeString, encode, encodeEntries, KeyBefore, none, after, Valid, EntriesValid}
 use Rattle.bencode.specs.Scalar.{readDigits, readNumber, readString, readInteger}
-use Rattle.bencode.specs.Walk.{between, walkValue, byFirst}
+use Rattle.bencode.specs.Walk.{between, walkValue}
 use Rattle.bencode.specs.Parts.{isDictionary, entryTo, entryWith, readEntry, fromEntry, findIn, findKey, Lookup, present, lookup, FoundIs}
 use Rattle.bencode.specs.EndsLaws.{drop-further, string-ends, value-ends}
 use Rattle.bencode.specs.CompleteLaws.{BeginsWithDigit, decimal-first, contentStart, string-read, integer-read, past-part, string-some, dictionary-bytes, complete}

@@ -1,10 +1,10 @@
 -- Every answer is one of those; no second outcome satisfies a contract; a refused list leaves the output as it was.
 -- Assumes nothing.
-use mathlib.Core.Path.{_≡_, refl, sym, ap, _∙_}
+use mathlib.Core.Path.{_≡_, refl, sym, _∙_}
 use mathlib.Core.Logic.{_⊎_, inl, inr}
 use mathlib.Core.Bool.{Bool, true, false, cond}
 use mathlib.Core.List.{List, [], _∷_}
-use Prim.Native.Nat.{ℕ, zero, suc, _*_, _≤_, _<_}
+use Prim.Native.Nat.{ℕ, zero, suc, _*_}
 use native.Mathlib.Omega.{arith}
 use lib.ListN.{length}
 use lib.Dec.{eqb, ltb}
@@ -15,7 +15,7 @@ use Rattle.numbers.specs.declared.Answer.{Answer}
 use Rattle.meaning.specs.AmissLaws.{value-ranged}
 use Rattle.metainfo.specs.Metainfo.{bytesIn}
 use Rattle.filetree.specs.Tree.{Element, listed, filesIn, fileNumber}
-use Rattle.torrent.specs.Torrent.{checkedOf, readOf, noTorrent, fileRead, fileAnswer, noFileRead, pathRead, elementIn, noPartRead}
+use Rattle.torrent.specs.Torrent.{checkedOf, readOf, fileRead, noFileRead, pathRead, elementIn, noPartRead}
 use Rattle.torrent.specs.Answers.{Says, tooLarge, noEncoding, tooDeep, encodes}
 use Rattle.torrent.specs.NumberMeans.{torrent-number, read-number, refused-read, refused-file, refused-path}
 use Rattle.torrent.specs.declared.read.Torrent.{Torrent}

@@ -1,19 +1,19 @@
 -- Record n of the list, read back, is what `kd_torrent_file` and `kd_torrent_path` answer for file n.
 -- Assumes nothing.
 use mathlib.Core.Path.{_≡_, refl, sym, ap, ap₂, _∙_}
-use mathlib.Core.Bool.{Bool, true, false, cond}
-use mathlib.Core.List.{List, [], _∷_, _++_, append-assoc, append-nil}
+use mathlib.Core.Bool.{Bool, true, false}
+use mathlib.Core.List.{List, [], _∷_, _++_, append-assoc}
 use Prim.Native.Nat.{ℕ, zero, suc, _+_, _-_, _*_, _^_, _≤_, _<_}
 use native.Mathlib.Omega.{arith}
 use native.Mathlib.Decide.{decLt}
 use lib.ListN.{length, take, drop, getD, length-append, List·getD-append}
 use lib.Seq.{drop-append-add, getD-append-add, take-append-seam, take-all}
 use lib.Dec.{eqb, ltb}
-use borrow.Author.Tests.{eqb-true, eqb-false, ne-eqb, ltb-false}
+use borrow.Author.Tests.{eqb-true, eqb-false, ltb-false}
 use Rattle.octets.specs.Octets.{cut, pasted, be, numberAt, zeroHash}
-use Rattle.octets.specs.OctetsLaws.{cut-length, cut-cut, cut-pasted-same, cut-append-left, cut-append-right, number-same, number-of-be, be-octets, zero-octets}
-use Rattle.limits.specs.Limits.{longestFile, largestTorrent, maxLevels}
-use Rattle.numbers.specs.Numbers.{noRoom, refused, done}
+use Rattle.octets.specs.OctetsLaws.{cut-cut, cut-pasted-same, cut-append-left, number-same, number-of-be, be-octets, zero-octets}
+use Rattle.limits.specs.Limits.{largestTorrent, maxLevels}
+use Rattle.numbers.specs.Numbers.{noRoom}
 use Rattle.tree.specs.Geometry.{pieceCount, ceilDiv}
 use Rattle.tree.specs.GeometryLaws.{ceil-enough}
 use Rattle.bencode.specs.Grammar.{string, dictionary, Entries, encode, Valid}
@@ -22,7 +22,6 @@ use Rattle.bencode.specs.declared.scalar.ByteString.{ByteString}
 use Rattle.meaning.specs.Nth.{Nth}
 use Rattle.meaning.specs.NthLaws.{nth-some}
 use Rattle.meaning.specs.Torrent.{File, treeOf, plenOf, filesOf}
-use Rattle.meaning.specs.Amiss.{LayersRight, LayerOf}
 use Rattle.meaning.specs.TestsLaws.{piece-some, tree-no}
 use Rattle.meaning.specs.AmissLaws.{right-piece, right-tree, all-layers}
 use Rattle.meaning.specs.FilesLaws.{FileHolds, AllHold, nth-holds, nth-right, element-full, files-hold}
@@ -32,7 +31,7 @@ use Rattle.filetree.specs.Tree.{maxElements, Element, Listed, listed, filesIn, 
 use Rattle.layers.specs.Layers.{rootBytes, layerString, startOf, sizeOf}
 use Rattle.joined.specs.Reading.{readFile, readFiles}
 use Rattle.torrent.specs.Torrent.{checkedOf, readOf, fileRead, fileAnswer, pathRead, elementIn}
-use Rattle.torrent.specs.Answers.{TorrentIs, FileIs, PartIs}
+use Rattle.torrent.specs.Answers.{FileIs}
 use Rattle.torrent.specs.NumberMeans.{read-number, read-encodes}
 use Rattle.torrent.specs.ReadMeans.{part-within, at-values, value-zero, same-keys, same-files, all-files, torrent-is, file-read, file-answer, path-answer, file-is, element-is}
 use Rattle.torrent.specs.declared.read.FileRead.{FileRead}
@@ -193,9 +192,10 @@ unfolding elementBytes elementIn
 element-place base [] k l x y = absurd (omega arith)
 element-place base (e ∷ path) zero l x y =
     let a = base + e .start in
-    let n = e .end - e .start in
-    (number-first 4 a (be 4 n) x,
-    number-behind (be 4 a) (be 4 n) 4 0 4 (omega (arith, be-size 4 a)) ∙ number-of-be 4 n y)
+    let n = e .end - e .start in (
+      number-first 4 a (be 4 n) x,
+      number-behind (be 4 a) (be 4 n) 4 0 4 (omega (arith, be-size 4 a)) ∙ number-of-be 4 n y,
+    )
 element-place base (e ∷ path) (suc k) l x y = element-place base path k (omega arith) x y
 
 -- and nothing behind the last
@@ -255,10 +255,6 @@ record-at p (f ∷ fs) (suc n) w h =
 
 -- ---- what it carries
 
--- parts of a torrent are below 2^32
-below : (n m : ℕ) → n ≤ m → m ≤ largestTorrent → n < 256 ^ 4
-below n m h g = omega arith
-
 -- the record of a file whose answers are small
 record-carries : (p : Parts) (f : Listed) (part : ℕ → PartRead) → length (rootBytes (p .t) (f .size) (f .root)) ≡ 32 → f .size < 256 ^ 8
     → startOf (p .layers) (layerString (p .l) (p .plen) (f .size) (cut (p .t) (f .root) 32)) < 256 ^ 4 → sizeOf (layerString (p .l) (p .plen) (f .size) (cut (p .t) (f .root) 32)) < 256 ^ 4
@@ -280,15 +276,15 @@ record-carries p f part w long start size few is small =
           head-past (p .layers) (f .size) root layer count rest w (8 * k) 4 ∙ place k h .0 ∙ ap (λ (z : PartRead). z .start) (sym (is k));
       element-size = λ k h.
           ap (λ (z : ℕ). numberAt (headBytes (p .layers) (f .size) root layer count ++ rest) z 4) (let o : 60 + 8 * k ≡ 56 + (4 + 8 * k) = omega arith in o)
-              ∙ head-past (p .layers) (f .size) root layer count rest w (4 + 8 * k) 4
-              ∙ place k h .1
-              ∙ ap (λ (z : PartRead). z .size) (sym (is k));
+          ∙ head-past (p .layers) (f .size) root layer count rest w (4 + 8 * k) 4
+          ∙ place k h .1
+          ∙ ap (λ (z : PartRead). z .size) (sym (is k));
       behind = λ k h l.
           head-past (p .layers) (f .size) root layer count rest w (8 * k) 8
-              ∙ ap (λ (z : ℕ). numberAt rest z 8) (let o : 8 * k ≡ 0 + 8 * k = omega arith in o)
-              ∙ element-number (p .tree) (f .path) maxElements k 0 8 (omega arith) (omega arith)
-              ∙ ap (λ (z : List ℕ). numberAt z 0 8) (element-none (p .tree) (f .path) k h)
-              ∙ number-of-be 8 0 (omega arith);
+          ∙ ap (λ (z : ℕ). numberAt rest z 8) (let o : 8 * k ≡ 0 + 8 * k = omega arith in o)
+          ∙ element-number (p .tree) (f .path) maxElements k 0 8 (omega arith) (omega arith)
+          ∙ ap (λ (z : List ℕ). numberAt z 0 8) (element-none (p .tree) (f .path) k h)
+          ∙ number-of-be 8 0 (omega arith);
     }
   where
     root : List ℕ
@@ -309,9 +305,10 @@ record-carries p f part w long start size few is small =
     place k h =
         let s = small k h in
         let w = element-place (p .tree) (f .path) k h (s .0) (s .1) in
-        let o : 8 * k ≡ 0 + 8 * k = omega arith in
-        (ap (λ (z : ℕ). numberAt rest z 4) o ∙ element-number (p .tree) (f .path) maxElements k 0 4 (omega arith) (omega arith) ∙ w .0,
-        element-number (p .tree) (f .path) maxElements k 4 4 (omega arith) (omega arith) ∙ w .1)
+        let o : 8 * k ≡ 0 + 8 * k = omega arith in (
+          ap (λ (z : ℕ). numberAt rest z 4) o ∙ element-number (p .tree) (f .path) maxElements k 0 4 (omega arith) (omega arith) ∙ w .0,
+          element-number (p .tree) (f .path) maxElements k 4 4 (omega arith) (omega arith) ∙ w .1,
+        )
 
 -- ---- the list of a torrent
 

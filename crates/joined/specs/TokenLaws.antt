@@ -7,7 +7,6 @@ use Prim.Native.Nat.{ℕ, _+_}
 use native.Mathlib.Omega.{arith}
 use lib.ListN.{length, drop, length-append}
 use lib.Seq.{drop-drop, drop-append-seam}
-use lib.Dec.{eqb}
 use borrow.Author.Tests.{eq-eqb, ne-eqb}
 use Rattle.limits.specs.Limits.{maxLevels}
 use Rattle.bencode.specs.Grammar.{colon, letterD, letterE, Value, dictionary, Entries, noEntries, entry, decimal, encodeString, encode, encodeEntries, Valid}

@@ -2,16 +2,15 @@
 -- files in the same order. By induction on the value, with the levels left beside it.
 -- Assumes nothing.
 use mathlib.Core.Path.{_≡_, refl, sym, ap, ap₂, _∙_}
-use mathlib.Core.Bool.{Bool, true, false, cond, _&&_, and-false, false≢true}
+use mathlib.Core.Bool.{Bool, true, false, _&&_, and-false, false≢true}
 use mathlib.Core.List.{List, [], _∷_, _++_, append-nil}
 use Prim.Native.Nat.{ℕ, zero, suc, _+_, _-_, _≤_}
 use native.Mathlib.Omega.{arith}
 use lib.ListN.{length, drop, length-append}
-use lib.Seq.{drop-drop}
 use Rattle.octets.specs.Octets.{cut}
 use Rattle.limits.specs.Limits.{maxLevels}
-use Rattle.bencode.specs.Grammar.{colon, letterD, letterE, Value, integer, string, list, dictionary, Entries, noEntries, entry, decimal, decimalIn, encodeString, encode, encodeEntries, KeyBefore, none, after as afterKey, Valid, EntriesValid}
-use Rattle.bencode.specs.Parts.{isDictionary, present, lookup}
+use Rattle.bencode.specs.Grammar.{colon, Value, integer, string, list, dictionary, Entries, noEntries, entry, decimal, decimalIn, encodeString, encode, encodeEntries, KeyBefore, none, after as afterKey, Valid, EntriesValid}
+use Rattle.bencode.specs.Parts.{isDictionary, present}
 use Rattle.bencode.specs.CompleteLaws.{contentStart, string-some, dictionary-bytes}
 use Rattle.bencode.specs.DepthLaws.{more-levels}
 use Rattle.bencode.specs.PartsLaws.{valueStart, content-is, dictionary-is, isDictionaryValue, entries-length, entries-some}
@@ -20,10 +19,9 @@ use Rattle.filetree.specs.Token.{endsHere, nodeToken, fileToken, tokenAt}
 use Rattle.filetree.specs.Tree.{maxElements, Element, Listed, Files, wrong, files, down, listedAs, after, onward, onToken, filesFrom, filesBelow, filesIn, right, listed}
 use Rattle.filetree.specs.declared.file.File.{File as FileFound}
 use Rattle.filetree.specs.declared.file.File.the-variants.{Right, WrongFile}
-use Rattle.filetree.specs.declared.token.Token.{Token}
-use Rattle.filetree.specs.declared.token.Token.the-variants.{Opened, Closed, Leaf, BadToken}
+use Rattle.filetree.specs.declared.token.Token.the-variants.{Leaf, BadToken}
 use Rattle.meaning.specs.Torrent.{File, entriesOf, fileRight, elementRight, noMore, nodeRight, branchRight, nodesRight, treeRight, filesOfNode, filesOfEntries, fileValue}
-use Rattle.joined.specs.Reading.{element, elements, rootRead, readFile, readFiles}
+use Rattle.joined.specs.Reading.{element, elements, readFile, readFiles}
 use Rattle.joined.specs.FileLaws.{FileAgrees, file-is}
 use Rattle.joined.specs.TokenLaws.{after-bytes, entries-there, entry-bytes, ends-is, token-end, key-token, node-other, node-empty, node-opened, node-file, file-wrong, file-right}
 

@@ -1,6 +1,6 @@
 -- Each number of a value is given exactly if what 01 says of it holds and what the lower ones say does not; 0 exactly if none holds.
 -- Assumes nothing.
-use mathlib.Core.Path.{_≡_, refl, sym, ap, _∙_}
+use mathlib.Core.Path.{_≡_, refl, sym, _∙_}
 use mathlib.Core.Logic.{_⊎_, inl, inr, _↔_}
 use mathlib.Core.Bool.{Bool, true, false, cond, _&&_, false≢true, and-eq-true-iff}
 use Prim.Native.Nat.{ℕ, suc, _≤_, _<_}
@@ -254,8 +254,8 @@ module _ (torrent : Entries) where
     λ q. (let p = past27 0 (inl refl) q in (p .0, g-true (on g 0 layerDiffers 0 (λ z. omega arith) (p .2) .0))),
     λ w.
         number-is
-            ∙ rw (a-no (w .0 .0 .0 .0 .0 .0), b-no (w .0 .0 .0 .0 .0 .1), c-no (w .0 .0 .0 .0 .1), d-no (w .0 .0 .0 .1), e-no (w .0 .0 .1), f-no (w .0 .1), is-true g (g-false (f-no (w .0 .1))) (w .1))
-            refl,
+        ∙ rw (a-no (w .0 .0 .0 .0 .0 .0), b-no (w .0 .0 .0 .0 .0 .1), c-no (w .0 .0 .0 .0 .1), d-no (w .0 .0 .0 .1), e-no (w .0 .0 .1), f-no (w .0 .1), is-true g (g-false (f-no (w .0 .1))) (w .1))
+        refl,
   )
 
   -- so where the number is 0 the piece length is in range

@@ -1,13 +1,13 @@
 -- Small torrents, and the number of each, by the definitions.
 -- Assumes nothing.
 use mathlib.Core.Path.{_≡_, refl}
-use mathlib.Core.Bool.{Bool, true, false}
+use mathlib.Core.Bool.{false}
 use mathlib.Core.List.{List, [], _∷_}
 use Prim.Native.Nat.{ℕ}
 use Rattle.meaning.specs.Keys.{keyLength, keyPiecesRoot, keyInfo, keyFileTree, keyPieceLength, keyMetaVersion, keyPieceLayers}
 use Rattle.octets.specs.Octets.{zeroHash, same}
 use Rattle.tree.specs.Geometry.{isPieceLength, pieceLayer, height, heightFrom, hasLayer}
-use Rattle.bencode.specs.Grammar.{Value, integer, string, list, dictionary, Entries, noEntries, entry}
+use Rattle.bencode.specs.Grammar.{Value, integer, string, dictionary, Entries, noEntries, entry}
 use Rattle.bencode.specs.Parts.{lookup}
 use Rattle.meaning.specs.Torrent.{hasKeys, elementRight, fileRight, nodeRight, branchRight, nodesRight, treeRight, filesOfNode, filesOfEntries, noneWith, rootsApart, layersFit, someLonger, noOthers, layersGiveRoots, valueNumber}
 

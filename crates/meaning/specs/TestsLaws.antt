@@ -10,22 +10,17 @@ use lib.ListN.{length}
 use lib.Dec.{eqb, leb}
 use borrow.Author.Tests.{eqb-true, eqb-false, eq-eqb, ne-eqb, lt-ltb, ltb-true, leb-true, le-leb}
 use Rattle.octets.specs.Octets.{same}
-use Rattle.octets.specs.OctetsLaws.{same-true, same-false, same-eq, same-ne}
+use Rattle.octets.specs.OctetsLaws.{same-true, same-false, same-eq}
 use Rattle.limits.specs.Limits.{longestFile}
-use Rattle.tree.specs.Geometry.{blockLength, blockCount, height, isPieceLength, pieceLayer, pieceCount, hasLayer}
+use Rattle.tree.specs.Geometry.{blockCount, height, isPieceLength, pieceLayer, pieceCount, hasLayer}
 use Rattle.tree.specs.GeometryLaws.{piece-length-form, piece-length-accepted}
 use Rattle.tree.specs.Values.{layerRoot}
 use Rattle.bencode.specs.Grammar.{Value, integer, string, list, dictionary, Entries, noEntries, entry}
 use Rattle.bencode.specs.Parts.{Lookup, absent, present, lookup}
 use Rattle.meaning.specs.Keys.{keyInfo, keyFileTree, keyPieceLength, keyMetaVersion, keyPieceLayers, keyLength, keyPiecesRoot}
 use Rattle.meaning.specs.Nth.{Nth}
-use Rattle.meaning.specs.Torrent.{hasDictionary, hasInteger, isNumber, numberOf, isNatural, infoOf, hasKeys, rootRight, fileRight, elementRight, noMore, nodeRight, branchRight, nodesRight, treeRight, File, noneWith, rootsApart, layerFits, layersFit, someLonger, noOthers, layerBytes, givesRoot, layersGiveRoots, plenOf}
+use Rattle.meaning.specs.Torrent.{hasDictionary, hasInteger, isNumber, numberOf, isNatural, infoOf, hasKeys, rootRight, fileRight, elementRight, nodeRight, branchRight, nodesRight, treeRight, File, noneWith, rootsApart, layerFits, layersFit, someLonger, noOthers, layerBytes, givesRoot, layersGiveRoots, plenOf}
 use Rattle.meaning.specs.Amiss.{ADictionary, AnInteger, KeyMissing, info, fileTree, pieceLength, metaVersion, pieceLayers, OtherVersion, PieceLengthOutOfRange, RightFile, empty, full, RightNode, file, directory, RightDirectory, one, more, TwoWithOneRoot, LayerOf, LayersRight, LayerDiffers}
-
--- one of two tests fails
-one-false : (a b : Bool) → a && b ≡ false → (a ≡ false) ⊎ (b ≡ false)
-one-false true b e = inr e
-one-false false b e = inl refl
 
 -- what isn't 0 is above it
 above : (n : ℕ) → (n ≡ 0 → ⊥) → 0 < n
@@ -206,6 +201,7 @@ file-yes (dictionary es) e = by-size (eqb (numberOf x) 0) refl (p .1)
         let w = root-some y r in
         let nz = eqb-false (numberOf x) 0 z in
         full es (numberOf x) (w .0) (natural-yes x (q .0)) (above (numberOf x) nz) (leb-true (numberOf x) longestFile (q .1)) (w .1) (w .2)
+
 file-no : (v : Value) → RightFile v → fileRight v ≡ true
 unfolding fileRight
 file-no v (empty es l r) = rw (l, r, le-leb 0 longestFile (omega arith)) refl

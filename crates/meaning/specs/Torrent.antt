@@ -2,16 +2,16 @@
 -- Assumes nothing.
 use mathlib.Core.Bool.{Bool, true, false, cond, _&&_, _||_, not}
 use mathlib.Core.List.{List, [], _∷_, _++_}
-use Prim.Native.Nat.{ℕ, zero, suc, _+_, _*_, _^_}
+use Prim.Native.Nat.{ℕ, _+_, _*_}
 use lib.ListN.{length}
-use lib.Dec.{eqb, leb, ltb}
+use lib.Dec.{eqb, leb}
 use Rattle.limits.specs.Limits.{longestFile}
 use Rattle.meaning.specs.Keys.{keyLength, keyPiecesRoot, keyInfo, keyFileTree, keyPieceLength, keyMetaVersion, keyPieceLayers}
 use Rattle.octets.specs.Octets.{same, zeroHash}
 use Rattle.numbers.specs.Numbers.{keyMissing, otherVersion, pieceLengthOutOfRange, wrongTree, sameRoot, layersAmiss, layerDiffers}
 use Rattle.tree.specs.Geometry.{blockCount, height, isPieceLength, pieceLayer, pieceCount, hasLayer}
 use Rattle.tree.specs.Values.{layerRoot}
-use Rattle.bencode.specs.Grammar.{Value, integer, string, list, dictionary, Items, Entries, noEntries, entry}
+use Rattle.bencode.specs.Grammar.{Value, integer, string, list, dictionary, Entries, noEntries, entry}
 use Rattle.bencode.specs.Parts.{Lookup, absent, present, lookup}
 
 -- ---- 22: the five keys, each of its type

@@ -2,7 +2,7 @@
 -- root is what the layer gives; no hash is worked out here, only that it has 32 bytes.
 -- Assumes nothing.
 use mathlib.Core.Path.{_≡_, refl, sym, ap, _∙_}
-use mathlib.Core.Bool.{Bool, true, false, cond, not, _&&_, _||_}
+use mathlib.Core.Bool.{Bool, true, false, cond, _&&_, _||_}
 use mathlib.Core.List.{List, [], _∷_, _++_}
 use Prim.Native.Nat.{ℕ, suc, _+_, _<_}
 use native.Mathlib.Omega.{arith}
@@ -15,7 +15,7 @@ use Rattle.octets.specs.OctetsLaws.{same-refl}
 use Rattle.sha256.specs.Sha256Laws.{pair-octets}
 use Rattle.tree.specs.Geometry.{blockCount, ceilDiv, isPieceLength, pieceLayer, pieceCount, height, heightFrom, hasLayer}
 use Rattle.tree.specs.Values.{node, layerLeaf, layerRoot}
-use Rattle.bencode.specs.Grammar.{colon, Value, integer, string, dictionary, Entries, noEntries, entry, decimalIn, decimal, encodeString, encode, encodeEntries, precedes, Valid}
+use Rattle.bencode.specs.Grammar.{colon, integer, string, dictionary, Entries, noEntries, entry, decimalIn, decimal, encodeString, encode, encodeEntries, precedes, Valid}
 use Rattle.bencode.specs.PartsLaws.{entries-length}
 use Rattle.bencode.specs.Parts.{Lookup, present, absent, lookup}
 use Rattle.meaning.specs.Nth.{Nth}

@@ -33,8 +33,6 @@ use Rattle.joined.specs.KeysLaws.{KeysAt, keys-number, keys-point, none-exactly
 use Rattle.joined.specs.StrictTorrentLaws.{strict-keys, keys-first, tree-next, torrent-tree, torrent-files}
 use Rattle.torrent.specs.Torrent.{filesNumber, treeNumber, judgedAs, judgedOf, unread, withJudged, checkedOf, noTorrent, readOf, noFileRead, fileRead, noPartRead, pathRead}
 use Rattle.torrent.specs.Answers.{Says, tooLarge, noEncoding, tooDeep, encodes}
-use Rattle.torrent.specs.declared.check.Checked.{Checked}
-use Rattle.torrent.specs.declared.read.Torrent.{Torrent}
 use Rattle.torrent.specs.declared.read.FileRead.{FileRead}
 use Rattle.torrent.specs.declared.read.PartRead.{PartRead}
 

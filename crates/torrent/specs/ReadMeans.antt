@@ -2,7 +2,7 @@
 -- length, the files in tree order, each with its length, root, path and layer. `Answers` says what is promised.
 -- Assumes nothing.
 use mathlib.Core.Path.{_≡_, refl, sym, ap, _∙_}
-use mathlib.Core.Bool.{Bool, true, false, cond, not, _&&_, _||_, false≢true, and-eq-true-iff}
+use mathlib.Core.Bool.{Bool, true, false, cond}
 use mathlib.Core.List.{List, [], _∷_, _++_}
 use Prim.Native.Nat.{ℕ, zero, suc, _+_, _-_, _≤_, _<_}
 use native.Mathlib.Decide.{decLt}
@@ -17,7 +17,7 @@ use Rattle.numbers.specs.Numbers.{wrongTree, noSuchFile}
 use Rattle.sha256.specs.Sha256.{sha256}
 use Rattle.tree.specs.Geometry.{hasLayer}
 use Rattle.bencode.specs.Grammar.{colon, string, dictionary, Entries, decimal, encodeString, encode, Valid}
-use Rattle.bencode.specs.Parts.{findKey, Lookup, absent, present, lookup, FoundIs}
+use Rattle.bencode.specs.Parts.{findKey, present, lookup, FoundIs}
 use Rattle.bencode.specs.CompleteLaws.{contentStart}
 use Rattle.bencode.specs.DepthLaws.{more-levels}
 use Rattle.bencode.specs.PartsLaws.{part-front, content-is}
@@ -25,11 +25,9 @@ use Rattle.bencode.specs.declared.scalar.ByteString.{ByteString}
 use Rattle.bencode.specs.declared.scalar.ByteString.the-variants.{NoString}
 use Rattle.bencode.specs.declared.parts.Found.{Found}
 use Rattle.bencode.specs.declared.parts.Found.the-variants.{Part, Missing}
-use Rattle.meaning.specs.Keys.{keyInfo}
 use Rattle.meaning.specs.Nth.{Nth}
-use Rattle.meaning.specs.NthLaws.{nth-some, nth-below}
-use Rattle.meaning.specs.Torrent.{File, infoOf, treeOf, filesOf, treeRight, plenOf, layersOf, valueNumber}
-use Rattle.meaning.specs.Amiss.{LayersRight, LayerOf}
+use Rattle.meaning.specs.NthLaws.{nth-some}
+use Rattle.meaning.specs.Torrent.{File, infoOf, treeOf, filesOf, plenOf, layersOf, valueNumber}
 use Rattle.meaning.specs.AmissLaws.{all-layers}
 use Rattle.metainfo.specs.Metainfo.{bytesIn, keysOf, metainfoOf}
 use Rattle.metainfo.specs.MetainfoLaws.{metainfo-right}
@@ -46,8 +44,6 @@ use Rattle.torrent.specs.Torrent.{checkedOf, readOf, noFileRead, fileAns
 use Rattle.torrent.specs.Answers.{TorrentIs, FileIs, PartIs}
 use Rattle.torrent.specs.NumberMeans.{number-is-the-values, read-number}
 use Rattle.torrent.specs.declared.check.Checked.{Checked}
-use Rattle.torrent.specs.declared.read.FileRead.{FileRead}
-use Rattle.torrent.specs.declared.read.PartRead.{PartRead}
 
 -- ---- a part of a part
 

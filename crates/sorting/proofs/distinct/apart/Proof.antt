@@ -61,10 +61,11 @@ returns : tie.Need-returns
 returns c =
     let b = c .before .before .before .before .before .before .before .before .before .before .before .before .before in
     let sorted = c .before .before .before .before .before .before .before .sort in
-    let z : b .args .count - 0 ≡ b .args .count = omega arith in
-    (climbing-apart _ (b .args .at .now) (b .args .count - 0) (b .args .count) z (b .pre .0) (sorted .last .1 .0) (sorted .ensures .0) _ (c .climbs .ensures),
-    array-back _ (b .args .at .now) (b .args .count - 0) (b .args .count) z (b .pre .0) (sorted .last .1 .0) (sorted .ensures .0),
-    room-back _ (b .args .at .now) (b .args .room .now) (b .args .count - 0) (b .args .count) z (sorted .last .1 .1 .0) (sorted .ensures .1))
+    let z : b .args .count - 0 ≡ b .args .count = omega arith in (
+      climbing-apart _ (b .args .at .now) (b .args .count - 0) (b .args .count) z (b .pre .0) (sorted .last .1 .0) (sorted .ensures .0) _ (c .climbs .ensures),
+      array-back _ (b .args .at .now) (b .args .count - 0) (b .args .count) z (b .pre .0) (sorted .last .1 .0) (sorted .ensures .0),
+      room-back _ (b .args .at .now) (b .args .room .now) (b .args .count - 0) (b .args .count) z (sorted .last .1 .1 .0) (sorted .ensures .1),
+    )
 
 pub apart-spec : {M : Type 1} → statement M
 apart-spec =
