@@ -1,7 +1,7 @@
 // A string found among strings that ascend.
+use crate::compare::follows_key;
 use crate::compare::index;
 use crate::compare::precedes_key;
-use crate::compare::follows_key;
 ghost use mathlib.Core.Path.{_≡_};
 ghost use mathlib.Core.Logic.{_⊎_};
 ghost use Prim.Native.Nat.{ℕ, _+_, _≤_, _<_};

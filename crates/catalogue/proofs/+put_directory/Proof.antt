@@ -336,7 +336,7 @@ put-directory-add-to : (t : ℕ) → put-directory-lts.Need-add-to (
   put-directory-below t,
   put-directory.Post,
 ) (put-directory-at t) put-directory.Post put-directory-Inv-loop put-directory-μ-loop
-put-directory-add-to t c = let x = c .before .before .before .before .before .before .before .before .before .before .before .before .before .before .before .loop .inv .fits in let y = c .before .before .before .before .before .before .before .before .before .before .before .before .before .before .before .loop .inv .sized in let z = c .before .before .before .before .before .before .before .before .before .if2 .left in omega arith
+put-directory-add-to t c = let x = c .before .before .before .before .before .before .before .before .before .before .before .before .before .before .before .loop .inv .early in let y = c .before .before .before .before .before .before .before .before .before .before .before .before .before .before .loop-test .taken in let z = c .before .before .before .before .before .before .before .before .before .before .before .before .before .before .before .before .before .before .before .before .before .before .before .pre .1 .1 .tree-within in omega arith
 
 -- src/lib.rt:68:5
 put-directory-loop-less : (t : ℕ) → put-directory-lts.Need-loop-less (
@@ -414,7 +414,7 @@ put-directory-put-directory-requires : (t : ℕ) → put-directory-lts.Need-put-
   put-directory-below t,
   put-directory.Post,
 ) (put-directory-at t) put-directory.Post put-directory-Inv-loop put-directory-μ-loop
-put-directory-put-directory-requires t c κs = (let x = c .before .before .before .before .before .before .before .before .before .before .before .before .if1 .left in omega arith, (c .before .before .before .before .before .before .before .before .before .before .before .before .before .before .before .before .before .before .before .pre .1 .0, inner-right _ _ _ _ _ _ _ _ _ _ (c .before .before .before .before .before .before .before .before .before .before .before .loop .inv) (c .before .before .before .before .before .before .before .before .before .before .loop-test .taken) _ _ (sym (c .before .before .before .before .before .before .before .before .before .read-token .ensures) ∙ c .before .before .before .before .before .before .before .start2 .given .1) (c .before .before .before .before .before .before .before .before .before .before .before .before .before .before .before .before .before .before .before .pre .1 .1) (c .before .before .before .before .before .before .before .before .before .before .before .before .if1 .left) refl _ (c .before .before .before .before .set-element2 .ensures) _ refl))
+put-directory-put-directory-requires t c κs = (let x = c .before .before .before .before .before .before .before .before .before .before .before .before .if1 .left in omega arith, (c .before .before .before .before .before .before .before .before .before .before .before .before .before .before .before .before .before .before .before .pre .1 .0, inner-right _ _ _ _ _ _ _ _ _ _ (c .before .before .before .before .before .before .before .before .before .before .before .loop .inv) (c .before .before .before .before .before .before .before .before .before .before .loop-test .taken) _ _ (sym (c .before .before .before .before .before .before .before .before .before .read-token .ensures) ∙ c .before .before .before .before .before .before .before .start2 .given .1) (c .before .before .before .before .before .before .before .before .before .before .before .before .before .before .before .before .before .before .before .pre .1 .1) (c .before .before .before .before .before .before .before .before .before .before .before .before .if1 .left) refl _ (c .before .before .before .before .set-element2 .ensures) (c .before .before .before .before .before .before .before .before .before .before .before .loop .out) refl))
 
 -- src/lib.rt:107:33
 put-directory-enum-known-next : (t : ℕ) → put-directory-lts.Need-enum-known-next (
