@@ -35,10 +35,11 @@ pub record SpotRight (tree layers room : ℕ) (path : List ℕ) (s : Spot) : Typ
   pub shallow : s .levels ≤ maxElements
   pub given : PathGiven path (maxElements - s .levels) (s .list .tree)
   pub fits : s .to ≤ room
+  pub early : s .to ≤ recordSize * s .at
 
 abbrev pub PutIn : ℕ → ℕ → ℕ → Put → Type 0
 PutIn at end room WrongTree = Unit {0}
-PutIn at end room (Past k m) = (at < k) × (k ≤ end) × (m ≤ room)
+PutIn at end room (Past k m) = (at < k) × (k ≤ end) × (m ≤ room) × (m ≤ recordSize * k)
 
 -- the records of the files fs are written
 pub record Written (q : Parts) (fs : List Listed) (k to : ℕ) (out₀ out : List ℕ) (r : Put) : Type 0 where
@@ -105,10 +106,11 @@ given-less path d base w = let x = w .few in record { sized = w .sized; few = om
 more-records : (q : Parts) (out₀ out₁ out : List ℕ) (to : ℕ) (fs gs : List Listed) → out₁ ≡ pasted out₀ to (recordsOf q fs) → length (recordsOf q fs) ≡ recordSize * length fs → length (recordsOf q gs) ≡ recordSize * length gs
     → out ≡ pasted out₁ (to + recordSize * length fs) (recordsOf q gs) → to + recordSize * length fs + recordSize * length gs ≤ length out₀
     → (out ≡ pasted out₀ to (recordsOf q (fs ++ gs))) × (length (recordsOf q (fs ++ gs)) ≡ recordSize * length (fs ++ gs))
-more-records q out₀ out₁ out to fs gs e lf lg f h =
-    (f ∙ ap (λ (z : List ℕ). pasted z (to + recordSize * length fs) (recordsOf q gs)) e ∙ ap (λ (z : ℕ). pasted (pasted out₀ to (recordsOf q fs)) (to + z) (recordsOf q gs)) (sym lf)
-     ∙ pasted-append out₀ to (recordsOf q fs) (recordsOf q gs) (omega arith) ∙ ap (pasted out₀ to) (sym (records-append q fs gs)),
-     ap length (records-append q fs gs) ∙ length-append (recordsOf q fs) (recordsOf q gs) ∙ omega (arith, length-append fs gs))
+more-records q out₀ out₁ out to fs gs e lf lg f h = (
+  f ∙ ap (λ (z : List ℕ). pasted z (to + recordSize * length fs) (recordsOf q gs)) e ∙ ap (λ (z : ℕ). pasted (pasted out₀ to (recordsOf q fs)) (to + z) (recordsOf q gs)) (sym lf)
+      ∙ pasted-append out₀ to (recordsOf q fs) (recordsOf q gs) (omega arith) ∙ ap (pasted out₀ to) (sym (records-append q fs gs)),
+  ap length (records-append q fs gs) ∙ length-append (recordsOf q fs) (recordsOf q gs) ∙ omega (arith, length-append fs gs),
+)
 
 same-past : (k j m n : ℕ) → Past k m ≡ Past j n → (k ≡ j) × (m ≡ n)
 same-past k j m n e = (cc, cc)
@@ -120,6 +122,7 @@ pub record PutAt (t l : List ℕ) (s : Spot) (path₀ path out₀ out : List ℕ
   pub given : PathGiven path (maxElements - s .levels) (s .list .tree)
   pub sized : length out ≡ length out₀
   pub fits : to ≤ length out₀
+  pub early : to ≤ recordSize * i
   pub passed : (p : List Element) → Holds path₀ (maxElements - s .levels) p → right (filesBelow (s .levels) t (s .at) p) ≡ true
       → s .to + recordSize * length (listed (filesBelow (s .levels) t (s .at) p)) ≤ length out₀
       → (fs : List Listed) × Passed t (filesBelow (s .levels) t (s .at) p) below p i fs × (to ≡ s .to + recordSize * length fs)
@@ -132,7 +135,7 @@ none-written q out to = (omega arith, sym (pasted-none out to), refl)
 pub put-start : (t l : List ℕ) (s : Spot) (path out : List ℕ) → (s .levels ≡ 0 → ⊥) → SpotRight (length t) (length l) (length out) path s → PutAt t l s path path out out (s .levels - 1) (s .at) (s .to)
 put-start t l s path out h w =
     let n = none-written (partsWith t l (s .list)) out (s .to) in
-    record { in-order = omega arith; given = w .given; sized = refl; fits = w .fits; passed = λ p o e g. ([], passed-none t (s .levels) (s .at) p h, n .0, n .1, n .2, o) }
+    record { in-order = omega arith; given = w .given; sized = refl; fits = w .fits; early = w .early; passed = λ p o e g. ([], passed-none t (s .levels) (s .at) p h, n .0, n .1, n .2, o) }
 
 files-listed : (x : Files) (fs : List Listed) (k : ℕ) → x ≡ files fs k → listed x ≡ fs
 unfolding listed
@@ -167,19 +170,20 @@ module _ (t l : List ℕ) (s : Spot) (path₀ path out₀ out : List ℕ) (below
 
   module _ (h : i < length t) where
     pub puts-closed : tokenAt t i ≡ Closed → Puts t l s path₀ path out₀ out (Past (i + 1) to)
-    puts-closed e = record { ends = (let x = w .in-order in omega arith, omega arith, w .fits); given = w .given; puts = go }
+    puts-closed e = record { ends = (let x = w .in-order in omega arith, omega arith, w .fits, let x = w .early in omega arith); given = w .given; puts = go }
       where
         go : (p : List Element) → Holds path₀ depth p → (fs : List Listed) (k : ℕ) → whole p ≡ files fs k → s .to + recordSize * length fs ≤ length out₀
             → Written q fs k (s .to) out₀ out (Past (i + 1) to) × Holds path depth p
         go p o fs k e′ r =
             let x = w .passed p o (is-right (whole p) fs k e′) (rw (files-listed (whole p) fs k e′) r) in
-            let y = same-files (x .0) fs (i + 1) k (sym (passed-closed t (whole p) below p i (x .0) (x .1) h e) ∙ e′) in
-            (record {
-              answer = rw (y .1, x .2) (ap (λ (z : List Listed). Past k (s .to + recordSize * length z)) (y .0));
-              records = x .3 ∙ ap (λ (z : List Listed). pasted out₀ (s .to) (recordsOf q z)) (y .0);
-              size = rw (y .0) at (x .4);
-            },
-             x .5)
+            let y = same-files (x .0) fs (i + 1) k (sym (passed-closed t (whole p) below p i (x .0) (x .1) h e) ∙ e′) in (
+              record {
+                answer = rw (y .1, x .2) (ap (λ (z : List Listed). Past k (s .to + recordSize * length z)) (y .0));
+                records = x .3 ∙ ap (λ (z : List Listed). pasted out₀ (s .to) (recordsOf q z)) (y .0);
+                size = rw (y .0) at (x .4);
+              },
+              x .5,
+            )
 
     module _ (a b n r k : ℕ) (e : tokenAt t i ≡ Leaf a b n r k) where
       -- how many files there are at least
@@ -218,6 +222,7 @@ module _ (t l : List ℕ) (s : Spot) (path₀ path out₀ out : List ℕ) (below
               given = rw ep (given-still path depth a b (s .list .tree) (w .given));
               sized = lo ∙ w .sized;
               fits = let x = w .sized in let y = w .fits in omega arith;
+              early = let x = w .early in let y = leaf-ends t i a b n r k e .0 in omega arith;
               passed = go;
             }
           where
@@ -258,6 +263,7 @@ module _ (t l : List ℕ) (s : Spot) (path₀ path out₀ out : List ℕ) (below
             shallow = omega arith;
             given = rw (deep, ep) (given-down path depth a b (s .list .tree) (w .given) (omega arith) (x .2) (omega arith));
             fits = omega arith;
+            early = let k = w .early in let m = x .0 in omega arith;
           }
 
       -- the directory inside is right if the whole is, and has room
@@ -306,6 +312,7 @@ module _ (t l : List ℕ) (s : Spot) (path₀ path out₀ out : List ℕ) (below
               given = after-inside (Past k m) x;
               sized = lo ∙ w .sized;
               fits = let y = x .ends .2 in let z = w .sized in omega arith;
+              early = x .ends .3;
               passed = go;
             }
           where
@@ -321,9 +328,14 @@ module _ (t l : List ℕ) (s : Spot) (path₀ path out₀ out : List ℕ) (below
                 let n = x′ .2 in
                 let fit = y .3 in
                 let rest = v .1 in
-                let more = more-records q out₀ out out″ (s .to) (x′ .0) (y .0) (x′ .3) (x′ .4) (z .0 .size) (z .0 .records ∙ ap (λ (j : ℕ). pasted out j (recordsOf q (y .0))) n) (omega arith) in
-                (x′ .0 ++ y .0, passed-directory t (whole p) below p i (x′ .0) (x′ .1) h a b e (y .0) k inn, omega (arith, length-append (x′ .0) (y .0)), more .0, more .1,
-                 holds-up path″ depth p a b (holds-length path depth p (w .given .sized) (x′ .5) (omega arith)) (rw deep at (z .1)))
+                let more = more-records q out₀ out out″ (s .to) (x′ .0) (y .0) (x′ .3) (x′ .4) (z .0 .size) (z .0 .records ∙ ap (λ (j : ℕ). pasted out j (recordsOf q (y .0))) n) (omega arith) in (
+                  x′ .0 ++ y .0,
+                  passed-directory t (whole p) below p i (x′ .0) (x′ .1) h a b e (y .0) k inn,
+                  omega (arith, length-append (x′ .0) (y .0)),
+                  more .0,
+                  more .1,
+                  holds-up path″ depth p a b (holds-length path depth p (w .given .sized) (x′ .5) (omega arith)) (rw deep at (z .1)),
+                )
 
 -- ---- the whole tree
 

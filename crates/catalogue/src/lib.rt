@@ -160,7 +160,13 @@ pub fn list(s: &[u8], out: &mut [u8]) -> Answer
             count,
         };
         let mut keys = [0u32; MOST];
-        list_in(&s[tree..tree_end], &s[layers..layers_end], &mut keys, out, list);
+        list_in(
+            &s[tree..tree_end],
+            &s[layers..layers_end],
+            &mut keys,
+            out,
+            list,
+        );
         return success(size as u64);
     }
     refusal(number)

@@ -110,14 +110,7 @@ fn layer_of(t: &[u8], l: &[u8], keys: &[u32], list: Listing, n: usize, root: usi
 }
 
 // Writes the record of a file.
-pub fn put_record(
-    t: &[u8],
-    l: &[u8],
-    keys: &[u32],
-    path: &[usize],
-    out: &mut [u8],
-    file: Record,
-)
+pub fn put_record(t: &[u8], l: &[u8], keys: &[u32], path: &[usize], out: &mut [u8], file: Record)
     requires { ⌜ Indexed (now l) (now keys) (file .list .count) × RecordRight (L.length (now t)) (L.length (now l)) (L.length (now out)) (now path) file ⌝ }
     ensures { λ _. ⌜ now (out .exit) ≡ pasted (now (out .entry)) (file .at) (recordFrom (now (t .entry)) (now (l .entry)) (now (path .entry)) file) ⌝ }
 {

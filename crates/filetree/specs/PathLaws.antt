@@ -77,9 +77,10 @@ holds-still path d p a b w = take-set-le (2 * d) (set path (2 * d) a) (2 * d + 1
 -- two arrays that hold one path
 pub holds-element : (path : List ℕ) (d : ℕ) (p : List Element) → Holds path d p → (k : ℕ) → k < d → (getD path (2 * k) 0 ≡ elementNumber p k .start) × (getD path (2 * k + 1) 0 ≡ elementNumber p k .end)
 holds-element path d p w k h =
-    let x = flat-element p k in
-    (sym (getD-take (2 * d) path (2 * k) 0 (omega arith)) ∙ ap (λ (z : List ℕ). getD z (2 * k) 0) w ∙ x .0,
-     sym (getD-take (2 * d) path (2 * k + 1) 0 (omega arith)) ∙ ap (λ (z : List ℕ). getD z (2 * k + 1) 0) w ∙ x .1)
+    let x = flat-element p k in (
+      sym (getD-take (2 * d) path (2 * k) 0 (omega arith)) ∙ ap (λ (z : List ℕ). getD z (2 * k) 0) w ∙ x .0,
+      sym (getD-take (2 * d) path (2 * k + 1) 0 (omega arith)) ∙ ap (λ (z : List ℕ). getD z (2 * k + 1) 0) w ∙ x .1,
+    )
 
 pub set-length : (path : List ℕ) (d a b : ℕ) → length (setElement path d a b) ≡ length path
 set-length path d a b = length-set (set path (2 * d) a) (2 * d + 1) b ∙ length-set path (2 * d) a

@@ -98,10 +98,7 @@ fn count_directory(
                 return Counted::WrongTree;
             }
             Token::Closed => {
-                return Counted::Past {
-                    next: i + 1,
-                    tally,
-                };
+                return Counted::Past { next: i + 1, tally };
             }
             Token::Leaf {
                 start: _,

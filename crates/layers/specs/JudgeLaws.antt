@@ -83,11 +83,12 @@ module _ (t : List ℕ) (at levels : ℕ) (l : List ℕ) (plen w below i m : ℕ
       file-behind = let p = leaf-ends t i a b n r k e in (p .0, p .1, p .3, λ z. p .2 z .1)
 
       pub judged-file : (m′ v : ℕ) → v ≡ layerNumber l plen n (cut t r 32) → m′ ≡ lower m v → JudgedAt t at levels l plen w below k m′
-      judged-file m′ v ev em path =
-          (x path .0 ++ listedAs n r (down path a b) ∷ [],
-           passed-file t (whole path) below path i (x path .0) (x path .1) h a b n r k e,
-           em ∙ ap (lower m) ev ∙ sym (worst-one t l plen m n r (down path a b)) ∙ ap (λ (z : ℕ). worst t l plen z (listedAs n r (down path a b) ∷ [])) (x path .2)
-           ∙ sym (worst-append t l plen w (x path .0) (listedAs n r (down path a b) ∷ [])))
+      judged-file m′ v ev em path = (
+        x path .0 ++ listedAs n r (down path a b) ∷ [],
+        passed-file t (whole path) below path i (x path .0) (x path .1) h a b n r k e,
+        em ∙ ap (lower m) ev ∙ sym (worst-one t l plen m n r (down path a b)) ∙ ap (λ (z : ℕ). worst t l plen z (listedAs n r (down path a b) ∷ [])) (x path .2)
+            ∙ sym (worst-append t l plen w (x path .0) (listedAs n r (down path a b) ∷ [])),
+      )
 
     module _ (a b : ℕ) (e : tokenAt t i ≡ Opened a b) where
       pub judges-inside : Judges t (b + 1) below l plen m WrongTree → Judges t at levels l plen w WrongTree
@@ -104,10 +105,11 @@ module _ (t : List ℕ) (at levels : ℕ) (l : List ℕ) (plen w below i m : ℕ
 
         pub judged-directory : JudgedAt t at levels l plen w below k m′
         judged-directory path =
-            let y = inside path in
-            (x path .0 ++ y .0,
-             passed-directory t (whole path) below path i (x path .0) (x path .1) h a b e (y .0) k (y .1),
-             y .2 ∙ ap (λ (z : ℕ). worst t l plen z (y .0)) (x path .2) ∙ sym (worst-append t l plen w (x path .0) (y .0)))
+            let y = inside path in (
+              x path .0 ++ y .0,
+              passed-directory t (whole path) below path i (x path .0) (x path .1) h a b e (y .0) k (y .1),
+              y .2 ∙ ap (λ (z : ℕ). worst t l plen z (y .0)) (x path .2) ∙ sym (worst-append t l plen w (x path .0) (y .0)),
+            )
 
 -- ---- the whole tree
 

@@ -1,3 +1,5 @@
+use Rattle.layers.proofs.Finding.{long-some}
+use Rattle.catalogue.proofs.Writing.{layer-long, layer-short}
 use native.Mathlib.Omega.{arith}
 use Prim.Native.Nat.{ℕ, _+_, _-_, _*_, _≤_, _<_, _/_, _%_, _^_}
 use lib.ListN.{length, getD, set, take, drop}
@@ -16,7 +18,7 @@ has-layer-requires c κs = search needs
 
 -- src/record.rt:107:57
 add-find-layer : tie.Need-add-find-layer
-add-find-layer c = ?
+add-find-layer c = let x = c .before .before .before .before .before .pre .1 (long-some _ _ (sym (c .before .has-layer .ensures) ∙ c .if1 .taken)) in omega arith
 
 -- src/record.rt:107:48
 sub-find-layer : tie.Need-sub-find-layer
@@ -28,7 +30,7 @@ part-find-layer-start c = search needs
 
 -- src/record.rt:107:48
 part-find-layer-end : tie.Need-part-find-layer-end
-part-find-layer-end c = ?
+part-find-layer-end c = let x = c .before .before .before .before .before .pre .1 (long-some _ _ (sym (c .before .has-layer .ensures) ∙ c .if1 .taken)) in omega arith
 
 -- src/record.rt:107:9
 find-layer-requires : tie.Need-find-layer-requires
@@ -36,11 +38,11 @@ find-layer-requires c κs = search needs
 
 -- src/record.rt:107:9
 returns : tie.Need-returns
-returns c = ?
+returns c = layer-long _ _ _ _ _ _ (c .before .before .before .before .before .before .before .pre .2) (sym (c .before .before .before .has-layer .ensures) ∙ c .before .before .if1 .taken) _ (c .find-layer .ensures)
 
 -- src/record.rt:102:1
 returns-2 : tie.Need-returns-2
-returns-2 c = ?
+returns-2 c = layer-short _ _ _ _ _ _ (c .before .before .before .before .before .pre .2) (sym (c .before .has-layer .ensures) ∙ c .if1 .left)
 
 pub layer-of-spec : {M : Type 1} → statement M
 layer-of-spec =

@@ -1,3 +1,5 @@
+use Rattle.octets.specs.Octets.{pasted}
+use Rattle.catalogue.proofs.Writing.{element-some, element-none}
 use native.Mathlib.Omega.{arith}
 use Prim.Native.Nat.{ℕ, _+_, _-_, _*_, _≤_, _<_, _/_, _%_, _^_}
 use lib.ListN.{length, getD, set, take, drop}
@@ -36,11 +38,11 @@ shared-slice-read-end c = search needs
 
 -- src/record.rt:56:27
 add-put-part : tie.Need-add-put-part
-add-put-part c = ?
+add-put-part c = let x = c .before .before .before .before .before .before .pre .2 .forward _ (c .before .before .before .if1 .taken) in let y = c .before .before .before .before .before .before .pre .2 .inside _ (c .before .before .before .if1 .taken) in omega arith
 
 -- src/record.rt:56:41
 sub-put-part : tie.Need-sub-put-part
-sub-put-part c = ?
+sub-put-part c = c .before .before .before .before .before .before .pre .2 .forward _ (c .before .before .before .if1 .taken)
 
 -- src/record.rt:56:9
 put-part-requires : tie.Need-put-part-requires
@@ -52,7 +54,7 @@ same-length c = search needs
 
 -- src/record.rt:57:9
 returns : tie.Need-returns
-returns c = ?
+returns c = c .before .before .put-part .ensures ∙ ap (pasted _ _) (sym (element-some _ _ _ _ (c .before .before .before .before .before .before .if1 .taken)))
 
 -- src/record.rt:59:5
 put-number-requires : tie.Need-put-number-requires
@@ -64,7 +66,7 @@ same-length-2 c = search needs
 
 -- src/record.rt:48:1
 returns-2 : tie.Need-returns-2
-returns-2 c = ?
+returns-2 c = c .before .before .put-number .ensures ∙ ap (pasted _ _) (sym (element-none _ _ _ _ (c .before .before .before .before .if1 .left)))
 
 pub put-element-spec : {M : Type 1} → statement M
 put-element-spec =

@@ -1,3 +1,4 @@
+use Rattle.catalogue.proofs.Writing.{layer-forward, no-layer-written, layer-written}
 use native.Mathlib.Omega.{arith}
 use Prim.Native.Nat.{ℕ, _+_, _-_, _*_, _≤_, _<_, _/_, _%_, _^_}
 use lib.ListN.{length, getD, set, take, drop}
@@ -23,11 +24,11 @@ enum-known-layer c = search needs
 
 -- src/record.rt:81:65
 add-put-part : tie.Need-add-put-part
-add-put-part c = ?
+add-put-part c = let x = layer-forward _ _ _ _ (c .before .before .layer .given .1) (c .before .before .before .before .before .pre .1) in let y = x .0 in let z = x .1 in omega arith
 
 -- src/record.rt:81:79
 sub-put-part : tie.Need-sub-put-part
-sub-put-part c = ?
+sub-put-part c = layer-forward _ _ _ _ (c .before .before .layer .given .1) (c .before .before .before .before .before .pre .1) .0
 
 -- src/record.rt:81:47
 put-part-requires-2 : tie.Need-put-part-requires-2
@@ -39,7 +40,7 @@ same-length c = search needs
 
 -- src/record.rt:75:1
 returns : tie.Need-returns
-returns c = ?
+returns c = no-layer-written _ _ _ _ _ (c .before .before .before .before .enum-told .given .1) (c .before .before .put-part .ensures)
 
 -- src/record.rt:75:1
 same-length-2 : tie.Need-same-length-2
@@ -47,7 +48,7 @@ same-length-2 c = search needs
 
 -- src/record.rt:75:1
 returns-2 : tie.Need-returns-2
-returns-2 c = ?
+returns-2 c = layer-written _ _ _ _ _ _ _ (c .before .before .before .before .before .layer .given .1) (c .before .before .put-part2 .ensures)
 
 pub put-layer-spec : {M : Type 1} → statement M
 put-layer-spec =

@@ -1,3 +1,4 @@
+use Rattle.catalogue.proofs.Writing.{part-written}
 use native.Mathlib.Omega.{arith}
 use Prim.Native.Nat.{ℕ, _+_, _-_, _*_, _≤_, _<_, _/_, _%_, _^_}
 use lib.ListN.{length, getD, set, take, drop}
@@ -27,7 +28,7 @@ same-length c = search needs
 
 -- src/record.rt:39:1
 returns : tie.Need-returns
-returns c = ?
+returns c = part-written _ _ _ _ _ _ (c .before .before .before .before .before .before .before .before .before .pre) (c .before .before .before .before .before .before .put-number .ensures) (c .before .before .put-number2 .ensures)
 
 pub put-part-spec : {M : Type 1} → statement M
 put-part-spec =
