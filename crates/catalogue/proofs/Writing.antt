@@ -14,7 +14,7 @@ use Rattle.octets.specs.OctetsLaws.{be-octets, pasted-length, pasted-append}
 use Rattle.tree.specs.Geometry.{hasLayer}
 use Rattle.bencode.specs.declared.scalar.ByteString.{ByteString}
 use Rattle.bencode.specs.declared.scalar.ByteString.the-variants.{Content, NoString}
-use Rattle.roots.proofs.Telling.{part-is}
+use Rattle.sorting.proofs.Telling.{part-is}
 use Rattle.filetree.specs.Tree.{maxElements}
 use Rattle.filetree.specs.CountLaws.{pasted-none}
 use Rattle.layers.specs.Layers.{Inside, layerAt, rootBytes, layerString, startOf, sizeOf}
