@@ -9,11 +9,12 @@ use native.Mathlib.Decide.{decLt}
 use lib.ListN.{length, getD, take, drop, length-drop}
 use lib.Seq.{drop-drop}
 use lib.Dec.{eqb}
+use Rattle.limits.specs.Limits.{maxLevels}
 use Rattle.octets.specs.Octets.{cut, same}
-use Rattle.bencode.specs.Grammar.{letterD, maxLevels}
+use Rattle.bencode.specs.Grammar.{letterD}
 use Rattle.bencode.specs.Scalar.{readNumber, readString}
 use Rattle.bencode.specs.Walk.{walkValue}
-use Rattle.bencode.specs.Parts.{isDictionary, itemTo, readItem, entryTo, entryWith, readEntry, findIn, findKey}
+use Rattle.bencode.specs.Parts.{isDictionary, entryTo, entryWith, readEntry, findIn, findKey}
 use Rattle.bencode.specs.EndsLaws.{drop-further, string-ends}
 use Rattle.bencode.specs.PartsLaws.{entry-ends}
 use Rattle.bencode.proofs.Reading.{drop-end, drop-step}
@@ -38,10 +39,6 @@ module _ (s : List ℕ) (i : ℕ) where
       by-length : Dec (i < length s) → i < length s
       by-length (yes h) = h
       by-length (no g) = absurd (false≢true (sym (dictionary-none (omega arith)) ∙ e))
-
-  pub item-read : (w : Walked) → walkValue maxLevels i (drop i s) ≡ w → readItem i (drop i s) ≡ itemTo i w
-  unfolding readItem
-  item-read w e = ap (itemTo i) e
 
   pub entry-no-key : readString i (drop i s) ≡ NoString → readEntry i (drop i s) ≡ NoEntry
   unfolding readEntry

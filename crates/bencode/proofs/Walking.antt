@@ -9,8 +9,9 @@ use lib.ListN.{length, getD, drop, length-drop}
 use lib.Seq.{drop-drop}
 use lib.Dec.{eqb}
 use borrow.Author.Tests.{eq-eqb, ne-eqb}
+use Rattle.limits.specs.Limits.{maxLevels}
 use Rattle.octets.specs.Octets.{cut}
-use Rattle.bencode.specs.Grammar.{letterD, letterE, letterI, letterL, maxLevels, KeyBefore, none, after, ascends}
+use Rattle.bencode.specs.Grammar.{letterD, letterE, letterI, letterL, KeyBefore, none, after, ascends}
 use Rattle.bencode.specs.Scalar.{readString, readSigned}
 use Rattle.bencode.specs.Walk.{pastInteger, pastString, onward, withKey, endOr, between, inOrder, readKey, walkItems, walkEntries, walkList, walkDictionary, byFirst, walkValue}
 use Rattle.numbers.specs.Numbers.{notStrict}

@@ -32,10 +32,6 @@ letterI = 105
 abbrev pub letterL : ℕ
 letterL = 108
 
--- lists and dictionaries stand inside one another to so many levels, the outer one being the first
-abbrev pub maxLevels : ℕ
-maxLevels = 32
-
 -- a value: an integer (whether it has a minus, and its size), a string, a list, a dictionary
 mutual
   pub data Value : Type 0 where

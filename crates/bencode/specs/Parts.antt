@@ -7,8 +7,9 @@ use mathlib.Core.List.{List, [], _∷_}
 use Prim.Native.Nat.{ℕ, zero, suc, _+_, _-_}
 use lib.ListN.{length, drop}
 use lib.Dec.{eqb}
+use Rattle.limits.specs.Limits.{maxLevels}
 use Rattle.octets.specs.Octets.{same, cut}
-use Rattle.bencode.specs.Grammar.{letterD, maxLevels, Value, Entries, noEntries, entry, encode}
+use Rattle.bencode.specs.Grammar.{letterD, Value, Entries, noEntries, entry, encode}
 use Rattle.bencode.specs.Scalar.{readString}
 use Rattle.bencode.specs.Walk.{between, walkValue}
 use Rattle.bencode.specs.declared.scalar.ByteString.{ByteString}
@@ -24,16 +25,6 @@ use Rattle.bencode.specs.declared.parts.Entry.the-variants.{Keyed, NoEnt
 unfoldable pub isDictionary : List ℕ → Bool
 isDictionary [] = false
 isDictionary (c ∷ cs) = eqb c letterD
-
--- the part that the walk went over
-abbrev pub itemTo : ℕ → Walked → Found
-itemTo at Broken = Missing
-itemTo at TooDeep = Missing
-itemTo at (Past k) = Part at k
-
--- the item of a list that begins here; none at the `e`
-unfoldable pub readItem : ℕ → List ℕ → Found
-readItem at xs = itemTo at (walkValue maxLevels at xs)
 
 -- the entry with key a to b, whose value the walk went over
 abbrev pub entryTo : ℕ → ℕ → Walked → Entry

@@ -6,14 +6,15 @@ use mathlib.Core.Bool.{Bool, true, false, cond}
 use mathlib.Core.List.{List, [], _∷_, _++_, append-assoc, append-nil}
 use Prim.Native.Nat.{ℕ, zero, suc, _+_, _-_, _≤_, _<_}
 use native.Mathlib.Omega.{arith}
-use lib.ListN.{length, drop, length-append}
+use lib.ListN.{length, drop, length-append, take-append-drop}
 use lib.Seq.{drop-drop, drop-append-seam, take-append-seam}
 use borrow.Author.Tests.{ne-eqb}
+use Rattle.limits.specs.Limits.{maxLevels}
 use Rattle.octets.specs.Octets.{same, cut}
-use Rattle.bencode.specs.Grammar.{colon, letterD, letterE, letterI, maxLevels, Value, integer, string, list, dictionary, Items, noItems, item, Entries, noEntries, entry, decimal, encodeString, encode, encodeItems, encodeEntries, KeyBefore, none, after, Valid, EntriesValid}
+use Rattle.bencode.specs.Grammar.{colon, letterD, letterI, Value, integer, string, list, dictionary, Entries, noEntries, entry, decimal, encodeString, encode, encodeEntries, KeyBefore, none, after, Valid, EntriesValid}
 use Rattle.bencode.specs.Scalar.{readDigits, readNumber, readString, readInteger}
-use Rattle.bencode.specs.Walk.{between, walkValue, byFirst}
-use Rattle.bencode.specs.Parts.{isDictionary, itemTo, readItem, entryTo, entryWith, readEntry, fromEntry, findIn, findKey, Lookup, present, lookup, FoundIs}
+use Rattle.bencode.specs.Walk.{between, walkValue}
+use Rattle.bencode.specs.Parts.{isDictionary, entryTo, entryWith, readEntry, fromEntry, findIn, findKey, Lookup, present, lookup, FoundIs}
 use Rattle.bencode.specs.EndsLaws.{drop-further, string-ends, value-ends}
 use Rattle.bencode.specs.CompleteLaws.{BeginsWithDigit, decimal-first, contentStart, string-read, integer-read, past-part, string-some, dictionary-bytes, complete}
 use Rattle.bencode.specs.SoundLaws.{sound}
@@ -31,19 +32,6 @@ use Rattle.bencode.specs.declared.parts.Entry.{Entry}
 use Rattle.bencode.specs.declared.parts.Entry.the-variants.{Keyed, NoEntry}
 
 -- ---- where they lie
-
--- an item lies where it was asked for, within the bytes
-pub item-ends : (at : ℕ) (s : List ℕ) (a k : ℕ) → readItem at (drop at s) ≡ Part a k → (a ≡ at) × (at < k) × (k ≤ length s)
-unfolding readItem
-item-ends at s a k e = by-walk (walkValue maxLevels at (drop at s)) refl e
-  where
-    by-walk : (w : Walked) → walkValue maxLevels at (drop at s) ≡ w → itemTo at w ≡ Part a k → (a ≡ at) × (at < k) × (k ≤ length s)
-    by-walk Broken q e = let z : _≡_ {A = ℕ} 0 1 = cc in absurd (omega arith)
-    by-walk TooDeep q e = let z : _≡_ {A = ℕ} 0 1 = cc in absurd (omega arith)
-    by-walk (Past m) q e =
-        let p = value-ends maxLevels at s m q in
-        let x : m ≡ k = cc in
-        (cc, rw x at (p .0), rw x at (p .1))
 
 abbrev EntryIn : ℕ → ℕ → Entry → Type 0
 EntryIn at end NoEntry = Unit {0}
@@ -205,29 +193,6 @@ dictionary-is (string b) r =
 dictionary-is (list vs) r = unfold encode isDictionary in refl
 dictionary-is (dictionary es) r = unfold encode isDictionary in refl
 
--- ---- a list's items, where `at` has come to the items vs
-
--- an item is found, its part is its encoding, and the other items follow
-pub item-is : (s : List ℕ) (at : ℕ) (v : Value) (vs : Items) (r : List ℕ) → drop at s ≡ encodeItems (item v vs) ++ r → Valid v maxLevels
-    → (readItem at (drop at s) ≡ Part at (at + length (encode v))) × (cut s at (length (encode v)) ≡ encode v) × (drop (at + length (encode v)) s ≡ encodeItems vs ++ r)
-unfolding readItem encode
-item-is s at v vs r e h =
-    let f : drop at s ≡ encode v ++ (encodeItems vs ++ r) = e ∙ append-assoc (encode v) (encodeItems vs) r in (
-      rw f (ap (itemTo at) (complete v maxLevels at (encodeItems vs ++ r) h)),
-      part-bytes s at (length (encode v)) (encode v) (encodeItems vs ++ r) refl f,
-      after-part s at (encode v) (encodeItems vs ++ r) f,
-    )
-
-no-value : (l at : ℕ) (r : List ℕ) → walkValue l at (letterE ∷ r) ≡ Broken
-unfolding walkValue byFirst readNumber readDigits
-no-value zero at r = refl
-no-value (suc l) at r = refl
-
--- there is none at the `e`
-pub item-none : (s : List ℕ) (at : ℕ) (r : List ℕ) → drop at s ≡ encodeItems noItems ++ r → readItem at (drop at s) ≡ Missing
-unfolding readItem encode
-item-none s at r e = rw e (ap (itemTo at) (no-value maxLevels at r))
-
 -- ---- a dictionary's entries, where `at` has come to the entries es
 
 -- where the value of the key k begins, and ends
@@ -267,13 +232,20 @@ pub entry-none : (s : List ℕ) (at : ℕ) (r : List ℕ) → drop at s ≡ enco
 unfolding readEntry encode readNumber readDigits
 entry-none s at r e = rw e refl
 
+-- a part that is an encoding stands at the front of the bytes from there on
+pub part-front : (s : List ℕ) (a b : ℕ) (v : Value) → cut s a (b - a) ≡ encode v → drop a s ≡ encode v ++ drop (b - a) (drop a s)
+unfolding cut
+part-front s a b v e = sym (take-append-drop (b - a) (drop a s)) ∙ ap (λ (l : List ℕ). l ++ drop (b - a) (drop a s)) e
+
 -- ---- the value of a key
 
-entries-length : (k : List ℕ) (v : Value) (es : Entries) → length (encodeEntries (entry k v es)) ≡ length (encodeString k) + length (encode v) + length (encodeEntries es)
+-- the bytes of an entry and those behind it
+pub entries-length : (k : List ℕ) (v : Value) (es : Entries) → length (encodeEntries (entry k v es)) ≡ length (encodeString k) + length (encode v) + length (encodeEntries es)
 unfolding encode
 entries-length k v es = let la = length-append (encodeString k) (encode v ++ encodeEntries es) in let lb = length-append (encode v) (encodeEntries es) in omega arith
 
-entries-some : (es : Entries) → 0 < length (encodeEntries es)
+-- the `e` at least
+pub entries-some : (es : Entries) → 0 < length (encodeEntries es)
 entries-some noEntries = unfold encode in omega arith
 entries-some (entry k v es) = omega (arith, entries-length k v es, string-some k)
 

@@ -7,8 +7,10 @@ use mathlib.Core.List.{List, [], _∷_, _++_}
 use Prim.Native.Nat.{ℕ}
 use lib.ListN.{length}
 use lib.Dec.{eqb}
+use Rattle.limits.specs.Limits.{maxLevels}
+use Rattle.octets.specs.Octets.{Octets}
 use Rattle.numbers.specs.Numbers.{notStrict, nestedTooDeeply}
-use Rattle.bencode.specs.Grammar.{letterD, maxLevels, Entries, dictionary, encode, Valid}
+use Rattle.bencode.specs.Grammar.{letterD, Entries, dictionary, encode, Valid}
 use Rattle.bencode.specs.Walk.{walkValue}
 use Rattle.bencode.specs.declared.walk.Walked.{Walked}
 use Rattle.bencode.specs.declared.walk.Walked.the-variants.{Past, Broken, TooDeep}
@@ -17,9 +19,9 @@ use Rattle.bencode.specs.declared.walk.Walked.the-variants.{Past, Broken
 abbrev pub Encoded : ℕ → List ℕ → Type 0
 Encoded levels s = (es : Entries) × Valid (dictionary es) levels × (s ≡ encode (dictionary es))
 
--- such an encoding begins with p
+-- such an encoding begins with p: there are bytes with which p is one
 abbrev pub CanGoOn : ℕ → List ℕ → Type 0
-CanGoOn levels p = (rest : List ℕ) × Encoded levels (p ++ rest)
+CanGoOn levels p = (rest : List ℕ) × Octets (length rest) rest × Encoded levels (p ++ rest)
 
 -- at the first byte at which no strict encoding can go on, one can that is strict apart from the depth rule
 pub record TooDeepFirst (s : List ℕ) : Type 0 where

@@ -5,12 +5,16 @@ use mathlib.Core.Path.{_≡_, refl, sym, ap, _∙_}
 use mathlib.Core.Logic.{_⊎_, inl, inr}
 use mathlib.Core.Bool.{Bool, true, false, cond}
 use mathlib.Core.List.{List, [], _∷_, _++_, append-assoc, append-nil}
-use Prim.Native.Nat.{ℕ, suc, _+_}
+use Prim.Native.Nat.{ℕ, zero, suc, _+_, _<_}
 use native.Mathlib.Omega.{arith}
-use lib.ListN.{length, length-append}
+use lib.ListN.{length, drop, getD, length-append, List·getD-append}
+use lib.Seq.{drop-append-seam}
 use lib.Dec.{eqb}
 use borrow.Author.Tests.{eq-eqb, eqb-true}
-use Rattle.bencode.specs.Grammar.{letterD, letterE, letterL, maxLevels, Value, integer, string, list, dictionary, noItems, Entries, noEntries, encode, encodeEntries, Valid}
+use Rattle.octets.specs.Octets.{Octets}
+use Rattle.octets.specs.OctetsLaws.{append-octets}
+use Rattle.limits.specs.Limits.{maxLevels}
+use Rattle.bencode.specs.Grammar.{digitZero, colon, letterD, letterE, letterL, Value, integer, string, list, dictionary, noItems, Entries, noEntries, decimalIn, encode, encodeEntries, Valid}
 use Rattle.bencode.specs.Walk.{walkValue}
 use Rattle.numbers.specs.Numbers.{notStrict, nestedTooDeeply}
 use Rattle.bencode.specs.Strict.{Encoded, CanGoOn, TooDeepFirst, wholeWalk, strictness}
@@ -88,11 +92,32 @@ unfolding begun filled
 stem-dictionary (inList vs st) cs x e v = absurd (other-letter letterD letterL _ _ e (λ z. omega arith))
 stem-dictionary (inDictionary es k st) cs x e v = (entriesThen es k (filled st v), refl)
 
-filled-encoded : {l : ℕ} (st : Stem (suc l)) (n : ℕ) (cs x p q : List ℕ) (v : Value) → letterD ∷ cs ≡ begun st ++ x → Valid (filled st v) n
+filled-encoded : {l : ℕ} (st : Stem (suc l)) (n : ℕ) (cs x p q : List ℕ) (v : Value) → letterD ∷ cs ≡ begun st ++ x → Valid (filled st v) n → Octets (length q) q
     → begun st ++ (encode v ++ closing (suc l)) ≡ p ++ q → CanGoOn n p
-filled-encoded st n cs x p q v e h f =
+filled-encoded st n cs x p q v e h b f =
     let d = stem-dictionary st cs x e v in
-    (q, (d .0, rw (d .1) at h, sym f ∙ sym (filled-bytes st v) ∙ ap encode (d .1)))
+    (q, b, (d .0, rw (d .1) at h, sym f ∙ sym (filled-bytes st v) ∙ ap encode (d .1)))
+
+-- what closes a stem is bytes
+bytes-both : (a b : List ℕ) → Octets (length a) a → Octets (length b) b → Octets (length (a ++ b)) (a ++ b)
+bytes-both a b p q = rw (length-append a b) (append-octets p q)
+
+one-byte : (c : ℕ) → c < 256 → Octets 1 (c ∷ [])
+one-byte c h = record { size = refl; bytes = λ i g. let o : i ≡ 0 = omega arith in rw o h }
+
+closing-bytes : (l : ℕ) → Octets (length (closing l)) (closing l)
+unfolding closing
+closing-bytes zero = record { size = refl; bytes = λ i h. absurd (omega arith) }
+closing-bytes (suc l) = bytes-both (closing l) (letterE ∷ []) (closing-bytes l) (one-byte letterE (omega arith))
+
+end-bytes : (l : ℕ) → Octets (length (letterE ∷ closing l)) (letterE ∷ closing l)
+end-bytes l = bytes-both (letterE ∷ []) (closing l) (one-byte letterE (omega arith)) (closing-bytes l)
+
+-- the encoding of the empty string
+empty-bytes : (l : ℕ) → Octets (length (encode (string []) ++ closing l)) (encode (string []) ++ closing l)
+unfolding encode decimalIn
+empty-bytes l =
+    bytes-both (digitZero ∷ colon ∷ []) (closing l) (bytes-both (digitZero ∷ []) (colon ∷ []) (one-byte digitZero (omega arith)) (one-byte colon (omega arith))) (closing-bytes l)
 
 empty-valid : Valid (string []) 0
 unfolding Valid
@@ -100,7 +125,7 @@ empty-valid = tt
 
 stem-goes-on : {l : ℕ} (st : Stem (suc l)) (cs x : List ℕ) → letterD ∷ cs ≡ begun st ++ x → StemValid st → CanGoOn (suc l) (begun st)
 stem-goes-on {l} st cs x e h =
-    filled-encoded st (suc l) cs x (begun st) (encode (string []) ++ closing (suc l)) (string []) e (filled-valid st (string []) h empty-valid) refl
+    filled-encoded st (suc l) cs x (begun st) (encode (string []) ++ closing (suc l)) (string []) e (filled-valid st (string []) h empty-valid) (empty-bytes (suc l)) refl
 
 empty-list-valid : Valid (list noItems) 1
 unfolding Valid
@@ -120,10 +145,10 @@ empty-dictionary-bytes = refl
 
 stem-deeper : {l : ℕ} (st : Stem (suc l)) (cs x : List ℕ) (c : ℕ) → letterD ∷ cs ≡ begun st ++ x → StemValid st → Opening c → CanGoOn (suc (suc l)) (begun st ++ c ∷ [])
 stem-deeper {l} st cs x c e h (inl o) =
-    filled-encoded st (suc (suc l)) cs x (begun st ++ c ∷ []) (letterE ∷ closing (suc l)) (list noItems) e (filled-deeper st (list noItems) h empty-list-valid)
+    filled-encoded st (suc (suc l)) cs x (begun st ++ c ∷ []) (letterE ∷ closing (suc l)) (list noItems) e (filled-deeper st (list noItems) h empty-list-valid) (end-bytes (suc l))
     (rw (empty-list-bytes, o) (sym (append-assoc (begun st) (letterL ∷ []) (letterE ∷ closing (suc l)))))
 stem-deeper {l} st cs x c e h (inr o) =
-    filled-encoded st (suc (suc l)) cs x (begun st ++ c ∷ []) (letterE ∷ closing (suc l)) (dictionary noEntries) e (filled-deeper st (dictionary noEntries) h empty-dictionary-valid)
+    filled-encoded st (suc (suc l)) cs x (begun st ++ c ∷ []) (letterE ∷ closing (suc l)) (dictionary noEntries) e (filled-deeper st (dictionary noEntries) h empty-dictionary-valid) (end-bytes (suc l))
     (rw (empty-dictionary-bytes, o) (sym (append-assoc (begun st) (letterD ∷ []) (letterE ∷ closing (suc l)))))
 
 stem-no-further : {l : ℕ} (st : Stem l) (c : ℕ) (x : List ℕ) → StemValid st → Opening c → Encoded l (begun st ++ c ∷ x) → ⊥
@@ -152,7 +177,7 @@ opens-deep cs d =
       rest = d .2;
       bytes = d .5;
       strict-before = stem-goes-on st cs (c ∷ d .2) (d .5) h;
-      not-with-it = λ p. stem-no-further st c (p .0) h (d .4) (rw append-assoc at (p .1));
+      not-with-it = λ p. stem-no-further st c (p .0) h (d .4) (rw append-assoc at (p .2));
       levels = suc maxLevels;
       deeper-can = stem-deeper st cs (c ∷ d .2) c (d .5) h (d .4);
     }
@@ -187,9 +212,18 @@ split-twice (a ∷ p) (b ∷ q) c d x y e =
       ]
     ]
 
-shorter : (l : ℕ) (p x : List ℕ) (c : ℕ) → CanGoOn l (p ++ c ∷ x) → CanGoOn l (p ++ c ∷ [])
-shorter l p x c g =
-    (x ++ g .0, rw append-assoc (rw append-assoc at (g .1)))
+shorter : (l : ℕ) (p x : List ℕ) (c : ℕ) → Octets (length x) x → CanGoOn l (p ++ c ∷ x) → CanGoOn l (p ++ c ∷ [])
+shorter l p x c b g =
+    (x ++ g .0, bytes-both x (g .0) b (g .1), rw append-assoc (rw append-assoc at (g .2)))
+
+-- the front of bytes is bytes
+bytes-front : (a b : List ℕ) → Octets (length (a ++ b)) (a ++ b) → Octets (length a) a
+bytes-front a b p =
+    record { size = refl; bytes = λ i h. let w : getD (a ++ b) i 0 < 256 = p .bytes i (omega (arith, length-append a b)) in rw (List·getD-append a b 0 i h) at w }
+
+-- behind the same front
+same-behind : (p x y : List ℕ) → p ++ x ≡ p ++ y → x ≡ y
+same-behind p x y e = sym (drop-append-seam p x) ∙ ap (λ (l : List ℕ). drop (length p) l) e ∙ drop-append-seam p y
 
 -- the bytes of a stem and an opening byte are too deep, whatever stands behind
 stem-whole : (st : Stem maxLevels) (s cs x y : List ℕ) (c : ℕ) → letterD ∷ cs ≡ begun st ++ x → s ≡ begun st ++ c ∷ y → StemValid st → Opening c → strictness s ≡ nestedTooDeeply
@@ -206,15 +240,23 @@ stem-whole st s cs x y c e f h o =
 pub deep-where : (s : List ℕ) (t : TooDeepFirst s) → (st : Stem maxLevels) × StemValid st × (t .begun ≡ begun st) × Opening (t .byte)
 deep-where s t =
     let can = t .deeper-can in
-    let es = can .1 .0 in
-    elim (fits-or-opens (dictionary es) (t .levels) maxLevels (can .1 .1)) [
-      | inl h ↦ absurd (t .not-with-it (can .0, (es, h, can .1 .2)))
-      | inr f ↦ at-the-stem es (can .0) (can .1 .2) (f [])
+    let es = can .2 .0 in
+    elim (fits-or-opens (dictionary es) (t .levels) maxLevels (can .2 .1)) [
+      | inl h ↦ absurd (t .not-with-it (can .0, can .1, (es, h, can .2 .2)))
+      | inr f ↦ at-the-stem es (can .0) (can .1) (can .2 .2) (f [])
     ]
   where
-    at-the-stem : (es : Entries) (q : List ℕ) → (t .begun ++ t .byte ∷ []) ++ q ≡ encode (dictionary es)
+    -- what the stem has behind the byte stands in q
+    between-bytes : (st : Stem maxLevels) (c : ℕ) (r q : List ℕ) → Octets (length q) q → t .begun ++ t .byte ∷ q ≡ begun st ++ c ∷ r → (u : List ℕ) → begun st ≡ t .begun ++ t .byte ∷ u
+        → Octets (length u) u
+    between-bytes st c r q b both u f =
+        let e : t .begun ++ t .byte ∷ q ≡ t .begun ++ t .byte ∷ (u ++ c ∷ r) = both ∙ ap (λ (l : List ℕ). l ++ c ∷ r) f ∙ append-assoc (t .begun) (t .byte ∷ u) (c ∷ r) in
+        let g : q ≡ u ++ c ∷ r = ap (λ (l : List ℕ). drop 1 l) (same-behind (t .begun) (t .byte ∷ q) (t .byte ∷ (u ++ c ∷ r)) e) in
+        bytes-front u (c ∷ r) (rw g at b)
+
+    at-the-stem : (es : Entries) (q : List ℕ) → Octets (length q) q → (t .begun ++ t .byte ∷ []) ++ q ≡ encode (dictionary es)
         → OpensTooDeep maxLevels (encode (dictionary es) ++ []) → (st : Stem maxLevels) × StemValid st × (t .begun ≡ begun st) × Opening (t .byte)
-    at-the-stem es q e d =
+    at-the-stem es q b e d =
         let st = d .0 in
         let c = d .1 in
         let r = d .2 in
@@ -224,9 +266,9 @@ deep-where s t =
         let front : letterD ∷ encodeEntries es ≡ begun st ++ c ∷ r = sym (dictionary-bytes es) ∙ whole in
         let both : t .begun ++ t .byte ∷ q ≡ begun st ++ c ∷ r = sym (append-assoc (t .begun) (t .byte ∷ []) q) ∙ e ∙ whole in
         elim (split-twice (t .begun) (begun st) (t .byte) c q r both) [
-          | inl u ↦ absurd (stem-no-further st c (u .0 ++ t .strict-before .0) h o (rw (u .1, append-assoc) at (t .strict-before .1)))
+          | inl u ↦ absurd (stem-no-further st c (u .0 ++ t .strict-before .0) h o (rw (u .1, append-assoc) at (t .strict-before .2)))
           | inr w ↦ elim w [
-            | inl u ↦ absurd (t .not-with-it (shorter maxLevels (t .begun) (u .0) (t .byte) (rw (u .1) at (stem-goes-on st (encodeEntries es) (c ∷ r) front h))))
+            | inl u ↦ absurd (t .not-with-it (shorter maxLevels (t .begun) (u .0) (t .byte) (between-bytes st c r q b both (u .0) (u .1)) (rw (u .1) at (stem-goes-on st (encodeEntries es) (c ∷ r) front h))))
             | inr u ↦ (st, h, u .0, rw (u .1) o)
           ]
         ]
@@ -237,9 +279,9 @@ deep-only s t =
     let w = deep-where s t in
     let st = w .0 in
     let can = t .strict-before in
-    let front : letterD ∷ encodeEntries (can .1 .0) ≡ begun st ++ can .0 =
-    sym (dictionary-bytes (can .1 .0)) ∙ sym (can .1 .2) ∙ ap (λ (l : List ℕ). l ++ can .0) (w .2) in
-    stem-whole st s (encodeEntries (can .1 .0)) (can .0) (t .rest) (t .byte) front (t .bytes ∙ ap (λ (l : List ℕ). l ++ t .byte ∷ t .rest) (w .2)) (w .1) (w .3)
+    let front : letterD ∷ encodeEntries (can .2 .0) ≡ begun st ++ can .0 =
+    sym (dictionary-bytes (can .2 .0)) ∙ sym (can .2 .2) ∙ ap (λ (l : List ℕ). l ++ can .0) (w .2) in
+    stem-whole st s (encodeEntries (can .2 .0)) (can .0) (t .rest) (t .byte) front (t .bytes ∙ ap (λ (l : List ℕ). l ++ t .byte ∷ t .rest) (w .2)) (w .1) (w .3)
 
 -- ---- and 20 for all else
 

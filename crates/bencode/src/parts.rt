@@ -1,14 +1,14 @@
-// Values as the parts of the bytes that they stand in: an entry, an item, the value of a key. For any bytes; where they are not
+// Values as the parts of the bytes that they stand in: an entry, the value of a key. For any bytes; where they are not
 // strict, there is nothing to be found from that place on.
 use crate::order::same;
 use crate::scalar::ByteString;
 use crate::scalar::read_string;
-use crate::walk::LEVELS;
 use crate::walk::Walked;
 use crate::walk::value_end;
+use limits::LEVELS;
 ghost use mathlib.Core.Path.{_≡_};
 ghost use lib.ListN.{drop};
-ghost use Rattle.bencode.specs.Parts.{readItem, readEntry, findKey, isDictionary};
+ghost use Rattle.bencode.specs.Parts.{readEntry, findKey, isDictionary};
 
 // A value's part, start..end.
 pub enum Found {
@@ -34,17 +34,6 @@ pub fn is_dictionary(s: &[u8], at: usize) -> bool
         return false;
     }
     s[at] == b'd'
-}
-
-// The item of a list that begins at `at`: the first behind the `l`, each other where the one before ends, none at the `e`.
-pub fn read_item(s: &[u8], at: usize) -> Found
-    ensures { λ r. ⌜ r ≡ readItem at (drop at (now (s .entry))) ⌝ }
-{
-    match value_end(s, at, LEVELS) {
-        Walked::Past(k) => Found::Part { start: at, end: k },
-        Walked::Broken => Found::Missing,
-        Walked::TooDeep => Found::Missing,
-    }
 }
 
 // The entry of a dictionary that begins at `at`: the first behind the `d`, each other where the one before ends, none at the `e`.

@@ -4,14 +4,12 @@ use crate::scalar::ByteString;
 use crate::scalar::Integer;
 use crate::scalar::read_signed;
 use crate::scalar::read_string;
+use limits::LEVELS;
 ghost use mathlib.Core.Path.{_≡_};
 ghost use lib.ListN.{drop};
 ghost use Rattle.bencode.specs.Scalar.{readString, readSigned};
 ghost use Rattle.bencode.specs.Walk.{pastInteger, pastString, walkList, walkDictionary, walkValue};
 ghost use Rattle.bencode.specs.Strict.{strictness};
-
-// Lists and dictionaries stand inside one another to so many levels, the outer one being the first.
-pub const LEVELS: usize = 32;
 
 // The position past a value, or what is wrong first.
 pub enum Walked {

@@ -1,281 +1,356 @@
 -- How long a record and the list are, how the list grows by a file, and what a torrent that gets 0 has.
 -- Assumes nothing.
-use mathlib.Core.Path.{_≡_, refl, sym, ap, _∙_}
+use mathlib.Core.Path.{_≡_, refl, sym, ap, ap₂, _∙_}
 use mathlib.Core.Bool.{Bool, true, false, cond, _&&_, false≢true}
 use mathlib.Core.List.{List, [], _∷_, _++_, append-assoc, append-nil}
-use Prim.Native.Nat.{ℕ, zero, suc, _+_, _-_, _*_, _^_, _≤_, _<_}
+use Prim.Native.Nat.{ℕ, zero, suc, _+_, _-_, _*_, _≤_, _<_}
 use native.Mathlib.Omega.{arith}
-use native.Mathlib.Decide.{decLe}
+use native.Mathlib.Decide.{decLt}
 use lib.ListN.{length, take, drop, getD, length-append}
 use lib.Seq.{take-at, drop-append-add}
 use lib.Dec.{eqb, ltb}
-use borrow.Author.Tests.{eqb-true, eqb-false, eq-eqb, ne-eqb, le-ltb}
+use borrow.Author.Tests.{eqb-false, eq-eqb, ne-eqb, le-ltb, lt-ltb}
+use Rattle.limits.specs.Limits.{largestTorrent}
 use Rattle.octets.specs.Octets.{cut, zeroHash, be, pasted}
 use Rattle.octets.specs.OctetsLaws.{cut-length, be-octets, zero-octets}
 use Rattle.numbers.specs.Numbers.{noRoom, wrongTree, sameRoot, layersAmiss, refused, done}
 use Rattle.bencode.specs.declared.scalar.ByteString.{ByteString}
 use Rattle.bencode.specs.declared.scalar.ByteString.the-variants.{Content, NoString}
-use Rattle.roots.specs.Roots.{apart, stringsAt}
-use Rattle.files.specs.Walk.{maxElements, endsHere, Reached, nextFile}
-use Rattle.files.specs.WalkLaws.{PlacedIn, next-file-in, next-file-none}
-use Rattle.files.specs.declared.walk.Next.{Next}
-use Rattle.files.specs.declared.walk.Next.the-variants.{Placed, NoMore, WrongTree}
-use Rattle.metainfo.specs.Metainfo.{metainfoOf}
-use Rattle.metainfo.specs.MetainfoLaws.{metainfo-right}
-use Rattle.metainfo.specs.declared.Keys.{Keys}
-use Rattle.listing.specs.Listing.{Listed, Files, ends, right, listed, onNext, filesFrom, noPath, filesIn, rootsOf, longs, fileNumber}
-use Rattle.listing.specs.ListingLaws.{FilesAt, from-wrong}
-use Rattle.listing.specs.FilesLaws.{FileRight, AllRight, files-right, longs-roots, number-right, number-here}
+use Rattle.sorting.specs.Sorting.{apart, stringsAt}
+use Rattle.metainfo.specs.Metainfo.{bytesIn}
+use Rattle.filetree.specs.Token.{tokenAt}
+use Rattle.filetree.specs.TokenLaws.{TokenIn, token-in}
+use Rattle.filetree.specs.TreeLaws.{directory-ends, tree-below}
+use Rattle.filetree.specs.CountLaws.{roots-append}
+use Rattle.filetree.specs.declared.token.Token.{Token}
+use Rattle.filetree.specs.declared.token.Token.the-variants.{Opened, Closed, Leaf, BadToken}
+use Rattle.layers.specs.JudgeLaws.{tree-some}
+use Rattle.filetree.specs.Tree.{maxElements, Element, Listed, listedAs, down, Files, wrong, files, after, onward, onToken, filesFrom, filesBelow, right, listed, filesIn, rootsOf, longs, fileNumber}
+use Rattle.filetree.specs.Count.{mostRoots}
+use Rattle.filetree.specs.PathLaws.{elementNumber, Holds, holds-element}
+use Rattle.filetree.specs.FilesLaws.{AllRight, files-right, longs-roots}
 use Rattle.layers.specs.Layers.{keysWide, layerKeys, worst, rootBytes, layerString, startOf, sizeOf}
-use Rattle.torrent.specs.Torrent.{filesNumber, treeNumber, judgedAs, judgedOf, unread, withJudged, withKeys, checkedOf}
-use Rattle.torrent.specs.CheckLaws.{LayersOpen, layers-open}
-use Rattle.torrent.specs.declared.check.Judged.{Judged}
+use Rattle.torrent.specs.Torrent.{filesNumber, treeNumber, checkedOf}
+use Rattle.torrent.specs.CheckLaws.{LayersOpen, Whole, checked-whole}
+use Rattle.torrent.specs.FindLaws.{PathGiven}
 use Rattle.torrent.specs.declared.check.Checked.{Checked}
-use Rattle.catalogue.specs.Catalogue.{partBytes, elementBytes, elementsBytes, headBytes, recordOf, recordSize, recordsOf, listAnswer, listAfter}
+use Rattle.catalogue.specs.Catalogue.{partBytes, elementBytes, elementsBytes, headBytes, Parts, partsOf, recordOf, recordSize, recordsOf, listAnswer, listAfter}
+use Rattle.catalogue.specs.declared.record.Listing.{Listing}
+use Rattle.catalogue.specs.declared.record.Record.{Record}
 
--- each of the n elements of a path ends where it begins, or behind that
-abbrev pub InOrder : List ℕ → ℕ → Type 0
-InOrder path n = (k : ℕ) → k < n → getD path (2 * k) 0 ≤ getD path (2 * k + 1) 0
+-- a string ends behind its beginning, and within the torrent, of which its part begins at `base`
+abbrev pub Forward : ℕ → ByteString → Type 0
+Forward base NoString = Unit {0}
+Forward base (Content a b) = (a ≤ b) × (base + b ≤ largestTorrent)
 
--- and so does a string
-abbrev pub Forward : ByteString → Type 0
-Forward NoString = Unit {0}
-Forward (Content a b) = a ≤ b
+-- ---- from an array
+
+-- element k of the n that an array has
+unfoldable pub arrayElement : ℕ → List ℕ → ℕ → ℕ → List ℕ
+arrayElement base path n k =
+    cond (ltb k n)
+    (partBytes (base + getD path (2 * k) 0) (getD path (2 * k + 1) 0 - getD path (2 * k) 0))
+    (be 8 0)
+
+unfoldable pub arrayElements : ℕ → List ℕ → ℕ → ℕ → List ℕ
+arrayElements base path n zero = []
+arrayElements base path n (suc m) = arrayElements base path n m ++ arrayElement base path n m
+
+-- the record of a file whose path is in an array
+unfoldable pub recordFrom : List ℕ → List ℕ → List ℕ → Record → List ℕ
+recordFrom t l path f =
+    headBytes (f .list .layers) (f .length) (rootBytes t (f .length) (f .root)) (layerString l (f .list .plen) (f .length) (cut t (f .root) 32)) (f .elements)
+    ++ arrayElements (f .list .tree) path (f .elements) maxElements
+
+-- it can be written
+pub record RecordRight (tree layers room : ℕ) (path : List ℕ) (f : Record) : Type 0 where
+  pub root-within : (f .length ≡ 0 → ⊥) → f .root + 32 ≤ tree
+  pub layers-within : f .list .layers + layers ≤ largestTorrent
+  pub path-given : PathGiven path (f .elements) (f .list .tree)
+  pub fits : f .at + recordSize ≤ room
+
+abbrev pub partsWith : List ℕ → List ℕ → Listing → Parts
+partsWith t l k = record { t = t; l = l; tree = k .tree; layers = k .layers; plen = k .plen }
+
+element-some : (base : ℕ) (p : List Element) (k : ℕ) → k < length p → elementBytes base p k ≡ partBytes (base + elementNumber p k .start) (elementNumber p k .end - elementNumber p k .start)
+unfolding elementBytes elementNumber
+element-some base [] k h = absurd (omega arith)
+element-some base (e ∷ es) zero h = refl
+element-some base (e ∷ es) (suc k) h = element-some base es k (omega arith)
+
+element-none : (base : ℕ) (p : List Element) (k : ℕ) → length p ≤ k → elementBytes base p k ≡ be 8 0
+unfolding elementBytes
+element-none base [] k h = refl
+element-none base (e ∷ es) zero h = absurd (omega arith)
+element-none base (e ∷ es) (suc k) h = element-none base es k (omega arith)
+
+module _ (base : ℕ) (path : List ℕ) (n : ℕ) (p : List Element) (w : Holds path n p) (l : n ≡ length p) where
+  same-element : (k : ℕ) → arrayElement base path n k ≡ elementBytes base p k
+  same-element k = by-number (decLt k n)
+    where
+      by-number : Dec (k < n) → arrayElement base path n k ≡ elementBytes base p k
+      by-number (yes h) = let y = holds-element path n p w k h in some h ∙ rw (y .0, y .1) (sym (element-some base p k (omega arith)))
+        where
+          some : k < n → arrayElement base path n k ≡ partBytes (base + getD path (2 * k) 0) (getD path (2 * k + 1) 0 - getD path (2 * k) 0)
+          some h = unfold arrayElement in rw (lt-ltb k n h) refl
+      by-number (no h) = none (omega arith) ∙ sym (element-none base p k (omega arith))
+        where
+          none : n ≤ k → arrayElement base path n k ≡ be 8 0
+          none h = unfold arrayElement in rw (le-ltb k n h) refl
+
+  same-elements : (m : ℕ) → arrayElements base path n m ≡ elementsBytes base p m
+  unfolding arrayElements elementsBytes
+  same-elements zero = refl
+  same-elements (suc m) = ap₂ (λ (x y : List ℕ). x ++ y) (same-elements m) (same-element m)
+
+-- the array's record is the file's
+pub same-record : (t l path : List ℕ) (k : Listing) (n r d at : ℕ) (p : List Element) → Holds path d p → d ≡ length p
+    → recordFrom t l path (record { list = k; length = n; root = r; elements = d; at = at }) ≡ recordOf (partsWith t l k) (listedAs n r p)
+unfolding recordFrom recordOf
+same-record t l path k n r d at p w e = rw (same-elements (k .tree) path d p w e maxElements, e) refl
 
 -- ---- lengths
 
 pub part-length : (a b : ℕ) → length (partBytes a b) ≡ 8
 part-length a b = refl
 
-pub element-length : (path : List ℕ) (n k : ℕ) → length (elementBytes path n k) ≡ 8
+element-length : (base : ℕ) (p : List Element) (k : ℕ) → length (elementBytes base p k) ≡ 8
 unfolding elementBytes
-element-length path n k = by-test (ltb k n)
+element-length base [] k = refl
+element-length base (e ∷ es) zero = refl
+element-length base (e ∷ es) (suc k) = element-length base es k
+
+elements-length : (base : ℕ) (p : List Element) (m : ℕ) → length (elementsBytes base p m) ≡ 8 * m
+unfolding elementsBytes
+elements-length base p zero = refl
+elements-length base p (suc m) = length-append (elementsBytes base p m) (elementBytes base p m) ∙ omega (arith, elements-length base p m, element-length base p m)
+
+pub array-element-length : (base : ℕ) (path : List ℕ) (n k : ℕ) → length (arrayElement base path n k) ≡ 8
+unfolding arrayElement
+array-element-length base path n k = by-test (ltb k n)
   where
-    by-test : (b : Bool) → length (cond b (partBytes (getD path (2 * k) 0) (getD path (2 * k + 1) 0 - getD path (2 * k) 0)) (be 8 0)) ≡ 8
+    by-test : (b : Bool) → length (cond b (partBytes (base + getD path (2 * k) 0) (getD path (2 * k + 1) 0 - getD path (2 * k) 0)) (be 8 0)) ≡ 8
     by-test true = refl
     by-test false = refl
 
-pub elements-length : (path : List ℕ) (n m : ℕ) → length (elementsBytes path n m) ≡ 8 * m
-unfolding elementsBytes
-elements-length path n zero = refl
-elements-length path n (suc m) =
-    length-append (elementsBytes path n m) (elementBytes path n m) ∙ omega (arith, elements-length path n m, element-length path n m)
+pub array-length : (base : ℕ) (path : List ℕ) (n m : ℕ) → length (arrayElements base path n m) ≡ 8 * m
+unfolding arrayElements
+array-length base path n zero = refl
+array-length base path n (suc m) = length-append (arrayElements base path n m) (arrayElement base path n m) ∙ omega (arith, array-length base path n m, array-element-length base path n m)
 
-pub head-length : (n : ℕ) (root : List ℕ) (layer : ByteString) (elements : ℕ) → length root ≡ 32 → length (headBytes n root layer elements) ≡ 56
+pub head-length : (base n : ℕ) (root : List ℕ) (layer : ByteString) (elements : ℕ) → length root ≡ 32 → length (headBytes base n root layer elements) ≡ 56
 unfolding headBytes
-head-length n root layer elements e =
+head-length base n root layer elements e =
     let a = length-append (be 8 n) root in
-    let b = length-append (be 8 n ++ root) (partBytes (startOf layer) (sizeOf layer)) in
-    let c = length-append (be 8 n ++ root ++ partBytes (startOf layer) (sizeOf layer)) (be 4 elements) in
-    let d = length-append (be 8 n ++ root ++ partBytes (startOf layer) (sizeOf layer) ++ be 4 elements) (be 4 0) in
+    let b = length-append (be 8 n ++ root) (partBytes (startOf base layer) (sizeOf layer)) in
+    let c = length-append (be 8 n ++ root ++ partBytes (startOf base layer) (sizeOf layer)) (be 4 elements) in
+    let d = length-append (be 8 n ++ root ++ partBytes (startOf base layer) (sizeOf layer) ++ be 4 elements) (be 4 0) in
     let la = be-octets 8 n .size in
-    let lb = part-length (startOf layer) (sizeOf layer) in
+    let lb = part-length (startOf base layer) (sizeOf layer) in
     let lc = be-octets 4 elements .size in
     let ld = be-octets 4 0 .size in
     omega arith
 
-pub root-length : (s : List ℕ) (n r : ℕ) → ((n ≡ 0 → ⊥) → r + 32 ≤ length s) → length (rootBytes s n r) ≡ 32
+pub root-length : (t : List ℕ) (n r : ℕ) → ((n ≡ 0 → ⊥) → r + 32 ≤ length t) → length (rootBytes t n r) ≡ 32
 unfolding rootBytes
-root-length s n r h = by-size (eqb n 0) refl
+root-length t n r h = by-size (eqb n 0) refl
   where
-    by-size : (b : Bool) → eqb n 0 ≡ b → length (cond b zeroHash (cut s r 32)) ≡ 32
+    by-size : (b : Bool) → eqb n 0 ≡ b → length (cond b zeroHash (cut t r 32)) ≡ 32
     by-size true q = zero-octets .size
-    by-size false q = cut-length s r 32 (h (eqb-false n 0 q))
+    by-size false q = cut-length t r 32 (h (eqb-false n 0 q))
 
-pub record-length : (s : List ℕ) (layers plen : ℕ) (f : Listed) → ((f .size ≡ 0 → ⊥) → f .root + 32 ≤ length s) → length (recordOf s layers plen f) ≡ recordSize
+pub record-length : (p : Parts) (f : Listed) → ((f .size ≡ 0 → ⊥) → f .root + 32 ≤ length (p .t)) → length (recordOf p f) ≡ recordSize
 unfolding recordOf
-record-length s layers plen f h =
-    let root = rootBytes s (f .size) (f .root) in
-    let layer = layerString s layers plen (f .size) (f .root) in
-    length-append (headBytes (f .size) root layer (f .elements)) (elementsBytes (f .path) (f .elements) maxElements)
-    ∙ omega (arith, head-length (f .size) root layer (f .elements) (root-length s (f .size) (f .root) h), elements-length (f .path) (f .elements) maxElements)
-
--- ---- one file more
-
-pub records-more : (s : List ℕ) (layers plen : ℕ) (fs : List Listed) (f : Listed) → recordsOf s layers plen (fs ++ f ∷ []) ≡ recordsOf s layers plen fs ++ recordOf s layers plen f
-unfolding recordsOf
-records-more s layers plen [] f = append-nil (recordOf s layers plen f)
-records-more s layers plen (x ∷ fs) f =
-    ap (λ (l : List ℕ). recordOf s layers plen x ++ l) (records-more s layers plen fs f)
-    ∙ sym (append-assoc (recordOf s layers plen x) (recordsOf s layers plen fs) (recordOf s layers plen f))
+record-length p f h =
+    let root = rootBytes (p .t) (f .size) (f .root) in
+    let layer = layerString (p .l) (p .plen) (f .size) (cut (p .t) (f .root) 32) in
+    length-append (headBytes (p .layers) (f .size) root layer (length (f .path))) (elementsBytes (p .tree) (f .path) maxElements)
+    ∙ omega (arith, head-length (p .layers) (f .size) root layer (length (f .path)) (root-length (p .t) (f .size) (f .root) h), elements-length (p .tree) (f .path) maxElements)
 
 -- ---- the list
 
-pub records-length : (s : List ℕ) (layers plen : ℕ) (fs : List Listed) → AllRight (length s) fs → length (recordsOf s layers plen fs) ≡ recordSize * length fs
+pub records-append : (p : Parts) (fs gs : List Listed) → recordsOf p (fs ++ gs) ≡ recordsOf p fs ++ recordsOf p gs
 unfolding recordsOf
-records-length s layers plen [] p = refl
-records-length s layers plen (f ∷ fs) p =
-    length-append (recordOf s layers plen f) (recordsOf s layers plen fs)
-    ∙ omega (arith, record-length s layers plen f (p .0 .root-within), records-length s layers plen fs (p .1))
+records-append p [] gs = refl
+records-append p (f ∷ fs) gs = ap (λ (l : List ℕ). recordOf p f ++ l) (records-append p fs gs) ∙ sym (append-assoc (recordOf p f) (recordsOf p fs) (recordsOf p gs))
+
+pub records-one : (p : Parts) (f : Listed) → recordsOf p (f ∷ []) ≡ recordOf p f
+unfolding recordsOf
+records-one p f = append-nil (recordOf p f)
+
+pub records-length : (p : Parts) (fs : List Listed) → AllRight (length (p .t)) fs → length (recordsOf p fs) ≡ recordSize * length fs
+unfolding recordsOf
+records-length p [] w = refl
+records-length p (f ∷ fs) w = length-append (recordOf p f) (recordsOf p fs) ∙ omega (arith, record-length p f (w .0 .root-within), records-length p fs (w .1))
 
 -- the record of file i stands at 280 · i
-pub record-at : (s : List ℕ) (layers plen : ℕ) (fs : List Listed) → AllRight (length s) fs → (i : ℕ) → i < length fs
-    → cut (recordsOf s layers plen fs) (recordSize * i) recordSize ≡ recordOf s layers plen (fileNumber fs i)
+pub record-at : (p : Parts) (fs : List Listed) → AllRight (length (p .t)) fs → (i : ℕ) → i < length fs → cut (recordsOf p fs) (recordSize * i) recordSize ≡ recordOf p (fileNumber fs i)
 unfolding recordsOf fileNumber cut
-record-at s layers plen [] p i h = absurd (omega arith)
-record-at s layers plen (f ∷ fs) p zero h = take-at (recordOf s layers plen f) (recordsOf s layers plen fs) recordSize (record-length s layers plen f (p .0 .root-within))
-record-at s layers plen (f ∷ fs) p (suc i) h =
-    let l = record-length s layers plen f (p .0 .root-within) in
-    let e : recordSize * suc i ≡ length (recordOf s layers plen f) + recordSize * i = omega arith in
-    ap (λ (n : ℕ). take recordSize (drop n (recordOf s layers plen f ++ recordsOf s layers plen fs))) e
-    ∙ ap (λ (x : List ℕ). take recordSize x) (drop-append-add (recordOf s layers plen f) (recordsOf s layers plen fs) (recordSize * i))
-    ∙ record-at s layers plen fs (p .1) i (omega arith)
+record-at p [] w i h = absurd (omega arith)
+record-at p (f ∷ fs) w zero h = take-at (recordOf p f) (recordsOf p fs) recordSize (record-length p f (w .0 .root-within))
+record-at p (f ∷ fs) w (suc i) h =
+    let l = record-length p f (w .0 .root-within) in
+    let e : recordSize * suc i ≡ length (recordOf p f) + recordSize * i = omega arith in
+    ap (λ (n : ℕ). take recordSize (drop n (recordOf p f ++ recordsOf p fs))) e
+    ∙ ap (λ (x : List ℕ). take recordSize x) (drop-append-add (recordOf p f) (recordsOf p fs) (recordSize * i))
+    ∙ record-at p fs (w .1) i (omega arith)
 
 -- ---- how many files there can be
 
-module _ (s : List ℕ) where
-  -- each file takes a byte, and one that is not empty 64
-  from-few : (n at d : ℕ) (path : List ℕ) → at ≤ length s
-      → (length (listed (filesFrom n s at d path)) + at ≤ length s) × (64 * length (rootsOf (listed (filesFrom n s at d path))) + at ≤ length s)
-  unfolding filesFrom listed rootsOf
-  from-few zero at d path h = (omega arith, omega arith)
-  from-few (suc n) at d path h = by-next (nextFile s at d path .path) (nextFile s at d path .answer) (next-file-in s at d path .1) (from-few n)
-    where
-      by-next : (q : List ℕ) (x : Next) → PlacedIn at (length s) x
-          → ((i e : ℕ) (r : List ℕ) → i ≤ length s → (length (listed (filesFrom n s i e r)) + i ≤ length s) × (64 * length (rootsOf (listed (filesFrom n s i e r))) + i ≤ length s))
-          → (length (listed (onNext (filesFrom n s) q x)) + at ≤ length s) × (64 * length (rootsOf (listed (onNext (filesFrom n s) q x))) + at ≤ length s)
-      by-next q WrongTree i later = (omega arith, omega arith)
-      by-next q NoMore i later = (omega arith, omega arith)
-      by-next q (Placed z r k e) i later = (omega (arith, rest .0, i .0), by-size (eqb z 0) refl)
-        where
-          rest : (length (listed (filesFrom n s k e q)) + k ≤ length s) × (64 * length (rootsOf (listed (filesFrom n s k e q))) + k ≤ length s)
-          rest = later k e q (i .1)
+-- each file takes a byte, and one that is not empty 64
+abbrev Few : ℕ → Files → Type 0
+Few at wrong = Unit {0}
+Few at (files fs k) = (at + length fs ≤ k) × (at + 64 * length (rootsOf fs) ≤ k)
 
-          by-size : (b : Bool) → eqb z 0 ≡ b → 64 * length (cond b (rootsOf (listed (filesFrom n s k e q))) (r ∷ rootsOf (listed (filesFrom n s k e q)))) + at ≤ length s
-          by-size true t = omega (arith, rest .1, i .0)
-          by-size false t = omega (arith, rest .1, i .2 (eqb-false z 0 t) .0)
+after-few : (at x : ℕ) (fs : List Listed) (w : Files) → at + length fs ≤ x → at + 64 * length (rootsOf fs) ≤ x → Few x w → Few at (after fs w)
+after-few at x fs wrong h g p = tt
+after-few at x fs (files gs k) h g p =
+    let a = p .0 in
+    let b = p .1 in
+    (omega (arith, length-append fs gs), omega (arith, ap length (roots-append fs gs), length-append (rootsOf fs) (rootsOf gs)))
 
-  pub files-few : (tree : ℕ) → right (filesIn s tree) ≡ true → (length (listed (filesIn s tree)) ≤ length s) × (64 * length (rootsOf (listed (filesIn s tree))) ≤ length s)
-  unfolding filesIn right listed rootsOf
-  files-few tree e = by-end (endsHere (drop (tree + 1) s)) e
-    where
-      by-length : Dec (tree + 1 ≤ length s) → right (filesFrom (suc (length s)) s (tree + 1) 0 noPath) ≡ true
-          → (length (listed (filesFrom (suc (length s)) s (tree + 1) 0 noPath)) ≤ length s) × (64 * length (rootsOf (listed (filesFrom (suc (length s)) s (tree + 1) 0 noPath))) ≤ length s)
-      by-length (yes h) q = let p = from-few (suc (length s)) (tree + 1) 0 noPath h in let x = p .0 in let y = p .1 in (omega arith, omega arith)
-      by-length (no h) q = absurd (false≢true (sym (from-wrong (suc (length s)) s (tree + 1) 0 noPath (ap (λ (z : Reached). z .answer) (next-file-none s (tree + 1) 0 noPath (omega arith)))) ∙ q))
+one-few : (at k n r : ℕ) (p : List Element) → at < k → ((n ≡ 0 → ⊥) → at + 64 ≤ k) → at + 64 * length (rootsOf (listedAs n r p ∷ [])) ≤ k
+unfolding rootsOf
+one-few at k n r p h g = by-size (eqb n 0) refl
+  where
+    by-size : (b : Bool) → eqb n 0 ≡ b → at + 64 * length (cond b [] (r ∷ [])) ≤ k
+    by-size true q = omega arith
+    by-size false q = let x = g (eqb-false n 0 q) in omega arith
 
-      by-end : (b : Bool) → right (cond b (ends false) (filesFrom (suc (length s)) s (tree + 1) 0 noPath)) ≡ true
-          → (length (listed (cond b (ends false) (filesFrom (suc (length s)) s (tree + 1) 0 noPath))) ≤ length s) × (64 * length (rootsOf (listed (cond b (ends false) (filesFrom (suc (length s)) s (tree + 1) 0 noPath)))) ≤ length s)
-      by-end true q = absurd (false≢true q)
-      by-end false q = by-length (decLe (tree + 1) (length s)) q
+none-few : (at : ℕ) → at + 64 * length (rootsOf []) ≤ at + 1
+unfolding rootsOf
+none-few at = omega arith
+
+from-few : (sub : ℕ → List Element → Files) (t : List ℕ) → ((x : ℕ) (p : List Element) → Few x (sub x p)) → (steps at : ℕ) (path : List Element) → Few at (filesFrom sub steps t at path)
+unfolding filesFrom
+from-few sub t hs zero at path = tt
+from-few sub t hs (suc n) at path = by-token (tokenAt t at) (token-in t at) (λ x. from-few sub t hs n x path)
+  where
+    Later : Type 0
+    Later = (x : ℕ) → Few x (filesFrom sub n t x path)
+
+    by-sub : (b : ℕ) (w : Files) → at < b → Few (b + 1) w → Later → Few at (onward w (λ k. filesFrom sub n t k path))
+    by-sub b wrong h p later = tt
+    by-sub b (files fs k) h p later = let g = p .0 in let q = p .1 in after-few at k fs (filesFrom sub n t k path) (omega arith) (omega arith) (later k)
+
+    by-token : (x : Token) → TokenIn at (length t) x → Later → Few at (onToken sub (λ k. filesFrom sub n t k path) at path x)
+    by-token BadToken p later = tt
+    by-token Closed p later = (omega arith, none-few at)
+    by-token (Opened a b) p later = by-sub b (sub (b + 1) (down path a b)) (p .0) (hs (b + 1) (down path a b)) later
+    by-token (Leaf a b m r k) p later =
+        let g = p .0 in
+        after-few at k (listedAs m r (down path a b) ∷ []) (filesFrom sub n t k path) (omega arith) (one-few at k m r (down path a b) g (λ z. p .2 z .0)) (later k)
+
+below-few : (l : ℕ) (t : List ℕ) (at : ℕ) (path : List Element) → Few at (filesBelow l t at path)
+unfolding filesBelow
+below-few zero t at path = tt
+below-few (suc l) t at path = from-few (filesBelow l t) t (below-few l t) (suc (length t)) at path
+
+files-few : (t : List ℕ) → right (filesIn t) ≡ true → (length (listed (filesIn t)) ≤ length t) × (64 * length (rootsOf (listed (filesIn t))) ≤ length t)
+unfolding listed right
+files-few t e = by-files (filesIn t) refl e (tree-below t (tree-some t e))
+  where
+    by-files : (x : Files) → filesIn t ≡ x → right x ≡ true → filesIn t ≡ filesBelow maxElements t 1 [] → (length (listed x) ≤ length t) × (64 * length (rootsOf (listed x)) ≤ length t)
+    by-files wrong q f g = absurd (false≢true f)
+    by-files (files fs k) q f g =
+        let p : Few 1 (files fs k) = rw (sym g ∙ q) at (below-few maxElements t 1 []) in
+        let a = p .0 in
+        let b = p .1 in
+        let d = directory-ends maxElements t 1 [] fs k (sym g ∙ q) .1 in
+        (omega arith, omega arith)
 
 -- ---- what a torrent that gets 0 has
 
-pub record Ready (s : List ℕ) (tree layers files long : ℕ) : Type 0 where
-  pub small : length s ≤ 2 ^ 20
-  pub tree-right : right (filesIn s tree) ≡ true
-  pub opened : LayersOpen s layers
-  pub keyed : (keysWide s layers && eqb (length (layerKeys s layers)) long) ≡ true
-  pub few-long : long ≤ 16384
-  pub all : files ≡ length (listed (filesIn s tree))
-  pub few : files ≤ 2 ^ 20
+-- the parts t and l of a torrent, by which its list is written
+pub record Ready (t l : List ℕ) (k : Listing) : Type 0 where
+  pub tree-within : k .tree + length t ≤ largestTorrent
+  pub layers-within : k .layers + length l ≤ largestTorrent
+  pub tree-right : right (filesIn t) ≡ true
+  pub opened : LayersOpen l
+  pub keyed : (keysWide l && eqb (length (layerKeys l)) (k .count)) ≡ true
+  pub few-long : k .count ≤ mostRoots
 
-tree-zero : (s : List ℕ) (plen layers : ℕ) (fs : Files) → treeNumber s plen layers fs ≡ 0
-    → (right fs ≡ true) × ((keysWide s layers && eqb (length (layerKeys s layers)) (longs plen (listed fs))) ≡ true)
+-- 27 is out where a torrent gets 0
+tree-keyed : (t l : List ℕ) (plen : ℕ) (fs : Files) → treeNumber t l plen fs ≡ 0 → (keysWide l && eqb (length (layerKeys l)) (longs plen (listed fs))) ≡ true
 unfolding treeNumber filesNumber
-tree-zero s plen layers fs e = by-right (right fs) refl e
+tree-keyed t l plen fs e = by-right (right fs) e
   where
     both : Bool
-    both = keysWide s layers && eqb (length (layerKeys s layers)) (longs plen (listed fs))
+    both = keysWide l && eqb (length (layerKeys l)) (longs plen (listed fs))
 
-    by-keys : (b : Bool) → both ≡ b → cond b (worst s layers plen 0 (listed fs)) layersAmiss ≡ 0 → both ≡ true
+    by-keys : (b : Bool) → both ≡ b → cond b (worst t l plen 0 (listed fs)) layersAmiss ≡ 0 → both ≡ true
     by-keys true q g = q
     by-keys false q g = absurd (omega arith)
 
-    by-roots : (b : Bool) → cond b (cond both (worst s layers plen 0 (listed fs)) layersAmiss) sameRoot ≡ 0 → both ≡ true
+    by-roots : (b : Bool) → cond b (cond both (worst t l plen 0 (listed fs)) layersAmiss) sameRoot ≡ 0 → both ≡ true
     by-roots true g = by-keys both refl g
     by-roots false g = absurd (omega arith)
 
-    by-right : (b : Bool) → right fs ≡ b → cond b (cond (apart (stringsAt s (rootsOf (listed fs)))) (cond both (worst s layers plen 0 (listed fs)) layersAmiss) sameRoot) wrongTree ≡ 0 → (right fs ≡ true) × (both ≡ true)
-    by-right true q g = (q, by-roots (apart (stringsAt s (rootsOf (listed fs)))) g)
-    by-right false q g = absurd (omega arith)
+    by-right : (b : Bool) → cond b (cond (apart (stringsAt t (rootsOf (listed fs)))) (cond both (worst t l plen 0 (listed fs)) layersAmiss) sameRoot) wrongTree ≡ 0 → both ≡ true
+    by-right true g = by-roots (apart (stringsAt t (rootsOf (listed fs)))) g
+    by-right false g = absurd (omega arith)
 
-judged-zero : (s : List ℕ) (tree plen layers : ℕ) → judgedOf s tree plen layers .number ≡ 0
-    → (treeNumber s plen layers (filesIn s tree) ≡ 0) × (judgedOf s tree plen layers .files ≡ length (listed (filesIn s tree))) × (judgedOf s tree plen layers .long ≡ longs plen (listed (filesIn s tree)))
-unfolding judgedOf
-judged-zero s tree plen layers e = by-number (treeNumber s plen layers (filesIn s tree)) (length (listed (filesIn s tree))) (longs plen (listed (filesIn s tree))) e
-  where
-    by-number : (n f l : ℕ) → judgedAs n f l .number ≡ 0 → (n ≡ 0) × (judgedAs n f l .files ≡ f) × (judgedAs n f l .long ≡ l)
-    by-number zero f l e = (refl, refl, refl)
-    by-number (suc n) f l e = absurd (omega arith)
+abbrev pub listingOf : Checked → Listing
+listingOf c = record { tree = c .keys .tree .start; layers = c .keys .layers .start; plen = c .keys .plen; count = c .long }
 
-judged-ready : (s : List ℕ) (k : Keys) → k ≡ metainfoOf s → k .number ≡ 0 → (j : Judged) → j ≡ judgedOf s (k .tree) (k .plen) (k .layers) → j .number ≡ 0
-    → Ready s (k .tree) (k .layers) (j .files) (j .long)
-judged-ready s k ek zk j ej zj =
-    let z : metainfoOf s .number ≡ 0 = ap (λ (x : Keys). x .number) (sym ek) ∙ zk in
-    let small = metainfo-right s z .small in
-    let parts = judged-zero s (k .tree) (k .plen) (k .layers) (ap (λ (x : Judged). x .number) (sym ej) ∙ zj) in
-    let files : j .files ≡ length (listed (filesIn s (k .tree))) = ap (λ (x : Judged). x .files) ej ∙ parts .1 in
-    let long : j .long ≡ longs (k .plen) (listed (filesIn s (k .tree))) = ap (λ (x : Judged). x .long) ej ∙ parts .2 in
-    let tree = tree-zero s (k .plen) (k .layers) (filesIn s (k .tree)) (parts .0) in
-    let f = files-few s (k .tree) (tree .0) in
-    let l = longs-roots (k .plen) (listed (filesIn s (k .tree))) in
-    record {
-      small = small;
-      tree-right = tree .0;
-      opened = rw ek (layers-open s z);
-      keyed = rw long (tree .1);
-      few-long = omega (arith, f .1);
-      all = files;
-      few = omega (arith, f .0);
-    }
+module _ (s : List ℕ) (c : Checked) (w : Whole s c) where
+  abbrev t : List ℕ
+  t = bytesIn s (c .keys .tree)
 
-pub checked-ready : (s : List ℕ) → checkedOf s .number ≡ 0 → Ready s (checkedOf s .tree) (checkedOf s .layers) (checkedOf s .files) (checkedOf s .long)
-unfolding checkedOf
-checked-ready s e = by-keys (metainfoOf s) refl e
-  where
-    by-judged : (k : Keys) → k ≡ metainfoOf s → k .number ≡ 0 → (j : Judged) → j ≡ judgedOf s (k .tree) (k .plen) (k .layers) → (b : Bool) → eqb (j .number) 0 ≡ b
-        → (c : Checked) → c ≡ cond b (record { number = 0; info = k .info; past = k .past; tree = k .tree; plen = k .plen; layers = k .layers; files = j .files; long = j .long }) (unread (j .number)) → c .number ≡ 0
-        → Ready s (c .tree) (c .layers) (c .files) (c .long)
-    by-judged k ek zk j ej true q c ec e = rw ec (judged-ready s k ek zk j ej (eqb-true (j .number) 0 q))
-    by-judged k ek zk j ej false q c ec e = absurd (eqb-false (j .number) 0 q (ap (λ (z : Checked). z .number) (sym ec) ∙ e))
+  abbrev l : List ℕ
+  l = bytesIn s (c .keys .layers)
 
-    by-number : (k : Keys) → k ≡ metainfoOf s → (b : Bool) → eqb (k .number) 0 ≡ b → (c : Checked) → c ≡ cond b (withJudged k (judgedOf s (k .tree) (k .plen) (k .layers))) (unread (k .number)) → c .number ≡ 0
-        → Ready s (c .tree) (c .layers) (c .files) (c .long)
-    by-number k ek true q c ec e = by-judged k ek (eqb-true (k .number) 0 q) (judgedOf s (k .tree) (k .plen) (k .layers)) refl (eqb (judgedOf s (k .tree) (k .plen) (k .layers) .number) 0) refl c ec e
-    by-number k ek false q c ec e = absurd (eqb-false (k .number) 0 q (ap (λ (z : Checked). z .number) (sym ec) ∙ e))
+  tree-inside : c .keys .tree .start + length t ≤ largestTorrent
+  tree-inside = let a = w .opened .tree-size in let b = w .opened .tree-forward in let d = w .opened .tree-within in let f = w .opened .small in omega arith
 
-    by-keys : (k : Keys) → k ≡ metainfoOf s → withKeys s k .number ≡ 0 → Ready s (withKeys s k .tree) (withKeys s k .layers) (withKeys s k .files) (withKeys s k .long)
-    by-keys k ek e = by-number k ek (eqb (k .number) 0) refl (withKeys s k) refl e
+  pub whole-ready : Ready t l (listingOf c)
+  whole-ready =
+      let a = w .opened .layers-size in
+      let b = w .opened .layers-forward in
+      let d = w .opened .layers-within in
+      let f = w .opened .small in
+      let few = files-few t (w .tree-right) .1 in
+      let most = longs-roots (c .keys .plen) (listed (filesIn t)) in
+      let long = w .all-long in
+      let inside = tree-inside in
+      record {
+        tree-within = inside;
+        layers-within = omega arith;
+        tree-right = w .tree-right;
+        opened = w .opened .layers-open;
+        keyed = rw long (tree-keyed t l (c .keys .plen) (filesIn t) (w .number-right));
+        few-long = omega arith;
+      }
 
--- ---- a file of the list
-
--- the last file that a loop has passed is right, and there is room for its record
-pub file-passed : (s : List ℕ) (tree : ℕ) (before : List Listed) (f : Listed) (at d : ℕ) (path : List ℕ) → FilesAt s (filesIn s tree) (before ++ f ∷ []) at d path
-    → FileRight (length s) f × (length before < length (listed (filesIn s tree)))
-file-passed s tree before f at d path w =
-    let rest = listed (filesFrom (w .steps) s at d path) in
-    let e : listed (filesIn s tree) ≡ before ++ f ∷ rest = w .others ∙ append-assoc before (f ∷ []) rest in
-    let n : length before < length (listed (filesIn s tree)) = rw (e, length-append before (f ∷ rest)) (omega arith) in
-    let here : fileNumber (listed (filesIn s tree)) (length before) ≡ f = ap (λ (l : List Listed). fileNumber l (length before)) e ∙ number-here before f rest in
-    (rw here at (number-right (length s) (listed (filesIn s tree)) (length before) (files-right s tree) n), n)
+  pub few-files : c .files ≤ largestTorrent
+  few-files = let a = files-few t (w .tree-right) .0 in let b = w .all-files in let d = tree-inside in omega arith
 
 -- the whole output where the list has room: the records, and the bytes behind them as they were
-pub list-whole : (s out : List ℕ) → checkedOf s .number ≡ 0 → recordSize * checkedOf s .files ≤ length out
-    → listAfter s out ≡ recordsOf s (checkedOf s .layers) (checkedOf s .plen) (listed (filesIn s (checkedOf s .tree))) ++ drop (recordSize * checkedOf s .files) out
+pub list-whole : (s out : List ℕ) → checkedOf s .keys .number ≡ 0 → recordSize * checkedOf s .files ≤ length out
+    → listAfter s out ≡ recordsOf (partsOf s (checkedOf s .keys)) (listed (filesIn (bytesIn s (checkedOf s .keys .tree)))) ++ drop (recordSize * checkedOf s .files) out
 unfolding listAfter pasted
 list-whole s out z h =
-    let fs = listed (filesIn s (checkedOf s .tree)) in
-    let records = recordsOf s (checkedOf s .layers) (checkedOf s .plen) fs in
-    let e : 0 + length records ≡ recordSize * checkedOf s .files = omega (arith, records-length s (checkedOf s .layers) (checkedOf s .plen) fs (files-right s (checkedOf s .tree)), checked-ready s z .all) in
-    rw (eq-eqb (checkedOf s .number) 0 z, le-ltb (length out) (recordSize * checkedOf s .files) h) (ap (λ (n : ℕ). records ++ drop n out) e)
+    let fs = listed (filesIn (bytesIn s (checkedOf s .keys .tree))) in
+    let records = recordsOf (partsOf s (checkedOf s .keys)) fs in
+    let e : 0 + length records ≡ recordSize * checkedOf s .files = omega (arith, records-length (partsOf s (checkedOf s .keys)) fs (files-right (bytesIn s (checkedOf s .keys .tree))), checked-whole s z .all-files) in
+    rw (eq-eqb (checkedOf s .keys .number) 0 z, le-ltb (length out) (recordSize * checkedOf s .files) h) (ap (λ (n : ℕ). records ++ drop n out) e)
 
 -- ---- a refusal
 
 -- whatever is refused is left as it was, with no count
 pub list-refused : (s out : List ℕ) → (listAnswer s out .number ≡ 0 → ⊥) → (listAfter s out ≡ out) × (listAnswer s out .count ≡ 0)
 unfolding listAnswer listAfter
-list-refused s out h = by-number (eqb (checkedOf s .number) 0) (ltb (length out) (recordSize * checkedOf s .files)) h
+list-refused s out h = by-number (eqb (checkedOf s .keys .number) 0) (ltb (length out) (recordSize * checkedOf s .files)) h
   where
     by-number : (a b : Bool)
-        → (cond a (cond b (refused noRoom) (done (recordSize * checkedOf s .files))) (refused (checkedOf s .number)) .number ≡ 0 → ⊥)
-        → (cond a (cond b out (pasted out 0 (recordsOf s (checkedOf s .layers) (checkedOf s .plen) (listed (filesIn s (checkedOf s .tree)))))) out ≡ out)
-        × (cond a (cond b (refused noRoom) (done (recordSize * checkedOf s .files))) (refused (checkedOf s .number)) .count ≡ 0)
+        → (cond a (cond b (refused noRoom) (done (recordSize * checkedOf s .files))) (refused (checkedOf s .keys .number)) .number ≡ 0 → ⊥)
+        → (cond a (cond b out (pasted out 0 (recordsOf (partsOf s (checkedOf s .keys)) (listed (filesIn (bytesIn s (checkedOf s .keys .tree))))))) out ≡ out)
+        × (cond a (cond b (refused noRoom) (done (recordSize * checkedOf s .files))) (refused (checkedOf s .keys .number)) .count ≡ 0)
     by-number true true g = (refl, refl)
     by-number true false g = absurd (g refl)
     by-number false b g = (refl, refl)
 
 -- the torrent's own number comes before 11
-pub list-own-number : (s out : List ℕ) → (checkedOf s .number ≡ 0 → ⊥) → listAnswer s out .number ≡ checkedOf s .number
+pub list-own-number : (s out : List ℕ) → (checkedOf s .keys .number ≡ 0 → ⊥) → listAnswer s out .number ≡ checkedOf s .keys .number
 unfolding listAnswer
-list-own-number s out h = simp (ne-eqb (checkedOf s .number) 0 h)
+list-own-number s out h = rw (ne-eqb (checkedOf s .keys .number) 0 h) refl

@@ -1,2 +1,3 @@
 pub mod Catalogue
 pub mod CatalogueLaws
+pub mod PutLaws

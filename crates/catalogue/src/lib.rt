@@ -1,99 +1,138 @@
 // All files of a torrent in one list, a record of 280 bytes for each.
 pub mod record;
 
+use crate::record::Listing;
+use crate::record::Record;
 use crate::record::put_record;
-use files::walk::Next;
-use files::walk::PATH;
-use files::walk::next_file;
+use filetree::count::ELEMENTS;
+use filetree::count::MOST;
+use filetree::path::PATH;
+use filetree::path::set_element;
+use filetree::token::Token;
+use filetree::token::read_token;
 use layers::index;
-use listing::MOST;
 use numbers::Answer;
 use numbers::refusal;
 use numbers::success;
 use torrent::check::check;
 ghost use mathlib.Core.Path.{_≡_};
-ghost use mathlib.Core.Bool.{true};
 ghost use Prim.Native.Nat.{_*_, _≤_};
 ghost use lib.ListN as L;
 ghost use Rattle.octets.specs.Octets.{pasted};
-ghost use Rattle.listing.specs.Listing.{filesIn, right, listed};
+ghost use Rattle.filetree.specs.Tree.{filesIn, listed};
+ghost use Rattle.filetree.specs.Count.{mostRoots};
 ghost use Rattle.layers.specs.Layers.{Indexed};
 ghost use Rattle.catalogue.specs.Catalogue.{recordsOf, recordSize, listAnswer, listAfter};
-ghost use Rattle.catalogue.specs.CatalogueLaws.{Ready};
+ghost use Rattle.catalogue.specs.CatalogueLaws.{partsWith, Ready};
+ghost use Rattle.catalogue.specs.PutLaws.{SpotRight, Puts};
 
 // A record has so many bytes.
 pub const RECORD: usize = 280;
 
-// Writes the records of all files of the `file tree` at `tree`, one after the other.
-fn put_records(
-    s: &[u8],
-    tree: usize,
-    plen: usize,
-    layers: usize,
+// A directory of it: its first entry, the levels left below it, and where its first record goes.
+pub struct Spot {
+    pub list: Listing,
+    pub at: usize,
+    pub levels: usize,
+    pub to: usize,
+}
+
+// The position past a directory, and where the next record goes; or something in it is wrong, or there is no room.
+pub enum Put {
+    Past { next: usize, to: usize },
+    WrongTree,
+}
+
+// Writes the records of the files of a directory, one after the other. `path` has the elements of the path to the directory.
+fn put_directory(
+    t: &[u8],
+    l: &[u8],
     keys: &[u32],
-    count: usize,
+    path: &mut [usize],
     out: &mut [u8],
-)
-    requires { ⌜ Indexed (now s) layers (now keys) count × (right (filesIn (now s) tree) ≡ true) × (recordSize * L.length (listed (filesIn (now s) tree)) ≤ L.length (now out)) ⌝ }
-    ensures { λ _. ⌜ now (out .exit) ≡ pasted (now (out .entry)) 0 (recordsOf (now (s .entry)) layers plen (listed (filesIn (now (s .entry)) tree))) ⌝ }
+    spot: Spot,
+) -> Put
+    requires { ⌜ Indexed (now l) (now keys) (spot .list .count) × SpotRight (L.length (now t)) (L.length (now l)) (L.length (now out)) (now path) spot ⌝ }
+    ensures { λ r. ⌜ Puts (now (t .entry)) (now (l .entry)) spot (now (path .entry)) (now (path .exit)) (now (out .entry)) (now (out .exit)) r ⌝ }
 {
-    let mut path = [0usize; PATH];
-    let mut at = tree + 1;
-    let mut depth = 0;
-    let mut to = 0;
-    while at < s.len() {
-        match next_file(s, at, depth, &mut path) {
-            Next::WrongTree => {
-                return;
+    let list = spot.list;
+    let at = spot.at;
+    let levels = spot.levels;
+    if levels == 0 {
+        return Put::WrongTree;
+    }
+    let below = levels - 1;
+    let depth = ELEMENTS - levels;
+    let mut to = spot.to;
+    let mut i = at;
+    while i < t.len() {
+        match read_token(t, i) {
+            Token::BadToken => {
+                return Put::WrongTree;
             }
-            Next::NoMore => {
-                return;
+            Token::Closed => {
+                return Put::Past { next: i + 1, to };
             }
-            Next::Placed {
+            Token::Leaf {
+                start,
+                end,
                 length,
                 root,
-                at: next,
-                depth: open,
+                next,
             } => {
-                let elements = open + 1;
-                put_record(
-                    s,
-                    plen,
-                    layers,
-                    keys,
-                    count,
+                if out.len() - to < RECORD {
+                    return Put::WrongTree; // never: the list has room for all files
+                }
+                set_element(path, depth, start, end);
+                let record = Record {
+                    list,
                     length,
                     root,
-                    elements,
-                    &path,
-                    out,
-                    to,
-                );
+                    elements: depth + 1,
+                    at: to,
+                };
+                put_record(t, l, keys, path, out, record);
                 to += RECORD;
-                at = next;
-                depth = open;
+                i = next;
+            }
+            Token::Opened { start, end } => {
+                set_element(path, depth, start, end);
+                let inside = Spot {
+                    list,
+                    at: end + 1,
+                    levels: below,
+                    to,
+                };
+                match put_directory(t, l, keys, path, out, inside) {
+                    Put::Past { next, to: behind } => {
+                        to = behind;
+                        i = next;
+                    }
+                    Put::WrongTree => {
+                        return Put::WrongTree;
+                    }
+                }
             }
         }
     }
+    Put::WrongTree
 }
 
-// The same of a torrent that gets 0; `keys` is work space, for where the keys of `piece layers` stand. They are as many as they should
-// be: `check` has seen it, so that `index` need not be asked again.
-fn list_in(
-    s: &[u8],
-    tree: usize,
-    plen: usize,
-    layers: usize,
-    files: usize,
-    long: usize,
-    keys: &mut [u32],
-    out: &mut [u8],
-)
-    requires { ⌜ Ready (now s) tree layers files long × (L.length (now keys) ≡ 16384) × (recordSize * files ≤ L.length (now out)) ⌝ }
-    ensures { λ _. ⌜ now (out .exit) ≡ pasted (now (out .entry)) 0 (recordsOf (now (s .entry)) layers plen (listed (filesIn (now (s .entry)) tree))) ⌝ }
+// Writes the records of all files of a torrent that gets 0; `keys` is work space, for where the keys of `piece layers` stand. They are as
+// many as they should be: `check` has seen it, so that `index` need not be asked again.
+fn list_in(t: &[u8], l: &[u8], keys: &mut [u32], out: &mut [u8], list: Listing)
+    requires { ⌜ Ready (now t) (now l) list × (L.length (now keys) ≡ mostRoots) × (recordSize * L.length (listed (filesIn (now t))) ≤ L.length (now out)) ⌝ }
+    ensures { λ _. ⌜ now (out .exit) ≡ pasted (now (out .entry)) 0 (recordsOf (partsWith (now (t .entry)) (now (l .entry)) list) (listed (filesIn (now (t .entry))))) ⌝ }
 {
-    index(s, layers, keys, long);
-    put_records(s, tree, plen, layers, keys, long, out);
+    let mut path = [0usize; PATH];
+    let spot = Spot {
+        list,
+        at: 1,
+        levels: ELEMENTS,
+        to: 0,
+    };
+    index(l, keys, list.count);
+    put_directory(t, l, keys, &mut path, out, spot);
 }
 
 // 0 and the size of the list, which is then at the start of `out`; or 19 to 28, or 11 if `out` is too short for it.
@@ -101,19 +140,33 @@ pub fn list(s: &[u8], out: &mut [u8]) -> Answer
     ensures { λ r. ⌜ (r ≡ listAnswer (now (s .entry)) (now (out .entry))) × (now (out .exit) ≡ listAfter (now (s .entry)) (now (out .entry))) ⌝ }
 {
     let c = check(s);
-    let number = c.number;
-    let tree = c.tree;
-    let plen = c.plen;
-    let layers = c.layers;
+    let number = c.keys.number;
+    let tree = c.keys.tree.start;
+    let tree_end = c.keys.tree.end;
+    let layers = c.keys.layers.start;
+    let layers_end = c.keys.layers.end;
+    let plen = c.keys.plen;
     let files = c.files;
-    let long = c.long;
+    let count = c.long;
     if number == 0 {
         let size = RECORD * files;
         if out.len() < size {
             return refusal(numbers::NO_ROOM);
         }
+        let list = Listing {
+            tree,
+            layers,
+            plen,
+            count,
+        };
         let mut keys = [0u32; MOST];
-        list_in(s, tree, plen, layers, files, long, &mut keys, out);
+        list_in(
+            &s[tree..tree_end],
+            &s[layers..layers_end],
+            &mut keys,
+            out,
+            list,
+        );
         return success(size as u64);
     }
     refusal(number)

@@ -1,6 +1,7 @@
 // The record of one file: 56 bytes for its length, its root, its layer's part and how many path elements it has; then a place for each of
 // 28 of these. Numbers are written with the most significant byte first.
 use bencode::scalar::ByteString;
+use filetree::count::ELEMENTS;
 use layers::find_layer;
 use octets::put_hash;
 use octets::put_number;
@@ -9,16 +10,30 @@ use tree::geometry::has_layer;
 ghost use mathlib.Core.Path.{_≡_};
 ghost use Prim.Native.Nat.{_+_, _*_, _≤_, _<_};
 ghost use lib.ListN as L;
-ghost use lib.ListN.{getD};
-ghost use Rattle.octets.specs.Octets.{pasted};
-ghost use Rattle.files.specs.Walk.{maxElements};
-ghost use Rattle.listing.specs.FilesLaws.{FileRight};
-ghost use Rattle.layers.specs.Layers.{Indexed, rootBytes, layerString, startOf, sizeOf};
-ghost use Rattle.catalogue.specs.Catalogue.{partBytes, elementBytes, elementsBytes, headBytes, recordOf, recordSize};
-ghost use Rattle.catalogue.specs.CatalogueLaws.{InOrder, Forward};
+ghost use Rattle.limits.specs.Limits.{largestTorrent};
+ghost use Rattle.octets.specs.Octets.{cut, pasted};
+ghost use Rattle.filetree.specs.Tree.{maxElements};
+ghost use Rattle.layers.specs.Layers.{Indexed, layerString, startOf, sizeOf};
+ghost use Rattle.torrent.specs.FindLaws.{PathGiven};
+ghost use Rattle.catalogue.specs.Catalogue.{partBytes, headBytes};
+ghost use Rattle.catalogue.specs.CatalogueLaws.{arrayElement, arrayElements, recordFrom, Forward, RecordRight};
 
-// A path has at most so many elements.
-const ELEMENTS: usize = 28;
+// Where `file tree` and `piece layers` begin in the torrent, the piece length, and how many keys `piece layers` has.
+pub struct Listing {
+    pub tree: usize,
+    pub layers: usize,
+    pub plen: usize,
+    pub count: usize,
+}
+
+// A file of it: its length, its root's position, how many path elements it has; and where its record goes.
+pub struct Record {
+    pub list: Listing,
+    pub length: usize,
+    pub root: usize,
+    pub elements: usize,
+    pub at: usize,
+}
 
 // Writes where a part of the torrent begins, and its size.
 fn put_part(out: &mut [u8], at: usize, start: usize, size: usize)
@@ -29,101 +44,84 @@ fn put_part(out: &mut [u8], at: usize, start: usize, size: usize)
     put_number(out, at + 4, 4, size);
 }
 
-// Writes element k of a path of n elements, or zeros if there is none.
-fn put_element(out: &mut [u8], at: usize, path: &[usize], n: usize, k: usize)
-    requires { ⌜ (at + 8 ≤ L.length (now out)) × (L.length (now path) ≡ 56) × (k < maxElements) × (k < n → getD (now path) (2 * k) 0 ≤ getD (now path) (2 * k + 1) 0) ⌝ }
-    ensures { λ _. ⌜ now (out .exit) ≡ pasted (now (out .entry)) at (elementBytes (now (path .entry)) n k) ⌝ }
+// Writes element k of a path of n elements, of a tree that begins at `base`, or zeros if there is none.
+fn put_element(out: &mut [u8], at: usize, base: usize, path: &[usize], n: usize, k: usize)
+    requires { ⌜ (at + 8 ≤ L.length (now out)) × (k < maxElements) × PathGiven (now path) n base ⌝ }
+    ensures { λ _. ⌜ now (out .exit) ≡ pasted (now (out .entry)) at (arrayElement base (now (path .entry)) n k) ⌝ }
 {
     if k < n {
         let i = 2 * k;
         let start = path[i];
         let end = path[i + 1];
-        put_part(out, at, start, end - start);
+        put_part(out, at, base + start, end - start);
         return;
     }
     put_number(out, at, 8, 0);
 }
 
 // Writes the 28 places for the n elements of a path.
-fn put_elements(out: &mut [u8], at: usize, path: &[usize], n: usize)
-    requires { ⌜ (at + 8 * maxElements ≤ L.length (now out)) × (L.length (now path) ≡ 56) × InOrder (now path) n ⌝ }
-    ensures { λ _. ⌜ now (out .exit) ≡ pasted (now (out .entry)) at (elementsBytes (now (path .entry)) n maxElements) ⌝ }
+fn put_elements(out: &mut [u8], at: usize, base: usize, path: &[usize], n: usize)
+    requires { ⌜ (at + 8 * maxElements ≤ L.length (now out)) × PathGiven (now path) n base ⌝ }
+    ensures { λ _. ⌜ now (out .exit) ≡ pasted (now (out .entry)) at (arrayElements base (now (path .entry)) n maxElements) ⌝ }
 {
     let mut k = 0;
     while k < ELEMENTS {
-        put_element(out, at + 8 * k, path, n, k);
+        put_element(out, at + 8 * k, base, path, n, k);
         k += 1;
     }
 }
 
-// Writes where a layer begins, and its size; zeros if there is none.
-fn put_layer(out: &mut [u8], at: usize, layer: ByteString)
-    requires { ⌜ (at + 8 ≤ L.length (now out)) × Forward layer ⌝ }
-    ensures { λ _. ⌜ now (out .exit) ≡ pasted (now (out .entry)) at (partBytes (startOf layer) (sizeOf layer)) ⌝ }
+// Writes where a layer begins, of `piece layers` that begin at `base`, and its size; zeros if there is none.
+fn put_layer(out: &mut [u8], at: usize, base: usize, layer: ByteString)
+    requires { ⌜ (at + 8 ≤ L.length (now out)) × Forward base layer ⌝ }
+    ensures { λ _. ⌜ now (out .exit) ≡ pasted (now (out .entry)) at (partBytes (startOf base layer) (sizeOf layer)) ⌝ }
 {
     match layer {
         ByteString::NoString => put_part(out, at, 0, 0),
-        ByteString::Content { start, end } => put_part(out, at, start, end - start),
+        ByteString::Content { start, end } => put_part(out, at, base + start, end - start),
     }
 }
 
 // Writes a record's first 56 bytes.
-fn put_head(
-    out: &mut [u8],
-    at: usize,
-    length: usize,
-    root: [u8; 32],
-    layer: ByteString,
-    elements: usize,
-)
-    requires { ⌜ (at + 56 ≤ L.length (now out)) × Forward layer ⌝ }
-    ensures { λ _. ⌜ now (out .exit) ≡ pasted (now (out .entry)) at (headBytes length root layer elements) ⌝ }
+fn put_head(out: &mut [u8], file: Record, root: [u8; 32], layer: ByteString)
+    requires { ⌜ (file .at + 56 ≤ L.length (now out)) × Forward (file .list .layers) layer ⌝ }
+    ensures { λ _. ⌜ now (out .exit) ≡ pasted (now (out .entry)) (file .at) (headBytes (file .list .layers) (file .length) root layer (file .elements)) ⌝ }
 {
+    let at = file.at;
+    let length = file.length;
+    let elements = file.elements;
+    let base = file.list.layers;
     put_number(out, at, 8, length);
     put_hash(out, at + 8, root);
-    put_layer(out, at + 40, layer);
+    put_layer(out, at + 40, base, layer);
     put_number(out, at + 48, 4, elements);
     put_number(out, at + 52, 4, 0);
 }
 
-// The layer of a file of n bytes; none if it is not longer than the piece length.
-fn layer_of(
-    s: &[u8],
-    plen: usize,
-    layers: usize,
-    keys: &[u32],
-    count: usize,
-    n: usize,
-    root: usize,
-) -> ByteString
-    requires { ⌜ Indexed (now s) layers (now keys) count × ((n ≡ 0 → ⊥) → root + 32 ≤ L.length (now s)) ⌝ }
-    ensures { λ r. ⌜ (r ≡ layerString (now (s .entry)) layers plen n root) × Forward r ⌝ }
+// The layer of a file; none if it is not longer than the piece length.
+fn layer_of(t: &[u8], l: &[u8], keys: &[u32], list: Listing, n: usize, root: usize) -> ByteString
+    requires { ⌜ Indexed (now l) (now keys) (list .count) × ((n ≡ 0 → ⊥) → root + 32 ≤ L.length (now t)) × (list .layers + L.length (now l) ≤ largestTorrent) ⌝ }
+    ensures { λ r. ⌜ (r ≡ layerString (now (l .entry)) (list .plen) n (cut (now (t .entry)) root 32)) × Forward (list .layers) r ⌝ }
 {
-    if has_layer(n, plen) {
-        return find_layer(s, layers, keys, count, root);
+    if has_layer(n, list.plen) {
+        return find_layer(l, keys, list.count, &t[root..root + 32]);
     }
     ByteString::NoString
 }
 
-// Writes the record of a file of n bytes with its root at `root`, and so many elements in its path.
-pub fn put_record(
-    s: &[u8],
-    plen: usize,
-    layers: usize,
-    keys: &[u32],
-    count: usize,
-    n: usize,
-    root: usize,
-    elements: usize,
-    path: &[usize],
-    out: &mut [u8],
-    at: usize,
-)
-    requires { ⌜ Indexed (now s) layers (now keys) count × FileRight (L.length (now s)) (record { size = n; root = root; elements = elements; path = now path }) × (at + recordSize ≤ L.length (now out)) ⌝ }
-    ensures { λ _. ⌜ now (out .exit) ≡ pasted (now (out .entry)) at (recordOf (now (s .entry)) layers plen (record { size = n; root = root; elements = elements; path = now (path .entry) })) ⌝ }
+// Writes the record of a file.
+pub fn put_record(t: &[u8], l: &[u8], keys: &[u32], path: &[usize], out: &mut [u8], file: Record)
+    requires { ⌜ Indexed (now l) (now keys) (file .list .count) × RecordRight (L.length (now t)) (L.length (now l)) (L.length (now out)) (now path) file ⌝ }
+    ensures { λ _. ⌜ now (out .exit) ≡ pasted (now (out .entry)) (file .at) (recordFrom (now (t .entry)) (now (l .entry)) (now (path .entry)) file) ⌝ }
 {
-    let hash = root_of(s, n, root);
-    let layer = layer_of(s, plen, layers, keys, count, n, root);
-    put_head(out, at, n, hash, layer, elements);
-    put_elements(out, at + 56, path, elements);
+    let list = file.list;
+    let tree = list.tree;
+    let at = file.at;
+    let elements = file.elements;
+    let length = file.length;
+    let root = file.root;
+    let hash = root_of(t, length, root);
+    let layer = layer_of(t, l, keys, list, length, root);
+    put_head(out, file, hash, layer);
+    put_elements(out, at + 56, tree, path, elements);
 }

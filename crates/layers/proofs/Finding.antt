@@ -7,9 +7,12 @@ use mathlib.Core.List.{List}
 use Prim.Native.Nat.{ℕ, _+_, _-_, _*_, _^_, _≤_, _<_}
 use native.Mathlib.Omega.{arith}
 use lib.ListN.{length, take, drop, getD}
+use lib.Seq.{take-all}
 use lib.Dec.{eqb}
 use borrow.Author.Tests.{eq-eqb, ne-eqb, ltb-true}
+use Rattle.limits.specs.Limits.{longestFile}
 use Rattle.octets.specs.Octets.{cut, same}
+use Rattle.octets.specs.OctetsLaws.{cut-length}
 use Rattle.numbers.specs.Numbers.{layersAmiss, layerDiffers}
 use Rattle.tree.specs.Geometry.{blockLength, blockCount, covering, height, isPieceLength, pieceLayer, pieceCount, hasLayer}
 use Rattle.tree.specs.GeometryLaws.{ceil-least, covering-most, pieces-covering, piece-length-form, long-file-height}
@@ -21,21 +24,22 @@ use Rattle.bencode.specs.declared.scalar.ByteString.the-variants.{Content, NoSt
 use Rattle.bencode.specs.declared.parts.Found.{Found}
 use Rattle.bencode.specs.declared.parts.Found.the-variants.{Part, Missing}
 use Rattle.bencode.specs.Parts.{findKey}
-use Rattle.roots.specs.Roots.{SearchedFor}
-use Rattle.layers.specs.Layers.{Inside, stringIn, layerAt, Indexed, ofLayer, layerNumber}
+use Rattle.sorting.proofs.Telling.{part-is}
+use Rattle.sorting.specs.Sorting.{SearchedFor}
+use Rattle.layers.specs.Layers.{Inside, stringIn, layerAt, Indexed, ofLayer, layerNumber, lower}
 use Rattle.layers.proofs.Searching.{index-within, indexed-found, indexed-none}
 
-module _ (s : List ℕ) (layers : ℕ) (keys : List ℕ) (count : ℕ) (x : Indexed s layers keys count) (root r : ℕ) (w : SearchedFor s keys count root r) where
-  pub found-here : r < count → layerAt s layers root ≡ readString (getD keys r 0 + 32) (drop (getD keys r 0 + 32) s)
-  found-here h = elim w [ inl p ↦ indexed-found s layers keys count x root r h (p .1) | inr p ↦ let e = p .0 in let z : ⊥ = omega arith in absurd z ]
+module _ (s keys : List ℕ) (count : ℕ) (x : Indexed s keys count) (key : List ℕ) (r : ℕ) (w : SearchedFor s keys count key r) where
+  pub found-here : r < count → layerAt s key ≡ readString (getD keys r 0 + 32) (drop (getD keys r 0 + 32) s)
+  found-here h = elim w [ inl p ↦ indexed-found s keys count x key r h (p .1) | inr p ↦ let e = p .0 in let z : ⊥ = omega arith in absurd z ]
 
-  pub found-nowhere : count ≤ r → layerAt s layers root ≡ NoString
-  found-nowhere h = elim w [ inl p ↦ let e = p .0 in let z : ⊥ = omega arith in absurd z | inr p ↦ indexed-none s layers keys count x root (p .1) ]
+  pub found-nowhere : count ≤ r → layerAt s key ≡ NoString
+  found-nowhere h = elim w [ inl p ↦ let e = p .0 in let z : ⊥ = omega arith in absurd z | inr p ↦ indexed-none s keys count x key (p .1) ]
 
 -- a layer that is found lies within the bytes
-pub layer-inside : (s : List ℕ) (layers root : ℕ) → Inside (length s) (layerAt s layers root)
+pub layer-inside : (s key : List ℕ) → Inside (length s) (layerAt s key)
 unfolding layerAt
-layer-inside s layers root = by-found (findKey (cut s root 32) layers (drop layers s))
+layer-inside s key = by-found (findKey key 0 s)
   where
     by-string : (a : ℕ) (w : ByteString) → readString a (drop a s) ≡ w → Inside (length s) w
     by-string a NoString e = tt
@@ -64,7 +68,7 @@ module _ (plen n : ℕ) (p : isPieceLength plen ≡ true) (h : hasLayer n plen �
       let g = long-file-height n (pieceLayer plen) l in
       omega arith
 
-  pub pieces-few : n ≤ 2 ^ 30 → pieceCount n plen ≤ 2 ^ 30
+  pub pieces-few : n ≤ longestFile → pieceCount n plen ≤ 2 ^ 30
   pieces-few l =
       let form = piece-length-form plen p .1 in
       let c : pieceCount n plen ≡ covering (blockCount n) (pieceLayer plen) = ap (pieceCount n) form ∙ pieces-covering n (pieceLayer plen) in
@@ -79,19 +83,22 @@ module _ (plen n : ℕ) (p : isPieceLength plen ≡ true) (h : hasLayer n plen �
   layer-under q b h eq eb eh = rw (eq, eh, eb) layer-below
 
 -- the root that is worked out, as the code does it
-pub root-worked : (s layer : List ℕ) (plen n root q b h : ℕ) (worked mine : List ℕ) (r : Bool) → q ≡ pieceLayer plen → b ≡ blockCount n → h ≡ height b
-    → worked ≡ node (layerLeaf layer q) (h - q) 0 → mine ≡ cut s root 32 → r ≡ same worked mine
-    → r ≡ same (layerRoot layer (pieceLayer plen) (height (blockCount n))) (cut s root 32)
+pub root-worked : (root layer : List ℕ) (plen n q b h : ℕ) (worked mine : List ℕ) (r : Bool) → q ≡ pieceLayer plen → b ≡ blockCount n → h ≡ height b
+    → worked ≡ node (layerLeaf layer q) (h - q) 0 → length root ≡ 32 → mine ≡ cut root 0 32 → r ≡ same worked mine
+    → r ≡ same (layerRoot layer (pieceLayer plen) (height (blockCount n))) root
 unfolding layerRoot
-root-worked s layer plen n root q b h worked mine r eq eb eh ew em er = er ∙ rw (ew, em, eh, eb, eq) refl
+root-worked root layer plen n q b h worked mine r eq eb eh ew l em er = er ∙ rw (ew, em ∙ whole, eh, eb, eq) refl
+  where
+    whole : cut root 0 32 ≡ root
+    whole = unfold cut in take-all 32 root (omega arith)
 
 -- ---- a file's number from its layer
 
-module _ (s : List ℕ) (plen n root : ℕ) (w : ByteString) (a b : ℕ) (e : w ≡ Content a b) where
+module _ (s : List ℕ) (plen n : ℕ) (root : List ℕ) (w : ByteString) (a b : ℕ) (e : w ≡ Content a b) where
   pub of-size : (c : ℕ) → c ≡ pieceCount n plen → (b - a ≡ 32 * c → ⊥) → ofLayer s plen n root w ≡ layersAmiss
   of-size c q d = ap (ofLayer s plen n root) e ∙ simp (ne-eqb (b - a) (32 * pieceCount n plen) (λ z. d (z ∙ ap (λ (x : ℕ). 32 * x) (sym q))))
 
-  module _ (c : ℕ) (q : c ≡ pieceCount n plen) (d : b - a ≡ 32 * c) (r : Bool) (g : r ≡ same (layerRoot (take (b - a) (drop a s)) (pieceLayer plen) (height (blockCount n))) (cut s root 32)) where
+  module _ (c : ℕ) (q : c ≡ pieceCount n plen) (d : b - a ≡ 32 * c) (r : Bool) (g : r ≡ same (layerRoot (take (b - a) (drop a s)) (pieceLayer plen) (height (blockCount n))) root) where
     by-root : ofLayer s plen n root w ≡ cond r 0 layerDiffers
     unfolding cut
     by-root = ap (ofLayer s plen n root) e ∙ rw (eq-eqb (b - a) (32 * pieceCount n plen) (d ∙ ap (λ (x : ℕ). 32 * x) q), sym g) refl
@@ -102,11 +109,35 @@ module _ (s : List ℕ) (plen n root : ℕ) (w : ByteString) (a b : ℕ) (e : w 
     pub of-other : r ≡ false → ofLayer s plen n root w ≡ layerDiffers
     of-other h = by-root ∙ rw h refl
 
-module _ (s : List ℕ) (layers plen n root : ℕ) where
-  pub number-none : hasLayer n plen ≡ false → layerNumber s layers plen n root ≡ 0
+module _ (s : List ℕ) (plen n : ℕ) (root : List ℕ) where
+  pub number-none : hasLayer n plen ≡ false → layerNumber s plen n root ≡ 0
   unfolding layerNumber
   number-none h = rw h refl
 
-  pub number-layer : hasLayer n plen ≡ true → (w : ByteString) → w ≡ layerAt s layers root → layerNumber s layers plen n root ≡ ofLayer s plen n root w
+  pub number-layer : hasLayer n plen ≡ true → (w : ByteString) → w ≡ layerAt s root → layerNumber s plen n root ≡ ofLayer s plen n root w
   unfolding layerNumber
   number-layer h w e = rw h (ap (ofLayer s plen n root) (sym e))
+
+-- a file's root as the code cuts it from the tree
+module _ (t : List ℕ) (r : ℕ) where
+  pub root-slice : r + 32 ≤ length t → length (take (r + 32 - r) (drop r t)) ≡ 32
+  root-slice h = ap length (part-is t r) ∙ cut-length t r 32 h
+
+  pub number-here : (l : List ℕ) (plen n : ℕ) (w : ByteString) (m : ℕ) → hasLayer n plen ≡ true → w ≡ layerAt l (take (r + 32 - r) (drop r t)) → m ≡ ofLayer l plen n (take (r + 32 - r) (drop r t)) w
+      → m ≡ layerNumber l plen n (cut t r 32)
+  number-here l plen n w m h e f = f ∙ sym (number-layer l plen n (take (r + 32 - r) (drop r t)) h w e) ∙ ap (layerNumber l plen n) (part-is t r)
+
+-- two numbers
+module _ (w n : ℕ) where
+  pub lower-amiss : w ≡ layersAmiss → lower w n ≡ w
+  unfolding lower
+  lower-amiss e = rw (eq-eqb w layersAmiss e) refl
+
+  module _ (o : w ≡ layersAmiss → ⊥) where
+    pub lower-none : n ≡ 0 → lower w n ≡ w
+    unfolding lower
+    lower-none e = rw (ne-eqb w layersAmiss o, eq-eqb n 0 e) refl
+
+    pub lower-other : (n ≡ 0 → ⊥) → lower w n ≡ n
+    unfolding lower
+    lower-other e = rw (ne-eqb w layersAmiss o, ne-eqb n 0 e) refl

@@ -1,4 +1,3 @@
 pub mod Searching
-pub mod Indexing
 pub mod Finding
-pub mod Judging
+pub mod Indexing

@@ -22,8 +22,8 @@ use Rattle.bencode.specs.declared.parts.Found.{Found}
 use Rattle.bencode.specs.declared.parts.Found.the-variants.{Part, Missing}
 use Rattle.bencode.specs.declared.parts.Entry.{Entry}
 use Rattle.bencode.specs.declared.parts.Entry.the-variants.{Keyed, NoEntry}
-use Rattle.roots.specs.Roots.{Ascending, SearchedFor}
-use Rattle.roots.specs.RootsLaws.{ascending-one}
+use Rattle.sorting.specs.Sorting.{Ascending, SearchedFor}
+use Rattle.sorting.specs.SortingLaws.{ascending-one}
 use Rattle.layers.specs.Layers.{stringIn, layerAt, keysOn, keysFrom, wideOn, wideFrom, layerKeys, keysWide, Indexed}
 
 -- an entry's key of 32 bytes
@@ -118,36 +118,34 @@ module _ (s : List ℕ) where
 
 -- ---- a layer by the index
 
-module _ (s : List ℕ) (layers : ℕ) (keys : List ℕ) (count : ℕ) (x : Indexed s layers keys count) where
-  key-is : (i : ℕ) → i < count → getD (layerKeys s layers) i 0 ≡ getD keys i 0
+module _ (s keys : List ℕ) (count : ℕ) (x : Indexed s keys count) where
+  key-is : (i : ℕ) → i < count → getD (layerKeys s) i 0 ≡ getD keys i 0
   key-is i h = ap (λ (l : List ℕ). getD l i 0) (sym (x .all)) ∙ getD-take count keys i 0 h
 
-  pub key-count : length (layerKeys s layers) ≡ count
+  pub key-count : length (layerKeys s) ≡ count
   key-count = ap length (sym (x .all)) ∙ length-take-le count keys (x .room)
 
   pub index-within : (i : ℕ) → i < count → getD keys i 0 + 32 ≤ length s
   unfolding layerKeys keysWide
-  index-within i h = rw (key-is i h) at (keys-within s (suc (length (drop 1 (drop layers s)))) (layers + 1) (x .wide) i (rw key-count h))
+  index-within i h = rw (key-is i h) at (keys-within s (suc (length (drop 1 s))) 1 (x .wide) i (rw key-count h))
 
-  whole : (key : List ℕ) → findKey key layers (drop layers s) ≡ findIn key (suc (length (drop 1 (drop layers s)))) (layers + 1) (drop (layers + 1) s)
+  whole : (key : List ℕ) → findKey key 0 s ≡ findIn key (suc (length (drop 1 s))) 1 (drop 1 s)
   unfolding findKey
-  whole key = rw (x .opens) (ap (findIn key (suc (length (drop 1 (drop layers s)))) (layers + 1)) (drop-drop 1 layers s))
+  whole key = rw (x .opens) refl
 
   -- found by halving, it is what the search for the key finds
-  pub indexed-found : (root r : ℕ) → r < count → cut s (getD keys r 0) 32 ≡ cut s root 32 → layerAt s layers root ≡ readString (getD keys r 0 + 32) (drop (getD keys r 0 + 32) s)
+  pub indexed-found : (key : List ℕ) (r : ℕ) → r < count → cut s (getD keys r 0) 32 ≡ key → layerAt s key ≡ readString (getD keys r 0 + 32) (drop (getD keys r 0 + 32) s)
   unfolding layerAt layerKeys keysWide
-  indexed-found root r h e =
-      let key = cut s root 32 in
-      let at-key : cut s (getD (layerKeys s layers) r 0) 32 ≡ key = rw (key-is r h) e in
-      let others : (j : ℕ) → j < r → cut s (getD (layerKeys s layers) j 0) 32 ≡ key → ⊥ =
+  indexed-found key r h e =
+      let at-key : cut s (getD (layerKeys s) r 0) 32 ≡ key = rw (key-is r h) e in
+      let others : (j : ℕ) → j < r → cut s (getD (layerKeys s) j 0) 32 ≡ key → ⊥ =
       λ j l q. let j-below : j < count = omega arith in let same-place : j ≡ r = ascending-one s keys count (x .ascending) j r j-below h (rw (key-is j j-below) at q ∙ sym e) in omega arith in
-      let f = find-first s key (suc (length (drop 1 (drop layers s)))) (layers + 1) r (x .wide) (rw key-count h) at-key others in
+      let f = find-first s key (suc (length (drop 1 s))) 1 r (x .wide) (rw key-count h) at-key others in
       ap (stringIn s) (whole key ∙ f .1) ∙ rw (key-is r h) refl
 
-  pub indexed-none : (root : ℕ) → ((i : ℕ) → i < count → cut s (getD keys i 0) 32 ≡ cut s root 32 → ⊥) → layerAt s layers root ≡ NoString
+  pub indexed-none : (key : List ℕ) → ((i : ℕ) → i < count → cut s (getD keys i 0) 32 ≡ key → ⊥) → layerAt s key ≡ NoString
   unfolding layerAt layerKeys keysWide
-  indexed-none root h =
-      let key = cut s root 32 in
-      let none : (i : ℕ) → i < length (layerKeys s layers) → cut s (getD (layerKeys s layers) i 0) 32 ≡ key → ⊥ =
+  indexed-none key h =
+      let none : (i : ℕ) → i < length (layerKeys s) → cut s (getD (layerKeys s) i 0) 32 ≡ key → ⊥ =
       λ i l q. let i-below : i < count = rw key-count at l in h i i-below (rw (key-is i i-below) at q) in
-      ap (stringIn s) (whole key ∙ find-none s key (suc (length (drop 1 (drop layers s)))) (layers + 1) (x .wide) none)
+      ap (stringIn s) (whole key ∙ find-none s key (suc (length (drop 1 s))) 1 (x .wide) none)

@@ -8,18 +8,19 @@ use Prim.Native.Nat.{ℕ, zero, suc, _+_, _-_, _≤_, _<_}
 use native.Mathlib.Omega.{arith}
 use native.Mathlib.Numerals.{add-one}
 use lib.ListN.{length, drop, take, getD, length-append}
-use lib.Seq.{drop-drop, getD-take, length-take-le}
+use lib.Seq.{getD-take, length-take-le}
 use lib.Dec.{eqb}
 use borrow.Author.Tests.{eqb-true}
 use Rattle.octets.specs.Octets.{cut}
-use Rattle.bencode.specs.Grammar.{colon, letterD, maxLevels, Value, dictionary, Entries, noEntries, entry, decimal, encodeString, encode, encodeEntries, precedes, KeyBefore, none, after, Valid, EntriesValid}
+use Rattle.limits.specs.Limits.{maxLevels}
+use Rattle.bencode.specs.Grammar.{colon, letterD, Value, dictionary, Entries, noEntries, entry, decimal, encodeString, encode, encodeEntries, precedes, KeyBefore, none, after, Valid, EntriesValid}
 use Rattle.bencode.specs.Parts.{readEntry}
 use Rattle.bencode.specs.CompleteLaws.{contentStart, string-some, dictionary-bytes}
 use Rattle.bencode.specs.PartsLaws.{valueStart, entry-is, entry-none, entry-ends, dictionary-is}
 use Rattle.bencode.specs.DepthLaws.{more-levels, entries-more-levels}
 use Rattle.bencode.specs.declared.parts.Entry.{Entry}
 use Rattle.bencode.specs.declared.parts.Entry.the-variants.{Keyed, NoEntry}
-use Rattle.roots.specs.Roots.{stringsAt, Ascending}
+use Rattle.sorting.specs.Sorting.{stringsAt, Ascending}
 use Rattle.layers.specs.Layers.{keysOn, keysFrom, wideOn, wideFrom, layerKeys, keysWide, Indexed}
 
 -- the keys of a dictionary, in order
@@ -127,51 +128,51 @@ taken keys all count room e =
     (sym (length-take-le count keys room) ∙ ap length e, λ i h. sym (getD-take count keys i 0 h) ∙ ap (λ (l : List ℕ). getD l i 0) e)
 
 -- keys of 32 bytes lie within the bytes, in an array that begins with their positions
-pub keys-within : (s : List ℕ) (layers : ℕ) → keysWide s layers ≡ true → (keys : List ℕ) (count : ℕ) → count ≤ length keys → take count keys ≡ layerKeys s layers
+pub keys-within : (s : List ℕ) → keysWide s ≡ true → (keys : List ℕ) (count : ℕ) → count ≤ length keys → take count keys ≡ layerKeys s
     → (i : ℕ) → i < count → getD keys i 0 + 32 ≤ length s
 unfolding layerKeys keysWide
-keys-within s layers w keys count room e i h =
-    let t = taken keys (layerKeys s layers) count room e in
-    rw (t .1 i h) (from-within s (suc (length (drop 1 (drop layers s)))) (layers + 1) w i (omega (arith, t .0)))
+keys-within s w keys count room e i h =
+    let t = taken keys (layerKeys s) count room e in
+    rw (t .1 i h) (from-within s (suc (length (drop 1 s))) 1 w i (omega (arith, t .0)))
 
-module _ (s : List ℕ) (layers : ℕ) (es : Entries) (r : List ℕ) (bytes : drop layers s ≡ encode (dictionary es) ++ r) (l : ℕ) (low : l ≤ maxLevels) (valid : Valid (dictionary es) l) where
+module _ (s : List ℕ) (es : Entries) (r : List ℕ) (bytes : s ≡ encode (dictionary es) ++ r) (l : ℕ) (low : l ≤ maxLevels) (valid : Valid (dictionary es) l) where
   levels : EntriesValid es none maxLevels
   unfolding Valid
   levels = entries-more-levels es none (maxLevels - 1) maxLevels (omega arith) (more-levels (dictionary es) l maxLevels low valid)
 
-  all-stand : KeysStand s (layerKeys s layers) es × (keysWide s layers ≡ allWide es)
+  all-stand : KeysStand s (layerKeys s) es × (keysWide s ≡ allWide es)
   unfolding layerKeys keysWide
   all-stand =
       let front : encode (dictionary es) ++ r ≡ letterD ∷ (encodeEntries es ++ r) = ap (λ (t : List ℕ). t ++ r) (dictionary-bytes es) in
-      let behind : drop 1 (drop layers s) ≡ encodeEntries es ++ r = ap (λ (t : List ℕ). drop 1 t) (bytes ∙ front) in
-      let size : length (drop 1 (drop layers s)) ≡ length (encodeEntries es ++ r) = ap length behind in
-      from-stand s es none (suc (length (drop 1 (drop layers s)))) (layers + 1) r (sym (drop-drop 1 layers s) ∙ behind) levels
+      let behind : drop 1 s ≡ encodeEntries es ++ r = ap (λ (t : List ℕ). drop 1 t) (bytes ∙ front) in
+      let size : length (drop 1 s) ≡ length (encodeEntries es ++ r) = ap length behind in
+      from-stand s es none (suc (length (drop 1 s))) 1 r behind levels
       (omega (arith, length-append (encodeEntries es) r))
 
   -- each key stands at its position
-  pub keys-stand : KeysStand s (layerKeys s layers) es
+  pub keys-stand : KeysStand s (layerKeys s) es
   keys-stand = all-stand .0
 
   -- each key has 32 bytes exactly if it is so of the entries
-  pub keys-wide : keysWide s layers ≡ allWide es
+  pub keys-wide : keysWide s ≡ allWide es
   keys-wide = all-stand .1
 
   -- there are as many as entries
-  pub keys-count : length (layerKeys s layers) ≡ length (entryKeys es)
-  keys-count = stand-count s (layerKeys s layers) es keys-stand
+  pub keys-count : length (layerKeys s) ≡ length (entryKeys es)
+  keys-count = stand-count s (layerKeys s) es keys-stand
 
   -- keys of 32 bytes are the strings at their positions
-  pub keys-strings : keysWide s layers ≡ true → stringsAt s (layerKeys s layers) ≡ entryKeys es
-  keys-strings w = stand-strings s (layerKeys s layers) es keys-stand (sym keys-wide ∙ w)
+  pub keys-strings : keysWide s ≡ true → stringsAt s (layerKeys s) ≡ entryKeys es
+  keys-strings w = stand-strings s (layerKeys s) es keys-stand (sym keys-wide ∙ w)
 
   -- and ascend, in an array that begins with their positions
-  pub keys-ascending : keysWide s layers ≡ true → (keys : List ℕ) (count : ℕ) → count ≤ length keys → take count keys ≡ layerKeys s layers → Ascending s keys count
+  pub keys-ascending : keysWide s ≡ true → (keys : List ℕ) (count : ℕ) → count ≤ length keys → take count keys ≡ layerKeys s → Ascending s keys count
   keys-ascending w keys count room e i h =
-      let t = taken keys (layerKeys s layers) count room e in
-      let step = stand-ascending s (layerKeys s layers) es none maxLevels keys-stand (sym keys-wide ∙ w) levels i (omega (arith, t .0)) in
+      let t = taken keys (layerKeys s) count room e in
+      let step = stand-ascending s (layerKeys s) es none maxLevels keys-stand (sym keys-wide ∙ w) levels i (omega (arith, t .0)) in
       rw (t .1 i (omega arith), t .1 (i + 1) h) (rw (add-one i) step)
 
   -- so such an array is the index that a search asks for
-  pub keys-indexed : keysWide s layers ≡ true → (keys : List ℕ) (count : ℕ) → count ≤ length keys → take count keys ≡ layerKeys s layers → Indexed s layers keys count
+  pub keys-indexed : keysWide s ≡ true → (keys : List ℕ) (count : ℕ) → count ≤ length keys → take count keys ≡ layerKeys s → Indexed s keys count
   keys-indexed w keys count room e =
       record { opens = rw (bytes, dictionary-is (dictionary es) r); wide = w; room = room; all = e; ascending = keys-ascending w keys count room e }

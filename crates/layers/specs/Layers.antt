@@ -1,5 +1,5 @@
--- 01, "The torrent", 27 and 28: the piece layers of a torrent s, by the positions of their keys. `layers` is where the dictionary
--- `piece layers` begins.
+-- 01, "The torrent", 27 and 28: the piece layers by the positions of their keys. l is the part of a torrent that the value of
+-- `piece layers` is, t the part that `file tree` is.
 -- Assumes nothing.
 use mathlib.Core.Path.{_≡_}
 use mathlib.Core.Bool.{Bool, true, false, cond, _&&_}
@@ -19,8 +19,8 @@ use Rattle.bencode.specs.declared.parts.Found.{Found}
 use Rattle.bencode.specs.declared.parts.Found.the-variants.{Part, Missing}
 use Rattle.bencode.specs.declared.parts.Entry.{Entry}
 use Rattle.bencode.specs.declared.parts.Entry.the-variants.{Keyed, NoEntry}
-use Rattle.roots.specs.Roots.{Ascending}
-use Rattle.listing.specs.Listing.{Listed}
+use Rattle.sorting.specs.Sorting.{Ascending}
+use Rattle.filetree.specs.Tree.{Listed}
 
 -- ---- a layer by its root
 
@@ -28,9 +28,9 @@ abbrev pub stringIn : List ℕ → Found → ByteString
 stringIn s Missing = NoString
 stringIn s (Part a b) = readString a (drop a s)
 
--- the string that `piece layers` has for the root at r
-unfoldable pub layerAt : List ℕ → ℕ → ℕ → ByteString
-layerAt s layers r = stringIn s (findKey (cut s r 32) layers (drop layers s))
+-- the string that `piece layers` has for a root
+unfoldable pub layerAt : List ℕ → List ℕ → ByteString
+layerAt l root = stringIn l (findKey root 0 l)
 
 -- a string's content lies within the bytes
 abbrev pub Inside : ℕ → ByteString → Type 0
@@ -57,55 +57,57 @@ unfoldable pub wideFrom : ℕ → List ℕ → ℕ → Bool
 wideFrom zero s at = true
 wideFrom (suc steps) s at = wideOn (wideFrom steps s) (readEntry at (drop at s))
 
-unfoldable pub layerKeys : List ℕ → ℕ → List ℕ
-layerKeys s layers = keysFrom (suc (length (drop 1 (drop layers s)))) s (layers + 1)
+unfoldable pub layerKeys : List ℕ → List ℕ
+layerKeys l = keysFrom (suc (length (drop 1 l))) l 1
 
-unfoldable pub keysWide : List ℕ → ℕ → Bool
-keysWide s layers = wideFrom (suc (length (drop 1 (drop layers s)))) s (layers + 1)
+unfoldable pub keysWide : List ℕ → Bool
+keysWide l = wideFrom (suc (length (drop 1 l))) l 1
 
 -- the first `count` of `keys` are where the keys of `piece layers` stand, each of 32 bytes, in ascending order
-pub record Indexed (s : List ℕ) (layers : ℕ) (keys : List ℕ) (count : ℕ) : Type 0 where
-  pub opens : isDictionary (drop layers s) ≡ true
-  pub wide : keysWide s layers ≡ true
+pub record Indexed (l keys : List ℕ) (count : ℕ) : Type 0 where
+  pub opens : isDictionary l ≡ true
+  pub wide : keysWide l ≡ true
   pub room : count ≤ length keys
-  pub all : take count keys ≡ layerKeys s layers
-  pub ascending : Ascending s keys count
+  pub all : take count keys ≡ layerKeys l
+  pub ascending : Ascending l keys count
 
 -- ---- the number of one file, and of all
 
 -- 32 bytes for each piece, and the tree over them has the root
-abbrev pub ofLayer : List ℕ → ℕ → ℕ → ℕ → ByteString → ℕ
-ofLayer s plen n r NoString = layersAmiss
-ofLayer s plen n r (Content a b) =
+abbrev pub ofLayer : List ℕ → ℕ → ℕ → List ℕ → ByteString → ℕ
+ofLayer l plen n root NoString = layersAmiss
+ofLayer l plen n root (Content a b) =
     cond (eqb (b - a) (32 * pieceCount n plen))
-    (cond (same (layerRoot (cut s a (b - a)) (pieceLayer plen) (height (blockCount n))) (cut s r 32)) 0 layerDiffers)
+    (cond (same (layerRoot (cut l a (b - a)) (pieceLayer plen) (height (blockCount n))) root) 0 layerDiffers)
     layersAmiss
 
--- of a file of n bytes with its root at r
-unfoldable pub layerNumber : List ℕ → ℕ → ℕ → ℕ → ℕ → ℕ
-layerNumber s layers plen n r = cond (hasLayer n plen) (ofLayer s plen n r (layerAt s layers r)) 0
+-- of a file of n bytes with this root; 0 of one that has no layer
+unfoldable pub layerNumber : List ℕ → ℕ → ℕ → List ℕ → ℕ
+layerNumber l plen n root = cond (hasLayer n plen) (ofLayer l plen n root (layerAt l root)) 0
 
--- the lowest of the files fs and w, which is 0 or 28
-unfoldable pub worst : List ℕ → ℕ → ℕ → ℕ → List Listed → ℕ
-worst s layers plen w [] = w
-worst s layers plen w (f ∷ fs) =
-    cond (eqb (layerNumber s layers plen (f .size) (f .root)) layersAmiss) layersAmiss
-    (worst s layers plen (cond (eqb (layerNumber s layers plen (f .size) (f .root)) 0) w layerDiffers) fs)
+-- of two numbers that are 0, 27 or 28 the lowest that is not 0
+unfoldable pub lower : ℕ → ℕ → ℕ
+lower w n = cond (eqb w layersAmiss) w (cond (eqb n 0) w n)
+
+-- the lowest of the files fs and w
+unfoldable pub worst : List ℕ → List ℕ → ℕ → ℕ → List Listed → ℕ
+worst t l plen w [] = w
+worst t l plen w (f ∷ fs) = worst t l plen (lower w (layerNumber l plen (f .size) (cut t (f .root) 32))) fs
 
 -- ---- what is answered of a file
 
 -- an empty file has the root of 32 zero bytes
 unfoldable pub rootBytes : List ℕ → ℕ → ℕ → List ℕ
-rootBytes s n r = cond (eqb n 0) zeroHash (cut s r 32)
+rootBytes t n r = cond (eqb n 0) zeroHash (cut t r 32)
 
 -- only a file longer than the piece length has a layer
-unfoldable pub layerString : List ℕ → ℕ → ℕ → ℕ → ℕ → ByteString
-layerString s layers plen n r = cond (hasLayer n plen) (layerAt s layers r) NoString
+unfoldable pub layerString : List ℕ → ℕ → ℕ → List ℕ → ByteString
+layerString l plen n root = cond (hasLayer n plen) (layerAt l root) NoString
 
--- where a string's content begins, and its size; 0 and 0 where there is none
-abbrev pub startOf : ByteString → ℕ
-startOf NoString = 0
-startOf (Content a b) = a
+-- where a string's content begins in the torrent, of which l begins at `base`, and its size; 0 and 0 where there is none
+abbrev pub startOf : ℕ → ByteString → ℕ
+startOf base NoString = 0
+startOf base (Content a b) = base + a
 
 abbrev pub sizeOf : ByteString → ℕ
 sizeOf NoString = 0

@@ -1,13 +1,14 @@
-// The piece layers of a torrent: where their keys stand, a layer found by its root, and whether it is what its file needs.
+// The piece layers of a torrent: where their keys stand, a layer found by its root, and whether it is what its file needs. `l` is the part
+// of the torrent that the value of `piece layers` is, `t` the part that `file tree` is.
 use bencode::parts::Entry;
 use bencode::parts::read_entry;
 use bencode::scalar::ByteString;
 use bencode::scalar::read_string;
-use files::walk::Next;
-use files::walk::PATH;
-use files::walk::next_file;
+use filetree::count::ELEMENTS;
+use filetree::token::Token;
+use filetree::token::read_token;
 use octets::hash_at;
-use roots::halving::search;
+use sorting::halving::search;
 use tree::geometry::block_count;
 use tree::geometry::has_layer;
 use tree::geometry::height;
@@ -15,31 +16,32 @@ use tree::geometry::piece_count;
 use tree::geometry::piece_layer;
 use tree::values::layer_node;
 ghost use mathlib.Core.Path.{_≡_};
-ghost use mathlib.Core.Bool.{true, cond, _&&_};
-ghost use Prim.Native.Nat.{_+_, _*_, _-_, _^_, _≤_, _<_};
+ghost use mathlib.Core.Bool.{true, _&&_};
+ghost use Prim.Native.Nat.{_+_, _*_, _-_, _≤_, _<_};
 ghost use lib.ListN as L;
 ghost use lib.ListN.{take};
 ghost use lib.Dec.{eqb};
+ghost use Rattle.limits.specs.Limits.{longestFile, largestTorrent};
 ghost use Rattle.octets.specs.Octets.{cut, same};
-ghost use Rattle.numbers.specs.Numbers.{layerDiffers};
 ghost use Rattle.tree.specs.Geometry as G;
 ghost use Rattle.tree.specs.Geometry.{blockCount, isPieceLength, pieceLayer, hasLayer};
 ghost use Rattle.tree.specs.Values.{layerRoot};
-ghost use Rattle.listing.specs.Listing.{filesIn, right, listed};
-ghost use Rattle.layers.specs.Layers.{layerKeys, keysWide, Indexed, Inside, layerAt, ofLayer, layerNumber, worst};
+ghost use Rattle.filetree.specs.Tree.{filesIn, right, listed};
+ghost use Rattle.layers.specs.Layers.{layerKeys, keysWide, Indexed, Inside, layerAt, ofLayer, layerNumber, lower, worst};
+ghost use Rattle.layers.specs.JudgeLaws.{Judges};
 
-// A root has so many bytes.
+// A pieces root, and so each key of `piece layers`, has 32 bytes.
 const ROOT: usize = 32;
 
-// Whether the dictionary at `layers` has `most` keys, each of 32 bytes; if so, where they stand is left in `keys`, in order.
-pub fn index(s: &[u8], layers: usize, keys: &mut [u32], most: usize) -> bool
-    requires { ⌜ (L.length (now s) ≤ 2 ^ 20) × (layers < L.length (now s)) × (most ≤ L.length (now keys)) ⌝ }
-    ensures { λ r. ⌜ (r ≡ (keysWide (now (s .entry)) layers && eqb (L.length (layerKeys (now (s .entry)) layers)) most)) × (r ≡ true → take most (now (keys .exit)) ≡ layerKeys (now (s .entry)) layers) ⌝ }
+// Whether the dictionary l has `most` keys, each of 32 bytes; if so, where they stand is left in `keys`, in order.
+pub fn index(l: &[u8], keys: &mut [u32], most: usize) -> bool
+    requires { ⌜ (L.length (now l) ≤ largestTorrent) × (most ≤ L.length (now keys)) ⌝ }
+    ensures { λ r. ⌜ (r ≡ (keysWide (now (l .entry)) && eqb (L.length (layerKeys (now (l .entry)))) most)) × (r ≡ true → take most (now (keys .exit)) ≡ layerKeys (now (l .entry))) ⌝ }
 {
-    let mut i = layers + 1;
+    let mut i = 1;
     let mut n = 0;
-    while i < s.len() {
-        match read_entry(s, i) {
+    while i < l.len() {
+        match read_entry(l, i) {
             Entry::NoEntry => {
                 return n == most;
             }
@@ -59,44 +61,44 @@ pub fn index(s: &[u8], layers: usize, keys: &mut [u32], most: usize) -> bool
     n == most
 }
 
-// The string that the dictionary at `layers` has for the root at `root`.
-pub fn find_layer(s: &[u8], layers: usize, keys: &[u32], count: usize, root: usize) -> ByteString
-    requires { ⌜ Indexed (now s) layers (now keys) count × (root + 32 ≤ L.length (now s)) ⌝ }
-    ensures { λ r. ⌜ r ≡ layerAt (now (s .entry)) layers root ⌝ }
+// The string that the dictionary l has for a root.
+pub fn find_layer(l: &[u8], keys: &[u32], count: usize, root: &[u8]) -> ByteString
+    requires { ⌜ Indexed (now l) (now keys) count ⌝ }
+    ensures { λ r. ⌜ r ≡ layerAt (now (l .entry)) (now (root .entry)) ⌝ }
 {
-    let i = search(s, keys, count, root);
+    let i = search(l, keys, count, root);
     if i < count {
         let key = keys[i] as usize;
-        return read_string(s, key + ROOT);
+        return read_string(l, key + ROOT);
     }
     ByteString::NoString
 }
 
-// Whether the layer of a file of n bytes gives the root at `root`.
-fn gives_root(s: &[u8], layer: &[u8], plen: usize, n: usize, root: usize) -> bool
-    requires { ⌜ (isPieceLength plen ≡ true) × (hasLayer n plen ≡ true) × (root + 32 ≤ L.length (now s)) ⌝ }
-    ensures { λ r. ⌜ r ≡ same (layerRoot (now (layer .entry)) (pieceLayer plen) (G.height (blockCount n))) (cut (now (s .entry)) root 32) ⌝ }
+// Whether the layer of a file of n bytes gives its root.
+fn gives_root(layer: &[u8], plen: usize, n: usize, root: &[u8]) -> bool
+    requires { ⌜ (isPieceLength plen ≡ true) × (hasLayer n plen ≡ true) × (L.length (now root) ≡ 32) ⌝ }
+    ensures { λ r. ⌜ r ≡ same (layerRoot (now (layer .entry)) (pieceLayer plen) (G.height (blockCount n))) (now (root .entry)) ⌝ }
 {
     let p = piece_layer(plen);
     let b = block_count(n);
     let h = height(b);
     let k = h - p;
     let worked = layer_node(layer, p, k, 0);
-    let mine = hash_at(s, root);
+    let mine = hash_at(root, 0);
     octets::same(worked, mine)
 }
 
-// 0, 27 or 28 of a file of n bytes, with its root at `root`, by its layer.
-fn of_layer(s: &[u8], plen: usize, n: usize, root: usize, layer: ByteString) -> u32
-    requires { ⌜ (isPieceLength plen ≡ true) × (hasLayer n plen ≡ true) × (n ≤ 2 ^ 30) × (root + 32 ≤ L.length (now s)) × Inside (L.length (now s)) layer ⌝ }
-    ensures { λ r. ⌜ r ≡ ofLayer (now (s .entry)) plen n root layer ⌝ }
+// 0, 27 or 28 of a file of n bytes by its layer.
+fn of_layer(l: &[u8], plen: usize, n: usize, root: &[u8], layer: ByteString) -> u32
+    requires { ⌜ (isPieceLength plen ≡ true) × (hasLayer n plen ≡ true) × (n ≤ longestFile) × (L.length (now root) ≡ 32) × Inside (L.length (now l)) layer ⌝ }
+    ensures { λ r. ⌜ r ≡ ofLayer (now (l .entry)) plen n (now (root .entry)) layer ⌝ }
 {
     match layer {
         ByteString::NoString => numbers::LAYERS_AMISS,
         ByteString::Content { start, end } => {
             let pieces = piece_count(n, plen);
             if end - start == 32 * pieces {
-                if gives_root(s, &s[start..end], plen, n, root) {
+                if gives_root(&l[start..end], plen, n, root) {
                     return 0;
                 }
                 return numbers::LAYER_DIFFERS;
@@ -106,75 +108,129 @@ fn of_layer(s: &[u8], plen: usize, n: usize, root: usize, layer: ByteString) -> 
     }
 }
 
-// The same, its layer to be found; 0 of a file that has none.
-fn layer_number(
-    s: &[u8],
-    layers: usize,
-    keys: &[u32],
-    count: usize,
-    plen: usize,
-    n: usize,
-    root: usize,
-) -> u32
-    requires { ⌜ Indexed (now s) layers (now keys) count × (isPieceLength plen ≡ true) × (n ≤ 2 ^ 30) × ((n ≡ 0 → ⊥) → root + 32 ≤ L.length (now s)) ⌝ }
-    ensures { λ r. ⌜ r ≡ layerNumber (now (s .entry)) layers plen n root ⌝ }
+// What the layers are judged by: how many keys there are, the piece length, and the number so far.
+pub struct Judging {
+    pub count: usize,
+    pub plen: usize,
+    pub number: u32,
+}
+
+// The position past a directory and the number then; or something in it is wrong.
+pub enum Numbered {
+    Past { next: usize, number: u32 },
+    WrongTree,
+}
+
+// 0, 27 or 28 of a file of n bytes with its root at `root`: 0 if it is not longer than the piece length.
+fn layer_number(t: &[u8], l: &[u8], keys: &[u32], job: Judging, n: usize, root: usize) -> u32
+    requires { ⌜ Indexed (now l) (now keys) (job .count) × (isPieceLength (job .plen) ≡ true) × (n ≤ longestFile) × ((n ≡ 0 → ⊥) → root + 32 ≤ L.length (now t)) ⌝ }
+    ensures { λ r. ⌜ r ≡ layerNumber (now (l .entry)) (job .plen) n (cut (now (t .entry)) root 32) ⌝ }
 {
+    let plen = job.plen;
     if has_layer(n, plen) {
-        let layer = find_layer(s, layers, keys, count, root);
-        return of_layer(s, plen, n, root, layer);
+        let past = root + ROOT;
+        let layer = find_layer(l, keys, job.count, &t[root..past]);
+        return of_layer(l, plen, n, &t[root..past], layer);
     }
     0
 }
 
-// 28 if a file has it, else the number before.
-fn raised(number: u32, n: u32) -> u32
-    ensures { λ r. ⌜ r ≡ cond (eqb n 0) number layerDiffers ⌝ }
+// The lower of two numbers that are 0, 27 or 28, where 0 is no number.
+fn lower_of(number: u32, n: u32) -> u32
+    ensures { λ r. ⌜ r ≡ lower number n ⌝ }
 {
+    if number == numbers::LAYERS_AMISS {
+        return number;
+    }
     if n == 0 {
         return number;
     }
-    numbers::LAYER_DIFFERS
+    n
 }
 
-// 0, 27 or 28 of all files of the `file tree` at `tree`.
-pub fn judge_layers(
-    s: &[u8],
-    tree: usize,
-    layers: usize,
+// The same of the files of a directory, from its first entry on, with so many levels left below it.
+fn judge_directory(
+    t: &[u8],
+    at: usize,
+    levels: usize,
+    l: &[u8],
     keys: &[u32],
-    count: usize,
-    plen: usize,
-) -> u32
-    requires { ⌜ Indexed (now s) layers (now keys) count × (isPieceLength plen ≡ true) × (right (filesIn (now s) tree) ≡ true) ⌝ }
-    ensures { λ r. ⌜ r ≡ worst (now (s .entry)) layers plen 0 (listed (filesIn (now (s .entry)) tree)) ⌝ }
+    job: Judging,
+) -> Numbered
+    requires { ⌜ Indexed (now l) (now keys) (job .count) × (isPieceLength (job .plen) ≡ true) ⌝ }
+    ensures { λ r. ⌜ Judges (now (t .entry)) at levels (now (l .entry)) (job .plen) (job .number) r ⌝ }
 {
-    let mut path = [0usize; PATH];
-    let mut at = tree + 1;
-    let mut depth = 0;
-    let mut number = 0;
-    while at < s.len() {
-        match next_file(s, at, depth, &mut path) {
-            Next::WrongTree => {
-                return number;
+    if levels == 0 {
+        return Numbered::WrongTree;
+    }
+    let below = levels - 1;
+    let count = job.count;
+    let plen = job.plen;
+    let mut number = job.number;
+    let mut i = at;
+    while i < t.len() {
+        match read_token(t, i) {
+            Token::BadToken => {
+                return Numbered::WrongTree;
             }
-            Next::NoMore => {
-                return number;
+            Token::Closed => {
+                return Numbered::Past {
+                    next: i + 1,
+                    number,
+                };
             }
-            Next::Placed {
+            Token::Leaf {
+                start: _,
+                end: _,
                 length,
                 root,
-                at: next,
-                depth: open,
+                next,
             } => {
-                let n = layer_number(s, layers, keys, count, plen, length, root);
-                if n == numbers::LAYERS_AMISS {
-                    return n;
+                let here = Judging {
+                    count,
+                    plen,
+                    number,
+                };
+                let n = layer_number(t, l, keys, here, length, root);
+                number = lower_of(number, n);
+                i = next;
+            }
+            Token::Opened { start: _, end } => {
+                let here = Judging {
+                    count,
+                    plen,
+                    number,
+                };
+                match judge_directory(t, end + 1, below, l, keys, here) {
+                    Numbered::Past {
+                        next,
+                        number: inside,
+                    } => {
+                        number = inside;
+                        i = next;
+                    }
+                    Numbered::WrongTree => {
+                        return Numbered::WrongTree;
+                    }
                 }
-                number = raised(number, n);
-                at = next;
-                depth = open;
             }
         }
     }
-    number
+    Numbered::WrongTree
+}
+
+// 0, 27 or 28 of all files of the tree t.
+pub fn judge_layers(t: &[u8], l: &[u8], keys: &[u32], count: usize, plen: usize) -> u32
+    requires { ⌜ Indexed (now l) (now keys) count × (isPieceLength plen ≡ true) × (right (filesIn (now t)) ≡ true) ⌝ }
+    ensures { λ r. ⌜ r ≡ worst (now (t .entry)) (now (l .entry)) plen 0 (listed (filesIn (now (t .entry)))) ⌝ }
+{
+    let job = Judging {
+        count,
+        plen,
+        number: 0,
+    };
+    match judge_directory(t, 1, ELEMENTS, l, keys, job) {
+        Numbered::Past { next: _, number } => number,
+        Numbered::WrongTree => 0, // not of a right tree
+    }
 }

@@ -2,32 +2,33 @@
 -- Assumes nothing.
 use mathlib.Core.Bool.{Bool, true, false, cond, _&&_, _||_, not}
 use mathlib.Core.List.{List, [], _∷_, _++_}
-use Prim.Native.Nat.{ℕ, zero, suc, _+_, _*_, _^_}
+use Prim.Native.Nat.{ℕ, _+_, _*_}
 use lib.ListN.{length}
-use lib.Dec.{eqb, leb, ltb}
+use lib.Dec.{eqb, leb}
+use Rattle.limits.specs.Limits.{longestFile}
+use Rattle.meaning.specs.Keys.{keyLength, keyPiecesRoot, keyInfo, keyFileTree, keyPieceLength, keyMetaVersion, keyPieceLayers}
 use Rattle.octets.specs.Octets.{same, zeroHash}
+use Rattle.numbers.specs.Numbers.{keyMissing, otherVersion, pieceLengthOutOfRange, wrongTree, sameRoot, layersAmiss, layerDiffers}
 use Rattle.tree.specs.Geometry.{blockCount, height, isPieceLength, pieceLayer, pieceCount, hasLayer}
 use Rattle.tree.specs.Values.{layerRoot}
-use Rattle.bencode.specs.Grammar.{Value, integer, string, list, dictionary, Items, Entries, noEntries, entry}
+use Rattle.bencode.specs.Grammar.{Value, integer, string, list, dictionary, Entries, noEntries, entry}
 use Rattle.bencode.specs.Parts.{Lookup, absent, present, lookup}
-use Rattle.files.specs.File.{keyLength, keyPiecesRoot, maxFileLength}
-use Rattle.metainfo.specs.Metainfo.{keyInfo, keyFileTree, keyPieceLength, keyMetaVersion, keyPieceLayers}
 
 -- ---- 22: the five keys, each of its type
 
-abbrev pub isDictionary : Lookup → Bool
-isDictionary absent = false
-isDictionary (present (dictionary es)) = true
-isDictionary (present (integer minus n)) = false
-isDictionary (present (string b)) = false
-isDictionary (present (list vs)) = false
+abbrev pub hasDictionary : Lookup → Bool
+hasDictionary absent = false
+hasDictionary (present (dictionary es)) = true
+hasDictionary (present (integer minus n)) = false
+hasDictionary (present (string b)) = false
+hasDictionary (present (list vs)) = false
 
-abbrev pub isInteger : Lookup → Bool
-isInteger absent = false
-isInteger (present (integer minus n)) = true
-isInteger (present (dictionary es)) = false
-isInteger (present (string b)) = false
-isInteger (present (list vs)) = false
+abbrev pub hasInteger : Lookup → Bool
+hasInteger absent = false
+hasInteger (present (integer minus n)) = true
+hasInteger (present (dictionary es)) = false
+hasInteger (present (string b)) = false
+hasInteger (present (list vs)) = false
 
 -- what is found, or nothing where it is of another type
 abbrev pub entriesOf : Lookup → Entries
@@ -64,13 +65,16 @@ isNatural (present (list vs)) = false
 abbrev pub infoOf : Entries → Entries
 infoOf torrent = entriesOf (lookup keyInfo torrent)
 
+abbrev pub treeOf : Entries → Entries
+treeOf torrent = entriesOf (lookup keyFileTree (infoOf torrent))
+
 unfoldable pub hasKeys : Entries → Bool
 hasKeys torrent =
-    isDictionary (lookup keyInfo torrent)
-    && isDictionary (lookup keyFileTree (infoOf torrent))
-    && isInteger (lookup keyPieceLength (infoOf torrent))
-    && isInteger (lookup keyMetaVersion (infoOf torrent))
-    && isDictionary (lookup keyPieceLayers torrent)
+    hasDictionary (lookup keyInfo torrent)
+    && hasDictionary (lookup keyFileTree (infoOf torrent))
+    && hasInteger (lookup keyPieceLength (infoOf torrent))
+    && hasInteger (lookup keyMetaVersion (infoOf torrent))
+    && hasDictionary (lookup keyPieceLayers torrent)
 
 -- ---- 25: the file tree
 
@@ -87,11 +91,16 @@ rootRight false (present (dictionary es)) = false
 -- the value of an empty key
 unfoldable pub fileRight : Value → Bool
 fileRight (dictionary es) =
-    isNatural (lookup keyLength es) && leb (numberOf (lookup keyLength es)) maxFileLength
+    isNatural (lookup keyLength es) && leb (numberOf (lookup keyLength es)) longestFile
     && rootRight (eqb (numberOf (lookup keyLength es)) 0) (lookup keyPiecesRoot es)
 fileRight (integer minus n) = false
 fileRight (string b) = false
 fileRight (list vs) = false
+
+-- a path element, of files and directories alike
+unfoldable pub elementRight : List ℕ → Bool
+elementRight [] = false
+elementRight (c ∷ cs) = true
 
 abbrev pub noMore : Entries → Bool
 noMore noEntries = true
@@ -108,12 +117,11 @@ unfoldable mutual
   pub branchRight : Entries → Bool
   branchRight noEntries = false
   branchRight (entry [] v es) = noMore es && fileRight v
-  branchRight (entry (c ∷ cs) v es) = nodeRight v && nodesRight es
+  branchRight (entry (c ∷ cs) v es) = elementRight (c ∷ cs) && (nodeRight v && nodesRight es)
 
   pub nodesRight : Entries → Bool
   nodesRight noEntries = true
-  nodesRight (entry [] v es) = false
-  nodesRight (entry (c ∷ cs) v es) = nodeRight v && nodesRight es
+  nodesRight (entry k v es) = elementRight k && (nodeRight v && nodesRight es)
 
 -- `file tree` itself is a directory
 unfoldable pub treeRight : Entries → Bool
@@ -127,31 +135,31 @@ pub record File : Type 0 where
   pub root : List ℕ
   pub path : List (List ℕ)
 
-abbrev pub rootOf : Lookup → List ℕ
-rootOf (present (string r)) = r
-rootOf absent = zeroHash
-rootOf (present (integer minus n)) = zeroHash
-rootOf (present (list vs)) = zeroHash
-rootOf (present (dictionary es)) = zeroHash
+abbrev pub rootString : Lookup → List ℕ
+rootString (present (string r)) = r
+rootString absent = zeroHash
+rootString (present (integer minus n)) = zeroHash
+rootString (present (list vs)) = zeroHash
+rootString (present (dictionary es)) = zeroHash
 
-abbrev pub fileAt : List (List ℕ) → Entries → File
-fileAt path es = record { size = numberOf (lookup keyLength es); root = rootOf (lookup keyPiecesRoot es); path = path }
+abbrev pub fileValue : List (List ℕ) → Entries → File
+fileValue path es = record { size = numberOf (lookup keyLength es); root = rootString (lookup keyPiecesRoot es); path = path }
 
 unfoldable mutual
-  pub filesBelow : List (List ℕ) → Value → List File
-  filesBelow path (dictionary es) = filesIn path es
-  filesBelow path (integer minus n) = []
-  filesBelow path (string b) = []
-  filesBelow path (list vs) = []
+  pub filesOfNode : List (List ℕ) → Value → List File
+  filesOfNode path (dictionary es) = filesOfEntries path es
+  filesOfNode path (integer minus n) = []
+  filesOfNode path (string b) = []
+  filesOfNode path (list vs) = []
 
   -- an empty key is no path element
-  pub filesIn : List (List ℕ) → Entries → List File
-  filesIn path noEntries = []
-  filesIn path (entry [] v es) = fileAt path (entriesOf (present v)) ∷ []
-  filesIn path (entry (c ∷ cs) v es) = filesBelow (path ++ ((c ∷ cs) ∷ [])) v ++ filesIn path es
+  pub filesOfEntries : List (List ℕ) → Entries → List File
+  filesOfEntries path noEntries = []
+  filesOfEntries path (entry [] v es) = fileValue path (entriesOf (present v)) ∷ []
+  filesOfEntries path (entry (c ∷ cs) v es) = filesOfNode (path ++ ((c ∷ cs) ∷ [])) v ++ filesOfEntries path es
 
 abbrev pub filesOf : Entries → List File
-filesOf torrent = filesIn [] (entriesOf (lookup keyFileTree (infoOf torrent)))
+filesOf torrent = filesOfEntries [] (treeOf torrent)
 
 -- ---- 26: no two non-empty files with one root
 
@@ -186,12 +194,12 @@ noOthers plen fs (entry root v es) = someLonger plen root fs && noOthers plen fs
 
 -- ---- 28: each layer gives its root
 
-abbrev pub layerOf : Lookup → List ℕ
-layerOf (present (string b)) = b
-layerOf absent = []
-layerOf (present (integer minus n)) = []
-layerOf (present (list vs)) = []
-layerOf (present (dictionary es)) = []
+abbrev pub layerBytes : Lookup → List ℕ
+layerBytes (present (string b)) = b
+layerBytes absent = []
+layerBytes (present (integer minus n)) = []
+layerBytes (present (list vs)) = []
+layerBytes (present (dictionary es)) = []
 
 abbrev pub givesRoot : ℕ → File → List ℕ → Bool
 givesRoot plen f layer = same (layerRoot layer (pieceLayer plen) (height (blockCount (f .size)))) (f .root)
@@ -199,7 +207,7 @@ givesRoot plen f layer = same (layerRoot layer (pieceLayer plen) (height (blockC
 unfoldable pub layersGiveRoots : ℕ → Entries → List File → Bool
 layersGiveRoots plen layers [] = true
 layersGiveRoots plen layers (f ∷ fs) =
-    (not (hasLayer (f .size) plen) || givesRoot plen f (layerOf (lookup (f .root) layers))) && layersGiveRoots plen layers fs
+    (not (hasLayer (f .size) plen) || givesRoot plen f (layerBytes (lookup (f .root) layers))) && layersGiveRoots plen layers fs
 
 -- ---- the number, the lowest
 
@@ -214,15 +222,15 @@ valueNumber torrent =
     cond (hasKeys torrent)
     (cond (isNumber 2 (lookup keyMetaVersion (infoOf torrent)))
     (cond (isPieceLength (plenOf torrent))
-    (cond (treeRight (entriesOf (lookup keyFileTree (infoOf torrent))))
+    (cond (treeRight (treeOf torrent))
     (cond (rootsApart (filesOf torrent))
     (cond (layersFit (plenOf torrent) (layersOf torrent) (filesOf torrent) && noOthers (plenOf torrent) (filesOf torrent) (layersOf torrent))
     (cond (layersGiveRoots (plenOf torrent) (layersOf torrent) (filesOf torrent))
     0
-    28)
-    27)
-    26)
-    25)
-    24)
-    23)
-    22
+    layerDiffers)
+    layersAmiss)
+    sameRoot)
+    wrongTree)
+    pieceLengthOutOfRange)
+    otherVersion)
+    keyMissing

@@ -1,46 +1,33 @@
 -- 01, "The torrent": the keys of a torrent s by their positions, and the numbers 19 to 24.
 -- Assumes nothing.
 use mathlib.Core.Bool.{Bool, true, false, cond}
-use mathlib.Core.List.{List, [], _∷_}
-use Prim.Native.Nat.{ℕ, zero, suc, _^_}
+use mathlib.Core.List.{List}
+use Prim.Native.Nat.{ℕ, zero, suc, _-_}
 use lib.ListN.{length, drop}
 use lib.Dec.{eqb, leb}
+use Rattle.octets.specs.Octets.{cut}
+use Rattle.limits.specs.Limits.{largestTorrent}
 use Rattle.numbers.specs.Numbers.{torrentTooLarge, keyMissing, otherVersion, pieceLengthOutOfRange}
 use Rattle.tree.specs.Geometry.{isPieceLength}
 use Rattle.bencode.specs.Scalar.{readInteger}
 use Rattle.bencode.specs.Strict.{strictness}
 use Rattle.bencode.specs.Parts.{isDictionary, findKey}
+use Rattle.meaning.specs.Keys.{keyInfo, keyFileTree, keyPieceLength, keyMetaVersion, keyPieceLayers}
 use Rattle.bencode.specs.declared.scalar.Integer.{Integer}
 use Rattle.bencode.specs.declared.scalar.Integer.the-variants.{Whole, NoInteger}
 use Rattle.bencode.specs.declared.parts.Found.{Found}
 use Rattle.bencode.specs.declared.parts.Found.the-variants.{Part, Missing}
+use Rattle.metainfo.specs.declared.Part.{Part as PartOf}
 use Rattle.metainfo.specs.declared.Keys.{Keys}
 
--- 1 MiB
-abbrev pub maxTorrent : ℕ
-maxTorrent = 2 ^ 20
+-- ---- a part of the torrent
 
--- ---- the keys, as ASCII
+abbrev pub partOf : ℕ → ℕ → PartOf
+partOf a b = record { start = a; end = b }
 
--- `info`
-abbrev pub keyInfo : List ℕ
-keyInfo = 105 ∷ 110 ∷ 102 ∷ 111 ∷ []
-
--- `file tree`
-abbrev pub keyFileTree : List ℕ
-keyFileTree = 102 ∷ 105 ∷ 108 ∷ 101 ∷ 32 ∷ 116 ∷ 114 ∷ 101 ∷ 101 ∷ []
-
--- `piece length`
-abbrev pub keyPieceLength : List ℕ
-keyPieceLength = 112 ∷ 105 ∷ 101 ∷ 99 ∷ 101 ∷ 32 ∷ 108 ∷ 101 ∷ 110 ∷ 103 ∷ 116 ∷ 104 ∷ []
-
--- `meta version`
-abbrev pub keyMetaVersion : List ℕ
-keyMetaVersion = 109 ∷ 101 ∷ 116 ∷ 97 ∷ 32 ∷ 118 ∷ 101 ∷ 114 ∷ 115 ∷ 105 ∷ 111 ∷ 110 ∷ []
-
--- `piece layers`
-abbrev pub keyPieceLayers : List ℕ
-keyPieceLayers = 112 ∷ 105 ∷ 101 ∷ 99 ∷ 101 ∷ 32 ∷ 108 ∷ 97 ∷ 121 ∷ 101 ∷ 114 ∷ 115 ∷ []
+-- its bytes
+abbrev pub bytesIn : List ℕ → PartOf → List ℕ
+bytesIn s p = cut s (p .start) (p .end - p .start)
 
 -- ---- what is found, if it is of the type
 
@@ -61,45 +48,50 @@ findInteger s at key = integerIn s (findKey key at (drop at s))
 -- ---- the numbers, the lowest
 
 -- beside a refusal all are zero
-abbrev pub noKeys : ℕ → Keys
-noKeys n = record { number = n; info = 0; past = 0; tree = 0; plen = 0; layers = 0 }
+abbrev pub noPart : PartOf
+noPart = partOf 0 0
 
--- a version or piece length below zero is out of range
-unfoldable pub rightKeys : ℕ → ℕ → ℕ → Bool → ℕ → Bool → ℕ → ℕ → Keys
-rightKeys info past tree below plen minus version layers =
+abbrev pub noKeys : ℕ → Keys
+noKeys n = record { number = n; plen = 0; info = noPart; tree = noPart; layers = noPart }
+
+-- where none is missing; a version or piece length below zero is out of range
+unfoldable pub rightKeys : Keys → Bool → Bool → ℕ → Keys
+rightKeys k below minus version =
     cond minus (noKeys otherVersion)
     (cond (eqb version 2)
     (cond below (noKeys pieceLengthOutOfRange)
-    (cond (isPieceLength plen)
-    (record { number = 0; info = info; past = past; tree = tree; plen = plen; layers = layers })
-    (noKeys pieceLengthOutOfRange)))
+    (cond (isPieceLength (k .plen)) k (noKeys pieceLengthOutOfRange)))
     (noKeys otherVersion))
 
-abbrev pub withLayers : ℕ → ℕ → ℕ → Bool → ℕ → Bool → ℕ → Found → Keys
-withLayers info past tree below plen minus version Missing = noKeys keyMissing
-withLayers info past tree below plen minus version (Part layers end) = rightKeys info past tree below plen minus version layers
+abbrev pub withVersion : PartOf → PartOf → PartOf → Bool → ℕ → Integer → Keys
+withVersion info tree layers below plen NoInteger = noKeys keyMissing
+withVersion info tree layers below plen (Whole minus version next) =
+    rightKeys (record { number = 0; plen = plen; info = info; tree = tree; layers = layers }) below minus version
 
-unfoldable pub layerKeys : List ℕ → ℕ → ℕ → ℕ → Bool → ℕ → Bool → ℕ → Keys
-layerKeys s info past tree below plen minus version = withLayers info past tree below plen minus version (findDictionary s 0 keyPieceLayers)
+abbrev pub withPieceLength : List ℕ → PartOf → PartOf → PartOf → Integer → Keys
+withPieceLength s info tree layers NoInteger = noKeys keyMissing
+withPieceLength s info tree layers (Whole below plen next) =
+    withVersion info tree layers below plen (findInteger s (info .start) keyMetaVersion)
 
-abbrev pub withVersion : List ℕ → ℕ → ℕ → ℕ → Bool → ℕ → Integer → Keys
-withVersion s info past tree below plen NoInteger = noKeys keyMissing
-withVersion s info past tree below plen (Whole minus version next) = layerKeys s info past tree below plen minus version
+-- `piece length` and `meta version` of `info`
+unfoldable pub infoKeys : List ℕ → PartOf → PartOf → PartOf → Keys
+infoKeys s info tree layers = withPieceLength s info tree layers (findInteger s (info .start) keyPieceLength)
 
-abbrev pub withPieceLength : List ℕ → ℕ → ℕ → ℕ → Integer → Keys
-withPieceLength s info past tree NoInteger = noKeys keyMissing
-withPieceLength s info past tree (Whole below plen next) = withVersion s info past tree below plen (findInteger s info keyMetaVersion)
+abbrev pub withLayers : List ℕ → PartOf → PartOf → Found → Keys
+withLayers s info tree Missing = noKeys keyMissing
+withLayers s info tree (Part a b) = infoKeys s info tree (partOf a b)
 
-abbrev pub withTree : List ℕ → ℕ → ℕ → Found → Keys
-withTree s info past Missing = noKeys keyMissing
-withTree s info past (Part tree end) = withPieceLength s info past tree (findInteger s info keyPieceLength)
+abbrev pub withTree : List ℕ → PartOf → Found → Keys
+withTree s info Missing = noKeys keyMissing
+withTree s info (Part a b) = withLayers s info (partOf a b) (findDictionary s 0 keyPieceLayers)
 
-unfoldable pub infoKeys : List ℕ → ℕ → ℕ → Keys
-infoKeys s info past = withTree s info past (findDictionary s info keyFileTree)
+-- `file tree` of `info`, and `piece layers`
+unfoldable pub dictionaryKeys : List ℕ → PartOf → Keys
+dictionaryKeys s info = withTree s info (findDictionary s (info .start) keyFileTree)
 
 abbrev pub withInfo : List ℕ → Found → Keys
 withInfo s Missing = noKeys keyMissing
-withInfo s (Part info past) = infoKeys s info past
+withInfo s (Part a b) = dictionaryKeys s (partOf a b)
 
 unfoldable pub keysOf : List ℕ → Keys
 keysOf s = withInfo s (findDictionary s 0 keyInfo)
@@ -110,4 +102,4 @@ ifStrict s zero = keysOf s
 ifStrict s (suc n) = noKeys (suc n)
 
 unfoldable pub metainfoOf : List ℕ → Keys
-metainfoOf s = cond (leb (length s) maxTorrent) (ifStrict s (strictness s)) (noKeys torrentTooLarge)
+metainfoOf s = cond (leb (length s) largestTorrent) (ifStrict s (strictness s)) (noKeys torrentTooLarge)

@@ -5,39 +5,46 @@ use bencode::parts::is_dictionary;
 use bencode::scalar::Integer;
 use bencode::scalar::read_integer;
 use bencode::walk::strict;
+use limits::LARGEST_TORRENT;
 use tree::geometry::is_piece_length;
 ghost use mathlib.Core.Path.{_≡_};
 ghost use lib.ListN.{drop};
 ghost use Rattle.bencode.specs.Parts.{findKey};
-ghost use Rattle.metainfo.specs.Metainfo.{dictionaryIn, integerIn, noKeys, rightKeys, layerKeys, infoKeys, keysOf, metainfoOf};
-
-// No torrent is larger.
-pub const MAX_SIZE: usize = 1048576;
+ghost use Rattle.metainfo.specs.Metainfo.{dictionaryIn, integerIn, noPart, noKeys, rightKeys, infoKeys, dictionaryKeys, keysOf, metainfoOf};
 
 // The version of BEP 52.
 pub const VERSION: usize = 2;
 
-// 0 and where the values are: `info` is info..past, `file tree` and `piece layers` begin at tree and layers, the piece length is
-// plen. Beside a refusal all are zero.
-pub struct Keys {
-    pub number: u32,
-    pub info: usize,
-    pub past: usize,
-    pub tree: usize,
-    pub plen: usize,
-    pub layers: usize,
+// A part of the torrent, start..end.
+pub struct Part {
+    pub start: usize,
+    pub end: usize,
 }
 
-fn no_keys(number: u32) -> Keys
+// 0, the piece length, and the parts that the values of `info`, its `file tree` and `piece layers` are. Beside a refusal all are zero.
+pub struct Keys {
+    pub number: u32,
+    pub plen: usize,
+    pub info: Part,
+    pub tree: Part,
+    pub layers: Part,
+}
+
+fn no_part() -> Part
+    ensures { λ r. ⌜ r ≡ noPart ⌝ }
+{
+    Part { start: 0, end: 0 }
+}
+
+pub fn no_keys(number: u32) -> Keys
     ensures { λ r. ⌜ r ≡ noKeys number ⌝ }
 {
     Keys {
         number,
-        info: 0,
-        past: 0,
-        tree: 0,
         plen: 0,
-        layers: 0,
+        info: no_part(),
+        tree: no_part(),
+        layers: no_part(),
     }
 }
 
@@ -66,18 +73,9 @@ fn find_integer(s: &[u8], at: usize, key: &[u8]) -> Integer
     }
 }
 
-// 23, 24 or 0, where no key is missing.
-fn right_keys(
-    info: usize,
-    past: usize,
-    tree: usize,
-    below: bool,
-    plen: usize,
-    minus: bool,
-    version: usize,
-    layers: usize,
-) -> Keys
-    ensures { λ r. ⌜ r ≡ rightKeys info past tree below plen minus version layers ⌝ }
+// 23, 24 or the keys, of which none is missing; `below` and `minus` are the signs of the piece length and the version.
+fn right_keys(keys: Keys, below: bool, minus: bool, version: usize) -> Keys
+    ensures { λ r. ⌜ r ≡ rightKeys keys below minus version ⌝ }
 {
     if minus {
         return no_keys(numbers::OTHER_VERSION);
@@ -88,67 +86,64 @@ fn right_keys(
     if below {
         return no_keys(numbers::PIECE_LENGTH_OUT_OF_RANGE);
     }
-    if is_piece_length(plen) {
-        return Keys {
-            number: 0,
-            info,
-            past,
-            tree,
-            plen,
-            layers,
-        };
+    if is_piece_length(keys.plen) {
+        return keys;
     }
     no_keys(numbers::PIECE_LENGTH_OUT_OF_RANGE)
 }
 
-// The same, with `piece layers` still to find.
-fn layer_keys(
-    s: &[u8],
-    info: usize,
-    past: usize,
-    tree: usize,
-    below: bool,
-    plen: usize,
-    minus: bool,
-    version: usize,
-) -> Keys
-    ensures { λ r. ⌜ r ≡ layerKeys (now (s .entry)) info past tree below plen minus version ⌝ }
+// The same, with `piece length` and `meta version` still to find in `info`.
+fn info_keys(s: &[u8], info: Part, tree: Part, layers: Part) -> Keys
+    ensures { λ r. ⌜ r ≡ infoKeys (now (s .entry)) info tree layers ⌝ }
 {
-    match find_dictionary(s, 0, b"piece layers") {
-        Found::Missing => no_keys(numbers::KEY_MISSING),
-        Found::Part { start, end: _ } => right_keys(
-            info,
-            past,
-            tree,
-            below,
-            plen,
-            minus,
-            version,
-            start,
-        ),
+    let at = info.start;
+    match find_integer(s, at, b"piece length") {
+        Integer::NoInteger => no_keys(numbers::KEY_MISSING),
+        Integer::Whole {
+            minus: below,
+            size: plen,
+            next: _,
+        } => match find_integer(s, at, b"meta version") {
+            Integer::NoInteger => no_keys(numbers::KEY_MISSING),
+            Integer::Whole {
+                minus,
+                size,
+                next: _,
+            } => {
+                let keys = Keys {
+                    number: 0,
+                    plen,
+                    info,
+                    tree,
+                    layers,
+                };
+                right_keys(keys, below, minus, size)
+            }
+        },
     }
 }
 
-// The keys of `info`, at info..past.
-fn info_keys(s: &[u8], info: usize, past: usize) -> Keys
-    ensures { λ r. ⌜ r ≡ infoKeys (now (s .entry)) info past ⌝ }
+// The same, with `file tree` and `piece layers` still to find.
+fn dictionary_keys(s: &[u8], info: Part) -> Keys
+    ensures { λ r. ⌜ r ≡ dictionaryKeys (now (s .entry)) info ⌝ }
 {
-    match find_dictionary(s, info, b"file tree") {
+    let at = info.start;
+    match find_dictionary(s, at, b"file tree") {
         Found::Missing => no_keys(numbers::KEY_MISSING),
-        Found::Part { start, end: _ } => match find_integer(s, info, b"piece length") {
-            Integer::NoInteger => no_keys(numbers::KEY_MISSING),
-            Integer::Whole {
-                minus: below,
-                size: plen,
-                next: _,
-            } => match find_integer(s, info, b"meta version") {
-                Integer::NoInteger => no_keys(numbers::KEY_MISSING),
-                Integer::Whole {
-                    minus,
-                    size,
-                    next: _,
-                } => layer_keys(s, info, past, start, below, plen, minus, size),
-            },
+        Found::Part { start, end } => match find_dictionary(s, 0, b"piece layers") {
+            Found::Missing => no_keys(numbers::KEY_MISSING),
+            Found::Part {
+                start: layers,
+                end: past,
+            } => info_keys(
+                s,
+                info,
+                Part { start, end },
+                Part {
+                    start: layers,
+                    end: past,
+                },
+            ),
         },
     }
 }
@@ -159,7 +154,7 @@ fn find_keys(s: &[u8]) -> Keys
 {
     match find_dictionary(s, 0, b"info") {
         Found::Missing => no_keys(numbers::KEY_MISSING),
-        Found::Part { start, end } => info_keys(s, start, end),
+        Found::Part { start, end } => dictionary_keys(s, Part { start, end }),
     }
 }
 
@@ -167,7 +162,7 @@ fn find_keys(s: &[u8]) -> Keys
 pub fn read_keys(s: &[u8]) -> Keys
     ensures { λ r. ⌜ r ≡ metainfoOf (now (s .entry)) ⌝ }
 {
-    if s.len() > MAX_SIZE {
+    if s.len() > LARGEST_TORRENT {
         return no_keys(numbers::TORRENT_TOO_LARGE);
     }
     let n = strict(s);

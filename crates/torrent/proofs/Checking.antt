@@ -2,111 +2,129 @@
 -- Assumes nothing.
 use mathlib.Core.Path.{_≡_, refl, sym, ap, _∙_}
 use mathlib.Core.Bool.{Bool, true, false, cond, _&&_, false≢true}
-use mathlib.Core.List.{List}
-use Prim.Native.Nat.{ℕ, zero, suc, _+_, _-_, _≤_, _<_, _^_}
+use mathlib.Core.List.{List, _++_}
+use Prim.Native.Nat.{ℕ, zero, suc, _+_, _-_, _*_, _≤_, _<_}
 use native.Mathlib.Omega.{arith}
-use native.Mathlib.Decide.{decLt}
-use lib.ListN.{length, take, drop, getD}
-use lib.Seq.{take-all, getD-take}
+use lib.ListN.{length, take, drop, getD, length-append}
+use lib.Seq.{getD-take, take-at}
 use lib.Dec.{eqb}
-use borrow.Author.Tests.{eq-eqb, ne-eqb, eqb-true}
+use borrow.Author.Tests.{eq-eqb, ne-eqb}
+use Rattle.limits.specs.Limits.{largestTorrent}
+use Rattle.octets.specs.Octets.{cut, pasted}
 use Rattle.numbers.specs.Numbers.{wrongTree, sameRoot, layersAmiss}
-use Rattle.tree.specs.Geometry.{isPieceLength}
-use Rattle.roots.specs.Roots.{apart, stringsAt}
-use Rattle.metainfo.specs.Metainfo.{maxTorrent, metainfoOf}
-use Rattle.metainfo.specs.MetainfoLaws.{Located, Right, metainfo-right}
+use Rattle.sorting.specs.Sorting.{apart, stringsAt}
+use Rattle.metainfo.specs.Metainfo.{bytesIn, noKeys, metainfoOf}
 use Rattle.metainfo.specs.declared.Keys.{Keys}
-use Rattle.listing.specs.Listing.{Listed, Files, right, listed, filesIn, rootsOf, longs, tallied, noTally, tallyOf}
-use Rattle.listing.specs.FilesLaws.{AllRight, files-right, roots-right, longs-roots}
-use Rattle.listing.specs.declared.Tally.{Tally}
+use Rattle.filetree.specs.Tree.{Listed, Files, wrong, files, right, listed, filesIn, rootsOf, longs}
+use Rattle.filetree.specs.Count.{mostRoots, noTally, tallyAfter, countedOf}
+use Rattle.filetree.specs.CountLaws.{CountedTree}
+use Rattle.filetree.specs.FilesLaws.{files-right, roots-right, longs-roots}
+use Rattle.filetree.specs.declared.count.Tally.{Tally}
+use Rattle.filetree.specs.declared.count.Counted.{Counted}
+use Rattle.filetree.specs.declared.count.Counted.the-variants.{Past, WrongTree}
 use Rattle.layers.specs.Layers.{keysWide, layerKeys, Indexed, worst}
-use Rattle.torrent.specs.Torrent.{filesNumber, treeNumber, judgedAs, judgedOf, unread, withJudged, withKeys, checkedOf}
-use Rattle.torrent.specs.CheckLaws.{LayersOpen, layers-open}
+use Rattle.torrent.specs.Torrent.{filesNumber, treeNumber, judgedAs, judgedOf, unread, withJudged, checkedOf}
+use Rattle.torrent.specs.CheckLaws.{LayersOpen, Open, keys-open}
 use Rattle.torrent.specs.declared.check.Judged.{Judged}
 use Rattle.torrent.specs.declared.check.Checked.{Checked}
 
-pub judged-done : (n files long : ℕ) → n ≡ 0 → _≡_ {A = Judged} (record { number = n; files = files; long = long }) (judgedAs n files long)
-judged-done zero files long e = refl
-judged-done (suc n) files long e = let z : ⊥ = omega arith in absurd z
+pub judged-done : (n count long : ℕ) → n ≡ 0 → _≡_ {A = Judged} (record { number = n; files = count; long = long }) (judgedAs n count long)
+judged-done zero count long e = refl
+judged-done (suc n) count long e = let z : ⊥ = omega arith in absurd z
 
-pub judged-refused : (n files long : ℕ) → (n ≡ 0 → ⊥) → _≡_ {A = Judged} (record { number = n; files = 0; long = 0 }) (judgedAs n files long)
-judged-refused zero files long h = absurd (h refl)
-judged-refused (suc n) files long h = refl
+pub judged-refused : (n count long : ℕ) → (n ≡ 0 → ⊥) → _≡_ {A = Judged} (record { number = n; files = 0; long = 0 }) (judgedAs n count long)
+judged-refused zero count long h = absurd (h refl)
+judged-refused (suc n) count long h = refl
 
--- a list that was taken from another is no longer
-taken-fits : (l m : List ℕ) → take (length m) l ≡ m → length m ≤ length l
-taken-fits l m e = by-length (decLt (length l) (length m))
-  where
-    by-length : Dec (length l < length m) → length m ≤ length l
-    by-length (yes h) = let q : l ≡ m = sym (take-all (length m) l (omega arith)) ∙ e in omega (arith, ap length q)
-    by-length (no h) = omega arith
+pub not-read-so : (n : ℕ) (k : Keys) → k ≡ noKeys n → _≡_ {A = Checked} (record { keys = k; files = 0; long = 0 }) (unread n)
+not-read-so n k e = rw e refl
 
 -- ---- what was counted
 
-module _ (plen : ℕ) (whole : Files) (t : Tally) (e : t ≡ tallyOf plen whole) where
-  by-right : (b : Bool) → right whole ≡ b → t ≡ cond b (tallied plen (listed whole)) noTally
-  unfolding tallyOf
-  by-right b q = e ∙ rw q refl
+wrong-so : (plen : ℕ) (x : Files) → WrongTree ≡ countedOf plen noTally x → right x ≡ false
+unfolding countedOf right
+wrong-so plen wrong q = refl
+wrong-so plen (files fs k) q = let z : _≡_ {A = ℕ} 0 1 = cc in absurd (omega arith)
 
-  counted-right : right whole ≡ true → t ≡ tallied plen (listed whole)
-  counted-right h = by-right true h
+right-so : (plen k : ℕ) (c : Tally) (x : Files) → Past k c ≡ countedOf plen noTally x
+    → (right x ≡ true) × (c .files ≡ length (listed x)) × (c .roots ≡ length (rootsOf (listed x))) × (c .long ≡ longs plen (listed x))
+unfolding countedOf right listed tallyAfter
+right-so plen k c wrong q = let z : _≡_ {A = ℕ} 0 1 = cc in absurd (omega arith)
+right-so plen k c (files gs j) q =
+    let p : c ≡ record { files = 0 + length gs; roots = 0 + length (rootsOf gs); long = 0 + longs plen gs } = cc in
+    let a = ap (λ (z : Tally). z .files) p in
+    let b = ap (λ (z : Tally). z .roots) p in
+    let d = ap (λ (z : Tally). z .long) p in
+    (refl, omega arith, omega arith, omega arith)
 
-pub judged-wrong : (s : List ℕ) (tree plen layers : ℕ) → right (filesIn s tree) ≡ false → _≡_ {A = Judged} (record { number = wrongTree; files = 0; long = 0 }) (judgedOf s tree plen layers)
-unfolding judgedOf treeNumber
-judged-wrong s tree plen layers h = rw h refl
+-- a list that stands at the start of another
+start-fits : (s xs : List ℕ) → length xs ≤ length (pasted s 0 xs)
+unfolding pasted
+start-fits s xs = let e = length-append xs (drop (0 + length xs) s) in omega arith
 
-module _ (s : List ℕ) (tree plen layers : ℕ) (t : Tally) (e : t ≡ tallyOf plen (filesIn s tree)) where
-  module _ (h : right (filesIn s tree) ≡ true) (roots : List ℕ) (kept : right (filesIn s tree) ≡ true → take (length (rootsOf (listed (filesIn s tree)))) roots ≡ rootsOf (listed (filesIn s tree))) where
-    so : (right (filesIn s tree) ≡ true) × (t ≡ tallied plen (listed (filesIn s tree)))
-    so = (h, counted-right plen (filesIn s tree) t e h)
+start-taken : (s xs : List ℕ) (n : ℕ) → n ≡ length xs → take n (pasted s 0 xs) ≡ xs
+unfolding pasted
+start-taken s xs n e = take-at xs (drop (0 + length xs) s) n (sym e)
 
-    full : t .roots ≡ length (rootsOf (listed (filesIn s tree)))
-    full = ap (λ (z : Tally). z .roots) (so .1)
+module _ (t l : List ℕ) (plen : ℕ) where
+  pub judged-wrong : WrongTree ≡ countedOf plen noTally (filesIn t) → _≡_ {A = Judged} (record { number = wrongTree; files = 0; long = 0 }) (judgedOf t l plen)
+  unfolding judgedOf treeNumber
+  judged-wrong e = rw (wrong-so plen (filesIn t) e) refl
 
-    pub full-fits : t .roots ≤ length roots
-    full-fits = rw full (taken-fits roots (rootsOf (listed (filesIn s tree))) (kept (so .0)))
+  module _ (k : ℕ) (c : Tally) (roots₀ roots : List ℕ) (e : CountedTree t plen roots₀ roots (Past k c)) (sized : length roots ≡ mostRoots) where
+    abbrev fs : List Listed
+    fs = listed (filesIn t)
 
-    pub long-fits : t .long ≤ length roots
-    long-fits = let a = ap (λ (z : Tally). z .long) (so .1) in let b = longs-roots plen (listed (filesIn s tree)) in let c = full-fits in let d = full in omega arith
+    so : (right (filesIn t) ≡ true) × (c .files ≡ length fs) × (c .roots ≡ length (rootsOf fs)) × (c .long ≡ longs plen fs)
+    so = right-so plen k c (filesIn t) (e .0)
 
-    pub taken-roots : take (t .roots) roots ≡ rootsOf (listed (filesIn s tree))
-    taken-roots = rw full (kept (so .0))
+    pub counted-right : right (filesIn t) ≡ true
+    counted-right = so .0
 
-    pub full-within : (i : ℕ) → i < t .roots → getD roots i 0 + 32 ≤ length s
-    full-within i l =
-        let q : getD (rootsOf (listed (filesIn s tree))) i 0 ≡ getD roots i 0 = ap (λ (z : List ℕ). getD z i 0) (sym taken-roots) ∙ getD-take (t .roots) roots i 0 l in
-        rw q at (roots-right (length s) (listed (filesIn s tree)) (files-right s tree) i (rw full at l))
+    pub full-fits : c .roots ≤ mostRoots
+    full-fits = let a = start-fits roots₀ (rootsOf fs) in let b = ap length (e .1 (so .0)) in let d = so .2 in omega arith
 
-    module _ (a : Bool) (ea : a ≡ apart (stringsAt s (take (t .roots) roots))) where
-      are-apart : a ≡ apart (stringsAt s (rootsOf (listed (filesIn s tree))))
-      are-apart = ea ∙ ap (λ (z : List ℕ). apart (stringsAt s z)) taken-roots
+    pub long-fits : c .long ≤ mostRoots
+    long-fits = let a = so .3 in let b = longs-roots plen fs in let d = full-fits in let f = so .2 in omega arith
 
-      number-is : (b : Bool) → a ≡ b → treeNumber s plen layers (filesIn s tree) ≡ cond b (cond (keysWide s layers && eqb (length (layerKeys s layers)) (t .long)) (worst s layers plen 0 (listed (filesIn s tree))) layersAmiss) sameRoot
+    taken-roots : take (c .roots) roots ≡ rootsOf fs
+    taken-roots = ap (take (c .roots)) (e .1 (so .0)) ∙ start-taken roots₀ (rootsOf fs) (c .roots) (so .2)
+
+    pub full-within : (i : ℕ) → i < c .roots → getD roots i 0 + 32 ≤ length t
+    full-within i h =
+        let q : getD (rootsOf fs) i 0 ≡ getD roots i 0 = ap (λ (z : List ℕ). getD z i 0) (sym taken-roots) ∙ getD-take (c .roots) roots i 0 h in
+        rw q at (roots-right (length t) fs (files-right t) i (rw (so .2) at h))
+
+    module _ (a : Bool) (ea : a ≡ apart (stringsAt t (take (c .roots) roots))) where
+      are-apart : a ≡ apart (stringsAt t (rootsOf fs))
+      are-apart = ea ∙ ap (λ (z : List ℕ). apart (stringsAt t z)) taken-roots
+
+      number-is : (b : Bool) → a ≡ b → treeNumber t l plen (filesIn t) ≡ cond b (cond (keysWide l && eqb (length (layerKeys l)) (c .long)) (worst t l plen 0 fs) layersAmiss) sameRoot
       unfolding treeNumber filesNumber
-      number-is b q = rw (so .0) (rw (sym are-apart ∙ q, ap (λ (z : Tally). z .long) (so .1)) refl)
+      number-is b q = rw (so .0) (rw (sym are-apart ∙ q, so .3) refl)
 
-      pub judged-same : a ≡ false → _≡_ {A = Judged} (record { number = sameRoot; files = 0; long = 0 }) (judgedOf s tree plen layers)
+      pub judged-same : a ≡ false → _≡_ {A = Judged} (record { number = sameRoot; files = 0; long = 0 }) (judgedOf t l plen)
       unfolding judgedOf
-      judged-same q = sym (ap (λ (z : ℕ). judgedAs z (length (listed (filesIn s tree))) (longs plen (listed (filesIn s tree)))) (number-is false q))
+      judged-same q = sym (ap (λ (z : ℕ). judgedAs z (length fs) (longs plen fs)) (number-is false q))
 
-      module _ (q : a ≡ true) (x : Bool) (ex : x ≡ (keysWide s layers && eqb (length (layerKeys s layers)) (t .long))) where
-        layers-are : (b : Bool) → x ≡ b → treeNumber s plen layers (filesIn s tree) ≡ cond b (worst s layers plen 0 (listed (filesIn s tree))) layersAmiss
+      module _ (q : a ≡ true) (x : Bool) (ex : x ≡ (keysWide l && eqb (length (layerKeys l)) (c .long))) where
+        layers-are : (b : Bool) → x ≡ b → treeNumber t l plen (filesIn t) ≡ cond b (worst t l plen 0 fs) layersAmiss
         layers-are b g = number-is true q ∙ rw (sym ex ∙ g) refl
 
-        pub judged-amiss : x ≡ false → _≡_ {A = Judged} (record { number = layersAmiss; files = 0; long = 0 }) (judgedOf s tree plen layers)
+        pub judged-amiss : x ≡ false → _≡_ {A = Judged} (record { number = layersAmiss; files = 0; long = 0 }) (judgedOf t l plen)
         unfolding judgedOf
-        judged-amiss g = sym (ap (λ (z : ℕ). judgedAs z (length (listed (filesIn s tree))) (longs plen (listed (filesIn s tree)))) (layers-are false g))
+        judged-amiss g = sym (ap (λ (z : ℕ). judgedAs z (length fs) (longs plen fs)) (layers-are false g))
 
-        pub judged-number : x ≡ true → (n : ℕ) → n ≡ worst s layers plen 0 (listed (filesIn s tree)) → judgedAs n (t .files) (t .long) ≡ judgedOf s tree plen layers
+        pub judged-number : x ≡ true → (n : ℕ) → n ≡ worst t l plen 0 fs → judgedAs n (c .files) (c .long) ≡ judgedOf t l plen
         unfolding judgedOf
-        judged-number g n en = rw (en, ap (λ (z : Tally). z .files) (so .1), ap (λ (z : Tally). z .long) (so .1)) (rw (layers-are true g) refl)
+        judged-number g n en = rw (en, so .1, so .3) (rw (layers-are true g) refl)
 
         -- the keys that were gathered
-        pub keys-indexed : x ≡ true → (keys : List ℕ) → length keys ≡ length roots → (x ≡ true → take (t .long) keys ≡ layerKeys s layers) → LayersOpen s layers → Indexed s layers keys (t .long)
-        keys-indexed g keys l k o =
-            let w : keysWide s layers ≡ true = first (keysWide s layers) (eqb (length (layerKeys s layers)) (t .long)) (sym ex ∙ g) in
-            let fits : t .long ≤ length keys = rw l long-fits in
-            record { opens = o .opens; wide = w; room = fits; all = k g; ascending = o .ascending w keys (t .long) fits (k g) }
+        pub keys-indexed : x ≡ true → (keys : List ℕ) → length keys ≡ mostRoots → (x ≡ true → take (c .long) keys ≡ layerKeys l) → LayersOpen l → Indexed l keys (c .long)
+        keys-indexed g keys z f o =
+            let w : keysWide l ≡ true = first (keysWide l) (eqb (length (layerKeys l)) (c .long)) (sym ex ∙ g) in
+            let fits : c .long ≤ length keys = rw z long-fits in
+            record { opens = o .opens; wide = w; room = fits; all = f g; ascending = o .ascending w keys (c .long) fits (f g) }
           where
             first : (a b : Bool) → (a && b) ≡ true → a ≡ true
             first true b z = refl
@@ -120,24 +138,26 @@ module _ (s : List ℕ) (k : Keys) (e : k ≡ metainfoOf s) where
   keys-refused h = rw (sym e) (simp (ne-eqb (k .number) 0 h))
 
   module _ (h : k .number ≡ 0) where
-    right-torrent : Right s
-    right-torrent = metainfo-right s (ap (λ (z : Keys). z .number) (sym e) ∙ h)
+    pub opened : Open s k
+    opened = rw e (keys-open s (ap (λ (z : Keys). z .number) (sym e) ∙ h))
 
-    pub keys-small : length s ≤ 2 ^ 20
-    keys-small = right-torrent .small
+    module _ (j : Judged) (ej : j ≡ judgedOf (take (k .tree .end - k .tree .start) (drop (k .tree .start) s)) (take (k .layers .end - k .layers .start) (drop (k .layers .start) s)) (k .plen)) where
+      judged-is : j ≡ judgedOf (bytesIn s (k .tree)) (bytesIn s (k .layers)) (k .plen)
+      unfolding cut
+      judged-is = ej
 
-    pub keys-length : isPieceLength (k .plen) ≡ true
-    keys-length = rw e (right-torrent .located .piece-length)
-
-    pub keys-open : LayersOpen s (k .layers)
-    keys-open = rw e (layers-open s (ap (λ (z : Keys). z .number) (sym e) ∙ h))
-
-    module _ (j : Judged) (ej : j ≡ judgedOf s (k .tree) (k .plen) (k .layers)) where
       pub number-refused : (j .number ≡ 0 → ⊥) → unread (j .number) ≡ checkedOf s
       unfolding checkedOf
-      number-refused g = rw (sym e) (simp (eq-eqb (k .number) 0 h) (rw (sym ej) (simp (ne-eqb (j .number) 0 g))))
+      number-refused g = rw (sym e) (simp (eq-eqb (k .number) 0 h) (rw (sym judged-is) (simp (ne-eqb (j .number) 0 g))))
 
-      pub number-done : j .number ≡ 0
-          → _≡_ {A = Checked} (record { number = 0; info = k .info; past = k .past; tree = k .tree; plen = k .plen; layers = k .layers; files = j .files; long = j .long }) (checkedOf s)
+      pub number-done : j .number ≡ 0 → _≡_ {A = Checked} (record { keys = k; files = j .files; long = j .long }) (checkedOf s)
       unfolding checkedOf
-      number-done g = rw (sym e) (simp (eq-eqb (k .number) 0 h) (rw (sym ej) (simp (eq-eqb (j .number) 0 g))))
+      number-done g = rw (sym e) (simp (eq-eqb (k .number) 0 h) (rw (sym judged-is) (simp (eq-eqb (j .number) 0 g))))
+
+    pub tree-small : length (take (k .tree .end - k .tree .start) (drop (k .tree .start) s)) ≤ largestTorrent
+    unfolding cut
+    tree-small = let o = opened in let x = o .tree-size in let y = o .tree-within in let z = o .small in omega arith
+
+    pub layers-open : LayersOpen (take (k .layers .end - k .layers .start) (drop (k .layers .start) s))
+    unfolding cut
+    layers-open = opened .layers-open

@@ -1,34 +1,44 @@
 -- What the parts of a torrent that gets 0 so far are, for the code that goes on with them.
 -- Assumes nothing.
 use mathlib.Core.Path.{_≡_, refl, sym, ap, _∙_}
-use mathlib.Core.Bool.{Bool, true, false, cond}
-use mathlib.Core.List.{List}
-use Prim.Native.Nat.{ℕ, zero, suc, _+_, _≤_, _<_}
+use mathlib.Core.Bool.{Bool, true, false, cond, false≢true}
+use mathlib.Core.List.{List, [], _++_, append-nil}
+use Prim.Native.Nat.{ℕ, zero, suc, _+_, _-_, _≤_, _<_}
 use native.Mathlib.Omega.{arith}
-use lib.ListN.{length, take, drop, getD}
+use lib.ListN.{length, take, drop, take-append-drop}
 use lib.Dec.{eqb}
 use borrow.Author.Tests.{eqb-true, eqb-false, ne-eqb}
+use Rattle.meaning.specs.Keys.{keyInfo, keyFileTree, keyPieceLayers}
+use Rattle.limits.specs.Limits.{largestTorrent, maxLevels}
+use Rattle.octets.specs.Octets.{cut}
+use Rattle.octets.specs.OctetsLaws.{cut-length}
+use Rattle.tree.specs.Geometry.{isPieceLength}
 use Rattle.numbers.specs.Numbers.{wrongTree}
-use Rattle.bencode.specs.Grammar.{maxLevels, encode, dictionary}
-use Rattle.bencode.specs.Parts.{isDictionary, findKey}
-use Rattle.bencode.specs.PartsLaws.{find-ends}
+use Rattle.bencode.specs.Grammar.{Value, integer, string, list, dictionary, Entries, encode, Valid, none}
+use Rattle.bencode.specs.Parts.{isDictionary, findKey, FoundIs, Lookup, absent, present, lookup}
+use Rattle.bencode.specs.PartsLaws.{find-ends, find-is, lookup-valid, dictionary-is, isDictionaryValue}
 use Rattle.bencode.specs.StrictLaws.{taken-only}
 use Rattle.bencode.specs.declared.parts.Found.{Found}
 use Rattle.bencode.specs.declared.parts.Found.the-variants.{Part, Missing}
-use Rattle.roots.specs.Roots.{Ascending}
-use Rattle.metainfo.specs.Metainfo.{keyInfo, keyPieceLayers, dictionaryIn, keysOf, metainfoOf}
+use Rattle.sorting.specs.Sorting.{Ascending}
+use Rattle.metainfo.specs.Metainfo.{bytesIn, dictionaryIn, keysOf, metainfoOf}
 use Rattle.metainfo.specs.MetainfoLaws.{Located, Right, metainfo-right}
+use Rattle.metainfo.specs.declared.Part.{Part as PartOf}
 use Rattle.metainfo.specs.declared.Keys.{Keys}
-use Rattle.listing.specs.Listing.{Files, right, listed, filesIn, longs}
+use Rattle.filetree.specs.Tree.{Files, right, listed, filesIn, longs}
 use Rattle.layers.specs.Layers.{keysWide, layerKeys}
 use Rattle.layers.specs.KeysLaws.{keys-ascending}
-use Rattle.meaning.specs.Torrent.{layersOf}
-use Rattle.meaning.specs.KeysLaws.{KeysAt, keys-point}
 use Rattle.torrent.specs.Torrent.{filesNumber, treeNumber, judgedAs, judgedOf, unread, withJudged, checkedOf}
 use Rattle.torrent.specs.declared.check.Checked.{Checked}
 
--- a dictionary that is found is one, and lies within the bytes
-pub dictionary-found : (s key : List ℕ) (at a b : ℕ) → dictionaryIn s (findKey key at (drop at s)) ≡ Part a b → (findKey key at (drop at s) ≡ Part a b) × (isDictionary (drop a s) ≡ true)
+-- `piece layers` is a dictionary, and its keys ascend
+pub record LayersOpen (l : List ℕ) : Type 0 where
+  pub small : length l ≤ largestTorrent
+  pub opens : isDictionary l ≡ true
+  pub ascending : keysWide l ≡ true → (keys : List ℕ) (count : ℕ) → count ≤ length keys → take count keys ≡ layerKeys l → Ascending l keys count
+
+-- a dictionary that is found is one
+dictionary-found : (s key : List ℕ) (at a b : ℕ) → dictionaryIn s (findKey key at (drop at s)) ≡ Part a b → (findKey key at (drop at s) ≡ Part a b) × (isDictionary (drop a s) ≡ true)
 dictionary-found s key at a b e = by-found (findKey key at (drop at s)) e
   where
     by-kind : (x y : ℕ) (t : Bool) → isDictionary (drop x s) ≡ t → cond t (Part x y) Missing ≡ Part a b → (Part x y ≡ Part a b) × (isDictionary (drop a s) ≡ true)
@@ -39,79 +49,127 @@ dictionary-found s key at a b e = by-found (findKey key at (drop at s)) e
     by-found Missing f = let z : _≡_ {A = ℕ} 0 1 = cc in absurd (omega arith)
     by-found (Part x y) f = by-kind x y (isDictionary (drop x s)) refl f
 
--- `piece layers` is a dictionary, and its keys ascend
-pub record LayersOpen (s : List ℕ) (layers : ℕ) : Type 0 where
-  pub opens : isDictionary (drop layers s) ≡ true
-  pub within : layers < length s
-  pub ascending : keysWide s layers ≡ true → (keys : List ℕ) (count : ℕ) → count ≤ length keys → take count keys ≡ layerKeys s layers → Ascending s keys count
-
--- so it is in a torrent that gets 0 so far
-pub layers-open : (s : List ℕ) → metainfoOf s .number ≡ 0 → LayersOpen s (metainfoOf s .layers)
-layers-open s e =
-    let r = metainfo-right s e in
-    let f = dictionary-found s keyPieceLayers 0 (metainfoOf s .layers) (r .located .layersTo) (r .located .layers-found) in
-    let p = find-ends keyPieceLayers 0 s (metainfoOf s .layers) (r .located .layersTo) (f .0) in
-    let v = taken-only s (r .strict) in
-    let k = keys-point s (v .0) (v .2) (v .1) (rw (r .same-keys) at e) in
-    let place : keysOf s .layers ≡ metainfoOf s .layers = ap (λ (z : Keys). z .layers) (sym (r .same-keys)) in
+-- the part of a dictionary that is found lies within the bytes
+pub part-within : (s key : List ℕ) (at a b : ℕ) → dictionaryIn s (findKey key at (drop at s)) ≡ Part a b → (a ≤ b) × (b ≤ length s) × (length (cut s a (b - a)) ≡ b - a)
+part-within s key at a b e =
+    let p = find-ends key at s a b (dictionary-found s key at a b e .0) in
     let x = p .1 in
     let y = p .2 in
+    (omega arith, y, cut-length s a (b - a) (omega arith))
+
+-- a part that is an encoding stands at the front of the bytes from there on
+part-front : (s : List ℕ) (a b : ℕ) (v : Value) → cut s a (b - a) ≡ encode v → drop a s ≡ encode v ++ drop (b - a) (drop a s)
+unfolding cut
+part-front s a b v e = sym (take-append-drop (b - a) (drop a s)) ∙ ap (λ (l : List ℕ). l ++ drop (b - a) (drop a s)) e
+
+-- in strict bytes it is the encoding of a dictionary
+part-encoded : (s key : List ℕ) (es : Entries) → s ≡ encode (dictionary es) → Valid (dictionary es) maxLevels → (a b : ℕ) → dictionaryIn s (findKey key 0 (drop 0 s)) ≡ Part a b
+    → (ds : Entries) × Valid (dictionary ds) (maxLevels - 1) × (cut s a (b - a) ≡ encode (dictionary ds))
+unfolding Valid
+part-encoded s key es bytes valid a b e =
+    let f = dictionary-found s key 0 a b e in
+    by-lookup (lookup key es) refl (rw (f .0) at (find-is key s 0 es [] (bytes ∙ sym (append-nil (encode (dictionary es)))) valid)) (f .1)
+  where
+    by-value : (v : Value) → isDictionaryValue v ≡ true → Valid v (maxLevels - 1) → cut s a (b - a) ≡ encode v → (ds : Entries) × Valid (dictionary ds) (maxLevels - 1) × (cut s a (b - a) ≡ encode (dictionary ds))
+    by-value (integer minus n) k h q = absurd (false≢true k)
+    by-value (string x) k h q = absurd (false≢true k)
+    by-value (list vs) k h q = absurd (false≢true k)
+    by-value (dictionary ds) k h q = (ds, h, q)
+
+    by-lookup : (w : Lookup) → lookup key es ≡ w → FoundIs s (Part a b) w → isDictionary (drop a s) ≡ true → (ds : Entries) × Valid (dictionary ds) (maxLevels - 1) × (cut s a (b - a) ≡ encode (dictionary ds))
+    by-lookup absent g q k = absurd q
+    by-lookup (present v) g q k = by-value v (sym (dictionary-is v (drop (b - a) (drop a s))) ∙ ap isDictionary (sym (part-front s a b v q)) ∙ k) (lookup-valid key es none (maxLevels - 1) v valid g) q
+
+-- ---- a torrent that gets 0 so far
+
+-- the parts of `file tree` and `piece layers` lie within it, and `piece layers` can be searched
+pub record Open (s : List ℕ) (k : Keys) : Type 0 where
+  pub small : length s ≤ largestTorrent
+  pub tree-forward : k .tree .start ≤ k .tree .end
+  pub tree-within : k .tree .end ≤ length s
+  pub tree-size : length (bytesIn s (k .tree)) ≡ k .tree .end - k .tree .start
+  pub layers-forward : k .layers .start ≤ k .layers .end
+  pub layers-within : k .layers .end ≤ length s
+  pub layers-size : length (bytesIn s (k .layers)) ≡ k .layers .end - k .layers .start
+  pub info-forward : k .info .start ≤ k .info .end
+  pub info-within : k .info .end ≤ length s
+  pub piece-length : isPieceLength (k .plen) ≡ true
+  pub layers-open : LayersOpen (bytesIn s (k .layers))
+
+pub keys-open : (s : List ℕ) → metainfoOf s .number ≡ 0 → Open s (metainfoOf s)
+keys-open s e =
+    let r = metainfo-right s e in
+    let k = metainfoOf s in
+    let i = part-within s keyInfo 0 (k .info .start) (k .info .end) (r .located .info-found) in
+    let t = part-within s keyFileTree (k .info .start) (k .tree .start) (k .tree .end) (r .located .tree-found) in
+    let l = part-within s keyPieceLayers 0 (k .layers .start) (k .layers .end) (r .located .layers-found) in
+    let v = taken-only s (r .strict) in
+    let d = part-encoded s keyPieceLayers (v .0) (v .2) (v .1) (k .layers .start) (k .layers .end) (r .located .layers-found) in
+    let bytes : bytesIn s (k .layers) ≡ encode (dictionary (d .0)) ++ [] = d .2 ∙ sym (append-nil (encode (dictionary (d .0)))) in
+    let x = l .0 in
+    let y = l .1 in
+    let z = l .2 in
+    let u = r .small in
     record {
-      opens = f .1;
-      within = omega arith;
-      ascending = rw place at (keys-ascending s (keysOf s .layers) (layersOf (v .0)) (k .layersRest) (k .layers-bytes) 31 (omega arith) (k .layers-valid));
+      small = u;
+      tree-forward = t .0;
+      tree-within = t .1;
+      tree-size = t .2;
+      layers-forward = x;
+      layers-within = y;
+      layers-size = z;
+      info-forward = i .0;
+      info-within = i .1;
+      piece-length = r .located .piece-length;
+      layers-open = record {
+        small = omega arith;
+        opens = ap isDictionary bytes ∙ dictionary-is (dictionary (d .0)) [];
+        ascending = keys-ascending (bytesIn s (k .layers)) (d .0) [] bytes (maxLevels - 1) (omega arith) (d .1);
+      };
     }
 
 -- ---- a torrent that gets 0
 
--- its tree is right, its counts are those of its files, its parts where its keys are
+-- its parts are as above, its tree is right, its counts are those of its files
 pub record Whole (s : List ℕ) (c : Checked) : Type 0 where
-  pub keys-right : metainfoOf s .number ≡ 0
-  pub number-right : treeNumber s (c .plen) (c .layers) (filesIn s (c .tree)) ≡ 0
-  pub tree-right : right (filesIn s (c .tree)) ≡ true
-  pub all-files : c .files ≡ length (listed (filesIn s (c .tree)))
-  pub all-long : c .long ≡ longs (c .plen) (listed (filesIn s (c .tree)))
-  pub info-is : c .info ≡ metainfoOf s .info
-  pub past-is : c .past ≡ metainfoOf s .past
-  pub tree-is : c .tree ≡ metainfoOf s .tree
-  pub plen-is : c .plen ≡ metainfoOf s .plen
-  pub layers-is : c .layers ≡ metainfoOf s .layers
+  pub opened : Open s (c .keys)
+  pub keys-are : c .keys ≡ metainfoOf s
+  pub number-right : treeNumber (bytesIn s (c .keys .tree)) (bytesIn s (c .keys .layers)) (c .keys .plen) (filesIn (bytesIn s (c .keys .tree))) ≡ 0
+  pub tree-right : right (filesIn (bytesIn s (c .keys .tree))) ≡ true
+  pub all-files : c .files ≡ length (listed (filesIn (bytesIn s (c .keys .tree))))
+  pub all-long : c .long ≡ longs (c .keys .plen) (listed (filesIn (bytesIn s (c .keys .tree))))
 
 -- only a right tree gets 0
-right-tree : (s : List ℕ) (plen layers : ℕ) (fs : Files) → treeNumber s plen layers fs ≡ 0 → right fs ≡ true
+right-tree : (t l : List ℕ) (plen : ℕ) (fs : Files) → treeNumber t l plen fs ≡ 0 → right fs ≡ true
 unfolding treeNumber
-right-tree s plen layers fs e = by-right (right fs) e
+right-tree t l plen fs e = by-right (right fs) e
   where
-    by-right : (b : Bool) → cond b (filesNumber s plen layers (listed fs)) wrongTree ≡ 0 → b ≡ true
+    by-right : (b : Bool) → cond b (filesNumber t l plen (listed fs)) wrongTree ≡ 0 → b ≡ true
     by-right true q = refl
     by-right false q = let z : ⊥ = omega arith in absurd z
 
-pub checked-whole : (s : List ℕ) → checkedOf s .number ≡ 0 → Whole s (checkedOf s)
+pub checked-whole : (s : List ℕ) → checkedOf s .keys .number ≡ 0 → Whole s (checkedOf s)
 unfolding checkedOf judgedOf
 checked-whole s e = by-keys (eqb (metainfoOf s .number) 0) refl e
   where
-    by-number : (n : ℕ) → treeNumber s (metainfoOf s .plen) (metainfoOf s .layers) (filesIn s (metainfoOf s .tree)) ≡ n → metainfoOf s .number ≡ 0
-        → withJudged (metainfoOf s) (judgedAs n (length (listed (filesIn s (metainfoOf s .tree)))) (longs (metainfoOf s .plen) (listed (filesIn s (metainfoOf s .tree))))) .number ≡ 0
-        → Whole s (withJudged (metainfoOf s) (judgedAs n (length (listed (filesIn s (metainfoOf s .tree)))) (longs (metainfoOf s .plen) (listed (filesIn s (metainfoOf s .tree))))))
+    t : List ℕ
+    t = bytesIn s (metainfoOf s .tree)
+
+    l : List ℕ
+    l = bytesIn s (metainfoOf s .layers)
+
+    by-number : (n : ℕ) → treeNumber t l (metainfoOf s .plen) (filesIn t) ≡ n → metainfoOf s .number ≡ 0
+        → withJudged (metainfoOf s) (judgedAs n (length (listed (filesIn t))) (longs (metainfoOf s .plen) (listed (filesIn t)))) .keys .number ≡ 0
+        → Whole s (withJudged (metainfoOf s) (judgedAs n (length (listed (filesIn t))) (longs (metainfoOf s .plen) (listed (filesIn t)))))
     by-number zero q g f =
-        record { keys-right = g; number-right = q; tree-right = right-tree s (metainfoOf s .plen) (metainfoOf s .layers) (filesIn s (metainfoOf s .tree)) q; all-files = refl; all-long = refl; info-is = refl; past-is = refl; tree-is = refl; plen-is = refl; layers-is = refl }
+        record { opened = keys-open s g; keys-are = refl; number-right = q; tree-right = right-tree t l (metainfoOf s .plen) (filesIn t) q; all-files = refl; all-long = refl }
     by-number (suc n) q g f = let o : (suc n ≡ 0 → ⊥) = λ z. omega arith in let h : suc n ≡ 0 = simp (ne-eqb (suc n) 0 o) at f in absurd (o h)
 
     by-keys : (b : Bool) → eqb (metainfoOf s .number) 0 ≡ b
-        → cond b (withJudged (metainfoOf s) (judgedAs (treeNumber s (metainfoOf s .plen) (metainfoOf s .layers) (filesIn s (metainfoOf s .tree))) (length (listed (filesIn s (metainfoOf s .tree)))) (longs (metainfoOf s .plen) (listed (filesIn s (metainfoOf s .tree)))))) (unread (metainfoOf s .number)) .number ≡ 0
-        → Whole s (cond b (withJudged (metainfoOf s) (judgedAs (treeNumber s (metainfoOf s .plen) (metainfoOf s .layers) (filesIn s (metainfoOf s .tree))) (length (listed (filesIn s (metainfoOf s .tree)))) (longs (metainfoOf s .plen) (listed (filesIn s (metainfoOf s .tree)))))) (unread (metainfoOf s .number)))
-    by-keys true q f = by-number (treeNumber s (metainfoOf s .plen) (metainfoOf s .layers) (filesIn s (metainfoOf s .tree))) refl (eqb-true (metainfoOf s .number) 0 q) f
+        → cond b (withJudged (metainfoOf s) (judgedAs (treeNumber t l (metainfoOf s .plen) (filesIn t)) (length (listed (filesIn t))) (longs (metainfoOf s .plen) (listed (filesIn t))))) (unread (metainfoOf s .number)) .keys .number ≡ 0
+        → Whole s (cond b (withJudged (metainfoOf s) (judgedAs (treeNumber t l (metainfoOf s .plen) (filesIn t)) (length (listed (filesIn t))) (longs (metainfoOf s .plen) (listed (filesIn t))))) (unread (metainfoOf s .number)))
+    by-keys true q f = by-number (treeNumber t l (metainfoOf s .plen) (filesIn t)) refl (eqb-true (metainfoOf s .number) 0 q) f
     by-keys false q f = absurd (eqb-false (metainfoOf s .number) 0 q f)
 
-pub checked-so : (s : List ℕ) (c : Checked) → c ≡ checkedOf s → c .number ≡ 0 → Whole s c
-checked-so s c e h = rw e (checked-whole s (ap (λ (z : Checked). z .number) (sym e) ∙ h))
-
--- `info` lies within the torrent
-pub info-within : (s : List ℕ) (c : Checked) → Whole s c → (c .info ≤ c .past) × (c .past ≤ length s)
-info-within s c w =
-    let r = metainfo-right s (w .keys-right) in
-    let f = dictionary-found s keyInfo 0 (metainfoOf s .info) (metainfoOf s .past) (r .located .info-found) in
-    let p = find-ends keyInfo 0 s (metainfoOf s .info) (metainfoOf s .past) (f .0) in
-    let x = p .1 in
-    let y = p .2 in
-    rw (w .info-is, w .past-is) (omega arith, y)
+pub checked-so : (s : List ℕ) (c : Checked) → c ≡ checkedOf s → c .keys .number ≡ 0 → Whole s c
+checked-so s c e h = rw e (checked-whole s (ap (λ (z : Checked). z .keys .number) (sym e) ∙ h))

@@ -7,17 +7,19 @@ use mathlib.Core.List.{[], _∷_}
 use Prim.Native.Nat.{_≤_}
 use native.Mathlib.Omega.{arith}
 use lib.ListN.{length}
+use Rattle.meaning.specs.Keys.{keyLength, keyPiecesRoot, keyInfo, keyFileTree, keyPieceLength, keyMetaVersion, keyPieceLayers}
+use Rattle.limits.specs.Limits.{maxLevels, largestTorrent}
 use Rattle.octets.specs.Octets.{zeroHash, same}
 use Rattle.numbers.specs.Numbers.{noSuchFile}
 use Rattle.tree.specs.Geometry.{isPieceLength, pieceLayer, height, heightFrom, hasLayer}
-use Rattle.bencode.specs.Grammar.{maxLevels, Value, integer, string, dictionary, Entries, noEntries, entry, decimalIn, encode, precedes, Valid}
+use Rattle.bencode.specs.Grammar.{Value, integer, string, dictionary, Entries, noEntries, entry, decimalIn, encode, precedes, Valid}
 use Rattle.bencode.specs.Parts.{lookup}
-use Rattle.files.specs.File.{keyLength, keyPiecesRoot}
-use Rattle.metainfo.specs.Metainfo.{maxTorrent, keyInfo, keyFileTree, keyPieceLength, keyMetaVersion, keyPieceLayers}
-use Rattle.meaning.specs.Torrent.{File, filesOf, hasKeys, fileRight, nodeRight, branchRight, nodesRight, treeRight, filesBelow, filesIn, noneWith, rootsApart, layersFit, noOthers, layersGiveRoots, valueNumber}
+use Rattle.meaning.specs.Nth.{Nth}
+use Rattle.meaning.specs.Torrent.{File, filesOf, hasKeys, elementRight, fileRight, nodeRight, branchRight, nodesRight, treeRight, filesOfNode, filesOfEntries, noneWith, rootsApart, layersFit, noOthers, layersGiveRoots, valueNumber}
 use Rattle.torrent.specs.Torrent.{readOf, noFileRead, fileRead, pathRead}
 use Rattle.torrent.specs.NumberMeans.{number-is-the-values, read-number}
-use Rattle.torrent.specs.ReadMeans.{Nth, FileIs, PartIs, file-is, no-file, element-is}
+use Rattle.torrent.specs.Answers.{FileIs, PartIs}
+use Rattle.torrent.specs.ReadMeans.{file-is, no-file, element-is}
 
 -- a file, by an empty key alone
 abbrev file : Entries → Value
@@ -53,11 +55,11 @@ small-valid = (refl, (refl, (refl, a-valid, (refl, b-valid, tt)), (refl, omega a
 
 -- it is right
 pub small-right : valueNumber small ≡ 0
-unfolding valueNumber lookup same hasKeys isPieceLength pieceLayer height heightFrom treeRight branchRight nodeRight nodesRight fileRight filesIn filesBelow rootsApart noneWith layersFit hasLayer noOthers layersGiveRoots zeroHash
+unfolding valueNumber lookup same hasKeys isPieceLength pieceLayer height heightFrom treeRight branchRight nodeRight nodesRight elementRight fileRight filesOfEntries filesOfNode rootsApart noneWith layersFit hasLayer noOthers layersGiveRoots zeroHash
 small-right = refl
 
 -- it is small
-pub small-size : length (encode (dictionary small)) ≤ maxTorrent
+pub small-size : length (encode (dictionary small)) ≤ largestTorrent
 unfolding encode decimalIn zeroHash
 small-size = omega arith
 
@@ -72,7 +74,7 @@ abbrev fileB : File
 fileB = record { size = 1; root = zeroHash; path = (98 ∷ []) ∷ [] }
 
 second : Nth (filesOf small) 1 fileB
-unfolding Nth lookup same filesIn filesBelow
+unfolding Nth lookup same filesOfEntries filesOfNode
 second = refl
 
 -- file 1 has a byte, the root of zeros, one path element, and no layer
@@ -89,7 +91,7 @@ small-path = element-is (encode (dictionary small)) small refl small-valid small
 
 -- there is no file 2
 two : length (filesOf small) ≤ 2
-unfolding lookup same filesIn filesBelow
+unfolding lookup same filesOfEntries filesOfNode
 two = omega arith
 
 pub small-no-third : fileRead (encode (dictionary small)) 2 ≡ noFileRead noSuchFile

@@ -2,30 +2,33 @@
 -- root is what the layer gives; no hash is worked out here, only that it has 32 bytes.
 -- Assumes nothing.
 use mathlib.Core.Path.{_≡_, refl, sym, ap, _∙_}
-use mathlib.Core.Bool.{Bool, true, false, cond, not, _&&_, _||_}
+use mathlib.Core.Bool.{Bool, true, false, cond, _&&_, _||_}
 use mathlib.Core.List.{List, [], _∷_, _++_}
 use Prim.Native.Nat.{ℕ, suc, _+_, _<_}
 use native.Mathlib.Omega.{arith}
 use lib.ListN.{length, length-append}
 use borrow.Author.Tests.{eq-eqb}
+use Rattle.meaning.specs.Keys.{keyLength, keyPiecesRoot, keyInfo, keyFileTree, keyPieceLength, keyMetaVersion, keyPieceLayers}
+use Rattle.limits.specs.Limits.{maxLevels}
 use Rattle.octets.specs.Octets.{cut, zeroHash, same}
 use Rattle.octets.specs.OctetsLaws.{same-refl}
 use Rattle.sha256.specs.Sha256Laws.{pair-octets}
 use Rattle.tree.specs.Geometry.{blockCount, ceilDiv, isPieceLength, pieceLayer, pieceCount, height, heightFrom, hasLayer}
 use Rattle.tree.specs.Values.{node, layerLeaf, layerRoot}
-use Rattle.bencode.specs.Grammar.{colon, maxLevels, Value, integer, string, dictionary, Entries, noEntries, entry, decimalIn, decimal, encodeString, encode, encodeEntries, precedes, Valid}
+use Rattle.bencode.specs.Grammar.{colon, integer, string, dictionary, Entries, noEntries, entry, decimalIn, decimal, encodeString, encode, encodeEntries, precedes, Valid}
+use Rattle.bencode.specs.PartsLaws.{entries-length}
 use Rattle.bencode.specs.Parts.{Lookup, present, absent, lookup}
-use Rattle.files.specs.File.{keyLength, keyPiecesRoot}
-use Rattle.metainfo.specs.Metainfo.{keyInfo, keyFileTree, keyPieceLength, keyMetaVersion, keyPieceLayers}
-use Rattle.meaning.specs.Torrent.{File, entriesOf, isNumber, infoOf, filesOf, plenOf, layersOf, hasKeys, fileRight, nodeRight, branchRight, nodesRight, treeRight, filesBelow, filesIn, noneWith, rootsApart, layerFits, layersFit, someLonger, noOthers, givesRoot, layerOf, layersGiveRoots, valueNumber}
+use Rattle.meaning.specs.Nth.{Nth}
+use Rattle.meaning.specs.Torrent.{File, isNumber, infoOf, treeOf, filesOf, plenOf, layersOf, hasKeys, elementRight, fileRight, nodeRight, branchRight, nodesRight, treeRight, filesOfNode, filesOfEntries, noneWith, rootsApart, layerFits, layersFit, someLonger, noOthers, givesRoot, layerBytes, layersGiveRoots, valueNumber}
 use Rattle.torrent.specs.Torrent.{readOf, fileRead}
 use Rattle.torrent.specs.NumberMeans.{number-is-the-values, read-number}
-use Rattle.torrent.specs.ReadMeans.{Nth, FileIs, file-is}
+use Rattle.torrent.specs.Answers.{FileIs}
+use Rattle.torrent.specs.ReadMeans.{file-is}
 
 -- ---- a torrent gets 0 where all seven tests of its value pass
 
 all-pass : (es : Entries) → hasKeys es ≡ true → isNumber 2 (lookup keyMetaVersion (infoOf es)) ≡ true → isPieceLength (plenOf es) ≡ true
-    → treeRight (entriesOf (lookup keyFileTree (infoOf es))) ≡ true → rootsApart (filesOf es) ≡ true → layersFit (plenOf es) (layersOf es) (filesOf es) ≡ true
+    → treeRight (treeOf es) ≡ true → rootsApart (filesOf es) ≡ true → layersFit (plenOf es) (layersOf es) (filesOf es) ≡ true
     → noOthers (plenOf es) (filesOf es) (layersOf es) ≡ true → layersGiveRoots (plenOf es) (layersOf es) (filesOf es) ≡ true → valueNumber es ≡ 0
 unfolding valueNumber
 all-pass es a b c d e f g h = rw (a, b, c, d, e, f, g, h) refl
@@ -76,12 +79,12 @@ module _ (root : List ℕ) where
   unfolding lookup same isPieceLength pieceLayer height heightFrom
   piece-right = refl
 
-  tree-right : length root ≡ 32 → treeRight (entriesOf (lookup keyFileTree (infoOf withRoot))) ≡ true
-  unfolding lookup same treeRight branchRight nodeRight nodesRight fileRight
+  tree-right : length root ≡ 32 → treeRight (treeOf withRoot) ≡ true
+  unfolding lookup same treeRight branchRight nodeRight nodesRight elementRight fileRight
   tree-right e = ap (λ (t : Bool). t && true) (eq-eqb (length root) 32 e)
 
   apart-right : rootsApart (filesOf withRoot) ≡ true
-  unfolding lookup same filesIn filesBelow rootsApart noneWith
+  unfolding lookup same filesOfEntries filesOfNode rootsApart noneWith
   apart-right = refl
 
   -- the root is the one key
@@ -95,11 +98,11 @@ module _ (root : List ℕ) where
   two-pieces = refl
 
   fit-right : layersFit (plenOf withRoot) (layersOf withRoot) (filesOf withRoot) ≡ true
-  unfolding lookup same filesIn filesBelow layersFit hasLayer
+  unfolding lookup same filesOfEntries filesOfNode layersFit hasLayer
   fit-right = ap (λ (t : Bool). t && true) (ap (layerFits 16384 theFile) the-key ∙ two-pieces)
 
   others-right : noOthers (plenOf withRoot) (filesOf withRoot) (layersOf withRoot) ≡ true
-  unfolding lookup same filesIn filesBelow noOthers someLonger hasLayer
+  unfolding lookup same filesOfEntries filesOfNode noOthers someLonger hasLayer
   others-right = ap (λ (t : Bool). (t || false) && true) (same-refl root)
 
   -- the layer gives the root
@@ -108,8 +111,8 @@ module _ (root : List ℕ) where
   gives e = rw e (same-refl root)
 
   gives-right : layerRoot layer 0 1 ≡ root → layersGiveRoots (plenOf withRoot) (layersOf withRoot) (filesOf withRoot) ≡ true
-  unfolding lookup same filesIn filesBelow layersGiveRoots hasLayer
-  gives-right e = ap (λ (t : Bool). t && true) (ap (λ (x : Lookup). givesRoot 16384 theFile (layerOf x)) the-key ∙ gives e)
+  unfolding lookup same filesOfEntries filesOfNode layersGiveRoots hasLayer
+  gives-right e = ap (λ (t : Bool). t && true) (ap (λ (x : Lookup). givesRoot 16384 theFile (layerBytes x)) the-key ∙ gives e)
 
   -- all tests pass
   with-right : length root ≡ 32 → layerRoot layer 0 1 ≡ root → valueNumber withRoot ≡ 0
@@ -117,14 +120,10 @@ module _ (root : List ℕ) where
 
 -- ---- its size
 
--- a dictionary takes a byte more than its entries with their end, an entry takes its key and its value
+-- a dictionary takes a byte more than its entries with their end
 dictionary-size : (es : Entries) → length (encode (dictionary es)) ≡ suc (length (encodeEntries es))
 unfolding encode
 dictionary-size es = refl
-
-entry-size : (k : List ℕ) (v : Value) (es : Entries) → length (encodeEntries (entry k v es)) ≡ length (encodeString k) + length (encode v) + length (encodeEntries es)
-unfolding encode
-entry-size k v es = let la = length-append (encodeString k) (encode v ++ encodeEntries es) in let lb = length-append (encode v) (encodeEntries es) in omega arith
 
 -- a string of 32 bytes takes 35
 string-size : (b : List ℕ) → length b ≡ 32 → length (encodeString b) ≡ 35
@@ -151,14 +150,14 @@ with-size root e =
     let leaf : Entries = entry keyLength (integer false 16385) (entry keyPiecesRoot (string root) noEntries) in
     let node : Entries = entry [] (dictionary leaf) noEntries in
     let layers-entry : Entries = entry keyPieceLayers (dictionary (layers root)) noEntries in
-    let in-leaf = entry-size keyLength (integer false 16385) (entry keyPiecesRoot (string root) noEntries) in
-    let in-root = entry-size keyPiecesRoot (string root) noEntries in
-    let in-node = entry-size [] (dictionary leaf) noEntries in
-    let in-tree = entry-size (99 ∷ []) (dictionary node) noEntries in
-    let in-info = entry-size keyFileTree (dictionary (tree root)) afterTree in
-    let in-layers = entry-size root (string layer) noEntries in
-    let in-last = entry-size keyPieceLayers (dictionary (layers root)) noEntries in
-    let in-torrent = entry-size keyInfo (dictionary (info root)) layers-entry in
+    let in-leaf = entries-length keyLength (integer false 16385) (entry keyPiecesRoot (string root) noEntries) in
+    let in-root = entries-length keyPiecesRoot (string root) noEntries in
+    let in-node = entries-length [] (dictionary leaf) noEntries in
+    let in-tree = entries-length (99 ∷ []) (dictionary node) noEntries in
+    let in-info = entries-length keyFileTree (dictionary (tree root)) afterTree in
+    let in-layers = entries-length root (string layer) noEntries in
+    let in-last = entries-length keyPieceLayers (dictionary (layers root)) noEntries in
+    let in-torrent = entries-length keyInfo (dictionary (info root)) layers-entry in
     omega (
       arith,
       fixed-sizes,
@@ -201,7 +200,7 @@ long-taken =
     ∙ with-right theRoot root-size refl
 
 the-first : Nth (filesOf long) 0 longFile
-unfolding Nth lookup same filesIn filesBelow
+unfolding Nth lookup same filesOfEntries filesOfNode
 the-first = refl
 
 -- and its file is answered with the layer that `piece layers` has for its root

@@ -1,52 +1,48 @@
--- 01, "The torrent", 19 to 28: the number that is answered for any bytes at all, said without a position: by their count, by the
--- grammar, and by the value that they encode.
+-- 01, "The torrent", 19 to 28: the number that is answered for any bytes at all is what `Says` says, and no other number is.
 -- Assumes nothing.
 use mathlib.Core.Path.{_≡_, refl, sym, ap, _∙_}
 use mathlib.Core.Logic.{_⊎_, inl, inr}
 use mathlib.Core.Bool.{Bool, true, false, cond, _&&_}
-use mathlib.Core.List.{List, [], _∷_, _++_}
-use Prim.Native.Nat.{ℕ, zero, suc, _-_, _≤_, _<_}
+use mathlib.Core.List.{List, [], _∷_}
+use Prim.Native.Nat.{ℕ, zero, suc, _≤_, _<_}
 use native.Mathlib.Omega.{arith}
-use lib.ListN.{length, drop}
+use lib.ListN.{length}
 use lib.Dec.{eqb, leb}
 use borrow.Author.Tests.{eqb-true, eqb-false, ne-eqb, le-leb, lt-leb, leb-true, leb-false}
-use Rattle.octets.specs.Octets.{cut}
+use Rattle.limits.specs.Limits.{largestTorrent, maxLevels}
 use Rattle.numbers.specs.Numbers.{torrentTooLarge, notStrict, nestedTooDeeply, wrongTree, sameRoot, layersAmiss, layerDiffers, noSuchFile}
 use Rattle.sha256.specs.Sha256.{sha256}
 use Rattle.tree.specs.Geometry.{isPieceLength}
-use Rattle.bencode.specs.Grammar.{maxLevels, dictionary, Entries, encode, Valid}
+use Rattle.bencode.specs.Grammar.{dictionary, Entries, encode, Valid}
 use Rattle.bencode.specs.Parts.{lookup}
 use Rattle.bencode.specs.DepthLaws.{more-levels}
 use Rattle.bencode.specs.Strict.{Encoded, TooDeepFirst, strictness}
 use Rattle.bencode.specs.StrictLaws.{taken, taken-only, deep-first, deep-only, one-of-three, otherwise, otherwise-only}
-use Rattle.metainfo.specs.Metainfo.{maxTorrent, keyFileTree, keyMetaVersion, noKeys, keysOf, metainfoOf}
+use Rattle.meaning.specs.Keys.{keyMetaVersion}
+use Rattle.meaning.specs.Torrent.{File, isNumber, infoOf, treeOf, hasKeys, treeRight, filesOf, rootsApart, layersFit, noOthers, layersGiveRoots, plenOf, layersOf, valueNumber}
+use Rattle.meaning.specs.AmissLaws.{value-ranged}
+use Rattle.meaning.specs.FilesLaws.{AllHold, files-hold}
+use Rattle.metainfo.specs.Metainfo.{bytesIn, noKeys, keysOf, metainfoOf}
 use Rattle.metainfo.specs.declared.Keys.{Keys}
-use Rattle.listing.specs.Listing.{Listed, Files, right, listed, filesIn, longs}
-use Rattle.listing.specs.FilesLaws.{AllRight, files-right}
+use Rattle.filetree.specs.Tree.{Listed, Files, right, listed, filesIn, longs}
 use Rattle.layers.specs.Layers.{keysWide, layerKeys, worst}
-use Rattle.meaning.specs.Torrent.{File, entriesOf, isNumber, infoOf, hasKeys, treeRight, filesOf, rootsApart, layersFit, noOthers, layersGiveRoots, plenOf, layersOf, valueNumber}
-use Rattle.meaning.specs.Reading.{readFile, readFiles}
-use Rattle.meaning.specs.RootsMeaning.{AllAlike, roots-apart}
-use Rattle.meaning.specs.LayersMeaning.{RootsWithin, layers-number}
-use Rattle.meaning.specs.KeysLaws.{KeysAt, keys-number, keys-point, none-exactly}
-use Rattle.meaning.specs.StrictTorrentLaws.{strict-keys, keys-first, tree-next, torrent-tree, torrent-files}
-use Rattle.torrent.specs.Torrent.{filesNumber, treeNumber, judgedAs, judgedOf, unread, withJudged, checkedOf, noTorrent, readOf, noFileRead, fileRead, noPart, pathRead}
+use Rattle.joined.specs.Reading.{readFile, readFiles}
+use Rattle.joined.specs.RootsMeaning.{AllAlike, roots-apart}
+use Rattle.joined.specs.LayersMeaning.{layers-number}
+use Rattle.joined.specs.KeysLaws.{KeysAt, keys-number, keys-point, none-exactly}
+use Rattle.joined.specs.StrictTorrentLaws.{strict-keys, keys-first, tree-next, torrent-tree, torrent-files}
+use Rattle.torrent.specs.Torrent.{filesNumber, treeNumber, judgedAs, judgedOf, unread, withJudged, checkedOf, noTorrent, readOf, noFileRead, fileRead, noPartRead, pathRead}
+use Rattle.torrent.specs.Answers.{Says, tooLarge, noEncoding, tooDeep, encodes}
 use Rattle.torrent.specs.declared.read.FileRead.{FileRead}
 use Rattle.torrent.specs.declared.read.PartRead.{PartRead}
 
 -- ---- the files by positions and the files of the value
 
 -- the files as they are read have the lengths and roots that their positions say
-pub all-alike : (s : List ℕ) (fs : List Listed) → AllAlike s fs (readFiles s fs)
+pub all-alike : (t : List ℕ) (fs : List Listed) → AllAlike t fs (readFiles t fs)
 unfolding AllAlike readFile
-all-alike s [] = tt
-all-alike s (f ∷ fs) = (record { size = refl; root = refl }, all-alike s fs)
-
--- the roots of right files lie in the bytes
-roots-within : (s : List ℕ) (fs : List Listed) → AllRight (length s) fs → RootsWithin s fs
-unfolding RootsWithin
-roots-within s [] p = tt
-roots-within s (f ∷ fs) p = (p .0 .root-within, roots-within s fs (p .1))
+all-alike t [] = tt
+all-alike t (f ∷ fs) = (record { size = refl; root = refl }, all-alike t fs)
 
 -- 26 to 28 of the files vs with the layers ls
 abbrev filesValue : ℕ → Entries → List File → ℕ
@@ -54,112 +50,113 @@ filesValue plen ls vs =
     cond (rootsApart vs) (cond (layersFit plen ls vs && noOthers plen vs ls) (cond (layersGiveRoots plen ls vs) 0 layerDiffers) layersAmiss) sameRoot
 
 -- 26 to 28 by positions are those of the value
-files-number : (s : List ℕ) (layers : ℕ) (ls : Entries) (r : List ℕ) → drop layers s ≡ encode (dictionary ls) ++ r → Valid (dictionary ls) maxLevels → (plen : ℕ) (fs : List Listed) (vs : List File)
-    → AllAlike s fs vs → RootsWithin s fs → filesNumber s plen layers fs ≡ filesValue plen ls vs
+files-number : (t l : List ℕ) (ls : Entries) → l ≡ encode (dictionary ls) → Valid (dictionary ls) maxLevels → (plen : ℕ) (fs : List Listed) (vs : List File)
+    → AllAlike t fs vs → AllHold vs → filesNumber t l plen fs ≡ filesValue plen ls vs
 unfolding filesNumber
-files-number s layers ls r bytes valid plen fs vs alike within = rw (roots-apart s fs vs alike) (by-apart (rootsApart vs) refl)
+files-number t l ls bytes valid plen fs vs alike hold = rw (roots-apart t fs vs alike) (by-apart (rootsApart vs) refl)
   where
-    by-apart : (t : Bool) → rootsApart vs ≡ t
-        → cond t (cond (keysWide s layers && eqb (length (layerKeys s layers)) (longs plen fs)) (worst s layers plen 0 fs) layersAmiss) sameRoot
-        ≡ cond t (cond (layersFit plen ls vs && noOthers plen vs ls) (cond (layersGiveRoots plen ls vs) 0 layerDiffers) layersAmiss) sameRoot
-    by-apart true e = layers-number s layers ls r bytes valid plen fs vs alike within e
+    by-apart : (o : Bool) → rootsApart vs ≡ o
+        → cond o (cond (keysWide l && eqb (length (layerKeys l)) (longs plen fs)) (worst t l plen 0 fs) layersAmiss) sameRoot
+        ≡ cond o (cond (layersFit plen ls vs && noOthers plen vs ls) (cond (layersGiveRoots plen ls vs) 0 layerDiffers) layersAmiss) sameRoot
+    by-apart true e = layers-number t l ls bytes valid plen fs vs alike hold e
     by-apart false e = refl
 
 -- where keys and tree are right, the value's number is that of its files
 from-files : (es : Entries) → (hasKeys es ≡ true) × (isNumber 2 (lookup keyMetaVersion (infoOf es)) ≡ true) × (isPieceLength (plenOf es) ≡ true)
-    → treeRight (entriesOf (lookup keyFileTree (infoOf es))) ≡ true → valueNumber es ≡ filesValue (plenOf es) (layersOf es) (filesOf es)
+    → treeRight (treeOf es) ≡ true → valueNumber es ≡ filesValue (plenOf es) (layersOf es) (filesOf es)
 unfolding valueNumber
-from-files es h t = rw (h .0, h .1, h .2, t) refl
+from-files es h o = rw (h .0, h .1, h .2, o) refl
 
 -- what is judged keeps its number
-judged-number : (k : Keys) (n files long : ℕ) → withJudged k (judgedAs n files long) .number ≡ n
-judged-number k zero files long = refl
-judged-number k (suc n) files long = simp (ne-eqb (suc n) 0 (λ z. omega arith))
+judged-number : (k : Keys) (n files long : ℕ) → k .number ≡ 0 → withJudged k (judgedAs n files long) .keys .number ≡ n
+judged-number k zero files long e = e
+judged-number k (suc n) files long e = simp (ne-eqb (suc n) 0 (λ z. omega arith))
 
 -- ---- 22 to 28: the number of the encoding of a value is the number of the value
 
 module _ (s : List ℕ) (es : Entries) (start : s ≡ encode (dictionary es)) (valid : Valid (dictionary es) maxLevels) where
+  -- the parts that `file tree` and `piece layers` are
+  abbrev t : List ℕ
+  t = bytesIn s (keysOf s .tree)
+
+  abbrev l : List ℕ
+  l = bytesIn s (keysOf s .layers)
+
   -- 25 to 28, where the keys are right
-  tree-number : keysOf s .number ≡ 0 → treeNumber s (keysOf s .plen) (keysOf s .layers) (filesIn s (keysOf s .tree)) ≡ valueNumber es
+  tree-number : keysOf s .number ≡ 0 → treeNumber t l (keysOf s .plen) (filesIn t) ≡ valueNumber es
   unfolding treeNumber
-  tree-number e = by-tree (right (filesIn s (keysOf s .tree))) refl
+  tree-number e = by-tree (right (filesIn t)) refl
     where
       k : KeysAt s es (keysOf s)
       k = keys-point s es start valid e
 
-      same-tree : right (filesIn s (keysOf s .tree)) ≡ treeRight (entriesOf (lookup keyFileTree (infoOf es)))
+      same-tree : right (filesIn t) ≡ treeRight (treeOf es)
       same-tree = torrent-tree s es start valid e
 
-      by-tree : (b : Bool) → right (filesIn s (keysOf s .tree)) ≡ b → cond b (filesNumber s (keysOf s .plen) (keysOf s .layers) (listed (filesIn s (keysOf s .tree)))) wrongTree ≡ valueNumber es
+      by-tree : (b : Bool) → right (filesIn t) ≡ b → cond b (filesNumber t l (keysOf s .plen) (listed (filesIn t))) wrongTree ≡ valueNumber es
       by-tree false q = sym (tree-next es (sym (keys-number s es start valid) ∙ e) (sym same-tree ∙ q))
       by-tree true q =
-          let fs = listed (filesIn s (keysOf s .tree)) in
-          let alike : AllAlike s fs (filesOf es) = rw (torrent-files s es start valid e q) at (all-alike s fs) in
+          let fs = listed (filesIn t) in
+          let alike : AllAlike t fs (filesOf es) = rw (torrent-files s es start valid e q) at (all-alike t fs) in
           let deep : Valid (dictionary (layersOf es)) maxLevels = more-levels (dictionary (layersOf es)) 31 maxLevels (omega arith) (k .layers-valid) in
-          let within = roots-within s fs (files-right s (keysOf s .tree)) in
-          files-number s (keysOf s .layers) (layersOf es) (k .layersRest) (k .layers-bytes) deep (keysOf s .plen) fs (filesOf es) alike within
+          let hold = files-hold (treeOf es) (k .tree-valid) (sym same-tree ∙ q) in
+          files-number t l (layersOf es) (k .layers-bytes) deep (keysOf s .plen) fs (filesOf es) alike hold
           ∙ ap (λ (p : ℕ). filesValue p (layersOf es) (filesOf es)) (k .plen-is)
           ∙ sym (from-files es (none-exactly s es start valid .0 e) (sym same-tree ∙ q))
 
   -- a torrent of at most 1 MiB that encodes a valid value gets the number of that value
-  pub number-is-the-values : length s ≤ maxTorrent → checkedOf s .number ≡ valueNumber es
+  pub number-is-the-values : length s ≤ largestTorrent → checkedOf s .keys .number ≡ valueNumber es
   unfolding checkedOf judgedOf
   number-is-the-values small = rw (strict-keys s small (taken s (es, valid, start))) (by-keys (eqb (keysOf s .number) 0) refl)
     where
       files : Files
-      files = filesIn s (keysOf s .tree)
+      files = filesIn t
 
       plen : ℕ
       plen = keysOf s .plen
 
       number : ℕ
-      number = treeNumber s plen (keysOf s .layers) files
+      number = treeNumber t l plen files
 
       by-keys : (b : Bool) → eqb (keysOf s .number) 0 ≡ b
-          → cond b (withJudged (keysOf s) (judgedAs number (length (listed files)) (longs plen (listed files)))) (unread (keysOf s .number)) .number ≡ valueNumber es
-      by-keys true q = judged-number (keysOf s) number (length (listed files)) (longs plen (listed files)) ∙ tree-number (eqb-true (keysOf s .number) 0 q)
+          → cond b (withJudged (keysOf s) (judgedAs number (length (listed files)) (longs plen (listed files)))) (unread (keysOf s .number)) .keys .number ≡ valueNumber es
+      by-keys true q =
+          let z = eqb-true (keysOf s .number) 0 q in
+          judged-number (keysOf s) number (length (listed files)) (longs plen (listed files)) z ∙ tree-number z
       by-keys false q = keys-number s es start valid ∙ sym (keys-first es (λ z. eqb-false (keysOf s .number) 0 q (keys-number s es start valid ∙ z)))
 
 -- ---- 19 to 21, and all of them together
 
 -- a refusal by what comes before the tree is the answer
-checked-refused : (s : List ℕ) (n : ℕ) → metainfoOf s ≡ noKeys n → (n ≡ 0 → ⊥) → checkedOf s .number ≡ n
+checked-refused : (s : List ℕ) (n : ℕ) → metainfoOf s ≡ noKeys n → (n ≡ 0 → ⊥) → checkedOf s .keys .number ≡ n
 unfolding checkedOf
 checked-refused s n e h = rw e (rw (ne-eqb n 0 h) refl)
 
 -- more than 1 MiB
-large-keys : (s : List ℕ) → maxTorrent < length s → metainfoOf s ≡ noKeys torrentTooLarge
+large-keys : (s : List ℕ) → largestTorrent < length s → metainfoOf s ≡ noKeys torrentTooLarge
 unfolding metainfoOf
-large-keys s h = rw (lt-leb (length s) maxTorrent h) refl
+large-keys s h = rw (lt-leb (length s) largestTorrent h) refl
 
 -- bytes that are not strict
-broken-keys : (s : List ℕ) (n : ℕ) → length s ≤ maxTorrent → strictness s ≡ suc n → metainfoOf s ≡ noKeys (suc n)
+broken-keys : (s : List ℕ) (n : ℕ) → length s ≤ largestTorrent → strictness s ≡ suc n → metainfoOf s ≡ noKeys (suc n)
 unfolding metainfoOf
-broken-keys s n h e = rw (le-leb (length s) maxTorrent h, e) refl
-
--- what the number n says of the bytes s: they are more than 1 MiB; or they are no strict bencoding, and the depth is not wrong first; or
--- it is; or they encode a valid dictionary, and n is what 01 says of that value
-pub data Says (s : List ℕ) (n : ℕ) : Type 0 where
-  tooLarge : maxTorrent < length s → n ≡ torrentTooLarge → Says s n
-  noEncoding : length s ≤ maxTorrent → (Encoded maxLevels s → ⊥) → (TooDeepFirst s → ⊥) → n ≡ notStrict → Says s n
-  tooDeep : length s ≤ maxTorrent → TooDeepFirst s → n ≡ nestedTooDeeply → Says s n
-  encodes : length s ≤ maxTorrent → (es : Entries) → Valid (dictionary es) maxLevels → s ≡ encode (dictionary es) → n ≡ valueNumber es → Says s n
+broken-keys s n h e = rw (le-leb (length s) largestTorrent h, e) refl
 
 -- so it is of the number that is answered, whatever the bytes are
-pub torrent-number : (s : List ℕ) → Says s (checkedOf s .number)
-torrent-number s = by-size (leb (length s) maxTorrent) refl
+pub torrent-number : (s : List ℕ) → Says s (checkedOf s .keys .number)
+torrent-number s = by-size (leb (length s) largestTorrent) refl
   where
-    by-strict : length s ≤ maxTorrent → (strictness s ≡ 0) ⊎ ((strictness s ≡ notStrict) ⊎ (strictness s ≡ nestedTooDeeply)) → Says s (checkedOf s .number)
+    by-strict : length s ≤ largestTorrent → (strictness s ≡ 0) ⊎ ((strictness s ≡ notStrict) ⊎ (strictness s ≡ nestedTooDeeply)) → Says s (checkedOf s .keys .number)
     by-strict h (inl e) = let v = taken-only s e in encodes h (v .0) (v .1) (v .2) (number-is-the-values s (v .0) (v .2) (v .1) h)
     by-strict h (inr (inl e)) = let o = otherwise-only s e in noEncoding h (o .0) (o .1) (checked-refused s notStrict (broken-keys s 19 h e) (λ z. omega arith))
     by-strict h (inr (inr e)) = tooDeep h (deep-first s e) (checked-refused s nestedTooDeeply (broken-keys s 20 h e) (λ z. omega arith))
 
-    by-size : (b : Bool) → leb (length s) maxTorrent ≡ b → Says s (checkedOf s .number)
-    by-size true e = by-strict (leb-true (length s) maxTorrent e) (one-of-three s)
-    by-size false e = let h = leb-false (length s) maxTorrent e in tooLarge h (checked-refused s torrentTooLarge (large-keys s h) (λ z. omega arith))
+    by-size : (b : Bool) → leb (length s) largestTorrent ≡ b → Says s (checkedOf s .keys .number)
+    by-size true e = by-strict (leb-true (length s) largestTorrent e) (one-of-three s)
+    by-size false e = let h = leb-false (length s) largestTorrent e in tooLarge h (checked-refused s torrentTooLarge (large-keys s h) (λ z. omega arith))
 
 -- and of no other number
-pub no-other-number : (s : List ℕ) (n : ℕ) → Says s n → n ≡ checkedOf s .number
+pub no-other-number : (s : List ℕ) (n : ℕ) → Says s n → n ≡ checkedOf s .keys .number
 no-other-number s n (tooLarge h e) = e ∙ sym (checked-refused s torrentTooLarge (large-keys s h) (λ z. omega arith))
 no-other-number s n (noEncoding h a b e) = e ∙ sym (checked-refused s notStrict (broken-keys s 19 h (otherwise s a b)) (λ z. omega arith))
 no-other-number s n (tooDeep h d e) = e ∙ sym (checked-refused s nestedTooDeeply (broken-keys s 20 h (deep-only s d)) (λ z. omega arith))
@@ -167,63 +164,49 @@ no-other-number s n (encodes h es v b e) = e ∙ sym (number-is-the-values s es 
 
 -- ---- 19, 20 and 21 only then
 
--- the tests of a value, one after the other, give none of these numbers
-seven-tests : (a b c d e f g : Bool) (n : ℕ) → 0 < n → n < 22 → cond a (cond b (cond c (cond d (cond e (cond f (cond g 0 28) 27) 26) 25) 24) 23) 22 ≡ n → ⊥
-seven-tests false b c d e f g n l h q = omega arith
-seven-tests true false c d e f g n l h q = omega arith
-seven-tests true true false d e f g n l h q = omega arith
-seven-tests true true true false e f g n l h q = omega arith
-seven-tests true true true true false f g n l h q = omega arith
-seven-tests true true true true true false g n l h q = omega arith
-seven-tests true true true true true true false n l h q = omega arith
-seven-tests true true true true true true true n l h q = omega arith
-
--- so no value has one of them
+-- no value has one of them
 no-value-has : (es : Entries) (n : ℕ) → 0 < n → n < 22 → valueNumber es ≡ n → ⊥
-unfolding valueNumber
-no-value-has es n l h q =
-    seven-tests (hasKeys es) (isNumber 2 (lookup keyMetaVersion (infoOf es))) (isPieceLength (plenOf es)) (treeRight (entriesOf (lookup keyFileTree (infoOf es)))) (rootsApart (filesOf es))
-    (layersFit (plenOf es) (layersOf es) (filesOf es) && noOthers (plenOf es) (filesOf es) (layersOf es)) (layersGiveRoots (plenOf es) (layersOf es) (filesOf es)) n l h q
+no-value-has es n l h q = elim (value-ranged es) [ inl z ↦ omega arith | inr p ↦ (let w = p .0 in omega arith) ]
 
 -- 19 only for more than 1 MiB
-pub large-only : (s : List ℕ) → checkedOf s .number ≡ torrentTooLarge → maxTorrent < length s
+pub large-only : (s : List ℕ) → checkedOf s .keys .number ≡ torrentTooLarge → largestTorrent < length s
 large-only s e = by-case (torrent-number s)
   where
-    by-case : Says s (checkedOf s .number) → maxTorrent < length s
+    by-case : Says s (checkedOf s .keys .number) → largestTorrent < length s
     by-case (tooLarge h q) = h
     by-case (noEncoding h a b q) = absurd (omega arith)
     by-case (tooDeep h d q) = absurd (omega arith)
     by-case (encodes h es v b q) = absurd (no-value-has es torrentTooLarge (omega arith) (omega arith) (sym q ∙ e))
 
 -- 20 only for bytes that encode no valid dictionary, and in which the depth is not wrong first
-pub broken-only : (s : List ℕ) → checkedOf s .number ≡ notStrict → (length s ≤ maxTorrent) × (Encoded maxLevels s → ⊥) × (TooDeepFirst s → ⊥)
+pub broken-only : (s : List ℕ) → checkedOf s .keys .number ≡ notStrict → (length s ≤ largestTorrent) × (Encoded maxLevels s → ⊥) × (TooDeepFirst s → ⊥)
 broken-only s e = by-case (torrent-number s)
   where
-    by-case : Says s (checkedOf s .number) → (length s ≤ maxTorrent) × (Encoded maxLevels s → ⊥) × (TooDeepFirst s → ⊥)
+    by-case : Says s (checkedOf s .keys .number) → (length s ≤ largestTorrent) × (Encoded maxLevels s → ⊥) × (TooDeepFirst s → ⊥)
     by-case (tooLarge h q) = absurd (omega arith)
     by-case (noEncoding h a b q) = (h, a, b)
     by-case (tooDeep h d q) = absurd (omega arith)
     by-case (encodes h es v b q) = absurd (no-value-has es notStrict (omega arith) (omega arith) (sym q ∙ e))
 
 -- 21 only where the depth is wrong first
-pub too-deep-only : (s : List ℕ) → checkedOf s .number ≡ nestedTooDeeply → (length s ≤ maxTorrent) × TooDeepFirst s
+pub too-deep-only : (s : List ℕ) → checkedOf s .keys .number ≡ nestedTooDeeply → (length s ≤ largestTorrent) × TooDeepFirst s
 too-deep-only s e = by-case (torrent-number s)
   where
-    by-case : Says s (checkedOf s .number) → (length s ≤ maxTorrent) × TooDeepFirst s
+    by-case : Says s (checkedOf s .keys .number) → (length s ≤ largestTorrent) × TooDeepFirst s
     by-case (tooLarge h q) = absurd (omega arith)
     by-case (noEncoding h a b q) = absurd (omega arith)
     by-case (tooDeep h d q) = (h, d)
     by-case (encodes h es v b q) = absurd (no-value-has es nestedTooDeeply (omega arith) (omega arith) (sym q ∙ e))
 
 -- every other number, 0 among them, is what 01 says of the value that the bytes encode
-pub value-only : (s : List ℕ) → (checkedOf s .number ≡ 0) ⊎ (22 ≤ checkedOf s .number)
-    → (length s ≤ maxTorrent) × ((es : Entries) × Valid (dictionary es) maxLevels × (s ≡ encode (dictionary es)) × (checkedOf s .number ≡ valueNumber es))
+pub value-only : (s : List ℕ) → (checkedOf s .keys .number ≡ 0) ⊎ (22 ≤ checkedOf s .keys .number)
+    → (length s ≤ largestTorrent) × ((es : Entries) × Valid (dictionary es) maxLevels × (s ≡ encode (dictionary es)) × (checkedOf s .keys .number ≡ valueNumber es))
 value-only s e = by-case (torrent-number s)
   where
-    other : (n : ℕ) → checkedOf s .number ≡ n → 0 < n → n < 22 → ⊥
+    other : (n : ℕ) → checkedOf s .keys .number ≡ n → 0 < n → n < 22 → ⊥
     other n q l h = elim e [ inl z ↦ omega arith | inr z ↦ omega arith ]
 
-    by-case : Says s (checkedOf s .number) → (length s ≤ maxTorrent) × ((es : Entries) × Valid (dictionary es) maxLevels × (s ≡ encode (dictionary es)) × (checkedOf s .number ≡ valueNumber es))
+    by-case : Says s (checkedOf s .keys .number) → (length s ≤ largestTorrent) × ((es : Entries) × Valid (dictionary es) maxLevels × (s ≡ encode (dictionary es)) × (checkedOf s .keys .number ≡ valueNumber es))
     by-case (tooLarge h q) = absurd (other torrentTooLarge q (omega arith) (omega arith))
     by-case (noEncoding h a b q) = absurd (other notStrict q (omega arith) (omega arith))
     by-case (tooDeep h d q) = absurd (other nestedTooDeeply q (omega arith) (omega arith))
@@ -231,27 +214,14 @@ value-only s e = by-case (torrent-number s)
 
 -- ---- none above 28
 
-seven-below : (a b c d e f g : Bool) → cond a (cond b (cond c (cond d (cond e (cond f (cond g 0 28) 27) 26) 25) 24) 23) 22 < 29
-seven-below false b c d e f g = omega arith
-seven-below true false c d e f g = omega arith
-seven-below true true false d e f g = omega arith
-seven-below true true true false e f g = omega arith
-seven-below true true true true false f g = omega arith
-seven-below true true true true true false g = omega arith
-seven-below true true true true true true false = omega arith
-seven-below true true true true true true true = omega arith
-
 value-below : (es : Entries) → valueNumber es < noSuchFile
-unfolding valueNumber
-value-below es =
-    seven-below (hasKeys es) (isNumber 2 (lookup keyMetaVersion (infoOf es))) (isPieceLength (plenOf es)) (treeRight (entriesOf (lookup keyFileTree (infoOf es)))) (rootsApart (filesOf es))
-    (layersFit (plenOf es) (layersOf es) (filesOf es) && noOthers (plenOf es) (filesOf es) (layersOf es)) (layersGiveRoots (plenOf es) (layersOf es) (filesOf es))
+value-below es = elim (value-ranged es) [ inl z ↦ omega arith | inr p ↦ (let w = p .1 in omega arith) ]
 
 -- 29 is never the number of the torrent itself
-number-below : (s : List ℕ) → checkedOf s .number < noSuchFile
+number-below : (s : List ℕ) → checkedOf s .keys .number < noSuchFile
 number-below s = by-case (torrent-number s)
   where
-    by-case : Says s (checkedOf s .number) → checkedOf s .number < noSuchFile
+    by-case : Says s (checkedOf s .keys .number) → checkedOf s .keys .number < noSuchFile
     by-case (tooLarge h q) = omega arith
     by-case (noEncoding h a b q) = omega arith
     by-case (tooDeep h d q) = omega arith
@@ -260,13 +230,13 @@ number-below s = by-case (torrent-number s)
 -- ---- the same number from every call
 
 -- the torrent is answered with that number
-pub read-number : (s : List ℕ) → readOf s .number ≡ checkedOf s .number
+pub read-number : (s : List ℕ) → readOf s .number ≡ checkedOf s .keys .number
 unfolding readOf
-read-number s = by-number (eqb (checkedOf s .number) 0) refl
+read-number s = by-number (eqb (checkedOf s .keys .number) 0) refl
   where
-    by-number : (b : Bool) → eqb (checkedOf s .number) 0 ≡ b
-        → cond b (record { number = 0; hash = sha256 (cut s (checkedOf s .info) (checkedOf s .past - checkedOf s .info)); plen = checkedOf s .plen; files = checkedOf s .files }) (noTorrent (checkedOf s .number)) .number ≡ checkedOf s .number
-    by-number true q = sym (eqb-true (checkedOf s .number) 0 q)
+    by-number : (b : Bool) → eqb (checkedOf s .keys .number) 0 ≡ b
+        → cond b (record { number = 0; hash = sha256 (bytesIn s (checkedOf s .keys .info)); plen = checkedOf s .keys .plen; files = checkedOf s .files }) (noTorrent (checkedOf s .keys .number)) .number ≡ checkedOf s .keys .number
+    by-number true q = sym (eqb-true (checkedOf s .keys .number) 0 q)
     by-number false q = refl
 
 -- so what the number says of the bytes is so of the number that is read
@@ -274,45 +244,45 @@ pub read-says : (s : List ℕ) → Says s (readOf s .number)
 read-says s = rw (read-number s) (torrent-number s)
 
 -- 0 is read only from the encoding of a valid dictionary, of at most 1 MiB, of which 01 says 0
-pub read-encodes : (s : List ℕ) → readOf s .number ≡ 0 → (length s ≤ maxTorrent) × ((es : Entries) × Valid (dictionary es) maxLevels × (s ≡ encode (dictionary es)) × (valueNumber es ≡ 0))
+pub read-encodes : (s : List ℕ) → readOf s .number ≡ 0 → (length s ≤ largestTorrent) × ((es : Entries) × Valid (dictionary es) maxLevels × (s ≡ encode (dictionary es)) × (valueNumber es ≡ 0))
 read-encodes s e =
     let z = sym (read-number s) ∙ e in
     let v = value-only s (inl z) in
     (v .0, (v .1 .0, v .1 .1, v .1 .2, sym (v .1 .3) ∙ z))
 
 -- a refused torrent is answered with its number beside zeros
-pub refused-read : (s : List ℕ) → (checkedOf s .number ≡ 0 → ⊥) → readOf s ≡ noTorrent (checkedOf s .number)
+pub refused-read : (s : List ℕ) → (checkedOf s .keys .number ≡ 0 → ⊥) → readOf s ≡ noTorrent (checkedOf s .keys .number)
 unfolding readOf
-refused-read s h = rw (ne-eqb (checkedOf s .number) 0 h) refl
+refused-read s h = rw (ne-eqb (checkedOf s .keys .number) 0 h) refl
 
 -- so is every file of it
-pub refused-file : (s : List ℕ) (n : ℕ) → (checkedOf s .number ≡ 0 → ⊥) → fileRead s n ≡ noFileRead (checkedOf s .number)
+pub refused-file : (s : List ℕ) (n : ℕ) → (checkedOf s .keys .number ≡ 0 → ⊥) → fileRead s n ≡ noFileRead (checkedOf s .keys .number)
 unfolding fileRead
-refused-file s n h = rw (ne-eqb (checkedOf s .number) 0 h) refl
+refused-file s n h = rw (ne-eqb (checkedOf s .keys .number) 0 h) refl
 
 -- and every path element
-pub refused-path : (s : List ℕ) (n k : ℕ) → (checkedOf s .number ≡ 0 → ⊥) → pathRead s n k ≡ noPart (checkedOf s .number)
+pub refused-path : (s : List ℕ) (n k : ℕ) → (checkedOf s .keys .number ≡ 0 → ⊥) → pathRead s n k ≡ noPartRead (checkedOf s .keys .number)
 unfolding pathRead
-refused-path s n k h = rw (ne-eqb (checkedOf s .number) 0 h) refl
+refused-path s n k h = rw (ne-eqb (checkedOf s .keys .number) 0 h) refl
 
 -- so 29 for a file is after all of 19 to 28: the torrent itself is read with 0
 pub file-29-after : (s : List ℕ) (n : ℕ) → fileRead s n .number ≡ noSuchFile → readOf s .number ≡ 0
-file-29-after s n e = by-number (eqb (checkedOf s .number) 0) refl
+file-29-after s n e = by-number (eqb (checkedOf s .keys .number) 0) refl
   where
-    by-number : (b : Bool) → eqb (checkedOf s .number) 0 ≡ b → readOf s .number ≡ 0
-    by-number true q = read-number s ∙ eqb-true (checkedOf s .number) 0 q
+    by-number : (b : Bool) → eqb (checkedOf s .keys .number) 0 ≡ b → readOf s .number ≡ 0
+    by-number true q = read-number s ∙ eqb-true (checkedOf s .keys .number) 0 q
     by-number false q =
-        let f : fileRead s n .number ≡ checkedOf s .number = ap (λ (z : FileRead). z .number) (refused-file s n (eqb-false (checkedOf s .number) 0 q)) in
+        let f : fileRead s n .number ≡ checkedOf s .keys .number = ap (λ (z : FileRead). z .number) (refused-file s n (eqb-false (checkedOf s .keys .number) 0 q)) in
         let w : ⊥ = omega (arith, number-below s) in
         absurd w
 
 -- and so it is for a path element
 pub path-29-after : (s : List ℕ) (n k : ℕ) → pathRead s n k .number ≡ noSuchFile → readOf s .number ≡ 0
-path-29-after s n k e = by-number (eqb (checkedOf s .number) 0) refl
+path-29-after s n k e = by-number (eqb (checkedOf s .keys .number) 0) refl
   where
-    by-number : (b : Bool) → eqb (checkedOf s .number) 0 ≡ b → readOf s .number ≡ 0
-    by-number true q = read-number s ∙ eqb-true (checkedOf s .number) 0 q
+    by-number : (b : Bool) → eqb (checkedOf s .keys .number) 0 ≡ b → readOf s .number ≡ 0
+    by-number true q = read-number s ∙ eqb-true (checkedOf s .keys .number) 0 q
     by-number false q =
-        let f : pathRead s n k .number ≡ checkedOf s .number = ap (λ (z : PartRead). z .number) (refused-path s n k (eqb-false (checkedOf s .number) 0 q)) in
+        let f : pathRead s n k .number ≡ checkedOf s .keys .number = ap (λ (z : PartRead). z .number) (refused-path s n k (eqb-false (checkedOf s .keys .number) 0 q)) in
         let w : ⊥ = omega (arith, number-below s) in
         absurd w

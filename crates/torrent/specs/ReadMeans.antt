@@ -1,356 +1,349 @@
 -- 01, "The torrent": what is answered of a torrent that gets 0 is what stands in the value that it encodes: the info hash, the piece
--- length, the files in tree order, each with its length, root, path and layer.
+-- length, the files in tree order, each with its length, root, path and layer. `Answers` says what is promised.
 -- Assumes nothing.
 use mathlib.Core.Path.{_≡_, refl, sym, ap, _∙_}
-use mathlib.Core.Logic.{_⊎_, inl, inr}
-use mathlib.Core.Bool.{Bool, true, false, cond, not, _&&_, _||_, false≢true, and-eq-true-iff}
+use mathlib.Core.Bool.{Bool, true, false, cond}
 use mathlib.Core.List.{List, [], _∷_, _++_}
-use Prim.Native.Nat.{ℕ, zero, suc, _+_, _-_, _*_, _≤_, _<_}
+use Prim.Native.Nat.{ℕ, zero, suc, _+_, _-_, _≤_, _<_}
 use native.Mathlib.Decide.{decLt}
 use native.Mathlib.Omega.{arith}
-use lib.ListN.{length, drop, getD, length-append}
-use borrow.Author.Tests.{eq-eqb, ne-eqb, lt-ltb, le-ltb}
+use lib.ListN.{length, drop, take, length-append, length-drop}
+use lib.Dec.{eqb}
+use borrow.Author.Tests.{eqb-true, eqb-false, eq-eqb, ne-eqb, lt-ltb, le-ltb}
 use Rattle.octets.specs.Octets.{cut, zeroHash}
-use Rattle.octets.specs.OctetsLaws.{cut-length}
-use Rattle.numbers.specs.Numbers.{noSuchFile}
+use Rattle.octets.specs.OctetsLaws.{cut-cut}
+use Rattle.limits.specs.Limits.{maxLevels}
+use Rattle.numbers.specs.Numbers.{wrongTree, noSuchFile}
 use Rattle.sha256.specs.Sha256.{sha256}
-use Rattle.tree.specs.Geometry.{isPieceLength, hasLayer}
-use Rattle.bencode.specs.Grammar.{colon, maxLevels, integer, string, list, dictionary, Entries, decimal, encodeString, encode, Valid}
-use Rattle.bencode.specs.Parts.{findKey, Lookup, absent, present, lookup, FoundIs}
+use Rattle.tree.specs.Geometry.{hasLayer}
+use Rattle.bencode.specs.Grammar.{colon, string, dictionary, Entries, decimal, encodeString, encode, Valid}
+use Rattle.bencode.specs.Parts.{findKey, present, lookup, FoundIs}
 use Rattle.bencode.specs.CompleteLaws.{contentStart}
 use Rattle.bencode.specs.DepthLaws.{more-levels}
-use Rattle.bencode.specs.PartsLaws.{find-is, content-is}
+use Rattle.bencode.specs.PartsLaws.{part-front, content-is}
 use Rattle.bencode.specs.declared.scalar.ByteString.{ByteString}
 use Rattle.bencode.specs.declared.scalar.ByteString.the-variants.{NoString}
 use Rattle.bencode.specs.declared.parts.Found.{Found}
 use Rattle.bencode.specs.declared.parts.Found.the-variants.{Part, Missing}
-use Rattle.metainfo.specs.Metainfo.{keyInfo, keyFileTree, keyMetaVersion, keysOf, metainfoOf}
+use Rattle.meaning.specs.Nth.{Nth}
+use Rattle.meaning.specs.NthLaws.{nth-some}
+use Rattle.meaning.specs.Torrent.{File, infoOf, treeOf, filesOf, plenOf, layersOf, valueNumber}
+use Rattle.meaning.specs.AmissLaws.{all-layers}
+use Rattle.metainfo.specs.Metainfo.{bytesIn, keysOf, metainfoOf}
 use Rattle.metainfo.specs.MetainfoLaws.{metainfo-right}
 use Rattle.metainfo.specs.declared.Keys.{Keys}
-use Rattle.listing.specs.Listing.{Listed, listed, filesIn, fileNumber}
-use Rattle.listing.specs.FilesLaws.{FileRight, files-right, number-right}
+use Rattle.filetree.specs.Tree.{Element, Listed, right, listed, filesIn, fileNumber, longs}
 use Rattle.layers.specs.Layers.{stringIn, layerAt, rootBytes, layerString, startOf, sizeOf}
-use Rattle.meaning.specs.Torrent.{File, entriesOf, isNumber, infoOf, hasKeys, treeRight, filesOf, rootsApart, layerFits, layersFit, noOthers, layersGiveRoots, plenOf, layersOf, valueNumber}
-use Rattle.meaning.specs.Reading.{element, elementsOf, readFile, readFiles}
-use Rattle.meaning.specs.FileLaws.{part-front, string-there}
-use Rattle.meaning.specs.KeysLaws.{KeysAt, keys-point}
-use Rattle.meaning.specs.StrictTorrentLaws.{torrent-files}
-use Rattle.torrent.specs.Torrent.{checkedOf, readOf, noFileRead, fileAnswer, fileRead, noPart, elementIn, pathRead}
-use Rattle.torrent.specs.CheckLaws.{Whole, checked-whole}
+use Rattle.joined.specs.Reading.{element, elements, readFile, readFiles}
+use Rattle.joined.specs.FileLaws.{string-there}
+use Rattle.joined.specs.TreeLaws.{Fits, AllFit, tree-fits}
+use Rattle.joined.specs.LayersRead.{find-layer}
+use Rattle.joined.specs.KeysLaws.{KeysAt, keys-point}
+use Rattle.joined.specs.StrictTorrentLaws.{torrent-tree, torrent-files}
+use Rattle.torrent.specs.Torrent.{checkedOf, readOf, noFileRead, fileAnswer, fileRead, noPartRead, judgedAs, judgedOf, treeNumber, filesNumber, unread, withJudged, elementIn, pathRead}
+use Rattle.torrent.specs.Answers.{TorrentIs, FileIs, PartIs}
 use Rattle.torrent.specs.NumberMeans.{number-is-the-values, read-number}
-use Rattle.torrent.specs.declared.read.FileRead.{FileRead}
-use Rattle.torrent.specs.declared.read.PartRead.{PartRead}
+use Rattle.torrent.specs.declared.check.Checked.{Checked}
 
--- ---- number n of a list, from 0
+-- ---- a part of a part
 
-module _ {A : Type 0} where
-  -- x is number n of the list, counted from 0
-  unfoldable pub Nth : List A → ℕ → A → Type 0
-  Nth [] n x = ⊥
-  Nth (y ∷ ys) zero x = x ≡ y
-  Nth (y ∷ ys) (suc n) x = Nth ys n x
+-- n bytes from a on that are there in a part of s stand in s behind the part's start
+take-there : (n : ℕ) (xs : List ℕ) → length (take n xs) ≡ n → n ≤ length xs
+take-there zero xs e = omega arith
+take-there (suc n) [] e = absurd (omega arith)
+take-there (suc n) (x ∷ xs) e = let h = take-there n xs (omega arith) in omega arith
 
-  -- there is one for each number below the length
-  pub nth-some : (xs : List A) (n : ℕ) → n < length xs → (x : A) × Nth xs n x
-  unfolding Nth
-  nth-some [] n h = absurd (omega arith)
-  nth-some (x ∷ xs) zero h = (x, refl)
-  nth-some (x ∷ xs) (suc n) h = nth-some xs n (omega arith)
+pub part-within : (t : List ℕ) (a n : ℕ) → length (cut t a n) ≡ n → (n ≡ 0 → ⊥) → a + n ≤ length t
+unfolding cut
+part-within t a n e h = let w = take-there n (drop a t) e in omega (arith, length-drop a t)
 
-  -- and for no other
-  pub nth-below : (xs : List A) (n : ℕ) (x : A) → Nth xs n x → n < length xs
-  unfolding Nth
-  nth-below [] n x e = absurd e
-  nth-below (y ∷ ys) zero x e = omega arith
-  nth-below (y ∷ ys) (suc n) x e = let h = nth-below ys n x e in omega arith
+part-size : (s : List ℕ) (at m : ℕ) → length (cut s at m) ≤ m
+unfolding cut
+part-size s at m = take-size m (drop at s)
+  where
+    take-size : (n : ℕ) (xs : List ℕ) → length (take n xs) ≤ n
+    take-size zero xs = omega arith
+    take-size (suc n) [] = omega arith
+    take-size (suc n) (x ∷ xs) = let h = take-size n xs in omega arith
 
-  -- there is only one
-  pub nth-one : (xs : List A) (n : ℕ) (x y : A) → Nth xs n x → Nth xs n y → x ≡ y
-  unfolding Nth
-  nth-one [] n x y e f = absurd e
-  nth-one (z ∷ zs) zero x y e f = e ∙ sym f
-  nth-one (z ∷ zs) (suc n) x y e f = nth-one zs n x y e f
-
-  -- in a list with one more at its end: one of those before, or that one
-  nth-last : (xs : List A) (y : A) (n : ℕ) (x : A) → Nth (xs ++ y ∷ []) n x → Nth xs n x ⊎ ((n ≡ length xs) × (x ≡ y))
-  unfolding Nth
-  nth-last [] y zero x e = inr (refl, e)
-  nth-last [] y (suc n) x e = absurd e
-  nth-last (z ∷ zs) y zero x e = inl e
-  nth-last (z ∷ zs) y (suc n) x e = elim (nth-last zs y n x e) [ inl p ↦ inl p | inr p ↦ inr (ap suc (p .0), p .1) ]
+part-of-part : (s : List ℕ) (from m a n : ℕ) → length (cut (cut s from m) a n) ≡ n → cut s (from + a) n ≡ cut (cut s from m) a n
+part-of-part s from m a zero e = unfold cut in refl
+part-of-part s from m a (suc n) e = sym (cut-cut s from m a (suc n) (omega (arith, part-within (cut s from m) a (suc n) e (λ z. omega arith), part-size s from m)))
 
 -- ---- the files as they are read
 
 -- file n as it is read is read from the positions of file n
-nth-read : (s : List ℕ) (fs : List Listed) (n : ℕ) (v : File) → Nth (readFiles s fs) n v → (n < length fs) × (v ≡ readFile s (fileNumber fs n))
+nth-read : (t : List ℕ) (fs : List Listed) (n : ℕ) (v : File) → Nth (readFiles t fs) n v → (n < length fs) × (v ≡ readFile t (fileNumber fs n))
 unfolding Nth fileNumber
-nth-read s [] n v e = absurd e
-nth-read s (f ∷ fs) zero v e = (omega arith, e)
-nth-read s (f ∷ fs) (suc n) v e = let p = nth-read s fs n v e in let h = p .0 in (omega arith, p .1)
+nth-read t [] n v e = absurd e
+nth-read t (f ∷ fs) zero v e = (omega arith, e)
+nth-read t (f ∷ fs) (suc n) v e = let p = nth-read t fs n v e in let h = p .0 in (omega arith, p .1)
+
+-- the elements of its path fit
+nth-fits : (t : List ℕ) (fs : List Listed) (n : ℕ) → AllFit t fs → n < length fs → Fits t (fileNumber fs n .path)
+unfolding AllFit fileNumber
+nth-fits t [] n a h = absurd (omega arith)
+nth-fits t (f ∷ fs) zero a h = a .0
+nth-fits t (f ∷ fs) (suc n) a h = nth-fits t fs n (a .1) (omega arith)
 
 -- the length of a file as it is read, its root, its path
-module _ (s : List ℕ) (f : Listed) (v : File) (e : v ≡ readFile s f) where
+module _ (t : List ℕ) (f : Listed) (v : File) (e : v ≡ readFile t f) where
   size-read : v .size ≡ f .size
   unfolding readFile
   size-read = ap (λ (z : File). z .size) e
 
-  root-read : v .root ≡ rootBytes s (f .size) (f .root)
+  root-read : v .root ≡ rootBytes t (f .size) (f .root)
   unfolding readFile rootBytes
   root-read = ap (λ (z : File). z .root) e
 
-  path-read : v .path ≡ elementsOf s (f .path) (f .elements)
+  path-read : v .path ≡ elements t (f .path)
   unfolding readFile
   path-read = ap (λ (z : File). z .path) e
 
 -- the root of an empty file, and of another
-root-empty : (s : List ℕ) (n q : ℕ) → n ≡ 0 → rootBytes s n q ≡ zeroHash
+root-empty : (t : List ℕ) (n q : ℕ) → n ≡ 0 → rootBytes t n q ≡ zeroHash
 unfolding rootBytes
-root-empty s n q e = rw (eq-eqb n 0 e) refl
+root-empty t n q e = rw (eq-eqb n 0 e) refl
 
-root-full : (s : List ℕ) (n q : ℕ) → (n ≡ 0 → ⊥) → rootBytes s n q ≡ cut s q 32
+root-full : (t : List ℕ) (n q : ℕ) → (n ≡ 0 → ⊥) → rootBytes t n q ≡ cut t q 32
 unfolding rootBytes
-root-full s n q h = rw (ne-eqb n 0 h) refl
+root-full t n q h = rw (ne-eqb n 0 h) refl
 
 -- as many are read as there are
-read-count : (s : List ℕ) (fs : List Listed) → length (readFiles s fs) ≡ length fs
-read-count s [] = refl
-read-count s (f ∷ fs) = ap suc (read-count s fs)
+read-count : (t : List ℕ) (fs : List Listed) → length (readFiles t fs) ≡ length fs
+read-count t [] = refl
+read-count t (f ∷ fs) = ap suc (read-count t fs)
 
--- k elements are read
-elements-count : (s path : List ℕ) (k : ℕ) → length (elementsOf s path k) ≡ k
-unfolding elementsOf
-elements-count s path zero = refl
-elements-count s path (suc k) = let e = elements-count s path k in omega (arith, length-append (elementsOf s path k) (element s path k ∷ []))
+elements-count : (t : List ℕ) (path : List Element) → length (elements t path) ≡ length path
+elements-count t [] = refl
+elements-count t (e ∷ path) = ap suc (elements-count t path)
 
--- element j of them is element j of the path
-nth-element : (s path : List ℕ) (k j : ℕ) (x : List ℕ) → Nth (elementsOf s path k) j x → x ≡ element s path j
-nth-element s path zero j x e = absurd (unfold elementsOf Nth in e)
-nth-element s path (suc k) j x e =
-    elim (nth-last (elementsOf s path k) (element s path k) j x (unfold elementsOf in e)) [
-      | inl p ↦ nth-element s path k j x p
-      | inr p ↦ p .1 ∙ ap (element s path) (sym (p .0 ∙ elements-count s path k))
-    ]
+-- element k is answered by its positions, from where the part begins
+element-at : (t : List ℕ) (base : ℕ) (path : List Element) (k : ℕ) (x : List ℕ) → Nth (elements t path) k x → Fits t path
+    → (e : Element) × (elementIn base path k ≡ record { number = 0; start = base + e .start; size = e .end - e .start }) × (x ≡ element t e) × (length (element t e) ≡ e .end - e .start)
+unfolding Nth elementIn Fits
+element-at t base [] k x n f = absurd n
+element-at t base (e ∷ path) zero x n f = (e, refl, n, f .0)
+element-at t base (e ∷ path) (suc k) x n f = element-at t base path k x n (f .1)
 
--- an element that there is, and one that there is not
-element-there : (path : List ℕ) (elements k : ℕ) → k < elements → elementIn path elements k ≡ record { number = 0; start = getD path (2 * k) 0; size = getD path (2 * k + 1) 0 - getD path (2 * k) 0 }
+-- and 29 behind the last
+element-lacking : (base : ℕ) (path : List Element) (k : ℕ) → length path ≤ k → elementIn base path k ≡ noPartRead noSuchFile
 unfolding elementIn
-element-there path elements k h = rw (lt-ltb k elements h) refl
+element-lacking base [] k h = refl
+element-lacking base (e ∷ path) zero h = absurd (omega arith)
+element-lacking base (e ∷ path) (suc k) h = element-lacking base path k (omega arith)
 
-element-lacking : (path : List ℕ) (elements k : ℕ) → elements ≤ k → elementIn path elements k ≡ noPart noSuchFile
-unfolding elementIn
-element-lacking path elements k h = rw (le-ltb k elements h) refl
-
--- ---- the layers
-
--- where the number is 0 each layer fits
-all-fit : (es : Entries) → valueNumber es ≡ 0 → layersFit (plenOf es) (layersOf es) (filesOf es) ≡ true
-unfolding valueNumber
-all-fit es q =
-    seven-tests (hasKeys es) (isNumber 2 (lookup keyMetaVersion (infoOf es))) (isPieceLength (plenOf es)) (treeRight (entriesOf (lookup keyFileTree (infoOf es)))) (rootsApart (filesOf es))
-    (layersFit (plenOf es) (layersOf es) (filesOf es)) (noOthers (plenOf es) (filesOf es) (layersOf es)) (layersGiveRoots (plenOf es) (layersOf es) (filesOf es)) q
-  where
-    seven-tests : (a b c d e f o g : Bool) → _≡_ {A = ℕ} (cond a (cond b (cond c (cond d (cond e (cond (f && o) (cond g 0 28) 27) 26) 25) 24) 23) 22) 0 → f ≡ true
-    seven-tests a b c d e true o g q = refl
-    seven-tests false b c d e false o g q = absurd (omega arith)
-    seven-tests true false c d e false o g q = absurd (omega arith)
-    seven-tests true true false d e false o g q = absurd (omega arith)
-    seven-tests true true true false e false o g q = absurd (omega arith)
-    seven-tests true true true true false false o g q = absurd (omega arith)
-    seven-tests true true true true true false o g q = absurd (omega arith)
-
--- so does that of each file longer than the piece length
-nth-fits : (plen : ℕ) (ls : Entries) (vs : List File) (n : ℕ) (v : File) → layersFit plen ls vs ≡ true → Nth vs n v → hasLayer (v .size) plen ≡ true → layerFits plen v (lookup (v .root) ls) ≡ true
-unfolding layersFit Nth
-nth-fits plen ls [] n v h e l = absurd e
-nth-fits plen ls (w ∷ vs) zero v h e l =
-    let p = and-eq-true-iff (not (hasLayer (w .size) plen) || layerFits plen w (lookup (w .root) ls)) (layersFit plen ls vs) .0 h in
-    let q : not (hasLayer (v .size) plen) || layerFits plen v (lookup (v .root) ls) ≡ true = rw e (p .0) in
-    rw l at q
-nth-fits plen ls (w ∷ vs) (suc n) v h e l =
-    let p = and-eq-true-iff (not (hasLayer (w .size) plen) || layerFits plen w (lookup (w .root) ls)) (layersFit plen ls vs) .0 h in
-    nth-fits plen ls vs n v (p .1) e l
-
--- a layer that fits is a string
-fits-string : (plen : ℕ) (v : File) (x : Lookup) → layerFits plen v x ≡ true → (b : List ℕ) × (x ≡ present (string b))
-fits-string plen v absent e = absurd (false≢true e)
-fits-string plen v (present (string b)) e = (b, refl)
-fits-string plen v (present (integer minus n)) e = absurd (false≢true e)
-fits-string plen v (present (list vs)) e = absurd (false≢true e)
-fits-string plen v (present (dictionary es)) e = absurd (false≢true e)
+-- ---- layers
 
 -- the content of a string stands where it is read
-abbrev ContentIs : List ℕ → List ℕ → ByteString → Type 0
-ContentIs s b w = (sizeOf w ≡ length b) × (cut s (startOf w) (sizeOf w) ≡ b)
+abbrev ContentIs : List ℕ → ℕ → List ℕ → ByteString → Type 0
+ContentIs s base b w = (sizeOf w ≡ length b) × (cut s (startOf base w) (sizeOf w) ≡ b)
 
--- a string that is found is read as its content
-found-string : (s b : List ℕ) (w : Found) → FoundIs s w (present (string b)) → ContentIs s b (stringIn s w)
-found-string s b Missing e = absurd e
-found-string s b (Part a k) e =
+-- a string that is found in a part of s is read as its content
+found-string : (s : List ℕ) (base m : ℕ) (b : List ℕ) (w : Found) → FoundIs (cut s base m) w (present (string b)) → ContentIs s base b (stringIn (cut s base m) w)
+found-string s base m b Missing e = absurd e
+found-string s base m b (Part a k) e =
+    let l = cut s base m in
     let front : encode (string b) ≡ encodeString b = unfold encode in refl in
-    let there : drop a s ≡ encodeString b ++ drop (k - a) (drop a s) = part-front s a k (string b) e ∙ ap (λ (l : List ℕ). l ++ drop (k - a) (drop a s)) front in
+    let there : drop a l ≡ encodeString b ++ drop (k - a) (drop a l) = part-front l a k (string b) e ∙ ap (λ (z : List ℕ). z ++ drop (k - a) (drop a l)) front in
     let la = length-append (decimal (length b)) (colon ∷ b) in
     let size : a + length (encodeString b) - contentStart a b ≡ length b = omega arith in
-    rw (string-there s a k (string b) e) (size, content-is s b (drop (k - a) (drop a s)) a there)
+    let content : cut l (contentStart a b) (a + length (encodeString b) - contentStart a b) ≡ b = content-is l b (drop (k - a) (drop a l)) a there in
+    let whole : cut s (base + contentStart a b) (a + length (encodeString b) - contentStart a b) ≡ b =
+    part-of-part s base m (contentStart a b) (a + length (encodeString b) - contentStart a b) (ap length content ∙ sym size) ∙ content in
+    rw (string-there l a k (string b) e) (size, whole)
 
--- the layer that `piece layers` has for a root is what is answered for a file longer than the piece length
-layer-there : (s : List ℕ) (layers : ℕ) (ls : Entries) (r : List ℕ) → drop layers s ≡ encode (dictionary ls) ++ r → Valid (dictionary ls) maxLevels → (plen n q : ℕ) (b : List ℕ)
-    → hasLayer n plen ≡ true → lookup (cut s q 32) ls ≡ present (string b) → ContentIs s b (layerString s layers plen n q)
-unfolding layerString layerAt
-layer-there s layers ls r bytes valid plen n q b long has =
-    rw long (found-string s b (findKey (cut s q 32) layers (drop layers s)) (rw has at (find-is (cut s q 32) s layers ls r bytes valid)))
+-- what is found for a root, by another name of the root
+found-as : (l root key b : List ℕ) (ls : Entries) → root ≡ key → lookup root ls ≡ present (string b) → FoundIs l (findKey root 0 l) (lookup root ls) → FoundIs l (findKey key 0 l) (present (string b))
+found-as l root key b ls e f w = let g : FoundIs l (findKey root 0 l) (present (string b)) = rw f at w in rw e at g
 
 -- for no other file is there one
-layer-none : (s : List ℕ) (layers plen n q : ℕ) → hasLayer n plen ≡ false → layerString s layers plen n q ≡ NoString
-unfolding layerString
-layer-none s layers plen n q e = rw e refl
+layer-none : (l : List ℕ) (plen n : ℕ) (root : List ℕ) → n ≤ plen → layerString l plen n root ≡ NoString
+unfolding layerString hasLayer
+layer-none l plen n root h = rw (le-ltb plen n h) refl
 
--- whether a file is longer than the piece length
-longer : (n plen : ℕ) → plen < n → hasLayer n plen ≡ true
-unfolding hasLayer
-longer n plen h = lt-ltb plen n h
+layer-some : (l : List ℕ) (plen n : ℕ) (root : List ℕ) → plen < n → layerString l plen n root ≡ layerAt l root
+unfolding layerString hasLayer
+layer-some l plen n root h = rw (lt-ltb plen n h) refl
 
-not-longer : (n plen : ℕ) → n ≤ plen → hasLayer n plen ≡ false
-unfolding hasLayer
-not-longer n plen h = le-ltb plen n h
+-- ---- a torrent that gets 0
 
--- ---- what is promised of a file and of a path element
+-- its keys are those of `metainfo`, its tree is right, its count is that of its files
+record Taken (s : List ℕ) : Type 0 where
+  pub keys-zero : metainfoOf s .number ≡ 0
+  pub keys-are : checkedOf s .keys ≡ metainfoOf s
+  pub tree-right : right (filesIn (bytesIn s (metainfoOf s .tree))) ≡ true
+  pub all-files : checkedOf s .files ≡ length (listed (filesIn (bytesIn s (metainfoOf s .tree))))
 
--- what is answered of the file v of the torrent es: its length, its root, how many elements its path has, and where its layer stands in s.
--- An empty file has the root of zeros; a file not longer than the piece length has an empty layer
-pub record FileIs (s : List ℕ) (es : Entries) (v : File) (r : FileRead) : Type 0 where
-  pub number : r .number ≡ 0
-  pub size : r .length ≡ v .size
-  pub root : r .root ≡ v .root
-  pub empty : v .size ≡ 0 → r .root ≡ zeroHash
-  pub elements : r .elements ≡ length (v .path)
-  pub layer : plenOf es < v .size → (b : List ℕ) × (lookup (v .root) (layersOf es) ≡ present (string b)) × (r .size ≡ length b) × (cut s (r .start) (r .size) ≡ b)
-  pub no-layer : v .size ≤ plenOf es → (r .start ≡ 0) × (r .size ≡ 0)
+taken-so : (s : List ℕ) → checkedOf s .keys .number ≡ 0 → Taken s
+taken-so s e = by-keys (eqb (metainfoOf s .number) 0) refl
+  where
+    k : Keys
+    k = metainfoOf s
 
--- what is answered of the path element x: where it stands in s
-pub record PartIs (s x : List ℕ) (r : PartRead) : Type 0 where
-  pub number : r .number ≡ 0
-  pub size : r .size ≡ length x
-  pub bytes : cut s (r .start) (r .size) ≡ x
+    t : List ℕ
+    t = bytesIn s (k .tree)
+
+    number : ℕ
+    number = treeNumber t (bytesIn s (k .layers)) (k .plen) (filesIn t)
+
+    count : ℕ
+    count = length (listed (filesIn t))
+
+    long : ℕ
+    long = longs (k .plen) (listed (filesIn t))
+
+    judged : eqb (k .number) 0 ≡ true → checkedOf s ≡ withJudged k (judgedAs number count long)
+    judged q = unfold checkedOf judgedOf in rw q refl
+
+    refused : eqb (k .number) 0 ≡ false → checkedOf s ≡ unread (k .number)
+    refused q = unfold checkedOf judgedOf in rw q refl
+
+    is-right : number ≡ 0 → right (filesIn t) ≡ true
+    is-right z = unfold treeNumber in by-right (right (filesIn t)) z
+      where
+        by-right : (b : Bool) → cond b (filesNumber t (bytesIn s (k .layers)) (k .plen) (listed (filesIn t))) wrongTree ≡ 0 → b ≡ true
+        by-right true q = refl
+        by-right false q = let z : ⊥ = omega arith in absurd z
+
+    by-number : (n : ℕ) → number ≡ n → metainfoOf s .number ≡ 0 → checkedOf s ≡ withJudged k (judgedAs n count long) → Taken s
+    by-number zero q z c = record { keys-zero = z; keys-are = ap (λ (x : Checked). x .keys) c; tree-right = is-right q; all-files = ap (λ (x : Checked). x .files) c }
+    by-number (suc n) q z c =
+        let o : (suc n ≡ 0 → ⊥) = λ w. omega arith in
+        let bad : checkedOf s .keys .number ≡ suc n = ap (λ (x : Checked). x .keys .number) c ∙ simp (ne-eqb (suc n) 0 o) in
+        absurd (o (sym bad ∙ e))
+
+    by-keys : (b : Bool) → eqb (metainfoOf s .number) 0 ≡ b → Taken s
+    by-keys true q = by-number number refl (eqb-true (metainfoOf s .number) 0 q) (judged q)
+    by-keys false q =
+        let bad : checkedOf s .keys .number ≡ metainfoOf s .number = ap (λ (x : Checked). x .keys .number) (refused q) in
+        absurd (eqb-false (metainfoOf s .number) 0 q (sym bad ∙ e))
 
 module _ (s : List ℕ) (es : Entries) (start : s ≡ encode (dictionary es)) (valid : Valid (dictionary es) maxLevels) (taken : readOf s .number ≡ 0) where
   -- ---- where it stands
 
   -- the number by positions is that one
-  number-zero : checkedOf s .number ≡ 0
+  pub number-zero : checkedOf s .keys .number ≡ 0
   number-zero = sym (read-number s) ∙ taken
 
-  -- so its tree is right and its parts are where its keys are
-  whole : Whole s (checkedOf s)
-  whole = checked-whole s number-zero
+  so : Taken s
+  so = taken-so s number-zero
 
-  -- the keys are those of the torrent's bytes, and point at the values
+  -- the keys are those of the torrent's bytes, and their parts are the values
   as-keys : metainfoOf s ≡ keysOf s
-  as-keys = metainfo-right s (whole .keys-right) .same-keys
+  as-keys = metainfo-right s (so .keys-zero) .same-keys
 
   keys-zero : keysOf s .number ≡ 0
-  keys-zero = ap (λ (z : Keys). z .number) (sym as-keys) ∙ whole .keys-right
+  keys-zero = ap (λ (z : Keys). z .number) (sym as-keys) ∙ so .keys-zero
 
-  at-values : KeysAt s es (keysOf s)
+  pub same-keys : checkedOf s .keys ≡ keysOf s
+  same-keys = so .keys-are ∙ as-keys
+
+  pub at-values : KeysAt s es (keysOf s)
   at-values = keys-point s es start valid keys-zero
 
-  -- the parts are where the keys point
-  same-info : checkedOf s .info ≡ keysOf s .info
-  same-info = whole .info-is ∙ ap (λ (z : Keys). z .info) as-keys
+  -- the value's number is 0
+  pub value-zero : valueNumber es ≡ 0
+  value-zero = sym (number-is-the-values s es start valid (metainfo-right s (so .keys-zero) .small)) ∙ number-zero
 
-  same-past : checkedOf s .past ≡ keysOf s .past
-  same-past = whole .past-is ∙ ap (λ (z : Keys). z .past) as-keys
+  -- the parts that `file tree` and `piece layers` are
+  abbrev t : List ℕ
+  t = bytesIn s (keysOf s .tree)
 
-  same-tree : checkedOf s .tree ≡ keysOf s .tree
-  same-tree = whole .tree-is ∙ ap (λ (z : Keys). z .tree) as-keys
-
-  same-plen : checkedOf s .plen ≡ plenOf es
-  same-plen = whole .plen-is ∙ ap (λ (z : Keys). z .plen) as-keys ∙ at-values .plen-is
-
-  same-layers : checkedOf s .layers ≡ keysOf s .layers
-  same-layers = whole .layers-is ∙ ap (λ (z : Keys). z .layers) as-keys
+  abbrev l : List ℕ
+  l = bytesIn s (keysOf s .layers)
 
   -- the files by their positions
   abbrev files : List Listed
-  files = listed (filesIn s (checkedOf s .tree))
+  files = listed (filesIn t)
+
+  pub is-right : right (filesIn t) ≡ true
+  is-right = ap (λ (z : Keys). right (filesIn (bytesIn s (z .tree)))) (sym as-keys) ∙ so .tree-right
 
   -- read, they are the files of the value
-  same-files : readFiles s files ≡ filesOf es
-  same-files = rw same-tree (torrent-files s es start valid keys-zero (rw same-tree at (whole .tree-right)))
+  pub same-files : readFiles t files ≡ filesOf es
+  same-files = torrent-files s es start valid keys-zero is-right
 
   -- and as many
+  pub all-files : checkedOf s .files ≡ length files
+  all-files = so .all-files ∙ ap (λ (z : Keys). length (listed (filesIn (bytesIn s (z .tree))))) as-keys
+
   count-files : checkedOf s .files ≡ length (filesOf es)
-  count-files = whole .all-files ∙ sym (read-count s files) ∙ ap length same-files
+  count-files = all-files ∙ sym (read-count t files) ∙ ap length same-files
+
+  fit-files : AllFit t files
+  fit-files = tree-fits t (treeOf es) (at-values .tree-bytes) (at-values .tree-valid) (sym (torrent-tree s es start valid keys-zero) ∙ is-right)
 
   -- ---- the torrent
 
-  -- `info` is a dictionary
-  pub info-value : lookup keyInfo es ≡ present (dictionary (infoOf es))
-  info-value = at-values .info-value
+  -- the torrent is answered with its info hash, its piece length and how many files it has
+  pub torrent-is : TorrentIs s es (readOf s)
+  torrent-is =
+      record {
+        number = taken;
+        info = at-values .info-value;
+        info-stands = (keysOf s .info .start, keysOf s .info .end - keysOf s .info .start, at-values .info-bytes, hash);
+        piece-length = plen;
+        file-count = count;
+      }
+    where
+      hash : readOf s .hash ≡ sha256 (bytesIn s (keysOf s .info))
+      hash = unfold readOf in rw (number-zero, same-keys) refl
 
-  -- it stands in the torrent's bytes, and the info hash is SHA-256 of these bytes
-  pub info-stands : (a n : ℕ) × (cut s a n ≡ encode (dictionary (infoOf es))) × (readOf s .hash ≡ sha256 (cut s a n))
-  unfolding readOf
-  info-stands = (keysOf s .info, keysOf s .past - keysOf s .info, at-values .info-bytes, rw (number-zero, same-info, same-past) refl)
+      plen : readOf s .plen ≡ plenOf es
+      plen = unfold readOf in rw (number-zero, same-keys) (at-values .plen-is)
+
+      count : readOf s .files ≡ length (filesOf es)
+      count = unfold readOf in rw number-zero count-files
 
   -- so the info hash is SHA-256 of the encoding of the value of `info`
   pub info-hash : readOf s .hash ≡ sha256 (encode (dictionary (infoOf es)))
-  info-hash = let p = info-stands in p .3 ∙ ap sha256 (p .2)
-
-  -- the piece length is the value's
-  pub piece-length : readOf s .plen ≡ plenOf es
-  unfolding readOf
-  piece-length = rw number-zero same-plen
-
-  -- there are as many files as the value has
-  pub file-count : readOf s .files ≡ length (filesOf es)
-  unfolding readOf
-  file-count = rw number-zero count-files
+  info-hash = let p = torrent-is .info-stands in p .3 ∙ ap sha256 (p .2)
 
   -- ---- file n
 
   -- file n of the value is read from the positions of file n
-  file-read : (n : ℕ) (v : File) → Nth (filesOf es) n v → (n < checkedOf s .files) × (n < length files) × (v ≡ readFile s (fileNumber files n))
+  pub file-read : (n : ℕ) (v : File) → Nth (filesOf es) n v → (n < checkedOf s .files) × (n < length files) × (v ≡ readFile t (fileNumber files n))
   file-read n v e =
-      let p = nth-read s files n v (rw same-files e) in
+      let p = nth-read t files n v (rw same-files e) in
       let h = p .0 in
-      (omega (arith, whole .all-files), h, p .1)
+      (omega (arith, all-files), h, p .1)
 
   -- its answer by positions
-  file-answer : (n : ℕ) → n < checkedOf s .files → fileRead s n ≡ fileAnswer s (checkedOf s .layers) (checkedOf s .plen) (fileNumber files n)
+  pub file-answer : (n : ℕ) → n < checkedOf s .files → fileRead s n ≡ fileAnswer t l (keysOf s .layers .start) (keysOf s .plen) (fileNumber files n)
   unfolding fileRead
-  file-answer n h = rw (number-zero, lt-ltb n (checkedOf s .files) h) refl
+  file-answer n h = rw (number-zero, lt-ltb n (checkedOf s .files) h, same-keys) refl
 
   -- the layer of a file f that is read as v
-  layer-is : (f : Listed) (v : File) → v ≡ readFile s f → (n : ℕ) → Nth (filesOf es) n v → plenOf es < v .size
-      → (b : List ℕ) × (lookup (v .root) (layersOf es) ≡ present (string b)) × ContentIs s b (layerString s (checkedOf s .layers) (checkedOf s .plen) (f .size) (f .root))
+  layer-is : (f : Listed) (v : File) → v ≡ readFile t f → (n : ℕ) → Nth (filesOf es) n v → plenOf es < v .size
+      → (b : List ℕ) × (lookup (v .root) (layersOf es) ≡ present (string b)) × ContentIs s (keysOf s .layers .start) b (layerString l (keysOf s .plen) (f .size) (cut t (f .root) 32))
   layer-is f v e n at long =
-      let size = size-read s f v e in
-      let root : v .root ≡ cut s (f .root) 32 = root-read s f v e ∙ root-full s (f .size) (f .root) (λ z. omega arith) in
-      let fits = all-fit es (sym (number-is-the-values s es start valid (metainfo-right s (whole .keys-right) .small)) ∙ number-zero) in
-      let w = fits-string (plenOf es) v (lookup (v .root) (layersOf es)) (nth-fits (plenOf es) (layersOf es) (filesOf es) n v fits at (longer (v .size) (plenOf es) long)) in
+      let size = size-read t f v e in
+      let root : v .root ≡ cut t (f .root) 32 = root-read t f v e ∙ root-full t (f .size) (f .root) (λ z. omega arith) in
+      let w = all-layers es value-zero .each-file n v at long in
       let deep : Valid (dictionary (layersOf es)) maxLevels = more-levels (dictionary (layersOf es)) 31 maxLevels (omega arith) (at-values .layers-valid) in
-      let has : lookup (cut s (f .root) 32) (layersOf es) ≡ present (string (w .0)) = ap (λ (z : List ℕ). lookup z (layersOf es)) (sym root) ∙ w .1 in
-      let bytes : drop (checkedOf s .layers) s ≡ encode (dictionary (layersOf es)) ++ at-values .layersRest = ap (λ (z : ℕ). drop z s) same-layers ∙ at-values .layers-bytes in (
-        w .0,
-        w .1,
-        layer-there s (checkedOf s .layers) (layersOf es) (at-values .layersRest) bytes deep (checkedOf s .plen) (f .size) (f .root) (w .0)
-            (longer (f .size) (checkedOf s .plen) (omega (arith, same-plen))) has,
-      )
+      let found = found-as l (v .root) (cut t (f .root) 32) (w .0) (layersOf es) root (w .1 .found) (find-layer l (layersOf es) (at-values .layers-bytes) deep (v .root)) in
+      let there : layerString l (keysOf s .plen) (f .size) (cut t (f .root) 32) ≡ stringIn l (findKey (cut t (f .root) 32) 0 l) =
+      layer-some l (keysOf s .plen) (f .size) (cut t (f .root) 32) (omega (arith, at-values .plen-is)) ∙ layer-found (cut t (f .root) 32) in
+      (w .0, w .1 .found, rw there (found-string s (keysOf s .layers .start) (keysOf s .layers .end - keysOf s .layers .start) (w .0) (findKey (cut t (f .root) 32) 0 l) found))
+    where
+      layer-found : (root : List ℕ) → layerAt l root ≡ stringIn l (findKey root 0 l)
+      layer-found root = unfold layerAt in refl
 
   -- the answer of a file f that is read as v
-  file-answered : (n : ℕ) (v : File) → Nth (filesOf es) n v → (f : Listed) → v ≡ readFile s f → FileIs s es v (fileAnswer s (checkedOf s .layers) (checkedOf s .plen) f)
+  file-answered : (n : ℕ) (v : File) → Nth (filesOf es) n v → (f : Listed) → v ≡ readFile t f → FileIs s es v (fileAnswer t l (keysOf s .layers .start) (keysOf s .plen) f)
   file-answered n v at f e =
-      let size = size-read s f v e in
+      let size = size-read t f v e in
       record {
         number = refl;
         size = sym size;
-        root = sym (root-read s f v e);
-        empty = λ z. root-empty s (f .size) (f .root) (sym size ∙ z);
-        elements = sym (ap length (path-read s f v e) ∙ elements-count s (f .path) (f .elements));
+        root = sym (root-read t f v e);
+        empty = λ z. root-empty t (f .size) (f .root) (sym size ∙ z);
+        elements = sym (ap length (path-read t f v e) ∙ elements-count t (f .path));
         layer = λ h. let w = layer-is f v e n at h in (w .0, w .1, w .2 .0, w .2 .1);
         no-layer = λ h.
-            let w = layer-none s (checkedOf s .layers) (checkedOf s .plen) (f .size) (f .root) (not-longer (f .size) (checkedOf s .plen) (omega (arith, same-plen))) in
-            (ap startOf w, ap sizeOf w);
+            let w = layer-none l (keysOf s .plen) (f .size) (cut t (f .root) 32) (omega (arith, at-values .plen-is)) in
+            (ap (startOf (keysOf s .layers .start)) w, ap sizeOf w);
       }
 
   -- file n in tree order is answered with its length, root, path and layer
@@ -375,39 +368,31 @@ module _ (s : List ℕ) (es : Entries) (start : s ≡ encode (dictionary es)) (v
   -- ---- element k of its path
 
   -- its answer by positions
-  path-answer : (n k : ℕ) → n < checkedOf s .files → pathRead s n k ≡ elementIn (fileNumber files n .path) (fileNumber files n .elements) k
+  pub path-answer : (n k : ℕ) → n < checkedOf s .files → pathRead s n k ≡ elementIn (keysOf s .tree .start) (fileNumber files n .path) k
   unfolding pathRead
-  path-answer n k h = rw (number-zero, lt-ltb n (checkedOf s .files) h) refl
+  path-answer n k h = rw (number-zero, lt-ltb n (checkedOf s .files) h, same-keys) refl
 
   -- the answer of element k of a file f that is read as v
-  element-answered : (v : File) (k : ℕ) (x : List ℕ) → Nth (v .path) k x → (f : Listed) → v ≡ readFile s f → FileRight (length s) f → PartIs s x (elementIn (f .path) (f .elements) k)
+  element-answered : (v : File) (k : ℕ) (x : List ℕ) → Nth (v .path) k x → (f : Listed) → v ≡ readFile t f → Fits t (f .path) → PartIs s x (elementIn (keysOf s .tree .start) (f .path) k)
   element-answered v k x at f e g =
-      let there : Nth (elementsOf s (f .path) (f .elements)) k x = rw (path-read s f v e) at at in
-      let below : k < f .elements = rw (elements-count s (f .path) (f .elements)) at (nth-below (elementsOf s (f .path) (f .elements)) k x there) in
-      let is : x ≡ element s (f .path) k = nth-element s (f .path) (f .elements) k x there in
-      let inside = g .path-within k below in
-      let i = inside .0 in
-      let j = inside .1 in
-      rw (element-there (f .path) (f .elements) k below)
-      (record {
-        number = refl;
-        size = sym (ap length is ∙ cut-length s (getD (f .path) (2 * k) 0) (getD (f .path) (2 * k + 1) 0 - getD (f .path) (2 * k) 0) (omega arith));
-        bytes = sym is;
-      })
+      let base = keysOf s .tree .start in
+      let w = element-at t base (f .path) k x (rw (path-read t f v e) at at) g in
+      let whole = part-of-part s base (keysOf s .tree .end - base) (w .0 .start) (w .0 .end - w .0 .start) (w .3) in
+      rw (w .1) (record { number = refl; size = sym (ap length (w .2) ∙ w .3); bytes = whole ∙ sym (w .2) })
 
   -- element k of the path of file n is answered by where it stands
   pub element-is : (n : ℕ) (v : File) → Nth (filesOf es) n v → (k : ℕ) (x : List ℕ) → Nth (v .path) k x → PartIs s x (pathRead s n k)
   element-is n v e k x at =
       let p = file-read n v e in
-      rw (path-answer n k (p .0)) (element-answered v k x at (fileNumber files n) (p .2) (number-right (length s) files n (files-right s (checkedOf s .tree)) (p .1)))
+      rw (path-answer n k (p .0)) (element-answered v k x at (fileNumber files n) (p .2) (nth-fits t files n fit-files (p .1)))
 
   -- 29 where the path has no element k
-  pub no-element : (n : ℕ) (v : File) → Nth (filesOf es) n v → (k : ℕ) → length (v .path) ≤ k → pathRead s n k ≡ noPart noSuchFile
+  pub no-element : (n : ℕ) (v : File) → Nth (filesOf es) n v → (k : ℕ) → length (v .path) ≤ k → pathRead s n k ≡ noPartRead noSuchFile
   no-element n v e k h =
       let p = file-read n v e in
       let f = fileNumber files n in
-      let count : length (v .path) ≡ f .elements = ap length (path-read s f v (p .2)) ∙ elements-count s (f .path) (f .elements) in
-      path-answer n k (p .0) ∙ element-lacking (f .path) (f .elements) k (omega arith)
+      let count : length (v .path) ≡ length (f .path) = ap length (path-read t f v (p .2)) ∙ elements-count t (f .path) in
+      path-answer n k (p .0) ∙ element-lacking (keysOf s .tree .start) (f .path) k (omega arith)
 
   -- and only there, if there is a file n
   pub no-element-only : (n : ℕ) (v : File) → Nth (filesOf es) n v → (k : ℕ) → pathRead s n k .number ≡ noSuchFile → length (v .path) ≤ k
@@ -418,6 +403,6 @@ module _ (s : List ℕ) (es : Entries) (start : s ≡ encode (dictionary es)) (v
       by-count (no h) = omega arith
 
   -- 29 for every element where there is no file n
-  pub no-path : (n k : ℕ) → length (filesOf es) ≤ n → pathRead s n k ≡ noPart noSuchFile
+  pub no-path : (n k : ℕ) → length (filesOf es) ≤ n → pathRead s n k ≡ noPartRead noSuchFile
   unfolding pathRead
   no-path n k h = rw (number-zero, le-ltb n (checkedOf s .files) (omega (arith, count-files))) refl

@@ -1,16 +1,21 @@
-// The numbers 19 to 28 of a torrent, the lowest; and where its parts are, if it gets 0.
+// The numbers 19 to 28 of a torrent, the lowest; and where its parts are, if it gets 0. t is the part of the torrent that `file tree`
+// is, l the part that `piece layers` is.
+use filetree::count::Counted;
+use filetree::count::MOST;
+use filetree::count::count_files;
 use layers::index;
 use layers::judge_layers;
-use listing::MOST;
-use listing::count_files;
-use listing::tree_right;
+use metainfo::Keys;
+use metainfo::no_keys;
 use metainfo::read_keys;
-use roots::distinct::apart;
+use sorting::distinct::apart;
 ghost use mathlib.Core.Path.{_≡_};
 ghost use mathlib.Core.Bool.{true};
-ghost use Prim.Native.Nat.{_^_, _≤_};
-ghost use lib.ListN.{length, take, drop};
+ghost use Prim.Native.Nat.{_≤_};
+ghost use lib.ListN.{length};
+ghost use Rattle.limits.specs.Limits.{largestTorrent};
 ghost use Rattle.tree.specs.Geometry.{isPieceLength};
+ghost use Rattle.filetree.specs.Count.{mostRoots};
 ghost use Rattle.torrent.specs.Torrent.{judgedAs, judgedOf, unread, checkedOf};
 ghost use Rattle.torrent.specs.CheckLaws.{LayersOpen};
 
@@ -21,15 +26,9 @@ pub struct Judged {
     pub long: usize,
 }
 
-// 0, where the parts are, and the counts; or 19 to 28 beside zeros. `info` is info..past, `file tree` begins at tree, `piece layers`
-// at layers.
+// The keys, with 0 or the number 19 to 28; and the counts, zeros beside a refusal.
 pub struct Checked {
-    pub number: u32,
-    pub info: usize,
-    pub past: usize,
-    pub tree: usize,
-    pub plen: usize,
-    pub layers: usize,
+    pub keys: Keys,
     pub files: usize,
     pub long: usize,
 }
@@ -47,13 +46,9 @@ fn refused(number: u32) -> Judged
 fn not_read(number: u32) -> Checked
     ensures { λ r. ⌜ r ≡ unread number ⌝ }
 {
+    let keys = no_keys(number);
     Checked {
-        number,
-        info: 0,
-        past: 0,
-        tree: 0,
-        plen: 0,
-        layers: 0,
+        keys,
         files: 0,
         long: 0,
     }
@@ -72,43 +67,37 @@ fn counted(number: u32, files: usize, long: usize) -> Judged
     refused(number)
 }
 
-// 25 to 28 or 0 of the `file tree` at `tree` and the `piece layers` at `layers`; `roots` and `room` are work space.
-fn judge_in(
-    s: &[u8],
-    tree: usize,
-    plen: usize,
-    layers: usize,
-    roots: &mut [u32],
-    room: &mut [u32],
-) -> Judged
-    requires { ⌜ (length (now s) ≤ 2 ^ 20) × (isPieceLength plen ≡ true) × LayersOpen (now s) layers × (length (now roots) ≡ 16384) × (length (now room) ≡ 16384) ⌝ }
-    ensures { λ r. ⌜ r ≡ judgedOf (now (s .entry)) tree plen layers ⌝ }
+// 25 to 28 or 0; `roots` and `room` are work space.
+fn judge_in(t: &[u8], l: &[u8], plen: usize, roots: &mut [u32], room: &mut [u32]) -> Judged
+    requires { ⌜ (length (now t) ≤ largestTorrent) × (isPieceLength plen ≡ true) × LayersOpen (now l) × (length (now roots) ≡ mostRoots) × (length (now room) ≡ mostRoots) ⌝ }
+    ensures { λ r. ⌜ r ≡ judgedOf (now (t .entry)) (now (l .entry)) plen ⌝ }
 {
-    if tree_right(s, tree) {
-        let tally = count_files(s, tree, plen, roots);
-        let files = tally.files;
-        let full = tally.roots;
-        let long = tally.long;
-        if apart(s, roots, room, full) {
-            if index(s, layers, roots, long) {
-                let number = judge_layers(s, tree, layers, roots, long, plen);
-                return counted(number, files, long);
+    match count_files(t, plen, roots) {
+        Counted::WrongTree => refused(numbers::WRONG_TREE),
+        Counted::Past { next: _, tally } => {
+            let files = tally.files;
+            let full = tally.roots;
+            let long = tally.long;
+            if apart(t, roots, room, full) {
+                if index(l, roots, long) {
+                    let number = judge_layers(t, l, roots, long, plen);
+                    return counted(number, files, long);
+                }
+                return refused(numbers::LAYERS_AMISS);
             }
-            return refused(numbers::LAYERS_AMISS);
+            refused(numbers::SAME_ROOT)
         }
-        return refused(numbers::SAME_ROOT);
     }
-    refused(numbers::WRONG_TREE)
 }
 
 // The same. A torrent has no more than 16,384 files that are not empty.
-fn judge(s: &[u8], tree: usize, plen: usize, layers: usize) -> Judged
-    requires { ⌜ (length (now s) ≤ 2 ^ 20) × (isPieceLength plen ≡ true) × LayersOpen (now s) layers ⌝ }
-    ensures { λ r. ⌜ r ≡ judgedOf (now (s .entry)) tree plen layers ⌝ }
+fn judge(t: &[u8], l: &[u8], plen: usize) -> Judged
+    requires { ⌜ (length (now t) ≤ largestTorrent) × (isPieceLength plen ≡ true) × LayersOpen (now l) ⌝ }
+    ensures { λ r. ⌜ r ≡ judgedOf (now (t .entry)) (now (l .entry)) plen ⌝ }
 {
     let mut roots = [0u32; MOST];
     let mut room = [0u32; MOST];
-    judge_in(s, tree, plen, layers, &mut roots, &mut room)
+    judge_in(t, l, plen, &mut roots, &mut room)
 }
 
 // 19 to 28 or 0 of any bytes.
@@ -117,20 +106,17 @@ pub fn check(s: &[u8]) -> Checked
 {
     let keys = read_keys(s);
     let number = keys.number;
-    let tree = keys.tree;
     let plen = keys.plen;
-    let layers = keys.layers;
+    let tree = keys.tree.start;
+    let tree_end = keys.tree.end;
+    let layers = keys.layers.start;
+    let layers_end = keys.layers.end;
     if number == 0 {
-        let judged = judge(s, tree, plen, layers);
+        let judged = judge(&s[tree..tree_end], &s[layers..layers_end], plen);
         let answer = judged.number;
         if answer == 0 {
             return Checked {
-                number: 0,
-                info: keys.info,
-                past: keys.past,
-                tree,
-                plen,
-                layers,
+                keys,
                 files: judged.files,
                 long: judged.long,
             };

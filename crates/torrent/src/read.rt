@@ -4,14 +4,15 @@ use crate::one::find_file;
 use crate::one::layer_of;
 use crate::one::root_of;
 use bencode::scalar::ByteString;
-use files::walk::PATH;
+use filetree::path::PATH;
 ghost use mathlib.Core.Path.{_≡_};
 ghost use mathlib.Core.Bool.{true};
-ghost use Prim.Native.Nat.{ℕ, _+_, _*_, _≤_, _<_};
-ghost use lib.ListN.{getD};
+ghost use Prim.Native.Nat.{_+_, _≤_, _<_};
 ghost use lib.ListN as L;
-ghost use Rattle.listing.specs.Listing.{filesIn, right, listed, fileNumber};
-ghost use Rattle.torrent.specs.Torrent.{noTorrent, readOf, noFileRead, fileAnswer, fileRead, noPart, elementIn, elementAnswer, pathRead};
+ghost use Rattle.limits.specs.Limits.{largestTorrent};
+ghost use Rattle.filetree.specs.Tree.{filesIn, right, listed, fileNumber};
+ghost use Rattle.torrent.specs.FindLaws.{PathGiven, ElementRead};
+ghost use Rattle.torrent.specs.Torrent.{noTorrent, readOf, noFileRead, fileAnswer, fileRead, noPartRead, elementIn, pathRead};
 
 // 0, the info hash, the piece length and how many files; or 19 to 28 beside zeros.
 pub struct Torrent {
@@ -63,7 +64,7 @@ fn no_file(number: u32) -> FileRead
 }
 
 fn no_part(number: u32) -> PartRead
-    ensures { λ r. ⌜ r ≡ noPart number ⌝ }
+    ensures { λ r. ⌜ r ≡ noPartRead number ⌝ }
 {
     PartRead {
         number,
@@ -77,33 +78,33 @@ pub fn read(s: &[u8]) -> Torrent
     ensures { λ r. ⌜ r ≡ readOf (now (s .entry)) ⌝ }
 {
     let c = check(s);
-    let number = c.number;
-    let info = c.info;
-    let past = c.past;
+    let number = c.keys.number;
+    let info = c.keys.info.start;
+    let past = c.keys.info.end;
     if number == 0 {
         let hash = sha256::hash(&s[info..past]);
         return Torrent {
             number,
             hash,
-            plen: c.plen,
+            plen: c.keys.plen,
             files: c.files,
         };
     }
     no_torrent(number)
 }
 
-// File n of a right `file tree` at `tree`.
-fn one_file(s: &[u8], tree: usize, plen: usize, layers: usize, n: usize) -> FileRead
-    requires { ⌜ (right (filesIn (now s) tree) ≡ true) × (n < L.length (listed (filesIn (now s) tree))) ⌝ }
-    ensures { λ r. ⌜ r ≡ fileAnswer (now (s .entry)) layers plen (fileNumber (listed (filesIn (now (s .entry)) tree)) n) ⌝ }
+// File n of the right tree t; l begins at `base` of the torrent.
+fn one_file(t: &[u8], l: &[u8], base: usize, plen: usize, n: usize) -> FileRead
+    requires { ⌜ (right (filesIn (now t)) ≡ true) × (n < L.length (listed (filesIn (now t)))) × (base + L.length (now l) ≤ largestTorrent) ⌝ }
+    ensures { λ r. ⌜ r ≡ fileAnswer (now (t .entry)) (now (l .entry)) base plen (fileNumber (listed (filesIn (now (t .entry)))) n) ⌝ }
 {
     let mut path = [0usize; PATH];
-    let f = find_file(s, tree, n, &mut path);
+    let f = find_file(t, n, &mut path);
     let length = f.length;
     let at = f.root;
     let elements = f.elements;
-    let root = root_of(s, length, at);
-    match layer_of(s, layers, plen, length, at) {
+    let root = root_of(t, length, at);
+    match layer_of(t, l, plen, length, at) {
         ByteString::NoString => FileRead {
             number: 0,
             length,
@@ -117,7 +118,7 @@ fn one_file(s: &[u8], tree: usize, plen: usize, layers: usize, n: usize) -> File
             length,
             root,
             elements,
-            start,
+            start: base + start,
             size: end - start,
         },
     }
@@ -128,45 +129,47 @@ pub fn read_file(s: &[u8], n: usize) -> FileRead
     ensures { λ r. ⌜ r ≡ fileRead (now (s .entry)) n ⌝ }
 {
     let c = check(s);
-    let number = c.number;
-    let tree = c.tree;
-    let plen = c.plen;
-    let layers = c.layers;
+    let number = c.keys.number;
+    let plen = c.keys.plen;
+    let tree = c.keys.tree.start;
+    let tree_end = c.keys.tree.end;
+    let layers = c.keys.layers.start;
+    let layers_end = c.keys.layers.end;
     let files = c.files;
     if number == 0 {
         if n < files {
-            return one_file(s, tree, plen, layers, n);
+            return one_file(&s[tree..tree_end], &s[layers..layers_end], layers, plen, n);
         }
         return no_file(numbers::NO_SUCH_FILE);
     }
     no_file(number)
 }
 
-// Element k of a path of so many elements.
-fn element_of(path: &[usize], elements: usize, k: usize) -> PartRead
-    requires { ⌜ (L.length (now path) ≡ 56) × (elements ≤ 28) × ((j : ℕ) → j < elements → getD (now path) (2 * j) 0 ≤ getD (now path) (2 * j + 1) 0) ⌝ }
-    ensures { λ r. ⌜ r ≡ elementIn (now (path .entry)) elements k ⌝ }
+// Element k of a path of so many elements, of a tree that begins at `base` of the torrent.
+fn element_of(path: &[usize], elements: usize, base: usize, k: usize) -> PartRead
+    requires { ⌜ PathGiven (now path) elements base ⌝ }
+    ensures { λ r. ⌜ ElementRead (now (path .entry)) elements base k r ⌝ }
 {
     if k < elements {
         let start = path[2 * k];
         let end = path[2 * k + 1];
         return PartRead {
             number: 0,
-            start,
+            start: base + start,
             size: end - start,
         };
     }
     no_part(numbers::NO_SUCH_FILE)
 }
 
-// Element k of the path of file n of a right `file tree` at `tree`.
-fn one_element(s: &[u8], tree: usize, n: usize, k: usize) -> PartRead
-    requires { ⌜ (right (filesIn (now s) tree) ≡ true) × (n < L.length (listed (filesIn (now s) tree))) ⌝ }
-    ensures { λ r. ⌜ r ≡ elementAnswer (fileNumber (listed (filesIn (now (s .entry)) tree)) n) k ⌝ }
+// Element k of the path of file n of the right tree t, which begins at `base` of the torrent.
+fn one_element(t: &[u8], base: usize, n: usize, k: usize) -> PartRead
+    requires { ⌜ (right (filesIn (now t)) ≡ true) × (n < L.length (listed (filesIn (now t)))) × (base + L.length (now t) ≤ largestTorrent) ⌝ }
+    ensures { λ r. ⌜ r ≡ elementIn base (fileNumber (listed (filesIn (now (t .entry)))) n .path) k ⌝ }
 {
     let mut path = [0usize; PATH];
-    let f = find_file(s, tree, n, &mut path);
-    element_of(&path, f.elements, k)
+    let f = find_file(t, n, &mut path);
+    element_of(&path, f.elements, base, k)
 }
 
 // Element k, from 0, of the path of file n.
@@ -174,12 +177,13 @@ pub fn read_path(s: &[u8], n: usize, k: usize) -> PartRead
     ensures { λ r. ⌜ r ≡ pathRead (now (s .entry)) n k ⌝ }
 {
     let c = check(s);
-    let number = c.number;
-    let tree = c.tree;
+    let number = c.keys.number;
+    let tree = c.keys.tree.start;
+    let tree_end = c.keys.tree.end;
     let files = c.files;
     if number == 0 {
         if n < files {
-            return one_element(s, tree, n, k);
+            return one_element(&s[tree..tree_end], tree, n, k);
         }
         return no_part(numbers::NO_SUCH_FILE);
     }

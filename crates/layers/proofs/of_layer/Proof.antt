@@ -16,19 +16,19 @@ piece-count-requires : tie.Need-piece-count-requires
 piece-count-requires c κs = search needs
 
 sub-if1 : tie.Need-sub-if1
-sub-if1 c = (rw (c .before .before .layer .given .1) at (c .before .before .before .before .before .pre .4)) .0
+sub-if1 c = (rw (c .before .before .layer .given .1) at (c .before .before .before .before .before .before .pre .4)) .0
 
 mul-if1 : tie.Need-mul-if1
-mul-if1 c = let x = pieces-few _ _ (c .before .before .before .before .before .pre .0) (c .before .before .before .before .before .pre .1) (c .before .before .before .before .before .pre .2) in let y = c .piece-count .ensures in omega arith
+mul-if1 c = let x = pieces-few _ _ (c .before .before .before .before .before .before .pre .0) (c .before .before .before .before .before .before .pre .1) (c .before .before .before .before .before .before .pre .2) in let y = c .piece-count .ensures in omega arith
 
 sub-gives-root : tie.Need-sub-gives-root
-sub-gives-root c = (rw (c .before .before .before .layer .given .1) at (c .before .before .before .before .before .before .pre .4)) .0
+sub-gives-root c = (rw (c .before .before .before .layer .given .1) at (c .before .before .before .before .before .before .before .pre .4)) .0
 
 part-gives-root-start : tie.Need-part-gives-root-start
-part-gives-root-start c = (rw (c .before .before .before .layer .given .1) at (c .before .before .before .before .before .before .pre .4)) .0
+part-gives-root-start c = (rw (c .before .before .before .layer .given .1) at (c .before .before .before .before .before .before .before .pre .4)) .0
 
 part-gives-root-end : tie.Need-part-gives-root-end
-part-gives-root-end c = (rw (c .before .before .before .layer .given .1) at (c .before .before .before .before .before .before .pre .4)) .1
+part-gives-root-end c = (rw (c .before .before .before .layer .given .1) at (c .before .before .before .before .before .before .before .pre .4)) .1
 
 gives-root-requires : tie.Need-gives-root-requires
 gives-root-requires c κs = search needs

@@ -20,14 +20,14 @@ no-keys-requires c κs = search needs
 enum-known-start : tie.Need-enum-known-start
 enum-known-start c = search needs
 
-info-keys-requires : tie.Need-info-keys-requires
-info-keys-requires c κs = search needs
+dictionary-keys-requires : tie.Need-dictionary-keys-requires
+dictionary-keys-requires c κs = search needs
 
 returns : tie.Need-returns
 returns c = c .no-keys .ensures ∙ sym (info-found _ _ (sym (c .before .before .before .find-dictionary .ensures) ∙ c .before .enum-told .given .1))
 
 returns-2 : tie.Need-returns-2
-returns-2 c = c .info-keys .ensures ∙ sym (info-found _ _ (sym (c .before .before .before .before .find-dictionary .ensures) ∙ c .before .before .start .given .1))
+returns-2 c = c .dictionary-keys .ensures ∙ sym (info-found _ _ (sym (c .before .before .before .before .find-dictionary .ensures) ∙ c .before .before .start .given .1))
 
 pub find-keys-spec : {M : Type 1} → statement M
 find-keys-spec =
@@ -38,6 +38,6 @@ find-keys-spec =
     enum-told
     no-keys-requires
     enum-known-start
-    info-keys-requires
+    dictionary-keys-requires
     returns
     returns-2)

@@ -1,0 +1,18 @@
+// The path of a file while the tree is walked: two numbers for each element, where its key begins and ends.
+ghost use mathlib.Core.Path.{_≡_};
+ghost use Prim.Native.Nat.{_<_};
+ghost use lib.ListN.{length};
+ghost use Rattle.filetree.specs.Tree.{maxElements};
+ghost use Rattle.filetree.specs.PathLaws.{pathSize, setElement};
+
+// Two numbers for each element that a path may have.
+pub const PATH: usize = 56;
+
+// Element d of the path is the key start..end.
+pub fn set_element(path: &mut [usize], d: usize, start: usize, end: usize)
+    requires { ⌜ (length (now path) ≡ pathSize) × (d < maxElements) ⌝ }
+    ensures { λ _. ⌜ now (path .exit) ≡ setElement (now (path .entry)) d start end ⌝ }
+{
+    path[2 * d] = start;
+    path[2 * d + 1] = end;
+}

@@ -1,0 +1,9 @@
+pub mod Reading
+pub mod FileLaws
+pub mod TokenLaws
+pub mod TreeLaws
+pub mod KeysLaws
+pub mod RootsMeaning
+pub mod LayersRead
+pub mod LayersMeaning
+pub mod StrictTorrentLaws

@@ -1,6 +1,0 @@
-pub mod Roots
-pub mod Order
-pub mod PrecedesLaws
-pub mod MovedLaws
-pub mod OrderLaws
-pub mod RootsLaws

@@ -1,0 +1,7 @@
+pub mod Sorting
+pub mod Order
+pub mod PrecedesLaws
+pub mod MovedLaws
+pub mod OrderLaws
+pub mod SortedLaws
+pub mod SortingLaws

@@ -1,0 +1,5 @@
+// Strings of 32 bytes at positions of the bytes: the positions sorted by them, whether all are different, and one found by halving.
+mod compare;
+pub mod distinct;
+pub mod halving;
+pub mod sort;
