@@ -1,7 +1,9 @@
 // The boundary to the host program: include/kombudeva.h says what each function answers.
 // Each passes its arguments on to the crate that decides, and hands back the answer as a C struct.
 ghost use mathlib.Core.Path.{_≡_};
+ghost use mathlib.Core.List.{[]};
 ghost use Rattle.sha256.specs.Answer.{hashedOf};
+ghost use Rattle.running.specs.Bursts.{stateOf, moreAnswer, endAnswer};
 ghost use Rattle.store.specs.Store.{sizeAnswer, openAnswer, openAfter, heldAnswer};
 ghost use Rattle.messages.specs.Take.{takeAnswer, takeAfter, rejectAnswer};
 ghost use Rattle.serve.specs.Serve.{serveAnswer, serveAfter};
@@ -10,6 +12,8 @@ ghost use Rattle.torrent.specs.Torrent.{readOf, fileRead, pathRead};
 ghost use Rattle.catalogue.specs.Catalogue.{listAnswer, listAfter};
 ghost use Rattle.kombudeva.specs.Boundary.{countAnswer, hashAnswer, torrentAnswer, fileAnswer, partAnswer};
 use numbers::Answer;
+use running::Hashing;
+use running::HashingAnswer;
 use sha256::Hashed;
 use torrent::read::FileRead;
 use torrent::read::PartRead;
@@ -126,6 +130,27 @@ pub extern "C" fn kd_sha256(string: &[u8]) -> HashAnswer
     ensures { λ r. ⌜ r ≡ hashAnswer (hashedOf (now (string .entry))) ⌝ }
 {
     hash_answer(sha256::sha256(string))
+}
+
+#[no_mangle]
+pub extern "C" fn kd_hashing_begin() -> Hashing
+    ensures { λ r. ⌜ r ≡ stateOf [] ⌝ }
+{
+    running::begin()
+}
+
+#[no_mangle]
+pub extern "C" fn kd_hashing_more(hashing: Hashing, burst: &[u8]) -> HashingAnswer
+    ensures { λ r. ⌜ r ≡ moreAnswer hashing (now (burst .entry)) ⌝ }
+{
+    running::more(hashing, burst)
+}
+
+#[no_mangle]
+pub extern "C" fn kd_hashing_end(hashing: Hashing) -> HashAnswer
+    ensures { λ r. ⌜ r ≡ hashAnswer (endAnswer hashing) ⌝ }
+{
+    hash_answer(running::end(hashing))
 }
 
 #[no_mangle]

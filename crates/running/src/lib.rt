@@ -8,7 +8,8 @@ ghost use Rattle.running.specs.Bursts as B;
 use rounds::State;
 use sha256::Hashed;
 
-// The words after the whole blocks so far, the bytes past those, how many these are, and how many bytes came in all.
+// kd_hashing: the words after the whole blocks so far, the bytes past those, how many these are, and how many bytes came in all.
+#[repr(C)]
 pub struct Hashing {
     pub words: [u32; 8],
     pub tail: [u8; 64],
@@ -16,7 +17,8 @@ pub struct Hashing {
     pub total: u64,
 }
 
-// A number, and the state after the burst; beside a refusal the state as it was given.
+// kd_hashing_answer: a number, and the state after the burst; beside a refusal the state as it was given.
+#[repr(C)]
 pub struct HashingAnswer {
     pub number: u32,
     pub hashing: Hashing,
