@@ -1,0 +1,5 @@
+pub mod Growing
+pub mod Answers
+pub mod HistoryOf
+pub mod NodesLaws
+pub mod GrowingLaws
