@@ -3,3 +3,5 @@ pub mod Answers
 pub mod HistoryOf
 pub mod NodesLaws
 pub mod GrowingLaws
+pub mod LastLaws
+pub mod LayerLaws
