@@ -49,39 +49,39 @@ unfoldable pub noRoomFor : History → ℕ → ℕ → Bool
 noRoomFor s k m =
     ltb (passed (s .length) (s .«piece_length»)) (passed (s .length + k) (s .«piece_length»)) && ltb m (32 * passed (s .length + k) (s .«piece_length»))
 
+-- the number for a burst of k bytes and a lent layer of m.
 -- 9: counts that no bursts give; 10: past the longest file; 11: a hash due doesn't fit
-unfoldable pub moreNumber : History → List ℕ → List ℕ → ℕ
-moreNumber s ys layer =
-    cond (possibleCounts s)
-    (cond (leb (s .length + length ys) longestFile) (cond (noRoomFor s (length ys) (length layer)) noRoom 0) factsOutOfRange)
-    unusable
+unfoldable pub moreNumber : History → ℕ → ℕ → ℕ
+moreNumber s k m =
+    cond (possibleCounts s) (cond (leb (s .length + k) longestFile) (cond (noRoomFor s k m) noRoom 0) factsOutOfRange) unusable
 
 -- a refusal hands back the state as it was given
 unfoldable pub moreAnswer : History → List ℕ → List ℕ → HistoryAnswer
 moreAnswer s ys layer =
-    record { number = moreNumber s ys layer; history = cond (eqb (moreNumber s ys layer) 0) (grownBy s ys) s }
+    record { number = moreNumber s (length ys) (length layer); history = cond (eqb (moreNumber s (length ys) (length layer)) 0) (grownBy s ys) s }
 
 -- and leaves the lent layer
 unfoldable pub moreLayer : History → List ℕ → List ℕ → List ℕ
-moreLayer s ys layer = cond (eqb (moreNumber s ys layer) 0) (notedBy s layer ys) layer
+moreLayer s ys layer = cond (eqb (moreNumber s (length ys) (length layer)) 0) (notedBy s layer ys) layer
 
 -- how many bytes the piece layer has: none if the file isn't longer than the piece length
 unfoldable pub layerSize : History → ℕ
 layerSize s = cond (hasLayer (s .length) (s .«piece_length»)) (32 * pieceCount (s .length) (s .«piece_length»)) 0
 
+-- the number at the end, for a lent layer of m bytes.
 -- 9: counts that no bursts give; 11: the layer doesn't fit
-unfoldable pub endNumber : History → List ℕ → ℕ
-endNumber s layer = cond (possibleCounts s) (cond (ltb (length layer) (layerSize s)) noRoom 0) unusable
+unfoldable pub endNumber : History → ℕ → ℕ
+endNumber s m = cond (possibleCounts s) (cond (ltb m (layerSize s)) noRoom 0) unusable
 
 unfoldable pub endAnswer : History → List ℕ → HistoryEnd
 endAnswer s layer =
-    cond (eqb (endNumber s layer) 0)
+    cond (eqb (endNumber s (length layer)) 0)
     (record { number = 0; length = s .length; root = rootOf s; «layer_size» = layerSize s })
-    (record { number = endNumber s layer; length = 0; root = zeroHash; «layer_size» = 0 })
+    (record { number = endNumber s (length layer); length = 0; root = zeroHash; «layer_size» = 0 })
 
 -- the last piece's hash is written, if there is a layer
 unfoldable pub endLayer : History → List ℕ → List ℕ
 endLayer s layer =
-    cond (eqb (endNumber s layer) 0 && hasLayer (s .length) (s .«piece_length»))
+    cond (eqb (endNumber s (length layer)) 0 && hasLayer (s .length) (s .«piece_length»))
     (pasted layer (layerSize s - 32) (lastNode s (pieceLayer (s .«piece_length»))))
     layer

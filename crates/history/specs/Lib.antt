@@ -5,3 +5,4 @@ pub mod NodesLaws
 pub mod GrowingLaws
 pub mod LastLaws
 pub mod LayerLaws
+pub mod AnswersLaws

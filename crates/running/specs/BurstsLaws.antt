@@ -5,8 +5,8 @@ use mathlib.Core.Bool.{Bool, true, false, cond, and-eq-true-iff}
 use mathlib.Core.List.{List, [], _∷_, _++_}
 use Prim.Native.Nat.{ℕ, _+_, _-_, _%_, _^_, _≤_, _<_}
 use native.Mathlib.Omega.{arith}
-use lib.ListN.{length, take, replicate}
-use lib.Seq.{take-at}
+use lib.ListN.{length, take, replicate, length-append}
+use lib.Seq.{take-at, length-take-le}
 use lib.Dec.{ltb, eqb}
 use borrow.Author.Tests.{lt-ltb, le-ltb, eq-eqb, ltb-true, eqb-true}
 use Rattle.octets.specs.Octets.{zeroHash}
@@ -69,6 +69,13 @@ absorbed-total s ys = refl
 pub absorbed-tail : (s : Hashing) (ys : List ℕ) → absorbed s ys .«tail_size» < 64
 unfolding absorbed saying saidBy runningMore
 absorbed-tail s ys = past-below (take (s .«tail_size») (s .tail) ++ ys)
+
+-- and go on to agree
+pub absorbed-counts : (s : Hashing) (ys : List ℕ) → length (s .tail) ≡ 64 → s .«tail_size» ≡ s .total % 64 → absorbed s ys .«tail_size» ≡ absorbed s ys .total % 64
+unfolding absorbed saying saidBy runningMore
+absorbed-counts s ys l e =
+    past-size (take (s .«tail_size») (s .tail) ++ ys)
+    ∙ omega (arith, length-append (take (s .«tail_size») (s .tail)) ys, length-take-le (s .«tail_size») (s .tail) (omega (arith, l, e)), e)
 
 -- counts of strings that SHA-256 takes are possible
 pub state-possible : (xs : List ℕ) → length xs < 2 ^ 61 → possible (stateOf xs .«tail_size») (stateOf xs .total) ≡ true

@@ -94,8 +94,8 @@ fn filled(tail: [u8; 64], n: usize, s: &[u8]) -> [u8; 64]
 
 // The state after a burst s.
 pub fn absorb(h: Hashing, s: &[u8]) -> Hashing
-    requires { ⌜ (h .«tail_size» < 64) × (h .total + length (now s) < 2 ^ 64) ⌝ }
-    ensures { λ r. ⌜ r ≡ B.absorbed h (now (s .entry)) ⌝ }
+    requires { ⌜ (h .«tail_size» ≡ h .total % 64) × (h .total + length (now s) < 2 ^ 64) ⌝ }
+    ensures { λ r. ⌜ (r ≡ B.absorbed h (now (s .entry))) × (r .«tail_size» ≡ r .total % 64) ⌝ }
 {
     let n = h.tail_size as usize;
     let total = h.total + s.len() as u64;

@@ -1,3 +1,5 @@
+use Rattle.running.specs.declared.Hashing.{Hashing}
+use Rattle.running.specs.BurstsLaws.{absorbed-counts}
 use Rattle.running.specs.Bursts.{tailArray}
 use mathlib.Core.List.{_++_}
 use Rattle.rounds.specs.declared.State.{State}
@@ -43,7 +45,8 @@ add-t21 c = search needs
 returns : tie.Need-returns
 returns c = let l8 : length (c .before .before .before .before .before .before .args .h .words) ≡ 8 = search needs in
     let l64 : length (c .before .before .before .before .before .before .args .h .tail) ≡ 64 = search needs in
-    beside-law (c .before .before .before .before .before .before .args .h) (c .before .before .before .before .before .before .args .s .now) (c .filled .result) l8 l64 (omega arith) (c .filled .ensures)
+    let e = beside-law (c .before .before .before .before .before .before .args .h) (c .before .before .before .before .before .before .args .s .now) (c .filled .result) l8 l64 (omega arith) (c .filled .ensures) in
+    (e, omega arith)
 
 -- src/lib.rt:112:32
 sub-filled : tie.Need-sub-filled
@@ -119,9 +122,20 @@ to-words-requires c κs = search needs
 
 -- src/lib.rt:94:1
 returns-2 : tie.Need-returns-2
-returns-2 c = let l64 = tail-64 (c .before .before .before .before .before .before .before .before .before .before .before .before .before .before .before .before .before .before) in
-    let e : 64 - c .before .before .before .before .before .before .before .before .before .before .before .before .before .before .before .before .before .before .args .h .«tail_size» - 0 ≡ 64 - c .before .before .before .before .before .before .before .before .before .before .before .before .before .before .before .before .before .before .args .h .«tail_size» = omega arith in
-    block-law (c .before .before .before .before .before .before .before .before .before .before .before .before .before .before .before .before .before .before .args .h) (c .before .before .before .before .before .before .before .before .before .before .before .before .before .before .before .before .before .before .args .s .now) (c .before .before .before .before .before .before .before .before .before .before .round-words .result) (c .before .before .before .before .before .before .before .before .before .before .before .filled2 .result) _ _ (c .to-words .result) (c .before .filled3 .result) (c .before .before .before .before .before .before .compress .result) (c .before .before .before .whole-blocks .result) l64 (c .before .before .before .before .before .before .before .before .before .before .before .before .before .before .before .before .before .before .pre .0) (c .before .before .before .before .before .before .before .before .before .before .before .before .before .if1 .left) (c .before .before .before .before .before .before .before .before .before .before .round-words .ensures) (c .before .before .before .before .before .before .before .before .before .before .before .filled2 .ensures ∙ ap (λ (k : ℕ). tailArray (take (c .before .before .before .before .before .before .before .before .before .before .before .before .before .before .before .before .before .before .args .h .«tail_size») (c .before .before .before .before .before .before .before .before .before .before .before .before .before .before .before .before .before .before .args .h .tail) ++ take k (c .before .before .before .before .before .before .before .before .before .before .before .before .before .before .before .before .before .before .args .s .now))) e) (c .before .before .before .before .before .before .compress .ensures ∙ ap (λ (t : State). compress (c .before .before .before .before .before .before .before .before .before .before .round-words .result) t (take 64 (drop 0 (c .before .before .before .before .before .before .before .before .before .before .before .filled2 .result)))) (c .before .before .before .before .before .before .before .before .before .from-words .ensures)) refl (c .before .before .before .whole-blocks .ensures) refl (c .to-words .ensures) (c .before .filled3 .ensures)
+returns-2 c = let b = c .before .before .before .before .before .before .before .before .before .before .before .before .before .before .before .before .before .before in
+    let h = b .args .h in
+    let s = b .args .s .now in
+    let ks = c .before .before .before .before .before .before .before .before .before .before .round-words in
+    let first = c .before .before .before .before .before .before .before .before .before .before .before .filled2 in
+    let l64 = tail-64 b in
+    let z : 64 - h .«tail_size» - 0 ≡ 64 - h .«tail_size» = omega arith in
+    let small : h .«tail_size» < 64 = omega (arith, b .pre .0) in
+    let e =
+    block-law h s (ks .result) (first .result) _ _ (c .to-words .result) (c .before .filled3 .result) (c .before .before .before .before .before .before .compress .result) (c .before .before .before .whole-blocks .result) l64 small (c .before .before .before .before .before .before .before .before .before .before .before .before .before .if1 .left) (ks .ensures)
+    (first .ensures ∙ ap (λ (k : ℕ). tailArray (take (h .«tail_size») (h .tail) ++ take k s)) z)
+    (c .before .before .before .before .before .before .compress .ensures ∙ ap (λ (t : State). compress (ks .result) t (take 64 (drop 0 (first .result)))) (c .before .before .before .before .before .before .before .before .before .from-words .ensures))
+    refl (c .before .before .before .whole-blocks .ensures) refl (c .to-words .ensures) (c .before .filled3 .ensures) in
+    (e, ap (λ (r : Hashing). r .«tail_size») e ∙ absorbed-counts h s l64 (b .pre .0) ∙ sym (ap (λ (r : Hashing). r .total % 64) e))
 
 pub absorb-spec : {M : Type 1} → statement M
 absorb-spec =

@@ -21,11 +21,11 @@ sub-left c = let p = possible-says (c .before .before .before .before .args .h .
 
 -- src/lib.rt:149:26
 absorb-requires : tie.Need-absorb-requires
-absorb-requires c κs = let p = possible-says (c .before .before .before .before .before .args .h .«tail_size») (c .before .before .before .before .before .args .h .total) (sym (c .before .before .before .is-possible .ensures) ∙ c .before .before .if1 .taken) in (omega arith, omega arith)
+absorb-requires c κs = let p = possible-says (c .before .before .before .before .before .args .h .«tail_size») (c .before .before .before .before .before .args .h .total) (sym (c .before .before .before .is-possible .ensures) ∙ c .before .before .if1 .taken) in (p .1, omega arith)
 
 -- src/lib.rt:147:13
 returns : tie.Need-returns
-returns c = more-done (c .before .before .before .before .before .before .args .h) (c .absorb .result) (c .before .before .before .before .before .before .args .s .now) (sym (c .before .before .before .before .is-possible .ensures) ∙ c .before .before .before .if1 .taken) (omega arith) (c .absorb .ensures)
+returns c = more-done (c .before .before .before .before .before .before .args .h) (c .absorb .result) (c .before .before .before .before .before .before .args .s .now) (sym (c .before .before .before .before .is-possible .ensures) ∙ c .before .before .before .if1 .taken) (omega arith) (c .absorb .ensures .0)
 
 -- src/lib.rt:152:9
 returns-2 : tie.Need-returns-2
