@@ -7,7 +7,8 @@ use Prim.Native.Nat.{ℕ, zero, suc, _+_, _-_, _*_, _/_, _%_, _^_, _≤_, _<_}
 use native.Mathlib.Nat.{mul-assoc, mul-comm, add-mul, one-mul, zero-mul, div-add-mod', div-lt-iff-lt-mul, pow-succ', one-le-mul, pow-suc, div-div-eq-div-mul}
 use native.Mathlib.Decide.{ℕ-discrete}
 use native.Mathlib.Omega.{arith}
-use lib.ListN.{length, take, drop}
+use lib.ListN.{length, take, drop, take-append-drop}
+use lib.Seq.{drop-drop}
 use lib.Pow.{pow-pos, pow-mono}
 use lib.Dec.{eqb, ltb}
 use borrow.Author.Tests.{eq-eqb, ne-eqb, lt-ltb, le-ltb}
@@ -18,7 +19,8 @@ use Rattle.running.specs.BurstsLaws.{absorbed-twice}
 use Rattle.running.specs.declared.Hashing.{Hashing}
 use Rattle.tree.specs.Geometry.{blockLength, pieceLayer, isPieceLength}
 use Rattle.tree.specs.GeometryLaws.{piece-length-form}
-use Rattle.history.specs.Growing.{nodeCount, nodeAt, finishing, grown, grownBy, noted, notedBy}
+use Rattle.tree.specs.Values.{padValue}
+use Rattle.history.specs.Growing.{nodeCount, nodeAt, finishing, grown, grownBy, noted, notedBy, openAbove}
 use Rattle.history.specs.declared.History.{History}
 
 -- ---- a leaf is finished
@@ -198,3 +200,63 @@ pub grow-within : (s : History) (part : List ℕ) (block : Hashing) → 0 < leng
     → block ≡ absorbed (s .block) part
     → record { «piece_length» = s .«piece_length»; length = s .length + length part; block = block; nodes = s .nodes } ≡ grownBy s part
 grow-within s part block p l n eb = part-within s part block n eb ∙ sym (part-law s part p l)
+
+-- ---- the whole burst
+
+-- what is left behind a part
+pub left-behind : (l : List ℕ) (a e : ℕ) → a ≤ e → drop a l ≡ take (e - a) (drop a l) ++ drop e l
+left-behind l a e h =
+    let s : a + (e - a) ≡ e = omega arith in
+    sym (ap (λ (t : List ℕ). take (e - a) (drop a l) ++ t) (sym (drop-drop (e - a) a l ∙ ap (λ (k : ℕ). drop k l) s)) ∙ take-append-drop (e - a) (drop a l))
+
+pub grown-turn : (s t u : History) (burst : List ℕ) (a e : ℕ) → a ≤ e → grownBy t (drop a burst) ≡ grownBy s burst → u ≡ grownBy t (take (e - a) (drop a burst))
+    → grownBy u (drop e burst) ≡ grownBy s burst
+grown-turn s t u burst a e h i d =
+    ap (λ (x : History). grownBy x (drop e burst)) d
+    ∙ sym (grown-rest t (take (e - a) (drop a burst)) (drop e burst))
+    ∙ ap (grownBy t) (sym (left-behind burst a e h))
+    ∙ i
+
+pub noted-turn : (s t u : History) (burst layer₀ layer after : List ℕ) (a e : ℕ) → a ≤ e → notedBy t layer (drop a burst) ≡ notedBy s layer₀ burst
+    → u ≡ grownBy t (take (e - a) (drop a burst))
+    → isPieceLength (t .«piece_length») ≡ true → 0 < length (take (e - a) (drop a burst)) → t .length % blockLength + length (take (e - a) (drop a burst)) ≤ blockLength
+    → after ≡ noted t layer
+    → notedBy u after (drop e burst) ≡ notedBy s layer₀ burst
+noted-turn s t u burst layer₀ layer after a e h i d good p l n =
+    ap₂ (λ (x : History) (y : List ℕ). notedBy x y (drop e burst)) d (n ∙ sym (note-law t layer (take (e - a) (drop a burst)) good p l))
+    ∙ sym (noted-rest t layer (take (e - a) (drop a burst)) (drop e burst))
+    ∙ ap (notedBy t layer) (sym (left-behind burst a e h))
+    ∙ i
+
+pub grown-none : (s : History) (l : List ℕ) → l ≡ [] → grownBy s l ≡ s
+unfolding grownBy
+grown-none s l e = rw e
+
+pub noted-end : (s : History) (layer l : List ℕ) → l ≡ [] → notedBy s layer l ≡ layer
+unfolding notedBy
+noted-end s layer l e = rw e
+
+-- ---- the node under way
+
+pub above-more : (nodes leaf left child pad up : List ℕ) (i j l : ℕ) → child ≡ openAbove nodes leaf i l → pad ≡ padValue l → j ≡ i / 2 ^ l → left ≡ nodeAt nodes l
+    → up ≡ cond (eqb (j % 2) 1) (pairHash left child) (pairHash child pad)
+    → up ≡ openAbove nodes leaf i (l + 1)
+unfolding openAbove
+above-more nodes leaf left child pad up i j l ec ep ej el eu =
+    let s : l + 1 ≡ suc l = omega arith in
+    eu ∙ rw (s, ← ec, ← ep, ← ej, ← el)
+
+pub pad-more : (pad wider : List ℕ) (l : ℕ) → pad ≡ padValue l → wider ≡ pairHash pad pad → wider ≡ padValue (l + 1)
+unfolding padValue
+pad-more pad wider l e w = let s : l + 1 ≡ suc l = omega arith in w ∙ rw (s, ← e)
+
+pub half-more : (i j l : ℕ) → j ≡ i / 2 ^ l → j / 2 ≡ i / 2 ^ (l + 1)
+half-more i j l e = let s : l + 1 ≡ suc l = omega arith in rw (s, e, pow-suc) (div-div-eq-div-mul i (2 ^ l) 2)
+
+pub zero-pad : zeroHash ≡ padValue 0
+unfolding padValue
+zero-pad = refl
+
+pub above-none : (nodes leaf : List ℕ) (i : ℕ) → leaf ≡ openAbove nodes leaf i 0
+unfolding openAbove
+above-none nodes leaf i = refl

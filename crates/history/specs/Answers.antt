@@ -64,9 +64,12 @@ moreAnswer s ys layer =
 unfoldable pub moreLayer : History → List ℕ → List ℕ → List ℕ
 moreLayer s ys layer = cond (eqb (moreNumber s (length ys) (length layer)) 0) (notedBy s layer ys) layer
 
--- how many bytes the piece layer has: none if the file isn't longer than the piece length
+-- how many bytes the piece layer of n bytes has: none if the file isn't longer than the piece length
+unfoldable pub layerBytes : ℕ → ℕ → ℕ
+layerBytes n plen = cond (hasLayer n plen) (32 * pieceCount n plen) 0
+
 unfoldable pub layerSize : History → ℕ
-layerSize s = cond (hasLayer (s .length) (s .«piece_length»)) (32 * pieceCount (s .length) (s .«piece_length»)) 0
+layerSize s = layerBytes (s .length) (s .«piece_length»)
 
 -- the number at the end, for a lent layer of m bytes.
 -- 9: counts that no bursts give; 11: the layer doesn't fit
@@ -79,9 +82,10 @@ endAnswer s layer =
     (record { number = 0; length = s .length; root = rootOf s; «layer_size» = layerSize s })
     (record { number = endNumber s (length layer); length = 0; root = zeroHash; «layer_size» = 0 })
 
--- the last piece's hash is written, if there is a layer
+-- the lent layer with the last piece's hash, if there is a layer
+unfoldable pub withLast : History → List ℕ → List ℕ
+withLast s layer =
+    cond (hasLayer (s .length) (s .«piece_length»)) (pasted layer (layerSize s - 32) (lastNode s (pieceLayer (s .«piece_length»)))) layer
+
 unfoldable pub endLayer : History → List ℕ → List ℕ
-endLayer s layer =
-    cond (eqb (endNumber s (length layer)) 0 && hasLayer (s .length) (s .«piece_length»))
-    (pasted layer (layerSize s - 32) (lastNode s (pieceLayer (s .«piece_length»))))
-    layer
+endLayer s layer = cond (eqb (endNumber s (length layer)) 0) (withLast s layer) layer

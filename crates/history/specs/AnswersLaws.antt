@@ -15,7 +15,7 @@ use Rattle.running.specs.Bursts.{stateOf}
 use Rattle.running.specs.declared.Hashing.{Hashing}
 use Rattle.tree.specs.Geometry.{blockLength, isPieceLength, pieceLayer, hasLayer, pieceCount}
 use Rattle.history.specs.Growing.{nodeCount, grownBy, notedBy, lastNode, rootOf}
-use Rattle.history.specs.Answers.{emptyHistory, noHistory, beginAnswer, possibleCounts, passed, noRoomFor, moreNumber, moreAnswer, moreLayer, layerSize, endNumber, endAnswer, endLayer}
+use Rattle.history.specs.Answers.{emptyHistory, noHistory, beginAnswer, possibleCounts, passed, noRoomFor, moreNumber, moreAnswer, moreLayer, layerSize, endNumber, endAnswer, withLast, endLayer}
 use Rattle.history.specs.declared.History.{History}
 use Rattle.history.specs.declared.HistoryAnswer.{HistoryAnswer}
 use Rattle.history.specs.declared.HistoryEnd.{HistoryEnd}

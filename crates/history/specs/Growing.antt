@@ -58,13 +58,19 @@ unfoldable pub notedBy : History → List ℕ → List ℕ → List ℕ
 notedBy s layer [] = layer
 notedBy s layer (y ∷ ys) = notedBy (grown s y) (noted s layer) ys
 
--- the node of layer k that the next byte belongs to: what is finished of it, the block under way, then padding
+-- the block under way as a leaf; zero if there is none
+unfoldable pub openLeaf : History → List ℕ
+openLeaf s = cond (eqb (s .length % blockLength) 0) zeroHash (hashOf (s .block))
+
+-- the node k layers above leaf i, which is under way: to its left what is finished, to its right padding
+unfoldable pub openAbove : List ℕ → List ℕ → ℕ → ℕ → List ℕ
+openAbove nodes leaf i zero = leaf
+openAbove nodes leaf i (suc k) =
+    cond (eqb (i / 2 ^ k % 2) 1) (pairHash (nodeAt nodes k) (openAbove nodes leaf i k)) (pairHash (openAbove nodes leaf i k) (padValue k))
+
+-- the node of layer k that the next byte belongs to
 unfoldable pub openNode : History → ℕ → List ℕ
-openNode s zero = cond (eqb (s .length % blockLength) 0) zeroHash (hashOf (s .block))
-openNode s (suc k) =
-    cond (eqb (s .length / blockLength / 2 ^ k % 2) 1)
-    (pairHash (nodeAt (s .nodes) k) (openNode s k))
-    (pairHash (openNode s k) (padValue k))
+openNode s k = openAbove (s .nodes) (openLeaf s) (s .length / blockLength) k
 
 -- the node of layer k over the last byte
 unfoldable pub lastNode : History → ℕ → List ℕ

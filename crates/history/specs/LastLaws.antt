@@ -21,7 +21,7 @@ use Rattle.tree.specs.Geometry.{blockLength, ceilDiv, blockCount, height, Paddi
 use Rattle.tree.specs.GeometryLaws.{ceil-least, ceil-enough, below-ceil, block-within, block-outside, block-count-some, covering-top, pieces-covering, height-least, height-zero}
 use Rattle.tree.specs.Values.{node, padValue, blockOf, leafOf, piecesRoot}
 use Rattle.tree.specs.ValuesLaws.{leaf-block, leaf-padding, leaf-octets, padding-value}
-use Rattle.history.specs.Growing.{nodeCount, nodeAt, openNode, lastNode, rootOf}
+use Rattle.history.specs.Growing.{nodeCount, nodeAt, openLeaf, openAbove, openNode, lastNode, rootOf}
 use Rattle.history.specs.HistoryOf.{lastOf, nodesOf, openBlock, historyOf}
 use Rattle.history.specs.NodesLaws.{nodes-at, last-some, parent-of}
 
@@ -60,7 +60,7 @@ open-leaf x n =
     ∙ sym (leaf-block x (length x / blockLength) (block-within (length x) (length x / blockLength) (omega (arith, n))))
 
 pub open-node : (plen : ℕ) (x : List ℕ) (k : ℕ) → k ≤ nodeCount → openNode (historyOf plen x) k ≡ node (leafOf x) k (length x / blockLength / 2 ^ k)
-unfolding openNode node historyOf
+unfolding openNode openAbove openLeaf node historyOf
 open-node plen x zero l = rw (history-length plen x, history-block plen x, hash-of-state (openBlock x)) (by-case (ℕ-discrete (length x % blockLength) 0))
   where
     one : length x / blockLength / 2 ^ 0 ≡ length x / blockLength

@@ -1,0 +1,67 @@
+use native.Mathlib.Omega.{arith}
+use Prim.Native.Nat.{ℕ, _+_, _-_, _*_, _≤_, _<_, _/_, _%_, _^_}
+use lib.ListN.{length, getD, set, take, drop}
+use mathlib.Core.Path.{_≡_, refl, ap, sym, _∙_}
+use borrow.Author.Needs.{needs}
+use Rattle.history.proofs.last_node.Statement.{statement}
+use Rattle.history.proofs.last_node.Tie as tie
+use Rattle.history.proofs.last_node.Reads as reads
+use Rattle.history.proofs.last_node.Lts as lts
+use Rattle.history.proofs.open_above.Reads as open-above-reads
+use Rattle.history.proofs.open_leaf.Reads as open-leaf-reads
+use Rattle.octets.proofs.hash_at.Reads as hash-at-reads
+
+-- src/lib.rt:311:16
+shl-size : tie.Need-shl-size
+shl-size c = search needs
+
+-- src/lib.rt:313:8
+rem-if1 : tie.Need-rem-if1
+rem-if1 c = ?
+
+-- src/lib.rt:314:24
+slice-aggregate-hash-at : tie.Need-slice-aggregate-hash-at
+slice-aggregate-hash-at c = search needs
+
+-- src/lib.rt:314:32
+mul-hash-at : tie.Need-mul-hash-at
+mul-hash-at c = search needs
+
+-- src/lib.rt:314:9
+hash-at-requires : tie.Need-hash-at-requires
+hash-at-requires c κs = ?
+
+-- src/lib.rt:314:9
+returns : tie.Need-returns
+returns c = ?
+
+-- src/lib.rt:316:9
+open-leaf-requires : tie.Need-open-leaf-requires
+open-leaf-requires c κs = search needs
+
+-- src/lib.rt:317:16
+slice-aggregate-open-above : tie.Need-slice-aggregate-open-above
+slice-aggregate-open-above c = search needs
+
+-- src/lib.rt:317:5
+open-above-requires : tie.Need-open-above-requires
+open-above-requires c κs = ?
+
+-- src/lib.rt:306:1
+returns-2 : tie.Need-returns-2
+returns-2 c = ?
+
+pub last-node-spec : {M : Type 1} → statement M
+last-node-spec =
+    tie.close
+    (tie.spec
+    shl-size
+    rem-if1
+    slice-aggregate-hash-at
+    mul-hash-at
+    hash-at-requires
+    returns
+    open-leaf-requires
+    slice-aggregate-open-above
+    open-above-requires
+    returns-2)

@@ -1,0 +1,64 @@
+use native.Mathlib.Omega.{arith}
+use Prim.Native.Nat.{ℕ, _+_, _-_, _*_, _≤_, _<_, _/_, _%_, _^_}
+use lib.ListN.{length, getD, set, take, drop}
+use mathlib.Core.Path.{_≡_, refl, ap, sym, _∙_}
+use borrow.Author.Needs.{needs}
+use Rattle.history.proofs.put_last.Statement.{statement}
+use Rattle.history.proofs.put_last.Tie as tie
+use Rattle.history.proofs.put_last.Reads as reads
+use Rattle.history.proofs.put_last.Lts as lts
+use Rattle.history.proofs.last_node.Reads as last-node-reads
+use Rattle.history.proofs.layer_size.Reads as layer-size-reads
+use Rattle.octets.proofs.put_hash.Reads as put-hash-reads
+use Rattle.tree.proofs.geometry.has_layer.Reads as has-layer-reads
+use Rattle.tree.proofs.geometry.piece_layer.Reads as piece-layer-reads
+
+-- src/lib.rt:363:8
+has-layer-requires : tie.Need-has-layer-requires
+has-layer-requires c κs = search needs
+
+-- src/lib.rt:364:13
+piece-layer-requires : tie.Need-piece-layer-requires
+piece-layer-requires c κs = search needs
+
+-- src/lib.rt:365:13
+last-node-requires : tie.Need-last-node-requires
+last-node-requires c κs = ?
+
+-- src/lib.rt:366:18
+layer-size-requires : tie.Need-layer-size-requires
+layer-size-requires c κs = search needs
+
+-- src/lib.rt:366:18
+sub-at : tie.Need-sub-at
+sub-at c = ?
+
+-- src/lib.rt:367:9
+put-hash-requires : tie.Need-put-hash-requires
+put-hash-requires c κs = ?
+
+-- src/lib.rt:357:1
+same-length : tie.Need-same-length
+same-length c = search needs
+
+-- src/lib.rt:357:1
+returns : tie.Need-returns
+returns c = ?
+
+-- src/lib.rt:357:1
+returns-2 : tie.Need-returns-2
+returns-2 c = ?
+
+pub put-last-spec : {M : Type 1} → statement M
+put-last-spec =
+    tie.close
+    (tie.spec
+    has-layer-requires
+    piece-layer-requires
+    last-node-requires
+    layer-size-requires
+    sub-at
+    put-hash-requires
+    same-length
+    returns
+    returns-2)

@@ -1,0 +1,36 @@
+use native.Mathlib.Omega.{arith}
+use Prim.Native.Nat.{ℕ, _+_, _-_, _*_, _≤_, _<_, _/_, _%_, _^_}
+use lib.ListN.{length, getD, set, take, drop}
+use mathlib.Core.Path.{_≡_, refl, ap, sym, _∙_}
+use borrow.Author.Needs.{needs}
+use Rattle.history.proofs.root_of.Statement.{statement}
+use Rattle.history.proofs.root_of.Tie as tie
+use Rattle.history.proofs.root_of.Reads as reads
+use Rattle.history.proofs.root_of.Lts as lts
+use Rattle.history.proofs.last_node.Reads as last-node-reads
+use Rattle.tree.proofs.geometry.block_count.Reads as block-count-reads
+use Rattle.tree.proofs.geometry.height.Reads as height-reads
+
+-- src/lib.rt:327:9
+returns : tie.Need-returns
+returns c = ?
+
+-- src/lib.rt:329:25
+block-count-requires : tie.Need-block-count-requires
+block-count-requires c κs = search needs
+
+-- src/lib.rt:329:18
+height-requires : tie.Need-height-requires
+height-requires c κs = search needs
+
+-- src/lib.rt:329:5
+last-node-requires : tie.Need-last-node-requires
+last-node-requires c κs = ?
+
+-- src/lib.rt:321:1
+returns-2 : tie.Need-returns-2
+returns-2 c = ?
+
+pub root-of-spec : {M : Type 1} → statement M
+root-of-spec =
+    tie.close (tie.spec returns block-count-requires height-requires last-node-requires returns-2)
