@@ -4,7 +4,7 @@ use mathlib.Core.Path.{_≡_, refl, ap, ap₂, sym, subst, _∙_}
 use mathlib.Core.Bool.{Bool, true, false, cond, _&&_, and-eq-true-iff}
 use mathlib.Core.List.{List, [], _∷_, _++_}
 use Prim.Native.Nat.{ℕ, zero, suc, _+_, _-_, _*_, _/_, _%_, _^_, _≤_, _<_}
-use native.Mathlib.Nat.{mul-assoc, mul-comm, add-mul, one-mul, zero-mul, div-add-mod', div-lt-iff-lt-mul, pow-succ', one-le-mul, pow-suc, div-div-eq-div-mul}
+use native.Mathlib.Nat.{mul-assoc, mul-comm, add-mul, one-mul, zero-mul, div-add-mod', div-lt-iff-lt-mul, pow-succ', one-le-mul, pow-suc, div-div-eq-div-mul, mod-eq-of-lt}
 use native.Mathlib.Decide.{ℕ-discrete}
 use native.Mathlib.Omega.{arith}
 use lib.ListN.{length, take, drop, take-append-drop}
@@ -13,14 +13,15 @@ use lib.Pow.{pow-pos, pow-mono}
 use lib.Dec.{eqb, ltb}
 use borrow.Author.Tests.{eq-eqb, ne-eqb, lt-ltb, le-ltb}
 use Rattle.octets.specs.Octets.{pasted, zeroHash}
+use Rattle.limits.specs.Limits.{tallestTree}
 use Rattle.sha256.specs.Sha256.{pairHash}
 use Rattle.running.specs.Bursts.{stateOf, absorbed, hashOf}
 use Rattle.running.specs.BurstsLaws.{absorbed-twice}
 use Rattle.running.specs.declared.Hashing.{Hashing}
-use Rattle.tree.specs.Geometry.{blockLength, pieceLayer, isPieceLength}
+use Rattle.tree.specs.Geometry.{blockLength, blockCount, height, pieceLayer, isPieceLength}
 use Rattle.tree.specs.GeometryLaws.{piece-length-form}
 use Rattle.tree.specs.Values.{padValue}
-use Rattle.history.specs.Growing.{nodeCount, nodeAt, finishing, grown, grownBy, noted, notedBy, openAbove}
+use Rattle.history.specs.Growing.{nodeCount, nodeAt, finishing, grown, grownBy, noted, notedBy, openLeaf, openAbove, openNode, lastNode, rootOf}
 use Rattle.history.specs.declared.History.{History}
 
 -- ---- a leaf is finished
@@ -260,3 +261,32 @@ zero-pad = refl
 pub above-none : (nodes leaf : List ℕ) (i : ℕ) → leaf ≡ openAbove nodes leaf i 0
 unfolding openAbove
 above-none nodes leaf i = refl
+
+-- ---- the node over the last byte
+
+-- the blocks under a node of layer k, in bytes, as code shifts them
+pub shifted-block : (k : ℕ) → k < nodeCount → (16384 * 2 ^ k) % 2 ^ 64 ≡ blockLength * 2 ^ k
+shifted-block k l =
+    let w : 2 ^ k ≤ 2 ^ tallestTree = pow-mono {i = k} {j = tallestTree} (omega arith) in
+    mod-eq-of-lt (omega (arith, w))
+
+pub shifted-some : (k : ℕ) → k < nodeCount → 0 < (16384 * 2 ^ k) % 2 ^ 64
+shifted-some k l = omega (arith, shifted-block k l, pow-pos k)
+
+pub last-whole : (s : History) (hash : List ℕ) (k size : ℕ) → size ≡ blockLength * 2 ^ k → s .length % size ≡ 0 → hash ≡ nodeAt (s .nodes) k → hash ≡ lastNode s k
+unfolding lastNode
+last-whole s hash k size z e h = rw (eq-eqb (s .length % (blockLength * 2 ^ k)) 0 (rw z at e)) h
+
+pub last-open : (s : History) (hash leaf : List ℕ) (k size : ℕ) → size ≡ blockLength * 2 ^ k → (s .length % size ≡ 0 → ⊥) → leaf ≡ openLeaf s
+    → hash ≡ openAbove (s .nodes) leaf (s .length / blockLength) k → hash ≡ lastNode s k
+unfolding lastNode openNode
+last-open s hash leaf k size z n e h =
+    rw (ne-eqb (s .length % (blockLength * 2 ^ k)) 0 (rw z at n)) (h ∙ ap (λ (l : List ℕ). openAbove (s .nodes) l (s .length / blockLength) k) e)
+
+pub root-none : (s : History) → s .length ≡ 0 → zeroHash ≡ rootOf s
+unfolding rootOf
+root-none s e = rw (eq-eqb (s .length) 0 e)
+
+pub root-some : (s : History) (hash : List ℕ) (b k : ℕ) → (s .length ≡ 0 → ⊥) → b ≡ blockCount (s .length) → k ≡ height b → hash ≡ lastNode s k → hash ≡ rootOf s
+unfolding rootOf
+root-some s hash b k n eb ek h = rw (ne-eqb (s .length) 0 n) (h ∙ ap (lastNode s) (ek ∙ ap height eb))

@@ -1,3 +1,5 @@
+use Rattle.octets.specs.Octets.{zeroHash}
+use Rattle.history.proofs.Deciding.{end-says, end-taken, end-layer, end-refused, end-left}
 use native.Mathlib.Omega.{arith}
 use Prim.Native.Nat.{ℕ, _+_, _-_, _*_, _≤_, _<_, _/_, _%_, _^_}
 use lib.ListN.{length, getD, set, take, drop}
@@ -18,15 +20,15 @@ end-number-requires c κs = search needs
 
 -- src/lib.rt:379:9
 put-last-requires : tie.Need-put-last-requires
-put-last-requires c κs = ?
+put-last-requires c κs = end-says (c .before .before .before .before .args .h) (length (c .before .before .before .before .args .layer .now)) (sym (c .before .before .end-number .ensures) ∙ c .before .if1 .taken)
 
 -- src/lib.rt:383:19
 root-of-requires : tie.Need-root-of-requires
-root-of-requires c κs = ?
+root-of-requires c κs = let w = end-says (c .before .before .before .before .before .before .before .args .h) (length (c .before .before .before .before .before .before .before .args .layer .now)) (sym (c .before .before .before .before .before .end-number .ensures) ∙ c .before .before .before .before .if1 .taken) .0 in (w .tail, w .short)
 
 -- src/lib.rt:384:25
 layer-size-requires : tie.Need-layer-size-requires
-layer-size-requires c κs = ?
+layer-size-requires c κs = end-says (c .before .before .before .before .before .before .before .before .args .h) (length (c .before .before .before .before .before .before .before .before .args .layer .now)) (sym (c .before .before .before .before .before .before .end-number .ensures) ∙ c .before .before .before .before .before .if1 .taken) .0 .short
 
 -- src/lib.rt:380:9
 same-length : tie.Need-same-length
@@ -34,11 +36,15 @@ same-length c = search needs
 
 -- src/lib.rt:380:9
 returns : tie.Need-returns
-returns c = ?
+returns c = let a = c .before .before .before .before .before .before .before .before .before .args in
+    let z = sym (c .before .before .before .before .before .before .if1 .taken) ∙ c .before .before .before .before .before .before .before .end-number .ensures in
+    (end-taken (a .h) (a .layer .now) (c .before .root-of .result) (c .layer-size .result) z (c .before .root-of .ensures) (c .layer-size .ensures), end-layer (a .h) (a .layer .now) (c .before .before .before .before .put-last .last .1 .0) z (c .before .before .before .before .put-last .ensures))
 
 -- src/lib.rt:373:1
 returns-2 : tie.Need-returns-2
-returns-2 c = ?
+unfolding zeroHash
+returns-2 c = let a = c .before .before .before .args in
+    (end-refused (a .h) (a .layer .now) (c .before .end-number .result) (c .before .end-number .ensures) (c .if1 .left), end-left (a .h) (a .layer .now) (c .before .end-number .result) (c .before .end-number .ensures) (c .if1 .left))
 
 pub end-spec : {M : Type 1} → statement M
 end-spec =

@@ -54,10 +54,13 @@ loop-less c = search needs
 loop-again : tie.Need-loop-again Inv-loop μ-loop
 unfolding nodeAt
 loop-again c = let L = c .before .before .before .before .before .before .before .before .loop in
-    let h = halved tallestTree (L .k) (L .j) (L .inv .0) (L .inv .1) (c .before .before .before .before .before .before .before .loop-test .taken) in
-    (omega (arith, h .0), h .1, c .before .before .before .put-hash .kept .0 ∙ L .inv .2,
-    ap₂ (λ (a b : List ℕ). finishing (nodeCount - (L .k + 1)) a (L .k + 1) (L .j / 2) b) (c .before .before .before .put-hash .ensures) (c .pair .ensures ∙ ap (λ (x : List ℕ). pairHash x (L .hash)) (c .before .before .before .before .before .hash-at .ensures))
-    ∙ sym (finishing-turn nodeCount (L .k) (L .j) (L .nodes) (L .hash) (omega arith) (c .before .before .before .before .before .before .before .loop-test .taken)) ∙ L .inv .3)
+    let h = halved tallestTree (L .k) (L .j) (L .inv .0) (L .inv .1) (c .before .before .before .before .before .before .before .loop-test .taken) in (
+      omega (arith, h .0),
+      h .1,
+      c .before .before .before .put-hash .kept .0 ∙ L .inv .2,
+      ap₂ (λ (a b : List ℕ). finishing (nodeCount - (L .k + 1)) a (L .k + 1) (L .j / 2) b) (c .before .before .before .put-hash .ensures) (c .pair .ensures ∙ ap (λ (x : List ℕ). pairHash x (L .hash)) (c .before .before .before .before .before .hash-at .ensures))
+          ∙ sym (finishing-turn nodeCount (L .k) (L .j) (L .nodes) (L .hash) (omega arith) (c .before .before .before .before .before .before .before .loop-test .taken)) ∙ L .inv .3,
+    )
 
 -- src/lib.rt:105:14
 mul-at-2 : tie.Need-mul-at-2 Inv-loop μ-loop

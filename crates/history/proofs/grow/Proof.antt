@@ -42,19 +42,23 @@ begin-requires c κs = search needs
 
 -- src/lib.rt:123:9
 returns : tie.Need-returns
-returns c = let b = c .before .before .before .before .before .before .before .before .before .before in
-    (grow-whole (b .args .h) (b .args .part .now) (c .before .before .before .before .before .before .absorb .result) (c .begin .result) (c .before .before .before .before .hash-of .result) (c .before .before .finish .last .0) (b .pre .0) (b .pre .1) (c .before .before .before .before .before .if1 .taken) (c .before .before .before .before .before .before .absorb .ensures .0) (c .before .before .before .before .hash-of .ensures) (c .before .before .finish .ensures) (c .begin .ensures),
-    refl, refl,
-    ap (λ (s : Hashing). s .total) (c .begin .ensures) ∙ state-total [] ∙ sym (c .before .before .before .before .before .if1 .taken),
-    ap (λ (s : Hashing). s .«tail_size») (c .begin .ensures) ∙ state-tail [] ∙ sym (ap (λ (s : Hashing). s .total % 64) (c .begin .ensures) ∙ ap (λ (n : ℕ). n % 64) (state-total [])))
+returns c = let b = c .before .before .before .before .before .before .before .before .before .before in (
+  grow-whole (b .args .h) (b .args .part .now) (c .before .before .before .before .before .before .absorb .result) (c .begin .result) (c .before .before .before .before .hash-of .result) (c .before .before .finish .last .0) (b .pre .0) (b .pre .1) (c .before .before .before .before .before .if1 .taken) (c .before .before .before .before .before .before .absorb .ensures .0) (c .before .before .before .before .hash-of .ensures) (c .before .before .finish .ensures) (c .begin .ensures),
+  refl,
+  refl,
+  ap (λ (s : Hashing). s .total) (c .begin .ensures) ∙ state-total [] ∙ sym (c .before .before .before .before .before .if1 .taken),
+  ap (λ (s : Hashing). s .«tail_size») (c .begin .ensures) ∙ state-tail [] ∙ sym (ap (λ (s : Hashing). s .total % 64) (c .begin .ensures) ∙ ap (λ (n : ℕ). n % 64) (state-total [])),
+)
 
 -- src/lib.rt:110:1
 returns-2 : tie.Need-returns-2
-returns-2 c = let b = c .before .before .before .before .before in
-    (grow-within (b .args .h) (b .args .part .now) (c .before .absorb .result) (b .pre .0) (b .pre .1) (c .if1 .left) (c .before .absorb .ensures .0),
-    refl, refl,
-    ap (λ (s : Hashing). s .total) (c .before .absorb .ensures .0) ∙ absorbed-total (b .args .h .block) (b .args .part .now) ∙ omega (arith, b .pre .1, b .pre .3, c .if1 .left),
-    c .before .absorb .ensures .1)
+returns-2 c = let b = c .before .before .before .before .before in (
+  grow-within (b .args .h) (b .args .part .now) (c .before .absorb .result) (b .pre .0) (b .pre .1) (c .if1 .left) (c .before .absorb .ensures .0),
+  refl,
+  refl,
+  ap (λ (s : Hashing). s .total) (c .before .absorb .ensures .0) ∙ absorbed-total (b .args .h .block) (b .args .part .now) ∙ omega (arith, b .pre .1, b .pre .3, c .if1 .left),
+  c .before .absorb .ensures .1,
+)
 
 pub grow-spec : {M : Type 1} → statement M
 grow-spec =

@@ -1,3 +1,5 @@
+use Rattle.history.specs.Growing.{nodeCount, nodeAt}
+use Rattle.history.proofs.Steps.{shifted-block, shifted-some, last-whole, last-open}
 use native.Mathlib.Omega.{arith}
 use Prim.Native.Nat.{ℕ, _+_, _-_, _*_, _≤_, _<_, _/_, _%_, _^_}
 use lib.ListN.{length, getD, set, take, drop}
@@ -11,13 +13,17 @@ use Rattle.history.proofs.open_above.Reads as open-above-reads
 use Rattle.history.proofs.open_leaf.Reads as open-leaf-reads
 use Rattle.octets.proofs.hash_at.Reads as hash-at-reads
 
+-- the nodes are an array of 32 bytes each
+nodes-size : (c : tie.Start) → length (c .args .h .nodes) ≡ 32 * nodeCount
+nodes-size c = search needs
+
 -- src/lib.rt:311:16
 shl-size : tie.Need-shl-size
 shl-size c = search needs
 
 -- src/lib.rt:313:8
 rem-if1 : tie.Need-rem-if1
-rem-if1 c = ?
+rem-if1 c = shifted-some (c .before .args .k) (c .before .pre .1)
 
 -- src/lib.rt:314:24
 slice-aggregate-hash-at : tie.Need-slice-aggregate-hash-at
@@ -29,11 +35,12 @@ mul-hash-at c = search needs
 
 -- src/lib.rt:314:9
 hash-at-requires : tie.Need-hash-at-requires
-hash-at-requires c κs = ?
+hash-at-requires c κs = omega (arith, nodes-size (c .before .before .before), c .before .before .before .pre .1)
 
 -- src/lib.rt:314:9
 returns : tie.Need-returns
-returns c = ?
+unfolding nodeAt
+returns c = last-whole (c .before .before .before .before .args .h) (c .hash-at .result) (c .before .before .before .before .args .k) ((16384 * 2 ^ c .before .before .before .before .args .k) % 2 ^ 64) (shifted-block (c .before .before .before .before .args .k) (c .before .before .before .before .pre .1)) (c .before .before .if1 .taken) (c .hash-at .ensures)
 
 -- src/lib.rt:316:9
 open-leaf-requires : tie.Need-open-leaf-requires
@@ -45,11 +52,11 @@ slice-aggregate-open-above c = search needs
 
 -- src/lib.rt:317:5
 open-above-requires : tie.Need-open-above-requires
-open-above-requires c κs = ?
+open-above-requires c κs = omega (arith, nodes-size (c .before .before .before .before), c .before .before .before .before .pre .1)
 
 -- src/lib.rt:306:1
 returns-2 : tie.Need-returns-2
-returns-2 c = ?
+returns-2 c = last-open (c .before .before .before .before .before .args .h) (c .open-above .result) (c .before .before .open-leaf .result) (c .before .before .before .before .before .args .k) ((16384 * 2 ^ c .before .before .before .before .before .args .k) % 2 ^ 64) (shifted-block (c .before .before .before .before .before .args .k) (c .before .before .before .before .before .pre .1)) (c .before .before .before .if1 .left) (c .before .before .open-leaf .ensures) (c .open-above .ensures)
 
 pub last-node-spec : {M : Type 1} → statement M
 last-node-spec =

@@ -1,3 +1,6 @@
+use Rattle.history.specs.Answers.{layerSize}
+use Rattle.history.proofs.Deciding.{last-put, last-none, layer-some}
+use Rattle.history.proofs.Steps.{piece-layer-below}
 use native.Mathlib.Omega.{arith}
 use Prim.Native.Nat.{ℕ, _+_, _-_, _*_, _≤_, _<_, _/_, _%_, _^_}
 use lib.ListN.{length, getD, set, take, drop}
@@ -23,7 +26,7 @@ piece-layer-requires c κs = search needs
 
 -- src/lib.rt:365:13
 last-node-requires : tie.Need-last-node-requires
-last-node-requires c κs = ?
+last-node-requires c κs = (c .before .before .before .before .pre .0 .tail, omega (arith, c .piece-layer .ensures, piece-layer-below (c .before .before .before .before .args .h .«piece_length») (c .before .before .before .before .pre .0 .pieces)))
 
 -- src/lib.rt:366:18
 layer-size-requires : tie.Need-layer-size-requires
@@ -31,11 +34,12 @@ layer-size-requires c κs = search needs
 
 -- src/lib.rt:366:18
 sub-at : tie.Need-sub-at
-sub-at c = ?
+sub-at c = omega (arith, c .layer-size .ensures, layer-some (c .before .before .before .before .before .before .args .h) (sym (c .before .before .before .before .has-layer .ensures) ∙ c .before .before .before .if1 .taken) (c .before .before .before .before .before .before .pre .0))
 
 -- src/lib.rt:367:9
 put-hash-requires : tie.Need-put-hash-requires
-put-hash-requires c κs = ?
+unfolding layerSize
+put-hash-requires c κs = omega (arith, c .before .layer-size .ensures, layer-some (c .before .before .before .before .before .before .before .args .h) (sym (c .before .before .before .before .before .has-layer .ensures) ∙ c .before .before .before .before .if1 .taken) (c .before .before .before .before .before .before .before .pre .0), c .before .before .before .before .before .before .before .pre .1)
 
 -- src/lib.rt:357:1
 same-length : tie.Need-same-length
@@ -43,11 +47,11 @@ same-length c = search needs
 
 -- src/lib.rt:357:1
 returns : tie.Need-returns
-returns c = ?
+returns c = last-put (c .before .before .before .before .before .before .before .before .before .before .args .h) (c .before .before .before .before .before .before .before .before .before .before .args .layer .now) (c .before .before .put-hash .last .0) (c .before .before .before .before .before .last-node .result) (c .before .before .before .before .before .before .piece-layer .result) (c .before .before .before .before .layer-size .result) (sym (c .before .before .before .before .before .before .before .before .has-layer .ensures) ∙ c .before .before .before .before .before .before .before .if1 .taken) (c .before .before .before .before .before .before .piece-layer .ensures) (c .before .before .before .before .before .last-node .ensures) (c .before .before .before .before .layer-size .ensures) (c .before .before .put-hash .ensures)
 
 -- src/lib.rt:357:1
 returns-2 : tie.Need-returns-2
-returns-2 c = ?
+returns-2 c = last-none (c .before .before .before .args .h) (c .before .before .before .args .layer .now) (sym (c .before .has-layer .ensures) ∙ c .if1 .left)
 
 pub put-last-spec : {M : Type 1} → statement M
 put-last-spec =

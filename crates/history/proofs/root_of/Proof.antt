@@ -1,3 +1,7 @@
+use Rattle.history.specs.LastLaws.{tall-enough}
+use Rattle.tree.specs.Geometry.{height}
+use Rattle.octets.specs.Octets.{zeroHash}
+use Rattle.history.proofs.Steps.{root-none, root-some}
 use native.Mathlib.Omega.{arith}
 use Prim.Native.Nat.{ℕ, _+_, _-_, _*_, _≤_, _<_, _/_, _%_, _^_}
 use lib.ListN.{length, getD, set, take, drop}
@@ -13,7 +17,8 @@ use Rattle.tree.proofs.geometry.height.Reads as height-reads
 
 -- src/lib.rt:327:9
 returns : tie.Need-returns
-returns c = ?
+unfolding zeroHash
+returns c = root-none (c .before .args .h) (c .if1 .taken)
 
 -- src/lib.rt:329:25
 block-count-requires : tie.Need-block-count-requires
@@ -25,11 +30,11 @@ height-requires c κs = search needs
 
 -- src/lib.rt:329:5
 last-node-requires : tie.Need-last-node-requires
-last-node-requires c κs = ?
+last-node-requires c κs = (c .before .before .before .pre .0, omega (arith, c .height .ensures ∙ ap height (c .before .block-count .ensures), tall-enough (c .before .before .before .args .h .length) (c .before .before .before .pre .1)))
 
 -- src/lib.rt:321:1
 returns-2 : tie.Need-returns-2
-returns-2 c = ?
+returns-2 c = root-some (c .before .before .before .before .args .h) (c .last-node .result) (c .before .before .block-count .result) (c .before .height .result) (c .before .before .before .if1 .left) (c .before .before .block-count .ensures) (c .before .height .ensures) (c .last-node .ensures)
 
 pub root-of-spec : {M : Type 1} → statement M
 root-of-spec =

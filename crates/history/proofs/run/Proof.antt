@@ -29,9 +29,10 @@ loop-holds c = let b = c .before .before in (omega arith, refl, omega arith, b .
 -- src/lib.rt:238:9
 note-requires : tie.Need-note-requires Inv-loop μ-loop
 note-requires c κs = let b = c .before .before .before .before .before in
-    let L = c .before .before .loop in
-    (good-at (b .args .h) (L .t) (b .pre .0) (L .inv .1),
-    λ p e. omega (arith, L .inv .5, fits-at (b .args .h) (L .t) (length (b .args .burst .now)) (length (b .args .layer .now)) (b .pre .0) (b .pre .2) (L .inv .1) (omega (arith, L .inv .2)) (omega (arith, L .inv .2, c .before .loop-test .taken)) p e))
+    let L = c .before .before .loop in (
+      good-at (b .args .h) (L .t) (b .pre .0) (L .inv .1),
+      λ p e. omega (arith, L .inv .5, fits-at (b .args .h) (L .t) (length (b .args .burst .now)) (length (b .args .layer .now)) (b .pre .0) (b .pre .2) (L .inv .1) (omega (arith, L .inv .2)) (omega (arith, L .inv .2, c .before .loop-test .taken)) p e),
+    )
 
 -- src/lib.rt:239:46
 sub-part-size : tie.Need-sub-part-size Inv-loop μ-loop
@@ -78,11 +79,17 @@ loop-again c = let b = c .before .before .before .before .before .before .before
     let e = L .at + n in
     let within : L .at + n ≤ length (b .args .burst .now) = omega (arith, c .before .before .part-size .ensures, L .inv .0, c .before .before .before .before .before .before .before .loop-test .taken) in
     let l = part-length (b .args .burst .now) (L .at) n within in
-    let on : L .at ≤ L .at + n = omega arith in
-    (within, g .1 ∙ L .inv .1, omega (arith, g .2, l, L .inv .2), g .3, g .4, c .before .before .before .before .before .note .kept .1 .0 ∙ L .inv .5,
-    grown-turn (b .args .h) (L .t) (c .grow .result) (b .args .burst .now) (L .at) e on (L .inv .6) (g .0),
-    noted-turn (b .args .h) (L .t) (c .grow .result) (b .args .burst .now) (b .args .layer .now) (L .layer) (c .before .before .before .before .before .note .last .1 .0) (L .at) e on (L .inv .7) (g .0)
-    (good-at (b .args .h) (L .t) (b .pre .0) (L .inv .1)) (omega (arith, l, c .before .before .part-size .ensures, c .before .before .before .before .before .before .before .loop-test .taken)) (omega (arith, l, c .before .before .part-size .ensures)) (c .before .before .before .before .before .note .ensures))
+    let on : L .at ≤ L .at + n = omega arith in (
+      within,
+      g .1 ∙ L .inv .1,
+      omega (arith, g .2, l, L .inv .2),
+      g .3,
+      g .4,
+      c .before .before .before .before .before .note .kept .1 .0 ∙ L .inv .5,
+      grown-turn (b .args .h) (L .t) (c .grow .result) (b .args .burst .now) (L .at) e on (L .inv .6) (g .0),
+      noted-turn (b .args .h) (L .t) (c .grow .result) (b .args .burst .now) (b .args .layer .now) (L .layer) (c .before .before .before .before .before .note .last .1 .0) (L .at) e on (L .inv .7) (g .0)
+          (good-at (b .args .h) (L .t) (b .pre .0) (L .inv .1)) (omega (arith, l, c .before .before .part-size .ensures, c .before .before .before .before .before .before .before .loop-test .taken)) (omega (arith, l, c .before .before .part-size .ensures)) (c .before .before .before .before .before .note .ensures),
+    )
 
 -- src/lib.rt:231:1
 same-length : tie.Need-same-length Inv-loop μ-loop
