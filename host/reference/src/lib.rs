@@ -8,10 +8,12 @@
 #![forbid(unsafe_code)]
 
 pub mod bencode;
+pub mod history;
 pub mod messages;
 pub mod number;
 pub mod pieces;
 pub mod replay;
+pub mod running;
 pub mod sha256;
 pub mod store;
 pub mod torrent;
