@@ -15,7 +15,7 @@ use borrow.Author.Tests.{eq-eqb, ne-eqb, lt-ltb, le-ltb}
 use Rattle.octets.specs.Octets.{Octets, pasted}
 use Rattle.octets.specs.OctetsLaws.{pasted-append, pasted-length}
 use Rattle.tree.specs.Geometry.{blockLength, ceilDiv, pieceLayer, isPieceLength, pieceCount}
-use Rattle.tree.specs.GeometryLaws.{ceil-least, ceil-enough, below-ceil, piece-length-form}
+use Rattle.tree.specs.GeometryLaws.{ceil-least, ceil-enough, below-ceil, ceil-below, piece-length-form}
 use Rattle.tree.specs.Values.{node, leafOf, layerOf}
 use Rattle.tree.specs.ValuesLaws.{leaf-octets, file-octets, layer-octets}
 use Rattle.history.specs.Growing.{nodeCount, nodeAt, grown, noted, notedBy}
@@ -103,6 +103,15 @@ pub passed-grows : (n m plen : ℕ) → 0 < plen → n ≤ m → passed n plen �
 unfolding passed pieceCount
 passed-grows n m plen p l = let c = ceil-least n plen (ceilDiv m plen) p (omega (arith, ceil-enough m plen (ceilDiv m plen) p (omega arith))) in omega arith
 
+-- and the bytes of those that were passed are there
+pub passed-bytes : (n plen : ℕ) → 0 < plen → passed n plen * plen ≤ n
+unfolding passed pieceCount
+passed-bytes n plen p = by-case (ceilDiv n plen) refl
+  where
+    by-case : (c : ℕ) → ceilDiv n plen ≡ c → (ceilDiv n plen - 1) * plen ≤ n
+    by-case zero e = let z : ceilDiv n plen - 1 ≡ 0 = omega (arith, e) in rw (z, zero-mul plen) (omega arith)
+    by-case (suc c) e = let z : ceilDiv n plen - 1 ≡ c = omega (arith, e) in rw z (omega (arith, ceil-below n plen c p (omega (arith, e))))
+
 -- ---- what is written
 
 module _ (plen : ℕ) (good : isPieceLength plen ≡ true) where
@@ -144,7 +153,7 @@ module _ (plen : ℕ) (good : isPieceLength plen ≡ true) where
   noted-first x layer z = rw (le-ltb 0 (length x) (omega (arith, z)))
 
   -- a burst that leads from x to z writes the hashes that z has passed and x has not
-  pub noted-by : (x ys z layer : List ℕ) → x ++ ys ≡ z → 32 * passed (length z) plen ≤ length layer
+  pub noted-by : (x ys z layer : List ℕ) → x ++ ys ≡ z → (passed (length x) plen < passed (length z) plen → 32 * passed (length z) plen ≤ length layer)
       → notedBy (historyOf plen x) layer ys
       ≡ pasted layer (32 * passed (length x) plen) (hashesOf z (pieceLayer plen) (passed (length x) plen) (passed (length z) plen - passed (length x) plen))
   unfolding notedBy
@@ -172,7 +181,7 @@ module _ (plen : ℕ) (good : isPieceLength plen ≡ true) where
           ≡ pasted layer (32 * passed (length x) plen) (hashesOf z (pieceLayer plen) (passed (length x) plen) (passed (length z) plen - passed (length x) plen))
 
       Next : Type 0
-      Next = (l : List ℕ) → (x ++ (y ∷ [])) ++ ys ≡ z → 32 * passed (length z) plen ≤ length l
+      Next = (l : List ℕ) → (x ++ (y ∷ [])) ++ ys ≡ z → (passed (length (x ++ (y ∷ []))) plen < passed (length z) plen → 32 * passed (length z) plen ≤ length l)
           → notedBy (historyOf plen (x ++ (y ∷ []))) l ys
           ≡ pasted l (32 * passed (length (x ++ (y ∷ []))) plen) (hashesOf z (pieceLayer plen) (passed (length (x ++ (y ∷ []))) plen) (passed (length z) plen - passed (length (x ++ (y ∷ []))) plen))
 
@@ -180,7 +189,7 @@ module _ (plen : ℕ) (good : isPieceLength plen ≡ true) where
       nothing w q go =
           let q2 : passed (length (x ++ (y ∷ []))) plen ≡ passed (length x) plen = ap (λ (n : ℕ). passed n plen) next ∙ q in
           ap (λ (l : List ℕ). notedBy (historyOf plen (x ++ (y ∷ []))) l ys) w
-          ∙ go layer e′ room
+          ∙ go layer e′ (λ m. room (omega (arith, m, q2)))
           ∙ ap (λ (a : ℕ). pasted layer (32 * a) (hashesOf z (pieceLayer plen) a (passed (length z) plen - a))) q2
 
       by-place : Dec (length x ≡ 0) → Dec (length x % plen ≡ 0) → Next → Goal
@@ -191,6 +200,7 @@ module _ (plen : ℕ) (good : isPieceLength plen ≡ true) where
           let w = passed-at (length x) plen pieces-some (omega (arith, n0)) b in
           let q2 : passed (length (x ++ (y ∷ []))) plen ≡ suc (passed (length x) plen) = ap (λ (n : ℕ). passed n plen) next ∙ omega (arith, w .0, w .1, w .2) in
           let more : suc (passed (length x) plen) ≤ passed (length z) plen = omega (arith, passed-grows (length x + 1) (length z) plen pieces-some all, w .0, w .1, w .2) in
+          let enough : 32 * passed (length z) plen ≤ length layer = room more in
           let left : passed (length z) plen - passed (length x) plen ≡ suc (passed (length z) plen - suc (passed (length x) plen)) = omega (arith, more) in
           let inside : node (leafOf x) (pieceLayer plen) (passed (length x) plen) ≡ node (leafOf z) (pieceLayer plen) (passed (length x) plen) =
           sym (ap (λ (s : List ℕ). node (leafOf s) (pieceLayer plen) (passed (length x) plen)) (sym e) ∙ node-stays x (y ∷ ys) (pieceLayer plen) (passed (length x) plen) (finished b n0)) in
@@ -198,11 +208,11 @@ module _ (plen : ℕ) (good : isPieceLength plen ≡ true) where
           let put : noted (historyOf plen x) layer ≡ pasted layer (32 * passed (length x) plen) (node (leafOf z) (pieceLayer plen) (passed (length x) plen)) =
           noted-at x layer (omega (arith, n0)) b ∙ ap (pasted layer (32 * passed (length x) plen)) inside in
           let long : length (pasted layer (32 * passed (length x) plen) (node (leafOf z) (pieceLayer plen) (passed (length x) plen))) ≡ length layer =
-          pasted-length layer (32 * passed (length x) plen) (node (leafOf z) (pieceLayer plen) (passed (length x) plen)) (omega (arith, size, more, room)) in
+          pasted-length layer (32 * passed (length x) plen) (node (leafOf z) (pieceLayer plen) (passed (length x) plen)) (omega (arith, size, more, enough)) in
           ap (λ (l : List ℕ). notedBy (historyOf plen (x ++ (y ∷ []))) l ys) put
-          ∙ go (pasted layer (32 * passed (length x) plen) (node (leafOf z) (pieceLayer plen) (passed (length x) plen))) e′ (omega (arith, long, room))
+          ∙ go (pasted layer (32 * passed (length x) plen) (node (leafOf z) (pieceLayer plen) (passed (length x) plen))) e′ (λ m. omega (arith, long, enough))
           ∙ ap (λ (a : ℕ). pasted (pasted layer (32 * passed (length x) plen) (node (leafOf z) (pieceLayer plen) (passed (length x) plen))) (32 * a) (hashesOf z (pieceLayer plen) a (passed (length z) plen - a))) q2
-          ∙ side-by-side layer z (pieceLayer plen) (passed (length x) plen) (passed (length z) plen - suc (passed (length x) plen)) (omega (arith, more, room))
+          ∙ side-by-side layer z (pieceLayer plen) (passed (length x) plen) (passed (length z) plen - suc (passed (length x) plen)) (omega (arith, more, enough))
           ∙ ap (λ (n : ℕ). pasted layer (32 * passed (length x) plen) (hashesOf z (pieceLayer plen) (passed (length x) plen) n)) (sym left)
         where
           -- the piece before the boundary has all its blocks

@@ -6,3 +6,5 @@ pub mod GrowingLaws
 pub mod LastLaws
 pub mod LayerLaws
 pub mod AnswersLaws
+pub mod DecidingLaws
+pub mod HistoriesLaws

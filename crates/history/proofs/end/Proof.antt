@@ -1,5 +1,5 @@
 use Rattle.octets.specs.Octets.{zeroHash}
-use Rattle.history.proofs.Deciding.{end-says, end-taken, end-layer, end-refused, end-left}
+use Rattle.history.specs.DecidingLaws.{end-says, end-taken, end-layer, end-refused, end-left}
 use native.Mathlib.Omega.{arith}
 use Prim.Native.Nat.{ℕ, _+_, _-_, _*_, _≤_, _<_, _/_, _%_, _^_}
 use lib.ListN.{length, getD, set, take, drop}

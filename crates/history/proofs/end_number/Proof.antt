@@ -1,5 +1,5 @@
 use Rattle.history.specs.AnswersLaws.{possible-says}
-use Rattle.history.proofs.Deciding.{end-impossible, end-room, end-done}
+use Rattle.history.specs.DecidingLaws.{end-impossible, end-room, end-done}
 use native.Mathlib.Omega.{arith}
 use Prim.Native.Nat.{ℕ, _+_, _-_, _*_, _≤_, _<_, _/_, _%_, _^_}
 use lib.ListN.{length, getD, set, take, drop}

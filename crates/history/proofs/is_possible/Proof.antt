@@ -1,4 +1,4 @@
-use Rattle.history.proofs.Deciding.{bad-pieces, too-long, other-total, tail-decides}
+use Rattle.history.specs.DecidingLaws.{bad-pieces, too-long, other-total, tail-decides}
 use native.Mathlib.Omega.{arith}
 use Prim.Native.Nat.{ℕ, _+_, _-_, _*_, _≤_, _<_, _/_, _%_, _^_}
 use lib.ListN.{length, getD, set, take, drop}

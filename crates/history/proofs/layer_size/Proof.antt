@@ -1,4 +1,4 @@
-use Rattle.history.proofs.Deciding.{pieces-most, bytes-some, bytes-none}
+use Rattle.history.specs.DecidingLaws.{pieces-most, bytes-some, bytes-none}
 use native.Mathlib.Omega.{arith}
 use Prim.Native.Nat.{ℕ, _+_, _-_, _*_, _≤_, _<_, _/_, _%_, _^_}
 use lib.ListN.{length, getD, set, take, drop}

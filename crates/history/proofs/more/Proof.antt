@@ -1,4 +1,4 @@
-use Rattle.history.proofs.Deciding.{number-says, more-taken, layer-taken, more-refused, layer-refused}
+use Rattle.history.specs.DecidingLaws.{number-says, more-taken, layer-taken, more-refused, layer-refused}
 use native.Mathlib.Omega.{arith}
 use Prim.Native.Nat.{ℕ, _+_, _-_, _*_, _≤_, _<_, _/_, _%_, _^_}
 use lib.ListN.{length, getD, set, take, drop}

@@ -1,5 +1,5 @@
 use lib.Dec.{ltb}
-use Rattle.history.proofs.Deciding.{room-due, none-due}
+use Rattle.history.specs.DecidingLaws.{room-due, none-due}
 use native.Mathlib.Omega.{arith}
 use Prim.Native.Nat.{ℕ, _+_, _-_, _*_, _≤_, _<_, _/_, _%_, _^_}
 use lib.ListN.{length, getD, set, take, drop}

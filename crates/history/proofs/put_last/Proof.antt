@@ -1,5 +1,5 @@
 use Rattle.history.specs.Answers.{layerSize}
-use Rattle.history.proofs.Deciding.{last-put, last-none, layer-some}
+use Rattle.history.specs.DecidingLaws.{last-put, last-none, layer-some}
 use Rattle.history.proofs.Steps.{piece-layer-below}
 use native.Mathlib.Omega.{arith}
 use Prim.Native.Nat.{ℕ, _+_, _-_, _*_, _≤_, _<_, _/_, _%_, _^_}

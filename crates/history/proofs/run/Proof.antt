@@ -1,4 +1,4 @@
-use Rattle.history.proofs.Deciding.{fits-at, good-at, part-length}
+use Rattle.history.specs.DecidingLaws.{fits-at, good-at, part-length}
 use mathlib.Core.List.{[]}
 use Rattle.history.proofs.Steps.{grown-turn, noted-turn, grown-none, noted-end}
 use Rattle.history.specs.Growing.{grownBy, notedBy}
