@@ -23,7 +23,7 @@ use Rattle.tree.specs.ValuesLaws.{file-octets, layer-octets}
 use Rattle.history.specs.Growing.{nodeCount, grownBy, notedBy, lastNode, rootOf}
 use Rattle.history.specs.Answers.{emptyHistory, possibleCounts, passed, noRoomFor, moreNumber, moreAnswer, moreLayer, layerBytes, layerSize, endNumber, endAnswer, withLast, endLayer}
 use Rattle.history.specs.AnswersLaws.{Possible, says-possible}
-use Rattle.history.specs.DecidingLaws.{number-says, number-done, more-taken, layer-taken, bytes-some, bytes-none, end-done, end-taken, end-layer, last-put, last-none}
+use Rattle.history.specs.DecidingLaws.{number-says, number-done, more-taken, layer-taken, bytes-some, bytes-none, end-done, end-room, end-taken, end-layer, last-put, last-none}
 use Rattle.history.specs.HistoryOf.{lastOf, nodesOf, openBlock, historyOf}
 use Rattle.history.specs.GrowingLaws.{node-stays, grown-by}
 use Rattle.history.specs.LastLaws.{history-length, history-pieces, history-block, last-node, root-of-history}
@@ -253,3 +253,56 @@ module _ (plen : ℕ) (x layer : List ℕ) (good : isPieceLength plen ≡ true) 
     written-asked w =
         ap (take (32 * passed (length x) plen)) end-with
         ∙ front-stays layer (node (leafOf x) (pieceLayer plen) (passed (length x) plen)) (32 * passed (length x) plen) (written-length plen x layer w) ∙ w
+
+-- ---- what changes nothing
+
+-- nothing is written before the first byte
+pub empty-written : (plen : ℕ) (layer : List ℕ) → Written plen [] layer
+unfolding Written layerOf
+empty-written plen layer = rw (passed-none plen)
+
+pub refused-state : (s : History) (b layer : List ℕ) → (moreAnswer s b layer .number ≡ 0 → ⊥) → moreAnswer s b layer .history ≡ s
+unfolding moreAnswer
+refused-state s b layer n = rw (ne-eqb (moreNumber s (length b) (length layer)) 0 n)
+
+pub refused-layer : (s : History) (b layer : List ℕ) → (moreAnswer s b layer .number ≡ 0 → ⊥) → moreLayer s b layer ≡ layer
+unfolding moreAnswer moreLayer
+refused-layer s b layer n = rw (ne-eqb (moreNumber s (length b) (length layer)) 0 n)
+
+pub end-refused-layer : (s : History) (layer : List ℕ) → (endNumber s (length layer) ≡ 0 → ⊥) → endLayer s layer ≡ layer
+unfolding endLayer
+end-refused-layer s layer n = rw (ne-eqb (endNumber s (length layer)) 0 n)
+
+-- asking for the end keeps what was written, whatever it answers
+pub asked-written : (plen : ℕ) (x layer : List ℕ) → isPieceLength plen ≡ true → length x ≤ longestFile → Written plen x layer → Written plen x (endLayer (historyOf plen x) layer)
+asked-written plen x layer good short w = by-room (decLe (layerBytes (length x) plen) (length layer))
+  where
+    by-layer : layerBytes (length x) plen ≤ length layer → (t : Bool) → hasLayer (length x) plen ≡ t → Written plen x (endLayer (historyOf plen x) layer)
+    by-layer room true t = written-asked plen x layer good short room t w
+    by-layer room false t = subst (Written plen x) (sym (end-without plen x layer good short room t)) w
+
+    by-room : Dec (layerBytes (length x) plen ≤ length layer) → Written plen x (endLayer (historyOf plen x) layer)
+    by-room (yes room) = by-layer room (hasLayer (length x) plen) refl
+    by-room (no g) =
+        let e : layerBytes (historyOf plen x .length) (historyOf plen x .«piece_length») ≡ layerBytes (length x) plen = ap₂ layerBytes (history-length plen x) (history-pieces plen x) in
+        let z = end-room (historyOf plen x) (length layer) (says-possible (historyOf plen x) (state-possible plen x good short)) (omega (arith, e)) in
+        subst (Written plen x) (sym (end-refused-layer (historyOf plen x) layer (λ q. omega (arith, q, z)))) w
+
+-- ---- the empty file
+
+root-zero : (s : History) → s .length ≡ 0 → zeroHash ≡ rootOf s
+unfolding rootOf
+root-zero s e = rw (eq-eqb (s .length) 0 e)
+
+pub no-layer : (plen : ℕ) → hasLayer 0 plen ≡ false
+unfolding hasLayer
+no-layer plen = le-ltb plen 0 (omega arith)
+
+pub no-bytes : (plen : ℕ) → layerBytes 0 plen ≡ 0
+no-bytes plen = sym (bytes-none 0 plen (no-layer plen))
+
+pub no-root : piecesRoot [] ≡ zeroHash
+no-root = sym (root-of-history blockLength [] (omega arith)) ∙ empty-root
+  where
+    empty-root : rootOf (historyOf blockLength []) ≡ zeroHash
+    empty-root = sym (root-zero (historyOf blockLength []) (history-length blockLength []))

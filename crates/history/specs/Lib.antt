@@ -8,3 +8,4 @@ pub mod LayerLaws
 pub mod AnswersLaws
 pub mod DecidingLaws
 pub mod HistoriesLaws
+pub mod Histories
