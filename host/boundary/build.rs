@@ -5,8 +5,9 @@
 use std::path::{Path, PathBuf};
 use std::{env, fs};
 
-const ENTRY_POINTS: [&str; 14] = [
-    "kd_sha256", "kd_store_size", "kd_open", "kd_held", "kd_take", "kd_take_reject", "kd_serve", "kd_load_layer",
+const ENTRY_POINTS: [&str; 20] = [
+    "kd_sha256", "kd_hashing_begin", "kd_hashing_more", "kd_hashing_end", "kd_history_begin", "kd_history_more",
+    "kd_history_end", "kd_store_size", "kd_open", "kd_held", "kd_take", "kd_take_reject", "kd_serve", "kd_load_layer",
     "kd_judge_block", "kd_judge_piece", "kd_torrent_read", "kd_torrent_file", "kd_torrent_path", "kd_torrent_list",
 ];
 
