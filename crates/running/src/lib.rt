@@ -118,10 +118,10 @@ pub fn absorb(h: Hashing, s: &[u8]) -> Hashing
     let u = sha256::whole_blocks(t, &k, rest);
     let at = rest.len() - rest.len() % 64;
     let left = &rest[at..];
-    let tail = filled(old, 0, left);
+    let waiting = filled(old, 0, left);
     Hashing {
         words: to_words(u),
-        tail,
+        tail: waiting,
         tail_size: left.len() as u64,
         total,
     }

@@ -82,7 +82,10 @@ fn spoiled_history(random: &mut Random, state: &[u8]) -> Vec<u8> {
     match random.below(9) {
         0 => state.piece_length = random.pick(&[0, 1, 8192, 16385, 3 * BLOCK, 1 << 25, (1 << 32) + BLOCK, u64::MAX]),
         1 => state.piece_length = BLOCK << random.below(11),
-        2 => state.length = random.pick(&[0, LONGEST_FILE + 1, state.length + BLOCK, state.length + 1, u64::MAX]),
+        2 => {
+            state.length =
+                random.pick(&[0, LONGEST_FILE + 1, state.length.wrapping_add(BLOCK), state.length ^ 1, u64::MAX])
+        }
         3 => {
             let any = random.below(1 << 20);
             state.length = LONGEST_FILE - random.pick(&[0, 0, 1, BLOCK - 1, BLOCK, any]);

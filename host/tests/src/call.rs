@@ -280,10 +280,5 @@ fn part_of(given: boundary::Part) -> Given {
 }
 
 fn end_of(given: boundary::HistoryEnd) -> Given {
-    Given::End(End {
-        number: given.number,
-        length: given.length,
-        root: given.root.bytes,
-        layer_size: given.layer_size,
-    })
+    Given::End(End { number: given.number, length: given.length, root: given.root.bytes, layer_size: given.layer_size })
 }
