@@ -28,7 +28,7 @@ counted() {
         count=$(($(instructions "$job" "$version") - ready))
         plain=${plain:-$count}
         awk -v job="$job" -v version="$version" -v count=$count -v plain="$plain" -v asked="$asked" 'BEGIN {
-            printf "%-18s %-16s %12d %16.2f %7s\n", job, version, count, count / plain,
+            printf "%-18s %-16s %12d %16.2f %7s\n", job, version, count, plain ? count / plain : 0,
                 version ~ /^kd_/ && asked != "-" ? asked : "" }'
     done
 }
@@ -75,6 +75,6 @@ if [ -n "$KD_RUN" ]; then
     $KD_RUN "$bench" jobs | while read -r line; do counted $line; done
 fi
 # shellcheck disable=SC2046
-$KD_CC -O2 -Wall -Wextra -Werror $(sed -n 's/^kd_[a-z]* \+\(kd_[a-z0-9_]*\)(.*/-DHAS_\1/p' ../include/kombudeva.h) \
+$KD_CC -O2 -Wall -Wextra -Werror $(sed -n 's/^kd_[a-z_]* \+\(kd_[a-z0-9_]*\)(.*/-DHAS_\1/p' ../include/kombudeva.h) \
     -I ../include bench/stack.c "$KD_LIB" -o "$work/stack"
 $KD_RUN "$work/stack"
