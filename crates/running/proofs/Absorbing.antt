@@ -25,11 +25,13 @@ words-back w l =
     (cc (drop-cons w 0 0 (omega arith), drop-cons w 1 0 (omega arith), drop-cons w 2 0 (omega arith), drop-cons w 3 0 (omega arith), drop-cons w 4 0 (omega arith), drop-cons w 5 0 (omega arith), drop-cons w 6 0 (omega arith), drop-cons w 7 0 (omega arith), drop-of-length-le w {i = 8} (omega arith)))
 
 -- the burst lies beside the tail, and no block is complete
-pub beside-law : (h : Hashing) (s tail : List ℕ) → length (h .words) ≡ 8 → length (h .tail) ≡ 64 → h .«tail_size» + length s < 64
+pub beside-law : (h : Hashing) (s tail : List ℕ) (size total : ℕ) → length (h .words) ≡ 8 → length (h .tail) ≡ 64 → h .«tail_size» + length s < 64
     → tail ≡ tailArray (take (h .«tail_size») (h .tail) ++ s)
-    → record { words = h .words; tail = tail; «tail_size» = h .«tail_size» + length s; total = h .total + length s } ≡ absorbed h s
+    → size ≡ h .«tail_size» + length s
+    → total ≡ h .total + length s
+    → record { words = h .words; tail = tail; «tail_size» = size; total = total } ≡ absorbed h s
 unfolding absorbed saying saidBy runningMore
-beside-law h s tail lw lt b et =
+beside-law h s tail size total lw lt b et es en =
     let m : List ℕ = take (h .«tail_size») (h .tail) ++ s in
     let lm : length m ≡ h .«tail_size» + length s = length-append (take (h .«tail_size») (h .tail)) s ∙ ap (λ (n : ℕ). n + length s) (length-take-le (h .«tail_size») (h .tail) (omega arith)) in
     let w = whole-short (compress K) (fromWords (h .words)) m (omega arith) in
@@ -54,7 +56,7 @@ past-as-coded rest =
     ∙ ap (λ (j : ℕ). drop j rest) at
 
 -- the burst completes a block
-pub block-law : (h : Hashing) (s k first rest left words tail : List ℕ) (t u : State) → length (h .tail) ≡ 64 → h .«tail_size» < 64
+pub block-law : (h : Hashing) (s k first rest left words tail : List ℕ) (t u : State) (size total : ℕ) → length (h .tail) ≡ 64 → h .«tail_size» < 64
     → 64 - h .«tail_size» ≤ length s
     → k ≡ K
     → first ≡ tailArray (take (h .«tail_size») (h .tail) ++ take (64 - h .«tail_size») s)
@@ -64,9 +66,11 @@ pub block-law : (h : Hashing) (s k first rest left words tail : List ℕ) (t u :
     → left ≡ take (length rest - (length rest - length rest % 64)) (drop (length rest - length rest % 64) rest)
     → words ≡ toWords u
     → tail ≡ tailArray (take 0 (h .tail) ++ left)
-    → record { words = words; tail = tail; «tail_size» = length left; total = h .total + length s } ≡ absorbed h s
+    → size ≡ length left
+    → total ≡ h .total + length s
+    → record { words = words; tail = tail; «tail_size» = size; total = total } ≡ absorbed h s
 unfolding absorbed saying saidBy runningMore
-block-law h s k first rest left words tail t u lt hn hs ek ef et er eu el ew ea =
+block-law h s k first rest left words tail t u size total lt hn hs ek ef et er eu el ew ea es en =
     cc (whole-first (compress K) (fromWords (h .words)) m enough, past-first m enough, ek, first-is, rest-is, blocks-as-coded (compress k) t rest, past-as-coded rest)
   where
     n : ℕ

@@ -1,34 +1,24 @@
 use Rattle.history.specs.AnswersLaws.{possible-says}
 use Rattle.history.specs.DecidingLaws.{end-impossible, end-room, end-done}
 use native.Mathlib.Omega.{arith}
-use Prim.Native.Nat.{ℕ, _+_, _-_, _*_, _≤_, _<_, _/_, _%_, _^_}
-use lib.ListN.{length, getD, set, take, drop}
-use mathlib.Core.Path.{_≡_, refl, ap, sym, _∙_}
+use Prim.Native.Nat.{_-_}
+use mathlib.Core.Path.{sym, _∙_}
 use borrow.Author.Needs.{needs}
 use Rattle.history.proofs.end_number.Statement.{statement}
 use Rattle.history.proofs.end_number.Tie as tie
-use Rattle.history.proofs.end_number.Reads as reads
-use Rattle.history.proofs.end_number.Lts as lts
-use Rattle.history.proofs.is_possible.Reads as is-possible-reads
-use Rattle.history.proofs.layer_size.Reads as layer-size-reads
 
--- src/lib.rt:346:8
 is-possible-requires : tie.Need-is-possible-requires
 is-possible-requires c κs = search needs
 
--- src/lib.rt:347:16
 layer-size-requires : tie.Need-layer-size-requires
 layer-size-requires c κs = possible-says (c .before .before .args .h) (sym (c .before .is-possible .ensures) ∙ c .if1 .taken) .short
 
--- src/lib.rt:348:13
 returns : tie.Need-returns
 returns c = end-room (c .before .before .before .before .args .h) (c .before .before .before .before .args .m) (sym (c .before .before .before .is-possible .ensures) ∙ c .before .before .if1 .taken) (omega (arith, c .before .layer-size .ensures, c .if2 .taken))
 
--- src/lib.rt:350:9
 returns-2 : tie.Need-returns-2
 returns-2 c = end-done (c .before .before .before .before .args .h) (c .before .before .before .before .args .m) (sym (c .before .before .before .is-possible .ensures) ∙ c .before .before .if1 .taken) (omega (arith, c .before .layer-size .ensures, c .if2 .left))
 
--- src/lib.rt:343:1
 returns-3 : tie.Need-returns-3
 returns-3 c = end-impossible (c .before .before .args .h) (c .before .before .args .m) (sym (c .before .is-possible .ensures) ∙ c .if1 .left)
 

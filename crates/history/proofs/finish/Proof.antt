@@ -5,16 +5,11 @@ use Rattle.history.specs.Growing.{nodeCount, nodeAt, finishing}
 use Rattle.limits.specs.Limits.{tallestTree}
 use borrow.Author.Needs.{needs}
 use native.Mathlib.Omega.{arith}
-use Prim.Native.Nat.{ℕ, _+_, _-_, _*_, _≤_, _<_, _/_, _%_, _^_}
-use lib.ListN.{length, getD, set, take, drop}
+use Prim.Native.Nat.{ℕ, _+_, _-_, _*_, _≤_, _<_, _/_, _^_}
+use lib.ListN.{length}
 use mathlib.Core.Path.{_≡_, refl, ap, sym, _∙_, ap₂}
 use Rattle.history.proofs.finish.Statement.{statement}
 use Rattle.history.proofs.finish.Tie as tie
-use Rattle.history.proofs.finish.Reads as reads
-use Rattle.history.proofs.finish.Lts as lts
-use Rattle.octets.proofs.hash_at.Reads as hash-at-reads
-use Rattle.octets.proofs.put_hash.Reads as put-hash-reads
-use Rattle.sha256.proofs.pair.Reads as pair-reads
 
 abbrev Inv-loop : tie.InvT-loop
 Inv-loop nodes₀ i hash₀ k₀ j₀ nodes hash k j = (k ≤ tallestTree) × (j < 2 ^ (tallestTree - k)) × (length nodes ≡ 32 * nodeCount) × (finishing (nodeCount - k) nodes k j hash ≡ finishing nodeCount nodes₀ 0 i hash₀)
@@ -22,35 +17,27 @@ Inv-loop nodes₀ i hash₀ k₀ j₀ nodes hash k j = (k ≤ tallestTree) × (j
 abbrev μ-loop : tie.MeasureT-loop
 μ-loop nodes₀ i hash₀ k₀ j₀ nodes hash k j = j
 
--- src/lib.rt:96:5
 loop-holds : tie.Need-loop-holds Inv-loop μ-loop
 loop-holds c = (omega arith, c .before .pre .1, c .before .pre .0, refl)
 
--- src/lib.rt:97:18
 mul-at : tie.Need-mul-at Inv-loop μ-loop
 mul-at c = search needs
 
--- src/lib.rt:98:13
 hash-at-requires : tie.Need-hash-at-requires Inv-loop μ-loop
 hash-at-requires c κs = search needs
 
--- src/lib.rt:99:9
 put-hash-requires : tie.Need-put-hash-requires Inv-loop μ-loop
 put-hash-requires c κs = omega (arith, c .before .before .before .before .loop .inv)
 
--- src/lib.rt:100:13
 pair-requires : tie.Need-pair-requires Inv-loop μ-loop
 pair-requires c κs = search needs
 
--- src/lib.rt:103:9
 add-k : tie.Need-add-k Inv-loop μ-loop
 add-k c = search needs
 
--- src/lib.rt:96:5
 loop-less : tie.Need-loop-less Inv-loop μ-loop
 loop-less c = search needs
 
--- src/lib.rt:96:5
 loop-again : tie.Need-loop-again Inv-loop μ-loop
 unfolding nodeAt
 loop-again c = let L = c .before .before .before .before .before .before .before .before .loop in
@@ -62,19 +49,15 @@ loop-again c = let L = c .before .before .before .before .before .before .before
           ∙ sym (finishing-turn nodeCount (L .k) (L .j) (L .nodes) (L .hash) (omega arith) (c .before .before .before .before .before .before .before .loop-test .taken)) ∙ L .inv .3,
     )
 
--- src/lib.rt:105:14
 mul-at-2 : tie.Need-mul-at-2 Inv-loop μ-loop
 mul-at-2 c = search needs
 
--- src/lib.rt:106:5
 put-hash-requires-2 : tie.Need-put-hash-requires-2 Inv-loop μ-loop
 put-hash-requires-2 c κs = search needs
 
--- src/lib.rt:89:1
 same-length : tie.Need-same-length Inv-loop μ-loop
 same-length c = c .before .before .put-hash2 .kept .0 ∙ c .before .before .before .before .before .loop .inv .2 ∙ sym (c .before .before .before .before .before .before .before .pre .0)
 
--- src/lib.rt:89:1
 returns : tie.Need-returns Inv-loop μ-loop
 returns c = let L = c .before .before .before .before .before .loop in
     c .before .before .put-hash2 .ensures ∙ sym (finishing-end nodeCount (L .k) (L .j) (L .nodes) (L .hash) (omega arith) (c .before .before .before .before .loop-test .left)) ∙ L .inv .3

@@ -3,44 +3,30 @@ use Rattle.running.specs.declared.Hashing.{Hashing}
 use Rattle.running.specs.BurstsLaws.{state-total, state-tail, absorbed-total}
 use Rattle.history.proofs.Steps.{grow-whole, grow-within}
 use native.Mathlib.Omega.{arith}
-use Prim.Native.Nat.{ℕ, _+_, _-_, _*_, _≤_, _<_, _/_, _%_, _^_}
-use lib.ListN.{length, getD, set, take, drop}
-use mathlib.Core.Path.{_≡_, refl, ap, sym, _∙_}
+use Prim.Native.Nat.{ℕ, _-_, _%_}
+use mathlib.Core.Path.{refl, ap, sym, _∙_}
 use borrow.Author.Needs.{needs}
 use Rattle.history.proofs.grow.Statement.{statement}
 use Rattle.history.proofs.grow.Tie as tie
-use Rattle.history.proofs.grow.Reads as reads
-use Rattle.history.proofs.grow.Lts as lts
-use Rattle.history.proofs.finish.Reads as finish-reads
-use Rattle.running.proofs.absorb.Reads as absorb-reads
-use Rattle.running.proofs.begin.Reads as begin-reads
-use Rattle.running.proofs.hash_of.Reads as hash-of-reads
 
--- src/lib.rt:116:22
 add-now-length : tie.Need-add-now-length
 add-now-length c = search needs
 
--- src/lib.rt:119:9
 absorb-requires : tie.Need-absorb-requires
 absorb-requires c κs = search needs
 
--- src/lib.rt:121:13
 hash-of-requires : tie.Need-hash-of-requires
 hash-of-requires c κs = search needs
 
--- src/lib.rt:122:16
 slice-aggregate-finish : tie.Need-slice-aggregate-finish
 slice-aggregate-finish c = search needs
 
--- src/lib.rt:122:9
 finish-requires : tie.Need-finish-requires
 finish-requires c κs = search needs
 
--- src/lib.rt:126:20
 begin-requires : tie.Need-begin-requires
 begin-requires c κs = search needs
 
--- src/lib.rt:123:9
 returns : tie.Need-returns
 returns c = let b = c .before .before .before .before .before .before .before .before .before .before in (
   grow-whole (b .args .h) (b .args .part .now) (c .before .before .before .before .before .before .absorb .result) (c .begin .result) (c .before .before .before .before .hash-of .result) (c .before .before .finish .last .0) (b .pre .0) (b .pre .1) (c .before .before .before .before .before .if1 .taken) (c .before .before .before .before .before .before .absorb .ensures .0) (c .before .before .before .before .hash-of .ensures) (c .before .before .finish .ensures) (c .begin .ensures),
@@ -50,7 +36,6 @@ returns c = let b = c .before .before .before .before .before .before .before .b
   ap (λ (s : Hashing). s .«tail_size») (c .begin .ensures) ∙ state-tail [] ∙ sym (ap (λ (s : Hashing). s .total % 64) (c .begin .ensures) ∙ ap (λ (n : ℕ). n % 64) (state-total [])),
 )
 
--- src/lib.rt:110:1
 returns-2 : tie.Need-returns-2
 returns-2 c = let b = c .before .before .before .before .before in (
   grow-within (b .args .h) (b .args .part .now) (c .before .absorb .result) (b .pre .0) (b .pre .1) (c .if1 .left) (c .before .absorb .ensures .0),

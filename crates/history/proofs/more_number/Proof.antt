@@ -1,42 +1,30 @@
 use Rattle.history.specs.AnswersLaws.{possible-says}
 use Rattle.history.specs.DecidingLaws.{number-impossible, number-long, number-room, number-done}
 use native.Mathlib.Omega.{arith}
-use Prim.Native.Nat.{ℕ, _+_, _-_, _*_, _≤_, _<_, _/_, _%_, _^_}
-use lib.ListN.{length, getD, set, take, drop}
-use mathlib.Core.Path.{_≡_, refl, ap, sym, _∙_}
+use Prim.Native.Nat.{_-_}
+use mathlib.Core.Path.{sym, _∙_}
 use borrow.Author.Needs.{needs}
 use Rattle.history.proofs.more_number.Statement.{statement}
 use Rattle.history.proofs.more_number.Tie as tie
-use Rattle.history.proofs.more_number.Reads as reads
-use Rattle.history.proofs.more_number.Lts as lts
-use Rattle.history.proofs.is_possible.Reads as is-possible-reads
-use Rattle.history.proofs.no_room.Reads as no-room-reads
 
--- src/lib.rt:209:8
 is-possible-requires : tie.Need-is-possible-requires
 is-possible-requires c κs = search needs
 
--- src/lib.rt:210:20
 sub-left : tie.Need-sub-left
 sub-left c = possible-says (c .before .before .args .h) (sym (c .before .is-possible .ensures) ∙ c .if1 .taken) .short
 
--- src/lib.rt:212:13
 returns : tie.Need-returns
 returns c = number-long (c .before .before .before .args .h) (c .before .before .before .args .k) (c .before .before .before .args .m) (sym (c .before .before .is-possible .ensures) ∙ c .before .if1 .taken) (omega (arith, possible-says (c .before .before .before .args .h) (sym (c .before .before .is-possible .ensures) ∙ c .before .if1 .taken) .short, c .if2 .taken))
 
--- src/lib.rt:214:12
 no-room-requires : tie.Need-no-room-requires
 no-room-requires c κs = omega (arith, possible-says (c .before .before .before .args .h) (sym (c .before .before .is-possible .ensures) ∙ c .before .if1 .taken) .short, c .if2 .left)
 
--- src/lib.rt:215:13
 returns-2 : tie.Need-returns-2
 returns-2 c = number-room (c .before .before .before .before .before .args .h) (c .before .before .before .before .before .args .k) (c .before .before .before .before .before .args .m) (sym (c .before .before .before .before .is-possible .ensures) ∙ c .before .before .before .if1 .taken) (omega (arith, possible-says (c .before .before .before .before .before .args .h) (sym (c .before .before .before .before .is-possible .ensures) ∙ c .before .before .before .if1 .taken) .short, c .before .before .if2 .left)) (sym (c .before .no-room .ensures) ∙ c .if3 .taken)
 
--- src/lib.rt:217:9
 returns-3 : tie.Need-returns-3
 returns-3 c = number-done (c .before .before .before .before .before .args .h) (c .before .before .before .before .before .args .k) (c .before .before .before .before .before .args .m) (sym (c .before .before .before .before .is-possible .ensures) ∙ c .before .before .before .if1 .taken) (omega (arith, possible-says (c .before .before .before .before .before .args .h) (sym (c .before .before .before .before .is-possible .ensures) ∙ c .before .before .before .if1 .taken) .short, c .before .before .if2 .left)) (sym (c .before .no-room .ensures) ∙ c .if3 .left)
 
--- src/lib.rt:206:1
 returns-4 : tie.Need-returns-4
 returns-4 c = number-impossible (c .before .before .args .h) (c .before .before .args .k) (c .before .before .args .m) (sym (c .before .is-possible .ensures) ∙ c .if1 .left)
 

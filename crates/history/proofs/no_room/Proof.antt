@@ -1,33 +1,24 @@
 use lib.Dec.{ltb}
 use Rattle.history.specs.DecidingLaws.{room-due, none-due}
 use native.Mathlib.Omega.{arith}
-use Prim.Native.Nat.{ℕ, _+_, _-_, _*_, _≤_, _<_, _/_, _%_, _^_}
-use lib.ListN.{length, getD, set, take, drop}
-use mathlib.Core.Path.{_≡_, refl, ap, sym, _∙_}
+use Prim.Native.Nat.{ℕ, _-_, _/_}
+use mathlib.Core.Path.{ap, _∙_}
 use borrow.Author.Needs.{needs}
 use Rattle.history.proofs.no_room.Statement.{statement}
 use Rattle.history.proofs.no_room.Tie as tie
-use Rattle.history.proofs.no_room.Reads as reads
-use Rattle.history.proofs.no_room.Lts as lts
-use Rattle.history.proofs.passed.Reads as passed-reads
 
--- src/lib.rt:197:9
 passed-requires : tie.Need-passed-requires
 passed-requires c κs = search needs
 
--- src/lib.rt:198:24
 add-passed : tie.Need-add-passed
 add-passed c = search needs
 
--- src/lib.rt:198:9
 passed-requires-2 : tie.Need-passed-requires-2
 passed-requires-2 c κs = search needs
 
--- src/lib.rt:200:9
 returns : tie.Need-returns
 returns c = ap (λ (x : ℕ). ltb (c .before .before .before .args .m / 32) x) (c .before .passed2 .ensures) ∙ room-due (c .before .before .before .args .h) (c .before .before .before .args .k) (c .before .before .before .args .m) (omega (arith, c .before .before .passed .ensures, c .before .passed2 .ensures, c .if1 .taken))
 
--- src/lib.rt:191:1
 returns-2 : tie.Need-returns-2
 returns-2 c = none-due (c .before .before .before .args .h) (c .before .before .before .args .k) (c .before .before .before .args .m) (omega (arith, c .before .before .passed .ensures, c .before .passed2 .ensures, c .if1 .left))
 

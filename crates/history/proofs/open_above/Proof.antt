@@ -4,16 +4,10 @@ use Rattle.tree.specs.Values.{padValue}
 use Rattle.history.specs.Growing.{nodeAt, openAbove}
 use borrow.Author.Needs.{needs}
 use native.Mathlib.Omega.{arith}
-use Prim.Native.Nat.{ℕ, _+_, _-_, _*_, _≤_, _<_, _/_, _%_, _^_}
-use lib.ListN.{length, getD, set, take, drop}
-use mathlib.Core.Path.{_≡_, refl, ap, sym, _∙_}
+use Prim.Native.Nat.{_-_, _≤_, _/_, _^_}
+use mathlib.Core.Path.{_≡_, ap, _∙_}
 use Rattle.history.proofs.open_above.Statement.{statement}
 use Rattle.history.proofs.open_above.Tie as tie
-use Rattle.history.proofs.open_above.Reads as reads
-use Rattle.history.proofs.open_above.Lts as lts
-use Rattle.history.proofs.parent.Reads as parent-reads
-use Rattle.octets.proofs.hash_at.Reads as hash-at-reads
-use Rattle.sha256.proofs.pair.Reads as pair-reads
 
 abbrev Inv-loop : tie.InvT-loop
 Inv-loop nodes i k child₀ pad₀ j₀ l₀ child pad j l = (l ≤ k) × (child ≡ openAbove nodes child₀ i l) × (pad ≡ padValue l) × (j ≡ i / 2 ^ l)
@@ -21,36 +15,28 @@ Inv-loop nodes i k child₀ pad₀ j₀ l₀ child pad j l = (l ≤ k) × (child
 abbrev μ-loop : tie.MeasureT-loop
 μ-loop nodes i k child₀ pad₀ j₀ l₀ child pad j l = k - l
 
--- src/lib.rt:293:5
 loop-holds : tie.Need-loop-holds Inv-loop μ-loop
 unfolding zeroHash
 loop-holds c = (omega arith, above-none (c .before .args .nodes .now) (c .before .args .leaf) (c .before .args .i), zero-pad, omega arith)
 
--- src/lib.rt:294:35
 mul-hash-at : tie.Need-mul-hash-at Inv-loop μ-loop
 mul-hash-at c = search needs
 
--- src/lib.rt:294:13
 hash-at-requires : tie.Need-hash-at-requires Inv-loop μ-loop
 hash-at-requires c κs = search needs
 
--- src/lib.rt:295:13
 parent-requires : tie.Need-parent-requires Inv-loop μ-loop
 parent-requires c κs = search needs
 
--- src/lib.rt:297:13
 pair-requires : tie.Need-pair-requires Inv-loop μ-loop
 pair-requires c κs = search needs
 
--- src/lib.rt:300:9
 add-l : tie.Need-add-l Inv-loop μ-loop
 add-l c = search needs
 
--- src/lib.rt:293:5
 loop-less : tie.Need-loop-less Inv-loop μ-loop
 loop-less c = omega (arith, c .before .before .before .loop-test .taken)
 
--- src/lib.rt:293:5
 loop-again : tie.Need-loop-again Inv-loop μ-loop
 unfolding nodeAt
 loop-again c = let a = c .before .before .before .before .before .before .args in
@@ -61,7 +47,6 @@ loop-again c = let a = c .before .before .before .before .before .before .args i
       half-more (a .i) (L .j) (L .l) (L .inv .3),
     )
 
--- src/lib.rt:285:1
 returns : tie.Need-returns Inv-loop μ-loop
 returns c = let e : c .before .loop .l ≡ c .before .before .before .args .k = omega (arith, c .before .loop .inv .0, c .loop-test .left) in c .before .loop .inv .1 ∙ ap (openAbove (c .before .before .before .args .nodes .now) (c .before .before .before .args .leaf) (c .before .before .before .args .i)) e
 

@@ -3,36 +3,26 @@ use Rattle.tree.specs.Geometry.{height}
 use Rattle.octets.specs.Octets.{zeroHash}
 use Rattle.history.proofs.Steps.{root-none, root-some}
 use native.Mathlib.Omega.{arith}
-use Prim.Native.Nat.{ℕ, _+_, _-_, _*_, _≤_, _<_, _/_, _%_, _^_}
-use lib.ListN.{length, getD, set, take, drop}
-use mathlib.Core.Path.{_≡_, refl, ap, sym, _∙_}
+use Prim.Native.Nat.{_-_}
+use lib.ListN.{length}
+use mathlib.Core.Path.{ap, _∙_}
 use borrow.Author.Needs.{needs}
 use Rattle.history.proofs.root_of.Statement.{statement}
 use Rattle.history.proofs.root_of.Tie as tie
-use Rattle.history.proofs.root_of.Reads as reads
-use Rattle.history.proofs.root_of.Lts as lts
-use Rattle.history.proofs.last_node.Reads as last-node-reads
-use Rattle.tree.proofs.geometry.block_count.Reads as block-count-reads
-use Rattle.tree.proofs.geometry.height.Reads as height-reads
 
--- src/lib.rt:327:9
 returns : tie.Need-returns
 unfolding zeroHash
 returns c = root-none (c .before .args .h) (c .if1 .taken)
 
--- src/lib.rt:329:25
 block-count-requires : tie.Need-block-count-requires
 block-count-requires c κs = search needs
 
--- src/lib.rt:329:18
 height-requires : tie.Need-height-requires
 height-requires c κs = search needs
 
--- src/lib.rt:329:5
 last-node-requires : tie.Need-last-node-requires
 last-node-requires c κs = (c .before .before .before .pre .0, omega (arith, c .height .ensures ∙ ap height (c .before .block-count .ensures), tall-enough (c .before .before .before .args .h .length) (c .before .before .before .pre .1)))
 
--- src/lib.rt:321:1
 returns-2 : tie.Need-returns-2
 returns-2 c = root-some (c .before .before .before .before .args .h) (c .last-node .result) (c .before .before .block-count .result) (c .before .height .result) (c .before .before .before .if1 .left) (c .before .before .block-count .ensures) (c .before .height .ensures) (c .last-node .ensures)
 

@@ -5,16 +5,11 @@ use Rattle.history.specs.Growing.{grownBy, notedBy}
 use Rattle.tree.specs.Geometry.{blockLength}
 use borrow.Author.Needs.{needs}
 use native.Mathlib.Omega.{arith}
-use Prim.Native.Nat.{ℕ, _+_, _-_, _*_, _≤_, _<_, _/_, _%_, _^_}
-use lib.ListN.{length, getD, set, take, drop, drop-of-length-le}
-use mathlib.Core.Path.{_≡_, refl, ap, sym, _∙_}
+use Prim.Native.Nat.{_+_, _-_, _≤_, _%_}
+use lib.ListN.{length, drop, drop-of-length-le}
+use mathlib.Core.Path.{_≡_, refl, sym, _∙_}
 use Rattle.history.proofs.run.Statement.{statement}
 use Rattle.history.proofs.run.Tie as tie
-use Rattle.history.proofs.run.Reads as reads
-use Rattle.history.proofs.run.Lts as lts
-use Rattle.history.proofs.grow.Reads as grow-reads
-use Rattle.history.proofs.note.Reads as note-reads
-use Rattle.history.proofs.part_size.Reads as part-size-reads
 
 abbrev Inv-loop : tie.InvT-loop
 Inv-loop burst layer₀ t₀ at₀ layer t at = (at ≤ length burst) × (t .«piece_length» ≡ t₀ .«piece_length») × (t .length ≡ t₀ .length + at) × (t .block .total ≡ t .length % blockLength) × (t .block .«tail_size» ≡ t .block .total % 64) × (length layer ≡ length layer₀) × (grownBy t (drop at burst) ≡ grownBy t₀ burst) × (notedBy t layer (drop at burst) ≡ notedBy t₀ layer₀ burst)
@@ -22,11 +17,9 @@ Inv-loop burst layer₀ t₀ at₀ layer t at = (at ≤ length burst) × (t .«p
 abbrev μ-loop : tie.MeasureT-loop
 μ-loop burst layer₀ t₀ at₀ layer t at = length burst - at
 
--- src/lib.rt:237:5
 loop-holds : tie.Need-loop-holds Inv-loop μ-loop
 loop-holds c = let b = c .before .before in (omega arith, refl, omega arith, b .pre .0 .inside, b .pre .0 .tail, refl, refl, refl)
 
--- src/lib.rt:238:9
 note-requires : tie.Need-note-requires Inv-loop μ-loop
 note-requires c κs = let b = c .before .before .before .before .before in
     let L = c .before .before .loop in (
@@ -34,31 +27,24 @@ note-requires c κs = let b = c .before .before .before .before .before in
       λ p e. omega (arith, L .inv .5, fits-at (b .args .h) (L .t) (length (b .args .burst .now)) (length (b .args .layer .now)) (b .pre .0) (b .pre .2) (L .inv .1) (omega (arith, L .inv .2)) (omega (arith, L .inv .2, c .before .loop-test .taken)) p e),
     )
 
--- src/lib.rt:239:46
 sub-part-size : tie.Need-sub-part-size Inv-loop μ-loop
 sub-part-size c = search needs
 
--- src/lib.rt:239:13
 part-size-requires : tie.Need-part-size-requires Inv-loop μ-loop
 part-size-requires c κs = search needs
 
--- src/lib.rt:240:19
 add-end : tie.Need-add-end Inv-loop μ-loop
 add-end c = search needs
 
--- src/lib.rt:241:21
 sub-grow : tie.Need-sub-grow Inv-loop μ-loop
 sub-grow c = search needs
 
--- src/lib.rt:241:21
 part-grow-start : tie.Need-part-grow-start Inv-loop μ-loop
 part-grow-start c = search needs
 
--- src/lib.rt:241:21
 part-grow-end : tie.Need-part-grow-end Inv-loop μ-loop
 part-grow-end c = search needs
 
--- src/lib.rt:241:9
 grow-requires : tie.Need-grow-requires Inv-loop μ-loop
 grow-requires c κs = let b = c .before .before .before .before .before .before .before .before .before .before in
     let L = c .before .before .before .before .before .before .before .loop in
@@ -66,11 +52,9 @@ grow-requires c κs = let b = c .before .before .before .before .before .before 
     let l = part-length (b .args .burst .now) (L .at) n (omega (arith, c .before .part-size .ensures, L .inv .0, c .before .before .before .before .before .before .loop-test .taken)) in
     (omega (arith, l, c .before .part-size .ensures, c .before .before .before .before .before .before .loop-test .taken), omega (arith, l, c .before .part-size .ensures), omega (arith, l, c .before .part-size .ensures, L .inv .2, b .pre .1), L .inv .3, L .inv .4)
 
--- src/lib.rt:237:5
 loop-less : tie.Need-loop-less Inv-loop μ-loop
 loop-less c = omega (arith, c .before .before .part-size .ensures, c .before .before .before .before .before .before .before .loop-test .taken)
 
--- src/lib.rt:237:5
 loop-again : tie.Need-loop-again Inv-loop μ-loop
 loop-again c = let b = c .before .before .before .before .before .before .before .before .before .before .before in
     let L = c .before .before .before .before .before .before .before .before .loop in
@@ -91,11 +75,9 @@ loop-again c = let b = c .before .before .before .before .before .before .before
           (good-at (b .args .h) (L .t) (b .pre .0) (L .inv .1)) (omega (arith, l, c .before .before .part-size .ensures, c .before .before .before .before .before .before .before .loop-test .taken)) (omega (arith, l, c .before .before .part-size .ensures)) (c .before .before .before .before .before .note .ensures),
     )
 
--- src/lib.rt:231:1
 same-length : tie.Need-same-length Inv-loop μ-loop
 same-length c = c .before .loop .inv .5
 
--- src/lib.rt:231:1
 returns : tie.Need-returns Inv-loop μ-loop
 returns c = let L = c .before .loop in
     let d : drop (L .at) (c .before .before .before .before .args .burst .now) ≡ [] = drop-of-length-le (c .before .before .before .before .args .burst .now) {i = L .at} (c .loop-test .left) in

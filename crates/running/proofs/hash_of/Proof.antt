@@ -2,52 +2,38 @@ use Rattle.sha256.specs.Sha256.{digest}
 use Rattle.running.proofs.Absorbing.{end-as-coded}
 use Rattle.running.specs.Bursts.{hashOf}
 use native.Mathlib.Omega.{arith}
-use Prim.Native.Nat.{ℕ, _+_, _-_, _*_, _≤_, _<_, _/_, _%_, _^_}
-use lib.ListN.{length, getD, set, take, drop}
-use mathlib.Core.Path.{_≡_, refl, ap, sym, _∙_}
+use Prim.Native.Nat.{_-_, _%_}
+use lib.ListN.{length}
+use mathlib.Core.Path.{_≡_, ap, _∙_}
 use borrow.Author.Needs.{needs}
 use Rattle.running.proofs.hash_of.Statement.{statement}
 use Rattle.running.proofs.hash_of.Tie as tie
-use Rattle.running.proofs.hash_of.Reads as reads
-use Rattle.running.proofs.hash_of.Lts as lts
-use Rattle.constants.proofs.round_words.Reads as round-words-reads
-use Rattle.running.proofs.from_words.Reads as from-words-reads
-use Rattle.sha256.proofs.digest.Reads as digest-reads
-use Rattle.sha256.proofs.finish.Reads as finish-reads
 
 -- the tail is an array of 64 bytes
 tail-64 : (c : tie.Start) → length (c .args .h .tail) ≡ 64
 tail-64 c = search needs
 
--- src/lib.rt:133:13
 round-words-requires : tie.Need-round-words-requires
 round-words-requires c κs = search needs
 
--- src/lib.rt:137:35
 from-words-requires : tie.Need-from-words-requires
 from-words-requires c κs = search needs
 
--- src/lib.rt:137:58
 sub-finish : tie.Need-sub-finish
 sub-finish c = search needs
 
--- src/lib.rt:137:58
 part-finish-start : tie.Need-part-finish-start
 part-finish-start c = search needs
 
--- src/lib.rt:137:58
 part-finish-end : tie.Need-part-finish-end
 part-finish-end c = let l64 = tail-64 (c .before .before .before .before .before .before .before) in search needs
 
--- src/lib.rt:137:20
 finish-requires : tie.Need-finish-requires
 finish-requires c κs = search needs
 
--- src/lib.rt:137:5
 digest-requires : tie.Need-digest-requires
 digest-requires c κs = search needs
 
--- src/lib.rt:129:1
 returns : tie.Need-returns
 unfolding hashOf
 returns c = let e : c .before .before .before .before .before .before .before .before .before .before .args .h .total % 64 - 0 ≡ c .before .before .before .before .before .before .before .before .before .before .args .h .«tail_size» = omega (arith, c .before .before .before .before .before .before .before .before .before .before .pre) in

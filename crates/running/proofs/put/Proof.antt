@@ -1,14 +1,12 @@
 use Rattle.running.proofs.Putting.{turn, whole}
-use lib.Seq.{paste, paste-zero, length-paste}
+use lib.Seq.{paste, paste-zero}
 use borrow.Author.Needs.{needs}
 use native.Mathlib.Omega.{arith}
-use Prim.Native.Nat.{ℕ, _+_, _-_, _*_, _≤_, _<_, _/_, _%_, _^_}
-use lib.ListN.{length, getD, set, take, drop}
-use mathlib.Core.Path.{_≡_, refl, ap, sym, _∙_}
+use Prim.Native.Nat.{_-_, _≤_}
+use lib.ListN.{length}
+use mathlib.Core.Path.{_≡_}
 use Rattle.running.proofs.put.Statement.{statement}
 use Rattle.running.proofs.put.Tie as tie
-use Rattle.running.proofs.put.Reads as reads
-use Rattle.running.proofs.put.Lts as lts
 
 abbrev Inv-loop : tie.InvT-loop
 Inv-loop b₀ at s i₀ b i = (i ≤ length s) × (b ≡ paste b₀ at s i)
@@ -16,35 +14,27 @@ Inv-loop b₀ at s i₀ b i = (i ≤ length s) × (b ≡ paste b₀ at s i)
 abbrev μ-loop : tie.MeasureT-loop
 μ-loop b₀ at s i₀ b i = length s - i
 
--- src/lib.rt:52:5
 loop-holds : tie.Need-loop-holds Inv-loop μ-loop
 loop-holds c = (omega arith, paste-zero (c .args .b .now) (c .args .at) (c .args .s .now))
 
--- src/lib.rt:53:21
 shared-slice-read-b : tie.Need-shared-slice-read-b Inv-loop μ-loop
 shared-slice-read-b c = search needs
 
--- src/lib.rt:53:11
 add-b : tie.Need-add-b Inv-loop μ-loop
 add-b c = search needs
 
--- src/lib.rt:53:9
 element-write-b : tie.Need-element-write-b Inv-loop μ-loop
 element-write-b c = search needs
 
--- src/lib.rt:54:9
 add-i : tie.Need-add-i Inv-loop μ-loop
 add-i c = search needs
 
--- src/lib.rt:52:5
 loop-less : tie.Need-loop-less Inv-loop μ-loop
 loop-less c = search needs
 
--- src/lib.rt:52:5
 loop-again : tie.Need-loop-again Inv-loop μ-loop
 loop-again c = (omega arith, turn _ _ _ _ _ (c .before .before .loop .inv .1) (omega arith) (omega arith))
 
--- src/lib.rt:47:1
 returns : tie.Need-returns Inv-loop μ-loop
 returns c = whole _ _ _ _ _ (c .before .loop .inv .1) (omega arith) (c .before .loop .inv .0)
 
