@@ -1,11 +1,10 @@
 -- One turn of each loop, and what a part of a burst leads to, as the code takes it.
 -- Assumes nothing.
-use mathlib.Core.Path.{_≡_, refl, ap, ap₂, sym, subst, _∙_}
-use mathlib.Core.Bool.{Bool, true, false, cond, _&&_, and-eq-true-iff}
+use mathlib.Core.Path.{_≡_, refl, ap, ap₂, sym, _∙_}
+use mathlib.Core.Bool.{Bool, true, false, cond, _&&_}
 use mathlib.Core.List.{List, [], _∷_, _++_}
 use Prim.Native.Nat.{ℕ, zero, suc, _+_, _-_, _*_, _/_, _%_, _^_, _≤_, _<_}
-use native.Mathlib.Nat.{mul-assoc, mul-comm, add-mul, one-mul, zero-mul, div-add-mod', div-lt-iff-lt-mul, pow-succ', one-le-mul, pow-suc, div-div-eq-div-mul, mod-eq-of-lt}
-use native.Mathlib.Decide.{ℕ-discrete}
+use native.Mathlib.Nat.{mul-assoc, mul-comm, zero-mul, div-add-mod', pow-succ', one-le-mul, pow-suc, div-div-eq-div-mul, mod-eq-of-lt}
 use native.Mathlib.Omega.{arith}
 use lib.ListN.{length, take, drop, take-append-drop}
 use lib.Seq.{drop-drop}

@@ -9,7 +9,6 @@ use Rattle.octets.specs.Octets.{pasted, zeroHash}
 use Rattle.numbers.specs.Numbers.{unusable, factsOutOfRange, noRoom}
 use Rattle.limits.specs.Limits.{longestFile}
 use Rattle.running.specs.Bursts.{stateOf}
-use Rattle.running.specs.declared.Hashing.{Hashing}
 use Rattle.tree.specs.Geometry.{blockLength, isPieceLength, pieceLayer, hasLayer, pieceCount}
 use Rattle.history.specs.Growing.{nodeCount, grownBy, notedBy, lastNode, rootOf}
 use Rattle.history.specs.declared.History.{History}

@@ -1,24 +1,20 @@
 -- The answers case by case, as code and theorems meet them.
 -- Assumes nothing.
-use mathlib.Core.Path.{_≡_, refl, ap, ap₂, sym, _∙_}
-use mathlib.Core.Bool.{Bool, true, false, cond, _&&_, and-eq-true-iff}
-use mathlib.Core.List.{List, []}
-use Prim.Native.Nat.{ℕ, _+_, _-_, _*_, _%_, _≤_, _<_}
-use native.Mathlib.Omega.{arith}
+use mathlib.Core.Path.{_≡_}
+use mathlib.Core.Bool.{Bool, true, false, _&&_, and-eq-true-iff}
+use mathlib.Core.List.{[]}
+use Prim.Native.Nat.{ℕ, _-_, _*_, _%_, _≤_}
 use lib.ListN.{length, replicate}
-use lib.Dec.{eqb, ltb, leb}
-use borrow.Author.Tests.{eq-eqb, ne-eqb, lt-ltb, le-ltb, le-leb, lt-leb, leb-true, eqb-true}
-use Rattle.octets.specs.Octets.{pasted, zeroHash}
-use Rattle.numbers.specs.Numbers.{unusable, factsOutOfRange, noRoom}
+use lib.Dec.{eqb, leb}
+use borrow.Author.Tests.{eq-eqb, le-leb, leb-true, eqb-true}
+use Rattle.numbers.specs.Numbers.{factsOutOfRange}
 use Rattle.limits.specs.Limits.{longestFile}
 use Rattle.running.specs.Bursts.{stateOf}
 use Rattle.running.specs.declared.Hashing.{Hashing}
-use Rattle.tree.specs.Geometry.{blockLength, isPieceLength, pieceLayer, hasLayer, pieceCount}
-use Rattle.history.specs.Growing.{nodeCount, grownBy, notedBy, lastNode, rootOf}
-use Rattle.history.specs.Answers.{emptyHistory, noHistory, beginAnswer, possibleCounts, passed, noRoomFor, moreNumber, moreAnswer, moreLayer, layerSize, endNumber, endAnswer, withLast, endLayer}
+use Rattle.tree.specs.Geometry.{blockLength, isPieceLength}
+use Rattle.history.specs.Growing.{nodeCount}
+use Rattle.history.specs.Answers.{emptyHistory, noHistory, beginAnswer, possibleCounts}
 use Rattle.history.specs.declared.History.{History}
-use Rattle.history.specs.declared.HistoryAnswer.{HistoryAnswer}
-use Rattle.history.specs.declared.HistoryEnd.{HistoryEnd}
 
 -- ---- begin
 

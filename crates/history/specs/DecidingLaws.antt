@@ -1,28 +1,26 @@
 -- Which number: each case of the answers as the code meets it, and the room for each hash that is due.
 -- Assumes nothing.
-use mathlib.Core.Path.{_≡_, refl, ap, ap₂, sym, _∙_}
-use mathlib.Core.Bool.{Bool, true, false, cond, _&&_, false≢true}
+use mathlib.Core.Path.{_≡_, refl, ap, sym, _∙_}
+use mathlib.Core.Bool.{Bool, true, false, false≢true}
 use mathlib.Core.List.{List}
-use Prim.Native.Nat.{ℕ, zero, suc, _+_, _-_, _*_, _/_, _%_, _^_, _≤_, _<_}
+use Prim.Native.Nat.{ℕ, zero, suc, _+_, _-_, _*_, _/_, _%_, _≤_, _<_}
 use native.Mathlib.Nat.{mul-one, zero-mul, mul-le-mul-left}
 use native.Mathlib.Decide.{decLt, decLe}
 use native.Mathlib.Omega.{arith}
 use lib.ListN.{length, take, drop, length-drop}
 use lib.Seq.{length-take-le}
-use lib.Dec.{eqb, ltb, leb}
+use lib.Dec.{eqb, ltb}
 use borrow.Author.Tests.{eq-eqb, ne-eqb, lt-ltb, le-ltb, le-leb, lt-leb, ltb-true}
 use Rattle.octets.specs.Octets.{pasted, zeroHash}
 use Rattle.numbers.specs.Numbers.{unusable, factsOutOfRange, noRoom}
 use Rattle.limits.specs.Limits.{longestFile}
-use Rattle.tree.specs.Geometry.{blockLength, ceilDiv, isPieceLength, pieceLayer, hasLayer, pieceCount}
+use Rattle.tree.specs.Geometry.{blockLength, isPieceLength, pieceLayer, hasLayer, pieceCount}
 use Rattle.tree.specs.GeometryLaws.{ceil-least, below-ceil, ceil-by-zero}
 use Rattle.history.specs.Growing.{grownBy, notedBy, lastNode, rootOf}
 use Rattle.history.specs.Answers.{possibleCounts, passed, noRoomFor, moreNumber, moreAnswer, moreLayer, layerBytes, layerSize, endNumber, endAnswer, withLast, endLayer}
 use Rattle.history.specs.AnswersLaws.{Possible, possible-says}
 use Rattle.history.specs.LayerLaws.{passed-at, passed-grows, pieces-some}
 use Rattle.history.specs.declared.History.{History}
-use Rattle.history.specs.declared.HistoryAnswer.{HistoryAnswer}
-use Rattle.history.specs.declared.HistoryEnd.{HistoryEnd}
 
 -- ---- the counts
 

@@ -2,7 +2,7 @@
 -- N is the count of all bytes. `block` is the running hash of the block under way, `nodes` has for each layer its last finished node.
 -- Assumes nothing.
 use mathlib.Core.List.{List, [], _∷_}
-use mathlib.Core.Bool.{Bool, cond, _&&_}
+use mathlib.Core.Bool.{cond, _&&_}
 use Prim.Native.Nat.{ℕ, zero, suc, _+_, _-_, _*_, _/_, _%_, _^_}
 use lib.Dec.{eqb, ltb}
 use Rattle.octets.specs.Octets.{cut, pasted, zeroHash}

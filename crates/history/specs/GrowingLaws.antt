@@ -1,30 +1,28 @@
 -- From the state of x, a byte y leads to the state of both; so does any burst. The node over the last byte is the tree's own.
 -- Assumes nothing.
-use mathlib.Core.Path.{_≡_, refl, ap, ap₂, sym, subst, _∙_}
-use mathlib.Core.Bool.{Bool, true, false, cond}
+use mathlib.Core.Path.{_≡_, refl, ap, sym, _∙_}
+use mathlib.Core.Bool.{cond}
 use mathlib.Core.List.{List, [], _∷_, _++_, append-assoc, append-nil}
-use Prim.Native.Nat.{ℕ, zero, suc, _+_, _-_, _*_, _/_, _%_, _^_, _≤_, _<_}
-use native.Mathlib.Nat.{mul-assoc, mul-comm, mul-one, one-mul, add-mul, zero-mul, div-div-eq-div-mul, div-lt-iff-lt-mul, le-div-iff-mul-le, div-add-mod', mod-lt, pow-succ', one-le-mul, mul-div-cancel-left}
-use native.Mathlib.Decide.{decLt, ℕ-discrete}
+use Prim.Native.Nat.{ℕ, _+_, _-_, _*_, _/_, _%_, _^_, _≤_, _<_}
+use native.Mathlib.Nat.{div-add-mod'}
+use native.Mathlib.Decide.{ℕ-discrete}
 use native.Mathlib.Omega.{arith}
-use lib.ListN.{length, take, drop, length-append, length-drop, drop-of-length-le}
+use lib.ListN.{length, drop, length-append, length-drop, drop-of-length-le}
 use lib.Seq.{take-all, drop-append-le}
-use lib.Pow.{pow-pos, pow-add}
 use lib.Dec.{eqb}
 use borrow.Author.Tests.{eq-eqb, ne-eqb}
-use Rattle.octets.specs.Octets.{Octets, cut, zeroHash}
+use Rattle.octets.specs.Octets.{cut, zeroHash}
 use Rattle.octets.specs.OctetsLaws.{cut-append-left}
-use Rattle.sha256.specs.Sha256.{sha256, pairHash}
+use Rattle.sha256.specs.Sha256.{sha256}
 use Rattle.running.specs.Bursts.{stateOf, absorbed, hashOf}
 use Rattle.running.specs.BurstsLaws.{absorbed-more, hash-of-state}
-use Rattle.running.specs.declared.Hashing.{Hashing}
-use Rattle.tree.specs.Geometry.{blockLength, ceilDiv, blockCount, height, Padding, covering, pieceCount}
-use Rattle.tree.specs.GeometryLaws.{ceil-least, below-ceil, ceil-below, ceil-enough, block-within, block-outside, block-count-some, covering-top, covering-some, pieces-covering, height-least}
-use Rattle.tree.specs.Values.{node, padValue, blockOf, leafOf, piecesRoot}
-use Rattle.tree.specs.ValuesLaws.{node-same, leaf-block, leaf-padding, leaf-octets, padding-value}
-use Rattle.history.specs.Growing.{nodeCount, nodeAt, finishing, grown, grownBy, openNode, lastNode, rootOf}
+use Rattle.tree.specs.Geometry.{blockLength}
+use Rattle.tree.specs.GeometryLaws.{block-within}
+use Rattle.tree.specs.Values.{node, blockOf, leafOf}
+use Rattle.tree.specs.ValuesLaws.{node-same, leaf-block, leaf-octets}
+use Rattle.history.specs.Growing.{nodeCount, finishing, grown, grownBy}
 use Rattle.history.specs.HistoryOf.{lastOf, nodesOf, openBlock, historyOf}
-use Rattle.history.specs.NodesLaws.{nodes-same, nodes-length, nodes-at, last-some, parent-of, finishing-law}
+use Rattle.history.specs.NodesLaws.{nodes-same, nodes-length, nodes-at, finishing-law}
 use Rattle.history.specs.declared.History.{History}
 
 -- ---- finished blocks stay

@@ -1,24 +1,21 @@
 -- 02, request 1, as theorems: however a history is cut into bursts, empty ones included, none of them refused, its end gives
 -- N, the pieces root and the piece layer of all its bytes.
 -- Assumes nothing.
-use mathlib.Core.Path.{_≡_, refl, ap, ap₂, sym, subst, _∙_}
-use mathlib.Core.Bool.{Bool, true, false}
+use mathlib.Core.Path.{_≡_, ap, ap₂, sym, subst, _∙_}
+use mathlib.Core.Bool.{true, false}
 use mathlib.Core.List.{List, [], _∷_, _++_, append-assoc, append-nil}
-use Prim.Native.Nat.{ℕ, zero, _+_, _*_, _≤_}
+use Prim.Native.Nat.{ℕ, _+_, _*_, _≤_}
 use native.Mathlib.Omega.{arith}
-use native.Mathlib.Decide.{decLe}
-use lib.ListN.{length, take, drop}
+use lib.ListN.{length, take}
 use Rattle.octets.specs.Octets.{zeroHash}
 use Rattle.limits.specs.Limits.{longestFile}
 use Rattle.tree.specs.Geometry.{isPieceLength, pieceLayer, hasLayer, pieceCount}
 use Rattle.tree.specs.Values.{piecesRoot, wholeLayer}
-use Rattle.history.specs.Answers.{emptyHistory, layerBytes, moreAnswer, moreLayer, endNumber, endAnswer, endLayer}
+use Rattle.history.specs.Answers.{emptyHistory, layerBytes, moreAnswer, moreLayer, endAnswer, endLayer}
 use Rattle.history.specs.DecidingLaws.{bytes-none}
 use Rattle.history.specs.HistoryOf.{historyOf}
 use Rattle.history.specs.HistoriesLaws.{Written, empty-is, empty-written, taken-state, taken-short, written-more, refused-state, refused-layer, end-of, end-without, layer-at-end, asked-written, no-bytes, no-root, no-layer}
 use Rattle.history.specs.declared.History.{History}
-use Rattle.history.specs.declared.HistoryAnswer.{HistoryAnswer}
-use Rattle.history.specs.declared.HistoryEnd.{HistoryEnd}
 
 -- ---- any cutting, whatever is lent
 

@@ -1,36 +1,33 @@
 -- One burst and the end, from the state of the bytes x: what the theorems about histories are made of.
 -- Assumes nothing.
 use mathlib.Core.Path.{_≡_, refl, ap, ap₂, sym, subst, _∙_}
-use mathlib.Core.Bool.{Bool, true, false, cond, _&&_, false≢true}
-use mathlib.Core.List.{List, [], _∷_, _++_, append-assoc, append-nil}
+use mathlib.Core.Bool.{Bool, true, false, false≢true}
+use mathlib.Core.List.{List, [], _++_, append-assoc}
 use Prim.Native.Nat.{ℕ, zero, suc, _+_, _-_, _*_, _/_, _%_, _^_, _≤_, _<_}
 use native.Mathlib.Nat.{mul-assoc, mul-comm, add-mul, one-mul, zero-mul, le-div-iff-mul-le}
 use native.Mathlib.Omega.{arith}
-use native.Mathlib.Decide.{decLe, decLt, ℕ-discrete}
-use lib.ListN.{length, take, drop, replicate, length-append, length-drop, replicate-append-replicate}
+use native.Mathlib.Decide.{decLe, decLt}
+use lib.ListN.{length, take, drop, length-append, length-drop}
 use lib.Seq.{take-at, drop-at}
-use lib.Dec.{eqb, ltb}
+use lib.Dec.{ltb}
 use borrow.Author.Tests.{eq-eqb, ne-eqb, ltb-true, lt-ltb, le-ltb}
 use Rattle.octets.specs.Octets.{pasted, zeroHash}
-use Rattle.octets.specs.OctetsLaws.{pasted-length}
 use Rattle.limits.specs.Limits.{longestFile}
-use Rattle.running.specs.Bursts.{stateOf}
 use Rattle.running.specs.BurstsLaws.{state-total, state-tail}
 use Rattle.tree.specs.Geometry.{blockLength, blockCount, covering, isPieceLength, pieceLayer, hasLayer, pieceCount}
 use Rattle.tree.specs.GeometryLaws.{below-ceil, piece-length-form, pieces-covering}
 use Rattle.tree.specs.Values.{node, leafOf, piecesRoot, layerOf, wholeLayer}
 use Rattle.tree.specs.ValuesLaws.{file-octets, layer-octets}
-use Rattle.history.specs.Growing.{nodeCount, grownBy, notedBy, lastNode, rootOf}
-use Rattle.history.specs.Answers.{emptyHistory, possibleCounts, passed, noRoomFor, moreNumber, moreAnswer, moreLayer, layerBytes, layerSize, endNumber, endAnswer, withLast, endLayer}
+use Rattle.history.specs.Growing.{grownBy, notedBy, rootOf}
+use Rattle.history.specs.Answers.{emptyHistory, passed, noRoomFor, moreNumber, moreAnswer, moreLayer, layerBytes, endNumber, endAnswer, endLayer}
 use Rattle.history.specs.AnswersLaws.{Possible, says-possible}
-use Rattle.history.specs.DecidingLaws.{number-says, number-done, more-taken, layer-taken, bytes-some, bytes-none, end-done, end-room, end-taken, end-layer, last-put, last-none}
+use Rattle.history.specs.DecidingLaws.{number-says, more-taken, layer-taken, bytes-some, bytes-none, end-done, end-room, end-taken, end-layer, last-put, last-none}
 use Rattle.history.specs.HistoryOf.{lastOf, nodesOf, openBlock, historyOf}
 use Rattle.history.specs.GrowingLaws.{node-stays, grown-by}
-use Rattle.history.specs.LastLaws.{history-length, history-pieces, history-block, last-node, root-of-history}
-use Rattle.history.specs.LayerLaws.{hashesOf, hashes-size, hashes-behind, pasted-nothing, passed-grows, passed-none, passed-bytes, pieces-some, layer-within, noted-by}
+use Rattle.history.specs.LastLaws.{history-length, history-pieces, last-node, root-of-history}
+use Rattle.history.specs.LayerLaws.{hashesOf, hashes-size, hashes-behind, passed-grows, passed-none, passed-bytes, pieces-some, layer-within, noted-by}
 use Rattle.history.specs.declared.History.{History}
 use Rattle.history.specs.declared.HistoryAnswer.{HistoryAnswer}
-use Rattle.history.specs.declared.HistoryEnd.{HistoryEnd}
 
 -- ---- the state of x
 

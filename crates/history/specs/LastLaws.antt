@@ -1,13 +1,13 @@
 -- The nodes that are not finished, worked out from the state of x, are those of x's tree; so is the pieces root.
 -- Assumes nothing.
 use mathlib.Core.Path.{_≡_, refl, ap, ap₂, sym, _∙_}
-use mathlib.Core.Bool.{Bool, true, false, cond}
-use mathlib.Core.List.{List, []}
+use mathlib.Core.Bool.{cond}
+use mathlib.Core.List.{List}
 use Prim.Native.Nat.{ℕ, zero, suc, _+_, _-_, _*_, _/_, _%_, _^_, _≤_, _<_}
-use native.Mathlib.Nat.{mul-assoc, mul-comm, mul-one, one-mul, add-mul, zero-mul, div-div-eq-div-mul, div-lt-iff-lt-mul, div-add-mod', mod-lt, pow-suc, one-le-mul}
-use native.Mathlib.Decide.{decLt, ℕ-discrete}
+use native.Mathlib.Nat.{one-mul, add-mul, zero-mul, div-div-eq-div-mul, div-lt-iff-lt-mul, div-add-mod', mod-lt, pow-suc, one-le-mul}
+use native.Mathlib.Decide.{ℕ-discrete}
 use native.Mathlib.Omega.{arith}
-use lib.ListN.{length, take, drop, length-drop}
+use lib.ListN.{length, drop, length-drop}
 use lib.Seq.{take-all}
 use lib.Pow.{pow-pos}
 use lib.Dec.{eqb}
@@ -15,15 +15,15 @@ use borrow.Author.Tests.{eq-eqb, ne-eqb}
 use Rattle.octets.specs.Octets.{cut, zeroHash}
 use Rattle.limits.specs.Limits.{longestFile, tallestTree}
 use Rattle.sha256.specs.Sha256.{sha256, pairHash}
-use Rattle.running.specs.Bursts.{stateOf, hashOf}
+use Rattle.running.specs.Bursts.{stateOf}
 use Rattle.running.specs.BurstsLaws.{hash-of-state}
-use Rattle.tree.specs.Geometry.{blockLength, ceilDiv, blockCount, height, Padding, covering, pieceCount}
+use Rattle.tree.specs.Geometry.{blockLength, ceilDiv, blockCount, height, Padding, pieceCount}
 use Rattle.tree.specs.GeometryLaws.{ceil-least, ceil-enough, below-ceil, block-within, block-outside, block-count-some, covering-top, pieces-covering, height-least, height-zero}
 use Rattle.tree.specs.Values.{node, padValue, blockOf, leafOf, piecesRoot}
 use Rattle.tree.specs.ValuesLaws.{leaf-block, leaf-padding, leaf-octets, padding-value}
 use Rattle.history.specs.Growing.{nodeCount, nodeAt, openLeaf, openAbove, openNode, lastNode, rootOf}
-use Rattle.history.specs.HistoryOf.{lastOf, nodesOf, openBlock, historyOf}
-use Rattle.history.specs.NodesLaws.{nodes-at, last-some, parent-of}
+use Rattle.history.specs.HistoryOf.{lastOf, openBlock, historyOf}
+use Rattle.history.specs.NodesLaws.{nodes-at, last-some}
 
 -- the fields of the state of x
 pub history-nodes : (plen : ℕ) (x : List ℕ) (k : ℕ) → k < nodeCount → nodeAt (historyOf plen x .nodes) k ≡ lastOf (leafOf x) k (length x / blockLength / 2 ^ k)

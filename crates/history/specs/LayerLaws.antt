@@ -1,29 +1,28 @@
 -- What a burst writes to the lent layer: the hashes of the pieces that the history runs past, and nothing else.
 -- Assumes nothing.
-use mathlib.Core.Path.{_≡_, refl, ap, ap₂, sym, subst, _∙_}
-use mathlib.Core.Bool.{Bool, true, false, cond, _&&_, and-eq-true-iff}
+use mathlib.Core.Path.{_≡_, refl, ap, sym, _∙_}
+use mathlib.Core.Bool.{Bool, true, false, _&&_, and-eq-true-iff}
 use mathlib.Core.List.{List, [], _∷_, _++_, append-assoc, append-nil}
 use Prim.Native.Nat.{ℕ, zero, suc, _+_, _-_, _*_, _/_, _%_, _^_, _≤_, _<_}
-use native.Mathlib.Nat.{mul-assoc, mul-comm, add-mul, one-mul, zero-mul, div-div-eq-div-mul, div-lt-iff-lt-mul, le-div-iff-mul-le, div-add-mod', mod-lt, one-le-mul, add-zero, add-suc, zero-add}
-use native.Mathlib.Decide.{decLt, decLe, ℕ-discrete}
+use native.Mathlib.Nat.{add-mul, one-mul, zero-mul, div-div-eq-div-mul, div-lt-iff-lt-mul, div-add-mod', mod-lt, one-le-mul, add-zero}
+use native.Mathlib.Decide.{ℕ-discrete}
 use native.Mathlib.Omega.{arith}
 use lib.ListN.{length, take, drop, length-append, take-append-drop}
-use lib.Seq.{take-all, take-at, take-append-le, length-take-le}
 use lib.Pow.{pow-pos}
 use lib.Dec.{eqb, ltb}
 use borrow.Author.Tests.{eq-eqb, ne-eqb, lt-ltb, le-ltb}
-use Rattle.octets.specs.Octets.{Octets, pasted}
+use Rattle.octets.specs.Octets.{pasted}
 use Rattle.octets.specs.OctetsLaws.{pasted-append, pasted-length}
 use Rattle.tree.specs.Geometry.{blockLength, ceilDiv, pieceLayer, isPieceLength, pieceCount}
 use Rattle.tree.specs.GeometryLaws.{ceil-least, ceil-enough, below-ceil, ceil-below, piece-length-form}
 use Rattle.tree.specs.Values.{node, leafOf, layerOf}
-use Rattle.tree.specs.ValuesLaws.{leaf-octets, file-octets, layer-octets}
-use Rattle.history.specs.Growing.{nodeCount, nodeAt, grown, noted, notedBy}
+use Rattle.tree.specs.ValuesLaws.{leaf-octets, file-octets}
+use Rattle.history.specs.Growing.{nodeCount, nodeAt, noted, notedBy}
 use Rattle.history.specs.Answers.{passed}
 use Rattle.history.specs.HistoryOf.{lastOf, historyOf}
 use Rattle.history.specs.NodesLaws.{last-some}
 use Rattle.history.specs.GrowingLaws.{node-stays, grown-more}
-use Rattle.history.specs.LastLaws.{history-nodes, history-length, history-pieces, ceil-whole, ceil-above}
+use Rattle.history.specs.LastLaws.{history-nodes, ceil-whole, ceil-above}
 use Rattle.history.specs.declared.History.{History}
 
 -- the hashes a to a + n - 1 of layer p

@@ -1,24 +1,23 @@
 -- Laws of the finished nodes: one more leaf makes them those of one more block.
 -- Assumes nothing.
 use mathlib.Core.Path.{_≡_, refl, ap, ap₂, sym, subst, _∙_}
-use mathlib.Core.Bool.{Bool, true, false, cond}
-use mathlib.Core.List.{List, [], _∷_, _++_}
+use mathlib.Core.Bool.{cond}
+use mathlib.Core.List.{List, _++_}
 use mathlib.Core.Logic.{_⊎_, inl, inr}
 use Prim.Native.Nat.{ℕ, zero, suc, _+_, _-_, _*_, _/_, _%_, _^_, _≤_, _<_}
-use native.Mathlib.Nat.{add-mul, one-mul, mul-one, mul-assoc, mul-comm, pow-succ', div-div-eq-div-mul, mul-div-cancel-left, div-lt-iff-lt-mul, le-div-iff-mul-le, add-zero, add-suc, div-add-mod'}
+use native.Mathlib.Nat.{add-mul, one-mul, mul-assoc, mul-comm, pow-succ', div-div-eq-div-mul, mul-div-cancel-left, div-lt-iff-lt-mul, le-div-iff-mul-le}
 use native.Mathlib.Decide.{decLt, ℕ-discrete}
 use native.Mathlib.Omega.{arith}
-use lib.ListN.{length, take, drop, getD, length-append}
+use lib.ListN.{length, getD, length-append}
 use lib.Seq.{ext-getD}
 use lib.Pow.{pow-pos, pow-add}
 use lib.Dec.{eqb}
 use borrow.Author.Tests.{eq-eqb, ne-eqb}
 use Rattle.octets.specs.Octets.{Octets, cut, pasted, zeroHash}
-use Rattle.octets.specs.OctetsLaws.{cut-length, getD-cut, pasted-length, cut-pasted-other, cut-pasted-same, cut-append-left, cut-append-right, zero-octets, append-octets}
+use Rattle.octets.specs.OctetsLaws.{getD-cut, pasted-length, cut-pasted-other, cut-pasted-same, cut-append-left, cut-append-right, zero-octets}
 use Rattle.sha256.specs.Sha256.{pairHash}
-use Rattle.sha256.specs.Sha256Laws.{pair-octets}
 use Rattle.tree.specs.Values.{node}
-use Rattle.tree.specs.ValuesLaws.{node-octets, node-same}
+use Rattle.tree.specs.ValuesLaws.{node-octets}
 use Rattle.history.specs.Growing.{nodeAt, finishing}
 use Rattle.history.specs.HistoryOf.{lastOf, nodesOf}
 

@@ -2,28 +2,26 @@
 -- That blocks and pieces of the file are then judged 0 once their hashes are held, or two strings are shown, is `known-block` and
 -- `known-piece` of the promises: the file is the history's bytes.
 -- Assumes nothing.
-use mathlib.Core.Path.{_≡_, refl, ap, ap₂, sym, subst, _∙_}
-use mathlib.Core.Bool.{Bool, true, false, cond, not, _||_}
+use mathlib.Core.Path.{_≡_, refl, ap, ap₂, sym, _∙_}
+use mathlib.Core.Bool.{Bool, true, false, not, _||_}
 use mathlib.Core.List.{List}
 use Prim.Native.Nat.{ℕ, _+_, _-_, _*_, _^_, _≤_, _<_}
 use native.Mathlib.Omega.{arith}
 use native.Mathlib.Decide.{ℕ-discrete}
 use lib.ListN.{length, take}
 use lib.Dec.{eqb}
-use borrow.Author.Tests.{eq-eqb, ne-eqb, ltb-true}
+use borrow.Author.Tests.{ne-eqb, ltb-true}
 use Rattle.octets.specs.Octets.{same}
 use Rattle.octets.specs.OctetsLaws.{same-eq}
-use Rattle.limits.specs.Limits.{longestFile}
-use Rattle.tree.specs.Geometry.{blockLength, blockCount, height, covering, nodeNumber, isPieceLength, pieceLayer, hasLayer, pieceCount}
+use Rattle.tree.specs.Geometry.{blockCount, height, covering, isPieceLength, pieceLayer, hasLayer, pieceCount}
 use Rattle.tree.specs.GeometryLaws.{piece-length-form, pieces-covering, node-number-root, node-number-range, node-number-distinct}
-use Rattle.tree.specs.Values.{node, leafOf, piecesRoot, layerOf, wholeLayer, layerLeaf}
+use Rattle.tree.specs.Values.{node, leafOf, piecesRoot, wholeLayer, layerLeaf}
 use Rattle.tree.specs.ValuesLaws.{layer-octets, layer-cut, node-of-layer, root-octets}
 use Rattle.cells.specs.Cells.{heldAt, hashAt}
-use Rattle.cells.specs.Entries.{Entry, agreesAt, agrees}
+use Rattle.cells.specs.Entries.{Entry, agreesAt}
 use Rattle.cells.specs.EntriesLaws.{In, in-agrees}
 use Rattle.store.specs.Store.{fileLength, pieceLength, heightOf, positions, factsInRange, storeSize, opened}
 use Rattle.store.specs.StoreLaws.{range-piece, positions-some, opened-file, opened-piece, opened-height, opened-facts, opened-usable, opened-held, opened-hash}
-use Rattle.runs.specs.Subtree.{subtree}
 use Rattle.pieces.specs.Pieces.{layerOfPieces, layerSettled, layerNumber}
 use Rattle.pieces.specs.PiecesLaws.{Layered, layered, InLayers, settled-in-layers, loads-answered}
 use Rattle.history.specs.Answers.{layerBytes, endAnswer, endLayer}

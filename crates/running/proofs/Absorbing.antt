@@ -1,15 +1,15 @@
 -- A burst as the code takes it: beside the tail, or a block, the whole blocks of the rest and a new tail. And the end.
 -- Assumes nothing.
-use mathlib.Core.Path.{_≡_, refl, ap, ap₂, sym, _∙_}
-use mathlib.Core.List.{List, [], _∷_, _++_, append-nil}
+use mathlib.Core.Path.{_≡_, refl, ap, sym, _∙_}
+use mathlib.Core.List.{List, [], _++_, append-nil}
 use Prim.Native.Nat.{ℕ, _+_, _-_, _*_, _/_, _%_, _≤_, _<_}
 use native.Mathlib.Omega.{arith}
-use lib.ListN.{length, take, drop, getD, replicate, length-append, length-drop, drop-of-length-le}
+use lib.ListN.{length, take, drop, length-append, length-drop, drop-of-length-le}
 use lib.Seq.{take-all, take-append-add, drop-append-add, drop-cons, length-take-le}
 use Rattle.constants.specs.Constants.{K}
 use Rattle.padding.specs.Padding.{padding}
 use Rattle.padding.specs.Cutting.{overBlocks}
-use Rattle.padding.specs.Running.{Running, wholeBlocks, pastBlocks, runningOf, runningMore, runningEnd}
+use Rattle.padding.specs.Running.{wholeBlocks, pastBlocks, runningOf, runningMore, runningEnd}
 use Rattle.padding.specs.RunningLaws.{whole-short, past-short, whole-first, past-first}
 use Rattle.rounds.specs.Block.{compress}
 use Rattle.rounds.specs.declared.State.{State}

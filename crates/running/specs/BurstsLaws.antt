@@ -1,8 +1,8 @@
 -- Laws of SHA-256 in bursts: from the state of xs a burst ys leads to the state of both, and the end is the hash.
 -- Assumes nothing.
-use mathlib.Core.Path.{_≡_, refl, ap, ap₂, sym, _∙_}
-use mathlib.Core.Bool.{Bool, true, false, cond, and-eq-true-iff}
-use mathlib.Core.List.{List, [], _∷_, _++_}
+use mathlib.Core.Path.{_≡_, refl, ap, _∙_}
+use mathlib.Core.Bool.{true, false, and-eq-true-iff}
+use mathlib.Core.List.{List, _++_}
 use Prim.Native.Nat.{ℕ, _+_, _-_, _%_, _^_, _≤_, _<_}
 use native.Mathlib.Omega.{arith}
 use lib.ListN.{length, take, replicate, length-append}
@@ -12,15 +12,13 @@ use borrow.Author.Tests.{lt-ltb, le-ltb, eq-eqb, ltb-true, eqb-true}
 use Rattle.octets.specs.Octets.{zeroHash}
 use Rattle.numbers.specs.Numbers.{wrongSize, unusable}
 use Rattle.constants.specs.Constants.{K}
-use Rattle.padding.specs.Running.{Running, pastBlocks, runningOf, runningMore, runningEnd}
+use Rattle.padding.specs.Running.{Running, runningOf, runningMore, runningEnd}
 use Rattle.padding.specs.RunningLaws.{past-size, past-below, running-more, running-twice, running-end}
 use Rattle.rounds.specs.Block.{compress}
 use Rattle.rounds.specs.declared.State.{State}
 use Rattle.sha256.specs.Sha256.{start, digest, sha256}
 use Rattle.running.specs.Bursts.{toWords, fromWords, tailArray, saidBy, saying, stateOf, possible, absorbed, hashOf, moreAnswer, endAnswer}
-use Rattle.sha256.specs.declared.Hashed.{Hashed}
 use Rattle.running.specs.declared.Hashing.{Hashing}
-use Rattle.running.specs.declared.HashingAnswer.{HashingAnswer}
 
 words-again : (s : State) → fromWords (toWords s) ≡ s
 unfolding fromWords toWords
