@@ -235,10 +235,11 @@ fn run(h: History, burst: &[u8], layer: &mut [u8]) -> History
     let mut t = h;
     let mut at = 0;
     while at < burst.len() {
-        note(t, layer);
         let n = part_size(t.length as usize, burst.len() - at);
         let end = at + n;
-        t = grow(t, &burst[at..end]);
+        let later = grow(t, &burst[at..end]);
+        note(t, layer);
+        t = later;
         at = end;
     }
     t

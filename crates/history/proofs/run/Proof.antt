@@ -20,13 +20,6 @@ abbrev μ-loop : tie.MeasureT-loop
 loop-holds : tie.Need-loop-holds Inv-loop μ-loop
 loop-holds c = let b = c .before .before in (omega arith, refl, omega arith, b .pre .0 .inside, b .pre .0 .tail, refl, refl, refl)
 
-note-requires : tie.Need-note-requires Inv-loop μ-loop
-note-requires c κs = let b = c .before .before .before .before .before in
-    let L = c .before .before .loop in (
-      good-at (b .args .h) (L .t) (b .pre .0) (L .inv .1),
-      λ p e. omega (arith, L .inv .5, fits-at (b .args .h) (L .t) (length (b .args .burst .now)) (length (b .args .layer .now)) (b .pre .0) (b .pre .2) (L .inv .1) (omega (arith, L .inv .2)) (omega (arith, L .inv .2, c .before .loop-test .taken)) p e),
-    )
-
 sub-part-size : tie.Need-sub-part-size Inv-loop μ-loop
 sub-part-size c = search needs
 
@@ -46,22 +39,29 @@ part-grow-end : tie.Need-part-grow-end Inv-loop μ-loop
 part-grow-end c = search needs
 
 grow-requires : tie.Need-grow-requires Inv-loop μ-loop
-grow-requires c κs = let b = c .before .before .before .before .before .before .before .before .before .before in
-    let L = c .before .before .before .before .before .before .before .loop in
+grow-requires c κs = let b = c .before .before .before .before .before .before in
+    let L = c .before .before .before .loop in
     let n = c .before .part-size .result in
-    let l = part-length (b .args .burst .now) (L .at) n (omega (arith, c .before .part-size .ensures, L .inv .0, c .before .before .before .before .before .before .loop-test .taken)) in
-    (omega (arith, l, c .before .part-size .ensures, c .before .before .before .before .before .before .loop-test .taken), omega (arith, l, c .before .part-size .ensures), omega (arith, l, c .before .part-size .ensures, L .inv .2, b .pre .1), L .inv .3, L .inv .4)
+    let l = part-length (b .args .burst .now) (L .at) n (omega (arith, c .before .part-size .ensures, L .inv .0, c .before .before .loop-test .taken)) in
+    (omega (arith, l, c .before .part-size .ensures, c .before .before .loop-test .taken), omega (arith, l, c .before .part-size .ensures), omega (arith, l, c .before .part-size .ensures, L .inv .2, b .pre .1), L .inv .3, L .inv .4)
+
+note-requires : tie.Need-note-requires Inv-loop μ-loop
+note-requires c κs = let b = c .before .before .before .before .before .before .before .before in
+    let L = c .before .before .before .before .before .loop in (
+      good-at (b .args .h) (L .t) (b .pre .0) (L .inv .1),
+      λ p e. omega (arith, L .inv .5, fits-at (b .args .h) (L .t) (length (b .args .burst .now)) (length (b .args .layer .now)) (b .pre .0) (b .pre .2) (L .inv .1) (omega (arith, L .inv .2)) (omega (arith, L .inv .2, c .before .before .before .before .loop-test .taken)) p e),
+    )
 
 loop-less : tie.Need-loop-less Inv-loop μ-loop
-loop-less c = omega (arith, c .before .before .part-size .ensures, c .before .before .before .before .before .before .before .loop-test .taken)
+loop-less c = omega (arith, c .before .before .before .before .before .before .part-size .ensures, c .before .before .before .before .before .before .before .loop-test .taken)
 
 loop-again : tie.Need-loop-again Inv-loop μ-loop
 loop-again c = let b = c .before .before .before .before .before .before .before .before .before .before .before in
     let L = c .before .before .before .before .before .before .before .before .loop in
-    let n = c .before .before .part-size .result in
-    let g = c .grow .ensures in
+    let n = c .before .before .before .before .before .before .part-size .result in
+    let g = c .before .before .before .before .grow .ensures in
     let e = L .at + n in
-    let within : L .at + n ≤ length (b .args .burst .now) = omega (arith, c .before .before .part-size .ensures, L .inv .0, c .before .before .before .before .before .before .before .loop-test .taken) in
+    let within : L .at + n ≤ length (b .args .burst .now) = omega (arith, c .before .before .before .before .before .before .part-size .ensures, L .inv .0, c .before .before .before .before .before .before .before .loop-test .taken) in
     let l = part-length (b .args .burst .now) (L .at) n within in
     let on : L .at ≤ L .at + n = omega arith in (
       within,
@@ -69,10 +69,10 @@ loop-again c = let b = c .before .before .before .before .before .before .before
       omega (arith, g .2, l, L .inv .2),
       g .3,
       g .4,
-      c .before .before .before .before .before .note .kept .1 .0 ∙ L .inv .5,
-      grown-turn (b .args .h) (L .t) (c .grow .result) (b .args .burst .now) (L .at) e on (L .inv .6) (g .0),
-      noted-turn (b .args .h) (L .t) (c .grow .result) (b .args .burst .now) (b .args .layer .now) (L .layer) (c .before .before .before .before .before .note .last .1 .0) (L .at) e on (L .inv .7) (g .0)
-          (good-at (b .args .h) (L .t) (b .pre .0) (L .inv .1)) (omega (arith, l, c .before .before .part-size .ensures, c .before .before .before .before .before .before .before .loop-test .taken)) (omega (arith, l, c .before .before .part-size .ensures)) (c .before .before .before .before .before .note .ensures),
+      c .before .before .note .kept .1 .0 ∙ L .inv .5,
+      grown-turn (b .args .h) (L .t) (c .before .before .before .before .grow .result) (b .args .burst .now) (L .at) e on (L .inv .6) (g .0),
+      noted-turn (b .args .h) (L .t) (c .before .before .before .before .grow .result) (b .args .burst .now) (b .args .layer .now) (L .layer) (c .before .before .note .last .1 .0) (L .at) e on (L .inv .7) (g .0)
+          (good-at (b .args .h) (L .t) (b .pre .0) (L .inv .1)) (omega (arith, l, c .before .before .before .before .before .before .part-size .ensures, c .before .before .before .before .before .before .before .loop-test .taken)) (omega (arith, l, c .before .before .before .before .before .before .part-size .ensures)) (c .before .before .note .ensures),
     )
 
 same-length : tie.Need-same-length Inv-loop μ-loop
@@ -90,7 +90,6 @@ run-spec =
     Inv-loop
     μ-loop
     loop-holds
-    note-requires
     sub-part-size
     part-size-requires
     add-end
@@ -98,6 +97,7 @@ run-spec =
     part-grow-start
     part-grow-end
     grow-requires
+    note-requires
     loop-less
     loop-again
     same-length
