@@ -28,7 +28,7 @@ counted() {
         count=$(($(instructions "$job" "$version") - ready))
         plain=${plain:-$count}
         awk -v job="$job" -v version="$version" -v count=$count -v plain="$plain" -v asked="$asked" 'BEGIN {
-            printf "%-18s %-16s %12d %16.2f %7s\n", job, version, count, count / plain,
+            printf "%-18s %-16s %12d %16.2f %7s\n", job, version, count, plain ? count / plain : 0,
                 version ~ /^kd_/ && asked != "-" ? asked : "" }'
     done
 }

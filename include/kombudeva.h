@@ -9,8 +9,9 @@
  * Each function lists its numbers in the order in which they are decided: the first that applies is given.
  *
  * Beside a refusal (any number but KD_DONE) every other field is zero, save for the size of the reject that
- * kd_serve writes. Every input is answered: nothing is asked of the caller's values, and no function stops
- * the program. Compare answers field by field, since C leaves the padding bytes of a struct open.
+ * kd_serve writes, and for a running state, which comes back as it was given. Every input is answered: nothing is
+ * asked of the caller's values, and no function stops the program. Compare answers field by field, since C leaves
+ * the padding bytes of a struct open.
  *
  * LENT MEMORY. A memory is lent as a pointer and its size in bytes. The library reads and writes it during
  * the call only: it keeps no pointer, has no heap and no state of its own, so that calls on different
@@ -22,7 +23,7 @@
  *
  * Memory marked `const` is not changed, and a refusal changes no byte of any memory, save for that reject.
  *
- * STACK. Calls on a store were seen to need at most 6.4 kB of stack, kd_torrent_list 203 kB, the other calls on a
+ * STACK. Calls on a store or a state were seen to need at most 6.4 kB of stack, kd_torrent_list 203 kB, the other calls on a
  * torrent 138 kB: measured on the largest file and on torrents nested as deep as they may be (docs/BENCHMARKS.md).
  *
  * EXAMPLE
@@ -42,7 +43,7 @@ extern "C" {
 #endif
 
 /* The version of header and library. Its second figure rises whenever a struct, a function or an answer changes. */
-#define KD_VERSION "0.1.0"
+#define KD_VERSION "0.2.0"
 
 /* ---- The numbers given back, each with what it says. ---- */
 
@@ -56,9 +57,12 @@ extern "C" {
 #define KD_NO_ANCHOR 6                  /* the anchor, leaf, piece node or, for a layer, the root is not held */
 #define KD_DIFFERS 7                    /* the worked-out value differs from the held anchor, leaf or node */
 #define KD_CONFLICT 8                   /* the anchor agrees, another held position differs */
-#define KD_UNUSABLE 9                   /* not a store: it names no facts in range, or has not their room */
-#define KD_FACTS_OUT_OF_RANGE 10        /* a length or a piece length that no store is opened with */
-#define KD_NO_ROOM 11                   /* the output is shorter than the reply, reject included; or than a torrent's list */
+#define KD_UNUSABLE 9                   /* not a store: it names no facts in range, or has not their room; or a
+                                           running state whose counts no bursts give */
+#define KD_FACTS_OUT_OF_RANGE 10        /* a length or a piece length that no store is opened with; a burst past
+                                           the longest file */
+#define KD_NO_ROOM 11                   /* the output is shorter than the reply, reject included; or than a torrent's
+                                           list; or a piece's hash doesn't fit the lent layer */
 #define KD_NOT_HELD 12                  /* a requested hash isn't held */
 #define KD_TORRENT_TOO_LARGE 19         /* a torrent above KD_LARGEST_TORRENT */
 #define KD_NOT_STRICT 20                /* the torrent is not one dictionary in strict bencoding */
@@ -104,6 +108,86 @@ typedef struct { uint32_t number; kd_hash hash; } kd_hashed;
  *   KD_DONE  `hash` is the hash.
  */
 kd_hashed kd_sha256(const uint8_t *data, size_t size);
+
+/* ---- SHA-256 of bytes that come in bursts. ---- */
+
+/*
+ * A state is a value: it goes in, and comes back beside the number, so that `state = answer.state` never loses anything. It may
+ * be copied, kept and taken up again. Two states of the same bytes are the same, however these were cut.
+ *   words      after the whole blocks so far
+ *   tail       the bytes past those, zero behind them; what stands behind `tail_size` never matters
+ *   tail_size  their count, at most 63
+ *   total      the count of all bytes
+ */
+typedef struct { uint32_t words[8]; uint8_t tail[64]; uint64_t tail_size; uint64_t total; } kd_hashing;
+
+/* A number, and the state after the burst; beside a refusal the state as it was given. */
+typedef struct { uint32_t number; kd_hashing state; } kd_hashing_answer;
+
+/* The state of no bytes. */
+kd_hashing kd_hashing_begin(void);
+
+/*
+ * Takes a burst of any size, none included.
+ *    9  a state whose counts no bursts give: `tail_size` isn't `total` modulo 64, or `total` is above 2^61 - 1.
+ *    4  the burst would go past 2^61 - 1 bytes.
+ *    0  the state after the burst.
+ */
+kd_hashing_answer kd_hashing_more(kd_hashing state, const uint8_t *data, size_t size);
+
+/*
+ * The hash of the bytes so far. The state may go on from here.
+ *    9  as above.
+ *    0  `hash` is what kd_sha256 gives of all bytes.
+ */
+kd_hashed kd_hashing_end(kd_hashing state);
+
+/* ---- The tree of a file as its bytes come in bursts: N, the pieces root and the piece layer. ---- */
+
+/* One node for each layer of the tallest tree, the root's included. */
+#define KD_NODES 17
+
+/*
+ * A state as above, of 672 bytes.
+ *   length  N, the count of all bytes
+ *   block   the running hash of the block under way
+ *   nodes   for each layer its last finished node; zero where there is none yet
+ */
+typedef struct { uint64_t piece_length; uint64_t length; kd_hashing block; uint8_t nodes[32 * KD_NODES]; } kd_history;
+
+/* A number, and the state after the burst; beside a refusal the state as it was given. */
+typedef struct { uint32_t number; kd_history state; } kd_history_answer;
+
+/* A number, and beside 0 N, the pieces root (zero for an empty history), and the piece layer's size in bytes. */
+typedef struct { uint32_t number; uint64_t length; kd_hash root; uint64_t layer_size; } kd_history_end_answer;
+
+/*
+ * The state of no bytes.
+ *   10  a bad piece length; the state is zero.
+ *    0  the state.
+ */
+kd_history_answer kd_history_begin(uint64_t piece_length);
+
+/*
+ * Takes a burst of any size, none included. A piece's hash is written to the lent layer once the history runs past the piece:
+ * after N bytes the first ceil(N / piece length) - 1 have been, 32 bytes each. Other bytes of the layer stay.
+ *    9  a state whose counts no bursts give: a bad piece length, `length` above 2^30, or counts of `block` that aren't those of
+ *       `length` modulo 16384.
+ *   10  the burst would go past 2^30 bytes.
+ *   11  a hash that has to be written doesn't fit the layer; none is written.
+ *    0  the state after the burst.
+ */
+kd_history_answer kd_history_more(kd_history state, const uint8_t *data, size_t size, uint8_t *layer, size_t layer_size);
+
+/*
+ * The end, or the end so far: the state may go on from here, so that a growing file can be published again and again. The root
+ * comes from the state alone. The last piece's hash is written if the file is longer than the piece length; the layer then has
+ * `layer_size` bytes, as kd_load_layer takes them, if each call was lent the layer as the call before left it.
+ *    9  as above.
+ *   11  the layer doesn't fit; nothing is written.
+ *    0  N, the root and the layer's size.
+ */
+kd_history_end_answer kd_history_end(kd_history state, uint8_t *layer, size_t layer_size);
 
 /* ---- The store: a lent memory that holds hashes of one file's tree. docs/LAYOUT.md gives its bytes. ---- */
 

@@ -34,6 +34,35 @@ static volatile uint32_t number;
 
 static void nothing(void) { number = 0; }
 static void sha256(void) { number = kd_sha256(piece, BLOCK).number; }
+/* States with much behind them: the end of a history then goes up the whole tree. */
+static kd_hashing hashing;
+static kd_history history;
+static void hashing_begin(void) { hashing = kd_hashing_begin(); number = 0; }
+static void hashing_more(void)
+{
+    kd_hashing_answer answer = kd_hashing_more(hashing, piece, BLOCK + 1);
+    hashing = answer.state;
+    number = answer.number;
+}
+static void hashing_end(void) { number = kd_hashing_end(hashing).number; }
+static void history_begin(void)
+{
+    kd_history_answer answer = kd_history_begin(BLOCK);
+    history = answer.state;
+    number = answer.number;
+}
+static void history_more(void)
+{
+    kd_history_answer answer = kd_history_more(history, piece, BLOCK + 1, layer[0].bytes, sizeof layer);
+    history = answer.state;
+    number = answer.number;
+}
+static void history_end(void)
+{
+    kd_history far = history;
+    far.length += LENGTH - 4 * BLOCK;
+    number = kd_history_end(far, layer[0].bytes, sizeof layer).number;
+}
 static void store_size(void) { number = kd_store_size(LENGTH, BLOCK).number; }
 static void open_store(void) { number = kd_open(store, size, LENGTH, LARGEST_PIECE, at_layer[HEIGHT]).number; }
 static void open_for_layer(void) { number = kd_open(store, size, LENGTH, BLOCK, at_layer[HEIGHT]).number; }
@@ -129,13 +158,17 @@ static void write_head(uint8_t *message, uint8_t id)
     message[48] = PROOF;
 }
 
+static void make_layer(void)
+{
+    for (int block = 0; block < BLOCKS; block++)
+        layer[block] = at_layer[0];
+}
+
 static void make_inputs(void)
 {
     at_layer[0] = kd_sha256(piece, BLOCK).hash;
     for (int above = 1; above <= HEIGHT; above++)
         at_layer[above] = pair_of(at_layer[above - 1]);
-    for (int block = 0; block < BLOCKS; block++)
-        layer[block] = at_layer[0];
     write_head(request, REQUEST);
     write_head(reject, REJECT);
     write_head(reply, HASHES);
@@ -192,6 +225,13 @@ int main(void)
 {
     make_inputs();
     show("kd_sha256", sha256);
+    show("kd_hashing_begin", hashing_begin);
+    show("kd_hashing_more", hashing_more);
+    show("kd_hashing_end", hashing_end);
+    show("kd_history_begin", history_begin);
+    show("kd_history_more", history_more);
+    show("kd_history_end", history_end);
+    make_layer();
     show("kd_store_size", store_size);
     show("kd_open", open_store);
     show("kd_held", held);

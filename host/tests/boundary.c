@@ -33,6 +33,25 @@ _Static_assert(offsetof(kd_part, number) == 0, "kd_part.number");
 _Static_assert(offsetof(kd_part, start) == 8, "kd_part.start");
 _Static_assert(offsetof(kd_part, size) == 16, "kd_part.size");
 
+_Static_assert(sizeof(kd_hashing) == 112, "kd_hashing");
+_Static_assert(offsetof(kd_hashing, words) == 0, "kd_hashing.words");
+_Static_assert(offsetof(kd_hashing, tail) == 32, "kd_hashing.tail");
+_Static_assert(offsetof(kd_hashing, tail_size) == 96, "kd_hashing.tail_size");
+_Static_assert(offsetof(kd_hashing, total) == 104, "kd_hashing.total");
+_Static_assert(sizeof(kd_hashing_answer) == 120, "kd_hashing_answer");
+_Static_assert(offsetof(kd_hashing_answer, state) == 8, "kd_hashing_answer.state");
+_Static_assert(sizeof(kd_history) == 128 + 32 * KD_NODES, "kd_history");
+_Static_assert(offsetof(kd_history, piece_length) == 0, "kd_history.piece_length");
+_Static_assert(offsetof(kd_history, length) == 8, "kd_history.length");
+_Static_assert(offsetof(kd_history, block) == 16, "kd_history.block");
+_Static_assert(offsetof(kd_history, nodes) == 128, "kd_history.nodes");
+_Static_assert(sizeof(kd_history_answer) == 136 + 32 * KD_NODES, "kd_history_answer");
+_Static_assert(offsetof(kd_history_answer, state) == 8, "kd_history_answer.state");
+_Static_assert(sizeof(kd_history_end_answer) == 56, "kd_history_end_answer");
+_Static_assert(offsetof(kd_history_end_answer, length) == 8, "kd_history_end_answer.length");
+_Static_assert(offsetof(kd_history_end_answer, root) == 16, "kd_history_end_answer.root");
+_Static_assert(offsetof(kd_history_end_answer, layer_size) == 48, "kd_history_end_answer.layer_size");
+
 static unsigned passed, failed;
 
 static void check(const char *what, int holds)
@@ -109,6 +128,67 @@ static void make_tree(void)
         for (int pair = 0; pair < 1 << (HEIGHT - layer - 1); pair++)
             tree[layer + 1][pair] = kd_sha256(tree[layer][2 * pair].bytes, 64).hash;
     check("the tree by kd_sha256 has the root by hashlib", memcmp(root().bytes, hash_of_digits(ROOT).bytes, 32) == 0);
+}
+
+/* abc in bursts, refusals that hand back the state, and NULL. */
+static void bursts(void)
+{
+    kd_hashing state = kd_hashing_begin();
+    kd_hash of_nothing = hash_of_digits("e3b0c44298fc1c149afbf4c8996fb92427ae41e4649b934ca495991b7852b855");
+    kd_hash of_abc = hash_of_digits("ba7816bf8f01cfea414140de5dae2223b00361a396177a9cb410ff61f20015ad");
+    check("kd_hashing_end of no bytes", is_hashed(kd_hashing_end(state), 0, of_nothing));
+    kd_hashing_answer answer = kd_hashing_more(state, NULL, 0);
+    check("kd_hashing_more of NULL", answer.number == 0 && memcmp(&answer.state, &state, sizeof state) == 0);
+    state = kd_hashing_more(state, (const uint8_t *)"a", 1).state;
+    state = kd_hashing_more(state, (const uint8_t *)"bc", 2).state;
+    check("kd_hashing_end of abc in bursts", state.total == 3 && is_hashed(kd_hashing_end(state), 0, of_abc));
+    state.tail_size = 4;
+    answer = kd_hashing_more(state, (const uint8_t *)"d", 1);
+    check("counts that no bursts give", answer.number == 9 && memcmp(&answer.state, &state, sizeof state) == 0);
+    check("kd_hashing_end of such counts", is_hashed(kd_hashing_end(state), 9, zero));
+    state.tail_size = 3;
+    /* The size alone decides, and no byte is read. */
+    answer = kd_hashing_more(state, (const uint8_t *)"d", ((size_t)1 << 61) - 3);
+    check("a burst past 2^61 - 1", answer.number == 4 && memcmp(&answer.state, &state, sizeof state) == 0);
+}
+
+/* The file of five blocks in bursts: its root and its layer of two hashes are those of the tree. */
+static void logged(void)
+{
+    uint8_t layer[2 * 32 + 1];
+    memset(layer, 0xaa, sizeof layer);
+    kd_history_answer begun = kd_history_begin(PIECE);
+    check("kd_history_begin", begun.number == 0 && begun.state.piece_length == PIECE && begun.state.length == 0);
+    kd_history_answer bad = kd_history_begin(PIECE + 1);
+    kd_history none;
+    memset(&none, 0, sizeof none);
+    check("a bad piece length", bad.number == 10 && memcmp(&bad.state, &none, sizeof none) == 0);
+    kd_history_end_answer end = kd_history_end(begun.state, NULL, 0);
+    check("an empty history", end.number == 0 && end.length == 0 && memcmp(&end.root, &zero, 32) == 0 &&
+                                  end.layer_size == 0);
+    kd_history state = begun.state;
+    for (size_t at = 0; at < LENGTH; at += 1000) {
+        size_t size = LENGTH - at < 1000 ? LENGTH - at : 1000;
+        kd_history_answer answer = kd_history_more(state, file + at, size, layer, sizeof layer);
+        if (answer.number != 0)
+            check("kd_history_more", 0);
+        state = answer.state;
+    }
+    check("the first piece is written", memcmp(layer, tree[2][0].bytes, 32) == 0 && layer[32] == 0xaa);
+    end = kd_history_end(state, layer, 63);
+    check("an end without room", end.number == 11 && end.length == 0 && memcmp(&end.root, &zero, 32) == 0 &&
+                                     end.layer_size == 0 && layer[32] == 0xaa);
+    end = kd_history_end(state, layer, sizeof layer);
+    check("N, root and layer", end.number == 0 && end.length == LENGTH && memcmp(&end.root, root().bytes, 32) == 0 &&
+                                   end.layer_size == 64);
+    check("the layer", memcmp(layer, tree[2][0].bytes, 64) == 0 && layer[64] == 0xaa);
+    kd_history_answer refused = kd_history_more(begun.state, file, LENGTH, NULL, 0);
+    check("a burst without room", refused.number == 11 && memcmp(&refused.state, &begun.state, sizeof state) == 0);
+    refused = kd_history_more(state, file, ((size_t)1 << 30) - LENGTH + 1, layer, sizeof layer);
+    check("a burst past 2^30", refused.number == 10 && memcmp(&refused.state, &state, sizeof state) == 0);
+    refused = kd_history_more(none, NULL, 0, NULL, 0);
+    check("zero bytes as a state", refused.number == 9 && memcmp(&refused.state, &none, sizeof none) == 0);
+    check("their end", kd_history_end(none, NULL, 0).number == 9);
 }
 
 /* The 49 bytes of a message about the file; the words that matter here are below 256. */
@@ -455,6 +535,8 @@ int main(void)
 {
     hashes();
     make_tree();
+    bursts();
+    logged();
     stores();
     session();
     rejects();

@@ -1,7 +1,10 @@
 // The boundary to the host program: include/kombudeva.h says what each function answers.
 // Each passes its arguments on to the crate that decides, and hands back the answer as a C struct.
 ghost use mathlib.Core.Path.{_≡_};
+ghost use mathlib.Core.List.{[]};
 ghost use Rattle.sha256.specs.Answer.{hashedOf};
+ghost use Rattle.running.specs.Bursts as B;
+ghost use Rattle.history.specs.Answers as W;
 ghost use Rattle.store.specs.Store.{sizeAnswer, openAnswer, openAfter, heldAnswer};
 ghost use Rattle.messages.specs.Take.{takeAnswer, takeAfter, rejectAnswer};
 ghost use Rattle.serve.specs.Serve.{serveAnswer, serveAfter};
@@ -9,7 +12,12 @@ ghost use Rattle.pieces.specs.Pieces.{layerAnswer, layerAfter, blockAnswer, pie
 ghost use Rattle.torrent.specs.Torrent.{readOf, fileRead, pathRead};
 ghost use Rattle.catalogue.specs.Catalogue.{listAnswer, listAfter};
 ghost use Rattle.kombudeva.specs.Boundary.{countAnswer, hashAnswer, torrentAnswer, fileAnswer, partAnswer};
+use history::History;
+use history::HistoryAnswer;
+use history::HistoryEnd;
 use numbers::Answer;
+use running::Hashing;
+use running::HashingAnswer;
 use sha256::Hashed;
 use torrent::read::FileRead;
 use torrent::read::PartRead;
@@ -126,6 +134,48 @@ pub extern "C" fn kd_sha256(string: &[u8]) -> HashAnswer
     ensures { λ r. ⌜ r ≡ hashAnswer (hashedOf (now (string .entry))) ⌝ }
 {
     hash_answer(sha256::sha256(string))
+}
+
+#[no_mangle]
+pub extern "C" fn kd_hashing_begin() -> Hashing
+    ensures { λ r. ⌜ r ≡ B.stateOf [] ⌝ }
+{
+    running::begin()
+}
+
+#[no_mangle]
+pub extern "C" fn kd_hashing_more(hashing: Hashing, burst: &[u8]) -> HashingAnswer
+    ensures { λ r. ⌜ r ≡ B.moreAnswer hashing (now (burst .entry)) ⌝ }
+{
+    running::more(hashing, burst)
+}
+
+#[no_mangle]
+pub extern "C" fn kd_hashing_end(hashing: Hashing) -> HashAnswer
+    ensures { λ r. ⌜ r ≡ hashAnswer (B.endAnswer hashing) ⌝ }
+{
+    hash_answer(running::end(hashing))
+}
+
+#[no_mangle]
+pub extern "C" fn kd_history_begin(piece_length: u64) -> HistoryAnswer
+    ensures { λ r. ⌜ r ≡ W.beginAnswer «piece_length» ⌝ }
+{
+    history::begin(piece_length as usize)
+}
+
+#[no_mangle]
+pub extern "C" fn kd_history_more(history: History, burst: &[u8], layer: &mut [u8]) -> HistoryAnswer
+    ensures { λ r. ⌜ (r ≡ W.moreAnswer history (now (burst .entry)) (now (layer .entry))) × (now (layer .exit) ≡ W.moreLayer history (now (burst .entry)) (now (layer .entry))) ⌝ }
+{
+    history::more(history, burst, layer)
+}
+
+#[no_mangle]
+pub extern "C" fn kd_history_end(history: History, layer: &mut [u8]) -> HistoryEnd
+    ensures { λ r. ⌜ (r ≡ W.endAnswer history (now (layer .entry))) × (now (layer .exit) ≡ W.endLayer history (now (layer .entry))) ⌝ }
+{
+    history::end(history, layer)
 }
 
 #[no_mangle]

@@ -17,7 +17,7 @@ pub struct Hashed {
     pub hash: [u8; 32],
 }
 
-fn start() -> State
+pub fn start() -> State
     ensures { λ r. ⌜ r ≡ S.start ⌝ }
 {
     let w = constants::start_words();
@@ -34,7 +34,7 @@ fn start() -> State
 }
 
 // The whole blocks of s.
-fn whole_blocks(st: State, k: &[u32; 64], s: &[u8]) -> State
+pub fn whole_blocks(st: State, k: &[u32; 64], s: &[u8]) -> State
     ensures { λ r. ⌜ r ≡ overBlocks (B.compress (now (k .entry))) (length (now (s .entry)) / 64) st (now (s .entry)) ⌝ }
 {
     let mut t = st;
@@ -47,7 +47,7 @@ fn whole_blocks(st: State, k: &[u32; 64], s: &[u8]) -> State
 }
 
 // The last one or two blocks of a message of n bytes, whose last bytes are s.
-fn finish(st: State, k: &[u32; 64], s: &[u8], n: u64) -> State
+pub fn finish(st: State, k: &[u32; 64], s: &[u8], n: u64) -> State
     requires { ⌜ length (now s) ≡ n % 64 ⌝ }
     ensures { λ r. ⌜ r ≡ overBlocks (B.compress (now (k .entry))) (length (now (s .entry) ++ P.padding n) / 64) st (now (s .entry) ++ P.padding n) ⌝ }
 {
@@ -59,7 +59,7 @@ fn finish(st: State, k: &[u32; 64], s: &[u8], n: u64) -> State
     compress(t, k, &b, 64)
 }
 
-fn digest(s: State) -> [u8; 32]
+pub fn digest(s: State) -> [u8; 32]
     ensures { λ r. ⌜ r ≡ S.digest s ⌝ }
 {
     [

@@ -19,8 +19,8 @@ pub struct Job {
     pub bytes: usize,
     /// Instructions are counted of this job.
     pub is_counted: bool,
-    /// Careful Rust has a version of its own.
-    has_careful: bool,
+    /// The names of the versions, in their order; the first is what the others are compared with.
+    pub versions: Vec<&'static str>,
     pub ready: Box<dyn Fn() -> Vec<Box<dyn Work>>>,
 }
 
@@ -40,6 +40,12 @@ pub fn all() -> Vec<Job> {
         job("serve", "kd_serve", "1.5", REPLY, serving),
         job("piece-1MiB", "kd_judge_piece", "1.0", PIECE as usize, judging),
     ];
+    jobs.extend([
+        in_library("bursts-1MiB", "at-once", "kd_hashing_more", "1.05", 1 << 20, bursts),
+        in_library("bursts-1-byte", "none", "kd_hashing_more", "", 1, one_byte),
+        in_library("history-16MiB", "one-by-one", "kd_history_more", "1.05", LOGGED, logging),
+        in_library("history-1-byte", "none", "kd_history_more", "", 1, one_byte_logged),
+    ]);
     jobs.extend(shapes::ALL.iter().map(|shape| on_torrent(shape, "kd_torrent_read", reading)));
     let listed = shapes::ALL.iter().filter(|shape| LISTED.contains(&shape.name));
     jobs.extend(listed.map(|shape| on_torrent(shape, "kd_torrent_list", listing)));
@@ -53,8 +59,20 @@ fn job(
     bytes: usize,
     ready: impl Fn() -> Vec<Box<dyn Work>> + 'static,
 ) -> Job {
-    let name = name.to_string();
-    Job { name, entry_point, asked, bytes, is_counted: true, has_careful: true, ready: Box::new(ready) }
+    let versions = vec!["plain-rust", "careful-rust", entry_point];
+    Job { name: name.to_string(), entry_point, asked, bytes, is_counted: true, versions, ready: Box::new(ready) }
+}
+
+/// A job that has the library alone: an entry point, and other calls that do the same.
+fn in_library(
+    name: &'static str,
+    others: &'static str,
+    entry_point: &'static str,
+    asked: &'static str,
+    bytes: usize,
+    ready: impl Fn() -> Vec<Box<dyn Work>> + 'static,
+) -> Job {
+    Job { versions: vec![others, entry_point], ..job(name, entry_point, asked, bytes, ready) }
 }
 
 /// A job on a torrent of one shape, asked for the ratio if it is the ordinary one.
@@ -62,18 +80,13 @@ fn on_torrent(shape: &shapes::Shape, entry_point: &'static str, ready: fn(Vec<u8
     let (make, number) = (shape.make, shape.number);
     let asked = if shape.name == shapes::ORDINARY { "3.0" } else { "" };
     let job = job(shape.name, entry_point, asked, 1 << 20, move || ready(make(), number));
-    Job { name: format!("{}:{}", &entry_point["kd_torrent_".len()..], shape.name), has_careful: false, ..job }
+    let name = format!("{}:{}", &entry_point["kd_torrent_".len()..], shape.name);
+    Job { name, versions: vec!["plain-rust", entry_point], ..job }
 }
 
 impl Job {
     fn not_counted(self) -> Job {
         Job { is_counted: false, ..self }
-    }
-
-    /// The names of the versions, in their order.
-    pub fn versions(&self) -> Vec<&'static str> {
-        let all = ["plain-rust", "careful-rust", self.entry_point];
-        all.into_iter().filter(|version| self.has_careful || *version != "careful-rust").collect()
     }
 }
 
@@ -95,6 +108,81 @@ fn hashing(size: usize) -> Vec<Box<dyn Work>> {
         |hash: Sha256| work((hash, bytes(size)), |_| (), |(hash, data)| _ = black_box(hash(black_box(data))));
     let by_library: Sha256 = |data| boundary::sha256(data).hash.bytes;
     IN_RUST.into_iter().chain([by_library]).map(of_version).collect()
+}
+
+/// SHA-256 in bursts of 16 KiB, against the same bytes at once.
+fn bursts() -> Vec<Box<dyn Work>> {
+    let at_once: Sha256 = |data| boundary::sha256(data).hash.bytes;
+    let in_bursts: Sha256 = |data| {
+        let begun = boundary::hashing_begin();
+        let state = data.chunks(16384).fold(begun, |state, burst| boundary::hashing_more(state, burst).state);
+        boundary::hashing_end(state).hash.bytes
+    };
+    let of_version =
+        |hash: Sha256| work((hash, bytes(1 << 20)), |_| (), |(hash, data)| _ = black_box(hash(black_box(data))));
+    [at_once, in_bursts].map(of_version).into()
+}
+
+/// A thousand bursts of a byte that complete no block, against none.
+fn one_byte() -> Vec<Box<dyn Work>> {
+    let once = || {
+        work(
+            boundary::hashing_begin(),
+            |_| (),
+            |state| {
+                for _ in 0..1000 {
+                    black_box(boundary::hashing_more(black_box(*state), black_box(b"x")));
+                }
+            },
+        )
+    };
+    vec![work((), |_| (), |_| ()), once()]
+}
+
+const LOGGED: usize = 16 << 20;
+const LOGGED_PIECE: usize = 1 << 20;
+
+/// A history of 16 MiB in bursts of 4 KiB, against its blocks and pairs hashed one by one.
+fn logging() -> Vec<Box<dyn Work>> {
+    let one_by_one = work(
+        bytes(LOGGED),
+        |_| (),
+        |data| {
+            let mut row: Vec<Hash> = data.chunks(16384).map(|block| boundary::sha256(block).hash.bytes).collect();
+            while row.len() > 1 {
+                row = row.chunks(2).map(|pair| boundary::sha256(&pair.concat()).hash.bytes).collect();
+            }
+            black_box(row);
+        },
+    );
+    let in_bursts = work(
+        (bytes(LOGGED), vec![0; 32 * LOGGED / LOGGED_PIECE]),
+        |_| (),
+        |(data, layer)| {
+            let mut state = boundary::history_begin(LOGGED_PIECE as u64).state;
+            for burst in data.chunks(4096) {
+                state = boundary::history_more(state, burst, layer).state;
+            }
+            assert_eq!(black_box(boundary::history_end(state, layer)).length, LOGGED as u64);
+        },
+    );
+    vec![one_by_one, in_bursts]
+}
+
+/// A thousand bursts of a byte, each from the empty history, against none.
+fn one_byte_logged() -> Vec<Box<dyn Work>> {
+    let once = || {
+        work(
+            boundary::history_begin(16384).state,
+            |_| (),
+            |state| {
+                for _ in 0..1000 {
+                    black_box(boundary::history_more(black_box(*state), black_box(b"x"), &mut []));
+                }
+            },
+        )
+    };
+    vec![work((), |_| (), |_| ()), once()]
 }
 
 /// A store in plain Rust with what a job needs beside it.

@@ -31,19 +31,19 @@ fn find(name: &str) -> Job {
 /// A job's name, the ratio asked or `-`, its versions.
 fn names(job: &Job) {
     let asked = if job.asked.is_empty() { "-" } else { job.asked };
-    println!("{} {asked} {}", job.name, job.versions().join(" "));
+    println!("{} {asked} {}", job.name, job.versions.join(" "));
 }
 
 fn once(job: &Job, version: &str) {
     let mut versions = (job.ready)();
-    let at = job.versions().iter().position(|name| *name == version).expect("a version's name");
+    let at = job.versions.iter().position(|name| *name == version).expect("a version's name");
     versions[at].run();
 }
 
 /// One line for each version: job, version, ns, MB/s, ratio, and the ratio asked for.
 fn table(job: &Job) {
     let best = measure::best_of_rounds(&mut (job.ready)());
-    for (version, time) in job.versions().iter().zip(&best) {
+    for (version, time) in job.versions.iter().zip(&best) {
         let speed = job.bytes as f64 / time * 1000.0;
         let is_ours = *version == job.entry_point;
         let asked = if is_ours { job.asked } else { "" };

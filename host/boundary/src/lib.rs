@@ -4,10 +4,36 @@
 
 mod raw;
 
-pub use raw::{Answer, File, Hash, Hashed, Part, Torrent};
+pub use raw::{
+    Answer, File, Hash, Hashed, Hashing, HashingAnswer, History, HistoryAnswer, HistoryEnd, Part, Torrent, NODES,
+};
 
 pub fn sha256(data: &[u8]) -> Hashed {
     unsafe { raw::kd_sha256(data.as_ptr(), data.len()) }
+}
+
+pub fn hashing_begin() -> Hashing {
+    unsafe { raw::kd_hashing_begin() }
+}
+
+pub fn hashing_more(state: Hashing, data: &[u8]) -> HashingAnswer {
+    unsafe { raw::kd_hashing_more(state, data.as_ptr(), data.len()) }
+}
+
+pub fn hashing_end(state: Hashing) -> Hashed {
+    unsafe { raw::kd_hashing_end(state) }
+}
+
+pub fn history_begin(piece_length: u64) -> HistoryAnswer {
+    unsafe { raw::kd_history_begin(piece_length) }
+}
+
+pub fn history_more(state: History, data: &[u8], layer: &mut [u8]) -> HistoryAnswer {
+    unsafe { raw::kd_history_more(state, data.as_ptr(), data.len(), layer.as_mut_ptr(), layer.len()) }
+}
+
+pub fn history_end(state: History, layer: &mut [u8]) -> HistoryEnd {
+    unsafe { raw::kd_history_end(state, layer.as_mut_ptr(), layer.len()) }
 }
 
 pub fn store_size(length: u64, piece_length: u64) -> Answer {

@@ -50,6 +50,50 @@ pub struct Part {
     pub size: u64,
 }
 
+#[repr(C)]
+#[derive(Clone, Copy, Debug, PartialEq, Eq)]
+pub struct Hashing {
+    pub words: [u32; 8],
+    pub tail: [u8; 64],
+    pub tail_size: u64,
+    pub total: u64,
+}
+
+#[repr(C)]
+#[derive(Clone, Copy, Debug, PartialEq, Eq)]
+pub struct HashingAnswer {
+    pub number: u32,
+    pub state: Hashing,
+}
+
+/// `KD_NODES`
+pub const NODES: usize = 17;
+
+#[repr(C)]
+#[derive(Clone, Copy, Debug, PartialEq, Eq)]
+pub struct History {
+    pub piece_length: u64,
+    pub length: u64,
+    pub block: Hashing,
+    pub nodes: [u8; 32 * NODES],
+}
+
+#[repr(C)]
+#[derive(Clone, Copy, Debug, PartialEq, Eq)]
+pub struct HistoryAnswer {
+    pub number: u32,
+    pub state: History,
+}
+
+#[repr(C)]
+#[derive(Clone, Copy, Debug, PartialEq, Eq)]
+pub struct HistoryEnd {
+    pub number: u32,
+    pub length: u64,
+    pub root: Hash,
+    pub layer_size: u64,
+}
+
 // The same sizes and offsets that the C test asserts of the header.
 const _: () = {
     assert!(size_of::<Hash>() == 32);
@@ -60,11 +104,31 @@ const _: () = {
     assert!(size_of::<File>() == 72 && offset_of!(File, length) == 8 && offset_of!(File, root) == 16);
     assert!(offset_of!(File, elements) == 48 && offset_of!(File, layer_start) == 56);
     assert!(offset_of!(File, layer_size) == 64);
+    assert!(size_of::<Hashing>() == 112 && offset_of!(Hashing, tail) == 32);
+    assert!(offset_of!(Hashing, tail_size) == 96 && offset_of!(Hashing, total) == 104);
+    assert!(size_of::<HashingAnswer>() == 120 && offset_of!(HashingAnswer, state) == 8);
+    assert!(size_of::<History>() == 128 + 32 * NODES && offset_of!(History, length) == 8);
+    assert!(offset_of!(History, block) == 16 && offset_of!(History, nodes) == 128);
+    assert!(size_of::<HistoryAnswer>() == 136 + 32 * NODES && offset_of!(HistoryAnswer, state) == 8);
+    assert!(size_of::<HistoryEnd>() == 56 && offset_of!(HistoryEnd, length) == 8);
+    assert!(offset_of!(HistoryEnd, root) == 16 && offset_of!(HistoryEnd, layer_size) == 48);
     assert!(size_of::<Part>() == 24 && offset_of!(Part, start) == 8 && offset_of!(Part, size) == 16);
 };
 
 extern "C" {
     pub fn kd_sha256(data: *const u8, size: usize) -> Hashed;
+    pub fn kd_hashing_begin() -> Hashing;
+    pub fn kd_hashing_more(state: Hashing, data: *const u8, size: usize) -> HashingAnswer;
+    pub fn kd_hashing_end(state: Hashing) -> Hashed;
+    pub fn kd_history_begin(piece_length: u64) -> HistoryAnswer;
+    pub fn kd_history_more(
+        state: History,
+        data: *const u8,
+        size: usize,
+        layer: *mut u8,
+        layer_size: usize,
+    ) -> HistoryAnswer;
+    pub fn kd_history_end(state: History, layer: *mut u8, layer_size: usize) -> HistoryEnd;
     pub fn kd_store_size(length: u64, piece_length: u64) -> Answer;
     pub fn kd_open(store: *mut u8, size: usize, length: u64, piece_length: u64, root: Hash) -> Answer;
     pub fn kd_held(store: *const u8, size: usize, layer: u64, index: u64) -> Hashed;

@@ -22,10 +22,12 @@
 
 mod answer;
 pub mod limits;
+mod running;
 mod store;
 mod torrent;
 
 pub use answer::Answer;
+pub use running::{Hashing, History, Logged};
 pub use store::{store_size, Served, Store};
 pub use torrent::{File, List, Listed, Torrent};
 

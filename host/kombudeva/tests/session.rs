@@ -1,6 +1,6 @@
 //! The session of document 01 through the binding, on five blocks in pieces of four. The tree is made by host/reference.
 
-use kombudeva::{sha256, store_size, Answer, Store, Torrent};
+use kombudeva::{sha256, store_size, Answer, Hashing, History, Store, Torrent};
 use reference::limits::BLOCK;
 use reference::messages::{Header, HASHES, REJECT, REQUEST};
 use reference::tree::{of_file, Position};
@@ -200,4 +200,33 @@ fn from_the_torrent_to_the_store() {
     let mut store = Store::open(&mut memory, file.length, torrent.piece_length, file.root).done().unwrap();
     // Four pieces, that is layers 1, 2 and 3 of seven blocks, the root held before.
     assert_eq!(store.load_layer(file.layer), Answer::Done(6));
+}
+
+/// A file that is logged in bursts, published on the way, and believed by a store opened with what was published.
+#[test]
+fn a_history_is_logged_and_loaded() {
+    let file: Vec<u8> = (0..100_000u32).map(|i| (i * 7 + i / 251) as u8).collect();
+    let mut layer = [0xaa; 4 * 32];
+    let mut history = History::begin(32768, &mut layer).done().unwrap();
+    assert_eq!(History::begin(5, &mut []).number(), 10);
+    let mut hashing = Hashing::begin();
+    for (number, burst) in file.chunks(999).enumerate() {
+        assert_eq!(history.more(burst), Answer::Done(()));
+        assert_eq!(hashing.more(burst), Answer::Done(()));
+        if number % 40 == 0 {
+            let so_far = history.end().done().unwrap();
+            assert_eq!(so_far.length as usize, (number + 1) * 999);
+        }
+    }
+    assert_eq!(Answer::Done(hashing.end()), sha256(&file));
+    let logged = history.end().done().unwrap();
+    assert_eq!((logged.length, logged.layer.len()), (100_000, 4 * 32));
+    let mut memory = vec![0; store_size(logged.length, 32768).done().unwrap() as usize];
+    let mut store = Store::open(&mut memory, logged.length, 32768, logged.root).done().unwrap();
+    assert_eq!(store.load_layer(logged.layer), Answer::Done(6));
+    for (piece, bytes) in file.chunks(32768).enumerate() {
+        assert_eq!(store.judge_piece(piece as u64, bytes), Answer::Done(0));
+    }
+    assert_eq!(history.more(&file[..65536]), Answer::NoRoom);
+    assert_eq!(history.length(), 100_000);
 }

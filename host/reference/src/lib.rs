@@ -8,11 +8,13 @@
 #![forbid(unsafe_code)]
 
 pub mod bencode;
+pub mod history;
 pub mod limits;
 pub mod messages;
 pub mod number;
 pub mod pieces;
 pub mod replay;
+pub mod running;
 pub mod sha256;
 pub mod store;
 pub mod torrent;

@@ -11,6 +11,11 @@ pub fn sha256(message: &[u8]) -> Hash {
     for block in message[..whole].chunks_exact(64).chain(last[..size].chunks_exact(64)) {
         state = compress(state, block);
     }
+    digest(state)
+}
+
+/// The words of a state as bytes.
+pub fn digest(state: [u32; 8]) -> Hash {
     let mut hash = [0; 32];
     for (bytes, word) in hash.chunks_exact_mut(4).zip(state) {
         bytes.copy_from_slice(&word.to_be_bytes());
@@ -28,7 +33,7 @@ pub fn pair(left: &Hash, right: &Hash) -> Hash {
 
 /// The rest of the message with its padding (section 5.1.1): a one bit, zeros, the length in bits. One block or two, with
 /// their size.
-fn last_blocks(rest: &[u8], bytes: usize) -> ([u8; 128], usize) {
+pub fn last_blocks(rest: &[u8], bytes: usize) -> ([u8; 128], usize) {
     let mut padded = [0; 128];
     padded[..rest.len()].copy_from_slice(rest);
     padded[rest.len()] = 0x80;
@@ -38,7 +43,7 @@ fn last_blocks(rest: &[u8], bytes: usize) -> ([u8; 128], usize) {
 }
 
 /// One block into the state (section 6.2.2).
-fn compress(state: [u32; 8], block: &[u8]) -> [u32; 8] {
+pub fn compress(state: [u32; 8], block: &[u8]) -> [u32; 8] {
     let mut w = [0u32; 64];
     for (word, bytes) in w.iter_mut().zip(block.chunks_exact(4)) {
         *word = u32::from_be_bytes([bytes[0], bytes[1], bytes[2], bytes[3]]);

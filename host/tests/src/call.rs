@@ -1,5 +1,10 @@
 //! A call of an entry point as a value, so that any library can be asked it, and a difference can be made small.
 
+use crate::states::{
+    from_hashing, from_history, hashing_bytes, hashing_of, history_bytes, history_of, to_hashing, to_history,
+};
+use reference::history::{End, History};
+use reference::running::Hashing;
 use reference::sha256::{sha256, Hash};
 use reference::torrent::{File, Part, Torrent};
 use reference::{messages, pieces, store, torrent, Answer, Hashed};
@@ -8,6 +13,12 @@ use std::hint::black_box;
 #[derive(Clone, Copy, Debug, PartialEq, Eq, PartialOrd, Ord)]
 pub enum Entry {
     Sha256,
+    HashingBegin,
+    HashingMore,
+    HashingEnd,
+    HistoryBegin,
+    HistoryMore,
+    HistoryEnd,
     StoreSize,
     Open,
     Held,
@@ -27,6 +38,12 @@ impl Entry {
     pub fn name(self) -> &'static str {
         match self {
             Entry::Sha256 => "kd_sha256",
+            Entry::HashingBegin => "kd_hashing_begin",
+            Entry::HashingMore => "kd_hashing_more",
+            Entry::HashingEnd => "kd_hashing_end",
+            Entry::HistoryBegin => "kd_history_begin",
+            Entry::HistoryMore => "kd_history_more",
+            Entry::HistoryEnd => "kd_history_end",
             Entry::StoreSize => "kd_store_size",
             Entry::Open => "kd_open",
             Entry::Held => "kd_held",
@@ -48,9 +65,11 @@ impl Entry {
 #[derive(Clone, Debug, PartialEq, Eq)]
 pub struct Call {
     pub entry: Entry,
+    /// The store, or the bytes of a state: any bytes are one.
     pub store: Vec<u8>,
-    /// The message, layer, block, piece, torrent or string.
+    /// The message, layer, block, piece, torrent, string or burst.
     pub input: Vec<u8>,
+    /// The output, or the layer lent to a history.
     pub out: Vec<u8>,
     /// The numbers among the arguments, in their order.
     pub numbers: [u64; 2],
@@ -86,6 +105,9 @@ pub enum Given {
     Torrent(Torrent),
     File(File),
     Part(Part),
+    End(End),
+    /// Beside a state, which is left in the call's store.
+    State(u32),
 }
 
 impl Given {
@@ -96,6 +118,8 @@ impl Given {
             Given::Torrent(torrent) => torrent.number,
             Given::File(file) => file.number,
             Given::Part(part) => part.number,
+            Given::End(end) => end.number,
+            Given::State(number) => *number,
         }
     }
 
@@ -120,6 +144,21 @@ pub fn by_reference(call: &Call) -> Outcome {
     let Call { mut store, input, mut out, numbers: [first, second], root, entry } = call.clone();
     let given = match entry {
         Entry::Sha256 => Given::Hashed(Hashed::done(sha256(&input))),
+        Entry::HashingBegin => left(&mut store, 0, hashing_bytes(&Hashing::begin())),
+        Entry::HashingMore => {
+            let (number, after) = hashing_of(&store).more(&input);
+            left(&mut store, number, hashing_bytes(&after))
+        }
+        Entry::HashingEnd => Given::Hashed(hashing_of(&store).end()),
+        Entry::HistoryBegin => {
+            let (number, after) = History::begin(first);
+            left(&mut store, number, history_bytes(&after))
+        }
+        Entry::HistoryMore => {
+            let (number, after) = history_of(&store).more(&input, &mut out);
+            left(&mut store, number, history_bytes(&after))
+        }
+        Entry::HistoryEnd => Given::End(history_of(&store).end(&mut out)),
         Entry::StoreSize => Given::Answer(store::store_size(first, second)),
         Entry::Open => Given::Answer(store::open(&mut store, first, second, root)),
         Entry::Held => Given::Hashed(store::held(&store, first, second)),
@@ -135,6 +174,12 @@ pub fn by_reference(call: &Call) -> Outcome {
         Entry::TorrentList => Given::Answer(torrent::torrent_list(&input, &mut out)),
     };
     Outcome { given, store, input, out }
+}
+
+/// A state comes back beside the number.
+fn left(store: &mut [u8], number: u32, state: Vec<u8>) -> Given {
+    store.copy_from_slice(&state);
+    Given::State(number)
 }
 
 /// A memory between two fences, to see a byte written outside; the first one also puts it at an odd address.
@@ -170,6 +215,21 @@ pub fn by_library(call: &Call) -> Outcome {
     let (held_bytes, message, room) = (store.lent(), input.lent(), out.lent());
     let given = match call.entry {
         Entry::Sha256 => hashed(boundary::sha256(message)),
+        Entry::HashingBegin => left(held_bytes, 0, hashing_bytes(&to_hashing(boundary::hashing_begin()))),
+        Entry::HashingMore => {
+            let given = boundary::hashing_more(from_hashing(hashing_of(held_bytes)), message);
+            left(held_bytes, given.number, hashing_bytes(&to_hashing(given.state)))
+        }
+        Entry::HashingEnd => hashed(boundary::hashing_end(from_hashing(hashing_of(held_bytes)))),
+        Entry::HistoryBegin => {
+            let given = boundary::history_begin(first);
+            left(held_bytes, given.number, history_bytes(&to_history(given.state)))
+        }
+        Entry::HistoryMore => {
+            let given = boundary::history_more(from_history(history_of(held_bytes)), message, room);
+            left(held_bytes, given.number, history_bytes(&to_history(given.state)))
+        }
+        Entry::HistoryEnd => end_of(boundary::history_end(from_history(history_of(held_bytes)), room)),
         Entry::StoreSize => answer(boundary::store_size(first, second)),
         Entry::Open => answer(boundary::open(held_bytes, first, second, boundary::Hash { bytes: call.root })),
         Entry::Held => hashed(boundary::held(held_bytes, first, second)),
@@ -217,4 +277,8 @@ fn file_of(given: boundary::File) -> Given {
 
 fn part_of(given: boundary::Part) -> Given {
     Given::Part(Part { number: given.number, start: given.start, size: given.size })
+}
+
+fn end_of(given: boundary::HistoryEnd) -> Given {
+    Given::End(End { number: given.number, length: given.length, root: given.root.bytes, layer_size: given.layer_size })
 }

@@ -1,6 +1,7 @@
 //! What the host tests share: inputs made by a rule or from a seed, calls as values, and the comparison of a library
 //! with the reference.
 
+pub mod bursts;
 pub mod call;
 pub mod compare;
 pub mod fillings;
@@ -8,5 +9,6 @@ pub mod random;
 pub mod replays;
 pub mod sessions;
 pub mod shapes;
+pub mod states;
 pub mod torrents;
 pub mod truth;

@@ -4,7 +4,8 @@
 use host_tests::call::{by_reference, Call, Entry, Given, Outcome};
 use host_tests::compare::{report, Comparison, Library};
 use host_tests::random::Random;
-use host_tests::{sessions, torrents};
+use host_tests::states::{hashing_bytes, hashing_of, history_bytes, history_of};
+use host_tests::{bursts, sessions, torrents};
 use reference::limits::RECORD;
 use reference::messages::{Header, HEAD};
 use reference::number::*;
@@ -30,6 +31,18 @@ fn torrents(library: Library<'_>) -> Comparison<'_> {
         compared.difference.is_none() && compared.compared < CASES
     });
     compared
+}
+
+fn bursts(library: Library<'_>) -> Comparison<'_> {
+    let mut compared = Comparison::new(library);
+    bursts::run(&mut Random::new(SEED), &mut compared, |compared| {
+        compared.difference.is_none() && compared.compared < CASES / 6
+    });
+    compared
+}
+
+fn assert_burst_found_out(name: &str, impostor: Library) {
+    assert!(bursts(impostor).difference.is_some(), "not found out: {name}");
 }
 
 fn assert_found_out(name: &str, impostor: Library) {
@@ -79,6 +92,82 @@ fn every_number_of_a_torrent_comes_up() {
         (Entry::TorrentList, &[&[0, 11], &refused[..]].concat()),
     ];
     assert_seen(&torrents(&by_reference), &expected);
+}
+
+#[test]
+fn every_number_of_the_running_forms_comes_up() {
+    let expected: [(Entry, &[u32]); 5] = [
+        (Entry::HashingMore, &[0, 4, 9]),
+        (Entry::HashingEnd, &[0, 9]),
+        (Entry::HistoryBegin, &[0, 10]),
+        (Entry::HistoryMore, &[0, 9, 10, 11]),
+        (Entry::HistoryEnd, &[0, 9, 11]),
+    ];
+    assert_seen(&bursts(&by_reference), &expected);
+}
+
+#[test]
+fn running_forms_that_are_wrong_in_one_way() {
+    assert_burst_found_out("what stood behind the tail is kept", &|call| match (call.entry, by_reference(call)) {
+        (Entry::HashingMore, mut outcome) if outcome.given.number() == DONE && call.input.is_empty() => {
+            outcome.store.clone_from(&call.store);
+            outcome
+        }
+        (_, outcome) => outcome,
+    });
+    assert_burst_found_out("a total modulo 64 in place of the total", &|call| match (call.entry, by_reference(call)) {
+        (Entry::HashingEnd, outcome) if outcome.given.number() == DONE => {
+            let mut state = hashing_of(&call.store);
+            state.total %= 64;
+            Outcome { given: Given::Hashed(state.end()), ..outcome }
+        }
+        (_, outcome) => outcome,
+    });
+    assert_burst_found_out("a piece's hash written at its boundary", &|call| match (call.entry, by_reference(call)) {
+        (Entry::HistoryMore, mut outcome) if outcome.given.number() == DONE => {
+            let state = history_of(&outcome.store);
+            let place = 32 * (state.length / state.piece_length) as usize;
+            if state.length % state.piece_length == 0 && place > 0 && place <= outcome.out.len() {
+                let layer = (state.piece_length / 16384).ilog2() as usize;
+                outcome.out[place - 32..place].copy_from_slice(&state.nodes[layer]);
+            }
+            outcome
+        }
+        (_, outcome) => outcome,
+    });
+    assert_burst_found_out("a burst without room leaves its first hashes", &|call| match (
+        call.entry,
+        by_reference(call),
+    ) {
+        (Entry::HistoryMore, mut outcome) if outcome.given.number() == NO_ROOM => {
+            outcome.out.iter_mut().take(32).for_each(|byte| *byte ^= 1);
+            outcome
+        }
+        (_, outcome) => outcome,
+    });
+    assert_burst_found_out(
+        "a finished piece forgotten as it is folded",
+        &|call| match (call.entry, by_reference(call)) {
+            (Entry::HistoryMore, mut outcome) if outcome.given.number() == DONE => {
+                let mut state = history_of(&outcome.store);
+                if state.length % 32768 == 0 {
+                    state.nodes[0] = [0; 32];
+                }
+                outcome.store = history_bytes(&state);
+                outcome
+            }
+            (_, outcome) => outcome,
+        },
+    );
+    assert_burst_found_out("a refused burst counted", &|call| match (call.entry, by_reference(call)) {
+        (Entry::HashingMore, mut outcome) if outcome.given.number() == WRONG_SIZE => {
+            let mut state = hashing_of(&outcome.store);
+            state.total += 1;
+            outcome.store = hashing_bytes(&state);
+            outcome
+        }
+        (_, outcome) => outcome,
+    });
 }
 
 fn assert_seen(compared: &Comparison, expected: &[(Entry, &[u32])]) {

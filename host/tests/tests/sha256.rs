@@ -1,4 +1,4 @@
-//! `kd_sha256` against the reference's SHA-256 and the vectors published with the standard.
+//! `kd_sha256` and its running form against the reference's SHA-256 and the vectors published with the standard.
 
 use host_tests::fillings::{filled, lengths, FILLINGS};
 use reference::sha256::sha256;
@@ -26,7 +26,16 @@ fn published_vectors() {
     ];
     for (text, expected) in vectors {
         assert_eq!(hex(text), expected, "{} bytes", text.len());
+        for burst in [1, 63, 64, 65] {
+            assert_eq!(hex_in_bursts(text, burst), expected, "{} bytes in bursts of {burst}", text.len());
+        }
     }
+}
+
+fn hex_in_bursts(text: &[u8], burst: usize) -> String {
+    let begun = boundary::hashing_begin();
+    let state = text.chunks(burst).fold(begun, |state, burst| boundary::hashing_more(state, burst).state);
+    boundary::hashing_end(state).hash.bytes.iter().map(|byte| format!("{byte:02x}")).collect()
 }
 
 #[test]

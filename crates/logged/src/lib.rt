@@ -1,0 +1,1 @@
+// No code: what a logged history is to a store.

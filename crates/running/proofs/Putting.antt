@@ -1,0 +1,44 @@
+-- One turn of a copying loop, at the code's i + 1, and what the whole copy is; the tail array from its two copies.
+-- Assumes nothing.
+use mathlib.Core.Path.{_≡_, ap, ap₂, sym, _∙_}
+use mathlib.Core.List.{List, _++_}
+use Prim.Native.Nat.{ℕ, _+_, _-_, _≤_, _<_}
+use native.Mathlib.Numerals.{add-one}
+use native.Mathlib.Omega.{arith}
+use lib.ListN.{length, take, drop, getD, set, replicate, length-append, length-replicate, replicate-append-replicate}
+use lib.Seq.{paste, paste-suc, take-all, drop-at, length-take-le}
+use Rattle.octets.specs.Octets.{pasted}
+use Rattle.octets.specs.OctetsLaws.{pasted-append}
+use Rattle.running.specs.Bursts.{tailArray}
+
+pub turn : (d d' : List ℕ) (at : ℕ) (s : List ℕ) (j : ℕ) → d' ≡ paste d at s j → at + j < length d → j < length s
+    → set d' (at + j) (getD s j 0) ≡ paste d at s (j + 1)
+turn d d' at s j e hd hs = rw (e, add-one) (paste-suc d at s j 0 hd hs)
+
+-- a copy of all that s has
+pub whole : (d d' : List ℕ) (at : ℕ) (s : List ℕ) (j : ℕ) → d' ≡ paste d at s j → length s ≤ j → j ≤ length s → d' ≡ pasted d at s
+unfolding pasted
+whole d d' at s j e l k =
+    let q : j ≡ length s = omega arith in
+    rw (e, q) (ap (λ (t : List ℕ). take at d ++ t ++ drop (at + length s) d) (take-all (length s) s (omega arith)))
+
+-- zeros behind the first m of n zeros
+zeros-behind : (n m : ℕ) → m ≤ n → drop {A = ℕ} m (replicate n 0) ≡ replicate (n - m) 0
+zeros-behind n m h =
+    let e : m + (n - m) ≡ n = omega arith in
+    ap (λ (k : ℕ). drop m (replicate {A = ℕ} k 0)) (sym e)
+    ∙ ap (drop m) (sym (replicate-append-replicate {A = ℕ} m (n - m) 0))
+    ∙ drop-at (replicate m 0) (replicate (n - m) 0) m (length-replicate {A = ℕ} m 0)
+
+pub filled-law : (t s b c : List ℕ) (n : ℕ) → length t ≡ 64 → n + length s ≤ 64
+    → b ≡ pasted (replicate 64 0) 0 (take n t) → c ≡ pasted b n s → c ≡ tailArray (take n t ++ s)
+filled-law t s b c n lt h eb ec =
+    let lz : length {A = ℕ} (replicate 64 0) ≡ 64 = length-replicate {A = ℕ} 64 0 in
+    let ln : length (take n t) ≡ n = length-take-le n t (omega arith) in
+    let e : 0 + length (take n t) ≡ n = omega arith in
+    ec ∙ ap₂ (λ (x : List ℕ) (k : ℕ). pasted x k s) eb (sym e)
+    ∙ pasted-append (replicate 64 0) 0 (take n t) s (omega arith)
+    ∙ front (take n t ++ s) (omega (arith, length-append (take n t) s))
+  where
+    front : (u : List ℕ) → length u ≤ 64 → pasted (replicate 64 0) 0 u ≡ tailArray u
+    front u g = unfold pasted tailArray in ap (λ (x : List ℕ). u ++ x) (zeros-behind 64 (0 + length u) (omega arith) ∙ (let z : 64 - (0 + length u) ≡ 64 - length u = omega arith in ap (λ (k : ℕ). replicate k 0) z))

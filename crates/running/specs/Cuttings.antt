@@ -1,0 +1,77 @@
+-- 02, request 1, as theorems: however a string is cut into bursts, empty ones included, none of them refused, the end is its hash.
+-- Assumes nothing.
+use mathlib.Core.Path.{_≡_, ap, sym, _∙_}
+use mathlib.Core.List.{List, [], _∷_, _++_, append-assoc, append-nil}
+use Prim.Native.Nat.{ℕ, _+_, _^_, _≤_, _<_}
+use native.Mathlib.Omega.{arith}
+use native.Mathlib.Decide.{decLt}
+use lib.ListN.{length, length-append}
+use Rattle.numbers.specs.Numbers.{wrongSize}
+use Rattle.sha256.specs.Sha256.{sha256}
+use Rattle.running.specs.Bursts.{stateOf, moreAnswer, endAnswer}
+use Rattle.running.specs.BurstsLaws.{absorbed-more, hash-of-state, state-possible, state-total, more-done, more-long, end-done}
+use Rattle.running.specs.declared.Hashing.{Hashing}
+use Rattle.running.specs.declared.HashingAnswer.{HashingAnswer}
+
+-- the bursts one after the other, as one string
+unfoldable pub joined : List (List ℕ) → List ℕ
+joined [] = []
+joined (b ∷ bs) = b ++ joined bs
+
+-- the state after all of them, each given what the one before handed back
+unfoldable pub afterAll : Hashing → List (List ℕ) → Hashing
+afterAll s [] = s
+afterAll s (b ∷ bs) = afterAll (moreAnswer s b .hashing) bs
+
+-- none of them is refused
+unfoldable pub AllTaken : Hashing → List (List ℕ) → Type 0
+AllTaken s [] = Unit
+AllTaken s (b ∷ bs) = (moreAnswer s b .number ≡ 0) × AllTaken (moreAnswer s b .hashing) bs
+
+-- a burst from the state of xs
+pub taken-from : (xs b : List ℕ) → length xs + length b < 2 ^ 61 → moreAnswer (stateOf xs) b ≡ record { number = 0; hashing = stateOf (xs ++ b) }
+taken-from xs b l = sym (more-done (stateOf xs) (stateOf (xs ++ b)) b (state-possible xs (omega arith)) (omega (arith, state-total xs)) (sym (absorbed-more xs b)))
+
+-- 4 exactly past 2^61 - 1, and the state as it was given
+pub refused-from : (xs b : List ℕ) → length xs < 2 ^ 61 → 2 ^ 61 ≤ length xs + length b → moreAnswer (stateOf xs) b ≡ record { number = wrongSize; hashing = stateOf xs }
+refused-from xs b k l = sym (more-long (stateOf xs) b (state-possible xs k) (omega (arith, state-total xs)))
+
+-- from the state of xs, bursts none of which is refused lead to the state of all
+pub after-all : (xs : List ℕ) (bs : List (List ℕ)) → length xs < 2 ^ 61 → AllTaken (stateOf xs) bs
+    → (afterAll (stateOf xs) bs ≡ stateOf (xs ++ joined bs)) × (length (xs ++ joined bs) < 2 ^ 61)
+unfolding afterAll AllTaken joined
+after-all xs [] l t = (ap stateOf (sym (append-nil xs)), rw append-nil l)
+after-all xs (b ∷ bs) l t = by-size (decLt (length xs + length b) (2 ^ 61)) (after-all (xs ++ b) bs)
+  where
+    by-size : Dec (length xs + length b < 2 ^ 61)
+        → (length (xs ++ b) < 2 ^ 61 → AllTaken (stateOf (xs ++ b)) bs → (afterAll (stateOf (xs ++ b)) bs ≡ stateOf ((xs ++ b) ++ joined bs)) × (length ((xs ++ b) ++ joined bs) < 2 ^ 61))
+        → (afterAll (moreAnswer (stateOf xs) b .hashing) bs ≡ stateOf (xs ++ (b ++ joined bs))) × (length (xs ++ (b ++ joined bs)) < 2 ^ 61)
+    by-size (yes k) go =
+        let e = taken-from xs b k in
+        let s : moreAnswer (stateOf xs) b .hashing ≡ stateOf (xs ++ b) = ap (λ (a : HashingAnswer). a .hashing) e in
+        let r = go (omega (arith, length-append xs b)) (rw s at (t .1)) in
+        (ap (λ (h : Hashing). afterAll h bs) s ∙ r .0 ∙ ap stateOf (append-assoc xs b (joined bs)), rw (← append-assoc) (r .1))
+    by-size (no g) go =
+        let e : moreAnswer (stateOf xs) b .number ≡ wrongSize = ap (λ (a : HashingAnswer). a .number) (refused-from xs b l (omega arith)) in
+        absurd (omega (arith, e, t .0))
+
+-- the end is the hash of all
+pub any-cutting : (bs : List (List ℕ)) → AllTaken (stateOf []) bs → endAnswer (afterAll (stateOf []) bs) ≡ record { number = 0; hash = sha256 (joined bs) }
+any-cutting bs t =
+    let r = after-all [] bs (omega arith) t in
+    ap endAnswer (r .0) ∙ sym (end-done (stateOf (joined bs)) (sha256 (joined bs)) (state-possible (joined bs) (r .1)) (sym (hash-of-state (joined bs))))
+
+-- and two cuttings of one string end in the same state
+pub same-state : (cs bs : List (List ℕ)) → joined cs ≡ joined bs → AllTaken (stateOf []) cs → AllTaken (stateOf []) bs
+    → afterAll (stateOf []) cs ≡ afterAll (stateOf []) bs
+same-state cs bs e t u = after-all [] cs (omega arith) t .0 ∙ ap stateOf e ∙ sym (after-all [] bs (omega arith) u .0)
+
+-- no burst is refused while all of them together are a string that SHA-256 takes
+pub all-taken : (xs : List ℕ) (bs : List (List ℕ)) → length (xs ++ joined bs) < 2 ^ 61 → AllTaken (stateOf xs) bs
+unfolding AllTaken joined
+all-taken xs [] l = tt
+all-taken xs (b ∷ bs) l =
+    let k : length xs + length b < 2 ^ 61 = omega (arith, length-append xs (b ++ joined bs), length-append b (joined bs)) in
+    let e = taken-from xs b k in
+    let s : moreAnswer (stateOf xs) b .hashing ≡ stateOf (xs ++ b) = ap (λ (a : HashingAnswer). a .hashing) e in
+    (ap (λ (a : HashingAnswer). a .number) e, rw s (all-taken (xs ++ b) bs (rw append-assoc l)))

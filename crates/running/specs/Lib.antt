@@ -1,0 +1,3 @@
+pub mod Bursts
+pub mod BurstsLaws
+pub mod Cuttings

@@ -1,0 +1,178 @@
+// SHA-256 of bytes that come in bursts. A state goes in by value, and comes back after each burst.
+ghost use mathlib.Core.Path.{_≡_};
+ghost use mathlib.Core.List.{[], _++_};
+ghost use Prim.Native.Nat.{_+_, _≤_, _<_, _%_, _^_};
+ghost use lib.ListN.{length, take};
+ghost use Rattle.octets.specs.Octets.{pasted};
+ghost use Rattle.running.specs.Bursts as B;
+use rounds::State;
+use sha256::Hashed;
+
+// kd_hashing: the words after the whole blocks so far, the bytes past those, how many these are, and how many bytes came in all.
+#[repr(C)]
+pub struct Hashing {
+    pub words: [u32; 8],
+    pub tail: [u8; 64],
+    pub tail_size: u64,
+    pub total: u64,
+}
+
+// kd_hashing_answer: a number, and the state after the burst; beside a refusal the state as it was given.
+#[repr(C)]
+pub struct HashingAnswer {
+    pub number: u32,
+    pub hashing: Hashing,
+}
+
+fn to_words(s: State) -> [u32; 8]
+    ensures { λ r. ⌜ r ≡ B.toWords s ⌝ }
+{
+    [s.a, s.b, s.c, s.d, s.e, s.f, s.g, s.h]
+}
+
+fn from_words(w: [u32; 8]) -> State
+    ensures { λ r. ⌜ r ≡ B.fromWords w ⌝ }
+{
+    State {
+        a: w[0],
+        b: w[1],
+        c: w[2],
+        d: w[3],
+        e: w[4],
+        f: w[5],
+        g: w[6],
+        h: w[7],
+    }
+}
+
+// s into b from `at` on.
+fn put(b: &mut [u8; 64], at: usize, s: &[u8])
+    requires { ⌜ (at + length (now s) ≤ 64) × (length (now b) ≡ 64) ⌝ }
+    ensures { λ _. ⌜ now (b .exit) ≡ pasted (now (b .entry)) at (now (s .entry)) ⌝ }
+{
+    let mut i: usize = 0;
+    while i < s.len() {
+        b[at + i] = s[i];
+        i += 1;
+    }
+}
+
+// No bytes yet.
+pub fn begin() -> Hashing
+    ensures { λ r. ⌜ r ≡ B.stateOf [] ⌝ }
+{
+    let words = to_words(sha256::start());
+    let tail = [0u8; 64];
+    Hashing {
+        words,
+        tail,
+        tail_size: 0,
+        total: 0,
+    }
+}
+
+// Whether some bursts give such counts.
+pub fn is_possible(tail_size: u64, total: u64) -> bool
+    ensures { λ r. ⌜ r ≡ B.possible «tail_size» total ⌝ }
+{
+    if total < 0x2000_0000_0000_0000 {
+        return tail_size == total % 64;
+    }
+    false
+}
+
+// The first n bytes of the tail and then s, with zeros behind.
+fn filled(tail: [u8; 64], n: usize, s: &[u8]) -> [u8; 64]
+    requires { ⌜ n + length (now s) ≤ 64 ⌝ }
+    ensures { λ r. ⌜ r ≡ B.tailArray (take n tail ++ now (s .entry)) ⌝ }
+{
+    let mut b = [0u8; 64];
+    put(&mut b, 0, &tail[0..n]);
+    put(&mut b, n, s);
+    b
+}
+
+// The state after a burst s.
+pub fn absorb(h: Hashing, s: &[u8]) -> Hashing
+    requires { ⌜ (h .«tail_size» ≡ h .total % 64) × (h .total + length (now s) < 2 ^ 64) ⌝ }
+    ensures { λ r. ⌜ (r ≡ B.absorbed h (now (s .entry))) × (r .«tail_size» ≡ r .total % 64) ⌝ }
+{
+    let n = h.tail_size as usize;
+    let total = h.total + s.len() as u64;
+    let room = 64 - n;
+    let words = h.words;
+    let old = h.tail;
+    if s.len() < room {
+        let tail = filled(old, n, s);
+        return Hashing {
+            words,
+            tail,
+            tail_size: (n + s.len()) as u64,
+            total,
+        };
+    }
+    let first = filled(old, n, &s[0..room]);
+    let k = constants::round_words();
+    let t = rounds::compress(from_words(words), &k, &first, 0);
+    let rest = &s[room..];
+    let u = sha256::whole_blocks(t, &k, rest);
+    let at = rest.len() - rest.len() % 64;
+    let left = &rest[at..];
+    let waiting = filled(old, 0, left);
+    Hashing {
+        words: to_words(u),
+        tail: waiting,
+        tail_size: left.len() as u64,
+        total,
+    }
+}
+
+// The hash of the bytes so far.
+pub fn hash_of(h: Hashing) -> [u8; 32]
+    requires { ⌜ h .«tail_size» ≡ h .total % 64 ⌝ }
+    ensures { λ r. ⌜ r ≡ B.hashOf h ⌝ }
+{
+    let k = constants::round_words();
+    let n = (h.total % 64) as usize;
+    let words = h.words;
+    let tail = h.tail;
+    sha256::digest(sha256::finish(from_words(words), &k, &tail[0..n], h.total))
+}
+
+// Takes a burst s: 9 for counts that no bursts give, 4 past 2^61 - 1 bytes, else 0 and the state after it.
+pub fn more(h: Hashing, s: &[u8]) -> HashingAnswer
+    ensures { λ r. ⌜ r ≡ B.moreAnswer h (now (s .entry)) ⌝ }
+{
+    if is_possible(h.tail_size, h.total) {
+        let left = 0x2000_0000_0000_0000 - h.total;
+        if (s.len() as u64) < left {
+            return HashingAnswer {
+                number: 0,
+                hashing: absorb(h, s),
+            };
+        }
+        return HashingAnswer {
+            number: numbers::WRONG_SIZE,
+            hashing: h,
+        };
+    }
+    HashingAnswer {
+        number: numbers::UNUSABLE,
+        hashing: h,
+    }
+}
+
+// The hash of the bytes so far; 9 for counts that no bursts give. The state is a copy: it may go on.
+pub fn end(h: Hashing) -> Hashed
+    ensures { λ r. ⌜ r ≡ B.endAnswer h ⌝ }
+{
+    if is_possible(h.tail_size, h.total) {
+        let hash = hash_of(h);
+        return Hashed { number: 0, hash };
+    }
+    let none = [0u8; 32];
+    Hashed {
+        number: numbers::UNUSABLE,
+        hash: none,
+    }
+}
