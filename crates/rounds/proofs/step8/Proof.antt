@@ -1,4 +1,4 @@
-use Rattle.rounds.proofs.Schedule.{rounds-at}
+use Rattle.rounds.proofs.Schedule.{summed-at}
 use native.Mathlib.Omega.{arith}
 use Prim.Native.Nat.{_+_, _-_}
 use borrow.Author.Needs.{needs}
@@ -51,20 +51,17 @@ step-requires-8 : tie.Need-step-requires-8
 step-requires-8 c κs = search needs
 
 returns : tie.Need-returns
-returns c =
-    λ z h.
-    let k = c .before .before .before .before .before .before .before .before .args .k .now in
-    let w = c .before .before .before .before .before .before .before .before .args .w .now in
+returns c = λ z h.
+    let x = c .before .before .before .before .before .before .before .before .args .x .now in
     let i = c .before .before .before .before .before .before .before .before .args .i in
     let h1 = c .before .before .before .before .before .before .before .step .ensures z h in
-    let h2 = rounds-at k w z (i + 1 + 1) (i + 2) (c .before .before .before .before .before .before .step2 .ensures z h1) (omega arith) in
-    let h3 = rounds-at k w z (i + 2 + 1) (i + 3) (c .before .before .before .before .before .step3 .ensures z h2) (omega arith) in
-    let h4 = rounds-at k w z (i + 3 + 1) (i + 4) (c .before .before .before .before .step4 .ensures z h3) (omega arith) in
-    let h5 = rounds-at k w z (i + 4 + 1) (i + 5) (c .before .before .before .step5 .ensures z h4) (omega arith) in
-    let h6 = rounds-at k w z (i + 5 + 1) (i + 6) (c .before .before .step6 .ensures z h5) (omega arith) in
-    let h7 = rounds-at k w z (i + 6 + 1) (i + 7) (c .before .step7 .ensures z h6) (omega arith) in
-    let h8 = rounds-at k w z (i + 7 + 1) (i + 8) (c .step8 .ensures z h7) (omega arith) in
-    h8
+    let h2 = summed-at x z (i + 1 + 1) (i + 2) (c .before .before .before .before .before .before .step2 .ensures z h1) (omega arith) in
+    let h3 = summed-at x z (i + 2 + 1) (i + 3) (c .before .before .before .before .before .step3 .ensures z h2) (omega arith) in
+    let h4 = summed-at x z (i + 3 + 1) (i + 4) (c .before .before .before .before .step4 .ensures z h3) (omega arith) in
+    let h5 = summed-at x z (i + 4 + 1) (i + 5) (c .before .before .before .step5 .ensures z h4) (omega arith) in
+    let h6 = summed-at x z (i + 5 + 1) (i + 6) (c .before .before .step6 .ensures z h5) (omega arith) in
+    let h7 = summed-at x z (i + 6 + 1) (i + 7) (c .before .step7 .ensures z h6) (omega arith) in
+    summed-at x z (i + 7 + 1) (i + 8) (c .step8 .ensures z h7) (omega arith)
 
 pub step8-spec : {M : Type 1} → statement M
 step8-spec =
