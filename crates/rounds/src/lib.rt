@@ -135,10 +135,10 @@ fn step(s: State, x: &[u32; 64], i: usize) -> State
     round(s, x[i])
 }
 
-// Eight rounds.
-fn step8(st: State, x: &[u32; 64], i: usize) -> State
-    requires { ⌜ i ≤ 56 ⌝ }
-    ensures { λ r. ⌜ ((z : D.State) → st ≡ summed (now (x .entry)) i z → r ≡ summed (now (x .entry)) (i + 8) z) ⌝ }
+// Sixteen rounds.
+fn step16(st: State, x: &[u32; 64], i: usize) -> State
+    requires { ⌜ i ≤ 48 ⌝ }
+    ensures { λ r. ⌜ ((z : D.State) → st ≡ summed (now (x .entry)) i z → r ≡ summed (now (x .entry)) (i + 16) z) ⌝ }
 {
     let s1 = step(st, x, i);
     let s2 = step(s1, x, i + 1);
@@ -147,7 +147,15 @@ fn step8(st: State, x: &[u32; 64], i: usize) -> State
     let s5 = step(s4, x, i + 4);
     let s6 = step(s5, x, i + 5);
     let s7 = step(s6, x, i + 6);
-    step(s7, x, i + 7)
+    let s8 = step(s7, x, i + 7);
+    let s9 = step(s8, x, i + 8);
+    let s10 = step(s9, x, i + 9);
+    let s11 = step(s10, x, i + 10);
+    let s12 = step(s11, x, i + 11);
+    let s13 = step(s12, x, i + 12);
+    let s14 = step(s13, x, i + 13);
+    let s15 = step(s14, x, i + 14);
+    step(s15, x, i + 15)
 }
 
 // The rounds of a block whose schedule is given with the round words added, and their sum with the state before.
@@ -156,9 +164,9 @@ pub fn compress_sums(st: State, x: &[u32; 64]) -> State
 {
     let mut t = st;
     let mut i: usize = 0;
-    while i <= 56 {
-        t = step8(t, x, i);
-        i += 8;
+    while i <= 48 {
+        t = step16(t, x, i);
+        i += 16;
     }
     sum(st, t)
 }

@@ -9,7 +9,7 @@ use Rattle.rounds.proofs.compress_sums.Statement.{statement}
 use Rattle.rounds.proofs.compress_sums.Tie as tie
 
 abbrev Inv-loop : tie.InvT-loop
-Inv-loop st x t₀ i₀ t i = (i ≤ 64) × (i % 8 ≡ 0) × (t ≡ summed x i st)
+Inv-loop st x t₀ i₀ t i = (i ≤ 64) × (i % 16 ≡ 0) × (t ≡ summed x i st)
 
 abbrev μ-loop : tie.MeasureT-loop
 μ-loop st x t₀ i₀ t i = 64 - i
@@ -18,8 +18,8 @@ loop-holds : tie.Need-loop-holds Inv-loop μ-loop
 unfolding summed
 loop-holds c = (search needs, refl, refl)
 
-step8-requires : tie.Need-step8-requires Inv-loop μ-loop
-step8-requires c κs = search needs
+step16-requires : tie.Need-step16-requires Inv-loop μ-loop
+step16-requires c κs = search needs
 
 add-i : tie.Need-add-i Inv-loop μ-loop
 add-i c = search needs
@@ -28,7 +28,7 @@ loop-less : tie.Need-loop-less Inv-loop μ-loop
 loop-less c = search needs
 
 loop-again : tie.Need-loop-again Inv-loop μ-loop
-loop-again c = (omega arith, omega arith, c .step8 .ensures (c .before .before .before .args .st) (c .before .before .loop .inv .2))
+loop-again c = (omega arith, omega arith, c .step16 .ensures (c .before .before .before .args .st) (c .before .before .loop .inv .2))
 
 sum-requires : tie.Need-sum-requires Inv-loop μ-loop
 sum-requires c κs = search needs
@@ -43,7 +43,7 @@ compress-sums-spec =
     Inv-loop
     μ-loop
     loop-holds
-    step8-requires
+    step16-requires
     add-i
     loop-less
     loop-again
