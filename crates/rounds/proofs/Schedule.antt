@@ -11,7 +11,7 @@ use lib.Seq.{take-all, take-suc-set, getD-take, getD-drop}
 use Rattle.rounds.specs.declared.State.{State}
 use Rattle.bits.specs.Words.{σ₀, σ₁}
 use Rattle.rounds.specs.Block.{wordAt, words, next, schedule, round}
-use Rattle.rounds.specs.Sums.{sums, summed}
+use Rattle.rounds.specs.Sums.{sums, roundsBy}
 use Rattle.rounds.specs.Stage.{Stage}
 
 pub length-words : (n : ℕ) (m : List ℕ) → length (words n m) ≡ n
@@ -105,9 +105,9 @@ unfolding sums
 sums-more ks v w i h e f = rw (add-one i) (take-suc-set w i _ h ∙ cc)
 
 -- one round more
-pub summed-more : (xs : List ℕ) (z s : State) (i : ℕ) → s ≡ summed xs i z → round s (getD xs i 0) 0 ≡ summed xs (i + 1) z
-unfolding summed
-summed-more xs z s i e = rw (add-one i) (cc)
+pub roundsBy-more : (xs : List ℕ) (z s : State) (i : ℕ) → s ≡ roundsBy xs i z → round s (getD xs i 0) 0 ≡ roundsBy xs (i + 1) z
+unfolding roundsBy
+roundsBy-more xs z s i e = rw (add-one i) (cc)
 
-pub summed-at : {s : State} (xs : List ℕ) (z : State) (i j : ℕ) → s ≡ summed xs i z → i ≡ j → s ≡ summed xs j z
-summed-at {s} xs z i j h e = subst (λ (n : ℕ). s ≡ summed xs n z) e h
+pub roundsBy-at : {s : State} (xs : List ℕ) (z : State) (i j : ℕ) → s ≡ roundsBy xs i z → i ≡ j → s ≡ roundsBy xs j z
+roundsBy-at {s} xs z i j h e = subst (λ (n : ℕ). s ≡ roundsBy xs n z) e h

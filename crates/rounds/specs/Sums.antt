@@ -12,6 +12,6 @@ sums zero ks ws = []
 sums (suc n) ks ws = sums n ks ws ++ ((getD ks n 0 + getD ws n 0) % 2 ^ 32 ∷ [])
 
 -- the first n rounds, each with its sum of xs
-unfoldable pub summed : List ℕ → ℕ → State → State
-summed xs zero s = s
-summed xs (suc n) s = round (summed xs n s) (getD xs n 0) 0
+unfoldable pub roundsBy : List ℕ → ℕ → State → State
+roundsBy xs zero s = s
+roundsBy xs (suc n) s = round (roundsBy xs n s) (getD xs n 0) 0

@@ -10,7 +10,7 @@ use lib.Seq.{getD-at}
 use Rattle.bits.specs.Words.{Ch, Σ₁}
 use Rattle.rounds.specs.declared.State.{State}
 use Rattle.rounds.specs.Block.{T₁, round, rounds, plus, schedule, compress}
-use Rattle.rounds.specs.Sums.{sums, summed}
+use Rattle.rounds.specs.Sums.{sums, roundsBy}
 
 pub length-sums : (n : ℕ) (ks ws : List ℕ) → length (sums n ks ws) ≡ n
 unfolding sums
@@ -39,14 +39,14 @@ module _ (ks ws : List ℕ) where
       let e : n - suc i + suc i ≡ n = omega arith in
       ap (λ (k : ℕ). getD (sums k ks ws) i 0) (sym e) ∙ after (n - suc i) i
 
-  summed-rounds : (z : State) (n i : ℕ) → i ≤ n → summed (sums n ks ws) i z ≡ rounds ks ws i z
-  unfolding summed rounds
-  summed-rounds z n zero h = refl
-  summed-rounds z n (suc i) h =
-      ap (λ (t : State). round t (getD (sums n ks ws) i 0) 0) (summed-rounds z n i (omega arith))
+  rounds-by-sums : (z : State) (n i : ℕ) → i ≤ n → roundsBy (sums n ks ws) i z ≡ rounds ks ws i z
+  unfolding roundsBy rounds
+  rounds-by-sums z n zero h = refl
+  rounds-by-sums z n (suc i) h =
+      ap (λ (t : State). round t (getD (sums n ks ws) i 0) 0) (rounds-by-sums z n i (omega arith))
       ∙ ap (λ (x : ℕ). round (rounds ks ws i z) x 0) (sum-at n i h)
       ∙ round-sum (rounds ks ws i z) (getD ks i 0) (getD ws i 0)
 
-pub compress-summed : (ks m : List ℕ) (s : State) → plus s (summed (sums 64 ks (schedule 48 m)) 64 s) ≡ compress ks s m
+pub compress-by-sums : (ks m : List ℕ) (s : State) → plus s (roundsBy (sums 64 ks (schedule 48 m)) 64 s) ≡ compress ks s m
 unfolding compress
-compress-summed ks m s = ap (plus s) (summed-rounds ks (schedule 48 m) s 64 64 (omega arith))
+compress-by-sums ks m s = ap (plus s) (rounds-by-sums ks (schedule 48 m) s 64 64 (omega arith))

@@ -5,7 +5,7 @@ ghost use mathlib.Core.List.{List};
 ghost use lib.ListN.{length, take, drop, set};
 ghost use Rattle.rounds.specs.Block as S;
 ghost use Rattle.rounds.specs.Stage.{Stage};
-ghost use Rattle.rounds.specs.Sums.{sums, summed};
+ghost use Rattle.rounds.specs.Sums.{sums, roundsBy};
 ghost use Rattle.rounds.specs.declared.State as D;
 use bits::add;
 use bits::big0;
@@ -116,7 +116,7 @@ fn fill(w: &mut [u32; 64], s: &[u8], at: usize)
 }
 
 // To each word its round word.
-fn add_all(w: &mut [u32; 64], k: &[u32; 64])
+fn add_round_words(w: &mut [u32; 64], k: &[u32; 64])
     requires { ⌜ length (now w) ≡ 64 ⌝ }
     ensures { λ _. ⌜ now (w .exit) ≡ sums 64 (now (k .entry)) (now (w .entry)) ⌝ }
 {
@@ -130,7 +130,7 @@ fn add_all(w: &mut [u32; 64], k: &[u32; 64])
 // Round i.
 fn step(s: State, x: &[u32; 64], i: usize) -> State
     requires { ⌜ i < 64 ⌝ }
-    ensures { λ r. ⌜ ((z : D.State) → s ≡ summed (now (x .entry)) i z → r ≡ summed (now (x .entry)) (i + 1) z) ⌝ }
+    ensures { λ r. ⌜ ((z : D.State) → s ≡ roundsBy (now (x .entry)) i z → r ≡ roundsBy (now (x .entry)) (i + 1) z) ⌝ }
 {
     round(s, x[i])
 }
@@ -138,7 +138,7 @@ fn step(s: State, x: &[u32; 64], i: usize) -> State
 // Sixteen rounds.
 fn step16(st: State, x: &[u32; 64], i: usize) -> State
     requires { ⌜ i ≤ 48 ⌝ }
-    ensures { λ r. ⌜ ((z : D.State) → st ≡ summed (now (x .entry)) i z → r ≡ summed (now (x .entry)) (i + 16) z) ⌝ }
+    ensures { λ r. ⌜ ((z : D.State) → st ≡ roundsBy (now (x .entry)) i z → r ≡ roundsBy (now (x .entry)) (i + 16) z) ⌝ }
 {
     let s1 = step(st, x, i);
     let s2 = step(s1, x, i + 1);
@@ -160,7 +160,7 @@ fn step16(st: State, x: &[u32; 64], i: usize) -> State
 
 // The rounds of a block whose schedule is given with the round words added, and their sum with the state before.
 pub fn compress_sums(st: State, x: &[u32; 64]) -> State
-    ensures { λ r. ⌜ r ≡ S.plus st (summed (now (x .entry)) 64 st) ⌝ }
+    ensures { λ r. ⌜ r ≡ S.plus st (roundsBy (now (x .entry)) 64 st) ⌝ }
 {
     let mut t = st;
     let mut i: usize = 0;
@@ -178,6 +178,6 @@ pub fn compress(st: State, k: &[u32; 64], s: &[u8], at: usize) -> State
 {
     let mut w = [0u32; 64];
     fill(&mut w, s, at);
-    add_all(&mut w, k);
+    add_round_words(&mut w, k);
     compress_sums(st, &w)
 }

@@ -12,8 +12,8 @@ use Rattle.padding.specs.Padding.{padding}
 use Rattle.padding.specs.Cutting.{overBlocks, overMessage}
 use Rattle.padding.specs.CuttingLaws.{message-split, message-of-64}
 use Rattle.rounds.specs.Block.{schedule, plus, compress}
-use Rattle.rounds.specs.Sums.{sums, summed}
-use Rattle.rounds.specs.SumsLaws.{compress-summed}
+use Rattle.rounds.specs.Sums.{sums, roundsBy}
+use Rattle.rounds.specs.SumsLaws.{compress-by-sums}
 use Rattle.rounds.specs.declared.State.{State}
 use Rattle.sha256.specs.Sha256.{start}
 
@@ -38,10 +38,10 @@ pub pair-law :
     → z ≡ start
     → length b ≡ 64
     → t ≡ compress k z b
-    → plus t (summed x 64 t) ≡ overMessage (compress K) start (l ++ r)
+    → plus t (roundsBy x 64 t) ≡ overMessage (compress K) start (l ++ r)
 pair-law k x b l r z t ek ex eb ez lb et =
     let e : overMessage (compress K) start b ≡ overMessage (compress K) start (l ++ r) = ap (overMessage (compress K) start) eb in
-    cc (compress-summed K (padding 64) t, message-of-64 (compress K) b start lb)
+    cc (compress-by-sums K (padding 64) t, message-of-64 (compress K) b start lb)
 
 -- the whole blocks of a message, and its last bytes with the padding, are the message
 pub hash-law :

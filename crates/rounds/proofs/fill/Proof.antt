@@ -1,3 +1,5 @@
+-- With i words made, the first 16 + i are the schedule's.
+-- Assumes nothing.
 use Rattle.rounds.proofs.Schedule.{stage-first, stage-last, stage-at}
 use Rattle.rounds.specs.Stage.{Stage}
 use borrow.Author.Needs.{needs}
@@ -33,7 +35,8 @@ loop-again : tie.Need-loop-again Inv-loop μ-loop
 loop-again c = (omega arith, omega arith, c .grow4 .ensures (take 64 (drop (c .before .before .before .before .before .before .before .args .at) (c .before .before .before .before .before .before .before .args .s .now))) (c .before .before .before .loop .inv .2))
 
 returns : tie.Need-returns Inv-loop μ-loop
-returns c = let m = take 64 (drop (c .before .before .before .before .before .args .at) (c .before .before .before .before .before .args .s .now)) in
+returns c =
+    let m = take 64 (drop (c .before .before .before .before .before .args .at) (c .before .before .before .before .before .args .s .now)) in
     stage-last m (c .before .loop .w) (stage-at 48 (c .before .loop .inv .2) (omega arith))
 
 pub fill-spec : {M : Type 1} → statement M

@@ -28,7 +28,8 @@ grow-requires-4 : tie.Need-grow-requires-4
 grow-requires-4 c κs = search needs
 
 returns : tie.Need-returns
-returns c = λ m h.
+returns c =
+    λ m h.
     let i = c .before .before .before .before .before .before .before .before .args .i in
     let h1 = stage-step (i + 1) h (c .before .before .before .before .before .before .grow .ensures) (omega arith) refl in
     let h2 = stage-step (i + 2) h1 (c .before .before .before .before .grow2 .ensures) (omega arith) (omega arith) in

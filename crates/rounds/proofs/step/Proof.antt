@@ -1,4 +1,4 @@
-use Rattle.rounds.proofs.Schedule.{summed-more}
+use Rattle.rounds.proofs.Schedule.{roundsBy-more}
 use Prim.Native.Nat.{_-_}
 use mathlib.Core.Path.{_∙_}
 use borrow.Author.Needs.{needs}
@@ -15,7 +15,7 @@ round-requires : tie.Need-round-requires
 round-requires c κs = search needs
 
 returns : tie.Need-returns
-returns c = λ z e. c .round .ensures ∙ summed-more (c .before .before .args .x .now) z (c .before .before .args .s) (c .before .before .args .i) e
+returns c = λ z e. c .round .ensures ∙ roundsBy-more (c .before .before .args .x .now) z (c .before .before .args .s) (c .before .before .args .i) e
 
 pub step-spec : {M : Type 1} → statement M
 step-spec = tie.close (tie.spec mul-round element-copy-out-round round-requires returns)

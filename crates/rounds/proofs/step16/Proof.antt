@@ -1,4 +1,4 @@
-use Rattle.rounds.proofs.Schedule.{summed-at}
+use Rattle.rounds.proofs.Schedule.{roundsBy-at}
 use native.Mathlib.Omega.{arith}
 use Prim.Native.Nat.{_+_, _-_}
 use borrow.Author.Needs.{needs}
@@ -99,25 +99,26 @@ step-requires-16 : tie.Need-step-requires-16
 step-requires-16 c κs = omega (arith, c .before .before .before .before .before .before .before .before .before .before .before .before .before .before .before)
 
 returns : tie.Need-returns
-returns c = λ z h.
+returns c =
+    λ z h.
     let x = c .before .before .before .before .before .before .before .before .before .before .before .before .before .before .before .before .args .x .now in
     let i = c .before .before .before .before .before .before .before .before .before .before .before .before .before .before .before .before .args .i in
     let h1 = c .before .before .before .before .before .before .before .before .before .before .before .before .before .before .before .step .ensures z h in
-    let h2 = summed-at x z (i + 1 + 1) (i + 2) (c .before .before .before .before .before .before .before .before .before .before .before .before .before .before .step2 .ensures z h1) (omega arith) in
-    let h3 = summed-at x z (i + 2 + 1) (i + 3) (c .before .before .before .before .before .before .before .before .before .before .before .before .before .step3 .ensures z h2) (omega arith) in
-    let h4 = summed-at x z (i + 3 + 1) (i + 4) (c .before .before .before .before .before .before .before .before .before .before .before .before .step4 .ensures z h3) (omega arith) in
-    let h5 = summed-at x z (i + 4 + 1) (i + 5) (c .before .before .before .before .before .before .before .before .before .before .before .step5 .ensures z h4) (omega arith) in
-    let h6 = summed-at x z (i + 5 + 1) (i + 6) (c .before .before .before .before .before .before .before .before .before .before .step6 .ensures z h5) (omega arith) in
-    let h7 = summed-at x z (i + 6 + 1) (i + 7) (c .before .before .before .before .before .before .before .before .before .step7 .ensures z h6) (omega arith) in
-    let h8 = summed-at x z (i + 7 + 1) (i + 8) (c .before .before .before .before .before .before .before .before .step8 .ensures z h7) (omega arith) in
-    let h9 = summed-at x z (i + 8 + 1) (i + 9) (c .before .before .before .before .before .before .before .step9 .ensures z h8) (omega arith) in
-    let h10 = summed-at x z (i + 9 + 1) (i + 10) (c .before .before .before .before .before .before .step10 .ensures z h9) (omega arith) in
-    let h11 = summed-at x z (i + 10 + 1) (i + 11) (c .before .before .before .before .before .step11 .ensures z h10) (omega arith) in
-    let h12 = summed-at x z (i + 11 + 1) (i + 12) (c .before .before .before .before .step12 .ensures z h11) (omega arith) in
-    let h13 = summed-at x z (i + 12 + 1) (i + 13) (c .before .before .before .step13 .ensures z h12) (omega arith) in
-    let h14 = summed-at x z (i + 13 + 1) (i + 14) (c .before .before .step14 .ensures z h13) (omega arith) in
-    let h15 = summed-at x z (i + 14 + 1) (i + 15) (c .before .step15 .ensures z h14) (omega arith) in
-    summed-at x z (i + 15 + 1) (i + 16) (c .step16 .ensures z h15) (omega arith)
+    let h2 = roundsBy-at x z (i + 1 + 1) (i + 2) (c .before .before .before .before .before .before .before .before .before .before .before .before .before .before .step2 .ensures z h1) (omega arith) in
+    let h3 = roundsBy-at x z (i + 2 + 1) (i + 3) (c .before .before .before .before .before .before .before .before .before .before .before .before .before .step3 .ensures z h2) (omega arith) in
+    let h4 = roundsBy-at x z (i + 3 + 1) (i + 4) (c .before .before .before .before .before .before .before .before .before .before .before .before .step4 .ensures z h3) (omega arith) in
+    let h5 = roundsBy-at x z (i + 4 + 1) (i + 5) (c .before .before .before .before .before .before .before .before .before .before .before .step5 .ensures z h4) (omega arith) in
+    let h6 = roundsBy-at x z (i + 5 + 1) (i + 6) (c .before .before .before .before .before .before .before .before .before .before .step6 .ensures z h5) (omega arith) in
+    let h7 = roundsBy-at x z (i + 6 + 1) (i + 7) (c .before .before .before .before .before .before .before .before .before .step7 .ensures z h6) (omega arith) in
+    let h8 = roundsBy-at x z (i + 7 + 1) (i + 8) (c .before .before .before .before .before .before .before .before .step8 .ensures z h7) (omega arith) in
+    let h9 = roundsBy-at x z (i + 8 + 1) (i + 9) (c .before .before .before .before .before .before .before .step9 .ensures z h8) (omega arith) in
+    let h10 = roundsBy-at x z (i + 9 + 1) (i + 10) (c .before .before .before .before .before .before .step10 .ensures z h9) (omega arith) in
+    let h11 = roundsBy-at x z (i + 10 + 1) (i + 11) (c .before .before .before .before .before .step11 .ensures z h10) (omega arith) in
+    let h12 = roundsBy-at x z (i + 11 + 1) (i + 12) (c .before .before .before .before .step12 .ensures z h11) (omega arith) in
+    let h13 = roundsBy-at x z (i + 12 + 1) (i + 13) (c .before .before .before .step13 .ensures z h12) (omega arith) in
+    let h14 = roundsBy-at x z (i + 13 + 1) (i + 14) (c .before .before .step14 .ensures z h13) (omega arith) in
+    let h15 = roundsBy-at x z (i + 14 + 1) (i + 15) (c .before .step15 .ensures z h14) (omega arith) in
+    roundsBy-at x z (i + 15 + 1) (i + 16) (c .step16 .ensures z h15) (omega arith)
 
 pub step16-spec : {M : Type 1} → statement M
 step16-spec =

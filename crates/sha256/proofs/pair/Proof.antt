@@ -1,3 +1,5 @@
+-- The first block from its bytes, the second by the table: the two blocks of the message.
+-- Assumes nothing.
 use Rattle.rounds.specs.Block.{compress}
 use Rattle.sha256.specs.Sha256.{digest, sha256, pairHash}
 use Rattle.sha256.proofs.Messages.{front, pair-law}
@@ -35,7 +37,8 @@ digest-requires c κs = search needs
 
 returns : tie.Need-returns
 unfolding pairHash sha256
-returns c = let a = c .before .before .before .before .before .before .before .before .before .before in
+returns c =
+    let a = c .before .before .before .before .before .before .before .before .before .before in
     let k = c .before .before .before .before .before .before .before .before .before .round-words in
     let x = c .before .before .before .before .before .before .before .before .pair-sums in
     let j = c .before .before .before .before .before .before .before .joined in

@@ -1,3 +1,5 @@
+-- The first i words have their round words added, and those from i on are as they were.
+-- Assumes nothing.
 use Rattle.rounds.proofs.Schedule.{sums-more}
 use lib.Seq.{getD-set-other, take-all}
 use Rattle.rounds.specs.Sums.{sums}
@@ -6,8 +8,8 @@ use native.Mathlib.Omega.{arith}
 use Prim.Native.Nat.{ℕ, _+_, _-_, _≤_}
 use lib.ListN.{length, getD, set, take, length-set}
 use mathlib.Core.Path.{_≡_, refl, ap, sym, _∙_}
-use Rattle.rounds.proofs.add_all.Statement.{statement}
-use Rattle.rounds.proofs.add_all.Tie as tie
+use Rattle.rounds.proofs.add_round_words.Statement.{statement}
+use Rattle.rounds.proofs.add_round_words.Tie as tie
 
 abbrev Inv-loop : tie.InvT-loop
 Inv-loop w₀ k i₀ w i = (i ≤ 64) × (length w ≡ 64) × (take i w ≡ sums i k w₀) × ((j : ℕ) → i ≤ j → getD w j 0 ≡ getD w₀ j 0)
@@ -47,7 +49,8 @@ loop-less : tie.Need-loop-less Inv-loop μ-loop
 loop-less c = search needs
 
 loop-again : tie.Need-loop-again Inv-loop μ-loop
-loop-again c = let l = c .before .before .before .before .loop in
+loop-again c =
+    let l = c .before .before .before .before .loop in
     let w₀ = c .before .before .before .before .before .args .w .now in
     let ks = c .before .before .before .before .before .args .k .now in (
       omega arith,
@@ -58,12 +61,13 @@ loop-again c = let l = c .before .before .before .before .loop in
     )
 
 returns : tie.Need-returns Inv-loop μ-loop
-returns c = let l = c .before .loop in
+returns c =
+    let l = c .before .loop in
     let e : l .i ≡ 64 = omega arith in
     sym (take-all 64 (l .w) (omega (arith, l .inv .1))) ∙ rw e at (l .inv .2)
 
-pub add-all-spec : {M : Type 1} → statement M
-add-all-spec =
+pub add-round-words-spec : {M : Type 1} → statement M
+add-round-words-spec =
     tie.close
     (tie.spec
     Inv-loop
