@@ -29,7 +29,7 @@ counted() {
         plain=${plain:-$count}
         awk -v job="$job" -v version="$version" -v count=$count -v plain="$plain" -v asked="$asked" 'BEGIN {
             printf "%-18s %-16s %12d %16.2f %7s\n", job, version, count, plain ? count / plain : 0,
-                version ~ /^kd_/ && asked != "-" ? asked : "" }'
+                version !~ /-rust$/ && asked != "-" ? asked : "" }'
     done
 }
 

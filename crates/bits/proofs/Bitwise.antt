@@ -7,7 +7,7 @@ use native.Mathlib.Nat.{pow-suc, mod-eq-of-lt, mod-lt, add-comm, add-zero, mul-m
 use lib.Pow.{pow-add, pow-pos, shr-lt, mod-pow-add, shl-shr, shr-shr}
 use lib.Arith.{digits-lt}
 use lib.Dec.{lit<}
-use Rattle.bits.specs.Words.{Ch, Maj, rotr, Σ₀, Σ₁}
+use Rattle.bits.specs.Words.{Ch, Maj, rotr, Σ₀, Σ₁, σ₀, σ₁}
 use lib.Bits.{and-comm, xor-comm, bitAnd, bitOr, bitXor, and-shr, xor-shr, and-mod, xor-mod, xor-add-and, and-mask, xor-lt, and-lt, xor-block, or-shifted-r}
 
 -- a function of three numbers that goes bit by bit
@@ -168,22 +168,25 @@ rotr-rotr a b c x e h =
     ∙ turned-turned a b c x
     ∙ sym (rotr-turned (a + b) c ec x h)
 
+-- two rotations with a bitXor between them are two rotations of one number
+link : (q p s x : ℕ) → q + (p + s) ≡ 32 → x < 2 ^ 32 → rotr q (bitXor (rotr p x) x) ≡ bitXor (rotr (q + p) x) (rotr q x)
+link q p s x e h =
+    rotr-xor q (p + s) e (rotr p x) x (rotr-lt p (q + s) (omega arith) x h) h
+    ∙ ap (λ (v : ℕ). bitXor v (rotr q x)) (rotr-rotr q p s x e h)
+
 -- three rotations, each after a bitXor, are three rotations of one number
 chain : (r q p s x : ℕ) → r + (q + (p + s)) ≡ 32 → x < 2 ^ 32
     → rotr r (bitXor (rotr q (bitXor (rotr p x) x)) x) ≡ bitXor (bitXor (rotr r x) (rotr (r + q) x)) (rotr (r + (q + p)) x)
 chain r q p s x e h =
     let er : r + (q + (p + s)) ≡ 32 = e in
     let eq : q + (r + (p + s)) ≡ 32 = omega arith in
-    let ep : p + (r + (q + s)) ≡ 32 = omega arith in
     let eqp : (q + p) + (r + s) ≡ 32 = omega arith in
-    let h1 = rotr-lt p (r + (q + s)) ep x h in
     let h2 = rotr-lt q (r + (p + s)) eq x h in
     let h3 = rotr-lt (q + p) (r + s) eqp x h in
     let h4 = rotr-lt r (q + (p + s)) er x h in
     let h5 = rotr-lt (r + q) (p + s) (omega arith) x h in
     let h6 = rotr-lt (r + (q + p)) s (omega arith) x h in
-    let a : rotr q (bitXor (rotr p x) x) ≡ bitXor (rotr (q + p) x) (rotr q x)
-    = rotr-xor q (r + (p + s)) eq (rotr p x) x h1 h ∙ ap (λ (v : ℕ). bitXor v (rotr q x)) (rotr-rotr q p (r + s) x (omega arith) h) in
+    let a = link q p (r + s) x (omega arith) h in
     let b : rotr r (bitXor (bitXor (rotr (q + p) x) (rotr q x)) x) ≡ bitXor (bitXor (rotr r (rotr (q + p) x)) (rotr r (rotr q x))) (rotr r x)
     = rotr-xor r (q + (p + s)) er (bitXor (rotr (q + p) x) (rotr q x)) x (xor-lt 32 (rotr (q + p) x) (rotr q x) h3 h2) h
     ∙ ap (λ (v : ℕ). bitXor v (rotr r x)) (rotr-xor r (q + (p + s)) er (rotr (q + p) x) (rotr q x) h3 h2) in
@@ -203,3 +206,11 @@ unfolding Σ₀
 pub Σ₁-law : (x : ℕ) → x < 2 ^ 32 → rotr 6 (bitXor (rotr 5 (bitXor (rotr 14 x) x)) x) ≡ Σ₁ x
 unfolding Σ₁
 Σ₁-law x h = chain 6 5 14 7 x refl h
+
+pub σ₀-law : (x : ℕ) → x < 2 ^ 32 → bitXor (rotr 7 (bitXor (rotr 11 x) x)) (x / 2 ^ 3) ≡ σ₀ x
+unfolding σ₀
+σ₀-law x h = ap (λ (v : ℕ). bitXor v (x / 2 ^ 3)) (link 7 11 14 x refl h ∙ xor-comm (rotr 18 x) (rotr 7 x))
+
+pub σ₁-law : (x : ℕ) → x < 2 ^ 32 → bitXor (rotr 17 (bitXor (rotr 2 x) x)) (x / 2 ^ 10) ≡ σ₁ x
+unfolding σ₁
+σ₁-law x h = ap (λ (v : ℕ). bitXor v (x / 2 ^ 10)) (link 17 2 13 x refl h ∙ xor-comm (rotr 19 x) (rotr 17 x))

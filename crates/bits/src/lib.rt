@@ -31,7 +31,7 @@ pub fn maj(x: u32, y: u32, z: u32) -> u32
     ((x ^ y) & (y ^ z)) ^ y
 }
 
-// Each rotation goes on from the one before, so that one register serves.
+// Each rotation goes on from the one before, so that one register serves; here and in the next three.
 pub fn big0(x: u32) -> u32
     ensures { λ r. ⌜ r ≡ W.Σ₀ x ⌝ }
 {
@@ -47,13 +47,13 @@ pub fn big1(x: u32) -> u32
 pub fn small0(x: u32) -> u32
     ensures { λ r. ⌜ r ≡ W.σ₀ x ⌝ }
 {
-    rotr(x, 7) ^ rotr(x, 18) ^ (x >> 3)
+    rotr(rotr(x, 11) ^ x, 7) ^ (x >> 3)
 }
 
 pub fn small1(x: u32) -> u32
     ensures { λ r. ⌜ r ≡ W.σ₁ x ⌝ }
 {
-    rotr(x, 17) ^ rotr(x, 19) ^ (x >> 10)
+    rotr(rotr(x, 2) ^ x, 17) ^ (x >> 10)
 }
 
 // A byte as a word.

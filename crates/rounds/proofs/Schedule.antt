@@ -1,4 +1,4 @@
--- Laws of the message schedule and of the rounds.
+-- Laws of the message schedule, of its sums with the round words, and of the rounds.
 -- Assumes nothing.
 use mathlib.Core.Path.{_≡_, refl, ap, sym, subst, _∙_}
 use mathlib.Core.List.{List, [], _∷_, _++_}
@@ -10,7 +10,8 @@ use lib.ListN.{length, getD, take, drop, set, length-append, length-set, List·g
 use lib.Seq.{take-all, take-suc-set, getD-take, getD-drop}
 use Rattle.rounds.specs.declared.State.{State}
 use Rattle.bits.specs.Words.{σ₀, σ₁}
-use Rattle.rounds.specs.Block.{wordAt, words, next, schedule, round, rounds}
+use Rattle.rounds.specs.Block.{wordAt, words, next, schedule, round}
+use Rattle.rounds.specs.Sums.{sums, roundsBy}
 use Rattle.rounds.specs.Stage.{Stage}
 
 pub length-words : (n : ℕ) (m : List ℕ) → length (words n m) ≡ n
@@ -23,32 +24,10 @@ unfolding schedule
 length-schedule zero m = length-words 16 m
 length-schedule (suc n) m = simp (length-append, length-schedule n m) (omega arith)
 
--- what has been scheduled stays
-pub schedule-prefix : (d i : ℕ) (m : List ℕ) (j : ℕ) → j < 16 + i → getD (schedule (d + i) m) j 0 ≡ getD (schedule i m) j 0
-unfolding schedule
-schedule-prefix zero i m j h = rw zero-add
-schedule-prefix (suc d) i m j h =
-    rw suc-add
-    (List·getD-append (schedule (d + i) m) _ 0 j (omega (arith, length-schedule (d + i) m)) ∙ schedule-prefix d i m j h)
-
--- one round more
-pub rounds-more :
-    (ks ws : List ℕ) (z s : State) (i x : ℕ)
-    → s ≡ rounds ks ws i z
-    → x ≡ getD ws i 0
-    → round s (getD ks i 0) x ≡ rounds ks ws (i + 1) z
-unfolding rounds
-rounds-more ks ws z s i x e f = rw (add-one i) (cc)
-
-module _ (ks m w : List ℕ) (z s : State) (i : ℕ) (st : Stage ks m z i w s) where
+module _ (m w : List ℕ) (i : ℕ) (st : Stage m i w) where
   -- a word that is there already is the schedule's
   there : (j : ℕ) → j < 16 + i → getD w j 0 ≡ getD (schedule i m) j 0
   there j h = sym (getD-take (16 + i) w j 0 h) ∙ ap (λ (l : List ℕ). getD l j 0) (st .filled)
-
-  pub scheduled : i ≤ 48 → (j : ℕ) → j < 16 + i → getD w j 0 ≡ getD (schedule 48 m) j 0
-  scheduled b j h =
-      let e : 48 - i + i ≡ 48 = omega arith in
-      there j h ∙ sym (schedule-prefix (48 - i) i m j h) ∙ ap (λ (n : ℕ). getD (schedule n m) j 0) e
 
   next-there : next w (i + 16) ≡ next (schedule i m) (16 + i)
   unfolding next
@@ -56,17 +35,29 @@ module _ (ks m w : List ℕ) (z s : State) (i : ℕ) (st : Stage ks m z i w s) w
       let e : i + 16 ≡ 16 + i = omega arith in
       rw (e, there (16 + i - 2) (omega arith), there (16 + i - 7) (omega arith), there (16 + i - 15) (omega arith), there (16 + i - 16) (omega arith))
 
-  pub stage-step : i < 48 → Stage ks m z (i + 1) (set w (i + 16) (next w (i + 16))) (round s (getD ks i 0) (getD w i 0))
+  grown : i < 48 → Stage m (i + 1) (set w (i + 16) (next w (i + 16)))
   unfolding schedule
-  stage-step h =
+  grown h =
       let e : 16 + (i + 1) ≡ suc (i + 16) = omega arith in
       let e′ : i + 16 ≡ 16 + i = omega arith in
       let t : take (i + 16) w ≡ schedule i m = ap (λ (n : ℕ). take n w) e′ ∙ st .filled in
       record {
         size = length-set w (i + 16) (next w (i + 16)) ∙ st .size;
         filled = rw (e, add-one i) (take-suc-set w (i + 16) (next w (i + 16)) (omega (arith, st .size)) ∙ rw (t, next-there));
-        done = rounds-more ks (schedule 48 m) z s i (getD w i 0) (st .done) (scheduled (omega arith) i (omega arith));
       }
+
+-- a list v with one word more than w
+pub stage-step :
+    {m w v : List ℕ} {i : ℕ} (j : ℕ)
+    → Stage m i w
+    → v ≡ set w (i + 16) (next w (i + 16))
+    → i < 48
+    → i + 1 ≡ j
+    → Stage m j v
+stage-step {m} {w} {v} {i} j st e h f = rw (e, sym f) (grown m w i st h)
+
+pub stage-at : {m w : List ℕ} {i : ℕ} (j : ℕ) → Stage m i w → i ≡ j → Stage m j w
+stage-at {m} {w} j st e = subst (λ (n : ℕ). Stage m n w) e st
 
 -- a byte, and a word, of a block that lies in a longer list
 pub byte-in : (s : List ℕ) (at j : ℕ) → j < 64 → getD (take 64 (drop at s)) j 0 ≡ getD s (at + j) 0
@@ -94,20 +85,29 @@ pub words-more :
 unfolding words
 words-more m w i v h e f = rw (add-one i) (take-suc-set w i v h ∙ cc)
 
-pub stage-at : {ks m : List ℕ} {z : State} {i : ℕ} {w : List ℕ} {s : State} (j : ℕ) → Stage ks m z i w s → i ≡ j → Stage ks m z j w s
-stage-at {ks} {m} {z} {i} {w} {s} j h e = subst (λ (n : ℕ). Stage ks m z n w s) e h
+-- the stage with the block's own words
+pub stage-first : (m w : List ℕ) → length w ≡ 64 → take 16 w ≡ words 16 m → Stage m 0 w
+unfolding schedule
+stage-first m w l e = record { size = l; filled = e }
 
-pub rounds-at : {s : State} (ks ws : List ℕ) (z : State) (i j : ℕ) → s ≡ rounds ks ws i z → i ≡ j → s ≡ rounds ks ws j z
-rounds-at {s} ks ws z i j h e = subst (λ (n : ℕ). s ≡ rounds ks ws n z) e h
+-- the stage with all words
+pub stage-last : (m w : List ℕ) → Stage m 48 w → w ≡ schedule 48 m
+stage-last m w st = sym (take-all 64 w (omega (arith, st .size))) ∙ st .filled
 
--- the stage before the first round
-pub stage-first :
-    (ks m w : List ℕ) (z : State) → length w ≡ 64 → take 16 w ≡ words 16 m → Stage ks m z 0 w z
-unfolding schedule rounds
-stage-first ks m w z l e = record { size = l; filled = e; done = refl }
+-- to one word more its round word, where those from i on are as they were
+pub sums-more :
+    (ks v w : List ℕ) (i : ℕ)
+    → i < length w
+    → take i w ≡ sums i ks v
+    → getD w i 0 ≡ getD v i 0
+    → take (i + 1) (set w i ((getD ks i 0 + getD w i 0) % 2 ^ 32)) ≡ sums (i + 1) ks v
+unfolding sums
+sums-more ks v w i h e f = rw (add-one i) (take-suc-set w i _ h ∙ cc)
 
--- after 48 rounds the words are the whole schedule
-pub stage-last : (ks m w : List ℕ) (z s : State) → Stage ks m z 48 w s → (w ≡ schedule 48 m) × (s ≡ rounds ks w 48 z)
-stage-last ks m w z s st =
-    let e : w ≡ schedule 48 m = sym (take-all 64 w (omega (arith, st .size))) ∙ st .filled in
-    (e, st .done ∙ ap (λ (l : List ℕ). rounds ks l 48 z) (sym e))
+-- one round more
+pub roundsBy-more : (xs : List ℕ) (z s : State) (i : ℕ) → s ≡ roundsBy xs i z → round s (getD xs i 0) 0 ≡ roundsBy xs (i + 1) z
+unfolding roundsBy
+roundsBy-more xs z s i e = rw (add-one i) (cc)
+
+pub roundsBy-at : {s : State} (xs : List ℕ) (z : State) (i j : ℕ) → s ≡ roundsBy xs i z → i ≡ j → s ≡ roundsBy xs j z
+roundsBy-at {s} xs z i j h e = subst (λ (n : ℕ). s ≡ roundsBy xs n z) e h

@@ -1,2 +1,4 @@
 pub mod Block
+pub mod Sums
+pub mod SumsLaws
 pub mod Stage

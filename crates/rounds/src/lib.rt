@@ -5,6 +5,7 @@ ghost use mathlib.Core.List.{List};
 ghost use lib.ListN.{length, take, drop, set};
 ghost use Rattle.rounds.specs.Block as S;
 ghost use Rattle.rounds.specs.Stage.{Stage};
+ghost use Rattle.rounds.specs.Sums.{sums, roundsBy};
 ghost use Rattle.rounds.specs.declared.State as D;
 use bits::add;
 use bits::big0;
@@ -27,10 +28,11 @@ pub struct State {
     pub h: u32,
 }
 
-fn round(s: State, k: u32, w: u32) -> State
-    ensures { λ r. ⌜ r ≡ S.round s k w ⌝ }
+// A round takes its two words K_t and W_t by their sum x alone.
+fn round(s: State, x: u32) -> State
+    ensures { λ r. ⌜ r ≡ S.round s x 0 ⌝ }
 {
-    let t1 = add(add(add(add(s.h, k), w), ch(s.e, s.f, s.g)), big1(s.e));
+    let t1 = add(add(add(s.h, x), ch(s.e, s.f, s.g)), big1(s.e));
     let t2 = add(big0(s.a), maj(s.a, s.b, s.c));
     State {
         a: add(t1, t2),
@@ -89,69 +91,93 @@ fn grow(w: &mut [u32; 64], i: usize)
     );
 }
 
-// Round i, and the word that is sixteen further.
-fn mixed(s: State, k: &[u32; 64], w: &mut [u32; 64], i: usize) -> State
-    requires { ⌜ i < 48 ⌝ }
-    ensures { λ r. ⌜ ((m : List ℕ) (z : D.State) → Stage (now (k .entry)) m z i (now (w .entry)) s → Stage (now (k .entry)) m z (i + 1) (now (w .exit)) r) ⌝ }
+// Four such words.
+fn grow4(w: &mut [u32; 64], i: usize)
+    requires { ⌜ i ≤ 44 ⌝ }
+    ensures { λ _. ⌜ ((m : List ℕ) → Stage m i (now (w .entry)) → Stage m (i + 4) (now (w .exit))) ⌝ }
 {
-    let r = round(s, k[i], w[i]);
     grow(&mut *w, i);
-    r
+    grow(&mut *w, i + 1);
+    grow(&mut *w, i + 2);
+    grow(&mut *w, i + 3);
 }
 
-// Round i alone.
-fn step(s: State, k: &[u32; 64], w: &[u32; 64], i: usize) -> State
+// The message schedule of the block that starts at `at`.
+fn fill(w: &mut [u32; 64], s: &[u8], at: usize)
+    requires { ⌜ (at + 64 ≤ length (now s)) × (length (now w) ≡ 64) ⌝ }
+    ensures { λ _. ⌜ now (w .exit) ≡ S.schedule 48 (take 64 (drop at (now (s .entry)))) ⌝ }
+{
+    load(&mut *w, s, at);
+    let mut i: usize = 0;
+    while i <= 44 {
+        grow4(&mut *w, i);
+        i += 4;
+    }
+}
+
+// To each word its round word.
+fn add_round_words(w: &mut [u32; 64], k: &[u32; 64])
+    requires { ⌜ length (now w) ≡ 64 ⌝ }
+    ensures { λ _. ⌜ now (w .exit) ≡ sums 64 (now (k .entry)) (now (w .entry)) ⌝ }
+{
+    let mut i: usize = 0;
+    while i < 64 {
+        w[i] = add(k[i], w[i]);
+        i += 1;
+    }
+}
+
+// Round i.
+fn step(s: State, x: &[u32; 64], i: usize) -> State
     requires { ⌜ i < 64 ⌝ }
-    ensures { λ r. ⌜ ((z : D.State) → s ≡ S.rounds (now (k .entry)) (now (w .entry)) i z → r ≡ S.rounds (now (k .entry)) (now (w .entry)) (i + 1) z) ⌝ }
+    ensures { λ r. ⌜ ((z : D.State) → s ≡ roundsBy (now (x .entry)) i z → r ≡ roundsBy (now (x .entry)) (i + 1) z) ⌝ }
 {
-    round(s, k[i], w[i])
+    round(s, x[i])
 }
 
-// Eight such rounds.
-fn mixed8(st: State, k: &[u32; 64], w: &mut [u32; 64], i: usize) -> State
-    requires { ⌜ i ≤ 40 ⌝ }
-    ensures { λ r. ⌜ ((m : List ℕ) (z : D.State) → Stage (now (k .entry)) m z i (now (w .entry)) st → Stage (now (k .entry)) m z (i + 8) (now (w .exit)) r) ⌝ }
+// Sixteen rounds.
+fn step16(st: State, x: &[u32; 64], i: usize) -> State
+    requires { ⌜ i ≤ 48 ⌝ }
+    ensures { λ r. ⌜ ((z : D.State) → st ≡ roundsBy (now (x .entry)) i z → r ≡ roundsBy (now (x .entry)) (i + 16) z) ⌝ }
 {
-    let s1 = mixed(st, k, &mut *w, i);
-    let s2 = mixed(s1, k, &mut *w, i + 1);
-    let s3 = mixed(s2, k, &mut *w, i + 2);
-    let s4 = mixed(s3, k, &mut *w, i + 3);
-    let s5 = mixed(s4, k, &mut *w, i + 4);
-    let s6 = mixed(s5, k, &mut *w, i + 5);
-    let s7 = mixed(s6, k, &mut *w, i + 6);
-    mixed(s7, k, &mut *w, i + 7)
+    let s1 = step(st, x, i);
+    let s2 = step(s1, x, i + 1);
+    let s3 = step(s2, x, i + 2);
+    let s4 = step(s3, x, i + 3);
+    let s5 = step(s4, x, i + 4);
+    let s6 = step(s5, x, i + 5);
+    let s7 = step(s6, x, i + 6);
+    let s8 = step(s7, x, i + 7);
+    let s9 = step(s8, x, i + 8);
+    let s10 = step(s9, x, i + 9);
+    let s11 = step(s10, x, i + 10);
+    let s12 = step(s11, x, i + 11);
+    let s13 = step(s12, x, i + 12);
+    let s14 = step(s13, x, i + 13);
+    let s15 = step(s14, x, i + 14);
+    step(s15, x, i + 15)
 }
 
-fn step8(st: State, k: &[u32; 64], w: &[u32; 64], i: usize) -> State
-    requires { ⌜ i ≤ 56 ⌝ }
-    ensures { λ r. ⌜ ((z : D.State) → st ≡ S.rounds (now (k .entry)) (now (w .entry)) i z → r ≡ S.rounds (now (k .entry)) (now (w .entry)) (i + 8) z) ⌝ }
+// The rounds of a block whose schedule is given with the round words added, and their sum with the state before.
+pub fn compress_sums(st: State, x: &[u32; 64]) -> State
+    ensures { λ r. ⌜ r ≡ S.plus st (roundsBy (now (x .entry)) 64 st) ⌝ }
 {
-    let s1 = step(st, k, w, i);
-    let s2 = step(s1, k, w, i + 1);
-    let s3 = step(s2, k, w, i + 2);
-    let s4 = step(s3, k, w, i + 3);
-    let s5 = step(s4, k, w, i + 4);
-    let s6 = step(s5, k, w, i + 5);
-    let s7 = step(s6, k, w, i + 6);
-    step(s7, k, w, i + 7)
+    let mut t = st;
+    let mut i: usize = 0;
+    while i <= 48 {
+        t = step16(t, x, i);
+        i += 16;
+    }
+    sum(st, t)
 }
 
-// The block of s at `at`: the sixteen words, 48 rounds that make a word each, and 16 rounds.
+// The block of s at `at`.
 pub fn compress(st: State, k: &[u32; 64], s: &[u8], at: usize) -> State
     requires { ⌜ at + 64 ≤ length (now s) ⌝ }
     ensures { λ r. ⌜ r ≡ S.compress (now (k .entry)) st (take 64 (drop at (now (s .entry)))) ⌝ }
 {
     let mut w = [0u32; 64];
-    load(&mut w, s, at);
-    let mut t = st;
-    let mut i: usize = 0;
-    while i <= 40 {
-        t = mixed8(t, k, &mut w, i);
-        i += 8;
-    }
-    while i <= 56 {
-        t = step8(t, k, &w, i);
-        i += 8;
-    }
-    sum(st, t)
+    fill(&mut w, s, at);
+    add_round_words(&mut w, k);
+    compress_sums(st, &w)
 }

@@ -11,7 +11,9 @@ use Rattle.constants.specs.Constants.{K}
 use Rattle.padding.specs.Padding.{padding}
 use Rattle.padding.specs.Cutting.{overBlocks, overMessage}
 use Rattle.padding.specs.CuttingLaws.{message-split, message-of-64}
-use Rattle.rounds.specs.Block.{compress}
+use Rattle.rounds.specs.Block.{schedule, plus, compress}
+use Rattle.rounds.specs.Sums.{sums, roundsBy}
+use Rattle.rounds.specs.SumsLaws.{compress-by-sums}
 use Rattle.rounds.specs.declared.State.{State}
 use Rattle.sha256.specs.Sha256.{start}
 
@@ -27,18 +29,19 @@ joined-law z l r hz hl hr =
 pub front : (b : List ℕ) → length b ≡ 64 → take 64 (drop 0 b) ≡ b
 front b l = take-all 64 b (omega arith)
 
--- the two blocks of a pair are its message
+-- the block of a pair, and then the rounds by the table, are its message
 pub pair-law :
-    (k b p : List ℕ) (z : State) (l r : List ℕ)
+    (k x b l r : List ℕ) (z t : State)
     → k ≡ K
+    → x ≡ sums 64 K (schedule 48 (padding 64))
     → b ≡ l ++ r
-    → p ≡ padding 64
     → z ≡ start
     → length b ≡ 64
-    → compress k (compress k z b) p ≡ overMessage (compress K) start (l ++ r)
-pair-law k b p z l r ek eb ep ez lb =
+    → t ≡ compress k z b
+    → plus t (roundsBy x 64 t) ≡ overMessage (compress K) start (l ++ r)
+pair-law k x b l r z t ek ex eb ez lb et =
     let e : overMessage (compress K) start b ≡ overMessage (compress K) start (l ++ r) = ap (overMessage (compress K) start) eb in
-    cc (message-of-64 (compress K) b start lb)
+    cc (compress-by-sums K (padding 64) t, message-of-64 (compress K) b start lb)
 
 -- the whole blocks of a message, and its last bytes with the padding, are the message
 pub hash-law :

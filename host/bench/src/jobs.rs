@@ -33,13 +33,15 @@ const LISTED: [&str; 3] = [shapes::ORDINARY, "empty-files", "28-elements"];
 pub fn all() -> Vec<Job> {
     let mut jobs = vec![
         job("sha-1MiB", "kd_sha256", "", 1 << 20, || hashing(1 << 20)).not_counted(),
-        job("sha-64KiB", "kd_sha256", "", 65536, || hashing(65536)),
+        job("sha-64KiB", "kd_sha256", "0.78", 65536, || hashing(65536)),
         job("sha-16KiB", "kd_sha256", "", 16384, || hashing(16384)).not_counted(),
-        job("take", "kd_take", "2.2", REPLY, taking),
+        job("take", "kd_take", "1.42", REPLY, taking),
         job("take-again", "kd_take", "", REPLY, taking_again),
         job("serve", "kd_serve", "1.5", REPLY, serving),
-        job("piece-1MiB", "kd_judge_piece", "1.0", PIECE as usize, judging),
+        job("piece-1MiB", "kd_judge_piece", "0.78", PIECE as usize, judging),
     ];
+    #[cfg(has_pair)]
+    jobs.push(job("1024-pairs", "sha256::pair", "0.70", 64 * pairs::COUNT, pairs::pairing));
     jobs.extend([
         in_library("bursts-1MiB", "at-once", "kd_hashing_more", "1.05", 1 << 20, bursts),
         in_library("bursts-1-byte", "none", "kd_hashing_more", "", 1, one_byte),
@@ -183,6 +185,48 @@ fn one_byte_logged() -> Vec<Box<dyn Work>> {
         )
     };
     vec![work((), |_| (), |_| ()), once()]
+}
+
+/// The parents of two hashes, one after the other. The library's function for it is not exported: build.rs makes it visible.
+#[cfg(has_pair)]
+mod pairs {
+    use super::*;
+
+    pub const COUNT: usize = 1024;
+
+    extern "C" {
+        #[link_name = "sha256::pair"]
+        fn library_pair(parent: &mut Hash, left: &Hash, right: &Hash);
+    }
+
+    type Pair = fn(&Hash, &Hash) -> Hash;
+
+    fn joined(left: &Hash, right: &Hash) -> [u8; 64] {
+        let mut both = [0; 64];
+        both[..32].copy_from_slice(left);
+        both[32..].copy_from_slice(right);
+        both
+    }
+
+    fn by_library(left: &Hash, right: &Hash) -> Hash {
+        let mut parent = [0; 32];
+        // SAFETY: it reads two hashes and writes one, at the places it is given.
+        unsafe { library_pair(&mut parent, left, right) };
+        parent
+    }
+
+    /// Each pair is the last parent beside the first.
+    fn chain(pair: Pair) -> Hash {
+        let first = [7; 32];
+        (0..COUNT).fold(first, |last, _| pair(black_box(&last), black_box(&first)))
+    }
+
+    pub fn pairing() -> Vec<Box<dyn Work>> {
+        let versions: [Pair; 3] = [|l, r| sha256(&joined(l, r)), |l, r| careful::sha256(&joined(l, r)), by_library];
+        let last = chain(versions[0]);
+        let of_version = |pair: Pair| work((pair, last), |_| (), |(pair, last)| assert_eq!(chain(*pair), *last));
+        versions.map(of_version).into_iter().collect()
+    }
 }
 
 /// A store in plain Rust with what a job needs beside it.

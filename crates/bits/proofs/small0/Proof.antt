@@ -1,4 +1,4 @@
-use Rattle.bits.specs.Words.{σ₀}
+use Rattle.bits.proofs.Bitwise.{σ₀-law}
 use Prim.Native.Nat.{_-_}
 use borrow.Author.Needs.{needs}
 use Rattle.bits.proofs.small0.Statement.{statement}
@@ -11,8 +11,9 @@ rotr-requires-2 : tie.Need-rotr-requires-2
 rotr-requires-2 c κs = search needs
 
 returns : tie.Need-returns
-unfolding σ₀
-returns c = cc
+returns c =
+    let s = c .before .before in
+    cc (σ₀-law (s .args .x) (s .fits .x .fits))
 
 pub small0-spec : {M : Type 1} → statement M
 small0-spec = tie.close (tie.spec rotr-requires rotr-requires-2 returns)

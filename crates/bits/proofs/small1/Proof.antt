@@ -1,4 +1,4 @@
-use Rattle.bits.specs.Words.{σ₁}
+use Rattle.bits.proofs.Bitwise.{σ₁-law}
 use Prim.Native.Nat.{_-_}
 use borrow.Author.Needs.{needs}
 use Rattle.bits.proofs.small1.Statement.{statement}
@@ -11,8 +11,9 @@ rotr-requires-2 : tie.Need-rotr-requires-2
 rotr-requires-2 c κs = search needs
 
 returns : tie.Need-returns
-unfolding σ₁
-returns c = cc
+returns c =
+    let s = c .before .before in
+    cc (σ₁-law (s .args .x) (s .fits .x .fits))
 
 pub small1-spec : {M : Type 1} → statement M
 small1-spec = tie.close (tie.spec rotr-requires rotr-requires-2 returns)
