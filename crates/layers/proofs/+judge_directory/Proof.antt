@@ -3,9 +3,9 @@ use Rattle.filetree.specs.TreeLaws.{no-levels}
 use Rattle.layers.specs.JudgeLaws.{JudgedAt, judged-start, judges-wrong, judges-bad, judges-end, judges-closed, file-behind, judged-file, judges-inside, directory-behind, judged-directory}
 use borrow.Author.Needs.{needs}
 use native.Mathlib.Omega.{arith}
-use lib.ListN.{length, getD, set, take, drop}
-use mathlib.Core.Path.{_≡_, refl, ap, sym, _∙_}
-use Prim.Native.Nat.{ℕ, _<_, _+_, _-_, _*_, _≤_, _/_, _%_, _^_}
+use lib.ListN.{length}
+use mathlib.Core.Path.{sym, _∙_}
+use Prim.Native.Nat.{ℕ, _<_, _+_, _-_}
 use borrow.Fn.Kinds.{In}
 use borrow.Fn.PlainCycle.{Measures, is, falls, and}
 use Rattle.layers.proofs.judge_directory.Reads as judge-directory
@@ -42,7 +42,6 @@ judge-directory-Inv-loop t at levels l keys below count plen number₀ i₀ numb
 abbrev judge-directory-μ-loop : judge-directory-lts.MeasureT-loop
 judge-directory-μ-loop t at levels l keys below count plen number₀ i₀ number i = length t - i
 
--- src/lib.rt:164:9
 judge-directory-returns : (t : ℕ) → judge-directory-lts.Need-returns (
   read-token-reads.Asked,
   read-token-reads.Learnt,
@@ -55,7 +54,6 @@ judge-directory-returns : (t : ℕ) → judge-directory-lts.Need-returns (
 ) (judge-directory-at t) judge-directory.Post judge-directory-Inv-loop judge-directory-μ-loop
 judge-directory-returns t c = judges-wrong _ _ _ _ _ _ (λ p. no-levels _ _ _ p (c .if1 .taken))
 
--- src/lib.rt:166:17
 judge-directory-sub-below : (t : ℕ) → judge-directory-lts.Need-sub-below (
   read-token-reads.Asked,
   read-token-reads.Learnt,
@@ -68,7 +66,6 @@ judge-directory-sub-below : (t : ℕ) → judge-directory-lts.Need-sub-below (
 ) (judge-directory-at t) judge-directory.Post judge-directory-Inv-loop judge-directory-μ-loop
 judge-directory-sub-below t c = search needs
 
--- src/lib.rt:171:5
 judge-directory-loop-holds : (t : ℕ) → judge-directory-lts.Need-loop-holds (
   read-token-reads.Asked,
   read-token-reads.Learnt,
@@ -81,7 +78,6 @@ judge-directory-loop-holds : (t : ℕ) → judge-directory-lts.Need-loop-holds (
 ) (judge-directory-at t) judge-directory.Post judge-directory-Inv-loop judge-directory-μ-loop
 judge-directory-loop-holds t c = judged-start _ _ _ _ _ _ (c .if1 .left)
 
--- src/lib.rt:172:15
 judge-directory-read-token-requires : (t : ℕ) → judge-directory-lts.Need-read-token-requires (
   read-token-reads.Asked,
   read-token-reads.Learnt,
@@ -94,7 +90,6 @@ judge-directory-read-token-requires : (t : ℕ) → judge-directory-lts.Need-rea
 ) (judge-directory-at t) judge-directory.Post judge-directory-Inv-loop judge-directory-μ-loop
 judge-directory-read-token-requires t c κs = search needs
 
--- src/lib.rt:174:17
 judge-directory-enum-told : (t : ℕ) → judge-directory-lts.Need-enum-told (
   read-token-reads.Asked,
   read-token-reads.Learnt,
@@ -107,7 +102,6 @@ judge-directory-enum-told : (t : ℕ) → judge-directory-lts.Need-enum-told (
 ) (judge-directory-at t) judge-directory.Post judge-directory-Inv-loop judge-directory-μ-loop
 judge-directory-enum-told t c = search needs
 
--- src/lib.rt:174:17
 judge-directory-returns-2 : (t : ℕ) → judge-directory-lts.Need-returns-2 (
   read-token-reads.Asked,
   read-token-reads.Learnt,
@@ -120,7 +114,6 @@ judge-directory-returns-2 : (t : ℕ) → judge-directory-lts.Need-returns-2 (
 ) (judge-directory-at t) judge-directory.Post judge-directory-Inv-loop judge-directory-μ-loop
 judge-directory-returns-2 t c = judges-bad _ _ _ _ _ _ _ _ _ (c .before .before .before .before .loop .inv) (sym (c .before .before .read-token .ensures) ∙ c .enum-told .given .1)
 
--- src/lib.rt:178:27
 judge-directory-enum-told-2 : (t : ℕ) → judge-directory-lts.Need-enum-told-2 (
   read-token-reads.Asked,
   read-token-reads.Learnt,
@@ -133,7 +126,6 @@ judge-directory-enum-told-2 : (t : ℕ) → judge-directory-lts.Need-enum-told-2
 ) (judge-directory-at t) judge-directory.Post judge-directory-Inv-loop judge-directory-μ-loop
 judge-directory-enum-told-2 t c = search needs
 
--- src/lib.rt:178:27
 judge-directory-add-t25 : (t : ℕ) → judge-directory-lts.Need-add-t25 (
   read-token-reads.Asked,
   read-token-reads.Learnt,
@@ -146,7 +138,6 @@ judge-directory-add-t25 : (t : ℕ) → judge-directory-lts.Need-add-t25 (
 ) (judge-directory-at t) judge-directory.Post judge-directory-Inv-loop judge-directory-μ-loop
 judge-directory-add-t25 t c = search needs
 
--- src/lib.rt:177:17
 judge-directory-returns-3 : (t : ℕ) → judge-directory-lts.Need-returns-3 (
   read-token-reads.Asked,
   read-token-reads.Learnt,
@@ -159,7 +150,6 @@ judge-directory-returns-3 : (t : ℕ) → judge-directory-lts.Need-returns-3 (
 ) (judge-directory-at t) judge-directory.Post judge-directory-Inv-loop judge-directory-μ-loop
 judge-directory-returns-3 t c = judges-closed _ _ _ _ _ _ _ _ _ (c .before .before .before .before .loop .inv) (c .before .before .before .loop-test .taken) (sym (c .before .before .read-token .ensures) ∙ c .enum-told2 .given .1)
 
--- src/lib.rt:185:17
 judge-directory-enum-known-length : (t : ℕ) → judge-directory-lts.Need-enum-known-length (
   read-token-reads.Asked,
   read-token-reads.Learnt,
@@ -172,7 +162,6 @@ judge-directory-enum-known-length : (t : ℕ) → judge-directory-lts.Need-enum-
 ) (judge-directory-at t) judge-directory.Post judge-directory-Inv-loop judge-directory-μ-loop
 judge-directory-enum-known-length t c = search needs
 
--- src/lib.rt:194:21
 judge-directory-layer-number-requires : (t : ℕ) → judge-directory-lts.Need-layer-number-requires (
   read-token-reads.Asked,
   read-token-reads.Learnt,
@@ -185,7 +174,6 @@ judge-directory-layer-number-requires : (t : ℕ) → judge-directory-lts.Need-l
 ) (judge-directory-at t) judge-directory.Post judge-directory-Inv-loop judge-directory-μ-loop
 judge-directory-layer-number-requires t c κs = let x = file-behind _ _ _ _ _ _ _ _ _ (c .before .before .before .before .before .loop .inv) (c .before .before .before .before .loop-test .taken) _ _ _ _ _ (sym (c .before .before .before .read-token .ensures) ∙ c .before .length .given .1) in (c .before .before .before .before .before .before .before .before .before .before .pre .1 .0, c .before .before .before .before .before .before .before .before .before .before .pre .1 .1, x .2, x .3)
 
--- src/lib.rt:195:17
 judge-directory-lower-of-requires : (t : ℕ) → judge-directory-lts.Need-lower-of-requires (
   read-token-reads.Asked,
   read-token-reads.Learnt,
@@ -198,7 +186,6 @@ judge-directory-lower-of-requires : (t : ℕ) → judge-directory-lts.Need-lower
 ) (judge-directory-at t) judge-directory.Post judge-directory-Inv-loop judge-directory-μ-loop
 judge-directory-lower-of-requires t c κs = search needs
 
--- src/lib.rt:171:5
 judge-directory-loop-less : (t : ℕ) → judge-directory-lts.Need-loop-less (
   read-token-reads.Asked,
   read-token-reads.Learnt,
@@ -211,7 +198,6 @@ judge-directory-loop-less : (t : ℕ) → judge-directory-lts.Need-loop-less (
 ) (judge-directory-at t) judge-directory.Post judge-directory-Inv-loop judge-directory-μ-loop
 judge-directory-loop-less t c = let ends = leaf-ends _ _ _ _ _ _ _ (sym (c .before .before .before .before .before .read-token .ensures) ∙ c .before .before .before .length .given .1) in let x = ends .0 in let y = ends .1 in omega arith
 
--- src/lib.rt:171:5
 judge-directory-loop-again : (t : ℕ) → judge-directory-lts.Need-loop-again (
   read-token-reads.Asked,
   read-token-reads.Learnt,
@@ -224,7 +210,6 @@ judge-directory-loop-again : (t : ℕ) → judge-directory-lts.Need-loop-again (
 ) (judge-directory-at t) judge-directory.Post judge-directory-Inv-loop judge-directory-μ-loop
 judge-directory-loop-again t c = judged-file _ _ _ _ _ _ _ _ _ (c .before .before .before .before .before .before .before .loop .inv) (c .before .before .before .before .before .before .loop-test .taken) _ _ _ _ _ (sym (c .before .before .before .before .before .read-token .ensures) ∙ c .before .before .before .length .given .1) _ _ (c .before .layer-number .ensures) (c .lower-of .ensures)
 
--- src/lib.rt:198:39
 judge-directory-enum-known-end : (t : ℕ) → judge-directory-lts.Need-enum-known-end (
   read-token-reads.Asked,
   read-token-reads.Learnt,
@@ -237,7 +222,6 @@ judge-directory-enum-known-end : (t : ℕ) → judge-directory-lts.Need-enum-kno
 ) (judge-directory-at t) judge-directory.Post judge-directory-Inv-loop judge-directory-μ-loop
 judge-directory-enum-known-end t c = search needs
 
--- src/lib.rt:204:42
 judge-directory-add-judge-directory : (t : ℕ) → judge-directory-lts.Need-add-judge-directory (
   read-token-reads.Asked,
   read-token-reads.Learnt,
@@ -250,7 +234,6 @@ judge-directory-add-judge-directory : (t : ℕ) → judge-directory-lts.Need-add
 ) (judge-directory-at t) judge-directory.Post judge-directory-Inv-loop judge-directory-μ-loop
 judge-directory-add-judge-directory t c = let ends = opened-ends _ _ _ _ (sym (c .before .before .before .read-token .ensures) ∙ c .before .end .given .1) in let x = ends .1 in omega arith
 
--- src/lib.rt:204:23
 judge-directory-judge-directory-requires :
     (t : ℕ) → judge-directory-lts.Need-judge-directory-requires (
       read-token-reads.Asked,
@@ -264,7 +247,6 @@ judge-directory-judge-directory-requires :
     ) (judge-directory-at t) judge-directory.Post judge-directory-Inv-loop judge-directory-μ-loop
 judge-directory-judge-directory-requires t c κs = (let x = c .before .before .before .before .before .before .if1 .left in omega arith, c .before .before .before .before .before .before .before .before .before .before .pre .1)
 
--- src/lib.rt:206:25
 judge-directory-enum-known-next : (t : ℕ) → judge-directory-lts.Need-enum-known-next (
   read-token-reads.Asked,
   read-token-reads.Learnt,
@@ -277,7 +259,6 @@ judge-directory-enum-known-next : (t : ℕ) → judge-directory-lts.Need-enum-kn
 ) (judge-directory-at t) judge-directory.Post judge-directory-Inv-loop judge-directory-μ-loop
 judge-directory-enum-known-next t c = search needs
 
--- src/lib.rt:171:5
 judge-directory-loop-less-2 : (t : ℕ) → judge-directory-lts.Need-loop-less-2 (
   read-token-reads.Asked,
   read-token-reads.Learnt,
@@ -290,7 +271,6 @@ judge-directory-loop-less-2 : (t : ℕ) → judge-directory-lts.Need-loop-less-2
 ) (judge-directory-at t) judge-directory.Post judge-directory-Inv-loop judge-directory-μ-loop
 judge-directory-loop-less-2 t c = let ends = directory-behind _ _ _ _ _ _ _ _ _ (c .before .before .before .before .before .before .before .before .before .loop .inv) (c .before .before .before .before .before .before .before .before .loop-test .taken) _ _ (sym (c .before .before .before .before .before .before .before .read-token .ensures) ∙ c .before .before .before .before .before .end .given .1) _ _ (rw (c .before .next .given .1) at (c .before .before .before .judge-directory .ensures)) in let x = ends .0 in let y = ends .1 in omega arith
 
--- src/lib.rt:171:5
 judge-directory-loop-again-2 : (t : ℕ) → judge-directory-lts.Need-loop-again-2 (
   read-token-reads.Asked,
   read-token-reads.Learnt,
@@ -303,7 +283,6 @@ judge-directory-loop-again-2 : (t : ℕ) → judge-directory-lts.Need-loop-again
 ) (judge-directory-at t) judge-directory.Post judge-directory-Inv-loop judge-directory-μ-loop
 judge-directory-loop-again-2 t c = judged-directory _ _ _ _ _ _ _ _ _ (c .before .before .before .before .before .before .before .before .before .loop .inv) (c .before .before .before .before .before .before .before .before .loop-test .taken) _ _ (sym (c .before .before .before .before .before .before .before .read-token .ensures) ∙ c .before .before .before .before .before .end .given .1) _ _ (rw (c .before .next .given .1) at (c .before .before .before .judge-directory .ensures))
 
--- src/lib.rt:213:25
 judge-directory-enum-told-3 : (t : ℕ) → judge-directory-lts.Need-enum-told-3 (
   read-token-reads.Asked,
   read-token-reads.Learnt,
@@ -316,7 +295,6 @@ judge-directory-enum-told-3 : (t : ℕ) → judge-directory-lts.Need-enum-told-3
 ) (judge-directory-at t) judge-directory.Post judge-directory-Inv-loop judge-directory-μ-loop
 judge-directory-enum-told-3 t c = search needs
 
--- src/lib.rt:213:25
 judge-directory-returns-4 : (t : ℕ) → judge-directory-lts.Need-returns-4 (
   read-token-reads.Asked,
   read-token-reads.Learnt,
@@ -329,7 +307,6 @@ judge-directory-returns-4 : (t : ℕ) → judge-directory-lts.Need-returns-4 (
 ) (judge-directory-at t) judge-directory.Post judge-directory-Inv-loop judge-directory-μ-loop
 judge-directory-returns-4 t c = judges-inside _ _ _ _ _ _ _ _ _ (c .before .before .before .before .before .before .before .before .loop .inv) (c .before .before .before .before .before .before .before .loop-test .taken) _ _ (sym (c .before .before .before .before .before .before .read-token .ensures) ∙ c .before .before .before .before .end .given .1) (rw (c .enum-told3 .given .1) at (c .before .before .judge-directory .ensures))
 
--- src/lib.rt:152:1
 judge-directory-returns-5 : (t : ℕ) → judge-directory-lts.Need-returns-5 (
   read-token-reads.Asked,
   read-token-reads.Learnt,

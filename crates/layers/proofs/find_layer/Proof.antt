@@ -1,46 +1,33 @@
 use Rattle.layers.proofs.Finding.{found-here, found-nowhere}
 use Rattle.layers.proofs.Searching.{index-within}
 use native.Mathlib.Omega.{arith}
-use Prim.Native.Nat.{ℕ, _+_, _-_, _*_, _≤_, _<_, _/_, _%_, _^_}
-use lib.ListN.{length, getD, set, take, drop}
-use mathlib.Core.Path.{_≡_, refl, ap, sym, _∙_}
+use Prim.Native.Nat.{_-_}
+use mathlib.Core.Path.{sym, _∙_}
 use borrow.Author.Needs.{needs}
 use Rattle.layers.proofs.find_layer.Statement.{statement}
 use Rattle.layers.proofs.find_layer.Tie as tie
-use Rattle.layers.proofs.find_layer.Reads as reads
-use Rattle.layers.proofs.find_layer.Lts as lts
-use Rattle.bencode.proofs.scalar.read_string.Reads as read-string-reads
-use Rattle.sorting.proofs.halving.search.Reads as search-reads
 
--- src/lib.rt:69:9
 search-requires : tie.Need-search-requires
 search-requires c κs = (c .before .before .before .pre .room, index-within _ _ _ (c .before .before .before .pre), c .before .before .before .pre .ascending)
 
--- src/lib.rt:71:19
 mul-key : tie.Need-mul-key
 mul-key c = search needs
 
--- src/lib.rt:71:19
 shared-slice-read-key : tie.Need-shared-slice-read-key
 shared-slice-read-key c = search needs
 
--- src/lib.rt:71:19
 cast-key : tie.Need-cast-key
 cast-key c = let x = index-within _ _ _ (c .before .before .before .before .before .before .pre) _ (c .before .if1 .taken) in omega arith
 
--- src/lib.rt:72:31
 add-read-string : tie.Need-add-read-string
 add-read-string c = let x = index-within _ _ _ (c .before .before .before .before .before .before .pre) _ (c .before .if1 .taken) in omega arith
 
--- src/lib.rt:72:9
 read-string-requires : tie.Need-read-string-requires
 read-string-requires c κs = search needs
 
--- src/lib.rt:72:9
 returns : tie.Need-returns
 returns c = c .read-string .ensures ∙ sym (found-here _ _ _ (c .before .before .before .before .before .before .before .pre) _ _ (c .before .before .before .search .ensures) (c .before .before .if1 .taken))
 
--- src/lib.rt:65:1
 returns-2 : tie.Need-returns-2
 returns-2 c = sym (found-nowhere _ _ _ (c .before .before .before .before .before .pre) _ _ (c .before .search .ensures) (c .if1 .left))
 

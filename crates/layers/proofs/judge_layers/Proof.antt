@@ -1,32 +1,21 @@
 use Rattle.layers.specs.JudgeLaws.{tree-judged, tree-never}
-use native.Mathlib.Omega.{arith}
-use Prim.Native.Nat.{ℕ, _+_, _-_, _*_, _≤_, _<_, _/_, _%_, _^_}
-use lib.ListN.{length, getD, set, take, drop}
-use mathlib.Core.Path.{_≡_, refl, ap, sym, _∙_}
+use Prim.Native.Nat.{_-_}
 use borrow.Author.Needs.{needs}
 use Rattle.layers.proofs.judge_layers.Statement.{statement}
 use Rattle.layers.proofs.judge_layers.Tie as tie
-use Rattle.layers.proofs.judge_layers.Reads as reads
-use Rattle.layers.proofs.judge_layers.Lts as lts
-use Rattle.layers.proofs.judge_directory.Reads as judge-directory-reads
 
--- src/lib.rt:232:11
 judge-directory-requires : tie.Need-judge-directory-requires
 judge-directory-requires c κs = search needs
 
--- src/lib.rt:233:35
 enum-known-number : tie.Need-enum-known-number
 enum-known-number c = search needs
 
--- src/lib.rt:234:32
 enum-told : tie.Need-enum-told
 enum-told c = search needs
 
--- src/lib.rt:223:1
 returns : tie.Need-returns
 returns c = tree-judged _ _ _ (c .before .before .before .before .before .before .before .pre .2) _ _ (rw (c .before .number .given .1) at (c .before .before .before .judge-directory .ensures))
 
--- src/lib.rt:223:1
 returns-2 : tie.Need-returns-2
 returns-2 c = tree-never _ _ _ (c .before .before .before .before .before .before .pre .2) (rw (c .enum-told .given .1) at (c .before .before .judge-directory .ensures)) _
 

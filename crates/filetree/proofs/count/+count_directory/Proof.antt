@@ -1,11 +1,11 @@
 use Rattle.filetree.specs.TokenLaws.{leaf-ends, opened-ends}
 use Rattle.filetree.specs.TreeLaws.{no-levels}
-use Rattle.filetree.specs.CountLaws.{CountedAt, counted-start, counts-wrong, counts-bad, counts-end, counts-closed, room-left, counted-file, counts-inside, directory-behind, counted-directory, file-asked, further}
+use Rattle.filetree.specs.CountLaws.{CountedAt, counted-start, counts-wrong, counts-bad, counts-end, counts-closed, counted-file, counts-inside, directory-behind, counted-directory, file-asked, further}
 use borrow.Author.Needs.{needs}
 use native.Mathlib.Omega.{arith}
-use lib.ListN.{length, getD, set, take, drop}
-use mathlib.Core.Path.{_≡_, refl, ap, sym, _∙_}
-use Prim.Native.Nat.{ℕ, _<_, _+_, _-_, _*_, _≤_, _/_, _%_, _^_}
+use lib.ListN.{length}
+use mathlib.Core.Path.{sym, _∙_}
+use Prim.Native.Nat.{ℕ, _<_, _+_, _-_}
 use borrow.Fn.Kinds.{In}
 use borrow.Fn.PlainCycle.{Measures, is, falls, and}
 use Rattle.filetree.proofs.count.count_directory.Reads as count-directory
@@ -41,7 +41,6 @@ count-directory-Inv-loop t at levels plen roots₀ below i₀ tally₀ roots i t
 abbrev count-directory-μ-loop : count-directory-lts.MeasureT-loop
 count-directory-μ-loop t at levels plen roots₀ below i₀ tally₀ roots i tally = length t - i
 
--- src/count.rt:90:9
 count-directory-returns : (t : ℕ) → count-directory-lts.Need-returns (
   read-token-reads.Asked,
   read-token-reads.Learnt,
@@ -52,7 +51,6 @@ count-directory-returns : (t : ℕ) → count-directory-lts.Need-returns (
 ) (count-directory-at t) count-directory.Post count-directory-Inv-loop count-directory-μ-loop
 count-directory-returns t c = counts-wrong _ _ _ _ _ _ _ (λ p. no-levels _ _ _ p (c .if1 .taken))
 
--- src/count.rt:92:17
 count-directory-sub-below : (t : ℕ) → count-directory-lts.Need-sub-below (
   read-token-reads.Asked,
   read-token-reads.Learnt,
@@ -63,7 +61,6 @@ count-directory-sub-below : (t : ℕ) → count-directory-lts.Need-sub-below (
 ) (count-directory-at t) count-directory.Post count-directory-Inv-loop count-directory-μ-loop
 count-directory-sub-below t c = search needs
 
--- src/count.rt:95:5
 count-directory-loop-holds : (t : ℕ) → count-directory-lts.Need-loop-holds (
   read-token-reads.Asked,
   read-token-reads.Learnt,
@@ -74,7 +71,6 @@ count-directory-loop-holds : (t : ℕ) → count-directory-lts.Need-loop-holds (
 ) (count-directory-at t) count-directory.Post count-directory-Inv-loop count-directory-μ-loop
 count-directory-loop-holds t c = counted-start _ _ _ _ _ _ (c .if1 .left) (c .before .before .before .pre .1 .2) (c .before .before .before .pre .1 .1)
 
--- src/count.rt:96:15
 count-directory-read-token-requires : (t : ℕ) → count-directory-lts.Need-read-token-requires (
   read-token-reads.Asked,
   read-token-reads.Learnt,
@@ -85,7 +81,6 @@ count-directory-read-token-requires : (t : ℕ) → count-directory-lts.Need-rea
 ) (count-directory-at t) count-directory.Post count-directory-Inv-loop count-directory-μ-loop
 count-directory-read-token-requires t c κs = search needs
 
--- src/count.rt:98:17
 count-directory-enum-told : (t : ℕ) → count-directory-lts.Need-enum-told (
   read-token-reads.Asked,
   read-token-reads.Learnt,
@@ -96,7 +91,6 @@ count-directory-enum-told : (t : ℕ) → count-directory-lts.Need-enum-told (
 ) (count-directory-at t) count-directory.Post count-directory-Inv-loop count-directory-μ-loop
 count-directory-enum-told t c = search needs
 
--- src/count.rt:98:17
 count-directory-same-length : (t : ℕ) → count-directory-lts.Need-same-length (
   read-token-reads.Asked,
   read-token-reads.Learnt,
@@ -107,7 +101,6 @@ count-directory-same-length : (t : ℕ) → count-directory-lts.Need-same-length
 ) (count-directory-at t) count-directory.Post count-directory-Inv-loop count-directory-μ-loop
 count-directory-same-length t c = search needs
 
--- src/count.rt:98:17
 count-directory-returns-2 : (t : ℕ) → count-directory-lts.Need-returns-2 (
   read-token-reads.Asked,
   read-token-reads.Learnt,
@@ -118,7 +111,6 @@ count-directory-returns-2 : (t : ℕ) → count-directory-lts.Need-returns-2 (
 ) (count-directory-at t) count-directory.Post count-directory-Inv-loop count-directory-μ-loop
 count-directory-returns-2 t c = counts-bad _ _ _ _ _ _ _ _ _ _ (c .before .before .before .before .loop .inv) (sym (c .before .before .read-token .ensures) ∙ c .enum-told .given .1)
 
--- src/count.rt:102:27
 count-directory-enum-told-2 : (t : ℕ) → count-directory-lts.Need-enum-told-2 (
   read-token-reads.Asked,
   read-token-reads.Learnt,
@@ -129,7 +121,6 @@ count-directory-enum-told-2 : (t : ℕ) → count-directory-lts.Need-enum-told-2
 ) (count-directory-at t) count-directory.Post count-directory-Inv-loop count-directory-μ-loop
 count-directory-enum-told-2 t c = search needs
 
--- src/count.rt:102:27
 count-directory-add-t20 : (t : ℕ) → count-directory-lts.Need-add-t20 (
   read-token-reads.Asked,
   read-token-reads.Learnt,
@@ -140,7 +131,6 @@ count-directory-add-t20 : (t : ℕ) → count-directory-lts.Need-add-t20 (
 ) (count-directory-at t) count-directory.Post count-directory-Inv-loop count-directory-μ-loop
 count-directory-add-t20 t c = search needs
 
--- src/count.rt:101:17
 count-directory-same-length-2 : (t : ℕ) → count-directory-lts.Need-same-length-2 (
   read-token-reads.Asked,
   read-token-reads.Learnt,
@@ -151,7 +141,6 @@ count-directory-same-length-2 : (t : ℕ) → count-directory-lts.Need-same-leng
 ) (count-directory-at t) count-directory.Post count-directory-Inv-loop count-directory-μ-loop
 count-directory-same-length-2 t c = search needs
 
--- src/count.rt:101:17
 count-directory-returns-3 : (t : ℕ) → count-directory-lts.Need-returns-3 (
   read-token-reads.Asked,
   read-token-reads.Learnt,
@@ -162,7 +151,6 @@ count-directory-returns-3 : (t : ℕ) → count-directory-lts.Need-returns-3 (
 ) (count-directory-at t) count-directory.Post count-directory-Inv-loop count-directory-μ-loop
 count-directory-returns-3 t c = counts-closed _ _ _ _ _ _ _ _ _ _ (c .before .before .before .before .loop .inv) (c .before .before .before .loop-test .taken) (sym (c .before .before .read-token .ensures) ∙ c .enum-told2 .given .1)
 
--- src/count.rt:109:17
 count-directory-enum-known-length : (t : ℕ) → count-directory-lts.Need-enum-known-length (
   read-token-reads.Asked,
   read-token-reads.Learnt,
@@ -173,7 +161,6 @@ count-directory-enum-known-length : (t : ℕ) → count-directory-lts.Need-enum-
 ) (count-directory-at t) count-directory.Post count-directory-Inv-loop count-directory-μ-loop
 count-directory-enum-known-length t c = search needs
 
--- src/count.rt:113:17
 count-directory-count-file-requires : (t : ℕ) → count-directory-lts.Need-count-file-requires (
   read-token-reads.Asked,
   read-token-reads.Learnt,
@@ -184,7 +171,6 @@ count-directory-count-file-requires : (t : ℕ) → count-directory-lts.Need-cou
 ) (count-directory-at t) count-directory.Post count-directory-Inv-loop count-directory-μ-loop
 count-directory-count-file-requires t c κs = file-asked _ _ _ _ _ _ _ _ _ _ (c .before .before .before .before .before .before .loop .inv) (c .before .before .before .before .before .loop-test .taken) _ _ _ _ _ (sym (c .before .before .before .before .read-token .ensures) ∙ c .before .before .length .given .1) (c .before .before .before .before .before .before .before .before .before .before .pre .1 .0)
 
--- src/count.rt:95:5
 count-directory-loop-less : (t : ℕ) → count-directory-lts.Need-loop-less (
   read-token-reads.Asked,
   read-token-reads.Learnt,
@@ -195,7 +181,6 @@ count-directory-loop-less : (t : ℕ) → count-directory-lts.Need-loop-less (
 ) (count-directory-at t) count-directory.Post count-directory-Inv-loop count-directory-μ-loop
 count-directory-loop-less t c = let ends = leaf-ends _ _ _ _ _ _ _ (sym (c .before .before .before .before .before .before .before .read-token .ensures) ∙ c .before .before .before .before .before .length .given .1) in let x = ends .0 in let y = ends .1 in omega arith
 
--- src/count.rt:95:5
 count-directory-loop-again : (t : ℕ) → count-directory-lts.Need-loop-again (
   read-token-reads.Asked,
   read-token-reads.Learnt,
@@ -206,7 +191,6 @@ count-directory-loop-again : (t : ℕ) → count-directory-lts.Need-loop-again (
 ) (count-directory-at t) count-directory.Post count-directory-Inv-loop count-directory-μ-loop
 count-directory-loop-again t c = counted-file _ _ _ _ _ _ _ _ _ _ (c .before .before .before .before .before .before .before .before .before .loop .inv) (c .before .before .before .before .before .before .before .before .loop-test .taken) _ _ _ _ _ (sym (c .before .before .before .before .before .before .before .read-token .ensures) ∙ c .before .before .before .before .before .length .given .1) (c .before .before .before .before .before .before .before .before .before .before .before .before .before .pre .1 .0) _ _ (c .before .before .count-file .ensures .0) (c .before .before .count-file .ensures .1)
 
--- src/count.rt:116:39
 count-directory-enum-known-end : (t : ℕ) → count-directory-lts.Need-enum-known-end (
   read-token-reads.Asked,
   read-token-reads.Learnt,
@@ -217,7 +201,6 @@ count-directory-enum-known-end : (t : ℕ) → count-directory-lts.Need-enum-kno
 ) (count-directory-at t) count-directory.Post count-directory-Inv-loop count-directory-μ-loop
 count-directory-enum-known-end t c = search needs
 
--- src/count.rt:118:17
 count-directory-add-count-directory : (t : ℕ) → count-directory-lts.Need-add-count-directory (
   read-token-reads.Asked,
   read-token-reads.Learnt,
@@ -228,7 +211,6 @@ count-directory-add-count-directory : (t : ℕ) → count-directory-lts.Need-add
 ) (count-directory-at t) count-directory.Post count-directory-Inv-loop count-directory-μ-loop
 count-directory-add-count-directory t c = let ends = opened-ends _ _ _ _ (sym (c .before .before .before .read-token .ensures) ∙ c .before .end .given .1) in let x = ends .1 in omega arith
 
--- src/count.rt:116:54
 count-directory-count-directory-requires :
     (t : ℕ) → count-directory-lts.Need-count-directory-requires (
       read-token-reads.Asked,
@@ -240,7 +222,6 @@ count-directory-count-directory-requires :
     ) (count-directory-at t) count-directory.Post count-directory-Inv-loop count-directory-μ-loop
 count-directory-count-directory-requires t c κs = (let x = c .before .before .before .before .before .before .before .if1 .left in omega arith, (c .before .before .before .before .before .before .before .before .before .before .pre .1 .0, c .before .before .before .before .before .before .loop .inv .sized, further _ _ _ (let x = opened-ends _ _ _ _ (sym (c .before .before .before .before .read-token .ensures) ∙ c .before .before .end .given .1) .0 in omega arith) (c .before .before .before .before .before .before .loop .inv .within)))
 
--- src/count.rt:125:21
 count-directory-enum-known-next : (t : ℕ) → count-directory-lts.Need-enum-known-next (
   read-token-reads.Asked,
   read-token-reads.Learnt,
@@ -251,7 +232,6 @@ count-directory-enum-known-next : (t : ℕ) → count-directory-lts.Need-enum-kn
 ) (count-directory-at t) count-directory.Post count-directory-Inv-loop count-directory-μ-loop
 count-directory-enum-known-next t c = search needs
 
--- src/count.rt:95:5
 count-directory-loop-less-2 : (t : ℕ) → count-directory-lts.Need-loop-less-2 (
   read-token-reads.Asked,
   read-token-reads.Learnt,
@@ -262,7 +242,6 @@ count-directory-loop-less-2 : (t : ℕ) → count-directory-lts.Need-loop-less-2
 ) (count-directory-at t) count-directory.Post count-directory-Inv-loop count-directory-μ-loop
 count-directory-loop-less-2 t c = let ends = directory-behind _ _ _ _ _ _ _ _ _ _ (c .before .before .before .before .before .before .before .before .before .before .before .before .loop .inv) (c .before .before .before .before .before .before .before .before .before .before .before .loop-test .taken) _ _ (sym (c .before .before .before .before .before .before .before .before .before .before .read-token .ensures) ∙ c .before .before .before .before .before .before .before .before .end .given .1) _ _ _ (rw (c .before .next .given .1) at (c .before .before .before .before .before .count-directory .ensures)) (c .before .before .before .before .before .count-directory .kept .1 .1 .1 .1 .1 .0) (c .before .before .before .before .before .before .before .before .before .before .before .before .before .before .before .before .pre .1 .0) in let x = ends .0 in let y = ends .1 in omega arith
 
--- src/count.rt:95:5
 count-directory-loop-again-2 : (t : ℕ) → count-directory-lts.Need-loop-again-2 (
   read-token-reads.Asked,
   read-token-reads.Learnt,
@@ -273,7 +252,6 @@ count-directory-loop-again-2 : (t : ℕ) → count-directory-lts.Need-loop-again
 ) (count-directory-at t) count-directory.Post count-directory-Inv-loop count-directory-μ-loop
 count-directory-loop-again-2 t c = counted-directory _ _ _ _ _ _ _ _ _ _ (c .before .before .before .before .before .before .before .before .before .before .before .before .loop .inv) (c .before .before .before .before .before .before .before .before .before .before .before .loop-test .taken) _ _ (sym (c .before .before .before .before .before .before .before .before .before .before .read-token .ensures) ∙ c .before .before .before .before .before .before .before .before .end .given .1) _ _ _ (rw (c .before .next .given .1) at (c .before .before .before .before .before .count-directory .ensures)) (c .before .before .before .before .before .count-directory .kept .1 .1 .1 .1 .1 .0) (c .before .before .before .before .before .before .before .before .before .before .before .before .before .before .before .before .pre .1 .0)
 
--- src/count.rt:132:21
 count-directory-enum-told-3 : (t : ℕ) → count-directory-lts.Need-enum-told-3 (
   read-token-reads.Asked,
   read-token-reads.Learnt,
@@ -284,7 +262,6 @@ count-directory-enum-told-3 : (t : ℕ) → count-directory-lts.Need-enum-told-3
 ) (count-directory-at t) count-directory.Post count-directory-Inv-loop count-directory-μ-loop
 count-directory-enum-told-3 t c = search needs
 
--- src/count.rt:132:21
 count-directory-same-length-3 : (t : ℕ) → count-directory-lts.Need-same-length-3 (
   read-token-reads.Asked,
   read-token-reads.Learnt,
@@ -295,7 +272,6 @@ count-directory-same-length-3 : (t : ℕ) → count-directory-lts.Need-same-leng
 ) (count-directory-at t) count-directory.Post count-directory-Inv-loop count-directory-μ-loop
 count-directory-same-length-3 t c = search needs
 
--- src/count.rt:132:21
 count-directory-returns-4 : (t : ℕ) → count-directory-lts.Need-returns-4 (
   read-token-reads.Asked,
   read-token-reads.Learnt,
@@ -306,7 +282,6 @@ count-directory-returns-4 : (t : ℕ) → count-directory-lts.Need-returns-4 (
 ) (count-directory-at t) count-directory.Post count-directory-Inv-loop count-directory-μ-loop
 count-directory-returns-4 t c = counts-inside _ _ _ _ _ _ _ _ _ _ (c .before .before .before .before .before .before .before .before .before .before .before .loop .inv) (c .before .before .before .before .before .before .before .before .before .before .loop-test .taken) _ _ (sym (c .before .before .before .before .before .before .before .before .before .read-token .ensures) ∙ c .before .before .before .before .before .before .before .end .given .1) _ (rw (c .enum-told3 .given .1) at (c .before .before .before .before .count-directory .ensures))
 
--- src/count.rt:78:1
 count-directory-same-length-4 : (t : ℕ) → count-directory-lts.Need-same-length-4 (
   read-token-reads.Asked,
   read-token-reads.Learnt,
@@ -317,7 +292,6 @@ count-directory-same-length-4 : (t : ℕ) → count-directory-lts.Need-same-leng
 ) (count-directory-at t) count-directory.Post count-directory-Inv-loop count-directory-μ-loop
 count-directory-same-length-4 t c = search needs
 
--- src/count.rt:78:1
 count-directory-returns-5 : (t : ℕ) → count-directory-lts.Need-returns-5 (
   read-token-reads.Asked,
   read-token-reads.Learnt,

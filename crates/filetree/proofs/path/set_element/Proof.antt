@@ -1,46 +1,34 @@
 use native.Mathlib.Omega.{arith}
-use Prim.Native.Nat.{ℕ, _+_, _-_, _*_, _≤_, _<_, _/_, _%_, _^_}
-use lib.ListN.{length, getD, set, take, drop, length-set}
-use mathlib.Core.Path.{_≡_, refl, ap, sym, _∙_}
+use Prim.Native.Nat.{_-_}
+use lib.ListN.{length-set}
 use borrow.Author.Needs.{needs}
 use Rattle.filetree.proofs.path.set_element.Statement.{statement}
 use Rattle.filetree.proofs.path.set_element.Tie as tie
-use Rattle.filetree.proofs.path.set_element.Reads as reads
-use Rattle.filetree.proofs.path.set_element.Lts as lts
 
--- src/path.rt:16:10
 mul-path : tie.Need-mul-path
 mul-path c = search needs
 
--- src/path.rt:16:5
 mul-path-2 : tie.Need-mul-path-2
 mul-path-2 c = search needs
 
--- src/path.rt:16:5
 slice-write-path : tie.Need-slice-write-path
 slice-write-path c = search needs
 
--- src/path.rt:17:10
 mul-path-3 : tie.Need-mul-path-3
 mul-path-3 c = search needs
 
--- src/path.rt:17:10
 add-path : tie.Need-add-path
 add-path c = search needs
 
--- src/path.rt:17:5
 mul-path-4 : tie.Need-mul-path-4
 mul-path-4 c = search needs
 
--- src/path.rt:17:5
 slice-write-path-2 : tie.Need-slice-write-path-2
 slice-write-path-2 c = simp length-set (let x = c .pre .0 in let y = c .pre .1 in omega arith)
 
--- src/path.rt:12:1
 same-length : tie.Need-same-length
 same-length c = search needs
 
--- src/path.rt:12:1
 returns : tie.Need-returns
 returns c = search needs
 

@@ -1,68 +1,47 @@
 use Rattle.bencode.specs.EndsLaws.{string-ends}
 use Rattle.filetree.proofs.Reading.{token-closed, token-key, token-other, token-node}
-use native.Mathlib.Omega.{arith}
-use Prim.Native.Nat.{ℕ, _+_, _-_, _*_, _≤_, _<_, _/_, _%_, _^_}
-use lib.ListN.{length, getD, set, take, drop}
-use mathlib.Core.Path.{_≡_, refl, ap, sym, _∙_}
+use Prim.Native.Nat.{_-_}
+use mathlib.Core.Path.{sym, _∙_}
 use borrow.Author.Needs.{needs}
 use Rattle.filetree.proofs.token.read_token.Statement.{statement}
 use Rattle.filetree.proofs.token.read_token.Tie as tie
-use Rattle.filetree.proofs.token.read_token.Reads as reads
-use Rattle.filetree.proofs.token.read_token.Lts as lts
-use Rattle.bencode.proofs.scalar.read_string.Reads as read-string-reads
-use Rattle.filetree.proofs.element.element_right.Reads as element-right-reads
-use Rattle.filetree.proofs.token.ends_here.Reads as ends-here-reads
-use Rattle.filetree.proofs.token.node_token.Reads as node-token-reads
 
--- src/token.rt:110:8
 ends-here-requires : tie.Need-ends-here-requires
 ends-here-requires c κs = search needs
 
--- src/token.rt:111:9
 returns : tie.Need-returns
 returns c = sym (token-closed _ _ (sym (c .before .ends-here .ensures) ∙ c .if1 .taken))
 
--- src/token.rt:113:11
 read-string-requires : tie.Need-read-string-requires
 read-string-requires c κs = search needs
 
--- src/token.rt:114:33
 enum-told : tie.Need-enum-told
 enum-told c = search needs
 
--- src/token.rt:115:31
 enum-known-start : tie.Need-enum-known-start
 enum-known-start c = search needs
 
--- src/token.rt:116:30
 sub-element-right : tie.Need-sub-element-right
 sub-element-right c = string-ends _ _ _ _ (sym (c .before .before .before .read-string .ensures) ∙ c .before .start .given .1) .1
 
--- src/token.rt:116:30
 part-element-right-start : tie.Need-part-element-right-start
 part-element-right-start c = string-ends _ _ _ _ (sym (c .before .before .before .read-string .ensures) ∙ c .before .start .given .1) .1
 
--- src/token.rt:116:30
 part-element-right-end : tie.Need-part-element-right-end
 part-element-right-end c = string-ends _ _ _ _ (sym (c .before .before .before .read-string .ensures) ∙ c .before .start .given .1) .2
 
--- src/token.rt:116:16
 element-right-requires : tie.Need-element-right-requires
 element-right-requires c κs = search needs
 
--- src/token.rt:117:17
 node-token-requires : tie.Need-node-token-requires
 node-token-requires c κs = search needs
 
--- src/token.rt:117:17
 returns-2 : tie.Need-returns-2
 returns-2 c = c .node-token .ensures ∙ sym (token-node _ _ (sym (c .before .before .before .before .before .before .before .before .before .ends-here .ensures) ∙ c .before .before .before .before .before .before .before .before .if1 .left) _ _ (sym (c .before .before .before .before .before .before .before .read-string .ensures) ∙ c .before .before .before .before .before .start .given .1) (sym (c .before .before .element-right .ensures) ∙ c .before .if2 .taken))
 
--- src/token.rt:107:1
 returns-3 : tie.Need-returns-3
 returns-3 c = sym (token-key _ _ (sym (c .before .before .before .before .ends-here .ensures) ∙ c .before .before .before .if1 .left) _ (sym (c .before .before .read-string .ensures) ∙ c .enum-told .given .1))
 
--- src/token.rt:107:1
 returns-4 : tie.Need-returns-4
 returns-4 c = sym (token-other _ _ (sym (c .before .before .before .before .before .before .before .before .ends-here .ensures) ∙ c .before .before .before .before .before .before .before .if1 .left) _ _ (sym (c .before .before .before .before .before .before .read-string .ensures) ∙ c .before .before .before .before .start .given .1) (sym (c .before .element-right .ensures) ∙ c .if2 .left))
 

@@ -4,7 +4,6 @@ use Rattle.sorting.proofs.Telling.{told-before, told-behind}
 use borrow.Author.Needs.{needs}
 use native.Mathlib.Omega.{arith}
 use Prim.Native.Nat.{_+_, _-_, _/_}
-use mathlib.Core.Path.{refl}
 use Rattle.sorting.proofs.halving.search.Statement.{statement}
 use Rattle.sorting.proofs.halving.search.Tie as tie
 
