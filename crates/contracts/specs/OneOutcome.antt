@@ -10,6 +10,12 @@ use borrow.Fn.Kinds.{PK, RK, Dens, resT, endedOf, In, Out}
 use denote.Triple.Clauses.{AtExit}
 use denote.Ref.{now}
 use Rattle.kombudeva.proofs.kd_sha256 as hash
+use Rattle.kombudeva.proofs.kd_hashing_begin as hashing-begin
+use Rattle.kombudeva.proofs.kd_hashing_more as hashing-more
+use Rattle.kombudeva.proofs.kd_hashing_end as hashing-end
+use Rattle.kombudeva.proofs.kd_history_begin as history-begin
+use Rattle.kombudeva.proofs.kd_history_more as history-more
+use Rattle.kombudeva.proofs.kd_history_end as history-end
 use Rattle.kombudeva.proofs.kd_store_size as size
 use Rattle.kombudeva.proofs.kd_open as opening
 use Rattle.kombudeva.proofs.kd_held as held
@@ -37,6 +43,30 @@ OneAnswer n ps r learnt = (κs : Lfts n) (a : Dens κs ps) (x y : resT r κs .De
 -- kd_sha256
 pub hash-asks-nothing : AsksNothing 1 hash.Kinds.ps hash.Reads.Asked
 hash-asks-nothing κs a = tt
+
+-- kd_hashing_begin
+pub hashing-begin-asks-nothing : AsksNothing 0 hashing-begin.Kinds.ps hashing-begin.Reads.Asked
+hashing-begin-asks-nothing κs a = tt
+
+-- kd_hashing_more
+pub hashing-more-asks-nothing : AsksNothing 1 hashing-more.Kinds.ps hashing-more.Reads.Asked
+hashing-more-asks-nothing κs a = tt
+
+-- kd_hashing_end
+pub hashing-end-asks-nothing : AsksNothing 0 hashing-end.Kinds.ps hashing-end.Reads.Asked
+hashing-end-asks-nothing κs a = tt
+
+-- kd_history_begin
+pub history-begin-asks-nothing : AsksNothing 0 history-begin.Kinds.ps history-begin.Reads.Asked
+history-begin-asks-nothing κs a = tt
+
+-- kd_history_more
+pub history-more-asks-nothing : AsksNothing 2 history-more.Kinds.ps history-more.Reads.Asked
+history-more-asks-nothing κs a = tt
+
+-- kd_history_end
+pub history-end-asks-nothing : AsksNothing 1 history-end.Kinds.ps history-end.Reads.Asked
+history-end-asks-nothing κs a = tt
 
 -- kd_store_size
 pub size-asks-nothing : AsksNothing 0 size.Kinds.ps size.Reads.Asked
@@ -95,6 +125,32 @@ list-asks-nothing κs a = tt
 -- kd_sha256
 pub one-hash : OneAnswer 1 hash.Kinds.ps hash.Kinds.r hash.Reads.Learnt
 one-hash κs a x y t u p q = p ∙ sym q
+
+-- kd_hashing_begin
+pub one-hashing-begin : OneAnswer 0 hashing-begin.Kinds.ps hashing-begin.Kinds.r hashing-begin.Reads.Learnt
+one-hashing-begin κs a x y t u p q = p ∙ sym q
+
+-- kd_hashing_more
+pub one-hashing-more : OneAnswer 1 hashing-more.Kinds.ps hashing-more.Kinds.r hashing-more.Reads.Learnt
+one-hashing-more κs a x y t u p q = p ∙ sym q
+
+-- kd_hashing_end
+pub one-hashing-end : OneAnswer 0 hashing-end.Kinds.ps hashing-end.Kinds.r hashing-end.Reads.Learnt
+one-hashing-end κs a x y t u p q = p ∙ sym q
+
+-- kd_history_begin
+pub one-history-begin : OneAnswer 0 history-begin.Kinds.ps history-begin.Kinds.r history-begin.Reads.Learnt
+one-history-begin κs a x y t u p q = p ∙ sym q
+
+-- kd_history_more: the answer, and the layer's bytes
+pub one-history-more : (κs : Lfts 2) (a : Dens κs history-more.Kinds.ps) (x y : resT history-more.Kinds.r κs .Denot) (t u : AtExit (endedOf 2 history-more.Kinds.ps history-more.Kinds.r) κs)
+    → history-more.Reads.Learnt κs a x t → history-more.Reads.Learnt κs a y u → (x ≡ y) × (now (t .1 .1 .0) ≡ now (u .1 .1 .0))
+one-history-more κs a x y t u p q = (p .0 ∙ sym (q .0), p .1 ∙ sym (q .1))
+
+-- kd_history_end: the answer, and the layer's bytes
+pub one-history-end : (κs : Lfts 1) (a : Dens κs history-end.Kinds.ps) (x y : resT history-end.Kinds.r κs .Denot) (t u : AtExit (endedOf 1 history-end.Kinds.ps history-end.Kinds.r) κs)
+    → history-end.Reads.Learnt κs a x t → history-end.Reads.Learnt κs a y u → (x ≡ y) × (now (t .1 .0) ≡ now (u .1 .0))
+one-history-end κs a x y t u p q = (p .0 ∙ sym (q .0), p .1 ∙ sym (q .1))
 
 -- kd_store_size
 pub one-size : OneAnswer 0 size.Kinds.ps size.Kinds.r size.Reads.Learnt

@@ -2,17 +2,28 @@
 -- as the C struct, and the bytes left. `a` are the arguments, in order, `r` the answer, `e` the arguments at exit.
 -- Assumes nothing.
 use mathlib.Core.Path.{_≡_}
+use mathlib.Core.List.{[]}
 use contract.Lifetimes.{Lfts}
 use borrow.Fn.Kinds.{Dens, resT, endedOf}
 use denote.Triple.Clauses.{AtExit}
 use denote.Ref.{now}
 use Rattle.sha256.specs.Answer.{hashedOf}
+use Rattle.running.specs.Bursts as B
+use Rattle.history.specs.Answers as W
 use Rattle.store.specs.Store.{sizeAnswer, openAnswer, openAfter, heldAnswer}
 use Rattle.messages.specs.Take.{takeAnswer, takeAfter, rejectAnswer}
 use Rattle.serve.specs.Serve.{serveAnswer, serveAfter}
 use Rattle.pieces.specs.Pieces.{layerAnswer, layerAfter, blockAnswer, pieceAnswer}
-use Rattle.kombudeva.specs.Boundary.{countAnswer, hashAnswer}
+use Rattle.torrent.specs.Torrent.{readOf, fileRead, pathRead}
+use Rattle.catalogue.specs.Catalogue.{listAnswer, listAfter}
+use Rattle.kombudeva.specs.Boundary.{countAnswer, hashAnswer, torrentAnswer, fileAnswer, partAnswer}
 use Rattle.kombudeva.proofs.kd_sha256 as hash
+use Rattle.kombudeva.proofs.kd_hashing_begin as hashing-begin
+use Rattle.kombudeva.proofs.kd_hashing_more as hashing-more
+use Rattle.kombudeva.proofs.kd_hashing_end as hashing-end
+use Rattle.kombudeva.proofs.kd_history_begin as history-begin
+use Rattle.kombudeva.proofs.kd_history_more as history-more
+use Rattle.kombudeva.proofs.kd_history_end as history-end
 use Rattle.kombudeva.proofs.kd_store_size as size
 use Rattle.kombudeva.proofs.kd_open as opening
 use Rattle.kombudeva.proofs.kd_held as held
@@ -22,11 +33,45 @@ use Rattle.kombudeva.proofs.kd_serve as serving
 use Rattle.kombudeva.proofs.kd_load_layer as loading
 use Rattle.kombudeva.proofs.kd_judge_block as block
 use Rattle.kombudeva.proofs.kd_judge_piece as piece
+use Rattle.kombudeva.proofs.kd_torrent_read as torrent
+use Rattle.kombudeva.proofs.kd_torrent_file as file
+use Rattle.kombudeva.proofs.kd_torrent_path as path
+use Rattle.kombudeva.proofs.kd_torrent_list as list
 
 -- kd_sha256
 pub hash-says : (κs : Lfts 1) (a : Dens κs hash.Kinds.ps) (r : resT hash.Kinds.r κs .Denot) (e : AtExit (endedOf 1 hash.Kinds.ps hash.Kinds.r) κs) → hash.Reads.Learnt κs a r e
     → r ≡ hashAnswer (hashedOf (now (a .0)))
 hash-says κs a r e p = p
+
+-- kd_hashing_begin
+pub hashing-begin-says : (κs : Lfts 0) (a : Dens κs hashing-begin.Kinds.ps) (r : resT hashing-begin.Kinds.r κs .Denot) (e : AtExit (endedOf 0 hashing-begin.Kinds.ps hashing-begin.Kinds.r) κs) → hashing-begin.Reads.Learnt κs a r e
+    → r ≡ B.stateOf []
+hashing-begin-says κs a r e p = p
+
+-- kd_hashing_more
+pub hashing-more-says : (κs : Lfts 1) (a : Dens κs hashing-more.Kinds.ps) (r : resT hashing-more.Kinds.r κs .Denot) (e : AtExit (endedOf 1 hashing-more.Kinds.ps hashing-more.Kinds.r) κs) → hashing-more.Reads.Learnt κs a r e
+    → r ≡ B.moreAnswer (a .0) (now (a .1 .0))
+hashing-more-says κs a r e p = p
+
+-- kd_hashing_end
+pub hashing-end-says : (κs : Lfts 0) (a : Dens κs hashing-end.Kinds.ps) (r : resT hashing-end.Kinds.r κs .Denot) (e : AtExit (endedOf 0 hashing-end.Kinds.ps hashing-end.Kinds.r) κs) → hashing-end.Reads.Learnt κs a r e
+    → r ≡ hashAnswer (B.endAnswer (a .0))
+hashing-end-says κs a r e p = p
+
+-- kd_history_begin
+pub history-begin-says : (κs : Lfts 0) (a : Dens κs history-begin.Kinds.ps) (r : resT history-begin.Kinds.r κs .Denot) (e : AtExit (endedOf 0 history-begin.Kinds.ps history-begin.Kinds.r) κs) → history-begin.Reads.Learnt κs a r e
+    → r ≡ W.beginAnswer (a .0)
+history-begin-says κs a r e p = p
+
+-- kd_history_more
+pub history-more-says : (κs : Lfts 2) (a : Dens κs history-more.Kinds.ps) (r : resT history-more.Kinds.r κs .Denot) (e : AtExit (endedOf 2 history-more.Kinds.ps history-more.Kinds.r) κs) → history-more.Reads.Learnt κs a r e
+    → (r ≡ W.moreAnswer (a .0) (now (a .1 .0)) (now (a .1 .1 .0))) × (now (e .1 .1 .0) ≡ W.moreLayer (a .0) (now (a .1 .0)) (now (a .1 .1 .0)))
+history-more-says κs a r e p = p
+
+-- kd_history_end
+pub history-end-says : (κs : Lfts 1) (a : Dens κs history-end.Kinds.ps) (r : resT history-end.Kinds.r κs .Denot) (e : AtExit (endedOf 1 history-end.Kinds.ps history-end.Kinds.r) κs) → history-end.Reads.Learnt κs a r e
+    → (r ≡ W.endAnswer (a .0) (now (a .1 .0))) × (now (e .1 .0) ≡ W.endLayer (a .0) (now (a .1 .0)))
+history-end-says κs a r e p = p
 
 -- kd_store_size
 pub size-says : (κs : Lfts 0) (a : Dens κs size.Kinds.ps) (r : resT size.Kinds.r κs .Denot) (e : AtExit (endedOf 0 size.Kinds.ps size.Kinds.r) κs) → size.Reads.Learnt κs a r e
@@ -72,3 +117,23 @@ block-says κs a r e p = p
 pub piece-says : (κs : Lfts 2) (a : Dens κs piece.Kinds.ps) (r : resT piece.Kinds.r κs .Denot) (e : AtExit (endedOf 2 piece.Kinds.ps piece.Kinds.r) κs) → piece.Reads.Learnt κs a r e
     → r ≡ countAnswer (pieceAnswer (now (a .0)) (a .1 .0) (now (a .1 .1 .0)))
 piece-says κs a r e p = p
+
+-- kd_torrent_read
+pub torrent-says : (κs : Lfts 1) (a : Dens κs torrent.Kinds.ps) (r : resT torrent.Kinds.r κs .Denot) (e : AtExit (endedOf 1 torrent.Kinds.ps torrent.Kinds.r) κs) → torrent.Reads.Learnt κs a r e
+    → r ≡ torrentAnswer (readOf (now (a .0)))
+torrent-says κs a r e p = p
+
+-- kd_torrent_file
+pub file-says : (κs : Lfts 1) (a : Dens κs file.Kinds.ps) (r : resT file.Kinds.r κs .Denot) (e : AtExit (endedOf 1 file.Kinds.ps file.Kinds.r) κs) → file.Reads.Learnt κs a r e
+    → r ≡ fileAnswer (fileRead (now (a .0)) (a .1 .0))
+file-says κs a r e p = p
+
+-- kd_torrent_path
+pub path-says : (κs : Lfts 1) (a : Dens κs path.Kinds.ps) (r : resT path.Kinds.r κs .Denot) (e : AtExit (endedOf 1 path.Kinds.ps path.Kinds.r) κs) → path.Reads.Learnt κs a r e
+    → r ≡ partAnswer (pathRead (now (a .0)) (a .1 .0) (a .1 .1 .0))
+path-says κs a r e p = p
+
+-- kd_torrent_list
+pub list-says : (κs : Lfts 2) (a : Dens κs list.Kinds.ps) (r : resT list.Kinds.r κs .Denot) (e : AtExit (endedOf 2 list.Kinds.ps list.Kinds.r) κs) → list.Reads.Learnt κs a r e
+    → (r ≡ countAnswer (listAnswer (now (a .0)) (now (a .1 .0)))) × (now (e .1 .0) ≡ listAfter (now (a .0)) (now (a .1 .0)))
+list-says κs a r e p = p
