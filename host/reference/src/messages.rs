@@ -46,8 +46,8 @@ impl Header {
         bytes
     }
 
-    /// The header rules against a store's B and h. Sums are made in 64 bits, so that none of them wraps, and "at most
-    /// h - 1" is "below h", so that nothing is taken from an h of 0.
+    /// The header rules against a store's h. Sums are made in 64 bits, so that none of them wraps, and "at most h - 1" is
+    /// "below h", so that nothing is taken from an h of 0.
     pub fn obeys_the_rules(&self, facts: &Facts) -> bool {
         let (base, index, proof) = (self.base as u64, self.index as u64, self.proof as u64);
         self.length.is_power_of_two()
@@ -55,7 +55,7 @@ impl Header {
             && self.index % self.length == 0
             && base + self.run_layers() <= facts.height()
             && base + proof < facts.height()
-            && index < halved(facts.blocks(), base)
+            && index + self.length as u64 <= facts.width(base)
     }
 
     /// log2(length), for a length that is a power of two.
