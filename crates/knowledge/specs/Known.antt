@@ -10,7 +10,7 @@ use Rattle.tree.specs.Geometry.{height, nodeNumber, blockSize, pieceCount}
 use Rattle.tree.specs.Values.{node, leafOf, blockOf}
 use Rattle.cells.specs.EntriesLaws.{Has, has-same}
 use Rattle.store.specs.Store.{fileLength, pieceLength, blocksOf, heightOf, heldAnswer}
-use Rattle.store.specs.StoreLaws.{tree-says, usable-facts, facts-leaves}
+use Rattle.store.specs.StoreLaws.{tree-says}
 use Rattle.settling.specs.Subtree.{subtree}
 use Rattle.settling.specs.Path.{sibling, uncle, ancestor}
 use Rattle.header.specs.Header.{headerOf, isHashes, placeOf, Kept}
@@ -50,9 +50,6 @@ module _ (file s m : List ℕ) (w : For file s) (T : TrueHashes file s m) where
   kept : Kept (headerOf m) (blocksOf s) (heightOf s)
   kept = rules-kept (headerOf m) (blocksOf s) (heightOf s) (P .rules)
 
-  leaves : blocksOf s ≤ 2 ^ heightOf s
-  leaves = facts-leaves s (usable-facts s (P .store))
-
   in-tree : (n l i : ℕ) (v : List ℕ) → l ≤ heightOf s → i < 2 ^ (heightOf s - l) → nodeNumber (heightOf s) l i ≡ n → node (leafOf file) l i ≡ v → Has n v (treeOf file)
   in-tree n l i v a b e q =
       rw (← same-height file s w) (has-same (subtree (leafOf file) (heightOf s) 1 0) (nodeNumber (heightOf s) l i) n (node (leafOf file) l i) v e q (tree-has file s w l i a b))
@@ -63,16 +60,16 @@ module _ (file s m : List ℕ) (w : For file s) (T : TrueHashes file s m) where
       let X = headerOf m in
       let c : j < headerOf m .len = omega (arith, kept .power) in
       in-tree (placeOf X (heightOf s) .top * 2 ^ height (X .len) + j) (X .base) (X .index + j) (given m (height (X .len)) j) (omega (arith, kept .within))
-      (run-in-layer X (blocksOf s) (heightOf s) leaves kept j l) (sym (run-number X (blocksOf s) (heightOf s) leaves kept j l)) (sym (T .run j c) ∙ sym (given-is s m formed j l))
+      (run-in-layer X (blocksOf s) (heightOf s) kept j l) (sym (run-number X (blocksOf s) (heightOf s) kept j l)) (sym (T .run j c) ∙ sym (given-is s m formed j l))
 
   uncle-told : (i : ℕ) → i < placeIn s m .u
       → Has (sibling (ancestor i (placeIn s m .top))) (uncle (unclesOf m (2 ^ placeIn s m .k) (placeIn s m .u)) i) (treeOf file)
   unfolding placeOf
   uncle-told i l =
       let X = headerOf m in
-      let b = uncle-layer X (blocksOf s) (heightOf s) leaves kept i l in
+      let b = uncle-layer X (blocksOf s) (heightOf s) kept i l in
       in-tree (sibling (ancestor i (placeIn s m .top))) (topLayer m + i) (sibling (topIndex m / 2 ^ i)) (uncle (unclesOf m (2 ^ placeIn s m .k) (placeIn s m .u)) i) (omega arith)
-      (uncle-in-layer X (blocksOf s) (heightOf s) leaves kept i l) (sym (uncle-number X (blocksOf s) (heightOf s) leaves kept i l))
+      (uncle-in-layer X (blocksOf s) (heightOf s) kept i l) (sym (uncle-number X (blocksOf s) (heightOf s) kept i l))
       (sym (T .uncles i l) ∙ sym (uncle-is s m formed i l))
 
   tells : Tells file s m
