@@ -4,6 +4,7 @@
 pub mod call;
 pub mod compare;
 pub mod fillings;
+pub mod headers;
 pub mod random;
 pub mod replays;
 pub mod sessions;
