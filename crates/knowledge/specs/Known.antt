@@ -1,13 +1,16 @@
 -- Demand 2, from the root to the block: a store of ours, opened with a file's own length and pieces root, believes the file's hashes,
 -- blocks and pieces and no others, unless two strings with one SHA-256 are shown. "Held" is what kd_held answers.
 -- Assumes nothing.
-use mathlib.Core.Path.{_≡_, sym, _∙_}
+use mathlib.Core.Path.{_≡_, refl, sym, _∙_}
+use mathlib.Core.Bool.{Bool, true, false}
 use mathlib.Core.List.{List}
 use mathlib.Core.Logic.{_⊎_, inl, inr}
 use Prim.Native.Nat.{ℕ, _+_, _-_, _*_, _/_, _^_, _≤_, _<_}
 use native.Mathlib.Omega.{arith}
+use Rattle.numbers.specs.Numbers.{noAnchor}
 use Rattle.tree.specs.Geometry.{height, nodeNumber, blockSize, pieceCount}
 use Rattle.tree.specs.Values.{node, leafOf, blockOf}
+use Rattle.cells.specs.Cells.{heldAt}
 use Rattle.cells.specs.EntriesLaws.{Has, has-same}
 use Rattle.store.specs.Store.{fileLength, pieceLength, blocksOf, heightOf, heldAnswer}
 use Rattle.store.specs.StoreLaws.{tree-says}
@@ -15,7 +18,7 @@ use Rattle.settling.specs.Subtree.{subtree}
 use Rattle.settling.specs.Path.{sibling, uncle, ancestor}
 use Rattle.header.specs.Header.{headerOf, isHashes, placeOf, Kept}
 use Rattle.header.specs.HeaderLaws.{rules-kept}
-use Rattle.messages.specs.Take.{given, unclesOf, placeIn, takeNumber}
+use Rattle.messages.specs.Take.{given, unclesOf, anchor, placeIn, takeNumber}
 use Rattle.messages.specs.Asks.{Passed}
 use Rattle.messages.specs.TakeLaws.{passed}
 use Rattle.pieces.specs.Pieces.{blockNumber, pieceHeight, pieceNumber, layerNumber}
@@ -30,9 +33,9 @@ use Rattle.knowledge.specs.OwnBytes.{ours-have}
 use Rattle.knowledge.specs.Conflict.{ShownAt}
 use Rattle.knowledge.specs.RootToBlock.{treeOf, same-height, tree-has, held-is-the-files-at, block-is-the-files-at, true-block, true-piece}
 use Rattle.knowledge.specs.PieceIsTheFiles.{PieceIsAt, theFilesAt, storeShowsAt, pieceShowsAt, blockShowsAt, piece-is-the-files-at}
-use Rattle.knowledge.specs.TrueMessage.{Tells, true-message}
+use Rattle.knowledge.specs.TrueMessage.{Tells, true-message, true-message-waits}
 use Rattle.knowledge.specs.TrueLayer.{true-layer}
-use Rattle.knowledge.specs.AnchorHeld.{asked-held}
+use Rattle.knowledge.specs.AnchorHeld.{asked-held, held-asked}
 use Rattle.knowledge.specs.JudgedWhen.{longer-has, piece-0}
 use Rattle.knowledge.specs.Positions.{given-is, uncle-is}
 use Rattle.knowledge.specs.Shown.{shown, reads-piece, reads-file}
@@ -74,6 +77,14 @@ module _ (file s m : List ℕ) (w : For file s) (T : TrueHashes file s m) where
 
   tells : Tells file s m
   tells = record { header = formed .header; size = formed .size; run = run-told; uncles = uncle-told }
+
+  -- THE FILE'S OWN HASHES, where kd_held does not give their anchor, are 6
+  pub known-message-waits : (heldAnswer s (anchorLayer m) (anchorIndex m) .number ≡ 0 → ⊥) → takeNumber s m ≡ noAnchor
+  known-message-waits n = true-message-waits file s m w tells (by (heldAt s (anchor (placeIn s m))) refl)
+    where
+      by : (b : Bool) → heldAt s (anchor (placeIn s m)) ≡ b → heldAt s (anchor (placeIn s m)) ≡ false
+      by true e = absurd (n (held-asked (isHashes m) s m P e))
+      by false e = e
 
 module _ {s : List ℕ} (file : List ℕ) (o : OurStore s) (w : For file s) where
   store-shows : ShownAt (heightOf s) (heldBy s) (ofFile file) → Shown (heightOf s) (heldBy s) (ofFile file)

@@ -118,7 +118,7 @@ module _ (a b : List ℕ) (oa : Octets 32 a) (ob : Octets 32 b) where
     place-is = ap₂ (λ (x : Header) (h : ℕ). placeOf x h) header-is high
 
     header-passes : headerNumber (isRequest (askForTwo a b)) (withTwo buffer a b) (askForTwo a b) ≡ 0
-    unfolding rulesKept lengthRule indexRule covering ceilDiv height heightFrom
+    unfolding rulesKept lengthRule indexRule height heightFrom
     header-passes =
         passes (isRequest (askForTwo a b)) (withTwo buffer a b) (askForTwo a b)
         (record {
