@@ -1,0 +1,136 @@
+-- The true message (0,6,2,0) of a file of five blocks: two leaves past the last block, in every store of such a file.
+-- Assumes nothing.
+use mathlib.Core.Path.{_≡_, refl, ap, ap₂, sym, _∙_, subst}
+use mathlib.Core.Bool.{true}
+use mathlib.Core.List.{List, [], _∷_, _++_}
+use mathlib.Core.Logic.{_⊎_}
+use Prim.Native.Nat.{ℕ, zero, suc, _+_, _-_, _*_, _/_, _^_, _≤_, _<_}
+use native.Mathlib.Omega.{arith}
+use lib.ListN.{length}
+use lib.Dec.{eqb, lit<, lit≤}
+use Rattle.octets.specs.Octets.{cut, same, numberAt, zeroHash}
+use Rattle.octets.specs.OctetsLaws.{zero-octets, cut-append-left, cut-append-right, cut-whole}
+use Rattle.numbers.specs.Numbers.{noAnchor}
+use Rattle.tree.specs.Geometry.{ceilDiv, blockCount, heightFrom, height, nodeNumber, covering, Padding}
+use Rattle.tree.specs.Values.{node, leafOf, padValue, piecesRoot}
+use Rattle.tree.specs.ValuesLaws.{padding-value}
+use Rattle.cells.specs.Cells.{heldAt}
+use Rattle.store.specs.Store.{usable, fileLength, factsRoot, blocksOf, heightOf, positions, factsInRange, storeSize, opened, heldAnswer}
+use Rattle.store.specs.StoreLaws.{opened-usable, opened-facts-root, opened-blocks, opened-height, opened-held}
+use Rattle.settling.specs.Path.{ancestor}
+use Rattle.header.specs.declared.Header.{Header}
+use Rattle.header.specs.declared.Place.{Place}
+use Rattle.header.specs.Header.{headerOf, messageSize, placeOf, rulesKept, lengthRule, indexRule}
+use Rattle.messages.specs.Padded.{allFrom, runPadded, unclesPadded}
+use Rattle.messages.specs.Take.{anchor, padded, placeIn, takeAnswer, takeNumber}
+use Rattle.words.specs.History.{OurStore}
+use Rattle.words.specs.Messages.{unclesIn, hashIn, anchorLayer, anchorIndex}
+use Rattle.words.specs.Shown.{heldBy, ofFile, Shown}
+use Rattle.words.specs.File.{For, TrueHashes}
+use Rattle.knowledge.specs.TakenWhen.{Formed, no-anchor-then-6}
+use Rattle.knowledge.specs.FormedWhen.{well-formed}
+use Rattle.promises.specs.Offered.{twoHashes, offered-header, offered-past, run-is, two-size, well-formed-in}
+use Rattle.promises.specs.FromRootToBlock.{true-hashes-taken}
+
+abbrev numbers : List ℕ
+numbers = 0 ∷ 0 ∷ 0 ∷ 0 ∷ 0 ∷ 0 ∷ 0 ∷ 6 ∷ 0 ∷ 0 ∷ 0 ∷ 2 ∷ 0 ∷ 0 ∷ 0 ∷ 0 ∷ []
+
+-- both hashes are the padding value of the leaves
+abbrev pub pastBlocks : List ℕ → List ℕ
+pastBlocks root = twoHashes root numbers zeroHash zeroHash
+
+abbrev header : Header
+header = record { base = 0; index = 6; len = 2; proof = 0 }
+
+-- position 7 is index 3 of layer 1
+abbrev place : Place
+place = record { k = 1; u = 0; top = 7 }
+
+module _ (root : List ℕ) (lr : length root ≡ 32) where
+  header-is : headerOf (pastBlocks root) ≡ header
+  unfolding numberAt
+  header-is = offered-header root numbers (zeroHash ++ zeroHash) lr refl
+
+  well : (s : List ℕ) → usable s ≡ true → factsRoot s ≡ root → blocksOf s ≡ 5 → heightOf s ≡ 3 → Formed s (pastBlocks root)
+  unfolding messageSize rulesKept lengthRule indexRule height heightFrom
+  well s u r eb eh =
+      well-formed-in root numbers (zeroHash ++ zeroHash) lr refl s header 5 3 header-is u r eb eh refl
+      (sym (two-size root numbers zeroHash zeroHash lr refl (zero-octets .size) (zero-octets .size)))
+
+  place-in : (s : List ℕ) → heightOf s ≡ 3 → placeIn s (pastBlocks root) ≡ place
+  unfolding placeOf nodeNumber height heightFrom
+  place-in s eh = ap₂ (λ (x : Header) (h : ℕ). placeOf x h) header-is eh
+
+  padding-is : padded (pastBlocks root) header place 5 ≡ true
+  unfolding padded runPadded allFrom unclesPadded covering ceilDiv
+  padding-is = rw (run-is root numbers zeroHash zeroHash lr refl (zero-octets .size) (zero-octets .size)) (unfold same cut zeroHash padValue in refl)
+
+  -- fresh, its anchor is not held
+  module _ (buffer : List ℕ) (plen : ℕ) (range : factsInRange 81920 plen ≡ true) (fits : storeSize 81920 ≤ length buffer) where
+    three-high : height (blockCount 81920) ≡ 3
+    unfolding height heightFrom blockCount ceilDiv
+    three-high = refl
+
+    high : heightOf (opened buffer 81920 plen root) ≡ 3
+    high = opened-height buffer 81920 plen root range fits lr ∙ three-high
+
+    blocks : blocksOf (opened buffer 81920 plen root) ≡ 5
+    unfolding blockCount ceilDiv
+    blocks = opened-blocks buffer 81920 plen root range fits lr
+
+    lacks-7 : heldAt (opened buffer 81920 plen root) 7 ≡ eqb 7 1
+    unfolding positions
+    lacks-7 = opened-held buffer 81920 plen root range fits lr 7 (lit≤ tt) (rw three-high (lit< tt))
+
+    pub past-blocks-fresh : takeAnswer (opened buffer 81920 plen root) (pastBlocks root) .number ≡ noAnchor
+    unfolding takeAnswer anchor ancestor
+    past-blocks-fresh =
+        let s = opened buffer 81920 plen root in
+        let p = place-in s high in
+        no-anchor-then-6 s (pastBlocks root)
+        (well s (opened-usable buffer 81920 plen root range fits lr) (opened-facts-root buffer 81920 plen root range fits lr) blocks high) (rw (p, header-is, blocks) padding-is)
+        (rw p lacks-7)
+
+  -- of a file of five blocks it has the true hashes
+  module _ (file s : List ℕ) (w : For file s) (five : length file ≡ 81920) (u : usable s ≡ true) (r : factsRoot s ≡ root) where
+    blocks-5 : blockCount (length file) ≡ 5
+    unfolding blockCount ceilDiv
+    blocks-5 = rw five refl
+
+    blocks-in : blocksOf s ≡ 5
+    unfolding blocksOf
+    blocks-in = ap blockCount (w .long) ∙ blocks-5
+
+    high-in : heightOf s ≡ 3
+    unfolding heightOf blocksOf height heightFrom
+    high-in = ap height (ap blockCount (w .long) ∙ blocks-5)
+
+    hash-is : (j : ℕ) → j < 2 → hashIn (pastBlocks root) j ≡ zeroHash
+    hash-is zero l =
+        offered-past root numbers (zeroHash ++ zeroHash) lr refl 0 32 ∙ cut-append-left zeroHash zeroHash 0 32 (omega (arith, zero-octets .size))
+        ∙ cut-whole zeroHash 32 (omega (arith, zero-octets .size))
+    hash-is (suc zero) l = offered-past root numbers (zeroHash ++ zeroHash) lr refl 32 32 ∙ cut-append-right zeroHash zeroHash 32 32 (zero-octets .size) (zero-octets .size)
+    hash-is (suc (suc j)) l = absurd (omega arith)
+
+    leaf-is : (i : ℕ) → 5 ≤ i → zeroHash ≡ node (leafOf file) 0 i
+    unfolding Padding padValue
+    leaf-is i l = sym (padding-value file 0 i (rw blocks-5 (omega arith)))
+
+    true-hashes : TrueHashes file s (pastBlocks root)
+    true-hashes =
+        record {
+          formed = well-formed s (pastBlocks root) .1 (well s u r blocks-in high-in);
+          run = λ j l. (let l′ : j < 2 = rw header-is at l in rw header-is (hash-is j l′ ∙ leaf-is (6 + j) (omega arith)));
+          uncles = λ j l. (let l′ : j < 0 - (height 2 - 1) = rw header-is at l in absurd (omega arith));
+        }
+
+    anchor-layer : anchorLayer (pastBlocks root) ≡ 1
+    unfolding height heightFrom
+    anchor-layer = ap (λ (x : Header). x .base + height (x .len) + (x .proof - (height (x .len) - 1))) header-is
+
+    anchor-index : anchorIndex (pastBlocks root) ≡ 3
+    unfolding height heightFrom
+    anchor-index = ap (λ (x : Header). x .index / x .len / 2 ^ (x .proof - (height (x .len) - 1))) header-is
+
+    pub past-blocks-taken : OurStore s → heldAnswer s 1 3 .number ≡ 0 → Shown (heightOf s) (heldBy s) (ofFile file) ⊎ (takeAnswer s (pastBlocks root) .number ≡ 0)
+    past-blocks-taken o h = true-hashes-taken file o w (pastBlocks root) true-hashes (rw (anchor-layer, anchor-index) h)
