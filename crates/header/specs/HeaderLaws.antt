@@ -14,10 +14,18 @@ use Rattle.header.specs.declared.Header.{Header}
 use Rattle.limits.specs.Limits.{longestRun}
 use Rattle.header.specs.Header.{lengthRule, indexRule, rulesKept, Kept}
 
+index-kept : (x : Header) (b h : ℕ) → indexRule x b h ≡ true → x .index + x .len ≤ 2 ^ (h - x .base)
+unfolding indexRule
+index-kept x b h e = leb-true (x .index + x .len) (2 ^ (h - x .base)) e
+
+kept-index : (x : Header) (b h : ℕ) → x .index + x .len ≤ 2 ^ (h - x .base) → indexRule x b h ≡ true
+unfolding indexRule
+kept-index x b h l = le-leb (x .index + x .len) (2 ^ (h - x .base)) l
+
 pub rules-kept : (x : Header) (b h : ℕ) → rulesKept x b h ≡ true → Kept x b h
-unfolding rulesKept lengthRule indexRule
+unfolding rulesKept lengthRule
 rules-kept x b h e =
-    let p = and-eq-true-iff _ (leb (x .index + x .len) (2 ^ (h - x .base))) .0 e in
+    let p = and-eq-true-iff _ (indexRule x b h) .0 e in
     let q = and-eq-true-iff _ (ltb (x .base + x .proof) h) .0 (p .0) in
     let r = and-eq-true-iff _ (leb (x .base + height (x .len)) h) .0 (q .0) in
     let t = and-eq-true-iff (eqb (2 ^ height (x .len)) (x .len) && leb 2 (x .len) && leb (x .len) longestRun) (eqb (x .index % x .len) 0) .0 (r .0) in
@@ -30,11 +38,11 @@ rules-kept x b h e =
       multiple = eqb-true _ _ (t .1);
       within = leb-true _ _ (r .1);
       above = ltb-true _ _ (q .1);
-      inside = leb-true _ _ (p .1);
+      inside = omega (arith, index-kept x b h (p .1));
     }
 
 pub kept-rules : (x : Header) (b h : ℕ) → Kept x b h → rulesKept x b h ≡ true
-unfolding rulesKept lengthRule indexRule
+unfolding rulesKept lengthRule
 kept-rules x b h f =
     rw (
       eq-eqb (2 ^ height (x .len)) (x .len) (f .power),
@@ -43,7 +51,7 @@ kept-rules x b h f =
       eq-eqb (x .index % x .len) 0 (f .multiple),
       le-leb (x .base + height (x .len)) h (f .within),
       lt-ltb (x .base + x .proof) h (f .above),
-      le-leb (x .index + x .len) (2 ^ (h - x .base)) (f .inside),
+      kept-index x b h (omega (arith, f .inside)),
     )
 
 -- a length from 2 on has a logarithm from 1 on

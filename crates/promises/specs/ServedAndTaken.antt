@@ -14,7 +14,7 @@ use Rattle.sha256.specs.Sha256.{pairHash}
 use Rattle.sha256.specs.Sha256Laws.{pair-octets}
 use Rattle.tree.specs.Geometry.{ceilDiv, blockCount, heightFrom, height, nodeNumber}
 use Rattle.cells.specs.Cells.{heldAt, hashAt}
-use Rattle.store.specs.Store.{fileLength, heldAnswer, factsRoot, blocksOf, heightOf, storeSize, openAfter, opened, Facts}
+use Rattle.store.specs.Store.{fileLength, heldAnswer, factsRoot, heightOf, storeSize, openAfter, opened, Facts}
 use Rattle.store.specs.StoreLaws.{facts-usable, usable-facts, opened-usable, opened-file, opened-facts-root, opened-height}
 use Rattle.header.specs.declared.Header.{Header}
 use Rattle.header.specs.Header.{headerOf, messageRoot, isHashes, isRequest, placeOf, rulesKept, lengthRule, indexRule}
