@@ -1,6 +1,6 @@
 -- The true message (0,6,2,0) of a file of five blocks: two leaves past the last block, in every store of such a file.
 -- Assumes nothing.
-use mathlib.Core.Path.{_≡_, refl, ap, ap₂, sym, _∙_, subst}
+use mathlib.Core.Path.{_≡_, refl, ap, ap₂, sym, _∙_}
 use mathlib.Core.Bool.{true}
 use mathlib.Core.List.{List, [], _∷_, _++_}
 use mathlib.Core.Logic.{_⊎_}
@@ -13,22 +13,23 @@ use Rattle.octets.specs.OctetsLaws.{zero-octets, cut-append-left, cut-append-ri
 use Rattle.numbers.specs.Numbers.{noAnchor}
 use Rattle.tree.specs.Geometry.{ceilDiv, blockCount, heightFrom, height, nodeNumber, covering, Padding}
 use Rattle.tree.specs.Values.{node, leafOf, padValue, piecesRoot}
-use Rattle.tree.specs.ValuesLaws.{padding-value}
+use Rattle.tree.specs.ValuesLaws.{padding-value, root-octets}
 use Rattle.cells.specs.Cells.{heldAt}
-use Rattle.store.specs.Store.{usable, fileLength, factsRoot, blocksOf, heightOf, positions, factsInRange, storeSize, opened, heldAnswer}
-use Rattle.store.specs.StoreLaws.{opened-usable, opened-facts-root, opened-blocks, opened-height, opened-held}
+use Rattle.store.specs.Store.{usable, factsRoot, blocksOf, heightOf, positions, factsInRange, storeSize, opened, heldAnswer}
+use Rattle.store.specs.StoreLaws.{facts-usable, opened-usable, opened-facts-root, opened-blocks, opened-height, opened-held}
 use Rattle.settling.specs.Path.{ancestor}
 use Rattle.header.specs.declared.Header.{Header}
 use Rattle.header.specs.declared.Place.{Place}
 use Rattle.header.specs.Header.{headerOf, messageSize, placeOf, rulesKept, lengthRule, indexRule}
 use Rattle.messages.specs.Padded.{allFrom, runPadded, unclesPadded}
-use Rattle.messages.specs.Take.{anchor, padded, placeIn, takeAnswer, takeNumber}
+use Rattle.messages.specs.Take.{anchor, padded, placeIn, takeAnswer}
 use Rattle.words.specs.History.{OurStore}
-use Rattle.words.specs.Messages.{unclesIn, hashIn, anchorLayer, anchorIndex}
+use Rattle.words.specs.Messages.{hashIn, anchorLayer, anchorIndex}
 use Rattle.words.specs.Shown.{heldBy, ofFile, Shown}
 use Rattle.words.specs.File.{For, TrueHashes}
 use Rattle.knowledge.specs.TakenWhen.{Formed, no-anchor-then-6}
 use Rattle.knowledge.specs.FormedWhen.{well-formed}
+use Rattle.knowledge.specs.OwnBytes.{ours-have}
 use Rattle.promises.specs.Offered.{twoHashes, offered-header, offered-past, run-is, two-size, well-formed-in}
 use Rattle.promises.specs.FromRootToBlock.{true-hashes-taken}
 
@@ -91,46 +92,51 @@ module _ (root : List ℕ) (lr : length root ≡ 32) where
         (well s (opened-usable buffer 81920 plen root range fits lr) (opened-facts-root buffer 81920 plen root range fits lr) blocks high) (rw (p, header-is, blocks) padding-is)
         (rw p lacks-7)
 
-  -- of a file of five blocks it has the true hashes
-  module _ (file s : List ℕ) (w : For file s) (five : length file ≡ 81920) (u : usable s ≡ true) (r : factsRoot s ≡ root) where
-    blocks-5 : blockCount (length file) ≡ 5
-    unfolding blockCount ceilDiv
-    blocks-5 = rw five refl
+  hash-is : (j : ℕ) → j < 2 → hashIn (pastBlocks root) j ≡ zeroHash
+  hash-is zero l =
+      offered-past root numbers (zeroHash ++ zeroHash) lr refl 0 32 ∙ cut-append-left zeroHash zeroHash 0 32 (omega (arith, zero-octets .size))
+      ∙ cut-whole zeroHash 32 (omega (arith, zero-octets .size))
+  hash-is (suc zero) l = offered-past root numbers (zeroHash ++ zeroHash) lr refl 32 32 ∙ cut-append-right zeroHash zeroHash 32 32 (zero-octets .size) (zero-octets .size)
+  hash-is (suc (suc j)) l = absurd (omega arith)
 
-    blocks-in : blocksOf s ≡ 5
-    unfolding blocksOf
-    blocks-in = ap blockCount (w .long) ∙ blocks-5
+  anchor-layer : anchorLayer (pastBlocks root) ≡ 1
+  unfolding height heightFrom
+  anchor-layer = ap (λ (x : Header). x .base + height (x .len) + (x .proof - (height (x .len) - 1))) header-is
 
-    high-in : heightOf s ≡ 3
-    unfolding heightOf blocksOf height heightFrom
-    high-in = ap height (ap blockCount (w .long) ∙ blocks-5)
+  anchor-index : anchorIndex (pastBlocks root) ≡ 3
+  unfolding height heightFrom
+  anchor-index = ap (λ (x : Header). x .index / x .len / 2 ^ (x .proof - (height (x .len) - 1))) header-is
 
-    hash-is : (j : ℕ) → j < 2 → hashIn (pastBlocks root) j ≡ zeroHash
-    hash-is zero l =
-        offered-past root numbers (zeroHash ++ zeroHash) lr refl 0 32 ∙ cut-append-left zeroHash zeroHash 0 32 (omega (arith, zero-octets .size))
-        ∙ cut-whole zeroHash 32 (omega (arith, zero-octets .size))
-    hash-is (suc zero) l = offered-past root numbers (zeroHash ++ zeroHash) lr refl 32 32 ∙ cut-append-right zeroHash zeroHash 32 32 (zero-octets .size) (zero-octets .size)
-    hash-is (suc (suc j)) l = absurd (omega arith)
+-- of a file of five blocks it has the true hashes, which are taken once the anchor is held
+module _ (file : List ℕ) {s : List ℕ} (o : OurStore s) (w : For file s) (five : length file ≡ 81920) where
+  root-size : length (piecesRoot file) ≡ 32
+  root-size = root-octets file .size
 
-    leaf-is : (i : ℕ) → 5 ≤ i → zeroHash ≡ node (leafOf file) 0 i
-    unfolding Padding padValue
-    leaf-is i l = sym (padding-value file 0 i (rw blocks-5 (omega arith)))
+  blocks-5 : blockCount (length file) ≡ 5
+  unfolding blockCount ceilDiv
+  blocks-5 = rw five refl
 
-    true-hashes : TrueHashes file s (pastBlocks root)
-    true-hashes =
-        record {
-          formed = well-formed s (pastBlocks root) .1 (well s u r blocks-in high-in);
-          run = λ j l. (let l′ : j < 2 = rw header-is at l in rw header-is (hash-is j l′ ∙ leaf-is (6 + j) (omega arith)));
-          uncles = λ j l. (let l′ : j < 0 - (height 2 - 1) = rw header-is at l in absurd (omega arith));
-        }
+  blocks-in : blocksOf s ≡ 5
+  unfolding blocksOf
+  blocks-in = ap blockCount (w .long) ∙ blocks-5
 
-    anchor-layer : anchorLayer (pastBlocks root) ≡ 1
-    unfolding height heightFrom
-    anchor-layer = ap (λ (x : Header). x .base + height (x .len) + (x .proof - (height (x .len) - 1))) header-is
+  high-in : heightOf s ≡ 3
+  unfolding heightOf blocksOf height heightFrom
+  high-in = ap height (ap blockCount (w .long) ∙ blocks-5)
 
-    anchor-index : anchorIndex (pastBlocks root) ≡ 3
-    unfolding height heightFrom
-    anchor-index = ap (λ (x : Header). x .index / x .len / 2 ^ (x .proof - (height (x .len) - 1))) header-is
+  leaf-is : (i : ℕ) → 5 ≤ i → zeroHash ≡ node (leafOf file) 0 i
+  unfolding Padding padValue
+  leaf-is i l = sym (padding-value file 0 i (rw blocks-5 (omega arith)))
 
-    pub past-blocks-taken : OurStore s → heldAnswer s 1 3 .number ≡ 0 → Shown (heightOf s) (heldBy s) (ofFile file) ⊎ (takeAnswer s (pastBlocks root) .number ≡ 0)
-    past-blocks-taken o h = true-hashes-taken file o w (pastBlocks root) true-hashes (rw (anchor-layer, anchor-index) h)
+  true-hashes : TrueHashes file s (pastBlocks (piecesRoot file))
+  true-hashes =
+      let e = header-is (piecesRoot file) root-size in
+      record {
+        formed = well-formed s (pastBlocks (piecesRoot file)) .1 (well (piecesRoot file) root-size s (facts-usable s (ours-have o .chained .facts)) (w .root) blocks-in high-in);
+        run = λ j l. (let l′ : j < 2 = rw e at l in rw e (hash-is (piecesRoot file) root-size j l′ ∙ leaf-is (6 + j) (omega arith)));
+        uncles = λ j l. (let l′ : j < 0 - (height 2 - 1) = rw e at l in absurd (omega arith));
+      }
+
+  pub past-blocks-taken : heldAnswer s 1 3 .number ≡ 0 → Shown (heightOf s) (heldBy s) (ofFile file) ⊎ (takeAnswer s (pastBlocks (piecesRoot file)) .number ≡ 0)
+  past-blocks-taken h =
+      true-hashes-taken file o w (pastBlocks (piecesRoot file)) true-hashes (rw (anchor-layer (piecesRoot file) root-size, anchor-index (piecesRoot file) root-size) h)

@@ -11,6 +11,7 @@ use lib.ListN.{length}
 use Rattle.octets.specs.Octets.{same}
 use Rattle.numbers.specs.Numbers.{ruleBroken, noAnchor}
 use Rattle.tree.specs.Geometry.{nodeNumber, Padding, ceilDiv, blockCount, heightFrom, height, covering, pieceLayer, isPieceLength, hasLayer, pieceCount, pieceSize}
+use Rattle.tree.specs.Values.{piecesRoot}
 use Rattle.store.specs.Store.{usable, fileLength, factsRoot, blocksOf, heightOf, factsInRange, storeSize, opened, heldAnswer}
 use Rattle.settling.specs.Path.{sibling, ancestor}
 use Rattle.header.specs.declared.Header.{Header}
@@ -119,8 +120,8 @@ pub past-blocks-fresh : (root : List ℕ) → length root ≡ 32 → (b : List �
 past-blocks-fresh = Rattle.promises.specs.PastTheBlocks.past-blocks-fresh
 
 -- in a store that only this build has written it is 0 once kd_held gives its anchor, index 3 of layer 1, or a pair is shown
-pub past-blocks-taken : (root : List ℕ) → length root ≡ 32 → (file s : List ℕ) → For file s → length file ≡ 81920 → usable s ≡ true → factsRoot s ≡ root
-    → OurStore s → heldAnswer s 1 3 .number ≡ 0 → Shown (heightOf s) (heldBy s) (ofFile file) ⊎ (takeAnswer s (pastBlocks root) .number ≡ 0)
+pub past-blocks-taken : (file : List ℕ) {s : List ℕ} → OurStore s → For file s → length file ≡ 81920 → heldAnswer s 1 3 .number ≡ 0
+    → Shown (heightOf s) (heldBy s) (ofFile file) ⊎ (takeAnswer s (pastBlocks (piecesRoot file)) .number ≡ 0)
 past-blocks-taken = Rattle.promises.specs.PastTheBlocks.past-blocks-taken
 
 -- with an uncle, (0,6,2,1): the uncle, index 2 of layer 1, covers block 4 and is no padding
