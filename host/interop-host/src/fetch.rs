@@ -24,13 +24,13 @@ pub fn run(contents: &Contents, port: u16) -> io::Result<()> {
         let mut memory = Vec::new();
         let mut store = file.open(&mut memory);
         let mut counts = Counts::default();
-        learn_padding(&mut peer, file, &mut store, &mut counts)?;
+        learn_padding(&mut peer, file, &mut counts)?;
         learn_hashes(&mut peer, file, &mut store, &mut counts)?;
         judge_pieces(&mut peer, file, &store, &mut counts)?;
         assert_eq!(counts.believed, file.blocks(), "every block is believed");
         println!(
-            "{}: {} replies taken ({} of them had come before their anchor, {} lay past the last block), {} damaged \
-             ones refused, {} of {} blocks believed",
+            "{}: {} replies taken ({} of them had come before their anchor), {} more past the last block, {} damaged ones \
+             refused, {} of {} blocks believed",
             file.path.display(),
             counts.taken,
             counts.before_their_anchor,
@@ -66,16 +66,18 @@ fn request(file: &File, words: [u32; 4]) -> Vec<u8> {
     request
 }
 
-/// The last two leaves up to the root, where both are past the last block: taken on a fresh store.
-fn learn_padding(peer: &mut Peer, file: &File, store: &mut Store, counts: &mut Counts) -> io::Result<()> {
+/// The last two leaves up to the root, where both are past the last block: taken on a fresh store of its own, so that the
+/// leaves of a large file still come before their anchor.
+fn learn_padding(peer: &mut Peer, file: &File, counts: &mut Counts) -> io::Result<()> {
     let leaves = 1 << file.height();
     if leaves < file.blocks() + 2 {
         return Ok(());
     }
     let reply = ask(peer, &request(file, [0, leaves as u32 - 2, 2, file.height() - 1]))?;
+    let mut memory = Vec::new();
+    let mut store = file.open(&mut memory);
     assert!(store.take(&reply).is_done(), "its anchor is the root");
     assert_eq!(store.held(0, leaves - 1), Answer::Done([0; 32]), "a leaf past the last block is zeros");
-    counts.taken += 1;
     counts.in_padding += 1;
     Ok(())
 }
