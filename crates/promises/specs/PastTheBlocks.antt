@@ -1,16 +1,16 @@
 -- The true message (0,6,2,0) of a file of five blocks: two leaves past the last block, in every store of such a file.
 -- Assumes nothing.
 use mathlib.Core.Path.{_≡_, refl, ap, ap₂, sym, _∙_}
-use mathlib.Core.Bool.{true}
+use mathlib.Core.Bool.{true, false}
 use mathlib.Core.List.{List, [], _∷_, _++_}
-use mathlib.Core.Logic.{_⊎_}
+use mathlib.Core.Logic.{_⊎_, inr}
 use Prim.Native.Nat.{ℕ, zero, suc, _+_, _-_, _*_, _/_, _^_, _≤_, _<_}
 use native.Mathlib.Omega.{arith}
 use lib.ListN.{length}
 use lib.Dec.{eqb, lit<, lit≤}
 use Rattle.octets.specs.Octets.{cut, same, numberAt, zeroHash}
-use Rattle.octets.specs.OctetsLaws.{zero-octets, cut-append-left, cut-append-right, cut-whole}
-use Rattle.numbers.specs.Numbers.{noAnchor}
+use Rattle.octets.specs.OctetsLaws.{same-eq, zero-octets, cut-append-left, cut-append-right, cut-whole}
+use Rattle.numbers.specs.Numbers.{noAnchor, notHeld}
 use Rattle.tree.specs.Geometry.{ceilDiv, blockCount, heightFrom, height, nodeNumber, covering, Padding}
 use Rattle.tree.specs.Values.{node, leafOf, padValue, piecesRoot}
 use Rattle.tree.specs.ValuesLaws.{padding-value, root-octets}
@@ -20,15 +20,18 @@ use Rattle.store.specs.StoreLaws.{facts-usable, opened-usable, opened-facts-roo
 use Rattle.settling.specs.Path.{ancestor}
 use Rattle.header.specs.declared.Header.{Header}
 use Rattle.header.specs.declared.Place.{Place}
-use Rattle.header.specs.Header.{headerOf, messageSize, placeOf, rulesKept, lengthRule, indexRule}
+use Rattle.header.specs.Header.{headerSize, headerOf, messageRoot, isRequest, messageSize, placeOf, rulesKept, lengthRule, indexRule}
 use Rattle.messages.specs.Padded.{allFrom, runPadded, unclesPadded}
-use Rattle.messages.specs.Take.{anchor, padded, placeIn, takeAnswer}
+use Rattle.messages.specs.Take.{headerNumber, anchor, padded, placeIn, takeAnswer}
+use Rattle.messages.specs.TakeLaws.{passes}
+use Rattle.serve.specs.Serve.{heldRun, heldUncles, allHeld, requestNumber, serveAnswer}
 use Rattle.words.specs.History.{OurStore}
 use Rattle.words.specs.Messages.{hashIn, anchorLayer, anchorIndex}
 use Rattle.words.specs.Shown.{heldBy, ofFile, Shown}
 use Rattle.words.specs.File.{For, TrueHashes}
 use Rattle.knowledge.specs.TakenWhen.{Formed, no-anchor-then-6}
 use Rattle.knowledge.specs.FormedWhen.{well-formed}
+use Rattle.knowledge.specs.ServedWhen.{serve-rejects}
 use Rattle.knowledge.specs.OwnBytes.{ours-have}
 use Rattle.promises.specs.Offered.{twoHashes, offered-header, offered-past, run-is, two-size, well-formed-in}
 use Rattle.promises.specs.FromRootToBlock.{true-hashes-taken}
@@ -79,9 +82,9 @@ module _ (root : List ℕ) (lr : length root ≡ 32) where
     unfolding blockCount ceilDiv
     blocks = opened-blocks buffer 81920 plen root range fits lr
 
-    lacks-7 : heldAt (opened buffer 81920 plen root) 7 ≡ eqb 7 1
+    held : (q : ℕ) → 1 ≤ q → q < 16 → heldAt (opened buffer 81920 plen root) q ≡ eqb q 1
     unfolding positions
-    lacks-7 = opened-held buffer 81920 plen root range fits lr 7 (lit≤ tt) (rw three-high (lit< tt))
+    held q a b = opened-held buffer 81920 plen root range fits lr q a (rw three-high b)
 
     pub past-blocks-fresh : takeAnswer (opened buffer 81920 plen root) (pastBlocks root) .number ≡ noAnchor
     unfolding takeAnswer anchor ancestor
@@ -90,7 +93,36 @@ module _ (root : List ℕ) (lr : length root ≡ 32) where
         let p = place-in s high in
         no-anchor-then-6 s (pastBlocks root)
         (well s (opened-usable buffer 81920 plen root range fits lr) (opened-facts-root buffer 81920 plen root range fits lr) blocks high) (rw (p, header-is, blocks) padding-is)
-        (rw p lacks-7)
+        (rw p (held 7 (lit≤ tt) (lit< tt)))
+
+    -- nor are its leaves
+    none-held : allHeld (opened buffer 81920 plen root) place ≡ false
+    unfolding allHeld heldRun heldUncles
+    none-held = rw (held 14 (lit≤ tt) (lit< tt))
+
+    module _ (m : List ℕ) (form : isRequest m ≡ true) (r : messageRoot m ≡ root) (e : headerOf m ≡ header) where
+      asked-passes : headerNumber (isRequest m) (opened buffer 81920 plen root) m ≡ 0
+      unfolding rulesKept lengthRule indexRule height heightFrom
+      asked-passes =
+          passes (isRequest m) (opened buffer 81920 plen root) m
+          (record {
+            store = opened-usable buffer 81920 plen root range fits lr;
+            formed = form;
+            root = same-eq (factsRoot (opened buffer 81920 plen root)) (messageRoot m) (opened-facts-root buffer 81920 plen root range fits lr ∙ sym r);
+            rules = rw (e, high);
+          })
+
+      asked-place : placeIn (opened buffer 81920 plen root) m ≡ place
+      unfolding placeOf nodeNumber height heightFrom
+      asked-place = ap₂ (λ (x : Header) (h : ℕ). placeOf x h) e high
+
+      asked-number : requestNumber (opened buffer 81920 plen root) m ≡ notHeld
+      unfolding requestNumber
+      asked-number = rw (asked-passes, asked-place, none-held)
+
+      -- the request for them is 12
+      pub past-blocks-asked : (out : List ℕ) → headerSize ≤ length out → serveAnswer (opened buffer 81920 plen root) m out .number ≡ notHeld
+      past-blocks-asked out l = serve-rejects (opened buffer 81920 plen root) m out notHeld (inr (inr refl)) .1 (asked-number, l)
 
   hash-is : (j : ℕ) → j < 2 → hashIn (pastBlocks root) j ≡ zeroHash
   hash-is zero l =

@@ -9,7 +9,7 @@ use Prim.Native.Nat.{ℕ, _-_, _^_, _≤_}
 use native.Mathlib.Omega.{arith}
 use lib.ListN.{length}
 use Rattle.octets.specs.Octets.{same}
-use Rattle.numbers.specs.Numbers.{ruleBroken, noAnchor}
+use Rattle.numbers.specs.Numbers.{ruleBroken, noAnchor, notHeld}
 use Rattle.tree.specs.Geometry.{nodeNumber, Padding, ceilDiv, blockCount, heightFrom, height, covering, pieceLayer, isPieceLength, hasLayer, pieceCount, pieceSize}
 use Rattle.tree.specs.Values.{piecesRoot}
 use Rattle.store.specs.Store.{usable, fileLength, factsRoot, blocksOf, heightOf, factsInRange, storeSize, opened, heldAnswer}
@@ -118,6 +118,12 @@ message-0-6-2-0 = (refl, refl, refl, omega arith, omega arith)
 pub past-blocks-fresh : (root : List ℕ) → length root ≡ 32 → (b : List ℕ) (plen : ℕ) → factsInRange 81920 plen ≡ true → storeSize 81920 ≤ length b
     → takeAnswer (opened b 81920 plen root) (pastBlocks root) .number ≡ noAnchor
 past-blocks-fresh = Rattle.promises.specs.PastTheBlocks.past-blocks-fresh
+
+-- and the request for it 12, as long as there is room for the reject
+pub past-blocks-asked : (root : List ℕ) → length root ≡ 32 → (b : List ℕ) (plen : ℕ) → factsInRange 81920 plen ≡ true → storeSize 81920 ≤ length b
+    → (m : List ℕ) → isRequest m ≡ true → messageRoot m ≡ root → headerOf m ≡ header 0 6 2 0 → (out : List ℕ) → headerSize ≤ length out
+    → serveAnswer (opened b 81920 plen root) m out .number ≡ notHeld
+past-blocks-asked = Rattle.promises.specs.PastTheBlocks.past-blocks-asked
 
 -- in a store that only this build has written it is 0 once kd_held gives its anchor, index 3 of layer 1, or a pair is shown
 pub past-blocks-taken : (file : List ℕ) {s : List ℕ} → OurStore s → For file s → length file ≡ 81920 → heldAnswer s 1 3 .number ≡ 0
