@@ -10,8 +10,8 @@ use lib.ListN.{length, getD}
 use lib.Dec.{eqb, leb, ltb}
 use lib.Pow.{pow-mono}
 use borrow.Author.Tests.{eq-eqb, ne-eqb, eqb-true, le-leb, lt-leb, leb-true, lt-ltb, le-ltb}
-use Rattle.tree.specs.Geometry.{height, covering, nodeNumber}
-use Rattle.tree.specs.GeometryLaws.{height-least, height-grows, height-pow}
+use Rattle.tree.specs.Geometry.{height, nodeNumber}
+use Rattle.tree.specs.GeometryLaws.{height-least, shifted-one}
 use Rattle.header.specs.declared.Header.{Header}
 use Rattle.header.specs.declared.Place.{Place}
 use Rattle.limits.specs.Limits.{longestRun}
@@ -87,6 +87,12 @@ length-log len e = log-small len (leb-true len longestRun (last (eqb (2 ^ height
     last true true c f = f
     last true false c f = absurd (mathlib.Core.Bool.false≢true f)
     last false b c f = absurd (mathlib.Core.Bool.false≢true f)
+
+-- ---- the index
+
+pub index-by : (x : Header) (b h d : ℕ) → h ≤ 32 → d ≡ h - x .base → leb (x .index + x .len) (1 * 2 ^ d % 2 ^ 64) ≡ indexRule x b h
+unfolding indexRule
+index-by x b h d l e = ap (leb (x .index + x .len)) (shifted-one d (omega arith) ∙ ap (λ (y : ℕ). 2 ^ y) e)
 
 -- ---- all rules
 

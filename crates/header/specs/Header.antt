@@ -9,7 +9,7 @@ use lib.ListN.{length, getD}
 use lib.Dec.{leb, ltb, eqb}
 use Rattle.octets.specs.Octets.{cut, numberAt}
 use Rattle.limits.specs.Limits.{longestRun}
-use Rattle.tree.specs.Geometry.{log2, covering, nodeNumber}
+use Rattle.tree.specs.Geometry.{log2, nodeNumber}
 use Rattle.header.specs.declared.Header.{Header}
 use Rattle.header.specs.declared.Place.{Place}
 
@@ -61,9 +61,10 @@ pub record Small (x : Header) : Type 0 where
 unfoldable pub lengthRule : ℕ → Bool
 lengthRule len = eqb (2 ^ log2 len) len && leb 2 len && leb len longestRun
 
--- index is below ceil(B/2^base), in a file of b blocks; the height h plays no part
+-- index + length is at most 2^(h - base): the run ends within its layer, whose last positions may be padding; base is at most h by
+-- another rule, and the blocks b play no part
 unfoldable pub indexRule : Header → ℕ → ℕ → Bool
-indexRule x b h = ltb (x .index) (covering b (x .base))
+indexRule x b h = leb (x .index + x .len) (2 ^ (h - x .base))
 
 -- index is a multiple of length; base + log2(length) is at most h; base + proof layers is at most h - 1
 unfoldable pub rulesKept : Header → ℕ → ℕ → Bool
@@ -78,7 +79,7 @@ pub record Kept (x : Header) (b h : ℕ) : Type 0 where
   pub multiple : x .index % x .len ≡ 0
   pub within : x .base + log2 (x .len) ≤ h
   pub above : x .base + x .proof < h
-  pub inside : x .index < covering b (x .base)
+  pub inside : x .index + x .len ≤ 2 ^ (h - x .base)
 
 -- the uncles: the proof layers less those that the run itself gives
 abbrev pub uncleCount : Header → ℕ

@@ -8,16 +8,24 @@ use native.Mathlib.Omega.{arith}
 use lib.Dec.{eqb, leb, ltb}
 use lib.Pow.{pow-pos, pow-add, pow-mono}
 use borrow.Author.Tests.{eq-eqb, ne-eqb, eqb-true, le-leb, lt-leb, leb-true, lt-ltb, le-ltb, ltb-true}
-use Rattle.tree.specs.Geometry.{height, covering, ceilDiv, nodeNumber}
-use Rattle.tree.specs.GeometryLaws.{height-least, height-enough, height-pow, ceil-least, height-zero, height-one}
+use Rattle.tree.specs.Geometry.{height, nodeNumber}
+use Rattle.tree.specs.GeometryLaws.{height-enough}
 use Rattle.header.specs.declared.Header.{Header}
 use Rattle.limits.specs.Limits.{longestRun}
 use Rattle.header.specs.Header.{lengthRule, indexRule, rulesKept, Kept}
 
+index-kept : (x : Header) (b h : ℕ) → indexRule x b h ≡ true → x .index + x .len ≤ 2 ^ (h - x .base)
+unfolding indexRule
+index-kept x b h e = leb-true (x .index + x .len) (2 ^ (h - x .base)) e
+
+kept-index : (x : Header) (b h : ℕ) → x .index + x .len ≤ 2 ^ (h - x .base) → indexRule x b h ≡ true
+unfolding indexRule
+kept-index x b h l = le-leb (x .index + x .len) (2 ^ (h - x .base)) l
+
 pub rules-kept : (x : Header) (b h : ℕ) → rulesKept x b h ≡ true → Kept x b h
-unfolding rulesKept lengthRule indexRule
+unfolding rulesKept lengthRule
 rules-kept x b h e =
-    let p = and-eq-true-iff _ (ltb (x .index) (covering b (x .base))) .0 e in
+    let p = and-eq-true-iff _ (indexRule x b h) .0 e in
     let q = and-eq-true-iff _ (ltb (x .base + x .proof) h) .0 (p .0) in
     let r = and-eq-true-iff _ (leb (x .base + height (x .len)) h) .0 (q .0) in
     let t = and-eq-true-iff (eqb (2 ^ height (x .len)) (x .len) && leb 2 (x .len) && leb (x .len) longestRun) (eqb (x .index % x .len) 0) .0 (r .0) in
@@ -30,11 +38,11 @@ rules-kept x b h e =
       multiple = eqb-true _ _ (t .1);
       within = leb-true _ _ (r .1);
       above = ltb-true _ _ (q .1);
-      inside = ltb-true _ _ (p .1);
+      inside = omega (arith, index-kept x b h (p .1));
     }
 
 pub kept-rules : (x : Header) (b h : ℕ) → Kept x b h → rulesKept x b h ≡ true
-unfolding rulesKept lengthRule indexRule
+unfolding rulesKept lengthRule
 kept-rules x b h f =
     rw (
       eq-eqb (2 ^ height (x .len)) (x .len) (f .power),
@@ -43,7 +51,7 @@ kept-rules x b h f =
       eq-eqb (x .index % x .len) 0 (f .multiple),
       le-leb (x .base + height (x .len)) h (f .within),
       lt-ltb (x .base + x .proof) h (f .above),
-      lt-ltb (x .index) (covering b (x .base)) (f .inside),
+      kept-index x b h (omega (arith, f .inside)),
     )
 
 -- a length from 2 on has a logarithm from 1 on
@@ -55,14 +63,11 @@ log-some len h = by (height len) (height-enough len)
     by (suc k) e = omega arith
 
 -- the run's top is in its layer
-pub top-inside : (x : Header) (b h : ℕ) → b ≤ 2 ^ h → Kept x b h → x .index / x .len < 2 ^ (h - (x .base + height (x .len)))
-unfolding covering
-top-inside x b h e f =
+pub top-inside : (x : Header) (b h : ℕ) → Kept x b h → x .index / x .len < 2 ^ (h - (x .base + height (x .len)))
+top-inside x b h f =
     let k : ℕ = height (x .len) in
     let t : ℕ = h - (x .base + k) in
-    let s : t + k + x .base ≡ h = omega (arith, f .within) in
-    let p : 2 ^ (t + k) * 2 ^ x .base ≡ 2 ^ h = sym (pow-add 2 (t + k) (x .base)) ∙ ap (λ (y : ℕ). 2 ^ y) s in
-    let c : ceilDiv b (2 ^ x .base) ≤ 2 ^ (t + k) = ceil-least b (2 ^ x .base) (2 ^ (t + k)) (pow-pos (x .base)) (omega arith) in
-    let q : 2 ^ (t + k) ≡ 2 ^ t * x .len = pow-add 2 t k ∙ ap (λ (y : ℕ). 2 ^ t * y) (f .power) in
+    let s : h - x .base ≡ t + k = omega (arith, f .within) in
+    let q : 2 ^ (h - x .base) ≡ 2 ^ t * x .len = ap (λ (y : ℕ). 2 ^ y) s ∙ pow-add 2 t k ∙ ap (λ (y : ℕ). 2 ^ t * y) (f .power) in
     let l : 0 < x .len = omega (arith, f .two) in
     div-lt-iff-lt-mul l .1 (omega (arith, f .inside))

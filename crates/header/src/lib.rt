@@ -86,19 +86,21 @@ fn length_rule(len: usize) -> bool
     1 << k == len
 }
 
-// Whether the run begins in the file, of b blocks and height h.
+// Whether the run ends within its layer, in a tree of height h. Two numbers of 32 bits: their sum can't wrap.
 fn index_rule(x: Header, b: usize, h: usize) -> bool
+    requires { ⌜ Hd.Small x × (x .base ≤ h) × (h ≤ 32) ⌝ }
     ensures { λ r. ⌜ r ≡ Hd.indexRule x b h ⌝ }
 {
     let base = x.base;
     let index = x.index;
-    let c = tree::geometry::covering(b, base);
-    index < c
+    let len = x.len;
+    let d = h - base;
+    index + len <= 1 << d
 }
 
 // Whether a header keeps the rules, for a file of b blocks and height h.
 pub fn keeps_rules(x: Header, b: usize, h: usize) -> bool
-    requires { ⌜ Hd.Small x ⌝ }
+    requires { ⌜ Hd.Small x × (h ≤ 32) ⌝ }
     ensures { λ r. ⌜ r ≡ Hd.rulesKept x b h ⌝ }
 {
     let base = x.base;
@@ -124,7 +126,7 @@ pub fn keeps_rules(x: Header, b: usize, h: usize) -> bool
 
 // The place that a header names which keeps the rules.
 pub fn place_of(x: Header, b: usize, h: usize) -> Place
-    requires { ⌜ Hd.Small x × (h ≤ 32) × (b ≤ 2 ^ h) × (Hd.rulesKept x b h ≡ true) ⌝ }
+    requires { ⌜ Hd.Small x × (h ≤ 32) × (Hd.rulesKept x b h ≡ true) ⌝ }
     ensures { λ r. ⌜ r ≡ Hd.placeOf x h ⌝ }
 {
     let base = x.base;

@@ -12,7 +12,7 @@ use Rattle.sha256.specs.declared.Hashed.{Hashed}
 use Rattle.tree.specs.Geometry.{height, nodeNumber}
 use Rattle.cells.specs.Cells.{heldAt}
 use Rattle.store.specs.Store.{blocksOf, heightOf, inTree, heldAnswer}
-use Rattle.store.specs.StoreLaws.{usable-facts, facts-leaves, held-given, held-not}
+use Rattle.store.specs.StoreLaws.{held-given, held-not}
 use Rattle.settling.specs.AncestorLaws.{ancestor-number}
 use Rattle.header.specs.Header.{headerOf, placeOf}
 use Rattle.header.specs.HeaderLaws.{rules-kept, log-some, top-inside}
@@ -38,7 +38,7 @@ module _ (form : Bool) (s m : List ℕ) (P : Passed form s m) where
       let h = heightOf s in
       let K = rules-kept X (blocksOf s) (heightOf s) (P .rules) in
       let one = log-some (X .len) (K .two) in
-      let ins = top-inside X (blocksOf s) h (facts-leaves s (usable-facts s (P .store))) K in
+      let ins = top-inside X (blocksOf s) h K in
       let up : anchorLayer m ≤ heightOf s = omega (arith, K .within, K .above) in
       let ex : heightOf s - anchorLayer m + unclesIn m ≡ heightOf s - (X .base + height (X .len)) = omega (arith, K .within, K .above) in
       let pw : 2 ^ (heightOf s - anchorLayer m) * 2 ^ unclesIn m ≡ 2 ^ (heightOf s - (X .base + height (X .len))) =

@@ -1,21 +1,24 @@
 -- Demand 2, from the root to the block: a store of ours, opened with a file's own length and pieces root, believes the file's hashes,
 -- blocks and pieces and no others, unless two strings with one SHA-256 are shown. "Held" is what kd_held answers.
 -- Assumes nothing.
-use mathlib.Core.Path.{_≡_, sym, _∙_}
+use mathlib.Core.Path.{_≡_, refl, sym, _∙_}
+use mathlib.Core.Bool.{Bool, true, false}
 use mathlib.Core.List.{List}
 use mathlib.Core.Logic.{_⊎_, inl, inr}
 use Prim.Native.Nat.{ℕ, _+_, _-_, _*_, _/_, _^_, _≤_, _<_}
 use native.Mathlib.Omega.{arith}
+use Rattle.numbers.specs.Numbers.{noAnchor}
 use Rattle.tree.specs.Geometry.{height, nodeNumber, blockSize, pieceCount}
 use Rattle.tree.specs.Values.{node, leafOf, blockOf}
+use Rattle.cells.specs.Cells.{heldAt}
 use Rattle.cells.specs.EntriesLaws.{Has, has-same}
 use Rattle.store.specs.Store.{fileLength, pieceLength, blocksOf, heightOf, heldAnswer}
-use Rattle.store.specs.StoreLaws.{tree-says, usable-facts, facts-leaves}
+use Rattle.store.specs.StoreLaws.{tree-says}
 use Rattle.settling.specs.Subtree.{subtree}
 use Rattle.settling.specs.Path.{sibling, uncle, ancestor}
 use Rattle.header.specs.Header.{headerOf, isHashes, placeOf, Kept}
 use Rattle.header.specs.HeaderLaws.{rules-kept}
-use Rattle.messages.specs.Take.{given, unclesOf, placeIn, takeNumber}
+use Rattle.messages.specs.Take.{given, unclesOf, anchor, placeIn, takeNumber}
 use Rattle.messages.specs.Asks.{Passed}
 use Rattle.messages.specs.TakeLaws.{passed}
 use Rattle.pieces.specs.Pieces.{blockNumber, pieceHeight, pieceNumber, layerNumber}
@@ -30,9 +33,9 @@ use Rattle.knowledge.specs.OwnBytes.{ours-have}
 use Rattle.knowledge.specs.Conflict.{ShownAt}
 use Rattle.knowledge.specs.RootToBlock.{treeOf, same-height, tree-has, held-is-the-files-at, block-is-the-files-at, true-block, true-piece}
 use Rattle.knowledge.specs.PieceIsTheFiles.{PieceIsAt, theFilesAt, storeShowsAt, pieceShowsAt, blockShowsAt, piece-is-the-files-at}
-use Rattle.knowledge.specs.TrueMessage.{Tells, true-message}
+use Rattle.knowledge.specs.TrueMessage.{Tells, true-message, true-message-waits}
 use Rattle.knowledge.specs.TrueLayer.{true-layer}
-use Rattle.knowledge.specs.AnchorHeld.{asked-held}
+use Rattle.knowledge.specs.AnchorHeld.{asked-held, held-asked}
 use Rattle.knowledge.specs.JudgedWhen.{longer-has, piece-0}
 use Rattle.knowledge.specs.Positions.{given-is, uncle-is}
 use Rattle.knowledge.specs.Shown.{shown, reads-piece, reads-file}
@@ -50,9 +53,6 @@ module _ (file s m : List ℕ) (w : For file s) (T : TrueHashes file s m) where
   kept : Kept (headerOf m) (blocksOf s) (heightOf s)
   kept = rules-kept (headerOf m) (blocksOf s) (heightOf s) (P .rules)
 
-  leaves : blocksOf s ≤ 2 ^ heightOf s
-  leaves = facts-leaves s (usable-facts s (P .store))
-
   in-tree : (n l i : ℕ) (v : List ℕ) → l ≤ heightOf s → i < 2 ^ (heightOf s - l) → nodeNumber (heightOf s) l i ≡ n → node (leafOf file) l i ≡ v → Has n v (treeOf file)
   in-tree n l i v a b e q =
       rw (← same-height file s w) (has-same (subtree (leafOf file) (heightOf s) 1 0) (nodeNumber (heightOf s) l i) n (node (leafOf file) l i) v e q (tree-has file s w l i a b))
@@ -63,20 +63,28 @@ module _ (file s m : List ℕ) (w : For file s) (T : TrueHashes file s m) where
       let X = headerOf m in
       let c : j < headerOf m .len = omega (arith, kept .power) in
       in-tree (placeOf X (heightOf s) .top * 2 ^ height (X .len) + j) (X .base) (X .index + j) (given m (height (X .len)) j) (omega (arith, kept .within))
-      (run-in-layer X (blocksOf s) (heightOf s) leaves kept j l) (sym (run-number X (blocksOf s) (heightOf s) leaves kept j l)) (sym (T .run j c) ∙ sym (given-is s m formed j l))
+      (run-in-layer X (blocksOf s) (heightOf s) kept j l) (sym (run-number X (blocksOf s) (heightOf s) kept j l)) (sym (T .run j c) ∙ sym (given-is s m formed j l))
 
   uncle-told : (i : ℕ) → i < placeIn s m .u
       → Has (sibling (ancestor i (placeIn s m .top))) (uncle (unclesOf m (2 ^ placeIn s m .k) (placeIn s m .u)) i) (treeOf file)
   unfolding placeOf
   uncle-told i l =
       let X = headerOf m in
-      let b = uncle-layer X (blocksOf s) (heightOf s) leaves kept i l in
+      let b = uncle-layer X (blocksOf s) (heightOf s) kept i l in
       in-tree (sibling (ancestor i (placeIn s m .top))) (topLayer m + i) (sibling (topIndex m / 2 ^ i)) (uncle (unclesOf m (2 ^ placeIn s m .k) (placeIn s m .u)) i) (omega arith)
-      (uncle-in-layer X (blocksOf s) (heightOf s) leaves kept i l) (sym (uncle-number X (blocksOf s) (heightOf s) leaves kept i l))
+      (uncle-in-layer X (blocksOf s) (heightOf s) kept i l) (sym (uncle-number X (blocksOf s) (heightOf s) kept i l))
       (sym (T .uncles i l) ∙ sym (uncle-is s m formed i l))
 
   tells : Tells file s m
   tells = record { header = formed .header; size = formed .size; run = run-told; uncles = uncle-told }
+
+  -- THE FILE'S OWN HASHES, where kd_held does not give their anchor, are 6
+  pub known-message-waits : (heldAnswer s (anchorLayer m) (anchorIndex m) .number ≡ 0 → ⊥) → takeNumber s m ≡ noAnchor
+  known-message-waits n = true-message-waits file s m w tells (by (heldAt s (anchor (placeIn s m))) refl)
+    where
+      by : (b : Bool) → heldAt s (anchor (placeIn s m)) ≡ b → heldAt s (anchor (placeIn s m)) ≡ false
+      by true e = absurd (n (held-asked (isHashes m) s m P e))
+      by false e = e
 
 module _ {s : List ℕ} (file : List ℕ) (o : OurStore s) (w : For file s) where
   store-shows : ShownAt (heightOf s) (heldBy s) (ofFile file) → Shown (heightOf s) (heldBy s) (ofFile file)

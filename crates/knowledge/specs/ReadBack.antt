@@ -5,16 +5,16 @@ use mathlib.Core.Bool.{true}
 use mathlib.Core.List.{List}
 use Prim.Native.Nat.{ℕ, suc, _+_, _-_, _*_, _/_, _%_, _^_, _≤_, _<_}
 use native.Mathlib.Omega.{arith}
-use native.Mathlib.Nat.{div-add-mod', pow-suc, add-mul, mul-le-mul-right}
+use native.Mathlib.Nat.{div-add-mod', pow-suc}
 use lib.ListN.{length}
-use lib.Pow.{pow-add, shr-lt}
+use lib.Pow.{shr-lt}
 use borrow.Author.Tests.{le-leb, lt-ltb}
 use Rattle.octets.specs.Octets.{cut}
 use Rattle.octets.specs.OctetsLaws.{cut-cut}
 use Rattle.tree.specs.Geometry.{height, nodeNumber}
 use Rattle.cells.specs.Cells.{heldAt, hashAt}
 use Rattle.store.specs.Store.{blocksOf, heightOf, inTree, Facts}
-use Rattle.store.specs.StoreLaws.{usable-facts, facts-usable, facts-leaves, held-given}
+use Rattle.store.specs.StoreLaws.{usable-facts, facts-usable, held-given}
 use Rattle.sha256.specs.declared.Hashed.{Hashed}
 use Rattle.settling.specs.Path.{sibling, uncle, ancestor}
 use Rattle.settling.specs.PathLaws.{sibling-below}
@@ -50,9 +50,9 @@ uncle-cut m c u j l =
 
 -- ---- the positions that a header names, by layer and index, and their numbers in a tree of height h over b blocks
 
-module _ (x : Header) (b h : ℕ) (leaves : b ≤ 2 ^ h) (K : Kept x b h) where
+module _ (x : Header) (b h : ℕ) (K : Kept x b h) where
   inside : x .index / x .len < 2 ^ (h - (x .base + height (x .len)))
-  inside = top-inside x b h leaves K
+  inside = top-inside x b h K
 
   whole : x .index / x .len * 2 ^ height (x .len) ≡ x .index
   whole = ap (λ (y : ℕ). x .index / x .len * y) (K .power) ∙ omega (arith, div-add-mod' (x .index) (x .len), K .multiple)
@@ -67,12 +67,7 @@ module _ (x : Header) (b h : ℕ) (leaves : b ≤ 2 ^ h) (K : Kept x b h) where
 
   -- which the layer has,
   pub run-in-layer : (j : ℕ) → j < 2 ^ height (x .len) → x .index + j < 2 ^ (h - x .base)
-  run-in-layer j l =
-      let k = height (x .len) in
-      let w : 2 ^ (h - (x .base + k)) * 2 ^ k ≡ 2 ^ (h - x .base) =
-      sym (pow-add 2 (h - (x .base + k)) k) ∙ ap (λ (y : ℕ). 2 ^ y) (let q : h - (x .base + k) + k ≡ h - x .base = omega (arith, K .within) in q) in
-      let up : (x .index / x .len + 1) * 2 ^ k ≤ 2 ^ (h - (x .base + k)) * 2 ^ k = mul-le-mul-right (2 ^ k) (let q : x .index / x .len + 1 ≤ 2 ^ (h - (x .base + k)) = omega (arith, inside) in q) in
-      omega (arith, add-mul (x .index / x .len) 1 (2 ^ k), whole)
+  run-in-layer j l = omega (arith, K .inside, K .power)
 
   -- and uncle i stands beside the path in its layer
   pub uncle-layer : (i : ℕ) → i < placeOf x h .u → x .base + height (x .len) + i < h
@@ -121,8 +116,8 @@ module _ (s m : List ℕ) (z : requestNumber s m ≡ 0) where
   run-reads-back j l =
       let x = headerOf m in
       let l′ : j < 2 ^ height (headerOf m .len) = omega (arith, kept .power) in
-      let n = run-number (headerOf m) (blocksOf s) (heightOf s) (facts-leaves s facts) kept j l′ in
-      let b = run-in-layer (headerOf m) (blocksOf s) (heightOf s) (facts-leaves s facts) kept j l′ in
+      let n = run-number (headerOf m) (blocksOf s) (heightOf s) kept j l′ in
+      let b = run-in-layer (headerOf m) (blocksOf s) (heightOf s) kept j l′ in
       subst (Holds s (x .base) (x .index + j)) (ap (hashAt s) (sym n) ∙ sym (reply-hash s m (request-passes s m z) j (rw k-is l′)))
       (holds-at s (x .base) (x .index + j) facts (omega (arith, kept .within)) b (rw (← n) (run-held s m z j (rw k-is l′))))
     where
@@ -134,9 +129,9 @@ module _ (s m : List ℕ) (z : requestNumber s m ≡ 0) where
   unfolding placeOf
   uncle-reads-back i l =
       let c = 2 ^ height (headerOf m .len) in
-      let n = uncle-number (headerOf m) (blocksOf s) (heightOf s) (facts-leaves s facts) kept i l in
-      let b = uncle-in-layer (headerOf m) (blocksOf s) (heightOf s) (facts-leaves s facts) kept i l in
-      let a = uncle-layer (headerOf m) (blocksOf s) (heightOf s) (facts-leaves s facts) kept i l in
+      let n = uncle-number (headerOf m) (blocksOf s) (heightOf s) kept i l in
+      let b = uncle-in-layer (headerOf m) (blocksOf s) (heightOf s) kept i l in
+      let a = uncle-layer (headerOf m) (blocksOf s) (heightOf s) kept i l in
       let e : uncle (unclesOf (replyTo s m) (2 ^ height (headerOf m .len)) (unclesIn m)) i ≡ hashIn (replyTo s m) (headerOf m .len + i) =
       uncle-cut (replyTo s m) c (unclesIn m) i l ∙ ap (λ (y : ℕ). hashIn (replyTo s m) (y + i)) (kept .power) in
       subst (Holds s (topLayer m + i) (sibling (topIndex m / 2 ^ i))) (ap (hashAt s) (sym n) ∙ sym (reply-uncle s m (request-passes s m z) i l) ∙ e)

@@ -24,7 +24,7 @@ use Rattle.cells.specs.Cells.{heldAt, hashAt}
 use Rattle.cells.specs.Entries.{Entry, agrees, putAll, oneIf, newly}
 use Rattle.cells.specs.EntriesLaws.{Hold, In, in-cases, one-is, no-entry, sound-in, held-or-entry}
 use Rattle.store.specs.Store.{fileLength, factsRoot, blocksOf, heightOf, positions}
-use Rattle.store.specs.StoreLaws.{usable-facts, facts-usable, facts-leaves, positions-even}
+use Rattle.store.specs.StoreLaws.{facts-usable, positions-even}
 use Rattle.settling.specs.Span.{Within}
 use Rattle.settling.specs.Subtree.{subtree, runLeaf}
 use Rattle.settling.specs.SubtreeLaws.{within-left, within-right, within-self, run-leaf-in, subtree-cases, number-below}
@@ -272,13 +272,12 @@ padded-when s r header sz run uncles =
     let b = blocksOf s in
     let h = heightOf s in
     let P = passed (isHashes r) s r header in
-    let F = usable-facts s (P .store) in
     let K = rules-kept X b h (P .rules) in
     let y = X .index / X .len in
     let pw : 2 ^ height (X .len) ≡ X .len = K .power in
     let one : 1 ≤ height (X .len) = log-some (X .len) (K .two) in
     let ix : y * 2 ^ height (X .len) ≡ X .index = ap (λ (z : ℕ). y * z) pw ∙ exact (X .index) (X .len) (K .multiple) in
-    let ins = top-inside X b h (facts-leaves s F) K in
+    let ins = top-inside X b h K in
     parts run uncles pw ix (K .within) (K .above) one ins sz
   where
     parts :

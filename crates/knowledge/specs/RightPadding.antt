@@ -21,7 +21,6 @@ use Rattle.tree.specs.Values.{node, padValue}
 use Rattle.cells.specs.Entries.{Entry}
 use Rattle.cells.specs.EntriesLaws.{In, in-cases, no-entry}
 use Rattle.store.specs.Store.{blocksOf, heightOf}
-use Rattle.store.specs.StoreLaws.{usable-facts, facts-leaves}
 use Rattle.settling.specs.Subtree.{subtree, runLeaf}
 use Rattle.settling.specs.SubtreeLaws.{run-leaf-in, run-leaf-past, subtree-value, subtree-top, subtree-same, number-below, spot-padding}
 use Rattle.settling.specs.Path.{sibling, parentValue, uncle, path}
@@ -212,7 +211,6 @@ settled-pads s m P size pd e x =
     let X = headerOf m in
     let b = blocksOf s in
     let h = heightOf s in
-    let F = usable-facts s (P .store) in
     let K = rules-kept X b h (P .rules) in
     let k = height (X .len) in
     let y = X .index / X .len in
@@ -226,7 +224,7 @@ settled-pads s m P size pd e x =
     ap₂ (λ (z j : ℕ). runPadded (runOf m z) b (X .base) j z) pw ix ∙ W .0 in
     let up : unclesPadded (unclesOf m (2 ^ height (X .len)) u) b 0 u (X .base + height (X .len)) y ≡ true =
     ap (λ (z : ℕ). unclesPadded (unclesOf m z u) b 0 u (X .base + height (X .len)) y) pw ∙ W .1 in
-    let ins = top-inside X b h (facts-leaves s F) K in
+    let ins = top-inside X b h K in
     let leaf = runLeaf (runOf m (2 ^ height (X .len))) zeroHash in
     let n = nodeNumber h (X .base + height (X .len)) y in
     let v = node leaf (height (X .len)) 0 in

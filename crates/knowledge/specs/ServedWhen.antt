@@ -17,7 +17,7 @@ use Rattle.numbers.specs.declared.Answer.{Answer}
 use Rattle.tree.specs.Geometry.{height}
 use Rattle.cells.specs.Cells.{heldAt}
 use Rattle.store.specs.Store.{usable, factsRoot, blocksOf, heightOf, Facts}
-use Rattle.store.specs.StoreLaws.{usable-facts, facts-leaves}
+use Rattle.store.specs.StoreLaws.{usable-facts}
 use Rattle.settling.specs.Path.{sibling}
 use Rattle.header.specs.Header.{requestId, rejectId, headerSize, messageId, headerBytes, headerOf, messageRoot, isRequest, isReject, rulesKept, placeOf, messageSize, Kept}
 use Rattle.header.specs.HeaderLaws.{rules-kept, kept-rules}
@@ -226,11 +226,11 @@ module _ (s m : List ℕ) where
         (λ j l.
         let c : j < headerOf m .len = omega (arith, ok .rules .power) in
         let w = what-is-held s (X .base) (X .index + j) (A .run j c .0) facts (A .run j c .1) in
-        ap (heldAt s) (run-number (headerOf m) (blocksOf s) (heightOf s) (facts-leaves s facts) (ok .rules) j l) ∙ w .1) in
+        ap (heldAt s) (run-number (headerOf m) (blocksOf s) (heightOf s) (ok .rules) j l) ∙ w .1) in
         let us = held-uncles-all s (unclesIn m) (placeOf (headerOf m) (heightOf s) .top)
         (λ i l.
         let w = what-is-held s (topLayer m + i) (sibling (topIndex m / 2 ^ i)) (A .uncles i l .0) facts (A .uncles i l .1) in
-        ap (heldAt s) (uncle-number (headerOf m) (blocksOf s) (heightOf s) (facts-leaves s facts) (ok .rules) i l) ∙ w .1) in
+        ap (heldAt s) (uncle-number (headerOf m) (blocksOf s) (heightOf s) (ok .rules) i l) ∙ w .1) in
         rw (run, us)
 
     all-given : allHeld s (placeIn s m) ≡ true → AllGiven s m

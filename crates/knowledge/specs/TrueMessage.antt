@@ -1,7 +1,7 @@
--- Demand 2, from the root to the block: the file's true hashes, their anchor held, are taken, or a pair is shown.
+-- Demand 2, from the root to the block: the file's true hashes, their anchor held, are taken, or a pair is shown; before that they are 6.
 -- Assumes nothing.
 use mathlib.Core.Path.{_≡_, refl, ap, ap₂, sym, _∙_}
-use mathlib.Core.Bool.{true}
+use mathlib.Core.Bool.{true, false}
 use mathlib.Core.List.{List}
 use mathlib.Core.Logic.{_⊎_, inl, inr}
 use Prim.Native.Nat.{ℕ, zero, suc, _+_, _*_, _/_, _%_, _^_, _≤_, _<_}
@@ -10,6 +10,7 @@ use native.Mathlib.Nat.{pow-succ'}
 use native.Mathlib.Decide.{ℕ-discrete}
 use lib.ListN.{length}
 use Rattle.octets.specs.OctetsLaws.{same-true}
+use Rattle.numbers.specs.Numbers.{noAnchor}
 use Rattle.sha256.specs.Sha256.{pairHash}
 use Rattle.tree.specs.Geometry.{blockCount, height}
 use Rattle.tree.specs.GeometryLaws.{left-start, right-start}
@@ -25,11 +26,11 @@ use Rattle.settling.specs.Path.{sibling, parentValue, uncle, ancestor, risen, p
 use Rattle.settling.specs.PathLaws.{sibling-even, sibling-odd, parent-even, parent-odd, path-cases}
 use Rattle.settling.specs.AncestorLaws.{ancestor-le, ancestor-parent}
 use Rattle.header.specs.Header.{headerOf, isHashes, messageSize}
-use Rattle.messages.specs.Take.{headerNumber, unclesOf, given, settled, anchor, worked, placeIn, takeNumber}
+use Rattle.messages.specs.Take.{headerNumber, unclesOf, given, settled, anchor, worked, padded, placeIn, takeNumber}
 use Rattle.words.specs.History.{OurStore}
 use Rattle.words.specs.Shown.{heldBy, ofFile}
 use Rattle.words.specs.File.{For}
-use Rattle.knowledge.specs.TakenWhen.{right-then-taken}
+use Rattle.knowledge.specs.TakenWhen.{right-then-taken, no-anchor-then-6}
 use Rattle.knowledge.specs.RightPadding.{Pads}
 use Rattle.knowledge.specs.Invariant.{Whole}
 use Rattle.knowledge.specs.OwnBytes.{ours-have, ours-bytes}
@@ -160,7 +161,14 @@ module _ (file s r : List ℕ) (f : For file s) (w : Tells file s r) where
       blocks : blocksOf s ≡ blockCount (length file)
       blocks = unfold blocksOf in ap blockCount (f .long)
 
--- THE FILE'S TRUE HASHES, their anchor held, are taken, or a pair is shown
+  told-padded : padded r (headerOf r) (placeIn s r) (blocksOf s) ≡ true
+  told-padded = padded-when s r (w .header) (w .size) (λ j l. file-pads _ _ (w .run j l)) (λ i l. file-pads _ _ (w .uncles i l))
+
+  -- THE FILE'S TRUE HASHES, their anchor not held, are 6,
+  pub true-message-waits : heldAt s (anchor (placeIn s r)) ≡ false → takeNumber s r ≡ noAnchor
+  true-message-waits = no-anchor-then-6 s r (record { header = w .header; size = w .size }) told-padded
+
+-- and, their anchor held, are taken, or a pair is shown
 pub true-message : {s : List ℕ} (file r : List ℕ) → OurStore s → For file s → Tells file s r → heldAt s (anchor (placeIn s r)) ≡ true
     → ShownAt (heightOf s) (heldBy s) (ofFile file) ⊎ (takeNumber s r ≡ 0)
 true-message {s} file r o f w h =
@@ -172,8 +180,7 @@ true-message {s} file r o f w h =
       | inr g ↦
           inr (right-then-taken s r (record { header = w .header; size = w .size })
           (record {
-            padding =
-                padded-when s r (w .header) (w .size) (λ j l. file-pads file s r f w _ _ (w .run j l)) (λ i l. file-pads file s r f w _ _ (w .uncles i l));
+            padding = told-padded file s r f w;
             held = h;
             chains = same-true (hashAt s a) v (sym (agrees-held s a v h) ∙ agrees-in s (treeOf file) g (record { at = a; hash = v }) (T .0));
             agree = in-agrees s (settled r (placeIn s r)) (λ e x. agrees-in s (treeOf file) g e (T .1 e x));

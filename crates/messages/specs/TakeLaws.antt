@@ -13,10 +13,9 @@ use borrow.Author.Tests.{leb-true, eqb-true}
 use Rattle.octets.specs.Octets.{cut, same, zeroHash}
 use Rattle.octets.specs.OctetsLaws.{cut-length, zero-octets}
 use Rattle.numbers.specs.Numbers.{noMessage, otherRoot, ruleBroken, wrongSize, wrongPadding, noAnchor, differs, conflict, unusable}
-use Rattle.tree.specs.Geometry.{height, covering}
-use Rattle.tree.specs.GeometryLaws.{covering-most}
+use Rattle.tree.specs.Geometry.{height}
 use Rattle.store.specs.Store.{usable, factsRoot, blocksOf, heightOf, positions, Facts}
-use Rattle.store.specs.StoreLaws.{usable-facts, positions-even, positions-most, facts-leaves, facts-blocks-most, facts-height}
+use Rattle.store.specs.StoreLaws.{usable-facts, positions-even, positions-most, facts-height}
 use Rattle.settling.specs.Span.{Within}
 use Rattle.settling.specs.SubtreeLaws.{within-tree}
 use Rattle.settling.specs.Path.{ancestor}
@@ -102,13 +101,13 @@ module _ (form : Bool) (s m : List ℕ) (r : ℕ) (e : r ≡ firstNumber form s 
 
 -- ---- the place of a header that keeps the rules, in a tree whose positions have numbers below n
 
-placed-at : (x : Header) (b h : ℕ) → b ≤ 2 ^ h → b ≤ 2 ^ tallestTree → h ≤ tallestTree → Kept x b h → Placed (positions h) x (placeOf x h)
+placed-at : (x : Header) (b h : ℕ) → h ≤ tallestTree → Kept x b h → Placed (positions h) x (placeOf x h)
 unfolding positions placeOf messageSize
-placed-at x b h e bs hs f =
+placed-at x b h hs f =
     let k : ℕ = height (x .len) in
     let s : 1 ≤ height (x .len) = log-some (x .len) (f .two) in
-    let i : x .index / x .len < 2 ^ (h - (x .base + height (x .len))) = top-inside x b h e f in
-    let c : covering b (x .base) ≤ b = covering-most b (x .base) in
+    let i : x .index / x .len < 2 ^ (h - (x .base + height (x .len))) = top-inside x b h f in
+    let w : 2 ^ (h - x .base) ≤ 2 ^ tallestTree = pow-mono {i = h - x .base} {j = tallestTree} (omega arith) in
     record {
       power = f .power;
       some = f .two;
@@ -127,8 +126,7 @@ placed-at x b h e bs hs f =
 pub placed : (form : Bool) (s m : List ℕ) → Passed form s m → Placed (positions (heightOf s)) (headerOf m) (placeIn s m)
 placed form s m p =
     let f = usable-facts s (p .store) in
-    placed-at (headerOf m) (blocksOf s) (heightOf s) (facts-leaves s f) (facts-blocks-most s f) (facts-height s f)
-    (rules-kept (headerOf m) (blocksOf s) (heightOf s) (p .rules))
+    placed-at (headerOf m) (blocksOf s) (heightOf s) (facts-height s f) (rules-kept (headerOf m) (blocksOf s) (heightOf s) (p .rules))
 
 -- ---- from one to the next
 

@@ -5,7 +5,7 @@ use mathlib.Core.Path.{_≡_, refl}
 use mathlib.Core.Bool.{true, false}
 use mathlib.Core.List.{List}
 use mathlib.Core.Logic.{_↔_, inl, inr}
-use Prim.Native.Nat.{ℕ, _+_, _-_, _*_, _^_, _≤_, _<_}
+use Prim.Native.Nat.{ℕ, _+_, _-_, _*_, _/_, _^_, _≤_, _<_}
 use native.Mathlib.Omega.{arith}
 use lib.ListN.{length}
 use lib.Dec.{ltb}
@@ -13,14 +13,17 @@ use borrow.Author.Tests.{lt-ltb, le-ltb, ltb-false}
 use Rattle.numbers.specs.Numbers.{done, refused, noMessage, otherRoot, ruleBroken, wrongSize, wrongPadding, noAnchor, differs, conflict, unusable, factsOutOfRange, noRoom, notHeld}
 use Rattle.sha256.specs.Sha256.{sha256}
 use Rattle.sha256.specs.Answer.{hashedOf}
-use Rattle.tree.specs.Geometry.{blockCount, height, blockSize, pieceSize, pieceCount}
+use Rattle.tree.specs.Geometry.{blockCount, height, Padding, blockSize, pieceSize, pieceCount}
+use Rattle.tree.specs.GeometryLaws.{padding-on}
+use Rattle.tree.specs.Values.{padValue}
 use Rattle.store.specs.Store.{usable, fileLength, pieceLength, factsRoot, blocksOf, heightOf, storeSize, sizeAnswer, openAnswer, openAfter, heldAnswer}
+use Rattle.settling.specs.Path.{sibling}
 use Rattle.header.specs.Header.{requestId, rejectId, headerSize, headerOf, messageRoot, messageSize, Kept}
 use Rattle.messages.specs.Take.{takeAnswer, rejectAnswer}
 use Rattle.serve.specs.Serve.{serveAnswer}
 use Rattle.pieces.specs.Pieces.{layerAnswer, blockAnswer, pieceHeight, pieceAnswer}
 use Rattle.words.specs.Held.{Holds, Lacks, Position, Fits, Misfits, Clashes}
-use Rattle.words.specs.Messages.{OtherForm, Readable, Addressed, Ruled, WellFormed, PaddingWrong, Acceptable, Unanchored, Elsewhere, Conflicting, Form, ValidHeader, AllGiven, NoRoomFor}
+use Rattle.words.specs.Messages.{unclesIn, hashIn, topLayer, topIndex, inRun, asUncle, OtherForm, Readable, Addressed, Ruled, WellFormed, PaddingWrong, Acceptable, Unanchored, Elsewhere, Conflicting, Form, ValidHeader, AllGiven, NoRoomFor}
 use Rattle.words.specs.Pieces.{LayerFormed, LayerSettles, BlockFormed, OtherLeaf, PieceFormed, PieceSettles}
 use Rattle.words.specs.Answers.{InRange}
 use Rattle.knowledge.specs.Tests.{either}
@@ -128,6 +131,19 @@ module _ (s m : List ℕ) where
   pub take-5 : (takeAnswer s m .number ≡ wrongPadding) ↔ (WellFormed s m × PaddingWrong s m)
   unfolding takeAnswer
   take-5 = formed-by s m wrongPadding (inr (omega arith, omega arith)) (five-exactly-when s m)
+
+  -- in a run that begins past the last block, every hash must be its layer's padding value,
+  pub take-5-run : WellFormed s m → Padding (blocksOf s) (headerOf m .base) (headerOf m .index) → (j : ℕ) → j < headerOf m .len
+      → (hashIn m j ≡ padValue (headerOf m .base) → ⊥) → takeAnswer s m .number ≡ wrongPadding
+  take-5-run W p j l n =
+      let x = headerOf m in
+      take-5 .1 (W, record { l = x .base; i = x .index + j; v = hashIn m j; settles = inRun j l; padding = padding-on (blocksOf s) (x .base) (x .index) (x .index + j) (omega arith) p; other = n })
+
+  -- an uncle where it is padding itself
+  pub take-5-uncle : WellFormed s m → (j : ℕ) → j < unclesIn m → Padding (blocksOf s) (topLayer m + j) (sibling (topIndex m / 2 ^ j))
+      → (hashIn m (headerOf m .len + j) ≡ padValue (topLayer m + j) → ⊥) → takeAnswer s m .number ≡ wrongPadding
+  take-5-uncle W j l p n =
+      take-5 .1 (W, record { l = topLayer m + j; i = sibling (topIndex m / 2 ^ j); v = hashIn m (headerOf m .len + j); settles = asUncle j l; padding = p; other = n })
 
   -- anchor not held
   pub take-6 : (takeAnswer s m .number ≡ noAnchor) ↔ (WellFormed s m × Unanchored s m)

@@ -7,6 +7,7 @@ use mathlib.Core.Path.{_≡_}
 use mathlib.Core.List.{List}
 use mathlib.Core.Logic.{_⊎_}
 use Prim.Native.Nat.{ℕ, _<_}
+use Rattle.numbers.specs.Numbers.{noAnchor}
 use Rattle.tree.specs.Geometry.{blockSize, pieceCount}
 use Rattle.tree.specs.Values.{node, leafOf, blockOf}
 use Rattle.store.specs.Store.{fileLength, pieceLength, blocksOf, heightOf, heldAnswer}
@@ -17,6 +18,12 @@ use Rattle.words.specs.Messages.{anchorLayer, anchorIndex}
 use Rattle.words.specs.History.{Bytes, OurStore}
 use Rattle.words.specs.Shown.{heldBy, ofFile, Shown, OneHash}
 use Rattle.words.specs.File.{For, pieceFor, layerFor, TrueHashes, PieceIs}
+
+-- the file's own hashes are 6 as long as kd_held does not give their anchor, padding or not
+pub true-hashes-wait : (file s m : List ℕ) → For file s → TrueHashes file s m → (heldAnswer s (anchorLayer m) (anchorIndex m) .number ≡ 0 → ⊥)
+    → takeAnswer s m .number ≡ noAnchor
+unfolding takeAnswer
+true-hashes-wait = Rattle.knowledge.specs.Known.known-message-waits
 
 module _ {s : List ℕ} (file : List ℕ) (o : OurStore s) (w : For file s) where
   -- every hash that kd_held gives is the file's

@@ -13,6 +13,7 @@ pub mod Offered
 pub mod Example
 pub mod LayerExample
 pub mod TrueFirstPair
+pub mod PastTheBlocks
 pub mod Witness
 pub mod ServedAndTaken
 -- the impostors

@@ -12,10 +12,10 @@ use Rattle.octets.specs.OctetsLaws.{zero-octets, same-eq, cut-whole, cut-append
 use Rattle.numbers.specs.declared.Answer.{Answer}
 use Rattle.sha256.specs.Sha256.{pairHash}
 use Rattle.sha256.specs.Sha256Laws.{pair-octets}
-use Rattle.tree.specs.Geometry.{ceilDiv, blockCount, heightFrom, height, nodeNumber, covering}
+use Rattle.tree.specs.Geometry.{ceilDiv, blockCount, heightFrom, height, nodeNumber}
 use Rattle.cells.specs.Cells.{heldAt, hashAt}
-use Rattle.store.specs.Store.{fileLength, heldAnswer, factsRoot, blocksOf, heightOf, storeSize, openAfter, opened, Facts}
-use Rattle.store.specs.StoreLaws.{facts-usable, usable-facts, opened-usable, opened-file, opened-facts-root, opened-blocks, opened-height}
+use Rattle.store.specs.Store.{fileLength, heldAnswer, factsRoot, heightOf, storeSize, openAfter, opened, Facts}
+use Rattle.store.specs.StoreLaws.{facts-usable, usable-facts, opened-usable, opened-file, opened-facts-root, opened-height}
 use Rattle.header.specs.declared.Header.{Header}
 use Rattle.header.specs.Header.{headerOf, messageRoot, isHashes, isRequest, placeOf, rulesKept, lengthRule, indexRule}
 use Rattle.messages.specs.Take.{headerNumber, placeIn, takeNumber, takeAfter}
@@ -92,10 +92,6 @@ module _ (a b : List ℕ) (oa : Octets 32 a) (ob : Octets 32 b) where
     unfolding fresh height heightFrom blockCount ceilDiv
     high = ap heightOf with-is ∙ grown .same .layers ∙ opened-height buffer 32768 16384 (pairHash a b) range fits root-size
 
-    blocks : blocksOf (withTwo buffer a b) ≡ 2
-    unfolding fresh blockCount ceilDiv
-    blocks = ap blocksOf with-is ∙ grown .same .blocks ∙ opened-blocks buffer 32768 16384 (pairHash a b) range fits root-size
-
     root : factsRoot (withTwo buffer a b) ≡ pairHash a b
     unfolding fresh
     root = ap factsRoot with-is ∙ grown .same .root ∙ opened-facts-root buffer 32768 16384 (pairHash a b) range fits root-size
@@ -118,14 +114,14 @@ module _ (a b : List ℕ) (oa : Octets 32 a) (ob : Octets 32 b) where
     place-is = ap₂ (λ (x : Header) (h : ℕ). placeOf x h) header-is high
 
     header-passes : headerNumber (isRequest (askForTwo a b)) (withTwo buffer a b) (askForTwo a b) ≡ 0
-    unfolding rulesKept lengthRule indexRule covering ceilDiv height heightFrom
+    unfolding rulesKept lengthRule indexRule height heightFrom
     header-passes =
         passes (isRequest (askForTwo a b)) (withTwo buffer a b) (askForTwo a b)
         (record {
           store = facts-usable (withTwo buffer a b) facts;
           formed = form-is;
           root = same-eq (factsRoot (withTwo buffer a b)) (messageRoot (askForTwo a b)) (root ∙ sym root-is);
-          rules = rw (header-is, blocks, high);
+          rules = rw (header-is, high);
         })
 
     held-is : allHeld (withTwo buffer a b) (record { k = 1; u = 0; top = 1 }) ≡ true

@@ -1,23 +1,30 @@
--- 01, "Worked by hand": the lines marked P, in the order of 01, each above its theorem. The lines without P are run and compared by the
--- program `worked`.
+-- 01, "Worked by hand": the lines marked P, in the order of 01, each above its theorem, and those of 02's request 8. The lines without P
+-- are run and compared by the program `worked`.
 -- Assumes nothing.
 use mathlib.Core.Path.{_≡_, refl, ap, _∙_}
 use mathlib.Core.Bool.{true, false}
 use mathlib.Core.List.{List}
+use mathlib.Core.Logic.{_⊎_}
 use Prim.Native.Nat.{ℕ, _-_, _^_, _≤_}
+use native.Mathlib.Omega.{arith}
 use lib.ListN.{length}
 use Rattle.octets.specs.Octets.{same}
-use Rattle.numbers.specs.Numbers.{ruleBroken}
-use Rattle.tree.specs.Geometry.{nodeNumber, ceilDiv, blockCount, heightFrom, height, covering, pieceLayer, isPieceLength, hasLayer, pieceCount, pieceSize}
-use Rattle.store.specs.Store.{usable, fileLength, factsRoot, blocksOf, heightOf, factsInRange, storeSize, opened}
-use Rattle.settling.specs.Path.{ancestor}
+use Rattle.numbers.specs.Numbers.{ruleBroken, noAnchor, notHeld}
+use Rattle.tree.specs.Geometry.{nodeNumber, Padding, ceilDiv, blockCount, heightFrom, height, covering, pieceLayer, isPieceLength, hasLayer, pieceCount, pieceSize}
+use Rattle.tree.specs.Values.{piecesRoot}
+use Rattle.store.specs.Store.{usable, fileLength, factsRoot, blocksOf, heightOf, factsInRange, storeSize, opened, heldAnswer}
+use Rattle.settling.specs.Path.{sibling, ancestor}
 use Rattle.header.specs.declared.Header.{Header}
 use Rattle.header.specs.declared.Place.{Place}
 use Rattle.header.specs.Header.{headerSize, headerOf, messageRoot, isRequest, lengthRule, indexRule, rulesKept, placeOf, messageSize}
 use Rattle.messages.specs.Take.{anchor, takeAnswer}
 use Rattle.serve.specs.Serve.{serveAnswer}
+use Rattle.words.specs.History.{OurStore}
 use Rattle.words.specs.Messages.{Refused3}
+use Rattle.words.specs.Shown.{heldBy, ofFile, Shown}
+use Rattle.words.specs.File.{For}
 use Rattle.knowledge.specs.ByHand.{broken-3, of-five, no-rule-at-height-0}
+use Rattle.promises.specs.PastTheBlocks.{pastBlocks}
 
 -- "N=1, h=0: every request of 49 bytes for its root, with room for the reject, is 3."
 pub n-1 : height (blockCount 1) ≡ 0
@@ -75,7 +82,7 @@ header base index len proof = record { base = base; index = index; len = len; pr
 -- "(0,0,2,2): u=2, 177 bytes, anchor the root, 6 new on a fresh store."
 pub message-0-0-2-2 :
     (rulesKept (header 0 0 2 2) 5 3 ≡ true) × (placeOf (header 0 0 2 2) 3 .u ≡ 2) × (messageSize (header 0 0 2 2) ≡ 177) × (anchor (placeOf (header 0 0 2 2) 3) ≡ nodeNumber 3 3 0)
-unfolding rulesKept lengthRule indexRule placeOf messageSize anchor ancestor nodeNumber covering ceilDiv heightFrom height
+unfolding rulesKept lengthRule indexRule placeOf messageSize anchor ancestor nodeNumber heightFrom height
 message-0-0-2-2 = (refl, refl, refl, refl)
 
 -- and 6 new on a fresh store (that such a message exists: TrueFirstPair.antt)
@@ -86,18 +93,56 @@ six-new = Rattle.knowledge.specs.ByHand.six-new
 
 -- "(0,4,4,2): u=1, 209 bytes."
 pub message-0-4-4-2 : (rulesKept (header 0 4 4 2) 5 3 ≡ true) × (placeOf (header 0 4 4 2) 3 .u ≡ 1) × (messageSize (header 0 4 4 2) ≡ 209)
-unfolding rulesKept lengthRule indexRule placeOf messageSize nodeNumber covering ceilDiv heightFrom height
+unfolding rulesKept lengthRule indexRule placeOf messageSize nodeNumber heightFrom height
 message-0-4-4-2 = (refl, refl, refl)
 
 -- "(0,0,4,1): u=0, anchor in layer 2."
 pub message-0-0-4-1 : (rulesKept (header 0 0 4 1) 5 3 ≡ true) × (placeOf (header 0 0 4 1) 3 .u ≡ 0) × (anchor (placeOf (header 0 0 4 1) 3) ≡ nodeNumber 3 2 0)
-unfolding rulesKept lengthRule indexRule placeOf messageSize anchor ancestor nodeNumber covering ceilDiv heightFrom height
+unfolding rulesKept lengthRule indexRule placeOf messageSize anchor ancestor nodeNumber heightFrom height
 message-0-0-4-1 = (refl, refl, refl)
 
 -- "(1,2,2,1): u=1."
 pub message-1-2-2-1 : (rulesKept (header 1 2 2 1) 5 3 ≡ true) × (placeOf (header 1 2 2 1) 3 .u ≡ 1)
-unfolding rulesKept lengthRule indexRule placeOf messageSize nodeNumber covering ceilDiv heightFrom height
+unfolding rulesKept lengthRule indexRule placeOf messageSize nodeNumber heightFrom height
 message-1-2-2-1 = (refl, refl)
+
+-- ---- 02, request 8: "requests that reach into padding", with B=5
+
+-- a run wholly in padding, from its first leaf to its anchor, (0,6,2,0): not 3 any more
+pub message-0-6-2-0 :
+    (rulesKept (header 0 6 2 0) 5 3 ≡ true) × (messageSize (header 0 6 2 0) ≡ 113) × (anchor (placeOf (header 0 6 2 0) 3) ≡ nodeNumber 3 1 3) × Padding 5 0 6 × Padding 5 1 3
+unfolding rulesKept lengthRule indexRule placeOf messageSize anchor ancestor nodeNumber heightFrom height Padding
+message-0-6-2-0 = (refl, refl, refl, omega arith, omega arith)
+
+-- "on a fresh store the true message is 6": both its hashes are the leaves' padding value
+pub past-blocks-fresh : (root : List ℕ) → length root ≡ 32 → (b : List ℕ) (plen : ℕ) → factsInRange 81920 plen ≡ true → storeSize 81920 ≤ length b
+    → takeAnswer (opened b 81920 plen root) (pastBlocks root) .number ≡ noAnchor
+past-blocks-fresh = Rattle.promises.specs.PastTheBlocks.past-blocks-fresh
+
+-- and the request for it 12, as long as there is room for the reject
+pub past-blocks-asked : (root : List ℕ) → length root ≡ 32 → (b : List ℕ) (plen : ℕ) → factsInRange 81920 plen ≡ true → storeSize 81920 ≤ length b
+    → (m : List ℕ) → isRequest m ≡ true → messageRoot m ≡ root → headerOf m ≡ header 0 6 2 0 → (out : List ℕ) → headerSize ≤ length out
+    → serveAnswer (opened b 81920 plen root) m out .number ≡ notHeld
+past-blocks-asked = Rattle.promises.specs.PastTheBlocks.past-blocks-asked
+
+-- in a store that only this build has written it is 0 once kd_held gives its anchor, index 3 of layer 1, or a pair is shown
+pub past-blocks-taken : (file : List ℕ) {s : List ℕ} → OurStore s → For file s → length file ≡ 81920 → heldAnswer s 1 3 .number ≡ 0
+    → Shown (heightOf s) (heldBy s) (ofFile file) ⊎ (takeAnswer s (pastBlocks (piecesRoot file)) .number ≡ 0)
+past-blocks-taken = Rattle.promises.specs.PastTheBlocks.past-blocks-taken
+
+-- with an uncle, (0,6,2,1): the uncle, index 2 of layer 1, covers block 4 and is no padding
+pub message-0-6-2-1 : (rulesKept (header 0 6 2 1) 5 3 ≡ true) × (placeOf (header 0 6 2 1) 3 .u ≡ 1) × (sibling 3 ≡ 2) × (Padding 5 1 2 → ⊥)
+unfolding rulesKept lengthRule indexRule placeOf nodeNumber heightFrom height sibling Padding
+message-0-6-2-1 = (refl, refl, refl, λ p. omega arith)
+
+-- runs half in padding, (0,4,2,0) and (1,2,2,0): the second hash is padding, the first is not
+pub message-0-4-2-0 : (rulesKept (header 0 4 2 0) 5 3 ≡ true) × (Padding 5 0 4 → ⊥) × Padding 5 0 5
+unfolding rulesKept lengthRule indexRule heightFrom height Padding
+message-0-4-2-0 = (refl, λ p. omega arith, omega arith)
+
+pub message-1-2-2-0 : (rulesKept (header 1 2 2 0) 5 3 ≡ true) × (Padding 5 1 2 → ⊥) × Padding 5 1 3
+unfolding rulesKept lengthRule indexRule heightFrom height Padding
+message-1-2-2-0 = (refl, λ p. omega arith, omega arith)
 
 -- ---- "Refused 3:" in every usable store of N=81920, as a hashes message, as a request, as a reject
 
@@ -106,11 +151,24 @@ pub refused-0-0-2-3 : (s m : List ℕ) → usable s ≡ true → fileLength s �
 refused-0-0-2-3 s m u n r e = broken-3 s m u r (of-five s m (header 0 0 2 3) n e fails)
   where
     fails : rulesKept (header 0 0 2 3) 5 3 ≡ false
-    fails = unfold rulesKept lengthRule indexRule covering ceilDiv heightFrom height in refl
+    fails = unfold rulesKept lengthRule indexRule heightFrom height in refl
 
 -- "(1,0,2,4294967295)"
 pub refused-1-0-2-large : (s m : List ℕ) → usable s ≡ true → fileLength s ≡ 81920 → same (factsRoot s) (messageRoot m) ≡ true → headerOf m ≡ header 1 0 2 4294967295 → Refused3 s m
 refused-1-0-2-large s m u n r e = broken-3 s m u r (of-five s m (header 1 0 2 4294967295) n e fails)
   where
     fails : rulesKept (header 1 0 2 4294967295) 5 3 ≡ false
-    fails = unfold rulesKept lengthRule indexRule covering ceilDiv heightFrom height in refl
+    fails = unfold rulesKept lengthRule indexRule heightFrom height in refl
+
+-- one past the layer, (0,8,2,0), and an index whose sum with the length is 2^32
+pub refused-0-8-2-0 : (s m : List ℕ) → usable s ≡ true → fileLength s ≡ 81920 → same (factsRoot s) (messageRoot m) ≡ true → headerOf m ≡ header 0 8 2 0 → Refused3 s m
+refused-0-8-2-0 s m u n r e = broken-3 s m u r (of-five s m (header 0 8 2 0) n e fails)
+  where
+    fails : rulesKept (header 0 8 2 0) 5 3 ≡ false
+    fails = unfold rulesKept lengthRule indexRule heightFrom height in refl
+
+pub refused-0-large-2-0 : (s m : List ℕ) → usable s ≡ true → fileLength s ≡ 81920 → same (factsRoot s) (messageRoot m) ≡ true → headerOf m ≡ header 0 4294967294 2 0 → Refused3 s m
+refused-0-large-2-0 s m u n r e = broken-3 s m u r (of-five s m (header 0 4294967294 2 0) n e fails)
+  where
+    fails : rulesKept (header 0 4294967294 2 0) 5 3 ≡ false
+    fails = unfold rulesKept lengthRule indexRule heightFrom height in refl

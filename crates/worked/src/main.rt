@@ -94,17 +94,29 @@ fn header(s: &mut [u8], index: u8, high: u8, low: u8) {
     offer(s, &m);
 }
 
+// The true message (0,6,2,0): two leaves past the last block, both zeros.
+fn padding(s: &mut [u8]) {
+    let mut m = [0u8; 113];
+    m[0] = 22;
+    let r = ROOT;
+    octets::put_hash(&mut m, 1, r);
+    m[40] = 6;
+    m[44] = 2;
+    offer(s, &m);
+}
+
 fn session(s: &mut [u8]) {
     let first = LEAVES_0_TO_3;
     let second = LAYER_2;
     open(s);
+    padding(s);
     offer(s, &first);
     offer(s, &second);
     offer(s, &first);
     offer(s, &first);
 }
 
-// Without and with proof layers that are not needed, and one uncle.
+// Without and with proof layers that are not needed, and one uncle, which makes the anchor of the padding leaves held.
 fn whole(s: &mut [u8]) {
     let plain = ALL_LEAVES;
     let proof = ALL_LEAVES_PROOF_2;
@@ -115,17 +127,20 @@ fn whole(s: &mut [u8]) {
     offer(s, &proof);
     open(s);
     offer(s, &uncle);
+    padding(s);
 }
 
-// Refused 3: a run that begins past the last block, an index that is no multiple, lengths 0, 1, 3 and 1024; the last is well-formed but for its size.
+// Refused 3: a run that ends past its layer, an index that is no multiple, lengths 0, 1, 3 and 1024; the last two are well-formed but for
+// their size, one of them begins past the last block.
 fn headers(s: &mut [u8]) {
-    header(s, 6, 0, 2);
+    header(s, 8, 0, 2);
     header(s, 2, 0, 4);
     header(s, 0, 0, 0);
     header(s, 0, 0, 1);
     header(s, 0, 0, 3);
     header(s, 0, 4, 0);
     header(s, 4, 0, 2);
+    header(s, 6, 0, 2);
 }
 
 fn main() {

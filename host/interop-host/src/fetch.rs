@@ -1,5 +1,5 @@
-//! The host as a peer of a seed: it asks for all hashes of each file, offers each reply to the library, and damaged ones
-//! in between; then it fetches all blocks and judges them.
+//! The host as a peer of a seed: it asks for a run past the last block and for all hashes of each file, offers each reply
+//! to the library, and damaged ones in between; then it fetches all blocks and judges them.
 
 use crate::contents::{Contents, File};
 use crate::peer::{of_words, word, Peer, HASHES, HASH_REJECT, HASH_REQUEST, INTERESTED, PIECE, REQUEST, UNCHOKE};
@@ -11,6 +11,7 @@ use std::io;
 struct Counts {
     taken: u64,
     before_their_anchor: u64,
+    in_padding: u64,
     refused: u64,
     believed: u64,
 }
@@ -23,15 +24,17 @@ pub fn run(contents: &Contents, port: u16) -> io::Result<()> {
         let mut memory = Vec::new();
         let mut store = file.open(&mut memory);
         let mut counts = Counts::default();
+        learn_padding(&mut peer, file, &mut counts)?;
         learn_hashes(&mut peer, file, &mut store, &mut counts)?;
         judge_pieces(&mut peer, file, &store, &mut counts)?;
         assert_eq!(counts.believed, file.blocks(), "every block is believed");
         println!(
-            "{}: {} replies taken ({} of them had come before their anchor), {} damaged ones refused, {} of {} blocks \
-             believed",
+            "{}: {} replies taken ({} of them had come before their anchor), {} more past the last block, {} damaged ones \
+             refused, {} of {} blocks believed",
             file.path.display(),
             counts.taken,
             counts.before_their_anchor,
+            counts.in_padding,
             counts.refused,
             counts.believed,
             file.blocks()
@@ -53,19 +56,44 @@ fn runs<'a>(file: &'a File, layer: u32, proof: fn(u32) -> u32) -> impl Iterator<
     let above = file.height().saturating_sub(layer);
     let length = LONGEST_RUN.min(1 << above);
     let in_layer = if above == 0 { 0 } else { file.blocks().div_ceil(1 << layer) };
-    (0..in_layer as u32).step_by(length as usize).map(move |index| {
-        let mut request = of_words(HASH_REQUEST, &[layer, index, length, proof(above)]);
-        request.splice(1..1, file.root);
-        request
-    })
+    (0..in_layer as u32).step_by(length as usize).map(move |index| request(file, [layer, index, length, proof(above)]))
+}
+
+/// The request with this base layer, index, length and these proof layers.
+fn request(file: &File, words: [u32; 4]) -> Vec<u8> {
+    let mut request = of_words(HASH_REQUEST, &words);
+    request.splice(1..1, file.root);
+    request
+}
+
+/// The last two leaves up to the root, where both are past the last block: taken on a fresh store of its own, so that the
+/// leaves of a large file still come before their anchor.
+fn learn_padding(peer: &mut Peer, file: &File, counts: &mut Counts) -> io::Result<()> {
+    let leaves = 1 << file.height();
+    if leaves < file.blocks() + 2 {
+        return Ok(());
+    }
+    let reply = ask(peer, &request(file, [0, leaves as u32 - 2, 2, file.height() - 1]))?;
+    let mut memory = Vec::new();
+    let mut store = file.open(&mut memory);
+    assert!(store.take(&reply).is_done(), "its anchor is the root");
+    assert_eq!(store.held(0, leaves - 1), Answer::Done([0; 32]), "a leaf past the last block is zeros");
+    counts.in_padding += 1;
+    Ok(())
+}
+
+/// The seed's reply to a request.
+fn ask(peer: &mut Peer, request: &[u8]) -> io::Result<Vec<u8>> {
+    peer.send(request)?;
+    let reply = peer.receive_one_of(&[HASHES, HASH_REJECT])?;
+    assert_eq!((reply[0], &reply[1..49]), (HASHES, &request[1..]), "the seed has all hashes");
+    Ok(reply)
 }
 
 fn learn_hashes(peer: &mut Peer, file: &File, store: &mut Store, counts: &mut Counts) -> io::Result<()> {
     let mut early = Vec::new();
     for request in requests(file) {
-        peer.send(&request)?;
-        let reply = peer.receive_one_of(&[HASHES, HASH_REJECT])?;
-        assert_eq!((reply[0], &reply[1..49]), (HASHES, &request[1..]), "the seed has all hashes");
+        let reply = ask(peer, &request)?;
         if offer(store, &reply, counts) == Answer::NoAnchor {
             early.push(reply);
         }

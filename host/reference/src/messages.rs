@@ -4,7 +4,7 @@ use crate::limits::LONGEST_RUN;
 use crate::number::*;
 use crate::sha256::{pair, Hash};
 use crate::store::{any_differs, facts_of, held_at, hold};
-use crate::tree::{halved, over_run, padding, Facts, Position, Settled};
+use crate::tree::{over_run, padding, Facts, Position, Settled};
 use crate::Answer;
 
 pub const REQUEST: u8 = 21;
@@ -46,8 +46,8 @@ impl Header {
         bytes
     }
 
-    /// The header rules against a store's B and h. Sums are made in 64 bits, so that none of them wraps, and "at most
-    /// h - 1" is "below h", so that nothing is taken from an h of 0.
+    /// The header rules against a store's h. Sums are made in 64 bits, so that none of them wraps, and "at most h - 1" is
+    /// "below h", so that nothing is taken from an h of 0.
     pub fn obeys_the_rules(&self, facts: &Facts) -> bool {
         let (base, index, proof) = (self.base as u64, self.index as u64, self.proof as u64);
         self.length.is_power_of_two()
@@ -55,7 +55,7 @@ impl Header {
             && self.index % self.length == 0
             && base + self.run_layers() <= facts.height()
             && base + proof < facts.height()
-            && index < halved(facts.blocks(), base)
+            && index + self.length as u64 <= facts.width(base)
     }
 
     /// log2(length), for a length that is a power of two.
@@ -256,6 +256,8 @@ mod tests {
         assert_eq!(uncles_size_anchor((0, 0, 8, 2)), (0, 305, 3));
         assert_eq!(uncles_size_anchor((1, 2, 2, 1)), (1, 145, 3));
         assert_eq!(uncles_size_anchor((2, 0, 2, 0)), (0, 113, 3));
+        assert_eq!(uncles_size_anchor((0, 6, 2, 0)), (0, 113, 1));
+        assert_eq!(uncles_size_anchor((0, 6, 2, 1)), (1, 145, 2));
     }
 
     #[test]
@@ -263,7 +265,8 @@ mod tests {
         let five = case(81920);
         let refused = [
             (0, 0, 2, 3),
-            (0, 6, 2, 0),
+            (0, 8, 2, 0),
+            (1, 4, 2, 0),
             (0, 2, 4, 0),
             (0, 0, 0, 0),
             (0, 0, 1, 0),
@@ -299,6 +302,36 @@ mod tests {
     #[test]
     fn six_are_new_on_a_fresh_store() {
         assert_eq!(case(81920).take((0, 0, 2, 2)), (DONE, 6));
+    }
+
+    /// A run wholly in padding, and one half in it: the anchor must be held, though it is padding.
+    #[test]
+    fn runs_in_padding() {
+        let mut five = case(81920);
+        assert_eq!(five.take((0, 6, 2, 0)), (NO_ANCHOR, 0));
+        assert_eq!(five.serve((0, 6, 2, 0)), (NOT_HELD, 49));
+        assert_eq!(five.take((1, 2, 2, 1)), (DONE, 4));
+        assert_eq!(five.take((0, 6, 2, 0)), (DONE, 2));
+        assert_eq!(five.take((0, 6, 2, 0)), (DONE, 0));
+        assert_eq!(five.serve((0, 6, 2, 0)), (DONE, 113));
+        assert_eq!(five.take((0, 4, 2, 0)), (DONE, 2));
+        assert_eq!(case(81920).take((0, 6, 2, 2)), (DONE, 6));
+    }
+
+    /// Every hash of a run past the last block is its layer's padding value, an uncle only where it is padding itself:
+    /// the one of (0,6,2,1) covers block 4.
+    #[test]
+    fn padding_past_the_last_block() {
+        let mut five = case(81920);
+        let mut number = |words, at: usize| {
+            let mut message = five.message(words);
+            message[at] ^= 1;
+            take(&mut five.store, &message).number
+        };
+        assert_eq!(number((0, 6, 2, 0), HEAD), WRONG_PADDING);
+        assert_eq!(number((0, 6, 2, 1), HEAD + 32), WRONG_PADDING);
+        assert_eq!(number((0, 6, 2, 1), HEAD + 64), NO_ANCHOR);
+        assert_eq!(number((0, 4, 2, 1), HEAD + 64), WRONG_PADDING);
     }
 
     #[test]

@@ -5,6 +5,7 @@ pub mod bursts;
 pub mod call;
 pub mod compare;
 pub mod fillings;
+pub mod headers;
 pub mod random;
 pub mod replays;
 pub mod sessions;

@@ -4,7 +4,7 @@ use crate::random::Random;
 use reference::limits::BLOCK;
 use reference::messages::{Header, HASHES};
 use reference::sha256::{sha256, Hash};
-use reference::tree::{halved, over_run, Facts, Position};
+use reference::tree::{over_run, Facts, Position};
 use std::collections::HashMap;
 
 /// A file's facts and tree; its bytes too, where blocks and pieces are to be judged.
@@ -48,7 +48,7 @@ impl Truth {
         let height = self.facts.height();
         let base = random.below(height.max(1));
         let run_layers = random.between(1, (height.checked_sub(base)?).clamp(1, 9));
-        let runs = halved(self.facts.blocks(), base + run_layers);
+        let runs = 1 << height.checked_sub(base + run_layers)?;
         let header = Header {
             root: self.facts.root,
             base: base as u32,

@@ -12,6 +12,7 @@ use reference::number::*;
 use reference::sha256::sha256;
 use reference::store::{facts_of, hold, size_of, CELL};
 use reference::torrent::{File, Torrent};
+use reference::tree::Position;
 use reference::{Answer, Hashed};
 
 const CASES: u64 = 60_000;
@@ -283,6 +284,18 @@ fn replies_with_wrong_bytes() {
             outcome
         }
         (_, outcome) => outcome,
+    });
+    assert_found_out("a request past the last block rejected", &|call| {
+        let outcome = by_reference(call);
+        match (call.entry, outcome.given.number(), facts_of(&call.store)) {
+            (Entry::Serve, DONE | NOT_HELD, Some(facts)) => {
+                let Header { base, index, .. } = Header::read(&call.input);
+                let is_past = facts.is_padding(Position { layer: base as u64, index: index as u64 });
+                let rejected = Given::Answer(Answer { number: RULE_BROKEN, count: HEAD as u64 });
+                Outcome { given: if is_past { rejected } else { outcome.given }, ..outcome }
+            }
+            _ => outcome,
+        }
     });
     assert_found_out("a small room rejects", &|call| match (call.entry, by_reference(call)) {
         (Entry::Serve, outcome) if outcome.given.number() == NO_ROOM && call.out.len() >= HEAD => {

@@ -100,12 +100,14 @@ fn every_number() {
         records
     };
     let bare = |words| [header(&file, words), END.to_vec()].concat();
-    let steps: [(Vec<u8>, &str); 21] = [
+    let steps: [(Vec<u8>, &str); 24] = [
         (opening_of(&file), "0 1\n"),
         (true_message(&file, [0, 0, 2, 2]), "0 6\n"),
         (true_message(&other, [0, 0, 2, 2]), "2 0\n"),
         (bare([0, 0, 2, 3]), "3 0\n"),
-        (bare([0, 6, 2, 0]), "3 0\n"),
+        (bare([0, 8, 2, 0]), "3 0\n"),
+        (bare([0, 6, 2, 0]), "4 0\n"),
+        (true_message(&file, [0, 6, 2, 0]), "6 0\n"),
         (bare([0, 2, 4, 0]), "3 0\n"),
         (bare([0, 0, 0, 0]), "3 0\n"),
         (bare([0, 0, 1, 0]), "3 0\n"),
@@ -119,6 +121,7 @@ fn every_number() {
         (damaged([0, 2, 2, 0]), "7 0\n"),
         (true_message(&file, [0, 2, 2, 0]), "0 2\n"),
         (true_message(&file, [0, 4, 4, 2]), "0 6\n"),
+        (true_message(&file, [0, 6, 2, 0]), "0 0\n"),
         (true_message(&file, [0, 0, 8, 0]), "0 0\n"),
         (true_message(&file, [0, 0, 8, 2]), "0 0\n"),
         (true_message(&file, [1, 2, 2, 1]), "0 0\n"),

@@ -1,17 +1,22 @@
-use Rattle.header.specs.Header.{indexRule}
-use lib.Dec.{ltb}
+use Rattle.header.proofs.Rules.{index-by}
+use native.Mathlib.Omega.{arith}
 use Prim.Native.Nat.{_-_}
-use mathlib.Core.Path.{ap}
+use mathlib.Core.Path.{refl}
 use borrow.Author.Needs.{needs}
 use Rattle.header.proofs.index_rule.Statement.{statement}
 use Rattle.header.proofs.index_rule.Tie as tie
 
-covering-requires : tie.Need-covering-requires
-covering-requires c κs = search needs
+sub-d : tie.Need-sub-d
+sub-d c = search needs
+
+add-result : tie.Need-add-result
+add-result c = search needs
+
+shl-result : tie.Need-shl-result
+shl-result c = search needs
 
 returns : tie.Need-returns
-unfolding indexRule
-returns c = ap (ltb (c .before .args .x .index)) (c .covering .ensures)
+returns c = let a = c .args in index-by (a .x) (a .b) (a .h) (a .h - a .x .base) (c .pre .2) refl
 
 pub index-rule-spec : {M : Type 1} → statement M
-index-rule-spec = tie.close (tie.spec covering-requires returns)
+index-rule-spec = tie.close (tie.spec sub-d add-result shl-result returns)

@@ -26,7 +26,7 @@ log2-requires c κs = search needs
 
 add-if3 : tie.Need-add-if3
 add-if3 c =
-    omega (arith, c .before .before .before .before .pre .base, c .log2 .ensures, length-log (c .before .before .before .before .args .x .len) (sym (c .before .before .before .length-rule .ensures) ∙ not-false _ (c .before .before .if1 .left)))
+    omega (arith, c .before .before .before .before .pre .0 .base, c .log2 .ensures, length-log (c .before .before .before .before .args .x .len) (sym (c .before .before .before .length-rule .ensures) ∙ not-false _ (c .before .before .if1 .left)))
 
 returns-3 : tie.Need-returns-3
 returns-3 c =
@@ -42,7 +42,9 @@ returns-4 c =
     rules-4 (a .x) (a .b) (a .h) (sym (c .before .before .before .before .before .length-rule .ensures) ∙ not-false _ (c .before .before .before .before .if1 .left)) (c .before .before .before .if2 .left) (c .before .before .log2 .result) (c .before .before .log2 .ensures) (c .before .if3 .left) (c .if4 .taken)
 
 index-rule-requires : tie.Need-index-rule-requires
-index-rule-requires c κs = search needs
+index-rule-requires c κs =
+    let pre = c .before .before .before .before .before .before .pre in
+    (pre .0, omega (arith, c .before .if3 .left), pre .1)
 
 returns-5 : tie.Need-returns-5
 returns-5 c =

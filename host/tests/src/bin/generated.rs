@@ -7,7 +7,7 @@
 use host_tests::call::by_library;
 use host_tests::compare::{report, Comparison};
 use host_tests::random::Random;
-use host_tests::{bursts, fillings, sessions, shapes, torrents};
+use host_tests::{bursts, fillings, headers, sessions, shapes, torrents};
 use std::env;
 use std::process::exit;
 use std::time::{Duration, Instant, SystemTime, UNIX_EPOCH};
@@ -33,12 +33,13 @@ struct Part {
 /// A torrent of libtorrent's, with a layer.
 const SINGLE: &[u8] = include_bytes!("../../real/single.torrent");
 
-const PARTS: [Part; 11] = [
+const PARTS: [Part; 12] = [
     Part { name: "strings", cases: |random, compared, _| fillings::run(random, compared) },
     Part { name: "bursts", cases: |random, compared, go_on| bursts::run(random, compared, go_on) },
     Part { name: "every-cut-of-strings", cases: |random, compared, _| bursts::run_through_every_cut(random, compared) },
     Part { name: "logged-files", cases: |random, compared, _| bursts::run_on_files(random, compared) },
     Part { name: "sessions", cases: |random, compared, go_on| sessions::run(random, compared, go_on) },
+    Part { name: "every-header", cases: |random, compared, _| headers::run(random, compared) },
     Part { name: "largest-file", cases: |random, compared, _| sessions::run_on_the_largest_file(random, compared, 40) },
     Part { name: "torrents", cases: |random, compared, go_on| torrents::run(random, compared, go_on) },
     Part { name: "each-byte-of-single", cases: |_, compared, _| torrents::run_through_every_byte(SINGLE, compared) },

@@ -1,5 +1,5 @@
 use Rattle.header.specs.Header.{placeOf}
-use Rattle.store.specs.StoreLaws.{usable-facts, facts-height, facts-leaves}
+use Rattle.store.specs.StoreLaws.{usable-facts, facts-height}
 use native.Mathlib.Omega.{arith}
 use Prim.Native.Nat.{ℕ, _-_}
 use mathlib.Core.Path.{ap, _∙_}
@@ -16,7 +16,6 @@ place-of-requires : tie.Need-place-of-requires
 place-of-requires c κs = let f = usable-facts (c .before .before .before .args .s .now) (c .before .before .before .pre .0) in (
   c .before .before .before .pre .1,
   omega (arith, facts-height (c .before .before .before .args .s .now) f, c .height-of .ensures),
-  rw (c .before .blocks-of .ensures, c .height-of .ensures) (facts-leaves (c .before .before .before .args .s .now) f),
   rw (c .before .blocks-of .ensures, c .height-of .ensures) (c .before .before .before .pre .2),
 )
 

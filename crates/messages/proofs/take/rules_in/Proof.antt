@@ -1,7 +1,7 @@
-use Rattle.store.specs.StoreLaws.{usable-facts}
+use Rattle.store.specs.StoreLaws.{usable-facts, facts-height}
+use native.Mathlib.Omega.{arith}
 use Prim.Native.Nat.{_-_}
 use mathlib.Core.Path.{refl, _∙_}
-use borrow.Author.Needs.{needs}
 use Rattle.messages.proofs.take.rules_in.Statement.{statement}
 use Rattle.messages.proofs.take.rules_in.Tie as tie
 
@@ -12,7 +12,10 @@ height-of-requires : tie.Need-height-of-requires
 height-of-requires c κs = usable-facts (c .before .before .args .s .now) (c .before .before .pre .0) .long
 
 keeps-rules-requires : tie.Need-keeps-rules-requires
-keeps-rules-requires c κs = search needs
+keeps-rules-requires c κs =
+    let s = c .before .before .before .args .s .now in
+    let pre = c .before .before .before .pre in
+    (pre .1, omega (arith, facts-height s (usable-facts s (pre .0)), c .height-of .ensures))
 
 returns : tie.Need-returns
 returns c = c .keeps-rules .ensures ∙ rw (c .before .before .blocks-of .ensures, c .before .height-of .ensures) refl
