@@ -129,16 +129,16 @@ kd_hashing kd_hashing_begin(void);
 
 /*
  * Takes a burst of any size, none included.
- *    9  a state whose counts no bursts give: `tail_size` isn't `total` modulo 64, or `total` is above 2^61 - 1.
- *    4  the burst would go past 2^61 - 1 bytes.
- *    0  the state after the burst.
+ *   KD_UNUSABLE  a state whose counts no bursts give: `tail_size` isn't `total` modulo 64, or `total` is above 2^61 - 1.
+ *   KD_WRONG_SIZE  the burst would go past 2^61 - 1 bytes.
+ *   KD_DONE  the state after the burst.
  */
 kd_hashing_answer kd_hashing_more(kd_hashing state, const uint8_t *data, size_t size);
 
 /*
  * The hash of the bytes so far. The state may go on from here.
- *    9  as above.
- *    0  `hash` is what kd_sha256 gives of all bytes.
+ *   KD_UNUSABLE  as above.
+ *   KD_DONE  `hash` is what kd_sha256 gives of all bytes.
  */
 kd_hashed kd_hashing_end(kd_hashing state);
 
@@ -158,24 +158,24 @@ typedef struct { uint64_t piece_length; uint64_t length; kd_hashing block; uint8
 /* A number, and the state after the burst; beside a refusal the state as it was given. */
 typedef struct { uint32_t number; kd_history state; } kd_history_answer;
 
-/* A number, and beside 0 N, the pieces root (zero for an empty history), and the piece layer's size in bytes. */
+/* A number, and beside KD_DONE N, the pieces root (zero for an empty history), and the piece layer's size in bytes. */
 typedef struct { uint32_t number; uint64_t length; kd_hash root; uint64_t layer_size; } kd_history_end_answer;
 
 /*
  * The state of no bytes.
- *   10  a bad piece length; the state is zero.
- *    0  the state.
+ *   KD_FACTS_OUT_OF_RANGE  a bad piece length; the state is zero.
+ *   KD_DONE  the state.
  */
 kd_history_answer kd_history_begin(uint64_t piece_length);
 
 /*
  * Takes a burst of any size, none included. A piece's hash is written to the lent layer once the history runs past the piece:
  * after N bytes the first ceil(N / piece length) - 1 have been, 32 bytes each. Other bytes of the layer stay.
- *    9  a state whose counts no bursts give: a bad piece length, `length` above 2^30, or counts of `block` that aren't those of
- *       `length` modulo 16384.
- *   10  the burst would go past 2^30 bytes.
- *   11  a hash that has to be written doesn't fit the layer; none is written.
- *    0  the state after the burst.
+ *   KD_UNUSABLE  a state whose counts no bursts give: a bad piece length, `length` above KD_LONGEST_FILE, or counts of
+ *       `block` that aren't those of `length` modulo KD_BLOCK.
+ *   KD_FACTS_OUT_OF_RANGE  the burst would go past KD_LONGEST_FILE bytes.
+ *   KD_NO_ROOM  a hash that has to be written doesn't fit the layer; none is written.
+ *   KD_DONE  the state after the burst.
  */
 kd_history_answer kd_history_more(kd_history state, const uint8_t *data, size_t size, uint8_t *layer, size_t layer_size);
 
@@ -183,9 +183,9 @@ kd_history_answer kd_history_more(kd_history state, const uint8_t *data, size_t 
  * The end, or the end so far: the state may go on from here, so that a growing file can be published again and again. The root
  * comes from the state alone. The last piece's hash is written if the file is longer than the piece length; the layer then has
  * `layer_size` bytes, as kd_load_layer takes them, if each call was lent the layer as the call before left it.
- *    9  as above.
- *   11  the layer doesn't fit; nothing is written.
- *    0  N, the root and the layer's size.
+ *   KD_UNUSABLE  as above.
+ *   KD_NO_ROOM  the layer doesn't fit; nothing is written.
+ *   KD_DONE  N, the root and the layer's size.
  */
 kd_history_end_answer kd_history_end(kd_history state, uint8_t *layer, size_t layer_size);
 
