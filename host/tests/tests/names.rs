@@ -84,6 +84,7 @@ fn the_numbers_of_the_table() {
 fn the_header_has_the_numbers_and_the_limits() {
     let mut expected = numbers();
     expected.extend(constants("host/reference/src/limits.rs"));
+    expected.insert("NODES".to_string(), expected["TALLEST_TREE"] + 1);
     assert_eq!(header(), expected);
 }
 
