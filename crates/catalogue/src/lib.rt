@@ -26,7 +26,7 @@ ghost use Rattle.catalogue.specs.Catalogue.{recordsOf, recordSize, listA
 ghost use Rattle.catalogue.specs.CatalogueLaws.{partsWith, Ready};
 ghost use Rattle.catalogue.specs.PutLaws.{SpotRight, Puts};
 
-// A record has so many bytes.
+// The bytes of one record.
 pub const RECORD: usize = 280;
 
 // A directory of it: its first entry, the levels left below it, and where its first record goes.

@@ -11,7 +11,7 @@ ghost use lib.ListN.{drop};
 ghost use Rattle.bencode.specs.Scalar.{readInteger, readString};
 ghost use Rattle.filetree.specs.File.{lengthOf, rootOf, fileLength, fileRoot, fileAt};
 
-// A pieces root has so many bytes.
+// The bytes of a pieces root.
 pub const ROOT_SIZE: usize = 32;
 
 // A file's length.
