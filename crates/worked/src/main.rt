@@ -144,7 +144,7 @@ fn headers(s: &mut [u8]) {
 }
 
 // In a tree of height 14, of 2^14 blocks, 1024 and 8192 keep the rules: a header alone is 4 there. 16384 is 3.
-fn tall(s: &mut [u8]) {
+fn long_runs(s: &mut [u8]) {
     let root = Hash { bytes: ROOT };
     show(kombudeva::kd_open(s, 268435456, 16384, root));
     header(s, 0, 4, 0);
@@ -152,11 +152,15 @@ fn tall(s: &mut [u8]) {
     header(s, 0, 64, 0);
 }
 
+fn tall() {
+    let mut s = [0u8; 1081375];
+    long_runs(&mut s);
+}
+
 fn main() {
     let mut s = [0u8; 559];
     session(&mut s);
     whole(&mut s);
     headers(&mut s);
-    let mut t = [0u8; 1081375];
-    tall(&mut t);
+    tall();
 }
