@@ -23,7 +23,7 @@
  *
  * Memory marked `const` is not changed, and a refusal changes no byte of any memory, save for that reject.
  *
- * STACK. Calls on a store or a state were seen to need at most 6.6 kB of stack, kd_torrent_list 212 kB, the other calls on a
+ * STACK. Calls on a store or a state were seen to need at most 7.9 kB of stack, kd_torrent_list 212 kB, the other calls on a
  * torrent 147 kB: measured on the largest file and on torrents nested as deep as they may be (docs/BENCHMARKS.md).
  *
  * EXAMPLE
