@@ -153,7 +153,7 @@ fn long_runs(s: &mut [u8]) {
 }
 
 fn tall() {
-    let mut s = [0u8; 1081375];
+    let mut s = [0u8; 1100000];
     long_runs(&mut s);
 }
 

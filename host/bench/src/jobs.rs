@@ -38,7 +38,7 @@ pub fn all() -> Vec<Job> {
         job("serve", "kd_serve", "1.5", ONE_GIB.reply(), || serving(ONE_GIB)),
         job("take-8192", "kd_take", "", LARGEST.reply(), || taking(LARGEST)),
         job("serve-8192", "kd_serve", "", LARGEST.reply(), || serving(LARGEST)),
-        in_library("open-16GiB", "none", "kd_open", "", LARGEST_STORE, opening),
+        in_library("open-16GiB", "none", "kd_open", "", largest_store(), opening),
         in_library("layer-16GiB", "one-by-one", "kd_load_layer", "", 32 * LONGEST_LAYER, loading),
         job("piece-1MiB", "kd_judge_piece", "0.78", PIECE as usize, judging),
     ];
@@ -358,7 +358,10 @@ fn judging() -> Vec<Box<dyn Work>> {
 }
 
 const LONGEST_LAYER: usize = (LONGEST_FILE / BLOCK) as usize;
-const LARGEST_STORE: usize = 33 * (2 * LONGEST_LAYER - 1) + 64;
+
+fn largest_store() -> usize {
+    boundary::store_size(LONGEST_FILE, BLOCK).count as usize
+}
 
 /// The longest file in the smallest pieces, so with the longest layer; the hash above equal ones is worked out once for each.
 struct Longest {
@@ -370,7 +373,7 @@ struct Longest {
 impl Longest {
     fn new() -> Longest {
         let root = (0..LONGEST_LAYER.ilog2()).fold([7; 32], |below, _| pair(&below, &below));
-        Longest { store: vec![0; LARGEST_STORE], root, layer: vec![[7; 32]; LONGEST_LAYER] }
+        Longest { store: vec![0; largest_store()], root, layer: vec![[7; 32]; LONGEST_LAYER] }
     }
 
     fn open(&mut self) {

@@ -7,7 +7,7 @@ use Rattle.worked.proofs.tall.Statement.{statement}
 use Rattle.worked.proofs.tall.Tie as tie
 
 slice-aggregate-long-runs : tie.Need-slice-aggregate-long-runs
-slice-aggregate-long-runs c = sym (length-replicate {A = ℕ} 1081375 0)
+slice-aggregate-long-runs c = sym (length-replicate {A = ℕ} 1100000 0)
 
 long-runs-requires : tie.Need-long-runs-requires
 long-runs-requires c κs = tt
