@@ -83,7 +83,7 @@ extern "C" {
 #define KD_BLOCK 16384                  /* the bytes of a block; the last one of a file may have fewer */
 #define KD_SMALLEST_PIECE_LENGTH 16384  /* a piece length is a power of two from this */
 #define KD_LARGEST_PIECE_LENGTH 16777216 /* to this */
-#define KD_LONGEST_FILE 17179869184     /* in bytes, more than 32 bits count; the shortest has 1 */
+#define KD_LONGEST_FILE 17179869184     /* in bytes, a number of 35 bits; the shortest has 1 */
 #define KD_TALLEST_TREE 20              /* its tree's height, so its root's layer */
 #define KD_LONGEST_RUN 8192             /* the `length` of a hash message, in hashes */
 #define KD_LARGEST_TORRENT 1048576      /* in bytes */
