@@ -23,7 +23,7 @@
  *
  * Memory marked `const` is not changed, and a refusal changes no byte of any memory, save for that reject.
  *
- * STACK. Calls on a store or a state were seen to need at most 6.6 kB of stack, kd_torrent_list 212 kB, the other calls on a
+ * STACK. Calls on a store or a state were seen to need at most 7.9 kB of stack, kd_torrent_list 212 kB, the other calls on a
  * torrent 147 kB: measured on the largest file and on torrents nested as deep as they may be (docs/BENCHMARKS.md).
  *
  * EXAMPLE
@@ -43,7 +43,7 @@ extern "C" {
 #endif
 
 /* The version of header and library. Its second figure rises whenever a struct, a function or an answer changes. */
-#define KD_VERSION "0.2.0"
+#define KD_VERSION "0.3.0"
 
 /* ---- The numbers given back, each with what it says. ---- */
 
@@ -83,9 +83,9 @@ extern "C" {
 #define KD_BLOCK 16384                  /* the bytes of a block; the last one of a file may have fewer */
 #define KD_SMALLEST_PIECE_LENGTH 16384  /* a piece length is a power of two from this */
 #define KD_LARGEST_PIECE_LENGTH 16777216 /* to this */
-#define KD_LONGEST_FILE 1073741824      /* in bytes; the shortest has 1 */
-#define KD_TALLEST_TREE 16              /* its tree's height, so its root's layer */
-#define KD_LONGEST_RUN 512              /* the `length` of a hash message, in hashes */
+#define KD_LONGEST_FILE 17179869184     /* in bytes, a number of 35 bits; the shortest has 1 */
+#define KD_TALLEST_TREE 20              /* its tree's height, so its root's layer */
+#define KD_LONGEST_RUN 8192             /* the `length` of a hash message, in hashes */
 #define KD_LARGEST_TORRENT 1048576      /* in bytes */
 #define KD_LEVELS 32                    /* how deeply a torrent may be nested, its outer dictionary being the first level */
 #define KD_ELEMENTS 28                  /* the most path elements of a file */
@@ -145,10 +145,10 @@ kd_hashed kd_hashing_end(kd_hashing state);
 /* ---- The tree of a file as its bytes come in bursts: N, the pieces root and the piece layer. ---- */
 
 /* One node for each layer of the tallest tree, the root's included. */
-#define KD_NODES 17
+#define KD_NODES 21
 
 /*
- * A state as above, of 672 bytes.
+ * A state as above, of 800 bytes.
  *   length  N, the count of all bytes
  *   block   the running hash of the block under way
  *   nodes   for each layer its last finished node; zero where there is none yet

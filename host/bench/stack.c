@@ -1,7 +1,7 @@
 /* How much stack the deepest call of each entry point needs: the call runs on a painted stack of its own, and afterwards
  * the paint that is gone is counted. What the frame around the call takes itself is measured and taken off.
  *
- * The file has 65,536 blocks, the most there may be, so that the tree is as high as it can be. All its blocks are alike:
+ * The file has 2^20 blocks, the most there may be, so that the tree is as high as it can be. All its blocks are alike:
  * the tree then costs one hash for each layer. Every call is answered KD_DONE, having gone all its way. */
 #define _GNU_SOURCE
 #include "kombudeva.h"
@@ -13,7 +13,9 @@
 
 enum { STACK = 1 << 22, PAINT = 0xa5 };
 enum { BLOCK = KD_BLOCK, HEIGHT = KD_TALLEST_TREE, BLOCKS = 1 << HEIGHT, LARGEST_PIECE = KD_LARGEST_PIECE_LENGTH };
-enum { RUN = KD_LONGEST_RUN, UNCLES = 7, PROOF = 15, HEAD = 49, REPLY = HEAD + 32 * (RUN + UNCLES) };
+enum { RUN = KD_LONGEST_RUN, RUN_LAYERS = 13, UNCLES = HEIGHT - RUN_LAYERS, PROOF = HEIGHT - 1, HEAD = 49 };
+enum { REPLY = HEAD + 32 * (RUN + UNCLES) };
+_Static_assert(RUN == 1 << RUN_LAYERS, "the layers of the longest run");
 enum { REQUEST = 21, HASHES = 22, REJECT = 23 };
 #define LENGTH ((uint64_t)BLOCKS * BLOCK)
 
@@ -77,7 +79,7 @@ static void load_layer(void) { number = kd_load_layer(store, size, layer[0].byte
 static void show(const char *name, void (*function)(void));
 
 /* A torrent of the same file, its path as deep as it may be, with the longest layer that 1 MiB has room for. */
-enum { ELEMENTS = KD_ELEMENTS, LAYER = 2, PIECES = BLOCKS >> LAYER, FILES = 14000 };
+enum { ELEMENTS = KD_ELEMENTS, LAYER = 6, PIECES = BLOCKS >> LAYER, FILES = 14000 };
 static uint8_t torrent[KD_LARGEST_TORRENT];
 static size_t torrent_size;
 
@@ -100,11 +102,11 @@ static void make_torrent(void)
     add_text("d4:infod9:file treed");
     for (int i = 0; i < ELEMENTS; i++)
         add_text("1:ad");
-    add_text("0:d6:lengthi1073741824e11:pieces root32:");
+    add_text("0:d6:lengthi17179869184e11:pieces root32:");
     add(&at_layer[HEIGHT], 32);
     for (int i = 0; i < ELEMENTS; i++)
         add_text("e");
-    add_text("ee12:meta versioni2e12:piece lengthi65536ee12:piece layersd32:");
+    add_text("ee12:meta versioni2e12:piece lengthi1048576ee12:piece layersd32:");
     add(&at_layer[HEIGHT], 32);
     add_text("524288:");
     for (int i = 0; i < PIECES; i++)
@@ -149,7 +151,7 @@ static kd_hash pair_of(kd_hash hash)
     return kd_sha256(both[0].bytes, sizeof both).hash;
 }
 
-/* A message for the first 512 leaves with all uncles up to the root. */
+/* A message for the first leaves, a run as long as it may be, with all uncles up to the root. */
 static void write_head(uint8_t *message, uint8_t id)
 {
     message[0] = id;
@@ -175,7 +177,7 @@ static void make_inputs(void)
     for (int i = 0; i < RUN; i++)
         memcpy(reply + HEAD + 32 * i, at_layer[0].bytes, 32);
     for (int i = 0; i < UNCLES; i++)
-        memcpy(reply + HEAD + 32 * (RUN + i), at_layer[9 + i].bytes, 32);
+        memcpy(reply + HEAD + 32 * (RUN + i), at_layer[RUN_LAYERS + i].bytes, 32);
     size = kd_store_size(LENGTH, BLOCK).count;
     store = malloc(size);
 }
@@ -183,14 +185,14 @@ static void make_inputs(void)
 /* Makes the nodes of the largest pieces, layer 10, held: the piece is then judged to its end. */
 static void take_piece_nodes(void)
 {
-    static uint8_t nodes[HEAD + 64 * 32];
+    enum { PIECE_LAYER = 10, LARGE_PIECES = BLOCKS >> PIECE_LAYER };
+    static uint8_t nodes[HEAD + LARGE_PIECES * 32];
     write_head(nodes, HASHES);
-    nodes[36] = 10;
-    nodes[43] = 0;
-    nodes[44] = 64;
+    nodes[36] = PIECE_LAYER;
+    nodes[43] = LARGE_PIECES >> 8;
     nodes[48] = 0;
-    for (int i = 0; i < 64; i++)
-        memcpy(nodes + HEAD + 32 * i, at_layer[10].bytes, 32);
+    for (int i = 0; i < LARGE_PIECES; i++)
+        memcpy(nodes + HEAD + 32 * i, at_layer[PIECE_LAYER].bytes, 32);
     if (kd_take(store, size, nodes, sizeof nodes).number != KD_DONE)
         exit(1);
 }

@@ -184,8 +184,8 @@ static void logged(void)
     check("the layer", memcmp(layer, tree[2][0].bytes, 64) == 0 && layer[64] == 0xaa);
     kd_history_answer refused = kd_history_more(begun.state, file, LENGTH, NULL, 0);
     check("a burst without room", refused.number == 11 && memcmp(&refused.state, &begun.state, sizeof state) == 0);
-    refused = kd_history_more(state, file, ((size_t)1 << 30) - LENGTH + 1, layer, sizeof layer);
-    check("a burst past 2^30", refused.number == 10 && memcmp(&refused.state, &state, sizeof state) == 0);
+    refused = kd_history_more(state, file, KD_LONGEST_FILE - LENGTH + 1, layer, sizeof layer);
+    check("a burst past the longest file", refused.number == 10 && memcmp(&refused.state, &state, sizeof state) == 0);
     refused = kd_history_more(none, NULL, 0, NULL, 0);
     check("zero bytes as a state", refused.number == 9 && memcmp(&refused.state, &none, sizeof none) == 0);
     check("their end", kd_history_end(none, NULL, 0).number == 9);

@@ -156,7 +156,7 @@ full-file s at n r e nz = by-length (findKey keyLength at (drop at s)) refl e
     by-length Missing q f = other f
     by-length (Part a b) q f = by-value a b q (lengthOf (readInteger a (drop a s))) refl f
 
--- a length is from 0 to 2^30
+-- a length is from 0 to the longest file's
 length-small : (i : Integer) (n : ℕ) → lengthOf i ≡ Bytes n → n ≤ longestFile
 length-small NoInteger n e = let z : _≡_ {A = ℕ} 0 1 = cc in absurd (omega arith)
 length-small (Whole true m k) n e = let z : _≡_ {A = ℕ} 0 1 = cc in absurd (omega arith)

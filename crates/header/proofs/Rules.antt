@@ -55,13 +55,13 @@ unfolding lengthRule
 length-large len h = sym (rw (lt-leb len longestRun h) (and-false (eqb (2 ^ height len) len && leb 2 len)))
 
 -- a run's length is a number of 32 bits
-pub log-small : (len : ℕ) → len ≤ longestRun → height len ≤ 32
-log-small len h = height-least len 32 (omega arith)
+pub log-small : (len : ℕ) → len ≤ 2 ^ 32 → height len ≤ 32
+log-small len h = height-least len 32 h
 
 pub length-middle : (len k : ℕ) → 2 ≤ len → len ≤ longestRun → k ≡ height len → eqb (1 * 2 ^ k % 2 ^ 64) len ≡ lengthRule len
 unfolding lengthRule
 length-middle len k a b e =
-    let p : 2 ^ k ≤ 2 ^ 32 = pow-mono {i = k} {j = 32} (omega (arith, log-small len b)) in
+    let p : 2 ^ k ≤ 2 ^ 32 = pow-mono {i = k} {j = 32} (omega (arith, log-small len (omega arith))) in
     let o : 1 * 2 ^ k ≡ 2 ^ k = omega arith in
     let q : 1 * 2 ^ k % 2 ^ 64 ≡ 2 ^ height len = ap (λ (y : ℕ). y % 2 ^ 64) o ∙ mod-eq-of-lt (omega arith) ∙ ap (λ (y : ℕ). 2 ^ y) e in
     sym (rw (le-leb 2 len a, le-leb len longestRun b) (last (eqb (2 ^ height len) len) ∙ ap (λ (y : ℕ). eqb y len) (sym q)))
@@ -81,7 +81,7 @@ length-two len e = leb-true 2 len (middle (eqb (2 ^ height len) len) (leb 2 len)
 
 pub length-log : (len : ℕ) → lengthRule len ≡ true → height len ≤ 32
 unfolding lengthRule
-length-log len e = log-small len (leb-true len longestRun (last (eqb (2 ^ height len) len) (leb 2 len) (leb len longestRun) e))
+length-log len e = let l = leb-true len longestRun (last (eqb (2 ^ height len) len) (leb 2 len) (leb len longestRun) e) in log-small len (omega arith)
   where
     last : (a b c : Bool) → (a && b && c) ≡ true → c ≡ true
     last true true c f = f

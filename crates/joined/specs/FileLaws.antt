@@ -51,7 +51,7 @@ abbrev LengthIs : Length → Lookup → Type 0
 LengthIs NoLength x = isNatural x && leb (numberOf x) longestFile ≡ false
 LengthIs (Bytes n) x = (isNatural x && leb (numberOf x) longestFile ≡ true) × (n ≡ numberOf x)
 
--- an integer is a length if it is from 0 to 2^30, and no other value is one
+-- an integer is a length if it is from 0 to the longest file's, and no other value is one
 length-of : (a : ℕ) (v : Value) → LengthIs (lengthOf (integerOf a v)) (present v)
 length-of a (integer true n) = refl
 length-of a (integer false n) = by-range (leb n longestFile) refl

@@ -68,7 +68,7 @@ module _ (plen n : ℕ) (p : isPieceLength plen ≡ true) (h : hasLayer n plen �
       let g = long-file-height n (pieceLayer plen) l in
       omega arith
 
-  pub pieces-few : n ≤ longestFile → pieceCount n plen ≤ 2 ^ 30
+  pub pieces-few : n ≤ longestFile → pieceCount n plen ≤ longestFile
   pieces-few l =
       let form = piece-length-form plen p .1 in
       let c : pieceCount n plen ≡ covering (blockCount n) (pieceLayer plen) = ap (pieceCount n) form ∙ pieces-covering n (pieceLayer plen) in

@@ -4,15 +4,15 @@ use Prim.Native.Nat.{ℕ, _^_}
 
 -- the longest file, in bytes
 abbrev pub longestFile : ℕ
-longestFile = 2 ^ 30
+longestFile = 2 ^ 34
 
 -- the height of its tree
 abbrev pub tallestTree : ℕ
-tallestTree = 16
+tallestTree = 20
 
 -- the longest base run of a message, in hashes
 abbrev pub longestRun : ℕ
-longestRun = 512
+longestRun = 8192
 
 -- the largest torrent, in bytes
 abbrev pub largestTorrent : ℕ

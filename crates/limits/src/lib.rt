@@ -1,13 +1,13 @@
 // How large things may be (document 01). Each limit stands here once for the code, and once in specs/Limits for the contracts.
 
 // The longest file, in bytes.
-pub const LONGEST_FILE: usize = 1073741824;
+pub const LONGEST_FILE: usize = 17179869184;
 
 // The height of its tree.
-pub const TALLEST_TREE: usize = 16;
+pub const TALLEST_TREE: usize = 20;
 
 // The longest base run of a message, in hashes.
-pub const LONGEST_RUN: usize = 512;
+pub const LONGEST_RUN: usize = 8192;
 
 // The largest torrent, in bytes.
 pub const LARGEST_TORRENT: usize = 1048576;

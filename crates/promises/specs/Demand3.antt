@@ -1,4 +1,6 @@
 -- 00, demand 3, sentence by sentence. Its words: crates/words, files History (steps, a store of ours), Held, Shown, FourClauses.
+-- Read within one edition (02, request 6), that is one build with its limits: where another had smaller ones, a 3 or 10 of its may be
+-- another number here.
 -- Assumes nothing.
 use mathlib.Core.Path.{_≡_}
 use mathlib.Core.List.{List}

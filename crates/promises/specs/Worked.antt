@@ -1,23 +1,24 @@
--- 01, "Worked by hand": the lines marked P, in the order of 01, each above its theorem, and those of 02's request 8. The lines without P
--- are run and compared by the program `worked`.
+-- 01, "Worked by hand": the lines marked P, in the order of 01, each above its theorem, and those of 02's requests 8 and 6. The lines without
+-- P are run and compared by the program `worked`.
 -- Assumes nothing.
 use mathlib.Core.Path.{_≡_, refl, ap, _∙_}
 use mathlib.Core.Bool.{true, false}
 use mathlib.Core.List.{List}
 use mathlib.Core.Logic.{_⊎_}
-use Prim.Native.Nat.{ℕ, _-_, _^_, _≤_}
+use Prim.Native.Nat.{ℕ, _+_, _-_, _^_, _≤_}
 use native.Mathlib.Omega.{arith}
 use lib.ListN.{length}
 use Rattle.octets.specs.Octets.{same}
 use Rattle.numbers.specs.Numbers.{ruleBroken, noAnchor, notHeld}
 use Rattle.tree.specs.Geometry.{nodeNumber, Padding, ceilDiv, blockCount, heightFrom, height, covering, pieceLayer, isPieceLength, hasLayer, pieceCount, pieceSize}
 use Rattle.tree.specs.Values.{piecesRoot}
-use Rattle.store.specs.Store.{usable, fileLength, factsRoot, blocksOf, heightOf, factsInRange, storeSize, opened, heldAnswer}
+use Rattle.store.specs.Store.{usable, fileLength, factsRoot, blocksOf, heightOf, positions, factsInRange, storeSize, opened, heldAnswer}
 use Rattle.settling.specs.Path.{sibling, ancestor}
 use Rattle.header.specs.declared.Header.{Header}
 use Rattle.header.specs.declared.Place.{Place}
 use Rattle.header.specs.Header.{headerSize, headerOf, messageRoot, isRequest, lengthRule, indexRule, rulesKept, placeOf, messageSize}
-use Rattle.messages.specs.Take.{anchor, takeAnswer}
+use Rattle.header.specs.HeaderLaws.{rules-kept}
+use Rattle.messages.specs.Take.{anchor, takeAnswer, rejectAnswer}
 use Rattle.serve.specs.Serve.{serveAnswer}
 use Rattle.words.specs.History.{OurStore}
 use Rattle.words.specs.Messages.{Refused3}
@@ -25,6 +26,7 @@ use Rattle.words.specs.Shown.{heldBy, ofFile, Shown}
 use Rattle.words.specs.File.{For}
 use Rattle.knowledge.specs.ByHand.{broken-3, of-five, no-rule-at-height-0}
 use Rattle.promises.specs.PastTheBlocks.{pastBlocks}
+use Rattle.promises.specs.EachNumber.{take-3, serve-3, reject-3}
 
 -- "N=1, h=0: every request of 49 bytes for its root, with room for the reject, is 3."
 pub n-1 : height (blockCount 1) ≡ 0
@@ -172,3 +174,55 @@ refused-0-large-2-0 s m u n r e = broken-3 s m u r (of-five s m (header 0 429496
   where
     fails : rulesKept (header 0 4294967294 2 0) 5 3 ≡ false
     fails = unfold rulesKept lengthRule indexRule heightFrom height in refl
+
+-- ---- 02, request 6: "length up to 8192 instead of 512, N up to 2^34 (h up to 20)"
+
+-- N=2^34: B=2^20, h=20, and the store's bytes; with one byte more the tree would have height 21, and the length is out of range
+pub n-longest :
+    (blockCount (2 ^ 34) ≡ 2 ^ 20) × (height (2 ^ 20) ≡ 20) × (storeSize (2 ^ 34) ≡ 69206047) × (height (blockCount (2 ^ 34 + 1)) ≡ 21)
+    × (factsInRange (2 ^ 34) 16384 ≡ true) × (factsInRange (2 ^ 34 + 1) 16384 ≡ false)
+unfolding ceilDiv blockCount heightFrom height storeSize positions factsInRange pieceLayer isPieceLength
+n-longest = (refl, refl, refl, refl, refl, refl)
+
+-- 01's "Refused 3" has length 1024 with B=5: it still is, now because the tree is too low
+pub refused-0-0-1024-0 : (s m : List ℕ) → usable s ≡ true → fileLength s ≡ 81920 → same (factsRoot s) (messageRoot m) ≡ true → headerOf m ≡ header 0 0 1024 0 → Refused3 s m
+refused-0-0-1024-0 s m u n r e = broken-3 s m u r (of-five s m (header 0 0 1024 0) n e fails)
+  where
+    fails : rulesKept (header 0 0 1024 0) 5 3 ≡ false
+    fails = unfold rulesKept lengthRule indexRule heightFrom height in refl
+
+-- a header that keeps the rules is not 3, in whichever of the three forms it comes
+abbrev Not3 : List ℕ → List ℕ → Type 0
+Not3 s m =
+    (takeAnswer s m .number ≡ ruleBroken → ⊥) × ((out : List ℕ) → serveAnswer s m out .number ≡ ruleBroken → ⊥) × (rejectAnswer s m .number ≡ ruleBroken → ⊥)
+
+kept-not-3 : (s m : List ℕ) → rulesKept (headerOf m) (blocksOf s) (heightOf s) ≡ true → Not3 s m
+kept-not-3 s m k =
+    let f = rules-kept (headerOf m) (blocksOf s) (heightOf s) k in
+    (λ e. take-3 s m .0 e .1 f, λ out e. serve-3 s m out .0 e .0 .3 f, λ e. reject-3 s m .0 e .3 f)
+
+-- in a tree of height 10, B=1024, it is not 3 any more
+pub tall-0-0-1024-0 : (s m : List ℕ) → fileLength s ≡ 16777216 → headerOf m ≡ header 0 0 1024 0 → Not3 s m
+tall-0-0-1024-0 s m n e = kept-not-3 s m kept
+  where
+    kept : rulesKept (headerOf m) (blocksOf s) (heightOf s) ≡ true
+    kept = unfold heightOf blocksOf ceilDiv blockCount rulesKept lengthRule indexRule heightFrom height in rw (n, e) refl
+
+-- nor is the longest run in the tallest tree, (0,0,8192,19): u=7, 262417 bytes, anchor the root
+pub message-0-0-8192-19 :
+    (placeOf (header 0 0 8192 19) 20 .u ≡ 7) × (messageSize (header 0 0 8192 19) ≡ 262417) × (anchor (placeOf (header 0 0 8192 19) 20) ≡ nodeNumber 20 20 0)
+unfolding placeOf messageSize anchor ancestor nodeNumber heightFrom height
+message-0-0-8192-19 = (refl, refl, refl)
+
+pub tall-0-0-8192-19 : (s m : List ℕ) → fileLength s ≡ 2 ^ 34 → headerOf m ≡ header 0 0 8192 19 → Not3 s m
+tall-0-0-8192-19 s m n e = kept-not-3 s m kept
+  where
+    kept : rulesKept (headerOf m) (blocksOf s) (heightOf s) ≡ true
+    kept = unfold heightOf blocksOf ceilDiv blockCount rulesKept lengthRule indexRule heightFrom height in rw (n, e) refl
+
+-- length 16384 is 3 in every usable store
+pub refused-16384 : (s m : List ℕ) → usable s ≡ true → same (factsRoot s) (messageRoot m) ≡ true → headerOf m .len ≡ 16384 → Refused3 s m
+refused-16384 s m u r e = broken-3 s m u r fails
+  where
+    fails : rulesKept (headerOf m) (blocksOf s) (heightOf s) ≡ false
+    fails = unfold rulesKept lengthRule heightFrom height in rw e refl

@@ -3,3 +3,4 @@ pub mod SessionLaws
 pub mod Lines
 pub mod LinesLaws
 pub mod RoomLaws
+pub mod LimitLaws

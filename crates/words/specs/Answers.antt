@@ -43,7 +43,7 @@ pub data ServeOutcome (s m out : List ℕ) : Type 0 where
   -- 9, 1 or 11: no byte changes, the size is zero
   untouched : (n : ℕ) → (n ≡ 9) ⊎ ((n ≡ 1) ⊎ (n ≡ 11)) → serveAnswer s m out ≡ refused n → serveAfter s m out ≡ out → ServeOutcome s m out
 
--- N is 1 to 2^30, and the piece length 16384·2^p for a p up to 10, which is a power of two, 16384 to 16777216
+-- N is 1 to the longest file's, and the piece length 16384·2^p for a p up to 10, which is a power of two, 16384 to 16777216
 pub record InRange (n plen : ℕ) : Type 0 where
   pub some : 1 ≤ n
   pub most : n ≤ longestFile

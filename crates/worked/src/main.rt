@@ -1,5 +1,5 @@
 // Cases worked by hand in document 01, on a file of five blocks (block i is 16,384 times the byte i + 1): the session, and
-// the cases that are not proved. Each line is a number and a count.
+// the cases that are not proved; and long runs in a tall tree. Each line is a number and a count.
 use kombudeva::CountAnswer;
 use kombudeva::Hash;
 use libc::STDOUT_FILENO;
@@ -130,8 +130,8 @@ fn whole(s: &mut [u8]) {
     padding(s);
 }
 
-// Refused 3: a run that ends past its layer, an index that is no multiple, lengths 0, 1, 3 and 1024; the last two are well-formed but for
-// their size, one of them begins past the last block.
+// Refused 3: a run that ends past its layer, an index that is no multiple, lengths 0, 1, 3 and, the tree being too low for it, 1024; the
+// last two are well-formed but for their size, one of them begins past the last block.
 fn headers(s: &mut [u8]) {
     header(s, 8, 0, 2);
     header(s, 2, 0, 4);
@@ -143,9 +143,24 @@ fn headers(s: &mut [u8]) {
     header(s, 6, 0, 2);
 }
 
+// In a tree of height 14, of 2^14 blocks, 1024 and 8192 keep the rules: a header alone is 4 there. 16384 is 3.
+fn long_runs(s: &mut [u8]) {
+    let root = Hash { bytes: ROOT };
+    show(kombudeva::kd_open(s, 268435456, 16384, root));
+    header(s, 0, 4, 0);
+    header(s, 0, 32, 0);
+    header(s, 0, 64, 0);
+}
+
+fn tall() {
+    let mut s = [0u8; 1100000];
+    long_runs(&mut s);
+}
+
 fn main() {
     let mut s = [0u8; 559];
     session(&mut s);
     whole(&mut s);
     headers(&mut s);
+    tall();
 }

@@ -2,11 +2,11 @@
 //! compared with it. Each run checks that its version gives what all of them have to.
 
 use crate::measure::{Prepared, Work};
-use crate::scene::{Scene, PIECE, PIECE_NUMBER, RUN, UNCLES};
+use crate::scene::{Scene, Size, LARGEST, ONE_GIB, PIECE};
 use crate::{careful, plain};
 use host_tests::shapes;
-use reference::limits::RECORD;
-use reference::sha256::{sha256, Hash};
+use reference::limits::{BLOCK, LONGEST_FILE, RECORD};
+use reference::sha256::{pair, sha256, Hash};
 use reference::torrent::contents;
 use std::hint::black_box;
 
@@ -24,8 +24,6 @@ pub struct Job {
     pub ready: Box<dyn Fn() -> Vec<Box<dyn Work>>>,
 }
 
-const REPLY: usize = 49 + 32 * (RUN as usize + UNCLES);
-
 /// The shapes whose list is measured too: the ordinary one, the one with the most files, the deepest.
 const LISTED: [&str; 3] = [shapes::ORDINARY, "empty-files", "28-elements"];
 
@@ -35,9 +33,13 @@ pub fn all() -> Vec<Job> {
         job("sha-1MiB", "kd_sha256", "", 1 << 20, || hashing(1 << 20)).not_counted(),
         job("sha-64KiB", "kd_sha256", "0.78", 65536, || hashing(65536)),
         job("sha-16KiB", "kd_sha256", "", 16384, || hashing(16384)).not_counted(),
-        job("take", "kd_take", "1.42", REPLY, taking),
-        job("take-again", "kd_take", "", REPLY, taking_again),
-        job("serve", "kd_serve", "1.5", REPLY, serving),
+        job("take", "kd_take", "1.42", ONE_GIB.reply(), || taking(ONE_GIB)),
+        job("take-again", "kd_take", "", ONE_GIB.reply(), taking_again),
+        job("serve", "kd_serve", "1.5", ONE_GIB.reply(), || serving(ONE_GIB)),
+        job("take-8192", "kd_take", "", LARGEST.reply(), || taking(LARGEST)),
+        job("serve-8192", "kd_serve", "", LARGEST.reply(), || serving(LARGEST)),
+        in_library("open-16GiB", "none", "kd_open", "", largest_store(), opening),
+        in_library("layer-16GiB", "one-by-one", "kd_load_layer", "", 32 * LONGEST_LAYER, loading),
         job("piece-1MiB", "kd_judge_piece", "0.78", PIECE as usize, judging),
     ];
     #[cfg(has_pair)]
@@ -248,7 +250,7 @@ struct InLibrary {
 impl InRust {
     fn new(scene: &Scene, sha256: Sha256, message: Vec<u8>) -> InRust {
         let store = plain::Store::open(scene.facts.length, PIECE, scene.facts.root, sha256);
-        InRust { store, message, nodes: scene.nodes(), reply: Vec::with_capacity(REPLY) }
+        InRust { store, message, nodes: scene.nodes(), reply: Vec::with_capacity(scene.size.reply()) }
     }
 
     /// With everything held that the reply settles.
@@ -276,13 +278,13 @@ impl InRust {
     }
 
     fn judge(&mut self) -> bool {
-        black_box(self.store.judge_piece(PIECE_NUMBER as usize, black_box(&self.message)))
+        black_box(self.store.judge_piece(ONE_GIB.piece_number() as usize, black_box(&self.message)))
     }
 }
 
 impl InLibrary {
     fn new(scene: &Scene, store: Vec<u8>, message: Vec<u8>) -> InLibrary {
-        InLibrary { store, message, nodes: scene.nodes(), out: vec![0; REPLY] }
+        InLibrary { store, message, nodes: scene.nodes(), out: vec![0; scene.size.reply()] }
     }
 
     fn forget(&mut self) {
@@ -300,28 +302,25 @@ impl InLibrary {
     }
 
     fn judge(&mut self) -> boundary::Answer {
-        black_box(boundary::judge_piece(&self.store, PIECE_NUMBER, black_box(&self.message)))
+        black_box(boundary::judge_piece(&self.store, ONE_GIB.piece_number(), black_box(&self.message)))
     }
 }
 
-/// The positions that the reply makes newly held: all but the root.
-const NEWLY: u64 = 2 * RUN as u64 - 2 + 2 * UNCLES as u64;
-
-/// Taking the reply on a store that holds its anchor, the root, and nothing else.
-fn taking() -> Vec<Box<dyn Work>> {
-    let scene = Scene::without_bytes();
+/// Taking the reply on a store that holds its anchor, the root, and nothing else: all settled positions but one are new.
+fn taking(size: Size) -> Vec<Box<dyn Work>> {
+    let scene = Scene::without_bytes(size);
     let in_rust = IN_RUST.map(|sha256| {
         let state = InRust::new(&scene, sha256, scene.reply());
-        work(state, InRust::forget, |state| assert_eq!(state.take(), Some(NEWLY)))
+        work(state, InRust::forget, |state| assert_eq!(state.take(), Some(state.nodes.len() as u64 - 1)))
     });
     let state = InLibrary::new(&scene, scene.opened(), scene.reply());
-    let in_library = work(state, InLibrary::forget, |state| assert_eq!(state.take().count, NEWLY));
+    let in_library = work(state, InLibrary::forget, |state| assert_eq!(state.take().count, state.nodes.len() as u64 - 1));
     in_rust.into_iter().chain([in_library]).collect()
 }
 
 /// Taking it once more.
 fn taking_again() -> Vec<Box<dyn Work>> {
-    let scene = Scene::without_bytes();
+    let scene = Scene::without_bytes(ONE_GIB);
     let in_rust = IN_RUST.map(|sha256| {
         let state = InRust::told(&scene, sha256, scene.reply());
         work(state, |_| (), |state| assert_eq!(state.take(), Some(0)))
@@ -332,14 +331,14 @@ fn taking_again() -> Vec<Box<dyn Work>> {
 }
 
 /// Serving the request that the reply answers.
-fn serving() -> Vec<Box<dyn Work>> {
-    let scene = Scene::without_bytes();
+fn serving(size: Size) -> Vec<Box<dyn Work>> {
+    let scene = Scene::without_bytes(size);
     let in_rust = IN_RUST.map(|sha256| {
         let state = InRust::told(&scene, sha256, scene.request());
-        work(state, |_| (), |state| assert!(state.serve() && state.reply.len() == REPLY))
+        work(state, |_| (), |state| assert!(state.serve() && state.reply.len() == state.reply.capacity()))
     });
     let state = InLibrary::new(&scene, scene.told(), scene.request());
-    let in_library = work(state, |_| (), |state| assert_eq!(state.serve().count, REPLY as u64));
+    let in_library = work(state, |_| (), |state| assert_eq!(state.serve().count, state.out.len() as u64));
     in_rust.into_iter().chain([in_library]).collect()
 }
 
@@ -347,8 +346,8 @@ fn serving() -> Vec<Box<dyn Work>> {
 fn judging() -> Vec<Box<dyn Work>> {
     let piece = bytes(PIECE as usize);
     let mut leaves: Vec<Hash> = piece.chunks(16384).map(sha256).collect();
-    leaves.resize(RUN as usize, [1; 32]);
-    let scene = Scene::new(leaves);
+    leaves.resize(ONE_GIB.run as usize, [1; 32]);
+    let scene = Scene::new(ONE_GIB, leaves);
     let in_rust = IN_RUST.map(|sha256| {
         let state = InRust::told(&scene, sha256, piece.clone());
         work(state, |_| (), |state| assert!(state.judge()))
@@ -356,6 +355,59 @@ fn judging() -> Vec<Box<dyn Work>> {
     let state = InLibrary::new(&scene, scene.told(), piece.clone());
     let in_library = work(state, |_| (), |state| assert_eq!(state.judge().number, 0));
     in_rust.into_iter().chain([in_library]).collect()
+}
+
+const LONGEST_LAYER: usize = (LONGEST_FILE / BLOCK) as usize;
+
+fn largest_store() -> usize {
+    boundary::store_size(LONGEST_FILE, BLOCK).count as usize
+}
+
+/// The longest file in the smallest pieces, so with the longest layer; the hash above equal ones is worked out once for each.
+struct Longest {
+    store: Vec<u8>,
+    root: Hash,
+    layer: Vec<Hash>,
+}
+
+impl Longest {
+    fn new() -> Longest {
+        let root = (0..LONGEST_LAYER.ilog2()).fold([7; 32], |below, _| pair(&below, &below));
+        Longest { store: vec![0; largest_store()], root, layer: vec![[7; 32]; LONGEST_LAYER] }
+    }
+
+    fn open(&mut self) {
+        let root = boundary::Hash { bytes: self.root };
+        assert_eq!(black_box(boundary::open(&mut self.store, LONGEST_FILE, BLOCK, root)).number, 0);
+    }
+
+    fn load(&mut self) {
+        let loaded = black_box(boundary::load_layer(&mut self.store, black_box(self.layer.as_flattened())));
+        assert_eq!(loaded.count, 2 * LONGEST_LAYER as u64 - 2);
+    }
+}
+
+/// Opening the largest store, against nothing.
+fn opening() -> Vec<Box<dyn Work>> {
+    vec![work((), |_| (), |_| ()), work(Longest::new(), |_| (), Longest::open)]
+}
+
+/// Loading the longest layer, against its pairs hashed one by one up to the root.
+fn loading() -> Vec<Box<dyn Work>> {
+    let one_by_one = work(
+        Longest::new(),
+        |_| (),
+        |longest| {
+            let mut row = longest.layer.clone();
+            while row.len() > 1 {
+                row = row.chunks(2).map(|pair| boundary::sha256(pair.as_flattened()).hash.bytes).collect();
+            }
+            assert_eq!(black_box(row), [longest.root]);
+        },
+    );
+    let mut longest = Longest::new();
+    longest.open();
+    vec![one_by_one, work(longest, Longest::open, Longest::load)]
 }
 
 /// Reading a torrent as a whole. Plain Rust is host/reference's reader, which has all files then.

@@ -1,6 +1,7 @@
 //! A store as an ordinary Rust programmer writes it, for comparison: an `Option` for each node, a `Vec` for what a message
 //! settles, every hash worked out once.
 
+use reference::limits::LONGEST_RUN;
 use reference::sha256::Hash;
 
 const BLOCK: usize = 16384;
@@ -90,7 +91,7 @@ impl Store {
         let (base, index, length, proof) = (word(33), word(37), word(41), word(45));
         let layers = length.trailing_zeros();
         let obeys = length.is_power_of_two()
-            && (2..=512).contains(&length)
+            && (2..=LONGEST_RUN).contains(&length)
             && index % length == 0
             && base as u64 + layers as u64 <= self.height as u64
             && (base as u64 + proof as u64) < self.height as u64

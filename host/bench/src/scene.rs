@@ -1,23 +1,53 @@
-//! A file of 65,536 blocks, and a reply of 512 leaves with 7 uncles that chains to its root.
+//! A file of 65,536 blocks, and a reply of 512 leaves with 7 uncles that chains to its root; or sixteen times both.
 //!
-//! All blocks outside the run are alike, so that the tree costs a few hundred hashes and not 131,071.
+//! All blocks outside the run are alike, so that the tree costs a few hundred hashes and not 131,071, or a few thousand.
 
-use reference::limits::BLOCK;
+use reference::limits::{BLOCK, LONGEST_RUN, TALLEST_TREE};
 use reference::messages::{Header, HASHES, REQUEST};
 use reference::sha256::{pair, Hash};
 use reference::store::{self, hold, store_size};
 use reference::tree::{Facts, Settled};
 
 pub const PIECE: u64 = 1 << 20;
-pub const RUN: u32 = 512;
-pub const UNCLES: usize = 7;
-const LENGTH: u64 = 65536 * BLOCK;
-/// A run somewhere inside, so that the path to the root turns left and right.
-const INDEX: u32 = 77 * RUN;
-/// The piece whose blocks the run begins with.
-pub const PIECE_NUMBER: u64 = INDEX as u64 * BLOCK / PIECE;
+
+/// The height of a full tree, and the leaves of a run in it.
+#[derive(Clone, Copy)]
+pub struct Size {
+    height: u32,
+    pub run: u32,
+}
+
+pub const ONE_GIB: Size = Size { height: 16, run: 512 };
+pub const LARGEST: Size = Size { height: TALLEST_TREE as u32, run: LONGEST_RUN };
+
+impl Size {
+    /// Those from the run's top to the root.
+    pub fn uncles(self) -> u32 {
+        self.height - self.run.ilog2()
+    }
+
+    /// The bytes of the reply.
+    pub fn reply(self) -> usize {
+        49 + 32 * (self.run + self.uncles()) as usize
+    }
+
+    fn length(self) -> u64 {
+        BLOCK << self.height
+    }
+
+    /// A run somewhere inside, so that the path to the root turns left and right.
+    fn index(self) -> u32 {
+        77 * self.run
+    }
+
+    /// The piece whose blocks the run begins with.
+    pub fn piece_number(self) -> u64 {
+        self.index() as u64 * BLOCK / PIECE
+    }
+}
 
 pub struct Scene {
+    pub size: Size,
     pub facts: Facts,
     pub header: Header,
     pub hashes: Vec<Hash>,
@@ -26,21 +56,21 @@ pub struct Scene {
 }
 
 impl Scene {
-    /// The scene whose run has these leaves.
-    pub fn new(leaves: Vec<Hash>) -> Scene {
-        assert_eq!(leaves.len(), RUN as usize);
-        let mut header = Header { root: [0; 32], base: 0, index: INDEX, length: RUN, proof: 15 };
-        assert_eq!(header.uncles(), UNCLES as u64);
-        let hashes: Vec<Hash> = leaves.into_iter().chain(uncles()).collect();
+    /// The scene of this size whose run has these leaves.
+    pub fn new(size: Size, leaves: Vec<Hash>) -> Scene {
+        assert_eq!(leaves.len(), size.run as usize);
+        let mut header = Header { root: [0; 32], base: 0, index: size.index(), length: size.run, proof: size.height - 1 };
+        assert_eq!(header.uncles(), size.uncles() as u64);
+        let hashes: Vec<Hash> = leaves.into_iter().chain(uncles(size)).collect();
         let settled = header.settled(&hashes);
         header.root = settled.last().expect("a reply settles its anchor").1;
-        let facts = Facts { length: LENGTH, piece_length: PIECE, root: header.root };
-        Scene { facts, header, hashes, settled }
+        let facts = Facts { length: size.length(), piece_length: PIECE, root: header.root };
+        Scene { size, facts, header, hashes, settled }
     }
 
     /// The scene with leaves that are no block's hash.
-    pub fn without_bytes() -> Scene {
-        Scene::new((0..RUN).map(|number| [number as u8 ^ (number >> 8) as u8; 32]).collect())
+    pub fn without_bytes(size: Size) -> Scene {
+        Scene::new(size, (0..size.run).map(|number| [number as u8 ^ (number >> 8) as u8; 32]).collect())
     }
 
     pub fn reply(&self) -> Vec<u8> {
@@ -72,8 +102,8 @@ impl Scene {
     }
 }
 
-/// The siblings of the path from layer 9 to the root's children: each is above blocks that are alike.
-fn uncles() -> impl Iterator<Item = Hash> {
+/// The siblings of the path from the run's top to the root's children: each is above blocks that are alike.
+fn uncles(size: Size) -> impl Iterator<Item = Hash> {
     let above = |below: &Hash| Some(pair(below, below));
-    std::iter::successors(Some([1; 32]), above).skip(RUN.trailing_zeros() as usize).take(UNCLES)
+    std::iter::successors(Some([1; 32]), above).skip(size.run.ilog2() as usize).take(size.uncles() as usize)
 }

@@ -67,7 +67,7 @@ pub struct HashingAnswer {
 }
 
 /// `KD_NODES`
-pub const NODES: usize = 17;
+pub const NODES: usize = 21;
 
 #[repr(C)]
 #[derive(Clone, Copy, Debug, PartialEq, Eq)]

@@ -1,5 +1,5 @@
-//! The host as a peer of a seed: it asks for a run past the last block and for all hashes of each file, offers each reply
-//! to the library, and damaged ones in between; then it fetches all blocks and judges them.
+//! The host as a peer of a seed: it asks for a run past the last block, for a run longer than libtorrent's own and for all hashes of each
+//! file, offers each reply to the library, and damaged ones in between; then it fetches all blocks and judges them.
 
 use crate::contents::{Contents, File};
 use crate::peer::{of_words, word, Peer, HASHES, HASH_REJECT, HASH_REQUEST, INTERESTED, PIECE, REQUEST, UNCHOKE};
@@ -7,11 +7,15 @@ use kombudeva::limits::{BLOCK, LONGEST_RUN};
 use kombudeva::{Answer, Store};
 use std::io;
 
+/// The longest run that libtorrent asks for; it answers longer ones.
+const RUN: u32 = 512;
+
 #[derive(Default)]
 struct Counts {
     taken: u64,
     before_their_anchor: u64,
     in_padding: u64,
+    at_once: u64,
     refused: u64,
     believed: u64,
 }
@@ -25,16 +29,18 @@ pub fn run(contents: &Contents, port: u16) -> io::Result<()> {
         let mut store = file.open(&mut memory);
         let mut counts = Counts::default();
         learn_padding(&mut peer, file, &mut counts)?;
+        learn_at_once(&mut peer, file, &mut counts)?;
         learn_hashes(&mut peer, file, &mut store, &mut counts)?;
         judge_pieces(&mut peer, file, &store, &mut counts)?;
         assert_eq!(counts.believed, file.blocks(), "every block is believed");
         println!(
-            "{}: {} replies taken ({} of them had come before their anchor), {} more past the last block, {} damaged ones \
-             refused, {} of {} blocks believed",
+            "{}: {} replies taken ({} of them had come before their anchor), {} more past the last block, {} longer than {RUN}, \
+             {} damaged ones refused, {} of {} blocks believed",
             file.path.display(),
             counts.taken,
             counts.before_their_anchor,
             counts.in_padding,
+            counts.at_once,
             counts.refused,
             counts.believed,
             file.blocks()
@@ -50,11 +56,11 @@ fn requests(file: &File) -> Vec<Vec<u8>> {
     leaves.chain(pieces).collect()
 }
 
-/// Requests for a layer of a file in runs as long as they may be; a layer that is a run's own top or above has none.
+/// Requests for a layer of a file in runs as long as libtorrent's own; a layer that is a run's own top or above has none.
 /// `proof` gives the proof layers for the layers there are from this one to the root.
 fn runs<'a>(file: &'a File, layer: u32, proof: fn(u32) -> u32) -> impl Iterator<Item = Vec<u8>> + 'a {
     let above = file.height().saturating_sub(layer);
-    let length = LONGEST_RUN.min(1 << above);
+    let length = RUN.min(1 << above);
     let in_layer = if above == 0 { 0 } else { file.blocks().div_ceil(1 << layer) };
     (0..in_layer as u32).step_by(length as usize).map(move |index| request(file, [layer, index, length, proof(above)]))
 }
@@ -79,6 +85,20 @@ fn learn_padding(peer: &mut Peer, file: &File, counts: &mut Counts) -> io::Resul
     assert!(store.take(&reply).is_done(), "its anchor is the root");
     assert_eq!(store.held(0, leaves - 1), Answer::Done([0; 32]), "a leaf past the last block is zeros");
     counts.in_padding += 1;
+    Ok(())
+}
+
+/// All leaves in one run, where that is longer: taken on a fresh store of its own, since its anchor is the root.
+fn learn_at_once(peer: &mut Peer, file: &File, counts: &mut Counts) -> io::Result<()> {
+    let leaves = 1 << file.height();
+    if !(RUN < leaves && leaves <= LONGEST_RUN) {
+        return Ok(());
+    }
+    let reply = ask(peer, &request(file, [0, 0, leaves, 0]))?;
+    let mut memory = Vec::new();
+    let mut store = file.open(&mut memory);
+    assert_eq!(store.take(&reply), Answer::Done(2 * leaves as u64 - 2), "all positions but the root are new");
+    counts.at_once += 1;
     Ok(())
 }
 

@@ -3,6 +3,7 @@
 
 use crate::contents::{Contents, File};
 use crate::peer::{word, Peer, BITFIELD, EXTENDED, HASH_REQUEST, PIECE, REQUEST, UNCHOKE};
+use kombudeva::limits::{LONGEST_RUN, TALLEST_TREE};
 use kombudeva::{Answer, Store};
 use reference::bencode;
 use std::net::TcpListener;
@@ -121,7 +122,7 @@ fn metadata_part(id: u8, info: &[u8], request: &[u8]) -> Vec<u8> {
 /// store, which rejects it.
 fn hashes_reply(shared: &[Shared], request: &[u8], counts: &mut Counts) -> Vec<u8> {
     let asked = shared.iter().find(|one| request[1..].starts_with(&one.file.root)).unwrap_or(&shared[0]);
-    let mut out = [0; 49 + 32 * 528];
+    let mut out = vec![0; 49 + 32 * (LONGEST_RUN as usize + TALLEST_TREE as usize)];
     let served = asked.store.serve(request, &mut out);
     match served.answer {
         Answer::Done(_) => counts.hashes += 1,

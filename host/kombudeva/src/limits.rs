@@ -7,11 +7,11 @@ pub const SMALLEST_PIECE_LENGTH: u64 = 16384;
 /// A piece length is a power of two up to this.
 pub const LARGEST_PIECE_LENGTH: u64 = 16777216;
 /// The longest file, in bytes; the shortest has 1.
-pub const LONGEST_FILE: u64 = 1073741824;
+pub const LONGEST_FILE: u64 = 17179869184;
 /// The height of its tree, so the layer of its root.
-pub const TALLEST_TREE: u64 = 16;
+pub const TALLEST_TREE: u64 = 20;
 /// The longest run of hashes that a message may give or ask for.
-pub const LONGEST_RUN: u32 = 512;
+pub const LONGEST_RUN: u32 = 8192;
 /// The largest torrent, in bytes.
 pub const LARGEST_TORRENT: usize = 1048576;
 /// How deeply a torrent may be nested, its outer dictionary being the first level.

@@ -3,9 +3,9 @@
 pub const BLOCK: u64 = 16384;
 pub const SMALLEST_PIECE_LENGTH: u64 = 16384;
 pub const LARGEST_PIECE_LENGTH: u64 = 16777216;
-pub const LONGEST_FILE: u64 = 1073741824;
-pub const TALLEST_TREE: u64 = 16;
-pub const LONGEST_RUN: u32 = 512;
+pub const LONGEST_FILE: u64 = 17179869184;
+pub const TALLEST_TREE: u64 = 20;
+pub const LONGEST_RUN: u32 = 8192;
 pub const LARGEST_TORRENT: usize = 1048576;
 pub const LEVELS: u32 = 32;
 pub const ELEMENTS: usize = 28;

@@ -409,7 +409,7 @@ mod tests {
             directory(&[file("a", 1, None)]),
             directory(&[file("a", 0, Some(1))]),
             directory(&[file("a", -1, Some(1))]),
-            directory(&[file("a", (1 << 30) + 1, Some(1))]),
+            directory(&[file("a", LONGEST_FILE as i64 + 1, Some(1))]),
             directory(&[b"1:ad0:d6:length1:5ee".to_vec()]),
             directory(&[b"1:ad0:dee".to_vec()]),
             directory(&[b"1:ad0:d6:lengthi1e11:pieces root31:0123456789012345678901234567890ee".to_vec()]),

@@ -170,7 +170,7 @@ mod tests {
         assert_eq!(blocks_and_height(16385), (2, 1));
         assert_eq!(blocks_and_height(81920), (5, 3));
         assert_eq!(blocks_and_height(641 * BLOCK), (641, 10));
-        assert_eq!(blocks_and_height(LONGEST_FILE), (65536, TALLEST_TREE));
+        assert_eq!(blocks_and_height(LONGEST_FILE), (1 << TALLEST_TREE, TALLEST_TREE));
     }
 
     #[test]

@@ -20,7 +20,7 @@ stand, and its reader (`torrent_info`), which the info hash comes from. The read
     decoder's, and the reader's paths are compared where it leaves them alone;
   - it gives no layers: those are the decoder's too.
 Its order is the tree's: by raw bytes, element by element, whatever order the files were added in.
-What libtorrent takes and 01 refuses is not made here: two equal files (26), a file above 1 GiB (25).
+What libtorrent takes and 01 refuses is not made here: two equal files (26), a file above 16 GiB (25).
 """
 import os
 import sys

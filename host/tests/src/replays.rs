@@ -2,6 +2,7 @@
 
 use crate::random::Random;
 use crate::truth::{self, Truth};
+use reference::limits::LONGEST_FILE;
 use reference::messages::{Header, HASHES, HEAD};
 use std::ffi::OsStr;
 use std::os::fd::OwnedFd;
@@ -48,12 +49,12 @@ fn about(truth: &Truth, random: &mut Random) -> Vec<u8> {
 
 /// A refused opening: facts out of range, or more than 512 blocks.
 fn refused_opening(truth: &Truth, random: &mut Random) -> Vec<u8> {
-    let length = random.pick(&[0, 512 * 16384 + 1, 1 << 30, u64::MAX]);
+    let length = random.pick(&[0, 512 * 16384 + 1, 1 << 30, LONGEST_FILE, u64::MAX]);
     opening(length, truth.facts.piece_length, &truth.facts.root)
 }
 
 fn many_hashes(random: &mut Random) -> Vec<u8> {
-    let count = random.pick(&[527, 528, 529, 600]);
+    let count = random.pick(&[527, 528, 529, 600, 8192]);
     let hashes = record(3, &[0; 32]).repeat(count);
     [record(2, &[0; 48]), hashes, record(4, &[])].concat()
 }

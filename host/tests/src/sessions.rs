@@ -10,11 +10,11 @@ use reference::messages::{Header, HASHES, HEAD, REJECT, REQUEST};
 use reference::store::{facts_of, size_of, CELL, HEAD as FACTS, HELD};
 use reference::tree::{padding, Position};
 
-const HOSTILE_WORDS: [u32; 20] =
-    [0, 1, 2, 3, 4, 5, 6, 8, 9, 15, 16, 31, 32, 33, 64, 512, 1024, 1 << 31, u32::MAX - 1, u32::MAX];
+const HOSTILE_WORDS: [u32; 22] =
+    [0, 1, 2, 3, 4, 5, 6, 8, 9, 15, 16, 31, 32, 33, 64, 512, 1024, 8192, 16384, 1 << 31, u32::MAX - 1, u32::MAX];
 const HOSTILE_NUMBERS: [u64; 12] = [0, 1, 2, 5, 16, 17, 32, 64, 1 << 32, 1 << 50, u64::MAX / 16384, u64::MAX];
-const HOSTILE_LENGTHS: [u64; 10] =
-    [0, 1, 16384, 1 << 20, (1 << 30) - 1, 1 << 30, (1 << 30) + 1, 1 << 63, u64::MAX - 1, u64::MAX];
+const HOSTILE_LENGTHS: [u64; 11] =
+    [0, 1, 16384, 1 << 20, 1 << 30, (1 << 30) + 1, LONGEST_FILE, LONGEST_FILE + 1, 1 << 63, u64::MAX - 1, u64::MAX];
 const HOSTILE_PIECE_LENGTHS: [u64; 12] =
     [0, 1, 8192, 16383, 16384, 16385, 49152, 1 << 24, (1 << 24) + 1, 1 << 25, (1 << 32) + 16384, u64::MAX];
 
@@ -260,9 +260,9 @@ impl<'a> Session<'a> {
         }
         let mut call = self.opening();
         match random.below(3) {
-            0 => call.numbers[0] = random.pick(&[0, (1 << 30) + 1, u64::MAX, 1 << 63]),
+            0 => call.numbers[0] = random.pick(&[0, LONGEST_FILE + 1, u64::MAX, 1 << 63]),
             1 => call.numbers[1] = random.pick(&[0, 1, 8192, 16385, 49152, 1 << 25, (1 << 32) + 16384, u64::MAX]),
-            _ => call.numbers[0] = 1 << 30,
+            _ => call.numbers[0] = LONGEST_FILE,
         }
         call
     }
@@ -349,9 +349,9 @@ pub fn run(random: &mut Random, compared: &mut Comparison, mut go_on: impl FnMut
     }
 }
 
-/// One session on a file of the largest size: 65536 blocks, and a store of 4 MiB.
-pub fn run_on_the_largest_file(random: &mut Random, compared: &mut Comparison, steps: u64) {
-    let files = Pair::new(Truth::of_leaves(LONGEST_FILE, 1 << 20, random), random);
+/// One session on a file of 65536 blocks, with a store of 4 MiB. The largest are tried in tests/tall.rs.
+pub fn run_on_a_large_file(random: &mut Random, compared: &mut Comparison, steps: u64) {
+    let files = Pair::new(Truth::of_leaves(65536 * BLOCK, 1 << 20, random), random);
     let mut session = Session::begin(&files, Hands::OursAlone, random, compared);
     for _ in 0..steps {
         session.step(random, compared);

@@ -125,7 +125,7 @@ impl Maker<'_> {
             0 => 0,
             1 => self.piece_length,
             2..=5 => self.random.between(1, self.piece_length),
-            _ => self.random.between(self.piece_length + 1, 6 * self.piece_length).min(1 << 30),
+            _ => self.random.between(self.piece_length + 1, 6 * self.piece_length),
         };
         properties.insert(b"length".to_vec(), integer(length));
         if length > 0 {
@@ -192,7 +192,7 @@ pub fn small(random: &mut Random) -> Vec<u8> {
 
 /// Among them some that are in range if they are cut to 32 or 64 bits.
 const INTEGERS: [&str; 24] = [
-    "0", "1", "2", "3", "-1", "-0", "", "-", "00", "02", "16383", "16384", "33554432", "1073741824", "1073741825",
+    "0", "1", "2", "3", "-1", "-0", "", "-", "00", "02", "16383", "16384", "33554432", "17179869184", "17179869185",
     "9223372036854775807", "9223372036854775808", "-9223372036854775808", "-9223372036854775809",
     "99999999999999999999999999", "4294967298", "18446744073709551618", "4294983680", "18446744073709568000",
 ];

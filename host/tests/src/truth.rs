@@ -1,7 +1,7 @@
 //! Files with their true trees, and the true messages and layers about them.
 
 use crate::random::Random;
-use reference::limits::BLOCK;
+use reference::limits::{BLOCK, LONGEST_RUN};
 use reference::messages::{Header, HASHES};
 use reference::sha256::{sha256, Hash};
 use reference::tree::{over_run, Facts, Position};
@@ -47,7 +47,7 @@ impl Truth {
     pub fn header(&self, random: &mut Random) -> Option<Header> {
         let height = self.facts.height();
         let base = random.below(height.max(1));
-        let run_layers = random.between(1, (height.checked_sub(base)?).clamp(1, 9));
+        let run_layers = random.between(1, (height.checked_sub(base)?).clamp(1, LONGEST_RUN.ilog2() as u64));
         let runs = 1 << height.checked_sub(base + run_layers)?;
         let header = Header {
             root: self.facts.root,

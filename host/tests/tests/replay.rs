@@ -4,6 +4,7 @@
 use host_tests::random::Random;
 use host_tests::replays::{self, by_program, message, opening, opening_of, record, true_message};
 use host_tests::truth::Truth;
+use reference::limits::{LONGEST_FILE, LONGEST_RUN};
 use reference::messages::{Header, HASHES};
 use reference::replay::replay;
 use std::env;
@@ -189,6 +190,20 @@ fn the_529th_hash() {
     assert_prints(&[&opening_of(&file), &header, &hash().repeat(528), &[3]], "0 1\n1 0\nend\n");
 }
 
+/// The limit is the replay's own: a run that the store would take is too long for it, whole or with more uncles than 16. A header
+/// that says so, with a few hashes, is a message like any other.
+#[test]
+fn a_message_of_more_than_528_hashes() {
+    let file = Truth::of_leaves(512 * 16384, 16384, &mut Random::new(512));
+    for length in [1024, LONGEST_RUN, 2 * LONGEST_RUN] {
+        let header = header(&file, [0, 0, length, 0]);
+        assert_broken(&[&header, &hash().repeat(length as usize), END]);
+        assert_prints(&[&opening_of(&file), &header, &hash(), END, &header, END], "0 1\n3 0\n3 0\nend\n");
+    }
+    let most = header(&file, [0, 0, 512, 0]);
+    assert_broken(&[&most, &hash().repeat(512 + 17), END]);
+}
+
 #[test]
 fn an_unknown_kind() {
     let header = header(&five_blocks(), [0, 0, 8, 0]);
@@ -291,6 +306,7 @@ fn a_file_of_513_blocks() {
     assert_refused(512 * 16384 + 1, 16384);
     assert_refused(513 * 16384, 16384);
     assert_refused(1 << 30, 16384);
+    assert_refused(LONGEST_FILE, 16384);
 }
 
 #[test]
@@ -300,7 +316,7 @@ fn an_opening_of_no_bytes() {
 
 #[test]
 fn an_opening_of_more_bytes_than_a_file_may_have() {
-    assert_refused((1 << 30) + 1, 16384);
+    assert_refused(LONGEST_FILE + 1, 16384);
     assert_refused(u64::MAX, 16384);
 }
 

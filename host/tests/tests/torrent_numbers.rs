@@ -4,9 +4,10 @@
 use host_tests::call::{by_library, Entry, Given};
 use host_tests::compare::{report, Comparison};
 use host_tests::torrents::ask_all;
-use reference::limits::LARGEST_TORRENT;
+use reference::limits::{LARGEST_PIECE_LENGTH, LARGEST_TORRENT, LONGEST_FILE};
 use reference::sha256::{pair, Hash};
 use reference::torrent::{torrent_file, torrent_path, torrent_read};
+use reference::tree::{over_run, padding, Position};
 
 fn assert_number(torrent: &[u8], number: u32) {
     let shown = String::from_utf8_lossy(&torrent[..torrent.len().min(600)]);
@@ -286,7 +287,7 @@ fn number_25_is_a_file_without_its_length_or_root() {
     let root = entry("pieces root", &string(&[1; 32]));
     assert_number(&with_properties(&[]), 25);
     assert_number(&with_properties(&[&root]), 25);
-    for length in ["i-1e", "i1073741825e", "i9223372036854775807e", "i-9223372036854775808e", "1:5", "le", "de"] {
+    for length in ["i-1e", "i17179869185e", "i9223372036854775807e", "i-9223372036854775808e", "1:5", "le", "de"] {
         assert_number(&with_properties(&[&entry("length", length.as_bytes()), &root]), 25);
         assert_number(&with_properties(&[&entry("length", length.as_bytes())]), 25);
     }
@@ -299,6 +300,34 @@ fn number_25_is_a_file_without_its_length_or_root() {
         assert_number(&with_properties(&[&one, &entry("pieces root", other)]), 25);
     }
     assert_number(&with_properties(&[&one, &root]), 0);
+}
+
+/// A torrent of one file in the largest pieces, with a layer that gives its root.
+fn of_a_long_file(length: u64) -> Vec<u8> {
+    let pieces = length.div_ceil(LARGEST_PIECE_LENGTH) as usize;
+    let mut layer = vec![[5; 32]; pieces];
+    let content = layer.concat();
+    layer.resize(pieces.next_power_of_two(), padding(10));
+    let root = over_run(Position { layer: 10, index: 0 }, &layer).last().unwrap().1;
+    let parts = Parts {
+        tree: dictionary(&[&file("a", length as i64, Some(root))]),
+        piece_length: format!("i{LARGEST_PIECE_LENGTH}e").into(),
+        layers: dictionary(&[&string(&root), &string(&content)]),
+        ..Parts::good()
+    };
+    parts.torrent()
+}
+
+/// Lengths of more than 32 bits are read whole.
+#[test]
+fn number_25_is_a_file_above_the_longest() {
+    for length in [1 << 30, (1 << 30) + 1, (1 << 32) + 1, LONGEST_FILE] {
+        let torrent = of_a_long_file(length);
+        assert_number(&torrent, 0);
+        assert_eq!(torrent_file(&torrent, 0).length, length);
+    }
+    assert_number(&of_a_long_file(LONGEST_FILE + 1), 25);
+    assert_number(&of_a_long_file(LONGEST_FILE + (1 << 32)), 25);
 }
 
 #[test]

@@ -9,13 +9,13 @@ returns : tie.Need-returns
 returns c = length-small (c .before .args .len) (c .if1 .taken)
 
 returns-2 : tie.Need-returns-2
-returns-2 c = length-large (c .before .before .args .len) (c .if2 .taken)
+returns-2 c = length-large (c .before .before .args .len) (omega (arith, c .if2 .taken))
 
 log2-requires : tie.Need-log2-requires
 log2-requires c κs = search needs
 
 shl-result : tie.Need-shl-result
-shl-result c = omega (arith, c .log2 .ensures, log-small (c .before .before .before .args .len) (c .before .if2 .left))
+shl-result c = omega (arith, c .log2 .ensures, log-small (c .before .before .before .args .len) (omega (arith, c .before .if2 .left)))
 
 returns-3 : tie.Need-returns-3
 returns-3 c = length-middle (c .before .before .before .args .len) (c .log2 .result) (c .before .before .if1 .left) (c .before .if2 .left) (c .log2 .ensures)

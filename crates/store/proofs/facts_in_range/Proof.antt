@@ -11,7 +11,7 @@ returns : tie.Need-returns
 returns c = range-none _ _ (c .if1 .taken)
 
 returns-2 : tie.Need-returns-2
-returns-2 c = range-long _ _ (omega arith) (c .if2 .taken)
+returns-2 c = range-long _ _ (omega arith) (omega (arith, c .if2 .taken))
 
 is-piece-length-requires : tie.Need-is-piece-length-requires
 is-piece-length-requires c κs = search needs

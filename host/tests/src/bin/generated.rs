@@ -40,7 +40,7 @@ const PARTS: [Part; 12] = [
     Part { name: "logged-files", cases: |random, compared, _| bursts::run_on_files(random, compared) },
     Part { name: "sessions", cases: |random, compared, go_on| sessions::run(random, compared, go_on) },
     Part { name: "every-header", cases: |random, compared, _| headers::run(random, compared) },
-    Part { name: "largest-file", cases: |random, compared, _| sessions::run_on_the_largest_file(random, compared, 40) },
+    Part { name: "large-file", cases: |random, compared, _| sessions::run_on_a_large_file(random, compared, 40) },
     Part { name: "torrents", cases: |random, compared, go_on| torrents::run(random, compared, go_on) },
     Part { name: "each-byte-of-single", cases: |_, compared, _| torrents::run_through_every_byte(SINGLE, compared) },
     Part {
