@@ -8,3 +8,7 @@ pub mod AmissLaws
 pub mod FilesLaws
 pub mod Counting
 pub mod Examples
+pub mod Paths
+pub mod PathsLaws
+pub mod NamesAside
+pub mod NamesAsideLaws
