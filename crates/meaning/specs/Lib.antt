@@ -10,5 +10,6 @@ pub mod Counting
 pub mod Examples
 pub mod Paths
 pub mod PathsLaws
+pub mod PathExamples
 pub mod NamesAside
 pub mod NamesAsideLaws
