@@ -113,7 +113,7 @@ unfolding elementsRead AllStay
 elements-stay s n k zero h = tt
 elements-stay s n k (suc count) h = (element-stays s n k (h k (omega arith)), elements-stay s n (suc k) count (λ j l. h j (omega arith)))
 
--- `kd_torrent_file` and `kd_torrent_path`: a file that is answered 0 has an element or more, each answered 0 and each such
+-- `kd_torrent_file` and `kd_torrent_path`: a file that is answered 0 has an element or more, each answered 0
 pub file-elements : (s : List ℕ) (n : ℕ) → fileRead s n .number ≡ 0 → (0 < fileRead s n .elements) × ((k : ℕ) → k < fileRead s n .elements → pathRead s n k .number ≡ 0)
 file-elements s n e =
     let f = file-found s n e in
@@ -121,6 +121,21 @@ file-elements s n e =
       omega (arith, f .holds .some-element),
       λ k l. let x = nth-some (f .file .path) k (omega arith) in element-is s (f .value) (f .bytes) (f .valid) (f .taken) n (f .file) (f .there) k (x .0) (x .1) .number,
     )
+
+-- `kd_torrent_read`: each file of the count is answered 0
+pub file-answered : (s : List ℕ) (n : ℕ) → n < readOf s .files → fileRead s n .number ≡ 0
+file-answered s n l = by-number (ℕ-discrete (checkedOf s .keys .number) 0)
+  where
+    by-number : Dec (checkedOf s .keys .number ≡ 0) → fileRead s n .number ≡ 0
+    by-number (no g) = let none : readOf s .files ≡ 0 = ap (λ (r : Torrent). r .files) (refused-read s g) in absurd (omega arith)
+    by-number (yes z) =
+        let taken = read-number s ∙ z in
+        let f = file-there s n taken (λ es bytes valid h. omega (arith, torrent-is s es bytes valid taken .file-count)) in
+        file-is s (f .value) (f .bytes) (f .valid) (f .taken) n (f .file) (f .there) .number
+
+-- so: every element of every path of a torrent
+pub every-element-stays : (s : List ℕ) (n k : ℕ) → n < readOf s .files → k < fileRead s n .elements → StaysInside (elementRead s n k)
+every-element-stays s n k l h = element-stays s n k (file-elements s n (file-answered s n l) .1 k h)
 
 pub path-stays : (s : List ℕ) (n : ℕ) → fileRead s n .number ≡ 0 → AllStay (filePath s n)
 path-stays s n e = elements-stay s n 0 (fileRead s n .elements) (λ j l. file-elements s n e .1 j (omega arith))
@@ -140,22 +155,15 @@ file-inside s n e folder = by-count (fileRead s n .elements) (file-elements s n 
     by-count zero l a = absurd (omega arith)
     by-count (suc c) l a = in-folder folder (elementRead s n 0) (elementsRead s n 1 c) a
 
--- and so is each directory on the way
+-- no file of a torrent is outside
+pub no-file-outside : (s : List ℕ) (n : ℕ) → n < readOf s .files → (folder : Place) → InFolder folder (fileLeads folder s n)
+no-file-outside s n l folder = file-inside s n (file-answered s n l) folder
+
+-- and no directory on the way
 pub way-inside : (s : List ℕ) (n : ℕ) → fileRead s n .number ≡ 0 → (folder : Place) (k : ℕ) → walk folder (take k (filePath s n)) ≡ folder ++ take k (filePath s n)
 way-inside s n e folder k = on-the-way folder (filePath s n) (path-stays s n e) k
 
 -- ---- `kd_torrent_list`
-
--- each file of the count is answered 0
-file-answered : (s : List ℕ) (n : ℕ) → n < readOf s .files → fileRead s n .number ≡ 0
-file-answered s n l = by-number (ℕ-discrete (checkedOf s .keys .number) 0)
-  where
-    by-number : Dec (checkedOf s .keys .number ≡ 0) → fileRead s n .number ≡ 0
-    by-number (no g) = let none : readOf s .files ≡ 0 = ap (λ (r : Torrent). r .files) (refused-read s g) in absurd (omega arith)
-    by-number (yes z) =
-        let taken = read-number s ∙ z in
-        let f = file-there s n taken (λ es bytes valid h. omega (arith, torrent-is s es bytes valid taken .file-count)) in
-        file-is s (f .value) (f .bytes) (f .valid) (f .taken) n (f .file) (f .there) .number
 
 -- an element that a record names, in a list that is done
 pub list-element-stays : (s out : List ℕ) → listAnswer s out .number ≡ 0 → (n k : ℕ) → n < readOf s .files → k < recordElements (recordAt (listAfter s out) n)
@@ -163,7 +171,7 @@ pub list-element-stays : (s out : List ℕ) → listAnswer s out .number ≡ 0 �
 list-element-stays s out e n k l h =
     let is = list-record s out e n l in
     let below : k < fileRead s n .elements = omega (arith, is .elements) in
-    rw (is .element-start k below, is .element-size k below) (element-stays s n k (file-elements s n (file-answered s n l) .1 k below))
+    rw (is .element-start k below, is .element-size k below) (every-element-stays s n k l below)
 
 -- ---- the rule changes no other answer
 
