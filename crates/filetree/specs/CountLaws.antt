@@ -18,7 +18,7 @@ use Rattle.filetree.specs.Token.{endsHere, tokenAt}
 use Rattle.filetree.specs.TokenLaws.{leaf-ends}
 use Rattle.filetree.specs.Tree.{maxElements, Element, Listed, listedAs, down, Files, wrong, files, filesBelow, filesIn, right, listed, rootsOf, longs}
 use Rattle.filetree.specs.TreeLaws.{empty-tree, tree-below, Passed, passed-none, passed-bad, passed-end, passed-closed, passed-file, passed-wrong, inside-ends, passed-directory}
-use Rattle.filetree.specs.Count.{mostRoots, noTally, tallyWith, tallyAfter, countedOf, Within, CountedIn, Counts}
+use Rattle.filetree.specs.Count.{mostRoots, noTally, tallyWith, tallyAfter, countedOf, Within, Counts}
 use Rattle.filetree.specs.declared.token.Token.the-variants.{Opened, Closed, Leaf, BadToken}
 use Rattle.filetree.specs.declared.count.Tally.{Tally}
 use Rattle.filetree.specs.declared.count.Counted.{Counted}

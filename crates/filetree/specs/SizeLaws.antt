@@ -3,14 +3,13 @@
 use mathlib.Core.Path.{_≡_, refl, sym, ap, _∙_}
 use mathlib.Core.Bool.{Bool, true, false, cond, false≢true}
 use mathlib.Core.List.{List, [], _∷_, _++_}
-use Prim.Native.Nat.{ℕ, zero, suc, _+_, _-_, _*_, _≤_, _<_}
+use Prim.Native.Nat.{ℕ, zero, suc, _+_, _-_, _≤_, _<_}
 use native.Mathlib.Omega.{arith}
-use lib.ListN.{length, drop, take, length-append, take-append-drop}
-use lib.Seq.{drop-drop}
+use lib.ListN.{length, drop, length-append}
 use lib.Dec.{eqb, leb}
 use borrow.Author.Tests.{eqb-true, eqb-false, leb-true}
 use Rattle.meaning.specs.Keys.{keyLength, keyPiecesRoot}
-use Rattle.octets.specs.Octets.{same, cut}
+use Rattle.octets.specs.Octets.{same}
 use Rattle.octets.specs.OctetsLaws.{same-true, same-eq}
 use Rattle.limits.specs.Limits.{longestFile, maxLevels}
 use Rattle.bencode.specs.Grammar.{colon, letterD, letterE, Value, integer, string, list, dictionary, Entries, noEntries, entry, decimal, decimalIn, encodeString, encode, encodeEntries, Valid}
