@@ -43,7 +43,7 @@ extern "C" {
 #endif
 
 /* The version of header and library. Its second figure rises whenever a struct, a function or an answer changes. */
-#define KD_VERSION "0.3.0"
+#define KD_VERSION "0.4.0"
 
 /* ---- The numbers given back, each with what it says. ---- */
 
@@ -71,7 +71,8 @@ extern "C" {
                                            missing or of another type */
 #define KD_OTHER_VERSION 23             /* the version isn't 2 */
 #define KD_PIECE_LENGTH_OUT_OF_RANGE 24
-#define KD_WRONG_TREE 25                /* the file tree isn't right */
+#define KD_WRONG_TREE 25                /* the file tree isn't right, or has a path element that is empty, `.` or `..`, or
+                                           has a `/` or a zero byte in it */
 #define KD_SAME_ROOT 26                 /* two files that aren't empty with the same root */
 #define KD_LAYERS_AMISS 27              /* `piece layers` hasn't exactly the roots of the files longer than the piece length,
                                            or not 32 bytes per piece */
@@ -298,7 +299,13 @@ kd_torrent kd_torrent_read(const uint8_t *torrent, size_t size);
 kd_file kd_torrent_file(const uint8_t *torrent, size_t size, uint64_t file);
 
 /*
- * Path element number `element` of a file, from 0: any bytes, not always text. Checks the whole torrent anew.
+ * Path element number `element` of a file, from 0. Checks the whole torrent anew. An element is any bytes, not always text,
+ * but never empty, `.` or `..`, and it has no `/` and no zero byte: where `/` alone separates names, a file's path leads
+ * from any folder one step down for each element, and never out of it. The library refuses such a torrent and renames nothing.
+ *
+ * What the host still has to see to: on a system with other separators or names of its own (a backslash, a colon, `NUL`, a dot
+ * or a space at the end, names that differ in case alone, bytes that are no text there) it refuses or encodes such elements
+ * itself; and a link that stands in the folder already may lead out of it. The torrent's `name` is not read, so not checked.
  *   19 to 28 as above, then KD_NO_SUCH_FILE: no such file, or no such element.
  *   KD_DONE  where it stands.
  */

@@ -14,7 +14,7 @@ use Rattle.numbers.specs.Numbers.{noRoom, refused, done}
 use Rattle.numbers.specs.declared.Answer.{Answer}
 use Rattle.filetree.specs.Tree.{maxElements, filesIn, listed}
 use Rattle.filetree.specs.Count.{mostRoots}
-use Rattle.filetree.specs.PathLaws.{pathSize}
+use Rattle.filetree.specs.Path.{pathSize}
 use Rattle.layers.specs.Layers.{keysWide, layerKeys, Indexed}
 use Rattle.torrent.specs.Torrent.{checkedOf}
 use Rattle.torrent.specs.CheckLaws.{Whole, checked-so}

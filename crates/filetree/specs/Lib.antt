@@ -2,6 +2,7 @@ pub mod File
 pub mod Token
 pub mod Tree
 pub mod Count
+pub mod Path
 pub mod SizeLaws
 pub mod TokenLaws
 pub mod TreeLaws

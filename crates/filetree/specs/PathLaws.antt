@@ -1,4 +1,4 @@
--- The path of a file as the walks keep it: an array with two numbers for each element.
+-- The array holds the path to where a walk has come.
 -- Assumes nothing.
 use mathlib.Core.Path.{_≡_, refl, sym, ap, _∙_}
 use mathlib.Core.List.{List, [], _∷_, _++_}
@@ -8,13 +8,7 @@ use native.Mathlib.Numerals.{add-one}
 use lib.ListN.{length, take, drop, set, getD, length-append, length-set}
 use lib.Seq.{take-suc-set, take-set-le, getD-take, length-take-le}
 use Rattle.filetree.specs.Tree.{maxElements, Element, down}
-
-abbrev pub pathSize : ℕ
-pathSize = 2 * maxElements
-
--- element d is the key from a to b
-abbrev pub setElement : List ℕ → ℕ → ℕ → ℕ → List ℕ
-setElement path d a b = set (set path (2 * d) a) (2 * d + 1) b
+use Rattle.filetree.specs.Path.{pathSize, setElement}
 
 -- the numbers of a path
 unfoldable pub flat : List Element → List ℕ

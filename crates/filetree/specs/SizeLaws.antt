@@ -3,14 +3,13 @@
 use mathlib.Core.Path.{_≡_, refl, sym, ap, _∙_}
 use mathlib.Core.Bool.{Bool, true, false, cond, false≢true}
 use mathlib.Core.List.{List, [], _∷_, _++_}
-use Prim.Native.Nat.{ℕ, zero, suc, _+_, _-_, _*_, _≤_, _<_}
+use Prim.Native.Nat.{ℕ, zero, suc, _+_, _-_, _≤_, _<_}
 use native.Mathlib.Omega.{arith}
-use lib.ListN.{length, drop, take, length-append, take-append-drop}
-use lib.Seq.{drop-drop}
+use lib.ListN.{length, drop, length-append}
 use lib.Dec.{eqb, leb}
 use borrow.Author.Tests.{eqb-true, eqb-false, leb-true}
 use Rattle.meaning.specs.Keys.{keyLength, keyPiecesRoot}
-use Rattle.octets.specs.Octets.{same, cut}
+use Rattle.octets.specs.Octets.{same}
 use Rattle.octets.specs.OctetsLaws.{same-true, same-eq}
 use Rattle.limits.specs.Limits.{longestFile, maxLevels}
 use Rattle.bencode.specs.Grammar.{colon, letterD, letterE, Value, integer, string, list, dictionary, Entries, noEntries, entry, decimal, decimalIn, encodeString, encode, encodeEntries, Valid}
@@ -20,7 +19,7 @@ use Rattle.bencode.specs.Parts.{isDictionary, findKey, Lookup, absent, present,
 use Rattle.bencode.specs.EndsLaws.{string-ends, value-ends}
 use Rattle.bencode.specs.CompleteLaws.{BeginsWithDigit, decimal-first, string-some, value-some, dictionary-bytes, contentStart}
 use Rattle.bencode.specs.SoundLaws.{sound}
-use Rattle.bencode.specs.PartsLaws.{find-is, find-ends, string-is, stringOf, dictionary-is, isDictionaryValue}
+use Rattle.bencode.specs.PartsLaws.{part-front, find-is, find-ends, string-is, stringOf, dictionary-is, isDictionaryValue, entries-length}
 use Rattle.bencode.specs.declared.scalar.ByteString.{ByteString}
 use Rattle.bencode.specs.declared.scalar.ByteString.the-variants.{Content, NoString}
 use Rattle.bencode.specs.declared.scalar.Integer.{Integer}
@@ -38,10 +37,6 @@ use Rattle.filetree.specs.declared.file.File.{File}
 use Rattle.filetree.specs.declared.file.File.the-variants.{Right, WrongFile}
 
 -- ---- what a dictionary's entries take
-
-entries-length : (k : List ℕ) (v : Value) (es : Entries) → length (encodeEntries (entry k v es)) ≡ length (encodeString k) + length (encode v) + length (encodeEntries es)
-unfolding encode
-entries-length k v es = let la = length-append (encodeString k) (encode v ++ encodeEntries es) in let lb = length-append (encode v) (encodeEntries es) in omega arith
 
 end-length : length (encodeEntries noEntries) ≡ 1
 unfolding encode
@@ -174,11 +169,6 @@ file-small s at n r e = by-zero n refl
     by-zero (suc m) q = let f = full-file s at n r e (λ z. omega arith) in length-small (readInteger (f .lengthFrom) (drop (f .lengthFrom) s)) n (f .length-is)
 
 -- ---- what it takes
-
--- a part that is an encoding stands at the front of the bytes from there on
-part-front : (s : List ℕ) (a b : ℕ) (v : Value) → cut s a (b - a) ≡ encode v → drop a s ≡ encode v ++ drop (b - a) (drop a s)
-unfolding cut
-part-front s a b v e = sym (take-append-drop (b - a) (drop a s)) ∙ ap (λ (l : List ℕ). l ++ drop (b - a) (drop a s)) e
 
 decimal-some : (n : ℕ) → 0 < length (decimal n)
 unfolding BeginsWithDigit

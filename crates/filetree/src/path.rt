@@ -3,7 +3,7 @@ ghost use mathlib.Core.Path.{_≡_};
 ghost use Prim.Native.Nat.{_<_};
 ghost use lib.ListN.{length};
 ghost use Rattle.filetree.specs.Tree.{maxElements};
-ghost use Rattle.filetree.specs.PathLaws.{pathSize, setElement};
+ghost use Rattle.filetree.specs.Path.{pathSize, setElement};
 
 // Two numbers for each element that a path may have.
 pub const PATH: usize = 56;

@@ -113,10 +113,10 @@ pub fn read_token(s: &[u8], at: usize) -> Token
     match read_string(s, at) {
         ByteString::NoString => Token::BadToken,
         ByteString::Content { start, end } => {
-            if element_right(&s[start..end]) {
+            if element_right(s, start, end - start) {
                 return node_token(s, start, end);
             }
-            Token::BadToken
+            Token::BadToken // no path element
         }
     }
 }

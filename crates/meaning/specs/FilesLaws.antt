@@ -24,6 +24,7 @@ pub record FileHolds (v : File) : Type 0 where
   pub small : v .size ≤ longestFile
   pub wide : (v .size ≡ 0 → ⊥) → length (v .root) ≡ 32
   pub elements : ElementsRight (v .path)
+  pub some-element : 0 < length (v .path)
   pub shallow : length (v .path) ≤ 28
 
 unfoldable pub AllHold : List File → Type 0
@@ -64,17 +65,17 @@ right-more [] k a e = (e, tt)
 right-more (x ∷ path) k a e = (a .0, right-more path k (a .1) e)
 
 -- a file, whose dictionary takes a level
-file-holds : (path : List (List ℕ)) (w : Value) (l : ℕ) → ElementsRight path → length path + l ≤ 29 → Valid w l → fileRight w ≡ true → AllHold (fileValue path (entriesOf (present w)) ∷ [])
+file-holds : (path : List (List ℕ)) (w : Value) (l : ℕ) → ElementsRight path → 0 < length path → length path + l ≤ 29 → Valid w l → fileRight w ≡ true → AllHold (fileValue path (entriesOf (present w)) ∷ [])
 unfolding AllHold
-file-holds path w l a s h e = (by-file w l s h (file-yes w e), tt)
+file-holds path w l a o s h e = (by-file w l s h (file-yes w e), tt)
   where
     level : (es : Entries) (l : ℕ) → length path + l ≤ 29 → Valid (dictionary es) l → length path ≤ 28
     level es zero s h = unfold Valid in absurd h
     level es (suc l) s h = omega arith
 
     by-file : (w : Value) (l : ℕ) → length path + l ≤ 29 → Valid w l → RightFile w → FileHolds (fileValue path (entriesOf (present w)))
-    by-file w l s h (empty es z r) = record { small = rw z (omega arith); wide = λ n. absurd (n (rw z refl)); elements = a; shallow = level es l s h }
-    by-file w l s h (full es n root z above below r size) = record { small = rw z below; wide = λ m. rw r size; elements = a; shallow = level es l s h }
+    by-file w l s h (empty es z r) = record { small = rw z (omega arith); wide = λ n. absurd (n (rw z refl)); elements = a; some-element = o; shallow = level es l s h }
+    by-file w l s h (full es n root z above below r size) = record { small = rw z below; wide = λ m. rw r size; elements = a; some-element = o; shallow = level es l s h }
 
 -- both tests of a file
 second-true : (a b : Bool) → a && b ≡ true → b ≡ true
@@ -85,20 +86,20 @@ mutual
   unfolding nodeRight branchRight nodesRight elementRight filesOfNode filesOfEntries AllHold Valid
 
   -- a node, whose path has one element more
-  node-holds : (v : Value) (path : List (List ℕ)) (l : ℕ) → ElementsRight path → length path + l ≤ 30 → Valid v l → nodeRight v ≡ true → AllHold (filesOfNode path v)
-  node-holds (integer minus n) path l a s h e = absurd (false≢true e)
-  node-holds (string b) path l a s h e = absurd (false≢true e)
-  node-holds (list vs) path l a s h e = absurd (false≢true e)
-  node-holds (dictionary es) path zero a s h e = absurd h
-  node-holds (dictionary es) path (suc l) a s h e = branch-holds es path l a (omega arith) none h e
+  node-holds : (v : Value) (path : List (List ℕ)) (l : ℕ) → ElementsRight path → 0 < length path → length path + l ≤ 30 → Valid v l → nodeRight v ≡ true → AllHold (filesOfNode path v)
+  node-holds (integer minus n) path l a o s h e = absurd (false≢true e)
+  node-holds (string b) path l a o s h e = absurd (false≢true e)
+  node-holds (list vs) path l a o s h e = absurd (false≢true e)
+  node-holds (dictionary es) path zero a o s h e = absurd h
+  node-holds (dictionary es) path (suc l) a o s h e = branch-holds es path l a o (omega arith) none h e
 
-  branch-holds : (es : Entries) (path : List (List ℕ)) (l : ℕ) → ElementsRight path → length path + l ≤ 29 → (j : KeyBefore) → EntriesValid es j l → branchRight es ≡ true → AllHold (filesOfEntries path es)
-  branch-holds noEntries path l a s j h e = tt
-  branch-holds (entry [] v es) path l a s j h e = file-holds path v l a s (h .1) (second-true (noMore es) (fileRight v) e)
-  branch-holds (entry (c ∷ cs) v es) path l a s j h e =
+  branch-holds : (es : Entries) (path : List (List ℕ)) (l : ℕ) → ElementsRight path → 0 < length path → length path + l ≤ 29 → (j : KeyBefore) → EntriesValid es j l → branchRight es ≡ true → AllHold (filesOfEntries path es)
+  branch-holds noEntries path l a o s j h e = tt
+  branch-holds (entry [] v es) path l a o s j h e = file-holds path v l a o s (h .1) (second-true (noMore es) (fileRight v) e)
+  branch-holds (entry (c ∷ cs) v es) path l a o s j h e =
       let p = three-true (elementRight (c ∷ cs)) (nodeRight v) (nodesRight es) e in
       let deeper = path ++ ((c ∷ cs) ∷ []) in
-      hold-append (filesOfNode deeper v) (filesOfEntries path es) (node-holds v deeper l (right-more path (c ∷ cs) a (p .0)) (omega (arith, length-append path ((c ∷ cs) ∷ []))) (h .1) (p .1))
+      hold-append (filesOfNode deeper v) (filesOfEntries path es) (node-holds v deeper l (right-more path (c ∷ cs) a (p .0)) (omega (arith, length-append path ((c ∷ cs) ∷ []))) (omega (arith, length-append path ((c ∷ cs) ∷ []))) (h .1) (p .1))
       (nodes-hold es path l a s (after (c ∷ cs)) (h .2) (p .2))
 
   nodes-hold : (es : Entries) (path : List (List ℕ)) (l : ℕ) → ElementsRight path → length path + l ≤ 29 → (j : KeyBefore) → EntriesValid es j l → nodesRight es ≡ true → AllHold (filesOfEntries path es)
@@ -107,7 +108,7 @@ mutual
   nodes-hold (entry (c ∷ cs) v es) path l a s j h e =
       let p = three-true (elementRight (c ∷ cs)) (nodeRight v) (nodesRight es) e in
       let deeper = path ++ ((c ∷ cs) ∷ []) in
-      hold-append (filesOfNode deeper v) (filesOfEntries path es) (node-holds v deeper l (right-more path (c ∷ cs) a (p .0)) (omega (arith, length-append path ((c ∷ cs) ∷ []))) (h .1) (p .1))
+      hold-append (filesOfNode deeper v) (filesOfEntries path es) (node-holds v deeper l (right-more path (c ∷ cs) a (p .0)) (omega (arith, length-append path ((c ∷ cs) ∷ []))) (omega (arith, length-append path ((c ∷ cs) ∷ []))) (h .1) (p .1))
       (nodes-hold es path l a s (after (c ∷ cs)) (h .2) (p .2))
 
 -- each file of a right tree

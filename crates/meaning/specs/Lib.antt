@@ -8,3 +8,8 @@ pub mod AmissLaws
 pub mod FilesLaws
 pub mod Counting
 pub mod Examples
+pub mod Paths
+pub mod PathsLaws
+pub mod PathExamples
+pub mod NamesAside
+pub mod NamesAsideLaws

@@ -97,10 +97,26 @@ fileRight (integer minus n) = false
 fileRight (string b) = false
 fileRight (list vs) = false
 
--- a path element, of files and directories alike
+-- whether none of the bytes is b
+unfoldable pub without : ℕ → List ℕ → Bool
+without b [] = true
+without b (c ∷ cs) = not (eqb c b) && without b cs
+
+-- `.` and `..`
+abbrev pub dot : List ℕ
+dot = 46 ∷ []
+
+abbrev pub dots : List ℕ
+dots = 46 ∷ 46 ∷ []
+
+-- `/`
+abbrev pub slash : ℕ
+slash = 47
+
+-- 02, request 5: a path element, of files and directories alike, is not empty, not `.` or `..`, and has no `/` and no zero byte
 unfoldable pub elementRight : List ℕ → Bool
 elementRight [] = false
-elementRight (c ∷ cs) = true
+elementRight (c ∷ cs) = not (same (c ∷ cs) dot) && not (same (c ∷ cs) dots) && without slash (c ∷ cs) && without 0 (c ∷ cs)
 
 abbrev pub noMore : Entries → Bool
 noMore noEntries = true
@@ -217,12 +233,13 @@ plenOf torrent = numberOf (lookup keyPieceLength (infoOf torrent))
 abbrev pub layersOf : Entries → Entries
 layersOf torrent = entriesOf (lookup keyPieceLayers torrent)
 
-unfoldable pub valueNumber : Entries → ℕ
-valueNumber torrent =
+-- with any rule for the file tree
+abbrev pub numberBy : (Entries → Bool) → Entries → ℕ
+numberBy tree torrent =
     cond (hasKeys torrent)
     (cond (isNumber 2 (lookup keyMetaVersion (infoOf torrent)))
     (cond (isPieceLength (plenOf torrent))
-    (cond (treeRight (treeOf torrent))
+    (cond (tree (treeOf torrent))
     (cond (rootsApart (filesOf torrent))
     (cond (layersFit (plenOf torrent) (layersOf torrent) (filesOf torrent) && noOthers (plenOf torrent) (filesOf torrent) (layersOf torrent))
     (cond (layersGiveRoots (plenOf torrent) (layersOf torrent) (filesOf torrent))
@@ -234,3 +251,6 @@ valueNumber torrent =
     pieceLengthOutOfRange)
     otherVersion)
     keyMissing
+
+unfoldable pub valueNumber : Entries → ℕ
+valueNumber torrent = numberBy treeRight torrent

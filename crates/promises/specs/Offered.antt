@@ -15,14 +15,14 @@ use Rattle.octets.specs.OctetsLaws.{same-eq, number-same, cut-whole, cut-append
 use Rattle.store.specs.Store.{usable, factsRoot, blocksOf, heightOf}
 use Rattle.settling.specs.SubtreeLaws.{run-leaf-in}
 use Rattle.header.specs.declared.Header.{Header}
-use Rattle.header.specs.Header.{isHashes, headerOf, messageRoot, messageSize, rulesKept}
+use Rattle.header.specs.Header.{hashesId, headerSize, isHashes, headerOf, messageRoot, messageSize, rulesKept}
 use Rattle.messages.specs.Take.{runOf, given}
 use Rattle.messages.specs.TakeLaws.{passes}
 use Rattle.knowledge.specs.TakenWhen.{Formed}
 
 -- a hashes message by its parts
 abbrev pub offered : List ℕ → List ℕ → List ℕ → List ℕ
-offered root numbers hashes = 22 ∷ (root ++ (numbers ++ hashes))
+offered root numbers hashes = hashesId ∷ (root ++ (numbers ++ hashes))
 
 module _ (root numbers hashes : List ℕ) (lr : length root ≡ 32) (ln : length numbers ≡ 16) where
   at-numbers : (i : ℕ) → i < 16 → getD (offered root numbers hashes) (33 + i) 0 ≡ getD numbers i 0
@@ -52,27 +52,27 @@ module _ (root numbers hashes : List ℕ) (lr : length root ≡ 32) (ln : length
   offered-root = take-at root (numbers ++ hashes) 32 lr
 
   -- size,
-  pub offered-size : length (offered root numbers hashes) ≡ 49 + length hashes
+  pub offered-size : length (offered root numbers hashes) ≡ headerSize + length hashes
   offered-size = omega (arith, length-append root (numbers ++ hashes), length-append numbers hashes)
 
   -- form,
   pub offered-form : isHashes (offered root numbers hashes) ≡ true
   unfolding isHashes
-  offered-form = rw (le-leb 49 (length (offered root numbers hashes)) (omega (arith, offered-size)))
+  offered-form = rw (le-leb headerSize (length (offered root numbers hashes)) (omega (arith, offered-size)))
 
   -- and what stands behind the header
-  pub offered-past : (at n : ℕ) → cut (offered root numbers hashes) (49 + at) n ≡ cut hashes at n
+  pub offered-past : (at n : ℕ) → cut (offered root numbers hashes) (headerSize + at) n ≡ cut hashes at n
   unfolding cut
   offered-past at n =
-      let H : List ℕ = 22 ∷ (root ++ numbers) in
-      let e : offered root numbers hashes ≡ (22 ∷ (root ++ numbers)) ++ hashes = ap (λ (l : List ℕ). 22 ∷ l) (sym (append-assoc root numbers hashes)) in
-      let l : 49 + at ≡ length H + at = omega (arith, length-append root numbers) in
+      let H : List ℕ = hashesId ∷ (root ++ numbers) in
+      let e : offered root numbers hashes ≡ (hashesId ∷ (root ++ numbers)) ++ hashes = ap (λ (l : List ℕ). hashesId ∷ l) (sym (append-assoc root numbers hashes)) in
+      let l : headerSize + at ≡ length H + at = omega (arith, length-append root numbers) in
       ap₂ (λ (m : List ℕ) (x : ℕ). take n (drop x m)) e l ∙ ap (take n) (drop-append-add H hashes at)
 
   -- offered to a usable store with this root, of a file whose blocks and height let its header keep the rules, with as many hashes as the
   -- header says, it is well-formed
   pub well-formed-in : (s : List ℕ) (x : Header) (blocks h : ℕ) → headerOf (offered root numbers hashes) ≡ x → usable s ≡ true → factsRoot s ≡ root
-      → blocksOf s ≡ blocks → heightOf s ≡ h → rulesKept x blocks h ≡ true → messageSize x ≡ 49 + length hashes → Formed s (offered root numbers hashes)
+      → blocksOf s ≡ blocks → heightOf s ≡ h → rulesKept x blocks h ≡ true → messageSize x ≡ headerSize + length hashes → Formed s (offered root numbers hashes)
   well-formed-in s x blocks h e u r eb eh k z =
       record {
         header =
@@ -122,5 +122,5 @@ module _ (root numbers a b : List ℕ) (lr : length root ≡ 32) (ln : length nu
   pub second-hash : given (twoHashes root numbers a b) 1 1 ≡ b
   second-hash = ap (λ (m : List ℕ). given m 1 1) (sym no-uncles) ∙ second-given root numbers a b [] lr ln la lb
 
-  pub two-size : 49 + length (a ++ b) ≡ 113
+  pub two-size : headerSize + length (a ++ b) ≡ 113
   two-size = omega (arith, length-append a b)

@@ -17,7 +17,7 @@ use Rattle.cells.specs.Cells.{heldAt, hashAt}
 use Rattle.store.specs.Store.{fileLength, heldAnswer, factsRoot, heightOf, storeSize, openAfter, opened, Facts}
 use Rattle.store.specs.StoreLaws.{facts-usable, usable-facts, opened-usable, opened-file, opened-facts-root, opened-height}
 use Rattle.header.specs.declared.Header.{Header}
-use Rattle.header.specs.Header.{headerOf, messageRoot, isHashes, isRequest, placeOf, rulesKept, lengthRule, indexRule}
+use Rattle.header.specs.Header.{requestId, hashesId, headerOf, messageRoot, isHashes, isRequest, placeOf, rulesKept, lengthRule, indexRule}
 use Rattle.messages.specs.Take.{headerNumber, placeIn, takeNumber, takeAfter}
 use Rattle.messages.specs.TakeLaws.{passed, passes}
 use Rattle.serve.specs.Serve.{heldRun, runHashes, heldUncles, uncleHashes, allHeld, allHashes, requestNumber, replyTo, serveAnswer}
@@ -40,7 +40,7 @@ numbers = 0 ∷ 0 ∷ 0 ∷ 0 ∷ 0 ∷ 0 ∷ 0 ∷ 0 ∷ 0 ∷ 0 ∷ 0 ∷ 2 �
 
 -- the request for the two leaves of a file of two blocks
 abbrev pub askForTwo : List ℕ → List ℕ → List ℕ
-askForTwo a b = 21 ∷ (pairHash a b ++ numbers)
+askForTwo a b = requestId ∷ (pairHash a b ++ numbers)
 
 -- a store that we opened and that has heard its two leaves
 abbrev pub withTwo : List ℕ → List ℕ → List ℕ → List ℕ
@@ -140,7 +140,7 @@ module _ (a b : List ℕ) (oa : Octets 32 a) (ob : Octets 32 b) where
     pub reply-is : replyTo (withTwo buffer a b) (askForTwo a b) ≡ twoLeaves a b
     unfolding replyTo
     reply-is =
-        rw (place-is, asked-head, hashes-are) (ap (λ (l : List ℕ). 22 ∷ l) (append-assoc (pairHash a b) numbers (a ++ b)))
+        rw (place-is, asked-head, hashes-are) (ap (λ (l : List ℕ). hashesId ∷ l) (append-assoc (pairHash a b) numbers (a ++ b)))
 
     -- which a store that was only opened, of the same length and root, takes,
     pub reply-taken : (other : List ℕ) → storeSize 32768 ≤ length other → takeNumber (opened other 32768 16384 (pairHash a b)) (replyTo (withTwo buffer a b) (askForTwo a b)) ≡ 0

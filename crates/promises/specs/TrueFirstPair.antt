@@ -22,7 +22,7 @@ use Rattle.settling.specs.Subtree.{subtree}
 use Rattle.settling.specs.Path.{sibling, uncle, parentValue, ancestor, risen, path}
 use Rattle.header.specs.declared.Header.{Header}
 use Rattle.header.specs.declared.Place.{Place}
-use Rattle.header.specs.Header.{headerOf, messageSize, placeOf, rulesKept, lengthRule, indexRule}
+use Rattle.header.specs.Header.{headerSize, headerOf, messageSize, placeOf, rulesKept, lengthRule, indexRule}
 use Rattle.messages.specs.Padded.{allFrom, runPadded, unclePadded, unclesPadded}
 use Rattle.messages.specs.Take.{unclesOf, given, settled, anchor, worked, padded, placeIn, takeAnswer}
 use Rattle.knowledge.specs.TakenWhen.{Formed, Right, right-then-taken}
@@ -66,7 +66,7 @@ module _ (a b c d : List ℕ) (la : length a ≡ 32) (lb : length b ≡ 32) (lc 
   uncles-size : length (c ++ d) ≡ 64
   uncles-size = length-append c d ∙ omega arith
 
-  size-is : 177 ≡ 49 + length ((a ++ b) ++ (c ++ d))
+  size-is : 177 ≡ headerSize + length ((a ++ b) ++ (c ++ d))
   size-is = omega (arith, length-append (a ++ b) (c ++ d), run-size, uncles-size)
 
   uncles-are : unclesOf (firstPair a b c d) 2 2 ≡ c ++ d

@@ -24,7 +24,7 @@ use Rattle.pieces.specs.Pieces.{layerOfPieces, blockNumber, pieceHeight, pieceN
 use Rattle.store.specs.StoreLaws.{opened-piece, facts-usable, usable-facts, opened-usable, opened-file, opened-facts-root}
 use Rattle.header.specs.declared.Header.{Header}
 use Rattle.header.specs.declared.Place.{Place}
-use Rattle.header.specs.Header.{headerOf, isHashes}
+use Rattle.header.specs.Header.{hashesId, headerOf, isHashes}
 use Rattle.messages.specs.Take.{given, placeIn, takeNumber, takeAfter}
 use Rattle.messages.specs.TakeLaws.{passed}
 use Rattle.words.specs.Held.{Holds}
@@ -47,8 +47,8 @@ use Rattle.promises.specs.TwoBlocks.{range, opens, open-is}
 use Rattle.knowledge.specs.FormedWhen.{well-formed}
 
 -- the message is a string of bytes
-one-byte : Octets 1 (22 ∷ [])
-one-byte = be-octets 1 22
+one-byte : Octets 1 (hashesId ∷ [])
+one-byte = be-octets 1 hashesId
 
 four-numbers : Octets 16 (be 4 0 ++ (be 4 0 ++ (be 4 2 ++ be 4 0)))
 four-numbers = append-octets (be-octets 4 0) (append-octets (be-octets 4 0) (append-octets (be-octets 4 2) (be-octets 4 0)))

@@ -13,7 +13,8 @@ use Rattle.filetree.specs.Token.{tokenAt}
 use Rattle.filetree.specs.TokenLaws.{leaf-ends, opened-ends}
 use Rattle.filetree.specs.Tree.{maxElements, Element, Listed, listedAs, down, Files, wrong, files, after, filesFrom, filesBelow, filesIn, right, listed, fileNumber}
 use Rattle.filetree.specs.TreeLaws.{tree-below, Passed, passed-none, passed-bad, passed-end, passed-closed, passed-file, passed-wrong, inside-ends, passed-directory}
-use Rattle.filetree.specs.PathLaws.{pathSize, setElement, flat, flat-length, flat-down, elementNumber, Holds, holds-length, holds-down, holds-element, set-length}
+use Rattle.filetree.specs.Path.{pathSize, setElement}
+use Rattle.filetree.specs.PathLaws.{flat, flat-length, flat-down, elementNumber, Holds, holds-length, holds-down, holds-element, set-length}
 use Rattle.filetree.specs.FilesLaws.{FileRight, path-element, files-right, number-right, number-behind, number-before}
 use Rattle.layers.specs.JudgeLaws.{tree-some}
 use Rattle.filetree.specs.declared.token.Token.the-variants.{Opened, Closed, Leaf, BadToken}

@@ -16,7 +16,7 @@ ghost use Prim.Native.Nat.{_+_, _≤_, _<_};
 ghost use lib.ListN as L;
 ghost use Rattle.octets.specs.Octets.{cut};
 ghost use Rattle.filetree.specs.Tree.{maxElements, filesIn, right, listed, fileNumber};
-ghost use Rattle.filetree.specs.PathLaws.{pathSize};
+ghost use Rattle.filetree.specs.Path.{pathSize};
 ghost use Rattle.layers.specs.Layers.{layerAt, rootBytes, layerString};
 ghost use Rattle.torrent.specs.FindLaws.{Finds, FoundFile};
 

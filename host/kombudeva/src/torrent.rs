@@ -74,7 +74,7 @@ impl<'a> Torrent<'a> {
         Answer::of(given.number, File { length: given.length, root: given.root.bytes, elements: given.elements, layer })
     }
 
-    /// An element of a file's path, from 0.
+    /// An element of a file's path, from 0: any bytes, but not empty, `.` or `..`, and without `/` and zero bytes.
     pub fn path(&self, file: u64, element: u64) -> Answer<&'a [u8]> {
         let given = boundary::torrent_path(self.bytes, file, element);
         Answer::of(given.number, self.part(given.start, given.size))
@@ -141,7 +141,7 @@ impl<'a, 'm> Iterator for List<'a, 'm> {
 impl ExactSizeIterator for List<'_, '_> {}
 
 impl<'a, 'm> Listed<'a, 'm> {
-    /// The path, element by element: any bytes.
+    /// The path, element by element: any bytes, but none empty, `.` or `..`, and without `/` and zero bytes.
     pub fn path(&self) -> impl ExactSizeIterator<Item = &'a [u8]> + 'm
     where
         'a: 'm,

@@ -82,6 +82,11 @@ fn fields<'a>(torrent: &[u8], outer: &'a Value) -> Option<Fields<'a>> {
     })
 }
 
+/// The rule for an element of a path, of a file or a directory: else 25.
+pub fn element_right(element: &[u8]) -> bool {
+    !matches!(element, b"" | b"." | b"..") && !element.contains(&b'/') && !element.contains(&0)
+}
+
 /// Adds the files below a directory in tree order, or answers 25. The path so far leads to the directory.
 fn add_files(
     torrent: &[u8],
@@ -93,7 +98,7 @@ fn add_files(
         return Err(WRONG_TREE);
     }
     for (name, node) in directory {
-        if name.is_empty() {
+        if !element_right(&torrent[name.clone()]) {
             return Err(WRONG_TREE);
         }
         path.push(name.clone());
@@ -446,5 +451,27 @@ mod tests {
         assert_eq!(number(&with(&[(&root, b"le".to_vec())])), LAYERS_AMISS);
         assert_eq!(number(&with(&[(&root, string(&layer)), (&[255; 32], string(b""))])), LAYERS_AMISS);
         assert_eq!(number(&with(&[(&root, string(&[5; 96]))])), LAYER_DIFFERS);
+    }
+
+    #[test]
+    fn elements_that_climb_out() {
+        let one = |name: &str| file(name, 1, Some(1));
+        let inside = |name: &str, inner: Vec<u8>| [string(name.as_bytes()), directory(&[inner])].concat();
+        for name in ["", ".", "..", "/", "a/b", "/a", "a/", "\0", "a\0", "\0a", "../x"] {
+            let trees = [
+                one(name),
+                inside(name, inside("b", one("c"))),
+                inside("a", inside(name, one("c"))),
+                inside("a", one(name)),
+            ];
+            for tree in trees {
+                assert_eq!(number_of_tree(&directory(&[tree])), WRONG_TREE, "{name:?}");
+            }
+        }
+        for name in ["...", ". ", "..a", ".a", "a..", " ", "\\", "\u{ff}"] {
+            assert_eq!(number_of_tree(&directory(&[inside(name, one(name))])), 0, "{name:?}");
+        }
+        let also_one_root = directory(&[one("."), file("b", 2, Some(1))]);
+        assert_eq!(number_of_tree(&also_one_root), WRONG_TREE);
     }
 }

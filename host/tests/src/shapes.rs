@@ -69,9 +69,10 @@ fn file(length: u64, root: &Hash) -> Vec<u8> {
     [b"d0:d6:lengthi", length.to_string().as_bytes(), b"e11:pieces root32:", root, b"ee"].concat()
 }
 
-/// Names of two bytes in ascending order.
+/// Names of two bytes in ascending order, without zero, `.` and `/`.
 fn name(number: u32) -> Vec<u8> {
-    string(&(number as u16).to_be_bytes())
+    let byte = |digit: u32| if digit < 45 { digit + 1 } else { digit + 3 } as u8;
+    string(&[byte(number / 253), byte(number % 253)])
 }
 
 fn random_root(number: u32) -> Hash {

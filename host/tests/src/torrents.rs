@@ -6,7 +6,7 @@ use crate::random::Random;
 use reference::limits::RECORD;
 use reference::number::DONE;
 use reference::pieces::over_piece_layer;
-use reference::torrent::Torrent;
+use reference::torrent::{element_right, Torrent};
 use reference::tree::Facts;
 use std::collections::BTreeMap;
 
@@ -104,17 +104,27 @@ impl Maker<'_> {
     fn directory(&mut self, levels: u64) -> Value {
         let mut entries = BTreeMap::new();
         for _ in 0..self.random.between(1, 3) {
-            let size = self.random.between(1, 3) as usize;
-            let name = (0..size).map(|_| self.random.pick(b"ab.\xff")).collect();
+            let name = self.name();
             let node = if levels == 0 || self.random.percent(70) { self.file() } else { self.directory(levels - 1) };
             entries.insert(name, node);
         }
         dictionary(entries)
     }
 
+    /// A path element at the edge of the rule, but within it.
+    fn name(&mut self) -> Vec<u8> {
+        loop {
+            let size = self.random.between(1, 3) as usize;
+            let name: Vec<u8> = (0..size).map(|_| self.random.pick(b"ab.\\\xff")).collect();
+            if element_right(&name) {
+                return name;
+            }
+        }
+    }
+
     /// A folder of many files, at some level.
     fn folder_of_many(&mut self, levels: u64) -> Value {
-        let name = |number: u64| (number as u16).to_be_bytes().to_vec();
+        let name = |number: u64| format!("{number:03}").into_bytes();
         let files = (0..self.random.between(10, 300)).map(|number| (name(number), self.file())).collect();
         (0..levels).fold(dictionary(files), |below, _| Dictionary(vec![(b"a".to_vec(), below)]))
     }
@@ -239,6 +249,10 @@ fn change_string(content: &mut Vec<u8>, random: &mut Random) {
     }
 }
 
+/// Path elements that are wrong, and some that are next to them.
+const NAMES: [&[u8]; 12] =
+    [b".", b"..", b"/", b"\0", b"a/b", b"../a", b"a\0", b"..\0", b"...", b". ", b"..a", b"\\"];
+
 fn change_entries(entries: &mut Vec<(Vec<u8>, Value)>, random: &mut Random) {
     if entries.is_empty() {
         entries.push((random.bytes(32), Text(random.bytes(64))));
@@ -246,7 +260,7 @@ fn change_entries(entries: &mut Vec<(Vec<u8>, Value)>, random: &mut Random) {
     }
     let which = random.below(entries.len() as u64) as usize;
     let other = random.below(entries.len() as u64) as usize;
-    match random.below(8) {
+    match random.below(9) {
         0 => drop(entries.remove(which)),
         1 => entries.insert(which, entries[which].clone()),
         2 => entries.swap(which, other),
@@ -254,6 +268,10 @@ fn change_entries(entries: &mut Vec<(Vec<u8>, Value)>, random: &mut Random) {
         4 => entries[which].1 = entries[other].1.clone(),
         5 => change_string(&mut entries[which].0, random),
         6 => entries.push((vec![0xff; 33], integer(0))),
+        7 => {
+            entries[which].0 = random.pick(&NAMES).to_vec();
+            entries.sort_by(|one, other| one.0.cmp(&other.0));
+        }
         _ => entries.clear(),
     }
 }
@@ -389,7 +407,7 @@ pub fn run(random: &mut Random, compared: &mut Comparison, mut go_on: impl FnMut
 }
 
 /// What each byte is changed to: bytes that mean something in bencoding, and some that don't.
-const OTHERS: &[u8] = b"dlie01239:-\0 \x7f\x80\xff";
+const OTHERS: &[u8] = b"dlie01239:-./\0 \x7f\x80\xff";
 
 /// A torrent with each of its bytes changed in turn to each of `OTHERS` and in each bit, taken out, and with one put before it.
 pub fn run_through_every_byte(torrent: &[u8], compared: &mut Comparison) {

@@ -380,6 +380,30 @@ fn torrents_read_wrong() {
     });
 }
 
+/// A wrong path element is let through: where it stands, the reference reads a right one of the same size, next to it in order.
+#[test]
+fn path_elements_that_are_let_through() {
+    let elements: [(&str, &[u8], &[u8]); 4] = [
+        ("..", b"2:..d", b"2:.-d"),
+        (".", b"1:.d", b"1:-d"),
+        ("a/b", b"3:a/bd", b"3:a.bd"),
+        ("a zero byte", b"2:a\0d", b"2:a\x01d"),
+    ];
+    for (name, wrong, right) in elements {
+        assert_torrent_found_out(name, &|call| {
+            let outcome = by_reference(call);
+            match call.input.windows(wrong.len()).position(|part| part == wrong) {
+                Some(at) if outcome.given.number() == WRONG_TREE => {
+                    let mut changed = call.clone();
+                    changed.input[at..at + right.len()].copy_from_slice(right);
+                    by_reference(&changed)
+                }
+                _ => outcome,
+            }
+        });
+    }
+}
+
 fn torrent_file_refused(number: u32) -> Given {
     Given::File(File { number, length: 0, root: [0; 32], elements: 0, layer_start: 0, layer_size: 0 })
 }

@@ -277,6 +277,79 @@ fn number_25_is_an_empty_or_wrong_tree() {
     }
 }
 
+/// A torrent of one file with this path.
+fn with_path(path: &[&[u8]]) -> Vec<u8> {
+    let properties = dictionary(&[&entry("length", b"i1e"), &entry("pieces root", &string(&[1; 32]))]);
+    let node = path.iter().rev().fold(entry("", &properties), |below, name| [string(name), dictionary(&[&below])].concat());
+    with_tree(&[&node])
+}
+
+/// The name at each place of paths of 1, 2, 3 and 28 elements: as a file's at the last place, as a directory's at the others.
+fn assert_name(name: &[u8], number: u32) {
+    for elements in [1, 2, 3, 28] {
+        for place in [0, elements / 2, elements - 1] {
+            let mut path = vec![&b"a"[..]; elements];
+            path[place] = name;
+            let torrent = with_path(&path);
+            assert_number(&torrent, number);
+            if number == 0 {
+                let part = torrent_path(&torrent, 0, place as u64);
+                assert_eq!(torrent[part.start as usize..][..part.size as usize], *name);
+            }
+        }
+    }
+}
+
+#[test]
+fn number_25_is_an_element_that_climbs_out() {
+    let wrong: [&[u8]; 15] = [
+        b"", b".", b"..", b"/", b"\0", b"a/b", b"/a", b"a/", b"../x", b"x/..", b"a\0", b"\0a", b"a\0b", b"..\0", b"./",
+    ];
+    wrong.into_iter().for_each(|name| assert_name(name, 25));
+    let longest: Vec<u8> = (0..300).map(|at| if at == 299 { b'/' } else { b'.' }).collect();
+    assert_name(&longest, 25);
+}
+
+#[test]
+fn elements_that_only_look_so() {
+    let right: [&[u8]; 15] = [
+        b"...", b"....", b". ", b".. ", b" .", b"..a", b".a", b"a.", b"a..", b" ", b"\\", b"..\\", b"\x80", b"\xff\xfe", b"C:",
+    ];
+    right.into_iter().for_each(|name| assert_name(name, 0));
+    assert_name(&[b'.'; 300], 0);
+}
+
+#[test]
+fn every_byte_of_an_element() {
+    for byte in 0..=255 {
+        let alone = matches!(byte, 0 | b'.' | b'/');
+        assert_number(&with_path(&[&[byte]]), if alone { 25 } else { 0 });
+        assert_number(&with_path(&[&[byte], b"a"]), if alone { 25 } else { 0 });
+        for other in [0, b'.', b'/', b'a', 0xff] {
+            for name in [[byte, other], [other, byte]] {
+                let wrong = name == *b".." || name.contains(&0) || name.contains(&b'/');
+                assert_number(&with_path(&[&name]), if wrong { 25 } else { 0 });
+                assert_number(&with_path(&[&name, b"a"]), if wrong { 25 } else { 0 });
+            }
+        }
+    }
+}
+
+#[test]
+fn a_wrong_element_comes_between_24_and_26() {
+    let root = Some([1; 32]);
+    let tree = dictionary(&[&file("..", 1, root), &file("b", 2, root)]);
+    assert_number(&Parts { tree: tree.clone(), ..Parts::good() }.torrent(), 25);
+    assert_number(&Parts { tree: tree.clone(), piece_length: b"i1e".to_vec(), ..Parts::good() }.torrent(), 24);
+    assert_number(&Parts { tree, layers: b"le".to_vec(), ..Parts::good() }.torrent(), 22);
+    // Behind files that are right, and before them.
+    assert_number(&with_tree(&[&file("..", 1, root), &file("a", 1, Some([2; 32]))]), 25);
+    assert_number(&with_tree(&[&file("-", 1, root), &file("..", 1, Some([2; 32]))]), 25);
+    // `name` is no path element: nobody reads it.
+    let info = Parts::good().info_with("name", b"2:..");
+    assert_number(&dictionary(&[&entry("info", &info), &entry("piece layers", b"de")]), 0);
+}
+
 /// A tree of one file with these properties.
 fn with_properties(properties: &[&[u8]]) -> Vec<u8> {
     with_tree(&[&entry("a", &dictionary(&[&entry("", &dictionary(properties))]))])

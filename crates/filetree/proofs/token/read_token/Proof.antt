@@ -1,5 +1,4 @@
-use Rattle.bencode.specs.EndsLaws.{string-ends}
-use Rattle.filetree.proofs.Reading.{token-closed, token-key, token-other, token-node}
+use Rattle.filetree.proofs.Reading.{key-inside, token-closed, token-key, token-other, token-node}
 use Prim.Native.Nat.{_-_}
 use mathlib.Core.Path.{sym, _∙_}
 use borrow.Author.Needs.{needs}
@@ -22,28 +21,22 @@ enum-known-start : tie.Need-enum-known-start
 enum-known-start c = search needs
 
 sub-element-right : tie.Need-sub-element-right
-sub-element-right c = string-ends _ _ _ _ (sym (c .before .before .before .read-string .ensures) ∙ c .before .start .given .1) .1
-
-part-element-right-start : tie.Need-part-element-right-start
-part-element-right-start c = string-ends _ _ _ _ (sym (c .before .before .before .read-string .ensures) ∙ c .before .start .given .1) .1
-
-part-element-right-end : tie.Need-part-element-right-end
-part-element-right-end c = string-ends _ _ _ _ (sym (c .before .before .before .read-string .ensures) ∙ c .before .start .given .1) .2
+sub-element-right c = key-inside _ _ _ _ (sym (c .before .before .before .read-string .ensures) ∙ c .before .start .given .1) .0
 
 element-right-requires : tie.Need-element-right-requires
-element-right-requires c κs = search needs
+element-right-requires c κs = key-inside _ _ _ _ (sym (c .before .before .before .read-string .ensures) ∙ c .before .start .given .1) .1
 
 node-token-requires : tie.Need-node-token-requires
 node-token-requires c κs = search needs
 
 returns-2 : tie.Need-returns-2
-returns-2 c = c .node-token .ensures ∙ sym (token-node _ _ (sym (c .before .before .before .before .before .before .before .before .before .ends-here .ensures) ∙ c .before .before .before .before .before .before .before .before .if1 .left) _ _ (sym (c .before .before .before .before .before .before .before .read-string .ensures) ∙ c .before .before .before .before .before .start .given .1) (sym (c .before .before .element-right .ensures) ∙ c .before .if2 .taken))
+returns-2 c = c .node-token .ensures ∙ sym (token-node _ _ (sym (c .before .before .before .before .before .before .before .before .ends-here .ensures) ∙ c .before .before .before .before .before .before .before .if1 .left) _ _ (sym (c .before .before .before .before .before .before .read-string .ensures) ∙ c .before .before .before .before .start .given .1) (sym (c .before .before .element-right .ensures) ∙ c .before .if2 .taken))
 
 returns-3 : tie.Need-returns-3
 returns-3 c = sym (token-key _ _ (sym (c .before .before .before .before .ends-here .ensures) ∙ c .before .before .before .if1 .left) _ (sym (c .before .before .read-string .ensures) ∙ c .enum-told .given .1))
 
 returns-4 : tie.Need-returns-4
-returns-4 c = sym (token-other _ _ (sym (c .before .before .before .before .before .before .before .before .ends-here .ensures) ∙ c .before .before .before .before .before .before .before .if1 .left) _ _ (sym (c .before .before .before .before .before .before .read-string .ensures) ∙ c .before .before .before .before .start .given .1) (sym (c .before .element-right .ensures) ∙ c .if2 .left))
+returns-4 c = sym (token-other _ _ (sym (c .before .before .before .before .before .before .before .ends-here .ensures) ∙ c .before .before .before .before .before .before .if1 .left) _ _ (sym (c .before .before .before .before .before .read-string .ensures) ∙ c .before .before .before .start .given .1) (sym (c .before .element-right .ensures) ∙ c .if2 .left))
 
 pub read-token-spec : {M : Type 1} → statement M
 read-token-spec =
@@ -55,8 +48,6 @@ read-token-spec =
     enum-told
     enum-known-start
     sub-element-right
-    part-element-right-start
-    part-element-right-end
     element-right-requires
     node-token-requires
     returns-2
