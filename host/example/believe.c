@@ -26,7 +26,7 @@ static const char *in_words(uint32_t number)
     }
 }
 
-static void judge(const uint8_t *store, size_t size, const char *what, uint64_t block, const uint8_t *data, size_t bytes)
+static void judge(uint8_t *store, size_t size, const char *what, uint64_t block, const uint8_t *data, size_t bytes)
 {
     kd_answer answer = kd_judge_block(store, size, block, data, bytes);
     printf("%s: %s (%u)\n", what, in_words(answer.number), answer.number);

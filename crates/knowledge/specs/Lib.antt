@@ -5,13 +5,20 @@ pub mod TakenWhen
 pub mod Chains
 pub mod TakenEntries
 pub mod RightPadding
+-- marks stand apart from the cells
+pub mod MarksApart
 -- histories: what each step keeps, what stays
 pub mod Through
 pub mod Grows
 pub mod Again
 -- bytes behind the store
 pub mod BytesLeft
+pub mod Alike
 pub mod Beyond
+pub mod MarksBeyond
+-- marks decide nothing about hashes; the bitfield
+pub mod Independence
+pub mod Bitfield
 pub mod SameStore
 -- what a store that only this build has written looks like
 pub mod Invariant

@@ -49,7 +49,7 @@ beside-sha256 = Rattle.knowledge.specs.InTable.no-hash-beside-4
 pub beside-size : (n plen : ℕ) → (sizeAnswer n plen .number ≡ 0 → ⊥) → sizeAnswer n plen .count ≡ 0
 beside-size = Rattle.knowledge.specs.InTable.no-size-beside-10
 
--- 01: a store "uses exactly the first 33·(2·2^h − 1) + 64 bytes" (the size: EachNumber.size-0): of two memories that agree up to there both
+-- 01: a store "uses exactly the first 33·(2·2^h − 1) + 64 bytes", and with the marks 2^h more (the size: EachNumber.size-0): of two memories that agree up to there both
 -- are usable, and every call but an opening answers the same, leaves the same store and sends the same bytes;
 pub usable-there : {s t : List ℕ} → SameStore s t → usable t ≡ true
 usable-there {s} {t} = Rattle.knowledge.specs.SameStore.usable-there s t

@@ -59,7 +59,7 @@ module _ (n plen : ℕ) where
   pub size-10 : (InRange n plen → ⊥) → sizeAnswer n plen ≡ refused factsOutOfRange
   size-10 = Rattle.knowledge.specs.RootAlone.size-is-10 n plen
 
-  pub size-0 : InRange n plen → sizeAnswer n plen ≡ done (33 * (2 * 2 ^ height (blockCount n) - 1) + 64)
+  pub size-0 : InRange n plen → sizeAnswer n plen ≡ done (33 * (2 * 2 ^ height (blockCount n) - 1) + 64 + 2 ^ height (blockCount n))
   size-0 = Rattle.knowledge.specs.RootAlone.size-is n plen
 
 -- ---- kd_open: 10, 9, 0; a buffer is usable exactly if it names facts in range and has their room

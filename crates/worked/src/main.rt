@@ -144,7 +144,7 @@ fn headers(s: &mut [u8]) {
 }
 
 fn main() {
-    let mut s = [0u8; 559];
+    let mut s = [0u8; 567];
     session(&mut s);
     whole(&mut s);
     headers(&mut s);

@@ -300,7 +300,7 @@ impl InLibrary {
     }
 
     fn judge(&mut self) -> boundary::Answer {
-        black_box(boundary::judge_piece(&self.store, PIECE_NUMBER, black_box(&self.message)))
+        black_box(boundary::judge_piece(&mut self.store, PIECE_NUMBER, black_box(&self.message)))
     }
 }
 

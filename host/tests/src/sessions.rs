@@ -107,7 +107,7 @@ impl<'a> Session<'a> {
     /// A call about this session's file.
     pub fn call(&self, random: &mut Random) -> Call {
         let judges = if self.truth.bytes.is_empty() { 1 } else { 40 };
-        match random.below(100 + judges) {
+        match random.below(115 + judges) {
             0..=49 => Call::new(Entry::Take).on(&self.store).input(self.hashes(random)),
             50..=69 => self.request(random),
             70..=74 => Call::new(Entry::TakeReject).on(&self.store).input(self.reject(random)),
@@ -117,6 +117,7 @@ impl<'a> Session<'a> {
             98..=99 => {
                 Call::new(Entry::StoreSize).numbers(random.pick(&HOSTILE_LENGTHS), random.pick(&HOSTILE_PIECE_LENGTHS))
             }
+            100..=114 => self.about_marks(random),
             _ => self.judgement(random),
         }
     }
@@ -267,6 +268,25 @@ impl<'a> Session<'a> {
         call
     }
 
+    /// A mark asked for or cleared, or the bitfield, in any room.
+    fn about_marks(&self, random: &mut Random) -> Call {
+        let facts = &self.truth.facts;
+        let block = match random.below(8) {
+            0 => facts.blocks(),
+            1 => random.pick(&HOSTILE_NUMBERS),
+            2..=3 => facts.blocks() - 1,
+            _ => random.below(facts.blocks()),
+        };
+        let size = facts.pieces().div_ceil(8) as usize;
+        let room = random.pick(&[0, size - 1, size, size + 1, size + 9]);
+        let out = random.bytes(room);
+        match random.below(4) {
+            0 => Call::new(Entry::Clear).on(&self.store).numbers(block, 0),
+            1 => Call::new(Entry::Marked).on(&self.store).numbers(block, 0),
+            _ => Call::new(Entry::Bitfield).on(&self.store).out(out),
+        }
+    }
+
     fn judgement(&self, random: &mut Random) -> Call {
         let facts = &self.truth.facts;
         let is_block = random.percent(50);
@@ -297,7 +317,7 @@ impl<'a> Session<'a> {
 
 /// Bytes that name any facts, with any room.
 fn hostile_store(random: &mut Random) -> Vec<u8> {
-    let size = random.pick(&[0, 1, 11, 12, 43, 44, 63, 64, 96, 97, 98, 162, 163, 164, 600]);
+    let size = random.pick(&[0, 1, 11, 12, 43, 44, 63, 64, 96, 97, 98, 99, 162, 163, 164, 165, 166, 600]);
     let mut store = random.bytes(size);
     if size >= 12 && random.percent(80) {
         let length = random.pick(&HOSTILE_LENGTHS);
