@@ -32,7 +32,7 @@ field-bit s a k (suc n) =
     let v : (fieldBits s a (suc k + n) * 2 + oneIf (pieceMarked s (a + (suc k + n)))) / 2 ≡ fieldBits s a (suc k + n) = omega arith in
     ap (λ (x : ℕ). bitOf n (fieldBits s a x / 2)) e ∙ ap (bitOf n) v ∙ field-bit s a k n
 
-one-true : (b : Bool) → oneIf b ≡ 1 → b ≡ true
+pub one-true : (b : Bool) → oneIf b ≡ 1 → b ≡ true
 one-true true e = refl
 one-true false e = let w : ⊥ = omega (arith, e) in absurd w
 
@@ -72,11 +72,11 @@ module _ (s : List ℕ) (f : Facts s) (i : ℕ) (b : i < pieceCount (fileLength 
   blocks-are = refl
 
   -- the blocks from its first on are those that it covers
-  covered-in : (j : ℕ) → firstBlock s i ≤ j → j < firstBlock s i + blocksIn s i → Covers s i j
+  pub covered-in : (j : ℕ) → firstBlock s i ≤ j → j < firstBlock s i + blocksIn s i → Covers s i j
   covered-in j a c =
       record { inside = omega (arith, blocks-are); from = omega (arith, start-is); upto = omega (arith, end-is, blocks-are) }
 
-  in-covered : (j : ℕ) → Covers s i j → (firstBlock s i ≤ j) × (j < firstBlock s i + blocksIn s i)
+  pub in-covered : (j : ℕ) → Covers s i j → (firstBlock s i ≤ j) × (j < firstBlock s i + blocksIn s i)
   in-covered j c =
       (omega (arith, start-is, c .from), omega (arith, start-is, end-is, blocks-are, c .inside, c .from, c .upto))
 

@@ -40,6 +40,8 @@ pub mod FormedWhen
 pub mod HeldWhen
 pub mod Verdicts
 pub mod JudgedWhen
+-- marks over a history
+pub mod MarksSince
 pub mod ServedWhen
 pub mod AskedWhen
 pub mod RootAlone

@@ -46,13 +46,14 @@ module _ (s t : List ℕ) (f : Facts s) (e : cut t 0 (storeSize (fileLength s)) 
   unfolding blockThere
   there-beyond i = rw (facts-usable t (used-facts s t f e), facts-usable s f, used-same s t f e .blocks)
 
-  mark-used : (i : ℕ) → i < 2 ^ heightOf s → markedAt t i ≡ markedAt s i
+  -- a mark is the same in both,
+  pub mark-used : (i : ℕ) → i < 2 ^ heightOf s → markedAt t i ≡ markedAt s i
   unfolding markedAt
   mark-used i l =
       ap (λ (k : ℕ). eqb (getD t (k + i) 0) 1) start-used
       ∙ ap (λ (x : ℕ). eqb x 1) (same-byte s t f e (marksStart s + i) (omega (arith, marks-end s)))
 
-  -- marked in both or in neither,
+  -- and so is the answer about it,
   pub marked-beyond : (i : ℕ) → markedAnswer t i ≡ markedAnswer s i
   unfolding markedAnswer
   marked-beyond i =
