@@ -18,7 +18,7 @@ use Rattle.sha256.specs.Sha256.{sha256}
 use Rattle.tree.specs.Geometry.{height, blockCount, pieceLayer, pieceCount, blockSize, pieceSize}
 use Rattle.cells.specs.Entries.{oneIf}
 use Rattle.store.specs.Store.{usable, fileLength, pieceLength, blocksOf, heightOf, positions, storeSize, factsInRange, opened, openAnswer, openAfter, Facts, SameFacts}
-use Rattle.store.specs.StoreLaws.{facts-leaves, facts-usable, opened-facts, opened-file, usable-facts}
+use Rattle.store.specs.StoreLaws.{facts-leaves, facts-usable, opened-facts, opened-file, opened-zero, usable-facts}
 use Rattle.messages.specs.Take.{takeAfter}
 use Rattle.marks.specs.Marks.{marksStart, markedAt, marked, cleared, blockThere, clearAnswer, clearAfter, markedAnswer, firstBlock, blocksIn}
 use Rattle.marks.specs.MarksLaws.{marked-in, marked-out, marks-end, marks-start-some, there-fits, there-inside, there-says}
@@ -37,6 +37,8 @@ use Rattle.knowledge.specs.Beyond.{take-past, layer-past}
 use Rattle.knowledge.specs.MarksBeyond.{mark-used}
 use Rattle.knowledge.specs.Bitfield.{covered-in, in-covered, one-true}
 use Rattle.knowledge.specs.JudgedWhen.{block-0, piece-0}
+use Rattle.knowledge.specs.Invariant.{ours-opened}
+use Rattle.knowledge.specs.InTable.{refused-leaves}
 
 -- ---- one step
 
@@ -164,3 +166,191 @@ module _ {s : List ℕ} (f : Facts s) (none : (j : ℕ) → j < 2 ^ heightOf s �
   judged-marked {c} {u} l (last h x a z) = mark-after u (steps-grow f h .facts) j (small h l) c x .1 (inl (a, z))
   judged-marked l (before {t} {h} d x w k) = mark-after t (steps-grow f h .facts) j (small h l) d x .1 (inr (judged-marked l w, k))
   judged-marked l (behind {t} {h} v b e w) = mark-used t v (steps-grow f h .facts) (e .bytes) j (small h l) ∙ judged-marked l w
+
+  -- by the byte: marked exactly if judged right and not cleared after that
+  pub marks-since : {t : List ℕ} (h : Steps s t) → j < 2 ^ heightOf t → (markedAt t j ≡ true) ↔ JudgedRight j h
+  marks-since h l =
+      let k : j < 2 ^ heightOf s = rw (steps-grow f h .same .layers) at l in
+      (judged-from k h, λ r. judged-marked k (r .by))
+
+-- ---- the bytes that were judged
+
+-- the call that judged a block was given its data and answered 0,
+pub judged-answered : {j : ℕ} {c : Call} {u s t : List ℕ} {h : Steps s t} → JudgedBy j c u t h → Judges u j c × (number c u ≡ 0)
+judged-answered (last h x a z) = (a, z)
+judged-answered (before d x w k) = judged-answered w
+judged-answered (behind v b e w) = judged-answered w
+
+-- in bytes that the history came to,
+pub judged-history : {j : ℕ} {c : Call} {u s t : List ℕ} {h : Steps s t} → JudgedBy j c u t h → Steps s u
+judged-history (last h x a z) = h
+judged-history (before d x w k) = judged-history w
+judged-history (behind v b e w) = judged-history w
+
+-- and the store has only grown since
+pub judged-grown : {j : ℕ} {c : Call} {u s t : List ℕ} {h : Steps s t} → Facts s → JudgedBy j c u t h → Grown u t
+judged-grown {c = c} f (last h x a z) = grown-step (steps-grow f h .facts) (call c x)
+judged-grown f (before d x w k) = let g = judged-grown f w in grown-on g (grown-step (g .facts) (call d x))
+judged-grown f (behind v b e w) = let g = judged-grown f w in grown-on g (grown-step (g .facts) (lent v b e))
+
+-- the number 0 says that the bytes were right
+right-0 : (s : List ℕ) (j : ℕ) (c : Call) → Judges s j c → number c s ≡ 0 → RightFor s j c
+unfolding blockAnswer pieceAnswer
+right-0 s j (take m b) x z = absurd x
+right-0 s j (takeReject m b) x z = absurd x
+right-0 s j (serve m out b c) x z = absurd x
+right-0 s j (held l i) x z = absurd x
+right-0 s j (loadLayer d b) x z = absurd x
+right-0 s j (judgeBlock i d b) x z = let w = block-0 s i d .0 z in subst (λ (k : ℕ). RightFor s k (judgeBlock i d b)) x (asBlock d b (w .0) (w .1))
+right-0 s j (judgePiece i d b) x z = let w = piece-0 s i d .0 z in inPiece i d b x (w .0) (w .1 .w) (w .1 .held) (w .1 .gives)
+right-0 s j (clear i) x z = absurd x
+right-0 s j (isMarked i) x z = absurd x
+right-0 s j (bitfield out b) x z = absurd x
+right-0 s j (reopen n plen root o) x z = absurd x
+
+pub same-node : {s t : List ℕ} → SameFacts s t → pieceHeight t ≡ pieceHeight s
+unfolding pieceHeight layerOfPieces
+same-node e = rw (e .file, e .piece, e .layers)
+
+-- and they stay right for a store that holds at least as much
+right-grown : {s t : List ℕ} {j : ℕ} {c : Call} → Facts s → Grown s t → RightFor s j c → RightFor t j c
+right-grown {s} {t} {j} f g (asBlock block b w h) =
+    asBlock block b
+    (record { store = facts-usable t (g .facts); inside = rw (g .same .blocks) (w .inside); size = rw (g .same .file) (w .size) })
+    (grown-holds s t f g 0 j (sha256 block) h)
+right-grown {s} {t} {j} f g (inPiece i piece b cov w v h p) =
+    inPiece i piece b
+    (record { inside = rw (g .same .blocks) (cov .inside); from = rw (g .same .piece) (cov .from); upto = rw (g .same .piece) (cov .upto) })
+    (record { store = facts-usable t (g .facts); inside = rw (g .same .file, g .same .piece) (w .inside); size = rw (g .same .file, g .same .piece) (w .size) })
+    v
+    (rw (same-node (g .same)) (grown-holds s t f g (pieceHeight s) i v h))
+    (rw (same-node (g .same)) p)
+
+right-inside : {t : List ℕ} {j : ℕ} {c : Call} → RightFor t j c → j < blocksOf t
+right-inside (asBlock block b w h) = w .inside
+right-inside (inPiece i piece b cov w v h p) = cov .inside
+
+-- WHAT A MARK PROMISES: the bytes judged were right then,
+pub right-then : {j : ℕ} {c : Call} {u s t : List ℕ} {h : Steps s t} → JudgedBy j c u t h → RightFor u j c
+right-then {j} {c} {u} w = let a = judged-answered w in right-0 u j c (a .0) (a .1)
+
+-- and are right still
+pub right-still : {j : ℕ} {c : Call} {u s t : List ℕ} {h : Steps s t} → Facts s → JudgedBy j c u t h → RightFor t j c
+right-still f w = right-grown (steps-grow f (judged-history w) .facts) (judged-grown f w) (right-then w)
+
+-- ---- as kd_marked answers it
+
+number-there : (s : List ℕ) (j : ℕ) → markedAnswer s j .number ≡ blockThere s j
+unfolding markedAnswer
+number-there s j = refl
+
+answer-there : (s : List ℕ) (j : ℕ) → blockThere s j ≡ 0 → markedAnswer s j ≡ done (oneIf (markedAt s j))
+unfolding markedAnswer
+answer-there s j z = rw z
+
+-- a block is answered as marked exactly if the file has it and its mark is set
+pub marked-says : (s : List ℕ) → Facts s → (j : ℕ) → (markedAnswer s j ≡ done 1) ↔ ((j < blocksOf s) × (markedAt s j ≡ true))
+marked-says s f j = (
+  λ e.
+      let z : blockThere s j ≡ 0 = sym (number-there s j) ∙ ap (λ (a : Answer). a .number) e in
+      (there-says s j z .1, one-true (markedAt s j) (ap (λ (a : Answer). a .count) (sym (answer-there s j z) ∙ e))),
+  λ m. answer-there s j (sym (there-inside s j (facts-usable s f) (m .0))) ∙ ap (λ (x : Bool). done (oneIf x)) (m .1),
+)
+
+-- A MARK GOES BACK only by a clearing of its block and by an opening
+pub back-only : (s : List ℕ) → usable s ≡ true → (c : Call) (j : ℕ) → markedAnswer s j ≡ done 1 → (markedAnswer (after c s) j ≡ done 1 → ⊥)
+    → (Clears j c ⊎ Opening c) × (number c s ≡ 0)
+back-only s us c j m gone =
+    elim (ℕ-discrete (number c s) 0) [
+      | no ne ↦ absurd (gone (ap (λ (t : List ℕ). markedAnswer t j) (refused-leaves c s ne) ∙ m))
+      | yes z ↦ (by c gone, z)
+    ]
+  where
+    f : Facts s
+    f = usable-facts s us
+
+    w : (j < blocksOf s) × (markedAt s j ≡ true)
+    w = marked-says s f j .0 m
+
+    stays : (c : Call) → (Opening c → ⊥) → (Clears j c → ⊥) → markedAnswer (after c s) j ≡ done 1
+    stays c x y =
+        let g = grown-step f (call c (λ o z. x o)) in
+        marked-says (after c s) (g .facts) j .1
+        (rw (g .same .blocks) (w .0), mark-after s f j (omega (arith, w .0, facts-leaves s f)) c (λ o z. x o) .1 (inr (w .1, λ q z. y q)))
+
+    by : (c : Call) → (markedAnswer (after c s) j ≡ done 1 → ⊥) → Clears j c ⊎ Opening c
+    by (take a b) k = absurd (k (stays (take a b) (λ x. x) (λ x. x)))
+    by (takeReject a b) k = absurd (k (stays (takeReject a b) (λ x. x) (λ x. x)))
+    by (serve a out b d) k = absurd (k (stays (serve a out b d) (λ x. x) (λ x. x)))
+    by (held l i) k = absurd (k (stays (held l i) (λ x. x) (λ x. x)))
+    by (loadLayer d b) k = absurd (k (stays (loadLayer d b) (λ x. x) (λ x. x)))
+    by (judgeBlock i d b) k = absurd (k (stays (judgeBlock i d b) (λ x. x) (λ x. x)))
+    by (judgePiece i d b) k = absurd (k (stays (judgePiece i d b) (λ x. x) (λ x. x)))
+    by (clear i) k = elim (ℕ-discrete i j) [ yes q ↦ inl q | no ne ↦ absurd (k (stays (clear i) (λ x. x) ne)) ]
+    by (isMarked i) k = absurd (k (stays (isMarked i) (λ x. x) (λ x. x)))
+    by (bitfield out b) k = absurd (k (stays (bitfield out b) (λ x. x) (λ x. x)))
+    by (reopen n plen root o) k = inr tt
+
+-- ---- from the opening on
+
+-- a zero byte is no mark
+zero-unmarked : (s : List ℕ) (j : ℕ) → getD s (marksStart s + j) 0 ≡ 0 → markedAt s j ≡ false
+unfolding markedAt
+zero-unmarked s j e = ap (λ (x : ℕ). eqb x 1) e
+
+module _ (b : List ℕ) (n plen : ℕ) (root : List ℕ) (size : length root ≡ 32) (z : openAnswer b n plen .number ≡ 0) where
+  first : List ℕ
+  first = openAfter b n plen root
+
+  start : Facts first
+  unfolding first
+  start = ours-opened b n plen root size z .chained .facts
+
+  -- an opened store has no mark
+  unmarked : (j : ℕ) → j < 2 ^ heightOf first → markedAt first j ≡ false
+  unfolding first
+  unmarked j l = by (factsInRange n plen) (leb (storeSize n) (length b)) refl refl
+    where
+      by : (x y : Bool) → factsInRange n plen ≡ x → leb (storeSize n) (length b) ≡ y → markedAt (openAfter b n plen root) j ≡ false
+      by true true p q =
+          let fits = leb-true (storeSize n) (length b) q in
+          let e : openAfter b n plen root ≡ opened b n plen root = unfold openAfter in rw (p, q) in
+          let k : j < 2 ^ heightOf (opened b n plen root) = rw e at l in
+          let d : storeSize (fileLength (opened b n plen root)) ≡ storeSize n = ap storeSize (opened-file b n plen root p fits size) in
+          let v = opened-zero b n plen root p fits size (marksStart (opened b n plen root) + j) (omega (arith, marks-start-some (opened b n plen root))) (omega (arith, marks-end (opened b n plen root))) in
+          rw e (zero-unmarked (opened b n plen root) j v)
+      by true false p q = let w : ⊥ = unfold openAnswer in omega (arith, rw (p, q) at z) in absurd w
+      by false y p q = let w : ⊥ = unfold openAnswer in omega (arith, rw p at z) in absurd w
+
+  module _ {t : List ℕ} (h : Steps (openAfter b n plen root) t) (j : ℕ) where
+    there : Facts t
+    unfolding first
+    there = steps-grow start h .facts
+
+    -- MARKED EXACTLY IF since the opening the block, or a piece that covers it, was answered 0, and it was not cleared after that
+    pub marked-exactly : (markedAnswer t j ≡ done 1) ↔ JudgedRight j h
+    unfolding first
+    marked-exactly = (
+      λ m.
+          let w = marked-says t there j .0 m in
+          marks-since start unmarked j h (omega (arith, w .0, facts-leaves t there)) .0 (w .1),
+      λ r.
+          let l = right-inside (right-still start (r .by)) in
+          marked-says t there j .1 (l, marks-since start unmarked j h (omega (arith, l, facts-leaves t there)) .1 r),
+    )
+
+    -- the byte of a block past the file's is never set
+    pub past-never : blocksOf t ≤ j → j < 2 ^ heightOf t → markedAt t j ≡ false
+    unfolding first
+    past-never a l = by (markedAt t j) refl
+      where
+        by : (x : Bool) → markedAt t j ≡ x → markedAt t j ≡ false
+        by false e = e
+        by true e =
+            let r = marks-since start unmarked j h l .0 e in
+            let i = right-inside (right-still start (r .by)) in
+            absurd (omega arith)
+
+    pub right-now : {c : Call} {u : List ℕ} → JudgedBy j c u t h → RightFor t j c
+    unfolding first
+    right-now = right-still start

@@ -574,6 +574,14 @@ module _ (s : List ℕ) (n plen : ℕ) (root : List ℕ) (ok : factsInRange n pl
   unfolding opened bare named
   opened-hash = hash-put-same bare (positions (height (blockCount n))) 1 bare-room two root size
 
+  -- every byte behind the root's cell is zero, up to the store's size
+  pub opened-zero : (i : ℕ) → 97 ≤ i → i < storeSize n → getD (opened s n plen root) i 0 ≡ 0
+  unfolding opened bare named
+  opened-zero i a l =
+      put-outside bare (positions (height (blockCount n))) 1 bare-room two root size i (λ c. omega arith)
+      ∙ bare-past i (omega arith)
+      ∙ zeroed-at s (storeSize n) i l
+
   -- bytes past the store's size stay
   pub opened-past : (i : ℕ) → storeSize n ≤ i → getD (opened s n plen root) i 0 ≡ getD s i 0
   unfolding opened bare named
