@@ -9,7 +9,7 @@ use native.Mathlib.Nat.{mul-assoc}
 use native.Mathlib.Omega.{arith}
 use lib.ListN.{getD}
 use lib.Dec.{ltb}
-use borrow.Author.Tests.{lt-ltb}
+use borrow.Author.Tests.{le-ltb, lt-ltb}
 use Rattle.tree.specs.Geometry.{blockLength, ceilDiv, pieceLayer, pieceCount}
 use Rattle.tree.specs.GeometryLaws.{below-ceil, piece-length-form}
 use Rattle.cells.specs.Entries.{oneIf}
@@ -39,19 +39,28 @@ one-true false e = let w : ⊥ = omega (arith, e) in absurd w
 times-out : (p e i : ℕ) → p ≡ blockLength * e → p * i ≡ blockLength * (e * i)
 times-out p e i q = ap (λ (x : ℕ). x * i) q ∙ mul-assoc blockLength e i
 
+-- the bit of piece i in a bitfield that has its byte
+pub bit-at : (s : List ℕ) (i : ℕ) → i / 8 < fieldSize s → pieceBit (fieldBytes s (fieldSize s)) i ≡ oneIf (pieceMarked s i)
+bit-at s i l =
+    let e : suc (i % 8) + (7 - i % 8) ≡ 8 = omega arith in
+    let q : 8 * (i / 8) + i % 8 ≡ i = omega arith in
+    ap (bitOf (7 - i % 8)) (field-byte-at s (fieldSize s) (i / 8) l ∙ ap (fieldBits s (8 * (i / 8))) (sym e))
+    ∙ field-bit s (8 * (i / 8)) (i % 8) (7 - i % 8)
+    ∙ ap (λ (k : ℕ). oneIf (pieceMarked s k)) q
+
+-- past the file's pieces it is zero
+pub spare-unmarked : (s : List ℕ) (i : ℕ) → pieceCount (fileLength s) (pieceLength s) ≤ i → oneIf (pieceMarked s i) ≡ 0
+unfolding pieceMarked
+spare-unmarked s i l = rw (le-ltb i (pieceCount (fileLength s) (pieceLength s)) l)
+
 module _ (s : List ℕ) (f : Facts s) (i : ℕ) (b : i < pieceCount (fileLength s) (pieceLength s)) where
-  byte-there : i / 8 < fieldSize s
+  -- a piece of the file has its byte
+  pub byte-there : i / 8 < fieldSize s
   unfolding fieldSize
   byte-there = below-ceil (pieceCount (fileLength s) (pieceLength s)) 8 (i / 8) (omega arith) (omega arith)
 
-  -- the bit of a piece of the file
-  pub bit-is : pieceBit (fieldBytes s (fieldSize s)) i ≡ oneIf (pieceMarked s i)
-  bit-is =
-      let e : suc (i % 8) + (7 - i % 8) ≡ 8 = omega arith in
-      let q : 8 * (i / 8) + i % 8 ≡ i = omega arith in
-      ap (bitOf (7 - i % 8)) (field-byte-at s (fieldSize s) (i / 8) byte-there ∙ ap (fieldBits s (8 * (i / 8))) (sym e))
-      ∙ field-bit s (8 * (i / 8)) (i % 8) (7 - i % 8)
-      ∙ ap (λ (k : ℕ). oneIf (pieceMarked s k)) q
+  bit-is : pieceBit (fieldBytes s (fieldSize s)) i ≡ oneIf (pieceMarked s i)
+  bit-is = bit-at s i byte-there
 
   length-is : pieceLength s ≡ blockLength * eachPiece s
   unfolding eachPiece

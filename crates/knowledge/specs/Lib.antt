@@ -42,6 +42,7 @@ pub mod Verdicts
 pub mod JudgedWhen
 -- marks over a history
 pub mod MarksSince
+pub mod MarkedWhen
 pub mod ServedWhen
 pub mod AskedWhen
 pub mod RootAlone
