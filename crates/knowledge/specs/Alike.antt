@@ -7,12 +7,25 @@ use mathlib.Core.List.{List}
 use Prim.Native.Nat.{ℕ, _+_, _*_, _≤_, _<_}
 use native.Mathlib.Omega.{arith}
 use lib.ListN.{length, getD}
+use lib.Seq.{ext-getD}
 use lib.Dec.{eqb}
 use Rattle.octets.specs.Octets.{cut}
-use Rattle.octets.specs.OctetsLaws.{cut-cut, getD-cut}
+use Rattle.octets.specs.OctetsLaws.{cut-cut, cut-length, getD-cut}
 use Rattle.cells.specs.Cells.{heldAt, hashAt}
 use Rattle.store.specs.Store.{fileLength, heightOf, positions, storeSize, Facts, SameFacts, factBytes}
 use Rattle.store.specs.StoreLaws.{own-cells, positions-some, same-facts, facts-same}
+
+-- two lists with the same first n bytes
+pub same-front : (s t : List ℕ) (n : ℕ) → n ≤ length s → n ≤ length t → ((j : ℕ) → j < n → getD t j 0 ≡ getD s j 0) → cut t 0 n ≡ cut s 0 n
+same-front s t n ls lt g =
+    let es = cut-length s 0 n (omega arith) in
+    let et = cut-length t 0 n (omega arith) in
+    ext-getD 0 (cut t 0 n) (cut s 0 n) (et ∙ sym es)
+    (λ j l.
+    let b : j < n = omega arith in
+    let z : 0 + j ≡ j = omega arith in
+    let k : (u : List ℕ) → getD (cut u 0 n) j 0 ≡ getD u j 0 = λ u. getD-cut u 0 n j b ∙ ap (λ (x : ℕ). getD u x 0) z in
+    k t ∙ g j b ∙ sym (k s))
 
 -- t names the facts of s, is usable, and has its cells
 pub record Alike (s t : List ℕ) : Type 0 where

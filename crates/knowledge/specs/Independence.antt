@@ -1,5 +1,5 @@
 -- Marks decide nothing about hashes: two stores that differ in marks only get the same answers from every call about hashes, send the same
--- bytes, and are left with the same cells.
+-- bytes, and are left with the same cells, so that they differ in marks only again.
 -- Assumes nothing.
 use mathlib.Core.Path.{_≡_, refl, ap, sym, _∙_}
 use mathlib.Core.Bool.{Bool, true, false}
@@ -13,18 +13,19 @@ use Rattle.numbers.specs.declared.Answer.{Answer}
 use Rattle.sha256.specs.declared.Hashed.{Hashed}
 use Rattle.tree.specs.Geometry.{nodeNumber}
 use Rattle.cells.specs.Cells.{heldAt, hashAt}
-use Rattle.store.specs.Store.{usable, heightOf, positions, inTree, heldAnswer, Facts}
+use Rattle.store.specs.Store.{usable, fileLength, heightOf, positions, storeSize, inTree, heldAnswer, Facts, SameFacts}
 use Rattle.store.specs.StoreLaws.{usable-facts, facts-usable, tree-number, held-outside, held-not, held-given}
 use Rattle.messages.specs.Take.{takeAfter}
 use Rattle.serve.specs.Serve.{serveAfter}
 use Rattle.marks.specs.Marks.{marked, marksStart, marksPut, firstBlock, blocksIn}
-use Rattle.marks.specs.MarksLaws.{marks-before}
+use Rattle.marks.specs.MarksLaws.{mark-in, marks-before, marks-end}
 use Rattle.pieces.specs.Pieces.{layerAfter, blockNumber, blockAnswer, blockAfter, pieceNumber, pieceAnswer, pieceAfter}
 use Rattle.pieces.specs.PiecesLaws.{block-right, piece-right}
 use Rattle.pieces.specs.MarkedLaws.{block-fits, block-marks, block-stays, piece-fits, piece-marks, piece-stays}
-use Rattle.words.specs.History.{Call, take, takeReject, serve, held, loadLayer, judgeBlock, judgePiece, clear, isMarked, bitfield, reopen, answer, after}
+use Rattle.words.specs.History.{Call, take, takeReject, serve, held, loadLayer, judgeBlock, judgePiece, clear, isMarked, bitfield, reopen, answer, after, Opening, call, begin, next}
 use Rattle.words.specs.Marks.{SameButMarks, AboutHashes}
-use Rattle.knowledge.specs.Alike.{Alike, alike-cells}
+use Rattle.knowledge.specs.Grows.{Grown, steps-grow}
+use Rattle.knowledge.specs.Alike.{Alike, alike-cells, same-front}
 use Rattle.knowledge.specs.Beyond.{take-answer-beyond, reject-beyond, serve-beyond, layer-answer-beyond, block-beyond, piece-beyond, take-leaves-alike, layer-leaves-alike}
 
 -- judging changes no byte before the marks
@@ -128,3 +129,41 @@ module _ (s t : List ℕ) (S : SameButMarks s t) where
   cells-left (isMarked i) x j l = absurd x
   cells-left (bitfield out b) x j l = absurd x
   cells-left (reopen n plen root o) x j l = absurd x
+
+  other : (c : Call) → AboutHashes c → Opening c → ⊥
+  other (take m b) x o = o
+  other (takeReject m b) x o = o
+  other (serve m out b c) x o = o
+  other (held q i) x o = o
+  other (loadLayer d b) x o = o
+  other (judgeBlock i d b) x o = o
+  other (judgePiece i d b) x o = o
+  other (clear i) x o = o
+  other (isMarked i) x o = o
+  other (bitfield out b) x o = o
+  other (reopen n plen root r) x o = x
+
+  grown-call : (c : Call) → AboutHashes c → {u : List ℕ} → Facts u → Grown u (after c u)
+  grown-call c x f = steps-grow f (next begin (call c (λ o z. other c x o)))
+
+  -- so they differ in marks only again
+  pub still-same : (c : Call) → AboutHashes c → SameButMarks (after c s) (after c t)
+  still-same c x =
+      let g = grown-call c x f in
+      let k = grown-call c x (e .facts) in
+      let n : fileLength (after c t) ≡ fileLength (after c s) = k .same .file ∙ e .same .file ∙ sym (g .same .file) in
+      let q : storeSize (fileLength (after c t)) ≡ storeSize (fileLength (after c s)) = ap storeSize n in
+      let m = start-kept (after c s) (g .same) in
+      let a = mark-in (after c s) (g .facts) in
+      let d = marks-end (after c s) in
+      let room : storeSize (fileLength (after c s)) ≤ length (after c t) = let r = k .facts .size in omega arith in
+      record {
+        store = facts-usable (after c s) (g .facts);
+        room = room;
+        bytes =
+            same-front (after c s) (after c t) (marksStart (after c s)) (omega arith) (omega arith)
+            (λ j l. cells-left c x j (omega arith));
+      }
+    where
+      start-kept : (u : List ℕ) → SameFacts s u → marksStart u ≡ marksStart s
+      start-kept u w = unfold marksStart in ap (λ (h : ℕ). 31 + 33 * positions h) (w .layers)

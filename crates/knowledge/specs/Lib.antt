@@ -60,6 +60,7 @@ pub mod PieceIsTheFiles
 pub mod TrueMessage
 pub mod TrueLayer
 pub mod Known
+pub mod MarkedIsTheFiles
 -- refusals, the table, the cases worked by hand
 pub mod Refusals
 pub mod InTable

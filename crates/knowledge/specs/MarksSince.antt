@@ -257,6 +257,33 @@ marked-says s f j = (
   λ m. answer-there s j (sym (there-inside s j (facts-usable s f) (m .0))) ∙ ap (λ (x : Bool). done (oneIf x)) (m .1),
 )
 
+-- AFTER A CALL a block is marked exactly if the call judged it right, or it was marked and the call did not clear it: of any usable store
+pub after-call : (s : List ℕ) → usable s ≡ true → (c : Call) → (Opening c → number c s ≡ 0 → ⊥) → (j : ℕ)
+    → (markedAnswer (after c s) j ≡ done 1) ↔ ((Judges s j c × (number c s ≡ 0)) ⊎ ((markedAnswer s j ≡ done 1) × (Clears j c → number c s ≡ 0 → ⊥)))
+after-call s us c x j = (to, from)
+  where
+    f : Facts s
+    f = usable-facts s us
+
+    g : Grown s (after c s)
+    g = grown-step f (call c x)
+
+    kept : j < blocksOf s → markedAt (after c s) j ≡ true → markedAnswer (after c s) j ≡ done 1
+    kept l m = marked-says (after c s) (g .facts) j .1 (rw (g .same .blocks) l, m)
+
+    step : j < blocksOf s → MarkAfter c s j
+    step l = mark-after s f j (omega (arith, facts-leaves s f)) c x
+
+    to : markedAnswer (after c s) j ≡ done 1 → (Judges s j c × (number c s ≡ 0)) ⊎ ((markedAnswer s j ≡ done 1) × (Clears j c → number c s ≡ 0 → ⊥))
+    to m =
+        let w = marked-says (after c s) (g .facts) j .0 m in
+        let l : j < blocksOf s = rw (g .same .blocks) at (w .0) in
+        elim (step l .0 (w .1)) [ inl y ↦ inl y | inr y ↦ inr (marked-says s f j .1 (l, y .0), y .1) ]
+
+    from : (Judges s j c × (number c s ≡ 0)) ⊎ ((markedAnswer s j ≡ done 1) × (Clears j c → number c s ≡ 0 → ⊥)) → markedAnswer (after c s) j ≡ done 1
+    from (inl y) = let l = right-inside (right-0 s j c (y .0) (y .1)) in kept l (step l .1 (inl y))
+    from (inr y) = let w = marked-says s f j .0 (y .0) in kept (w .0) (step (w .0) .1 (inr (w .1, y .1)))
+
 -- A MARK GOES BACK only by a clearing of its block and by an opening
 pub back-only : (s : List ℕ) → usable s ≡ true → (c : Call) (j : ℕ) → markedAnswer s j ≡ done 1 → (markedAnswer (after c s) j ≡ done 1 → ⊥)
     → (Clears j c ⊎ Opening c) × (number c s ≡ 0)
@@ -266,17 +293,8 @@ back-only s us c j m gone =
       | yes z ↦ (by c gone, z)
     ]
   where
-    f : Facts s
-    f = usable-facts s us
-
-    w : (j < blocksOf s) × (markedAt s j ≡ true)
-    w = marked-says s f j .0 m
-
     stays : (c : Call) → (Opening c → ⊥) → (Clears j c → ⊥) → markedAnswer (after c s) j ≡ done 1
-    stays c x y =
-        let g = grown-step f (call c (λ o z. x o)) in
-        marked-says (after c s) (g .facts) j .1
-        (rw (g .same .blocks) (w .0), mark-after s f j (omega (arith, w .0, facts-leaves s f)) c (λ o z. x o) .1 (inr (w .1, λ q z. y q)))
+    stays c x y = after-call s us c (λ o z. x o) j .1 (inr (m, λ q z. y q))
 
     by : (c : Call) → (markedAnswer (after c s) j ≡ done 1 → ⊥) → Clears j c ⊎ Opening c
     by (take a b) k = absurd (k (stays (take a b) (λ x. x) (λ x. x)))

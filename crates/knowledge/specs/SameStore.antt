@@ -9,9 +9,6 @@ use Prim.Native.Nat.{ℕ, _+_, _*_, _^_, _≤_, _<_}
 use native.Mathlib.Omega.{arith}
 use native.Mathlib.Decide.{ℕ-discrete, decLt}
 use lib.ListN.{length, getD}
-use lib.Seq.{ext-getD}
-use Rattle.octets.specs.Octets.{cut}
-use Rattle.octets.specs.OctetsLaws.{cut-length, getD-cut}
 use Rattle.numbers.specs.declared.Answer.{Answer}
 use Rattle.sha256.specs.declared.Hashed.{Hashed}
 use Rattle.store.specs.Store.{usable, fileLength, heightOf, positions, storeSize, Facts}
@@ -27,7 +24,7 @@ use Rattle.knowledge.specs.Through.{clear-writes, clear-stays}
 use Rattle.words.specs.History.{Call, take, takeReject, serve, held, loadLayer, judgeBlock, judgePiece, clear, isMarked, bitfield, reopen, answer, after, Opening, SameStore}
 use Rattle.knowledge.specs.BytesLeft.{SameCells}
 use Rattle.knowledge.specs.Grows.{Grown, grown-take, grown-layer}
-use Rattle.knowledge.specs.Alike.{alike, same-byte}
+use Rattle.knowledge.specs.Alike.{alike, same-byte, same-front}
 use Rattle.knowledge.specs.Beyond.{take-answer-beyond, reject-beyond, serve-beyond, layer-answer-beyond, block-beyond, piece-beyond, take-leaves-alike, layer-leaves-alike, take-past, layer-past}
 use Rattle.knowledge.specs.RootAlone.{usable-exactly}
 
@@ -38,17 +35,7 @@ same-by-bytes s t us ut n f =
     let a : storeSize (fileLength s) ≤ length s = usable-exactly s .0 us .1 in
     let b : storeSize (fileLength t) ≤ length t = usable-exactly t .0 ut .1 in
     let q : storeSize (fileLength t) ≡ storeSize (fileLength s) = ap storeSize n in
-    let ls = cut-length s 0 (storeSize (fileLength s)) (omega arith) in
-    let lt = cut-length t 0 (storeSize (fileLength s)) (omega arith) in
-    record {
-      store = us;
-      bytes = ext-getD 0 (cut t 0 (storeSize (fileLength s))) (cut s 0 (storeSize (fileLength s))) (lt ∙ sym ls)
-          (λ i l.
-          let c : i < storeSize (fileLength s) = omega arith in
-          let z : 0 + i ≡ i = omega arith in
-          let g : (u : List ℕ) → getD (cut u 0 (storeSize (fileLength s))) i 0 ≡ getD u i 0 = λ u. getD-cut u 0 (storeSize (fileLength s)) i c ∙ ap (λ (x : ℕ). getD u x 0) z in
-          g t ∙ f i c ∙ sym (g s));
-    }
+    record { store = us; bytes = same-front s t (storeSize (fileLength s)) a (omega arith) f }
 
 -- what a call that writes cells alone leaves of one store in two memories is one store
 module _ (s t s₁ t₁ : List ℕ) (S : SameStore s t) (gs : Grown s s₁) (gt : Grown t t₁) (cells : SameCells (positions (heightOf s)) s₁ t₁)
