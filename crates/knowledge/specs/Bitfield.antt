@@ -1,16 +1,14 @@
 -- The bitfield's bit of a piece is set exactly if all blocks that the piece covers are marked.
 -- Assumes nothing.
 use mathlib.Core.Path.{_≡_, refl, ap, sym, _∙_}
-use mathlib.Core.Bool.{Bool, true, false, _&&_}
+use mathlib.Core.Bool.{Bool, true, false}
 use mathlib.Core.List.{List}
 use mathlib.Core.Logic.{_↔_}
-use Prim.Native.Nat.{ℕ, zero, suc, _+_, _-_, _*_, _/_, _%_, _^_, _≤_, _<_, min}
+use Prim.Native.Nat.{ℕ, zero, suc, _+_, _-_, _*_, _/_, _%_, _≤_, _<_, min}
 use native.Mathlib.Nat.{mul-assoc}
 use native.Mathlib.Omega.{arith}
-use lib.ListN.{getD}
-use lib.Dec.{ltb}
 use borrow.Author.Tests.{le-ltb, lt-ltb}
-use Rattle.tree.specs.Geometry.{blockLength, ceilDiv, pieceLayer, pieceCount}
+use Rattle.tree.specs.Geometry.{blockLength, pieceCount}
 use Rattle.tree.specs.GeometryLaws.{below-ceil, piece-length-form}
 use Rattle.cells.specs.Entries.{oneIf}
 use Rattle.store.specs.Store.{fileLength, pieceLength, blocksOf, Facts}

@@ -5,7 +5,7 @@ use mathlib.Core.Path.{_≡_, refl, ap, sym, _∙_}
 use mathlib.Core.Bool.{Bool, true, false}
 use mathlib.Core.List.{List}
 use mathlib.Core.Logic.{inl, inr}
-use Prim.Native.Nat.{ℕ, _+_, _*_, _^_, _≤_, _<_}
+use Prim.Native.Nat.{ℕ, _+_, _*_, _≤_, _<_}
 use native.Mathlib.Omega.{arith}
 use native.Mathlib.Decide.{ℕ-discrete}
 use lib.ListN.{length, getD}
@@ -17,7 +17,7 @@ use Rattle.store.specs.Store.{usable, fileLength, heightOf, positions, storeSiz
 use Rattle.store.specs.StoreLaws.{usable-facts, facts-usable, tree-number, held-outside, held-not, held-given}
 use Rattle.messages.specs.Take.{takeAfter}
 use Rattle.serve.specs.Serve.{serveAfter}
-use Rattle.marks.specs.Marks.{marked, marksStart, marksPut, firstBlock, blocksIn}
+use Rattle.marks.specs.Marks.{marked, marksStart, firstBlock, blocksIn}
 use Rattle.marks.specs.MarksLaws.{mark-in, marks-before, marks-end}
 use Rattle.pieces.specs.Pieces.{layerAfter, blockNumber, blockAnswer, blockAfter, pieceNumber, pieceAnswer, pieceAfter}
 use Rattle.pieces.specs.PiecesLaws.{block-right, piece-right}

@@ -1,26 +1,26 @@
 -- What kd_clear, kd_marked and kd_bitfield answer, each number exactly when; and what kd_bitfield leaves in its output.
 -- Assumes nothing.
 use mathlib.Core.Path.{_≡_, refl, ap, sym, _∙_}
-use mathlib.Core.Bool.{Bool, true, false, cond}
+use mathlib.Core.Bool.{Bool, true, false}
 use mathlib.Core.List.{List}
 use mathlib.Core.Logic.{_↔_}
 use Prim.Native.Nat.{ℕ, _+_, _-_, _*_, _/_, _%_, _≤_, _<_}
 use native.Mathlib.Omega.{arith}
 use native.Mathlib.Decide.{decLe}
 use lib.ListN.{length, getD}
-use lib.Dec.{ltb, leb}
-use borrow.Author.Tests.{le-leb, le-ltb, leb-true, lt-leb, lt-ltb, ltb-false, ltb-true}
+use lib.Dec.{ltb}
+use borrow.Author.Tests.{le-ltb, ltb-false}
 use Rattle.octets.specs.Octets.{pasted}
 use Rattle.octets.specs.OctetsLaws.{getD-pasted-in, getD-pasted-after, pasted-length}
 use Rattle.numbers.specs.Numbers.{refused, done, ruleBroken, unusable, noRoom}
 use Rattle.numbers.specs.declared.Answer.{Answer}
 use Rattle.tree.specs.Geometry.{pieceCount}
-use Rattle.store.specs.Store.{usable, fileLength, pieceLength, blocksOf, Facts}
+use Rattle.store.specs.Store.{usable, fileLength, pieceLength, blocksOf}
 use Rattle.store.specs.StoreLaws.{usable-facts}
-use Rattle.marks.specs.Marks.{blockThere, markedAt, markedAnswer, pieceMarked, fieldBytes, fieldSize, fieldAnswer, fieldAfter}
-use Rattle.marks.specs.MarksLaws.{field-done, field-length, field-short, field-unusable, there-inside, there-outside, there-says, there-unusable}
+use Rattle.marks.specs.Marks.{blockThere, markedAnswer, fieldBytes, fieldSize, fieldAnswer, fieldAfter}
+use Rattle.marks.specs.MarksLaws.{field-done, field-length, field-short, field-unusable, there-inside, there-says}
 use Rattle.words.specs.Marks.{Covers, bitOf, pieceBit}
-use Rattle.knowledge.specs.Tests.{gated-9, gated-3, either, not-both}
+use Rattle.knowledge.specs.Tests.{gated-9, gated-3}
 use Rattle.knowledge.specs.Bitfield.{bit-at, bit-exactly, spare-unmarked}
 use Rattle.knowledge.specs.MarksSince.{marked-says}
 

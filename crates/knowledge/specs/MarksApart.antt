@@ -5,7 +5,7 @@ use mathlib.Core.List.{List}
 use mathlib.Core.Logic.{inl}
 use Prim.Native.Nat.{ℕ, _+_, _*_, _^_, _≤_, _<_}
 use native.Mathlib.Omega.{arith}
-use lib.ListN.{length, replicate, length-replicate}
+use lib.ListN.{replicate, length-replicate}
 use lib.Dec.{eqb}
 use Rattle.octets.specs.OctetsLaws.{cut-pasted-other}
 use Rattle.cells.specs.Cells.{heldAt, hashAt}

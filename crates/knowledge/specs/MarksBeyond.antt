@@ -2,20 +2,18 @@
 -- same marks written into both leave the same store.
 -- Assumes nothing.
 use mathlib.Core.Path.{_≡_, refl, ap, ap₂, sym, _∙_}
-use mathlib.Core.Bool.{Bool, true, false, cond, _&&_}
-use mathlib.Core.List.{List, [], _∷_, _++_}
+use mathlib.Core.Bool.{Bool, true, false, _&&_}
+use mathlib.Core.List.{List}
 use Prim.Native.Nat.{ℕ, zero, suc, _+_, _-_, _*_, _^_, _≤_, _<_, min}
 use native.Mathlib.Omega.{arith}
 use native.Mathlib.Decide.{ℕ-discrete, decLt}
 use lib.ListN.{length, getD, replicate, length-replicate}
-use lib.Dec.{eqb, ltb, leb}
+use lib.Dec.{eqb, ltb}
 use borrow.Author.Tests.{ltb-true, ne-eqb}
 use Rattle.octets.specs.Octets.{cut, pasted}
 use Rattle.octets.specs.OctetsLaws.{getD-pasted-before, getD-pasted-in, getD-pasted-after}
-use Rattle.numbers.specs.declared.Answer.{Answer}
 use Rattle.tree.specs.Geometry.{pieceLayer, pieceCount, ceilDiv}
-use Rattle.cells.specs.Entries.{oneIf}
-use Rattle.store.specs.Store.{usable, fileLength, pieceLength, blocksOf, heightOf, positions, storeSize, Facts}
+use Rattle.store.specs.Store.{fileLength, pieceLength, heightOf, positions, storeSize, Facts}
 use Rattle.store.specs.StoreLaws.{facts-usable, used-same, used-facts}
 use Rattle.marks.specs.Marks.{marksStart, markedAt, marksPut, blockThere, markedAnswer, eachPiece, firstBlock, blocksIn, allMarked, pieceMarked, fieldBits, fieldBytes, fieldSize, fieldAnswer, fieldAfter}
 use Rattle.marks.specs.MarksLaws.{marks-end, mark-in, there-fits, covered-fits}

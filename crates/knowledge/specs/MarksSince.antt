@@ -10,27 +10,23 @@ use native.Mathlib.Omega.{arith}
 use native.Mathlib.Decide.{ℕ-discrete, decLe, decLt}
 use lib.ListN.{length, getD}
 use lib.Dec.{eqb, leb}
-use borrow.Author.Tests.{leb-true, ne-eqb}
-use Rattle.octets.specs.Octets.{Octets}
+use borrow.Author.Tests.{leb-true}
 use Rattle.numbers.specs.Numbers.{done}
 use Rattle.numbers.specs.declared.Answer.{Answer}
 use Rattle.sha256.specs.Sha256.{sha256}
-use Rattle.tree.specs.Geometry.{height, blockCount, pieceLayer, pieceCount, blockSize, pieceSize}
 use Rattle.cells.specs.Entries.{oneIf}
-use Rattle.store.specs.Store.{usable, fileLength, pieceLength, blocksOf, heightOf, positions, storeSize, factsInRange, opened, openAnswer, openAfter, Facts, SameFacts}
-use Rattle.store.specs.StoreLaws.{facts-leaves, facts-usable, opened-facts, opened-file, opened-zero, usable-facts}
+use Rattle.store.specs.Store.{usable, fileLength, blocksOf, heightOf, positions, storeSize, factsInRange, opened, openAnswer, openAfter, Facts, SameFacts}
+use Rattle.store.specs.StoreLaws.{facts-leaves, facts-usable, opened-file, opened-zero, usable-facts}
 use Rattle.messages.specs.Take.{takeAfter}
-use Rattle.marks.specs.Marks.{marksStart, markedAt, marked, cleared, blockThere, clearAnswer, clearAfter, markedAnswer, firstBlock, blocksIn}
+use Rattle.marks.specs.Marks.{marksStart, markedAt, marked, cleared, blockThere, clearAnswer, markedAnswer, firstBlock, blocksIn}
 use Rattle.marks.specs.MarksLaws.{marked-in, marked-out, marks-end, marks-start-some, there-fits, there-inside, there-says}
-use Rattle.pieces.specs.Pieces.{layerOfPieces, layerAfter, blockNumber, blockAnswer, blockAfter, pieceHeight, pieceNumber, pieceAnswer, pieceAfter}
+use Rattle.pieces.specs.Pieces.{layerOfPieces, layerAfter, blockNumber, blockAnswer, pieceHeight, pieceNumber, pieceAnswer}
 use Rattle.pieces.specs.PiecesLaws.{piece-right}
 use Rattle.pieces.specs.MarkedLaws.{block-fits, block-marks, block-stays, piece-fits, piece-marks, piece-stays}
-use Rattle.words.specs.Held.{Holds}
-use Rattle.words.specs.Pieces.{BlockFormed, PieceFormed, PieceSettles}
-use Rattle.words.specs.History.{Bytes, Call, take, takeReject, serve, held, loadLayer, judgeBlock, judgePiece, clear, isMarked, bitfield, reopen, number, after, Opening, SameStore, Step, call, lent, Steps, begin, next}
-use Rattle.words.specs.Marks.{Covers, Judges, Clears, JudgedBy, last, before, behind, JudgedRight, RightFor, asBlock, inPiece}
+use Rattle.words.specs.History.{Bytes, Call, take, takeReject, serve, held, loadLayer, judgeBlock, judgePiece, clear, isMarked, bitfield, reopen, number, after, Opening, Step, call, lent, Steps, begin, next}
+use Rattle.words.specs.Marks.{Judges, Clears, JudgedBy, last, before, behind, JudgedRight, RightFor, asBlock, inPiece}
 use Rattle.knowledge.specs.Through.{clear-writes, clear-stays, reopen-refused}
-use Rattle.knowledge.specs.Grows.{Grown, grown-same, grown-on, grown-take, grown-layer, steps-grow}
+use Rattle.knowledge.specs.Grows.{Grown, grown-on, grown-take, grown-layer, steps-grow}
 use Rattle.knowledge.specs.Again.{grown-holds}
 use Rattle.knowledge.specs.Alike.{alike}
 use Rattle.knowledge.specs.Beyond.{take-past, layer-past}

@@ -17,7 +17,7 @@ use Rattle.messages.specs.Take.{takeAfter}
 use Rattle.serve.specs.Serve.{serveAfter}
 use Rattle.pieces.specs.Pieces.{layerAfter, blockNumber, blockAnswer, blockAfter, pieceNumber, pieceAnswer, pieceAfter}
 use Rattle.pieces.specs.MarkedLaws.{block-fits, block-marks, block-stays, piece-fits, piece-marks, piece-stays}
-use Rattle.marks.specs.Marks.{marked, cleared, marksStart, marksPut, blockThere, clearAnswer, clearAfter, firstBlock, blocksIn, fieldAfter}
+use Rattle.marks.specs.Marks.{marked, cleared, marksPut, blockThere, clearAnswer, clearAfter, firstBlock, blocksIn}
 use Rattle.marks.specs.MarksLaws.{marks-behind, marks-end, marks-facts, marks-same-facts, there-fits}
 use Rattle.knowledge.specs.MarksBeyond.{there-beyond, marked-beyond, field-beyond, covered-beyond, marks-beyond}
 use Rattle.knowledge.specs.Through.{clear-writes, clear-stays}

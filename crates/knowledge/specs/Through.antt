@@ -14,7 +14,7 @@ use Rattle.messages.specs.Take.{takeAfter}
 use Rattle.store.specs.StoreLaws.{usable-facts}
 use Rattle.marks.specs.Marks.{marked, cleared, marksPut, blockThere, clearAfter, firstBlock, blocksIn}
 use Rattle.marks.specs.MarksLaws.{there-says, there-fits}
-use Rattle.pieces.specs.Pieces.{layerAfter, blockNumber, blockAfter, pieceNumber, pieceAfter}
+use Rattle.pieces.specs.Pieces.{layerAfter, blockNumber, pieceNumber}
 use Rattle.pieces.specs.PiecesLaws.{block-right, piece-right}
 use Rattle.pieces.specs.MarkedLaws.{block-fits, block-marks, block-stays, piece-fits, piece-marks, piece-stays}
 use Rattle.words.specs.History.{Bytes, Call, take, takeReject, serve, held, loadLayer, judgeBlock, judgePiece, clear, isMarked, bitfield, reopen, number, after, Opening, SameStore, Step, call, lent, Steps, begin, next}

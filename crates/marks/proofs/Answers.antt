@@ -1,13 +1,13 @@
 -- What each function answers, from what its callees ensure and the tests it took.
 -- Assumes nothing.
-use mathlib.Core.Path.{_≡_, refl, ap, ap₂, sym, _∙_}
+use mathlib.Core.Path.{_≡_, ap, ap₂, sym, _∙_}
 use mathlib.Core.List.{List, _++_}
 use mathlib.Core.Bool.{Bool, true, false}
-use Prim.Native.Nat.{ℕ, suc, _+_, _-_, _*_, _%_, _^_, _≤_, _<_}
+use Prim.Native.Nat.{ℕ, _+_, _-_, _*_, _%_, _^_, _≤_, _<_}
 use native.Mathlib.Numerals.{add-one}
 use native.Mathlib.Nat.{zero-add}
 use native.Mathlib.Omega.{arith}
-use lib.ListN.{length, take, drop, getD, set, replicate, length-replicate, getD-replicate}
+use lib.ListN.{length, take, drop, getD, set, replicate}
 use lib.Seq.{paste, paste-suc, take-all}
 use lib.Dec.{eqb}
 use lib.Pow.{pow-mono}
@@ -15,11 +15,11 @@ use borrow.Author.Tests.{eq-eqb, ne-eqb, le-ltb, lt-ltb}
 use Rattle.octets.specs.Octets.{pasted}
 use Rattle.numbers.specs.Numbers.{refused, done}
 use Rattle.numbers.specs.declared.Answer.{Answer}
-use Rattle.tree.specs.Geometry.{ceilDiv, pieceLayer, pieceCount, pieceSize, isPieceLength}
+use Rattle.tree.specs.Geometry.{ceilDiv, pieceLayer, pieceCount, pieceSize}
 use Rattle.tree.specs.GeometryLaws.{piece-length-form, shifted-one}
 use Rattle.cells.specs.Entries.{oneIf}
-use Rattle.store.specs.Store.{usable, fileLength, pieceLength, blocksOf, heightOf, Facts}
-use Rattle.marks.specs.Marks.{marksStart, markedAt, marksPut, marked, cleared, blockThere, clearAnswer, clearAfter, markedAnswer, eachPiece, firstBlock, blocksIn, allMarked, pieceMarked, fieldBits, fieldBytes, fieldSize, fieldAnswer, fieldAfter}
+use Rattle.store.specs.Store.{usable, fileLength, pieceLength, blocksOf, Facts}
+use Rattle.marks.specs.Marks.{marksStart, markedAt, marksPut, cleared, blockThere, clearAnswer, clearAfter, markedAnswer, eachPiece, firstBlock, blocksIn, allMarked, pieceMarked, fieldBits, fieldBytes, fieldSize, fieldAnswer, fieldAfter}
 use Rattle.marks.specs.MarksLaws.{field-bits-more, field-bits-small, field-byte-at, field-done, field-length}
 
 -- ---- a row of bytes written

@@ -3,26 +3,26 @@
 -- Assumes nothing.
 use mathlib.Core.Path.{_≡_, refl, ap, sym, _∙_}
 use mathlib.Core.List.{List, [], _∷_, _++_}
-use mathlib.Core.Bool.{Bool, true, false, cond, _&&_, and-eq-true-iff}
+use mathlib.Core.Bool.{Bool, true, false, _&&_, and-eq-true-iff}
 use mathlib.Core.Logic.{_⊎_, inl, inr}
-use Prim.Native.Nat.{ℕ, zero, suc, _+_, _-_, _*_, _^_, _≤_, _<_, min}
+use Prim.Native.Nat.{ℕ, zero, suc, _+_, _-_, _*_, _^_, _≤_, _<_}
 use native.Mathlib.Omega.{arith}
 use native.Mathlib.Decide.{ℕ-discrete}
 use lib.ListN.{length, getD, replicate, length-append, length-replicate, getD-replicate, List·getD-append}
 use lib.Seq.{getD-append-add}
-use lib.Dec.{eqb, leb, ltb}
+use lib.Dec.{eqb, ltb}
 use lib.Pow.{pow-pos, pow-mono}
-use borrow.Author.Tests.{lt-ltb, le-ltb, le-leb, lt-leb, eq-eqb, ne-eqb, eqb-true, ltb-true}
+use borrow.Author.Tests.{lt-ltb, le-ltb, le-leb, lt-leb, ltb-true}
 use Rattle.octets.specs.Octets.{cut, pasted}
 use Rattle.octets.specs.OctetsLaws.{cut-pasted-other, getD-pasted-in, getD-pasted-before, getD-pasted-after, pasted-length}
 use Rattle.numbers.specs.Numbers.{refused, done, ruleBroken, unusable, noRoom}
-use Rattle.tree.specs.Geometry.{blockLength, ceilDiv, covering, pieceLayer, pieceCount}
-use Rattle.tree.specs.GeometryLaws.{ceil-least, covering-most, covering-doubled, ceil-below, piece-length-form, pieces-covering}
+use Rattle.tree.specs.Geometry.{covering, pieceLayer, pieceCount}
+use Rattle.tree.specs.GeometryLaws.{ceil-least, covering-most, ceil-below, piece-length-form, pieces-covering}
 use Rattle.cells.specs.Entries.{oneIf}
 use Rattle.limits.specs.Limits.{tallestTree}
 use Rattle.store.specs.Store.{usable, fileLength, pieceLength, blocksOf, heightOf, positions, storeSize, Facts, SameFacts, factBytes}
 use Rattle.store.specs.StoreLaws.{facts-blocks-most, facts-height, facts-leaves, facts-positions, facts-same, facts-usable, own-marks, positions-some, same-facts, usable-facts}
-use Rattle.marks.specs.Marks.{marksStart, markedAt, marksPut, marked, cleared, blockThere, clearAnswer, clearAfter, markedAnswer, eachPiece, firstBlock, blocksIn, allMarked, pieceMarked, fieldBits, fieldBytes, fieldSize, fieldAnswer, fieldAfter}
+use Rattle.marks.specs.Marks.{marksStart, markedAt, marksPut, marked, blockThere, eachPiece, firstBlock, blocksIn, allMarked, pieceMarked, fieldBits, fieldBytes, fieldSize, fieldAnswer, fieldAfter}
 
 -- ---- where the marks stand
 
@@ -223,14 +223,15 @@ pub one-small : (b : Bool) → oneIf b ≤ 1
 one-small true = omega arith
 one-small false = omega arith
 
+-- behind n bits comes that of piece i + n
+pub field-bits-more : (s : List ℕ) (i n : ℕ) → fieldBits s i n * 2 + oneIf (pieceMarked s (i + n)) ≡ fieldBits s i (n + 1)
+field-bits-more s i n = let e : n + 1 ≡ suc n = omega arith in sym (ap (fieldBits s i) e ∙ (unfold fieldBits in refl))
+
 -- n bits write a number below 2^n
 pub field-bits-small : (s : List ℕ) (i n : ℕ) → fieldBits s i n < 2 ^ n
 unfolding fieldBits
 field-bits-small s i zero = omega arith
 field-bits-small s i (suc n) = omega (arith, field-bits-small s i n, one-small (pieceMarked s (i + n)))
-
-pub field-bits-more : (s : List ℕ) (i n : ℕ) → fieldBits s i n * 2 + oneIf (pieceMarked s (i + n)) ≡ fieldBits s i (n + 1)
-field-bits-more s i n = let e : n + 1 ≡ suc n = omega arith in sym (ap (fieldBits s i) e ∙ (unfold fieldBits in refl))
 
 pub field-length : (s : List ℕ) (n : ℕ) → length (fieldBytes s n) ≡ n
 unfolding fieldBytes

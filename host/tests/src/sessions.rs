@@ -9,6 +9,7 @@ use reference::limits::{BLOCK, LONGEST_FILE};
 use reference::messages::{Header, HASHES, HEAD, REJECT, REQUEST};
 use reference::store::{facts_of, size_of, CELL, HEAD as FACTS, HELD};
 use reference::tree::{padding, Position};
+use std::ops::Range;
 
 const HOSTILE_WORDS: [u32; 20] =
     [0, 1, 2, 3, 4, 5, 6, 8, 9, 15, 16, 31, 32, 33, 64, 512, 1024, 1 << 31, u32::MAX - 1, u32::MAX];
@@ -63,7 +64,8 @@ impl<'a> Session<'a> {
         vec![filling; size]
     }
 
-    /// A store as no call of ours leaves it: any position held or not, some with another hash or mark.
+    /// A store as no call of ours leaves it: any position held or not, some with another hash or mark; any block marked or not, those past the
+    /// file's too.
     fn foreign(&self, random: &mut Random) -> Vec<u8> {
         let facts = &self.truth.facts;
         let mut store = self.buffer(random);
@@ -79,7 +81,17 @@ impl<'a> Session<'a> {
                 store[cell + 1..cell + CELL].copy_from_slice(&hash);
             }
         }
+        for mark in self.marks() {
+            store[mark] = random.pick(&[1, 1, 1, 0, 2, 0xff]);
+        }
         store
+    }
+
+    /// Where the marks of the file's blocks stand, and behind them those of no block.
+    fn marks(&self) -> Range<usize> {
+        let facts = &self.truth.facts;
+        let end = size_of(facts) as usize;
+        end - facts.width(0) as usize..end
     }
 
     /// Asks one call, and goes on with the store it leaves.
@@ -97,7 +109,12 @@ impl<'a> Session<'a> {
     /// One step: sometimes another hand in the store, then a call.
     pub fn step(&mut self, random: &mut Random, compared: &mut Comparison) {
         if self.hands == Hands::Others && random.percent(8) && !self.store.is_empty() {
-            let at = random.below(self.store.len() as u64) as usize;
+            let marks = self.marks();
+            let at = if random.percent(30) && marks.end <= self.store.len() {
+                marks.start + random.below(marks.len() as u64) as usize
+            } else {
+                random.below(self.store.len() as u64) as usize
+            };
             self.store[at] = random.pick(&[0, 1, 2, 0xff, self.store[at] ^ 1]);
         }
         let call = self.call(random);

@@ -4,9 +4,7 @@ use Rattle.marks.proofs.Answers.{field-sized, field-given}
 use native.Mathlib.Omega.{arith}
 use borrow.Author.Tests.{not-true, not-false}
 use mathlib.Core.Path.{sym, _∙_}
-use native.Mathlib.Omega.{arith}
 use Prim.Native.Nat.{_-_}
-use mathlib.Core.Path.{sym, _∙_}
 use borrow.Author.Needs.{needs}
 use Rattle.marks.proofs.bitfield.Statement.{statement}
 use Rattle.marks.proofs.bitfield.Tie as tie

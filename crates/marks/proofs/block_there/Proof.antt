@@ -3,9 +3,7 @@ use Rattle.store.specs.StoreLaws.{usable-facts}
 use Rattle.marks.specs.MarksLaws.{there-unusable, there-outside, there-inside}
 use native.Mathlib.Omega.{arith}
 use mathlib.Core.Path.{sym, _∙_}
-use native.Mathlib.Omega.{arith}
 use Prim.Native.Nat.{_-_}
-use mathlib.Core.Path.{sym, _∙_}
 use borrow.Author.Needs.{needs}
 use Rattle.marks.proofs.block_there.Statement.{statement}
 use Rattle.marks.proofs.block_there.Tie as tie

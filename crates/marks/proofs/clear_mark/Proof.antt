@@ -2,9 +2,7 @@ use Rattle.marks.specs.MarksLaws.{there-says, there-fits}
 use Rattle.marks.proofs.Answers.{clear-done, clear-refused}
 use native.Mathlib.Omega.{arith}
 use mathlib.Core.Path.{sym, _∙_}
-use native.Mathlib.Omega.{arith}
 use Prim.Native.Nat.{_-_}
-use mathlib.Core.Path.{sym, _∙_}
 use borrow.Author.Needs.{needs}
 use Rattle.marks.proofs.clear_mark.Statement.{statement}
 use Rattle.marks.proofs.clear_mark.Tie as tie

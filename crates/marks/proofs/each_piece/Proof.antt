@@ -1,7 +1,6 @@
 use Rattle.store.specs.StoreLaws.{usable-facts}
 use Rattle.marks.proofs.Answers.{each-low, each-by}
 use native.Mathlib.Omega.{arith}
-use native.Mathlib.Omega.{arith}
 use Prim.Native.Nat.{_-_}
 use borrow.Author.Needs.{needs}
 use Rattle.marks.proofs.each_piece.Statement.{statement}

@@ -5,10 +5,7 @@ use lib.Seq.{paste, paste-zero, length-paste}
 use mathlib.Core.Path.{_≡_, ap, sym, _∙_}
 use Prim.Native.Nat.{ℕ, _-_, _≤_}
 use borrow.Author.Needs.{needs}
-use native.Mathlib.Omega.{arith}
-use Prim.Native.Nat.{ℕ, _-_, _≤_}
 use lib.ListN.{length}
-use mathlib.Core.Path.{_≡_, ap, sym, _∙_}
 use Rattle.marks.proofs.fill.Statement.{statement}
 use Rattle.marks.proofs.fill.Tie as tie
 

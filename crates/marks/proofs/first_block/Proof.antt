@@ -2,7 +2,6 @@ use Rattle.store.specs.StoreLaws.{usable-facts, facts-blocks-most}
 use Rattle.marks.specs.MarksLaws.{first-inside}
 use Rattle.marks.proofs.Answers.{first-by}
 use native.Mathlib.Omega.{arith}
-use native.Mathlib.Omega.{arith}
 use Prim.Native.Nat.{_-_}
 use borrow.Author.Needs.{needs}
 use Rattle.marks.proofs.first_block.Statement.{statement}

@@ -2,7 +2,6 @@ use Rattle.marks.specs.MarksLaws.{there-says, there-fits}
 use Rattle.marks.proofs.Answers.{marked-done, marked-refused}
 use mathlib.Core.Path.{sym, _∙_}
 use Prim.Native.Nat.{_-_}
-use mathlib.Core.Path.{sym, _∙_}
 use borrow.Author.Needs.{needs}
 use Rattle.marks.proofs.marked_block.Statement.{statement}
 use Rattle.marks.proofs.marked_block.Tie as tie

@@ -3,9 +3,7 @@ use Rattle.marks.specs.Marks.{marksStart}
 use native.Mathlib.Omega.{arith}
 use mathlib.Core.Path.{ap}
 use Prim.Native.Nat.{ℕ, _+_, _*_}
-use native.Mathlib.Omega.{arith}
 use Prim.Native.Nat.{ℕ, _+_, _-_, _*_}
-use mathlib.Core.Path.{ap}
 use borrow.Author.Needs.{needs}
 use Rattle.marks.proofs.marks_start.Statement.{statement}
 use Rattle.marks.proofs.marks_start.Tie as tie

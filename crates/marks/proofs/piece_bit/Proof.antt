@@ -2,7 +2,6 @@ use Rattle.store.specs.StoreLaws.{usable-facts}
 use Rattle.marks.specs.MarksLaws.{covered-fits}
 use Rattle.marks.proofs.Answers.{counted, bit-past, bit-by}
 use native.Mathlib.Omega.{arith}
-use native.Mathlib.Omega.{arith}
 use Prim.Native.Nat.{_-_}
 use borrow.Author.Needs.{needs}
 use Rattle.marks.proofs.piece_bit.Statement.{statement}

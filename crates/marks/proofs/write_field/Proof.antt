@@ -7,10 +7,6 @@ use lib.Seq.{paste, paste-zero, length-paste}
 use mathlib.Core.Path.{_≡_, ap, _∙_}
 use Prim.Native.Nat.{_-_, _≤_}
 use borrow.Author.Needs.{needs}
-use native.Mathlib.Omega.{arith}
-use Prim.Native.Nat.{_-_, _≤_}
-use lib.ListN.{length}
-use mathlib.Core.Path.{_≡_, ap, _∙_}
 use Rattle.marks.proofs.write_field.Statement.{statement}
 use Rattle.marks.proofs.write_field.Tie as tie
 

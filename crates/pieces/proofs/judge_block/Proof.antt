@@ -1,6 +1,5 @@
 -- On 0 the block is one of the file's, so that it has a mark.
-use Rattle.store.specs.StoreLaws.{usable-facts}
-use Rattle.pieces.specs.Pieces.{blockNumber, blockAnswer, blockAfter}
+use Rattle.pieces.specs.Pieces.{blockAnswer, blockAfter}
 use Rattle.pieces.specs.PiecesLaws.{block-right}
 use Rattle.pieces.specs.MarkedLaws.{block-fits}
 use Rattle.pieces.proofs.Marking.{right-marks, wrong-leaves}

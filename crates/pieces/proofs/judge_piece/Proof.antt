@@ -1,6 +1,5 @@
 -- On 0 the piece is one of the file's, so that its blocks have marks.
-use Rattle.store.specs.StoreLaws.{usable-facts}
-use Rattle.pieces.specs.Pieces.{pieceNumber, pieceAnswer, pieceAfter}
+use Rattle.pieces.specs.Pieces.{pieceAnswer, pieceAfter}
 use Rattle.pieces.specs.PiecesLaws.{piece-right}
 use Rattle.pieces.specs.MarkedLaws.{piece-fits}
 use Rattle.pieces.proofs.Marking.{right-marks, wrong-leaves, marks-by}
