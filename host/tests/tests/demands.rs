@@ -70,26 +70,29 @@ fn a_block_is_marked_exactly_if_judged_right_and_not_cleared_since() {
     let mut right: HashSet<u64> = HashSet::new();
     let mut root = [0; 32];
     let (mut set, mut taken_back) = (0, 0);
-    look_at_calls(7, &mut |truth, call, outcome| {
-        let facts = &truth.facts;
-        if facts.root != root {
-            root = facts.root;
-            right.clear();
-        }
-        match (call.entry, outcome.given.number()) {
-            (Entry::JudgeBlock, DONE) => set += right.insert(call.numbers[0]) as u64,
-            (Entry::JudgePiece, DONE) => facts.blocks_of_piece(call.numbers[0]).for_each(|block| set += right.insert(block) as u64),
-            (Entry::Clear, DONE) => taken_back += right.remove(&call.numbers[0]) as u64,
-            _ => (),
-        }
-        for block in 0..facts.blocks() {
-            assert_eq!(marked(&outcome.store, block), Answer::done(right.contains(&block) as u64));
-        }
-        let end = size_of(facts) as usize;
-        let spare = (facts.width(0) - facts.blocks()) as usize;
-        assert!(outcome.store[end - spare..end].iter().all(|byte| *byte == 0), "no mark past the file's blocks");
-    });
-    assert!(set > 50 && taken_back > 10, "{set} {taken_back}");
+    for seed in 7..14 {
+        look_at_calls(seed, &mut |truth, call, outcome| {
+            let facts = &truth.facts;
+            if facts.root != root {
+                root = facts.root;
+                right.clear();
+            }
+            let number = call.numbers[0];
+            match (call.entry, outcome.given.number()) {
+                (Entry::JudgeBlock, DONE) => set += right.insert(number) as u64,
+                (Entry::JudgePiece, DONE) => facts.blocks_of_piece(number).for_each(|block| set += right.insert(block) as u64),
+                (Entry::Clear, DONE) => taken_back += right.remove(&number) as u64,
+                _ => (),
+            }
+            for block in 0..facts.blocks() {
+                assert_eq!(marked(&outcome.store, block), Answer::done(right.contains(&block) as u64));
+            }
+            let end = size_of(facts) as usize;
+            let spare = (facts.width(0) - facts.blocks()) as usize;
+            assert!(outcome.store[end - spare..end].iter().all(|byte| *byte == 0), "no mark past the file's blocks");
+        });
+    }
+    assert!(set > 100 && taken_back > 20, "{set} {taken_back}");
 }
 
 /// The anchor of a message that passes 9, 1, 2, 3 and 4.
