@@ -20,7 +20,7 @@ use Rattle.tree.specs.ValuesLaws.{leaf-octets}
 use Rattle.cells.specs.Cells.{heldAt, hashAt}
 use Rattle.cells.specs.Entries.{Entry, agreesAt, agrees, putAll, newly}
 use Rattle.cells.specs.EntriesLaws.{Sound, none, more}
-use Rattle.store.specs.Store.{fileLength, pieceLength, blocksOf, heightOf, positions, storeSize, Facts}
+use Rattle.store.specs.Store.{fileLength, pieceLength, blocksOf, heightOf, positions, storeSize, Facts, SameFacts}
 use Rattle.store.specs.StoreLaws.{putAll-past, facts-usable}
 use Rattle.settling.specs.Path.{sibling}
 use Rattle.settling.specs.AncestorLaws.{ancestor-le}
@@ -39,6 +39,11 @@ use Rattle.pieces.specs.PiecesLaws.{layered, layer-within, layer-leaf-length, p
 use Rattle.knowledge.specs.TakenWhen.{taken-well-formed}
 use Rattle.knowledge.specs.Alike.{Alike}
 use Rattle.knowledge.specs.BytesLeft.{SameCells, putAll-same, newly-same}
+
+-- with the same facts a piece's node is in the same layer
+pub same-node : {s t : List ℕ} → SameFacts s t → pieceHeight t ≡ pieceHeight s
+unfolding pieceHeight layerOfPieces
+same-node e = rw (e .file, e .piece, e .layers)
 
 module _ (s t : List ℕ) (f : Facts s) (e : Alike s t) where
   agrees-used : (L : List Entry) → Sound (positions (heightOf s)) L → agrees t L ≡ agrees s L
@@ -125,8 +130,7 @@ module _ (s t : List ℕ) (f : Facts s) (e : Alike s t) where
   layer-of-used = ap pieceLayer (e .same .piece)
 
   piece-height-used : pieceHeight t ≡ pieceHeight s
-  unfolding pieceHeight
-  piece-height-used = rw (e .same .file, e .same .piece, e .same .layers, layer-of-used)
+  piece-height-used = same-node (e .same)
 
   -- a piece
   pub piece-beyond : (i : ℕ) (piece : List ℕ) → pieceNumber t i piece ≡ pieceNumber s i piece

@@ -13,12 +13,12 @@ use Rattle.numbers.specs.declared.Answer.{Answer}
 use Rattle.sha256.specs.declared.Hashed.{Hashed}
 use Rattle.tree.specs.Geometry.{nodeNumber}
 use Rattle.cells.specs.Cells.{heldAt, hashAt}
-use Rattle.store.specs.Store.{usable, fileLength, heightOf, positions, storeSize, inTree, heldAnswer, Facts, SameFacts}
+use Rattle.store.specs.Store.{usable, fileLength, heightOf, storeSize, inTree, heldAnswer, Facts}
 use Rattle.store.specs.StoreLaws.{usable-facts, facts-usable, tree-number, held-outside, held-not, held-given}
 use Rattle.messages.specs.Take.{takeAfter}
 use Rattle.serve.specs.Serve.{serveAfter}
 use Rattle.marks.specs.Marks.{marked, marksStart, firstBlock, blocksIn}
-use Rattle.marks.specs.MarksLaws.{mark-in, marks-before, marks-end}
+use Rattle.marks.specs.MarksLaws.{mark-in, marks-before, marks-end, same-start}
 use Rattle.pieces.specs.Pieces.{layerAfter, blockNumber, blockAnswer, blockAfter, pieceNumber, pieceAnswer, pieceAfter}
 use Rattle.pieces.specs.PiecesLaws.{block-right, piece-right}
 use Rattle.pieces.specs.MarkedLaws.{block-fits, block-marks, block-stays, piece-fits, piece-marks, piece-stays}
@@ -52,8 +52,7 @@ module _ (s t : List ℕ) (S : SameButMarks s t) where
   e = alike-cells s t f (S .room) (S .bytes)
 
   starts : marksStart t ≡ marksStart s
-  unfolding marksStart
-  starts = ap (λ (h : ℕ). 31 + 33 * positions h) (e .same .layers)
+  starts = same-start (e .same)
 
   cell-byte : (j : ℕ) → j < marksStart s → getD t j 0 ≡ getD s j 0
   unfolding marksStart
@@ -153,7 +152,7 @@ module _ (s t : List ℕ) (S : SameButMarks s t) where
       let k = grown-call c x (e .facts) in
       let n : fileLength (after c t) ≡ fileLength (after c s) = k .same .file ∙ e .same .file ∙ sym (g .same .file) in
       let q : storeSize (fileLength (after c t)) ≡ storeSize (fileLength (after c s)) = ap storeSize n in
-      let m = start-kept (after c s) (g .same) in
+      let m = same-start (g .same) in
       let a = mark-in (after c s) (g .facts) in
       let d = marks-end (after c s) in
       let room : storeSize (fileLength (after c s)) ≤ length (after c t) = let r = k .facts .size in omega arith in
@@ -164,6 +163,3 @@ module _ (s t : List ℕ) (S : SameButMarks s t) where
             same-front (after c s) (after c t) (marksStart (after c s)) (omega arith) (omega arith)
             (λ j l. cells-left c x j (omega arith));
       }
-    where
-      start-kept : (u : List ℕ) → SameFacts s u → marksStart u ≡ marksStart s
-      start-kept u w = unfold marksStart in ap (λ (h : ℕ). 31 + 33 * positions h) (w .layers)

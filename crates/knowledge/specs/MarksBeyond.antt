@@ -8,15 +8,15 @@ use Prim.Native.Nat.{ℕ, zero, suc, _+_, _-_, _*_, _^_, _≤_, _<_, min}
 use native.Mathlib.Omega.{arith}
 use native.Mathlib.Decide.{ℕ-discrete, decLt}
 use lib.ListN.{length, getD, replicate, length-replicate}
-use lib.Dec.{eqb, ltb}
+use lib.Dec.{ltb}
 use borrow.Author.Tests.{ltb-true, ne-eqb}
 use Rattle.octets.specs.Octets.{cut, pasted}
 use Rattle.octets.specs.OctetsLaws.{getD-pasted-before, getD-pasted-in, getD-pasted-after}
 use Rattle.tree.specs.Geometry.{pieceLayer, pieceCount, ceilDiv}
-use Rattle.store.specs.Store.{fileLength, pieceLength, heightOf, positions, storeSize, Facts}
+use Rattle.store.specs.Store.{fileLength, pieceLength, heightOf, storeSize, Facts}
 use Rattle.store.specs.StoreLaws.{facts-usable, used-same, used-facts}
 use Rattle.marks.specs.Marks.{marksStart, markedAt, marksPut, blockThere, markedAnswer, eachPiece, firstBlock, blocksIn, allMarked, pieceMarked, fieldBits, fieldBytes, fieldSize, fieldAnswer, fieldAfter}
-use Rattle.marks.specs.MarksLaws.{marks-end, mark-in, there-fits, covered-fits}
+use Rattle.marks.specs.MarksLaws.{same-mark, same-start, marks-end, mark-in, there-fits, covered-fits}
 use Rattle.knowledge.specs.Alike.{same-byte}
 
 -- the same row written at the same place of two lists
@@ -36,8 +36,7 @@ row-same s t at h ls lt j e =
 
 module _ (s t : List ℕ) (f : Facts s) (e : cut t 0 (storeSize (fileLength s)) ≡ cut s 0 (storeSize (fileLength s))) where
   start-used : marksStart t ≡ marksStart s
-  unfolding marksStart
-  start-used = ap (λ (h : ℕ). 31 + 33 * positions h) (used-same s t f e .layers)
+  start-used = same-start (used-same s t f e)
 
   -- a block is there in both or in neither
   pub there-beyond : (i : ℕ) → blockThere t i ≡ blockThere s i
@@ -46,10 +45,7 @@ module _ (s t : List ℕ) (f : Facts s) (e : cut t 0 (storeSize (fileLength s)) 
 
   -- a mark is the same in both,
   pub mark-used : (i : ℕ) → i < 2 ^ heightOf s → markedAt t i ≡ markedAt s i
-  unfolding markedAt
-  mark-used i l =
-      ap (λ (k : ℕ). eqb (getD t (k + i) 0) 1) start-used
-      ∙ ap (λ (x : ℕ). eqb x 1) (same-byte s t f e (marksStart s + i) (omega (arith, marks-end s)))
+  mark-used i l = same-mark s t (used-same s t f e) i (same-byte s t f e (marksStart s + i) (omega (arith, marks-end s)))
 
   -- and so is the answer about it,
   pub marked-beyond : (i : ℕ) → markedAnswer t i ≡ markedAnswer s i

@@ -19,7 +19,7 @@ use Rattle.store.specs.Store.{usable, fileLength, blocksOf, heightOf, positions
 use Rattle.store.specs.StoreLaws.{facts-leaves, facts-usable, opened-file, opened-zero, usable-facts}
 use Rattle.messages.specs.Take.{takeAfter}
 use Rattle.marks.specs.Marks.{marksStart, markedAt, marked, cleared, blockThere, clearAnswer, markedAnswer, firstBlock, blocksIn}
-use Rattle.marks.specs.MarksLaws.{marked-in, marked-out, marks-end, marks-start-some, there-fits, there-inside, there-says}
+use Rattle.marks.specs.MarksLaws.{same-mark, marked-in, marked-out, marks-end, marks-start-some, there-fits, there-inside, there-says}
 use Rattle.pieces.specs.Pieces.{layerOfPieces, layerAfter, blockNumber, blockAnswer, pieceHeight, pieceNumber, pieceAnswer}
 use Rattle.pieces.specs.PiecesLaws.{piece-right}
 use Rattle.pieces.specs.MarkedLaws.{block-fits, block-marks, block-stays, piece-fits, piece-marks, piece-stays}
@@ -29,7 +29,7 @@ use Rattle.knowledge.specs.Through.{clear-writes, clear-stays, reopen-re
 use Rattle.knowledge.specs.Grows.{Grown, grown-on, grown-take, grown-layer, steps-grow}
 use Rattle.knowledge.specs.Again.{grown-holds}
 use Rattle.knowledge.specs.Alike.{alike}
-use Rattle.knowledge.specs.Beyond.{take-past, layer-past}
+use Rattle.knowledge.specs.Beyond.{same-node, take-past, layer-past}
 use Rattle.knowledge.specs.MarksBeyond.{mark-used}
 use Rattle.knowledge.specs.Bitfield.{covered-in, in-covered, one-true}
 use Rattle.knowledge.specs.JudgedWhen.{block-0, piece-0}
@@ -59,18 +59,11 @@ module _ (s : List ℕ) (f : Facts s) (j : ℕ) (l : j < 2 ^ heightOf s) where
   behind-cells = omega arith
 
   -- who writes cells alone leaves the mark
-  cells-leave : (t : List ℕ) → Grown s t → getD t (marksStart s + j) 0 ≡ getD s (marksStart s + j) 0 → markedAt t j ≡ markedAt s j
-  unfolding markedAt
-  cells-leave t g e = ap (λ (k : ℕ). eqb (getD t (k + j) 0) 1) start ∙ ap (λ (x : ℕ). eqb x 1) e
-    where
-      start : marksStart t ≡ marksStart s
-      start = unfold marksStart in ap (λ (h : ℕ). 31 + 33 * positions h) (g .same .layers)
-
   take-leaves : (m : List ℕ) → markedAt (takeAfter s m) j ≡ markedAt s j
-  take-leaves m = cells-leave (takeAfter s m) (grown-take s m f) (take-past s s f (alike s s f refl) m (marksStart s + j) behind-cells)
+  take-leaves m = same-mark s (takeAfter s m) (grown-take s m f .same) j (take-past s s f (alike s s f refl) m (marksStart s + j) behind-cells)
 
   load-leaves : (d : List ℕ) → markedAt (layerAfter s d) j ≡ markedAt s j
-  load-leaves d = cells-leave (layerAfter s d) (grown-layer s d f) (layer-past s s f (alike s s f refl) d (marksStart s + j) behind-cells)
+  load-leaves d = same-mark s (layerAfter s d) (grown-layer s d f .same) j (layer-past s s f (alike s s f refl) d (marksStart s + j) behind-cells)
 
   block-mark : (i : ℕ) (d : List ℕ) (b : Bytes d) → MarkAfter (judgeBlock i d b) s j
   unfolding blockAnswer
@@ -203,10 +196,6 @@ right-0 s j (clear i) x z = absurd x
 right-0 s j (isMarked i) x z = absurd x
 right-0 s j (bitfield out b) x z = absurd x
 right-0 s j (reopen n plen root o) x z = absurd x
-
-pub same-node : {s t : List ℕ} → SameFacts s t → pieceHeight t ≡ pieceHeight s
-unfolding pieceHeight layerOfPieces
-same-node e = rw (e .file, e .piece, e .layers)
 
 -- and they stay right for a store that holds at least as much
 right-grown : {s t : List ℕ} {j : ℕ} {c : Call} → Facts s → Grown s t → RightFor s j c → RightFor t j c

@@ -47,6 +47,16 @@ marks-small s f =
     let w : 2 ^ heightOf s ≤ 2 ^ tallestTree = pow-mono {i = heightOf s} {j = tallestTree} (facts-height s f) in
     omega (arith, facts-positions s f)
 
+-- they stand where the facts say,
+pub same-start : {s t : List ℕ} → SameFacts s t → marksStart t ≡ marksStart s
+unfolding marksStart
+same-start e = ap (λ (h : ℕ). 31 + 33 * positions h) (e .layers)
+
+-- so with the same facts the same byte is the same mark
+pub same-mark : (s t : List ℕ) → SameFacts s t → (j : ℕ) → getD t (marksStart s + j) 0 ≡ getD s (marksStart s + j) 0 → markedAt t j ≡ markedAt s j
+unfolding markedAt
+same-mark s t e j b = ap (λ (k : ℕ). eqb (getD t (k + j) 0) 1) (same-start e) ∙ ap (λ (x : ℕ). eqb x 1) b
+
 -- ---- marks are written
 
 module _ (s : List ℕ) (f : Facts s) (i n x : ℕ) (fits : i + n ≤ 2 ^ heightOf s) where
@@ -87,10 +97,6 @@ module _ (s : List ℕ) (f : Facts s) (i n x : ℕ) (fits : i + n ≤ 2 ^ height
   pub marks-usable : usable (marksPut s i n x) ≡ usable s
   marks-usable = facts-usable (marksPut s i n x) marks-facts ∙ sym (facts-usable s f)
 
-  pub marks-start-same : marksStart (marksPut s i n x) ≡ marksStart s
-  unfolding marksStart
-  marks-start-same = ap (λ (h : ℕ). 31 + 33 * positions h) (marks-same-facts .layers)
-
   byte-in : (k : ℕ) → k < n → getD (marksPut s i n x) (marksStart s + i + k) 0 ≡ x
   unfolding marksPut
   byte-in k l =
@@ -105,16 +111,13 @@ module _ (s : List ℕ) (f : Facts s) (i n x : ℕ) (fits : i + n ≤ 2 ^ height
   unfolding markedAt
   marked-in j a b =
       let e : marksStart s + j ≡ marksStart s + i + (j - i) = omega arith in
-      ap (λ (k : ℕ). eqb (getD (marksPut s i n x) (k + j) 0) 1) marks-start-same
+      ap (λ (k : ℕ). eqb (getD (marksPut s i n x) (k + j) 0) 1) (same-start marks-same-facts)
       ∙ ap (λ (k : ℕ). eqb (getD (marksPut s i n x) k 0) 1) e
       ∙ ap (λ (k : ℕ). eqb k 1) (byte-in (j - i) (omega arith))
 
   -- every other keeps its own
   pub marked-out : (j : ℕ) → (j < i) ⊎ (i + n ≤ j) → markedAt (marksPut s i n x) j ≡ markedAt s j
-  unfolding markedAt
-  marked-out j w =
-      ap (λ (k : ℕ). eqb (getD (marksPut s i n x) (k + j) 0) 1) marks-start-same
-      ∙ ap (λ (k : ℕ). eqb k 1) (byte-out j w)
+  marked-out j w = same-mark s (marksPut s i n x) marks-same-facts j (byte-out j w)
 
 -- ---- a block of the file
 
