@@ -189,7 +189,7 @@ kd_history_answer kd_history_more(kd_history state, const uint8_t *data, size_t 
  */
 kd_history_end_answer kd_history_end(kd_history state, uint8_t *layer, size_t layer_size);
 
-/* ---- The store: a lent memory that holds hashes of one file's tree. docs/LAYOUT.md gives its bytes. ---- */
+/* ---- The store: a lent memory that holds hashes of one file's tree, and marks of its blocks. docs/LAYOUT.md gives its bytes. ---- */
 
 /*
  * The size of a store for a file of `length` bytes.
@@ -199,8 +199,8 @@ kd_history_end_answer kd_history_end(kd_history state, uint8_t *layer, size_t la
 kd_answer kd_store_size(uint64_t length, uint64_t piece_length);
 
 /*
- * Makes the memory a store for the file of this length, piece length and pieces root. The root alone is held then. A store
- * that is opened again forgets everything: that is the one way to lose a held hash.
+ * Makes the memory a store for the file of this length, piece length and pieces root. The root alone is held then, and no
+ * block is marked. A store that is opened again forgets everything: that is the one way to lose a held hash.
  *   KD_FACTS_OUT_OF_RANGE  as above.
  *   KD_UNUSABLE  the memory is shorter than the store.
  *   KD_DONE  `count` is 1. Every byte that the store uses has been set; the bytes behind them stay.

@@ -1,4 +1,5 @@
--- 01, "Numbers given back": each number by entry point, exactly when it is given, in the order of 01. "Held" is what kd_held answers.
+-- 01, "Numbers given back", and 02, request 7: each number by entry point, exactly when it is given, in the order of 01. "Held" is what
+-- kd_held answers.
 -- (The numbers of the torrent calls: crates/torrent.)
 -- Assumes nothing.
 use mathlib.Core.Path.{_≡_, refl}
