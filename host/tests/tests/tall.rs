@@ -190,9 +190,12 @@ fn the_longest_layer() {
     let last = facts.blocks() - 1;
     assert_eq!(both.held(0, last), DONE);
     assert_eq!(both.held(0, last + 1), RULE_BROKEN);
-    same(boundary::judge_block(&both.library, last, &BYTES), Answer::done(0));
-    same(boundary::judge_piece(&both.library, last, &BYTES), Answer::done(0));
-    assert_eq!(boundary::judge_block(&both.library, last + 1, &BYTES).number, RULE_BROKEN);
+    let block = boundary::judge_block(&mut both.library, last, &BYTES);
+    assert_eq!(same(block, pieces::judge_block(&mut both.reference, last, &BYTES)), Answer::done(0));
+    let piece = boundary::judge_piece(&mut both.library, last, &BYTES);
+    assert_eq!(same(piece, pieces::judge_piece(&mut both.reference, last, &BYTES)), Answer::done(0));
+    both.compare();
+    assert_eq!(boundary::judge_block(&mut both.library, last + 1, &BYTES).number, RULE_BROKEN);
     let run = both.file.header([0, facts.blocks() - LONGEST_RUN as u64, LONGEST_RUN as u64, TALLEST_TREE - 1]);
     assert_eq!(both.serve(&run), Answer::done(run.message_size()));
     assert_eq!(both.take(&run), Answer::done(0));
