@@ -5,8 +5,7 @@ use mathlib.Core.List.{List}
 use Prim.Native.Nat.{ℕ, _+_}
 use lib.ListN.{length}
 use lib.Dec.{eqb}
-use Rattle.tree.specs.Geometry.{hasLayer}
-use Rattle.filetree.specs.Tree.{Listed, Files, wrong, files, rootsOf, longs}
+use Rattle.filetree.specs.Tree.{Listed, Files, wrong, files, rootsOf}
 use Rattle.filetree.specs.declared.count.Tally.{Tally}
 use Rattle.filetree.specs.declared.count.Counted.{Counted}
 use Rattle.filetree.specs.declared.count.Counted.the-variants.{Past, WrongTree}
@@ -16,17 +15,16 @@ abbrev pub mostRoots : ℕ
 mostRoots = 16384
 
 abbrev pub noTally : Tally
-noTally = record { files = 0; roots = 0; long = 0 }
+noTally = record { files = 0; roots = 0 }
 
 -- with one file of n bytes more
-unfoldable pub tallyWith : ℕ → ℕ → Tally → Tally
-tallyWith plen n c =
-    record { files = c .files + 1; roots = cond (eqb n 0) (c .roots) (c .roots + 1); long = cond (hasLayer n plen) (c .long + 1) (c .long) }
+unfoldable pub tallyWith : ℕ → Tally → Tally
+tallyWith n c = record { files = c .files + 1; roots = cond (eqb n 0) (c .roots) (c .roots + 1) }
 
 -- with the files fs
-unfoldable pub tallyAfter : ℕ → Tally → List Listed → Tally
-tallyAfter plen c fs = record { files = c .files + length fs; roots = c .roots + length (rootsOf fs); long = c .long + longs plen fs }
+unfoldable pub tallyAfter : Tally → List Listed → Tally
+tallyAfter c fs = record { files = c .files + length fs; roots = c .roots + length (rootsOf fs) }
 
-unfoldable pub countedOf : ℕ → Tally → Files → Counted
-countedOf plen c wrong = WrongTree
-countedOf plen c (files fs k) = Past k (tallyAfter plen c fs)
+unfoldable pub countedOf : Tally → Files → Counted
+countedOf c wrong = WrongTree
+countedOf c (files fs k) = Past k (tallyAfter c fs)

@@ -1,4 +1,3 @@
-pub mod Reading
 pub mod FileLaws
 pub mod TokenLaws
 pub mod TreeLaws

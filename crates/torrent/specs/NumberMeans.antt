@@ -26,7 +26,7 @@ use Rattle.metainfo.specs.Metainfo.{bytesIn, noKeys, keysOf, metainfoOf}
 use Rattle.metainfo.specs.declared.Keys.{Keys}
 use Rattle.filetree.specs.Tree.{Listed, Files, right, listed, filesIn, longs}
 use Rattle.layers.specs.Layers.{keysWide, layerKeys, worst}
-use Rattle.joined.specs.Reading.{readFile, readFiles}
+use Rattle.filetree.specs.Reading.{readFile, readFiles}
 use Rattle.joined.specs.RootsMeaning.{AllAlike, roots-apart}
 use Rattle.joined.specs.LayersMeaning.{layers-number}
 use Rattle.joined.specs.KeysLaws.{KeysAt, keys-number, keys-point, none-exactly}

@@ -34,7 +34,7 @@ use Rattle.metainfo.specs.MetainfoLaws.{metainfo-right}
 use Rattle.metainfo.specs.declared.Keys.{Keys}
 use Rattle.filetree.specs.Tree.{Element, Listed, right, listed, filesIn, fileNumber, longs}
 use Rattle.layers.specs.Layers.{stringIn, layerAt, rootBytes, layerString, startOf, sizeOf}
-use Rattle.joined.specs.Reading.{element, elements, readFile, readFiles}
+use Rattle.filetree.specs.Reading.{element, elements, readFile, readFiles}
 use Rattle.joined.specs.FileLaws.{string-there}
 use Rattle.joined.specs.TreeLaws.{Fits, AllFit, tree-fits}
 use Rattle.joined.specs.LayersRead.{find-layer}
