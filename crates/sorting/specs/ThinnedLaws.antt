@@ -6,19 +6,15 @@ use mathlib.Core.List.{List, [], _∷_, _++_}
 use Prim.Native.Nat.{ℕ, zero, suc, _+_, _≤_, _<_}
 use native.Mathlib.Omega.{arith}
 use native.Mathlib.Numerals.{add-one}
-use lib.ListN.{length, getD}
+use lib.ListN.{length, getD, take}
 use lib.Seq.{take-at, getD-take}
 use Rattle.octets.specs.Octets.{cut}
 use Rattle.bencode.specs.Grammar.{precedes}
-use Rattle.sorting.specs.Sorting.{Ascending, lower, sorted, thinnedFrom, thinned}
+use Rattle.sorting.specs.Sorting.{Ascending, Stands, lower, sorted, thinnedFrom, thinned}
 use Rattle.sorting.specs.Order.{Fit, All, Rising}
 use Rattle.sorting.specs.PrecedesLaws.{precedes-either}
 use Rattle.sorting.specs.MovedLaws.{moved-back, moved-all, moved-fit, all-of, all-at, all-so}
 use Rattle.sorting.specs.SortedLaws.{sorted-so}
-
--- one of the first `count` positions has the string x
-abbrev pub Stands : List ℕ → List ℕ → ℕ → List ℕ → Type 0
-Stands s at count x = (j : ℕ) × (j < count) × (cut s (getD at j 0) 32 ≡ x)
 
 module _ (s : List ℕ) where
   -- ---- it ascends
@@ -93,7 +89,7 @@ module _ (s : List ℕ) where
   module _ (ps : List ℕ) (count : ℕ) (at rest : List ℕ) (size : count ≡ length (thinned s (sorted s ps))) (front : at ≡ thinned s (sorted s ps) ++ rest) where
     place : (i : ℕ) → i < count → getD at i 0 ≡ getD (thinned s (sorted s ps)) i 0
     place i h =
-        sym (getD-take count at i 0 h) ∙ ap (λ (l : List ℕ). getD l i 0) (ap (λ (l : List ℕ). lib.ListN.take count l) front ∙ take-at (thinned s (sorted s ps)) rest count (sym size))
+        sym (getD-take count at i 0 h) ∙ ap (λ (l : List ℕ). getD l i 0) (ap (λ (l : List ℕ). take count l) front ∙ take-at (thinned s (sorted s ps)) rest count (sym size))
 
     pub once-ascending : Ascending s at count
     once-ascending i h =

@@ -1,46 +1,32 @@
 use Rattle.sorting.proofs.Telling.{told}
 use Rattle.sorting.proofs.Thinning.{kept-one, kept-none}
 use native.Mathlib.Omega.{arith}
-use Prim.Native.Nat.{ℕ, _+_, _-_, _*_, _≤_, _<_, _/_, _%_, _^_}
-use lib.ListN.{length, getD, set, take, drop}
-use mathlib.Core.Path.{_≡_, refl, ap, sym, _∙_}
+use Prim.Native.Nat.{_-_}
 use borrow.Author.Needs.{needs}
 use Rattle.sorting.proofs.distinct.keep.Statement.{statement}
 use Rattle.sorting.proofs.distinct.keep.Tie as tie
-use Rattle.sorting.proofs.distinct.keep.Reads as reads
-use Rattle.sorting.proofs.distinct.keep.Lts as lts
-use Rattle.sorting.proofs.compare.before.Reads as before-reads
-use Rattle.sorting.proofs.compare.index.Reads as index-reads
 
--- src/distinct.rt:19:22
 sub-index : tie.Need-sub-index
 sub-index c = search needs
 
--- src/distinct.rt:19:19
 mul-index : tie.Need-mul-index
 mul-index c = search needs
 
--- src/distinct.rt:19:19
 slice-read-index : tie.Need-slice-read-index
 slice-read-index c = search needs
 
--- src/distinct.rt:19:9
 index-requires : tie.Need-index-requires
 index-requires c κs = search needs
 
--- src/distinct.rt:20:19
 mul-index-2 : tie.Need-mul-index-2
 mul-index-2 c = search needs
 
--- src/distinct.rt:20:19
 slice-read-index-2 : tie.Need-slice-read-index-2
 slice-read-index-2 c = search needs
 
--- src/distinct.rt:20:9
 index-requires-2 : tie.Need-index-requires-2
 index-requires-2 c κs = search needs
 
--- src/distinct.rt:21:8
 before-requires : tie.Need-before-requires
 before-requires c κs = let b = c .before .before .before .before .before .before in
     let n = b .args .i in
@@ -52,35 +38,27 @@ before-requires c κs = let b = c .before .before .before .before .before .befor
     let high = b .pre .0 n inside in
     (omega (arith, c .before .before .index .ensures, low), omega (arith, c .index2 .ensures, high))
 
--- src/distinct.rt:22:20
 mul-at : tie.Need-mul-at
 mul-at c = search needs
 
--- src/distinct.rt:22:20
 slice-read-at : tie.Need-slice-read-at
 slice-read-at c = search needs
 
--- src/distinct.rt:22:9
 mul-at-2 : tie.Need-mul-at-2
 mul-at-2 c = search needs
 
--- src/distinct.rt:22:9
 slice-write-at : tie.Need-slice-write-at
 slice-write-at c = search needs
 
--- src/distinct.rt:23:16
 add-result : tie.Need-add-result
 add-result c = search needs
 
--- src/distinct.rt:23:9
 same-length : tie.Need-same-length
 same-length c = search needs
 
--- src/distinct.rt:23:9
 returns : tie.Need-returns
 returns c = kept-one _ (c .before .before .before .before .before .before .before .before .before .args .at .now) _ _ _ (told _ _ _ _ _ _ _ (c .before .before .before .before .before .index .ensures) (c .before .before .before .index2 .ensures) (c .before .before .before2 .ensures) (c .before .if1 .taken))
 
--- src/distinct.rt:15:1
 returns-2 : tie.Need-returns-2
 returns-2 c = kept-none _ (c .before .before .before .before .before .before .before .before .args .at .now) _ _ _ (told _ _ _ _ _ _ _ (c .before .before .before .before .index .ensures) (c .before .before .index2 .ensures) (c .before .before2 .ensures) (c .if1 .left))
 
