@@ -17,29 +17,14 @@ use Rattle.filetree.specs.Token.{endsHere, tokenAt}
 use Rattle.filetree.specs.TokenLaws.{leaf-ends}
 use Rattle.filetree.specs.Tree.{maxElements, Element, Listed, listedAs, down, Files, wrong, files, filesBelow, filesIn, right, listed, rootsOf}
 use Rattle.filetree.specs.TreeLaws.{empty-tree, tree-below, Passed, passed-none, passed-bad, passed-end, passed-closed, passed-file, passed-wrong, inside-ends, passed-directory}
-use Rattle.filetree.specs.Count.{mostRoots, noTally, tallyWith, tallyAfter, countedOf}
+use Rattle.filetree.specs.Count.{mostRoots, noTally, tallyWith, tallyAfter, countedOf, Within, Counts}
 use Rattle.filetree.specs.declared.token.Token.the-variants.{Opened, Closed, Leaf, BadToken}
 use Rattle.filetree.specs.declared.count.Tally.{Tally}
 use Rattle.filetree.specs.declared.count.Counted.{Counted}
 use Rattle.filetree.specs.declared.count.Counted.the-variants.{Past, WrongTree}
 
--- a file takes a byte of those up to `at`, one that is not empty 64
-pub record Within (at : ℕ) (c : Tally) : Type 0 where
-  pub few-files : c .files ≤ at
-  pub few-roots : 64 * c .roots ≤ at
-
 pub further : (at k : ℕ) (c : Tally) → at ≤ k → Within at c → Within k c
 further at k c h w = let x = w .few-files in let y = w .few-roots in record { few-files = omega arith; few-roots = omega arith }
-
-abbrev pub CountedIn : Counted → Type 0
-CountedIn WrongTree = Unit {0}
-CountedIn (Past k c) = Within k c
-
--- what counting a directory says of it, under any path
-pub record Counts (t : List ℕ) (at levels : ℕ) (before : Tally) (roots after : List ℕ) (r : Counted) : Type 0 where
-  pub counted : (path : List Element) → r ≡ countedOf before (filesBelow levels t at path)
-  pub kept : (path : List Element) → right (filesBelow levels t at path) ≡ true → after ≡ pasted roots (before .roots) (rootsOf (listed (filesBelow levels t at path)))
-  pub within : CountedIn r
 
 -- ---- the counts, file by file
 

@@ -13,8 +13,7 @@ ghost use lib.Dec.{eqb};
 ghost use Rattle.limits.specs.Limits.{largestTorrent};
 ghost use Rattle.octets.specs.Octets.{pasted};
 ghost use Rattle.filetree.specs.Tree.{filesIn, right, listed, rootsOf};
-ghost use Rattle.filetree.specs.Count.{mostRoots, tallyWith, noTally, countedOf};
-ghost use Rattle.filetree.specs.CountLaws.{Within, Counts};
+ghost use Rattle.filetree.specs.Count.{mostRoots, tallyWith, noTally, countedOf, Within, Counts};
 
 // A path has at most so many elements: with the file's dictionary, `file tree`, `info` and the torrent that makes 32 levels.
 pub const ELEMENTS: usize = LEVELS - 4;

@@ -19,7 +19,7 @@ use Rattle.bencode.specs.Grammar.{colon, integer, string, dictionary, Entries, 
 use Rattle.bencode.specs.PartsLaws.{entries-length}
 use Rattle.bencode.specs.Parts.{Lookup, present, absent, lookup}
 use Rattle.meaning.specs.Nth.{Nth}
-use Rattle.meaning.specs.Torrent.{File, isNumber, infoOf, treeOf, filesOf, plenOf, layersOf, hasKeys, elementRight, fileRight, nodeRight, branchRight, nodesRight, treeRight, filesOfNode, filesOfEntries, noneWith, rootsApart, layerFits, layersFit, someLonger, noOthers, givesRoot, layerBytes, layersGiveRoots, valueNumber}
+use Rattle.meaning.specs.Torrent.{File, isNumber, infoOf, treeOf, filesOf, plenOf, layersOf, hasKeys, elementRight, fileRight, nodeRight, branchRight, nodesRight, treeRight, filesOfNode, filesOfEntries, noOtherLength, lengthsAgree, layerFits, layersFit, someLonger, noOthers, givesRoot, layerBytes, layersGiveRoots, valueNumber}
 use Rattle.torrent.specs.Torrent.{readOf, fileRead}
 use Rattle.torrent.specs.NumberMeans.{number-is-the-values, read-number}
 use Rattle.torrent.specs.Answers.{FileIs}
@@ -28,7 +28,7 @@ use Rattle.torrent.specs.ReadMeans.{file-is}
 -- ---- a torrent gets 0 where all seven tests of its value pass
 
 all-pass : (es : Entries) → hasKeys es ≡ true → isNumber 2 (lookup keyMetaVersion (infoOf es)) ≡ true → isPieceLength (plenOf es) ≡ true
-    → treeRight (treeOf es) ≡ true → rootsApart (filesOf es) ≡ true → layersFit (plenOf es) (layersOf es) (filesOf es) ≡ true
+    → treeRight (treeOf es) ≡ true → lengthsAgree (filesOf es) ≡ true → layersFit (plenOf es) (layersOf es) (filesOf es) ≡ true
     → noOthers (plenOf es) (filesOf es) (layersOf es) ≡ true → layersGiveRoots (plenOf es) (layersOf es) (filesOf es) ≡ true → valueNumber es ≡ 0
 unfolding valueNumber
 all-pass es a b c d e f g h = rw (a, b, c, d, e, f, g, h) refl
@@ -83,9 +83,9 @@ module _ (root : List ℕ) where
   unfolding lookup same treeRight branchRight nodeRight nodesRight elementRight fileRight
   tree-right e = ap (λ (t : Bool). t && true) (eq-eqb (length root) 32 e)
 
-  apart-right : rootsApart (filesOf withRoot) ≡ true
-  unfolding lookup same filesOfEntries filesOfNode rootsApart noneWith
-  apart-right = refl
+  lengths-right : lengthsAgree (filesOf withRoot) ≡ true
+  unfolding lookup same filesOfEntries filesOfNode lengthsAgree noOtherLength
+  lengths-right = refl
 
   -- the root is the one key
   the-key : lookup root layers ≡ present (string layer)
@@ -116,7 +116,7 @@ module _ (root : List ℕ) where
 
   -- all tests pass
   with-right : length root ≡ 32 → layerRoot layer 0 1 ≡ root → valueNumber withRoot ≡ 0
-  with-right l e = all-pass withRoot keys-right version-right piece-right (tree-right l) apart-right fit-right others-right (gives-right e)
+  with-right l e = all-pass withRoot keys-right version-right piece-right (tree-right l) lengths-right fit-right others-right (gives-right e)
 
 -- ---- its size
 

@@ -32,7 +32,8 @@ use Rattle.meaning.specs.AmissLaws.{all-layers}
 use Rattle.metainfo.specs.Metainfo.{bytesIn, keysOf, metainfoOf}
 use Rattle.metainfo.specs.MetainfoLaws.{metainfo-right}
 use Rattle.metainfo.specs.declared.Keys.{Keys}
-use Rattle.filetree.specs.Tree.{Element, Listed, right, listed, filesIn, fileNumber, longs}
+use Rattle.filetree.specs.Tree.{Element, Listed, right, listed, filesIn, fileNumber}
+use Rattle.twins.specs.Twins.{layerCount}
 use Rattle.layers.specs.Layers.{stringIn, layerAt, rootBytes, layerString, startOf, sizeOf}
 use Rattle.filetree.specs.Reading.{element, elements, readFile, readFiles}
 use Rattle.joined.specs.FileLaws.{string-there}
@@ -191,7 +192,7 @@ taken-so s e = by-keys (eqb (metainfoOf s .number) 0) refl
     count = length (listed (filesIn t))
 
     long : ℕ
-    long = longs (k .plen) (listed (filesIn t))
+    long = layerCount (k .plen) (readFiles t (listed (filesIn t)))
 
     judged : eqb (k .number) 0 ≡ true → checkedOf s ≡ withJudged k (judgedAs number count long)
     judged q = unfold checkedOf judgedOf in rw q refl

@@ -14,6 +14,7 @@ use borrow.Author.Tests.{eq-eqb, ne-eqb}
 use Rattle.octets.specs.Octets.{cut}
 use Rattle.tree.specs.Geometry.{hasLayer}
 use Rattle.sorting.specs.Sorting.{Stands, SearchedFor}
+use Rattle.sorting.proofs.Telling.{part-is}
 use Rattle.filetree.specs.Token.{tokenAt}
 use Rattle.filetree.specs.declared.token.Token.{Token}
 use Rattle.twins.specs.Twins.{differs, tokenSize, sizeNoted, Meets}
@@ -35,17 +36,12 @@ module _ (t roots : List ℕ) (count : ℕ) (room : List ℕ) (i n r : ℕ) wher
   pub met-empty : n ≡ 0 → Meets t roots count room room i n r 0
   met-empty z = inl (z, refl, refl)
 
-  -- the root's bytes as they are cut for the search
-  root-is : take (r + 32 - r) (drop r t) ≡ cut t r 32
-  unfolding cut
-  root-is = let e : r + 32 - r ≡ 32 = omega arith in rw e refl
-
   module _ (z : n ≡ 0 → ⊥) (j : ℕ) (s : SearchedFor t roots count (take (r + 32 - r) (drop r t)) j) where
     pub met-here : j < count → (p known : ℕ) → p ≡ getD room j 0 → known ≡ sizeNoted t p → Meets t roots count room (set room j i) i n r known
     met-here h p known e q = by-search s
       where
         by-search : SearchedFor t roots count (take (r + 32 - r) (drop r t)) j → Meets t roots count room (set room j i) i n r known
-        by-search (inl (l, f)) = inr (z, (j, h, f ∙ root-is, q ∙ ap (sizeNoted t) e, refl))
+        by-search (inl (l, f)) = inr (z, (j, h, f ∙ part-is t r, q ∙ ap (sizeNoted t) e, refl))
         by-search (inr (f, g)) = absurd (omega arith)
 
     pub met-never : count ≤ j → Stands t roots count (cut t r 32) → ⊥
@@ -53,7 +49,7 @@ module _ (t roots : List ℕ) (count : ℕ) (room : List ℕ) (i n r : ℕ) wher
       where
         by-search : SearchedFor t roots count (take (r + 32 - r) (drop r t)) j → ⊥
         by-search (inl (l, f)) = omega arith
-        by-search (inr (f, g)) = g (w .0) (w .1) (w .2 ∙ sym root-is)
+        by-search (inr (f, g)) = g (w .0) (w .1) (w .2 ∙ sym (part-is t r))
 
 -- ---- tests
 
