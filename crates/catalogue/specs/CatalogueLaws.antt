@@ -24,7 +24,7 @@ use Rattle.filetree.specs.CountLaws.{roots-append}
 use Rattle.filetree.specs.declared.token.Token.{Token}
 use Rattle.filetree.specs.declared.token.Token.the-variants.{Opened, Closed, Leaf, BadToken}
 use Rattle.layers.specs.JudgeLaws.{tree-some}
-use Rattle.filetree.specs.Tree.{maxElements, Element, Listed, listedAs, down, Files, wrong, files, after, onward, onToken, filesFrom, filesBelow, right, listed, filesIn, rootsOf, longs, fileNumber}
+use Rattle.filetree.specs.Tree.{maxElements, Element, Listed, listedAs, down, Files, wrong, files, after, onward, onToken, filesFrom, filesBelow, right, listed, filesIn, rootsOf, fileNumber}
 use Rattle.filetree.specs.Count.{mostRoots}
 use Rattle.filetree.specs.PathLaws.{elementNumber, Holds, holds-element}
 use Rattle.filetree.specs.FilesLaws.{AllRight, files-right}
@@ -32,9 +32,9 @@ use Rattle.filetree.specs.Reading.{readFiles}
 use Rattle.meaning.specs.Torrent.{lengthsAgree}
 use Rattle.twins.specs.Twins.{layerCount}
 use Rattle.twins.specs.WalkLaws.{layers-roots}
-use Rattle.layers.specs.Layers.{keysWide, layerKeys, worst, rootBytes, layerString, startOf, sizeOf}
+use Rattle.layers.specs.Layers.{keysWide, layerKeys, LayersOpen, worst, rootBytes, layerString, startOf, sizeOf}
 use Rattle.torrent.specs.Torrent.{filesNumber, treeNumber, checkedOf}
-use Rattle.torrent.specs.CheckLaws.{LayersOpen, Whole, checked-whole}
+use Rattle.torrent.specs.CheckLaws.{Whole, checked-whole}
 use Rattle.torrent.specs.FindLaws.{PathGiven}
 use Rattle.torrent.specs.declared.check.Checked.{Checked}
 use Rattle.catalogue.specs.Catalogue.{partBytes, elementBytes, elementsBytes, headBytes, Parts, partsOf, recordOf, recordSize, recordsOf, listAnswer, listAfter}

@@ -126,10 +126,10 @@ module _ (t l : List ℕ) (plen : ℕ) where
     -- the roots once each
     module _ (m : ℕ) (em : m ≡ length (thinned t (sorted t (take (c .roots) roots)))) (once : List ℕ)
         (eo : once ≡ (thinned t (sorted t (take (c .roots) roots)) ++ drop m (sorted t (take (c .roots) roots))) ++ drop (c .roots) roots) where
-      kept : List ℕ
+      abbrev kept : List ℕ
       kept = thinned t (sorted t (rootsOf fs))
 
-      rest : List ℕ
+      abbrev rest : List ℕ
       rest = drop m (sorted t (take (c .roots) roots)) ++ drop (c .roots) roots
 
       size : m ≡ length kept

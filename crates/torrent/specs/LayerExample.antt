@@ -27,7 +27,7 @@ use Rattle.torrent.specs.ReadMeans.{file-is}
 
 -- ---- a torrent gets 0 where all seven tests of its value pass
 
-all-pass : (es : Entries) → hasKeys es ≡ true → isNumber 2 (lookup keyMetaVersion (infoOf es)) ≡ true → isPieceLength (plenOf es) ≡ true
+pub all-pass : (es : Entries) → hasKeys es ≡ true → isNumber 2 (lookup keyMetaVersion (infoOf es)) ≡ true → isPieceLength (plenOf es) ≡ true
     → treeRight (treeOf es) ≡ true → lengthsAgree (filesOf es) ≡ true → layersFit (plenOf es) (layersOf es) (filesOf es) ≡ true
     → noOthers (plenOf es) (filesOf es) (layersOf es) ≡ true → layersGiveRoots (plenOf es) (layersOf es) (filesOf es) ≡ true → valueNumber es ≡ 0
 unfolding valueNumber
@@ -36,7 +36,7 @@ all-pass es a b c d e f g h = rw (a, b, c, d, e, f, g, h) refl
 -- ---- with any root
 
 -- the two hashes of the layer
-abbrev layer : List ℕ
+abbrev pub layer : List ℕ
 layer = zeroHash ++ zeroHash
 
 module _ (root : List ℕ) where
@@ -121,21 +121,21 @@ module _ (root : List ℕ) where
 -- ---- its size
 
 -- a dictionary takes a byte more than its entries with their end
-dictionary-size : (es : Entries) → length (encode (dictionary es)) ≡ suc (length (encodeEntries es))
+pub dictionary-size : (es : Entries) → length (encode (dictionary es)) ≡ suc (length (encodeEntries es))
 unfolding encode
 dictionary-size es = refl
 
 -- a string of 32 bytes takes 35
-string-size : (b : List ℕ) → length b ≡ 32 → length (encodeString b) ≡ 35
+pub string-size : (b : List ℕ) → length b ≡ 32 → length (encodeString b) ≡ 35
 unfolding decimalIn
 string-size b e = let la = length-append (decimal (length b)) (colon ∷ b) in let d : length (decimal (length b)) ≡ 2 = rw e refl in omega arith
 
-value-size : (b : List ℕ) → length b ≡ 32 → length (encode (string b)) ≡ 35
+pub value-size : (b : List ℕ) → length b ≡ 32 → length (encode (string b)) ≡ 35
 unfolding encode
 value-size b e = string-size b e
 
 -- what does not depend on the root
-abbrev afterTree : Entries
+abbrev pub afterTree : Entries
 afterTree = entry keyMetaVersion (integer false 2) (entry keyPieceLength (integer false 16384) noEntries)
 
 fixed-sizes : (length (encodeString keyInfo) ≡ 6) × (length (encodeString keyPieceLayers) ≡ 15) × (length (encodeString keyFileTree) ≡ 11) × (length (encodeString (99 ∷ [])) ≡ 3)
@@ -177,7 +177,7 @@ with-size root e =
 abbrev pub theRoot : List ℕ
 theRoot = layerRoot layer 0 1
 
-root-size : length theRoot ≡ 32
+pub root-size : length theRoot ≡ 32
 unfolding layerRoot node
 root-size = pair-octets (node (layerLeaf layer 0) 0 0) (node (layerLeaf layer 0) 0 1) .size
 
@@ -216,11 +216,11 @@ longer = omega arith
 has-layer : lookup (longFile .root) (layersOf long) ≡ present (string layer)
 has-layer = ap (lookup theRoot) (the-layers theRoot) ∙ the-key theRoot
 
-layer-size : length layer ≡ 64
+pub layer-size : length layer ≡ 64
 unfolding zeroHash
 layer-size = refl
 
-one-string : (a b : List ℕ) → present (string a) ≡ present (string b) → a ≡ b
+pub one-string : (a b : List ℕ) → present (string a) ≡ present (string b) → a ≡ b
 one-string a b e = cc
 
 -- so these 64 bytes are what is answered
