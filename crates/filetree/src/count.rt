@@ -58,13 +58,7 @@ fn count_file(tally: Tally, length: usize, root: usize, roots: &mut [u32]) -> Ta
 }
 
 // The files of a directory, from its first entry on, with so many levels left below it: each directory inside takes one.
-fn count_directory(
-    t: &[u8],
-    at: usize,
-    levels: usize,
-    before: Tally,
-    roots: &mut [u32],
-) -> Counted
+fn count_directory(t: &[u8], at: usize, levels: usize, before: Tally, roots: &mut [u32]) -> Counted
     requires { ⌜ (L.length (now t) ≤ largestTorrent) × (L.length (now roots) ≡ mostRoots) × Within at before ⌝ }
     ensures { λ r. ⌜ Counts (now (t .entry)) at levels before (now (roots .entry)) (now (roots .exit)) r ⌝ }
 {
@@ -124,9 +118,6 @@ pub fn count_files(t: &[u8], roots: &mut [u32]) -> Counted
     if ends_here(t, 1) {
         return Counted::WrongTree; // an empty one
     }
-    let none = Tally {
-        files: 0,
-        roots: 0,
-    };
+    let none = Tally { files: 0, roots: 0 };
     count_directory(t, 1, ELEMENTS, none, roots)
 }

@@ -227,7 +227,7 @@ module _ (torrent : Entries) where
     λ w. number-is ∙ rw (a-no (w .0 .0 .0), b-no (w .0 .0 .1), c-no (w .0 .1), is-false d d-true (w .1)) refl,
   )
 
-  -- 26 EXACTLY WHEN those are right and two non-empty files have one root
+  -- 26 EXACTLY WHEN those are right and two non-empty files have one root and different lengths
   pub exactly-26 : (valueNumber torrent ≡ sameRoot) ↔ (NoneBelow26 torrent × Amiss26 torrent)
   exactly-26 = (
     λ q. (let p = past25 sameRoot (inr (omega arith)) q in (p .0, roots-amiss (filesOf torrent) (stop e from27 sameRoot (not-below from27 sameRoot (omega arith) range27) (p .1)))),

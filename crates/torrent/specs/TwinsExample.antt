@@ -252,15 +252,20 @@ twins-layer =
     let size : fileRead bytes 0 .size ≡ 64 = w .2 ∙ ap length b ∙ layer-size in
     (size, rw size at (w .3 ∙ b))
 
--- every field of both answers: both files have the length, the root, two path elements and the one layer
-pub twins-files : (fileRead bytes 0 ≡ record { number = 0; length = 16385; root = theRoot; elements = 2; start = fileRead bytes 0 .start; size = 64 }) × (fileRead bytes 1 ≡ fileRead bytes 0)
-twins-files =
+-- every field of both answers: each file has its length, its root, two path elements and the one layer
+abbrev pub answer : ℕ → FileRead
+answer size = record { number = 0; length = 16385; root = theRoot; elements = 2; start = fileRead bytes 0 .start; size = size }
+
+pub twins-one : fileRead bytes 0 ≡ answer 64
+twins-one =
     let a = twins-first in
+    file-of (fileRead bytes 0) 16385 theRoot 2 (fileRead bytes 0 .start) 64 (a .number) (a .size) (a .root) (a .elements) refl (twins-layer .0)
+
+pub twins-other : fileRead bytes 1 ≡ answer 64
+twins-other =
     let b = twins-second in
     let p = same-part bytes twins refl twins-valid twins-taken 1 0 second first at-second at-first refl refl in
-    let one = file-of (fileRead bytes 0) 16385 theRoot 2 (fileRead bytes 0 .start) 64 (a .number) (a .size) (a .root) (a .elements) refl (twins-layer .0) in
-    let other = file-of (fileRead bytes 1) 16385 theRoot 2 (fileRead bytes 0 .start) 64 (b .number) (b .size) (b .root) (b .elements) (p .0) (p .1 ∙ twins-layer .0) in
-    (one, other ∙ sym one)
+    file-of (fileRead bytes 1) 16385 theRoot 2 (fileRead bytes 0 .start) 64 (b .number) (b .size) (b .root) (b .elements) (p .0) (p .1 ∙ twins-layer .0)
 
 element-first : Nth (first .path) 0 (97 ∷ [])
 unfolding Nth

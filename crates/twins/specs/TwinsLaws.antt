@@ -85,7 +85,7 @@ agree-snoc (w ∷ vs) v =
     ap₂ (λ (a b : Bool). (eqb (w .size) 0 || a) && b) (other-snoc (w .root) (w .size) vs v) (agree-snoc vs v)
     ∙ table (eqb (w .size) 0) (eqb (v .size) 0) (noOtherLength (w .root) (w .size) vs) (noOtherLength (v .root) (v .size) vs) (same (w .root) (v .root)) (eqb (w .size) (v .size)) (lengthsAgree vs)
     ∙ ap₂ (λ (s q : Bool). ((eqb (w .size) 0 || noOtherLength (w .root) (w .size) vs) && lengthsAgree vs) && (eqb (v .size) 0 || (not (not (eqb (w .size) 0) && s && not q) && noOtherLength (v .root) (v .size) vs)))
-        (same-sym (w .root) (v .root)) (eqb-sym (w .size) (v .size))
+    (same-sym (w .root) (v .root)) (eqb-sym (w .size) (v .size))
 
 -- what agrees agrees in front
 other-front : (x : List ℕ) (n : ℕ) (vs ws : List File) → noOtherLength x n (vs ++ ws) ≡ true → noOtherLength x n vs ≡ true

@@ -107,7 +107,14 @@ fn one_more(long: usize, known: usize, length: usize, plen: usize) -> usize
 }
 
 // The same of all files, with nothing noted of any root.
-fn walk(t: &[u8], files: usize, roots: &[u32], count: usize, room: &mut [u32], plen: usize) -> Compared
+fn walk(
+    t: &[u8],
+    files: usize,
+    roots: &[u32],
+    count: usize,
+    room: &mut [u32],
+    plen: usize,
+) -> Compared
     requires { ⌜ Rooted (now t) (now roots) count × (right (filesIn (now t)) ≡ true) × (files ≡ L.length (listed (filesIn (now t)))) × (count ≤ L.length (now room)) × ((i : ℕ) → i < count → getD (now room) i 0 ≡ 0) × (L.length (now t) ≤ largestTorrent) ⌝ }
     ensures { λ r. ⌜ r ≡ comparedOf plen (readFiles (now (t .entry)) (listed (filesIn (now (t .entry))))) ⌝ }
 {
@@ -158,7 +165,14 @@ fn forget(room: &mut [u32], count: usize)
 }
 
 // The files of the right tree t compared, with the positions of their roots, each root once; `room` is work space.
-pub fn compare(t: &[u8], files: usize, roots: &[u32], count: usize, room: &mut [u32], plen: usize) -> Compared
+pub fn compare(
+    t: &[u8],
+    files: usize,
+    roots: &[u32],
+    count: usize,
+    room: &mut [u32],
+    plen: usize,
+) -> Compared
     requires { ⌜ Rooted (now t) (now roots) count × (right (filesIn (now t)) ≡ true) × (files ≡ L.length (listed (filesIn (now t)))) × (count ≤ L.length (now room)) × (L.length (now t) ≤ largestTorrent) ⌝ }
     ensures { λ r. ⌜ r ≡ comparedOf plen (readFiles (now (t .entry)) (listed (filesIn (now (t .entry))))) ⌝ }
 {
