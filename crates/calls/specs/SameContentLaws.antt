@@ -1,7 +1,7 @@
 -- 02, request 2: 26 exactly when two non-empty files have one root and different lengths and no lower number is due; a torrent keeps the
 -- number that it had, unless that was 26; one in which no two non-empty files have one root keeps it, and is never 26.
 -- Assumes nothing.
-use mathlib.Core.Path.{_≡_, refl, sym, ap, _∙_}
+use mathlib.Core.Path.{_≡_, refl, sym, _∙_}
 use mathlib.Core.Logic.{_⊎_, inl, inr, _↔_}
 use mathlib.Core.Bool.{Bool, true, false, cond, not, _&&_, _||_, false≢true, and-eq-true-iff}
 use mathlib.Core.List.{List, [], _∷_}
@@ -17,20 +17,14 @@ use Rattle.bencode.specs.Grammar.{dictionary, Entries, encode, Valid}
 use Rattle.bencode.specs.Parts.{lookup}
 use Rattle.meaning.specs.Keys.{keyMetaVersion}
 use Rattle.meaning.specs.Torrent.{File, isNumber, infoOf, treeOf, filesOf, plenOf, layersOf, hasKeys, treeRight, noOtherLength, lengthsAgree, layersFit, noOthers, layersGiveRoots, valueNumber}
-use Rattle.meaning.specs.Amiss.{TwoLengths, NoneBelow26}
 use Rattle.meaning.specs.TestsLaws.{roots-right}
 use Rattle.meaning.specs.AmissLaws.{exactly-26}
 use Rattle.torrent.specs.Torrent.{readOf}
-use Rattle.torrent.specs.Answers.{Says, encodes}
+use Rattle.torrent.specs.Answers.{encodes}
 use Rattle.torrent.specs.NumberMeans.{number-is-the-values, no-other-number, read-number, value-only}
-use Rattle.calls.specs.SameContent.{noneWith, rootsApart, numberBefore}
+use Rattle.calls.specs.SameContent.{TwoLengthsIn, noneWith, rootsApart, numberBefore}
 
 -- ---- 26
-
--- the bytes encode a torrent with nothing amiss below 26 in which two non-empty files have one root and different lengths
-abbrev pub TwoLengthsIn : List ℕ → Type 0
-TwoLengthsIn s =
-    (length s ≤ largestTorrent) × ((es : Entries) × Valid (dictionary es) maxLevels × (s ≡ encode (dictionary es)) × NoneBelow26 es × TwoLengths (filesOf es))
 
 -- kd_torrent_read answers 26 EXACTLY WHEN that is so
 pub read-26 : (s : List ℕ) → (readOf s .number ≡ sameRoot) ↔ TwoLengthsIn s

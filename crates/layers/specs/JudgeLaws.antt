@@ -14,7 +14,6 @@ use Rattle.filetree.specs.Tree.{maxElements, Element, Listed, listedAs, down, F
 use Rattle.filetree.specs.TreeLaws.{empty-tree, tree-below, Passed, passed-none, passed-bad, passed-end, passed-closed, passed-file, passed-wrong, inside-ends, passed-directory}
 use Rattle.filetree.specs.declared.token.Token.the-variants.{Opened, Closed, Leaf, BadToken}
 use Rattle.layers.specs.Layers.{layerNumber, lower, worst, numberedOf, Judges}
-use Rattle.layers.specs.declared.Numbered.{Numbered}
 use Rattle.layers.specs.declared.Numbered.the-variants.{Past, WrongTree}
 
 worst-append : (t l : List ℕ) (plen w : ℕ) (fs gs : List Listed) → worst t l plen w (fs ++ gs) ≡ worst t l plen (worst t l plen w fs) gs

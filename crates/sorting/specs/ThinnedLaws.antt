@@ -13,7 +13,7 @@ use Rattle.bencode.specs.Grammar.{precedes}
 use Rattle.sorting.specs.Sorting.{Ascending, Stands, lower, sorted, thinnedFrom, thinned}
 use Rattle.sorting.specs.Order.{Fit, All, Rising}
 use Rattle.sorting.specs.PrecedesLaws.{precedes-either}
-use Rattle.sorting.specs.MovedLaws.{moved-back, moved-all, moved-fit, all-of, all-at, all-so}
+use Rattle.sorting.specs.MovedLaws.{moved-back, moved-all, all-of, all-at, all-so}
 use Rattle.sorting.specs.SortedLaws.{sorted-so}
 
 module _ (s : List ℕ) where

@@ -27,7 +27,6 @@ use Rattle.filetree.specs.declared.count.Counted.{Counted}
 use Rattle.filetree.specs.declared.count.Counted.the-variants.{Past, WrongTree}
 use Rattle.twins.specs.Twins.{layerCount, comparedOf, Rooted}
 use Rattle.twins.specs.WalkLaws.{roots-stand, layers-roots}
-use Rattle.twins.specs.declared.Compared.{Compared}
 use Rattle.twins.specs.declared.Compared.the-variants.{Agree, Differ}
 use Rattle.layers.specs.Layers.{keysWide, layerKeys, Indexed, LayersOpen, worst}
 use Rattle.torrent.specs.Torrent.{filesNumber, treeNumber, judgedAs, judgedOf, unread, withJudged, checkedOf}

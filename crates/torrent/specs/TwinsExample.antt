@@ -4,18 +4,18 @@
 use mathlib.Core.Path.{_≡_, refl, sym, ap, ap₂, _∙_}
 use mathlib.Core.Bool.{Bool, true, false, cond, not, _&&_, _||_}
 use mathlib.Core.List.{List, [], _∷_, _++_}
-use Prim.Native.Nat.{ℕ, _+_, _≤_, _<_}
+use Prim.Native.Nat.{ℕ, _+_, _<_}
 use native.Mathlib.Omega.{arith}
 use lib.ListN.{length}
 use borrow.Author.Tests.{eq-eqb}
-use Rattle.meaning.specs.Keys.{keyLength, keyPiecesRoot, keyInfo, keyFileTree, keyPieceLength, keyMetaVersion, keyPieceLayers}
-use Rattle.limits.specs.Limits.{maxLevels, largestTorrent}
+use Rattle.meaning.specs.Keys.{keyLength, keyPiecesRoot, keyInfo, keyFileTree, keyMetaVersion, keyPieceLayers}
+use Rattle.limits.specs.Limits.{maxLevels}
 use Rattle.octets.specs.Octets.{cut, zeroHash, same}
 use Rattle.octets.specs.OctetsLaws.{same-refl}
 use Rattle.sha256.specs.Sha256.{sha256}
 use Rattle.tree.specs.Geometry.{blockCount, ceilDiv, isPieceLength, pieceLayer, pieceCount, height, heightFrom, hasLayer}
 use Rattle.tree.specs.Values.{layerRoot}
-use Rattle.bencode.specs.Grammar.{Value, integer, string, dictionary, Entries, noEntries, entry, decimalIn, encodeString, encode, encodeEntries, precedes, Valid}
+use Rattle.bencode.specs.Grammar.{integer, string, dictionary, Entries, noEntries, entry, decimalIn, encodeString, encode, encodeEntries, precedes, Valid}
 use Rattle.bencode.specs.PartsLaws.{entries-length}
 use Rattle.bencode.specs.Parts.{Lookup, present, absent, lookup}
 use Rattle.meaning.specs.Nth.{Nth}

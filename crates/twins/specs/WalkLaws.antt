@@ -1,31 +1,30 @@
 -- The files of a tree one after the other, whatever directories they are in; what is noted when some are passed, and that one more keeps
 -- it so.
 -- Assumes nothing.
-use mathlib.Core.Path.{_≡_, refl, sym, ap, ap₂, _∙_}
-use mathlib.Core.Logic.{_⊎_, inl, inr}
+use mathlib.Core.Path.{_≡_, refl, sym, ap, _∙_}
+use mathlib.Core.Logic.{inl, inr}
 use mathlib.Core.Bool.{Bool, true, false, cond, _&&_, false≢true}
-use mathlib.Core.List.{List, [], _∷_, _++_, map, append-nil, append-assoc, map-append}
+use mathlib.Core.List.{List, [], _∷_, _++_, append-nil, append-assoc, map-append}
 use Prim.Native.Nat.{ℕ, zero, suc, _+_, _-_, _≤_, _<_}
 use native.Mathlib.Omega.{arith}
 use native.Mathlib.Decide.{ℕ-discrete}
 use lib.ListN.{length, drop, getD, set, length-set}
 use lib.Dec.{eqb}
 use lib.Seq.{getD-set-same, getD-set-other}
-use borrow.Author.Tests.{eqb-true, eqb-false, eq-eqb, ne-eqb}
-use Rattle.octets.specs.Octets.{cut, zeroHash}
+use borrow.Author.Tests.{eqb-true, eq-eqb, ne-eqb}
+use Rattle.octets.specs.Octets.{cut}
 use Rattle.tree.specs.Geometry.{hasLayer}
 use Rattle.meaning.specs.Torrent.{File, lengthsAgree}
-use Rattle.sorting.specs.Sorting.{Ascending, Stands}
+use Rattle.sorting.specs.Sorting.{Stands}
 use Rattle.sorting.specs.SortingLaws.{ascending-one}
 use Rattle.filetree.specs.Token.{endsHere, tokenAt}
-use Rattle.filetree.specs.TokenLaws.{leaf-ends, opened-ends, token-none}
+use Rattle.filetree.specs.TokenLaws.{leaf-ends, opened-ends}
 use Rattle.filetree.specs.Tree.{maxElements, Element, Listed, listedAs, down, Files, wrong, files, after, onward, onToken, filesFrom, filesBelow, filesIn, right, listed, rootsOf}
 use Rattle.filetree.specs.Reading.{readFile, readFiles, rootRead}
 use Rattle.filetree.specs.declared.token.Token.{Token}
 use Rattle.filetree.specs.declared.token.Token.the-variants.{Opened, Closed, Leaf, BadToken}
-use Rattle.twins.specs.Twins.{longRoots, onceEach, layerCount, comparedOf, lengthKnown, differs, tokenSize, sizeNoted, RootsStand, Rooted, Meets}
+use Rattle.twins.specs.Twins.{longRoots, onceEach, layerCount, comparedOf, lengthKnown, differs, sizeNoted, RootsStand, Rooted, Meets}
 use Rattle.twins.specs.TwinsLaws.{long-full, empty-short, empty-agrees, empty-known, empty-layers, differs-so, full-agrees, full-known, others-known, full-layers, once-fewer}
-use Rattle.twins.specs.declared.Compared.{Compared}
 use Rattle.twins.specs.declared.Compared.the-variants.{Agree, Differ}
 
 -- ---- token by token
