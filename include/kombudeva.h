@@ -274,7 +274,7 @@ typedef struct { uint32_t number; kd_hash info_hash; uint64_t piece_length; uint
 
 /*
  * A number, and beside KD_DONE one file: the pieces root (zero for an empty file), the number of path elements, and the part
- * of the torrent's bytes that is its piece layer, as kd_load_layer takes it (0 0 if it has none).
+ * of the torrent's bytes that is its piece layer, as kd_load_layer takes it (0 0 if it has none). Files with the same root share it.
  */
 typedef struct {
     uint32_t number; uint64_t length; kd_hash root; uint64_t elements; uint64_t layer_start; uint64_t layer_size;
