@@ -43,7 +43,7 @@ extern "C" {
 #endif
 
 /* The version of header and library. Its second figure rises whenever a struct, a function or an answer changes. */
-#define KD_VERSION "0.5.0"
+#define KD_VERSION "0.6.0"
 
 /* ---- The numbers given back, each with what it says. ---- */
 
@@ -73,7 +73,7 @@ extern "C" {
 #define KD_PIECE_LENGTH_OUT_OF_RANGE 24
 #define KD_WRONG_TREE 25                /* the file tree isn't right, or has a path element that is empty, `.` or `..`, or
                                            has a `/` or a zero byte in it */
-#define KD_SAME_ROOT 26                 /* two files that aren't empty with the same root */
+#define KD_SAME_ROOT 26                 /* two files that aren't empty with the same root and different lengths */
 #define KD_LAYERS_AMISS 27              /* `piece layers` hasn't exactly the roots of the files longer than the piece length,
                                            or not 32 bytes per piece */
 #define KD_LAYER_DIFFERS 28             /* a layer doesn't give its root */
@@ -303,7 +303,7 @@ typedef struct { uint32_t number; kd_hash info_hash; uint64_t piece_length; uint
 
 /*
  * A number, and beside KD_DONE one file: the pieces root (zero for an empty file), the number of path elements, and the part
- * of the torrent's bytes that is its piece layer, as kd_load_layer takes it (0 0 if it has none).
+ * of the torrent's bytes that is its piece layer, as kd_load_layer takes it (0 0 if it has none). Files with the same root share it.
  */
 typedef struct {
     uint32_t number; uint64_t length; kd_hash root; uint64_t elements; uint64_t layer_start; uint64_t layer_size;

@@ -80,7 +80,7 @@ pieceLengthOutOfRange = 24
 abbrev pub wrongTree : ℕ
 wrongTree = 25
 
--- two non-empty files with the same root
+-- two non-empty files with the same root and different lengths
 abbrev pub sameRoot : ℕ
 sameRoot = 26
 

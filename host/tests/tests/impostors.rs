@@ -12,7 +12,7 @@ use reference::messages::{Header, HEAD};
 use reference::number::*;
 use reference::sha256::sha256;
 use reference::store::{facts_of, hold, size_of, CELL};
-use reference::torrent::{File, Torrent};
+use reference::torrent::{contents, File, Torrent};
 use reference::tree::Position;
 use reference::{Answer, Hashed};
 
@@ -470,6 +470,36 @@ fn path_elements_that_are_let_through() {
             }
         });
     }
+}
+
+/// Whether an earlier file has the same root, and is not empty.
+fn is_a_later_twin(torrent: &[u8], file: u64) -> bool {
+    contents(torrent).is_ok_and(|all| {
+        let (before, rest) = all.files.split_at(file as usize);
+        rest[0].length > 0 && before.iter().any(|other| other.length > 0 && other.root == rest[0].root)
+    })
+}
+
+#[test]
+fn twins_read_wrong() {
+    assert_torrent_found_out("two equal files refused", &|call| match by_reference(call) {
+        Outcome { given: Given::Torrent(torrent), .. }
+            if torrent.number == DONE && (0..torrent.files).any(|file| is_a_later_twin(&call.input, file)) =>
+        {
+            let given = Given::Torrent(Torrent { number: SAME_ROOT, info_hash: [0; 32], piece_length: 0, files: 0 });
+            Outcome { given, ..untouched(call) }
+        }
+        outcome => outcome,
+    });
+    assert_torrent_found_out("a layer for the first twin alone", &|call| match by_reference(call) {
+        Outcome { given: Given::File(file), .. }
+            if file.layer_size > 0 && is_a_later_twin(&call.input, call.numbers[0]) =>
+        {
+            let given = Given::File(File { layer_start: 0, layer_size: 0, ..file });
+            Outcome { given, ..untouched(call) }
+        }
+        outcome => outcome,
+    });
 }
 
 fn torrent_file_refused(number: u32) -> Given {
