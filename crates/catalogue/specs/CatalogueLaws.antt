@@ -9,11 +9,11 @@ use native.Mathlib.Decide.{decLt}
 use lib.ListN.{length, take, drop, getD, length-append}
 use lib.Seq.{take-at, drop-append-add}
 use lib.Dec.{eqb, ltb}
-use borrow.Author.Tests.{eqb-false, eq-eqb, ne-eqb, le-ltb, lt-ltb}
+use borrow.Author.Tests.{eqb-false, le-ltb, lt-ltb}
 use Rattle.limits.specs.Limits.{largestTorrent}
-use Rattle.octets.specs.Octets.{cut, zeroHash, be, pasted}
+use Rattle.octets.specs.Octets.{cut, zeroHash, be}
 use Rattle.octets.specs.OctetsLaws.{cut-length, be-octets, zero-octets}
-use Rattle.numbers.specs.Numbers.{noRoom, wrongTree, sameRoot, layersAmiss, refused, done}
+use Rattle.numbers.specs.Numbers.{wrongTree, sameRoot, layersAmiss}
 use Rattle.bencode.specs.declared.scalar.ByteString.{ByteString}
 use Rattle.bencode.specs.declared.scalar.ByteString.the-variants.{Content, NoString}
 use Rattle.sorting.specs.Sorting.{apart, stringsAt}
@@ -28,13 +28,13 @@ use Rattle.layers.specs.JudgeLaws.{tree-some}
 use Rattle.filetree.specs.Tree.{maxElements, Element, Listed, listedAs, down, Files, wrong, files, after, onward, onToken, filesFrom, filesBelow, right, listed, filesIn, rootsOf, longs, fileNumber}
 use Rattle.filetree.specs.Count.{mostRoots}
 use Rattle.filetree.specs.PathLaws.{elementNumber, Holds, holds-element}
-use Rattle.filetree.specs.FilesLaws.{AllRight, files-right, longs-roots}
+use Rattle.filetree.specs.FilesLaws.{AllRight, longs-roots}
 use Rattle.layers.specs.Layers.{keysWide, layerKeys, worst, rootBytes, layerString, startOf, sizeOf}
-use Rattle.torrent.specs.Torrent.{filesNumber, treeNumber, checkedOf}
-use Rattle.torrent.specs.CheckLaws.{LayersOpen, Whole, checked-whole}
+use Rattle.torrent.specs.Torrent.{filesNumber, treeNumber}
+use Rattle.torrent.specs.CheckLaws.{LayersOpen, Whole}
 use Rattle.torrent.specs.FindLaws.{PathGiven}
 use Rattle.torrent.specs.declared.check.Checked.{Checked}
-use Rattle.catalogue.specs.Catalogue.{partBytes, elementBytes, elementsBytes, headBytes, Parts, partsOf, recordOf, recordSize, recordsOf, listAnswer, listAfter}
+use Rattle.catalogue.specs.Catalogue.{partBytes, elementBytes, elementsBytes, headBytes, Parts, recordOf, recordSize, recordsOf}
 use Rattle.catalogue.specs.declared.record.Listing.{Listing}
 use Rattle.catalogue.specs.declared.record.Record.{Record}
 
@@ -78,7 +78,7 @@ element-some base [] k h = absurd (omega arith)
 element-some base (e ∷ es) zero h = refl
 element-some base (e ∷ es) (suc k) h = element-some base es k (omega arith)
 
-element-none : (base : ℕ) (p : List Element) (k : ℕ) → length p ≤ k → elementBytes base p k ≡ be 8 0
+pub element-none : (base : ℕ) (p : List Element) (k : ℕ) → length p ≤ k → elementBytes base p k ≡ be 8 0
 unfolding elementBytes
 element-none base [] k h = refl
 element-none base (e ∷ es) zero h = absurd (omega arith)
@@ -114,13 +114,13 @@ same-record t l path k n r d at p w e = rw (same-elements (k .tree) path d p w e
 pub part-length : (a b : ℕ) → length (partBytes a b) ≡ 8
 part-length a b = refl
 
-element-length : (base : ℕ) (p : List Element) (k : ℕ) → length (elementBytes base p k) ≡ 8
+pub element-length : (base : ℕ) (p : List Element) (k : ℕ) → length (elementBytes base p k) ≡ 8
 unfolding elementBytes
 element-length base [] k = refl
 element-length base (e ∷ es) zero = refl
 element-length base (e ∷ es) (suc k) = element-length base es k
 
-elements-length : (base : ℕ) (p : List Element) (m : ℕ) → length (elementsBytes base p m) ≡ 8 * m
+pub elements-length : (base : ℕ) (p : List Element) (m : ℕ) → length (elementsBytes base p m) ≡ 8 * m
 unfolding elementsBytes
 elements-length base p zero = refl
 elements-length base p (suc m) = length-append (elementsBytes base p m) (elementBytes base p m) ∙ omega (arith, elements-length base p m, element-length base p m)
@@ -324,33 +324,3 @@ module _ (s : List ℕ) (c : Checked) (w : Whole s c) where
 
   pub few-files : c .files ≤ largestTorrent
   few-files = let a = files-few t (w .tree-right) .0 in let b = w .all-files in let d = tree-inside in omega arith
-
--- the whole output where the list has room: the records, and the bytes behind them as they were
-pub list-whole : (s out : List ℕ) → checkedOf s .keys .number ≡ 0 → recordSize * checkedOf s .files ≤ length out
-    → listAfter s out ≡ recordsOf (partsOf s (checkedOf s .keys)) (listed (filesIn (bytesIn s (checkedOf s .keys .tree)))) ++ drop (recordSize * checkedOf s .files) out
-unfolding listAfter pasted
-list-whole s out z h =
-    let fs = listed (filesIn (bytesIn s (checkedOf s .keys .tree))) in
-    let records = recordsOf (partsOf s (checkedOf s .keys)) fs in
-    let e : 0 + length records ≡ recordSize * checkedOf s .files = omega (arith, records-length (partsOf s (checkedOf s .keys)) fs (files-right (bytesIn s (checkedOf s .keys .tree))), checked-whole s z .all-files) in
-    rw (eq-eqb (checkedOf s .keys .number) 0 z, le-ltb (length out) (recordSize * checkedOf s .files) h) (ap (λ (n : ℕ). records ++ drop n out) e)
-
--- ---- a refusal
-
--- whatever is refused is left as it was, with no count
-pub list-refused : (s out : List ℕ) → (listAnswer s out .number ≡ 0 → ⊥) → (listAfter s out ≡ out) × (listAnswer s out .count ≡ 0)
-unfolding listAnswer listAfter
-list-refused s out h = by-number (eqb (checkedOf s .keys .number) 0) (ltb (length out) (recordSize * checkedOf s .files)) h
-  where
-    by-number : (a b : Bool)
-        → (cond a (cond b (refused noRoom) (done (recordSize * checkedOf s .files))) (refused (checkedOf s .keys .number)) .number ≡ 0 → ⊥)
-        → (cond a (cond b out (pasted out 0 (recordsOf (partsOf s (checkedOf s .keys)) (listed (filesIn (bytesIn s (checkedOf s .keys .tree))))))) out ≡ out)
-        × (cond a (cond b (refused noRoom) (done (recordSize * checkedOf s .files))) (refused (checkedOf s .keys .number)) .count ≡ 0)
-    by-number true true g = (refl, refl)
-    by-number true false g = absurd (g refl)
-    by-number false b g = (refl, refl)
-
--- the torrent's own number comes before 11
-pub list-own-number : (s out : List ℕ) → (checkedOf s .keys .number ≡ 0 → ⊥) → listAnswer s out .number ≡ checkedOf s .keys .number
-unfolding listAnswer
-list-own-number s out h = rw (ne-eqb (checkedOf s .keys .number) 0 h) refl
