@@ -15,7 +15,6 @@ use Rattle.octets.specs.Octets.{cut, zeroHash, be}
 use Rattle.octets.specs.OctetsLaws.{cut-length, be-octets, zero-octets}
 use Rattle.numbers.specs.Numbers.{wrongTree, sameRoot, layersAmiss}
 use Rattle.bencode.specs.declared.scalar.ByteString.{ByteString}
-use Rattle.bencode.specs.declared.scalar.ByteString.the-variants.{Content, NoString}
 use Rattle.sorting.specs.Sorting.{apart, stringsAt}
 use Rattle.metainfo.specs.Metainfo.{bytesIn}
 use Rattle.filetree.specs.Token.{tokenAt}
@@ -26,51 +25,17 @@ use Rattle.filetree.specs.declared.token.Token.{Token}
 use Rattle.filetree.specs.declared.token.Token.the-variants.{Opened, Closed, Leaf, BadToken}
 use Rattle.layers.specs.JudgeLaws.{tree-some}
 use Rattle.filetree.specs.Tree.{maxElements, Element, Listed, listedAs, down, Files, wrong, files, after, onward, onToken, filesFrom, filesBelow, right, listed, filesIn, rootsOf, longs, fileNumber}
-use Rattle.filetree.specs.Count.{mostRoots}
 use Rattle.filetree.specs.PathLaws.{elementNumber, Holds, holds-element}
 use Rattle.filetree.specs.FilesLaws.{AllRight, longs-roots}
 use Rattle.layers.specs.Layers.{keysWide, layerKeys, worst, rootBytes, layerString, startOf, sizeOf}
 use Rattle.torrent.specs.Torrent.{filesNumber, treeNumber}
-use Rattle.torrent.specs.CheckLaws.{LayersOpen, Whole}
-use Rattle.torrent.specs.FindLaws.{PathGiven}
+use Rattle.torrent.specs.CheckLaws.{Whole}
 use Rattle.torrent.specs.declared.check.Checked.{Checked}
 use Rattle.catalogue.specs.Catalogue.{partBytes, elementBytes, elementsBytes, headBytes, Parts, recordOf, recordSize, recordsOf}
+use Rattle.catalogue.specs.Asks.{arrayElement, arrayElements, recordFrom, partsWith, Listable}
 use Rattle.catalogue.specs.declared.record.Listing.{Listing}
-use Rattle.catalogue.specs.declared.record.Record.{Record}
-
--- a string ends behind its beginning, and within the torrent, of which its part begins at `base`
-abbrev pub Forward : ℕ → ByteString → Type 0
-Forward base NoString = Unit {0}
-Forward base (Content a b) = (a ≤ b) × (base + b ≤ largestTorrent)
 
 -- ---- from an array
-
--- element k of the n that an array has
-unfoldable pub arrayElement : ℕ → List ℕ → ℕ → ℕ → List ℕ
-arrayElement base path n k =
-    cond (ltb k n)
-    (partBytes (base + getD path (2 * k) 0) (getD path (2 * k + 1) 0 - getD path (2 * k) 0))
-    (be 8 0)
-
-unfoldable pub arrayElements : ℕ → List ℕ → ℕ → ℕ → List ℕ
-arrayElements base path n zero = []
-arrayElements base path n (suc m) = arrayElements base path n m ++ arrayElement base path n m
-
--- the record of a file whose path is in an array
-unfoldable pub recordFrom : List ℕ → List ℕ → List ℕ → Record → List ℕ
-recordFrom t l path f =
-    headBytes (f .list .layers) (f .length) (rootBytes t (f .length) (f .root)) (layerString l (f .list .plen) (f .length) (cut t (f .root) 32)) (f .elements)
-    ++ arrayElements (f .list .tree) path (f .elements) maxElements
-
--- it can be written
-pub record RecordRight (tree layers room : ℕ) (path : List ℕ) (f : Record) : Type 0 where
-  pub root-within : (f .length ≡ 0 → ⊥) → f .root + 32 ≤ tree
-  pub layers-within : f .list .layers + layers ≤ largestTorrent
-  pub path-given : PathGiven path (f .elements) (f .list .tree)
-  pub fits : f .at + recordSize ≤ room
-
-abbrev pub partsWith : List ℕ → List ℕ → Listing → Parts
-partsWith t l k = record { t = t; l = l; tree = k .tree; layers = k .layers; plen = k .plen }
 
 element-some : (base : ℕ) (p : List Element) (k : ℕ) → k < length p → elementBytes base p k ≡ partBytes (base + elementNumber p k .start) (elementNumber p k .end - elementNumber p k .start)
 unfolding elementBytes elementNumber
@@ -261,15 +226,6 @@ files-few t e = by-files (filesIn t) refl e (tree-below t (tree-some t e))
 
 -- ---- what a torrent that gets 0 has
 
--- the parts t and l of a torrent, by which its list is written
-pub record Ready (t l : List ℕ) (k : Listing) : Type 0 where
-  pub tree-within : k .tree + length t ≤ largestTorrent
-  pub layers-within : k .layers + length l ≤ largestTorrent
-  pub tree-right : right (filesIn t) ≡ true
-  pub opened : LayersOpen l
-  pub keyed : (keysWide l && eqb (length (layerKeys l)) (k .count)) ≡ true
-  pub few-long : k .count ≤ mostRoots
-
 -- 27 is out where a torrent gets 0
 tree-keyed : (t l : List ℕ) (plen : ℕ) (fs : Files) → treeNumber t l plen fs ≡ 0 → (keysWide l && eqb (length (layerKeys l)) (longs plen (listed fs))) ≡ true
 unfolding treeNumber filesNumber
@@ -303,7 +259,7 @@ module _ (s : List ℕ) (c : Checked) (w : Whole s c) where
   tree-inside : c .keys .tree .start + length t ≤ largestTorrent
   tree-inside = let a = w .opened .tree-size in let b = w .opened .tree-forward in let d = w .opened .tree-within in let f = w .opened .small in omega arith
 
-  pub whole-ready : Ready t l (listingOf c)
+  pub whole-ready : Listable t l (listingOf c)
   whole-ready =
       let a = w .opened .layers-size in
       let b = w .opened .layers-forward in
