@@ -3,9 +3,10 @@
 use mathlib.Core.Path.{_≡_}
 use mathlib.Core.Bool.{true, cond}
 use mathlib.Core.List.{List}
-use Prim.Native.Nat.{ℕ, _+_, _*_, _≤_}
+use Prim.Native.Nat.{ℕ, _+_, _*_, _/_, _≤_}
 use lib.ListN.{length}
 use lib.Dec.{eqb}
+use Rattle.limits.specs.Limits.{largestTorrent}
 use Rattle.octets.specs.Octets.{pasted}
 use Rattle.filetree.specs.Tree.{Element, Listed, Files, wrong, files, filesBelow, right, listed, rootsOf}
 use Rattle.filetree.specs.declared.count.Tally.{Tally}
@@ -14,7 +15,7 @@ use Rattle.filetree.specs.declared.count.Counted.the-variants.{Past, Wro
 
 -- a file that is not empty takes 64 bytes or more: the largest torrent has no more of them
 abbrev pub mostRoots : ℕ
-mostRoots = 16384
+mostRoots = largestTorrent / 64
 
 abbrev pub noTally : Tally
 noTally = record { files = 0; roots = 0 }

@@ -150,8 +150,8 @@ module _ (t : List ℕ) (at levels : ℕ) (before : Tally) (roots₀ roots : Lis
     room-left l = let x = w .within .few-roots in let y = w .sized in omega arith
 
     module _ (a b n r k : ℕ) (e : tokenAt t i ≡ Leaf a b n r k) (l : length t ≤ largestTorrent) where
-      pub file-asked : Within (2 ^ 20) c × (c .roots < length roots) × ((n ≡ 0 → ⊥) → r < 2 ^ 32)
-      file-asked = (further i (2 ^ 20) c (omega arith) (w .within), room-left l, λ z. let x = leaf-ends t i a b n r k e .2 z .1 in omega arith)
+      pub file-asked : Within largestTorrent c × (c .roots < length roots) × ((n ≡ 0 → ⊥) → r < 2 ^ 32)
+      file-asked = (further i largestTorrent c (omega arith) (w .within), room-left l, λ z. let x = leaf-ends t i a b n r k e .2 z .1 in omega arith)
 
       pub counted-file : (c′ : Tally) (roots′ : List ℕ) → c′ ≡ tallyWith n c → roots′ ≡ cond (eqb n 0) roots (set roots (c .roots) r)
           → CountedAt t at levels before roots₀ roots′ below k c′

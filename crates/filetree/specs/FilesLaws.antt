@@ -31,7 +31,7 @@ path-element end [] w k = (omega arith, omega arith)
 path-element end (e ∷ es) w zero = (w .0, w .1)
 path-element end (e ∷ es) w (suc k) = path-element end es (w .2) k
 
--- in a tree of so many bytes: a root within it, unless the file is empty; no file too long; 1 to 28 path elements within it
+-- in a tree of so many bytes: a root within it, unless the file is empty; no file too long; 1 to `maxElements` path elements within it
 pub record FileRight (end : ℕ) (f : Listed) : Type 0 where
   pub root-within : (f .size ≡ 0 → ⊥) → f .root + 32 ≤ end
   pub small : f .size ≤ longestFile

@@ -3,6 +3,7 @@
 use crate::token::Token;
 use crate::token::ends_here;
 use crate::token::read_token;
+use limits::LARGEST_TORRENT;
 use limits::LEVELS;
 ghost use mathlib.Core.Path.{_≡_};
 ghost use mathlib.Core.Bool.{true, cond};
@@ -15,11 +16,11 @@ ghost use Rattle.octets.specs.Octets.{pasted};
 ghost use Rattle.filetree.specs.Tree.{filesIn, right, listed, rootsOf};
 ghost use Rattle.filetree.specs.Count.{mostRoots, tallyWith, noTally, countedOf, Within, Counts};
 
-// A path has at most so many elements: with the file's dictionary, `file tree`, `info` and the torrent that makes 32 levels.
+// A path has at most so many elements: with the file's dictionary, `file tree`, `info` and the torrent that makes LEVELS.
 pub const ELEMENTS: usize = LEVELS - 4;
 
 // A file that is not empty takes 64 bytes or more: the largest torrent has no more of them.
-pub const MOST: usize = 16384;
+pub const MOST: usize = LARGEST_TORRENT / 64;
 
 // How many files there are, and how many of them are not empty.
 pub struct Tally {
@@ -47,7 +48,7 @@ fn keep_root(roots: &mut [u32], full: usize, length: usize, root: usize) -> usiz
 
 // The tally with one file more; its root's position goes behind the others in `roots`.
 fn count_file(tally: Tally, length: usize, root: usize, roots: &mut [u32]) -> Tally
-    requires { ⌜ Within (2 ^ 20) tally × (tally .roots < L.length (now roots)) × ((length ≡ 0 → ⊥) → root < 2 ^ 32) ⌝ }
+    requires { ⌜ Within largestTorrent tally × (tally .roots < L.length (now roots)) × ((length ≡ 0 → ⊥) → root < 2 ^ 32) ⌝ }
     ensures { λ r. ⌜ (r ≡ tallyWith length tally) × (now (roots .exit) ≡ cond (eqb length 0) (now (roots .entry)) (set (now (roots .entry)) (tally .roots) root)) ⌝ }
 {
     let full = keep_root(roots, tally.roots, length, root);

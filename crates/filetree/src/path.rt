@@ -1,4 +1,5 @@
 // The path of a file while the tree is walked: two numbers for each element, where its key begins and ends.
+use crate::count::ELEMENTS;
 ghost use mathlib.Core.Path.{_≡_};
 ghost use Prim.Native.Nat.{_<_};
 ghost use lib.ListN.{length};
@@ -6,7 +7,7 @@ ghost use Rattle.filetree.specs.Tree.{maxElements};
 ghost use Rattle.filetree.specs.Path.{pathSize, setElement};
 
 // Two numbers for each element that a path may have.
-pub const PATH: usize = 56;
+pub const PATH: usize = 2 * ELEMENTS;
 
 // Element d of the path is the key start..end.
 pub fn set_element(path: &mut [usize], d: usize, start: usize, end: usize)

@@ -94,7 +94,7 @@ fn judge_in(t: &[u8], l: &[u8], plen: usize, roots: &mut [u32], room: &mut [u32]
     }
 }
 
-// The same. A torrent has no more than 16,384 files that are not empty.
+// The same. A torrent has no more than MOST files that are not empty.
 fn judge(t: &[u8], l: &[u8], plen: usize) -> Judged
     requires { ⌜ (length (now t) ≤ largestTorrent) × (isPieceLength plen ≡ true) × LayersOpen (now l) ⌝ }
     ensures { λ r. ⌜ r ≡ judgedOf (now (t .entry)) (now (l .entry)) plen ⌝ }

@@ -12,6 +12,7 @@ use Rattle.catalogue.proofs.list_in.Reads as list-in-reads
 use Rattle.numbers.proofs.refusal.Reads as refusal-reads
 use Rattle.numbers.proofs.success.Reads as success-reads
 use Rattle.torrent.proofs.check.check.Reads as check-reads
+use Rattle.filetree.specs.Count.{mostRoots}
 
 -- src/lib.rt:142:9
 check-requires : tie.Need-check-requires
@@ -55,11 +56,11 @@ part-list-in-end-2 c = (whole _ _ (c .before .before .before .check .ensures) (c
 
 -- src/lib.rt:163:61
 slice-aggregate-list-in : tie.Need-slice-aggregate-list-in
-slice-aggregate-list-in c = sym (length-replicate {A = ℕ} 16384 0)
+slice-aggregate-list-in c = sym (length-replicate {A = ℕ} mostRoots 0)
 
 -- src/lib.rt:163:9
 list-in-requires : tie.Need-list-in-requires
-list-in-requires c κs = (list-ready _ _ (c .before .before .before .before .before .before .check .ensures) (c .before .before .before .before .before .if1 .taken), length-replicate {A = ℕ} 16384 0, list-room _ _ (c .before .before .before .before .before .before .check .ensures) (c .before .before .before .before .before .if1 .taken) _ (c .before .before .before .before .if2 .left))
+list-in-requires c κs = (list-ready _ _ (c .before .before .before .before .before .before .check .ensures) (c .before .before .before .before .before .if1 .taken), length-replicate {A = ℕ} mostRoots 0, list-room _ _ (c .before .before .before .before .before .before .check .ensures) (c .before .before .before .before .before .if1 .taken) _ (c .before .before .before .before .if2 .left))
 
 -- src/lib.rt:164:9
 success-requires : tie.Need-success-requires
