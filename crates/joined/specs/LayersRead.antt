@@ -21,7 +21,7 @@ use Rattle.bencode.specs.PartsLaws.{part-front, string-is, content-is, find-is}
 use Rattle.bencode.specs.declared.parts.Found.{Found}
 use Rattle.bencode.specs.declared.parts.Found.the-variants.{Part, Missing}
 use Rattle.filetree.specs.Tree.{Listed}
-use Rattle.layers.specs.Layers.{stringIn, layerAt, ofLayer, layerNumber, lower, worst}
+use Rattle.layers.specs.Layers.{stringIn, layerAt, ofLayer, numberByLayer, lower, worst}
 use Rattle.meaning.specs.Torrent.{File, layerFits, layersFit, layerBytes, givesRoot, layersGiveRoots}
 use Rattle.twins.specs.TwinsLaws.{long-full}
 use Rattle.joined.specs.Alike.{Alike, AllAlike}
@@ -70,8 +70,8 @@ find-layer l ls bytes valid key = find-is key l 0 ls [] (bytes ∙ sym (append-n
 
 module _ (t l : List ℕ) (ls : Entries) (bytes : l ≡ encode (dictionary ls)) (valid : Valid (dictionary ls) maxLevels) (plen : ℕ) where
   -- the number of a file by positions is its number by the value
-  pub file-number : (f : Listed) (v : File) → Alike t f v → layerNumber l plen (f .size) (cut t (f .root) 32) ≡ cond (hasLayer (v .size) plen) (layerJudged plen v (lookup (v .root) ls)) 0
-  unfolding layerNumber layerAt
+  pub file-number : (f : Listed) (v : File) → Alike t f v → numberByLayer l plen (f .size) (cut t (f .root) 32) ≡ cond (hasLayer (v .size) plen) (layerJudged plen v (lookup (v .root) ls)) 0
+  unfolding numberByLayer layerAt
   file-number f v a = rw (sym (a .size)) (by-length (hasLayer (v .size) plen) refl)
     where
       by-length : (o : Bool) → hasLayer (v .size) plen ≡ o
@@ -116,4 +116,4 @@ module _ (t l : List ℕ) (ls : Entries) (bytes : l ≡ encode (dictionary ls)) 
   worst-number (f ∷ fs) [] a w = absurd a
   worst-number (f ∷ fs) (v ∷ vs) a w =
       step (hasLayer (v .size) plen) (layerFits plen v (lookup (v .root) ls)) (givesRoot plen v (layerBytes (lookup (v .root) ls))) (layersFit plen ls vs)
-      (layersGiveRoots plen ls vs) (λ n. worst t l plen n fs) w (worst-number fs vs (a .1)) (layerNumber l plen (f .size) (cut t (f .root) 32)) (file-number f v (a .0))
+      (layersGiveRoots plen ls vs) (λ n. worst t l plen n fs) w (worst-number fs vs (a .1)) (numberByLayer l plen (f .size) (cut t (f .root) 32)) (file-number f v (a .0))

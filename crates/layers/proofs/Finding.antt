@@ -1,14 +1,13 @@
 -- What halving gives, as a layer; and a file's number from its layer.
 -- Assumes nothing.
 use mathlib.Core.Path.{_≡_, refl, sym, ap, _∙_}
-use mathlib.Core.Logic.{_⊎_, inl, inr}
+use mathlib.Core.Logic.{inl, inr}
 use mathlib.Core.Bool.{Bool, true, false, cond}
 use mathlib.Core.List.{List}
 use Prim.Native.Nat.{ℕ, _+_, _-_, _*_, _^_, _≤_, _<_}
 use native.Mathlib.Omega.{arith}
 use lib.ListN.{length, take, drop, getD}
 use lib.Seq.{take-all}
-use lib.Dec.{eqb}
 use borrow.Author.Tests.{eq-eqb, ne-eqb, ltb-true}
 use Rattle.limits.specs.Limits.{longestFile}
 use Rattle.octets.specs.Octets.{cut, same}
@@ -26,8 +25,8 @@ use Rattle.bencode.specs.declared.parts.Found.the-variants.{Part, Missing}
 use Rattle.bencode.specs.Parts.{findKey}
 use Rattle.sorting.proofs.Telling.{part-is}
 use Rattle.sorting.specs.Sorting.{SearchedFor}
-use Rattle.layers.specs.Layers.{Inside, stringIn, layerAt, Indexed, ofLayer, layerNumber, lower}
-use Rattle.layers.proofs.Searching.{index-within, indexed-found, indexed-none}
+use Rattle.layers.specs.Layers.{Inside, stringIn, layerAt, Indexed, ofLayer, numberByLayer, lower}
+use Rattle.layers.proofs.Searching.{indexed-found, indexed-none}
 
 module _ (s keys : List ℕ) (count : ℕ) (x : Indexed s keys count) (key : List ℕ) (r : ℕ) (w : SearchedFor s keys count key r) where
   pub found-here : r < count → layerAt s key ≡ readString (getD keys r 0 + 32) (drop (getD keys r 0 + 32) s)
@@ -110,12 +109,12 @@ module _ (s : List ℕ) (plen n : ℕ) (root : List ℕ) (w : ByteString) (a b :
     of-other h = by-root ∙ rw h refl
 
 module _ (s : List ℕ) (plen n : ℕ) (root : List ℕ) where
-  pub number-none : hasLayer n plen ≡ false → layerNumber s plen n root ≡ 0
-  unfolding layerNumber
+  pub number-none : hasLayer n plen ≡ false → numberByLayer s plen n root ≡ 0
+  unfolding numberByLayer
   number-none h = rw h refl
 
-  pub number-layer : hasLayer n plen ≡ true → (w : ByteString) → w ≡ layerAt s root → layerNumber s plen n root ≡ ofLayer s plen n root w
-  unfolding layerNumber
+  pub number-layer : hasLayer n plen ≡ true → (w : ByteString) → w ≡ layerAt s root → numberByLayer s plen n root ≡ ofLayer s plen n root w
+  unfolding numberByLayer
   number-layer h w e = rw h (ap (ofLayer s plen n root) (sym e))
 
 -- a file's root as the code cuts it from the tree
@@ -124,8 +123,8 @@ module _ (t : List ℕ) (r : ℕ) where
   root-slice h = ap length (part-is t r) ∙ cut-length t r 32 h
 
   pub number-here : (l : List ℕ) (plen n : ℕ) (w : ByteString) (m : ℕ) → hasLayer n plen ≡ true → w ≡ layerAt l (take (r + 32 - r) (drop r t)) → m ≡ ofLayer l plen n (take (r + 32 - r) (drop r t)) w
-      → m ≡ layerNumber l plen n (cut t r 32)
-  number-here l plen n w m h e f = f ∙ sym (number-layer l plen n (take (r + 32 - r) (drop r t)) h w e) ∙ ap (layerNumber l plen n) (part-is t r)
+      → m ≡ numberByLayer l plen n (cut t r 32)
+  number-here l plen n w m h e f = f ∙ sym (number-layer l plen n (take (r + 32 - r) (drop r t)) h w e) ∙ ap (numberByLayer l plen n) (part-is t r)
 
 -- two numbers
 module _ (w n : ℕ) where

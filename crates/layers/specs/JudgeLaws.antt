@@ -13,15 +13,15 @@ use Rattle.filetree.specs.TokenLaws.{leaf-ends}
 use Rattle.filetree.specs.Tree.{maxElements, Element, Listed, listedAs, down, Files, wrong, files, filesBelow, filesIn, right, listed}
 use Rattle.filetree.specs.TreeLaws.{empty-tree, tree-below, Passed, passed-none, passed-bad, passed-end, passed-closed, passed-file, passed-wrong, inside-ends, passed-directory}
 use Rattle.filetree.specs.declared.token.Token.the-variants.{Opened, Closed, Leaf, BadToken}
-use Rattle.layers.specs.Layers.{layerNumber, lower, worst, numberedOf, Judges}
+use Rattle.layers.specs.Layers.{numberByLayer, lower, worst, numberedOf, Judges}
 use Rattle.layers.specs.declared.Numbered.the-variants.{Past, WrongTree}
 
 worst-append : (t l : List ℕ) (plen w : ℕ) (fs gs : List Listed) → worst t l plen w (fs ++ gs) ≡ worst t l plen (worst t l plen w fs) gs
 unfolding worst
 worst-append t l plen w [] gs = refl
-worst-append t l plen w (f ∷ fs) gs = worst-append t l plen (lower w (layerNumber l plen (f .size) (cut t (f .root) 32))) fs gs
+worst-append t l plen w (f ∷ fs) gs = worst-append t l plen (lower w (numberByLayer l plen (f .size) (cut t (f .root) 32))) fs gs
 
-worst-one : (t l : List ℕ) (plen w n r : ℕ) (path : List Element) → worst t l plen w (listedAs n r path ∷ []) ≡ lower w (layerNumber l plen n (cut t r 32))
+worst-one : (t l : List ℕ) (plen w n r : ℕ) (path : List Element) → worst t l plen w (listedAs n r path ∷ []) ≡ lower w (numberByLayer l plen n (cut t r 32))
 unfolding worst
 worst-one t l plen w n r path = refl
 
@@ -72,7 +72,7 @@ module _ (t : List ℕ) (at levels : ℕ) (l : List ℕ) (plen w below i m : ℕ
       pub file-behind : (i < k) × (k ≤ length t) × (n ≤ longestFile) × ((n ≡ 0 → ⊥) → r + 32 ≤ length t)
       file-behind = let p = leaf-ends t i a b n r k e in (p .0, p .1, p .3, λ z. p .2 z .1)
 
-      pub judged-file : (m′ v : ℕ) → v ≡ layerNumber l plen n (cut t r 32) → m′ ≡ lower m v → JudgedAt t at levels l plen w below k m′
+      pub judged-file : (m′ v : ℕ) → v ≡ numberByLayer l plen n (cut t r 32) → m′ ≡ lower m v → JudgedAt t at levels l plen w below k m′
       judged-file m′ v ev em path = (
         x path .0 ++ listedAs n r (down path a b) ∷ [],
         passed-file t (whole path) below path i (x path .0) (x path .1) h a b n r k e,

@@ -13,10 +13,10 @@ use lib.Dec.{eqb}
 use borrow.Author.Tests.{eqb-true}
 use Rattle.octets.specs.Octets.{cut}
 use Rattle.limits.specs.Limits.{maxLevels}
-use Rattle.bencode.specs.Grammar.{colon, letterD, Value, dictionary, Entries, noEntries, entry, decimal, encodeString, encode, encodeEntries, precedes, KeyBefore, none, after, Valid, EntriesValid}
+use Rattle.bencode.specs.Grammar.{colon, letterD, Value, dictionary, Entries, noEntries, entry, decimal, encode, encodeEntries, precedes, KeyBefore, none, after, Valid, EntriesValid}
 use Rattle.bencode.specs.Parts.{readEntry}
 use Rattle.bencode.specs.CompleteLaws.{contentStart, string-some, dictionary-bytes}
-use Rattle.bencode.specs.PartsLaws.{valueStart, entry-is, entry-none, entry-ends, dictionary-is}
+use Rattle.bencode.specs.PartsLaws.{valueStart, entry-is, entry-none, entry-ends, dictionary-is, entries-length, entries-some}
 use Rattle.bencode.specs.DepthLaws.{more-levels, entries-more-levels}
 use Rattle.bencode.specs.declared.parts.Entry.{Entry}
 use Rattle.bencode.specs.declared.parts.Entry.the-variants.{Keyed, NoEntry}
@@ -33,7 +33,7 @@ unfoldable pub allWide : Entries → Bool
 allWide noEntries = true
 allWide (entry k v es) = cond (eqb (length k) 32) (allWide es) false
 
-both : (a b : Bool) → cond a b false ≡ true → (a ≡ true) × (b ≡ true)
+pub both : (a b : Bool) → cond a b false ≡ true → (a ≡ true) × (b ≡ true)
 both true b e = (refl, e)
 both false b e = absurd (false≢true e)
 
@@ -49,14 +49,6 @@ KeysStand s (a ∷ ps) noEntries = ⊥
 KeysStand s (a ∷ ps) (entry k v es) = (cut s a (length k) ≡ k) × KeysStand s ps es
 
 -- ---- from a position on
-
-entries-length : (k : List ℕ) (v : Value) (es : Entries) → length (encodeEntries (entry k v es)) ≡ length (encodeString k) + length (encode v) + length (encodeEntries es)
-unfolding encode
-entries-length k v es = let la = length-append (encodeString k) (encode v ++ encodeEntries es) in let lb = length-append (encode v) (encodeEntries es) in omega arith
-
-entries-some : (es : Entries) → 0 < length (encodeEntries es)
-entries-some noEntries = unfold encode in omega arith
-entries-some (entry k v es) = omega (arith, entries-length k v es, string-some k)
 
 from-stand : (s : List ℕ) (es : Entries) (j : KeyBefore) (steps at : ℕ) (r : List ℕ) → drop at s ≡ encodeEntries es ++ r → EntriesValid es j maxLevels
     → length (encodeEntries es) ≤ steps → KeysStand s (keysFrom steps s at) es × (wideFrom steps s at ≡ allWide es)

@@ -2,10 +2,10 @@
 -- `piece layers` is, t the part that `file tree` is.
 -- Assumes nothing.
 use mathlib.Core.Path.{_≡_}
-use mathlib.Core.Bool.{Bool, true, false, cond, _&&_}
+use mathlib.Core.Bool.{Bool, true, false, cond}
 use mathlib.Core.List.{List, [], _∷_}
-use Prim.Native.Nat.{ℕ, zero, suc, _+_, _-_, _*_, _≤_, _<_}
-use lib.ListN.{length, drop, take, getD}
+use Prim.Native.Nat.{ℕ, zero, suc, _+_, _-_, _*_, _≤_}
+use lib.ListN.{length, drop, take}
 use lib.Dec.{eqb}
 use Rattle.octets.specs.Octets.{cut, same, zeroHash}
 use Rattle.limits.specs.Limits.{largestTorrent}
@@ -91,8 +91,8 @@ ofLayer l plen n root (Content a b) =
     layersAmiss
 
 -- of a file of n bytes with this root; 0 of one that has no layer
-unfoldable pub layerNumber : List ℕ → ℕ → ℕ → List ℕ → ℕ
-layerNumber l plen n root = cond (hasLayer n plen) (ofLayer l plen n root (layerAt l root)) 0
+unfoldable pub numberByLayer : List ℕ → ℕ → ℕ → List ℕ → ℕ
+numberByLayer l plen n root = cond (hasLayer n plen) (ofLayer l plen n root (layerAt l root)) 0
 
 -- of two numbers that are 0, 27 or 28 the lowest that is not 0
 unfoldable pub lower : ℕ → ℕ → ℕ
@@ -101,7 +101,7 @@ lower w n = cond (eqb w layersAmiss) w (cond (eqb n 0) w n)
 -- the lowest of the files fs and w
 unfoldable pub worst : List ℕ → List ℕ → ℕ → ℕ → List Listed → ℕ
 worst t l plen w [] = w
-worst t l plen w (f ∷ fs) = worst t l plen (lower w (layerNumber l plen (f .size) (cut t (f .root) 32))) fs
+worst t l plen w (f ∷ fs) = worst t l plen (lower w (numberByLayer l plen (f .size) (cut t (f .root) 32))) fs
 
 -- the number w and those of the files of a directory
 unfoldable pub numberedOf : List ℕ → List ℕ → ℕ → ℕ → Files → Numbered

@@ -27,7 +27,7 @@ ghost use Rattle.tree.specs.Geometry as G;
 ghost use Rattle.tree.specs.Geometry.{blockCount, isPieceLength, pieceLayer, hasLayer};
 ghost use Rattle.tree.specs.Values.{layerRoot};
 ghost use Rattle.filetree.specs.Tree.{filesIn, right, listed};
-ghost use Rattle.layers.specs.Layers.{layerKeys, keysWide, Indexed, Inside, layerAt, ofLayer, layerNumber, lower, worst, Judges};
+ghost use Rattle.layers.specs.Layers.{layerKeys, keysWide, Indexed, Inside, layerAt, ofLayer, numberByLayer, lower, worst, Judges};
 
 // A pieces root, and so each key of `piece layers`, has 32 bytes.
 const ROOT: usize = 32;
@@ -121,9 +121,9 @@ pub enum Numbered {
 }
 
 // 0, 27 or 28 of a file of n bytes with its root at `root`: 0 if it is not longer than the piece length.
-fn layer_number(t: &[u8], l: &[u8], keys: &[u32], job: Judging, n: usize, root: usize) -> u32
+fn number_by_layer(t: &[u8], l: &[u8], keys: &[u32], job: Judging, n: usize, root: usize) -> u32
     requires { ⌜ Indexed (now l) (now keys) (job .count) × (isPieceLength (job .plen) ≡ true) × (n ≤ longestFile) × ((n ≡ 0 → ⊥) → root + 32 ≤ L.length (now t)) ⌝ }
-    ensures { λ r. ⌜ r ≡ layerNumber (now (l .entry)) (job .plen) n (cut (now (t .entry)) root 32) ⌝ }
+    ensures { λ r. ⌜ r ≡ numberByLayer (now (l .entry)) (job .plen) n (cut (now (t .entry)) root 32) ⌝ }
 {
     let plen = job.plen;
     if has_layer(n, plen) {
@@ -190,7 +190,7 @@ fn judge_directory(
                     plen,
                     number,
                 };
-                let n = layer_number(t, l, keys, here, length, root);
+                let n = number_by_layer(t, l, keys, here, length, root);
                 number = lower_of(number, n);
                 i = next;
             }

@@ -12,7 +12,7 @@ use Rattle.layers.proofs.judge_directory.Reads as judge-directory
 use Rattle.layers.proofs.judge_directory.Kinds as judge-directory-kinds
 use Rattle.layers.proofs.+judge_directory.Lts-judge_directory as judge-directory-lts
 use Rattle.filetree.proofs.token.read_token.Reads as read-token-reads
-use Rattle.layers.proofs.layer_number.Reads as layer-number-reads
+use Rattle.layers.proofs.number_by_layer.Reads as number-by-layer-reads
 use Rattle.layers.proofs.lower_of.Reads as lower-of-reads
 use Rattle.layers.proofs.+judge_directory.{statement}
 use Rattle.layers.proofs.+judge_directory.Tie.{close}
@@ -45,8 +45,8 @@ judge-directory-μ-loop t at levels l keys below count plen number₀ i₀ numbe
 judge-directory-returns : (t : ℕ) → judge-directory-lts.Need-returns (
   read-token-reads.Asked,
   read-token-reads.Learnt,
-  layer-number-reads.Asked,
-  layer-number-reads.Learnt,
+  number-by-layer-reads.Asked,
+  number-by-layer-reads.Learnt,
   lower-of-reads.Asked,
   lower-of-reads.Learnt,
   judge-directory-below t,
@@ -57,8 +57,8 @@ judge-directory-returns t c = judges-wrong _ _ _ _ _ _ (λ p. no-levels _ _ _ p 
 judge-directory-sub-below : (t : ℕ) → judge-directory-lts.Need-sub-below (
   read-token-reads.Asked,
   read-token-reads.Learnt,
-  layer-number-reads.Asked,
-  layer-number-reads.Learnt,
+  number-by-layer-reads.Asked,
+  number-by-layer-reads.Learnt,
   lower-of-reads.Asked,
   lower-of-reads.Learnt,
   judge-directory-below t,
@@ -69,8 +69,8 @@ judge-directory-sub-below t c = search needs
 judge-directory-loop-holds : (t : ℕ) → judge-directory-lts.Need-loop-holds (
   read-token-reads.Asked,
   read-token-reads.Learnt,
-  layer-number-reads.Asked,
-  layer-number-reads.Learnt,
+  number-by-layer-reads.Asked,
+  number-by-layer-reads.Learnt,
   lower-of-reads.Asked,
   lower-of-reads.Learnt,
   judge-directory-below t,
@@ -81,8 +81,8 @@ judge-directory-loop-holds t c = judged-start _ _ _ _ _ _ (c .if1 .left)
 judge-directory-read-token-requires : (t : ℕ) → judge-directory-lts.Need-read-token-requires (
   read-token-reads.Asked,
   read-token-reads.Learnt,
-  layer-number-reads.Asked,
-  layer-number-reads.Learnt,
+  number-by-layer-reads.Asked,
+  number-by-layer-reads.Learnt,
   lower-of-reads.Asked,
   lower-of-reads.Learnt,
   judge-directory-below t,
@@ -93,8 +93,8 @@ judge-directory-read-token-requires t c κs = search needs
 judge-directory-enum-told : (t : ℕ) → judge-directory-lts.Need-enum-told (
   read-token-reads.Asked,
   read-token-reads.Learnt,
-  layer-number-reads.Asked,
-  layer-number-reads.Learnt,
+  number-by-layer-reads.Asked,
+  number-by-layer-reads.Learnt,
   lower-of-reads.Asked,
   lower-of-reads.Learnt,
   judge-directory-below t,
@@ -105,8 +105,8 @@ judge-directory-enum-told t c = search needs
 judge-directory-returns-2 : (t : ℕ) → judge-directory-lts.Need-returns-2 (
   read-token-reads.Asked,
   read-token-reads.Learnt,
-  layer-number-reads.Asked,
-  layer-number-reads.Learnt,
+  number-by-layer-reads.Asked,
+  number-by-layer-reads.Learnt,
   lower-of-reads.Asked,
   lower-of-reads.Learnt,
   judge-directory-below t,
@@ -117,8 +117,8 @@ judge-directory-returns-2 t c = judges-bad _ _ _ _ _ _ _ _ _ (c .before .before 
 judge-directory-enum-told-2 : (t : ℕ) → judge-directory-lts.Need-enum-told-2 (
   read-token-reads.Asked,
   read-token-reads.Learnt,
-  layer-number-reads.Asked,
-  layer-number-reads.Learnt,
+  number-by-layer-reads.Asked,
+  number-by-layer-reads.Learnt,
   lower-of-reads.Asked,
   lower-of-reads.Learnt,
   judge-directory-below t,
@@ -129,8 +129,8 @@ judge-directory-enum-told-2 t c = search needs
 judge-directory-add-t25 : (t : ℕ) → judge-directory-lts.Need-add-t25 (
   read-token-reads.Asked,
   read-token-reads.Learnt,
-  layer-number-reads.Asked,
-  layer-number-reads.Learnt,
+  number-by-layer-reads.Asked,
+  number-by-layer-reads.Learnt,
   lower-of-reads.Asked,
   lower-of-reads.Learnt,
   judge-directory-below t,
@@ -141,8 +141,8 @@ judge-directory-add-t25 t c = search needs
 judge-directory-returns-3 : (t : ℕ) → judge-directory-lts.Need-returns-3 (
   read-token-reads.Asked,
   read-token-reads.Learnt,
-  layer-number-reads.Asked,
-  layer-number-reads.Learnt,
+  number-by-layer-reads.Asked,
+  number-by-layer-reads.Learnt,
   lower-of-reads.Asked,
   lower-of-reads.Learnt,
   judge-directory-below t,
@@ -153,8 +153,8 @@ judge-directory-returns-3 t c = judges-closed _ _ _ _ _ _ _ _ _ (c .before .befo
 judge-directory-enum-known-length : (t : ℕ) → judge-directory-lts.Need-enum-known-length (
   read-token-reads.Asked,
   read-token-reads.Learnt,
-  layer-number-reads.Asked,
-  layer-number-reads.Learnt,
+  number-by-layer-reads.Asked,
+  number-by-layer-reads.Learnt,
   lower-of-reads.Asked,
   lower-of-reads.Learnt,
   judge-directory-below t,
@@ -162,23 +162,23 @@ judge-directory-enum-known-length : (t : ℕ) → judge-directory-lts.Need-enum-
 ) (judge-directory-at t) judge-directory.Post judge-directory-Inv-loop judge-directory-μ-loop
 judge-directory-enum-known-length t c = search needs
 
-judge-directory-layer-number-requires : (t : ℕ) → judge-directory-lts.Need-layer-number-requires (
+judge-directory-number-by-layer-requires : (t : ℕ) → judge-directory-lts.Need-number-by-layer-requires (
   read-token-reads.Asked,
   read-token-reads.Learnt,
-  layer-number-reads.Asked,
-  layer-number-reads.Learnt,
+  number-by-layer-reads.Asked,
+  number-by-layer-reads.Learnt,
   lower-of-reads.Asked,
   lower-of-reads.Learnt,
   judge-directory-below t,
   judge-directory.Post,
 ) (judge-directory-at t) judge-directory.Post judge-directory-Inv-loop judge-directory-μ-loop
-judge-directory-layer-number-requires t c κs = let x = file-behind _ _ _ _ _ _ _ _ _ (c .before .before .before .before .before .loop .inv) (c .before .before .before .before .loop-test .taken) _ _ _ _ _ (sym (c .before .before .before .read-token .ensures) ∙ c .before .length .given .1) in (c .before .before .before .before .before .before .before .before .before .before .pre .1 .0, c .before .before .before .before .before .before .before .before .before .before .pre .1 .1, x .2, x .3)
+judge-directory-number-by-layer-requires t c κs = let x = file-behind _ _ _ _ _ _ _ _ _ (c .before .before .before .before .before .loop .inv) (c .before .before .before .before .loop-test .taken) _ _ _ _ _ (sym (c .before .before .before .read-token .ensures) ∙ c .before .length .given .1) in (c .before .before .before .before .before .before .before .before .before .before .pre .1 .0, c .before .before .before .before .before .before .before .before .before .before .pre .1 .1, x .2, x .3)
 
 judge-directory-lower-of-requires : (t : ℕ) → judge-directory-lts.Need-lower-of-requires (
   read-token-reads.Asked,
   read-token-reads.Learnt,
-  layer-number-reads.Asked,
-  layer-number-reads.Learnt,
+  number-by-layer-reads.Asked,
+  number-by-layer-reads.Learnt,
   lower-of-reads.Asked,
   lower-of-reads.Learnt,
   judge-directory-below t,
@@ -189,8 +189,8 @@ judge-directory-lower-of-requires t c κs = search needs
 judge-directory-loop-less : (t : ℕ) → judge-directory-lts.Need-loop-less (
   read-token-reads.Asked,
   read-token-reads.Learnt,
-  layer-number-reads.Asked,
-  layer-number-reads.Learnt,
+  number-by-layer-reads.Asked,
+  number-by-layer-reads.Learnt,
   lower-of-reads.Asked,
   lower-of-reads.Learnt,
   judge-directory-below t,
@@ -201,20 +201,20 @@ judge-directory-loop-less t c = let ends = leaf-ends _ _ _ _ _ _ _ (sym (c .befo
 judge-directory-loop-again : (t : ℕ) → judge-directory-lts.Need-loop-again (
   read-token-reads.Asked,
   read-token-reads.Learnt,
-  layer-number-reads.Asked,
-  layer-number-reads.Learnt,
+  number-by-layer-reads.Asked,
+  number-by-layer-reads.Learnt,
   lower-of-reads.Asked,
   lower-of-reads.Learnt,
   judge-directory-below t,
   judge-directory.Post,
 ) (judge-directory-at t) judge-directory.Post judge-directory-Inv-loop judge-directory-μ-loop
-judge-directory-loop-again t c = judged-file _ _ _ _ _ _ _ _ _ (c .before .before .before .before .before .before .before .loop .inv) (c .before .before .before .before .before .before .loop-test .taken) _ _ _ _ _ (sym (c .before .before .before .before .before .read-token .ensures) ∙ c .before .before .before .length .given .1) _ _ (c .before .layer-number .ensures) (c .lower-of .ensures)
+judge-directory-loop-again t c = judged-file _ _ _ _ _ _ _ _ _ (c .before .before .before .before .before .before .before .loop .inv) (c .before .before .before .before .before .before .loop-test .taken) _ _ _ _ _ (sym (c .before .before .before .before .before .read-token .ensures) ∙ c .before .before .before .length .given .1) _ _ (c .before .number-by-layer .ensures) (c .lower-of .ensures)
 
 judge-directory-enum-known-end : (t : ℕ) → judge-directory-lts.Need-enum-known-end (
   read-token-reads.Asked,
   read-token-reads.Learnt,
-  layer-number-reads.Asked,
-  layer-number-reads.Learnt,
+  number-by-layer-reads.Asked,
+  number-by-layer-reads.Learnt,
   lower-of-reads.Asked,
   lower-of-reads.Learnt,
   judge-directory-below t,
@@ -225,8 +225,8 @@ judge-directory-enum-known-end t c = search needs
 judge-directory-add-judge-directory : (t : ℕ) → judge-directory-lts.Need-add-judge-directory (
   read-token-reads.Asked,
   read-token-reads.Learnt,
-  layer-number-reads.Asked,
-  layer-number-reads.Learnt,
+  number-by-layer-reads.Asked,
+  number-by-layer-reads.Learnt,
   lower-of-reads.Asked,
   lower-of-reads.Learnt,
   judge-directory-below t,
@@ -238,8 +238,8 @@ judge-directory-judge-directory-requires :
     (t : ℕ) → judge-directory-lts.Need-judge-directory-requires (
       read-token-reads.Asked,
       read-token-reads.Learnt,
-      layer-number-reads.Asked,
-      layer-number-reads.Learnt,
+      number-by-layer-reads.Asked,
+      number-by-layer-reads.Learnt,
       lower-of-reads.Asked,
       lower-of-reads.Learnt,
       judge-directory-below t,
@@ -250,8 +250,8 @@ judge-directory-judge-directory-requires t c κs = (let x = c .before .before .b
 judge-directory-enum-known-next : (t : ℕ) → judge-directory-lts.Need-enum-known-next (
   read-token-reads.Asked,
   read-token-reads.Learnt,
-  layer-number-reads.Asked,
-  layer-number-reads.Learnt,
+  number-by-layer-reads.Asked,
+  number-by-layer-reads.Learnt,
   lower-of-reads.Asked,
   lower-of-reads.Learnt,
   judge-directory-below t,
@@ -262,8 +262,8 @@ judge-directory-enum-known-next t c = search needs
 judge-directory-loop-less-2 : (t : ℕ) → judge-directory-lts.Need-loop-less-2 (
   read-token-reads.Asked,
   read-token-reads.Learnt,
-  layer-number-reads.Asked,
-  layer-number-reads.Learnt,
+  number-by-layer-reads.Asked,
+  number-by-layer-reads.Learnt,
   lower-of-reads.Asked,
   lower-of-reads.Learnt,
   judge-directory-below t,
@@ -274,8 +274,8 @@ judge-directory-loop-less-2 t c = let ends = directory-behind _ _ _ _ _ _ _ _ _ 
 judge-directory-loop-again-2 : (t : ℕ) → judge-directory-lts.Need-loop-again-2 (
   read-token-reads.Asked,
   read-token-reads.Learnt,
-  layer-number-reads.Asked,
-  layer-number-reads.Learnt,
+  number-by-layer-reads.Asked,
+  number-by-layer-reads.Learnt,
   lower-of-reads.Asked,
   lower-of-reads.Learnt,
   judge-directory-below t,
@@ -286,8 +286,8 @@ judge-directory-loop-again-2 t c = judged-directory _ _ _ _ _ _ _ _ _ (c .before
 judge-directory-enum-told-3 : (t : ℕ) → judge-directory-lts.Need-enum-told-3 (
   read-token-reads.Asked,
   read-token-reads.Learnt,
-  layer-number-reads.Asked,
-  layer-number-reads.Learnt,
+  number-by-layer-reads.Asked,
+  number-by-layer-reads.Learnt,
   lower-of-reads.Asked,
   lower-of-reads.Learnt,
   judge-directory-below t,
@@ -298,8 +298,8 @@ judge-directory-enum-told-3 t c = search needs
 judge-directory-returns-4 : (t : ℕ) → judge-directory-lts.Need-returns-4 (
   read-token-reads.Asked,
   read-token-reads.Learnt,
-  layer-number-reads.Asked,
-  layer-number-reads.Learnt,
+  number-by-layer-reads.Asked,
+  number-by-layer-reads.Learnt,
   lower-of-reads.Asked,
   lower-of-reads.Learnt,
   judge-directory-below t,
@@ -310,8 +310,8 @@ judge-directory-returns-4 t c = judges-inside _ _ _ _ _ _ _ _ _ (c .before .befo
 judge-directory-returns-5 : (t : ℕ) → judge-directory-lts.Need-returns-5 (
   read-token-reads.Asked,
   read-token-reads.Learnt,
-  layer-number-reads.Asked,
-  layer-number-reads.Learnt,
+  number-by-layer-reads.Asked,
+  number-by-layer-reads.Learnt,
   lower-of-reads.Asked,
   lower-of-reads.Learnt,
   judge-directory-below t,
@@ -323,8 +323,8 @@ pub +judge-directory-spec : {M : Type 1} → statement M
 +judge-directory-spec = close μ-judge-directory λ t. judge-directory-lts.spec (
   read-token-reads.Asked,
   read-token-reads.Learnt,
-  layer-number-reads.Asked,
-  layer-number-reads.Learnt,
+  number-by-layer-reads.Asked,
+  number-by-layer-reads.Learnt,
   lower-of-reads.Asked,
   lower-of-reads.Learnt,
   judge-directory-below t,
@@ -344,7 +344,7 @@ pub +judge-directory-spec : {M : Type 1} → statement M
     (judge-directory-add-t25 t)
     (judge-directory-returns-3 t)
     (judge-directory-enum-known-length t)
-    (judge-directory-layer-number-requires t)
+    (judge-directory-number-by-layer-requires t)
     (judge-directory-lower-of-requires t)
     (judge-directory-loop-less t)
     (judge-directory-loop-again t)

@@ -3,8 +3,8 @@ use native.Mathlib.Omega.{arith}
 use Prim.Native.Nat.{_-_}
 use mathlib.Core.Path.{sym, _∙_}
 use borrow.Author.Needs.{needs}
-use Rattle.layers.proofs.layer_number.Statement.{statement}
-use Rattle.layers.proofs.layer_number.Tie as tie
+use Rattle.layers.proofs.number_by_layer.Statement.{statement}
+use Rattle.layers.proofs.number_by_layer.Tie as tie
 
 has-layer-requires : tie.Need-has-layer-requires
 has-layer-requires c κs = search needs
@@ -42,8 +42,8 @@ returns c = number-here _ _ _ _ _ _ _ (sym (c .before .before .before .before .b
 returns-2 : tie.Need-returns-2
 returns-2 c = sym (number-none _ _ _ _ (sym (c .before .has-layer .ensures) ∙ c .if1 .left))
 
-pub layer-number-spec : {M : Type 1} → statement M
-layer-number-spec =
+pub number-by-layer-spec : {M : Type 1} → statement M
+number-by-layer-spec =
     tie.close
     (tie.spec
     has-layer-requires
