@@ -12,9 +12,9 @@ use Rattle.bencode.specs.declared.scalar.ByteString.{ByteString}
 use Rattle.bencode.specs.declared.scalar.ByteString.the-variants.{Content, NoString}
 use Rattle.filetree.specs.Tree.{maxElements, Element, Listed, files, filesBelow, right, filesIn}
 use Rattle.filetree.specs.Count.{mostRoots}
-use Rattle.filetree.specs.PathLaws.{Holds}
+use Rattle.filetree.specs.Path.{Holds}
 use Rattle.layers.specs.Layers.{keysWide, layerKeys, LayersOpen, rootBytes, layerString}
-use Rattle.torrent.specs.FindLaws.{PathGiven}
+use Rattle.torrent.specs.Find.{PathGiven}
 use Rattle.catalogue.specs.Catalogue.{partBytes, headBytes, Parts, recordSize, recordsOf}
 use Rattle.catalogue.specs.declared.record.Listing.{Listing}
 use Rattle.catalogue.specs.declared.record.Record.{Record}

@@ -24,7 +24,8 @@ use Rattle.filetree.specs.declared.token.Token.{Token}
 use Rattle.filetree.specs.declared.token.Token.the-variants.{Opened, Closed, Leaf, BadToken}
 use Rattle.layers.specs.JudgeLaws.{tree-some}
 use Rattle.filetree.specs.Tree.{maxElements, Element, Listed, listedAs, down, Files, wrong, files, after, onward, onToken, filesFrom, filesBelow, right, listed, filesIn, rootsOf, fileNumber}
-use Rattle.filetree.specs.PathLaws.{elementNumber, Holds, holds-element}
+use Rattle.filetree.specs.Path.{Holds}
+use Rattle.filetree.specs.PathLaws.{elementNumber, holds-element}
 use Rattle.filetree.specs.FilesLaws.{AllRight}
 use Rattle.filetree.specs.Reading.{readFiles}
 use Rattle.meaning.specs.Torrent.{lengthsAgree}

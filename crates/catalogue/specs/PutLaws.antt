@@ -16,10 +16,11 @@ use Rattle.filetree.specs.TokenLaws.{leaf-ends, opened-ends}
 use Rattle.filetree.specs.Tree.{maxElements, Element, Listed, listedAs, down, Files, wrong, files, filesFrom, filesBelow, filesIn, right, listed}
 use Rattle.filetree.specs.TreeLaws.{tree-below, Passed, passed-none, passed-bad, passed-end, passed-closed, passed-file, passed-wrong, passed-directory}
 use Rattle.filetree.specs.CountLaws.{pasted-none}
-use Rattle.filetree.specs.Path.{pathSize, setElement}
-use Rattle.filetree.specs.PathLaws.{flat, Holds, holds-length, holds-down, holds-still, set-length}
+use Rattle.filetree.specs.Path.{setElement, flat, Holds}
+use Rattle.filetree.specs.PathLaws.{holds-length, holds-down, holds-still, set-length}
 use Rattle.layers.specs.JudgeLaws.{tree-some}
-use Rattle.torrent.specs.FindLaws.{PathGiven, holds-up, not-wrong, is-right, right-is, split, same-files}
+use Rattle.torrent.specs.Find.{PathGiven}
+use Rattle.torrent.specs.FindLaws.{holds-up, not-wrong, is-right, right-is, split, same-files}
 use Rattle.filetree.specs.declared.token.Token.the-variants.{Opened, Closed, Leaf, BadToken}
 use Rattle.catalogue.specs.Catalogue.{Parts, recordSize, recordsOf}
 use Rattle.catalogue.specs.Asks.{recordFrom, RecordRight, partsWith, SpotRight, Recorded, Puts}

@@ -14,7 +14,7 @@ ghost use Rattle.limits.specs.Limits.{largestTorrent};
 ghost use Rattle.octets.specs.Octets.{cut, pasted};
 ghost use Rattle.filetree.specs.Tree.{maxElements};
 ghost use Rattle.layers.specs.Layers.{Indexed, layerString, startOf, sizeOf};
-ghost use Rattle.torrent.specs.FindLaws.{PathGiven};
+ghost use Rattle.torrent.specs.Find.{PathGiven};
 ghost use Rattle.catalogue.specs.Catalogue.{partBytes, headBytes};
 ghost use Rattle.catalogue.specs.Asks.{arrayElement, arrayElements, recordFrom, Forward, RecordRight};
 

@@ -4,16 +4,10 @@ use mathlib.Core.Path.{_≡_, refl, sym, ap, _∙_}
 use mathlib.Core.List.{List, [], _∷_, _++_}
 use Prim.Native.Nat.{ℕ, zero, suc, _+_, _-_, _*_, _≤_, _<_}
 use native.Mathlib.Omega.{arith}
-use native.Mathlib.Numerals.{add-one}
-use lib.ListN.{length, take, drop, set, getD, length-append, length-set}
+use lib.ListN.{length, take, set, getD, length-set}
 use lib.Seq.{take-suc-set, take-set-le, getD-take, length-take-le}
 use Rattle.filetree.specs.Tree.{maxElements, Element, down}
-use Rattle.filetree.specs.Path.{pathSize, setElement}
-
--- the numbers of a path
-unfoldable pub flat : List Element → List ℕ
-flat [] = []
-flat (e ∷ es) = e .start ∷ e .end ∷ flat es
+use Rattle.filetree.specs.Path.{pathSize, setElement, Holds, flat}
 
 pub flat-length : (p : List Element) → length (flat p) ≡ 2 * length p
 unfolding flat
@@ -43,10 +37,6 @@ flat-element (e ∷ es) (suc k) =
     let q : 2 * suc k ≡ suc (suc (2 * k)) = omega arith in
     let r : 2 * suc k + 1 ≡ suc (suc (2 * k + 1)) = omega arith in
     (rw q (x .0), rw r (x .1))
-
--- the first d elements of an array are the path p
-abbrev pub Holds : List ℕ → ℕ → List Element → Type 0
-Holds path d p = take (2 * d) path ≡ flat p
 
 module _ (path : List ℕ) (d : ℕ) (p : List Element) (l : length path ≡ pathSize) (w : Holds path d p) where
   pub holds-length : d ≤ maxElements → d ≡ length p

@@ -6,26 +6,23 @@ use mathlib.Core.List.{List}
 use Prim.Native.Nat.{ℕ, _+_, _-_, _≤_, _<_}
 use native.Mathlib.Omega.{arith}
 use lib.ListN.{length, take, drop}
-use lib.Dec.{eqb, ltb}
 use borrow.Author.Tests.{eq-eqb, ne-eqb, lt-ltb, le-ltb}
 use Rattle.limits.specs.Limits.{largestTorrent}
 use Rattle.octets.specs.Octets.{cut, zeroHash}
 use Rattle.numbers.specs.Numbers.{noSuchFile}
 use Rattle.sha256.specs.Sha256.{sha256}
 use Rattle.tree.specs.Geometry.{hasLayer}
-use Rattle.bencode.specs.Scalar.{readString}
 use Rattle.bencode.specs.Parts.{findKey}
 use Rattle.bencode.specs.declared.scalar.ByteString.{ByteString}
 use Rattle.bencode.specs.declared.scalar.ByteString.the-variants.{Content, NoString}
 use Rattle.bencode.specs.declared.parts.Found.{Found}
 use Rattle.sorting.proofs.Telling.{part-is}
-use Rattle.metainfo.specs.Metainfo.{bytesIn}
-use Rattle.filetree.specs.Tree.{Listed, right, listed, filesIn, fileNumber}
+use Rattle.filetree.specs.Tree.{right, listed, filesIn, fileNumber}
 use Rattle.layers.specs.Layers.{Inside, stringIn, layerAt, rootBytes, layerString, startOf, sizeOf}
-use Rattle.layers.proofs.Finding.{layer-inside, long-some}
+use Rattle.layers.proofs.Finding.{layer-inside}
 use Rattle.torrent.specs.Torrent.{checkedOf, noTorrent, readOf, noFileRead, fileAnswer, fileRead, noPartRead, elementIn, pathRead}
 use Rattle.torrent.specs.CheckLaws.{Whole, checked-so}
-use Rattle.torrent.specs.FindLaws.{placeOf}
+use Rattle.torrent.specs.Find.{placeOf}
 use Rattle.torrent.specs.declared.check.Checked.{Checked}
 use Rattle.torrent.specs.declared.one.Place.{Place}
 use Rattle.torrent.specs.declared.read.Torrent.{Torrent}

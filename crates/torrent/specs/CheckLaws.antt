@@ -3,9 +3,9 @@
 use mathlib.Core.Path.{_≡_, refl, sym, ap, _∙_}
 use mathlib.Core.Bool.{Bool, true, false, cond, false≢true}
 use mathlib.Core.List.{List, [], _++_, append-nil}
-use Prim.Native.Nat.{ℕ, zero, suc, _+_, _-_, _≤_, _<_}
+use Prim.Native.Nat.{ℕ, zero, suc, _+_, _-_, _≤_}
 use native.Mathlib.Omega.{arith}
-use lib.ListN.{length, drop, take-append-drop}
+use lib.ListN.{length, drop}
 use lib.Dec.{eqb}
 use borrow.Author.Tests.{eqb-true, eqb-false, ne-eqb}
 use Rattle.meaning.specs.Keys.{keyInfo, keyFileTree, keyPieceLayers}
@@ -16,13 +16,12 @@ use Rattle.tree.specs.Geometry.{isPieceLength}
 use Rattle.numbers.specs.Numbers.{wrongTree}
 use Rattle.bencode.specs.Grammar.{Value, integer, string, list, dictionary, Entries, encode, Valid, none}
 use Rattle.bencode.specs.Parts.{isDictionary, findKey, FoundIs, Lookup, absent, present, lookup}
-use Rattle.bencode.specs.PartsLaws.{find-ends, find-is, lookup-valid, dictionary-is, isDictionaryValue}
+use Rattle.bencode.specs.PartsLaws.{part-front, find-ends, find-is, lookup-valid, dictionary-is, isDictionaryValue}
 use Rattle.bencode.specs.StrictLaws.{taken-only}
 use Rattle.bencode.specs.declared.parts.Found.{Found}
 use Rattle.bencode.specs.declared.parts.Found.the-variants.{Part, Missing}
-use Rattle.metainfo.specs.Metainfo.{bytesIn, dictionaryIn, keysOf, metainfoOf}
-use Rattle.metainfo.specs.MetainfoLaws.{Located, Right, metainfo-right}
-use Rattle.metainfo.specs.declared.Part.{Part as PartOf}
+use Rattle.metainfo.specs.Metainfo.{bytesIn, dictionaryIn, metainfoOf}
+use Rattle.metainfo.specs.MetainfoLaws.{metainfo-right}
 use Rattle.metainfo.specs.declared.Keys.{Keys}
 use Rattle.filetree.specs.Tree.{Files, right, listed, filesIn}
 use Rattle.filetree.specs.Reading.{readFiles}
@@ -45,17 +44,12 @@ dictionary-found s key at a b e = by-found (findKey key at (drop at s)) e
     by-found (Part x y) f = by-kind x y (isDictionary (drop x s)) refl f
 
 -- the part of a dictionary that is found lies within the bytes
-pub part-within : (s key : List ℕ) (at a b : ℕ) → dictionaryIn s (findKey key at (drop at s)) ≡ Part a b → (a ≤ b) × (b ≤ length s) × (length (cut s a (b - a)) ≡ b - a)
-part-within s key at a b e =
+dictionary-within : (s key : List ℕ) (at a b : ℕ) → dictionaryIn s (findKey key at (drop at s)) ≡ Part a b → (a ≤ b) × (b ≤ length s) × (length (cut s a (b - a)) ≡ b - a)
+dictionary-within s key at a b e =
     let p = find-ends key at s a b (dictionary-found s key at a b e .0) in
     let x = p .1 in
     let y = p .2 in
     (omega arith, y, cut-length s a (b - a) (omega arith))
-
--- a part that is an encoding stands at the front of the bytes from there on
-part-front : (s : List ℕ) (a b : ℕ) (v : Value) → cut s a (b - a) ≡ encode v → drop a s ≡ encode v ++ drop (b - a) (drop a s)
-unfolding cut
-part-front s a b v e = sym (take-append-drop (b - a) (drop a s)) ∙ ap (λ (l : List ℕ). l ++ drop (b - a) (drop a s)) e
 
 -- in strict bytes it is the encoding of a dictionary
 part-encoded : (s key : List ℕ) (es : Entries) → s ≡ encode (dictionary es) → Valid (dictionary es) maxLevels → (a b : ℕ) → dictionaryIn s (findKey key 0 (drop 0 s)) ≡ Part a b
@@ -95,9 +89,9 @@ pub keys-open : (s : List ℕ) → metainfoOf s .number ≡ 0 → Open s (metain
 keys-open s e =
     let r = metainfo-right s e in
     let k = metainfoOf s in
-    let i = part-within s keyInfo 0 (k .info .start) (k .info .end) (r .located .info-found) in
-    let t = part-within s keyFileTree (k .info .start) (k .tree .start) (k .tree .end) (r .located .tree-found) in
-    let l = part-within s keyPieceLayers 0 (k .layers .start) (k .layers .end) (r .located .layers-found) in
+    let i = dictionary-within s keyInfo 0 (k .info .start) (k .info .end) (r .located .info-found) in
+    let t = dictionary-within s keyFileTree (k .info .start) (k .tree .start) (k .tree .end) (r .located .tree-found) in
+    let l = dictionary-within s keyPieceLayers 0 (k .layers .start) (k .layers .end) (r .located .layers-found) in
     let v = taken-only s (r .strict) in
     let d = part-encoded s keyPieceLayers (v .0) (v .2) (v .1) (k .layers .start) (k .layers .end) (r .located .layers-found) in
     let bytes : bytesIn s (k .layers) ≡ encode (dictionary (d .0)) ++ [] = d .2 ∙ sym (append-nil (encode (dictionary (d .0)))) in

@@ -1,7 +1,7 @@
 -- File n found by a walk that keeps the path.
 -- Assumes nothing.
 use mathlib.Core.Path.{_≡_, refl, sym, ap, _∙_}
-use mathlib.Core.Bool.{Bool, true, false, false≢true}
+use mathlib.Core.Bool.{true, false≢true}
 use mathlib.Core.List.{List, [], _∷_, _++_}
 use Prim.Native.Nat.{ℕ, zero, suc, _+_, _-_, _*_, _≤_, _<_}
 use native.Mathlib.Omega.{arith}
@@ -12,54 +12,19 @@ use Rattle.limits.specs.Limits.{largestTorrent}
 use Rattle.filetree.specs.Token.{tokenAt}
 use Rattle.filetree.specs.TokenLaws.{leaf-ends, opened-ends}
 use Rattle.filetree.specs.Tree.{maxElements, Element, Listed, listedAs, down, Files, wrong, files, after, filesFrom, filesBelow, filesIn, right, listed, fileNumber}
-use Rattle.filetree.specs.TreeLaws.{tree-below, Passed, passed-none, passed-bad, passed-end, passed-closed, passed-file, passed-wrong, inside-ends, passed-directory}
-use Rattle.filetree.specs.Path.{pathSize, setElement}
-use Rattle.filetree.specs.PathLaws.{flat, flat-length, flat-down, elementNumber, Holds, holds-length, holds-down, holds-element, set-length}
+use Rattle.filetree.specs.TreeLaws.{tree-below, Passed, passed-none, passed-bad, passed-end, passed-closed, passed-file, passed-wrong, passed-directory}
+use Rattle.filetree.specs.Path.{pathSize, setElement, flat, Holds}
+use Rattle.filetree.specs.PathLaws.{flat-length, flat-down, elementNumber, holds-length, holds-down, holds-element, set-length}
 use Rattle.filetree.specs.FilesLaws.{FileRight, path-element, files-right, number-right, number-behind, number-before}
 use Rattle.layers.specs.JudgeLaws.{tree-some}
 use Rattle.filetree.specs.declared.token.Token.the-variants.{Opened, Closed, Leaf, BadToken}
 use Rattle.numbers.specs.Numbers.{noSuchFile}
 use Rattle.torrent.specs.Torrent.{noPartRead, elementIn}
+use Rattle.torrent.specs.Find.{placeOf, Found, Finds, FoundFile, PathGiven, ElementRead}
 use Rattle.torrent.specs.declared.read.PartRead.{PartRead}
 use Rattle.torrent.specs.declared.one.Place.{Place}
 use Rattle.torrent.specs.declared.one.Search.{Search}
 use Rattle.torrent.specs.declared.one.Search.the-variants.{Here, Past, WrongTree}
-
-abbrev pub placeOf : Listed → Place
-placeOf f = record { length = f .size; root = f .root; elements = length (f .path) }
-
--- where the walk goes on lies behind `at`, within the bytes
-abbrev pub SearchIn : ℕ → ℕ → Search → Type 0
-SearchIn at end WrongTree = Unit {0}
-SearchIn at end (Here p) = Unit {0}
-SearchIn at end (Past k m) = (at < k) × (k ≤ end)
-
--- file n is found, with its path; or the directory has no more than n files, and the path to it is kept
-abbrev Found : List Listed → ℕ → ℕ → List Element → ℕ → List ℕ → Search → Type 0
-Found fs k n p d path r =
-    (n < length fs → (r ≡ Here (placeOf (fileNumber fs n))) × Holds path (length (fileNumber fs n .path)) (fileNumber fs n .path))
-    × (length fs ≤ n → (r ≡ Past k (n - length fs)) × Holds path d p)
-
--- what the search in a directory says, where the array has the path to it and the directory is right
-pub record Finds (t : List ℕ) (at levels n : ℕ) (path₀ path : List ℕ) (r : Search) : Type 0 where
-  pub ends : SearchIn at (length t) r
-  pub finds : (p : List Element) → Holds path₀ (maxElements - levels) p → (fs : List Listed) (k : ℕ) → filesBelow levels t at p ≡ files fs k → Found fs k n p (maxElements - levels) path r
-
--- a file that was found
-pub record FoundFile (path : List ℕ) (f : Listed) (r : Place) : Type 0 where
-  pub place : r ≡ placeOf f
-  pub holds : Holds path (length (f .path)) (f .path)
-
--- an array with the elements of a path, which lie within a tree that begins at `base` of the torrent
-pub record PathGiven (path : List ℕ) (elements base : ℕ) : Type 0 where
-  pub sized : length path ≡ pathSize
-  pub few : elements ≤ maxElements
-  pub forward : (j : ℕ) → j < elements → getD path (2 * j) 0 ≤ getD path (2 * j + 1) 0
-  pub inside : (j : ℕ) → j < elements → base + getD path (2 * j + 1) 0 ≤ largestTorrent
-
--- element k of it
-abbrev pub ElementRead : List ℕ → ℕ → ℕ → ℕ → PartRead → Type 0
-ElementRead path elements base k r = (p : List Element) → Holds path elements p → elements ≡ length p → r ≡ elementIn base p k
 
 pub element-none : (base : ℕ) (p : List Element) (k : ℕ) → length p ≤ k → elementIn base p k ≡ noPartRead noSuchFile
 unfolding elementIn

@@ -1,5 +1,6 @@
 pub mod Torrent
 pub mod Answers
+pub mod Find
 pub mod CheckLaws
 pub mod FindLaws
 pub mod NumberMeans

@@ -2,18 +2,17 @@
 -- length, the files in tree order, each with its length, root, path and layer. `Answers` says what is promised.
 -- Assumes nothing.
 use mathlib.Core.Path.{_≡_, refl, sym, ap, _∙_}
-use mathlib.Core.Bool.{Bool, true, false, cond}
+use mathlib.Core.Bool.{true}
 use mathlib.Core.List.{List, [], _∷_, _++_}
 use Prim.Native.Nat.{ℕ, zero, suc, _+_, _-_, _≤_, _<_}
 use native.Mathlib.Decide.{decLt}
 use native.Mathlib.Omega.{arith}
-use lib.ListN.{length, drop, take, length-append, length-drop}
-use lib.Dec.{eqb}
-use borrow.Author.Tests.{eqb-true, eqb-false, eq-eqb, ne-eqb, lt-ltb, le-ltb}
+use lib.ListN.{length, drop, length-append}
+use borrow.Author.Tests.{eq-eqb, ne-eqb, lt-ltb, le-ltb}
 use Rattle.octets.specs.Octets.{cut, zeroHash}
-use Rattle.octets.specs.OctetsLaws.{cut-cut}
+use Rattle.octets.specs.OctetsLaws.{cut-cut, cut-size}
 use Rattle.limits.specs.Limits.{maxLevels}
-use Rattle.numbers.specs.Numbers.{wrongTree, noSuchFile}
+use Rattle.numbers.specs.Numbers.{noSuchFile}
 use Rattle.sha256.specs.Sha256.{sha256}
 use Rattle.tree.specs.Geometry.{hasLayer}
 use Rattle.bencode.specs.Grammar.{colon, string, dictionary, Entries, decimal, encodeString, encode, Valid}
@@ -33,7 +32,6 @@ use Rattle.metainfo.specs.Metainfo.{bytesIn, keysOf, metainfoOf}
 use Rattle.metainfo.specs.MetainfoLaws.{metainfo-right}
 use Rattle.metainfo.specs.declared.Keys.{Keys}
 use Rattle.filetree.specs.Tree.{Element, Listed, right, listed, filesIn, fileNumber}
-use Rattle.twins.specs.Twins.{layerCount}
 use Rattle.layers.specs.Layers.{stringIn, layerAt, rootBytes, layerString, startOf, sizeOf}
 use Rattle.filetree.specs.Reading.{element, elements, readFile, readFiles}
 use Rattle.joined.specs.FileLaws.{string-there}
@@ -41,35 +39,22 @@ use Rattle.joined.specs.TreeLaws.{Fits, AllFit, tree-fits}
 use Rattle.joined.specs.LayersRead.{find-layer}
 use Rattle.joined.specs.KeysLaws.{KeysAt, keys-point}
 use Rattle.joined.specs.StrictTorrentLaws.{torrent-tree, torrent-files}
-use Rattle.torrent.specs.Torrent.{checkedOf, readOf, noFileRead, fileAnswer, fileRead, noPartRead, judgedAs, judgedOf, treeNumber, filesNumber, unread, withJudged, elementIn, pathRead}
+use Rattle.torrent.specs.Torrent.{checkedOf, readOf, noFileRead, fileAnswer, fileRead, noPartRead, elementIn, pathRead}
 use Rattle.torrent.specs.Answers.{TorrentIs, FileIs, PartIs}
+use Rattle.torrent.specs.CheckLaws.{Whole, checked-whole}
+use Rattle.torrent.specs.FindLaws.{element-none}
 use Rattle.torrent.specs.NumberMeans.{number-is-the-values, read-number}
-use Rattle.torrent.specs.declared.check.Checked.{Checked}
 
 -- ---- a part of a part
 
--- n bytes from a on that are there in a part of s stand in s behind the part's start
-take-there : (n : ℕ) (xs : List ℕ) → length (take n xs) ≡ n → n ≤ length xs
-take-there zero xs e = omega arith
-take-there (suc n) [] e = absurd (omega arith)
-take-there (suc n) (x ∷ xs) e = let h = take-there n xs (omega arith) in omega arith
-
+-- n bytes that are there from a on end within the bytes
 pub part-within : (t : List ℕ) (a n : ℕ) → length (cut t a n) ≡ n → (n ≡ 0 → ⊥) → a + n ≤ length t
-unfolding cut
-part-within t a n e h = let w = take-there n (drop a t) e in omega (arith, length-drop a t)
+part-within t a n e h = omega (arith, cut-size t a n)
 
-part-size : (s : List ℕ) (at m : ℕ) → length (cut s at m) ≤ m
-unfolding cut
-part-size s at m = take-size m (drop at s)
-  where
-    take-size : (n : ℕ) (xs : List ℕ) → length (take n xs) ≤ n
-    take-size zero xs = omega arith
-    take-size (suc n) [] = omega arith
-    take-size (suc n) (x ∷ xs) = let h = take-size n xs in omega arith
-
+-- n bytes from a on that are there in a part of s stand in s behind the part's start
 part-of-part : (s : List ℕ) (from m a n : ℕ) → length (cut (cut s from m) a n) ≡ n → cut s (from + a) n ≡ cut (cut s from m) a n
 part-of-part s from m a zero e = unfold cut in refl
-part-of-part s from m a (suc n) e = sym (cut-cut s from m a (suc n) (omega (arith, part-within (cut s from m) a (suc n) e (λ z. omega arith), part-size s from m)))
+part-of-part s from m a (suc n) e = sym (cut-cut s from m a (suc n) (omega (arith, cut-size (cut s from m) a (suc n), cut-size s from m)))
 
 -- ---- the files as they are read
 
@@ -127,13 +112,6 @@ element-at t base [] k x n f = absurd n
 element-at t base (e ∷ path) zero x n f = (e, refl, n, f .0)
 element-at t base (e ∷ path) (suc k) x n f = element-at t base path k x n (f .1)
 
--- and 29 behind the last
-element-lacking : (base : ℕ) (path : List Element) (k : ℕ) → length path ≤ k → elementIn base path k ≡ noPartRead noSuchFile
-unfolding elementIn
-element-lacking base [] k h = refl
-element-lacking base (e ∷ path) zero h = absurd (omega arith)
-element-lacking base (e ∷ path) (suc k) h = element-lacking base path k (omega arith)
-
 -- ---- layers
 
 -- the content of a string stands where it is read
@@ -169,57 +147,6 @@ layer-some l plen n root h = rw (lt-ltb plen n h) refl
 
 -- ---- a torrent that gets 0
 
--- its keys are those of `metainfo`, its tree is right, its count is that of its files
-record Taken (s : List ℕ) : Type 0 where
-  pub keys-zero : metainfoOf s .number ≡ 0
-  pub keys-are : checkedOf s .keys ≡ metainfoOf s
-  pub tree-right : right (filesIn (bytesIn s (metainfoOf s .tree))) ≡ true
-  pub all-files : checkedOf s .files ≡ length (listed (filesIn (bytesIn s (metainfoOf s .tree))))
-
-taken-so : (s : List ℕ) → checkedOf s .keys .number ≡ 0 → Taken s
-taken-so s e = by-keys (eqb (metainfoOf s .number) 0) refl
-  where
-    k : Keys
-    k = metainfoOf s
-
-    t : List ℕ
-    t = bytesIn s (k .tree)
-
-    number : ℕ
-    number = treeNumber t (bytesIn s (k .layers)) (k .plen) (filesIn t)
-
-    count : ℕ
-    count = length (listed (filesIn t))
-
-    long : ℕ
-    long = layerCount (k .plen) (readFiles t (listed (filesIn t)))
-
-    judged : eqb (k .number) 0 ≡ true → checkedOf s ≡ withJudged k (judgedAs number count long)
-    judged q = unfold checkedOf judgedOf in rw q refl
-
-    refused : eqb (k .number) 0 ≡ false → checkedOf s ≡ unread (k .number)
-    refused q = unfold checkedOf judgedOf in rw q refl
-
-    is-right : number ≡ 0 → right (filesIn t) ≡ true
-    is-right z = unfold treeNumber in by-right (right (filesIn t)) z
-      where
-        by-right : (b : Bool) → cond b (filesNumber t (bytesIn s (k .layers)) (k .plen) (listed (filesIn t))) wrongTree ≡ 0 → b ≡ true
-        by-right true q = refl
-        by-right false q = let z : ⊥ = omega arith in absurd z
-
-    by-number : (n : ℕ) → number ≡ n → metainfoOf s .number ≡ 0 → checkedOf s ≡ withJudged k (judgedAs n count long) → Taken s
-    by-number zero q z c = record { keys-zero = z; keys-are = ap (λ (x : Checked). x .keys) c; tree-right = is-right q; all-files = ap (λ (x : Checked). x .files) c }
-    by-number (suc n) q z c =
-        let o : (suc n ≡ 0 → ⊥) = λ w. omega arith in
-        let bad : checkedOf s .keys .number ≡ suc n = ap (λ (x : Checked). x .keys .number) c ∙ simp (ne-eqb (suc n) 0 o) in
-        absurd (o (sym bad ∙ e))
-
-    by-keys : (b : Bool) → eqb (metainfoOf s .number) 0 ≡ b → Taken s
-    by-keys true q = by-number number refl (eqb-true (metainfoOf s .number) 0 q) (judged q)
-    by-keys false q =
-        let bad : checkedOf s .keys .number ≡ metainfoOf s .number = ap (λ (x : Checked). x .keys .number) (refused q) in
-        absurd (eqb-false (metainfoOf s .number) 0 q (sym bad ∙ e))
-
 module _ (s : List ℕ) (es : Entries) (start : s ≡ encode (dictionary es)) (valid : Valid (dictionary es) maxLevels) (taken : readOf s .number ≡ 0) where
   -- ---- where it stands
 
@@ -227,15 +154,18 @@ module _ (s : List ℕ) (es : Entries) (start : s ≡ encode (dictionary es)) (v
   pub number-zero : checkedOf s .keys .number ≡ 0
   number-zero = sym (read-number s) ∙ taken
 
-  so : Taken s
-  so = taken-so s number-zero
+  so : Whole s (checkedOf s)
+  so = checked-whole s number-zero
+
+  found-zero : metainfoOf s .number ≡ 0
+  found-zero = ap (λ (z : Keys). z .number) (sym (so .keys-are)) ∙ number-zero
 
   -- the keys are those of the torrent's bytes, and their parts are the values
   as-keys : metainfoOf s ≡ keysOf s
-  as-keys = metainfo-right s (so .keys-zero) .same-keys
+  as-keys = metainfo-right s found-zero .same-keys
 
   keys-zero : keysOf s .number ≡ 0
-  keys-zero = ap (λ (z : Keys). z .number) (sym as-keys) ∙ so .keys-zero
+  keys-zero = ap (λ (z : Keys). z .number) (sym as-keys) ∙ found-zero
 
   pub same-keys : checkedOf s .keys ≡ keysOf s
   same-keys = so .keys-are ∙ as-keys
@@ -245,7 +175,7 @@ module _ (s : List ℕ) (es : Entries) (start : s ≡ encode (dictionary es)) (v
 
   -- the value's number is 0
   pub value-zero : valueNumber es ≡ 0
-  value-zero = sym (number-is-the-values s es start valid (metainfo-right s (so .keys-zero) .small)) ∙ number-zero
+  value-zero = sym (number-is-the-values s es start valid (metainfo-right s found-zero .small)) ∙ number-zero
 
   -- the parts that `file tree` and `piece layers` are
   abbrev t : List ℕ
@@ -259,7 +189,7 @@ module _ (s : List ℕ) (es : Entries) (start : s ≡ encode (dictionary es)) (v
   files = listed (filesIn t)
 
   pub is-right : right (filesIn t) ≡ true
-  is-right = ap (λ (z : Keys). right (filesIn (bytesIn s (z .tree)))) (sym as-keys) ∙ so .tree-right
+  is-right = ap (λ (z : Keys). right (filesIn (bytesIn s (z .tree)))) (sym same-keys) ∙ so .tree-right
 
   -- read, they are the files of the value
   pub same-files : readFiles t files ≡ filesOf es
@@ -267,7 +197,7 @@ module _ (s : List ℕ) (es : Entries) (start : s ≡ encode (dictionary es)) (v
 
   -- and as many
   pub all-files : checkedOf s .files ≡ length files
-  all-files = so .all-files ∙ ap (λ (z : Keys). length (listed (filesIn (bytesIn s (z .tree))))) as-keys
+  all-files = so .all-files ∙ ap (λ (z : Keys). length (listed (filesIn (bytesIn s (z .tree))))) same-keys
 
   count-files : checkedOf s .files ≡ length (filesOf es)
   count-files = all-files ∙ sym (read-count t files) ∙ ap length same-files
@@ -420,7 +350,7 @@ module _ (s : List ℕ) (es : Entries) (start : s ≡ encode (dictionary es)) (v
       let p = file-read n v e in
       let f = fileNumber files n in
       let count : length (v .path) ≡ length (f .path) = ap length (path-read t f v (p .2)) ∙ elements-count t (f .path) in
-      path-answer n k (p .0) ∙ element-lacking (keysOf s .tree .start) (f .path) k (omega arith)
+      path-answer n k (p .0) ∙ element-none (keysOf s .tree .start) (f .path) k (omega arith)
 
   -- and only there, if there is a file n
   pub no-element-only : (n : ℕ) (v : File) → Nth (filesOf es) n v → (k : ℕ) → pathRead s n k .number ≡ noSuchFile → length (v .path) ≤ k

@@ -18,7 +18,7 @@ ghost use Rattle.octets.specs.Octets.{cut};
 ghost use Rattle.filetree.specs.Tree.{maxElements, filesIn, right, listed, fileNumber};
 ghost use Rattle.filetree.specs.Path.{pathSize};
 ghost use Rattle.layers.specs.Layers.{layerAt, rootBytes, layerString};
-ghost use Rattle.torrent.specs.FindLaws.{Finds, FoundFile};
+ghost use Rattle.torrent.specs.Find.{Finds, FoundFile};
 
 // A file's length, its root's position (0 if it is empty), and how many path elements it has.
 pub struct Place {

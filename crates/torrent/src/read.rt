@@ -11,7 +11,7 @@ ghost use Prim.Native.Nat.{_+_, _≤_, _<_};
 ghost use lib.ListN as L;
 ghost use Rattle.limits.specs.Limits.{largestTorrent};
 ghost use Rattle.filetree.specs.Tree.{filesIn, right, listed, fileNumber};
-ghost use Rattle.torrent.specs.FindLaws.{PathGiven, ElementRead};
+ghost use Rattle.torrent.specs.Find.{PathGiven, ElementRead};
 ghost use Rattle.torrent.specs.Torrent.{noTorrent, readOf, noFileRead, fileAnswer, fileRead, noPartRead, elementIn, pathRead};
 
 // 0, the info hash, the piece length and how many files; or 19 to 28 beside zeros.
