@@ -8,6 +8,7 @@ use lib.ListN.{length}
 use Rattle.octets.specs.Octets.{cut, numberAt}
 use Rattle.numbers.specs.Numbers.{noRoom, noSuchFile, refused}
 use Rattle.numbers.specs.declared.Answer.{Answer}
+use Rattle.filetree.specs.Tree.{maxElements}
 use Rattle.torrent.specs.Torrent.{noTorrent, noFileRead, noPartRead}
 use Rattle.torrent.specs.declared.read.Torrent.{Torrent}
 use Rattle.torrent.specs.declared.read.FileRead.{FileRead}
@@ -40,17 +41,17 @@ pub data ListOutcome (out : List ℕ) : Answer → List ℕ → Type 0 where
   badTorrent : (n : ℕ) → OfTorrent n → ListOutcome out (refused n) out
   tooShort : ListOutcome out (refused noRoom) out
 
--- the 280 bytes of a record, read as numbers, say what `kd_torrent_file` says of the file and `kd_torrent_path` of each path element;
+-- the bytes of a record, read as numbers, say what `kd_torrent_file` says of the file and `kd_torrent_path` of each path element;
 -- places behind the last element are zero
 pub record RecordIs (bytes : List ℕ) (file : FileRead) (part : ℕ → PartRead) : Type 0 where
-  pub all : length bytes ≡ 280
+  pub all : length bytes ≡ 56 + 8 * maxElements
   pub length-is : numberAt bytes 0 8 ≡ file .length
   pub root : cut bytes 8 32 ≡ file .root
   pub layer-start : numberAt bytes 40 4 ≡ file .start
   pub layer-size : numberAt bytes 44 4 ≡ file .size
   pub elements : numberAt bytes 48 4 ≡ file .elements
   pub zero : numberAt bytes 52 4 ≡ 0
-  pub few : file .elements ≤ 28
+  pub few : file .elements ≤ maxElements
   pub element-start : (k : ℕ) → k < file .elements → numberAt bytes (56 + 8 * k) 4 ≡ part k .start
   pub element-size : (k : ℕ) → k < file .elements → numberAt bytes (60 + 8 * k) 4 ≡ part k .size
-  pub behind : (k : ℕ) → file .elements ≤ k → k < 28 → numberAt bytes (56 + 8 * k) 8 ≡ 0
+  pub behind : (k : ℕ) → file .elements ≤ k → k < maxElements → numberAt bytes (56 + 8 * k) 8 ≡ 0

@@ -172,7 +172,7 @@ element-place base (e ∷ path) (suc k) l x y = element-place base path k (omega
 -- the record of a file whose answers are small
 record-carries : (p : Parts) (f : Listed) (part : ℕ → PartRead) → ((f .size ≡ 0 → ⊥) → f .root + 32 ≤ length (p .t)) → f .size < 256 ^ 8
     → startOf (p .layers) (layerString (p .l) (p .plen) (f .size) (cut (p .t) (f .root) 32)) < 256 ^ 4 → sizeOf (layerString (p .l) (p .plen) (f .size) (cut (p .t) (f .root) 32)) < 256 ^ 4
-    → length (f .path) ≤ 28 → ((k : ℕ) → part k ≡ elementIn (p .tree) (f .path) k)
+    → length (f .path) ≤ maxElements → ((k : ℕ) → part k ≡ elementIn (p .tree) (f .path) k)
     → ((k : ℕ) → k < length (f .path) → (elementIn (p .tree) (f .path) k .start < 256 ^ 4) × (elementIn (p .tree) (f .path) k .size < 256 ^ 4))
     → RecordIs (recordOf p f) (fileAnswer (p .t) (p .l) (p .layers) (p .plen) f) part
 unfolding recordOf

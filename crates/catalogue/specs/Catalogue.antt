@@ -1,4 +1,4 @@
--- 01, "The torrent": all files of a torrent s in one list, a record of 280 bytes for each, in tree order.
+-- 01, "The torrent": all files of a torrent s in one list, a record of `recordSize` bytes for each, in tree order.
 -- Assumes nothing.
 use mathlib.Core.Bool.{cond}
 use mathlib.Core.List.{List, [], _∷_, _++_}
@@ -46,14 +46,14 @@ pub record Parts : Type 0 where
   pub layers : ℕ
   pub plen : ℕ
 
--- the head, and 28 elements of 8 bytes
+-- the head of 56 bytes, and a place of 8 bytes for each element that a path may have
 unfoldable pub recordOf : Parts → Listed → List ℕ
 recordOf p f =
     headBytes (p .layers) (f .size) (rootBytes (p .t) (f .size) (f .root)) (layerString (p .l) (p .plen) (f .size) (cut (p .t) (f .root) 32)) (length (f .path))
     ++ elementsBytes (p .tree) (f .path) maxElements
 
 abbrev pub recordSize : ℕ
-recordSize = 280
+recordSize = 56 + 8 * maxElements
 
 unfoldable pub recordsOf : Parts → List Listed → List ℕ
 recordsOf p [] = []

@@ -152,7 +152,7 @@ unfolding recordsOf
 records-length p [] w = refl
 records-length p (f ∷ fs) w = length-append (recordOf p f) (recordsOf p fs) ∙ omega (arith, record-length p f (w .0 .root-within), records-length p fs (w .1))
 
--- the record of file i stands at 280 · i
+-- the record of file i stands at recordSize · i
 pub record-at : (p : Parts) (fs : List Listed) → AllRight (length (p .t)) fs → (i : ℕ) → i < length fs → cut (recordsOf p fs) (recordSize * i) recordSize ≡ recordOf p (fileNumber fs i)
 unfolding recordsOf fileNumber cut
 record-at p [] w i h = absurd (omega arith)

@@ -1,4 +1,4 @@
-// All files of a torrent in one list, a record of 280 bytes for each.
+// All files of a torrent in one list, a record of RECORD bytes for each.
 pub mod record;
 
 use crate::record::Listing;
@@ -25,8 +25,8 @@ ghost use Rattle.layers.specs.Layers.{Indexed};
 ghost use Rattle.catalogue.specs.Catalogue.{recordsOf, recordSize, listAnswer, listAfter};
 ghost use Rattle.catalogue.specs.Asks.{partsWith, Listable, SpotRight, Puts};
 
-// The bytes of one record.
-pub const RECORD: usize = 280;
+// The bytes of one record: 56, and 8 for each element that a path may have.
+pub const RECORD: usize = 56 + 8 * ELEMENTS;
 
 // A directory of it: its first entry, the levels left below it, and where its first record goes.
 pub struct Spot {

@@ -1,5 +1,5 @@
-// The record of one file: 56 bytes for its length, its root, its layer's part and how many path elements it has; then a place for each of
-// 28 of these. Numbers are written with the most significant byte first.
+// The record of one file: 56 bytes for its length, its root, its layer's part and how many path elements it has; then a place for each
+// element that a path may have. Numbers are written with the most significant byte first.
 use bencode::scalar::ByteString;
 use filetree::count::ELEMENTS;
 use layers::find_layer;
@@ -59,7 +59,7 @@ fn put_element(out: &mut [u8], at: usize, base: usize, path: &[usize], n: usize,
     put_number(out, at, 8, 0);
 }
 
-// Writes the 28 places for the n elements of a path.
+// Writes the places for the n elements of a path.
 fn put_elements(out: &mut [u8], at: usize, base: usize, path: &[usize], n: usize)
     requires { ⌜ (at + 8 * maxElements ≤ L.length (now out)) × PathGiven (now path) n base ⌝ }
     ensures { λ _. ⌜ now (out .exit) ≡ pasted (now (out .entry)) at (arrayElements base (now (path .entry)) n maxElements) ⌝ }

@@ -42,9 +42,9 @@ pub record KeysAt (s : List ℕ) (torrent : Entries) (k : Keys) : Type 0 where
   pub info-bytes : bytesIn s (k .info) ≡ encode (dictionary (infoOf torrent))
   pub plen-is : k .plen ≡ plenOf torrent
   pub tree-bytes : bytesIn s (k .tree) ≡ encode (dictionary (treeOf torrent))
-  pub tree-valid : Valid (dictionary (treeOf torrent)) 30
+  pub tree-valid : Valid (dictionary (treeOf torrent)) (maxLevels - 2)
   pub layers-bytes : bytesIn s (k .layers) ≡ encode (dictionary (layersOf torrent))
-  pub layers-valid : Valid (dictionary (layersOf torrent)) 31
+  pub layers-valid : Valid (dictionary (layersOf torrent)) (maxLevels - 1)
 
 -- ---- a value of its type
 
@@ -156,8 +156,8 @@ module _ (s : List ℕ) (torrent : Entries) (start : s ≡ encode (dictionary to
     info-there = part-front s (info .start) (info .end) (dictionary (infoOf torrent)) (i .1)
 
     -- and is valid with a level less
-    info-valid : Valid (dictionary (infoOf torrent)) 31
-    info-valid = has-valid s keyInfo 0 torrent [] 31 whole valid (omega arith) (dictionary (infoOf torrent)) (i .0)
+    info-valid : Valid (dictionary (infoOf torrent)) (maxLevels - 1)
+    info-valid = has-valid s keyInfo 0 torrent [] (maxLevels - 1) whole valid (omega arith) (dictionary (infoOf torrent)) (i .0)
 
   module _ (info tree layers : PartOf) (below : Bool) (plen : ℕ) (minus : Bool) (version : ℕ) (f : Five info tree layers below plen minus version) where
     -- no key is missing
@@ -177,10 +177,10 @@ module _ (s : List ℕ) (torrent : Entries) (start : s ≡ encode (dictionary to
           info-bytes = f .the-info .1;
           plen-is = sym (rw (f .the-plen, q) refl);
           tree-bytes = f .the-tree .1;
-          tree-valid = has-valid s keyFileTree (info .start) (infoOf torrent) (behind info (f .the-info)) 30 (info-there info (f .the-info)) (info-valid info (f .the-info)) (omega arith)
+          tree-valid = has-valid s keyFileTree (info .start) (infoOf torrent) (behind info (f .the-info)) (maxLevels - 2) (info-there info (f .the-info)) (info-valid info (f .the-info)) (omega arith)
               (dictionary (treeOf torrent)) (f .the-tree .0);
           layers-bytes = f .the-layers .1;
-          layers-valid = has-valid s keyPieceLayers 0 torrent [] 31 whole valid (omega arith) (dictionary (layersOf torrent)) (f .the-layers .0);
+          layers-valid = has-valid s keyPieceLayers 0 torrent [] (maxLevels - 1) whole valid (omega arith) (dictionary (layersOf torrent)) (f .the-layers .0);
         }
 
     -- the keys k have the number n, and their parts are the values if that is none
@@ -231,11 +231,11 @@ module _ (s : List ℕ) (torrent : Entries) (start : s ≡ encode (dictionary to
   module _ (info : PartOf) (i : DictionaryIs s (Part (info .start) (info .end)) (lookup keyInfo torrent)) where
     -- a dictionary of `info`
     info-dictionary : (key : List ℕ) → DictionaryIs s (findDictionary s (info .start) key) (lookup key (infoOf torrent))
-    info-dictionary key = dictionary-found s key (info .start) (infoOf torrent) (behind info i) 30 (info-there info i) (info-valid info i) (omega arith)
+    info-dictionary key = dictionary-found s key (info .start) (infoOf torrent) (behind info i) (maxLevels - 2) (info-there info i) (info-valid info i) (omega arith)
 
     -- an integer of `info`
     info-integer : (key : List ℕ) → IntegerIs (findInteger s (info .start) key) (lookup key (infoOf torrent))
-    info-integer key = integer-found s key (info .start) (infoOf torrent) (behind info i) 30 (info-there info i) (info-valid info i) (omega arith)
+    info-integer key = integer-found s key (info .start) (infoOf torrent) (behind info i) (maxLevels - 2) (info-there info i) (info-valid info i) (omega arith)
 
     module _ (tree : PartOf) (t : DictionaryIs s (Part (tree .start) (tree .end)) (lookup keyFileTree (infoOf torrent))) where
       module _ (layers : PartOf) (l : DictionaryIs s (Part (layers .start) (layers .end)) (lookup keyPieceLayers torrent)) where
@@ -271,7 +271,7 @@ module _ (s : List ℕ) (torrent : Entries) (start : s ≡ encode (dictionary to
       where
         lacks : hasKeys torrent ≡ false
         lacks = unfold hasKeys in rw (q, and-false) refl
-    tree-are (Part a b) q = layers-are (partOf a b) q (findDictionary s 0 keyPieceLayers) (dictionary-found s keyPieceLayers 0 torrent [] 31 whole valid (omega arith))
+    tree-are (Part a b) q = layers-are (partOf a b) q (findDictionary s 0 keyPieceLayers) (dictionary-found s keyPieceLayers 0 torrent [] (maxLevels - 1) whole valid (omega arith))
 
   -- by `info`
   info-are : (w : Found) → DictionaryIs s w (lookup keyInfo torrent) → KeysAre s torrent (withInfo s w)
@@ -284,7 +284,7 @@ module _ (s : List ℕ) (torrent : Entries) (start : s ≡ encode (dictionary to
   -- so are the keys of the torrent
   keys-are : KeysAre s torrent (keysOf s)
   unfolding keysOf
-  keys-are = info-are (findDictionary s 0 keyInfo) (dictionary-found s keyInfo 0 torrent [] 31 whole valid (omega arith))
+  keys-are = info-are (findDictionary s 0 keyInfo) (dictionary-found s keyInfo 0 torrent [] (maxLevels - 1) whole valid (omega arith))
 
   -- ---- what the keys of a torrent say
 

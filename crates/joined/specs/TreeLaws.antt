@@ -343,26 +343,26 @@ tree-gives false t w end vs g = ap right g
 tree-gives true t w end vs g = (ap right (g .1), ap (λ (z : Files). readFiles t (listed z)) (g .1) ∙ g .2, rw (g .1) (g .3))
 
 -- the walk from the top
-top-step : (t : List ℕ) → filesBelow maxElements t 1 [] ≡ filesFrom (filesBelow 27 t) (suc (length t)) t 1 []
+top-step : (t : List ℕ) → filesBelow maxElements t 1 [] ≡ filesFrom (filesBelow (maxElements - 1) t) (suc (length t)) t 1 []
 unfolding filesBelow
 top-step t = refl
 
-tree-is : (t : List ℕ) (es : Entries) → t ≡ encode (dictionary es) → Valid (dictionary es) 30 → TreeIs (treeRight es) t (filesIn t) (filesOfEntries [] es)
+tree-is : (t : List ℕ) (es : Entries) → t ≡ encode (dictionary es) → Valid (dictionary es) (maxLevels - 2) → TreeIs (treeRight es) t (filesIn t) (filesOfEntries [] es)
 unfolding filesIn treeRight Valid
 tree-is t es e h = by-first es refl (behind ∙ sym (append-nil (encodeEntries es))) h
   where
     behind : drop 1 t ≡ encodeEntries es
     behind = ap (λ (x : List ℕ). drop 1 x) (e ∙ dictionary-bytes es)
 
-    by-first : (us : Entries) → es ≡ us → drop 1 t ≡ encodeEntries us ++ [] → EntriesValid us none 29 → TreeIs (treeRight us) t (filesIn t) (filesOfEntries [] us)
+    by-first : (us : Entries) → es ≡ us → drop 1 t ≡ encodeEntries us ++ [] → EntriesValid us none (maxLevels - 3) → TreeIs (treeRight us) t (filesIn t) (filesOfEntries [] us)
     by-first noEntries q f v = rw (ap endsHere f ∙ ends-is noEntries []) (unfold right in refl)
     by-first (entry k u us) q f v =
         rw (ap endsHere f ∙ ends-is (entry k u us) [])
         (rw (top-step t)
-        (tree-gives (nodesRight (entry k u us)) t (filesFrom (filesBelow 27 t) (suc (length t)) t 1 []) (1 + length (encodeEntries (entry k u us))) (filesOfEntries [] (entry k u us))
-        (entries-give (entry k u us) t 27 1 (suc (length t)) [] none [] f v (omega arith) (steps-enough t 1 (entry k u us) [] f) (unfold Fits in tt))))
+        (tree-gives (nodesRight (entry k u us)) t (filesFrom (filesBelow (maxElements - 1) t) (suc (length t)) t 1 []) (1 + length (encodeEntries (entry k u us))) (filesOfEntries [] (entry k u us))
+        (entries-give (entry k u us) t (maxElements - 1) 1 (suc (length t)) [] none [] f v (omega arith) (steps-enough t 1 (entry k u us) [] f) (unfold Fits in tt))))
 
-module _ (t : List ℕ) (es : Entries) (e : t ≡ encode (dictionary es)) (h : Valid (dictionary es) 30) where
+module _ (t : List ℕ) (es : Entries) (e : t ≡ encode (dictionary es)) (h : Valid (dictionary es) (maxLevels - 2)) where
   -- the tree's bytes are right exactly if the value is
   pub tree-right : right (filesIn t) ≡ treeRight es
   tree-right = by-right (treeRight es) (tree-is t es e h)

@@ -4,7 +4,7 @@ use mathlib.Core.Path.{_≡_, refl, sym, ap, _∙_}
 use mathlib.Core.Logic.{_⊎_, inl, inr}
 use mathlib.Core.Bool.{Bool, true, false, cond, _&&_}
 use mathlib.Core.List.{List}
-use Prim.Native.Nat.{ℕ, zero, suc, _≤_, _<_}
+use Prim.Native.Nat.{ℕ, zero, suc, _-_, _≤_, _<_}
 use native.Mathlib.Omega.{arith}
 use lib.ListN.{length}
 use lib.Dec.{eqb, leb}
@@ -86,7 +86,7 @@ module _ (s : List ℕ) (es : Entries) (start : s ≡ encode (dictionary es)) (v
       by-tree false q = sym (tree-next es (sym (keys-number s es start valid) ∙ e) (sym same-tree ∙ q))
       by-tree true q =
           let fs = listed (filesIn t) in
-          let deep : Valid (dictionary (layersOf es)) maxLevels = more-levels (dictionary (layersOf es)) 31 maxLevels (omega arith) (k .layers-valid) in
+          let deep : Valid (dictionary (layersOf es)) maxLevels = more-levels (dictionary (layersOf es)) (maxLevels - 1) maxLevels (omega arith) (k .layers-valid) in
           let hold = files-hold (treeOf es) (k .tree-valid) (sym same-tree ∙ q) in
           files-number t l (layersOf es) (k .layers-bytes) deep (keysOf s .plen) fs (filesOf es) (torrent-files s es start valid e q) hold
           ∙ ap (λ (p : ℕ). filesValue p (layersOf es) (filesOf es)) (k .plen-is)

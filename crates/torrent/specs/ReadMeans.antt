@@ -252,7 +252,7 @@ module _ (s : List ℕ) (es : Entries) (start : s ≡ encode (dictionary es)) (v
       let size = size-read t f v e in
       let root : v .root ≡ cut t (f .root) 32 = root-read t f v e ∙ root-full t (f .size) (f .root) (λ z. omega arith) in
       let w = all-layers es value-zero .each-file n v at long in
-      let deep : Valid (dictionary (layersOf es)) maxLevels = more-levels (dictionary (layersOf es)) 31 maxLevels (omega arith) (at-values .layers-valid) in
+      let deep : Valid (dictionary (layersOf es)) maxLevels = more-levels (dictionary (layersOf es)) (maxLevels - 1) maxLevels (omega arith) (at-values .layers-valid) in
       let found = found-as l (v .root) (cut t (f .root) 32) (w .0) (layersOf es) root (w .1 .found) (find-layer l (layersOf es) (at-values .layers-bytes) deep (v .root)) in
       let there : layerString l (keysOf s .plen) (f .size) (cut t (f .root) 32) ≡ stringIn l (findKey (cut t (f .root) 32) 0 l) =
       layer-some l (keysOf s .plen) (f .size) (cut t (f .root) 32) (omega (arith, at-values .plen-is)) ∙ layer-found (cut t (f .root) 32) in
