@@ -73,7 +73,7 @@ extern "C" {
 #define KD_PIECE_LENGTH_OUT_OF_RANGE 24
 #define KD_WRONG_TREE 25                /* the file tree isn't right, or has a path element that is empty, `.` or `..`, or
                                            has a `/` or a zero byte in it */
-#define KD_SAME_ROOT 26                 /* two files that aren't empty with the same root */
+#define KD_SAME_ROOT 26                 /* two files that aren't empty with the same root and different lengths */
 #define KD_LAYERS_AMISS 27              /* `piece layers` hasn't exactly the roots of the files longer than the piece length,
                                            or not 32 bytes per piece */
 #define KD_LAYER_DIFFERS 28             /* a layer doesn't give its root */

@@ -3,3 +3,5 @@ pub mod CallsLaws
 pub mod RecordLaws
 pub mod Inside
 pub mod InsideLaws
+pub mod SameContent
+pub mod SameContentLaws

@@ -29,7 +29,7 @@ use Rattle.metainfo.specs.Metainfo.{bytesIn, keysOf}
 use Rattle.metainfo.specs.declared.Keys.{Keys}
 use Rattle.filetree.specs.Tree.{maxElements, Element, Listed, listed, filesIn, fileNumber}
 use Rattle.layers.specs.Layers.{rootBytes, layerString, startOf, sizeOf}
-use Rattle.joined.specs.Reading.{readFile, readFiles}
+use Rattle.filetree.specs.Reading.{readFile, readFiles}
 use Rattle.torrent.specs.Torrent.{checkedOf, readOf, fileRead, fileAnswer, pathRead, elementIn}
 use Rattle.torrent.specs.Answers.{FileIs}
 use Rattle.torrent.specs.NumberMeans.{read-number, read-encodes}

@@ -16,7 +16,6 @@ use Rattle.octets.specs.OctetsLaws.{cut-length, be-octets, zero-octets}
 use Rattle.numbers.specs.Numbers.{noRoom, wrongTree, sameRoot, layersAmiss, refused, done}
 use Rattle.bencode.specs.declared.scalar.ByteString.{ByteString}
 use Rattle.bencode.specs.declared.scalar.ByteString.the-variants.{Content, NoString}
-use Rattle.sorting.specs.Sorting.{apart, stringsAt}
 use Rattle.metainfo.specs.Metainfo.{bytesIn}
 use Rattle.filetree.specs.Token.{tokenAt}
 use Rattle.filetree.specs.TokenLaws.{TokenIn, token-in}
@@ -25,13 +24,17 @@ use Rattle.filetree.specs.CountLaws.{roots-append}
 use Rattle.filetree.specs.declared.token.Token.{Token}
 use Rattle.filetree.specs.declared.token.Token.the-variants.{Opened, Closed, Leaf, BadToken}
 use Rattle.layers.specs.JudgeLaws.{tree-some}
-use Rattle.filetree.specs.Tree.{maxElements, Element, Listed, listedAs, down, Files, wrong, files, after, onward, onToken, filesFrom, filesBelow, right, listed, filesIn, rootsOf, longs, fileNumber}
+use Rattle.filetree.specs.Tree.{maxElements, Element, Listed, listedAs, down, Files, wrong, files, after, onward, onToken, filesFrom, filesBelow, right, listed, filesIn, rootsOf, fileNumber}
 use Rattle.filetree.specs.Count.{mostRoots}
 use Rattle.filetree.specs.PathLaws.{elementNumber, Holds, holds-element}
-use Rattle.filetree.specs.FilesLaws.{AllRight, files-right, longs-roots}
-use Rattle.layers.specs.Layers.{keysWide, layerKeys, worst, rootBytes, layerString, startOf, sizeOf}
+use Rattle.filetree.specs.FilesLaws.{AllRight, files-right}
+use Rattle.filetree.specs.Reading.{readFiles}
+use Rattle.meaning.specs.Torrent.{lengthsAgree}
+use Rattle.twins.specs.Twins.{layerCount}
+use Rattle.twins.specs.WalkLaws.{layers-roots}
+use Rattle.layers.specs.Layers.{keysWide, layerKeys, LayersOpen, worst, rootBytes, layerString, startOf, sizeOf}
 use Rattle.torrent.specs.Torrent.{filesNumber, treeNumber, checkedOf}
-use Rattle.torrent.specs.CheckLaws.{LayersOpen, Whole, checked-whole}
+use Rattle.torrent.specs.CheckLaws.{Whole, checked-whole}
 use Rattle.torrent.specs.FindLaws.{PathGiven}
 use Rattle.torrent.specs.declared.check.Checked.{Checked}
 use Rattle.catalogue.specs.Catalogue.{partBytes, elementBytes, elementsBytes, headBytes, Parts, partsOf, recordOf, recordSize, recordsOf, listAnswer, listAfter}
@@ -271,12 +274,12 @@ pub record Ready (t l : List ℕ) (k : Listing) : Type 0 where
   pub few-long : k .count ≤ mostRoots
 
 -- 27 is out where a torrent gets 0
-tree-keyed : (t l : List ℕ) (plen : ℕ) (fs : Files) → treeNumber t l plen fs ≡ 0 → (keysWide l && eqb (length (layerKeys l)) (longs plen (listed fs))) ≡ true
+tree-keyed : (t l : List ℕ) (plen : ℕ) (fs : Files) → treeNumber t l plen fs ≡ 0 → (keysWide l && eqb (length (layerKeys l)) (layerCount plen (readFiles t (listed fs)))) ≡ true
 unfolding treeNumber filesNumber
 tree-keyed t l plen fs e = by-right (right fs) e
   where
     both : Bool
-    both = keysWide l && eqb (length (layerKeys l)) (longs plen (listed fs))
+    both = keysWide l && eqb (length (layerKeys l)) (layerCount plen (readFiles t (listed fs)))
 
     by-keys : (b : Bool) → both ≡ b → cond b (worst t l plen 0 (listed fs)) layersAmiss ≡ 0 → both ≡ true
     by-keys true q g = q
@@ -286,8 +289,8 @@ tree-keyed t l plen fs e = by-right (right fs) e
     by-roots true g = by-keys both refl g
     by-roots false g = absurd (omega arith)
 
-    by-right : (b : Bool) → cond b (cond (apart (stringsAt t (rootsOf (listed fs)))) (cond both (worst t l plen 0 (listed fs)) layersAmiss) sameRoot) wrongTree ≡ 0 → both ≡ true
-    by-right true g = by-roots (apart (stringsAt t (rootsOf (listed fs)))) g
+    by-right : (b : Bool) → cond b (cond (lengthsAgree (readFiles t (listed fs))) (cond both (worst t l plen 0 (listed fs)) layersAmiss) sameRoot) wrongTree ≡ 0 → both ≡ true
+    by-right true g = by-roots (lengthsAgree (readFiles t (listed fs))) g
     by-right false g = absurd (omega arith)
 
 abbrev pub listingOf : Checked → Listing
@@ -310,7 +313,7 @@ module _ (s : List ℕ) (c : Checked) (w : Whole s c) where
       let d = w .opened .layers-within in
       let f = w .opened .small in
       let few = files-few t (w .tree-right) .1 in
-      let most = longs-roots (c .keys .plen) (listed (filesIn t)) in
+      let most = layers-roots (c .keys .plen) t (listed (filesIn t)) in
       let long = w .all-long in
       let inside = tree-inside in
       record {

@@ -7,7 +7,6 @@ use Prim.Native.Nat.{ℕ, _+_}
 use lib.ListN.{set}
 use lib.Dec.{eqb}
 use borrow.Author.Tests.{eq-eqb, ne-eqb}
-use Rattle.tree.specs.Geometry.{hasLayer}
 use Rattle.filetree.specs.Count.{tallyWith}
 use Rattle.filetree.specs.declared.count.Tally.{Tally}
 
@@ -18,7 +17,6 @@ module _ (n : ℕ) where
   pub kept-full : (n ≡ 0 → ⊥) → (full r : ℕ) (roots : List ℕ) → (full + 1 ≡ cond (eqb n 0) full (full + 1)) × (set roots full r ≡ cond (eqb n 0) roots (set roots full r))
   kept-full e full r roots = rw (ne-eqb n 0 e) (refl, refl)
 
-pub one-counted : (plen n : ℕ) (c : Tally) (full long : ℕ) → full ≡ cond (eqb n 0) (c .roots) (c .roots + 1) → long ≡ cond (hasLayer n plen) (c .long + 1) (c .long)
-    → record { files = c .files + 1; roots = full; long = long } ≡ tallyWith plen n c
+pub one-counted : (n : ℕ) (c : Tally) (full : ℕ) → full ≡ cond (eqb n 0) (c .roots) (c .roots + 1) → record { files = c .files + 1; roots = full } ≡ tallyWith n c
 unfolding tallyWith
-one-counted plen n c full long e f = rw (e, f) refl
+one-counted n c full e = rw e refl

@@ -7,12 +7,11 @@ use Prim.Native.Nat.{ℕ, zero, suc, _+_, _-_, _*_, _≤_, _<_}
 use native.Mathlib.Omega.{arith}
 use lib.ListN.{length, drop, getD, length-append}
 use lib.Dec.{eqb}
-use borrow.Author.Tests.{eqb-true, eqb-false, ltb-true}
+use borrow.Author.Tests.{eqb-false}
 use Rattle.limits.specs.Limits.{longestFile}
-use Rattle.tree.specs.Geometry.{hasLayer}
 use Rattle.filetree.specs.Token.{endsHere, tokenAt}
 use Rattle.filetree.specs.TokenLaws.{TokenIn, token-in}
-use Rattle.filetree.specs.Tree.{maxElements, Element, Listed, listedAs, down, Files, wrong, files, after, onward, onToken, filesFrom, filesBelow, filesIn, listed, fileNumber, rootsOf, longs}
+use Rattle.filetree.specs.Tree.{maxElements, Element, Listed, listedAs, down, Files, wrong, files, after, onward, onToken, filesFrom, filesBelow, filesIn, listed, fileNumber, rootsOf}
 use Rattle.filetree.specs.PathLaws.{elementNumber}
 use Rattle.filetree.specs.declared.token.Token.{Token}
 use Rattle.filetree.specs.declared.token.Token.the-variants.{Opened, Closed, Leaf, BadToken}
@@ -117,7 +116,7 @@ number-before [] rest n h = absurd (omega arith)
 number-before (x ∷ before) rest zero h = refl
 number-before (x ∷ before) rest (suc n) h = number-before before rest n (omega arith)
 
--- ---- the roots, and the files with a layer
+-- ---- the roots
 
 pub roots-right : (end : ℕ) (fs : List Listed) → AllRight end fs → (i : ℕ) → i < length (rootsOf fs) → getD (rootsOf fs) i 0 + 32 ≤ end
 unfolding rootsOf
@@ -129,15 +128,3 @@ roots-right end (f ∷ fs) p i h = by-size (eqb (f .size) 0) refl i h (roots-rig
     by-size true q i h later = later i h
     by-size false q zero h later = p .0 .root-within (eqb-false (f .size) 0 q)
     by-size false q (suc i) h later = later i (omega arith)
-
-pub longs-roots : (plen : ℕ) (fs : List Listed) → longs plen fs ≤ length (rootsOf fs)
-unfolding longs rootsOf hasLayer
-longs-roots plen [] = omega arith
-longs-roots plen (f ∷ fs) = by-size (hasLayer (f .size) plen) (eqb (f .size) 0) refl refl (longs-roots plen fs)
-  where
-    by-size : (a b : Bool) → hasLayer (f .size) plen ≡ a → eqb (f .size) 0 ≡ b → longs plen fs ≤ length (rootsOf fs)
-        → cond a (suc (longs plen fs)) (longs plen fs) ≤ length (cond b (rootsOf fs) (f .root ∷ rootsOf fs))
-    by-size true true p q later = let l = ltb-true plen (f .size) p in let z = eqb-true (f .size) 0 q in let w : ⊥ = omega arith in absurd w
-    by-size true false p q later = omega arith
-    by-size false true p q later = later
-    by-size false false p q later = omega arith

@@ -1,6 +1,7 @@
 pub mod File
 pub mod Token
 pub mod Tree
+pub mod Reading
 pub mod Count
 pub mod Path
 pub mod SizeLaws

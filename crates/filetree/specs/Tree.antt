@@ -7,7 +7,6 @@ use Prim.Native.Nat.{ℕ, zero, suc, _+_, _-_}
 use lib.ListN.{length, drop}
 use lib.Dec.{eqb}
 use Rattle.limits.specs.Limits.{maxLevels}
-use Rattle.tree.specs.Geometry.{hasLayer}
 use Rattle.filetree.specs.Token.{endsHere, tokenAt}
 use Rattle.filetree.specs.declared.token.Token.{Token}
 use Rattle.filetree.specs.declared.token.Token.the-variants.{Opened, Closed, Leaf, BadToken}
@@ -91,8 +90,3 @@ fileNumber (f ∷ fs) (suc n) = fileNumber fs n
 unfoldable pub rootsOf : List Listed → List ℕ
 rootsOf [] = []
 rootsOf (f ∷ fs) = cond (eqb (f .size) 0) (rootsOf fs) (f .root ∷ rootsOf fs)
-
--- how many files are longer than the piece length
-unfoldable pub longs : ℕ → List Listed → ℕ
-longs plen [] = 0
-longs plen (f ∷ fs) = cond (hasLayer (f .size) plen) (suc (longs plen fs)) (longs plen fs)

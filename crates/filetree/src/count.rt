@@ -4,7 +4,6 @@ use crate::token::Token;
 use crate::token::ends_here;
 use crate::token::read_token;
 use limits::LEVELS;
-use tree::geometry::has_layer;
 ghost use mathlib.Core.Path.{_≡_};
 ghost use mathlib.Core.Bool.{true, cond};
 ghost use Prim.Native.Nat.{_+_, _^_, _≤_, _<_};
@@ -13,7 +12,6 @@ ghost use lib.ListN.{set};
 ghost use lib.Dec.{eqb};
 ghost use Rattle.limits.specs.Limits.{largestTorrent};
 ghost use Rattle.octets.specs.Octets.{pasted};
-ghost use Rattle.tree.specs.Geometry.{hasLayer};
 ghost use Rattle.filetree.specs.Tree.{filesIn, right, listed, rootsOf};
 ghost use Rattle.filetree.specs.Count.{mostRoots, tallyWith, noTally, countedOf, Within, Counts};
 
@@ -23,11 +21,10 @@ pub const ELEMENTS: usize = LEVELS - 4;
 // A file that is not empty takes 64 bytes or more: the largest torrent has no more of them.
 pub const MOST: usize = 16384;
 
-// How many files there are, how many of them are not empty, and how many are longer than the piece length.
+// How many files there are, and how many of them are not empty.
 pub struct Tally {
     pub files: usize,
     pub roots: usize,
-    pub long: usize,
 }
 
 // The position past a directory and what is counted then; or something in it is wrong.
@@ -48,42 +45,22 @@ fn keep_root(roots: &mut [u32], full: usize, length: usize, root: usize) -> usiz
     full + 1
 }
 
-// One more, if a file of this length has a layer.
-fn one_more(long: usize, length: usize, plen: usize) -> usize
-    requires { ⌜ long < 2 ^ 63 ⌝ }
-    ensures { λ r. ⌜ r ≡ cond (hasLayer length plen) (long + 1) long ⌝ }
-{
-    if has_layer(length, plen) {
-        return long + 1;
-    }
-    long
-}
-
 // The tally with one file more; its root's position goes behind the others in `roots`.
-fn count_file(tally: Tally, plen: usize, length: usize, root: usize, roots: &mut [u32]) -> Tally
+fn count_file(tally: Tally, length: usize, root: usize, roots: &mut [u32]) -> Tally
     requires { ⌜ Within (2 ^ 20) tally × (tally .roots < L.length (now roots)) × ((length ≡ 0 → ⊥) → root < 2 ^ 32) ⌝ }
-    ensures { λ r. ⌜ (r ≡ tallyWith plen length tally) × (now (roots .exit) ≡ cond (eqb length 0) (now (roots .entry)) (set (now (roots .entry)) (tally .roots) root)) ⌝ }
+    ensures { λ r. ⌜ (r ≡ tallyWith length tally) × (now (roots .exit) ≡ cond (eqb length 0) (now (roots .entry)) (set (now (roots .entry)) (tally .roots) root)) ⌝ }
 {
     let full = keep_root(roots, tally.roots, length, root);
-    let long = one_more(tally.long, length, plen);
     Tally {
         files: tally.files + 1,
         roots: full,
-        long,
     }
 }
 
 // The files of a directory, from its first entry on, with so many levels left below it: each directory inside takes one.
-fn count_directory(
-    t: &[u8],
-    at: usize,
-    levels: usize,
-    plen: usize,
-    before: Tally,
-    roots: &mut [u32],
-) -> Counted
+fn count_directory(t: &[u8], at: usize, levels: usize, before: Tally, roots: &mut [u32]) -> Counted
     requires { ⌜ (L.length (now t) ≤ largestTorrent) × (L.length (now roots) ≡ mostRoots) × Within at before ⌝ }
-    ensures { λ r. ⌜ Counts (now (t .entry)) at levels plen before (now (roots .entry)) (now (roots .exit)) r ⌝ }
+    ensures { λ r. ⌜ Counts (now (t .entry)) at levels before (now (roots .entry)) (now (roots .exit)) r ⌝ }
 {
     if levels == 0 {
         return Counted::WrongTree;
@@ -106,14 +83,13 @@ fn count_directory(
                 root,
                 next,
             } => {
-                tally = count_file(tally, plen, length, root, roots);
+                tally = count_file(tally, length, root, roots);
                 i = next;
             }
             Token::Opened { start: _, end } => match count_directory(
                 t,
                 end + 1,
                 below,
-                plen,
                 tally,
                 roots,
             ) {
@@ -135,17 +111,13 @@ fn count_directory(
 
 // The files of `file tree`, whose part t is. If the tree is right, the positions of the roots of those that are not empty are then at
 // the start of `roots`, in order.
-pub fn count_files(t: &[u8], plen: usize, roots: &mut [u32]) -> Counted
+pub fn count_files(t: &[u8], roots: &mut [u32]) -> Counted
     requires { ⌜ (L.length (now t) ≤ largestTorrent) × (L.length (now roots) ≡ mostRoots) ⌝ }
-    ensures { λ r. ⌜ (r ≡ countedOf plen noTally (filesIn (now (t .entry)))) × (right (filesIn (now (t .entry))) ≡ true → now (roots .exit) ≡ pasted (now (roots .entry)) 0 (rootsOf (listed (filesIn (now (t .entry)))))) ⌝ }
+    ensures { λ r. ⌜ (r ≡ countedOf noTally (filesIn (now (t .entry)))) × (right (filesIn (now (t .entry))) ≡ true → now (roots .exit) ≡ pasted (now (roots .entry)) 0 (rootsOf (listed (filesIn (now (t .entry)))))) ⌝ }
 {
     if ends_here(t, 1) {
         return Counted::WrongTree; // an empty one
     }
-    let none = Tally {
-        files: 0,
-        roots: 0,
-        long: 0,
-    };
-    count_directory(t, 1, ELEMENTS, plen, none, roots)
+    let none = Tally { files: 0, roots: 0 };
+    count_directory(t, 1, ELEMENTS, none, roots)
 }

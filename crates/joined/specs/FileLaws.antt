@@ -26,7 +26,7 @@ use Rattle.filetree.specs.declared.file.Root.the-variants.{At, NoRoot}
 use Rattle.filetree.specs.declared.file.File.{File}
 use Rattle.filetree.specs.declared.file.File.the-variants.{Right, WrongFile}
 use Rattle.meaning.specs.Torrent.{entriesOf, isNatural, numberOf, rootRight, fileRight, rootString}
-use Rattle.joined.specs.Reading.{rootRead}
+use Rattle.filetree.specs.Reading.{rootRead}
 
 -- no key is found in what is no dictionary
 pub find-none : (key s : List ℕ) (at : ℕ) → isDictionary (drop at s) ≡ false → findKey key at (drop at s) ≡ Missing

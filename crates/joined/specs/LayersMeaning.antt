@@ -1,6 +1,6 @@
 -- 01, "The torrent", 27 and 28: what is decided by the positions of the keys of `piece layers` is what the value says. The keys are
--- only counted: where each longer file's root is a key, and no two keys and no two roots are the same, no key is left over exactly if
--- there are as many keys as longer files.
+-- only counted: where each longer file's root is a key, and no two keys are the same, no key is left over exactly if there are as many
+-- keys as different roots of longer files.
 -- Assumes nothing.
 use mathlib.Core.Path.{_≡_, refl, sym, ap, ap₂, _∙_}
 use mathlib.Core.Logic.{_⊎_, inl, inr}
@@ -10,7 +10,7 @@ use Prim.Native.Nat.{ℕ, suc, _+_, _-_}
 use native.Mathlib.Omega.{arith}
 use lib.ListN.{length}
 use lib.Dec.{eqb}
-use borrow.Author.Tests.{eqb-true, eq-eqb, ne-eqb, not-true}
+use borrow.Author.Tests.{eqb-true, eq-eqb}
 use Rattle.limits.specs.Limits.{maxLevels}
 use Rattle.octets.specs.Octets.{same}
 use Rattle.octets.specs.OctetsLaws.{same-true, same-false}
@@ -19,19 +19,16 @@ use Rattle.tree.specs.Geometry.{hasLayer}
 use Rattle.bencode.specs.Grammar.{dictionary, Entries, noEntries, entry, encode, precedes, KeyBefore, none, after, Valid, EntriesValid}
 use Rattle.bencode.specs.Parts.{present, lookup}
 use Rattle.sorting.specs.PrecedesLaws.{precedes-trans, precedes-differ}
-use Rattle.filetree.specs.Tree.{Listed, longs}
+use Rattle.filetree.specs.Tree.{Listed}
 use Rattle.layers.specs.Layers.{layerKeys, keysWide, worst}
 use Rattle.layers.specs.KeysLaws.{entryKeys, allWide, keys-wide, keys-count}
-use Rattle.meaning.specs.Torrent.{File, noneWith, rootsApart, layerFits, layersFit, someLonger, noOthers, layersGiveRoots}
+use Rattle.meaning.specs.Torrent.{File, layerFits, layersFit, someLonger, noOthers, layersGiveRoots}
 use Rattle.meaning.specs.FilesLaws.{AllHold}
 use Rattle.meaning.specs.Counting.{Member, Distinct, Contained, contained-fewer, contained-all}
-use Rattle.joined.specs.RootsMeaning.{AllAlike}
-use Rattle.joined.specs.LayersRead.{long-full, worst-number}
-
--- the roots of the files longer than the piece length
-unfoldable pub longRoots : ℕ → List File → List (List ℕ)
-longRoots plen [] = []
-longRoots plen (v ∷ vs) = cond (hasLayer (v .size) plen) (v .root ∷ longRoots plen vs) (longRoots plen vs)
+use Rattle.twins.specs.Twins.{longRoots, onceEach, layerCount}
+use Rattle.twins.specs.TwinsLaws.{long-full, once-in, once-all, once-distinct}
+use Rattle.joined.specs.Alike.{AllAlike}
+use Rattle.joined.specs.LayersRead.{worst-number}
 
 -- a first root that is there only if t
 first-only : (t : Bool) (k x : List ℕ) (xs : List (List ℕ)) → Member k (cond t (x ∷ xs) xs) → ((t ≡ true) × (k ≡ x)) ⊎ Member k xs
@@ -43,19 +40,6 @@ first-only false k x xs m = inr m
 -- ---- the files' roots
 
 module _ (plen : ℕ) where
-  -- as many as longer files
-  long-count : (s : List ℕ) (fs : List Listed) (vs : List File) → AllAlike s fs vs → length (longRoots plen vs) ≡ longs plen fs
-  unfolding AllAlike longRoots longs
-  long-count s [] [] a = refl
-  long-count s [] (v ∷ vs) a = absurd a
-  long-count s (f ∷ fs) [] a = absurd a
-  long-count s (f ∷ fs) (v ∷ vs) a = rw (a .0 .size) (by-length (hasLayer (f .size) plen) (long-count s fs vs (a .1)))
-    where
-      by-length : (t : Bool) → length (longRoots plen vs) ≡ longs plen fs
-          → length (cond t (v .root ∷ longRoots plen vs) (longRoots plen vs)) ≡ cond t (suc (longs plen fs)) (longs plen fs)
-      by-length true ih = ap suc ih
-      by-length false ih = ih
-
   -- of 32 bytes
   long-wide : (vs : List File) → AllHold vs → (k : List ℕ) → Member k (longRoots plen vs) → length k ≡ 32
   unfolding AllHold longRoots
@@ -65,37 +49,6 @@ module _ (plen : ℕ) where
         | inl p ↦ ap length (p .1) ∙ w .0 .wide (long-full (v .size) plen (p .0))
         | inr n ↦ long-wide vs (w .1) k n
       ]
-
-  -- a root that no file has is none of them
-  none-long : (k : List ℕ) (vs : List File) → noneWith k vs ≡ true → Member k (longRoots plen vs) → ⊥
-  unfolding noneWith longRoots
-  none-long k [] e m = absurd (unfold Member in m)
-  none-long k (v ∷ vs) e m =
-      let p = and-eq-true-iff (not (not (eqb (v .size) 0) && same k (v .root))) (noneWith k vs) .0 e in
-      elim (first-only (hasLayer (v .size) plen) k (v .root) (longRoots plen vs) m) [
-        | inl q ↦ (
-            let full : eqb (v .size) 0 ≡ false = ne-eqb (v .size) 0 (long-full (v .size) plen (q .0)) in
-            let differ : not false && same k (v .root) ≡ false = rw full at (not-true (not (eqb (v .size) 0) && same k (v .root)) (p .0)) in
-            same-false k (v .root) differ (q .1)
-            )
-        | inr n ↦ none-long k vs (p .1) n
-      ]
-
-  -- no two of them are the same
-  long-distinct : (vs : List File) → rootsApart vs ≡ true → Distinct (longRoots plen vs)
-  unfolding rootsApart longRoots Distinct
-  long-distinct [] e = tt
-  long-distinct (v ∷ vs) e = by-length (hasLayer (v .size) plen) refl (long-distinct vs (p .1))
-    where
-      p : (eqb (v .size) 0 || noneWith (v .root) vs ≡ true) × (rootsApart vs ≡ true)
-      p = and-eq-true-iff (eqb (v .size) 0 || noneWith (v .root) vs) (rootsApart vs) .0 e
-
-      by-length : (t : Bool) → hasLayer (v .size) plen ≡ t → Distinct (longRoots plen vs) → Distinct (cond t (v .root ∷ longRoots plen vs) (longRoots plen vs))
-      by-length false q d = d
-      by-length true q d =
-          let full : eqb (v .size) 0 ≡ false = ne-eqb (v .size) 0 (long-full (v .size) plen q) in
-          let apart : false || noneWith (v .root) vs ≡ true = rw full at (p .0) in
-          (none-long (v .root) vs apart, d)
 
   -- a root whose layer fits is a key
   fits-key : (v : File) (k : List ℕ) (ls : Entries) → layerFits plen v (lookup k ls) ≡ true → Member k (entryKeys ls)
@@ -195,7 +148,7 @@ and-no true = refl
 and-no false = refl
 
 module _ (s l : List ℕ) (ls : Entries) (bytes : l ≡ encode (dictionary ls)) (valid : Valid (dictionary ls) maxLevels) (plen : ℕ) (fs : List Listed)
-    (vs : List File) (alike : AllAlike s fs vs) (hold : AllHold vs) (apart : rootsApart vs ≡ true) where
+    (vs : List File) (alike : AllAlike s fs vs) (hold : AllHold vs) where
   whole : l ≡ encode (dictionary ls) ++ []
   whole = bytes ∙ sym (append-nil (encode (dictionary ls)))
 
@@ -209,37 +162,40 @@ module _ (s l : List ℕ) (ls : Entries) (bytes : l ≡ encode (dictionary ls)) 
   key-width : keysWide l ≡ allWide ls
   key-width = keys-wide l ls [] whole maxLevels (omega arith) valid
 
-  -- where each layer fits, no key is left over exactly if there are as many, of 32 bytes, as longer files
-  pub keys-counted : layersFit plen ls vs ≡ true → keysWide l && eqb (length (layerKeys l)) (longs plen fs) ≡ noOthers plen vs ls
+  -- where each layer fits, no key is left over exactly if there are as many, of 32 bytes, as different roots of longer files
+  pub keys-counted : layersFit plen ls vs ≡ true → keysWide l && eqb (length (layerKeys l)) (layerCount plen vs) ≡ noOthers plen vs ls
   keys-counted fit = by-others (noOthers plen vs ls) refl
     where
       roots : List (List ℕ)
-      roots = longRoots plen vs
+      roots = onceEach (longRoots plen vs)
 
-      file-count : length roots ≡ longs plen fs
-      file-count = long-count plen s fs vs alike
+      root-count : layerCount plen vs ≡ length roots
+      root-count = unfold layerCount in refl
+
+      distinct : Distinct roots
+      distinct = once-distinct (longRoots plen vs)
 
       are-keys : Contained roots (entryKeys ls)
-      are-keys = long-keys plen ls vs fit
+      are-keys k m = long-keys plen ls vs fit k (once-in k (longRoots plen vs) m)
 
-      by-count : LeftOver plen vs ls → (t : Bool) → eqb (length (layerKeys l)) (longs plen fs) ≡ t → keysWide l && t ≡ false
+      by-count : LeftOver plen vs ls → (t : Bool) → eqb (length (layerKeys l)) (layerCount plen vs) ≡ t → keysWide l && t ≡ false
       by-count w true e =
-          let q = eqb-true (length (layerKeys l)) (longs plen fs) e in
-          absurd (contained-all roots (entryKeys ls) (long-distinct plen vs apart) are-keys (omega (arith, key-count, file-count)) (w .0) (w .1) (w .2))
+          let q = eqb-true (length (layerKeys l)) (layerCount plen vs) e in
+          absurd (contained-all roots (entryKeys ls) distinct are-keys (omega (arith, key-count, root-count)) (w .0) (w .1) (λ m. w .2 (once-in (w .0) (longRoots plen vs) m)))
       by-count w false e = and-no (keysWide l)
 
-      by-others : (t : Bool) → noOthers plen vs ls ≡ t → keysWide l && eqb (length (layerKeys l)) (longs plen fs) ≡ t
+      by-others : (t : Bool) → noOthers plen vs ls ≡ t → keysWide l && eqb (length (layerKeys l)) (layerCount plen vs) ≡ t
       by-others true e =
           let are-roots = keys-long plen vs ls e in
-          let up = contained-fewer roots (entryKeys ls) (long-distinct plen vs apart) are-keys in
-          let down = contained-fewer (entryKeys ls) roots distinct-keys are-roots in
+          let up = contained-fewer roots (entryKeys ls) distinct are-keys in
+          let down = contained-fewer (entryKeys ls) roots distinct-keys (λ k m. once-all k (longRoots plen vs) (are-roots k m)) in
           let wide : keysWide l ≡ true = key-width ∙ keys-all-wide ls (λ k m. long-wide plen vs hold k (are-roots k m)) in
-          let many : eqb (length (layerKeys l)) (longs plen fs) ≡ true = eq-eqb (length (layerKeys l)) (longs plen fs) (omega (arith, key-count, file-count)) in
+          let many : eqb (length (layerKeys l)) (layerCount plen vs) ≡ true = eq-eqb (length (layerKeys l)) (layerCount plen vs) (omega (arith, key-count, root-count)) in
           ap₂ _&&_ wide many
-      by-others false e = by-count (key-left plen vs ls e) (eqb (length (layerKeys l)) (longs plen fs)) refl
+      by-others false e = by-count (key-left plen vs ls e) (eqb (length (layerKeys l)) (layerCount plen vs)) refl
 
   -- 27 and 28 by positions are 27 and 28 of the value
-  pub layers-number : cond (keysWide l && eqb (length (layerKeys l)) (longs plen fs)) (worst s l plen 0 fs) layersAmiss
+  pub layers-number : cond (keysWide l && eqb (length (layerKeys l)) (layerCount plen vs)) (worst s l plen 0 fs) layersAmiss
       ≡ cond (layersFit plen ls vs && noOthers plen vs ls) (cond (layersGiveRoots plen ls vs) 0 layerDiffers) layersAmiss
   layers-number = rw (worst-number s l ls bytes valid plen fs vs alike 0) (by-fit (layersFit plen ls vs) refl)
     where
@@ -251,6 +207,6 @@ module _ (s l : List ℕ) (ls : Entries) (bytes : l ≡ encode (dictionary ls)) 
       either false = refl
 
       by-fit : (t : Bool) → layersFit plen ls vs ≡ t
-          → cond (keysWide l && eqb (length (layerKeys l)) (longs plen fs)) (cond t given layersAmiss) layersAmiss ≡ cond (t && noOthers plen vs ls) given layersAmiss
+          → cond (keysWide l && eqb (length (layerKeys l)) (layerCount plen vs)) (cond t given layersAmiss) layersAmiss ≡ cond (t && noOthers plen vs ls) given layersAmiss
       by-fit true e = ap (λ (t : Bool). cond t given layersAmiss) (keys-counted e)
-      by-fit false e = either (keysWide l && eqb (length (layerKeys l)) (longs plen fs))
+      by-fit false e = either (keysWide l && eqb (length (layerKeys l)) (layerCount plen vs))

@@ -8,7 +8,7 @@ use Prim.Native.Nat.{ℕ, _+_, _-_}
 use native.Mathlib.Omega.{arith}
 use lib.ListN.{length, drop, length-append}
 use lib.Dec.{eqb}
-use borrow.Author.Tests.{eqb-true, ltb-true, ne-eqb}
+use borrow.Author.Tests.{eqb-true, ne-eqb}
 use Rattle.limits.specs.Limits.{maxLevels}
 use Rattle.octets.specs.Octets.{cut, zeroHash}
 use Rattle.numbers.specs.Numbers.{layersAmiss, layerDiffers}
@@ -23,12 +23,8 @@ use Rattle.bencode.specs.declared.parts.Found.the-variants.{Part, Missing}
 use Rattle.filetree.specs.Tree.{Listed}
 use Rattle.layers.specs.Layers.{stringIn, layerAt, ofLayer, layerNumber, lower, worst}
 use Rattle.meaning.specs.Torrent.{File, layerFits, layersFit, layerBytes, givesRoot, layersGiveRoots}
-use Rattle.joined.specs.RootsMeaning.{Alike, AllAlike}
-
--- a file longer than the piece length is not empty
-pub long-full : (n plen : ℕ) → hasLayer n plen ≡ true → n ≡ 0 → ⊥
-unfolding hasLayer
-long-full n plen e z = let h = ltb-true plen n e in omega arith
+use Rattle.twins.specs.TwinsLaws.{long-full}
+use Rattle.joined.specs.Alike.{Alike, AllAlike}
 
 -- a file that is not empty has its root in the bytes
 pub alike-root : (s : List ℕ) (f : Listed) (v : File) → Alike s f v → (f .size ≡ 0 → ⊥) → v .root ≡ cut s (f .root) 32

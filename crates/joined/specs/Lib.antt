@@ -1,9 +1,8 @@
-pub mod Reading
 pub mod FileLaws
 pub mod TokenLaws
 pub mod TreeLaws
 pub mod KeysLaws
-pub mod RootsMeaning
+pub mod Alike
 pub mod LayersRead
 pub mod LayersMeaning
 pub mod StrictTorrentLaws

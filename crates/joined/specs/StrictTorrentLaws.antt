@@ -17,7 +17,7 @@ use Rattle.bencode.specs.Strict.{strictness}
 use Rattle.metainfo.specs.Metainfo.{bytesIn, keysOf, metainfoOf}
 use Rattle.filetree.specs.Tree.{right, listed, filesIn}
 use Rattle.meaning.specs.Torrent.{isNumber, infoOf, treeOf, hasKeys, plenOf, treeRight, filesOf, valueNumber}
-use Rattle.joined.specs.Reading.{readFiles}
+use Rattle.filetree.specs.Reading.{readFiles}
 use Rattle.joined.specs.TreeLaws.{tree-right, tree-files}
 use Rattle.joined.specs.KeysLaws.{keysNumber, KeysAt, keys-point}
 

@@ -21,7 +21,7 @@ use Rattle.filetree.specs.declared.file.File.{File as FileFound}
 use Rattle.filetree.specs.declared.file.File.the-variants.{Right, WrongFile}
 use Rattle.filetree.specs.declared.token.Token.the-variants.{Leaf, BadToken}
 use Rattle.meaning.specs.Torrent.{File, entriesOf, fileRight, elementRight, noMore, nodeRight, branchRight, nodesRight, treeRight, filesOfNode, filesOfEntries, fileValue}
-use Rattle.joined.specs.Reading.{element, elements, readFile, readFiles}
+use Rattle.filetree.specs.Reading.{element, elements, readFile, readFiles}
 use Rattle.joined.specs.FileLaws.{FileAgrees, file-is}
 use Rattle.joined.specs.TokenLaws.{after-bytes, entries-there, entry-bytes, ends-is, token-end, key-token, node-other, node-empty, node-opened, node-file, file-wrong, file-right}
 

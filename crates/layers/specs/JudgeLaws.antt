@@ -13,18 +13,9 @@ use Rattle.filetree.specs.TokenLaws.{leaf-ends}
 use Rattle.filetree.specs.Tree.{maxElements, Element, Listed, listedAs, down, Files, wrong, files, filesBelow, filesIn, right, listed}
 use Rattle.filetree.specs.TreeLaws.{empty-tree, tree-below, Passed, passed-none, passed-bad, passed-end, passed-closed, passed-file, passed-wrong, inside-ends, passed-directory}
 use Rattle.filetree.specs.declared.token.Token.the-variants.{Opened, Closed, Leaf, BadToken}
-use Rattle.layers.specs.Layers.{layerNumber, lower, worst}
+use Rattle.layers.specs.Layers.{layerNumber, lower, worst, numberedOf, Judges}
 use Rattle.layers.specs.declared.Numbered.{Numbered}
 use Rattle.layers.specs.declared.Numbered.the-variants.{Past, WrongTree}
-
--- the number w and those of the files of a directory
-unfoldable pub numberedOf : List ℕ → List ℕ → ℕ → ℕ → Files → Numbered
-numberedOf t l plen w wrong = WrongTree
-numberedOf t l plen w (files fs k) = Past k (worst t l plen w fs)
-
--- it is so under any path
-abbrev pub Judges : List ℕ → ℕ → ℕ → List ℕ → ℕ → ℕ → Numbered → Type 0
-Judges t at levels l plen w r = (path : List Element) → r ≡ numberedOf t l plen w (filesBelow levels t at path)
 
 worst-append : (t l : List ℕ) (plen w : ℕ) (fs gs : List Listed) → worst t l plen w (fs ++ gs) ≡ worst t l plen (worst t l plen w fs) gs
 unfolding worst

@@ -8,6 +8,7 @@ use Prim.Native.Nat.{ℕ, zero, suc, _+_, _-_, _*_, _≤_, _<_}
 use lib.ListN.{length, drop, take, getD}
 use lib.Dec.{eqb}
 use Rattle.octets.specs.Octets.{cut, same, zeroHash}
+use Rattle.limits.specs.Limits.{largestTorrent}
 use Rattle.numbers.specs.Numbers.{layersAmiss, layerDiffers}
 use Rattle.tree.specs.Geometry.{blockCount, height, pieceLayer, pieceCount, hasLayer}
 use Rattle.tree.specs.Values.{layerRoot}
@@ -20,7 +21,9 @@ use Rattle.bencode.specs.declared.parts.Found.the-variants.{Part, Missing}
 use Rattle.bencode.specs.declared.parts.Entry.{Entry}
 use Rattle.bencode.specs.declared.parts.Entry.the-variants.{Keyed, NoEntry}
 use Rattle.sorting.specs.Sorting.{Ascending}
-use Rattle.filetree.specs.Tree.{Listed}
+use Rattle.filetree.specs.Tree.{Element, Listed, Files, wrong, files, filesBelow}
+use Rattle.layers.specs.declared.Numbered.{Numbered}
+use Rattle.layers.specs.declared.Numbered.the-variants.{Past, WrongTree}
 
 -- ---- a layer by its root
 
@@ -71,6 +74,12 @@ pub record Indexed (l keys : List ℕ) (count : ℕ) : Type 0 where
   pub all : take count keys ≡ layerKeys l
   pub ascending : Ascending l keys count
 
+-- `piece layers` is a dictionary, and its keys ascend
+pub record LayersOpen (l : List ℕ) : Type 0 where
+  pub small : length l ≤ largestTorrent
+  pub opens : isDictionary l ≡ true
+  pub ascending : keysWide l ≡ true → (keys : List ℕ) (count : ℕ) → count ≤ length keys → take count keys ≡ layerKeys l → Ascending l keys count
+
 -- ---- the number of one file, and of all
 
 -- 32 bytes for each piece, and the tree over them has the root
@@ -93,6 +102,15 @@ lower w n = cond (eqb w layersAmiss) w (cond (eqb n 0) w n)
 unfoldable pub worst : List ℕ → List ℕ → ℕ → ℕ → List Listed → ℕ
 worst t l plen w [] = w
 worst t l plen w (f ∷ fs) = worst t l plen (lower w (layerNumber l plen (f .size) (cut t (f .root) 32))) fs
+
+-- the number w and those of the files of a directory
+unfoldable pub numberedOf : List ℕ → List ℕ → ℕ → ℕ → Files → Numbered
+numberedOf t l plen w wrong = WrongTree
+numberedOf t l plen w (files fs k) = Past k (worst t l plen w fs)
+
+-- it is so under any path
+abbrev pub Judges : List ℕ → ℕ → ℕ → List ℕ → ℕ → ℕ → Numbered → Type 0
+Judges t at levels l plen w r = (path : List Element) → r ≡ numberedOf t l plen w (filesBelow levels t at path)
 
 -- ---- what is answered of a file
 

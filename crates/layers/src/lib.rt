@@ -27,8 +27,7 @@ ghost use Rattle.tree.specs.Geometry as G;
 ghost use Rattle.tree.specs.Geometry.{blockCount, isPieceLength, pieceLayer, hasLayer};
 ghost use Rattle.tree.specs.Values.{layerRoot};
 ghost use Rattle.filetree.specs.Tree.{filesIn, right, listed};
-ghost use Rattle.layers.specs.Layers.{layerKeys, keysWide, Indexed, Inside, layerAt, ofLayer, layerNumber, lower, worst};
-ghost use Rattle.layers.specs.JudgeLaws.{Judges};
+ghost use Rattle.layers.specs.Layers.{layerKeys, keysWide, Indexed, Inside, layerAt, ofLayer, layerNumber, lower, worst, Judges};
 
 // A pieces root, and so each key of `piece layers`, has 32 bytes.
 const ROOT: usize = 32;

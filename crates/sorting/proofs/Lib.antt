@@ -1,5 +1,5 @@
 pub mod Telling
 pub mod Sorting
 pub mod Merging
-pub mod Climbing
+pub mod Thinning
 pub mod Narrowing

@@ -4,4 +4,5 @@ pub mod PrecedesLaws
 pub mod MovedLaws
 pub mod OrderLaws
 pub mod SortedLaws
+pub mod ThinnedLaws
 pub mod SortingLaws

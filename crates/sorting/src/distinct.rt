@@ -1,38 +1,52 @@
-// Whether strings are all different: sorted, two that are the same stand side by side.
+// Positions of strings, each string once: sorted, those of one string stand side by side, and the first of them is kept.
 use crate::compare::before;
 use crate::compare::index;
 use crate::sort::sort;
 ghost use mathlib.Core.Path.{_≡_};
-ghost use Prim.Native.Nat.{ℕ, _+_, _≤_, _<_};
-ghost use lib.ListN.{length, take, drop, getD};
+ghost use Prim.Native.Nat.{ℕ, _+_, _-_, _≤_, _<_};
+ghost use lib.ListN.{length, take, drop, getD, set};
 ghost use lib.Dec.{ltb};
 ghost use mathlib.Core.Bool.{cond};
 ghost use mathlib.Core.List.{_++_};
-ghost use Rattle.sorting.specs.Sorting.{stringsAt, apart, sorted};
-ghost use Rattle.sorting.specs.Order.{climbing, Fit};
+ghost use Rattle.sorting.specs.Sorting.{lower, sorted, thinned};
+ghost use Rattle.sorting.specs.Order.{Fit};
 
-// Whether each string stands before the next.
-fn climbs(s: &[u8], at: &[u32]) -> bool
-    requires { ⌜ Fit (length (now s)) (now at) ⌝ }
-    ensures { λ r. ⌜ r ≡ climbing (stringsAt (now (s .entry)) (now (at .entry))) ⌝ }
+// Position i goes behind the `kept` ones, if its string stands behind the last of theirs; how many are kept then.
+fn keep(s: &[u8], at: &mut [u32], kept: usize, i: usize) -> usize
+    requires { ⌜ Fit (length (now s)) (now at) × (0 < kept) × (kept ≤ i) × (i < length (now at)) ⌝ }
+    ensures { λ r. ⌜ (r ≡ cond (lower (now (s .entry)) (getD (now (at .entry)) (kept - 1) 0) (getD (now (at .entry)) i 0)) (kept + 1) kept) × (now (at .exit) ≡ cond (lower (now (s .entry)) (getD (now (at .entry)) (kept - 1) 0) (getD (now (at .entry)) i 0)) (set (now (at .entry)) kept (getD (now (at .entry)) i 0)) (now (at .entry))) ⌝ }
 {
-    let mut i = 1;
-    while i < at.len() {
-        let p = index(at[i - 1]);
-        let q = index(at[i]);
-        if !before(s, p, q) {
-            return false;
-        }
-        i += 1;
+    let p = index(at[kept - 1]);
+    let q = index(at[i]);
+    if before(s, p, q) {
+        at[kept] = at[i];
+        return kept + 1;
     }
-    true
+    kept
 }
 
-// Whether the strings at the first `count` positions are all different. These positions are sorted by their strings then.
-pub fn apart(s: &[u8], at: &mut [u32], room: &mut [u32], count: usize) -> bool
+// Keeps of sorted positions the first of each string, at the front; how many these are.
+fn thin(s: &[u8], at: &mut [u32]) -> usize
+    requires { ⌜ Fit (length (now s)) (now at) ⌝ }
+    ensures { λ r. ⌜ (r ≡ length (thinned (now (s .entry)) (now (at .entry)))) × (now (at .exit) ≡ thinned (now (s .entry)) (now (at .entry)) ++ drop r (now (at .entry))) ⌝ }
+{
+    if at.len() == 0 {
+        return 0;
+    }
+    let mut kept = 1;
+    let mut i = 1;
+    while i < at.len() {
+        kept = keep(s, at, kept, i);
+        i += 1;
+    }
+    kept
+}
+
+// Sorts the first `count` positions by their strings and keeps one for each string, at the front; how many these are.
+pub fn once_each(s: &[u8], at: &mut [u32], room: &mut [u32], count: usize) -> usize
     requires { ⌜ (count ≤ length (now at)) × (count ≤ length (now room)) × ((i : ℕ) → i < count → getD (now at) i 0 + 32 ≤ length (now s)) ⌝ }
-    ensures { λ r. ⌜ (r ≡ apart (stringsAt (now (s .entry)) (take count (now (at .entry))))) × (now (at .exit) ≡ sorted (now (s .entry)) (take count (now (at .entry))) ++ drop count (now (at .entry))) × (now (room .exit) ≡ cond (ltb count 2) (now (room .entry)) (sorted (now (s .entry)) (take count (now (at .entry))) ++ drop count (now (room .entry)))) ⌝ }
+    ensures { λ r. ⌜ (r ≡ length (thinned (now (s .entry)) (sorted (now (s .entry)) (take count (now (at .entry)))))) × (now (at .exit) ≡ (thinned (now (s .entry)) (sorted (now (s .entry)) (take count (now (at .entry)))) ++ drop r (sorted (now (s .entry)) (take count (now (at .entry))))) ++ drop count (now (at .entry))) × (now (room .exit) ≡ cond (ltb count 2) (now (room .entry)) (sorted (now (s .entry)) (take count (now (at .entry))) ++ drop count (now (room .entry)))) ⌝ }
 {
     sort(s, &mut at[0..count], &mut room[0..count], count);
-    climbs(s, &at[0..count])
+    thin(s, &mut at[0..count])
 }

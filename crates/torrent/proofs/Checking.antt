@@ -2,7 +2,7 @@
 -- Assumes nothing.
 use mathlib.Core.Path.{_≡_, refl, sym, ap, _∙_}
 use mathlib.Core.Bool.{Bool, true, false, cond, _&&_, false≢true}
-use mathlib.Core.List.{List, _++_}
+use mathlib.Core.List.{List, _++_, append-assoc}
 use Prim.Native.Nat.{ℕ, zero, suc, _+_, _-_, _*_, _≤_, _<_}
 use native.Mathlib.Omega.{arith}
 use lib.ListN.{length, take, drop, getD, length-append}
@@ -12,19 +12,26 @@ use borrow.Author.Tests.{eq-eqb, ne-eqb}
 use Rattle.limits.specs.Limits.{largestTorrent}
 use Rattle.octets.specs.Octets.{cut, pasted}
 use Rattle.numbers.specs.Numbers.{wrongTree, sameRoot, layersAmiss}
-use Rattle.sorting.specs.Sorting.{apart, stringsAt}
+use Rattle.sorting.specs.Sorting.{sorted, thinned}
+use Rattle.sorting.specs.ThinnedLaws.{once-ascending, once-fits, once-stands}
+use Rattle.meaning.specs.Torrent.{File, lengthsAgree}
 use Rattle.metainfo.specs.Metainfo.{bytesIn, noKeys, metainfoOf}
 use Rattle.metainfo.specs.declared.Keys.{Keys}
-use Rattle.filetree.specs.Tree.{Listed, Files, wrong, files, right, listed, filesIn, rootsOf, longs}
+use Rattle.filetree.specs.Tree.{Listed, Files, wrong, files, right, listed, filesIn, rootsOf}
+use Rattle.filetree.specs.Reading.{readFiles}
 use Rattle.filetree.specs.Count.{mostRoots, noTally, tallyAfter, countedOf}
 use Rattle.filetree.specs.CountLaws.{CountedTree}
-use Rattle.filetree.specs.FilesLaws.{files-right, roots-right, longs-roots}
+use Rattle.filetree.specs.FilesLaws.{files-right, roots-right}
 use Rattle.filetree.specs.declared.count.Tally.{Tally}
 use Rattle.filetree.specs.declared.count.Counted.{Counted}
 use Rattle.filetree.specs.declared.count.Counted.the-variants.{Past, WrongTree}
-use Rattle.layers.specs.Layers.{keysWide, layerKeys, Indexed, worst}
+use Rattle.twins.specs.Twins.{layerCount, comparedOf, Rooted}
+use Rattle.twins.specs.WalkLaws.{roots-stand, layers-roots}
+use Rattle.twins.specs.declared.Compared.{Compared}
+use Rattle.twins.specs.declared.Compared.the-variants.{Agree, Differ}
+use Rattle.layers.specs.Layers.{keysWide, layerKeys, Indexed, LayersOpen, worst}
 use Rattle.torrent.specs.Torrent.{filesNumber, treeNumber, judgedAs, judgedOf, unread, withJudged, checkedOf}
-use Rattle.torrent.specs.CheckLaws.{LayersOpen, Open, keys-open}
+use Rattle.torrent.specs.CheckLaws.{Open, keys-open}
 use Rattle.torrent.specs.declared.check.Judged.{Judged}
 use Rattle.torrent.specs.declared.check.Checked.{Checked}
 
@@ -41,21 +48,19 @@ not-read-so n k e = rw e refl
 
 -- ---- what was counted
 
-wrong-so : (plen : ℕ) (x : Files) → WrongTree ≡ countedOf plen noTally x → right x ≡ false
+wrong-so : (x : Files) → WrongTree ≡ countedOf noTally x → right x ≡ false
 unfolding countedOf right
-wrong-so plen wrong q = refl
-wrong-so plen (files fs k) q = let z : _≡_ {A = ℕ} 0 1 = cc in absurd (omega arith)
+wrong-so wrong q = refl
+wrong-so (files fs k) q = let z : _≡_ {A = ℕ} 0 1 = cc in absurd (omega arith)
 
-right-so : (plen k : ℕ) (c : Tally) (x : Files) → Past k c ≡ countedOf plen noTally x
-    → (right x ≡ true) × (c .files ≡ length (listed x)) × (c .roots ≡ length (rootsOf (listed x))) × (c .long ≡ longs plen (listed x))
+right-so : (k : ℕ) (c : Tally) (x : Files) → Past k c ≡ countedOf noTally x → (right x ≡ true) × (c .files ≡ length (listed x)) × (c .roots ≡ length (rootsOf (listed x)))
 unfolding countedOf right listed tallyAfter
-right-so plen k c wrong q = let z : _≡_ {A = ℕ} 0 1 = cc in absurd (omega arith)
-right-so plen k c (files gs j) q =
-    let p : c ≡ record { files = 0 + length gs; roots = 0 + length (rootsOf gs); long = 0 + longs plen gs } = cc in
+right-so k c wrong q = let z : _≡_ {A = ℕ} 0 1 = cc in absurd (omega arith)
+right-so k c (files gs j) q =
+    let p : c ≡ record { files = 0 + length gs; roots = 0 + length (rootsOf gs) } = cc in
     let a = ap (λ (z : Tally). z .files) p in
     let b = ap (λ (z : Tally). z .roots) p in
-    let d = ap (λ (z : Tally). z .long) p in
-    (refl, omega arith, omega arith, omega arith)
+    (refl, omega arith, omega arith)
 
 -- a list that stands at the start of another
 start-fits : (s xs : List ℕ) → length xs ≤ length (pasted s 0 xs)
@@ -66,65 +71,122 @@ start-taken : (s xs : List ℕ) (n : ℕ) → n ≡ length xs → take n (pasted
 unfolding pasted
 start-taken s xs n e = take-at xs (drop (0 + length xs) s) n (sym e)
 
-module _ (t l : List ℕ) (plen : ℕ) where
-  pub judged-wrong : WrongTree ≡ countedOf plen noTally (filesIn t) → _≡_ {A = Judged} (record { number = wrongTree; files = 0; long = 0 }) (judgedOf t l plen)
-  unfolding judgedOf treeNumber
-  judged-wrong e = rw (wrong-so plen (filesIn t) e) refl
+-- the lengths agree where so many layers are counted, and do not where they differ
+agree-so : (plen long : ℕ) (vs : List File) → Agree long ≡ comparedOf plen vs → (lengthsAgree vs ≡ true) × (long ≡ layerCount plen vs)
+unfolding comparedOf
+agree-so plen long vs e = by-lengths (lengthsAgree vs) refl e
+  where
+    by-lengths : (b : Bool) → lengthsAgree vs ≡ b → Agree long ≡ cond b (Agree (layerCount plen vs)) Differ → (lengthsAgree vs ≡ true) × (long ≡ layerCount plen vs)
+    by-lengths true q f = let z : long ≡ layerCount plen vs = cc in (q, z)
+    by-lengths false q f = let z : _≡_ {A = ℕ} 0 1 = cc in absurd (omega arith)
 
-  module _ (k : ℕ) (c : Tally) (roots₀ roots : List ℕ) (e : CountedTree t plen roots₀ roots (Past k c)) (sized : length roots ≡ mostRoots) where
+differ-so : (plen : ℕ) (vs : List File) → Differ ≡ comparedOf plen vs → lengthsAgree vs ≡ false
+unfolding comparedOf
+differ-so plen vs e = by-lengths (lengthsAgree vs) refl e
+  where
+    by-lengths : (b : Bool) → lengthsAgree vs ≡ b → Differ ≡ cond b (Agree (layerCount plen vs)) Differ → lengthsAgree vs ≡ false
+    by-lengths true q f = let z : _≡_ {A = ℕ} 0 1 = cc in absurd (omega arith)
+    by-lengths false q f = q
+
+module _ (t l : List ℕ) (plen : ℕ) where
+  pub judged-wrong : WrongTree ≡ countedOf noTally (filesIn t) → _≡_ {A = Judged} (record { number = wrongTree; files = 0; long = 0 }) (judgedOf t l plen)
+  unfolding judgedOf treeNumber
+  judged-wrong e = rw (wrong-so (filesIn t) e) refl
+
+  module _ (k : ℕ) (c : Tally) (roots₀ roots : List ℕ) (e : CountedTree t roots₀ roots (Past k c)) (sized : length roots ≡ mostRoots) where
     abbrev fs : List Listed
     fs = listed (filesIn t)
 
-    so : (right (filesIn t) ≡ true) × (c .files ≡ length fs) × (c .roots ≡ length (rootsOf fs)) × (c .long ≡ longs plen fs)
-    so = right-so plen k c (filesIn t) (e .0)
+    abbrev vs : List File
+    vs = readFiles t fs
+
+    so : (right (filesIn t) ≡ true) × (c .files ≡ length fs) × (c .roots ≡ length (rootsOf fs))
+    so = right-so k c (filesIn t) (e .0)
 
     pub counted-right : right (filesIn t) ≡ true
     counted-right = so .0
 
+    pub counted-files : c .files ≡ length fs
+    counted-files = so .1
+
     pub full-fits : c .roots ≤ mostRoots
     full-fits = let a = start-fits roots₀ (rootsOf fs) in let b = ap length (e .1 (so .0)) in let d = so .2 in omega arith
-
-    pub long-fits : c .long ≤ mostRoots
-    long-fits = let a = so .3 in let b = longs-roots plen fs in let d = full-fits in let f = so .2 in omega arith
 
     taken-roots : take (c .roots) roots ≡ rootsOf fs
     taken-roots = ap (take (c .roots)) (e .1 (so .0)) ∙ start-taken roots₀ (rootsOf fs) (c .roots) (so .2)
 
+    roots-fit : (i : ℕ) → i < length (rootsOf fs) → getD (rootsOf fs) i 0 + 32 ≤ length t
+    roots-fit = roots-right (length t) fs (files-right t)
+
     pub full-within : (i : ℕ) → i < c .roots → getD roots i 0 + 32 ≤ length t
     full-within i h =
         let q : getD (rootsOf fs) i 0 ≡ getD roots i 0 = ap (λ (z : List ℕ). getD z i 0) (sym taken-roots) ∙ getD-take (c .roots) roots i 0 h in
-        rw q at (roots-right (length t) fs (files-right t) i (rw (so .2) at h))
+        rw q at (roots-fit i (rw (so .2) at h))
 
-    module _ (a : Bool) (ea : a ≡ apart (stringsAt t (take (c .roots) roots))) where
-      are-apart : a ≡ apart (stringsAt t (rootsOf fs))
-      are-apart = ea ∙ ap (λ (z : List ℕ). apart (stringsAt t z)) taken-roots
+    -- the roots once each
+    module _ (m : ℕ) (em : m ≡ length (thinned t (sorted t (take (c .roots) roots)))) (once : List ℕ)
+        (eo : once ≡ (thinned t (sorted t (take (c .roots) roots)) ++ drop m (sorted t (take (c .roots) roots))) ++ drop (c .roots) roots) where
+      abbrev kept : List ℕ
+      kept = thinned t (sorted t (rootsOf fs))
 
-      number-is : (b : Bool) → a ≡ b → treeNumber t l plen (filesIn t) ≡ cond b (cond (keysWide l && eqb (length (layerKeys l)) (c .long)) (worst t l plen 0 fs) layersAmiss) sameRoot
-      unfolding treeNumber filesNumber
-      number-is b q = rw (so .0) (rw (sym are-apart ∙ q, so .3) refl)
+      abbrev rest : List ℕ
+      rest = drop m (sorted t (take (c .roots) roots)) ++ drop (c .roots) roots
 
-      pub judged-same : a ≡ false → _≡_ {A = Judged} (record { number = sameRoot; files = 0; long = 0 }) (judgedOf t l plen)
-      unfolding judgedOf
-      judged-same q = sym (ap (λ (z : ℕ). judgedAs z (length fs) (longs plen fs)) (number-is false q))
+      size : m ≡ length kept
+      size = em ∙ ap (λ (z : List ℕ). length (thinned t (sorted t z))) taken-roots
 
-      module _ (q : a ≡ true) (x : Bool) (ex : x ≡ (keysWide l && eqb (length (layerKeys l)) (c .long))) where
+      front : once ≡ kept ++ rest
+      front =
+          eo ∙ append-assoc (thinned t (sorted t (take (c .roots) roots))) (drop m (sorted t (take (c .roots) roots))) (drop (c .roots) roots)
+          ∙ ap (λ (z : List ℕ). thinned t (sorted t z) ++ rest) taken-roots
+
+      pub once-inside : m ≤ length once
+      once-inside = let a = ap length front in let b = length-append kept rest in let d = size in omega arith
+
+      pub roots-once : Rooted t once m
+      roots-once =
+          record {
+            room = once-inside;
+            fit = once-fits t (rootsOf fs) m once rest size front (length t) roots-fit;
+            ascending = once-ascending t (rootsOf fs) m once rest size front;
+            stand = roots-stand t once m fs (once-stands t (rootsOf fs) m once rest size front);
+          }
+
+    number-is : (b : Bool) → lengthsAgree vs ≡ b → treeNumber t l plen (filesIn t) ≡ cond b (cond (keysWide l && eqb (length (layerKeys l)) (layerCount plen vs)) (worst t l plen 0 fs) layersAmiss) sameRoot
+    unfolding treeNumber filesNumber
+    number-is b q = rw (so .0) (rw q refl)
+
+    pub judged-same : Differ ≡ comparedOf plen vs → _≡_ {A = Judged} (record { number = sameRoot; files = 0; long = 0 }) (judgedOf t l plen)
+    unfolding judgedOf
+    judged-same q = sym (ap (λ (z : ℕ). judgedAs z (length fs) (layerCount plen vs)) (number-is false (differ-so plen vs q)))
+
+    module _ (long : ℕ) (q : Agree long ≡ comparedOf plen vs) where
+      agreed : (lengthsAgree vs ≡ true) × (long ≡ layerCount plen vs)
+      agreed = agree-so plen long vs q
+
+      pub long-fits : long ≤ mostRoots
+      long-fits = let a = agreed .1 in let b = layers-roots plen t fs in let d = full-fits in let f = so .2 in omega arith
+
+      module _ (x : Bool) (ex : x ≡ (keysWide l && eqb (length (layerKeys l)) long)) where
         layers-are : (b : Bool) → x ≡ b → treeNumber t l plen (filesIn t) ≡ cond b (worst t l plen 0 fs) layersAmiss
-        layers-are b g = number-is true q ∙ rw (sym ex ∙ g) refl
+        layers-are b g =
+            number-is true (agreed .0)
+            ∙ ap (λ (z : Bool). cond z (worst t l plen 0 fs) layersAmiss) (ap (λ (z : ℕ). keysWide l && eqb (length (layerKeys l)) z) (sym (agreed .1)) ∙ sym ex ∙ g)
 
         pub judged-amiss : x ≡ false → _≡_ {A = Judged} (record { number = layersAmiss; files = 0; long = 0 }) (judgedOf t l plen)
         unfolding judgedOf
-        judged-amiss g = sym (ap (λ (z : ℕ). judgedAs z (length fs) (longs plen fs)) (layers-are false g))
+        judged-amiss g = sym (ap (λ (z : ℕ). judgedAs z (length fs) (layerCount plen vs)) (layers-are false g))
 
-        pub judged-number : x ≡ true → (n : ℕ) → n ≡ worst t l plen 0 fs → judgedAs n (c .files) (c .long) ≡ judgedOf t l plen
+        pub judged-number : x ≡ true → (n : ℕ) → n ≡ worst t l plen 0 fs → judgedAs n (c .files) long ≡ judgedOf t l plen
         unfolding judgedOf
-        judged-number g n en = rw (en, so .1, so .3) (rw (layers-are true g) refl)
+        judged-number g n en = rw (en, so .1, agreed .1) (rw (layers-are true g) refl)
 
         -- the keys that were gathered
-        pub keys-indexed : x ≡ true → (keys : List ℕ) → length keys ≡ mostRoots → (x ≡ true → take (c .long) keys ≡ layerKeys l) → LayersOpen l → Indexed l keys (c .long)
+        pub keys-indexed : x ≡ true → (keys : List ℕ) → length keys ≡ mostRoots → (x ≡ true → take long keys ≡ layerKeys l) → LayersOpen l → Indexed l keys long
         keys-indexed g keys z f o =
-            let w : keysWide l ≡ true = first (keysWide l) (eqb (length (layerKeys l)) (c .long)) (sym ex ∙ g) in
-            let fits : c .long ≤ length keys = rw z long-fits in
-            record { opens = o .opens; wide = w; room = fits; all = f g; ascending = o .ascending w keys (c .long) fits (f g) }
+            let w : keysWide l ≡ true = first (keysWide l) (eqb (length (layerKeys l)) long) (sym ex ∙ g) in
+            let fits : long ≤ length keys = rw z long-fits in
+            record { opens = o .opens; wide = w; room = fits; all = f g; ascending = o .ascending w keys long fits (f g) }
           where
             first : (a b : Bool) → (a && b) ≡ true → a ≡ true
             first true b z = refl

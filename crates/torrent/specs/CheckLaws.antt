@@ -20,22 +20,17 @@ use Rattle.bencode.specs.PartsLaws.{find-ends, find-is, lookup-valid, dictionar
 use Rattle.bencode.specs.StrictLaws.{taken-only}
 use Rattle.bencode.specs.declared.parts.Found.{Found}
 use Rattle.bencode.specs.declared.parts.Found.the-variants.{Part, Missing}
-use Rattle.sorting.specs.Sorting.{Ascending}
 use Rattle.metainfo.specs.Metainfo.{bytesIn, dictionaryIn, keysOf, metainfoOf}
 use Rattle.metainfo.specs.MetainfoLaws.{Located, Right, metainfo-right}
 use Rattle.metainfo.specs.declared.Part.{Part as PartOf}
 use Rattle.metainfo.specs.declared.Keys.{Keys}
-use Rattle.filetree.specs.Tree.{Files, right, listed, filesIn, longs}
-use Rattle.layers.specs.Layers.{keysWide, layerKeys}
+use Rattle.filetree.specs.Tree.{Files, right, listed, filesIn}
+use Rattle.filetree.specs.Reading.{readFiles}
+use Rattle.twins.specs.Twins.{layerCount}
+use Rattle.layers.specs.Layers.{LayersOpen}
 use Rattle.layers.specs.KeysLaws.{keys-ascending}
 use Rattle.torrent.specs.Torrent.{filesNumber, treeNumber, judgedAs, judgedOf, unread, withJudged, checkedOf}
 use Rattle.torrent.specs.declared.check.Checked.{Checked}
-
--- `piece layers` is a dictionary, and its keys ascend
-pub record LayersOpen (l : List ℕ) : Type 0 where
-  pub small : length l ≤ largestTorrent
-  pub opens : isDictionary l ≡ true
-  pub ascending : keysWide l ≡ true → (keys : List ℕ) (count : ℕ) → count ≤ length keys → take count keys ≡ layerKeys l → Ascending l keys count
 
 -- a dictionary that is found is one
 dictionary-found : (s key : List ℕ) (at a b : ℕ) → dictionaryIn s (findKey key at (drop at s)) ≡ Part a b → (findKey key at (drop at s) ≡ Part a b) × (isDictionary (drop a s) ≡ true)
@@ -137,7 +132,7 @@ pub record Whole (s : List ℕ) (c : Checked) : Type 0 where
   pub number-right : treeNumber (bytesIn s (c .keys .tree)) (bytesIn s (c .keys .layers)) (c .keys .plen) (filesIn (bytesIn s (c .keys .tree))) ≡ 0
   pub tree-right : right (filesIn (bytesIn s (c .keys .tree))) ≡ true
   pub all-files : c .files ≡ length (listed (filesIn (bytesIn s (c .keys .tree))))
-  pub all-long : c .long ≡ longs (c .keys .plen) (listed (filesIn (bytesIn s (c .keys .tree))))
+  pub all-long : c .long ≡ layerCount (c .keys .plen) (readFiles (bytesIn s (c .keys .tree)) (listed (filesIn (bytesIn s (c .keys .tree)))))
 
 -- only a right tree gets 0
 right-tree : (t l : List ℕ) (plen : ℕ) (fs : Files) → treeNumber t l plen fs ≡ 0 → right fs ≡ true
@@ -159,15 +154,15 @@ checked-whole s e = by-keys (eqb (metainfoOf s .number) 0) refl e
     l = bytesIn s (metainfoOf s .layers)
 
     by-number : (n : ℕ) → treeNumber t l (metainfoOf s .plen) (filesIn t) ≡ n → metainfoOf s .number ≡ 0
-        → withJudged (metainfoOf s) (judgedAs n (length (listed (filesIn t))) (longs (metainfoOf s .plen) (listed (filesIn t)))) .keys .number ≡ 0
-        → Whole s (withJudged (metainfoOf s) (judgedAs n (length (listed (filesIn t))) (longs (metainfoOf s .plen) (listed (filesIn t)))))
+        → withJudged (metainfoOf s) (judgedAs n (length (listed (filesIn t))) (layerCount (metainfoOf s .plen) (readFiles t (listed (filesIn t))))) .keys .number ≡ 0
+        → Whole s (withJudged (metainfoOf s) (judgedAs n (length (listed (filesIn t))) (layerCount (metainfoOf s .plen) (readFiles t (listed (filesIn t))))))
     by-number zero q g f =
         record { opened = keys-open s g; keys-are = refl; number-right = q; tree-right = right-tree t l (metainfoOf s .plen) (filesIn t) q; all-files = refl; all-long = refl }
     by-number (suc n) q g f = let o : (suc n ≡ 0 → ⊥) = λ z. omega arith in let h : suc n ≡ 0 = simp (ne-eqb (suc n) 0 o) at f in absurd (o h)
 
     by-keys : (b : Bool) → eqb (metainfoOf s .number) 0 ≡ b
-        → cond b (withJudged (metainfoOf s) (judgedAs (treeNumber t l (metainfoOf s .plen) (filesIn t)) (length (listed (filesIn t))) (longs (metainfoOf s .plen) (listed (filesIn t))))) (unread (metainfoOf s .number)) .keys .number ≡ 0
-        → Whole s (cond b (withJudged (metainfoOf s) (judgedAs (treeNumber t l (metainfoOf s .plen) (filesIn t)) (length (listed (filesIn t))) (longs (metainfoOf s .plen) (listed (filesIn t))))) (unread (metainfoOf s .number)))
+        → cond b (withJudged (metainfoOf s) (judgedAs (treeNumber t l (metainfoOf s .plen) (filesIn t)) (length (listed (filesIn t))) (layerCount (metainfoOf s .plen) (readFiles t (listed (filesIn t)))))) (unread (metainfoOf s .number)) .keys .number ≡ 0
+        → Whole s (cond b (withJudged (metainfoOf s) (judgedAs (treeNumber t l (metainfoOf s .plen) (filesIn t)) (length (listed (filesIn t))) (layerCount (metainfoOf s .plen) (readFiles t (listed (filesIn t)))))) (unread (metainfoOf s .number)))
     by-keys true q f = by-number (treeNumber t l (metainfoOf s .plen) (filesIn t)) refl (eqb-true (metainfoOf s .number) 0 q) f
     by-keys false q f = absurd (eqb-false (metainfoOf s .number) 0 q f)
 

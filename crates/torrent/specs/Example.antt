@@ -15,7 +15,7 @@ use Rattle.tree.specs.Geometry.{isPieceLength, pieceLayer, height, heightFrom, 
 use Rattle.bencode.specs.Grammar.{Value, integer, string, dictionary, Entries, noEntries, entry, decimalIn, encode, precedes, Valid}
 use Rattle.bencode.specs.Parts.{lookup}
 use Rattle.meaning.specs.Nth.{Nth}
-use Rattle.meaning.specs.Torrent.{File, filesOf, without, hasKeys, elementRight, fileRight, nodeRight, branchRight, nodesRight, treeRight, filesOfNode, filesOfEntries, noneWith, rootsApart, layersFit, noOthers, layersGiveRoots, valueNumber}
+use Rattle.meaning.specs.Torrent.{File, filesOf, without, hasKeys, elementRight, fileRight, nodeRight, branchRight, nodesRight, treeRight, filesOfNode, filesOfEntries, noOtherLength, lengthsAgree, layersFit, noOthers, layersGiveRoots, valueNumber}
 use Rattle.torrent.specs.Torrent.{readOf, noFileRead, fileRead, pathRead}
 use Rattle.torrent.specs.NumberMeans.{number-is-the-values, read-number}
 use Rattle.torrent.specs.Answers.{FileIs, PartIs}
@@ -55,7 +55,7 @@ small-valid = (refl, (refl, (refl, a-valid, (refl, b-valid, tt)), (refl, omega a
 
 -- it is right
 pub small-right : valueNumber small ≡ 0
-unfolding valueNumber lookup same hasKeys isPieceLength pieceLayer height heightFrom treeRight branchRight nodeRight nodesRight elementRight without fileRight filesOfEntries filesOfNode rootsApart noneWith layersFit hasLayer noOthers layersGiveRoots zeroHash
+unfolding valueNumber lookup same hasKeys isPieceLength pieceLayer height heightFrom treeRight branchRight nodeRight nodesRight elementRight without fileRight filesOfEntries filesOfNode lengthsAgree noOtherLength layersFit hasLayer noOthers layersGiveRoots zeroHash
 small-right = refl
 
 -- it is small

@@ -19,7 +19,7 @@ use Rattle.bencode.specs.Grammar.{colon, integer, string, dictionary, Entries, 
 use Rattle.bencode.specs.PartsLaws.{entries-length}
 use Rattle.bencode.specs.Parts.{Lookup, present, absent, lookup}
 use Rattle.meaning.specs.Nth.{Nth}
-use Rattle.meaning.specs.Torrent.{File, isNumber, infoOf, treeOf, filesOf, plenOf, layersOf, without, hasKeys, elementRight, fileRight, nodeRight, branchRight, nodesRight, treeRight, filesOfNode, filesOfEntries, noneWith, rootsApart, layerFits, layersFit, someLonger, noOthers, givesRoot, layerBytes, layersGiveRoots, valueNumber}
+use Rattle.meaning.specs.Torrent.{File, isNumber, infoOf, treeOf, filesOf, plenOf, layersOf, without, hasKeys, elementRight, fileRight, nodeRight, branchRight, nodesRight, treeRight, filesOfNode, filesOfEntries, noOtherLength, lengthsAgree, layerFits, layersFit, someLonger, noOthers, givesRoot, layerBytes, layersGiveRoots, valueNumber}
 use Rattle.torrent.specs.Torrent.{readOf, fileRead}
 use Rattle.torrent.specs.NumberMeans.{number-is-the-values, read-number}
 use Rattle.torrent.specs.Answers.{FileIs}
@@ -27,8 +27,8 @@ use Rattle.torrent.specs.ReadMeans.{file-is}
 
 -- ---- a torrent gets 0 where all seven tests of its value pass
 
-all-pass : (es : Entries) → hasKeys es ≡ true → isNumber 2 (lookup keyMetaVersion (infoOf es)) ≡ true → isPieceLength (plenOf es) ≡ true
-    → treeRight (treeOf es) ≡ true → rootsApart (filesOf es) ≡ true → layersFit (plenOf es) (layersOf es) (filesOf es) ≡ true
+pub all-pass : (es : Entries) → hasKeys es ≡ true → isNumber 2 (lookup keyMetaVersion (infoOf es)) ≡ true → isPieceLength (plenOf es) ≡ true
+    → treeRight (treeOf es) ≡ true → lengthsAgree (filesOf es) ≡ true → layersFit (plenOf es) (layersOf es) (filesOf es) ≡ true
     → noOthers (plenOf es) (filesOf es) (layersOf es) ≡ true → layersGiveRoots (plenOf es) (layersOf es) (filesOf es) ≡ true → valueNumber es ≡ 0
 unfolding valueNumber
 all-pass es a b c d e f g h = rw (a, b, c, d, e, f, g, h) refl
@@ -36,7 +36,7 @@ all-pass es a b c d e f g h = rw (a, b, c, d, e, f, g, h) refl
 -- ---- with any root
 
 -- the two hashes of the layer
-abbrev layer : List ℕ
+abbrev pub layer : List ℕ
 layer = zeroHash ++ zeroHash
 
 module _ (root : List ℕ) where
@@ -83,9 +83,9 @@ module _ (root : List ℕ) where
   unfolding lookup same treeRight branchRight nodeRight nodesRight elementRight without fileRight
   tree-right e = ap (λ (t : Bool). t && true) (eq-eqb (length root) 32 e)
 
-  apart-right : rootsApart (filesOf withRoot) ≡ true
-  unfolding lookup same filesOfEntries filesOfNode rootsApart noneWith
-  apart-right = refl
+  lengths-right : lengthsAgree (filesOf withRoot) ≡ true
+  unfolding lookup same filesOfEntries filesOfNode lengthsAgree noOtherLength
+  lengths-right = refl
 
   -- the root is the one key
   the-key : lookup root layers ≡ present (string layer)
@@ -116,26 +116,26 @@ module _ (root : List ℕ) where
 
   -- all tests pass
   with-right : length root ≡ 32 → layerRoot layer 0 1 ≡ root → valueNumber withRoot ≡ 0
-  with-right l e = all-pass withRoot keys-right version-right piece-right (tree-right l) apart-right fit-right others-right (gives-right e)
+  with-right l e = all-pass withRoot keys-right version-right piece-right (tree-right l) lengths-right fit-right others-right (gives-right e)
 
 -- ---- its size
 
 -- a dictionary takes a byte more than its entries with their end
-dictionary-size : (es : Entries) → length (encode (dictionary es)) ≡ suc (length (encodeEntries es))
+pub dictionary-size : (es : Entries) → length (encode (dictionary es)) ≡ suc (length (encodeEntries es))
 unfolding encode
 dictionary-size es = refl
 
 -- a string of 32 bytes takes 35
-string-size : (b : List ℕ) → length b ≡ 32 → length (encodeString b) ≡ 35
+pub string-size : (b : List ℕ) → length b ≡ 32 → length (encodeString b) ≡ 35
 unfolding decimalIn
 string-size b e = let la = length-append (decimal (length b)) (colon ∷ b) in let d : length (decimal (length b)) ≡ 2 = rw e refl in omega arith
 
-value-size : (b : List ℕ) → length b ≡ 32 → length (encode (string b)) ≡ 35
+pub value-size : (b : List ℕ) → length b ≡ 32 → length (encode (string b)) ≡ 35
 unfolding encode
 value-size b e = string-size b e
 
 -- what does not depend on the root
-abbrev afterTree : Entries
+abbrev pub afterTree : Entries
 afterTree = entry keyMetaVersion (integer false 2) (entry keyPieceLength (integer false 16384) noEntries)
 
 fixed-sizes : (length (encodeString keyInfo) ≡ 6) × (length (encodeString keyPieceLayers) ≡ 15) × (length (encodeString keyFileTree) ≡ 11) × (length (encodeString (99 ∷ [])) ≡ 3)
@@ -177,7 +177,7 @@ with-size root e =
 abbrev pub theRoot : List ℕ
 theRoot = layerRoot layer 0 1
 
-root-size : length theRoot ≡ 32
+pub root-size : length theRoot ≡ 32
 unfolding layerRoot node
 root-size = pair-octets (node (layerLeaf layer 0) 0 0) (node (layerLeaf layer 0) 0 1) .size
 
@@ -216,11 +216,11 @@ longer = omega arith
 has-layer : lookup (longFile .root) (layersOf long) ≡ present (string layer)
 has-layer = ap (lookup theRoot) (the-layers theRoot) ∙ the-key theRoot
 
-layer-size : length layer ≡ 64
+pub layer-size : length layer ≡ 64
 unfolding zeroHash
 layer-size = refl
 
-one-string : (a b : List ℕ) → present (string a) ≡ present (string b) → a ≡ b
+pub one-string : (a b : List ℕ) → present (string a) ≡ present (string b) → a ≡ b
 one-string a b e = cc
 
 -- so these 64 bytes are what is answered

@@ -6,3 +6,4 @@ pub mod NumberMeans
 pub mod ReadMeans
 pub mod Example
 pub mod LayerExample
+pub mod TwinsExample

@@ -19,15 +19,15 @@ use Rattle.bencode.specs.DepthLaws.{more-levels}
 use Rattle.bencode.specs.Strict.{Encoded, TooDeepFirst, strictness}
 use Rattle.bencode.specs.StrictLaws.{taken, taken-only, deep-first, deep-only, one-of-three, otherwise, otherwise-only}
 use Rattle.meaning.specs.Keys.{keyMetaVersion}
-use Rattle.meaning.specs.Torrent.{File, isNumber, infoOf, treeOf, hasKeys, treeRight, filesOf, rootsApart, layersFit, noOthers, layersGiveRoots, plenOf, layersOf, valueNumber}
+use Rattle.meaning.specs.Torrent.{File, isNumber, infoOf, treeOf, hasKeys, treeRight, filesOf, lengthsAgree, layersFit, noOthers, layersGiveRoots, plenOf, layersOf, valueNumber}
 use Rattle.meaning.specs.AmissLaws.{value-ranged}
 use Rattle.meaning.specs.FilesLaws.{AllHold, files-hold}
 use Rattle.metainfo.specs.Metainfo.{bytesIn, noKeys, keysOf, metainfoOf}
 use Rattle.metainfo.specs.declared.Keys.{Keys}
-use Rattle.filetree.specs.Tree.{Listed, Files, right, listed, filesIn, longs}
-use Rattle.layers.specs.Layers.{keysWide, layerKeys, worst}
-use Rattle.joined.specs.Reading.{readFile, readFiles}
-use Rattle.joined.specs.RootsMeaning.{AllAlike, roots-apart}
+use Rattle.filetree.specs.Tree.{Listed, Files, right, listed, filesIn}
+use Rattle.filetree.specs.Reading.{readFiles}
+use Rattle.twins.specs.Twins.{layerCount}
+use Rattle.joined.specs.Alike.{all-alike}
 use Rattle.joined.specs.LayersMeaning.{layers-number}
 use Rattle.joined.specs.KeysLaws.{KeysAt, keys-number, keys-point, none-exactly}
 use Rattle.joined.specs.StrictTorrentLaws.{strict-keys, keys-first, tree-next, torrent-tree, torrent-files}
@@ -38,28 +38,17 @@ use Rattle.torrent.specs.declared.read.PartRead.{PartRead}
 
 -- ---- the files by positions and the files of the value
 
--- the files as they are read have the lengths and roots that their positions say
-pub all-alike : (t : List ℕ) (fs : List Listed) → AllAlike t fs (readFiles t fs)
-unfolding AllAlike readFile
-all-alike t [] = tt
-all-alike t (f ∷ fs) = (record { size = refl; root = refl }, all-alike t fs)
-
 -- 26 to 28 of the files vs with the layers ls
 abbrev filesValue : ℕ → Entries → List File → ℕ
 filesValue plen ls vs =
-    cond (rootsApart vs) (cond (layersFit plen ls vs && noOthers plen vs ls) (cond (layersGiveRoots plen ls vs) 0 layerDiffers) layersAmiss) sameRoot
+    cond (lengthsAgree vs) (cond (layersFit plen ls vs && noOthers plen vs ls) (cond (layersGiveRoots plen ls vs) 0 layerDiffers) layersAmiss) sameRoot
 
 -- 26 to 28 by positions are those of the value
 files-number : (t l : List ℕ) (ls : Entries) → l ≡ encode (dictionary ls) → Valid (dictionary ls) maxLevels → (plen : ℕ) (fs : List Listed) (vs : List File)
-    → AllAlike t fs vs → AllHold vs → filesNumber t l plen fs ≡ filesValue plen ls vs
+    → readFiles t fs ≡ vs → AllHold vs → filesNumber t l plen fs ≡ filesValue plen ls vs
 unfolding filesNumber
-files-number t l ls bytes valid plen fs vs alike hold = rw (roots-apart t fs vs alike) (by-apart (rootsApart vs) refl)
-  where
-    by-apart : (o : Bool) → rootsApart vs ≡ o
-        → cond o (cond (keysWide l && eqb (length (layerKeys l)) (longs plen fs)) (worst t l plen 0 fs) layersAmiss) sameRoot
-        ≡ cond o (cond (layersFit plen ls vs && noOthers plen vs ls) (cond (layersGiveRoots plen ls vs) 0 layerDiffers) layersAmiss) sameRoot
-    by-apart true e = layers-number t l ls bytes valid plen fs vs alike hold e
-    by-apart false e = refl
+files-number t l ls bytes valid plen fs vs read hold =
+    rw read (ap (λ (n : ℕ). cond (lengthsAgree vs) n sameRoot) (layers-number t l ls bytes valid plen fs vs (rw read at (all-alike t fs)) hold))
 
 -- where keys and tree are right, the value's number is that of its files
 from-files : (es : Entries) → (hasKeys es ≡ true) × (isNumber 2 (lookup keyMetaVersion (infoOf es)) ≡ true) × (isPieceLength (plenOf es) ≡ true)
@@ -97,10 +86,9 @@ module _ (s : List ℕ) (es : Entries) (start : s ≡ encode (dictionary es)) (v
       by-tree false q = sym (tree-next es (sym (keys-number s es start valid) ∙ e) (sym same-tree ∙ q))
       by-tree true q =
           let fs = listed (filesIn t) in
-          let alike : AllAlike t fs (filesOf es) = rw (torrent-files s es start valid e q) at (all-alike t fs) in
           let deep : Valid (dictionary (layersOf es)) maxLevels = more-levels (dictionary (layersOf es)) 31 maxLevels (omega arith) (k .layers-valid) in
           let hold = files-hold (treeOf es) (k .tree-valid) (sym same-tree ∙ q) in
-          files-number t l (layersOf es) (k .layers-bytes) deep (keysOf s .plen) fs (filesOf es) alike hold
+          files-number t l (layersOf es) (k .layers-bytes) deep (keysOf s .plen) fs (filesOf es) (torrent-files s es start valid e q) hold
           ∙ ap (λ (p : ℕ). filesValue p (layersOf es) (filesOf es)) (k .plen-is)
           ∙ sym (from-files es (none-exactly s es start valid .0 e) (sym same-tree ∙ q))
 
@@ -119,10 +107,10 @@ module _ (s : List ℕ) (es : Entries) (start : s ≡ encode (dictionary es)) (v
       number = treeNumber t l plen files
 
       by-keys : (b : Bool) → eqb (keysOf s .number) 0 ≡ b
-          → cond b (withJudged (keysOf s) (judgedAs number (length (listed files)) (longs plen (listed files)))) (unread (keysOf s .number)) .keys .number ≡ valueNumber es
+          → cond b (withJudged (keysOf s) (judgedAs number (length (listed files)) (layerCount plen (readFiles t (listed files))))) (unread (keysOf s .number)) .keys .number ≡ valueNumber es
       by-keys true q =
           let z = eqb-true (keysOf s .number) 0 q in
-          judged-number (keysOf s) number (length (listed files)) (longs plen (listed files)) z ∙ tree-number z
+          judged-number (keysOf s) number (length (listed files)) (layerCount plen (readFiles t (listed files))) z ∙ tree-number z
       by-keys false q = keys-number s es start valid ∙ sym (keys-first es (λ z. eqb-false (keysOf s .number) 0 q (keys-number s es start valid ∙ z)))
 
 -- ---- 19 to 21, and all of them together

@@ -32,9 +32,10 @@ use Rattle.meaning.specs.AmissLaws.{all-layers}
 use Rattle.metainfo.specs.Metainfo.{bytesIn, keysOf, metainfoOf}
 use Rattle.metainfo.specs.MetainfoLaws.{metainfo-right}
 use Rattle.metainfo.specs.declared.Keys.{Keys}
-use Rattle.filetree.specs.Tree.{Element, Listed, right, listed, filesIn, fileNumber, longs}
+use Rattle.filetree.specs.Tree.{Element, Listed, right, listed, filesIn, fileNumber}
+use Rattle.twins.specs.Twins.{layerCount}
 use Rattle.layers.specs.Layers.{stringIn, layerAt, rootBytes, layerString, startOf, sizeOf}
-use Rattle.joined.specs.Reading.{element, elements, readFile, readFiles}
+use Rattle.filetree.specs.Reading.{element, elements, readFile, readFiles}
 use Rattle.joined.specs.FileLaws.{string-there}
 use Rattle.joined.specs.TreeLaws.{Fits, AllFit, tree-fits}
 use Rattle.joined.specs.LayersRead.{find-layer}
@@ -191,7 +192,7 @@ taken-so s e = by-keys (eqb (metainfoOf s .number) 0) refl
     count = length (listed (filesIn t))
 
     long : ℕ
-    long = longs (k .plen) (listed (filesIn t))
+    long = layerCount (k .plen) (readFiles t (listed (filesIn t)))
 
     judged : eqb (k .number) 0 ≡ true → checkedOf s ≡ withJudged k (judgedAs number count long)
     judged q = unfold checkedOf judgedOf in rw q refl
@@ -351,6 +352,33 @@ module _ (s : List ℕ) (es : Entries) (start : s ≡ encode (dictionary es)) (v
   file-is n v e =
       let p = file-read n v e in
       rw (file-answer n (p .0)) (file-answered n v e (fileNumber files n) (p .2))
+
+  -- files of one length and one root have one layer
+  same-layer : (f g : Listed) (v w : File) → v ≡ readFile t f → w ≡ readFile t g → v .size ≡ w .size → v .root ≡ w .root
+      → layerString l (keysOf s .plen) (f .size) (cut t (f .root) 32) ≡ layerString l (keysOf s .plen) (g .size) (cut t (g .root) 32)
+  same-layer f g v w ev ew size root = by-length (decLt (keysOf s .plen) (f .size))
+    where
+      same-size : f .size ≡ g .size
+      same-size = sym (size-read t f v ev) ∙ size ∙ size-read t g w ew
+
+      plen : ℕ
+      plen = keysOf s .plen
+
+      by-length : Dec (plen < f .size) → layerString l plen (f .size) (cut t (f .root) 32) ≡ layerString l plen (g .size) (cut t (g .root) 32)
+      by-length (yes h) =
+          let same-root : cut t (f .root) 32 ≡ cut t (g .root) 32 =
+          sym (root-full t (f .size) (f .root) (λ z. omega arith)) ∙ sym (root-read t f v ev) ∙ root ∙ root-read t g w ew ∙ root-full t (g .size) (g .root) (λ z. omega (arith, same-size)) in
+          layer-some l plen (f .size) (cut t (f .root) 32) h ∙ ap (layerAt l) same-root ∙ sym (layer-some l plen (g .size) (cut t (g .root) 32) (omega (arith, same-size)))
+      by-length (no h) = layer-none l plen (f .size) (cut t (f .root) 32) (omega arith) ∙ sym (layer-none l plen (g .size) (cut t (g .root) 32) (omega (arith, same-size)))
+
+  -- so both are answered with the same part
+  pub same-part : (n m : ℕ) (v w : File) → Nth (filesOf es) n v → Nth (filesOf es) m w → v .size ≡ w .size → v .root ≡ w .root
+      → (fileRead s n .start ≡ fileRead s m .start) × (fileRead s n .size ≡ fileRead s m .size)
+  same-part n m v w en em size root =
+      let p = file-read n v en in
+      let q = file-read m w em in
+      let same = same-layer (fileNumber files n) (fileNumber files m) v w (p .2) (q .2) size root in
+      rw (file-answer n (p .0), file-answer m (q .0)) (ap (startOf (keysOf s .layers .start)) same, ap sizeOf same)
 
   -- 29 where there is no file n
   pub no-file : (n : ℕ) → length (filesOf es) ≤ n → fileRead s n ≡ noFileRead noSuchFile

@@ -9,10 +9,12 @@ use lib.Dec.{eqb, ltb}
 use Rattle.octets.specs.Octets.{cut, zeroHash}
 use Rattle.numbers.specs.Numbers.{wrongTree, sameRoot, layersAmiss, noSuchFile}
 use Rattle.sha256.specs.Sha256.{sha256}
-use Rattle.sorting.specs.Sorting.{apart, stringsAt}
+use Rattle.meaning.specs.Torrent.{lengthsAgree}
 use Rattle.metainfo.specs.Metainfo.{bytesIn, noKeys, metainfoOf}
 use Rattle.metainfo.specs.declared.Keys.{Keys}
-use Rattle.filetree.specs.Tree.{Element, Listed, Files, right, listed, filesIn, rootsOf, longs, fileNumber}
+use Rattle.filetree.specs.Tree.{Element, Listed, Files, right, listed, filesIn, fileNumber}
+use Rattle.filetree.specs.Reading.{readFiles}
+use Rattle.twins.specs.Twins.{layerCount}
 use Rattle.layers.specs.Layers.{keysWide, layerKeys, worst, rootBytes, layerString, startOf, sizeOf}
 use Rattle.torrent.specs.declared.check.Judged.{Judged}
 use Rattle.torrent.specs.declared.check.Checked.{Checked}
@@ -24,8 +26,8 @@ use Rattle.torrent.specs.declared.read.PartRead.{PartRead}
 
 unfoldable pub filesNumber : List ℕ → List ℕ → ℕ → List Listed → ℕ
 filesNumber t l plen fs =
-    cond (apart (stringsAt t (rootsOf fs)))
-    (cond (keysWide l && eqb (length (layerKeys l)) (longs plen fs)) (worst t l plen 0 fs) layersAmiss)
+    cond (lengthsAgree (readFiles t fs))
+    (cond (keysWide l && eqb (length (layerKeys l)) (layerCount plen (readFiles t fs))) (worst t l plen 0 fs) layersAmiss)
     sameRoot
 
 unfoldable pub treeNumber : List ℕ → List ℕ → ℕ → Files → ℕ
@@ -37,7 +39,7 @@ judgedAs zero files long = record { number = 0; files = files; long = long }
 judgedAs (suc n) files long = record { number = suc n; files = 0; long = 0 }
 
 unfoldable pub judgedOf : List ℕ → List ℕ → ℕ → Judged
-judgedOf t l plen = judgedAs (treeNumber t l plen (filesIn t)) (length (listed (filesIn t))) (longs plen (listed (filesIn t)))
+judgedOf t l plen = judgedAs (treeNumber t l plen (filesIn t)) (length (listed (filesIn t))) (layerCount plen (readFiles t (listed (filesIn t))))
 
 -- ---- 19 to 28
 

@@ -8,7 +8,9 @@ use layers::judge_layers;
 use metainfo::Keys;
 use metainfo::no_keys;
 use metainfo::read_keys;
-use sorting::distinct::apart;
+use sorting::distinct::once_each;
+use twins::Compared;
+use twins::compare;
 ghost use mathlib.Core.Path.{_≡_};
 ghost use mathlib.Core.Bool.{true};
 ghost use Prim.Native.Nat.{_≤_};
@@ -16,10 +18,10 @@ ghost use lib.ListN.{length};
 ghost use Rattle.limits.specs.Limits.{largestTorrent};
 ghost use Rattle.tree.specs.Geometry.{isPieceLength};
 ghost use Rattle.filetree.specs.Count.{mostRoots};
+ghost use Rattle.layers.specs.Layers.{LayersOpen};
 ghost use Rattle.torrent.specs.Torrent.{judgedAs, judgedOf, unread, checkedOf};
-ghost use Rattle.torrent.specs.CheckLaws.{LayersOpen};
 
-// 0 with how many files there are, and how many are longer than the piece length; or 25 to 28.
+// 0 with how many files there are, and how many layers; or 25 to 28.
 pub struct Judged {
     pub number: u32,
     pub files: usize,
@@ -72,20 +74,22 @@ fn judge_in(t: &[u8], l: &[u8], plen: usize, roots: &mut [u32], room: &mut [u32]
     requires { ⌜ (length (now t) ≤ largestTorrent) × (isPieceLength plen ≡ true) × LayersOpen (now l) × (length (now roots) ≡ mostRoots) × (length (now room) ≡ mostRoots) ⌝ }
     ensures { λ r. ⌜ r ≡ judgedOf (now (t .entry)) (now (l .entry)) plen ⌝ }
 {
-    match count_files(t, plen, roots) {
+    match count_files(t, roots) {
         Counted::WrongTree => refused(numbers::WRONG_TREE),
         Counted::Past { next: _, tally } => {
             let files = tally.files;
             let full = tally.roots;
-            let long = tally.long;
-            if apart(t, roots, room, full) {
-                if index(l, roots, long) {
-                    let number = judge_layers(t, l, roots, long, plen);
-                    return counted(number, files, long);
+            let count = once_each(t, roots, room, full);
+            match compare(t, files, roots, count, room, plen) {
+                Compared::Differ => refused(numbers::SAME_ROOT),
+                Compared::Agree { long } => {
+                    if index(l, roots, long) {
+                        let number = judge_layers(t, l, roots, long, plen);
+                        return counted(number, files, long);
+                    }
+                    refused(numbers::LAYERS_AMISS)
                 }
-                return refused(numbers::LAYERS_AMISS);
             }
-            refused(numbers::SAME_ROOT)
         }
     }
 }

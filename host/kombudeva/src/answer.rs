@@ -48,7 +48,7 @@ pub enum Answer<T> {
     PieceLengthOutOfRange,
     /// 25: a file tree against the rules
     WrongTree,
-    /// 26: two non-empty files with the same root
+    /// 26: two non-empty files with the same root and different lengths
     SameRoot,
     /// 27: the piece layers aren't those of the files, or have another size
     LayersAmiss,
@@ -118,7 +118,7 @@ refusals! {
     23 OtherVersion "another version than 2";
     24 PieceLengthOutOfRange "the piece length out of range";
     25 WrongTree "a wrong file tree";
-    26 SameRoot "two files with the same root";
+    26 SameRoot "two files with the same root and different lengths";
     27 LayersAmiss "piece layers that are not those of the files";
     28 LayerDiffers "a piece layer that does not give its root";
     29 NoSuchFile "no such file or path element";

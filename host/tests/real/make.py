@@ -20,7 +20,7 @@ stand, and its reader (`torrent_info`), which the info hash comes from. The read
     decoder's, and the reader's paths are compared where it leaves them alone;
   - it gives no layers: those are the decoder's too.
 Its order is the tree's: by raw bytes, element by element, whatever order the files were added in.
-What libtorrent takes and 01 refuses is not made here: two equal files (26), a file above 16 GiB (25).
+What libtorrent takes and 01 refuses is not made here: a file above 16 GiB (25).
 """
 import os
 import sys
@@ -30,7 +30,7 @@ import libtorrent
 
 HERE = os.path.dirname(os.path.abspath(__file__))
 V2_ONLY, HYBRID = libtorrent.create_torrent.v2_only, 0
-KEPT = ["single", "several", "hybrid"]
+KEPT = ["single", "several", "hybrid", "twins"]
 
 # Torrent name: flags, piece length, and each file's path and length. libtorrent's binding takes text only: in the
 # torrents of RAW each character stands for the byte of its number, which is put into the torrent afterwards.
@@ -52,6 +52,12 @@ TORRENTS = {
         HYBRID,
         16384,
         {"firmware/image": 81920, "firmware/note": 5, "firmware/z\xe4hler": 100, "history": 16385, "leer": 0, "\xff": 1},
+    ),
+    # `ab/image` and `ba/image` have the same bytes by the rule below, and so have `ab/note` and `ba/note`, the longest short ones.
+    "twins": (
+        V2_ONLY,
+        16384,
+        {"ab/image": 40001, "ab/note": 16384, "ba/image": 40001, "ba/note": 16384, "history": 40001},
     ),
     "byte": (V2_ONLY, 16384, {"history": 1}),
     "block": (V2_ONLY, 16384, {"history": 16384}),

@@ -17,11 +17,13 @@ pub struct Shape {
 /// The name of the ordinary one.
 pub const ORDINARY: &str = "10000-files";
 
-pub const ALL: [Shape; 11] = [
+pub const ALL: [Shape; 13] = [
     shape(ORDINARY, ten_thousand_files, DONE),
     shape("many-files", || files(1, random_root), DONE),
     shape("empty-files", empty_files, DONE),
     shape("like-roots", || files(1, like_root), DONE),
+    shape("twins", || files(1, |_| [7; 32]), DONE),
+    shape("long-twin", long_twin, DONE),
     shape("28-elements", || files(28, random_root), DONE),
     shape("own-folders", own_folders, DONE),
     shape("many-layers", many_layers, DONE),
@@ -111,6 +113,17 @@ fn files(elements: usize, root: fn(u32) -> Hash) -> Vec<u8> {
 fn empty_files() -> Vec<u8> {
     let around = torrent(b"", b"de", 16384, b"de").len();
     let entry = |number| [&name(number)[..], b"d0:d6:lengthi0eee"].concat();
+    torrent(b"", &dictionary(&as_many_as_fit(around, entry)), 16384, b"de")
+}
+
+/// A file that takes half of the torrent, and its twins on both sides.
+fn long_twin() -> Vec<u8> {
+    let around = torrent(b"", b"de", 16384, b"de").len();
+    let unknown = string(&vec![b'x'; LARGEST_TORRENT / 2]);
+    let entry = |number: u32| {
+        let unknown = if number == 3000 { [&b"1:a"[..], &unknown].concat() } else { Vec::new() };
+        [&name(number)[..], b"d0:d", &unknown, b"6:lengthi1e11:pieces root32:", &[7; 32], b"ee"].concat()
+    };
     torrent(b"", &dictionary(&as_many_as_fit(around, entry)), 16384, b"de")
 }
 

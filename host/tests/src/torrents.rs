@@ -93,11 +93,12 @@ fn dictionary(entries: BTreeMap<Vec<u8>, Value>) -> Value {
     Dictionary(entries.into_iter().collect())
 }
 
-/// What is put together while a file tree is made: the layers of its files.
+/// What is put together while a file tree is made: the layers of its files, and their lengths and roots.
 struct Maker<'a> {
     random: &'a mut Random,
     piece_length: u64,
     layers: BTreeMap<Vec<u8>, Value>,
+    made: Vec<(u64, Vec<u8>)>,
 }
 
 impl Maker<'_> {
@@ -137,14 +138,25 @@ impl Maker<'_> {
             2..=5 => self.random.between(1, self.piece_length),
             _ => self.random.between(self.piece_length + 1, 6 * self.piece_length),
         };
+        let (length, root) = self.twin().unwrap_or_else(|| (length, self.root(length)));
         properties.insert(b"length".to_vec(), integer(length));
         if length > 0 {
-            properties.insert(b"pieces root".to_vec(), Text(self.root(length)));
+            self.made.push((length, root.clone()));
+            properties.insert(b"pieces root".to_vec(), Text(root));
         }
         if self.random.percent(10) {
             properties.insert(self.random.pick(&[b"attr".to_vec(), b"".to_vec()]), Text(b"x".to_vec()));
         }
         Dictionary(vec![(Vec::new(), dictionary(properties))])
+    }
+
+    /// The length and the root of an earlier file, sometimes; the length is seldom another one.
+    fn twin(&mut self) -> Option<(u64, Vec<u8>)> {
+        if self.made.is_empty() || !self.random.percent(15) {
+            return None;
+        }
+        let (length, root) = self.random.pick(&self.made);
+        Some((if self.random.percent(2) { length + 1 } else { length }, root))
     }
 
     /// A root for a file of this length. A file longer than the piece length gets a layer that gives it.
@@ -165,10 +177,10 @@ impl Maker<'_> {
     }
 }
 
-/// A torrent with nothing wrong, but for a rare pair of files with the zero root.
+/// A torrent with nothing wrong, but for a rare pair of files with one root and two lengths.
 pub fn good(random: &mut Random) -> Value {
     let piece_length = random.pick(&[16384, 32768, 65536, 1 << 24]);
-    let mut maker = Maker { random, piece_length, layers: BTreeMap::new() };
+    let mut maker = Maker { random, piece_length, layers: BTreeMap::new(), made: Vec::new() };
     let levels = maker.random.below(4);
     let has_many = maker.random.below(200) == 0;
     let tree = if has_many { maker.folder_of_many(levels) } else { maker.directory(levels) };

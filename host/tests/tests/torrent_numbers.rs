@@ -425,14 +425,16 @@ fn unknown_keys_are_skipped() {
 // ---- 26 to 28
 
 #[test]
-fn number_26_is_the_same_root_twice() {
+fn number_26_is_one_root_with_two_lengths() {
     let root = Some([1; 32]);
     assert_number(&with_tree(&[&file("a", 1, root), &file("b", 2, root)]), 26);
-    assert_number(&with_tree(&[&file("a", 1, root), &file("b", 1, Some([2; 32])), &file("c", 1, root)]), 26);
+    assert_number(&with_tree(&[&file("a", 1, root), &file("b", 1, Some([2; 32])), &file("c", 2, root)]), 26);
+    assert_number(&with_tree(&[&file("a", 1, root), &file("b", 1, Some([2; 32])), &file("c", 1, root)]), 0);
     assert_number(&with_tree(&[&entry("a", &dictionary(&[&file("a", 1, root)])), &file("b", 2, root)]), 26);
     // The zero root is a root like any other, and not that of the empty files.
     let zero = Some([0; 32]);
-    assert_number(&with_tree(&[&file("a", 1, zero), &file("b", 1, zero)]), 26);
+    assert_number(&with_tree(&[&file("a", 1, zero), &file("b", 2, zero)]), 26);
+    assert_number(&with_tree(&[&file("a", 1, zero), &file("b", 1, zero)]), 0);
     assert_number(&with_tree(&[&file("a", 1, zero), &file("b", 0, None), &file("c", 0, None)]), 0);
     // Roots that differ in one bit, first or last.
     let (mut first, mut last) = ([1; 32], [1; 32]);
@@ -535,6 +537,52 @@ fn number_28_is_a_layer_that_does_not_give_its_root() {
     assert_number(&layered.torrent(&[(first.0, string(&swapped)), second]), 28);
 }
 
+/// Files of one root, each in a folder of its own, with these lengths and these entries of `piece layers`, which are put in order.
+fn twins(root: Hash, lengths: &[i64], entries: &[(&[u8], Vec<u8>)]) -> Vec<u8> {
+    let mut entries = entries.to_vec();
+    entries.sort();
+    let layers: Vec<u8> = entries.iter().flat_map(|(key, value)| [&string(key)[..], value].concat()).collect();
+    let folder = |(number, length): (usize, &i64)| {
+        entry(&format!("{number:05}"), &dictionary(&[&file("image", *length, Some(root))]))
+    };
+    let tree = dictionary(&[&lengths.iter().enumerate().flat_map(folder).collect::<Vec<u8>>()]);
+    Parts { tree, layers: dictionary(&[&layers]), ..Parts::good() }.torrent()
+}
+
+#[test]
+fn files_of_one_root_and_length_share_a_layer() {
+    let layered = layered();
+    let [(root, layer), (other, other_layer)] = layered.good();
+    for count in [2, 3, 1000] {
+        let lengths = vec![16385; count];
+        let with = |entries: &[(&[u8], Vec<u8>)]| twins(layered.roots[0], &lengths, entries);
+        let good = with(&[(root, layer.clone())]);
+        assert_number(&good, 0);
+        let first = torrent_file(&good, 0);
+        assert_eq!(good[first.layer_start as usize..][..first.layer_size as usize], layered.layers[0][..]);
+        assert_eq!(torrent_file(&good, count as u64 - 1), first);
+        // A layer that is missing, of no such file beside the right one and in its place, too short; and one that differs.
+        assert_number(&with(&[]), 27);
+        assert_number(&with(&[(root, layer.clone()), (other, other_layer.clone())]), 27);
+        assert_number(&with(&[(root, layer.clone()), (&[3; 32], string(&[3; 32]))]), 27);
+        assert_number(&with(&[(other, other_layer.clone())]), 27);
+        assert_number(&with(&[(root, string(&layered.layers[0][..32]))]), 27);
+        assert_number(&with(&[(root, string(&[1; 64]))]), 28);
+    }
+    // As many keys as files longer than a piece, but one of them no root.
+    let keys = [(root, layer.clone()), (other, other_layer)];
+    assert_number(&twins(layered.roots[0], &[16385, 16385], &keys), 27);
+    // Another length, whichever stands first, longer than a piece or not.
+    for length in [1, 16384, 16386, 32768] {
+        for lengths in [[16385, length, 16385], [length, 16385, 16385], [16385, 16385, length]] {
+            assert_number(&twins(layered.roots[0], &lengths, &[(root, layer.clone())]), 26);
+        }
+    }
+    // Files that are not longer than a piece have no layer, also if they have one root.
+    assert_number(&twins([9; 32], &[16384, 16384], &[]), 0);
+    assert_number(&twins([9; 32], &[16384, 16384], &[(&[9; 32], string(&[1; 32]))]), 27);
+}
+
 /// The padding value of a layer above 0 is not zeros: three pieces of 32 KiB.
 #[test]
 fn padding_above_the_leaves() {
@@ -558,10 +606,10 @@ fn the_lowest_number_wins() {
     assert_number(&Parts { layers: Vec::new(), ..wrong_version.clone() }.torrent(), 22);
     assert_number(&wrong_piece(wrong_version).torrent(), 23);
     assert_number(&wrong_piece(Parts { tree: b"de".to_vec(), ..Parts::good() }).torrent(), 24);
-    let twins = [file("a", 1, Some([1; 32])), file("b", 1, Some([1; 32]))].concat();
-    assert_number(&with_tree(&[&twins, &file("c", -1, None)]), 25);
+    let one_root = [file("a", 1, Some([1; 32])), file("b", 2, Some([1; 32]))].concat();
+    assert_number(&with_tree(&[&one_root, &file("c", -1, None)]), 25);
     let layers = dictionary(&[&string(b"x"), b"0:"]);
-    assert_number(&Parts { tree: dictionary(&[&twins]), layers, ..Parts::good() }.torrent(), 26);
+    assert_number(&Parts { tree: dictionary(&[&one_root]), layers, ..Parts::good() }.torrent(), 26);
     // All of 27 comes before any 28, whichever file stands first.
     let [first, second] = layered.good();
     let differs = |key| (key, string(&[1; 64]));

@@ -3,9 +3,9 @@ use Rattle.filetree.specs.TreeLaws.{no-levels}
 use Rattle.torrent.specs.FindLaws.{FindAt, find-start, finds-wrong, finds-bad, finds-end, finds-closed, finds-here, find-next, finds-inside, finds-found, inside-behind, find-past}
 use borrow.Author.Needs.{needs}
 use native.Mathlib.Omega.{arith}
-use lib.ListN.{length, getD, set, take, drop}
-use mathlib.Core.Path.{_≡_, refl, ap, sym, _∙_}
-use Prim.Native.Nat.{ℕ, _<_, _+_, _-_, _*_, _≤_, _/_, _%_, _^_}
+use lib.ListN.{length}
+use mathlib.Core.Path.{refl, sym, _∙_}
+use Prim.Native.Nat.{ℕ, _<_, _+_, _-_}
 use borrow.Fn.Kinds.{In}
 use borrow.Fn.PlainCycle.{Measures, is, falls, and}
 use Rattle.torrent.proofs.one.find_in.Reads as find-in
@@ -31,7 +31,6 @@ find-in-Inv-loop t at levels n path₀ below depth left₀ i₀ path left i = Fi
 abbrev find-in-μ-loop : find-in-lts.MeasureT-loop
 find-in-μ-loop t at levels n path₀ below depth left₀ i₀ path left i = length t - i
 
--- src/one.rt:44:9
 find-in-returns : (t : ℕ) → find-in-lts.Need-returns (
   read-token-reads.Asked,
   read-token-reads.Learnt,
@@ -42,7 +41,6 @@ find-in-returns : (t : ℕ) → find-in-lts.Need-returns (
 ) (find-in-at t) find-in.Post find-in-Inv-loop find-in-μ-loop
 find-in-returns t c = finds-wrong _ _ _ _ _ _ (λ p w e. no-levels _ _ _ p (c .if1 .taken))
 
--- src/one.rt:46:17
 find-in-sub-below : (t : ℕ) → find-in-lts.Need-sub-below (
   read-token-reads.Asked,
   read-token-reads.Learnt,
@@ -53,7 +51,6 @@ find-in-sub-below : (t : ℕ) → find-in-lts.Need-sub-below (
 ) (find-in-at t) find-in.Post find-in-Inv-loop find-in-μ-loop
 find-in-sub-below t c = search needs
 
--- src/one.rt:47:17
 find-in-sub-depth : (t : ℕ) → find-in-lts.Need-sub-depth (
   read-token-reads.Asked,
   read-token-reads.Learnt,
@@ -64,7 +61,6 @@ find-in-sub-depth : (t : ℕ) → find-in-lts.Need-sub-depth (
 ) (find-in-at t) find-in.Post find-in-Inv-loop find-in-μ-loop
 find-in-sub-depth t c = search needs
 
--- src/one.rt:50:5
 find-in-loop-holds : (t : ℕ) → find-in-lts.Need-loop-holds (
   read-token-reads.Asked,
   read-token-reads.Learnt,
@@ -75,7 +71,6 @@ find-in-loop-holds : (t : ℕ) → find-in-lts.Need-loop-holds (
 ) (find-in-at t) find-in.Post find-in-Inv-loop find-in-μ-loop
 find-in-loop-holds t c = find-start _ _ _ _ _ (c .if1 .left) (c .before .before .before .pre .1 .1)
 
--- src/one.rt:51:15
 find-in-read-token-requires : (t : ℕ) → find-in-lts.Need-read-token-requires (
   read-token-reads.Asked,
   read-token-reads.Learnt,
@@ -86,7 +81,6 @@ find-in-read-token-requires : (t : ℕ) → find-in-lts.Need-read-token-requires
 ) (find-in-at t) find-in.Post find-in-Inv-loop find-in-μ-loop
 find-in-read-token-requires t c κs = search needs
 
--- src/one.rt:53:17
 find-in-enum-told : (t : ℕ) → find-in-lts.Need-enum-told (
   read-token-reads.Asked,
   read-token-reads.Learnt,
@@ -97,7 +91,6 @@ find-in-enum-told : (t : ℕ) → find-in-lts.Need-enum-told (
 ) (find-in-at t) find-in.Post find-in-Inv-loop find-in-μ-loop
 find-in-enum-told t c = search needs
 
--- src/one.rt:53:17
 find-in-same-length : (t : ℕ) → find-in-lts.Need-same-length (
   read-token-reads.Asked,
   read-token-reads.Learnt,
@@ -108,7 +101,6 @@ find-in-same-length : (t : ℕ) → find-in-lts.Need-same-length (
 ) (find-in-at t) find-in.Post find-in-Inv-loop find-in-μ-loop
 find-in-same-length t c = c .before .before .before .before .loop .inv .sized ∙ sym (c .before .before .before .before .before .before .before .before .pre .1 .1)
 
--- src/one.rt:53:17
 find-in-returns-2 : (t : ℕ) → find-in-lts.Need-returns-2 (
   read-token-reads.Asked,
   read-token-reads.Learnt,
@@ -119,7 +111,6 @@ find-in-returns-2 : (t : ℕ) → find-in-lts.Need-returns-2 (
 ) (find-in-at t) find-in.Post find-in-Inv-loop find-in-μ-loop
 find-in-returns-2 t c = finds-bad _ _ _ _ _ _ _ _ _ (c .before .before .before .before .loop .inv) (sym (c .before .before .read-token .ensures) ∙ c .enum-told .given .1)
 
--- src/one.rt:56:45
 find-in-enum-told-2 : (t : ℕ) → find-in-lts.Need-enum-told-2 (
   read-token-reads.Asked,
   read-token-reads.Learnt,
@@ -130,7 +121,6 @@ find-in-enum-told-2 : (t : ℕ) → find-in-lts.Need-enum-told-2 (
 ) (find-in-at t) find-in.Post find-in-Inv-loop find-in-μ-loop
 find-in-enum-told-2 t c = search needs
 
--- src/one.rt:56:45
 find-in-add-t25 : (t : ℕ) → find-in-lts.Need-add-t25 (
   read-token-reads.Asked,
   read-token-reads.Learnt,
@@ -141,7 +131,6 @@ find-in-add-t25 : (t : ℕ) → find-in-lts.Need-add-t25 (
 ) (find-in-at t) find-in.Post find-in-Inv-loop find-in-μ-loop
 find-in-add-t25 t c = search needs
 
--- src/one.rt:56:17
 find-in-same-length-2 : (t : ℕ) → find-in-lts.Need-same-length-2 (
   read-token-reads.Asked,
   read-token-reads.Learnt,
@@ -152,7 +141,6 @@ find-in-same-length-2 : (t : ℕ) → find-in-lts.Need-same-length-2 (
 ) (find-in-at t) find-in.Post find-in-Inv-loop find-in-μ-loop
 find-in-same-length-2 t c = c .before .before .before .before .loop .inv .sized ∙ sym (c .before .before .before .before .before .before .before .before .pre .1 .1)
 
--- src/one.rt:56:17
 find-in-returns-3 : (t : ℕ) → find-in-lts.Need-returns-3 (
   read-token-reads.Asked,
   read-token-reads.Learnt,
@@ -163,7 +151,6 @@ find-in-returns-3 : (t : ℕ) → find-in-lts.Need-returns-3 (
 ) (find-in-at t) find-in.Post find-in-Inv-loop find-in-μ-loop
 find-in-returns-3 t c = finds-closed _ _ _ _ _ _ _ _ _ (c .before .before .before .before .loop .inv) (c .before .before .before .loop-test .taken) (sym (c .before .before .read-token .ensures) ∙ c .enum-told2 .given .1)
 
--- src/one.rt:59:17
 find-in-enum-known-start : (t : ℕ) → find-in-lts.Need-enum-known-start (
   read-token-reads.Asked,
   read-token-reads.Learnt,
@@ -174,7 +161,6 @@ find-in-enum-known-start : (t : ℕ) → find-in-lts.Need-enum-known-start (
 ) (find-in-at t) find-in.Post find-in-Inv-loop find-in-μ-loop
 find-in-enum-known-start t c = search needs
 
--- src/one.rt:66:21
 find-in-set-element-requires : (t : ℕ) → find-in-lts.Need-set-element-requires (
   read-token-reads.Asked,
   read-token-reads.Learnt,
@@ -185,7 +171,6 @@ find-in-set-element-requires : (t : ℕ) → find-in-lts.Need-set-element-requir
 ) (find-in-at t) find-in.Post find-in-Inv-loop find-in-μ-loop
 find-in-set-element-requires t c κs = (c .before .before .before .before .before .before .before .loop .inv .sized, let x = c .before .before .before .before .before .before .before .before .before .before .before .pre .1 .0 in let y = c .before .before .before .before .before .before .before .before .if1 .left in omega arith)
 
--- src/one.rt:70:35
 find-in-add-t30 : (t : ℕ) → find-in-lts.Need-add-t30 (
   read-token-reads.Asked,
   read-token-reads.Learnt,
@@ -196,7 +181,6 @@ find-in-add-t30 : (t : ℕ) → find-in-lts.Need-add-t30 (
 ) (find-in-at t) find-in.Post find-in-Inv-loop find-in-μ-loop
 find-in-add-t30 t c = search needs
 
--- src/one.rt:72:21
 find-in-same-length-3 : (t : ℕ) → find-in-lts.Need-same-length-3 (
   read-token-reads.Asked,
   read-token-reads.Learnt,
@@ -207,7 +191,6 @@ find-in-same-length-3 : (t : ℕ) → find-in-lts.Need-same-length-3 (
 ) (find-in-at t) find-in.Post find-in-Inv-loop find-in-μ-loop
 find-in-same-length-3 t c = c .before .before .set-element .kept .0 ∙ c .before .before .before .before .before .before .before .before .before .before .loop .inv .sized ∙ sym (c .before .before .before .before .before .before .before .before .before .before .before .before .before .before .pre .1 .1)
 
--- src/one.rt:72:21
 find-in-returns-4 : (t : ℕ) → find-in-lts.Need-returns-4 (
   read-token-reads.Asked,
   read-token-reads.Learnt,
@@ -218,7 +201,6 @@ find-in-returns-4 : (t : ℕ) → find-in-lts.Need-returns-4 (
 ) (find-in-at t) find-in.Post find-in-Inv-loop find-in-μ-loop
 find-in-returns-4 t c = finds-here _ _ _ _ _ _ _ _ _ (c .before .before .before .before .before .before .before .before .before .before .loop .inv) (c .before .before .before .before .before .before .before .before .before .loop-test .taken) _ _ _ _ _ (sym (c .before .before .before .before .before .before .before .before .read-token .ensures) ∙ c .before .before .before .before .before .before .start .given .1) (c .before .before .before .before .if2 .taken) (c .before .before .before .before .before .before .before .before .before .before .before .before .before .before .pre .1 .0) (c .before .before .before .before .before .before .before .before .before .before .before .if1 .left) _ (c .before .before .set-element .ensures)
 
--- src/one.rt:74:17
 find-in-sub-left : (t : ℕ) → find-in-lts.Need-sub-left (
   read-token-reads.Asked,
   read-token-reads.Learnt,
@@ -229,7 +211,6 @@ find-in-sub-left : (t : ℕ) → find-in-lts.Need-sub-left (
 ) (find-in-at t) find-in.Post find-in-Inv-loop find-in-μ-loop
 find-in-sub-left t c = search needs
 
--- src/one.rt:50:5
 find-in-loop-less : (t : ℕ) → find-in-lts.Need-loop-less (
   read-token-reads.Asked,
   read-token-reads.Learnt,
@@ -240,7 +221,6 @@ find-in-loop-less : (t : ℕ) → find-in-lts.Need-loop-less (
 ) (find-in-at t) find-in.Post find-in-Inv-loop find-in-μ-loop
 find-in-loop-less t c = let ends = leaf-ends _ _ _ _ _ _ _ (sym (c .before .before .before .before .read-token .ensures) ∙ c .before .before .start .given .1) in let x = ends .0 in let y = ends .1 in omega arith
 
--- src/one.rt:50:5
 find-in-loop-again : (t : ℕ) → find-in-lts.Need-loop-again (
   read-token-reads.Asked,
   read-token-reads.Learnt,
@@ -251,7 +231,6 @@ find-in-loop-again : (t : ℕ) → find-in-lts.Need-loop-again (
 ) (find-in-at t) find-in.Post find-in-Inv-loop find-in-μ-loop
 find-in-loop-again t c = find-next _ _ _ _ _ _ _ _ _ (c .before .before .before .before .before .before .loop .inv) (c .before .before .before .before .before .loop-test .taken) _ _ _ _ _ (sym (c .before .before .before .before .read-token .ensures) ∙ c .before .before .start .given .1) (c .if2 .left)
 
--- src/one.rt:77:29
 find-in-enum-known-start-2 : (t : ℕ) → find-in-lts.Need-enum-known-start-2 (
   read-token-reads.Asked,
   read-token-reads.Learnt,
@@ -262,7 +241,6 @@ find-in-enum-known-start-2 : (t : ℕ) → find-in-lts.Need-enum-known-start-2 (
 ) (find-in-at t) find-in.Post find-in-Inv-loop find-in-μ-loop
 find-in-enum-known-start-2 t c = search needs
 
--- src/one.rt:78:17
 find-in-set-element-requires-2 : (t : ℕ) → find-in-lts.Need-set-element-requires-2 (
   read-token-reads.Asked,
   read-token-reads.Learnt,
@@ -273,7 +251,6 @@ find-in-set-element-requires-2 : (t : ℕ) → find-in-lts.Need-set-element-requ
 ) (find-in-at t) find-in.Post find-in-Inv-loop find-in-μ-loop
 find-in-set-element-requires-2 t c κs = (c .before .before .before .before .before .before .loop .inv .sized, let x = c .before .before .before .before .before .before .before .before .before .before .pre .1 .0 in let y = c .before .before .before .before .before .before .before .if1 .left in omega arith)
 
--- src/one.rt:79:34
 find-in-add-find-in : (t : ℕ) → find-in-lts.Need-add-find-in (
   read-token-reads.Asked,
   read-token-reads.Learnt,
@@ -284,7 +261,6 @@ find-in-add-find-in : (t : ℕ) → find-in-lts.Need-add-find-in (
 ) (find-in-at t) find-in.Post find-in-Inv-loop find-in-μ-loop
 find-in-add-find-in t c = let ends = opened-ends _ _ _ _ (sym (c .before .before .before .before .before .before .before .read-token .ensures) ∙ c .before .before .before .before .before .start2 .given .1) in let x = ends .1 in omega arith
 
--- src/one.rt:79:23
 find-in-find-in-requires : (t : ℕ) → find-in-lts.Need-find-in-requires (
   read-token-reads.Asked,
   read-token-reads.Learnt,
@@ -295,7 +271,6 @@ find-in-find-in-requires : (t : ℕ) → find-in-lts.Need-find-in-requires (
 ) (find-in-at t) find-in.Post find-in-Inv-loop find-in-μ-loop
 find-in-find-in-requires t c κs = (let x = c .before .before .before .before .before .before .before .before .before .before .before .if1 .left in omega arith, (let x = c .before .before .before .before .before .before .before .before .before .before .before .before .before .before .pre .1 .0 in omega arith, c .before .before .before .set-element2 .kept .0 ∙ c .before .before .before .before .before .before .before .before .before .before .loop .inv .sized))
 
--- src/one.rt:80:36
 find-in-enum-known-place : (t : ℕ) → find-in-lts.Need-enum-known-place (
   read-token-reads.Asked,
   read-token-reads.Learnt,
@@ -306,7 +281,6 @@ find-in-enum-known-place : (t : ℕ) → find-in-lts.Need-enum-known-place (
 ) (find-in-at t) find-in.Post find-in-Inv-loop find-in-μ-loop
 find-in-enum-known-place t c = search needs
 
--- src/one.rt:81:25
 find-in-same-length-4 : (t : ℕ) → find-in-lts.Need-same-length-4 (
   read-token-reads.Asked,
   read-token-reads.Learnt,
@@ -317,7 +291,6 @@ find-in-same-length-4 : (t : ℕ) → find-in-lts.Need-same-length-4 (
 ) (find-in-at t) find-in.Post find-in-Inv-loop find-in-μ-loop
 find-in-same-length-4 t c = c .before .before .before .before .before .find-in .kept .1 .1 .1 .1 .0 ∙ c .before .before .before .before .before .before .before .before .before .set-element2 .kept .0 ∙ c .before .before .before .before .before .before .before .before .before .before .before .before .before .before .before .before .loop .inv .sized ∙ sym (c .before .before .before .before .before .before .before .before .before .before .before .before .before .before .before .before .before .before .before .before .pre .1 .1)
 
--- src/one.rt:81:25
 find-in-returns-5 : (t : ℕ) → find-in-lts.Need-returns-5 (
   read-token-reads.Asked,
   read-token-reads.Learnt,
@@ -328,7 +301,6 @@ find-in-returns-5 : (t : ℕ) → find-in-lts.Need-returns-5 (
 ) (find-in-at t) find-in.Post find-in-Inv-loop find-in-μ-loop
 find-in-returns-5 t c = finds-found _ _ _ _ _ _ _ _ _ (c .before .before .before .before .before .before .before .before .before .before .before .before .before .before .before .before .loop .inv) (c .before .before .before .before .before .before .before .before .before .before .before .before .before .before .before .loop-test .taken) _ _ (sym (c .before .before .before .before .before .before .before .before .before .before .before .before .before .before .read-token .ensures) ∙ c .before .before .before .before .before .before .before .before .before .before .before .before .start2 .given .1) (c .before .before .before .before .before .before .before .before .before .before .before .before .before .before .before .before .before .before .before .before .pre .1 .0) (c .before .before .before .before .before .before .before .before .before .before .before .before .before .before .before .before .before .if1 .left) refl _ (c .before .before .before .before .before .before .before .before .before .set-element2 .ensures) _ _ (rw (c .before .place .given .1) at (c .before .before .before .before .before .find-in .ensures))
 
--- src/one.rt:83:36
 find-in-enum-known-next : (t : ℕ) → find-in-lts.Need-enum-known-next (
   read-token-reads.Asked,
   read-token-reads.Learnt,
@@ -339,7 +311,6 @@ find-in-enum-known-next : (t : ℕ) → find-in-lts.Need-enum-known-next (
 ) (find-in-at t) find-in.Post find-in-Inv-loop find-in-μ-loop
 find-in-enum-known-next t c = search needs
 
--- src/one.rt:50:5
 find-in-loop-less-2 : (t : ℕ) → find-in-lts.Need-loop-less-2 (
   read-token-reads.Asked,
   read-token-reads.Learnt,
@@ -350,7 +321,6 @@ find-in-loop-less-2 : (t : ℕ) → find-in-lts.Need-loop-less-2 (
 ) (find-in-at t) find-in.Post find-in-Inv-loop find-in-μ-loop
 find-in-loop-less-2 t c = let ends = inside-behind _ _ _ _ _ _ _ _ _ (c .before .before .before .before .before .before .before .before .before .before .before .before .before .before .before .before .loop .inv) (c .before .before .before .before .before .before .before .before .before .before .before .before .before .before .before .loop-test .taken) _ _ (sym (c .before .before .before .before .before .before .before .before .before .before .before .before .before .before .read-token .ensures) ∙ c .before .before .before .before .before .before .before .before .before .before .before .before .start2 .given .1) (c .before .before .before .before .before .before .before .before .before .before .before .before .before .before .before .before .before .before .before .before .pre .1 .0) (c .before .before .before .before .before .before .before .before .before .before .before .before .before .before .before .before .before .if1 .left) refl _ (c .before .before .before .before .before .before .before .before .before .set-element2 .ensures) _ _ _ (rw (c .before .next .given .1) at (c .before .before .before .before .before .find-in .ensures)) in let x = ends .0 in let y = ends .1 in omega arith
 
--- src/one.rt:50:5
 find-in-loop-again-2 : (t : ℕ) → find-in-lts.Need-loop-again-2 (
   read-token-reads.Asked,
   read-token-reads.Learnt,
@@ -361,7 +331,6 @@ find-in-loop-again-2 : (t : ℕ) → find-in-lts.Need-loop-again-2 (
 ) (find-in-at t) find-in.Post find-in-Inv-loop find-in-μ-loop
 find-in-loop-again-2 t c = find-past _ _ _ _ _ _ _ _ _ (c .before .before .before .before .before .before .before .before .before .before .before .before .before .before .before .before .loop .inv) (c .before .before .before .before .before .before .before .before .before .before .before .before .before .before .before .loop-test .taken) _ _ (sym (c .before .before .before .before .before .before .before .before .before .before .before .before .before .before .read-token .ensures) ∙ c .before .before .before .before .before .before .before .before .before .before .before .before .start2 .given .1) (c .before .before .before .before .before .before .before .before .before .before .before .before .before .before .before .before .before .before .before .before .pre .1 .0) (c .before .before .before .before .before .before .before .before .before .before .before .before .before .before .before .before .before .if1 .left) refl _ (c .before .before .before .before .before .before .before .before .before .set-element2 .ensures) _ _ _ (rw (c .before .next .given .1) at (c .before .before .before .before .before .find-in .ensures)) (c .before .before .before .before .before .find-in .kept .1 .1 .1 .1 .0)
 
--- src/one.rt:88:25
 find-in-enum-told-3 : (t : ℕ) → find-in-lts.Need-enum-told-3 (
   read-token-reads.Asked,
   read-token-reads.Learnt,
@@ -372,7 +341,6 @@ find-in-enum-told-3 : (t : ℕ) → find-in-lts.Need-enum-told-3 (
 ) (find-in-at t) find-in.Post find-in-Inv-loop find-in-μ-loop
 find-in-enum-told-3 t c = search needs
 
--- src/one.rt:88:25
 find-in-same-length-5 : (t : ℕ) → find-in-lts.Need-same-length-5 (
   read-token-reads.Asked,
   read-token-reads.Learnt,
@@ -383,7 +351,6 @@ find-in-same-length-5 : (t : ℕ) → find-in-lts.Need-same-length-5 (
 ) (find-in-at t) find-in.Post find-in-Inv-loop find-in-μ-loop
 find-in-same-length-5 t c = c .before .before .before .before .find-in .kept .1 .1 .1 .1 .0 ∙ c .before .before .before .before .before .before .before .before .set-element2 .kept .0 ∙ c .before .before .before .before .before .before .before .before .before .before .before .before .before .before .before .loop .inv .sized ∙ sym (c .before .before .before .before .before .before .before .before .before .before .before .before .before .before .before .before .before .before .before .pre .1 .1)
 
--- src/one.rt:88:25
 find-in-returns-6 : (t : ℕ) → find-in-lts.Need-returns-6 (
   read-token-reads.Asked,
   read-token-reads.Learnt,
@@ -394,7 +361,6 @@ find-in-returns-6 : (t : ℕ) → find-in-lts.Need-returns-6 (
 ) (find-in-at t) find-in.Post find-in-Inv-loop find-in-μ-loop
 find-in-returns-6 t c = finds-inside _ _ _ _ _ _ _ _ _ (c .before .before .before .before .before .before .before .before .before .before .before .before .before .before .before .loop .inv) (c .before .before .before .before .before .before .before .before .before .before .before .before .before .before .loop-test .taken) _ _ (sym (c .before .before .before .before .before .before .before .before .before .before .before .before .before .read-token .ensures) ∙ c .before .before .before .before .before .before .before .before .before .before .before .start2 .given .1) (c .before .before .before .before .before .before .before .before .before .before .before .before .before .before .before .before .before .before .before .pre .1 .0) (c .before .before .before .before .before .before .before .before .before .before .before .before .before .before .before .before .if1 .left) refl _ (c .before .before .before .before .before .before .before .before .set-element2 .ensures) _ (rw (c .enum-told3 .given .1) at (c .before .before .before .before .find-in .ensures))
 
--- src/one.rt:39:1
 find-in-same-length-6 : (t : ℕ) → find-in-lts.Need-same-length-6 (
   read-token-reads.Asked,
   read-token-reads.Learnt,
@@ -405,7 +371,6 @@ find-in-same-length-6 : (t : ℕ) → find-in-lts.Need-same-length-6 (
 ) (find-in-at t) find-in.Post find-in-Inv-loop find-in-μ-loop
 find-in-same-length-6 t c = c .before .loop .inv .sized ∙ sym (c .before .before .before .before .before .pre .1 .1)
 
--- src/one.rt:39:1
 find-in-returns-7 : (t : ℕ) → find-in-lts.Need-returns-7 (
   read-token-reads.Asked,
   read-token-reads.Learnt,

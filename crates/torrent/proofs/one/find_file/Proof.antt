@@ -1,61 +1,42 @@
 use Rattle.torrent.specs.FindLaws.{tree-found, never-past, never-wrong}
-use native.Mathlib.Omega.{arith}
-use Prim.Native.Nat.{ℕ, _+_, _-_, _*_, _≤_, _<_, _/_, _%_, _^_}
-use lib.ListN.{length, getD, set, take, drop}
-use mathlib.Core.Path.{_≡_, refl, ap, sym, _∙_}
+use Prim.Native.Nat.{_-_}
 use borrow.Author.Needs.{needs}
 use Rattle.torrent.proofs.one.find_file.Statement.{statement}
 use Rattle.torrent.proofs.one.find_file.Tie as tie
-use Rattle.torrent.proofs.one.find_file.Reads as reads
-use Rattle.torrent.proofs.one.find_file.Lts as lts
-use Rattle.torrent.proofs.one.find_in.Reads as find-in-reads
-use Rattle.torrent.proofs.one.no_place.Reads as no-place-reads
 
--- src/one.rt:112:11
 find-in-requires : tie.Need-find-in-requires
 find-in-requires c κs = search needs
 
--- src/one.rt:113:24
 enum-known-place : tie.Need-enum-known-place
 enum-known-place c = search needs
 
--- src/one.rt:114:46
 enum-told : tie.Need-enum-told
 enum-told c = search needs
 
--- src/one.rt:114:46
 no-place-requires : tie.Need-no-place-requires
 no-place-requires c κs = search needs
 
--- src/one.rt:115:30
 enum-told-2 : tie.Need-enum-told-2
 enum-told-2 c = search needs
 
--- src/one.rt:115:30
 no-place-requires-2 : tie.Need-no-place-requires-2
 no-place-requires-2 c κs = search needs
 
--- src/one.rt:108:1
 same-length : tie.Need-same-length
 same-length c = search needs
 
--- src/one.rt:108:1
 returns : tie.Need-returns
 returns c = tree-found _ _ _ _ (c .before .before .before .before .before .before .before .before .before .pre .0) (c .before .before .before .before .before .before .before .before .before .pre .1) _ (rw (c .before .place .given .1) at (c .before .before .before .before .before .find-in .ensures))
 
--- src/one.rt:108:1
 same-length-2 : tie.Need-same-length-2
 same-length-2 c = search needs
 
--- src/one.rt:108:1
 returns-2 : tie.Need-returns-2
 returns-2 c = never-past _ _ _ _ (c .before .before .before .before .before .before .before .before .before .pre .0) (c .before .before .before .before .before .before .before .before .before .pre .1) _ _ (rw (c .before .enum-told .given .1) at (c .before .before .before .before .before .find-in .ensures))
 
--- src/one.rt:108:1
 same-length-3 : tie.Need-same-length-3
 same-length-3 c = search needs
 
--- src/one.rt:108:1
 returns-3 : tie.Need-returns-3
 returns-3 c = never-wrong _ _ _ _ (c .before .before .before .before .before .before .before .before .before .pre .0) (c .before .before .before .before .before .before .before .before .before .pre .1) (rw (c .before .enum-told2 .given .1) at (c .before .before .before .before .before .find-in .ensures))
 

@@ -1,46 +1,33 @@
 use Rattle.layers.proofs.Finding.{long-some}
 use Rattle.torrent.proofs.Answering.{layer-some, layer-none}
 use native.Mathlib.Omega.{arith}
-use Prim.Native.Nat.{ℕ, _+_, _-_, _*_, _≤_, _<_, _/_, _%_, _^_}
-use lib.ListN.{length, getD, set, take, drop}
-use mathlib.Core.Path.{_≡_, refl, ap, sym, _∙_}
+use Prim.Native.Nat.{_-_}
+use mathlib.Core.Path.{sym, _∙_}
 use borrow.Author.Needs.{needs}
 use Rattle.torrent.proofs.one.layer_of.Statement.{statement}
 use Rattle.torrent.proofs.one.layer_of.Tie as tie
-use Rattle.torrent.proofs.one.layer_of.Reads as reads
-use Rattle.torrent.proofs.one.layer_of.Lts as lts
-use Rattle.torrent.proofs.one.layer_at.Reads as layer-at-reads
-use Rattle.tree.proofs.geometry.has_layer.Reads as has-layer-reads
 
--- src/one.rt:145:8
 has-layer-requires : tie.Need-has-layer-requires
 has-layer-requires c κs = search needs
 
--- src/one.rt:146:37
 add-layer-at : tie.Need-add-layer-at
 add-layer-at c = let x = c .before .before .before .before .pre (long-some _ _ (sym (c .before .has-layer .ensures) ∙ c .if1 .taken)) in omega arith
 
--- src/one.rt:146:28
 sub-layer-at : tie.Need-sub-layer-at
 sub-layer-at c = search needs
 
--- src/one.rt:146:28
 part-layer-at-start : tie.Need-part-layer-at-start
 part-layer-at-start c = search needs
 
--- src/one.rt:146:28
 part-layer-at-end : tie.Need-part-layer-at-end
 part-layer-at-end c = let x = c .before .before .before .before .pre (long-some _ _ (sym (c .before .has-layer .ensures) ∙ c .if1 .taken)) in omega arith
 
--- src/one.rt:146:9
 layer-at-requires : tie.Need-layer-at-requires
 layer-at-requires c κs = search needs
 
--- src/one.rt:146:9
 returns : tie.Need-returns
 returns c = layer-some _ _ _ _ _ (sym (c .before .before .before .has-layer .ensures) ∙ c .before .before .if1 .taken) _ (c .layer-at .ensures)
 
--- src/one.rt:141:1
 returns-2 : tie.Need-returns-2
 returns-2 c = layer-none _ _ _ _ _ (sym (c .before .has-layer .ensures) ∙ c .if1 .left)
 

@@ -1,55 +1,38 @@
 use Rattle.torrent.proofs.Answering.{string-order, one-answer}
 use Rattle.torrent.specs.FindLaws.{found-root}
 use native.Mathlib.Omega.{arith}
-use Prim.Native.Nat.{ℕ, _+_, _-_, _*_, _≤_, _<_, _/_, _%_, _^_}
-use lib.ListN.{length, getD, set, take, drop}
-use mathlib.Core.Path.{_≡_, refl, ap, sym, _∙_}
+use Prim.Native.Nat.{_-_}
 use borrow.Author.Needs.{needs}
 use Rattle.torrent.proofs.read.one_file.Statement.{statement}
 use Rattle.torrent.proofs.read.one_file.Tie as tie
-use Rattle.torrent.proofs.read.one_file.Reads as reads
-use Rattle.torrent.proofs.read.one_file.Lts as lts
-use Rattle.torrent.proofs.one.find_file.Reads as find-file-reads
-use Rattle.torrent.proofs.one.layer_of.Reads as layer-of-reads
-use Rattle.torrent.proofs.one.root_of.Reads as root-of-reads
 
--- src/read.rt:102:29
 slice-aggregate-find-file : tie.Need-slice-aggregate-find-file
 slice-aggregate-find-file c = search needs
 
--- src/read.rt:102:9
 find-file-requires : tie.Need-find-file-requires
 find-file-requires c κs = search needs
 
--- src/read.rt:106:9
 root-of-requires : tie.Need-root-of-requires
 root-of-requires c κs = found-root _ _ (c .before .before .before .before .before .pre .1) _ _ (c .before .find-file .ensures)
 
--- src/read.rt:107:11
 layer-of-requires : tie.Need-layer-of-requires
 layer-of-requires c κs = found-root _ _ (c .before .before .before .before .before .before .pre .1) _ _ (c .before .before .find-file .ensures)
 
--- src/read.rt:108:33
 enum-told : tie.Need-enum-told
 enum-told c = search needs
 
--- src/read.rt:116:31
 enum-known-start : tie.Need-enum-known-start
 enum-known-start c = search needs
 
--- src/read.rt:121:20
 add-t18 : tie.Need-add-t18
 add-t18 c = let x = string-order _ _ _ _ _ _ _ (c .before .before .before .layer-of .ensures) (c .before .start .given .1) in let y = x .0 in let z = x .1 in let u = c .before .before .before .before .before .before .before .before .before .before .pre .2 in omega arith
 
--- src/read.rt:122:19
 sub-t19 : tie.Need-sub-t19
 sub-t19 c = string-order _ _ _ _ _ _ _ (c .before .before .before .layer-of .ensures) (c .before .start .given .1) .0
 
--- src/read.rt:97:1
 returns : tie.Need-returns
 returns c = one-answer _ _ _ _ _ _ (c .before .before .before .before .before .find-file .ensures .place) _ (c .before .before .before .root-of .ensures) _ _ (c .before .before .layer-of .ensures) (c .enum-told .given .1)
 
--- src/read.rt:97:1
 returns-2 : tie.Need-returns-2
 returns-2 c = one-answer _ _ _ _ _ _ (c .before .before .before .before .before .before .find-file .ensures .place) _ (c .before .before .before .before .root-of .ensures) _ _ (c .before .before .before .layer-of .ensures) (c .before .start .given .1)
 

@@ -1,0 +1,181 @@
+// Files with one root. They may be in a torrent if they have one length, and share a layer then. The roots' positions are sorted, each
+// root once; a walk over the files notes at each root's place where the last file with that root stands, and compares the next one's
+// length with that file's. Each file is so read twice at most.
+use filetree::token::Token;
+use filetree::token::read_token;
+use sorting::halving::search;
+use tree::geometry::has_layer;
+ghost use mathlib.Core.Path.{_≡_};
+ghost use mathlib.Core.Bool.{true, cond, _&&_};
+ghost use mathlib.Core.List.{_++_};
+ghost use Prim.Native.Nat.{ℕ, _+_, _^_, _≤_, _<_};
+ghost use lib.ListN as L;
+ghost use lib.ListN.{getD, drop, replicate};
+ghost use lib.Dec.{eqb};
+ghost use Rattle.limits.specs.Limits.{largestTorrent};
+ghost use Rattle.octets.specs.Octets.{cut};
+ghost use Rattle.tree.specs.Geometry.{hasLayer};
+ghost use Rattle.sorting.specs.Sorting.{Stands};
+ghost use Rattle.filetree.specs.Tree.{filesIn, right, listed};
+ghost use Rattle.filetree.specs.Reading.{readFiles};
+ghost use Rattle.twins.specs.Twins as W;
+ghost use Rattle.twins.specs.Twins.{comparedOf, sizeNoted, Rooted, Meets};
+
+// How many layers the files have, one for each root of those longer than the piece length; or two with one root differ in length.
+pub enum Compared {
+    Agree { long: usize },
+    Differ,
+}
+
+// A note as an index.
+fn place(p: u32) -> usize
+    ensures { λ r. ⌜ r ≡ p ⌝ }
+{
+    p as usize
+}
+
+// The length of the file that stands at p of the tree; 0 at 0, where none stands.
+fn size_at(t: &[u8], p: usize) -> usize
+    ensures { λ r. ⌜ r ≡ sizeNoted (now (t .entry)) p ⌝ }
+{
+    if p == 0 {
+        return 0;
+    }
+    match read_token(t, p) {
+        Token::BadToken => 0,
+        Token::Closed => 0,
+        Token::Opened { start: _, end: _ } => 0,
+        Token::Leaf {
+            start: _,
+            end: _,
+            length,
+            root: _,
+            next: _,
+        } => length,
+    }
+}
+
+// The length known of the root of a file, 0 if it is the first with this root or empty. The file, which stands at i, is noted.
+fn meet(
+    t: &[u8],
+    roots: &[u32],
+    count: usize,
+    room: &mut [u32],
+    i: usize,
+    length: usize,
+    root: usize,
+) -> usize
+    requires { ⌜ Rooted (now t) (now roots) count × (count ≤ L.length (now room)) × (i < 2 ^ 32) × ((length ≡ 0 → ⊥) → root + 32 ≤ L.length (now t)) × ((length ≡ 0 → ⊥) → Stands (now t) (now roots) count (cut (now t) root 32)) ⌝ }
+    ensures { λ r. ⌜ Meets (now (t .entry)) (now (roots .entry)) count (now (room .entry)) (now (room .exit)) i length root r ⌝ }
+{
+    if length == 0 {
+        return 0;
+    }
+    let past = root + 32;
+    let at = search(t, roots, count, &t[root..past]);
+    if at < count {
+        let p = place(room[at]);
+        let known = size_at(t, p);
+        room[at] = i as u32;
+        return known;
+    }
+    0 // never: the root is there
+}
+
+// Whether a file has another length than the one known of its root.
+fn differs(known: usize, length: usize) -> bool
+    ensures { λ r. ⌜ r ≡ W.differs known length ⌝ }
+{
+    if known == 0 {
+        return false;
+    }
+    known != length
+}
+
+// One layer more, if the file is longer than the piece length and its root was not known.
+fn one_more(long: usize, known: usize, length: usize, plen: usize) -> usize
+    requires { ⌜ long < 2 ^ 32 ⌝ }
+    ensures { λ r. ⌜ r ≡ cond (eqb known 0 && hasLayer length plen) (long + 1) long ⌝ }
+{
+    if known == 0 {
+        if has_layer(length, plen) {
+            return long + 1;
+        }
+        return long;
+    }
+    long
+}
+
+// The same of all files, with nothing noted of any root.
+fn walk(
+    t: &[u8],
+    files: usize,
+    roots: &[u32],
+    count: usize,
+    room: &mut [u32],
+    plen: usize,
+) -> Compared
+    requires { ⌜ Rooted (now t) (now roots) count × (right (filesIn (now t)) ≡ true) × (files ≡ L.length (listed (filesIn (now t)))) × (count ≤ L.length (now room)) × ((i : ℕ) → i < count → getD (now room) i 0 ≡ 0) × (L.length (now t) ≤ largestTorrent) ⌝ }
+    ensures { λ r. ⌜ r ≡ comparedOf plen (readFiles (now (t .entry)) (listed (filesIn (now (t .entry))))) ⌝ }
+{
+    let mut left = files;
+    let mut i = 1;
+    let mut long = 0;
+    while left != 0 {
+        match read_token(t, i) {
+            Token::BadToken => {
+                return Compared::Differ; // never: the tree is right
+            }
+            Token::Closed => {
+                i += 1;
+            }
+            Token::Opened { start: _, end } => {
+                i = end + 1;
+            }
+            Token::Leaf {
+                start: _,
+                end: _,
+                length,
+                root,
+                next,
+            } => {
+                let known = meet(t, roots, count, room, i, length, root);
+                if differs(known, length) {
+                    return Compared::Differ;
+                }
+                long = one_more(long, known, length, plen);
+                left -= 1;
+                i = next;
+            }
+        }
+    }
+    Compared::Agree { long }
+}
+
+// Nothing is noted in the first `count` places.
+fn forget(room: &mut [u32], count: usize)
+    requires { ⌜ count ≤ L.length (now room) ⌝ }
+    ensures { λ _. ⌜ now (room .exit) ≡ replicate count 0 ++ drop count (now (room .entry)) ⌝ }
+{
+    let mut i = 0;
+    while i < count {
+        room[i] = 0;
+        i += 1;
+    }
+}
+
+// The files of the right tree t compared, with the positions of their roots, each root once; `room` is work space.
+pub fn compare(
+    t: &[u8],
+    files: usize,
+    roots: &[u32],
+    count: usize,
+    room: &mut [u32],
+    plen: usize,
+) -> Compared
+    requires { ⌜ Rooted (now t) (now roots) count × (right (filesIn (now t)) ≡ true) × (files ≡ L.length (listed (filesIn (now t)))) × (count ≤ L.length (now room)) × (L.length (now t) ≤ largestTorrent) ⌝ }
+    ensures { λ r. ⌜ r ≡ comparedOf plen (readFiles (now (t .entry)) (listed (filesIn (now (t .entry))))) ⌝ }
+{
+    forget(room, count);
+    walk(t, files, roots, count, room, plen)
+}
