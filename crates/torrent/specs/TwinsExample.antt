@@ -19,7 +19,7 @@ use Rattle.bencode.specs.Grammar.{Value, integer, string, dictionary, Entries, 
 use Rattle.bencode.specs.PartsLaws.{entries-length}
 use Rattle.bencode.specs.Parts.{Lookup, present, absent, lookup}
 use Rattle.meaning.specs.Nth.{Nth}
-use Rattle.meaning.specs.Torrent.{File, isNumber, infoOf, treeOf, filesOf, plenOf, layersOf, hasKeys, elementRight, fileRight, nodeRight, branchRight, nodesRight, treeRight, filesOfNode, filesOfEntries, noOtherLength, lengthsAgree, layerFits, layersFit, someLonger, noOthers, givesRoot, layerBytes, layersGiveRoots, valueNumber}
+use Rattle.meaning.specs.Torrent.{File, isNumber, infoOf, treeOf, filesOf, plenOf, layersOf, without, hasKeys, elementRight, fileRight, nodeRight, branchRight, nodesRight, treeRight, filesOfNode, filesOfEntries, noOtherLength, lengthsAgree, layerFits, layersFit, someLonger, noOthers, givesRoot, layerBytes, layersGiveRoots, valueNumber}
 use Rattle.torrent.specs.Torrent.{readOf, fileRead, pathRead}
 use Rattle.torrent.specs.NumberMeans.{number-is-the-values, read-number}
 use Rattle.torrent.specs.Answers.{FileIs, PartIs}
@@ -89,7 +89,7 @@ module _ (root : List ℕ) where
   piece-right = refl
 
   tree-right : length root ≡ 32 → treeRight (treeOf withRoot) ≡ true
-  unfolding lookup same treeRight branchRight nodeRight nodesRight elementRight fileRight
+  unfolding lookup same treeRight branchRight nodeRight nodesRight elementRight without fileRight
   tree-right e = ap (λ (t : Bool). (t && true) && ((t && true) && true)) (eq-eqb (length root) 32 e)
 
   -- one root, and one length
