@@ -190,7 +190,7 @@ kd_history_answer kd_history_more(kd_history state, const uint8_t *data, size_t 
  */
 kd_history_end_answer kd_history_end(kd_history state, uint8_t *layer, size_t layer_size);
 
-/* ---- The store: a lent memory that holds hashes of one file's tree. docs/LAYOUT.md gives its bytes. ---- */
+/* ---- The store: a lent memory that holds hashes of one file's tree, and marks of its blocks. docs/LAYOUT.md gives its bytes. ---- */
 
 /*
  * The size of a store for a file of `length` bytes.
@@ -200,8 +200,8 @@ kd_history_end_answer kd_history_end(kd_history state, uint8_t *layer, size_t la
 kd_answer kd_store_size(uint64_t length, uint64_t piece_length);
 
 /*
- * Makes the memory a store for the file of this length, piece length and pieces root. The root alone is held then. A store
- * that is opened again forgets everything: that is the one way to lose a held hash.
+ * Makes the memory a store for the file of this length, piece length and pieces root. The root alone is held then, and no
+ * block is marked. A store that is opened again forgets everything: that is the one way to lose a held hash.
  *   KD_FACTS_OUT_OF_RANGE  as above.
  *   KD_UNUSABLE  the memory is shorter than the store.
  *   KD_DONE  `count` is 1. Every byte that the store uses has been set; the bytes behind them stay.
@@ -256,17 +256,45 @@ kd_answer kd_load_layer(uint8_t *store, size_t size, const uint8_t *layer, size_
 
 /*
  * Judges a block of KD_BLOCK bytes (the last one shorter) against its leaf.
- *   KD_UNUSABLE, KD_RULE_BROKEN, KD_WRONG_SIZE, KD_NO_ANCHOR, KD_DIFFERS  not believed.
- *   KD_DONE  believed; `count` is 0.
+ *   KD_UNUSABLE, KD_RULE_BROKEN, KD_WRONG_SIZE, KD_NO_ANCHOR, KD_DIFFERS  not believed; no byte of the store changes.
+ *   KD_DONE  believed, and the block's mark is set; `count` is 0.
  */
-kd_answer kd_judge_block(const uint8_t *store, size_t size, uint64_t block, const uint8_t *data, size_t data_size);
+kd_answer kd_judge_block(uint8_t *store, size_t size, uint64_t block, const uint8_t *data, size_t data_size);
 
 /*
  * Judges a piece against its node in the piece layer, or against the held root for a file of one piece.
- *   KD_UNUSABLE, KD_RULE_BROKEN, KD_WRONG_SIZE, KD_NO_ANCHOR, KD_DIFFERS, KD_CONFLICT  not believed.
- *   KD_DONE  believed; `count` is 0.
+ *   KD_UNUSABLE, KD_RULE_BROKEN, KD_WRONG_SIZE, KD_NO_ANCHOR, KD_DIFFERS, KD_CONFLICT  not believed; no byte of the store
+ *   changes.
+ *   KD_DONE  believed, and the mark of each block of the piece is set; `count` is 0.
  */
-kd_answer kd_judge_piece(const uint8_t *store, size_t size, uint64_t piece, const uint8_t *data, size_t data_size);
+kd_answer kd_judge_piece(uint8_t *store, size_t size, uint64_t piece, const uint8_t *data, size_t data_size);
+
+/* ---- Marks: which blocks are on disk. Judging sets them; only kd_clear and kd_open take them back. ---- */
+
+/*
+ * Whether a block is marked: its data was judged right since the store was opened, and the mark not cleared since.
+ *   KD_UNUSABLE
+ *   KD_RULE_BROKEN  the file has no such block.
+ *   KD_DONE  `count` is 1 if it is marked, else 0.
+ */
+kd_answer kd_marked(const uint8_t *store, size_t size, uint64_t block);
+
+/*
+ * Clears a block's mark, for a host that lost the block. No hash is forgotten.
+ *   KD_UNUSABLE
+ *   KD_RULE_BROKEN  the file has no such block.
+ *   KD_DONE  the mark is cleared, whether it was set or not; `count` is 0.
+ */
+kd_answer kd_clear(uint8_t *store, size_t size, uint64_t block);
+
+/*
+ * Writes the bitfield of the pieces whose blocks are all marked into `out`: a bit for each piece, the first piece's the highest
+ * of the first byte, spare bits zero.
+ *   KD_UNUSABLE  nothing is written.
+ *   KD_NO_ROOM  `out` is shorter than the bitfield; nothing is written.
+ *   KD_DONE  `count` is the bitfield's size. Bytes of `out` behind it stay.
+ */
+kd_answer kd_bitfield(const uint8_t *store, size_t size, uint8_t *out, size_t out_size);
 
 /* ---- Reading a v2 torrent: the bytes of a .torrent file, at most KD_LARGEST_TORRENT. ---- */
 

@@ -74,6 +74,9 @@ static void take_reject(void) { number = kd_take_reject(store, size, reject, HEA
 static void serve(void) { number = kd_serve(store, size, request, HEAD, out, REPLY).number; }
 static void judge_block(void) { number = kd_judge_block(store, size, 0, piece, BLOCK).number; }
 static void judge_piece(void) { number = kd_judge_piece(store, size, 0, piece, LARGEST_PIECE).number; }
+static void marked(void) { number = kd_marked(store, size, 0).number; }
+static void clear(void) { number = kd_clear(store, size, 0).number; }
+static void bitfield(void) { number = kd_bitfield(store, size, out, REPLY).number; }
 static void load_layer(void) { number = kd_load_layer(store, size, layer[0].bytes, sizeof layer).number; }
 
 static void show(const char *name, void (*function)(void));
@@ -243,6 +246,9 @@ int main(void)
     show("kd_judge_block", judge_block);
     take_piece_nodes();
     show("kd_judge_piece", judge_piece);
+    show("kd_marked", marked);
+    show("kd_clear", clear);
+    show("kd_bitfield", bitfield);
     open_for_layer();
     show("kd_load_layer", load_layer);
     make_torrent();

@@ -26,7 +26,7 @@ static const char *in_words(uint32_t number)
     }
 }
 
-static void judge(const uint8_t *store, size_t size, const char *what, uint64_t block, const uint8_t *data, size_t bytes)
+static void judge(uint8_t *store, size_t size, const char *what, uint64_t block, const uint8_t *data, size_t bytes)
 {
     kd_answer answer = kd_judge_block(store, size, block, data, bytes);
     printf("%s: %s (%u)\n", what, in_words(answer.number), answer.number);
@@ -39,6 +39,17 @@ static void hear(uint8_t *store, size_t size, const char *what, const uint8_t *r
         printf("%s: taken, %llu hashes newly held\n", what, (unsigned long long)answer.count);
     else
         printf("%s: refused (%u), nothing is lost\n", what, answer.number);
+}
+
+/* Which blocks were judged right, and the bitfield that tells neighbours which pieces are whole: here a piece is a block. */
+static void on_disk(const uint8_t *store, size_t size, const char *when)
+{
+    uint8_t field[1] = { 0 };
+    unsigned blocks = 0, marked = 0;
+    for (kd_answer asked; (asked = kd_marked(store, size, blocks)).number == KD_DONE; blocks++)
+        marked += (unsigned)asked.count;
+    kd_bitfield(store, size, field, sizeof field);
+    printf("%s: %u of %u blocks on disk, bitfield %02x\n", when, marked, blocks, (unsigned)field[0]);
 }
 
 /* What a neighbour that has the whole history would send for (base 0, index 0, length 2, proof layers 0). */
@@ -83,6 +94,9 @@ int main(void)
     judge(store, size, "block 0 of yesterday", 0, yesterday, KD_BLOCK);
     judge(store, size, "block 1 of today", 1, today + KD_BLOCK, LENGTH - KD_BLOCK);
     judge(store, size, "block 1 with its end missing", 1, today + KD_BLOCK, 500);
+    on_disk(store, size, "at last");
+    kd_clear(store, size, 0);
+    on_disk(store, size, "when block 0 is lost");
     free(store);
     return 0;
 }

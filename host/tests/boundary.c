@@ -104,7 +104,7 @@ static void hashes(void)
 
 /* The file of the session in document 01: five blocks, so a tree of height 3, in pieces of four blocks. */
 enum { BLOCK = KD_BLOCK, LENGTH = 5 * BLOCK, PIECE = 4 * BLOCK, HEIGHT = 3 };
-enum { STORE = 33 * 15 + 64, HEAD = 49, ROOM = 320 };
+enum { STORE = 33 * 15 + 64 + 8, HEAD = 49, ROOM = 320 };
 enum { REQUEST = 21, HASHES = 22, REJECT = 23 };
 
 static uint8_t file[LENGTH];
@@ -367,6 +367,28 @@ static uint8_t *guarded(const void *bytes, size_t size)
     return memcpy(pages + room - size, bytes, size);
 }
 
+/* Both pieces, of four blocks and of one, were judged right on this store. */
+static void marks(void)
+{
+    static const uint8_t all[8] = { 1, 1, 1, 1, 1, 0, 0, 0 };
+    uint8_t field[2] = { 0xaa, 0xaa };
+    check("the mark of every block", memcmp(store + STORE - 8, all, 8) == 0);
+    answers("a bitfield without room", kd_bitfield(store, STORE, NULL, 0), KD_NO_ROOM, 0);
+    answers("kd_bitfield on NULL", kd_bitfield(NULL, 0, field, 2), KD_UNUSABLE, 0);
+    answers("kd_bitfield", kd_bitfield(store, STORE, field, 2), KD_DONE, 1);
+    check("the first piece in the high bit, the byte behind stays", field[0] == 0xc0 && field[1] == 0xaa);
+    answers("a marked block", kd_marked(store, STORE, 3), KD_DONE, 1);
+    answers("kd_clear", kd_clear(store, STORE, 3), KD_DONE, 0);
+    answers("kd_clear of a clear block", kd_clear(store, STORE, 3), KD_DONE, 0);
+    answers("a cleared block", kd_marked(store, STORE, 3), KD_DONE, 0);
+    answers("a mark past the file", kd_marked(store, STORE, 5), KD_RULE_BROKEN, 0);
+    answers("kd_clear past the file", kd_clear(store, STORE, 5), KD_RULE_BROKEN, 0);
+    answers("kd_marked on NULL", kd_marked(NULL, 0, 0), KD_UNUSABLE, 0);
+    answers("kd_clear on NULL", kd_clear(NULL, 0, 0), KD_UNUSABLE, 0);
+    answers("guarded kd_bitfield", kd_bitfield(guarded(store, STORE), STORE, field, 1), KD_DONE, 1);
+    check("a piece with a cleared block", field[0] == 0x40);
+}
+
 /* The session once more in memories with such an end. */
 static void ends_of_memories(void)
 {
@@ -544,6 +566,7 @@ int main(void)
     layers();
     blocks();
     pieces();
+    marks();
     ends_of_memories();
     torrents();
     torrent_of_nothing();

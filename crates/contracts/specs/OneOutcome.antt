@@ -25,6 +25,9 @@ use Rattle.kombudeva.proofs.kd_serve as serving
 use Rattle.kombudeva.proofs.kd_load_layer as loading
 use Rattle.kombudeva.proofs.kd_judge_block as block
 use Rattle.kombudeva.proofs.kd_judge_piece as piece
+use Rattle.kombudeva.proofs.kd_clear as clearing
+use Rattle.kombudeva.proofs.kd_marked as asking
+use Rattle.kombudeva.proofs.kd_bitfield as field
 use Rattle.kombudeva.proofs.kd_torrent_read as torrent
 use Rattle.kombudeva.proofs.kd_torrent_file as file
 use Rattle.kombudeva.proofs.kd_torrent_path as path
@@ -103,6 +106,18 @@ block-asks-nothing κs a = tt
 -- kd_judge_piece
 pub piece-asks-nothing : AsksNothing 2 piece.Kinds.ps piece.Reads.Asked
 piece-asks-nothing κs a = tt
+
+-- kd_clear
+pub clearing-asks-nothing : AsksNothing 1 clearing.Kinds.ps clearing.Reads.Asked
+clearing-asks-nothing κs a = tt
+
+-- kd_marked
+pub asking-asks-nothing : AsksNothing 1 asking.Kinds.ps asking.Reads.Asked
+asking-asks-nothing κs a = tt
+
+-- kd_bitfield
+pub field-asks-nothing : AsksNothing 2 field.Kinds.ps field.Reads.Asked
+field-asks-nothing κs a = tt
 
 -- kd_torrent_read
 pub torrent-asks-nothing : AsksNothing 1 torrent.Kinds.ps torrent.Reads.Asked
@@ -184,13 +199,29 @@ pub one-loading : (κs : Lfts 2) (a : Dens κs loading.Kinds.ps) (x y : resT loa
     → loading.Reads.Learnt κs a x t → loading.Reads.Learnt κs a y u → (x ≡ y) × (now (t .0) ≡ now (u .0))
 one-loading κs a x y t u p q = (p .0 ∙ sym (q .0), p .1 ∙ sym (q .1))
 
--- kd_judge_block
-pub one-block : OneAnswer 2 block.Kinds.ps block.Kinds.r block.Reads.Learnt
-one-block κs a x y t u p q = p ∙ sym q
+-- kd_judge_block: the answer, and the store's bytes
+pub one-block : (κs : Lfts 2) (a : Dens κs block.Kinds.ps) (x y : resT block.Kinds.r κs .Denot) (t u : AtExit (endedOf 2 block.Kinds.ps block.Kinds.r) κs)
+    → block.Reads.Learnt κs a x t → block.Reads.Learnt κs a y u → (x ≡ y) × (now (t .0) ≡ now (u .0))
+one-block κs a x y t u p q = (p .0 ∙ sym (q .0), p .1 ∙ sym (q .1))
 
--- kd_judge_piece
-pub one-piece : OneAnswer 2 piece.Kinds.ps piece.Kinds.r piece.Reads.Learnt
-one-piece κs a x y t u p q = p ∙ sym q
+-- kd_judge_piece: the answer, and the store's bytes
+pub one-piece : (κs : Lfts 2) (a : Dens κs piece.Kinds.ps) (x y : resT piece.Kinds.r κs .Denot) (t u : AtExit (endedOf 2 piece.Kinds.ps piece.Kinds.r) κs)
+    → piece.Reads.Learnt κs a x t → piece.Reads.Learnt κs a y u → (x ≡ y) × (now (t .0) ≡ now (u .0))
+one-piece κs a x y t u p q = (p .0 ∙ sym (q .0), p .1 ∙ sym (q .1))
+
+-- kd_clear: the answer, and the store's bytes
+pub one-clearing : (κs : Lfts 1) (a : Dens κs clearing.Kinds.ps) (x y : resT clearing.Kinds.r κs .Denot) (t u : AtExit (endedOf 1 clearing.Kinds.ps clearing.Kinds.r) κs)
+    → clearing.Reads.Learnt κs a x t → clearing.Reads.Learnt κs a y u → (x ≡ y) × (now (t .0) ≡ now (u .0))
+one-clearing κs a x y t u p q = (p .0 ∙ sym (q .0), p .1 ∙ sym (q .1))
+
+-- kd_marked
+pub one-asking : OneAnswer 1 asking.Kinds.ps asking.Kinds.r asking.Reads.Learnt
+one-asking κs a x y t u p q = p ∙ sym q
+
+-- kd_bitfield: the answer, and the output's bytes
+pub one-field : (κs : Lfts 2) (a : Dens κs field.Kinds.ps) (x y : resT field.Kinds.r κs .Denot) (t u : AtExit (endedOf 2 field.Kinds.ps field.Kinds.r) κs)
+    → field.Reads.Learnt κs a x t → field.Reads.Learnt κs a y u → (x ≡ y) × (now (t .1 .0) ≡ now (u .1 .0))
+one-field κs a x y t u p q = (p .0 ∙ sym (q .0), p .1 ∙ sym (q .1))
 
 -- kd_torrent_read
 pub one-torrent : OneAnswer 1 torrent.Kinds.ps torrent.Kinds.r torrent.Reads.Learnt

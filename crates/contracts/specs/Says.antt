@@ -13,7 +13,8 @@ use Rattle.history.specs.Answers as W
 use Rattle.store.specs.Store.{sizeAnswer, openAnswer, openAfter, heldAnswer}
 use Rattle.messages.specs.Take.{takeAnswer, takeAfter, rejectAnswer}
 use Rattle.serve.specs.Serve.{serveAnswer, serveAfter}
-use Rattle.pieces.specs.Pieces.{layerAnswer, layerAfter, blockAnswer, pieceAnswer}
+use Rattle.marks.specs.Marks.{clearAnswer, clearAfter, markedAnswer, fieldAnswer, fieldAfter}
+use Rattle.pieces.specs.Pieces.{layerAnswer, layerAfter, blockAnswer, blockAfter, pieceAnswer, pieceAfter}
 use Rattle.torrent.specs.Torrent.{readOf, fileRead, pathRead}
 use Rattle.catalogue.specs.Catalogue.{listAnswer, listAfter}
 use Rattle.kombudeva.specs.Boundary.{countAnswer, hashAnswer, torrentAnswer, fileAnswer, partAnswer}
@@ -33,6 +34,9 @@ use Rattle.kombudeva.proofs.kd_serve as serving
 use Rattle.kombudeva.proofs.kd_load_layer as loading
 use Rattle.kombudeva.proofs.kd_judge_block as block
 use Rattle.kombudeva.proofs.kd_judge_piece as piece
+use Rattle.kombudeva.proofs.kd_clear as clearing
+use Rattle.kombudeva.proofs.kd_marked as asking
+use Rattle.kombudeva.proofs.kd_bitfield as field
 use Rattle.kombudeva.proofs.kd_torrent_read as torrent
 use Rattle.kombudeva.proofs.kd_torrent_file as file
 use Rattle.kombudeva.proofs.kd_torrent_path as path
@@ -110,13 +114,28 @@ loading-says κs a r e p = p
 
 -- kd_judge_block
 pub block-says : (κs : Lfts 2) (a : Dens κs block.Kinds.ps) (r : resT block.Kinds.r κs .Denot) (e : AtExit (endedOf 2 block.Kinds.ps block.Kinds.r) κs) → block.Reads.Learnt κs a r e
-    → r ≡ countAnswer (blockAnswer (now (a .0)) (a .1 .0) (now (a .1 .1 .0)))
+    → (r ≡ countAnswer (blockAnswer (now (a .0)) (a .1 .0) (now (a .1 .1 .0)))) × (now (e .0) ≡ blockAfter (now (a .0)) (a .1 .0) (now (a .1 .1 .0)))
 block-says κs a r e p = p
 
 -- kd_judge_piece
 pub piece-says : (κs : Lfts 2) (a : Dens κs piece.Kinds.ps) (r : resT piece.Kinds.r κs .Denot) (e : AtExit (endedOf 2 piece.Kinds.ps piece.Kinds.r) κs) → piece.Reads.Learnt κs a r e
-    → r ≡ countAnswer (pieceAnswer (now (a .0)) (a .1 .0) (now (a .1 .1 .0)))
+    → (r ≡ countAnswer (pieceAnswer (now (a .0)) (a .1 .0) (now (a .1 .1 .0)))) × (now (e .0) ≡ pieceAfter (now (a .0)) (a .1 .0) (now (a .1 .1 .0)))
 piece-says κs a r e p = p
+
+-- kd_clear
+pub clearing-says : (κs : Lfts 1) (a : Dens κs clearing.Kinds.ps) (r : resT clearing.Kinds.r κs .Denot) (e : AtExit (endedOf 1 clearing.Kinds.ps clearing.Kinds.r) κs) → clearing.Reads.Learnt κs a r e
+    → (r ≡ countAnswer (clearAnswer (now (a .0)) (a .1 .0))) × (now (e .0) ≡ clearAfter (now (a .0)) (a .1 .0))
+clearing-says κs a r e p = p
+
+-- kd_marked
+pub asking-says : (κs : Lfts 1) (a : Dens κs asking.Kinds.ps) (r : resT asking.Kinds.r κs .Denot) (e : AtExit (endedOf 1 asking.Kinds.ps asking.Kinds.r) κs) → asking.Reads.Learnt κs a r e
+    → r ≡ countAnswer (markedAnswer (now (a .0)) (a .1 .0))
+asking-says κs a r e p = p
+
+-- kd_bitfield
+pub field-says : (κs : Lfts 2) (a : Dens κs field.Kinds.ps) (r : resT field.Kinds.r κs .Denot) (e : AtExit (endedOf 2 field.Kinds.ps field.Kinds.r) κs) → field.Reads.Learnt κs a r e
+    → (r ≡ countAnswer (fieldAnswer (now (a .0)) (now (a .1 .0)))) × (now (e .1 .0) ≡ fieldAfter (now (a .0)) (now (a .1 .0)))
+field-says κs a r e p = p
 
 -- kd_torrent_read
 pub torrent-says : (κs : Lfts 1) (a : Dens κs torrent.Kinds.ps) (r : resT torrent.Kinds.r κs .Denot) (e : AtExit (endedOf 1 torrent.Kinds.ps torrent.Kinds.r) κs) → torrent.Reads.Learnt κs a r e

@@ -229,6 +229,7 @@ unusable-stays s u h = through (λ (t : List ℕ). t ≡ s) each h refl
         record {
           taken = λ t m b e. rw e (refused m);
           loaded = λ t l b e. rw e (layer-refused s l (λ z. let w : ⊥ = unfold layerNumber in omega (arith, rw u at z) in w));
+          remarked = λ t i n x f l o e. absurd (false≢true (sym u ∙ ap usable (sym e) ∙ facts-usable t f));
           moved = λ t x b e q. absurd (false≢true (sym u ∙ ap usable (sym q) ∙ e .store));
         }
 

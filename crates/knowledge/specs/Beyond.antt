@@ -1,5 +1,5 @@
--- Bytes of a store's memory past the size its facts give decide nothing: two memories that agree up to there get the same numbers.
--- (A held hash: `used-answer`, in the crate store.)
+-- Two memories with the same facts and cells get the same numbers, counts and hashes: bytes past the store's size decide nothing, and nor
+-- do marks.
 -- Assumes nothing.
 use mathlib.Core.Path.{_≡_, refl, ap, ap₂, sym, _∙_}
 use mathlib.Core.Bool.{Bool, true, false, cond}
@@ -10,8 +10,7 @@ use native.Mathlib.Decide.{ℕ-discrete}
 use lib.ListN.{length, getD}
 use lib.Dec.{eqb, ltb}
 use borrow.Author.Tests.{eq-eqb, ne-eqb, eqb-true, ltb-true}
-use Rattle.octets.specs.Octets.{cut, same}
-use Rattle.octets.specs.OctetsLaws.{getD-cut}
+use Rattle.octets.specs.Octets.{same}
 use Rattle.numbers.specs.Numbers.{ruleBroken, wrongSize, wrongPadding, notHeld, judged}
 use Rattle.sha256.specs.Sha256.{sha256}
 use Rattle.tree.specs.Geometry.{nodeNumber, blockSize, pieceSize, pieceCount, pieceLayer, hasLayer}
@@ -21,8 +20,8 @@ use Rattle.tree.specs.ValuesLaws.{leaf-octets}
 use Rattle.cells.specs.Cells.{heldAt, hashAt}
 use Rattle.cells.specs.Entries.{Entry, agreesAt, agrees, putAll, newly}
 use Rattle.cells.specs.EntriesLaws.{Sound, none, more}
-use Rattle.store.specs.Store.{fileLength, pieceLength, blocksOf, heightOf, positions, storeSize, Facts}
-use Rattle.store.specs.StoreLaws.{own-cells, putAll-past, facts-usable, used-same, used-facts, used-held, used-hash}
+use Rattle.store.specs.Store.{fileLength, pieceLength, blocksOf, heightOf, positions, storeSize, Facts, SameFacts}
+use Rattle.store.specs.StoreLaws.{putAll-past, facts-usable}
 use Rattle.settling.specs.Path.{sibling}
 use Rattle.settling.specs.AncestorLaws.{ancestor-le}
 use Rattle.settling.specs.Span.{Within}
@@ -38,22 +37,28 @@ use Rattle.serve.specs.ServeLaws.{sibling-near, request-passes, run-inside, unc
 use Rattle.pieces.specs.Pieces.{blockNumber, judgedAt, layerOfPieces, layerNumber, layerSettled, layerAfter, layerAnswer, pieceHeight, pieceNumber}
 use Rattle.pieces.specs.PiecesLaws.{layered, layer-within, layer-leaf-length, piece-within, layer-sound, loads-layered, layer-loads}
 use Rattle.knowledge.specs.TakenWhen.{taken-well-formed}
+use Rattle.knowledge.specs.Alike.{Alike}
 use Rattle.knowledge.specs.BytesLeft.{SameCells, putAll-same, newly-same}
 
-module _ (s t : List ℕ) (f : Facts s) (e : cut t 0 (storeSize (fileLength s)) ≡ cut s 0 (storeSize (fileLength s))) where
+-- with the same facts a piece's node is in the same layer
+pub same-node : {s t : List ℕ} → SameFacts s t → pieceHeight t ≡ pieceHeight s
+unfolding pieceHeight layerOfPieces
+same-node e = rw (e .file, e .piece, e .layers)
+
+module _ (s t : List ℕ) (f : Facts s) (e : Alike s t) where
   agrees-used : (L : List Entry) → Sound (positions (heightOf s)) L → agrees t L ≡ agrees s L
   unfolding agrees agreesAt
   agrees-used [] none = refl
-  agrees-used (x ∷ L) (more a b k) = rw (used-held s t f e (x .at) a, used-hash s t f e (x .at) a, agrees-used L k)
+  agrees-used (x ∷ L) (more a b k) = rw (e .held (x .at) a, e .hash (x .at) a, agrees-used L k)
 
   module _ (m : List ℕ) where
     header-used : (form : Bool) → headerNumber form t m ≡ headerNumber form s m
     unfolding headerNumber
     header-used form =
-        rw (facts-usable t (used-facts s t f e), facts-usable s f, used-same s t f e .root, used-same s t f e .blocks, used-same s t f e .layers)
+        rw (facts-usable t (e .facts), facts-usable s f, e .same .root, e .same .blocks, e .same .layers)
 
     place-used : placeIn t m ≡ placeIn s m
-    place-used = ap (placeOf (headerOf m)) (used-same s t f e .layers)
+    place-used = ap (placeOf (headerOf m)) (e .same .layers)
 
     placed-here : headerNumber (isHashes m) s m ≡ 0 → Placed (positions (heightOf s)) (headerOf m) (placeIn s m)
     placed-here z = placed (isHashes m) s m (passed (isHashes m) s m z)
@@ -73,11 +78,11 @@ module _ (s t : List ℕ) (f : Facts s) (e : cut t 0 (storeSize (fileLength s)) 
     tests-used : headerNumber (isHashes m) s m ≡ 0 → length m ≡ messageSize (headerOf m) → anchored t m (placeIn s m) ≡ anchored s m (placeIn s m)
     unfolding anchored
     tests-used z n =
-        rw (used-held s t f e (anchor (placeIn s m)) (anchor-below z), used-hash s t f e (anchor (placeIn s m)) (anchor-below z), agrees-used (settled m (placeIn s m)) (settled-sound z n))
+        rw (e .held (anchor (placeIn s m)) (anchor-below z), e .hash (anchor (placeIn s m)) (anchor-below z), agrees-used (settled m (placeIn s m)) (settled-sound z n))
 
     body-used : headerNumber (isHashes m) s m ≡ 0 → bodyNumber t m (headerOf m) (placeIn t m) ≡ bodyNumber s m (headerOf m) (placeIn s m)
     unfolding bodyNumber
-    body-used z = rw (place-used, used-same s t f e .blocks) (by (eqb (length m) (messageSize (headerOf m))) refl)
+    body-used z = rw (place-used, e .same .blocks) (by (eqb (length m) (messageSize (headerOf m))) refl)
       where
         by : (b : Bool) → eqb (length m) (messageSize (headerOf m)) ≡ b
             → cond (eqb (length m) (messageSize (headerOf m))) (cond (padded m (headerOf m) (placeIn s m) (blocksOf s)) (anchored t m (placeIn s m)) wrongPadding) wrongSize
@@ -101,7 +106,7 @@ module _ (s t : List ℕ) (f : Facts s) (e : cut t 0 (storeSize (fileLength s)) 
   pub block-beyond : (i : ℕ) (block : List ℕ) → blockNumber t i block ≡ blockNumber s i block
   unfolding blockNumber
   block-beyond i block =
-      rw (facts-usable t (used-facts s t f e), facts-usable s f, used-same s t f e .file, used-same s t f e .blocks, used-same s t f e .layers)
+      rw (facts-usable t (e .facts), facts-usable s f, e .same .file, e .same .blocks, e .same .layers)
       (by (ltb i (blocksOf s)) refl)
     where
       by : (b : Bool) → ltb i (blocksOf s) ≡ b
@@ -112,27 +117,26 @@ module _ (s t : List ℕ) (f : Facts s) (e : cut t 0 (storeSize (fileLength s)) 
           let z : heightOf s - 0 ≡ heightOf s = omega arith in
           let w : i < 2 ^ (heightOf s - 0) = rw z (unfold heightOf in omega (arith, ltb-true i (blocksOf s) x, height-enough (blocksOf s))) in
           let b : nodeNumber (heightOf s) 0 i < positions (heightOf s) = unfold positions in node-number-range (heightOf s) 0 i w .1 in
-          rw (used-held s t f e (nodeNumber (heightOf s) 0 i) b, used-hash s t f e (nodeNumber (heightOf s) 0 i) b)
+          rw (e .held (nodeNumber (heightOf s) 0 i) b, e .hash (nodeNumber (heightOf s) 0 i) b)
 
   judged-used : (leaf : ℕ → List ℕ) → ((i : ℕ) → length (leaf i) ≡ 32) → (k n : ℕ) → Within (positions (heightOf s)) k n → judgedAt t leaf k n ≡ judgedAt s leaf k n
   unfolding judgedAt
   judged-used leaf h k n w =
       let b = within-self (positions (heightOf s)) k n w in
-      rw (used-held s t f e n b, used-hash s t f e n b, agrees-used (subtree leaf k n 0) (subtree-sound leaf h (positions (heightOf s)) k n 0 w))
+      rw (e .held n b, e .hash n b, agrees-used (subtree leaf k n 0) (subtree-sound leaf h (positions (heightOf s)) k n 0 w))
 
   layer-of-used : layerOfPieces t ≡ layerOfPieces s
   unfolding layerOfPieces
-  layer-of-used = ap pieceLayer (used-same s t f e .piece)
+  layer-of-used = ap pieceLayer (e .same .piece)
 
   piece-height-used : pieceHeight t ≡ pieceHeight s
-  unfolding pieceHeight
-  piece-height-used = rw (used-same s t f e .file, used-same s t f e .piece, used-same s t f e .layers, layer-of-used)
+  piece-height-used = same-node (e .same)
 
   -- a piece
   pub piece-beyond : (i : ℕ) (piece : List ℕ) → pieceNumber t i piece ≡ pieceNumber s i piece
   unfolding pieceNumber
   piece-beyond i piece =
-      rw (facts-usable t (used-facts s t f e), facts-usable s f, used-same s t f e .file, used-same s t f e .piece, used-same s t f e .layers, piece-height-used)
+      rw (facts-usable t (e .facts), facts-usable s f, e .same .file, e .same .piece, e .same .layers, piece-height-used)
       (by (ltb i (pieceCount (fileLength s) (pieceLength s))) refl)
     where
       by : (b : Bool) → ltb i (pieceCount (fileLength s) (pieceLength s)) ≡ b
@@ -147,7 +151,7 @@ module _ (s t : List ℕ) (f : Facts s) (e : cut t 0 (storeSize (fileLength s)) 
   pub layer-beyond : (layer : List ℕ) → layerNumber t layer ≡ layerNumber s layer
   unfolding layerNumber
   layer-beyond layer =
-      rw (facts-usable t (used-facts s t f e), facts-usable s f, used-same s t f e .file, used-same s t f e .piece, used-same s t f e .layers, layer-of-used)
+      rw (facts-usable t (e .facts), facts-usable s f, e .same .file, e .same .piece, e .same .layers, layer-of-used)
       (by (hasLayer (fileLength s) (pieceLength s)) refl)
     where
       by : (b : Bool) → hasLayer (fileLength s) (pieceLength s) ≡ b
@@ -160,22 +164,22 @@ module _ (s t : List ℕ) (f : Facts s) (e : cut t 0 (storeSize (fileLength s)) 
   held-run-used : (n c : ℕ) → n + c ≤ positions (heightOf s) → heldRun t n c ≡ heldRun s n c
   unfolding heldRun
   held-run-used n zero l = refl
-  held-run-used n (suc c) l = rw (held-run-used n c (omega arith), used-held s t f e (n + c) (omega arith))
+  held-run-used n (suc c) l = rw (held-run-used n c (omega arith), e .held (n + c) (omega arith))
 
   run-hashes-used : (n c : ℕ) → n + c ≤ positions (heightOf s) → runHashes t n c ≡ runHashes s n c
   unfolding runHashes
   run-hashes-used n zero l = refl
-  run-hashes-used n (suc c) l = rw (run-hashes-used n c (omega arith), used-hash s t f e (n + c) (omega arith))
+  run-hashes-used n (suc c) l = rw (run-hashes-used n c (omega arith), e .hash (n + c) (omega arith))
 
   held-uncles-used : (u n : ℕ) → n + 2 ≤ positions (heightOf s) → heldUncles t u n ≡ heldUncles s u n
   unfolding heldUncles
   held-uncles-used zero n l = refl
-  held-uncles-used (suc u) n l = rw (used-held s t f e (sibling n) (omega (arith, sibling-near n)), held-uncles-used u (n / 2) (omega arith))
+  held-uncles-used (suc u) n l = rw (e .held (sibling n) (omega (arith, sibling-near n)), held-uncles-used u (n / 2) (omega arith))
 
   uncle-hashes-used : (u n : ℕ) → n + 2 ≤ positions (heightOf s) → uncleHashes t u n ≡ uncleHashes s u n
   unfolding uncleHashes
   uncle-hashes-used zero n l = refl
-  uncle-hashes-used (suc u) n l = rw (used-hash s t f e (sibling n) (omega (arith, sibling-near n)), uncle-hashes-used u (n / 2) (omega arith))
+  uncle-hashes-used (suc u) n l = rw (e .hash (sibling n) (omega (arith, sibling-near n)), uncle-hashes-used u (n / 2) (omega arith))
 
   module _ (m : List ℕ) where
     all-held-used : headerNumber (isRequest m) s m ≡ 0 → allHeld t (placeIn s m) ≡ allHeld s (placeIn s m)
@@ -214,19 +218,12 @@ module _ (s t : List ℕ) (f : Facts s) (e : cut t 0 (storeSize (fileLength s)) 
 
   -- ---- what the calls leave
 
-  -- byte for byte,
-  pub same-byte : (i : ℕ) → i < storeSize (fileLength s) → getD t i 0 ≡ getD s i 0
-  same-byte i b =
-      let z : 0 + i ≡ i = omega arith in
-      let g : (u : List ℕ) → getD (cut u 0 (storeSize (fileLength s))) i 0 ≡ getD u i 0 = λ u. getD-cut u 0 (storeSize (fileLength s)) i b ∙ ap (λ (x : ℕ). getD u x 0) z in
-      sym (g t) ∙ ap (λ (u : List ℕ). getD u i 0) e ∙ g s
-
   cells-used : SameCells (positions (heightOf s)) s t
   cells-used =
       record {
         room = f .room;
-        room′ = rw (used-same s t f e .layers) at (used-facts s t f e .room);
-        same = λ i l. same-byte i (omega (arith, own-cells s));
+        room′ = rw (e .same .layers) at (e .facts .room);
+        same = e .bytes;
       }
 
   left-alike : (n : ℕ) (L : List Entry) → (n ≡ 0 → Sound (positions (heightOf s)) L)
@@ -249,13 +246,13 @@ module _ (s t : List ℕ) (f : Facts s) (e : cut t 0 (storeSize (fileLength s)) 
   unfolding takeAnswer
   take-answer-beyond m =
       ap₂ (λ (n c : ℕ). record { number = n; count = c }) (take-beyond m)
-      (ap (λ (h : ℕ). newly (positions h) t (takeAfter t m)) (used-same s t f e .layers)
+      (ap (λ (h : ℕ). newly (positions h) t (takeAfter t m)) (e .same .layers)
       ∙ newly-same (positions (heightOf s)) (positions (heightOf s)) s t (takeAfter s m) (takeAfter t m) (omega arith) cells-used (take-leaves-alike m))
 
   -- a layer too
   settled-layer-used : (layer : List ℕ) → layerSettled t layer ≡ layerSettled s layer
   unfolding layerSettled
-  settled-layer-used layer = rw (used-same s t f e .layers, layer-of-used)
+  settled-layer-used layer = rw (e .same .layers, layer-of-used)
 
   -- a layer leaves the same cells,
   pub layer-leaves-alike : (layer : List ℕ) → SameCells (positions (heightOf s)) (layerAfter s layer) (layerAfter t layer)
@@ -269,7 +266,7 @@ module _ (s t : List ℕ) (f : Facts s) (e : cut t 0 (storeSize (fileLength s)) 
   unfolding layerAnswer
   layer-answer-beyond layer =
       ap₂ (λ (n c : ℕ). record { number = n; count = c }) (layer-beyond layer)
-      (ap (λ (h : ℕ). newly (positions h) t (layerAfter t layer)) (used-same s t f e .layers)
+      (ap (λ (h : ℕ). newly (positions h) t (layerAfter t layer)) (e .same .layers)
       ∙ newly-same (positions (heightOf s)) (positions (heightOf s)) s t (layerAfter s layer) (layerAfter t layer) (omega arith) cells-used (layer-leaves-alike layer))
 
   -- ---- and what stands behind the size stays

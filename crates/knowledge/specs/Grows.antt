@@ -3,7 +3,7 @@
 use mathlib.Core.Path.{_≡_, refl, _∙_}
 use mathlib.Core.Bool.{true}
 use mathlib.Core.List.{List}
-use Prim.Native.Nat.{ℕ, _<_}
+use Prim.Native.Nat.{ℕ, _+_, _^_, _≤_, _<_}
 use native.Mathlib.Decide.{ℕ-discrete}
 use lib.ListN.{length}
 use borrow.Author.Tests.{eq-eqb, ne-eqb}
@@ -18,6 +18,9 @@ use Rattle.messages.specs.TakenLaws.{ready-from-root, ready-settled, taken-read
 use Rattle.pieces.specs.Pieces.{layerNumber, layerAfter}
 use Rattle.pieces.specs.PiecesLaws.{layer-refused, layer-same-facts, layer-facts, layer-keeps}
 use Rattle.words.specs.History.{SameStore, Steps}
+use Rattle.marks.specs.Marks.{marksPut}
+use Rattle.marks.specs.MarksLaws.{marks-same-facts, marks-facts}
+use Rattle.knowledge.specs.MarksApart.{marks-held, marks-hash}
 use Rattle.knowledge.specs.Through.{Preserved, through}
 use Rattle.knowledge.specs.TakenWhen.{taken-then-right, taken-well-formed}
 
@@ -102,6 +105,15 @@ grown-moved s t f e =
       kept = λ q l h. (used-held s t f (e .bytes) q l ∙ h, used-hash s t f (e .bytes) q l);
     }
 
+-- marks written
+pub grown-marks : (s : List ℕ) (i n x : ℕ) → Facts s → i + n ≤ 2 ^ heightOf s → Grown s (marksPut s i n x)
+grown-marks s i n x f fits =
+    record {
+      same = marks-same-facts s f i n x fits;
+      facts = marks-facts s f i n x fits;
+      kept = λ q l h. (marks-held s f i n x fits q l ∙ h, marks-hash s f i n x fits q l);
+    }
+
 -- through any steps
 pub steps-grow : {s t : List ℕ} → Facts s → Steps s t → Grown s t
 steps-grow {s} f h = through (Grown s) each h (grown-same s f)
@@ -111,5 +123,6 @@ steps-grow {s} f h = through (Grown s) each h (grown-same s f)
         record {
           taken = λ t m b g. grown-on g (grown-take t m (g .facts));
           loaded = λ t l b g. grown-on g (grown-layer t l (g .facts));
+          remarked = λ t i n x f l o g. grown-on g (grown-marks t i n x f l);
           moved = λ t u b e g. grown-on g (grown-moved t u (g .facts) e);
         }

@@ -9,7 +9,8 @@ use native.Mathlib.Omega.{arith}
 use lib.ListN.{length}
 use lib.Dec.{eqb, leb, ltb}
 use Rattle.octets.specs.Octets.{same, zeroHash}
-use Rattle.numbers.specs.Numbers.{refused}
+use borrow.Author.Tests.{ne-eqb}
+use Rattle.numbers.specs.Numbers.{refused, done}
 use Rattle.numbers.specs.declared.Answer.{Answer}
 use Rattle.sha256.specs.Sha256.{sha256}
 use Rattle.sha256.specs.Answer.{hashedOf}
@@ -22,7 +23,10 @@ use Rattle.header.specs.Header.{headerOf, messageRoot, isReject, rulesKept}
 use Rattle.messages.specs.Take.{headerNumber, takeAnswer, rejectAnswer}
 use Rattle.serve.specs.Serve.{serveAnswer}
 use Rattle.pieces.specs.Pieces.{judgedAt, layerNumber, layerAnswer, blockNumber, blockAnswer, pieceHeight, pieceNumber, pieceAnswer}
-use Rattle.words.specs.History.{Call, take, takeReject, serve, held, loadLayer, judgeBlock, judgePiece, reopen, answer, number, after}
+use Rattle.pieces.specs.MarkedLaws.{block-stays, piece-stays}
+use Rattle.marks.specs.Marks.{blockThere, clearAnswer, markedAnswer, fieldSize, fieldAnswer}
+use Rattle.knowledge.specs.Through.{clear-stays}
+use Rattle.words.specs.History.{Call, take, takeReject, serve, held, loadLayer, judgeBlock, judgePiece, clear, isMarked, bitfield, reopen, answer, number, after}
 use Rattle.words.specs.Answers.{first, later, InTable, ServeOutcome, replied, rejected, untouched, Beside, noCount, zeroBytes, reject}
 use Rattle.knowledge.specs.Refusals.{opening-refused, message-refused, layer-not-loaded, served, message-number-in-table}
 use Rattle.knowledge.specs.Tests.{gated, judged-most}
@@ -141,7 +145,50 @@ piece-in-table s i piece =
     (gated-low (usable s) (ltb i (pieceCount (fileLength s) (pieceLength s))) (eqb (length piece) (pieceSize (fileLength s) (pieceLength s) i)) _
     (judged-most (heldAt s (nodeNumber (heightOf s) (pieceHeight s) i)) (same (hashAt s (nodeNumber (heightOf s) (pieceHeight s) i)) _) (agrees s _)))
 
+-- kd_clear, kd_marked
+there-low : (s : List ℕ) (i : ℕ) → InTable (blockThere s i)
+unfolding blockThere
+there-low s i = by (usable s) (ltb i (blocksOf s))
+  where
+    by : (a b : Bool) → InTable (cond a (cond b 0 3) 9)
+    by true true = low 0 (omega arith)
+    by true false = low 3 (omega arith)
+    by false b = low 9 (omega arith)
+
+pub clear-in-table : (s : List ℕ) (i : ℕ) → InTable (clearAnswer s i .number)
+unfolding clearAnswer
+clear-in-table s i = there-low s i
+
+pub marked-in-table : (s : List ℕ) (i : ℕ) → InTable (markedAnswer s i .number)
+unfolding markedAnswer
+marked-in-table s i = there-low s i
+
+-- kd_bitfield
+pub field-in-table : (s out : List ℕ) → InTable (fieldAnswer s out .number)
+unfolding fieldAnswer
+field-in-table s out = by (usable s) (leb (fieldSize s) (length out)) (fieldSize s)
+  where
+    by : (a b : Bool) (n : ℕ) → InTable (cond a (cond b (done n) (refused 11)) (refused 9) .number)
+    by true true n = low 0 (omega arith)
+    by true false n = low 11 (omega arith)
+    by false b n = low 9 (omega arith)
+
 -- ---- beside a refusal every value is zero
+
+-- kd_marked: the count is 0
+no-mark : (s : List ℕ) (i : ℕ) → (markedAnswer s i .number ≡ 0 → ⊥) → markedAnswer s i .count ≡ 0
+unfolding markedAnswer
+no-mark s i ne = rw (ne-eqb (blockThere s i) 0 ne)
+
+-- kd_bitfield: the size is 0
+no-field : (s out : List ℕ) → (fieldAnswer s out .number ≡ 0 → ⊥) → fieldAnswer s out .count ≡ 0
+unfolding fieldAnswer
+no-field s out = by (usable s) (leb (fieldSize s) (length out)) (fieldSize s)
+  where
+    by : (a b : Bool) (n : ℕ) → (cond a (cond b (done n) (refused 11)) (refused 9) .number ≡ 0 → ⊥) → cond a (cond b (done n) (refused 11)) (refused 9) .count ≡ 0
+    by true true n ne = absurd (ne refl)
+    by true false n ne = refl
+    by false b n ne = refl
 
 -- kd_sha256: the hash is 32 zero bytes
 pub no-hash-beside-4 : (m : List ℕ) → (hashedOf m .number ≡ 0 → ⊥) → hashedOf m .hash ≡ zeroHash
@@ -185,22 +232,29 @@ call-in-table (held l i) s = held-in-table s l i
 call-in-table (loadLayer l b) s = layer-in-table s l
 call-in-table (judgeBlock i d b) s = block-in-table s i d
 call-in-table (judgePiece i d b) s = piece-in-table s i d
+call-in-table (clear i) s = clear-in-table s i
+call-in-table (isMarked i) s = marked-in-table s i
+call-in-table (bitfield out b) s = field-in-table s out
 call-in-table (reopen n plen root o) s = open-in-table s n plen
 
 -- a refusal leaves every byte of the store
 pub refused-leaves : (c : Call) (s : List ℕ) → (number c s ≡ 0 → ⊥) → after c s ≡ s
+unfolding blockAnswer pieceAnswer clearAnswer
 refused-leaves (take m b) s ne = message-refused s m ne .0
 refused-leaves (takeReject m b) s ne = refl
 refused-leaves (serve m out b c) s ne = refl
 refused-leaves (held l i) s ne = refl
 refused-leaves (loadLayer l b) s ne = layer-not-loaded s l ne .0
-refused-leaves (judgeBlock i d b) s ne = refl
-refused-leaves (judgePiece i d b) s ne = refl
+refused-leaves (judgeBlock i d b) s ne = block-stays s i d ne
+refused-leaves (judgePiece i d b) s ne = piece-stays s i d ne
+refused-leaves (clear i) s ne = clear-stays s i ne
+refused-leaves (isMarked i) s ne = refl
+refused-leaves (bitfield out b) s ne = refl
 refused-leaves (reopen n plen root o) s ne = opening-refused s n plen root ne .0
 
 -- and beside it every count, size and value is zero
 pub beside-refusal : (c : Call) (s : List ℕ) → (number c s ≡ 0 → ⊥) → Beside c (answer c s)
-unfolding rejectAnswer blockAnswer pieceAnswer
+unfolding rejectAnswer blockAnswer pieceAnswer clearAnswer
 beside-refusal (take m b) s ne = noCount (message-refused s m ne .1)
 beside-refusal (takeReject m b) s ne = noCount refl
 beside-refusal (serve m out b c) s ne = by (served s m out)
@@ -213,4 +267,7 @@ beside-refusal (held l i) s ne = zeroBytes (no-hash s l i ne)
 beside-refusal (loadLayer l b) s ne = noCount (layer-not-loaded s l ne .1)
 beside-refusal (judgeBlock i d b) s ne = noCount refl
 beside-refusal (judgePiece i d b) s ne = noCount refl
+beside-refusal (clear i) s ne = noCount refl
+beside-refusal (isMarked i) s ne = noCount (no-mark s i ne)
+beside-refusal (bitfield out b) s ne = noCount (no-field s out ne)
 beside-refusal (reopen n plen root o) s ne = noCount (opening-refused s n plen root ne .1)

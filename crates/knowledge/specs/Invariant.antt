@@ -33,7 +33,10 @@ use Rattle.messages.specs.TakenLaws.{ready-settled, taken-ready}
 use Rattle.pieces.specs.Pieces.{layerOfPieces, layerSettled, layerNumber, layerAfter, pieceHeight}
 use Rattle.pieces.specs.Asks.{Layered, PieceIn}
 use Rattle.pieces.specs.PiecesLaws.{layer-loads, loads-layered, layer-sound, layer-refused, layer-taken, piece-within}
+use Rattle.marks.specs.Marks.{marksPut}
+use Rattle.marks.specs.MarksLaws.{marks-same-facts, marks-facts}
 use Rattle.words.specs.History.{SameStore}
+use Rattle.knowledge.specs.MarksApart.{marks-held, marks-hash}
 use Rattle.knowledge.specs.TakenWhen.{taken-then-right, taken-well-formed}
 use Rattle.knowledge.specs.RightPadding.{Pads, at-place, settled-pads}
 
@@ -331,28 +334,18 @@ ours-layer s l o =
       | no ne ↦ rw (layer-refused s l ne) o
     ]
 
--- OTHER BYTES BEHIND THE STORE keep them
-pub ours-moved : (s t : List ℕ) → Ours s → SameStore s t → Ours t
-ours-moved s t o e =
-    let f = o .chained .facts in
-    let g = used-same s t f (e .bytes) in
+-- THE SAME FACTS AND CELLS have them
+ours-same : (s t : List ℕ) → Ours s → SameFacts s t → Facts t → ((q : ℕ) → q < positions (heightOf s) → heldAt t q ≡ heldAt s q)
+    → ((q : ℕ) → q < positions (heightOf s) → hashAt t q ≡ hashAt s q) → Ours t
+ours-same s t o g ft held-as hash-as =
     by-number-ours t
     (record {
-      facts = used-facts s t f (e .bytes);
-      root = (used-held s t f (e .bytes) 1 (positions-some (heightOf s)) ∙ o .chained .root .0, used-hash s t f (e .bytes) 1 (positions-some (heightOf s)) ∙ o .chained .root .1 ∙ sym (g .root));
+      facts = ft;
+      root = (held-as 1 (positions-some (heightOf s)) ∙ o .chained .root .0, hash-as 1 (positions-some (heightOf s)) ∙ o .chained .root .1 ∙ sym (g .root));
       family = λ n two b k. family-moved n two (rw (g .layers) at b) k;
     })
     (rw (g .layers, g .blocks) padded-moved)
   where
-    f : Facts s
-    f = o .chained .facts
-
-    held-as : (q : ℕ) → q < positions (heightOf s) → heldAt t q ≡ heldAt s q
-    held-as = used-held s t f (e .bytes)
-
-    hash-as : (q : ℕ) → q < positions (heightOf s) → hashAt t q ≡ hashAt s q
-    hash-as = used-hash s t f (e .bytes)
-
     family-moved : (n : ℕ) → 2 ≤ n → n < positions (heightOf s) → heldAt t n ≡ true → Family t n
     family-moved n two b k =
         let x : heldAt s n ≡ true = sym (held-as n b) ∙ k in
@@ -371,3 +364,15 @@ ours-moved s t o e =
 
     padded-moved : PaddedStore (heightOf s) (blocksOf s) t
     padded-moved n lt k = rw (hash-as n lt) (ours-by-number s o n lt (sym (held-as n lt) ∙ k))
+
+-- OTHER BYTES BEHIND THE STORE keep them
+pub ours-moved : (s t : List ℕ) → Ours s → SameStore s t → Ours t
+ours-moved s t o e =
+    let f = o .chained .facts in
+    ours-same s t o (used-same s t f (e .bytes)) (used-facts s t f (e .bytes)) (used-held s t f (e .bytes)) (used-hash s t f (e .bytes))
+
+-- MARKS WRITTEN keep them
+pub ours-marks : (s : List ℕ) (i n x : ℕ) → Ours s → i + n ≤ 2 ^ heightOf s → Ours (marksPut s i n x)
+ours-marks s i n x o l =
+    let f = o .chained .facts in
+    ours-same s (marksPut s i n x) o (marks-same-facts s f i n x l) (marks-facts s f i n x l) (marks-held s f i n x l) (marks-hash s f i n x l)

@@ -5,13 +5,20 @@ pub mod TakenWhen
 pub mod Chains
 pub mod TakenEntries
 pub mod RightPadding
+-- marks stand apart from the cells
+pub mod MarksApart
 -- histories: what each step keeps, what stays
 pub mod Through
 pub mod Grows
 pub mod Again
 -- bytes behind the store
 pub mod BytesLeft
+pub mod Alike
 pub mod Beyond
+pub mod MarksBeyond
+-- marks decide nothing about hashes; the bitfield
+pub mod Independence
+pub mod Bitfield
 pub mod SameStore
 -- what a store that only this build has written looks like
 pub mod Invariant
@@ -33,6 +40,9 @@ pub mod FormedWhen
 pub mod HeldWhen
 pub mod Verdicts
 pub mod JudgedWhen
+-- marks over a history
+pub mod MarksSince
+pub mod MarkedWhen
 pub mod ServedWhen
 pub mod AskedWhen
 pub mod RootAlone
@@ -50,6 +60,7 @@ pub mod PieceIsTheFiles
 pub mod TrueMessage
 pub mod TrueLayer
 pub mod Known
+pub mod MarkedIsTheFiles
 -- refusals, the table, the cases worked by hand
 pub mod Refusals
 pub mod InTable

@@ -3,10 +3,10 @@
 use mathlib.Core.Path.{_≡_, refl, ap, _∙_}
 use mathlib.Core.Bool.{Bool, true, false}
 use mathlib.Core.List.{List, [], _∷_, _++_}
-use Prim.Native.Nat.{ℕ, zero, suc, _+_, _-_, _*_, _≤_, _<_}
+use Prim.Native.Nat.{ℕ, zero, suc, _+_, _-_, _*_, _^_, _≤_, _<_}
 use native.Mathlib.Omega.{arith}
 use native.Mathlib.Decide.{ℕ-discrete, decLt}
-use lib.ListN.{length, getD}
+use lib.ListN.{length, getD, replicate, length-replicate, getD-replicate}
 use lib.Dec.{leb}
 use borrow.Author.Tests.{eq-eqb, ne-eqb, leb-true}
 use Rattle.octets.specs.Octets.{Octets, pasted, be, zeroed}
@@ -15,7 +15,9 @@ use Rattle.cells.specs.Cells.{Room, put}
 use Rattle.cells.specs.CellsLaws.{put-room}
 use Rattle.cells.specs.Entries.{Entry, putAll}
 use Rattle.cells.specs.EntriesLaws.{Sound, none, more, In, here, there}
-use Rattle.store.specs.Store.{heightOf, positions, factsInRange, storeSize, openAfter, opened}
+use Rattle.store.specs.Store.{heightOf, positions, factsInRange, storeSize, openAfter, opened, Facts}
+use Rattle.marks.specs.Marks.{marksStart, marksPut}
+use Rattle.marks.specs.MarksLaws.{mark-in}
 use Rattle.store.specs.StoreLaws.{cells-within, store-size-some, positions-some}
 use Rattle.tree.specs.Geometry.{blockCount, height}
 use Rattle.messages.specs.Take.{settled, placeIn, takeNumber, takeAfter}
@@ -24,7 +26,7 @@ use Rattle.pieces.specs.Pieces.{layerSettled, layerNumber, layerAfter}
 use Rattle.pieces.specs.PiecesLaws.{layer-loads, loads-layered, layer-refused, layer-taken}
 use Rattle.words.specs.History.{Bytes, OurStore, ours}
 use Rattle.knowledge.specs.Through.{through}
-use Rattle.knowledge.specs.Invariant.{Ours, message-whole, layer-whole, ours-opened, ours-take, ours-layer, ours-moved}
+use Rattle.knowledge.specs.Invariant.{Ours, message-whole, layer-whole, ours-opened, ours-take, ours-layer, ours-moved, ours-marks}
 use Rattle.knowledge.specs.Conflict.{sized-bytes, message-octets, layer-gives-octets}
 
 pasted-bytes : (s : List ℕ) (at : ℕ) (h : List ℕ) → at + length h ≤ length s → Bytes s → Bytes h → Bytes (pasted s at h)
@@ -118,6 +120,13 @@ bytes-layer s l o bs bl =
       | no ne ↦ rw (layer-refused s l ne) bs
     ]
 
+-- so do marks
+bytes-marks : (s : List ℕ) (i n x : ℕ) → Facts s → i + n ≤ 2 ^ heightOf s → x < 256 → Bytes s → Bytes (marksPut s i n x)
+unfolding marksPut
+bytes-marks s i n x f l o bs =
+    pasted-bytes s (marksStart s + i) (replicate n x) (omega (arith, mark-in s f, length-replicate {A = ℕ} n x)) bs
+    (record { size = refl; bytes = λ j a. let w = getD-replicate {A = ℕ} n j x 0 (omega (arith, length-replicate {A = ℕ} n x)) in omega arith })
+
 -- a store that only this build has written has the four clauses, and is a string of bytes
 ours-both : {t : List ℕ} → OurStore t → Ours t × Bytes t
 ours-both (ours b n plen root bytes o z h) =
@@ -125,6 +134,7 @@ ours-both (ours b n plen root bytes o z h) =
     (record {
       taken = λ s m bm w. (ours-take s m (w .0), bytes-take s m (w .0) (w .1) bm);
       loaded = λ s l bl w. (ours-layer s l (w .0), bytes-layer s l (w .0) (w .1) bl);
+      remarked = λ s i n x f l o w. (ours-marks s i n x (w .0) l, bytes-marks s i n x f l o (w .1));
       moved = λ s t bt e w. (ours-moved s t (w .0) e, bt);
     })
     h (ours-opened b n plen root (o .size) z, bytes-opened b n plen root bytes o)

@@ -116,8 +116,8 @@ usable-exactly s = (
 )
 
 module _ (n plen : ℕ) where
-  -- THE SIZE OF A STORE is 33·(2·2^h − 1) + 64 where the facts are in range,
-  pub size-is : InRange n plen → sizeAnswer n plen ≡ done (33 * (2 * 2 ^ height (blockCount n) - 1) + 64)
+  -- THE SIZE OF A STORE is 33·(2·2^h − 1) + 64 + 2^h where the facts are in range,
+  pub size-is : InRange n plen → sizeAnswer n plen ≡ done (33 * (2 * 2 ^ height (blockCount n) - 1) + 64 + 2 ^ height (blockCount n))
   unfolding sizeAnswer storeSize positions
   size-is r = rw (range-exactly n plen .1 r)
 

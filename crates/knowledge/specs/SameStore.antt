@@ -5,24 +5,27 @@ use mathlib.Core.Path.{_≡_, refl, ap, sym, _∙_}
 use mathlib.Core.Bool.{true}
 use mathlib.Core.List.{List}
 use mathlib.Core.Logic.{inl, inr}
-use Prim.Native.Nat.{ℕ, _+_, _*_, _≤_, _<_}
+use Prim.Native.Nat.{ℕ, _+_, _*_, _^_, _≤_, _<_}
 use native.Mathlib.Omega.{arith}
-use native.Mathlib.Decide.{decLt}
+use native.Mathlib.Decide.{ℕ-discrete, decLt}
 use lib.ListN.{length, getD}
-use lib.Seq.{ext-getD}
-use Rattle.octets.specs.Octets.{cut}
-use Rattle.octets.specs.OctetsLaws.{cut-length, getD-cut}
 use Rattle.numbers.specs.declared.Answer.{Answer}
 use Rattle.sha256.specs.declared.Hashed.{Hashed}
 use Rattle.store.specs.Store.{usable, fileLength, heightOf, positions, storeSize, Facts}
 use Rattle.store.specs.StoreLaws.{own-cells, usable-facts, facts-usable, used-same, used-facts, used-answer}
 use Rattle.messages.specs.Take.{takeAfter}
 use Rattle.serve.specs.Serve.{serveAfter}
-use Rattle.pieces.specs.Pieces.{layerAfter, blockAnswer, pieceAnswer}
-use Rattle.words.specs.History.{Call, take, takeReject, serve, held, loadLayer, judgeBlock, judgePiece, reopen, answer, after, Opening, SameStore}
+use Rattle.pieces.specs.Pieces.{layerAfter, blockNumber, blockAnswer, blockAfter, pieceNumber, pieceAnswer, pieceAfter}
+use Rattle.pieces.specs.MarkedLaws.{block-fits, block-marks, block-stays, piece-fits, piece-marks, piece-stays}
+use Rattle.marks.specs.Marks.{marked, cleared, marksPut, blockThere, clearAnswer, clearAfter, firstBlock, blocksIn}
+use Rattle.marks.specs.MarksLaws.{marks-behind, marks-end, marks-facts, marks-same-facts, there-fits}
+use Rattle.knowledge.specs.MarksBeyond.{there-beyond, marked-beyond, field-beyond, covered-beyond, marks-beyond}
+use Rattle.knowledge.specs.Through.{clear-writes, clear-stays}
+use Rattle.words.specs.History.{Call, take, takeReject, serve, held, loadLayer, judgeBlock, judgePiece, clear, isMarked, bitfield, reopen, answer, after, Opening, SameStore}
 use Rattle.knowledge.specs.BytesLeft.{SameCells}
 use Rattle.knowledge.specs.Grows.{Grown, grown-take, grown-layer}
-use Rattle.knowledge.specs.Beyond.{same-byte, take-answer-beyond, reject-beyond, serve-beyond, layer-answer-beyond, block-beyond, piece-beyond, take-leaves-alike, layer-leaves-alike, take-past, layer-past}
+use Rattle.knowledge.specs.Alike.{alike, same-byte, same-front}
+use Rattle.knowledge.specs.Beyond.{take-answer-beyond, reject-beyond, serve-beyond, layer-answer-beyond, block-beyond, piece-beyond, take-leaves-alike, layer-leaves-alike, take-past, layer-past}
 use Rattle.knowledge.specs.RootAlone.{usable-exactly}
 
 -- two memories that agree byte for byte up to the size
@@ -32,17 +35,7 @@ same-by-bytes s t us ut n f =
     let a : storeSize (fileLength s) ≤ length s = usable-exactly s .0 us .1 in
     let b : storeSize (fileLength t) ≤ length t = usable-exactly t .0 ut .1 in
     let q : storeSize (fileLength t) ≡ storeSize (fileLength s) = ap storeSize n in
-    let ls = cut-length s 0 (storeSize (fileLength s)) (omega arith) in
-    let lt = cut-length t 0 (storeSize (fileLength s)) (omega arith) in
-    record {
-      store = us;
-      bytes = ext-getD 0 (cut t 0 (storeSize (fileLength s))) (cut s 0 (storeSize (fileLength s))) (lt ∙ sym ls)
-          (λ i l.
-          let c : i < storeSize (fileLength s) = omega arith in
-          let z : 0 + i ≡ i = omega arith in
-          let g : (u : List ℕ) → getD (cut u 0 (storeSize (fileLength s))) i 0 ≡ getD u i 0 = λ u. getD-cut u 0 (storeSize (fileLength s)) i c ∙ ap (λ (x : ℕ). getD u x 0) z in
-          g t ∙ f i c ∙ sym (g s));
-    }
+    record { store = us; bytes = same-front s t (storeSize (fileLength s)) a (omega arith) f }
 
 -- what a call that writes cells alone leaves of one store in two memories is one store
 module _ (s t s₁ t₁ : List ℕ) (S : SameStore s t) (gs : Grown s s₁) (gt : Grown t t₁) (cells : SameCells (positions (heightOf s)) s₁ t₁)
@@ -73,45 +66,114 @@ module _ (s t : List ℕ) (S : SameStore s t) where
   pub usable-there : usable t ≡ true
   usable-there = facts-usable t there
 
+  -- marks written into both leave one store,
+  marks-same : (i n x : ℕ) → i + n ≤ 2 ^ heightOf s → SameStore (marksPut s i n x) (marksPut t i n x)
+  marks-same i n x l =
+      let h : 2 ^ heightOf t ≡ 2 ^ heightOf s = ap (λ (k : ℕ). 2 ^ k) (used-same s t facts (S .bytes) .layers) in
+      let l′ : i + n ≤ 2 ^ heightOf t = omega arith in
+      let a = marks-same-facts s facts i n x l .file in
+      let q : storeSize (fileLength (marksPut s i n x)) ≡ storeSize (fileLength s) = ap storeSize a in
+      same-by-bytes (marksPut s i n x) (marksPut t i n x) (facts-usable (marksPut s i n x) (marks-facts s facts i n x l)) (facts-usable (marksPut t i n x) (marks-facts t there i n x l′))
+      (marks-same-facts t there i n x l′ .file ∙ used-same s t facts (S .bytes) .file ∙ sym a)
+      (λ j b. marks-beyond s t facts (S .bytes) i n x l j (omega arith))
+
+  block-same : (i : ℕ) (d : List ℕ) → SameStore (blockAfter s i d) (blockAfter t i d)
+  block-same i d =
+      let k = block-beyond s t facts (alike s t facts (S .bytes)) i d in
+      elim (ℕ-discrete (blockNumber s i d) 0) [
+        | yes z ↦ rw (block-marks s i d z, block-marks t i d (k ∙ z)) (marks-same i 1 marked (block-fits s i d z))
+        | no ne ↦ rw (block-stays s i d ne, block-stays t i d (λ w. ne (sym k ∙ w))) S
+      ]
+
+  piece-same : (i : ℕ) (d : List ℕ) → SameStore (pieceAfter s i d) (pieceAfter t i d)
+  piece-same i d =
+      let k = piece-beyond s t facts (alike s t facts (S .bytes)) i d in
+      let c = covered-beyond s t facts (S .bytes) i in
+      elim (ℕ-discrete (pieceNumber s i d) 0) [
+        | yes z ↦ rw (piece-marks s i d z, piece-marks t i d (k ∙ z), c .0, c .1) (marks-same (firstBlock s i) (blocksIn s i) marked (piece-fits s i d z))
+        | no ne ↦ rw (piece-stays s i d ne, piece-stays t i d (λ w. ne (sym k ∙ w))) S
+      ]
+
+  clear-same : (i : ℕ) → SameStore (clearAfter s i) (clearAfter t i)
+  clear-same i =
+      let k = there-beyond s t facts (S .bytes) i in
+      elim (ℕ-discrete (blockThere s i) 0) [
+        | yes z ↦ rw (clear-writes s i z, clear-writes t i (k ∙ z)) (marks-same i 1 cleared (let w = there-fits s i z in omega arith))
+        | no ne ↦ rw (clear-stays s i ne, clear-stays t i (λ w. ne (sym k ∙ w))) S
+      ]
+
   -- every call but an opening answers the same,
   pub answers-alike : (c : Call) → (Opening c → ⊥) → answer c t ≡ answer c s
-  unfolding blockAnswer pieceAnswer
-  answers-alike (take m b) x = ap (λ (a : Answer). inl a) (take-answer-beyond s t facts (S .bytes) m)
-  answers-alike (takeReject m b) x = ap (λ (a : Answer). inl a) (reject-beyond s t facts (S .bytes) m)
-  answers-alike (serve m out b c) x = ap (λ (a : Answer). inl a) (serve-beyond s t facts (S .bytes) m out .0)
+  unfolding blockAnswer pieceAnswer clearAnswer
+  answers-alike (take m b) x = ap (λ (a : Answer). inl a) (take-answer-beyond s t facts (alike s t facts (S .bytes)) m)
+  answers-alike (takeReject m b) x = ap (λ (a : Answer). inl a) (reject-beyond s t facts (alike s t facts (S .bytes)) m)
+  answers-alike (serve m out b c) x = ap (λ (a : Answer). inl a) (serve-beyond s t facts (alike s t facts (S .bytes)) m out .0)
   answers-alike (held l i) x = ap (λ (h : Hashed). inr h) (used-answer s t facts (S .bytes) l i)
-  answers-alike (loadLayer l b) x = ap (λ (a : Answer). inl a) (layer-answer-beyond s t facts (S .bytes) l)
-  answers-alike (judgeBlock i d b) x = ap (λ (n : ℕ). inl (record { number = n; count = 0 })) (block-beyond s t facts (S .bytes) i d)
-  answers-alike (judgePiece i d b) x = ap (λ (n : ℕ). inl (record { number = n; count = 0 })) (piece-beyond s t facts (S .bytes) i d)
+  answers-alike (loadLayer l b) x = ap (λ (a : Answer). inl a) (layer-answer-beyond s t facts (alike s t facts (S .bytes)) l)
+  answers-alike (judgeBlock i d b) x = ap (λ (n : ℕ). inl (record { number = n; count = 0 })) (block-beyond s t facts (alike s t facts (S .bytes)) i d)
+  answers-alike (judgePiece i d b) x = ap (λ (n : ℕ). inl (record { number = n; count = 0 })) (piece-beyond s t facts (alike s t facts (S .bytes)) i d)
+  answers-alike (clear i) x = ap (λ (n : ℕ). inl (record { number = n; count = 0 })) (there-beyond s t facts (S .bytes) i)
+  answers-alike (isMarked i) x = ap (λ (a : Answer). inl a) (marked-beyond s t facts (S .bytes) i)
+  answers-alike (bitfield out b) x = ap (λ (a : Answer). inl a) (field-beyond s t facts (S .bytes) out .0)
   answers-alike (reopen n plen root o) x = absurd (x tt)
 
   -- and leaves the same store;
   pub leaves-same : (c : Call) → (Opening c → ⊥) → SameStore (after c s) (after c t)
   leaves-same (take m b) x =
-      written-same s t (takeAfter s m) (takeAfter t m) S (grown-take s m facts) (grown-take t m there) (take-leaves-alike s t facts (S .bytes) m)
-      (take-past s s facts refl m) (take-past t t there refl m)
+      written-same s t (takeAfter s m) (takeAfter t m) S (grown-take s m facts) (grown-take t m there) (take-leaves-alike s t facts (alike s t facts (S .bytes)) m)
+      (take-past s s facts (alike s s facts refl) m) (take-past t t there (alike t t there refl) m)
   leaves-same (takeReject m b) x = S
   leaves-same (serve m out b c) x = S
   leaves-same (held l i) x = S
   leaves-same (loadLayer l b) x =
-      written-same s t (layerAfter s l) (layerAfter t l) S (grown-layer s l facts) (grown-layer t l there) (layer-leaves-alike s t facts (S .bytes) l)
-      (layer-past s s facts refl l) (layer-past t t there refl l)
-  leaves-same (judgeBlock i d b) x = S
-  leaves-same (judgePiece i d b) x = S
+      written-same s t (layerAfter s l) (layerAfter t l) S (grown-layer s l facts) (grown-layer t l there) (layer-leaves-alike s t facts (alike s t facts (S .bytes)) l)
+      (layer-past s s facts (alike s s facts refl) l) (layer-past t t there (alike t t there refl) l)
+  leaves-same (judgeBlock i d b) x = block-same i d
+  leaves-same (judgePiece i d b) x = piece-same i d
+  leaves-same (clear i) x = clear-same i
+  leaves-same (isMarked i) x = S
+  leaves-same (bitfield out b) x = S
   leaves-same (reopen n plen root o) x = absurd (x tt)
 
   -- what is served is the same too
   pub serves-alike : (m out : List ℕ) → serveAfter t m out ≡ serveAfter s m out
-  serves-alike m out = serve-beyond s t facts (S .bytes) m out .1
+  serves-alike m out = serve-beyond s t facts (alike s t facts (S .bytes)) m out .1
 
 -- the bytes behind the store's size stay
 module _ (s : List ℕ) (u : usable s ≡ true) where
+  marks-past : (i n x : ℕ) → i + n ≤ 2 ^ heightOf s → (j : ℕ) → storeSize (fileLength s) ≤ j → getD (marksPut s i n x) j 0 ≡ getD s j 0
+  marks-past i n x l j b = marks-behind s (usable-facts s u) i n x l j (omega (arith, marks-end s))
+
+  block-past : (i : ℕ) (d : List ℕ) (j : ℕ) → storeSize (fileLength s) ≤ j → getD (blockAfter s i d) j 0 ≡ getD s j 0
+  block-past i d j b =
+      elim (ℕ-discrete (blockNumber s i d) 0) [
+        | yes z ↦ rw (block-marks s i d z) (marks-past i 1 marked (block-fits s i d z) j b)
+        | no ne ↦ rw (block-stays s i d ne)
+      ]
+
+  piece-past : (i : ℕ) (d : List ℕ) (j : ℕ) → storeSize (fileLength s) ≤ j → getD (pieceAfter s i d) j 0 ≡ getD s j 0
+  piece-past i d j b =
+      elim (ℕ-discrete (pieceNumber s i d) 0) [
+        | yes z ↦ rw (piece-marks s i d z) (marks-past (firstBlock s i) (blocksIn s i) marked (piece-fits s i d z) j b)
+        | no ne ↦ rw (piece-stays s i d ne)
+      ]
+
+  clear-past : (i j : ℕ) → storeSize (fileLength s) ≤ j → getD (clearAfter s i) j 0 ≡ getD s j 0
+  clear-past i j b =
+      elim (ℕ-discrete (blockThere s i) 0) [
+        | yes z ↦ rw (clear-writes s i z) (marks-past i 1 cleared (let w = there-fits s i z in omega arith) j b)
+        | no ne ↦ rw (clear-stays s i ne)
+      ]
+
   pub behind-stays : (c : Call) → (Opening c → ⊥) → (i : ℕ) → storeSize (fileLength s) ≤ i → getD (after c s) i 0 ≡ getD s i 0
-  behind-stays (take m b) x i l = take-past s s (usable-facts s u) refl m i (omega (arith, own-cells s))
+  behind-stays (take m b) x i l = take-past s s (usable-facts s u) (alike s s (usable-facts s u) refl) m i (omega (arith, own-cells s))
   behind-stays (takeReject m b) x i l = refl
   behind-stays (serve m out b c) x i l = refl
   behind-stays (held j k) x i l = refl
-  behind-stays (loadLayer d b) x i l = layer-past s s (usable-facts s u) refl d i (omega (arith, own-cells s))
-  behind-stays (judgeBlock j d b) x i l = refl
-  behind-stays (judgePiece j d b) x i l = refl
+  behind-stays (loadLayer d b) x i l = layer-past s s (usable-facts s u) (alike s s (usable-facts s u) refl) d i (omega (arith, own-cells s))
+  behind-stays (judgeBlock j d b) x i l = block-past j d i l
+  behind-stays (judgePiece j d b) x i l = piece-past j d i l
+  behind-stays (clear j) x i l = clear-past j i l
+  behind-stays (isMarked j) x i l = refl
+  behind-stays (bitfield out b) x i l = refl
   behind-stays (reopen n plen root o) x i l = absurd (x tt)

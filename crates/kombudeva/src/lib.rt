@@ -8,7 +8,8 @@ ghost use Rattle.history.specs.Answers as W;
 ghost use Rattle.store.specs.Store.{sizeAnswer, openAnswer, openAfter, heldAnswer};
 ghost use Rattle.messages.specs.Take.{takeAnswer, takeAfter, rejectAnswer};
 ghost use Rattle.serve.specs.Serve.{serveAnswer, serveAfter};
-ghost use Rattle.pieces.specs.Pieces.{layerAnswer, layerAfter, blockAnswer, pieceAnswer};
+ghost use Rattle.marks.specs.Marks.{clearAnswer, clearAfter, markedAnswer, fieldAnswer, fieldAfter};
+ghost use Rattle.pieces.specs.Pieces.{layerAnswer, layerAfter, blockAnswer, blockAfter, pieceAnswer, pieceAfter};
 ghost use Rattle.torrent.specs.Torrent.{readOf, fileRead, pathRead};
 ghost use Rattle.catalogue.specs.Catalogue.{listAnswer, listAfter};
 ghost use Rattle.kombudeva.specs.Boundary.{countAnswer, hashAnswer, torrentAnswer, fileAnswer, partAnswer};
@@ -229,17 +230,38 @@ pub extern "C" fn kd_load_layer(s: &mut [u8], layer: &[u8]) -> CountAnswer
 }
 
 #[no_mangle]
-pub extern "C" fn kd_judge_block(s: &[u8], block: u64, bytes: &[u8]) -> CountAnswer
-    ensures { λ r. ⌜ r ≡ countAnswer (blockAnswer (now (s .entry)) block (now (bytes .entry))) ⌝ }
+pub extern "C" fn kd_judge_block(s: &mut [u8], block: u64, bytes: &[u8]) -> CountAnswer
+    ensures { λ r. ⌜ (r ≡ countAnswer (blockAnswer (now (s .entry)) block (now (bytes .entry)))) × (now (s .exit) ≡ blockAfter (now (s .entry)) block (now (bytes .entry))) ⌝ }
 {
     count_answer(pieces::judge_block(s, block as usize, bytes))
 }
 
 #[no_mangle]
-pub extern "C" fn kd_judge_piece(s: &[u8], piece: u64, bytes: &[u8]) -> CountAnswer
-    ensures { λ r. ⌜ r ≡ countAnswer (pieceAnswer (now (s .entry)) piece (now (bytes .entry))) ⌝ }
+pub extern "C" fn kd_judge_piece(s: &mut [u8], piece: u64, bytes: &[u8]) -> CountAnswer
+    ensures { λ r. ⌜ (r ≡ countAnswer (pieceAnswer (now (s .entry)) piece (now (bytes .entry)))) × (now (s .exit) ≡ pieceAfter (now (s .entry)) piece (now (bytes .entry))) ⌝ }
 {
     count_answer(pieces::judge_piece(s, piece as usize, bytes))
+}
+
+#[no_mangle]
+pub extern "C" fn kd_marked(s: &[u8], block: u64) -> CountAnswer
+    ensures { λ r. ⌜ r ≡ countAnswer (markedAnswer (now (s .entry)) block) ⌝ }
+{
+    count_answer(marks::marked_block(s, block as usize))
+}
+
+#[no_mangle]
+pub extern "C" fn kd_clear(s: &mut [u8], block: u64) -> CountAnswer
+    ensures { λ r. ⌜ (r ≡ countAnswer (clearAnswer (now (s .entry)) block)) × (now (s .exit) ≡ clearAfter (now (s .entry)) block) ⌝ }
+{
+    count_answer(marks::clear_mark(s, block as usize))
+}
+
+#[no_mangle]
+pub extern "C" fn kd_bitfield(s: &[u8], out: &mut [u8]) -> CountAnswer
+    ensures { λ r. ⌜ (r ≡ countAnswer (fieldAnswer (now (s .entry)) (now (out .entry)))) × (now (out .exit) ≡ fieldAfter (now (s .entry)) (now (out .entry))) ⌝ }
+{
+    count_answer(marks::bitfield(s, out))
 }
 
 #[no_mangle]

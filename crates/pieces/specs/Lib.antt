@@ -1,3 +1,4 @@
 pub mod Pieces
 pub mod Asks
 pub mod PiecesLaws
+pub mod MarkedLaws

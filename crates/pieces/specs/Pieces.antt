@@ -1,4 +1,5 @@
--- 01, "Loading a piece layer" and "Block and piece": what each gets, in the order 9, 3, 4, 6, 7, 8, and what it leaves.
+-- 01, "Loading a piece layer" and "Block and piece": what each gets, in the order 9, 3, 4, 6, 7, 8, and what it leaves; 02, request 7: the
+-- marks that a judgement sets. What a block or a piece gets is a matter of the cells alone.
 -- Assumes nothing.
 use mathlib.Core.List.{List}
 use mathlib.Core.Bool.{Bool, true, false, cond}
@@ -14,6 +15,7 @@ use Rattle.tree.specs.Values.{node, leafOf, layerLeaf}
 use Rattle.cells.specs.Cells.{heldAt, hashAt}
 use Rattle.cells.specs.Entries.{Entry, agrees, putAll, newly}
 use Rattle.store.specs.Store.{usable, fileLength, pieceLength, blocksOf, heightOf, positions}
+use Rattle.marks.specs.Marks.{marked, marksPut, firstBlock, blocksIn}
 use Rattle.settling.specs.Subtree.{subtree}
 
 -- position n, against a subtree of height k over given leaves
@@ -62,6 +64,10 @@ blockNumber s i block =
 unfoldable pub blockAnswer : List ℕ → ℕ → List ℕ → Answer
 blockAnswer s i block = record { number = blockNumber s i block; count = 0 }
 
+-- on 0 its mark is set; no other number changes a byte
+unfoldable pub blockAfter : List ℕ → ℕ → List ℕ → List ℕ
+blockAfter s i block = cond (eqb (blockNumber s i block) 0) (marksPut s i 1 marked) s
+
 -- ---- judging a piece, against its node in layer p, or the root if the file isn't longer than the piece length
 
 unfoldable pub pieceHeight : List ℕ → ℕ
@@ -79,3 +85,7 @@ pieceNumber s i piece =
 
 unfoldable pub pieceAnswer : List ℕ → ℕ → List ℕ → Answer
 pieceAnswer s i piece = record { number = pieceNumber s i piece; count = 0 }
+
+-- on 0 the mark of each block that it covers is set
+unfoldable pub pieceAfter : List ℕ → ℕ → List ℕ → List ℕ
+pieceAfter s i piece = cond (eqb (pieceNumber s i piece) 0) (marksPut s (firstBlock s i) (blocksIn s i) marked) s

@@ -13,7 +13,7 @@ use lib.Dec.{eqb, ltb}
 use lib.Pow.{pow-pos, pow-mono, pow-add}
 use borrow.Author.Tests.{ltb-true, ltb-false, eqb-true, lt-ltb, eq-eqb, ne-eqb}
 use Rattle.tree.specs.Geometry.{blockLength, Padding, covering, nodeNumber, hasLayer, pieceCount, blockSize, pieceSize}
-use Rattle.tree.specs.GeometryLaws.{ceil-least, covering-most, covering-within, covering-until-padding, long-file-height, node-number-root, node-number-range, node-number-layer, node-number-covers, piece-length-form, pieces-covering}
+use Rattle.tree.specs.GeometryLaws.{ceil-least, covering-most, covering-within, covering-until-padding, long-file-height, node-number-root, node-number-range, node-number-layer, node-number-covers, piece-length-form}
 use Rattle.tree.specs.Values.{node, padValue, leafOf, layerLeaf, layerRoot}
 use Rattle.tree.specs.ValuesLaws.{pad-octets, node-padding, layer-leaf-past}
 use Rattle.cells.specs.Cells.{Room, heldAt, hashAt}
@@ -41,8 +41,8 @@ module _ (s : List ℕ) (f : Facts s) where
 
   -- the pieces are the positions of layer p that aren't padding
   pub pieces-are : pieceCount (fileLength s) (pieceLength s) ≡ covering (blocksOf s) (layerOfPieces s)
-  unfolding blocksOf
-  pieces-are = ap (pieceCount (fileLength s)) plen-form ∙ pieces-covering (fileLength s) (layerOfPieces s)
+  unfolding layerOfPieces
+  pieces-are = Rattle.marks.specs.MarksLaws.pieces-are s f
 
   -- so there are no more than the tallest tree has leaves
   pub pieces-few : pieceCount (fileLength s) (pieceLength s) ≤ 2 ^ tallestTree

@@ -15,6 +15,9 @@ ghost use Rattle.settling.specs.Span.{Fit};
 ghost use Rattle.settling.specs.Subtree.{runLeaf};
 ghost use Rattle.pieces.specs.Pieces as P;
 ghost use Rattle.pieces.specs.Asks.{Layered, PieceIn};
+use marks::blocks_in;
+use marks::first_block;
+use marks::put_marks;
 use numbers::Answer;
 use settling::Seen;
 use settling::look_data;
@@ -172,12 +175,16 @@ fn block_number(s: &[u8], block: usize, bytes: &[u8]) -> u32
     numbers::UNUSABLE
 }
 
-// Judges a block's bytes against the leaf held for it. Nothing becomes held, so the count is 0.
-pub fn judge_block(s: &[u8], block: usize, bytes: &[u8]) -> Answer
-    ensures { λ r. ⌜ r ≡ P.blockAnswer (now (s .entry)) block (now (bytes .entry)) ⌝ }
+// Judges a block's bytes against the leaf held for it, and marks the block on 0. Nothing becomes held, so the count is 0.
+pub fn judge_block(s: &mut [u8], block: usize, bytes: &[u8]) -> Answer
+    ensures { λ r. ⌜ (r ≡ P.blockAnswer (now (s .entry)) block (now (bytes .entry))) × (now (s .exit) ≡ P.blockAfter (now (s .entry)) block (now (bytes .entry))) ⌝ }
 {
     let number = block_number(s, block, bytes);
-    Answer { number, count: 0 }
+    if number == 0 {
+        put_marks(s, block, 1, 1);
+        return numbers::success(0);
+    }
+    numbers::refusal(number)
 }
 
 // ---- a piece
@@ -229,10 +236,16 @@ fn piece_number(s: &[u8], piece: usize, bytes: &[u8]) -> u32
     numbers::UNUSABLE
 }
 
-// Judges a piece's bytes against the node held for it. Nothing becomes held, so the count is 0.
-pub fn judge_piece(s: &[u8], piece: usize, bytes: &[u8]) -> Answer
-    ensures { λ r. ⌜ r ≡ P.pieceAnswer (now (s .entry)) piece (now (bytes .entry)) ⌝ }
+// Judges a piece's bytes against the node held for it, and marks its blocks on 0. Nothing becomes held, so the count is 0.
+pub fn judge_piece(s: &mut [u8], piece: usize, bytes: &[u8]) -> Answer
+    ensures { λ r. ⌜ (r ≡ P.pieceAnswer (now (s .entry)) piece (now (bytes .entry))) × (now (s .exit) ≡ P.pieceAfter (now (s .entry)) piece (now (bytes .entry))) ⌝ }
 {
     let number = piece_number(s, piece, bytes);
-    Answer { number, count: 0 }
+    if number == 0 {
+        let first = first_block(s, piece);
+        let n = blocks_in(s, piece);
+        put_marks(s, first, n, 1);
+        return numbers::success(0);
+    }
+    numbers::refusal(number)
 }

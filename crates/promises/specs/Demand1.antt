@@ -34,8 +34,8 @@ size-in-table = Rattle.knowledge.specs.InTable.size-in-table
 pub refusal-leaves-store : (c : Call) (s : List ℕ) → (number c s ≡ 0 → ⊥) → after c s ≡ s
 refusal-leaves-store = Rattle.knowledge.specs.InTable.refused-leaves
 
--- "save for the reject message that a refused request gets.": of the output, which kd_serve alone is lent to write. It has the reply; or the
--- reject beside 2, 3 or 12; or stays as it is
+-- "save for the reject message that a refused request gets.": of kd_serve's output. It has the reply; or the reject beside 2, 3 or 12; or
+-- stays as it is. (The other output lent to a call on a store is kd_bitfield's: `field-refused` in Marks.)
 pub request-answered : (s m out : List ℕ) → ServeOutcome s m out
 request-answered = Rattle.knowledge.specs.Refusals.served
 
@@ -49,8 +49,8 @@ beside-sha256 = Rattle.knowledge.specs.InTable.no-hash-beside-4
 pub beside-size : (n plen : ℕ) → (sizeAnswer n plen .number ≡ 0 → ⊥) → sizeAnswer n plen .count ≡ 0
 beside-size = Rattle.knowledge.specs.InTable.no-size-beside-10
 
--- 01: a store "uses exactly the first 33·(2·2^h − 1) + 64 bytes" (the size: EachNumber.size-0): of two memories that agree up to there both
--- are usable, and every call but an opening answers the same, leaves the same store and sends the same bytes;
+-- 01: a store "uses exactly the first 33·(2·2^h − 1) + 64 bytes", and with the marks 2^h more (the size: EachNumber.size-0): of two memories
+-- that agree up to there both are usable, and every call but an opening answers the same, leaves the same store and sends the same bytes;
 pub usable-there : {s t : List ℕ} → SameStore s t → usable t ≡ true
 usable-there {s} {t} = Rattle.knowledge.specs.SameStore.usable-there s t
 

@@ -1,4 +1,5 @@
--- 01, "Numbers given back": each number by entry point, exactly when it is given, in the order of 01. "Held" is what kd_held answers.
+-- 01, "Numbers given back", and 02, request 7: each number by entry point, exactly when it is given, in the order of 01. "Held" is what
+-- kd_held answers.
 -- (The numbers of the torrent calls: crates/torrent.)
 -- Assumes nothing.
 use mathlib.Core.Path.{_≡_, refl}
@@ -21,6 +22,7 @@ use Rattle.settling.specs.Path.{sibling}
 use Rattle.header.specs.Header.{requestId, rejectId, headerSize, headerOf, messageRoot, messageSize, Kept}
 use Rattle.messages.specs.Take.{takeAnswer, rejectAnswer}
 use Rattle.serve.specs.Serve.{serveAnswer}
+use Rattle.marks.specs.Marks.{clearAnswer, markedAnswer, fieldSize, fieldAnswer}
 use Rattle.pieces.specs.Pieces.{layerAnswer, blockAnswer, pieceHeight, pieceAnswer}
 use Rattle.words.specs.Held.{Holds, Lacks, Position, Fits, Misfits, Clashes}
 use Rattle.words.specs.Messages.{unclesIn, hashIn, topLayer, topIndex, inRun, asUncle, OtherForm, Readable, Addressed, Ruled, WellFormed, PaddingWrong, Acceptable, Unanchored, Elsewhere, Conflicting, Form, ValidHeader, AllGiven, NoRoomFor}
@@ -59,7 +61,7 @@ module _ (n plen : ℕ) where
   pub size-10 : (InRange n plen → ⊥) → sizeAnswer n plen ≡ refused factsOutOfRange
   size-10 = Rattle.knowledge.specs.RootAlone.size-is-10 n plen
 
-  pub size-0 : InRange n plen → sizeAnswer n plen ≡ done (33 * (2 * 2 ^ height (blockCount n) - 1) + 64)
+  pub size-0 : InRange n plen → sizeAnswer n plen ≡ done (33 * (2 * 2 ^ height (blockCount n) - 1) + 64 + 2 ^ height (blockCount n))
   size-0 = Rattle.knowledge.specs.RootAlone.size-is n plen
 
 -- ---- kd_open: 10, 9, 0; a buffer is usable exactly if it names facts in range and has their room
@@ -308,3 +310,44 @@ module _ (s : List ℕ) (i : ℕ) (piece : List ℕ) where
   pub piece-0 : (pieceAnswer s i piece .number ≡ 0) ↔ (PieceFormed s i piece × Fits s (PieceSettles s i piece) (pieceHeight s) i)
   unfolding pieceAnswer
   piece-0 = Rattle.knowledge.specs.JudgedWhen.piece-0 s i piece
+
+-- ---- kd_clear and kd_marked: 9, 3, 0
+
+module _ (s : List ℕ) (i : ℕ) where
+  pub clear-9 : (clearAnswer s i .number ≡ unusable) ↔ (usable s ≡ false)
+  unfolding clearAnswer
+  clear-9 = Rattle.knowledge.specs.MarkedWhen.there-9 s i
+
+  -- block number past the file
+  pub clear-3 : (clearAnswer s i .number ≡ ruleBroken) ↔ ((usable s ≡ true) × (blocksOf s ≤ i))
+  unfolding clearAnswer
+  clear-3 = Rattle.knowledge.specs.MarkedWhen.there-3 s i
+
+  -- marked or not
+  pub clear-0 : (clearAnswer s i .number ≡ 0) ↔ ((usable s ≡ true) × (i < blocksOf s))
+  unfolding clearAnswer
+  clear-0 = Rattle.knowledge.specs.MarkedWhen.there-0 s i
+
+  pub marked-9 : (markedAnswer s i .number ≡ unusable) ↔ (usable s ≡ false)
+  unfolding markedAnswer
+  marked-9 = Rattle.knowledge.specs.MarkedWhen.there-9 s i
+
+  pub marked-3 : (markedAnswer s i .number ≡ ruleBroken) ↔ ((usable s ≡ true) × (blocksOf s ≤ i))
+  unfolding markedAnswer
+  marked-3 = Rattle.knowledge.specs.MarkedWhen.there-3 s i
+
+  pub marked-0 : (markedAnswer s i .number ≡ 0) ↔ ((usable s ≡ true) × (i < blocksOf s))
+  unfolding markedAnswer
+  marked-0 = Rattle.knowledge.specs.MarkedWhen.there-0 s i
+
+-- ---- kd_bitfield: 9, 11, 0
+
+module _ (s out : List ℕ) where
+  pub field-9 : (fieldAnswer s out .number ≡ unusable) ↔ (usable s ≡ false)
+  field-9 = Rattle.knowledge.specs.MarkedWhen.field-9 s out
+
+  pub field-11 : (fieldAnswer s out .number ≡ noRoom) ↔ ((usable s ≡ true) × (length out < fieldSize s))
+  field-11 = Rattle.knowledge.specs.MarkedWhen.field-11 s out
+
+  pub field-0 : (fieldAnswer s out .number ≡ 0) ↔ ((usable s ≡ true) × (fieldSize s ≤ length out))
+  field-0 = Rattle.knowledge.specs.MarkedWhen.field-0 s out

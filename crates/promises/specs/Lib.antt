@@ -6,6 +6,8 @@ pub mod Demand3
 pub mod EachNumber
 pub mod FromRootToBlock
 pub mod Worked
+-- 02: marks
+pub mod Marks
 -- the premises can be met
 pub mod Blank
 pub mod TwoBlocks

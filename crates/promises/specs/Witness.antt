@@ -4,15 +4,18 @@
 use mathlib.Core.Path.{_≡_, refl, ap, sym, _∙_, subst}
 use mathlib.Core.Bool.{true}
 use mathlib.Core.List.{List, [], _∷_, _++_}
+use mathlib.Core.Logic.{inl}
 use Prim.Native.Nat.{ℕ, zero, suc, _+_, _-_, _≤_, _<_}
 use native.Mathlib.Omega.{arith}
-use lib.ListN.{length, getD, replicate, length-replicate}
+use lib.ListN.{length, getD, replicate, length-replicate, getD-replicate}
 use lib.Dec.{lit<}
 use Rattle.octets.specs.Octets.{Octets, be, zeroHash}
+use Rattle.numbers.specs.Numbers.{done}
 use Rattle.octets.specs.OctetsLaws.{same-eq, zero-octets, be-octets, append-octets, cut-append-left}
 use Rattle.sha256.specs.Sha256.{pairHash}
 use Rattle.sha256.specs.Sha256Laws.{pair-octets}
 use Rattle.tree.specs.Geometry.{nodeNumber, hasLayer, pieceCount, ceilDiv, blockCount, blockSize, heightFrom, height, pieceLayer, isPieceLength}
+use Rattle.tree.specs.GeometryLaws.{block-count-some}
 use Rattle.tree.specs.Values.{node, leafOf, blockOf, piecesRoot}
 use Rattle.tree.specs.ValuesLaws.{leaf-octets, leaf-block, block-bytes}
 use Rattle.cells.specs.Cells.{heldAt, hashAt}
@@ -20,7 +23,8 @@ use Rattle.cells.specs.Entries.{agreesAt, agrees}
 use Rattle.cells.specs.EntriesLaws.{agrees-held}
 use Rattle.settling.specs.Subtree.{subtree}
 use Rattle.store.specs.Store.{heightOf, fileLength, pieceLength, blocksOf, factsInRange, storeSize, openAfter, opened, heldAnswer, Facts}
-use Rattle.pieces.specs.Pieces.{layerOfPieces, blockNumber, pieceHeight, pieceNumber}
+use Rattle.pieces.specs.Pieces.{layerOfPieces, blockNumber, blockAnswer, blockAfter, pieceHeight, pieceNumber}
+use Rattle.marks.specs.Marks.{markedAnswer}
 use Rattle.store.specs.StoreLaws.{opened-piece, facts-usable, usable-facts, opened-usable, opened-file, opened-facts-root}
 use Rattle.header.specs.declared.Header.{Header}
 use Rattle.header.specs.declared.Place.{Place}
@@ -28,7 +32,7 @@ use Rattle.header.specs.Header.{hashesId, headerOf, isHashes}
 use Rattle.messages.specs.Take.{given, placeIn, takeNumber, takeAfter}
 use Rattle.messages.specs.TakeLaws.{passed}
 use Rattle.words.specs.Held.{Holds}
-use Rattle.words.specs.History.{Bytes, take, call, lent, begin, next, OurStore, ours}
+use Rattle.words.specs.History.{Bytes, take, judgeBlock, call, lent, begin, next, OurStore, ours}
 use Rattle.words.specs.Messages.{hashIn, anchorLayer, anchorIndex, Settles, inRun, parent}
 use Rattle.words.specs.File.{For, pieceFor, TrueHashes}
 use Rattle.knowledge.specs.Again.{what-is-held}
@@ -40,11 +44,12 @@ use Rattle.knowledge.specs.Positions.{given-is}
 use Rattle.knowledge.specs.HeldAfter.{settles-then-holds}
 use Rattle.knowledge.specs.Conflict.{sized-bytes}
 use Rattle.knowledge.specs.OwnBytes.{ours-have, ours-bytes}
-use Rattle.knowledge.specs.RootToBlock.{treeOf, same-height, agreed-piece}
+use Rattle.knowledge.specs.RootToBlock.{block-octets, treeOf, same-height, agreed-piece}
 use Rattle.promises.specs.Blank.{blank, blank-room, blank-bytes, blank-opens}
 use Rattle.promises.specs.Example.{twoLeaves, header-two, first, second, two-taken, two-well-formed, two-place}
 use Rattle.promises.specs.TwoBlocks.{range, opens, open-is}
 use Rattle.knowledge.specs.FormedWhen.{well-formed}
+use Rattle.promises.specs.Marks.{marked-after}
 
 -- the message is a string of bytes
 one-byte : Octets 1 (hashesId ∷ [])
@@ -352,3 +357,27 @@ module _ (file buffer : List ℕ) (two-blocks : length file ≡ 32768) (bytes : 
 pub a-store-after-its-leaves :
     MetAfter (replicate 32768 0) (takeAfter (openAfter (blank 32768) 32768 16384 (pairHash (leafOf (replicate 32768 0) 0) (leafOf (replicate 32768 0) 1))) (twoLeaves (leafOf (replicate 32768 0) 0) (leafOf (replicate 32768 0) 1)))
 a-store-after-its-leaves = met-after (replicate 32768 0) (blank 32768) (length-replicate {A = ℕ} 32768 0) (blank-bytes 32768) (blank-room 32768)
+
+-- a block answered 0 is marked then
+judged-marked : {file s : List ℕ} → Bytes (blockOf file 0) → MetAfter file s → markedAnswer (blockAfter s 0 (blockOf file 0)) 0 ≡ done 1
+unfolding blockAnswer
+judged-marked {file} {s} b w =
+    marked-after s (block-0 s 0 (blockOf file 0) .0 (w .block) .0 .store) (judgeBlock 0 (blockOf file 0) b) (λ o. absurd o) 0 .1 (inl (refl, w .block))
+
+zeros : (n : ℕ) → Bytes (replicate n 0)
+zeros n = record { size = refl; bytes = λ j a. let w = getD-replicate {A = ℕ} n j 0 0 (omega (arith, length-replicate {A = ℕ} n 0)) in omega arith }
+
+first-block : (n : ℕ) → 1 ≤ n → Bytes (blockOf (replicate n 0) 0)
+first-block n l =
+    sized-bytes (blockSize (length (replicate n 0)) 0) (blockOf (replicate n 0) 0)
+    (block-octets (replicate n 0) 0 (zeros n) (block-count-some (length (replicate n 0)) (omega (arith, length-replicate {A = ℕ} n 0))))
+
+-- so a mark can be had
+pub a-marked-block :
+    markedAnswer
+    (blockAfter
+    (takeAfter (openAfter (blank 32768) 32768 16384 (pairHash (leafOf (replicate 32768 0) 0) (leafOf (replicate 32768 0) 1))) (twoLeaves (leafOf (replicate 32768 0) 0) (leafOf (replicate 32768 0) 1)))
+    0 (blockOf (replicate 32768 0) 0))
+    0
+    ≡ done 1
+a-marked-block = judged-marked (first-block 32768 (lit< tt)) a-store-after-its-leaves

@@ -179,7 +179,7 @@ refused-0-large-2-0 s m u n r e = broken-3 s m u r (of-five s m (header 0 429496
 
 -- N=2^34: B=2^20, h=20, and the store's bytes; with one byte more the tree would have height 21, and the length is out of range
 pub n-longest :
-    (blockCount (2 ^ 34) ≡ 2 ^ 20) × (height (2 ^ 20) ≡ 20) × (storeSize (2 ^ 34) ≡ 69206047) × (height (blockCount (2 ^ 34 + 1)) ≡ 21)
+    (blockCount (2 ^ 34) ≡ 2 ^ 20) × (height (2 ^ 20) ≡ 20) × (storeSize (2 ^ 34) ≡ 70254623) × (height (blockCount (2 ^ 34 + 1)) ≡ 21)
     × (factsInRange (2 ^ 34) 16384 ≡ true) × (factsInRange (2 ^ 34 + 1) 16384 ≡ false)
 unfolding ceilDiv blockCount heightFrom height storeSize positions factsInRange pieceLayer isPieceLength
 n-longest = (refl, refl, refl, refl, refl, refl)

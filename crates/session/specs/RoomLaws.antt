@@ -15,7 +15,7 @@ use Rattle.session.specs.Session.{maxBlocks, maxStore}
 use Rattle.session.specs.Lines.{lines, linesFrom}
 
 -- the store's bytes, counted
-pub max-store : maxStore ≡ 33823
+pub max-store : maxStore ≡ 34335
 unfolding storeSize positions height heightFrom blockCount ceilDiv
 max-store = refl
 

@@ -60,7 +60,7 @@ const MAX_HASHES: usize = 528;
 pub const MAX_MESSAGE: usize = HEADER_SIZE + 32 * MAX_HASHES;
 
 // The bytes of a store for as many blocks; the lent store has at least as many.
-pub const MAX_STORE: usize = 33823;
+pub const MAX_STORE: usize = 34335;
 
 // A store's bytes for any file that the replay takes, to lend.
 pub fn new_store() -> [u8; MAX_STORE]

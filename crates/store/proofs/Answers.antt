@@ -6,7 +6,7 @@ use Prim.Native.Nat.{ℕ, _+_, _-_, _*_, _%_, _^_, _≤_, _<_}
 use native.Mathlib.Omega.{arith}
 use lib.ListN.{length}
 use lib.Dec.{leb, ltb}
-use lib.Pow.{shl-exact}
+use lib.Pow.{shl-exact, pow-mono}
 use borrow.Author.Tests.{le-leb}
 use Rattle.octets.specs.Octets.{pasted, be, zeroed}
 use Rattle.octets.specs.OctetsLaws.{pasted-append, zeroed-length}
@@ -40,11 +40,20 @@ module _ (n b h : ℕ) (most : n ≤ longestFile) (blocks : b ≡ blockCount n) 
   pub size-small : (positions h ≤ 2 * 2 ^ tallestTree) × (2 ≤ positions h)
   size-small = (positions-most h size-height, positions-some h)
 
-  -- and gives the size
-  pub size-worked : (p : ℕ) → p ≡ positions h → 33 * (p - 1) + 64 ≡ storeSize n
+  -- so does the other,
+  pub size-leaves : (1 * 2 ^ h) % 18446744073709551616 ≡ 2 ^ h
+  size-leaves = shifted-one h (omega (arith, size-height))
+
+  -- which gives no more,
+  pub size-leaves-small : 2 ^ h ≤ 2 ^ tallestTree
+  size-leaves-small = pow-mono {i = h} {j = tallestTree} size-height
+
+  -- and together they give the size
+  pub size-worked : (p m : ℕ) → p ≡ positions h → m ≡ 2 ^ h → 33 * (p - 1) + 64 + m ≡ storeSize n
   unfolding storeSize
-  size-worked p e =
+  size-worked p m e d =
       let g : positions h ≡ positions (height (blockCount n)) = ap positions (layers ∙ ap height blocks) in
+      let k : 2 ^ h ≡ 2 ^ height (blockCount n) = ap (λ (x : ℕ). 2 ^ x) (layers ∙ ap height blocks) in
       omega arith
 
 -- ---- usable

@@ -38,9 +38,9 @@ positions h = 2 * 2 ^ h
 unfoldable pub factsInRange : ℕ → ℕ → Bool
 factsInRange n plen = leb 1 n && leb n longestFile && isPieceLength plen
 
--- the bytes that a store for a file of n bytes uses
+-- the bytes that a store for a file of n bytes uses: the facts, a cell for each position, a mark for each leaf
 unfoldable pub storeSize : ℕ → ℕ
-storeSize n = 33 * (positions (height (blockCount n)) - 1) + 64
+storeSize n = 33 * (positions (height (blockCount n)) - 1) + 64 + 2 ^ height (blockCount n)
 
 -- a buffer names such facts and has that room; nothing else makes it unusable
 unfoldable pub usable : List ℕ → Bool

@@ -84,6 +84,11 @@ pub cells-within : (n : ℕ) → 31 + 33 * positions (height (blockCount n)) ≤
 unfolding storeSize
 cells-within n = omega (arith, positions-some (height (blockCount n)))
 
+-- behind them is a byte for each leaf
+pub marks-within : (n : ℕ) → 31 + 33 * positions (height (blockCount n)) + 2 ^ height (blockCount n) ≡ storeSize n
+unfolding storeSize
+marks-within n = omega (arith, positions-some (height (blockCount n)))
+
 -- no store is shorter than the facts and the root's cell
 pub store-size-some : (n : ℕ) → 97 ≤ storeSize n
 store-size-some n = omega (arith, cells-within n, positions-some (height (blockCount n)))
@@ -101,6 +106,11 @@ store-size-grows n m l =
 pub own-cells : (s : List ℕ) → 31 + 33 * positions (heightOf s) ≤ storeSize (fileLength s)
 unfolding heightOf blocksOf
 own-cells s = cells-within (fileLength s)
+
+-- and so do the marks of its blocks
+pub own-marks : (s : List ℕ) → 31 + 33 * positions (heightOf s) + 2 ^ heightOf s ≡ storeSize (fileLength s)
+unfolding heightOf blocksOf
+own-marks s = marks-within (fileLength s)
 
 -- a usable store is sure of these
 pub usable-facts : (s : List ℕ) → usable s ≡ true → Facts s
@@ -563,6 +573,14 @@ module _ (s : List ℕ) (n plen : ℕ) (root : List ℕ) (ok : factsInRange n pl
   pub opened-hash : hashAt (opened s n plen root) 1 ≡ root
   unfolding opened bare named
   opened-hash = hash-put-same bare (positions (height (blockCount n))) 1 bare-room two root size
+
+  -- every byte behind the root's cell is zero, up to the store's size
+  pub opened-zero : (i : ℕ) → 97 ≤ i → i < storeSize n → getD (opened s n plen root) i 0 ≡ 0
+  unfolding opened bare named
+  opened-zero i a l =
+      put-outside bare (positions (height (blockCount n))) 1 bare-room two root size i (λ c. omega arith)
+      ∙ bare-past i (omega arith)
+      ∙ zeroed-at s (storeSize n) i l
 
   -- bytes past the store's size stay
   pub opened-past : (i : ℕ) → storeSize n ≤ i → getD (opened s n plen root) i 0 ≡ getD s i 0

@@ -78,7 +78,8 @@ fn size_in_range(n: usize) -> usize
     let b = block_count(n);
     let h = height(b);
     let p = 2 << h;
-    33 * (p - 1) + 64
+    let leaves = 1 << h;
+    33 * (p - 1) + 64 + leaves
 }
 
 // Whether the buffer names facts in range and has their room; nothing else makes a store unusable.

@@ -14,7 +14,8 @@ use Rattle.sha256.specs.declared.Hashed.{Hashed}
 use Rattle.store.specs.Store.{fileLength, storeSize, usable, openAnswer, openAfter, heldAnswer}
 use Rattle.messages.specs.Take.{takeAnswer, takeAfter, rejectAnswer}
 use Rattle.serve.specs.Serve.{serveAnswer}
-use Rattle.pieces.specs.Pieces.{layerAnswer, layerAfter, blockAnswer, pieceAnswer}
+use Rattle.pieces.specs.Pieces.{layerAnswer, layerAfter, blockAnswer, blockAfter, pieceAnswer, pieceAfter}
+use Rattle.marks.specs.Marks.{clearAnswer, clearAfter, markedAnswer, fieldAnswer}
 
 -- a string of bytes, of whatever length
 abbrev pub Bytes : List ℕ → Type 0
@@ -37,6 +38,11 @@ pub data Call : Type 0 where
   -- kd_judge_block, kd_judge_piece: a block or a piece and its number
   judgeBlock : (i : ℕ) (block : List ℕ) → Bytes block → Call
   judgePiece : (i : ℕ) (piece : List ℕ) → Bytes piece → Call
+  -- kd_clear, kd_marked: a block's number
+  clear : (i : ℕ) → Call
+  isMarked : (i : ℕ) → Call
+  -- kd_bitfield: an output apart from the store
+  bitfield : (out : List ℕ) → Bytes out → Call
   -- kd_open, of bytes that may be a store already: a file's length, a piece length and a pieces root
   reopen : (n plen : ℕ) (root : List ℕ) → Octets 32 root → Call
 
@@ -49,20 +55,26 @@ answer (held l i) s = inr (heldAnswer s l i)
 answer (loadLayer l b) s = inl (layerAnswer s l)
 answer (judgeBlock i d b) s = inl (blockAnswer s i d)
 answer (judgePiece i d b) s = inl (pieceAnswer s i d)
+answer (clear i) s = inl (clearAnswer s i)
+answer (isMarked i) s = inl (markedAnswer s i)
+answer (bitfield out b) s = inl (fieldAnswer s out)
 answer (reopen n plen root o) s = inl (openAnswer s n plen)
 
 abbrev pub number : Call → List ℕ → ℕ
 number c s = elim (answer c s) [ inl a ↦ a .number | inr h ↦ h .number ]
 
--- what it leaves in those bytes. All but three are lent them as `&`.
+-- what it leaves in those bytes. The others are lent them as `&`.
 abbrev pub after : Call → List ℕ → List ℕ
 after (take m b) s = takeAfter s m
 after (takeReject m b) s = s
 after (serve m out b c) s = s
 after (held l i) s = s
 after (loadLayer l b) s = layerAfter s l
-after (judgeBlock i d b) s = s
-after (judgePiece i d b) s = s
+after (judgeBlock i d b) s = blockAfter s i d
+after (judgePiece i d b) s = pieceAfter s i d
+after (clear i) s = clearAfter s i
+after (isMarked i) s = s
+after (bitfield out b) s = s
 after (reopen n plen root o) s = openAfter s n plen root
 
 -- it is an opening
@@ -74,6 +86,9 @@ Opening (held l i) = ⊥
 Opening (loadLayer l b) = ⊥
 Opening (judgeBlock i d b) = ⊥
 Opening (judgePiece i d b) = ⊥
+Opening (clear i) = ⊥
+Opening (isMarked i) = ⊥
+Opening (bitfield out b) = ⊥
 Opening (reopen n plen root o) = Unit {0}
 
 -- ---- histories

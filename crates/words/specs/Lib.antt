@@ -6,3 +6,4 @@ pub mod Shown
 pub mod FourClauses
 pub mod File
 pub mod Answers
+pub mod Marks

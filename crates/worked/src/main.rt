@@ -158,7 +158,7 @@ fn tall() {
 }
 
 fn main() {
-    let mut s = [0u8; 559];
+    let mut s = [0u8; 567];
     session(&mut s);
     whole(&mut s);
     headers(&mut s);

@@ -302,7 +302,7 @@ impl InLibrary {
     }
 
     fn judge(&mut self) -> boundary::Answer {
-        black_box(boundary::judge_piece(&self.store, ONE_GIB.piece_number(), black_box(&self.message)))
+        black_box(boundary::judge_piece(&mut self.store, ONE_GIB.piece_number(), black_box(&self.message)))
     }
 }
 

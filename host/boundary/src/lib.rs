@@ -64,12 +64,24 @@ pub fn load_layer(store: &mut [u8], layer: &[u8]) -> Answer {
     unsafe { raw::kd_load_layer(store.as_mut_ptr(), store.len(), layer.as_ptr(), layer.len()) }
 }
 
-pub fn judge_block(store: &[u8], block: u64, data: &[u8]) -> Answer {
-    unsafe { raw::kd_judge_block(store.as_ptr(), store.len(), block, data.as_ptr(), data.len()) }
+pub fn judge_block(store: &mut [u8], block: u64, data: &[u8]) -> Answer {
+    unsafe { raw::kd_judge_block(store.as_mut_ptr(), store.len(), block, data.as_ptr(), data.len()) }
 }
 
-pub fn judge_piece(store: &[u8], piece: u64, data: &[u8]) -> Answer {
-    unsafe { raw::kd_judge_piece(store.as_ptr(), store.len(), piece, data.as_ptr(), data.len()) }
+pub fn judge_piece(store: &mut [u8], piece: u64, data: &[u8]) -> Answer {
+    unsafe { raw::kd_judge_piece(store.as_mut_ptr(), store.len(), piece, data.as_ptr(), data.len()) }
+}
+
+pub fn marked(store: &[u8], block: u64) -> Answer {
+    unsafe { raw::kd_marked(store.as_ptr(), store.len(), block) }
+}
+
+pub fn clear(store: &mut [u8], block: u64) -> Answer {
+    unsafe { raw::kd_clear(store.as_mut_ptr(), store.len(), block) }
+}
+
+pub fn bitfield(store: &[u8], out: &mut [u8]) -> Answer {
+    unsafe { raw::kd_bitfield(store.as_ptr(), store.len(), out.as_mut_ptr(), out.len()) }
 }
 
 pub fn torrent_read(torrent: &[u8]) -> Torrent {

@@ -143,8 +143,11 @@ extern "C" {
         out_size: usize,
     ) -> Answer;
     pub fn kd_load_layer(store: *mut u8, size: usize, layer: *const u8, layer_size: usize) -> Answer;
-    pub fn kd_judge_block(store: *const u8, size: usize, block: u64, data: *const u8, data_size: usize) -> Answer;
-    pub fn kd_judge_piece(store: *const u8, size: usize, piece: u64, data: *const u8, data_size: usize) -> Answer;
+    pub fn kd_judge_block(store: *mut u8, size: usize, block: u64, data: *const u8, data_size: usize) -> Answer;
+    pub fn kd_judge_piece(store: *mut u8, size: usize, piece: u64, data: *const u8, data_size: usize) -> Answer;
+    pub fn kd_marked(store: *const u8, size: usize, block: u64) -> Answer;
+    pub fn kd_clear(store: *mut u8, size: usize, block: u64) -> Answer;
+    pub fn kd_bitfield(store: *const u8, size: usize, out: *mut u8, out_size: usize) -> Answer;
     pub fn kd_torrent_read(torrent: *const u8, size: usize) -> Torrent;
     pub fn kd_torrent_file(torrent: *const u8, size: usize, file: u64) -> File;
     pub fn kd_torrent_path(torrent: *const u8, size: usize, file: u64, element: u64) -> Part;

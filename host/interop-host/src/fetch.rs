@@ -31,7 +31,7 @@ pub fn run(contents: &Contents, port: u16) -> io::Result<()> {
         learn_padding(&mut peer, file, &mut counts)?;
         learn_at_once(&mut peer, file, &mut counts)?;
         learn_hashes(&mut peer, file, &mut store, &mut counts)?;
-        judge_pieces(&mut peer, file, &store, &mut counts)?;
+        judge_pieces(&mut peer, file, &mut store, &mut counts)?;
         assert_eq!(counts.believed, file.blocks(), "every block is believed");
         println!(
             "{}: {} replies taken ({} of them had come before their anchor), {} more past the last block, {} longer than {RUN}, \
@@ -166,7 +166,7 @@ fn offer_damaged(store: &mut Store, reply: &[u8], counts: &mut Counts) {
     counts.refused += 5;
 }
 
-fn judge_pieces(peer: &mut Peer, file: &File, store: &Store, counts: &mut Counts) -> io::Result<()> {
+fn judge_pieces(peer: &mut Peer, file: &File, store: &mut Store, counts: &mut Counts) -> io::Result<()> {
     for piece in 0..file.pieces() {
         let start = piece * file.piece_length;
         let size = file.piece_length.min(file.length - start);
@@ -182,7 +182,16 @@ fn judge_pieces(peer: &mut Peer, file: &File, store: &Store, counts: &mut Counts
         }
         assert_eq!(store.judge_piece(piece, &bytes), Answer::Differs, "nor a piece of them");
     }
+    all_marked(file, store);
     Ok(())
+}
+
+/// Every block is marked, and the bitfield is all ones.
+fn all_marked(file: &File, store: &Store) {
+    let mut field = vec![0; file.pieces().div_ceil(8) as usize];
+    assert_eq!(store.bitfield(&mut field), Answer::Done(field.len() as u64));
+    assert!((0..file.pieces()).all(|piece| field[piece as usize / 8] & 0x80 >> (piece % 8) != 0));
+    assert!((0..file.length.div_ceil(BLOCK)).all(|block| store.marked(block) == Answer::Done(1)));
 }
 
 /// A piece of this size, block by block.

@@ -12,11 +12,12 @@
 //!
 //! let size = store_size(file.len() as u64, 16384).done().expect("facts in range");
 //! let mut memory = vec![0; size as usize];
-//! let store = Store::open(&mut memory, file.len() as u64, 16384, root).done().expect("room for the store");
+//! let mut store = Store::open(&mut memory, file.len() as u64, 16384, root).done().expect("room for the store");
 //!
 //! assert_eq!(store.held(0, 0), Answer::Done(root));
 //! assert_eq!(store.judge_block(0, file), Answer::Done(0));
 //! assert_eq!(store.judge_block(0, b"3.70 V"), Answer::Differs);
+//! assert_eq!(store.marked(0), Answer::Done(1));
 //! ```
 #![forbid(unsafe_code)]
 

@@ -81,13 +81,29 @@ impl<'a> Store<'a> {
         count(boundary::load_layer(self.memory, layer))
     }
 
-    /// Judges a block against its leaf: [`Done`](Answer::Done) if it may be believed.
-    pub fn judge_block(&self, block: u64, data: &[u8]) -> Answer<u64> {
+    /// Judges a block against its leaf: [`Done`](Answer::Done) if it may be believed, and then it is marked.
+    pub fn judge_block(&mut self, block: u64, data: &[u8]) -> Answer<u64> {
         count(boundary::judge_block(self.memory, block, data))
     }
 
     /// Judges a piece against its node in the piece layer, or the root of a file not longer than the piece length.
-    pub fn judge_piece(&self, piece: u64, data: &[u8]) -> Answer<u64> {
+    /// Done marks each of its blocks.
+    pub fn judge_piece(&mut self, piece: u64, data: &[u8]) -> Answer<u64> {
         count(boundary::judge_piece(self.memory, piece, data))
+    }
+
+    /// Whether a block is marked, its data judged right: Done says 1 if it is, else 0.
+    pub fn marked(&self, block: u64) -> Answer<u64> {
+        count(boundary::marked(self.memory, block))
+    }
+
+    /// Clears a block's mark, for a host that lost the block. No hash is forgotten.
+    pub fn clear(&mut self, block: u64) -> Answer<u64> {
+        count(boundary::clear(self.memory, block))
+    }
+
+    /// Writes the bitfield of the pieces whose blocks are all marked at the front of `out`; Done says its size.
+    pub fn bitfield(&self, out: &mut [u8]) -> Answer<u64> {
+        count(boundary::bitfield(self.memory, out))
     }
 }

@@ -121,6 +121,30 @@ fn serving() {
 }
 
 #[test]
+fn marks() {
+    let known = known();
+    let mut memory = Vec::new();
+    let mut store = known.open(&mut memory);
+    let layer = [known.at(2, 0), known.at(2, 1)].concat();
+    let (first, last) = known.bytes.split_at(PIECE as usize);
+    let mut field = [0xff; 2];
+    assert_eq!(store.load_layer(&layer), Answer::Done(2));
+    assert_eq!(store.bitfield(&mut field), Answer::Done(1));
+    assert_eq!(field, [0, 0xff], "nothing was judged yet");
+    assert_eq!(store.judge_piece(0, first), Answer::Done(0));
+    assert_eq!(store.judge_piece(1, last), Answer::Done(0));
+    assert_eq!(store.bitfield(&mut field), Answer::Done(1));
+    assert_eq!(field, [0xc0, 0xff]);
+    assert_eq!(store.clear(2), Answer::Done(0));
+    assert_eq!((store.marked(2), store.marked(3)), (Answer::Done(0), Answer::Done(1)));
+    assert_eq!((store.clear(5), store.marked(5)), (Answer::RuleBroken, Answer::RuleBroken));
+    assert_eq!(store.bitfield(&mut field[..1]), Answer::Done(1));
+    assert_eq!(field[0], 0x40);
+    assert_eq!(store.bitfield(&mut []), Answer::NoRoom);
+    assert_eq!(store.held(2, 0), Answer::Done(known.at(2, 0)), "no hash is forgotten");
+}
+
+#[test]
 fn layers_pieces_and_blocks() {
     let known = known();
     let mut memory = Vec::new();

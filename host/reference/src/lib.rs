@@ -1,4 +1,4 @@
-//! A second implementation of the whole of document 01 in plain safe Rust, used by tests and benchmarks only.
+//! A second implementation of the whole of document 01, and of what 02 has added so far, in plain safe Rust, used by tests and benchmarks only.
 //!
 //! It is written from the document's rules and shares no code and no idea with the proved library: trees are built
 //! as lists of positions with their hashes and compared one by one, torrents are parsed to values first. Where the
@@ -10,6 +10,7 @@
 pub mod bencode;
 pub mod history;
 pub mod limits;
+pub mod marks;
 pub mod messages;
 pub mod number;
 pub mod pieces;

@@ -1,5 +1,6 @@
 //! Loading a piece layer, judging a block and a piece. Sections of the same names in document 01.
 
+use crate::marks::mark;
 use crate::number::*;
 use crate::sha256::{sha256, Hash};
 use crate::store::{any_differs, facts_of, held_at, hold};
@@ -47,27 +48,30 @@ fn load(store: &mut [u8], layer: &[u8]) -> Result<u64, u32> {
     Ok(hold(store, &facts, &worked_out))
 }
 
-/// Judges a block against its leaf.
-pub fn judge_block(store: &[u8], block: u64, data: &[u8]) -> Answer {
-    answer(block_judged(store, block, data))
+/// Judges a block against its leaf, and marks it on 0.
+pub fn judge_block(store: &mut [u8], block: u64, data: &[u8]) -> Answer {
+    let judged = block_judged(store, block, data);
+    answer(judged.map(|facts| mark(store, &facts, block..block + 1)))
 }
 
-fn block_judged(store: &[u8], block: u64, data: &[u8]) -> Result<u64, u32> {
+fn block_judged(store: &[u8], block: u64, data: &[u8]) -> Result<Facts, u32> {
     let facts = facts_of(store).ok_or(UNUSABLE)?;
     let size = facts.block_size(block).ok_or(RULE_BROKEN)?;
     if data.len() as u64 != size {
         return Err(WRONG_SIZE);
     }
     agrees(store, &facts, &[(Position { layer: 0, index: block }, sha256(data))])?;
-    Ok(0)
+    Ok(facts)
 }
 
-/// Judges a piece against its node in the piece layer, or against the root of a file not longer than the piece length.
-pub fn judge_piece(store: &[u8], piece: u64, data: &[u8]) -> Answer {
-    answer(piece_judged(store, piece, data))
+/// Judges a piece against its node in the piece layer, or against the root of a file not longer than the piece length, and
+/// marks each of its blocks on 0.
+pub fn judge_piece(store: &mut [u8], piece: u64, data: &[u8]) -> Answer {
+    let judged = piece_judged(store, piece, data);
+    answer(judged.map(|facts| mark(store, &facts, facts.blocks_of_piece(piece))))
 }
 
-fn piece_judged(store: &[u8], piece: u64, data: &[u8]) -> Result<u64, u32> {
+fn piece_judged(store: &[u8], piece: u64, data: &[u8]) -> Result<Facts, u32> {
     let facts = facts_of(store).ok_or(UNUSABLE)?;
     let size = facts.piece_size(piece).ok_or(RULE_BROKEN)?;
     if data.len() as u64 != size {
@@ -77,7 +81,7 @@ fn piece_judged(store: &[u8], piece: u64, data: &[u8]) -> Result<u64, u32> {
     let width = 1 << node.layer;
     let first = Position { layer: 0, index: node.index * width };
     agrees(store, &facts, &over_run(first, &leaves(data, width)))?;
-    Ok(0)
+    Ok(facts)
 }
 
 #[cfg(test)]
@@ -127,22 +131,22 @@ mod tests {
         let bytes = file(50_000);
         let mut store = opened(&bytes, PIECE);
         assert_eq!(load_layer(&mut store, &[]).number, RULE_BROKEN);
-        assert_eq!(judge_piece(&store, 0, &bytes), Answer::done(0));
-        assert_eq!(judge_piece(&store, 1, &bytes).number, RULE_BROKEN);
-        assert_eq!(judge_piece(&store, 0, &bytes[1..]).number, WRONG_SIZE);
-        assert_eq!(judge_block(&store, 0, &bytes[..16384]).number, NO_ANCHOR);
+        assert_eq!(judge_piece(&mut store, 0, &bytes), Answer::done(0));
+        assert_eq!(judge_piece(&mut store, 1, &bytes).number, RULE_BROKEN);
+        assert_eq!(judge_piece(&mut store, 0, &bytes[1..]).number, WRONG_SIZE);
+        assert_eq!(judge_block(&mut store, 0, &bytes[..16384]).number, NO_ANCHOR);
     }
 
     #[test]
     fn a_piece_is_judged_against_its_node() {
         let bytes = file(100_000);
         let mut store = opened(&bytes, PIECE);
-        assert_eq!(judge_piece(&store, 1, &bytes[65536..]).number, NO_ANCHOR);
+        assert_eq!(judge_piece(&mut store, 1, &bytes[65536..]).number, NO_ANCHOR);
         load_layer(&mut store, &layer_of(&bytes, 2));
-        assert_eq!(judge_piece(&store, 1, &bytes[65536..]), Answer::done(0));
+        assert_eq!(judge_piece(&mut store, 1, &bytes[65536..]), Answer::done(0));
         let mut damaged = bytes[65536..].to_vec();
         damaged[5] ^= 1;
-        assert_eq!(judge_piece(&store, 1, &damaged).number, DIFFERS);
+        assert_eq!(judge_piece(&mut store, 1, &damaged).number, DIFFERS);
     }
 
     #[test]
@@ -154,8 +158,8 @@ mod tests {
         let cell = 64 + 33 * 14;
         store[cell] = 1;
         store[cell + 1] = 1;
-        assert_eq!(judge_piece(&store, 1, &bytes[65536..]).number, CONFLICT);
-        assert_eq!(judge_piece(&store, 0, &bytes[..65536]), Answer::done(0));
+        assert_eq!(judge_piece(&mut store, 1, &bytes[65536..]).number, CONFLICT);
+        assert_eq!(judge_piece(&mut store, 0, &bytes[..65536]), Answer::done(0));
     }
 
     #[test]
@@ -163,11 +167,11 @@ mod tests {
         let bytes = file(10);
         let mut store = opened(&bytes, BLOCK);
         store[12] ^= 1;
-        assert_eq!(judge_block(&store, 0, &bytes), Answer::done(0));
-        assert_eq!(judge_piece(&store, 0, &bytes), Answer::done(0));
+        assert_eq!(judge_block(&mut store, 0, &bytes), Answer::done(0));
+        assert_eq!(judge_piece(&mut store, 0, &bytes), Answer::done(0));
         store[65] ^= 1;
-        assert_eq!(judge_block(&store, 0, &bytes).number, DIFFERS);
+        assert_eq!(judge_block(&mut store, 0, &bytes).number, DIFFERS);
         store[64] = 0;
-        assert_eq!(judge_piece(&store, 0, &bytes).number, NO_ANCHOR);
+        assert_eq!(judge_piece(&mut store, 0, &bytes).number, NO_ANCHOR);
     }
 }

@@ -1,4 +1,5 @@
-//! The store: a lent buffer with the facts and, for each position, a mark and a hash. Section "The store" of document 01.
+//! The store: a lent buffer with the facts, for each position a mark and a hash, and for each block a mark. Section "The
+//! store" of document 01, and request 7 of document 02.
 //!
 //! The layout, to the byte:
 //!   0..8    N, big-endian
@@ -6,7 +7,8 @@
 //!   12..44  the pieces root
 //!   44..64  zero
 //!   then a cell of 33 bytes for each node number n from 1 (the root) to 2·2^h - 1, the children of n being 2n and
-//!   2n + 1: one mark byte (1 held, 0 not held) and the 32 bytes of the hash.
+//!   2n + 1: one mark byte (1 held, 0 not held) and the 32 bytes of the hash
+//!   then a byte for each of the 2^h leaves: block i's is 1 if its data is marked as judged right, 0 if not.
 
 use crate::number::*;
 use crate::sha256::Hash;
@@ -19,7 +21,7 @@ pub const HELD: u8 = 1;
 
 /// The bytes a store for these facts uses.
 pub fn size_of(facts: &Facts) -> u64 {
-    CELL as u64 * (2 * facts.width(0) - 1) + HEAD as u64
+    CELL as u64 * (2 * facts.width(0) - 1) + HEAD as u64 + facts.width(0)
 }
 
 /// The facts a buffer names, where they are in range and it has their room; otherwise it is unusable.
@@ -112,7 +114,7 @@ mod tests {
         let mut store = vec![0xaa; 1000];
         assert_eq!(open(&mut store, 81920, 65536, [7; 32]), Answer::done(1));
         let size = store_size(81920, 65536).count as usize;
-        assert_eq!(size, 33 * 15 + 64);
+        assert_eq!(size, 33 * 15 + 64 + 8);
         let mut expected = vec![0; size];
         expected[5] = 1;
         expected[6] = 0x40;
@@ -133,17 +135,17 @@ mod tests {
         }
         assert_eq!(open(&mut none, 1, (1 << 32) + 16384, [0; 32]).number, FACTS_OUT_OF_RANGE);
         assert_eq!(open(&mut none, 1, 16384, [0; 32]).number, UNUSABLE);
-        assert_eq!(open(&mut [0; 96], 1, 16384, [0; 32]).number, UNUSABLE);
-        assert_eq!(open(&mut [0; 97], 1, 16384, [0; 32]).number, DONE);
+        assert_eq!(open(&mut [0; 97], 1, 16384, [0; 32]).number, UNUSABLE);
+        assert_eq!(open(&mut [0; 98], 1, 16384, [0; 32]).number, DONE);
     }
 
     #[test]
     fn foreign_bytes_are_usable_or_not() {
         assert_eq!(held(&[], 0, 0).number, UNUSABLE);
         assert_eq!(held(&[0xff; 5000], 0, 0).number, UNUSABLE);
-        let mut store = vec![0; 97];
+        let mut store = vec![0; 98];
         open(&mut store, 1, 16384, [3; 32]);
-        assert_eq!(held(&store[..96], 0, 0).number, UNUSABLE);
+        assert_eq!(held(&store[..97], 0, 0).number, UNUSABLE);
         assert_eq!(held(&store, 0, 0), Hashed::done([3; 32]));
         assert_eq!(held(&store, 0, 1).number, RULE_BROKEN);
         assert_eq!(held(&store, 1 << 40, 0).number, RULE_BROKEN);

@@ -85,6 +85,12 @@ impl Facts {
         part_size(self.length, self.piece_length, piece)
     }
 
+    /// The blocks that a piece of the file covers; the last piece may have fewer than the others.
+    pub fn blocks_of_piece(&self, piece: u64) -> std::ops::Range<u64> {
+        let each = self.piece_length / BLOCK;
+        piece * each..self.blocks().min((piece + 1) * each)
+    }
+
     /// The position a piece is judged against: its node in the piece layer, or the root of a short file.
     pub fn piece_position(&self, piece: u64) -> Position {
         if self.has_piece_layer() {

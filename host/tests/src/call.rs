@@ -7,7 +7,7 @@ use reference::history::{End, History};
 use reference::running::Hashing;
 use reference::sha256::{sha256, Hash};
 use reference::torrent::{File, Part, Torrent};
-use reference::{messages, pieces, store, torrent, Answer, Hashed};
+use reference::{marks, messages, pieces, store, torrent, Answer, Hashed};
 use std::hint::black_box;
 
 #[derive(Clone, Copy, Debug, PartialEq, Eq, PartialOrd, Ord)]
@@ -28,6 +28,9 @@ pub enum Entry {
     LoadLayer,
     JudgeBlock,
     JudgePiece,
+    Marked,
+    Clear,
+    Bitfield,
     TorrentRead,
     TorrentFile,
     TorrentPath,
@@ -53,6 +56,9 @@ impl Entry {
             Entry::LoadLayer => "kd_load_layer",
             Entry::JudgeBlock => "kd_judge_block",
             Entry::JudgePiece => "kd_judge_piece",
+            Entry::Marked => "kd_marked",
+            Entry::Clear => "kd_clear",
+            Entry::Bitfield => "kd_bitfield",
             Entry::TorrentRead => "kd_torrent_read",
             Entry::TorrentFile => "kd_torrent_file",
             Entry::TorrentPath => "kd_torrent_path",
@@ -166,8 +172,11 @@ pub fn by_reference(call: &Call) -> Outcome {
         Entry::TakeReject => Given::Answer(messages::take_reject(&store, &input)),
         Entry::Serve => Given::Answer(messages::serve(&store, &input, &mut out)),
         Entry::LoadLayer => Given::Answer(pieces::load_layer(&mut store, &input)),
-        Entry::JudgeBlock => Given::Answer(pieces::judge_block(&store, first, &input)),
-        Entry::JudgePiece => Given::Answer(pieces::judge_piece(&store, first, &input)),
+        Entry::JudgeBlock => Given::Answer(pieces::judge_block(&mut store, first, &input)),
+        Entry::JudgePiece => Given::Answer(pieces::judge_piece(&mut store, first, &input)),
+        Entry::Marked => Given::Answer(marks::marked(&store, first)),
+        Entry::Clear => Given::Answer(marks::clear(&mut store, first)),
+        Entry::Bitfield => Given::Answer(marks::bitfield(&store, &mut out)),
         Entry::TorrentRead => Given::Torrent(torrent::torrent_read(&input)),
         Entry::TorrentFile => Given::File(torrent::torrent_file(&input, first)),
         Entry::TorrentPath => Given::Part(torrent::torrent_path(&input, first, second)),
@@ -239,6 +248,9 @@ pub fn by_library(call: &Call) -> Outcome {
         Entry::LoadLayer => answer(boundary::load_layer(held_bytes, message)),
         Entry::JudgeBlock => answer(boundary::judge_block(held_bytes, first, message)),
         Entry::JudgePiece => answer(boundary::judge_piece(held_bytes, first, message)),
+        Entry::Marked => answer(boundary::marked(held_bytes, first)),
+        Entry::Clear => answer(boundary::clear(held_bytes, first)),
+        Entry::Bitfield => answer(boundary::bitfield(held_bytes, room)),
         Entry::TorrentRead => torrent_of(boundary::torrent_read(message)),
         Entry::TorrentFile => file_of(boundary::torrent_file(message, first)),
         Entry::TorrentPath => part_of(boundary::torrent_path(message, first, second)),

@@ -9,6 +9,7 @@ use reference::limits::{BLOCK, LONGEST_FILE};
 use reference::messages::{Header, HASHES, HEAD, REJECT, REQUEST};
 use reference::store::{facts_of, size_of, CELL, HEAD as FACTS, HELD};
 use reference::tree::{padding, Position};
+use std::ops::Range;
 
 const HOSTILE_WORDS: [u32; 22] =
     [0, 1, 2, 3, 4, 5, 6, 8, 9, 15, 16, 31, 32, 33, 64, 512, 1024, 8192, 16384, 1 << 31, u32::MAX - 1, u32::MAX];
@@ -63,7 +64,8 @@ impl<'a> Session<'a> {
         vec![filling; size]
     }
 
-    /// A store as no call of ours leaves it: any position held or not, some with another hash or mark.
+    /// A store as no call of ours leaves it: any position held or not, some with another hash or mark; any block marked or not, those past the
+    /// file's too.
     fn foreign(&self, random: &mut Random) -> Vec<u8> {
         let facts = &self.truth.facts;
         let mut store = self.buffer(random);
@@ -79,7 +81,17 @@ impl<'a> Session<'a> {
                 store[cell + 1..cell + CELL].copy_from_slice(&hash);
             }
         }
+        for mark in self.marks() {
+            store[mark] = random.pick(&[1, 1, 1, 0, 2, 0xff]);
+        }
         store
+    }
+
+    /// Where the marks of the file's blocks stand, and behind them those of no block.
+    fn marks(&self) -> Range<usize> {
+        let facts = &self.truth.facts;
+        let end = size_of(facts) as usize;
+        end - facts.width(0) as usize..end
     }
 
     /// Asks one call, and goes on with the store it leaves.
@@ -97,7 +109,12 @@ impl<'a> Session<'a> {
     /// One step: sometimes another hand in the store, then a call.
     pub fn step(&mut self, random: &mut Random, compared: &mut Comparison) {
         if self.hands == Hands::Others && random.percent(8) && !self.store.is_empty() {
-            let at = random.below(self.store.len() as u64) as usize;
+            let marks = self.marks();
+            let at = if random.percent(30) && marks.end <= self.store.len() {
+                marks.start + random.below(marks.len() as u64) as usize
+            } else {
+                random.below(self.store.len() as u64) as usize
+            };
             self.store[at] = random.pick(&[0, 1, 2, 0xff, self.store[at] ^ 1]);
         }
         let call = self.call(random);
@@ -107,7 +124,7 @@ impl<'a> Session<'a> {
     /// A call about this session's file.
     pub fn call(&self, random: &mut Random) -> Call {
         let judges = if self.truth.bytes.is_empty() { 1 } else { 40 };
-        match random.below(100 + judges) {
+        match random.below(115 + judges) {
             0..=49 => Call::new(Entry::Take).on(&self.store).input(self.hashes(random)),
             50..=69 => self.request(random),
             70..=74 => Call::new(Entry::TakeReject).on(&self.store).input(self.reject(random)),
@@ -117,6 +134,7 @@ impl<'a> Session<'a> {
             98..=99 => {
                 Call::new(Entry::StoreSize).numbers(random.pick(&HOSTILE_LENGTHS), random.pick(&HOSTILE_PIECE_LENGTHS))
             }
+            100..=114 => self.about_marks(random),
             _ => self.judgement(random),
         }
     }
@@ -267,6 +285,25 @@ impl<'a> Session<'a> {
         call
     }
 
+    /// A mark asked for or cleared, or the bitfield, in any room.
+    fn about_marks(&self, random: &mut Random) -> Call {
+        let facts = &self.truth.facts;
+        let block = match random.below(8) {
+            0 => facts.blocks(),
+            1 => random.pick(&HOSTILE_NUMBERS),
+            2..=3 => facts.blocks() - 1,
+            _ => random.below(facts.blocks()),
+        };
+        let size = facts.pieces().div_ceil(8) as usize;
+        let room = random.pick(&[0, size - 1, size, size + 1, size + 9]);
+        let out = random.bytes(room);
+        match random.below(4) {
+            0 => Call::new(Entry::Clear).on(&self.store).numbers(block, 0),
+            1 => Call::new(Entry::Marked).on(&self.store).numbers(block, 0),
+            _ => Call::new(Entry::Bitfield).on(&self.store).out(out),
+        }
+    }
+
     fn judgement(&self, random: &mut Random) -> Call {
         let facts = &self.truth.facts;
         let is_block = random.percent(50);
@@ -297,7 +334,7 @@ impl<'a> Session<'a> {
 
 /// Bytes that name any facts, with any room.
 fn hostile_store(random: &mut Random) -> Vec<u8> {
-    let size = random.pick(&[0, 1, 11, 12, 43, 44, 63, 64, 96, 97, 98, 162, 163, 164, 600]);
+    let size = random.pick(&[0, 1, 11, 12, 43, 44, 63, 64, 96, 97, 98, 99, 162, 163, 164, 165, 166, 600]);
     let mut store = random.bytes(size);
     if size >= 12 && random.percent(80) {
         let length = random.pick(&HOSTILE_LENGTHS);

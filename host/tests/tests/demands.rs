@@ -6,11 +6,13 @@ use host_tests::compare::Comparison;
 use host_tests::random::Random;
 use host_tests::sessions::{Hands, Session};
 use host_tests::truth::{self, Pair, Truth};
+use reference::marks::marked;
 use reference::messages::{Header, HASHES, HEAD, REQUEST};
 use reference::number::*;
 use reference::sha256::Hash;
-use reference::store::held_at;
+use reference::store::{held_at, size_of};
 use reference::tree::Position;
+use reference::Answer;
 use std::collections::{HashMap, HashSet};
 
 const SESSIONS: u64 = 60;
@@ -61,6 +63,36 @@ fn every_held_hash_is_the_files_own() {
         assert!(held_in(&outcome.store, truth).iter().all(|(at, hash)| truth.at(*at) == *hash));
         assert_ne!(outcome.given.number(), CONFLICT, "two strings with one SHA-256 would be shown");
     });
+}
+
+#[test]
+fn a_block_is_marked_exactly_if_judged_right_and_not_cleared_since() {
+    let mut right: HashSet<u64> = HashSet::new();
+    let mut root = [0; 32];
+    let (mut set, mut taken_back) = (0, 0);
+    for seed in 7..14 {
+        look_at_calls(seed, &mut |truth, call, outcome| {
+            let facts = &truth.facts;
+            if facts.root != root {
+                root = facts.root;
+                right.clear();
+            }
+            let number = call.numbers[0];
+            match (call.entry, outcome.given.number()) {
+                (Entry::JudgeBlock, DONE) => set += right.insert(number) as u64,
+                (Entry::JudgePiece, DONE) => facts.blocks_of_piece(number).for_each(|block| set += right.insert(block) as u64),
+                (Entry::Clear, DONE) => taken_back += right.remove(&number) as u64,
+                _ => (),
+            }
+            for block in 0..facts.blocks() {
+                assert_eq!(marked(&outcome.store, block), Answer::done(right.contains(&block) as u64));
+            }
+            let end = size_of(facts) as usize;
+            let spare = (facts.width(0) - facts.blocks()) as usize;
+            assert!(outcome.store[end - spare..end].iter().all(|byte| *byte == 0), "no mark past the file's blocks");
+        });
+    }
+    assert!(set > 100 && taken_back > 20, "{set} {taken_back}");
 }
 
 /// The anchor of a message that passes 9, 1, 2, 3 and 4.

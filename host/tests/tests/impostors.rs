@@ -6,7 +6,8 @@ use host_tests::compare::{report, Comparison, Library};
 use host_tests::random::Random;
 use host_tests::states::{hashing_bytes, hashing_of, history_bytes, history_of};
 use host_tests::{bursts, sessions, torrents};
-use reference::limits::RECORD;
+use reference::limits::{BLOCK, RECORD};
+use reference::marks::{clear, mark, marked};
 use reference::messages::{Header, HEAD};
 use reference::number::*;
 use reference::sha256::sha256;
@@ -69,7 +70,7 @@ fn untouched(call: &Call) -> Outcome {
 
 #[test]
 fn every_number_comes_up() {
-    let expected: [(Entry, &[u32]); 9] = [
+    let expected: [(Entry, &[u32]); 12] = [
         (Entry::StoreSize, &[0, 10]),
         (Entry::Open, &[0, 9, 10]),
         (Entry::Held, &[0, 3, 6, 9]),
@@ -79,6 +80,9 @@ fn every_number_comes_up() {
         (Entry::LoadLayer, &[0, 3, 4, 6, 7, 8, 9]),
         (Entry::JudgeBlock, &[0, 3, 4, 6, 7, 9]),
         (Entry::JudgePiece, &[0, 3, 4, 6, 7, 8, 9]),
+        (Entry::Marked, &[0, 3, 9]),
+        (Entry::Clear, &[0, 3, 9]),
+        (Entry::Bitfield, &[0, 9, 11]),
     ];
     assert_seen(&sessions(&by_reference), &expected);
 }
@@ -266,6 +270,70 @@ fn marks_that_say_neither_read_as_held() {
             Outcome { given: by_reference(&call).given, ..untouched(&call) }
         }
         _ => by_reference(call),
+    });
+}
+
+#[test]
+fn marks_of_blocks_that_are_wrong_in_one_way() {
+    assert_found_out("marked before the verdict", &|call| match (call.entry, by_reference(call)) {
+        (Entry::JudgeBlock, mut outcome) if outcome.given.number() == DIFFERS => {
+            let facts = facts_of(&call.store).unwrap();
+            mark(&mut outcome.store, &facts, call.numbers[0]..call.numbers[0] + 1);
+            outcome
+        }
+        (_, outcome) => outcome,
+    });
+    assert_found_out("a last piece as long as the others", &|call| match (call.entry, by_reference(call)) {
+        (Entry::JudgePiece, mut outcome) if outcome.given.number() == DONE => {
+            let facts = facts_of(&call.store).unwrap();
+            let each = facts.piece_length / BLOCK;
+            let first = call.numbers[0] * each;
+            mark(&mut outcome.store, &facts, first..facts.width(0).min(first + each));
+            outcome
+        }
+        (_, outcome) => outcome,
+    });
+    assert_found_out("the low bit first", &|call| match (call.entry, by_reference(call)) {
+        (Entry::Bitfield, mut outcome) => {
+            let size = outcome.given.count() as usize;
+            outcome.out[..size].iter_mut().for_each(|byte| *byte = byte.reverse_bits());
+            outcome
+        }
+        (_, outcome) => outcome,
+    });
+    assert_found_out("cleared beside 3", &|call| match (call.entry, by_reference(call)) {
+        (Entry::Clear, mut outcome) if outcome.given.number() == RULE_BROKEN => {
+            let facts = facts_of(&call.store).unwrap();
+            if call.numbers[0] < facts.width(0) {
+                let end = size_of(&facts) as usize;
+                outcome.store[end - (facts.width(0) - call.numbers[0]) as usize] = 0;
+            }
+            outcome
+        }
+        (_, outcome) => outcome,
+    });
+    assert_found_out("an answer by the mark", &|call| match (call.entry, by_reference(call)) {
+        (Entry::JudgeBlock, mut outcome) if outcome.given.number() == DONE => {
+            outcome.given = Given::Answer(Answer::done(marked(&call.store, call.numbers[0]).count));
+            outcome
+        }
+        (_, outcome) => outcome,
+    });
+    assert_found_out("7 takes the mark back", &|call| match (call.entry, by_reference(call)) {
+        (Entry::JudgeBlock, mut outcome) if outcome.given.number() == DIFFERS => {
+            clear(&mut outcome.store, call.numbers[0]);
+            outcome
+        }
+        (_, outcome) => outcome,
+    });
+    assert_found_out("any byte but 0 is a mark", &|call| match (call.entry, by_reference(call)) {
+        (Entry::Marked, mut outcome) if outcome.given.number() == DONE => {
+            let facts = facts_of(&call.store).unwrap();
+            let at = size_of(&facts) as usize - (facts.width(0) - call.numbers[0]) as usize;
+            outcome.given = Given::Answer(Answer::done((call.store[at] != 0) as u64));
+            outcome
+        }
+        (_, outcome) => outcome,
     });
 }
 

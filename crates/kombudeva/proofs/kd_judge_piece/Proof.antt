@@ -11,8 +11,12 @@ judge-piece-requires c κs = search needs
 count-answer-requires : tie.Need-count-answer-requires
 count-answer-requires c κs = search needs
 
+same-length : tie.Need-same-length
+same-length c = search needs
+
 returns : tie.Need-returns
-returns c = c .count-answer .ensures ∙ ap countAnswer (c .before .judge-piece .ensures)
+returns c = (c .count-answer .ensures ∙ ap countAnswer (c .before .before .before .judge-piece .ensures .0), c .before .before .before .judge-piece .ensures .1)
 
 pub kd-judge-piece-spec : {M : Type 1} → statement M
-kd-judge-piece-spec = tie.close (tie.spec judge-piece-requires count-answer-requires returns)
+kd-judge-piece-spec =
+    tie.close (tie.spec judge-piece-requires count-answer-requires same-length returns)
