@@ -171,7 +171,7 @@ kd_history_answer kd_history_begin(uint64_t piece_length);
 
 /*
  * Takes a burst of any size, none included. A piece's hash is written to the lent layer once the history runs past the piece:
- * after N bytes the first ceil(N / piece length) - 1 have been, 32 bytes each. Other bytes of the layer stay.
+ * after N bytes the first ceil(N / piece length) - 1 have been (none if N is 0), 32 bytes each. Other bytes of the layer stay.
  *   KD_UNUSABLE  a state whose counts no bursts give: a bad piece length, `length` above KD_LONGEST_FILE, or counts of
  *       `block` that aren't those of `length` modulo KD_BLOCK.
  *   KD_FACTS_OUT_OF_RANGE  the burst would go past KD_LONGEST_FILE bytes.

@@ -1,17 +1,17 @@
 -- Record n of the list, read back, is what `kd_torrent_file` and `kd_torrent_path` answer for file n.
 -- Assumes nothing.
-use mathlib.Core.Path.{_≡_, refl, sym, ap, ap₂, _∙_}
+use mathlib.Core.Path.{_≡_, refl, sym, ap, _∙_}
 use mathlib.Core.Bool.{Bool, true, false}
 use mathlib.Core.List.{List, [], _∷_, _++_, append-assoc}
 use Prim.Native.Nat.{ℕ, zero, suc, _+_, _-_, _*_, _^_, _≤_, _<_}
 use native.Mathlib.Omega.{arith}
 use native.Mathlib.Decide.{decLt}
-use lib.ListN.{length, take, drop, getD, length-append, List·getD-append}
-use lib.Seq.{drop-append-add, getD-append-add, take-append-seam, take-all}
+use lib.ListN.{length, take, drop, getD, List·getD-append}
+use lib.Seq.{drop-append-add, getD-append-add, take-append-seam}
 use lib.Dec.{eqb, ltb}
 use borrow.Author.Tests.{eqb-true, eqb-false, ltb-false}
-use Rattle.octets.specs.Octets.{cut, pasted, be, numberAt, zeroHash}
-use Rattle.octets.specs.OctetsLaws.{cut-cut, cut-pasted-same, cut-append-left, number-same, number-of-be, be-octets, zero-octets}
+use Rattle.octets.specs.Octets.{cut, pasted, be, numberAt}
+use Rattle.octets.specs.OctetsLaws.{cut-cut, cut-pasted-same, cut-append-left, number-same, number-of-be, be-octets}
 use Rattle.limits.specs.Limits.{largestTorrent, maxLevels}
 use Rattle.numbers.specs.Numbers.{noRoom}
 use Rattle.tree.specs.Geometry.{pieceCount, ceilDiv}
@@ -28,15 +28,17 @@ use Rattle.meaning.specs.FilesLaws.{FileHolds, AllHold, nth-holds, nth-right, e
 use Rattle.metainfo.specs.Metainfo.{bytesIn, keysOf}
 use Rattle.metainfo.specs.declared.Keys.{Keys}
 use Rattle.filetree.specs.Tree.{maxElements, Element, Listed, listed, filesIn, fileNumber}
+use Rattle.filetree.specs.FilesLaws.{files-right, number-right}
 use Rattle.layers.specs.Layers.{rootBytes, layerString, startOf, sizeOf}
-use Rattle.filetree.specs.Reading.{readFile, readFiles}
+use Rattle.filetree.specs.Reading.{readFile}
 use Rattle.torrent.specs.Torrent.{checkedOf, readOf, fileRead, fileAnswer, pathRead, elementIn}
 use Rattle.torrent.specs.Answers.{FileIs}
 use Rattle.torrent.specs.NumberMeans.{read-number, read-encodes}
-use Rattle.torrent.specs.ReadMeans.{part-within, at-values, value-zero, same-keys, same-files, all-files, torrent-is, file-read, file-answer, path-answer, file-is, element-is}
+use Rattle.torrent.specs.ReadMeans.{part-within, at-values, value-zero, same-keys, all-files, torrent-is, file-read, file-answer, path-answer, file-is, element-is}
 use Rattle.torrent.specs.declared.read.FileRead.{FileRead}
 use Rattle.torrent.specs.declared.read.PartRead.{PartRead}
 use Rattle.catalogue.specs.Catalogue.{partBytes, elementBytes, elementsBytes, headBytes, Parts, recordOf, recordSize, recordsOf, partsOf, listAnswer, listAfter}
+use Rattle.catalogue.specs.CatalogueLaws.{element-none, elements-length, root-length, record-length, records-length, record-at}
 use Rattle.calls.specs.Calls.{RecordIs}
 
 -- ---- numbers among other bytes
@@ -60,9 +62,6 @@ number-first k n b h =
     number-same (be k n ++ b) (be k n) 0 0 k (λ j l. List·getD-append (be k n) b 0 (0 + j) (omega (arith, be-size k n))) ∙ number-of-be k n h
 
 -- ---- the head
-
-part-size : (start size : ℕ) → length (partBytes start size) ≡ 8
-part-size start size = length-append (be 4 start) (be 4 size) ∙ ap₂ _+_ (be-size 4 start) (be-size 4 size)
 
 module _ (base n : ℕ) (root : List ℕ) (layer : ByteString) (elements : ℕ) (rest : List ℕ) (wide : length root ≡ 32) where
   abbrev start : ℕ
@@ -137,37 +136,7 @@ module _ (base n : ℕ) (root : List ℕ) (layer : ByteString) (elements : ℕ) 
       ∙ number-behind (be 4 elements) (be 4 0 ++ rest) (8 + i) (4 + i) k (omega (arith, be-size 4 elements))
       ∙ number-behind (be 4 0) rest (4 + i) i k (omega (arith, be-size 4 0))
 
-  head-size-is : length (headBytes base n root layer elements ++ rest) ≡ 56 + length rest
-  head-size-is =
-      ap length head-is
-      ∙ omega (
-        arith,
-        be-size 8 n,
-        be-size 4 start,
-        be-size 4 size,
-        be-size 4 elements,
-        be-size 4 0,
-        length-append (be 8 n) (root ++ behind-root),
-        length-append root behind-root,
-        length-append (be 4 start) (be 4 size ++ behind-layer),
-        length-append (be 4 size) behind-layer,
-        length-append (be 4 elements) (be 4 0 ++ rest),
-        length-append (be 4 0) rest,
-      )
-
 -- ---- the elements
-
-element-size-is : (base : ℕ) (path : List Element) (k : ℕ) → length (elementBytes base path k) ≡ 8
-unfolding elementBytes
-element-size-is base [] k = be-size 8 0
-element-size-is base (e ∷ path) zero = part-size (base + e .start) (e .end - e .start)
-element-size-is base (e ∷ path) (suc k) = element-size-is base path k
-
-elements-size : (base : ℕ) (path : List Element) (m : ℕ) → length (elementsBytes base path m) ≡ 8 * m
-unfolding elementsBytes
-elements-size base path zero = refl
-elements-size base path (suc m) =
-    omega (arith, length-append (elementsBytes base path m) (elementBytes base path m), element-size-is base path m, elements-size base path m)
 
 -- a number in the place of element k
 element-number : (base : ℕ) (path : List Element) (m k i n : ℕ) → k < m → i + n ≤ 8 → numberAt (elementsBytes base path m) (i + 8 * k) n ≡ numberAt (elementBytes base path k) i n
@@ -179,11 +148,11 @@ element-number base path (suc m) k i n h l = by-place (decLt k m) (element-numbe
         → numberAt (elementsBytes base path m ++ elementBytes base path m) (i + 8 * k) n ≡ numberAt (elementBytes base path k) i n
     by-place (yes g) ih =
         number-same (elementsBytes base path m ++ elementBytes base path m) (elementsBytes base path m) (i + 8 * k) (i + 8 * k) n
-        (λ j o. List·getD-append (elementsBytes base path m) (elementBytes base path m) 0 (i + 8 * k + j) (omega (arith, elements-size base path m)))
+        (λ j o. List·getD-append (elementsBytes base path m) (elementBytes base path m) 0 (i + 8 * k + j) (omega (arith, elements-length base path m)))
         ∙ ih g l
     by-place (no g) ih =
         let e : k ≡ m = omega arith in
-        number-behind (elementsBytes base path m) (elementBytes base path m) (i + 8 * k) i n (omega (arith, elements-size base path m)) ∙ rw e refl
+        number-behind (elementsBytes base path m) (elementBytes base path m) (i + 8 * k) i n (omega (arith, elements-length base path m)) ∙ rw e refl
 
 -- element k as it is answered
 element-place : (base : ℕ) (path : List Element) (k : ℕ) → k < length path → elementIn base path k .start < 256 ^ 4 → elementIn base path k .size < 256 ^ 4
@@ -198,73 +167,19 @@ element-place base (e ∷ path) zero l x y =
     )
 element-place base (e ∷ path) (suc k) l x y = element-place base path k (omega arith) x y
 
--- and nothing behind the last
-element-none : (base : ℕ) (path : List Element) (k : ℕ) → length path ≤ k → elementBytes base path k ≡ be 8 0
-unfolding elementBytes
-element-none base [] k l = refl
-element-none base (e ∷ path) zero l = absurd (omega arith)
-element-none base (e ∷ path) (suc k) l = element-none base path k (omega arith)
-
--- ---- one record, and all
-
--- the root of each file has 32 bytes
-unfoldable RootsWide : List ℕ → List Listed → Type 0
-RootsWide t [] = Unit {0}
-RootsWide t (f ∷ fs) = (length (rootBytes t (f .size) (f .root)) ≡ 32) × RootsWide t fs
-
-roots-wide : (t : List ℕ) (fs : List Listed) → AllHold (readFiles t fs) → RootsWide t fs
-unfolding RootsWide AllHold
-roots-wide t [] a = tt
-roots-wide t (f ∷ fs) a = (first (eqb (f .size) 0) refl, roots-wide t fs (a .1))
-  where
-    first : (b : Bool) → eqb (f .size) 0 ≡ b → length (rootBytes t (f .size) (f .root)) ≡ 32
-    first true q = let e : rootBytes t (f .size) (f .root) ≡ zeroHash = unfold rootBytes in rw q refl in ap length e ∙ zero-octets .size
-    first false q = let w = a .0 .wide in full w
-      where
-        full : ((readFile t f .size ≡ 0 → ⊥) → length (readFile t f .root) ≡ 32) → length (rootBytes t (f .size) (f .root)) ≡ 32
-        full w = unfold readFile rootBytes in w (eqb-false (f .size) 0 q)
-
-nth-wide : (t : List ℕ) (fs : List Listed) (n : ℕ) → RootsWide t fs → n < length fs → length (rootBytes t (fileNumber fs n .size) (fileNumber fs n .root)) ≡ 32
-unfolding RootsWide fileNumber
-nth-wide t [] n w h = absurd (omega arith)
-nth-wide t (f ∷ fs) zero w h = w .0
-nth-wide t (f ∷ fs) (suc n) w h = nth-wide t fs n (w .1) (omega arith)
-
-record-size : (p : Parts) (f : Listed) → length (rootBytes (p .t) (f .size) (f .root)) ≡ 32 → length (recordOf p f) ≡ recordSize
-unfolding recordOf
-record-size p f w =
-    head-size-is (p .layers) (f .size) (rootBytes (p .t) (f .size) (f .root)) (layerString (p .l) (p .plen) (f .size) (cut (p .t) (f .root) 32)) (length (f .path)) (elementsBytes (p .tree) (f .path) maxElements) w
-    ∙ omega (arith, elements-size (p .tree) (f .path) maxElements)
-
-records-size : (p : Parts) (fs : List Listed) → RootsWide (p .t) fs → length (recordsOf p fs) ≡ recordSize * length fs
-unfolding recordsOf RootsWide
-records-size p [] w = refl
-records-size p (f ∷ fs) w = omega (arith, length-append (recordOf p f) (recordsOf p fs), record-size p f (w .0), records-size p fs (w .1))
-
--- record n is that of file n
-record-at : (p : Parts) (fs : List Listed) (n : ℕ) → RootsWide (p .t) fs → n < length fs → cut (recordsOf p fs) (recordSize * n) recordSize ≡ recordOf p (fileNumber fs n)
-unfolding recordsOf RootsWide fileNumber
-record-at p [] n w h = absurd (omega arith)
-record-at p (f ∷ fs) zero w h =
-    let size = record-size p f (w .0) in
-    cut-append-left (recordOf p f) (recordsOf p fs) 0 recordSize (omega arith)
-    ∙ ap (cut (recordOf p f) 0) (sym size)
-    ∙ (unfold cut in take-all (length (recordOf p f)) (recordOf p f) (omega arith))
-record-at p (f ∷ fs) (suc n) w h =
-    cut-behind (recordOf p f) (recordsOf p fs) (recordSize * suc n) (recordSize * n) recordSize (omega (arith, record-size p f (w .0))) ∙ record-at p fs n (w .1) (omega arith)
-
 -- ---- what it carries
 
 -- the record of a file whose answers are small
-record-carries : (p : Parts) (f : Listed) (part : ℕ → PartRead) → length (rootBytes (p .t) (f .size) (f .root)) ≡ 32 → f .size < 256 ^ 8
+record-carries : (p : Parts) (f : Listed) (part : ℕ → PartRead) → ((f .size ≡ 0 → ⊥) → f .root + 32 ≤ length (p .t)) → f .size < 256 ^ 8
     → startOf (p .layers) (layerString (p .l) (p .plen) (f .size) (cut (p .t) (f .root) 32)) < 256 ^ 4 → sizeOf (layerString (p .l) (p .plen) (f .size) (cut (p .t) (f .root) 32)) < 256 ^ 4
     → length (f .path) ≤ 28 → ((k : ℕ) → part k ≡ elementIn (p .tree) (f .path) k)
     → ((k : ℕ) → k < length (f .path) → (elementIn (p .tree) (f .path) k .start < 256 ^ 4) × (elementIn (p .tree) (f .path) k .size < 256 ^ 4))
     → RecordIs (recordOf p f) (fileAnswer (p .t) (p .l) (p .layers) (p .plen) f) part
 unfolding recordOf
-record-carries p f part w long start size few is small =
+record-carries p f part within long start size few is small =
+    let w = root-length (p .t) (f .size) (f .root) within in
     record {
-      all = record-size p f w;
+      all = record-length p f within;
       length-is = head-length (p .layers) (f .size) root layer count rest w long;
       root = head-root (p .layers) (f .size) root layer count rest w;
       layer-start = head-start (p .layers) (f .size) root layer count rest w start;
@@ -365,15 +280,12 @@ module _ (s out : List ℕ) (answered : listAnswer s out .number ≡ 0) (es : En
   hold : AllHold (filesOf es)
   hold = files-hold (treeOf es) (at-values s es start valid taken .tree-valid) (tree-no (treeOf es) (right-tree es (value-zero s es start valid taken)))
 
-  wide : RootsWide t files
-  wide = roots-wide t files (rw (same-files s es start valid taken) hold)
-
   -- the list after the call
   after-is : listAfter s out ≡ pasted out 0 (recordsOf parts files)
   after-is = is-done .after ∙ ap (λ (k : Keys). pasted out 0 (recordsOf (partsOf s k) (listed (filesIn (bytesIn s (k .tree)))))) (same-keys s es start valid taken)
 
   size-is : length (recordsOf parts files) ≡ recordSize * length files
-  size-is = records-size parts files wide
+  size-is = records-length parts files (files-right t)
 
   room : recordSize * length files ≤ length out
   room = omega (arith, is-done .room, all-files s es start valid taken)
@@ -387,7 +299,7 @@ module _ (s out : List ℕ) (answered : listAnswer s out .number ≡ 0) (es : En
       ∙ ap (λ (i : ℕ). cut (pasted out 0 all) i recordSize) (let o : recordSize * n ≡ 0 + recordSize * n = omega arith in o)
       ∙ sym (cut-cut (pasted out 0 all) 0 (length all) (recordSize * n) recordSize (omega (arith, size-is)))
       ∙ ap (λ (x : List ℕ). cut x (recordSize * n) recordSize) whole
-      ∙ record-at parts files n wide h
+      ∙ record-at parts files (files-right t) n h
 
   module _ (n : ℕ) (v : File) (at : Nth (filesOf es) n v) where
     abbrev f : Listed
@@ -436,7 +348,7 @@ module _ (s out : List ℕ) (answered : listAnswer s out .number ≡ 0) (es : En
     carries : RecordIs (recordOf parts f) (fileAnswer t (bytesIn s (keysOf s .layers)) (keysOf s .layers .start) (keysOf s .plen) f) (pathRead s n)
     carries =
         let size : v .size ≡ f .size = sym (is .size) ∙ ap (λ (z : FileRead). z .length) answer in
-        record-carries parts f (pathRead s n) (nth-wide t files n wide (n-below .1)) (omega (arith, holds .small))
+        record-carries parts f (pathRead s n) (number-right (length t) files n (files-right t) (n-below .1) .root-within) (omega (arith, holds .small))
         (rw answer at (layer-small .0)) (rw answer at (layer-small .1)) (omega (arith, holds .shallow, path-count)) path-is
         (λ k h. let w = element-small k h in (rw (path-is k) at (w .0), rw (path-is k) at (w .1)))
 

@@ -20,11 +20,11 @@ use Rattle.torrent.specs.Torrent.{checkedOf}
 use Rattle.torrent.specs.CheckLaws.{Whole, checked-so}
 use Rattle.torrent.specs.declared.check.Checked.{Checked}
 use Rattle.catalogue.specs.Catalogue.{recordSize, recordsOf, listAnswer, listAfter}
-use Rattle.catalogue.specs.CatalogueLaws.{Ready, partsWith, listingOf, whole-ready, few-files}
-use Rattle.catalogue.specs.PutLaws.{SpotRight}
+use Rattle.catalogue.specs.Asks.{Listable, partsWith, SpotRight}
+use Rattle.catalogue.specs.CatalogueLaws.{listingOf, whole-ready, few-files}
 use Rattle.catalogue.specs.declared.record.Listing.{Listing}
 
-module _ (t l : List ℕ) (k : Listing) (r : Ready t l k) where
+module _ (t l : List ℕ) (k : Listing) (r : Listable t l k) where
   -- the keys that were gathered
   pub keys-indexed : (keys₀ keys : List ℕ) → length keys₀ ≡ mostRoots → length keys ≡ length keys₀
       → (b : Bool) → b ≡ (keysWide l && eqb (length (layerKeys l)) (k .count)) → (b ≡ true → take (k .count) keys ≡ layerKeys l) → Indexed l keys (k .count)
@@ -68,7 +68,7 @@ module _ (s : List ℕ) (c : Checked) (e : c ≡ checkedOf s) where
     abbrev l : List ℕ
     l = take (c .keys .layers .end - c .keys .layers .start) (drop (c .keys .layers .start) s)
 
-    pub list-ready : Ready t l (listingOf c)
+    pub list-ready : Listable t l (listingOf c)
     unfolding cut
     list-ready = whole-ready s c whole
 

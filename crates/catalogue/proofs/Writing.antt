@@ -20,7 +20,8 @@ use Rattle.filetree.specs.CountLaws.{pasted-none}
 use Rattle.layers.specs.Layers.{Inside, layerAt, rootBytes, layerString, startOf, sizeOf}
 use Rattle.layers.proofs.Finding.{layer-inside}
 use Rattle.catalogue.specs.Catalogue.{partBytes, headBytes, recordSize}
-use Rattle.catalogue.specs.CatalogueLaws.{arrayElement, arrayElements, recordFrom, RecordRight, Forward, part-length, array-element-length, array-length, head-length, root-length}
+use Rattle.catalogue.specs.Asks.{arrayElement, arrayElements, recordFrom, RecordRight, Forward}
+use Rattle.catalogue.specs.CatalogueLaws.{part-length, array-element-length, array-length, head-length, root-length}
 use Rattle.catalogue.specs.declared.record.Record.{Record}
 
 -- b behind a

@@ -9,13 +9,12 @@ use native.Mathlib.Decide.{decLt}
 use lib.ListN.{length, take, drop, getD, length-append}
 use lib.Seq.{take-at, drop-append-add}
 use lib.Dec.{eqb, ltb}
-use borrow.Author.Tests.{eqb-false, eq-eqb, ne-eqb, le-ltb, lt-ltb}
+use borrow.Author.Tests.{eqb-false, le-ltb, lt-ltb}
 use Rattle.limits.specs.Limits.{largestTorrent}
-use Rattle.octets.specs.Octets.{cut, zeroHash, be, pasted}
+use Rattle.octets.specs.Octets.{cut, zeroHash, be}
 use Rattle.octets.specs.OctetsLaws.{cut-length, be-octets, zero-octets}
-use Rattle.numbers.specs.Numbers.{noRoom, wrongTree, sameRoot, layersAmiss, refused, done}
+use Rattle.numbers.specs.Numbers.{wrongTree, sameRoot, layersAmiss}
 use Rattle.bencode.specs.declared.scalar.ByteString.{ByteString}
-use Rattle.bencode.specs.declared.scalar.ByteString.the-variants.{Content, NoString}
 use Rattle.metainfo.specs.Metainfo.{bytesIn}
 use Rattle.filetree.specs.Token.{tokenAt}
 use Rattle.filetree.specs.TokenLaws.{TokenIn, token-in}
@@ -25,55 +24,21 @@ use Rattle.filetree.specs.declared.token.Token.{Token}
 use Rattle.filetree.specs.declared.token.Token.the-variants.{Opened, Closed, Leaf, BadToken}
 use Rattle.layers.specs.JudgeLaws.{tree-some}
 use Rattle.filetree.specs.Tree.{maxElements, Element, Listed, listedAs, down, Files, wrong, files, after, onward, onToken, filesFrom, filesBelow, right, listed, filesIn, rootsOf, fileNumber}
-use Rattle.filetree.specs.Count.{mostRoots}
 use Rattle.filetree.specs.PathLaws.{elementNumber, Holds, holds-element}
-use Rattle.filetree.specs.FilesLaws.{AllRight, files-right}
+use Rattle.filetree.specs.FilesLaws.{AllRight}
 use Rattle.filetree.specs.Reading.{readFiles}
 use Rattle.meaning.specs.Torrent.{lengthsAgree}
 use Rattle.twins.specs.Twins.{layerCount}
 use Rattle.twins.specs.WalkLaws.{layers-roots}
-use Rattle.layers.specs.Layers.{keysWide, layerKeys, LayersOpen, worst, rootBytes, layerString, startOf, sizeOf}
-use Rattle.torrent.specs.Torrent.{filesNumber, treeNumber, checkedOf}
-use Rattle.torrent.specs.CheckLaws.{Whole, checked-whole}
-use Rattle.torrent.specs.FindLaws.{PathGiven}
+use Rattle.layers.specs.Layers.{keysWide, layerKeys, worst, rootBytes, layerString, startOf, sizeOf}
+use Rattle.torrent.specs.Torrent.{filesNumber, treeNumber}
+use Rattle.torrent.specs.CheckLaws.{Whole}
 use Rattle.torrent.specs.declared.check.Checked.{Checked}
-use Rattle.catalogue.specs.Catalogue.{partBytes, elementBytes, elementsBytes, headBytes, Parts, partsOf, recordOf, recordSize, recordsOf, listAnswer, listAfter}
+use Rattle.catalogue.specs.Catalogue.{partBytes, elementBytes, elementsBytes, headBytes, Parts, recordOf, recordSize, recordsOf}
+use Rattle.catalogue.specs.Asks.{arrayElement, arrayElements, recordFrom, partsWith, Listable}
 use Rattle.catalogue.specs.declared.record.Listing.{Listing}
-use Rattle.catalogue.specs.declared.record.Record.{Record}
-
--- a string ends behind its beginning, and within the torrent, of which its part begins at `base`
-abbrev pub Forward : ℕ → ByteString → Type 0
-Forward base NoString = Unit {0}
-Forward base (Content a b) = (a ≤ b) × (base + b ≤ largestTorrent)
 
 -- ---- from an array
-
--- element k of the n that an array has
-unfoldable pub arrayElement : ℕ → List ℕ → ℕ → ℕ → List ℕ
-arrayElement base path n k =
-    cond (ltb k n)
-    (partBytes (base + getD path (2 * k) 0) (getD path (2 * k + 1) 0 - getD path (2 * k) 0))
-    (be 8 0)
-
-unfoldable pub arrayElements : ℕ → List ℕ → ℕ → ℕ → List ℕ
-arrayElements base path n zero = []
-arrayElements base path n (suc m) = arrayElements base path n m ++ arrayElement base path n m
-
--- the record of a file whose path is in an array
-unfoldable pub recordFrom : List ℕ → List ℕ → List ℕ → Record → List ℕ
-recordFrom t l path f =
-    headBytes (f .list .layers) (f .length) (rootBytes t (f .length) (f .root)) (layerString l (f .list .plen) (f .length) (cut t (f .root) 32)) (f .elements)
-    ++ arrayElements (f .list .tree) path (f .elements) maxElements
-
--- it can be written
-pub record RecordRight (tree layers room : ℕ) (path : List ℕ) (f : Record) : Type 0 where
-  pub root-within : (f .length ≡ 0 → ⊥) → f .root + 32 ≤ tree
-  pub layers-within : f .list .layers + layers ≤ largestTorrent
-  pub path-given : PathGiven path (f .elements) (f .list .tree)
-  pub fits : f .at + recordSize ≤ room
-
-abbrev pub partsWith : List ℕ → List ℕ → Listing → Parts
-partsWith t l k = record { t = t; l = l; tree = k .tree; layers = k .layers; plen = k .plen }
 
 element-some : (base : ℕ) (p : List Element) (k : ℕ) → k < length p → elementBytes base p k ≡ partBytes (base + elementNumber p k .start) (elementNumber p k .end - elementNumber p k .start)
 unfolding elementBytes elementNumber
@@ -81,7 +46,7 @@ element-some base [] k h = absurd (omega arith)
 element-some base (e ∷ es) zero h = refl
 element-some base (e ∷ es) (suc k) h = element-some base es k (omega arith)
 
-element-none : (base : ℕ) (p : List Element) (k : ℕ) → length p ≤ k → elementBytes base p k ≡ be 8 0
+pub element-none : (base : ℕ) (p : List Element) (k : ℕ) → length p ≤ k → elementBytes base p k ≡ be 8 0
 unfolding elementBytes
 element-none base [] k h = refl
 element-none base (e ∷ es) zero h = absurd (omega arith)
@@ -117,13 +82,13 @@ same-record t l path k n r d at p w e = rw (same-elements (k .tree) path d p w e
 pub part-length : (a b : ℕ) → length (partBytes a b) ≡ 8
 part-length a b = refl
 
-element-length : (base : ℕ) (p : List Element) (k : ℕ) → length (elementBytes base p k) ≡ 8
+pub element-length : (base : ℕ) (p : List Element) (k : ℕ) → length (elementBytes base p k) ≡ 8
 unfolding elementBytes
 element-length base [] k = refl
 element-length base (e ∷ es) zero = refl
 element-length base (e ∷ es) (suc k) = element-length base es k
 
-elements-length : (base : ℕ) (p : List Element) (m : ℕ) → length (elementsBytes base p m) ≡ 8 * m
+pub elements-length : (base : ℕ) (p : List Element) (m : ℕ) → length (elementsBytes base p m) ≡ 8 * m
 unfolding elementsBytes
 elements-length base p zero = refl
 elements-length base p (suc m) = length-append (elementsBytes base p m) (elementBytes base p m) ∙ omega (arith, elements-length base p m, element-length base p m)
@@ -264,15 +229,6 @@ files-few t e = by-files (filesIn t) refl e (tree-below t (tree-some t e))
 
 -- ---- what a torrent that gets 0 has
 
--- the parts t and l of a torrent, by which its list is written
-pub record Ready (t l : List ℕ) (k : Listing) : Type 0 where
-  pub tree-within : k .tree + length t ≤ largestTorrent
-  pub layers-within : k .layers + length l ≤ largestTorrent
-  pub tree-right : right (filesIn t) ≡ true
-  pub opened : LayersOpen l
-  pub keyed : (keysWide l && eqb (length (layerKeys l)) (k .count)) ≡ true
-  pub few-long : k .count ≤ mostRoots
-
 -- 27 is out where a torrent gets 0
 tree-keyed : (t l : List ℕ) (plen : ℕ) (fs : Files) → treeNumber t l plen fs ≡ 0 → (keysWide l && eqb (length (layerKeys l)) (layerCount plen (readFiles t (listed fs)))) ≡ true
 unfolding treeNumber filesNumber
@@ -306,7 +262,7 @@ module _ (s : List ℕ) (c : Checked) (w : Whole s c) where
   tree-inside : c .keys .tree .start + length t ≤ largestTorrent
   tree-inside = let a = w .opened .tree-size in let b = w .opened .tree-forward in let d = w .opened .tree-within in let f = w .opened .small in omega arith
 
-  pub whole-ready : Ready t l (listingOf c)
+  pub whole-ready : Listable t l (listingOf c)
   whole-ready =
       let a = w .opened .layers-size in
       let b = w .opened .layers-forward in
@@ -327,33 +283,3 @@ module _ (s : List ℕ) (c : Checked) (w : Whole s c) where
 
   pub few-files : c .files ≤ largestTorrent
   few-files = let a = files-few t (w .tree-right) .0 in let b = w .all-files in let d = tree-inside in omega arith
-
--- the whole output where the list has room: the records, and the bytes behind them as they were
-pub list-whole : (s out : List ℕ) → checkedOf s .keys .number ≡ 0 → recordSize * checkedOf s .files ≤ length out
-    → listAfter s out ≡ recordsOf (partsOf s (checkedOf s .keys)) (listed (filesIn (bytesIn s (checkedOf s .keys .tree)))) ++ drop (recordSize * checkedOf s .files) out
-unfolding listAfter pasted
-list-whole s out z h =
-    let fs = listed (filesIn (bytesIn s (checkedOf s .keys .tree))) in
-    let records = recordsOf (partsOf s (checkedOf s .keys)) fs in
-    let e : 0 + length records ≡ recordSize * checkedOf s .files = omega (arith, records-length (partsOf s (checkedOf s .keys)) fs (files-right (bytesIn s (checkedOf s .keys .tree))), checked-whole s z .all-files) in
-    rw (eq-eqb (checkedOf s .keys .number) 0 z, le-ltb (length out) (recordSize * checkedOf s .files) h) (ap (λ (n : ℕ). records ++ drop n out) e)
-
--- ---- a refusal
-
--- whatever is refused is left as it was, with no count
-pub list-refused : (s out : List ℕ) → (listAnswer s out .number ≡ 0 → ⊥) → (listAfter s out ≡ out) × (listAnswer s out .count ≡ 0)
-unfolding listAnswer listAfter
-list-refused s out h = by-number (eqb (checkedOf s .keys .number) 0) (ltb (length out) (recordSize * checkedOf s .files)) h
-  where
-    by-number : (a b : Bool)
-        → (cond a (cond b (refused noRoom) (done (recordSize * checkedOf s .files))) (refused (checkedOf s .keys .number)) .number ≡ 0 → ⊥)
-        → (cond a (cond b out (pasted out 0 (recordsOf (partsOf s (checkedOf s .keys)) (listed (filesIn (bytesIn s (checkedOf s .keys .tree))))))) out ≡ out)
-        × (cond a (cond b (refused noRoom) (done (recordSize * checkedOf s .files))) (refused (checkedOf s .keys .number)) .count ≡ 0)
-    by-number true true g = (refl, refl)
-    by-number true false g = absurd (g refl)
-    by-number false b g = (refl, refl)
-
--- the torrent's own number comes before 11
-pub list-own-number : (s out : List ℕ) → (checkedOf s .keys .number ≡ 0 → ⊥) → listAnswer s out .number ≡ checkedOf s .keys .number
-unfolding listAnswer
-list-own-number s out h = rw (ne-eqb (checkedOf s .keys .number) 0 h) refl

@@ -1,3 +1,4 @@
 pub mod Catalogue
+pub mod Asks
 pub mod CatalogueLaws
 pub mod PutLaws

@@ -1,7 +1,7 @@
 -- The records of a directory's files written by a walk that keeps the path.
 -- Assumes nothing.
 use mathlib.Core.Path.{_≡_, refl, sym, ap, _∙_}
-use mathlib.Core.Bool.{Bool, true, false, false≢true}
+use mathlib.Core.Bool.{true}
 use mathlib.Core.List.{List, [], _∷_, _++_}
 use Prim.Native.Nat.{ℕ, _+_, _-_, _*_, _≤_, _<_}
 use native.Mathlib.Omega.{arith}
@@ -10,7 +10,7 @@ use lib.ListN.{length, getD, set, length-append, length-set}
 use lib.Seq.{getD-set-same, getD-set-other}
 use Rattle.limits.specs.Limits.{largestTorrent}
 use Rattle.octets.specs.Octets.{pasted}
-use Rattle.octets.specs.OctetsLaws.{pasted-append, pasted-length}
+use Rattle.octets.specs.OctetsLaws.{pasted-append}
 use Rattle.filetree.specs.Token.{tokenAt}
 use Rattle.filetree.specs.TokenLaws.{leaf-ends, opened-ends}
 use Rattle.filetree.specs.Tree.{maxElements, Element, Listed, listedAs, down, Files, wrong, files, filesFrom, filesBelow, filesIn, right, listed}
@@ -21,39 +21,12 @@ use Rattle.filetree.specs.PathLaws.{flat, Holds, holds-length, holds-down, hold
 use Rattle.layers.specs.JudgeLaws.{tree-some}
 use Rattle.torrent.specs.FindLaws.{PathGiven, holds-up, not-wrong, is-right, right-is, split, same-files}
 use Rattle.filetree.specs.declared.token.Token.the-variants.{Opened, Closed, Leaf, BadToken}
-use Rattle.catalogue.specs.Catalogue.{Parts, recordOf, recordSize, recordsOf}
-use Rattle.catalogue.specs.CatalogueLaws.{recordFrom, RecordRight, partsWith, same-record, record-length, records-append, records-one}
-use Rattle.catalogue.specs.declared.record.Listing.{Listing}
-use Rattle.catalogue.specs.declared.record.Record.{Record}
+use Rattle.catalogue.specs.Catalogue.{Parts, recordSize, recordsOf}
+use Rattle.catalogue.specs.Asks.{recordFrom, RecordRight, partsWith, SpotRight, Recorded, Puts}
+use Rattle.catalogue.specs.CatalogueLaws.{same-record, record-length, records-append, records-one}
 use Rattle.catalogue.specs.declared.Spot.{Spot}
 use Rattle.catalogue.specs.declared.Put.{Put}
 use Rattle.catalogue.specs.declared.Put.the-variants.{Past, WrongTree}
-
--- a directory can be written
-pub record SpotRight (tree layers room : ℕ) (path : List ℕ) (s : Spot) : Type 0 where
-  pub tree-within : s .list .tree + tree ≤ largestTorrent
-  pub layers-within : s .list .layers + layers ≤ largestTorrent
-  pub shallow : s .levels ≤ maxElements
-  pub given : PathGiven path (maxElements - s .levels) (s .list .tree)
-  pub fits : s .to ≤ room
-  pub early : s .to ≤ recordSize * s .at
-
-abbrev pub PutIn : ℕ → ℕ → ℕ → Put → Type 0
-PutIn at end room WrongTree = Unit {0}
-PutIn at end room (Past k m) = (at < k) × (k ≤ end) × (m ≤ room) × (m ≤ recordSize * k)
-
--- the records of the files fs are written
-pub record Written (q : Parts) (fs : List Listed) (k to : ℕ) (out₀ out : List ℕ) (r : Put) : Type 0 where
-  pub answer : r ≡ Past k (to + recordSize * length fs)
-  pub records : out ≡ pasted out₀ to (recordsOf q fs)
-  pub size : length (recordsOf q fs) ≡ recordSize * length fs
-
--- so it is of a directory that is right, where the array has the path to it and there is room
-pub record Puts (t l : List ℕ) (s : Spot) (path₀ path out₀ out : List ℕ) (r : Put) : Type 0 where
-  pub ends : PutIn (s .at) (length t) (length out₀) r
-  pub given : PathGiven path (maxElements - s .levels) (s .list .tree)
-  pub puts : (p : List Element) → Holds path₀ (maxElements - s .levels) p → (fs : List Listed) (k : ℕ) → filesBelow (s .levels) t (s .at) p ≡ files fs k → s .to + recordSize * length fs ≤ length out₀
-      → Written (partsWith t l (s .list)) fs k (s .to) out₀ out r × Holds path (maxElements - s .levels) p
 
 -- ---- the path
 
@@ -174,7 +147,7 @@ module _ (t l : List ℕ) (s : Spot) (path₀ path out₀ out : List ℕ) (below
     puts-closed e = record { ends = (let x = w .in-order in omega arith, omega arith, w .fits, let x = w .early in omega arith); given = w .given; puts = go }
       where
         go : (p : List Element) → Holds path₀ depth p → (fs : List Listed) (k : ℕ) → whole p ≡ files fs k → s .to + recordSize * length fs ≤ length out₀
-            → Written q fs k (s .to) out₀ out (Past (i + 1) to) × Holds path depth p
+            → Recorded q fs k (s .to) out₀ out (Past (i + 1) to) × Holds path depth p
         go p o fs k e′ r =
             let x = w .passed p o (is-right (whole p) fs k e′) (rw (files-listed (whole p) fs k e′) r) in
             let y = same-files (x .0) fs (i + 1) k (sym (passed-closed t (whole p) below p i (x .0) (x .1) h e) ∙ e′) in (
@@ -288,7 +261,7 @@ module _ (t l : List ℕ) (s : Spot) (path₀ path out₀ out : List ℕ) (below
 
       module _ (path″ out″ : List ℕ) (lo : length out″ ≡ length out) where
         inside-puts : (r : Put) → Puts t l inner path′ path″ out out″ r → (p : List Element) (o : Holds path₀ depth p) (u : right (whole p) ≡ true) (g : s .to + recordSize * length (listed (whole p)) ≤ length out₀)
-            → Written q (inside-right p o u g .0) (inside-right p o u g .1) to out out″ r × Holds path″ (maxElements - below) (down p a b)
+            → Recorded q (inside-right p o u g .0) (inside-right p o u g .1) to out out″ r × Holds path″ (maxElements - below) (down p a b)
         inside-puts r x p o u g =
             let y = inside-right p o u g in
             let z = w .sized in

@@ -23,8 +23,7 @@ ghost use Rattle.filetree.specs.Tree.{filesIn, listed};
 ghost use Rattle.filetree.specs.Count.{mostRoots};
 ghost use Rattle.layers.specs.Layers.{Indexed};
 ghost use Rattle.catalogue.specs.Catalogue.{recordsOf, recordSize, listAnswer, listAfter};
-ghost use Rattle.catalogue.specs.CatalogueLaws.{partsWith, Ready};
-ghost use Rattle.catalogue.specs.PutLaws.{SpotRight, Puts};
+ghost use Rattle.catalogue.specs.Asks.{partsWith, Listable, SpotRight, Puts};
 
 // The bytes of one record.
 pub const RECORD: usize = 280;
@@ -121,7 +120,7 @@ fn put_directory(
 // Writes the records of all files of a torrent that gets 0; `keys` is work space, for where the keys of `piece layers` stand. They are as
 // many as they should be: `check` has seen it, so that `index` need not be asked again.
 fn list_in(t: &[u8], l: &[u8], keys: &mut [u32], out: &mut [u8], list: Listing)
-    requires { ⌜ Ready (now t) (now l) list × (L.length (now keys) ≡ mostRoots) × (recordSize * L.length (listed (filesIn (now t))) ≤ L.length (now out)) ⌝ }
+    requires { ⌜ Listable (now t) (now l) list × (L.length (now keys) ≡ mostRoots) × (recordSize * L.length (listed (filesIn (now t))) ≤ L.length (now out)) ⌝ }
     ensures { λ _. ⌜ now (out .exit) ≡ pasted (now (out .entry)) 0 (recordsOf (partsWith (now (t .entry)) (now (l .entry)) list) (listed (filesIn (now (t .entry))))) ⌝ }
 {
     let mut path = [0usize; PATH];

@@ -16,7 +16,7 @@ ghost use Rattle.filetree.specs.Tree.{maxElements};
 ghost use Rattle.layers.specs.Layers.{Indexed, layerString, startOf, sizeOf};
 ghost use Rattle.torrent.specs.FindLaws.{PathGiven};
 ghost use Rattle.catalogue.specs.Catalogue.{partBytes, headBytes};
-ghost use Rattle.catalogue.specs.CatalogueLaws.{arrayElement, arrayElements, recordFrom, Forward, RecordRight};
+ghost use Rattle.catalogue.specs.Asks.{arrayElement, arrayElements, recordFrom, Forward, RecordRight};
 
 // Where `file tree` and `piece layers` begin in the torrent, the piece length, and how many keys `piece layers` has.
 pub struct Listing {

@@ -98,7 +98,7 @@ grown-rest s (x ∷ xs) ys = grown-rest (grown s x) xs ys
 pub noted-rest : (s : History) (layer xs ys : List ℕ) → notedBy s layer (xs ++ ys) ≡ notedBy (grownBy s xs) (notedBy s layer xs) ys
 unfolding grownBy notedBy
 noted-rest s layer [] ys = refl
-noted-rest s layer (x ∷ xs) ys = noted-rest (grown s x) (noted s layer) xs ys
+noted-rest s layer (x ∷ xs) ys = noted-rest (grown s x) _ xs ys
 
 -- a history that has bytes of a block under way passes no piece
 pub noted-inside : (s : History) (layer : List ℕ) → isPieceLength (s .«piece_length») ≡ true → (s .length % blockLength ≡ 0 → ⊥) → noted s layer ≡ layer

@@ -1,8 +1,9 @@
 -- 02, request 1: what begin, more and end of a history answer, and what they leave of the lent layer; for any state.
 -- Assumes nothing.
+use mathlib.Core.Path.{_≡_}
 use mathlib.Core.List.{List, []}
-use mathlib.Core.Bool.{Bool, cond, _&&_}
-use Prim.Native.Nat.{ℕ, _+_, _-_, _*_, _%_}
+use mathlib.Core.Bool.{Bool, true, cond, _&&_}
+use Prim.Native.Nat.{ℕ, _+_, _-_, _*_, _%_, _≤_}
 use lib.ListN.{length, replicate}
 use lib.Dec.{eqb, ltb, leb}
 use Rattle.octets.specs.Octets.{pasted, zeroHash}
@@ -38,6 +39,13 @@ unfoldable pub possibleCounts : History → Bool
 possibleCounts s =
     isPieceLength (s .«piece_length») && leb (s .length) longestFile && eqb (s .block .total) (s .length % blockLength)
     && eqb (s .block .«tail_size») (s .block .total % 64)
+
+-- the same, one by one
+pub record Possible (s : History) : Type 0 where
+  pub pieces : isPieceLength (s .«piece_length») ≡ true
+  pub short : s .length ≤ longestFile
+  pub inside : s .block .total ≡ s .length % blockLength
+  pub tail : s .block .«tail_size» ≡ s .block .total % 64
 
 -- how many pieces n bytes have run past
 unfoldable pub passed : ℕ → ℕ → ℕ

@@ -13,7 +13,7 @@ use Rattle.running.specs.Bursts.{stateOf}
 use Rattle.running.specs.declared.Hashing.{Hashing}
 use Rattle.tree.specs.Geometry.{blockLength, isPieceLength}
 use Rattle.history.specs.Growing.{nodeCount}
-use Rattle.history.specs.Answers.{emptyHistory, noHistory, beginAnswer, possibleCounts}
+use Rattle.history.specs.Answers.{emptyHistory, noHistory, beginAnswer, possibleCounts, Possible}
 use Rattle.history.specs.declared.History.{History}
 
 -- ---- begin
@@ -28,13 +28,6 @@ unfolding beginAnswer
 begin-refused plen t = rw t
 
 -- ---- the counts
-
--- what possible counts are
-pub record Possible (s : History) : Type 0 where
-  pub pieces : isPieceLength (s .«piece_length») ≡ true
-  pub short : s .length ≤ longestFile
-  pub inside : s .block .total ≡ s .length % blockLength
-  pub tail : s .block .«tail_size» ≡ s .block .total % 64
 
 pub possible-says : (s : History) → possibleCounts s ≡ true → Possible s
 unfolding possibleCounts

@@ -17,8 +17,8 @@ use Rattle.limits.specs.Limits.{longestFile}
 use Rattle.tree.specs.Geometry.{blockLength, isPieceLength, pieceLayer, hasLayer, pieceCount}
 use Rattle.tree.specs.GeometryLaws.{ceil-least, below-ceil, ceil-by-zero}
 use Rattle.history.specs.Growing.{grownBy, notedBy, lastNode, rootOf}
-use Rattle.history.specs.Answers.{possibleCounts, passed, noRoomFor, moreNumber, moreAnswer, moreLayer, layerBytes, layerSize, endNumber, endAnswer, withLast, endLayer}
-use Rattle.history.specs.AnswersLaws.{Possible, possible-says}
+use Rattle.history.specs.Answers.{possibleCounts, passed, noRoomFor, moreNumber, moreAnswer, moreLayer, layerBytes, layerSize, endNumber, endAnswer, withLast, endLayer, Possible}
+use Rattle.history.specs.AnswersLaws.{possible-says}
 use Rattle.history.specs.LayerLaws.{passed-at, passed-grows, pieces-some}
 use Rattle.history.specs.declared.History.{History}
 

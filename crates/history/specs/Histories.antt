@@ -13,8 +13,8 @@ use Rattle.tree.specs.Geometry.{isPieceLength, pieceLayer, hasLayer, pieceCount
 use Rattle.tree.specs.Values.{piecesRoot, wholeLayer}
 use Rattle.history.specs.Answers.{emptyHistory, layerBytes, moreAnswer, moreLayer, endAnswer, endLayer}
 use Rattle.history.specs.DecidingLaws.{bytes-none}
-use Rattle.history.specs.HistoryOf.{historyOf}
-use Rattle.history.specs.HistoriesLaws.{Written, empty-is, empty-written, taken-state, taken-short, written-more, refused-state, refused-layer, end-of, end-without, layer-at-end, asked-written, no-bytes, no-root, no-layer}
+use Rattle.history.specs.HistoryOf.{historyOf, Written}
+use Rattle.history.specs.HistoriesLaws.{empty-is, empty-written, taken-state, taken-short, written-more, refused-state, refused-layer, end-of, end-without, layer-at-end, asked-written, no-bytes, no-root, no-layer}
 use Rattle.history.specs.declared.History.{History}
 
 -- ---- any cutting, whatever is lent

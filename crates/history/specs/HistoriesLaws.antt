@@ -19,13 +19,13 @@ use Rattle.tree.specs.GeometryLaws.{below-ceil, piece-length-form, pieces-cover
 use Rattle.tree.specs.Values.{node, leafOf, piecesRoot, layerOf, wholeLayer}
 use Rattle.tree.specs.ValuesLaws.{file-octets, layer-octets}
 use Rattle.history.specs.Growing.{grownBy, notedBy, rootOf}
-use Rattle.history.specs.Answers.{emptyHistory, passed, noRoomFor, moreNumber, moreAnswer, moreLayer, layerBytes, endNumber, endAnswer, endLayer}
-use Rattle.history.specs.AnswersLaws.{Possible, says-possible}
+use Rattle.history.specs.Answers.{emptyHistory, passed, noRoomFor, moreNumber, moreAnswer, moreLayer, layerBytes, endNumber, endAnswer, endLayer, Possible}
+use Rattle.history.specs.AnswersLaws.{says-possible}
 use Rattle.history.specs.DecidingLaws.{number-says, more-taken, layer-taken, bytes-some, bytes-none, end-done, end-room, end-taken, end-layer, last-put, last-none}
-use Rattle.history.specs.HistoryOf.{lastOf, nodesOf, openBlock, historyOf}
+use Rattle.history.specs.HistoryOf.{lastOf, nodesOf, openBlock, historyOf, hashesOf, Written}
 use Rattle.history.specs.GrowingLaws.{node-stays, grown-by}
 use Rattle.history.specs.LastLaws.{history-length, history-pieces, last-node, root-of-history}
-use Rattle.history.specs.LayerLaws.{hashesOf, hashes-size, hashes-behind, passed-grows, passed-none, passed-bytes, pieces-some, layer-within, noted-by}
+use Rattle.history.specs.LayerLaws.{hashes-size, hashes-behind, passed-grows, passed-none, passed-bytes, pieces-some, layer-within, noted-by}
 use Rattle.history.specs.declared.History.{History}
 use Rattle.history.specs.declared.HistoryAnswer.{HistoryAnswer}
 
@@ -95,10 +95,6 @@ module _ (plen : ℕ) (x b layer : List ℕ) (taken : moreAnswer (historyOf plen
       ∙ noted-by plen taken-pieces x b (x ++ b) layer refl (λ m. room-said plen x b (length layer) (says .2) m)
 
 -- ---- written so far
-
--- the first hashes of the lent layer are those of the pieces that x has run past
-pub Written : ℕ → List ℕ → List ℕ → Type 0
-Written plen x layer = take (32 * passed (length x) plen) layer ≡ layerOf x (pieceLayer plen) (passed (length x) plen)
 
 -- c hashes of a layer stay as bytes are added, if their pieces are whole
 pub layer-stays : (x ys : List ℕ) (p c : ℕ) → c * 2 ^ p ≤ length x / blockLength → layerOf (x ++ ys) p c ≡ layerOf x p c

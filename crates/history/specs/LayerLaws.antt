@@ -19,16 +19,11 @@ use Rattle.tree.specs.Values.{node, leafOf, layerOf}
 use Rattle.tree.specs.ValuesLaws.{leaf-octets, file-octets}
 use Rattle.history.specs.Growing.{nodeCount, nodeAt, noted, notedBy}
 use Rattle.history.specs.Answers.{passed}
-use Rattle.history.specs.HistoryOf.{lastOf, historyOf}
+use Rattle.history.specs.HistoryOf.{lastOf, historyOf, hashesOf}
 use Rattle.history.specs.NodesLaws.{last-some}
 use Rattle.history.specs.GrowingLaws.{node-stays, grown-more}
 use Rattle.history.specs.LastLaws.{history-nodes, ceil-whole, ceil-above}
 use Rattle.history.specs.declared.History.{History}
-
--- the hashes a to a + n - 1 of layer p
-unfoldable pub hashesOf : List ℕ → ℕ → ℕ → ℕ → List ℕ
-hashesOf x p a zero = []
-hashesOf x p a (suc n) = node (leafOf x) p a ++ hashesOf x p (suc a) n
 
 pub hashes-size : (x : List ℕ) (p a n : ℕ) → length (hashesOf x p a n) ≡ 32 * n
 unfolding hashesOf

@@ -10,7 +10,7 @@ ghost use Rattle.sha256.specs.Sha256.{pairHash};
 ghost use Rattle.tree.specs.Geometry.{blockLength, isPieceLength};
 ghost use Rattle.history.specs.Growing as G;
 ghost use Rattle.history.specs.Answers as W;
-ghost use Rattle.history.specs.AnswersLaws.{Possible};
+ghost use Rattle.history.specs.Answers.{Possible};
 use octets::hash_at;
 use octets::put_hash;
 use running::Hashing;

@@ -15,6 +15,7 @@ use Rattle.rounds.specs.Block.{compress}
 use Rattle.rounds.specs.declared.State.{State}
 use Rattle.sha256.specs.Sha256.{start}
 use Rattle.running.specs.Bursts.{toWords, fromWords, tailArray, saying, saidBy, stateOf, absorbed}
+use Rattle.running.specs.BurstsLaws.{absorbed-counts}
 use Rattle.running.specs.declared.Hashing.{Hashing}
 
 -- eight words through a state and back
@@ -104,6 +105,11 @@ block-law h s k first rest left words tail t u size total lt hn hs ek ef et er e
 
     rest-is : rest ≡ drop 64 m
     rest-is = er ∙ take-all (length s - (64 - n)) (drop (64 - n) s) (omega (arith, length-drop (64 - n) s)) ∙ sym rest-m
+
+-- the counts of a state that a burst leads to
+pub with-counts : (h : Hashing) (s : List ℕ) {r : Hashing} → length (h .tail) ≡ 64 → h .«tail_size» ≡ h .total % 64 → r ≡ absorbed h s
+    → (r ≡ absorbed h s) × (r .«tail_size» ≡ r .total % 64)
+with-counts h s l p e = (e, ap (λ (r : Hashing). r .«tail_size») e ∙ absorbed-counts h s l p ∙ sym (ap (λ (r : Hashing). r .total % 64) e))
 
 -- the end: the tail with the padding behind
 pub end-as-coded : (h : Hashing) (k : List ℕ) (n : ℕ) (t : State) → n ≡ h .«tail_size» → k ≡ K → t ≡ fromWords (h .words)

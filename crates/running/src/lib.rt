@@ -104,10 +104,11 @@ pub fn absorb(h: Hashing, s: &[u8]) -> Hashing
     let old = h.tail;
     if s.len() < room {
         let tail = filled(old, n, s);
+        let size = n + s.len();
         return Hashing {
             words,
             tail,
-            tail_size: (n + s.len()) as u64,
+            tail_size: size as u64,
             total,
         };
     }

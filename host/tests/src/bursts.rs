@@ -5,8 +5,8 @@ use crate::compare::Comparison;
 use crate::random::Random;
 use crate::states::{hashing_bytes, hashing_of, history_bytes, history_of, HASHING, HISTORY};
 use reference::history::History;
-use reference::running::{Hashing, LONGEST_STRING};
 use reference::limits::{BLOCK, LONGEST_FILE};
+use reference::running::{Hashing, LONGEST_STRING};
 
 /// A state after one call more; the call is compared.
 fn after(compared: &mut Comparison, call: Call) -> Outcome {
@@ -30,7 +30,7 @@ pub fn run_through_every_cut(random: &mut Random, compared: &mut Comparison) {
         let string = random.bytes(size);
         for one in 0..=size {
             hash_cut(compared, &string, &[one]);
-            for two in (one..=size).step_by(if size > 70 { 11 } else { 3 }) {
+            for two in one..=size {
                 hash_cut(compared, &string, &[one, two]);
             }
         }

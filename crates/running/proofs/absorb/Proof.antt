@@ -1,14 +1,12 @@
-use Rattle.running.specs.declared.Hashing.{Hashing}
-use Rattle.running.specs.BurstsLaws.{absorbed-counts}
 use Rattle.running.specs.Bursts.{tailArray}
 use mathlib.Core.List.{_++_}
 use Rattle.rounds.specs.declared.State.{State}
 use Rattle.rounds.specs.Block.{compress}
-use Rattle.running.proofs.Absorbing.{beside-law, block-law}
+use Rattle.running.proofs.Absorbing.{beside-law, block-law, with-counts}
 use native.Mathlib.Omega.{arith}
 use Prim.Native.Nat.{ℕ, _+_, _-_, _<_, _%_}
 use lib.ListN.{length, take, drop}
-use mathlib.Core.Path.{_≡_, refl, ap, sym, _∙_}
+use mathlib.Core.Path.{_≡_, refl, ap, _∙_}
 use borrow.Author.Needs.{needs}
 use Rattle.running.proofs.absorb.Statement.{statement}
 use Rattle.running.proofs.absorb.Tie as tie
@@ -30,15 +28,15 @@ sub-room c = search needs
 filled-requires : tie.Need-filled-requires
 filled-requires c κs = search needs
 
-add-t21 : tie.Need-add-t21
-add-t21 c = search needs
+add-size : tie.Need-add-size
+add-size c = search needs
 
 returns : tie.Need-returns
 returns c = let b = c .before .before .before .before .before .before in
     let h = b .args .h in
     let s = b .args .s .now in
     let l8 : length (h .words) ≡ 8 = words-8 b in
-    (beside-law h s (c .filled .result) (h .«tail_size» + length s) (h .total + length s) l8 (tail-64 b) (omega arith) (c .filled .ensures) refl refl, omega arith)
+    (beside-law h s (c .filled .result) (h .«tail_size» + length s) _ l8 (tail-64 b) (omega arith) (c .filled .ensures) refl (omega arith), omega arith)
 
 sub-filled : tie.Need-sub-filled
 sub-filled c = search needs
@@ -103,12 +101,11 @@ returns-2 c = let b = c .before .before .before .before .before .before .before 
     let l64 = tail-64 b in
     let z : 64 - h .«tail_size» - 0 ≡ 64 - h .«tail_size» = omega arith in
     let small : h .«tail_size» < 64 = omega (arith, b .pre .0) in
-    let e =
-    block-law h s (ks .result) (first .result) _ _ (c .to-words .result) (c .before .filled3 .result) (c .before .before .before .before .before .before .compress .result) (c .before .before .before .whole-blocks .result) _ (h .total + length s) l64 small (c .before .before .before .before .before .before .before .before .before .before .before .before .before .if1 .left) (ks .ensures)
+    with-counts h s l64 (b .pre .0)
+    (block-law h s (ks .result) (first .result) _ _ (c .to-words .result) (c .before .filled3 .result) (c .before .before .before .before .before .before .compress .result) (c .before .before .before .whole-blocks .result) _ _ l64 small (c .before .before .before .before .before .before .before .before .before .before .before .before .before .if1 .left) (ks .ensures)
     (first .ensures ∙ ap (λ (k : ℕ). tailArray (take (h .«tail_size») (h .tail) ++ take k s)) z)
     (c .before .before .before .before .before .before .compress .ensures ∙ ap (λ (t : State). compress (ks .result) t (take 64 (drop 0 (first .result)))) (c .before .before .before .before .before .before .before .before .before .from-words .ensures))
-    refl (c .before .before .before .whole-blocks .ensures) refl (c .to-words .ensures) (c .before .filled3 .ensures) refl refl in
-    (e, ap (λ (r : Hashing). r .«tail_size») e ∙ absorbed-counts h s l64 (b .pre .0) ∙ sym (ap (λ (r : Hashing). r .total % 64) e))
+    refl (c .before .before .before .whole-blocks .ensures) refl (c .to-words .ensures) (c .before .filled3 .ensures) refl (omega arith))
 
 pub absorb-spec : {M : Type 1} → statement M
 absorb-spec =
@@ -117,7 +114,7 @@ absorb-spec =
     add-total
     sub-room
     filled-requires
-    add-t21
+    add-size
     returns
     sub-filled
     part-filled-start

@@ -1,4 +1,4 @@
-use Rattle.catalogue.specs.CatalogueLaws.{arrayElements}
+use Rattle.catalogue.specs.Asks.{arrayElements}
 use Rattle.filetree.specs.Tree.{maxElements}
 use Rattle.octets.specs.Octets.{pasted}
 use Rattle.catalogue.proofs.Writing.{elements-start, elements-room, elements-more, elements-all}
