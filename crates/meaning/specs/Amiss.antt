@@ -63,12 +63,11 @@ mutual
 abbrev pub WrongTree : Entries → Type 0
 WrongTree torrent = RightDirectory (treeOf torrent) → ⊥
 
--- ---- 26: two non-empty files with the same root
+-- ---- 26: two non-empty files with one root and different lengths
 
-pub record TwoWithOneRoot (files : List File) : Type 0 where
+pub record TwoLengths (files : List File) : Type 0 where
   pub i : ℕ
   pub j : ℕ
-  pub different : i ≡ j → ⊥
   pub one : File
   pub other : File
   pub one-at : Nth files i one
@@ -76,6 +75,7 @@ pub record TwoWithOneRoot (files : List File) : Type 0 where
   pub one-full : 0 < one .size
   pub other-full : 0 < other .size
   pub same-root : one .root ≡ other .root
+  pub different : one .size ≡ other .size → ⊥
 
 -- ---- 27: the keys of `piece layers` aren't exactly the roots of files longer than the piece length, or a value isn't 32 bytes per piece
 
@@ -115,7 +115,7 @@ abbrev pub Amiss25 : Entries → Type 0
 Amiss25 torrent = WrongTree torrent
 
 abbrev pub Amiss26 : Entries → Type 0
-Amiss26 torrent = TwoWithOneRoot (filesOf torrent)
+Amiss26 torrent = TwoLengths (filesOf torrent)
 
 abbrev pub Amiss27 : Entries → Type 0
 Amiss27 torrent = LayersRight (plenOf torrent) (layersOf torrent) (filesOf torrent) → ⊥

@@ -10,7 +10,7 @@ use Rattle.tree.specs.Geometry.{isPieceLength}
 use Rattle.bencode.specs.Grammar.{Entries}
 use Rattle.bencode.specs.Parts.{lookup}
 use Rattle.meaning.specs.Keys.{keyMetaVersion}
-use Rattle.meaning.specs.Torrent.{hasKeys, isNumber, infoOf, treeOf, plenOf, layersOf, filesOf, treeRight, rootsApart, layersFit, noOthers, layersGiveRoots, valueNumber}
+use Rattle.meaning.specs.Torrent.{hasKeys, isNumber, infoOf, treeOf, plenOf, layersOf, filesOf, treeRight, lengthsAgree, layersFit, noOthers, layersGiveRoots, valueNumber}
 use Rattle.meaning.specs.Amiss.{RightDirectory, LayersRight, Amiss22, Amiss23, Amiss24, Amiss25, Amiss26, Amiss27, Amiss28, NoneBelow23, NoneBelow24, NoneBelow25, NoneBelow26, NoneBelow27, NoneBelow28, NoneAmiss}
 use Rattle.meaning.specs.TestsLaws.{keys-amiss, keys-right, version-amiss, version-right, piece-amiss, piece-right, tree-yes, tree-no, roots-amiss, roots-right, layers-yes, layers-no, gives-amiss, gives-right}
 
@@ -74,7 +74,7 @@ module _ (torrent : Entries) where
   d = treeRight (treeOf torrent)
 
   abbrev e : Bool
-  e = rootsApart (filesOf torrent)
+  e = lengthsAgree (filesOf torrent)
 
   abbrev f : Bool
   f = layersFit (plenOf torrent) (layersOf torrent) (filesOf torrent) && noOthers (plenOf torrent) (filesOf torrent) (layersOf torrent)

@@ -19,8 +19,8 @@ use Rattle.bencode.specs.Grammar.{Value, integer, string, list, dictionary, Ent
 use Rattle.bencode.specs.Parts.{Lookup, absent, present, lookup}
 use Rattle.meaning.specs.Keys.{keyInfo, keyFileTree, keyPieceLength, keyMetaVersion, keyPieceLayers, keyLength, keyPiecesRoot}
 use Rattle.meaning.specs.Nth.{Nth}
-use Rattle.meaning.specs.Torrent.{hasDictionary, hasInteger, isNumber, numberOf, isNatural, infoOf, hasKeys, rootRight, fileRight, elementRight, nodeRight, branchRight, nodesRight, treeRight, File, noneWith, rootsApart, layerFits, layersFit, someLonger, noOthers, layerBytes, givesRoot, layersGiveRoots, plenOf}
-use Rattle.meaning.specs.Amiss.{ADictionary, AnInteger, KeyMissing, info, fileTree, pieceLength, metaVersion, pieceLayers, OtherVersion, PieceLengthOutOfRange, RightFile, empty, full, RightNode, file, directory, RightDirectory, one, more, TwoWithOneRoot, LayerOf, LayersRight, LayerDiffers}
+use Rattle.meaning.specs.Torrent.{hasDictionary, hasInteger, isNumber, numberOf, isNatural, infoOf, hasKeys, rootRight, fileRight, elementRight, nodeRight, branchRight, nodesRight, treeRight, File, noOtherLength, lengthsAgree, layerFits, layersFit, someLonger, noOthers, layerBytes, givesRoot, layersGiveRoots, plenOf}
+use Rattle.meaning.specs.Amiss.{ADictionary, AnInteger, KeyMissing, info, fileTree, pieceLength, metaVersion, pieceLayers, OtherVersion, PieceLengthOutOfRange, RightFile, empty, full, RightNode, file, directory, RightDirectory, one, more, TwoLengths, LayerOf, LayersRight, LayerDiffers}
 
 -- what isn't 0 is above it
 above : (n : ℕ) → (n ≡ 0 → ⊥) → 0 < n
@@ -278,49 +278,55 @@ tree-no es (more k v fs e n d) = directory-no (entry k v fs) (more k v fs e n d)
 
 -- ---- 26
 
--- a file of the list with this root
-abbrev Having : List ℕ → List File → Type 0
-Having root fs = (j : ℕ) × (f : File) × Nth fs j f × (0 < f .size) × (root ≡ f .root)
+-- a file of the list with this root and another length
+abbrev Having : List ℕ → ℕ → List File → Type 0
+Having root n fs = (j : ℕ) × (f : File) × Nth fs j f × (0 < f .size) × (root ≡ f .root) × (n ≡ f .size → ⊥)
 
-some-having : (root : List ℕ) (fs : List File) → noneWith root fs ≡ false → Having root fs
-unfolding noneWith Nth
-some-having root [] e = absurd (false≢true (sym e))
-some-having root (f ∷ fs) e = by-first (eqb (f .size) 0) (same root (f .root)) refl refl e (some-having root fs)
+some-having : (root : List ℕ) (n : ℕ) (fs : List File) → noOtherLength root n fs ≡ false → Having root n fs
+unfolding noOtherLength Nth
+some-having root n [] e = absurd (false≢true (sym e))
+some-having root n (f ∷ fs) e = by-first (eqb (f .size) 0) (same root (f .root)) (eqb n (f .size)) refl refl refl e (some-having root n fs)
   where
-    by-first : (a b : Bool) → eqb (f .size) 0 ≡ a → same root (f .root) ≡ b → not (not a && b) && noneWith root fs ≡ false → (noneWith root fs ≡ false → Having root fs) → Having root (f ∷ fs)
-    by-first false true p q r ih = (0, f, refl, above (f .size) (eqb-false (f .size) 0 p), same-true root (f .root) q)
-    by-first true b p q r ih = let w = ih r in (suc (w .0), w .1, w .2, w .3, w .4)
-    by-first false false p q r ih = let w = ih r in (suc (w .0), w .1, w .2, w .3, w .4)
+    later : Having root n fs → Having root n (f ∷ fs)
+    later w = (suc (w .0), w .1, w .2, w .3, w .4, w .5)
 
-none-having : (root : List ℕ) (fs : List File) → noneWith root fs ≡ true → Having root fs → ⊥
-unfolding noneWith Nth
-none-having root [] e h = h .2
-none-having root (f ∷ fs) e h = by-number (h .0) (h .2) (none-having root fs)
+    by-first : (a b c : Bool) → eqb (f .size) 0 ≡ a → same root (f .root) ≡ b → eqb n (f .size) ≡ c → not (not a && b && not c) && noOtherLength root n fs ≡ false
+        → (noOtherLength root n fs ≡ false → Having root n fs) → Having root n (f ∷ fs)
+    by-first false true false p q o r ih = (0, f, refl, above (f .size) (eqb-false (f .size) 0 p), same-true root (f .root) q, eqb-false n (f .size) o)
+    by-first false true true p q o r ih = later (ih r)
+    by-first true b c p q o r ih = later (ih r)
+    by-first false false c p q o r ih = later (ih r)
+
+none-having : (root : List ℕ) (n : ℕ) (fs : List File) → noOtherLength root n fs ≡ true → Having root n fs → ⊥
+unfolding noOtherLength Nth
+none-having root n [] e h = h .2
+none-having root n (f ∷ fs) e h = by-number (h .0) (h .2) (none-having root n fs)
   where
     g : File
     g = h .1
 
-    p : (not (not (eqb (f .size) 0) && same root (f .root)) ≡ true) × (noneWith root fs ≡ true)
-    p = and-eq-true-iff (not (not (eqb (f .size) 0) && same root (f .root))) (noneWith root fs) .0 e
+    p : (not (not (eqb (f .size) 0) && same root (f .root) && not (eqb n (f .size))) ≡ true) × (noOtherLength root n fs ≡ true)
+    p = and-eq-true-iff (not (not (eqb (f .size) 0) && same root (f .root) && not (eqb n (f .size)))) (noOtherLength root n fs) .0 e
 
-    by-number : (i : ℕ) → Nth (f ∷ fs) i g → (noneWith root fs ≡ true → Having root fs → ⊥) → ⊥
+    by-number : (i : ℕ) → Nth (f ∷ fs) i g → (noOtherLength root n fs ≡ true → Having root n fs → ⊥) → ⊥
     by-number zero q ih =
-        let z : eqb (f .size) 0 ≡ false = ne-eqb (f .size) 0 (λ o. let u : g .size ≡ f .size = ap (λ (x : File). x .size) q in omega (arith, h .3)) in
+        let u : g .size ≡ f .size = ap (λ (x : File). x .size) q in
+        let z : eqb (f .size) 0 ≡ false = ne-eqb (f .size) 0 (λ o. omega (arith, h .3)) in
         let s : same root (f .root) ≡ true = same-eq root (f .root) (h .4 ∙ ap (λ (x : File). x .root) q) in
-        false≢true (rw (z, s) at (p .0))
-    by-number (suc i) q ih = ih (p .1) (i, g, q, h .3, h .4)
+        let t : eqb n (f .size) ≡ false = ne-eqb n (f .size) (λ o. h .5 (o ∙ sym u)) in
+        false≢true (rw (z, s, t) at (p .0))
+    by-number (suc i) q ih = ih (p .1) (i, g, q, h .3, h .4, h .5)
 
-pub roots-amiss : (fs : List File) → rootsApart fs ≡ false → TwoWithOneRoot fs
-unfolding rootsApart Nth
+pub roots-amiss : (fs : List File) → lengthsAgree fs ≡ false → TwoLengths fs
+unfolding lengthsAgree Nth
 roots-amiss [] e = absurd (false≢true (sym e))
-roots-amiss (f ∷ fs) e = by-first (eqb (f .size) 0) (noneWith (f .root) fs) refl refl e (roots-amiss fs)
+roots-amiss (f ∷ fs) e = by-first (eqb (f .size) 0) (noOtherLength (f .root) (f .size) fs) refl refl e (roots-amiss fs)
   where
-    later : TwoWithOneRoot fs → TwoWithOneRoot (f ∷ fs)
+    later : TwoLengths fs → TwoLengths (f ∷ fs)
     later w =
         record {
           i = suc (w .i);
           j = suc (w .j);
-          different = λ e. w .different (omega arith);
           one = w .one;
           other = w .other;
           one-at = w .one-at;
@@ -328,17 +334,17 @@ roots-amiss (f ∷ fs) e = by-first (eqb (f .size) 0) (noneWith (f .root) fs) re
           one-full = w .one-full;
           other-full = w .other-full;
           same-root = w .same-root;
+          different = w .different;
         }
 
-    by-first : (a b : Bool) → eqb (f .size) 0 ≡ a → noneWith (f .root) fs ≡ b → (a || b) && rootsApart fs ≡ false → (rootsApart fs ≡ false → TwoWithOneRoot fs) → TwoWithOneRoot (f ∷ fs)
+    by-first : (a b : Bool) → eqb (f .size) 0 ≡ a → noOtherLength (f .root) (f .size) fs ≡ b → (a || b) && lengthsAgree fs ≡ false → (lengthsAgree fs ≡ false → TwoLengths fs) → TwoLengths (f ∷ fs)
     by-first true b p q r ih = later (ih r)
     by-first false true p q r ih = later (ih r)
     by-first false false p q r ih =
-        let w = some-having (f .root) fs q in
+        let w = some-having (f .root) (f .size) fs q in
         record {
           i = 0;
           j = suc (w .0);
-          different = λ e. omega arith;
           one = f;
           other = w .1;
           one-at = refl;
@@ -346,32 +352,33 @@ roots-amiss (f ∷ fs) e = by-first (eqb (f .size) 0) (noneWith (f .root) fs) re
           one-full = above (f .size) (eqb-false (f .size) 0 p);
           other-full = w .3;
           same-root = w .4;
+          different = w .5;
         }
 
--- two numbers with one root, where the roots are apart
-apart-no : (fs : List File) → rootsApart fs ≡ true → (i j : ℕ) (f g : File) → (i ≡ j → ⊥) → Nth fs i f → Nth fs j g → 0 < f .size → 0 < g .size → f .root ≡ g .root → ⊥
-unfolding Nth rootsApart
-apart-no [] e i j f g d p q l m r = p
-apart-no (x ∷ xs) e i j f g d p q l m r = by-numbers i j d p q (apart-no xs)
+-- two numbers with one root and different lengths, where lengths agree
+agree-no : (fs : List File) → lengthsAgree fs ≡ true → (i j : ℕ) (f g : File) → Nth fs i f → Nth fs j g → 0 < f .size → 0 < g .size → f .root ≡ g .root → (f .size ≡ g .size → ⊥) → ⊥
+unfolding Nth lengthsAgree
+agree-no [] e i j f g p q l m r d = p
+agree-no (x ∷ xs) e i j f g p q l m r d = by-numbers i j p q (agree-no xs)
   where
-    h : (eqb (x .size) 0 || noneWith (x .root) xs ≡ true) × (rootsApart xs ≡ true)
-    h = and-eq-true-iff (eqb (x .size) 0 || noneWith (x .root) xs) (rootsApart xs) .0 e
+    h : (eqb (x .size) 0 || noOtherLength (x .root) (x .size) xs ≡ true) × (lengthsAgree xs ≡ true)
+    h = and-eq-true-iff (eqb (x .size) 0 || noOtherLength (x .root) (x .size) xs) (lengthsAgree xs) .0 e
 
-    none : (y : File) → y ≡ x → 0 < y .size → noneWith (y .root) xs ≡ true
+    none : (y : File) → y ≡ x → 0 < y .size → noOtherLength (y .root) (y .size) xs ≡ true
     none y u v =
         let z : eqb (x .size) 0 ≡ false = ne-eqb (x .size) 0 (λ o. let s : y .size ≡ x .size = ap (λ (w : File). w .size) u in omega arith) in
-        let t : false || noneWith (x .root) xs ≡ true = rw z at (h .0) in
+        let t : false || noOtherLength (x .root) (x .size) xs ≡ true = rw z at (h .0) in
         rw u t
 
-    by-numbers : (i j : ℕ) → (i ≡ j → ⊥) → Nth (x ∷ xs) i f → Nth (x ∷ xs) j g
-        → (rootsApart xs ≡ true → (i j : ℕ) (f g : File) → (i ≡ j → ⊥) → Nth xs i f → Nth xs j g → 0 < f .size → 0 < g .size → f .root ≡ g .root → ⊥) → ⊥
-    by-numbers zero zero d p q ih = d refl
-    by-numbers zero (suc j) d p q ih = none-having (f .root) xs (none f p l) (j, g, q, m, r)
-    by-numbers (suc i) zero d p q ih = none-having (g .root) xs (none g q m) (i, f, p, l, sym r)
-    by-numbers (suc i) (suc j) d p q ih = ih (h .1) i j f g (λ o. d (ap suc o)) p q l m r
+    by-numbers : (i j : ℕ) → Nth (x ∷ xs) i f → Nth (x ∷ xs) j g
+        → (lengthsAgree xs ≡ true → (i j : ℕ) (f g : File) → Nth xs i f → Nth xs j g → 0 < f .size → 0 < g .size → f .root ≡ g .root → (f .size ≡ g .size → ⊥) → ⊥) → ⊥
+    by-numbers zero zero p q ih = d (ap (λ (y : File). y .size) (p ∙ sym q))
+    by-numbers zero (suc j) p q ih = none-having (f .root) (f .size) xs (none f p l) (j, g, q, m, r, d)
+    by-numbers (suc i) zero p q ih = none-having (g .root) (g .size) xs (none g q m) (i, f, p, l, sym r, λ o. d (sym o))
+    by-numbers (suc i) (suc j) p q ih = ih (h .1) i j f g p q l m r d
 
-pub roots-right : (fs : List File) → rootsApart fs ≡ true → TwoWithOneRoot fs → ⊥
-roots-right fs e w = apart-no fs e (w .i) (w .j) (w .one) (w .other) (w .different) (w .one-at) (w .other-at) (w .one-full) (w .other-full) (w .same-root)
+pub roots-right : (fs : List File) → lengthsAgree fs ≡ true → TwoLengths fs → ⊥
+roots-right fs e w = agree-no fs e (w .i) (w .j) (w .one) (w .other) (w .one-at) (w .other-at) (w .one-full) (w .other-full) (w .same-root) (w .different)
 
 -- ---- 27
 

@@ -161,15 +161,15 @@ unfoldable mutual
 abbrev pub filesOf : Entries → List File
 filesOf torrent = filesOfEntries [] (treeOf torrent)
 
--- ---- 26: no two non-empty files with one root
+-- ---- 26: non-empty files with one root have one length
 
-unfoldable pub noneWith : List ℕ → List File → Bool
-noneWith root [] = true
-noneWith root (f ∷ fs) = not (not (eqb (f .size) 0) && same root (f .root)) && noneWith root fs
+unfoldable pub noOtherLength : List ℕ → ℕ → List File → Bool
+noOtherLength root n [] = true
+noOtherLength root n (f ∷ fs) = not (not (eqb (f .size) 0) && same root (f .root) && not (eqb n (f .size))) && noOtherLength root n fs
 
-unfoldable pub rootsApart : List File → Bool
-rootsApart [] = true
-rootsApart (f ∷ fs) = (eqb (f .size) 0 || noneWith (f .root) fs) && rootsApart fs
+unfoldable pub lengthsAgree : List File → Bool
+lengthsAgree [] = true
+lengthsAgree (f ∷ fs) = (eqb (f .size) 0 || noOtherLength (f .root) (f .size) fs) && lengthsAgree fs
 
 -- ---- 27: a layer for each file longer than the piece length, 32 bytes for each piece, and no others
 
@@ -223,7 +223,7 @@ valueNumber torrent =
     (cond (isNumber 2 (lookup keyMetaVersion (infoOf torrent)))
     (cond (isPieceLength (plenOf torrent))
     (cond (treeRight (treeOf torrent))
-    (cond (rootsApart (filesOf torrent))
+    (cond (lengthsAgree (filesOf torrent))
     (cond (layersFit (plenOf torrent) (layersOf torrent) (filesOf torrent) && noOthers (plenOf torrent) (filesOf torrent) (layersOf torrent))
     (cond (layersGiveRoots (plenOf torrent) (layersOf torrent) (filesOf torrent))
     0

@@ -1,4 +1,4 @@
--- 02, request 4: the contents that are written, as a relation: nothing that a number is given for.
+-- 02, request 4: the contents that are written, as a relation: nothing that a number is given for. What 28 says of a layer stands apart.
 -- Assumes nothing.
 use mathlib.Core.Path.{_≡_}
 use mathlib.Core.Bool.{true, false}
@@ -14,7 +14,7 @@ use Rattle.publishing.specs.Content.{Item}
 use Rattle.publishing.specs.Number.{meet}
 use Rattle.publishing.specs.TreeLaws.{PathRight}
 
-pub record Good (plen : ℕ) (xs : List Item) : Type 0 where
+pub record Fine (plen : ℕ) (xs : List Item) : Type 0 where
   pub some-file : xs ≡ [] → ⊥
   pub shallow : (x : Item) → Member x xs → length (x .path) + 4 ≤ maxLevels
   pub piece-length : isPieceLength plen ≡ true
@@ -26,4 +26,8 @@ pub record Good (plen : ℕ) (xs : List Item) : Type 0 where
   pub layer-fits : (x : Item) → Member x xs → plen < x .size → length (x .layer) ≡ 32 * pieceCount (x .size) plen
   pub no-layer : (x : Item) → Member x xs → x .size ≤ plen → x .layer ≡ []
   pub one-layer : (x y : Item) → Member x xs → Member y xs → 0 < x .size → 0 < y .size → x .root ≡ y .root → x .layer ≡ y .layer
+
+-- and each layer gives its root
+pub record Good (plen : ℕ) (xs : List Item) : Type 0 where
+  pub fine : Fine plen xs
   pub layer-gives : (x : Item) → Member x xs → plen < x .size → layerRoot (x .layer) (pieceLayer plen) (height (blockCount (x .size))) ≡ x .root

@@ -23,7 +23,7 @@ use Rattle.publishing.specs.Number.{some, tooLarge, tooDeep, noElements,
 use Rattle.publishing.specs.SomeLaws.{or-none, or-left, or-right, none-passes, some-there, some-one}
 use Rattle.publishing.specs.TreeLaws.{AllRight, PathRight}
 use Rattle.publishing.specs.ContentLaws.{Passed, passed}
-use Rattle.publishing.specs.Good.{Good}
+use Rattle.publishing.specs.Good.{Fine, Good}
 use Rattle.publishing.specs.Refused.{TooLarge, TooDeep, OutOfRange, WrongFiles, no-file, no-element, wrong-element, too-long, empty-with-root, one-path, OneRoot, TwoLengths, WrongLayers, wrong-size, not-wanted, LayersDiffer, other-root, two-layers}
 use Rattle.publishing.specs.RefusedLaws.{meets}
 use Rattle.publishing.specs.Exactly.{exactly-0}
@@ -68,17 +68,19 @@ one-of told xs x y e m n a b r =
 pub good : (plen : ℕ) (name : List ℕ) (xs : List Item) → AllPassed plen name xs → Good plen xs
 good plen name xs p =
     record {
-      some-file = λ z. false≢true (sym (tree-none .0 .0) ∙ ap nothing z);
-      shallow = λ x m. ltb-false maxLevels (length (x .path) + 4) (none-passes tooDeep xs x (p .not-deep) m);
-      piece-length = not-false (isPieceLength plen) (p .piece);
-      path-right = λ x m. each x m .elements;
-      in-range = λ x m. each x m .in-range;
-      empty-root = λ x m. each x m .no-root;
-      paths-apart = tree-tests .1;
-      one-length = λ x y m n a b r. eqb-true (x .size) (y .size) (one-of (λ (u v : Item). eqb (u .size) (v .size)) xs x y (p .lengths) m n a b r);
-      layer-fits = λ x m l. size-is x m ∙ (unfold hasLayer in rw (lt-ltb plen (x .size) l) refl);
-      no-layer = λ x m l. none-there (x .layer) (size-is x m ∙ (unfold hasLayer in rw (le-ltb plen (x .size) l) refl));
-      one-layer = λ x y m n a b r. same-true (x .layer) (y .layer) (one-of (λ (u v : Item). same (u .layer) (v .layer)) xs x y (layer-tests .1) m n a b r);
+      fine = record {
+        some-file = λ z. false≢true (sym (tree-none .0 .0) ∙ ap nothing z);
+        shallow = λ x m. ltb-false maxLevels (length (x .path) + 4) (none-passes tooDeep xs x (p .not-deep) m);
+        piece-length = not-false (isPieceLength plen) (p .piece);
+        path-right = λ x m. each x m .elements;
+        in-range = λ x m. each x m .in-range;
+        empty-root = λ x m. each x m .no-root;
+        paths-apart = tree-tests .1;
+        one-length = λ x y m n a b r. eqb-true (x .size) (y .size) (one-of (λ (u v : Item). eqb (u .size) (v .size)) xs x y (p .lengths) m n a b r);
+        layer-fits = λ x m l. size-is x m ∙ (unfold hasLayer in rw (lt-ltb plen (x .size) l) refl);
+        no-layer = λ x m l. none-there (x .layer) (size-is x m ∙ (unfold hasLayer in rw (le-ltb plen (x .size) l) refl));
+        one-layer = λ x y m n a b r. same-true (x .layer) (y .layer) (one-of (λ (u v : Item). same (u .layer) (v .layer)) xs x y (layer-tests .1) m n a b r);
+      };
       layer-gives = λ x m l. gives-root x m l;
     }
   where
@@ -111,7 +113,7 @@ good plen name xs p =
 
 -- ---- and back
 
-element-right : (p : List (List ℕ)) (e : List ℕ) → AllRight p → Member e p → elementRight e ≡ true
+pub element-right : (p : List (List ℕ)) (e : List ℕ) → AllRight p → Member e p → elementRight e ≡ true
 unfolding AllRight Member
 element-right [] e r m = absurd m
 element-right (f ∷ p) e r (inl q) = ap elementRight q ∙ r .0
@@ -125,26 +127,26 @@ pub good-number : (plen : ℕ) (name : List ℕ) (xs : List Item) → Good plen 
 good-number plen name xs g l = exactly-0 plen name xs .1 (l, (not-deep, (in-range, (not-wrong, (one-length, (fits, gives))))))
   where
     not-deep : TooDeep xs → ⊥
-    not-deep w = let h = g .shallow (w .0) (w .1) in let d = w .2 in omega arith
+    not-deep w = let h = g .fine .shallow (w .0) (w .1) in let d = w .2 in omega arith
 
     in-range : OutOfRange plen → ⊥
-    in-range w = let f = piece-length-form plen (g .piece-length) in w (pieceLayer plen) (f .0) (f .1)
+    in-range w = let f = piece-length-form plen (g .fine .piece-length) in w (pieceLayer plen) (f .0) (f .1)
 
     not-wrong : WrongFiles xs → ⊥
-    not-wrong (no-file e) = g .some-file e
-    not-wrong (no-element x m e) = let r : PathRight [] = rw e at (g .path-right x m) in absurd (unfold PathRight in r)
-    not-wrong (wrong-element x e m k q) = false≢true (sym q ∙ element-right (x .path) e (all-of (x .path) (g .path-right x m)) k)
-    not-wrong (too-long x m h) = let r = g .in-range x m in omega arith
-    not-wrong (empty-with-root x m z r) = r (g .empty-root x m z)
-    not-wrong (one-path i j x y a b d rest e) = false≢true (sym (g .paths-apart) ∙ meets xs (i, j, x, y, a, b, d, rest, e))
+    not-wrong (no-file e) = g .fine .some-file e
+    not-wrong (no-element x m e) = let r : PathRight [] = rw e at (g .fine .path-right x m) in absurd (unfold PathRight in r)
+    not-wrong (wrong-element x e m k q) = false≢true (sym q ∙ element-right (x .path) e (all-of (x .path) (g .fine .path-right x m)) k)
+    not-wrong (too-long x m h) = let r = g .fine .in-range x m in omega arith
+    not-wrong (empty-with-root x m z r) = r (g .fine .empty-root x m z)
+    not-wrong (one-path i j x y a b d rest e) = false≢true (sym (g .fine .paths-apart) ∙ meets xs (i, j, x, y, a, b, d, rest, e))
 
     one-length : TwoLengths xs → ⊥
-    one-length w = let r = w .2 in w .3 (g .one-length (w .0) (w .1) (r .one) (r .other) (r .one-full) (r .other-full) (r .same-root))
+    one-length w = let r = w .2 in w .3 (g .fine .one-length (w .0) (w .1) (r .one) (r .other) (r .one-full) (r .other-full) (r .same-root))
 
     fits : WrongLayers plen xs → ⊥
-    fits (wrong-size x m h d) = d (g .layer-fits x m h)
-    fits (not-wanted x m h d) = d (g .no-layer x m h)
+    fits (wrong-size x m h d) = d (g .fine .layer-fits x m h)
+    fits (not-wanted x m h d) = d (g .fine .no-layer x m h)
 
     gives : LayersDiffer plen xs → ⊥
     gives (other-root x m h d) = d (g .layer-gives x m h)
-    gives (two-layers x y r d) = d (g .one-layer x y (r .one) (r .other) (r .one-full) (r .other-full) (r .same-root))
+    gives (two-layers x y r d) = d (g .fine .one-layer x y (r .one) (r .other) (r .one-full) (r .other-full) (r .same-root))

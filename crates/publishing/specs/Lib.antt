@@ -25,3 +25,5 @@ pub mod Reads
 pub mod RoundTrip
 pub mod LevelsLaws
 pub mod RightLaws
+pub mod Plain
+pub mod SameNumber

@@ -20,9 +20,9 @@ use Rattle.bencode.specs.Parts.{Lookup, absent, present, lookup}
 use Rattle.meaning.specs.Keys.{keyInfo, keyFileTree, keyPieceLength, keyMetaVersion, keyPieceLayers}
 use Rattle.meaning.specs.Counting.{Member}
 use Rattle.meaning.specs.Nth.{Nth}
-use Rattle.meaning.specs.Torrent.{hasKeys, isNumber, infoOf, treeOf, plenOf, layersOf, filesOf, nodesRight, treeRight, filesOfEntries, File, rootsApart, layersFit, noOthers, layersGiveRoots, layerBytes, valueNumber}
-use Rattle.meaning.specs.Amiss.{LayerOf, LayersRight, LayerDiffers}
-use Rattle.meaning.specs.TestsLaws.{layers-no, gives-amiss}
+use Rattle.meaning.specs.Torrent.{hasKeys, isNumber, infoOf, treeOf, plenOf, layersOf, filesOf, nodesRight, treeRight, filesOfEntries, File, lengthsAgree, layersFit, noOthers, layersGiveRoots, layerBytes, valueNumber}
+use Rattle.meaning.specs.Amiss.{TwoLengths, LayerOf, LayersRight, LayerDiffers}
+use Rattle.meaning.specs.TestsLaws.{roots-amiss, layers-no, gives-amiss}
 use Rattle.publishing.specs.Sorting.{sortedBy, Permuted}
 use Rattle.publishing.specs.SortingLaws.{permuted-member, permuted-back, sorted-permuted, sorted-ordered, Ordered, OrderedFrom}
 use Rattle.publishing.specs.Content.{Item, pathBefore, itemBefore, inTreeOrder, properties, treeOfAll, Layer, layerBefore, layersGiven, layersOfAll, torrentOf, keyName, infoWritten}
@@ -34,7 +34,7 @@ use Rattle.publishing.specs.TreeLaws.{AllRight, PathRight, ItemRight, Le
 use Rattle.publishing.specs.ContentLaws.{fileOfItem, apart-files, written-is, properties-right}
 use Rattle.publishing.specs.ValidLaws.{full-right, Climb, ClimbFrom, Fits, tree-valid}
 use Rattle.publishing.specs.LayersLaws.{layer-found, layer-given, layers-valid, given-there, given-of}
-use Rattle.publishing.specs.Good.{Good}
+use Rattle.publishing.specs.Good.{Fine, Good}
 
 -- ---- the five keys
 
@@ -66,7 +66,7 @@ module _ (plen : ℕ) (name : List ℕ) (xs : List Item) where
 -- ---- lists of files
 
 module _ {A B : Type 0} (f : A → B) where
-  map-same : (h : A → B) (xs : List A) → ((x : A) → Member x xs → f x ≡ h x) → map f xs ≡ map h xs
+  pub map-same : (h : A → B) (xs : List A) → ((x : A) → Member x xs → f x ≡ h x) → map f xs ≡ map h xs
   unfolding Member
   map-same h [] e = refl
   map-same h (x ∷ xs) e = rw (e x (inl refl)) (ap (λ (l : List B). h x ∷ l) (map-same h xs (λ y m. e y (inr m))))
@@ -84,7 +84,7 @@ module _ {A B : Type 0} (f : A → B) where
   nth-member (y ∷ ys) (suc n) v q = let w = nth-member ys n v q in (w .0, inr (w .1), w .2)
 
 -- a tree with a first file is right if its nodes are
-leads-right : (q : List (List ℕ)) (es : Entries) → Leads q es → nodesRight es ≡ true → treeRight es ≡ true
+pub leads-right : (q : List (List ℕ)) (es : Entries) → Leads q es → nodesRight es ≡ true → treeRight es ≡ true
 leads-right [] es l h = by-node (unfold Leads in l)
   where
     by-node : ((v : Value) × (rest : Entries) × (es ≡ entry [] v rest)) → treeRight es ≡ true
@@ -94,7 +94,7 @@ leads-right (f ∷ q) es l h = by-node (unfold Leads in l)
     by-node : ((ds : Entries) × (rest : Entries) × (es ≡ entry f (dictionary ds) rest) × Leads q ds) → treeRight es ≡ true
     by-node n = rw (n .2) (unfold treeRight in (rw (n .2) at h))
 
-some-right : (xs : List Item) → (xs ≡ [] → ⊥) → nodesRight (treeOfAll xs) ≡ true → treeRight (treeOfAll xs) ≡ true
+pub some-right : (xs : List Item) → (xs ≡ [] → ⊥) → nodesRight (treeOfAll xs) ≡ true → treeRight (treeOfAll xs) ≡ true
 some-right [] s h = absurd (s refl)
 some-right (x ∷ xs) s h = leads-right (x .path) (treeOfAll (x ∷ xs)) (unfold treeOfAll in grown-leads (x .path) (properties x) (treeOfAll xs)) h
 
@@ -112,7 +112,7 @@ unfolding OrderedFrom ApartFrom ClimbFrom
 climb-from x [] o a = tt
 climb-from x (y ∷ ys) o a = (strictly (x .path) (y .path) (o .0) (a .0), climb-from y ys (o .1) (a .2))
 
-climb : (xs : List Item) → Ordered itemBefore xs → Apart xs → Climb xs
+pub climb : (xs : List Item) → Ordered itemBefore xs → Apart xs → Climb xs
 unfolding Ordered Apart Climb
 climb [] o a = tt
 climb (x ∷ xs) o a = climb-from x xs o a
@@ -136,7 +136,7 @@ piece-range plen e = (positive, below)
 
 -- ---- what was written of a good content
 
-module _ (plen : ℕ) (name : List ℕ) (xs : List Item) (g : Good plen xs) (wide : (x : Item) → Member x xs → length (x .root) ≡ 32) where
+module _ (plen : ℕ) (name : List ℕ) (xs : List Item) (g : Fine plen xs) (wide : (x : Item) → Member x xs → length (x .root) ≡ 32) where
   perm : Permuted xs (inTreeOrder xs)
   perm = sorted-permuted itemBefore xs
 
@@ -246,22 +246,44 @@ module _ (plen : ℕ) (name : List ℕ) (xs : List Item) (g : Good plen xs) (wid
           let n = member-nth fileOfItem (inTreeOrder xs) x (there x (w .1)) in
           (n .0, fileOfItem x, n .1, longer-there x (w .1) (λ z. w .4 (sym (w .3) ∙ z)), sym (w .2))
 
-  pub layers-give : LayerDiffers plen (layersWritten xs) (map fileOfItem (inTreeOrder xs)) → ⊥
-  layers-give d =
-      let w = nth-member fileOfItem (inTreeOrder xs) (d .n) (d .file) (d .file-at) in
-      let x = w .0 in
-      let m = here x (w .1) in
-      let s : d .file .size ≡ x .size = ap (λ (u : File). u .size) (w .2) in
-      let r : d .file .root ≡ x .root = ap (λ (u : File). u .root) (w .2) in
-      let long : plen < x .size = rw s at (d .is-layer .longer) in
-      let found : lookup (x .root) (layersWritten xs) ≡ present (string (d .layer)) = rw r at (d .is-layer .found) in
-      let same-layer : d .layer ≡ x .layer = ap layerBytes (sym found ∙ layer-there x m long) in
-      d .differs (ap₂ (λ (b : List ℕ) (z : ℕ). layerRoot b (pieceLayer plen) (height (blockCount z))) same-layer s ∙ g .layer-gives x m long ∙ sym r)
-
   -- ---- the number
 
   pub layers-fit : layersFit plen (layersWritten xs) (map fileOfItem (inTreeOrder xs)) && noOthers plen (map fileOfItem (inTreeOrder xs)) (layersWritten xs) ≡ true
   layers-fit = layers-no plen (layersWritten xs) (map fileOfItem (inTreeOrder xs)) layers-right
+
+  -- files with one root have one length
+  pub lengths-agree : lengthsAgree (map fileOfItem (inTreeOrder xs)) ≡ true
+  lengths-agree = by-test (lengthsAgree (map fileOfItem (inTreeOrder xs))) refl
+    where
+      none-other : TwoLengths (map fileOfItem (inTreeOrder xs)) → ⊥
+      none-other d =
+          let u = nth-member fileOfItem (inTreeOrder xs) (d .i) (d .one) (d .one-at) in
+          let w = nth-member fileOfItem (inTreeOrder xs) (d .j) (d .other) (d .other-at) in
+          let x = u .0 in
+          let y = w .0 in
+          let a : d .one .size ≡ x .size = ap (λ (f : File). f .size) (u .2) in
+          let b : d .other .size ≡ y .size = ap (λ (f : File). f .size) (w .2) in
+          let r : x .root ≡ y .root = ap (λ (f : File). f .root) (sym (u .2)) ∙ d .same-root ∙ ap (λ (f : File). f .root) (w .2) in
+          d .different (a ∙ g .one-length x y (here x (u .1)) (here y (w .1)) (omega (arith, d .one-full, a)) (omega (arith, d .other-full, b)) r ∙ sym b)
+
+      by-test : (t : Bool) → lengthsAgree (map fileOfItem (inTreeOrder xs)) ≡ t → t ≡ true
+      by-test true e = refl
+      by-test false e = absurd (none-other (roots-amiss (map fileOfItem (inTreeOrder xs)) e))
+
+-- ---- and its layers give their roots
+
+module _ (plen : ℕ) (name : List ℕ) (xs : List Item) (g : Good plen xs) (wide : (x : Item) → Member x xs → length (x .root) ≡ 32) where
+  pub layers-give : LayerDiffers plen (layersWritten xs) (map fileOfItem (inTreeOrder xs)) → ⊥
+  layers-give d =
+      let w = nth-member fileOfItem (inTreeOrder xs) (d .n) (d .file) (d .file-at) in
+      let x = w .0 in
+      let m = here plen name xs (g .fine) wide x (w .1) in
+      let s : d .file .size ≡ x .size = ap (λ (u : File). u .size) (w .2) in
+      let r : d .file .root ≡ x .root = ap (λ (u : File). u .root) (w .2) in
+      let long : plen < x .size = rw s at (d .is-layer .longer) in
+      let found : lookup (x .root) (layersWritten xs) ≡ present (string (d .layer)) = rw r at (d .is-layer .found) in
+      let same-layer : d .layer ≡ x .layer = ap layerBytes (sym found ∙ layer-there plen name xs (g .fine) wide x m long) in
+      d .differs (ap₂ (λ (b : List ℕ) (z : ℕ). layerRoot b (pieceLayer plen) (height (blockCount z))) same-layer s ∙ g .layer-gives x m long ∙ sym r)
 
   pub roots-given : layersGiveRoots plen (layersWritten xs) (map fileOfItem (inTreeOrder xs)) ≡ true
   roots-given = by-test (layersGiveRoots plen (layersWritten xs) (map fileOfItem (inTreeOrder xs))) refl
@@ -270,12 +292,12 @@ module _ (plen : ℕ) (name : List ℕ) (xs : List Item) (g : Good plen xs) (wid
       by-test true e = refl
       by-test false e =
           absurd (layers-give (gives-amiss plen (layersWritten xs) (map fileOfItem (inTreeOrder xs))
-          (and-eq-true-iff (layersFit plen (layersWritten xs) (map fileOfItem (inTreeOrder xs))) (noOthers plen (map fileOfItem (inTreeOrder xs)) (layersWritten xs)) .0 layers-fit .0) e))
+          (and-eq-true-iff (layersFit plen (layersWritten xs) (map fileOfItem (inTreeOrder xs))) (noOthers plen (map fileOfItem (inTreeOrder xs)) (layersWritten xs)) .0 (layers-fit plen name xs (g .fine) wide) .0) e))
 
-  -- nothing but 26 is left to look for
-  pub number-there : rootsApart (map fileOfItem (inTreeOrder xs)) ≡ true → valueNumber (torrentOf plen name xs) ≡ 0
+  -- nothing is amiss
+  pub number-there : valueNumber (torrentOf plen name xs) ≡ 0
   unfolding valueNumber
-  number-there r =
+  number-there =
       rw
-      (keys-there plen name xs, version-there plen name xs, plen-there plen name xs, g .piece-length, tree-right, files-there, layers-there plen name xs, r, layers-fit, roots-given)
+      (keys-there plen name xs, version-there plen name xs, plen-there plen name xs, g .fine .piece-length, tree-right plen name xs (g .fine) wide, files-there plen name xs (g .fine) wide, layers-there plen name xs, lengths-agree plen name xs (g .fine) wide, layers-fit plen name xs (g .fine) wide, roots-given)
       refl

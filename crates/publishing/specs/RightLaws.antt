@@ -208,7 +208,7 @@ was-path : (p : List (List ℕ)) (v : Value) (es : Entries) → PathFull p → B
 was-path [] v es f b h = absurd (unfold PathFull in f)
 was-path (e ∷ p) v es f b h = was e p v es (unfold PathFull in f) b h
 
-full-all : (p : List (List ℕ)) → PathFull p → AllFull p
+pub full-all : (p : List (List ℕ)) → PathFull p → AllFull p
 full-all [] f = absurd (unfold PathFull in f)
 full-all (e ∷ p) f = unfold PathFull in f
 

@@ -8,7 +8,7 @@ use Prim.Native.Nat.{ℕ, zero, suc, _+_, _*_, _≤_, _<_}
 use native.Mathlib.Omega.{arith}
 use lib.ListN.{length}
 use lib.Dec.{eqb, ltb}
-use borrow.Author.Tests.{ne-eqb, lt-ltb, le-ltb, ltb-true, ltb-false}
+use borrow.Author.Tests.{eqb-true, eqb-false, lt-ltb, le-ltb, ltb-true, ltb-false}
 use Rattle.limits.specs.Limits.{maxLevels, longestFile, largestTorrent}
 use Rattle.octets.specs.Octets.{same, zeroHash}
 use Rattle.octets.specs.OctetsLaws.{same-true, same-false, same-eq}
@@ -18,9 +18,9 @@ use Rattle.bencode.specs.Grammar.{Value, integer, string, dictionary, Entries, 
 use Rattle.bencode.specs.Parts.{Lookup, present, lookup}
 use Rattle.meaning.specs.Counting.{Member}
 use Rattle.meaning.specs.Nth.{Nth}
-use Rattle.meaning.specs.Torrent.{infoOf, treeOf, plenOf, layersOf, filesOf, File, layerBytes, noneWith, rootsApart}
+use Rattle.meaning.specs.Torrent.{infoOf, treeOf, plenOf, layersOf, filesOf, File, layerBytes, lengthsAgree}
 use Rattle.meaning.specs.Amiss.{LayerOf, LayersRight, LayerDiffers}
-use Rattle.meaning.specs.TestsLaws.{layers-yes, gives-right}
+use Rattle.meaning.specs.TestsLaws.{roots-right, layers-yes, gives-right}
 use Rattle.publishing.specs.Sorting.{sortedBy}
 use Rattle.publishing.specs.SortingLaws.{Ordered, OrderedFrom, sorted-stays}
 use Rattle.publishing.specs.Content.{Item, pathBefore, itemBefore, inTreeOrder, torrentOf, keyName}
@@ -34,7 +34,7 @@ use Rattle.publishing.specs.ShorterLaws.{entryLength}
 use Rattle.publishing.specs.ReadBack.{files-there, layers-there, layer-there}
 use Rattle.publishing.specs.RefusedLaws.{nth-of}
 use Rattle.publishing.specs.Reads.{itemRead, contentRead}
-use Rattle.publishing.specs.Good.{Good}
+use Rattle.publishing.specs.Good.{Fine, Good}
 use Rattle.publishing.specs.GoodLaws.{good-number}
 
 -- ---- paths that are told apart do not meet, and are in order
@@ -62,39 +62,19 @@ module _ (t : Entries) where
 
 -- ---- 26: non-empty files with one root have one length
 
-with-root : (root : List ℕ) (fs : List File) (g : File) → noneWith root fs ≡ true → Member g fs → 0 < g .size → root ≡ g .root → ⊥
-unfolding noneWith Member
-with-root root [] g e m h q = m
-with-root root (f ∷ fs) g e (inl p) h q =
-    let z : eqb (f .size) 0 ≡ false = ne-eqb (f .size) 0 (λ o. let u : g .size ≡ f .size = ap (λ (x : File). x .size) p in omega arith) in
-    let s : same root (f .root) ≡ true = same-eq root (f .root) (q ∙ ap (λ (x : File). x .root) p) in
-    let w : not (not (eqb (f .size) 0) && same root (f .root)) ≡ true = and-eq-true-iff (not (not (eqb (f .size) 0) && same root (f .root))) (noneWith root fs) .0 e .0 in
-    false≢true (rw (z, s) at w)
-with-root root (f ∷ fs) g e (inr m) h q = with-root root fs g (and-eq-true-iff (not (not (eqb (f .size) 0) && same root (f .root))) (noneWith root fs) .0 e .1) m h q
-
-pub one-length : (fs : List File) (f g : File) → rootsApart fs ≡ true → Member f fs → Member g fs → 0 < f .size → 0 < g .size → f .root ≡ g .root → f .size ≡ g .size
-unfolding rootsApart Member
-one-length [] f g e m n a b r = absurd m
-one-length (x ∷ xs) f g e (inl p) (inl q) a b r = ap (λ (u : File). u .size) (p ∙ sym q)
-one-length (x ∷ xs) f g e (inl p) (inr n) a b r = absurd (with-root (x .root) xs g (none-with x xs e (omega (arith, ap (λ (u : File). u .size) p))) n b (ap (λ (u : File). u .root) (sym p) ∙ r))
+pub one-length : (fs : List File) (f g : File) → lengthsAgree fs ≡ true → Member f fs → Member g fs → 0 < f .size → 0 < g .size → f .root ≡ g .root → f .size ≡ g .size
+one-length fs f g e m n a b r = by-test (eqb (f .size) (g .size)) refl
   where
-    none-with : (y : File) (ys : List File) → (eqb (y .size) 0 || noneWith (y .root) ys) && rootsApart ys ≡ true → 0 < y .size → noneWith (y .root) ys ≡ true
-    none-with y ys d h =
-        let w = and-eq-true-iff (eqb (y .size) 0 || noneWith (y .root) ys) (rootsApart ys) .0 d .0 in
-        let z : false || noneWith (y .root) ys ≡ true = rw (ne-eqb (y .size) 0 (λ o. omega arith)) at w in
-        z
-one-length (x ∷ xs) f g e (inr m) (inl q) a b r = absurd (with-root (x .root) xs f (none-with x xs e (omega (arith, ap (λ (u : File). u .size) q))) m a (ap (λ (u : File). u .root) (sym q) ∙ sym r))
-  where
-    none-with : (y : File) (ys : List File) → (eqb (y .size) 0 || noneWith (y .root) ys) && rootsApart ys ≡ true → 0 < y .size → noneWith (y .root) ys ≡ true
-    none-with y ys d h =
-        let w = and-eq-true-iff (eqb (y .size) 0 || noneWith (y .root) ys) (rootsApart ys) .0 d .0 in
-        let z : false || noneWith (y .root) ys ≡ true = rw (ne-eqb (y .size) 0 (λ o. omega arith)) at w in
-        z
-one-length (x ∷ xs) f g e (inr m) (inr n) a b r = one-length xs f g (and-eq-true-iff (eqb (x .size) 0 || noneWith (x .root) xs) (rootsApart xs) .0 e .1) m n a b r
+    by-test : (t : Bool) → eqb (f .size) (g .size) ≡ t → f .size ≡ g .size
+    by-test true q = eqb-true (f .size) (g .size) q
+    by-test false q =
+        let i = nth-of fs f m in
+        let j = nth-of fs g n in
+        absurd (roots-right fs e record { i = i .0; j = j .0; one = f; other = g; one-at = i .1; other-at = j .1; one-full = a; other-full = b; same-root = r; different = eqb-false (f .size) (g .size) q })
 
 -- ---- the content that was read is good
 
-member-there : {A B : Type 0} (f : A → B) (xs : List A) (x : A) → Member x xs → Member (f x) (map f xs)
+pub member-there : {A B : Type 0} (f : A → B) (xs : List A) (x : A) → Member x xs → Member (f x) (map f xs)
 unfolding Member
 member-there f [] x m = m
 member-there f (y ∷ ys) x (inl e) = inl (ap f e)
@@ -156,8 +136,8 @@ module _ (t : Entries) (v : ValueRight t) (h : Valid (dictionary t) maxLevels) w
   both-read : (P : Item → Item → Type 0) → ((f g : File) → Member f (filesOf t) → Member g (filesOf t) → P (itemRead t f) (itemRead t g)) → (x y : Item) → Member x (contentRead t) → Member y (contentRead t) → P x y
   both-read P q x y m n = each-read (λ (u : Item). P u y) (λ f k. each-read (λ (w : Item). P (itemRead t f) w) (λ g l. q f g k l) y n) x m
 
-  pub good-read : Good (plenOf t) (contentRead t)
-  good-read =
+  pub fine-read : Fine (plenOf t) (contentRead t)
+  fine-read =
       record {
         some-file = λ z. none-there (files-facts t v h .1) z;
         shallow = each-read (λ (x : Item). length (x .path) + 4 ≤ maxLevels) (λ f m. let d = facts .each f m .depth in omega arith);
@@ -172,8 +152,6 @@ module _ (t : Entries) (v : ValueRight t) (h : Valid (dictionary t) maxLevels) w
             each-read (λ (x : Item). plenOf t < x .size → length (x .layer) ≡ 32 * pieceCount (x .size) (plenOf t)) (λ f m l. ap (λ (b : List ℕ). length b) (item-layer f l) ∙ layer-of f m l .size);
         no-layer = each-read (λ (x : Item). x .size ≤ plenOf t → x .layer ≡ []) (λ f m l. no-item-layer f l);
         one-layer = both-read (λ (x y : Item). 0 < x .size → 0 < y .size → x .root ≡ y .root → x .layer ≡ y .layer) layer-same;
-        layer-gives =
-            each-read (λ (x : Item). plenOf t < x .size → layerRoot (x .layer) (pieceLayer (plenOf t)) (height (blockCount (x .size))) ≡ x .root) layer-gives;
       }
     where
       none-there : ((f : File) × (fs : List File) × (filesOf t ≡ f ∷ fs)) → contentRead t ≡ [] → ⊥
@@ -182,6 +160,14 @@ module _ (t : Entries) (v : ValueRight t) (h : Valid (dictionary t) maxLevels) w
           noItem : List Item → Bool
           noItem [] = true
           noItem (x ∷ xs) = false
+
+  pub good-read : Good (plenOf t) (contentRead t)
+  good-read =
+      record {
+        fine = fine-read;
+        layer-gives =
+            each-read (λ (x : Item). plenOf t < x .size → layerRoot (x .layer) (pieceLayer (plenOf t)) (height (blockCount (x .size))) ≡ x .root) layer-gives;
+      }
 
   pub wide-read : (x : Item) → Member x (contentRead t) → length (x .root) ≡ 32
   wide-read = each-read (λ (x : Item). length (x .root) ≡ 32) (λ f m. facts .each f m .root-size)
@@ -201,16 +187,16 @@ module _ (t : Entries) (v : ValueRight t) (h : Valid (dictionary t) maxLevels) w
 
   -- with any name it reads back as the same files, in the same order, with the same layers
   pub files-again : (name : List ℕ) → filesOf (torrentOf (plenOf t) name (contentRead t)) ≡ filesOf t
-  files-again name = files-there (plenOf t) name (contentRead t) good-read wide-read ∙ ap (map fileOfItem) order-read ∙ files-read
+  files-again name = files-there (plenOf t) name (contentRead t) fine-read wide-read ∙ ap (map fileOfItem) order-read ∙ files-read
 
   pub layers-again : (name : List ℕ) (f : File) → Member f (filesOf t) → plenOf t < f .size
       → lookup (f .root) (layersOf (torrentOf (plenOf t) name (contentRead t))) ≡ present (string (layerBytes (lookup (f .root) (layersOf t))))
   layers-again name f m l =
       ap (lookup (f .root)) (layers-there (plenOf t) name (contentRead t))
-      ∙ layer-there (plenOf t) name (contentRead t) good-read wide-read (itemRead t f) (unfold contentRead in member-there (itemRead t) (filesOf t) f m) l
+      ∙ layer-there (plenOf t) name (contentRead t) fine-read wide-read (itemRead t f) (unfold contentRead in member-there (itemRead t) (filesOf t) f m) l
       ∙ ap (λ (b : List ℕ). present (string b)) (item-layer f l)
 
-  same-read : (name : List ℕ) → SameRead (plenOf t) name (contentRead t) good-read wide-read t
+  same-read : (name : List ℕ) → SameRead (plenOf t) name (contentRead t) fine-read wide-read t
   same-read name =
       record {
         right = v;
@@ -228,13 +214,13 @@ module _ (t : Entries) (v : ValueRight t) (h : Valid (dictionary t) maxLevels) w
       → contentNumber (plenOf t) name (contentRead t) ≡ 0
   number-again name e small =
       good-number (plenOf t) name (contentRead t) good-read
-      (λ l. let n = shortest (plenOf t) name (contentRead t) good-read wide-read t (same-read name) e in omega arith)
+      (λ l. let n = shortest (plenOf t) name (contentRead t) fine-read wide-read t (same-read name) e in omega arith)
 
   -- and with the empty name, if there is room for it
   pub number-unnamed : length (encode (dictionary t)) + 8 ≤ largestTorrent → contentNumber (plenOf t) [] (contentRead t) ≡ 0
   number-unnamed small =
       good-number (plenOf t) [] (contentRead t) good-read
-      (λ l. let n = nearly-shortest (plenOf t) [] (contentRead t) good-read wide-read t (same-read []) in let e = eight in omega arith)
+      (λ l. let n = nearly-shortest (plenOf t) [] (contentRead t) fine-read wide-read t (same-read []) in let e = eight in omega arith)
     where
       eight : entryLength keyName (string []) ≡ 8
       eight = unfold encode in unfold decimalIn in refl

@@ -19,7 +19,7 @@ use Rattle.bencode.specs.Parts.{Lookup, absent, present, lookup}
 use Rattle.bencode.specs.PartsLaws.{lookup-valid}
 use Rattle.meaning.specs.Counting.{Member}
 use Rattle.meaning.specs.Keys.{keyInfo, keyFileTree, keyPieceLength, keyMetaVersion, keyPieceLayers}
-use Rattle.meaning.specs.Torrent.{hasDictionary, hasInteger, hasKeys, isNumber, numberOf, entriesOf, infoOf, treeOf, plenOf, layersOf, filesOf, treeRight, File, filesOfEntries, rootsApart, layersFit, noOthers, layersGiveRoots, valueNumber}
+use Rattle.meaning.specs.Torrent.{hasDictionary, hasInteger, hasKeys, isNumber, numberOf, entriesOf, infoOf, treeOf, plenOf, layersOf, filesOf, treeRight, File, filesOfEntries, lengthsAgree, layersFit, noOthers, layersGiveRoots, valueNumber}
 use Rattle.meaning.specs.TestsLaws.{tree-yes}
 use Rattle.publishing.specs.Sorting.{sortedBy}
 use Rattle.publishing.specs.SortingLaws.{permuted-member, permuted-back, sorted-permuted}
@@ -30,7 +30,7 @@ use Rattle.publishing.specs.LayersLaws.{given-of}
 use Rattle.publishing.specs.FilesLaws.{bare, growAll, grow-all, DirectoryFacts, tree-facts}
 use Rattle.publishing.specs.ShorterLaws.{entryLength, entries-length, Covers, shorter, dictionary-length}
 use Rattle.publishing.specs.ReadBack.{piece-range, strict, longer-there}
-use Rattle.publishing.specs.Good.{Good}
+use Rattle.publishing.specs.Good.{Fine}
 
 -- ---- what the number 0 of a value says
 
@@ -39,7 +39,7 @@ pub record ValueRight (t : Entries) : Type 0 where
   pub version : isNumber 2 (lookup keyMetaVersion (infoOf t)) ≡ true
   pub piece : isPieceLength (plenOf t) ≡ true
   pub tree : treeRight (treeOf t) ≡ true
-  pub roots : rootsApart (filesOf t) ≡ true
+  pub roots : lengthsAgree (filesOf t) ≡ true
   pub fit : layersFit (plenOf t) (layersOf t) (filesOf t) && noOthers (plenOf t) (filesOf t) (layersOf t) ≡ true
   pub give : layersGiveRoots (plenOf t) (layersOf t) (filesOf t) ≡ true
 
@@ -54,7 +54,7 @@ value-right t e =
     let b = on (isNumber 2 (lookup keyMetaVersion (infoOf t))) _ otherVersion (λ z. omega arith) (a .1) in
     let c = on (isPieceLength (plenOf t)) _ pieceLengthOutOfRange (λ z. omega arith) (b .1) in
     let d = on (treeRight (treeOf t)) _ wrongTree (λ z. omega arith) (c .1) in
-    let f = on (rootsApart (filesOf t)) _ sameRoot (λ z. omega arith) (d .1) in
+    let f = on (lengthsAgree (filesOf t)) _ sameRoot (λ z. omega arith) (d .1) in
     let g = on (layersFit (plenOf t) (layersOf t) (filesOf t) && noOthers (plenOf t) (filesOf t) (layersOf t)) _ layersAmiss (λ z. omega arith) (f .1) in
     let h = on (layersGiveRoots (plenOf t) (layersOf t) (filesOf t)) _ layerDiffers (λ z. omega arith) (g .1) in
     record { keys = a .0; version = b .0; piece = c .0; tree = d .0; roots = f .0; fit = g .0; give = h .0 }
@@ -144,7 +144,7 @@ unfolding layersOfAll Member
 covers-layers [] ls h = unfold Covers in tt
 covers-layers (m ∷ ms) ls h = covers-put m (layersOfAll ms) ls (h m (inl refl)) (covers-layers ms ls (λ l k. h l (inr k)))
 
-module _ (plen : ℕ) (name : List ℕ) (xs : List Item) (g : Good plen xs) (wide : (x : Item) → Member x xs → length (x .root) ≡ 32) where
+module _ (plen : ℕ) (name : List ℕ) (xs : List Item) (g : Fine plen xs) (wide : (x : Item) → Member x xs → length (x .root) ≡ 32) where
   -- a layer given is that of a file longer than the piece length
   given-longer : (l : Layer) → Member l (layersGiven xs) → (x : Item) × Member x xs × (x .root ≡ l .0) × (x .layer ≡ l .1) × (plen < x .size)
   given-longer l m = let w = given-of xs l m in (w .0, w .1, w .2, w .3, longer-there plen name xs g wide (w .0) (w .1) (λ z. w .4 (sym (w .3) ∙ z)))

@@ -65,7 +65,7 @@ module _ (list text list' text' : List ℕ) (plen : ℕ) (name : List ℕ) (form
   bytes-same room e =
       let w = written list text plen name room e in
       let g = good plen name (contentOf list text) (all-passed plen name (contentOf list text) (w .number)) in
-      ap (λ (t : Entries). encode (dictionary t)) (torrent-any-order plen name (contentOf list text) (contentOf list' text') same (g .paths-apart))
+      ap (λ (t : Entries). encode (dictionary t)) (torrent-any-order plen name (contentOf list text) (contentOf list' text') same (g .fine .paths-apart))
 
   pub answer-same : (out : List ℕ) → writeAnswer list text plen name out ≡ writeAnswer list' text' plen name out
   unfolding writeAnswer

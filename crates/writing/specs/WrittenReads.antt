@@ -17,7 +17,7 @@ use Rattle.octets.specs.OctetsLaws.{cut-length, cut-pasted-same}
 use Rattle.bencode.specs.Grammar.{string, dictionary, Entries, encode, Valid}
 use Rattle.bencode.specs.Parts.{present, lookup}
 use Rattle.meaning.specs.Counting.{Member}
-use Rattle.meaning.specs.Torrent.{infoOf, plenOf, layersOf, filesOf, treeOf, treeRight, rootsApart, valueNumber}
+use Rattle.meaning.specs.Torrent.{infoOf, plenOf, layersOf, filesOf, treeOf, treeRight, valueNumber}
 use Rattle.publishing.specs.Content.{Item, inTreeOrder, torrentOf, keyName}
 use Rattle.publishing.specs.Number.{contentNumber}
 use Rattle.publishing.specs.ContentLaws.{fileOfItem}
@@ -68,7 +68,7 @@ module _ (list text : List ℕ) (plen : ℕ) (name out : List ℕ) (e : writeNum
   not-large = ltb-false largestTorrent (length (torrentBytes list text plen name)) (all-passed plen name (contentOf list text) (w .number) .not-large)
 
   pub is-strict : Valid (dictionary (torrentOf plen name (contentOf list text))) maxLevels
-  is-strict = strict plen name (contentOf list text) content-good (content-wide list text)
+  is-strict = strict plen name (contentOf list text) (content-good .fine) (content-wide list text)
 
   pub has-plen : plenOf (torrentOf plen name (contentOf list text)) ≡ plen
   has-plen = plen-there plen name (contentOf list text)
@@ -77,12 +77,11 @@ module _ (list text : List ℕ) (plen : ℕ) (name out : List ℕ) (e : writeNum
   has-name = name-there plen name (contentOf list text)
 
   pub has-files : filesOf (torrentOf plen name (contentOf list text)) ≡ map fileOfItem (inTreeOrder (contentOf list text))
-  has-files = files-there plen name (contentOf list text) content-good (content-wide list text)
+  has-files = files-there plen name (contentOf list text) (content-good .fine) (content-wide list text)
 
   pub has-layers : (x : Item) → Member x (contentOf list text) → plen < x .size → lookup (x .root) (layersOf (torrentOf plen name (contentOf list text))) ≡ present (string (x .layer))
   has-layers x m l =
-      ap (lookup (x .root)) (layers-there plen name (contentOf list text)) ∙ layer-there plen name (contentOf list text) content-good (content-wide list text) x m l
+      ap (lookup (x .root)) (layers-there plen name (contentOf list text)) ∙ layer-there plen name (contentOf list text) (content-good .fine) (content-wide list text) x m l
 
-  -- its number is 0, where the rule for 26 lets equal roots of equal files pass
-  pub has-number : rootsApart (map fileOfItem (inTreeOrder (contentOf list text))) ≡ true → valueNumber (torrentOf plen name (contentOf list text)) ≡ 0
-  has-number r = number-there plen name (contentOf list text) content-good (content-wide list text) r
+  pub has-number : valueNumber (torrentOf plen name (contentOf list text)) ≡ 0
+  has-number = number-there plen name (contentOf list text) content-good (content-wide list text)
