@@ -9,7 +9,7 @@ use Rattle.octets.specs.Octets.{zeroHash, same}
 use Rattle.tree.specs.Geometry.{isPieceLength, pieceLayer, height, heightFrom, hasLayer}
 use Rattle.bencode.specs.Grammar.{Value, integer, string, dictionary, Entries, noEntries, entry}
 use Rattle.bencode.specs.Parts.{lookup}
-use Rattle.meaning.specs.Torrent.{hasKeys, elementRight, fileRight, nodeRight, branchRight, nodesRight, treeRight, filesOfNode, filesOfEntries, noOtherLength, lengthsAgree, layersFit, someLonger, noOthers, layersGiveRoots, valueNumber}
+use Rattle.meaning.specs.Torrent.{without, hasKeys, elementRight, fileRight, nodeRight, branchRight, nodesRight, treeRight, filesOfNode, filesOfEntries, noOtherLength, lengthsAgree, layersFit, someLonger, noOthers, layersGiveRoots, valueNumber}
 
 -- a torrent of these parts
 abbrev torrent : ℕ → ℕ → Entries → Entries → Entries
@@ -31,7 +31,7 @@ abbrev b : List ℕ
 b = 98 ∷ []
 
 pub empty-file : valueNumber (torrent 2 16384 (entry a emptyFile noEntries) noEntries) ≡ 0
-unfolding valueNumber lookup same hasKeys isPieceLength pieceLayer height heightFrom treeRight branchRight nodeRight nodesRight elementRight fileRight filesOfEntries filesOfNode lengthsAgree layersFit hasLayer noOthers layersGiveRoots zeroHash
+unfolding valueNumber lookup same hasKeys isPieceLength pieceLayer height heightFrom treeRight branchRight nodeRight nodesRight elementRight without fileRight filesOfEntries filesOfNode lengthsAgree layersFit hasLayer noOthers layersGiveRoots zeroHash
 empty-file = refl
 
 pub no-tree : valueNumber (entry keyPieceLayers (dictionary noEntries) noEntries) ≡ 22
@@ -47,21 +47,21 @@ unfolding valueNumber lookup same hasKeys isPieceLength pieceLayer height height
 piece-of-1000 = refl
 
 pub empty-directory : valueNumber (torrent 2 16384 (entry a (dictionary noEntries) noEntries) noEntries) ≡ 25
-unfolding valueNumber lookup same hasKeys isPieceLength pieceLayer height heightFrom treeRight branchRight nodeRight nodesRight elementRight fileRight
+unfolding valueNumber lookup same hasKeys isPieceLength pieceLayer height heightFrom treeRight branchRight nodeRight nodesRight elementRight without fileRight
 empty-directory = refl
 
 pub one-root-two-lengths : valueNumber (torrent 2 16384 (entry a (file 1) (entry b (file 2) noEntries)) noEntries) ≡ 26
-unfolding valueNumber lookup same hasKeys isPieceLength pieceLayer height heightFrom treeRight branchRight nodeRight nodesRight elementRight fileRight filesOfEntries filesOfNode lengthsAgree noOtherLength zeroHash
+unfolding valueNumber lookup same hasKeys isPieceLength pieceLayer height heightFrom treeRight branchRight nodeRight nodesRight elementRight without fileRight filesOfEntries filesOfNode lengthsAgree noOtherLength zeroHash
 one-root-two-lengths = refl
 
 pub twins : valueNumber (torrent 2 16384 (entry a (file 1) (entry b (file 1) noEntries)) noEntries) ≡ 0
-unfolding valueNumber lookup same hasKeys isPieceLength pieceLayer height heightFrom treeRight branchRight nodeRight nodesRight elementRight fileRight filesOfEntries filesOfNode lengthsAgree noOtherLength zeroHash layersFit hasLayer noOthers layersGiveRoots
+unfolding valueNumber lookup same hasKeys isPieceLength pieceLayer height heightFrom treeRight branchRight nodeRight nodesRight elementRight without fileRight filesOfEntries filesOfNode lengthsAgree noOtherLength zeroHash layersFit hasLayer noOthers layersGiveRoots
 twins = refl
 
 pub layer-lacking : valueNumber (torrent 2 16384 (entry a (file 16385) noEntries) noEntries) ≡ 27
-unfolding valueNumber lookup same hasKeys isPieceLength pieceLayer height heightFrom treeRight branchRight nodeRight nodesRight elementRight fileRight filesOfEntries filesOfNode lengthsAgree noOtherLength layersFit hasLayer noOthers zeroHash
+unfolding valueNumber lookup same hasKeys isPieceLength pieceLayer height heightFrom treeRight branchRight nodeRight nodesRight elementRight without fileRight filesOfEntries filesOfNode lengthsAgree noOtherLength layersFit hasLayer noOthers zeroHash
 layer-lacking = refl
 
 pub layer-too-many : valueNumber (torrent 2 16384 (entry a (file 1) noEntries) (entry zeroHash (string zeroHash) noEntries)) ≡ 27
-unfolding valueNumber lookup same hasKeys isPieceLength pieceLayer height heightFrom treeRight branchRight nodeRight nodesRight elementRight fileRight filesOfEntries filesOfNode lengthsAgree noOtherLength layersFit hasLayer noOthers someLonger zeroHash
+unfolding valueNumber lookup same hasKeys isPieceLength pieceLayer height heightFrom treeRight branchRight nodeRight nodesRight elementRight without fileRight filesOfEntries filesOfNode lengthsAgree noOtherLength layersFit hasLayer noOthers someLonger zeroHash
 layer-too-many = refl

@@ -8,3 +8,4 @@ pub mod AmissLaws
 pub mod FilesLaws
 pub mod Counting
 pub mod Examples
+pub mod ElementLaws

@@ -97,10 +97,22 @@ fileRight (integer minus n) = false
 fileRight (string b) = false
 fileRight (list vs) = false
 
--- a path element, of files and directories alike
+-- a string without a byte
+unfoldable pub without : ℕ → List ℕ → Bool
+without b [] = true
+without b (c ∷ cs) = not (eqb c b) && without b cs
+
+-- `.` and `..`
+abbrev pub dot : List ℕ
+dot = 46 ∷ []
+
+abbrev pub dots : List ℕ
+dots = 46 ∷ 46 ∷ []
+
+-- 02, request 5: a path element, of files and directories alike, is not empty, not `.` or `..`, and has no `/` and no zero byte
 unfoldable pub elementRight : List ℕ → Bool
 elementRight [] = false
-elementRight (c ∷ cs) = true
+elementRight (c ∷ cs) = not (same (c ∷ cs) dot) && not (same (c ∷ cs) dots) && without 47 (c ∷ cs) && without 0 (c ∷ cs)
 
 abbrev pub noMore : Entries → Bool
 noMore noEntries = true
