@@ -132,10 +132,11 @@ fn root_in(torrent: &[u8], value: &Value) -> Option<Hash> {
     torrent[value.string()?].try_into().ok()
 }
 
-/// 26: two non-empty files with the same root.
-fn has_same_roots(files: &[Listed]) -> bool {
-    let mut roots = HashSet::new();
-    files.iter().filter(|file| file.length > 0).any(|file| !roots.insert(&file.root))
+/// 26: two non-empty files with one root and different lengths.
+fn has_two_lengths(files: &[Listed]) -> bool {
+    let mut lengths = HashMap::new();
+    let mut full = files.iter().filter(|file| file.length > 0);
+    full.any(|file| *lengths.entry(&file.root).or_insert(file.length) != file.length)
 }
 
 fn facts(file: &Listed, piece_length: u64) -> Facts {
@@ -144,19 +145,18 @@ fn facts(file: &Listed, piece_length: u64) -> Facts {
 
 /// Gives each file longer than the piece length its layer, or 27.
 fn assign_layers(torrent: &[u8], layers: &Entries, piece_length: u64, files: &mut [Listed]) -> Result<(), u32> {
-    let mut by_root: HashMap<&[u8], &Value> = HashMap::new();
-    for (key, value) in layers {
-        by_root.insert(&torrent[key.clone()], value);
-    }
+    let by_root: HashMap<&[u8], &Value> = layers.iter().map(|(key, value)| (&torrent[key.clone()], value)).collect();
+    let mut found = HashSet::new();
     for file in files.iter_mut().filter(|file| file.length > piece_length) {
-        let layer = by_root.remove(&file.root[..]).and_then(Value::string).ok_or(LAYERS_AMISS)?;
+        let layer = by_root.get(&file.root[..]).and_then(|value| value.string()).ok_or(LAYERS_AMISS)?;
+        found.insert(file.root);
         if layer.len() as u64 != 32 * facts(file, piece_length).pieces() {
             return Err(LAYERS_AMISS);
         }
         file.layer = layer;
     }
-    // What is left is the root of no such file.
-    if by_root.is_empty() {
+    // Files of one root share an entry. A key that was not found is the root of no such file.
+    if found.len() == by_root.len() {
         Ok(())
     } else {
         Err(LAYERS_AMISS)
@@ -189,7 +189,7 @@ pub fn contents(torrent: &[u8]) -> Result<Contents, u32> {
     }
     let mut files = Vec::new();
     add_files(torrent, fields.file_tree, &mut Vec::new(), &mut files)?;
-    if has_same_roots(&files) {
+    if has_two_lengths(&files) {
         return Err(SAME_ROOT);
     }
     assign_layers(torrent, fields.piece_layers, piece_length, &mut files)?;
@@ -429,6 +429,7 @@ mod tests {
     #[test]
     fn same_roots() {
         assert_eq!(number_of_tree(&directory(&[file("a", 1, Some(1)), file("b", 2, Some(1))])), SAME_ROOT);
+        assert_eq!(number_of_tree(&directory(&[file("a", 1, Some(1)), file("b", 1, Some(1))])), 0);
         assert_eq!(number_of_tree(&directory(&[file("a", 1, Some(0)), file("b", 0, None), file("c", 0, None)])), 0);
     }
 
@@ -451,5 +452,33 @@ mod tests {
         assert_eq!(number(&with(&[(&root, b"le".to_vec())])), LAYERS_AMISS);
         assert_eq!(number(&with(&[(&root, string(&layer)), (&[255; 32], string(b""))])), LAYERS_AMISS);
         assert_eq!(number(&with(&[(&root, string(&[5; 96]))])), LAYER_DIFFERS);
+    }
+
+    #[test]
+    fn files_of_one_root_share_a_layer() {
+        let layer = [[5; 32], [6; 32], [7; 32]].concat();
+        let root = pair(&pair(&[5; 32], &[6; 32]), &pair(&[7; 32], &[0; 32]));
+        let file = |name: &str, length: u64| {
+            let length = [b"6:lengthi", length.to_string().as_bytes(), b"e"].concat();
+            [&string(name.as_bytes()), &b"d0:d"[..], &length, b"11:pieces root", &string(&root), b"ee"].concat()
+        };
+        let entry = |key: &[u8], layer: &[u8]| [string(key), string(layer)].concat();
+        let with = |files: &[Vec<u8>], entries: &[Vec<u8>]| torrent(&directory(files), &directory(entries));
+        let right = entry(&root, &layer);
+        let twins = [file("a", 40000), file("b", 40000)];
+        let triplets = [&twins[..], &[file("c", 40000)]].concat();
+        for files in [&twins[..], &triplets] {
+            let good = with(files, &[right.clone()]);
+            let first = torrent_file(&good, 0);
+            assert_eq!((first.number, first.layer_size), (0, 96));
+            assert!((1..files.len() as u64).all(|other| torrent_file(&good, other) == first));
+            assert_eq!(number(&with(files, &[])), LAYERS_AMISS);
+            assert_eq!(number(&with(files, &[entry(&root, &layer[..64])])), LAYERS_AMISS);
+            assert_eq!(number(&with(files, &[right.clone(), entry(&[255; 32], b"")])), LAYERS_AMISS);
+            assert_eq!(number(&with(files, &[entry(&root, &[5; 96])])), LAYER_DIFFERS);
+        }
+        for length in [1, 16384, 32769, 49152] {
+            assert_eq!(number(&with(&[file("a", 40000), file("b", length)], &[right.clone()])), SAME_ROOT);
+        }
     }
 }

@@ -423,6 +423,7 @@ mod tests {
         assert_eq!(answer.number, DONE);
         assert_eq!(torrent.windows(96).filter(|window| *window == &long("b", 5).layer[..]).count(), 1);
         assert!(torrent.len() < alone.len() + size_of_a_node);
+        assert_eq!(shown(&read_back(&torrent).unwrap()), shown(&[long("b", 5), long("c", 5)]));
     }
 
     /// 19 at its very byte: of a name, of repeated paths, of layers of which only the least counts.
@@ -508,11 +509,6 @@ mod tests {
         paths.len() == entries.len() && entries.iter().all(is_plain) && !has_two
     }
 
-    fn has_twins(entries: &[Entry]) -> bool {
-        let mut roots = HashSet::new();
-        entries.iter().filter(|entry| entry.length > 0).any(|entry| !roots.insert(entry.root))
-    }
-
     #[test]
     fn generated_lists() {
         let mut random = Random(1);
@@ -531,10 +527,10 @@ mod tests {
             let items = content(&list, &text).unwrap();
             let whole = torrent_of(&items, piece_length, b"name");
             assert_eq!(whole.len() as u128, size(&items, piece_length, b"name"));
-            if is_told_by_the_reader(&entries) && !has_twins(&entries) && piece_length < 1 << 63 {
+            if is_told_by_the_reader(&entries) && piece_length < 1 << 63 {
                 assert_eq!(answer.number, contents(&whole).map_or_else(|number| number, |_| DONE), "{entries:?}");
             }
-            if answer.number == DONE && !has_twins(&entries) {
+            if answer.number == DONE {
                 assert_eq!(torrent, whole);
                 assert_eq!(contents(&torrent).unwrap().piece_length, piece_length);
                 assert_eq!(shown(&read_back(&torrent).unwrap()), shown(&in_tree_order(&entries)));

@@ -323,14 +323,16 @@ fn unknown_keys_are_skipped() {
 // ---- 26 to 28
 
 #[test]
-fn number_26_is_the_same_root_twice() {
+fn number_26_is_one_root_with_two_lengths() {
     let root = Some([1; 32]);
     assert_number(&with_tree(&[&file("a", 1, root), &file("b", 2, root)]), 26);
-    assert_number(&with_tree(&[&file("a", 1, root), &file("b", 1, Some([2; 32])), &file("c", 1, root)]), 26);
+    assert_number(&with_tree(&[&file("a", 1, root), &file("b", 1, Some([2; 32])), &file("c", 2, root)]), 26);
+    assert_number(&with_tree(&[&file("a", 1, root), &file("b", 1, Some([2; 32])), &file("c", 1, root)]), 0);
     assert_number(&with_tree(&[&entry("a", &dictionary(&[&file("a", 1, root)])), &file("b", 2, root)]), 26);
     // The zero root is a root like any other, and not that of the empty files.
     let zero = Some([0; 32]);
-    assert_number(&with_tree(&[&file("a", 1, zero), &file("b", 1, zero)]), 26);
+    assert_number(&with_tree(&[&file("a", 1, zero), &file("b", 2, zero)]), 26);
+    assert_number(&with_tree(&[&file("a", 1, zero), &file("b", 1, zero)]), 0);
     assert_number(&with_tree(&[&file("a", 1, zero), &file("b", 0, None), &file("c", 0, None)]), 0);
     // Roots that differ in one bit, first or last.
     let (mut first, mut last) = ([1; 32], [1; 32]);
@@ -456,10 +458,10 @@ fn the_lowest_number_wins() {
     assert_number(&Parts { layers: Vec::new(), ..wrong_version.clone() }.torrent(), 22);
     assert_number(&wrong_piece(wrong_version).torrent(), 23);
     assert_number(&wrong_piece(Parts { tree: b"de".to_vec(), ..Parts::good() }).torrent(), 24);
-    let twins = [file("a", 1, Some([1; 32])), file("b", 1, Some([1; 32]))].concat();
-    assert_number(&with_tree(&[&twins, &file("c", -1, None)]), 25);
+    let one_root = [file("a", 1, Some([1; 32])), file("b", 2, Some([1; 32]))].concat();
+    assert_number(&with_tree(&[&one_root, &file("c", -1, None)]), 25);
     let layers = dictionary(&[&string(b"x"), b"0:"]);
-    assert_number(&Parts { tree: dictionary(&[&twins]), layers, ..Parts::good() }.torrent(), 26);
+    assert_number(&Parts { tree: dictionary(&[&one_root]), layers, ..Parts::good() }.torrent(), 26);
     // All of 27 comes before any 28, whichever file stands first.
     let [first, second] = layered.good();
     let differs = |key| (key, string(&[1; 64]));
