@@ -84,7 +84,7 @@ fn fields<'a>(torrent: &[u8], outer: &'a Value) -> Option<Fields<'a>> {
 
 /// The rule for an element of a path, of a file or a directory: else 25.
 pub fn element_right(element: &[u8]) -> bool {
-    !element.is_empty()
+    !matches!(element, b"" | b"." | b"..") && !element.contains(&b'/') && !element.contains(&0)
 }
 
 /// Adds the files below a directory in tree order, or answers 25. The path so far leads to the directory.
@@ -480,5 +480,27 @@ mod tests {
         for length in [1, 16384, 32769, 49152] {
             assert_eq!(number(&with(&[file("a", 40000), file("b", length)], &[right.clone()])), SAME_ROOT);
         }
+    }
+
+    #[test]
+    fn elements_that_climb_out() {
+        let one = |name: &str| file(name, 1, Some(1));
+        let inside = |name: &str, inner: Vec<u8>| [string(name.as_bytes()), directory(&[inner])].concat();
+        for name in ["", ".", "..", "/", "a/b", "/a", "a/", "\0", "a\0", "\0a", "../x"] {
+            let trees = [
+                one(name),
+                inside(name, inside("b", one("c"))),
+                inside("a", inside(name, one("c"))),
+                inside("a", one(name)),
+            ];
+            for tree in trees {
+                assert_eq!(number_of_tree(&directory(&[tree])), WRONG_TREE, "{name:?}");
+            }
+        }
+        for name in ["...", ". ", "..a", ".a", "a..", " ", "\\", "\u{ff}"] {
+            assert_eq!(number_of_tree(&directory(&[inside(name, one(name))])), 0, "{name:?}");
+        }
+        let twins_aside = directory(&[one("."), file("b", 2, Some(1))]);
+        assert_eq!(number_of_tree(&twins_aside), WRONG_TREE);
     }
 }

@@ -384,7 +384,7 @@ mod tests {
         assert_eq!(number(&good()), DONE);
         // 25
         assert_eq!(number(&[]), WRONG_TREE);
-        for path in ["a", "a/b", "d", "", "c/", "/c", "c//e"] {
+        for path in ["a", "a/b", "d", "", "c/", "/c", "c//e", ".", "c/..", "./c", "c/../e", "c\0"] {
             assert_eq!(number(&with(entry(path, 1, [2; 32], b""))), WRONG_TREE, "{path}");
         }
         assert_eq!(number(&with(Entry { path: Vec::new(), ..entry("c", 1, [2; 32], b"") })), WRONG_TREE);
@@ -462,7 +462,7 @@ mod tests {
 
         fn element(&mut self) -> Vec<u8> {
             let size = if self.below(60) == 0 { 0 } else { 1 + self.below(2) };
-            (0..size).map(|_| b"ab.\xff"[self.below(4) as usize]).collect()
+            (0..size).map(|_| b"ab-\xffab-\xff."[self.below(9) as usize]).collect()
         }
 
         fn file(&mut self) -> Entry {

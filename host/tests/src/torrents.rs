@@ -105,7 +105,7 @@ impl Maker<'_> {
         let mut entries = BTreeMap::new();
         for _ in 0..self.random.between(1, 3) {
             let size = self.random.between(1, 3) as usize;
-            let name = (0..size).map(|_| self.random.pick(b"ab.\xff")).collect();
+            let name = (0..size).map(|_| self.random.pick(b"ab-\xffab-\xff.")).collect();
             let node = if levels == 0 || self.random.percent(70) { self.file() } else { self.directory(levels - 1) };
             entries.insert(name, node);
         }
