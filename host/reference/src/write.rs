@@ -5,8 +5,9 @@
 
 use crate::number::*;
 use crate::sha256::Hash;
-use crate::torrent::{element_right, layer_differs, LARGEST};
-use crate::tree::{padding, piece_length_in_range, Facts, BLOCK, LONGEST_FILE};
+use crate::torrent::{element_right, layer_differs};
+use crate::limits::{BLOCK, LARGEST_TORRENT, LONGEST_FILE};
+use crate::tree::{padding, piece_length_in_range, Facts};
 use crate::Answer;
 use std::collections::{BTreeMap, HashMap, HashSet};
 
@@ -194,10 +195,10 @@ fn has_other_root(item: &Item, piece_length: u64) -> bool {
 
 /// The lowest number of 19 and 21 to 28 that holds of a content, or 0. 22 and 23 hold of none.
 pub fn number_of(items: &[Item], piece_length: u64, name: &[u8]) -> u32 {
-    if size(items, piece_length, name) > LARGEST as u128 {
+    if size(items, piece_length, name) > LARGEST_TORRENT as u128 {
         TORRENT_TOO_LARGE
     } else if items.iter().any(|item| item.path.len() + LEVELS_BESIDE_THE_PATH > DEEPEST) {
-        TOO_DEEP
+        NESTED_TOO_DEEPLY
     } else if !piece_length_in_range(piece_length) {
         PIECE_LENGTH_OUT_OF_RANGE
     } else if items.is_empty() || items.iter().any(is_wrong) || paths_meet(items) {
@@ -205,7 +206,7 @@ pub fn number_of(items: &[Item], piece_length: u64, name: &[u8]) -> u32 {
     } else if one_root_two(items, |item| item.length) {
         SAME_ROOT
     } else if items.iter().any(|item| item.layer.len() as u64 != item.layer_size(piece_length)) {
-        WRONG_LAYERS
+        LAYERS_AMISS
     } else if one_root_two(items, |item| item.layer) || items.iter().any(|item| has_other_root(item, piece_length)) {
         LAYER_DIFFERS
     } else {
@@ -272,7 +273,7 @@ mod tests {
         (list, text)
     }
 
-    const ROOM: usize = LARGEST + 1;
+    const ROOM: usize = LARGEST_TORRENT + 1;
 
     fn write_with(entries: &[Entry], piece_length: u64, name: &[u8], room: usize) -> (Answer, Vec<u8>) {
         let (list, text) = written_down(entries, entries.len() % 3);
@@ -359,7 +360,7 @@ mod tests {
             (0, 0x7f, WRONG_TREE),
             (43, 11, DONE),
             (43, 12, WRONG_SIZE),
-            (47, 11, WRONG_LAYERS),
+            (47, 11, LAYERS_AMISS),
             (47, 12, WRONG_SIZE),
             (44, 0xff, WRONG_SIZE),
             (51, 1, WRONG_SIZE),
@@ -394,12 +395,12 @@ mod tests {
         assert_eq!(number(&with(entry("c", 2, [1; 32], b""))), SAME_ROOT);
         assert_eq!(number(&with(entry("c", 2, [0; 32], b""))), DONE);
         // 27
-        assert_eq!(number(&with(entry("c", 2, [2; 32], &[9; 32]))), WRONG_LAYERS);
-        assert_eq!(number(&with(entry("c", 0, [0; 32], &[9; 32]))), WRONG_LAYERS);
-        assert_eq!(number(&with(entry("c", 16385, [2; 32], b""))), WRONG_LAYERS);
+        assert_eq!(number(&with(entry("c", 2, [2; 32], &[9; 32]))), LAYERS_AMISS);
+        assert_eq!(number(&with(entry("c", 0, [0; 32], &[9; 32]))), LAYERS_AMISS);
+        assert_eq!(number(&with(entry("c", 16385, [2; 32], b""))), LAYERS_AMISS);
         for size in [95, 97, 64, 0] {
             let twin = Entry { layer: vec![5; size], ..long("c", 5) };
-            assert_eq!(number(&with(twin)), WRONG_LAYERS);
+            assert_eq!(number(&with(twin)), LAYERS_AMISS);
         }
         // 28
         assert_eq!(number(&with(Entry { root: [2; 32], ..long("c", 5) })), LAYER_DIFFERS);
@@ -409,9 +410,9 @@ mod tests {
             assert_eq!(write_with(&[], piece_length, b"x", 0).0.number, PIECE_LENGTH_OUT_OF_RANGE);
         }
         let deep = |elements: usize| [entry(&vec!["a"; elements].join("/"), 1, [1; 32], b"")];
-        assert_eq!((number(&deep(28)), number(&deep(29))), (DONE, TOO_DEEP));
-        assert_eq!(write_with(&deep(29), 0, b"x", 0).0.number, TOO_DEEP);
-        assert_eq!(number(&deep(200_000)), TOO_DEEP);
+        assert_eq!((number(&deep(28)), number(&deep(29))), (DONE, NESTED_TOO_DEEPLY));
+        assert_eq!(write_with(&deep(29), 0, b"x", 0).0.number, NESTED_TOO_DEEPLY);
+        assert_eq!(number(&deep(200_000)), NESTED_TOO_DEEPLY);
         assert_eq!(number(&deep(300_000)), TORRENT_TOO_LARGE);
     }
 
@@ -431,9 +432,9 @@ mod tests {
     fn the_largest() {
         let entries = [entry("a/b", 1, [1; 32], b""), long("a/c", 5)];
         let rest = write_with(&entries, 16384, b"", ROOM).1.len() - 2;
-        let name = vec![b'n'; LARGEST - rest - "1000000:".len()];
+        let name = vec![b'n'; LARGEST_TORRENT - rest - "1000000:".len()];
         let (answer, torrent) = write_with(&entries, 16384, &name, ROOM);
-        assert_eq!((answer.number, torrent.len()), (DONE, LARGEST));
+        assert_eq!((answer.number, torrent.len()), (DONE, LARGEST_TORRENT));
         assert_eq!(write_with(&entries, 16384, &[&name[..], b"n"].concat(), ROOM).0.number, TORRENT_TOO_LARGE);
         let named = |entries: &[Entry], less: usize| write_with(entries, 16384, &name[less..], ROOM).0.number;
         // Again: its properties count once more, its name and directory don't.
@@ -444,7 +445,7 @@ mod tests {
         let twin = [&entries[..], &[Entry { layer: vec![0; 100], ..long("a/d", 5) }]].concat();
         let file = "1:dd0:d6:lengthi40000e11:pieces root32:ee".len() + 32;
         let more = "100:".len() + 100 - "96:".len() - 96;
-        assert_eq!((named(&twin, file + more), named(&twin, file + more - 1)), (WRONG_LAYERS, TORRENT_TOO_LARGE));
+        assert_eq!((named(&twin, file + more), named(&twin, file + more - 1)), (LAYERS_AMISS, TORRENT_TOO_LARGE));
     }
 
     struct Random(u64);
