@@ -14,7 +14,7 @@ use Rattle.octets.specs.OctetsLaws.{number-same}
 use Rattle.lists.specs.Lists.{recordSize, elementEnd, elementsFit, elementsIn, itemAt, partFits, pathAt, formAt, formUpTo, recordCount, listForm}
 
 -- nothing is left
-fit-end : (steps : ℕ) (s : List ℕ) → length s ≡ 0 → elementsFit steps s ≡ true
+pub fit-end : (steps : ℕ) (s : List ℕ) → length s ≡ 0 → elementsFit steps s ≡ true
 unfolding elementsFit
 fit-end zero s e = eq-eqb (length s) 0 e
 fit-end (suc steps) s e = rw (eq-eqb (length s) 0 e) refl

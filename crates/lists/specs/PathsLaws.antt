@@ -18,7 +18,7 @@ use Rattle.lists.specs.Lists.{elementEnd, elementsFit, elementsIn}
 
 -- ---- what is left of one path
 
-in-end : (steps : ℕ) (s : List ℕ) → length s ≡ 0 → elementsIn steps s ≡ []
+pub in-end : (steps : ℕ) (s : List ℕ) → length s ≡ 0 → elementsIn steps s ≡ []
 unfolding elementsIn
 in-end zero s e = refl
 in-end (suc steps) s e = rw (eq-eqb (length s) 0 e) refl
@@ -84,7 +84,7 @@ path-more s at l h =
     record { within = element-there s at l h .1; steps = f .fewer; fits = ap (elementsFit (f .fewer)) (sym (rest-is s at)) ∙ f .rest-fits }
 
 -- the path from a position on is its element there and the rest
-path-elements : (s : List ℕ) (at : ℕ) (l : PathLeft s at) (h : at < length s)
+pub path-elements : (s : List ℕ) (at : ℕ) (l : PathLeft s at) (h : at < length s)
     → elementsIn (l .steps) (drop at s) ≡ take (numberAt s at 4) (drop (at + 4) s) ∷ elementsIn (path-more s at l h .steps) (drop (at + 4 + numberAt s at 4) s)
 unfolding path-more first-of
 path-elements s at l h =
