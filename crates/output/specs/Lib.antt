@@ -2,3 +2,5 @@ pub mod Put
 pub mod PutLaws
 pub mod Path
 pub mod PathLaws
+pub mod Files
+pub mod FilesLaws
