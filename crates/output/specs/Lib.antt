@@ -4,3 +4,5 @@ pub mod Path
 pub mod PathLaws
 pub mod Files
 pub mod FilesLaws
+pub mod Layers
+pub mod LayersLaws
