@@ -6,3 +6,5 @@ pub mod Files
 pub mod FilesLaws
 pub mod Layers
 pub mod LayersLaws
+pub mod Whole
+pub mod WholeLaws

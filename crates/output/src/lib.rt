@@ -4,3 +4,4 @@ pub mod file;
 pub mod layer;
 pub mod path;
 pub mod plain;
+pub mod whole;

@@ -1,0 +1,195 @@
+-- The two parts are the torrent's encoding; more files than `mostFiles` make it too large.
+-- Assumes nothing.
+use mathlib.Core.Path.{_≡_, refl, sym, ap, ap₂, _∙_}
+use mathlib.Core.Bool.{Bool, true, false}
+use mathlib.Core.List.{List, [], _∷_, _++_, append-assoc}
+use Prim.Native.Nat.{ℕ, zero, suc, _+_, _-_, _*_, _≤_, _<_}
+use native.Mathlib.Omega.{arith}
+use native.Mathlib.Nat.{zero-add}
+use lib.ListN.{length, take, drop, length-append}
+use lib.Seq.{length-take-le, drop-at}
+use lib.Dec.{ltb}
+use borrow.Author.Tests.{lt-ltb}
+use Rattle.limits.specs.Limits.{largestTorrent}
+use Rattle.octets.specs.Octets.{pasted}
+use Rattle.bencode.specs.Grammar.{letterD, letterE, letterI, decimal, decimalIn, encodeString, Value, integer, string, dictionary, Entries, noEntries, entry, encode, encodeEntries, KeyBefore}
+use Rattle.bencode.specs.Grammar as G
+use Rattle.bencode.specs.CompleteLaws.{BeginsWithDigit, decimal-first}
+use Rattle.meaning.specs.Keys.{keyInfo, keyFileTree, keyPieceLength, keyMetaVersion, keyPieceLayers}
+use Rattle.publishing.specs.Sorting.{sortedBy, Permuted, none, keep, swap, then}
+use Rattle.publishing.specs.SortingLaws.{Ordered, OrderedFrom, sorted-ordered, sorted-permuted, sorted-stays}
+use Rattle.publishing.specs.Content.{Item, Layer, layerBefore, itemBefore, inTreeOrder, properties, treeOfAll, withLayer, layersGiven, layersOfAll, keyName, infoWritten, torrentOf}
+use Rattle.publishing.specs.Number.{tooLarge}
+use Rattle.publishing.specs.OrderLaws.{layer-one-way, layer-behind}
+use Rattle.publishing.specs.AnyOrder.{layersWritten, layers-any-order}
+use Rattle.publishing.specs.Written.{shared, opened, closed, fileBytes, treeBytes}
+use Rattle.publishing.specs.WrittenLaws.{tree-encoded}
+use Rattle.publishing.specs.SizeLaws.{rising, in-order}
+use Rattle.output.specs.Put.{Put}
+use Rattle.output.specs.Layers.{layersBytes, layerOf}
+use Rattle.output.specs.LayersLaws.{layers-encoded}
+use Rattle.output.specs.Files.{propertiesBytes}
+use Rattle.output.specs.FilesLaws.{properties-least}
+use Rattle.output.specs.Whole.{wordTree, wordName, wordPlen, wordLayers, infoBytes, restBytes, byRoot, mostFiles}
+
+-- ---- layers of files by root are by root
+
+from-behind : (l m : Layer) (ls : List Layer) → layerBefore m l ≡ false → OrderedFrom layerBefore m ls → OrderedFrom layerBefore l ls
+unfolding OrderedFrom
+from-behind l m [] h o = tt
+from-behind l m (k ∷ ls) h o = (layer-behind l m k h (o .0), o .1)
+
+given-from : (x : Item) (ys : List Item) → OrderedFrom byRoot x ys → OrderedFrom layerBefore (layerOf x) (layersGiven ys)
+unfolding OrderedFrom layersGiven
+given-from x [] o = tt
+given-from x (y ∷ ys) o = by-layer (y .layer) refl (given-from y ys (o .1))
+  where
+    by-layer : (l : List ℕ) → y .layer ≡ l → OrderedFrom layerBefore (layerOf y) (layersGiven ys) → OrderedFrom layerBefore (layerOf x) (withLayer y l (layersGiven ys))
+    by-layer [] e more = from-behind (layerOf x) (layerOf y) (layersGiven ys) (o .0) more
+    by-layer (b ∷ bs) e more = rw (sym e) (o .0, more)
+
+given-ordered : (ys : List Item) → Ordered byRoot ys → Ordered layerBefore (layersGiven ys)
+unfolding Ordered layersGiven
+given-ordered [] o = tt
+given-ordered (y ∷ ys) o = by-layer (y .layer) refl (given-from y ys o)
+  where
+    tail-ordered : (m : Layer) (ls : List Layer) → OrderedFrom layerBefore m ls → Ordered layerBefore ls
+    tail-ordered m [] p = unfold Ordered in tt
+    tail-ordered m (k ∷ ls) p = unfold Ordered OrderedFrom in p .1
+
+    by-layer : (l : List ℕ) → y .layer ≡ l → OrderedFrom layerBefore (layerOf y) (layersGiven ys) → Ordered layerBefore (withLayer y l (layersGiven ys))
+    by-layer [] e more = tail-ordered (layerOf y) (layersGiven ys) more
+    by-layer (b ∷ bs) e more = rw (sym e) more
+
+pub layers-by-root : (xs : List Item) → layersWritten xs ≡ layersOfAll (layersGiven (sortedBy byRoot xs))
+layers-by-root xs =
+    layers-any-order xs (sortedBy byRoot xs) (sorted-permuted byRoot xs)
+    ∙ ap layersOfAll (sorted-stays layerBefore (layersGiven (sortedBy byRoot xs)) (given-ordered (sortedBy byRoot xs) (sorted-ordered byRoot (λ x y. layer-one-way (layerOf x) (layerOf y)) (λ x y z. layer-behind (layerOf x) (layerOf y) (layerOf z)) xs)))
+
+-- ---- the whole
+
+key-info : encodeString keyInfo ≡ 52 ∷ 58 ∷ keyInfo
+unfolding decimalIn
+key-info = refl
+
+key-tree : encodeString keyFileTree ≡ 57 ∷ 58 ∷ keyFileTree
+unfolding decimalIn
+key-tree = refl
+
+key-version : encodeString keyMetaVersion ≡ 49 ∷ 50 ∷ 58 ∷ keyMetaVersion
+unfolding decimalIn
+key-version = refl
+
+version-two : decimal 2 ≡ 50 ∷ []
+unfolding decimalIn
+version-two = refl
+
+key-name : encodeString keyName ≡ 52 ∷ 58 ∷ keyName
+unfolding decimalIn
+key-name = refl
+
+key-plen : encodeString keyPieceLength ≡ 49 ∷ 50 ∷ 58 ∷ keyPieceLength
+unfolding decimalIn
+key-plen = refl
+
+key-layers : encodeString keyPieceLayers ≡ 49 ∷ 50 ∷ 58 ∷ keyPieceLayers
+unfolding decimalIn
+key-layers = refl
+
+-- the parts, whatever stands in them
+moved : (t w n v d a b x z : List ℕ) → (t ++ (w ++ (n ++ (v ++ ((d ++ a) ++ b))))) ++ (x ++ z) ≡ (t ++ (w ++ (n ++ (v ++ (d ++ (a ++ (b ++ x))))))) ++ z
+moved t w n v d a b x z = simp append-assoc
+
+assembled : (t n d l : List ℕ)
+    → letterD ∷ ((52 ∷ 58 ∷ keyInfo) ++ ((letterD ∷ ((57 ∷ 58 ∷ keyFileTree) ++ ((letterD ∷ t) ++ ((49 ∷ 50 ∷ 58 ∷ keyMetaVersion) ++ ((letterI ∷ ((50 ∷ []) ++ letterE ∷ [])) ++ ((52 ∷ 58 ∷ keyName) ++ (n ++ ((49 ∷ 50 ∷ 58 ∷ keyPieceLength) ++ ((letterI ∷ (d ++ letterE ∷ [])) ++ letterE ∷ []))))))))) ++ ((49 ∷ 50 ∷ 58 ∷ keyPieceLayers) ++ ((letterD ∷ l) ++ letterE ∷ []))))
+    ≡ (wordTree ++ (t ++ (wordName ++ (n ++ (wordPlen ++ (d ++ wordLayers)))))) ++ (l ++ letterE ∷ [])
+assembled t n d l =
+    ap (λ (s : List ℕ). wordTree ++ s) (moved t wordName n wordPlen d (letterE ∷ []) (letterE ∷ []) ((49 ∷ 50 ∷ 58 ∷ keyPieceLayers) ++ letterD ∷ []) (l ++ letterE ∷ []))
+
+torrent-assembled : (plen : ℕ) (name : List ℕ) (tree layers : Entries) (t l : List ℕ) → encode (dictionary tree) ≡ letterD ∷ t → encodeEntries layers ≡ l
+    → encode (dictionary (entry keyInfo (dictionary (infoWritten plen name tree)) (entry keyPieceLayers (dictionary layers) noEntries)))
+    ≡ (wordTree ++ (t ++ (wordName ++ (encodeString name ++ (wordPlen ++ (decimal plen ++ wordLayers)))))) ++ (l ++ letterE ∷ [])
+torrent-assembled plen name tree layers t l e f = spread ∙ assembled t (encodeString name) (decimal plen) l
+  where
+    opened-up : encode (dictionary (entry keyInfo (dictionary (infoWritten plen name tree)) (entry keyPieceLayers (dictionary layers) noEntries)))
+        ≡ letterD ∷ (encodeString keyInfo ++ ((letterD ∷ (encodeString keyFileTree ++ (encode (dictionary tree) ++ (encodeString keyMetaVersion ++ ((letterI ∷ (decimal 2 ++ letterE ∷ [])) ++ (encodeString keyName ++ (encodeString name ++ (encodeString keyPieceLength ++ ((letterI ∷ (decimal plen ++ letterE ∷ [])) ++ letterE ∷ []))))))))) ++ (encodeString keyPieceLayers ++ ((letterD ∷ encodeEntries layers) ++ letterE ∷ []))))
+    opened-up = unfold encode in refl
+
+    spread : encode (dictionary (entry keyInfo (dictionary (infoWritten plen name tree)) (entry keyPieceLayers (dictionary layers) noEntries)))
+        ≡ letterD ∷ ((52 ∷ 58 ∷ keyInfo) ++ ((letterD ∷ ((57 ∷ 58 ∷ keyFileTree) ++ ((letterD ∷ t) ++ ((49 ∷ 50 ∷ 58 ∷ keyMetaVersion) ++ ((letterI ∷ ((50 ∷ []) ++ letterE ∷ [])) ++ ((52 ∷ 58 ∷ keyName) ++ (encodeString name ++ ((49 ∷ 50 ∷ 58 ∷ keyPieceLength) ++ ((letterI ∷ (decimal plen ++ letterE ∷ [])) ++ letterE ∷ []))))))))) ++ ((49 ∷ 50 ∷ 58 ∷ keyPieceLayers) ++ ((letterD ∷ l) ++ letterE ∷ []))))
+    spread = opened-up ∙ rw (e, f, key-info, key-tree, key-version, version-two, key-name, key-plen, key-layers) refl
+
+-- the torrent of a list is its two parts behind each other
+pub torrent-parts : (plen : ℕ) (name : List ℕ) (xs : List Item) → encode (dictionary (torrentOf plen name xs)) ≡ infoBytes plen name (inTreeOrder xs) ++ restBytes (sortedBy byRoot xs)
+unfolding torrentOf infoBytes restBytes
+torrent-parts plen name xs =
+    torrent-assembled plen name (treeOfAll (inTreeOrder xs)) (layersWritten xs) (treeBytes [] (inTreeOrder xs)) (layersBytes G.none (layersGiven (sortedBy byRoot xs)))
+    (tree-encoded (inTreeOrder xs) (rising (inTreeOrder xs) (in-order xs)))
+    (ap encodeEntries (layers-by-root xs) ∙ sym (layers-encoded (layersGiven (sortedBy byRoot xs))))
+
+pub torrent-length : (plen : ℕ) (name : List ℕ) (xs : List Item) → length (encode (dictionary (torrentOf plen name xs))) ≡ length (infoBytes plen name (inTreeOrder xs)) + length (restBytes (sortedBy byRoot xs))
+torrent-length plen name xs = ap (λ (l : List ℕ). length l) (torrent-parts plen name xs) ∙ length-append (infoBytes plen name (inTreeOrder xs)) (restBytes (sortedBy byRoot xs))
+
+-- the second part written first, behind the place of the first: then both are the whole
+pub both-pasted : (s a b : List ℕ) → length a + length b ≤ length s → pasted (pasted s (length a) b) 0 a ≡ pasted s 0 (a ++ b)
+unfolding pasted
+both-pasted s a b h =
+    let k : length (take (length a) s) ≡ length a = length-take-le (length a) s (omega arith) in
+    let z : length a + length b ≡ length (a ++ b) = sym (length-append a b) in
+    rw (zero-add (length a), zero-add (length (a ++ b)))
+    (ap (λ (l : List ℕ). a ++ l)
+    (ap (λ (l : List ℕ). drop (length a) l) (append-assoc (take (length a) s) b (drop (length a + length b) s))
+    ∙ drop-at (take (length a) s) (b ++ drop (length a + length b) s) (length a) k
+    ∙ ap (λ (n : ℕ). b ++ drop n s) z)
+    ∙ sym (append-assoc a b (drop (length (a ++ b)) s)))
+
+-- ---- 19
+
+-- the files take 15 bytes each
+decimal-some : (n : ℕ) → 0 < length (decimal n)
+unfolding BeginsWithDigit
+decimal-some n = let w = decimal-first n in omega (arith, ap (λ (l : List ℕ). length l) (w .2))
+
+file-least : (p q : List (List ℕ)) (x : Item) → 15 ≤ length (fileBytes p q (properties x))
+file-least p q x =
+    let c = closed (length p - shared p q) in
+    let o = opened (drop (shared p q) q) in
+    let v = encodeString [] ++ encode (properties x) in
+    let a = length-append c (o ++ v) in
+    let b = length-append o v in
+    let d = decimal-some (x .size) in
+    let e = properties-least (x .size) (x .root) in
+    omega arith
+
+pub tree-least : (p : List (List ℕ)) (xs : List Item) → 15 * length xs ≤ length (treeBytes p xs)
+unfolding treeBytes
+tree-least p [] = omega arith
+tree-least p (x ∷ xs) =
+    let a = file-least p (x .path) x in
+    let b = tree-least (x .path) xs in
+    let c = length-append (fileBytes p (x .path) (properties x)) (treeBytes (x .path) xs) in
+    omega arith
+
+permuted-length : {A : Type 0} (xs ys : List A) → Permuted xs ys → length xs ≡ length ys
+permuted-length xs ys none = refl
+permuted-length xs ys (keep x {xs = us} {ys = vs} p) = ap suc (permuted-length us vs p)
+permuted-length xs ys (swap x y zs) = refl
+permuted-length xs ys (then {ys = ms} p q) = permuted-length xs ms p ∙ permuted-length ms ys q
+
+info-least : (plen : ℕ) (name : List ℕ) (xs : List Item) → length (treeBytes [] xs) ≤ length (infoBytes plen name xs)
+unfolding infoBytes
+info-least plen name xs =
+    let t = treeBytes [] xs in
+    let r = wordName ++ (encodeString name ++ (wordPlen ++ (decimal plen ++ wordLayers))) in
+    let a = length-append t r in
+    let b = length-append wordTree (t ++ r) in
+    omega arith
+
+-- more files than that are too large, whatever they are
+pub too-many : (plen : ℕ) (name : List ℕ) (xs : List Item) → mostFiles < length xs → tooLarge plen name xs ≡ true
+too-many plen name xs h =
+    let a = torrent-length plen name xs in
+    let b = info-least plen name (inTreeOrder xs) in
+    let c = tree-least [] (inTreeOrder xs) in
+    let d = permuted-length xs (inTreeOrder xs) (sorted-permuted itemBefore xs) in
+    lt-ltb largestTorrent (length (encode (dictionary (torrentOf plen name xs)))) (omega arith)
