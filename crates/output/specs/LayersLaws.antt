@@ -94,9 +94,6 @@ pub root-compared : (list : List ℕ) (place last : ℕ) (seen t : Bool) → see
     → t ≡ repeats (rootBefore list seen last) (cut list (place + 8) 32)
 root-compared list place last seen t s e = e ∙ ap₂ same (cut-slice list last) (cut-slice list place) ∙ sym (rw s refl)
 
-pub none-seen : (list : List ℕ) (place last : ℕ) (seen : Bool) → seen ≡ false → false ≡ repeats (rootBefore list seen last) (cut list (place + 8) 32)
-none-seen list place last seen s = sym (rw s refl)
-
 module _ (list text : List ℕ) (place last : ℕ) (seen : Bool) where
   abbrev x : Item
   x = itemAt list text place
@@ -141,7 +138,7 @@ pub listing-start : (s : List ℕ) (at : ℕ) (list text order : List ℕ) → L
 listing-start s at list text order =
     record { counted = omega arith; inside = omega arith; going = going-start s at (layersBytes none (layersGiven (map (itemAt list text) order))) }
 
-given-none : (x : Item) (xs : List Item) → length (x .layer) ≡ 0 → layersGiven (x ∷ xs) ≡ layersGiven xs
+pub given-none : (x : Item) (xs : List Item) → length (x .layer) ≡ 0 → layersGiven (x ∷ xs) ≡ layersGiven xs
 unfolding layersGiven
 given-none x xs e = by-layer (x .layer) e
   where
@@ -149,7 +146,7 @@ given-none x xs e = by-layer (x .layer) e
     by-layer [] q = refl
     by-layer (b ∷ bs) q = absurd (omega arith)
 
-given-some : (x : Item) (xs : List Item) → (length (x .layer) ≡ 0 → ⊥) → layersGiven (x ∷ xs) ≡ layerOf x ∷ layersGiven xs
+pub given-some : (x : Item) (xs : List Item) → (length (x .layer) ≡ 0 → ⊥) → layersGiven (x ∷ xs) ≡ layerOf x ∷ layersGiven xs
 unfolding layersGiven
 given-some x xs e = by-layer (x .layer) refl e
   where

@@ -8,3 +8,4 @@ pub mod Layers
 pub mod LayersLaws
 pub mod Whole
 pub mod WholeLaws
+pub mod BoundLaws

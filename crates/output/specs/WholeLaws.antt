@@ -26,6 +26,7 @@ use Rattle.publishing.specs.Written.{shared, opened, closed, fileBytes, treeByt
 use Rattle.publishing.specs.WrittenLaws.{tree-encoded}
 use Rattle.publishing.specs.SizeLaws.{rising, in-order}
 use Rattle.output.specs.Put.{Put}
+use Rattle.output.specs.PutLaws.{put-append, put-three}
 use Rattle.output.specs.Layers.{layersBytes, layerOf}
 use Rattle.output.specs.LayersLaws.{layers-encoded}
 use Rattle.output.specs.Files.{propertiesBytes}
@@ -193,3 +194,39 @@ too-many plen name xs h =
     let c = tree-least [] (inTreeOrder xs) in
     let d = permuted-length xs (inTreeOrder xs) (sorted-permuted itemBefore xs) in
     lt-ltb largestTorrent (length (encode (dictionary (torrentOf plen name xs)))) (omega arith)
+
+-- ---- the parts, one behind the other
+
+pub info-length : (plen : ℕ) (name : List ℕ) (xs : List Item)
+    → length (infoBytes plen name xs) ≡ 20 + (length (treeBytes [] xs) + (24 + (length (encodeString name) + (16 + (length (decimal plen) + 18)))))
+unfolding infoBytes
+info-length plen name xs =
+    let t = treeBytes [] xs in
+    let n = encodeString name in
+    let d = decimal plen in
+    let a = length-append wordTree (t ++ (wordName ++ (n ++ (wordPlen ++ (d ++ wordLayers))))) in
+    let b = length-append t (wordName ++ (n ++ (wordPlen ++ (d ++ wordLayers)))) in
+    let c = length-append wordName (n ++ (wordPlen ++ (d ++ wordLayers))) in
+    let e = length-append n (wordPlen ++ (d ++ wordLayers)) in
+    let f = length-append wordPlen (d ++ wordLayers) in
+    let g = length-append d wordLayers in
+    omega arith
+
+module _ (plen : ℕ) (name : List ℕ) (xs : List Item) (s₀ s₁ s₂ s₃ s₄ s₅ s₆ s₇ : List ℕ) (a₀ a₁ a₂ a₃ a₄ a₅ a₆ a₇ : ℕ) where
+  pub put-seven : Put s₀ a₀ wordTree s₁ a₁ → Put s₁ a₁ (treeBytes [] xs) s₂ a₂ → Put s₂ a₂ wordName s₃ a₃ → Put s₃ a₃ (encodeString name) s₄ a₄
+      → Put s₄ a₄ wordPlen s₅ a₅ → Put s₅ a₅ (decimal plen) s₆ a₆ → Put s₆ a₆ wordLayers s₇ a₇
+      → length s₁ ≡ length s₀ → length s₂ ≡ length s₁ → length s₃ ≡ length s₂ → length s₄ ≡ length s₃ → length s₅ ≡ length s₄ → length s₆ ≡ length s₅
+      → Put s₀ a₀ (infoBytes plen name xs) s₇ a₇
+  unfolding infoBytes
+  put-seven p₁ p₂ p₃ p₄ p₅ p₆ p₇ k₁ k₂ k₃ k₄ k₅ k₆ =
+      put-three s₀ s₁ s₂ s₇ a₀ a₁ a₂ a₇ wordTree (treeBytes [] xs) (wordName ++ (encodeString name ++ (wordPlen ++ (decimal plen ++ wordLayers)))) p₁ p₂
+      (put-three s₂ s₃ s₄ s₇ a₂ a₃ a₄ a₇ wordName (encodeString name) (wordPlen ++ (decimal plen ++ wordLayers)) p₃ p₄
+      (put-three s₄ s₅ s₆ s₇ a₄ a₅ a₆ a₇ wordPlen (decimal plen) wordLayers p₅ p₆ p₇ k₅ k₆) k₃ k₄) k₁ k₂
+
+pub rest-length : (xs : List Item) → length (restBytes xs) ≡ length (layersBytes G.none (layersGiven xs)) + 1
+unfolding restBytes
+rest-length xs = length-append (layersBytes G.none (layersGiven xs)) (letterE ∷ [])
+
+pub put-both : (xs : List Item) (s t u : List ℕ) (at m r : ℕ) → Put s at (layersBytes G.none (layersGiven xs)) t m → Put t m (letterE ∷ []) u r → length t ≡ length s → Put s at (restBytes xs) u r
+unfolding restBytes
+put-both xs s t u at m r p q k = put-append s t u at m r (layersBytes G.none (layersGiven xs)) (letterE ∷ []) p q k

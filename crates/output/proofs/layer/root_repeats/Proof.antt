@@ -1,4 +1,4 @@
-use Rattle.output.specs.LayersLaws.{root-compared, none-seen}
+use Rattle.output.specs.LayersLaws.{root-compared}
 use native.Mathlib.Omega.{arith}
 use Prim.Native.Nat.{ℕ, _+_, _-_, _*_, _≤_, _<_, _/_, _%_, _^_}
 use lib.ListN.{length, getD, set, take, drop}

@@ -1,3 +1,4 @@
+use Rattle.output.specs.BoundLaws.{info-most}
 use native.Mathlib.Omega.{arith}
 use Prim.Native.Nat.{ℕ, _+_, _-_, _*_, _≤_, _<_, _/_, _%_, _^_}
 use lib.ListN.{length, getD, set, take, drop}
@@ -15,7 +16,7 @@ slice-aggregate-put-info c = search needs
 
 -- src/whole.rt:50:5
 put-info-requires : tie.Need-put-info-requires
-put-info-requires c κs = ?
+put-info-requires c κs = (c .before .before .before .before .before .pre .0, let m = info-most (c .before .before .before .before .before .args .list .now) (c .before .before .before .before .before .args .text .now) (λ i. omega (arith, c .before .before .before .before .shared-slice-known .given i)) (c .before .before .before .before .before .args .plen) (c .before .before .before .before .before .args .name .now) (c .before .before .before .before .before .args .order .now) (c .before .before .before .before .before .pre .0) (c .before .before .before .before .before .pre .1) (omega (arith, c .before .before .before .before .before .fits .plen)) (omega arith) in omega arith)
 
 -- src/whole.rt:45:1
 returns : tie.Need-returns

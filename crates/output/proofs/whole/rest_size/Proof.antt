@@ -1,3 +1,4 @@
+use Rattle.output.specs.BoundLaws.{rest-most}
 use native.Mathlib.Omega.{arith}
 use Prim.Native.Nat.{ℕ, _+_, _-_, _*_, _≤_, _<_, _/_, _%_, _^_}
 use lib.ListN.{length, getD, set, take, drop}
@@ -15,7 +16,7 @@ slice-aggregate-put-rest c = search needs
 
 -- src/whole.rt:59:5
 put-rest-requires : tie.Need-put-rest-requires
-put-rest-requires c κs = ?
+put-rest-requires c κs = (c .before .before .before .before .pre .0, let m = rest-most (c .before .before .before .before .args .list .now) (c .before .before .before .before .args .text .now) (λ i. omega (arith, c .before .before .before .shared-slice-known .given i)) (c .before .before .before .before .args .order .now) (c .before .before .before .before .pre .1) in omega arith)
 
 -- src/whole.rt:54:1
 returns : tie.Need-returns
