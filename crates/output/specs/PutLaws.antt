@@ -70,7 +70,6 @@ going-place s at whole rest t now g = let e = g .so-far .behind in omega (arith,
 pub going-room : (s : List ℕ) (at : ℕ) (whole x rest t : List ℕ) (now n : ℕ) → Going s at whole (x ++ rest) t now → at + length whole < n → now + length x < n
 going-room s at whole x rest t now n g h = let e = going-place s at whole (x ++ rest) t now g in omega (arith, length-append x rest)
 
-
 -- ---- one byte, or no room
 
 pub put-set : (s : List ℕ) (at b : ℕ) → at < length s → Put s at (b ∷ []) (set s at b) (at + 1)

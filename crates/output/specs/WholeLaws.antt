@@ -230,3 +230,15 @@ rest-length xs = length-append (layersBytes G.none (layersGiven xs)) (letterE �
 pub put-both : (xs : List Item) (s t u : List ℕ) (at m r : ℕ) → Put s at (layersBytes G.none (layersGiven xs)) t m → Put t m (letterE ∷ []) u r → length t ≡ length s → Put s at (restBytes xs) u r
 unfolding restBytes
 put-both xs s t u at m r p q k = put-append s t u at m r (layersBytes G.none (layersGiven xs)) (letterE ∷ []) p q k
+
+-- ---- both parts written, the second first: the torrent stands at the start of the output, and nothing else changed
+pub whole-written : (plen : ℕ) (name : List ℕ) (xs : List Item) (out t u : List ℕ) (at r q : ℕ) → at ≡ length (infoBytes plen name (inTreeOrder xs)) → Put out at (restBytes (sortedBy byRoot xs)) t r
+    → Put t 0 (infoBytes plen name (inTreeOrder xs)) u q → length t ≡ length out → length (encode (dictionary (torrentOf plen name xs))) ≤ length out → u ≡ pasted out 0 (encode (dictionary (torrentOf plen name xs)))
+whole-written plen name xs out t u at r q e a b k h =
+    let l = torrent-length plen name xs in
+    let x = a .behind in
+    let y = b .behind in
+    b .there (omega arith)
+    ∙ ap (λ (s : List ℕ). pasted s 0 (infoBytes plen name (inTreeOrder xs))) (a .there (omega arith) ∙ ap (λ (n : ℕ). pasted out n (restBytes (sortedBy byRoot xs))) e)
+    ∙ both-pasted out (infoBytes plen name (inTreeOrder xs)) (restBytes (sortedBy byRoot xs)) (omega arith)
+    ∙ ap (pasted out 0) (sym (torrent-parts plen name xs))

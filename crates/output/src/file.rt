@@ -44,7 +44,8 @@ fn put_properties(out: &mut [u8], at: usize, size: usize, root: &[u8]) -> usize
 fn put_file(out: &mut [u8], at: usize, p: &[u8], q: &[u8], list: &[u8], place: usize) -> usize
     requires { ⌜ Standing (now p) 0 × Standing (now q) 0 × (place + recordSize ≤ length (now list))
         × (at + length (fileBytes (pathIn (now p)) (pathIn (now q)) (properties (fileIn (now list) place))) < 2 ^ 64) ⌝ }
-    ensures { λ r. ⌜ Put (now (out .entry)) at (fileBytes (pathIn (now (p .entry))) (pathIn (now (q .entry))) (properties (fileIn (now (list .entry)) place))) (now (out .exit)) r ⌝ }
+    ensures { λ r. ⌜ Put (now (out .entry)) at
+        (fileBytes (pathIn (now (p .entry))) (pathIn (now (q .entry))) (properties (fileIn (now (list .entry)) place))) (now (out .exit)) r ⌝ }
 {
     let m = shared_end(p, q);
     let closed = put_closed(out, at, p, m);
@@ -55,8 +56,10 @@ fn put_file(out: &mut [u8], at: usize, p: &[u8], q: &[u8], list: &[u8], place: u
 
 // The entries of the file tree of the files whose records stand at `order`, which is tree order, and the end of it.
 pub fn put_tree(out: &mut [u8], at: usize, list: &[u8], text: &[u8], order: &[u32]) -> usize
-    requires { ⌜ Placed (now list) (now text) (now order) × (at + length (treeBytes [] (map (itemAt (now list) (now text)) (now order))) < 2 ^ 64) ⌝ }
-    ensures { λ r. ⌜ Put (now (out .entry)) at (treeBytes [] (map (itemAt (now (list .entry)) (now (text .entry))) (now (order .entry)))) (now (out .exit)) r ⌝ }
+    requires { ⌜ Placed (now list) (now text) (now order)
+        × (at + length (treeBytes [] (map (itemAt (now list) (now text)) (now order))) < 2 ^ 64) ⌝ }
+    ensures { λ r. ⌜ Put (now (out .entry)) at
+        (treeBytes [] (map (itemAt (now (list .entry)) (now (text .entry))) (now (order .entry)))) (now (out .exit)) r ⌝ }
 {
     let mut to = at;
     let mut start = 0;
@@ -66,7 +69,14 @@ pub fn put_tree(out: &mut [u8], at: usize, list: &[u8], text: &[u8], order: &[u3
         let place = index(order[i]);
         let s = number_at(list, place + 48, 4);
         let m = number_at(list, place + 48 + 4, 4);
-        to = put_file(out, to, &text[start..start + size], &text[s..s + m], list, place);
+        to = put_file(
+            out,
+            to,
+            &text[start..start + size],
+            &text[s..s + m],
+            list,
+            place,
+        );
         start = s;
         size = m;
         i += 1;

@@ -28,10 +28,20 @@ fn root_repeats(list: &[u8], place: usize, seen: bool, last: usize) -> bool
 }
 
 // The root and the layer of the record at `place`, unless the root repeats.
-fn put_layer(out: &mut [u8], at: usize, list: &[u8], text: &[u8], place: usize, seen: bool, last: usize) -> usize
+fn put_layer(
+    out: &mut [u8],
+    at: usize,
+    list: &[u8],
+    text: &[u8],
+    place: usize,
+    seen: bool,
+    last: usize,
+) -> usize
     requires { ⌜ InForm (now list) (now text) place × (last + recordSize ≤ length (now list))
         × (at + length (layerEntry (rootBefore (now list) seen last) (layerOf (itemAt (now list) (now text) place))) < 2 ^ 64) ⌝ }
-    ensures { λ r. ⌜ Put (now (out .entry)) at (layerEntry (rootBefore (now (list .entry)) seen last) (layerOf (itemAt (now (list .entry)) (now (text .entry)) place))) (now (out .exit)) r ⌝ }
+    ensures { λ r. ⌜ Put (now (out .entry)) at
+        (layerEntry (rootBefore (now (list .entry)) seen last) (layerOf (itemAt (now (list .entry)) (now (text .entry)) place)))
+        (now (out .exit)) r ⌝ }
 {
     if root_repeats(list, place, seen, last) {
         return at;
@@ -44,8 +54,11 @@ fn put_layer(out: &mut [u8], at: usize, list: &[u8], text: &[u8], place: usize, 
 
 // The entries of `piece layers` of the files whose records stand at `order`, and the end of it.
 pub fn put_layers(out: &mut [u8], at: usize, list: &[u8], text: &[u8], order: &[u32]) -> usize
-    requires { ⌜ Placed (now list) (now text) (now order) × (at + length (layersBytes none (layersGiven (map (itemAt (now list) (now text)) (now order)))) < 2 ^ 64) ⌝ }
-    ensures { λ r. ⌜ Put (now (out .entry)) at (layersBytes none (layersGiven (map (itemAt (now (list .entry)) (now (text .entry))) (now (order .entry))))) (now (out .exit)) r ⌝ }
+    requires { ⌜ Placed (now list) (now text) (now order)
+        × (at + length (layersBytes none (layersGiven (map (itemAt (now list) (now text)) (now order)))) < 2 ^ 64) ⌝ }
+    ensures { λ r. ⌜ Put (now (out .entry)) at
+        (layersBytes none (layersGiven (map (itemAt (now (list .entry)) (now (text .entry))) (now (order .entry)))))
+        (now (out .exit)) r ⌝ }
 {
     let mut to = at;
     let mut seen = false;

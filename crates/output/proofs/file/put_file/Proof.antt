@@ -5,65 +5,46 @@ use Rattle.output.specs.Files.{fileIn}
 use Rattle.publishing.specs.Content.{properties}
 use Rattle.output.specs.FilesLaws.{file-length, put-parts, properties-read, put-read}
 use native.Mathlib.Omega.{arith}
-use Prim.Native.Nat.{ℕ, _+_, _-_, _*_, _≤_, _<_, _/_, _%_, _^_}
-use lib.ListN.{length, getD, set, take, drop, length-replicate}
-use mathlib.Core.Path.{_≡_, refl, ap, sym, _∙_}
+use Prim.Native.Nat.{ℕ, _-_}
+use lib.ListN.{length, length-replicate}
+use mathlib.Core.Path.{ap}
 use borrow.Author.Needs.{needs}
 use Rattle.output.proofs.file.put_file.Statement.{statement}
 use Rattle.output.proofs.file.put_file.Tie as tie
-use Rattle.output.proofs.file.put_file.Reads as reads
-use Rattle.output.proofs.file.put_file.Lts as lts
-use Rattle.octets.proofs.number_at.Reads as number-at-reads
-use Rattle.output.proofs.file.put_properties.Reads as put-properties-reads
-use Rattle.output.proofs.path.put_closed.Reads as put-closed-reads
-use Rattle.output.proofs.path.put_opened.Reads as put-opened-reads
-use Rattle.output.proofs.path.shared_end.Reads as shared-end-reads
 
--- src/file.rt:49:9
 shared-end-requires : tie.Need-shared-end-requires
 shared-end-requires c κs = search needs
 
--- src/file.rt:50:9
 put-closed-requires : tie.Need-put-closed-requires
 put-closed-requires c κs = (c .before .shared-end .ensures .first, omega (arith, file-length (c .before .before .before .before .before .before .args .p .now) (c .before .before .before .before .before .before .args .q .now) (c .before .shared-end .result) (properties (fileIn (c .before .before .before .before .before .before .args .list .now) (c .before .before .before .before .before .before .args .place))) (c .before .shared-end .ensures), c .before .before .before .before .before .before .pre .3))
 
--- src/file.rt:51:9
 put-opened-requires : tie.Need-put-opened-requires
 put-opened-requires c κs = (c .before .before .before .before .before .shared-end .ensures .second, let e = c .before .before .before .put-closed .ensures .behind in omega (arith, file-length (c .before .before .before .before .before .before .before .before .before .before .args .p .now) (c .before .before .before .before .before .before .before .before .before .before .args .q .now) (c .before .before .before .before .before .shared-end .result) (properties (fileIn (c .before .before .before .before .before .before .before .before .before .before .args .list .now) (c .before .before .before .before .before .before .before .before .before .before .args .place))) (c .before .before .before .before .before .shared-end .ensures), c .before .before .before .before .before .before .before .before .before .before .pre .3, length-replicate {A = ℕ} (length (leftIn (c .before .before .before .before .before .before .before .before .before .before .args .p .now) (c .before .before .before .before .before .shared-end .result))) letterE))
 
--- src/file.rt:52:9
 number-at-requires : tie.Need-number-at-requires
 number-at-requires c κs = search needs
 
--- src/file.rt:53:45
 add-put-properties : tie.Need-add-put-properties
 add-put-properties c = search needs
 
--- src/file.rt:53:56
 add-put-properties-2 : tie.Need-add-put-properties-2
 add-put-properties-2 c = search needs
 
--- src/file.rt:53:39
 sub-put-properties : tie.Need-sub-put-properties
 sub-put-properties c = search needs
 
--- src/file.rt:53:39
 part-put-properties-start : tie.Need-part-put-properties-start
 part-put-properties-start c = search needs
 
--- src/file.rt:53:39
 part-put-properties-end : tie.Need-part-put-properties-end
 part-put-properties-end c = search needs
 
--- src/file.rt:53:5
 put-properties-requires : tie.Need-put-properties-requires
 put-properties-requires c κs = let e = c .before .before .before .before .before .before .before .before .before .put-closed .ensures .behind in let g = c .before .before .before .before .before .put-opened .ensures .behind in omega (arith, file-length (c .before .before .before .before .before .before .before .before .before .before .before .before .before .before .before .before .args .p .now) (c .before .before .before .before .before .before .before .before .before .before .before .before .before .before .before .before .args .q .now) (c .before .before .before .before .before .before .before .before .before .before .before .shared-end .result) (properties (fileIn (c .before .before .before .before .before .before .before .before .before .before .before .before .before .before .before .before .args .list .now) (c .before .before .before .before .before .before .before .before .before .before .before .before .before .before .before .before .args .place))) (c .before .before .before .before .before .before .before .before .before .before .before .shared-end .ensures), c .before .before .before .before .before .before .before .before .before .before .before .before .before .before .before .before .pre .3, length-replicate {A = ℕ} (length (leftIn (c .before .before .before .before .before .before .before .before .before .before .before .before .before .before .before .before .args .p .now) (c .before .before .before .before .before .before .before .before .before .before .before .shared-end .result))) letterE, ap (λ (l : List ℕ). length l) (properties-read (c .before .before .before .before .before .before .before .before .before .before .before .before .before .before .before .before .args .list .now) (c .before .before .before .before .before .before .before .before .before .before .before .before .before .before .before .before .args .place) _ (c .before .before .number-at .ensures .0)))
 
--- src/file.rt:44:1
 same-length : tie.Need-same-length
 same-length c = search needs
 
--- src/file.rt:44:1
 returns : tie.Need-returns
 returns c = put-parts (c .before .before .before .before .before .before .before .before .before .before .before .before .before .before .before .before .before .before .before .args .p .now) (c .before .before .before .before .before .before .before .before .before .before .before .before .before .before .before .before .before .before .before .args .q .now) (c .before .before .before .before .before .before .before .before .before .before .before .before .before .before .shared-end .result) (properties (fileIn (c .before .before .before .before .before .before .before .before .before .before .before .before .before .before .before .before .before .before .before .args .list .now) (c .before .before .before .before .before .before .before .before .before .before .before .before .before .before .before .before .before .before .before .args .place))) (c .before .before .before .before .before .before .before .before .before .before .before .before .before .before .shared-end .ensures) _ _ _ _ _ _ _ _ (c .before .before .before .before .before .before .before .before .before .before .before .before .put-closed .ensures) (c .before .before .before .before .before .before .before .before .put-opened .ensures) (put-read (c .before .before .before .before .before .before .before .before .before .before .before .before .before .before .before .before .before .before .before .args .list .now) (c .before .before .before .before .before .before .before .before .before .before .before .before .before .before .before .before .before .before .before .args .place) _ (c .before .before .before .before .before .number-at .ensures .0) _ _ _ _ (c .before .before .put-properties .ensures)) (c .before .before .before .before .before .before .before .before .before .before .before .before .put-closed .kept .0) (c .before .before .before .before .before .before .before .before .put-opened .kept .0)
 

@@ -1,67 +1,46 @@
-use Rattle.output.specs.FilesLaws.{properties-least, empty-length, full-length, put-empty, put-full}
+use Rattle.output.specs.FilesLaws.{properties-least, full-length, put-empty, put-full}
 use native.Mathlib.Omega.{arith}
-use Prim.Native.Nat.{ℕ, _+_, _-_, _*_, _≤_, _<_, _/_, _%_, _^_}
-use lib.ListN.{length, getD, set, take, drop}
-use mathlib.Core.Path.{_≡_, refl, ap, sym, _∙_}
+use Prim.Native.Nat.{_-_}
 use borrow.Author.Needs.{needs}
 use Rattle.output.proofs.file.put_properties.Statement.{statement}
 use Rattle.output.proofs.file.put_properties.Tie as tie
-use Rattle.output.proofs.file.put_properties.Reads as reads
-use Rattle.output.proofs.file.put_properties.Lts as lts
-use Rattle.output.proofs.plain.put_byte.Reads as put-byte-reads
-use Rattle.output.proofs.plain.put_bytes.Reads as put-bytes-reads
-use Rattle.output.proofs.plain.put_decimal.Reads as put-decimal-reads
-use Rattle.output.proofs.plain.put_string.Reads as put-string-reads
 
--- src/file.rt:33:37
 slice-aggregate-put-bytes : tie.Need-slice-aggregate-put-bytes
 slice-aggregate-put-bytes c = search needs
 
--- src/file.rt:33:9
 put-bytes-requires : tie.Need-put-bytes-requires
 put-bytes-requires c κs = omega (arith, properties-least (c .before .before .before .before .args .size) (c .before .before .before .before .args .root .now), c .before .before .before .before .pre)
 
--- src/file.rt:34:9
 put-decimal-requires : tie.Need-put-decimal-requires
 put-decimal-requires c κs = let e = c .before .before .before .put-bytes .ensures .behind in omega (arith, properties-least (c .before .before .before .before .before .before .before .before .args .size) (c .before .before .before .before .before .before .before .before .args .root .now), c .before .before .before .before .before .before .before .before .pre)
 
--- src/file.rt:36:39
 slice-aggregate-put-bytes-2 : tie.Need-slice-aggregate-put-bytes-2
 slice-aggregate-put-bytes-2 c = search needs
 
--- src/file.rt:36:9
 put-bytes-requires-2 : tie.Need-put-bytes-requires-2
 put-bytes-requires-2 c κs = let e = c .before .before .before .before .before .before .before .before .before .put-bytes .ensures .behind in let f = c .before .before .before .before .before .put-decimal .ensures .behind in omega (arith, properties-least (c .before .before .before .before .before .before .before .before .before .before .before .before .before .before .args .size) (c .before .before .before .before .before .before .before .before .before .before .before .before .before .before .args .root .now), c .before .before .before .before .before .before .before .before .before .before .before .before .before .before .pre)
 
--- src/file.rt:36:9
 same-length : tie.Need-same-length
 same-length c = search needs
 
--- src/file.rt:36:9
 returns : tie.Need-returns
 returns c = put-empty _ _ _ _ _ _ _ _ (c .before .before .before .before .before .before .before .before .before .before .before .before .before .before .before .before .before .args .size) (c .before .before .before .before .before .before .before .before .before .before .before .before .before .before .before .before .before .args .root .now) (c .before .before .before .before .before .if1 .taken) (c .before .before .before .before .before .before .before .before .before .before .before .before .put-bytes .ensures) (c .before .before .before .before .before .before .before .before .put-decimal .ensures) (c .before .before .put-bytes2 .ensures) (c .before .before .before .before .before .before .before .before .before .before .before .before .put-bytes .kept .0) (c .before .before .before .before .before .before .before .before .put-decimal .kept .0)
 
--- src/file.rt:38:40
 slice-aggregate-put-bytes-3 : tie.Need-slice-aggregate-put-bytes-3
 slice-aggregate-put-bytes-3 c = search needs
 
--- src/file.rt:38:9
 put-bytes-requires-3 : tie.Need-put-bytes-requires-3
 put-bytes-requires-3 c κs = let e = c .before .before .before .before .before .before .before .before .before .put-bytes .ensures .behind in let f = c .before .before .before .before .before .put-decimal .ensures .behind in omega (arith, full-length (c .before .before .before .before .before .before .before .before .before .before .before .before .before .before .args .size) (c .before .before .before .before .before .before .before .before .before .before .before .before .before .before .args .root .now) (c .before .before .if1 .left), c .before .before .before .before .before .before .before .before .before .before .before .before .before .before .pre)
 
--- src/file.rt:39:9
 put-string-requires : tie.Need-put-string-requires
 put-string-requires c κs = let e = c .before .before .before .before .before .before .before .before .before .before .before .before .before .put-bytes .ensures .behind in let f = c .before .before .before .before .before .before .before .before .before .put-decimal .ensures .behind in let g = c .before .before .before .put-bytes3 .ensures .behind in omega (arith, full-length (c .before .before .before .before .before .before .before .before .before .before .before .before .before .before .before .before .before .before .args .size) (c .before .before .before .before .before .before .before .before .before .before .before .before .before .before .before .before .before .before .args .root .now) (c .before .before .before .before .before .before .if1 .left), c .before .before .before .before .before .before .before .before .before .before .before .before .before .before .before .before .before .before .pre)
 
--- src/file.rt:40:5
 put-byte-requires : tie.Need-put-byte-requires
 put-byte-requires c κs = let e = c .before .before .before .before .before .before .before .before .before .before .before .before .before .before .before .before .before .put-bytes .ensures .behind in let f = c .before .before .before .before .before .before .before .before .before .before .before .before .before .put-decimal .ensures .behind in let g = c .before .before .before .before .before .before .before .put-bytes3 .ensures .behind in let h = c .before .before .before .put-string .ensures .behind in omega (arith, full-length (c .before .before .before .before .before .before .before .before .before .before .before .before .before .before .before .before .before .before .before .before .before .before .args .size) (c .before .before .before .before .before .before .before .before .before .before .before .before .before .before .before .before .before .before .before .before .before .before .args .root .now) (c .before .before .before .before .before .before .before .before .before .before .if1 .left), c .before .before .before .before .before .before .before .before .before .before .before .before .before .before .before .before .before .before .before .before .before .before .pre)
 
--- src/file.rt:29:1
 same-length-2 : tie.Need-same-length-2
 same-length-2 c = search needs
 
--- src/file.rt:29:1
 returns-2 : tie.Need-returns-2
 returns-2 c = put-full _ _ _ _ _ _ _ _ _ _ _ _ (c .before .before .before .before .before .before .before .before .before .before .before .before .before .before .before .before .before .before .before .before .before .before .before .before .before .args .size) (c .before .before .before .before .before .before .before .before .before .before .before .before .before .before .before .before .before .before .before .before .before .before .before .before .before .args .root .now) (c .before .before .before .before .before .before .before .before .before .before .before .before .before .if1 .left) (c .before .before .before .before .before .before .before .before .before .before .before .before .before .before .before .before .before .before .before .before .put-bytes .ensures) (c .before .before .before .before .before .before .before .before .before .before .before .before .before .before .before .before .put-decimal .ensures) (c .before .before .before .before .before .before .before .before .before .before .put-bytes3 .ensures) (c .before .before .before .before .before .before .put-string .ensures) (c .before .before .put-byte .ensures) (c .before .before .before .before .before .before .before .before .before .before .before .before .before .before .before .before .before .before .before .before .put-bytes .kept .0) (c .before .before .before .before .before .before .before .before .before .before .before .before .before .before .before .before .put-decimal .kept .0) (c .before .before .before .before .before .before .before .before .before .before .put-bytes3 .kept .0) (c .before .before .before .before .before .before .put-string .kept .0)
 

@@ -1,18 +1,11 @@
 use Rattle.output.specs.FilesLaws.{Growing, growing-start, in-form, part-end, part-standing, file-room, growing-more, last-room, closed-room, growing-end}
 use borrow.Author.Needs.{needs}
 use native.Mathlib.Omega.{arith}
-use Prim.Native.Nat.{ℕ, _+_, _-_, _*_, _≤_, _<_, _/_, _%_, _^_}
-use lib.ListN.{length, getD, set, take, drop}
-use mathlib.Core.Path.{_≡_, refl, ap, sym, _∙_}
+use Prim.Native.Nat.{_-_}
+use lib.ListN.{length}
+use mathlib.Core.Path.{_∙_}
 use Rattle.output.proofs.file.put_tree.Statement.{statement}
 use Rattle.output.proofs.file.put_tree.Tie as tie
-use Rattle.output.proofs.file.put_tree.Reads as reads
-use Rattle.output.proofs.file.put_tree.Lts as lts
-use Rattle.octets.proofs.number_at.Reads as number-at-reads
-use Rattle.output.proofs.file.index.Reads as index-reads
-use Rattle.output.proofs.file.put_file.Reads as put-file-reads
-use Rattle.output.proofs.path.put_closed.Reads as put-closed-reads
-use Rattle.output.proofs.plain.put_byte.Reads as put-byte-reads
 
 abbrev Inv-loop : tie.InvT-loop
 Inv-loop out₀ at list text order to₀ start₀ size₀ i₀ out to start size i = Growing out₀ at list text order out to start size i
@@ -20,119 +13,90 @@ Inv-loop out₀ at list text order to₀ start₀ size₀ i₀ out to start size
 abbrev μ-loop : tie.MeasureT-loop
 μ-loop out₀ at list text order to₀ start₀ size₀ i₀ out to start size i = length order - i
 
--- src/file.rt:65:5
 loop-holds : tie.Need-loop-holds Inv-loop μ-loop
 loop-holds c = growing-start (c .before .before .before .before .args .out .now) (c .before .before .before .before .args .at) (c .before .before .before .before .args .list .now) (c .before .before .before .before .args .text .now) (c .before .before .before .before .args .order .now)
 
--- src/file.rt:66:27
 mul-index : tie.Need-mul-index Inv-loop μ-loop
 mul-index c = search needs
 
--- src/file.rt:66:27
 shared-slice-read-index : tie.Need-shared-slice-read-index Inv-loop μ-loop
 shared-slice-read-index c = search needs
 
--- src/file.rt:66:13
 index-requires : tie.Need-index-requires Inv-loop μ-loop
 index-requires c κs = search needs
 
--- src/file.rt:67:33
 add-number-at : tie.Need-add-number-at Inv-loop μ-loop
 add-number-at c = let w = in-form (c .before .before .before .before .before .before .before .before .args .list .now) (c .before .before .before .before .before .before .before .before .args .text .now) (c .before .before .before .before .before .before .before .before .args .order .now) (c .before .before .before .loop .i) _ (c .before .before .before .before .before .before .before .before .pre .0) (c .before .before .loop-test .taken) (c .index .ensures) .0 in search needs
 
--- src/file.rt:67:13
 number-at-requires : tie.Need-number-at-requires Inv-loop μ-loop
 number-at-requires c κs = let w = in-form (c .before .before .before .before .before .before .before .before .args .list .now) (c .before .before .before .before .before .before .before .before .args .text .now) (c .before .before .before .before .before .before .before .before .args .order .now) (c .before .before .before .loop .i) _ (c .before .before .before .before .before .before .before .before .pre .0) (c .before .before .loop-test .taken) (c .index .ensures) .0 in (omega arith, omega arith)
 
--- src/file.rt:68:33
 add-number-at-2 : tie.Need-add-number-at-2 Inv-loop μ-loop
 add-number-at-2 c = let w = in-form (c .before .before .before .before .before .before .before .before .before .args .list .now) (c .before .before .before .before .before .before .before .before .before .args .text .now) (c .before .before .before .before .before .before .before .before .before .args .order .now) (c .before .before .before .before .loop .i) _ (c .before .before .before .before .before .before .before .before .before .pre .0) (c .before .before .before .loop-test .taken) (c .before .index .ensures) .0 in search needs
 
--- src/file.rt:68:33
 add-number-at-3 : tie.Need-add-number-at-3 Inv-loop μ-loop
 add-number-at-3 c = let w = in-form (c .before .before .before .before .before .before .before .before .before .args .list .now) (c .before .before .before .before .before .before .before .before .before .args .text .now) (c .before .before .before .before .before .before .before .before .before .args .order .now) (c .before .before .before .before .loop .i) _ (c .before .before .before .before .before .before .before .before .before .pre .0) (c .before .before .before .loop-test .taken) (c .before .index .ensures) .0 in search needs
 
--- src/file.rt:68:13
 number-at-requires-2 : tie.Need-number-at-requires-2 Inv-loop μ-loop
 number-at-requires-2 c κs = let w = in-form (c .before .before .before .before .before .before .before .before .before .args .list .now) (c .before .before .before .before .before .before .before .before .before .args .text .now) (c .before .before .before .before .before .before .before .before .before .args .order .now) (c .before .before .before .before .loop .i) _ (c .before .before .before .before .before .before .before .before .before .pre .0) (c .before .before .before .loop-test .taken) (c .before .index .ensures) .0 in (omega arith, omega arith)
 
--- src/file.rt:69:45
 add-put-file : tie.Need-add-put-file Inv-loop μ-loop
 add-put-file c = search needs
 
--- src/file.rt:69:32
 sub-put-file : tie.Need-sub-put-file Inv-loop μ-loop
 sub-put-file c = search needs
 
--- src/file.rt:69:32
 part-put-file-start : tie.Need-part-put-file-start Inv-loop μ-loop
 part-put-file-start c = search needs
 
--- src/file.rt:69:32
 part-put-file-end : tie.Need-part-put-file-end Inv-loop μ-loop
 part-put-file-end c = c .before .before .before .before .before .before .loop .inv .inside
 
--- src/file.rt:69:69
 add-put-file-2 : tie.Need-add-put-file-2 Inv-loop μ-loop
 add-put-file-2 c = search needs
 
--- src/file.rt:69:60
 sub-put-file-2 : tie.Need-sub-put-file-2 Inv-loop μ-loop
 sub-put-file-2 c = search needs
 
--- src/file.rt:69:60
 part-put-file-start-2 : tie.Need-part-put-file-start-2 Inv-loop μ-loop
 part-put-file-start-2 c = search needs
 
--- src/file.rt:69:60
 part-put-file-end-2 : tie.Need-part-put-file-end-2 Inv-loop μ-loop
 part-put-file-end-2 c = part-end (c .before .before .before .before .before .before .before .before .before .before .before .before .args .out .now) (c .before .before .before .before .before .before .before .before .before .before .before .before .args .at) (c .before .before .before .before .before .before .before .before .before .before .before .before .args .list .now) (c .before .before .before .before .before .before .before .before .before .before .before .before .args .text .now) (c .before .before .before .before .before .before .before .before .before .before .before .before .args .order .now) (c .before .before .before .before .before .before .before .loop .out) (c .before .before .before .before .before .before .before .loop .to) (c .before .before .before .before .before .before .before .loop .start) (c .before .before .before .before .before .before .before .loop .size) (c .before .before .before .before .before .before .before .loop .i) (c .before .before .before .before .before .before .before .loop .inv) (c .before .before .before .before .before .before .loop-test .taken) (c .before .before .before .before .before .before .before .before .before .before .before .before .pre .0) _ (c .before .before .before .before .index .ensures) _ _ (c .before .before .before .number-at .ensures .0) (c .before .before .number-at2 .ensures .0)
 
--- src/file.rt:69:9
 put-file-requires : tie.Need-put-file-requires Inv-loop μ-loop
 put-file-requires c κs = (c .before .before .before .before .before .before .before .before .loop .inv .standing, part-standing (c .before .before .before .before .before .before .before .before .before .before .before .before .before .args .out .now) (c .before .before .before .before .before .before .before .before .before .before .before .before .before .args .at) (c .before .before .before .before .before .before .before .before .before .before .before .before .before .args .list .now) (c .before .before .before .before .before .before .before .before .before .before .before .before .before .args .text .now) (c .before .before .before .before .before .before .before .before .before .before .before .before .before .args .order .now) (c .before .before .before .before .before .before .before .before .loop .out) (c .before .before .before .before .before .before .before .before .loop .to) (c .before .before .before .before .before .before .before .before .loop .start) (c .before .before .before .before .before .before .before .before .loop .size) (c .before .before .before .before .before .before .before .before .loop .i) (c .before .before .before .before .before .before .before .before .loop .inv) (c .before .before .before .before .before .before .before .loop-test .taken) (c .before .before .before .before .before .before .before .before .before .before .before .before .before .pre .0) _ (c .before .before .before .before .before .index .ensures) _ _ (c .before .before .before .before .number-at .ensures .0) (c .before .before .before .number-at2 .ensures .0), in-form (c .before .before .before .before .before .before .before .before .before .before .before .before .before .args .list .now) (c .before .before .before .before .before .before .before .before .before .before .before .before .before .args .text .now) (c .before .before .before .before .before .before .before .before .before .before .before .before .before .args .order .now) (c .before .before .before .before .before .before .before .before .loop .i) _ (c .before .before .before .before .before .before .before .before .before .before .before .before .before .pre .0) (c .before .before .before .before .before .before .before .loop-test .taken) (c .before .before .before .before .before .index .ensures) .0, file-room (c .before .before .before .before .before .before .before .before .before .before .before .before .before .args .out .now) (c .before .before .before .before .before .before .before .before .before .before .before .before .before .args .at) (c .before .before .before .before .before .before .before .before .before .before .before .before .before .args .list .now) (c .before .before .before .before .before .before .before .before .before .before .before .before .before .args .text .now) (c .before .before .before .before .before .before .before .before .before .before .before .before .before .args .order .now) (c .before .before .before .before .before .before .before .before .loop .out) (c .before .before .before .before .before .before .before .before .loop .to) (c .before .before .before .before .before .before .before .before .loop .start) (c .before .before .before .before .before .before .before .before .loop .size) (c .before .before .before .before .before .before .before .before .loop .i) (c .before .before .before .before .before .before .before .before .loop .inv) (c .before .before .before .before .before .before .before .loop-test .taken) (c .before .before .before .before .before .before .before .before .before .before .before .before .before .pre .0) _ (c .before .before .before .before .before .index .ensures) _ _ (c .before .before .before .before .number-at .ensures .0) (c .before .before .before .number-at2 .ensures .0) _ (c .before .before .before .before .before .before .before .before .before .before .before .before .before .pre .1))
 
--- src/file.rt:72:9
 add-i : tie.Need-add-i Inv-loop μ-loop
 add-i c = search needs
 
--- src/file.rt:65:5
 loop-less : tie.Need-loop-less Inv-loop μ-loop
 loop-less c = search needs
 
--- src/file.rt:65:5
 loop-again : tie.Need-loop-again Inv-loop μ-loop
 loop-again c = growing-more (c .before .before .before .before .before .before .before .before .before .before .before .before .before .before .before .before .args .out .now) (c .before .before .before .before .before .before .before .before .before .before .before .before .before .before .before .before .args .at) (c .before .before .before .before .before .before .before .before .before .before .before .before .before .before .before .before .args .list .now) (c .before .before .before .before .before .before .before .before .before .before .before .before .before .before .before .before .args .text .now) (c .before .before .before .before .before .before .before .before .before .before .before .before .before .before .before .before .args .order .now) (c .before .before .before .before .before .before .before .before .before .before .before .loop .out) (c .before .before .before .before .before .before .before .before .before .before .before .loop .to) (c .before .before .before .before .before .before .before .before .before .before .before .loop .start) (c .before .before .before .before .before .before .before .before .before .before .before .loop .size) (c .before .before .before .before .before .before .before .before .before .before .before .loop .i) (c .before .before .before .before .before .before .before .before .before .before .before .loop .inv) (c .before .before .before .before .before .before .before .before .before .before .loop-test .taken) (c .before .before .before .before .before .before .before .before .before .before .before .before .before .before .before .before .pre .0) _ (c .before .before .before .before .before .before .before .before .index .ensures) _ _ (c .before .before .before .before .before .before .before .number-at .ensures .0) (c .before .before .before .before .before .before .number-at2 .ensures .0) _ _ (c .before .before .put-file .ensures) (c .before .before .put-file .kept .0)
 
--- src/file.rt:74:9
 put-byte-requires : tie.Need-put-byte-requires Inv-loop μ-loop
 put-byte-requires c κs = last-room (c .before .before .before .before .before .before .before .args .out .now) (c .before .before .before .before .before .before .before .args .at) (c .before .before .before .before .before .before .before .args .list .now) (c .before .before .before .before .before .before .before .args .text .now) (c .before .before .before .before .before .before .before .args .order .now) (c .before .before .loop .out) (c .before .before .loop .to) (c .before .before .loop .start) (c .before .before .loop .size) (c .before .before .loop .i) (c .before .before .loop .inv) (c .before .loop-test .left) _ (c .before .before .before .before .before .before .before .pre .1)
 
--- src/file.rt:75:40
 add-put-closed : tie.Need-add-put-closed Inv-loop μ-loop
 add-put-closed c = search needs
 
--- src/file.rt:75:27
 sub-put-closed : tie.Need-sub-put-closed Inv-loop μ-loop
 sub-put-closed c = search needs
 
--- src/file.rt:75:27
 part-put-closed-start : tie.Need-part-put-closed-start Inv-loop μ-loop
 part-put-closed-start c = search needs
 
--- src/file.rt:75:27
 part-put-closed-end : tie.Need-part-put-closed-end Inv-loop μ-loop
 part-put-closed-end c = c .before .before .before .before .before .before .loop .inv .inside
 
--- src/file.rt:75:5
 put-closed-requires : tie.Need-put-closed-requires Inv-loop μ-loop
 put-closed-requires c κs = (c .before .before .before .before .before .before .before .loop .inv .standing, closed-room (c .before .before .before .before .before .before .before .before .before .before .before .before .args .out .now) (c .before .before .before .before .before .before .before .before .before .before .before .before .args .at) (c .before .before .before .before .before .before .before .before .before .before .before .before .args .list .now) (c .before .before .before .before .before .before .before .before .before .before .before .before .args .text .now) (c .before .before .before .before .before .before .before .before .before .before .before .before .args .order .now) (c .before .before .before .before .before .before .before .loop .out) (c .before .before .before .before .before .before .before .loop .to) (c .before .before .before .before .before .before .before .loop .start) (c .before .before .before .before .before .before .before .loop .size) (c .before .before .before .before .before .before .before .loop .i) (c .before .before .before .before .before .before .before .loop .inv) (c .before .before .before .before .before .before .loop-test .left) _ _ (c .before .before .before .before .put-byte .ensures) (c .before .before .before .before .put-byte .kept .0) _ (c .before .before .before .before .before .before .before .before .before .before .before .before .pre .1))
 
--- src/file.rt:57:1
 same-length : tie.Need-same-length Inv-loop μ-loop
 same-length c = c .before .before .put-closed .kept .0 ∙ c .before .before .before .before .before .before .before .put-byte .kept .0 ∙ c .before .before .before .before .before .before .before .before .before .before .loop .inv .going .kept
 
--- src/file.rt:57:1
 returns : tie.Need-returns Inv-loop μ-loop
 returns c = growing-end (c .before .before .before .before .before .before .before .before .before .before .before .before .before .before .before .args .out .now) (c .before .before .before .before .before .before .before .before .before .before .before .before .before .before .before .args .at) (c .before .before .before .before .before .before .before .before .before .before .before .before .before .before .before .args .list .now) (c .before .before .before .before .before .before .before .before .before .before .before .before .before .before .before .args .text .now) (c .before .before .before .before .before .before .before .before .before .before .before .before .before .before .before .args .order .now) (c .before .before .before .before .before .before .before .before .before .before .loop .out) (c .before .before .before .before .before .before .before .before .before .before .loop .to) (c .before .before .before .before .before .before .before .before .before .before .loop .start) (c .before .before .before .before .before .before .before .before .before .before .loop .size) (c .before .before .before .before .before .before .before .before .before .before .loop .i) (c .before .before .before .before .before .before .before .before .before .before .loop .inv) (c .before .before .before .before .before .before .before .before .before .loop-test .left) _ _ (c .before .before .before .before .before .before .before .put-byte .ensures) (c .before .before .before .before .before .before .before .put-byte .kept .0) _ _ (c .before .before .put-closed .ensures)
 

@@ -2,95 +2,70 @@ use Rattle.bencode.specs.Grammar.{encodeString}
 use mathlib.Core.List.{List}
 use Rattle.output.specs.LayersLaws.{put-repeated, entry-length, put-entry, layer-end, layer-slice}
 use native.Mathlib.Omega.{arith}
-use Prim.Native.Nat.{ℕ, _+_, _-_, _*_, _≤_, _<_, _/_, _%_, _^_}
-use lib.ListN.{length, getD, set, take, drop}
-use mathlib.Core.Path.{_≡_, refl, ap, sym, _∙_}
+use Prim.Native.Nat.{ℕ, _-_}
+use lib.ListN.{length}
+use mathlib.Core.Path.{ap}
 use borrow.Author.Needs.{needs}
 use Rattle.output.proofs.layer.put_layer.Statement.{statement}
 use Rattle.output.proofs.layer.put_layer.Tie as tie
-use Rattle.output.proofs.layer.put_layer.Reads as reads
-use Rattle.output.proofs.layer.put_layer.Lts as lts
-use Rattle.octets.proofs.number_at.Reads as number-at-reads
-use Rattle.output.proofs.layer.root_repeats.Reads as root-repeats-reads
-use Rattle.output.proofs.plain.put_string.Reads as put-string-reads
 
--- src/layer.rt:36:8
 root-repeats-requires : tie.Need-root-repeats-requires
 root-repeats-requires c κs = search needs
 
--- src/layer.rt:37:9
 returns : tie.Need-returns
 returns c = put-repeated (c .before .before .before .before .before .args .list .now) (c .before .before .before .before .before .args .text .now) (c .before .before .before .before .before .args .place) (c .before .before .before .before .before .args .last) (c .before .before .before .before .before .args .seen) _ (c .before .root-repeats .ensures) (c .if1 .taken) _ _
 
--- src/layer.rt:39:33
 add-number-at : tie.Need-add-number-at
 add-number-at c = search needs
 
--- src/layer.rt:39:9
 number-at-requires : tie.Need-number-at-requires
 number-at-requires c κs = search needs
 
--- src/layer.rt:40:32
 add-number-at-2 : tie.Need-add-number-at-2
 add-number-at-2 c = search needs
 
--- src/layer.rt:40:32
 add-number-at-3 : tie.Need-add-number-at-3
 add-number-at-3 c = search needs
 
--- src/layer.rt:40:9
 number-at-requires-2 : tie.Need-number-at-requires-2
 number-at-requires-2 c κs = search needs
 
--- src/layer.rt:41:43
 add-put-string : tie.Need-add-put-string
 add-put-string c = search needs
 
--- src/layer.rt:41:54
 add-put-string-2 : tie.Need-add-put-string-2
 add-put-string-2 c = search needs
 
--- src/layer.rt:41:37
 sub-put-string : tie.Need-sub-put-string
 sub-put-string c = search needs
 
--- src/layer.rt:41:37
 part-put-string-start : tie.Need-part-put-string-start
 part-put-string-start c = search needs
 
--- src/layer.rt:41:37
 part-put-string-end : tie.Need-part-put-string-end
 part-put-string-end c = search needs
 
--- src/layer.rt:41:9
 put-string-requires : tie.Need-put-string-requires
 put-string-requires c κs = omega (arith, entry-length (c .before .before .before .before .before .before .before .before .before .args .list .now) (c .before .before .before .before .before .before .before .before .before .args .text .now) (c .before .before .before .before .before .before .before .before .before .args .place) (c .before .before .before .before .before .before .before .before .before .args .last) (c .before .before .before .before .before .before .before .before .before .args .seen) _ (c .before .before .before .before .before .root-repeats .ensures) (c .before .before .before .before .if1 .left), c .before .before .before .before .before .before .before .before .before .pre .2)
 
--- src/layer.rt:42:41
 add-put-string-3 : tie.Need-add-put-string-3
 add-put-string-3 c = search needs
 
--- src/layer.rt:42:28
 sub-put-string-2 : tie.Need-sub-put-string-2
 sub-put-string-2 c = search needs
 
--- src/layer.rt:42:28
 part-put-string-start-2 : tie.Need-part-put-string-start-2
 part-put-string-start-2 c = search needs
 
--- src/layer.rt:42:28
 part-put-string-end-2 : tie.Need-part-put-string-end-2
 part-put-string-end-2 c = layer-end (c .before .before .before .before .before .before .before .before .before .before .before .before .before .args .list .now) (c .before .before .before .before .before .before .before .before .before .before .before .before .before .args .text .now) (c .before .before .before .before .before .before .before .before .before .before .before .before .before .args .place) _ _ (c .before .before .before .before .before .before .before .before .before .before .before .before .before .pre .0) (c .before .before .before .before .before .before .before .number-at .ensures .0) (c .before .before .before .before .before .before .number-at2 .ensures .0)
 
--- src/layer.rt:42:5
 put-string-requires-2 : tie.Need-put-string-requires-2
 put-string-requires-2 c κs = let e = c .before .before .before .before .put-string .ensures .behind in omega (arith, entry-length (c .before .before .before .before .before .before .before .before .before .before .before .before .before .before .args .list .now) (c .before .before .before .before .before .before .before .before .before .before .before .before .before .before .args .text .now) (c .before .before .before .before .before .before .before .before .before .before .before .before .before .before .args .place) (c .before .before .before .before .before .before .before .before .before .before .before .before .before .before .args .last) (c .before .before .before .before .before .before .before .before .before .before .before .before .before .before .args .seen) _ (c .before .before .before .before .before .before .before .before .before .before .root-repeats .ensures) (c .before .before .before .before .before .before .before .before .before .if1 .left), c .before .before .before .before .before .before .before .before .before .before .before .before .before .before .pre .2, ap (λ (l : List ℕ). length (encodeString l)) (layer-slice (c .before .before .before .before .before .before .before .before .before .before .before .before .before .before .args .list .now) (c .before .before .before .before .before .before .before .before .before .before .before .before .before .before .args .text .now) (c .before .before .before .before .before .before .before .before .before .before .before .before .before .before .args .place) _ _ (c .before .before .before .before .before .before .before .before .before .before .before .before .before .before .pre .0) (c .before .before .before .before .before .before .before .before .number-at .ensures .0) (c .before .before .before .before .before .before .before .number-at2 .ensures .0)))
 
--- src/layer.rt:31:1
 same-length : tie.Need-same-length
 same-length c = search needs
 
--- src/layer.rt:31:1
 returns-2 : tie.Need-returns-2
 returns-2 c = put-entry (c .before .before .before .before .before .before .before .before .before .before .before .before .before .before .before .before .before .args .list .now) (c .before .before .before .before .before .before .before .before .before .before .before .before .before .before .before .before .before .args .text .now) (c .before .before .before .before .before .before .before .before .before .before .before .before .before .before .before .before .before .args .place) (c .before .before .before .before .before .before .before .before .before .before .before .before .before .before .before .before .before .args .last) (c .before .before .before .before .before .before .before .before .before .before .before .before .before .before .before .before .before .args .seen) _ (c .before .before .before .before .before .before .before .before .before .before .before .before .before .root-repeats .ensures) (c .before .before .before .before .before .before .before .before .before .before .before .before .if1 .left) _ (layer-slice (c .before .before .before .before .before .before .before .before .before .before .before .before .before .before .before .before .before .args .list .now) (c .before .before .before .before .before .before .before .before .before .before .before .before .before .before .before .before .before .args .text .now) (c .before .before .before .before .before .before .before .before .before .before .before .before .before .before .before .before .before .args .place) _ _ (c .before .before .before .before .before .before .before .before .before .before .before .before .before .before .before .before .before .pre .0) (c .before .before .before .before .before .before .before .before .before .before .before .number-at .ensures .0) (c .before .before .before .before .before .before .before .before .before .before .number-at2 .ensures .0)) _ _ _ _ _ _ (c .before .before .before .before .before .before .before .put-string .ensures) (c .before .before .put-string2 .ensures) (c .before .before .before .before .before .before .before .put-string .kept .0)
 

@@ -2,17 +2,11 @@ use Rattle.output.specs.FilesLaws.{in-form}
 use Rattle.output.specs.LayersLaws.{Listing, listing-start, listing-skip, layer-room, last-inside, listing-more, end-room, listing-end}
 use borrow.Author.Needs.{needs}
 use native.Mathlib.Omega.{arith}
-use Prim.Native.Nat.{ℕ, _+_, _-_, _*_, _≤_, _<_, _/_, _%_, _^_}
-use lib.ListN.{length, getD, set, take, drop}
-use mathlib.Core.Path.{_≡_, refl, ap, sym, _∙_}
+use Prim.Native.Nat.{_-_}
+use lib.ListN.{length}
+use mathlib.Core.Path.{_∙_}
 use Rattle.output.proofs.layer.put_layers.Statement.{statement}
 use Rattle.output.proofs.layer.put_layers.Tie as tie
-use Rattle.output.proofs.layer.put_layers.Reads as reads
-use Rattle.output.proofs.layer.put_layers.Lts as lts
-use Rattle.octets.proofs.number_at.Reads as number-at-reads
-use Rattle.output.proofs.file.index.Reads as index-reads
-use Rattle.output.proofs.layer.put_layer.Reads as put-layer-reads
-use Rattle.output.proofs.plain.put_byte.Reads as put-byte-reads
 
 abbrev Inv-loop : tie.InvT-loop
 Inv-loop out₀ at list text order to₀ seen₀ last₀ i₀ out to seen last i = Listing out₀ at list text order out to seen last i
@@ -20,67 +14,51 @@ Inv-loop out₀ at list text order to₀ seen₀ last₀ i₀ out to seen last i
 abbrev μ-loop : tie.MeasureT-loop
 μ-loop out₀ at list text order to₀ seen₀ last₀ i₀ out to seen last i = length order - i
 
--- src/layer.rt:54:5
 loop-holds : tie.Need-loop-holds Inv-loop μ-loop
 loop-holds c = listing-start (c .before .before .before .before .args .out .now) (c .before .before .before .before .args .at) (c .before .before .before .before .args .list .now) (c .before .before .before .before .args .text .now) (c .before .before .before .before .args .order .now)
 
--- src/layer.rt:55:27
 mul-index : tie.Need-mul-index Inv-loop μ-loop
 mul-index c = search needs
 
--- src/layer.rt:55:27
 shared-slice-read-index : tie.Need-shared-slice-read-index Inv-loop μ-loop
 shared-slice-read-index c = search needs
 
--- src/layer.rt:55:13
 index-requires : tie.Need-index-requires Inv-loop μ-loop
 index-requires c κs = search needs
 
--- src/layer.rt:56:9
 add-i : tie.Need-add-i Inv-loop μ-loop
 add-i c = search needs
 
--- src/layer.rt:57:36
 add-number-at : tie.Need-add-number-at Inv-loop μ-loop
 add-number-at c = let w = in-form (c .before .before .before .before .before .before .before .before .args .list .now) (c .before .before .before .before .before .before .before .before .args .text .now) (c .before .before .before .before .before .before .before .before .args .order .now) (c .before .before .before .loop .i) _ (c .before .before .before .before .before .before .before .before .pre .0) (c .before .before .loop-test .taken) (c .index .ensures) .0 in search needs
 
--- src/layer.rt:57:36
 add-number-at-2 : tie.Need-add-number-at-2 Inv-loop μ-loop
 add-number-at-2 c = let w = in-form (c .before .before .before .before .before .before .before .before .args .list .now) (c .before .before .before .before .before .before .before .before .args .text .now) (c .before .before .before .before .before .before .before .before .args .order .now) (c .before .before .before .loop .i) _ (c .before .before .before .before .before .before .before .before .pre .0) (c .before .before .loop-test .taken) (c .index .ensures) .0 in search needs
 
--- src/layer.rt:57:13
 number-at-requires : tie.Need-number-at-requires Inv-loop μ-loop
 number-at-requires c κs = let w = in-form (c .before .before .before .before .before .before .before .before .args .list .now) (c .before .before .before .before .before .before .before .before .args .text .now) (c .before .before .before .before .before .before .before .before .args .order .now) (c .before .before .before .loop .i) _ (c .before .before .before .before .before .before .before .before .pre .0) (c .before .before .loop-test .taken) (c .index .ensures) .0 in (omega arith, omega arith)
 
--- src/layer.rt:54:5
 loop-less : tie.Need-loop-less Inv-loop μ-loop
 loop-less c = search needs
 
--- src/layer.rt:54:5
 loop-again : tie.Need-loop-again Inv-loop μ-loop
 loop-again c = listing-skip (c .before .before .before .before .before .before .before .before .before .before .args .out .now) (c .before .before .before .before .before .before .before .before .before .before .args .at) (c .before .before .before .before .before .before .before .before .before .before .args .list .now) (c .before .before .before .before .before .before .before .before .before .before .args .text .now) (c .before .before .before .before .before .before .before .before .before .before .args .order .now) (c .before .before .before .before .before .loop .out) (c .before .before .before .before .before .loop .to) (c .before .before .before .before .before .loop .seen) (c .before .before .before .before .before .loop .last) (c .before .before .before .before .before .loop .i) (c .before .before .before .before .before .loop .inv) (c .before .before .before .before .loop-test .taken) (c .before .before .before .before .before .before .before .before .before .before .pre .0) _ (c .before .before .index .ensures) _ (c .before .number-at .ensures .0) (c .if1 .taken)
 
--- src/layer.rt:61:9
 put-layer-requires : tie.Need-put-layer-requires Inv-loop μ-loop
 put-layer-requires c κs = (in-form (c .before .before .before .before .before .before .before .before .before .before .before .args .list .now) (c .before .before .before .before .before .before .before .before .before .before .before .args .text .now) (c .before .before .before .before .before .before .before .before .before .before .before .args .order .now) (c .before .before .before .before .before .before .loop .i) _ (c .before .before .before .before .before .before .before .before .before .before .before .pre .0) (c .before .before .before .before .before .loop-test .taken) (c .before .before .before .index .ensures), last-inside (c .before .before .before .before .before .before .before .before .before .before .before .args .out .now) (c .before .before .before .before .before .before .before .before .before .before .before .args .at) (c .before .before .before .before .before .before .before .before .before .before .before .args .list .now) (c .before .before .before .before .before .before .before .before .before .before .before .args .text .now) (c .before .before .before .before .before .before .before .before .before .before .before .args .order .now) (c .before .before .before .before .before .before .loop .out) (c .before .before .before .before .before .before .loop .to) (c .before .before .before .before .before .before .loop .seen) (c .before .before .before .before .before .before .loop .last) (c .before .before .before .before .before .before .loop .i) (c .before .before .before .before .before .before .loop .inv) (c .before .before .before .before .before .loop-test .taken) (c .before .before .before .before .before .before .before .before .before .before .before .pre .0) _ (c .before .before .before .index .ensures) _ (c .before .before .number-at .ensures .0) (c .before .if1 .left), layer-room (c .before .before .before .before .before .before .before .before .before .before .before .args .out .now) (c .before .before .before .before .before .before .before .before .before .before .before .args .at) (c .before .before .before .before .before .before .before .before .before .before .before .args .list .now) (c .before .before .before .before .before .before .before .before .before .before .before .args .text .now) (c .before .before .before .before .before .before .before .before .before .before .before .args .order .now) (c .before .before .before .before .before .before .loop .out) (c .before .before .before .before .before .before .loop .to) (c .before .before .before .before .before .before .loop .seen) (c .before .before .before .before .before .before .loop .last) (c .before .before .before .before .before .before .loop .i) (c .before .before .before .before .before .before .loop .inv) (c .before .before .before .before .before .loop-test .taken) (c .before .before .before .before .before .before .before .before .before .before .before .pre .0) _ (c .before .before .before .index .ensures) _ (c .before .before .number-at .ensures .0) (c .before .if1 .left) _ (c .before .before .before .before .before .before .before .before .before .before .before .pre .1))
 
--- src/layer.rt:54:5
 loop-less-2 : tie.Need-loop-less-2 Inv-loop μ-loop
 loop-less-2 c = search needs
 
--- src/layer.rt:54:5
 loop-again-2 : tie.Need-loop-again-2 Inv-loop μ-loop
 loop-again-2 c = listing-more (c .before .before .before .before .before .before .before .before .before .before .before .before .before .before .args .out .now) (c .before .before .before .before .before .before .before .before .before .before .before .before .before .before .args .at) (c .before .before .before .before .before .before .before .before .before .before .before .before .before .before .args .list .now) (c .before .before .before .before .before .before .before .before .before .before .before .before .before .before .args .text .now) (c .before .before .before .before .before .before .before .before .before .before .before .before .before .before .args .order .now) (c .before .before .before .before .before .before .before .before .before .loop .out) (c .before .before .before .before .before .before .before .before .before .loop .to) (c .before .before .before .before .before .before .before .before .before .loop .seen) (c .before .before .before .before .before .before .before .before .before .loop .last) (c .before .before .before .before .before .before .before .before .before .loop .i) (c .before .before .before .before .before .before .before .before .before .loop .inv) (c .before .before .before .before .before .before .before .before .loop-test .taken) (c .before .before .before .before .before .before .before .before .before .before .before .before .before .before .pre .0) _ (c .before .before .before .before .before .before .index .ensures) _ (c .before .before .before .before .before .number-at .ensures .0) (c .before .before .before .before .if1 .left) _ _ (c .before .before .put-layer .ensures) (c .before .before .put-layer .kept .0)
 
--- src/layer.rt:65:5
 put-byte-requires : tie.Need-put-byte-requires Inv-loop μ-loop
 put-byte-requires c κs = end-room (c .before .before .before .before .before .before .before .args .out .now) (c .before .before .before .before .before .before .before .args .at) (c .before .before .before .before .before .before .before .args .list .now) (c .before .before .before .before .before .before .before .args .text .now) (c .before .before .before .before .before .before .before .args .order .now) (c .before .before .loop .out) (c .before .before .loop .to) (c .before .before .loop .seen) (c .before .before .loop .last) (c .before .before .loop .i) (c .before .before .loop .inv) (c .before .loop-test .left) _ (c .before .before .before .before .before .before .before .pre .1)
 
--- src/layer.rt:46:1
 same-length : tie.Need-same-length Inv-loop μ-loop
 same-length c = c .before .before .put-byte .kept .0 ∙ c .before .before .before .before .before .loop .inv .going .kept
 
--- src/layer.rt:46:1
 returns : tie.Need-returns Inv-loop μ-loop
 returns c = listing-end (c .before .before .before .before .before .before .before .before .before .before .args .out .now) (c .before .before .before .before .before .before .before .before .before .before .args .at) (c .before .before .before .before .before .before .before .before .before .before .args .list .now) (c .before .before .before .before .before .before .before .before .before .before .args .text .now) (c .before .before .before .before .before .before .before .before .before .before .args .order .now) (c .before .before .before .before .before .loop .out) (c .before .before .before .before .before .loop .to) (c .before .before .before .before .before .loop .seen) (c .before .before .before .before .before .loop .last) (c .before .before .before .before .before .loop .i) (c .before .before .before .before .before .loop .inv) (c .before .before .before .before .loop-test .left) _ _ (c .before .before .put-byte .ensures)
 

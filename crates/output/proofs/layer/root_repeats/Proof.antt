@@ -1,64 +1,45 @@
 use Rattle.output.specs.LayersLaws.{root-compared}
-use native.Mathlib.Omega.{arith}
-use Prim.Native.Nat.{ℕ, _+_, _-_, _*_, _≤_, _<_, _/_, _%_, _^_}
-use lib.ListN.{length, getD, set, take, drop}
-use mathlib.Core.Path.{_≡_, refl, ap, sym, _∙_}
+use Prim.Native.Nat.{_-_}
 use borrow.Author.Needs.{needs}
 use Rattle.output.proofs.layer.root_repeats.Statement.{statement}
 use Rattle.output.proofs.layer.root_repeats.Tie as tie
-use Rattle.output.proofs.layer.root_repeats.Reads as reads
-use Rattle.output.proofs.layer.root_repeats.Lts as lts
-use Rattle.bencode.proofs.order.same.Reads as same-reads
 
--- src/layer.rt:25:27
 add-same : tie.Need-add-same
 add-same c = search needs
 
--- src/layer.rt:25:37
 add-same-2 : tie.Need-add-same-2
 add-same-2 c = search needs
 
--- src/layer.rt:25:21
 sub-same : tie.Need-sub-same
 sub-same c = search needs
 
--- src/layer.rt:25:21
 part-same-start : tie.Need-part-same-start
 part-same-start c = search needs
 
--- src/layer.rt:25:21
 part-same-end : tie.Need-part-same-end
 part-same-end c = search needs
 
--- src/layer.rt:25:55
 add-same-3 : tie.Need-add-same-3
 add-same-3 c = search needs
 
--- src/layer.rt:25:66
 add-same-4 : tie.Need-add-same-4
 add-same-4 c = search needs
 
--- src/layer.rt:25:49
 sub-same-2 : tie.Need-sub-same-2
 sub-same-2 c = search needs
 
--- src/layer.rt:25:49
 part-same-start-2 : tie.Need-part-same-start-2
 part-same-start-2 c = search needs
 
--- src/layer.rt:25:49
 part-same-end-2 : tie.Need-part-same-end-2
 part-same-end-2 c = search needs
 
--- src/layer.rt:25:9
 same-requires : tie.Need-same-requires
 same-requires c κs = search needs
 
--- src/layer.rt:25:9
 returns : tie.Need-returns
 returns c = root-compared _ _ _ _ _ (c .before .before .before .if1 .taken) (c .same .ensures)
 
--- src/layer.rt:20:1
 returns-2 : tie.Need-returns-2
 returns-2 c = search needs
 

@@ -2,9 +2,9 @@ use mathlib.Core.List.{List}
 use Rattle.output.specs.PutLaws.{decimal-one, put-digit, digits-room, put-digits}
 use borrow.Author.Needs.{needs}
 use native.Mathlib.Omega.{arith}
-use lib.ListN.{length, getD, set, take, drop}
-use mathlib.Core.Path.{_≡_, refl, ap, sym, _∙_}
-use Prim.Native.Nat.{ℕ, _<_, _+_, _-_, _*_, _≤_, _/_, _%_, _^_}
+use lib.ListN.{length}
+use mathlib.Core.Path.{ap}
+use Prim.Native.Nat.{ℕ, _<_, _+_, _-_, _≤_}
 use borrow.Fn.Kinds.{In}
 use borrow.Fn.PlainCycle.{Measures, is, falls, and}
 use Rattle.output.proofs.plain.put_decimal.Reads as put-decimal
@@ -25,7 +25,6 @@ abbrev put-decimal-below : ℕ → In 1 put-decimal-kinds.ps
 put-decimal-below t =
     and 1 put-decimal-kinds.ps (falls 1 put-decimal-kinds.ps _<_ μ-put-decimal t) put-decimal.Pre
 
--- src/plain.rt:43:18
 put-decimal-add-digit : (t : ℕ) → put-decimal-lts.Need-add-digit (
   put-byte-reads.Asked,
   put-byte-reads.Learnt,
@@ -34,7 +33,6 @@ put-decimal-add-digit : (t : ℕ) → put-decimal-lts.Need-add-digit (
 ) (put-decimal-at t) put-decimal.Post
 put-decimal-add-digit t c = search needs
 
--- src/plain.rt:43:17
 put-decimal-cast-digit : (t : ℕ) → put-decimal-lts.Need-cast-digit (
   put-byte-reads.Asked,
   put-byte-reads.Learnt,
@@ -43,7 +41,6 @@ put-decimal-cast-digit : (t : ℕ) → put-decimal-lts.Need-cast-digit (
 ) (put-decimal-at t) put-decimal.Post
 put-decimal-cast-digit t c = search needs
 
--- src/plain.rt:45:9
 put-decimal-put-byte-requires : (t : ℕ) → put-decimal-lts.Need-put-byte-requires (
   put-byte-reads.Asked,
   put-byte-reads.Learnt,
@@ -52,7 +49,6 @@ put-decimal-put-byte-requires : (t : ℕ) → put-decimal-lts.Need-put-byte-requ
 ) (put-decimal-at t) put-decimal.Post
 put-decimal-put-byte-requires t c κs = let e = ap (λ (l : List ℕ). length l) (decimal-one (c .before .before .before .args .n) (c .before .if1 .taken)) in omega (arith, c .before .before .before .pre .1)
 
--- src/plain.rt:45:9
 put-decimal-same-length : (t : ℕ) → put-decimal-lts.Need-same-length (
   put-byte-reads.Asked,
   put-byte-reads.Learnt,
@@ -61,7 +57,6 @@ put-decimal-same-length : (t : ℕ) → put-decimal-lts.Need-same-length (
 ) (put-decimal-at t) put-decimal.Post
 put-decimal-same-length t c = search needs
 
--- src/plain.rt:45:9
 put-decimal-returns : (t : ℕ) → put-decimal-lts.Need-returns (
   put-byte-reads.Asked,
   put-byte-reads.Learnt,
@@ -70,7 +65,6 @@ put-decimal-returns : (t : ℕ) → put-decimal-lts.Need-returns (
 ) (put-decimal-at t) put-decimal.Post
 put-decimal-returns t c = put-digit _ _ _ _ _ (c .before .before .before .before .if1 .taken) (c .before .before .put-byte .ensures)
 
--- src/plain.rt:47:9
 put-decimal-put-decimal-requires : (t : ℕ) → put-decimal-lts.Need-put-decimal-requires (
   put-byte-reads.Asked,
   put-byte-reads.Learnt,
@@ -79,7 +73,6 @@ put-decimal-put-decimal-requires : (t : ℕ) → put-decimal-lts.Need-put-decima
 ) (put-decimal-at t) put-decimal.Post
 put-decimal-put-decimal-requires t c κs = let h : 10 ≤ c .before .before .before .args .n = c .before .if1 .left in let e = c .before .before .before .pre .0 in (omega arith, digits-room (c .before .before .before .args .at) (c .before .before .before .args .n) _ h (c .before .before .before .pre .1) .0)
 
--- src/plain.rt:48:5
 put-decimal-put-byte-requires-2 : (t : ℕ) → put-decimal-lts.Need-put-byte-requires-2 (
   put-byte-reads.Asked,
   put-byte-reads.Learnt,
@@ -88,7 +81,6 @@ put-decimal-put-byte-requires-2 : (t : ℕ) → put-decimal-lts.Need-put-byte-re
 ) (put-decimal-at t) put-decimal.Post
 put-decimal-put-byte-requires-2 t c κs = let e = c .before .before .before .put-decimal .ensures .behind in let g = digits-room (c .before .before .before .before .before .before .before .args .at) (c .before .before .before .before .before .before .before .args .n) _ (c .before .before .before .before .before .if1 .left) (c .before .before .before .before .before .before .before .pre .1) .1 in omega arith
 
--- src/plain.rt:39:1
 put-decimal-same-length-2 : (t : ℕ) → put-decimal-lts.Need-same-length-2 (
   put-byte-reads.Asked,
   put-byte-reads.Learnt,
@@ -97,7 +89,6 @@ put-decimal-same-length-2 : (t : ℕ) → put-decimal-lts.Need-same-length-2 (
 ) (put-decimal-at t) put-decimal.Post
 put-decimal-same-length-2 t c = search needs
 
--- src/plain.rt:39:1
 put-decimal-returns-2 : (t : ℕ) → put-decimal-lts.Need-returns-2 (
   put-byte-reads.Asked,
   put-byte-reads.Learnt,

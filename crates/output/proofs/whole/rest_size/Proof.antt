@@ -1,24 +1,16 @@
 use Rattle.output.specs.BoundLaws.{rest-most}
 use native.Mathlib.Omega.{arith}
-use Prim.Native.Nat.{ℕ, _+_, _-_, _*_, _≤_, _<_, _/_, _%_, _^_}
-use lib.ListN.{length, getD, set, take, drop}
-use mathlib.Core.Path.{_≡_, refl, ap, sym, _∙_}
+use Prim.Native.Nat.{_-_}
 use borrow.Author.Needs.{needs}
 use Rattle.output.proofs.whole.rest_size.Statement.{statement}
 use Rattle.output.proofs.whole.rest_size.Tie as tie
-use Rattle.output.proofs.whole.rest_size.Reads as reads
-use Rattle.output.proofs.whole.rest_size.Lts as lts
-use Rattle.output.proofs.whole.put_rest.Reads as put-rest-reads
 
--- src/whole.rt:59:14
 slice-aggregate-put-rest : tie.Need-slice-aggregate-put-rest
 slice-aggregate-put-rest c = search needs
 
--- src/whole.rt:59:5
 put-rest-requires : tie.Need-put-rest-requires
 put-rest-requires c κs = (c .before .before .before .before .pre .0, let m = rest-most (c .before .before .before .before .args .list .now) (c .before .before .before .before .args .text .now) (λ i. omega (arith, c .before .before .before .shared-slice-known .given i)) (c .before .before .before .before .args .order .now) (c .before .before .before .before .pre .1) in omega arith)
 
--- src/whole.rt:54:1
 returns : tie.Need-returns
 returns c = search needs
 
