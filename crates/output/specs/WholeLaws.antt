@@ -17,11 +17,11 @@ use Rattle.bencode.specs.Grammar as G
 use Rattle.bencode.specs.CompleteLaws.{BeginsWithDigit, decimal-first}
 use Rattle.meaning.specs.Keys.{keyInfo, keyFileTree, keyPieceLength, keyMetaVersion, keyPieceLayers}
 use Rattle.publishing.specs.Sorting.{sortedBy, Permuted, none, keep, swap, then}
-use Rattle.publishing.specs.SortingLaws.{Ordered, OrderedFrom, sorted-ordered, sorted-permuted, sorted-stays}
+use Rattle.publishing.specs.SortingLaws.{Ordered, OrderedFrom, sorted-ordered, sorted-permuted, sorted-stays, permuted-back}
 use Rattle.publishing.specs.Content.{Item, Layer, layerBefore, itemBefore, inTreeOrder, properties, treeOfAll, withLayer, layersGiven, layersOfAll, keyName, infoWritten, torrentOf}
-use Rattle.publishing.specs.Number.{tooLarge}
+use Rattle.publishing.specs.Number.{meet, tooLarge}
 use Rattle.publishing.specs.OrderLaws.{layer-one-way, layer-behind}
-use Rattle.publishing.specs.AnyOrder.{layersWritten, layers-any-order}
+use Rattle.publishing.specs.AnyOrder.{layersWritten, layers-any-order, size-any-order, torrent-any-order}
 use Rattle.publishing.specs.Written.{shared, opened, closed, fileBytes, treeBytes}
 use Rattle.publishing.specs.WrittenLaws.{tree-encoded}
 use Rattle.publishing.specs.SizeLaws.{rising, in-order}
@@ -231,14 +231,37 @@ pub put-both : (xs : List Item) (s t u : List ℕ) (at m r : ℕ) → Put s at (
 unfolding restBytes
 put-both xs s t u at m r p q k = put-append s t u at m r (layersBytes G.none (layersGiven xs)) (letterE ∷ []) p q k
 
--- ---- both parts written, the second first: the torrent stands at the start of the output, and nothing else changed
-pub whole-written : (plen : ℕ) (name : List ℕ) (xs : List Item) (out t u : List ℕ) (at r q : ℕ) → at ≡ length (infoBytes plen name (inTreeOrder xs)) → Put out at (restBytes (sortedBy byRoot xs)) t r
-    → Put t 0 (infoBytes plen name (inTreeOrder xs)) u q → length t ≡ length out → length (encode (dictionary (torrentOf plen name xs))) ≤ length out → u ≡ pasted out 0 (encode (dictionary (torrentOf plen name xs)))
-whole-written plen name xs out t u at r q e a b k h =
-    let l = torrent-length plen name xs in
-    let x = a .behind in
-    let y = b .behind in
-    b .there (omega arith)
-    ∙ ap (λ (s : List ℕ). pasted s 0 (infoBytes plen name (inTreeOrder xs))) (a .there (omega arith) ∙ ap (λ (n : ℕ). pasted out n (restBytes (sortedBy byRoot xs))) e)
-    ∙ both-pasted out (infoBytes plen name (inTreeOrder xs)) (restBytes (sortedBy byRoot xs)) (omega arith)
-    ∙ ap (pasted out 0) (sym (torrent-parts plen name xs))
+-- both parts written, the second first: the whole stands at the start of the output, and nothing else changed
+pub parts-written : (whole a b out t u : List ℕ) (at r q : ℕ) → whole ≡ a ++ b → at ≡ length a → Put out at b t r → Put t 0 a u q → length t ≡ length out → length whole ≤ length out → u ≡ pasted out 0 whole
+parts-written whole a b out t u at r q w e x y k h =
+    let l = ap (λ (s : List ℕ). length s) w ∙ length-append a b in
+    let m = x .behind in
+    let n = y .behind in
+    y .there (omega arith)
+    ∙ ap (λ (s : List ℕ). pasted s 0 a) (x .there (omega arith) ∙ ap (λ (n : ℕ). pasted out n b) e)
+    ∙ both-pasted out a b (omega arith)
+    ∙ ap (pasted out 0) (sym w)
+
+-- ---- of files that stand in the two orders: trees are zs, by root are ys
+
+module _ (plen : ℕ) (name : List ℕ) (xs zs ys : List Item) (p : Permuted xs zs) (o : inTreeOrder zs ≡ zs) (q : Permuted xs ys) (r : sortedBy byRoot ys ≡ ys) where
+  rest-there : restBytes (sortedBy byRoot zs) ≡ restBytes ys
+  unfolding restBytes
+  rest-there = ap (λ (l : List ℕ). l ++ letterE ∷ []) (layers-encoded (layersGiven (sortedBy byRoot zs)) ∙ ap encodeEntries same-layers ∙ sym (layers-encoded (layersGiven ys)))
+    where
+      same-layers : layersOfAll (layersGiven (sortedBy byRoot zs)) ≡ layersOfAll (layersGiven ys)
+      same-layers =
+          sym (layers-by-root zs) ∙ layers-any-order zs ys (then (permuted-back xs zs p) q) ∙ layers-by-root ys
+          ∙ ap (λ (l : List Item). layersOfAll (layersGiven l)) r
+
+  parts-there : encode (dictionary (torrentOf plen name zs)) ≡ infoBytes plen name zs ++ restBytes ys
+  parts-there = torrent-parts plen name zs ∙ ap₂ (λ (a b : List ℕ). a ++ b) (ap (infoBytes plen name) o) rest-there
+
+  -- the size, also of a list that is refused
+  pub size-there : length (encode (dictionary (torrentOf plen name xs))) ≡ length (infoBytes plen name zs) + length (restBytes ys)
+  size-there =
+      size-any-order plen name xs zs p ∙ ap (λ (l : List ℕ). length l) parts-there ∙ length-append (infoBytes plen name zs) (restBytes ys)
+
+  -- the bytes, where no two files meet
+  pub torrent-there : meet xs ≡ false → encode (dictionary (torrentOf plen name xs)) ≡ infoBytes plen name zs ++ restBytes ys
+  torrent-there m = ap (λ (t : Entries). encode (dictionary t)) (torrent-any-order plen name xs zs p m) ∙ parts-there
