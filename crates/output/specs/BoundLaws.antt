@@ -201,12 +201,12 @@ module _ (list text : List ℕ) (b : (i : ℕ) → getD list i 0 < 256) where
 
   -- ---- the two parts
 
-  pub info-most : (plen : ℕ) (name ps : List ℕ) → Placed list text ps → length ps ≤ mostFiles → plen < 2 ^ 64 → length name < 2 ^ 63 → length (infoBytes plen name (map (itemAt list text) ps)) < 2 ^ 64
+  pub info-most : (plen : ℕ) (name ps : List ℕ) → Placed list text ps → length ps ≤ mostFiles → plen < 2 ^ 64 → length name < 2 ^ 63 → length (infoBytes plen name (map (itemAt list text) ps)) < 2 ^ 63 + 2 ^ 62
   info-most plen name ps f h k l =
       let t = tree-most ps f [] in
       let d = decimal-most plen k in
       let n = decimal-most (length name) (omega arith) in
       omega (arith, info-length plen name (map (itemAt list text) ps), string-length name)
 
-  pub rest-most : (ps : List ℕ) → length ps ≤ mostFiles → length (restBytes (map (itemAt list text) ps)) < 2 ^ 64
+  pub rest-most : (ps : List ℕ) → length ps ≤ mostFiles → length (restBytes (map (itemAt list text) ps)) < 2 ^ 62
   rest-most ps h = let m = layers-most ps none in omega (arith, rest-length (map (itemAt list text) ps))

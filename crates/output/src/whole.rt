@@ -64,8 +64,9 @@ pub fn put_rest(out: &mut [u8], at: usize, list: &[u8], text: &[u8], order: &[u3
 // The bytes of the first part.
 pub fn info_size(list: &[u8], text: &[u8], order: &[u32], plen: usize, name: &[u8]) -> usize
     requires { ⌜ Placed (now list) (now text) (now order) × (length (now order) ≤ mostFiles) ⌝ }
-    ensures { λ r. ⌜ r ≡ length
-        (infoBytes plen (now (name .entry)) (map (itemAt (now (list .entry)) (now (text .entry))) (now (order .entry)))) ⌝ }
+    ensures { λ r. ⌜ (r ≡ length
+        (infoBytes plen (now (name .entry)) (map (itemAt (now (list .entry)) (now (text .entry))) (now (order .entry)))))
+        × (r < 2 ^ 63 + 2 ^ 62) ⌝ }
 {
     let mut nowhere = [0u8; 1];
     put_info(&mut nowhere, 0, list, text, order, plen, name)
@@ -74,7 +75,8 @@ pub fn info_size(list: &[u8], text: &[u8], order: &[u32], plen: usize, name: &[u
 // The bytes of the second part.
 pub fn rest_size(list: &[u8], text: &[u8], order: &[u32]) -> usize
     requires { ⌜ Placed (now list) (now text) (now order) × (length (now order) ≤ mostFiles) ⌝ }
-    ensures { λ r. ⌜ r ≡ length (restBytes (map (itemAt (now (list .entry)) (now (text .entry))) (now (order .entry)))) ⌝ }
+    ensures { λ r. ⌜ (r ≡ length (restBytes (map (itemAt (now (list .entry)) (now (text .entry))) (now (order .entry)))))
+        × (r < 2 ^ 62) ⌝ }
 {
     let mut nowhere = [0u8; 1];
     put_rest(&mut nowhere, 0, list, text, order)
