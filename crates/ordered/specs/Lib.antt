@@ -1,2 +1,4 @@
 pub mod Merged
 pub mod MergedLaws
+pub mod Order
+pub mod OrderLaws
