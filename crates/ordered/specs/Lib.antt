@@ -2,3 +2,4 @@ pub mod Merged
 pub mod MergedLaws
 pub mod Order
 pub mod OrderLaws
+pub mod CompareLaws
