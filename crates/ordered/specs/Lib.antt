@@ -3,3 +3,5 @@ pub mod MergedLaws
 pub mod Order
 pub mod OrderLaws
 pub mod CompareLaws
+pub mod Neighbours
+pub mod MeetLaws
