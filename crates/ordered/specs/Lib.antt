@@ -5,3 +5,5 @@ pub mod OrderLaws
 pub mod CompareLaws
 pub mod Neighbours
 pub mod MeetLaws
+pub mod RunsLaws
+pub mod ClashLaws
