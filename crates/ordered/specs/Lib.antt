@@ -7,3 +7,5 @@ pub mod Neighbours
 pub mod MeetLaws
 pub mod RunsLaws
 pub mod ClashLaws
+pub mod StepsLaws
+pub mod LayerLaws

@@ -49,3 +49,7 @@ firstWrong layers plen x = layers && givesOther plen x
 -- different layers, or a first one's layer does not give its root
 unfoldable pub clash : Bool → ℕ → List Item → Bool
 clash layers plen xs = runs (firstWrong layers plen) (λ (x y : Item). not (agree layers x y)) (fullOnes xs)
+
+-- what is wrong at a file that follows another, if one was seen
+abbrev pub wrongNext : Bool → ℕ → Bool → Item → Item → Bool
+wrongNext layers plen seen x y = cond (seen && same (x .root) (y .root)) (not (agree layers x y)) (firstWrong layers plen y)

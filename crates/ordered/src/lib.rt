@@ -1,3 +1,5 @@
 // A list's files in two orders, by path and by root, and the number of its content.
+pub mod clash;
 mod compare;
+pub mod meet;
 pub mod sort;
