@@ -1,3 +1,8 @@
+use Rattle.lists.specs.Lists.{itemAt}
+use mathlib.Core.List.{map}
+use Rattle.ordered.specs.Neighbours.{neighbours, leads}
+use Rattle.ordered.specs.OrderLaws.{placed-index}
+use Rattle.ordered.specs.StepsLaws.{neighbours-end, neighbours-stop, neighbours-on}
 use borrow.Author.Needs.{needs}
 use native.Mathlib.Omega.{arith}
 use Prim.Native.Nat.{ℕ, _+_, _-_, _*_, _≤_, _<_, _/_, _%_, _^_}
@@ -11,14 +16,14 @@ use Rattle.lists.proofs.paths.leads.Reads as leads-reads
 use Rattle.ordered.proofs.compare.index.Reads as index-reads
 
 abbrev Inv-loop : tie.InvT-loop
-Inv-loop list text at i₀ i = ?
+Inv-loop list text at i₀ i = (i ≤ length at) × (neighbours leads (map (itemAt list text) at) ≡ neighbours leads (map (itemAt list text) (drop i at)))
 
 abbrev μ-loop : tie.MeasureT-loop
-μ-loop list text at i₀ i = ?
+μ-loop list text at i₀ i = length at - i
 
 -- src/meet.rt:15:5
 loop-holds : tie.Need-loop-holds Inv-loop μ-loop
-loop-holds c = search needs
+loop-holds c = (omega arith, refl)
 
 -- src/meet.rt:15:11
 add-loop : tie.Need-add-loop Inv-loop μ-loop
@@ -54,11 +59,11 @@ index-requires-2 c κs = search needs
 
 -- src/meet.rt:18:12
 leads-requires : tie.Need-leads-requires Inv-loop μ-loop
-leads-requires c κs = search needs
+leads-requires c κs = let k = c .before .before .before .before .before .before .before .before .before in let x = placed-index (k .args .list .now) (k .args .text .now) (k .args .at .now) _ _ (k .pre) (omega (arith, c .before .before .before .before .loop-test .taken)) (c .before .before .index .ensures) in let y = placed-index (k .args .list .now) (k .args .text .now) (k .args .at .now) _ _ (k .pre) (c .before .before .before .before .loop-test .taken) (c .index2 .ensures) in (x .0, y .0, x .1, y .1)
 
 -- src/meet.rt:19:13
 returns : tie.Need-returns Inv-loop μ-loop
-returns c = search needs
+returns c = let k = c .before .before .before .before .before .before .before .before .before .before .before .args in sym (neighbours-stop leads (itemAt (k .list .now) (k .text .now)) (k .at .now) (c .before .before .before .before .before .before .before .loop .i) (c .before .before .before .before .before .before .loop-test .taken) _ _ (c .before .before .before .before .index .ensures) (c .before .before .index2 .ensures) (c .before .before .before .before .before .before .before .loop .inv .1) (sym (c .before .leads .ensures) ∙ c .if1 .taken))
 
 -- src/meet.rt:21:9
 add-i : tie.Need-add-i Inv-loop μ-loop
@@ -70,11 +75,11 @@ loop-less c = search needs
 
 -- src/meet.rt:15:5
 loop-again : tie.Need-loop-again Inv-loop μ-loop
-loop-again c = search needs
+loop-again c = let k = c .before .before .before .before .before .before .before .before .before .before .before .args in (omega (arith, c .before .before .before .before .before .before .loop-test .taken), neighbours-on leads (itemAt (k .list .now) (k .text .now)) (k .at .now) (c .before .before .before .before .before .before .before .loop .i) (c .before .before .before .before .before .before .loop-test .taken) _ _ (c .before .before .before .before .index .ensures) (c .before .before .index2 .ensures) (c .before .before .before .before .before .before .before .loop .inv .1) (sym (c .before .leads .ensures) ∙ c .if1 .left))
 
 -- src/meet.rt:10:1
 returns-2 : tie.Need-returns-2 Inv-loop μ-loop
-returns-2 c = search needs
+returns-2 c = let k = c .before .before .before .before .before .args in sym (c .before .loop .inv .1 ∙ neighbours-end leads (itemAt (k .list .now) (k .text .now)) (k .at .now) (c .before .loop .i) (c .loop-test .left))
 
 pub meets-spec : {M : Type 1} → statement M
 meets-spec =
