@@ -9,3 +9,5 @@ pub mod RunsLaws
 pub mod ClashLaws
 pub mod StepsLaws
 pub mod LayerLaws
+pub mod Items
+pub mod ItemLaws
