@@ -37,15 +37,15 @@ misfits-requires c κs = search needs
 
 -- src/items.rt:116:1
 returns : tie.Need-returns
-returns c = ?
+returns c = rw (c .before .enum-told .given .1) (c .too-deep .ensures)
 
 -- src/items.rt:116:1
 returns-2 : tie.Need-returns-2
-returns-2 c = ?
+returns-2 c = rw (c .before .enum-told2 .given .1) (c .wrong-item .ensures)
 
 -- src/items.rt:116:1
 returns-3 : tie.Need-returns-3
-returns-3 c = ?
+returns-3 c = rw (c .before .enum-told3 .given .1) (c .misfits .ensures)
 
 pub failing-spec : {M : Type 1} → statement M
 failing-spec =

@@ -1,3 +1,6 @@
+use Rattle.ordered.specs.ItemLaws.{deep-is}
+use Rattle.ordered.specs.CompareLaws.{form-parts}
+use Rattle.lists.specs.ListsLaws.{slice-end, slice-fits}
 use native.Mathlib.Omega.{arith}
 use Prim.Native.Nat.{ℕ, _+_, _-_, _*_, _≤_, _<_, _/_, _%_, _^_}
 use lib.ListN.{length, getD, set, take, drop}
@@ -44,11 +47,11 @@ part-depth-start c = search needs
 
 -- src/items.rt:59:26
 part-depth-end : tie.Need-part-depth-end
-part-depth-end c = ?
+part-depth-end c = let k = c .before .before .before .before in slice-end (k .args .list .now) (k .args .text .now) (k .args .p + 48) _ _ (form-parts (k .args .list .now) (k .args .text .now) (k .args .p) (k .pre .1) .path-fits) (c .before .number-at .ensures .0) (c .number-at2 .ensures .0)
 
 -- src/items.rt:59:9
 depth-requires : tie.Need-depth-requires
-depth-requires c κs = ?
+depth-requires c κs = let k = c .before .before .before .before .before in slice-fits (k .args .list .now) (k .args .text .now) (k .args .p) _ _ (k .pre .1) (c .before .before .number-at .ensures .0) (c .before .number-at2 .ensures .0)
 
 -- src/items.rt:60:22
 add-result : tie.Need-add-result
@@ -56,7 +59,7 @@ add-result c = search needs
 
 -- src/items.rt:53:1
 returns : tie.Need-returns
-returns c = ?
+returns c = let k = c .before .before .before .before .before .before .args in deep-is (k .list .now) (k .text .now) (k .p) _ _ (c .before .before .before .number-at .ensures .0) (c .before .before .number-at2 .ensures .0) _ (c .depth .ensures .0)
 
 pub too-deep-spec : {M : Type 1} → statement M
 too-deep-spec =

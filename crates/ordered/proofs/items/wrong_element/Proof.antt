@@ -3,7 +3,7 @@ use Rattle.ordered.specs.ItemLaws.{Passed, passed-start, passed-end, pas
 use Rattle.lists.specs.PathsLaws.{element-size, element-end}
 use Rattle.publishing.specs.Number.{some}
 use Rattle.meaning.specs.Torrent.{elementRight}
-use mathlib.Core.Bool.{not}
+use mathlib.Core.Bool.{not, false}
 use mathlib.Core.List.{List, [], _∷_, _++_}
 use borrow.Author.Needs.{needs}
 use native.Mathlib.Omega.{arith}
