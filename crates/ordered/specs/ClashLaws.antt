@@ -19,11 +19,9 @@ use Rattle.publishing.specs.Content.{Item, Layer, layerBefore, withLayer, layer
 use Rattle.publishing.specs.Number.{some, oneRoot, twoLengths, givesOther, twoLayers}
 use Rattle.publishing.specs.Refused.{OneRoot}
 use Rattle.publishing.specs.RefusedLaws.{pair-of}
-use Rattle.publishing.specs.Sorting.{sortedBy}
-use Rattle.publishing.specs.SomeLaws.{or-left, or-right, or-one, both-ways, some-there, some-one, some-permuted, pair-permuted}
-use Rattle.publishing.specs.SortingLaws.{Ordered, OrderedFrom, sorted-ordered, sorted-permuted, sorted-same, sorted-stays}
-use Rattle.publishing.specs.OrderLaws.{layer-either, layer-one-way, layer-behind}
-use Rattle.publishing.specs.AnyOrder.{given-permuted}
+use Rattle.publishing.specs.SomeLaws.{or-left, or-right, or-one, both-ways, some-there, some-one}
+use Rattle.publishing.specs.SortingLaws.{Ordered, OrderedFrom}
+use Rattle.publishing.specs.OrderLaws.{layer-one-way, layer-behind}
 use Rattle.ordered.specs.Order.{rootBefore}
 use Rattle.ordered.specs.Neighbours.{runs, fullOnes, agree, firstWrong, clash}
 use Rattle.ordered.specs.RunsLaws.{lowerRoot, Settled, Found, one, two, runs-found, runs-settled}
@@ -214,28 +212,13 @@ module _ (plen : ℕ) (xs : List Item) (o : Ordered rootBefore xs) (l : twoLengt
           by-case true q = refl
           by-case false q = elim (or-one (some (givesOther plen) xs) (twoLayers xs) e) [ inl a ↦ absurd (wrong-layer (settled q) a) | inr b ↦ absurd (wrong-pair (settled q) b) ]
 
--- ---- of a list in any order
+-- ---- by root and layer is an order
 
-root-one-way : (x y : Item) → rootBefore x y ≡ true → rootBefore y x ≡ false
+pub root-one-way : (x y : Item) → rootBefore x y ≡ true → rootBefore y x ≡ false
 root-one-way x y = layer-one-way (x .root, x .layer) (y .root, y .layer)
 
-root-behind : (x y z : Item) → rootBefore y x ≡ false → rootBefore z y ≡ false → rootBefore z x ≡ false
+pub root-behind : (x y z : Item) → rootBefore y x ≡ false → rootBefore z y ≡ false → rootBefore z x ≡ false
 root-behind x y z = layer-behind (x .root, x .layer) (y .root, y .layer) (z .root, z .layer)
-
-by-roots : (xs : List Item) → Ordered rootBefore (sortedBy rootBefore xs)
-by-roots xs = sorted-ordered rootBefore root-one-way root-behind xs
-
-lengths-any-order : (xs : List Item) → twoLengths xs ≡ twoLengths (sortedBy rootBefore xs)
-lengths-any-order xs = pair-permuted (λ (x y : Item). oneRoot x y && not (eqb (x .size) (y .size))) xs (sortedBy rootBefore xs) (sorted-permuted rootBefore xs)
-
-pub lengths-sorted : (plen : ℕ) (xs : List Item) → clash false plen (sortedBy rootBefore xs) ≡ twoLengths xs
-lengths-sorted plen xs = lengths-clash plen (sortedBy rootBefore xs) (by-roots xs) ∙ sym (lengths-any-order xs)
-
-pub layers-sorted : (plen : ℕ) (xs : List Item) → twoLengths xs ≡ false → clash true plen (sortedBy rootBefore xs) ≡ some (givesOther plen) xs || twoLayers xs
-layers-sorted plen xs l =
-    layers-clash plen (sortedBy rootBefore xs) (by-roots xs) (sym (lengths-any-order xs) ∙ l)
-    ∙ sym (ap₂ (λ (a b : Bool). a || b) (some-permuted (givesOther plen) xs (sortedBy rootBefore xs) (sorted-permuted rootBefore xs))
-    (pair-permuted (λ (x y : Item). oneRoot x y && not (same (x .layer) (y .layer))) xs (sortedBy rootBefore xs) (sorted-permuted rootBefore xs)))
 
 -- ---- the layers stand in their order
 
@@ -249,7 +232,7 @@ given-from x b bs (y ∷ ys) e o = by-layer (y .layer) refl (given-from x b bs y
     by-layer [] f past more = past
     by-layer (c ∷ cs) f past more = (sym (ap₂ (λ (u v : List ℕ). layerBefore (y .root, u) (x .root, v)) f e) ∙ o .0, more c cs f)
 
-given-ordered : (xs : List Item) → Ordered rootBefore xs → Ordered layerBefore (layersGiven xs)
+pub given-ordered : (xs : List Item) → Ordered rootBefore xs → Ordered layerBefore (layersGiven xs)
 unfolding layersGiven Ordered
 given-ordered [] o = tt
 given-ordered (x ∷ xs) o = by-layer (x .layer) refl (given-ordered xs (skip-first rootBefore root-behind x xs o))
@@ -257,9 +240,3 @@ given-ordered (x ∷ xs) o = by-layer (x .layer) refl (given-ordered xs (skip-fi
     by-layer : (m : List ℕ) → x .layer ≡ m → Ordered layerBefore (layersGiven xs) → Ordered layerBefore (withLayer x m (layersGiven xs))
     by-layer [] f past = past
     by-layer (b ∷ bs) f past = given-from x b bs xs f o
-
--- the layers of files that stand by root and layer are the layers in order
-pub layers-in-order : (xs : List Item) → layersGiven (sortedBy rootBefore xs) ≡ sortedBy layerBefore (layersGiven xs)
-layers-in-order xs =
-    sym (sorted-stays layerBefore (layersGiven (sortedBy rootBefore xs)) (given-ordered (sortedBy rootBefore xs) (by-roots xs)))
-    ∙ sym (sorted-same layerBefore layer-one-way layer-behind (layersGiven xs) (layersGiven (sortedBy rootBefore xs)) (given-permuted xs (sortedBy rootBefore xs) (sorted-permuted rootBefore xs)) (λ a b m n. layer-either a b))

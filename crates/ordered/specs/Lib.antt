@@ -11,3 +11,5 @@ pub mod StepsLaws
 pub mod LayerLaws
 pub mod Items
 pub mod ItemLaws
+pub mod InOrderLaws
+pub mod NumberLaws

@@ -4,4 +4,5 @@ mod compare;
 mod element;
 pub mod items;
 pub mod meet;
+pub mod number;
 pub mod sort;
