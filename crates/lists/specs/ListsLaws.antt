@@ -175,3 +175,8 @@ slice-fits list text at a b h e f = ap (λ (l : List ℕ). elementsFit (length l
 pub slice-path : (list text : List ℕ) (at a b : ℕ) → a ≡ numberAt list (at + 48) 4 → b ≡ numberAt list (at + 48 + 4) 4
     → elementsIn (length (take (a + b - a) (drop a text))) (take (a + b - a) (drop a text)) ≡ itemAt list text at .path
 slice-path list text at a b e f = ap (λ (l : List ℕ). elementsIn (length l) l) (path-slice list text at a b e f) ∙ (unfold itemAt in refl)
+
+-- two records that name one part of the text for their paths have one path
+pub one-path : (list text : List ℕ) (at bt a b c d : ℕ) → a ≡ numberAt list (at + 48) 4 → b ≡ numberAt list (at + 48 + 4) 4 → c ≡ numberAt list (bt + 48) 4 → d ≡ numberAt list (bt + 48 + 4) 4
+    → a ≡ c → b ≡ d → itemAt list text at .path ≡ itemAt list text bt .path
+one-path list text at bt a b c d e f g h p q = sym (slice-path list text at a b e f) ∙ slice-path list text bt a b (p ∙ g) (q ∙ h)

@@ -26,7 +26,7 @@ use Rattle.publishing.specs.SizeLaws.{tree-size-any-order}
 
 -- ---- the layers
 
-given-permuted : (xs ys : List Item) → Permuted xs ys → Permuted (layersGiven xs) (layersGiven ys)
+pub given-permuted : (xs ys : List Item) → Permuted xs ys → Permuted (layersGiven xs) (layersGiven ys)
 unfolding layersGiven
 given-permuted xs ys none = none
 given-permuted xs ys (keep x {xs = us} {ys = vs} p) = by-layer (x .layer) (given-permuted us vs p)

@@ -171,7 +171,7 @@ wrong-files xs = (from, to)
 -- ---- 26, and one root with two layers
 
 -- a pair of files with one root that a test does not take for the same
-pair-of : (told : Item → Item → Bool) (xs : List Item) → (some (λ (x : Item). some (λ (y : Item). oneRoot x y && not (told x y)) xs) xs ≡ true) ↔ ((x : Item) × (y : Item) × OneRoot xs x y × (told x y ≡ false))
+pub pair-of : (told : Item → Item → Bool) (xs : List Item) → (some (λ (x : Item). some (λ (y : Item). oneRoot x y && not (told x y)) xs) xs ≡ true) ↔ ((x : Item) × (y : Item) × OneRoot xs x y × (told x y ≡ false))
 pair-of told xs = (from, to)
   where
     from : some (λ (x : Item). some (λ (y : Item). oneRoot x y && not (told x y)) xs) xs ≡ true → (x : Item) × (y : Item) × OneRoot xs x y × (told x y ≡ false)

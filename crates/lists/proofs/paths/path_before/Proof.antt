@@ -1,5 +1,7 @@
 use borrow.Author.Tests.{not-true, not-false}
-use Rattle.lists.specs.PathsLaws.{Both, both-start, both-first-end, both-second-end, element-size, element-end, slices-differ, slices-same}
+use Rattle.lists.specs.PathsLaws.{Walk, walk-start, walk-second-end, before-step, before-none, before-first-end, element-size, element-end, slices-differ, slices-same}
+use Rattle.bencode.specs.Grammar.{precedes}
+use Rattle.publishing.specs.Content.{pathBefore}
 use borrow.Author.Needs.{needs}
 use native.Mathlib.Omega.{arith}
 use Prim.Native.Nat.{_-_}
@@ -9,16 +11,16 @@ use Rattle.lists.proofs.paths.path_before.Statement.{statement}
 use Rattle.lists.proofs.paths.path_before.Tie as tie
 
 abbrev Inv-loop : tie.InvT-loop
-Inv-loop p q at₀ at = Both p q at
+Inv-loop p q at₀ at = Walk pathBefore p q at
 
 abbrev μ-loop : tie.MeasureT-loop
 μ-loop p q at₀ at = length p - at
 
 loop-holds : tie.Need-loop-holds Inv-loop μ-loop
-loop-holds c = both-start (c .before .before .args .p .now) (c .before .before .args .q .now) (c .before .before .pre .0) (c .before .before .pre .1)
+loop-holds c = walk-start pathBefore (c .before .before .args .p .now) (c .before .before .args .q .now) (c .before .before .pre .0) (c .before .before .pre .1)
 
 returns : tie.Need-returns Inv-loop μ-loop
-returns c = sym (both-second-end (c .before .before .before .before .before .args .p .now) (c .before .before .before .before .before .args .q .now) (c .before .before .loop .at) (c .before .before .loop .inv) (c .before .loop-test .taken) (c .if1 .taken))
+returns c = sym (walk-second-end pathBefore before-none (c .before .before .before .before .before .args .p .now) (c .before .before .before .before .before .args .q .now) (c .before .before .loop .at) (c .before .before .loop .inv) (c .before .loop-test .taken) (c .if1 .taken))
 
 number-at-requires : tie.Need-number-at-requires Inv-loop μ-loop
 number-at-requires c κs = (element-size (c .before .before .before .before .before .args .p .now) (c .before .before .loop .at) (c .before .before .loop .inv .left) (c .before .loop-test .taken), omega arith)
@@ -60,7 +62,7 @@ comes-before-requires : tie.Need-comes-before-requires Inv-loop μ-loop
 comes-before-requires c κs = search needs
 
 returns-2 : tie.Need-returns-2 Inv-loop μ-loop
-returns-2 c = slices-differ (c .before .before .before .before .before .before .before .before .before .before .before .before .args .p .now) (c .before .before .before .before .before .before .before .before .before .before .before .before .args .q .now) (c .before .before .before .before .before .before .before .before .before .loop .at) _ _ (c .before .before .before .before .before .before .before .before .before .loop .inv) (c .before .before .before .before .before .before .before .before .loop-test .taken) (c .before .before .before .before .before .before .before .if1 .left) (c .before .before .before .before .before .before .number-at .ensures .0) (c .before .before .before .before .before .number-at2 .ensures .0) _ _ (c .before .before .same .ensures) (not-true _ (c .before .if2 .taken)) (c .comes-before .ensures)
+returns-2 c = slices-differ pathBefore precedes before-step (c .before .before .before .before .before .before .before .before .before .before .before .before .args .p .now) (c .before .before .before .before .before .before .before .before .before .before .before .before .args .q .now) (c .before .before .before .before .before .before .before .before .before .loop .at) (c .before .before .before .before .before .before .before .before .before .loop .inv) (c .before .before .before .before .before .before .before .before .loop-test .taken) (c .before .before .before .before .before .before .before .if1 .left) _ _ (c .before .before .before .before .before .before .number-at .ensures .0) (c .before .before .before .before .before .number-at2 .ensures .0) _ _ (c .before .before .same .ensures) (not-true _ (c .before .if2 .taken)) (c .comes-before .ensures)
 
 add-at : tie.Need-add-at Inv-loop μ-loop
 add-at c = search needs
@@ -69,10 +71,10 @@ loop-less : tie.Need-loop-less Inv-loop μ-loop
 loop-less c = search needs
 
 loop-again : tie.Need-loop-again Inv-loop μ-loop
-loop-again c = slices-same (c .before .before .before .before .before .before .before .before .before .before .before .args .p .now) (c .before .before .before .before .before .before .before .before .before .before .before .args .q .now) (c .before .before .before .before .before .before .before .before .loop .at) _ _ (c .before .before .before .before .before .before .before .before .loop .inv) (c .before .before .before .before .before .before .before .loop-test .taken) (c .before .before .before .before .before .before .if1 .left) (c .before .before .before .before .before .number-at .ensures .0) (c .before .before .before .before .number-at2 .ensures .0) _ (c .before .same .ensures) (not-false _ (c .if2 .left))
+loop-again c = slices-same pathBefore precedes before-step (c .before .before .before .before .before .before .before .before .before .before .before .args .p .now) (c .before .before .before .before .before .before .before .before .before .before .before .args .q .now) (c .before .before .before .before .before .before .before .before .loop .at) (c .before .before .before .before .before .before .before .before .loop .inv) (c .before .before .before .before .before .before .before .loop-test .taken) (c .before .before .before .before .before .before .if1 .left) _ _ (c .before .before .before .before .before .number-at .ensures .0) (c .before .before .before .before .number-at2 .ensures .0) _ (c .before .same .ensures) (not-false _ (c .if2 .left))
 
 returns-3 : tie.Need-returns-3 Inv-loop μ-loop
-returns-3 c = both-first-end (c .before .before .before .before .args .p .now) (c .before .before .before .before .args .q .now) (c .before .loop .at) (c .before .loop .inv) (c .loop-test .left)
+returns-3 c = before-first-end (c .before .before .before .before .args .p .now) (c .before .before .before .before .args .q .now) (c .before .loop .at) (c .before .loop .inv) (c .loop-test .left)
 
 pub path-before-spec : {M : Type 1} → statement M
 path-before-spec =
