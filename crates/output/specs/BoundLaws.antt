@@ -21,11 +21,12 @@ use Rattle.publishing.specs.Written.{shared, opened, closed, fileBytes, treeByt
 use Rattle.lists.specs.Lists.{elementEnd, elementsFit, elementsIn, pathAt, partAt, itemAt}
 use Rattle.lists.specs.ListsLaws.{path-right}
 use Rattle.output.specs.PutLaws.{string-length}
-use Rattle.output.specs.Files.{propertiesBytes, Placed, InForm}
+use Rattle.ordered.specs.Order.{InForm, Placed, mostFiles}
+use Rattle.output.specs.Files.{propertiesBytes}
 use Rattle.output.specs.FilesLaws.{empty-length, full-length}
 use Rattle.output.specs.Layers.{repeats, layerEntry, layersBytes, layerOf}
 use Rattle.output.specs.LayersLaws.{given-none, given-some}
-use Rattle.output.specs.Whole.{infoBytes, restBytes, mostFiles}
+use Rattle.output.specs.Whole.{infoBytes, restBytes}
 use Rattle.output.specs.WholeLaws.{info-length, rest-length}
 
 -- ---- numbers and strings

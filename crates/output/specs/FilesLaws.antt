@@ -3,7 +3,6 @@
 use mathlib.Core.Path.{_≡_, refl, sym, ap, ap₂, _∙_, subst}
 use mathlib.Core.Bool.{Bool, true, false, cond}
 use mathlib.Core.List.{List, [], _∷_, _++_, append-assoc, map}
-use mathlib.Core.Logic.{_⊎_, inl, inr}
 use Prim.Native.Nat.{ℕ, zero, suc, _+_, _-_, _≤_, _<_}
 use native.Mathlib.Omega.{arith}
 use native.Mathlib.Numerals.{add-one}
@@ -14,16 +13,17 @@ use borrow.Author.Tests.{eq-eqb, ne-eqb, eqb-true, eqb-false}
 use Rattle.octets.specs.Octets.{cut, numberAt}
 use Rattle.bencode.specs.Grammar.{letterD, letterE, letterI, decimal, decimalIn, encodeString, Value, encode, encodeEntries}
 use Rattle.meaning.specs.Keys.{keyLength, keyPiecesRoot}
-use Rattle.meaning.specs.Counting.{Member}
 use Rattle.publishing.specs.Content.{Item, properties}
 use Rattle.publishing.specs.Written.{shared, opened, closed, fileBytes, treeBytes}
 use Rattle.lists.specs.Lists.{recordSize, elementsFit, elementsIn, formAt, itemAt}
 use Rattle.lists.specs.ListsLaws.{path-right, slice-end, slice-fits, slice-path}
+use Rattle.ordered.specs.Order.{InForm, Placed}
+use Rattle.ordered.specs.OrderLaws.{placed-index}
 use Rattle.output.specs.Put.{Put}
 use Rattle.output.specs.PutLaws.{put-three, Going, going-start, going-more, going-last, going-room, going-place}
 use Rattle.output.specs.Path.{pathIn, leftIn, Standing, SharedTo}
 use Rattle.output.specs.PathLaws.{standing-start}
-use Rattle.output.specs.Files.{plainFile, propertiesBytes, fileIn, InForm, Placed}
+use Rattle.output.specs.Files.{plainFile, propertiesBytes, fileIn}
 
 -- ---- the properties. `0:d6:lengthi`, `ee`, `e11:pieces root`
 
@@ -128,21 +128,11 @@ growing-start s at list text order =
       going = going-start s at (treeBytes [] (map (itemAt list text) order));
     }
 
--- the record at an index of the order
-member-there : (l : List ℕ) (i : ℕ) → i < length l → Member (getD l i 0) l
-unfolding Member
-member-there [] i h = absurd (omega arith)
-member-there (x ∷ l) zero h = inl refl
-member-there (x ∷ l) (suc i) h = inr (member-there l i (omega arith))
-
-pub in-form : (list text order : List ℕ) (i place : ℕ) → Placed list text order → i < length order → place ≡ getD order i 0 → InForm list text place
-in-form list text order i place p h e = rw e (p (getD order i 0) (member-there order i h))
-
 -- the next record, and its path as a part of the text
 module _ (s : List ℕ) (at : ℕ) (list text order t : List ℕ) (now start size i : ℕ) (g : Growing s at list text order t now start size i) (h : i < length order) (f : Placed list text order) (place : ℕ) (e : place ≡ getD order i 0)
     (a b : ℕ) (ea : a ≡ numberAt list (place + 48) 4) (eb : b ≡ numberAt list (place + 48 + 4) 4) where
   has-form : InForm list text place
-  has-form = in-form list text order i place f h e
+  has-form = placed-index list text order i place f h e
 
   pub part-end : a + b ≤ length text
   part-end = slice-end list text (place + 48) a b (path-right list text place (has-form .1) .0) ea eb

@@ -24,6 +24,6 @@ abbrev pub layerOf : Item → Layer
 layerOf x = (x .root, x .layer)
 
 -- the root of the record at `last`, if there was one
-abbrev pub rootBefore : List ℕ → Bool → ℕ → KeyBefore
-rootBefore list true last = after (cut list (last + 8) 32)
-rootBefore list false last = none
+abbrev pub rootSeen : List ℕ → Bool → ℕ → KeyBefore
+rootSeen list true last = after (cut list (last + 8) 32)
+rootSeen list false last = none

@@ -16,11 +16,11 @@ use Rattle.bencode.specs.Grammar.{letterE, encodeString, Value, string, Entries
 use Rattle.publishing.specs.Content.{Item, Layer, withLayer, layersGiven, layerPut, layersOfAll}
 use Rattle.lists.specs.Lists.{recordSize, partFits, pathAt, partAt, elementsFit, formAt, itemAt}
 use Rattle.lists.specs.ListsLaws.{slice-end}
+use Rattle.ordered.specs.Order.{InForm, Placed}
+use Rattle.ordered.specs.OrderLaws.{placed-index}
 use Rattle.output.specs.Put.{Put}
 use Rattle.output.specs.PutLaws.{put-none, put-append, Going, going-start, going-more, going-last, going-room}
-use Rattle.output.specs.Files.{InForm, Placed}
-use Rattle.output.specs.FilesLaws.{in-form}
-use Rattle.output.specs.Layers.{repeats, layerEntry, layersBytes, layerOf, rootBefore}
+use Rattle.output.specs.Layers.{repeats, layerEntry, layersBytes, layerOf, rootSeen}
 
 -- ---- the encoding
 
@@ -91,7 +91,7 @@ cut-slice list place = let z : place + 40 - (place + 8) ≡ 32 = omega arith in 
 
 -- a root was seen: the two roots are compared
 pub root-compared : (list : List ℕ) (place last : ℕ) (seen t : Bool) → seen ≡ true → t ≡ same (take (last + 40 - (last + 8)) (drop (last + 8) list)) (take (place + 40 - (place + 8)) (drop (place + 8) list))
-    → t ≡ repeats (rootBefore list seen last) (cut list (place + 8) 32)
+    → t ≡ repeats (rootSeen list seen last) (cut list (place + 8) 32)
 root-compared list place last seen t s e = e ∙ ap₂ same (cut-slice list last) (cut-slice list place) ∙ sym (rw s refl)
 
 module _ (list text : List ℕ) (place last : ℕ) (seen : Bool) where
@@ -102,23 +102,23 @@ module _ (list text : List ℕ) (place last : ℕ) (seen : Bool) where
   root-is = unfold itemAt in refl
 
   -- the root repeats: nothing is written
-  pub put-repeated : (t : Bool) → t ≡ repeats (rootBefore list seen last) (cut list (place + 8) 32) → t ≡ true → (s : List ℕ) (at : ℕ) → Put s at (layerEntry (rootBefore list seen last) (layerOf (itemAt list text place))) s at
-  put-repeated t e f s at = rw (sym (ap (repeats (rootBefore list seen last)) root-is) ∙ sym e ∙ f) (put-none s at)
+  pub put-repeated : (t : Bool) → t ≡ repeats (rootSeen list seen last) (cut list (place + 8) 32) → t ≡ true → (s : List ℕ) (at : ℕ) → Put s at (layerEntry (rootSeen list seen last) (layerOf (itemAt list text place))) s at
+  put-repeated t e f s at = rw (sym (ap (repeats (rootSeen list seen last)) root-is) ∙ sym e ∙ f) (put-none s at)
 
   -- it does not: both strings are
-  entry-new : (t : Bool) → t ≡ repeats (rootBefore list seen last) (cut list (place + 8) 32) → t ≡ false
-      → layerEntry (rootBefore list seen last) (layerOf (itemAt list text place)) ≡ encodeString (itemAt list text place .root) ++ encodeString (itemAt list text place .layer)
-  entry-new t e f = rw (sym (ap (repeats (rootBefore list seen last)) root-is) ∙ sym e ∙ f) refl
+  entry-new : (t : Bool) → t ≡ repeats (rootSeen list seen last) (cut list (place + 8) 32) → t ≡ false
+      → layerEntry (rootSeen list seen last) (layerOf (itemAt list text place)) ≡ encodeString (itemAt list text place .root) ++ encodeString (itemAt list text place .layer)
+  entry-new t e f = rw (sym (ap (repeats (rootSeen list seen last)) root-is) ∙ sym e ∙ f) refl
 
-  pub entry-length : (t : Bool) → t ≡ repeats (rootBefore list seen last) (cut list (place + 8) 32) → t ≡ false
-      → length (layerEntry (rootBefore list seen last) (layerOf (itemAt list text place))) ≡ length (encodeString (take (place + 40 - (place + 8)) (drop (place + 8) list))) + length (encodeString (itemAt list text place .layer))
+  pub entry-length : (t : Bool) → t ≡ repeats (rootSeen list seen last) (cut list (place + 8) 32) → t ≡ false
+      → length (layerEntry (rootSeen list seen last) (layerOf (itemAt list text place))) ≡ length (encodeString (take (place + 40 - (place + 8)) (drop (place + 8) list))) + length (encodeString (itemAt list text place .layer))
   entry-length t e f =
       ap (λ (l : List ℕ). length l) (entry-new t e f) ∙ length-append (encodeString (itemAt list text place .root)) (encodeString (itemAt list text place .layer))
       ∙ ap (λ (l : List ℕ). length (encodeString l) + length (encodeString (itemAt list text place .layer))) (sym (root-slice list text place))
 
-  pub put-entry : (t : Bool) → t ≡ repeats (rootBefore list seen last) (cut list (place + 8) 32) → t ≡ false → (layer : List ℕ) → layer ≡ itemAt list text place .layer
+  pub put-entry : (t : Bool) → t ≡ repeats (rootSeen list seen last) (cut list (place + 8) 32) → t ≡ false → (layer : List ℕ) → layer ≡ itemAt list text place .layer
       → (s u v : List ℕ) (at m r : ℕ) → Put s at (encodeString (take (place + 40 - (place + 8)) (drop (place + 8) list))) u m → Put u m (encodeString layer) v r → length u ≡ length s
-      → Put s at (layerEntry (rootBefore list seen last) (layerOf (itemAt list text place))) v r
+      → Put s at (layerEntry (rootSeen list seen last) (layerOf (itemAt list text place))) v r
   put-entry t e f layer g s u v at m r p q k =
       rw (entry-new t e f)
       (put-append s u v at m r (encodeString (itemAt list text place .root)) (encodeString (itemAt list text place .layer))
@@ -132,7 +132,7 @@ module _ (list text : List ℕ) (place last : ℕ) (seen : Bool) where
 pub record Listing (s : List ℕ) (at : ℕ) (list text order t : List ℕ) (now : ℕ) (seen : Bool) (last i : ℕ) : Type 0 where
   pub counted : i ≤ length order
   pub inside : last ≤ length list - recordSize
-  pub going : Going s at (layersBytes none (layersGiven (map (itemAt list text) order))) (layersBytes (rootBefore list seen last) (layersGiven (map (itemAt list text) (drop i order)))) t now
+  pub going : Going s at (layersBytes none (layersGiven (map (itemAt list text) order))) (layersBytes (rootSeen list seen last) (layersGiven (map (itemAt list text) (drop i order)))) t now
 
 pub listing-start : (s : List ℕ) (at : ℕ) (list text order : List ℕ) → Listing s at list text order s at false 0 0
 listing-start s at list text order =
@@ -158,7 +158,7 @@ given-some x xs e = by-layer (x .layer) refl e
 module _ (s : List ℕ) (at : ℕ) (list text order t : List ℕ) (now : ℕ) (seen : Bool) (last i : ℕ) (g : Listing s at list text order t now seen last i) (h : i < length order) (f : Placed list text order) (place : ℕ) (e : place ≡ getD order i 0)
     (b : ℕ) (eb : b ≡ numberAt list (place + 40 + 4) 4) where
   has-form : InForm list text place
-  has-form = in-form list text order i place f h e
+  has-form = placed-index list text order i place f h e
 
   rest : drop i order ≡ place ∷ drop (i + 1) order
   rest = drop-cons order i 0 h ∙ ap₂ (λ (x n : ℕ). x ∷ drop n order) (sym e) (sym (add-one i))
@@ -173,7 +173,7 @@ module _ (s : List ℕ) (at : ℕ) (list text order t : List ℕ) (now : ℕ) (s
         counted = omega arith;
         inside = g .inside;
         going =
-            subst (λ (ls : List Layer). Going s at (layersBytes none (layersGiven (map (itemAt list text) order))) (layersBytes (rootBefore list seen last) ls) t now)
+            subst (λ (ls : List Layer). Going s at (layersBytes none (layersGiven (map (itemAt list text) order))) (layersBytes (rootSeen list seen last) ls) t now)
             (ap (λ (l : List ℕ). layersGiven (map (itemAt list text) l)) rest ∙ given-none (itemAt list text place) (map (itemAt list text) (drop (i + 1) order)) (size-is ∙ z))
             (g .going);
       }
@@ -183,20 +183,20 @@ module _ (s : List ℕ) (at : ℕ) (list text order t : List ℕ) (now : ℕ) (s
     abbrev later : List ℕ
     later = layersBytes (after (itemAt list text place .root)) (layersGiven (map (itemAt list text) (drop (i + 1) order)))
 
-    next-layer : Going s at (layersBytes none (layersGiven (map (itemAt list text) order))) (layerEntry (rootBefore list seen last) (layerOf (itemAt list text place)) ++ later) t now
+    next-layer : Going s at (layersBytes none (layersGiven (map (itemAt list text) order))) (layerEntry (rootSeen list seen last) (layerOf (itemAt list text place)) ++ later) t now
     next-layer =
         subst (λ (l : List ℕ). Going s at (layersBytes none (layersGiven (map (itemAt list text) order))) l t now)
-        (ap (layersBytes (rootBefore list seen last)) (ap (λ (l : List ℕ). layersGiven (map (itemAt list text) l)) rest ∙ given-some (itemAt list text place) (map (itemAt list text) (drop (i + 1) order)) (λ q. z (sym size-is ∙ q)))
+        (ap (layersBytes (rootSeen list seen last)) (ap (λ (l : List ℕ). layersGiven (map (itemAt list text) l)) rest ∙ given-some (itemAt list text place) (map (itemAt list text) (drop (i + 1) order)) (λ q. z (sym size-is ∙ q)))
         ∙ (unfold layersBytes in refl))
         (g .going)
 
-    pub layer-room : (n : ℕ) → at + length (layersBytes none (layersGiven (map (itemAt list text) order))) < n → now + length (layerEntry (rootBefore list seen last) (layerOf (itemAt list text place))) < n
-    layer-room n l = going-room s at (layersBytes none (layersGiven (map (itemAt list text) order))) (layerEntry (rootBefore list seen last) (layerOf (itemAt list text place))) later t now n next-layer l
+    pub layer-room : (n : ℕ) → at + length (layersBytes none (layersGiven (map (itemAt list text) order))) < n → now + length (layerEntry (rootSeen list seen last) (layerOf (itemAt list text place))) < n
+    layer-room n l = going-room s at (layersBytes none (layersGiven (map (itemAt list text) order))) (layerEntry (rootSeen list seen last) (layerOf (itemAt list text place))) later t now n next-layer l
 
     pub last-inside : last + recordSize ≤ length list
     last-inside = let w = has-form .0 in let v = g .inside in omega arith
 
-    pub listing-more : (u : List ℕ) (r : ℕ) → Put t now (layerEntry (rootBefore list seen last) (layerOf (itemAt list text place))) u r → length u ≡ length t → Listing s at list text order u r true place (i + 1)
+    pub listing-more : (u : List ℕ) (r : ℕ) → Put t now (layerEntry (rootSeen list seen last) (layerOf (itemAt list text place))) u r → length u ≡ length t → Listing s at list text order u r true place (i + 1)
     listing-more u r p k =
         record {
           counted = omega arith;
@@ -204,7 +204,7 @@ module _ (s : List ℕ) (at : ℕ) (list text order t : List ℕ) (now : ℕ) (s
           going =
               subst (λ (k : List ℕ). Going s at (layersBytes none (layersGiven (map (itemAt list text) order))) (layersBytes (after k) (layersGiven (map (itemAt list text) (drop (i + 1) order)))) u r)
               (sym (root-is list text place last seen))
-              (going-more s at (layersBytes none (layersGiven (map (itemAt list text) order))) (layerEntry (rootBefore list seen last) (layerOf (itemAt list text place))) later t u now r next-layer p k);
+              (going-more s at (layersBytes none (layersGiven (map (itemAt list text) order))) (layerEntry (rootSeen list seen last) (layerOf (itemAt list text place))) later t u now r next-layer p k);
         }
 
 -- all records are passed
@@ -212,7 +212,7 @@ module _ (s : List ℕ) (at : ℕ) (list text order t : List ℕ) (now : ℕ) (s
   last-byte : Going s at (layersBytes none (layersGiven (map (itemAt list text) order))) ((letterE ∷ []) ++ []) t now
   last-byte =
       subst (λ (l : List ℕ). Going s at (layersBytes none (layersGiven (map (itemAt list text) order))) l t now)
-      (ap (λ (l : List ℕ). layersBytes (rootBefore list seen last) (layersGiven (map (itemAt list text) l))) (drop-of-length-le order {i = i} h) ∙ (unfold layersGiven layersBytes in refl))
+      (ap (λ (l : List ℕ). layersBytes (rootSeen list seen last) (layersGiven (map (itemAt list text) l))) (drop-of-length-le order {i = i} h) ∙ (unfold layersGiven layersBytes in refl))
       (g .going)
 
   pub end-room : (n : ℕ) → at + length (layersBytes none (layersGiven (map (itemAt list text) order))) < n → now + 1 < n

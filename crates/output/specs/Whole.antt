@@ -1,13 +1,11 @@
 -- The torrent in two parts: up to the entries of `piece layers`, of files in tree order; and from there on, of files by root and layer.
 -- Assumes nothing.
-use mathlib.Core.Bool.{Bool}
 use mathlib.Core.List.{List, [], _∷_, _++_}
-use Prim.Native.Nat.{ℕ, _/_}
-use Rattle.limits.specs.Limits.{largestTorrent}
+use Prim.Native.Nat.{ℕ}
 use Rattle.bencode.specs.Grammar.{letterE, decimal, encodeString, none}
-use Rattle.publishing.specs.Content.{Item, layerBefore, layersGiven}
+use Rattle.publishing.specs.Content.{Item, layersGiven}
 use Rattle.publishing.specs.Written.{treeBytes}
-use Rattle.output.specs.Layers.{layersBytes, layerOf}
+use Rattle.output.specs.Layers.{layersBytes}
 
 -- `d4:infod9:file treed`
 abbrev pub wordTree : List ℕ
@@ -31,11 +29,3 @@ infoBytes plen name xs = wordTree ++ (treeBytes [] xs ++ (wordName ++ (encodeStr
 
 unfoldable pub restBytes : List Item → List ℕ
 restBytes xs = layersBytes none (layersGiven xs) ++ letterE ∷ []
-
--- by root, and files of one root by their layers
-abbrev pub byRoot : Item → Item → Bool
-byRoot x y = layerBefore (layerOf x) (layerOf y)
-
--- each file takes 15 bytes or more, `0:d6:lengthi0ee`
-abbrev pub mostFiles : ℕ
-mostFiles = largestTorrent / 15

@@ -16,56 +16,31 @@ use Rattle.bencode.specs.Grammar.{letterD, letterE, letterI, decimal, decimalIn
 use Rattle.bencode.specs.Grammar as G
 use Rattle.bencode.specs.CompleteLaws.{BeginsWithDigit, decimal-first}
 use Rattle.meaning.specs.Keys.{keyInfo, keyFileTree, keyPieceLength, keyMetaVersion, keyPieceLayers}
-use Rattle.publishing.specs.Sorting.{sortedBy, Permuted, none, keep, swap, then}
-use Rattle.publishing.specs.SortingLaws.{Ordered, OrderedFrom, sorted-ordered, sorted-permuted, sorted-stays, permuted-back}
-use Rattle.publishing.specs.Content.{Item, Layer, layerBefore, itemBefore, inTreeOrder, properties, treeOfAll, withLayer, layersGiven, layersOfAll, keyName, infoWritten, torrentOf}
+use Rattle.publishing.specs.Sorting.{sortedBy, Permuted, then}
+use Rattle.publishing.specs.SortingLaws.{sorted-ordered, sorted-permuted, sorted-stays, permuted-back}
+use Rattle.publishing.specs.Content.{Item, layerBefore, itemBefore, inTreeOrder, properties, treeOfAll, withLayer, layersGiven, layersOfAll, keyName, infoWritten, torrentOf}
 use Rattle.publishing.specs.Number.{meet, tooLarge}
-use Rattle.publishing.specs.OrderLaws.{layer-one-way, layer-behind}
 use Rattle.publishing.specs.AnyOrder.{layersWritten, layers-any-order, size-any-order, torrent-any-order}
 use Rattle.publishing.specs.Written.{shared, opened, closed, fileBytes, treeBytes}
 use Rattle.publishing.specs.WrittenLaws.{tree-encoded}
 use Rattle.publishing.specs.SizeLaws.{rising, in-order}
+use Rattle.ordered.specs.Order.{rootBefore, mostFiles}
+use Rattle.ordered.specs.ClashLaws.{root-one-way, root-behind, given-ordered}
+use Rattle.ordered.specs.MergedLaws.{permuted-length}
 use Rattle.output.specs.Put.{Put}
 use Rattle.output.specs.PutLaws.{put-append, put-three}
-use Rattle.output.specs.Layers.{layersBytes, layerOf}
+use Rattle.output.specs.Layers.{layersBytes}
 use Rattle.output.specs.LayersLaws.{layers-encoded}
 use Rattle.output.specs.Files.{propertiesBytes}
 use Rattle.output.specs.FilesLaws.{properties-least}
-use Rattle.output.specs.Whole.{wordTree, wordName, wordPlen, wordLayers, infoBytes, restBytes, byRoot, mostFiles}
+use Rattle.output.specs.Whole.{wordTree, wordName, wordPlen, wordLayers, infoBytes, restBytes}
 
 -- ---- layers of files by root are by root
 
-from-behind : (l m : Layer) (ls : List Layer) → layerBefore m l ≡ false → OrderedFrom layerBefore m ls → OrderedFrom layerBefore l ls
-unfolding OrderedFrom
-from-behind l m [] h o = tt
-from-behind l m (k ∷ ls) h o = (layer-behind l m k h (o .0), o .1)
-
-given-from : (x : Item) (ys : List Item) → OrderedFrom byRoot x ys → OrderedFrom layerBefore (layerOf x) (layersGiven ys)
-unfolding OrderedFrom layersGiven
-given-from x [] o = tt
-given-from x (y ∷ ys) o = by-layer (y .layer) refl (given-from y ys (o .1))
-  where
-    by-layer : (l : List ℕ) → y .layer ≡ l → OrderedFrom layerBefore (layerOf y) (layersGiven ys) → OrderedFrom layerBefore (layerOf x) (withLayer y l (layersGiven ys))
-    by-layer [] e more = from-behind (layerOf x) (layerOf y) (layersGiven ys) (o .0) more
-    by-layer (b ∷ bs) e more = rw (sym e) (o .0, more)
-
-given-ordered : (ys : List Item) → Ordered byRoot ys → Ordered layerBefore (layersGiven ys)
-unfolding Ordered layersGiven
-given-ordered [] o = tt
-given-ordered (y ∷ ys) o = by-layer (y .layer) refl (given-from y ys o)
-  where
-    tail-ordered : (m : Layer) (ls : List Layer) → OrderedFrom layerBefore m ls → Ordered layerBefore ls
-    tail-ordered m [] p = unfold Ordered in tt
-    tail-ordered m (k ∷ ls) p = unfold Ordered OrderedFrom in p .1
-
-    by-layer : (l : List ℕ) → y .layer ≡ l → OrderedFrom layerBefore (layerOf y) (layersGiven ys) → Ordered layerBefore (withLayer y l (layersGiven ys))
-    by-layer [] e more = tail-ordered (layerOf y) (layersGiven ys) more
-    by-layer (b ∷ bs) e more = rw (sym e) more
-
-pub layers-by-root : (xs : List Item) → layersWritten xs ≡ layersOfAll (layersGiven (sortedBy byRoot xs))
+pub layers-by-root : (xs : List Item) → layersWritten xs ≡ layersOfAll (layersGiven (sortedBy rootBefore xs))
 layers-by-root xs =
-    layers-any-order xs (sortedBy byRoot xs) (sorted-permuted byRoot xs)
-    ∙ ap layersOfAll (sorted-stays layerBefore (layersGiven (sortedBy byRoot xs)) (given-ordered (sortedBy byRoot xs) (sorted-ordered byRoot (λ x y. layer-one-way (layerOf x) (layerOf y)) (λ x y z. layer-behind (layerOf x) (layerOf y) (layerOf z)) xs)))
+    layers-any-order xs (sortedBy rootBefore xs) (sorted-permuted rootBefore xs)
+    ∙ ap layersOfAll (sorted-stays layerBefore (layersGiven (sortedBy rootBefore xs)) (given-ordered (sortedBy rootBefore xs) (sorted-ordered rootBefore root-one-way root-behind xs)))
 
 -- ---- the whole
 
@@ -121,15 +96,15 @@ torrent-assembled plen name tree layers t l e f = spread ∙ assembled t (encode
     spread = opened-up ∙ rw (e, f, key-info, key-tree, key-version, version-two, key-name, key-plen, key-layers) refl
 
 -- the torrent of a list is its two parts behind each other
-pub torrent-parts : (plen : ℕ) (name : List ℕ) (xs : List Item) → encode (dictionary (torrentOf plen name xs)) ≡ infoBytes plen name (inTreeOrder xs) ++ restBytes (sortedBy byRoot xs)
+pub torrent-parts : (plen : ℕ) (name : List ℕ) (xs : List Item) → encode (dictionary (torrentOf plen name xs)) ≡ infoBytes plen name (inTreeOrder xs) ++ restBytes (sortedBy rootBefore xs)
 unfolding torrentOf infoBytes restBytes
 torrent-parts plen name xs =
-    torrent-assembled plen name (treeOfAll (inTreeOrder xs)) (layersWritten xs) (treeBytes [] (inTreeOrder xs)) (layersBytes G.none (layersGiven (sortedBy byRoot xs)))
+    torrent-assembled plen name (treeOfAll (inTreeOrder xs)) (layersWritten xs) (treeBytes [] (inTreeOrder xs)) (layersBytes G.none (layersGiven (sortedBy rootBefore xs)))
     (tree-encoded (inTreeOrder xs) (rising (inTreeOrder xs) (in-order xs)))
-    (ap encodeEntries (layers-by-root xs) ∙ sym (layers-encoded (layersGiven (sortedBy byRoot xs))))
+    (ap encodeEntries (layers-by-root xs) ∙ sym (layers-encoded (layersGiven (sortedBy rootBefore xs))))
 
-pub torrent-length : (plen : ℕ) (name : List ℕ) (xs : List Item) → length (encode (dictionary (torrentOf plen name xs))) ≡ length (infoBytes plen name (inTreeOrder xs)) + length (restBytes (sortedBy byRoot xs))
-torrent-length plen name xs = ap (λ (l : List ℕ). length l) (torrent-parts plen name xs) ∙ length-append (infoBytes plen name (inTreeOrder xs)) (restBytes (sortedBy byRoot xs))
+pub torrent-length : (plen : ℕ) (name : List ℕ) (xs : List Item) → length (encode (dictionary (torrentOf plen name xs))) ≡ length (infoBytes plen name (inTreeOrder xs)) + length (restBytes (sortedBy rootBefore xs))
+torrent-length plen name xs = ap (λ (l : List ℕ). length l) (torrent-parts plen name xs) ∙ length-append (infoBytes plen name (inTreeOrder xs)) (restBytes (sortedBy rootBefore xs))
 
 -- the second part written first, behind the place of the first: then both are the whole
 pub both-pasted : (s a b : List ℕ) → length a + length b ≤ length s → pasted (pasted s (length a) b) 0 a ≡ pasted s 0 (a ++ b)
@@ -170,12 +145,6 @@ tree-least p (x ∷ xs) =
     let b = tree-least (x .path) xs in
     let c = length-append (fileBytes p (x .path) (properties x)) (treeBytes (x .path) xs) in
     omega arith
-
-permuted-length : {A : Type 0} (xs ys : List A) → Permuted xs ys → length xs ≡ length ys
-permuted-length xs ys none = refl
-permuted-length xs ys (keep x {xs = us} {ys = vs} p) = ap suc (permuted-length us vs p)
-permuted-length xs ys (swap x y zs) = refl
-permuted-length xs ys (then {ys = ms} p q) = permuted-length xs ms p ∙ permuted-length ms ys q
 
 info-least : (plen : ℕ) (name : List ℕ) (xs : List Item) → length (treeBytes [] xs) ≤ length (infoBytes plen name xs)
 unfolding infoBytes
@@ -244,12 +213,12 @@ parts-written whole a b out t u at r q w e x y k h =
 
 -- ---- of files that stand in the two orders: trees are zs, by root are ys
 
-module _ (plen : ℕ) (name : List ℕ) (xs zs ys : List Item) (p : Permuted xs zs) (o : inTreeOrder zs ≡ zs) (q : Permuted xs ys) (r : sortedBy byRoot ys ≡ ys) where
-  rest-there : restBytes (sortedBy byRoot zs) ≡ restBytes ys
+module _ (plen : ℕ) (name : List ℕ) (xs zs ys : List Item) (p : Permuted xs zs) (o : inTreeOrder zs ≡ zs) (q : Permuted xs ys) (r : sortedBy rootBefore ys ≡ ys) where
+  rest-there : restBytes (sortedBy rootBefore zs) ≡ restBytes ys
   unfolding restBytes
-  rest-there = ap (λ (l : List ℕ). l ++ letterE ∷ []) (layers-encoded (layersGiven (sortedBy byRoot zs)) ∙ ap encodeEntries same-layers ∙ sym (layers-encoded (layersGiven ys)))
+  rest-there = ap (λ (l : List ℕ). l ++ letterE ∷ []) (layers-encoded (layersGiven (sortedBy rootBefore zs)) ∙ ap encodeEntries same-layers ∙ sym (layers-encoded (layersGiven ys)))
     where
-      same-layers : layersOfAll (layersGiven (sortedBy byRoot zs)) ≡ layersOfAll (layersGiven ys)
+      same-layers : layersOfAll (layersGiven (sortedBy rootBefore zs)) ≡ layersOfAll (layersGiven ys)
       same-layers =
           sym (layers-by-root zs) ∙ layers-any-order zs ys (then (permuted-back xs zs p) q) ∙ layers-by-root ys
           ∙ ap (λ (l : List Item). layersOfAll (layersGiven l)) r

@@ -7,23 +7,17 @@ use crate::plain::put_bytes;
 use crate::plain::put_decimal;
 use crate::plain::put_string;
 use octets::number_at;
-ghost use mathlib.Core.Path.{_≡_};
+use ordered::compare::index;
 ghost use mathlib.Core.List.{[], map};
 ghost use Prim.Native.Nat.{_+_, _≤_, _<_, _^_};
 ghost use lib.ListN.{length};
 ghost use Rattle.publishing.specs.Content.{properties};
 ghost use Rattle.publishing.specs.Written.{fileBytes, treeBytes};
 ghost use Rattle.lists.specs.Lists.{recordSize, itemAt};
+ghost use Rattle.ordered.specs.Order.{Placed};
 ghost use Rattle.output.specs.Put.{Put};
 ghost use Rattle.output.specs.Path.{pathIn, Standing};
-ghost use Rattle.output.specs.Files.{propertiesBytes, fileIn, Placed};
-
-// A position as an index.
-pub fn index(p: u32) -> usize
-    ensures { λ r. ⌜ r ≡ p ⌝ }
-{
-    p as usize
-}
+ghost use Rattle.output.specs.Files.{propertiesBytes, fileIn};
 
 // The empty key and a file's properties: its length, and its root if it is not empty.
 fn put_properties(out: &mut [u8], at: usize, size: usize, root: &[u8]) -> usize

@@ -1,9 +1,9 @@
 // `piece layers`, of files in the order of their roots and layers.
-use crate::file::index;
 use crate::plain::put_byte;
 use crate::plain::put_string;
 use bencode::order::same;
 use octets::number_at;
+use ordered::compare::index;
 ghost use mathlib.Core.Path.{_≡_};
 ghost use mathlib.Core.List.{map};
 ghost use Prim.Native.Nat.{_+_, _≤_, _<_, _^_};
@@ -13,13 +13,13 @@ ghost use Rattle.bencode.specs.Grammar.{none};
 ghost use Rattle.publishing.specs.Content.{layersGiven};
 ghost use Rattle.lists.specs.Lists.{recordSize, itemAt};
 ghost use Rattle.output.specs.Put.{Put};
-ghost use Rattle.output.specs.Files.{InForm, Placed};
-ghost use Rattle.output.specs.Layers.{repeats, layerEntry, layersBytes, layerOf, rootBefore};
+ghost use Rattle.ordered.specs.Order.{InForm, Placed};
+ghost use Rattle.output.specs.Layers.{repeats, layerEntry, layersBytes, layerOf, rootSeen};
 
 // Whether an entry was seen before, with the root of the record at `last`, and the record at `place` has the same.
 fn root_repeats(list: &[u8], place: usize, seen: bool, last: usize) -> bool
     requires { ⌜ (place + recordSize ≤ length (now list)) × (last + recordSize ≤ length (now list)) ⌝ }
-    ensures { λ r. ⌜ r ≡ repeats (rootBefore (now (list .entry)) seen last) (cut (now (list .entry)) (place + 8) 32) ⌝ }
+    ensures { λ r. ⌜ r ≡ repeats (rootSeen (now (list .entry)) seen last) (cut (now (list .entry)) (place + 8) 32) ⌝ }
 {
     if seen {
         return same(&list[last + 8..last + 40], &list[place + 8..place + 40]);
@@ -38,9 +38,9 @@ fn put_layer(
     last: usize,
 ) -> usize
     requires { ⌜ InForm (now list) (now text) place × (last + recordSize ≤ length (now list))
-        × (at + length (layerEntry (rootBefore (now list) seen last) (layerOf (itemAt (now list) (now text) place))) < 2 ^ 64) ⌝ }
+        × (at + length (layerEntry (rootSeen (now list) seen last) (layerOf (itemAt (now list) (now text) place))) < 2 ^ 64) ⌝ }
     ensures { λ r. ⌜ Put (now (out .entry)) at
-        (layerEntry (rootBefore (now (list .entry)) seen last) (layerOf (itemAt (now (list .entry)) (now (text .entry)) place)))
+        (layerEntry (rootSeen (now (list .entry)) seen last) (layerOf (itemAt (now (list .entry)) (now (text .entry)) place)))
         (now (out .exit)) r ⌝ }
 {
     if root_repeats(list, place, seen, last) {

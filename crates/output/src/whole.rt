@@ -13,8 +13,8 @@ ghost use lib.ListN.{length};
 ghost use lib.Dec.{ltb};
 ghost use Rattle.lists.specs.Lists.{itemAt};
 ghost use Rattle.output.specs.Put.{Put};
-ghost use Rattle.output.specs.Files.{Placed};
-ghost use Rattle.output.specs.Whole.{infoBytes, restBytes, mostFiles};
+ghost use Rattle.ordered.specs.Order.{Placed, mostFiles};
+ghost use Rattle.output.specs.Whole.{infoBytes, restBytes};
 
 // More files do not go into a torrent: each takes 15 bytes or more.
 pub const MOST: usize = 69905;

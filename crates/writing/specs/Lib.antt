@@ -1,3 +1,4 @@
 pub mod Write
 pub mod WriteLaws
 pub mod WrittenReads
+pub mod StepsLaws

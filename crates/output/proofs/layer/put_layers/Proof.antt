@@ -1,4 +1,4 @@
-use Rattle.output.specs.FilesLaws.{in-form}
+use Rattle.ordered.specs.OrderLaws.{placed-index}
 use Rattle.output.specs.LayersLaws.{Listing, listing-start, listing-skip, layer-room, last-inside, listing-more, end-room, listing-end}
 use borrow.Author.Needs.{needs}
 use native.Mathlib.Omega.{arith}
@@ -30,13 +30,13 @@ add-i : tie.Need-add-i Inv-loop μ-loop
 add-i c = search needs
 
 add-number-at : tie.Need-add-number-at Inv-loop μ-loop
-add-number-at c = let w = in-form (c .before .before .before .before .before .before .before .before .args .list .now) (c .before .before .before .before .before .before .before .before .args .text .now) (c .before .before .before .before .before .before .before .before .args .order .now) (c .before .before .before .loop .i) _ (c .before .before .before .before .before .before .before .before .pre .0) (c .before .before .loop-test .taken) (c .index .ensures) .0 in search needs
+add-number-at c = let w = placed-index (c .before .before .before .before .before .before .before .before .args .list .now) (c .before .before .before .before .before .before .before .before .args .text .now) (c .before .before .before .before .before .before .before .before .args .order .now) (c .before .before .before .loop .i) _ (c .before .before .before .before .before .before .before .before .pre .0) (c .before .before .loop-test .taken) (c .index .ensures) .0 in search needs
 
 add-number-at-2 : tie.Need-add-number-at-2 Inv-loop μ-loop
-add-number-at-2 c = let w = in-form (c .before .before .before .before .before .before .before .before .args .list .now) (c .before .before .before .before .before .before .before .before .args .text .now) (c .before .before .before .before .before .before .before .before .args .order .now) (c .before .before .before .loop .i) _ (c .before .before .before .before .before .before .before .before .pre .0) (c .before .before .loop-test .taken) (c .index .ensures) .0 in search needs
+add-number-at-2 c = let w = placed-index (c .before .before .before .before .before .before .before .before .args .list .now) (c .before .before .before .before .before .before .before .before .args .text .now) (c .before .before .before .before .before .before .before .before .args .order .now) (c .before .before .before .loop .i) _ (c .before .before .before .before .before .before .before .before .pre .0) (c .before .before .loop-test .taken) (c .index .ensures) .0 in search needs
 
 number-at-requires : tie.Need-number-at-requires Inv-loop μ-loop
-number-at-requires c κs = let w = in-form (c .before .before .before .before .before .before .before .before .args .list .now) (c .before .before .before .before .before .before .before .before .args .text .now) (c .before .before .before .before .before .before .before .before .args .order .now) (c .before .before .before .loop .i) _ (c .before .before .before .before .before .before .before .before .pre .0) (c .before .before .loop-test .taken) (c .index .ensures) .0 in (omega arith, omega arith)
+number-at-requires c κs = let w = placed-index (c .before .before .before .before .before .before .before .before .args .list .now) (c .before .before .before .before .before .before .before .before .args .text .now) (c .before .before .before .before .before .before .before .before .args .order .now) (c .before .before .before .loop .i) _ (c .before .before .before .before .before .before .before .before .pre .0) (c .before .before .loop-test .taken) (c .index .ensures) .0 in (omega arith, omega arith)
 
 loop-less : tie.Need-loop-less Inv-loop μ-loop
 loop-less c = search needs
@@ -45,7 +45,7 @@ loop-again : tie.Need-loop-again Inv-loop μ-loop
 loop-again c = listing-skip (c .before .before .before .before .before .before .before .before .before .before .args .out .now) (c .before .before .before .before .before .before .before .before .before .before .args .at) (c .before .before .before .before .before .before .before .before .before .before .args .list .now) (c .before .before .before .before .before .before .before .before .before .before .args .text .now) (c .before .before .before .before .before .before .before .before .before .before .args .order .now) (c .before .before .before .before .before .loop .out) (c .before .before .before .before .before .loop .to) (c .before .before .before .before .before .loop .seen) (c .before .before .before .before .before .loop .last) (c .before .before .before .before .before .loop .i) (c .before .before .before .before .before .loop .inv) (c .before .before .before .before .loop-test .taken) (c .before .before .before .before .before .before .before .before .before .before .pre .0) _ (c .before .before .index .ensures) _ (c .before .number-at .ensures .0) (c .if1 .taken)
 
 put-layer-requires : tie.Need-put-layer-requires Inv-loop μ-loop
-put-layer-requires c κs = (in-form (c .before .before .before .before .before .before .before .before .before .before .before .args .list .now) (c .before .before .before .before .before .before .before .before .before .before .before .args .text .now) (c .before .before .before .before .before .before .before .before .before .before .before .args .order .now) (c .before .before .before .before .before .before .loop .i) _ (c .before .before .before .before .before .before .before .before .before .before .before .pre .0) (c .before .before .before .before .before .loop-test .taken) (c .before .before .before .index .ensures), last-inside (c .before .before .before .before .before .before .before .before .before .before .before .args .out .now) (c .before .before .before .before .before .before .before .before .before .before .before .args .at) (c .before .before .before .before .before .before .before .before .before .before .before .args .list .now) (c .before .before .before .before .before .before .before .before .before .before .before .args .text .now) (c .before .before .before .before .before .before .before .before .before .before .before .args .order .now) (c .before .before .before .before .before .before .loop .out) (c .before .before .before .before .before .before .loop .to) (c .before .before .before .before .before .before .loop .seen) (c .before .before .before .before .before .before .loop .last) (c .before .before .before .before .before .before .loop .i) (c .before .before .before .before .before .before .loop .inv) (c .before .before .before .before .before .loop-test .taken) (c .before .before .before .before .before .before .before .before .before .before .before .pre .0) _ (c .before .before .before .index .ensures) _ (c .before .before .number-at .ensures .0) (c .before .if1 .left), layer-room (c .before .before .before .before .before .before .before .before .before .before .before .args .out .now) (c .before .before .before .before .before .before .before .before .before .before .before .args .at) (c .before .before .before .before .before .before .before .before .before .before .before .args .list .now) (c .before .before .before .before .before .before .before .before .before .before .before .args .text .now) (c .before .before .before .before .before .before .before .before .before .before .before .args .order .now) (c .before .before .before .before .before .before .loop .out) (c .before .before .before .before .before .before .loop .to) (c .before .before .before .before .before .before .loop .seen) (c .before .before .before .before .before .before .loop .last) (c .before .before .before .before .before .before .loop .i) (c .before .before .before .before .before .before .loop .inv) (c .before .before .before .before .before .loop-test .taken) (c .before .before .before .before .before .before .before .before .before .before .before .pre .0) _ (c .before .before .before .index .ensures) _ (c .before .before .number-at .ensures .0) (c .before .if1 .left) _ (c .before .before .before .before .before .before .before .before .before .before .before .pre .1))
+put-layer-requires c κs = (placed-index (c .before .before .before .before .before .before .before .before .before .before .before .args .list .now) (c .before .before .before .before .before .before .before .before .before .before .before .args .text .now) (c .before .before .before .before .before .before .before .before .before .before .before .args .order .now) (c .before .before .before .before .before .before .loop .i) _ (c .before .before .before .before .before .before .before .before .before .before .before .pre .0) (c .before .before .before .before .before .loop-test .taken) (c .before .before .before .index .ensures), last-inside (c .before .before .before .before .before .before .before .before .before .before .before .args .out .now) (c .before .before .before .before .before .before .before .before .before .before .before .args .at) (c .before .before .before .before .before .before .before .before .before .before .before .args .list .now) (c .before .before .before .before .before .before .before .before .before .before .before .args .text .now) (c .before .before .before .before .before .before .before .before .before .before .before .args .order .now) (c .before .before .before .before .before .before .loop .out) (c .before .before .before .before .before .before .loop .to) (c .before .before .before .before .before .before .loop .seen) (c .before .before .before .before .before .before .loop .last) (c .before .before .before .before .before .before .loop .i) (c .before .before .before .before .before .before .loop .inv) (c .before .before .before .before .before .loop-test .taken) (c .before .before .before .before .before .before .before .before .before .before .before .pre .0) _ (c .before .before .before .index .ensures) _ (c .before .before .number-at .ensures .0) (c .before .if1 .left), layer-room (c .before .before .before .before .before .before .before .before .before .before .before .args .out .now) (c .before .before .before .before .before .before .before .before .before .before .before .args .at) (c .before .before .before .before .before .before .before .before .before .before .before .args .list .now) (c .before .before .before .before .before .before .before .before .before .before .before .args .text .now) (c .before .before .before .before .before .before .before .before .before .before .before .args .order .now) (c .before .before .before .before .before .before .loop .out) (c .before .before .before .before .before .before .loop .to) (c .before .before .before .before .before .before .loop .seen) (c .before .before .before .before .before .before .loop .last) (c .before .before .before .before .before .before .loop .i) (c .before .before .before .before .before .before .loop .inv) (c .before .before .before .before .before .loop-test .taken) (c .before .before .before .before .before .before .before .before .before .before .before .pre .0) _ (c .before .before .before .index .ensures) _ (c .before .before .number-at .ensures .0) (c .before .if1 .left) _ (c .before .before .before .before .before .before .before .before .before .before .before .pre .1))
 
 loop-less-2 : tie.Need-loop-less-2 Inv-loop μ-loop
 loop-less-2 c = search needs
