@@ -13,3 +13,4 @@ pub mod Items
 pub mod ItemLaws
 pub mod InOrderLaws
 pub mod NumberLaws
+pub mod MostLaws
