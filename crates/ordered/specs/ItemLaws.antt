@@ -207,9 +207,10 @@ form-there list text (suc n) i e h = by-last (ltb i n) refl (λ f l. form-there 
 
 pub record-there : (list text : List ℕ) (i : ℕ) → listForm list text ≡ true → i < recordCount list → InForm list text (recordSize * i)
 unfolding listForm
-record-there list text i h l =
-    (let d = div-add-mod' (length list) recordSize in omega arith,
-    form-there list text (recordCount list) i (and-eq-true-iff (eqb (length list % recordSize) 0) (formUpTo list text (recordCount list)) .0 h .1) l)
+record-there list text i h l = (
+  let d = div-add-mod' (length list) recordSize in omega arith,
+  form-there list text (recordCount list) i (and-eq-true-iff (eqb (length list % recordSize) 0) (formUpTo list text (recordCount list)) .0 h .1) l,
+)
 
 module _ (test : Item → Bool) (list text : List ℕ) where
   pub none-yet : some test (itemsUpTo list text 0) ≡ false

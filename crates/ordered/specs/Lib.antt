@@ -13,4 +13,3 @@ pub mod Items
 pub mod ItemLaws
 pub mod InOrderLaws
 pub mod NumberLaws
-pub mod MostLaws
