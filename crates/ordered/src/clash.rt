@@ -10,7 +10,7 @@ use tree::geometry::height;
 use tree::geometry::piece_layer;
 use tree::values::layer_node;
 ghost use mathlib.Core.Path.{_≡_};
-ghost use mathlib.Core.Bool.{true, cond, not};
+ghost use mathlib.Core.Bool.{true, not};
 ghost use mathlib.Core.List.{map};
 ghost use Prim.Native.Nat.{_+_, _≤_};
 ghost use lib.ListN.{length};
