@@ -1,6 +1,6 @@
 // A list's files in two orders, by path and by root, and the number of its content.
 pub mod clash;
-mod compare;
+pub mod compare;
 mod element;
 pub mod items;
 pub mod meet;
