@@ -5,14 +5,14 @@ use Rattle.ordered.specs.OrderLaws.{placed-index}
 use Rattle.ordered.specs.StepsLaws.{neighbours-end, neighbours-stop, neighbours-on}
 use borrow.Author.Needs.{needs}
 use native.Mathlib.Omega.{arith}
-use Prim.Native.Nat.{_-_, _≤_}
+use Prim.Native.Nat.{_+_, _-_, _≤_}
 use lib.ListN.{length, drop}
 use mathlib.Core.Path.{_≡_, refl, sym, _∙_}
 use Rattle.ordered.proofs.meet.meets.Statement.{statement}
 use Rattle.ordered.proofs.meet.meets.Tie as tie
 
 abbrev Inv-loop : tie.InvT-loop
-Inv-loop list text at i₀ i = (i ≤ length at) × (neighbours leads (map (itemAt list text) at) ≡ neighbours leads (map (itemAt list text) (drop i at)))
+Inv-loop list text at i₀ i = (i ≤ length at + 1) × (neighbours leads (map (itemAt list text) at) ≡ neighbours leads (map (itemAt list text) (drop i at)))
 
 abbrev μ-loop : tie.MeasureT-loop
 μ-loop list text at i₀ i = length at - i
