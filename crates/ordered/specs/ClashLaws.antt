@@ -4,7 +4,7 @@ use mathlib.Core.Path.{_≡_, refl, sym, ap, ap₂, _∙_}
 use mathlib.Core.Bool.{Bool, true, false, cond, _||_, _&&_, not, false≢true, and-eq-true-iff}
 use mathlib.Core.Logic.{_⊎_, inl, inr}
 use mathlib.Core.List.{List, [], _∷_}
-use Prim.Native.Nat.{ℕ, suc, _<_}
+use Prim.Native.Nat.{ℕ, _<_}
 use native.Mathlib.Omega.{arith}
 use lib.Dec.{eqb, ltb}
 use borrow.Author.Tests.{eqb-true, eq-eqb, ltb-true, lt-ltb}
@@ -15,8 +15,8 @@ use Rattle.tree.specs.Values.{layerRoot}
 use Rattle.bencode.specs.Grammar.{precedes}
 use Rattle.sorting.specs.PrecedesLaws.{precedes-self, behind-trans}
 use Rattle.meaning.specs.Counting.{Member}
-use Rattle.publishing.specs.Content.{Item, Layer, layerBefore, withLayer, layersGiven}
-use Rattle.publishing.specs.Number.{some, oneRoot, twoLengths, givesOther, twoLayers}
+use Rattle.publishing.specs.Content.{Item, layerBefore, withLayer, layersGiven}
+use Rattle.publishing.specs.Number.{some, twoLengths, givesOther, twoLayers}
 use Rattle.publishing.specs.Refused.{OneRoot}
 use Rattle.publishing.specs.RefusedLaws.{pair-of}
 use Rattle.publishing.specs.SomeLaws.{or-left, or-right, or-one, both-ways, some-there, some-one}

@@ -1,14 +1,14 @@
 -- The tests of one file as the code makes them, from its record's parts; and of all files, one after the other.
 -- Assumes nothing.
-use mathlib.Core.Path.{_≡_, refl, sym, ap, ap₂, _∙_, subst}
-use mathlib.Core.Bool.{Bool, true, false, cond, _||_, _&&_, not, false≢true, and-eq-true-iff}
+use mathlib.Core.Path.{_≡_, refl, sym, ap, ap₂, _∙_}
+use mathlib.Core.Bool.{Bool, true, false, cond, _||_, _&&_, not, and-eq-true-iff}
 use mathlib.Core.List.{List, [], _∷_, _++_, append-nil}
-use Prim.Native.Nat.{ℕ, zero, suc, _+_, _-_, _*_, _/_, _%_, _^_, _≤_, _<_}
+use Prim.Native.Nat.{ℕ, zero, suc, _+_, _-_, _*_, _/_, _%_, _≤_, _<_}
 use native.Mathlib.Omega.{arith}
 use native.Mathlib.Nat.{div-add-mod'}
 use lib.ListN.{length, take, drop, length-drop, length-append}
 use lib.Seq.{append-snoc}
-use lib.Dec.{eqb, ltb, leb}
+use lib.Dec.{eqb, ltb}
 use borrow.Author.Tests.{eq-eqb, ne-eqb, eqb-true, eqb-false, lt-ltb, le-ltb, ltb-true, ltb-false, leb-true}
 use Rattle.limits.specs.Limits.{longestFile, maxLevels}
 use Rattle.octets.specs.Octets.{cut, same, numberAt, zeroHash}
@@ -17,13 +17,13 @@ use Rattle.tree.specs.Geometry.{hasLayer, pieceCount}
 use Rattle.tree.specs.Values.{padValue}
 use Rattle.meaning.specs.Torrent.{elementRight}
 use Rattle.publishing.specs.Content.{Item}
-use Rattle.publishing.specs.Number.{some, noElements, tooDeep, wrongItem, misfit, layerSize}
+use Rattle.publishing.specs.Number.{some, noElements, tooDeep, wrongItem, misfit}
 use Rattle.publishing.specs.SomeLaws.{or-left, or-right}
-use Rattle.lists.specs.Lists.{recordSize, elementsFit, elementsIn, partFits, itemAt, formAt, formUpTo, itemsUpTo, recordCount, listForm, contentOf}
+use Rattle.lists.specs.Lists.{recordSize, elementsFit, elementsIn, itemAt, formAt, formUpTo, itemsUpTo, recordCount, listForm, contentOf}
 use Rattle.lists.specs.ListsLaws.{slice-path, slice-fits}
 use Rattle.lists.specs.PathsLaws.{in-end, PathLeft, path-more, path-elements}
 use Rattle.ordered.specs.Order.{InForm}
-use Rattle.ordered.specs.CompareLaws.{FormParts, form-parts}
+use Rattle.ordered.specs.CompareLaws.{form-parts}
 
 -- ---- a path, element by element
 
@@ -207,9 +207,10 @@ form-there list text (suc n) i e h = by-last (ltb i n) refl (λ f l. form-there 
 
 pub record-there : (list text : List ℕ) (i : ℕ) → listForm list text ≡ true → i < recordCount list → InForm list text (recordSize * i)
 unfolding listForm
-record-there list text i h l =
-    (let d = div-add-mod' (length list) recordSize in omega arith,
-    form-there list text (recordCount list) i (and-eq-true-iff (eqb (length list % recordSize) 0) (formUpTo list text (recordCount list)) .0 h .1) l)
+record-there list text i h l = (
+  let d = div-add-mod' (length list) recordSize in omega arith,
+  form-there list text (recordCount list) i (and-eq-true-iff (eqb (length list % recordSize) 0) (formUpTo list text (recordCount list)) .0 h .1) l,
+)
 
 module _ (test : Item → Bool) (list text : List ℕ) where
   pub none-yet : some test (itemsUpTo list text 0) ≡ false

@@ -1,7 +1,7 @@
 -- The tests of 26 and 28 as the code makes them, from a record's parts.
 -- Assumes nothing.
 use mathlib.Core.Path.{_≡_, refl, sym, ap, ap₂, _∙_}
-use mathlib.Core.Bool.{Bool, true, false, cond, _&&_, not}
+use mathlib.Core.Bool.{Bool, true, false, _&&_, not}
 use mathlib.Core.List.{List}
 use Prim.Native.Nat.{ℕ, _+_, _-_, _*_, _^_, _≤_, _<_}
 use native.Mathlib.Omega.{arith}
@@ -14,7 +14,6 @@ use Rattle.octets.specs.OctetsLaws.{cut-length, same-refl}
 use Rattle.tree.specs.Geometry.{blockLength, blockCount, height, isPieceLength, pieceLayer, hasLayer}
 use Rattle.tree.specs.GeometryLaws.{piece-length-form, long-file-height}
 use Rattle.tree.specs.Values.{layerRoot, layerLeaf, node}
-use Rattle.publishing.specs.Content.{Item}
 use Rattle.lists.specs.Lists.{itemAt}
 use Rattle.ordered.specs.Neighbours.{agree, firstWrong, wrongNext}
 use Rattle.ordered.specs.CompareLaws.{root-slice, layer-slice}

@@ -1,16 +1,12 @@
 -- Two files of a list in tree order have one path, or one stands in a directory that the other is, only if two neighbours do.
 -- Assumes nothing.
 use mathlib.Core.Path.{_≡_, refl, sym, ap, ap₂, _∙_}
-use mathlib.Core.Bool.{Bool, true, false, cond, _||_, _&&_, false≢true, and-eq-true-iff}
-use mathlib.Core.Logic.{_⊎_, inl, inr}
-use mathlib.Core.List.{List, [], _∷_, map}
-use Prim.Native.Nat.{ℕ, zero, suc, _+_, _≤_, _<_}
-use native.Mathlib.Omega.{arith}
-use native.Mathlib.Numerals.{add-one}
-use lib.ListN.{length, getD, drop, drop-of-length-le}
-use lib.Seq.{drop-cons}
+use mathlib.Core.Bool.{Bool, true, false, _||_, _&&_, false≢true, and-eq-true-iff}
+use mathlib.Core.Logic.{inl, inr}
+use mathlib.Core.List.{List, [], _∷_}
+use Prim.Native.Nat.{ℕ}
 use Rattle.octets.specs.Octets.{same}
-use Rattle.octets.specs.OctetsLaws.{same-true, same-false, same-refl, same-eq}
+use Rattle.octets.specs.OctetsLaws.{same-true, same-false, same-eq}
 use Rattle.bencode.specs.Grammar.{precedes}
 use Rattle.sorting.specs.PrecedesLaws.{precedes-either}
 use Rattle.meaning.specs.Counting.{Member}
@@ -20,9 +16,6 @@ use Rattle.publishing.specs.SomeLaws.{or-left, or-one, both-ways, some-one}
 use Rattle.publishing.specs.SortingLaws.{Ordered, OrderedFrom, sorted-ordered, sorted-permuted}
 use Rattle.publishing.specs.OrderLaws.{path-either, path-one-way, path-behind}
 use Rattle.publishing.specs.AnyOrder.{begins-self, meet-permuted}
-use Rattle.lists.specs.Lists.{recordCount, itemAt, contentOf}
-use Rattle.ordered.specs.Order.{comes, positions}
-use Rattle.ordered.specs.OrderLaws.{by-path, content-there}
 use Rattle.ordered.specs.Neighbours.{followed, neighbours, leads}
 
 -- ---- a list in order: none stands before the first

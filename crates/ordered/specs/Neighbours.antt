@@ -1,6 +1,6 @@
 -- What two files that stand side by side say of a list in order.
 -- Assumes nothing.
-use mathlib.Core.Bool.{Bool, true, false, cond, _||_, _&&_, not}
+use mathlib.Core.Bool.{Bool, false, cond, _||_, _&&_, not}
 use mathlib.Core.List.{List, [], _∷_}
 use Prim.Native.Nat.{ℕ}
 use lib.Dec.{eqb, ltb}

@@ -1,9 +1,9 @@
 -- The number of a content by its tests, one after the other as the code makes them.
 -- Assumes nothing.
 use mathlib.Core.Path.{_≡_, refl, sym, ap, _∙_}
-use mathlib.Core.Bool.{Bool, true, false, cond, _||_, not, false≢true, and-eq-true-iff}
+use mathlib.Core.Bool.{Bool, true, false, cond, _||_, not, and-eq-true-iff}
 use mathlib.Core.List.{List, [], _∷_, _++_}
-use Prim.Native.Nat.{ℕ, zero, suc, _+_, _-_, _*_, _/_, _%_, _≤_, _<_}
+use Prim.Native.Nat.{ℕ, zero, suc, _+_, _*_, _%_, _≤_, _<_}
 use native.Mathlib.Omega.{arith}
 use native.Mathlib.Nat.{div-add-mod'}
 use lib.ListN.{length}
@@ -15,7 +15,6 @@ use Rattle.tree.specs.Geometry.{isPieceLength}
 use Rattle.bencode.specs.Grammar.{dictionary, encode}
 use Rattle.publishing.specs.Content.{Item, torrentOf}
 use Rattle.publishing.specs.Number.{some, tooDeep, wrongItem, meet, nothing, twoLengths, misfit, givesOther, twoLayers, contentNumber}
-use Rattle.publishing.specs.SomeLaws.{or-left, or-right}
 use Rattle.lists.specs.Lists.{recordSize, itemAt, formUpTo, itemsUpTo, recordCount, listForm, contentOf}
 
 -- ---- a list has a file exactly if it has a byte

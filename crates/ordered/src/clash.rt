@@ -1,7 +1,7 @@
 // 26 and 28 of files that stand by their roots, in runs of one root: files that are not empty have one length and one layer in a run, and
 // the first one's layer gives the root. So each root's layer is hashed once.
-use bencode::order::same;
 use crate::compare::index;
+use bencode::order::same;
 use octets::hash_at;
 use octets::number_at;
 use tree::geometry::block_count;
@@ -10,7 +10,7 @@ use tree::geometry::height;
 use tree::geometry::piece_layer;
 use tree::values::layer_node;
 ghost use mathlib.Core.Path.{_≡_};
-ghost use mathlib.Core.Bool.{true, cond, not};
+ghost use mathlib.Core.Bool.{true, not};
 ghost use mathlib.Core.List.{map};
 ghost use Prim.Native.Nat.{_+_, _≤_};
 ghost use lib.ListN.{length};
@@ -98,7 +98,15 @@ fn agrees(list: &[u8], text: &[u8], layers: bool, p: usize, q: usize) -> bool
 }
 
 // Whether something is wrong at the file of the record at q, which follows the one at p if one was seen.
-fn wrong_next(list: &[u8], text: &[u8], plen: usize, layers: bool, seen: bool, p: usize, q: usize) -> bool
+fn wrong_next(
+    list: &[u8],
+    text: &[u8],
+    plen: usize,
+    layers: bool,
+    seen: bool,
+    p: usize,
+    q: usize,
+) -> bool
     requires { ⌜ (seen ≡ true → InForm (now list) (now text) p) × InForm (now list) (now text) q × (layers ≡ true → isPieceLength plen ≡ true) ⌝ }
     ensures { λ r. ⌜ r ≡ wrongNext layers plen seen (itemAt (now (list .entry)) (now (text .entry)) p) (itemAt (now (list .entry)) (now (text .entry)) q) ⌝ }
 {

@@ -17,7 +17,14 @@ ghost use Rattle.ordered.specs.Order.{rootBefore, InOrder};
 
 // The lowest number that holds of a list's content, or 0, where `size` is the size of its torrent with some name, `at` has the records'
 // positions by root, and `meets` says whether two files meet.
-pub fn content_number(list: &[u8], text: &[u8], plen: usize, at: &[u32], size: usize, meets: bool) -> u32
+pub fn content_number(
+    list: &[u8],
+    text: &[u8],
+    plen: usize,
+    at: &[u32],
+    size: usize,
+    meets: bool,
+) -> u32
     requires { ⌜ (listForm (now list) (now text) ≡ true) × InOrder rootBefore (now list) (now text) (now at) × (meets ≡ P.meet (contentOf (now list) (now text))) ⌝ }
     ensures { λ r. ⌜ ((name : List ℕ) → size ≡ length (encode (dictionary (torrentOf plen name (contentOf (now (list .entry)) (now (text .entry))))))
         → r ≡ contentNumber plen name (contentOf (now (list .entry)) (now (text .entry)))) ⌝ }

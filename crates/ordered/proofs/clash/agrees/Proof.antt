@@ -1,33 +1,21 @@
 use Rattle.ordered.specs.LayerLaws.{layers-agree, lengths-agree}
-use native.Mathlib.Omega.{arith}
-use Prim.Native.Nat.{ℕ, _+_, _-_, _*_, _≤_, _<_, _/_, _%_, _^_}
-use lib.ListN.{length, getD, set, take, drop}
-use mathlib.Core.Path.{_≡_, refl, ap, sym, _∙_}
+use Prim.Native.Nat.{_-_}
 use borrow.Author.Needs.{needs}
 use Rattle.ordered.proofs.clash.agrees.Statement.{statement}
 use Rattle.ordered.proofs.clash.agrees.Tie as tie
-use Rattle.ordered.proofs.clash.agrees.Reads as reads
-use Rattle.ordered.proofs.clash.agrees.Lts as lts
-use Rattle.octets.proofs.number_at.Reads as number-at-reads
-use Rattle.ordered.proofs.clash.one_layer.Reads as one-layer-reads
 
--- src/clash.rt:93:9
 one-layer-requires : tie.Need-one-layer-requires
 one-layer-requires c κs = search needs
 
--- src/clash.rt:93:9
 returns : tie.Need-returns
 returns c = let k = c .before .before .before .before .args in layers-agree (k .list .now) (k .text .now) (k .layers) (k .p) (k .q) (c .before .if1 .taken) _ (c .one-layer .ensures)
 
--- src/clash.rt:95:9
 number-at-requires : tie.Need-number-at-requires
 number-at-requires c κs = search needs
 
--- src/clash.rt:96:9
 number-at-requires-2 : tie.Need-number-at-requires-2
 number-at-requires-2 c κs = search needs
 
--- src/clash.rt:88:1
 returns-2 : tie.Need-returns-2
 returns-2 c = let k = c .before .before .before .before .before .args in lengths-agree (k .list .now) (k .text .now) (k .layers) (k .p) (k .q) (c .before .before .if1 .left) _ _ (c .before .number-at .ensures .0) (c .number-at2 .ensures .0)
 

@@ -1,100 +1,72 @@
 use Rattle.ordered.specs.CompareLaws.{layer-end}
 use borrow.Author.Tests.{not-true, not-false}
 use Rattle.ordered.specs.LayerLaws.{not-looked, no-layer, layer-gives, layer-does-not, root-length}
-use native.Mathlib.Omega.{arith}
-use Prim.Native.Nat.{ℕ, _+_, _-_, _*_, _≤_, _<_, _/_, _%_, _^_}
-use lib.ListN.{length, getD, set, take, drop}
-use mathlib.Core.Path.{_≡_, refl, ap, sym, _∙_}
+use Prim.Native.Nat.{_-_}
+use mathlib.Core.Path.{sym, _∙_}
 use borrow.Author.Needs.{needs}
 use Rattle.ordered.proofs.clash.first_wrong.Statement.{statement}
 use Rattle.ordered.proofs.clash.first_wrong.Tie as tie
-use Rattle.ordered.proofs.clash.first_wrong.Reads as reads
-use Rattle.ordered.proofs.clash.first_wrong.Lts as lts
-use Rattle.octets.proofs.number_at.Reads as number-at-reads
-use Rattle.ordered.proofs.clash.gives_root.Reads as gives-root-reads
-use Rattle.tree.proofs.geometry.has_layer.Reads as has-layer-reads
 
--- src/clash.rt:56:9
 returns : tie.Need-returns
 returns c = let k = c .before .before .before .args in not-looked (k .list .now) (k .text .now) (k .plen) (k .layers) (k .p) (not-true _ (c .if1 .taken))
 
--- src/clash.rt:58:9
 number-at-requires : tie.Need-number-at-requires
 number-at-requires c κs = search needs
 
--- src/clash.rt:59:9
 has-layer-requires : tie.Need-has-layer-requires
 has-layer-requires c κs = search needs
 
--- src/clash.rt:60:9
 returns-2 : tie.Need-returns-2
 returns-2 c = let k = c .before .before .before .before .before .before .args in no-layer (k .list .now) (k .text .now) (k .plen) (k .layers) (k .p) (not-false _ (c .before .before .before .if1 .left)) _ (c .before .before .number-at .ensures .0) _ (c .before .has-layer .ensures) (not-true _ (c .if2 .taken))
 
--- src/clash.rt:62:29
 add-number-at : tie.Need-add-number-at
 add-number-at c = search needs
 
--- src/clash.rt:62:9
 number-at-requires-2 : tie.Need-number-at-requires-2
 number-at-requires-2 c κs = search needs
 
--- src/clash.rt:63:29
 add-number-at-2 : tie.Need-add-number-at-2
 add-number-at-2 c = search needs
 
--- src/clash.rt:63:29
 add-number-at-3 : tie.Need-add-number-at-3
 add-number-at-3 c = search needs
 
--- src/clash.rt:63:9
 number-at-requires-3 : tie.Need-number-at-requires-3
 number-at-requires-3 c κs = search needs
 
--- src/clash.rt:64:28
 add-gives-root : tie.Need-add-gives-root
 add-gives-root c = search needs
 
--- src/clash.rt:64:19
 sub-gives-root : tie.Need-sub-gives-root
 sub-gives-root c = search needs
 
--- src/clash.rt:64:19
 part-gives-root-start : tie.Need-part-gives-root-start
 part-gives-root-start c = search needs
 
--- src/clash.rt:64:19
 part-gives-root-end : tie.Need-part-gives-root-end
 part-gives-root-end c = let k = c .before .before .before .before .before .before .before .before in layer-end (k .args .list .now) (k .args .text .now) (k .args .p) _ _ (k .pre .0 .1) (c .before .number-at2 .ensures .0) (c .number-at3 .ensures .0)
 
--- src/clash.rt:64:51
 add-gives-root-2 : tie.Need-add-gives-root-2
 add-gives-root-2 c = search needs
 
--- src/clash.rt:64:58
 add-gives-root-3 : tie.Need-add-gives-root-3
 add-gives-root-3 c = search needs
 
--- src/clash.rt:64:45
 sub-gives-root-2 : tie.Need-sub-gives-root-2
 sub-gives-root-2 c = search needs
 
--- src/clash.rt:64:45
 part-gives-root-start-2 : tie.Need-part-gives-root-start-2
 part-gives-root-start-2 c = search needs
 
--- src/clash.rt:64:45
 part-gives-root-end-2 : tie.Need-part-gives-root-end-2
 part-gives-root-end-2 c = search needs
 
--- src/clash.rt:64:8
 gives-root-requires : tie.Need-gives-root-requires
 gives-root-requires c κs = let k = c .before .before .before .before .before .before .before .before .before .before in (k .pre .1 (not-false _ (c .before .before .before .before .before .before .before .if1 .left)), sym (c .before .before .before .before .before .has-layer .ensures) ∙ not-false _ (c .before .before .before .before .if2 .left), root-length (k .args .list .now) (k .args .p) (k .pre .0 .0))
 
--- src/clash.rt:65:9
 returns-3 : tie.Need-returns-3
 returns-3 c = let k = c .before .before .before .before .before .before .before .before .before .before .before .before .args in layer-gives (k .list .now) (k .text .now) (k .plen) (k .layers) (k .p) (not-false _ (c .before .before .before .before .before .before .before .before .before .if1 .left)) _ (c .before .before .before .before .before .before .before .before .number-at .ensures .0) _ (c .before .before .before .before .before .before .before .has-layer .ensures) (not-false _ (c .before .before .before .before .before .before .if2 .left)) _ _ (c .before .before .before .before .before .number-at2 .ensures .0) (c .before .before .before .before .number-at3 .ensures .0) _ (c .before .gives-root .ensures) (c .if3 .taken)
 
--- src/clash.rt:51:1
 returns-4 : tie.Need-returns-4
 returns-4 c = let k = c .before .before .before .before .before .before .before .before .before .before .before .before .args in layer-does-not (k .list .now) (k .text .now) (k .plen) (k .layers) (k .p) (not-false _ (c .before .before .before .before .before .before .before .before .before .if1 .left)) _ (c .before .before .before .before .before .before .before .before .number-at .ensures .0) _ (c .before .before .before .before .before .before .before .has-layer .ensures) (not-false _ (c .before .before .before .before .before .before .if2 .left)) _ _ (c .before .before .before .before .before .number-at2 .ensures .0) (c .before .before .before .before .number-at3 .ensures .0) _ (c .before .gives-root .ensures) (c .if3 .left)
 

@@ -1,98 +1,70 @@
 use Rattle.ordered.specs.CompareLaws.{layer-end}
 use Rattle.ordered.specs.LayerLaws.{one-part, parts-compared}
-use native.Mathlib.Omega.{arith}
-use Prim.Native.Nat.{ℕ, _+_, _-_, _*_, _≤_, _<_, _/_, _%_, _^_}
-use lib.ListN.{length, getD, set, take, drop}
-use mathlib.Core.Path.{_≡_, refl, ap, sym, _∙_}
+use Prim.Native.Nat.{_-_}
 use borrow.Author.Needs.{needs}
 use Rattle.ordered.proofs.clash.one_layer.Statement.{statement}
 use Rattle.ordered.proofs.clash.one_layer.Tie as tie
-use Rattle.ordered.proofs.clash.one_layer.Reads as reads
-use Rattle.ordered.proofs.clash.one_layer.Lts as lts
-use Rattle.bencode.proofs.order.same.Reads as same-reads
-use Rattle.octets.proofs.number_at.Reads as number-at-reads
 
--- src/clash.rt:75:29
 add-number-at : tie.Need-add-number-at
 add-number-at c = search needs
 
--- src/clash.rt:75:9
 number-at-requires : tie.Need-number-at-requires
 number-at-requires c κs = search needs
 
--- src/clash.rt:76:29
 add-number-at-2 : tie.Need-add-number-at-2
 add-number-at-2 c = search needs
 
--- src/clash.rt:76:29
 add-number-at-3 : tie.Need-add-number-at-3
 add-number-at-3 c = search needs
 
--- src/clash.rt:76:9
 number-at-requires-2 : tie.Need-number-at-requires-2
 number-at-requires-2 c κs = search needs
 
--- src/clash.rt:77:29
 add-number-at-4 : tie.Need-add-number-at-4
 add-number-at-4 c = search needs
 
--- src/clash.rt:77:9
 number-at-requires-3 : tie.Need-number-at-requires-3
 number-at-requires-3 c κs = search needs
 
--- src/clash.rt:78:29
 add-number-at-5 : tie.Need-add-number-at-5
 add-number-at-5 c = search needs
 
--- src/clash.rt:78:29
 add-number-at-6 : tie.Need-add-number-at-6
 add-number-at-6 c = search needs
 
--- src/clash.rt:78:9
 number-at-requires-4 : tie.Need-number-at-requires-4
 number-at-requires-4 c κs = search needs
 
--- src/clash.rt:81:13
 returns : tie.Need-returns
 returns c = let k = c .before .before .before .before .before .before .before .before .args in one-part (k .list .now) (k .text .now) (k .p) (k .q) _ _ _ _ (c .before .before .before .before .before .number-at .ensures .0) (c .before .before .before .before .number-at2 .ensures .0) (c .before .before .before .number-at3 .ensures .0) (c .before .before .number-at4 .ensures .0) (c .before .if1 .taken) (c .if2 .taken)
 
--- src/clash.rt:84:19
 add-same : tie.Need-add-same
 add-same c = search needs
 
--- src/clash.rt:84:10
 sub-same : tie.Need-sub-same
 sub-same c = search needs
 
--- src/clash.rt:84:10
 part-same-start : tie.Need-part-same-start
 part-same-start c = search needs
 
--- src/clash.rt:84:10
 part-same-end : tie.Need-part-same-end
 part-same-end c = let k = c .before .before .before .before .before .before .before in layer-end (k .args .list .now) (k .args .text .now) (k .args .p) _ _ (k .pre .0 .1) (c .before .before .before .before .number-at .ensures .0) (c .before .before .before .number-at2 .ensures .0)
 
--- src/clash.rt:84:36
 add-same-2 : tie.Need-add-same-2
 add-same-2 c = search needs
 
--- src/clash.rt:84:27
 sub-same-2 : tie.Need-sub-same-2
 sub-same-2 c = search needs
 
--- src/clash.rt:84:27
 part-same-start-2 : tie.Need-part-same-start-2
 part-same-start-2 c = search needs
 
--- src/clash.rt:84:27
 part-same-end-2 : tie.Need-part-same-end-2
 part-same-end-2 c = let k = c .before .before .before .before .before .before .before .before in layer-end (k .args .list .now) (k .args .text .now) (k .args .q) _ _ (k .pre .1 .1) (c .before .before .before .number-at3 .ensures .0) (c .before .before .number-at4 .ensures .0)
 
--- src/clash.rt:84:5
 same-requires : tie.Need-same-requires
 same-requires c κs = search needs
 
--- src/clash.rt:71:1
 returns-2 : tie.Need-returns-2
 returns-2 c = let k = c .before .before .before .before .before .before .before .before .before .before .args in parts-compared (k .list .now) (k .text .now) (k .p) (k .q) _ _ _ _ (c .before .before .before .before .before .before .before .number-at .ensures .0) (c .before .before .before .before .before .before .number-at2 .ensures .0) (c .before .before .before .before .before .number-at3 .ensures .0) (c .before .before .before .before .number-at4 .ensures .0) _ (c .same .ensures)
 

@@ -1,88 +1,63 @@
 use mathlib.Core.Bool.{not}
 use borrow.Author.Tests.{not-true, not-false}
 use Rattle.ordered.specs.LayerLaws.{none-seen, other-run, same-run}
-use native.Mathlib.Omega.{arith}
-use Prim.Native.Nat.{ℕ, _+_, _-_, _*_, _≤_, _<_, _/_, _%_, _^_}
-use lib.ListN.{length, getD, set, take, drop}
-use mathlib.Core.Path.{_≡_, refl, ap, sym, _∙_}
+use Prim.Native.Nat.{_-_}
+use mathlib.Core.Path.{ap, sym, _∙_}
 use borrow.Author.Needs.{needs}
 use Rattle.ordered.proofs.clash.wrong_next.Statement.{statement}
 use Rattle.ordered.proofs.clash.wrong_next.Tie as tie
-use Rattle.ordered.proofs.clash.wrong_next.Reads as reads
-use Rattle.ordered.proofs.clash.wrong_next.Lts as lts
-use Rattle.bencode.proofs.order.same.Reads as same-reads
-use Rattle.ordered.proofs.clash.agrees.Reads as agrees-reads
-use Rattle.ordered.proofs.clash.first_wrong.Reads as first-wrong-reads
 
--- src/clash.rt:106:9
 first-wrong-requires : tie.Need-first-wrong-requires
 first-wrong-requires c κs = search needs
 
--- src/clash.rt:106:9
 returns : tie.Need-returns
 returns c = let k = c .before .before .before .before .args in none-seen (k .list .now) (k .text .now) (k .plen) (k .layers) (k .seen) (k .p) (k .q) (not-true _ (c .before .if1 .taken)) _ (c .first-wrong .ensures)
 
--- src/clash.rt:108:20
 add-same : tie.Need-add-same
 add-same c = let w = c .before .before .before .pre .0 (not-false _ (c .if1 .left)) .0 in search needs
 
--- src/clash.rt:108:27
 add-same-2 : tie.Need-add-same-2
 add-same-2 c = let w = c .before .before .before .pre .0 (not-false _ (c .if1 .left)) .0 in search needs
 
--- src/clash.rt:108:14
 sub-same : tie.Need-sub-same
 sub-same c = search needs
 
--- src/clash.rt:108:14
 part-same-start : tie.Need-part-same-start
 part-same-start c = search needs
 
--- src/clash.rt:108:14
 part-same-end : tie.Need-part-same-end
 part-same-end c = let w = c .before .before .before .pre .0 (not-false _ (c .if1 .left)) .0 in search needs
 
--- src/clash.rt:108:42
 add-same-3 : tie.Need-add-same-3
 add-same-3 c = search needs
 
--- src/clash.rt:108:49
 add-same-4 : tie.Need-add-same-4
 add-same-4 c = search needs
 
--- src/clash.rt:108:36
 sub-same-2 : tie.Need-sub-same-2
 sub-same-2 c = search needs
 
--- src/clash.rt:108:36
 part-same-start-2 : tie.Need-part-same-start-2
 part-same-start-2 c = search needs
 
--- src/clash.rt:108:36
 part-same-end-2 : tie.Need-part-same-end-2
 part-same-end-2 c = search needs
 
--- src/clash.rt:108:9
 same-requires : tie.Need-same-requires
 same-requires c κs = search needs
 
--- src/clash.rt:109:9
 first-wrong-requires-2 : tie.Need-first-wrong-requires-2
 first-wrong-requires-2 c κs = search needs
 
--- src/clash.rt:109:9
 returns-2 : tie.Need-returns-2
 returns-2 c = let k = c .before .before .before .before .before .before .before .before .args in other-run (k .list .now) (k .text .now) (k .plen) (k .layers) (k .seen) (k .p) (k .q) (not-false _ (c .before .before .before .before .before .if1 .left)) _ (c .before .before .same .ensures) (not-true _ (c .before .if2 .taken)) _ (c .first-wrong2 .ensures)
 
--- src/clash.rt:111:8
 agrees-requires : tie.Need-agrees-requires
 agrees-requires c κs = (c .before .before .before .before .before .before .before .pre .0 (not-false _ (c .before .before .before .before .if1 .left)), c .before .before .before .before .before .before .before .pre .1)
 
--- src/clash.rt:112:9
 returns-3 : tie.Need-returns-3
 returns-3 c = let k = c .before .before .before .before .before .before .before .before .before .args in sym (ap not (c .if3 .taken)) ∙ same-run (k .list .now) (k .text .now) (k .plen) (k .layers) (k .seen) (k .p) (k .q) (not-false _ (c .before .before .before .before .before .before .if1 .left)) _ (c .before .before .before .same .ensures) (not-false _ (c .before .before .if2 .left)) _ (c .before .agrees .ensures)
 
--- src/clash.rt:101:1
 returns-4 : tie.Need-returns-4
 returns-4 c = let k = c .before .before .before .before .before .before .before .before .before .args in sym (ap not (c .if3 .left)) ∙ same-run (k .list .now) (k .text .now) (k .plen) (k .layers) (k .seen) (k .p) (k .q) (not-false _ (c .before .before .before .before .before .before .if1 .left)) _ (c .before .before .before .same .ensures) (not-false _ (c .before .before .if2 .left)) _ (c .before .agrees .ensures)
 

@@ -1,18 +1,14 @@
 use Rattle.ordered.specs.ItemLaws.{record-there, none-yet, none-so-far, one-there, content-some}
 use Rattle.ordered.specs.Items.{fails}
-use Rattle.lists.specs.Lists.{itemsUpTo, recordCount}
+use Rattle.lists.specs.Lists.{itemsUpTo}
 use mathlib.Core.Bool.{false}
 use Rattle.publishing.specs.Number.{some}
 use borrow.Author.Needs.{needs}
 use native.Mathlib.Omega.{arith}
-use Prim.Native.Nat.{ℕ, _+_, _-_, _*_, _≤_, _<_, _/_, _%_, _^_}
-use lib.ListN.{length, getD, set, take, drop}
-use mathlib.Core.Path.{_≡_, refl, ap, sym, _∙_}
+use Prim.Native.Nat.{_-_, _≤_}
+use mathlib.Core.Path.{_≡_, refl, sym, _∙_}
 use Rattle.ordered.proofs.items.one_fails.Statement.{statement}
 use Rattle.ordered.proofs.items.one_fails.Tie as tie
-use Rattle.ordered.proofs.items.one_fails.Reads as reads
-use Rattle.ordered.proofs.items.one_fails.Lts as lts
-use Rattle.ordered.proofs.items.failing.Reads as failing-reads
 
 abbrev Inv-loop : tie.InvT-loop
 Inv-loop list text plen test n i₀ i = (i ≤ n) × (some (fails plen test) (itemsUpTo list text i) ≡ false)
@@ -20,35 +16,27 @@ Inv-loop list text plen test n i₀ i = (i ≤ n) × (some (fails plen test) (it
 abbrev μ-loop : tie.MeasureT-loop
 μ-loop list text plen test n i₀ i = n - i
 
--- src/items.rt:134:5
 loop-holds : tie.Need-loop-holds Inv-loop μ-loop
 loop-holds c = let k = c .before .before .args in (omega arith, none-yet (fails (k .plen) (k .test)) (k .list .now) (k .text .now))
 
--- src/items.rt:135:44
 mul-failing : tie.Need-mul-failing Inv-loop μ-loop
 mul-failing c = search needs
 
--- src/items.rt:135:12
 failing-requires : tie.Need-failing-requires Inv-loop μ-loop
 failing-requires c κs = let k = c .before .before .before .before in record-there (k .args .list .now) (k .args .text .now) (c .before .loop .i) (k .pre) (c .loop-test .taken)
 
--- src/items.rt:136:13
 returns : tie.Need-returns Inv-loop μ-loop
 returns c = let k = c .before .before .before .before .before .before .args in let t = fails (k .plen) (k .test) in content-some t (k .list .now) (k .text .now) _ _ refl (sym (one-there t (k .list .now) (k .text .now) _ (c .before .before .before .loop .i) (c .before .before .loop-test .taken) (sym (c .before .failing .ensures) ∙ c .if1 .taken)))
 
--- src/items.rt:138:9
 add-i : tie.Need-add-i Inv-loop μ-loop
 add-i c = search needs
 
--- src/items.rt:134:5
 loop-less : tie.Need-loop-less Inv-loop μ-loop
 loop-less c = search needs
 
--- src/items.rt:134:5
 loop-again : tie.Need-loop-again Inv-loop μ-loop
 loop-again c = let k = c .before .before .before .before .before .before .args in (omega arith, none-so-far (fails (k .plen) (k .test)) (k .list .now) (k .text .now) (c .before .before .before .loop .i) (c .before .before .before .loop .inv .1) (sym (c .before .failing .ensures) ∙ c .if1 .left))
 
--- src/items.rt:128:1
 returns-2 : tie.Need-returns-2 Inv-loop μ-loop
 returns-2 c = let k = c .before .before .before .before .args in content-some (fails (k .plen) (k .test)) (k .list .now) (k .text .now) (c .before .loop .i) _ (omega arith) (sym (c .before .loop .inv .1))
 

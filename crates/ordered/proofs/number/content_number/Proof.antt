@@ -3,80 +3,57 @@ use borrow.Author.Tests.{not-true, not-false}
 use Rattle.ordered.specs.InOrderLaws.{lengths-told, layers-told}
 use Rattle.ordered.specs.NumberLaws.{no-bytes, some-bytes, is-large, is-deep, is-out-of-range, has-none, is-meeting, has-wrong, has-lengths, has-misfit, layers-differ, nothing-wrong}
 use Rattle.lists.specs.Lists.{contentOf}
-use native.Mathlib.Omega.{arith}
-use Prim.Native.Nat.{ℕ, _+_, _-_, _*_, _≤_, _<_, _/_, _%_, _^_}
-use lib.ListN.{length, getD, set, take, drop}
-use mathlib.Core.Path.{_≡_, refl, ap, sym, _∙_}
+use Prim.Native.Nat.{_-_}
+use mathlib.Core.Path.{sym, _∙_}
 use borrow.Author.Needs.{needs}
 use Rattle.ordered.proofs.number.content_number.Statement.{statement}
 use Rattle.ordered.proofs.number.content_number.Tie as tie
-use Rattle.ordered.proofs.number.content_number.Reads as reads
-use Rattle.ordered.proofs.number.content_number.Lts as lts
-use Rattle.ordered.proofs.clash.clashes.Reads as clashes-reads
-use Rattle.ordered.proofs.items.one_fails.Reads as one-fails-reads
-use Rattle.tree.proofs.geometry.is_piece_length.Reads as is-piece-length-reads
 
--- src/number.rt:26:9
 returns : tie.Need-returns
 returns c = let k = c .before .before .before .before in let l = k .args .list .now in let t = k .args .text .now in let p = k .args .plen in let o = k .pre .1 in λ name e. is-large p name (contentOf l t) (k .args .size) e (c .if1 .taken)
 
--- src/number.rt:28:8
 one-fails-requires : tie.Need-one-fails-requires
 one-fails-requires c κs = search needs
 
--- src/number.rt:29:9
 returns-2 : tie.Need-returns-2
 returns-2 c = let k = c .before .before .before .before .before .before in let l = k .args .list .now in let t = k .args .text .now in let p = k .args .plen in let o = k .pre .1 in λ name e. is-deep p name (contentOf l t) (k .args .size) e (c .before .before .if1 .left) (sym (c .before .one-fails .ensures) ∙ c .if2 .taken)
 
--- src/number.rt:31:9
 is-piece-length-requires : tie.Need-is-piece-length-requires
 is-piece-length-requires c κs = search needs
 
--- src/number.rt:32:9
 returns-3 : tie.Need-returns-3
 returns-3 c = let k = c .before .before .before .before .before .before .before .before in let l = k .args .list .now in let t = k .args .text .now in let p = k .args .plen in let o = k .pre .1 in λ name e. is-out-of-range p name (contentOf l t) (k .args .size) e (c .before .before .before .before .if1 .left) (sym (c .before .before .before .one-fails .ensures) ∙ c .before .before .if2 .left) (sym (c .before .is-piece-length .ensures) ∙ not-true _ (c .if3 .taken))
 
--- src/number.rt:35:9
 returns-4 : tie.Need-returns-4
 returns-4 c = let k = c .before .before .before .before .before .before .before .before .before in let l = k .args .list .now in let t = k .args .text .now in let p = k .args .plen in let o = k .pre .1 in λ name e. has-none p name (contentOf l t) (k .args .size) e (c .before .before .before .before .before .if1 .left) (sym (c .before .before .before .before .one-fails .ensures) ∙ c .before .before .before .if2 .left) (sym (c .before .before .is-piece-length .ensures) ∙ not-false _ (c .before .if3 .left)) (no-bytes l t (c .if4 .taken))
 
--- src/number.rt:38:9
 returns-5 : tie.Need-returns-5
 returns-5 c = let k = c .before .before .before .before .before .before .before .before .before .before in let l = k .args .list .now in let t = k .args .text .now in let p = k .args .plen in let o = k .pre .1 in λ name e. is-meeting p name (contentOf l t) (k .args .size) e (c .before .before .before .before .before .before .if1 .left) (sym (c .before .before .before .before .before .one-fails .ensures) ∙ c .before .before .before .before .if2 .left) (sym (c .before .before .before .is-piece-length .ensures) ∙ not-false _ (c .before .before .if3 .left)) (some-bytes l t (k .pre .0) (c .before .if4 .left)) (sym (k .pre .2) ∙ c .if5 .taken)
 
--- src/number.rt:40:8
 one-fails-requires-2 : tie.Need-one-fails-requires-2
 one-fails-requires-2 c κs = search needs
 
--- src/number.rt:41:9
 returns-6 : tie.Need-returns-6
 returns-6 c = let k = c .before .before .before .before .before .before .before .before .before .before .before .before in let l = k .args .list .now in let t = k .args .text .now in let p = k .args .plen in let o = k .pre .1 in λ name e. has-wrong p name (contentOf l t) (k .args .size) e (c .before .before .before .before .before .before .before .before .if1 .left) (sym (c .before .before .before .before .before .before .before .one-fails .ensures) ∙ c .before .before .before .before .before .before .if2 .left) (sym (c .before .before .before .before .before .is-piece-length .ensures) ∙ not-false _ (c .before .before .before .before .if3 .left)) (some-bytes l t (k .pre .0) (c .before .before .before .if4 .left)) (sym (k .pre .2) ∙ c .before .before .if5 .left) (sym (c .before .one-fails2 .ensures) ∙ c .if6 .taken)
 
--- src/number.rt:43:8
 clashes-requires : tie.Need-clashes-requires
 clashes-requires c κs = (c .before .before .before .before .before .before .before .before .before .before .before .before .pre .1 .placed, λ z. absurd (false≢true z))
 
--- src/number.rt:44:9
 returns-7 : tie.Need-returns-7
 returns-7 c = let k = c .before .before .before .before .before .before .before .before .before .before .before .before .before .before in let l = k .args .list .now in let t = k .args .text .now in let p = k .args .plen in let o = k .pre .1 in λ name e. has-lengths p name (contentOf l t) (k .args .size) e (c .before .before .before .before .before .before .before .before .before .before .if1 .left) (sym (c .before .before .before .before .before .before .before .before .before .one-fails .ensures) ∙ c .before .before .before .before .before .before .before .before .if2 .left) (sym (c .before .before .before .before .before .before .before .is-piece-length .ensures) ∙ not-false _ (c .before .before .before .before .before .before .if3 .left)) (some-bytes l t (k .pre .0) (c .before .before .before .before .before .if4 .left)) (sym (k .pre .2) ∙ c .before .before .before .before .if5 .left) (sym (c .before .before .before .one-fails2 .ensures) ∙ c .before .before .if6 .left) (sym (lengths-told l t _ o p) ∙ sym (c .before .clashes .ensures) ∙ c .if7 .taken)
 
--- src/number.rt:46:8
 one-fails-requires-3 : tie.Need-one-fails-requires-3
 one-fails-requires-3 c κs = search needs
 
--- src/number.rt:47:9
 returns-8 : tie.Need-returns-8
 returns-8 c = let k = c .before .before .before .before .before .before .before .before .before .before .before .before .before .before .before .before in let l = k .args .list .now in let t = k .args .text .now in let p = k .args .plen in let o = k .pre .1 in λ name e. has-misfit p name (contentOf l t) (k .args .size) e (c .before .before .before .before .before .before .before .before .before .before .before .before .if1 .left) (sym (c .before .before .before .before .before .before .before .before .before .before .before .one-fails .ensures) ∙ c .before .before .before .before .before .before .before .before .before .before .if2 .left) (sym (c .before .before .before .before .before .before .before .before .before .is-piece-length .ensures) ∙ not-false _ (c .before .before .before .before .before .before .before .before .if3 .left)) (some-bytes l t (k .pre .0) (c .before .before .before .before .before .before .before .if4 .left)) (sym (k .pre .2) ∙ c .before .before .before .before .before .before .if5 .left) (sym (c .before .before .before .before .before .one-fails2 .ensures) ∙ c .before .before .before .before .if6 .left) (sym (lengths-told l t _ o p) ∙ sym (c .before .before .before .clashes .ensures) ∙ c .before .before .if7 .left) (sym (c .before .one-fails3 .ensures) ∙ c .if8 .taken)
 
--- src/number.rt:49:8
 clashes-requires-2 : tie.Need-clashes-requires-2
 clashes-requires-2 c κs = (c .before .before .before .before .before .before .before .before .before .before .before .before .before .before .before .before .pre .1 .placed, λ z. sym (c .before .before .before .before .before .before .before .before .before .is-piece-length .ensures) ∙ not-false _ (c .before .before .before .before .before .before .before .before .if3 .left))
 
--- src/number.rt:50:9
 returns-9 : tie.Need-returns-9
 returns-9 c = let k = c .before .before .before .before .before .before .before .before .before .before .before .before .before .before .before .before .before .before in let l = k .args .list .now in let t = k .args .text .now in let p = k .args .plen in let o = k .pre .1 in λ name e. layers-differ p name (contentOf l t) (k .args .size) e (c .before .before .before .before .before .before .before .before .before .before .before .before .before .before .if1 .left) (sym (c .before .before .before .before .before .before .before .before .before .before .before .before .before .one-fails .ensures) ∙ c .before .before .before .before .before .before .before .before .before .before .before .before .if2 .left) (sym (c .before .before .before .before .before .before .before .before .before .before .before .is-piece-length .ensures) ∙ not-false _ (c .before .before .before .before .before .before .before .before .before .before .if3 .left)) (some-bytes l t (k .pre .0) (c .before .before .before .before .before .before .before .before .before .if4 .left)) (sym (k .pre .2) ∙ c .before .before .before .before .before .before .before .before .if5 .left) (sym (c .before .before .before .before .before .before .before .one-fails2 .ensures) ∙ c .before .before .before .before .before .before .if6 .left) (sym (lengths-told l t _ o p) ∙ sym (c .before .before .before .before .before .clashes .ensures) ∙ c .before .before .before .before .if7 .left) (sym (c .before .before .before .one-fails3 .ensures) ∙ c .before .before .if8 .left) (sym (layers-told l t _ o p (sym (lengths-told l t _ o p) ∙ sym (c .before .before .before .before .before .clashes .ensures) ∙ c .before .before .before .before .if7 .left)) ∙ sym (c .before .clashes2 .ensures) ∙ c .if9 .taken)
 
--- src/number.rt:20:1
 returns-10 : tie.Need-returns-10
 returns-10 c = let k = c .before .before .before .before .before .before .before .before .before .before .before .before .before .before .before .before .before .before in let l = k .args .list .now in let t = k .args .text .now in let p = k .args .plen in let o = k .pre .1 in λ name e. nothing-wrong p name (contentOf l t) (k .args .size) e (c .before .before .before .before .before .before .before .before .before .before .before .before .before .before .if1 .left) (sym (c .before .before .before .before .before .before .before .before .before .before .before .before .before .one-fails .ensures) ∙ c .before .before .before .before .before .before .before .before .before .before .before .before .if2 .left) (sym (c .before .before .before .before .before .before .before .before .before .before .before .is-piece-length .ensures) ∙ not-false _ (c .before .before .before .before .before .before .before .before .before .before .if3 .left)) (some-bytes l t (k .pre .0) (c .before .before .before .before .before .before .before .before .before .if4 .left)) (sym (k .pre .2) ∙ c .before .before .before .before .before .before .before .before .if5 .left) (sym (c .before .before .before .before .before .before .before .one-fails2 .ensures) ∙ c .before .before .before .before .before .before .if6 .left) (sym (lengths-told l t _ o p) ∙ sym (c .before .before .before .before .before .clashes .ensures) ∙ c .before .before .before .before .if7 .left) (sym (c .before .before .before .one-fails3 .ensures) ∙ c .before .before .if8 .left) (sym (layers-told l t _ o p (sym (lengths-told l t _ o p) ∙ sym (c .before .before .before .before .before .clashes .ensures) ∙ c .before .before .before .before .if7 .left)) ∙ sym (c .before .clashes2 .ensures) ∙ c .if9 .left)
 
