@@ -28,6 +28,7 @@ use Rattle.output.specs.Put.{Put}
 use Rattle.output.specs.Whole.{infoBytes, restBytes}
 use Rattle.output.specs.WholeLaws.{parts-written, size-there, torrent-there, too-many}
 use Rattle.writing.specs.Write.{torrentBytes, writeNumber, writeAnswer, writeAfter}
+use Rattle.writing.specs.Steps.{treePositions, rootPositions}
 
 -- ---- positions
 
@@ -36,55 +37,53 @@ module _ (list text : List ℕ) (h : listForm list text ≡ true) where
   pub places : (a : List ℕ) (n : ℕ) → n ≡ recordCount list → a ≡ positions n → Placed list text a
   places a n e p = rw (p, e) (all-placed list text h)
 
-  module _ (a b : List ℕ) (n : ℕ) (e : n ≡ recordCount list) (p : a ≡ positions n) (q : b ≡ sortedBy (comes true list text) a) where
-    tree-is : b ≡ sortedBy (comes true list text) (positions (recordCount list))
-    tree-is = q ∙ ap (sortedBy (comes true list text)) (p ∙ ap positions e)
+  -- in tree order
+  pub tree-right : (b : List ℕ) → b ≡ treePositions list text → Placed list text b
+  tree-right b e = rw e (tree-placed list text h)
 
-    -- in tree order
-    pub tree-right : Placed list text b
-    tree-right = rw tree-is (tree-placed list text h)
+  -- by root
+  pub roots-right : (c : List ℕ) → c ≡ rootPositions list text → InOrder rootBefore list text c
+  roots-right c e = rw e (roots-in-order list text (treePositions list text) (tree-placed list text h) (tree-permuted list text))
 
-    pub tree-files : map (itemAt list text) b ≡ inTreeOrder (contentOf list text)
-    tree-files = ap (λ (l : List ℕ). map (itemAt list text) l) tree-is ∙ tree-order list text
+  stays : inTreeOrder (map (itemAt list text) (treePositions list text)) ≡ map (itemAt list text) (treePositions list text)
+  stays = rw (tree-order list text) (sorted-stays itemBefore (inTreeOrder (contentOf list text)) (in-order (contentOf list text)))
 
-    pub tree-meet : (t : Bool) → t ≡ neighbours leads (map (itemAt list text) b) → t ≡ meet (contentOf list text)
-    tree-meet t u = u ∙ ap (λ (l : List ℕ). neighbours leads (map (itemAt list text) l)) tree-is ∙ meet-told list text
+  -- the size, also of a list that is refused
+  pub whole-size : (plen : ℕ) (name b c : List ℕ) (i s : ℕ) → b ≡ treePositions list text → c ≡ rootPositions list text → i ≡ length (infoBytes plen name (map (itemAt list text) b)) → s ≡ length (restBytes (map (itemAt list text) c))
+      → i + s ≡ length (torrentBytes list text plen name)
+  whole-size plen name b c i s d e x y =
+      let o = roots-right (rootPositions list text) refl in
+      ap₂ (λ (m n : ℕ). m + n) (x ∙ ap (λ (l : List ℕ). length (infoBytes plen name (map (itemAt list text) l))) d) (y ∙ ap (λ (l : List ℕ). length (restBytes (map (itemAt list text) l))) e)
+      ∙ sym (size-there plen name (contentOf list text) (map (itemAt list text) (treePositions list text)) (map (itemAt list text) (rootPositions list text)) (tree-permuted list text) stays (o .permuted) (o .in-order))
 
-    module _ (c : List ℕ) (r : c ≡ sortedBy (comes false list text) b) where
-      -- by root
-      pub roots-right : InOrder rootBefore list text c
-      roots-right = rw r (roots-in-order list text b tree-right (rw tree-is (tree-permuted list text)))
+  -- the bytes, where 0 is answered: the second part is written first
+  pub whole-bytes : (plen : ℕ) (name b c : List ℕ) → contentNumber plen name (contentOf list text) ≡ 0 → b ≡ treePositions list text → c ≡ rootPositions list text
+      → (out t u : List ℕ) (i k q : ℕ) → i ≡ length (infoBytes plen name (map (itemAt list text) (treePositions list text)))
+      → Put out i (restBytes (map (itemAt list text) c)) t k → Put t 0 (infoBytes plen name (map (itemAt list text) b)) u q → length t ≡ length out → length (torrentBytes list text plen name) ≤ length out
+      → u ≡ pasted out 0 (torrentBytes list text plen name)
+  whole-bytes plen name b c z d e out t u i k q x v w l m =
+      let o = roots-right (rootPositions list text) refl in
+      let g = good plen name (contentOf list text) (all-passed plen name (contentOf list text) z) in
+      parts-written (torrentBytes list text plen name) (infoBytes plen name (map (itemAt list text) (treePositions list text))) (restBytes (map (itemAt list text) (rootPositions list text))) out t u i k q
+      (torrent-there plen name (contentOf list text) (map (itemAt list text) (treePositions list text)) (map (itemAt list text) (rootPositions list text)) (tree-permuted list text) stays (o .permuted) (o .in-order) (g .fine .paths-apart))
+      x
+      (subst (λ (ps : List ℕ). Put out i (restBytes (map (itemAt list text) ps)) t k) e v)
+      (subst (λ (ps : List ℕ). Put t 0 (infoBytes plen name (map (itemAt list text) ps)) u q) d w)
+      l m
 
-      -- the size, also of a list that is refused
-      pub whole-size : (plen : ℕ) (name : List ℕ) (i s : ℕ) → i ≡ length (infoBytes plen name (map (itemAt list text) b)) → s ≡ length (restBytes (map (itemAt list text) c)) → i + s ≡ length (torrentBytes list text plen name)
-      whole-size plen name i s x y =
-          let o = roots-right in
-          ap₂ (λ (m n : ℕ). m + n) x y
-          ∙ sym (size-there plen name (contentOf list text) (map (itemAt list text) b) (map (itemAt list text) c) permuted stays (o .permuted) (o .in-order))
-        where
-          permuted : Permuted (contentOf list text) (map (itemAt list text) b)
-          permuted = rw tree-files (sorted-permuted itemBefore (contentOf list text))
+  -- the second part ends within the output
+  pub rest-room : (plen : ℕ) (name c : List ℕ) (i n : ℕ) → c ≡ rootPositions list text → i ≡ length (infoBytes plen name (map (itemAt list text) (treePositions list text))) → length (torrentBytes list text plen name) ≤ n
+      → i + length (restBytes (map (itemAt list text) c)) ≤ n
+  rest-room plen name c i n e x l = let s = whole-size plen name (treePositions list text) c i (length (restBytes (map (itemAt list text) c))) refl e x refl in omega arith
 
-          stays : inTreeOrder (map (itemAt list text) b) ≡ map (itemAt list text) b
-          stays = rw tree-files (sorted-stays itemBefore (inTreeOrder (contentOf list text)) (in-order (contentOf list text)))
+  -- and so does the first
+  pub info-room : (plen : ℕ) (name b : List ℕ) (n : ℕ) → b ≡ treePositions list text → length (torrentBytes list text plen name) ≤ n → 0 + length (infoBytes plen name (map (itemAt list text) b)) ≤ n
+  info-room plen name b n e l =
+      let s = whole-size plen name b (rootPositions list text) (length (infoBytes plen name (map (itemAt list text) b))) (length (restBytes (map (itemAt list text) (rootPositions list text)))) e refl refl refl in
+      omega arith
 
-      -- the bytes, where 0 is answered: the second part first
-      pub whole-bytes : (plen : ℕ) (name : List ℕ) → contentNumber plen name (contentOf list text) ≡ 0
-          → (d : List ℕ) → d ≡ b → (out t u : List ℕ) (i k q : ℕ) → i ≡ length (infoBytes plen name (map (itemAt list text) b))
-          → Put out i (restBytes (map (itemAt list text) c)) t k → Put t 0 (infoBytes plen name (map (itemAt list text) d)) u q → length t ≡ length out → length (torrentBytes list text plen name) ≤ length out
-          → u ≡ pasted out 0 (torrentBytes list text plen name)
-      whole-bytes plen name z d s out t u i k q x v w l m =
-          let o = roots-right in
-          let g = good plen name (contentOf list text) (all-passed plen name (contentOf list text) z) in
-          parts-written (torrentBytes list text plen name) (infoBytes plen name (map (itemAt list text) b)) (restBytes (map (itemAt list text) c)) out t u i k q
-          (torrent-there plen name (contentOf list text) (map (itemAt list text) b) (map (itemAt list text) c) permuted stays (o .permuted) (o .in-order) (g .fine .paths-apart))
-          x v (subst (λ (ps : List ℕ). Put t 0 (infoBytes plen name (map (itemAt list text) ps)) u q) s w) l m
-        where
-          permuted : Permuted (contentOf list text) (map (itemAt list text) b)
-          permuted = rw tree-files (sorted-permuted itemBefore (contentOf list text))
-
-          stays : inTreeOrder (map (itemAt list text) b) ≡ map (itemAt list text) b
-          stays = rw tree-files (sorted-stays itemBefore (inTreeOrder (contentOf list text)) (in-order (contentOf list text)))
+  pub met : (b : List ℕ) (t : Bool) → b ≡ treePositions list text → t ≡ neighbours leads (map (itemAt list text) b) → t ≡ meet (contentOf list text)
+  met b t e u = u ∙ ap (λ (l : List ℕ). neighbours leads (map (itemAt list text) l)) e ∙ meet-told list text
 
 -- ---- answers
 

@@ -16,14 +16,73 @@ use output::whole::put_rest;
 use output::whole::rest_size;
 use output::whole::too_many;
 ghost use mathlib.Core.Path.{_≡_};
-ghost use mathlib.Core.Bool.{true};
+ghost use mathlib.Core.List.{map};
 ghost use Prim.Native.Nat.{_≤_};
 ghost use lib.ListN.{length};
-ghost use Rattle.lists.specs.Lists.{recordCount, listForm};
-ghost use Rattle.ordered.specs.Order.{mostFiles};
-ghost use Rattle.writing.specs.Write.{writeAnswer, writeAfter};
+ghost use Rattle.octets.specs.Octets.{pasted};
+ghost use Rattle.publishing.specs.Number.{contentNumber};
+ghost use Rattle.lists.specs.Lists.{itemAt, contentOf};
+ghost use Rattle.output.specs.Whole.{infoBytes};
+ghost use Rattle.writing.specs.Write.{torrentBytes, writeAnswer, writeAfter};
+ghost use Rattle.writing.specs.Steps.{treePositions, rootPositions, Ready, MeasuredRight};
 
-// The same for a list in its form with as many records as `at` and `room`, which are work space.
+// What is worked out of a list before a byte is written: its number, the size of the torrent up to the entries of `piece layers`, its size.
+pub struct Measured {
+    pub number: u32,
+    pub info: usize,
+    pub size: usize,
+}
+
+// `at` gets the positions of the list's records in tree order.
+fn order_by_path(list: &[u8], text: &[u8], at: &mut [u32], room: &mut [u32])
+    requires { ⌜ Ready (now list) (now text) (now at) (now room) ⌝ }
+    ensures { λ _. ⌜ now (at .exit) ≡ treePositions (now (list .entry)) (now (text .entry)) ⌝ }
+{
+    let n = at.len();
+    place(at);
+    sort(list, text, true, at, room, n);
+}
+
+// The number and the sizes; `at` gets the positions by root and layer.
+fn measure(list: &[u8], text: &[u8], plen: usize, name: &[u8], at: &mut [u32], room: &mut [u32]) -> Measured
+    requires { ⌜ Ready (now list) (now text) (now at) (now room) ⌝ }
+    ensures { λ r. ⌜ (now (at .exit) ≡ rootPositions (now (list .entry)) (now (text .entry)))
+        × MeasuredRight (now (list .entry)) (now (text .entry)) plen (now (name .entry)) r ⌝ }
+{
+    let n = at.len();
+    order_by_path(list, text, at, room);
+    let info = info_size(list, text, at, plen, name);
+    let meet = meets(list, text, at);
+    sort(list, text, false, at, room, n);
+    let rest = rest_size(list, text, at);
+    let size = info + rest;
+    let number = content_number(list, text, plen, at, size, meet);
+    Measured { number, info, size }
+}
+
+// Writes the torrent, the part from the entries of `piece layers` on first: `at` has the positions by root and layer.
+fn put_torrent(
+    list: &[u8],
+    text: &[u8],
+    plen: usize,
+    name: &[u8],
+    at: &mut [u32],
+    room: &mut [u32],
+    out: &mut [u8],
+    info: usize,
+)
+    requires { ⌜ Ready (now list) (now text) (now at) (now room) × (now at ≡ rootPositions (now list) (now text))
+        × (contentNumber plen (now name) (contentOf (now list) (now text)) ≡ 0)
+        × (info ≡ length (infoBytes plen (now name) (map (itemAt (now list) (now text)) (treePositions (now list) (now text)))))
+        × (length (torrentBytes (now list) (now text) plen (now name)) ≤ length (now out)) ⌝ }
+    ensures { λ _. ⌜ now (out .exit) ≡ pasted (now (out .entry)) 0 (torrentBytes (now (list .entry)) (now (text .entry)) plen (now (name .entry))) ⌝ }
+{
+    put_rest(out, info, list, text, at);
+    order_by_path(list, text, at, room);
+    put_info(out, 0, list, text, at, plen, name);
+}
+
+// The same as `write`, with work space for the positions.
 fn write_in(
     list: &[u8],
     text: &[u8],
@@ -33,29 +92,21 @@ fn write_in(
     room: &mut [u32],
     out: &mut [u8],
 ) -> Answer
-    requires { ⌜ (listForm (now list) (now text) ≡ true) × (length (now at) ≡ recordCount (now list))
-        × (length (now room) ≡ recordCount (now list)) × (recordCount (now list) ≤ mostFiles) ⌝ }
+    requires { ⌜ Ready (now list) (now text) (now at) (now room) ⌝ }
     ensures { λ r. ⌜ (r ≡ writeAnswer (now (list .entry)) (now (text .entry)) plen (now (name .entry)) (now (out .entry)))
         × (now (out .exit) ≡ writeAfter (now (list .entry)) (now (text .entry)) plen (now (name .entry)) (now (out .entry))) ⌝ }
 {
-    let n = at.len();
-    place(at);
-    sort(list, text, true, at, room, n);
-    let info = info_size(list, text, at, plen, name);
-    let meet = meets(list, text, at);
-    sort(list, text, false, at, room, n);
-    let size = info + rest_size(list, text, at);
-    let number = content_number(list, text, plen, at, size, meet);
+    let measured = measure(list, text, plen, name, at, room);
+    let number = measured.number;
+    let info = measured.info;
+    let size = measured.size;
     if number != 0 {
         return refusal(number);
     }
     if out.len() < size {
         return refusal(numbers::NO_ROOM);
     }
-    put_rest(out, info, list, text, at);
-    place(at);
-    sort(list, text, true, at, room, n);
-    put_info(out, 0, list, text, at, plen, name);
+    put_torrent(list, text, plen, name, at, room, out, info);
     success(size as u64)
 }
 
