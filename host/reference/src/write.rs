@@ -3,20 +3,16 @@
 //! The list is read to its content; where paths and layers stand in the text, and in which order, is then forgotten. Each
 //! number is looked for in the whole content before the next one, so that the lowest wins. The tree is built of maps.
 
+use crate::limits::{BLOCK, LARGEST_TORRENT, LEVELS, LONGEST_FILE, WRITE_RECORD};
 use crate::number::*;
 use crate::sha256::Hash;
 use crate::torrent::{element_right, layer_differs};
-use crate::limits::{BLOCK, LARGEST_TORRENT, LONGEST_FILE};
 use crate::tree::{padding, piece_length_in_range, Facts};
 use crate::Answer;
 use std::collections::{BTreeMap, HashMap, HashSet};
 
-/// The bytes of a file's record in the list: length (8), root (32), start and size of the layer and of the path (4 each).
-pub const LIST_RECORD: usize = 56;
-
 /// The levels of a file without path elements: outer dictionary, `info`, `file tree`, its properties.
 const LEVELS_BESIDE_THE_PATH: usize = 4;
-const DEEPEST: usize = 32;
 
 /// What the list says of one file.
 #[derive(Clone, Debug, PartialEq, Eq)]
@@ -29,12 +25,13 @@ pub struct Item<'a> {
 
 /// The content of a list, or nothing if it isn't in its form.
 pub fn content<'a>(list: &[u8], text: &'a [u8]) -> Option<Vec<Item<'a>>> {
-    if list.len() % LIST_RECORD != 0 {
+    if list.len() % WRITE_RECORD != 0 {
         return None;
     }
-    list.chunks_exact(LIST_RECORD).map(|record| item_of(record, text)).collect()
+    list.chunks_exact(WRITE_RECORD).map(|record| item_of(record, text)).collect()
 }
 
+/// Of a record: length (8), root (32), start and size of the layer and of the path (4 each).
 fn item_of<'a>(record: &[u8], text: &'a [u8]) -> Option<Item<'a>> {
     let length = u64::from_be_bytes(record[..8].try_into().unwrap());
     if length >= 1 << 63 {
@@ -197,7 +194,7 @@ fn has_other_root(item: &Item, piece_length: u64) -> bool {
 pub fn number_of(items: &[Item], piece_length: u64, name: &[u8]) -> u32 {
     if size(items, piece_length, name) > LARGEST_TORRENT as u128 {
         TORRENT_TOO_LARGE
-    } else if items.iter().any(|item| item.path.len() + LEVELS_BESIDE_THE_PATH > DEEPEST) {
+    } else if items.iter().any(|item| item.path.len() + LEVELS_BESIDE_THE_PATH > LEVELS as usize) {
         NESTED_TOO_DEEPLY
     } else if !piece_length_in_range(piece_length) {
         PIECE_LENGTH_OUT_OF_RANGE
@@ -390,7 +387,7 @@ mod tests {
         }
         assert_eq!(number(&with(Entry { path: Vec::new(), ..entry("c", 1, [2; 32], b"") })), WRONG_TREE);
         assert_eq!(number(&with(entry("c", 0, [1; 32], b""))), WRONG_TREE);
-        assert_eq!(number(&with(entry("c", (1 << 30) + 1, [2; 32], b""))), WRONG_TREE);
+        assert_eq!(number(&with(entry("c", LONGEST_FILE + 1, [2; 32], b""))), WRONG_TREE);
         // 26: one root, two lengths; an empty file has no root.
         assert_eq!(number(&with(entry("c", 2, [1; 32], b""))), SAME_ROOT);
         assert_eq!(number(&with(entry("c", 2, [0; 32], b""))), DONE);

@@ -65,6 +65,7 @@ fn untouched(call: &Call) -> Outcome {
         store: call.store.clone(),
         input: call.input.clone(),
         out: call.out.clone(),
+        name: call.name.clone(),
     }
 }
 
