@@ -15,7 +15,7 @@ refusal-requires : tie.Need-refusal-requires
 refusal-requires c κs = search needs
 
 returns : tie.Need-returns
-returns c = ?
+returns c = let a = answer-form (c .before .before .before .before .before .before .before .args .list .now) (c .before .before .before .before .before .before .before .args .text .now) (c .before .before .before .before .before .before .before .args .plen) (c .before .before .before .before .before .before .before .args .name .now) (c .before .before .before .before .before .before .before .args .out .now) (sym (c .before .before .list-form .ensures) ∙ not-true _ (c .before .if1 .taken)) in (c .refusal .ensures ∙ a .0, a .1)
 
 too-many-requires : tie.Need-too-many-requires
 too-many-requires c κs = search needs
@@ -24,7 +24,7 @@ refusal-requires-2 : tie.Need-refusal-requires-2
 refusal-requires-2 c κs = search needs
 
 returns-2 : tie.Need-returns-2
-returns-2 c = ?
+returns-2 c = let a = answer-many (c .before .before .before .before .before .before .before .before .before .args .list .now) (c .before .before .before .before .before .before .before .before .before .args .text .now) (c .before .before .before .before .before .before .before .before .before .args .plen) (c .before .before .before .before .before .before .before .before .before .args .name .now) (c .before .before .before .before .before .before .before .before .before .args .out .now) (sym (c .before .before .before .before .list-form .ensures) ∙ not-false _ (c .before .before .before .if1 .left)) (ltb-true _ _ (sym (c .before .before .too-many .ensures) ∙ c .before .if2 .taken)) in (c .refusal2 .ensures ∙ a .0, a .1)
 
 sub-write-in : tie.Need-sub-write-in
 sub-write-in c = search needs
