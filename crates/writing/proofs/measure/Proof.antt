@@ -9,7 +9,7 @@ use mathlib.Core.Bool.{false}
 use Rattle.writing.specs.StepsLaws.{tree-right, roots-right, whole-size, met}
 use borrow.Author.Needs.{needs}
 use native.Mathlib.Omega.{arith}
-use mathlib.Core.Path.{_≡_, refl, ap, sym, _∙_}
+use mathlib.Core.Path.{ap, sym, _∙_}
 use Rattle.writing.proofs.measure.Statement.{statement}
 use Rattle.writing.proofs.measure.Tie as tie
 

@@ -2,9 +2,8 @@ use mathlib.Core.Bool.{true}
 use Rattle.publishing.specs.Sorting.{sortedBy}
 use Rattle.ordered.specs.Order.{comes, positions}
 use Rattle.writing.specs.StepsLaws.{places}
-use borrow.Author.Needs.{needs}
 use native.Mathlib.Omega.{arith}
-use mathlib.Core.Path.{_≡_, refl, ap, sym, _∙_}
+use mathlib.Core.Path.{ap, sym, _∙_}
 use Rattle.writing.proofs.order_by_path.Statement.{statement}
 use Rattle.writing.proofs.order_by_path.Tie as tie
 

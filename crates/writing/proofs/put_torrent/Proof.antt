@@ -1,7 +1,6 @@
 use Rattle.writing.specs.StepsLaws.{tree-right, roots-right, rest-room, info-room, whole-bytes}
-use borrow.Author.Needs.{needs}
 use native.Mathlib.Omega.{arith}
-use mathlib.Core.Path.{_≡_, refl, ap, sym, _∙_}
+use mathlib.Core.Path.{_∙_}
 use Rattle.writing.proofs.put_torrent.Statement.{statement}
 use Rattle.writing.proofs.put_torrent.Tie as tie
 

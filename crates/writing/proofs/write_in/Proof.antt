@@ -1,7 +1,7 @@
 use Rattle.writing.specs.StepsLaws.{answer-number, answer-room, answer-done}
 use borrow.Author.Needs.{needs}
 use native.Mathlib.Omega.{arith}
-use mathlib.Core.Path.{_≡_, refl, ap, sym, _∙_}
+use mathlib.Core.Path.{sym, _∙_}
 use Rattle.writing.proofs.write_in.Statement.{statement}
 use Rattle.writing.proofs.write_in.Tie as tie
 
