@@ -5,7 +5,8 @@ use mathlib.Core.Bool.{Bool, true, false, cond}
 use mathlib.Core.List.{List, [], _∷_, _++_, map}
 use Prim.Native.Nat.{ℕ, zero, suc, _+_, _-_, _*_, _/_, _%_, _≤_, _<_}
 use native.Mathlib.Omega.{arith}
-use lib.ListN.{length, length-map}
+use lib.ListN.{length, take, length-map}
+use lib.Seq.{length-take-le}
 use lib.Dec.{eqb, ltb}
 use borrow.Author.Tests.{eq-eqb, ne-eqb, lt-ltb, le-ltb, ltb-true, ltb-false}
 use Rattle.limits.specs.Limits.{largestTorrent}
@@ -28,7 +29,7 @@ use Rattle.output.specs.Put.{Put}
 use Rattle.output.specs.Whole.{infoBytes, restBytes}
 use Rattle.output.specs.WholeLaws.{parts-written, size-there, torrent-there, too-many}
 use Rattle.writing.specs.Write.{torrentBytes, writeNumber, writeAnswer, writeAfter}
-use Rattle.writing.specs.Steps.{treePositions, rootPositions}
+use Rattle.writing.specs.Steps.{treePositions, rootPositions, Ready}
 
 -- ---- positions
 
@@ -84,6 +85,19 @@ module _ (list text : List ℕ) (h : listForm list text ≡ true) where
 
   pub met : (b : List ℕ) (t : Bool) → b ≡ treePositions list text → t ≡ neighbours leads (map (itemAt list text) b) → t ≡ meet (contentOf list text)
   met b t e u = u ∙ ap (λ (l : List ℕ). neighbours leads (map (itemAt list text) l)) e ∙ meet-told list text
+
+-- work space for as many positions as there are records
+pub part-end : (n : ℕ) (s : List ℕ) → n ≤ mostFiles → length s ≡ mostFiles → n ≤ length s
+part-end n s h e = omega arith
+
+pub part-ready : (list text at room : List ℕ) → listForm list text ≡ true → recordCount list ≤ mostFiles → length at ≡ mostFiles → length room ≡ mostFiles → Ready list text (take (recordCount list - 0) at) (take (recordCount list - 0) room)
+part-ready list text at room h f a b =
+    record {
+      form = h;
+      few = f;
+      at-size = length-take-le (recordCount list - 0) at (omega arith) ∙ omega arith;
+      room-size = length-take-le (recordCount list - 0) room (omega arith) ∙ omega arith;
+    }
 
 -- ---- answers
 

@@ -22,6 +22,7 @@ ghost use lib.ListN.{length};
 ghost use Rattle.octets.specs.Octets.{pasted};
 ghost use Rattle.publishing.specs.Number.{contentNumber};
 ghost use Rattle.lists.specs.Lists.{itemAt, contentOf};
+ghost use Rattle.ordered.specs.Order.{mostFiles};
 ghost use Rattle.output.specs.Whole.{infoBytes};
 ghost use Rattle.writing.specs.Write.{torrentBytes, writeAnswer, writeAfter};
 ghost use Rattle.writing.specs.Steps.{treePositions, rootPositions, Ready, MeasuredRight};
@@ -44,7 +45,14 @@ fn order_by_path(list: &[u8], text: &[u8], at: &mut [u32], room: &mut [u32])
 }
 
 // The number and the sizes; `at` gets the positions by root and layer.
-fn measure(list: &[u8], text: &[u8], plen: usize, name: &[u8], at: &mut [u32], room: &mut [u32]) -> Measured
+fn measure(
+    list: &[u8],
+    text: &[u8],
+    plen: usize,
+    name: &[u8],
+    at: &mut [u32],
+    room: &mut [u32],
+) -> Measured
     requires { ⌜ Ready (now list) (now text) (now at) (now room) ⌝ }
     ensures { λ r. ⌜ (now (at .exit) ≡ rootPositions (now (list .entry)) (now (text .entry)))
         × MeasuredRight (now (list .entry)) (now (text .entry)) plen (now (name .entry)) r ⌝ }
@@ -110,8 +118,17 @@ fn write_in(
     success(size as u64)
 }
 
-// 0 and the size of the torrent, which is then at the start of `out`; or 4, 19, 21 to 28, or 11 if `out` is too short for it.
-pub fn write(list: &[u8], text: &[u8], plen: usize, name: &[u8], out: &mut [u8]) -> Answer
+// The same as `write`, with work space for as many positions as a torrent has files at most.
+fn write_with(
+    list: &[u8],
+    text: &[u8],
+    plen: usize,
+    name: &[u8],
+    at: &mut [u32],
+    room: &mut [u32],
+    out: &mut [u8],
+) -> Answer
+    requires { ⌜ (length (now at) ≡ mostFiles) × (length (now room) ≡ mostFiles) ⌝ }
     ensures { λ r. ⌜ (r ≡ writeAnswer (now (list .entry)) (now (text .entry)) plen (now (name .entry)) (now (out .entry)))
         × (now (out .exit) ≡ writeAfter (now (list .entry)) (now (text .entry)) plen (now (name .entry)) (now (out .entry))) ⌝ }
 {
@@ -122,7 +139,15 @@ pub fn write(list: &[u8], text: &[u8], plen: usize, name: &[u8], out: &mut [u8])
     if too_many(n) {
         return refusal(numbers::TORRENT_TOO_LARGE);
     }
+    write_in(list, text, plen, name, &mut at[0..n], &mut room[0..n], out)
+}
+
+// 0 and the size of the torrent, which is then at the start of `out`; or 4, 19, 21 to 28, or 11 if `out` is too short for it.
+pub fn write(list: &[u8], text: &[u8], plen: usize, name: &[u8], out: &mut [u8]) -> Answer
+    ensures { λ r. ⌜ (r ≡ writeAnswer (now (list .entry)) (now (text .entry)) plen (now (name .entry)) (now (out .entry)))
+        × (now (out .exit) ≡ writeAfter (now (list .entry)) (now (text .entry)) plen (now (name .entry)) (now (out .entry))) ⌝ }
+{
     let mut at = [0u32; MOST];
     let mut room = [0u32; MOST];
-    write_in(list, text, plen, name, &mut at[0..n], &mut room[0..n], out)
+    write_with(list, text, plen, name, &mut at, &mut room, out)
 }

@@ -1,74 +1,23 @@
-use Rattle.writing.specs.StepsLaws.{answer-form, answer-many}
-use borrow.Author.Tests.{not-true, not-false, ltb-true, ltb-false}
-use borrow.Author.Needs.{needs}
-use native.Mathlib.Omega.{arith}
-use lib.ListN.{length, length-replicate}
-use Prim.Native.Nat.{ℕ, _≤_, _<_}
-use mathlib.Core.Path.{_≡_, refl, ap, sym, _∙_}
+use lib.ListN.{length-replicate}
+use Prim.Native.Nat.{ℕ}
+use mathlib.Core.Path.{sym}
 use Rattle.writing.proofs.write.Statement.{statement}
 use Rattle.writing.proofs.write.Tie as tie
 
-list-form-requires : tie.Need-list-form-requires
-list-form-requires c κs = search needs
+slice-aggregate-write-with : tie.Need-slice-aggregate-write-with
+slice-aggregate-write-with c = sym (length-replicate {A = ℕ} 69905 0)
 
-refusal-requires : tie.Need-refusal-requires
-refusal-requires c κs = search needs
+slice-aggregate-write-with-2 : tie.Need-slice-aggregate-write-with-2
+slice-aggregate-write-with-2 c = sym (length-replicate {A = ℕ} 69905 0)
 
-returns : tie.Need-returns
-returns c = ?
-
-too-many-requires : tie.Need-too-many-requires
-too-many-requires c κs = search needs
-
-refusal-requires-2 : tie.Need-refusal-requires-2
-refusal-requires-2 c κs = search needs
-
-returns-2 : tie.Need-returns-2
-returns-2 c = ?
-
-sub-write-in : tie.Need-sub-write-in
-sub-write-in c = search needs
-
-part-at-start : tie.Need-part-at-start
-part-at-start c = search needs
-
-part-at-end : tie.Need-part-at-end
-part-at-end c = ?
-
-sub-write-in-2 : tie.Need-sub-write-in-2
-sub-write-in-2 c = search needs
-
-part-room-start : tie.Need-part-room-start
-part-room-start c = search needs
-
-part-room-end : tie.Need-part-room-end
-part-room-end c = ?
-
-write-in-requires : tie.Need-write-in-requires
-write-in-requires c κs = ?
+write-with-requires : tie.Need-write-with-requires
+write-with-requires c κs = (length-replicate {A = ℕ} 69905 0, length-replicate {A = ℕ} 69905 0)
 
 same-length : tie.Need-same-length
-same-length c = search needs
+same-length c = c .before .before .before .before .write-with .kept .1 .1 .1 .1 .1 .1 .0
 
-returns-3 : tie.Need-returns-3
-returns-3 c = search needs
+returns : tie.Need-returns
+returns c = c .before .before .before .before .write-with .ensures
 
 pub write-spec : {M : Type 1} → statement M
-write-spec =
-    tie.close
-    (tie.spec
-    list-form-requires
-    refusal-requires
-    returns
-    too-many-requires
-    refusal-requires-2
-    returns-2
-    sub-write-in
-    part-at-start
-    part-at-end
-    sub-write-in-2
-    part-room-start
-    part-room-end
-    write-in-requires
-    same-length
-    returns-3)
+write-spec = tie.close (tie.spec slice-aggregate-write-with slice-aggregate-write-with-2 write-with-requires same-length returns)
