@@ -342,7 +342,7 @@ pub const HOSTILE: [Hostile; 14] = [
     hostile("one-path", || alike(69_905, 0, [0; 32], path_bytes(&[b"a".to_vec()]), [0, 0], [0, 5]), 19),
     hostile("69905-empty", || apart((0..69_905).map(|n| file(vec![name(n % 64_009)], 0, [0; 32]))), 19),
     hostile("too-many", || apart((0..200_000).map(|n| file(vec![name(n % 64_009)], 0, [0; 32]))), 19),
-    hostile("shared-deep-path", || alike(2_000, 1, [7; 32], vec![0; 400_000], [0, 0], [0, 400_000]), 21),
+    hostile("shared-deep-path", || alike(100, 1, [7; 32], vec![0; 400_000], [0, 0], [0, 400_000]), 21),
     hostile("overlapping-paths", overlapping_paths, 21),
 ];
 
@@ -352,13 +352,13 @@ const fn hostile(name: &'static str, make: fn() -> Written, number: u32) -> Host
 
 /// Many files in one folder with a name as long as it may be: each path has to be compared through all of it.
 fn long_element() -> Written {
-    apart((0..300).map(|n| file(vec![vec![b'x'; 900_000], name(n)], 1, root(n))))
+    apart((0..20).map(|n| file(vec![vec![b'x'; 900_000], name(n)], 1, root(n))))
 }
 
 /// Twins with one large layer, each with its own copy of it.
 fn shared_layer() -> Written {
     let twin = file_of(&mut Random::new(1), Vec::new(), 16384 * 2_000, 16384);
-    apart((0..1_000).map(|n| Planned { path: vec![name(n)], ..twin.clone() }))
+    apart((0..100).map(|n| Planned { path: vec![name(n)], ..twin.clone() }))
 }
 
 /// Files of three pieces, each with a layer of its own.
@@ -370,7 +370,7 @@ fn many_layers() -> Written {
 /// Paths of empty elements that begin at different places of one text.
 fn overlapping_paths() -> Written {
     let record_of = |n: usize| record(1, &[7; 32], [0, 0], [4 * n as u32, 400_000 - 4 * n as u32]);
-    Written { list: (0..1_000).flat_map(record_of).collect(), text: vec![0; 400_000] }
+    Written { list: (0..50).flat_map(record_of).collect(), text: vec![0; 400_000] }
 }
 
 /// One call with all the room that may be needed, and one with a byte too little; what is written is read back.
