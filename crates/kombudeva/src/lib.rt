@@ -294,7 +294,13 @@ pub extern "C" fn kd_torrent_list(torrent: &[u8], out: &mut [u8]) -> CountAnswer
 }
 
 #[no_mangle]
-pub extern "C" fn kd_torrent_write(list: &[u8], text: &[u8], piece_length: u64, name: &[u8], out: &mut [u8]) -> CountAnswer
+pub extern "C" fn kd_torrent_write(
+    list: &[u8],
+    text: &[u8],
+    piece_length: u64,
+    name: &[u8],
+    out: &mut [u8],
+) -> CountAnswer
     ensures { λ r. ⌜ (r ≡ countAnswer (writeAnswer (now (list .entry)) (now (text .entry)) «piece_length» (now (name .entry)) (now (out .entry)))) × (now (out .exit) ≡ writeAfter (now (list .entry)) (now (text .entry)) «piece_length» (now (name .entry)) (now (out .entry))) ⌝ }
 {
     count_answer(writing::write(list, text, piece_length as usize, name, out))

@@ -79,7 +79,9 @@ fn order_and_twins() {
     let twin = history.end().done().unwrap();
     let write = |names: [&str; 3]| {
         let mut builder = TorrentBuilder::new(PIECE, b"x");
-        names.iter().for_each(|name| drop(builder.add_logged([name], &twin).files()));
+        for name in names {
+            builder.add_logged([name], &twin);
+        }
         assert_eq!(builder.files(), 3);
         builder.write().done().unwrap()
     };

@@ -4,8 +4,8 @@
 use crate::call::{Call, Entry, Given, Outcome};
 use crate::compare::Comparison;
 use crate::random::Random;
-use reference::limits::{LARGEST_TORRENT, WRITE_RECORD};
-use reference::number::DONE;
+use reference::limits::{LARGEST_TORRENT, RECORD, WRITE_RECORD};
+use reference::number::{DONE, NESTED_TOO_DEEPLY, TORRENT_TOO_LARGE};
 use reference::pieces::over_piece_layer;
 use reference::sha256::Hash;
 use reference::torrent::contents;
@@ -234,7 +234,7 @@ fn ask_back(files: &[Planned], outcome: &Outcome, piece_length: u64, compared: &
     assert_eq!(read_back(torrent), Ok(in_tree_order(files)));
     let read = compared.ask(&Call::new(Entry::TorrentRead).input(torrent.to_vec()));
     assert!(matches!(read.given, Given::Torrent(whole) if whole.number == DONE && whole.files == files.len() as u64));
-    compared.ask(&Call::new(Entry::TorrentList).input(torrent.to_vec()).out(vec![0xaa; 280 * files.len()]));
+    compared.ask(&Call::new(Entry::TorrentList).input(torrent.to_vec()).out(vec![0xaa; RECORD * files.len()]));
 }
 
 /// A list in just the room, a byte less, a byte more and none; then in another order with other places: the same answer, and
@@ -284,13 +284,21 @@ pub fn run(random: &mut Random, compared: &mut Comparison, mut go_on: impl FnMut
 const OTHER_PIECE_LENGTHS: [u64; 9] =
     [0, 1, 8192, 16383, 16385, 1 << 25, (1 << 32) + 16384, 1 << 63, u64::MAX];
 
-/// A list that makes a writer work, with the number it is answered with.
-pub struct Hostile {
+/// Files that make a writer work, and of which a torrent is written.
+pub struct Shape {
+    pub name: &'static str,
+    pub make: fn() -> Vec<Planned>,
+}
+
+/// A list that makes a writer work, with the number it is refused with.
+pub struct Refused {
     pub name: &'static str,
     pub make: fn() -> Written,
-    pub piece_length: u64,
     pub number: u32,
 }
+
+/// The piece length of all of them.
+pub const PIECE_LENGTH: u64 = 16384;
 
 /// Names of two bytes, as many as there may be, none of them wrong; descending, so that all have to be moved.
 fn name(number: usize) -> Vec<u8> {
@@ -307,17 +315,13 @@ fn root(number: usize) -> Hash {
     Random::new(number as u64).hash()
 }
 
-fn apart(files: impl Iterator<Item = Planned>) -> Written {
-    written_down(&files.collect::<Vec<_>>(), Placing::Apart(0))
-}
-
-/// A record for each name, all of them with the same parts.
-fn alike(count: usize, length: u64, root: Hash, text: Vec<u8>, layer: [u32; 2], path: [u32; 2]) -> Written {
-    Written { list: record(length, &root, layer, path).repeat(count), text }
+/// So many empty files, each in the outermost folder; names repeat behind 64,009.
+fn empty_files(count: usize) -> Vec<Planned> {
+    (0..count).map(|n| file(vec![name(n % 64_009)], 0, [0; 32])).collect()
 }
 
 /// The ordinary list of 10,000 files in 100 folders, in no order.
-pub fn ten_thousand() -> Vec<Planned> {
+fn ten_thousand() -> Vec<Planned> {
     let planned = |number: usize| {
         let path = vec![format!("{:02}", number / 100).into_bytes(), format!("{number:05}").into_bytes()];
         file(path, 10000 + (number * 7 % 6384) as u64, root(number))
@@ -329,58 +333,76 @@ pub fn ten_thousand() -> Vec<Planned> {
 /// The name of the ordinary one.
 pub const ORDINARY: &str = "10000-files";
 
-pub const HOSTILE: [Hostile; 14] = [
-    hostile(ORDINARY, || apart(ten_thousand().into_iter()), DONE),
-    hostile("many-files", || apart((0..14_900).map(|n| file(vec![name(n)], 1, root(n)))), DONE),
-    hostile("49000-empty", || apart((0..49_000).map(|n| file(vec![name(n)], 0, [0; 32]))), DONE),
-    hostile("equal-roots", || apart((0..14_900).map(|n| file(vec![name(n)], 1, [7; 32]))), DONE),
-    hostile("28-elements", || apart((0..14_800).map(|n| file([vec![b"a".to_vec(); 27], vec![name(n)]].concat(), 1, root(n)))), DONE),
-    hostile("own-folders", || apart((0..5_000).map(|n| file([vec![name(n)], vec![b"a".to_vec(); 27]].concat(), 1, root(n)))), DONE),
-    hostile("long-element", long_element, DONE),
-    hostile("shared-layer", shared_layer, DONE),
-    hostile("many-layers", many_layers, DONE),
-    hostile("one-path", || alike(69_905, 0, [0; 32], path_bytes(&[b"a".to_vec()]), [0, 0], [0, 5]), 19),
-    hostile("69905-empty", || apart((0..69_905).map(|n| file(vec![name(n % 64_009)], 0, [0; 32]))), 19),
-    hostile("too-many", || apart((0..200_000).map(|n| file(vec![name(n % 64_009)], 0, [0; 32]))), 19),
-    hostile("shared-deep-path", || alike(100, 1, [7; 32], vec![0; 400_000], [0, 0], [0, 400_000]), 21),
-    hostile("overlapping-paths", overlapping_paths, 21),
+pub const GOOD: [Shape; 9] = [
+    shape(ORDINARY, ten_thousand),
+    shape("many-files", || (0..14_900).map(|n| file(vec![name(n)], 1, root(n))).collect()),
+    shape("49000-empty", || empty_files(49_000)),
+    shape("equal-roots", || (0..14_900).map(|n| file(vec![name(n)], 1, [7; 32])).collect()),
+    shape("28-elements", || (0..14_800).map(|n| file([vec![b"a".to_vec(); 27], vec![name(n)]].concat(), 1, root(n))).collect()),
+    shape("own-folders", || (0..5_000).map(|n| file([vec![name(n)], vec![b"a".to_vec(); 27]].concat(), 1, root(n))).collect()),
+    shape("long-element", long_element),
+    shape("equal-layers", equal_layers),
+    shape("many-layers", many_layers),
 ];
 
-const fn hostile(name: &'static str, make: fn() -> Written, number: u32) -> Hostile {
-    Hostile { name, make, piece_length: 16384, number }
+const fn shape(name: &'static str, make: fn() -> Vec<Planned>) -> Shape {
+    Shape { name, make }
 }
 
-/// Many files in one folder with a name as long as it may be: each path has to be compared through all of it.
-fn long_element() -> Written {
-    apart((0..20).map(|n| file(vec![vec![b'x'; 900_000], name(n)], 1, root(n))))
+/// Files in one folder with a name as long as it may be: each path has to be compared through all of it.
+fn long_element() -> Vec<Planned> {
+    (0..20).map(|n| file(vec![vec![b'x'; 900_000], name(n)], 1, root(n))).collect()
 }
 
 /// Twins with one large layer, each with its own copy of it.
-fn shared_layer() -> Written {
-    let twin = file_of(&mut Random::new(1), Vec::new(), 16384 * 2_000, 16384);
-    apart((0..100).map(|n| Planned { path: vec![name(n)], ..twin.clone() }))
+fn equal_layers() -> Vec<Planned> {
+    let twin = file_of(&mut Random::new(1), Vec::new(), PIECE_LENGTH * 2_000, PIECE_LENGTH);
+    (0..100).map(|n| Planned { path: vec![name(n)], ..twin.clone() }).collect()
 }
 
 /// Files of three pieces, each with a layer of its own.
-fn many_layers() -> Written {
+fn many_layers() -> Vec<Planned> {
     let mut random = Random::new(1);
-    apart((0..4_500).map(|n| file_of(&mut random, vec![name(n)], 3 * 16384, 16384)))
+    (0..4_500).map(|n| file_of(&mut random, vec![name(n)], 3 * PIECE_LENGTH, PIECE_LENGTH)).collect()
 }
 
-/// Paths of empty elements that begin at different places of one text.
-fn overlapping_paths() -> Written {
-    let record_of = |n: usize| record(1, &[7; 32], [0, 0], [4 * n as u32, 400_000 - 4 * n as u32]);
-    Written { list: (0..50).flat_map(record_of).collect(), text: vec![0; 400_000] }
+pub const REFUSED: [Refused; 5] = [
+    refused("one-path", one_path, TORRENT_TOO_LARGE),
+    refused("69905-empty", || written_down(&empty_files(69_905), Placing::Apart(0)), TORRENT_TOO_LARGE),
+    refused("too-many", || written_down(&empty_files(200_000), Placing::Apart(0)), TORRENT_TOO_LARGE),
+    refused("shared-deep-path", || deep_paths(|_| 0), NESTED_TOO_DEEPLY),
+    refused("overlapping-paths", || deep_paths(|n| 4 * n), NESTED_TOO_DEEPLY),
+];
+
+const fn refused(name: &'static str, make: fn() -> Written, number: u32) -> Refused {
+    Refused { name, make, number }
 }
 
-/// One call with all the room that may be needed, and one with a byte too little; what is written is read back.
-pub fn ask_hostile(hostile: &Hostile, compared: &mut Comparison) {
-    let written = (hostile.make)();
-    let outcome = compared.ask(&written.call(hostile.piece_length, b"x", LARGEST_TORRENT));
-    assert_eq!(outcome.given.number(), hostile.number, "{}", hostile.name);
-    if hostile.number == DONE {
-        let size = outcome.given.count() as usize;
-        compared.ask(&written.call(hostile.piece_length, b"x", size - 1));
-        compared.ask(&Call::new(Entry::TorrentRead).input(outcome.out[..size].to_vec()));
+/// As many files as a list is sorted with, all of them with the same path.
+fn one_path() -> Written {
+    let text = path_bytes(&[b"a".to_vec()]);
+    Written { list: record(0, &[0; 32], [0, 0], [0, text.len() as u32]).repeat(69_905), text }
+}
+
+/// Paths of very many empty elements that begin somewhere in one text and end with it.
+fn deep_paths(start: fn(u32) -> u32) -> Written {
+    let text = vec![0; 400_000];
+    let part = |n: u32| [start(n), text.len() as u32 - start(n)];
+    Written { list: (0..50).flat_map(|n| record(1, &[7; 32], [0, 0], part(n))).collect(), text }
+}
+
+/// Calls with all the room that may be needed and with a byte too little; what is written is read back.
+pub fn ask_hostile(compared: &mut Comparison) {
+    for shape in &GOOD {
+        let files = (shape.make)();
+        let written = written_down(&files, Placing::Apart(0));
+        let outcome = compared.ask(&written.call(PIECE_LENGTH, b"x", LARGEST_TORRENT));
+        assert_eq!(outcome.given.number(), DONE, "{}", shape.name);
+        compared.ask(&written.call(PIECE_LENGTH, b"x", outcome.given.count() as usize - 1));
+        ask_back(&files, &outcome, PIECE_LENGTH, compared);
+    }
+    for list in &REFUSED {
+        let outcome = compared.ask(&(list.make)().call(PIECE_LENGTH, b"x", LARGEST_TORRENT));
+        assert_eq!(outcome.given.number(), list.number, "{}", list.name);
     }
 }

@@ -53,10 +53,7 @@ const PARTS: [Part; 14] = [
         cases: |_, compared, _| shapes::ALL.iter().for_each(|shape| torrents::ask_few(&(shape.make)(), compared)),
     },
     Part { name: "lists", cases: |random, compared, go_on| lists::run(random, compared, go_on) },
-    Part {
-        name: "hostile-lists",
-        cases: |_, compared, _| lists::HOSTILE.iter().for_each(|list| lists::ask_hostile(list, compared)),
-    },
+    Part { name: "hostile-lists", cases: |_, compared, _| lists::ask_hostile(compared) },
 ];
 
 /// Runs a part with a bound on calls and time, and says what was compared.
