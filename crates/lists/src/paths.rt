@@ -10,7 +10,8 @@ ghost use Rattle.lists.specs.Lists.{elementsFit, elementsIn, itemAt, for
 // Whether the path p stands before the path q. As long as their elements are the same, both are at one position.
 pub fn path_before(p: &[u8], q: &[u8]) -> bool
     requires { ⌜ (elementsFit (length (now p)) (now p) ≡ true) × (elementsFit (length (now q)) (now q) ≡ true) ⌝ }
-    ensures { λ r. ⌜ r ≡ pathBefore (elementsIn (length (now (p .entry))) (now (p .entry))) (elementsIn (length (now (q .entry))) (now (q .entry))) ⌝ }
+    ensures { λ r. ⌜ r ≡ pathBefore (elementsIn (length (now (p .entry))) (now (p .entry)))
+        (elementsIn (length (now (q .entry))) (now (q .entry))) ⌝ }
 {
     let mut at = 0;
     while at < p.len() {
@@ -33,7 +34,8 @@ pub fn path_before(p: &[u8], q: &[u8]) -> bool
 // Whether the path q leads to, or through, where the path p ends.
 pub fn path_begins(p: &[u8], q: &[u8]) -> bool
     requires { ⌜ (elementsFit (length (now p)) (now p) ≡ true) × (elementsFit (length (now q)) (now q) ≡ true) ⌝ }
-    ensures { λ r. ⌜ r ≡ begins (elementsIn (length (now (p .entry))) (now (p .entry))) (elementsIn (length (now (q .entry))) (now (q .entry))) ⌝ }
+    ensures { λ r. ⌜ r ≡ begins (elementsIn (length (now (p .entry))) (now (p .entry)))
+        (elementsIn (length (now (q .entry))) (now (q .entry))) ⌝ }
 {
     let mut at = 0;
     while at < p.len() {
@@ -55,7 +57,8 @@ pub fn path_begins(p: &[u8], q: &[u8]) -> bool
 pub fn leads(list: &[u8], text: &[u8], a: usize, b: usize) -> bool
     requires { ⌜ (a + 56 ≤ length (now list)) × (b + 56 ≤ length (now list)) × (formAt (now list) (now text) a ≡ true)
         × (formAt (now list) (now text) b ≡ true) ⌝ }
-    ensures { λ r. ⌜ r ≡ begins (itemAt (now (list .entry)) (now (text .entry)) a .path) (itemAt (now (list .entry)) (now (text .entry)) b .path) ⌝ }
+    ensures { λ r. ⌜ r ≡ begins (itemAt (now (list .entry)) (now (text .entry)) a .path)
+        (itemAt (now (list .entry)) (now (text .entry)) b .path) ⌝ }
 {
     let s = octets::number_at(list, a + 48, 4);
     let m = octets::number_at(list, a + 48 + 4, 4);
@@ -68,7 +71,8 @@ pub fn leads(list: &[u8], text: &[u8], a: usize, b: usize) -> bool
 pub fn lower(list: &[u8], text: &[u8], a: usize, b: usize) -> bool
     requires { ⌜ (a + 56 ≤ length (now list)) × (b + 56 ≤ length (now list)) × (formAt (now list) (now text) a ≡ true)
         × (formAt (now list) (now text) b ≡ true) ⌝ }
-    ensures { λ r. ⌜ r ≡ itemBefore (itemAt (now (list .entry)) (now (text .entry)) a) (itemAt (now (list .entry)) (now (text .entry)) b) ⌝ }
+    ensures { λ r. ⌜ r ≡ itemBefore (itemAt (now (list .entry)) (now (text .entry)) a)
+        (itemAt (now (list .entry)) (now (text .entry)) b) ⌝ }
 {
     let s = octets::number_at(list, a + 48, 4);
     let m = octets::number_at(list, a + 48 + 4, 4);

@@ -47,9 +47,11 @@ full-behind a b c = behind-trans (a .root) (b .root) (c .root)
 full-from : (x : Item) (xs : List Item) → OrderedFrom lowerRoot x xs → OrderedFrom lowerRoot x (fullOnes xs)
 unfolding fullOnes OrderedFrom
 full-from x [] o = tt
-full-from x (y ∷ ys) o = by-size (ltb 0 (y .size)) (full-from y ys (o .1)) (full-from x ys (skip lowerRoot full-behind x y ys (o .0) (o .1)))
+full-from x (y ∷ ys) o =
+    by-size (ltb 0 (y .size)) (full-from y ys (o .1)) (full-from x ys (skip lowerRoot full-behind x y ys (o .0) (o .1)))
   where
-    by-size : (t : Bool) → OrderedFrom lowerRoot y (fullOnes ys) → OrderedFrom lowerRoot x (fullOnes ys) → OrderedFrom lowerRoot x (cond t (y ∷ fullOnes ys) (fullOnes ys))
+    by-size : (t : Bool) → OrderedFrom lowerRoot y (fullOnes ys) → OrderedFrom lowerRoot x (fullOnes ys)
+        → OrderedFrom lowerRoot x (cond t (y ∷ fullOnes ys) (fullOnes ys))
     by-size true a b = (o .0, a)
     by-size false a b = b
 
@@ -66,7 +68,8 @@ full-ordered (x ∷ xs) o = by-size (ltb 0 (x .size)) (full-ordered xs (skip-fir
 root-too : (x y : Item) → rootBefore y x ≡ false → lowerRoot y x ≡ false
 root-too x y h = by-root (same (y .root) (x .root)) refl h
   where
-    by-root : (t : Bool) → same (y .root) (x .root) ≡ t → cond t (precedes (y .layer) (x .layer)) (precedes (y .root) (x .root)) ≡ false → lowerRoot y x ≡ false
+    by-root : (t : Bool) → same (y .root) (x .root) ≡ t → cond t (precedes (y .layer) (x .layer)) (precedes (y .root) (x .root)) ≡ false
+        → lowerRoot y x ≡ false
     by-root true e g = ap (λ (l : List ℕ). precedes l (x .root)) (same-true (y .root) (x .root) e) ∙ precedes-self (x .root)
     by-root false e g = g
 
@@ -99,7 +102,8 @@ unfolding fullOnes Member
 full-of [] z m = absurd m
 full-of (x ∷ xs) z m = by-size (ltb 0 (x .size)) refl (full-of xs z) m
   where
-    by-size : (t : Bool) → ltb 0 (x .size) ≡ t → (Member z (fullOnes xs) → Member z xs × (0 < z .size)) → Member z (cond t (x ∷ fullOnes xs) (fullOnes xs)) → ((z ≡ x) ⊎ Member z xs) × (0 < z .size)
+    by-size : (t : Bool) → ltb 0 (x .size) ≡ t → (Member z (fullOnes xs) → Member z xs × (0 < z .size))
+        → Member z (cond t (x ∷ fullOnes xs) (fullOnes xs)) → ((z ≡ x) ⊎ Member z xs) × (0 < z .size)
     by-size true q more (inl e) = (inl e, ltb-true 0 (z .size) (ap (λ (y : Item). ltb 0 (y .size)) e ∙ q))
     by-size true q more (inr k) = let w = more k in (inr (w .0), w .1)
     by-size false q more k = let w = more k in (inr (w .0), w .1)
@@ -138,7 +142,8 @@ one-root xs x y m n r =
 
 pub lengths-clash : (plen : ℕ) (xs : List Item) → Ordered rootBefore xs → clash false plen xs ≡ twoLengths xs
 unfolding clash
-lengths-clash plen xs o = both-ways (runs (firstWrong false plen) (λ (x y : Item). not (agree false x y)) (fullOnes xs)) (twoLengths xs) (λ e. from (runs-found (firstWrong false plen) (agree false) (fullOnes xs) e)) to
+lengths-clash plen xs o =
+    both-ways (runs (firstWrong false plen) (λ (x y : Item). not (agree false x y)) (fullOnes xs)) (twoLengths xs) (λ e. from (runs-found (firstWrong false plen) (agree false) (fullOnes xs) e)) to
   where
     from : Found (firstWrong false plen) (agree false) (fullOnes xs) → twoLengths xs ≡ true
     from (one x m e) = absurd (false≢true e)
@@ -175,27 +180,35 @@ module _ (plen : ℕ) (xs : List Item) (o : Ordered rootBefore xs) (l : twoLengt
       by-case true e = eqb-true (x .size) (y .size) e
       by-case false e = absurd (false≢true (sym l ∙ pair-of (agree false) xs .1 (x, y, one-root xs x y m n r, e)))
 
-  together : (x y : Item) → Member x (fullOnes xs) → Member y (fullOnes xs) → x .root ≡ y .root → agree true x y ≡ true → firstWrong true plen x ≡ firstWrong true plen y
-  together x y m n r a = gives-same plen (x .size) (y .size) (x .layer) (y .layer) (x .root) (y .root) (one-length x y m n r) (same-true (x .layer) (y .layer) a) r
+  together : (x y : Item) → Member x (fullOnes xs) → Member y (fullOnes xs) → x .root ≡ y .root → agree true x y ≡ true
+      → firstWrong true plen x ≡ firstWrong true plen y
+  together x y m n r a =
+      gives-same plen (x .size) (y .size) (x .layer) (y .layer) (x .root) (y .root) (one-length x y m n r) (same-true (x .layer) (y .layer) a) r
 
   -- a file whose layer is asked for is not empty
   asked-full : (x : Item) → givesOther plen x ≡ true → 0 < x .size
   unfolding hasLayer
-  asked-full x e = let h = ltb-true plen (x .size) (and-eq-true-iff (ltb plen (x .size)) (not (same (layerRoot (x .layer) (pieceLayer plen) (height (blockCount (x .size)))) (x .root))) .0 e .0) in omega arith
+  asked-full x e =
+      let h = ltb-true plen (x .size) (and-eq-true-iff (ltb plen (x .size)) (not (same (layerRoot (x .layer) (pieceLayer plen) (height (blockCount (x .size)))) (x .root))) .0 e .0) in omega arith
 
   pub layers-clash : clash true plen xs ≡ some (givesOther plen) xs || twoLayers xs
   unfolding clash
-  layers-clash = both-ways (runs (firstWrong true plen) (λ (x y : Item). not (agree true x y)) (fullOnes xs)) (some (givesOther plen) xs || twoLayers xs) (λ e. from (runs-found (firstWrong true plen) (agree true) (fullOnes xs) e)) to
+  layers-clash =
+      both-ways (runs (firstWrong true plen) (λ (x y : Item). not (agree true x y)) (fullOnes xs)) (some (givesOther plen) xs || twoLayers xs) (λ e. from (runs-found (firstWrong true plen) (agree true) (fullOnes xs) e)) to
     where
       from : Found (firstWrong true plen) (agree true) (fullOnes xs) → some (givesOther plen) xs || twoLayers xs ≡ true
       from (one x m e) = or-left (some (givesOther plen) xs) (twoLayers xs) (some-there (givesOther plen) xs x (full-of xs x m .0) e)
-      from (two x y m n r e) = or-right (some (givesOther plen) xs) (twoLayers xs) (pair-of (agree true) xs .1 (x, y, one-root xs x y m n r, e))
+      from (two x y m n r e) =
+          or-right (some (givesOther plen) xs) (twoLayers xs) (pair-of (agree true) xs .1 (x, y, one-root xs x y m n r, e))
 
-      to : some (givesOther plen) xs || twoLayers xs ≡ true → runs (firstWrong true plen) (λ (x y : Item). not (agree true x y)) (fullOnes xs) ≡ true
+      to : some (givesOther plen) xs || twoLayers xs ≡ true
+          → runs (firstWrong true plen) (λ (x y : Item). not (agree true x y)) (fullOnes xs) ≡ true
       to e = by-case (runs (firstWrong true plen) (λ (x y : Item). not (agree true x y)) (fullOnes xs)) refl
         where
-          settled : runs (firstWrong true plen) (λ (x y : Item). not (agree true x y)) (fullOnes xs) ≡ false → Settled (firstWrong true plen) (agree true) (fullOnes xs)
-          settled q = runs-settled (firstWrong true plen) (agree true) (agree-self true) (agree-back true) (agree-on true) (fullOnes xs) (full-ordered xs (roots-ordered xs o)) together q
+          settled : runs (firstWrong true plen) (λ (x y : Item). not (agree true x y)) (fullOnes xs) ≡ false
+              → Settled (firstWrong true plen) (agree true) (fullOnes xs)
+          settled q =
+              runs-settled (firstWrong true plen) (agree true) (agree-self true) (agree-back true) (agree-on true) (fullOnes xs) (full-ordered xs (roots-ordered xs o)) together q
 
           wrong-layer : Settled (firstWrong true plen) (agree true) (fullOnes xs) → some (givesOther plen) xs ≡ true → ⊥
           wrong-layer s a =
@@ -210,7 +223,8 @@ module _ (plen : ℕ) (xs : List Item) (o : Ordered rootBefore xs) (l : twoLengt
 
           by-case : (t : Bool) → runs (firstWrong true plen) (λ (x y : Item). not (agree true x y)) (fullOnes xs) ≡ t → t ≡ true
           by-case true q = refl
-          by-case false q = elim (or-one (some (givesOther plen) xs) (twoLayers xs) e) [ inl a ↦ absurd (wrong-layer (settled q) a) | inr b ↦ absurd (wrong-pair (settled q) b) ]
+          by-case false q =
+              elim (or-one (some (givesOther plen) xs) (twoLayers xs) e) [ inl a ↦ absurd (wrong-layer (settled q) a) | inr b ↦ absurd (wrong-pair (settled q) b) ]
 
 -- ---- by root and layer is an order
 
@@ -222,12 +236,15 @@ root-behind x y z = layer-behind (x .root, x .layer) (y .root, y .layer) (z .roo
 
 -- ---- the layers stand in their order
 
-given-from : (x : Item) (b : ℕ) (bs : List ℕ) (ys : List Item) → x .layer ≡ b ∷ bs → OrderedFrom rootBefore x ys → OrderedFrom layerBefore (x .root, b ∷ bs) (layersGiven ys)
+given-from : (x : Item) (b : ℕ) (bs : List ℕ) (ys : List Item) → x .layer ≡ b ∷ bs → OrderedFrom rootBefore x ys
+    → OrderedFrom layerBefore (x .root, b ∷ bs) (layersGiven ys)
 unfolding layersGiven OrderedFrom
 given-from x b bs [] e o = tt
-given-from x b bs (y ∷ ys) e o = by-layer (y .layer) refl (given-from x b bs ys e (skip rootBefore root-behind x y ys (o .0) (o .1))) (λ c cs f. given-from y c cs ys f (o .1))
+given-from x b bs (y ∷ ys) e o =
+    by-layer (y .layer) refl (given-from x b bs ys e (skip rootBefore root-behind x y ys (o .0) (o .1))) (λ c cs f. given-from y c cs ys f (o .1))
   where
-    by-layer : (m : List ℕ) → y .layer ≡ m → OrderedFrom layerBefore (x .root, b ∷ bs) (layersGiven ys) → ((c : ℕ) (cs : List ℕ) → y .layer ≡ c ∷ cs → OrderedFrom layerBefore (y .root, c ∷ cs) (layersGiven ys))
+    by-layer : (m : List ℕ) → y .layer ≡ m → OrderedFrom layerBefore (x .root, b ∷ bs) (layersGiven ys)
+        → ((c : ℕ) (cs : List ℕ) → y .layer ≡ c ∷ cs → OrderedFrom layerBefore (y .root, c ∷ cs) (layersGiven ys))
         → OrderedFrom layerBefore (x .root, b ∷ bs) (withLayer y m (layersGiven ys))
     by-layer [] f past more = past
     by-layer (c ∷ cs) f past more = (sym (ap₂ (λ (u v : List ℕ). layerBefore (y .root, u) (x .root, v)) f e) ∙ o .0, more c cs f)

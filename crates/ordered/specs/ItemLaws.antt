@@ -56,10 +56,13 @@ module _ (s : List ℕ) (at : ℕ) (passed : List (List ℕ)) (p : Passed s at p
         (record {
           left = path-more s at (p .left) h;
           few = not-more (length-append passed (take (numberAt s at 4) (drop (at + 4) s) ∷ [])) (p .few);
-          whole = here ∙ sym (append-snoc passed (take (numberAt s at 4) (drop (at + 4) s)) (elementsIn (path-more s at (p .left) h .steps) (drop (at + 4 + numberAt s at 4) s)));
+          whole =
+              here
+              ∙ sym (append-snoc passed (take (numberAt s at 4) (drop (at + 4) s)) (elementsIn (path-more s at (p .left) h .steps) (drop (at + 4 + numberAt s at 4) s)));
         })
       where
-        not-more : length (passed ++ take (numberAt s at 4) (drop (at + 4) s) ∷ []) ≡ length passed + 1 → length passed ≤ at → length (passed ++ take (numberAt s at 4) (drop (at + 4) s) ∷ []) ≤ at + 4 + numberAt s at 4
+        not-more : length (passed ++ take (numberAt s at 4) (drop (at + 4) s) ∷ []) ≡ length passed + 1 → length passed ≤ at
+            → length (passed ++ take (numberAt s at 4) (drop (at + 4) s) ∷ []) ≤ at + 4 + numberAt s at 4
         not-more a b = omega arith
 
 pub length-more : (passed : List (List ℕ)) (e : List ℕ) (n : ℕ) → n ≡ length passed → n + 1 ≡ length (passed ++ e ∷ [])
@@ -73,7 +76,8 @@ module _ {A : Type 0} (test : A → Bool) where
   some-append [] ys = refl
   some-append (x ∷ xs) ys = by-case (test x) (some-append xs ys)
     where
-      by-case : (t : Bool) → some test (xs ++ ys) ≡ some test xs || some test ys → t || some test (xs ++ ys) ≡ (t || some test xs) || some test ys
+      by-case : (t : Bool) → some test (xs ++ ys) ≡ some test xs || some test ys
+          → t || some test (xs ++ ys) ≡ (t || some test xs) || some test ys
       by-case true e = refl
       by-case false e = e
 
@@ -88,7 +92,8 @@ module _ {A : Type 0} (test : A → Bool) where
 -- ---- 21
 
 module _ (list text : List ℕ) (p a b : ℕ) (ea : a ≡ numberAt list (p + 48) 4) (eb : b ≡ numberAt list (p + 48 + 4) 4) where
-  pub deep-is : (d : ℕ) → d ≡ length (elementsIn (length (take (a + b - a) (drop a text))) (take (a + b - a) (drop a text))) → ltb maxLevels (d + 4) ≡ tooDeep (itemAt list text p)
+  pub deep-is : (d : ℕ) → d ≡ length (elementsIn (length (take (a + b - a) (drop a text))) (take (a + b - a) (drop a text)))
+      → ltb maxLevels (d + 4) ≡ tooDeep (itemAt list text p)
   deep-is d e = ap (λ (n : ℕ). ltb maxLevels (n + 4)) (e ∙ ap (λ (l : List (List ℕ)). length l) (slice-path list text p a b ea eb))
 
   -- ---- 25
@@ -128,7 +133,8 @@ module _ (list text : List ℕ) (p a b : ℕ) (ea : a ≡ numberAt list (p + 48)
         size = omega arith
 
         fits : a + b ≤ length text
-        fits = let l = leb-true (numberAt list (p + 48) 4 + numberAt list (p + 48 + 4) 4) (length text) (form-parts list text p f .path-fits) in omega arith
+        fits =
+            let l = leb-true (numberAt list (p + 48) 4 + numberAt list (p + 48 + 4) 4) (length text) (form-parts list text p f .path-fits) in omega arith
 
         long : 0 < length (take (a + b - a) (drop a text))
         long = let l = slice-length (cut-length text a b fits) in rw size (omega arith)
@@ -139,7 +145,8 @@ module _ (list text : List ℕ) (p a b : ℕ) (ea : a ≡ numberAt list (p + 48)
         starts : (s : List ℕ) → elementsFit (length s) s ≡ true → 0 < length s → noElements (elementsIn (length s) s) ≡ false
         starts s g h = ap noElements (path-elements s 0 (record { within = omega arith; steps = length s; fits = g }) h)
 
-    parts-are : (n : ℕ) → n ≡ numberAt list p 8 → wrongItem (itemAt list text p) ≡ t || ltb longestFile n || (eqb n 0 && not (same (cut list (p + 8) 32) zeroHash))
+    parts-are : (n : ℕ) → n ≡ numberAt list p 8
+        → wrongItem (itemAt list text p) ≡ t || ltb longestFile n || (eqb n 0 && not (same (cut list (p + 8) 32) zeroHash))
     parts-are n e = wrong-is n e ∙ rw (some-element, elements-are) refl
 
     pub element-wrong : t ≡ true → true ≡ wrongItem (itemAt list text p)
@@ -156,13 +163,15 @@ module _ (list text : List ℕ) (p a b : ℕ) (ea : a ≡ numberAt list (p + 48)
         pub not-empty : (n ≡ 0 → ⊥) → false ≡ wrongItem (itemAt list text p)
         not-empty q = sym (short ∙ rw (ne-eqb n 0 q) refl)
 
-        pub empty-root : n ≡ 0 → (root none : List ℕ) → root ≡ cut list (p + 8) 32 → none ≡ padValue 0 → (r : Bool) → r ≡ same root none → not r ≡ wrongItem (itemAt list text p)
+        pub empty-root : n ≡ 0 → (root none : List ℕ) → root ≡ cut list (p + 8) 32 → none ≡ padValue 0 → (r : Bool) → r ≡ same root none
+            → not r ≡ wrongItem (itemAt list text p)
         unfolding padValue
         empty-root q root none er ez r e = sym (short ∙ rw (eq-eqb n 0 q) (ap not (sym (e ∙ ap₂ same er ez))))
 
 -- ---- 27
 
-module _ (list text : List ℕ) (plen p n m : ℕ) (f : formAt list text p ≡ true) (en : n ≡ numberAt list p 8) (em : m ≡ numberAt list (p + 40 + 4) 4) where
+module _ (list text : List ℕ) (plen p n m : ℕ) (f : formAt list text p ≡ true) (en : n ≡ numberAt list p 8)
+    (em : m ≡ numberAt list (p + 40 + 4) 4) where
   layer-length : length (itemAt list text p .layer) ≡ m
   unfolding itemAt
   layer-length =
@@ -185,7 +194,8 @@ module _ (list text : List ℕ) (plen p n m : ℕ) (f : formAt list text p ≡ t
       odd-size h = sym (misfit-is ∙ rw (e, ne-eqb m (32 * pieceCount n plen) (λ z. h (let d = z in omega arith))) refl)
 
       pub pieces-counted : m % 32 ≡ 0 → (c : ℕ) → c ≡ pieceCount n plen → not (eqb (m / 32) c) ≡ misfit plen (itemAt list text p)
-      pieces-counted h c ec = sym (misfit-is ∙ rw e (ap (λ (k : ℕ). not (eqb m (32 * k))) (sym ec) ∙ ap not (by-count (eqb (m / 32) c) refl)))
+      pieces-counted h c ec =
+          sym (misfit-is ∙ rw e (ap (λ (k : ℕ). not (eqb m (32 * k))) (sym ec) ∙ ap not (by-count (eqb (m / 32) c) refl)))
         where
           by-count : (b : Bool) → eqb (m / 32) c ≡ b → eqb m (32 * c) ≡ b
           by-count true q = let k = eqb-true (m / 32) c q in eq-eqb m (32 * c) (omega arith)
@@ -201,9 +211,11 @@ form-there list text (suc n) i e h = by-last (ltb i n) refl (λ f l. form-there 
     a : (formUpTo list text n ≡ true) × (formAt list text (recordSize * n) ≡ true)
     a = and-eq-true-iff (formUpTo list text n) (formAt list text (recordSize * n)) .0 e
 
-    by-last : (t : Bool) → ltb i n ≡ t → (formUpTo list text n ≡ true → i < n → formAt list text (recordSize * i) ≡ true) → formAt list text (recordSize * i) ≡ true
+    by-last : (t : Bool) → ltb i n ≡ t → (formUpTo list text n ≡ true → i < n → formAt list text (recordSize * i) ≡ true)
+        → formAt list text (recordSize * i) ≡ true
     by-last true q more = more (a .0) (ltb-true i n q)
-    by-last false q more = let g = ltb-false i n q in let o : i ≡ n = omega arith in ap (λ (k : ℕ). formAt list text (recordSize * k)) o ∙ a .1
+    by-last false q more =
+        let g = ltb-false i n q in let o : i ≡ n = omega arith in ap (λ (k : ℕ). formAt list text (recordSize * k)) o ∙ a .1
 
 pub record-there : (list text : List ℕ) (i : ℕ) → listForm list text ≡ true → i < recordCount list → InForm list text (recordSize * i)
 unfolding listForm
@@ -226,7 +238,8 @@ module _ (test : Item → Bool) (list text : List ℕ) where
       next : itemsUpTo list text (suc i) ≡ itemsUpTo list text i ++ itemAt list text (recordSize * i) ∷ []
       next = unfold itemsUpTo in refl
 
-  pub none-so-far : (i : ℕ) → some test (itemsUpTo list text i) ≡ false → test (itemAt list text (recordSize * i)) ≡ false → some test (itemsUpTo list text (i + 1)) ≡ false
+  pub none-so-far : (i : ℕ) → some test (itemsUpTo list text i) ≡ false → test (itemAt list text (recordSize * i)) ≡ false
+      → some test (itemsUpTo list text (i + 1)) ≡ false
   none-so-far i e f = ap (some test) (items-next i) ∙ some-last test (itemsUpTo list text i) (itemAt list text (recordSize * i)) e f
 
   pub one-there : (n i : ℕ) → i < n → test (itemAt list text (recordSize * i)) ≡ true → some test (itemsUpTo list text n) ≡ true
@@ -234,7 +247,8 @@ module _ (test : Item → Bool) (list text : List ℕ) where
   one-there zero i h e = absurd (omega arith)
   one-there (suc n) i h e = by-last (ltb i n) refl (λ l. one-there n i l e)
     where
-      by-last : (t : Bool) → ltb i n ≡ t → (i < n → some test (itemsUpTo list text n) ≡ true) → some test (itemsUpTo list text n ++ itemAt list text (recordSize * n) ∷ []) ≡ true
+      by-last : (t : Bool) → ltb i n ≡ t → (i < n → some test (itemsUpTo list text n) ≡ true)
+          → some test (itemsUpTo list text n ++ itemAt list text (recordSize * n) ∷ []) ≡ true
       by-last true q more =
           some-append test (itemsUpTo list text n) (itemAt list text (recordSize * n) ∷ [])
           ∙ or-left (some test (itemsUpTo list text n)) (some test (itemAt list text (recordSize * n) ∷ [])) (more (ltb-true i n q))

@@ -21,7 +21,8 @@ use Rattle.ordered.specs.CompareLaws.{root-slice, layer-slice}
 -- ---- the root that a layer gives
 
 -- a file longer than the piece length has its layer below its root
-pub layer-under : (plen n : ℕ) → isPieceLength plen ≡ true → hasLayer n plen ≡ true → (q b h : ℕ) → q ≡ pieceLayer plen → b ≡ blockCount n → h ≡ height b → q ≤ h
+pub layer-under : (plen n : ℕ) → isPieceLength plen ≡ true → hasLayer n plen ≡ true → (q b h : ℕ) → q ≡ pieceLayer plen → b ≡ blockCount n
+    → h ≡ height b → q ≤ h
 layer-under plen n p l q b h eq eb eh = rw (eq, eh, eb) below
   where
     longer : plen < n
@@ -35,7 +36,8 @@ layer-under plen n p l q b h eq eb eh = rw (eq, eh, eb) below
         omega arith
 
 -- the root that is worked out, as the code does it
-pub root-worked : (root layer : List ℕ) (plen n q b h : ℕ) (worked mine : List ℕ) (r : Bool) → q ≡ pieceLayer plen → b ≡ blockCount n → h ≡ height b
+pub root-worked : (root layer : List ℕ) (plen n q b h : ℕ) (worked mine : List ℕ) (r : Bool) → q ≡ pieceLayer plen → b ≡ blockCount n
+    → h ≡ height b
     → worked ≡ node (layerLeaf layer q) (h - q) 0 → length root ≡ 32 → mine ≡ cut root 0 32 → r ≡ same worked mine
     → r ≡ same (layerRoot layer (pieceLayer plen) (height (blockCount n))) root
 unfolding layerRoot
@@ -85,34 +87,42 @@ module _ (list text : List ℕ) (plen : ℕ) (layers : Bool) (p : ℕ) where
 
 -- ---- two of a run
 
-module _ (list text : List ℕ) (p q s m u n : ℕ) (es : s ≡ numberAt list (p + 40) 4) (em : m ≡ numberAt list (p + 40 + 4) 4) (eu : u ≡ numberAt list (q + 40) 4) (en : n ≡ numberAt list (q + 40 + 4) 4) where
+module _ (list text : List ℕ) (p q s m u n : ℕ) (es : s ≡ numberAt list (p + 40) 4) (em : m ≡ numberAt list (p + 40 + 4) 4)
+    (eu : u ≡ numberAt list (q + 40) 4) (en : n ≡ numberAt list (q + 40 + 4) 4) where
   pub one-part : s ≡ u → m ≡ n → true ≡ agree true (itemAt list text p) (itemAt list text q)
   one-part e f =
       sym (ap (same (itemAt list text p .layer)) (sym (layer-slice list text q s m (e ∙ eu) (f ∙ en)) ∙ layer-slice list text p s m es em) ∙ same-refl (itemAt list text p .layer))
 
-  pub parts-compared : (r : Bool) → r ≡ same (take (s + m - s) (drop s text)) (take (u + n - u) (drop u text)) → r ≡ agree true (itemAt list text p) (itemAt list text q)
+  pub parts-compared : (r : Bool) → r ≡ same (take (s + m - s) (drop s text)) (take (u + n - u) (drop u text))
+      → r ≡ agree true (itemAt list text p) (itemAt list text q)
   parts-compared r e = e ∙ ap₂ same (layer-slice list text p s m es em) (layer-slice list text q u n eu en)
 
 module _ (list text : List ℕ) (layers : Bool) (p q : ℕ) where
-  pub layers-agree : layers ≡ true → (r : Bool) → r ≡ agree true (itemAt list text p) (itemAt list text q) → r ≡ agree layers (itemAt list text p) (itemAt list text q)
+  pub layers-agree : layers ≡ true → (r : Bool) → r ≡ agree true (itemAt list text p) (itemAt list text q)
+      → r ≡ agree layers (itemAt list text p) (itemAt list text q)
   layers-agree e r f = rw e f
 
-  pub lengths-agree : layers ≡ false → (m n : ℕ) → m ≡ numberAt list p 8 → n ≡ numberAt list q 8 → eqb m n ≡ agree layers (itemAt list text p) (itemAt list text q)
+  pub lengths-agree : layers ≡ false → (m n : ℕ) → m ≡ numberAt list p 8 → n ≡ numberAt list q 8
+      → eqb m n ≡ agree layers (itemAt list text p) (itemAt list text q)
   unfolding itemAt
   lengths-agree e m n em en = rw (e, em, en) refl
 
 -- ---- a file behind another
 
 module _ (list text : List ℕ) (plen : ℕ) (layers seen : Bool) (p q : ℕ) where
-  pub none-seen : seen ≡ false → (r : Bool) → r ≡ firstWrong layers plen (itemAt list text q) → r ≡ wrongNext layers plen seen (itemAt list text p) (itemAt list text q)
+  pub none-seen : seen ≡ false → (r : Bool) → r ≡ firstWrong layers plen (itemAt list text q)
+      → r ≡ wrongNext layers plen seen (itemAt list text p) (itemAt list text q)
   none-seen e r f = rw e f
 
-  module _ (e : seen ≡ true) (t : Bool) (et : t ≡ same (take (p + 40 - (p + 8)) (drop (p + 8) list)) (take (q + 40 - (q + 8)) (drop (q + 8) list))) where
+  module _ (e : seen ≡ true) (t : Bool)
+      (et : t ≡ same (take (p + 40 - (p + 8)) (drop (p + 8) list)) (take (q + 40 - (q + 8)) (drop (q + 8) list))) where
     roots : same (itemAt list text p .root) (itemAt list text q .root) ≡ t
     roots = sym (et ∙ ap₂ same (root-slice list text p) (root-slice list text q))
 
-    pub other-run : t ≡ false → (r : Bool) → r ≡ firstWrong layers plen (itemAt list text q) → r ≡ wrongNext layers plen seen (itemAt list text p) (itemAt list text q)
+    pub other-run : t ≡ false → (r : Bool) → r ≡ firstWrong layers plen (itemAt list text q)
+        → r ≡ wrongNext layers plen seen (itemAt list text p) (itemAt list text q)
     other-run f r g = rw (e, roots ∙ f) g
 
-    pub same-run : t ≡ true → (a : Bool) → a ≡ agree layers (itemAt list text p) (itemAt list text q) → not a ≡ wrongNext layers plen seen (itemAt list text p) (itemAt list text q)
+    pub same-run : t ≡ true → (a : Bool) → a ≡ agree layers (itemAt list text p) (itemAt list text q)
+        → not a ≡ wrongNext layers plen seen (itemAt list text p) (itemAt list text q)
     same-run f a g = rw (e, roots ∙ f) (ap not g)

@@ -50,7 +50,8 @@ begins-between (e ∷ p) (f ∷ q) (g ∷ r) a b h = by-case (same f e) refl (sa
     k : (same e g ≡ true) × (begins p r ≡ true)
     k = and-eq-true-iff (same e g) (begins p r) .0 h
 
-    by-case : (t : Bool) → same f e ≡ t → (u : Bool) → same g f ≡ u → (pathBefore q p ≡ false → pathBefore r q ≡ false → begins p q ≡ true) → same e f && begins p q ≡ true
+    by-case : (t : Bool) → same f e ≡ t → (u : Bool) → same g f ≡ u → (pathBefore q p ≡ false → pathBefore r q ≡ false → begins p q ≡ true)
+        → same e f && begins p q ≡ true
     by-case true x true y more =
         let a' : pathBefore q p ≡ false = rw x at a in
         let b' : pathBefore r q ≡ false = rw y at b in
@@ -66,7 +67,8 @@ begins-between (e ∷ p) (f ∷ q) (g ∷ r) a b h = by-case (same f e) refl (sa
 
 meets-next : (x y : Item) (ys : List Item) → OrderedFrom itemBefore x (y ∷ ys) → some (onePath x) (y ∷ ys) ≡ leads x y
 unfolding some OrderedFrom Member
-meets-next x y ys o = both-ways (some (onePath x) (y ∷ ys)) (leads x y) there (λ e. or-left (onePath x y) (some (onePath x) ys) (or-left (leads x y) (leads y x) e))
+meets-next x y ys o =
+    both-ways (some (onePath x) (y ∷ ys)) (leads x y) there (λ e. or-left (onePath x y) (some (onePath x) ys) (or-left (leads x y) (leads y x) e))
   where
     behind : (a b c : Item) → itemBefore b a ≡ false → itemBefore c b ≡ false → itemBefore c a ≡ false
     behind a b c = path-behind (a .path) (b .path) (c .path)
@@ -86,7 +88,8 @@ meets-next x y ys o = both-ways (some (onePath x) (y ∷ ys)) (leads x y) there 
     there e = found (some-one (onePath x) (y ∷ ys) e)
       where
         found : (w : Item) × Member w (y ∷ ys) × (onePath x w ≡ true) → leads x y ≡ true
-        found f = elim (or-one (leads x (f .0)) (leads (f .0) x) (f .2)) [ inl a ↦ led (f .0) (f .1) a | inr b ↦ led (f .0) (f .1) (turned (f .0) (f .1) b) ]
+        found f =
+            elim (or-one (leads x (f .0)) (leads (f .0) x) (f .2)) [ inl a ↦ led (f .0) (f .1) a | inr b ↦ led (f .0) (f .1) (turned (f .0) (f .1) b) ]
 
 meet-from : (x : Item) (xs : List Item) → OrderedFrom itemBefore x xs → meet (x ∷ xs) ≡ followed leads x xs
 unfolding meet some followed OrderedFrom

@@ -61,11 +61,14 @@ module _ (first : Item → Bool) (told : Item → Item → Bool) where
   pub runs-found : (xs : List Item) → runs first (λ (u v : Item). not (told u v)) xs ≡ true → Found xs
   unfolding runs Member
   runs-found [] e = absurd (false≢true e)
-  runs-found (x ∷ xs) e = elim (or-one (first x) (runFrom first (λ (u v : Item). not (told u v)) x xs) e) [ inl a ↦ one x (inl refl) a | inr b ↦ found-from x xs b ]
+  runs-found (x ∷ xs) e =
+      elim (or-one (first x) (runFrom first (λ (u v : Item). not (told u v)) x xs) e) [ inl a ↦ one x (inl refl) a | inr b ↦ found-from x xs b ]
 
-  module _ (told-self : (x : Item) → told x x ≡ true) (told-back : (x y : Item) → told x y ≡ true → told y x ≡ true) (told-on : (x y z : Item) → told x y ≡ true → told y z ≡ true → told x z ≡ true) where
+  module _ (told-self : (x : Item) → told x x ≡ true) (told-back : (x y : Item) → told x y ≡ true → told y x ≡ true)
+      (told-on : (x y z : Item) → told x y ≡ true → told y z ≡ true → told x z ≡ true) where
     -- a first file put before a list that is settled
-    settled-more : (x y : Item) (ys : List Item) → OrderedFrom lowerRoot x (y ∷ ys) → (x .root ≡ y .root → told x y ≡ true) → first x ≡ false → Settled (y ∷ ys) → Settled (x ∷ y ∷ ys)
+    settled-more : (x y : Item) (ys : List Item) → OrderedFrom lowerRoot x (y ∷ ys) → (x .root ≡ y .root → told x y ≡ true)
+        → first x ≡ false → Settled (y ∷ ys) → Settled (x ∷ y ∷ ys)
     unfolding OrderedFrom Member
     settled-more x y ys o near h s = record { firsts = firsts-are; agreeing = agreeing-are }
       where
@@ -93,7 +96,8 @@ module _ (first : Item → Bool) (told : Item → Item → Bool) where
             ap (told z) b ∙ told-back x z (link z m (ap (λ (v : Item). v .root) (sym b) ∙ sym r))
         agreeing-are z w (inr m) (inr n) r = s .agreeing z w m n r
 
-    settled-from : (x : Item) (xs : List Item) → OrderedFrom lowerRoot x xs → Together (x ∷ xs) → first x ≡ false → runFrom first (λ (u v : Item). not (told u v)) x xs ≡ false → Settled (x ∷ xs)
+    settled-from : (x : Item) (xs : List Item) → OrderedFrom lowerRoot x xs → Together (x ∷ xs) → first x ≡ false
+        → runFrom first (λ (u v : Item). not (told u v)) x xs ≡ false → Settled (x ∷ xs)
     unfolding runFrom OrderedFrom Member
     settled-from x [] o t h e = record { firsts = firsts-are; agreeing = agreeing-are }
       where
@@ -105,19 +109,22 @@ module _ (first : Item → Bool) (told : Item → Item → Bool) where
         agreeing-are z w (inl a) (inl b) r = ap (λ (v : Item). told z v) (b ∙ sym a) ∙ told-self z
         agreeing-are z w (inl a) (inr n) r = absurd n
         agreeing-are z w (inr m) n r = absurd m
-    settled-from x (y ∷ ys) o t h e = by-root (same (x .root) (y .root)) refl (split .0) (λ f. settled-from y ys (o .1) (λ z w m n. t z w (inr m) (inr n)) f (split .1))
+    settled-from x (y ∷ ys) o t h e =
+        by-root (same (x .root) (y .root)) refl (split .0) (λ f. settled-from y ys (o .1) (λ z w m n. t z w (inr m) (inr n)) f (split .1))
       where
         split : (cond (same (x .root) (y .root)) (not (told x y)) (first y) ≡ false) × (runFrom first (λ (u v : Item). not (told u v)) y ys ≡ false)
         split = or-none (cond (same (x .root) (y .root)) (not (told x y)) (first y)) (runFrom first (λ (u v : Item). not (told u v)) y ys) e
 
-        by-root : (b : Bool) → same (x .root) (y .root) ≡ b → cond b (not (told x y)) (first y) ≡ false → (first y ≡ false → Settled (y ∷ ys)) → Settled (x ∷ y ∷ ys)
+        by-root : (b : Bool) → same (x .root) (y .root) ≡ b → cond b (not (told x y)) (first y) ≡ false
+            → (first y ≡ false → Settled (y ∷ ys)) → Settled (x ∷ y ∷ ys)
         by-root true q a more =
             let g = no-then (told x y) a in
             let r = same-true (x .root) (y .root) q in
             settled-more x y ys o (λ _. g) h (more (sym (t x y (inl refl) (inr (inl refl)) r g) ∙ h))
         by-root false q a more = settled-more x y ys o (λ r. absurd (same-false (x .root) (y .root) q r)) h (more a)
 
-    pub runs-settled : (xs : List Item) → Ordered lowerRoot xs → Together xs → runs first (λ (u v : Item). not (told u v)) xs ≡ false → Settled xs
+    pub runs-settled : (xs : List Item) → Ordered lowerRoot xs → Together xs → runs first (λ (u v : Item). not (told u v)) xs ≡ false
+        → Settled xs
     unfolding runs Ordered Member
     runs-settled [] o t e = record { firsts = λ z m. absurd m; agreeing = λ z w m n r. absurd m }
     runs-settled (x ∷ xs) o t e =

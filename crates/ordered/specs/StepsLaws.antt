@@ -34,19 +34,25 @@ module _ {A : Type 0} (test : A → A → Bool) (f : ℕ → A) (at : List ℕ) 
       few (p ∷ []) e = unfold neighbours followed in refl
       few (p ∷ q ∷ l) e = absurd (omega arith)
 
-  neighbours-step : i + 1 < length at → neighbours test (map f (drop i at)) ≡ test (f (getD at i 0)) (f (getD at (i + 1) 0)) || neighbours test (map f (drop (i + 1) at))
+  neighbours-step : i + 1 < length at
+      → neighbours test (map f (drop i at)) ≡ test (f (getD at i 0)) (f (getD at (i + 1) 0)) || neighbours test (map f (drop (i + 1) at))
   neighbours-step h =
       ap (λ (l : List ℕ). neighbours test (map f l)) (drop-step at i (omega arith) ∙ ap (λ (l : List ℕ). getD at i 0 ∷ l) (drop-step at (i + 1) h))
       ∙ first-two test (f (getD at i 0)) (f (getD at (i + 1) 0)) (map f (drop (i + 1 + 1) at))
       ∙ ap (λ (l : List ℕ). test (f (getD at i 0)) (f (getD at (i + 1) 0)) || neighbours test (map f l)) (sym (drop-step at (i + 1) h))
 
   -- two that pass, or do not
-  module _ (h : i + 1 < length at) (p q : ℕ) (ep : p ≡ getD at i 0) (eq : q ≡ getD at (i + 1) 0) (whole : neighbours test (map f at) ≡ neighbours test (map f (drop i at))) where
+  module _ (h : i + 1 < length at) (p q : ℕ) (ep : p ≡ getD at i 0) (eq : q ≡ getD at (i + 1) 0)
+      (whole : neighbours test (map f at) ≡ neighbours test (map f (drop i at))) where
     pub neighbours-stop : test (f p) (f q) ≡ true → neighbours test (map f at) ≡ true
-    neighbours-stop e = whole ∙ neighbours-step h ∙ ap (λ (t : Bool). t || neighbours test (map f (drop (i + 1) at))) (sym (ap₂ (λ (x y : ℕ). test (f x) (f y)) ep eq) ∙ e)
+    neighbours-stop e =
+        whole ∙ neighbours-step h
+        ∙ ap (λ (t : Bool). t || neighbours test (map f (drop (i + 1) at))) (sym (ap₂ (λ (x y : ℕ). test (f x) (f y)) ep eq) ∙ e)
 
     pub neighbours-on : test (f p) (f q) ≡ false → neighbours test (map f at) ≡ neighbours test (map f (drop (i + 1) at))
-    neighbours-on e = whole ∙ neighbours-step h ∙ ap (λ (t : Bool). t || neighbours test (map f (drop (i + 1) at))) (sym (ap₂ (λ (x y : ℕ). test (f x) (f y)) ep eq) ∙ e)
+    neighbours-on e =
+        whole ∙ neighbours-step h
+        ∙ ap (λ (t : Bool). t || neighbours test (map f (drop (i + 1) at))) (sym (ap₂ (λ (x y : ℕ). test (f x) (f y)) ep eq) ∙ e)
 
 -- ---- runs
 
@@ -60,7 +66,8 @@ unfolding runsLeft fullOnes runFrom runs
 left-none layers plen true x = refl
 left-none layers plen false x = refl
 
-left-empty : (layers : Bool) (plen : ℕ) (seen : Bool) (x y : Item) (ys : List Item) → ltb 0 (y .size) ≡ false → runsLeft layers plen seen x (y ∷ ys) ≡ runsLeft layers plen seen x ys
+left-empty : (layers : Bool) (plen : ℕ) (seen : Bool) (x y : Item) (ys : List Item) → ltb 0 (y .size) ≡ false
+    → runsLeft layers plen seen x (y ∷ ys) ≡ runsLeft layers plen seen x ys
 unfolding runsLeft fullOnes
 left-empty layers plen seen x y ys e = rw e refl
 
@@ -89,7 +96,9 @@ module _ (list text : List ℕ) (plen : ℕ) (layers : Bool) (at : List ℕ) whe
 
     module _ (h : i < length at) (p : ℕ) (e : p ≡ getD at i 0) where
       here : clash layers plen (map (itemAt list text) at) ≡ runsLeft layers plen seen (itemAt list text last) (itemAt list text p ∷ map (itemAt list text) (drop (i + 1) at))
-      here = c .whole ∙ ap (λ (l : List ℕ). runsLeft layers plen seen (itemAt list text last) (map (itemAt list text) l)) (drop-step at i h ∙ ap (λ (k : ℕ). k ∷ drop (i + 1) at) (sym e))
+      here =
+          c .whole
+          ∙ ap (λ (l : List ℕ). runsLeft layers plen seen (itemAt list text last) (map (itemAt list text) l)) (drop-step at i h ∙ ap (λ (k : ℕ). k ∷ drop (i + 1) at) (sym e))
 
       size-is : (t : Bool) → ltb 0 (numberAt list p 8) ≡ t → ltb 0 (itemAt list text p .size) ≡ t
       unfolding itemAt
@@ -100,20 +109,29 @@ module _ (list text : List ℕ) (plen : ℕ) (layers : Bool) (at : List ℕ) whe
           record {
             within = omega arith;
             last-there = c .last-there;
-            whole = here ∙ left-empty layers plen seen (itemAt list text last) (itemAt list text p) (map (itemAt list text) (drop (i + 1) at)) (size-is false q);
+            whole =
+                here
+                ∙ left-empty layers plen seen (itemAt list text last) (itemAt list text p) (map (itemAt list text) (drop (i + 1) at)) (size-is false q);
           }
 
       module _ (q : ltb 0 (numberAt list p 8) ≡ true) where
         full : clash layers plen (map (itemAt list text) at) ≡ wrongNext layers plen seen (itemAt list text last) (itemAt list text p) || runsLeft layers plen true (itemAt list text p) (map (itemAt list text) (drop (i + 1) at))
-        full = here ∙ left-full layers plen seen (itemAt list text last) (itemAt list text p) (map (itemAt list text) (drop (i + 1) at)) (size-is true q)
+        full =
+            here
+            ∙ left-full layers plen seen (itemAt list text last) (itemAt list text p) (map (itemAt list text) (drop (i + 1) at)) (size-is true q)
 
-        pub clashing-stop : wrongNext layers plen seen (itemAt list text last) (itemAt list text p) ≡ true → clash layers plen (map (itemAt list text) at) ≡ true
-        clashing-stop w = full ∙ ap (λ (t : Bool). t || runsLeft layers plen true (itemAt list text p) (map (itemAt list text) (drop (i + 1) at))) w
+        pub clashing-stop : wrongNext layers plen seen (itemAt list text last) (itemAt list text p) ≡ true
+            → clash layers plen (map (itemAt list text) at) ≡ true
+        clashing-stop w =
+            full ∙ ap (λ (t : Bool). t || runsLeft layers plen true (itemAt list text p) (map (itemAt list text) (drop (i + 1) at))) w
 
-        pub clashing-on : wrongNext layers plen seen (itemAt list text last) (itemAt list text p) ≡ false → InForm list text p → Clashing list text plen layers at true p (i + 1)
+        pub clashing-on : wrongNext layers plen seen (itemAt list text last) (itemAt list text p) ≡ false → InForm list text p
+            → Clashing list text plen layers at true p (i + 1)
         clashing-on w f =
             record {
               within = omega arith;
               last-there = λ _. f;
-              whole = full ∙ ap (λ (t : Bool). t || runsLeft layers plen true (itemAt list text p) (map (itemAt list text) (drop (i + 1) at))) w;
+              whole =
+                  full
+                  ∙ ap (λ (t : Bool). t || runsLeft layers plen true (itemAt list text p) (map (itemAt list text) (drop (i + 1) at))) w;
             }

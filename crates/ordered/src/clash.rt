@@ -70,7 +70,8 @@ fn first_wrong(list: &[u8], text: &[u8], plen: usize, layers: bool, p: usize) ->
 // Whether the files of the records at p and q have one layer. Layers that are one part of the text are not compared.
 fn one_layer(list: &[u8], text: &[u8], p: usize, q: usize) -> bool
     requires { ⌜ InForm (now list) (now text) p × InForm (now list) (now text) q ⌝ }
-    ensures { λ r. ⌜ r ≡ agree true (itemAt (now (list .entry)) (now (text .entry)) p) (itemAt (now (list .entry)) (now (text .entry)) q) ⌝ }
+    ensures { λ r. ⌜ r ≡ agree true (itemAt (now (list .entry)) (now (text .entry)) p)
+        (itemAt (now (list .entry)) (now (text .entry)) q) ⌝ }
 {
     let s = number_at(list, p + 40, 4);
     let m = number_at(list, p + 40 + 4, 4);
@@ -87,7 +88,8 @@ fn one_layer(list: &[u8], text: &[u8], p: usize, q: usize) -> bool
 // Whether they agree, in their layers or in their lengths.
 fn agrees(list: &[u8], text: &[u8], layers: bool, p: usize, q: usize) -> bool
     requires { ⌜ InForm (now list) (now text) p × InForm (now list) (now text) q ⌝ }
-    ensures { λ r. ⌜ r ≡ agree layers (itemAt (now (list .entry)) (now (text .entry)) p) (itemAt (now (list .entry)) (now (text .entry)) q) ⌝ }
+    ensures { λ r. ⌜ r ≡ agree layers (itemAt (now (list .entry)) (now (text .entry)) p)
+        (itemAt (now (list .entry)) (now (text .entry)) q) ⌝ }
 {
     if layers {
         return one_layer(list, text, p, q);
@@ -107,7 +109,8 @@ fn wrong_next(
     p: usize,
     q: usize,
 ) -> bool
-    requires { ⌜ (seen ≡ true → InForm (now list) (now text) p) × InForm (now list) (now text) q × (layers ≡ true → isPieceLength plen ≡ true) ⌝ }
+    requires { ⌜ (seen ≡ true → InForm (now list) (now text) p) × InForm (now list) (now text) q
+        × (layers ≡ true → isPieceLength plen ≡ true) ⌝ }
     ensures { λ r. ⌜ r ≡ wrongNext layers plen seen (itemAt (now (list .entry)) (now (text .entry)) p) (itemAt (now (list .entry)) (now (text .entry)) q) ⌝ }
 {
     if !seen {

@@ -25,8 +25,10 @@ pub fn content_number(
     size: usize,
     meets: bool,
 ) -> u32
-    requires { ⌜ (listForm (now list) (now text) ≡ true) × InOrder rootBefore (now list) (now text) (now at) × (meets ≡ P.meet (contentOf (now list) (now text))) ⌝ }
-    ensures { λ r. ⌜ ((name : List ℕ) → size ≡ length (encode (dictionary (torrentOf plen name (contentOf (now (list .entry)) (now (text .entry))))))
+    requires { ⌜ (listForm (now list) (now text) ≡ true) × InOrder rootBefore (now list) (now text) (now at)
+        × (meets ≡ P.meet (contentOf (now list) (now text))) ⌝ }
+    ensures { λ r. ⌜ ((name : List ℕ)
+        → size ≡ length (encode (dictionary (torrentOf plen name (contentOf (now (list .entry)) (now (text .entry))))))
         → r ≡ contentNumber plen name (contentOf (now (list .entry)) (now (text .entry)))) ⌝ }
 {
     if limits::LARGEST_TORRENT < size {

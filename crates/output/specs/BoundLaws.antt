@@ -36,7 +36,8 @@ unfolding decimalIn
 digits-most zero n = omega arith
 digits-most (suc steps) n = by-size (ltb n 10) (digits-most steps (n / 10))
   where
-    by-size : (t : Bool) → length (decimalIn steps (n / 10)) ≤ steps → length (cond t ((digitZero + n) ∷ []) (decimalIn steps (n / 10) ++ (digitZero + n % 10) ∷ [])) ≤ suc steps
+    by-size : (t : Bool) → length (decimalIn steps (n / 10)) ≤ steps
+        → length (cond t ((digitZero + n) ∷ []) (decimalIn steps (n / 10) ++ (digitZero + n % 10) ∷ [])) ≤ suc steps
     by-size true h = omega arith
     by-size false h = let a = length-append (decimalIn steps (n / 10)) ((digitZero + n % 10) ∷ []) in omega arith
 
@@ -53,7 +54,8 @@ digits-short (suc k) (suc steps) n h = by-size (ltb n 10) (digits-short k steps 
     less : n / 10 < 10 ^ suc k
     less = let p : n < 10 ^ suc k * 10 = rw pow-suc at h in omega arith
 
-    by-size : (t : Bool) → length (decimalIn steps (n / 10)) ≤ suc k → length (cond t ((digitZero + n) ∷ []) (decimalIn steps (n / 10) ++ (digitZero + n % 10) ∷ [])) ≤ suc (suc k)
+    by-size : (t : Bool) → length (decimalIn steps (n / 10)) ≤ suc k
+        → length (cond t ((digitZero + n) ∷ []) (decimalIn steps (n / 10) ++ (digitZero + n % 10) ∷ [])) ≤ suc (suc k)
     by-size true g = omega arith
     by-size false g = let a = length-append (decimalIn steps (n / 10)) ((digitZero + n % 10) ∷ []) in omega arith
 
@@ -84,7 +86,8 @@ unfolding elementsFit elementsIn
 opened-most zero s h = unfold opened in omega arith
 opened-most (suc steps) s h = by-empty (eqb (length s) 0) h (λ f. opened-most steps (drop (elementEnd s) s) f)
   where
-    by-empty : (t : Bool) → cond t true (leb 4 (length s) && (leb (elementEnd s) (length s) && elementsFit steps (drop (elementEnd s) s))) ≡ true
+    by-empty : (t : Bool)
+        → cond t true (leb 4 (length s) && (leb (elementEnd s) (length s) && elementsFit steps (drop (elementEnd s) s))) ≡ true
         → (elementsFit steps (drop (elementEnd s) s) ≡ true → length (opened (elementsIn steps (drop (elementEnd s) s))) ≤ 2 * length (drop (elementEnd s) s))
         → length (opened (cond t [] (cut s 4 (numberAt s 0 4) ∷ elementsIn steps (drop (elementEnd s) s)))) ≤ 2 * length s
     by-empty true f more = unfold opened in omega arith
@@ -104,7 +107,8 @@ unfolding numberAt
 number-below s b at zero = omega arith
 number-below s b at (suc k) = rw (sym (add-one k)) (digit-below (numberAt s at k) (getD s (at + k) 0) k (number-below s b at k) (b (at + k)))
 
-layers-step : (j : KeyBefore) (l : Layer) (ls : List Layer) → length (layersBytes j (l ∷ ls)) ≡ length (layerEntry j l) + length (layersBytes (after (l .0)) ls)
+layers-step : (j : KeyBefore) (l : Layer) (ls : List Layer)
+    → length (layersBytes j (l ∷ ls)) ≡ length (layerEntry j l) + length (layersBytes (after (l .0)) ls)
 unfolding layersBytes
 layers-step j l ls = length-append (layerEntry j l) (layersBytes (after (l .0)) ls)
 
@@ -115,7 +119,8 @@ module _ (list text : List ℕ) (b : (i : ℕ) → getD list i 0 < 256) where
   path-most : (place : ℕ) → InForm list text place → length (opened (itemAt list text place .path)) < 2 ^ 33
   path-most place f = let m = opened-most (length (pathAt list text place)) (pathAt list text place) (path-right list text place (f .1) .1) in let n = part-most (place + 48) in bound (omega arith)
     where
-      bound : length (opened (elementsIn (length (pathAt list text place)) (pathAt list text place))) < 2 ^ 33 → length (opened (itemAt list text place .path)) < 2 ^ 33
+      bound : length (opened (elementsIn (length (pathAt list text place)) (pathAt list text place))) < 2 ^ 33
+          → length (opened (itemAt list text place .path)) < 2 ^ 33
       bound x = unfold itemAt in x
 
   properties-most : (place : ℕ) → length (propertiesBytes (itemAt list text place .size) (itemAt list text place .root)) ≤ 120
@@ -127,7 +132,8 @@ module _ (list text : List ℕ) (b : (i : ℕ) → getD list i 0 < 256) where
       root-most : length (itemAt list text place .root) ≤ 32
       root-most = unfold itemAt in omega (arith, cut-size list (place + 8) 32)
 
-      by-size : (t : Bool) → eqb (itemAt list text place .size) 0 ≡ t → length (propertiesBytes (itemAt list text place .size) (itemAt list text place .root)) ≤ 120
+      by-size : (t : Bool) → eqb (itemAt list text place .size) 0 ≡ t
+          → length (propertiesBytes (itemAt list text place .size) (itemAt list text place .root)) ≤ 120
       by-size true e = let d = decimal-most (itemAt list text place .size) size-most in omega (arith, empty-length (itemAt list text place .size) (itemAt list text place .root) (eqb-true _ 0 e))
       by-size false e =
           let d = decimal-most (itemAt list text place .size) size-most in
@@ -158,7 +164,8 @@ module _ (list text : List ℕ) (b : (i : ℕ) → getD list i 0 < 256) where
       let n = properties-most place in
       omega (arith, opened-fewer (shared p q) q, opened-some q)
 
-  tree-most : (ps : List ℕ) → Placed list text ps → (p : List (List ℕ)) → length (treeBytes p (map (itemAt list text) ps)) ≤ suc (length p) + length ps * 2 ^ 35
+  tree-most : (ps : List ℕ) → Placed list text ps → (p : List (List ℕ))
+      → length (treeBytes p (map (itemAt list text) ps)) ≤ suc (length p) + length ps * 2 ^ 35
   unfolding treeBytes
   tree-most [] f p = let r = length-replicate {A = ℕ} (suc (length p)) letterE in omega arith
   tree-most (place ∷ ps) f p =
@@ -176,7 +183,8 @@ module _ (list text : List ℕ) (b : (i : ℕ) → getD list i 0 < 256) where
       layer-most : length (itemAt list text place .layer) < 2 ^ 32
       layer-most = unfold itemAt in part-most (place + 40)
 
-      by-key : (t : Bool) → length (cond t [] (encodeString (itemAt list text place .root) ++ encodeString (itemAt list text place .layer))) ≤ 2 ^ 35
+      by-key : (t : Bool)
+          → length (cond t [] (encodeString (itemAt list text place .root) ++ encodeString (itemAt list text place .layer))) ≤ 2 ^ 35
       by-key true = omega arith
       by-key false =
           let r = root-most in
@@ -194,7 +202,9 @@ module _ (list text : List ℕ) (b : (i : ℕ) → getD list i 0 < 256) where
       xs : List Item
       xs = map (itemAt list text) ps
 
-      by-layer : (t : Bool) → eqb (length (x .layer)) 0 ≡ t → ((k : KeyBefore) → length (layersBytes k (layersGiven xs)) ≤ 1 + length ps * 2 ^ 35) → length (layersBytes j (layersGiven (x ∷ xs))) ≤ 1 + suc (length ps) * 2 ^ 35
+      by-layer : (t : Bool) → eqb (length (x .layer)) 0 ≡ t
+          → ((k : KeyBefore) → length (layersBytes k (layersGiven xs)) ≤ 1 + length ps * 2 ^ 35)
+          → length (layersBytes j (layersGiven (x ∷ xs))) ≤ 1 + suc (length ps) * 2 ^ 35
       by-layer true q more = let m = more j in omega (arith, ap (λ (ls : List Layer). length (layersBytes j ls)) (given-none x xs (eqb-true _ 0 q)))
       by-layer false q more =
           let m = more (after (x .root)) in
@@ -202,7 +212,8 @@ module _ (list text : List ℕ) (b : (i : ℕ) → getD list i 0 < 256) where
 
   -- ---- the two parts
 
-  pub info-most : (plen : ℕ) (name ps : List ℕ) → Placed list text ps → length ps ≤ mostFiles → plen < 2 ^ 64 → length name < 2 ^ 63 → length (infoBytes plen name (map (itemAt list text) ps)) < 2 ^ 63 + 2 ^ 62
+  pub info-most : (plen : ℕ) (name ps : List ℕ) → Placed list text ps → length ps ≤ mostFiles → plen < 2 ^ 64 → length name < 2 ^ 63
+      → length (infoBytes plen name (map (itemAt list text) ps)) < 2 ^ 63 + 2 ^ 62
   info-most plen name ps f h k l =
       let t = tree-most ps f [] in
       let d = decimal-most plen k in

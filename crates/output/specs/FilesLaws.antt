@@ -52,7 +52,8 @@ pub properties-empty : (n : ℕ) (r : List ℕ) → n ≡ 0 → propertiesBytes 
 unfolding encode
 properties-empty n r e = rw (eq-eqb n 0 e, empty-key, length-key) (simp append-assoc)
 
-pub properties-full : (n : ℕ) (r : List ℕ) → (n ≡ 0 → ⊥) → propertiesBytes n r ≡ wordLength ++ (decimal n ++ (wordRoot ++ (encodeString r ++ (letterE ∷ []))))
+pub properties-full : (n : ℕ) (r : List ℕ) → (n ≡ 0 → ⊥)
+    → propertiesBytes n r ≡ wordLength ++ (decimal n ++ (wordRoot ++ (encodeString r ++ (letterE ∷ []))))
 unfolding encode
 properties-full n r e = rw (ne-eqb n 0 e, empty-key, length-key, root-key) (ap (λ (l : List ℕ). wordLength ++ l) (append-assoc (decimal n) (letterE ∷ []) (49 ∷ 49 ∷ 58 ∷ keyPiecesRoot ++ (encodeString r ++ (letterE ∷ [])))))
 
@@ -60,7 +61,8 @@ properties-full n r e = rw (ne-eqb n 0 e, empty-key, length-key, root-key) (ap (
 pub empty-length : (n : ℕ) (r : List ℕ) → n ≡ 0 → length (propertiesBytes n r) ≡ 12 + (length (decimal n) + 2)
 empty-length n r e = rw (properties-empty n r e) (simp length-append (omega arith))
 
-pub full-length : (n : ℕ) (r : List ℕ) → (n ≡ 0 → ⊥) → length (propertiesBytes n r) ≡ 12 + (length (decimal n) + (15 + (length (encodeString r) + 1)))
+pub full-length : (n : ℕ) (r : List ℕ) → (n ≡ 0 → ⊥)
+    → length (propertiesBytes n r) ≡ 12 + (length (decimal n) + (15 + (length (encodeString r) + 1)))
 full-length n r e = rw (properties-full n r e) (simp length-append (omega arith))
 
 pub properties-least : (n : ℕ) (r : List ℕ) → 12 + (length (decimal n) + 2) ≤ length (propertiesBytes n r)
@@ -70,11 +72,13 @@ properties-least n r = by-size (eqb n 0) refl
     by-size true q = omega (arith, empty-length n r (eqb-true n 0 q))
     by-size false q = omega (arith, full-length n r (eqb-false n 0 q))
 
-pub put-empty : (s t u v : List ℕ) (at a b c n : ℕ) (r : List ℕ) → n ≡ 0 → Put s at wordLength t a → Put t a (decimal n) u b → Put u b wordEnds v c → length t ≡ length s → length u ≡ length t
+pub put-empty : (s t u v : List ℕ) (at a b c n : ℕ) (r : List ℕ) → n ≡ 0 → Put s at wordLength t a → Put t a (decimal n) u b
+    → Put u b wordEnds v c → length t ≡ length s → length u ≡ length t
     → Put s at (propertiesBytes n r) v c
 put-empty s t u v at a b c n r e x y z k l = rw (properties-empty n r e) (put-three s t u v at a b c wordLength (decimal n) wordEnds x y z k l)
 
-pub put-full : (s t u v w f : List ℕ) (at a b c d g n : ℕ) (r : List ℕ) → (n ≡ 0 → ⊥) → Put s at wordLength t a → Put t a (decimal n) u b → Put u b wordRoot v c → Put v c (encodeString r) w d → Put w d (letterE ∷ []) f g
+pub put-full : (s t u v w f : List ℕ) (at a b c d g n : ℕ) (r : List ℕ) → (n ≡ 0 → ⊥) → Put s at wordLength t a → Put t a (decimal n) u b
+    → Put u b wordRoot v c → Put v c (encodeString r) w d → Put w d (letterE ∷ []) f g
     → length t ≡ length s → length u ≡ length t → length v ≡ length u → length w ≡ length v → Put s at (propertiesBytes n r) f g
 put-full s t u v w f at a b c d g n r e x y z p q k l m o =
     rw (properties-full n r e)
@@ -92,16 +96,19 @@ module _ (p q : List ℕ) (at : ℕ) (v : Value) (w : SharedTo p q at) where
       ∙ length-append (closed (length (leftIn p at))) (opened (leftIn q at) ++ (encodeString [] ++ encode v))
       ∙ ap₂ (λ (a b : ℕ). a + b) (length-replicate {A = ℕ} (length (leftIn p at)) letterE) (length-append (opened (leftIn q at)) (encodeString [] ++ encode v))
 
-  pub put-parts : (s t u o : List ℕ) (a b c d : ℕ) → Put s a (closed (length (leftIn p at))) t b → Put t b (opened (leftIn q at)) u c → Put u c (encodeString [] ++ encode v) o d → length t ≡ length s → length u ≡ length t
+  pub put-parts : (s t u o : List ℕ) (a b c d : ℕ) → Put s a (closed (length (leftIn p at))) t b → Put t b (opened (leftIn q at)) u c
+      → Put u c (encodeString [] ++ encode v) o d → length t ≡ length s → length u ≡ length t
       → Put s a (fileBytes (pathIn p) (pathIn q) v) o d
   put-parts s t u o a b c d x y z k l = rw file-parts (put-three s t u o a b c d (closed (length (leftIn p at))) (opened (leftIn q at)) (encodeString [] ++ encode v) x y z k l)
 
 -- the length and the root of a record, as they are read
-pub properties-read : (list : List ℕ) (place n : ℕ) → n ≡ numberAt list place 8 → propertiesBytes n (take (place + 40 - (place + 8)) (drop (place + 8) list)) ≡ encodeString [] ++ encode (properties (fileIn list place))
+pub properties-read : (list : List ℕ) (place n : ℕ) → n ≡ numberAt list place 8
+    → propertiesBytes n (take (place + 40 - (place + 8)) (drop (place + 8) list)) ≡ encodeString [] ++ encode (properties (fileIn list place))
 unfolding cut
 properties-read list place n e = let z : place + 40 - (place + 8) ≡ 32 = omega arith in rw (z, e) refl
 
-pub put-read : (list : List ℕ) (place n : ℕ) → n ≡ numberAt list place 8 → (s t : List ℕ) (at r : ℕ) → Put s at (propertiesBytes n (take (place + 40 - (place + 8)) (drop (place + 8) list))) t r
+pub put-read : (list : List ℕ) (place n : ℕ) → n ≡ numberAt list place 8 → (s t : List ℕ) (at r : ℕ)
+    → Put s at (propertiesBytes n (take (place + 40 - (place + 8)) (drop (place + 8) list))) t r
     → Put s at (encodeString [] ++ encode (properties (fileIn list place))) t r
 put-read list place n e s t at r p = rw (sym (properties-read list place n e)) p
 
@@ -169,7 +176,9 @@ module _ (s : List ℕ) (at : ℕ) (list text order t : List ℕ) (now start siz
       → now + length (fileBytes (pathIn (pathPart text start size)) (pathIn (pathPart text a b)) (properties (fileIn list place))) < n
   file-room n l = going-room s at (treeBytes [] (map (itemAt list text) order)) file later t now n next-file l
 
-  pub growing-more : (u : List ℕ) (r : ℕ) → Put t now (fileBytes (pathIn (pathPart text start size)) (pathIn (pathPart text a b)) (properties (fileIn list place))) u r → length u ≡ length t
+  pub growing-more : (u : List ℕ) (r : ℕ)
+      → Put t now (fileBytes (pathIn (pathPart text start size)) (pathIn (pathPart text a b)) (properties (fileIn list place))) u r
+      → length u ≡ length t
       → Growing s at list text order u r a b (i + 1)
   growing-more u r p k =
       record {
@@ -194,10 +203,12 @@ module _ (s : List ℕ) (at : ℕ) (list text order t : List ℕ) (now start siz
     last-closed : Going s at (treeBytes [] (map (itemAt list text) order)) (closed (length (leftIn (pathPart text start size) 0))) u r
     last-closed = going-more s at (treeBytes [] (map (itemAt list text) order)) (letterE ∷ []) (closed (length (leftIn (pathPart text start size) 0))) t u now r last-nodes p k
 
-    pub closed-room : (n : ℕ) → at + length (treeBytes [] (map (itemAt list text) order)) < n → r + length (leftIn (pathPart text start size) 0) < n
+    pub closed-room : (n : ℕ) → at + length (treeBytes [] (map (itemAt list text) order)) < n
+        → r + length (leftIn (pathPart text start size) 0) < n
     closed-room n l =
         let e = going-place s at (treeBytes [] (map (itemAt list text) order)) (closed (length (leftIn (pathPart text start size) 0))) u r last-closed in
         omega (arith, length-replicate {A = ℕ} (length (leftIn (pathPart text start size) 0)) letterE)
 
-    pub growing-end : (v : List ℕ) (q : ℕ) → Put u r (closed (length (leftIn (pathPart text start size) 0))) v q → Put s at (treeBytes [] (map (itemAt list text) order)) v q
+    pub growing-end : (v : List ℕ) (q : ℕ) → Put u r (closed (length (leftIn (pathPart text start size) 0))) v q
+        → Put s at (treeBytes [] (map (itemAt list text) order)) v q
     growing-end v q x = going-last s at (treeBytes [] (map (itemAt list text) order)) (closed (length (leftIn (pathPart text start size) 0))) u v r q last-closed x

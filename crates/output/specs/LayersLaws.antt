@@ -90,7 +90,8 @@ unfolding cut
 cut-slice list place = let z : place + 40 - (place + 8) ≡ 32 = omega arith in rw z refl
 
 -- a root was seen: the two roots are compared
-pub root-compared : (list : List ℕ) (place last : ℕ) (seen t : Bool) → seen ≡ true → t ≡ same (take (last + 40 - (last + 8)) (drop (last + 8) list)) (take (place + 40 - (place + 8)) (drop (place + 8) list))
+pub root-compared : (list : List ℕ) (place last : ℕ) (seen t : Bool) → seen ≡ true
+    → t ≡ same (take (last + 40 - (last + 8)) (drop (last + 8) list)) (take (place + 40 - (place + 8)) (drop (place + 8) list))
     → t ≡ repeats (rootSeen list seen last) (cut list (place + 8) 32)
 root-compared list place last seen t s e = e ∙ ap₂ same (cut-slice list last) (cut-slice list place) ∙ sym (rw s refl)
 
@@ -102,7 +103,8 @@ module _ (list text : List ℕ) (place last : ℕ) (seen : Bool) where
   root-is = unfold itemAt in refl
 
   -- the root repeats: nothing is written
-  pub put-repeated : (t : Bool) → t ≡ repeats (rootSeen list seen last) (cut list (place + 8) 32) → t ≡ true → (s : List ℕ) (at : ℕ) → Put s at (layerEntry (rootSeen list seen last) (layerOf (itemAt list text place))) s at
+  pub put-repeated : (t : Bool) → t ≡ repeats (rootSeen list seen last) (cut list (place + 8) 32) → t ≡ true → (s : List ℕ) (at : ℕ)
+      → Put s at (layerEntry (rootSeen list seen last) (layerOf (itemAt list text place))) s at
   put-repeated t e f s at = rw (sym (ap (repeats (rootSeen list seen last)) root-is) ∙ sym e ∙ f) (put-none s at)
 
   -- it does not: both strings are
@@ -113,11 +115,14 @@ module _ (list text : List ℕ) (place last : ℕ) (seen : Bool) where
   pub entry-length : (t : Bool) → t ≡ repeats (rootSeen list seen last) (cut list (place + 8) 32) → t ≡ false
       → length (layerEntry (rootSeen list seen last) (layerOf (itemAt list text place))) ≡ length (encodeString (take (place + 40 - (place + 8)) (drop (place + 8) list))) + length (encodeString (itemAt list text place .layer))
   entry-length t e f =
-      ap (λ (l : List ℕ). length l) (entry-new t e f) ∙ length-append (encodeString (itemAt list text place .root)) (encodeString (itemAt list text place .layer))
+      ap (λ (l : List ℕ). length l) (entry-new t e f)
+      ∙ length-append (encodeString (itemAt list text place .root)) (encodeString (itemAt list text place .layer))
       ∙ ap (λ (l : List ℕ). length (encodeString l) + length (encodeString (itemAt list text place .layer))) (sym (root-slice list text place))
 
-  pub put-entry : (t : Bool) → t ≡ repeats (rootSeen list seen last) (cut list (place + 8) 32) → t ≡ false → (layer : List ℕ) → layer ≡ itemAt list text place .layer
-      → (s u v : List ℕ) (at m r : ℕ) → Put s at (encodeString (take (place + 40 - (place + 8)) (drop (place + 8) list))) u m → Put u m (encodeString layer) v r → length u ≡ length s
+  pub put-entry : (t : Bool) → t ≡ repeats (rootSeen list seen last) (cut list (place + 8) 32) → t ≡ false → (layer : List ℕ)
+      → layer ≡ itemAt list text place .layer
+      → (s u v : List ℕ) (at m r : ℕ) → Put s at (encodeString (take (place + 40 - (place + 8)) (drop (place + 8) list))) u m
+      → Put u m (encodeString layer) v r → length u ≡ length s
       → Put s at (layerEntry (rootSeen list seen last) (layerOf (itemAt list text place))) v r
   put-entry t e f layer g s u v at m r p q k =
       rw (entry-new t e f)
@@ -190,13 +195,15 @@ module _ (s : List ℕ) (at : ℕ) (list text order t : List ℕ) (now : ℕ) (s
         ∙ (unfold layersBytes in refl))
         (g .going)
 
-    pub layer-room : (n : ℕ) → at + length (layersBytes none (layersGiven (map (itemAt list text) order))) < n → now + length (layerEntry (rootSeen list seen last) (layerOf (itemAt list text place))) < n
+    pub layer-room : (n : ℕ) → at + length (layersBytes none (layersGiven (map (itemAt list text) order))) < n
+        → now + length (layerEntry (rootSeen list seen last) (layerOf (itemAt list text place))) < n
     layer-room n l = going-room s at (layersBytes none (layersGiven (map (itemAt list text) order))) (layerEntry (rootSeen list seen last) (layerOf (itemAt list text place))) later t now n next-layer l
 
     pub last-inside : last + recordSize ≤ length list
     last-inside = let w = has-form .0 in let v = g .inside in omega arith
 
-    pub listing-more : (u : List ℕ) (r : ℕ) → Put t now (layerEntry (rootSeen list seen last) (layerOf (itemAt list text place))) u r → length u ≡ length t → Listing s at list text order u r true place (i + 1)
+    pub listing-more : (u : List ℕ) (r : ℕ) → Put t now (layerEntry (rootSeen list seen last) (layerOf (itemAt list text place))) u r
+        → length u ≡ length t → Listing s at list text order u r true place (i + 1)
     listing-more u r p k =
         record {
           counted = omega arith;
@@ -218,5 +225,6 @@ module _ (s : List ℕ) (at : ℕ) (list text order t : List ℕ) (now : ℕ) (s
   pub end-room : (n : ℕ) → at + length (layersBytes none (layersGiven (map (itemAt list text) order))) < n → now + 1 < n
   end-room n l = going-room s at (layersBytes none (layersGiven (map (itemAt list text) order))) (letterE ∷ []) [] t now n last-byte l
 
-  pub listing-end : (u : List ℕ) (r : ℕ) → Put t now (letterE ∷ []) u r → Put s at (layersBytes none (layersGiven (map (itemAt list text) order))) u r
+  pub listing-end : (u : List ℕ) (r : ℕ) → Put t now (letterE ∷ []) u r
+      → Put s at (layersBytes none (layersGiven (map (itemAt list text) order))) u r
   listing-end u r p = going-last s at (layersBytes none (layersGiven (map (itemAt list text) order))) (letterE ∷ []) t u now r last-byte p

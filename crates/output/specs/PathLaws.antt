@@ -22,7 +22,8 @@ use Rattle.output.specs.Path.{pathIn, leftIn, Standing, SharedTo}
 
 -- ---- as many steps as there are bytes are enough
 
-enough : (steps k : ℕ) (s : List ℕ) → elementsFit steps s ≡ true → length s ≤ k → (elementsFit k s ≡ true) × (elementsIn k s ≡ elementsIn steps s)
+enough : (steps k : ℕ) (s : List ℕ) → elementsFit steps s ≡ true → length s ≤ k
+    → (elementsFit k s ≡ true) × (elementsIn k s ≡ elementsIn steps s)
 unfolding elementsFit elementsIn
 enough zero k s h l = let e = eqb-true (length s) 0 h in (fit-end k s e, in-end k s e)
 enough (suc n) zero s h l = let e : length s ≡ 0 = omega arith in (fit-end zero s e, sym (in-end (suc n) s e))
@@ -130,11 +131,13 @@ module _ (p q : List ℕ) (at m n : ℕ) (a : Along p q at) (g : at < length p) 
   unfolding x y shared
   shared-there = rw (left-more p at (a .first) g m i, left-more q at (a .second) h n j) refl
 
-  pub along-differ : (t : Bool) → t ≡ same (take (at + 4 + m - (at + 4)) (drop (at + 4) p)) (take (at + 4 + n - (at + 4)) (drop (at + 4) q)) → t ≡ false → SharedTo p q at
+  pub along-differ : (t : Bool) → t ≡ same (take (at + 4 + m - (at + 4)) (drop (at + 4) p)) (take (at + 4 + n - (at + 4)) (drop (at + 4) q))
+      → t ≡ false → SharedTo p q at
   unfolding x y
   along-differ t e f = along-end p q at a (shared-there ∙ rw (sym e ∙ f) refl)
 
-  pub along-same : (t : Bool) → t ≡ same (take (at + 4 + m - (at + 4)) (drop (at + 4) p)) (take (at + 4 + n - (at + 4)) (drop (at + 4) q)) → t ≡ true → Along p q (at + 4 + m)
+  pub along-same : (t : Bool) → t ≡ same (take (at + 4 + m - (at + 4)) (drop (at + 4) p)) (take (at + 4 + n - (at + 4)) (drop (at + 4) q))
+      → t ≡ true → Along p q (at + 4 + m)
   unfolding x y
   along-same t e f =
       record {
@@ -166,7 +169,8 @@ pub record Walking (bytes : List (List ℕ) → List ℕ) (s : List ℕ) (at : �
   pub standing : Standing path i
   pub going : Going s at (bytes (leftIn path from)) (bytes (leftIn path i)) t now
 
-pub walking-end : (bytes : List (List ℕ) → List ℕ) (s : List ℕ) (at : ℕ) (path : List ℕ) (from : ℕ) (t : List ℕ) (now i : ℕ) → bytes [] ≡ [] → Walking bytes s at path from t now i → length path ≤ i → Put s at (bytes (leftIn path from)) t now
+pub walking-end : (bytes : List (List ℕ) → List ℕ) (s : List ℕ) (at : ℕ) (path : List ℕ) (from : ℕ) (t : List ℕ) (now i : ℕ) → bytes [] ≡ []
+    → Walking bytes s at path from t now i → length path ≤ i → Put s at (bytes (leftIn path from)) t now
 walking-end bytes s at path from t now i e w h =
     going-end s at (bytes (leftIn path from)) t now (subst (λ (l : List ℕ). Going s at (bytes (leftIn path from)) l t now) (ap bytes (left-none path i h) ∙ e) (w .going))
 
@@ -183,7 +187,8 @@ module _ (s : List ℕ) (at : ℕ) (path : List ℕ) (from : ℕ) (t : List ℕ)
       going-room s at (closing (leftIn path from)) (letterE ∷ []) (closing (leftIn path (i + 4 + m))) t now n next-closed
       (omega (arith, length-replicate {A = ℕ} (length (leftIn path from)) letterE))
 
-  pub closing-more : (u : List ℕ) (r : ℕ) → Put t now (letterE ∷ []) u r → length u ≡ length t → Walking closing s at path from u r (i + 4 + m)
+  pub closing-more : (u : List ℕ) (r : ℕ) → Put t now (letterE ∷ []) u r → length u ≡ length t
+      → Walking closing s at path from u r (i + 4 + m)
   closing-more u r p k =
       record {
         standing = standing-more path i (w .standing) h m e;
@@ -198,7 +203,8 @@ module _ (s : List ℕ) (at : ℕ) (path : List ℕ) (from : ℕ) (t : List ℕ)
   next-opened =
       subst (λ (l : List ℕ). Going s at (opened (leftIn path from)) l t now) (ap opened (left-more path i (w .standing) h m e) ∙ (unfold opened in refl)) (w .going)
 
-  pub opening-room : (n : ℕ) → at + length (opened (leftIn path from)) < n → now + length (encodeString (take (i + 4 + m - (i + 4)) (drop (i + 4) path))) < n
+  pub opening-room : (n : ℕ) → at + length (opened (leftIn path from)) < n
+      → now + length (encodeString (take (i + 4 + m - (i + 4)) (drop (i + 4) path))) < n
   opening-room n l = going-room s at (opened (leftIn path from)) (encodeString element) ((letterD ∷ []) ++ opened (leftIn path (i + 4 + m))) t now n next-opened l
 
   module _ (u : List ℕ) (r : ℕ) (p : Put t now (encodeString (take (i + 4 + m - (i + 4)) (drop (i + 4) path))) u r) (k : length u ≡ length t) where
@@ -208,7 +214,8 @@ module _ (s : List ℕ) (at : ℕ) (path : List ℕ) (from : ℕ) (t : List ℕ)
     pub opening-room-2 : (n : ℕ) → at + length (opened (leftIn path from)) < n → r + 1 < n
     opening-room-2 n l = going-room s at (opened (leftIn path from)) (letterD ∷ []) (opened (leftIn path (i + 4 + m))) u r n behind-key l
 
-    pub opening-more : (v : List ℕ) (q : ℕ) → Put u r (letterD ∷ []) v q → length v ≡ length u → Walking opened s at path from v q (i + 4 + m)
+    pub opening-more : (v : List ℕ) (q : ℕ) → Put u r (letterD ∷ []) v q → length v ≡ length u
+        → Walking opened s at path from v q (i + 4 + m)
     opening-more v q x y =
         record {
           standing = standing-more path i (w .standing) h m e;

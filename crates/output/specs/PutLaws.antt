@@ -63,11 +63,13 @@ pub going-end : (s : List ℕ) (at : ℕ) (whole t : List ℕ) (now : ℕ) → G
 going-end s at whole t now g = rw (sym (g .splits), append-nil) (g .so-far)
 
 -- what is left ends where the whole ends
-pub going-place : (s : List ℕ) (at : ℕ) (whole rest t : List ℕ) (now : ℕ) → Going s at whole rest t now → now + length rest ≡ at + length whole
+pub going-place : (s : List ℕ) (at : ℕ) (whole rest t : List ℕ) (now : ℕ) → Going s at whole rest t now
+    → now + length rest ≡ at + length whole
 going-place s at whole rest t now g = let e = g .so-far .behind in omega (arith, ap (λ (l : List ℕ). length l) (g .splits), length-append (g .done) rest)
 
 -- the next part ends before the whole does
-pub going-room : (s : List ℕ) (at : ℕ) (whole x rest t : List ℕ) (now n : ℕ) → Going s at whole (x ++ rest) t now → at + length whole < n → now + length x < n
+pub going-room : (s : List ℕ) (at : ℕ) (whole x rest t : List ℕ) (now n : ℕ) → Going s at whole (x ++ rest) t now → at + length whole < n
+    → now + length x < n
 going-room s at whole x rest t now n g h = let e = going-place s at whole (x ++ rest) t now g in omega (arith, length-append x rest)
 
 -- ---- one byte, or no room
@@ -97,13 +99,15 @@ decimal-more n h =
 pub put-digit : (s t : List ℕ) (at n r : ℕ) → n < 10 → Put s at ((digitZero + n % 10) ∷ []) t r → Put s at (decimal n) t r
 put-digit s t at n r h p = rw (decimal-one n h) p
 
-pub digits-room : (at n m : ℕ) → 10 ≤ n → at + length (decimal n) < m → (at + length (decimal (n / 10)) < m) × (at + length (decimal (n / 10)) + 1 < m)
+pub digits-room : (at n m : ℕ) → 10 ≤ n → at + length (decimal n) < m
+    → (at + length (decimal (n / 10)) < m) × (at + length (decimal (n / 10)) + 1 < m)
 digits-room at n m h l =
     let e = ap (λ (ds : List ℕ). length ds) (decimal-more n h) in
     let a = length-append (decimal (n / 10)) ((digitZero + n % 10) ∷ []) in
     (omega arith, omega arith)
 
-pub put-digits : (s t u : List ℕ) (at n m r : ℕ) → 10 ≤ n → Put s at (decimal (n / 10)) t m → Put t m ((digitZero + n % 10) ∷ []) u r → length t ≡ length s → Put s at (decimal n) u r
+pub put-digits : (s t u : List ℕ) (at n m r : ℕ) → 10 ≤ n → Put s at (decimal (n / 10)) t m → Put t m ((digitZero + n % 10) ∷ []) u r
+    → length t ≡ length s → Put s at (decimal n) u r
 put-digits s t u at n m r h p q k = rw (decimal-more n h) (put-append s t u at m r (decimal (n / 10)) ((digitZero + n % 10) ∷ []) p q k)
 
 -- ---- a string
@@ -112,5 +116,6 @@ pub string-length : (b : List ℕ) → length (encodeString b) ≡ length (decim
 string-length b = length-append (decimal (length b)) (colon ∷ b) ∙ omega arith
 
 -- a and b and c behind each other
-pub put-three : (s t u v : List ℕ) (at m q r : ℕ) (a b c : List ℕ) → Put s at a t m → Put t m b u q → Put u q c v r → length t ≡ length s → length u ≡ length t → Put s at (a ++ (b ++ c)) v r
+pub put-three : (s t u v : List ℕ) (at m q r : ℕ) (a b c : List ℕ) → Put s at a t m → Put t m b u q → Put u q c v r → length t ≡ length s
+    → length u ≡ length t → Put s at (a ++ (b ++ c)) v r
 put-three s t u v at m q r a b c p x y k l = put-append s t v at m r a (b ++ c) p (put-append t u v m q r b c x y l) k

@@ -73,7 +73,8 @@ unfolding decimalIn
 key-layers = refl
 
 -- the parts, whatever stands in them
-moved : (t w n v d a b x z : List ℕ) → (t ++ (w ++ (n ++ (v ++ ((d ++ a) ++ b))))) ++ (x ++ z) ≡ (t ++ (w ++ (n ++ (v ++ (d ++ (a ++ (b ++ x))))))) ++ z
+moved : (t w n v d a b x z : List ℕ)
+    → (t ++ (w ++ (n ++ (v ++ ((d ++ a) ++ b))))) ++ (x ++ z) ≡ (t ++ (w ++ (n ++ (v ++ (d ++ (a ++ (b ++ x))))))) ++ z
 moved t w n v d a b x z = simp append-assoc
 
 assembled : (t n d l : List ℕ)
@@ -82,7 +83,8 @@ assembled : (t n d l : List ℕ)
 assembled t n d l =
     ap (λ (s : List ℕ). wordTree ++ s) (moved t wordName n wordPlen d (letterE ∷ []) (letterE ∷ []) ((49 ∷ 50 ∷ 58 ∷ keyPieceLayers) ++ letterD ∷ []) (l ++ letterE ∷ []))
 
-torrent-assembled : (plen : ℕ) (name : List ℕ) (tree layers : Entries) (t l : List ℕ) → encode (dictionary tree) ≡ letterD ∷ t → encodeEntries layers ≡ l
+torrent-assembled : (plen : ℕ) (name : List ℕ) (tree layers : Entries) (t l : List ℕ) → encode (dictionary tree) ≡ letterD ∷ t
+    → encodeEntries layers ≡ l
     → encode (dictionary (entry keyInfo (dictionary (infoWritten plen name tree)) (entry keyPieceLayers (dictionary layers) noEntries)))
     ≡ (wordTree ++ (t ++ (wordName ++ (encodeString name ++ (wordPlen ++ (decimal plen ++ wordLayers)))))) ++ (l ++ letterE ∷ [])
 torrent-assembled plen name tree layers t l e f = spread ∙ assembled t (encodeString name) (decimal plen) l
@@ -96,14 +98,16 @@ torrent-assembled plen name tree layers t l e f = spread ∙ assembled t (encode
     spread = opened-up ∙ rw (e, f, key-info, key-tree, key-version, version-two, key-name, key-plen, key-layers) refl
 
 -- the torrent of a list is its two parts behind each other
-pub torrent-parts : (plen : ℕ) (name : List ℕ) (xs : List Item) → encode (dictionary (torrentOf plen name xs)) ≡ infoBytes plen name (inTreeOrder xs) ++ restBytes (sortedBy rootBefore xs)
+pub torrent-parts : (plen : ℕ) (name : List ℕ) (xs : List Item)
+    → encode (dictionary (torrentOf plen name xs)) ≡ infoBytes plen name (inTreeOrder xs) ++ restBytes (sortedBy rootBefore xs)
 unfolding torrentOf infoBytes restBytes
 torrent-parts plen name xs =
     torrent-assembled plen name (treeOfAll (inTreeOrder xs)) (layersWritten xs) (treeBytes [] (inTreeOrder xs)) (layersBytes G.none (layersGiven (sortedBy rootBefore xs)))
     (tree-encoded (inTreeOrder xs) (rising (inTreeOrder xs) (in-order xs)))
     (ap encodeEntries (layers-by-root xs) ∙ sym (layers-encoded (layersGiven (sortedBy rootBefore xs))))
 
-pub torrent-length : (plen : ℕ) (name : List ℕ) (xs : List Item) → length (encode (dictionary (torrentOf plen name xs))) ≡ length (infoBytes plen name (inTreeOrder xs)) + length (restBytes (sortedBy rootBefore xs))
+pub torrent-length : (plen : ℕ) (name : List ℕ) (xs : List Item)
+    → length (encode (dictionary (torrentOf plen name xs))) ≡ length (infoBytes plen name (inTreeOrder xs)) + length (restBytes (sortedBy rootBefore xs))
 torrent-length plen name xs = ap (λ (l : List ℕ). length l) (torrent-parts plen name xs) ∙ length-append (infoBytes plen name (inTreeOrder xs)) (restBytes (sortedBy rootBefore xs))
 
 -- the second part written first, behind the place of the first: then both are the whole
@@ -182,9 +186,11 @@ info-length plen name xs =
     omega arith
 
 module _ (plen : ℕ) (name : List ℕ) (xs : List Item) (s₀ s₁ s₂ s₃ s₄ s₅ s₆ s₇ : List ℕ) (a₀ a₁ a₂ a₃ a₄ a₅ a₆ a₇ : ℕ) where
-  pub put-seven : Put s₀ a₀ wordTree s₁ a₁ → Put s₁ a₁ (treeBytes [] xs) s₂ a₂ → Put s₂ a₂ wordName s₃ a₃ → Put s₃ a₃ (encodeString name) s₄ a₄
+  pub put-seven : Put s₀ a₀ wordTree s₁ a₁ → Put s₁ a₁ (treeBytes [] xs) s₂ a₂ → Put s₂ a₂ wordName s₃ a₃
+      → Put s₃ a₃ (encodeString name) s₄ a₄
       → Put s₄ a₄ wordPlen s₅ a₅ → Put s₅ a₅ (decimal plen) s₆ a₆ → Put s₆ a₆ wordLayers s₇ a₇
-      → length s₁ ≡ length s₀ → length s₂ ≡ length s₁ → length s₃ ≡ length s₂ → length s₄ ≡ length s₃ → length s₅ ≡ length s₄ → length s₆ ≡ length s₅
+      → length s₁ ≡ length s₀ → length s₂ ≡ length s₁ → length s₃ ≡ length s₂ → length s₄ ≡ length s₃ → length s₅ ≡ length s₄
+      → length s₆ ≡ length s₅
       → Put s₀ a₀ (infoBytes plen name xs) s₇ a₇
   unfolding infoBytes
   put-seven p₁ p₂ p₃ p₄ p₅ p₆ p₇ k₁ k₂ k₃ k₄ k₅ k₆ =
@@ -196,12 +202,14 @@ pub rest-length : (xs : List Item) → length (restBytes xs) ≡ length (layersB
 unfolding restBytes
 rest-length xs = length-append (layersBytes G.none (layersGiven xs)) (letterE ∷ [])
 
-pub put-both : (xs : List Item) (s t u : List ℕ) (at m r : ℕ) → Put s at (layersBytes G.none (layersGiven xs)) t m → Put t m (letterE ∷ []) u r → length t ≡ length s → Put s at (restBytes xs) u r
+pub put-both : (xs : List Item) (s t u : List ℕ) (at m r : ℕ) → Put s at (layersBytes G.none (layersGiven xs)) t m
+    → Put t m (letterE ∷ []) u r → length t ≡ length s → Put s at (restBytes xs) u r
 unfolding restBytes
 put-both xs s t u at m r p q k = put-append s t u at m r (layersBytes G.none (layersGiven xs)) (letterE ∷ []) p q k
 
 -- both parts written, the second first: the whole stands at the start of the output, and nothing else changed
-pub parts-written : (whole a b out t u : List ℕ) (at r q : ℕ) → whole ≡ a ++ b → at ≡ length a → Put out at b t r → Put t 0 a u q → length t ≡ length out → length whole ≤ length out → u ≡ pasted out 0 whole
+pub parts-written : (whole a b out t u : List ℕ) (at r q : ℕ) → whole ≡ a ++ b → at ≡ length a → Put out at b t r → Put t 0 a u q
+    → length t ≡ length out → length whole ≤ length out → u ≡ pasted out 0 whole
 parts-written whole a b out t u at r q w e x y k h =
     let l = ap (λ (s : List ℕ). length s) w ∙ length-append a b in
     let m = x .behind in

@@ -50,7 +50,8 @@ module _ (list text : List ℕ) (h : listForm list text ≡ true) where
   stays = rw (tree-order list text) (sorted-stays itemBefore (inTreeOrder (contentOf list text)) (in-order (contentOf list text)))
 
   -- the size, also of a list that is refused
-  pub whole-size : (plen : ℕ) (name b c : List ℕ) (i s : ℕ) → b ≡ treePositions list text → c ≡ rootPositions list text → i ≡ length (infoBytes plen name (map (itemAt list text) b)) → s ≡ length (restBytes (map (itemAt list text) c))
+  pub whole-size : (plen : ℕ) (name b c : List ℕ) (i s : ℕ) → b ≡ treePositions list text → c ≡ rootPositions list text
+      → i ≡ length (infoBytes plen name (map (itemAt list text) b)) → s ≡ length (restBytes (map (itemAt list text) c))
       → i + s ≡ length (torrentBytes list text plen name)
   whole-size plen name b c i s d e x y =
       let o = roots-right (rootPositions list text) refl in
@@ -58,9 +59,11 @@ module _ (list text : List ℕ) (h : listForm list text ≡ true) where
       ∙ sym (size-there plen name (contentOf list text) (map (itemAt list text) (treePositions list text)) (map (itemAt list text) (rootPositions list text)) (tree-permuted list text) stays (o .permuted) (o .in-order))
 
   -- the bytes, where 0 is answered: the second part is written first
-  pub whole-bytes : (plen : ℕ) (name b c : List ℕ) → contentNumber plen name (contentOf list text) ≡ 0 → b ≡ treePositions list text → c ≡ rootPositions list text
+  pub whole-bytes : (plen : ℕ) (name b c : List ℕ) → contentNumber plen name (contentOf list text) ≡ 0 → b ≡ treePositions list text
+      → c ≡ rootPositions list text
       → (out t u : List ℕ) (i k q : ℕ) → i ≡ length (infoBytes plen name (map (itemAt list text) (treePositions list text)))
-      → Put out i (restBytes (map (itemAt list text) c)) t k → Put t 0 (infoBytes plen name (map (itemAt list text) b)) u q → length t ≡ length out → length (torrentBytes list text plen name) ≤ length out
+      → Put out i (restBytes (map (itemAt list text) c)) t k → Put t 0 (infoBytes plen name (map (itemAt list text) b)) u q
+      → length t ≡ length out → length (torrentBytes list text plen name) ≤ length out
       → u ≡ pasted out 0 (torrentBytes list text plen name)
   whole-bytes plen name b c z d e out t u i k q x v w l m =
       let o = roots-right (rootPositions list text) refl in
@@ -73,24 +76,28 @@ module _ (list text : List ℕ) (h : listForm list text ≡ true) where
       l m
 
   -- the second part ends within the output
-  pub rest-room : (plen : ℕ) (name c : List ℕ) (i n : ℕ) → c ≡ rootPositions list text → i ≡ length (infoBytes plen name (map (itemAt list text) (treePositions list text))) → length (torrentBytes list text plen name) ≤ n
+  pub rest-room : (plen : ℕ) (name c : List ℕ) (i n : ℕ) → c ≡ rootPositions list text
+      → i ≡ length (infoBytes plen name (map (itemAt list text) (treePositions list text))) → length (torrentBytes list text plen name) ≤ n
       → i + length (restBytes (map (itemAt list text) c)) ≤ n
   rest-room plen name c i n e x l = let s = whole-size plen name (treePositions list text) c i (length (restBytes (map (itemAt list text) c))) refl e x refl in omega arith
 
   -- and so does the first
-  pub info-room : (plen : ℕ) (name b : List ℕ) (n : ℕ) → b ≡ treePositions list text → length (torrentBytes list text plen name) ≤ n → 0 + length (infoBytes plen name (map (itemAt list text) b)) ≤ n
+  pub info-room : (plen : ℕ) (name b : List ℕ) (n : ℕ) → b ≡ treePositions list text → length (torrentBytes list text plen name) ≤ n
+      → 0 + length (infoBytes plen name (map (itemAt list text) b)) ≤ n
   info-room plen name b n e l =
       let s = whole-size plen name b (rootPositions list text) (length (infoBytes plen name (map (itemAt list text) b))) (length (restBytes (map (itemAt list text) (rootPositions list text)))) e refl refl refl in
       omega arith
 
-  pub met : (b : List ℕ) (t : Bool) → b ≡ treePositions list text → t ≡ neighbours leads (map (itemAt list text) b) → t ≡ meet (contentOf list text)
+  pub met : (b : List ℕ) (t : Bool) → b ≡ treePositions list text → t ≡ neighbours leads (map (itemAt list text) b)
+      → t ≡ meet (contentOf list text)
   met b t e u = u ∙ ap (λ (l : List ℕ). neighbours leads (map (itemAt list text) l)) e ∙ meet-told list text
 
 -- work space for as many positions as there are records
 pub part-end : (n : ℕ) (s : List ℕ) → n ≤ mostFiles → length s ≡ mostFiles → n ≤ length s
 part-end n s h e = omega arith
 
-pub part-ready : (list text at room : List ℕ) → listForm list text ≡ true → recordCount list ≤ mostFiles → length at ≡ mostFiles → length room ≡ mostFiles → Ready list text (take (recordCount list - 0) at) (take (recordCount list - 0) room)
+pub part-ready : (list text at room : List ℕ) → listForm list text ≡ true → recordCount list ≤ mostFiles → length at ≡ mostFiles
+    → length room ≡ mostFiles → Ready list text (take (recordCount list - 0) at) (take (recordCount list - 0) room)
 part-ready list text at room h f a b =
     record {
       form = h;
@@ -102,21 +109,25 @@ part-ready list text at room h f a b =
 -- ---- answers
 
 -- a list that is not in its form
-pub answer-form : (list text : List ℕ) (plen : ℕ) (name out : List ℕ) → listForm list text ≡ false → (refused wrongSize ≡ writeAnswer list text plen name out) × (out ≡ writeAfter list text plen name out)
+pub answer-form : (list text : List ℕ) (plen : ℕ) (name out : List ℕ) → listForm list text ≡ false
+    → (refused wrongSize ≡ writeAnswer list text plen name out) × (out ≡ writeAfter list text plen name out)
 unfolding writeAnswer writeAfter writeNumber
 answer-form list text plen name out h = (rw h refl, rw h refl)
 
 module _ (list text : List ℕ) (plen : ℕ) (name out : List ℕ) (h : listForm list text ≡ true) where
-  pub answer-number : (n : ℕ) → n ≡ contentNumber plen name (contentOf list text) → (n ≡ 0 → ⊥) → (refused n ≡ writeAnswer list text plen name out) × (out ≡ writeAfter list text plen name out)
+  pub answer-number : (n : ℕ) → n ≡ contentNumber plen name (contentOf list text) → (n ≡ 0 → ⊥)
+      → (refused n ≡ writeAnswer list text plen name out) × (out ≡ writeAfter list text plen name out)
   unfolding writeAnswer writeAfter writeNumber
   answer-number n e f = (rw (h, sym e, ne-eqb n 0 f, ne-eqb n 0 f) refl, rw (h, sym e, ne-eqb n 0 f, ne-eqb n 0 f) refl)
 
   module _ (e : contentNumber plen name (contentOf list text) ≡ 0) where
-    pub answer-room : length out < length (torrentBytes list text plen name) → (refused noRoom ≡ writeAnswer list text plen name out) × (out ≡ writeAfter list text plen name out)
+    pub answer-room : length out < length (torrentBytes list text plen name)
+        → (refused noRoom ≡ writeAnswer list text plen name out) × (out ≡ writeAfter list text plen name out)
     unfolding writeAnswer writeAfter writeNumber
     answer-room l = (rw (h, e, lt-ltb (length out) (length (torrentBytes list text plen name)) l) refl, rw (h, e, lt-ltb (length out) (length (torrentBytes list text plen name)) l) refl)
 
-    pub answer-done : (n : ℕ) (u : List ℕ) → n ≡ length (torrentBytes list text plen name) → length (torrentBytes list text plen name) ≤ length out → u ≡ pasted out 0 (torrentBytes list text plen name)
+    pub answer-done : (n : ℕ) (u : List ℕ) → n ≡ length (torrentBytes list text plen name)
+        → length (torrentBytes list text plen name) ≤ length out → u ≡ pasted out 0 (torrentBytes list text plen name)
         → (done n ≡ writeAnswer list text plen name out) × (u ≡ writeAfter list text plen name out)
     unfolding writeAnswer writeAfter writeNumber
     answer-done n u s l p = (rw (h, e, le-ltb (length out) (length (torrentBytes list text plen name)) l) (ap done s), rw (h, e, le-ltb (length out) (length (torrentBytes list text plen name)) l) p)
@@ -124,9 +135,11 @@ module _ (list text : List ℕ) (plen : ℕ) (name out : List ℕ) (h : listForm
 -- more records than files go into a torrent
 pub content-length : (list text : List ℕ) → length (contentOf list text) ≡ recordCount list
 content-length list text =
-    ap (λ (l : List Item). length l) (sym (content-there list text)) ∙ length-map (positions (recordCount list)) (itemAt list text) ∙ positions-length (recordCount list)
+    ap (λ (l : List Item). length l) (sym (content-there list text)) ∙ length-map (positions (recordCount list)) (itemAt list text)
+    ∙ positions-length (recordCount list)
 
-pub answer-many : (list text : List ℕ) (plen : ℕ) (name out : List ℕ) → listForm list text ≡ true → mostFiles < recordCount list → (refused torrentTooLarge ≡ writeAnswer list text plen name out) × (out ≡ writeAfter list text plen name out)
+pub answer-many : (list text : List ℕ) (plen : ℕ) (name out : List ℕ) → listForm list text ≡ true → mostFiles < recordCount list
+    → (refused torrentTooLarge ≡ writeAnswer list text plen name out) × (out ≡ writeAfter list text plen name out)
 answer-many list text plen name out h l = answer-number list text plen name out h torrentTooLarge (sym large) (λ z. omega arith)
   where
     large : contentNumber plen name (contentOf list text) ≡ torrentTooLarge
