@@ -180,3 +180,8 @@ slice-path list text at a b e f = ap (λ (l : List ℕ). elementsIn (length l) l
 pub one-path : (list text : List ℕ) (at bt a b c d : ℕ) → a ≡ numberAt list (at + 48) 4 → b ≡ numberAt list (at + 48 + 4) 4 → c ≡ numberAt list (bt + 48) 4 → d ≡ numberAt list (bt + 48 + 4) 4
     → a ≡ c → b ≡ d → itemAt list text at .path ≡ itemAt list text bt .path
 one-path list text at bt a b c d e f g h p q = sym (slice-path list text at a b e f) ∙ slice-path list text bt a b (p ∙ g) (q ∙ h)
+
+-- four bytes as one number
+pub four-bytes : (s : List ℕ) (at : ℕ) → numberAt s at 4 ≡ getD s at 0 * 16777216 + getD s (at + 1) 0 * 65536 + getD s (at + 2) 0 * 256 + getD s (at + 3) 0
+unfolding numberAt
+four-bytes s at = let e : at + 0 ≡ at = omega arith in rw e (omega arith)

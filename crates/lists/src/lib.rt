@@ -2,3 +2,4 @@
 pub mod elements;
 pub mod form;
 pub mod paths;
+pub mod word;

@@ -18,8 +18,8 @@ pub fn path_before(p: &[u8], q: &[u8]) -> bool
         if q.len() <= at {
             return false;
         }
-        let m = octets::number_at(p, at, 4);
-        let n = octets::number_at(q, at, 4);
+        let m = crate::word::word_at(p, at);
+        let n = crate::word::word_at(q, at);
         let start = at + 4;
         let x = &p[start..start + m];
         let y = &q[start..start + n];
@@ -42,8 +42,8 @@ pub fn path_begins(p: &[u8], q: &[u8]) -> bool
         if q.len() <= at {
             return false;
         }
-        let m = octets::number_at(p, at, 4);
-        let n = octets::number_at(q, at, 4);
+        let m = crate::word::word_at(p, at);
+        let n = crate::word::word_at(q, at);
         let start = at + 4;
         if !bencode::order::same(&p[start..start + m], &q[start..start + n]) {
             return false;
@@ -60,10 +60,10 @@ pub fn leads(list: &[u8], text: &[u8], a: usize, b: usize) -> bool
     ensures { λ r. ⌜ r ≡ begins (itemAt (now (list .entry)) (now (text .entry)) a .path)
         (itemAt (now (list .entry)) (now (text .entry)) b .path) ⌝ }
 {
-    let s = octets::number_at(list, a + 48, 4);
-    let m = octets::number_at(list, a + 48 + 4, 4);
-    let t = octets::number_at(list, b + 48, 4);
-    let n = octets::number_at(list, b + 48 + 4, 4);
+    let s = crate::word::word_at(list, a + 48);
+    let m = crate::word::word_at(list, a + 48 + 4);
+    let t = crate::word::word_at(list, b + 48);
+    let n = crate::word::word_at(list, b + 48 + 4);
     path_begins(&text[s..s + m], &text[t..t + n])
 }
 
@@ -74,10 +74,10 @@ pub fn lower(list: &[u8], text: &[u8], a: usize, b: usize) -> bool
     ensures { λ r. ⌜ r ≡ itemBefore (itemAt (now (list .entry)) (now (text .entry)) a)
         (itemAt (now (list .entry)) (now (text .entry)) b) ⌝ }
 {
-    let s = octets::number_at(list, a + 48, 4);
-    let m = octets::number_at(list, a + 48 + 4, 4);
-    let t = octets::number_at(list, b + 48, 4);
-    let n = octets::number_at(list, b + 48 + 4, 4);
+    let s = crate::word::word_at(list, a + 48);
+    let m = crate::word::word_at(list, a + 48 + 4);
+    let t = crate::word::word_at(list, b + 48);
+    let n = crate::word::word_at(list, b + 48 + 4);
     if s == t {
         if m == n {
             return false;

@@ -1,5 +1,4 @@
 use borrow.Author.Needs.{needs}
-use native.Mathlib.Omega.{arith}
 use Prim.Native.Nat.{ℕ, _-_}
 use lib.ListN.{length}
 use mathlib.Core.Path.{refl, sym}
@@ -27,11 +26,11 @@ loop-holds c = let k = c .before .before in walk-start begins (k .args .p .now) 
 returns : tie.Need-returns Inv-loop μ-loop
 returns c = let k = c .before .before .before .before .before .args in sym (walk-second-end begins begins-none (k .p .now) (k .q .now) (c .before .before .loop .at) (c .before .before .loop .inv) (c .before .loop-test .taken) (c .if1 .taken))
 
-number-at-requires : tie.Need-number-at-requires Inv-loop μ-loop
-number-at-requires c κs = (element-size (c .before .before .before .before .before .args .p .now) (c .before .before .loop .at) (c .before .before .loop .inv .left) (c .before .loop-test .taken), omega arith)
+word-at-requires : tie.Need-word-at-requires Inv-loop μ-loop
+word-at-requires c κs = element-size (c .before .before .before .before .before .args .p .now) (c .before .before .loop .at) (c .before .before .loop .inv .left) (c .before .loop-test .taken)
 
-number-at-requires-2 : tie.Need-number-at-requires-2 Inv-loop μ-loop
-number-at-requires-2 c κs = (element-size (c .before .before .before .before .before .before .args .q .now) (c .before .before .before .loop .at) (c .before .before .before .loop .inv .right) (c .before .if1 .left), omega arith)
+word-at-requires-2 : tie.Need-word-at-requires-2 Inv-loop μ-loop
+word-at-requires-2 c κs = element-size (c .before .before .before .before .before .before .args .q .now) (c .before .before .before .loop .at) (c .before .before .before .loop .inv .right) (c .before .if1 .left)
 
 add-start : tie.Need-add-start Inv-loop μ-loop
 add-start c = search needs
@@ -46,7 +45,7 @@ part-same-start : tie.Need-part-same-start Inv-loop μ-loop
 part-same-start c = search needs
 
 part-same-end : tie.Need-part-same-end Inv-loop μ-loop
-part-same-end c = element-end (c .before .before .before .before .before .before .before .args .p .now) (c .before .before .before .before .loop .at) _ (c .before .before .before .before .loop .inv .left) (c .before .before .before .loop-test .taken) (c .before .number-at .ensures .0)
+part-same-end c = element-end (c .before .before .before .before .before .before .before .args .p .now) (c .before .before .before .before .loop .at) _ (c .before .before .before .before .loop .inv .left) (c .before .before .before .loop-test .taken) (c .before .word-at .ensures .0)
 
 add-same-2 : tie.Need-add-same-2 Inv-loop μ-loop
 add-same-2 c = search needs
@@ -58,13 +57,13 @@ part-same-start-2 : tie.Need-part-same-start-2 Inv-loop μ-loop
 part-same-start-2 c = search needs
 
 part-same-end-2 : tie.Need-part-same-end-2 Inv-loop μ-loop
-part-same-end-2 c = element-end (c .before .before .before .before .before .before .before .before .args .q .now) (c .before .before .before .before .before .loop .at) _ (c .before .before .before .before .before .loop .inv .right) (c .before .before .before .if1 .left) (c .before .number-at2 .ensures .0)
+part-same-end-2 c = element-end (c .before .before .before .before .before .before .before .before .args .q .now) (c .before .before .before .before .before .loop .at) _ (c .before .before .before .before .before .loop .inv .right) (c .before .before .before .if1 .left) (c .before .word-at2 .ensures .0)
 
 same-requires : tie.Need-same-requires Inv-loop μ-loop
 same-requires c κs = search needs
 
 returns-2 : tie.Need-returns-2 Inv-loop μ-loop
-returns-2 c = let k = c .before .before .before .before .before .before .before .before .before .before .before .args in slices-differ begins no begins-step (k .p .now) (k .q .now) (c .before .before .before .before .before .before .before .before .loop .at) (c .before .before .before .before .before .before .before .before .loop .inv) (c .before .before .before .before .before .before .before .loop-test .taken) (c .before .before .before .before .before .before .if1 .left) _ _ (c .before .before .before .before .before .number-at .ensures .0) (c .before .before .before .before .number-at2 .ensures .0) _ false (c .before .same .ensures) (not-true _ (c .if2 .taken)) refl
+returns-2 c = let k = c .before .before .before .before .before .before .before .before .before .before .before .args in slices-differ begins no begins-step (k .p .now) (k .q .now) (c .before .before .before .before .before .before .before .before .loop .at) (c .before .before .before .before .before .before .before .before .loop .inv) (c .before .before .before .before .before .before .before .loop-test .taken) (c .before .before .before .before .before .before .if1 .left) _ _ (c .before .before .before .before .before .word-at .ensures .0) (c .before .before .before .before .word-at2 .ensures .0) _ false (c .before .same .ensures) (not-true _ (c .if2 .taken)) refl
 
 add-at : tie.Need-add-at Inv-loop μ-loop
 add-at c = search needs
@@ -73,7 +72,7 @@ loop-less : tie.Need-loop-less Inv-loop μ-loop
 loop-less c = search needs
 
 loop-again : tie.Need-loop-again Inv-loop μ-loop
-loop-again c = let k = c .before .before .before .before .before .before .before .before .before .before .before .args in slices-same begins no begins-step (k .p .now) (k .q .now) (c .before .before .before .before .before .before .before .before .loop .at) (c .before .before .before .before .before .before .before .before .loop .inv) (c .before .before .before .before .before .before .before .loop-test .taken) (c .before .before .before .before .before .before .if1 .left) _ _ (c .before .before .before .before .before .number-at .ensures .0) (c .before .before .before .before .number-at2 .ensures .0) _ (c .before .same .ensures) (not-false _ (c .if2 .left))
+loop-again c = let k = c .before .before .before .before .before .before .before .before .before .before .before .args in slices-same begins no begins-step (k .p .now) (k .q .now) (c .before .before .before .before .before .before .before .before .loop .at) (c .before .before .before .before .before .before .before .before .loop .inv) (c .before .before .before .before .before .before .before .loop-test .taken) (c .before .before .before .before .before .before .if1 .left) _ _ (c .before .before .before .before .before .word-at .ensures .0) (c .before .before .before .before .word-at2 .ensures .0) _ (c .before .same .ensures) (not-false _ (c .if2 .left))
 
 returns-3 : tie.Need-returns-3 Inv-loop μ-loop
 returns-3 c = let k = c .before .before .before .before .args in sym (begins-first-end (k .p .now) (k .q .now) (c .before .loop .at) (c .before .loop .inv) (c .loop-test .left))
@@ -86,8 +85,8 @@ path-begins-spec =
     μ-loop
     loop-holds
     returns
-    number-at-requires
-    number-at-requires-2
+    word-at-requires
+    word-at-requires-2
     add-start
     add-same
     sub-same
