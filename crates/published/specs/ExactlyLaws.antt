@@ -1,6 +1,6 @@
 -- The call's number is what `WriteSays` says, and no other is.
 -- Assumes nothing.
-use mathlib.Core.Path.{_≡_, refl, sym, ap, _∙_}
+use mathlib.Core.Path.{_≡_, refl, sym, _∙_}
 use mathlib.Core.Logic.{_↔_}
 use mathlib.Core.Bool.{Bool, true, false}
 use mathlib.Core.List.{List}
@@ -16,7 +16,7 @@ use Rattle.publishing.specs.Refused.{TooLarge, TooDeep, OutOfRange, WrongFiles,
 use Rattle.publishing.specs.Exactly.{exactly-19, exactly-21, exactly-24, exactly-25, exactly-26, exactly-27, exactly-28, exactly-0}
 use Rattle.lists.specs.Lists.{listForm, contentOf}
 use Rattle.writing.specs.Write.{torrentBytes, writeNumber, writeAnswer}
-use Rattle.published.specs.Published.{InForm, ContentSays, too-large, too-deep, out-of-range, wrong-files, two-lengths, wrong-layers, layers-differ, WriteSays, no-form, of-content, too-short, written}
+use Rattle.published.specs.Published.{ContentSays, too-large, too-deep, out-of-range, wrong-files, two-lengths, wrong-layers, layers-differ, WriteSays, no-form, of-content, too-short, written}
 use Rattle.published.specs.FormLaws.{in-form, not-in-form}
 use Rattle.published.specs.AnswerLaws.{answer-number, number-form, number-content, number-room, number-done}
 

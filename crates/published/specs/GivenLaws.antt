@@ -1,30 +1,28 @@
 -- A string of bytes that is answered 0 gives one content: that of the value which it encodes.
 -- Assumes nothing.
 use mathlib.Core.Path.{_≡_, refl, sym, ap, ap₂, _∙_}
-use mathlib.Core.Bool.{Bool, true, false, cond}
+use mathlib.Core.Bool.{Bool, true, false}
 use mathlib.Core.List.{List, [], _∷_, map}
-use Prim.Native.Nat.{ℕ, zero, suc, _+_, _≤_, _<_}
+use Prim.Native.Nat.{ℕ, zero, suc, _≤_, _<_}
 use native.Mathlib.Omega.{arith}
 use lib.ListN.{length, length-map}
 use lib.Dec.{ltb}
 use borrow.Author.Tests.{lt-ltb, le-ltb, ltb-true, ltb-false}
 use Rattle.limits.specs.Limits.{maxLevels}
 use Rattle.octets.specs.Octets.{cut}
-use Rattle.octets.specs.OctetsLaws.{cut-length}
 use Rattle.tree.specs.Geometry.{hasLayer}
 use Rattle.bencode.specs.Grammar.{string, dictionary, Entries, encode, Valid}
 use Rattle.bencode.specs.Parts.{present, lookup}
 use Rattle.meaning.specs.Nth.{Nth}
-use Rattle.meaning.specs.NthLaws.{nth-some}
-use Rattle.meaning.specs.Torrent.{File, infoOf, plenOf, layersOf, filesOf, layerBytes}
+use Rattle.meaning.specs.Torrent.{File, plenOf, layersOf, filesOf}
 use Rattle.publishing.specs.Content.{Item, inTreeOrder}
 use Rattle.publishing.specs.Reads.{itemRead, contentRead}
 use Rattle.publishing.specs.Shortest.{value-right}
 use Rattle.publishing.specs.RoundTrip.{order-read}
-use Rattle.torrent.specs.Torrent.{readOf, fileRead, pathRead}
+use Rattle.torrent.specs.Torrent.{readOf, fileRead}
 use Rattle.torrent.specs.Answers.{FileIs}
 use Rattle.torrent.specs.NumberMeans.{read-encodes}
-use Rattle.torrent.specs.ReadMeans.{torrent-is, file-is, element-is, value-zero}
+use Rattle.torrent.specs.ReadMeans.{torrent-is, file-is, element-is}
 use Rattle.published.specs.Published.{FileGiven, Gives}
 
 -- ---- lists by number

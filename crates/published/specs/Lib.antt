@@ -4,3 +4,7 @@ pub mod FormLaws
 pub mod AnswerLaws
 pub mod ExactlyLaws
 pub mod SameNumberLaws
+pub mod TripLaws
+pub mod OutcomeLaws
+pub mod Promised
+pub mod Worked

@@ -1,6 +1,6 @@
 -- A plain content gets the number that `kd_torrent_read` gives the bytes which would be written of it.
 -- Assumes nothing.
-use mathlib.Core.Path.{_≡_, refl, sym, ap, _∙_, subst}
+use mathlib.Core.Path.{_≡_, refl, sym, _∙_, subst}
 use mathlib.Core.Logic.{_⊎_, inl, inr}
 use mathlib.Core.Bool.{Bool, true, false, cond}
 use mathlib.Core.List.{List, [], _∷_}
@@ -16,7 +16,7 @@ use Rattle.bencode.specs.Strict.{strictness}
 use Rattle.bencode.specs.StrictLaws.{taken-only, deep-first, one-of-three, otherwise-only}
 use Rattle.meaning.specs.Counting.{Member}
 use Rattle.meaning.specs.Torrent.{valueNumber}
-use Rattle.publishing.specs.Content.{Item, torrentOf}
+use Rattle.publishing.specs.Content.{torrentOf}
 use Rattle.publishing.specs.Number.{contentNumber}
 use Rattle.publishing.specs.ValidLaws.{AllFull}
 use Rattle.publishing.specs.RightLaws.{PathFull}
