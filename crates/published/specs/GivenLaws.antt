@@ -44,10 +44,10 @@ same-by-number (x ∷ xs) (y ∷ ys) e h = ap₂ (λ u v. u ∷ v) (h 0 x y refl
 
 -- ---- one content
 
-abbrev item : List (List ℕ) → ℕ → List ℕ → List ℕ → Item
+abbrev pub item : List (List ℕ) → ℕ → List ℕ → List ℕ → Item
 item p n r l = record { path = p; size = n; root = r; layer = l }
 
-same-item : (x y : Item) → x .path ≡ y .path → x .size ≡ y .size → x .root ≡ y .root → x .layer ≡ y .layer → x ≡ y
+pub same-item : (x y : Item) → x .path ≡ y .path → x .size ≡ y .size → x .root ≡ y .root → x .layer ≡ y .layer → x ≡ y
 same-item x y a b c d = ap₂ (λ (p : List (List ℕ)) (n : ℕ). item p n (x .root) (x .layer)) a b ∙ ap₂ (λ (r l : List ℕ). item (y .path) (y .size) r l) c d
 
 one-file : (s : List ℕ) (n : ℕ) (x y : Item) → FileGiven s n x → FileGiven s n y → x ≡ y

@@ -1,6 +1,7 @@
 pub mod Published
 pub mod GivenLaws
 pub mod FormLaws
+pub mod ListedLaws
 pub mod AnswerLaws
 pub mod ExactlyLaws
 pub mod SameNumberLaws

@@ -10,19 +10,22 @@ use lib.ListN.{length, getD}
 use Rattle.limits.specs.Limits.{largestTorrent}
 use Rattle.numbers.specs.Numbers.{notStrict, keyMissing, otherVersion}
 use Rattle.numbers.specs.declared.Answer.{Answer}
+use Rattle.bencode.specs.Grammar.{dictionary, encode}
 use Rattle.publishing.specs.Sorting.{Permuted}
-use Rattle.publishing.specs.Content.{Item, inTreeOrder}
+use Rattle.publishing.specs.Content.{Item, inTreeOrder, torrentOf}
 use Rattle.publishing.specs.Number.{contentNumber}
 use Rattle.lists.specs.Lists.{contentOf}
 use Rattle.writing.specs.Write.{torrentBytes, writeNumber, writeAnswer, writeAfter}
+use Rattle.writing.specs.WrittenReads.{is-strict, has-name}
 use Rattle.torrent.specs.Torrent.{readOf}
-use Rattle.published.specs.Published.{Gives, Named, InForm, WriteSays, PlainContent, writtenBytes, WriteNumber, is-4, is-11, is-19, is-21, is-24-to-28, WriteOutcome, put, left}
+use Rattle.published.specs.Published.{Gives, Named, InForm, textSize, WriteSays, PlainContent, writtenBytes, WriteNumber, is-4, is-11, is-19, is-21, is-24-to-28, WriteOutcome, put, left}
 use Rattle.published.specs.FormLaws.{in-form}
-use Rattle.published.specs.AnswerLaws.{answer-number, number-content, number-done}
+use Rattle.published.specs.AnswerLaws.{answer-number, written-is, number-content, number-done}
 use Rattle.published.specs.ExactlyLaws.{exactly}
 use Rattle.published.specs.SameNumberLaws.{number-read}
 use Rattle.published.specs.GivenLaws.{one-content, some-content}
-use Rattle.published.specs.TripLaws.{written-given, written-shortest, named-number, unnamed-number, written-again, again-fits, again-nearly-fits, empty-name}
+use Rattle.published.specs.ListedLaws.{every-content}
+use Rattle.published.specs.TripLaws.{written-given, written-shortest, named-number, unnamed-number, given-listable, written-again, again-fits, again-nearly-fits, empty-name}
 use Rattle.published.specs.OutcomeLaws.{outcome, refusal-leaves, behind-stays, same-answer, same-output, same-bytes}
 
 -- ---- 1. Read back: what was written beside 0 is answered 0 by the reader, with this piece length and, in tree order, exactly the list's
@@ -31,6 +34,17 @@ use Rattle.published.specs.OutcomeLaws.{outcome, refusal-leaves, behind-
 pub read-back : (list text : List ℕ) (plen : ℕ) (name out : List ℕ) → writeAnswer list text plen name out .number ≡ 0
     → Gives (writtenBytes list text plen name out) plen (inTreeOrder (contentOf list text))
 read-back = written-given
+
+-- these bytes are the encoding of `torrentOf`: `info` with `file tree`, `meta version`, `name` and `piece length`, `piece layers`, and no other key
+pub written-torrent : (list text : List ℕ) (plen : ℕ) (name out : List ℕ) → writeAnswer list text plen name out .number ≡ 0
+    → writtenBytes list text plen name out ≡ encode (dictionary (torrentOf plen name (contentOf list text)))
+written-torrent = written-is
+
+-- it is strict bencoding of at most 32 levels, and `info` has the name that was given
+pub written-name : (list text : List ℕ) (plen : ℕ) (name out : List ℕ) → writeAnswer list text plen name out .number ≡ 0 → Named (writtenBytes list text plen name out) name
+written-name list text plen name out e =
+    let z = sym (answer-number list text plen name out) ∙ e in
+    (torrentOf plen name (contentOf list text), is-strict list text plen name out z, written-is list text plen name out e, has-name list text plen name out z)
 
 -- `Gives` leaves nothing open: bytes that are answered 0 give one piece length and one list of files
 pub gives-one : (s : List ℕ) (p q : ℕ) (xs ys : List Item) → Gives s p xs → Gives s q ys → (p ≡ q) × (xs ≡ ys)
@@ -103,6 +117,10 @@ round-trip-unnamed s plen xs g l list text f p out r = written-again list text p
 pub round-trip-unnamed-room : (s : List ℕ) (plen : ℕ) (xs : List Item) → Gives s plen xs → length s + 8 ≤ largestTorrent → (list text : List ℕ) → Permuted (contentOf list text) xs
     → length (torrentBytes list text plen []) ≤ length s + 8
 round-trip-unnamed-room s plen xs g l list text p = let h = again-nearly-fits list text plen [] s xs g p (unnamed-number s plen xs g l) in let e = empty-name in omega arith
+
+-- there is such a list wherever the text that it needs stays below 4 GiB, which is what starts of four bytes reach
+pub content-listed : (s : List ℕ) (plen : ℕ) (xs : List Item) → Gives s plen xs → textSize xs < 2 ^ 32 → (list : List ℕ) × (text : List ℕ) × InForm list text × (contentOf list text ≡ xs)
+content-listed s plen xs g h = every-content xs (given-listable s plen xs g) h
 
 -- ---- Demand 1, for this call: one outcome, in the table; a refusal leaves every byte
 

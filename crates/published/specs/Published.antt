@@ -63,6 +63,15 @@ pub record InForm (list text : List ℕ) : Type 0 where
   pub whole : length list ≡ recordSize * recordCount list
   pub each : (n : ℕ) → n < recordCount list → RecordForm list text (recordSize * n)
 
+-- what the text of a content takes: its layers, and its paths with a size of four bytes for each element
+unfoldable pub pathSize : List (List ℕ) → ℕ
+pathSize [] = 0
+pathSize (e ∷ p) = 4 + length e + pathSize p
+
+unfoldable pub textSize : List Item → ℕ
+textSize [] = 0
+textSize (x ∷ xs) = length (x .layer) + pathSize (x .path) + textSize xs
+
 -- ---- the numbers
 
 -- what a number says of a content

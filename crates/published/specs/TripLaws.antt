@@ -29,7 +29,7 @@ use Rattle.publishing.specs.GoodLaws.{all-passed, good}
 use Rattle.publishing.specs.Shortest.{ValueRight, value-right, SameRead, shortest, nearly-shortest}
 use Rattle.publishing.specs.ShorterLaws.{entryLength}
 use Rattle.publishing.specs.Reads.{itemRead, contentRead}
-use Rattle.publishing.specs.RoundTrip.{order-read, files-read, number-again, number-unnamed}
+use Rattle.publishing.specs.RoundTrip.{fine-read, wide-read, order-read, files-read, number-again, number-unnamed}
 use Rattle.lists.specs.Lists.{contentOf}
 use Rattle.writing.specs.Write.{torrentBytes, writeNumber, writeAnswer}
 use Rattle.writing.specs.WrittenReads.{content-wide, content-good, not-large, is-strict, has-plen, has-files, has-layers, has-number}
@@ -39,6 +39,7 @@ use Rattle.torrent.specs.ReadMeans.{value-zero}
 use Rattle.published.specs.Published.{Gives, Named, InForm, writtenBytes}
 use Rattle.published.specs.GivenLaws.{value-given, given-is}
 use Rattle.published.specs.FormLaws.{in-form}
+use Rattle.published.specs.ListedLaws.{Listable}
 use Rattle.published.specs.AnswerLaws.{answer-number, written-is, number-done}
 
 -- ---- read back
@@ -181,6 +182,15 @@ given-order s plen xs r =
     let n = read-encodes s (r .number) .1 in
     let w = given-is s (n .0) (n .2) (n .1) (r .number) plen xs r in
     rw (w .1) (order-read (n .0) (value-right (n .0) (n .3)) (n .1))
+
+-- its lengths and roots go into records
+pub given-listable : (s : List ℕ) (plen : ℕ) (xs : List Item) → Gives s plen xs → (x : Item) → Member x xs → Listable x
+given-listable s plen xs r x m =
+    let n = read-encodes s (r .number) .1 in
+    let v = value-right (n .0) (n .3) in
+    let w = given-is s (n .0) (n .2) (n .1) (r .number) plen xs r in
+    let k : Member x (contentRead (n .0)) = rw (w .1) at m in
+    (omega (arith, fine-read (n .0) v (n .1) .in-range x k), wide-read (n .0) v (n .1) x k)
 
 module _ (list text : List ℕ) (plen : ℕ) (name s : List ℕ) (xs : List Item) (r : Gives s plen xs) (same : Permuted (contentOf list text) xs) (zero : contentNumber plen name xs ≡ 0) where
   again-number : contentNumber plen name (contentOf list text) ≡ 0
