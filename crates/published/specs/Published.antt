@@ -21,7 +21,7 @@ use Rattle.writing.specs.Write.{torrentBytes, writeAnswer, writeAfter}
 use Rattle.torrent.specs.Torrent.{readOf, fileRead, pathRead}
 use Rattle.torrent.specs.Answers.{PartIs}
 
--- ---- what the reader gives of the bytes s
+-- ---- what the reader gives of the bytes s; `kd_torrent_list` gives the same (`list-record` of `calls`)
 
 -- file n is x: its length, its root, each element of its path and its layer, by their bytes. A file without a layer has an empty one
 pub record FileGiven (s : List ℕ) (n : ℕ) (x : Item) : Type 0 where

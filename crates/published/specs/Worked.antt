@@ -1,12 +1,13 @@
 -- 02, request 4: worked cases.
 -- Assumes nothing.
-use mathlib.Core.Path.{_≡_, refl}
+use mathlib.Core.Path.{_≡_, refl, ap, _∙_, subst}
 use mathlib.Core.Bool.{true}
 use mathlib.Core.List.{List, [], _∷_, _++_}
 use Prim.Native.Nat.{ℕ}
 use lib.ListN.{replicate}
 use Rattle.octets.specs.Octets.{same, cut, numberAt, pasted, zeroHash}
 use Rattle.numbers.specs.Numbers.{done}
+use Rattle.numbers.specs.declared.Answer.{Answer}
 use Rattle.tree.specs.Geometry.{isPieceLength, pieceLayer, height, heightFrom, hasLayer}
 use Rattle.bencode.specs.Grammar.{string, dictionary, noEntries, entry, precedes, decimalIn, encode}
 use Rattle.bencode.specs.Parts.{lookup}
@@ -16,6 +17,8 @@ use Rattle.publishing.specs.Content.{Item, pathBefore, inTreeOrder, grown, tree
 use Rattle.publishing.specs.Number.{some, meet, contentNumber}
 use Rattle.lists.specs.Lists.{elementsFit, elementsIn, itemAt, formAt, formUpTo, itemsUpTo, listForm, contentOf}
 use Rattle.writing.specs.Write.{writeNumber, writeAnswer, writeAfter}
+use Rattle.published.specs.Published.{Gives, writtenBytes}
+use Rattle.published.specs.Promised.{read-back, written-torrent}
 
 -- ---- `a/b` stands before `a.txt`, though the joined paths stand the other way round
 
@@ -82,3 +85,24 @@ pub tiny-written : (writeAnswer tinyList tinyText 16384 (110 ∷ []) (replicate 
     × (writeAfter tinyList tinyText 16384 (110 ∷ []) (replicate 111 255) ≡ tinyTorrent ++ (255 ∷ 255 ∷ []))
 unfolding writeAnswer writeAfter writeNumber pasted
 tiny-written = rw (tiny-form, tiny-content, tiny-number, tiny-bytes) (refl, refl)
+
+-- and these bytes are read as that file
+pub tiny-read : Gives tinyTorrent 16384 (emptyFile ((97 ∷ []) ∷ []) ∷ [])
+tiny-read =
+    subst (λ (s : List ℕ). Gives s 16384 (emptyFile ((97 ∷ []) ∷ []) ∷ [])) bytes
+    (subst (λ (xs : List Item). Gives written 16384 xs) files (read-back tinyList tinyText 16384 (110 ∷ []) (replicate 111 255) zero))
+  where
+    zero : writeAnswer tinyList tinyText 16384 (110 ∷ []) (replicate 111 255) .number ≡ 0
+    zero = ap (λ (a : Answer). a .number) (tiny-written .0)
+
+    written : List ℕ
+    written = writtenBytes tinyList tinyText 16384 (110 ∷ []) (replicate 111 255)
+
+    bytes : written ≡ tinyTorrent
+    bytes = written-torrent tinyList tinyText 16384 (110 ∷ []) (replicate 111 255) zero ∙ ap (λ (xs : List Item). encode (dictionary (torrentOf 16384 (110 ∷ []) xs))) tiny-content ∙ tiny-bytes
+
+    alone : inTreeOrder (emptyFile ((97 ∷ []) ∷ []) ∷ []) ≡ emptyFile ((97 ∷ []) ∷ []) ∷ []
+    alone = unfold sortedBy in unfold inserted in refl
+
+    files : inTreeOrder (contentOf tinyList tinyText) ≡ emptyFile ((97 ∷ []) ∷ []) ∷ []
+    files = ap inTreeOrder tiny-content ∙ alone
