@@ -87,22 +87,18 @@ unfolding writeAnswer writeAfter writeNumber pasted
 tiny-written = rw (tiny-form, tiny-content, tiny-number, tiny-bytes) (refl, refl)
 
 -- and these bytes are read as that file
-pub tiny-read : Gives tinyTorrent 16384 (emptyFile ((97 ∷ []) ∷ []) ∷ [])
-tiny-read =
-    subst (λ (s : List ℕ). Gives s 16384 (emptyFile ((97 ∷ []) ∷ []) ∷ [])) bytes
-    (subst (λ (xs : List Item). Gives written 16384 xs) files (read-back tinyList tinyText 16384 (110 ∷ []) (replicate 111 255) zero))
+read-as : (list text : List ℕ) (plen : ℕ) (name out : List ℕ) (n : ℕ) (bytes : List ℕ) (xs : List Item) → writeAnswer list text plen name out ≡ done n
+    → contentOf list text ≡ xs → inTreeOrder xs ≡ xs → encode (dictionary (torrentOf plen name xs)) ≡ bytes → Gives bytes plen xs
+read-as list text plen name out n bytes xs e f g h =
+    subst (λ (s : List ℕ). Gives s plen xs) (written-torrent list text plen name out zero ∙ ap (λ (ys : List Item). encode (dictionary (torrentOf plen name ys))) f ∙ h)
+    (subst (λ (ys : List Item). Gives (writtenBytes list text plen name out) plen ys) (ap inTreeOrder f ∙ g) (read-back list text plen name out zero))
   where
-    zero : writeAnswer tinyList tinyText 16384 (110 ∷ []) (replicate 111 255) .number ≡ 0
-    zero = ap (λ (a : Answer). a .number) (tiny-written .0)
+    zero : writeAnswer list text plen name out .number ≡ 0
+    zero = ap (λ (a : Answer). a .number) e
 
-    written : List ℕ
-    written = writtenBytes tinyList tinyText 16384 (110 ∷ []) (replicate 111 255)
+tiny-order : inTreeOrder (emptyFile ((97 ∷ []) ∷ []) ∷ []) ≡ emptyFile ((97 ∷ []) ∷ []) ∷ []
+unfolding sortedBy inserted
+tiny-order = refl
 
-    bytes : written ≡ tinyTorrent
-    bytes = written-torrent tinyList tinyText 16384 (110 ∷ []) (replicate 111 255) zero ∙ ap (λ (xs : List Item). encode (dictionary (torrentOf 16384 (110 ∷ []) xs))) tiny-content ∙ tiny-bytes
-
-    alone : inTreeOrder (emptyFile ((97 ∷ []) ∷ []) ∷ []) ≡ emptyFile ((97 ∷ []) ∷ []) ∷ []
-    alone = unfold sortedBy in unfold inserted in refl
-
-    files : inTreeOrder (contentOf tinyList tinyText) ≡ emptyFile ((97 ∷ []) ∷ []) ∷ []
-    files = ap inTreeOrder tiny-content ∙ alone
+pub tiny-read : Gives tinyTorrent 16384 (emptyFile ((97 ∷ []) ∷ []) ∷ [])
+tiny-read = read-as tinyList tinyText 16384 (110 ∷ []) (replicate 111 255) 109 tinyTorrent (emptyFile ((97 ∷ []) ∷ []) ∷ []) (tiny-written .0) tiny-content tiny-order tiny-bytes
