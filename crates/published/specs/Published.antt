@@ -109,11 +109,11 @@ writtenBytes list text plen name out = cut (writeAfter list text plen name out) 
 
 -- the numbers of the table that the call gives
 pub data WriteNumber (n : ℕ) : Type 0 where
-  is-4 : n ≡ 4 → WriteNumber n
-  is-11 : n ≡ 11 → WriteNumber n
-  is-19 : n ≡ 19 → WriteNumber n
-  is-21 : n ≡ 21 → WriteNumber n
-  is-24-to-28 : 24 ≤ n → n ≤ 28 → WriteNumber n
+  is-4 : n ≡ wrongSize → WriteNumber n
+  is-11 : n ≡ noRoom → WriteNumber n
+  is-19 : n ≡ torrentTooLarge → WriteNumber n
+  is-21 : n ≡ nestedTooDeeply → WriteNumber n
+  is-24-to-28 : pieceLengthOutOfRange ≤ n → n ≤ layerDiffers → WriteNumber n
 
 -- kd_torrent_write, with the output before and after: 0 and the size, and so many bytes put before the rest; or such a number beside
 -- zero, and the output as it was

@@ -1,4 +1,4 @@
--- 02, request 4: worked cases.
+-- 02, request 4: cases worked by hand.
 -- Assumes nothing.
 use mathlib.Core.Path.{_≡_, refl, ap, _∙_, subst}
 use mathlib.Core.Bool.{true}
