@@ -21,7 +21,7 @@ use Rattle.writing.specs.Write.{torrentBytes, writeAnswer, writeAfter}
 use Rattle.torrent.specs.Torrent.{readOf, fileRead, pathRead}
 use Rattle.torrent.specs.Answers.{PartIs}
 
--- ---- what the reader gives of the bytes s
+-- ---- what the reader gives of the bytes s; `kd_torrent_list` gives the same (`list-record` of `calls`)
 
 -- file n is x: its length, its root, each element of its path and its layer, by their bytes. A file without a layer has an empty one
 pub record FileGiven (s : List ℕ) (n : ℕ) (x : Item) : Type 0 where
@@ -109,11 +109,11 @@ writtenBytes list text plen name out = cut (writeAfter list text plen name out) 
 
 -- the numbers of the table that the call gives
 pub data WriteNumber (n : ℕ) : Type 0 where
-  is-4 : n ≡ 4 → WriteNumber n
-  is-11 : n ≡ 11 → WriteNumber n
-  is-19 : n ≡ 19 → WriteNumber n
-  is-21 : n ≡ 21 → WriteNumber n
-  is-24-to-28 : 24 ≤ n → n ≤ 28 → WriteNumber n
+  is-4 : n ≡ wrongSize → WriteNumber n
+  is-11 : n ≡ noRoom → WriteNumber n
+  is-19 : n ≡ torrentTooLarge → WriteNumber n
+  is-21 : n ≡ nestedTooDeeply → WriteNumber n
+  is-24-to-28 : pieceLengthOutOfRange ≤ n → n ≤ layerDiffers → WriteNumber n
 
 -- kd_torrent_write, with the output before and after: 0 and the size, and so many bytes put before the rest; or such a number beside
 -- zero, and the output as it was

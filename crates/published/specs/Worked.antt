@@ -1,12 +1,13 @@
--- 02, request 4: worked cases.
+-- 02, request 4: cases worked by hand.
 -- Assumes nothing.
-use mathlib.Core.Path.{_≡_, refl}
+use mathlib.Core.Path.{_≡_, refl, ap, _∙_, subst}
 use mathlib.Core.Bool.{true}
 use mathlib.Core.List.{List, [], _∷_, _++_}
 use Prim.Native.Nat.{ℕ}
 use lib.ListN.{replicate}
 use Rattle.octets.specs.Octets.{same, cut, numberAt, pasted, zeroHash}
 use Rattle.numbers.specs.Numbers.{done}
+use Rattle.numbers.specs.declared.Answer.{Answer}
 use Rattle.tree.specs.Geometry.{isPieceLength, pieceLayer, height, heightFrom, hasLayer}
 use Rattle.bencode.specs.Grammar.{string, dictionary, noEntries, entry, precedes, decimalIn, encode}
 use Rattle.bencode.specs.Parts.{lookup}
@@ -16,6 +17,8 @@ use Rattle.publishing.specs.Content.{Item, pathBefore, inTreeOrder, grown, tree
 use Rattle.publishing.specs.Number.{some, meet, contentNumber}
 use Rattle.lists.specs.Lists.{elementsFit, elementsIn, itemAt, formAt, formUpTo, itemsUpTo, listForm, contentOf}
 use Rattle.writing.specs.Write.{writeNumber, writeAnswer, writeAfter}
+use Rattle.published.specs.Published.{Gives, writtenBytes}
+use Rattle.published.specs.Promised.{read-back, written-torrent}
 
 -- ---- `a/b` stands before `a.txt`, though the joined paths stand the other way round
 
@@ -82,3 +85,20 @@ pub tiny-written : (writeAnswer tinyList tinyText 16384 (110 ∷ []) (replicate 
     × (writeAfter tinyList tinyText 16384 (110 ∷ []) (replicate 111 255) ≡ tinyTorrent ++ (255 ∷ 255 ∷ []))
 unfolding writeAnswer writeAfter writeNumber pasted
 tiny-written = rw (tiny-form, tiny-content, tiny-number, tiny-bytes) (refl, refl)
+
+-- and these bytes are read as that file
+read-as : (list text : List ℕ) (plen : ℕ) (name out : List ℕ) (n : ℕ) (bytes : List ℕ) (xs : List Item) → writeAnswer list text plen name out ≡ done n
+    → contentOf list text ≡ xs → inTreeOrder xs ≡ xs → encode (dictionary (torrentOf plen name xs)) ≡ bytes → Gives bytes plen xs
+read-as list text plen name out n bytes xs e f g h =
+    subst (λ (s : List ℕ). Gives s plen xs) (written-torrent list text plen name out zero ∙ ap (λ (ys : List Item). encode (dictionary (torrentOf plen name ys))) f ∙ h)
+    (subst (λ (ys : List Item). Gives (writtenBytes list text plen name out) plen ys) (ap inTreeOrder f ∙ g) (read-back list text plen name out zero))
+  where
+    zero : writeAnswer list text plen name out .number ≡ 0
+    zero = ap (λ (a : Answer). a .number) e
+
+tiny-order : inTreeOrder (emptyFile ((97 ∷ []) ∷ []) ∷ []) ≡ emptyFile ((97 ∷ []) ∷ []) ∷ []
+unfolding sortedBy inserted
+tiny-order = refl
+
+pub tiny-read : Gives tinyTorrent 16384 (emptyFile ((97 ∷ []) ∷ []) ∷ [])
+tiny-read = read-as tinyList tinyText 16384 (110 ∷ []) (replicate 111 255) 109 tinyTorrent (emptyFile ((97 ∷ []) ∷ []) ∷ []) (tiny-written .0) tiny-content tiny-order tiny-bytes
