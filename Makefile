@@ -1,7 +1,7 @@
 # run: proves the library and its programs, and shows what they are for. test: the gate.
 # lib: the library for hosts. install, uninstall: header, archive and pkg-config file below PREFIX.
 # bench: speed against plain Rust. interop: with a real client, libtorrent, on loopback. torrents: read those that libtorrent
-# makes. soak: generated calls compared with the second implementation, for long.
+# makes, and have it read ours. soak: generated calls compared with the second implementation, for long.
 .PHONY: run test lib install uninstall bench interop torrents soak
 
 PREFIX ?= /usr/local

@@ -23,8 +23,9 @@
  *
  * Memory marked `const` is not changed, and a refusal changes no byte of any memory, save for that reject.
  *
- * STACK. Calls on a store or a state were seen to need at most 7.9 kB of stack, kd_torrent_list 212 kB, the other calls on a
- * torrent 147 kB: measured on the largest file and on torrents nested as deep as they may be (docs/BENCHMARKS.md).
+ * STACK. Calls on a store or a state were seen to need at most 7.9 kB of stack, kd_torrent_write 567 kB, kd_torrent_list 212 kB,
+ * the other calls on a torrent 147 kB: measured on the largest file, on torrents nested as deep as they may be, and on as many
+ * files as one has room for (docs/BENCHMARKS.md).
  *
  * EXAMPLE
  *
@@ -43,7 +44,7 @@ extern "C" {
 #endif
 
 /* The version of header and library. Its second figure rises whenever a struct, a function or an answer changes. */
-#define KD_VERSION "0.6.0"
+#define KD_VERSION "0.7.0"
 
 /* ---- The numbers given back, each with what it says. ---- */
 
@@ -52,7 +53,8 @@ extern "C" {
 #define KD_OTHER_ROOT 2                 /* another pieces root */
 #define KD_RULE_BROKEN 3                /* a header rule fails; a block, piece or position that the file's tree does not
                                            have; a layer for a file not longer than the piece length */
-#define KD_WRONG_SIZE 4                 /* the byte count isn't what header or file fixes, or is too long for SHA-256 */
+#define KD_WRONG_SIZE 4                 /* the byte count isn't what header or file fixes, or is too long for SHA-256; or a
+                                           list of files that isn't in its form */
 #define KD_WRONG_PADDING 5              /* a padding position with another value */
 #define KD_NO_ANCHOR 6                  /* the anchor, leaf, piece node or, for a layer, the root is not held */
 #define KD_DIFFERS 7                    /* the worked-out value differs from the held anchor, leaf or node */
@@ -62,7 +64,8 @@ extern "C" {
 #define KD_FACTS_OUT_OF_RANGE 10        /* a length or a piece length that no store is opened with; a burst past
                                            the longest file */
 #define KD_NO_ROOM 11                   /* the output is shorter than the reply, reject included; or than a torrent's
-                                           list; or a piece's hash doesn't fit the lent layer */
+                                           list, or than a torrent that is written; or a piece's hash doesn't fit the lent
+                                           layer */
 #define KD_NOT_HELD 12                  /* a requested hash isn't held */
 #define KD_TORRENT_TOO_LARGE 19         /* a torrent above KD_LARGEST_TORRENT */
 #define KD_NOT_STRICT 20                /* the torrent is not one dictionary in strict bencoding */
@@ -76,7 +79,7 @@ extern "C" {
 #define KD_SAME_ROOT 26                 /* two files that aren't empty with the same root and different lengths */
 #define KD_LAYERS_AMISS 27              /* `piece layers` hasn't exactly the roots of the files longer than the piece length,
                                            or not 32 bytes per piece */
-#define KD_LAYER_DIFFERS 28             /* a layer doesn't give its root */
+#define KD_LAYER_DIFFERS 28             /* a layer doesn't give its root; of a list, two layers for one root */
 #define KD_NO_SUCH_FILE 29              /* no file, or no path element, of that number */
 
 /* ---- How large things may be. ---- */
@@ -91,6 +94,7 @@ extern "C" {
 #define KD_LEVELS 32                    /* how deeply a torrent may be nested, its outer dictionary being the first level */
 #define KD_ELEMENTS 28                  /* the most path elements of a file */
 #define KD_RECORD 280                   /* the bytes of a file's record in kd_torrent_list */
+#define KD_WRITE_RECORD 56              /* the bytes of a file's record in the list that kd_torrent_write takes */
 
 /* ---- Answers. ---- */
 
@@ -348,6 +352,39 @@ kd_part kd_torrent_path(const uint8_t *torrent, size_t size, uint64_t file, uint
  *   KD_DONE  `count` is the number of bytes written, KD_RECORD for each file. Bytes of `out` behind them stay.
  */
 kd_answer kd_torrent_list(const uint8_t *torrent, size_t size, uint8_t *out, size_t out_size);
+
+/* ---- Writing a v2 torrent. ---- */
+
+/*
+ * Writes the torrent of a list of files, with this piece length and name: `info` with `file tree`, `meta version`, `name` and
+ * `piece length`, then `piece layers`, and nothing else. kd_torrent_read answers it KD_DONE. The list has a record of
+ * KD_WRITE_RECORD bytes for each file, all numbers big-endian:
+ *    0  length (8 bytes)             8  pieces root (32), zero for an empty file
+ *   40  layer's start (4), size (4)  48  path's start (4), size (4)
+ * Starts and sizes are parts of `text`. Parts may overlap or be shared; an empty one may start anywhere up to the text's end.
+ * A path is its elements in a row, each a size (4) and so many bytes. A layer is as kd_history_end leaves it and kd_load_layer
+ * takes it, and is empty for a file not longer than the piece length. The order of the files, and where their parts stand, make
+ * no difference to the answer or to the bytes written. Files with one root share one layer in the torrent.
+ *
+ * No path is written that kd_torrent_path would not give: what it says of elements holds here too. `name` may be any bytes.
+ *   KD_WRONG_SIZE  the list isn't in this form: no whole number of records, a length of 2^63 or more, a part that ends behind
+ *       the text, a path that isn't exactly such elements.
+ *   then the lowest that holds of the list's files, wherever they stand:
+ *   KD_TORRENT_TOO_LARGE  the torrent would have more than KD_LARGEST_TORRENT bytes, each record counted, and one layer a root.
+ *   KD_NESTED_TOO_DEEPLY  a path of more than KD_ELEMENTS elements.
+ *   KD_PIECE_LENGTH_OUT_OF_RANGE
+ *   KD_WRONG_TREE  no file; a path without elements, that stands twice or that leads through another file; an element that is
+ *       empty, `.` or `..`, or has a `/` or a zero byte in it; a file above KD_LONGEST_FILE; an empty file with another root
+ *       than zero.
+ *   KD_SAME_ROOT  two files that aren't empty with the same root and different lengths.
+ *   KD_LAYERS_AMISS  a layer hasn't 32 bytes per piece of a file longer than the piece length, or another file has one.
+ *   KD_LAYER_DIFFERS  a layer doesn't give its root, or two files that aren't empty have the same root and different layers.
+ *   KD_NO_ROOM  `out` is shorter than the torrent.
+ *   KD_DONE  `count` is the torrent's size. Bytes of `out` behind it stay.
+ * KD_LARGEST_TORRENT bytes are always room enough. Nothing is written beside a refusal.
+ */
+kd_answer kd_torrent_write(const uint8_t *list, size_t list_size, const uint8_t *text, size_t text_size, uint64_t piece_length,
+                           const uint8_t *name, size_t name_size, uint8_t *out, size_t out_size);
 
 #ifdef __cplusplus
 }

@@ -125,7 +125,7 @@ static void make_torrent_of_many(void)
     for (int i = 1; i < ELEMENTS; i++)
         add_text("1:ad");
     for (int i = 0; i < FILES; i++) {
-        uint8_t name[2] = { (uint8_t)(i >> 8), (uint8_t)i };
+        uint8_t name[2] = { (uint8_t)(0x40 + i / 128), (uint8_t)(0x80 + i % 128) };
         kd_hash root = { { (uint8_t)(0xff - name[0]), (uint8_t)(0xff - name[1]) } };
         add_text("2:");
         add(name, 2);
@@ -146,6 +146,65 @@ static void show_torrent(const char *what)
     show("kd_torrent_file", torrent_file);
     show("kd_torrent_path", torrent_path);
     show("kd_torrent_list", torrent_list);
+}
+
+/* Lists to write a torrent of: that file with its layer behind a deep path, and the most files, which are empty. */
+enum { MOST_FILES = 47000, DEEP_PATH = 5 * ELEMENTS };
+static uint8_t files[MOST_FILES * KD_WRITE_RECORD], text[MOST_FILES * 7 + 32 * PIECES];
+static size_t files_size, text_size;
+static uint64_t piece_length;
+
+static void torrent_write(void)
+{
+    number = kd_torrent_write(files, files_size, text, text_size, piece_length, text, 1, torrent, sizeof torrent).number;
+}
+
+static void put_number(uint8_t *to, uint64_t value, size_t bytes)
+{
+    while (bytes-- > 0) {
+        to[bytes] = (uint8_t)value;
+        value >>= 8;
+    }
+}
+
+/* A record whose path and then whose layer are the next parts of the text. */
+static void add_record(uint64_t length, const kd_hash *root, size_t path_size, size_t layer_size)
+{
+    uint8_t *record = files + files_size;
+    put_number(record, length, 8);
+    memcpy(record + 8, root->bytes, 32);
+    put_number(record + 40, text_size + path_size, 4);
+    put_number(record + 44, layer_size, 4);
+    put_number(record + 48, text_size, 4);
+    put_number(record + 52, path_size, 4);
+    files_size += KD_WRITE_RECORD;
+    text_size += path_size + layer_size;
+}
+
+static void list_of_one(void)
+{
+    for (int i = 0; i < ELEMENTS; i++) {
+        put_number(text + 5 * i, 1, 4);
+        text[5 * i + 4] = 'a';
+    }
+    for (int i = 0; i < PIECES; i++)
+        memcpy(text + DEEP_PATH + 32 * i, at_layer[LAYER].bytes, 32);
+    piece_length = (uint64_t)BLOCK << LAYER;
+    add_record(LENGTH, &at_layer[HEIGHT], DEEP_PATH, 32 * PIECES);
+}
+
+static void list_of_many(void)
+{
+    kd_hash none = { { 0 } };
+    files_size = text_size = 0;
+    for (int i = 0; i < MOST_FILES; i++) {
+        uint8_t *path = text + text_size;
+        put_number(path, 3, 4);
+        path[4] = (uint8_t)(0xff - i / 16384);
+        path[5] = (uint8_t)(0xff - i / 128 % 128);
+        path[6] = (uint8_t)(0xff - i % 128);
+        add_record(0, &none, 7, 0);
+    }
 }
 
 static kd_hash pair_of(kd_hash hash)
@@ -255,6 +314,12 @@ int main(void)
     show_torrent("of one file with a long layer");
     make_torrent_of_many();
     show_torrent("of 14,000 files");
+    list_of_one();
+    printf("of one file with a long layer:\n");
+    show("kd_torrent_write", torrent_write);
+    list_of_many();
+    printf("of 47,000 empty files:\n");
+    show("kd_torrent_write", torrent_write);
     free(store);
     return 0;
 }

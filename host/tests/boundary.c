@@ -467,6 +467,39 @@ static void list(const uint8_t *torrent, size_t size, const kd_file *one)
     }
 }
 
+/* The torrent of one empty file, named by one record: what is written is known to the byte. */
+static void writing(void)
+{
+    static const uint8_t text[] = { 0, 0, 0, 1, 'a' }, name[] = { 'n', 'm' };
+    static const char expected[] = "d4:infod9:file treed1:ad0:d6:lengthi0eeee12:meta versioni2e4:name2:nm12:piece lengthi16384ee"
+                                   "12:piece layersdee";
+    enum { SIZE = sizeof expected - 1 };
+    uint8_t record[KD_WRITE_RECORD] = { 0 }, room[SIZE + 1];
+    record[55] = sizeof text;
+    memset(room, 0xaa, sizeof room);
+#define WRITE(records, piece_length, out, out_size) \
+    kd_torrent_write(record, records, text, sizeof text, piece_length, name, sizeof name, out, out_size)
+    answers("a list cut short", WRITE(KD_WRITE_RECORD - 1, 16384, room, sizeof room), KD_WRONG_SIZE, 0);
+    answers("no file", WRITE(0, 16384, room, sizeof room), KD_WRONG_TREE, 0);
+    answers("a bad piece length", WRITE(KD_WRITE_RECORD, 16385, room, sizeof room), KD_PIECE_LENGTH_OUT_OF_RANGE, 0);
+    answers("a large piece length", WRITE(KD_WRITE_RECORD, (1ull << 32) + 16384, room, 0), KD_PIECE_LENGTH_OUT_OF_RANGE, 0);
+    answers("no room for a torrent", WRITE(KD_WRITE_RECORD, 16384, room, SIZE - 1), KD_NO_ROOM, 0);
+    answers("a torrent into NULL", WRITE(KD_WRITE_RECORD, 16384, NULL, 0), KD_NO_ROOM, 0);
+    check("a refused torrent writes nothing", all_are(room, sizeof room, 0xaa));
+    answers("kd_torrent_write", WRITE(KD_WRITE_RECORD, 16384, room, sizeof room), KD_DONE, SIZE);
+    check("the torrent", memcmp(room, expected, SIZE) == 0 && room[SIZE] == 0xaa);
+    uint8_t *end = guarded(room, SIZE);
+    memset(end, 0, SIZE);
+    const uint8_t *list = guarded(record, sizeof record), *path = guarded(text, sizeof text), *named = guarded(name, sizeof name);
+    answers("guarded kd_torrent_write",
+            kd_torrent_write(list, sizeof record, path, sizeof text, 16384, named, sizeof name, end, SIZE), KD_DONE, SIZE);
+    check("the guarded torrent", memcmp(end, expected, SIZE) == 0);
+    check("the lent memory stays", memcmp(list, record, sizeof record) == 0 && memcmp(path, text, sizeof text) == 0);
+#undef WRITE
+    answers("kd_torrent_write of NULL", kd_torrent_write(NULL, 0, NULL, 0, 16384, NULL, 0, NULL, 0), KD_WRONG_TREE, 0);
+    check("what is written is read", kd_torrent_read(room, SIZE).files == 1);
+}
+
 static void torrents(void)
 {
     uint8_t torrent[400];
@@ -569,6 +602,7 @@ int main(void)
     marks();
     ends_of_memories();
     torrents();
+    writing();
     torrent_of_nothing();
     file_of_nothing();
     path_of_nothing();

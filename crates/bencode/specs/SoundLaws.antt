@@ -39,7 +39,7 @@ more-steps (suc f) (suc g) n h i = by-size (ltb n 10) refl (λ a b. more-steps f
         let dm = div-mod n in
         ap (λ (ds : List ℕ). ds ++ (digitZero + n % 10) ∷ []) (ih (omega (arith, dm .0)) (omega (arith, dm .0)))
 
-decimal-digit : (d : ℕ) → d < 10 → decimal d ≡ (digitZero + d) ∷ []
+pub decimal-digit : (d : ℕ) → d < 10 → decimal d ≡ (digitZero + d) ∷ []
 unfolding decimalIn
 decimal-digit d h = simp (lt-ltb d 10 h)
 
@@ -47,7 +47,7 @@ decimal-step : (m : ℕ) → 10 ≤ m → decimal m ≡ decimalIn m (m / 10) ++ 
 unfolding decimalIn
 decimal-step m h = simp (le-ltb m 10 h)
 
-decimal-longer : (n d : ℕ) → 0 < n → d < 10 → decimal (n * 10 + d) ≡ decimal n ++ (digitZero + d) ∷ []
+pub decimal-longer : (n d : ℕ) → 0 < n → d < 10 → decimal (n * 10 + d) ≡ decimal n ++ (digitZero + d) ∷ []
 decimal-longer n d h g =
     let m = n * 10 + d in
     let dm = div-mod m in

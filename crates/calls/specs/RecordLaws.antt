@@ -44,20 +44,20 @@ use Rattle.calls.specs.Calls.{RecordIs}
 -- ---- numbers among other bytes
 
 -- behind the bytes a
-number-behind : (a b : List ℕ) (at i k : ℕ) → at ≡ length a + i → numberAt (a ++ b) at k ≡ numberAt b i k
+pub number-behind : (a b : List ℕ) (at i k : ℕ) → at ≡ length a + i → numberAt (a ++ b) at k ≡ numberAt b i k
 number-behind a b at i k e =
     number-same (a ++ b) b at i k
     (λ j h. let o : at + j ≡ length a + (i + j) = omega arith in ap (λ (z : ℕ). getD (a ++ b) z 0) o ∙ getD-append-add a b (i + j) 0)
 
-cut-behind : (a b : List ℕ) (at i k : ℕ) → at ≡ length a + i → cut (a ++ b) at k ≡ cut b i k
+pub cut-behind : (a b : List ℕ) (at i k : ℕ) → at ≡ length a + i → cut (a ++ b) at k ≡ cut b i k
 unfolding cut
 cut-behind a b at i k e = ap (λ (l : List ℕ). take k l) (ap (λ (z : ℕ). drop z (a ++ b)) e ∙ drop-append-add a b i)
 
-be-size : (k n : ℕ) → length (be k n) ≡ k
+pub be-size : (k n : ℕ) → length (be k n) ≡ k
 be-size k n = be-octets k n .size
 
 -- a number at the front
-number-first : (k n : ℕ) (b : List ℕ) → n < 256 ^ k → numberAt (be k n ++ b) 0 k ≡ n
+pub number-first : (k n : ℕ) (b : List ℕ) → n < 256 ^ k → numberAt (be k n ++ b) 0 k ≡ n
 number-first k n b h =
     number-same (be k n ++ b) (be k n) 0 0 k (λ j l. List·getD-append (be k n) b 0 (0 + j) (omega (arith, be-size k n))) ∙ number-of-be k n h
 

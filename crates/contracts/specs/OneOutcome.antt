@@ -32,6 +32,7 @@ use Rattle.kombudeva.proofs.kd_torrent_read as torrent
 use Rattle.kombudeva.proofs.kd_torrent_file as file
 use Rattle.kombudeva.proofs.kd_torrent_path as path
 use Rattle.kombudeva.proofs.kd_torrent_list as list
+use Rattle.kombudeva.proofs.kd_torrent_write as writing
 
 -- nothing is asked of the caller, whatever the arguments are
 abbrev pub AsksNothing : (n : ℕ) (ps : List (PK n)) → In n ps → Type 0
@@ -134,6 +135,10 @@ path-asks-nothing κs a = tt
 -- kd_torrent_list
 pub list-asks-nothing : AsksNothing 2 list.Kinds.ps list.Reads.Asked
 list-asks-nothing κs a = tt
+
+-- kd_torrent_write
+pub writing-asks-nothing : AsksNothing 4 writing.Kinds.ps writing.Reads.Asked
+writing-asks-nothing κs a = tt
 
 -- ---- "no second outcome satisfies it": the answer, and every byte left of what was lent to be written
 
@@ -239,3 +244,8 @@ one-path κs a x y t u p q = p ∙ sym q
 pub one-list : (κs : Lfts 2) (a : Dens κs list.Kinds.ps) (x y : resT list.Kinds.r κs .Denot) (t u : AtExit (endedOf 2 list.Kinds.ps list.Kinds.r) κs)
     → list.Reads.Learnt κs a x t → list.Reads.Learnt κs a y u → (x ≡ y) × (now (t .1 .0) ≡ now (u .1 .0))
 one-list κs a x y t u p q = (p .0 ∙ sym (q .0), p .1 ∙ sym (q .1))
+
+-- kd_torrent_write: the answer, and the output's bytes
+pub one-writing : (κs : Lfts 4) (a : Dens κs writing.Kinds.ps) (x y : resT writing.Kinds.r κs .Denot) (t u : AtExit (endedOf 4 writing.Kinds.ps writing.Kinds.r) κs)
+    → writing.Reads.Learnt κs a x t → writing.Reads.Learnt κs a y u → (x ≡ y) × (now (t .1 .1 .1 .1 .0) ≡ now (u .1 .1 .1 .1 .0))
+one-writing κs a x y t u p q = (p .0 ∙ sym (q .0), p .1 ∙ sym (q .1))

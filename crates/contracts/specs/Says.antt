@@ -17,6 +17,7 @@ use Rattle.marks.specs.Marks.{clearAnswer, clearAfter, markedAnswer, fieldAnswe
 use Rattle.pieces.specs.Pieces.{layerAnswer, layerAfter, blockAnswer, blockAfter, pieceAnswer, pieceAfter}
 use Rattle.torrent.specs.Torrent.{readOf, fileRead, pathRead}
 use Rattle.catalogue.specs.Catalogue.{listAnswer, listAfter}
+use Rattle.writing.specs.Write.{writeAnswer, writeAfter}
 use Rattle.kombudeva.specs.Boundary.{countAnswer, hashAnswer, torrentAnswer, fileAnswer, partAnswer}
 use Rattle.kombudeva.proofs.kd_sha256 as hash
 use Rattle.kombudeva.proofs.kd_hashing_begin as hashing-begin
@@ -41,6 +42,7 @@ use Rattle.kombudeva.proofs.kd_torrent_read as torrent
 use Rattle.kombudeva.proofs.kd_torrent_file as file
 use Rattle.kombudeva.proofs.kd_torrent_path as path
 use Rattle.kombudeva.proofs.kd_torrent_list as list
+use Rattle.kombudeva.proofs.kd_torrent_write as writing
 
 -- kd_sha256
 pub hash-says : (κs : Lfts 1) (a : Dens κs hash.Kinds.ps) (r : resT hash.Kinds.r κs .Denot) (e : AtExit (endedOf 1 hash.Kinds.ps hash.Kinds.r) κs) → hash.Reads.Learnt κs a r e
@@ -156,3 +158,8 @@ path-says κs a r e p = p
 pub list-says : (κs : Lfts 2) (a : Dens κs list.Kinds.ps) (r : resT list.Kinds.r κs .Denot) (e : AtExit (endedOf 2 list.Kinds.ps list.Kinds.r) κs) → list.Reads.Learnt κs a r e
     → (r ≡ countAnswer (listAnswer (now (a .0)) (now (a .1 .0)))) × (now (e .1 .0) ≡ listAfter (now (a .0)) (now (a .1 .0)))
 list-says κs a r e p = p
+
+-- kd_torrent_write
+pub writing-says : (κs : Lfts 4) (a : Dens κs writing.Kinds.ps) (r : resT writing.Kinds.r κs .Denot) (e : AtExit (endedOf 4 writing.Kinds.ps writing.Kinds.r) κs) → writing.Reads.Learnt κs a r e
+    → (r ≡ countAnswer (writeAnswer (now (a .0)) (now (a .1 .0)) (a .1 .1 .0) (now (a .1 .1 .1 .0)) (now (a .1 .1 .1 .1 .0)))) × (now (e .1 .1 .1 .1 .0) ≡ writeAfter (now (a .0)) (now (a .1 .0)) (a .1 .1 .0) (now (a .1 .1 .1 .0)) (now (a .1 .1 .1 .1 .0)))
+writing-says κs a r e p = p

@@ -12,6 +12,7 @@ ghost use Rattle.marks.specs.Marks.{clearAnswer, clearAfter, markedAnswer, fiel
 ghost use Rattle.pieces.specs.Pieces.{layerAnswer, layerAfter, blockAnswer, blockAfter, pieceAnswer, pieceAfter};
 ghost use Rattle.torrent.specs.Torrent.{readOf, fileRead, pathRead};
 ghost use Rattle.catalogue.specs.Catalogue.{listAnswer, listAfter};
+ghost use Rattle.writing.specs.Write.{writeAnswer, writeAfter};
 ghost use Rattle.kombudeva.specs.Boundary.{countAnswer, hashAnswer, torrentAnswer, fileAnswer, partAnswer};
 use history::History;
 use history::HistoryAnswer;
@@ -290,4 +291,17 @@ pub extern "C" fn kd_torrent_list(torrent: &[u8], out: &mut [u8]) -> CountAnswer
     ensures { λ r. ⌜ (r ≡ countAnswer (listAnswer (now (torrent .entry)) (now (out .entry)))) × (now (out .exit) ≡ listAfter (now (torrent .entry)) (now (out .entry))) ⌝ }
 {
     count_answer(catalogue::list(torrent, out))
+}
+
+#[no_mangle]
+pub extern "C" fn kd_torrent_write(
+    list: &[u8],
+    text: &[u8],
+    piece_length: u64,
+    name: &[u8],
+    out: &mut [u8],
+) -> CountAnswer
+    ensures { λ r. ⌜ (r ≡ countAnswer (writeAnswer (now (list .entry)) (now (text .entry)) «piece_length» (now (name .entry)) (now (out .entry)))) × (now (out .exit) ≡ writeAfter (now (list .entry)) (now (text .entry)) «piece_length» (now (name .entry)) (now (out .entry))) ⌝ }
+{
+    count_answer(writing::write(list, text, piece_length as usize, name, out))
 }

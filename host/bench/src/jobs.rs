@@ -3,7 +3,8 @@
 
 use crate::measure::{Prepared, Work};
 use crate::scene::{Scene, Size, LARGEST, ONE_GIB, PIECE};
-use crate::{careful, plain};
+use crate::{careful, plain, writer};
+use host_tests::lists::{self, Planned};
 use host_tests::shapes;
 use reference::limits::{BLOCK, LONGEST_FILE, RECORD};
 use reference::sha256::{pair, sha256, Hash};
@@ -53,6 +54,7 @@ pub fn all() -> Vec<Job> {
     jobs.extend(shapes::ALL.iter().map(|shape| on_torrent(shape, "kd_torrent_read", reading)));
     let listed = shapes::ALL.iter().filter(|shape| LISTED.contains(&shape.name));
     jobs.extend(listed.map(|shape| on_torrent(shape, "kd_torrent_list", listing)));
+    jobs.extend(lists::GOOD.iter().map(on_list));
     jobs
 }
 
@@ -86,6 +88,14 @@ fn on_torrent(shape: &shapes::Shape, entry_point: &'static str, ready: fn(Vec<u8
     let job = job(shape.name, entry_point, asked, 1 << 20, move || ready(make(), number));
     let name = format!("{}:{}", &entry_point["kd_torrent_".len()..], shape.name);
     Job { name, versions: vec!["plain-rust", entry_point], ..job }
+}
+
+/// A torrent written of a list, asked for the ratio if it is the ordinary one.
+fn on_list(list: &lists::Shape) -> Job {
+    let make = list.make;
+    let asked = if list.name == lists::ORDINARY { "2.0" } else { "" };
+    let job = job(list.name, "kd_torrent_write", asked, 1 << 20, move || writing(make()));
+    Job { name: format!("write:{}", list.name), versions: vec!["plain-rust", "kd_torrent_write"], ..job }
 }
 
 impl Job {
@@ -436,6 +446,30 @@ fn listing(torrent: Vec<u8>, number: u32) -> Vec<Box<dyn Work>> {
         |_| (),
         |(torrent, room, number)| {
             assert_eq!(black_box(boundary::torrent_list(black_box(torrent), room)).number, *number)
+        },
+    );
+    vec![in_rust, in_library]
+}
+
+/// The same files, for plain Rust as a `Vec` of structs, for the library as a list.
+fn writing(files: Vec<Planned>) -> Vec<Box<dyn Work>> {
+    let written = lists::written_down(&files, lists::Placing::Apart(0));
+    let torrent = writer::write(&files, lists::PIECE_LENGTH, b"x").expect("a good list");
+    let out = vec![0; torrent.len()];
+    let in_rust = work(
+        (files, torrent.clone()),
+        |_| (),
+        |(files, torrent)| {
+            let written = black_box(writer::write(black_box(files), lists::PIECE_LENGTH, b"x"));
+            assert_eq!(written.as_ref(), Ok(&*torrent))
+        },
+    );
+    let in_library = work(
+        (written, out, torrent),
+        |_| (),
+        |(lists::Written { list, text }, out, torrent)| {
+            let given = black_box(boundary::torrent_write(black_box(list), text, lists::PIECE_LENGTH, b"x", out));
+            assert_eq!((given.number, &*out), (0, &*torrent))
         },
     );
     vec![in_rust, in_library]

@@ -10,6 +10,7 @@ mod jobs;
 mod measure;
 mod plain;
 mod scene;
+mod writer;
 
 use jobs::Job;
 

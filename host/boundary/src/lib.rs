@@ -99,3 +99,19 @@ pub fn torrent_path(torrent: &[u8], file: u64, element: u64) -> Part {
 pub fn torrent_list(torrent: &[u8], out: &mut [u8]) -> Answer {
     unsafe { raw::kd_torrent_list(torrent.as_ptr(), torrent.len(), out.as_mut_ptr(), out.len()) }
 }
+
+pub fn torrent_write(list: &[u8], text: &[u8], piece_length: u64, name: &[u8], out: &mut [u8]) -> Answer {
+    unsafe {
+        raw::kd_torrent_write(
+            list.as_ptr(),
+            list.len(),
+            text.as_ptr(),
+            text.len(),
+            piece_length,
+            name.as_ptr(),
+            name.len(),
+            out.as_mut_ptr(),
+            out.len(),
+        )
+    }
+}

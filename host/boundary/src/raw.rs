@@ -152,4 +152,15 @@ extern "C" {
     pub fn kd_torrent_file(torrent: *const u8, size: usize, file: u64) -> File;
     pub fn kd_torrent_path(torrent: *const u8, size: usize, file: u64, element: u64) -> Part;
     pub fn kd_torrent_list(torrent: *const u8, size: usize, out: *mut u8, out_size: usize) -> Answer;
+    pub fn kd_torrent_write(
+        list: *const u8,
+        list_size: usize,
+        text: *const u8,
+        text_size: usize,
+        piece_length: u64,
+        name: *const u8,
+        name_size: usize,
+        out: *mut u8,
+        out_size: usize,
+    ) -> Answer;
 }

@@ -26,11 +26,13 @@ pub mod limits;
 mod running;
 mod store;
 mod torrent;
+mod writing;
 
 pub use answer::Answer;
 pub use running::{Hashing, History, Logged};
 pub use store::{store_size, Served, Store};
 pub use torrent::{File, List, Listed, Torrent};
+pub use writing::TorrentBuilder;
 
 /// A SHA-256: 32 bytes in the order in which the standard prints them.
 pub type Hash = [u8; 32];

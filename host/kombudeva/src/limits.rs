@@ -20,3 +20,5 @@ pub const LEVELS: u32 = 32;
 pub const ELEMENTS: usize = 28;
 /// The bytes of memory that [`Torrent::list`](crate::Torrent::list) needs for each file.
 pub const RECORD: usize = 280;
+/// The bytes of a file's record in the list that a torrent is written of.
+pub const WRITE_RECORD: usize = 56;

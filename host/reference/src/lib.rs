@@ -20,6 +20,7 @@ pub mod sha256;
 pub mod store;
 pub mod torrent;
 pub mod tree;
+pub mod write;
 
 /// A number with the count, or with the reply's size.
 #[derive(Clone, Copy, Debug, PartialEq, Eq)]

@@ -10,3 +10,4 @@ pub const LARGEST_TORRENT: usize = 1048576;
 pub const LEVELS: u32 = 32;
 pub const ELEMENTS: usize = 28;
 pub const RECORD: usize = 280;
+pub const WRITE_RECORD: usize = 56;

@@ -164,14 +164,13 @@ fn assign_layers(torrent: &[u8], layers: &Entries, piece_length: u64, files: &mu
 }
 
 /// 28: a layer that doesn't give its root. Behind its hashes it is filled up with the padding value of its layer.
-fn layer_differs(torrent: &[u8], file: &Listed, filler: Hash) -> bool {
-    let mut row: Vec<Hash> =
-        torrent[file.layer.clone()].chunks_exact(32).map(|hash| hash.try_into().unwrap()).collect();
+pub fn layer_differs(layer: &[u8], root: &Hash, filler: Hash) -> bool {
+    let mut row: Vec<Hash> = layer.chunks_exact(32).map(|hash| hash.try_into().unwrap()).collect();
     row.resize(row.len().next_power_of_two(), filler);
     while row.len() > 1 {
         row = row.chunks_exact(2).map(|children| pair(&children[0], &children[1])).collect();
     }
-    row[0] != file.root
+    row[0] != *root
 }
 
 /// Everything the torrent says, or the number it is refused with.
@@ -195,7 +194,8 @@ pub fn contents(torrent: &[u8]) -> Result<Contents, u32> {
     }
     assign_layers(torrent, fields.piece_layers, piece_length, &mut files)?;
     let filler = padding((piece_length / BLOCK).trailing_zeros() as u64);
-    if files.iter().filter(|file| file.length > piece_length).any(|file| layer_differs(torrent, file, filler)) {
+    let differs = |file: &Listed| layer_differs(&torrent[file.layer.clone()], &file.root, filler);
+    if files.iter().filter(|file| file.length > piece_length).any(differs) {
         return Err(LAYER_DIFFERS);
     }
     Ok(Contents { info_hash: sha256(&torrent[fields.info.part.clone()]), piece_length, files })

@@ -8,6 +8,7 @@ Hashes, layers and path elements are in hexadecimal digits, since a name may be 
 
     make.py            makes the ones of KEPT in this folder
     make.py FOLDER     makes all of them in FOLDER; host/torrents does that, and compares
+    make.py read FOLDER  reads the torrents that are there, and compares what it reads with the text beside each
 
 Run it with the system's python3. The files of the torrents are made by a rule and thrown away.
 
@@ -172,7 +173,19 @@ def listing(encoded):
         yield f"{length} {root.hex()} {layer} {'/'.join(element.hex() for element in path)}"
 
 
+def read(folder):
+    for name in sorted(os.listdir(folder)):
+        if not name.endswith(".torrent"):
+            continue
+        place = os.path.join(folder, name)
+        with open(place, "rb") as file, open(place[: -len("torrent")] + "txt", encoding="ascii") as text:
+            if list(listing(file.read())) != text.read().splitlines():
+                sys.exit(f"{name}: libtorrent reads something else")
+
+
 def main():
+    if sys.argv[1:2] == ["read"]:
+        return read(sys.argv[2])
     folder, names = (sys.argv[1], TORRENTS) if len(sys.argv) > 1 else (HERE, KEPT)
     for name in names:
         encoded = make(name, *TORRENTS[name])

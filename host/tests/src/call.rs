@@ -7,7 +7,7 @@ use reference::history::{End, History};
 use reference::running::Hashing;
 use reference::sha256::{sha256, Hash};
 use reference::torrent::{File, Part, Torrent};
-use reference::{marks, messages, pieces, store, torrent, Answer, Hashed};
+use reference::{marks, messages, pieces, store, torrent, write, Answer, Hashed};
 use std::hint::black_box;
 
 #[derive(Clone, Copy, Debug, PartialEq, Eq, PartialOrd, Ord)]
@@ -35,6 +35,7 @@ pub enum Entry {
     TorrentFile,
     TorrentPath,
     TorrentList,
+    TorrentWrite,
 }
 
 impl Entry {
@@ -63,6 +64,7 @@ impl Entry {
             Entry::TorrentFile => "kd_torrent_file",
             Entry::TorrentPath => "kd_torrent_path",
             Entry::TorrentList => "kd_torrent_list",
+            Entry::TorrentWrite => "kd_torrent_write",
         }
     }
 }
@@ -71,20 +73,23 @@ impl Entry {
 #[derive(Clone, Debug, PartialEq, Eq)]
 pub struct Call {
     pub entry: Entry,
-    /// The store, or the bytes of a state: any bytes are one.
+    /// The store, or the bytes of a state: any bytes are one. Or the list of files that a torrent is written of.
     pub store: Vec<u8>,
-    /// The message, layer, block, piece, torrent, string or burst.
+    /// The message, layer, block, piece, torrent, string or burst; or the text that such a list points into.
     pub input: Vec<u8>,
     /// The output, or the layer lent to a history.
     pub out: Vec<u8>,
     /// The numbers among the arguments, in their order.
     pub numbers: [u64; 2],
     pub root: Hash,
+    /// The name of a torrent that is written.
+    pub name: Vec<u8>,
 }
 
 impl Call {
     pub fn new(entry: Entry) -> Call {
-        Call { entry, store: Vec::new(), input: Vec::new(), out: Vec::new(), numbers: [0, 0], root: [0; 32] }
+        let [store, input, out, name] = [const { Vec::new() }; 4];
+        Call { entry, store, input, out, numbers: [0, 0], root: [0; 32], name }
     }
 
     pub fn on(self, store: &[u8]) -> Call {
@@ -97,6 +102,10 @@ impl Call {
 
     pub fn out(self, out: Vec<u8>) -> Call {
         Call { out, ..self }
+    }
+
+    pub fn named(self, name: &[u8]) -> Call {
+        Call { name: name.to_vec(), ..self }
     }
 
     pub fn numbers(self, first: u64, second: u64) -> Call {
@@ -144,10 +153,11 @@ pub struct Outcome {
     pub store: Vec<u8>,
     pub input: Vec<u8>,
     pub out: Vec<u8>,
+    pub name: Vec<u8>,
 }
 
 pub fn by_reference(call: &Call) -> Outcome {
-    let Call { mut store, input, mut out, numbers: [first, second], root, entry } = call.clone();
+    let Call { mut store, input, mut out, numbers: [first, second], root, entry, name } = call.clone();
     let given = match entry {
         Entry::Sha256 => Given::Hashed(Hashed::done(sha256(&input))),
         Entry::HashingBegin => left(&mut store, 0, hashing_bytes(&Hashing::begin())),
@@ -181,8 +191,9 @@ pub fn by_reference(call: &Call) -> Outcome {
         Entry::TorrentFile => Given::File(torrent::torrent_file(&input, first)),
         Entry::TorrentPath => Given::Part(torrent::torrent_path(&input, first, second)),
         Entry::TorrentList => Given::Answer(torrent::torrent_list(&input, &mut out)),
+        Entry::TorrentWrite => Given::Answer(write::torrent_write(&store, &input, first, &name, &mut out)),
     };
-    Outcome { given, store, input, out }
+    Outcome { given, store, input, out, name }
 }
 
 /// A state comes back beside the number.
@@ -221,6 +232,7 @@ impl Fenced {
 pub fn by_library(call: &Call) -> Outcome {
     let [first, second] = call.numbers;
     let (mut store, mut input, mut out) = (Fenced::new(&call.store), Fenced::new(&call.input), Fenced::new(&call.out));
+    let mut name = Fenced::new(&call.name);
     let (held_bytes, message, room) = (store.lent(), input.lent(), out.lent());
     let given = match call.entry {
         Entry::Sha256 => hashed(boundary::sha256(message)),
@@ -255,8 +267,10 @@ pub fn by_library(call: &Call) -> Outcome {
         Entry::TorrentFile => file_of(boundary::torrent_file(message, first)),
         Entry::TorrentPath => part_of(boundary::torrent_path(message, first, second)),
         Entry::TorrentList => answer(boundary::torrent_list(message, room)),
+        Entry::TorrentWrite => answer(boundary::torrent_write(held_bytes, message, first, name.lent(), room)),
     };
-    Outcome { given, store: store.taken_back(), input: input.taken_back(), out: out.taken_back() }
+    let (store, input, out, name) = (store.taken_back(), input.taken_back(), out.taken_back(), name.taken_back());
+    Outcome { given, store, input, out, name }
 }
 
 fn answer(given: boundary::Answer) -> Given {

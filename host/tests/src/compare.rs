@@ -41,8 +41,10 @@ impl<'a> Comparison<'a> {
 fn changed_by_refusal(call: &Call, outcome: &Outcome) -> bool {
     let is_reject = call.entry == Entry::Serve && outcome.given.count() == 49;
     let kept = if is_reject { 49 } else { 0 };
-    let is_unchanged =
-        outcome.store == call.store && outcome.input == call.input && outcome.out[kept..] == call.out[kept..];
+    let is_unchanged = outcome.store == call.store
+        && outcome.input == call.input
+        && outcome.name == call.name
+        && outcome.out[kept..] == call.out[kept..];
     outcome.given.number() != 0 && !is_unchanged
 }
 
@@ -62,8 +64,8 @@ const TRIES: usize = 2000;
 fn smaller(library: Library, call: &Call) -> Call {
     let mut call = call.clone();
     let mut tries = TRIES;
-    let memories: [fn(&mut Call) -> &mut Vec<u8>; 3] =
-        [|call| &mut call.store, |call| &mut call.input, |call| &mut call.out];
+    let memories: [fn(&mut Call) -> &mut Vec<u8>; 4] =
+        [|call| &mut call.store, |call| &mut call.input, |call| &mut call.out, |call| &mut call.name];
     for memory in memories {
         let mut span = memory(&mut call).len();
         while span > 0 && tries > 0 {
@@ -91,7 +93,7 @@ fn with_zeros(call: &Call, memory: fn(&mut Call) -> &mut Vec<u8>, start: usize, 
 fn show(library: Library, call: &Call) -> String {
     let (expected, got) = (by_reference(call), library(call));
     let mut text = format!("{} {:?}, root {}\n", call.entry.name(), call.numbers, hex(&call.root));
-    for (name, bytes) in [("store", &call.store), ("input", &call.input), ("out", &call.out)] {
+    for (name, bytes) in [("store", &call.store), ("input", &call.input), ("out", &call.out), ("name", &call.name)] {
         writeln!(text, "  {name}: {} bytes; {}", bytes.len(), bytes_shown(bytes)).unwrap();
     }
     writeln!(text, "  reference: {:?}", expected.given).unwrap();

@@ -6,6 +6,7 @@ pub mod call;
 pub mod compare;
 pub mod fillings;
 pub mod headers;
+pub mod lists;
 pub mod random;
 pub mod replays;
 pub mod sessions;

@@ -5,7 +5,8 @@ use host_tests::call::{by_reference, Call, Entry, Given, Outcome};
 use host_tests::compare::{report, Comparison, Library};
 use host_tests::random::Random;
 use host_tests::states::{hashing_bytes, hashing_of, history_bytes, history_of};
-use host_tests::{bursts, sessions, torrents};
+use host_tests::lists::{read_back, Planned};
+use host_tests::{bursts, lists, sessions, torrents};
 use reference::limits::{BLOCK, RECORD};
 use reference::marks::{clear, mark, marked};
 use reference::messages::{Header, HEAD};
@@ -43,6 +44,18 @@ fn bursts(library: Library<'_>) -> Comparison<'_> {
     compared
 }
 
+fn lists(library: Library<'_>) -> Comparison<'_> {
+    let mut compared = Comparison::new(library);
+    lists::run(&mut Random::new(SEED), &mut compared, |compared| {
+        compared.difference.is_none() && compared.compared < CASES / 2
+    });
+    compared
+}
+
+fn assert_list_found_out(name: &str, impostor: Library) {
+    assert!(lists(impostor).difference.is_some(), "not found out: {name}");
+}
+
 fn assert_burst_found_out(name: &str, impostor: Library) {
     assert!(bursts(impostor).difference.is_some(), "not found out: {name}");
 }
@@ -65,6 +78,7 @@ fn untouched(call: &Call) -> Outcome {
         store: call.store.clone(),
         input: call.input.clone(),
         out: call.out.clone(),
+        name: call.name.clone(),
     }
 }
 
@@ -109,6 +123,63 @@ fn every_number_of_the_running_forms_comes_up() {
         (Entry::HistoryEnd, &[0, 9, 11]),
     ];
     assert_seen(&bursts(&by_reference), &expected);
+}
+
+/// 20, 22 and 23 hold of no list.
+#[test]
+fn every_number_of_a_written_torrent_comes_up() {
+    assert_seen(&lists(&by_reference), &[(Entry::TorrentWrite, &[0, 4, 11, 19, 21, 24, 25, 26, 27, 28])]);
+}
+
+/// A writer whose torrent is changed by `change`, and nothing else.
+fn assert_writing_found_out(name: &str, change: impl Fn(&[u8], Vec<Planned>) -> Vec<u8>) {
+    assert_list_found_out(name, &|call| match (call.entry, by_reference(call)) {
+        (Entry::TorrentWrite, mut outcome) if outcome.given.number() == DONE => {
+            let torrent = outcome.out[..outcome.given.count() as usize].to_vec();
+            let changed = change(&torrent, read_back(&torrent).unwrap());
+            outcome.given = Given::Answer(Answer::done(changed.len() as u64));
+            outcome.out = call.out.clone();
+            outcome.out.splice(..changed.len().min(call.out.len()), changed);
+            outcome.out.truncate(call.out.len());
+            outcome
+        }
+        (_, outcome) => outcome,
+    });
+}
+
+#[test]
+fn writers_that_are_wrong_in_one_way() {
+    assert_writing_found_out("a key too much", |torrent, _| {
+        let end = torrent.len() - 1;
+        [&torrent[..end], b"3:zzzi0ee"].concat()
+    });
+    assert_writing_found_out("a twin's layer written twice", |torrent, files| {
+        let mut roots: Vec<_> = files.iter().filter(|file| !file.layer.is_empty()).map(|file| file.root).collect();
+        roots.sort();
+        let twin = roots.windows(2).any(|two| two[0] == two[1]);
+        [torrent, if twin { b"x" } else { b"" }].concat()
+    });
+    assert_list_found_out("11 after the first byte", &|call| match (call.entry, by_reference(call)) {
+        (Entry::TorrentWrite, mut outcome) if outcome.given.number() == NO_ROOM && !call.out.is_empty() => {
+            outcome.out[0] = b'd';
+            outcome
+        }
+        (_, outcome) => outcome,
+    });
+    assert_list_found_out("the byte behind the torrent", &|call| match (call.entry, by_reference(call)) {
+        (Entry::TorrentWrite, mut outcome) if outcome.given.number() == DONE => {
+            let size = outcome.given.count() as usize;
+            outcome.out.iter_mut().skip(size).take(1).for_each(|byte| *byte = 0);
+            outcome
+        }
+        (_, outcome) => outcome,
+    });
+    for number in [4, 11, 19, 21, 24, 25, 26, 27, 28] {
+        assert_list_found_out("a check left out", &|call| match (call.entry, by_reference(call)) {
+            (Entry::TorrentWrite, outcome) if outcome.given.number() == number => untouched(call),
+            (_, outcome) => outcome,
+        });
+    }
 }
 
 #[test]

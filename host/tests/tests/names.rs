@@ -104,6 +104,7 @@ fn the_limits_have_one_name_each() {
     for (name, value) in proved {
         assert_eq!(limits.get(&name), Some(&value), "{name}");
     }
+    assert_eq!(constants("crates/lists/src/form.rt")["RECORD"], limits["WRITE_RECORD"]);
 }
 
 #[test]

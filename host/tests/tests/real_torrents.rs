@@ -1,10 +1,14 @@
 //! Torrents made by libtorrent, kept in `real/` with a text of what libtorrent says of each (`make.py` has its form): the
 //! reference has to say the same, trees included, and the library too. KD_TORRENTS names another
-//! folder of such torrents.
+//! folder of such torrents. Each is written again of its own files: KD_WRITTEN names a folder for what the library wrote, with
+//! a text of the same form beside it.
 
 use host_tests::call::by_library;
 use host_tests::compare::{report, Comparison};
+use host_tests::lists::{read_back, written_down, Placing};
 use host_tests::torrents::ask_all;
+use reference::bencode::{find, read};
+use reference::limits::LARGEST_TORRENT;
 use reference::torrent::contents;
 use reference::tree::root_of_file;
 use std::ops::Range;
@@ -58,6 +62,42 @@ fn the_library_says_what_the_reference_says() {
         ask_all(&torrent, &mut compared);
     }
     assert!(compared.difference.is_none(), "{}", report(&by_library, &compared.difference.unwrap()));
+}
+
+/// The name in a torrent's `info`, and how many keys that has.
+fn name_and_keys(torrent: &[u8]) -> (Vec<u8>, usize) {
+    let outer = read(torrent).unwrap();
+    let info = find(torrent, outer.dictionary().unwrap(), b"info").unwrap().dictionary().unwrap();
+    (torrent[find(torrent, info, b"name").unwrap().string().unwrap()].to_vec(), info.len())
+}
+
+/// Each torrent, written again by the library of its own files and name, in the opposite order: the reference writes the same
+/// bytes; the same files are read back; and where `info` has the writer's four keys alone, it has the same info hash.
+#[test]
+fn written_again() {
+    let mut compared = Comparison::new(&by_library);
+    let mut with_the_same_hash = 0;
+    for (path, torrent, _) in torrents() {
+        let (all, mut files) = (contents(&torrent).unwrap(), read_back(&torrent).unwrap());
+        let (name, keys) = name_and_keys(&torrent);
+        files.reverse();
+        let call = written_down(&files, Placing::Shared).call(all.piece_length, &name, LARGEST_TORRENT);
+        let (expected, outcome) = (compared.ask(&call), by_library(&call));
+        assert_eq!((outcome.given.number(), outcome.given), (0, expected.given), "{}", path.display());
+        let written = &outcome.out[..outcome.given.count() as usize];
+        assert_eq!(read_back(written), read_back(&torrent), "{}", path.display());
+        if keys == 4 {
+            assert_eq!(contents(written).unwrap().info_hash, all.info_hash, "{}", path.display());
+            with_the_same_hash += 1;
+        }
+        if let Ok(folder) = env::var("KD_WRITTEN") {
+            let place = Path::new(&folder).join(path.file_name().unwrap());
+            fs::write(&place, written).unwrap();
+            fs::write(place.with_extension("txt"), text_of(written)).unwrap();
+        }
+    }
+    assert!(compared.difference.is_none(), "{}", report(&by_library, &compared.difference.unwrap()));
+    assert!(with_the_same_hash >= 3, "{with_the_same_hash}");
 }
 
 /// The bytes that `make.py` put into a file.

@@ -1,0 +1,222 @@
+-- Two paths compared from the left: as long as their elements are the same they stand at one position, and what is left says what the
+-- whole says.
+-- Assumes nothing.
+use mathlib.Core.Path.{_≡_, refl, sym, ap, ap₂, _∙_, subst}
+use mathlib.Core.Bool.{Bool, true, false, cond, _&&_, and-eq-true-iff}
+use mathlib.Core.List.{List, [], _∷_}
+use Prim.Native.Nat.{ℕ, zero, suc, _+_, _-_, _≤_, _<_}
+use native.Mathlib.Omega.{arith}
+use lib.ListN.{length, take, drop, getD, length-drop}
+use lib.Seq.{getD-drop, drop-drop}
+use lib.Dec.{leb, ltb}
+use borrow.Author.Tests.{eq-eqb, eqb-true, ne-eqb, leb-true, ltb-true, ltb-false}
+use Rattle.octets.specs.Octets.{cut, same, numberAt}
+use Rattle.octets.specs.OctetsLaws.{number-same, cut-length, same-true}
+use Rattle.bencode.specs.Grammar.{precedes}
+use Rattle.publishing.specs.Content.{pathBefore}
+use Rattle.publishing.specs.Number.{begins}
+use Rattle.publishing.specs.OrderLaws.{path-one-way}
+use Rattle.lists.specs.Lists.{elementEnd, elementsFit, elementsIn}
+
+-- ---- what is left of one path
+
+pub in-end : (steps : ℕ) (s : List ℕ) → length s ≡ 0 → elementsIn steps s ≡ []
+unfolding elementsIn
+in-end zero s e = refl
+in-end (suc steps) s e = rw (eq-eqb (length s) 0 e) refl
+
+-- a first element, and the rest in the form
+pub record First (steps : ℕ) (s : List ℕ) : Type 0 where
+  pub fewer : ℕ
+  pub one-step : steps ≡ suc fewer
+  pub has-size : 4 ≤ length s
+  pub has-bytes : elementEnd s ≤ length s
+  pub rest-fits : elementsFit fewer (drop (elementEnd s) s) ≡ true
+  pub elements : elementsIn steps s ≡ cut s 4 (numberAt s 0 4) ∷ elementsIn fewer (drop (elementEnd s) s)
+
+first-of : (steps : ℕ) (s : List ℕ) → elementsFit steps s ≡ true → (length s ≡ 0 → ⊥) → First steps s
+unfolding elementsFit elementsIn
+first-of zero s h n = absurd (n (eqb-true (length s) 0 h))
+first-of (suc steps) s h n =
+    let k : cond false true (leb 4 (length s) && (leb (elementEnd s) (length s) && elementsFit steps (drop (elementEnd s) s))) ≡ true = rw (ne-eqb (length s) 0 n) at h in
+    let a = and-eq-true-iff (leb 4 (length s)) (leb (elementEnd s) (length s) && elementsFit steps (drop (elementEnd s) s)) .0 k in
+    let b = and-eq-true-iff (leb (elementEnd s) (length s)) (elementsFit steps (drop (elementEnd s) s)) .0 (a .1) in
+    record {
+      fewer = steps;
+      one-step = refl;
+      has-size = leb-true 4 (length s) (a .0);
+      has-bytes = leb-true (elementEnd s) (length s) (b .0);
+      rest-fits = b .1;
+      elements = rw (ne-eqb (length s) 0 n) refl;
+    }
+
+-- ---- by position
+
+number-there : (s : List ℕ) (at : ℕ) → numberAt (drop at s) 0 4 ≡ numberAt s at 4
+number-there s at = number-same (drop at s) s 0 at 4 (λ i h. getD-drop at s (0 + i) 0 ∙ ap (λ (j : ℕ). getD s j 0) (omega arith))
+
+cut-there : (s : List ℕ) (at n : ℕ) → cut (drop at s) 4 n ≡ take n (drop (at + 4) s)
+unfolding cut
+cut-there s at n = ap (take n) (drop-drop 4 at s)
+
+-- one path from a position on
+pub record PathLeft (s : List ℕ) (at : ℕ) : Type 0 where
+  pub within : at ≤ length s
+  pub steps : ℕ
+  pub fits : elementsFit steps (drop at s) ≡ true
+
+pub path-start : (s : List ℕ) → elementsFit (length s) s ≡ true → PathLeft s 0
+path-start s h = record { within = omega arith; steps = length s; fits = h }
+
+-- the element at a position
+pub element-there : (s : List ℕ) (at : ℕ) → PathLeft s at → at < length s → (at + 4 ≤ length s) × (at + 4 + numberAt s at 4 ≤ length s)
+element-there s at l h =
+    let f = first-of (l .steps) (drop at s) (l .fits) (λ z. omega (arith, length-drop at s)) in
+    (omega (arith, f .has-size, length-drop at s), omega (arith, f .has-bytes, length-drop at s, number-there s at))
+
+rest-is : (s : List ℕ) (at : ℕ) → drop (elementEnd (drop at s)) (drop at s) ≡ drop (at + 4 + numberAt s at 4) s
+rest-is s at = drop-drop (elementEnd (drop at s)) at s ∙ ap (λ (n : ℕ). drop n s) sums
+  where
+    sums : at + elementEnd (drop at s) ≡ at + 4 + numberAt s at 4
+    sums = omega (arith, number-there s at)
+
+pub path-more : (s : List ℕ) (at : ℕ) → PathLeft s at → at < length s → PathLeft s (at + 4 + numberAt s at 4)
+path-more s at l h =
+    let f = first-of (l .steps) (drop at s) (l .fits) (λ z. omega (arith, length-drop at s)) in
+    record { within = element-there s at l h .1; steps = f .fewer; fits = ap (elementsFit (f .fewer)) (sym (rest-is s at)) ∙ f .rest-fits }
+
+-- the path from a position on is its element there and the rest
+pub path-elements : (s : List ℕ) (at : ℕ) (l : PathLeft s at) (h : at < length s)
+    → elementsIn (l .steps) (drop at s) ≡ take (numberAt s at 4) (drop (at + 4) s) ∷ elementsIn (path-more s at l h .steps) (drop (at + 4 + numberAt s at 4) s)
+unfolding path-more first-of
+path-elements s at l h =
+    let f = first-of (l .steps) (drop at s) (l .fits) (λ z. omega (arith, length-drop at s)) in
+    f .elements
+    ∙ ap₂ (λ (x : List ℕ) (y : List (List ℕ)). x ∷ y)
+    (ap (cut (drop at s) 4) (number-there s at) ∙ cut-there s at (numberAt s at 4))
+    (ap (elementsIn (f .fewer)) (rest-is s at))
+
+-- ---- both paths at one position, and a question whose answer goes on behind elements that are the same
+
+pub record Walk (answer : List (List ℕ) → List (List ℕ) → Bool) (p q : List ℕ) (at : ℕ) : Type 0 where
+  pub left : PathLeft p at
+  pub right : PathLeft q at
+  pub same-answer : answer (elementsIn (length p) p) (elementsIn (length q) q) ≡ answer (elementsIn (left .steps) (drop at p)) (elementsIn (right .steps) (drop at q))
+
+none-left : (s : List ℕ) (at : ℕ) (l : PathLeft s at) → length s ≤ at → elementsIn (l .steps) (drop at s) ≡ []
+none-left s at l h = in-end (l .steps) (drop at s) (length-drop at s ∙ omega arith)
+
+-- the elements as slices
+pub element-size : (s : List ℕ) (at : ℕ) → PathLeft s at → at < length s → at + 4 ≤ length s
+element-size s at l h = element-there s at l h .0
+
+pub element-end : (s : List ℕ) (at m : ℕ) → PathLeft s at → at < length s → m ≡ numberAt s at 4 → at + 4 + m ≤ length s
+element-end s at m l h e = let w = element-there s at l h .1 in omega arith
+
+slice-is : (s : List ℕ) (at m : ℕ) → m ≡ numberAt s at 4 → take (at + 4 + m - (at + 4)) (drop (at + 4) s) ≡ take (numberAt s at 4) (drop (at + 4) s)
+slice-is s at m e = ap (λ (n : ℕ). take n (drop (at + 4) s)) size
+  where
+    size : at + 4 + m - (at + 4) ≡ numberAt s at 4
+    size = omega arith
+
+module _ (answer : List (List ℕ) → List (List ℕ) → Bool) where
+  pub walk-start : (p q : List ℕ) → elementsFit (length p) p ≡ true → elementsFit (length q) q ≡ true → Walk answer p q 0
+  unfolding path-start
+  walk-start p q a b = record { left = path-start p a; right = path-start q b; same-answer = refl }
+
+  -- the first is used up
+  pub walk-first-end : (p q : List ℕ) (at : ℕ) (b : Walk answer p q at) → length p ≤ at
+      → answer (elementsIn (length p) p) (elementsIn (length q) q) ≡ answer [] (elementsIn (b .right .steps) (drop at q))
+  walk-first-end p q at b h = b .same-answer ∙ ap (λ (x : List (List ℕ)). answer x (elementsIn (b .right .steps) (drop at q))) (none-left p at (b .left) h)
+
+  -- the second is used up
+  pub walk-second-end : ((e : List ℕ) (p : List (List ℕ)) → answer (e ∷ p) [] ≡ false) → (p q : List ℕ) (at : ℕ) → Walk answer p q at → at < length p → length q ≤ at
+      → answer (elementsIn (length p) p) (elementsIn (length q) q) ≡ false
+  walk-second-end none p q at b g h =
+      b .same-answer ∙ ap₂ answer (path-elements p at (b .left) g) (none-left q at (b .right) h) ∙ none (take (numberAt p at 4) (drop (at + 4) p)) (elementsIn (path-more p at (b .left) g .steps) (drop (at + 4 + numberAt p at 4) p))
+
+  -- both have an element
+  module _ (other : List ℕ → List ℕ → Bool) (step : (e f : List ℕ) (p q : List (List ℕ)) → answer (e ∷ p) (f ∷ q) ≡ cond (same e f) (answer p q) (other e f)) (p q : List ℕ) (at : ℕ) (b : Walk answer p q at) (g : at < length p) (h : at < length q) where
+    next : answer (elementsIn (length p) p) (elementsIn (length q) q)
+        ≡ cond (same (take (numberAt p at 4) (drop (at + 4) p)) (take (numberAt q at 4) (drop (at + 4) q))) (answer (elementsIn (path-more p at (b .left) g .steps) (drop (at + 4 + numberAt p at 4) p)) (elementsIn (path-more q at (b .right) h .steps) (drop (at + 4 + numberAt q at 4) q))) (other (take (numberAt p at 4) (drop (at + 4) p)) (take (numberAt q at 4) (drop (at + 4) q)))
+    next =
+        b .same-answer
+        ∙ ap₂ answer (path-elements p at (b .left) g) (path-elements q at (b .right) h)
+        ∙ step (take (numberAt p at 4) (drop (at + 4) p)) (take (numberAt q at 4) (drop (at + 4) q)) (elementsIn (path-more p at (b .left) g .steps) (drop (at + 4 + numberAt p at 4) p)) (elementsIn (path-more q at (b .right) h .steps) (drop (at + 4 + numberAt q at 4) q))
+
+    -- they differ, and decide
+    walk-differ : same (take (numberAt p at 4) (drop (at + 4) p)) (take (numberAt q at 4) (drop (at + 4) q)) ≡ false
+        → other (take (numberAt p at 4) (drop (at + 4) p)) (take (numberAt q at 4) (drop (at + 4) q)) ≡ answer (elementsIn (length p) p) (elementsIn (length q) q)
+    walk-differ d = sym (next ∙ rw d refl)
+
+    -- they are the same, and of one size
+    same-size : same (take (numberAt p at 4) (drop (at + 4) p)) (take (numberAt q at 4) (drop (at + 4) q)) ≡ true → numberAt p at 4 ≡ numberAt q at 4
+    same-size s =
+        let a = cut-length p (at + 4) (numberAt p at 4) (element-there p at (b .left) g .1) in
+        let c = cut-length q (at + 4) (numberAt q at 4) (element-there q at (b .right) h .1) in
+        sym (length-of p (numberAt p at 4) a) ∙ ap (λ (l : List ℕ). length l) (same-true (take (numberAt p at 4) (drop (at + 4) p)) (take (numberAt q at 4) (drop (at + 4) q)) s) ∙ length-of q (numberAt q at 4) c
+      where
+        length-of : (s : List ℕ) (n : ℕ) → length (cut s (at + 4) n) ≡ n → length (take n (drop (at + 4) s)) ≡ n
+        length-of u n x = unfold cut in x
+
+    walk-more : same (take (numberAt p at 4) (drop (at + 4) p)) (take (numberAt q at 4) (drop (at + 4) q)) ≡ true → Walk answer p q (at + 4 + numberAt p at 4)
+    walk-more s =
+        let z = same-size s in
+        let r : PathLeft q (at + 4 + numberAt p at 4) = subst (λ (n : ℕ). PathLeft q (at + 4 + n)) (sym z) (path-more q at (b .right) h) in
+        record { left = path-more p at (b .left) g; right = record { within = r .within; steps = path-more q at (b .right) h .steps; fits = fits-there z }; same-answer = next ∙ rw s (ap (λ (n : ℕ). answer (elementsIn (path-more p at (b .left) g .steps) (drop (at + 4 + numberAt p at 4) p)) (elementsIn (path-more q at (b .right) h .steps) (drop (at + 4 + n) q))) (sym z)) }
+      where
+        fits-there : numberAt p at 4 ≡ numberAt q at 4 → elementsFit (path-more q at (b .right) h .steps) (drop (at + 4 + numberAt p at 4) q) ≡ true
+        fits-there z = ap (λ (n : ℕ). elementsFit (path-more q at (b .right) h .steps) (drop (at + 4 + n) q)) z ∙ path-more q at (b .right) h .fits
+
+    -- as slices
+    module _ (m n : ℕ) (i : m ≡ numberAt p at 4) (j : n ≡ numberAt q at 4) where
+      pub slices-differ : (s r : Bool) → s ≡ same (take (at + 4 + m - (at + 4)) (drop (at + 4) p)) (take (at + 4 + n - (at + 4)) (drop (at + 4) q)) → s ≡ false
+          → r ≡ other (take (at + 4 + m - (at + 4)) (drop (at + 4) p)) (take (at + 4 + n - (at + 4)) (drop (at + 4) q))
+          → r ≡ answer (elementsIn (length p) p) (elementsIn (length q) q)
+      slices-differ s r u d w = w ∙ ap₂ other (slice-is p at m i) (slice-is q at n j) ∙ walk-differ (sym (u ∙ ap₂ same (slice-is p at m i) (slice-is q at n j)) ∙ d)
+
+      pub slices-same : (s : Bool) → s ≡ same (take (at + 4 + m - (at + 4)) (drop (at + 4) p)) (take (at + 4 + n - (at + 4)) (drop (at + 4) q)) → s ≡ true → Walk answer p q (at + 4 + m)
+      slices-same s u d = subst (λ (k : ℕ). Walk answer p q (at + 4 + k)) (sym i) (walk-more (sym (u ∙ ap₂ same (slice-is p at m i) (slice-is q at n j)) ∙ d))
+
+-- ---- whether one stands before the other
+
+pub before-step : (e f : List ℕ) (p q : List (List ℕ)) → pathBefore (e ∷ p) (f ∷ q) ≡ cond (same e f) (pathBefore p q) (precedes e f)
+unfolding pathBefore
+before-step e f p q = refl
+
+pub before-none : (e : List ℕ) (p : List (List ℕ)) → pathBefore (e ∷ p) [] ≡ false
+unfolding pathBefore
+before-none e p = refl
+
+-- the first is used up: it stands before what is left of the second, if anything is
+pub before-first-end : (p q : List ℕ) (at : ℕ) → Walk pathBefore p q at → length p ≤ at → ltb at (length q) ≡ pathBefore (elementsIn (length p) p) (elementsIn (length q) q)
+before-first-end p q at b h = sym (walk-first-end pathBefore p q at b h ∙ by-rest (ltb at (length q)) refl)
+  where
+    by-rest : (t : Bool) → ltb at (length q) ≡ t → pathBefore [] (elementsIn (b .right .steps) (drop at q)) ≡ t
+    by-rest true e = ap (pathBefore []) (path-elements q at (b .right) (ltb-true at (length q) e)) ∙ (unfold pathBefore in refl)
+    by-rest false e = ap (pathBefore []) (none-left q at (b .right) (ltb-false at (length q) e)) ∙ (unfold pathBefore in refl)
+
+-- a path does not stand before itself
+pub before-self : (p : List (List ℕ)) → pathBefore p p ≡ false
+before-self p = by-case (pathBefore p p) refl
+  where
+    by-case : (t : Bool) → pathBefore p p ≡ t → pathBefore p p ≡ false
+    by-case true e = path-one-way p p e
+    by-case false e = e
+
+-- ---- whether one begins the other
+
+pub begins-step : (e f : List ℕ) (p q : List (List ℕ)) → begins (e ∷ p) (f ∷ q) ≡ cond (same e f) (begins p q) false
+unfolding begins
+begins-step e f p q = by-case (same e f)
+  where
+    by-case : (t : Bool) → t && begins p q ≡ cond t (begins p q) false
+    by-case true = refl
+    by-case false = refl
+
+pub begins-none : (e : List ℕ) (p : List (List ℕ)) → begins (e ∷ p) [] ≡ false
+unfolding begins
+begins-none e p = refl
+
+pub begins-first-end : (p q : List ℕ) (at : ℕ) → Walk begins p q at → length p ≤ at → begins (elementsIn (length p) p) (elementsIn (length q) q) ≡ true
+begins-first-end p q at b h = walk-first-end begins p q at b h ∙ (unfold begins in refl)

@@ -1,0 +1,113 @@
+-- The number of a content by its tests, one after the other as the code makes them.
+-- Assumes nothing.
+use mathlib.Core.Path.{_≡_, refl, sym, ap, _∙_}
+use mathlib.Core.Bool.{Bool, true, false, cond, _||_, not, and-eq-true-iff}
+use mathlib.Core.List.{List, [], _∷_, _++_}
+use Prim.Native.Nat.{ℕ, zero, suc, _+_, _*_, _%_, _≤_, _<_}
+use native.Mathlib.Omega.{arith}
+use native.Mathlib.Nat.{div-add-mod'}
+use lib.ListN.{length}
+use lib.Dec.{eqb, ltb}
+use borrow.Author.Tests.{eqb-true, lt-ltb, le-ltb}
+use Rattle.limits.specs.Limits.{largestTorrent}
+use Rattle.numbers.specs.Numbers.{torrentTooLarge, nestedTooDeeply, pieceLengthOutOfRange, wrongTree, sameRoot, layersAmiss, layerDiffers}
+use Rattle.tree.specs.Geometry.{isPieceLength}
+use Rattle.bencode.specs.Grammar.{dictionary, encode}
+use Rattle.publishing.specs.Content.{Item, torrentOf}
+use Rattle.publishing.specs.Number.{some, tooDeep, wrongItem, meet, nothing, twoLengths, misfit, givesOther, twoLayers, contentNumber}
+use Rattle.lists.specs.Lists.{recordSize, itemAt, formUpTo, itemsUpTo, recordCount, listForm, contentOf}
+
+-- ---- a list has a file exactly if it has a byte
+
+nothing-behind : (xs : List Item) (x : Item) → nothing (xs ++ x ∷ []) ≡ false
+nothing-behind [] x = refl
+nothing-behind (y ∷ ys) x = refl
+
+pub no-bytes : (list text : List ℕ) → length list ≡ 0 → nothing (contentOf list text) ≡ true
+unfolding contentOf
+no-bytes list text e = ap (λ (n : ℕ). nothing (itemsUpTo list text n)) none ∙ first
+  where
+    none : recordCount list ≡ 0
+    none = rw e refl
+
+    first : nothing (itemsUpTo list text 0) ≡ true
+    first = unfold itemsUpTo in refl
+
+pub some-bytes : (list text : List ℕ) → listForm list text ≡ true → (length list ≡ 0 → ⊥) → nothing (contentOf list text) ≡ false
+unfolding contentOf listForm
+some-bytes list text h n = by-count (recordCount list) refl
+  where
+    whole : length list % recordSize ≡ 0
+    whole =
+        eqb-true (length list % recordSize) 0 (and-eq-true-iff (eqb (length list % recordSize) 0) (formUpTo list text (recordCount list)) .0 h .0)
+
+    by-count : (k : ℕ) → recordCount list ≡ k → nothing (itemsUpTo list text (recordCount list)) ≡ false
+    by-count zero e = absurd (n (let d = div-add-mod' (length list) recordSize in omega (arith, whole)))
+    by-count (suc k) e = ap (λ (m : ℕ). nothing (itemsUpTo list text m)) e ∙ last
+      where
+        last : nothing (itemsUpTo list text (suc k)) ≡ false
+        last = unfold itemsUpTo in nothing-behind (itemsUpTo list text k) (itemAt list text (recordSize * k))
+
+-- ---- the chain of tests
+
+module _ (plen : ℕ) (name : List ℕ) (xs : List Item) (size : ℕ) (e : size ≡ length (encode (dictionary (torrentOf plen name xs)))) where
+  number-is : contentNumber plen name xs
+      ≡ cond (ltb largestTorrent size) torrentTooLarge
+      (cond (some tooDeep xs) nestedTooDeeply
+      (cond (not (isPieceLength plen)) pieceLengthOutOfRange
+      (cond (nothing xs || some wrongItem xs || meet xs) wrongTree
+      (cond (twoLengths xs) sameRoot
+      (cond (some (misfit plen) xs) layersAmiss
+      (cond (some (givesOther plen) xs || twoLayers xs) layerDiffers
+      0))))))
+  unfolding contentNumber
+  number-is = rw e refl
+
+  pub is-large : largestTorrent < size → torrentTooLarge ≡ contentNumber plen name xs
+  is-large h = sym (number-is ∙ rw (lt-ltb largestTorrent size h) refl)
+
+  module _ (a : size ≤ largestTorrent) where
+    pub is-deep : some tooDeep xs ≡ true → nestedTooDeeply ≡ contentNumber plen name xs
+    is-deep h = sym (number-is ∙ rw (le-ltb largestTorrent size a, h) refl)
+
+    module _ (b : some tooDeep xs ≡ false) where
+      pub is-out-of-range : isPieceLength plen ≡ false → pieceLengthOutOfRange ≡ contentNumber plen name xs
+      is-out-of-range h = sym (number-is ∙ rw (le-ltb largestTorrent size a, b, h) refl)
+
+      module _ (c : isPieceLength plen ≡ true) where
+        wrong-is : nothing xs || some wrongItem xs || meet xs ≡ true → wrongTree ≡ contentNumber plen name xs
+        wrong-is h = sym (number-is ∙ rw (le-ltb largestTorrent size a, b, c, h) refl)
+
+        pub has-none : nothing xs ≡ true → wrongTree ≡ contentNumber plen name xs
+        has-none h = wrong-is (any-of (nothing xs) (some wrongItem xs) (meet xs) h)
+          where
+            any-of : (x y z : Bool) → x ≡ true → x || y || z ≡ true
+            any-of x y z h = rw h refl
+
+        module _ (d : nothing xs ≡ false) where
+          pub is-meeting : meet xs ≡ true → wrongTree ≡ contentNumber plen name xs
+          is-meeting h = wrong-is (any-of (nothing xs) (some wrongItem xs) (meet xs) h)
+            where
+              any-of : (x y z : Bool) → z ≡ true → x || y || z ≡ true
+              any-of true y z h = refl
+              any-of false true z h = refl
+              any-of false false z h = h
+
+          module _ (f : meet xs ≡ false) where
+            pub has-wrong : some wrongItem xs ≡ true → wrongTree ≡ contentNumber plen name xs
+            has-wrong h = wrong-is (rw (d, h) refl)
+
+            module _ (g : some wrongItem xs ≡ false) where
+              pub has-lengths : twoLengths xs ≡ true → sameRoot ≡ contentNumber plen name xs
+              has-lengths h = sym (number-is ∙ rw (le-ltb largestTorrent size a, b, c, d, g, f, h) refl)
+
+              module _ (i : twoLengths xs ≡ false) where
+                pub has-misfit : some (misfit plen) xs ≡ true → layersAmiss ≡ contentNumber plen name xs
+                has-misfit h = sym (number-is ∙ rw (le-ltb largestTorrent size a, b, c, d, g, f, i, h) refl)
+
+                module _ (j : some (misfit plen) xs ≡ false) where
+                  pub layers-differ : some (givesOther plen) xs || twoLayers xs ≡ true → layerDiffers ≡ contentNumber plen name xs
+                  layers-differ h = sym (number-is ∙ rw (le-ltb largestTorrent size a, b, c, d, g, f, i, j, h) refl)
+
+                  pub nothing-wrong : some (givesOther plen) xs || twoLayers xs ≡ false → 0 ≡ contentNumber plen name xs
+                  nothing-wrong h = sym (number-is ∙ rw (le-ltb largestTorrent size a, b, c, d, g, f, i, j, h) refl)

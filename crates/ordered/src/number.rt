@@ -1,0 +1,62 @@
+// The number of a list's content.
+use crate::clash::clashes;
+use crate::items::Test;
+use crate::items::one_fails;
+use tree::geometry::is_piece_length;
+ghost use mathlib.Core.Path.{_≡_};
+ghost use mathlib.Core.Bool.{true};
+ghost use mathlib.Core.List.{List};
+ghost use Prim.Native.Nat.{ℕ};
+ghost use lib.ListN.{length};
+ghost use Rattle.bencode.specs.Grammar.{dictionary, encode};
+ghost use Rattle.publishing.specs.Content.{torrentOf};
+ghost use Rattle.publishing.specs.Number as P;
+ghost use Rattle.publishing.specs.Number.{contentNumber};
+ghost use Rattle.lists.specs.Lists.{listForm, contentOf};
+ghost use Rattle.ordered.specs.Order.{rootBefore, InOrder};
+
+// The lowest number that holds of a list's content, or 0, where `size` is the size of its torrent with some name, `at` has the records'
+// positions by root, and `meets` says whether two files meet.
+pub fn content_number(
+    list: &[u8],
+    text: &[u8],
+    plen: usize,
+    at: &[u32],
+    size: usize,
+    meets: bool,
+) -> u32
+    requires { ⌜ (listForm (now list) (now text) ≡ true) × InOrder rootBefore (now list) (now text) (now at)
+        × (meets ≡ P.meet (contentOf (now list) (now text))) ⌝ }
+    ensures { λ r. ⌜ ((name : List ℕ)
+        → size ≡ length (encode (dictionary (torrentOf plen name (contentOf (now (list .entry)) (now (text .entry))))))
+        → r ≡ contentNumber plen name (contentOf (now (list .entry)) (now (text .entry)))) ⌝ }
+{
+    if limits::LARGEST_TORRENT < size {
+        return numbers::TORRENT_TOO_LARGE;
+    }
+    if one_fails(list, text, plen, Test::Deep) {
+        return numbers::NESTED_TOO_DEEPLY;
+    }
+    if !is_piece_length(plen) {
+        return numbers::PIECE_LENGTH_OUT_OF_RANGE;
+    }
+    if list.len() == 0 {
+        return numbers::WRONG_TREE;
+    }
+    if meets {
+        return numbers::WRONG_TREE;
+    }
+    if one_fails(list, text, plen, Test::Wrong) {
+        return numbers::WRONG_TREE;
+    }
+    if clashes(list, text, plen, false, at) {
+        return numbers::SAME_ROOT;
+    }
+    if one_fails(list, text, plen, Test::Layer) {
+        return numbers::LAYERS_AMISS;
+    }
+    if clashes(list, text, plen, true, at) {
+        return numbers::LAYER_DIFFERS;
+    }
+    0
+}

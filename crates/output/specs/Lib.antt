@@ -1,0 +1,11 @@
+pub mod Put
+pub mod PutLaws
+pub mod Path
+pub mod PathLaws
+pub mod Files
+pub mod FilesLaws
+pub mod Layers
+pub mod LayersLaws
+pub mod Whole
+pub mod WholeLaws
+pub mod BoundLaws

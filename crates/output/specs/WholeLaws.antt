@@ -1,0 +1,244 @@
+-- The two parts are the torrent's encoding; more files than `mostFiles` make it too large.
+-- Assumes nothing.
+use mathlib.Core.Path.{_≡_, refl, sym, ap, ap₂, _∙_}
+use mathlib.Core.Bool.{Bool, true, false}
+use mathlib.Core.List.{List, [], _∷_, _++_, append-assoc}
+use Prim.Native.Nat.{ℕ, zero, suc, _+_, _-_, _*_, _≤_, _<_}
+use native.Mathlib.Omega.{arith}
+use native.Mathlib.Nat.{zero-add}
+use lib.ListN.{length, take, drop, length-append}
+use lib.Seq.{length-take-le, drop-at}
+use lib.Dec.{ltb}
+use borrow.Author.Tests.{lt-ltb}
+use Rattle.limits.specs.Limits.{largestTorrent}
+use Rattle.octets.specs.Octets.{pasted}
+use Rattle.bencode.specs.Grammar.{letterD, letterE, letterI, decimal, decimalIn, encodeString, Value, integer, string, dictionary, Entries, noEntries, entry, encode, encodeEntries, KeyBefore}
+use Rattle.bencode.specs.Grammar as G
+use Rattle.bencode.specs.CompleteLaws.{BeginsWithDigit, decimal-first}
+use Rattle.meaning.specs.Keys.{keyInfo, keyFileTree, keyPieceLength, keyMetaVersion, keyPieceLayers}
+use Rattle.publishing.specs.Sorting.{sortedBy, Permuted, then}
+use Rattle.publishing.specs.SortingLaws.{sorted-ordered, sorted-permuted, sorted-stays, permuted-back}
+use Rattle.publishing.specs.Content.{Item, layerBefore, itemBefore, inTreeOrder, properties, treeOfAll, withLayer, layersGiven, layersOfAll, keyName, infoWritten, torrentOf}
+use Rattle.publishing.specs.Number.{meet, tooLarge}
+use Rattle.publishing.specs.AnyOrder.{layersWritten, layers-any-order, size-any-order, torrent-any-order}
+use Rattle.publishing.specs.Written.{shared, opened, closed, fileBytes, treeBytes}
+use Rattle.publishing.specs.WrittenLaws.{tree-encoded}
+use Rattle.publishing.specs.SizeLaws.{rising, in-order}
+use Rattle.ordered.specs.Order.{rootBefore, mostFiles}
+use Rattle.ordered.specs.ClashLaws.{root-one-way, root-behind, given-ordered}
+use Rattle.ordered.specs.MergedLaws.{permuted-length}
+use Rattle.output.specs.Put.{Put}
+use Rattle.output.specs.PutLaws.{put-append, put-three}
+use Rattle.output.specs.Layers.{layersBytes}
+use Rattle.output.specs.LayersLaws.{layers-encoded}
+use Rattle.output.specs.Files.{propertiesBytes}
+use Rattle.output.specs.FilesLaws.{properties-least}
+use Rattle.output.specs.Whole.{wordTree, wordName, wordPlen, wordLayers, infoBytes, restBytes}
+
+-- ---- layers of files by root are by root
+
+pub layers-by-root : (xs : List Item) → layersWritten xs ≡ layersOfAll (layersGiven (sortedBy rootBefore xs))
+layers-by-root xs =
+    layers-any-order xs (sortedBy rootBefore xs) (sorted-permuted rootBefore xs)
+    ∙ ap layersOfAll (sorted-stays layerBefore (layersGiven (sortedBy rootBefore xs)) (given-ordered (sortedBy rootBefore xs) (sorted-ordered rootBefore root-one-way root-behind xs)))
+
+-- ---- the whole
+
+key-info : encodeString keyInfo ≡ 52 ∷ 58 ∷ keyInfo
+unfolding decimalIn
+key-info = refl
+
+key-tree : encodeString keyFileTree ≡ 57 ∷ 58 ∷ keyFileTree
+unfolding decimalIn
+key-tree = refl
+
+key-version : encodeString keyMetaVersion ≡ 49 ∷ 50 ∷ 58 ∷ keyMetaVersion
+unfolding decimalIn
+key-version = refl
+
+version-two : decimal 2 ≡ 50 ∷ []
+unfolding decimalIn
+version-two = refl
+
+key-name : encodeString keyName ≡ 52 ∷ 58 ∷ keyName
+unfolding decimalIn
+key-name = refl
+
+key-plen : encodeString keyPieceLength ≡ 49 ∷ 50 ∷ 58 ∷ keyPieceLength
+unfolding decimalIn
+key-plen = refl
+
+key-layers : encodeString keyPieceLayers ≡ 49 ∷ 50 ∷ 58 ∷ keyPieceLayers
+unfolding decimalIn
+key-layers = refl
+
+-- the parts, whatever stands in them
+moved : (t w n v d a b x z : List ℕ)
+    → (t ++ (w ++ (n ++ (v ++ ((d ++ a) ++ b))))) ++ (x ++ z) ≡ (t ++ (w ++ (n ++ (v ++ (d ++ (a ++ (b ++ x))))))) ++ z
+moved t w n v d a b x z = simp append-assoc
+
+assembled : (t n d l : List ℕ)
+    → letterD ∷ ((52 ∷ 58 ∷ keyInfo) ++ ((letterD ∷ ((57 ∷ 58 ∷ keyFileTree) ++ ((letterD ∷ t) ++ ((49 ∷ 50 ∷ 58 ∷ keyMetaVersion) ++ ((letterI ∷ ((50 ∷ []) ++ letterE ∷ [])) ++ ((52 ∷ 58 ∷ keyName) ++ (n ++ ((49 ∷ 50 ∷ 58 ∷ keyPieceLength) ++ ((letterI ∷ (d ++ letterE ∷ [])) ++ letterE ∷ []))))))))) ++ ((49 ∷ 50 ∷ 58 ∷ keyPieceLayers) ++ ((letterD ∷ l) ++ letterE ∷ []))))
+    ≡ (wordTree ++ (t ++ (wordName ++ (n ++ (wordPlen ++ (d ++ wordLayers)))))) ++ (l ++ letterE ∷ [])
+assembled t n d l =
+    ap (λ (s : List ℕ). wordTree ++ s) (moved t wordName n wordPlen d (letterE ∷ []) (letterE ∷ []) ((49 ∷ 50 ∷ 58 ∷ keyPieceLayers) ++ letterD ∷ []) (l ++ letterE ∷ []))
+
+torrent-assembled : (plen : ℕ) (name : List ℕ) (tree layers : Entries) (t l : List ℕ) → encode (dictionary tree) ≡ letterD ∷ t
+    → encodeEntries layers ≡ l
+    → encode (dictionary (entry keyInfo (dictionary (infoWritten plen name tree)) (entry keyPieceLayers (dictionary layers) noEntries)))
+    ≡ (wordTree ++ (t ++ (wordName ++ (encodeString name ++ (wordPlen ++ (decimal plen ++ wordLayers)))))) ++ (l ++ letterE ∷ [])
+torrent-assembled plen name tree layers t l e f = spread ∙ assembled t (encodeString name) (decimal plen) l
+  where
+    opened-up : encode (dictionary (entry keyInfo (dictionary (infoWritten plen name tree)) (entry keyPieceLayers (dictionary layers) noEntries)))
+        ≡ letterD ∷ (encodeString keyInfo ++ ((letterD ∷ (encodeString keyFileTree ++ (encode (dictionary tree) ++ (encodeString keyMetaVersion ++ ((letterI ∷ (decimal 2 ++ letterE ∷ [])) ++ (encodeString keyName ++ (encodeString name ++ (encodeString keyPieceLength ++ ((letterI ∷ (decimal plen ++ letterE ∷ [])) ++ letterE ∷ []))))))))) ++ (encodeString keyPieceLayers ++ ((letterD ∷ encodeEntries layers) ++ letterE ∷ []))))
+    opened-up = unfold encode in refl
+
+    spread : encode (dictionary (entry keyInfo (dictionary (infoWritten plen name tree)) (entry keyPieceLayers (dictionary layers) noEntries)))
+        ≡ letterD ∷ ((52 ∷ 58 ∷ keyInfo) ++ ((letterD ∷ ((57 ∷ 58 ∷ keyFileTree) ++ ((letterD ∷ t) ++ ((49 ∷ 50 ∷ 58 ∷ keyMetaVersion) ++ ((letterI ∷ ((50 ∷ []) ++ letterE ∷ [])) ++ ((52 ∷ 58 ∷ keyName) ++ (encodeString name ++ ((49 ∷ 50 ∷ 58 ∷ keyPieceLength) ++ ((letterI ∷ (decimal plen ++ letterE ∷ [])) ++ letterE ∷ []))))))))) ++ ((49 ∷ 50 ∷ 58 ∷ keyPieceLayers) ++ ((letterD ∷ l) ++ letterE ∷ []))))
+    spread = opened-up ∙ rw (e, f, key-info, key-tree, key-version, version-two, key-name, key-plen, key-layers) refl
+
+-- the torrent of a list is its two parts behind each other
+pub torrent-parts : (plen : ℕ) (name : List ℕ) (xs : List Item)
+    → encode (dictionary (torrentOf plen name xs)) ≡ infoBytes plen name (inTreeOrder xs) ++ restBytes (sortedBy rootBefore xs)
+unfolding torrentOf infoBytes restBytes
+torrent-parts plen name xs =
+    torrent-assembled plen name (treeOfAll (inTreeOrder xs)) (layersWritten xs) (treeBytes [] (inTreeOrder xs)) (layersBytes G.none (layersGiven (sortedBy rootBefore xs)))
+    (tree-encoded (inTreeOrder xs) (rising (inTreeOrder xs) (in-order xs)))
+    (ap encodeEntries (layers-by-root xs) ∙ sym (layers-encoded (layersGiven (sortedBy rootBefore xs))))
+
+pub torrent-length : (plen : ℕ) (name : List ℕ) (xs : List Item)
+    → length (encode (dictionary (torrentOf plen name xs))) ≡ length (infoBytes plen name (inTreeOrder xs)) + length (restBytes (sortedBy rootBefore xs))
+torrent-length plen name xs = ap (λ (l : List ℕ). length l) (torrent-parts plen name xs) ∙ length-append (infoBytes plen name (inTreeOrder xs)) (restBytes (sortedBy rootBefore xs))
+
+-- the second part written first, behind the place of the first: then both are the whole
+pub both-pasted : (s a b : List ℕ) → length a + length b ≤ length s → pasted (pasted s (length a) b) 0 a ≡ pasted s 0 (a ++ b)
+unfolding pasted
+both-pasted s a b h =
+    let k : length (take (length a) s) ≡ length a = length-take-le (length a) s (omega arith) in
+    let z : length a + length b ≡ length (a ++ b) = sym (length-append a b) in
+    rw (zero-add (length a), zero-add (length (a ++ b)))
+    (ap (λ (l : List ℕ). a ++ l)
+    (ap (λ (l : List ℕ). drop (length a) l) (append-assoc (take (length a) s) b (drop (length a + length b) s))
+    ∙ drop-at (take (length a) s) (b ++ drop (length a + length b) s) (length a) k
+    ∙ ap (λ (n : ℕ). b ++ drop n s) z)
+    ∙ sym (append-assoc a b (drop (length (a ++ b)) s)))
+
+-- ---- 19
+
+-- the files take 15 bytes each
+decimal-some : (n : ℕ) → 0 < length (decimal n)
+unfolding BeginsWithDigit
+decimal-some n = let w = decimal-first n in omega (arith, ap (λ (l : List ℕ). length l) (w .2))
+
+file-least : (p q : List (List ℕ)) (x : Item) → 15 ≤ length (fileBytes p q (properties x))
+file-least p q x =
+    let c = closed (length p - shared p q) in
+    let o = opened (drop (shared p q) q) in
+    let v = encodeString [] ++ encode (properties x) in
+    let a = length-append c (o ++ v) in
+    let b = length-append o v in
+    let d = decimal-some (x .size) in
+    let e = properties-least (x .size) (x .root) in
+    omega arith
+
+pub tree-least : (p : List (List ℕ)) (xs : List Item) → 15 * length xs ≤ length (treeBytes p xs)
+unfolding treeBytes
+tree-least p [] = omega arith
+tree-least p (x ∷ xs) =
+    let a = file-least p (x .path) x in
+    let b = tree-least (x .path) xs in
+    let c = length-append (fileBytes p (x .path) (properties x)) (treeBytes (x .path) xs) in
+    omega arith
+
+info-least : (plen : ℕ) (name : List ℕ) (xs : List Item) → length (treeBytes [] xs) ≤ length (infoBytes plen name xs)
+unfolding infoBytes
+info-least plen name xs =
+    let t = treeBytes [] xs in
+    let r = wordName ++ (encodeString name ++ (wordPlen ++ (decimal plen ++ wordLayers))) in
+    let a = length-append t r in
+    let b = length-append wordTree (t ++ r) in
+    omega arith
+
+-- more files than that are too large, whatever they are
+pub too-many : (plen : ℕ) (name : List ℕ) (xs : List Item) → mostFiles < length xs → tooLarge plen name xs ≡ true
+too-many plen name xs h =
+    let a = torrent-length plen name xs in
+    let b = info-least plen name (inTreeOrder xs) in
+    let c = tree-least [] (inTreeOrder xs) in
+    let d = permuted-length xs (inTreeOrder xs) (sorted-permuted itemBefore xs) in
+    lt-ltb largestTorrent (length (encode (dictionary (torrentOf plen name xs)))) (omega arith)
+
+-- ---- the parts, one behind the other
+
+pub info-length : (plen : ℕ) (name : List ℕ) (xs : List Item)
+    → length (infoBytes plen name xs) ≡ 20 + (length (treeBytes [] xs) + (24 + (length (encodeString name) + (16 + (length (decimal plen) + 18)))))
+unfolding infoBytes
+info-length plen name xs =
+    let t = treeBytes [] xs in
+    let n = encodeString name in
+    let d = decimal plen in
+    let a = length-append wordTree (t ++ (wordName ++ (n ++ (wordPlen ++ (d ++ wordLayers))))) in
+    let b = length-append t (wordName ++ (n ++ (wordPlen ++ (d ++ wordLayers)))) in
+    let c = length-append wordName (n ++ (wordPlen ++ (d ++ wordLayers))) in
+    let e = length-append n (wordPlen ++ (d ++ wordLayers)) in
+    let f = length-append wordPlen (d ++ wordLayers) in
+    let g = length-append d wordLayers in
+    omega arith
+
+module _ (plen : ℕ) (name : List ℕ) (xs : List Item) (s₀ s₁ s₂ s₃ s₄ s₅ s₆ s₇ : List ℕ) (a₀ a₁ a₂ a₃ a₄ a₅ a₆ a₇ : ℕ) where
+  pub put-seven : Put s₀ a₀ wordTree s₁ a₁ → Put s₁ a₁ (treeBytes [] xs) s₂ a₂ → Put s₂ a₂ wordName s₃ a₃
+      → Put s₃ a₃ (encodeString name) s₄ a₄
+      → Put s₄ a₄ wordPlen s₅ a₅ → Put s₅ a₅ (decimal plen) s₆ a₆ → Put s₆ a₆ wordLayers s₇ a₇
+      → length s₁ ≡ length s₀ → length s₂ ≡ length s₁ → length s₃ ≡ length s₂ → length s₄ ≡ length s₃ → length s₅ ≡ length s₄
+      → length s₆ ≡ length s₅
+      → Put s₀ a₀ (infoBytes plen name xs) s₇ a₇
+  unfolding infoBytes
+  put-seven p₁ p₂ p₃ p₄ p₅ p₆ p₇ k₁ k₂ k₃ k₄ k₅ k₆ =
+      put-three s₀ s₁ s₂ s₇ a₀ a₁ a₂ a₇ wordTree (treeBytes [] xs) (wordName ++ (encodeString name ++ (wordPlen ++ (decimal plen ++ wordLayers)))) p₁ p₂
+      (put-three s₂ s₃ s₄ s₇ a₂ a₃ a₄ a₇ wordName (encodeString name) (wordPlen ++ (decimal plen ++ wordLayers)) p₃ p₄
+      (put-three s₄ s₅ s₆ s₇ a₄ a₅ a₆ a₇ wordPlen (decimal plen) wordLayers p₅ p₆ p₇ k₅ k₆) k₃ k₄) k₁ k₂
+
+pub rest-length : (xs : List Item) → length (restBytes xs) ≡ length (layersBytes G.none (layersGiven xs)) + 1
+unfolding restBytes
+rest-length xs = length-append (layersBytes G.none (layersGiven xs)) (letterE ∷ [])
+
+pub put-both : (xs : List Item) (s t u : List ℕ) (at m r : ℕ) → Put s at (layersBytes G.none (layersGiven xs)) t m
+    → Put t m (letterE ∷ []) u r → length t ≡ length s → Put s at (restBytes xs) u r
+unfolding restBytes
+put-both xs s t u at m r p q k = put-append s t u at m r (layersBytes G.none (layersGiven xs)) (letterE ∷ []) p q k
+
+-- both parts written, the second first: the whole stands at the start of the output, and nothing else changed
+pub parts-written : (whole a b out t u : List ℕ) (at r q : ℕ) → whole ≡ a ++ b → at ≡ length a → Put out at b t r → Put t 0 a u q
+    → length t ≡ length out → length whole ≤ length out → u ≡ pasted out 0 whole
+parts-written whole a b out t u at r q w e x y k h =
+    let l = ap (λ (s : List ℕ). length s) w ∙ length-append a b in
+    let m = x .behind in
+    let n = y .behind in
+    y .there (omega arith)
+    ∙ ap (λ (s : List ℕ). pasted s 0 a) (x .there (omega arith) ∙ ap (λ (n : ℕ). pasted out n b) e)
+    ∙ both-pasted out a b (omega arith)
+    ∙ ap (pasted out 0) (sym w)
+
+-- ---- of files that stand in the two orders: trees are zs, by root are ys
+
+module _ (plen : ℕ) (name : List ℕ) (xs zs ys : List Item) (p : Permuted xs zs) (o : inTreeOrder zs ≡ zs) (q : Permuted xs ys) (r : sortedBy rootBefore ys ≡ ys) where
+  rest-there : restBytes (sortedBy rootBefore zs) ≡ restBytes ys
+  unfolding restBytes
+  rest-there = ap (λ (l : List ℕ). l ++ letterE ∷ []) (layers-encoded (layersGiven (sortedBy rootBefore zs)) ∙ ap encodeEntries same-layers ∙ sym (layers-encoded (layersGiven ys)))
+    where
+      same-layers : layersOfAll (layersGiven (sortedBy rootBefore zs)) ≡ layersOfAll (layersGiven ys)
+      same-layers =
+          sym (layers-by-root zs) ∙ layers-any-order zs ys (then (permuted-back xs zs p) q) ∙ layers-by-root ys
+          ∙ ap (λ (l : List Item). layersOfAll (layersGiven l)) r
+
+  parts-there : encode (dictionary (torrentOf plen name zs)) ≡ infoBytes plen name zs ++ restBytes ys
+  parts-there = torrent-parts plen name zs ∙ ap₂ (λ (a b : List ℕ). a ++ b) (ap (infoBytes plen name) o) rest-there
+
+  -- the size, also of a list that is refused
+  pub size-there : length (encode (dictionary (torrentOf plen name xs))) ≡ length (infoBytes plen name zs) + length (restBytes ys)
+  size-there =
+      size-any-order plen name xs zs p ∙ ap (λ (l : List ℕ). length l) parts-there ∙ length-append (infoBytes plen name zs) (restBytes ys)
+
+  -- the bytes, where no two files meet
+  pub torrent-there : meet xs ≡ false → encode (dictionary (torrentOf plen name xs)) ≡ infoBytes plen name zs ++ restBytes ys
+  torrent-there m = ap (λ (t : Entries). encode (dictionary t)) (torrent-any-order plen name xs zs p m) ∙ parts-there

@@ -1,0 +1,11 @@
+pub mod Published
+pub mod GivenLaws
+pub mod FormLaws
+pub mod ListedLaws
+pub mod AnswerLaws
+pub mod ExactlyLaws
+pub mod SameNumberLaws
+pub mod TripLaws
+pub mod OutcomeLaws
+pub mod Promised
+pub mod Worked
