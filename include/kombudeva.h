@@ -23,8 +23,8 @@
  *
  * Memory marked `const` is not changed, and a refusal changes no byte of any memory, save for that reject.
  *
- * STACK. Calls on a store or a state were seen to need at most 7.9 kB of stack, kd_torrent_write 567 kB, kd_torrent_list 212 kB,
- * the other calls on a torrent 147 kB: measured on the largest file, on torrents nested as deep as they may be, and on as many
+ * STACK. Calls on a store need at most 48 kB of stack: they were seen to need 40.3 kB, calls on a state 8.6 kB,
+ * kd_torrent_write 567 kB, kd_torrent_list 220 kB, the other calls on a torrent 154 kB: measured on the largest file, on torrents nested as deep as they may be, and on as many
  * files as one has room for (docs/BENCHMARKS.md).
  *
  * EXAMPLE

@@ -7,14 +7,15 @@ use mathlib.Core.List.{List}
 use Prim.Native.Nat.{ℕ, _+_, _-_, _*_, _^_, _≤_, _<_}
 use native.Mathlib.Omega.{arith}
 use lib.ListN.{length, take, drop, getD}
+use lib.Pow.{pow-mono}
 use lib.Seq.{take-all}
 use borrow.Author.Tests.{eq-eqb, ne-eqb, ltb-true}
 use Rattle.limits.specs.Limits.{longestFile}
 use Rattle.octets.specs.Octets.{cut, same}
 use Rattle.octets.specs.OctetsLaws.{cut-length}
 use Rattle.numbers.specs.Numbers.{layersAmiss, layerDiffers}
-use Rattle.tree.specs.Geometry.{blockLength, blockCount, covering, height, isPieceLength, pieceLayer, pieceCount, hasLayer}
-use Rattle.tree.specs.GeometryLaws.{ceil-least, covering-most, pieces-covering, piece-length-form, long-file-height}
+use Rattle.tree.specs.Geometry.{blockLength, ceilDiv, blockCount, covering, height, isPieceLength, pieceLayer, pieceCount, hasLayer}
+use Rattle.tree.specs.GeometryLaws.{ceil-least, height-least, covering-most, pieces-covering, piece-length-form, long-file-height}
 use Rattle.tree.specs.Values.{layerRoot, layerLeaf, node}
 use Rattle.bencode.specs.Scalar.{readString}
 use Rattle.bencode.specs.EndsLaws.{string-ends}
@@ -80,6 +81,14 @@ module _ (plen n : ℕ) (p : isPieceLength plen ≡ true) (h : hasLayer n plen �
 
   pub layer-under : (q b h : ℕ) → q ≡ pieceLayer plen → b ≡ blockCount n → h ≡ height b → q ≤ h
   layer-under q b h eq eb eh = rw (eq, eh, eb) layer-below
+
+-- the leaves of a layer's tree can be counted
+pub leaves-few : (n q b h : ℕ) → n < 2 ^ 64 → b ≡ blockCount n → h ≡ height b → (0 + 1) * 2 ^ (h - q) < 2 ^ 64
+unfolding blockCount
+leaves-few n q b h l eb eh =
+    let c : ceilDiv n blockLength ≤ 2 ^ 50 = ceil-least n blockLength (2 ^ 50) (omega arith) (omega arith) in
+    let t : h ≤ 50 = omega (arith, eh, height-least b 50 (omega (arith, eb, c))) in
+    omega (arith, pow-mono {i = h - q} {j = 50} (omega arith))
 
 -- the root that is worked out, as the code does it
 pub root-worked : (root layer : List ℕ) (plen n q b h : ℕ) (worked mine : List ℕ) (r : Bool) → q ≡ pieceLayer plen → b ≡ blockCount n → h ≡ height b

@@ -19,3 +19,7 @@ pub record Way (ls lh b i u n : ℕ) : Type 0 where
   pub uncles : 32 * (i + u) ≤ lh
   pub even : b % 2 ≡ 0
   pub below : n < b
+
+-- the bytes of a room for a heap over 2^9 leaves
+abbrev pub roomSize : ℕ
+roomSize = 32768

@@ -34,14 +34,16 @@ pub fn all() -> Vec<Job> {
         job("sha-1MiB", "kd_sha256", "", 1 << 20, || hashing(1 << 20)).not_counted(),
         job("sha-64KiB", "kd_sha256", "0.78", 65536, || hashing(65536)),
         job("sha-16KiB", "kd_sha256", "", 16384, || hashing(16384)).not_counted(),
-        job("take", "kd_take", "1.42", ONE_GIB.reply(), || taking(ONE_GIB)),
+        job("take", "kd_take", "0.50", ONE_GIB.reply(), || taking(ONE_GIB)),
         job("take-again", "kd_take", "", ONE_GIB.reply(), taking_again),
         job("serve", "kd_serve", "1.5", ONE_GIB.reply(), || serving(ONE_GIB)),
-        job("take-8192", "kd_take", "", LARGEST.reply(), || taking(LARGEST)),
+        job("take-8192", "kd_take", "0.75", LARGEST.reply(), || taking(LARGEST)),
         job("serve-8192", "kd_serve", "", LARGEST.reply(), || serving(LARGEST)),
         in_library("open-16GiB", "none", "kd_open", "", largest_store(), opening),
-        in_library("layer-16GiB", "one-by-one", "kd_load_layer", "", 32 * LONGEST_LAYER, loading),
-        job("piece-1MiB", "kd_judge_piece", "0.78", PIECE as usize, judging),
+        in_library("layer-16GiB", "one-by-one", "kd_load_layer", "", 32 * LONGEST_LAYER, loading_longest),
+        job("piece-1MiB", "kd_judge_piece", "0.36", PIECE as usize, judging),
+        job("load-layer", "kd_load_layer", "0.70", 32 * PIECES, loading),
+        job("history-256KiB", "kd_history_more", "0.40", LOGGED, logging_in_rust),
     ];
     #[cfg(has_pair)]
     jobs.push(job("1024-pairs", "sha256::pair", "0.70", 64 * pairs::COUNT, pairs::pairing));
@@ -181,6 +183,62 @@ fn logging() -> Vec<Box<dyn Work>> {
         },
     );
     vec![one_by_one, in_bursts]
+}
+
+/// A history of 16 MiB in bursts of 256 KiB, against its blocks and pairs hashed one by one in Rust.
+fn logging_in_rust() -> Vec<Box<dyn Work>> {
+    let in_rust = IN_RUST.map(|sha256| {
+        work(
+            (sha256, bytes(LOGGED)),
+            |_| (),
+            |(sha256, data)| {
+                let mut row: Vec<Hash> = data.chunks(16384).map(*sha256).collect();
+                while row.len() > 1 {
+                    row = row.chunks(2).map(|pair| sha256(&pair.concat())).collect();
+                }
+                black_box(row);
+            },
+        )
+    });
+    let in_bursts = work(
+        (bytes(LOGGED), vec![0; 32 * LOGGED / LOGGED_PIECE]),
+        |_| (),
+        |(data, layer)| {
+            let mut state = boundary::history_begin(LOGGED_PIECE as u64).state;
+            for burst in data.chunks(256 << 10) {
+                state = boundary::history_more(state, burst, layer).state;
+            }
+            assert_eq!(black_box(boundary::history_end(state, layer)).length, LOGGED as u64);
+        },
+    );
+    in_rust.into_iter().chain([in_bursts]).collect()
+}
+
+/// The pieces of a file of 1 GiB, each a block.
+const PIECES: usize = 65536;
+
+/// Loading a piece layer of so many into a store that holds the root alone.
+fn loading() -> Vec<Box<dyn Work>> {
+    let hashes: Vec<Hash> = (0..PIECES).map(|i| [i as u8 ^ (i >> 8) as u8; 32]).collect();
+    let mut row = hashes.clone();
+    while row.len() > 1 {
+        row = row.chunks(2).map(|pair| careful::sha256(&pair.concat())).collect();
+    }
+    let (length, layer, root) = (16384 * PIECES as u64, hashes.concat(), row[0]);
+    let in_rust = IN_RUST.map(|sha256| {
+        let store = plain::Store::open(length, 16384, root, sha256);
+        let forget = |(store, _): &mut (plain::Store, Vec<u8>)| store.nodes[2..].fill(None);
+        work((store, layer.clone()), forget, |(store, layer)| {
+            assert_eq!(store.load_layer(black_box(layer)), Some(2 * PIECES as u64 - 2));
+        })
+    });
+    let mut store = vec![0; boundary::store_size(length, 16384).count as usize];
+    boundary::open(&mut store, length, 16384, boundary::Hash { bytes: root });
+    let forget = |(store, _): &mut (Vec<u8>, Vec<u8>)| store[64 + 33..].fill(0);
+    let in_library = work((store, layer), forget, |(store, layer)| {
+        assert_eq!(boundary::load_layer(store, black_box(layer)).count, 2 * PIECES as u64 - 2);
+    });
+    in_rust.into_iter().chain([in_library]).collect()
 }
 
 /// A thousand bursts of a byte, each from the empty history, against none.
@@ -403,7 +461,7 @@ fn opening() -> Vec<Box<dyn Work>> {
 }
 
 /// Loading the longest layer, against its pairs hashed one by one up to the root.
-fn loading() -> Vec<Box<dyn Work>> {
+fn loading_longest() -> Vec<Box<dyn Work>> {
     let one_by_one = work(
         Longest::new(),
         |_| (),

@@ -71,6 +71,24 @@ impl Store {
         true
     }
 
+    /// Loads the piece layer, padded, and says how many positions are newly held.
+    pub fn load_layer(&mut self, layer: &[u8]) -> Option<u64> {
+        let base = (self.piece_length / BLOCK).trailing_zeros();
+        let first = 1 << (self.height - base);
+        let mut worked_out: Vec<(usize, Hash)> = Vec::with_capacity(2 * first);
+        worked_out.extend(layer.chunks(32).enumerate().map(|(i, hash)| (first + i, hash.try_into().unwrap())));
+        worked_out.extend((worked_out.len()..first).map(|missing| (first + missing, self.padding[base as usize])));
+        self.add_parents(&mut worked_out, first);
+        if worked_out.last().is_none_or(|&(_, top)| self.nodes[1] != Some(top)) || !self.agree(&worked_out) {
+            return None;
+        }
+        let mut newly = 0;
+        for (node, hash) in worked_out {
+            newly += self.nodes[node].replace(hash).is_none() as u64;
+        }
+        Some(newly)
+    }
+
     /// Whether a piece has the hash held for it and contradicts none below.
     pub fn judge_piece(&self, piece: usize, data: &[u8]) -> bool {
         let leaves = self.piece_length / BLOCK;

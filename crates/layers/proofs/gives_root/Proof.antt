@@ -1,5 +1,10 @@
-use Rattle.layers.proofs.Finding.{layer-under, root-worked}
-use Prim.Native.Nat.{_-_}
+use Rattle.layers.proofs.Finding.{layer-under, leaves-few, root-worked}
+use Prim.Native.Nat.{ℕ, _-_, _*_, _^_, _<_}
+use native.Mathlib.Omega.{arith}
+use lib.ListN.{length, length-replicate}
+use mathlib.Core.Path.{_≡_, sym, _∙_, ap}
+use Rattle.tree.specs.Values.{layerLeaf, padValue}
+use Rattle.heaps.specs.HeapsLaws.{over-layer}
 use borrow.Author.Needs.{needs}
 use Rattle.layers.proofs.gives_root.Statement.{statement}
 use Rattle.layers.proofs.gives_root.Tie as tie
@@ -16,8 +21,12 @@ height-requires c κs = search needs
 sub-k : tie.Need-sub-k
 sub-k c = layer-under _ _ (c .before .before .before .before .before .pre .0) (c .before .before .before .before .before .pre .1) _ _ _ (c .before .before .piece-layer .ensures) (c .before .block-count .ensures) (c .height .ensures)
 
-layer-node-requires : tie.Need-layer-node-requires
-layer-node-requires c κs = search needs
+slice-aggregate-run-node : tie.Need-slice-aggregate-run-node
+slice-aggregate-run-node c = sym (length-replicate {A = ℕ} 4096 0)
+
+run-node-requires : tie.Need-run-node-requires
+run-node-requires c κs = let n : c .before .before .before .before .before .before .args .n < 2 ^ 64 = omega arith in
+    (length-replicate {A = ℕ} 4096 0, leaves-few (c .before .before .before .before .before .before .args .n) (c .before .before .before .piece-layer .result) _ (c .before .height .result) n (c .before .before .block-count .ensures) (c .before .height .ensures))
 
 hash-at-requires : tie.Need-hash-at-requires
 hash-at-requires c κs = search needs
@@ -26,7 +35,11 @@ same-requires : tie.Need-same-requires
 same-requires c κs = search needs
 
 returns : tie.Need-returns
-returns c = root-worked _ _ _ _ _ _ _ _ _ _ (c .before .before .before .before .before .piece-layer .ensures) (c .before .before .before .before .block-count .ensures) (c .before .before .before .height .ensures) (c .before .before .layer-node .ensures) (c .before .before .before .before .before .before .before .before .pre .2) (c .before .hash-at .ensures) (c .same .ensures)
+returns c = let a = c .before .before .before .before .before .before .before .before .before .before .args in
+    let p = c .before .before .before .before .before .before .before .before .before .before .pre in
+    let q = c .before .before .before .before .before .before .before .piece-layer in
+    let w = c .before .before .before .run-node .ensures (layerLeaf (a .layer .now) (q .result)) (over-layer (a .layer .now) (a .past) (q .result) (p .3 ∙ ap padValue (sym (q .ensures)))) in
+    root-worked _ _ _ _ _ _ _ _ _ _ (q .ensures) (c .before .before .before .before .before .before .block-count .ensures) (c .before .before .before .before .before .height .ensures) w (p .2) (c .before .hash-at .ensures) (c .same .ensures)
 
 pub gives-root-spec : {M : Type 1} → statement M
 gives-root-spec =
@@ -36,7 +49,8 @@ gives-root-spec =
     block-count-requires
     height-requires
     sub-k
-    layer-node-requires
+    slice-aggregate-run-node
+    run-node-requires
     hash-at-requires
     same-requires
     returns)
