@@ -44,7 +44,7 @@ extern "C" {
 #endif
 
 /* The version of header and library. Its second figure rises whenever a struct, a function or an answer changes. */
-#define KD_VERSION "0.7.0"
+#define KD_VERSION "0.8.0"
 
 /* ---- The numbers given back, each with what it says. ---- */
 
