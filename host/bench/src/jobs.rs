@@ -312,27 +312,38 @@ mod pairs {
     }
 }
 
-/// Eight blocks of 16 KiB. The library's function for it is not exported either.
+/// Eight blocks of 16 KiB. The library's function for it is not exported either, and takes a slice by where it stands.
 #[cfg(has_hash8)]
 fn eight_blocks() -> Vec<Box<dyn Work>> {
+    #[repr(C)]
+    struct Slice {
+        start: *const u8,
+        size: usize,
+    }
     extern "C" {
         #[link_name = "lanes::hashes::hash8"]
-        fn library_hash8(hashes: &mut [u8; 256], data: *const u8, size: usize);
+        fn library_hash8(hashes: &mut [u8; 256], data: &Slice);
     }
-    let (data, hashes) = (bytes(8 * 16384), IN_RUST[0].parts(&bytes(8 * 16384), 16384));
+    let data = bytes(8 * 16384);
+    let hashes = IN_RUST[0].parts(&data, 16384);
     let in_rust = IN_RUST.map(|hasher| {
-        let run = |(hasher, data, hashes): &mut (Hasher, Vec<u8>, Vec<Hash>)| {
-            assert_eq!(black_box(hasher.parts(black_box(data), 16384)), *hashes)
-        };
-        work((hasher, data.clone(), hashes.clone()), |_| (), run)
+        work(
+            (hasher, data.clone(), hashes.clone()),
+            |_| (),
+            |(hasher, data, hashes)| assert_eq!(black_box(hasher.parts(black_box(data), 16384)), *hashes),
+        )
     });
-    let by_library = |(data, hashes): &mut (Vec<u8>, Vec<u8>)| {
-        let mut given = [0; 256];
-        // SAFETY: it reads the bytes it is given and writes eight hashes.
-        unsafe { library_hash8(&mut given, black_box(data.as_ptr()), data.len()) };
-        assert_eq!(black_box(given), hashes[..])
-    };
-    in_rust.into_iter().chain([work((data, hashes.concat()), |_| (), by_library)]).collect()
+    let in_library = work(
+        (data, hashes.concat()),
+        |_| (),
+        |(data, hashes)| {
+            let mut given = [0; 256];
+            // SAFETY: it reads the bytes that are lent, and writes eight hashes.
+            unsafe { library_hash8(&mut given, &Slice { start: data.as_ptr(), size: data.len() }) };
+            assert_eq!(black_box(given), hashes[..])
+        },
+    );
+    in_rust.into_iter().chain([in_library]).collect()
 }
 
 /// A store in plain Rust with what a job needs beside it.
