@@ -1,6 +1,7 @@
 -- What the code's turns and returns give, over plain variables: one law for each.
 -- Assumes nothing.
-use mathlib.Core.Path.{_≡_, ap, sym, _∙_}
+use mathlib.Core.Path.{_≡_, refl, ap, sym, _∙_}
+use mathlib.Core.Bool.{Bool, true}
 use mathlib.Core.List.{List}
 use mathlib.Core.Logic.{inl, inr}
 use Prim.Native.Nat.{ℕ, zero, suc, _+_, _-_, _*_, _/_, _%_, _^_, _≤_, _<_}
@@ -9,15 +10,16 @@ use native.Mathlib.Nat.{add-mul, one-mul, le-mul-of-pos-right}
 use native.Mathlib.Numerals.{add-one}
 use native.Mathlib.Omega.{arith}
 use lib.ListN.{length, take, drop}
-use lib.Seq.{length-take-le}
+use lib.Seq.{length-take-le, take-all}
 use lib.Pow.{pow-mono, pow-pos}
-use Rattle.octets.specs.Octets.{cut, pasted}
+use borrow.Author.Tests.{ltb-true}
+use Rattle.octets.specs.Octets.{cut, pasted, same}
 use Rattle.octets.specs.OctetsLaws.{cut-pasted-same, cut-pasted-other}
 use Rattle.sha256.specs.Sha256.{pairHash}
 use Rattle.lanes.specs.Hashes.{Heap}
-use Rattle.tree.specs.Geometry.{Padding, covering}
-use Rattle.tree.specs.GeometryLaws.{padding-from-covering, right-end, shifted-one}
-use Rattle.tree.specs.Values.{node}
+use Rattle.tree.specs.Geometry.{Padding, blockLength, ceilDiv, blockCount, covering, height, isPieceLength, pieceLayer, hasLayer}
+use Rattle.tree.specs.GeometryLaws.{ceil-least, height-least, padding-from-covering, right-end, shifted-one, piece-length-form, long-file-height}
+use Rattle.tree.specs.Values.{node, layerLeaf, layerRoot}
 use Rattle.heaps.specs.Heaps.{Over, Worked, raised}
 use Rattle.heaps.specs.HeapsLaws.{node-beyond}
 
@@ -78,3 +80,35 @@ halves-fit (suc k) j p b =
 -- the front of a room
 pub front-length : (room : List ℕ) (n : ℕ) → n ≤ length room → length (take (n - 0) (drop 0 room)) ≡ n
 front-length room n h = let e : n - 0 ≡ n = omega arith in ap (λ (k : ℕ). length (take k room)) e ∙ length-take-le n room h
+
+-- ---- a piece layer's root
+
+-- a file longer than the piece length has its layer below its root
+pub layer-under : (plen n : ℕ) → isPieceLength plen ≡ true → hasLayer n plen ≡ true → (q b h : ℕ) → q ≡ pieceLayer plen → b ≡ blockCount n
+    → h ≡ height b → q ≤ h
+unfolding hasLayer
+layer-under plen n p l q b h eq eb eh = rw (eq, eh, eb) below
+  where
+    below : pieceLayer plen ≤ height (blockCount n)
+    below =
+        let f = piece-length-form plen p in
+        let g : blockLength * 2 ^ pieceLayer plen < n = rw (f .1) at (ltb-true plen n l) in
+        omega (arith, long-file-height n (pieceLayer plen) g)
+
+-- the leaves of a layer's tree can be counted
+pub leaves-few : (n q b h : ℕ) → n < 2 ^ 64 → b ≡ blockCount n → h ≡ height b → (0 + 1) * 2 ^ (h - q) < 2 ^ 64
+unfolding blockCount
+leaves-few n q b h l eb eh =
+    let c : ceilDiv n blockLength ≤ 2 ^ 50 = ceil-least n blockLength (2 ^ 50) (omega arith) (omega arith) in
+    let t : h ≤ 50 = omega (arith, eh, height-least b 50 (omega (arith, eb, c))) in
+    omega (arith, pow-mono {i = h - q} {j = 50} (omega arith))
+
+-- the root that is worked out, as the code does it
+pub root-worked : (root layer : List ℕ) (plen n q b h : ℕ) (worked mine : List ℕ) (r : Bool) → q ≡ pieceLayer plen → b ≡ blockCount n → h ≡ height b
+    → worked ≡ node (layerLeaf layer q) (h - q) 0 → length root ≡ 32 → mine ≡ cut root 0 32 → r ≡ same worked mine
+    → r ≡ same (layerRoot layer (pieceLayer plen) (height (blockCount n))) root
+unfolding layerRoot
+root-worked root layer plen n q b h worked mine r eq eb eh ew l em er = er ∙ rw (ew, em ∙ whole, eh, eb, eq) refl
+  where
+    whole : cut root 0 32 ≡ root
+    whole = unfold cut in take-all 32 root (omega arith)

@@ -1,18 +1,25 @@
-// A subtree over a run of hashes, worked out in a lent room as a heap: its leaves are copied, then each hash is the parent of two.
+// A subtree over a run of hashes, worked out in a room as a heap: its leaves are copied, then each hash is the parent of two. And the
+// root over a piece layer, by such heaps.
 ghost use mathlib.Core.Path.{_≡_};
+ghost use mathlib.Core.Bool.{true};
 ghost use mathlib.Core.List.{List};
 ghost use Prim.Native.Nat.{ℕ, _+_, _*_, _^_, _≤_, _<_};
 ghost use lib.ListN.{length};
-ghost use Rattle.tree.specs.Values.{node};
-ghost use Rattle.octets.specs.Octets.{cut};
+ghost use Rattle.octets.specs.Octets.{cut, same};
+ghost use Rattle.tree.specs.Geometry as G;
+ghost use Rattle.tree.specs.Geometry.{blockCount, isPieceLength, pieceLayer, hasLayer};
+ghost use Rattle.tree.specs.Values.{node, padValue, layerRoot};
 ghost use Rattle.heaps.specs.Heaps.{Over, Worked, raised};
 use octets::hash_at;
 use octets::put_hash;
 use sha256::pair;
+use tree::geometry::block_count;
 use tree::geometry::covering;
+use tree::geometry::height;
+use tree::geometry::piece_layer;
 
 // Hash i of a run, and `past` after its last one.
-pub fn leaf_in(run: &[u8], past: [u8; 32], i: usize) -> [u8; 32]
+fn leaf_in(run: &[u8], past: [u8; 32], i: usize) -> [u8; 32]
     ensures { λ r. ⌜ (length r ≡ 32) × ((leaf : ℕ → List ℕ) → Over (now (run .entry)) past leaf → r ≡ leaf i) ⌝ }
 {
     let c = run.len() / 32;
@@ -69,7 +76,7 @@ fn raise(v: [u8; 32], k: usize) -> [u8; 32]
 }
 
 // The node k layers above a run of hashes, number j, by heaps over at most 2^e of them; past the run each hash is `past`.
-pub fn run_node(
+fn run_node(
     room: &mut [u8],
     e: usize,
     run: &[u8],
@@ -95,4 +102,24 @@ pub fn run_node(
     let l = run_node(room, e, run, past, d, j2);
     let r = run_node(room, e, run, past, d, j3);
     pair(l, r)
+}
+
+// A layer's root is worked out by heaps over 2^6 hashes. Their room is small: it may lie on the stack once for each folder above the file.
+const HEAP_LAYERS: usize = 6;
+
+const HEAP_SIZE: usize = 4096;
+
+// Whether the layer of a file of n bytes gives its root. `past` is the padding value of the piece layer.
+pub fn gives_root(layer: &[u8], past: [u8; 32], plen: usize, n: usize, root: &[u8]) -> bool
+    requires { ⌜ (isPieceLength plen ≡ true) × (hasLayer n plen ≡ true) × (length (now root) ≡ 32) × (past ≡ padValue (pieceLayer plen)) ⌝ }
+    ensures { λ r. ⌜ r ≡ same (layerRoot (now (layer .entry)) (pieceLayer plen) (G.height (blockCount n))) (now (root .entry)) ⌝ }
+{
+    let p = piece_layer(plen);
+    let b = block_count(n);
+    let h = height(b);
+    let k = h - p;
+    let mut room = [0u8; HEAP_SIZE];
+    let worked = run_node(&mut room, HEAP_LAYERS, layer, past, k, 0);
+    let mine = hash_at(root, 0);
+    octets::same(worked, mine)
 }

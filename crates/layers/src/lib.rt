@@ -7,12 +7,9 @@ use bencode::scalar::read_string;
 use filetree::count::ELEMENTS;
 use filetree::token::Token;
 use filetree::token::read_token;
-use heaps::run_node;
-use octets::hash_at;
+use heaps::gives_root;
 use sorting::halving::search;
-use tree::geometry::block_count;
 use tree::geometry::has_layer;
-use tree::geometry::height;
 use tree::geometry::piece_count;
 use tree::geometry::piece_layer;
 use tree::values::pad_value;
@@ -23,20 +20,14 @@ ghost use lib.ListN as L;
 ghost use lib.ListN.{take};
 ghost use lib.Dec.{eqb};
 ghost use Rattle.limits.specs.Limits.{longestFile, largestTorrent};
-ghost use Rattle.octets.specs.Octets.{cut, same};
-ghost use Rattle.tree.specs.Geometry as G;
-ghost use Rattle.tree.specs.Geometry.{blockCount, isPieceLength, pieceLayer, hasLayer};
-ghost use Rattle.tree.specs.Values.{padValue, layerRoot};
+ghost use Rattle.octets.specs.Octets.{cut};
+ghost use Rattle.tree.specs.Geometry.{isPieceLength, pieceLayer, hasLayer};
+ghost use Rattle.tree.specs.Values.{padValue};
 ghost use Rattle.filetree.specs.Tree.{filesIn, right, listed};
 ghost use Rattle.layers.specs.Layers.{layerKeys, keysWide, Indexed, Inside, layerAt, ofLayer, numberByLayer, lower, worst, Judges};
 
 // A pieces root, and so each key of `piece layers`, has 32 bytes.
 const ROOT: usize = 32;
-
-// A layer's root is worked out by heaps over 2^6 hashes. Their room is small: it may lie on the stack once for each folder above the file.
-const HEAP_LAYERS: usize = 6;
-
-const HEAP_SIZE: usize = 4096;
 
 // Whether the dictionary l has `most` keys, each of 32 bytes; if so, where they stand is left in `keys`, in order.
 pub fn index(l: &[u8], keys: &mut [u32], most: usize) -> bool
@@ -77,21 +68,6 @@ pub fn find_layer(l: &[u8], keys: &[u32], count: usize, root: &[u8]) -> ByteStri
         return read_string(l, key + ROOT);
     }
     ByteString::NoString
-}
-
-// Whether the layer of a file of n bytes gives its root. `past` is the padding value of the piece layer.
-fn gives_root(layer: &[u8], past: [u8; 32], plen: usize, n: usize, root: &[u8]) -> bool
-    requires { ⌜ (isPieceLength plen ≡ true) × (hasLayer n plen ≡ true) × (L.length (now root) ≡ 32) × (past ≡ padValue (pieceLayer plen)) ⌝ }
-    ensures { λ r. ⌜ r ≡ same (layerRoot (now (layer .entry)) (pieceLayer plen) (G.height (blockCount n))) (now (root .entry)) ⌝ }
-{
-    let p = piece_layer(plen);
-    let b = block_count(n);
-    let h = height(b);
-    let k = h - p;
-    let mut room = [0u8; HEAP_SIZE];
-    let worked = run_node(&mut room, HEAP_LAYERS, layer, past, k, 0);
-    let mine = hash_at(root, 0);
-    octets::same(worked, mine)
 }
 
 // 0, 27 or 28 of a file of n bytes by its layer.

@@ -1,13 +1,13 @@
-use Rattle.layers.proofs.Finding.{layer-under, leaves-few, root-worked}
+use Rattle.heaps.proofs.Steps.{layer-under, leaves-few, root-worked}
 use Prim.Native.Nat.{ℕ, _-_, _*_, _^_, _<_}
 use native.Mathlib.Omega.{arith}
 use lib.ListN.{length, length-replicate}
 use mathlib.Core.Path.{_≡_, sym, _∙_, ap}
 use Rattle.tree.specs.Values.{layerLeaf, padValue}
 use Rattle.heaps.specs.HeapsLaws.{over-layer}
 use borrow.Author.Needs.{needs}
-use Rattle.layers.proofs.gives_root.Statement.{statement}
-use Rattle.layers.proofs.gives_root.Tie as tie
+use Rattle.heaps.proofs.gives_root.Statement.{statement}
+use Rattle.heaps.proofs.gives_root.Tie as tie
 
 piece-layer-requires : tie.Need-piece-layer-requires
 piece-layer-requires c κs = search needs
