@@ -85,8 +85,8 @@ fn judge_all(data: &[u8], piece: usize, root: Hash, layer: &[u8]) {
     }
 }
 
-/// The fewest packed adds that the archive has where the lanes are vectors. The schedule of a block has 28, its rounds have 40, and
-/// the rounds of a pair's padding 40 more; all else has 20. So none of the three can be lost.
+/// The fewest packed adds that the archive has where the lanes are vectors: 128 were counted, of which the schedule of a block has 24,
+/// its rounds 28, and the rounds of a pair's padding 24. So none of the three can be lost. The scalar library has 20.
 const PACKED_ADDS: usize = 110;
 
 /// PADDD on registers or memory: 66 0F FE, or with a REX prefix before 0F.
