@@ -76,14 +76,7 @@ fn raise(v: [u8; 32], k: usize) -> [u8; 32]
 }
 
 // The node k layers above a run of hashes, number j, by heaps over at most 2^e of them; past the run each hash is `past`.
-fn run_node(
-    room: &mut [u8],
-    e: usize,
-    run: &[u8],
-    past: [u8; 32],
-    k: usize,
-    j: usize,
-) -> [u8; 32]
+fn run_node(room: &mut [u8], e: usize, run: &[u8], past: [u8; 32], k: usize, j: usize) -> [u8; 32]
     requires { ⌜ (length (now room) ≡ 64 * 2 ^ e) × ((j + 1) * 2 ^ k < 2 ^ 64) ⌝ }
     ensures { λ r. ⌜ ((leaf : ℕ → List ℕ) → Over (now (run .entry)) past leaf → r ≡ node leaf k j) ⌝ }
 {
