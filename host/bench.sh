@@ -33,7 +33,7 @@ counted() {
         count=$(($(instructions "$job" "$version") - ready))
         plain=${plain:-$count}
         awk -v job="$job" -v version="$version" -v count=$count -v plain="$plain" -v asked="$asked" 'BEGIN {
-            printf "%-18s %-16s %12d %16.2f %7s\n", job, version, count, plain ? count / plain : 0,
+            printf "%-18s %-16s %12.0f %16.2f %7s\n", job, version, count, plain ? count / plain : 0,
                 version !~ /-rust$/ && asked != "-" ? asked : "" }'
     done
 }
