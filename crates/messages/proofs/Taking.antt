@@ -113,12 +113,14 @@ module _ (n : ℕ) (s : List ℕ) (es : List Entry) where
   unfolding answerTo leftBy
   answer-refused r e ne = let z : eqb n 0 ≡ false = ne-eqb n 0 (λ y. ne (e ∙ y)) in rw z (ap refused e, refl)
 
-  pub answer-done : (r c : ℕ) (s′ : List ℕ) → r ≡ n → r ≡ 0 → (c ≡ fresh s es) × (s′ ≡ putAll s es) → (done c ≡ answerTo n s es) × (s′ ≡ leftBy n s es)
+  pub answer-done : (r c : ℕ) (s′ : List ℕ) → r ≡ n → r ≡ 0 → (c ≡ fresh s es) × (s′ ≡ putAll s es)
+      → (done c ≡ answerTo n s es) × (s′ ≡ leftBy n s es)
   unfolding answerTo leftBy
   answer-done r c s′ e z w = rw (eq-eqb n 0 (sym e ∙ z)) (ap done (w .0), w .1)
 
   -- the same number under another name
-  pub answer-same : (r : ℕ) (a : Answer) (s′ : List ℕ) → r ≡ n → (a ≡ answerTo r s es) × (s′ ≡ leftBy r s es) → (a ≡ answerTo n s es) × (s′ ≡ leftBy n s es)
+  pub answer-same : (r : ℕ) (a : Answer) (s′ : List ℕ) → r ≡ n → (a ≡ answerTo r s es) × (s′ ≡ leftBy r s es)
+      → (a ≡ answerTo n s es) × (s′ ≡ leftBy n s es)
   answer-same r a s′ e w = rw e at w
 
 -- the anchor is looked at first

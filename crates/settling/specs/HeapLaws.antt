@@ -93,8 +93,8 @@ fit-leaves ls b k n j m f e =
 pub fit-first : {ls b k n j : ℕ} → Fit ls b k n j → Fit ls b k n 0
 fit-first f = record { room = f .room; top = f .top; index = omega arith }
 
-pub room-part : (k : ℕ) → k ≤ 9 → ((1 * 2 ^ k) % 2 ^ 64 ≡ 2 ^ k) × (64 * 2 ^ k ≤ roomSize)
-room-part k h = (shifted-one k (omega arith), omega (arith, pow-mono {i = k} {j = 9} h))
+pub room-part : (k : ℕ) → k ≤ roomLayers → ((1 * 2 ^ k) % 2 ^ 64 ≡ 2 ^ k) × (64 * 2 ^ k ≤ roomSize)
+room-part k h = (shifted-one k (omega arith), omega (arith, pow-mono {i = k} {j = roomLayers} h))
 
 pub front-length : (room : List ℕ) (n : ℕ) → n ≤ length room → length (take (n - 0) (drop 0 room)) ≡ n
 front-length room n h = let e : n - 0 ≡ n = omega arith in ap (λ (k : ℕ). length (take k room)) e ∙ length-take-le n room h
