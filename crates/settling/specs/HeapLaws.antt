@@ -9,7 +9,7 @@ use native.Mathlib.Nat.{add-mul, one-mul, mul-le-mul-right, le-mul-of-pos-right}
 use native.Mathlib.Decide.{decLt}
 use native.Mathlib.Omega.{arith}
 use lib.ListN.{length, take, drop}
-use lib.Seq.{length-take-le}
+use lib.Seq.{length-take-le, take-at}
 use lib.Pow.{pow-mono, pow-pos}
 use Rattle.octets.specs.Octets.{cut, pasted}
 use Rattle.octets.specs.OctetsLaws.{cut-cut, cut-whole, cut-pasted-same, cut-pasted-other, pasted-length}
@@ -23,8 +23,8 @@ use Rattle.heaps.specs.Heaps.{hashIn, Parents, Over, Worked}
 use Rattle.heaps.specs.HeapsLaws.{hash-over, node-moved, heap-top}
 use Rattle.cells.specs.Cells.{put}
 use Rattle.cells.specs.Entries.{Entry, one, agreesAt, agrees, lacks, fresh, putAll}
-use Rattle.settling.specs.Span.{Within, Fit, roomSize}
-use Rattle.settling.specs.Subtree.{subtree, runLeaf, Loaded}
+use Rattle.settling.specs.Span.{Within, Fit, roomLayers, roomSize}
+use Rattle.settling.specs.Subtree.{subtree, runLeaf, Loaded, Heaped}
 use Rattle.settling.specs.SubtreeLaws.{run-leaf-in, run-leaf-past, looked-zero, looked-up, Wrote, wrote-zero, wrote-up}
 
 -- a subtree's entries depend only on the leaves below it, wherever they are counted from
@@ -93,11 +93,26 @@ fit-leaves ls b k n j m f e =
 pub fit-first : {ls b k n j : ℕ} → Fit ls b k n j → Fit ls b k n 0
 fit-first f = record { room = f .room; top = f .top; index = omega arith }
 
-pub room-part : (k : ℕ) → k ≤ 9 → ((1 * 2 ^ k) % 2 ^ 64 ≡ 2 ^ k) × (64 * 2 ^ k ≤ roomSize)
-room-part k h = (shifted-one k (omega arith), omega (arith, pow-mono {i = k} {j = 9} h))
+pub room-part : (k : ℕ) → k ≤ roomLayers → ((1 * 2 ^ k) % 2 ^ 64 ≡ 2 ^ k) × (64 * 2 ^ k ≤ roomSize)
+room-part k h = (shifted-one k (omega arith), omega (arith, pow-mono {i = k} {j = roomLayers} h))
 
 pub front-length : (room : List ℕ) (n : ℕ) → n ≤ length room → length (take (n - 0) (drop 0 room)) ≡ n
 front-length room n h = let e : n - 0 ≡ n = omega arith in ap (λ (k : ℕ). length (take k room)) e ∙ length-take-le n room h
+
+-- ---- a heap that stays in the room
+
+module _ (leaf : ℕ → List ℕ) (k j : ℕ) (room : List ℕ) where
+  pub heaped-front : (m : ℕ) → Heaped leaf k j room → k ≤ roomLayers → m ≡ 2 ^ k → Worked leaf m j (take (64 * m - 0) (drop 0 room))
+  heaped-front m h l e = let z : 64 * m - 0 ≡ 64 * 2 ^ k = omega (arith, e) in rw (z, e) (h .heap l)
+
+  pub heaped-high : (k ≤ roomLayers → ⊥) → Heaped leaf k j room
+  heaped-high f = record { heap = λ l. absurd (f l) }
+
+-- what look_part leaves, with the rest of the room behind it
+pub heaped-by : (leaf : ℕ → List ℕ) (k j m : ℕ) (heap rest : List ℕ) → m ≡ 2 ^ k → Worked leaf m j heap → Heaped leaf k j (heap ++ rest)
+heaped-by leaf k j m heap rest e w =
+    let l : length heap ≡ 64 * 2 ^ k = w .size ∙ ap (λ (n : ℕ). 64 * n) e in
+    record { heap = λ h. rw (take-at heap rest (64 * 2 ^ k) l) (rw e at w) }
 
 -- all of a heap's leaves are below its first hash
 pub heap-whole : (n k m : ℕ) → m ≡ 2 ^ k → n ≡ 64 * m → 32 * ((1 + 1) * 2 ^ k) ≤ n

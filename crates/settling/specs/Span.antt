@@ -20,6 +20,9 @@ pub record Way (ls lh b i u n : ℕ) : Type 0 where
   pub even : b % 2 ≡ 0
   pub below : n < b
 
--- the bytes of a room for a heap over 2^9 leaves
+-- how many layers the heap in a room has above its leaves, and the room's bytes
+abbrev pub roomLayers : ℕ
+roomLayers = 9
+
 abbrev pub roomSize : ℕ
 roomSize = 32768

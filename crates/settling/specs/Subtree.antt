@@ -4,12 +4,14 @@
 use mathlib.Core.Path.{_≡_}
 use mathlib.Core.List.{List, _++_}
 use mathlib.Core.Bool.{cond}
-use Prim.Native.Nat.{ℕ, zero, suc, _+_, _*_, _/_, _≤_, _<_}
-use lib.ListN.{length}
+use Prim.Native.Nat.{ℕ, zero, suc, _+_, _*_, _/_, _^_, _≤_, _<_}
+use lib.ListN.{length, take}
 use lib.Dec.{ltb}
 use Rattle.octets.specs.Octets.{cut}
 use Rattle.tree.specs.Values.{node}
+use Rattle.heaps.specs.Heaps.{Worked}
 use Rattle.cells.specs.Entries.{Entry, one}
+use Rattle.settling.specs.Span.{roomLayers}
 
 -- the subtree of height k whose top is position n; it is number j of its height, counted over the leaves
 unfoldable pub subtree : (ℕ → List ℕ) → ℕ → ℕ → ℕ → List Entry
@@ -25,3 +27,7 @@ pub record Loaded (leaf : ℕ → List ℕ) (m from c : ℕ) (heap : List ℕ) :
   pub size : length heap ≡ 64 * m
   pub most : c ≤ m
   pub leaves : (y : ℕ) → y < c → cut heap (32 * (m + y)) 32 ≡ leaf (from + y)
+
+-- a room in which the subtree of height k was worked out, number j of its height: if it is not too high, its heap stands at the start
+pub record Heaped (leaf : ℕ → List ℕ) (k j : ℕ) (room : List ℕ) : Type 0 where
+  pub heap : k ≤ roomLayers → Worked leaf (2 ^ k) j (take (64 * 2 ^ k) room)

@@ -6,7 +6,7 @@ ghost use lib.ListN.{length};
 ghost use Rattle.tree.specs.Values.{node, leafOf};
 ghost use Rattle.heaps.specs.Heaps.{hashIn, Parents, Worked};
 ghost use Rattle.cells.specs.Entries.{agrees, putAll, fresh};
-ghost use Rattle.settling.specs.Subtree.{subtree, runLeaf, Loaded};
+ghost use Rattle.settling.specs.Subtree.{subtree, runLeaf, Loaded, Heaped};
 ghost use Rattle.settling.specs.Path.{sibling, parentValue, ancestor, risen, path};
 ghost use Rattle.settling.specs.Span.{Fit, Way, roomSize};
 use cells::add_at;
@@ -23,7 +23,7 @@ use tree::values::leaf_of;
 // A subtree over up to 2^9 leaves is worked out in one heap, and each of its hashes once; a higher one by such parts.
 const ROOM_LAYERS: usize = 9;
 
-const ROOM_SIZE: usize = 32768;
+pub const ROOM_SIZE: usize = 32768;
 
 // The value at the top, and whether no held position on the way there differs from the values worked out.
 pub struct Seen {
@@ -96,7 +96,7 @@ fn look_part(
     j: usize,
 ) -> Seen
     requires { ⌜ Fit (length (now s)) b k n j × (m ≡ 2 ^ k) × (length (now heap) ≡ 64 * m) ⌝ }
-    ensures { λ r. ⌜ (r .hash ≡ node (runLeaf (now (run .entry)) past) k j) × (r .agrees ≡ agrees (now (s .entry)) (subtree (runLeaf (now (run .entry)) past) k n j)) ⌝ }
+    ensures { λ r. ⌜ (r .hash ≡ node (runLeaf (now (run .entry)) past) k j) × (r .agrees ≡ agrees (now (s .entry)) (subtree (runLeaf (now (run .entry)) past) k n j)) × Worked (runLeaf (now (run .entry)) past) m j (now (heap .exit)) ⌝ }
 {
     work(heap, run, past, m, j);
     let hash = hash_at(&*heap, 32);
@@ -126,8 +126,8 @@ fn write_part(
 }
 
 // Works out the subtree of height k whose top is n, over a run of hashes, and compares it with what is held below b: in a room
-// for the heap over ROOM_LAYERS layers, and above those layer by layer.
-fn look_parts(
+// for the heap over ROOM_LAYERS layers, where a subtree that is not higher stays; above those layer by layer.
+pub fn look_parts(
     s: &[u8],
     run: &[u8],
     past: [u8; 32],
@@ -138,7 +138,7 @@ fn look_parts(
     j: usize,
 ) -> Seen
     requires { ⌜ Fit (length (now s)) b k n j × (length (now room) ≡ roomSize) ⌝ }
-    ensures { λ r. ⌜ (r .hash ≡ node (runLeaf (now (run .entry)) past) k j) × (r .agrees ≡ agrees (now (s .entry)) (subtree (runLeaf (now (run .entry)) past) k n j)) ⌝ }
+    ensures { λ r. ⌜ (r .hash ≡ node (runLeaf (now (run .entry)) past) k j) × (r .agrees ≡ agrees (now (s .entry)) (subtree (runLeaf (now (run .entry)) past) k n j)) × Heaped (runLeaf (now (run .entry)) past) k j (now (room .exit)) ⌝ }
 {
     if k <= ROOM_LAYERS {
         let m = 1 << k;
@@ -325,7 +325,32 @@ fn write_parts(
     Filled { hash: v, new: t }
 }
 
-// The same, in a room of its own.
+// The same, in the room where look_parts has worked it out: what stayed there is written from there, not worked out again.
+pub fn write_looked(
+    s: &mut [u8],
+    run: &[u8],
+    past: [u8; 32],
+    room: &mut [u8],
+    b: usize,
+    k: usize,
+    n: usize,
+    j: usize,
+) -> Filled
+    requires { ⌜ Fit (length (now s)) b k n j × (length (now room) ≡ roomSize) × Heaped (runLeaf (now run) past) k j (now room) ⌝ }
+    ensures { λ r. ⌜ (r .hash ≡ node (runLeaf (now (run .entry)) past) k j) × ((r .new ≡ fresh (now (s .entry)) (subtree (runLeaf (now (run .entry)) past) k n j)) × (now (s .exit) ≡ putAll (now (s .entry)) (subtree (runLeaf (now (run .entry)) past) k n j))) ⌝ }
+{
+    if k <= ROOM_LAYERS {
+        let m = 1 << k;
+        let size = 64 * m;
+        let heap = &room[0..size];
+        let hash = hash_at(heap, 32);
+        let new = write_heap(s, heap, b, k, n, 1);
+        return Filled { hash, new };
+    }
+    write_parts(s, run, past, room, b, k, n, j)
+}
+
+// Every position of that subtree becomes held, in a room of its own.
 pub fn write_run(
     s: &mut [u8],
     run: &[u8],

@@ -1,7 +1,7 @@
 -- Up to nine layers in one heap; above, left child, right child and top, by recursion on the height.
 -- Assumes nothing.
 use Rattle.settling.specs.Subtree.{runLeaf}
-use Rattle.settling.specs.HeapLaws.{room-part, front-length}
+use Rattle.settling.specs.HeapLaws.{room-part, front-length, heaped-by, heaped-high}
 use Rattle.settling.specs.SubtreeLaws.{fit-self, fit-left, fit-right, looked-up}
 use borrow.Author.Needs.{needs}
 use native.Mathlib.Omega.{arith}
@@ -68,7 +68,9 @@ look-parts-same-length : (t : ℕ) → look-parts-lts.Need-same-length (look-par
 look-parts-same-length t c = search needs
 
 look-parts-returns : (t : ℕ) → look-parts-lts.Need-returns (look-parts-claims t) (look-parts-at t) look-parts.Post
-look-parts-returns t c = c .before .before .look-part .ensures
+look-parts-returns t c = let a = c .before .before .before .before .before .before .before .before .args in
+    let e = c .before .before .look-part .ensures in
+    (e .0, e .1, heaped-by (runLeaf (a .run .now) (a .past)) (a .k) (a .j) _ _ _ (room-part (a .k) (c .before .before .before .before .if1 .taken) .0) (e .2))
 
 look-parts-sub-d : (t : ℕ) → look-parts-lts.Need-sub-d (look-parts-claims t) (look-parts-at t) look-parts.Post
 look-parts-sub-d t c = search needs
@@ -105,8 +107,11 @@ look-parts-same-length-2 t c = search needs
 
 look-parts-returns-2 : (t : ℕ) → look-parts-lts.Need-returns-2 (look-parts-claims t) (look-parts-at t) look-parts.Post
 look-parts-returns-2 t c = let ne : c .before .before .before .before .before .before .before .before .before .before .before .before .before .before .before .before .before .args .k ≡ 0 → ⊥ = λ z. omega (arith, c .before .before .before .before .before .before .before .before .before .before .before .before .before .if1 .left) in let a = c .before .before .before .before .before .before .before .before .before .before .before .before .before .before .before .before .before .args in
-    looked-up (a .s .now) (runLeaf (a .run .now) (a .past)) (a .k) (a .n) (a .j) (c .before .before .before .before .before .before .before .before .before .before .before .look-parts .result .hash) (c .before .before .before .before .before .before .before .before .before .before .before .look-parts .result .agrees) (c .before .before .before .before .before .before .before .look-parts2 .result .hash) (c .before .before .before .before .before .before .before .look-parts2 .result .agrees) (c .before .before .pair .result) (c .before .agrees-at .result) (c .all-three .result)
-    ne (c .before .before .before .before .before .before .before .before .before .before .before .look-parts .ensures) (c .before .before .before .before .before .before .before .look-parts2 .ensures) (c .before .before .pair .ensures) (c .before .agrees-at .ensures) (c .all-three .ensures)
+    let l = c .before .before .before .before .before .before .before .before .before .before .before .look-parts .ensures in
+    let r = c .before .before .before .before .before .before .before .look-parts2 .ensures in
+    let d = looked-up (a .s .now) (runLeaf (a .run .now) (a .past)) (a .k) (a .n) (a .j) (c .before .before .before .before .before .before .before .before .before .before .before .look-parts .result .hash) (c .before .before .before .before .before .before .before .before .before .before .before .look-parts .result .agrees) (c .before .before .before .before .before .before .before .look-parts2 .result .hash) (c .before .before .before .before .before .before .before .look-parts2 .result .agrees) (c .before .before .pair .result) (c .before .agrees-at .result) (c .all-three .result)
+    ne (l .0, l .1) (r .0, r .1) (c .before .before .pair .ensures) (c .before .agrees-at .ensures) (c .all-three .ensures) in
+    (d .0, d .1, heaped-high (runLeaf (a .run .now) (a .past)) (a .k) (a .j) _ (λ h. omega (arith, h, c .before .before .before .before .before .before .before .before .before .before .before .before .before .if1 .left)))
 
 pub +look-parts-spec : {M : Type 1} → statement M
 +look-parts-spec = close μ-look-parts λ t. look-parts-lts.spec (look-parts-claims t)

@@ -41,6 +41,7 @@ returns c = let a = c .before .before .before .before .before .before .before .b
     let w = c .before .before .before .before .before .before .work .ensures leaf (over-run (a .run .now) (a .past)) in (
       c .before .before .hash-at .ensures ∙ worked-top leaf (a .k) (a .j) _ (a .m) (p .1) w,
       c .look-heap .ensures ∙ ap (agrees (a .s .now)) (worked-subtree leaf (a .k) (a .j) _ (a .m) (a .n) (p .1) w),
+      w,
     )
 
 pub look-part-spec : {M : Type 1} → statement M
