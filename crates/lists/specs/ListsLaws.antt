@@ -50,7 +50,7 @@ left-start s = record { within = omega arith; steps = length s; enough = omega a
 left-length : (s : List ℕ) (at : ℕ) → length (drop at s) ≡ length s - at
 left-length s at = length-drop at s
 
-number-there : (s : List ℕ) (at : ℕ) → numberAt (drop at s) 0 4 ≡ numberAt s at 4
+pub number-there : (s : List ℕ) (at : ℕ) → numberAt (drop at s) 0 4 ≡ numberAt s at 4
 number-there s at = number-same (drop at s) s 0 at 4 (λ i h. getD-drop at s (0 + i) 0 ∙ ap (λ (j : ℕ). getD s j 0) (omega arith))
 
 pub left-end : (s : List ℕ) (at : ℕ) → Left s at → length s ≤ at → elementsFit (length s) s ≡ true

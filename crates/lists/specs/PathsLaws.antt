@@ -6,17 +6,18 @@ use mathlib.Core.Bool.{Bool, true, false, cond, _&&_, and-eq-true-iff}
 use mathlib.Core.List.{List, [], _∷_}
 use Prim.Native.Nat.{ℕ, zero, suc, _+_, _-_, _≤_, _<_}
 use native.Mathlib.Omega.{arith}
-use lib.ListN.{length, take, drop, getD, length-drop}
-use lib.Seq.{getD-drop, drop-drop}
+use lib.ListN.{length, take, drop, length-drop}
+use lib.Seq.{drop-drop}
 use lib.Dec.{leb, ltb}
 use borrow.Author.Tests.{eq-eqb, eqb-true, ne-eqb, leb-true, ltb-true, ltb-false}
 use Rattle.octets.specs.Octets.{cut, same, numberAt}
-use Rattle.octets.specs.OctetsLaws.{number-same, cut-length, same-true}
+use Rattle.octets.specs.OctetsLaws.{cut-length, same-true}
 use Rattle.bencode.specs.Grammar.{precedes}
 use Rattle.publishing.specs.Content.{pathBefore}
 use Rattle.publishing.specs.Number.{begins}
 use Rattle.publishing.specs.OrderLaws.{path-one-way}
 use Rattle.lists.specs.Lists.{elementEnd, elementsFit, elementsIn}
+use Rattle.lists.specs.ListsLaws.{number-there}
 
 -- ---- what is left of one path
 
@@ -51,9 +52,6 @@ first-of (suc steps) s h n =
     }
 
 -- ---- by position
-
-number-there : (s : List ℕ) (at : ℕ) → numberAt (drop at s) 0 4 ≡ numberAt s at 4
-number-there s at = number-same (drop at s) s 0 at 4 (λ i h. getD-drop at s (0 + i) 0 ∙ ap (λ (j : ℕ). getD s j 0) (omega arith))
 
 cut-there : (s : List ℕ) (at n : ℕ) → cut (drop at s) 4 n ≡ take n (drop (at + 4) s)
 unfolding cut

@@ -6,6 +6,7 @@ use crate::plain::put_byte;
 use crate::plain::put_bytes;
 use crate::plain::put_decimal;
 use crate::plain::put_string;
+use limits::LARGEST_TORRENT;
 ghost use mathlib.Core.Path.{_≡_};
 ghost use mathlib.Core.List.{map};
 ghost use Prim.Native.Nat.{_+_, _≤_, _<_, _^_};
@@ -17,7 +18,7 @@ ghost use Rattle.ordered.specs.Order.{Placed, mostFiles};
 ghost use Rattle.output.specs.Whole.{infoBytes, restBytes};
 
 // More files do not go into a torrent: each takes 15 bytes or more.
-pub const MOST: usize = 69905;
+pub const MOST: usize = LARGEST_TORRENT / 15;
 
 // Whether so many files are too many, whatever they are.
 pub fn too_many(n: usize) -> bool
