@@ -5,22 +5,19 @@ use mathlib.Core.Bool.{Bool, true, false}
 use mathlib.Core.List.{List, [], _∷_, _++_, append-assoc}
 use Prim.Native.Nat.{ℕ, zero, suc, _+_, _-_, _*_, _≤_, _<_}
 use native.Mathlib.Omega.{arith}
-use native.Mathlib.Nat.{zero-add}
-use lib.ListN.{length, take, drop, length-append}
-use lib.Seq.{length-take-le, drop-at}
+use lib.ListN.{length, drop, length-append}
 use lib.Dec.{ltb}
 use borrow.Author.Tests.{lt-ltb}
 use Rattle.limits.specs.Limits.{largestTorrent}
-use Rattle.octets.specs.Octets.{pasted}
 use Rattle.bencode.specs.Grammar.{letterD, letterE, letterI, decimal, decimalIn, encodeString, Value, integer, string, dictionary, Entries, noEntries, entry, encode, encodeEntries, KeyBefore}
 use Rattle.bencode.specs.Grammar as G
 use Rattle.bencode.specs.CompleteLaws.{BeginsWithDigit, decimal-first}
 use Rattle.meaning.specs.Keys.{keyInfo, keyFileTree, keyPieceLength, keyMetaVersion, keyPieceLayers}
 use Rattle.publishing.specs.Sorting.{sortedBy, Permuted, then}
 use Rattle.publishing.specs.SortingLaws.{sorted-ordered, sorted-permuted, sorted-stays, permuted-back}
-use Rattle.publishing.specs.Content.{Item, layerBefore, itemBefore, inTreeOrder, properties, treeOfAll, withLayer, layersGiven, layersOfAll, keyName, infoWritten, torrentOf}
+use Rattle.publishing.specs.Content.{Item, layerBefore, itemBefore, inTreeOrder, properties, treeOfAll, Layer, withLayer, layersGiven, layersOfAll, keyName, infoWritten, torrentOf}
 use Rattle.publishing.specs.Number.{meet, tooLarge}
-use Rattle.publishing.specs.AnyOrder.{layersWritten, layers-any-order, size-any-order, torrent-any-order}
+use Rattle.publishing.specs.AnyOrder.{layersWritten, given-permuted, layers-any-order, size-any-order, torrent-any-order}
 use Rattle.publishing.specs.Written.{shared, opened, closed, fileBytes, treeBytes}
 use Rattle.publishing.specs.WrittenLaws.{tree-encoded}
 use Rattle.publishing.specs.SizeLaws.{rising, in-order}
@@ -28,7 +25,7 @@ use Rattle.ordered.specs.Order.{rootBefore, mostFiles}
 use Rattle.ordered.specs.ClashLaws.{root-one-way, root-behind, given-ordered}
 use Rattle.ordered.specs.MergedLaws.{permuted-length}
 use Rattle.output.specs.Put.{Put}
-use Rattle.output.specs.PutLaws.{put-append, put-three}
+use Rattle.output.specs.PutLaws.{put-append, put-three, string-length}
 use Rattle.output.specs.Layers.{layersBytes}
 use Rattle.output.specs.LayersLaws.{layers-encoded}
 use Rattle.output.specs.Files.{propertiesBytes}
@@ -109,19 +106,6 @@ torrent-parts plen name xs =
 pub torrent-length : (plen : ℕ) (name : List ℕ) (xs : List Item)
     → length (encode (dictionary (torrentOf plen name xs))) ≡ length (infoBytes plen name (inTreeOrder xs)) + length (restBytes (sortedBy rootBefore xs))
 torrent-length plen name xs = ap (λ (l : List ℕ). length l) (torrent-parts plen name xs) ∙ length-append (infoBytes plen name (inTreeOrder xs)) (restBytes (sortedBy rootBefore xs))
-
--- the second part written first, behind the place of the first: then both are the whole
-pub both-pasted : (s a b : List ℕ) → length a + length b ≤ length s → pasted (pasted s (length a) b) 0 a ≡ pasted s 0 (a ++ b)
-unfolding pasted
-both-pasted s a b h =
-    let k : length (take (length a) s) ≡ length a = length-take-le (length a) s (omega arith) in
-    let z : length a + length b ≡ length (a ++ b) = sym (length-append a b) in
-    rw (zero-add (length a), zero-add (length (a ++ b)))
-    (ap (λ (l : List ℕ). a ++ l)
-    (ap (λ (l : List ℕ). drop (length a) l) (append-assoc (take (length a) s) b (drop (length a + length b) s))
-    ∙ drop-at (take (length a) s) (b ++ drop (length a + length b) s) (length a) k
-    ∙ ap (λ (n : ℕ). b ++ drop n s) z)
-    ∙ sym (append-assoc a b (drop (length (a ++ b)) s)))
 
 -- ---- 19
 
@@ -207,17 +191,32 @@ pub put-both : (xs : List Item) (s t u : List ℕ) (at m r : ℕ) → Put s at (
 unfolding restBytes
 put-both xs s t u at m r p q k = put-append s t u at m r (layersBytes G.none (layersGiven xs)) (letterE ∷ []) p q k
 
--- both parts written, the second first: the whole stands at the start of the output, and nothing else changed
-pub parts-written : (whole a b out t u : List ℕ) (at r q : ℕ) → whole ≡ a ++ b → at ≡ length a → Put out at b t r → Put t 0 a u q
-    → length t ≡ length out → length whole ≤ length out → u ≡ pasted out 0 whole
-parts-written whole a b out t u at r q w e x y k h =
-    let l = ap (λ (s : List ℕ). length s) w ∙ length-append a b in
-    let m = x .behind in
-    let n = y .behind in
-    y .there (omega arith)
-    ∙ ap (λ (s : List ℕ). pasted s 0 a) (x .there (omega arith) ∙ ap (λ (n : ℕ). pasted out n b) e)
-    ∙ both-pasted out a b (omega arith)
-    ∙ ap (pasted out 0) (sym w)
+-- ---- the second part without layers
+
+given-none : (ls : List Layer) → length (layersBytes G.none ls) ≡ 1 → ls ≡ []
+unfolding layersBytes
+given-none [] e = refl
+given-none (l ∷ ls) e =
+    let a = length-append (encodeString (l .0) ++ encodeString (l .1)) (layersBytes (G.after (l .0)) ls) in
+    let b = length-append (encodeString (l .0)) (encodeString (l .1)) in
+    let w : ⊥ = omega (arith, string-length (l .0), string-length (l .1)) in
+    absurd w
+
+none-given : (ls : List Layer) → length ls ≡ 0 → ls ≡ []
+none-given [] e = refl
+none-given (l ∷ ls) e = absurd (omega arith)
+
+-- it has two bytes then, and the order does not matter
+pub rest-any-order : (xs ys : List Item) → Permuted xs ys → length (restBytes xs) ≡ 2 → restBytes xs ≡ restBytes ys
+unfolding restBytes
+rest-any-order xs ys p e = rw (no-layers, none-given (layersGiven ys) as-few) refl
+  where
+    no-layers : layersGiven xs ≡ []
+    no-layers = given-none (layersGiven xs) (omega (arith, rest-length xs))
+
+    as-few : length (layersGiven ys) ≡ 0
+    as-few =
+        sym (permuted-length (layersGiven xs) (layersGiven ys) (given-permuted xs ys p)) ∙ ap (λ (l : List Layer). length l) no-layers
 
 -- ---- of files that stand in the two orders: trees are zs, by root are ys
 
