@@ -40,7 +40,8 @@ some-bytes list text h n = by-count (recordCount list) refl
   where
     whole : length list % recordSize ≡ 0
     whole =
-        eqb-true (length list % recordSize) 0 (and-eq-true-iff (eqb (length list % recordSize) 0) (formUpTo list text (recordCount list)) .0 h .0)
+        eqb-true (length list % recordSize) 0 (and-eq-true-iff (eqb (length list % recordSize) 0) (formUpTo list text (recordCount list)) .0
+        h .0)
 
     by-count : (k : ℕ) → recordCount list ≡ k → nothing (itemsUpTo list text (recordCount list)) ≡ false
     by-count zero e = absurd (n (let d = div-add-mod' (length list) recordSize in omega (arith, whole)))

@@ -37,7 +37,8 @@ use Rattle.output.specs.Whole.{wordTree, wordName, wordPlen, wordLayers,
 pub layers-by-root : (xs : List Item) → layersWritten xs ≡ layersOfAll (layersGiven (sortedBy rootBefore xs))
 layers-by-root xs =
     layers-any-order xs (sortedBy rootBefore xs) (sorted-permuted rootBefore xs)
-    ∙ ap layersOfAll (sorted-stays layerBefore (layersGiven (sortedBy rootBefore xs)) (given-ordered (sortedBy rootBefore xs) (sorted-ordered rootBefore root-one-way root-behind xs)))
+    ∙ ap layersOfAll (sorted-stays layerBefore (layersGiven (sortedBy rootBefore xs))
+    (given-ordered (sortedBy rootBefore xs) (sorted-ordered rootBefore root-one-way root-behind xs)))
 
 -- ---- the whole
 
@@ -75,10 +76,15 @@ moved : (t w n v d a b x z : List ℕ)
 moved t w n v d a b x z = simp append-assoc
 
 assembled : (t n d l : List ℕ)
-    → letterD ∷ ((52 ∷ 58 ∷ keyInfo) ++ ((letterD ∷ ((57 ∷ 58 ∷ keyFileTree) ++ ((letterD ∷ t) ++ ((49 ∷ 50 ∷ 58 ∷ keyMetaVersion) ++ ((letterI ∷ ((50 ∷ []) ++ letterE ∷ [])) ++ ((52 ∷ 58 ∷ keyName) ++ (n ++ ((49 ∷ 50 ∷ 58 ∷ keyPieceLength) ++ ((letterI ∷ (d ++ letterE ∷ [])) ++ letterE ∷ []))))))))) ++ ((49 ∷ 50 ∷ 58 ∷ keyPieceLayers) ++ ((letterD ∷ l) ++ letterE ∷ []))))
+    → letterD ∷ ((52 ∷ 58 ∷ keyInfo) ++ ((letterD ∷
+    ((57 ∷ 58 ∷ keyFileTree) ++ ((letterD ∷ t) ++
+    ((49 ∷ 50 ∷ 58 ∷ keyMetaVersion) ++ ((letterI ∷ ((50 ∷ []) ++ letterE ∷ [])) ++
+    ((52 ∷ 58 ∷ keyName) ++ (n ++ ((49 ∷ 50 ∷ 58 ∷ keyPieceLength) ++ ((letterI ∷ (d ++ letterE ∷ [])) ++ letterE ∷ []))))))))) ++
+    ((49 ∷ 50 ∷ 58 ∷ keyPieceLayers) ++ ((letterD ∷ l) ++ letterE ∷ []))))
     ≡ (wordTree ++ (t ++ (wordName ++ (n ++ (wordPlen ++ (d ++ wordLayers)))))) ++ (l ++ letterE ∷ [])
 assembled t n d l =
-    ap (λ (s : List ℕ). wordTree ++ s) (moved t wordName n wordPlen d (letterE ∷ []) (letterE ∷ []) ((49 ∷ 50 ∷ 58 ∷ keyPieceLayers) ++ letterD ∷ []) (l ++ letterE ∷ []))
+    ap (λ (s : List ℕ). wordTree ++ s) (moved t wordName n wordPlen d (letterE ∷ []) (letterE ∷ [])
+    ((49 ∷ 50 ∷ 58 ∷ keyPieceLayers) ++ letterD ∷ []) (l ++ letterE ∷ []))
 
 torrent-assembled : (plen : ℕ) (name : List ℕ) (tree layers : Entries) (t l : List ℕ) → encode (dictionary tree) ≡ letterD ∷ t
     → encodeEntries layers ≡ l
@@ -86,12 +92,24 @@ torrent-assembled : (plen : ℕ) (name : List ℕ) (tree layers : Entries) (t l 
     ≡ (wordTree ++ (t ++ (wordName ++ (encodeString name ++ (wordPlen ++ (decimal plen ++ wordLayers)))))) ++ (l ++ letterE ∷ [])
 torrent-assembled plen name tree layers t l e f = spread ∙ assembled t (encodeString name) (decimal plen) l
   where
-    opened-up : encode (dictionary (entry keyInfo (dictionary (infoWritten plen name tree)) (entry keyPieceLayers (dictionary layers) noEntries)))
-        ≡ letterD ∷ (encodeString keyInfo ++ ((letterD ∷ (encodeString keyFileTree ++ (encode (dictionary tree) ++ (encodeString keyMetaVersion ++ ((letterI ∷ (decimal 2 ++ letterE ∷ [])) ++ (encodeString keyName ++ (encodeString name ++ (encodeString keyPieceLength ++ ((letterI ∷ (decimal plen ++ letterE ∷ [])) ++ letterE ∷ []))))))))) ++ (encodeString keyPieceLayers ++ ((letterD ∷ encodeEntries layers) ++ letterE ∷ []))))
+    opened-up : encode (dictionary (entry keyInfo (dictionary (infoWritten plen name tree))
+        (entry keyPieceLayers (dictionary layers) noEntries)))
+        ≡ letterD ∷ (encodeString keyInfo ++ ((letterD ∷
+        (encodeString keyFileTree ++ (encode (dictionary tree) ++
+        (encodeString keyMetaVersion ++ ((letterI ∷ (decimal 2 ++ letterE ∷ [])) ++
+        (encodeString keyName ++ (encodeString name ++
+        (encodeString keyPieceLength ++ ((letterI ∷ (decimal plen ++ letterE ∷ [])) ++ letterE ∷ []))))))))) ++
+        (encodeString keyPieceLayers ++ ((letterD ∷ encodeEntries layers) ++ letterE ∷ []))))
     opened-up = unfold encode in refl
 
-    spread : encode (dictionary (entry keyInfo (dictionary (infoWritten plen name tree)) (entry keyPieceLayers (dictionary layers) noEntries)))
-        ≡ letterD ∷ ((52 ∷ 58 ∷ keyInfo) ++ ((letterD ∷ ((57 ∷ 58 ∷ keyFileTree) ++ ((letterD ∷ t) ++ ((49 ∷ 50 ∷ 58 ∷ keyMetaVersion) ++ ((letterI ∷ ((50 ∷ []) ++ letterE ∷ [])) ++ ((52 ∷ 58 ∷ keyName) ++ (encodeString name ++ ((49 ∷ 50 ∷ 58 ∷ keyPieceLength) ++ ((letterI ∷ (decimal plen ++ letterE ∷ [])) ++ letterE ∷ []))))))))) ++ ((49 ∷ 50 ∷ 58 ∷ keyPieceLayers) ++ ((letterD ∷ l) ++ letterE ∷ []))))
+    spread : encode (dictionary (entry keyInfo (dictionary (infoWritten plen name tree))
+        (entry keyPieceLayers (dictionary layers) noEntries)))
+        ≡ letterD ∷ ((52 ∷ 58 ∷ keyInfo) ++ ((letterD ∷
+        ((57 ∷ 58 ∷ keyFileTree) ++ ((letterD ∷ t) ++
+        ((49 ∷ 50 ∷ 58 ∷ keyMetaVersion) ++ ((letterI ∷ ((50 ∷ []) ++ letterE ∷ [])) ++
+        ((52 ∷ 58 ∷ keyName) ++ (encodeString name ++
+        ((49 ∷ 50 ∷ 58 ∷ keyPieceLength) ++ ((letterI ∷ (decimal plen ++ letterE ∷ [])) ++ letterE ∷ []))))))))) ++
+        ((49 ∷ 50 ∷ 58 ∷ keyPieceLayers) ++ ((letterD ∷ l) ++ letterE ∷ []))))
     spread = opened-up ∙ rw (e, f, key-info, key-tree, key-version, version-two, key-name, key-plen, key-layers) refl
 
 -- the torrent of a list is its two parts behind each other
@@ -99,13 +117,17 @@ pub torrent-parts : (plen : ℕ) (name : List ℕ) (xs : List Item)
     → encode (dictionary (torrentOf plen name xs)) ≡ infoBytes plen name (inTreeOrder xs) ++ restBytes (sortedBy rootBefore xs)
 unfolding torrentOf infoBytes restBytes
 torrent-parts plen name xs =
-    torrent-assembled plen name (treeOfAll (inTreeOrder xs)) (layersWritten xs) (treeBytes [] (inTreeOrder xs)) (layersBytes G.none (layersGiven (sortedBy rootBefore xs)))
+    torrent-assembled plen name (treeOfAll (inTreeOrder xs)) (layersWritten xs) (treeBytes [] (inTreeOrder xs))
+    (layersBytes G.none (layersGiven (sortedBy rootBefore xs)))
     (tree-encoded (inTreeOrder xs) (rising (inTreeOrder xs) (in-order xs)))
     (ap encodeEntries (layers-by-root xs) ∙ sym (layers-encoded (layersGiven (sortedBy rootBefore xs))))
 
 pub torrent-length : (plen : ℕ) (name : List ℕ) (xs : List Item)
-    → length (encode (dictionary (torrentOf plen name xs))) ≡ length (infoBytes plen name (inTreeOrder xs)) + length (restBytes (sortedBy rootBefore xs))
-torrent-length plen name xs = ap (λ (l : List ℕ). length l) (torrent-parts plen name xs) ∙ length-append (infoBytes plen name (inTreeOrder xs)) (restBytes (sortedBy rootBefore xs))
+    → length (encode (dictionary (torrentOf plen name xs))) ≡ length (infoBytes plen name (inTreeOrder xs)) + length
+    (restBytes (sortedBy rootBefore xs))
+torrent-length plen name xs =
+    ap (λ (l : List ℕ). length l) (torrent-parts plen name xs) ∙ length-append (infoBytes plen name (inTreeOrder xs))
+    (restBytes (sortedBy rootBefore xs))
 
 -- ---- 19
 
@@ -155,7 +177,8 @@ too-many plen name xs h =
 -- ---- the parts, one behind the other
 
 pub info-length : (plen : ℕ) (name : List ℕ) (xs : List Item)
-    → length (infoBytes plen name xs) ≡ 20 + (length (treeBytes [] xs) + (24 + (length (encodeString name) + (16 + (length (decimal plen) + 18)))))
+    → length (infoBytes plen name xs) ≡ 20 +
+    (length (treeBytes [] xs) + (24 + (length (encodeString name) + (16 + (length (decimal plen) + 18)))))
 unfolding infoBytes
 info-length plen name xs =
     let t = treeBytes [] xs in
@@ -178,7 +201,8 @@ module _ (plen : ℕ) (name : List ℕ) (xs : List Item) (s₀ s₁ s₂ s₃ s�
       → Put s₀ a₀ (infoBytes plen name xs) s₇ a₇
   unfolding infoBytes
   put-seven p₁ p₂ p₃ p₄ p₅ p₆ p₇ k₁ k₂ k₃ k₄ k₅ k₆ =
-      put-three s₀ s₁ s₂ s₇ a₀ a₁ a₂ a₇ wordTree (treeBytes [] xs) (wordName ++ (encodeString name ++ (wordPlen ++ (decimal plen ++ wordLayers)))) p₁ p₂
+      put-three s₀ s₁ s₂ s₇ a₀ a₁ a₂ a₇ wordTree (treeBytes [] xs)
+      (wordName ++ (encodeString name ++ (wordPlen ++ (decimal plen ++ wordLayers)))) p₁ p₂
       (put-three s₂ s₃ s₄ s₇ a₂ a₃ a₄ a₇ wordName (encodeString name) (wordPlen ++ (decimal plen ++ wordLayers)) p₃ p₄
       (put-three s₄ s₅ s₆ s₇ a₄ a₅ a₆ a₇ wordPlen (decimal plen) wordLayers p₅ p₆ p₇ k₅ k₆) k₃ k₄) k₁ k₂
 
@@ -220,10 +244,13 @@ rest-any-order xs ys p e = rw (no-layers, none-given (layersGiven ys) as-few) re
 
 -- ---- of files that stand in the two orders: trees are zs, by root are ys
 
-module _ (plen : ℕ) (name : List ℕ) (xs zs ys : List Item) (p : Permuted xs zs) (o : inTreeOrder zs ≡ zs) (q : Permuted xs ys) (r : sortedBy rootBefore ys ≡ ys) where
+module _ (plen : ℕ) (name : List ℕ) (xs zs ys : List Item) (p : Permuted xs zs) (o : inTreeOrder zs ≡ zs) (q : Permuted xs ys)
+    (r : sortedBy rootBefore ys ≡ ys) where
   rest-there : restBytes (sortedBy rootBefore zs) ≡ restBytes ys
   unfolding restBytes
-  rest-there = ap (λ (l : List ℕ). l ++ letterE ∷ []) (layers-encoded (layersGiven (sortedBy rootBefore zs)) ∙ ap encodeEntries same-layers ∙ sym (layers-encoded (layersGiven ys)))
+  rest-there =
+      ap (λ (l : List ℕ). l ++ letterE ∷ []) (layers-encoded (layersGiven (sortedBy rootBefore zs)) ∙ ap encodeEntries same-layers ∙ sym
+      (layers-encoded (layersGiven ys)))
     where
       same-layers : layersOfAll (layersGiven (sortedBy rootBefore zs)) ≡ layersOfAll (layersGiven ys)
       same-layers =

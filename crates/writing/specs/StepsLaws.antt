@@ -78,13 +78,15 @@ module _ (list text : List ℕ) (h : listForm list text ≡ true) where
         → s ≡ length (restBytes (map (itemAt list text) c)) → i + s ≡ length (torrentBytes list text plen name)
     whole-size r i s x y =
         ap₂ (λ (m n : ℕ). m + n) x y
-        ∙ sym (size-there plen name (contentOf list text) (map (itemAt list text) b) (map (itemAt list text) c) (o .permuted) (o .in-order) (r .permuted) (r .in-order))
+        ∙ sym (size-there plen name (contentOf list text) (map (itemAt list text) b) (map (itemAt list text) c) (o .permuted) (o .in-order)
+        (r .permuted) (r .in-order))
 
     parts : ForRest list text c → contentNumber plen name (contentOf list text) ≡ 0
         → torrentBytes list text plen name ≡ infoBytes plen name (map (itemAt list text) b) ++ restBytes (map (itemAt list text) c)
     parts f z =
         let g = good plen name (contentOf list text) (all-passed plen name (contentOf list text) z) in
-        torrent-there plen name (contentOf list text) (map (itemAt list text) b) (map (itemAt list text) (f .roots)) (o .permuted) (o .in-order) (f .by-root .permuted) (f .by-root .in-order) (g .fine .paths-apart)
+        torrent-there plen name (contentOf list text) (map (itemAt list text) b) (map (itemAt list text) (f .roots)) (o .permuted)
+        (o .in-order) (f .by-root .permuted) (f .by-root .in-order) (g .fine .paths-apart)
         ∙ ap (λ (l : List ℕ). infoBytes plen name (map (itemAt list text) b) ++ l) (sym (f .as-roots))
 
     -- the second part ends within the output
@@ -111,7 +113,8 @@ module _ (list text : List ℕ) (h : listForm list text ≡ true) where
       → 0 + length (infoBytes plen name (map (itemAt list text) b)) ≤ n
   info-room plen name b n o l =
       let c = sortedBy (comes false list text) b in
-      let s = whole-size plen name b c o (roots-in-order list text b (o .placed) (o .permuted)) (length (infoBytes plen name (map (itemAt list text) b))) (length (restBytes (map (itemAt list text) c))) refl refl in
+      let s = whole-size plen name b c o (roots-in-order list text b (o .placed) (o .permuted))
+      (length (infoBytes plen name (map (itemAt list text) b))) (length (restBytes (map (itemAt list text) c))) refl refl in
       omega arith
 
   pub met : (b : List ℕ) (t : Bool) → InOrder itemBefore list text b → t ≡ neighbours leads (map (itemAt list text) b)
@@ -150,13 +153,21 @@ module _ (list text : List ℕ) (plen : ℕ) (name out : List ℕ) (h : listForm
     pub answer-room : length out < length (torrentBytes list text plen name)
         → (refused noRoom ≡ writeAnswer list text plen name out) × (out ≡ writeAfter list text plen name out)
     unfolding writeAnswer writeAfter writeNumber
-    answer-room l = (rw (h, e, lt-ltb (length out) (length (torrentBytes list text plen name)) l) refl, rw (h, e, lt-ltb (length out) (length (torrentBytes list text plen name)) l) refl)
+    answer-room l = (
+      rw (h, e, lt-ltb (length out) (length (torrentBytes list text plen name)) l) refl,
+      rw
+          (h, e, lt-ltb (length out) (length (torrentBytes list text plen name)) l) refl,
+    )
 
     pub answer-done : (n : ℕ) (u : List ℕ) → n ≡ length (torrentBytes list text plen name)
         → length (torrentBytes list text plen name) ≤ length out → u ≡ pasted out 0 (torrentBytes list text plen name)
         → (done n ≡ writeAnswer list text plen name out) × (u ≡ writeAfter list text plen name out)
     unfolding writeAnswer writeAfter writeNumber
-    answer-done n u s l p = (rw (h, e, le-ltb (length out) (length (torrentBytes list text plen name)) l) (ap done s), rw (h, e, le-ltb (length out) (length (torrentBytes list text plen name)) l) p)
+    answer-done n u s l p = (
+      rw (h, e, le-ltb (length out) (length (torrentBytes list text plen name)) l) (ap done s),
+      rw
+          (h, e, le-ltb (length out) (length (torrentBytes list text plen name)) l) p,
+    )
 
 -- more records than files go into a torrent
 pub content-length : (list text : List ℕ) → length (contentOf list text) ≡ recordCount list

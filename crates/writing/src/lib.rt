@@ -1,5 +1,5 @@
-// A torrent written of a list of files. Everything is worked out before the first byte is written: the list's form, the size of the torrent,
-// its number, the room. The files are sorted by the positions of their records, on the stack.
+// A torrent written of a list of files. Everything is worked out before the first byte is written: the list's form, the size of the
+// torrent, its number, the room. The files are sorted by the positions of their records, on the stack.
 use lists::form::RECORD;
 use lists::form::list_form;
 use numbers::Answer;
