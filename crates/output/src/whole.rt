@@ -40,7 +40,8 @@ pub fn put_info(
     requires { ⌜ Placed (now list) (now text) (now order)
         × (at + length (infoBytes plen (now name) (map (itemAt (now list) (now text)) (now order))) < 2 ^ 64) ⌝ }
     ensures { λ r. ⌜ Put (now (out .entry)) at
-        (infoBytes plen (now (name .entry)) (map (itemAt (now (list .entry)) (now (text .entry))) (now (order .entry)))) (now (out .exit)) r ⌝ }
+        (infoBytes plen (now (name .entry)) (map (itemAt (now (list .entry)) (now (text .entry))) (now (order .entry))))
+        (now (out .exit)) r ⌝ }
 {
     let tree = put_bytes(out, at, b"d4:infod9:file treed");
     let version = put_tree(out, tree, list, text, order);

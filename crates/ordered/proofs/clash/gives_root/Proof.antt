@@ -14,7 +14,9 @@ height-requires : tie.Need-height-requires
 height-requires c κs = search needs
 
 sub-k : tie.Need-sub-k
-sub-k c = layer-under _ _ (c .before .before .before .before .before .pre .0) (c .before .before .before .before .before .pre .1) _ _ _ (c .before .before .piece-layer .ensures) (c .before .block-count .ensures) (c .height .ensures)
+sub-k c =
+    layer-under _ _ (c .before .before .before .before .before .pre .0) (c .before .before .before .before .before .pre .1) _ _ _
+    (c .before .before .piece-layer .ensures) (c .before .block-count .ensures) (c .height .ensures)
 
 layer-node-requires : tie.Need-layer-node-requires
 layer-node-requires c κs = search needs
@@ -26,7 +28,11 @@ same-requires : tie.Need-same-requires
 same-requires c κs = search needs
 
 returns : tie.Need-returns
-returns c = root-worked _ _ _ _ _ _ _ _ _ _ (c .before .before .before .before .before .piece-layer .ensures) (c .before .before .before .before .block-count .ensures) (c .before .before .before .height .ensures) (c .before .before .layer-node .ensures) (c .before .before .before .before .before .before .before .before .pre .2) (c .before .hash-at .ensures) (c .same .ensures)
+returns c =
+    root-worked _ _ _ _ _ _ _ _ _ _ (c .before .before .before .before .before .piece-layer .ensures)
+    (c .before .before .before .before .block-count .ensures) (c .before .before .before .height .ensures)
+    (c .before .before .layer-node .ensures) (c .before .before .before .before .before .before .before .before .pre .2)
+    (c .before .hash-at .ensures) (c .same .ensures)
 
 pub gives-root-spec : {M : Type 1} → statement M
 gives-root-spec =
