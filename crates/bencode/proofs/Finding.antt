@@ -17,11 +17,12 @@ use Rattle.bencode.specs.Walk.{walkValue}
 use Rattle.bencode.specs.Parts.{isDictionary, entryTo, entryWith, readEntry, findIn, findKey}
 use Rattle.bencode.specs.EndsLaws.{drop-further, string-ends}
 use Rattle.bencode.specs.PartsLaws.{entry-ends}
-use Rattle.bencode.proofs.Reading.{drop-end, drop-step}
+use Rattle.bencode.proofs.Reading.{drop-end}
 use Rattle.bencode.specs.declared.scalar.ByteString.the-variants.{Content, NoString}
 use Rattle.bencode.specs.declared.walk.Walked.{Walked}
 use Rattle.bencode.specs.declared.parts.Found.the-variants.{Part, Missing}
 use Rattle.bencode.specs.declared.parts.Entry.the-variants.{Keyed, NoEntry}
+use Rattle.octets.specs.OctetsLaws.{drop-step}
 
 module _ (s : List ℕ) (i : ℕ) where
   pub dictionary-none : length s ≤ i → isDictionary (drop i s) ≡ false
@@ -59,10 +60,6 @@ module _ (s : List ℕ) (i : ℕ) where
 -- the search that began at the dictionary at a has come to i
 abbrev pub FindAt : List ℕ → List ℕ → ℕ → ℕ → Type 0
 FindAt key s a i = (steps : ℕ) × (length s < i + steps) × (findKey key a (drop a s) ≡ findIn key steps i (drop i s))
-
-pub find-no-dictionary : (key s : List ℕ) (a : ℕ) → isDictionary (drop a s) ≡ false → findKey key a (drop a s) ≡ Missing
-unfolding findKey
-find-no-dictionary key s a e = rw e
 
 pub find-start : (key s : List ℕ) (a : ℕ) → isDictionary (drop a s) ≡ true → FindAt key s a (a + 1)
 unfolding findKey

@@ -4,10 +4,8 @@ use mathlib.Core.Path.{_≡_, refl, sym, ap, _∙_}
 use mathlib.Core.Bool.{Bool, true, false, cond}
 use mathlib.Core.List.{List, [], _∷_}
 use Prim.Native.Nat.{ℕ, _+_, _-_, _*_, _^_, _≤_, _<_}
-use native.Mathlib.Numerals.{add-one}
 use native.Mathlib.Omega.{arith}
 use lib.ListN.{length, getD, drop, take, length-drop, drop-of-length-le}
-use lib.Seq.{drop-cons}
 use lib.Dec.{leb, ltb, eqb}
 use borrow.Author.Tests.{lt-leb, le-leb, leb-false, eq-eqb, ne-eqb, eqb-true, eqb-false, lt-ltb, le-ltb}
 use Rattle.octets.specs.Octets.{same, cut}
@@ -19,12 +17,10 @@ use Rattle.bencode.specs.declared.decimal.Number.{Number}
 use Rattle.bencode.specs.declared.decimal.Number.the-variants.{Is, NoNumber}
 use Rattle.bencode.specs.declared.scalar.ByteString.the-variants.{Content, NoString}
 use Rattle.bencode.specs.declared.scalar.Integer.the-variants.{NoInteger}
+use Rattle.octets.specs.OctetsLaws.{drop-step}
 
 pub drop-end : (s : List ℕ) (i : ℕ) → length s ≤ i → drop i s ≡ []
 drop-end s i h = drop-of-length-le s {i = i} h
-
-pub drop-step : (s : List ℕ) (i : ℕ) → i < length s → drop i s ≡ getD s i 0 ∷ drop (i + 1) s
-drop-step s i h = rw (add-one, drop-cons s i 0)
 
 -- ---- numbers
 

@@ -17,11 +17,12 @@ use Rattle.bencode.specs.Walk.{pastInteger, pastString, onward, withKey,
 use Rattle.numbers.specs.Numbers.{notStrict}
 use Rattle.bencode.specs.Strict.{wholeWalk, strictness}
 use Rattle.bencode.specs.EndsLaws.{drop-further, string-ends, value-ends}
-use Rattle.bencode.proofs.Reading.{drop-end, drop-step}
+use Rattle.bencode.proofs.Reading.{drop-end}
 use Rattle.bencode.specs.declared.scalar.ByteString.{ByteString}
 use Rattle.bencode.specs.declared.scalar.ByteString.the-variants.{Content, NoString}
 use Rattle.bencode.specs.declared.walk.Walked.{Walked}
 use Rattle.bencode.specs.declared.walk.Walked.the-variants.{Past, Broken, TooDeep}
+use Rattle.octets.specs.OctetsLaws.{drop-step}
 
 -- ---- one byte
 

@@ -72,6 +72,10 @@ first-digit (suc f) n h =
 pub decimal-first : (n : ℕ) → BeginsWithDigit (decimal n) n
 decimal-first n = first-digit (suc n) n (omega arith)
 
+pub decimal-some : (n : ℕ) → 0 < length (decimal n)
+unfolding BeginsWithDigit
+decimal-some n = let w = decimal-first n in omega (arith, ap length (w .2))
+
 module _ (stop : ℕ) (big : digitNine < stop) (at : ℕ) (r : List ℕ) where
   zero-read : (n : ℕ) → n ≡ 0 → readNumber stop at (decimal n ++ stop ∷ r) ≡ Is n (at + length (decimal n) + 1)
   unfolding decimalIn readNumber readZero
@@ -182,6 +186,10 @@ list-bytes vs = refl
 pub dictionary-bytes : (es : Entries) → encode (dictionary es) ≡ letterD ∷ encodeEntries es
 unfolding encode
 dictionary-bytes es = refl
+
+pub dictionary-length : (es : Entries) → length (encode (dictionary es)) ≡ suc (length (encodeEntries es))
+unfolding encode
+dictionary-length es = refl
 
 -- ---- a value's first byte
 

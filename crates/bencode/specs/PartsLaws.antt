@@ -103,8 +103,17 @@ find-ends key at s a b e = by-first (isDictionary (drop at s)) e
 -- ---- a value's part
 
 -- behind the bytes p
-after-part : (s : List ℕ) (at : ℕ) (p q : List ℕ) → drop at s ≡ p ++ q → drop (at + length p) s ≡ q
+pub after-part : (s : List ℕ) (at : ℕ) (p q : List ℕ) → drop at s ≡ p ++ q → drop (at + length p) s ≡ q
 after-part s at p q e = sym (drop-drop (length p) at s) ∙ ap (λ (l : List ℕ). drop (length p) l) e ∙ drop-append-seam p q
+
+-- nothing is found in what is no dictionary
+pub find-no-dictionary : (key s : List ℕ) (at : ℕ) → isDictionary (drop at s) ≡ false → findKey key at (drop at s) ≡ Missing
+unfolding findKey
+find-no-dictionary key s at e = rw e
+
+-- one string under a key
+pub one-string : (a b : List ℕ) → present (string a) ≡ present (string b) → a ≡ b
+one-string a b e = cc
 
 -- the bytes p themselves
 part-bytes : (s : List ℕ) (at n : ℕ) (p q : List ℕ) → n ≡ length p → drop at s ≡ p ++ q → cut s at n ≡ p

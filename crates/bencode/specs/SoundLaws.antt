@@ -359,7 +359,7 @@ no-entries : encodeEntries noEntries ≡ letterE ∷ []
 unfolding encode
 no-entries = refl
 
-no-entries-valid : (j : KeyBefore) (l : ℕ) → EntriesValid noEntries j l
+pub no-entries-valid : (j : KeyBefore) (l : ℕ) → EntriesValid noEntries j l
 unfolding Valid
 no-entries-valid j l = tt
 

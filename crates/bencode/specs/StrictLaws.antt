@@ -8,7 +8,6 @@ use mathlib.Core.List.{List, [], _∷_, _++_, append-assoc, append-nil}
 use Prim.Native.Nat.{ℕ, zero, suc, _+_, _<_}
 use native.Mathlib.Omega.{arith}
 use lib.ListN.{length, drop, getD, length-append, List·getD-append}
-use lib.Seq.{drop-append-seam}
 use lib.Dec.{eqb}
 use borrow.Author.Tests.{eq-eqb, eqb-true}
 use Rattle.octets.specs.Octets.{Octets}
@@ -20,7 +19,7 @@ use Rattle.numbers.specs.Numbers.{notStrict, nestedTooDeeply}
 use Rattle.bencode.specs.Strict.{Encoded, CanGoOn, TooDeepFirst, wholeWalk, strictness}
 use Rattle.bencode.specs.CompleteLaws.{complete, dictionary-bytes}
 use Rattle.bencode.specs.SoundLaws.{sound}
-use Rattle.bencode.specs.UniqueLaws.{not-a-string, other-letter, first-same}
+use Rattle.bencode.specs.UniqueLaws.{not-a-string, other-letter, first-same, behind-same}
 use Rattle.bencode.specs.DepthLaws.{Stem, inList, inDictionary, begun, StemValid, Opening, OpensTooDeep, deep-complete, deep-sound, fits-or-opens, filled, entriesThen, closing, filled-bytes, filled-valid, filled-deeper}
 use Rattle.bencode.specs.declared.walk.Walked.{Walked}
 use Rattle.bencode.specs.declared.walk.Walked.the-variants.{Past, Broken, TooDeep}
@@ -221,10 +220,6 @@ bytes-front : (a b : List ℕ) → Octets (length (a ++ b)) (a ++ b) → Octets 
 bytes-front a b p =
     record { size = refl; bytes = λ i h. let w : getD (a ++ b) i 0 < 256 = p .bytes i (omega (arith, length-append a b)) in rw (List·getD-append a b 0 i h) at w }
 
--- behind the same front
-same-behind : (p x y : List ℕ) → p ++ x ≡ p ++ y → x ≡ y
-same-behind p x y e = sym (drop-append-seam p x) ∙ ap (λ (l : List ℕ). drop (length p) l) e ∙ drop-append-seam p y
-
 -- the bytes of a stem and an opening byte are too deep, whatever stands behind
 stem-whole : (st : Stem maxLevels) (s cs x y : List ℕ) (c : ℕ) → letterD ∷ cs ≡ begun st ++ x → s ≡ begun st ++ c ∷ y → StemValid st → Opening c → strictness s ≡ nestedTooDeeply
 stem-whole st s cs x y c e f h o =
@@ -251,7 +246,7 @@ deep-where s t =
         → Octets (length u) u
     between-bytes st c r q b both u f =
         let e : t .begun ++ t .byte ∷ q ≡ t .begun ++ t .byte ∷ (u ++ c ∷ r) = both ∙ ap (λ (l : List ℕ). l ++ c ∷ r) f ∙ append-assoc (t .begun) (t .byte ∷ u) (c ∷ r) in
-        let g : q ≡ u ++ c ∷ r = ap (λ (l : List ℕ). drop 1 l) (same-behind (t .begun) (t .byte ∷ q) (t .byte ∷ (u ++ c ∷ r)) e) in
+        let g : q ≡ u ++ c ∷ r = ap (λ (l : List ℕ). drop 1 l) (behind-same (t .begun) (t .byte ∷ q) (t .byte ∷ (u ++ c ∷ r)) e) in
         bytes-front u (c ∷ r) (rw g at b)
 
     at-the-stem : (es : Entries) (q : List ℕ) → Octets (length q) q → (t .begun ++ t .byte ∷ []) ++ q ≡ encode (dictionary es)

@@ -16,7 +16,7 @@ use Rattle.bencode.specs.declared.walk.Walked.the-variants.{Past, Broken
 
 -- ---- lists
 
-behind-same : (a r q : List ℕ) → a ++ r ≡ a ++ q → r ≡ q
+pub behind-same : (a r q : List ℕ) → a ++ r ≡ a ++ q → r ≡ q
 behind-same a r q e = sym (drop-append-seam a r) ∙ ap (λ (l : List ℕ). drop (length a) l) e ∙ drop-append-seam a q
 
 same-size : (a b r q : List ℕ) → length a ≡ length b → a ++ r ≡ b ++ q → (a ≡ b) × (r ≡ q)

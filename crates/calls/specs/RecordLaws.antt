@@ -15,14 +15,14 @@ use Rattle.octets.specs.OctetsLaws.{cut-cut, cut-pasted-same, cut-append-left, 
 use Rattle.limits.specs.Limits.{largestTorrent, maxLevels}
 use Rattle.numbers.specs.Numbers.{noRoom}
 use Rattle.tree.specs.Geometry.{pieceCount, ceilDiv}
-use Rattle.tree.specs.GeometryLaws.{ceil-enough}
-use Rattle.bencode.specs.Grammar.{string, dictionary, Entries, encode, Valid}
-use Rattle.bencode.specs.Parts.{present}
+use Rattle.tree.specs.GeometryLaws.{ceil-enough, piece-some}
+use Rattle.bencode.specs.Grammar.{dictionary, Entries, encode, Valid}
 use Rattle.bencode.specs.declared.scalar.ByteString.{ByteString}
+use Rattle.bencode.specs.PartsLaws.{one-string}
 use Rattle.meaning.specs.Nth.{Nth}
 use Rattle.meaning.specs.NthLaws.{nth-some}
 use Rattle.meaning.specs.Torrent.{File, treeOf, plenOf, filesOf}
-use Rattle.meaning.specs.TestsLaws.{piece-some, tree-no}
+use Rattle.meaning.specs.TestsLaws.{tree-no}
 use Rattle.meaning.specs.AmissLaws.{right-piece, right-tree, all-layers}
 use Rattle.meaning.specs.FilesLaws.{FileHolds, AllHold, nth-holds, nth-right, element-full, files-hold}
 use Rattle.metainfo.specs.Metainfo.{bytesIn, keysOf}
@@ -256,9 +256,6 @@ layer-full n plen h g = by-count (ceilDiv n plen) refl
     by-count : (c : ℕ) → ceilDiv n plen ≡ c → 0 < 32 * ceilDiv n plen
     by-count zero q = let w = ceil-enough n plen 0 h (omega arith) in absurd (omega arith)
     by-count (suc c) q = omega arith
-
-one-string : (a b : List ℕ) → present (string a) ≡ present (string b) → a ≡ b
-one-string a b e = cc
 
 module _ (s out : List ℕ) (answered : listAnswer s out .number ≡ 0) (es : Entries) (start : s ≡ encode (dictionary es)) (valid : Valid (dictionary es) maxLevels) (small : length s ≤ largestTorrent) where
   is-done : Done s out

@@ -1,25 +1,24 @@
 -- A record is written part behind part: what is put right behind what was put is both put at once.
 -- Assumes nothing.
 use mathlib.Core.Path.{_≡_, refl, sym, ap, _∙_}
-use mathlib.Core.Bool.{Bool, true, false, cond}
-use mathlib.Core.List.{List, [], _∷_, _++_}
-use Prim.Native.Nat.{ℕ, zero, suc, _+_, _-_, _*_, _≤_, _<_}
+use mathlib.Core.Bool.{true, false}
+use mathlib.Core.List.{List, _++_}
+use Prim.Native.Nat.{ℕ, suc, _+_, _-_, _*_, _≤_, _<_}
 use native.Mathlib.Omega.{arith}
 use native.Mathlib.Numerals.{add-one}
 use lib.ListN.{length, take, drop, getD, length-append}
 use borrow.Author.Tests.{lt-ltb, le-ltb}
 use Rattle.limits.specs.Limits.{largestTorrent}
 use Rattle.octets.specs.Octets.{cut, be, pasted}
-use Rattle.octets.specs.OctetsLaws.{be-octets, pasted-length, pasted-append}
+use Rattle.octets.specs.OctetsLaws.{be-octets, pasted-length, pasted-append, pasted-none}
 use Rattle.tree.specs.Geometry.{hasLayer}
 use Rattle.bencode.specs.declared.scalar.ByteString.{ByteString}
 use Rattle.bencode.specs.declared.scalar.ByteString.the-variants.{Content, NoString}
 use Rattle.sorting.proofs.Telling.{part-is}
 use Rattle.filetree.specs.Tree.{maxElements}
-use Rattle.filetree.specs.CountLaws.{pasted-none}
 use Rattle.layers.specs.Layers.{Inside, layerAt, rootBytes, layerString, startOf, sizeOf}
 use Rattle.layers.proofs.Finding.{layer-inside}
-use Rattle.catalogue.specs.Catalogue.{partBytes, headBytes, recordSize}
+use Rattle.catalogue.specs.Catalogue.{partBytes, headBytes}
 use Rattle.catalogue.specs.Asks.{arrayElement, arrayElements, recordFrom, RecordRight, Forward}
 use Rattle.catalogue.specs.CatalogueLaws.{part-length, array-element-length, array-length, head-length, root-length}
 use Rattle.catalogue.specs.declared.record.Record.{Record}

@@ -10,12 +10,11 @@ use lib.ListN.{length, getD, set, length-append, length-set}
 use lib.Seq.{getD-set-same, getD-set-other}
 use Rattle.limits.specs.Limits.{largestTorrent}
 use Rattle.octets.specs.Octets.{pasted}
-use Rattle.octets.specs.OctetsLaws.{pasted-append}
+use Rattle.octets.specs.OctetsLaws.{pasted-append, pasted-none}
 use Rattle.filetree.specs.Token.{tokenAt}
 use Rattle.filetree.specs.TokenLaws.{leaf-ends, opened-ends}
 use Rattle.filetree.specs.Tree.{maxElements, Element, Listed, listedAs, down, Files, wrong, files, filesFrom, filesBelow, filesIn, right, listed}
 use Rattle.filetree.specs.TreeLaws.{tree-below, Passed, passed-none, passed-bad, passed-end, passed-closed, passed-file, passed-wrong, passed-directory}
-use Rattle.filetree.specs.CountLaws.{pasted-none}
 use Rattle.filetree.specs.Path.{setElement, flat, Holds}
 use Rattle.filetree.specs.PathLaws.{holds-length, holds-down, holds-still, set-length}
 use Rattle.layers.specs.JudgeLaws.{tree-some}

@@ -11,7 +11,7 @@ use lib.Dec.{eqb, leb}
 use borrow.Author.Tests.{eq-eqb, ne-eqb, le-leb, lt-leb}
 use Rattle.meaning.specs.Keys.{keyLength, keyPiecesRoot}
 use Rattle.octets.specs.Octets.{cut, same}
-use Rattle.octets.specs.OctetsLaws.{cut-length, same-ne}
+use Rattle.octets.specs.OctetsLaws.{cut-length, same-ne, drop-step}
 use Rattle.limits.specs.Limits.{longestFile, maxLevels}
 use Rattle.bencode.specs.Grammar.{letterE, letterD}
 use Rattle.bencode.specs.Scalar.{readInteger, readString}
@@ -26,7 +26,7 @@ use Rattle.bencode.specs.declared.walk.Walked.{Walked}
 use Rattle.bencode.specs.declared.walk.Walked.the-variants.{Past, Broken, TooDeep}
 use Rattle.bencode.specs.declared.parts.Found.{Found}
 use Rattle.bencode.specs.declared.parts.Found.the-variants.{Part, Missing}
-use Rattle.bencode.proofs.Reading.{drop-end, drop-step}
+use Rattle.bencode.proofs.Reading.{drop-end}
 use Rattle.filetree.specs.File.{lengthOf, rootOf, lengthIn, rootIn, fileLength, fileRoot, emptyFile, fullFile, withLength, fileAt}
 use Rattle.meaning.specs.Torrent.{without, dot, dots, slash, elementRight}
 use Rattle.filetree.specs.Token.{endsHere, behindFile, pastFile, withFile, fileToken, firstKey, nodeToken, keyToken, tokenAt}

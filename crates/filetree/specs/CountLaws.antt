@@ -6,13 +6,13 @@ use mathlib.Core.List.{List, [], _∷_, _++_, append-assoc, append-nil}
 use Prim.Native.Nat.{ℕ, _+_, _-_, _*_, _^_, _≤_, _<_}
 use native.Mathlib.Omega.{arith}
 use native.Mathlib.Numerals.{add-one}
-use lib.ListN.{length, take, drop, set, length-append, length-set, take-append-drop}
+use lib.ListN.{length, take, drop, set, length-append, length-set}
 use lib.Seq.{set-split}
 use lib.Dec.{eqb}
 use borrow.Author.Tests.{eqb-true, eqb-false, eq-eqb, ne-eqb}
 use Rattle.limits.specs.Limits.{largestTorrent}
 use Rattle.octets.specs.Octets.{pasted}
-use Rattle.octets.specs.OctetsLaws.{pasted-append, pasted-length}
+use Rattle.octets.specs.OctetsLaws.{pasted-append, pasted-length, pasted-none}
 use Rattle.filetree.specs.Token.{endsHere, tokenAt}
 use Rattle.filetree.specs.TokenLaws.{leaf-ends}
 use Rattle.filetree.specs.Tree.{maxElements, Element, Listed, listedAs, down, Files, wrong, files, filesBelow, filesIn, right, listed, rootsOf}
@@ -64,10 +64,6 @@ one-file c f =
 set-pasted : (s : List ℕ) (k x : ℕ) → k < length s → set s k x ≡ pasted s k (x ∷ [])
 unfolding pasted
 set-pasted s k x h = set-split s k x h ∙ ap (λ (j : ℕ). take k s ++ x ∷ drop j s) (sym (add-one k)) ∙ sym (append-assoc (take k s) (x ∷ []) (drop (k + 1) s))
-
-pub pasted-none : (s : List ℕ) (k : ℕ) → pasted s k [] ≡ s
-unfolding pasted
-pasted-none s k = let e : k + 0 ≡ k = omega arith in rw e (ap (λ (z : List ℕ). z ++ drop k s) (append-nil (take k s)) ∙ take-append-drop k s)
 
 -- others behind them
 kept-more : (roots₀ roots xs ys : List ℕ) (b m : ℕ) → roots ≡ pasted roots₀ b xs → m ≡ b + length xs → m + length ys ≤ length roots₀ → pasted roots m ys ≡ pasted roots₀ b (xs ++ ys)

@@ -3,7 +3,7 @@
 use mathlib.Core.Path.{_≡_, refl, sym, ap, _∙_}
 use mathlib.Core.Bool.{Bool, true, false, cond, false≢true}
 use mathlib.Core.List.{List, [], _∷_, _++_}
-use Prim.Native.Nat.{ℕ, zero, suc, _+_, _-_, _≤_, _<_}
+use Prim.Native.Nat.{ℕ, zero, suc, _+_, _-_, _≤_}
 use native.Mathlib.Omega.{arith}
 use lib.ListN.{length, drop, length-append}
 use lib.Dec.{eqb, leb}
@@ -17,7 +17,7 @@ use Rattle.bencode.specs.Scalar.{readString, readInteger}
 use Rattle.bencode.specs.Walk.{walkValue}
 use Rattle.bencode.specs.Parts.{isDictionary, findKey, Lookup, absent, present, lookup, FoundIs}
 use Rattle.bencode.specs.EndsLaws.{string-ends, value-ends}
-use Rattle.bencode.specs.CompleteLaws.{BeginsWithDigit, decimal-first, string-some, value-some, dictionary-bytes, contentStart}
+use Rattle.bencode.specs.CompleteLaws.{string-some, value-some, dictionary-bytes, contentStart, decimal-some}
 use Rattle.bencode.specs.SoundLaws.{sound}
 use Rattle.bencode.specs.PartsLaws.{part-front, find-is, find-ends, string-is, stringOf, dictionary-is, isDictionaryValue, entries-length}
 use Rattle.bencode.specs.declared.scalar.ByteString.{ByteString}
@@ -169,10 +169,6 @@ file-small s at n r e = by-zero n refl
     by-zero (suc m) q = let f = full-file s at n r e (λ z. omega arith) in length-small (readInteger (f .lengthFrom) (drop (f .lengthFrom) s)) n (f .length-is)
 
 -- ---- what it takes
-
-decimal-some : (n : ℕ) → 0 < length (decimal n)
-unfolding BeginsWithDigit
-decimal-some n = let w = decimal-first n in omega (arith, ap length (w .2))
 
 -- the encoding of a string of 32 bytes takes more
 root-size : (v : Value) (at r : ℕ) → stringOf at v ≡ Content r (r + 32) → 34 ≤ length (encode v)

@@ -4,7 +4,7 @@ use mathlib.Core.Path.{_≡_, refl, ap, ap₂, sym, _∙_}
 use mathlib.Core.Bool.{Bool, true, false, cond, _&&_}
 use mathlib.Core.List.{List, [], _∷_, _++_}
 use Prim.Native.Nat.{ℕ, zero, suc, _+_, _-_, _*_, _/_, _%_, _^_, _≤_, _<_}
-use native.Mathlib.Nat.{mul-assoc, mul-comm, zero-mul, div-add-mod', pow-succ', one-le-mul, pow-suc, div-div-eq-div-mul, mod-eq-of-lt}
+use native.Mathlib.Nat.{mul-assoc, mul-comm, zero-mul, div-add-mod', pow-succ', pow-suc, div-div-eq-div-mul, mod-eq-of-lt}
 use native.Mathlib.Omega.{arith}
 use lib.ListN.{length, take, drop, take-append-drop}
 use lib.Seq.{drop-drop}
@@ -130,11 +130,6 @@ noted-part y (z ∷ ys) s layer good l =
 
 -- ---- a piece that is run past
 
-pub some-pieces : (plen : ℕ) → isPieceLength plen ≡ true → 0 < plen
-some-pieces plen good =
-    let w : 0 < blockLength * 2 ^ pieceLayer plen = one-le-mul (omega arith) (pow-pos (pieceLayer plen)) in
-    omega (arith, piece-length-form plen good .1)
-
 -- each layer that may be the piece layer has its node
 pub piece-layer-below : (plen : ℕ) → isPieceLength plen ≡ true → pieceLayer plen < nodeCount
 piece-layer-below plen good = omega (arith, piece-length-form plen good .0)
@@ -244,10 +239,6 @@ above-more nodes leaf left child pad up i j l ec ep ej el eu =
     let s : l + 1 ≡ suc l = omega arith in
     eu ∙ rw (s, ← ec, ← ep, ← ej, ← el)
 
-pub pad-more : (pad wider : List ℕ) (l : ℕ) → pad ≡ padValue l → wider ≡ pairHash pad pad → wider ≡ padValue (l + 1)
-unfolding padValue
-pad-more pad wider l e w = let s : l + 1 ≡ suc l = omega arith in w ∙ rw (s, ← e)
-
 pub half-more : (i j l : ℕ) → j ≡ i / 2 ^ l → j / 2 ≡ i / 2 ^ (l + 1)
 half-more i j l e = let s : l + 1 ≡ suc l = omega arith in rw (s, e, pow-suc) (div-div-eq-div-mul i (2 ^ l) 2)
 
@@ -279,10 +270,6 @@ pub last-open : (s : History) (hash leaf : List ℕ) (k size : ℕ) → size ≡
 unfolding lastNode openNode
 last-open s hash leaf k size z n e h =
     rw (ne-eqb (s .length % (blockLength * 2 ^ k)) 0 (rw z at n)) (h ∙ ap (λ (l : List ℕ). openAbove (s .nodes) l (s .length / blockLength) k) e)
-
-pub root-none : (s : History) → s .length ≡ 0 → zeroHash ≡ rootOf s
-unfolding rootOf
-root-none s e = rw (eq-eqb (s .length) 0 e)
 
 pub root-some : (s : History) (hash : List ℕ) (b k : ℕ) → (s .length ≡ 0 → ⊥) → b ≡ blockCount (s .length) → k ≡ height b → hash ≡ lastNode s k → hash ≡ rootOf s
 unfolding rootOf

@@ -283,7 +283,7 @@ asked-written plen x layer good short w = by-room (decLe (layerBytes (length x) 
 
 -- ---- the empty file
 
-root-zero : (s : History) → s .length ≡ 0 → zeroHash ≡ rootOf s
+pub root-zero : (s : History) → s .length ≡ 0 → zeroHash ≡ rootOf s
 unfolding rootOf
 root-zero s e = rw (eq-eqb (s .length) 0 e)
 

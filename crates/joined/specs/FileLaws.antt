@@ -15,7 +15,7 @@ use Rattle.bencode.specs.Grammar.{colon, Value, integer, string, list, dictiona
 use Rattle.bencode.specs.Scalar.{readString, readInteger}
 use Rattle.bencode.specs.Parts.{isDictionary, findKey, Lookup, absent, present, lookup, FoundIs}
 use Rattle.bencode.specs.CompleteLaws.{contentStart}
-use Rattle.bencode.specs.PartsLaws.{part-front, find-is, integer-is, integerOf, string-is, stringOf, content-is, dictionary-is, lookup-valid}
+use Rattle.bencode.specs.PartsLaws.{part-front, find-is, integer-is, integerOf, string-is, stringOf, content-is, dictionary-is, lookup-valid, find-no-dictionary}
 use Rattle.bencode.specs.declared.parts.Found.{Found}
 use Rattle.bencode.specs.declared.parts.Found.the-variants.{Part, Missing}
 use Rattle.filetree.specs.File.{lengthOf, rootOf, lengthIn, rootIn, fileLength, fileRoot, emptyFile, fullFile, withLength, fileAt}
@@ -27,11 +27,6 @@ use Rattle.filetree.specs.declared.file.File.{File}
 use Rattle.filetree.specs.declared.file.File.the-variants.{Right, WrongFile}
 use Rattle.meaning.specs.Torrent.{entriesOf, isNatural, numberOf, rootRight, fileRight, rootString}
 use Rattle.filetree.specs.Reading.{rootRead}
-
--- no key is found in what is no dictionary
-pub find-none : (key s : List ℕ) (at : ℕ) → isDictionary (drop at s) ≡ false → findKey key at (drop at s) ≡ Missing
-unfolding findKey
-find-none key s at e = rw e refl
 
 -- an integer found at a position is the integer of the value
 pub integer-there : (s : List ℕ) (a b l : ℕ) (v : Value) → cut s a (b - a) ≡ encode v → Valid v l → readInteger a (drop a s) ≡ integerOf a v
@@ -142,6 +137,6 @@ file-is s at (dictionary es) r e h =
     (both-are s es (lengthIn s (findKey keyLength at (drop at s))) (findKey keyPiecesRoot at (drop at s))
     (length-is s (maxLevels - 1) (lookup keyLength es) (findKey keyLength at (drop at s)) (λ v q. lookup-valid keyLength es none (maxLevels - 1) v h q) (find-is keyLength s at es r e h))
     (find-is keyPiecesRoot s at es r e h))
-file-is s at (integer minus n) r e h = rw (find-none keyLength s at (ap isDictionary e ∙ dictionary-is (integer minus n) r)) refl
-file-is s at (string b) r e h = rw (find-none keyLength s at (ap isDictionary e ∙ dictionary-is (string b) r)) refl
-file-is s at (list vs) r e h = rw (find-none keyLength s at (ap isDictionary e ∙ dictionary-is (list vs) r)) refl
+file-is s at (integer minus n) r e h = rw (find-no-dictionary keyLength s at (ap isDictionary e ∙ dictionary-is (integer minus n) r)) refl
+file-is s at (string b) r e h = rw (find-no-dictionary keyLength s at (ap isDictionary e ∙ dictionary-is (string b) r)) refl
+file-is s at (list vs) r e h = rw (find-no-dictionary keyLength s at (ap isDictionary e ∙ dictionary-is (list vs) r)) refl

@@ -16,6 +16,7 @@ use Rattle.octets.specs.Octets.{same}
 use Rattle.octets.specs.OctetsLaws.{same-true, same-false}
 use Rattle.numbers.specs.Numbers.{layersAmiss, layerDiffers}
 use Rattle.tree.specs.Geometry.{hasLayer}
+use Rattle.tree.specs.GeometryLaws.{long-full}
 use Rattle.bencode.specs.Grammar.{dictionary, Entries, noEntries, entry, encode, precedes, KeyBefore, none, after, Valid, EntriesValid}
 use Rattle.bencode.specs.Parts.{present, lookup}
 use Rattle.sorting.specs.PrecedesLaws.{precedes-trans, precedes-differ}
@@ -26,7 +27,7 @@ use Rattle.meaning.specs.Torrent.{File, layerFits, layersFit, someLonger, noOth
 use Rattle.meaning.specs.FilesLaws.{AllHold}
 use Rattle.meaning.specs.Counting.{Member, Distinct, Contained, contained-fewer, contained-all}
 use Rattle.twins.specs.Twins.{longRoots, onceEach, layerCount}
-use Rattle.twins.specs.TwinsLaws.{long-full, once-in, once-all, once-distinct}
+use Rattle.twins.specs.TwinsLaws.{once-in, once-all, once-distinct}
 use Rattle.joined.specs.Alike.{AllAlike}
 use Rattle.joined.specs.LayersRead.{worst-number}
 

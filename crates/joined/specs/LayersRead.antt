@@ -13,6 +13,7 @@ use Rattle.limits.specs.Limits.{maxLevels}
 use Rattle.octets.specs.Octets.{cut, zeroHash}
 use Rattle.numbers.specs.Numbers.{layersAmiss, layerDiffers}
 use Rattle.tree.specs.Geometry.{hasLayer}
+use Rattle.tree.specs.GeometryLaws.{long-full}
 use Rattle.bencode.specs.Grammar.{colon, Value, integer, string, list, dictionary, Entries, decimal, encodeString, encode, Valid}
 use Rattle.bencode.specs.Scalar.{readString}
 use Rattle.bencode.specs.Parts.{findKey, Lookup, absent, present, lookup, FoundIs}
@@ -23,7 +24,6 @@ use Rattle.bencode.specs.declared.parts.Found.the-variants.{Part, Missing}
 use Rattle.filetree.specs.Tree.{Listed}
 use Rattle.layers.specs.Layers.{stringIn, layerAt, ofLayer, numberByLayer, lower, worst}
 use Rattle.meaning.specs.Torrent.{File, layerFits, layersFit, layerBytes, givesRoot, layersGiveRoots}
-use Rattle.twins.specs.TwinsLaws.{long-full}
 use Rattle.joined.specs.Alike.{Alike, AllAlike}
 
 -- a file that is not empty has its root in the bytes

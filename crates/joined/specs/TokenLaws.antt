@@ -1,12 +1,11 @@
 -- What stands next in an open directory, by the value of the entry there.
 -- Assumes nothing.
-use mathlib.Core.Path.{_≡_, refl, sym, ap, _∙_}
+use mathlib.Core.Path.{_≡_, refl, ap, _∙_}
 use mathlib.Core.Bool.{false, cond}
 use mathlib.Core.List.{List, [], _∷_, _++_, append-assoc}
 use Prim.Native.Nat.{ℕ, _+_}
 use native.Mathlib.Omega.{arith}
 use lib.ListN.{length, drop, length-append}
-use lib.Seq.{drop-drop, drop-append-seam}
 use borrow.Author.Tests.{eq-eqb, ne-eqb}
 use Rattle.limits.specs.Limits.{maxLevels}
 use Rattle.bencode.specs.Grammar.{colon, letterD, letterE, Value, dictionary, Entries, noEntries, entry, decimal, encodeString, encode, encodeEntries, Valid}
@@ -14,20 +13,16 @@ use Rattle.bencode.specs.Scalar.{readString}
 use Rattle.bencode.specs.Walk.{walkValue}
 use Rattle.bencode.specs.Parts.{isDictionary}
 use Rattle.bencode.specs.CompleteLaws.{BeginsWithDigit, decimal-first, contentStart, string-read, dictionary-bytes, complete}
-use Rattle.bencode.specs.PartsLaws.{valueStart, dictionary-is, content-is}
+use Rattle.bencode.specs.PartsLaws.{valueStart, dictionary-is, content-is, after-part}
 use Rattle.filetree.specs.File.{fileAt}
 use Rattle.filetree.specs.Token.{endsHere, pastFile, fileToken, firstKey, nodeToken, tokenAt}
 use Rattle.filetree.specs.declared.file.File.the-variants.{Right, WrongFile}
 use Rattle.filetree.specs.declared.token.Token.the-variants.{Opened, Closed, Leaf, BadToken}
 use Rattle.meaning.specs.Torrent.{elementRight, noMore}
 
--- behind the bytes p
-pub after-bytes : (s : List ℕ) (at : ℕ) (p q : List ℕ) → drop at s ≡ p ++ q → drop (at + length p) s ≡ q
-after-bytes s at p q e = sym (drop-drop (length p) at s) ∙ ap (λ (l : List ℕ). drop (length p) l) e ∙ drop-append-seam p q
-
 -- a dictionary's entries stand behind its first byte
 pub entries-there : (s : List ℕ) (at : ℕ) (es : Entries) (r : List ℕ) → drop at s ≡ encode (dictionary es) ++ r → drop (at + 1) s ≡ encodeEntries es ++ r
-entries-there s at es r e = after-bytes s at (letterD ∷ []) (encodeEntries es ++ r) (e ∙ ap (λ (l : List ℕ). l ++ r) (dictionary-bytes es))
+entries-there s at es r e = after-part s at (letterD ∷ []) (encodeEntries es ++ r) (e ∙ ap (λ (l : List ℕ). l ++ r) (dictionary-bytes es))
 
 -- an entry is its key, its value, and the other entries
 pub entry-bytes : (k : List ℕ) (v : Value) (es : Entries) (r : List ℕ) → encodeEntries (entry k v es) ++ r ≡ encodeString k ++ (encode v ++ (encodeEntries es ++ r))
@@ -104,5 +99,5 @@ pub file-right : (s : List ℕ) (a b at n r : ℕ) (w : Value) (es : Entries) (q
 unfolding fileToken pastFile
 file-right s a b at n r w es q e d h =
     let walked : walkValue maxLevels at (drop at s) ≡ _ = ap (walkValue maxLevels at) d ∙ complete w maxLevels at (encodeEntries es ++ q) h in
-    let behind : endsHere (drop (at + length (encode w)) s) ≡ noMore es = ap endsHere (after-bytes s at (encode w) (encodeEntries es ++ q) d) ∙ ends-is es q in
+    let behind : endsHere (drop (at + length (encode w)) s) ≡ noMore es = ap endsHere (after-part s at (encode w) (encodeEntries es ++ q) d) ∙ ends-is es q in
     rw e (rw walked (rw behind refl))

@@ -13,7 +13,7 @@ use Rattle.bencode.specs.Grammar.{colon, Value, integer, string, list, dictiona
 use Rattle.bencode.specs.Parts.{isDictionary, present}
 use Rattle.bencode.specs.CompleteLaws.{contentStart, string-some, dictionary-bytes}
 use Rattle.bencode.specs.DepthLaws.{more-levels}
-use Rattle.bencode.specs.PartsLaws.{valueStart, content-is, dictionary-is, isDictionaryValue, entries-length, entries-some}
+use Rattle.bencode.specs.PartsLaws.{valueStart, content-is, dictionary-is, isDictionaryValue, entries-length, entries-some, after-part}
 use Rattle.filetree.specs.File.{fileAt}
 use Rattle.filetree.specs.Token.{endsHere, nodeToken, fileToken, tokenAt}
 use Rattle.filetree.specs.Tree.{maxElements, Element, Listed, Files, wrong, files, down, listedAs, after, onward, onToken, filesFrom, filesBelow, filesIn, right, listed}
@@ -23,7 +23,7 @@ use Rattle.filetree.specs.declared.token.Token.the-variants.{Leaf, BadToken}
 use Rattle.meaning.specs.Torrent.{File, entriesOf, fileRight, elementRight, noMore, nodeRight, branchRight, nodesRight, treeRight, filesOfNode, filesOfEntries, fileValue}
 use Rattle.filetree.specs.Reading.{element, elements, readFile, readFiles}
 use Rattle.joined.specs.FileLaws.{FileAgrees, file-is}
-use Rattle.joined.specs.TokenLaws.{after-bytes, entries-there, entry-bytes, ends-is, token-end, key-token, node-other, node-empty, node-opened, node-file, file-wrong, file-right}
+use Rattle.joined.specs.TokenLaws.{entries-there, entry-bytes, ends-is, token-end, key-token, node-other, node-empty, node-opened, node-file, file-wrong, file-right}
 
 -- ---- files and paths as they are read
 
@@ -123,7 +123,7 @@ node-at : (t : List ℕ) (at : ℕ) (k : List ℕ) (v : Value) (q : List ℕ) �
 node-at t at k v q r e =
     record {
       token = key-token t at k (encode v ++ q) e ∙ rw r refl;
-      value = after-bytes t at (encodeString k) (encode v ++ q) e;
+      value = after-part t at (encodeString k) (encode v ++ q) e;
       key = content-is t k (encode v ++ q) at e;
     }
 
@@ -170,7 +170,7 @@ module _ (t : List ℕ) (sub : ℕ → List Element → Files) (go : ℕ → Fil
       first = entries-there t b (entry [] w es) q (n .value) ∙ entry-bytes [] w es q
 
       there : drop y t ≡ encode w ++ (encodeEntries es ++ q)
-      there = after-bytes t (b + 1) (encodeString []) (encode w ++ (encodeEntries es ++ q)) first
+      there = after-part t (b + 1) (encodeString []) (encode w ++ (encodeEntries es ++ q)) first
 
       token : tokenAt t at ≡ fileToken t a b y
       token = n .token ∙ node-file t a b q w es (n .value)
@@ -299,7 +299,7 @@ module _ (k : List ℕ) (v : Value) (es : Entries) (t : List ℕ) (l at : ℕ) (
       there = e ∙ entry-bytes k v es r
 
       behind : drop mid t ≡ encodeEntries es ++ r
-      behind = after-bytes t (valueStart at k) (encode v) (encodeEntries es ++ r) (after-bytes t at (encodeString k) (encode v ++ (encodeEntries es ++ r)) there)
+      behind = after-part t (valueStart at k) (encode v) (encodeEntries es ++ r) (after-part t at (encodeString k) (encode v ++ (encodeEntries es ++ r)) there)
 
       rest : Gives (nodesRight es) t (go mid) (at + length (encodeEntries (entry k v es))) (filesOfEntries (elements t path) es)
       rest = rw end-same at (m steps behind (omega (arith, entries-length k v es, string-some k)))

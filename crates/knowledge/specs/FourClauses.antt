@@ -11,7 +11,7 @@ use native.Mathlib.Nat.{pow-zero}
 use lib.Pow.{pow-pos}
 use Rattle.sha256.specs.Sha256.{pairHash}
 use Rattle.tree.specs.Geometry.{Padding, nodeNumber}
-use Rattle.tree.specs.GeometryLaws.{node-number-root, node-number-left, node-number-right, node-number-parent, node-number-covers}
+use Rattle.tree.specs.GeometryLaws.{node-number-root, node-number-left, node-number-right, node-number-parent, node-number-covers, layer-doubles}
 use Rattle.tree.specs.Values.{padValue}
 use Rattle.cells.specs.Cells.{heldAt, hashAt}
 use Rattle.cells.specs.EntriesLaws.{Hold}
@@ -22,7 +22,7 @@ use Rattle.settling.specs.PathLaws.{sibling-below, sibling-even, sibling-odd, p
 use Rattle.words.specs.Held.{Holds}
 use Rattle.words.specs.History.{OurStore}
 use Rattle.words.specs.FourClauses.{FourClauses}
-use Rattle.knowledge.specs.RightPadding.{doubles, sibling-number}
+use Rattle.knowledge.specs.RightPadding.{sibling-number}
 use Rattle.knowledge.specs.Again.{what-is-held, held-usable}
 use Rattle.knowledge.specs.ReadBack.{holds-at}
 use Rattle.knowledge.specs.Invariant.{Family, Ours, Pair, family-pair}
@@ -42,7 +42,7 @@ module _ (s : List ℕ) (o : Ours s) where
 
   below-root : (l i : ℕ) → l < heightOf s → i < 2 ^ (heightOf s - l) → 2 ≤ nodeNumber (heightOf s) l i
   unfolding nodeNumber
-  below-root l i a b = omega (arith, doubles (heightOf s) l a, pow-pos (heightOf s - suc l))
+  below-root l i a b = omega (arith, layer-doubles (heightOf s) l a, pow-pos (heightOf s - suc l))
 
   sibling-held : (l i : ℕ) (x : List ℕ) → l < heightOf s → Holds s l i x → (y : List ℕ) × Holds s l (sibling i) y
   sibling-held l i x a k =
@@ -50,7 +50,7 @@ module _ (s : List ℕ) (o : Ours s) where
       let w = what-is-held s l i x facts k in
       let t = tree-says (heightOf s) l i (w .0) in
       let F = o .chained .family (nodeNumber h l i) (below-root l i a (t .1)) (tree-number (heightOf s) l i (w .0) .1) (w .1) in
-      let even : 2 ^ (heightOf s - l) % 2 ≡ 0 = omega (arith, doubles (heightOf s) l a) in (
+      let even : 2 ^ (heightOf s - l) % 2 ≡ 0 = omega (arith, layer-doubles (heightOf s) l a) in (
         hashAt s (nodeNumber h l (sibling i)),
         holds-at s l (sibling i) facts (t .0) (sibling-below i (2 ^ (heightOf s - l)) (t .1) even) (ap (heldAt s) (sym (sibling-number (heightOf s) l i a)) ∙ F .beside),
       )
@@ -73,7 +73,7 @@ module _ (s : List ℕ) (o : Ours s) where
       let one : 1 ≤ nodeNumber (heightOf s) (suc l) i = omega arith in
       let in-tree : 2 * nodeNumber (heightOf s) (suc l) i < positions (heightOf s) = subst (λ (n : ℕ). n < positions h) ex (tree-number (heightOf s) l (2 * i) (wx .0) .1) in
       let P = pair-of p one in-tree (ap (heldAt s) (sym ex) ∙ wx .1) in
-      let d = doubles (heightOf s) l a in
+      let d = layer-doubles (heightOf s) l a in
       let inside : i < 2 ^ (heightOf s - suc l) = omega (arith, tx .1) in
       subst (Holds s (suc l) i) (P .made ∙ ap₂ pairHash (ap (hashAt s) (sym ex) ∙ wx .2) (ap (hashAt s) (sym ey) ∙ wy .2))
       (holds-at s (suc l) i facts a inside (P .top))

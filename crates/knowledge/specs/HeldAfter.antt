@@ -11,7 +11,7 @@ use native.Mathlib.Nat.{pow-succ', lt-of-not-le}
 use native.Mathlib.Decide.{decLe}
 use lib.Pow.{pow-pos, pow-mono}
 use Rattle.tree.specs.Geometry.{nodeNumber}
-use Rattle.tree.specs.GeometryLaws.{node-number-layer}
+use Rattle.tree.specs.GeometryLaws.{node-number-layer, longer-has}
 use Rattle.tree.specs.Values.{node, layerLeaf}
 use Rattle.cells.specs.Cells.{heldAt, hashAt}
 use Rattle.store.specs.Store.{fileLength, pieceLength, heightOf, positions, Facts}
@@ -30,7 +30,7 @@ use Rattle.knowledge.specs.Grows.{Grown, grown-take, grown-layer}
 use Rattle.knowledge.specs.Again.{what-is-held, grown-holds}
 use Rattle.knowledge.specs.ReadBack.{holds-at}
 use Rattle.knowledge.specs.Over.{nodes-over, over-entered, over-once}
-use Rattle.knowledge.specs.JudgedWhen.{longer-has, layer-0}
+use Rattle.knowledge.specs.JudgedWhen.{layer-0}
 use Rattle.knowledge.specs.Positions.{settles-entered, settles-exactly}
 
 -- ---- from a store to one that holds at least as much

@@ -14,9 +14,10 @@ use borrow.Author.Tests.{eq-eqb, ne-eqb, eqb-true, lt-ltb, le-ltb, ltb-true, ltb
 use Rattle.octets.specs.Octets.{same}
 use Rattle.octets.specs.OctetsLaws.{same-true, same-eq, same-false, same-ne}
 use Rattle.numbers.specs.Numbers.{ruleBroken, wrongSize, noAnchor, differs, conflict, unusable, judged}
+use Rattle.numbers.specs.NumbersLaws.{judged-zero}
 use Rattle.sha256.specs.Sha256.{sha256}
 use Rattle.tree.specs.Geometry.{nodeNumber, hasLayer, pieceCount, blockSize, pieceSize}
-use Rattle.tree.specs.GeometryLaws.{node-number-root}
+use Rattle.tree.specs.GeometryLaws.{node-number-root, has-longer, longer-has}
 use Rattle.tree.specs.Values.{node, leafOf, layerLeaf}
 use Rattle.cells.specs.Cells.{heldAt, hashAt}
 use Rattle.cells.specs.Entries.{agrees}
@@ -27,7 +28,7 @@ use Rattle.pieces.specs.Pieces.{judgedAt, layerOfPieces, layerNumber, blockNumb
 use Rattle.pieces.specs.PiecesLaws.{layered, piece-in}
 use Rattle.words.specs.Held.{Holds, Lacks, Fits, Misfits, Clashes}
 use Rattle.words.specs.Pieces.{LayerFormed, LayerSettles, BlockFormed, OtherLeaf, PieceFormed, PieceSettles}
-use Rattle.knowledge.specs.Tests.{not-both, judged-0, judged-6, judged-7, judged-8, judged-not, gated, gated-9, gated-3, gated-4, gated-on}
+use Rattle.knowledge.specs.Tests.{not-both, judged-6, judged-7, judged-8, judged-not, gated, gated-9, gated-3, gated-4, gated-on}
 use Rattle.knowledge.specs.Verdicts.{marked-holds, holds-marked, marked-lacks, lacks-marked, judged-fits, judged-lacks, judged-misfits, judged-clashes}
 
 -- ---- a layer
@@ -42,15 +43,7 @@ judged-at-not : (n : ℕ) → (n ≡ 0 → ⊥) → (n ≡ noAnchor → ⊥) →
 unfolding judgedAt
 judged-at-not n a b c d s leaf k q e = judged-not n a b c d (heldAt s q) (same (hashAt s q) (node leaf k 0)) (agrees s (subtree leaf k q 0)) e
 
--- a file has a piece layer exactly if it is longer than the piece length
-has-longer : (n plen : ℕ) → hasLayer n plen ≡ true → plen < n
-unfolding hasLayer
-has-longer n plen t = ltb-true plen n t
-
-pub longer-has : (n plen : ℕ) → plen < n → hasLayer n plen ≡ true
-unfolding hasLayer
-longer-has n plen t = lt-ltb plen n t
-
+-- a file has no piece layer exactly if it is not longer than the piece length
 has-not : (n plen : ℕ) → hasLayer n plen ≡ false → n ≤ plen
 unfolding hasLayer
 has-not n plen t = ltb-false plen n t
@@ -234,7 +227,7 @@ module _ (s : List ℕ) (i : ℕ) (block : List ℕ) where
       through (block-on 0 (λ z. omega arith) (λ z. omega arith) (λ z. omega arith))
       (λ f. (
         λ e.
-            (let t = judged-0 (heldAt s (nodeNumber (heightOf s) 0 i)) (same (hashAt s (nodeNumber (heightOf s) 0 i)) (sha256 block)) true e in
+            (let t = judged-zero (heldAt s (nodeNumber (heightOf s) 0 i)) (same (hashAt s (nodeNumber (heightOf s) 0 i)) (sha256 block)) true e in
             subst (Holds s 0 i) (same-true (hashAt s (nodeNumber (heightOf s) 0 i)) (sha256 block) (t .1)) (marked-holds s (block-facts f) 0 i (omega arith) (leaf-inside f) (t .0))),
         λ h.
             (let k = holds-marked s (block-facts f) 0 i (omega arith) (leaf-inside f) (sha256 block) h in

@@ -9,6 +9,7 @@ use Prim.Native.Nat.{ℕ, _+_, _-_, _*_, _/_, _^_, _≤_, _<_}
 use native.Mathlib.Omega.{arith}
 use Rattle.numbers.specs.Numbers.{noAnchor}
 use Rattle.tree.specs.Geometry.{height, nodeNumber, blockSize, pieceCount}
+use Rattle.tree.specs.GeometryLaws.{longer-has}
 use Rattle.tree.specs.Values.{node, leafOf, blockOf}
 use Rattle.cells.specs.Cells.{heldAt}
 use Rattle.cells.specs.EntriesLaws.{Has, has-same}
@@ -36,7 +37,7 @@ use Rattle.knowledge.specs.PieceIsTheFiles.{PieceIsAt, theFilesAt, store
 use Rattle.knowledge.specs.TrueMessage.{Tells, true-message, true-message-waits}
 use Rattle.knowledge.specs.TrueLayer.{true-layer}
 use Rattle.knowledge.specs.AnchorHeld.{asked-held, held-asked}
-use Rattle.knowledge.specs.JudgedWhen.{longer-has, piece-0}
+use Rattle.knowledge.specs.JudgedWhen.{piece-0}
 use Rattle.knowledge.specs.Positions.{given-is, uncle-is}
 use Rattle.knowledge.specs.Shown.{shown, reads-piece, reads-file}
 use Rattle.knowledge.specs.ConflictShows.{ours-reads}

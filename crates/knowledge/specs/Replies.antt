@@ -18,7 +18,7 @@ use Rattle.octets.specs.OctetsLaws.{same-eq}
 use Rattle.sha256.specs.Sha256.{pairHash}
 use Rattle.numbers.specs.Numbers.{done}
 use Rattle.tree.specs.Geometry.{blockCount, covering, height, nodeNumber}
-use Rattle.tree.specs.GeometryLaws.{left-start, right-start, padding-from-covering, node-number-parent}
+use Rattle.tree.specs.GeometryLaws.{left-start, right-start, padding-from-covering, node-number-parent, layer-doubles}
 use Rattle.tree.specs.Values.{node, padValue}
 use Rattle.cells.specs.Cells.{heldAt, hashAt}
 use Rattle.cells.specs.Entries.{Entry, agrees, putAll, oneIf, newly}
@@ -42,7 +42,7 @@ use Rattle.words.specs.History.{Bytes, OurStore}
 use Rattle.words.specs.Shown.{heldBy}
 use Rattle.knowledge.specs.TakenWhen.{Right, right-then-taken}
 use Rattle.knowledge.specs.Again.{held-agrees}
-use Rattle.knowledge.specs.RightPadding.{Pads, doubles, sibling-number, run-size}
+use Rattle.knowledge.specs.RightPadding.{Pads, sibling-number, run-size}
 use Rattle.knowledge.specs.Invariant.{Chained, Ours, Pair, family-pair, Whole, message-whole}
 use Rattle.knowledge.specs.OwnBytes.{ours-have, ours-bytes}
 use Rattle.knowledge.specs.Conflict.{GivesAt, ShownAt, same-or-shown, hash-octets, agrees-or-shown, well-ready, anchor-has}
@@ -223,7 +223,7 @@ unfolding unclesPadded unclePadded ancestor
 uncles-right h b hashes i zero l x a c f = refl
 uncles-right h b hashes i (suc u) l x a c f =
     let lt : l < h = omega arith in
-    let d = doubles h l lt in
+    let d = layer-doubles h l lt in
     let half : x / 2 < 2 ^ (h - suc l) = omega arith in
     let z : i + 0 ≡ i = omega arith in
     let hs : Pads h b (nodeNumber h l (sibling x)) (uncle hashes i) = rw (z, sibling-number h l x lt) at (f 0 (omega arith)) in

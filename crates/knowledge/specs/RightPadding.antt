@@ -6,7 +6,7 @@ use mathlib.Core.List.{List}
 use mathlib.Core.Logic.{inl, inr}
 use Prim.Native.Nat.{ℕ, zero, suc, _+_, _-_, _*_, _/_, _%_, _^_, _≤_, _<_}
 use native.Mathlib.Omega.{arith}
-use native.Mathlib.Nat.{pow-succ', add-mul, one-mul, mul-assoc, mul-le-mul-right, div-add-mod'}
+use native.Mathlib.Nat.{add-mul, one-mul, mul-assoc, mul-le-mul-right, div-add-mod'}
 use native.Mathlib.Decide.{ℕ-discrete, decLt}
 use lib.ListN.{length}
 use lib.Dec.{leb}
@@ -16,7 +16,7 @@ use Rattle.octets.specs.Octets.{cut, same, zeroHash}
 use Rattle.octets.specs.OctetsLaws.{same-true, cut-length}
 use Rattle.sha256.specs.Sha256.{pairHash}
 use Rattle.tree.specs.Geometry.{Padding, covering, height, nodeNumber}
-use Rattle.tree.specs.GeometryLaws.{covering-until-padding, padding-left, padding-right, node-number-distinct, node-number-parent}
+use Rattle.tree.specs.GeometryLaws.{covering-until-padding, padding-left, padding-right, node-number-distinct, node-number-parent, layer-doubles}
 use Rattle.tree.specs.Values.{node, padValue}
 use Rattle.cells.specs.Entries.{Entry}
 use Rattle.cells.specs.EntriesLaws.{In, in-cases, no-entry}
@@ -118,15 +118,11 @@ module _ (run : List ℕ) (h b base k y : ℕ) (size : length run ≡ 32 * 2 ^ k
 
 -- ---- a path
 
--- one layer down there are twice as many positions
-pub doubles : (h l : ℕ) → l < h → 2 ^ (h - l) ≡ 2 * 2 ^ (h - suc l)
-doubles h l k = let e : h - l ≡ suc (h - suc l) = omega arith in rw e (pow-succ' 2 (h - suc l))
-
 -- beside number x of a layer stands the number beside x
 pub sibling-number : (h l x : ℕ) → l < h → sibling (nodeNumber h l x) ≡ nodeNumber h l (sibling x)
 unfolding nodeNumber
 sibling-number h l x k =
-    let d = doubles h l k in
+    let d = layer-doubles h l k in
     elim (ℕ-discrete (x % 2) 0) [
       | yes z ↦
           let w : (2 ^ (h - l) + x) % 2 ≡ 0 = omega arith in
@@ -182,7 +178,7 @@ path-pads h b hashes i (suc u) l x v lh xb t f e k =
     let n = nodeNumber h l x in
     let w = uncle hashes i in
     let lt : l < h = omega arith in
-    let d = doubles h l lt in
+    let d = layer-doubles h l lt in
     let T = and-eq-true-iff (unclePadded hashes b i l x) (unclesPadded hashes b (i + 1) u (suc l) (x / 2)) .0 t in
     let half : x / 2 < 2 ^ (h - suc l) = omega arith in
     let pp : Padding b (suc l) (x / 2) → parentValue (nodeNumber h l x) v (uncle hashes i) ≡ padValue (suc l) =

@@ -25,7 +25,7 @@ use Rattle.messages.specs.Take.{headerNumber, placeIn, orElse, rejectAnswer}
 use Rattle.messages.specs.TakeLaws.{passes}
 use Rattle.serve.specs.Serve.{allHeld, requestNumber, replyTo, rejectTo, serveAnswer, serveAfter}
 use Rattle.serve.specs.Asks.{fitAfter, fitAnswer}
-use Rattle.serve.specs.ServeLaws.{head-same, held-run-all, held-uncles-all, request-zero, served-none, served-reply, served-reject, answered-form, reject-length, fits-sent, fits-not}
+use Rattle.serve.specs.ServeLaws.{head-same, held-run-all, held-uncles-all, request-zero, served-none, served-reply, served-reject, answered-form, reject-length, fits-sent, fits-not, cond-zero}
 use Rattle.words.specs.Messages.{unclesIn, topLayer, topIndex, sent, Form, ValidHeader, AllGiven, Rejected, RejectDue, forRoot, forRule, forHash, NoRoomFor, forReply, forReject}
 use Rattle.knowledge.specs.Again.{what-is-held}
 use Rattle.knowledge.specs.ReadBack.{run-number, uncle-number, reply-has-header, run-reads-back, uncle-reads-back}
@@ -99,10 +99,6 @@ ahead-on n o true false r k a e = absurd (elim o [ inl z ↦ (let w : ⊥ = omeg
 ahead-on n o true true false k a e = absurd (elim o [ inl z ↦ (let w : ⊥ = omega arith in w) | inr z ↦ (let w : ⊥ = omega arith in w) ])
 ahead-on n o true true true false a e = absurd (elim o [ inl z ↦ (let w : ⊥ = omega arith in w) | inr z ↦ (let w : ⊥ = omega arith in w) ])
 ahead-on n o true true true true a e = (refl, refl, refl, refl, e)
-
-all-or-12 : (a : Bool) → cond a 0 notHeld ≡ 0 → a ≡ true
-all-or-12 true e = refl
-all-or-12 false e = let w : ⊥ = omega arith in absurd w
 
 not-all : (a : Bool) → cond a 0 notHeld ≡ notHeld → a ≡ false
 not-all false e = refl
@@ -242,7 +238,7 @@ module _ (s m : List ℕ) where
   pub request-0 : (requestNumber s m ≡ 0) ↔ (ValidHeader requestId s m × AllGiven s m)
   request-0 =
       let p = by-on requestId s m (requestNumber s m) (allHeld s (placeIn s m)) request-tests 0 (inl refl) in (
-        λ e. (let w = p .0 e in (w .0, all-given (w .0) (all-or-12 (allHeld s (placeIn s m)) (w .1)))),
+        λ e. (let w = p .0 e in (w .0, all-given (w .0) (cond-zero (allHeld s (placeIn s m)) (w .1)))),
         λ w. p .1 (w .0, rw (given-all (w .0) (w .1))),
       )
 

@@ -12,7 +12,7 @@ use borrow.Author.Tests.{eq-eqb, ne-eqb, le-leb, lt-ltb}
 use lib.Pow.{pow-pos}
 use Rattle.sha256.specs.declared.Hashed.{Hashed}
 use Rattle.tree.specs.Geometry.{nodeNumber}
-use Rattle.tree.specs.GeometryLaws.{node-number-distinct, node-number-root}
+use Rattle.tree.specs.GeometryLaws.{node-number-distinct, node-number-root, longer-has}
 use Rattle.tree.specs.Values.{node, layerLeaf}
 use Rattle.cells.specs.Cells.{heldAt}
 use Rattle.cells.specs.Entries.{Entry, oneIf, newly, lacks}
@@ -38,7 +38,7 @@ use Rattle.knowledge.specs.TakenWhen.{Formed, taken-well-formed}
 use Rattle.knowledge.specs.TakenEntries.{lacking, count-lacking, count-most, fresh-lacking}
 use Rattle.knowledge.specs.Over.{Entered, Found, over-entered, entry-over}
 use Rattle.knowledge.specs.Positions.{settles-entered, entry-settled}
-use Rattle.knowledge.specs.JudgedWhen.{longer-has, layer-0}
+use Rattle.knowledge.specs.JudgedWhen.{layer-0}
 
 -- ---- from entries
 

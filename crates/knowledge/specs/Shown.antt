@@ -7,7 +7,7 @@ use native.Mathlib.Omega.{arith}
 use lib.ListN.{length}
 use lib.Pow.{pow-pos}
 use Rattle.tree.specs.Geometry.{blockCount, height, nodeNumber}
-use Rattle.tree.specs.GeometryLaws.{node-number-covers, node-number-left, node-number-right, node-number-root}
+use Rattle.tree.specs.GeometryLaws.{node-number-covers, node-number-left, node-number-right, node-number-root, longer-has, layer-doubles}
 use Rattle.tree.specs.Values.{node, leafOf, layerLeaf}
 use Rattle.cells.specs.EntriesLaws.{Has}
 use Rattle.store.specs.Store.{fileLength, pieceLength, heightOf, positions, Facts}
@@ -19,12 +19,10 @@ use Rattle.words.specs.Held.{Holds}
 use Rattle.words.specs.Shown.{Source, heldBy, byMessage, byLayer, byPiece, ofFile, Gives, Shown}
 use Rattle.words.specs.File.{For}
 use Rattle.words.specs.Pieces.{LayerFormed, LayerSettles, PieceFormed, PieceSettles}
-use Rattle.knowledge.specs.RightPadding.{doubles}
 use Rattle.knowledge.specs.ReadBack.{holds-at}
 use Rattle.knowledge.specs.Conflict.{GivesAt, ShownAt}
 use Rattle.knowledge.specs.RootToBlock.{same-height, tree-has, tree-whole}
 use Rattle.knowledge.specs.Over.{found-at, entry-over}
-use Rattle.knowledge.specs.JudgedWhen.{longer-has}
 use Rattle.knowledge.specs.Positions.{settles-exactly}
 use Rattle.knowledge.specs.TakenWhen.{Formed}
 
@@ -50,7 +48,7 @@ shown h x y rx ry S =
     by : (a i : ℕ) → a ≤ h → i < 2 ^ (h - a) → S .at ≡ nodeNumber h a i → Shown h x y
     by zero i p q e = absurd (leaf-childless h (S .at) i (S .high) e)
     by (suc a) i p q e =
-        let d = doubles h a (omega arith) in
+        let d = layer-doubles h a (omega arith) in
         let left-at : 2 * S .at ≡ nodeNumber h a (2 * i) = ap (λ (n : ℕ). 2 * n) e ∙ sym (node-number-left h a i (omega arith)) in
         let right-at : 2 * S .at + 1 ≡ nodeNumber h a (2 * i + 1) = ap (λ (n : ℕ). 2 * n + 1) e ∙ sym (node-number-right h a i (omega arith)) in
         let lin : 2 * i < 2 ^ (h - a) = omega arith in

@@ -5,19 +5,19 @@ use mathlib.Core.Bool.{Bool, true, false, cond}
 use mathlib.Core.List.{List}
 use Prim.Native.Nat.{ℕ}
 use native.Mathlib.Omega.{arith}
-use native.Mathlib.Decide.{ℕ-discrete}
 use lib.ListN.{length}
 use lib.Dec.{eqb}
-use borrow.Author.Tests.{eq-eqb, ne-eqb, eqb-true}
+use borrow.Author.Tests.{eq-eqb, eqb-true}
 use Rattle.octets.specs.Octets.{same}
 use Rattle.octets.specs.OctetsLaws.{same-true, same-eq, same-ne}
 use Rattle.numbers.specs.Numbers.{wrongSize, wrongPadding, noAnchor, differs, conflict}
+use Rattle.numbers.specs.NumbersLaws.{judged-zero}
 use Rattle.cells.specs.Cells.{heldAt, hashAt}
 use Rattle.cells.specs.Entries.{agrees}
 use Rattle.store.specs.Store.{blocksOf}
 use Rattle.header.specs.Header.{headerOf, isHashes, messageSize}
-use Rattle.messages.specs.Take.{headerNumber, settled, anchor, worked, padded, anchored, bodyNumber, placeIn, orElse, takeNumber}
-use Rattle.knowledge.specs.Tests.{judged-0}
+use Rattle.messages.specs.Take.{headerNumber, settled, anchor, worked, padded, anchored, bodyNumber, placeIn, takeNumber}
+use Rattle.messages.specs.TakenLaws.{zero-or, body-zero}
 
 -- 9, 1, 2, 3 and 4 are not given, by their tests (words/specs/Messages.WellFormed says it of the message: FormedWhen)
 pub record Formed (s m : List ℕ) : Type 0 where
@@ -47,7 +47,7 @@ pub taken-then-right : (s m : List ℕ) → Formed s m → takeNumber s m ≡ 0 
 unfolding anchored
 taken-then-right s m w e =
     let a = let-on (padded m (headerOf m) (placeIn s m) (blocksOf s)) (anchored s m (placeIn s m)) (sym (well-formed-number s m w) ∙ e) in
-    let j = judged-0 (heldAt s (anchor (placeIn s m))) (same (hashAt s (anchor (placeIn s m))) (worked m (placeIn s m))) (agrees s (settled m (placeIn s m))) (a .1) in
+    let j = judged-zero (heldAt s (anchor (placeIn s m))) (same (hashAt s (anchor (placeIn s m))) (worked m (placeIn s m))) (agrees s (settled m (placeIn s m))) (a .1) in
     record { padding = a .0; held = j .0; chains = same-true _ _ (j .1); agree = j .2 }
 
 -- and one that is right is taken
@@ -81,23 +81,16 @@ unfolding anchored
 held-differs-then-8 s m w p h c a =
     well-formed-number s m w ∙ rw (p, h, same-eq (hashAt s (anchor (placeIn s m))) (worked m (placeIn s m)) c, a)
 
--- a message that is taken is well-formed
-zero-header : (n a : ℕ) → orElse n a ≡ 0 → n ≡ 0
-zero-header n a e = elim (ℕ-discrete n 0) [ yes z ↦ z | no ne ↦ rw (ne-eqb n 0 ne) at e ]
-
-zero-body : (n a : ℕ) → orElse n a ≡ 0 → a ≡ 0
-zero-body n a e = rw (eq-eqb n 0 (zero-header n a e)) at e
-
 sized : (t : Bool) (a : ℕ) → cond t a wrongSize ≡ 0 → t ≡ true
 sized true a e = refl
 sized false a e = let w : ⊥ = omega arith in absurd w
 
--- so its header and its size are right
+-- a message that is taken is well-formed: its header and its size are right
 pub taken-well-formed : (s m : List ℕ) → takeNumber s m ≡ 0 → Formed s m
 unfolding takeNumber bodyNumber
 taken-well-formed s m e =
-    let b = zero-body (headerNumber (isHashes m) s m) (cond (eqb (length m) (messageSize (headerOf m))) (cond (padded m (headerOf m) (placeIn s m) (blocksOf s)) (anchored s m (placeIn s m)) wrongPadding) wrongSize) e in
+    let b = body-zero (headerNumber (isHashes m) s m) (cond (eqb (length m) (messageSize (headerOf m))) (cond (padded m (headerOf m) (placeIn s m) (blocksOf s)) (anchored s m (placeIn s m)) wrongPadding) wrongSize) e in
     record {
-      header = zero-header (headerNumber (isHashes m) s m) _ e;
+      header = zero-or (headerNumber (isHashes m) s m) _ e;
       size = eqb-true (length m) (messageSize (headerOf m)) (sized (eqb (length m) (messageSize (headerOf m))) _ b);
     }

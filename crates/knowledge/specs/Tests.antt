@@ -17,13 +17,6 @@ not-both t f = false≢true (sym f ∙ t)
 
 -- ---- the three tests
 
--- 0: all three passed
-pub judged-0 : (a b c : Bool) → judged a b c ≡ 0 → (a ≡ true) × (b ≡ true) × (c ≡ true)
-judged-0 false b c e = let w : ⊥ = omega arith in absurd w
-judged-0 true false c e = let w : ⊥ = omega arith in absurd w
-judged-0 true true false e = let w : ⊥ = omega arith in absurd w
-judged-0 true true true e = (refl, refl, refl)
-
 -- 6: the first failed
 pub judged-6 : (a b c : Bool) → judged a b c ≡ noAnchor → a ≡ false
 judged-6 false b c e = refl

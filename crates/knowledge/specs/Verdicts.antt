@@ -9,6 +9,7 @@ use Prim.Native.Nat.{ℕ, _+_, _-_, _^_, _≤_, _<_}
 use Rattle.octets.specs.Octets.{same}
 use Rattle.octets.specs.OctetsLaws.{same-true, same-eq, same-false, same-ne}
 use Rattle.numbers.specs.Numbers.{noAnchor, differs, conflict}
+use Rattle.numbers.specs.NumbersLaws.{judged-zero}
 use Rattle.sha256.specs.declared.Hashed.{Hashed}
 use Rattle.tree.specs.Geometry.{nodeNumber}
 use Rattle.tree.specs.Values.{node}
@@ -23,7 +24,7 @@ use Rattle.knowledge.specs.Again.{what-is-held}
 use Rattle.knowledge.specs.ReadBack.{holds-at}
 use Rattle.knowledge.specs.Over.{over-entered, entry-over, over-top}
 use Rattle.knowledge.specs.Differing.{none-differs, one-differs, differs-one, differs-none}
-use Rattle.knowledge.specs.Tests.{either, not-both, judged-0, judged-6, judged-7, judged-8}
+use Rattle.knowledge.specs.Tests.{either, not-both, judged-6, judged-7, judged-8}
 
 -- ---- one position
 
@@ -56,7 +57,7 @@ module _ (s : List ℕ) (f : Facts s) (leaf : ℕ → List ℕ) (base y k : ℕ)
   unfolding judgedAt
   judged-fits = (
     λ z.
-        (let t = judged-0 (heldAt s (top s base y k)) (same (hashAt s (top s base y k)) (node leaf k 0)) (agrees s (subtree leaf k (top s base y k) 0)) z in
+        (let t = judged-zero (heldAt s (top s base y k)) (same (hashAt s (top s base y k)) (node leaf k 0)) (agrees s (subtree leaf k (top s base y k) 0)) z in
         record {
           w = hashAt s (top s base y k);
           held = marked-holds s f (base + k) y wi ti (t .0);

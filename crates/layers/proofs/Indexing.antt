@@ -16,6 +16,7 @@ use Rattle.bencode.specs.PartsLaws.{entry-ends}
 use Rattle.bencode.specs.declared.parts.Entry.{Entry}
 use Rattle.bencode.specs.declared.parts.Entry.the-variants.{Keyed, NoEntry}
 use Rattle.layers.specs.Layers.{keysOn, keysFrom, wideOn, wideFrom, layerKeys, keysWide}
+use Rattle.tree.specs.GeometryLaws.{and-false}
 
 pub record IndexAt (s keys : List ℕ) (most i n : ℕ) : Type 0 where
   pub steps : ℕ
@@ -35,10 +36,6 @@ index-start s keys most =
 -- what is answered: whether there are so many keys, each wide
 abbrev pub IndexAnswer : List ℕ → List ℕ → ℕ → Bool → Type 0
 IndexAnswer s keys most r = (r ≡ (keysWide s && eqb (length (layerKeys s)) most)) × (r ≡ true → take most keys ≡ layerKeys s)
-
-and-false : (a : Bool) → (a && false) ≡ false
-and-false true = refl
-and-false false = refl
 
 module _ (s keys : List ℕ) (most i n : ℕ) (w : IndexAt s keys most i n) where
   no-more : (k : ℕ) → readEntry i (drop i s) ≡ NoEntry → (keysFrom k s i ≡ []) × (wideFrom k s i ≡ true)

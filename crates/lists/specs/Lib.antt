@@ -1,3 +1,5 @@
 pub mod Lists
 pub mod ListsLaws
+pub mod Front
+pub mod FrontLaws
 pub mod PathsLaws

@@ -19,7 +19,8 @@ elementEnd s = 4 + numberAt s 0 4
 
 unfoldable pub elementsFit : ℕ → List ℕ → Bool
 elementsFit zero s = eqb (length s) 0
-elementsFit (suc steps) s = cond (eqb (length s) 0) true (leb 4 (length s) && (leb (elementEnd s) (length s) && elementsFit steps (drop (elementEnd s) s)))
+elementsFit (suc steps) s =
+    cond (eqb (length s) 0) true (leb 4 (length s) && (leb (elementEnd s) (length s) && elementsFit steps (drop (elementEnd s) s)))
 
 unfoldable pub elementsIn : ℕ → List ℕ → List (List ℕ)
 elementsIn zero s = []

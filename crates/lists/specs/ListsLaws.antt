@@ -32,9 +32,11 @@ fit-past zero s n g h = ne-eqb (length s) 0 n
 fit-past (suc steps) s n g h = rw (ne-eqb (length s) 0 n, le-leb 4 (length s) g, lt-leb (elementEnd s) (length s) h) refl
 
 -- the element is there, and the rest is looked at
-fit-more : (steps : ℕ) (s : List ℕ) → (length s ≡ 0 → ⊥) → elementEnd s ≤ length s → elementsFit (suc steps) s ≡ elementsFit steps (drop (elementEnd s) s)
+fit-more : (steps : ℕ) (s : List ℕ) → (length s ≡ 0 → ⊥) → elementEnd s ≤ length s → elementsFit (suc steps) s ≡ elementsFit steps
+    (drop (elementEnd s) s)
 unfolding elementsFit
-fit-more steps s n h = let g : 4 ≤ length s = omega arith in rw (ne-eqb (length s) 0 n, le-leb 4 (length s) g, le-leb (elementEnd s) (length s) h) refl
+fit-more steps s n h =
+    let g : 4 ≤ length s = omega arith in rw (ne-eqb (length s) 0 n, le-leb 4 (length s) g, le-leb (elementEnd s) (length s) h) refl
 
 -- ---- by position: what is left from `at` on says what the whole says
 
@@ -50,21 +52,25 @@ left-start s = record { within = omega arith; steps = length s; enough = omega a
 left-length : (s : List ℕ) (at : ℕ) → length (drop at s) ≡ length s - at
 left-length s at = length-drop at s
 
-number-there : (s : List ℕ) (at : ℕ) → numberAt (drop at s) 0 4 ≡ numberAt s at 4
+pub number-there : (s : List ℕ) (at : ℕ) → numberAt (drop at s) 0 4 ≡ numberAt s at 4
 number-there s at = number-same (drop at s) s 0 at 4 (λ i h. getD-drop at s (0 + i) 0 ∙ ap (λ (j : ℕ). getD s j 0) (omega arith))
 
 pub left-end : (s : List ℕ) (at : ℕ) → Left s at → length s ≤ at → elementsFit (length s) s ≡ true
 left-end s at l h = l .same-answer ∙ fit-end (l .steps) (drop at s) (left-length s at ∙ omega (arith, l .within))
 
 pub left-short : (s : List ℕ) (at : ℕ) → Left s at → at < length s → length s - at < 4 → elementsFit (length s) s ≡ false
-left-short s at l g h = l .same-answer ∙ fit-short (l .steps) (drop at s) (λ z. omega (arith, left-length s at)) (omega (arith, left-length s at))
+left-short s at l g h =
+    l .same-answer ∙ fit-short (l .steps) (drop at s) (λ z. omega (arith, left-length s at)) (omega (arith, left-length s at))
 
-pub left-past : (s : List ℕ) (at : ℕ) → Left s at → at < length s → 4 ≤ length s - at → length s - at - 4 < numberAt s at 4 → elementsFit (length s) s ≡ false
+pub left-past : (s : List ℕ) (at : ℕ) → Left s at → at < length s → 4 ≤ length s - at → length s - at - 4 < numberAt s at 4 → elementsFit
+    (length s) s ≡ false
 left-past s at l g k h =
     l .same-answer
-    ∙ fit-past (l .steps) (drop at s) (λ z. omega (arith, left-length s at)) (omega (arith, left-length s at)) (omega (arith, left-length s at, number-there s at))
+    ∙ fit-past (l .steps) (drop at s) (λ z. omega (arith, left-length s at)) (omega (arith, left-length s at))
+    (omega (arith, left-length s at, number-there s at))
 
-pub left-more : (s : List ℕ) (at : ℕ) → Left s at → at < length s → 4 ≤ length s - at → numberAt s at 4 ≤ length s - at - 4 → Left s (at + 4 + numberAt s at 4)
+pub left-more : (s : List ℕ) (at : ℕ) → Left s at → at < length s → 4 ≤ length s - at → numberAt s at 4 ≤ length s - at - 4 → Left s
+    (at + 4 + numberAt s at 4)
 left-more s at l g k h = by-steps (l .steps) (l .enough) (l .same-answer)
   where
     sums : at + (4 + numberAt s at 4) ≡ at + 4 + numberAt s at 4
@@ -91,16 +97,19 @@ unfolding formAt
 form-long list text at h = rw (le-ltb (numberAt list at 8) (2 ^ 63) h) refl
 
 -- the length is in range, and one of the parts does not fit
-pub form-layer : (list text : List ℕ) (at : ℕ) → numberAt list at 8 < 2 ^ 63 → partFits list text (at + 40) ≡ false → formAt list text at ≡ false
+pub form-layer : (list text : List ℕ) (at : ℕ) → numberAt list at 8 < 2 ^ 63 → partFits list text (at + 40) ≡ false → formAt list text at ≡
+    false
 unfolding formAt
 form-layer list text at h a = rw (lt-ltb (numberAt list at 8) (2 ^ 63) h, a) refl
 
-pub form-path : (list text : List ℕ) (at : ℕ) → numberAt list at 8 < 2 ^ 63 → partFits list text (at + 40) ≡ true → partFits list text (at + 48) ≡ false → formAt list text at ≡ false
+pub form-path : (list text : List ℕ) (at : ℕ) → numberAt list at 8 < 2 ^ 63 → partFits list text (at + 40) ≡ true → partFits list text
+    (at + 48) ≡ false → formAt list text at ≡ false
 unfolding formAt
 form-path list text at h a b = rw (lt-ltb (numberAt list at 8) (2 ^ 63) h, a, b) refl
 
 -- both fit: the path decides
-pub form-elements : (list text : List ℕ) (at : ℕ) → numberAt list at 8 < 2 ^ 63 → partFits list text (at + 40) ≡ true → partFits list text (at + 48) ≡ true
+pub form-elements : (list text : List ℕ) (at : ℕ) → numberAt list at 8 < 2 ^ 63 → partFits list text (at + 40) ≡ true → partFits list text
+    (at + 48) ≡ true
     → formAt list text at ≡ elementsFit (length (pathAt list text at)) (pathAt list text at)
 unfolding formAt
 form-elements list text at h a b = rw (lt-ltb (numberAt list at 8) (2 ^ 63) h, a, b) refl
@@ -115,7 +124,8 @@ pub form-all : (list text : List ℕ) → length list % recordSize ≡ 0 → lis
 unfolding listForm
 form-all list text h = rw (eq-eqb (length list % recordSize) 0 h) refl
 
-pub form-next : (list text : List ℕ) (i : ℕ) → formUpTo list text i ≡ true → formAt list text (recordSize * i) ≡ true → formUpTo list text (i + 1) ≡ true
+pub form-next : (list text : List ℕ) (i : ℕ) → formUpTo list text i ≡ true → formAt list text (recordSize * i) ≡ true → formUpTo list text
+    (i + 1) ≡ true
 form-next list text i a b = ap (formUpTo list text) one ∙ next
   where
     one : i + 1 ≡ suc i
@@ -130,12 +140,16 @@ unfolding formUpTo
 form-wrong list text i zero h e = absurd (omega arith)
 form-wrong list text i (suc n) h e = by-last (ltb i n) refl (λ l. form-wrong list text i n l e)
   where
-    by-last : (t : Bool) → ltb i n ≡ t → (i < n → formUpTo list text n ≡ false) → formUpTo list text n && formAt list text (recordSize * n) ≡ false
+    by-last : (t : Bool) → ltb i n ≡ t → (i < n → formUpTo list text n ≡ false) → formUpTo list text n && formAt list text (recordSize * n)
+        ≡ false
     by-last true q more = rw (more (ltb-true i n q)) refl
-    by-last false q more = let g = ltb-false i n q in let o : i ≡ n = omega arith in rw (sym (ap (λ (k : ℕ). formAt list text (recordSize * k)) o) ∙ e) (and-false (formUpTo list text n))
+    by-last false q more =
+        let g = ltb-false i n q in let o : i ≡ n = omega arith in rw (sym (ap (λ (k : ℕ). formAt list text (recordSize * k)) o) ∙ e)
+        (and-false (formUpTo list text n))
 
 -- the path as a slice of the text
-pub path-slice : (list text : List ℕ) (at a b : ℕ) → a ≡ numberAt list (at + 48) 4 → b ≡ numberAt list (at + 48 + 4) 4 → take (a + b - a) (drop a text) ≡ pathAt list text at
+pub path-slice : (list text : List ℕ) (at a b : ℕ) → a ≡ numberAt list (at + 48) 4 → b ≡ numberAt list (at + 48 + 4) 4 → take (a + b - a)
+    (drop a text) ≡ pathAt list text at
 path-slice list text at a b e f = ap (λ (n : ℕ). take n (drop a text)) size ∙ ap₂ (λ (x y : ℕ). take y (drop x text)) e f ∙ sym path-is
   where
     size : a + b - a ≡ b
@@ -144,13 +158,16 @@ path-slice list text at a b e f = ap (λ (n : ℕ). take n (drop a text)) size �
     path-is : pathAt list text at ≡ take (numberAt list (at + 48 + 4) 4) (drop (numberAt list (at + 48) 4) text)
     path-is = unfold cut in refl
 
-pub form-slice : (list text : List ℕ) (at a b : ℕ) (r : Bool) → numberAt list at 8 < 2 ^ 63 → partFits list text (at + 40) ≡ true → partFits list text (at + 48) ≡ true
+pub form-slice : (list text : List ℕ) (at a b : ℕ) (r : Bool) → numberAt list at 8 < 2 ^ 63 → partFits list text (at + 40) ≡ true → partFits
+    list text (at + 48) ≡ true
     → a ≡ numberAt list (at + 48) 4 → b ≡ numberAt list (at + 48 + 4) 4
     → r ≡ elementsFit (length (take (a + b - a) (drop a text))) (take (a + b - a) (drop a text)) → r ≡ formAt list text at
-form-slice list text at a b r h p q e f g = g ∙ ap (λ (l : List ℕ). elementsFit (length l) l) (path-slice list text at a b e f) ∙ sym (form-elements list text at h p q)
+form-slice list text at a b r h p q e f g =
+    g ∙ ap (λ (l : List ℕ). elementsFit (length l) l) (path-slice list text at a b e f) ∙ sym (form-elements list text at h p q)
 
 -- the slice ends within the text
-pub slice-end : (list text : List ℕ) (at a b : ℕ) → partFits list text at ≡ true → a ≡ numberAt list at 4 → b ≡ numberAt list (at + 4) 4 → a + b ≤ length text
+pub slice-end : (list text : List ℕ) (at a b : ℕ) → partFits list text at ≡ true → a ≡ numberAt list at 4 → b ≡ numberAt list (at + 4) 4 → a
+    + b ≤ length text
 slice-end list text at a b h e f = let l = leb-true (numberAt list at 4 + numberAt list (at + 4) 4) (length text) h in omega arith
 
 -- ---- the path of a record in the form
@@ -161,15 +178,19 @@ four-true false b c d e = absurd (false≢true e)
 four-true true false c d e = absurd (false≢true e)
 four-true true true false d e = absurd (false≢true e)
 
-pub path-right : (list text : List ℕ) (at : ℕ) → formAt list text at ≡ true → (partFits list text (at + 48) ≡ true) × (elementsFit (length (pathAt list text at)) (pathAt list text at) ≡ true)
+pub path-right : (list text : List ℕ) (at : ℕ) → formAt list text at ≡ true → (partFits list text (at + 48) ≡ true) ×
+    (elementsFit (length (pathAt list text at)) (pathAt list text at) ≡ true)
 unfolding formAt
 path-right list text at h =
-    four-true (ltb (numberAt list at 8) (2 ^ 63)) (partFits list text (at + 40)) (partFits list text (at + 48)) (elementsFit (length (pathAt list text at)) (pathAt list text at)) h
+    four-true (ltb (numberAt list at 8) (2 ^ 63)) (partFits list text (at + 40)) (partFits list text (at + 48))
+    (elementsFit (length (pathAt list text at)) (pathAt list text at)) h
 
 -- a slice that is the path has the form
-pub slice-fits : (list text : List ℕ) (at a b : ℕ) → formAt list text at ≡ true → a ≡ numberAt list (at + 48) 4 → b ≡ numberAt list (at + 48 + 4) 4
+pub slice-fits : (list text : List ℕ) (at a b : ℕ) → formAt list text at ≡ true → a ≡ numberAt list (at + 48) 4 → b ≡ numberAt list
+    (at + 48 + 4) 4
     → elementsFit (length (take (a + b - a) (drop a text))) (take (a + b - a) (drop a text)) ≡ true
-slice-fits list text at a b h e f = ap (λ (l : List ℕ). elementsFit (length l) l) (path-slice list text at a b e f) ∙ path-right list text at h .1
+slice-fits list text at a b h e f =
+    ap (λ (l : List ℕ). elementsFit (length l) l) (path-slice list text at a b e f) ∙ path-right list text at h .1
 
 -- and its elements are the file's path
 pub slice-path : (list text : List ℕ) (at a b : ℕ) → a ≡ numberAt list (at + 48) 4 → b ≡ numberAt list (at + 48 + 4) 4
@@ -177,11 +198,13 @@ pub slice-path : (list text : List ℕ) (at a b : ℕ) → a ≡ numberAt list (
 slice-path list text at a b e f = ap (λ (l : List ℕ). elementsIn (length l) l) (path-slice list text at a b e f) ∙ (unfold itemAt in refl)
 
 -- two records that name one part of the text for their paths have one path
-pub one-path : (list text : List ℕ) (at bt a b c d : ℕ) → a ≡ numberAt list (at + 48) 4 → b ≡ numberAt list (at + 48 + 4) 4 → c ≡ numberAt list (bt + 48) 4 → d ≡ numberAt list (bt + 48 + 4) 4
+pub one-path : (list text : List ℕ) (at bt a b c d : ℕ) → a ≡ numberAt list (at + 48) 4 → b ≡ numberAt list (at + 48 + 4) 4 → c ≡ numberAt
+    list (bt + 48) 4 → d ≡ numberAt list (bt + 48 + 4) 4
     → a ≡ c → b ≡ d → itemAt list text at .path ≡ itemAt list text bt .path
 one-path list text at bt a b c d e f g h p q = sym (slice-path list text at a b e f) ∙ slice-path list text bt a b (p ∙ g) (q ∙ h)
 
 -- four bytes as one number
-pub four-bytes : (s : List ℕ) (at : ℕ) → numberAt s at 4 ≡ getD s at 0 * 16777216 + getD s (at + 1) 0 * 65536 + getD s (at + 2) 0 * 256 + getD s (at + 3) 0
+pub four-bytes : (s : List ℕ) (at : ℕ) → numberAt s at 4 ≡ getD s at 0 * 16777216 + getD s (at + 1) 0 * 65536 + getD s (at + 2) 0 * 256 +
+    getD s (at + 3) 0
 unfolding numberAt
 four-bytes s at = let e : at + 0 ≡ at = omega arith in rw e (omega arith)

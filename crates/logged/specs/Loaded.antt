@@ -10,11 +10,11 @@ use native.Mathlib.Omega.{arith}
 use native.Mathlib.Decide.{ℕ-discrete}
 use lib.ListN.{length, take}
 use lib.Dec.{eqb}
-use borrow.Author.Tests.{ne-eqb, ltb-true}
+use borrow.Author.Tests.{ne-eqb}
 use Rattle.octets.specs.Octets.{same}
 use Rattle.octets.specs.OctetsLaws.{same-eq}
 use Rattle.tree.specs.Geometry.{blockCount, height, covering, isPieceLength, pieceLayer, hasLayer, pieceCount}
-use Rattle.tree.specs.GeometryLaws.{piece-length-form, pieces-covering, node-number-root, node-number-range, node-number-distinct}
+use Rattle.tree.specs.GeometryLaws.{piece-length-form, pieces-covering, node-number-root, node-number-range, node-number-distinct, has-longer}
 use Rattle.tree.specs.Values.{node, leafOf, piecesRoot, wholeLayer, layerLeaf}
 use Rattle.tree.specs.ValuesLaws.{layer-octets, layer-cut, node-of-layer, root-octets}
 use Rattle.cells.specs.Cells.{heldAt, hashAt}
@@ -136,10 +136,6 @@ module _ (x b : List ℕ) (plen : ℕ) (ok : factsInRange (length x) plen ≡ tr
       two : (h : ℕ) → 1 < positions h
       two h = omega (arith, positions-some h)
 
-longer-says : (n plen : ℕ) → hasLayer n plen ≡ true → plen < n
-unfolding hasLayer
-longer-says n plen t = ltb-true plen n t
-
 -- so is the layer that a history has written, with what its end says
 pub logged-loads : (plen : ℕ) → isPieceLength plen ≡ true → {x : List ℕ} {t : History} {layer : List ℕ} (b : List ℕ) → Logged plen x t layer
     → layerBytes (length x) plen ≤ length layer → hasLayer (length x) plen ≡ true → storeSize (length x) ≤ length b
@@ -157,4 +153,4 @@ logged-loads plen good {x} {t} {layer} b g room longer fits =
     ∙ own-layer-loads x b plen ok fits good longer
   where
     some-bytes : 1 ≤ length x
-    some-bytes = omega (arith, longer-says (length x) plen longer)
+    some-bytes = omega (arith, has-longer (length x) plen longer)

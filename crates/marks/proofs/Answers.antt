@@ -1,14 +1,14 @@
 -- What each function answers, from what its callees ensure and the tests it took.
 -- Assumes nothing.
 use mathlib.Core.Path.{_≡_, ap, ap₂, sym, _∙_}
-use mathlib.Core.List.{List, _++_}
+use mathlib.Core.List.{List}
 use mathlib.Core.Bool.{Bool, true, false}
 use Prim.Native.Nat.{ℕ, _+_, _-_, _*_, _%_, _^_, _≤_, _<_}
 use native.Mathlib.Numerals.{add-one}
 use native.Mathlib.Nat.{zero-add}
 use native.Mathlib.Omega.{arith}
-use lib.ListN.{length, take, drop, getD, set, replicate}
-use lib.Seq.{paste, paste-suc, take-all}
+use lib.ListN.{length, getD, set, replicate}
+use lib.Seq.{paste, paste-suc}
 use lib.Dec.{eqb}
 use lib.Pow.{pow-mono}
 use borrow.Author.Tests.{eq-eqb, ne-eqb, le-ltb, lt-ltb}
@@ -28,11 +28,6 @@ use Rattle.marks.specs.MarksLaws.{field-bits-more, field-bits-small, fie
 pub row-turn : (d d′ : List ℕ) (at : ℕ) (l : List ℕ) (j x : ℕ) → d′ ≡ paste d at l j → at + j < length d → j < length l → x ≡ getD l j 0
     → set d′ (at + j) x ≡ paste d at l (j + 1)
 row-turn d d′ at l j x e a b q = rw (e, q, add-one) (paste-suc d at l j 0 a b)
-
--- all of them
-pub row-whole : (d d′ : List ℕ) (at : ℕ) (l : List ℕ) (j n : ℕ) → d′ ≡ paste d at l j → length l ≡ n → j ≡ n → d′ ≡ pasted d at l
-unfolding pasted
-row-whole d d′ at l j n e k q = rw (e, q, ← k) (ap (λ (t : List ℕ). take at d ++ t ++ drop (at + length l) d) (take-all (length l) l (omega arith)))
 
 -- ---- a mark
 

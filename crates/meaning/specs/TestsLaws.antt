@@ -4,16 +4,16 @@ use mathlib.Core.Path.{_≡_, refl, sym, ap, _∙_}
 use mathlib.Core.Logic.{_⊎_, inl, inr}
 use mathlib.Core.Bool.{Bool, true, false, cond, not, _&&_, _||_, false≢true, and-eq-true-iff}
 use mathlib.Core.List.{List, [], _∷_}
-use Prim.Native.Nat.{ℕ, zero, suc, _*_, _^_, _≤_, _<_}
+use Prim.Native.Nat.{ℕ, zero, suc, _*_, _<_}
 use native.Mathlib.Omega.{arith}
 use lib.ListN.{length}
 use lib.Dec.{eqb, leb}
-use borrow.Author.Tests.{eqb-true, eqb-false, eq-eqb, ne-eqb, lt-ltb, ltb-true, leb-true, le-leb}
+use borrow.Author.Tests.{eqb-true, eqb-false, eq-eqb, ne-eqb, leb-true, le-leb}
 use Rattle.octets.specs.Octets.{same}
 use Rattle.octets.specs.OctetsLaws.{same-true, same-false, same-eq}
 use Rattle.limits.specs.Limits.{longestFile}
 use Rattle.tree.specs.Geometry.{blockCount, height, isPieceLength, pieceLayer, pieceCount, hasLayer}
-use Rattle.tree.specs.GeometryLaws.{piece-length-form, piece-length-accepted}
+use Rattle.tree.specs.GeometryLaws.{piece-length-form, piece-length-accepted, has-longer, longer-has, piece-some}
 use Rattle.tree.specs.Values.{layerRoot}
 use Rattle.bencode.specs.Grammar.{Value, integer, string, list, dictionary, Entries, noEntries, entry}
 use Rattle.bencode.specs.Parts.{Lookup, absent, present, lookup}
@@ -132,21 +132,13 @@ pub piece-amiss : (torrent : Entries) → isPieceLength (plenOf torrent) ≡ fal
 piece-amiss torrent e p h q = false≢true (sym e ∙ ap (λ (x : Lookup). isPieceLength (numberOf x)) q ∙ piece-length-accepted p h)
 
 -- a number above 0 is written as such
-above-zero : (x : Lookup) → 0 < numberOf x → x ≡ present (integer false (numberOf x))
+pub above-zero : (x : Lookup) → 0 < numberOf x → x ≡ present (integer false (numberOf x))
 above-zero (present (integer false n)) h = refl
 above-zero (present (integer true n)) h = absurd (omega arith)
 above-zero absent h = absurd (omega arith)
 above-zero (present (dictionary es)) h = absurd (omega arith)
 above-zero (present (string b)) h = absurd (omega arith)
 above-zero (present (list vs)) h = absurd (omega arith)
-
--- a piece length is above 0
-pub piece-some : (n : ℕ) → isPieceLength n ≡ true → 0 < n
-piece-some n e = let f = piece-length-form n e in omega (arith, f .1, power-some (pieceLayer n))
-  where
-    power-some : (p : ℕ) → 1 ≤ 2 ^ p
-    power-some zero = omega arith
-    power-some (suc p) = omega (arith, power-some p)
 
 pub piece-right : (torrent : Entries) → isPieceLength (plenOf torrent) ≡ true → PieceLengthOutOfRange torrent → ⊥
 piece-right torrent e w =
@@ -382,15 +374,6 @@ roots-right fs e w = agree-no fs e (w .i) (w .j) (w .one) (w .other) (w .one-at)
 
 -- ---- 27
 
--- a file longer than the piece length has a layer
-pub longer : (n plen : ℕ) → plen < n → hasLayer n plen ≡ true
-unfolding hasLayer
-longer n plen h = lt-ltb plen n h
-
-is-longer : (n plen : ℕ) → hasLayer n plen ≡ true → plen < n
-unfolding hasLayer
-is-longer n plen e = ltb-true plen n e
-
 module _ (plen : ℕ) (ls : Entries) where
   fits-yes : (f : File) → plen < f .size → (x : Lookup) → lookup (f .root) ls ≡ x → layerFits plen f x ≡ true → (layer : List ℕ) × LayerOf plen ls f layer
   fits-yes f l (present (string b)) q e = (b, record { longer = l; found = q; size = eqb-true (length b) (32 * pieceCount (f .size) plen) e })
@@ -417,7 +400,7 @@ module _ (plen : ℕ) (ls : Entries) where
       by-number : (n : ℕ) → Nth (x ∷ xs) n f → (layersFit plen ls xs ≡ true → EachFile xs) → (layer : List ℕ) × LayerOf plen ls f layer
       by-number zero u ih =
           let h : not (hasLayer (f .size) plen) || layerFits plen f (lookup (f .root) ls) ≡ true = rw u (p .0) in
-          let g : not true || layerFits plen f (lookup (f .root) ls) ≡ true = rw (longer (f .size) plen l) at h in
+          let g : not true || layerFits plen f (lookup (f .root) ls) ≡ true = rw (longer-has (f .size) plen l) at h in
           fits-yes f l (lookup (f .root) ls) refl g
       by-number (suc n) u ih = ih (p .1) n f u l
 
@@ -429,7 +412,7 @@ module _ (plen : ℕ) (ls : Entries) where
       by-length : (t : Bool) → hasLayer (x .size) plen ≡ t → layersFit plen ls xs ≡ true → (not t || layerFits plen x (lookup (x .root) ls)) && layersFit plen ls xs ≡ true
       by-length false q r = r
       by-length true q r =
-          let y = w 0 x refl (is-longer (x .size) plen q) in
+          let y = w 0 x refl (has-longer (x .size) plen q) in
           rw (fits-no x (y .0) (y .1), r) refl
 
   -- a file longer than the piece length with this root
@@ -445,7 +428,7 @@ module _ (plen : ℕ) (ls : Entries) where
       later w = (suc (w .0), w .1, w .2, w .3, w .4)
 
       by-both : (a b : Bool) → hasLayer (x .size) plen ≡ a → same k (x .root) ≡ b → (a && b) || someLonger plen k xs ≡ true → (someLonger plen k xs ≡ true → Longer k xs) → Longer k (x ∷ xs)
-      by-both true true p q r ih = (0, x, refl, is-longer (x .size) plen p, same-true k (x .root) q)
+      by-both true true p q r ih = (0, x, refl, has-longer (x .size) plen p, same-true k (x .root) q)
       by-both true false p q r ih = later (ih r)
       by-both false b p q r ih = later (ih r)
 
@@ -463,7 +446,7 @@ module _ (plen : ℕ) (ls : Entries) where
 
       by-number : (n : ℕ) → Nth (x ∷ xs) n f → (Longer k xs → someLonger plen k xs ≡ true) → (hasLayer (x .size) plen && same k (x .root)) || someLonger plen k xs ≡ true
       by-number zero u ih =
-          let s : hasLayer (x .size) plen ≡ true = longer (x .size) plen (let o : f .size ≡ x .size = ap (λ (z : File). z .size) u in omega (arith, w .3)) in
+          let s : hasLayer (x .size) plen ≡ true = longer-has (x .size) plen (let o : f .size ≡ x .size = ap (λ (z : File). z .size) u in omega (arith, w .3)) in
           let t : same k (x .root) ≡ true = same-eq k (x .root) (w .4 ∙ ap (λ (z : File). z .root) u) in
           rw (s, t) refl
       by-number (suc n) u ih = rw (ih (n, f, u, w .3, w .4)) (or-yes (hasLayer (x .size) plen && same k (x .root)))
@@ -531,7 +514,7 @@ module _ (plen : ℕ) (ls : Entries) where
       by-both true true u v r ih = later-differs x xs (ih (p .1) r)
       by-both true false u v r ih =
           let g : not true || layerFits plen x (lookup (x .root) ls) ≡ true = rw u at (p .0) in
-          let w = fits-yes plen ls x (is-longer (x .size) plen u) (lookup (x .root) ls) refl g in
+          let w = fits-yes plen ls x (has-longer (x .size) plen u) (lookup (x .root) ls) refl g in
           let d : givesRoot plen x (layerBytes (present (string (w .0)))) ≡ false = rw (w .1 .found) at v in
           record { n = 0; file = x; file-at = refl; layer = w .0; is-layer = w .1; differs = same-false (layerRoot (w .0) (pieceLayer plen) (height (blockCount (x .size)))) (x .root) d }
 
@@ -546,7 +529,7 @@ module _ (plen : ℕ) (ls : Entries) where
           first : not (hasLayer (x .size) plen) || givesRoot plen x (layerBytes (lookup (x .root) ls)) ≡ true → f ≡ x → ⊥
           first g u =
               let h : not (hasLayer (f .size) plen) || givesRoot plen f (layerBytes (lookup (f .root) ls)) ≡ true = rw u g in
-              let k : not true || givesRoot plen f (layerBytes (present (string layer))) ≡ true = rw (longer (f .size) plen (l .longer), l .found) at h in
+              let k : not true || givesRoot plen f (layerBytes (present (string layer))) ≡ true = rw (longer-has (f .size) plen (l .longer), l .found) at h in
               d (same-true (layerRoot layer (pieceLayer plen) (height (blockCount (f .size)))) (f .root) k)
       nth-gives (x ∷ xs) e (suc n) f q layer l d =
           nth-gives xs (unfold layersGiveRoots in and-eq-true-iff (not (hasLayer (x .size) plen) || givesRoot plen x (layerBytes (lookup (x .root) ls))) (layersGiveRoots plen ls xs) .0 e .1) n f (unfold Nth in q) layer l d

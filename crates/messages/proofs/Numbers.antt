@@ -3,20 +3,15 @@
 use mathlib.Core.Path.{_≡_, refl, ap, ap₂, sym, _∙_}
 use mathlib.Core.Bool.{Bool, true, false, cond, _&&_}
 use mathlib.Core.List.{List, _++_}
-use Prim.Native.Nat.{ℕ, zero, suc, _+_, _-_, _*_, _/_, _^_, _≤_, _<_}
+use Prim.Native.Nat.{ℕ, zero, suc, _+_, _-_, _*_, _/_, _^_, _<_}
 use native.Mathlib.Omega.{arith}
-use lib.ListN.{length}
 use Rattle.octets.specs.Octets.{cut, same}
 use Rattle.numbers.specs.Numbers.{noMessage, otherRoot, ruleBroken, wrongSize, wrongPadding, noAnchor, differs, conflict, unusable}
 use Rattle.store.specs.Store.{usable, factsRoot, blocksOf, heightOf}
-use Rattle.store.specs.StoreLaws.{usable-facts}
 use Rattle.header.specs.declared.Header.{Header}
 use Rattle.header.specs.Header.{messageRoot, headerOf, rulesKept}
 use Rattle.messages.specs.Take.{headerNumber}
 use Rattle.messages.specs.Asks.{firstNumber, Passed}
-
-pub usable-long : (s : List ℕ) (t : Bool) → t ≡ usable s → t ≡ true → 64 ≤ length s
-usable-long s t e f = usable-facts s (sym e ∙ f) .long
 
 -- ---- 9, 1, 2
 

@@ -10,7 +10,6 @@ use native.Mathlib.Numerals.{add-one}
 use lib.Dec.{leb}
 use borrow.Author.Tests.{le-leb, lt-leb}
 use Rattle.octets.specs.Octets.{cut, same}
-use Rattle.sha256.specs.Sha256.{pairHash}
 use Rattle.tree.specs.Geometry.{covering}
 use Rattle.tree.specs.Values.{padValue}
 use Rattle.settling.specs.Path.{sibling, uncle}
@@ -94,7 +93,3 @@ module _ (hashes : List ℕ) (b i u l x : ℕ) where
   pub uncles-right : (t r : Bool) → (u ≡ 0 → ⊥) → t ≡ unclePadded hashes b i l x → t ≡ true
       → r ≡ unclesPadded hashes b (i + 1) (u - 1) (l + 1) (x / 2) → r ≡ unclesPadded hashes b i u l x
   uncles-right t r n e f g = g ∙ sym (uncles-step hashes b i u l x n ∙ rw (← e, f))
-
-pub pad-up : (v w : List ℕ) (l : ℕ) → v ≡ padValue l → w ≡ pairHash v v → w ≡ padValue (l + 1)
-unfolding padValue
-pad-up v w l e f = rw (add-one l) (cc)

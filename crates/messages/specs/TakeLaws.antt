@@ -13,6 +13,7 @@ use borrow.Author.Tests.{leb-true, eqb-true}
 use Rattle.octets.specs.Octets.{cut, same, zeroHash}
 use Rattle.octets.specs.OctetsLaws.{cut-length, zero-octets}
 use Rattle.numbers.specs.Numbers.{noMessage, otherRoot, ruleBroken, wrongSize, wrongPadding, noAnchor, differs, conflict, unusable}
+use Rattle.numbers.specs.NumbersLaws.{let-through}
 use Rattle.tree.specs.Geometry.{height}
 use Rattle.store.specs.Store.{usable, factsRoot, blocksOf, heightOf, positions, Facts}
 use Rattle.store.specs.StoreLaws.{usable-facts, positions-even, positions-most, facts-height}
@@ -42,11 +43,6 @@ unfolding isReject
 reject-form m e = eqb-true (length m) headerSize (and-eq-true-iff (eqb (length m) headerSize) (eqb (messageId m) rejectId) .0 e .0)
 
 -- ---- a header number of 0
-
--- a test that let the rest decide
-let-through : (t : Bool) (a n : ℕ) → (n ≡ 0 → ⊥) → cond t a n ≡ 0 → (t ≡ true) × (a ≡ 0)
-let-through true a n f e = (refl, e)
-let-through false a n f e = absurd (f e)
 
 pub passed : (form : Bool) (s m : List ℕ) → headerNumber form s m ≡ 0 → Passed form s m
 unfolding headerNumber

@@ -50,14 +50,14 @@ ready-from-root ls m n x p r =
 
 -- ---- a number of 0, and the whole call
 
-zero-or : (n a : ℕ) → orElse n a ≡ 0 → n ≡ 0
+pub zero-or : (n a : ℕ) → orElse n a ≡ 0 → n ≡ 0
 zero-or n a e = elim (ℕ-discrete n 0) [ yes z ↦ z | no ne ↦ rw (ne-eqb n 0 ne) at e ]
 
 pub taken-passed : (s m : List ℕ) (r : ℕ) → r ≡ takeNumber s m → r ≡ 0 → Passed (isHashes m) s m
 unfolding takeNumber
 taken-passed s m r e z = passed (isHashes m) s m (zero-or (headerNumber (isHashes m) s m) (bodyNumber s m (headerOf m) (placeIn s m)) (sym e ∙ z))
 
-body-zero : (n a : ℕ) → orElse n a ≡ 0 → a ≡ 0
+pub body-zero : (n a : ℕ) → orElse n a ≡ 0 → a ≡ 0
 body-zero n a e = rw (eq-eqb n 0 (zero-or n a e)) at e
 
 sized : (t u : Bool) (a : ℕ) → cond t (cond u a wrongPadding) wrongSize ≡ 0 → t ≡ true

@@ -1,16 +1,17 @@
 -- Laws of cut and paste, of the comparison, and of numbers as bytes, for callers to cite.
 -- Assumes nothing.
 use mathlib.Core.Path.{_≡_, refl, ap, ap₂, sym, _∙_}
-use mathlib.Core.List.{List, [], _∷_, _++_, append-assoc}
+use mathlib.Core.List.{List, [], _∷_, _++_, append-assoc, append-nil}
 use mathlib.Core.Bool.{Bool, true, false, _&&_, false≢true, and-eq-true-iff}
 use mathlib.Core.Logic.{_⊎_, inl, inr}
 use Prim.Native.Nat.{ℕ, zero, suc, _+_, _-_, _*_, _/_, _%_, _^_, _≤_, _<_, min}
 use native.Mathlib.Nat.{mod-lt, mod-eq-of-lt, pow-suc, pow-zero, div-one, div-div-eq-div-mul}
 use lib.Arith.{mod-mul}
+use native.Mathlib.Numerals.{add-one}
 use native.Mathlib.Omega.{arith}
 use native.Mathlib.Decide.{decLt}
-use lib.ListN.{length, take, drop, getD, set, length-append, length-take, length-drop, length-set, replicate, length-replicate, getD-replicate, List·getD-append, drop-of-length-le}
-use lib.Seq.{length-take-le, take-at, drop-at, getD-take, getD-drop, getD-append-add, getD-set-other, ext-getD, take-take, take-nil, take-all, take-append-le, drop-append-le, drop-append-add, drop-drop}
+use lib.ListN.{length, take, drop, getD, set, length-append, length-take, length-drop, length-set, replicate, length-replicate, getD-replicate, List·getD-append, drop-of-length-le, take-append-drop}
+use lib.Seq.{length-take-le, take-at, drop-at, getD-take, getD-drop, getD-append-add, getD-set-other, ext-getD, take-take, take-nil, take-all, take-append-le, drop-append-le, drop-append-add, drop-drop, drop-cons}
 use lib.Dec.{eqb, lit<}
 use borrow.Author.Tests.{eqb-true, eq-eqb}
 use Rattle.octets.specs.Octets.{Octets, cut, pasted, same, be, numberAt, zeroed, zeroHash}
@@ -26,6 +27,15 @@ getD-cut s at n i h = getD-take n (drop at s) i 0 h ∙ getD-drop at s i 0
 pub pasted-length : (s : List ℕ) (at : ℕ) (h : List ℕ) → at + length h ≤ length s → length (pasted s at h) ≡ length s
 unfolding pasted
 pasted-length s at h k = simp (length-append, length-take, length-drop) (omega arith)
+
+-- nothing put anywhere
+pub pasted-none : (s : List ℕ) (at : ℕ) → pasted s at [] ≡ s
+unfolding pasted
+pasted-none s at = let e : at + 0 ≡ at = omega arith in rw e (ap (λ (l : List ℕ). l ++ drop at s) (append-nil (take at s)) ∙ take-append-drop at s)
+
+-- what is left from an index inside: its element, and what is left behind it
+pub drop-step : (s : List ℕ) (i : ℕ) → i < length s → drop i s ≡ getD s i 0 ∷ drop (i + 1) s
+drop-step s i h = rw (add-one i) (drop-cons s i 0 h)
 
 head-length : (s : List ℕ) (at : ℕ) (h : List ℕ) → at + length h ≤ length s → length (take at s ++ h) ≡ at + length h
 head-length s at h k = simp (length-append, length-take) (omega arith)

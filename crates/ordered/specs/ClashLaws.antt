@@ -143,7 +143,8 @@ one-root xs x y m n r =
 pub lengths-clash : (plen : ℕ) (xs : List Item) → Ordered rootBefore xs → clash false plen xs ≡ twoLengths xs
 unfolding clash
 lengths-clash plen xs o =
-    both-ways (runs (firstWrong false plen) (λ (x y : Item). not (agree false x y)) (fullOnes xs)) (twoLengths xs) (λ e. from (runs-found (firstWrong false plen) (agree false) (fullOnes xs) e)) to
+    both-ways (runs (firstWrong false plen) (λ (x y : Item). not (agree false x y)) (fullOnes xs)) (twoLengths xs)
+    (λ e. from (runs-found (firstWrong false plen) (agree false) (fullOnes xs) e)) to
   where
     from : Found (firstWrong false plen) (agree false) (fullOnes xs) → twoLengths xs ≡ true
     from (one x m e) = absurd (false≢true e)
@@ -158,9 +159,11 @@ lengths-clash plen xs o =
         by-case : (t : Bool) → runs (firstWrong false plen) (λ (x y : Item). not (agree false x y)) (fullOnes xs) ≡ t → t ≡ true
         by-case true q = refl
         by-case false q =
-            let s = runs-settled (firstWrong false plen) (agree false) (agree-self false) (agree-back false) (agree-on false) (fullOnes xs) (full-ordered xs (roots-ordered xs o)) (λ x y m n r g. refl) q in
+            let s = runs-settled (firstWrong false plen) (agree false) (agree-self false) (agree-back false) (agree-on false) (fullOnes xs)
+            (full-ordered xs (roots-ordered xs o)) (λ x y m n r g. refl) q in
             let r = w .2 in
-            absurd (false≢true (sym (w .3) ∙ s .agreeing (w .0) (w .1) (full-there xs (w .0) (r .one) (r .one-full)) (full-there xs (w .1) (r .other) (r .other-full)) (r .same-root)))
+            absurd (false≢true (sym (w .3) ∙ s .agreeing (w .0) (w .1) (full-there xs (w .0) (r .one) (r .one-full))
+            (full-there xs (w .1) (r .other) (r .other-full)) (r .same-root)))
 
 -- ---- 28
 
@@ -183,18 +186,21 @@ module _ (plen : ℕ) (xs : List Item) (o : Ordered rootBefore xs) (l : twoLengt
   together : (x y : Item) → Member x (fullOnes xs) → Member y (fullOnes xs) → x .root ≡ y .root → agree true x y ≡ true
       → firstWrong true plen x ≡ firstWrong true plen y
   together x y m n r a =
-      gives-same plen (x .size) (y .size) (x .layer) (y .layer) (x .root) (y .root) (one-length x y m n r) (same-true (x .layer) (y .layer) a) r
+      gives-same plen (x .size) (y .size) (x .layer) (y .layer) (x .root) (y .root) (one-length x y m n r)
+      (same-true (x .layer) (y .layer) a) r
 
   -- a file whose layer is asked for is not empty
   asked-full : (x : Item) → givesOther plen x ≡ true → 0 < x .size
   unfolding hasLayer
   asked-full x e =
-      let h = ltb-true plen (x .size) (and-eq-true-iff (ltb plen (x .size)) (not (same (layerRoot (x .layer) (pieceLayer plen) (height (blockCount (x .size)))) (x .root))) .0 e .0) in omega arith
+      let h = ltb-true plen (x .size) (and-eq-true-iff (ltb plen (x .size))
+      (not (same (layerRoot (x .layer) (pieceLayer plen) (height (blockCount (x .size)))) (x .root))) .0 e .0) in omega arith
 
   pub layers-clash : clash true plen xs ≡ some (givesOther plen) xs || twoLayers xs
   unfolding clash
   layers-clash =
-      both-ways (runs (firstWrong true plen) (λ (x y : Item). not (agree true x y)) (fullOnes xs)) (some (givesOther plen) xs || twoLayers xs) (λ e. from (runs-found (firstWrong true plen) (agree true) (fullOnes xs) e)) to
+      both-ways (runs (firstWrong true plen) (λ (x y : Item). not (agree true x y)) (fullOnes xs))
+      (some (givesOther plen) xs || twoLayers xs) (λ e. from (runs-found (firstWrong true plen) (agree true) (fullOnes xs) e)) to
     where
       from : Found (firstWrong true plen) (agree true) (fullOnes xs) → some (givesOther plen) xs || twoLayers xs ≡ true
       from (one x m e) = or-left (some (givesOther plen) xs) (twoLayers xs) (some-there (givesOther plen) xs x (full-of xs x m .0) e)
@@ -208,7 +214,8 @@ module _ (plen : ℕ) (xs : List Item) (o : Ordered rootBefore xs) (l : twoLengt
           settled : runs (firstWrong true plen) (λ (x y : Item). not (agree true x y)) (fullOnes xs) ≡ false
               → Settled (firstWrong true plen) (agree true) (fullOnes xs)
           settled q =
-              runs-settled (firstWrong true plen) (agree true) (agree-self true) (agree-back true) (agree-on true) (fullOnes xs) (full-ordered xs (roots-ordered xs o)) together q
+              runs-settled (firstWrong true plen) (agree true) (agree-self true) (agree-back true) (agree-on true) (fullOnes xs)
+              (full-ordered xs (roots-ordered xs o)) together q
 
           wrong-layer : Settled (firstWrong true plen) (agree true) (fullOnes xs) → some (givesOther plen) xs ≡ true → ⊥
           wrong-layer s a =
@@ -219,12 +226,14 @@ module _ (plen : ℕ) (xs : List Item) (o : Ordered rootBefore xs) (l : twoLengt
           wrong-pair s a =
               let w = pair-of (agree true) xs .0 a in
               let r = w .2 in
-              false≢true (sym (w .3) ∙ s .agreeing (w .0) (w .1) (full-there xs (w .0) (r .one) (r .one-full)) (full-there xs (w .1) (r .other) (r .other-full)) (r .same-root))
+              false≢true (sym (w .3) ∙ s .agreeing (w .0) (w .1) (full-there xs (w .0) (r .one) (r .one-full))
+              (full-there xs (w .1) (r .other) (r .other-full)) (r .same-root))
 
           by-case : (t : Bool) → runs (firstWrong true plen) (λ (x y : Item). not (agree true x y)) (fullOnes xs) ≡ t → t ≡ true
           by-case true q = refl
           by-case false q =
-              elim (or-one (some (givesOther plen) xs) (twoLayers xs) e) [ inl a ↦ absurd (wrong-layer (settled q) a) | inr b ↦ absurd (wrong-pair (settled q) b) ]
+              elim (or-one (some (givesOther plen) xs) (twoLayers xs) e)
+              [ inl a ↦ absurd (wrong-layer (settled q) a) | inr b ↦ absurd (wrong-pair (settled q) b) ]
 
 -- ---- by root and layer is an order
 
@@ -241,7 +250,8 @@ given-from : (x : Item) (b : ℕ) (bs : List ℕ) (ys : List Item) → x .layer 
 unfolding layersGiven OrderedFrom
 given-from x b bs [] e o = tt
 given-from x b bs (y ∷ ys) e o =
-    by-layer (y .layer) refl (given-from x b bs ys e (skip rootBefore root-behind x y ys (o .0) (o .1))) (λ c cs f. given-from y c cs ys f (o .1))
+    by-layer (y .layer) refl (given-from x b bs ys e (skip rootBefore root-behind x y ys (o .0) (o .1)))
+    (λ c cs f. given-from y c cs ys f (o .1))
   where
     by-layer : (m : List ℕ) → y .layer ≡ m → OrderedFrom layerBefore (x .root, b ∷ bs) (layersGiven ys)
         → ((c : ℕ) (cs : List ℕ) → y .layer ≡ c ∷ cs → OrderedFrom layerBefore (y .root, c ∷ cs) (layersGiven ys))

@@ -38,10 +38,12 @@ passed-start s h = record { left = record { within = omega arith; steps = length
 module _ (s : List ℕ) (at : ℕ) (passed : List (List ℕ)) (p : Passed s at passed) where
   pub passed-end : length s ≤ at → elementsIn (length s) s ≡ passed
   passed-end h =
-      p .whole ∙ ap (λ (l : List (List ℕ)). passed ++ l) (in-end (p .left .steps) (drop at s) (length-drop at s ∙ omega arith)) ∙ append-nil passed
+      p .whole ∙ ap (λ (l : List (List ℕ)). passed ++ l) (in-end (p .left .steps) (drop at s) (length-drop at s ∙ omega arith)) ∙ append-nil
+      passed
 
   module _ (h : at < length s) (m : ℕ) (e : m ≡ numberAt s at 4) where
-    here : elementsIn (length s) s ≡ passed ++ take (numberAt s at 4) (drop (at + 4) s) ∷ elementsIn (path-more s at (p .left) h .steps) (drop (at + 4 + numberAt s at 4) s)
+    here : elementsIn (length s) s ≡ passed ++ take (numberAt s at 4) (drop (at + 4) s) ∷ elementsIn (path-more s at (p .left) h .steps)
+        (drop (at + 4 + numberAt s at 4) s)
     here = p .whole ∙ ap (λ (l : List (List ℕ)). passed ++ l) (path-elements s at (p .left) h)
 
     -- the element there is one of the path's
@@ -58,7 +60,8 @@ module _ (s : List ℕ) (at : ℕ) (passed : List (List ℕ)) (p : Passed s at p
           few = not-more (length-append passed (take (numberAt s at 4) (drop (at + 4) s) ∷ [])) (p .few);
           whole =
               here
-              ∙ sym (append-snoc passed (take (numberAt s at 4) (drop (at + 4) s)) (elementsIn (path-more s at (p .left) h .steps) (drop (at + 4 + numberAt s at 4) s)));
+              ∙ sym (append-snoc passed (take (numberAt s at 4) (drop (at + 4) s))
+              (elementsIn (path-more s at (p .left) h .steps) (drop (at + 4 + numberAt s at 4) s)));
         })
       where
         not-more : length (passed ++ take (numberAt s at 4) (drop (at + 4) s) ∷ []) ≡ length passed + 1 → length passed ≤ at
@@ -119,7 +122,8 @@ module _ (list text : List ℕ) (p a b : ℕ) (ea : a ≡ numberAt list (p + 48)
       empty = sym (slice-path list text p a b ea eb) ∙ in-end (length (take (a + b - a) (drop a text))) (take (a + b - a) (drop a text)) few
 
   module _ (f : formAt list text p ≡ true) (z : b ≡ 0 → ⊥) (t : Bool)
-      (et : t ≡ some (λ (e : List ℕ). not (elementRight e)) (elementsIn (length (take (a + b - a) (drop a text))) (take (a + b - a) (drop a text)))) where
+      (et : t ≡ some (λ (e : List ℕ). not (elementRight e))
+      (elementsIn (length (take (a + b - a) (drop a text))) (take (a + b - a) (drop a text)))) where
     elements-are : some (λ (e : List ℕ). not (elementRight e)) (itemAt list text p .path) ≡ t
     elements-are = sym (et ∙ ap (some (λ (e : List ℕ). not (elementRight e))) (slice-path list text p a b ea eb))
 
@@ -134,7 +138,8 @@ module _ (list text : List ℕ) (p a b : ℕ) (ea : a ≡ numberAt list (p + 48)
 
         fits : a + b ≤ length text
         fits =
-            let l = leb-true (numberAt list (p + 48) 4 + numberAt list (p + 48 + 4) 4) (length text) (form-parts list text p f .path-fits) in omega arith
+            let l = leb-true (numberAt list (p + 48) 4 + numberAt list (p + 48 + 4) 4) (length text)
+            (form-parts list text p f .path-fits) in omega arith
 
         long : 0 < length (take (a + b - a) (drop a text))
         long = let l = slice-length (cut-length text a b fits) in rw size (omega arith)
@@ -221,7 +226,8 @@ pub record-there : (list text : List ℕ) (i : ℕ) → listForm list text ≡ t
 unfolding listForm
 record-there list text i h l = (
   let d = div-add-mod' (length list) recordSize in omega arith,
-  form-there list text (recordCount list) i (and-eq-true-iff (eqb (length list % recordSize) 0) (formUpTo list text (recordCount list)) .0 h .1) l,
+  form-there list text (recordCount list) i
+      (and-eq-true-iff (eqb (length list % recordSize) 0) (formUpTo list text (recordCount list)) .0 h .1) l,
 )
 
 module _ (test : Item → Bool) (list text : List ℕ) where
@@ -255,7 +261,8 @@ module _ (test : Item → Bool) (list text : List ℕ) where
       by-last false q more =
           let g = ltb-false i n q in
           let o : i ≡ n = omega arith in
-          some-in test (itemsUpTo list text n) (itemAt list text (recordSize * n)) [] (sym (ap (λ (k : ℕ). test (itemAt list text (recordSize * k))) o) ∙ e)
+          some-in test (itemsUpTo list text n) (itemAt list text (recordSize * n)) []
+          (sym (ap (λ (k : ℕ). test (itemAt list text (recordSize * k))) o) ∙ e)
 
   pub content-some : (n : ℕ) (b : Bool) → n ≡ recordCount list → b ≡ some test (itemsUpTo list text n) → b ≡ some test (contentOf list text)
   unfolding contentOf

@@ -35,18 +35,21 @@ module _ (list text : List ℕ) (plen : ℕ) (layers : Bool) (p : ℕ) where
     unfolding itemAt
     size-is = sym en
 
-    first-is : firstWrong layers plen (itemAt list text p) ≡ t && not (same (layerRoot (itemAt list text p .layer) (pieceLayer plen) (height (blockCount n))) (itemAt list text p .root))
+    first-is : firstWrong layers plen (itemAt list text p) ≡ t && not
+        (same (layerRoot (itemAt list text p .layer) (pieceLayer plen) (height (blockCount n))) (itemAt list text p .root))
     first-is = rw (e, size-is, et) refl
 
     pub no-layer : t ≡ false → false ≡ firstWrong layers plen (itemAt list text p)
     no-layer f = sym (first-is ∙ rw f refl)
 
     module _ (f : t ≡ true) (s m : ℕ) (es : s ≡ numberAt list (p + 40) 4) (em : m ≡ numberAt list (p + 40 + 4) 4) (g : Bool)
-        (eg : g ≡ same (layerRoot (take (s + m - s) (drop s text)) (pieceLayer plen) (height (blockCount n))) (take (p + 40 - (p + 8)) (drop (p + 8) list))) where
+        (eg : g ≡ same (layerRoot (take (s + m - s) (drop s text)) (pieceLayer plen) (height (blockCount n)))
+        (take (p + 40 - (p + 8)) (drop (p + 8) list))) where
       given : firstWrong layers plen (itemAt list text p) ≡ not g
       given =
           first-is ∙ rw f refl
-          ∙ sym (ap not (eg ∙ ap₂ (λ (x y : List ℕ). same (layerRoot x (pieceLayer plen) (height (blockCount n))) y) (layer-slice list text p s m es em) (root-slice list text p)))
+          ∙ sym (ap not (eg ∙ ap₂ (λ (x y : List ℕ). same (layerRoot x (pieceLayer plen) (height (blockCount n))) y)
+          (layer-slice list text p s m es em) (root-slice list text p)))
 
       pub layer-gives : g ≡ true → false ≡ firstWrong layers plen (itemAt list text p)
       layer-gives q = sym (given ∙ ap not q)
@@ -60,7 +63,8 @@ module _ (list text : List ℕ) (p q s m u n : ℕ) (es : s ≡ numberAt list (p
     (eu : u ≡ numberAt list (q + 40) 4) (en : n ≡ numberAt list (q + 40 + 4) 4) where
   pub one-part : s ≡ u → m ≡ n → true ≡ agree true (itemAt list text p) (itemAt list text q)
   one-part e f =
-      sym (ap (same (itemAt list text p .layer)) (sym (layer-slice list text q s m (e ∙ eu) (f ∙ en)) ∙ layer-slice list text p s m es em) ∙ same-refl (itemAt list text p .layer))
+      sym (ap (same (itemAt list text p .layer)) (sym (layer-slice list text q s m (e ∙ eu) (f ∙ en)) ∙ layer-slice list text p s m es em) ∙
+      same-refl (itemAt list text p .layer))
 
   pub parts-compared : (r : Bool) → r ≡ same (take (s + m - s) (drop s text)) (take (u + n - u) (drop u text))
       → r ≡ agree true (itemAt list text p) (itemAt list text q)

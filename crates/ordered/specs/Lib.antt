@@ -4,6 +4,7 @@ pub mod Order
 pub mod OrderLaws
 pub mod CompareLaws
 pub mod Neighbours
+pub mod Roots
 pub mod MeetLaws
 pub mod RunsLaws
 pub mod ClashLaws

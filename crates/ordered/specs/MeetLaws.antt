@@ -68,7 +68,8 @@ begins-between (e ∷ p) (f ∷ q) (g ∷ r) a b h = by-case (same f e) refl (sa
 meets-next : (x y : Item) (ys : List Item) → OrderedFrom itemBefore x (y ∷ ys) → some (onePath x) (y ∷ ys) ≡ leads x y
 unfolding some OrderedFrom Member
 meets-next x y ys o =
-    both-ways (some (onePath x) (y ∷ ys)) (leads x y) there (λ e. or-left (onePath x y) (some (onePath x) ys) (or-left (leads x y) (leads y x) e))
+    both-ways (some (onePath x) (y ∷ ys)) (leads x y) there
+    (λ e. or-left (onePath x y) (some (onePath x) ys) (or-left (leads x y) (leads y x) e))
   where
     behind : (a b c : Item) → itemBefore b a ≡ false → itemBefore c b ≡ false → itemBefore c a ≡ false
     behind a b c = path-behind (a .path) (b .path) (c .path)
@@ -89,7 +90,8 @@ meets-next x y ys o =
       where
         found : (w : Item) × Member w (y ∷ ys) × (onePath x w ≡ true) → leads x y ≡ true
         found f =
-            elim (or-one (leads x (f .0)) (leads (f .0) x) (f .2)) [ inl a ↦ led (f .0) (f .1) a | inr b ↦ led (f .0) (f .1) (turned (f .0) (f .1) b) ]
+            elim (or-one (leads x (f .0)) (leads (f .0) x) (f .2))
+            [ inl a ↦ led (f .0) (f .1) a | inr b ↦ led (f .0) (f .1) (turned (f .0) (f .1) b) ]
 
 meet-from : (x : Item) (xs : List Item) → OrderedFrom itemBefore x xs → meet (x ∷ xs) ≡ followed leads x xs
 unfolding meet some followed OrderedFrom
@@ -105,4 +107,5 @@ meet-neighbours (x ∷ xs) o = meet-from x xs o
 pub meet-sorted : (xs : List Item) → meet xs ≡ neighbours leads (inTreeOrder xs)
 meet-sorted xs =
     meet-permuted xs (inTreeOrder xs) (sorted-permuted itemBefore xs)
-    ∙ meet-neighbours (inTreeOrder xs) (sorted-ordered itemBefore (λ x y. path-one-way (x .path) (y .path)) (λ x y z. path-behind (x .path) (y .path) (z .path)) xs)
+    ∙ meet-neighbours (inTreeOrder xs) (sorted-ordered itemBefore (λ x y. path-one-way (x .path) (y .path))
+    (λ x y z. path-behind (x .path) (y .path) (z .path)) xs)

@@ -16,6 +16,7 @@ use Rattle.bencode.specs.Grammar.{dictionary, encode}
 use Rattle.publishing.specs.Content.{Item, torrentOf}
 use Rattle.publishing.specs.Number.{some, tooDeep, wrongItem, meet, nothing, twoLengths, misfit, givesOther, twoLayers, contentNumber}
 use Rattle.lists.specs.Lists.{recordSize, itemAt, formUpTo, itemsUpTo, recordCount, listForm, contentOf}
+use Rattle.ordered.specs.Roots.{rootNumber}
 
 -- ---- a list has a file exactly if it has a byte
 
@@ -39,7 +40,8 @@ some-bytes list text h n = by-count (recordCount list) refl
   where
     whole : length list % recordSize ≡ 0
     whole =
-        eqb-true (length list % recordSize) 0 (and-eq-true-iff (eqb (length list % recordSize) 0) (formUpTo list text (recordCount list)) .0 h .0)
+        eqb-true (length list % recordSize) 0 (and-eq-true-iff (eqb (length list % recordSize) 0) (formUpTo list text (recordCount list)) .0
+        h .0)
 
     by-count : (k : ℕ) → recordCount list ≡ k → nothing (itemsUpTo list text (recordCount list)) ≡ false
     by-count zero e = absurd (n (let d = div-add-mod' (length list) recordSize in omega (arith, whole)))
@@ -56,10 +58,7 @@ module _ (plen : ℕ) (name : List ℕ) (xs : List Item) (size : ℕ) (e : size 
       (cond (some tooDeep xs) nestedTooDeeply
       (cond (not (isPieceLength plen)) pieceLengthOutOfRange
       (cond (nothing xs || some wrongItem xs || meet xs) wrongTree
-      (cond (twoLengths xs) sameRoot
-      (cond (some (misfit plen) xs) layersAmiss
-      (cond (some (givesOther plen) xs || twoLayers xs) layerDiffers
-      0))))))
+      (rootNumber plen xs))))
   unfolding contentNumber
   number-is = rw e refl
 
@@ -97,17 +96,22 @@ module _ (plen : ℕ) (name : List ℕ) (xs : List Item) (size : ℕ) (e : size 
             pub has-wrong : some wrongItem xs ≡ true → wrongTree ≡ contentNumber plen name xs
             has-wrong h = wrong-is (rw (d, h) refl)
 
-            module _ (g : some wrongItem xs ≡ false) where
-              pub has-lengths : twoLengths xs ≡ true → sameRoot ≡ contentNumber plen name xs
-              has-lengths h = sym (number-is ∙ rw (le-ltb largestTorrent size a, b, c, d, g, f, h) refl)
+            pub by-roots : some wrongItem xs ≡ false → (n : ℕ) → n ≡ rootNumber plen xs → n ≡ contentNumber plen name xs
+            by-roots g n h = h ∙ sym (number-is ∙ rw (le-ltb largestTorrent size a, b, c, d, g, f) refl)
 
-              module _ (i : twoLengths xs ≡ false) where
-                pub has-misfit : some (misfit plen) xs ≡ true → layersAmiss ≡ contentNumber plen name xs
-                has-misfit h = sym (number-is ∙ rw (le-ltb largestTorrent size a, b, c, d, g, f, i, h) refl)
+-- ---- 26 to 28
 
-                module _ (j : some (misfit plen) xs ≡ false) where
-                  pub layers-differ : some (givesOther plen) xs || twoLayers xs ≡ true → layerDiffers ≡ contentNumber plen name xs
-                  layers-differ h = sym (number-is ∙ rw (le-ltb largestTorrent size a, b, c, d, g, f, i, j, h) refl)
+module _ (plen : ℕ) (xs : List Item) where
+  pub has-lengths : twoLengths xs ≡ true → sameRoot ≡ rootNumber plen xs
+  has-lengths h = rw h refl
 
-                  pub nothing-wrong : some (givesOther plen) xs || twoLayers xs ≡ false → 0 ≡ contentNumber plen name xs
-                  nothing-wrong h = sym (number-is ∙ rw (le-ltb largestTorrent size a, b, c, d, g, f, i, j, h) refl)
+  module _ (a : twoLengths xs ≡ false) where
+    pub has-misfit : some (misfit plen) xs ≡ true → layersAmiss ≡ rootNumber plen xs
+    has-misfit h = rw (a, h) refl
+
+    module _ (b : some (misfit plen) xs ≡ false) where
+      pub layers-differ : some (givesOther plen) xs || twoLayers xs ≡ true → layerDiffers ≡ rootNumber plen xs
+      layers-differ h = rw (a, b, h) refl
+
+      pub nothing-wrong : some (givesOther plen) xs || twoLayers xs ≡ false → 0 ≡ rootNumber plen xs
+      nothing-wrong h = rw (a, b, h) refl

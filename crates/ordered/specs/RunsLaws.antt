@@ -62,7 +62,8 @@ module _ (first : Item → Bool) (told : Item → Item → Bool) where
   unfolding runs Member
   runs-found [] e = absurd (false≢true e)
   runs-found (x ∷ xs) e =
-      elim (or-one (first x) (runFrom first (λ (u v : Item). not (told u v)) x xs) e) [ inl a ↦ one x (inl refl) a | inr b ↦ found-from x xs b ]
+      elim (or-one (first x) (runFrom first (λ (u v : Item). not (told u v)) x xs) e)
+      [ inl a ↦ one x (inl refl) a | inr b ↦ found-from x xs b ]
 
   module _ (told-self : (x : Item) → told x x ≡ true) (told-back : (x y : Item) → told x y ≡ true → told y x ≡ true)
       (told-on : (x y z : Item) → told x y ≡ true → told y z ≡ true → told x z ≡ true) where
@@ -112,7 +113,8 @@ module _ (first : Item → Bool) (told : Item → Item → Bool) where
     settled-from x (y ∷ ys) o t h e =
         by-root (same (x .root) (y .root)) refl (split .0) (λ f. settled-from y ys (o .1) (λ z w m n. t z w (inr m) (inr n)) f (split .1))
       where
-        split : (cond (same (x .root) (y .root)) (not (told x y)) (first y) ≡ false) × (runFrom first (λ (u v : Item). not (told u v)) y ys ≡ false)
+        split : (cond (same (x .root) (y .root)) (not (told x y)) (first y) ≡ false) ×
+            (runFrom first (λ (u v : Item). not (told u v)) y ys ≡ false)
         split = or-none (cond (same (x .root) (y .root)) (not (told x y)) (first y)) (runFrom first (λ (u v : Item). not (told u v)) y ys) e
 
         by-root : (b : Bool) → same (x .root) (y .root) ≡ b → cond b (not (told x y)) (first y) ≡ false

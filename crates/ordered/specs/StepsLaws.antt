@@ -37,7 +37,8 @@ module _ {A : Type 0} (test : A → A → Bool) (f : ℕ → A) (at : List ℕ) 
   neighbours-step : i + 1 < length at
       → neighbours test (map f (drop i at)) ≡ test (f (getD at i 0)) (f (getD at (i + 1) 0)) || neighbours test (map f (drop (i + 1) at))
   neighbours-step h =
-      ap (λ (l : List ℕ). neighbours test (map f l)) (drop-step at i (omega arith) ∙ ap (λ (l : List ℕ). getD at i 0 ∷ l) (drop-step at (i + 1) h))
+      ap (λ (l : List ℕ). neighbours test (map f l))
+      (drop-step at i (omega arith) ∙ ap (λ (l : List ℕ). getD at i 0 ∷ l) (drop-step at (i + 1) h))
       ∙ first-two test (f (getD at i 0)) (f (getD at (i + 1) 0)) (map f (drop (i + 1 + 1) at))
       ∙ ap (λ (l : List ℕ). test (f (getD at i 0)) (f (getD at (i + 1) 0)) || neighbours test (map f l)) (sym (drop-step at (i + 1) h))
 
@@ -59,7 +60,8 @@ module _ {A : Type 0} (test : A → A → Bool) (f : ℕ → A) (at : List ℕ) 
 -- what is left of the runs: behind the last file that was not empty, if there was one
 unfoldable pub runsLeft : Bool → ℕ → Bool → Item → List Item → Bool
 runsLeft layers plen seen x ys =
-    cond seen (runFrom (firstWrong layers plen) (λ (u v : Item). not (agree layers u v)) x (fullOnes ys)) (runs (firstWrong layers plen) (λ (u v : Item). not (agree layers u v)) (fullOnes ys))
+    cond seen (runFrom (firstWrong layers plen) (λ (u v : Item). not (agree layers u v)) x (fullOnes ys))
+    (runs (firstWrong layers plen) (λ (u v : Item). not (agree layers u v)) (fullOnes ys))
 
 left-none : (layers : Bool) (plen : ℕ) (seen : Bool) (x : Item) → runsLeft layers plen seen x [] ≡ false
 unfolding runsLeft fullOnes runFrom runs
@@ -80,7 +82,8 @@ left-full layers plen false x y ys e = rw e refl
 pub record Clashing (list text : List ℕ) (plen : ℕ) (layers : Bool) (at : List ℕ) (seen : Bool) (last i : ℕ) : Type 0 where
   pub within : i ≤ length at
   pub last-there : seen ≡ true → InForm list text last
-  pub whole : clash layers plen (map (itemAt list text) at) ≡ runsLeft layers plen seen (itemAt list text last) (map (itemAt list text) (drop i at))
+  pub whole : clash layers plen (map (itemAt list text) at) ≡ runsLeft layers plen seen (itemAt list text last)
+      (map (itemAt list text) (drop i at))
 
 module _ (list text : List ℕ) (plen : ℕ) (layers : Bool) (at : List ℕ) where
   pub clashing-start : (last : ℕ) → Clashing list text plen layers at false last 0
@@ -95,10 +98,12 @@ module _ (list text : List ℕ) (plen : ℕ) (layers : Bool) (at : List ℕ) whe
         ∙ left-none layers plen seen (itemAt list text last)
 
     module _ (h : i < length at) (p : ℕ) (e : p ≡ getD at i 0) where
-      here : clash layers plen (map (itemAt list text) at) ≡ runsLeft layers plen seen (itemAt list text last) (itemAt list text p ∷ map (itemAt list text) (drop (i + 1) at))
+      here : clash layers plen (map (itemAt list text) at) ≡ runsLeft layers plen seen (itemAt list text last)
+          (itemAt list text p ∷ map (itemAt list text) (drop (i + 1) at))
       here =
           c .whole
-          ∙ ap (λ (l : List ℕ). runsLeft layers plen seen (itemAt list text last) (map (itemAt list text) l)) (drop-step at i h ∙ ap (λ (k : ℕ). k ∷ drop (i + 1) at) (sym e))
+          ∙ ap (λ (l : List ℕ). runsLeft layers plen seen (itemAt list text last) (map (itemAt list text) l))
+          (drop-step at i h ∙ ap (λ (k : ℕ). k ∷ drop (i + 1) at) (sym e))
 
       size-is : (t : Bool) → ltb 0 (numberAt list p 8) ≡ t → ltb 0 (itemAt list text p .size) ≡ t
       unfolding itemAt
@@ -111,14 +116,17 @@ module _ (list text : List ℕ) (plen : ℕ) (layers : Bool) (at : List ℕ) whe
             last-there = c .last-there;
             whole =
                 here
-                ∙ left-empty layers plen seen (itemAt list text last) (itemAt list text p) (map (itemAt list text) (drop (i + 1) at)) (size-is false q);
+                ∙ left-empty layers plen seen (itemAt list text last) (itemAt list text p) (map (itemAt list text) (drop (i + 1) at))
+                (size-is false q);
           }
 
       module _ (q : ltb 0 (numberAt list p 8) ≡ true) where
-        full : clash layers plen (map (itemAt list text) at) ≡ wrongNext layers plen seen (itemAt list text last) (itemAt list text p) || runsLeft layers plen true (itemAt list text p) (map (itemAt list text) (drop (i + 1) at))
+        full : clash layers plen (map (itemAt list text) at) ≡ wrongNext layers plen seen (itemAt list text last) (itemAt list text p) ||
+            runsLeft layers plen true (itemAt list text p) (map (itemAt list text) (drop (i + 1) at))
         full =
             here
-            ∙ left-full layers plen seen (itemAt list text last) (itemAt list text p) (map (itemAt list text) (drop (i + 1) at)) (size-is true q)
+            ∙ left-full layers plen seen (itemAt list text last) (itemAt list text p) (map (itemAt list text) (drop (i + 1) at))
+            (size-is true q)
 
         pub clashing-stop : wrongNext layers plen seen (itemAt list text last) (itemAt list text p) ≡ true
             → clash layers plen (map (itemAt list text) at) ≡ true

@@ -1,7 +1,7 @@
 // 26 and 28 of files that stand by their roots, in runs of one root: files that are not empty have one length and one layer in a run, and
 // the first one's layer gives the root. So each root's layer is hashed once.
 use crate::compare::index;
-use bencode::order::same;
+use lists::front::same;
 use octets::number_at;
 use tree::geometry::has_layer;
 use tree::geometry::piece_layer;
@@ -103,7 +103,8 @@ fn wrong_next(
 ) -> bool
     requires { ⌜ (seen ≡ true → InForm (now list) (now text) p) × InForm (now list) (now text) q
         × (layers ≡ true → isPieceLength plen ≡ true) ⌝ }
-    ensures { λ r. ⌜ r ≡ wrongNext layers plen seen (itemAt (now (list .entry)) (now (text .entry)) p) (itemAt (now (list .entry)) (now (text .entry)) q) ⌝ }
+    ensures { λ r. ⌜ r ≡ wrongNext layers plen seen (itemAt (now (list .entry)) (now (text .entry)) p)
+        (itemAt (now (list .entry)) (now (text .entry)) q) ⌝ }
 {
     if !seen {
         return first_wrong(list, text, plen, layers, q);

@@ -6,27 +6,55 @@ use tree::geometry::is_piece_length;
 ghost use mathlib.Core.Path.{_≡_};
 ghost use mathlib.Core.Bool.{true};
 ghost use mathlib.Core.List.{List};
-ghost use Prim.Native.Nat.{ℕ};
+ghost use Prim.Native.Nat.{ℕ, _≤_};
 ghost use lib.ListN.{length};
+ghost use Rattle.limits.specs.Limits.{largestTorrent};
+ghost use Rattle.tree.specs.Geometry.{isPieceLength};
 ghost use Rattle.bencode.specs.Grammar.{dictionary, encode};
 ghost use Rattle.publishing.specs.Content.{torrentOf};
 ghost use Rattle.publishing.specs.Number as P;
 ghost use Rattle.publishing.specs.Number.{contentNumber};
 ghost use Rattle.lists.specs.Lists.{listForm, contentOf};
 ghost use Rattle.ordered.specs.Order.{rootBefore, InOrder};
+ghost use Rattle.ordered.specs.Roots.{rootNumber};
 
-// The lowest number that holds of a list's content, or 0, where `size` is the size of its torrent with some name, `at` has the records'
-// positions by root, and `meets` says whether two files meet.
+// The lowest of 26 to 28 that holds of a list's content, or 0, where `at` has the records' positions by root and `rest` is the size of the
+// layers as they are written. Where they do not go into a torrent they are not hashed: a lower number holds.
+pub fn root_number(list: &[u8], text: &[u8], plen: usize, at: &[u32], rest: usize) -> u32
+    requires { ⌜ (listForm (now list) (now text) ≡ true) × InOrder rootBefore (now list) (now text) (now at) ⌝ }
+    ensures { λ r. ⌜ (rest ≤ largestTorrent → isPieceLength plen ≡ true
+        → r ≡ rootNumber plen (contentOf (now (list .entry)) (now (text .entry)))) ⌝ }
+{
+    if limits::LARGEST_TORRENT < rest {
+        return 0;
+    }
+    if !is_piece_length(plen) {
+        return 0;
+    }
+    if clashes(list, text, plen, false, at) {
+        return numbers::SAME_ROOT;
+    }
+    if one_fails(list, text, plen, Test::Layer) {
+        return numbers::LAYERS_AMISS;
+    }
+    if clashes(list, text, plen, true, at) {
+        return numbers::LAYER_DIFFERS;
+    }
+    0
+}
+
+// The lowest number that holds of a list's content, or 0, where `size` is the size of its torrent with some name, `meets` says whether two
+// files meet, and `roots` is the lowest of 26 to 28.
 pub fn content_number(
     list: &[u8],
     text: &[u8],
     plen: usize,
-    at: &[u32],
     size: usize,
     meets: bool,
+    roots: u32,
 ) -> u32
-    requires { ⌜ (listForm (now list) (now text) ≡ true) × InOrder rootBefore (now list) (now text) (now at)
-        × (meets ≡ P.meet (contentOf (now list) (now text))) ⌝ }
+    requires { ⌜ (listForm (now list) (now text) ≡ true) × (meets ≡ P.meet (contentOf (now list) (now text)))
+        × (size ≤ largestTorrent → isPieceLength plen ≡ true → roots ≡ rootNumber plen (contentOf (now list) (now text))) ⌝ }
     ensures { λ r. ⌜ ((name : List ℕ)
         → size ≡ length (encode (dictionary (torrentOf plen name (contentOf (now (list .entry)) (now (text .entry))))))
         → r ≡ contentNumber plen name (contentOf (now (list .entry)) (now (text .entry)))) ⌝ }
@@ -49,14 +77,5 @@ pub fn content_number(
     if one_fails(list, text, plen, Test::Wrong) {
         return numbers::WRONG_TREE;
     }
-    if clashes(list, text, plen, false, at) {
-        return numbers::SAME_ROOT;
-    }
-    if one_fails(list, text, plen, Test::Layer) {
-        return numbers::LAYERS_AMISS;
-    }
-    if clashes(list, text, plen, true, at) {
-        return numbers::LAYER_DIFFERS;
-    }
-    0
+    roots
 }

@@ -88,7 +88,8 @@ opened-most (suc steps) s h = by-empty (eqb (length s) 0) h (λ f. opened-most s
   where
     by-empty : (t : Bool)
         → cond t true (leb 4 (length s) && (leb (elementEnd s) (length s) && elementsFit steps (drop (elementEnd s) s))) ≡ true
-        → (elementsFit steps (drop (elementEnd s) s) ≡ true → length (opened (elementsIn steps (drop (elementEnd s) s))) ≤ 2 * length (drop (elementEnd s) s))
+        → (elementsFit steps (drop (elementEnd s) s) ≡ true → length (opened (elementsIn steps (drop (elementEnd s) s))) ≤ 2 * length
+        (drop (elementEnd s) s))
         → length (opened (cond t [] (cut s 4 (numberAt s 0 4) ∷ elementsIn steps (drop (elementEnd s) s)))) ≤ 2 * length s
     by-empty true f more = unfold opened in omega arith
     by-empty false f more =
@@ -105,7 +106,8 @@ opened-most (suc steps) s h = by-empty (eqb (length s) 0) h (λ f. opened-most s
 number-below : (s : List ℕ) → ((i : ℕ) → getD s i 0 < 256) → (at k : ℕ) → numberAt s at k < 256 ^ k
 unfolding numberAt
 number-below s b at zero = omega arith
-number-below s b at (suc k) = rw (sym (add-one k)) (digit-below (numberAt s at k) (getD s (at + k) 0) k (number-below s b at k) (b (at + k)))
+number-below s b at (suc k) =
+    rw (sym (add-one k)) (digit-below (numberAt s at k) (getD s (at + k) 0) k (number-below s b at k) (b (at + k)))
 
 layers-step : (j : KeyBefore) (l : Layer) (ls : List Layer)
     → length (layersBytes j (l ∷ ls)) ≡ length (layerEntry j l) + length (layersBytes (after (l .0)) ls)
@@ -117,7 +119,9 @@ module _ (list text : List ℕ) (b : (i : ℕ) → getD list i 0 < 256) where
   part-most at = let n = number-below list b (at + 4) 4 in omega (arith, cut-size text (numberAt list at 4) (numberAt list (at + 4) 4))
 
   path-most : (place : ℕ) → InForm list text place → length (opened (itemAt list text place .path)) < 2 ^ 33
-  path-most place f = let m = opened-most (length (pathAt list text place)) (pathAt list text place) (path-right list text place (f .1) .1) in let n = part-most (place + 48) in bound (omega arith)
+  path-most place f =
+      let m = opened-most (length (pathAt list text place)) (pathAt list text place) (path-right list text place (f .1) .1) in let n =
+      part-most (place + 48) in bound (omega arith)
     where
       bound : length (opened (elementsIn (length (pathAt list text place)) (pathAt list text place))) < 2 ^ 33
           → length (opened (itemAt list text place .path)) < 2 ^ 33
@@ -134,7 +138,9 @@ module _ (list text : List ℕ) (b : (i : ℕ) → getD list i 0 < 256) where
 
       by-size : (t : Bool) → eqb (itemAt list text place .size) 0 ≡ t
           → length (propertiesBytes (itemAt list text place .size) (itemAt list text place .root)) ≤ 120
-      by-size true e = let d = decimal-most (itemAt list text place .size) size-most in omega (arith, empty-length (itemAt list text place .size) (itemAt list text place .root) (eqb-true _ 0 e))
+      by-size true e =
+          let d = decimal-most (itemAt list text place .size) size-most in omega
+          (arith, empty-length (itemAt list text place .size) (itemAt list text place .root) (eqb-true _ 0 e))
       by-size false e =
           let d = decimal-most (itemAt list text place .size) size-most in
           let r = root-most in
@@ -151,7 +157,8 @@ module _ (list text : List ℕ) (b : (i : ℕ) → getD list i 0 < 256) where
 
   -- a file, and the nodes that it leaves open
   file-most : (p : List (List ℕ)) (place : ℕ) → InForm list text place
-      → length (fileBytes p (itemAt list text place .path) (properties (itemAt list text place))) + length (itemAt list text place .path) ≤ length p + 2 ^ 35
+      → length (fileBytes p (itemAt list text place .path) (properties (itemAt list text place))) + length (itemAt list text place .path) ≤
+      length p + 2 ^ 35
   file-most p place f =
       let q = itemAt list text place .path in
       let c = closed (length p - shared p q) in
@@ -171,7 +178,8 @@ module _ (list text : List ℕ) (b : (i : ℕ) → getD list i 0 < 256) where
   tree-most (place ∷ ps) f p =
       let a = file-most p place (first place ps f) in
       let m = tree-most ps (fewer place ps f) (itemAt list text place .path) in
-      let c = length-append (fileBytes p (itemAt list text place .path) (properties (itemAt list text place))) (treeBytes (itemAt list text place .path) (map (itemAt list text) ps)) in
+      let c = length-append (fileBytes p (itemAt list text place .path) (properties (itemAt list text place)))
+      (treeBytes (itemAt list text place .path) (map (itemAt list text) ps)) in
       omega arith
 
   entry-most : (j : KeyBefore) (place : ℕ) → length (layerEntry j (layerOf (itemAt list text place))) ≤ 2 ^ 35
@@ -205,10 +213,17 @@ module _ (list text : List ℕ) (b : (i : ℕ) → getD list i 0 < 256) where
       by-layer : (t : Bool) → eqb (length (x .layer)) 0 ≡ t
           → ((k : KeyBefore) → length (layersBytes k (layersGiven xs)) ≤ 1 + length ps * 2 ^ 35)
           → length (layersBytes j (layersGiven (x ∷ xs))) ≤ 1 + suc (length ps) * 2 ^ 35
-      by-layer true q more = let m = more j in omega (arith, ap (λ (ls : List Layer). length (layersBytes j ls)) (given-none x xs (eqb-true _ 0 q)))
+      by-layer true q more =
+          let m = more j in omega (arith, ap (λ (ls : List Layer). length (layersBytes j ls)) (given-none x xs (eqb-true _ 0 q)))
       by-layer false q more =
           let m = more (after (x .root)) in
-          omega (arith, ap (λ (ls : List Layer). length (layersBytes j ls)) (given-some x xs (eqb-false _ 0 q)), layers-step j (layerOf x) (layersGiven xs), entry-most j place)
+          omega (
+            arith,
+            ap (λ (ls : List Layer). length (layersBytes j ls)) (given-some x xs (eqb-false _ 0 q)),
+            layers-step j (layerOf x)
+                (layersGiven xs),
+            entry-most j place,
+          )
 
   -- ---- the two parts
 

@@ -35,7 +35,8 @@ put-first l noEntries = refl
 put-first l (entry k v es) = by-key (same (l .0) k) refl
   where
     by-key : (t : Bool) → same (l .0) k ≡ t
-        → cond t (entry k (string (l .1)) es) (entry (l .0) (string (l .1)) (entry k v es)) ≡ entry (l .0) (string (l .1)) (cond t es (entry k v es))
+        → cond t (entry k (string (l .1)) es) (entry (l .0) (string (l .1)) (entry k v es)) ≡ entry (l .0) (string (l .1))
+        (cond t es (entry k v es))
     by-key true e = rw (sym (same-true (l .0) k e)) refl
     by-key false e = refl
 
@@ -53,17 +54,21 @@ pub layers-encoded : (ls : List Layer) → layersBytes none ls ≡ encodeEntries
 unfolding layersBytes layersOfAll encodeEntries
 layers-encoded [] = refl
 layers-encoded (l ∷ ls) =
-    rw (put-first l (layersOfAll ls), after-root (l .0) ls) (append-assoc (encodeString (l .0)) (encodeString (l .1)) (encodeEntries (without (l .0) (layersOfAll ls))))
+    rw (put-first l (layersOfAll ls), after-root (l .0) ls)
+    (append-assoc (encodeString (l .0)) (encodeString (l .1)) (encodeEntries (without (l .0) (layersOfAll ls))))
 
 -- ---- the layer of a record
 
 three-true : (a b c : Bool) → a && (b && c) ≡ true → b ≡ true
 three-true a b c e = and-eq-true-iff b c .0 (and-eq-true-iff a (b && c) .0 e .1) .0
 
-module _ (list text : List ℕ) (place a b : ℕ) (f : InForm list text place) (ea : a ≡ numberAt list (place + 40) 4) (eb : b ≡ numberAt list (place + 40 + 4) 4) where
+module _ (list text : List ℕ) (place a b : ℕ) (f : InForm list text place) (ea : a ≡ numberAt list (place + 40) 4)
+    (eb : b ≡ numberAt list (place + 40 + 4) 4) where
   layer-right : partFits list text (place + 40) ≡ true
   layer-right =
-      three-true (ltb (numberAt list place 8) (2 ^ 63)) (partFits list text (place + 40)) (partFits list text (place + 48) && elementsFit (length (pathAt list text place)) (pathAt list text place)) (unfold formAt in f .1)
+      three-true (ltb (numberAt list place 8) (2 ^ 63)) (partFits list text (place + 40))
+      (partFits list text (place + 48) && elementsFit (length (pathAt list text place)) (pathAt list text place))
+      (unfold formAt in f .1)
 
   pub layer-end : a + b ≤ length text
   layer-end = slice-end list text (place + 40) a b layer-right ea eb
@@ -109,15 +114,18 @@ module _ (list text : List ℕ) (place last : ℕ) (seen : Bool) where
 
   -- it does not: both strings are
   entry-new : (t : Bool) → t ≡ repeats (rootSeen list seen last) (cut list (place + 8) 32) → t ≡ false
-      → layerEntry (rootSeen list seen last) (layerOf (itemAt list text place)) ≡ encodeString (itemAt list text place .root) ++ encodeString (itemAt list text place .layer)
+      → layerEntry (rootSeen list seen last) (layerOf (itemAt list text place)) ≡ encodeString (itemAt list text place .root) ++
+      encodeString (itemAt list text place .layer)
   entry-new t e f = rw (sym (ap (repeats (rootSeen list seen last)) root-is) ∙ sym e ∙ f) refl
 
   pub entry-length : (t : Bool) → t ≡ repeats (rootSeen list seen last) (cut list (place + 8) 32) → t ≡ false
-      → length (layerEntry (rootSeen list seen last) (layerOf (itemAt list text place))) ≡ length (encodeString (take (place + 40 - (place + 8)) (drop (place + 8) list))) + length (encodeString (itemAt list text place .layer))
+      → length (layerEntry (rootSeen list seen last) (layerOf (itemAt list text place))) ≡ length
+      (encodeString (take (place + 40 - (place + 8)) (drop (place + 8) list))) + length (encodeString (itemAt list text place .layer))
   entry-length t e f =
       ap (λ (l : List ℕ). length l) (entry-new t e f)
       ∙ length-append (encodeString (itemAt list text place .root)) (encodeString (itemAt list text place .layer))
-      ∙ ap (λ (l : List ℕ). length (encodeString l) + length (encodeString (itemAt list text place .layer))) (sym (root-slice list text place))
+      ∙ ap (λ (l : List ℕ). length (encodeString l) + length (encodeString (itemAt list text place .layer)))
+      (sym (root-slice list text place))
 
   pub put-entry : (t : Bool) → t ≡ repeats (rootSeen list seen last) (cut list (place + 8) 32) → t ≡ false → (layer : List ℕ)
       → layer ≡ itemAt list text place .layer
@@ -137,11 +145,17 @@ module _ (list text : List ℕ) (place last : ℕ) (seen : Bool) where
 pub record Listing (s : List ℕ) (at : ℕ) (list text order t : List ℕ) (now : ℕ) (seen : Bool) (last i : ℕ) : Type 0 where
   pub counted : i ≤ length order
   pub inside : last ≤ length list - recordSize
-  pub going : Going s at (layersBytes none (layersGiven (map (itemAt list text) order))) (layersBytes (rootSeen list seen last) (layersGiven (map (itemAt list text) (drop i order)))) t now
+  pub going : Going s at (layersBytes none (layersGiven (map (itemAt list text) order)))
+      (layersBytes (rootSeen list seen last) (layersGiven (map (itemAt list text) (drop i order)))) t now
 
 pub listing-start : (s : List ℕ) (at : ℕ) (list text order : List ℕ) → Listing s at list text order s at false 0 0
 listing-start s at list text order =
-    record { counted = omega arith; inside = omega arith; going = going-start s at (layersBytes none (layersGiven (map (itemAt list text) order))) }
+    record {
+      counted = omega arith;
+      inside = omega arith;
+      going = going-start s at
+          (layersBytes none (layersGiven (map (itemAt list text) order)));
+    }
 
 pub given-none : (x : Item) (xs : List Item) → length (x .layer) ≡ 0 → layersGiven (x ∷ xs) ≡ layersGiven xs
 unfolding layersGiven
@@ -160,7 +174,9 @@ given-some x xs e = by-layer (x .layer) refl e
     by-layer (b ∷ bs) p q = ap (λ (l : List ℕ). (x .root, l) ∷ layersGiven xs) (sym p)
 
 -- the next record
-module _ (s : List ℕ) (at : ℕ) (list text order t : List ℕ) (now : ℕ) (seen : Bool) (last i : ℕ) (g : Listing s at list text order t now seen last i) (h : i < length order) (f : Placed list text order) (place : ℕ) (e : place ≡ getD order i 0)
+module _ (s : List ℕ) (at : ℕ) (list text order t : List ℕ) (now : ℕ) (seen : Bool) (last i : ℕ)
+    (g : Listing s at list text order t now seen last i) (h : i < length order) (f : Placed list text order) (place : ℕ)
+    (e : place ≡ getD order i 0)
     (b : ℕ) (eb : b ≡ numberAt list (place + 40 + 4) 4) where
   has-form : InForm list text place
   has-form = placed-index list text order i place f h e
@@ -178,8 +194,10 @@ module _ (s : List ℕ) (at : ℕ) (list text order t : List ℕ) (now : ℕ) (s
         counted = omega arith;
         inside = g .inside;
         going =
-            subst (λ (ls : List Layer). Going s at (layersBytes none (layersGiven (map (itemAt list text) order))) (layersBytes (rootSeen list seen last) ls) t now)
-            (ap (λ (l : List ℕ). layersGiven (map (itemAt list text) l)) rest ∙ given-none (itemAt list text place) (map (itemAt list text) (drop (i + 1) order)) (size-is ∙ z))
+            subst (λ (ls : List Layer). Going s at (layersBytes none (layersGiven (map (itemAt list text) order)))
+            (layersBytes (rootSeen list seen last) ls) t now)
+            (ap (λ (l : List ℕ). layersGiven (map (itemAt list text) l)) rest ∙ given-none (itemAt list text place)
+            (map (itemAt list text) (drop (i + 1) order)) (size-is ∙ z))
             (g .going);
       }
 
@@ -188,16 +206,21 @@ module _ (s : List ℕ) (at : ℕ) (list text order t : List ℕ) (now : ℕ) (s
     abbrev later : List ℕ
     later = layersBytes (after (itemAt list text place .root)) (layersGiven (map (itemAt list text) (drop (i + 1) order)))
 
-    next-layer : Going s at (layersBytes none (layersGiven (map (itemAt list text) order))) (layerEntry (rootSeen list seen last) (layerOf (itemAt list text place)) ++ later) t now
+    next-layer : Going s at (layersBytes none (layersGiven (map (itemAt list text) order)))
+        (layerEntry (rootSeen list seen last) (layerOf (itemAt list text place)) ++ later) t now
     next-layer =
         subst (λ (l : List ℕ). Going s at (layersBytes none (layersGiven (map (itemAt list text) order))) l t now)
-        (ap (layersBytes (rootSeen list seen last)) (ap (λ (l : List ℕ). layersGiven (map (itemAt list text) l)) rest ∙ given-some (itemAt list text place) (map (itemAt list text) (drop (i + 1) order)) (λ q. z (sym size-is ∙ q)))
+        (ap (layersBytes (rootSeen list seen last))
+        (ap (λ (l : List ℕ). layersGiven (map (itemAt list text) l)) rest ∙ given-some (itemAt list text place)
+        (map (itemAt list text) (drop (i + 1) order)) (λ q. z (sym size-is ∙ q)))
         ∙ (unfold layersBytes in refl))
         (g .going)
 
     pub layer-room : (n : ℕ) → at + length (layersBytes none (layersGiven (map (itemAt list text) order))) < n
         → now + length (layerEntry (rootSeen list seen last) (layerOf (itemAt list text place))) < n
-    layer-room n l = going-room s at (layersBytes none (layersGiven (map (itemAt list text) order))) (layerEntry (rootSeen list seen last) (layerOf (itemAt list text place))) later t now n next-layer l
+    layer-room n l =
+        going-room s at (layersBytes none (layersGiven (map (itemAt list text) order)))
+        (layerEntry (rootSeen list seen last) (layerOf (itemAt list text place))) later t now n next-layer l
 
     pub last-inside : last + recordSize ≤ length list
     last-inside = let w = has-form .0 in let v = g .inside in omega arith
@@ -209,17 +232,21 @@ module _ (s : List ℕ) (at : ℕ) (list text order t : List ℕ) (now : ℕ) (s
           counted = omega arith;
           inside = let w = has-form .0 in omega arith;
           going =
-              subst (λ (k : List ℕ). Going s at (layersBytes none (layersGiven (map (itemAt list text) order))) (layersBytes (after k) (layersGiven (map (itemAt list text) (drop (i + 1) order)))) u r)
+              subst (λ (k : List ℕ). Going s at (layersBytes none (layersGiven (map (itemAt list text) order)))
+              (layersBytes (after k) (layersGiven (map (itemAt list text) (drop (i + 1) order)))) u r)
               (sym (root-is list text place last seen))
-              (going-more s at (layersBytes none (layersGiven (map (itemAt list text) order))) (layerEntry (rootSeen list seen last) (layerOf (itemAt list text place))) later t u now r next-layer p k);
+              (going-more s at (layersBytes none (layersGiven (map (itemAt list text) order)))
+              (layerEntry (rootSeen list seen last) (layerOf (itemAt list text place))) later t u now r next-layer p k);
         }
 
 -- all records are passed
-module _ (s : List ℕ) (at : ℕ) (list text order t : List ℕ) (now : ℕ) (seen : Bool) (last i : ℕ) (g : Listing s at list text order t now seen last i) (h : length order ≤ i) where
+module _ (s : List ℕ) (at : ℕ) (list text order t : List ℕ) (now : ℕ) (seen : Bool) (last i : ℕ)
+    (g : Listing s at list text order t now seen last i) (h : length order ≤ i) where
   last-byte : Going s at (layersBytes none (layersGiven (map (itemAt list text) order))) ((letterE ∷ []) ++ []) t now
   last-byte =
       subst (λ (l : List ℕ). Going s at (layersBytes none (layersGiven (map (itemAt list text) order))) l t now)
-      (ap (λ (l : List ℕ). layersBytes (rootSeen list seen last) (layersGiven (map (itemAt list text) l))) (drop-of-length-le order {i = i} h) ∙ (unfold layersGiven layersBytes in refl))
+      (ap (λ (l : List ℕ). layersBytes (rootSeen list seen last) (layersGiven (map (itemAt list text) l)))
+      (drop-of-length-le order {i = i} h) ∙ (unfold layersGiven layersBytes in refl))
       (g .going)
 
   pub end-room : (n : ℕ) → at + length (layersBytes none (layersGiven (map (itemAt list text) order))) < n → now + 1 < n

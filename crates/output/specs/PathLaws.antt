@@ -31,9 +31,11 @@ enough (suc n) (suc k) s h l = by-empty (eqb (length s) 0) refl h (λ f g. enoug
   where
     by-empty : (t : Bool) → eqb (length s) 0 ≡ t
         → cond t true (leb 4 (length s) && (leb (elementEnd s) (length s) && elementsFit n (drop (elementEnd s) s))) ≡ true
-        → (elementsFit n (drop (elementEnd s) s) ≡ true → length (drop (elementEnd s) s) ≤ k → (elementsFit k (drop (elementEnd s) s) ≡ true) × (elementsIn k (drop (elementEnd s) s) ≡ elementsIn n (drop (elementEnd s) s)))
+        → (elementsFit n (drop (elementEnd s) s) ≡ true → length (drop (elementEnd s) s) ≤ k →
+        (elementsFit k (drop (elementEnd s) s) ≡ true) × (elementsIn k (drop (elementEnd s) s) ≡ elementsIn n (drop (elementEnd s) s)))
         → (cond t true (leb 4 (length s) && (leb (elementEnd s) (length s) && elementsFit k (drop (elementEnd s) s))) ≡ true)
-        × (cond t [] (cut s 4 (numberAt s 0 4) ∷ elementsIn k (drop (elementEnd s) s)) ≡ cond t [] (cut s 4 (numberAt s 0 4) ∷ elementsIn n (drop (elementEnd s) s)))
+        × (cond t [] (cut s 4 (numberAt s 0 4) ∷ elementsIn k (drop (elementEnd s) s)) ≡ cond t []
+        (cut s 4 (numberAt s 0 4) ∷ elementsIn n (drop (elementEnd s) s)))
     by-empty true e f more = (refl, refl)
     by-empty false e f more =
         let a = and-eq-true-iff (leb 4 (length s)) (leb (elementEnd s) (length s) && elementsFit n (drop (elementEnd s) s)) .0 f in
@@ -64,7 +66,9 @@ module _ (s : List ℕ) (at : ℕ) (w : Standing s at) (h : at < length s) where
 
   more : (elementsFit (length (drop (at + 4 + numberAt s at 4) s)) (drop (at + 4 + numberAt s at 4) s) ≡ true)
       × (leftIn s (at + 4 + numberAt s at 4) ≡ elementsIn (path-more s at left h .steps) (drop (at + 4 + numberAt s at 4) s))
-  more = enough (path-more s at left h .steps) (length (drop (at + 4 + numberAt s at 4) s)) (drop (at + 4 + numberAt s at 4) s) (path-more s at left h .fits) (omega arith)
+  more =
+      enough (path-more s at left h .steps) (length (drop (at + 4 + numberAt s at 4) s)) (drop (at + 4 + numberAt s at 4) s)
+      (path-more s at left h .fits) (omega arith)
 
   pub standing-more : (m : ℕ) → m ≡ numberAt s at 4 → Standing s (at + 4 + m)
   standing-more m e = rw e (record { within = element-end (numberAt s at 4) refl; fits = more .0 })
@@ -109,7 +113,8 @@ along-end p q at a z =
     }
 
 pub along-first-end : (p q : List ℕ) (at : ℕ) → Along p q at → length p ≤ at → SharedTo p q at
-along-first-end p q at a h = along-end p q at a (ap (λ (l : List (List ℕ)). shared l (leftIn q at)) (left-none p at h) ∙ (unfold shared in refl))
+along-first-end p q at a h =
+    along-end p q at a (ap (λ (l : List (List ℕ)). shared l (leftIn q at)) (left-none p at h) ∙ (unfold shared in refl))
 
 none-shared : (p : List (List ℕ)) → shared p [] ≡ 0
 unfolding shared
@@ -120,7 +125,8 @@ pub along-second-end : (p q : List ℕ) (at : ℕ) → Along p q at → length q
 along-second-end p q at a h = along-end p q at a (ap (shared (leftIn p at)) (left-none q at h) ∙ none-shared (leftIn p at))
 
 -- the elements there, as slices x and y
-module _ (p q : List ℕ) (at m n : ℕ) (a : Along p q at) (g : at < length p) (h : at < length q) (i : m ≡ numberAt p at 4) (j : n ≡ numberAt q at 4) where
+module _ (p q : List ℕ) (at m n : ℕ) (a : Along p q at) (g : at < length p) (h : at < length q) (i : m ≡ numberAt p at 4)
+    (j : n ≡ numberAt q at 4) where
   x : List ℕ
   x = take (at + 4 + m - (at + 4)) (drop (at + 4) p)
 
@@ -154,7 +160,8 @@ module _ (p q : List ℕ) (at m n : ℕ) (a : Along p q at) (g : at < length p) 
       one : m ≡ n
       one =
           sym (element-length p at (a .first) g m i)
-          ∙ ap (λ (l : List ℕ). length l) (same-true (take (at + 4 + m - (at + 4)) (drop (at + 4) p)) (take (at + 4 + n - (at + 4)) (drop (at + 4) q)) (sym e ∙ f))
+          ∙ ap (λ (l : List ℕ). length l) (same-true (take (at + 4 + m - (at + 4)) (drop (at + 4) p))
+          (take (at + 4 + n - (at + 4)) (drop (at + 4) q)) (sym e ∙ f))
           ∙ element-length q at (a .second) h n j
 
       next : shared (leftIn p at) (leftIn q at) ≡ suc (shared (leftIn p (at + 4 + m)) (leftIn q (at + 4 + m)))
@@ -172,15 +179,19 @@ pub record Walking (bytes : List (List ℕ) → List ℕ) (s : List ℕ) (at : �
 pub walking-end : (bytes : List (List ℕ) → List ℕ) (s : List ℕ) (at : ℕ) (path : List ℕ) (from : ℕ) (t : List ℕ) (now i : ℕ) → bytes [] ≡ []
     → Walking bytes s at path from t now i → length path ≤ i → Put s at (bytes (leftIn path from)) t now
 walking-end bytes s at path from t now i e w h =
-    going-end s at (bytes (leftIn path from)) t now (subst (λ (l : List ℕ). Going s at (bytes (leftIn path from)) l t now) (ap bytes (left-none path i h) ∙ e) (w .going))
+    going-end s at (bytes (leftIn path from)) t now
+    (subst (λ (l : List ℕ). Going s at (bytes (leftIn path from)) l t now) (ap bytes (left-none path i h) ∙ e) (w .going))
 
 -- the bytes that close the nodes of a path
 abbrev pub closing : List (List ℕ) → List ℕ
 closing p = closed (length p)
 
-module _ (s : List ℕ) (at : ℕ) (path : List ℕ) (from : ℕ) (t : List ℕ) (now i m : ℕ) (w : Walking closing s at path from t now i) (h : i < length path) (e : m ≡ numberAt path i 4) where
+module _ (s : List ℕ) (at : ℕ) (path : List ℕ) (from : ℕ) (t : List ℕ) (now i m : ℕ) (w : Walking closing s at path from t now i)
+    (h : i < length path) (e : m ≡ numberAt path i 4) where
   next-closed : Going s at (closing (leftIn path from)) ((letterE ∷ []) ++ closing (leftIn path (i + 4 + m))) t now
-  next-closed = subst (λ (l : List (List ℕ)). Going s at (closing (leftIn path from)) (closing l) t now) (left-more path i (w .standing) h m e) (w .going)
+  next-closed =
+      subst (λ (l : List (List ℕ)). Going s at (closing (leftIn path from)) (closing l) t now) (left-more path i (w .standing) h m e)
+      (w .going)
 
   pub closing-room : (n : ℕ) → at + length (leftIn path from) < n → now + 1 < n
   closing-room n l =
@@ -195,21 +206,29 @@ module _ (s : List ℕ) (at : ℕ) (path : List ℕ) (from : ℕ) (t : List ℕ)
         going = going-more s at (closing (leftIn path from)) (letterE ∷ []) (closing (leftIn path (i + 4 + m))) t u now r next-closed p k;
       }
 
-module _ (s : List ℕ) (at : ℕ) (path : List ℕ) (from : ℕ) (t : List ℕ) (now i m : ℕ) (w : Walking opened s at path from t now i) (h : i < length path) (e : m ≡ numberAt path i 4) where
+module _ (s : List ℕ) (at : ℕ) (path : List ℕ) (from : ℕ) (t : List ℕ) (now i m : ℕ) (w : Walking opened s at path from t now i)
+    (h : i < length path) (e : m ≡ numberAt path i 4) where
   abbrev element : List ℕ
   element = take (i + 4 + m - (i + 4)) (drop (i + 4) path)
 
-  next-opened : Going s at (opened (leftIn path from)) (encodeString (take (i + 4 + m - (i + 4)) (drop (i + 4) path)) ++ ((letterD ∷ []) ++ opened (leftIn path (i + 4 + m)))) t now
+  next-opened : Going s at (opened (leftIn path from))
+      (encodeString (take (i + 4 + m - (i + 4)) (drop (i + 4) path)) ++ ((letterD ∷ []) ++ opened (leftIn path (i + 4 + m)))) t now
   next-opened =
-      subst (λ (l : List ℕ). Going s at (opened (leftIn path from)) l t now) (ap opened (left-more path i (w .standing) h m e) ∙ (unfold opened in refl)) (w .going)
+      subst (λ (l : List ℕ). Going s at (opened (leftIn path from)) l t now)
+      (ap opened (left-more path i (w .standing) h m e) ∙ (unfold opened in refl)) (w .going)
 
   pub opening-room : (n : ℕ) → at + length (opened (leftIn path from)) < n
       → now + length (encodeString (take (i + 4 + m - (i + 4)) (drop (i + 4) path))) < n
-  opening-room n l = going-room s at (opened (leftIn path from)) (encodeString element) ((letterD ∷ []) ++ opened (leftIn path (i + 4 + m))) t now n next-opened l
+  opening-room n l =
+      going-room s at (opened (leftIn path from)) (encodeString element) ((letterD ∷ []) ++ opened (leftIn path (i + 4 + m))) t now n
+      next-opened l
 
-  module _ (u : List ℕ) (r : ℕ) (p : Put t now (encodeString (take (i + 4 + m - (i + 4)) (drop (i + 4) path))) u r) (k : length u ≡ length t) where
+  module _ (u : List ℕ) (r : ℕ) (p : Put t now (encodeString (take (i + 4 + m - (i + 4)) (drop (i + 4) path))) u r)
+      (k : length u ≡ length t) where
     behind-key : Going s at (opened (leftIn path from)) ((letterD ∷ []) ++ opened (leftIn path (i + 4 + m))) u r
-    behind-key = going-more s at (opened (leftIn path from)) (encodeString element) ((letterD ∷ []) ++ opened (leftIn path (i + 4 + m))) t u now r next-opened p k
+    behind-key =
+        going-more s at (opened (leftIn path from)) (encodeString element) ((letterD ∷ []) ++ opened (leftIn path (i + 4 + m))) t u now r
+        next-opened p k
 
     pub opening-room-2 : (n : ℕ) → at + length (opened (leftIn path from)) < n → r + 1 < n
     opening-room-2 n l = going-room s at (opened (leftIn path from)) (letterD ∷ []) (opened (leftIn path (i + 4 + m))) u r n behind-key l

@@ -44,7 +44,8 @@ put-append s t u at m r a b p q k =
           ∙ rw (p .there (omega arith), x) (pasted-append s at a b (omega arith));
     }
 
-module _ (s : List ℕ) (at : ℕ) (whole x rest t u : List ℕ) (now r : ℕ) (g : Going s at whole (x ++ rest) t now) (p : Put t now x u r) (k : length u ≡ length t) where
+module _ (s : List ℕ) (at : ℕ) (whole x rest t u : List ℕ) (now r : ℕ) (g : Going s at whole (x ++ rest) t now) (p : Put t now x u r)
+    (k : length u ≡ length t) where
   pub going-more : Going s at whole rest u r
   going-more =
       record {
@@ -65,7 +66,8 @@ going-end s at whole t now g = rw (sym (g .splits), append-nil) (g .so-far)
 -- what is left ends where the whole ends
 pub going-place : (s : List ℕ) (at : ℕ) (whole rest t : List ℕ) (now : ℕ) → Going s at whole rest t now
     → now + length rest ≡ at + length whole
-going-place s at whole rest t now g = let e = g .so-far .behind in omega (arith, ap (λ (l : List ℕ). length l) (g .splits), length-append (g .done) rest)
+going-place s at whole rest t now g =
+    let e = g .so-far .behind in omega (arith, ap (λ (l : List ℕ). length l) (g .splits), length-append (g .done) rest)
 
 -- the next part ends before the whole does
 pub going-room : (s : List ℕ) (at : ℕ) (whole x rest t : List ℕ) (now n : ℕ) → Going s at whole (x ++ rest) t now → at + length whole < n

@@ -5,22 +5,19 @@ use mathlib.Core.Bool.{Bool, true, false}
 use mathlib.Core.List.{List, [], _∷_, _++_, append-assoc}
 use Prim.Native.Nat.{ℕ, zero, suc, _+_, _-_, _*_, _≤_, _<_}
 use native.Mathlib.Omega.{arith}
-use native.Mathlib.Nat.{zero-add}
-use lib.ListN.{length, take, drop, length-append}
-use lib.Seq.{length-take-le, drop-at}
+use lib.ListN.{length, drop, length-append}
 use lib.Dec.{ltb}
 use borrow.Author.Tests.{lt-ltb}
 use Rattle.limits.specs.Limits.{largestTorrent}
-use Rattle.octets.specs.Octets.{pasted}
 use Rattle.bencode.specs.Grammar.{letterD, letterE, letterI, decimal, decimalIn, encodeString, Value, integer, string, dictionary, Entries, noEntries, entry, encode, encodeEntries, KeyBefore}
 use Rattle.bencode.specs.Grammar as G
 use Rattle.bencode.specs.CompleteLaws.{BeginsWithDigit, decimal-first}
 use Rattle.meaning.specs.Keys.{keyInfo, keyFileTree, keyPieceLength, keyMetaVersion, keyPieceLayers}
 use Rattle.publishing.specs.Sorting.{sortedBy, Permuted, then}
 use Rattle.publishing.specs.SortingLaws.{sorted-ordered, sorted-permuted, sorted-stays, permuted-back}
-use Rattle.publishing.specs.Content.{Item, layerBefore, itemBefore, inTreeOrder, properties, treeOfAll, withLayer, layersGiven, layersOfAll, keyName, infoWritten, torrentOf}
+use Rattle.publishing.specs.Content.{Item, layerBefore, itemBefore, inTreeOrder, properties, treeOfAll, Layer, withLayer, layersGiven, layersOfAll, keyName, infoWritten, torrentOf}
 use Rattle.publishing.specs.Number.{meet, tooLarge}
-use Rattle.publishing.specs.AnyOrder.{layersWritten, layers-any-order, size-any-order, torrent-any-order}
+use Rattle.publishing.specs.AnyOrder.{layersWritten, given-permuted, layers-any-order, size-any-order, torrent-any-order}
 use Rattle.publishing.specs.Written.{shared, opened, closed, fileBytes, treeBytes}
 use Rattle.publishing.specs.WrittenLaws.{tree-encoded}
 use Rattle.publishing.specs.SizeLaws.{rising, in-order}
@@ -28,7 +25,7 @@ use Rattle.ordered.specs.Order.{rootBefore, mostFiles}
 use Rattle.ordered.specs.ClashLaws.{root-one-way, root-behind, given-ordered}
 use Rattle.ordered.specs.MergedLaws.{permuted-length}
 use Rattle.output.specs.Put.{Put}
-use Rattle.output.specs.PutLaws.{put-append, put-three}
+use Rattle.output.specs.PutLaws.{put-append, put-three, string-length}
 use Rattle.output.specs.Layers.{layersBytes}
 use Rattle.output.specs.LayersLaws.{layers-encoded}
 use Rattle.output.specs.Files.{propertiesBytes}
@@ -40,7 +37,8 @@ use Rattle.output.specs.Whole.{wordTree, wordName, wordPlen, wordLayers,
 pub layers-by-root : (xs : List Item) → layersWritten xs ≡ layersOfAll (layersGiven (sortedBy rootBefore xs))
 layers-by-root xs =
     layers-any-order xs (sortedBy rootBefore xs) (sorted-permuted rootBefore xs)
-    ∙ ap layersOfAll (sorted-stays layerBefore (layersGiven (sortedBy rootBefore xs)) (given-ordered (sortedBy rootBefore xs) (sorted-ordered rootBefore root-one-way root-behind xs)))
+    ∙ ap layersOfAll (sorted-stays layerBefore (layersGiven (sortedBy rootBefore xs))
+    (given-ordered (sortedBy rootBefore xs) (sorted-ordered rootBefore root-one-way root-behind xs)))
 
 -- ---- the whole
 
@@ -78,10 +76,15 @@ moved : (t w n v d a b x z : List ℕ)
 moved t w n v d a b x z = simp append-assoc
 
 assembled : (t n d l : List ℕ)
-    → letterD ∷ ((52 ∷ 58 ∷ keyInfo) ++ ((letterD ∷ ((57 ∷ 58 ∷ keyFileTree) ++ ((letterD ∷ t) ++ ((49 ∷ 50 ∷ 58 ∷ keyMetaVersion) ++ ((letterI ∷ ((50 ∷ []) ++ letterE ∷ [])) ++ ((52 ∷ 58 ∷ keyName) ++ (n ++ ((49 ∷ 50 ∷ 58 ∷ keyPieceLength) ++ ((letterI ∷ (d ++ letterE ∷ [])) ++ letterE ∷ []))))))))) ++ ((49 ∷ 50 ∷ 58 ∷ keyPieceLayers) ++ ((letterD ∷ l) ++ letterE ∷ []))))
+    → letterD ∷ ((52 ∷ 58 ∷ keyInfo) ++ ((letterD ∷
+    ((57 ∷ 58 ∷ keyFileTree) ++ ((letterD ∷ t) ++
+    ((49 ∷ 50 ∷ 58 ∷ keyMetaVersion) ++ ((letterI ∷ ((50 ∷ []) ++ letterE ∷ [])) ++
+    ((52 ∷ 58 ∷ keyName) ++ (n ++ ((49 ∷ 50 ∷ 58 ∷ keyPieceLength) ++ ((letterI ∷ (d ++ letterE ∷ [])) ++ letterE ∷ []))))))))) ++
+    ((49 ∷ 50 ∷ 58 ∷ keyPieceLayers) ++ ((letterD ∷ l) ++ letterE ∷ []))))
     ≡ (wordTree ++ (t ++ (wordName ++ (n ++ (wordPlen ++ (d ++ wordLayers)))))) ++ (l ++ letterE ∷ [])
 assembled t n d l =
-    ap (λ (s : List ℕ). wordTree ++ s) (moved t wordName n wordPlen d (letterE ∷ []) (letterE ∷ []) ((49 ∷ 50 ∷ 58 ∷ keyPieceLayers) ++ letterD ∷ []) (l ++ letterE ∷ []))
+    ap (λ (s : List ℕ). wordTree ++ s) (moved t wordName n wordPlen d (letterE ∷ []) (letterE ∷ [])
+    ((49 ∷ 50 ∷ 58 ∷ keyPieceLayers) ++ letterD ∷ []) (l ++ letterE ∷ []))
 
 torrent-assembled : (plen : ℕ) (name : List ℕ) (tree layers : Entries) (t l : List ℕ) → encode (dictionary tree) ≡ letterD ∷ t
     → encodeEntries layers ≡ l
@@ -89,12 +92,24 @@ torrent-assembled : (plen : ℕ) (name : List ℕ) (tree layers : Entries) (t l 
     ≡ (wordTree ++ (t ++ (wordName ++ (encodeString name ++ (wordPlen ++ (decimal plen ++ wordLayers)))))) ++ (l ++ letterE ∷ [])
 torrent-assembled plen name tree layers t l e f = spread ∙ assembled t (encodeString name) (decimal plen) l
   where
-    opened-up : encode (dictionary (entry keyInfo (dictionary (infoWritten plen name tree)) (entry keyPieceLayers (dictionary layers) noEntries)))
-        ≡ letterD ∷ (encodeString keyInfo ++ ((letterD ∷ (encodeString keyFileTree ++ (encode (dictionary tree) ++ (encodeString keyMetaVersion ++ ((letterI ∷ (decimal 2 ++ letterE ∷ [])) ++ (encodeString keyName ++ (encodeString name ++ (encodeString keyPieceLength ++ ((letterI ∷ (decimal plen ++ letterE ∷ [])) ++ letterE ∷ []))))))))) ++ (encodeString keyPieceLayers ++ ((letterD ∷ encodeEntries layers) ++ letterE ∷ []))))
+    opened-up : encode (dictionary (entry keyInfo (dictionary (infoWritten plen name tree))
+        (entry keyPieceLayers (dictionary layers) noEntries)))
+        ≡ letterD ∷ (encodeString keyInfo ++ ((letterD ∷
+        (encodeString keyFileTree ++ (encode (dictionary tree) ++
+        (encodeString keyMetaVersion ++ ((letterI ∷ (decimal 2 ++ letterE ∷ [])) ++
+        (encodeString keyName ++ (encodeString name ++
+        (encodeString keyPieceLength ++ ((letterI ∷ (decimal plen ++ letterE ∷ [])) ++ letterE ∷ []))))))))) ++
+        (encodeString keyPieceLayers ++ ((letterD ∷ encodeEntries layers) ++ letterE ∷ []))))
     opened-up = unfold encode in refl
 
-    spread : encode (dictionary (entry keyInfo (dictionary (infoWritten plen name tree)) (entry keyPieceLayers (dictionary layers) noEntries)))
-        ≡ letterD ∷ ((52 ∷ 58 ∷ keyInfo) ++ ((letterD ∷ ((57 ∷ 58 ∷ keyFileTree) ++ ((letterD ∷ t) ++ ((49 ∷ 50 ∷ 58 ∷ keyMetaVersion) ++ ((letterI ∷ ((50 ∷ []) ++ letterE ∷ [])) ++ ((52 ∷ 58 ∷ keyName) ++ (encodeString name ++ ((49 ∷ 50 ∷ 58 ∷ keyPieceLength) ++ ((letterI ∷ (decimal plen ++ letterE ∷ [])) ++ letterE ∷ []))))))))) ++ ((49 ∷ 50 ∷ 58 ∷ keyPieceLayers) ++ ((letterD ∷ l) ++ letterE ∷ []))))
+    spread : encode (dictionary (entry keyInfo (dictionary (infoWritten plen name tree))
+        (entry keyPieceLayers (dictionary layers) noEntries)))
+        ≡ letterD ∷ ((52 ∷ 58 ∷ keyInfo) ++ ((letterD ∷
+        ((57 ∷ 58 ∷ keyFileTree) ++ ((letterD ∷ t) ++
+        ((49 ∷ 50 ∷ 58 ∷ keyMetaVersion) ++ ((letterI ∷ ((50 ∷ []) ++ letterE ∷ [])) ++
+        ((52 ∷ 58 ∷ keyName) ++ (encodeString name ++
+        ((49 ∷ 50 ∷ 58 ∷ keyPieceLength) ++ ((letterI ∷ (decimal plen ++ letterE ∷ [])) ++ letterE ∷ []))))))))) ++
+        ((49 ∷ 50 ∷ 58 ∷ keyPieceLayers) ++ ((letterD ∷ l) ++ letterE ∷ []))))
     spread = opened-up ∙ rw (e, f, key-info, key-tree, key-version, version-two, key-name, key-plen, key-layers) refl
 
 -- the torrent of a list is its two parts behind each other
@@ -102,26 +117,17 @@ pub torrent-parts : (plen : ℕ) (name : List ℕ) (xs : List Item)
     → encode (dictionary (torrentOf plen name xs)) ≡ infoBytes plen name (inTreeOrder xs) ++ restBytes (sortedBy rootBefore xs)
 unfolding torrentOf infoBytes restBytes
 torrent-parts plen name xs =
-    torrent-assembled plen name (treeOfAll (inTreeOrder xs)) (layersWritten xs) (treeBytes [] (inTreeOrder xs)) (layersBytes G.none (layersGiven (sortedBy rootBefore xs)))
+    torrent-assembled plen name (treeOfAll (inTreeOrder xs)) (layersWritten xs) (treeBytes [] (inTreeOrder xs))
+    (layersBytes G.none (layersGiven (sortedBy rootBefore xs)))
     (tree-encoded (inTreeOrder xs) (rising (inTreeOrder xs) (in-order xs)))
     (ap encodeEntries (layers-by-root xs) ∙ sym (layers-encoded (layersGiven (sortedBy rootBefore xs))))
 
 pub torrent-length : (plen : ℕ) (name : List ℕ) (xs : List Item)
-    → length (encode (dictionary (torrentOf plen name xs))) ≡ length (infoBytes plen name (inTreeOrder xs)) + length (restBytes (sortedBy rootBefore xs))
-torrent-length plen name xs = ap (λ (l : List ℕ). length l) (torrent-parts plen name xs) ∙ length-append (infoBytes plen name (inTreeOrder xs)) (restBytes (sortedBy rootBefore xs))
-
--- the second part written first, behind the place of the first: then both are the whole
-pub both-pasted : (s a b : List ℕ) → length a + length b ≤ length s → pasted (pasted s (length a) b) 0 a ≡ pasted s 0 (a ++ b)
-unfolding pasted
-both-pasted s a b h =
-    let k : length (take (length a) s) ≡ length a = length-take-le (length a) s (omega arith) in
-    let z : length a + length b ≡ length (a ++ b) = sym (length-append a b) in
-    rw (zero-add (length a), zero-add (length (a ++ b)))
-    (ap (λ (l : List ℕ). a ++ l)
-    (ap (λ (l : List ℕ). drop (length a) l) (append-assoc (take (length a) s) b (drop (length a + length b) s))
-    ∙ drop-at (take (length a) s) (b ++ drop (length a + length b) s) (length a) k
-    ∙ ap (λ (n : ℕ). b ++ drop n s) z)
-    ∙ sym (append-assoc a b (drop (length (a ++ b)) s)))
+    → length (encode (dictionary (torrentOf plen name xs))) ≡ length (infoBytes plen name (inTreeOrder xs)) + length
+    (restBytes (sortedBy rootBefore xs))
+torrent-length plen name xs =
+    ap (λ (l : List ℕ). length l) (torrent-parts plen name xs) ∙ length-append (infoBytes plen name (inTreeOrder xs))
+    (restBytes (sortedBy rootBefore xs))
 
 -- ---- 19
 
@@ -171,7 +177,8 @@ too-many plen name xs h =
 -- ---- the parts, one behind the other
 
 pub info-length : (plen : ℕ) (name : List ℕ) (xs : List Item)
-    → length (infoBytes plen name xs) ≡ 20 + (length (treeBytes [] xs) + (24 + (length (encodeString name) + (16 + (length (decimal plen) + 18)))))
+    → length (infoBytes plen name xs) ≡ 20 +
+    (length (treeBytes [] xs) + (24 + (length (encodeString name) + (16 + (length (decimal plen) + 18)))))
 unfolding infoBytes
 info-length plen name xs =
     let t = treeBytes [] xs in
@@ -194,7 +201,8 @@ module _ (plen : ℕ) (name : List ℕ) (xs : List Item) (s₀ s₁ s₂ s₃ s�
       → Put s₀ a₀ (infoBytes plen name xs) s₇ a₇
   unfolding infoBytes
   put-seven p₁ p₂ p₃ p₄ p₅ p₆ p₇ k₁ k₂ k₃ k₄ k₅ k₆ =
-      put-three s₀ s₁ s₂ s₇ a₀ a₁ a₂ a₇ wordTree (treeBytes [] xs) (wordName ++ (encodeString name ++ (wordPlen ++ (decimal plen ++ wordLayers)))) p₁ p₂
+      put-three s₀ s₁ s₂ s₇ a₀ a₁ a₂ a₇ wordTree (treeBytes [] xs)
+      (wordName ++ (encodeString name ++ (wordPlen ++ (decimal plen ++ wordLayers)))) p₁ p₂
       (put-three s₂ s₃ s₄ s₇ a₂ a₃ a₄ a₇ wordName (encodeString name) (wordPlen ++ (decimal plen ++ wordLayers)) p₃ p₄
       (put-three s₄ s₅ s₆ s₇ a₄ a₅ a₆ a₇ wordPlen (decimal plen) wordLayers p₅ p₆ p₇ k₅ k₆) k₃ k₄) k₁ k₂
 
@@ -207,24 +215,42 @@ pub put-both : (xs : List Item) (s t u : List ℕ) (at m r : ℕ) → Put s at (
 unfolding restBytes
 put-both xs s t u at m r p q k = put-append s t u at m r (layersBytes G.none (layersGiven xs)) (letterE ∷ []) p q k
 
--- both parts written, the second first: the whole stands at the start of the output, and nothing else changed
-pub parts-written : (whole a b out t u : List ℕ) (at r q : ℕ) → whole ≡ a ++ b → at ≡ length a → Put out at b t r → Put t 0 a u q
-    → length t ≡ length out → length whole ≤ length out → u ≡ pasted out 0 whole
-parts-written whole a b out t u at r q w e x y k h =
-    let l = ap (λ (s : List ℕ). length s) w ∙ length-append a b in
-    let m = x .behind in
-    let n = y .behind in
-    y .there (omega arith)
-    ∙ ap (λ (s : List ℕ). pasted s 0 a) (x .there (omega arith) ∙ ap (λ (n : ℕ). pasted out n b) e)
-    ∙ both-pasted out a b (omega arith)
-    ∙ ap (pasted out 0) (sym w)
+-- ---- the second part without layers
+
+given-none : (ls : List Layer) → length (layersBytes G.none ls) ≡ 1 → ls ≡ []
+unfolding layersBytes
+given-none [] e = refl
+given-none (l ∷ ls) e =
+    let a = length-append (encodeString (l .0) ++ encodeString (l .1)) (layersBytes (G.after (l .0)) ls) in
+    let b = length-append (encodeString (l .0)) (encodeString (l .1)) in
+    let w : ⊥ = omega (arith, string-length (l .0), string-length (l .1)) in
+    absurd w
+
+none-given : (ls : List Layer) → length ls ≡ 0 → ls ≡ []
+none-given [] e = refl
+none-given (l ∷ ls) e = absurd (omega arith)
+
+-- it has two bytes then, and the order does not matter
+pub rest-any-order : (xs ys : List Item) → Permuted xs ys → length (restBytes xs) ≡ 2 → restBytes xs ≡ restBytes ys
+unfolding restBytes
+rest-any-order xs ys p e = rw (no-layers, none-given (layersGiven ys) as-few) refl
+  where
+    no-layers : layersGiven xs ≡ []
+    no-layers = given-none (layersGiven xs) (omega (arith, rest-length xs))
+
+    as-few : length (layersGiven ys) ≡ 0
+    as-few =
+        sym (permuted-length (layersGiven xs) (layersGiven ys) (given-permuted xs ys p)) ∙ ap (λ (l : List Layer). length l) no-layers
 
 -- ---- of files that stand in the two orders: trees are zs, by root are ys
 
-module _ (plen : ℕ) (name : List ℕ) (xs zs ys : List Item) (p : Permuted xs zs) (o : inTreeOrder zs ≡ zs) (q : Permuted xs ys) (r : sortedBy rootBefore ys ≡ ys) where
+module _ (plen : ℕ) (name : List ℕ) (xs zs ys : List Item) (p : Permuted xs zs) (o : inTreeOrder zs ≡ zs) (q : Permuted xs ys)
+    (r : sortedBy rootBefore ys ≡ ys) where
   rest-there : restBytes (sortedBy rootBefore zs) ≡ restBytes ys
   unfolding restBytes
-  rest-there = ap (λ (l : List ℕ). l ++ letterE ∷ []) (layers-encoded (layersGiven (sortedBy rootBefore zs)) ∙ ap encodeEntries same-layers ∙ sym (layers-encoded (layersGiven ys)))
+  rest-there =
+      ap (λ (l : List ℕ). l ++ letterE ∷ []) (layers-encoded (layersGiven (sortedBy rootBefore zs)) ∙ ap encodeEntries same-layers ∙ sym
+      (layers-encoded (layersGiven ys)))
     where
       same-layers : layersOfAll (layersGiven (sortedBy rootBefore zs)) ≡ layersOfAll (layersGiven ys)
       same-layers =

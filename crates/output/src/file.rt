@@ -39,7 +39,8 @@ fn put_file(out: &mut [u8], at: usize, p: &[u8], q: &[u8], list: &[u8], place: u
     requires { ⌜ Standing (now p) 0 × Standing (now q) 0 × (place + recordSize ≤ length (now list))
         × (at + length (fileBytes (pathIn (now p)) (pathIn (now q)) (properties (fileIn (now list) place))) < 2 ^ 64) ⌝ }
     ensures { λ r. ⌜ Put (now (out .entry)) at
-        (fileBytes (pathIn (now (p .entry))) (pathIn (now (q .entry))) (properties (fileIn (now (list .entry)) place))) (now (out .exit)) r ⌝ }
+        (fileBytes (pathIn (now (p .entry))) (pathIn (now (q .entry))) (properties (fileIn (now (list .entry)) place)))
+        (now (out .exit)) r ⌝ }
 {
     let m = shared_end(p, q);
     let closed = put_closed(out, at, p, m);

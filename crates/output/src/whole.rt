@@ -6,6 +6,7 @@ use crate::plain::put_byte;
 use crate::plain::put_bytes;
 use crate::plain::put_decimal;
 use crate::plain::put_string;
+use limits::LARGEST_TORRENT;
 ghost use mathlib.Core.Path.{_≡_};
 ghost use mathlib.Core.List.{map};
 ghost use Prim.Native.Nat.{_+_, _≤_, _<_, _^_};
@@ -17,7 +18,7 @@ ghost use Rattle.ordered.specs.Order.{Placed, mostFiles};
 ghost use Rattle.output.specs.Whole.{infoBytes, restBytes};
 
 // More files do not go into a torrent: each takes 15 bytes or more.
-pub const MOST: usize = 69905;
+pub const MOST: usize = LARGEST_TORRENT / 15;
 
 // Whether so many files are too many, whatever they are.
 pub fn too_many(n: usize) -> bool
@@ -39,7 +40,8 @@ pub fn put_info(
     requires { ⌜ Placed (now list) (now text) (now order)
         × (at + length (infoBytes plen (now name) (map (itemAt (now list) (now text)) (now order))) < 2 ^ 64) ⌝ }
     ensures { λ r. ⌜ Put (now (out .entry)) at
-        (infoBytes plen (now (name .entry)) (map (itemAt (now (list .entry)) (now (text .entry))) (now (order .entry)))) (now (out .exit)) r ⌝ }
+        (infoBytes plen (now (name .entry)) (map (itemAt (now (list .entry)) (now (text .entry))) (now (order .entry))))
+        (now (out .exit)) r ⌝ }
 {
     let tree = put_bytes(out, at, b"d4:infod9:file treed");
     let version = put_tree(out, tree, list, text, order);

@@ -55,10 +55,6 @@ module _ (s : List ℕ) (n : ℕ) (t : Bool) (a : t ≡ heldAt s n) where
         q ∙ ap (λ (x : List ℕ). judged true (same (hashAt s n) x) true) w
         ∙ ap (λ (x : Bool). judged x (same (hashAt s n) (sha256 block)) true) (sym y ∙ a)
 
--- a usable store has its facts
-pub usable-long : (s : List ℕ) (t : Bool) → t ≡ usable s → t ≡ true → 64 ≤ length s
-usable-long s t e f = usable-facts s (sym e ∙ f) .long
-
 -- ---- a layer, looked at or written
 
 module _ (s : List ℕ) (f : Layered s) (h plen p : ℕ) (eh : h ≡ heightOf s) (ep : plen ≡ pieceLength s) (el : p ≡ pieceLayer plen) where

@@ -23,6 +23,7 @@ use Rattle.octets.specs.Octets.{same}
 use Rattle.octets.specs.OctetsLaws.{same-true, same-eq}
 use Rattle.sha256.specs.Sha256.{sha256}
 use Rattle.numbers.specs.Numbers.{refused, done, ruleBroken, wrongSize, noAnchor, differs, conflict, unusable, judged}
+use Rattle.numbers.specs.NumbersLaws.{let-through, judged-zero}
 use Rattle.store.specs.Store.{usable, fileLength, pieceLength, blocksOf, heightOf, positions, storeSize, Facts, SameFacts}
 use Rattle.store.specs.StoreLaws.{usable-facts, facts-usable, facts-blocks-most, own-cells, putAll-same-facts, putAll-facts, putAll-past}
 use Rattle.settling.specs.Span.{Within}
@@ -134,12 +135,6 @@ pub record Judged (s : List ℕ) (leaf : ℕ → List ℕ) (k n : ℕ) : Type 0 
   pub alike : hashAt s n ≡ node leaf k 0
   pub agree : agrees s (subtree leaf k n 0) ≡ true
 
-judged-zero : (a b c : Bool) → judged a b c ≡ 0 → (a ≡ true) × (b ≡ true) × (c ≡ true)
-judged-zero true true true e = (refl, refl, refl)
-judged-zero true true false e = let w : ⊥ = omega arith in absurd w
-judged-zero true false c e = let w : ⊥ = omega arith in absurd w
-judged-zero false b c e = let w : ⊥ = omega arith in absurd w
-
 -- of the tests of a position, 0 says this
 pub judged-says : (s : List ℕ) (leaf : ℕ → List ℕ) (k n : ℕ) → judgedAt s leaf k n ≡ 0 → Judged s leaf k n
 unfolding judgedAt
@@ -151,11 +146,6 @@ judged-says s leaf k n e =
 pub judged-enough : (s : List ℕ) (leaf : ℕ → List ℕ) (k n : ℕ) → Judged s leaf k n → judgedAt s leaf k n ≡ 0
 unfolding judgedAt
 judged-enough s leaf k n j = rw (j .held, same-eq (hashAt s n) (node leaf k 0) (j .alike), j .agree)
-
--- a test that let the rest decide
-let-through : (t : Bool) (a n : ℕ) → (n ≡ 0 → ⊥) → cond t a n ≡ 0 → (t ≡ true) × (a ≡ 0)
-let-through true a n f e = (refl, e)
-let-through false a n f e = absurd (f e)
 
 -- a layer answered 0: of the right size, and it gives the held root
 pub record Loads (s layer : List ℕ) : Type 0 where

@@ -7,7 +7,7 @@ use mathlib.Core.List.{List, [], _∷_, _++_}
 use mathlib.Core.Logic.{inl}
 use Prim.Native.Nat.{ℕ, zero, suc, _+_, _-_, _≤_, _<_}
 use native.Mathlib.Omega.{arith}
-use lib.ListN.{length, getD, replicate, length-replicate, getD-replicate}
+use lib.ListN.{length, getD, replicate, length-replicate}
 use lib.Dec.{lit<}
 use Rattle.octets.specs.Octets.{Octets, be, zeroHash}
 use Rattle.numbers.specs.Numbers.{done}
@@ -45,7 +45,7 @@ use Rattle.knowledge.specs.HeldAfter.{settles-then-holds}
 use Rattle.knowledge.specs.Conflict.{sized-bytes}
 use Rattle.knowledge.specs.OwnBytes.{ours-have, ours-bytes}
 use Rattle.knowledge.specs.RootToBlock.{block-octets, treeOf, same-height, agreed-piece}
-use Rattle.promises.specs.Blank.{blank, blank-room, blank-bytes, blank-opens}
+use Rattle.promises.specs.Blank.{blank, blank-room, blank-bytes, blank-opens, zero-bytes}
 use Rattle.promises.specs.Example.{twoLeaves, header-two, first, second, two-taken, two-well-formed, two-place}
 use Rattle.promises.specs.TwoBlocks.{range, opens, open-is}
 use Rattle.knowledge.specs.FormedWhen.{well-formed}
@@ -364,13 +364,10 @@ unfolding blockAnswer
 judged-marked {file} {s} b w =
     marked-after s (block-0 s 0 (blockOf file 0) .0 (w .block) .0 .store) (judgeBlock 0 (blockOf file 0) b) (λ o. absurd o) 0 .1 (inl (refl, w .block))
 
-zeros : (n : ℕ) → Bytes (replicate n 0)
-zeros n = record { size = refl; bytes = λ j a. let w = getD-replicate {A = ℕ} n j 0 0 (omega (arith, length-replicate {A = ℕ} n 0)) in omega arith }
-
 first-block : (n : ℕ) → 1 ≤ n → Bytes (blockOf (replicate n 0) 0)
 first-block n l =
     sized-bytes (blockSize (length (replicate n 0)) 0) (blockOf (replicate n 0) 0)
-    (block-octets (replicate n 0) 0 (zeros n) (block-count-some (length (replicate n 0)) (omega (arith, length-replicate {A = ℕ} n 0))))
+    (block-octets (replicate n 0) 0 (zero-bytes n) (block-count-some (length (replicate n 0)) (omega (arith, length-replicate {A = ℕ} n 0))))
 
 -- so a mark can be had
 pub a-marked-block :

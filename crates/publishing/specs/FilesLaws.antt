@@ -15,6 +15,7 @@ use Rattle.octets.specs.Octets.{same, zeroHash}
 use Rattle.octets.specs.OctetsLaws.{same-true, same-refl, same-ne}
 use Rattle.bencode.specs.Grammar.{Value, integer, string, list, dictionary, Entries, noEntries, entry, encode, encodeEntries, encodeString, precedes, KeyBefore, none, after, ascends, Valid, EntriesValid}
 use Rattle.bencode.specs.Parts.{Lookup, absent, present, lookup}
+use Rattle.bencode.specs.CompleteLaws.{dictionary-length}
 use Rattle.sorting.specs.PrecedesLaws.{precedes-differ, precedes-trans}
 use Rattle.meaning.specs.Counting.{Member}
 use Rattle.meaning.specs.Keys.{keyLength, keyPiecesRoot}
@@ -24,7 +25,7 @@ use Rattle.publishing.specs.Content.{Item, pathBefore, grown, properties
 use Rattle.publishing.specs.Number.{begins}
 use Rattle.publishing.specs.WrittenLaws.{nodeFirst, FirstNode, first-node}
 use Rattle.publishing.specs.TreeLaws.{AllRight}
-use Rattle.publishing.specs.ShorterLaws.{entryLength, entries-length, dictionary-length, Covers, shorter}
+use Rattle.publishing.specs.ShorterLaws.{entryLength, entries-length, Covers, shorter}
 
 -- a file without its layer
 abbrev pub bare : File → Item

@@ -21,7 +21,7 @@ use Rattle.meaning.specs.Torrent.{elementRight}
 use Rattle.publishing.specs.Content.{Item, torrentOf}
 use Rattle.publishing.specs.Number.{some, tooLarge, tooDeep, noElements, wrongItem, meet, nothing, oneRoot, twoLengths, layerSize, misfit, givesOther, twoLayers, contentNumber}
 use Rattle.publishing.specs.SomeLaws.{or-none, or-left, or-right, none-passes, some-there, some-one}
-use Rattle.publishing.specs.TreeLaws.{AllRight, PathRight}
+use Rattle.publishing.specs.TreeLaws.{AllRight, PathRight, path-all}
 use Rattle.publishing.specs.ContentLaws.{Passed, passed}
 use Rattle.publishing.specs.Good.{Fine, Good}
 use Rattle.publishing.specs.Refused.{TooLarge, TooDeep, OutOfRange, WrongFiles, no-file, no-element, wrong-element, too-long, empty-with-root, one-path, OneRoot, TwoLengths, WrongLayers, wrong-size, not-wanted, LayersDiffer, other-root, two-layers}
@@ -119,10 +119,6 @@ element-right [] e r m = absurd m
 element-right (f ∷ p) e r (inl q) = ap elementRight q ∙ r .0
 element-right (f ∷ p) e r (inr m) = element-right p e (r .1) m
 
-all-of : (p : List (List ℕ)) → PathRight p → AllRight p
-all-of [] r = absurd (unfold PathRight in r)
-all-of (e ∷ p) r = unfold PathRight in r
-
 pub good-number : (plen : ℕ) (name : List ℕ) (xs : List Item) → Good plen xs → (TooLarge plen name xs → ⊥) → contentNumber plen name xs ≡ 0
 good-number plen name xs g l = exactly-0 plen name xs .1 (l, (not-deep, (in-range, (not-wrong, (one-length, (fits, gives))))))
   where
@@ -135,7 +131,7 @@ good-number plen name xs g l = exactly-0 plen name xs .1 (l, (not-deep, (in-rang
     not-wrong : WrongFiles xs → ⊥
     not-wrong (no-file e) = g .fine .some-file e
     not-wrong (no-element x m e) = let r : PathRight [] = rw e at (g .fine .path-right x m) in absurd (unfold PathRight in r)
-    not-wrong (wrong-element x e m k q) = false≢true (sym q ∙ element-right (x .path) e (all-of (x .path) (g .fine .path-right x m)) k)
+    not-wrong (wrong-element x e m k q) = false≢true (sym q ∙ element-right (x .path) e (path-all (x .path) (g .fine .path-right x m)) k)
     not-wrong (too-long x m h) = let r = g .fine .in-range x m in omega arith
     not-wrong (empty-with-root x m z r) = r (g .fine .empty-root x m z)
     not-wrong (one-path i j x y a b d rest e) = false≢true (sym (g .fine .paths-apart) ∙ meets xs (i, j, x, y, a, b, d, rest, e))

@@ -19,7 +19,7 @@ use Rattle.bencode.specs.declared.walk.Walked.the-variants.{TooDeep}
 use Rattle.meaning.specs.Counting.{Member}
 use Rattle.meaning.specs.Keys.{keyLength, keyPiecesRoot}
 use Rattle.publishing.specs.Content.{Item, inTreeOrder, grown, treeOfAll, properties, torrentOf, infoWritten}
-use Rattle.publishing.specs.WrittenLaws.{Placed, fresh, joined, FirstNode, first-node}
+use Rattle.publishing.specs.WrittenLaws.{Enters, fresh, joined, FirstNode, first-node}
 use Rattle.publishing.specs.SizeLaws.{sum}
 use Rattle.publishing.specs.AnyOrder.{layersWritten}
 
@@ -53,7 +53,7 @@ any-before (entry k v es) j l h = (refl, h .1, h .2)
 abbrev Below : List (List ℕ) → Entries → ℕ → Type 0
 Below p es l = EntriesValid es none l × (length p < l)
 
-node-below : (e : List ℕ) (p : List (List ℕ)) (es below beside : Entries) (v : Value) (l : ℕ) → Placed e es below beside → EntriesValid (entry e (dictionary (grown p v below)) beside) none l
+node-below : (e : List ℕ) (p : List (List ℕ)) (es below beside : Entries) (v : Value) (l : ℕ) → Enters e es below beside → EntriesValid (entry e (dictionary (grown p v below)) beside) none l
     → ((m : ℕ) → EntriesValid (grown p v below) none m → Below p below m) → Below (e ∷ p) es l
 unfolding EntriesValid
 node-below e p es below beside v zero c h more = absurd (h .1)

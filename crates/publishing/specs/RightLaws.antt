@@ -15,8 +15,8 @@ use Rattle.meaning.specs.Torrent.{elementRight, fileRight, nodeRight, branchRig
 use Rattle.meaning.specs.TestsLaws.{three-true}
 use Rattle.publishing.specs.Content.{Item, grown, treeOfAll, properties}
 use Rattle.publishing.specs.Number.{begins}
-use Rattle.publishing.specs.WrittenLaws.{nodeFirst, Placed, fresh, joined, FirstNode, first-node}
-use Rattle.publishing.specs.TreeLaws.{firstKey, belowFirst, isEmpty, AllRight, Leads, grown-leads, Apart, ApartFrom}
+use Rattle.publishing.specs.WrittenLaws.{nodeFirst, Enters, fresh, joined, FirstNode, first-node}
+use Rattle.publishing.specs.TreeLaws.{firstKey, belowFirst, isEmpty, AllRight, Leads, grown-leads, Apart, ApartFrom, nodes-first}
 use Rattle.publishing.specs.ValidLaws.{AllFull}
 
 -- the tree is empty, or its first file has a path of full elements
@@ -132,10 +132,6 @@ nodes-parts : (e : List ℕ) (v : Value) (es : Entries) → nodesRight (entry e 
 unfolding nodesRight
 nodes-parts e v es h = three-true (elementRight e) (nodeRight v) (nodesRight es) h
 
-nodes-whole : (e : List ℕ) (v : Value) (es : Entries) → elementRight e ≡ true → nodeRight v ≡ true → nodesRight es ≡ true → nodesRight (entry e v es) ≡ true
-unfolding nodesRight
-nodes-whole e v es r n k = rw (r, n, k) refl
-
 node-is : (ds : Entries) → nodeRight (dictionary ds) ≡ branchRight ds
 unfolding nodeRight
 node-is ds = refl
@@ -146,7 +142,7 @@ first-parts e p v es n h =
     let w = nodes-parts e (dictionary (grown p v (n .below))) (n .beside) (ap nodesRight (sym (n .tree-is)) ∙ h) in
     (w .0, sym (node-is (grown p v (n .below))) ∙ w .1, w .2)
 
-was-last : (e : List ℕ) (v : Value) (es below beside : Entries) → Placed e es below beside → (e ≡ [] → ⊥) → Begun es → elementRight e ≡ true → branchRight (entry [] v below) ≡ true → nodesRight beside ≡ true → Was (e ∷ []) v es
+was-last : (e : List ℕ) (v : Value) (es below beside : Entries) → Enters e es below beside → (e ≡ [] → ⊥) → Begun es → elementRight e ≡ true → branchRight (entry [] v below) ≡ true → nodesRight beside ≡ true → Was (e ∷ []) v es
 was-last e v es below beside (fresh _ d) f b r h k =
     record { rest-right = k; elements = unfold AllRight in (r, tt); file-right = file-of h; elsewhere = elsewhere-fresh e [] es d k }
   where
@@ -160,7 +156,7 @@ was-last e v es below beside (joined ds rest) f b r h k = absurd (nobody (begun-
     nobody : ((s : List (List ℕ)) × Leads s ds × AllFull s) → ⊥
     nobody w = leads-some (w .0) (rw none-below at (w .1))
 
-was-more : (e g : List ℕ) (p : List (List ℕ)) (v : Value) (es below beside : Entries) → Placed e es below beside → (e ≡ [] → ⊥) → Begun es → elementRight e ≡ true → nodesRight beside ≡ true
+was-more : (e g : List ℕ) (p : List (List ℕ)) (v : Value) (es below beside : Entries) → Enters e es below beside → (e ≡ [] → ⊥) → Begun es → elementRight e ≡ true → nodesRight beside ≡ true
     → ((ds : Entries) → ds ≡ below → Begun ds → Was (g ∷ p) v ds) → Was (e ∷ g ∷ p) v es
 unfolding AllRight
 was-more e g p v es below beside (fresh _ d) f b r k more =
@@ -170,7 +166,7 @@ was-more e g p v es below beside (joined ds rest) f b r k more =
     let s = begun-below e ds rest f b in
     let w = more ds refl (inr s) in
     record {
-      rest-right = nodes-whole e (dictionary ds) rest r (node-is ds ∙ branch-of-nodes (s .0) ds (s .1) (s .2) (w .rest-right)) k;
+      rest-right = nodes-first e (dictionary ds) rest r (node-is ds ∙ branch-of-nodes (s .0) ds (s .1) (s .2) (w .rest-right)) k;
       elements = (r, w .elements);
       file-right = w .file-right;
       elsewhere = elsewhere-joined e (g ∷ p) ds rest f (w .elsewhere);

@@ -4,12 +4,12 @@ use mathlib.Core.Path.{_≡_, refl, sym, ap, _∙_}
 use mathlib.Core.Bool.{Bool, true, false, cond, false≢true}
 use mathlib.Core.Logic.{_⊎_, inl, inr}
 use mathlib.Core.List.{List, [], _∷_, _++_}
-use Prim.Native.Nat.{ℕ, suc, _+_, _≤_}
+use Prim.Native.Nat.{ℕ, _+_, _≤_}
 use native.Mathlib.Omega.{arith}
 use lib.ListN.{length, length-append}
 use Rattle.octets.specs.Octets.{same}
 use Rattle.octets.specs.OctetsLaws.{same-true, same-refl, same-ne}
-use Rattle.bencode.specs.Grammar.{letterD, letterE, Value, dictionary, Entries, noEntries, entry, encodeString, encode, encodeEntries, precedes, KeyBefore, none, after, Valid, EntriesValid}
+use Rattle.bencode.specs.Grammar.{letterD, letterE, Value, Entries, noEntries, entry, encodeString, encode, encodeEntries, precedes, KeyBefore, none, after, Valid, EntriesValid}
 use Rattle.bencode.specs.Parts.{Lookup, absent, present, lookup}
 use Rattle.sorting.specs.PrecedesLaws.{precedes-differ, precedes-trans}
 
@@ -20,10 +20,6 @@ entryLength k v = length (encodeString k) + length (encode v)
 pub entries-length : (k : List ℕ) (v : Value) (es : Entries) → length (encodeEntries (entry k v es)) ≡ entryLength k v + length (encodeEntries es)
 unfolding encodeEntries
 entries-length k v es = let a = length-append (encodeString k) (encode v ++ encodeEntries es) in let b = length-append (encode v) (encodeEntries es) in omega arith
-
-pub dictionary-length : (es : Entries) → length (encode (dictionary es)) ≡ suc (length (encodeEntries es))
-unfolding encode
-dictionary-length es = refl
 
 -- a dictionary without one of its entries
 record Without (k : List ℕ) (v : Value) (es : Entries) : Type 0 where

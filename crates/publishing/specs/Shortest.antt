@@ -13,14 +13,16 @@ use Rattle.limits.specs.Limits.{maxLevels}
 use Rattle.octets.specs.Octets.{same}
 use Rattle.octets.specs.OctetsLaws.{same-true}
 use Rattle.numbers.specs.Numbers.{keyMissing, otherVersion, pieceLengthOutOfRange, wrongTree, sameRoot, layersAmiss, layerDiffers}
+use Rattle.numbers.specs.NumbersLaws.{let-through}
 use Rattle.tree.specs.Geometry.{isPieceLength}
 use Rattle.bencode.specs.Grammar.{Value, integer, string, list, dictionary, Entries, noEntries, entry, encode, encodeEntries, precedes, none, after, Valid, EntriesValid}
 use Rattle.bencode.specs.Parts.{Lookup, absent, present, lookup}
 use Rattle.bencode.specs.PartsLaws.{lookup-valid}
+use Rattle.bencode.specs.CompleteLaws.{dictionary-length}
 use Rattle.meaning.specs.Counting.{Member}
 use Rattle.meaning.specs.Keys.{keyInfo, keyFileTree, keyPieceLength, keyMetaVersion, keyPieceLayers}
-use Rattle.meaning.specs.Torrent.{hasDictionary, hasInteger, hasKeys, isNumber, numberOf, entriesOf, infoOf, treeOf, plenOf, layersOf, filesOf, treeRight, File, filesOfEntries, lengthsAgree, layersFit, noOthers, layersGiveRoots, valueNumber}
-use Rattle.meaning.specs.TestsLaws.{tree-yes}
+use Rattle.meaning.specs.Torrent.{hasDictionary, hasInteger, hasKeys, isNumber, entriesOf, infoOf, treeOf, plenOf, layersOf, filesOf, treeRight, File, filesOfEntries, lengthsAgree, layersFit, noOthers, layersGiveRoots, valueNumber}
+use Rattle.meaning.specs.TestsLaws.{tree-yes, above-zero}
 use Rattle.publishing.specs.Sorting.{sortedBy}
 use Rattle.publishing.specs.SortingLaws.{permuted-member, permuted-back, sorted-permuted}
 use Rattle.publishing.specs.Content.{Item, inTreeOrder, properties, grown, treeOfAll, Layer, layerBefore, layersGiven, layerPut, layersOfAll, torrentOf, keyName, infoWritten}
@@ -28,7 +30,7 @@ use Rattle.publishing.specs.AnyOrder.{layersWritten}
 use Rattle.publishing.specs.ContentLaws.{fileOfItem}
 use Rattle.publishing.specs.LayersLaws.{given-of}
 use Rattle.publishing.specs.FilesLaws.{bare, growAll, grow-all, DirectoryFacts, tree-facts}
-use Rattle.publishing.specs.ShorterLaws.{entryLength, entries-length, Covers, shorter, dictionary-length}
+use Rattle.publishing.specs.ShorterLaws.{entryLength, entries-length, Covers, shorter}
 use Rattle.publishing.specs.ReadBack.{piece-range, strict, longer-there}
 use Rattle.publishing.specs.Good.{Fine}
 
@@ -43,20 +45,16 @@ pub record ValueRight (t : Entries) : Type 0 where
   pub fit : layersFit (plenOf t) (layersOf t) (filesOf t) && noOthers (plenOf t) (filesOf t) (layersOf t) ≡ true
   pub give : layersGiveRoots (plenOf t) (layersOf t) (filesOf t) ≡ true
 
-on : (a : Bool) (x n : ℕ) → (n ≡ 0 → ⊥) → cond a x n ≡ 0 → (a ≡ true) × (x ≡ 0)
-on true x n h e = (refl, e)
-on false x n h e = absurd (h e)
-
 pub value-right : (t : Entries) → valueNumber t ≡ 0 → ValueRight t
 unfolding valueNumber
 value-right t e =
-    let a = on (hasKeys t) _ keyMissing (λ z. omega arith) e in
-    let b = on (isNumber 2 (lookup keyMetaVersion (infoOf t))) _ otherVersion (λ z. omega arith) (a .1) in
-    let c = on (isPieceLength (plenOf t)) _ pieceLengthOutOfRange (λ z. omega arith) (b .1) in
-    let d = on (treeRight (treeOf t)) _ wrongTree (λ z. omega arith) (c .1) in
-    let f = on (lengthsAgree (filesOf t)) _ sameRoot (λ z. omega arith) (d .1) in
-    let g = on (layersFit (plenOf t) (layersOf t) (filesOf t) && noOthers (plenOf t) (filesOf t) (layersOf t)) _ layersAmiss (λ z. omega arith) (f .1) in
-    let h = on (layersGiveRoots (plenOf t) (layersOf t) (filesOf t)) _ layerDiffers (λ z. omega arith) (g .1) in
+    let a = let-through (hasKeys t) _ keyMissing (λ z. omega arith) e in
+    let b = let-through (isNumber 2 (lookup keyMetaVersion (infoOf t))) _ otherVersion (λ z. omega arith) (a .1) in
+    let c = let-through (isPieceLength (plenOf t)) _ pieceLengthOutOfRange (λ z. omega arith) (b .1) in
+    let d = let-through (treeRight (treeOf t)) _ wrongTree (λ z. omega arith) (c .1) in
+    let f = let-through (lengthsAgree (filesOf t)) _ sameRoot (λ z. omega arith) (d .1) in
+    let g = let-through (layersFit (plenOf t) (layersOf t) (filesOf t) && noOthers (plenOf t) (filesOf t) (layersOf t)) _ layersAmiss (λ z. omega arith) (f .1) in
+    let h = let-through (layersGiveRoots (plenOf t) (layersOf t) (filesOf t)) _ layerDiffers (λ z. omega arith) (g .1) in
     record { keys = a .0; version = b .0; piece = c .0; tree = d .0; roots = f .0; fit = g .0; give = h .0 }
 
 -- ---- the values of its keys
@@ -76,14 +74,6 @@ number-there (present (dictionary es)) n e = absurd (false≢true e)
 number-there (present (string b)) n e = absurd (false≢true e)
 number-there (present (list vs)) n e = absurd (false≢true e)
 
-positive-there : (x : Lookup) → 0 < numberOf x → x ≡ present (integer false (numberOf x))
-positive-there (present (integer false m)) e = refl
-positive-there (present (integer true m)) e = absurd (omega arith)
-positive-there absent e = absurd (omega arith)
-positive-there (present (dictionary es)) e = absurd (omega arith)
-positive-there (present (string b)) e = absurd (omega arith)
-positive-there (present (list vs)) e = absurd (omega arith)
-
 pub record KeysThere (t : Entries) : Type 0 where
   pub info-is : lookup keyInfo t ≡ present (dictionary (infoOf t))
   pub tree-is : lookup keyFileTree (infoOf t) ≡ present (dictionary (treeOf t))
@@ -97,7 +87,7 @@ keys-there t v =
       info-is = dictionary-there (lookup keyInfo t) (five .0);
       tree-is = dictionary-there (lookup keyFileTree (infoOf t)) (five .1);
       layers-is = dictionary-there (lookup keyPieceLayers t) (five .2);
-      plen-is = positive-there (lookup keyPieceLength (infoOf t)) (piece-range (plenOf t) (v .piece) .0);
+      plen-is = above-zero (lookup keyPieceLength (infoOf t)) (piece-range (plenOf t) (v .piece) .0);
       version-is = number-there (lookup keyMetaVersion (infoOf t)) 2 (v .version);
     }
   where

@@ -13,7 +13,7 @@ use Rattle.meaning.specs.Counting.{Member}
 use Rattle.meaning.specs.Torrent.{elementRight, fileRight, nodeRight, branchRight, nodesRight, noMore, File, fileValue, filesOfNode, filesOfEntries, entriesOf}
 use Rattle.publishing.specs.Content.{Item, grown, treeOfAll, properties}
 use Rattle.publishing.specs.Number.{begins}
-use Rattle.publishing.specs.WrittenLaws.{Placed, fresh, joined, FirstNode, first-node}
+use Rattle.publishing.specs.WrittenLaws.{Enters, fresh, joined, FirstNode, first-node}
 
 unfoldable pub AllRight : List (List ℕ) → Type 0
 AllRight [] = Unit {0}
@@ -44,7 +44,7 @@ unfolding elementRight branchRight nodesRight
 branch-first [] v es r h = absurd (false≢true r)
 branch-first (c ∷ cs) v es r h = h
 
-nodes-first : (e : List ℕ) (v : Value) (es : Entries) → elementRight e ≡ true → nodeRight v ≡ true → nodesRight es ≡ true → nodesRight (entry e v es) ≡ true
+pub nodes-first : (e : List ℕ) (v : Value) (es : Entries) → elementRight e ≡ true → nodeRight v ≡ true → nodesRight es ≡ true → nodesRight (entry e v es) ≡ true
 unfolding nodesRight
 nodes-first e v es r h g = rw (r, h, g) refl
 
@@ -152,7 +152,7 @@ Step pre e p v es below beside =
     (nodesRight beside ≡ true) × Below (pre ++ e ∷ []) p v below × (filesOfEntries pre es ≡ filesOfEntries (pre ++ e ∷ []) below ++ filesOfEntries pre beside)
 
 -- a path of one element
-step-last : (pre : List (List ℕ)) (e : List ℕ) (v : Value) (es below beside : Entries) → Placed e es below beside → fileRight v ≡ true → nodesRight es ≡ true → Free (e ∷ []) es
+step-last : (pre : List (List ℕ)) (e : List ℕ) (v : Value) (es below beside : Entries) → Enters e es below beside → fileRight v ≡ true → nodesRight es ≡ true → Free (e ∷ []) es
     → Step pre e [] v es below beside
 step-last pre e v es below beside (fresh _ _) f h free = (h, (right, files), unfold filesOfEntries in refl)
   where
@@ -170,7 +170,7 @@ step-last pre e v es below beside (joined ds rest) f h free = absurd (false≢tr
     first s = unfold begins in refl
 
 -- a longer one, where the rest of the path grows
-step-more : (pre : List (List ℕ)) (e f : List ℕ) (p : List (List ℕ)) (v : Value) (es below beside : Entries) → Placed e es below beside → elementRight e ≡ true → elementRight f ≡ true → nodesRight es ≡ true → Free (e ∷ f ∷ p) es
+step-more : (pre : List (List ℕ)) (e f : List ℕ) (p : List (List ℕ)) (v : Value) (es below beside : Entries) → Enters e es below beside → elementRight e ≡ true → elementRight f ≡ true → nodesRight es ≡ true → Free (e ∷ f ∷ p) es
     → ((ds : Entries) → nodesRight ds ≡ true → Free (f ∷ p) ds → Grew (pre ++ e ∷ []) (f ∷ p) v ds) → Step pre e (f ∷ p) v es below beside
 step-more pre e f p v es below beside (fresh _ _) r q h free more = (h, (branch-grown f p v noEntries q (g .0), g .1), unfold filesOfEntries in refl)
   where

@@ -12,12 +12,13 @@ use Rattle.limits.specs.Limits.{longestFile}
 use Rattle.octets.specs.Octets.{same}
 use Rattle.octets.specs.OctetsLaws.{same-refl}
 use Rattle.bencode.specs.Parts.{present}
-use Rattle.bencode.specs.Grammar.{Value, integer, string, list, dictionary, Entries, noEntries, entry, precedes, KeyBefore, none, after, Valid, EntriesValid}
+use Rattle.bencode.specs.Grammar.{Value, integer, string, list, dictionary, Entries, noEntries, entry, precedes, none, after, Valid, EntriesValid}
+use Rattle.bencode.specs.SoundLaws.{no-entries-valid}
 use Rattle.meaning.specs.Counting.{Member}
 use Rattle.meaning.specs.Keys.{keyLength, keyPiecesRoot}
 use Rattle.meaning.specs.Torrent.{elementRight, entriesOf}
 use Rattle.publishing.specs.Content.{Item, pathBefore, grown, treeOfAll, properties}
-use Rattle.publishing.specs.WrittenLaws.{nodeFirst, Placed, fresh, joined, FirstNode, first-node}
+use Rattle.publishing.specs.WrittenLaws.{nodeFirst, Enters, fresh, joined, FirstNode, first-node}
 use Rattle.publishing.specs.TreeLaws.{firstKey, belowFirst, isEmpty, AllRight, Leads, grown-leads}
 
 -- no element is empty
@@ -52,10 +53,6 @@ behind-key : (k f : List ℕ) (v : Value) (es : Entries) (l : ℕ) → precedes 
 unfolding EntriesValid
 behind-key k f v es l h w = (h, w .1, w .2)
 
-nothing-valid : (j : KeyBefore) (l : ℕ) → EntriesValid noEntries j l
-unfolding EntriesValid
-nothing-valid j l = tt
-
 -- an empty key stands before all others
 empty-first : (f : List ℕ) → (f ≡ [] → ⊥) → precedes [] f ≡ true
 unfolding precedes
@@ -63,7 +60,7 @@ empty-first [] r = absurd (r refl)
 empty-first (c ∷ cs) r = refl
 
 valid-file : (v : Value) (es : Entries) (m : ℕ) → EntriesValid es none m → Valid v m → Ahead [] es → EntriesValid (entry [] v es) none m
-valid-file v es m w h (inl e) = unfold EntriesValid in (refl, h, rw e (nothing-valid (after []) m))
+valid-file v es m w h (inl e) = unfold EntriesValid in (refl, h, rw e (no-entries-valid (after []) m))
 valid-file v es m w h (inr a) = by-path (a .0) (a .1) (a .2) (a .3)
   where
     by-path : (q : List (List ℕ)) → Leads q es → AllFull q → pathBefore [] q ≡ true → EntriesValid (entry [] v es) none m
@@ -75,7 +72,7 @@ valid-file v es m w h (inr a) = by-path (a .0) (a .1) (a .2) (a .3)
 
 -- a node of its own goes before the first one
 valid-beside : (e : List ℕ) (p : List (List ℕ)) (es : Entries) (l : ℕ) → nodeFirst e es ≡ false → EntriesValid es none l → Ahead (e ∷ p) es → EntriesValid es (after e) l
-valid-beside e p es l d w (inl q) = rw q (nothing-valid (after e) l)
+valid-beside e p es l d w (inl q) = rw q (no-entries-valid (after e) l)
 valid-beside e p es l d w (inr a) = by-path (a .0) (a .1) (a .3)
   where
     by-path : (q : List (List ℕ)) → Leads q es → pathBefore (e ∷ p) q ≡ true → EntriesValid es (after e) l
@@ -106,7 +103,7 @@ ahead-below e p ds rest (inr a) = by-path (a .0) (a .1) (a .2) (a .3)
             inner : pathBefore p s ≡ true
             inner = let t : pathBefore (e ∷ p) (f ∷ s) ≡ pathBefore p s = unfold pathBefore in rw (ap firstKey (n .2), same-refl f) refl in sym t ∙ b
 
-valid-node : (e : List ℕ) (p : List (List ℕ)) (v : Value) (es below beside : Entries) (l : ℕ) → Placed e es below beside → EntriesValid es none (suc l) → Ahead (e ∷ p) es
+valid-node : (e : List ℕ) (p : List (List ℕ)) (v : Value) (es below beside : Entries) (l : ℕ) → Enters e es below beside → EntriesValid es none (suc l) → Ahead (e ∷ p) es
     → ((ds : Entries) → EntriesValid ds none l → Ahead p ds → EntriesValid (grown p v ds) none l)
     → EntriesValid (entry e (dictionary (grown p v below)) beside) none (suc l)
 unfolding EntriesValid
@@ -169,7 +166,7 @@ valid-first l x es i w ahead =
 
 pub tree-valid : (l : ℕ) (xs : List Item) → Climb xs → ((x : Item) → Member x xs → Fits l x) → EntriesValid (treeOfAll xs) none l
 unfolding treeOfAll Member
-tree-valid l [] c r = nothing-valid none l
+tree-valid l [] c r = no-entries-valid none l
 tree-valid l (x ∷ xs) c r =
     valid-first l x (treeOfAll xs) (r x (inl refl)) (tree-valid l xs (climb-rest x xs c) (λ y k. r y (inr k)))
     (rest-ahead (x .path) xs (unfold Climb in c) (λ y k. r y (inr k) .elements))

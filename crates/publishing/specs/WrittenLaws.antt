@@ -65,15 +65,15 @@ nodeFirst f (entry k (string b) es) = false
 nodeFirst f (entry k (list vs) es) = false
 
 -- where the first node of a tree goes in which a file was put first: before all others, or into the first
-pub data Placed (f : List ℕ) : Entries → Entries → Entries → Type 0 where
-  fresh : (es : Entries) → nodeFirst f es ≡ false → Placed f es noEntries es
-  joined : (below beside : Entries) → Placed f (entry f (dictionary below) beside) below beside
+pub data Enters (f : List ℕ) : Entries → Entries → Entries → Type 0 where
+  fresh : (es : Entries) → nodeFirst f es ≡ false → Enters f es noEntries es
+  joined : (below beside : Entries) → Enters f (entry f (dictionary below) beside) below beside
 
 -- that node, with what stands below and beside it
 pub record FirstNode (f : List ℕ) (q : List (List ℕ)) (v : Value) (es : Entries) : Type 0 where
   pub below : Entries
   pub beside : Entries
-  pub placed : Placed f es below beside
+  pub placed : Enters f es below beside
   pub tree-is : grown (f ∷ q) v es ≡ entry f (dictionary (grown q v below)) beside
   pub after-is : after (f ∷ q) es ≡ after q below ++ encodeEntries beside
 

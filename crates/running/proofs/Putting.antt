@@ -1,26 +1,14 @@
--- One turn of a copying loop, at the code's i + 1, and what the whole copy is; the tail array from its two copies.
+-- The tail array from its two copies.
 -- Assumes nothing.
 use mathlib.Core.Path.{_≡_, ap, ap₂, sym, _∙_}
 use mathlib.Core.List.{List, _++_}
-use Prim.Native.Nat.{ℕ, _+_, _-_, _≤_, _<_}
-use native.Mathlib.Numerals.{add-one}
+use Prim.Native.Nat.{ℕ, _+_, _-_, _≤_}
 use native.Mathlib.Omega.{arith}
-use lib.ListN.{length, take, drop, getD, set, replicate, length-append, length-replicate, replicate-append-replicate}
-use lib.Seq.{paste, paste-suc, take-all, drop-at, length-take-le}
+use lib.ListN.{length, take, drop, replicate, length-append, length-replicate, replicate-append-replicate}
+use lib.Seq.{drop-at, length-take-le}
 use Rattle.octets.specs.Octets.{pasted}
 use Rattle.octets.specs.OctetsLaws.{pasted-append}
 use Rattle.running.specs.Bursts.{tailArray}
-
-pub turn : (d d' : List ℕ) (at : ℕ) (s : List ℕ) (j : ℕ) → d' ≡ paste d at s j → at + j < length d → j < length s
-    → set d' (at + j) (getD s j 0) ≡ paste d at s (j + 1)
-turn d d' at s j e hd hs = rw (e, add-one) (paste-suc d at s j 0 hd hs)
-
--- a copy of all that s has
-pub whole : (d d' : List ℕ) (at : ℕ) (s : List ℕ) (j : ℕ) → d' ≡ paste d at s j → length s ≤ j → j ≤ length s → d' ≡ pasted d at s
-unfolding pasted
-whole d d' at s j e l k =
-    let q : j ≡ length s = omega arith in
-    rw (e, q) (ap (λ (t : List ℕ). take at d ++ t ++ drop (at + length s) d) (take-all (length s) s (omega arith)))
 
 -- zeros behind the first m of n zeros
 zeros-behind : (n m : ℕ) → m ≤ n → drop {A = ℕ} m (replicate n 0) ≡ replicate (n - m) 0

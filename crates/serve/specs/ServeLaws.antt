@@ -135,7 +135,7 @@ or-else-zero n next e =
       | no z ↦ absurd (z (rw (ne-eqb n 0 z) at e))
     ]
 
-cond-zero : (t : Bool) → cond t 0 notHeld ≡ 0 → t ≡ true
+pub cond-zero : (t : Bool) → cond t 0 notHeld ≡ 0 → t ≡ true
 cond-zero true e = refl
 cond-zero false e = let w : ⊥ = omega arith in absurd w
 

@@ -5,7 +5,7 @@ use mathlib.Core.List.{List, _++_}
 use mathlib.Core.Bool.{Bool, _&&_}
 use mathlib.Core.Logic.{_⊎_, inl, inr}
 use Prim.Native.Nat.{ℕ, zero, suc, _+_, _-_, _*_, _/_, _^_, _≤_, _<_}
-use native.Mathlib.Nat.{pow-succ', add-mul, one-mul, mul-comm, mul-assoc, le-trans, mul-le-mul-left, mul-le-mul-right, le-mul-of-pos-right}
+use native.Mathlib.Nat.{pow-succ', add-mul, one-mul, mul-assoc, le-trans, mul-le-mul-left, mul-le-mul-right, le-mul-of-pos-right}
 use native.Mathlib.Decide.{decLt}
 use native.Mathlib.Omega.{arith}
 use lib.ListN.{length, length-append}
@@ -18,6 +18,7 @@ use Rattle.sha256.specs.Sha256Laws.{pair-octets}
 use Rattle.tree.specs.Geometry.{nodeNumber}
 use Rattle.tree.specs.Values.{node, padValue, layerLeaf}
 use Rattle.tree.specs.ValuesLaws.{node-leaf, node-pair, node-same, node-padding}
+use Rattle.tree.specs.GeometryLaws.{right-end, left-start}
 use Rattle.cells.specs.Cells.{put}
 use Rattle.cells.specs.Entries.{Entry, one, agreesAt, agrees, putAll, lacks, fresh}
 use Rattle.cells.specs.EntriesLaws.{agree-one, put-one, fresh-one, agree-append, put-append, fresh-append, fresh-small, Sound, sound-one, sound-append, In, here, Has, has-same, in-left, in-right, in-cases, one-is, Apart, apart-one, apart-append}
@@ -27,16 +28,10 @@ use Rattle.settling.specs.AncestorLaws.{Under, under-self, under-parent,
 
 -- ---- the positions below b
 
--- (2 n + 2) 2^k is (n + 1) 2^(k + 1)
-double : (n k : ℕ) → (2 * n + 1 + 1) * 2 ^ k ≡ (n + 1) * 2 ^ suc k
-double n k =
-    let e : 2 * n + 1 + 1 ≡ (n + 1) * 2 = omega arith in
-    ap (λ (y : ℕ). y * 2 ^ k) e ∙ mul-assoc (n + 1) 2 (2 ^ k) ∙ ap (λ (p : ℕ). (n + 1) * p) (sym (pow-succ' 2 k))
-
 -- with a subtree, the one below its right child lies below b
 pub within-right : (b k n : ℕ) → Within b (suc k) n → Within b k (2 * n + 1)
 unfolding Within
-within-right b k n h = rw double h
+within-right b k n h = rw right-end h
 
 -- and the one below its left child
 pub within-left : (b k n : ℕ) → Within b (suc k) n → Within b k (2 * n)
@@ -308,12 +303,8 @@ subtree-apart leaf (suc k) n j h =
 
 -- ---- with which values
 
--- the numbers `layers` below 2 m and 2 m + 1 are those one layer further below m
-below-left : (m layers : ℕ) → (2 * m) * 2 ^ layers ≡ m * 2 ^ suc layers
-below-left m layers = ap (λ (x : ℕ). x * 2 ^ layers) (mul-comm 2 m) ∙ mul-assoc m 2 (2 ^ layers) ∙ ap (λ (x : ℕ). m * x) (sym (pow-succ' 2 layers))
-
 below-right : (m layers : ℕ) → (2 * m + 1) * 2 ^ layers ≡ m * 2 ^ suc layers + 2 ^ layers
-below-right m layers = omega (arith, add-mul (2 * m) 1 (2 ^ layers), one-mul (2 ^ layers), below-left m layers)
+below-right m layers = omega (arith, add-mul (2 * m) 1 (2 ^ layers), one-mul (2 ^ layers), left-start m layers)
 
 -- e is number `offset` from the left, `layers` below the top, with the value of that node
 pub record Spot (leaf : ℕ → List ℕ) (k n j : ℕ) (e : Entry) : Type 0 where
@@ -341,13 +332,13 @@ spot-top leaf k n j e p v =
 spot-left : (leaf : ℕ → List ℕ) (k n j : ℕ) (e : Entry) → Spot leaf k (2 * n) (2 * j) e → Spot leaf (suc k) n j e
 spot-left leaf k n j e P =
     let z : k - P .layers ≡ suc k - suc (P .layers) = omega arith in
-    let r : 2 * j * 2 ^ P .layers + P .offset ≡ j * 2 ^ suc (P .layers) + P .offset = omega (arith, below-left j (P .layers)) in
+    let r : 2 * j * 2 ^ P .layers + P .offset ≡ j * 2 ^ suc (P .layers) + P .offset = omega (arith, left-start j (P .layers)) in
     record {
       layers = suc (P .layers);
       offset = P .offset;
       reach = omega (arith, P .reach);
       inside = omega (arith, P .inside, pow-succ' 2 (P .layers));
-      position = omega (arith, P .position, below-left n (P .layers));
+      position = omega (arith, P .position, left-start n (P .layers));
       value = P .value ∙ ap₂ (λ (x y : ℕ). node leaf x y) z r;
     }
 
@@ -390,8 +381,8 @@ subtree-has leaf (suc k) n j (suc d) x l h =
     let z : k - d ≡ suc k - suc d = omega arith in
     elim (decLt x (2 ^ d)) [
       | yes a ↦
-          let q : 2 * n * 2 ^ d + x ≡ n * 2 ^ suc d + x = omega (arith, below-left n d) in
-          let r : 2 * j * 2 ^ d + x ≡ j * 2 ^ suc d + x = omega (arith, below-left j d) in
+          let q : 2 * n * 2 ^ d + x ≡ n * 2 ^ suc d + x = omega (arith, left-start n d) in
+          let r : 2 * j * 2 ^ d + x ≡ j * 2 ^ suc d + x = omega (arith, left-start j d) in
           has-same (subtree leaf (suc k) n j) (2 * n * 2 ^ d + x) (n * 2 ^ suc d + x) (node leaf (k - d) (2 * j * 2 ^ d + x)) (node leaf (suc k - suc d) (j * 2 ^ suc d + x))
           q (ap₂ (λ (a b : ℕ). node leaf a b) z r) (subtree-left leaf k n j _ (subtree-has leaf k (2 * n) (2 * j) d x (omega arith) a))
       | no g ↦
@@ -432,8 +423,8 @@ subtree-same f g zero n j h = ap (one n) (h j (omega arith) (omega arith))
 subtree-same f g (suc k) n j h =
     ap₂ (λ (a b : List Entry). a ++ b)
     (ap₂ (λ (a b : List Entry). a ++ b)
-    (subtree-same f g k (2 * n) (2 * j) (λ i a b. h i (omega (arith, below-left j k)) (omega (arith, double j k, below-right j k, add-mul (2 * j + 1) 1 (2 ^ k), add-mul (2 * j) 1 (2 ^ k), one-mul (2 ^ k)))))
-    (subtree-same f g k (2 * n + 1) (2 * j + 1) (λ i a b. h i (omega (arith, below-left j k, below-right j k)) (omega (arith, double j k)))))
+    (subtree-same f g k (2 * n) (2 * j) (λ i a b. h i (omega (arith, left-start j k)) (omega (arith, right-end j k, below-right j k, add-mul (2 * j + 1) 1 (2 ^ k), add-mul (2 * j) 1 (2 ^ k), one-mul (2 ^ k)))))
+    (subtree-same f g k (2 * n + 1) (2 * j + 1) (λ i a b. h i (omega (arith, left-start j k, below-right j k)) (omega (arith, right-end j k)))))
     (ap (one n) (node-same f g (suc k) j h))
 
 -- ---- each with its family

@@ -128,6 +128,10 @@ usable-facts s t =
       room = omega (arith, leb-true (storeSize (fileLength s)) (length s) (a .1), own-cells s);
     }
 
+-- and, as the code tests it, its room
+pub usable-long : (s : List ℕ) (t : Bool) → t ≡ usable s → t ≡ true → 64 ≤ length s
+usable-long s t e f = usable-facts s (sym e ∙ f) .long
+
 -- and they are enough
 pub facts-usable : (s : List ℕ) → Facts s → usable s ≡ true
 unfolding usable

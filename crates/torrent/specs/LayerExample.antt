@@ -4,7 +4,7 @@
 use mathlib.Core.Path.{_≡_, refl, sym, ap, _∙_}
 use mathlib.Core.Bool.{Bool, true, false, cond, _&&_, _||_}
 use mathlib.Core.List.{List, [], _∷_, _++_}
-use Prim.Native.Nat.{ℕ, suc, _+_, _<_}
+use Prim.Native.Nat.{ℕ, _+_, _<_}
 use native.Mathlib.Omega.{arith}
 use lib.ListN.{length, length-append}
 use borrow.Author.Tests.{eq-eqb}
@@ -16,8 +16,9 @@ use Rattle.sha256.specs.Sha256Laws.{pair-octets}
 use Rattle.tree.specs.Geometry.{blockCount, ceilDiv, isPieceLength, pieceLayer, pieceCount, height, heightFrom, hasLayer}
 use Rattle.tree.specs.Values.{node, layerLeaf, layerRoot}
 use Rattle.bencode.specs.Grammar.{colon, integer, string, dictionary, Entries, noEntries, entry, decimalIn, decimal, encodeString, encode, encodeEntries, precedes, Valid}
-use Rattle.bencode.specs.PartsLaws.{entries-length}
+use Rattle.bencode.specs.PartsLaws.{entries-length, one-string}
 use Rattle.bencode.specs.Parts.{Lookup, present, absent, lookup}
+use Rattle.bencode.specs.CompleteLaws.{dictionary-length}
 use Rattle.meaning.specs.Nth.{Nth}
 use Rattle.meaning.specs.Torrent.{File, isNumber, infoOf, treeOf, filesOf, plenOf, layersOf, without, hasKeys, elementRight, fileRight, nodeRight, branchRight, nodesRight, treeRight, filesOfNode, filesOfEntries, noOtherLength, lengthsAgree, layerFits, layersFit, someLonger, noOthers, givesRoot, layerBytes, layersGiveRoots, valueNumber}
 use Rattle.torrent.specs.Torrent.{readOf, fileRead}
@@ -120,11 +121,6 @@ module _ (root : List ℕ) where
 
 -- ---- its size
 
--- a dictionary takes a byte more than its entries with their end
-pub dictionary-size : (es : Entries) → length (encode (dictionary es)) ≡ suc (length (encodeEntries es))
-unfolding encode
-dictionary-size es = refl
-
 -- a string of 32 bytes takes 35
 pub string-size : (b : List ℕ) → length b ≡ 32 → length (encodeString b) ≡ 35
 unfolding decimalIn
@@ -163,12 +159,12 @@ with-size root e =
       fixed-sizes,
       string-size root e,
       value-size root e,
-      dictionary-size leaf,
-      dictionary-size node,
-      dictionary-size (tree root),
-      dictionary-size (info root),
-      dictionary-size (layers root),
-      dictionary-size (withRoot root),
+      dictionary-length leaf,
+      dictionary-length node,
+      dictionary-length (tree root),
+      dictionary-length (info root),
+      dictionary-length (layers root),
+      dictionary-length (withRoot root),
     )
 
 -- ---- the torrent
@@ -219,9 +215,6 @@ has-layer = ap (lookup theRoot) (the-layers theRoot) ∙ the-key theRoot
 pub layer-size : length layer ≡ 64
 unfolding zeroHash
 layer-size = refl
-
-pub one-string : (a b : List ℕ) → present (string a) ≡ present (string b) → a ≡ b
-one-string a b e = cc
 
 -- so these 64 bytes are what is answered
 pub long-layer : (fileRead (encode (dictionary long)) 0 .size ≡ 64) × (cut (encode (dictionary long)) (fileRead (encode (dictionary long)) 0 .start) (fileRead (encode (dictionary long)) 0 .size) ≡ zeroHash ++ zeroHash)

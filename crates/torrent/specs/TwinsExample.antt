@@ -16,15 +16,16 @@ use Rattle.sha256.specs.Sha256.{sha256}
 use Rattle.tree.specs.Geometry.{blockCount, ceilDiv, isPieceLength, pieceLayer, pieceCount, height, heightFrom, hasLayer}
 use Rattle.tree.specs.Values.{layerRoot}
 use Rattle.bencode.specs.Grammar.{integer, string, dictionary, Entries, noEntries, entry, decimalIn, encodeString, encode, encodeEntries, precedes, Valid}
-use Rattle.bencode.specs.PartsLaws.{entries-length}
+use Rattle.bencode.specs.PartsLaws.{entries-length, one-string}
 use Rattle.bencode.specs.Parts.{Lookup, present, absent, lookup}
+use Rattle.bencode.specs.CompleteLaws.{dictionary-length}
 use Rattle.meaning.specs.Nth.{Nth}
 use Rattle.meaning.specs.Torrent.{File, isNumber, infoOf, treeOf, filesOf, plenOf, layersOf, without, hasKeys, elementRight, fileRight, nodeRight, branchRight, nodesRight, treeRight, filesOfNode, filesOfEntries, noOtherLength, lengthsAgree, layerFits, layersFit, someLonger, noOthers, givesRoot, layerBytes, layersGiveRoots, valueNumber}
 use Rattle.torrent.specs.Torrent.{readOf, fileRead, pathRead}
 use Rattle.torrent.specs.NumberMeans.{number-is-the-values, read-number}
 use Rattle.torrent.specs.Answers.{FileIs, PartIs}
 use Rattle.torrent.specs.ReadMeans.{torrent-is, info-hash, file-is, element-is, same-part}
-use Rattle.torrent.specs.LayerExample.{all-pass, layer, dictionary-size, string-size, value-size, afterTree, theRoot, root-size, layer-size, one-string}
+use Rattle.torrent.specs.LayerExample.{all-pass, layer, string-size, value-size, afterTree, theRoot, root-size, layer-size}
 use Rattle.torrent.specs.declared.read.Torrent.{Torrent}
 use Rattle.torrent.specs.declared.read.FileRead.{FileRead}
 
@@ -149,9 +150,9 @@ folder-size root e =
       entries-length keyPiecesRoot (string root) noEntries,
       entries-length [] (dictionary (leaf root)) noEntries,
       entries-length name (dictionary (node root)) noEntries,
-      dictionary-size (leaf root),
-      dictionary-size (node root),
-      dictionary-size (folder root),
+      dictionary-length (leaf root),
+      dictionary-length (node root),
+      dictionary-length (folder root),
     )
 
 -- the torrent has 346 bytes
@@ -168,10 +169,10 @@ with-size root e =
       entries-length root (string layer) noEntries,
       entries-length keyPieceLayers (dictionary (layers root)) noEntries,
       entries-length keyInfo (dictionary (info root)) (entry keyPieceLayers (dictionary (layers root)) noEntries),
-      dictionary-size (tree root),
-      dictionary-size (info root),
-      dictionary-size (layers root),
-      dictionary-size (withRoot root),
+      dictionary-length (tree root),
+      dictionary-length (info root),
+      dictionary-length (layers root),
+      dictionary-length (withRoot root),
     )
 
 -- ---- the torrent

@@ -8,8 +8,8 @@ use native.Mathlib.Decide.{decLe, decLt}
 use native.Mathlib.Omega.{arith}
 use lib.Dec.{leb, eqb}
 use lib.Pow.{pow-pos, pow-mono, pow-lt, pow-add, shl-exact}
-use borrow.Author.Tests.{le-leb, lt-leb, leb-true, eqb-true, eq-eqb}
-use Rattle.tree.specs.Geometry.{blockLength, ceilDiv, blockCount, heightFrom, height, Padding, covering, nodeNumber, pieceLayer, isPieceLength, pieceCount, blockSize, pieceSize}
+use borrow.Author.Tests.{le-leb, lt-leb, leb-true, eqb-true, eq-eqb, ltb-true, lt-ltb}
+use Rattle.tree.specs.Geometry.{blockLength, ceilDiv, blockCount, heightFrom, height, Padding, covering, nodeNumber, pieceLayer, isPieceLength, pieceCount, blockSize, pieceSize, hasLayer}
 
 -- ---- division rounded up
 
@@ -281,7 +281,26 @@ piece-length-accepted p l =
       le-leb (blockLength * 2 ^ p) 16777216 (omega arith),
     )
 
-and-false : (t : Bool) → (t && false) ≡ false
+-- a file has a piece layer exactly if it is longer than the piece length
+pub has-longer : (n plen : ℕ) → hasLayer n plen ≡ true → plen < n
+unfolding hasLayer
+has-longer n plen t = ltb-true plen n t
+
+pub longer-has : (n plen : ℕ) → plen < n → hasLayer n plen ≡ true
+unfolding hasLayer
+longer-has n plen t = lt-ltb plen n t
+
+-- such a file is not empty
+pub long-full : (n plen : ℕ) → hasLayer n plen ≡ true → n ≡ 0 → ⊥
+long-full n plen t e = let h = has-longer n plen t in omega arith
+
+-- a piece has a byte
+pub piece-some : (plen : ℕ) → isPieceLength plen ≡ true → 0 < plen
+piece-some plen good =
+    let w : 0 < blockLength * 2 ^ pieceLayer plen = one-le-mul (omega arith) (pow-pos (pieceLayer plen)) in
+    omega (arith, piece-length-form plen good .1)
+
+pub and-false : (t : Bool) → (t && false) ≡ false
 and-false true = refl
 and-false false = refl
 
@@ -416,7 +435,7 @@ unfolding nodeNumber
 node-number-root h = let e : h - h ≡ 0 = omega arith in rw e
 
 -- one layer down there are twice as many positions
-layer-doubles : (h l : ℕ) → l < h → 2 ^ (h - l) ≡ 2 * 2 ^ (h - suc l)
+pub layer-doubles : (h l : ℕ) → l < h → 2 ^ (h - l) ≡ 2 * 2 ^ (h - suc l)
 layer-doubles h l k = let e : h - l ≡ suc (h - suc l) = omega arith in rw e (pow-succ' 2 (h - suc l))
 
 -- the numbers of layer l are those from 2^(h - l) up to twice that

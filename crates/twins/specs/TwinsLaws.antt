@@ -9,10 +9,11 @@ use native.Mathlib.Omega.{arith}
 use native.Mathlib.Numerals.{add-one}
 use lib.ListN.{length}
 use lib.Dec.{eqb}
-use borrow.Author.Tests.{eqb-true, eqb-false, eq-eqb, ne-eqb, ltb-true, not-true}
+use borrow.Author.Tests.{eqb-true, eqb-false, eq-eqb, ne-eqb, not-true}
 use Rattle.octets.specs.Octets.{same}
 use Rattle.octets.specs.OctetsLaws.{same-true, same-false, same-refl, same-ne}
 use Rattle.tree.specs.Geometry.{hasLayer}
+use Rattle.tree.specs.GeometryLaws.{long-full}
 use Rattle.meaning.specs.Torrent.{File, noOtherLength, lengthsAgree}
 use Rattle.meaning.specs.Counting.{Member, Distinct}
 use Rattle.twins.specs.Twins.{longRoots, noneSame, onceEach, layerCount, lengthKnown, differs}
@@ -46,11 +47,6 @@ eqb-sym a b = by-case (eqb a b) refl
     by-case : (t : Bool) → eqb a b ≡ t → t ≡ eqb b a
     by-case true e = sym (eq-eqb b a (sym (eqb-true a b e)))
     by-case false e = sym (ne-eqb b a (λ f. eqb-false a b e (sym f)))
-
--- a file longer than the piece length is not empty
-pub long-full : (n plen : ℕ) → hasLayer n plen ≡ true → n ≡ 0 → ⊥
-unfolding hasLayer
-long-full n plen e z = let h = ltb-true plen n e in omega arith
 
 pub empty-short : (n plen : ℕ) → n ≡ 0 → hasLayer n plen ≡ false
 empty-short n plen z = by-case (hasLayer n plen) refl

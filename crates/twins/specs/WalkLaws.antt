@@ -14,6 +14,7 @@ use lib.Seq.{getD-set-same, getD-set-other}
 use borrow.Author.Tests.{eqb-true, eq-eqb, ne-eqb}
 use Rattle.octets.specs.Octets.{cut}
 use Rattle.tree.specs.Geometry.{hasLayer}
+use Rattle.tree.specs.GeometryLaws.{long-full}
 use Rattle.meaning.specs.Torrent.{File, lengthsAgree}
 use Rattle.sorting.specs.Sorting.{Stands}
 use Rattle.sorting.specs.SortingLaws.{ascending-one}
@@ -24,7 +25,7 @@ use Rattle.filetree.specs.Reading.{readFile, readFiles, rootRead}
 use Rattle.filetree.specs.declared.token.Token.{Token}
 use Rattle.filetree.specs.declared.token.Token.the-variants.{Opened, Closed, Leaf, BadToken}
 use Rattle.twins.specs.Twins.{longRoots, onceEach, layerCount, comparedOf, lengthKnown, differs, sizeNoted, RootsStand, Rooted, Meets}
-use Rattle.twins.specs.TwinsLaws.{long-full, empty-short, empty-agrees, empty-known, empty-layers, differs-so, full-agrees, full-known, others-known, full-layers, once-fewer}
+use Rattle.twins.specs.TwinsLaws.{empty-short, empty-agrees, empty-known, empty-layers, differs-so, full-agrees, full-known, others-known, full-layers, once-fewer}
 use Rattle.twins.specs.declared.Compared.the-variants.{Agree, Differ}
 
 -- ---- token by token

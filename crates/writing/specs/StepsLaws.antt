@@ -1,11 +1,11 @@
--- The steps of the call: positions in tree order, then by root, the size from both, the answers, the bytes.
+-- The steps of the call: positions by root, then in tree order, the size from both, the answers, the bytes.
 -- Assumes nothing.
-use mathlib.Core.Path.{_≡_, refl, sym, ap, ap₂, _∙_, subst}
+use mathlib.Core.Path.{_≡_, refl, sym, ap, ap₂, _∙_}
 use mathlib.Core.Bool.{Bool, true, false, cond}
 use mathlib.Core.List.{List, [], _∷_, _++_, map}
 use Prim.Native.Nat.{ℕ, zero, suc, _+_, _-_, _*_, _/_, _%_, _≤_, _<_}
 use native.Mathlib.Omega.{arith}
-use lib.ListN.{length, take, length-map}
+use lib.ListN.{length, take, length-map, length-append}
 use lib.Seq.{length-take-le}
 use lib.Dec.{eqb, ltb}
 use borrow.Author.Tests.{eq-eqb, ne-eqb, lt-ltb, le-ltb, ltb-true, ltb-false}
@@ -14,22 +14,23 @@ use Rattle.octets.specs.Octets.{pasted}
 use Rattle.numbers.specs.Numbers.{wrongSize, torrentTooLarge, noRoom, refused, done}
 use Rattle.numbers.specs.declared.Answer.{Answer}
 use Rattle.bencode.specs.Grammar.{dictionary, encode}
-use Rattle.publishing.specs.Sorting.{sortedBy, Permuted}
-use Rattle.publishing.specs.SortingLaws.{sorted-permuted, sorted-stays}
-use Rattle.publishing.specs.Content.{Item, itemBefore, inTreeOrder, torrentOf}
+use Rattle.publishing.specs.Sorting.{sortedBy}
+use Rattle.publishing.specs.SortingLaws.{sorted-permuted}
+use Rattle.publishing.specs.Content.{Item, itemBefore, torrentOf}
 use Rattle.publishing.specs.Number.{meet, tooLarge, contentNumber}
-use Rattle.publishing.specs.SizeLaws.{in-order}
+use Rattle.publishing.specs.SizeLaws.{map-permuted}
 use Rattle.publishing.specs.GoodLaws.{all-passed, good}
 use Rattle.lists.specs.Lists.{recordSize, recordCount, itemAt, listForm, contentOf}
 use Rattle.ordered.specs.Order.{rootBefore, comes, Placed, positions, InOrder, mostFiles}
 use Rattle.ordered.specs.OrderLaws.{content-there, all-placed, positions-length}
-use Rattle.ordered.specs.InOrderLaws.{tree-order, tree-placed, tree-permuted, meet-told, roots-in-order}
+use Rattle.ordered.specs.InOrderLaws.{all-permuted, tree-in-order, meet-told, roots-in-order}
 use Rattle.ordered.specs.Neighbours.{neighbours, leads}
 use Rattle.output.specs.Put.{Put}
+use Rattle.output.specs.PutLaws.{put-append}
 use Rattle.output.specs.Whole.{infoBytes, restBytes}
-use Rattle.output.specs.WholeLaws.{parts-written, size-there, torrent-there, too-many}
+use Rattle.output.specs.WholeLaws.{rest-any-order, size-there, torrent-there, too-many}
 use Rattle.writing.specs.Write.{torrentBytes, writeNumber, writeAnswer, writeAfter}
-use Rattle.writing.specs.Steps.{treePositions, rootPositions, Ready}
+use Rattle.writing.specs.Steps.{Ready, ForRest}
 
 -- ---- positions
 
@@ -38,59 +39,87 @@ module _ (list text : List ℕ) (h : listForm list text ≡ true) where
   pub places : (a : List ℕ) (n : ℕ) → n ≡ recordCount list → a ≡ positions n → Placed list text a
   places a n e p = rw (p, e) (all-placed list text h)
 
-  -- in tree order
-  pub tree-right : (b : List ℕ) → b ≡ treePositions list text → Placed list text b
-  tree-right b e = rw e (tree-placed list text h)
+  -- then by root
+  pub roots-right : (a b : List ℕ) (n : ℕ) → n ≡ recordCount list → a ≡ positions n → b ≡ sortedBy (comes false list text) a
+      → InOrder rootBefore list text b
+  roots-right a b n e p s =
+      rw (s, p, e) (roots-in-order list text (positions (recordCount list)) (all-placed list text h) (all-permuted list text))
 
-  -- by root
-  pub roots-right : (c : List ℕ) → c ≡ rootPositions list text → InOrder rootBefore list text c
-  roots-right c e = rw e (roots-in-order list text (treePositions list text) (tree-placed list text h) (tree-permuted list text))
+  -- then by path
+  pub tree-right : (b c : List ℕ) → InOrder rootBefore list text b → c ≡ sortedBy (comes true list text) b
+      → InOrder itemBefore list text c
+  tree-right b c o s = rw s (tree-in-order list text b (o .placed) (o .permuted))
 
-  stays : inTreeOrder (map (itemAt list text) (treePositions list text)) ≡ map (itemAt list text) (treePositions list text)
-  stays = rw (tree-order list text) (sorted-stays itemBefore (inTreeOrder (contentOf list text)) (in-order (contentOf list text)))
+  -- and by root again, where there are layers
+  pub rest-sorted : (c d : List ℕ) → InOrder itemBefore list text c → d ≡ sortedBy (comes false list text) c → ForRest list text d
+  rest-sorted c d o s =
+      let i : InOrder rootBefore list text d = rw s (roots-in-order list text c (o .placed) (o .permuted)) in
+      record { placed = i .placed; roots = d; by-root = i; as-roots = refl }
 
-  -- the size, also of a list that is refused
-  pub whole-size : (plen : ℕ) (name b c : List ℕ) (i s : ℕ) → b ≡ treePositions list text → c ≡ rootPositions list text
-      → i ≡ length (infoBytes plen name (map (itemAt list text) b)) → s ≡ length (restBytes (map (itemAt list text) c))
-      → i + s ≡ length (torrentBytes list text plen name)
-  whole-size plen name b c i s d e x y =
-      let o = roots-right (rootPositions list text) refl in
-      ap₂ (λ (m n : ℕ). m + n) (x ∙ ap (λ (l : List ℕ). length (infoBytes plen name (map (itemAt list text) l))) d) (y ∙ ap (λ (l : List ℕ). length (restBytes (map (itemAt list text) l))) e)
-      ∙ sym (size-there plen name (contentOf list text) (map (itemAt list text) (treePositions list text)) (map (itemAt list text) (rootPositions list text)) (tree-permuted list text) stays (o .permuted) (o .in-order))
+  pub rest-plain : (c : List ℕ) (n : ℕ) → InOrder itemBefore list text c → n ≡ length (restBytes (map (itemAt list text) c)) → n ≡ 2
+      → ForRest list text c
+  rest-plain c n o e z =
+      let i = roots-in-order list text c (o .placed) (o .permuted) in
+      record {
+        placed = o .placed;
+        roots = sortedBy (comes false list text) c;
+        by-root = i;
+        as-roots =
+            rest-any-order (map (itemAt list text) c) (map (itemAt list text) (sortedBy (comes false list text) c))
+            (map-permuted (itemAt list text) c (sortedBy (comes false list text) c) (sorted-permuted (comes false list text) c))
+            (sym e ∙ z);
+      }
 
-  -- the bytes, where 0 is answered: the second part is written first
-  pub whole-bytes : (plen : ℕ) (name b c : List ℕ) → contentNumber plen name (contentOf list text) ≡ 0 → b ≡ treePositions list text
-      → c ≡ rootPositions list text
-      → (out t u : List ℕ) (i k q : ℕ) → i ≡ length (infoBytes plen name (map (itemAt list text) (treePositions list text)))
-      → Put out i (restBytes (map (itemAt list text) c)) t k → Put t 0 (infoBytes plen name (map (itemAt list text) b)) u q
-      → length t ≡ length out → length (torrentBytes list text plen name) ≤ length out
-      → u ≡ pasted out 0 (torrentBytes list text plen name)
-  whole-bytes plen name b c z d e out t u i k q x v w l m =
-      let o = roots-right (rootPositions list text) refl in
-      let g = good plen name (contentOf list text) (all-passed plen name (contentOf list text) z) in
-      parts-written (torrentBytes list text plen name) (infoBytes plen name (map (itemAt list text) (treePositions list text))) (restBytes (map (itemAt list text) (rootPositions list text))) out t u i k q
-      (torrent-there plen name (contentOf list text) (map (itemAt list text) (treePositions list text)) (map (itemAt list text) (rootPositions list text)) (tree-permuted list text) stays (o .permuted) (o .in-order) (g .fine .paths-apart))
-      x
-      (subst (λ (ps : List ℕ). Put out i (restBytes (map (itemAt list text) ps)) t k) e v)
-      (subst (λ (ps : List ℕ). Put t 0 (infoBytes plen name (map (itemAt list text) ps)) u q) d w)
-      l m
+  -- ---- the size and the bytes, of positions in the two orders
 
-  -- the second part ends within the output
-  pub rest-room : (plen : ℕ) (name c : List ℕ) (i n : ℕ) → c ≡ rootPositions list text
-      → i ≡ length (infoBytes plen name (map (itemAt list text) (treePositions list text))) → length (torrentBytes list text plen name) ≤ n
-      → i + length (restBytes (map (itemAt list text) c)) ≤ n
-  rest-room plen name c i n e x l = let s = whole-size plen name (treePositions list text) c i (length (restBytes (map (itemAt list text) c))) refl e x refl in omega arith
+  module _ (plen : ℕ) (name b c : List ℕ) (o : InOrder itemBefore list text b) where
+    -- also of a list that is refused
+    pub whole-size : InOrder rootBefore list text c → (i s : ℕ) → i ≡ length (infoBytes plen name (map (itemAt list text) b))
+        → s ≡ length (restBytes (map (itemAt list text) c)) → i + s ≡ length (torrentBytes list text plen name)
+    whole-size r i s x y =
+        ap₂ (λ (m n : ℕ). m + n) x y
+        ∙ sym (size-there plen name (contentOf list text) (map (itemAt list text) b) (map (itemAt list text) c) (o .permuted) (o .in-order)
+        (r .permuted) (r .in-order))
+
+    parts : ForRest list text c → contentNumber plen name (contentOf list text) ≡ 0
+        → torrentBytes list text plen name ≡ infoBytes plen name (map (itemAt list text) b) ++ restBytes (map (itemAt list text) c)
+    parts f z =
+        let g = good plen name (contentOf list text) (all-passed plen name (contentOf list text) z) in
+        torrent-there plen name (contentOf list text) (map (itemAt list text) b) (map (itemAt list text) (f .roots)) (o .permuted)
+        (o .in-order) (f .by-root .permuted) (f .by-root .in-order) (g .fine .paths-apart)
+        ∙ ap (λ (l : List ℕ). infoBytes plen name (map (itemAt list text) b) ++ l) (sym (f .as-roots))
+
+    -- the second part ends within the output
+    pub rest-room : ForRest list text c → contentNumber plen name (contentOf list text) ≡ 0 → (i n : ℕ)
+        → i ≡ 0 + length (infoBytes plen name (map (itemAt list text) b)) → length (torrentBytes list text plen name) ≤ n
+        → i + length (restBytes (map (itemAt list text) c)) ≤ n
+    rest-room f z i n e l =
+        let s = ap (λ (x : List ℕ). length x) (parts f z) in
+        omega (arith, length-append (infoBytes plen name (map (itemAt list text) b)) (restBytes (map (itemAt list text) c)))
+
+    -- the bytes, where 0 is answered
+    pub whole-bytes : ForRest list text c → contentNumber plen name (contentOf list text) ≡ 0 → (out t u : List ℕ) (i k : ℕ)
+        → Put out 0 (infoBytes plen name (map (itemAt list text) b)) t i → Put t i (restBytes (map (itemAt list text) c)) u k
+        → length t ≡ length out → length (torrentBytes list text plen name) ≤ length out
+        → u ≡ pasted out 0 (torrentBytes list text plen name)
+    whole-bytes f z out t u i k v w e l =
+        let p = put-append out t u 0 i k (infoBytes plen name (map (itemAt list text) b)) (restBytes (map (itemAt list text) c)) v w e in
+        let s = ap (λ (x : List ℕ). length x) (parts f z) in
+        let m = p .behind in
+        p .there (omega arith) ∙ ap (λ (x : List ℕ). pasted out 0 x) (sym (parts f z))
 
   -- and so does the first
-  pub info-room : (plen : ℕ) (name b : List ℕ) (n : ℕ) → b ≡ treePositions list text → length (torrentBytes list text plen name) ≤ n
+  pub info-room : (plen : ℕ) (name b : List ℕ) (n : ℕ) → InOrder itemBefore list text b → length (torrentBytes list text plen name) ≤ n
       → 0 + length (infoBytes plen name (map (itemAt list text) b)) ≤ n
-  info-room plen name b n e l =
-      let s = whole-size plen name b (rootPositions list text) (length (infoBytes plen name (map (itemAt list text) b))) (length (restBytes (map (itemAt list text) (rootPositions list text)))) e refl refl refl in
+  info-room plen name b n o l =
+      let c = sortedBy (comes false list text) b in
+      let s = whole-size plen name b c o (roots-in-order list text b (o .placed) (o .permuted))
+      (length (infoBytes plen name (map (itemAt list text) b))) (length (restBytes (map (itemAt list text) c))) refl refl in
       omega arith
 
-  pub met : (b : List ℕ) (t : Bool) → b ≡ treePositions list text → t ≡ neighbours leads (map (itemAt list text) b)
+  pub met : (b : List ℕ) (t : Bool) → InOrder itemBefore list text b → t ≡ neighbours leads (map (itemAt list text) b)
       → t ≡ meet (contentOf list text)
-  met b t e u = u ∙ ap (λ (l : List ℕ). neighbours leads (map (itemAt list text) l)) e ∙ meet-told list text
+  met b t o u = u ∙ meet-told list text b o
 
 -- work space for as many positions as there are records
 pub part-end : (n : ℕ) (s : List ℕ) → n ≤ mostFiles → length s ≡ mostFiles → n ≤ length s
@@ -124,13 +153,21 @@ module _ (list text : List ℕ) (plen : ℕ) (name out : List ℕ) (h : listForm
     pub answer-room : length out < length (torrentBytes list text plen name)
         → (refused noRoom ≡ writeAnswer list text plen name out) × (out ≡ writeAfter list text plen name out)
     unfolding writeAnswer writeAfter writeNumber
-    answer-room l = (rw (h, e, lt-ltb (length out) (length (torrentBytes list text plen name)) l) refl, rw (h, e, lt-ltb (length out) (length (torrentBytes list text plen name)) l) refl)
+    answer-room l = (
+      rw (h, e, lt-ltb (length out) (length (torrentBytes list text plen name)) l) refl,
+      rw
+          (h, e, lt-ltb (length out) (length (torrentBytes list text plen name)) l) refl,
+    )
 
     pub answer-done : (n : ℕ) (u : List ℕ) → n ≡ length (torrentBytes list text plen name)
         → length (torrentBytes list text plen name) ≤ length out → u ≡ pasted out 0 (torrentBytes list text plen name)
         → (done n ≡ writeAnswer list text plen name out) × (u ≡ writeAfter list text plen name out)
     unfolding writeAnswer writeAfter writeNumber
-    answer-done n u s l p = (rw (h, e, le-ltb (length out) (length (torrentBytes list text plen name)) l) (ap done s), rw (h, e, le-ltb (length out) (length (torrentBytes list text plen name)) l) p)
+    answer-done n u s l p = (
+      rw (h, e, le-ltb (length out) (length (torrentBytes list text plen name)) l) (ap done s),
+      rw
+          (h, e, le-ltb (length out) (length (torrentBytes list text plen name)) l) p,
+    )
 
 -- more records than files go into a torrent
 pub content-length : (list text : List ℕ) → length (contentOf list text) ≡ recordCount list

@@ -28,7 +28,9 @@ writeNumber list text plen name room =
 
 unfoldable pub writeAnswer : List ℕ → List ℕ → ℕ → List ℕ → List ℕ → Answer
 writeAnswer list text plen name out =
-    cond (eqb (writeNumber list text plen name (length out)) 0) (done (length (torrentBytes list text plen name))) (refused (writeNumber list text plen name (length out)))
+    cond (eqb (writeNumber list text plen name (length out)) 0) (done (length (torrentBytes list text plen name)))
+    (refused (writeNumber list text plen name (length out)))
 
 unfoldable pub writeAfter : List ℕ → List ℕ → ℕ → List ℕ → List ℕ → List ℕ
-writeAfter list text plen name out = cond (eqb (writeNumber list text plen name (length out)) 0) (pasted out 0 (torrentBytes list text plen name)) out
+writeAfter list text plen name out =
+    cond (eqb (writeNumber list text plen name (length out)) 0) (pasted out 0 (torrentBytes list text plen name)) out

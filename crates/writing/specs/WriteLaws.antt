@@ -32,11 +32,19 @@ on : (a : Bool) (x n : ℕ) → (n ≡ 0 → ⊥) → cond a x n ≡ 0 → (a �
 on true x n h e = (refl, e)
 on false x n h e = absurd (h e)
 
-pub written : (list text : List ℕ) (plen : ℕ) (name : List ℕ) (room : ℕ) → writeNumber list text plen name room ≡ 0 → Written list text plen name room
+pub written : (list text : List ℕ) (plen : ℕ) (name : List ℕ) (room : ℕ) → writeNumber list text plen name room ≡ 0 → Written list text plen
+    name room
 unfolding writeNumber
-written list text plen name room e = record { form = a .0; number = b .0; fits = ltb-false room (length (torrentBytes list text plen name)) (roomy (ltb room (length (torrentBytes list text plen name))) (b .1)) }
+written list text plen name room e =
+    record {
+      form = a .0;
+      number = b .0;
+      fits = ltb-false room (length (torrentBytes list text plen name))
+          (roomy (ltb room (length (torrentBytes list text plen name))) (b .1));
+    }
   where
-    a : (listForm list text ≡ true) × (cond (eqb (contentNumber plen name (contentOf list text)) 0) (cond (ltb room (length (torrentBytes list text plen name))) noRoom 0) (contentNumber plen name (contentOf list text)) ≡ 0)
+    a : (listForm list text ≡ true) × (cond (eqb (contentNumber plen name (contentOf list text)) 0)
+        (cond (ltb room (length (torrentBytes list text plen name))) noRoom 0) (contentNumber plen name (contentOf list text)) ≡ 0)
     a = on (listForm list text) _ wrongSize (λ z. omega arith) e
 
     by-number : (t : Bool) (n x : ℕ) → eqb n 0 ≡ t → cond t x n ≡ 0 → (n ≡ 0) × (x ≡ 0)
@@ -52,12 +60,17 @@ written list text plen name room e = record { form = a .0; number = b .0; fits =
 
 -- ---- order
 
-module _ (list text list' text' : List ℕ) (plen : ℕ) (name : List ℕ) (form : listForm list text ≡ listForm list' text') (same : Permuted (contentOf list text) (contentOf list' text')) where
+module _ (list text list' text' : List ℕ) (plen : ℕ) (name : List ℕ) (form : listForm list text ≡ listForm list' text')
+    (same : Permuted (contentOf list text) (contentOf list' text')) where
   pub number-same : (room : ℕ) → writeNumber list text plen name room ≡ writeNumber list' text' plen name room
   unfolding writeNumber
   number-same room =
-      rw
-      (form, number-any-order plen name (contentOf list text) (contentOf list' text') same, size-any-order plen name (contentOf list text) (contentOf list' text') same)
+      rw (
+        form,
+        number-any-order plen name (contentOf list text) (contentOf list' text') same,
+        size-any-order plen name (contentOf list text)
+            (contentOf list' text') same,
+      )
       refl
 
   -- the same torrent, wherever one is written
@@ -65,7 +78,8 @@ module _ (list text list' text' : List ℕ) (plen : ℕ) (name : List ℕ) (form
   bytes-same room e =
       let w = written list text plen name room e in
       let g = good plen name (contentOf list text) (all-passed plen name (contentOf list text) (w .number)) in
-      ap (λ (t : Entries). encode (dictionary t)) (torrent-any-order plen name (contentOf list text) (contentOf list' text') same (g .fine .paths-apart))
+      ap (λ (t : Entries). encode (dictionary t))
+      (torrent-any-order plen name (contentOf list text) (contentOf list' text') same (g .fine .paths-apart))
 
   pub answer-same : (out : List ℕ) → writeAnswer list text plen name out ≡ writeAnswer list' text' plen name out
   unfolding writeAnswer
@@ -78,5 +92,7 @@ module _ (list text list' text' : List ℕ) (plen : ℕ) (name : List ℕ) (form
     where
       by-number : (t : Bool) → eqb (writeNumber list' text' plen name (length out)) 0 ≡ t
           → cond t (pasted out 0 (torrentBytes list text plen name)) out ≡ cond t (pasted out 0 (torrentBytes list' text' plen name)) out
-      by-number true q = ap (pasted out 0) (bytes-same (length out) (number-same (length out) ∙ eqb-true (writeNumber list' text' plen name (length out)) 0 q))
+      by-number true q =
+          ap (pasted out 0) (bytes-same (length out)
+          (number-same (length out) ∙ eqb-true (writeNumber list' text' plen name (length out)) 0 q))
       by-number false q = refl

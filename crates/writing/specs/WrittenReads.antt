@@ -30,7 +30,8 @@ use Rattle.writing.specs.Write.{torrentBytes, writeNumber, writeAfter}
 use Rattle.writing.specs.WriteLaws.{Written, written}
 
 -- every root of a list has 32 bytes
-items-wide : (list text : List ℕ) (n : ℕ) → recordSize * n ≤ length list → (x : Item) → Member x (itemsUpTo list text n) → length (x .root) ≡ 32
+items-wide : (list text : List ℕ) (n : ℕ) → recordSize * n ≤ length list → (x : Item) → Member x (itemsUpTo list text n) → length (x .root)
+    ≡ 32
 unfolding itemsUpTo Member
 items-wide list text zero h x m = absurd m
 items-wide list text (suc n) h x m = elim (member-append (itemsUpTo list text n) (itemAt list text (recordSize * n) ∷ []) x m)
@@ -60,12 +61,17 @@ module _ (list text : List ℕ) (plen : ℕ) (name out : List ℕ) (e : writeNum
   content-good = good plen name (contentOf list text) (all-passed plen name (contentOf list text) (w .number))
 
   -- the torrent stands at the start of the output
-  pub bytes-there : cut (writeAfter list text plen name out) 0 (length (torrentBytes list text plen name)) ≡ torrentBytes list text plen name
+  pub bytes-there : cut (writeAfter list text plen name out) 0 (length (torrentBytes list text plen name)) ≡ torrentBytes list text plen
+      name
   unfolding writeAfter
-  bytes-there = rw e (cut-pasted-same out 0 (torrentBytes list text plen name) (length (torrentBytes list text plen name)) refl (let f = w .fits in omega arith))
+  bytes-there =
+      rw e (cut-pasted-same out 0 (torrentBytes list text plen name) (length (torrentBytes list text plen name)) refl
+      (let f = w .fits in omega arith))
 
   pub not-large : length (torrentBytes list text plen name) ≤ largestTorrent
-  not-large = ltb-false largestTorrent (length (torrentBytes list text plen name)) (all-passed plen name (contentOf list text) (w .number) .not-large)
+  not-large =
+      ltb-false largestTorrent (length (torrentBytes list text plen name))
+      (all-passed plen name (contentOf list text) (w .number) .not-large)
 
   pub is-strict : Valid (dictionary (torrentOf plen name (contentOf list text))) maxLevels
   is-strict = strict plen name (contentOf list text) (content-good .fine) (content-wide list text)
@@ -79,9 +85,11 @@ module _ (list text : List ℕ) (plen : ℕ) (name out : List ℕ) (e : writeNum
   pub has-files : filesOf (torrentOf plen name (contentOf list text)) ≡ map fileOfItem (inTreeOrder (contentOf list text))
   has-files = files-there plen name (contentOf list text) (content-good .fine) (content-wide list text)
 
-  pub has-layers : (x : Item) → Member x (contentOf list text) → plen < x .size → lookup (x .root) (layersOf (torrentOf plen name (contentOf list text))) ≡ present (string (x .layer))
+  pub has-layers : (x : Item) → Member x (contentOf list text) → plen < x .size → lookup (x .root)
+      (layersOf (torrentOf plen name (contentOf list text))) ≡ present (string (x .layer))
   has-layers x m l =
-      ap (lookup (x .root)) (layers-there plen name (contentOf list text)) ∙ layer-there plen name (contentOf list text) (content-good .fine) (content-wide list text) x m l
+      ap (lookup (x .root)) (layers-there plen name (contentOf list text)) ∙ layer-there plen name (contentOf list text)
+      (content-good .fine) (content-wide list text) x m l
 
   pub has-number : valueNumber (torrentOf plen name (contentOf list text)) ≡ 0
   has-number = number-there plen name (contentOf list text) content-good (content-wide list text)

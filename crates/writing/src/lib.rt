@@ -1,5 +1,5 @@
-// A torrent written of a list of files. Everything is worked out before the first byte is written: the list's form, the size of the torrent,
-// its number, the room. The files are sorted by the positions of their records, on the stack.
+// A torrent written of a list of files. Everything is worked out before the first byte is written: the list's form, the size of the
+// torrent, its number, the room. The files are sorted by the positions of their records, on the stack.
 use lists::form::RECORD;
 use lists::form::list_form;
 use numbers::Answer;
@@ -7,6 +7,7 @@ use numbers::refusal;
 use numbers::success;
 use ordered::meet::meets;
 use ordered::number::content_number;
+use ordered::number::root_number;
 use ordered::sort::place;
 use ordered::sort::sort;
 use output::whole::MOST;
@@ -16,35 +17,23 @@ use output::whole::put_rest;
 use output::whole::rest_size;
 use output::whole::too_many;
 ghost use mathlib.Core.Path.{_≡_};
-ghost use mathlib.Core.List.{map};
 ghost use Prim.Native.Nat.{_≤_};
 ghost use lib.ListN.{length};
 ghost use Rattle.octets.specs.Octets.{pasted};
+ghost use Rattle.publishing.specs.Content.{itemBefore};
 ghost use Rattle.publishing.specs.Number.{contentNumber};
-ghost use Rattle.lists.specs.Lists.{itemAt, contentOf};
-ghost use Rattle.ordered.specs.Order.{mostFiles};
-ghost use Rattle.output.specs.Whole.{infoBytes};
+ghost use Rattle.lists.specs.Lists.{contentOf};
+ghost use Rattle.ordered.specs.Order.{InOrder, mostFiles};
 ghost use Rattle.writing.specs.Write.{torrentBytes, writeAnswer, writeAfter};
-ghost use Rattle.writing.specs.Steps.{treePositions, rootPositions, Ready, MeasuredRight};
+ghost use Rattle.writing.specs.Steps.{Ready, MeasuredRight, ForRest};
 
-// What is worked out of a list before a byte is written: its number, the size of the torrent up to the entries of `piece layers`, its size.
+// What is worked out of a list before a byte is written: its number, the size of its torrent.
 pub struct Measured {
     pub number: u32,
-    pub info: usize,
     pub size: usize,
 }
 
-// `at` gets the positions of the list's records in tree order.
-fn order_by_path(list: &[u8], text: &[u8], at: &mut [u32], room: &mut [u32])
-    requires { ⌜ Ready (now list) (now text) (now at) (now room) ⌝ }
-    ensures { λ _. ⌜ now (at .exit) ≡ treePositions (now (list .entry)) (now (text .entry)) ⌝ }
-{
-    let n = at.len();
-    place(at);
-    sort(list, text, true, at, room, n);
-}
-
-// The number and the sizes; `at` gets the positions by root and layer.
+// The number and the size: from the positions by root and layer, then from those in tree order, which `at` is left with.
 fn measure(
     list: &[u8],
     text: &[u8],
@@ -54,21 +43,35 @@ fn measure(
     room: &mut [u32],
 ) -> Measured
     requires { ⌜ Ready (now list) (now text) (now at) (now room) ⌝ }
-    ensures { λ r. ⌜ (now (at .exit) ≡ rootPositions (now (list .entry)) (now (text .entry)))
-        × MeasuredRight (now (list .entry)) (now (text .entry)) plen (now (name .entry)) r ⌝ }
+    ensures { λ r. ⌜ MeasuredRight (now (list .entry)) (now (text .entry)) plen (now (name .entry)) (now (at .exit)) r ⌝ }
 {
     let n = at.len();
-    order_by_path(list, text, at, room);
-    let info = info_size(list, text, at, plen, name);
-    let meet = meets(list, text, at);
+    place(at);
     sort(list, text, false, at, room, n);
     let rest = rest_size(list, text, at);
+    let roots = root_number(list, text, plen, at, rest);
+    sort(list, text, true, at, room, n);
+    let info = info_size(list, text, at, plen, name);
+    let meet = meets(list, text, at);
     let size = info + rest;
-    let number = content_number(list, text, plen, at, size, meet);
-    Measured { number, info, size }
+    let number = content_number(list, text, plen, size, meet, roots);
+    Measured { number, size }
 }
 
-// Writes the torrent, the part from the entries of `piece layers` on first: `at` has the positions by root and layer.
+// `at`, which has the positions in tree order, gets those that `piece layers` is written of. Without layers the order does not matter: the
+// second part of the torrent has two bytes then.
+fn order_for_rest(list: &[u8], text: &[u8], at: &mut [u32], room: &mut [u32])
+    requires { ⌜ Ready (now list) (now text) (now at) (now room) × InOrder itemBefore (now list) (now text) (now at) ⌝ }
+    ensures { λ _. ⌜ ForRest (now (list .entry)) (now (text .entry)) (now (at .exit)) ⌝ }
+{
+    let n = at.len();
+    if rest_size(list, text, at) == 2 {
+        return;
+    }
+    sort(list, text, false, at, room, n);
+}
+
+// Writes the torrent; `at` has the positions in tree order.
 fn put_torrent(
     list: &[u8],
     text: &[u8],
@@ -77,17 +80,16 @@ fn put_torrent(
     at: &mut [u32],
     room: &mut [u32],
     out: &mut [u8],
-    info: usize,
 )
-    requires { ⌜ Ready (now list) (now text) (now at) (now room) × (now at ≡ rootPositions (now list) (now text))
+    requires { ⌜ Ready (now list) (now text) (now at) (now room) × InOrder itemBefore (now list) (now text) (now at)
         × (contentNumber plen (now name) (contentOf (now list) (now text)) ≡ 0)
-        × (info ≡ length (infoBytes plen (now name) (map (itemAt (now list) (now text)) (treePositions (now list) (now text)))))
         × (length (torrentBytes (now list) (now text) plen (now name)) ≤ length (now out)) ⌝ }
-    ensures { λ _. ⌜ now (out .exit) ≡ pasted (now (out .entry)) 0 (torrentBytes (now (list .entry)) (now (text .entry)) plen (now (name .entry))) ⌝ }
+    ensures { λ _. ⌜ now (out .exit)
+        ≡ pasted (now (out .entry)) 0 (torrentBytes (now (list .entry)) (now (text .entry)) plen (now (name .entry))) ⌝ }
 {
-    put_rest(out, info, list, text, at);
-    order_by_path(list, text, at, room);
-    put_info(out, 0, list, text, at, plen, name);
+    let behind = put_info(out, 0, list, text, at, plen, name);
+    order_for_rest(list, text, at, room);
+    put_rest(out, behind, list, text, at);
 }
 
 // The same as `write`, with work space for the positions.
@@ -106,7 +108,6 @@ fn write_in(
 {
     let measured = measure(list, text, plen, name, at, room);
     let number = measured.number;
-    let info = measured.info;
     let size = measured.size;
     if number != 0 {
         return refusal(number);
@@ -114,7 +115,7 @@ fn write_in(
     if out.len() < size {
         return refusal(numbers::NO_ROOM);
     }
-    put_torrent(list, text, plen, name, at, room, out, info);
+    put_torrent(list, text, plen, name, at, room, out);
     success(size as u64)
 }
 

@@ -38,7 +38,8 @@ impl Header {
 
     /// The 49 bytes of a message with this id.
     pub fn write(&self, id: u8) -> Vec<u8> {
-        let mut bytes = vec![id];
+        let mut bytes = Vec::with_capacity(HEAD);
+        bytes.push(id);
         bytes.extend_from_slice(&self.root);
         for word in [self.base, self.index, self.length, self.proof] {
             bytes.extend_from_slice(&word.to_be_bytes());

@@ -203,7 +203,7 @@ fn left(store: &mut [u8], number: u32, state: Vec<u8>) -> Given {
 }
 
 /// A memory between two fences, to see a byte written outside; the first one also puts it at an odd address.
-struct Fenced {
+pub struct Fenced {
     bytes: Vec<u8>,
     size: usize,
 }
@@ -212,12 +212,19 @@ const BEFORE: [u8; 13] = [0xfd; 13];
 const BEHIND: [u8; 64] = [0xfe; 64];
 
 impl Fenced {
-    fn new(bytes: &[u8]) -> Fenced {
+    pub fn new(bytes: &[u8]) -> Fenced {
         Fenced { bytes: [&BEFORE, bytes, &BEHIND].concat(), size: bytes.len() }
     }
 
-    fn lent(&mut self) -> &mut [u8] {
+    pub fn lent(&mut self) -> &mut [u8] {
         black_box(&mut self.bytes[BEFORE.len()..][..self.size])
+    }
+
+    /// These bytes are in it, and nothing was written outside.
+    pub fn has(&self, inside: &[u8]) -> bool {
+        let (before, rest) = black_box(&self.bytes).split_at(BEFORE.len());
+        let (bytes, behind) = rest.split_at(self.size);
+        before == BEFORE && bytes == inside && behind == BEHIND
     }
 
     fn taken_back(self) -> Vec<u8> {

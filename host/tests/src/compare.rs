@@ -27,13 +27,18 @@ impl<'a> Comparison<'a> {
     pub fn ask(&mut self, call: &Call) -> Outcome {
         let expected = by_reference(call);
         if self.difference.is_none() {
-            *self.seen.entry((call.entry, expected.given.number())).or_default() += 1;
-            self.compared += 1;
+            self.count(call.entry, expected.given.number(), 1);
             if (self.library)(call) != expected || changed_by_refusal(call, &expected) {
                 self.difference = Some(call.clone());
             }
         }
         expected
+    }
+
+    /// So many calls more were compared, and got this number.
+    pub fn count(&mut self, entry: Entry, number: u32, times: u64) {
+        *self.seen.entry((entry, number)).or_default() += times;
+        self.compared += times;
     }
 }
 

@@ -1,28 +1,37 @@
 //! Every header against every small file: taken, served and as a reject, on a store that is fresh, half full and full.
 
-use crate::call::{Call, Entry};
+use crate::call::{Call, Entry, Fenced};
 use crate::compare::Comparison;
 use crate::random::Random;
 use crate::truth::Truth;
 use reference::limits::{BLOCK, LONGEST_RUN};
-use reference::messages::{Header, HASHES, HEAD, REJECT, REQUEST};
+use reference::messages::{self, Header, HASHES, HEAD, REJECT, REQUEST};
+use reference::number::RULE_BROKEN;
 use reference::store::size_of;
 use reference::tree::Facts;
+use reference::Answer;
 
+/// Small files have up to so many blocks.
 const MOST_BLOCKS: u64 = 40;
 
-pub fn run(random: &mut Random, compared: &mut Comparison) {
-    for blocks in 1..=MOST_BLOCKS {
+/// All small files with an odd or an even count of blocks, by the first: two halves, for two processes.
+pub fn run(first: u64, random: &mut Random, compared: &mut Comparison) {
+    for blocks in (first..=MOST_BLOCKS).step_by(2) {
+        if compared.difference.is_some() {
+            return;
+        }
         let truth = Truth::of_leaves(blocks * BLOCK, BLOCK, random);
         let stores = stores(&truth, compared);
+        let mut broken = Broken::new(&stores);
         for header in headers(&truth.facts) {
             if header.obeys_the_rules(&truth.facts) {
                 let message = truth.message(&header);
                 stores.iter().for_each(|store| ask(&truth, store, &header, &message, compared));
             } else {
-                stores.iter().for_each(|store| offer(store, &header, header.write(HASHES), compared));
+                broken.offer(&header, compared);
             }
         }
+        broken.end(compared);
     }
 }
 
@@ -98,4 +107,100 @@ fn offer(store: &[u8], header: &Header, message: Vec<u8>, compared: &mut Compari
     compared.ask(&Call::new(Entry::Take).on(store).input(message));
     compared.ask(&Call::new(Entry::Serve).on(store).input(header.write(REQUEST)).out(out));
     compared.ask(&Call::new(Entry::TakeReject).on(store).input(header.write(REJECT)));
+}
+
+/// A memory for the reference and one for the library, lent again and again: most headers break the rules and so leave it as it is, and
+/// to copy a store for each call would take most of the time.
+struct Lent {
+    reference: Vec<u8>,
+    library: Fenced,
+}
+
+impl Lent {
+    fn new(bytes: &[u8]) -> Lent {
+        Lent { reference: bytes.to_vec(), library: Fenced::new(bytes) }
+    }
+
+    fn set(&mut self, bytes: &[u8]) {
+        self.reference.copy_from_slice(bytes);
+        self.library.lent().copy_from_slice(bytes);
+    }
+
+    /// Nothing was written outside, and inside the same.
+    fn is_alike(&self) -> bool {
+        self.library.has(&self.reference)
+    }
+}
+
+/// The memories of a file's calls with headers that break the rules.
+struct Broken<'a> {
+    stores: &'a [Vec<u8>; 3],
+    lent: [Lent; 3],
+    input: Lent,
+    out: Lent,
+    /// How many headers were answered 3 on a store, as the reference has it, by all three calls.
+    answered: u64,
+}
+
+/// The output of a request that is rejected, before it.
+const OUT: [u8; HEAD + 7] = [0xaa; HEAD + 7];
+
+impl<'a> Broken<'a> {
+    fn new(stores: &'a [Vec<u8>; 3]) -> Broken<'a> {
+        let lent = stores.each_ref().map(|store| Lent::new(store));
+        Broken { stores, lent, input: Lent::new(&[0; HEAD]), out: Lent::new(&OUT), answered: 0 }
+    }
+
+    /// The same three calls, on each store, with a look at all memory behind the three. Where anything is not as it should be each call is
+    /// asked by itself, on memory of its own.
+    fn offer(&mut self, header: &Header, compared: &mut Comparison) {
+        self.input.set(&header.write(HASHES));
+        for (lent, store) in self.lent.iter_mut().zip(self.stores) {
+            self.out.set(&OUT);
+            let is_right = refused_alike(lent, &mut self.input, &mut self.out)
+                && lent.is_alike()
+                && self.input.is_alike()
+                && self.out.is_alike()
+                && self.out.reference[HEAD..] == OUT[HEAD..];
+            if is_right {
+                self.answered += 1;
+            } else {
+                offer(store, header, header.write(HASHES), compared);
+                assert!(compared.difference.is_some(), "only on memory that is lent again");
+            }
+        }
+    }
+
+    /// Counts what was answered. The reference's stores are as they were lent, so the library's are, too.
+    fn end(&self, compared: &mut Comparison) {
+        let is_left = |(lent, store): (&Lent, &Vec<u8>)| lent.reference == *store;
+        assert!(self.lent.iter().zip(self.stores).all(is_left), "the reference wrote at a refusal");
+        for entry in [Entry::Take, Entry::Serve, Entry::TakeReject] {
+            compared.count(entry, RULE_BROKEN, self.answered);
+        }
+    }
+}
+
+/// The header taken, as a request and as a reject: 3 each time, by the reference and by the library.
+fn refused_alike(store: &mut Lent, input: &mut Lent, out: &mut Lent) -> bool {
+    let mut are_alike = |id: u8, entry: Entry| {
+        input.reference[0] = id;
+        let message = input.library.lent();
+        message[0] = id;
+        let held_bytes = store.library.lent();
+        let (expected, given) = match entry {
+            Entry::Take => {
+                (messages::take(&mut store.reference, &input.reference), boundary::take(held_bytes, message))
+            }
+            Entry::Serve => (
+                messages::serve(&store.reference, &input.reference, &mut out.reference),
+                boundary::serve(held_bytes, message, out.library.lent()),
+            ),
+            _ => {
+                (messages::take_reject(&store.reference, &input.reference), boundary::take_reject(held_bytes, message))
+            }
+        };
+        expected.number == RULE_BROKEN && expected == Answer { number: given.number, count: given.count }
+    };
+    are_alike(HASHES, Entry::Take) && are_alike(REQUEST, Entry::Serve) && are_alike(REJECT, Entry::TakeReject)
 }

@@ -1,9 +1,9 @@
 use Rattle.catalogue.specs.PutLaws.{tree-written}
 use Rattle.catalogue.proofs.Filling.{keys-indexed, first-spot}
 use native.Mathlib.Omega.{arith}
-use Prim.Native.Nat.{ℕ, _+_, _-_, _*_, _≤_, _<_, _/_, _%_, _^_}
-use lib.ListN.{length, getD, set, take, drop, length-replicate}
-use mathlib.Core.Path.{_≡_, refl, ap, sym, _∙_}
+use Prim.Native.Nat.{ℕ}
+use lib.ListN.{length-replicate}
+use mathlib.Core.Path.{refl}
 use borrow.Author.Needs.{needs}
 use Rattle.catalogue.proofs.list_in.Statement.{statement}
 use Rattle.catalogue.proofs.list_in.Tie as tie
@@ -12,27 +12,21 @@ use Rattle.catalogue.proofs.list_in.Lts as lts
 use Rattle.catalogue.proofs.put_directory.Reads as put-directory-reads
 use Rattle.layers.proofs.index.Reads as index-reads
 
--- src/lib.rt:134:5
 index-requires : tie.Need-index-requires
 index-requires c κs = (c .before .before .before .before .before .pre .0 .opened .small, let x = c .before .before .before .before .before .pre .0 .few-long in let y = c .before .before .before .before .before .pre .1 in omega arith)
 
--- src/lib.rt:135:31
 slice-aggregate-put-directory : tie.Need-slice-aggregate-put-directory
 slice-aggregate-put-directory c = search needs
 
--- src/lib.rt:135:5
 put-directory-requires : tie.Need-put-directory-requires
 put-directory-requires c κs = (keys-indexed _ _ _ (c .before .before .before .before .before .before .before .before .before .before .before .pre .0) (c .before .before .before .before .before .before .before .before .before .before .before .args .keys .now) _ (c .before .before .before .before .before .before .before .before .before .before .before .pre .1) (c .before .before .before .before .before .index .kept .1 .0) _ (c .before .before .before .before .before .index .ensures .0) (c .before .before .before .before .before .index .ensures .1), first-spot _ _ _ (c .before .before .before .before .before .before .before .before .before .before .before .pre .0) _ (c .before .before .before .before .before .before .before .before .before .before .before .args .out .now) (length-replicate {A = ℕ} 56 0))
 
--- src/lib.rt:123:1
 same-length : tie.Need-same-length
 same-length c = search needs
 
--- src/lib.rt:123:1
 same-length-2 : tie.Need-same-length-2
 same-length-2 c = search needs
 
--- src/lib.rt:123:1
 returns : tie.Need-returns
 returns c = tree-written _ _ _ _ _ _ _ _ refl refl refl (c .before .before .before .before .before .before .before .before .before .before .before .before .before .before .before .pre .0 .tree-right) (c .before .before .before .before .before .before .before .before .before .before .before .before .before .before .before .pre .2) (c .before .before .before .put-directory .ensures)
 

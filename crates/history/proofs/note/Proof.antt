@@ -1,6 +1,7 @@
 use Rattle.octets.specs.Octets.{pasted}
 use Rattle.history.specs.Growing.{nodeCount, nodeAt}
-use Rattle.history.proofs.Steps.{noted-none, noted-not, noted-yes, some-pieces, piece-layer-below, quotient-some}
+use Rattle.history.proofs.Steps.{noted-none, noted-not, noted-yes, piece-layer-below, quotient-some}
+use Rattle.tree.specs.GeometryLaws.{piece-some}
 use native.Mathlib.Omega.{arith}
 use Prim.Native.Nat.{_-_, _*_, _/_}
 use lib.ListN.{length}
@@ -17,7 +18,7 @@ returns : tie.Need-returns
 returns c = sym (noted-none (c .before .before .args .h) (c .before .before .args .layer .now) (c .if1 .taken))
 
 rem-if2 : tie.Need-rem-if2
-rem-if2 c = some-pieces (c .before .before .args .h .«piece_length») (c .before .before .pre .0)
+rem-if2 c = piece-some (c .before .before .args .h .«piece_length») (c .before .before .pre .0)
 
 returns-2 : tie.Need-returns-2
 returns-2 c = sym (noted-not (c .before .before .before .args .h) (c .before .before .before .args .layer .now) (c .if2 .taken))
@@ -35,7 +36,7 @@ hash-at-requires : tie.Need-hash-at-requires
 hash-at-requires c κs = omega (arith, nodes-size (c .before .before .before .before .before .before), c .before .piece-layer .ensures, piece-layer-below (c .before .before .before .before .before .before .args .h .«piece_length») (c .before .before .before .before .before .before .pre .0))
 
 div-i : tie.Need-div-i
-div-i c = some-pieces (c .before .before .before .before .before .before .before .args .h .«piece_length») (c .before .before .before .before .before .before .before .pre .0)
+div-i c = piece-some (c .before .before .before .before .before .before .before .args .h .«piece_length») (c .before .before .before .before .before .before .before .pre .0)
 
 sub-i : tie.Need-sub-i
 sub-i c = quotient-some (c .before .before .before .before .before .before .before .args .h .length) (c .before .before .before .before .before .before .before .args .h .«piece_length») (c .before .before .before .before .before .if1 .left) (c .before .before .before .before .if2 .left)

@@ -1,5 +1,6 @@
 use Rattle.octets.specs.Octets.{zeroHash}
-use Rattle.history.proofs.Steps.{above-none, zero-pad, above-more, pad-more, half-more}
+use Rattle.history.proofs.Steps.{above-none, zero-pad, above-more, half-more}
+use Rattle.tree.proofs.Steps.{pad-next}
 use Rattle.tree.specs.Values.{padValue}
 use Rattle.history.specs.Growing.{nodeAt, openAbove}
 use borrow.Author.Needs.{needs}
@@ -43,7 +44,7 @@ loop-again c = let a = c .before .before .before .before .before .before .args i
     let L = c .before .before .before .before .loop in (
       omega (arith, c .before .before .before .loop-test .taken),
       above-more (a .nodes .now) (a .leaf) (c .before .before .hash-at .result) (L .child) (L .pad) (c .before .parent .result) (a .i) (L .j) (L .l) (L .inv .1) (L .inv .2) (L .inv .3) (c .before .before .hash-at .ensures) (c .before .parent .ensures),
-      pad-more (L .pad) (c .pair .result) (L .l) (L .inv .2) (c .pair .ensures),
+      pad-next (L .pad) (c .pair .result) (L .l) (L .inv .2) (c .pair .ensures),
       half-more (a .i) (L .j) (L .l) (L .inv .3),
     )
 

@@ -1,7 +1,8 @@
 use Rattle.history.specs.LastLaws.{tall-enough}
 use Rattle.tree.specs.Geometry.{height}
 use Rattle.octets.specs.Octets.{zeroHash}
-use Rattle.history.proofs.Steps.{root-none, root-some}
+use Rattle.history.proofs.Steps.{root-some}
+use Rattle.history.specs.HistoriesLaws.{root-zero}
 use native.Mathlib.Omega.{arith}
 use Prim.Native.Nat.{_-_}
 use lib.ListN.{length}
@@ -12,7 +13,7 @@ use Rattle.history.proofs.root_of.Tie as tie
 
 returns : tie.Need-returns
 unfolding zeroHash
-returns c = root-none (c .before .args .h) (c .if1 .taken)
+returns c = root-zero (c .before .args .h) (c .if1 .taken)
 
 block-count-requires : tie.Need-block-count-requires
 block-count-requires c κs = search needs

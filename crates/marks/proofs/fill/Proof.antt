@@ -1,4 +1,5 @@
-use Rattle.marks.proofs.Answers.{row-turn, row-whole}
+use Rattle.marks.proofs.Answers.{row-turn}
+use Rattle.octets.proofs.Turn.{whole}
 use native.Mathlib.Omega.{arith}
 use lib.ListN.{length, replicate, length-replicate, getD-replicate}
 use lib.Seq.{paste, paste-zero, length-paste}
@@ -43,7 +44,7 @@ same-length : tie.Need-same-length Inv-loop μ-loop
 same-length c = len (c .before)
 
 returns : tie.Need-returns Inv-loop μ-loop
-returns c = row-whole _ _ _ _ (c .before .loop .i) (c .before .before .args .n) (c .before .loop .inv .1) (length-replicate {A = ℕ} (c .before .before .args .n) (c .before .before .args .x)) (omega arith)
+returns c = whole _ _ _ _ (c .before .loop .i) (c .before .before .args .n) (c .before .loop .inv .1) (length-replicate {A = ℕ} (c .before .before .args .n) (c .before .before .args .x)) (omega arith)
 
 pub fill-spec : {M : Type 1} → statement M
 fill-spec =

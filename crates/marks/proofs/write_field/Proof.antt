@@ -1,5 +1,6 @@
 use Rattle.marks.specs.MarksLaws.{field-length}
-use Rattle.marks.proofs.Answers.{field-turn, row-whole}
+use Rattle.marks.proofs.Answers.{field-turn}
+use Rattle.octets.proofs.Turn.{whole}
 use Rattle.marks.specs.Marks.{fieldBytes}
 use native.Mathlib.Omega.{arith}
 use lib.ListN.{length}
@@ -48,7 +49,7 @@ same-length : tie.Need-same-length Inv-loop μ-loop
 same-length c = len (c .before)
 
 returns : tie.Need-returns Inv-loop μ-loop
-returns c = row-whole _ _ _ _ (c .before .loop .i) (c .before .before .before .before .args .n) (c .before .loop .inv .1) (field-length _ _) (omega (arith, c .loop-test .left, c .before .loop .inv .0))
+returns c = whole _ _ _ _ (c .before .loop .i) (c .before .before .before .before .args .n) (c .before .loop .inv .1) (field-length _ _) (omega (arith, c .loop-test .left, c .before .loop .inv .0))
 
 pub write-field-spec : {M : Type 1} → statement M
 write-field-spec =

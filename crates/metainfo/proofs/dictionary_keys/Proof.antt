@@ -1,8 +1,5 @@
 use Rattle.metainfo.proofs.Finding.{tree-found, layers-found}
-use native.Mathlib.Omega.{arith}
-use Prim.Native.Nat.{ℕ, _+_, _-_, _*_, _≤_, _<_, _/_, _%_, _^_}
-use lib.ListN.{length, getD, set, take, drop}
-use mathlib.Core.Path.{_≡_, refl, ap, sym, _∙_}
+use mathlib.Core.Path.{sym, _∙_}
 use borrow.Author.Needs.{needs}
 use Rattle.metainfo.proofs.dictionary_keys.Statement.{statement}
 use Rattle.metainfo.proofs.dictionary_keys.Tie as tie
@@ -12,59 +9,45 @@ use Rattle.metainfo.proofs.find_dictionary.Reads as find-dictionary-rea
 use Rattle.metainfo.proofs.info_keys.Reads as info-keys-reads
 use Rattle.metainfo.proofs.no_keys.Reads as no-keys-reads
 
--- src/lib.rt:131:34
 slice-aggregate-find-dictionary : tie.Need-slice-aggregate-find-dictionary
 slice-aggregate-find-dictionary c = search needs
 
--- src/lib.rt:131:11
 find-dictionary-requires : tie.Need-find-dictionary-requires
 find-dictionary-requires c κs = search needs
 
--- src/lib.rt:132:27
 enum-told : tie.Need-enum-told
 enum-told c = search needs
 
--- src/lib.rt:132:27
 no-keys-requires : tie.Need-no-keys-requires
 no-keys-requires c κs = search needs
 
--- src/lib.rt:133:23
 enum-known-start : tie.Need-enum-known-start
 enum-known-start c = search needs
 
--- src/lib.rt:133:67
 slice-aggregate-find-dictionary-2 : tie.Need-slice-aggregate-find-dictionary-2
 slice-aggregate-find-dictionary-2 c = search needs
 
--- src/lib.rt:133:45
 find-dictionary-requires-2 : tie.Need-find-dictionary-requires-2
 find-dictionary-requires-2 c κs = search needs
 
--- src/lib.rt:134:31
 enum-told-2 : tie.Need-enum-told-2
 enum-told-2 c = search needs
 
--- src/lib.rt:134:31
 no-keys-requires-2 : tie.Need-no-keys-requires-2
 no-keys-requires-2 c κs = search needs
 
--- src/lib.rt:136:24
 enum-known-layers : tie.Need-enum-known-layers
 enum-known-layers c = search needs
 
--- src/lib.rt:138:18
 info-keys-requires : tie.Need-info-keys-requires
 info-keys-requires c κs = search needs
 
--- src/lib.rt:127:1
 returns : tie.Need-returns
 returns c = c .no-keys .ensures ∙ sym (tree-found _ _ _ (sym (c .before .before .before .find-dictionary .ensures) ∙ c .before .enum-told .given .1))
 
--- src/lib.rt:127:1
 returns-2 : tie.Need-returns-2
 returns-2 c = c .no-keys2 .ensures ∙ sym (layers-found _ _ _ _ _ (sym (c .before .before .before .before .before .before .before .before .find-dictionary .ensures) ∙ c .before .before .before .before .before .before .start .given .1) (sym (c .before .before .before .find-dictionary2 .ensures) ∙ c .before .enum-told2 .given .1))
 
--- src/lib.rt:127:1
 returns-3 : tie.Need-returns-3
 returns-3 c = c .info-keys .ensures ∙ sym (layers-found _ _ _ _ _ (sym (c .before .before .before .before .before .before .before .before .before .find-dictionary .ensures) ∙ c .before .before .before .before .before .before .before .start .given .1) (sym (c .before .before .before .before .find-dictionary2 .ensures) ∙ c .before .before .layers .given .1))
 

@@ -1,8 +1,5 @@
 use Rattle.metainfo.proofs.Finding.{length-found, version-found}
-use native.Mathlib.Omega.{arith}
-use Prim.Native.Nat.{ℕ, _+_, _-_, _*_, _≤_, _<_, _/_, _%_, _^_}
-use lib.ListN.{length, getD, set, take, drop}
-use mathlib.Core.Path.{_≡_, refl, ap, sym, _∙_}
+use mathlib.Core.Path.{sym, _∙_}
 use borrow.Author.Needs.{needs}
 use Rattle.metainfo.proofs.info_keys.Statement.{statement}
 use Rattle.metainfo.proofs.info_keys.Tie as tie
@@ -12,59 +9,45 @@ use Rattle.metainfo.proofs.find_integer.Reads as find-integer-reads
 use Rattle.metainfo.proofs.no_keys.Reads as no-keys-reads
 use Rattle.metainfo.proofs.right_keys.Reads as right-keys-reads
 
--- src/lib.rt:100:31
 slice-aggregate-find-integer : tie.Need-slice-aggregate-find-integer
 slice-aggregate-find-integer c = search needs
 
--- src/lib.rt:100:11
 find-integer-requires : tie.Need-find-integer-requires
 find-integer-requires c κs = search needs
 
--- src/lib.rt:101:31
 enum-told : tie.Need-enum-told
 enum-told c = search needs
 
--- src/lib.rt:101:31
 no-keys-requires : tie.Need-no-keys-requires
 no-keys-requires c κs = search needs
 
--- src/lib.rt:103:20
 enum-known-below : tie.Need-enum-known-below
 enum-known-below c = search needs
 
--- src/lib.rt:106:40
 slice-aggregate-find-integer-2 : tie.Need-slice-aggregate-find-integer-2
 slice-aggregate-find-integer-2 c = search needs
 
--- src/lib.rt:106:20
 find-integer-requires-2 : tie.Need-find-integer-requires-2
 find-integer-requires-2 c κs = search needs
 
--- src/lib.rt:107:35
 enum-told-2 : tie.Need-enum-told-2
 enum-told-2 c = search needs
 
--- src/lib.rt:107:35
 no-keys-requires-2 : tie.Need-no-keys-requires-2
 no-keys-requires-2 c κs = search needs
 
--- src/lib.rt:109:17
 enum-known-minus : tie.Need-enum-known-minus
 enum-known-minus c = search needs
 
--- src/lib.rt:120:17
 right-keys-requires : tie.Need-right-keys-requires
 right-keys-requires c κs = search needs
 
--- src/lib.rt:96:1
 returns : tie.Need-returns
 returns c = c .no-keys .ensures ∙ sym (length-found _ _ _ _ _ (sym (c .before .before .before .find-integer .ensures) ∙ c .before .enum-told .given .1))
 
--- src/lib.rt:96:1
 returns-2 : tie.Need-returns-2
 returns-2 c = c .no-keys2 .ensures ∙ sym (version-found _ _ _ _ _ _ _ _ (sym (c .before .before .before .before .before .before .before .before .find-integer .ensures) ∙ c .before .before .before .before .before .before .below .given .1) (sym (c .before .before .before .find-integer2 .ensures) ∙ c .before .enum-told2 .given .1))
 
--- src/lib.rt:96:1
 returns-3 : tie.Need-returns-3
 returns-3 c = c .right-keys .ensures ∙ sym (version-found _ _ _ _ _ _ _ _ (sym (c .before .before .before .before .before .before .before .before .before .find-integer .ensures) ∙ c .before .before .before .before .before .before .before .below .given .1) (sym (c .before .before .before .before .find-integer2 .ensures) ∙ c .before .before .minus .given .1))
 

@@ -1,8 +1,4 @@
 use Rattle.metainfo.proofs.Finding.{none-found}
-use native.Mathlib.Omega.{arith}
-use Prim.Native.Nat.{ℕ, _+_, _-_, _*_, _≤_, _<_, _/_, _%_, _^_}
-use lib.ListN.{length, getD, set, take, drop}
-use mathlib.Core.Path.{_≡_, refl, ap, sym, _∙_}
 use borrow.Author.Needs.{needs}
 use Rattle.metainfo.proofs.no_keys.Statement.{statement}
 use Rattle.metainfo.proofs.no_keys.Tie as tie
@@ -10,19 +6,15 @@ use Rattle.metainfo.proofs.no_keys.Reads as reads
 use Rattle.metainfo.proofs.no_keys.Lts as lts
 use Rattle.metainfo.proofs.no_part.Reads as no-part-reads
 
--- src/lib.rt:45:15
 no-part-requires : tie.Need-no-part-requires
 no-part-requires c κs = search needs
 
--- src/lib.rt:46:15
 no-part-requires-2 : tie.Need-no-part-requires-2
 no-part-requires-2 c κs = search needs
 
--- src/lib.rt:47:17
 no-part-requires-3 : tie.Need-no-part-requires-3
 no-part-requires-3 c κs = search needs
 
--- src/lib.rt:39:1
 returns : tie.Need-returns
 returns c = none-found _ _ _ _ (c .before .before .no-part .ensures) (c .before .no-part2 .ensures) (c .no-part3 .ensures)
 

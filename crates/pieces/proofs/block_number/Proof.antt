@@ -1,5 +1,6 @@
 -- Each return is one case of the definition; a block of the file has its leaf in the tree.
-use Rattle.pieces.proofs.Ways.{usable-long, block-inside, block-cell, block-rest, block-4, block-3, block-9}
+use Rattle.pieces.proofs.Ways.{block-inside, block-cell, block-rest, block-4, block-3, block-9}
+use Rattle.store.specs.StoreLaws.{usable-long}
 use native.Mathlib.Omega.{arith}
 use Prim.Native.Nat.{_-_}
 use borrow.Author.Needs.{needs}

@@ -1,5 +1,6 @@
 -- Each return is one case of the definition; a file longer than a piece has its root above layer p.
-use Rattle.pieces.proofs.Ways.{usable-long, layer-few, layer-there, layer-rest, layer-4, layer-3, layer-9}
+use Rattle.pieces.proofs.Ways.{layer-few, layer-there, layer-rest, layer-4, layer-3, layer-9}
+use Rattle.store.specs.StoreLaws.{usable-long}
 use native.Mathlib.Omega.{arith}
 use Prim.Native.Nat.{_-_}
 use borrow.Author.Needs.{needs}

@@ -1,5 +1,6 @@
 -- Each return is one case of the definition; a piece of the file has its node in the tree.
-use Rattle.pieces.proofs.Ways.{usable-long, piece-there, piece-rest, piece-4, piece-3, piece-9}
+use Rattle.pieces.proofs.Ways.{piece-there, piece-rest, piece-4, piece-3, piece-9}
+use Rattle.store.specs.StoreLaws.{usable-long}
 use Prim.Native.Nat.{_-_}
 use borrow.Author.Needs.{needs}
 use Rattle.pieces.proofs.piece_number.Statement.{statement}

@@ -1,10 +1,10 @@
-use Rattle.running.proofs.Putting.{turn, whole}
+use Rattle.octets.proofs.Turn.{turn, whole}
 use lib.Seq.{paste, paste-zero}
 use borrow.Author.Needs.{needs}
 use native.Mathlib.Omega.{arith}
 use Prim.Native.Nat.{_-_, _≤_}
 use lib.ListN.{length}
-use mathlib.Core.Path.{_≡_}
+use mathlib.Core.Path.{_≡_, refl}
 use Rattle.running.proofs.put.Statement.{statement}
 use Rattle.running.proofs.put.Tie as tie
 
@@ -36,7 +36,7 @@ loop-again : tie.Need-loop-again Inv-loop μ-loop
 loop-again c = (omega arith, turn _ _ _ _ _ (c .before .before .loop .inv .1) (omega arith) (omega arith))
 
 returns : tie.Need-returns Inv-loop μ-loop
-returns c = whole _ _ _ _ _ (c .before .loop .inv .1) (omega arith) (c .before .loop .inv .0)
+returns c = whole _ _ _ _ (c .before .loop .i) (length (c .before .before .args .s .now)) (c .before .loop .inv .1) refl (omega (arith, c .before .loop .inv .0))
 
 pub put-spec : {M : Type 1} → statement M
 put-spec =

@@ -1,37 +1,65 @@
-use Rattle.writing.specs.StepsLaws.{tree-right, roots-right, rest-room, info-room, whole-bytes}
+use Rattle.writing.specs.StepsLaws.{info-room, rest-room, whole-bytes}
 use native.Mathlib.Omega.{arith}
-use mathlib.Core.Path.{_∙_}
+use Prim.Native.Nat.{_-_}
+use borrow.Author.Needs.{needs}
 use Rattle.writing.proofs.put_torrent.Statement.{statement}
 use Rattle.writing.proofs.put_torrent.Tie as tie
 
-put-rest-requires : tie.Need-put-rest-requires
-put-rest-requires c κs = (roots-right (c .before .before .before .before .before .before .before .before .args .list .now) (c .before .before .before .before .before .before .before .before .args .text .now) (c .before .before .before .before .before .before .before .before .pre .0 .form) _ (c .before .before .before .before .before .before .before .before .pre .1) .placed, let r = rest-room (c .before .before .before .before .before .before .before .before .args .list .now) (c .before .before .before .before .before .before .before .before .args .text .now) (c .before .before .before .before .before .before .before .before .pre .0 .form) (c .before .before .before .before .before .before .before .before .args .plen) (c .before .before .before .before .before .before .before .before .args .name .now) _ _ _ (c .before .before .before .before .before .before .before .before .pre .1) (c .before .before .before .before .before .before .before .before .pre .3) (c .before .before .before .before .before .before .before .before .pre .4) in omega arith)
-
-order-by-path-requires : tie.Need-order-by-path-requires
-order-by-path-requires c κs = c .before .before .before .before .before .before .before .before .before .before .before .before .before .pre .0
-
 put-info-requires : tie.Need-put-info-requires
-put-info-requires c κs = (tree-right (c .before .before .before .before .before .before .before .before .before .before .before .before .before .before .before .before .before .before .before .before .args .list .now) (c .before .before .before .before .before .before .before .before .before .before .before .before .before .before .before .before .before .before .before .before .args .text .now) (c .before .before .before .before .before .before .before .before .before .before .before .before .before .before .before .before .before .before .before .before .pre .0 .form) _ (c .before .before .before .before .before .before .order-by-path .ensures), let r = info-room (c .before .before .before .before .before .before .before .before .before .before .before .before .before .before .before .before .before .before .before .before .args .list .now) (c .before .before .before .before .before .before .before .before .before .before .before .before .before .before .before .before .before .before .before .before .args .text .now) (c .before .before .before .before .before .before .before .before .before .before .before .before .before .before .before .before .before .before .before .before .pre .0 .form) (c .before .before .before .before .before .before .before .before .before .before .before .before .before .before .before .before .before .before .before .before .args .plen) (c .before .before .before .before .before .before .before .before .before .before .before .before .before .before .before .before .before .before .before .before .args .name .now) _ _ (c .before .before .before .before .before .before .order-by-path .ensures) (c .before .before .before .before .before .before .before .before .before .before .before .before .before .before .before .before .before .before .before .before .pre .4) in omega arith)
+put-info-requires c κs = (
+  c .before .before .before .before .before .before .before .before .pre .1 .placed,
+  let r = info-room
+      (c .before .before .before .before .before .before .before .before .args .list .now)
+      (c .before .before .before .before .before .before .before .before .args .text .now)
+      (c .before .before .before .before .before .before .before .before .pre .0 .form)
+      (c .before .before .before .before .before .before .before .before .args .plen)
+      (c .before .before .before .before .before .before .before .before .args .name .now) _ _
+      (c .before .before .before .before .before .before .before .before .pre .1)
+      (c .before .before .before .before .before .before .before .before .pre .3) in omega arith,
+)
+
+order-for-rest-requires : tie.Need-order-for-rest-requires
+order-for-rest-requires c κs = search needs
+
+put-rest-requires : tie.Need-put-rest-requires
+put-rest-requires c κs =
+    let ten = c .before .before .before .before .before .before .before .before .before .before in
+    let twenty = ten .before .before .before .before .before .before .before .before .before .before in (
+      c .before .before .before .before .before .before .order-for-rest .ensures .placed,
+      let r = rest-room (twenty .args .list .now)
+          (twenty .args .text .now) (twenty .pre .0 .form) (twenty .args .plen) (twenty .args .name .now) _ _ (twenty .pre .1)
+          (c .before .before .before .before .before .before .order-for-rest .ensures) (twenty .pre .2) _ _
+          (ten .before .put-info .ensures .behind) (twenty .pre .3) in omega arith,
+    )
 
 same-length : tie.Need-same-length
-same-length c = c .before .before .before .before .before .before .before .before .before .order-by-path .kept .1 .1 .0
+same-length c = search needs
 
 same-length-2 : tie.Need-same-length-2
-same-length-2 c = c .before .before .before .before .before .before .before .before .before .order-by-path .kept .1 .1 .1 .0
+same-length-2 c = search needs
 
 same-length-3 : tie.Need-same-length-3
-same-length-3 c = c .before .before .put-info .kept .0 ∙ c .before .before .before .before .before .before .before .before .before .before .before .before .before .before .put-rest .kept .0
+same-length-3 c = search needs
 
 returns : tie.Need-returns
-returns c = whole-bytes (c .before .before .before .before .before .before .before .before .before .before .before .before .before .before .before .before .before .before .before .before .before .before .before .args .list .now) (c .before .before .before .before .before .before .before .before .before .before .before .before .before .before .before .before .before .before .before .before .before .before .before .args .text .now) (c .before .before .before .before .before .before .before .before .before .before .before .before .before .before .before .before .before .before .before .before .before .before .before .pre .0 .form) (c .before .before .before .before .before .before .before .before .before .before .before .before .before .before .before .before .before .before .before .before .before .before .before .args .plen) (c .before .before .before .before .before .before .before .before .before .before .before .before .before .before .before .before .before .before .before .before .before .before .before .args .name .now) _ _ (c .before .before .before .before .before .before .before .before .before .before .before .before .before .before .before .before .before .before .before .before .before .before .before .pre .2) (c .before .before .before .before .before .before .before .before .before .order-by-path .ensures) (c .before .before .before .before .before .before .before .before .before .before .before .before .before .before .before .before .before .before .before .before .before .before .before .pre .1) _ _ _ _ _ _ (c .before .before .before .before .before .before .before .before .before .before .before .before .before .before .before .before .before .before .before .before .before .before .before .pre .3) (c .before .before .before .before .before .before .before .before .before .before .before .before .before .before .put-rest .ensures) (c .before .before .put-info .ensures) (c .before .before .before .before .before .before .before .before .before .before .before .before .before .before .put-rest .kept .0) (c .before .before .before .before .before .before .before .before .before .before .before .before .before .before .before .before .before .before .before .before .before .before .before .pre .4)
+returns c =
+    let ten = c .before .before .before .before .before .before .before .before .before .before in
+    let twenty = ten .before .before .before .before .before .before .before .before .before .before in
+    whole-bytes (twenty .before .before .before .args .list .now) (twenty .before .before .before .args .text .now)
+    (twenty .before .before .before .pre .0 .form) (twenty .before .before .before .args .plen)
+    (twenty .before .before .before .args .name .now) _ _ (twenty .before .before .before .pre .1)
+    (c .before .before .before .before .before .before .before .before .before .order-for-rest .ensures)
+    (twenty .before .before .before .pre .2) _ _ _ _ _ (ten .before .before .before .before .put-info .ensures)
+    (c .before .before .put-rest .ensures) (ten .before .before .before .before .put-info .kept .0)
+    (twenty .before .before .before .pre .3)
 
 pub put-torrent-spec : {M : Type 1} → statement M
 put-torrent-spec =
     tie.close
     (tie.spec
-    put-rest-requires
-    order-by-path-requires
     put-info-requires
+    order-for-rest-requires
+    put-rest-requires
     same-length
     same-length-2
     same-length-3

@@ -1,17 +1,18 @@
 use lib.ListN.{length-replicate}
 use Prim.Native.Nat.{ℕ}
 use mathlib.Core.Path.{sym}
+use Rattle.ordered.specs.Order.{mostFiles}
 use Rattle.writing.proofs.write.Statement.{statement}
 use Rattle.writing.proofs.write.Tie as tie
 
 slice-aggregate-write-with : tie.Need-slice-aggregate-write-with
-slice-aggregate-write-with c = sym (length-replicate {A = ℕ} 69905 0)
+slice-aggregate-write-with c = sym (length-replicate {A = ℕ} mostFiles 0)
 
 slice-aggregate-write-with-2 : tie.Need-slice-aggregate-write-with-2
-slice-aggregate-write-with-2 c = sym (length-replicate {A = ℕ} 69905 0)
+slice-aggregate-write-with-2 c = sym (length-replicate {A = ℕ} mostFiles 0)
 
 write-with-requires : tie.Need-write-with-requires
-write-with-requires c κs = (length-replicate {A = ℕ} 69905 0, length-replicate {A = ℕ} 69905 0)
+write-with-requires c κs = (length-replicate {A = ℕ} mostFiles 0, length-replicate {A = ℕ} mostFiles 0)
 
 same-length : tie.Need-same-length
 same-length c = c .before .before .before .before .write-with .kept .1 .1 .1 .1 .1 .1 .0

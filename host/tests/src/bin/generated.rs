@@ -33,13 +33,14 @@ struct Part {
 /// A torrent of libtorrent's, with a layer.
 const SINGLE: &[u8] = include_bytes!("../../real/single.torrent");
 
-const PARTS: [Part; 14] = [
+const PARTS: [Part; 15] = [
     Part { name: "strings", cases: |random, compared, _| fillings::run(random, compared) },
     Part { name: "bursts", cases: |random, compared, go_on| bursts::run(random, compared, go_on) },
     Part { name: "every-cut-of-strings", cases: |random, compared, _| bursts::run_through_every_cut(random, compared) },
     Part { name: "logged-files", cases: |random, compared, _| bursts::run_on_files(random, compared) },
     Part { name: "sessions", cases: |random, compared, go_on| sessions::run(random, compared, go_on) },
-    Part { name: "every-header", cases: |random, compared, _| headers::run(random, compared) },
+    Part { name: "every-header-odd", cases: |random, compared, _| headers::run(1, random, compared) },
+    Part { name: "every-header-even", cases: |random, compared, _| headers::run(2, random, compared) },
     Part { name: "large-file", cases: |random, compared, _| sessions::run_on_a_large_file(random, compared, 40) },
     Part { name: "torrents", cases: |random, compared, go_on| torrents::run(random, compared, go_on) },
     Part { name: "each-byte-of-single", cases: |_, compared, _| torrents::run_through_every_byte(SINGLE, compared) },

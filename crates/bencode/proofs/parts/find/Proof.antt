@@ -1,7 +1,7 @@
 -- The entries passed have other keys: the search from i on finds what the search of the whole finds, `FindAt`.
 use borrow.Author.Tests.{not-true, not-false}
-use Rattle.bencode.specs.PartsLaws.{entry-ends}
-use Rattle.bencode.proofs.Finding.{FindAt, find-no-dictionary, find-start, find-stop, find-end, find-here, find-on, dictionary-within}
+use Rattle.bencode.specs.PartsLaws.{entry-ends, find-no-dictionary}
+use Rattle.bencode.proofs.Finding.{FindAt, find-start, find-stop, find-end, find-here, find-on, dictionary-within}
 use borrow.Author.Needs.{needs}
 use native.Mathlib.Omega.{arith}
 use Prim.Native.Nat.{_-_, _<_}

@@ -1,8 +1,6 @@
 use Rattle.catalogue.proofs.Writing.{head-written}
-use native.Mathlib.Omega.{arith}
-use Prim.Native.Nat.{ℕ, _+_, _-_, _*_, _≤_, _<_, _/_, _%_, _^_}
-use lib.ListN.{length, getD, set, take, drop}
-use mathlib.Core.Path.{_≡_, refl, ap, sym, _∙_}
+use lib.ListN.{length}
+use mathlib.Core.Path.{_≡_}
 use borrow.Author.Needs.{needs}
 use Rattle.catalogue.proofs.record.put_head.Statement.{statement}
 use Rattle.catalogue.proofs.record.put_head.Tie as tie
@@ -12,47 +10,36 @@ use Rattle.catalogue.proofs.record.put_layer.Reads as put-layer-reads
 use Rattle.octets.proofs.put_hash.Reads as put-hash-reads
 use Rattle.octets.proofs.put_number.Reads as put-number-reads
 
--- src/record.rt:94:5
 put-number-requires : tie.Need-put-number-requires
 put-number-requires c κs = search needs
 
--- src/record.rt:95:19
 add-put-hash : tie.Need-add-put-hash
 add-put-hash c = search needs
 
--- src/record.rt:95:5
 put-hash-requires : tie.Need-put-hash-requires
 put-hash-requires c κs = search needs
 
--- src/record.rt:96:20
 add-put-layer : tie.Need-add-put-layer
 add-put-layer c = search needs
 
--- src/record.rt:96:5
 put-layer-requires : tie.Need-put-layer-requires
 put-layer-requires c κs = search needs
 
--- src/record.rt:97:21
 add-put-number : tie.Need-add-put-number
 add-put-number c = search needs
 
--- src/record.rt:97:5
 put-number-requires-2 : tie.Need-put-number-requires-2
 put-number-requires-2 c κs = search needs
 
--- src/record.rt:98:21
 add-put-number-2 : tie.Need-add-put-number-2
 add-put-number-2 c = search needs
 
--- src/record.rt:98:5
 put-number-requires-3 : tie.Need-put-number-requires-3
 put-number-requires-3 c κs = search needs
 
--- src/record.rt:86:1
 same-length : tie.Need-same-length
 same-length c = search needs
 
--- src/record.rt:86:1
 returns : tie.Need-returns
 returns c = let r : length (c .before .before .before .before .before .before .before .before .before .before .before .before .before .before .before .before .before .before .before .before .before .args .root) ≡ 32 = search needs in head-written _ _ _ _ _ _ _ r (c .before .before .before .before .before .before .before .before .before .before .before .before .before .before .before .before .before .before .before .before .before .pre .0) _ (c .before .before .before .before .before .before .before .before .before .before .before .before .before .before .before .before .before .before .put-number .ensures) _ (c .before .before .before .before .before .before .before .before .before .before .before .before .before .before .put-hash .ensures) _ (c .before .before .before .before .before .before .before .before .before .before .put-layer .ensures) _ (c .before .before .before .before .before .before .put-number2 .ensures) _ (c .before .before .put-number3 .ensures)
 

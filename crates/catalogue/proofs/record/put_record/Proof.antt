@@ -1,8 +1,4 @@
-use Rattle.catalogue.proofs.Writing.{head-room, record-written}
-use native.Mathlib.Omega.{arith}
-use Prim.Native.Nat.{ℕ, _+_, _-_, _*_, _≤_, _<_, _/_, _%_, _^_}
-use lib.ListN.{length, getD, set, take, drop}
-use mathlib.Core.Path.{_≡_, refl, ap, sym, _∙_}
+use Rattle.catalogue.proofs.Writing.{record-written}
 use borrow.Author.Needs.{needs}
 use Rattle.catalogue.proofs.record.put_record.Statement.{statement}
 use Rattle.catalogue.proofs.record.put_record.Tie as tie
@@ -13,31 +9,24 @@ use Rattle.catalogue.proofs.record.put_elements.Reads as put-elements-r
 use Rattle.catalogue.proofs.record.put_head.Reads as put-head-reads
 use Rattle.torrent.proofs.one.root_of.Reads as root-of-reads
 
--- src/record.rt:130:9
 root-of-requires : tie.Need-root-of-requires
 root-of-requires c κs = search needs
 
--- src/record.rt:131:9
 layer-of-requires : tie.Need-layer-of-requires
 layer-of-requires c κs = search needs
 
--- src/record.rt:132:5
 put-head-requires : tie.Need-put-head-requires
 put-head-requires c κs = search needs
 
--- src/record.rt:133:23
 add-put-elements : tie.Need-add-put-elements
 add-put-elements c = search needs
 
--- src/record.rt:133:5
 put-elements-requires : tie.Need-put-elements-requires
 put-elements-requires c κs = search needs
 
--- src/record.rt:113:1
 same-length : tie.Need-same-length
 same-length c = search needs
 
--- src/record.rt:113:1
 returns : tie.Need-returns
 returns c = record-written _ _ _ _ _ (c .before .before .before .before .before .before .before .before .before .before .before .before .before .before .before .before .pre .1) _ _ _ (c .before .before .before .before .before .before .before .before .before .root-of .ensures) (c .before .before .before .before .before .before .before .before .layer-of .ensures .0) (c .before .before .before .before .before .before .put-head .ensures) _ (c .before .before .put-elements .ensures)
 

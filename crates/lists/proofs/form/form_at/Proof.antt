@@ -10,7 +10,9 @@ number-at-requires : tie.Need-number-at-requires
 number-at-requires c κs = search needs
 
 returns : tie.Need-returns
-returns c = sym (form-long (c .before .before .before .before .args .list .now) (c .before .before .before .before .args .text .now) (c .before .before .before .before .args .at) (rw (c .before .number-at .ensures .0) at (c .if1 .taken)))
+returns c =
+    sym (form-long (c .before .before .before .before .args .list .now) (c .before .before .before .before .args .text .now)
+    (c .before .before .before .before .args .at) (rw (c .before .number-at .ensures .0) at (c .if1 .taken)))
 
 add-part-fits : tie.Need-add-part-fits
 add-part-fits c = search needs
@@ -19,7 +21,11 @@ part-fits-requires : tie.Need-part-fits-requires
 part-fits-requires c κs = search needs
 
 returns-2 : tie.Need-returns-2
-returns-2 c = sym (form-layer (c .before .before .before .before .before .before .args .list .now) (c .before .before .before .before .before .before .args .text .now) (c .before .before .before .before .before .before .args .at) (rw (c .before .before .before .number-at .ensures .0) at (c .before .before .if1 .left)) (sym (c .before .part-fits .ensures) ∙ not-true _ (c .if2 .taken)))
+returns-2 c =
+    sym (form-layer (c .before .before .before .before .before .before .args .list .now)
+    (c .before .before .before .before .before .before .args .text .now) (c .before .before .before .before .before .before .args .at)
+    (rw (c .before .before .before .number-at .ensures .0) at (c .before .before .if1 .left))
+    (sym (c .before .part-fits .ensures) ∙ not-true _ (c .if2 .taken)))
 
 add-part-fits-2 : tie.Need-add-part-fits-2
 add-part-fits-2 c = search needs
@@ -28,7 +34,13 @@ part-fits-requires-2 : tie.Need-part-fits-requires-2
 part-fits-requires-2 c κs = search needs
 
 returns-3 : tie.Need-returns-3
-returns-3 c = sym (form-path (c .before .before .before .before .before .before .before .before .args .list .now) (c .before .before .before .before .before .before .before .before .args .text .now) (c .before .before .before .before .before .before .before .before .args .at) (rw (c .before .before .before .before .before .number-at .ensures .0) at (c .before .before .before .before .if1 .left)) (sym (c .before .before .before .part-fits .ensures) ∙ not-false _ (c .before .before .if2 .left)) (sym (c .before .part-fits2 .ensures) ∙ not-true _ (c .if3 .taken)))
+returns-3 c =
+    sym (form-path (c .before .before .before .before .before .before .before .before .args .list .now)
+    (c .before .before .before .before .before .before .before .before .args .text .now)
+    (c .before .before .before .before .before .before .before .before .args .at)
+    (rw (c .before .before .before .before .before .number-at .ensures .0) at (c .before .before .before .before .if1 .left))
+    (sym (c .before .before .before .part-fits .ensures) ∙ not-false _ (c .before .before .if2 .left))
+    (sym (c .before .part-fits2 .ensures) ∙ not-true _ (c .if3 .taken)))
 
 add-number-at : tie.Need-add-number-at
 add-number-at c = search needs
@@ -55,13 +67,27 @@ part-elements-fit-start : tie.Need-part-elements-fit-start
 part-elements-fit-start c = search needs
 
 part-elements-fit-end : tie.Need-part-elements-fit-end
-part-elements-fit-end c = slice-end (c .before .before .before .before .before .before .before .before .before .before .args .list .now) (c .before .before .before .before .before .before .before .before .before .before .args .text .now) (c .before .before .before .before .before .before .before .before .before .before .args .at + 48) _ _ (sym (c .before .before .before .part-fits2 .ensures) ∙ not-false _ (c .before .before .if3 .left)) (c .before .number-at2 .ensures .0) (c .number-at3 .ensures .0)
+part-elements-fit-end c =
+    slice-end (c .before .before .before .before .before .before .before .before .before .before .args .list .now)
+    (c .before .before .before .before .before .before .before .before .before .before .args .text .now)
+    (c .before .before .before .before .before .before .before .before .before .before .args .at + 48) _ _
+    (sym (c .before .before .before .part-fits2 .ensures) ∙ not-false _ (c .before .before .if3 .left))
+    (c .before .number-at2 .ensures .0) (c .number-at3 .ensures .0)
 
 elements-fit-requires : tie.Need-elements-fit-requires
 elements-fit-requires c κs = search needs
 
 returns-4 : tie.Need-returns-4
-returns-4 c = form-slice (c .before .before .before .before .before .before .before .before .before .before .before .before .args .list .now) (c .before .before .before .before .before .before .before .before .before .before .before .before .args .text .now) (c .before .before .before .before .before .before .before .before .before .before .before .before .args .at) _ _ _ (rw (c .before .before .before .before .before .before .before .before .before .number-at .ensures .0) at (c .before .before .before .before .before .before .before .before .if1 .left)) (sym (c .before .before .before .before .before .before .before .part-fits .ensures) ∙ not-false _ (c .before .before .before .before .before .before .if2 .left)) (sym (c .before .before .before .before .before .part-fits2 .ensures) ∙ not-false _ (c .before .before .before .before .if3 .left)) (c .before .before .before .number-at2 .ensures .0) (c .before .before .number-at3 .ensures .0) (c .elements-fit .ensures)
+returns-4 c =
+    form-slice (c .before .before .before .before .before .before .before .before .before .before .before .before .args .list .now)
+    (c .before .before .before .before .before .before .before .before .before .before .before .before .args .text .now)
+    (c .before .before .before .before .before .before .before .before .before .before .before .before .args .at) _ _ _
+    (rw (c .before .before .before .before .before .before .before .before .before .number-at .ensures .0) at
+    (c .before .before .before .before .before .before .before .before .if1 .left))
+    (sym (c .before .before .before .before .before .before .before .part-fits .ensures) ∙ not-false _
+    (c .before .before .before .before .before .before .if2 .left))
+    (sym (c .before .before .before .before .before .part-fits2 .ensures) ∙ not-false _ (c .before .before .before .before .if3 .left))
+    (c .before .before .before .number-at2 .ensures .0) (c .before .before .number-at3 .ensures .0) (c .elements-fit .ensures)
 
 pub form-at-spec : {M : Type 1} → statement M
 form-at-spec =

@@ -29,7 +29,12 @@ form-at-requires : tie.Need-form-at-requires Inv-loop μ-loop
 form-at-requires c κs = search needs
 
 returns-2 : tie.Need-returns-2 Inv-loop μ-loop
-returns-2 c = sym (form-all (c .before .before .before .before .before .before .before .args .list .now) (c .before .before .before .before .before .before .before .args .text .now) (c .before .before .before .before .if1 .left) ∙ form-wrong (c .before .before .before .before .before .before .before .args .list .now) (c .before .before .before .before .before .before .before .args .text .now) (c .before .before .before .loop .i) _ (c .before .before .loop-test .taken) (sym (c .before .form-at .ensures) ∙ not-true _ (c .if2 .taken)))
+returns-2 c =
+    sym (form-all (c .before .before .before .before .before .before .before .args .list .now)
+    (c .before .before .before .before .before .before .before .args .text .now) (c .before .before .before .before .if1 .left) ∙
+    form-wrong (c .before .before .before .before .before .before .before .args .list .now)
+    (c .before .before .before .before .before .before .before .args .text .now) (c .before .before .before .loop .i) _
+    (c .before .before .loop-test .taken) (sym (c .before .form-at .ensures) ∙ not-true _ (c .if2 .taken)))
 
 add-i : tie.Need-add-i Inv-loop μ-loop
 add-i c = search needs
@@ -38,10 +43,19 @@ loop-less : tie.Need-loop-less Inv-loop μ-loop
 loop-less c = search needs
 
 loop-again : tie.Need-loop-again Inv-loop μ-loop
-loop-again c = (omega arith, form-next (c .before .before .before .before .before .before .before .args .list .now) (c .before .before .before .before .before .before .before .args .text .now) (c .before .before .before .loop .i) (c .before .before .before .loop .inv .1) (sym (c .before .form-at .ensures) ∙ not-false _ (c .if2 .left)))
+loop-again c = (
+  omega arith,
+  form-next (c .before .before .before .before .before .before .before .args .list .now)
+      (c .before .before .before .before .before .before .before .args .text .now) (c .before .before .before .loop .i)
+      (c .before .before .before .loop .inv .1) (sym (c .before .form-at .ensures) ∙ not-false _ (c .if2 .left)),
+)
 
 returns-3 : tie.Need-returns-3 Inv-loop μ-loop
-returns-3 c = let o : c .before .loop .i ≡ recordCount (c .before .before .before .before .before .args .list .now) = omega arith in sym (form-all (c .before .before .before .before .before .args .list .now) (c .before .before .before .before .before .args .text .now) (c .before .before .if1 .left) ∙ ap (formUpTo (c .before .before .before .before .before .args .list .now) (c .before .before .before .before .before .args .text .now)) (sym o) ∙ c .before .loop .inv .1)
+returns-3 c =
+    let o : c .before .loop .i ≡ recordCount (c .before .before .before .before .before .args .list .now) = omega arith in sym
+    (form-all (c .before .before .before .before .before .args .list .now) (c .before .before .before .before .before .args .text .now)
+    (c .before .before .if1 .left) ∙ ap (formUpTo (c .before .before .before .before .before .args .list .now)
+    (c .before .before .before .before .before .args .text .now)) (sym o) ∙ c .before .loop .inv .1)
 
 pub list-form-spec : {M : Type 1} → statement M
 list-form-spec =

@@ -46,7 +46,14 @@ part-path-begins-start : tie.Need-part-path-begins-start
 part-path-begins-start c = search needs
 
 part-path-begins-end : tie.Need-part-path-begins-end
-part-path-begins-end c = slice-end (c .before .before .before .before .before .before .args .list .now) (c .before .before .before .before .before .before .args .text .now) (c .before .before .before .before .before .before .args .a + 48) _ _ (path-right (c .before .before .before .before .before .before .args .list .now) (c .before .before .before .before .before .before .args .text .now) (c .before .before .before .before .before .before .args .a) (c .before .before .before .before .before .before .pre .2) .0) (c .before .before .before .word-at .ensures .0) (c .before .before .word-at2 .ensures .0)
+part-path-begins-end c =
+    slice-end (c .before .before .before .before .before .before .args .list .now)
+    (c .before .before .before .before .before .before .args .text .now)
+    (c .before .before .before .before .before .before .args .a + 48) _ _
+    (path-right (c .before .before .before .before .before .before .args .list .now)
+    (c .before .before .before .before .before .before .args .text .now) (c .before .before .before .before .before .before .args .a)
+    (c .before .before .before .before .before .before .pre .2) .0) (c .before .before .before .word-at .ensures .0)
+    (c .before .before .word-at2 .ensures .0)
 
 add-path-begins-2 : tie.Need-add-path-begins-2
 add-path-begins-2 c = search needs
@@ -58,13 +65,42 @@ part-path-begins-start-2 : tie.Need-part-path-begins-start-2
 part-path-begins-start-2 c = search needs
 
 part-path-begins-end-2 : tie.Need-part-path-begins-end-2
-part-path-begins-end-2 c = slice-end (c .before .before .before .before .before .before .before .args .list .now) (c .before .before .before .before .before .before .before .args .text .now) (c .before .before .before .before .before .before .before .args .b + 48) _ _ (path-right (c .before .before .before .before .before .before .before .args .list .now) (c .before .before .before .before .before .before .before .args .text .now) (c .before .before .before .before .before .before .before .args .b) (c .before .before .before .before .before .before .before .pre .3) .0) (c .before .before .word-at3 .ensures .0) (c .before .word-at4 .ensures .0)
+part-path-begins-end-2 c =
+    slice-end (c .before .before .before .before .before .before .before .args .list .now)
+    (c .before .before .before .before .before .before .before .args .text .now)
+    (c .before .before .before .before .before .before .before .args .b + 48) _ _
+    (path-right (c .before .before .before .before .before .before .before .args .list .now)
+    (c .before .before .before .before .before .before .before .args .text .now)
+    (c .before .before .before .before .before .before .before .args .b)
+    (c .before .before .before .before .before .before .before .pre .3) .0) (c .before .before .word-at3 .ensures .0)
+    (c .before .word-at4 .ensures .0)
 
 path-begins-requires : tie.Need-path-begins-requires
-path-begins-requires c κs = (slice-fits (c .before .before .before .before .before .before .before .before .args .list .now) (c .before .before .before .before .before .before .before .before .args .text .now) (c .before .before .before .before .before .before .before .before .args .a) _ _ (c .before .before .before .before .before .before .before .before .pre .2) (c .before .before .before .before .before .word-at .ensures .0) (c .before .before .before .before .word-at2 .ensures .0), slice-fits (c .before .before .before .before .before .before .before .before .args .list .now) (c .before .before .before .before .before .before .before .before .args .text .now) (c .before .before .before .before .before .before .before .before .args .b) _ _ (c .before .before .before .before .before .before .before .before .pre .3) (c .before .before .before .word-at3 .ensures .0) (c .before .before .word-at4 .ensures .0))
+path-begins-requires c κs = (
+  slice-fits (c .before .before .before .before .before .before .before .before .args .list .now)
+      (c .before .before .before .before .before .before .before .before .args .text .now)
+      (c .before .before .before .before .before .before .before .before .args .a) _ _
+      (c .before .before .before .before .before .before .before .before .pre .2)
+      (c .before .before .before .before .before .word-at .ensures .0) (c .before .before .before .before .word-at2 .ensures .0),
+  slice-fits (c .before .before .before .before .before .before .before .before .args .list .now)
+      (c .before .before .before .before .before .before .before .before .args .text .now)
+      (c .before .before .before .before .before .before .before .before .args .b) _ _
+      (c .before .before .before .before .before .before .before .before .pre .3) (c .before .before .before .word-at3 .ensures .0)
+      (c .before .before .word-at4 .ensures .0),
+)
 
 returns : tie.Need-returns
-returns c = c .path-begins .ensures ∙ ap₂ begins (slice-path (c .before .before .before .before .before .before .before .before .before .args .list .now) (c .before .before .before .before .before .before .before .before .before .args .text .now) (c .before .before .before .before .before .before .before .before .before .args .a) _ _ (c .before .before .before .before .before .before .word-at .ensures .0) (c .before .before .before .before .before .word-at2 .ensures .0)) (slice-path (c .before .before .before .before .before .before .before .before .before .args .list .now) (c .before .before .before .before .before .before .before .before .before .args .text .now) (c .before .before .before .before .before .before .before .before .before .args .b) _ _ (c .before .before .before .before .word-at3 .ensures .0) (c .before .before .before .word-at4 .ensures .0))
+returns c =
+    c .path-begins .ensures ∙ ap₂ begins (slice-path
+    (c .before .before .before .before .before .before .before .before .before .args .list .now)
+    (c .before .before .before .before .before .before .before .before .before .args .text .now)
+    (c .before .before .before .before .before .before .before .before .before .args .a) _ _
+    (c .before .before .before .before .before .before .word-at .ensures .0)
+    (c .before .before .before .before .before .word-at2 .ensures .0))
+    (slice-path (c .before .before .before .before .before .before .before .before .before .args .list .now)
+    (c .before .before .before .before .before .before .before .before .before .args .text .now)
+    (c .before .before .before .before .before .before .before .before .before .args .b) _ _
+    (c .before .before .before .before .word-at3 .ensures .0) (c .before .before .before .word-at4 .ensures .0))
 
 pub leads-spec : {M : Type 1} → statement M
 leads-spec =

@@ -24,13 +24,20 @@ loop-holds : tie.Need-loop-holds Inv-loop μ-loop
 loop-holds c = let k = c .before .before in walk-start begins (k .args .p .now) (k .args .q .now) (k .pre .0) (k .pre .1)
 
 returns : tie.Need-returns Inv-loop μ-loop
-returns c = let k = c .before .before .before .before .before .args in sym (walk-second-end begins begins-none (k .p .now) (k .q .now) (c .before .before .loop .at) (c .before .before .loop .inv) (c .before .loop-test .taken) (c .if1 .taken))
+returns c =
+    let k = c .before .before .before .before .before .args in sym
+    (walk-second-end begins begins-none (k .p .now) (k .q .now) (c .before .before .loop .at) (c .before .before .loop .inv)
+    (c .before .loop-test .taken) (c .if1 .taken))
 
 word-at-requires : tie.Need-word-at-requires Inv-loop μ-loop
-word-at-requires c κs = element-size (c .before .before .before .before .before .args .p .now) (c .before .before .loop .at) (c .before .before .loop .inv .left) (c .before .loop-test .taken)
+word-at-requires c κs =
+    element-size (c .before .before .before .before .before .args .p .now) (c .before .before .loop .at)
+    (c .before .before .loop .inv .left) (c .before .loop-test .taken)
 
 word-at-requires-2 : tie.Need-word-at-requires-2 Inv-loop μ-loop
-word-at-requires-2 c κs = element-size (c .before .before .before .before .before .before .args .q .now) (c .before .before .before .loop .at) (c .before .before .before .loop .inv .right) (c .before .if1 .left)
+word-at-requires-2 c κs =
+    element-size (c .before .before .before .before .before .before .args .q .now) (c .before .before .before .loop .at)
+    (c .before .before .before .loop .inv .right) (c .before .if1 .left)
 
 add-start : tie.Need-add-start Inv-loop μ-loop
 add-start c = search needs
@@ -45,7 +52,9 @@ part-same-start : tie.Need-part-same-start Inv-loop μ-loop
 part-same-start c = search needs
 
 part-same-end : tie.Need-part-same-end Inv-loop μ-loop
-part-same-end c = element-end (c .before .before .before .before .before .before .before .args .p .now) (c .before .before .before .before .loop .at) _ (c .before .before .before .before .loop .inv .left) (c .before .before .before .loop-test .taken) (c .before .word-at .ensures .0)
+part-same-end c =
+    element-end (c .before .before .before .before .before .before .before .args .p .now) (c .before .before .before .before .loop .at) _
+    (c .before .before .before .before .loop .inv .left) (c .before .before .before .loop-test .taken) (c .before .word-at .ensures .0)
 
 add-same-2 : tie.Need-add-same-2 Inv-loop μ-loop
 add-same-2 c = search needs
@@ -57,13 +66,22 @@ part-same-start-2 : tie.Need-part-same-start-2 Inv-loop μ-loop
 part-same-start-2 c = search needs
 
 part-same-end-2 : tie.Need-part-same-end-2 Inv-loop μ-loop
-part-same-end-2 c = element-end (c .before .before .before .before .before .before .before .before .args .q .now) (c .before .before .before .before .before .loop .at) _ (c .before .before .before .before .before .loop .inv .right) (c .before .before .before .if1 .left) (c .before .word-at2 .ensures .0)
+part-same-end-2 c =
+    element-end (c .before .before .before .before .before .before .before .before .args .q .now)
+    (c .before .before .before .before .before .loop .at) _ (c .before .before .before .before .before .loop .inv .right)
+    (c .before .before .before .if1 .left) (c .before .word-at2 .ensures .0)
 
 same-requires : tie.Need-same-requires Inv-loop μ-loop
 same-requires c κs = search needs
 
 returns-2 : tie.Need-returns-2 Inv-loop μ-loop
-returns-2 c = let k = c .before .before .before .before .before .before .before .before .before .before .before .args in slices-differ begins no begins-step (k .p .now) (k .q .now) (c .before .before .before .before .before .before .before .before .loop .at) (c .before .before .before .before .before .before .before .before .loop .inv) (c .before .before .before .before .before .before .before .loop-test .taken) (c .before .before .before .before .before .before .if1 .left) _ _ (c .before .before .before .before .before .word-at .ensures .0) (c .before .before .before .before .word-at2 .ensures .0) _ false (c .before .same .ensures) (not-true _ (c .if2 .taken)) refl
+returns-2 c =
+    let k = c .before .before .before .before .before .before .before .before .before .before .before .args in slices-differ begins no
+    begins-step (k .p .now) (k .q .now) (c .before .before .before .before .before .before .before .before .loop .at)
+    (c .before .before .before .before .before .before .before .before .loop .inv)
+    (c .before .before .before .before .before .before .before .loop-test .taken)
+    (c .before .before .before .before .before .before .if1 .left) _ _ (c .before .before .before .before .before .word-at .ensures .0)
+    (c .before .before .before .before .word-at2 .ensures .0) _ false (c .before .same .ensures) (not-true _ (c .if2 .taken)) refl
 
 add-at : tie.Need-add-at Inv-loop μ-loop
 add-at c = search needs
@@ -72,10 +90,18 @@ loop-less : tie.Need-loop-less Inv-loop μ-loop
 loop-less c = search needs
 
 loop-again : tie.Need-loop-again Inv-loop μ-loop
-loop-again c = let k = c .before .before .before .before .before .before .before .before .before .before .before .args in slices-same begins no begins-step (k .p .now) (k .q .now) (c .before .before .before .before .before .before .before .before .loop .at) (c .before .before .before .before .before .before .before .before .loop .inv) (c .before .before .before .before .before .before .before .loop-test .taken) (c .before .before .before .before .before .before .if1 .left) _ _ (c .before .before .before .before .before .word-at .ensures .0) (c .before .before .before .before .word-at2 .ensures .0) _ (c .before .same .ensures) (not-false _ (c .if2 .left))
+loop-again c =
+    let k = c .before .before .before .before .before .before .before .before .before .before .before .args in slices-same begins no
+    begins-step (k .p .now) (k .q .now) (c .before .before .before .before .before .before .before .before .loop .at)
+    (c .before .before .before .before .before .before .before .before .loop .inv)
+    (c .before .before .before .before .before .before .before .loop-test .taken)
+    (c .before .before .before .before .before .before .if1 .left) _ _ (c .before .before .before .before .before .word-at .ensures .0)
+    (c .before .before .before .before .word-at2 .ensures .0) _ (c .before .same .ensures) (not-false _ (c .if2 .left))
 
 returns-3 : tie.Need-returns-3 Inv-loop μ-loop
-returns-3 c = let k = c .before .before .before .before .args in sym (begins-first-end (k .p .now) (k .q .now) (c .before .loop .at) (c .before .loop .inv) (c .loop-test .left))
+returns-3 c =
+    let k = c .before .before .before .before .args in sym
+    (begins-first-end (k .p .now) (k .q .now) (c .before .loop .at) (c .before .loop .inv) (c .loop-test .left))
 
 pub path-begins-spec : {M : Type 1} → statement M
 path-begins-spec =

@@ -57,7 +57,25 @@ add-result-3 : tie.Need-add-result-3
 add-result-3 c = search needs
 
 returns : tie.Need-returns
-returns c = let s = c .before .before .before .before .before .before .before .before .before .args .s .now in let e = four-bytes s (c .before .before .before .before .before .before .before .before .before .args .at) in (omega (arith, e, c .before .before .before .before .before .before .wide .ensures .0, c .before .before .before .before .wide2 .ensures .0, c .before .before .wide3 .ensures .0, c .wide4 .ensures .0), omega (arith, c .before .before .before .before .before .before .wide .ensures .1, c .before .before .before .before .wide2 .ensures .1, c .before .before .wide3 .ensures .1, c .wide4 .ensures .1))
+returns c =
+    let s = c .before .before .before .before .before .before .before .before .before .args .s .now in let e = four-bytes s
+    (c .before .before .before .before .before .before .before .before .before .args .at) in (
+      omega (
+        arith,
+        e,
+        c .before .before .before .before .before .before .wide .ensures .0,
+        c .before .before .before .before .wide2 .ensures .0,
+        c .before .before .wide3 .ensures .0,
+        c .wide4 .ensures .0,
+      ),
+      omega (
+        arith,
+        c .before .before .before .before .before .before .wide .ensures .1,
+        c .before .before .before .before .wide2 .ensures .1,
+        c .before .before .wide3 .ensures .1,
+        c .wide4 .ensures .1,
+      ),
+    )
 
 pub word-at-spec : {M : Type 1} → statement M
 word-at-spec =

@@ -1,4 +1,5 @@
-use Rattle.messages.proofs.Padding.{uncles-none, uncles-wrong, uncles-right, pad-up}
+use Rattle.messages.proofs.Padding.{uncles-none, uncles-wrong, uncles-right}
+use Rattle.tree.proofs.Steps.{pad-next}
 use borrow.Author.Needs.{needs}
 use native.Mathlib.Omega.{arith}
 use Prim.Native.Nat.{ℕ, _<_, _+_, _-_}
@@ -61,7 +62,7 @@ uncles-padded-uncles-padded-requires : (t : ℕ) → uncles-padded-lts.Need-uncl
 uncles-padded-uncles-padded-requires t c κs =
     let a = c .before .before .before .before .before .args in
     let q = c .before .before .before .before .before .pre .1 in
-    (omega arith, (omega arith, omega arith, omega arith, pad-up (a .v) (c .pair .result) (a .l) (q .3) (c .pair .ensures)))
+    (omega arith, (omega arith, omega arith, omega arith, pad-next (a .v) (c .pair .result) (a .l) (q .3) (c .pair .ensures)))
 
 uncles-padded-returns-2 : (t : ℕ) → uncles-padded-lts.Need-returns-2 (uncles-padded-claims t) (uncles-padded-at t) uncles-padded.Post
 uncles-padded-returns-2 t c = uncles-right (c .before .before .before .before .before .before .args .hashes .now) (c .before .before .before .before .before .before .args .b) (c .before .before .before .before .before .before .args .i) (c .before .before .before .before .before .before .args .u) (c .before .before .before .before .before .before .args .l) (c .before .before .before .before .before .before .args .x) (c .before .before .before .uncle-padded .result) (c .uncles-padded .result) (c .before .before .before .before .if1 .left) (c .before .before .before .uncle-padded .ensures) (c .before .before .if2 .taken) (c .uncles-padded .ensures)

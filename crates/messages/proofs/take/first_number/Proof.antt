@@ -1,5 +1,6 @@
 use borrow.Author.Tests.{not-true, not-false}
-use Rattle.messages.proofs.Numbers.{usable-long, first-9, first-1, first-2, first-0}
+use Rattle.messages.proofs.Numbers.{first-9, first-1, first-2, first-0}
+use Rattle.store.specs.StoreLaws.{usable-long}
 use native.Mathlib.Omega.{arith}
 use Prim.Native.Nat.{_-_}
 use borrow.Author.Needs.{needs}

@@ -29,28 +29,57 @@ add-i : tie.Need-add-i Inv-loop μ-loop
 add-i c = search needs
 
 is-full-requires : tie.Need-is-full-requires Inv-loop μ-loop
-is-full-requires c κs = placed-index _ (c .before .before .before .before .before .before .before .args .text .now) _ _ _ (c .before .before .before .before .before .before .before .pre .0) (c .before .before .loop-test .taken) (c .index .ensures) .0
+is-full-requires c κs =
+    placed-index _ (c .before .before .before .before .before .before .before .args .text .now) _ _ _
+    (c .before .before .before .before .before .before .before .pre .0) (c .before .before .loop-test .taken) (c .index .ensures) .0
 
 wrong-next-requires : tie.Need-wrong-next-requires Inv-loop μ-loop
-wrong-next-requires c κs = (c .before .before .before .before .before .loop .inv .last-there, placed-index _ _ _ _ _ (c .before .before .before .before .before .before .before .before .before .pre .0) (c .before .before .before .before .loop-test .taken) (c .before .before .index .ensures), c .before .before .before .before .before .before .before .before .before .pre .1)
+wrong-next-requires c κs = (
+  c .before .before .before .before .before .loop .inv .last-there,
+  placed-index _ _ _ _ _
+      (c .before .before .before .before .before .before .before .before .before .pre .0)
+      (c .before .before .before .before .loop-test .taken) (c .before .before .index .ensures),
+  c .before .before .before .before .before .before .before .before .before .pre .1,
+)
 
 returns : tie.Need-returns Inv-loop μ-loop
-returns c = let k = c .before .before .before .before .before .before .before .before .before .before .before .args in let l = c .before .before .before .before .before .before .before .loop in sym (clashing-stop (k .list .now) (k .text .now) (k .plen) (k .layers) (k .at .now) (l .seen) (l .last) (l .i) (l .inv) (c .before .before .before .before .before .before .loop-test .taken) _ (c .before .before .before .before .index .ensures) (sym (c .before .before .before .is-full .ensures) ∙ c .before .before .if1 .taken) (sym (c .before .wrong-next .ensures) ∙ c .if2 .taken))
+returns c =
+    let k = c .before .before .before .before .before .before .before .before .before .before .before .args in let l =
+    c .before .before .before .before .before .before .before .loop in sym
+    (clashing-stop (k .list .now) (k .text .now) (k .plen) (k .layers) (k .at .now) (l .seen) (l .last) (l .i) (l .inv)
+    (c .before .before .before .before .before .before .loop-test .taken) _ (c .before .before .before .before .index .ensures)
+    (sym (c .before .before .before .is-full .ensures) ∙ c .before .before .if1 .taken)
+    (sym (c .before .wrong-next .ensures) ∙ c .if2 .taken))
 
 loop-less : tie.Need-loop-less Inv-loop μ-loop
 loop-less c = search needs
 
 loop-again : tie.Need-loop-again Inv-loop μ-loop
-loop-again c = let k = c .before .before .before .before .before .before .before .before .before .before .before .args in let l = c .before .before .before .before .before .before .before .loop in clashing-on (k .list .now) (k .text .now) (k .plen) (k .layers) (k .at .now) (l .seen) (l .last) (l .i) (l .inv) (c .before .before .before .before .before .before .loop-test .taken) _ (c .before .before .before .before .index .ensures) (sym (c .before .before .before .is-full .ensures) ∙ c .before .before .if1 .taken) (sym (c .before .wrong-next .ensures) ∙ c .if2 .left) (placed-index _ _ _ _ _ (c .before .before .before .before .before .before .before .before .before .before .before .pre .0) (c .before .before .before .before .before .before .loop-test .taken) (c .before .before .before .before .index .ensures))
+loop-again c =
+    let k = c .before .before .before .before .before .before .before .before .before .before .before .args in let l =
+    c .before .before .before .before .before .before .before .loop in clashing-on (k .list .now) (k .text .now) (k .plen) (k .layers)
+    (k .at .now) (l .seen) (l .last) (l .i) (l .inv) (c .before .before .before .before .before .before .loop-test .taken) _
+    (c .before .before .before .before .index .ensures)
+    (sym (c .before .before .before .is-full .ensures) ∙ c .before .before .if1 .taken)
+    (sym (c .before .wrong-next .ensures) ∙ c .if2 .left)
+    (placed-index _ _ _ _ _ (c .before .before .before .before .before .before .before .before .before .before .before .pre .0)
+    (c .before .before .before .before .before .before .loop-test .taken) (c .before .before .before .before .index .ensures))
 
 loop-less-2 : tie.Need-loop-less-2 Inv-loop μ-loop
 loop-less-2 c = search needs
 
 loop-again-2 : tie.Need-loop-again-2 Inv-loop μ-loop
-loop-again-2 c = let k = c .before .before .before .before .before .before .before .before .before .args in let l = c .before .before .before .before .before .loop in clashing-empty (k .list .now) (k .text .now) (k .plen) (k .layers) (k .at .now) (l .seen) (l .last) (l .i) (l .inv) (c .before .before .before .before .loop-test .taken) _ (c .before .before .index .ensures) (sym (c .before .is-full .ensures) ∙ c .if1 .left)
+loop-again-2 c =
+    let k = c .before .before .before .before .before .before .before .before .before .args in let l =
+    c .before .before .before .before .before .loop in clashing-empty (k .list .now) (k .text .now) (k .plen) (k .layers) (k .at .now)
+    (l .seen) (l .last) (l .i) (l .inv) (c .before .before .before .before .loop-test .taken) _ (c .before .before .index .ensures)
+    (sym (c .before .is-full .ensures) ∙ c .if1 .left)
 
 returns-2 : tie.Need-returns-2 Inv-loop μ-loop
-returns-2 c = let k = c .before .before .before .before .before .args in let l = c .before .loop in sym (clashing-end (k .list .now) (k .text .now) (k .plen) (k .layers) (k .at .now) (l .seen) (l .last) (l .i) (l .inv) (c .loop-test .left))
+returns-2 c =
+    let k = c .before .before .before .before .before .args in let l = c .before .loop in sym
+    (clashing-end (k .list .now) (k .text .now) (k .plen) (k .layers) (k .at .now) (l .seen) (l .last) (l .i) (l .inv)
+    (c .loop-test .left))
 
 pub clashes-spec : {M : Type 1} → statement M
 clashes-spec =

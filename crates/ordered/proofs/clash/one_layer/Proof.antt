@@ -36,7 +36,11 @@ number-at-requires-4 : tie.Need-number-at-requires-4
 number-at-requires-4 c κs = search needs
 
 returns : tie.Need-returns
-returns c = let k = c .before .before .before .before .before .before .before .before .args in one-part (k .list .now) (k .text .now) (k .p) (k .q) _ _ _ _ (c .before .before .before .before .before .number-at .ensures .0) (c .before .before .before .before .number-at2 .ensures .0) (c .before .before .before .number-at3 .ensures .0) (c .before .before .number-at4 .ensures .0) (c .before .if1 .taken) (c .if2 .taken)
+returns c =
+    let k = c .before .before .before .before .before .before .before .before .args in one-part (k .list .now) (k .text .now) (k .p) (k .q)
+    _ _ _ _ (c .before .before .before .before .before .number-at .ensures .0)
+    (c .before .before .before .before .number-at2 .ensures .0) (c .before .before .before .number-at3 .ensures .0)
+    (c .before .before .number-at4 .ensures .0) (c .before .if1 .taken) (c .if2 .taken)
 
 add-same : tie.Need-add-same
 add-same c = search needs
@@ -48,7 +52,9 @@ part-same-start : tie.Need-part-same-start
 part-same-start c = search needs
 
 part-same-end : tie.Need-part-same-end
-part-same-end c = let k = c .before .before .before .before .before .before .before in layer-end (k .args .list .now) (k .args .text .now) (k .args .p) _ _ (k .pre .0 .1) (c .before .before .before .before .number-at .ensures .0) (c .before .before .before .number-at2 .ensures .0)
+part-same-end c =
+    let k = c .before .before .before .before .before .before .before in layer-end (k .args .list .now) (k .args .text .now) (k .args .p) _
+    _ (k .pre .0 .1) (c .before .before .before .before .number-at .ensures .0) (c .before .before .before .number-at2 .ensures .0)
 
 add-same-2 : tie.Need-add-same-2
 add-same-2 c = search needs
@@ -60,13 +66,20 @@ part-same-start-2 : tie.Need-part-same-start-2
 part-same-start-2 c = search needs
 
 part-same-end-2 : tie.Need-part-same-end-2
-part-same-end-2 c = let k = c .before .before .before .before .before .before .before .before in layer-end (k .args .list .now) (k .args .text .now) (k .args .q) _ _ (k .pre .1 .1) (c .before .before .before .number-at3 .ensures .0) (c .before .before .number-at4 .ensures .0)
+part-same-end-2 c =
+    let k = c .before .before .before .before .before .before .before .before in layer-end (k .args .list .now) (k .args .text .now)
+    (k .args .q) _ _ (k .pre .1 .1) (c .before .before .before .number-at3 .ensures .0) (c .before .before .number-at4 .ensures .0)
 
 same-requires : tie.Need-same-requires
 same-requires c κs = search needs
 
 returns-2 : tie.Need-returns-2
-returns-2 c = let k = c .before .before .before .before .before .before .before .before .before .before .args in parts-compared (k .list .now) (k .text .now) (k .p) (k .q) _ _ _ _ (c .before .before .before .before .before .before .before .number-at .ensures .0) (c .before .before .before .before .before .before .number-at2 .ensures .0) (c .before .before .before .before .before .number-at3 .ensures .0) (c .before .before .before .before .number-at4 .ensures .0) _ (c .same .ensures)
+returns-2 c =
+    let k = c .before .before .before .before .before .before .before .before .before .before .args in parts-compared (k .list .now)
+    (k .text .now) (k .p) (k .q) _ _ _ _ (c .before .before .before .before .before .before .before .number-at .ensures .0)
+    (c .before .before .before .before .before .before .number-at2 .ensures .0)
+    (c .before .before .before .before .before .number-at3 .ensures .0) (c .before .before .before .before .number-at4 .ensures .0) _
+    (c .same .ensures)
 
 pub one-layer-spec : {M : Type 1} → statement M
 one-layer-spec =

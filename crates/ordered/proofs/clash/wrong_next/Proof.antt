@@ -11,7 +11,9 @@ first-wrong-requires : tie.Need-first-wrong-requires
 first-wrong-requires c κs = search needs
 
 returns : tie.Need-returns
-returns c = let k = c .before .before .before .before .args in none-seen (k .list .now) (k .text .now) (k .plen) (k .layers) (k .seen) (k .p) (k .q) (not-true _ (c .before .if1 .taken)) _ (c .first-wrong .ensures)
+returns c =
+    let k = c .before .before .before .before .args in none-seen (k .list .now) (k .text .now) (k .plen) (k .layers) (k .seen) (k .p) (k .q)
+    (not-true _ (c .before .if1 .taken)) _ (c .first-wrong .ensures)
 
 add-same : tie.Need-add-same
 add-same c = let w = c .before .before .before .pre .0 (not-false _ (c .if1 .left)) .0 in search needs
@@ -50,16 +52,30 @@ first-wrong-requires-2 : tie.Need-first-wrong-requires-2
 first-wrong-requires-2 c κs = search needs
 
 returns-2 : tie.Need-returns-2
-returns-2 c = let k = c .before .before .before .before .before .before .before .before .args in other-run (k .list .now) (k .text .now) (k .plen) (k .layers) (k .seen) (k .p) (k .q) (not-false _ (c .before .before .before .before .before .if1 .left)) _ (c .before .before .same .ensures) (not-true _ (c .before .if2 .taken)) _ (c .first-wrong2 .ensures)
+returns-2 c =
+    let k = c .before .before .before .before .before .before .before .before .args in other-run (k .list .now) (k .text .now) (k .plen)
+    (k .layers) (k .seen) (k .p) (k .q) (not-false _ (c .before .before .before .before .before .if1 .left)) _
+    (c .before .before .same .ensures) (not-true _ (c .before .if2 .taken)) _ (c .first-wrong2 .ensures)
 
 agrees-requires : tie.Need-agrees-requires
-agrees-requires c κs = (c .before .before .before .before .before .before .before .pre .0 (not-false _ (c .before .before .before .before .if1 .left)), c .before .before .before .before .before .before .before .pre .1)
+agrees-requires c κs = (
+  c .before .before .before .before .before .before .before .pre .0 (not-false _ (c .before .before .before .before .if1 .left)),
+  c .before .before .before .before .before .before .before .pre .1,
+)
 
 returns-3 : tie.Need-returns-3
-returns-3 c = let k = c .before .before .before .before .before .before .before .before .before .args in sym (ap not (c .if3 .taken)) ∙ same-run (k .list .now) (k .text .now) (k .plen) (k .layers) (k .seen) (k .p) (k .q) (not-false _ (c .before .before .before .before .before .before .if1 .left)) _ (c .before .before .before .same .ensures) (not-false _ (c .before .before .if2 .left)) _ (c .before .agrees .ensures)
+returns-3 c =
+    let k = c .before .before .before .before .before .before .before .before .before .args in sym (ap not (c .if3 .taken)) ∙ same-run
+    (k .list .now) (k .text .now) (k .plen) (k .layers) (k .seen) (k .p) (k .q)
+    (not-false _ (c .before .before .before .before .before .before .if1 .left)) _ (c .before .before .before .same .ensures)
+    (not-false _ (c .before .before .if2 .left)) _ (c .before .agrees .ensures)
 
 returns-4 : tie.Need-returns-4
-returns-4 c = let k = c .before .before .before .before .before .before .before .before .before .args in sym (ap not (c .if3 .left)) ∙ same-run (k .list .now) (k .text .now) (k .plen) (k .layers) (k .seen) (k .p) (k .q) (not-false _ (c .before .before .before .before .before .before .if1 .left)) _ (c .before .before .before .same .ensures) (not-false _ (c .before .before .if2 .left)) _ (c .before .agrees .ensures)
+returns-4 c =
+    let k = c .before .before .before .before .before .before .before .before .before .args in sym (ap not (c .if3 .left)) ∙ same-run
+    (k .list .now) (k .text .now) (k .plen) (k .layers) (k .seen) (k .p) (k .q)
+    (not-false _ (c .before .before .before .before .before .before .if1 .left)) _ (c .before .before .before .same .ensures)
+    (not-false _ (c .before .before .if2 .left)) _ (c .before .agrees .ensures)
 
 pub wrong-next-spec : {M : Type 1} → statement M
 wrong-next-spec =

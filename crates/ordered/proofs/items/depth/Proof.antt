@@ -19,7 +19,10 @@ loop-holds : tie.Need-loop-holds Inv-loop μ-loop
 loop-holds c = let k = c .before in ([], passed-start (k .args .path .now) (k .pre), refl)
 
 number-at-requires : tie.Need-number-at-requires Inv-loop μ-loop
-number-at-requires c κs = (element-size (c .before .before .before .args .path .now) (c .before .loop .at) (c .before .loop .inv .1 .left) (c .loop-test .taken), omega arith)
+number-at-requires c κs = (
+  element-size (c .before .before .before .args .path .now) (c .before .loop .at) (c .before .loop .inv .1 .left) (c .loop-test .taken),
+  omega arith,
+)
 
 add-at : tie.Need-add-at Inv-loop μ-loop
 add-at c = search needs
@@ -34,10 +37,22 @@ loop-less : tie.Need-loop-less Inv-loop μ-loop
 loop-less c = search needs
 
 loop-again : tie.Need-loop-again Inv-loop μ-loop
-loop-again c = let s = c .before .before .before .before .args .path .now in let l = c .before .before .loop in (_, passed-more s (l .at) (l .inv .0) (l .inv .1) (c .before .loop-test .taken) _ (c .number-at .ensures .0), length-more (l .inv .0) _ (l .n) (l .inv .2))
+loop-again c =
+    let s = c .before .before .before .before .args .path .now in let l = c .before .before .loop in (
+      _,
+      passed-more s (l .at) (l .inv .0) (l .inv .1) (c .before .loop-test .taken) _ (c .number-at .ensures .0),
+      length-more
+          (l .inv .0) _ (l .n) (l .inv .2),
+    )
 
 returns : tie.Need-returns Inv-loop μ-loop
-returns c = let s = c .before .before .before .args .path .now in let l = c .before .loop in let e = passed-end s (l .at) (l .inv .0) (l .inv .1) (c .loop-test .left) in (l .inv .2 ∙ ap (λ (x : List (List ℕ)). length x) (sym e), omega (arith, l .inv .1 .few, l .inv .1 .left .within, l .inv .2))
+returns c =
+    let s = c .before .before .before .args .path .now in let l = c .before .loop in let e = passed-end s (l .at) (l .inv .0) (l .inv .1)
+    (c .loop-test .left) in (
+      l .inv .2 ∙ ap (λ (x : List (List ℕ)). length x) (sym e),
+      omega
+          (arith, l .inv .1 .few, l .inv .1 .left .within, l .inv .2),
+    )
 
 pub depth-spec : {M : Type 1} → statement M
 depth-spec =

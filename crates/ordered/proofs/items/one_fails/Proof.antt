@@ -23,10 +23,15 @@ mul-failing : tie.Need-mul-failing Inv-loop μ-loop
 mul-failing c = search needs
 
 failing-requires : tie.Need-failing-requires Inv-loop μ-loop
-failing-requires c κs = let k = c .before .before .before .before in record-there (k .args .list .now) (k .args .text .now) (c .before .loop .i) (k .pre) (c .loop-test .taken)
+failing-requires c κs =
+    let k = c .before .before .before .before in record-there (k .args .list .now) (k .args .text .now) (c .before .loop .i) (k .pre)
+    (c .loop-test .taken)
 
 returns : tie.Need-returns Inv-loop μ-loop
-returns c = let k = c .before .before .before .before .before .before .args in let t = fails (k .plen) (k .test) in content-some t (k .list .now) (k .text .now) _ _ refl (sym (one-there t (k .list .now) (k .text .now) _ (c .before .before .before .loop .i) (c .before .before .loop-test .taken) (sym (c .before .failing .ensures) ∙ c .if1 .taken)))
+returns c =
+    let k = c .before .before .before .before .before .before .args in let t = fails (k .plen) (k .test) in content-some t (k .list .now)
+    (k .text .now) _ _ refl (sym (one-there t (k .list .now) (k .text .now) _ (c .before .before .before .loop .i)
+    (c .before .before .loop-test .taken) (sym (c .before .failing .ensures) ∙ c .if1 .taken)))
 
 add-i : tie.Need-add-i Inv-loop μ-loop
 add-i c = search needs
@@ -35,10 +40,17 @@ loop-less : tie.Need-loop-less Inv-loop μ-loop
 loop-less c = search needs
 
 loop-again : tie.Need-loop-again Inv-loop μ-loop
-loop-again c = let k = c .before .before .before .before .before .before .args in (omega arith, none-so-far (fails (k .plen) (k .test)) (k .list .now) (k .text .now) (c .before .before .before .loop .i) (c .before .before .before .loop .inv .1) (sym (c .before .failing .ensures) ∙ c .if1 .left))
+loop-again c =
+    let k = c .before .before .before .before .before .before .args in (
+      omega arith,
+      none-so-far (fails (k .plen) (k .test)) (k .list .now) (k .text .now) (c .before .before .before .loop .i)
+          (c .before .before .before .loop .inv .1) (sym (c .before .failing .ensures) ∙ c .if1 .left),
+    )
 
 returns-2 : tie.Need-returns-2 Inv-loop μ-loop
-returns-2 c = let k = c .before .before .before .before .args in content-some (fails (k .plen) (k .test)) (k .list .now) (k .text .now) (c .before .loop .i) _ (omega arith) (sym (c .before .loop .inv .1))
+returns-2 c =
+    let k = c .before .before .before .before .args in content-some (fails (k .plen) (k .test)) (k .list .now) (k .text .now)
+    (c .before .loop .i) _ (omega arith) (sym (c .before .loop .inv .1))
 
 pub one-fails-spec : {M : Type 1} → statement M
 one-fails-spec =

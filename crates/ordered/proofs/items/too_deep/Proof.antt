@@ -31,16 +31,23 @@ part-depth-start : tie.Need-part-depth-start
 part-depth-start c = search needs
 
 part-depth-end : tie.Need-part-depth-end
-part-depth-end c = let k = c .before .before .before .before in slice-end (k .args .list .now) (k .args .text .now) (k .args .p + 48) _ _ (form-parts (k .args .list .now) (k .args .text .now) (k .args .p) (k .pre .1) .path-fits) (c .before .number-at .ensures .0) (c .number-at2 .ensures .0)
+part-depth-end c =
+    let k = c .before .before .before .before in slice-end (k .args .list .now) (k .args .text .now) (k .args .p + 48) _ _
+    (form-parts (k .args .list .now) (k .args .text .now) (k .args .p) (k .pre .1) .path-fits) (c .before .number-at .ensures .0)
+    (c .number-at2 .ensures .0)
 
 depth-requires : tie.Need-depth-requires
-depth-requires c κs = let k = c .before .before .before .before .before in slice-fits (k .args .list .now) (k .args .text .now) (k .args .p) _ _ (k .pre .1) (c .before .before .number-at .ensures .0) (c .before .number-at2 .ensures .0)
+depth-requires c κs =
+    let k = c .before .before .before .before .before in slice-fits (k .args .list .now) (k .args .text .now) (k .args .p) _ _ (k .pre .1)
+    (c .before .before .number-at .ensures .0) (c .before .number-at2 .ensures .0)
 
 add-result : tie.Need-add-result
 add-result c = search needs
 
 returns : tie.Need-returns
-returns c = let k = c .before .before .before .before .before .before .args in deep-is (k .list .now) (k .text .now) (k .p) _ _ (c .before .before .before .number-at .ensures .0) (c .before .before .number-at2 .ensures .0) _ (c .depth .ensures .0)
+returns c =
+    let k = c .before .before .before .before .before .before .args in deep-is (k .list .now) (k .text .now) (k .p) _ _
+    (c .before .before .before .number-at .ensures .0) (c .before .before .number-at2 .ensures .0) _ (c .depth .ensures .0)
 
 pub too-deep-spec : {M : Type 1} → statement M
 too-deep-spec =

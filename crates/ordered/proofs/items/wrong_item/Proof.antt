@@ -24,7 +24,9 @@ number-at-requires-2 : tie.Need-number-at-requires-2
 number-at-requires-2 c κs = search needs
 
 returns : tie.Need-returns
-returns c = let k = c .before .before .before .before .before in path-none (k .args .list .now) (k .args .text .now) (k .args .p) _ _ (c .before .before .number-at .ensures .0) (c .before .number-at2 .ensures .0) (c .if1 .taken)
+returns c =
+    let k = c .before .before .before .before .before in path-none (k .args .list .now) (k .args .text .now) (k .args .p) _ _
+    (c .before .before .number-at .ensures .0) (c .before .number-at2 .ensures .0) (c .if1 .taken)
 
 add-wrong-element : tie.Need-add-wrong-element
 add-wrong-element c = search needs
@@ -36,22 +38,41 @@ part-wrong-element-start : tie.Need-part-wrong-element-start
 part-wrong-element-start c = search needs
 
 part-wrong-element-end : tie.Need-part-wrong-element-end
-part-wrong-element-end c = let k = c .before .before .before .before .before in slice-end (k .args .list .now) (k .args .text .now) (k .args .p + 48) _ _ (form-parts (k .args .list .now) (k .args .text .now) (k .args .p) (k .pre .1) .path-fits) (c .before .before .number-at .ensures .0) (c .before .number-at2 .ensures .0)
+part-wrong-element-end c =
+    let k = c .before .before .before .before .before in slice-end (k .args .list .now) (k .args .text .now) (k .args .p + 48) _ _
+    (form-parts (k .args .list .now) (k .args .text .now) (k .args .p) (k .pre .1) .path-fits)
+    (c .before .before .number-at .ensures .0) (c .before .number-at2 .ensures .0)
 
 wrong-element-requires : tie.Need-wrong-element-requires
-wrong-element-requires c κs = let k = c .before .before .before .before .before .before in slice-fits (k .args .list .now) (k .args .text .now) (k .args .p) _ _ (k .pre .1) (c .before .before .before .number-at .ensures .0) (c .before .before .number-at2 .ensures .0)
+wrong-element-requires c κs =
+    let k = c .before .before .before .before .before .before in slice-fits (k .args .list .now) (k .args .text .now) (k .args .p) _ _
+    (k .pre .1) (c .before .before .before .number-at .ensures .0) (c .before .before .number-at2 .ensures .0)
 
 returns-2 : tie.Need-returns-2
-returns-2 c = let k = c .before .before .before .before .before .before .before .before in element-wrong (k .args .list .now) (k .args .text .now) (k .args .p) _ _ (c .before .before .before .before .before .number-at .ensures .0) (c .before .before .before .before .number-at2 .ensures .0) (k .pre .1) (c .before .before .before .if1 .left) _ (c .before .wrong-element .ensures) (c .if2 .taken)
+returns-2 c =
+    let k = c .before .before .before .before .before .before .before .before in element-wrong (k .args .list .now) (k .args .text .now)
+    (k .args .p) _ _ (c .before .before .before .before .before .number-at .ensures .0)
+    (c .before .before .before .before .number-at2 .ensures .0) (k .pre .1) (c .before .before .before .if1 .left) _
+    (c .before .wrong-element .ensures) (c .if2 .taken)
 
 number-at-requires-3 : tie.Need-number-at-requires-3
 number-at-requires-3 c κs = search needs
 
 returns-3 : tie.Need-returns-3
-returns-3 c = let k = c .before .before .before .before .before .before .before .before .before .before in too-long (k .args .list .now) (k .args .text .now) (k .args .p) _ _ (c .before .before .before .before .before .before .before .number-at .ensures .0) (c .before .before .before .before .before .before .number-at2 .ensures .0) (k .pre .1) (c .before .before .before .before .before .if1 .left) _ (c .before .before .before .wrong-element .ensures) (c .before .before .if2 .left) _ (c .before .number-at3 .ensures .0) (c .if3 .taken)
+returns-3 c =
+    let k = c .before .before .before .before .before .before .before .before .before .before in too-long (k .args .list .now)
+    (k .args .text .now) (k .args .p) _ _ (c .before .before .before .before .before .before .before .number-at .ensures .0)
+    (c .before .before .before .before .before .before .number-at2 .ensures .0) (k .pre .1)
+    (c .before .before .before .before .before .if1 .left) _ (c .before .before .before .wrong-element .ensures)
+    (c .before .before .if2 .left) _ (c .before .number-at3 .ensures .0) (c .if3 .taken)
 
 returns-4 : tie.Need-returns-4
-returns-4 c = let k = c .before .before .before .before .before .before .before .before .before .before .before in not-empty (k .args .list .now) (k .args .text .now) (k .args .p) _ _ (c .before .before .before .before .before .before .before .before .number-at .ensures .0) (c .before .before .before .before .before .before .before .number-at2 .ensures .0) (k .pre .1) (c .before .before .before .before .before .before .if1 .left) _ (c .before .before .before .before .wrong-element .ensures) (c .before .before .before .if2 .left) _ (c .before .before .number-at3 .ensures .0) (c .before .if3 .left) (c .if4 .taken)
+returns-4 c =
+    let k = c .before .before .before .before .before .before .before .before .before .before .before in not-empty (k .args .list .now)
+    (k .args .text .now) (k .args .p) _ _ (c .before .before .before .before .before .before .before .before .number-at .ensures .0)
+    (c .before .before .before .before .before .before .before .number-at2 .ensures .0) (k .pre .1)
+    (c .before .before .before .before .before .before .if1 .left) _ (c .before .before .before .before .wrong-element .ensures)
+    (c .before .before .before .if2 .left) _ (c .before .before .number-at3 .ensures .0) (c .before .if3 .left) (c .if4 .taken)
 
 add-hash-at : tie.Need-add-hash-at
 add-hash-at c = search needs
@@ -66,10 +87,30 @@ same-requires : tie.Need-same-requires
 same-requires c κs = search needs
 
 returns-5 : tie.Need-returns-5
-returns-5 c = let k = c .before .before .before .before .before .before .before .before .before .before .before .before .before .before .before in sym (ap not (c .if5 .taken)) ∙ empty-root (k .args .list .now) (k .args .text .now) (k .args .p) _ _ (c .before .before .before .before .before .before .before .before .before .before .before .before .number-at .ensures .0) (c .before .before .before .before .before .before .before .before .before .before .before .number-at2 .ensures .0) (k .pre .1) (c .before .before .before .before .before .before .before .before .before .before .if1 .left) _ (c .before .before .before .before .before .before .before .before .wrong-element .ensures) (c .before .before .before .before .before .before .before .if2 .left) _ (c .before .before .before .before .before .before .number-at3 .ensures .0) (c .before .before .before .before .before .if3 .left) (c .before .before .before .before .if4 .left) _ _ (c .before .before .before .hash-at .ensures) (c .before .before .pad-value .ensures) _ (c .before .same .ensures)
+returns-5 c =
+    let k = c .before .before .before .before .before .before .before .before .before .before .before .before .before .before .before in sym
+    (ap not (c .if5 .taken)) ∙ empty-root (k .args .list .now) (k .args .text .now) (k .args .p) _ _
+    (c .before .before .before .before .before .before .before .before .before .before .before .before .number-at .ensures .0)
+    (c .before .before .before .before .before .before .before .before .before .before .before .number-at2 .ensures .0) (k .pre .1)
+    (c .before .before .before .before .before .before .before .before .before .before .if1 .left) _
+    (c .before .before .before .before .before .before .before .before .wrong-element .ensures)
+    (c .before .before .before .before .before .before .before .if2 .left) _
+    (c .before .before .before .before .before .before .number-at3 .ensures .0) (c .before .before .before .before .before .if3 .left)
+    (c .before .before .before .before .if4 .left) _ _ (c .before .before .before .hash-at .ensures)
+    (c .before .before .pad-value .ensures) _ (c .before .same .ensures)
 
 returns-6 : tie.Need-returns-6
-returns-6 c = let k = c .before .before .before .before .before .before .before .before .before .before .before .before .before .before .before in sym (ap not (c .if5 .left)) ∙ empty-root (k .args .list .now) (k .args .text .now) (k .args .p) _ _ (c .before .before .before .before .before .before .before .before .before .before .before .before .number-at .ensures .0) (c .before .before .before .before .before .before .before .before .before .before .before .number-at2 .ensures .0) (k .pre .1) (c .before .before .before .before .before .before .before .before .before .before .if1 .left) _ (c .before .before .before .before .before .before .before .before .wrong-element .ensures) (c .before .before .before .before .before .before .before .if2 .left) _ (c .before .before .before .before .before .before .number-at3 .ensures .0) (c .before .before .before .before .before .if3 .left) (c .before .before .before .before .if4 .left) _ _ (c .before .before .before .hash-at .ensures) (c .before .before .pad-value .ensures) _ (c .before .same .ensures)
+returns-6 c =
+    let k = c .before .before .before .before .before .before .before .before .before .before .before .before .before .before .before in sym
+    (ap not (c .if5 .left)) ∙ empty-root (k .args .list .now) (k .args .text .now) (k .args .p) _ _
+    (c .before .before .before .before .before .before .before .before .before .before .before .before .number-at .ensures .0)
+    (c .before .before .before .before .before .before .before .before .before .before .before .number-at2 .ensures .0) (k .pre .1)
+    (c .before .before .before .before .before .before .before .before .before .before .if1 .left) _
+    (c .before .before .before .before .before .before .before .before .wrong-element .ensures)
+    (c .before .before .before .before .before .before .before .if2 .left) _
+    (c .before .before .before .before .before .before .number-at3 .ensures .0) (c .before .before .before .before .before .if3 .left)
+    (c .before .before .before .before .if4 .left) _ _ (c .before .before .before .hash-at .ensures)
+    (c .before .before .pad-value .ensures) _ (c .before .same .ensures)
 
 pub wrong-item-spec : {M : Type 1} → statement M
 wrong-item-spec =

@@ -19,7 +19,11 @@ loop-holds : tie.Need-loop-holds Inv-loop μ-loop
 loop-holds c = record { standing = c .before .before .pre .0; going = going-start _ _ _ }
 
 number-at-requires : tie.Need-number-at-requires Inv-loop μ-loop
-number-at-requires c κs = (size-there (c .before .before .before .before .args .path .now) (c .before .loop .i) (c .before .loop .inv .standing) (c .loop-test .taken), omega arith)
+number-at-requires c κs = (
+  size-there (c .before .before .before .before .args .path .now) (c .before .loop .i) (c .before .loop .inv .standing)
+      (c .loop-test .taken),
+  omega arith,
+)
 
 add-start : tie.Need-add-start Inv-loop μ-loop
 add-start c = search needs
@@ -34,25 +38,48 @@ part-put-string-start : tie.Need-part-put-string-start Inv-loop μ-loop
 part-put-string-start c = search needs
 
 part-put-string-end : tie.Need-part-put-string-end Inv-loop μ-loop
-part-put-string-end c = element-end (c .before .before .before .before .before .before .args .path .now) (c .before .before .before .loop .i) (c .before .before .before .loop .inv .standing) (c .before .before .loop-test .taken) _ (c .before .number-at .ensures .0)
+part-put-string-end c =
+    element-end (c .before .before .before .before .before .before .args .path .now) (c .before .before .before .loop .i)
+    (c .before .before .before .loop .inv .standing) (c .before .before .loop-test .taken) _ (c .before .number-at .ensures .0)
 
 put-string-requires : tie.Need-put-string-requires Inv-loop μ-loop
-put-string-requires c κs = opening-room _ _ (c .before .before .before .before .before .before .before .args .path .now) (c .before .before .before .before .before .before .before .args .from) _ _ (c .before .before .before .before .loop .i) _ (c .before .before .before .before .loop .inv) (c .before .before .before .loop-test .taken) (c .before .before .number-at .ensures .0) _ (c .before .before .before .before .before .before .before .pre .1)
+put-string-requires c κs =
+    opening-room _ _ (c .before .before .before .before .before .before .before .args .path .now)
+    (c .before .before .before .before .before .before .before .args .from) _ _ (c .before .before .before .before .loop .i) _
+    (c .before .before .before .before .loop .inv) (c .before .before .before .loop-test .taken)
+    (c .before .before .number-at .ensures .0) _ (c .before .before .before .before .before .before .before .pre .1)
 
 put-byte-requires : tie.Need-put-byte-requires Inv-loop μ-loop
-put-byte-requires c κs = opening-room-2 _ _ (c .before .before .before .before .before .before .before .before .before .before .before .args .path .now) (c .before .before .before .before .before .before .before .before .before .before .before .args .from) _ _ (c .before .before .before .before .before .before .before .before .loop .i) _ (c .before .before .before .before .before .before .before .before .loop .inv) (c .before .before .before .before .before .before .before .loop-test .taken) (c .before .before .before .before .before .before .number-at .ensures .0) _ _ (c .before .before .before .put-string .ensures) (c .before .before .before .put-string .kept .0) _ (c .before .before .before .before .before .before .before .before .before .before .before .pre .1)
+put-byte-requires c κs =
+    opening-room-2 _ _ (c .before .before .before .before .before .before .before .before .before .before .before .args .path .now)
+    (c .before .before .before .before .before .before .before .before .before .before .before .args .from) _ _
+    (c .before .before .before .before .before .before .before .before .loop .i) _
+    (c .before .before .before .before .before .before .before .before .loop .inv)
+    (c .before .before .before .before .before .before .before .loop-test .taken)
+    (c .before .before .before .before .before .before .number-at .ensures .0) _ _ (c .before .before .before .put-string .ensures)
+    (c .before .before .before .put-string .kept .0) _
+    (c .before .before .before .before .before .before .before .before .before .before .before .pre .1)
 
 loop-less : tie.Need-loop-less Inv-loop μ-loop
 loop-less c = search needs
 
 loop-again : tie.Need-loop-again Inv-loop μ-loop
-loop-again c = opening-more _ _ (c .before .before .before .before .before .before .before .before .before .before .before .before .before .before .args .path .now) (c .before .before .before .before .before .before .before .before .before .before .before .before .before .before .args .from) _ _ (c .before .before .before .before .before .before .before .before .before .before .before .loop .i) _ (c .before .before .before .before .before .before .before .before .before .before .before .loop .inv) (c .before .before .before .before .before .before .before .before .before .before .loop-test .taken) (c .before .before .before .before .before .before .before .before .before .number-at .ensures .0) _ _ (c .before .before .before .before .before .before .put-string .ensures) (c .before .before .before .before .before .before .put-string .kept .0) _ _ (c .before .before .put-byte .ensures) (c .before .before .put-byte .kept .0)
+loop-again c =
+    let ten = c .before .before .before .before .before .before .before .before .before .before in
+    opening-more _ _ (ten .before .before .before .before .args .path .now) (ten .before .before .before .before .args .from) _ _
+    (ten .before .loop .i) _ (ten .before .loop .inv) (ten .loop-test .taken)
+    (c .before .before .before .before .before .before .before .before .before .number-at .ensures .0) _ _
+    (c .before .before .before .before .before .before .put-string .ensures)
+    (c .before .before .before .before .before .before .put-string .kept .0) _ _ (c .before .before .put-byte .ensures)
+    (c .before .before .put-byte .kept .0)
 
 same-length : tie.Need-same-length Inv-loop μ-loop
 same-length c = c .before .loop .inv .going .kept
 
 returns : tie.Need-returns Inv-loop μ-loop
-returns c = walking-end opened _ _ (c .before .before .before .before .args .path .now) (c .before .before .before .before .args .from) _ _ (c .before .loop .i) (unfold opened in refl) (c .before .loop .inv) (c .loop-test .left)
+returns c =
+    walking-end opened _ _ (c .before .before .before .before .args .path .now) (c .before .before .before .before .args .from) _ _
+    (c .before .loop .i) (unfold opened in refl) (c .before .loop .inv) (c .loop-test .left)
 
 pub put-opened-spec : {M : Type 1} → statement M
 put-opened-spec =

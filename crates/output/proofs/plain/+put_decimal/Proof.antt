@@ -47,7 +47,9 @@ put-decimal-put-byte-requires : (t : ℕ) → put-decimal-lts.Need-put-byte-requ
   put-decimal-below t,
   put-decimal.Post,
 ) (put-decimal-at t) put-decimal.Post
-put-decimal-put-byte-requires t c κs = let e = ap (λ (l : List ℕ). length l) (decimal-one (c .before .before .before .args .n) (c .before .if1 .taken)) in omega (arith, c .before .before .before .pre .1)
+put-decimal-put-byte-requires t c κs =
+    let e = ap (λ (l : List ℕ). length l) (decimal-one (c .before .before .before .args .n) (c .before .if1 .taken)) in omega
+    (arith, c .before .before .before .pre .1)
 
 put-decimal-same-length : (t : ℕ) → put-decimal-lts.Need-same-length (
   put-byte-reads.Asked,
@@ -71,7 +73,12 @@ put-decimal-put-decimal-requires : (t : ℕ) → put-decimal-lts.Need-put-decima
   put-decimal-below t,
   put-decimal.Post,
 ) (put-decimal-at t) put-decimal.Post
-put-decimal-put-decimal-requires t c κs = let h : 10 ≤ c .before .before .before .args .n = c .before .if1 .left in let e = c .before .before .before .pre .0 in (omega arith, digits-room (c .before .before .before .args .at) (c .before .before .before .args .n) _ h (c .before .before .before .pre .1) .0)
+put-decimal-put-decimal-requires t c κs =
+    let h : 10 ≤ c .before .before .before .args .n = c .before .if1 .left in let e = c .before .before .before .pre .0 in (
+      omega arith,
+      digits-room (c .before .before .before .args .at) (c .before .before .before .args .n) _ h
+          (c .before .before .before .pre .1) .0,
+    )
 
 put-decimal-put-byte-requires-2 : (t : ℕ) → put-decimal-lts.Need-put-byte-requires-2 (
   put-byte-reads.Asked,
@@ -79,7 +86,11 @@ put-decimal-put-byte-requires-2 : (t : ℕ) → put-decimal-lts.Need-put-byte-re
   put-decimal-below t,
   put-decimal.Post,
 ) (put-decimal-at t) put-decimal.Post
-put-decimal-put-byte-requires-2 t c κs = let e = c .before .before .before .put-decimal .ensures .behind in let g = digits-room (c .before .before .before .before .before .before .before .args .at) (c .before .before .before .before .before .before .before .args .n) _ (c .before .before .before .before .before .if1 .left) (c .before .before .before .before .before .before .before .pre .1) .1 in omega arith
+put-decimal-put-byte-requires-2 t c κs =
+    let e = c .before .before .before .put-decimal .ensures .behind in let g = digits-room
+    (c .before .before .before .before .before .before .before .args .at)
+    (c .before .before .before .before .before .before .before .args .n) _ (c .before .before .before .before .before .if1 .left)
+    (c .before .before .before .before .before .before .before .pre .1) .1 in omega arith
 
 put-decimal-same-length-2 : (t : ℕ) → put-decimal-lts.Need-same-length-2 (
   put-byte-reads.Asked,
@@ -95,7 +106,10 @@ put-decimal-returns-2 : (t : ℕ) → put-decimal-lts.Need-returns-2 (
   put-decimal-below t,
   put-decimal.Post,
 ) (put-decimal-at t) put-decimal.Post
-put-decimal-returns-2 t c = put-digits _ _ _ _ _ _ _ (c .before .before .before .before .before .before .before .before .if1 .left) (c .before .before .before .before .before .before .put-decimal .ensures) (c .before .before .put-byte2 .ensures) (c .before .before .before .before .before .before .put-decimal .kept .0)
+put-decimal-returns-2 t c =
+    put-digits _ _ _ _ _ _ _ (c .before .before .before .before .before .before .before .before .if1 .left)
+    (c .before .before .before .before .before .before .put-decimal .ensures) (c .before .before .put-byte2 .ensures)
+    (c .before .before .before .before .before .before .put-decimal .kept .0)
 
 pub +put-decimal-spec : {M : Type 1} → statement M
 +put-decimal-spec = close μ-put-decimal λ t. put-decimal-lts.spec (

@@ -17,7 +17,9 @@ abbrev μ-loop : tie.MeasureT-loop
 
 -- at the loop's head the output has the length that it came with
 len : (c : tie.At-loop Inv-loop μ-loop) → length (c .loop .out) ≡ length (c .before .before .args .out .now)
-len c = ap length (c .loop .inv .1) ∙ length-paste (c .before .before .args .out .now) (c .before .before .args .at) (c .before .before .args .s .now) (c .loop .i) (omega arith) (omega arith)
+len c =
+    ap length (c .loop .inv .1) ∙ length-paste (c .before .before .args .out .now) (c .before .before .args .at)
+    (c .before .before .args .s .now) (c .loop .i) (omega arith) (omega arith)
 
 add-end : tie.Need-add-end Inv-loop μ-loop
 add-end c = search needs

@@ -1,4 +1,4 @@
-use Rattle.layers.proofs.Finding.{long-some}
+use Rattle.tree.specs.GeometryLaws.{long-full}
 use Rattle.torrent.proofs.Answering.{layer-some, layer-none}
 use native.Mathlib.Omega.{arith}
 use Prim.Native.Nat.{_-_}
@@ -11,7 +11,7 @@ has-layer-requires : tie.Need-has-layer-requires
 has-layer-requires c κs = search needs
 
 add-layer-at : tie.Need-add-layer-at
-add-layer-at c = let x = c .before .before .before .before .pre (long-some _ _ (sym (c .before .has-layer .ensures) ∙ c .if1 .taken)) in omega arith
+add-layer-at c = let x = c .before .before .before .before .pre (long-full _ _ (sym (c .before .has-layer .ensures) ∙ c .if1 .taken)) in omega arith
 
 sub-layer-at : tie.Need-sub-layer-at
 sub-layer-at c = search needs
@@ -20,7 +20,7 @@ part-layer-at-start : tie.Need-part-layer-at-start
 part-layer-at-start c = search needs
 
 part-layer-at-end : tie.Need-part-layer-at-end
-part-layer-at-end c = let x = c .before .before .before .before .pre (long-some _ _ (sym (c .before .has-layer .ensures) ∙ c .if1 .taken)) in omega arith
+part-layer-at-end c = let x = c .before .before .before .before .pre (long-full _ _ (sym (c .before .has-layer .ensures) ∙ c .if1 .taken)) in omega arith
 
 layer-at-requires : tie.Need-layer-at-requires
 layer-at-requires c κs = search needs

@@ -1,0 +1,19 @@
+use Rattle.lists.specs.FrontLaws.{other-length, front-same}
+use Prim.Native.Nat.{_-_}
+use borrow.Author.Needs.{needs}
+use Rattle.lists.proofs.front.same.Statement.{statement}
+use Rattle.lists.proofs.front.same.Tie as tie
+
+returns : tie.Need-returns
+returns c = other-length (c .before .before .before .args .x .now) (c .before .before .before .args .y .now) (c .if1 .taken)
+
+front-requires : tie.Need-front-requires
+front-requires c κs = search needs
+
+returns-2 : tie.Need-returns-2
+returns-2 c =
+    front-same (c .before .before .before .before .args .x .now) (c .before .before .before .before .args .y .now) _ (c .front .ensures)
+    (c .before .if1 .left)
+
+pub same-spec : {M : Type 1} → statement M
+same-spec = tie.close (tie.spec returns front-requires returns-2)

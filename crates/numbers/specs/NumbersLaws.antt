@@ -1,0 +1,19 @@
+-- Laws of the numbers given back, for callers to cite.
+-- Assumes nothing.
+use mathlib.Core.Path.{_≡_, refl}
+use mathlib.Core.Bool.{Bool, true, false, cond}
+use Prim.Native.Nat.{ℕ}
+use native.Mathlib.Omega.{arith}
+use Rattle.numbers.specs.Numbers.{judged}
+
+-- a test that let the rest decide
+pub let-through : (t : Bool) (a n : ℕ) → (n ≡ 0 → ⊥) → cond t a n ≡ 0 → (t ≡ true) × (a ≡ 0)
+let-through true a n f e = (refl, e)
+let-through false a n f e = absurd (f e)
+
+-- judged 0: all three tests are passed
+pub judged-zero : (a b c : Bool) → judged a b c ≡ 0 → (a ≡ true) × (b ≡ true) × (c ≡ true)
+judged-zero true true true e = (refl, refl, refl)
+judged-zero true true false e = let w : ⊥ = omega arith in absurd w
+judged-zero true false c e = let w : ⊥ = omega arith in absurd w
+judged-zero false b c e = let w : ⊥ = omega arith in absurd w
