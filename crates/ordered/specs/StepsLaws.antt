@@ -5,18 +5,14 @@ use mathlib.Core.Bool.{Bool, true, false, cond, _||_, not, false≢true}
 use mathlib.Core.List.{List, [], _∷_, map}
 use Prim.Native.Nat.{ℕ, _+_, _-_, _≤_, _<_}
 use native.Mathlib.Omega.{arith}
-use native.Mathlib.Numerals.{add-one}
 use lib.ListN.{length, getD, drop, drop-of-length-le, length-drop}
-use lib.Seq.{drop-cons}
 use lib.Dec.{ltb}
 use Rattle.octets.specs.Octets.{numberAt}
+use Rattle.octets.specs.OctetsLaws.{drop-step}
 use Rattle.publishing.specs.Content.{Item}
 use Rattle.lists.specs.Lists.{itemAt}
 use Rattle.ordered.specs.Order.{InForm}
 use Rattle.ordered.specs.Neighbours.{followed, neighbours, runFrom, runs, fullOnes, agree, firstWrong, wrongNext, clash}
-
-pub drop-step : (at : List ℕ) (i : ℕ) → i < length at → drop i at ≡ getD at i 0 ∷ drop (i + 1) at
-drop-step at i h = rw (add-one i) (drop-cons at i 0 h)
 
 -- ---- neighbours
 

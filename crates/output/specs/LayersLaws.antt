@@ -18,6 +18,7 @@ use Rattle.lists.specs.Lists.{recordSize, partFits, pathAt, partAt, elementsFit
 use Rattle.lists.specs.ListsLaws.{slice-end}
 use Rattle.ordered.specs.Order.{InForm, Placed}
 use Rattle.ordered.specs.OrderLaws.{placed-index}
+use Rattle.ordered.specs.CompareLaws.{root-slice}
 use Rattle.output.specs.Put.{Put}
 use Rattle.output.specs.PutLaws.{put-none, put-append, Going, going-start, going-more, going-last, going-room}
 use Rattle.output.specs.Layers.{repeats, layerEntry, layersBytes, layerOf, rootSeen}
@@ -84,9 +85,6 @@ module _ (list text : List ℕ) (place a b : ℕ) (f : InForm list text place) (
 
   pub layer-length : length (itemAt list text place .layer) ≡ b
   layer-length = ap (λ (l : List ℕ). length l) (sym layer-cut) ∙ cut-length text a b layer-end
-
-pub root-slice : (list text : List ℕ) (place : ℕ) → take (place + 40 - (place + 8)) (drop (place + 8) list) ≡ itemAt list text place .root
-root-slice list text place = let z : place + 40 - (place + 8) ≡ 32 = omega arith in rw z (unfold itemAt cut in refl)
 
 -- ---- one entry
 

@@ -6,10 +6,10 @@ use Prim.Native.Nat.{ℕ, suc, _+_, _-_, _*_, _/_, _%_, _≤_, _<_}
 use native.Mathlib.Omega.{arith}
 use native.Mathlib.Numerals.{add-one}
 use native.Mathlib.Nat.{div-add-mod'}
-use lib.ListN.{length, take, drop, set, length-append, take-append-drop}
+use lib.ListN.{length, take, drop, set, length-append}
 use lib.Seq.{set-split}
 use Rattle.octets.specs.Octets.{pasted}
-use Rattle.octets.specs.OctetsLaws.{pasted-append}
+use Rattle.octets.specs.OctetsLaws.{pasted-append, pasted-none}
 use Rattle.bencode.specs.Grammar.{digitZero, colon, decimal, encodeString}
 use Rattle.bencode.specs.SoundLaws.{decimal-digit, decimal-longer}
 use Rattle.output.specs.Put.{Put}
@@ -20,12 +20,6 @@ pub record Going (s : List ℕ) (at : ℕ) (whole rest t : List ℕ) (now : ℕ)
   pub so-far : Put s at done t now
   pub splits : done ++ rest ≡ whole
   pub kept : length t ≡ length s
-
-pasted-none : (s : List ℕ) (at : ℕ) → pasted s at [] ≡ s
-unfolding pasted
-pasted-none s at =
-    let z : at + 0 ≡ at = omega arith in
-    rw z (ap (λ (l : List ℕ). l ++ drop at s) (append-nil (take at s)) ∙ take-append-drop at s)
 
 -- nothing is put
 pub put-none : (s : List ℕ) (at : ℕ) → Put s at [] s at

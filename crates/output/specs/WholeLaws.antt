@@ -11,7 +11,7 @@ use borrow.Author.Tests.{lt-ltb}
 use Rattle.limits.specs.Limits.{largestTorrent}
 use Rattle.bencode.specs.Grammar.{letterD, letterE, letterI, decimal, decimalIn, encodeString, Value, integer, string, dictionary, Entries, noEntries, entry, encode, encodeEntries, KeyBefore}
 use Rattle.bencode.specs.Grammar as G
-use Rattle.bencode.specs.CompleteLaws.{BeginsWithDigit, decimal-first}
+use Rattle.bencode.specs.CompleteLaws.{decimal-some}
 use Rattle.meaning.specs.Keys.{keyInfo, keyFileTree, keyPieceLength, keyMetaVersion, keyPieceLayers}
 use Rattle.publishing.specs.Sorting.{sortedBy, Permuted, then}
 use Rattle.publishing.specs.SortingLaws.{sorted-ordered, sorted-permuted, sorted-stays, permuted-back}
@@ -130,11 +130,6 @@ torrent-length plen name xs =
     (restBytes (sortedBy rootBefore xs))
 
 -- ---- 19
-
--- the files take 15 bytes each
-decimal-some : (n : ℕ) → 0 < length (decimal n)
-unfolding BeginsWithDigit
-decimal-some n = let w = decimal-first n in omega (arith, ap (λ (l : List ℕ). length l) (w .2))
 
 file-least : (p q : List (List ℕ)) (x : Item) → 15 ≤ length (fileBytes p q (properties x))
 file-least p q x =

@@ -11,6 +11,7 @@ use lib.Dec.{eqb, ltb}
 use borrow.Author.Tests.{eqb-true, eqb-false, ltb-false}
 use Rattle.octets.specs.Octets.{cut, pasted}
 use Rattle.numbers.specs.Numbers.{wrongSize, noRoom, refused, done}
+use Rattle.numbers.specs.NumbersLaws.{let-through}
 use Rattle.numbers.specs.declared.Answer.{Answer}
 use Rattle.bencode.specs.Grammar.{Entries, dictionary, encode}
 use Rattle.publishing.specs.Sorting.{Permuted}
@@ -28,10 +29,6 @@ pub record Written (list text : List ℕ) (plen : ℕ) (name : List ℕ) (room :
   pub number : contentNumber plen name (contentOf list text) ≡ 0
   pub fits : length (torrentBytes list text plen name) ≤ room
 
-on : (a : Bool) (x n : ℕ) → (n ≡ 0 → ⊥) → cond a x n ≡ 0 → (a ≡ true) × (x ≡ 0)
-on true x n h e = (refl, e)
-on false x n h e = absurd (h e)
-
 pub written : (list text : List ℕ) (plen : ℕ) (name : List ℕ) (room : ℕ) → writeNumber list text plen name room ≡ 0 → Written list text plen
     name room
 unfolding writeNumber
@@ -45,7 +42,7 @@ written list text plen name room e =
   where
     a : (listForm list text ≡ true) × (cond (eqb (contentNumber plen name (contentOf list text)) 0)
         (cond (ltb room (length (torrentBytes list text plen name))) noRoom 0) (contentNumber plen name (contentOf list text)) ≡ 0)
-    a = on (listForm list text) _ wrongSize (λ z. omega arith) e
+    a = let-through (listForm list text) _ wrongSize (λ z. omega arith) e
 
     by-number : (t : Bool) (n x : ℕ) → eqb n 0 ≡ t → cond t x n ≡ 0 → (n ≡ 0) × (x ≡ 0)
     by-number true n x q p = (eqb-true n 0 q, p)

@@ -25,54 +25,33 @@ abbrev put-decimal-below : ℕ → In 1 put-decimal-kinds.ps
 put-decimal-below t =
     and 1 put-decimal-kinds.ps (falls 1 put-decimal-kinds.ps _<_ μ-put-decimal t) put-decimal.Pre
 
-put-decimal-add-digit : (t : ℕ) → put-decimal-lts.Need-add-digit (
+abbrev put-decimal-claims : ℕ → put-decimal-lts.Claims
+put-decimal-claims t = (
   put-byte-reads.Asked,
   put-byte-reads.Learnt,
   put-decimal-below t,
   put-decimal.Post,
-) (put-decimal-at t) put-decimal.Post
+)
+
+put-decimal-add-digit : (t : ℕ) → put-decimal-lts.Need-add-digit (put-decimal-claims t) (put-decimal-at t) put-decimal.Post
 put-decimal-add-digit t c = search needs
 
-put-decimal-cast-digit : (t : ℕ) → put-decimal-lts.Need-cast-digit (
-  put-byte-reads.Asked,
-  put-byte-reads.Learnt,
-  put-decimal-below t,
-  put-decimal.Post,
-) (put-decimal-at t) put-decimal.Post
+put-decimal-cast-digit : (t : ℕ) → put-decimal-lts.Need-cast-digit (put-decimal-claims t) (put-decimal-at t) put-decimal.Post
 put-decimal-cast-digit t c = search needs
 
-put-decimal-put-byte-requires : (t : ℕ) → put-decimal-lts.Need-put-byte-requires (
-  put-byte-reads.Asked,
-  put-byte-reads.Learnt,
-  put-decimal-below t,
-  put-decimal.Post,
-) (put-decimal-at t) put-decimal.Post
+put-decimal-put-byte-requires : (t : ℕ) → put-decimal-lts.Need-put-byte-requires (put-decimal-claims t) (put-decimal-at t) put-decimal.Post
 put-decimal-put-byte-requires t c κs =
     let e = ap (λ (l : List ℕ). length l) (decimal-one (c .before .before .before .args .n) (c .before .if1 .taken)) in omega
     (arith, c .before .before .before .pre .1)
 
-put-decimal-same-length : (t : ℕ) → put-decimal-lts.Need-same-length (
-  put-byte-reads.Asked,
-  put-byte-reads.Learnt,
-  put-decimal-below t,
-  put-decimal.Post,
-) (put-decimal-at t) put-decimal.Post
+put-decimal-same-length : (t : ℕ) → put-decimal-lts.Need-same-length (put-decimal-claims t) (put-decimal-at t) put-decimal.Post
 put-decimal-same-length t c = search needs
 
-put-decimal-returns : (t : ℕ) → put-decimal-lts.Need-returns (
-  put-byte-reads.Asked,
-  put-byte-reads.Learnt,
-  put-decimal-below t,
-  put-decimal.Post,
-) (put-decimal-at t) put-decimal.Post
+put-decimal-returns : (t : ℕ) → put-decimal-lts.Need-returns (put-decimal-claims t) (put-decimal-at t) put-decimal.Post
 put-decimal-returns t c = put-digit _ _ _ _ _ (c .before .before .before .before .if1 .taken) (c .before .before .put-byte .ensures)
 
-put-decimal-put-decimal-requires : (t : ℕ) → put-decimal-lts.Need-put-decimal-requires (
-  put-byte-reads.Asked,
-  put-byte-reads.Learnt,
-  put-decimal-below t,
-  put-decimal.Post,
-) (put-decimal-at t) put-decimal.Post
+put-decimal-put-decimal-requires : (t : ℕ) →
+    put-decimal-lts.Need-put-decimal-requires (put-decimal-claims t) (put-decimal-at t) put-decimal.Post
 put-decimal-put-decimal-requires t c κs =
     let h : 10 ≤ c .before .before .before .args .n = c .before .if1 .left in let e = c .before .before .before .pre .0 in (
       omega arith,
@@ -80,44 +59,25 @@ put-decimal-put-decimal-requires t c κs =
           (c .before .before .before .pre .1) .0,
     )
 
-put-decimal-put-byte-requires-2 : (t : ℕ) → put-decimal-lts.Need-put-byte-requires-2 (
-  put-byte-reads.Asked,
-  put-byte-reads.Learnt,
-  put-decimal-below t,
-  put-decimal.Post,
-) (put-decimal-at t) put-decimal.Post
+put-decimal-put-byte-requires-2 : (t : ℕ) →
+    put-decimal-lts.Need-put-byte-requires-2 (put-decimal-claims t) (put-decimal-at t) put-decimal.Post
 put-decimal-put-byte-requires-2 t c κs =
     let e = c .before .before .before .put-decimal .ensures .behind in let g = digits-room
     (c .before .before .before .before .before .before .before .args .at)
     (c .before .before .before .before .before .before .before .args .n) _ (c .before .before .before .before .before .if1 .left)
     (c .before .before .before .before .before .before .before .pre .1) .1 in omega arith
 
-put-decimal-same-length-2 : (t : ℕ) → put-decimal-lts.Need-same-length-2 (
-  put-byte-reads.Asked,
-  put-byte-reads.Learnt,
-  put-decimal-below t,
-  put-decimal.Post,
-) (put-decimal-at t) put-decimal.Post
+put-decimal-same-length-2 : (t : ℕ) → put-decimal-lts.Need-same-length-2 (put-decimal-claims t) (put-decimal-at t) put-decimal.Post
 put-decimal-same-length-2 t c = search needs
 
-put-decimal-returns-2 : (t : ℕ) → put-decimal-lts.Need-returns-2 (
-  put-byte-reads.Asked,
-  put-byte-reads.Learnt,
-  put-decimal-below t,
-  put-decimal.Post,
-) (put-decimal-at t) put-decimal.Post
+put-decimal-returns-2 : (t : ℕ) → put-decimal-lts.Need-returns-2 (put-decimal-claims t) (put-decimal-at t) put-decimal.Post
 put-decimal-returns-2 t c =
     put-digits _ _ _ _ _ _ _ (c .before .before .before .before .before .before .before .before .if1 .left)
     (c .before .before .before .before .before .before .put-decimal .ensures) (c .before .before .put-byte2 .ensures)
     (c .before .before .before .before .before .before .put-decimal .kept .0)
 
 pub +put-decimal-spec : {M : Type 1} → statement M
-+put-decimal-spec = close μ-put-decimal λ t. put-decimal-lts.spec (
-  put-byte-reads.Asked,
-  put-byte-reads.Learnt,
-  put-decimal-below t,
-  put-decimal.Post,
-)
++put-decimal-spec = close μ-put-decimal λ t. put-decimal-lts.spec (put-decimal-claims t)
     (put-decimal-at t)
     put-decimal.Post
     (put-decimal-add-digit t)
