@@ -1,7 +1,7 @@
 #!/bin/bash
 # The proved library against ordinary Rust and OpenSSL, and the stack its calls need: `make bench`. KD_LIB names another
 # library.
-# Where the machine is not an x86-64, times under the emulator mean nothing. Where there is an emulator, instructions are counted as well.
+# Where the machine is not an x86-64, times under the emulator mean nothing. Instructions are counted as well, on an x86-64 by valgrind.
 set -euo pipefail
 cd "$(dirname "$0")"
 eval "$(./setup)"
@@ -13,12 +13,14 @@ trap 'rm -rf "$work"' EXIT
 cargo build --quiet --release -p bench
 bench="${CARGO_TARGET_DIR:-target}/${CARGO_BUILD_TARGET:-}/release/bench"
 
-# On an x86-64 it is not needed to run anything, and may be missing.
-emulator=${KD_RUN:-$(command -v qemu-x86_64 || true)}
-
-# The instructions of a run of the benchmark with these arguments, counted by a plugin of the emulator.
+# The instructions of a run of the benchmark with these arguments: counted by a plugin of the emulator, or by valgrind on an x86-64.
 instructions() {
-    "$emulator" -plugin "file=$work/count.so,out=$work/count" "$bench" "$@" > /dev/null
+    if [ -z "$KD_RUN" ]; then
+        valgrind --tool=cachegrind --cache-sim=no --cachegrind-out-file=/dev/null "$bench" "$@" 2>&1 > /dev/null |
+            awk '/I *refs/ { gsub(",", "", $NF); print $NF }'
+        return
+    fi
+    $KD_RUN -plugin "file=$work/count.so,out=$work/count" "$bench" "$@" > /dev/null
     cat "$work/count"
 }
 
@@ -31,7 +33,7 @@ counted() {
         count=$(($(instructions "$job" "$version") - ready))
         plain=${plain:-$count}
         awk -v job="$job" -v version="$version" -v count=$count -v plain="$plain" -v asked="$asked" 'BEGIN {
-            printf "%-18s %-16s %12d %16.2f %7s\n", job, version, count, plain ? count / plain : 0,
+            printf "%-18s %-16s %12.0f %16.2f %7s\n", job, version, count, plain ? count / plain : 0,
                 version !~ /-rust$/ && asked != "-" ? asked : "" }'
     done
 }
@@ -70,9 +72,9 @@ echo "library $KD_LIB"
 printf '%-18s %-16s %12s %8s %7s %7s\n' job version ns MB/s ratio asked
 $KD_RUN "$bench" | tee "$work/times"
 if command -v openssl > /dev/null; then openssl_rows; fi
-if [ -n "$emulator" ]; then
-    echo 'x86-64 instructions, counted by the emulator: they do not depend on the machine'
-    gcc -shared -fPIC -O2 -Wall -Wextra -Werror bench/count.c -o "$work/count.so"
+if [ -n "$KD_RUN" ] || command -v valgrind > /dev/null; then
+    echo 'x86-64 instructions, counted by the emulator or by valgrind: they do not depend on the machine'
+    [ -z "$KD_RUN" ] || gcc -shared -fPIC -O2 -Wall -Wextra -Werror bench/count.c -o "$work/count.so"
     printf '%-18s %-16s %12s %16s %7s\n' job version instructions ratio asked
     # shellcheck disable=SC2086
     $KD_RUN "$bench" jobs | while read -r line; do counted $line; done

@@ -1,23 +1,30 @@
-//! The hash of a pair, `sha256::pair`, is inside the library and not exported. To measure it alone a second copy of the archive is
-//! linked, in which it is visible and the exported functions are not. `cfg(has_pair)` says that there is one.
+//! The hash of a pair, `sha256::pair`, and of eight blocks, `lanes::hashes::hash8`, are inside the library and not exported. To
+//! measure them alone a second copy of the archive is linked, in which they are visible and the exported functions are not.
+//! `cfg(has_pair)` and `cfg(has_hash8)` say that there is one with them.
 
 use std::path::{Path, PathBuf};
 use std::{env, process::Command};
 
-const PAIR: &str = "sha256::pair";
+const INSIDE: [(&str, &str); 2] = [("has_pair", "sha256::pair"), ("has_hash8", "lanes::hashes::hash8")];
 
 fn main() {
     println!("cargo:rerun-if-env-changed=KD_LIB");
     println!("cargo:rerun-if-env-changed=KD_CC");
-    println!("cargo:rustc-check-cfg=cfg(has_pair)");
+    for (cfg, _) in INSIDE {
+        println!("cargo:rustc-check-cfg=cfg({cfg})");
+    }
     let repository = Path::new(env!("CARGO_MANIFEST_DIR")).join("../..");
     let library = env::var("KD_LIB").map_or(repository.join("target/staticlib/libkombudeva.a"), PathBuf::from);
     println!("cargo:rerun-if-changed={}", library.display());
     let folder = env::var("OUT_DIR").unwrap();
-    if has_pair(&library) && make_visible(&library, &Path::new(&folder).join("libpair.a")) {
-        println!("cargo:rustc-cfg=has_pair");
+    let symbols = symbols(&library);
+    let there: Vec<_> = INSIDE.iter().filter(|(_, name)| symbols.lines().any(|line| line.ends_with(name))).collect();
+    if !there.is_empty() && make_visible(&there, &library, &Path::new(&folder).join("libinside.a")) {
+        for (cfg, _) in there {
+            println!("cargo:rustc-cfg={cfg}");
+        }
         println!("cargo:rustc-link-search=native={folder}");
-        println!("cargo:rustc-link-lib=static=pair");
+        println!("cargo:rustc-link-lib=static=inside");
     }
 }
 
@@ -27,14 +34,17 @@ fn tool(name: &str) -> Command {
     Command::new(compiler.strip_suffix("gcc").unwrap_or("").to_string() + name)
 }
 
-/// The compiler may have put it into its callers, and left no function of its own.
-fn has_pair(library: &Path) -> bool {
-    let symbols = tool("nm").arg(library).output();
-    symbols.is_ok_and(|output| String::from_utf8_lossy(&output.stdout).lines().any(|line| line.ends_with(PAIR)))
+/// What `nm` says of the library. The compiler may have put a function into its callers, and left none of its own.
+fn symbols(library: &Path) -> String {
+    tool("nm")
+        .arg(library)
+        .output()
+        .map_or(String::new(), |output| String::from_utf8_lossy(&output.stdout).into_owned())
 }
 
-fn make_visible(library: &Path, copy: &Path) -> bool {
+fn make_visible(there: &[&(&str, &str)], library: &Path, copy: &Path) -> bool {
     let mut command = tool("objcopy");
-    command.args(["--wildcard", "--localize-symbol=kd_*"]).arg(format!("--globalize-symbol={PAIR}"));
+    command.args(["--wildcard", "--localize-symbol=kd_*"]);
+    command.args(there.iter().map(|(_, name)| format!("--globalize-symbol={name}")));
     command.arg(library).arg(copy).status().is_ok_and(|status| status.success())
 }

@@ -55,14 +55,14 @@ static void history_begin(void)
 }
 static void history_more(void)
 {
-    kd_history_answer answer = kd_history_more(history, piece, BLOCK + 1, layer[0].bytes, sizeof layer);
+    kd_history_answer answer = kd_history_more(history, piece, 8 * BLOCK + 1, layer[0].bytes, sizeof layer);
     history = answer.state;
     number = answer.number;
 }
 static void history_end(void)
 {
     kd_history far = history;
-    far.length += LENGTH - 4 * BLOCK;
+    far.length += LENGTH - 32 * BLOCK;
     number = kd_history_end(far, layer[0].bytes, sizeof layer).number;
 }
 static void store_size(void) { number = kd_store_size(LENGTH, BLOCK).number; }

@@ -213,12 +213,10 @@ grown-turn s t u burst a e h i d =
     ∙ i
 
 pub noted-turn : (s t u : History) (burst layer₀ layer after : List ℕ) (a e : ℕ) → a ≤ e → notedBy t layer (drop a burst) ≡ notedBy s layer₀ burst
-    → u ≡ grownBy t (take (e - a) (drop a burst))
-    → isPieceLength (t .«piece_length») ≡ true → 0 < length (take (e - a) (drop a burst)) → t .length % blockLength + length (take (e - a) (drop a burst)) ≤ blockLength
-    → after ≡ noted t layer
+    → u ≡ grownBy t (take (e - a) (drop a burst)) → after ≡ notedBy t layer (take (e - a) (drop a burst))
     → notedBy u after (drop e burst) ≡ notedBy s layer₀ burst
-noted-turn s t u burst layer₀ layer after a e h i d good p l n =
-    ap₂ (λ (x : History) (y : List ℕ). notedBy x y (drop e burst)) d (n ∙ sym (note-law t layer (take (e - a) (drop a burst)) good p l))
+noted-turn s t u burst layer₀ layer after a e h i d n =
+    ap₂ (λ (x : History) (y : List ℕ). notedBy x y (drop e burst)) d n
     ∙ sym (noted-rest t layer (take (e - a) (drop a burst)) (drop e burst))
     ∙ ap (notedBy t layer) (sym (left-behind burst a e h))
     ∙ i

@@ -170,14 +170,7 @@ end-says s m e = by-counts (possibleCounts s) refl
     by-counts false p = let w = end-impossible s m p in absurd (omega (arith, w, e))
     by-counts true p = by-size p (decLe (layerBytes (s .length) (s .«piece_length»)) m)
 
--- ---- the same, for the state at a part of the burst
-
-pub fits-at : (s t : History) (k m : ℕ) → Possible s → noRoomFor s k m ≡ false → t .«piece_length» ≡ s .«piece_length» → s .length ≤ t .length → t .length < s .length + k
-    → 0 < t .length → t .length % t .«piece_length» ≡ 0 → 32 * (t .length / t .«piece_length») ≤ m
-fits-at s t k m w f q a b p e = rw q (fits s k m (t .length) w f a b p (rw q at e))
-
-pub good-at : (s t : History) → Possible s → t .«piece_length» ≡ s .«piece_length» → isPieceLength (t .«piece_length») ≡ true
-good-at s t w q = ap isPieceLength q ∙ w .pieces
+-- ---- a part of the burst
 
 pub part-length : (l : List ℕ) (a r : ℕ) → a + r ≤ length l → length (take (a + r - a) (drop a l)) ≡ r
 part-length l a r h =

@@ -1,4 +1,5 @@
 pub mod Growing
+pub mod Parts
 pub mod Answers
 pub mod HistoryOf
 pub mod NodesLaws

@@ -2,15 +2,19 @@
 // A state goes in by value, and comes back after each burst; a lent layer gets each piece's hash once the history runs past the piece.
 ghost use mathlib.Core.Path.{_≡_};
 ghost use mathlib.Core.Bool.{true, false, cond};
+ghost use mathlib.Core.List.{[]};
 ghost use Prim.Native.Nat.{_+_, _-_, _*_, _/_, _%_, _^_, _≤_, _<_, min};
 ghost use lib.ListN.{length};
 ghost use lib.Dec.{eqb};
 ghost use Rattle.limits.specs.Limits.{longestFile, tallestTree};
 ghost use Rattle.sha256.specs.Sha256.{pairHash};
 ghost use Rattle.tree.specs.Geometry.{blockLength, isPieceLength};
+ghost use Rattle.running.specs.Bursts.{stateOf};
 ghost use Rattle.history.specs.Growing as G;
+ghost use Rattle.history.specs.Parts as P;
 ghost use Rattle.history.specs.Answers as W;
 ghost use Rattle.history.specs.Answers.{Possible};
+use lanes::hashes::hash8;
 use octets::hash_at;
 use octets::put_hash;
 use running::Hashing;
@@ -21,6 +25,9 @@ use tree::geometry::height;
 use tree::geometry::is_piece_length;
 use tree::geometry::piece_count;
 use tree::geometry::piece_layer;
+
+// The bytes of eight blocks, which are hashed side by side.
+const EIGHT_BLOCKS: usize = 8 * 16384;
 
 // 32 bytes for each layer of the tallest tree, the root's included.
 pub const NODES_SIZE: usize = 32 * (limits::TALLEST_TREE + 1);
@@ -219,15 +226,97 @@ fn more_number(h: History, k: usize, m: usize) -> u32
     numbers::UNUSABLE
 }
 
+// Whether a block's running hash has taken no bytes, by its words.
+fn is_begun(block: Hashing) -> bool
+    ensures { λ r. ⌜ (r ≡ true → block .words ≡ stateOf [] .words) ⌝ }
+{
+    let begun = running::begin();
+    let first = begun.words;
+    let words = block.words;
+    let mut i: usize = 0;
+    while i < 8 {
+        if words[i] != first[i] {
+            return false;
+        }
+        i += 1;
+    }
+    true
+}
+
 // How many of the bytes that are left go into the block under way.
-fn part_size(n: usize, left: usize) -> usize
+fn within_block(n: usize, left: usize) -> usize
     ensures { λ r. ⌜ r ≡ min (blockLength - n % blockLength) left ⌝ }
 {
     let room = 16384 - n % 16384;
     if left < room { left } else { room }
 }
 
-// The burst part by part. Before each part a piece that it runs past is written.
+// How many of the bytes that are left are taken at once: those of the block under way, or eight whole blocks where none is begun.
+fn part_size(h: History, left: usize) -> usize
+    ensures { λ r. ⌜ P.PartSize h left r ⌝ }
+{
+    let n = h.length as usize;
+    let size = within_block(n, left);
+    if left < EIGHT_BLOCKS {
+        return size;
+    }
+    if n % 16384 != 0 {
+        return size;
+    }
+    if is_begun(h.block) {
+        return EIGHT_BLOCKS;
+    }
+    size
+}
+
+// The state after a whole block whose leaf is given, where none is begun.
+fn grow_block(h: History, leaf: [u8; 32]) -> History
+    requires { ⌜ h .length + blockLength ≤ longestFile ⌝ }
+    ensures { λ r. ⌜ r ≡ P.withLeaf h leaf ⌝ }
+{
+    let before = h.length as usize;
+    let mut nodes = h.nodes;
+    finish(&mut nodes, before / 16384, leaf);
+    History {
+        piece_length: h.piece_length,
+        length: (before + 16384) as u64,
+        block: running::begin(),
+        nodes,
+    }
+}
+
+// Eight whole blocks: their leaves are worked out side by side, and finished one after the other.
+fn grow8(h: History, part: &[u8], layer: &mut [u8]) -> History
+    requires { ⌜ (length (now part) ≡ 8 * blockLength) × (h .length + length (now part) ≤ longestFile) × P.NoneBegun h × P.Due h (length (now part)) (length (now layer)) ⌝ }
+    ensures { λ r. ⌜ P.Grows h (now (part .entry)) (now (layer .entry)) r (now (layer .exit)) ⌝ }
+{
+    let leaves = hash8(part);
+    let mut t = h;
+    let mut x: usize = 0;
+    while x < 8 {
+        note(t, layer);
+        let leaf = hash_at(&leaves, 32 * x);
+        let later = grow_block(t, leaf);
+        t = later;
+        x += 1;
+    }
+    t
+}
+
+// The state after a part, and before it the hash of a piece that it runs past.
+fn take_part(h: History, part: &[u8], layer: &mut [u8]) -> History
+    requires { ⌜ (0 < length (now part)) × (h .length + length (now part) ≤ longestFile) × P.Part h (length (now part)) × P.Due h (length (now part)) (length (now layer)) ⌝ }
+    ensures { λ r. ⌜ P.Grows h (now (part .entry)) (now (layer .entry)) r (now (layer .exit)) ⌝ }
+{
+    if part.len() > 16384 {
+        return grow8(h, part, layer);
+    }
+    let later = grow(h, part);
+    note(h, layer);
+    later
+}
+
+// The burst part by part.
 fn run(h: History, burst: &[u8], layer: &mut [u8]) -> History
     requires { ⌜ Possible h × (h .length + length (now burst) ≤ longestFile) × (W.noRoomFor h (length (now burst)) (length (now layer)) ≡ false) ⌝ }
     ensures { λ r. ⌜ (r ≡ G.grownBy h (now (burst .entry))) × (now (layer .exit) ≡ G.notedBy h (now (layer .entry)) (now (burst .entry))) ⌝ }
@@ -235,10 +324,9 @@ fn run(h: History, burst: &[u8], layer: &mut [u8]) -> History
     let mut t = h;
     let mut at = 0;
     while at < burst.len() {
-        let n = part_size(t.length as usize, burst.len() - at);
+        let n = part_size(t, burst.len() - at);
         let end = at + n;
-        let later = grow(t, &burst[at..end]);
-        note(t, layer);
+        let later = take_part(t, &burst[at..end], layer);
         t = later;
         at = end;
     }

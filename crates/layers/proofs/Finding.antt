@@ -4,18 +4,17 @@ use mathlib.Core.Path.{_≡_, refl, sym, ap, _∙_}
 use mathlib.Core.Logic.{inl, inr}
 use mathlib.Core.Bool.{Bool, true, false, cond}
 use mathlib.Core.List.{List}
-use Prim.Native.Nat.{ℕ, _+_, _-_, _*_, _^_, _≤_, _<_}
+use Prim.Native.Nat.{ℕ, _+_, _-_, _*_, _≤_, _<_}
 use native.Mathlib.Omega.{arith}
 use lib.ListN.{length, take, drop, getD}
-use lib.Seq.{take-all}
 use borrow.Author.Tests.{eq-eqb, ne-eqb, ltb-true}
 use Rattle.limits.specs.Limits.{longestFile}
 use Rattle.octets.specs.Octets.{cut, same}
 use Rattle.octets.specs.OctetsLaws.{cut-length}
 use Rattle.numbers.specs.Numbers.{layersAmiss, layerDiffers}
-use Rattle.tree.specs.Geometry.{blockLength, blockCount, covering, height, isPieceLength, pieceLayer, pieceCount, hasLayer}
-use Rattle.tree.specs.GeometryLaws.{ceil-least, covering-most, pieces-covering, piece-length-form, long-file-height}
-use Rattle.tree.specs.Values.{layerRoot, layerLeaf, node}
+use Rattle.tree.specs.Geometry.{blockCount, covering, height, isPieceLength, pieceLayer, pieceCount, hasLayer}
+use Rattle.tree.specs.GeometryLaws.{ceil-least, covering-most, pieces-covering, piece-length-form}
+use Rattle.tree.specs.Values.{layerRoot}
 use Rattle.bencode.specs.Scalar.{readString}
 use Rattle.bencode.specs.EndsLaws.{string-ends}
 use Rattle.bencode.specs.declared.scalar.ByteString.{ByteString}
@@ -56,17 +55,6 @@ unfolding hasLayer
 long-some n plen h e = let l = ltb-true plen n h in omega arith
 
 module _ (plen n : ℕ) (p : isPieceLength plen ≡ true) (h : hasLayer n plen ≡ true) where
-  longer : plen < n
-  unfolding hasLayer
-  longer = ltb-true plen n h
-
-  pub layer-below : pieceLayer plen ≤ height (blockCount n)
-  layer-below =
-      let f = piece-length-form plen p in
-      let l : blockLength * 2 ^ pieceLayer plen < n = rw (f .1) at longer in
-      let g = long-file-height n (pieceLayer plen) l in
-      omega arith
-
   pub pieces-few : n ≤ longestFile → pieceCount n plen ≤ longestFile
   pieces-few l =
       let form = piece-length-form plen p .1 in
@@ -77,19 +65,6 @@ module _ (plen n : ℕ) (p : isPieceLength plen ≡ true) (h : hasLayer n plen �
     where
       blocks-few : blockCount n ≤ n
       blocks-few = unfold blockCount in ceil-least n 16384 n (omega arith) (omega arith)
-
-  pub layer-under : (q b h : ℕ) → q ≡ pieceLayer plen → b ≡ blockCount n → h ≡ height b → q ≤ h
-  layer-under q b h eq eb eh = rw (eq, eh, eb) layer-below
-
--- the root that is worked out, as the code does it
-pub root-worked : (root layer : List ℕ) (plen n q b h : ℕ) (worked mine : List ℕ) (r : Bool) → q ≡ pieceLayer plen → b ≡ blockCount n → h ≡ height b
-    → worked ≡ node (layerLeaf layer q) (h - q) 0 → length root ≡ 32 → mine ≡ cut root 0 32 → r ≡ same worked mine
-    → r ≡ same (layerRoot layer (pieceLayer plen) (height (blockCount n))) root
-unfolding layerRoot
-root-worked root layer plen n q b h worked mine r eq eb eh ew l em er = er ∙ rw (ew, em ∙ whole, eh, eb, eq) refl
-  where
-    whole : cut root 0 32 ≡ root
-    whole = unfold cut in take-all 32 root (omega arith)
 
 -- ---- a file's number from its layer
 

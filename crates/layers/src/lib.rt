@@ -7,14 +7,12 @@ use bencode::scalar::read_string;
 use filetree::count::ELEMENTS;
 use filetree::token::Token;
 use filetree::token::read_token;
-use octets::hash_at;
+use heaps::gives_root;
 use sorting::halving::search;
-use tree::geometry::block_count;
 use tree::geometry::has_layer;
-use tree::geometry::height;
 use tree::geometry::piece_count;
 use tree::geometry::piece_layer;
-use tree::values::layer_node;
+use tree::values::pad_value;
 ghost use mathlib.Core.Path.{_≡_};
 ghost use mathlib.Core.Bool.{true, _&&_};
 ghost use Prim.Native.Nat.{_+_, _*_, _-_, _≤_, _<_};
@@ -22,10 +20,9 @@ ghost use lib.ListN as L;
 ghost use lib.ListN.{take};
 ghost use lib.Dec.{eqb};
 ghost use Rattle.limits.specs.Limits.{longestFile, largestTorrent};
-ghost use Rattle.octets.specs.Octets.{cut, same};
-ghost use Rattle.tree.specs.Geometry as G;
-ghost use Rattle.tree.specs.Geometry.{blockCount, isPieceLength, pieceLayer, hasLayer};
-ghost use Rattle.tree.specs.Values.{layerRoot};
+ghost use Rattle.octets.specs.Octets.{cut};
+ghost use Rattle.tree.specs.Geometry.{isPieceLength, pieceLayer, hasLayer};
+ghost use Rattle.tree.specs.Values.{padValue};
 ghost use Rattle.filetree.specs.Tree.{filesIn, right, listed};
 ghost use Rattle.layers.specs.Layers.{layerKeys, keysWide, Indexed, Inside, layerAt, ofLayer, numberByLayer, lower, worst, Judges};
 
@@ -73,23 +70,9 @@ pub fn find_layer(l: &[u8], keys: &[u32], count: usize, root: &[u8]) -> ByteStri
     ByteString::NoString
 }
 
-// Whether the layer of a file of n bytes gives its root.
-fn gives_root(layer: &[u8], plen: usize, n: usize, root: &[u8]) -> bool
-    requires { ⌜ (isPieceLength plen ≡ true) × (hasLayer n plen ≡ true) × (L.length (now root) ≡ 32) ⌝ }
-    ensures { λ r. ⌜ r ≡ same (layerRoot (now (layer .entry)) (pieceLayer plen) (G.height (blockCount n))) (now (root .entry)) ⌝ }
-{
-    let p = piece_layer(plen);
-    let b = block_count(n);
-    let h = height(b);
-    let k = h - p;
-    let worked = layer_node(layer, p, k, 0);
-    let mine = hash_at(root, 0);
-    octets::same(worked, mine)
-}
-
 // 0, 27 or 28 of a file of n bytes by its layer.
-fn of_layer(l: &[u8], plen: usize, n: usize, root: &[u8], layer: ByteString) -> u32
-    requires { ⌜ (isPieceLength plen ≡ true) × (hasLayer n plen ≡ true) × (n ≤ longestFile) × (L.length (now root) ≡ 32) × Inside (L.length (now l)) layer ⌝ }
+fn of_layer(l: &[u8], past: [u8; 32], plen: usize, n: usize, root: &[u8], layer: ByteString) -> u32
+    requires { ⌜ (isPieceLength plen ≡ true) × (hasLayer n plen ≡ true) × (n ≤ longestFile) × (L.length (now root) ≡ 32) × Inside (L.length (now l)) layer × (past ≡ padValue (pieceLayer plen)) ⌝ }
     ensures { λ r. ⌜ r ≡ ofLayer (now (l .entry)) plen n (now (root .entry)) layer ⌝ }
 {
     match layer {
@@ -97,7 +80,7 @@ fn of_layer(l: &[u8], plen: usize, n: usize, root: &[u8], layer: ByteString) -> 
         ByteString::Content { start, end } => {
             let pieces = piece_count(n, plen);
             if end - start == 32 * pieces {
-                if gives_root(&l[start..end], plen, n, root) {
+                if gives_root(&l[start..end], past, plen, n, root) {
                     return 0;
                 }
                 return numbers::LAYER_DIFFERS;
@@ -107,10 +90,11 @@ fn of_layer(l: &[u8], plen: usize, n: usize, root: &[u8], layer: ByteString) -> 
     }
 }
 
-// What the layers are judged by: how many keys there are, the piece length, and the number so far.
+// What the layers are judged by: how many keys there are, the piece length, the padding value of the piece layer, and the number so far.
 pub struct Judging {
     pub count: usize,
     pub plen: usize,
+    pub past: [u8; 32],
     pub number: u32,
 }
 
@@ -122,14 +106,15 @@ pub enum Numbered {
 
 // 0, 27 or 28 of a file of n bytes with its root at `root`: 0 if it is not longer than the piece length.
 fn number_by_layer(t: &[u8], l: &[u8], keys: &[u32], job: Judging, n: usize, root: usize) -> u32
-    requires { ⌜ Indexed (now l) (now keys) (job .count) × (isPieceLength (job .plen) ≡ true) × (n ≤ longestFile) × ((n ≡ 0 → ⊥) → root + 32 ≤ L.length (now t)) ⌝ }
+    requires { ⌜ Indexed (now l) (now keys) (job .count) × (isPieceLength (job .plen) ≡ true) × (n ≤ longestFile) × ((n ≡ 0 → ⊥) → root + 32 ≤ L.length (now t)) × (job .past ≡ padValue (pieceLayer (job .plen))) ⌝ }
     ensures { λ r. ⌜ r ≡ numberByLayer (now (l .entry)) (job .plen) n (cut (now (t .entry)) root 32) ⌝ }
 {
     let plen = job.plen;
+    let pad = job.past;
     if has_layer(n, plen) {
         let past = root + ROOT;
         let layer = find_layer(l, keys, job.count, &t[root..past]);
-        return of_layer(l, plen, n, &t[root..past], layer);
+        return of_layer(l, pad, plen, n, &t[root..past], layer);
     }
     0
 }
@@ -156,7 +141,7 @@ fn judge_directory(
     keys: &[u32],
     job: Judging,
 ) -> Numbered
-    requires { ⌜ Indexed (now l) (now keys) (job .count) × (isPieceLength (job .plen) ≡ true) ⌝ }
+    requires { ⌜ Indexed (now l) (now keys) (job .count) × (isPieceLength (job .plen) ≡ true) × (job .past ≡ padValue (pieceLayer (job .plen))) ⌝ }
     ensures { λ r. ⌜ Judges (now (t .entry)) at levels (now (l .entry)) (job .plen) (job .number) r ⌝ }
 {
     if levels == 0 {
@@ -165,6 +150,7 @@ fn judge_directory(
     let below = levels - 1;
     let count = job.count;
     let plen = job.plen;
+    let past = job.past;
     let mut number = job.number;
     let mut i = at;
     while i < t.len() {
@@ -188,6 +174,7 @@ fn judge_directory(
                 let here = Judging {
                     count,
                     plen,
+                    past,
                     number,
                 };
                 let n = number_by_layer(t, l, keys, here, length, root);
@@ -198,6 +185,7 @@ fn judge_directory(
                 let here = Judging {
                     count,
                     plen,
+                    past,
                     number,
                 };
                 match judge_directory(t, end + 1, below, l, keys, here) {
@@ -223,9 +211,11 @@ pub fn judge_layers(t: &[u8], l: &[u8], keys: &[u32], count: usize, plen: usize)
     requires { ⌜ Indexed (now l) (now keys) count × (isPieceLength plen ≡ true) × (right (filesIn (now t)) ≡ true) ⌝ }
     ensures { λ r. ⌜ r ≡ worst (now (t .entry)) (now (l .entry)) plen 0 (listed (filesIn (now (t .entry)))) ⌝ }
 {
+    let past = pad_value(piece_layer(plen));
     let job = Judging {
         count,
         plen,
+        past,
         number: 0,
     };
     match judge_directory(t, 1, ELEMENTS, l, keys, job) {

@@ -22,7 +22,7 @@ use Rattle.cells.specs.EntriesLaws.{Sound, agree-append, put-append, fresh-appe
 use Rattle.store.specs.Store.{usable, blocksOf, heightOf, positions, Facts}
 use Rattle.store.specs.StoreLaws.{usable-facts, facts-height, facts-leaves}
 use Rattle.settling.specs.Span.{Within, Fit, Way}
-use Rattle.settling.specs.Subtree.{subtree, runLeaf}
+use Rattle.settling.specs.Subtree.{subtree, runLeaf, Heaped}
 use Rattle.settling.specs.SubtreeLaws.{within-self, run-leaf-length, subtree-small}
 use Rattle.settling.specs.Path.{ancestor, risen, path}
 use Rattle.settling.specs.PathLaws.{path-small}
@@ -33,8 +33,8 @@ use Rattle.header.specs.declared.Place.{Place}
 use Rattle.header.specs.Header.{headerSize, headerOf, isHashes, isReject, rulesKept, placeOf, messageSize}
 use Rattle.messages.specs.Padded.{runPadded, unclesPadded}
 use Rattle.messages.specs.Take.{headerNumber, runOf, unclesOf, given, settled, anchor, worked, padded, anchored, bodyNumber, placeIn, orElse, takeNumber, takeAfter, takeAnswer, rejectAnswer}
-use Rattle.messages.specs.Asks.{Passed, Placed, Carried, Ready}
-use Rattle.messages.specs.TakenLaws.{uncles-length}
+use Rattle.messages.specs.Asks.{Passed, Placed, Carried, Ready, compared, answerTo, leftBy}
+use Rattle.messages.specs.TakenLaws.{uncles-length, take-refused, take-done}
 
 -- ---- the message's parts
 
@@ -73,11 +73,18 @@ module _ (m : List ℕ) (x : Header) (p : Place) (power : 2 ^ p .k ≡ x .len) (
   uncles-are : unclesOf m (2 ^ p .k) (p .u) ≡ hashes
   uncles-are = cc
 
+  -- the run's heap in the room is the message's
+  pub heaped-given : (room : List ℕ) → Heaped (runLeaf run past) (p .k) 0 room → Heaped (given m (p .k)) (p .k) 0 room
+  heaped-given room h = rw leaf-is h
+
+  pub heaped-run : (room : List ℕ) → Heaped (given m (p .k)) (p .k) 0 room → Heaped (runLeaf run past) (p .k) 0 room
+  heaped-run room h = rw leaf-is at h
+
   pub compared-by : (s v : List ℕ) (o1 : Bool) (w : List ℕ) (o2 : Bool) (a : ℕ) (g : List ℕ) (alike all : Bool) (r : ℕ)
       → (v ≡ node (runLeaf run past) (p .k) 0) × (o1 ≡ agrees s (subtree (runLeaf run past) (p .k) (p .top) 0))
       → (w ≡ risen hashes 0 (p .u) (p .top) v) × (o2 ≡ agrees s (path hashes 0 (p .u) (p .top) v))
       → g ≡ hashAt s a → alike ≡ same g w → all ≡ (o1 && o2) → r ≡ judged true alike all
-      → r ≡ judged true (same (hashAt s a) (worked m p)) (agrees s (settled m p))
+      → r ≡ compared s m p a
   unfolding worked settled
   compared-by s v o1 w o2 a g alike all r L H e2 e3 e4 e5 =
       let A = subtree (given m (p .k)) (p .k) (p .top) 0 in
@@ -99,6 +106,23 @@ module _ (m : List ℕ) (x : Header) (p : Place) (power : 2 ^ p .k ≡ x .len) (
       let u = uncles-are in
       (cc (fresh-append s A B), cc (put-append s A B))
 
+-- ---- the answer to a number
+
+module _ (n : ℕ) (s : List ℕ) (es : List Entry) where
+  pub answer-refused : (r : ℕ) → r ≡ n → (r ≡ 0 → ⊥) → (refused r ≡ answerTo n s es) × (s ≡ leftBy n s es)
+  unfolding answerTo leftBy
+  answer-refused r e ne = let z : eqb n 0 ≡ false = ne-eqb n 0 (λ y. ne (e ∙ y)) in rw z (ap refused e, refl)
+
+  pub answer-done : (r c : ℕ) (s′ : List ℕ) → r ≡ n → r ≡ 0 → (c ≡ fresh s es) × (s′ ≡ putAll s es)
+      → (done c ≡ answerTo n s es) × (s′ ≡ leftBy n s es)
+  unfolding answerTo leftBy
+  answer-done r c s′ e z w = rw (eq-eqb n 0 (sym e ∙ z)) (ap done (w .0), w .1)
+
+  -- the same number under another name
+  pub answer-same : (r : ℕ) (a : Answer) (s′ : List ℕ) → r ≡ n → (a ≡ answerTo r s es) × (s′ ≡ leftBy r s es)
+      → (a ≡ answerTo n s es) × (s′ ≡ leftBy n s es)
+  answer-same r a s′ e w = rw e at w
+
 -- the anchor is looked at first
 module _ (s m : List ℕ) (p : Place) (a : ℕ) (ea : a ≡ ancestor (p .u) (p .top)) (t : Bool) (et : t ≡ heldAt s a) where
   here : heldAt s (anchor p) ≡ t
@@ -109,7 +133,7 @@ module _ (s m : List ℕ) (p : Place) (a : ℕ) (ea : a ≡ ancestor (p .u) (p .
   unfolding anchored
   anchor-lacks f = sym (rw (here, f))
 
-  pub anchor-there : (r : ℕ) → t ≡ true → r ≡ judged true (same (hashAt s a) (worked m p)) (agrees s (settled m p)) → r ≡ anchored s m p
+  pub anchor-there : (r : ℕ) → t ≡ true → r ≡ compared s m p a → r ≡ anchored s m p
   unfolding anchored anchor
   anchor-there r f e = e ∙ sym (rw (← ea, ← et, f))
 
@@ -168,3 +192,20 @@ module _ (s m : List ℕ) (form : Bool) (h : ℕ) (ef : form ≡ isHashes m) (eh
   took-body r x p z ex ep er =
       let w : headerNumber (isHashes m) s m ≡ 0 = cc in
       er ∙ ap₂ (λ (y : Header) (q : Place). bodyNumber s m y q) ex ep ∙ sym (rw (eq-eqb (headerNumber (isHashes m) s m) 0 w))
+
+-- the answer to the call's number is the call's answer
+pub took : (s m s′ : List ℕ) (r : ℕ) (a : Answer) (p : Place) → r ≡ takeNumber s m → p ≡ placeIn s m
+    → (a ≡ answerTo r s (settled m p)) × (s′ ≡ leftBy r s (settled m p)) → (a ≡ takeAnswer s m) × (s′ ≡ takeAfter s m)
+took s m s′ r a p e ep w = elim (ℕ-discrete r 0) [ yes z ↦ on z | no ne ↦ stop ne ]
+  where
+    on : r ≡ 0 → (a ≡ takeAnswer s m) × (s′ ≡ takeAfter s m)
+    on z =
+        let q = answer-done r s (settled m p) r (fresh s (settled m p)) (putAll s (settled m p)) refl z (refl, refl) in
+        let d = take-done s m s′ r (fresh s (settled m p)) p e z ep refl (w .1 ∙ sym (q .1)) in
+        (w .0 ∙ sym (q .0) ∙ d .0, d .1)
+
+    stop : (r ≡ 0 → ⊥) → (a ≡ takeAnswer s m) × (s′ ≡ takeAfter s m)
+    stop ne =
+        let q = answer-refused r s (settled m p) r refl ne in
+        let d = take-refused s m r e ne in
+        (w .0 ∙ sym (q .0) ∙ d .0, w .1 ∙ sym (q .1) ∙ d .1)

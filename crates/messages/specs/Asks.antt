@@ -5,14 +5,19 @@ use mathlib.Core.Bool.{Bool, true, cond}
 use mathlib.Core.List.{List}
 use Prim.Native.Nat.{ℕ, _+_, _*_, _%_, _^_, _≤_, _<_}
 use Rattle.limits.specs.Limits.{tallestTree, longestRun}
+use lib.Dec.{eqb}
 use Rattle.octets.specs.Octets.{same}
-use Rattle.numbers.specs.Numbers.{noMessage, otherRoot, unusable}
+use Rattle.numbers.specs.declared.Answer.{Answer}
+use Rattle.numbers.specs.Numbers.{noMessage, otherRoot, unusable, judged, refused, done}
+use Rattle.cells.specs.Cells.{hashAt}
+use Rattle.cells.specs.Entries.{Entry, agrees, putAll, fresh}
 use Rattle.store.specs.Store.{usable, factsRoot, blocksOf, heightOf}
 use Rattle.settling.specs.Span.{Within}
 use Rattle.settling.specs.Path.{ancestor}
 use Rattle.header.specs.declared.Header.{Header}
 use Rattle.header.specs.declared.Place.{Place}
 use Rattle.header.specs.Header.{headerSize, messageRoot, headerOf, rulesKept, messageSize}
+use Rattle.messages.specs.Take.{settled, worked}
 
 -- 9, 1, 2: the tests before the header is read
 unfoldable pub firstNumber : Bool → List ℕ → List ℕ → ℕ
@@ -55,3 +60,17 @@ pub record Ready (ls lm n : ℕ) (x : Header) (p : Place) : Type 0 where
   pub anchor : 1 ≤ ancestor (p .u) (p .top)
   pub even : n % 2 ≡ 0
   pub few : n ≤ 2 * 2 ^ tallestTree
+
+-- ---- what is answered and left
+
+-- 7, 8 or 0, where position a is held and its value is worked out
+abbrev pub compared : List ℕ → List ℕ → Place → ℕ → ℕ
+compared s m p a = judged true (same (hashAt s a) (worked m p)) (agrees s (settled m p))
+
+-- the answer with number n, where entries are to be taken: on 0 those count that were not held
+unfoldable pub answerTo : ℕ → List ℕ → List Entry → Answer
+answerTo n s es = cond (eqb n 0) (done (fresh s es)) (refused n)
+
+-- and the store: on 0 all of them are held; any other number changes nothing
+unfoldable pub leftBy : ℕ → List ℕ → List Entry → List ℕ
+leftBy n s es = cond (eqb n 0) (putAll s es) s

@@ -3,14 +3,13 @@ ghost use mathlib.Core.Path.{_≡_};
 ghost use mathlib.Core.Bool.{true, _&&_};
 ghost use Prim.Native.Nat.{_+_, _*_, _≤_};
 ghost use lib.ListN.{length};
-ghost use Rattle.octets.specs.Octets as O;
-ghost use Rattle.numbers.specs.Numbers.{judged};
-ghost use Rattle.cells.specs.Cells.{hashAt};
-ghost use Rattle.cells.specs.Entries.{agrees, putAll, fresh};
+ghost use Rattle.cells.specs.Entries.{putAll, fresh};
 ghost use Rattle.store.specs.Store.{usable, blocksOf, heightOf};
 ghost use Rattle.header.specs.Header.{headerSize, Small, rulesKept, placeOf};
-ghost use Rattle.messages.specs.Take.{headerNumber, settled, anchor, worked, padded, anchored, bodyNumber, takeAfter, takeAnswer, rejectAnswer};
-ghost use Rattle.messages.specs.Asks.{firstNumber, Placed, Carried, Ready};
+ghost use Rattle.settling.specs.Span.{roomSize};
+ghost use Rattle.settling.specs.Subtree.{Heaped};
+ghost use Rattle.messages.specs.Take.{headerNumber, given, settled, anchor, padded, anchored, bodyNumber, takeAfter, takeAnswer, rejectAnswer};
+ghost use Rattle.messages.specs.Asks.{firstNumber, Placed, Carried, Ready, compared, answerTo, leftBy};
 use crate::padded::run_padded;
 use crate::padded::uncles_padded;
 use cells::hash_of;
@@ -29,11 +28,12 @@ use numbers::refusal;
 use numbers::success;
 use octets::hash_at;
 use octets::same;
+use settling::ROOM_SIZE;
 use settling::climb;
-use settling::look_run;
+use settling::look_parts;
 use settling::rising;
+use settling::write_looked;
 use settling::write_path;
-use settling::write_run;
 use store::blocks_of;
 use store::facts_root;
 use store::height_of;
@@ -139,10 +139,10 @@ fn both(a: bool, b: bool) -> bool
 }
 
 // 7, 8 or 0, where the anchor a is held: everything that the message settles is worked out, and compared with the anchor and
-// with what is held. Nothing is written.
-fn compare(s: &[u8], m: &[u8], x: Header, p: Place, n: usize, a: usize) -> u32
-    requires { ⌜ Ready (length (now s)) (length (now m)) n x p × (a ≡ anchor p) ⌝ }
-    ensures { λ r. ⌜ r ≡ judged true (O.same (hashAt (now (s .entry)) a) (worked (now (m .entry)) p)) (agrees (now (s .entry)) (settled (now (m .entry)) p)) ⌝ }
+// with what is held. Nothing is written to the store.
+fn compare(s: &[u8], m: &[u8], room: &mut [u8], x: Header, p: Place, n: usize, a: usize) -> u32
+    requires { ⌜ Ready (length (now s)) (length (now m)) n x p × (a ≡ anchor p) × (length (now room) ≡ roomSize) ⌝ }
+    ensures { λ r. ⌜ (r ≡ compared (now (s .entry)) (now (m .entry)) p a) × Heaped (given (now (m .entry)) (p .k)) (p .k) 0 (now (room .exit)) ⌝ }
 {
     let len = x.len;
     let k = p.k;
@@ -153,7 +153,7 @@ fn compare(s: &[u8], m: &[u8], x: Header, p: Place, n: usize, a: usize) -> u32
     let past = [0u8; 32];
     let run = &m[HEADER_SIZE..e];
     let hashes = &m[e..f];
-    let low = look_run(s, run, past, n, k, top, 0);
+    let low = look_parts(s, run, past, room, n, k, top, 0);
     let v = low.hash;
     let high = climb(s, hashes, n, 0, u, top, v);
     let w = high.hash;
@@ -163,41 +163,9 @@ fn compare(s: &[u8], m: &[u8], x: Header, p: Place, n: usize, a: usize) -> u32
     judged_number(true, alike, all)
 }
 
-// 6, 7, 8 or 0, for a message of the right size and with right padding. Nothing is hashed if the anchor is not held.
-fn judge(s: &[u8], m: &[u8], x: Header, p: Place, n: usize) -> u32
-    requires { ⌜ Ready (length (now s)) (length (now m)) n x p ⌝ }
-    ensures { λ r. ⌜ r ≡ anchored (now (s .entry)) (now (m .entry)) p ⌝ }
-{
-    let u = p.u;
-    let top = p.top;
-    let a = rising(top, u);
-    let there = held(s, a);
-    if !there {
-        return numbers::NO_ANCHOR;
-    }
-    compare(s, m, x, p, n, a)
-}
-
-// 4, 5, 6, 7, 8 or 0, for a header that keeps the rules.
-fn body_number(s: &[u8], m: &[u8], x: Header, p: Place, b: usize, n: usize) -> u32
-    requires { ⌜ Placed n x p × (31 + 33 * n ≤ length (now s)) × (b ≡ blocksOf (now s)) ⌝ }
-    ensures { λ r. ⌜ r ≡ bodyNumber (now (s .entry)) (now (m .entry)) x p ⌝ }
-{
-    let len = x.len;
-    let u = p.u;
-    if m.len() != HEADER_SIZE + 32 * (len + u) {
-        return numbers::WRONG_SIZE;
-    }
-    let right = is_padded(m, x, p, b);
-    if !right {
-        return numbers::WRONG_PADDING;
-    }
-    judge(s, m, x, p, n)
-}
-
-// Every position that the message settles becomes held; how many of them were not.
-fn write(s: &mut [u8], m: &[u8], x: Header, p: Place, n: usize) -> u64
-    requires { ⌜ Ready (length (now s)) (length (now m)) n x p ⌝ }
+// Every position that the message settles becomes held; how many of them were not. The run's are in the room, if it holds so many.
+fn write(s: &mut [u8], m: &[u8], room: &mut [u8], x: Header, p: Place, n: usize) -> u64
+    requires { ⌜ Ready (length (now s)) (length (now m)) n x p × (length (now room) ≡ roomSize) × Heaped (given (now m) (p .k)) (p .k) 0 (now room) ⌝ }
     ensures { λ r. ⌜ (r ≡ fresh (now (s .entry)) (settled (now (m .entry)) p)) × (now (s .exit) ≡ putAll (now (s .entry)) (settled (now (m .entry)) p)) ⌝ }
 {
     let len = x.len;
@@ -209,10 +177,64 @@ fn write(s: &mut [u8], m: &[u8], x: Header, p: Place, n: usize) -> u64
     let past = [0u8; 32];
     let run = &m[HEADER_SIZE..e];
     let hashes = &m[e..f];
-    let low = write_run(s, run, past, n, k, top, 0);
+    let low = write_looked(s, run, past, room, n, k, top, 0);
     let v = low.hash;
     let c = write_path(s, hashes, n, 0, u, top, v);
     low.new + c
+}
+
+// 7, 8 or 0, where the anchor a is held; on 0 the message is taken. The room is lent to both passes.
+fn settle(
+    s: &mut [u8],
+    m: &[u8],
+    room: &mut [u8],
+    x: Header,
+    p: Place,
+    n: usize,
+    a: usize,
+) -> Answer
+    requires { ⌜ Ready (length (now s)) (length (now m)) n x p × (a ≡ anchor p) × (length (now room) ≡ roomSize) ⌝ }
+    ensures { λ r. ⌜ (r ≡ answerTo (compared (now (s .entry)) (now (m .entry)) p a) (now (s .entry)) (settled (now (m .entry)) p)) × (now (s .exit) ≡ leftBy (compared (now (s .entry)) (now (m .entry)) p a) (now (s .entry)) (settled (now (m .entry)) p)) ⌝ }
+{
+    let verdict = compare(s, m, room, x, p, n, a);
+    if verdict != numbers::DONE {
+        return refusal(verdict);
+    }
+    let c = write(s, m, room, x, p, n);
+    success(c)
+}
+
+// 6, 7, 8 or 0, for a message of the right size and with right padding. Nothing is hashed if the anchor is not held.
+fn take_anchored(s: &mut [u8], m: &[u8], x: Header, p: Place, n: usize) -> Answer
+    requires { ⌜ Ready (length (now s)) (length (now m)) n x p ⌝ }
+    ensures { λ r. ⌜ (r ≡ answerTo (anchored (now (s .entry)) (now (m .entry)) p) (now (s .entry)) (settled (now (m .entry)) p)) × (now (s .exit) ≡ leftBy (anchored (now (s .entry)) (now (m .entry)) p) (now (s .entry)) (settled (now (m .entry)) p)) ⌝ }
+{
+    let u = p.u;
+    let top = p.top;
+    let a = rising(top, u);
+    let there = held(s, a);
+    if !there {
+        return refusal(numbers::NO_ANCHOR);
+    }
+    let mut room = [0u8; ROOM_SIZE];
+    settle(s, m, &mut room, x, p, n, a)
+}
+
+// 4, 5, 6, 7, 8 or 0, for a header that keeps the rules.
+fn take_body(s: &mut [u8], m: &[u8], x: Header, p: Place, b: usize, n: usize) -> Answer
+    requires { ⌜ Placed n x p × (31 + 33 * n ≤ length (now s)) × (b ≡ blocksOf (now s)) ⌝ }
+    ensures { λ r. ⌜ (r ≡ answerTo (bodyNumber (now (s .entry)) (now (m .entry)) x p) (now (s .entry)) (settled (now (m .entry)) p)) × (now (s .exit) ≡ leftBy (bodyNumber (now (s .entry)) (now (m .entry)) x p) (now (s .entry)) (settled (now (m .entry)) p)) ⌝ }
+{
+    let len = x.len;
+    let u = p.u;
+    if m.len() != HEADER_SIZE + 32 * (len + u) {
+        return refusal(numbers::WRONG_SIZE);
+    }
+    let right = is_padded(m, x, p, b);
+    if !right {
+        return refusal(numbers::WRONG_PADDING);
+    }
+    take_anchored(s, m, x, p, n)
 }
 
 // Takes a hashes message, or refuses it and leaves the store as it was: 9, 1, 2, 3, 4, 5, 6, 7, 8 in this order.
@@ -232,10 +254,5 @@ pub fn take(s: &mut [u8], m: &[u8]) -> Answer
     let p = place_in(s, x);
     let b = blocks_of(s);
     let n = positions_of(s);
-    let verdict = body_number(s, m, x, p, b, n);
-    if verdict != numbers::DONE {
-        return refusal(verdict);
-    }
-    let c = write(s, m, x, p, n);
-    success(c)
+    take_body(s, m, x, p, b, n)
 }

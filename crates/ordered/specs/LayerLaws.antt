@@ -3,48 +3,17 @@
 use mathlib.Core.Path.{_≡_, refl, sym, ap, ap₂, _∙_}
 use mathlib.Core.Bool.{Bool, true, false, _&&_, not}
 use mathlib.Core.List.{List}
-use Prim.Native.Nat.{ℕ, _+_, _-_, _*_, _^_, _≤_, _<_}
+use Prim.Native.Nat.{ℕ, _+_, _-_, _≤_}
 use native.Mathlib.Omega.{arith}
 use lib.ListN.{length, take, drop}
-use lib.Seq.{take-all}
 use lib.Dec.{eqb}
-use borrow.Author.Tests.{ltb-true}
 use Rattle.octets.specs.Octets.{cut, same, numberAt}
 use Rattle.octets.specs.OctetsLaws.{cut-length, same-refl}
-use Rattle.tree.specs.Geometry.{blockLength, blockCount, height, isPieceLength, pieceLayer, hasLayer}
-use Rattle.tree.specs.GeometryLaws.{piece-length-form, long-file-height}
-use Rattle.tree.specs.Values.{layerRoot, layerLeaf, node}
+use Rattle.tree.specs.Geometry.{blockCount, height, pieceLayer, hasLayer}
+use Rattle.tree.specs.Values.{layerRoot}
 use Rattle.lists.specs.Lists.{itemAt}
 use Rattle.ordered.specs.Neighbours.{agree, firstWrong, wrongNext}
 use Rattle.ordered.specs.CompareLaws.{root-slice, layer-slice}
-
--- ---- the root that a layer gives
-
--- a file longer than the piece length has its layer below its root
-pub layer-under : (plen n : ℕ) → isPieceLength plen ≡ true → hasLayer n plen ≡ true → (q b h : ℕ) → q ≡ pieceLayer plen → b ≡ blockCount n
-    → h ≡ height b → q ≤ h
-layer-under plen n p l q b h eq eb eh = rw (eq, eh, eb) below
-  where
-    longer : plen < n
-    longer = ltb-true plen n (unfold hasLayer in l)
-
-    below : pieceLayer plen ≤ height (blockCount n)
-    below =
-        let f = piece-length-form plen p in
-        let l : blockLength * 2 ^ pieceLayer plen < n = rw (f .1) at longer in
-        let g = long-file-height n (pieceLayer plen) l in
-        omega arith
-
--- the root that is worked out, as the code does it
-pub root-worked : (root layer : List ℕ) (plen n q b h : ℕ) (worked mine : List ℕ) (r : Bool) → q ≡ pieceLayer plen → b ≡ blockCount n
-    → h ≡ height b
-    → worked ≡ node (layerLeaf layer q) (h - q) 0 → length root ≡ 32 → mine ≡ cut root 0 32 → r ≡ same worked mine
-    → r ≡ same (layerRoot layer (pieceLayer plen) (height (blockCount n))) root
-unfolding layerRoot
-root-worked root layer plen n q b h worked mine r eq eb eh ew l em er = er ∙ rw (ew, em ∙ whole, eh, eb, eq) refl
-  where
-    whole : cut root 0 32 ≡ root
-    whole = unfold cut in take-all 32 root (omega arith)
 
 pub root-length : (list : List ℕ) (p : ℕ) → p + 56 ≤ length list → length (take (p + 40 - (p + 8)) (drop (p + 8) list)) ≡ 32
 root-length list p h = ap (λ (n : ℕ). length (take n (drop (p + 8) list))) size ∙ slice-length (cut-length list (p + 8) 32 (omega arith))

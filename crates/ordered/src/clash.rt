@@ -2,13 +2,10 @@
 // the first one's layer gives the root. So each root's layer is hashed once.
 use crate::compare::index;
 use lists::front::same;
-use octets::hash_at;
 use octets::number_at;
-use tree::geometry::block_count;
 use tree::geometry::has_layer;
-use tree::geometry::height;
 use tree::geometry::piece_layer;
-use tree::values::layer_node;
+use tree::values::pad_value;
 ghost use mathlib.Core.Path.{_≡_};
 ghost use mathlib.Core.Bool.{true, not};
 ghost use mathlib.Core.List.{map};
@@ -29,13 +26,8 @@ fn gives_root(layer: &[u8], plen: usize, n: usize, root: &[u8]) -> bool
     requires { ⌜ (isPieceLength plen ≡ true) × (hasLayer n plen ≡ true) × (length (now root) ≡ 32) ⌝ }
     ensures { λ r. ⌜ r ≡ O.same (layerRoot (now (layer .entry)) (pieceLayer plen) (G.height (blockCount n))) (now (root .entry)) ⌝ }
 {
-    let p = piece_layer(plen);
-    let b = block_count(n);
-    let h = height(b);
-    let k = h - p;
-    let worked = layer_node(layer, p, k, 0);
-    let mine = hash_at(root, 0);
-    octets::same(worked, mine)
+    let past = pad_value(piece_layer(plen));
+    heaps::gives_root(layer, past, plen, n, root)
 }
 
 // Whether the file of the record at p is not empty.

@@ -2,3 +2,4 @@ pub mod Block
 pub mod Sums
 pub mod SumsLaws
 pub mod Stage
+pub mod StageLaws

@@ -34,7 +34,7 @@ module _ (ks ws : List ℕ) where
   after zero i = rw zero-add (getD-at (sums i ks ws) _ [] 0 i (length-sums i ks ws))
   after (suc d) i = rw suc-add (List·getD-append (sums (d + suc i) ks ws) _ 0 i (omega (arith, length-sums (d + suc i) ks ws)) ∙ after d i)
 
-  sum-at : (n i : ℕ) → i < n → getD (sums n ks ws) i 0 ≡ (getD ks i 0 + getD ws i 0) % 2 ^ 32
+  pub sum-at : (n i : ℕ) → i < n → getD (sums n ks ws) i 0 ≡ (getD ks i 0 + getD ws i 0) % 2 ^ 32
   sum-at n i h =
       let e : n - suc i + suc i ≡ n = omega arith in
       ap (λ (k : ℕ). getD (sums k ks ws) i 0) (sym e) ∙ after (n - suc i) i

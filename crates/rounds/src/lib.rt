@@ -29,7 +29,7 @@ pub struct State {
 }
 
 // A round takes its two words K_t and W_t by their sum x alone.
-fn round(s: State, x: u32) -> State
+pub fn round(s: State, x: u32) -> State
     ensures { λ r. ⌜ r ≡ S.round s x 0 ⌝ }
 {
     let t1 = add(add(add(s.h, x), ch(s.e, s.f, s.g)), big1(s.e));
@@ -61,7 +61,7 @@ fn sum(s: State, t: State) -> State
     }
 }
 
-fn word(s: &[u8], i: usize) -> u32
+pub fn word(s: &[u8], i: usize) -> u32
     requires { ⌜ i + 4 ≤ length (now s) ⌝ }
     ensures { λ r. ⌜ r ≡ S.wordAt (now (s .entry)) i ⌝ }
 {

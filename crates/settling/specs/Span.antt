@@ -19,3 +19,10 @@ pub record Way (ls lh b i u n : ℕ) : Type 0 where
   pub uncles : 32 * (i + u) ≤ lh
   pub even : b % 2 ≡ 0
   pub below : n < b
+
+-- how many layers the heap in a room has above its leaves, and the room's bytes
+abbrev pub roomLayers : ℕ
+roomLayers = 9
+
+abbrev pub roomSize : ℕ
+roomSize = 32768

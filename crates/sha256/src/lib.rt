@@ -207,7 +207,7 @@ const PAIR_SUMS: [u32; 64] = [
 ];
 
 // The round words and the schedule of that block, added.
-fn pair_sums() -> [u32; 64]
+pub fn pair_sums() -> [u32; 64]
     ensures { λ r. ⌜ r ≡ sums 64 K (B.schedule 48 (P.padding 64)) ⌝ }
 {
     PAIR_SUMS

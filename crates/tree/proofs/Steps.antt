@@ -3,19 +3,17 @@
 use mathlib.Core.Path.{_≡_, refl, ap, ap₂, sym, _∙_}
 use mathlib.Core.List.{List}
 use Prim.Native.Nat.{ℕ, zero, suc, _+_, _-_, _*_, _/_, _%_, _^_, _≤_, _<_, min}
-use native.Mathlib.Nat.{one-mul}
 use native.Mathlib.Numerals.{add-one}
 use native.Mathlib.Omega.{arith}
 use lib.ListN.{length, take, drop, replicate}
 use lib.Pow.{shl-exact}
-use borrow.Author.Tests.{lt-ltb}
 use Rattle.octets.specs.Octets.{cut, zeroHash}
 use Rattle.octets.specs.OctetsLaws.{cut-short}
 use Rattle.sha256.specs.Sha256.{sha256, pairHash}
-use Rattle.tree.specs.Geometry.{blockLength, ceilDiv, blockCount, height, covering, blockSize}
-use Rattle.tree.specs.GeometryLaws.{height-halves, height-least, covering-leaves}
-use Rattle.tree.specs.Values.{node, padValue, blockOf, leafOf, layerLeaf}
-use Rattle.tree.specs.ValuesLaws.{node-leaf, leaf-block, leaf-padding, layer-padding}
+use Rattle.tree.specs.Geometry.{blockLength, ceilDiv, blockCount, height, blockSize}
+use Rattle.tree.specs.GeometryLaws.{height-halves, height-least}
+use Rattle.tree.specs.Values.{padValue, blockOf, leafOf}
+use Rattle.tree.specs.ValuesLaws.{leaf-block, leaf-padding}
 
 -- ---- height
 
@@ -61,19 +59,3 @@ leaf-hashed file h i s l e f =
 
 pub leaf-past : (file h : List ℕ) (i : ℕ) → blockCount (length file) ≤ i → h ≡ padValue 0 → h ≡ leafOf file i
 leaf-past file h i l e = e ∙ sym (leaf-padding file i l)
-
--- ---- layer_node
-
--- at layer 0 every position that isn't padding is a hash of the string
-pub at-leaves : (b k j c : ℕ) → c ≡ covering b k → k ≡ 0 → j < c → j < b
-at-leaves b k j c e z l = omega (arith, covering-leaves b, ap (covering b) z)
-
-pub layer-past : (layer h : List ℕ) (p k j c : ℕ) → c ≡ covering (length layer / 32) k → c ≤ j → h ≡ padValue (p + k)
-    → h ≡ node (layerLeaf layer p) k j
-layer-past layer h p k j c e l g = g ∙ sym (layer-padding layer p k j (omega arith))
-
-pub layer-read : (layer h : List ℕ) (p k j c : ℕ) → c ≡ covering (length layer / 32) k → k ≡ 0 → j < c → h ≡ cut layer (32 * j) 32
-    → h ≡ node (layerLeaf layer p) k j
-unfolding layerLeaf
-layer-read layer h p k j c e z l g =
-    node-leaf (layerLeaf layer p) h k j z (rw (lt-ltb j (length layer / 32) (at-leaves (length layer / 32) k j c e z l)) g)

@@ -153,11 +153,6 @@ height-fits b l = height-least b 64 (omega arith)
 
 -- ---- padding
 
--- the leaves that aren't padding are the blocks
-pub covering-leaves : (b : ℕ) → covering b 0 ≡ b
-unfolding covering ceilDiv
-covering-leaves b = omega arith
-
 -- one layer up the positions that aren't padding halve, rounded up
 pub covering-halves : (b l : ℕ) → covering b (suc l) ≡ ceilDiv (covering b l) 2
 unfolding covering
@@ -212,17 +207,6 @@ covering-step b l p = ceil-step b (2 ^ l) p (λ e. omega (arith, pow-pos l))
 pub covering-most : (b l : ℕ) → covering b l ≤ b
 unfolding covering
 covering-most b l = ceil-least b (2 ^ l) b (pow-pos l) (omega (arith, mul-le-mul-left b (pow-pos l), mul-one b))
-
--- the left child of a position that isn't padding isn't padding
-pub covering-left : (b k j : ℕ) → (k ≡ 0 → ⊥) → j < covering b k → 2 * j < covering b (k - 1)
-covering-left b zero j n h = absurd (n refl)
-covering-left b (suc k) j n h =
-    let e : suc k - 1 ≡ k = omega arith in
-    rw e (omega (arith, ceil-below (covering b k) 2 j (omega arith) (omega (arith, covering-halves b k))))
-
--- so the number of a position that isn't padding is, above the leaves, below half the blocks
-pub covering-doubled : (b k j : ℕ) → (k ≡ 0 → ⊥) → j < covering b k → 2 * j < b
-covering-doubled b k j n h = omega (arith, covering-left b k j n h, covering-most b (k - 1))
 
 -- the positions that aren't padding lie within the layer
 pub covering-within : (b l : ℕ) → l ≤ height b → covering b l ≤ 2 ^ (height b - l)

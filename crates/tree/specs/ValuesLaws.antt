@@ -143,14 +143,6 @@ pub layer-leaf-past : (layer : List ℕ) (p c i : ℕ) → length layer ≡ 32 *
 unfolding layerLeaf
 layer-leaf-past layer p c i e h = rw (le-ltb i (length layer / 32) (omega arith))
 
--- where the layer's string has no hash any more, the nodes above have the padding value of their layer
-pub layer-padding : (layer : List ℕ) (p k j : ℕ) → covering (length layer / 32) k ≤ j → node (layerLeaf layer p) k j ≡ padValue (p + k)
-unfolding layerLeaf Padding
-layer-padding layer p k j h =
-    node-padding (layerLeaf layer p) p (length layer / 32)
-    (λ i l. rw (le-ltb i (length layer / 32) l))
-    k j (padding-from-covering (length layer / 32) k j h)
-
 -- the nodes above a layer, worked out from the string of its hashes that aren't padding, are the nodes of the file
 pub node-of-layer : (file layer : List ℕ) (p : ℕ) → length layer ≡ 32 * covering (blockCount (length file)) p
     → ((i : ℕ) → i < covering (blockCount (length file)) p → cut layer (32 * i) 32 ≡ node (leafOf file) p i)

@@ -1,9 +1,11 @@
-//! What is measured: each job by plain Rust, by careful Rust, and by the library. Plain Rust is first, and the others are
-//! compared with it. Each run checks that its version gives what all of them have to.
+//! What is measured: each job by plain Rust, by careful Rust, by Rust that hashes eight at a time as the library does, and by
+//! the library. Plain Rust is first, and the others are compared with it. Each run checks that its version gives what all of
+//! them have to.
 
 use crate::measure::{Prepared, Work};
+use crate::plain::{self, Hasher};
 use crate::scene::{Scene, Size, LARGEST, ONE_GIB, PIECE};
-use crate::{careful, plain, writer};
+use crate::{careful, lanes, writer};
 use host_tests::lists::{self, Planned};
 use host_tests::shapes;
 use reference::limits::{BLOCK, LONGEST_FILE, RECORD};
@@ -31,20 +33,24 @@ const LISTED: [&str; 3] = [shapes::ORDINARY, "empty-files", "28-elements"];
 /// All jobs.
 pub fn all() -> Vec<Job> {
     let mut jobs = vec![
-        job("sha-1MiB", "kd_sha256", "", 1 << 20, || hashing(1 << 20)).not_counted(),
-        job("sha-64KiB", "kd_sha256", "0.78", 65536, || hashing(65536)),
-        job("sha-16KiB", "kd_sha256", "", 16384, || hashing(16384)).not_counted(),
-        job("take", "kd_take", "1.42", ONE_GIB.reply(), || taking(ONE_GIB)),
+        one_by_one("sha-1MiB", "kd_sha256", "", 1 << 20, || hashing(1 << 20)).not_counted(),
+        one_by_one("sha-64KiB", "kd_sha256", "0.78", 65536, || hashing(65536)),
+        one_by_one("sha-16KiB", "kd_sha256", "", 16384, || hashing(16384)).not_counted(),
+        job("take", "kd_take", "0.50", ONE_GIB.reply(), || taking(ONE_GIB)),
         job("take-again", "kd_take", "", ONE_GIB.reply(), taking_again),
         job("serve", "kd_serve", "1.5", ONE_GIB.reply(), || serving(ONE_GIB)),
-        job("take-8192", "kd_take", "", LARGEST.reply(), || taking(LARGEST)),
+        job("take-8192", "kd_take", "0.75", LARGEST.reply(), || taking(LARGEST)),
         job("serve-8192", "kd_serve", "", LARGEST.reply(), || serving(LARGEST)),
         in_library("open-16GiB", "none", "kd_open", "", largest_store(), opening),
-        in_library("layer-16GiB", "one-by-one", "kd_load_layer", "", 32 * LONGEST_LAYER, loading),
-        job("piece-1MiB", "kd_judge_piece", "0.78", PIECE as usize, judging),
+        in_library("layer-16GiB", "one-by-one", "kd_load_layer", "", 32 * LONGEST_LAYER, loading_longest),
+        job("piece-1MiB", "kd_judge_piece", "0.36", PIECE as usize, judging),
+        job("load-layer", "kd_load_layer", "0.70", 32 * PIECES, loading),
+        job("history-256KiB", "kd_history_more", "0.40", LOGGED, logging_in_rust),
     ];
+    #[cfg(has_hash8)]
+    jobs.push(job("eight-blocks", "lanes::hash8", "0.36", 8 * 16384, eight_blocks));
     #[cfg(has_pair)]
-    jobs.push(job("1024-pairs", "sha256::pair", "0.70", 64 * pairs::COUNT, pairs::pairing));
+    jobs.push(one_by_one("1024-pairs", "sha256::pair", "0.70", 64 * pairs::COUNT, pairs::pairing));
     jobs.extend([
         in_library("bursts-1MiB", "at-once", "kd_hashing_more", "1.05", 1 << 20, bursts),
         in_library("bursts-1-byte", "none", "kd_hashing_more", "", 1, one_byte),
@@ -65,8 +71,19 @@ fn job(
     bytes: usize,
     ready: impl Fn() -> Vec<Box<dyn Work>> + 'static,
 ) -> Job {
-    let versions = vec!["plain-rust", "careful-rust", entry_point];
+    let versions = vec!["plain-rust", "careful-rust", "eight-lane-rust", entry_point];
     Job { name: name.to_string(), entry_point, asked, bytes, is_counted: true, versions, ready: Box::new(ready) }
+}
+
+/// A job of hashes that come one after the other, so that none are side by side.
+fn one_by_one(
+    name: &'static str,
+    entry_point: &'static str,
+    asked: &'static str,
+    bytes: usize,
+    ready: impl Fn() -> Vec<Box<dyn Work>> + 'static,
+) -> Job {
+    Job { versions: vec!["plain-rust", "careful-rust", entry_point], ..job(name, entry_point, asked, bytes, ready) }
 }
 
 /// A job that has the library alone: an entry point, and other calls that do the same.
@@ -81,10 +98,13 @@ fn in_library(
     Job { versions: vec![others, entry_point], ..job(name, entry_point, asked, bytes, ready) }
 }
 
-/// A job on a torrent of one shape, asked for the ratio if it is the ordinary one.
+/// The ratios asked of reading a torrent.
+const ASKED: [(&str, &str); 3] = [(shapes::ORDINARY, "3.0"), ("one-layer", "0.36"), ("many-layers", "1.8")];
+
+/// A job on a torrent of one shape.
 fn on_torrent(shape: &shapes::Shape, entry_point: &'static str, ready: fn(Vec<u8>, u32) -> Vec<Box<dyn Work>>) -> Job {
     let (make, number) = (shape.make, shape.number);
-    let asked = if shape.name == shapes::ORDINARY { "3.0" } else { "" };
+    let asked = ASKED.iter().find(|(name, _)| *name == shape.name).map_or("", |(_, asked)| *asked);
     let job = job(shape.name, entry_point, asked, 1 << 20, move || ready(make(), number));
     let name = format!("{}:{}", &entry_point["kd_torrent_".len()..], shape.name);
     Job { name, versions: vec!["plain-rust", entry_point], ..job }
@@ -106,8 +126,13 @@ impl Job {
 
 type Sha256 = fn(&[u8]) -> Hash;
 
-/// The two versions in Rust differ in their SHA-256 only.
-const IN_RUST: [Sha256; 2] = [sha256, careful::sha256];
+/// The versions in Rust differ in their SHA-256 only; the last one hashes what is left over from eight as careful Rust does.
+const IN_RUST: [Hasher; 3] = [
+    Hasher { one: sha256, eight: None },
+    Hasher { one: careful::sha256, eight: None },
+    Hasher { one: careful::sha256, eight: Some(lanes::hash8) },
+];
+const ONE_BY_ONE: [Sha256; 2] = [sha256, careful::sha256];
 
 fn work<S: 'static>(state: S, prepare: fn(&mut S), run: fn(&mut S)) -> Box<dyn Work> {
     Box::new(Prepared { state, prepare, run })
@@ -121,7 +146,7 @@ fn hashing(size: usize) -> Vec<Box<dyn Work>> {
     let of_version =
         |hash: Sha256| work((hash, bytes(size)), |_| (), |(hash, data)| _ = black_box(hash(black_box(data))));
     let by_library: Sha256 = |data| boundary::sha256(data).hash.bytes;
-    IN_RUST.into_iter().chain([by_library]).map(of_version).collect()
+    ONE_BY_ONE.into_iter().chain([by_library]).map(of_version).collect()
 }
 
 /// SHA-256 in bursts of 16 KiB, against the same bytes at once.
@@ -183,6 +208,52 @@ fn logging() -> Vec<Box<dyn Work>> {
     vec![one_by_one, in_bursts]
 }
 
+/// A history of 16 MiB in bursts of 256 KiB, against its blocks and pairs hashed at once in Rust.
+fn logging_in_rust() -> Vec<Box<dyn Work>> {
+    let in_rust = IN_RUST.map(|hasher| {
+        work(
+            (hasher, bytes(LOGGED)),
+            |_| (),
+            |(hasher, data)| _ = black_box(hasher.root(hasher.parts(black_box(data), 16384))),
+        )
+    });
+    let in_bursts = work(
+        (bytes(LOGGED), vec![0; 32 * LOGGED / LOGGED_PIECE]),
+        |_| (),
+        |(data, layer)| {
+            let mut state = boundary::history_begin(LOGGED_PIECE as u64).state;
+            for burst in data.chunks(256 << 10) {
+                state = boundary::history_more(state, burst, layer).state;
+            }
+            assert_eq!(black_box(boundary::history_end(state, layer)).length, LOGGED as u64);
+        },
+    );
+    in_rust.into_iter().chain([in_bursts]).collect()
+}
+
+/// The pieces of a file of 1 GiB, each a block.
+const PIECES: usize = 65536;
+
+/// Loading a piece layer of so many into a store that holds the root alone.
+fn loading() -> Vec<Box<dyn Work>> {
+    let hashes: Vec<Hash> = (0..PIECES).map(|i| [i as u8 ^ (i >> 8) as u8; 32]).collect();
+    let (length, layer, root) = (16384 * PIECES as u64, hashes.concat(), IN_RUST[2].root(hashes));
+    let in_rust = IN_RUST.map(|hasher| {
+        let store = plain::Store::open(length, 16384, root, hasher);
+        let forget = |(store, _): &mut (plain::Store, Vec<u8>)| store.nodes[2..].fill(None);
+        work((store, layer.clone()), forget, |(store, layer)| {
+            assert_eq!(store.load_layer(black_box(layer)), Some(2 * PIECES as u64 - 2));
+        })
+    });
+    let mut store = vec![0; boundary::store_size(length, 16384).count as usize];
+    boundary::open(&mut store, length, 16384, boundary::Hash { bytes: root });
+    let forget = |(store, _): &mut (Vec<u8>, Vec<u8>)| store[64 + 33..].fill(0);
+    let in_library = work((store, layer), forget, |(store, layer)| {
+        assert_eq!(boundary::load_layer(store, black_box(layer)).count, 2 * PIECES as u64 - 2);
+    });
+    in_rust.into_iter().chain([in_library]).collect()
+}
+
 /// A thousand bursts of a byte, each from the empty history, against none.
 fn one_byte_logged() -> Vec<Box<dyn Work>> {
     let once = || {
@@ -241,6 +312,40 @@ mod pairs {
     }
 }
 
+/// Eight blocks of 16 KiB. The library's function for it is not exported either, and takes a slice by where it stands.
+#[cfg(has_hash8)]
+fn eight_blocks() -> Vec<Box<dyn Work>> {
+    #[repr(C)]
+    struct Slice {
+        start: *const u8,
+        size: usize,
+    }
+    extern "C" {
+        #[link_name = "lanes::hashes::hash8"]
+        fn library_hash8(hashes: &mut [u8; 256], data: &Slice);
+    }
+    let data = bytes(8 * 16384);
+    let hashes = IN_RUST[0].parts(&data, 16384);
+    let in_rust = IN_RUST.map(|hasher| {
+        work(
+            (hasher, data.clone(), hashes.clone()),
+            |_| (),
+            |(hasher, data, hashes)| assert_eq!(black_box(hasher.parts(black_box(data), 16384)), *hashes),
+        )
+    });
+    let in_library = work(
+        (data, hashes.concat()),
+        |_| (),
+        |(data, hashes)| {
+            let mut given = [0; 256];
+            // SAFETY: it reads the bytes that are lent, and writes eight hashes.
+            unsafe { library_hash8(&mut given, &Slice { start: data.as_ptr(), size: data.len() }) };
+            assert_eq!(black_box(given), hashes[..])
+        },
+    );
+    in_rust.into_iter().chain([in_library]).collect()
+}
+
 /// A store in plain Rust with what a job needs beside it.
 struct InRust {
     store: plain::Store,
@@ -258,14 +363,14 @@ struct InLibrary {
 }
 
 impl InRust {
-    fn new(scene: &Scene, sha256: Sha256, message: Vec<u8>) -> InRust {
-        let store = plain::Store::open(scene.facts.length, PIECE, scene.facts.root, sha256);
+    fn new(scene: &Scene, hasher: Hasher, message: Vec<u8>) -> InRust {
+        let store = plain::Store::open(scene.facts.length, PIECE, scene.facts.root, hasher);
         InRust { store, message, nodes: scene.nodes(), reply: Vec::with_capacity(scene.size.reply()) }
     }
 
     /// With everything held that the reply settles.
-    fn told(scene: &Scene, sha256: Sha256, message: Vec<u8>) -> InRust {
-        let mut state = InRust::new(scene, sha256, message);
+    fn told(scene: &Scene, hasher: Hasher, message: Vec<u8>) -> InRust {
+        let mut state = InRust::new(scene, hasher, message);
         for (node, (_, hash)) in state.nodes.iter().zip(&scene.settled) {
             state.store.nodes[*node] = Some(*hash);
         }
@@ -319,20 +424,21 @@ impl InLibrary {
 /// Taking the reply on a store that holds its anchor, the root, and nothing else: all settled positions but one are new.
 fn taking(size: Size) -> Vec<Box<dyn Work>> {
     let scene = Scene::without_bytes(size);
-    let in_rust = IN_RUST.map(|sha256| {
-        let state = InRust::new(&scene, sha256, scene.reply());
+    let in_rust = IN_RUST.map(|hasher| {
+        let state = InRust::new(&scene, hasher, scene.reply());
         work(state, InRust::forget, |state| assert_eq!(state.take(), Some(state.nodes.len() as u64 - 1)))
     });
     let state = InLibrary::new(&scene, scene.opened(), scene.reply());
-    let in_library = work(state, InLibrary::forget, |state| assert_eq!(state.take().count, state.nodes.len() as u64 - 1));
+    let in_library =
+        work(state, InLibrary::forget, |state| assert_eq!(state.take().count, state.nodes.len() as u64 - 1));
     in_rust.into_iter().chain([in_library]).collect()
 }
 
 /// Taking it once more.
 fn taking_again() -> Vec<Box<dyn Work>> {
     let scene = Scene::without_bytes(ONE_GIB);
-    let in_rust = IN_RUST.map(|sha256| {
-        let state = InRust::told(&scene, sha256, scene.reply());
+    let in_rust = IN_RUST.map(|hasher| {
+        let state = InRust::told(&scene, hasher, scene.reply());
         work(state, |_| (), |state| assert_eq!(state.take(), Some(0)))
     });
     let state = InLibrary::new(&scene, scene.told(), scene.reply());
@@ -343,8 +449,8 @@ fn taking_again() -> Vec<Box<dyn Work>> {
 /// Serving the request that the reply answers.
 fn serving(size: Size) -> Vec<Box<dyn Work>> {
     let scene = Scene::without_bytes(size);
-    let in_rust = IN_RUST.map(|sha256| {
-        let state = InRust::told(&scene, sha256, scene.request());
+    let in_rust = IN_RUST.map(|hasher| {
+        let state = InRust::told(&scene, hasher, scene.request());
         work(state, |_| (), |state| assert!(state.serve() && state.reply.len() == state.reply.capacity()))
     });
     let state = InLibrary::new(&scene, scene.told(), scene.request());
@@ -358,8 +464,8 @@ fn judging() -> Vec<Box<dyn Work>> {
     let mut leaves: Vec<Hash> = piece.chunks(16384).map(sha256).collect();
     leaves.resize(ONE_GIB.run as usize, [1; 32]);
     let scene = Scene::new(ONE_GIB, leaves);
-    let in_rust = IN_RUST.map(|sha256| {
-        let state = InRust::told(&scene, sha256, piece.clone());
+    let in_rust = IN_RUST.map(|hasher| {
+        let state = InRust::told(&scene, hasher, piece.clone());
         work(state, |_| (), |state| assert!(state.judge()))
     });
     let state = InLibrary::new(&scene, scene.told(), piece.clone());
@@ -403,7 +509,7 @@ fn opening() -> Vec<Box<dyn Work>> {
 }
 
 /// Loading the longest layer, against its pairs hashed one by one up to the root.
-fn loading() -> Vec<Box<dyn Work>> {
+fn loading_longest() -> Vec<Box<dyn Work>> {
     let one_by_one = work(
         Longest::new(),
         |_| (),

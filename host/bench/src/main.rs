@@ -7,6 +7,7 @@
 
 mod careful;
 mod jobs;
+mod lanes;
 mod measure;
 mod plain;
 mod scene;

@@ -1,11 +1,14 @@
-use Rattle.history.specs.DecidingLaws.{fits-at, good-at, part-length}
-use mathlib.Core.List.{[]}
-use Rattle.history.proofs.Steps.{grown-turn, noted-turn, grown-none, noted-end}
-use Rattle.history.specs.Growing.{grownBy, notedBy}
+-- The loop's invariant: the state and the layer are those of the bytes before `at`, so what is left makes of them what the burst makes of the first.
+-- Assumes nothing.
 use Rattle.tree.specs.Geometry.{blockLength}
+use Rattle.history.specs.Growing.{grownBy, notedBy}
+use mathlib.Core.List.{[]}
+use Rattle.history.specs.DecidingLaws.{part-length}
+use Rattle.history.proofs.Steps.{grown-turn, noted-turn, grown-none, noted-end}
+use Rattle.history.proofs.Eights.{part-of, due-at}
 use borrow.Author.Needs.{needs}
 use native.Mathlib.Omega.{arith}
-use Prim.Native.Nat.{_+_, _-_, _≤_, _%_}
+use Prim.Native.Nat.{_+_, _-_, _≤_, _<_, _%_}
 use lib.ListN.{length, drop, drop-of-length-le}
 use mathlib.Core.Path.{_≡_, refl, sym, _∙_}
 use Rattle.history.proofs.run.Statement.{statement}
@@ -27,52 +30,54 @@ part-size-requires : tie.Need-part-size-requires Inv-loop μ-loop
 part-size-requires c κs = search needs
 
 add-end : tie.Need-add-end Inv-loop μ-loop
-add-end c = search needs
+add-end c = omega (arith, c .part-size .ensures .most)
 
-sub-grow : tie.Need-sub-grow Inv-loop μ-loop
-sub-grow c = search needs
+sub-take-part : tie.Need-sub-take-part Inv-loop μ-loop
+sub-take-part c = search needs
 
-part-grow-start : tie.Need-part-grow-start Inv-loop μ-loop
-part-grow-start c = search needs
+part-take-part-start : tie.Need-part-take-part-start Inv-loop μ-loop
+part-take-part-start c = search needs
 
-part-grow-end : tie.Need-part-grow-end Inv-loop μ-loop
-part-grow-end c = search needs
+part-take-part-end : tie.Need-part-take-part-end Inv-loop μ-loop
+part-take-part-end c = omega (arith, c .part-size .ensures .most)
 
-grow-requires : tie.Need-grow-requires Inv-loop μ-loop
-grow-requires c κs = let b = c .before .before .before .before .before .before in
-    let L = c .before .before .before .loop in
-    let n = c .before .part-size .result in
-    let l = part-length (b .args .burst .now) (L .at) n (omega (arith, c .before .part-size .ensures, L .inv .0, c .before .before .loop-test .taken)) in
-    (omega (arith, l, c .before .part-size .ensures, c .before .before .loop-test .taken), omega (arith, l, c .before .part-size .ensures), omega (arith, l, c .before .part-size .ensures, L .inv .2, b .pre .1), L .inv .3, L .inv .4)
-
-note-requires : tie.Need-note-requires Inv-loop μ-loop
-note-requires c κs = let b = c .before .before .before .before .before .before .before .before in
-    let L = c .before .before .before .before .before .loop in (
-      good-at (b .args .h) (L .t) (b .pre .0) (L .inv .1),
-      λ p e. omega (arith, L .inv .5, fits-at (b .args .h) (L .t) (length (b .args .burst .now)) (length (b .args .layer .now)) (b .pre .0) (b .pre .2) (L .inv .1) (omega (arith, L .inv .2)) (omega (arith, L .inv .2, c .before .before .before .before .loop-test .taken)) p e),
+take-part-requires : tie.Need-take-part-requires Inv-loop μ-loop
+take-part-requires c κs = let b = c .before .before .before .before .before .before .before in
+    let L = c .before .before .before .before .loop in
+    let n = c .before .before .part-size .result in
+    let s = c .before .before .part-size .ensures in
+    let on : L .at < length (b .args .burst .now) = c .before .before .before .loop-test .taken in
+    let within : L .at + n ≤ length (b .args .burst .now) = omega (arith, s .most) in
+    let l = part-length (b .args .burst .now) (L .at) n within in
+    let q = s .some (omega arith) in (
+      omega (arith, l, q),
+      omega (arith, l, L .inv .2, b .pre .1),
+      part-of (L .t) _ n _ s l (L .inv .3) (L .inv .4),
+      due-at (b .args .h) (L .t) (length (b .args .burst .now)) (length (b .args .layer .now)) _ _ (b .pre .0) (b .pre .2) (L .inv .1) (omega (arith, L .inv .2)) (omega (arith, L .inv .2, l)) (L .inv .5),
     )
 
 loop-less : tie.Need-loop-less Inv-loop μ-loop
-loop-less c = omega (arith, c .before .before .before .before .before .before .part-size .ensures, c .before .before .before .before .before .before .before .loop-test .taken)
+loop-less c = omega (arith, c .before .before .before .before .before .part-size .ensures .some (omega arith), c .before .before .before .before .before .part-size .ensures .most)
 
 loop-again : tie.Need-loop-again Inv-loop μ-loop
-loop-again c = let b = c .before .before .before .before .before .before .before .before .before .before .before in
-    let L = c .before .before .before .before .before .before .before .before .loop in
-    let n = c .before .before .before .before .before .before .part-size .result in
-    let g = c .before .before .before .before .grow .ensures in
-    let e = L .at + n in
-    let within : L .at + n ≤ length (b .args .burst .now) = omega (arith, c .before .before .before .before .before .before .part-size .ensures, L .inv .0, c .before .before .before .before .before .before .before .loop-test .taken) in
+loop-again c = let b = c .before .before .before .before .before .before .before .before .before .before in
+    let L = c .before .before .before .before .before .before .before .loop in
+    let n = c .before .before .before .before .before .part-size .result in
+    let s = c .before .before .before .before .before .part-size .ensures in
+    let on : L .at < length (b .args .burst .now) = c .before .before .before .before .before .before .loop-test .taken in
+    let within : L .at + n ≤ length (b .args .burst .now) = omega (arith, s .most) in
     let l = part-length (b .args .burst .now) (L .at) n within in
-    let on : L .at ≤ L .at + n = omega arith in (
+    let g = c .before .before .take-part .ensures in
+    let e = L .at + n in
+    let up : L .at ≤ L .at + n = omega arith in (
       within,
-      g .1 ∙ L .inv .1,
-      omega (arith, g .2, l, L .inv .2),
-      g .3,
-      g .4,
-      c .before .before .note .kept .1 .0 ∙ L .inv .5,
-      grown-turn (b .args .h) (L .t) (c .before .before .before .before .grow .result) (b .args .burst .now) (L .at) e on (L .inv .6) (g .0),
-      noted-turn (b .args .h) (L .t) (c .before .before .before .before .grow .result) (b .args .burst .now) (b .args .layer .now) (L .layer) (c .before .before .note .last .1 .0) (L .at) e on (L .inv .7) (g .0)
-          (good-at (b .args .h) (L .t) (b .pre .0) (L .inv .1)) (omega (arith, l, c .before .before .before .before .before .before .part-size .ensures, c .before .before .before .before .before .before .before .loop-test .taken)) (omega (arith, l, c .before .before .before .before .before .before .part-size .ensures)) (c .before .before .note .ensures),
+      g .kept ∙ L .inv .1,
+      omega (arith, g .length-then, l, L .inv .2),
+      g .inside,
+      g .tail,
+      c .before .before .take-part .kept .1 .1 .0 ∙ L .inv .5,
+      grown-turn (b .args .h) (L .t) (c .before .before .take-part .result) (b .args .burst .now) (L .at) e up (L .inv .6) (g .state),
+      noted-turn (b .args .h) (L .t) (c .before .before .take-part .result) (b .args .burst .now) (b .args .layer .now) (L .layer) (c .before .before .take-part .last .1 .1 .0) (L .at) e up (L .inv .7) (g .state) (g .noted),
     )
 
 same-length : tie.Need-same-length Inv-loop μ-loop
@@ -93,11 +98,10 @@ run-spec =
     sub-part-size
     part-size-requires
     add-end
-    sub-grow
-    part-grow-start
-    part-grow-end
-    grow-requires
-    note-requires
+    sub-take-part
+    part-take-part-start
+    part-take-part-end
+    take-part-requires
     loop-less
     loop-again
     same-length

@@ -1,6 +1,6 @@
 -- The first i words have their round words added, and those from i on are as they were.
 -- Assumes nothing.
-use Rattle.rounds.proofs.Schedule.{sums-more}
+use Rattle.rounds.specs.StageLaws.{sums-more}
 use lib.Seq.{getD-set-other, take-all}
 use Rattle.rounds.specs.Sums.{sums}
 use borrow.Author.Needs.{needs}

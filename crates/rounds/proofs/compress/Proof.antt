@@ -4,7 +4,7 @@ use Rattle.rounds.specs.SumsLaws.{compress-by-sums}
 use Rattle.rounds.specs.Sums.{sums, roundsBy}
 use Rattle.rounds.specs.Block.{plus}
 use mathlib.Core.List.{List}
-use Rattle.rounds.proofs.Schedule.{length-schedule}
+use Rattle.rounds.specs.StageLaws.{length-schedule}
 use Prim.Native.Nat.{ℕ, _-_}
 use lib.ListN.{length, take, drop}
 use mathlib.Core.Path.{ap, _∙_}

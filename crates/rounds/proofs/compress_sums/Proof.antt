@@ -1,6 +1,6 @@
 -- After i rounds the state is that of the first i rounds by the sums.
 -- Assumes nothing.
-use Rattle.rounds.proofs.Schedule.{roundsBy-at}
+use Rattle.rounds.specs.StageLaws.{roundsBy-at}
 use Rattle.rounds.specs.Block.{plus}
 use Rattle.rounds.specs.Sums.{roundsBy}
 use borrow.Author.Needs.{needs}

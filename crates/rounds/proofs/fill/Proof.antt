@@ -1,6 +1,6 @@
 -- With i words made, the first 16 + i are the schedule's.
 -- Assumes nothing.
-use Rattle.rounds.proofs.Schedule.{stage-first, stage-last, stage-at}
+use Rattle.rounds.specs.StageLaws.{stage-first, stage-last, stage-at}
 use Rattle.rounds.specs.Stage.{Stage}
 use borrow.Author.Needs.{needs}
 use native.Mathlib.Omega.{arith}

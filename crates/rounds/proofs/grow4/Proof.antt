@@ -1,4 +1,4 @@
-use Rattle.rounds.proofs.Schedule.{stage-step}
+use Rattle.rounds.specs.StageLaws.{stage-step}
 use native.Mathlib.Omega.{arith}
 use Prim.Native.Nat.{_+_, _-_}
 use mathlib.Core.Path.{refl}

@@ -1,5 +1,5 @@
 use lib.ListN.{length-set}
-use Rattle.rounds.proofs.Schedule.{words-more, word-in}
+use Rattle.rounds.specs.StageLaws.{words-more, word-in}
 use Rattle.rounds.specs.Block.{words}
 use borrow.Author.Needs.{needs}
 use native.Mathlib.Omega.{arith}

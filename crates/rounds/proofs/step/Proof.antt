@@ -1,4 +1,4 @@
-use Rattle.rounds.proofs.Schedule.{roundsBy-more}
+use Rattle.rounds.specs.StageLaws.{roundsBy-more}
 use Prim.Native.Nat.{_-_}
 use mathlib.Core.Path.{_∙_}
 use borrow.Author.Needs.{needs}

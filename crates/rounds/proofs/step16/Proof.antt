@@ -1,4 +1,4 @@
-use Rattle.rounds.proofs.Schedule.{roundsBy-at}
+use Rattle.rounds.specs.StageLaws.{roundsBy-at}
 use native.Mathlib.Omega.{arith}
 use Prim.Native.Nat.{_+_, _-_}
 use borrow.Author.Needs.{needs}

@@ -1,7 +1,7 @@
 use Rattle.octets.specs.Octets.{zeroHash}
 use Rattle.messages.specs.Take.{anchor}
 use Rattle.header.specs.Header.{headerSize}
-use Rattle.messages.proofs.Taking.{run-part, uncles-part, compared-by, ready-way, ready-anchor}
+use Rattle.messages.proofs.Taking.{run-part, uncles-part, heaped-given, compared-by, ready-way, ready-anchor}
 use Prim.Native.Nat.{_+_, _-_, _*_}
 use lib.ListN.{length}
 use mathlib.Core.Path.{refl}
@@ -39,18 +39,18 @@ part-hashes-start c = search needs
 part-hashes-end : tie.Need-part-hashes-end
 part-hashes-end c = search needs
 
-look-run-requires : tie.Need-look-run-requires
-look-run-requires c κs = search needs
+look-parts-requires : tie.Need-look-parts-requires
+look-parts-requires c κs = search needs
 
 climb-requires : tie.Need-climb-requires
-climb-requires c κs = let a = c .before .before .before .before .before .before .args in
+climb-requires c κs = let a = c .before .before .before .before .before .before .before .before .before .before .args in
     let e = headerSize + 32 * a .x .len in
-    ready-way (length (a .s .now)) (a .m .now) (a .n) (a .x) (a .p) (c .before .before .before .before .before .before .pre .0) (length (a .s .now)) refl _ (uncles-part (a .m .now) (a .x .len) (a .p .u) e (e + 32 * a .p .u) refl refl)
+    ready-way (length (a .s .now)) (a .m .now) (a .n) (a .x) (a .p) (c .before .before .before .before .before .before .before .before .before .before .pre .0) (length (a .s .now)) refl _ (uncles-part (a .m .now) (a .x .len) (a .p .u) e (e + 32 * a .p .u) refl refl)
 
 hash-of-requires : tie.Need-hash-of-requires
 unfolding anchor
-hash-of-requires c κs = let a = c .before .before .before .before .before .before .before .before .args in
-    ready-anchor (length (a .s .now)) (a .m .now) (a .n) (a .x) (a .p) (c .before .before .before .before .before .before .before .before .pre .0) (a .a) (c .before .before .before .before .before .before .before .before .pre .1)
+hash-of-requires c κs = let a = c .before .before .before .before .before .before .before .before .before .before .before .before .args in
+    ready-anchor (length (a .s .now)) (a .m .now) (a .n) (a .x) (a .p) (c .before .before .before .before .before .before .before .before .before .before .before .before .pre .0) (a .a) (c .before .before .before .before .before .before .before .before .before .before .before .before .pre .1)
 
 same-requires : tie.Need-same-requires
 same-requires c κs = search needs
@@ -61,14 +61,22 @@ both-requires c κs = search needs
 judged-number-requires : tie.Need-judged-number-requires
 judged-number-requires c κs = search needs
 
+same-length : tie.Need-same-length
+same-length c = search needs
+
 returns : tie.Need-returns
 unfolding zeroHash
-returns c = let a = c .before .before .before .before .before .before .before .before .before .before .before .before .args in
-    let r = c .before .before .before .before .before .before .before .before .before .before .before .before .pre .0 in
+returns c = let a = c .before .before .before .before .before .before .before .before .before .before .before .before .before .before .before .before .args in
+    let r = c .before .before .before .before .before .before .before .before .before .before .before .before .before .before .before .before .pre .0 in
     let e = headerSize + 32 * a .x .len in
-    compared-by (a .m .now) (a .x) (a .p) (r .carried .power) _ _ _ (run-part (a .m .now) (a .x .len) e refl) refl (uncles-part (a .m .now) (a .x .len) (a .p .u) e (e + 32 * a .p .u) refl refl)
-    (a .s .now) (c .before .before .before .before .before .before .before .look-run .result .hash) (c .before .before .before .before .before .before .before .look-run .result .agrees) (c .before .before .before .before .before .climb .result .hash) (c .before .before .before .before .before .climb .result .agrees) (a .a) (c .before .before .before .hash-of .result) (c .before .before .same .result) (c .before .both .result) (c .judged-number .result)
-    (c .before .before .before .before .before .before .before .look-run .ensures) (c .before .before .before .before .before .climb .ensures) (c .before .before .before .hash-of .ensures) (c .before .before .same .ensures) (c .before .both .ensures) (c .judged-number .ensures)
+    let run = run-part (a .m .now) (a .x .len) e refl in
+    let hashes = uncles-part (a .m .now) (a .x .len) (a .p .u) e (e + 32 * a .p .u) refl refl in
+    let low = c .before .before .before .before .before .before .before .before .before .look-parts in (
+      compared-by (a .m .now) (a .x) (a .p) (r .carried .power) _ _ _ run refl hashes
+          (a .s .now) (low .result .hash) (low .result .agrees) (c .before .before .before .before .before .climb .result .hash) (c .before .before .before .before .before .climb .result .agrees) (a .a) (c .before .before .before .hash-of .result) (c .before .before .same .result) (c .before .both .result) (c .judged-number .result)
+          (low .ensures .0, low .ensures .1) (c .before .before .before .before .before .climb .ensures) (c .before .before .before .hash-of .ensures) (c .before .before .same .ensures) (c .before .both .ensures) (c .judged-number .ensures),
+      heaped-given (a .m .now) (a .x) (a .p) (r .carried .power) _ _ _ run refl hashes _ (low .ensures .2),
+    )
 
 pub compare-spec : {M : Type 1} → statement M
 compare-spec =
@@ -84,10 +92,11 @@ compare-spec =
     sub-hashes
     part-hashes-start
     part-hashes-end
-    look-run-requires
+    look-parts-requires
     climb-requires
     hash-of-requires
     same-requires
     both-requires
     judged-number-requires
+    same-length
     returns)

@@ -1,12 +1,12 @@
-use Rattle.messages.specs.Take.{placeIn}
+use Rattle.messages.specs.Take.{bodyNumber, placeIn}
 use Rattle.store.specs.Store.{heightOf}
 use Rattle.header.specs.Header.{placeOf}
 use Rattle.header.specs.declared.Header.{Header}
 use Rattle.store.specs.StoreLaws.{usable-facts}
 use Rattle.numbers.specs.Numbers.{ruleBroken}
 use borrow.Author.Tests.{not-true, not-false}
-use Rattle.messages.proofs.Taking.{took-header, took-body}
-use Rattle.messages.specs.TakenLaws.{taken-ready, take-refused, take-done}
+use Rattle.messages.proofs.Taking.{took-header, took-body, took}
+use Rattle.messages.specs.TakenLaws.{take-refused}
 use Rattle.messages.specs.TakeLaws.{hashes-form, placed, first-refused, first-passed, rules-broken, rules-passed, rules-done}
 use native.Mathlib.Omega.{arith}
 use Prim.Native.Nat.{_-_}
@@ -58,37 +58,30 @@ blocks-of-requires c κs = usable-facts (c .before .before .before .before .befo
 positions-of-requires : tie.Need-positions-of-requires
 positions-of-requires c κs = first-passed (c .before .before .before .before .before .before .before .before .before .before .before .before .is-hashes .result) (c .before .before .before .before .before .before .before .before .before .before .before .before .before .before .before .args .s .now) (c .before .before .before .before .before .before .before .before .before .before .before .before .before .before .before .args .m .now) (c .before .before .before .before .before .before .before .before .before .before .first-number .result) (c .before .before .before .before .before .before .before .before .before .before .first-number .ensures) (c .before .before .before .before .before .before .before .before .before .if1 .left) .0
 
-body-number-requires : tie.Need-body-number-requires
-body-number-requires c κs = let P = rules-passed (c .before .before .before .before .before .before .before .before .before .before .before .before .before .before .is-hashes .result) (c .before .before .before .before .before .before .before .before .before .before .before .before .before .before .before .before .before .args .s .now) (c .before .before .before .before .before .before .before .before .before .before .before .before .before .before .before .before .before .args .m .now) (c .before .before .before .before .before .before .before .before .before .before .before .before .first-number .result) (c .before .before .before .before .before .before .before .before .before .before .before .before .first-number .ensures) (c .before .before .before .before .before .before .before .before .before .before .before .if1 .left) (c .before .before .before .before .before .before .before .before .before .before .header-of .result) (c .before .before .before .before .before .before .before .before .rules-in .result) (c .before .before .before .before .before .before .before .before .before .before .header-of .ensures .0) (c .before .before .before .before .before .before .before .before .rules-in .ensures) (not-false _ (c .before .before .before .before .before .before .before .if2 .left)) in
+take-body-requires : tie.Need-take-body-requires
+take-body-requires c κs = let P = rules-passed (c .before .before .before .before .before .before .before .before .before .before .before .before .before .before .is-hashes .result) (c .before .before .before .before .before .before .before .before .before .before .before .before .before .before .before .before .before .args .s .now) (c .before .before .before .before .before .before .before .before .before .before .before .before .before .before .before .before .before .args .m .now) (c .before .before .before .before .before .before .before .before .before .before .before .before .first-number .result) (c .before .before .before .before .before .before .before .before .before .before .before .before .first-number .ensures) (c .before .before .before .before .before .before .before .before .before .before .before .if1 .left) (c .before .before .before .before .before .before .before .before .before .before .header-of .result) (c .before .before .before .before .before .before .before .before .rules-in .result) (c .before .before .before .before .before .before .before .before .before .before .header-of .ensures .0) (c .before .before .before .before .before .before .before .before .rules-in .ensures) (not-false _ (c .before .before .before .before .before .before .before .if2 .left)) in
     let ep : c .before .before .before .before .before .place-in .result ≡ placeIn (c .before .before .before .before .before .before .before .before .before .before .before .before .before .before .before .before .before .args .s .now) (c .before .before .before .before .before .before .before .before .before .before .before .before .before .before .before .before .before .args .m .now) = c .before .before .before .before .before .place-in .ensures ∙ ap (λ (y : Header). placeOf y (heightOf (c .before .before .before .before .before .before .before .before .before .before .before .before .before .before .before .before .before .args .s .now))) (c .before .before .before .before .before .before .before .before .before .before .header-of .ensures .0) in (
       rw (c .before .positions-of .ensures, c .before .before .before .before .before .before .before .before .before .before .header-of .ensures .0, ep) (placed (c .before .before .before .before .before .before .before .before .before .before .before .before .before .before .is-hashes .result) (c .before .before .before .before .before .before .before .before .before .before .before .before .before .before .before .before .before .args .s .now) (c .before .before .before .before .before .before .before .before .before .before .before .before .before .before .before .before .before .args .m .now) P),
       omega (arith, c .before .positions-of .ensures, usable-facts (c .before .before .before .before .before .before .before .before .before .before .before .before .before .before .before .before .before .args .s .now) (P .store) .room),
       c .before .before .before .blocks-of .ensures,
     )
 
-refusal-requires-3 : tie.Need-refusal-requires-3
-refusal-requires-3 c κs = search needs
-
 same-length-3 : tie.Need-same-length-3
 same-length-3 c = search needs
 
 returns-3 : tie.Need-returns-3
-returns-3 c = let d = take-refused (c .before .before .before .before .before .before .before .before .before .before .before .before .before .before .before .before .before .before .before .before .args .s .now) (c .before .before .before .before .before .before .before .before .before .before .before .before .before .before .before .before .before .before .before .before .args .m .now) (c .before .before .body-number .result) (took-body (c .before .before .before .before .before .before .before .before .before .before .before .before .before .before .before .before .before .before .before .before .args .s .now) (c .before .before .before .before .before .before .before .before .before .before .before .before .before .before .before .before .before .before .before .before .args .m .now) (c .before .before .before .before .before .before .before .before .before .before .before .before .before .before .before .before .before .is-hashes .result) 0 (c .before .before .before .before .before .before .before .before .before .before .before .before .before .before .before .before .before .is-hashes .ensures) (rules-done (c .before .before .before .before .before .before .before .before .before .before .before .before .before .before .before .before .before .is-hashes .result) (c .before .before .before .before .before .before .before .before .before .before .before .before .before .before .before .before .before .before .before .before .args .s .now) (c .before .before .before .before .before .before .before .before .before .before .before .before .before .before .before .before .before .before .before .before .args .m .now) (c .before .before .before .before .before .before .before .before .before .before .before .before .before .before .before .first-number .result) (c .before .before .before .before .before .before .before .before .before .before .before .before .before .before .before .first-number .ensures) (c .before .before .before .before .before .before .before .before .before .before .before .before .before .before .if1 .left) (c .before .before .before .before .before .before .before .before .before .before .before .before .before .header-of .result) (c .before .before .before .before .before .before .before .before .before .before .before .rules-in .result) (c .before .before .before .before .before .before .before .before .before .before .before .before .before .header-of .ensures .0) (c .before .before .before .before .before .before .before .before .before .before .before .rules-in .ensures) (not-false _ (c .before .before .before .before .before .before .before .before .before .before .if2 .left))) (c .before .before .body-number .result) (c .before .before .before .before .before .before .before .before .before .before .before .before .before .header-of .result) (c .before .before .before .before .before .before .before .before .place-in .result) refl (c .before .before .before .before .before .before .before .before .before .before .before .before .before .header-of .ensures .0) (c .before .before .before .before .before .before .before .before .place-in .ensures ∙ ap (λ (y : Header). placeOf y (heightOf (c .before .before .before .before .before .before .before .before .before .before .before .before .before .before .before .before .before .before .before .before .args .s .now))) (c .before .before .before .before .before .before .before .before .before .before .before .before .before .header-of .ensures .0)) (c .before .before .body-number .ensures)) (c .before .if3 .taken) in
-    (c .refusal3 .ensures ∙ d .0, d .1)
-
-write-requires : tie.Need-write-requires
-write-requires c κs = let ep : c .before .before .before .before .before .before .before .before .place-in .result ≡ placeIn (c .before .before .before .before .before .before .before .before .before .before .before .before .before .before .before .before .before .before .before .before .args .s .now) (c .before .before .before .before .before .before .before .before .before .before .before .before .before .before .before .before .before .before .before .before .args .m .now) = c .before .before .before .before .before .before .before .before .place-in .ensures ∙ ap (λ (y : Header). placeOf y (heightOf (c .before .before .before .before .before .before .before .before .before .before .before .before .before .before .before .before .before .before .before .before .args .s .now))) (c .before .before .before .before .before .before .before .before .before .before .before .before .before .header-of .ensures .0) in
-    rw (c .before .before .before .before .positions-of .ensures, c .before .before .before .before .before .before .before .before .before .before .before .before .before .header-of .ensures .0, ep) (taken-ready (c .before .before .before .before .before .before .before .before .before .before .before .before .before .before .before .before .before .before .before .before .args .s .now) (c .before .before .before .before .before .before .before .before .before .before .before .before .before .before .before .before .before .before .before .before .args .m .now) (c .before .before .body-number .result) (took-body (c .before .before .before .before .before .before .before .before .before .before .before .before .before .before .before .before .before .before .before .before .args .s .now) (c .before .before .before .before .before .before .before .before .before .before .before .before .before .before .before .before .before .before .before .before .args .m .now) (c .before .before .before .before .before .before .before .before .before .before .before .before .before .before .before .before .before .is-hashes .result) 0 (c .before .before .before .before .before .before .before .before .before .before .before .before .before .before .before .before .before .is-hashes .ensures) (rules-done (c .before .before .before .before .before .before .before .before .before .before .before .before .before .before .before .before .before .is-hashes .result) (c .before .before .before .before .before .before .before .before .before .before .before .before .before .before .before .before .before .before .before .before .args .s .now) (c .before .before .before .before .before .before .before .before .before .before .before .before .before .before .before .before .before .before .before .before .args .m .now) (c .before .before .before .before .before .before .before .before .before .before .before .before .before .before .before .first-number .result) (c .before .before .before .before .before .before .before .before .before .before .before .before .before .before .before .first-number .ensures) (c .before .before .before .before .before .before .before .before .before .before .before .before .before .before .if1 .left) (c .before .before .before .before .before .before .before .before .before .before .before .before .before .header-of .result) (c .before .before .before .before .before .before .before .before .before .before .before .rules-in .result) (c .before .before .before .before .before .before .before .before .before .before .before .before .before .header-of .ensures .0) (c .before .before .before .before .before .before .before .before .before .before .before .rules-in .ensures) (not-false _ (c .before .before .before .before .before .before .before .before .before .before .if2 .left))) (c .before .before .body-number .result) (c .before .before .before .before .before .before .before .before .before .before .before .before .before .header-of .result) (c .before .before .before .before .before .before .before .before .place-in .result) refl (c .before .before .before .before .before .before .before .before .before .before .before .before .before .header-of .ensures .0) (c .before .before .before .before .before .before .before .before .place-in .ensures ∙ ap (λ (y : Header). placeOf y (heightOf (c .before .before .before .before .before .before .before .before .before .before .before .before .before .before .before .before .before .before .before .before .args .s .now))) (c .before .before .before .before .before .before .before .before .before .before .before .before .before .header-of .ensures .0)) (c .before .before .body-number .ensures)) (c .before .if3 .left))
-
-success-requires : tie.Need-success-requires
-success-requires c κs = search needs
-
-same-length-4 : tie.Need-same-length-4
-same-length-4 c = search needs
-
-returns-4 : tie.Need-returns-4
-returns-4 c = let d = take-done (c .before .before .before .before .before .before .before .before .before .before .before .before .before .before .before .before .before .before .before .before .before .before .before .before .args .s .now) (c .before .before .before .before .before .before .before .before .before .before .before .before .before .before .before .before .before .before .before .before .before .before .before .before .args .m .now) _ (c .before .before .before .before .before .before .body-number .result) (c .before .before .before .write .result) (c .before .before .before .before .before .before .before .before .before .before .before .before .place-in .result) (took-body (c .before .before .before .before .before .before .before .before .before .before .before .before .before .before .before .before .before .before .before .before .before .before .before .before .args .s .now) (c .before .before .before .before .before .before .before .before .before .before .before .before .before .before .before .before .before .before .before .before .before .before .before .before .args .m .now) (c .before .before .before .before .before .before .before .before .before .before .before .before .before .before .before .before .before .before .before .before .before .is-hashes .result) 0 (c .before .before .before .before .before .before .before .before .before .before .before .before .before .before .before .before .before .before .before .before .before .is-hashes .ensures) (rules-done (c .before .before .before .before .before .before .before .before .before .before .before .before .before .before .before .before .before .before .before .before .before .is-hashes .result) (c .before .before .before .before .before .before .before .before .before .before .before .before .before .before .before .before .before .before .before .before .before .before .before .before .args .s .now) (c .before .before .before .before .before .before .before .before .before .before .before .before .before .before .before .before .before .before .before .before .before .before .before .before .args .m .now) (c .before .before .before .before .before .before .before .before .before .before .before .before .before .before .before .before .before .before .before .first-number .result) (c .before .before .before .before .before .before .before .before .before .before .before .before .before .before .before .before .before .before .before .first-number .ensures) (c .before .before .before .before .before .before .before .before .before .before .before .before .before .before .before .before .before .before .if1 .left) (c .before .before .before .before .before .before .before .before .before .before .before .before .before .before .before .before .before .header-of .result) (c .before .before .before .before .before .before .before .before .before .before .before .before .before .before .before .rules-in .result) (c .before .before .before .before .before .before .before .before .before .before .before .before .before .before .before .before .before .header-of .ensures .0) (c .before .before .before .before .before .before .before .before .before .before .before .before .before .before .before .rules-in .ensures) (not-false _ (c .before .before .before .before .before .before .before .before .before .before .before .before .before .before .if2 .left))) (c .before .before .before .before .before .before .body-number .result) (c .before .before .before .before .before .before .before .before .before .before .before .before .before .before .before .before .before .header-of .result) (c .before .before .before .before .before .before .before .before .before .before .before .before .place-in .result) refl (c .before .before .before .before .before .before .before .before .before .before .before .before .before .before .before .before .before .header-of .ensures .0) (c .before .before .before .before .before .before .before .before .before .before .before .before .place-in .ensures ∙ ap (λ (y : Header). placeOf y (heightOf (c .before .before .before .before .before .before .before .before .before .before .before .before .before .before .before .before .before .before .before .before .before .before .before .before .args .s .now))) (c .before .before .before .before .before .before .before .before .before .before .before .before .before .before .before .before .before .header-of .ensures .0)) (c .before .before .before .before .before .before .body-number .ensures)) (c .before .before .before .before .before .if3 .left) (c .before .before .before .before .before .before .before .before .before .before .before .before .place-in .ensures ∙ ap (λ (y : Header). placeOf y (heightOf (c .before .before .before .before .before .before .before .before .before .before .before .before .before .before .before .before .before .before .before .before .before .before .before .before .args .s .now))) (c .before .before .before .before .before .before .before .before .before .before .before .before .before .before .before .before .before .header-of .ensures .0)) (c .before .before .before .write .ensures .0) (c .before .before .before .write .ensures .1) in
-    (c .success .ensures ∙ d .0, d .1)
+returns-3 c =
+    let s = c .before .before .before .before .before .before .before .before .before .before .before .before .before .before .before .before .before .before .before .before .args .s .now in
+    let m = c .before .before .before .before .before .before .before .before .before .before .before .before .before .before .before .before .before .before .before .before .args .m .now in
+    let form = c .before .before .before .before .before .before .before .before .before .before .before .before .before .before .before .before .before .is-hashes in
+    let first = c .before .before .before .before .before .before .before .before .before .before .before .before .before .before .before .first-number in
+    let x = c .before .before .before .before .before .before .before .before .before .before .before .before .before .header-of in
+    let kept = c .before .before .before .before .before .before .before .before .before .before .before .rules-in in
+    let p = c .before .before .before .before .before .before .before .before .place-in in
+    let z = rules-done (form .result) s m (first .result) (first .ensures) (c .before .before .before .before .before .before .before .before .before .before .before .before .before .before .if1 .left) (x .result) (kept .result) (x .ensures .0) (kept .ensures) (not-false _ (c .before .before .before .before .before .before .before .before .before .before .if2 .left)) in
+    let ep : p .result ≡ placeIn s m = p .ensures ∙ ap (λ (y : Header). placeOf y (heightOf s)) (x .ensures .0) in
+    let n = bodyNumber s m (x .result) (p .result) in
+    took s m _ n _ (p .result) (took-body s m (form .result) 0 (form .ensures) z n (x .result) (p .result) refl (x .ensures .0) ep refl) ep (c .before .before .take-body .ensures)
 
 pub take-spec : {M : Type 1} → statement M
 take-spec =
@@ -107,11 +100,6 @@ take-spec =
     place-in-requires
     blocks-of-requires
     positions-of-requires
-    body-number-requires
-    refusal-requires-3
+    take-body-requires
     same-length-3
-    returns-3
-    write-requires
-    success-requires
-    same-length-4
-    returns-4)
+    returns-3)

@@ -1,5 +1,5 @@
 use Rattle.octets.specs.Octets.{zeroHash}
-use Rattle.messages.proofs.Taking.{run-part, uncles-part, wrote-by, ready-way, ready-sum}
+use Rattle.messages.proofs.Taking.{run-part, uncles-part, heaped-run, wrote-by, ready-fit, ready-way, ready-sum}
 use Prim.Native.Nat.{_+_, _-_, _*_}
 use lib.ListN.{length}
 use mathlib.Core.Path.{refl}
@@ -38,34 +38,46 @@ part-hashes-start c = search needs
 part-hashes-end : tie.Need-part-hashes-end
 part-hashes-end c = search needs
 
-write-run-requires : tie.Need-write-run-requires
-write-run-requires c κs = search needs
+write-looked-requires : tie.Need-write-looked-requires
+unfolding zeroHash
+write-looked-requires c κs =
+    let a = c .before .before .before .before .before .before .before .args in
+    let p = c .before .before .before .before .before .before .before .pre in
+    let e = headerSize + 32 * a .x .len in (
+      ready-fit (length (a .s .now)) (a .m .now) (a .n) (a .x) (a .p) (p .0),
+      p .1,
+      heaped-run (a .m .now) (a .x) (a .p) (p .0 .carried .power) _ _ _ (run-part (a .m .now) (a .x .len) e refl) refl
+          (uncles-part (a .m .now) (a .x .len) (a .p .u) e (e + 32 * a .p .u) refl refl) _ (p .2),
+    )
 
 write-path-requires : tie.Need-write-path-requires
 write-path-requires c κs =
-    let a = c .before .before .before .before .before .before .before .before .before .before .args in
-    let r = c .before .before .before .before .before .before .before .before .before .before .pre in
+    let a = c .before .before .before .before .before .before .before .before .before .before .before .before .before .before .args in
+    let r = c .before .before .before .before .before .before .before .before .before .before .before .before .before .before .pre .0 in
     let e = headerSize + 32 * a .x .len in
-    ready-way (length (a .s .now)) (a .m .now) (a .n) (a .x) (a .p) r _ (c .before .before .before .before .write-run .kept .0) _ (uncles-part (a .m .now) (a .x .len) (a .p .u) e (e + 32 * a .p .u) refl refl)
+    ready-way (length (a .s .now)) (a .m .now) (a .n) (a .x) (a .p) r _ (c .before .before .before .before .before .before .write-looked .kept .0) _ (uncles-part (a .m .now) (a .x .len) (a .p .u) e (e + 32 * a .p .u) refl refl)
 
 add-result : tie.Need-add-result
 add-result c =
-    let a = c .before .before .before .before .before .before .before .before .before .before .before .before .before .before .args in
-    let r = c .before .before .before .before .before .before .before .before .before .before .before .before .before .before .pre in
-    let e = headerSize + 32 * a .x .len in
-    record { fits = ready-sum (length (a .s .now)) (a .m .now) (a .n) (a .x) (a .p) r (a .s .now) _ _ _ _ _ (c .before .before .before .before .before .before .before .before .write-run .result .new) (c .before .before .before .write-path .result) (c .before .before .before .before .before .before .before .before .write-run .ensures .1 .0) (c .before .before .before .write-path .ensures .0) }
+    let a = c .before .before .before .before .before .before .before .before .before .before .before .before .before .before .before .before .before .before .args in
+    let low = c .before .before .before .before .before .before .before .before .before .before .write-looked in
+    record { fits = ready-sum (length (a .s .now)) (a .m .now) (a .n) (a .x) (a .p) (c .before .before .before .before .before .before .before .before .before .before .before .before .before .before .before .before .before .before .pre .0) (a .s .now) _ _ _ _ _ (low .result .new) (c .before .before .before .write-path .result) (low .ensures .1 .0) (c .before .before .before .write-path .ensures .0) }
 
 same-length : tie.Need-same-length
 same-length c = search needs
 
+same-length-2 : tie.Need-same-length-2
+same-length-2 c = search needs
+
 returns : tie.Need-returns
 unfolding zeroHash
 returns c =
-    let a = c .before .before .before .before .before .before .before .before .before .before .before .before .before .before .args in
-    let r = c .before .before .before .before .before .before .before .before .before .before .before .before .before .before .pre in
+    let a = c .before .before .before .before .before .before .before .before .before .before .before .before .before .before .before .before .before .before .args in
+    let r = c .before .before .before .before .before .before .before .before .before .before .before .before .before .before .before .before .before .before .pre .0 in
     let e = headerSize + 32 * a .x .len in
-    wrote-by (a .m .now) (a .x) (a .p) (r .carried .power) _ _ _ (run-part (a .m .now) (a .x .len) e refl) refl (uncles-part (a .m .now) (a .x .len) (a .p .u) e (e + 32 * a .p .u) refl refl) (a .s .now) (c .before .before .before .before .before .before .before .before .write-run .result .hash) (c .before .before .before .before .before .before .before .before .write-run .result .new) _ (c .before .before .before .write-path .result) _
-    (c .before .before .before .before .before .before .before .before .write-run .ensures .0) (c .before .before .before .before .before .before .before .before .write-run .ensures .1 .0) (c .before .before .before .before .before .before .before .before .write-run .ensures .1 .1) (c .before .before .before .write-path .ensures .0) (c .before .before .before .write-path .ensures .1)
+    let low = c .before .before .before .before .before .before .before .before .before .before .write-looked in
+    wrote-by (a .m .now) (a .x) (a .p) (r .carried .power) _ _ _ (run-part (a .m .now) (a .x .len) e refl) refl (uncles-part (a .m .now) (a .x .len) (a .p .u) e (e + 32 * a .p .u) refl refl) (a .s .now) (low .result .hash) (low .result .new) _ (c .before .before .before .write-path .result) _
+    (low .ensures .0) (low .ensures .1 .0) (low .ensures .1 .1) (c .before .before .before .write-path .ensures .0) (c .before .before .before .write-path .ensures .1)
 
 pub write-spec : {M : Type 1} → statement M
 write-spec =
@@ -81,8 +93,9 @@ write-spec =
     sub-hashes
     part-hashes-start
     part-hashes-end
-    write-run-requires
+    write-looked-requires
     write-path-requires
     add-result
     same-length
+    same-length-2
     returns)
