@@ -10,7 +10,7 @@ use host_tests::lists::{self, Planned};
 use host_tests::shapes;
 use reference::limits::{BLOCK, LONGEST_FILE, RECORD};
 use reference::sha256::{pair, sha256, Hash};
-use reference::torrent::contents;
+use reference::torrent::{contents, contents_by};
 use std::hint::black_box;
 
 pub struct Job {
@@ -59,7 +59,7 @@ pub fn all() -> Vec<Job> {
     ]);
     jobs.extend(shapes::ALL.iter().map(|shape| on_torrent(shape, "kd_torrent_read", reading)));
     let listed = shapes::ALL.iter().filter(|shape| LISTED.contains(&shape.name));
-    jobs.extend(listed.map(|shape| on_torrent(shape, "kd_torrent_list", listing)));
+    jobs.extend(listed.map(|shape| on_torrent(shape, "kd_torrent_list", listing)).map(Job::plain_alone));
     jobs.extend(lists::GOOD.iter().map(on_list));
     jobs
 }
@@ -106,8 +106,7 @@ fn on_torrent(shape: &shapes::Shape, entry_point: &'static str, ready: fn(Vec<u8
     let (make, number) = (shape.make, shape.number);
     let asked = ASKED.iter().find(|(name, _)| *name == shape.name).map_or("", |(_, asked)| *asked);
     let job = job(shape.name, entry_point, asked, 1 << 20, move || ready(make(), number));
-    let name = format!("{}:{}", &entry_point["kd_torrent_".len()..], shape.name);
-    Job { name, versions: vec!["plain-rust", entry_point], ..job }
+    Job { name: format!("{}:{}", &entry_point["kd_torrent_".len()..], shape.name), ..job }
 }
 
 /// A torrent written of a list, asked for the ratio if it is the ordinary one.
@@ -115,12 +114,17 @@ fn on_list(list: &lists::Shape) -> Job {
     let make = list.make;
     let asked = if list.name == lists::ORDINARY { "2.0" } else { "" };
     let job = job(list.name, "kd_torrent_write", asked, 1 << 20, move || writing(make()));
-    Job { name: format!("write:{}", list.name), versions: vec!["plain-rust", "kd_torrent_write"], ..job }
+    Job { name: format!("write:{}", list.name), ..job }.plain_alone()
 }
 
 impl Job {
     fn not_counted(self) -> Job {
         Job { is_counted: false, ..self }
+    }
+
+    /// Plain Rust and the library, no other version.
+    fn plain_alone(self) -> Job {
+        Job { versions: vec!["plain-rust", self.entry_point], ..self }
     }
 }
 
@@ -526,21 +530,33 @@ fn loading_longest() -> Vec<Box<dyn Work>> {
     vec![one_by_one, work(longest, Longest::open, Longest::load)]
 }
 
-/// Reading a torrent as a whole. Plain Rust is host/reference's reader, which has all files then.
+/// Reading a torrent as a whole. Plain Rust is host/reference's reader, which has all files then; the others in Rust are that reader
+/// with their SHA-256.
 fn reading(torrent: Vec<u8>, number: u32) -> Vec<Box<dyn Work>> {
-    let in_rust = work(
+    let plain = work(
         (torrent.clone(), number),
         |_| (),
         |(torrent, number)| {
             assert_eq!(black_box(contents(black_box(torrent))).map_or_else(|number| number, |_| 0), *number)
         },
     );
+    let by = |hasher: Hasher| {
+        work(
+            (torrent.clone(), number, hasher),
+            |_| (),
+            |(torrent, number, hasher)| {
+                let read = contents_by(black_box(torrent), hasher.one, |row| hasher.root(row));
+                assert_eq!(black_box(read).map_or_else(|number| number, |_| 0), *number)
+            },
+        )
+    };
+    let [_, careful, eight_lanes] = IN_RUST.map(by);
     let in_library = work(
-        (torrent, number),
+        (torrent.clone(), number),
         |_| (),
         |(torrent, number)| assert_eq!(black_box(boundary::torrent_read(black_box(torrent))).number, *number),
     );
-    vec![in_rust, in_library]
+    vec![plain, careful, eight_lanes, in_library]
 }
 
 /// All files with their paths: for plain Rust the same reading, for the library the list.

@@ -163,18 +163,37 @@ fn assign_layers(torrent: &[u8], layers: &Entries, piece_length: u64, files: &mu
     }
 }
 
-/// 28: a layer that doesn't give its root. Behind its hashes it is filled up with the padding value of its layer.
-pub fn layer_differs(layer: &[u8], root: &Hash, filler: Hash) -> bool {
+/// The leaves over which a layer gives its root: behind its hashes it is filled up with the padding value of its layer.
+fn filled_up(layer: &[u8], filler: Hash) -> Vec<Hash> {
     let mut row: Vec<Hash> = layer.chunks_exact(32).map(|hash| hash.try_into().unwrap()).collect();
     row.resize(row.len().next_power_of_two(), filler);
+    row
+}
+
+/// The root of the tree over a row of 2^k hashes.
+fn root_over(mut row: Vec<Hash>) -> Hash {
     while row.len() > 1 {
         row = row.chunks_exact(2).map(|children| pair(&children[0], &children[1])).collect();
     }
-    row[0] != *root
+    row[0]
+}
+
+/// 28: a layer that doesn't give its root.
+pub fn layer_differs(layer: &[u8], root: &Hash, filler: Hash) -> bool {
+    root_over(filled_up(layer, filler)) != *root
 }
 
 /// Everything the torrent says, or the number it is refused with.
 pub fn contents(torrent: &[u8]) -> Result<Contents, u32> {
+    contents_by(torrent, sha256, root_over)
+}
+
+/// The same, with another function for SHA-256 and for the root over a row of 2^k hashes.
+pub fn contents_by(
+    torrent: &[u8],
+    hash: impl Fn(&[u8]) -> Hash,
+    root_over: impl Fn(Vec<Hash>) -> Hash,
+) -> Result<Contents, u32> {
     if torrent.len() > LARGEST_TORRENT {
         return Err(TORRENT_TOO_LARGE);
     }
@@ -194,11 +213,11 @@ pub fn contents(torrent: &[u8]) -> Result<Contents, u32> {
     }
     assign_layers(torrent, fields.piece_layers, piece_length, &mut files)?;
     let filler = padding((piece_length / BLOCK).trailing_zeros() as u64);
-    let differs = |file: &Listed| layer_differs(&torrent[file.layer.clone()], &file.root, filler);
+    let differs = |file: &Listed| root_over(filled_up(&torrent[file.layer.clone()], filler)) != file.root;
     if files.iter().filter(|file| file.length > piece_length).any(differs) {
         return Err(LAYER_DIFFERS);
     }
-    Ok(Contents { info_hash: sha256(&torrent[fields.info.part.clone()]), piece_length, files })
+    Ok(Contents { info_hash: hash(&torrent[fields.info.part.clone()]), piece_length, files })
 }
 
 /// Info hash, piece length and file count.
