@@ -45,7 +45,7 @@ pub fn same(x: &[u8], y: &[u8]) -> bool
     i == y.len()
 }
 
-// A key at `at`, which is none unless it stands after the key before, bytes start..end, if there was one.
+// The string at `at` if it is a key: it stands after the key before it, which is the bytes from start up to end where one was seen.
 pub fn read_key(s: &[u8], at: usize, seen: bool, start: usize, end: usize) -> ByteString
     requires { ⌜ (start ≤ end) × (end ≤ length (now s)) ⌝ }
     ensures { λ r. ⌜ r ≡ readKey (keyBefore seen start end (now (s .entry))) at (drop at (now (s .entry))) ⌝ }

@@ -3,7 +3,7 @@
 use mathlib.Core.List.{List, [], _∷_}
 use Prim.Native.Nat.{ℕ, zero, suc, _+_, _*_}
 use Rattle.octets.specs.Octets.{cut, numberAt}
-use Rattle.meaning.specs.Paths.{written, toZero, Place, follow}
+use Rattle.meaning.specs.Paths.{written, toZero, Location, follow}
 use Rattle.torrent.specs.Torrent.{fileRead, pathRead}
 use Rattle.catalogue.specs.Catalogue.{recordSize}
 
@@ -21,7 +21,7 @@ abbrev pub filePath : List ℕ → ℕ → List (List ℕ)
 filePath s n = elementsRead s n 0 (fileRead s n .elements)
 
 -- where it leads, if it is handed to the system in a folder
-abbrev pub fileLeads : Place → List ℕ → ℕ → Place
+abbrev pub fileLeads : Location → List ℕ → ℕ → Location
 fileLeads folder s n = follow folder (toZero (written (filePath s n)))
 
 -- record n of a list, how many elements it says the path has, and the bytes that it names for element k

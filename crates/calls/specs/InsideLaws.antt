@@ -17,7 +17,7 @@ use Rattle.meaning.specs.Torrent.{File, treeOf, filesOf, numberBy, valueNumber}
 use Rattle.meaning.specs.TestsLaws.{tree-no}
 use Rattle.meaning.specs.AmissLaws.{right-tree}
 use Rattle.meaning.specs.FilesLaws.{FileHolds, nth-holds, nth-right, files-hold}
-use Rattle.meaning.specs.Paths.{StaysInside, AllStay, written, toZero, Place, walk, follow, InFolder}
+use Rattle.meaning.specs.Paths.{StaysInside, AllStay, written, toZero, Location, walk, follow, InFolder}
 use Rattle.meaning.specs.PathsLaws.{element-exactly, followed, on-the-way, in-folder}
 use Rattle.meaning.specs.NamesAside.{treeShaped, namesRight}
 use Rattle.meaning.specs.NamesAsideLaws.{names-right-stands, names-only-25}
@@ -143,11 +143,11 @@ path-stays s n e = elements-stay s n 0 (fileRead s n .elements) (λ j l. file-el
 -- ---- no file is outside its folder
 
 -- from any folder its path leads one step down for each element
-pub file-leads : (s : List ℕ) (n : ℕ) → fileRead s n .number ≡ 0 → (folder : Place) → fileLeads folder s n ≡ folder ++ filePath s n
+pub file-leads : (s : List ℕ) (n : ℕ) → fileRead s n .number ≡ 0 → (folder : Location) → fileLeads folder s n ≡ folder ++ filePath s n
 file-leads s n e folder = followed folder (filePath s n) (path-stays s n e)
 
 -- so the file is in the folder
-pub file-inside : (s : List ℕ) (n : ℕ) → fileRead s n .number ≡ 0 → (folder : Place) → InFolder folder (fileLeads folder s n)
+pub file-inside : (s : List ℕ) (n : ℕ) → fileRead s n .number ≡ 0 → (folder : Location) → InFolder folder (fileLeads folder s n)
 unfolding elementsRead
 file-inside s n e folder = by-count (fileRead s n .elements) (file-elements s n e .0) (path-stays s n e)
   where
@@ -156,11 +156,11 @@ file-inside s n e folder = by-count (fileRead s n .elements) (file-elements s n 
     by-count (suc c) l a = in-folder folder (elementRead s n 0) (elementsRead s n 1 c) a
 
 -- no file of a torrent is outside
-pub no-file-outside : (s : List ℕ) (n : ℕ) → n < readOf s .files → (folder : Place) → InFolder folder (fileLeads folder s n)
+pub no-file-outside : (s : List ℕ) (n : ℕ) → n < readOf s .files → (folder : Location) → InFolder folder (fileLeads folder s n)
 no-file-outside s n l folder = file-inside s n (file-answered s n l) folder
 
 -- and no directory on the way
-pub way-inside : (s : List ℕ) (n : ℕ) → fileRead s n .number ≡ 0 → (folder : Place) (k : ℕ) → walk folder (take k (filePath s n)) ≡ folder ++ take k (filePath s n)
+pub way-inside : (s : List ℕ) (n : ℕ) → fileRead s n .number ≡ 0 → (folder : Location) (k : ℕ) → walk folder (take k (filePath s n)) ≡ folder ++ take k (filePath s n)
 way-inside s n e folder k = on-the-way folder (filePath s n) (path-stays s n e) k
 
 -- ---- `kd_torrent_list`

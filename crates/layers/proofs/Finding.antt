@@ -7,7 +7,7 @@ use mathlib.Core.List.{List}
 use Prim.Native.Nat.{ℕ, _+_, _-_, _*_, _≤_, _<_}
 use native.Mathlib.Omega.{arith}
 use lib.ListN.{length, take, drop, getD}
-use borrow.Author.Tests.{eq-eqb, ne-eqb, ltb-true}
+use borrow.Author.Tests.{eq-eqb, ne-eqb}
 use Rattle.limits.specs.Limits.{longestFile}
 use Rattle.octets.specs.Octets.{cut, same}
 use Rattle.octets.specs.OctetsLaws.{cut-length}
@@ -48,11 +48,6 @@ layer-inside s key = by-found (findKey key 0 s)
     by-found (Part a b) = by-string a (readString a (drop a s)) refl
 
 -- ---- a file longer than the piece length
-
--- it is not empty
-pub long-some : (n plen : ℕ) → hasLayer n plen ≡ true → n ≡ 0 → ⊥
-unfolding hasLayer
-long-some n plen h e = let l = ltb-true plen n h in omega arith
 
 module _ (plen n : ℕ) (p : isPieceLength plen ≡ true) (h : hasLayer n plen ≡ true) where
   pub pieces-few : n ≤ longestFile → pieceCount n plen ≤ longestFile

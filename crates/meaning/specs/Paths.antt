@@ -35,21 +35,21 @@ toZero (c ∷ cs) = cond (eqb c 0) [] (c ∷ toZero cs)
 
 -- ---- how the system follows it
 
--- a place is the names that lead to it from the top
-abbrev pub Place : Type 0
-Place = List (List ℕ)
+-- a location is the names that lead to it from the top
+abbrev pub Location : Type 0
+Location = List (List ℕ)
 
--- the place above; above the top is the top itself
-unfoldable pub above : Place → Place
+-- the location above; above the top is the top itself
+unfoldable pub above : Location → Location
 above [] = []
 above (x ∷ []) = []
 above (x ∷ y ∷ ys) = x ∷ above (y ∷ ys)
 
 -- one name is one step: an empty one and `.` stay, `..` goes up, every other goes down
-unfoldable pub step : Place → List ℕ → Place
+unfoldable pub step : Location → List ℕ → Location
 step here name = cond (same name [] || same name dot) here (cond (same name dots) (above here) (here ++ (name ∷ [])))
 
-unfoldable pub walk : Place → List (List ℕ) → Place
+unfoldable pub walk : Location → List (List ℕ) → Location
 walk here [] = here
 walk here (name ∷ names) = walk (step here name) names
 
@@ -62,11 +62,11 @@ unfoldable pub split : List ℕ → List (List ℕ)
 split [] = [] ∷ []
 split (c ∷ cs) = cond (eqb c slash) ([] ∷ split cs) (ahead c (split cs))
 
--- where a text leads from a place: one that begins with `/` leads from the top
-unfoldable pub follow : Place → List ℕ → Place
+-- where a text leads from a location: one that begins with `/` leads from the top
+unfoldable pub follow : Location → List ℕ → Location
 follow here [] = here
 follow here (c ∷ cs) = cond (eqb c slash) (walk [] (split cs)) (walk here (split (c ∷ cs)))
 
--- a place in a folder is the folder's names and others behind them
-abbrev pub InFolder : Place → Place → Type 0
-InFolder folder place = (name : List ℕ) × ((names : List (List ℕ)) × (place ≡ folder ++ (name ∷ names)))
+-- a location in a folder is the folder's names and others behind them
+abbrev pub InFolder : Location → Location → Type 0
+InFolder folder here = (name : List ℕ) × ((names : List (List ℕ)) × (here ≡ folder ++ (name ∷ names)))

@@ -14,7 +14,7 @@ use Rattle.octets.specs.OctetsLaws.{same-false, same-ne}
 use Rattle.meaning.specs.Counting.{Member}
 use Rattle.meaning.specs.Torrent.{without, dot, dots, slash, elementRight}
 use Rattle.meaning.specs.FilesLaws.{ElementsRight}
-use Rattle.meaning.specs.Paths.{StaysInside, AllStay, written, toZero, Place, above, step, walk, ahead, split, follow, InFolder}
+use Rattle.meaning.specs.Paths.{StaysInside, AllStay, written, toZero, Location, above, step, walk, ahead, split, follow, InFolder}
 
 -- ---- the rule
 
@@ -104,14 +104,14 @@ names-are e (f ∷ es) a = split-behind e (written (f ∷ es)) (a .0 .no-slash) 
 
 -- ---- each element is one step down
 
-step-down : (here : Place) (e : List ℕ) → StaysInside e → step here e ≡ here ++ (e ∷ [])
+step-down : (here : Location) (e : List ℕ) → StaysInside e → step here e ≡ here ++ (e ∷ [])
 unfolding step
 step-down here e w = rw (same-ne e [] (w .not-empty), same-ne e dot (w .not-dot), same-ne e dots (w .not-dots)) refl
 
-pub walk-down : (here : Place) (es : List (List ℕ)) → AllStay es → walk here es ≡ here ++ es
+pub walk-down : (here : Location) (es : List (List ℕ)) → AllStay es → walk here es ≡ here ++ es
 unfolding walk AllStay
 walk-down here [] a = sym (append-nil here)
-walk-down here (e ∷ es) a = ap (λ (p : Place). walk p es) (step-down here e (a .0)) ∙ walk-down (here ++ (e ∷ [])) es (a .1) ∙ append-assoc here (e ∷ []) es
+walk-down here (e ∷ es) a = ap (λ (p : Location). walk p es) (step-down here e (a .0)) ∙ walk-down (here ++ (e ∷ [])) es (a .1) ∙ append-assoc here (e ∷ []) es
 
 -- the place after any number of its elements
 take-stay : (k : ℕ) (es : List (List ℕ)) → AllStay es → AllStay (take k es)
@@ -120,11 +120,11 @@ take-stay zero es a = tt
 take-stay (suc k) [] a = tt
 take-stay (suc k) (e ∷ es) a = (a .0, take-stay k es (a .1))
 
-pub on-the-way : (here : Place) (es : List (List ℕ)) → AllStay es → (k : ℕ) → walk here (take k es) ≡ here ++ take k es
+pub on-the-way : (here : Location) (es : List (List ℕ)) → AllStay es → (k : ℕ) → walk here (take k es) ≡ here ++ take k es
 on-the-way here es a k = walk-down here (take k es) (take-stay k es a)
 
 -- a text that does not begin with `/` leads from the folder
-follow-from : (here : Place) (c : ℕ) (cs : List ℕ) → (c ≡ slash → ⊥) → follow here (c ∷ cs) ≡ walk here (split (c ∷ cs))
+follow-from : (here : Location) (c : ℕ) (cs : List ℕ) → (c ≡ slash → ⊥) → follow here (c ∷ cs) ≡ walk here (split (c ∷ cs))
 unfolding follow
 follow-from here c cs h = rw (ne-eqb c slash h) refl
 
@@ -135,7 +135,7 @@ first-byte [] es w = absurd (w .not-empty refl)
 first-byte (c ∷ cs) [] w = (c, (cs, refl, λ e. w .no-slash (inl (sym e))))
 first-byte (c ∷ cs) (f ∷ es) w = (c, (cs ++ slash ∷ written (f ∷ es), refl, λ e. w .no-slash (inl (sym e))))
 
-pub followed : (folder : Place) (es : List (List ℕ)) → AllStay es → follow folder (toZero (written es)) ≡ folder ++ es
+pub followed : (folder : Location) (es : List (List ℕ)) → AllStay es → follow folder (toZero (written es)) ≡ folder ++ es
 followed folder [] a = unfold follow written toZero in sym (append-nil folder)
 followed folder (e ∷ es) a =
     let b = first-byte e es (first-of e es a) in
@@ -148,5 +148,5 @@ followed folder (e ∷ es) a =
     first-of : (e : List ℕ) (es : List (List ℕ)) → AllStay (e ∷ es) → StaysInside e
     first-of e es a = unfold AllStay in a .0
 
-pub in-folder : (folder : Place) (e : List ℕ) (es : List (List ℕ)) → AllStay (e ∷ es) → InFolder folder (follow folder (toZero (written (e ∷ es))))
+pub in-folder : (folder : Location) (e : List ℕ) (es : List (List ℕ)) → AllStay (e ∷ es) → InFolder folder (follow folder (toZero (written (e ∷ es))))
 in-folder folder e es a = (e, (es, followed folder (e ∷ es) a))

@@ -18,7 +18,7 @@ ghost use Rattle.tree.specs.Geometry as G;
 ghost use Rattle.tree.specs.Geometry.{blockCount, isPieceLength, pieceLayer, hasLayer};
 ghost use Rattle.tree.specs.Values.{layerRoot};
 ghost use Rattle.lists.specs.Lists.{itemAt};
-ghost use Rattle.ordered.specs.Order.{InForm, Placed};
+ghost use Rattle.ordered.specs.Order.{InForm, AllInForm};
 ghost use Rattle.ordered.specs.Neighbours.{agree, firstWrong, wrongNext, clash};
 
 // Whether the layer of a file of n bytes gives its root.
@@ -120,7 +120,7 @@ fn wrong_next(
 
 // Whether there is a clash in lengths, or in layers, among the files at the positions.
 pub fn clashes(list: &[u8], text: &[u8], plen: usize, layers: bool, at: &[u32]) -> bool
-    requires { ⌜ Placed (now list) (now text) (now at) × (layers ≡ true → isPieceLength plen ≡ true) ⌝ }
+    requires { ⌜ AllInForm (now list) (now text) (now at) × (layers ≡ true → isPieceLength plen ≡ true) ⌝ }
     ensures { λ r. ⌜ r ≡ clash layers plen (map (itemAt (now (list .entry)) (now (text .entry))) (now (at .entry))) ⌝ }
 {
     let mut seen = false;

@@ -3,12 +3,12 @@ use crate::compare::index;
 ghost use mathlib.Core.Path.{_≡_};
 ghost use mathlib.Core.List.{map};
 ghost use Rattle.lists.specs.Lists.{itemAt};
-ghost use Rattle.ordered.specs.Order.{Placed};
+ghost use Rattle.ordered.specs.Order.{AllInForm};
 ghost use Rattle.ordered.specs.Neighbours.{neighbours, leads};
 
 // Whether one of the files at the positions leads to the next.
 pub fn meets(list: &[u8], text: &[u8], at: &[u32]) -> bool
-    requires { ⌜ Placed (now list) (now text) (now at) ⌝ }
+    requires { ⌜ AllInForm (now list) (now text) (now at) ⌝ }
     ensures { λ r. ⌜ r ≡ neighbours leads (map (itemAt (now (list .entry)) (now (text .entry))) (now (at .entry))) ⌝ }
 {
     let mut i = 0;

@@ -21,7 +21,7 @@ use Rattle.publishing.specs.Written.{shared, opened, closed, fileBytes, treeByt
 use Rattle.lists.specs.Lists.{elementEnd, elementsFit, elementsIn, pathAt, partAt, itemAt}
 use Rattle.lists.specs.ListsLaws.{path-right}
 use Rattle.output.specs.PutLaws.{string-length}
-use Rattle.ordered.specs.Order.{InForm, Placed, mostFiles}
+use Rattle.ordered.specs.Order.{InForm, AllInForm, mostFiles}
 use Rattle.output.specs.Files.{propertiesBytes}
 use Rattle.output.specs.FilesLaws.{empty-length, full-length}
 use Rattle.output.specs.Layers.{repeats, layerEntry, layersBytes, layerOf}
@@ -147,11 +147,11 @@ module _ (list text : List ℕ) (b : (i : ℕ) → getD list i 0 < 256) where
           let s = string-most (itemAt list text place .root) in
           omega (arith, full-length (itemAt list text place .size) (itemAt list text place .root) (eqb-false _ 0 e))
 
-  fewer : (p : ℕ) (ps : List ℕ) → Placed list text (p ∷ ps) → Placed list text ps
+  fewer : (p : ℕ) (ps : List ℕ) → AllInForm list text (p ∷ ps) → AllInForm list text ps
   unfolding Member
   fewer p ps f q m = f q (inr m)
 
-  first : (p : ℕ) (ps : List ℕ) → Placed list text (p ∷ ps) → InForm list text p
+  first : (p : ℕ) (ps : List ℕ) → AllInForm list text (p ∷ ps) → InForm list text p
   unfolding Member
   first p ps f = f p (inl refl)
 
@@ -171,7 +171,7 @@ module _ (list text : List ℕ) (b : (i : ℕ) → getD list i 0 < 256) where
       let n = properties-most place in
       omega (arith, opened-fewer (shared p q) q, opened-some q)
 
-  tree-most : (ps : List ℕ) → Placed list text ps → (p : List (List ℕ))
+  tree-most : (ps : List ℕ) → AllInForm list text ps → (p : List (List ℕ))
       → length (treeBytes p (map (itemAt list text) ps)) ≤ suc (length p) + length ps * 2 ^ 35
   unfolding treeBytes
   tree-most [] f p = let r = length-replicate {A = ℕ} (suc (length p)) letterE in omega arith
@@ -227,7 +227,7 @@ module _ (list text : List ℕ) (b : (i : ℕ) → getD list i 0 < 256) where
 
   -- ---- the two parts
 
-  pub info-most : (plen : ℕ) (name ps : List ℕ) → Placed list text ps → length ps ≤ mostFiles → plen < 2 ^ 64 → length name < 2 ^ 63
+  pub info-most : (plen : ℕ) (name ps : List ℕ) → AllInForm list text ps → length ps ≤ mostFiles → plen < 2 ^ 64 → length name < 2 ^ 63
       → length (infoBytes plen name (map (itemAt list text) ps)) < 2 ^ 63 + 2 ^ 62
   info-most plen name ps f h k l =
       let t = tree-most ps f [] in

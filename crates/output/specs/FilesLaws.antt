@@ -17,7 +17,7 @@ use Rattle.publishing.specs.Content.{Item, properties}
 use Rattle.publishing.specs.Written.{shared, opened, closed, fileBytes, treeBytes}
 use Rattle.lists.specs.Lists.{recordSize, elementsFit, elementsIn, formAt, itemAt}
 use Rattle.lists.specs.ListsLaws.{path-right, slice-end, slice-fits, slice-path}
-use Rattle.ordered.specs.Order.{InForm, Placed}
+use Rattle.ordered.specs.Order.{InForm, AllInForm}
 use Rattle.ordered.specs.OrderLaws.{placed-index}
 use Rattle.output.specs.Put.{Put}
 use Rattle.output.specs.PutLaws.{put-three, Going, going-start, going-more, going-last, going-room, going-place}
@@ -148,7 +148,7 @@ growing-start s at list text order =
 
 -- the next record, and its path as a part of the text
 module _ (s : List ℕ) (at : ℕ) (list text order t : List ℕ) (now start size i : ℕ) (g : Growing s at list text order t now start size i)
-    (h : i < length order) (f : Placed list text order) (place : ℕ) (e : place ≡ getD order i 0)
+    (h : i < length order) (f : AllInForm list text order) (place : ℕ) (e : place ≡ getD order i 0)
     (a b : ℕ) (ea : a ≡ numberAt list (place + 48) 4) (eb : b ≡ numberAt list (place + 48 + 4) 4) where
   has-form : InForm list text place
   has-form = placed-index list text order i place f h e

@@ -16,7 +16,7 @@ use Rattle.bencode.specs.Grammar.{letterE, encodeString, Value, string, Entries
 use Rattle.publishing.specs.Content.{Item, Layer, withLayer, layersGiven, layerPut, layersOfAll}
 use Rattle.lists.specs.Lists.{recordSize, partFits, pathAt, partAt, elementsFit, formAt, itemAt}
 use Rattle.lists.specs.ListsLaws.{slice-end}
-use Rattle.ordered.specs.Order.{InForm, Placed}
+use Rattle.ordered.specs.Order.{InForm, AllInForm}
 use Rattle.ordered.specs.OrderLaws.{placed-index}
 use Rattle.ordered.specs.CompareLaws.{root-slice}
 use Rattle.output.specs.Put.{Put}
@@ -173,7 +173,7 @@ given-some x xs e = by-layer (x .layer) refl e
 
 -- the next record
 module _ (s : List ℕ) (at : ℕ) (list text order t : List ℕ) (now : ℕ) (seen : Bool) (last i : ℕ)
-    (g : Listing s at list text order t now seen last i) (h : i < length order) (f : Placed list text order) (place : ℕ)
+    (g : Listing s at list text order t now seen last i) (h : i < length order) (f : AllInForm list text order) (place : ℕ)
     (e : place ≡ getD order i 0)
     (b : ℕ) (eb : b ≡ numberAt list (place + 40 + 4) 4) where
   has-form : InForm list text place

@@ -14,7 +14,7 @@ ghost use lib.ListN.{length};
 ghost use Rattle.publishing.specs.Content.{properties};
 ghost use Rattle.publishing.specs.Written.{fileBytes, treeBytes};
 ghost use Rattle.lists.specs.Lists.{recordSize, itemAt};
-ghost use Rattle.ordered.specs.Order.{Placed};
+ghost use Rattle.ordered.specs.Order.{AllInForm};
 ghost use Rattle.output.specs.Put.{Put};
 ghost use Rattle.output.specs.Path.{pathIn, Standing};
 ghost use Rattle.output.specs.Files.{propertiesBytes, fileIn};
@@ -51,7 +51,7 @@ fn put_file(out: &mut [u8], at: usize, p: &[u8], q: &[u8], list: &[u8], place: u
 
 // The entries of the file tree of the files whose records stand at `order`, which is tree order, and the end of it.
 pub fn put_tree(out: &mut [u8], at: usize, list: &[u8], text: &[u8], order: &[u32]) -> usize
-    requires { ⌜ Placed (now list) (now text) (now order)
+    requires { ⌜ AllInForm (now list) (now text) (now order)
         × (at + length (treeBytes [] (map (itemAt (now list) (now text)) (now order))) < 2 ^ 64) ⌝ }
     ensures { λ r. ⌜ Put (now (out .entry)) at
         (treeBytes [] (map (itemAt (now (list .entry)) (now (text .entry))) (now (order .entry)))) (now (out .exit)) r ⌝ }

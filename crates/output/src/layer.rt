@@ -13,7 +13,7 @@ ghost use Rattle.bencode.specs.Grammar.{none};
 ghost use Rattle.publishing.specs.Content.{layersGiven};
 ghost use Rattle.lists.specs.Lists.{recordSize, itemAt};
 ghost use Rattle.output.specs.Put.{Put};
-ghost use Rattle.ordered.specs.Order.{InForm, Placed};
+ghost use Rattle.ordered.specs.Order.{InForm, AllInForm};
 ghost use Rattle.output.specs.Layers.{repeats, layerEntry, layersBytes, layerOf, rootSeen};
 
 // Whether an entry was seen before, with the root of the record at `last`, and the record at `place` has the same.
@@ -54,7 +54,7 @@ fn put_layer(
 
 // The entries of `piece layers` of the files whose records stand at `order`, and the end of it.
 pub fn put_layers(out: &mut [u8], at: usize, list: &[u8], text: &[u8], order: &[u32]) -> usize
-    requires { ⌜ Placed (now list) (now text) (now order)
+    requires { ⌜ AllInForm (now list) (now text) (now order)
         × (at + length (layersBytes none (layersGiven (map (itemAt (now list) (now text)) (now order)))) < 2 ^ 64) ⌝ }
     ensures { λ r. ⌜ Put (now (out .entry)) at
         (layersBytes none (layersGiven (map (itemAt (now (list .entry)) (now (text .entry))) (now (order .entry)))))

@@ -14,7 +14,7 @@ ghost use lib.ListN.{length};
 ghost use lib.Dec.{ltb};
 ghost use Rattle.lists.specs.Lists.{itemAt};
 ghost use Rattle.output.specs.Put.{Put};
-ghost use Rattle.ordered.specs.Order.{Placed, mostFiles};
+ghost use Rattle.ordered.specs.Order.{AllInForm, mostFiles};
 ghost use Rattle.output.specs.Whole.{infoBytes, restBytes};
 
 // More files do not go into a torrent: each takes 15 bytes or more.
@@ -37,7 +37,7 @@ pub fn put_info(
     plen: usize,
     name: &[u8],
 ) -> usize
-    requires { ⌜ Placed (now list) (now text) (now order)
+    requires { ⌜ AllInForm (now list) (now text) (now order)
         × (at + length (infoBytes plen (now name) (map (itemAt (now list) (now text)) (now order))) < 2 ^ 64) ⌝ }
     ensures { λ r. ⌜ Put (now (out .entry)) at
         (infoBytes plen (now (name .entry)) (map (itemAt (now (list .entry)) (now (text .entry))) (now (order .entry))))
@@ -54,7 +54,7 @@ pub fn put_info(
 
 // The second part, of the files whose records stand at `order`, which is by root and layer.
 pub fn put_rest(out: &mut [u8], at: usize, list: &[u8], text: &[u8], order: &[u32]) -> usize
-    requires { ⌜ Placed (now list) (now text) (now order)
+    requires { ⌜ AllInForm (now list) (now text) (now order)
         × (at + length (restBytes (map (itemAt (now list) (now text)) (now order))) < 2 ^ 64) ⌝ }
     ensures { λ r. ⌜ Put (now (out .entry)) at
         (restBytes (map (itemAt (now (list .entry)) (now (text .entry))) (now (order .entry)))) (now (out .exit)) r ⌝ }
@@ -65,7 +65,7 @@ pub fn put_rest(out: &mut [u8], at: usize, list: &[u8], text: &[u8], order: &[u3
 
 // The bytes of the first part.
 pub fn info_size(list: &[u8], text: &[u8], order: &[u32], plen: usize, name: &[u8]) -> usize
-    requires { ⌜ Placed (now list) (now text) (now order) × (length (now order) ≤ mostFiles) ⌝ }
+    requires { ⌜ AllInForm (now list) (now text) (now order) × (length (now order) ≤ mostFiles) ⌝ }
     ensures { λ r. ⌜ (r ≡ length
         (infoBytes plen (now (name .entry)) (map (itemAt (now (list .entry)) (now (text .entry))) (now (order .entry)))))
         × (r < 2 ^ 63 + 2 ^ 62) ⌝ }
@@ -76,7 +76,7 @@ pub fn info_size(list: &[u8], text: &[u8], order: &[u32], plen: usize, name: &[u
 
 // The bytes of the second part.
 pub fn rest_size(list: &[u8], text: &[u8], order: &[u32]) -> usize
-    requires { ⌜ Placed (now list) (now text) (now order) × (length (now order) ≤ mostFiles) ⌝ }
+    requires { ⌜ AllInForm (now list) (now text) (now order) × (length (now order) ≤ mostFiles) ⌝ }
     ensures { λ r. ⌜ (r ≡ length (restBytes (map (itemAt (now (list .entry)) (now (text .entry))) (now (order .entry)))))
         × (r < 2 ^ 62) ⌝ }
 {

@@ -22,9 +22,9 @@ use Rattle.layers.specs.Layers.{Inside, stringIn, layerAt, rootBytes, layerStri
 use Rattle.layers.proofs.Finding.{layer-inside}
 use Rattle.torrent.specs.Torrent.{checkedOf, noTorrent, readOf, noFileRead, fileAnswer, fileRead, noPartRead, elementIn, pathRead}
 use Rattle.torrent.specs.CheckLaws.{Whole, checked-so}
-use Rattle.torrent.specs.Find.{placeOf}
+use Rattle.torrent.specs.Find.{soughtFile}
 use Rattle.torrent.specs.declared.check.Checked.{Checked}
-use Rattle.torrent.specs.declared.one.Place.{Place}
+use Rattle.torrent.specs.declared.one.SoughtFile.{SoughtFile}
 use Rattle.torrent.specs.declared.read.Torrent.{Torrent}
 use Rattle.torrent.specs.declared.read.FileRead.{FileRead}
 use Rattle.torrent.specs.declared.read.PartRead.{PartRead}
@@ -65,7 +65,7 @@ string-inside l plen n root = by-long (hasLayer n plen)
 pub string-order : (l : List ℕ) (plen n : ℕ) (root : List ℕ) (w : ByteString) (a b : ℕ) → w ≡ layerString l plen n root → w ≡ Content a b → (a ≤ b) × (b ≤ length l)
 string-order l plen n root w a b e f = rw (sym e ∙ f) at (string-inside l plen n root)
 
-pub one-answer : (t l : List ℕ) (base plen n : ℕ) (p : Place) → p ≡ placeOf (fileNumber (listed (filesIn t)) n) → (root : List ℕ) → root ≡ rootBytes t (p .length) (p .root)
+pub one-answer : (t l : List ℕ) (base plen n : ℕ) (p : SoughtFile) → p ≡ soughtFile (fileNumber (listed (filesIn t)) n) → (root : List ℕ) → root ≡ rootBytes t (p .length) (p .root)
     → (w v : ByteString) → w ≡ layerString l plen (p .length) (cut t (p .root) 32) → w ≡ v
     → _≡_ {A = FileRead} (record { number = 0; length = p .length; root = root; elements = p .elements; start = startOf base v; size = sizeOf v }) (fileAnswer t l base plen (fileNumber (listed (filesIn t)) n))
 one-answer t l base plen n p ep root er w v ew ev = rw (er, sym ev, ew, ep) refl

@@ -20,9 +20,9 @@ use Rattle.layers.specs.JudgeLaws.{tree-some}
 use Rattle.filetree.specs.declared.token.Token.the-variants.{Opened, Closed, Leaf, BadToken}
 use Rattle.numbers.specs.Numbers.{noSuchFile}
 use Rattle.torrent.specs.Torrent.{noPartRead, elementIn}
-use Rattle.torrent.specs.Find.{placeOf, Found, Finds, FoundFile, PathGiven, ElementRead}
+use Rattle.torrent.specs.Find.{soughtFile, Found, Finds, FoundFile, PathGiven, ElementRead}
 use Rattle.torrent.specs.declared.read.PartRead.{PartRead}
-use Rattle.torrent.specs.declared.one.Place.{Place}
+use Rattle.torrent.specs.declared.one.SoughtFile.{SoughtFile}
 use Rattle.torrent.specs.declared.one.Search.{Search}
 use Rattle.torrent.specs.declared.one.Search.the-variants.{Here, Past, WrongTree}
 
@@ -52,7 +52,7 @@ holds-up path d p a b e w =
 same-place : (k j m l : ℕ) → Past k m ≡ Past j l → (k ≡ j) × (m ≡ l)
 same-place k j m l e = (cc, cc)
 
-same-here : (v u : Place) → Here v ≡ Here u → v ≡ u
+same-here : (v u : SoughtFile) → Here v ≡ Here u → v ≡ u
 same-here v u e = cc
 
 -- ---- how far the search has come
@@ -182,7 +182,7 @@ module _ (t : List ℕ) (at levels n : ℕ) (path₀ path : List ℕ) (below i l
             never p o q (yes g) = let u = inside-finds WrongTree x p o q .0 g .0 in let z : _≡_ {A = ℕ} 0 1 = cc in absurd (omega arith)
             never p o q (no g) = let u = inside-finds WrongTree x p o q .1 (omega arith) .0 in let z : _≡_ {A = ℕ} 0 1 = cc in absurd (omega arith)
 
-        pub finds-found : (v : Place) → Finds t (b + 1) below left path′ path″ (Here v) → Finds t at levels n path₀ path″ (Here v)
+        pub finds-found : (v : SoughtFile) → Finds t (b + 1) below left path′ path″ (Here v) → Finds t at levels n path₀ path″ (Here v)
         finds-found v x = record { ends = tt; finds = go }
           where
             go : (p : List Element) → Holds path₀ depth p → (fs : List Listed) (k : ℕ) → whole p ≡ files fs k → Found fs k n p depth path″ (Here v)
@@ -262,7 +262,7 @@ module _ (t : List ℕ) (at levels n : ℕ) (path₀ path : List ℕ) (below i l
 -- ---- the whole tree
 
 module _ (t : List ℕ) (n : ℕ) (path₀ path : List ℕ) (e : right (filesIn t) ≡ true) (h : n < length (listed (filesIn t))) where
-  found-top : (r : Search) → Finds t 1 maxElements n path₀ path r → (r ≡ Here (placeOf (fileNumber (listed (filesIn t)) n))) × Holds path (length (fileNumber (listed (filesIn t)) n .path)) (fileNumber (listed (filesIn t)) n .path)
+  found-top : (r : Search) → Finds t 1 maxElements n path₀ path r → (r ≡ Here (soughtFile (fileNumber (listed (filesIn t)) n))) × Holds path (length (fileNumber (listed (filesIn t)) n .path)) (fileNumber (listed (filesIn t)) n .path)
   unfolding listed flat
   found-top r x =
       let same : filesIn t ≡ filesBelow maxElements t 1 [] = tree-below t (tree-some t e) in
@@ -271,8 +271,8 @@ module _ (t : List ℕ) (n : ℕ) (path₀ path : List ℕ) (e : right (filesIn 
       let l : listed (filesIn t) ≡ y .0 = ap listed (y .2) in
       rw l (z .0 (rw l at h))
 
-  pub tree-found : (v : Place) → Finds t 1 maxElements n path₀ path (Here v) → FoundFile path (fileNumber (listed (filesIn t)) n) v
-  tree-found v x = let y = found-top (Here v) x in record { place = same-here v (placeOf (fileNumber (listed (filesIn t)) n)) (y .0); holds = y .1 }
+  pub tree-found : (v : SoughtFile) → Finds t 1 maxElements n path₀ path (Here v) → FoundFile path (fileNumber (listed (filesIn t)) n) v
+  tree-found v x = let y = found-top (Here v) x in record { place = same-here v (soughtFile (fileNumber (listed (filesIn t)) n)) (y .0); holds = y .1 }
 
   pub never-past : {A : Type 0} (k m : ℕ) → Finds t 1 maxElements n path₀ path (Past k m) → A
   never-past k m x = let y = found-top (Past k m) x .0 in let z : _≡_ {A = ℕ} 0 1 = cc in absurd (omega arith)
@@ -282,7 +282,7 @@ module _ (t : List ℕ) (n : ℕ) (path₀ path : List ℕ) (e : right (filesIn 
 
 -- ---- what is answered of a file that was found
 
-module _ (t : List ℕ) (n : ℕ) (h : n < length (listed (filesIn t))) (path : List ℕ) (v : Place) (x : FoundFile path (fileNumber (listed (filesIn t)) n) v) where
+module _ (t : List ℕ) (n : ℕ) (h : n < length (listed (filesIn t))) (path : List ℕ) (v : SoughtFile) (x : FoundFile path (fileNumber (listed (filesIn t)) n) v) where
   abbrev f : Listed
   f = fileNumber (listed (filesIn t)) n
 

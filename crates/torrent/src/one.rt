@@ -20,8 +20,8 @@ ghost use Rattle.filetree.specs.Path.{pathSize};
 ghost use Rattle.layers.specs.Layers.{layerAt, rootBytes, layerString};
 ghost use Rattle.torrent.specs.Find.{Finds, FoundFile};
 
-// A file's length, its root's position (0 if it is empty), and how many path elements it has.
-pub struct Place {
+// The file sought: its length, its root's position (0 if it is empty), and how many path elements it has.
+pub struct SoughtFile {
     pub length: usize,
     pub root: usize,
     pub elements: usize,
@@ -29,7 +29,7 @@ pub struct Place {
 
 // The file; or the position past a directory, and how many files are still to pass; or something is wrong.
 pub enum Search {
-    Here { place: Place },
+    Here { place: SoughtFile },
     Past { next: usize, left: usize },
     WrongTree,
 }
@@ -64,7 +64,7 @@ fn find_in(t: &[u8], at: usize, levels: usize, n: usize, path: &mut [usize]) -> 
             } => {
                 if left == 0 {
                     set_element(path, depth, start, end);
-                    let place = Place {
+                    let place = SoughtFile {
                         length,
                         root,
                         elements: depth + 1,
@@ -94,10 +94,10 @@ fn find_in(t: &[u8], at: usize, levels: usize, n: usize, path: &mut [usize]) -> 
     Search::WrongTree
 }
 
-fn no_place() -> Place
+fn no_place() -> SoughtFile
     ensures { λ r. ⌜ r ≡ record { length = 0; root = 0; elements = 0 } ⌝ }
 {
-    Place {
+    SoughtFile {
         length: 0,
         root: 0,
         elements: 0,
@@ -105,7 +105,7 @@ fn no_place() -> Place
 }
 
 // File n of the tree t, if it has one; its path is then in `path`.
-pub fn find_file(t: &[u8], n: usize, path: &mut [usize]) -> Place
+pub fn find_file(t: &[u8], n: usize, path: &mut [usize]) -> SoughtFile
     requires { ⌜ (right (filesIn (now t)) ≡ true) × (n < L.length (listed (filesIn (now t)))) × (L.length (now path) ≡ pathSize) ⌝ }
     ensures { λ r. ⌜ FoundFile (now (path .exit)) (fileNumber (listed (filesIn (now (t .entry)))) n) r ⌝ }
 {

@@ -8,13 +8,13 @@ use lib.ListN.{length}
 use Rattle.publishing.specs.Content.{itemBefore}
 use Rattle.publishing.specs.Number.{contentNumber}
 use Rattle.lists.specs.Lists.{recordCount, itemAt, listForm, contentOf}
-use Rattle.ordered.specs.Order.{rootBefore, Placed, InOrder, mostFiles}
+use Rattle.ordered.specs.Order.{rootBefore, AllInForm, InOrder, mostFiles}
 use Rattle.output.specs.Whole.{restBytes}
 use Rattle.writing.specs.Write.{torrentBytes}
 use Rattle.writing.specs.declared.Measured.{Measured}
 
 -- a list in its form, of no more records than files go into a torrent, and work space for as many positions, twice
-pub record Ready (list text at room : List ℕ) : Type 0 where
+pub record Prepared (list text at room : List ℕ) : Type 0 where
   pub form : listForm list text ≡ true
   pub few : recordCount list ≤ mostFiles
   pub at-size : length at ≡ recordCount list
@@ -28,7 +28,7 @@ pub record MeasuredRight (list text : List ℕ) (plen : ℕ) (name at : List ℕ
 
 -- the second part of these positions is that of positions by root and layer: they are so, or there are no layers
 pub record ForRest (list text at : List ℕ) : Type 0 where
-  pub placed : Placed list text at
+  pub placed : AllInForm list text at
   pub roots : List ℕ
   pub by-root : InOrder rootBefore list text roots
   pub as-roots : restBytes (map (itemAt list text) at) ≡ restBytes (map (itemAt list text) roots)

@@ -21,7 +21,7 @@ use Rattle.publishing.specs.Number.{meet, tooLarge, contentNumber}
 use Rattle.publishing.specs.SizeLaws.{map-permuted}
 use Rattle.publishing.specs.GoodLaws.{all-passed, good}
 use Rattle.lists.specs.Lists.{recordSize, recordCount, itemAt, listForm, contentOf}
-use Rattle.ordered.specs.Order.{rootBefore, comes, Placed, positions, InOrder, mostFiles}
+use Rattle.ordered.specs.Order.{rootBefore, comes, AllInForm, positions, InOrder, mostFiles}
 use Rattle.ordered.specs.OrderLaws.{content-there, all-placed, positions-length}
 use Rattle.ordered.specs.InOrderLaws.{all-permuted, tree-in-order, meet-told, roots-in-order}
 use Rattle.ordered.specs.Neighbours.{neighbours, leads}
@@ -30,13 +30,13 @@ use Rattle.output.specs.PutLaws.{put-append}
 use Rattle.output.specs.Whole.{infoBytes, restBytes}
 use Rattle.output.specs.WholeLaws.{rest-any-order, size-there, torrent-there, too-many}
 use Rattle.writing.specs.Write.{torrentBytes, writeNumber, writeAnswer, writeAfter}
-use Rattle.writing.specs.Steps.{Ready, ForRest}
+use Rattle.writing.specs.Steps.{Prepared, ForRest}
 
 -- ---- positions
 
 module _ (list text : List ℕ) (h : listForm list text ≡ true) where
   -- placed one by one
-  pub places : (a : List ℕ) (n : ℕ) → n ≡ recordCount list → a ≡ positions n → Placed list text a
+  pub places : (a : List ℕ) (n : ℕ) → n ≡ recordCount list → a ≡ positions n → AllInForm list text a
   places a n e p = rw (p, e) (all-placed list text h)
 
   -- then by root
@@ -126,7 +126,7 @@ pub part-end : (n : ℕ) (s : List ℕ) → n ≤ mostFiles → length s ≡ mos
 part-end n s h e = omega arith
 
 pub part-ready : (list text at room : List ℕ) → listForm list text ≡ true → recordCount list ≤ mostFiles → length at ≡ mostFiles
-    → length room ≡ mostFiles → Ready list text (take (recordCount list - 0) at) (take (recordCount list - 0) room)
+    → length room ≡ mostFiles → Prepared list text (take (recordCount list - 0) at) (take (recordCount list - 0) room)
 part-ready list text at room h f a b =
     record {
       form = h;

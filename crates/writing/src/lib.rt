@@ -25,7 +25,7 @@ ghost use Rattle.publishing.specs.Number.{contentNumber};
 ghost use Rattle.lists.specs.Lists.{contentOf};
 ghost use Rattle.ordered.specs.Order.{InOrder, mostFiles};
 ghost use Rattle.writing.specs.Write.{torrentBytes, writeAnswer, writeAfter};
-ghost use Rattle.writing.specs.Steps.{Ready, MeasuredRight, ForRest};
+ghost use Rattle.writing.specs.Steps.{Prepared, MeasuredRight, ForRest};
 
 // What is worked out of a list before a byte is written: its number, the size of its torrent.
 pub struct Measured {
@@ -42,7 +42,7 @@ fn measure(
     at: &mut [u32],
     room: &mut [u32],
 ) -> Measured
-    requires { ⌜ Ready (now list) (now text) (now at) (now room) ⌝ }
+    requires { ⌜ Prepared (now list) (now text) (now at) (now room) ⌝ }
     ensures { λ r. ⌜ MeasuredRight (now (list .entry)) (now (text .entry)) plen (now (name .entry)) (now (at .exit)) r ⌝ }
 {
     let n = at.len();
@@ -61,7 +61,7 @@ fn measure(
 // `at`, which has the positions in tree order, gets those that `piece layers` is written of. Without layers the order does not matter: the
 // second part of the torrent has two bytes then.
 fn order_for_rest(list: &[u8], text: &[u8], at: &mut [u32], room: &mut [u32])
-    requires { ⌜ Ready (now list) (now text) (now at) (now room) × InOrder itemBefore (now list) (now text) (now at) ⌝ }
+    requires { ⌜ Prepared (now list) (now text) (now at) (now room) × InOrder itemBefore (now list) (now text) (now at) ⌝ }
     ensures { λ _. ⌜ ForRest (now (list .entry)) (now (text .entry)) (now (at .exit)) ⌝ }
 {
     let n = at.len();
@@ -81,7 +81,7 @@ fn put_torrent(
     room: &mut [u32],
     out: &mut [u8],
 )
-    requires { ⌜ Ready (now list) (now text) (now at) (now room) × InOrder itemBefore (now list) (now text) (now at)
+    requires { ⌜ Prepared (now list) (now text) (now at) (now room) × InOrder itemBefore (now list) (now text) (now at)
         × (contentNumber plen (now name) (contentOf (now list) (now text)) ≡ 0)
         × (length (torrentBytes (now list) (now text) plen (now name)) ≤ length (now out)) ⌝ }
     ensures { λ _. ⌜ now (out .exit)
@@ -102,7 +102,7 @@ fn write_in(
     room: &mut [u32],
     out: &mut [u8],
 ) -> Answer
-    requires { ⌜ Ready (now list) (now text) (now at) (now room) ⌝ }
+    requires { ⌜ Prepared (now list) (now text) (now at) (now room) ⌝ }
     ensures { λ r. ⌜ (r ≡ writeAnswer (now (list .entry)) (now (text .entry)) plen (now (name .entry)) (now (out .entry)))
         × (now (out .exit) ≡ writeAfter (now (list .entry)) (now (text .entry)) plen (now (name .entry)) (now (out .entry))) ⌝ }
 {

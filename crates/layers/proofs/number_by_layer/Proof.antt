@@ -1,4 +1,5 @@
-use Rattle.layers.proofs.Finding.{layer-inside, number-none, long-some, root-slice, number-here}
+use Rattle.tree.specs.GeometryLaws.{long-full}
+use Rattle.layers.proofs.Finding.{layer-inside, number-none, root-slice, number-here}
 use native.Mathlib.Omega.{arith}
 use Prim.Native.Nat.{_-_}
 use mathlib.Core.Path.{sym, _∙_}
@@ -10,7 +11,7 @@ has-layer-requires : tie.Need-has-layer-requires
 has-layer-requires c κs = search needs
 
 add-past : tie.Need-add-past
-add-past c = let x = c .before .before .before .before .before .before .pre .3 (long-some _ _ (sym (c .before .has-layer .ensures) ∙ c .if1 .taken)) in omega arith
+add-past c = let x = c .before .before .before .before .before .before .pre .3 (long-full _ _ (sym (c .before .has-layer .ensures) ∙ c .if1 .taken)) in omega arith
 
 sub-find-layer : tie.Need-sub-find-layer
 sub-find-layer c = search needs
@@ -19,7 +20,7 @@ part-find-layer-start : tie.Need-part-find-layer-start
 part-find-layer-start c = search needs
 
 part-find-layer-end : tie.Need-part-find-layer-end
-part-find-layer-end c = let x = c .before .before .before .before .before .before .pre .3 (long-some _ _ (sym (c .before .has-layer .ensures) ∙ c .if1 .taken)) in omega arith
+part-find-layer-end c = let x = c .before .before .before .before .before .before .pre .3 (long-full _ _ (sym (c .before .has-layer .ensures) ∙ c .if1 .taken)) in omega arith
 
 find-layer-requires : tie.Need-find-layer-requires
 find-layer-requires c κs = search needs
@@ -31,10 +32,10 @@ part-of-layer-start : tie.Need-part-of-layer-start
 part-of-layer-start c = search needs
 
 part-of-layer-end : tie.Need-part-of-layer-end
-part-of-layer-end c = let x = c .before .before .before .before .before .before .before .before .pre .3 (long-some _ _ (sym (c .before .before .before .has-layer .ensures) ∙ c .before .before .if1 .taken)) in omega arith
+part-of-layer-end c = let x = c .before .before .before .before .before .before .before .before .pre .3 (long-full _ _ (sym (c .before .before .before .has-layer .ensures) ∙ c .before .before .if1 .taken)) in omega arith
 
 of-layer-requires : tie.Need-of-layer-requires
-of-layer-requires c κs = (c .before .before .before .before .before .before .before .before .before .pre .1, (sym (c .before .before .before .before .has-layer .ensures) ∙ c .before .before .before .if1 .taken), c .before .before .before .before .before .before .before .before .before .pre .2, root-slice _ _ (c .before .before .before .before .before .before .before .before .before .pre .3 (long-some _ _ (sym (c .before .before .before .before .has-layer .ensures) ∙ c .before .before .before .if1 .taken))), rw (c .before .find-layer .ensures) (layer-inside _ _), c .before .before .before .before .before .before .before .before .before .pre .4)
+of-layer-requires c κs = (c .before .before .before .before .before .before .before .before .before .pre .1, (sym (c .before .before .before .before .has-layer .ensures) ∙ c .before .before .before .if1 .taken), c .before .before .before .before .before .before .before .before .before .pre .2, root-slice _ _ (c .before .before .before .before .before .before .before .before .before .pre .3 (long-full _ _ (sym (c .before .before .before .before .has-layer .ensures) ∙ c .before .before .before .if1 .taken))), rw (c .before .find-layer .ensures) (layer-inside _ _), c .before .before .before .before .before .before .before .before .before .pre .4)
 
 returns : tie.Need-returns
 returns c = number-here _ _ _ _ _ _ _ (sym (c .before .before .before .before .before .has-layer .ensures) ∙ c .before .before .before .before .if1 .taken) (c .before .before .find-layer .ensures) (c .of-layer .ensures)
