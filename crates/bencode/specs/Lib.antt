@@ -1,8 +1,10 @@
 pub mod Grammar
+pub mod Front
 pub mod Scalar
 pub mod Walk
 pub mod Strict
 pub mod Parts
+pub mod FrontLaws
 pub mod EndsLaws
 pub mod CompleteLaws
 pub mod SoundLaws

@@ -1,4 +1,5 @@
-// Keys, compared byte for byte: their order, and whether one is a given key.
+// Strings compared by their common front: whether they are the same, and which stands before the other; and the order of keys.
+use crate::front::front;
 use crate::scalar::ByteString;
 use crate::scalar::read_string;
 ghost use mathlib.Core.Path.{_≡_};
@@ -8,41 +9,29 @@ ghost use Rattle.octets.specs.Octets as O;
 ghost use Rattle.bencode.specs.Grammar.{precedes};
 ghost use Rattle.bencode.specs.Walk.{readKey, keyBefore};
 
-// Whether x stands before y: at the first byte that differs x has the smaller one, or x is y's beginning.
-pub fn comes_before(x: &[u8], y: &[u8]) -> bool
-    ensures { λ r. ⌜ r ≡ precedes (now (x .entry)) (now (y .entry)) ⌝ }
-{
-    let mut i = 0;
-    while i < y.len() {
-        if x.len() <= i {
-            return true;
-        }
-        if x[i] < y[i] {
-            return true;
-        }
-        if y[i] < x[i] {
-            return false;
-        }
-        i += 1;
-    }
-    false
-}
-
 // Whether x and y are the same bytes.
 pub fn same(x: &[u8], y: &[u8]) -> bool
     ensures { λ r. ⌜ r ≡ O.same (now (x .entry)) (now (y .entry)) ⌝ }
 {
-    let mut i = 0;
-    while i < x.len() {
-        if y.len() <= i {
-            return false;
-        }
-        if x[i] != y[i] {
-            return false;
-        }
-        i += 1;
+    if x.len() != y.len() {
+        return false;
     }
-    i == y.len()
+    let n = front(x, y);
+    n == x.len()
+}
+
+// Whether x stands before y: at the first byte that differs x has the smaller one, or x is y's beginning.
+pub fn comes_before(x: &[u8], y: &[u8]) -> bool
+    ensures { λ r. ⌜ r ≡ precedes (now (x .entry)) (now (y .entry)) ⌝ }
+{
+    let n = front(x, y);
+    if y.len() <= n {
+        return false;
+    }
+    if x.len() <= n {
+        return true;
+    }
+    x[n] < y[n]
 }
 
 // The string at `at` if it is a key: it stands after the key before it, which is the bytes from start up to end where one was seen.

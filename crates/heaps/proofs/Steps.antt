@@ -9,8 +9,8 @@ use native.Mathlib.Decide.{ℕ-discrete, decLt}
 use native.Mathlib.Nat.{add-mul, one-mul, le-mul-of-pos-right}
 use native.Mathlib.Numerals.{add-one}
 use native.Mathlib.Omega.{arith}
-use lib.ListN.{length, take, drop}
-use lib.Seq.{length-take-le, take-all}
+use lib.ListN.{length}
+use lib.Seq.{take-all}
 use lib.Pow.{pow-mono, pow-pos}
 use borrow.Author.Tests.{ltb-true}
 use Rattle.octets.specs.Octets.{cut, pasted, same}
@@ -76,10 +76,6 @@ halves-fit (suc k) j p b =
     let d = add-mul (2 * j + 1) 1 (2 ^ k) in
     let r = right-end j k in
     rw e (omega arith, omega arith, omega arith)
-
--- the front of a room
-pub front-length : (room : List ℕ) (n : ℕ) → n ≤ length room → length (take (n - 0) (drop 0 room)) ≡ n
-front-length room n h = let e : n - 0 ≡ n = omega arith in ap (λ (k : ℕ). length (take k room)) e ∙ length-take-le n room h
 
 -- ---- a piece layer's root
 

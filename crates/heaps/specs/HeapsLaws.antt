@@ -5,8 +5,9 @@ use mathlib.Core.List.{List}
 use Prim.Native.Nat.{ℕ, zero, suc, _+_, _-_, _*_, _/_, _^_, _≤_, _<_}
 use native.Mathlib.Nat.{add-mul, one-mul, mul-assoc, mul-comm, mul-le-mul-right, le-mul-of-pos-right}
 use native.Mathlib.Omega.{arith}
-use lib.ListN.{length}
+use lib.ListN.{length, take, drop}
 use lib.Pow.{pow-add, pow-pos}
+use lib.Seq.{length-take-le}
 use borrow.Author.Tests.{lt-ltb, le-ltb}
 use Rattle.octets.specs.Octets.{cut}
 use Rattle.sha256.specs.Sha256.{pairHash}
@@ -15,6 +16,10 @@ use Rattle.tree.specs.GeometryLaws.{left-start, right-start, right-end}
 use Rattle.tree.specs.Values.{node, padValue, layerLeaf}
 use Rattle.tree.specs.ValuesLaws.{node-same, node-shift}
 use Rattle.heaps.specs.Heaps.{hashIn, Parents, Over, Worked, raised}
+
+-- the front of a room
+pub front-length : (room : List ℕ) (n : ℕ) → n ≤ length room → length (take (n - 0) (drop 0 room)) ≡ n
+front-length room n h = let e : n - 0 ≡ n = omega arith in ap (λ (k : ℕ). length (take k room)) e ∙ length-take-le n room h
 
 -- where the leaves under x are in a heap, so are those under its children
 pub children-in : (l k x : ℕ) → 0 < k → 32 * ((x + 1) * 2 ^ k) ≤ l

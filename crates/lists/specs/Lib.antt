@@ -1,5 +1,4 @@
 pub mod Lists
+pub mod Walk
 pub mod ListsLaws
-pub mod Front
-pub mod FrontLaws
 pub mod PathsLaws

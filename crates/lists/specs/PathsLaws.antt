@@ -17,9 +17,10 @@ use Rattle.publishing.specs.Content.{pathBefore}
 use Rattle.publishing.specs.Number.{begins}
 use Rattle.publishing.specs.OrderLaws.{path-one-way}
 use Rattle.lists.specs.Lists.{elementEnd, elementsFit, elementsIn}
+use Rattle.lists.specs.Walk.{PathLeft, Walk}
 use Rattle.lists.specs.ListsLaws.{number-there}
-use Rattle.lists.specs.Front.{Front}
-use Rattle.lists.specs.FrontLaws.{front-short, front-both}
+use Rattle.bencode.specs.Front.{Front}
+use Rattle.bencode.specs.FrontLaws.{front-short, front-both}
 
 -- ---- what is left of one path
 
@@ -60,12 +61,6 @@ cut-there : (s : List ℕ) (at n : ℕ) → cut (drop at s) 4 n ≡ take n (drop
 unfolding cut
 cut-there s at n = ap (take n) (drop-drop 4 at s)
 
--- one path from a position on
-pub record PathLeft (s : List ℕ) (at : ℕ) : Type 0 where
-  pub within : at ≤ length s
-  pub steps : ℕ
-  pub fits : elementsFit steps (drop at s) ≡ true
-
 pub path-start : (s : List ℕ) → elementsFit (length s) s ≡ true → PathLeft s 0
 path-start s h = record { within = omega arith; steps = length s; fits = h }
 
@@ -98,13 +93,7 @@ path-elements s at l h =
     (ap (cut (drop at s) 4) (number-there s at) ∙ cut-there s at (numberAt s at 4))
     (ap (elementsIn (f .fewer)) (rest-is s at))
 
--- ---- both paths at one position, and a question whose answer goes on behind elements that are the same
-
-pub record Walk (answer : List (List ℕ) → List (List ℕ) → Bool) (p q : List ℕ) (at : ℕ) : Type 0 where
-  pub left : PathLeft p at
-  pub right : PathLeft q at
-  pub same-answer : answer (elementsIn (length p) p) (elementsIn (length q) q) ≡ answer (elementsIn (left .steps) (drop at p))
-      (elementsIn (right .steps) (drop at q))
+-- ---- both paths at one position
 
 none-left : (s : List ℕ) (at : ℕ) (l : PathLeft s at) → length s ≤ at → elementsIn (l .steps) (drop at s) ≡ []
 none-left s at l h = in-end (l .steps) (drop at s) (length-drop at s ∙ omega arith)

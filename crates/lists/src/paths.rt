@@ -1,7 +1,7 @@
 // Paths in tree order, element by element: `a/b` stands before `a.txt`.
-use crate::front::comes_before;
-use crate::front::front;
-use crate::front::same;
+use bencode::front::front;
+use bencode::order::comes_before;
+use bencode::order::same;
 use crate::word::word_at;
 ghost use mathlib.Core.Path.{_≡_};
 ghost use mathlib.Core.Bool.{true};
@@ -10,7 +10,7 @@ ghost use lib.ListN.{length};
 ghost use Rattle.publishing.specs.Content.{pathBefore, itemBefore};
 ghost use Rattle.publishing.specs.Number.{begins};
 ghost use Rattle.lists.specs.Lists.{elementsFit, elementsIn, itemAt, formAt};
-ghost use Rattle.lists.specs.PathsLaws.{Walk};
+ghost use Rattle.lists.specs.Walk.{Walk};
 
 // Whether the path p stands before the path q, whose elements before a position are the same. As long as they are, both are at one
 // position.

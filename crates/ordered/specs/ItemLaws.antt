@@ -21,7 +21,8 @@ use Rattle.publishing.specs.Number.{some, noElements, tooDeep, wrongItem, misfi
 use Rattle.publishing.specs.SomeLaws.{or-left, or-right}
 use Rattle.lists.specs.Lists.{recordSize, elementsFit, elementsIn, itemAt, formAt, formUpTo, itemsUpTo, recordCount, listForm, contentOf}
 use Rattle.lists.specs.ListsLaws.{slice-path, slice-fits}
-use Rattle.lists.specs.PathsLaws.{in-end, PathLeft, path-more, path-elements}
+use Rattle.lists.specs.Walk.{PathLeft}
+use Rattle.lists.specs.PathsLaws.{in-end, path-more, path-elements}
 use Rattle.ordered.specs.Order.{InForm}
 use Rattle.ordered.specs.CompareLaws.{form-parts}
 

@@ -1,7 +1,7 @@
 // 26 and 28 of files that stand by their roots, in runs of one root: files that are not empty have one length and one layer in a run, and
 // the first one's layer gives the root. So each root's layer is hashed once.
 use crate::compare::index;
-use lists::front::same;
+use bencode::order::same;
 use octets::number_at;
 use tree::geometry::has_layer;
 use tree::geometry::piece_layer;

@@ -1,6 +1,6 @@
 // What a file alone may have wrong: a path too deep (21), a wrong path, length or root (25), a layer of a wrong size (27).
+use bencode::order::same;
 use filetree::element::element_right;
-use lists::front::same;
 use octets::hash_at;
 use octets::number_at;
 use tree::geometry::has_layer;

@@ -15,7 +15,8 @@ use Rattle.bencode.specs.Grammar.{letterD, letterE, encodeString}
 use Rattle.publishing.specs.Written.{shared, opened, closed}
 use Rattle.lists.specs.Lists.{elementEnd, elementsFit, elementsIn}
 use Rattle.lists.specs.ListsLaws.{fit-end}
-use Rattle.lists.specs.PathsLaws.{in-end, PathLeft, element-there, path-more, path-elements}
+use Rattle.lists.specs.Walk.{PathLeft}
+use Rattle.lists.specs.PathsLaws.{in-end, element-there, path-more, path-elements}
 use Rattle.output.specs.Put.{Put}
 use Rattle.output.specs.PutLaws.{Going, going-more, going-end, going-room}
 use Rattle.output.specs.Path.{pathIn, leftIn, Standing, SharedTo}

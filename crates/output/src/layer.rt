@@ -1,7 +1,7 @@
 // `piece layers`, of files in the order of their roots and layers.
 use crate::plain::put_byte;
 use crate::plain::put_string;
-use lists::front::same;
+use bencode::order::same;
 use octets::number_at;
 use ordered::compare::index;
 ghost use mathlib.Core.Path.{_≡_};

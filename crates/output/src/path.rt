@@ -23,7 +23,7 @@ pub fn shared_end(p: &[u8], q: &[u8]) -> usize
         let start = at + 4;
         let x = &p[start..start + m];
         let y = &q[start..start + n];
-        if !lists::front::same(x, y) {
+        if !bencode::order::same(x, y) {
             return at;
         }
         at = start + m;

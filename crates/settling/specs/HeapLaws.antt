@@ -9,12 +9,12 @@ use native.Mathlib.Nat.{add-mul, one-mul, mul-le-mul-right, le-mul-of-pos-right}
 use native.Mathlib.Decide.{decLt}
 use native.Mathlib.Omega.{arith}
 use lib.ListN.{length, take, drop}
-use lib.Seq.{length-take-le, take-at}
+use lib.Seq.{take-at}
 use lib.Pow.{pow-mono, pow-pos}
 use Rattle.octets.specs.Octets.{cut, pasted}
 use Rattle.octets.specs.OctetsLaws.{cut-cut, cut-whole, cut-pasted-same, cut-pasted-other, pasted-length}
 use Rattle.sha256.specs.Sha256.{pairHash}
-use Rattle.lanes.proofs.Filling.{block-in}
+use Rattle.lanes.specs.HashesLaws.{block-in}
 use Rattle.lanes.specs.Hashes.{Heap, eighthHash, blockHash}
 use Rattle.tree.specs.GeometryLaws.{left-start, right-start, shifted-one, block-within}
 use Rattle.tree.specs.Values.{node, leafOf, blockOf}
@@ -95,9 +95,6 @@ fit-first f = record { room = f .room; top = f .top; index = omega arith }
 
 pub room-part : (k : ℕ) → k ≤ roomLayers → ((1 * 2 ^ k) % 2 ^ 64 ≡ 2 ^ k) × (64 * 2 ^ k ≤ roomSize)
 room-part k h = (shifted-one k (omega arith), omega (arith, pow-mono {i = k} {j = roomLayers} h))
-
-pub front-length : (room : List ℕ) (n : ℕ) → n ≤ length room → length (take (n - 0) (drop 0 room)) ≡ n
-front-length room n h = let e : n - 0 ≡ n = omega arith in ap (λ (k : ℕ). length (take k room)) e ∙ length-take-le n room h
 
 -- ---- a heap that stays in the room
 

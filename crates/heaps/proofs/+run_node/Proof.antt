@@ -1,7 +1,8 @@
 -- By the layers left, k: past the run the value is raised, up to 2^e leaves are one heap, else a node is the pair of two.
 -- Assumes nothing.
 use Rattle.tree.specs.ValuesLaws.{node-pair}
-use Rattle.heaps.proofs.Steps.{node-past, heap-fits, halves-fit, front-length}
+use Rattle.heaps.specs.HeapsLaws.{front-length}
+use Rattle.heaps.proofs.Steps.{node-past, heap-fits, halves-fit}
 use borrow.Author.Needs.{needs}
 use native.Mathlib.Omega.{arith}
 use lib.ListN.{length}

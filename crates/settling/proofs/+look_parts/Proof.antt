@@ -1,7 +1,8 @@
 -- Up to nine layers in one heap; above, left child, right child and top, by recursion on the height.
 -- Assumes nothing.
 use Rattle.settling.specs.Subtree.{runLeaf}
-use Rattle.settling.specs.HeapLaws.{room-part, front-length, heaped-by, heaped-high}
+use Rattle.heaps.specs.HeapsLaws.{front-length}
+use Rattle.settling.specs.HeapLaws.{room-part, heaped-by, heaped-high}
 use Rattle.settling.specs.SubtreeLaws.{fit-self, fit-left, fit-right, looked-up}
 use borrow.Author.Needs.{needs}
 use native.Mathlib.Omega.{arith}

@@ -1,7 +1,8 @@
 -- Up to nine layers in one heap; above, left child, right child and top, by recursion on the height.
 -- Assumes nothing.
 use Rattle.tree.specs.Values.{leafOf}
-use Rattle.settling.specs.HeapLaws.{room-part, front-length}
+use Rattle.heaps.specs.HeapsLaws.{front-length}
+use Rattle.settling.specs.HeapLaws.{room-part}
 use Rattle.settling.specs.SubtreeLaws.{fit-self, fit-left, fit-right, looked-up}
 use borrow.Author.Needs.{needs}
 use native.Mathlib.Omega.{arith}

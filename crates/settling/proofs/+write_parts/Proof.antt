@@ -2,7 +2,8 @@
 -- Assumes nothing.
 use Rattle.cells.specs.EntriesLaws.{lacks-small}
 use Rattle.settling.specs.Subtree.{runLeaf}
-use Rattle.settling.specs.HeapLaws.{room-part, front-length}
+use Rattle.heaps.specs.HeapsLaws.{front-length}
+use Rattle.settling.specs.HeapLaws.{room-part}
 use Rattle.settling.specs.SubtreeLaws.{fit-self, fit-left, fit-right, fit-length, subtree-small, wrote-up}
 use borrow.Author.Needs.{needs}
 use native.Mathlib.Omega.{arith}

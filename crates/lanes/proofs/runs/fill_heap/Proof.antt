@@ -2,7 +2,8 @@
 -- Assumes nothing.
 use Rattle.sha256.specs.Sha256Laws.{pair-octets}
 use Rattle.sha256.specs.Sha256.{pairHash}
-use Rattle.lanes.proofs.Filling.{heap-none, heap-more, heap-at, heap-again, heap-then, one-parent, parent-in}
+use Rattle.lanes.proofs.Filling.{heap-none, heap-more, heap-at, heap-again, heap-then, one-parent}
+use Rattle.lanes.specs.HashesLaws.{parent-in}
 use Rattle.lanes.specs.Hashes.{Heap, parentOf}
 use borrow.Author.Needs.{needs}
 use native.Mathlib.Omega.{arith}

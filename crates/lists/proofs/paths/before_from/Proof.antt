@@ -1,7 +1,8 @@
 use Rattle.bencode.specs.Grammar.{precedes}
 use borrow.Author.Tests.{not-true, not-false}
 use Rattle.publishing.specs.Content.{pathBefore}
-use Rattle.lists.specs.PathsLaws.{Walk, walk-second-end, before-step, before-none, before-first-end, element-size, element-end, slices-differ, slices-same}
+use Rattle.lists.specs.Walk.{Walk}
+use Rattle.lists.specs.PathsLaws.{walk-second-end, before-step, before-none, before-first-end, element-size, element-end, slices-differ, slices-same}
 use borrow.Author.Needs.{needs}
 use Prim.Native.Nat.{_-_}
 use lib.ListN.{length}

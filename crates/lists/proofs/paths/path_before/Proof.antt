@@ -1,7 +1,8 @@
 use Rattle.bencode.specs.Grammar.{precedes}
-use Rattle.lists.specs.Front.{Front}
+use Rattle.bencode.specs.Front.{Front}
 use Rattle.publishing.specs.Content.{pathBefore}
-use Rattle.lists.specs.PathsLaws.{Walk, walk-start, before-step, before-first-end, element-size, element-end, front-more, front-inside, before-inside}
+use Rattle.lists.specs.Walk.{Walk}
+use Rattle.lists.specs.PathsLaws.{walk-start, before-step, before-first-end, element-size, element-end, front-more, front-inside, before-inside}
 use borrow.Author.Needs.{needs}
 use Prim.Native.Nat.{_-_, _≤_}
 use lib.ListN.{length}

@@ -6,7 +6,8 @@ use mathlib.Core.Bool.{Bool, false}
 use mathlib.Core.List.{List}
 use borrow.Author.Tests.{not-true, not-false}
 use Rattle.publishing.specs.Number.{begins}
-use Rattle.lists.specs.PathsLaws.{Walk, walk-start, walk-second-end, begins-step, begins-none, begins-first-end, element-size, element-end, slices-differ, slices-same}
+use Rattle.lists.specs.Walk.{Walk}
+use Rattle.lists.specs.PathsLaws.{walk-start, walk-second-end, begins-step, begins-none, begins-first-end, element-size, element-end, slices-differ, slices-same}
 use Rattle.lists.proofs.paths.path_begins.Statement.{statement}
 use Rattle.lists.proofs.paths.path_begins.Tie as tie
 

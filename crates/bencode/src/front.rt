@@ -1,13 +1,10 @@
-// How far two strings of bytes are the same, looked at four bytes at a time; and by that, whether they are the same and which stands
-// before the other.
+// How far two strings of bytes are the same, looked at four bytes at a time.
 use octets::wide;
 ghost use mathlib.Core.Path.{_≡_};
 ghost use mathlib.Core.Bool.{true};
 ghost use Prim.Native.Nat.{_+_, _≤_, _<_};
 ghost use lib.ListN.{length, getD};
-ghost use Rattle.octets.specs.Octets as O;
-ghost use Rattle.bencode.specs.Grammar.{precedes};
-ghost use Rattle.lists.specs.Front.{Alike, FourAlike, Front};
+ghost use Rattle.bencode.specs.Front.{Alike, FourAlike, Front};
 
 // Whether four bytes at i are the same. Written out, so that they are read as one word.
 fn four_alike(x: &[u8], y: &[u8], i: usize) -> bool
@@ -63,29 +60,4 @@ pub fn front(x: &[u8], y: &[u8]) -> usize
         i += 1;
     }
     i
-}
-
-// Whether x and y are the same bytes.
-pub fn same(x: &[u8], y: &[u8]) -> bool
-    ensures { λ r. ⌜ r ≡ O.same (now (x .entry)) (now (y .entry)) ⌝ }
-{
-    if x.len() != y.len() {
-        return false;
-    }
-    let n = front(x, y);
-    n == x.len()
-}
-
-// Whether x stands before y: at the first byte that differs x has the smaller one, or x is y's beginning.
-pub fn comes_before(x: &[u8], y: &[u8]) -> bool
-    ensures { λ r. ⌜ r ≡ precedes (now (x .entry)) (now (y .entry)) ⌝ }
-{
-    let n = front(x, y);
-    if y.len() <= n {
-        return false;
-    }
-    if x.len() <= n {
-        return true;
-    }
-    x[n] < y[n]
 }

@@ -1,9 +1,9 @@
-use Rattle.lists.specs.FrontLaws.{front-here, front-end, alike-one}
-use Rattle.lists.specs.Front.{Alike}
+use Rattle.bencode.specs.FrontLaws.{front-here, front-end, alike-one}
+use Rattle.bencode.specs.Front.{Alike}
 use borrow.Author.Needs.{needs}
 use Prim.Native.Nat.{_-_, _≤_}
-use Rattle.lists.proofs.front.front.Statement.{statement}
-use Rattle.lists.proofs.front.front.Tie as tie
+use Rattle.bencode.proofs.front.front.Statement.{statement}
+use Rattle.bencode.proofs.front.front.Tie as tie
 
 abbrev Inv-loop : tie.InvT-loop
 Inv-loop x y n i₀ i = (i ≤ n) × Alike x y i

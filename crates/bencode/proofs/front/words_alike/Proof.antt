@@ -1,10 +1,10 @@
 use borrow.Author.Tests.{not-false}
-use Rattle.lists.specs.FrontLaws.{alike-none, alike-four}
-use Rattle.lists.specs.Front.{Alike}
+use Rattle.bencode.specs.FrontLaws.{alike-none, alike-four}
+use Rattle.bencode.specs.Front.{Alike}
 use borrow.Author.Needs.{needs}
 use Prim.Native.Nat.{_-_, _≤_}
-use Rattle.lists.proofs.front.words_alike.Statement.{statement}
-use Rattle.lists.proofs.front.words_alike.Tie as tie
+use Rattle.bencode.proofs.front.words_alike.Statement.{statement}
+use Rattle.bencode.proofs.front.words_alike.Tie as tie
 
 abbrev Inv-loop : tie.InvT-loop
 Inv-loop x y n i₀ i = (i ≤ n) × Alike x y i

@@ -1,8 +1,8 @@
-use Rattle.lists.specs.FrontLaws.{four-told}
+use Rattle.bencode.specs.FrontLaws.{four-told}
 use Prim.Native.Nat.{_-_}
 use borrow.Author.Needs.{needs}
-use Rattle.lists.proofs.front.four_alike.Statement.{statement}
-use Rattle.lists.proofs.front.four_alike.Tie as tie
+use Rattle.bencode.proofs.front.four_alike.Statement.{statement}
+use Rattle.bencode.proofs.front.four_alike.Tie as tie
 
 shared-slice-read-wide : tie.Need-shared-slice-read-wide
 shared-slice-read-wide c = search needs

@@ -12,8 +12,8 @@ use borrow.Author.Tests.{eqb-true, eqb-false, lt-ltb, le-ltb, ltb-false}
 use borrow.Author.Count.{below-more}
 use Rattle.octets.specs.Octets.{same}
 use Rattle.octets.specs.OctetsLaws.{same-eq, same-ne}
 use Rattle.bencode.specs.Grammar.{precedes}
-use Rattle.lists.specs.Front.{Alike, FourAlike, Front}
+use Rattle.bencode.specs.Front.{Alike, FourAlike, Front}
 
 -- ---- a front made longer
 
