@@ -22,6 +22,7 @@ use Rattle.publishing.specs.Content.{Item, inTreeOrder, grown, treeOfAll
 use Rattle.publishing.specs.WrittenLaws.{Enters, fresh, joined, FirstNode, first-node}
 use Rattle.publishing.specs.SizeLaws.{sum}
 use Rattle.publishing.specs.AnyOrder.{layersWritten}
+use Rattle.publishing.specs.ValidLaws.{treeLevels}
 
 -- ---- a value that is strict but for its depth
 
@@ -97,7 +98,7 @@ pub whole-strict : (plen : ℕ) (name : List ℕ) (xs : List Item) (l : ℕ) →
 unfolding torrentOf Valid precedes
 whole-strict plen name xs l p tree layers = (refl, (refl, tree, (refl, omega arith, (refl, tt, (refl, p, tt)))), (refl, layers (suc l), tt))
 
-pub tree-of-strict : (plen : ℕ) (name : List ℕ) (xs : List Item) → Valid (dictionary (torrentOf plen name xs)) maxLevels → EntriesValid (treeOfAll (inTreeOrder xs)) none 29
+pub tree-of-strict : (plen : ℕ) (name : List ℕ) (xs : List Item) → Valid (dictionary (torrentOf plen name xs)) maxLevels → EntriesValid (treeOfAll (inTreeOrder xs)) none treeLevels
 unfolding torrentOf Valid
 tree-of-strict plen name xs h = h .1 .1
 

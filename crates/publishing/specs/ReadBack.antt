@@ -5,7 +5,7 @@ use mathlib.Core.Path.{_≡_, refl, sym, ap, ap₂, _∙_}
 use mathlib.Core.Bool.{Bool, true, false, cond, _&&_, false≢true, and-eq-true-iff}
 use mathlib.Core.Logic.{_⊎_, inl, inr}
 use mathlib.Core.List.{List, [], _∷_, _++_, map}
-use Prim.Native.Nat.{ℕ, zero, suc, _+_, _*_, _^_, _≤_, _<_}
+use Prim.Native.Nat.{ℕ, zero, suc, _+_, _-_, _*_, _^_, _≤_, _<_}
 use native.Mathlib.Omega.{arith}
 use lib.ListN.{length}
 use lib.Dec.{leb, ltb, eqb}
@@ -32,7 +32,7 @@ use Rattle.publishing.specs.SizeLaws.{in-order}
 use Rattle.publishing.specs.AnyOrder.{layersWritten, meet-permuted, begins-self}
 use Rattle.publishing.specs.TreeLaws.{AllRight, PathRight, ItemRight, Leads, grown-leads, Apart, ApartFrom, fileWritten, path-all, tree-grew}
 use Rattle.publishing.specs.ContentLaws.{fileOfItem, apart-files, written-is, properties-right}
-use Rattle.publishing.specs.ValidLaws.{full-right, Climb, ClimbFrom, Fits, tree-valid}
+use Rattle.publishing.specs.ValidLaws.{full-right, Climb, ClimbFrom, Fits, tree-valid, treeLevels}
 use Rattle.publishing.specs.LayersLaws.{layer-found, layer-given, layers-valid, given-there, given-of}
 use Rattle.publishing.specs.Good.{Fine, Good}
 
@@ -171,9 +171,9 @@ module _ (plen : ℕ) (name : List ℕ) (xs : List Item) (g : Fine plen xs) (wid
 
   -- ---- strict
 
-  tree-strict : EntriesValid (treeOfAll (inTreeOrder xs)) none 29
+  tree-strict : EntriesValid (treeOfAll (inTreeOrder xs)) none treeLevels
   tree-strict =
-      tree-valid 29 (inTreeOrder xs) (climb (inTreeOrder xs) (in-order xs) apart)
+      tree-valid treeLevels (inTreeOrder xs) (climb (inTreeOrder xs) (in-order xs) apart)
       (λ x m. record {
         elements = full-right (x .path) (path-all (x .path) (g .path-right x (here x m)));
         depth = let s = g .shallow x (here x m) in omega arith;
@@ -187,7 +187,7 @@ module _ (plen : ℕ) (name : List ℕ) (xs : List Item) (g : Fine plen xs) (wid
   unfolding torrentOf Valid precedes
   strict =
       let p = piece-range plen (g .piece-length) .1 in
-      (refl, (refl, tree-strict, (refl, omega arith, (refl, tt, (refl, p, tt)))), (refl, layers-strict 30, tt))
+      (refl, (refl, tree-strict, (refl, omega arith, (refl, tt, (refl, p, tt)))), (refl, layers-strict (maxLevels - 2), tt))
 
   -- ---- the layers
 

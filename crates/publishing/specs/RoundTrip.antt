@@ -36,6 +36,7 @@ use Rattle.publishing.specs.RefusedLaws.{nth-of}
 use Rattle.publishing.specs.Reads.{itemRead, contentRead}
 use Rattle.publishing.specs.Good.{Fine, Good}
 use Rattle.publishing.specs.GoodLaws.{good-number}
+use Rattle.publishing.specs.ValidLaws.{treeLevels}
 
 -- ---- paths that are told apart do not meet, and are in order
 
@@ -89,7 +90,7 @@ path-of [] r e q h = absurd (false≢true (ap hasSome (sym h)))
 path-of (x ∷ p) r e q h = unfold PathRight in r
 
 module _ (t : Entries) (v : ValueRight t) (h : Valid (dictionary t) maxLevels) where
-  facts : DirectoryFacts none 29 (treeOf t)
+  facts : DirectoryFacts none treeLevels (treeOf t)
   facts = files-facts t v h .0
 
   layers : LayersRight (plenOf t) (layersOf t) (filesOf t)

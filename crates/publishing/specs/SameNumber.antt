@@ -36,7 +36,7 @@ use Rattle.publishing.specs.SizeLaws.{sum, map-permuted, in-order}
 use Rattle.publishing.specs.AnyOrder.{layersWritten, meet-permuted}
 use Rattle.publishing.specs.TreeLaws.{AllRight, PathRight, ItemRight, fileWritten, tree-grew}
 use Rattle.publishing.specs.ContentLaws.{fileOfItem, Passed, passed, item-right, written-is, apart-files}
-use Rattle.publishing.specs.ValidLaws.{Climb, ClimbFrom, Fits, tree-valid}
+use Rattle.publishing.specs.ValidLaws.{Climb, ClimbFrom, Fits, tree-valid, treeLevels}
 use Rattle.publishing.specs.LayersLaws.{layers-valid, layer-found, layer-given, given-there, given-of}
 use Rattle.publishing.specs.LevelsLaws.{deep-number, paths-fit, whole-strict, tree-of-strict, sum-least}
 use Rattle.publishing.specs.FilesLaws.{Told, Pairs, tree-facts}
@@ -131,19 +131,19 @@ module _ (plen : ℕ) (name : List ℕ) (xs : List Item) (k : Plain plen xs) whe
   layers-strict n = layers-valid (sortedBy layerBefore (layersGiven xs)) n (sorted-ordered layerBefore layer-one-way layer-behind (layersGiven xs))
 
   strict-if : (TooDeep xs → ⊥) → Valid (dictionary (torrentOf plen name xs)) maxLevels
-  strict-if d = whole-strict plen name xs 29 (k .piece-fits) (tree-strict 29 fits) layers-strict
+  strict-if d = whole-strict plen name xs treeLevels (k .piece-fits) (tree-strict treeLevels fits) layers-strict
     where
-      fits : (x : Item) → Member x xs → length (x .path) < 29
-      fits x m = by-test (ltb (length (x .path)) 29) refl
+      fits : (x : Item) → Member x xs → length (x .path) < treeLevels
+      fits x m = by-test (ltb (length (x .path)) treeLevels) refl
         where
-          by-test : (t : Bool) → ltb (length (x .path)) 29 ≡ t → length (x .path) < 29
-          by-test true e = ltb-true (length (x .path)) 29 e
-          by-test false e = let h = ltb-false (length (x .path)) 29 e in absurd (d (x, m, omega arith))
+          by-test : (t : Bool) → ltb (length (x .path)) treeLevels ≡ t → length (x .path) < treeLevels
+          by-test true e = ltb-true (length (x .path)) treeLevels e
+          by-test false e = let h = ltb-false (length (x .path)) treeLevels e in absurd (d (x, m, omega arith))
 
   deep-if : TooDeep xs → strictness (encode (dictionary (torrentOf plen name xs))) ≡ nestedTooDeeply
   deep-if w =
       deep-number (torrentOf plen name xs) (suc (suc (suc (suc all)))) (whole-strict plen name xs (suc all) (k .piece-fits) (tree-strict (suc all) (λ x m. let h = sum-least xs x m in omega arith)) layers-strict)
-      (λ v. let h = paths-fit 29 (inTreeOrder xs) (w .0) (tree-of-strict plen name xs v) (there (w .0) (w .1)) in let l = w .2 in omega arith)
+      (λ v. let h = paths-fit treeLevels (inTreeOrder xs) (w .0) (tree-of-strict plen name xs v) (there (w .0) (w .1)) in let l = w .2 in omega arith)
     where
       all : ℕ
       all = sum (λ (y : Item). length (y .path)) xs
@@ -221,7 +221,7 @@ module _ (plen : ℕ) (name : List ℕ) (xs : List Item) (k : Plain plen xs) whe
 
       apart : meet xs ≡ false
       apart =
-          let f = tree-facts (treeOfAll (inTreeOrder xs)) 29 (tree-yes (treeOfAll (inTreeOrder xs)) tree-test) (tree-of-strict plen name xs (strict-if d)) .0 .pairs in
+          let f = tree-facts (treeOfAll (inTreeOrder xs)) treeLevels (tree-yes (treeOfAll (inTreeOrder xs)) tree-test) (tree-of-strict plen name xs (strict-if d)) .0 .pairs in
           let p : Pairs (map fileWritten (inTreeOrder xs)) = rw files at f in
           meet-permuted xs (inTreeOrder xs) perm ∙ pairs-apart (inTreeOrder xs) p
 

@@ -4,7 +4,7 @@ use mathlib.Core.Path.{_≡_, refl, sym, ap, ap₂, _∙_}
 use mathlib.Core.Bool.{Bool, true, false, cond, _&&_, false≢true, and-eq-true-iff}
 use mathlib.Core.Logic.{_⊎_, inl, inr}
 use mathlib.Core.List.{List, [], _∷_, _++_, map}
-use Prim.Native.Nat.{ℕ, zero, suc, _+_, _≤_, _<_}
+use Prim.Native.Nat.{ℕ, zero, suc, _+_, _-_, _≤_, _<_}
 use native.Mathlib.Omega.{arith}
 use lib.ListN.{length}
 use lib.Dec.{eqb}
@@ -33,6 +33,7 @@ use Rattle.publishing.specs.FilesLaws.{bare, growAll, grow-all, Director
 use Rattle.publishing.specs.ShorterLaws.{entryLength, entries-length, Covers, shorter}
 use Rattle.publishing.specs.ReadBack.{piece-range, strict, longer-there}
 use Rattle.publishing.specs.Good.{Fine}
+use Rattle.publishing.specs.ValidLaws.{treeLevels}
 
 -- ---- what the number 0 of a value says
 
@@ -103,15 +104,15 @@ keys-there t v =
         tests (hasDictionary (lookup keyInfo t)) (hasDictionary (lookup keyFileTree (infoOf t))) (hasInteger (lookup keyPieceLength (infoOf t))) (hasInteger (lookup keyMetaVersion (infoOf t))) (hasDictionary (lookup keyPieceLayers t))
         (unfold hasKeys in v .keys)
 
--- the tree has 29 levels left
-pub tree-levels : (t : Entries) → KeysThere t → Valid (dictionary t) maxLevels → EntriesValid (treeOf t) none 29
+-- the levels left for the tree
+pub tree-levels : (t : Entries) → KeysThere t → Valid (dictionary t) maxLevels → EntriesValid (treeOf t) none treeLevels
 unfolding Valid
 tree-levels t k h =
-    let i : EntriesValid (infoOf t) none 30 = lookup-valid keyInfo t none 31 (dictionary (infoOf t)) h (k .info-is) in
-    lookup-valid keyFileTree (infoOf t) none 30 (dictionary (treeOf t)) i (k .tree-is)
+    let i : EntriesValid (infoOf t) none (maxLevels - 2) = lookup-valid keyInfo t none (maxLevels - 1) (dictionary (infoOf t)) h (k .info-is) in
+    lookup-valid keyFileTree (infoOf t) none (maxLevels - 2) (dictionary (treeOf t)) i (k .tree-is)
 
-pub files-facts : (t : Entries) → ValueRight t → Valid (dictionary t) maxLevels → DirectoryFacts none 29 (treeOf t) × ((f : File) × (fs : List File) × (filesOf t ≡ f ∷ fs))
-files-facts t v h = tree-facts (treeOf t) 29 (tree-yes (treeOf t) (v .tree)) (tree-levels t (keys-there t v) h)
+pub files-facts : (t : Entries) → ValueRight t → Valid (dictionary t) maxLevels → DirectoryFacts none treeLevels (treeOf t) × ((f : File) × (fs : List File) × (filesOf t ≡ f ∷ fs))
+files-facts t v h = tree-facts (treeOf t) treeLevels (tree-yes (treeOf t) (v .tree)) (tree-levels t (keys-there t v) h)
 
 -- ---- what is written is within what was read
 
@@ -156,15 +157,15 @@ module _ (plen : ℕ) (name : List ℕ) (xs : List Item) (g : Fine plen xs) (wid
     pub piece-length : plenOf t ≡ plen
     pub layer : (x : Item) → Member x xs → plen < x .size → lookup (x .root) (layersOf t) ≡ present (string (x .layer))
 
-  parts : EntriesValid (torrentOf plen name xs) none 31
+  parts : EntriesValid (torrentOf plen name xs) none (maxLevels - 1)
   unfolding Valid
   parts = strict plen name xs g wide
 
-  info-parts : EntriesValid (infoWritten plen name (treeOfAll (inTreeOrder xs))) none 30
+  info-parts : EntriesValid (infoWritten plen name (treeOfAll (inTreeOrder xs))) none (maxLevels - 2)
   unfolding torrentOf Valid
   info-parts = strict plen name xs g wide .1
 
-  layers-parts : EntriesValid (layersWritten xs) none 30
+  layers-parts : EntriesValid (layersWritten xs) none (maxLevels - 2)
   unfolding torrentOf Valid
   layers-parts = strict plen name xs g wide .2 .1
 
@@ -179,7 +180,7 @@ module _ (plen : ℕ) (name : List ℕ) (xs : List Item) (g : Fine plen xs) (wid
 
   layers-shorter : (t : Entries) → SameRead t → length (encode (dictionary (layersWritten xs))) ≤ length (encode (dictionary (layersOf t)))
   layers-shorter t r =
-      let s = shorter (layersWritten xs) (layersOf t) none 30 layers-parts (covers-written (layersOf t) (r .layer)) in
+      let s = shorter (layersWritten xs) (layersOf t) none (maxLevels - 2) layers-parts (covers-written (layersOf t) (r .layer)) in
       let a = dictionary-length (layersWritten xs) in
       let b = dictionary-length (layersOf t) in
       omega arith
@@ -198,14 +199,14 @@ module _ (plen : ℕ) (name : List ℕ) (xs : List Item) (g : Fine plen xs) (wid
       info-shorter : length (encode (dictionary (infoWritten plen name (treeOfAll (inTreeOrder xs))))) ≤ length (encode (dictionary (infoOf t)))
       info-shorter =
           let c : Covers (infoWritten plen name (treeOfAll (inTreeOrder xs))) (infoOf t) = unfold Covers in ((dictionary (treeOf t), k .tree-is, tree-shorter t r), ((integer false 2, k .version-is, omega arith), ((string name, name-is, omega arith), ((integer false plen, plen-read t r, omega arith), tt)))) in
-          let s = shorter (infoWritten plen name (treeOfAll (inTreeOrder xs))) (infoOf t) none 30 info-parts c in
+          let s = shorter (infoWritten plen name (treeOfAll (inTreeOrder xs))) (infoOf t) none (maxLevels - 2) info-parts c in
           let a = dictionary-length (infoWritten plen name (treeOfAll (inTreeOrder xs))) in
           let b = dictionary-length (infoOf t) in
           omega arith
 
       whole : length (encodeEntries (torrentOf plen name xs)) ≤ length (encodeEntries t)
       whole =
-          shorter (torrentOf plen name xs) t none 31 parts
+          shorter (torrentOf plen name xs) t none (maxLevels - 1) parts
           (unfold torrentOf in unfold Covers in ((dictionary (infoOf t), k .info-is, info-shorter), ((dictionary (layersOf t), k .layers-is, layers-shorter t r), tt)))
 
       by-length : length (encode (dictionary (torrentOf plen name xs))) ≡ suc (length (encodeEntries (torrentOf plen name xs))) → length (encode (dictionary t)) ≡ suc (length (encodeEntries t))
@@ -231,23 +232,23 @@ module _ (plen : ℕ) (name : List ℕ) (xs : List Item) (g : Fine plen xs) (wid
       k : KeysThere t
       k = keys-there t (r .right)
 
-      unnamed-parts : EntriesValid unnamed none 30
+      unnamed-parts : EntriesValid unnamed none (maxLevels - 2)
       unnamed-parts = let p = info-parts in unfold EntriesValid in unfold precedes in (refl, first-value p, (refl, unfold Valid in omega arith, (refl, unfold Valid in piece-range plen (g .piece-length) .1, tt)))
         where
-          first-value : EntriesValid (infoWritten plen name tree) none 30 → Valid (dictionary tree) 30
-          first-value p = let q : (true ≡ true) × Valid (dictionary tree) 30 × EntriesValid (entry keyMetaVersion (integer false 2) (entry keyName (string name) behind)) (after keyFileTree) 30 = unfold EntriesValid in p in q .1
+          first-value : EntriesValid (infoWritten plen name tree) none (maxLevels - 2) → Valid (dictionary tree) (maxLevels - 2)
+          first-value p = let q : (true ≡ true) × Valid (dictionary tree) (maxLevels - 2) × EntriesValid (entry keyMetaVersion (integer false 2) (entry keyName (string name) behind)) (after keyFileTree) (maxLevels - 2) = unfold EntriesValid in p in q .1
 
       info-shorter : length (encode (dictionary unnamed)) ≤ length (encode (dictionary (infoOf t)))
       info-shorter =
           let c : Covers unnamed (infoOf t) = unfold Covers in ((dictionary (treeOf t), k .tree-is, tree-shorter t r), ((integer false 2, k .version-is, omega arith), ((integer false plen, plen-read t r, omega arith), tt))) in
-          let s = shorter unnamed (infoOf t) none 30 unnamed-parts c in
+          let s = shorter unnamed (infoOf t) none (maxLevels - 2) unnamed-parts c in
           let a = dictionary-length unnamed in
           let b = dictionary-length (infoOf t) in
           omega arith
 
       without-name : length (encodeEntries (entry keyInfo (dictionary unnamed) layers)) ≤ length (encodeEntries t)
       without-name =
-          shorter (entry keyInfo (dictionary unnamed) layers) t none 31
+          shorter (entry keyInfo (dictionary unnamed) layers) t none (maxLevels - 1)
           (unfold EntriesValid in unfold precedes in (refl, unfold Valid in unnamed-parts, (refl, unfold Valid in layers-parts, tt)))
           (unfold Covers in ((dictionary (infoOf t), k .info-is, info-shorter), ((dictionary (layersOf t), k .layers-is, layers-shorter t r), tt)))
 

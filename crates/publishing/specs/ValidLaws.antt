@@ -8,7 +8,7 @@ use Prim.Native.Nat.{ℕ, zero, suc, _+_, _-_, _^_, _≤_, _<_}
 use native.Mathlib.Omega.{arith}
 use lib.ListN.{length}
 use lib.Dec.{eqb}
-use Rattle.limits.specs.Limits.{longestFile}
+use Rattle.limits.specs.Limits.{longestFile, maxLevels}
 use Rattle.octets.specs.Octets.{same}
 use Rattle.octets.specs.OctetsLaws.{same-refl}
 use Rattle.bencode.specs.Parts.{present}
@@ -121,7 +121,7 @@ valid-grown (e ∷ p) v es m w h a =
 
 -- the levels of `file tree`: below the outer dictionary and `info`
 abbrev pub treeLevels : ℕ
-treeLevels = 29
+treeLevels = maxLevels - 3
 
 -- each file's path stands before the next one's
 unfoldable pub ClimbFrom : List (List ℕ) → List Item → Type 0
