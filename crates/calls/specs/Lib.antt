@@ -5,3 +5,4 @@ pub mod Inside
 pub mod InsideLaws
 pub mod SameContent
 pub mod SameContentLaws
+pub mod EachNumber

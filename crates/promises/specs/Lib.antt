@@ -6,7 +6,8 @@ pub mod Demand3
 pub mod EachNumber
 pub mod FromRootToBlock
 pub mod Worked
--- 02: marks
+-- 02: bytes that come in bursts; marks
+pub mod Running
 pub mod Marks
 -- the premises can be met
 pub mod Blank
