@@ -28,7 +28,7 @@ pub fn run(first: u64, random: &mut Random, compared: &mut Comparison) {
                 let message = truth.message(&header);
                 stores.iter().for_each(|store| ask(&truth, store, &header, &message, compared));
             } else {
-                broken.offer(&header, compared);
+                broken.offer(header, compared);
             }
         }
         broken.end(compared);
@@ -138,6 +138,8 @@ struct Broken<'a> {
     lent: [Lent; 3],
     input: Lent,
     out: Lent,
+    /// Headers that were offered since the stores were looked at.
+    offered: Vec<Header>,
     /// How many headers were answered 3 on a store, as the reference has it, by all three calls.
     answered: u64,
 }
@@ -145,40 +147,62 @@ struct Broken<'a> {
 /// The output of a request that is rejected, before it.
 const OUT: [u8; HEAD + 7] = [0xaa; HEAD + 7];
 
+/// After so many headers the stores are looked at: to do so after each would take most of the time.
+const LOOK_AFTER: usize = 100;
+
 impl<'a> Broken<'a> {
     fn new(stores: &'a [Vec<u8>; 3]) -> Broken<'a> {
         let lent = stores.each_ref().map(|store| Lent::new(store));
-        Broken { stores, lent, input: Lent::new(&[0; HEAD]), out: Lent::new(&OUT), answered: 0 }
+        let (input, out) = (Lent::new(&[0; HEAD]), Lent::new(&OUT));
+        Broken { stores, lent, input, out, offered: Vec::with_capacity(LOOK_AFTER), answered: 0 }
     }
 
-    /// The same three calls, on each store, with a look at all memory behind the three. Where anything is not as it should be each call is
-    /// asked by itself, on memory of its own.
-    fn offer(&mut self, header: &Header, compared: &mut Comparison) {
+    /// The same three calls, on each store, with a look at message and output behind the three. Where anything is not as it should be each call
+    /// is asked by itself, on memory of its own.
+    fn offer(&mut self, header: Header, compared: &mut Comparison) {
         self.input.set(&header.write(HASHES));
         for (lent, store) in self.lent.iter_mut().zip(self.stores) {
             self.out.set(&OUT);
             let is_right = refused_alike(lent, &mut self.input, &mut self.out)
-                && lent.is_alike()
                 && self.input.is_alike()
                 && self.out.is_alike()
                 && self.out.reference[HEAD..] == OUT[HEAD..];
             if is_right {
                 self.answered += 1;
             } else {
-                offer(store, header, header.write(HASHES), compared);
-                assert!(compared.difference.is_some(), "only on memory that is lent again");
+                ask_alone(store, &[header], compared);
             }
+        }
+        self.offered.push(header);
+        if self.offered.len() == LOOK_AFTER {
+            self.look(compared);
         }
     }
 
-    /// Counts what was answered. The reference's stores are as they were lent, so the library's are, too.
-    fn end(&self, compared: &mut Comparison) {
-        let is_left = |(lent, store): (&Lent, &Vec<u8>)| lent.reference == *store;
-        assert!(self.lent.iter().zip(self.stores).all(is_left), "the reference wrote at a refusal");
+    /// Whether the stores are as they were lent, and nothing was written outside. What a refusal wrote still stands there.
+    fn look(&mut self, compared: &mut Comparison) {
+        for (lent, store) in self.lent.iter().zip(self.stores) {
+            assert!(lent.reference == *store, "the reference wrote at a refusal");
+            if !lent.is_alike() {
+                ask_alone(store, &self.offered, compared);
+            }
+        }
+        self.offered.clear();
+    }
+
+    /// Counts what was answered.
+    fn end(&mut self, compared: &mut Comparison) {
+        self.look(compared);
         for entry in [Entry::Take, Entry::Serve, Entry::TakeReject] {
             compared.count(entry, RULE_BROKEN, self.answered);
         }
     }
+}
+
+/// Each call of these headers on memory of its own, one of which must show the difference.
+fn ask_alone(store: &[u8], headers: &[Header], compared: &mut Comparison) {
+    headers.iter().for_each(|header| offer(store, header, header.write(HASHES), compared));
+    assert!(compared.difference.is_some(), "only on memory that is lent again");
 }
 
 /// The header taken, as a request and as a reject: 3 each time, by the reference and by the library.

@@ -5,6 +5,7 @@ pub mod bursts;
 pub mod call;
 pub mod compare;
 pub mod fillings;
+pub mod harness;
 pub mod headers;
 pub mod lists;
 pub mod random;

@@ -44,7 +44,6 @@ fn look_at_calls(seed: u64, look: &mut dyn FnMut(&Truth, &Call, &Outcome)) {
     }
 }
 
-#[test]
 fn knowledge_only_grows_and_is_counted() {
     look_at_calls(1, &mut |truth, call, outcome| {
         let (before, after) = (held_in(&call.store, truth), held_in(&outcome.store, truth));
@@ -57,7 +56,6 @@ fn knowledge_only_grows_and_is_counted() {
     });
 }
 
-#[test]
 fn every_held_hash_is_the_files_own() {
     look_at_calls(2, &mut |truth, _, outcome| {
         assert!(held_in(&outcome.store, truth).iter().all(|(at, hash)| truth.at(*at) == *hash));
@@ -65,7 +63,6 @@ fn every_held_hash_is_the_files_own() {
     });
 }
 
-#[test]
 fn a_block_is_marked_exactly_if_judged_right_and_not_cleared_since() {
     let mut right: HashSet<u64> = HashSet::new();
     let mut root = [0; 32];
@@ -105,7 +102,6 @@ fn offered(store: &[u8], message: &[u8]) -> u32 {
     by_reference(&Call::new(Entry::Take).on(store).input(message.to_vec())).given.number()
 }
 
-#[test]
 fn the_number_of_a_reply_stays() {
     let mut past: Vec<(Vec<u8>, u32)> = Vec::new();
     let mut root = [0; 32];
@@ -130,7 +126,6 @@ fn the_number_of_a_reply_stays() {
     });
 }
 
-#[test]
 fn true_messages_are_taken_as_soon_as_their_anchor_is_held() {
     let mut random = Random::new(4);
     look_at_calls(4, &mut |truth, _, outcome| {
@@ -142,7 +137,6 @@ fn true_messages_are_taken_as_soon_as_their_anchor_is_held() {
     });
 }
 
-#[test]
 fn replies_of_one_store_are_taken_by_another() {
     let mut random = Random::new(5);
     let mut last: Option<(Hash, Vec<u8>)> = None;
@@ -167,7 +161,6 @@ fn replies_of_one_store_are_taken_by_another() {
     assert!(taken > 100, "{taken}");
 }
 
-#[test]
 fn a_message_settles_as_many_positions_as_the_document_says() {
     let mut random = Random::new(6);
     for _ in 0..300 {
@@ -182,4 +175,14 @@ fn a_message_settles_as_many_positions_as_the_document_says() {
         assert_eq!(distinct.len(), settled.len());
         assert!(settled.iter().all(|(at, hash)| truth.facts.has_position(*at) && truth.at(*at) == *hash));
     }
+}
+
+host_tests::tests! {
+    knowledge_only_grows_and_is_counted,
+    every_held_hash_is_the_files_own,
+    a_block_is_marked_exactly_if_judged_right_and_not_cleared_since,
+    the_number_of_a_reply_stays,
+    true_messages_are_taken_as_soon_as_their_anchor_is_held,
+    replies_of_one_store_are_taken_by_another,
+    a_message_settles_as_many_positions_as_the_document_says,
 }

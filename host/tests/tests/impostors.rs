@@ -82,7 +82,6 @@ fn untouched(call: &Call) -> Outcome {
     }
 }
 
-#[test]
 fn every_number_comes_up() {
     let expected: [(Entry, &[u32]); 12] = [
         (Entry::StoreSize, &[0, 10]),
@@ -101,7 +100,6 @@ fn every_number_comes_up() {
     assert_seen(&sessions(&by_reference), &expected);
 }
 
-#[test]
 fn every_number_of_a_torrent_comes_up() {
     let refused = [19, 20, 21, 22, 23, 24, 25, 26, 27, 28];
     let expected: [(Entry, &[u32]); 4] = [
@@ -113,7 +111,6 @@ fn every_number_of_a_torrent_comes_up() {
     assert_seen(&torrents(&by_reference), &expected);
 }
 
-#[test]
 fn every_number_of_the_running_forms_comes_up() {
     let expected: [(Entry, &[u32]); 5] = [
         (Entry::HashingMore, &[0, 4, 9]),
@@ -126,7 +123,6 @@ fn every_number_of_the_running_forms_comes_up() {
 }
 
 /// 20, 22 and 23 hold of no list.
-#[test]
 fn every_number_of_a_written_torrent_comes_up() {
     assert_seen(&lists(&by_reference), &[(Entry::TorrentWrite, &[0, 4, 11, 19, 21, 24, 25, 26, 27, 28])]);
 }
@@ -147,7 +143,6 @@ fn assert_writing_found_out(name: &str, change: impl Fn(&[u8], Vec<Planned>) -> 
     });
 }
 
-#[test]
 fn writers_that_are_wrong_in_one_way() {
     assert_writing_found_out("a key too much", |torrent, _| {
         let end = torrent.len() - 1;
@@ -182,7 +177,6 @@ fn writers_that_are_wrong_in_one_way() {
     }
 }
 
-#[test]
 fn running_forms_that_are_wrong_in_one_way() {
     assert_burst_found_out("what stood behind the tail is kept", &|call| match (call.entry, by_reference(call)) {
         (Entry::HashingMore, mut outcome) if outcome.given.number() == DONE && call.input.is_empty() => {
@@ -254,7 +248,6 @@ fn assert_seen(compared: &Comparison, expected: &[(Entry, &[u32])]) {
     }
 }
 
-#[test]
 fn takes_that_never_or_always_say_yes() {
     assert_found_out("always 6", &|call| match call.entry {
         Entry::Take => answered(call, NO_ANCHOR, 0),
@@ -274,7 +267,6 @@ fn takes_that_never_or_always_say_yes() {
     });
 }
 
-#[test]
 fn openings_that_hold_or_leave_too_much() {
     assert_found_out("all held at opening", &|call| match (call.entry, by_reference(call)) {
         (Entry::Open, mut outcome) if outcome.given.number() == DONE => {
@@ -294,7 +286,6 @@ fn openings_that_hold_or_leave_too_much() {
     });
 }
 
-#[test]
 fn stores_written_before_the_anchor_is_compared() {
     for number in [WRONG_PADDING, NO_ANCHOR, DIFFERS, CONFLICT] {
         assert_found_out("written too early", &|call| match (call.entry, by_reference(call)) {
@@ -318,7 +309,6 @@ fn assert_needed(entry: Entry, number: u32) {
     });
 }
 
-#[test]
 fn checks_that_are_left_out() {
     for number in 1..=9 {
         assert_needed(Entry::Take, number);
@@ -329,7 +319,6 @@ fn checks_that_are_left_out() {
     }
 }
 
-#[test]
 fn marks_that_say_neither_read_as_held() {
     assert_found_out("mark 2 is held", &|call| match call.entry {
         Entry::Held => {
@@ -344,7 +333,6 @@ fn marks_that_say_neither_read_as_held() {
     });
 }
 
-#[test]
 fn marks_of_blocks_that_are_wrong_in_one_way() {
     assert_found_out("marked before the verdict", &|call| match (call.entry, by_reference(call)) {
         (Entry::JudgeBlock, mut outcome) if outcome.given.number() == DIFFERS => {
@@ -408,7 +396,6 @@ fn marks_of_blocks_that_are_wrong_in_one_way() {
     });
 }
 
-#[test]
 fn replies_with_wrong_bytes() {
     assert_found_out("a reject with the request's id", &|call| match (call.entry, by_reference(call)) {
         (Entry::Serve, mut outcome) if outcome.given.count() == 49 => {
@@ -444,7 +431,6 @@ fn replies_with_wrong_bytes() {
     });
 }
 
-#[test]
 fn hashes_that_look_right() {
     assert_found_out("a piece hashed flat", &|call| match (call.entry, facts_of(&call.store)) {
         (Entry::JudgePiece, Some(facts)) if facts.piece_size(call.numbers[0]) == Some(call.input.len() as u64) => {
@@ -483,7 +469,6 @@ fn hashes_that_look_right() {
 }
 
 /// A number that is never given: the answer is 0 with what the call would give for a good torrent of nothing.
-#[test]
 fn numbers_of_a_torrent_that_are_left_out() {
     for left_out in 19..=28 {
         assert_torrent_found_out("a number left out", &|call| {
@@ -496,7 +481,6 @@ fn numbers_of_a_torrent_that_are_left_out() {
     }
 }
 
-#[test]
 fn torrents_read_wrong() {
     assert_torrent_found_out("the info hash of the whole torrent", &|call| match by_reference(call) {
         Outcome { given: Given::Torrent(torrent), .. } if torrent.number == DONE => {
@@ -520,7 +504,6 @@ fn torrents_read_wrong() {
 }
 
 /// A wrong path element is let through: where it stands, the reference reads a right one of the same size, next to it in order.
-#[test]
 fn path_elements_that_are_let_through() {
     let elements: [(&str, &[u8], &[u8]); 4] = [
         ("..", b"2:..d", b"2:.-d"),
@@ -551,7 +534,6 @@ fn is_a_later_twin(torrent: &[u8], file: u64) -> bool {
     })
 }
 
-#[test]
 fn twins_read_wrong() {
     assert_torrent_found_out("two equal files refused", &|call| match by_reference(call) {
         Outcome { given: Given::Torrent(torrent), .. }
@@ -577,7 +559,6 @@ fn torrent_file_refused(number: u32) -> Given {
     Given::File(File { number, length: 0, root: [0; 32], elements: 0, layer_start: 0, layer_size: 0 })
 }
 
-#[test]
 fn lists_written_wrong() {
     assert_torrent_found_out("11 before the torrent's own number", &|call| match (call.entry, by_reference(call)) {
         (Entry::TorrentList, outcome) if outcome.given.number() != DONE => answered(call, NO_ROOM, 0),
@@ -607,7 +588,6 @@ fn lists_written_wrong() {
     });
 }
 
-#[test]
 fn a_difference_is_shown_small() {
     let impostor: Library = &|call| match (call.entry, by_reference(call)) {
         (Entry::Take, outcome) if outcome.given.number() == WRONG_PADDING => answered(call, DIFFERS, 0),
@@ -617,4 +597,27 @@ fn a_difference_is_shown_small() {
     assert!(text.contains("reference: Answer(Answer { number: 5, count: 0 })"), "{text}");
     assert!(text.contains("library:   Answer(Answer { number: 7, count: 0 })"), "{text}");
     assert!(text.len() < 1000, "{text}");
+}
+
+host_tests::tests! {
+    every_number_comes_up,
+    every_number_of_a_torrent_comes_up,
+    every_number_of_the_running_forms_comes_up,
+    every_number_of_a_written_torrent_comes_up,
+    writers_that_are_wrong_in_one_way,
+    running_forms_that_are_wrong_in_one_way,
+    takes_that_never_or_always_say_yes,
+    openings_that_hold_or_leave_too_much,
+    stores_written_before_the_anchor_is_compared,
+    checks_that_are_left_out,
+    marks_that_say_neither_read_as_held,
+    marks_of_blocks_that_are_wrong_in_one_way,
+    replies_with_wrong_bytes,
+    hashes_that_look_right,
+    numbers_of_a_torrent_that_are_left_out,
+    torrents_read_wrong,
+    path_elements_that_are_let_through,
+    twins_read_wrong,
+    lists_written_wrong,
+    a_difference_is_shown_small,
 }

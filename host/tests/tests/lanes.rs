@@ -26,7 +26,6 @@ fn begun(piece_length: u64) -> History {
 }
 
 /// Bursts of a block at most never bring eight.
-#[test]
 fn a_long_burst_leaves_the_state_that_short_ones_leave() {
     let block = BLOCK as usize;
     for piece_length in [BLOCK, 4 * BLOCK, 16 * BLOCK] {
@@ -42,7 +41,6 @@ fn a_long_burst_leaves_the_state_that_short_ones_leave() {
 }
 
 /// Words that no bytes give are hashed on from, also where no byte of a block has come.
-#[test]
 fn a_state_with_other_words_is_hashed_from_them() {
     let block = BLOCK as usize;
     let data = bytes(9 * block);
@@ -54,7 +52,6 @@ fn a_state_with_other_words_is_hashed_from_them() {
 }
 
 /// N, root and layer of a history that never has eight blocks at once; then each piece, with one byte changed and as it is.
-#[test]
 fn pieces_of_each_size_are_judged_by_their_bytes() {
     let block = BLOCK as usize;
     for pieces_of in [1, 2, 8, 16, 32] {
@@ -95,10 +92,16 @@ fn packed_adds(code: &[u8]) -> usize {
 }
 
 /// They can be lost in silence: a long function with a second caller is no longer put into its caller.
-#[test]
 fn the_archive_has_packed_adds() {
     let made = concat!(env!("CARGO_MANIFEST_DIR"), "/../../target/staticlib/libkombudeva.a");
     let library = env::var("KD_LIB").unwrap_or(made.to_string());
     let count = packed_adds(&fs::read(&library).unwrap());
     assert!(count >= PACKED_ADDS, "{library} has {count} packed adds: the lanes are no vectors any more");
+}
+
+host_tests::tests! {
+    a_long_burst_leaves_the_state_that_short_ones_leave,
+    a_state_with_other_words_is_hashed_from_them,
+    pieces_of_each_size_are_judged_by_their_bytes,
+    the_archive_has_packed_adds,
 }

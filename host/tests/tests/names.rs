@@ -72,7 +72,6 @@ fn refused() -> Names {
     numbers().into_iter().filter(|(name, _)| name != "DONE").collect()
 }
 
-#[test]
 fn the_numbers_of_the_table() {
     let numbers = numbers();
     let values: BTreeSet<u64> = numbers.values().copied().collect();
@@ -80,7 +79,6 @@ fn the_numbers_of_the_table() {
     assert_eq!(values.len(), numbers.len());
 }
 
-#[test]
 fn the_header_has_the_numbers_and_the_limits() {
     let mut expected = numbers();
     expected.extend(constants("host/reference/src/limits.rs"));
@@ -88,14 +86,12 @@ fn the_header_has_the_numbers_and_the_limits() {
     assert_eq!(header(), expected);
 }
 
-#[test]
 fn the_numbers_have_one_name_each() {
     assert_eq!(constants("host/reference/src/number.rs"), numbers());
     assert_eq!(defined("crates/numbers/specs/Numbers.antt"), refused());
     assert_eq!(refusals(), refused());
 }
 
-#[test]
 fn the_limits_have_one_name_each() {
     let limits = constants("host/reference/src/limits.rs");
     assert_eq!(constants("host/kombudeva/src/limits.rs"), limits);
@@ -107,10 +103,17 @@ fn the_limits_have_one_name_each() {
     assert_eq!(constants("crates/lists/src/form.rt")["RECORD"], limits["WRITE_RECORD"]);
 }
 
-#[test]
 fn the_version_is_the_bindings() {
     let header = source("include/kombudeva.h");
     let (_, rest) = header.split_once("#define KD_VERSION \"").unwrap();
     let (version, _) = rest.split_once('"').unwrap();
     assert!(source("host/kombudeva/Cargo.toml").contains(&format!("\nversion = \"{version}\"\n")));
+}
+
+host_tests::tests! {
+    the_numbers_of_the_table,
+    the_header_has_the_numbers_and_the_limits,
+    the_numbers_have_one_name_each,
+    the_limits_have_one_name_each,
+    the_version_is_the_bindings,
 }

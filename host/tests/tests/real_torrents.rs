@@ -48,14 +48,12 @@ fn text_of(torrent: &[u8]) -> String {
     text
 }
 
-#[test]
 fn the_reference_says_what_libtorrent_says() {
     for (path, torrent, text) in torrents() {
         assert_eq!(text_of(&torrent), text, "{}", path.display());
     }
 }
 
-#[test]
 fn the_library_says_what_the_reference_says() {
     let mut compared = Comparison::new(&by_library);
     for (_, torrent, _) in torrents() {
@@ -73,7 +71,6 @@ fn name_and_keys(torrent: &[u8]) -> (Vec<u8>, usize) {
 
 /// Each torrent, written again by the library of its own files and name, in the opposite order: the reference writes the same
 /// bytes; the same files are read back; and where `info` has the writer's four keys alone, it has the same info hash.
-#[test]
 fn written_again() {
     let mut compared = Comparison::new(&by_library);
     let mut with_the_same_hash = 0;
@@ -106,7 +103,6 @@ fn content(path: &[u8], length: u64) -> Vec<u8> {
     (0..length).map(|i| (i * 7 + i / 251 + seed) as u8).collect()
 }
 
-#[test]
 fn trees_have_the_roots_that_libtorrent_gives() {
     for (_, torrent, _) in torrents() {
         for file in contents(&torrent).unwrap().files.iter().filter(|file| file.length > 0) {
@@ -114,4 +110,11 @@ fn trees_have_the_roots_that_libtorrent_gives() {
             assert_eq!(root_of_file(&content(&path.join(&b'/'), file.length)), file.root, "{path:?}");
         }
     }
+}
+
+host_tests::tests! {
+    the_reference_says_what_libtorrent_says,
+    the_library_says_what_the_reference_says,
+    written_again,
+    trees_have_the_roots_that_libtorrent_gives,
 }

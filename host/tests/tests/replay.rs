@@ -45,19 +45,16 @@ const END: &[u8] = &[4];
 
 // ---- sessions that don't stop
 
-#[test]
 fn no_input() {
     assert_prints(&[], "end\n");
 }
 
-#[test]
 fn an_input_that_can_not_be_read() {
     if let Some(program) = replays::program() {
         assert_eq!(replays::by_program_without_input(&program), "end\n");
     }
 }
 
-#[test]
 fn the_session_of_the_document() {
     let file = five_blocks();
     let first = true_message(&file, [0, 0, 4, 1]);
@@ -66,7 +63,6 @@ fn the_session_of_the_document() {
     assert_prints(&[include_bytes!("../../../crates/replay/stdin")], "0 1\n6 0\n0 2\n0 6\n0 0\nend\n");
 }
 
-#[test]
 fn openings_alone() {
     assert_prints(&[&facts(1, 16384)], "0 1\nend\n");
     assert_prints(&[&facts(1, 16777216)], "0 1\nend\n");
@@ -74,7 +70,6 @@ fn openings_alone() {
     assert_prints(&[&facts(1, 16384), &facts(81920, 65536)], "0 1\n0 1\nend\n");
 }
 
-#[test]
 fn an_opening_forgets_what_was_held() {
     let file = five_blocks();
     let (upper, leaves) = (true_message(&file, [2, 0, 2, 0]), true_message(&file, [0, 0, 4, 1]));
@@ -84,7 +79,6 @@ fn an_opening_forgets_what_was_held() {
 
 /// Each number that a message can get here. 1 and 9 can't come up, since a header is whole and the store is ours, and 8
 /// would take two strings with one SHA-256.
-#[test]
 fn every_number() {
     let file = five_blocks();
     let other = Truth::of_leaves(81920, 65536, &mut Random::new(6));
@@ -134,7 +128,6 @@ fn every_number() {
 
 /// The largest file, 512 blocks: layer 8, then layers 5 to 7, then each run of 32 leaves, whose anchor is in layer 5; that
 /// makes 1 + 2 + 28 + 16 · 62 = 1023 positions, which is all. Then all leaves at once, and the file opened once more.
-#[test]
 fn a_long_session() {
     let file = Truth::of_leaves(512 * 16384, 16384, &mut Random::new(512));
     let mut session = vec![opening_of(&file), true_message(&file, [0, 0, 32, 4])];
@@ -155,7 +148,6 @@ fn a_long_session() {
 
 /// Sixteen blocks, two leaves at a time, each with its uncles up to the root: 8 new at first, then 2 and for each layer
 /// that no message has come through yet 2 more. With the root that makes 31.
-#[test]
 fn leaves_two_by_two() {
     let file = Truth::of_leaves(16 * 16384, 16384, &mut Random::new(16));
     let mut session = vec![opening_of(&file)];
@@ -164,7 +156,6 @@ fn leaves_two_by_two() {
     assert_prints(&records, "0 1\n0 8\n0 2\n0 4\n0 2\n0 6\n0 2\n0 4\n0 2\nend\n");
 }
 
-#[test]
 fn the_528th_hash_is_taken() {
     let file = five_blocks();
     let leaves = true_message(&file, [0, 0, 8, 0]);
@@ -180,7 +171,6 @@ fn assert_broken(records: &[&[u8]]) {
     assert_prints(&[&[&first[..]], records, &[&again[..]]].concat(), "0 1\n1 0\nend\n");
 }
 
-#[test]
 fn the_529th_hash() {
     let file = five_blocks();
     let header = header(&file, [0, 0, 8, 0]);
@@ -192,7 +182,6 @@ fn the_529th_hash() {
 
 /// The limit is the replay's own: a run that the store would take is too long for it, whole or with more uncles than 16. A header
 /// that says so, with a few hashes, is a message like any other.
-#[test]
 fn a_message_of_more_than_528_hashes() {
     let file = Truth::of_leaves(512 * 16384, 16384, &mut Random::new(512));
     for length in [1024, LONGEST_RUN, 2 * LONGEST_RUN] {
@@ -204,7 +193,6 @@ fn a_message_of_more_than_528_hashes() {
     assert_broken(&[&most, &hash().repeat(512 + 17), END]);
 }
 
-#[test]
 fn an_unknown_kind() {
     let header = header(&five_blocks(), [0, 0, 8, 0]);
     for kind in [0, 5, 21, 22, 255] {
@@ -216,7 +204,6 @@ fn an_unknown_kind() {
     }
 }
 
-#[test]
 fn a_cut_record() {
     let file = five_blocks();
     let (opening, header) = (opening_of(&file), header(&file, [0, 0, 8, 0]));
@@ -235,7 +222,6 @@ fn a_cut_record() {
     assert_prints(&[&facts(u64::MAX, 0)[..44]], "1 0\nend\n");
 }
 
-#[test]
 fn an_input_that_ends_inside_a_message() {
     let file = five_blocks();
     let (opening, header) = (opening_of(&file), header(&file, [0, 0, 8, 0]));
@@ -246,14 +232,12 @@ fn an_input_that_ends_inside_a_message() {
     assert_prints(&[&opening, &whole, &whole[..whole.len() - 1]], "0 1\n0 2\n1 0\nend\n");
 }
 
-#[test]
 fn a_header_before_any_opening() {
     let file = five_blocks();
     assert_prints(&[&true_message(&file, [2, 0, 2, 0]), &opening_of(&file)], "1 0\nend\n");
     assert_prints(&[&[2]], "1 0\nend\n");
 }
 
-#[test]
 fn an_opening_inside_a_message() {
     let file = five_blocks();
     let header = header(&file, [0, 0, 8, 0]);
@@ -264,7 +248,6 @@ fn an_opening_inside_a_message() {
     assert_prints(&[&opening_of(&file), &header, &[1]], "0 1\n1 0\nend\n");
 }
 
-#[test]
 fn a_header_inside_a_message() {
     let file = five_blocks();
     let header = header(&file, [0, 0, 8, 0]);
@@ -273,7 +256,6 @@ fn a_header_inside_a_message() {
     assert_prints(&[&opening_of(&file), &header, &[2]], "0 1\n1 0\nend\n");
 }
 
-#[test]
 fn a_hash_outside_a_message() {
     let file = five_blocks();
     assert_prints(&[&hash(), &opening_of(&file)], "1 0\nend\n");
@@ -283,7 +265,6 @@ fn a_hash_outside_a_message() {
     assert_prints(&[&opening_of(&file), &[3]], "0 1\n1 0\nend\n");
 }
 
-#[test]
 fn an_end_outside_a_message() {
     let file = five_blocks();
     assert_prints(&[END, &opening_of(&file)], "1 0\nend\n");
@@ -301,7 +282,6 @@ fn assert_refused(length: u64, piece_length: u64) {
     assert_prints(&[&opening_of(&good), &whole, &refused, &whole], "0 1\n0 2\n10 0\nend\n");
 }
 
-#[test]
 fn a_file_of_513_blocks() {
     assert_refused(512 * 16384 + 1, 16384);
     assert_refused(513 * 16384, 16384);
@@ -309,18 +289,15 @@ fn a_file_of_513_blocks() {
     assert_refused(LONGEST_FILE, 16384);
 }
 
-#[test]
 fn an_opening_of_no_bytes() {
     assert_refused(0, 16384);
 }
 
-#[test]
 fn an_opening_of_more_bytes_than_a_file_may_have() {
     assert_refused(LONGEST_FILE + 1, 16384);
     assert_refused(u64::MAX, 16384);
 }
 
-#[test]
 fn an_opening_with_a_wrong_piece_length() {
     for piece_length in [0, 1, 8192, 16383, 16385, 49152, 33554432, 4294967295] {
         assert_refused(81920, piece_length);
@@ -328,7 +305,6 @@ fn an_opening_with_a_wrong_piece_length() {
 }
 
 /// A message about a file of one block, of which every header is refused, does not stop the session.
-#[test]
 fn a_refused_message_goes_on() {
     let file = Truth::of_leaves(1, 16384, &mut Random::new(1));
     let refused = [header(&file, [0, 0, 2, 0]), hash(), hash(), END.to_vec()].concat();
@@ -336,7 +312,6 @@ fn a_refused_message_goes_on() {
 }
 
 /// The message's bytes are the header's and the hashes': the kind bytes between them are not among them.
-#[test]
 fn a_message_as_records() {
     let bytes = [&[HASHES][..], &[9; 48], &[8; 64]].concat();
     let records = message(&bytes);
@@ -348,7 +323,6 @@ fn a_message_as_records() {
 const GENERATED: usize = 200;
 
 /// Against what the reference prints; KD_SEED sets the seed.
-#[test]
 fn generated_sessions() {
     let Some(program) = replays::program() else { return };
     let clock = || SystemTime::now().duration_since(UNIX_EPOCH).unwrap().as_secs();
@@ -360,4 +334,33 @@ fn generated_sessions() {
         let piece = random.pick(&PIECES);
         assert_eq!(by_program(&program, &input, piece), replay(&input), "seed {seed}, input {input:02x?}");
     }
+}
+
+host_tests::tests! {
+    no_input,
+    an_input_that_can_not_be_read,
+    the_session_of_the_document,
+    openings_alone,
+    an_opening_forgets_what_was_held,
+    every_number,
+    a_long_session,
+    leaves_two_by_two,
+    the_528th_hash_is_taken,
+    the_529th_hash,
+    a_message_of_more_than_528_hashes,
+    an_unknown_kind,
+    a_cut_record,
+    an_input_that_ends_inside_a_message,
+    a_header_before_any_opening,
+    an_opening_inside_a_message,
+    a_header_inside_a_message,
+    a_hash_outside_a_message,
+    an_end_outside_a_message,
+    a_file_of_513_blocks,
+    an_opening_of_no_bytes,
+    an_opening_of_more_bytes_than_a_file_may_have,
+    an_opening_with_a_wrong_piece_length,
+    a_refused_message_goes_on,
+    a_message_as_records,
+    generated_sessions,
 }

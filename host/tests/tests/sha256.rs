@@ -9,7 +9,6 @@ fn hex(text: &[u8]) -> String {
     answer.hash.bytes.iter().map(|byte| format!("{byte:02x}")).collect()
 }
 
-#[test]
 fn published_vectors() {
     let vectors: [(&[u8], &str); 5] = [
         (b"", "e3b0c44298fc1c149afbf4c8996fb92427ae41e4649b934ca495991b7852b855"),
@@ -38,7 +37,6 @@ fn hex_in_bursts(text: &[u8], burst: usize) -> String {
     boundary::hashing_end(state).hash.bytes.iter().map(|byte| format!("{byte:02x}")).collect()
 }
 
-#[test]
 fn every_length_and_filling() {
     for length in lengths() {
         for filling in 0..FILLINGS {
@@ -49,7 +47,6 @@ fn every_length_and_filling() {
     }
 }
 
-#[test]
 fn a_string_may_begin_at_any_address() {
     let text = filled(400, 3);
     for start in 0..64 {
@@ -58,4 +55,10 @@ fn a_string_may_begin_at_any_address() {
             assert_eq!(boundary::sha256(part).hash.bytes, sha256(part), "{length} bytes from {start}");
         }
     }
+}
+
+host_tests::tests! {
+    published_vectors,
+    every_length_and_filling,
+    a_string_may_begin_at_any_address,
 }

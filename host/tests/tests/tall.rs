@@ -144,18 +144,15 @@ fn every_length(height: u64, blocks: u64) {
     }
 }
 
-#[test]
 fn every_length_in_every_full_tree() {
     (0..=TALLEST_TREE).for_each(|height| every_length(height, 1 << height));
 }
 
 /// Half of such a tree and more is padding.
-#[test]
 fn every_length_in_every_tree_of_one_block_more() {
     (1..=TALLEST_TREE).for_each(|height| every_length(height, (1 << (height - 1)) + 1));
 }
 
-#[test]
 fn lengths_about_the_limits() {
     for (length, height) in [(1 << 30, 16), ((1 << 30) + 1, 17), (LONGEST_FILE, TALLEST_TREE)] {
         let facts = Facts { length, piece_length: 1 << 24, root: [7; 32] };
@@ -179,7 +176,6 @@ fn lengths_about_the_limits() {
 }
 
 /// The longest file in the smallest pieces: a layer of 2^20 hashes, 32 MiB, loaded; then all is held to the last block.
-#[test]
 fn the_longest_layer() {
     let mut both = Both::open(Alike::new(LONGEST_FILE / BLOCK, BLOCK));
     let facts = both.file.facts;
@@ -202,7 +198,6 @@ fn the_longest_layer() {
 }
 
 /// The last blocks of the longest history: its hashes are the last of 2^20, and its root stands in the last of the nodes.
-#[test]
 fn the_end_of_the_longest_history() {
     let mut random = Random::new(20);
     let nodes: [Hash; NODES] = std::array::from_fn(|_| random.hash());
@@ -220,4 +215,12 @@ fn the_end_of_the_longest_history() {
     assert_eq!((end.root.bytes, expected_end.root), (expected_end.root, full.nodes[TALLEST_TREE as usize]));
     assert!(ours == expected, "the layers differ");
     assert_eq!(boundary::history_end(given.state, &mut ours[1..]).number, reference::number::NO_ROOM);
+}
+
+host_tests::tests! {
+    every_length_in_every_full_tree,
+    every_length_in_every_tree_of_one_block_more,
+    lengths_about_the_limits,
+    the_longest_layer,
+    the_end_of_the_longest_history,
 }

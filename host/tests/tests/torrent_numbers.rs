@@ -91,7 +91,6 @@ fn with_tree(entries: &[&[u8]]) -> Vec<u8> {
 
 // ---- 19 to 21
 
-#[test]
 fn number_19_is_above_a_mebibyte() {
     let size = |string_size: usize| with_unknown(&string(&vec![b'x'; string_size]));
     let around = size(1_000_000).len() - 1_000_000;
@@ -103,7 +102,6 @@ fn number_19_is_above_a_mebibyte() {
     assert_number(&vec![b'x'; LARGEST_TORRENT + 1], 19);
 }
 
-#[test]
 fn values_that_are_strict() {
     let good: [&[u8]; 17] = [
         b"i0e", b"i7e", b"i-1e", b"i10e", b"i9223372036854775807e", b"i-9223372036854775808e", b"0:", b"1:\0",
@@ -113,7 +111,6 @@ fn values_that_are_strict() {
     good.into_iter().for_each(|value| assert_number(&with_unknown(value), 0));
 }
 
-#[test]
 fn number_20_is_a_value_that_is_not_strict() {
     let bad: [&[u8]; 37] = [
         b"i00e", b"i-0e", b"ie", b"i-e", b"i01e", b"i-01e", b"i--1e", b"i+1e", b"i 1e", b"i1 e", b"i1.0e", b"i0x1e",
@@ -128,7 +125,6 @@ fn number_20_is_a_value_that_is_not_strict() {
     assert_number(&with_unknown(b"d0:0:0:0:e"), 20);
 }
 
-#[test]
 fn number_20_is_not_one_dictionary() {
     let good = Parts::good().torrent();
     let bad: [Vec<u8>; 12] = [
@@ -153,7 +149,6 @@ fn lists(count: usize) -> Vec<u8> {
     [b"l".repeat(count), b"e".repeat(count)].concat()
 }
 
-#[test]
 fn number_21_is_level_33() {
     assert_number(&with_unknown(&lists(31)), 0);
     assert_number(&with_unknown(&lists(32)), 21);
@@ -163,7 +158,6 @@ fn number_21_is_level_33() {
     assert_number(&with_unknown(&[b"d0:".repeat(32), b"0:".to_vec(), b"e".repeat(32)].concat()), 21);
 }
 
-#[test]
 fn the_first_from_the_left_of_20_and_21() {
     // 21 stands before what is not strict, and the other way round.
     assert_number(&with_unknown(&[&lists(32)[..], b"junk"].concat()), 21);
@@ -179,7 +173,6 @@ fn the_first_from_the_left_of_20_and_21() {
     assert_number(&with_unknown(&[&b"l".repeat(30)[..], b"d1:b0:1:al"].concat()), 20);
 }
 
-#[test]
 fn a_path_of_28_elements() {
     let deep = |elements: usize| {
         let inner = file("a", 1, Some([1; 32]));
@@ -193,7 +186,6 @@ fn a_path_of_28_elements() {
 
 // ---- 22 to 24
 
-#[test]
 fn number_22_is_missing_or_of_another_type() {
     let others: [&[u8]; 5] = [b"", b"i2e", b"1:2", b"le", b"de"];
     for other in others {
@@ -226,14 +218,12 @@ fn number_22_is_missing_or_of_another_type() {
     assert_number(&dictionary(&[&entry("info", &layers_inside), &entry("piece layers", b"de")]), 0);
 }
 
-#[test]
 fn number_23_is_another_version() {
     for version in ["i0e", "i1e", "i3e", "i-2e", "i4294967298e", "i9223372036854775807e"] {
         assert_number(&Parts { version: version.into(), ..Parts::good() }.torrent(), 23);
     }
 }
 
-#[test]
 fn number_24_is_a_piece_length_out_of_range() {
     let out = [0, 1, 2, 8192, 16383, 16385, 49152, 16777215, 33554432, -16384, 4294983680, i64::MAX, i64::MIN];
     for piece_length in out {
@@ -248,7 +238,6 @@ fn number_24_is_a_piece_length_out_of_range() {
 
 // ---- 25
 
-#[test]
 fn number_25_is_an_empty_or_wrong_tree() {
     let good = file("z", 1, Some([1; 32]));
     let wrong: [Vec<u8>; 9] = [
@@ -300,7 +289,6 @@ fn assert_name(name: &[u8], number: u32) {
     }
 }
 
-#[test]
 fn number_25_is_an_element_that_climbs_out() {
     let wrong: [&[u8]; 15] = [
         b"", b".", b"..", b"/", b"\0", b"a/b", b"/a", b"a/", b"../x", b"x/..", b"a\0", b"\0a", b"a\0b", b"..\0", b"./",
@@ -310,7 +298,6 @@ fn number_25_is_an_element_that_climbs_out() {
     assert_name(&longest, 25);
 }
 
-#[test]
 fn elements_that_only_look_so() {
     let right: [&[u8]; 15] = [
         b"...", b"....", b". ", b".. ", b" .", b"..a", b".a", b"a.", b"a..", b" ", b"\\", b"..\\", b"\x80", b"\xff\xfe", b"C:",
@@ -319,7 +306,6 @@ fn elements_that_only_look_so() {
     assert_name(&[b'.'; 300], 0);
 }
 
-#[test]
 fn every_byte_of_an_element() {
     for byte in 0..=255 {
         let alone = matches!(byte, 0 | b'.' | b'/');
@@ -335,7 +321,6 @@ fn every_byte_of_an_element() {
     }
 }
 
-#[test]
 fn a_wrong_element_comes_between_24_and_26() {
     let root = Some([1; 32]);
     let tree = dictionary(&[&file("..", 1, root), &file("b", 2, root)]);
@@ -355,7 +340,6 @@ fn with_properties(properties: &[&[u8]]) -> Vec<u8> {
     with_tree(&[&entry("a", &dictionary(&[&entry("", &dictionary(properties))]))])
 }
 
-#[test]
 fn number_25_is_a_file_without_its_length_or_root() {
     let root = entry("pieces root", &string(&[1; 32]));
     assert_number(&with_properties(&[]), 25);
@@ -392,7 +376,6 @@ fn of_a_long_file(length: u64) -> Vec<u8> {
 }
 
 /// Lengths of more than 32 bits are read whole.
-#[test]
 fn number_25_is_a_file_above_the_longest() {
     for length in [1 << 30, (1 << 30) + 1, (1 << 32) + 1, LONGEST_FILE] {
         let torrent = of_a_long_file(length);
@@ -403,7 +386,6 @@ fn number_25_is_a_file_above_the_longest() {
     assert_number(&of_a_long_file(LONGEST_FILE + (1 << 32)), 25);
 }
 
-#[test]
 fn number_25_is_an_empty_file_with_any_root() {
     let empty = entry("length", b"i0e");
     assert_number(&with_properties(&[&empty]), 0);
@@ -412,7 +394,6 @@ fn number_25_is_an_empty_file_with_any_root() {
     }
 }
 
-#[test]
 fn unknown_keys_are_skipped() {
     let empty = entry("length", b"i0e");
     assert_number(&with_properties(&[&entry("", b"le"), &entry("attr", b"1:x"), &empty, &entry("zz", b"de")]), 0);
@@ -424,7 +405,6 @@ fn unknown_keys_are_skipped() {
 
 // ---- 26 to 28
 
-#[test]
 fn number_26_is_one_root_with_two_lengths() {
     let root = Some([1; 32]);
     assert_number(&with_tree(&[&file("a", 1, root), &file("b", 2, root)]), 26);
@@ -476,7 +456,6 @@ impl Layered {
     }
 }
 
-#[test]
 fn layers_that_are_right() {
     let layered = layered();
     let torrent = layered.torrent(&layered.good());
@@ -488,7 +467,6 @@ fn layers_that_are_right() {
     assert_eq!((torrent_file(&torrent, 2).layer_start, torrent_file(&torrent, 2).layer_size), (0, 0));
 }
 
-#[test]
 fn number_27_is_a_layer_too_few_or_too_many() {
     let layered = layered();
     let [first, second] = layered.good();
@@ -510,7 +488,6 @@ fn number_27_is_a_layer_too_few_or_too_many() {
     }
 }
 
-#[test]
 fn number_27_is_a_layer_of_another_size_or_type() {
     let layered = layered();
     let [first, second] = layered.good();
@@ -524,7 +501,6 @@ fn number_27_is_a_layer_of_another_size_or_type() {
     assert_number(&layered.torrent(&[(first.0, second.1), (second.0, first.1)]), 27);
 }
 
-#[test]
 fn number_28_is_a_layer_that_does_not_give_its_root() {
     let layered = layered();
     let [first, second] = layered.good();
@@ -549,7 +525,6 @@ fn twins(root: Hash, lengths: &[i64], entries: &[(&[u8], Vec<u8>)]) -> Vec<u8> {
     Parts { tree, layers: dictionary(&[&layers]), ..Parts::good() }.torrent()
 }
 
-#[test]
 fn files_of_one_root_and_length_share_a_layer() {
     let layered = layered();
     let [(root, layer), (other, other_layer)] = layered.good();
@@ -584,7 +559,6 @@ fn files_of_one_root_and_length_share_a_layer() {
 }
 
 /// The padding value of a layer above 0 is not zeros: three pieces of 32 KiB.
-#[test]
 fn padding_above_the_leaves() {
     let tree = |filler: Hash| {
         let root = pair(&pair(&[7; 32], &[8; 32]), &pair(&[9; 32], &filler));
@@ -598,7 +572,6 @@ fn padding_above_the_leaves() {
 
 // ---- the lowest number wins, and 29 comes last
 
-#[test]
 fn the_lowest_number_wins() {
     let layered = layered();
     let wrong_version = Parts { version: b"i3e".to_vec(), ..Parts::good() };
@@ -618,7 +591,6 @@ fn the_lowest_number_wins() {
     assert_number(&layered.torrent(&[differs(first.0), (second.0, string(&[1; 96]))]), 28);
 }
 
-#[test]
 fn number_29_comes_after_all_others() {
     let good = Parts::good().torrent();
     for (file, number) in [(0, 0), (1, 29), (u64::MAX, 29)] {
@@ -632,7 +604,6 @@ fn number_29_comes_after_all_others() {
 }
 
 /// Tree order goes by element, as raw bytes.
-#[test]
 fn tree_order() {
     let root = |byte| Some([byte; 32]);
     let folder = entry("a", &dictionary(&[&file("b", 1, root(1)), &file("\u{e4}", 1, root(2))]));
@@ -645,7 +616,6 @@ fn tree_order() {
 }
 
 /// What the comparison asks for is what is counted here: every entry point, on a good torrent.
-#[test]
 fn all_is_asked() {
     let mut compared = Comparison::new(&host_tests::call::by_reference);
     ask_all(&Parts::good().torrent(), &mut compared);
@@ -655,4 +625,37 @@ fn all_is_asked() {
     assert_eq!((asked(Entry::TorrentList, 0), asked(Entry::TorrentList, 11)), (2, 2));
     let Given::Torrent(whole) = compared.ask(&host_tests::call::Call::new(Entry::TorrentRead)).given else { panic!() };
     assert_eq!((whole.number, whole.info_hash, whole.piece_length, whole.files), (20, [0; 32], 0, 0));
+}
+
+host_tests::tests! {
+    number_19_is_above_a_mebibyte,
+    values_that_are_strict,
+    number_20_is_a_value_that_is_not_strict,
+    number_20_is_not_one_dictionary,
+    number_21_is_level_33,
+    the_first_from_the_left_of_20_and_21,
+    a_path_of_28_elements,
+    number_22_is_missing_or_of_another_type,
+    number_23_is_another_version,
+    number_24_is_a_piece_length_out_of_range,
+    number_25_is_an_empty_or_wrong_tree,
+    number_25_is_an_element_that_climbs_out,
+    elements_that_only_look_so,
+    every_byte_of_an_element,
+    a_wrong_element_comes_between_24_and_26,
+    number_25_is_a_file_without_its_length_or_root,
+    number_25_is_a_file_above_the_longest,
+    number_25_is_an_empty_file_with_any_root,
+    unknown_keys_are_skipped,
+    number_26_is_one_root_with_two_lengths,
+    layers_that_are_right,
+    number_27_is_a_layer_too_few_or_too_many,
+    number_27_is_a_layer_of_another_size_or_type,
+    number_28_is_a_layer_that_does_not_give_its_root,
+    files_of_one_root_and_length_share_a_layer,
+    padding_above_the_leaves,
+    the_lowest_number_wins,
+    number_29_comes_after_all_others,
+    tree_order,
+    all_is_asked,
 }

@@ -62,7 +62,7 @@ fn compare(Part { name, cases }: &Part) {
     let seed = seed();
     let most = setting("KD_CASES", 800_000);
     let began = Instant::now();
-    let end = began + Duration::from_secs(setting("KD_SECONDS", 75));
+    let end = began + Duration::from_secs(setting("KD_SECONDS", 60));
     let mut compared = Comparison::new(&by_library);
     let mut asked = 0;
     cases(&mut Random::new(seed), &mut compared, &mut |compared| {
