@@ -3,10 +3,10 @@
 use mathlib.Core.Path.{_≡_, refl}
 use mathlib.Core.Bool.{Bool, true, false, _&&_, false≢true}
 use mathlib.Core.List.{List, [], _∷_, _++_}
-use Prim.Native.Nat.{ℕ, zero, suc, _+_, _≤_, _<_}
+use Prim.Native.Nat.{ℕ, zero, suc, _+_, _-_, _≤_, _<_}
 use native.Mathlib.Omega.{arith}
 use lib.ListN.{length, length-append}
-use Rattle.limits.specs.Limits.{longestFile}
+use Rattle.limits.specs.Limits.{longestFile, maxLevels}
 use Rattle.bencode.specs.Grammar.{Value, integer, string, list, dictionary, Entries, noEntries, entry, KeyBefore, none, after, Valid, EntriesValid}
 use Rattle.bencode.specs.Parts.{present}
 use Rattle.meaning.specs.Torrent.{entriesOf, fileRight, noMore, elementRight, nodeRight, branchRight, nodesRight, treeRight, File, fileValue, filesOfNode, filesOfEntries}
@@ -19,13 +19,13 @@ unfoldable pub ElementsRight : List (List ℕ) → Type 0
 ElementsRight [] = Unit {0}
 ElementsRight (x ∷ xs) = (elementRight x ≡ true) × ElementsRight xs
 
--- a file of a tree that is nested to at most 30 levels
+-- a file of a tree that is nested to at most two levels fewer than a torrent
 pub record FileHolds (v : File) : Type 0 where
   pub small : v .size ≤ longestFile
   pub wide : (v .size ≡ 0 → ⊥) → length (v .root) ≡ 32
   pub elements : ElementsRight (v .path)
   pub some-element : 0 < length (v .path)
-  pub shallow : length (v .path) ≤ 28
+  pub shallow : length (v .path) ≤ maxLevels - 4
 
 unfoldable pub AllHold : List File → Type 0
 AllHold [] = Unit {0}
@@ -65,15 +65,15 @@ right-more [] k a e = (e, tt)
 right-more (x ∷ path) k a e = (a .0, right-more path k (a .1) e)
 
 -- a file, whose dictionary takes a level
-file-holds : (path : List (List ℕ)) (w : Value) (l : ℕ) → ElementsRight path → 0 < length path → length path + l ≤ 29 → Valid w l → fileRight w ≡ true → AllHold (fileValue path (entriesOf (present w)) ∷ [])
+file-holds : (path : List (List ℕ)) (w : Value) (l : ℕ) → ElementsRight path → 0 < length path → length path + l ≤ maxLevels - 3 → Valid w l → fileRight w ≡ true → AllHold (fileValue path (entriesOf (present w)) ∷ [])
 unfolding AllHold
 file-holds path w l a o s h e = (by-file w l s h (file-yes w e), tt)
   where
-    level : (es : Entries) (l : ℕ) → length path + l ≤ 29 → Valid (dictionary es) l → length path ≤ 28
+    level : (es : Entries) (l : ℕ) → length path + l ≤ maxLevels - 3 → Valid (dictionary es) l → length path ≤ maxLevels - 4
     level es zero s h = unfold Valid in absurd h
     level es (suc l) s h = omega arith
 
-    by-file : (w : Value) (l : ℕ) → length path + l ≤ 29 → Valid w l → RightFile w → FileHolds (fileValue path (entriesOf (present w)))
+    by-file : (w : Value) (l : ℕ) → length path + l ≤ maxLevels - 3 → Valid w l → RightFile w → FileHolds (fileValue path (entriesOf (present w)))
     by-file w l s h (empty es z r) = record { small = rw z (omega arith); wide = λ n. absurd (n (rw z refl)); elements = a; some-element = o; shallow = level es l s h }
     by-file w l s h (full es n root z above below r size) = record { small = rw z below; wide = λ m. rw r size; elements = a; some-element = o; shallow = level es l s h }
 
@@ -86,14 +86,14 @@ mutual
   unfolding nodeRight branchRight nodesRight elementRight filesOfNode filesOfEntries AllHold Valid
 
   -- a node, whose path has one element more
-  node-holds : (v : Value) (path : List (List ℕ)) (l : ℕ) → ElementsRight path → 0 < length path → length path + l ≤ 30 → Valid v l → nodeRight v ≡ true → AllHold (filesOfNode path v)
+  node-holds : (v : Value) (path : List (List ℕ)) (l : ℕ) → ElementsRight path → 0 < length path → length path + l ≤ maxLevels - 2 → Valid v l → nodeRight v ≡ true → AllHold (filesOfNode path v)
   node-holds (integer minus n) path l a o s h e = absurd (false≢true e)
   node-holds (string b) path l a o s h e = absurd (false≢true e)
   node-holds (list vs) path l a o s h e = absurd (false≢true e)
   node-holds (dictionary es) path zero a o s h e = absurd h
   node-holds (dictionary es) path (suc l) a o s h e = branch-holds es path l a o (omega arith) none h e
 
-  branch-holds : (es : Entries) (path : List (List ℕ)) (l : ℕ) → ElementsRight path → 0 < length path → length path + l ≤ 29 → (j : KeyBefore) → EntriesValid es j l → branchRight es ≡ true → AllHold (filesOfEntries path es)
+  branch-holds : (es : Entries) (path : List (List ℕ)) (l : ℕ) → ElementsRight path → 0 < length path → length path + l ≤ maxLevels - 3 → (j : KeyBefore) → EntriesValid es j l → branchRight es ≡ true → AllHold (filesOfEntries path es)
   branch-holds noEntries path l a o s j h e = tt
   branch-holds (entry [] v es) path l a o s j h e = file-holds path v l a o s (h .1) (second-true (noMore es) (fileRight v) e)
   branch-holds (entry (c ∷ cs) v es) path l a o s j h e =
@@ -102,7 +102,7 @@ mutual
       hold-append (filesOfNode deeper v) (filesOfEntries path es) (node-holds v deeper l (right-more path (c ∷ cs) a (p .0)) (omega (arith, length-append path ((c ∷ cs) ∷ []))) (omega (arith, length-append path ((c ∷ cs) ∷ []))) (h .1) (p .1))
       (nodes-hold es path l a s (after (c ∷ cs)) (h .2) (p .2))
 
-  nodes-hold : (es : Entries) (path : List (List ℕ)) (l : ℕ) → ElementsRight path → length path + l ≤ 29 → (j : KeyBefore) → EntriesValid es j l → nodesRight es ≡ true → AllHold (filesOfEntries path es)
+  nodes-hold : (es : Entries) (path : List (List ℕ)) (l : ℕ) → ElementsRight path → length path + l ≤ maxLevels - 3 → (j : KeyBefore) → EntriesValid es j l → nodesRight es ≡ true → AllHold (filesOfEntries path es)
   nodes-hold noEntries path l a s j h e = tt
   nodes-hold (entry [] v es) path l a s j h e = absurd (false≢true e)
   nodes-hold (entry (c ∷ cs) v es) path l a s j h e =
@@ -112,7 +112,7 @@ mutual
       (nodes-hold es path l a s (after (c ∷ cs)) (h .2) (p .2))
 
 -- each file of a right tree
-pub files-hold : (es : Entries) → Valid (dictionary es) 30 → treeRight es ≡ true → AllHold (filesOfEntries [] es)
+pub files-hold : (es : Entries) → Valid (dictionary es) (maxLevels - 2) → treeRight es ≡ true → AllHold (filesOfEntries [] es)
 unfolding treeRight Valid
 files-hold noEntries h e = absurd (false≢true e)
-files-hold (entry k v es) h e = nodes-hold (entry k v es) [] 29 (unfold ElementsRight in tt) (omega arith) none h e
+files-hold (entry k v es) h e = nodes-hold (entry k v es) [] (maxLevels - 3) (unfold ElementsRight in tt) (omega arith) none h e

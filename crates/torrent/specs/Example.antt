@@ -4,7 +4,7 @@
 use mathlib.Core.Path.{_≡_, refl, _∙_}
 use mathlib.Core.Bool.{false}
 use mathlib.Core.List.{[], _∷_}
-use Prim.Native.Nat.{_≤_}
+use Prim.Native.Nat.{_≤_, _-_}
 use native.Mathlib.Omega.{arith}
 use lib.ListN.{length}
 use Rattle.meaning.specs.Keys.{keyLength, keyPiecesRoot, keyInfo, keyFileTree, keyPieceLength, keyMetaVersion, keyPieceLayers}
@@ -41,11 +41,11 @@ abbrev pub small : Entries
 small = entry keyInfo (dictionary info) (entry keyPieceLayers (dictionary noEntries) noEntries)
 
 -- it is valid
-a-valid : Valid a 29
+a-valid : Valid a (maxLevels - 3)
 unfolding Valid
 a-valid = (refl, (refl, omega arith, tt), tt)
 
-b-valid : Valid b 29
+b-valid : Valid b (maxLevels - 3)
 unfolding Valid precedes
 b-valid = (refl, (refl, omega arith, (refl, tt, tt)), tt)
 

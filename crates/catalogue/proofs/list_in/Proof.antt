@@ -1,3 +1,4 @@
+use Rattle.filetree.specs.Path.{pathSize}
 use Rattle.catalogue.specs.PutLaws.{tree-written}
 use Rattle.catalogue.proofs.Filling.{keys-indexed, first-spot}
 use native.Mathlib.Omega.{arith}
@@ -19,7 +20,7 @@ slice-aggregate-put-directory : tie.Need-slice-aggregate-put-directory
 slice-aggregate-put-directory c = search needs
 
 put-directory-requires : tie.Need-put-directory-requires
-put-directory-requires c κs = (keys-indexed _ _ _ (c .before .before .before .before .before .before .before .before .before .before .before .pre .0) (c .before .before .before .before .before .before .before .before .before .before .before .args .keys .now) _ (c .before .before .before .before .before .before .before .before .before .before .before .pre .1) (c .before .before .before .before .before .index .kept .1 .0) _ (c .before .before .before .before .before .index .ensures .0) (c .before .before .before .before .before .index .ensures .1), first-spot _ _ _ (c .before .before .before .before .before .before .before .before .before .before .before .pre .0) _ (c .before .before .before .before .before .before .before .before .before .before .before .args .out .now) (length-replicate {A = ℕ} 56 0))
+put-directory-requires c κs = (keys-indexed _ _ _ (c .before .before .before .before .before .before .before .before .before .before .before .pre .0) (c .before .before .before .before .before .before .before .before .before .before .before .args .keys .now) _ (c .before .before .before .before .before .before .before .before .before .before .before .pre .1) (c .before .before .before .before .before .index .kept .1 .0) _ (c .before .before .before .before .before .index .ensures .0) (c .before .before .before .before .before .index .ensures .1), first-spot _ _ _ (c .before .before .before .before .before .before .before .before .before .before .before .pre .0) _ (c .before .before .before .before .before .before .before .before .before .before .before .args .out .now) (length-replicate {A = ℕ} pathSize 0))
 
 same-length : tie.Need-same-length
 same-length c = search needs

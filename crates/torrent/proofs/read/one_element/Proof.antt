@@ -1,3 +1,4 @@
+use Rattle.filetree.specs.Path.{pathSize}
 use Rattle.torrent.specs.FindLaws.{found-path, found-element}
 use Prim.Native.Nat.{ℕ, _-_}
 use lib.ListN.{length-replicate}
@@ -16,7 +17,7 @@ slice-aggregate-element-of : tie.Need-slice-aggregate-element-of
 slice-aggregate-element-of c = search needs
 
 element-of-requires : tie.Need-element-of-requires
-element-of-requires c κs = found-path _ _ (c .before .before .before .before .before .pre .1) _ _ (c .before .before .find-file .ensures) (c .before .before .find-file .kept .1 .1 .0 ∙ length-replicate {A = ℕ} 56 0) _ (c .before .before .before .before .before .pre .2)
+element-of-requires c κs = found-path _ _ (c .before .before .before .before .before .pre .1) _ _ (c .before .before .find-file .ensures) (c .before .before .find-file .kept .1 .1 .0 ∙ length-replicate {A = ℕ} pathSize 0) _ (c .before .before .before .before .before .pre .2)
 
 returns : tie.Need-returns
 returns c = found-element _ _ (c .before .before .before .before .before .before .pre .1) _ _ (c .before .before .before .find-file .ensures) _ _ _ (c .element-of .ensures)
