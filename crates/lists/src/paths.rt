@@ -1,8 +1,8 @@
 // Paths in tree order, element by element: `a/b` stands before `a.txt`.
+use crate::word::word_at;
 use bencode::front::front;
 use bencode::order::comes_before;
 use bencode::order::same;
-use crate::word::word_at;
 ghost use mathlib.Core.Path.{_≡_};
 ghost use mathlib.Core.Bool.{true};
 ghost use Prim.Native.Nat.{_+_, _≤_};
