@@ -1,0 +1,141 @@
+-- 00, demand 1, says "every entry point": here are all that give a number, as one type. What each is asked, the number it answers with, and
+-- the memories that it was lent, before and after: the definitions that the contracts of crates/kombudeva are equations to (Says).
+-- (kd_hashing_begin gives no number.)
+-- Assumes nothing.
+use mathlib.Core.Path.{_≡_}
+use mathlib.Core.List.{List, [], _∷_}
+use Prim.Native.Nat.{ℕ}
+use Rattle.octets.specs.Octets.{zeroHash}
+use Rattle.sha256.specs.Answer.{hashedOf}
+use Rattle.running.specs.Bursts as Bursts
+use Rattle.running.specs.declared.Hashing.{Hashing}
+use Rattle.history.specs.Answers as Histories
+use Rattle.history.specs.declared.History.{History}
+use Rattle.store.specs.Store.{sizeAnswer}
+use Rattle.marks.specs.Marks.{fieldAfter}
+use Rattle.serve.specs.Serve.{serveAnswer, serveAfter}
+use Rattle.torrent.specs.Torrent.{readOf, fileRead, pathRead, noTorrent, noFileRead, noPartRead}
+use Rattle.catalogue.specs.Catalogue.{listAnswer, listAfter}
+use Rattle.writing.specs.Write.{writeAnswer, writeAfter}
+use Rattle.words.specs.Messages.{Rejected}
+use Rattle.words.specs.History.{Bytes, Call, take, takeReject, serve, held, loadLayer, judgeBlock, judgePiece, clear, isMarked, bitfield, reopen, answer, number as storeNumber, after}
+use Rattle.words.specs.Answers.{Beside}
+
+-- a call of any entry point that gives a number
+pub data AnyCall : Type 0 where
+  -- kd_open, kd_held, kd_take, kd_take_reject, kd_serve, kd_load_layer, kd_judge_block, kd_judge_piece, kd_clear, kd_marked, kd_bitfield, and
+  -- the bytes lent as their store
+  onStore : (c : Call) (s : List ℕ) → AnyCall
+  -- kd_sha256, kd_store_size
+  sha256 : (m : List ℕ) → AnyCall
+  storeSize : (n plen : ℕ) → AnyCall
+  -- kd_hashing_more, kd_hashing_end: a state, a burst
+  hashingMore : (h : Hashing) (burst : List ℕ) → AnyCall
+  hashingEnd : (h : Hashing) → AnyCall
+  -- kd_history_begin, kd_history_more, kd_history_end: a state, a burst, the memory lent for the layer
+  historyBegin : (plen : ℕ) → AnyCall
+  historyMore : (h : History) (burst layer : List ℕ) → AnyCall
+  historyEnd : (h : History) (layer : List ℕ) → AnyCall
+  -- kd_torrent_read, kd_torrent_file, kd_torrent_path, kd_torrent_list, kd_torrent_write: `out` is the output
+  torrentRead : (t : List ℕ) → AnyCall
+  torrentFile : (t : List ℕ) (file : ℕ) → AnyCall
+  torrentPath : (t : List ℕ) (file element : ℕ) → AnyCall
+  torrentList : (t out : List ℕ) → AnyCall
+  torrentWrite : (list text : List ℕ) (plen : ℕ) (name out : List ℕ) → AnyCall
+
+-- the number that it is answered with
+abbrev pub number : AnyCall → ℕ
+number (onStore c s) = storeNumber c s
+number (sha256 m) = hashedOf m .number
+number (storeSize n plen) = sizeAnswer n plen .number
+number (hashingMore h burst) = Bursts.moreAnswer h burst .number
+number (hashingEnd h) = Bursts.endAnswer h .number
+number (historyBegin plen) = Histories.beginAnswer plen .number
+number (historyMore h burst layer) = Histories.moreAnswer h burst layer .number
+number (historyEnd h layer) = Histories.endAnswer h layer .number
+number (torrentRead t) = readOf t .number
+number (torrentFile t file) = fileRead t file .number
+number (torrentPath t file element) = pathRead t file element .number
+number (torrentList t out) = listAnswer t out .number
+number (torrentWrite list text plen name out) = writeAnswer list text plen name out .number
+
+-- the output that a call on a store is lent beside it, if any, and what is left there
+abbrev pub output : Call → List (List ℕ)
+output (take m b) = []
+output (takeReject m b) = []
+output (serve m out b c) = out ∷ []
+output (held l i) = []
+output (loadLayer l b) = []
+output (judgeBlock i d b) = []
+output (judgePiece i d b) = []
+output (clear i) = []
+output (isMarked i) = []
+output (bitfield out b) = out ∷ []
+output (reopen n plen root o) = []
+
+abbrev pub outputAfter : Call → List ℕ → List (List ℕ)
+outputAfter (take m b) s = []
+outputAfter (takeReject m b) s = []
+outputAfter (serve m out b c) s = serveAfter s m out ∷ []
+outputAfter (held l i) s = []
+outputAfter (loadLayer l b) s = []
+outputAfter (judgeBlock i d b) s = []
+outputAfter (judgePiece i d b) s = []
+outputAfter (clear i) s = []
+outputAfter (isMarked i) s = []
+outputAfter (bitfield out b) s = fieldAfter s out ∷ []
+outputAfter (reopen n plen root o) s = []
+
+-- the memories lent to it, store and output, before the call; what is only read, besides a store, is not among them
+abbrev pub lent : AnyCall → List (List ℕ)
+lent (onStore c s) = s ∷ output c
+lent (sha256 m) = []
+lent (storeSize n plen) = []
+lent (hashingMore h burst) = []
+lent (hashingEnd h) = []
+lent (historyBegin plen) = []
+lent (historyMore h burst layer) = layer ∷ []
+lent (historyEnd h layer) = layer ∷ []
+lent (torrentRead t) = []
+lent (torrentFile t file) = []
+lent (torrentPath t file element) = []
+lent (torrentList t out) = out ∷ []
+lent (torrentWrite list text plen name out) = out ∷ []
+
+-- and after it
+abbrev pub left : AnyCall → List (List ℕ)
+left (onStore c s) = after c s ∷ outputAfter c s
+left (sha256 m) = []
+left (storeSize n plen) = []
+left (hashingMore h burst) = []
+left (hashingEnd h) = []
+left (historyBegin plen) = []
+left (historyMore h burst layer) = Histories.moreLayer h burst layer ∷ []
+left (historyEnd h layer) = Histories.endLayer h layer ∷ []
+left (torrentRead t) = []
+left (torrentFile t file) = []
+left (torrentPath t file element) = []
+left (torrentList t out) = listAfter t out ∷ []
+left (torrentWrite list text plen name out) = writeAfter list text plen name out ∷ []
+
+-- it is a request that is refused with 2, 3 or 12, and so gets a reject
+pub data RejectSent : AnyCall → Type 0 where
+  request : {s m out : List ℕ} {x : Bytes m} {y : Bytes out} → Rejected (serveAnswer s m out .number) → RejectSent (onStore (serve m out x y) s)
+
+-- 01: "Beside a refusal every count, size and value is zero; beside a reject the size is 49." A state that a burst was to go on from comes
+-- back as it was given.
+abbrev pub ValuesZero : AnyCall → Type 0
+ValuesZero (onStore c s) = Beside c (answer c s)
+ValuesZero (sha256 m) = hashedOf m .hash ≡ zeroHash
+ValuesZero (storeSize n plen) = sizeAnswer n plen .count ≡ 0
+ValuesZero (hashingMore h burst) = Bursts.moreAnswer h burst .hashing ≡ h
+ValuesZero (hashingEnd h) = Bursts.endAnswer h .hash ≡ zeroHash
+ValuesZero (historyBegin plen) = Histories.beginAnswer plen .history ≡ Histories.noHistory
+ValuesZero (historyMore h burst layer) = Histories.moreAnswer h burst layer .history ≡ h
+ValuesZero (historyEnd h layer) =
+    (Histories.endAnswer h layer .length ≡ 0) × (Histories.endAnswer h layer .root ≡ zeroHash) × (Histories.endAnswer h layer .«layer_size» ≡ 0)
+ValuesZero (torrentRead t) = readOf t ≡ noTorrent (readOf t .number)
+ValuesZero (torrentFile t file) = fileRead t file ≡ noFileRead (fileRead t file .number)
+ValuesZero (torrentPath t file element) = pathRead t file element ≡ noPartRead (pathRead t file element .number)
+ValuesZero (torrentList t out) = listAnswer t out .count ≡ 0
+ValuesZero (torrentWrite list text plen name out) = writeAnswer list text plen name out .count ≡ 0
