@@ -129,7 +129,7 @@ path-zeros r noElement ne = refl
 
 -- ---- the demand
 
--- "Nothing in can hurt. Any bytes may come in, as torrent, message, block or store. Every entry point answers with a number from the table,
+-- "Any bytes may come in, as torrent, message, block or store. Every entry point answers with a number from the table,
 -- asks nothing of its caller,": (the latter: OneOutcome)
 pub every-number-in-table : (a : AnyCall) → InTable (number a)
 every-number-in-table (onStore c s) = calls-in-table c s

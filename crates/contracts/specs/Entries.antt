@@ -86,7 +86,7 @@ outputAfter (isMarked i) s = []
 outputAfter (bitfield out b) s = fieldAfter s out ∷ []
 outputAfter (reopen n plen root o) s = []
 
--- the memories lent to it, store and output, before the call; what is only read, besides a store, is not among them
+-- the memories lent to it, store, output or a history's layer, before the call; what is only read, besides a store, is not among them
 abbrev pub lent : AnyCall → List (List ℕ)
 lent (onStore c s) = s ∷ output c
 lent (sha256 m) = []

@@ -1,5 +1,5 @@
 -- 00, demand 1, of the contracts of crates/kombudeva themselves: the calls of Entries, their numbers and the memories lent to them are the
--- contracts', so that what Demand1 says holds of every outcome that a contract leaves.
+-- contracts', so that what Demand1 says of numbers and memories holds of every outcome that a contract leaves. (The values beside a number: Says.)
 -- Assumes nothing.
 use mathlib.Core.Path.{_≡_, refl, ap, sym, _∙_}
 use mathlib.Core.List.{List, [], _∷_}

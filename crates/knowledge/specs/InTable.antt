@@ -1,9 +1,9 @@
 -- Demand 1: each number is in the table; a refusal leaves every byte of the store, and beside it every count, size and value is zero.
 -- Assumes nothing.
-use mathlib.Core.Path.{_≡_, refl, ap}
+use mathlib.Core.Path.{_≡_, refl, ap, subst}
 use mathlib.Core.Bool.{Bool, true, false, cond}
 use mathlib.Core.List.{List}
-use mathlib.Core.Logic.{inl, inr}
+use mathlib.Core.Logic.{_⊎_, inl, inr}
 use Prim.Native.Nat.{ℕ, zero, suc, _^_, _≤_}
 use native.Mathlib.Omega.{arith}
 use lib.ListN.{length}
@@ -26,6 +26,7 @@ use Rattle.pieces.specs.Pieces.{judgedAt, layerNumber, layerAnswer, blockNumber
 use Rattle.pieces.specs.MarkedLaws.{block-stays, piece-stays}
 use Rattle.marks.specs.Marks.{blockThere, clearAnswer, markedAnswer, fieldSize, fieldAnswer}
 use Rattle.knowledge.specs.Through.{clear-stays}
+use Rattle.words.specs.Messages.{Rejected}
 use Rattle.words.specs.History.{Call, take, takeReject, serve, held, loadLayer, judgeBlock, judgePiece, clear, isMarked, bitfield, reopen, answer, number, after}
 use Rattle.words.specs.Answers.{first, later, InTable, ServeOutcome, replied, rejected, untouched, Beside, noCount, zeroBytes, reject}
 use Rattle.knowledge.specs.Refusals.{opening-refused, message-refused, layer-not-loaded, served, message-number-in-table}
@@ -252,22 +253,34 @@ refused-leaves (isMarked i) s ne = refl
 refused-leaves (bitfield out b) s ne = refl
 refused-leaves (reopen n plen root o) s ne = opening-refused s n plen root ne .0
 
--- and beside it every count, size and value is zero
+-- 9, 1 and 11 are given without a reject
+no-reject : (n : ℕ) → (n ≡ 9) ⊎ ((n ≡ 1) ⊎ (n ≡ 11)) → Rejected n → ⊥
+no-reject n (inl p) (inl q) = omega arith
+no-reject n (inl p) (inr (inl q)) = omega arith
+no-reject n (inl p) (inr (inr q)) = omega arith
+no-reject n (inr (inl p)) (inl q) = omega arith
+no-reject n (inr (inl p)) (inr (inl q)) = omega arith
+no-reject n (inr (inl p)) (inr (inr q)) = omega arith
+no-reject n (inr (inr p)) (inl q) = omega arith
+no-reject n (inr (inr p)) (inr (inl q)) = omega arith
+no-reject n (inr (inr p)) (inr (inr q)) = omega arith
+
+-- and beside it every count, size and value is zero, but for a reject's
 pub beside-refusal : (c : Call) (s : List ℕ) → (number c s ≡ 0 → ⊥) → Beside c (answer c s)
 unfolding rejectAnswer blockAnswer pieceAnswer clearAnswer
-beside-refusal (take m b) s ne = noCount (message-refused s m ne .1)
-beside-refusal (takeReject m b) s ne = noCount refl
+beside-refusal (take m b) s ne = noCount (λ w. w) (message-refused s m ne .1)
+beside-refusal (takeReject m b) s ne = noCount (λ w. w) refl
 beside-refusal (serve m out b c) s ne = by (served s m out)
   where
     by : ServeOutcome s m out → Beside (serve m out b c) (inl (serveAnswer s m out))
     by (replied e a) = absurd (ne (ap (λ (x : Answer). x .number) e))
     by (rejected n r e a) = reject {a = serveAnswer s m out} (rw e r) (ap (λ (x : Answer). x .count) e)
-    by (untouched n r e a) = noCount (ap (λ (x : Answer). x .count) e)
+    by (untouched n r e a) = noCount (λ w. no-reject n r (subst Rejected (ap (λ (x : Answer). x .number) e) w)) (ap (λ (x : Answer). x .count) e)
 beside-refusal (held l i) s ne = zeroBytes (no-hash s l i ne)
-beside-refusal (loadLayer l b) s ne = noCount (layer-not-loaded s l ne .1)
-beside-refusal (judgeBlock i d b) s ne = noCount refl
-beside-refusal (judgePiece i d b) s ne = noCount refl
-beside-refusal (clear i) s ne = noCount refl
-beside-refusal (isMarked i) s ne = noCount (no-mark s i ne)
-beside-refusal (bitfield out b) s ne = noCount (no-field s out ne)
-beside-refusal (reopen n plen root o) s ne = noCount (opening-refused s n plen root ne .1)
+beside-refusal (loadLayer l b) s ne = noCount (λ w. w) (layer-not-loaded s l ne .1)
+beside-refusal (judgeBlock i d b) s ne = noCount (λ w. w) refl
+beside-refusal (judgePiece i d b) s ne = noCount (λ w. w) refl
+beside-refusal (clear i) s ne = noCount (λ w. w) refl
+beside-refusal (isMarked i) s ne = noCount (λ w. w) (no-mark s i ne)
+beside-refusal (bitfield out b) s ne = noCount (λ w. w) (no-field s out ne)
+beside-refusal (reopen n plen root o) s ne = noCount (λ w. w) (opening-refused s n plen root ne .1)

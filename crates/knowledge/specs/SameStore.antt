@@ -17,7 +17,7 @@ use Rattle.messages.specs.Take.{takeAfter}
 use Rattle.serve.specs.Serve.{serveAfter}
 use Rattle.pieces.specs.Pieces.{layerAfter, blockNumber, blockAnswer, blockAfter, pieceNumber, pieceAnswer, pieceAfter}
 use Rattle.pieces.specs.MarkedLaws.{block-fits, block-marks, block-stays, piece-fits, piece-marks, piece-stays}
-use Rattle.marks.specs.Marks.{marked, cleared, marksPut, blockThere, clearAnswer, clearAfter, firstBlock, blocksIn}
+use Rattle.marks.specs.Marks.{marked, cleared, marksPut, blockThere, clearAnswer, clearAfter, firstBlock, blocksIn, fieldAfter}
 use Rattle.marks.specs.MarksLaws.{marks-behind, marks-end, marks-facts, marks-same-facts, there-fits}
 use Rattle.knowledge.specs.MarksBeyond.{there-beyond, marked-beyond, field-beyond, covered-beyond, marks-beyond}
 use Rattle.knowledge.specs.Through.{clear-writes, clear-stays}
@@ -138,6 +138,10 @@ module _ (s t : List ℕ) (S : SameStore s t) where
   -- what is served is the same too
   pub serves-alike : (m out : List ℕ) → serveAfter t m out ≡ serveAfter s m out
   serves-alike m out = serve-beyond s t facts (alike s t facts (S .bytes)) m out .1
+
+  -- and the bitfield
+  pub fields-alike : (out : List ℕ) → fieldAfter t out ≡ fieldAfter s out
+  fields-alike out = field-beyond s t facts (S .bytes) out .1
 
 -- the bytes behind the store's size stay
 module _ (s : List ℕ) (u : usable s ≡ true) where

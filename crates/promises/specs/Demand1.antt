@@ -9,6 +9,7 @@ use lib.ListN.{getD}
 use Rattle.octets.specs.Octets.{zeroHash}
 use Rattle.sha256.specs.Answer.{hashedOf}
 use Rattle.store.specs.Store.{usable, fileLength, storeSize, sizeAnswer}
+use Rattle.marks.specs.Marks.{fieldAfter}
 use Rattle.serve.specs.Serve.{serveAfter}
 use Rattle.words.specs.History.{Call, answer, number, after, Opening, SameStore}
 use Rattle.words.specs.Answers.{InTable, Beside, ServeOutcome}
@@ -62,6 +63,9 @@ same-store-left {s} {t} = Rattle.knowledge.specs.SameStore.leaves-same s t
 
 pub same-bytes-sent : {s t : List ℕ} → SameStore s t → (m out : List ℕ) → serveAfter t m out ≡ serveAfter s m out
 same-bytes-sent {s} {t} = Rattle.knowledge.specs.SameStore.serves-alike s t
+
+pub same-field-sent : {s t : List ℕ} → SameStore s t → (out : List ℕ) → fieldAfter t out ≡ fieldAfter s out
+same-field-sent {s} {t} = Rattle.knowledge.specs.SameStore.fields-alike s t
 
 -- and the bytes behind stay
 pub behind-stays : (s : List ℕ) → usable s ≡ true → (c : Call) → (Opening c → ⊥) → (i : ℕ) → storeSize (fileLength s) ≤ i → getD (after c s) i 0 ≡ getD s i 0

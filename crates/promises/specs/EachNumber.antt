@@ -185,6 +185,11 @@ module _ (s m : List ℕ) where
   pub reject-0 : (rejectAnswer s m .number ≡ 0) ↔ ValidHeader rejectId s m
   reject-0 = Rattle.knowledge.specs.ServedWhen.reject-0 s m
 
+  -- there is nothing to count
+  pub reject-counts-nothing : rejectAnswer s m .count ≡ 0
+  unfolding rejectAnswer
+  reject-counts-nothing = refl
+
 -- ---- kd_serve: 9, 1; then 2, 3, 12 settle whether it gets a reply or a reject, and too little room for that one gives 11
 
 module _ (s m out : List ℕ) where
@@ -277,6 +282,11 @@ module _ (s : List ℕ) (i : ℕ) (block : List ℕ) where
   unfolding blockAnswer
   block-not-8 = Rattle.knowledge.specs.JudgedWhen.block-not-8 s i block
 
+  -- there is nothing to count
+  pub block-counts-nothing : blockAnswer s i block .count ≡ 0
+  unfolding blockAnswer
+  block-counts-nothing = refl
+
 -- ---- kd_judge_piece: 9, 3, 4, 6, 7, 8, 0
 
 module _ (s : List ℕ) (i : ℕ) (piece : List ℕ) where
@@ -311,6 +321,11 @@ module _ (s : List ℕ) (i : ℕ) (piece : List ℕ) where
   unfolding pieceAnswer
   piece-0 = Rattle.knowledge.specs.JudgedWhen.piece-0 s i piece
 
+  -- there is nothing to count
+  pub piece-counts-nothing : pieceAnswer s i piece .count ≡ 0
+  unfolding pieceAnswer
+  piece-counts-nothing = refl
+
 -- ---- kd_clear and kd_marked: 9, 3, 0
 
 module _ (s : List ℕ) (i : ℕ) where
@@ -327,6 +342,11 @@ module _ (s : List ℕ) (i : ℕ) where
   pub clear-0 : (clearAnswer s i .number ≡ 0) ↔ ((usable s ≡ true) × (i < blocksOf s))
   unfolding clearAnswer
   clear-0 = Rattle.knowledge.specs.MarkedWhen.there-0 s i
+
+  -- there is nothing to count
+  pub clear-counts-nothing : clearAnswer s i .count ≡ 0
+  unfolding clearAnswer
+  clear-counts-nothing = refl
 
   pub marked-9 : (markedAnswer s i .number ≡ unusable) ↔ (usable s ≡ false)
   unfolding markedAnswer

@@ -586,6 +586,14 @@ module _ (s : List ℕ) (n plen : ℕ) (root : List ℕ) (ok : factsInRange n pl
       ∙ bare-past i (omega arith)
       ∙ zeroed-at s (storeSize n) i l
 
+  -- and so are those between the facts and the first cell
+  pub opened-spare : (i : ℕ) → 44 ≤ i → i < 64 → getD (opened s n plen root) i 0 ≡ 0
+  unfolding opened bare named
+  opened-spare i a l =
+      put-outside bare (positions (height (blockCount n))) 1 bare-room two root size i (λ c. omega arith)
+      ∙ bare-past i a
+      ∙ zeroed-at s (storeSize n) i (omega (arith, store-size-some n))
+
   -- bytes past the store's size stay
   pub opened-past : (i : ℕ) → storeSize n ≤ i → getD (opened s n plen root) i 0 ≡ getD s i 0
   unfolding opened bare named

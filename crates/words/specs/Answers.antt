@@ -14,7 +14,7 @@ use Rattle.tree.specs.Geometry.{blockLength}
 use Rattle.header.specs.Header.{headerSize}
 use Rattle.serve.specs.Serve.{replyTo, rejectTo, serveAnswer, serveAfter}
 use Rattle.words.specs.Messages.{Rejected}
-use Rattle.words.specs.History.{Bytes, Call, serve}
+use Rattle.words.specs.History.{Call, take, takeReject, serve, held, loadLayer, judgeBlock, judgePiece, clear, isMarked, bitfield, reopen}
 
 -- the numbers of the table
 abbrev pub table : List ℕ
@@ -28,11 +28,25 @@ pub data Listed (n : ℕ) : List ℕ → Type 0 where
 abbrev pub InTable : ℕ → Type 0
 InTable n = Listed n table
 
--- what stands beside a refusal: a count or a size of zero, or 32 zero bytes; beside a reject, the reject's size
+-- with this number the call gets a reject: it is a request, and the number 2, 3 or 12
+abbrev pub GetsReject : Call → ℕ → Type 0
+GetsReject (take m b) n = ⊥
+GetsReject (takeReject m b) n = ⊥
+GetsReject (serve m out b c) n = Rejected n
+GetsReject (held l i) n = ⊥
+GetsReject (loadLayer l b) n = ⊥
+GetsReject (judgeBlock i d b) n = ⊥
+GetsReject (judgePiece i d b) n = ⊥
+GetsReject (clear i) n = ⊥
+GetsReject (isMarked i) n = ⊥
+GetsReject (bitfield out b) n = ⊥
+GetsReject (reopen k plen root o) n = ⊥
+
+-- what stands beside a refusal: the reject's size beside a reject, else a count or a size of zero, or 32 zero bytes
 pub data Beside : Call → Answer ⊎ Hashed → Type 0 where
-  noCount : {c : Call} {a : Answer} → a .count ≡ 0 → Beside c (inl a)
+  reject : {c : Call} {a : Answer} → GetsReject c (a .number) → a .count ≡ headerSize → Beside c (inl a)
+  noCount : {c : Call} {a : Answer} → (GetsReject c (a .number) → ⊥) → a .count ≡ 0 → Beside c (inl a)
   zeroBytes : {c : Call} {h : Hashed} → h .hash ≡ zeroHash → Beside c (inr h)
-  reject : {m out : List ℕ} {x : Bytes m} {y : Bytes out} {a : Answer} → Rejected (a .number) → a .count ≡ headerSize → Beside (serve m out x y) (inl a)
 
 -- what a request is answered with
 pub data ServeOutcome (s m out : List ℕ) : Type 0 where
