@@ -274,7 +274,7 @@ beside-refusal (serve m out b c) s ne = by (served s m out)
   where
     by : ServeOutcome s m out → Beside (serve m out b c) (inl (serveAnswer s m out))
     by (replied e a) = absurd (ne (ap (λ (x : Answer). x .number) e))
-    by (rejected n r e a) = reject {a = serveAnswer s m out} (rw e r) (ap (λ (x : Answer). x .count) e)
+    by (rejected n r e a) = reject {c = serve m out b c} {a = serveAnswer s m out} (rw e r) (ap (λ (x : Answer). x .count) e)
     by (untouched n r e a) = noCount (λ w. no-reject n r (subst Rejected (ap (λ (x : Answer). x .number) e) w)) (ap (λ (x : Answer). x .count) e)
 beside-refusal (held l i) s ne = zeroBytes (no-hash s l i ne)
 beside-refusal (loadLayer l b) s ne = noCount (λ w. w) (layer-not-loaded s l ne .1)
