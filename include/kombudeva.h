@@ -4,12 +4,13 @@
  * This header is the whole boundary between the proved library, libkombudeva.a, and a host program.
  *
  * ANSWERS. Every function answers with one struct by value. Its `number` says what happened: KD_DONE, which is 0, or one of
- * the refusals by name below.
+ * the refusals by name below. (kd_hashing_begin can't be refused, and answers with a state alone.)
  *
- * Each function lists its numbers in the order in which they are decided: the first that applies is given.
+ * Each function lists its numbers in the order in which they are decided: the first that applies is given. Only the KD_NO_ROOM
+ * of kd_serve stands in place of the answer that there is no room for.
  *
  * Beside a refusal (any number but KD_DONE) every other field is zero, save for the size of the reject that
- * kd_serve writes, and for a running state, which comes back as it was given. Every input is answered: nothing is
+ * kd_serve writes, and for the running state that a burst was to go on from, which comes back as it was given. Every input is answered: nothing is
  * asked of the caller's values, and no function stops the program. Compare answers field by field, since C leaves
  * the padding bytes of a struct open.
  *
@@ -23,7 +24,7 @@
  *
  * Memory marked `const` is not changed, and a refusal changes no byte of any memory, save for that reject.
  *
- * STACK. Calls on a store need at most 48 kB of stack: they were seen to need 41.8 kB, calls on a state 9.6 kB,
+ * STACK. Lend calls on a store 48 kB of stack: they were seen to need 41.8 kB, calls with a burst 9.6 kB,
  * kd_torrent_write 571 kB, kd_torrent_list 220 kB, the other calls on a torrent 154 kB: measured on the largest file,
  * on torrents nested as deep as they may be, and on as many files as one has room for (docs/BENCHMARKS.md).
  *
@@ -56,15 +57,16 @@ extern "C" {
 #define KD_WRONG_SIZE 4                 /* the byte count isn't what header or file fixes, or is too long for SHA-256; or a
                                            list of files that isn't in its form */
 #define KD_WRONG_PADDING 5              /* a padding position with another value */
-#define KD_NO_ANCHOR 6                  /* the anchor, leaf, piece node or, for a layer, the root is not held */
+#define KD_NO_ANCHOR 6                  /* the anchor, leaf, piece node or, for a layer, the root is not held; or the
+                                           position that kd_held is asked for */
 #define KD_DIFFERS 7                    /* the worked-out value differs from the held anchor, leaf or node */
 #define KD_CONFLICT 8                   /* the anchor agrees, another held position differs */
 #define KD_UNUSABLE 9                   /* not a store: it names no facts in range, or has not their room; or a
                                            running state whose counts no bursts give */
 #define KD_FACTS_OUT_OF_RANGE 10        /* a length or a piece length that no store is opened with; a burst past
                                            the longest file */
-#define KD_NO_ROOM 11                   /* the output is shorter than the reply, reject included; or than a torrent's
-                                           list, or than a torrent that is written; or a piece's hash doesn't fit the lent
+#define KD_NO_ROOM 11                   /* the output is shorter than the reply, reject included; or than the bitfield, a
+                                           torrent's list, or a torrent that is written; or a piece's hash doesn't fit the lent
                                            layer */
 #define KD_NOT_HELD 12                  /* a requested hash isn't held */
 #define KD_TORRENT_TOO_LARGE 19         /* a torrent above KD_LARGEST_TORRENT */
@@ -160,7 +162,7 @@ kd_hashed kd_hashing_end(kd_hashing state);
  */
 typedef struct { uint64_t piece_length; uint64_t length; kd_hashing block; uint8_t nodes[32 * KD_NODES]; } kd_history;
 
-/* A number, and the state after the burst; beside a refusal the state as it was given. */
+/* A number, and the state after the burst; beside a refusal the state as it was given (from kd_history_begin, zero). */
 typedef struct { uint32_t number; kd_history state; } kd_history_answer;
 
 /* A number, and beside KD_DONE N, the pieces root (zero for an empty history), and the piece layer's size in bytes. */
@@ -273,10 +275,12 @@ kd_answer kd_judge_block(uint8_t *store, size_t size, uint64_t block, const uint
  */
 kd_answer kd_judge_piece(uint8_t *store, size_t size, uint64_t piece, const uint8_t *data, size_t data_size);
 
-/* ---- Marks: which blocks are on disk. Judging sets them; only kd_clear and kd_open take them back. ---- */
+/* ---- Marks: which blocks were judged right, for a host to know what it has on disk. Judging sets them; only kd_clear and
+   kd_open take them back. ---- */
 
 /*
- * Whether a block is marked: its data was judged right since the store was opened, and the mark not cleared since.
+ * Whether a block is marked: in a store that no one else wrote to, its data was judged right since the opening, and the mark
+ * not cleared since.
  *   KD_UNUSABLE
  *   KD_RULE_BROKEN  the file has no such block.
  *   KD_DONE  `count` is 1 if it is marked, else 0.
@@ -333,7 +337,7 @@ kd_file kd_torrent_file(const uint8_t *torrent, size_t size, uint64_t file);
 /*
  * Path element number `element` of a file, from 0. Checks the whole torrent anew. An element is any bytes, not always text,
  * but never empty, `.` or `..`, and it has no `/` and no zero byte: where `/` alone separates names, a file's path leads
- * from any folder one step down for each element, and never out of it. The library refuses such a torrent and renames nothing.
+ * from any folder one step down for each element, and never out of it. A torrent with any other element is refused; nothing is renamed.
  *
  * What the host still has to see to: on a system with other separators or names of its own (a backslash, a colon, `NUL`, a dot
  * or a space at the end, names that differ in case alone, bytes that are no text there) it refuses or encodes such elements

@@ -1,6 +1,6 @@
 //! Tests one after the other in a program with one thread: `tests!` is such a program's `main`.
 //!
-//! Cargo's harness starts a thread for each test, and with a second thread an emulator of x86-64 takes three to four times as long, we think
+//! Cargo's harness starts a thread for each test, and with a second thread an emulator of x86-64 takes two to four times as long, we think
 //! for the barriers that it then needs. A test that `tests!` leaves out is never used, which this package's lints refuse.
 
 use std::env;

@@ -2,7 +2,7 @@
 //! the seed; each part prints its own. Arguments name the parts to run; `but` before them runs all others, and no argument all.
 //!
 //! It is a program with one thread, and no test under cargo's harness, which starts threads: with a second thread an
-//! emulator of x86-64 was seen to take three to four times as long, we think for the barriers that it then needs.
+//! emulator of x86-64 was seen to take two to four times as long, we think for the barriers that it then needs.
 
 use host_tests::call::by_library;
 use host_tests::compare::{report, Comparison};
