@@ -7,8 +7,8 @@ use Prim.Native.Nat.{ℕ, _+_, _-_, _*_, _^_, _≤_, _<_}
 use native.Mathlib.Omega.{arith}
 use lib.ListN.{length, getD, drop, take, length-drop, drop-of-length-le}
 use lib.Dec.{leb, ltb, eqb}
-use borrow.Author.Tests.{lt-leb, le-leb, leb-false, eq-eqb, ne-eqb, eqb-true, eqb-false, lt-ltb, le-ltb}
-use Rattle.octets.specs.Octets.{same, cut}
+use borrow.Author.Tests.{lt-leb, le-leb, leb-false, eq-eqb, ne-eqb, lt-ltb, le-ltb}
+use Rattle.octets.specs.Octets.{cut}
 use Rattle.bencode.specs.Grammar.{digitZero, digitNine, colon, letterE, letterI, minusSign, precedes}
 use Rattle.bencode.specs.Scalar.{bounded, readDigits, readZero, readNumber, contentIn, readString, negative, positive, readSigned, readInteger}
 use Rattle.bencode.specs.Walk.{between, readKey, keyBefore}
@@ -156,59 +156,7 @@ module _ (s : List ℕ) (i : ℕ) where
   unfolding readInteger
   integer-step h = rw (drop-step s i h)
 
--- ---- keys: from a position that both have
-
-nothing-precedes : (l : List ℕ) → precedes l [] ≡ false
-unfolding precedes
-nothing-precedes [] = refl
-nothing-precedes (a ∷ l) = refl
-
-module _ (x y : List ℕ) (i : ℕ) where
-  pub precedes-end : length y ≤ i → precedes (drop i x) (drop i y) ≡ false
-  precedes-end h = rw (drop-end y i h) (nothing-precedes (drop i x))
-
-  module _ (h : i < length y) where
-    pub precedes-short : length x ≤ i → precedes (drop i x) (drop i y) ≡ true
-    unfolding precedes
-    precedes-short g = rw (drop-end x i g, drop-step y i h)
-
-    pub precedes-step : i < length x →
-        precedes (drop i x) (drop i y) ≡
-        cond (ltb (getD x i 0) (getD y i 0)) true (cond (ltb (getD y i 0) (getD x i 0)) false (precedes (drop (i + 1) x) (drop (i + 1) y)))
-    unfolding precedes
-    precedes-step g = rw (drop-step x i g, drop-step y i h)
-
-  pub same-short : i < length x → length y ≤ i → same (drop i x) (drop i y) ≡ false
-  unfolding same
-  same-short h g = rw (drop-step x i h, drop-end y i g)
-
-  module _ (h : i < length x) (g : i < length y) where
-    pub same-on : getD x i 0 ≡ getD y i 0 → same (drop i x) (drop i y) ≡ same (drop (i + 1) x) (drop (i + 1) y)
-    unfolding same
-    same-on e = rw (drop-step x i h, drop-step y i g) (simp (eq-eqb _ _ e))
-
-    pub same-not : (getD x i 0 ≡ getD y i 0 → ⊥) → same (drop i x) (drop i y) ≡ false
-    unfolding same
-    same-not e = rw (drop-step x i h, drop-step y i g) (simp (ne-eqb _ _ e))
-
-  same-both : length x ≤ i → length y ≤ i → same (drop i x) (drop i y) ≡ true
-  unfolding same
-  same-both h g = rw (drop-end x i h, drop-end y i g)
-
-  same-longer : length x ≤ i → i < length y → same (drop i x) (drop i y) ≡ false
-  unfolding same
-  same-longer h g = rw (drop-end x i h, drop-step y i g)
-
-  -- x is passed: so is y, where its length is i
-  pub same-end : length x ≤ i → i ≤ length y → same (drop i x) (drop i y) ≡ eqb i (length y)
-  same-end h g = by-end (eqb i (length y)) refl
-    where
-      below : (i n : ℕ) → i ≤ n → (i ≡ n → ⊥) → i < n
-      below i n h e = omega arith
-
-      by-end : (b : Bool) → eqb i (length y) ≡ b → same (drop i x) (drop i y) ≡ eqb i (length y)
-      by-end true e = let q = eqb-true i (length y) e in same-both h (omega arith) ∙ sym e
-      by-end false e = same-longer h (below i (length y) g (eqb-false i (length y) e)) ∙ sym e
+-- ---- keys
 
 module _ (s : List ℕ) (at start end a b : ℕ) (seen : Bool) (e : readString at (drop at s) ≡ Content a b) where
   pub key-first : seen ≡ false → readKey (keyBefore seen start end s) at (drop at s) ≡ Content a b
