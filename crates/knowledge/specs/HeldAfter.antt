@@ -36,7 +36,7 @@ use Rattle.knowledge.specs.Positions.{settles-entered, settles-exactly}
 -- ---- from a store to one that holds at least as much
 
 -- what is held there, at a position that was held, was held with the same bytes
-was : (s t : List ℕ) → Facts s → Grown s t → (l i : ℕ) (v : List ℕ) → Holds t l i v → heldAt s (nodeNumber (heightOf s) l i) ≡ true → Holds s l i v
+pub was : (s t : List ℕ) → Facts s → Grown s t → (l i : ℕ) (v : List ℕ) → Holds t l i v → heldAt s (nodeNumber (heightOf s) l i) ≡ true → Holds s l i v
 was s t f g l i v h x =
     let k = what-is-held t l i v (g .facts) h in
     let e = g .same .layers in

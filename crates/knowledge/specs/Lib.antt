@@ -50,6 +50,10 @@ pub mod NoAnchor
 -- what is held and counted afterwards
 pub mod HeldAfter
 pub mod SettledMany
+-- the same messages, in any order
+pub mod AnyOrder
+pub mod CountsAdd
+pub mod RoundsEnd
 -- replies, read back
 pub mod Replies
 pub mod ReadThere

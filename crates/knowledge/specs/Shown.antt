@@ -26,6 +26,52 @@ use Rattle.knowledge.specs.Over.{found-at, entry-over}
 use Rattle.knowledge.specs.Positions.{settles-exactly}
 use Rattle.knowledge.specs.TakenWhen.{Formed}
 
+-- ---- from one pair to another
+
+-- a pair that is shown is shown by all that gives as much,
+pub shown-too : {h : ℕ} {x y z : Source} → ((l i : ℕ) (v : List ℕ) → Gives y l i v → Gives z l i v) → Shown h x y → Shown h x z
+shown-too f S =
+    record {
+      layer = S .layer;
+      index = S .index;
+      low = S .low;
+      inside = S .inside;
+      l = S .l;
+      r = S .r;
+      l′ = S .l′;
+      r′ = S .r′;
+      left = S .left;
+      right = S .right;
+      left′ = f (S .layer) (2 * S .index) (S .l′) (S .left′);
+      right′ = f (S .layer) (2 * S .index + 1) (S .r′) (S .right′);
+      bytes = S .bytes;
+      bytes′ = S .bytes′;
+      differ = S .differ;
+      alike = S .alike;
+    }
+
+-- and the other way round
+pub shown-turned : {h : ℕ} {x y : Source} → Shown h x y → Shown h y x
+shown-turned S =
+    record {
+      layer = S .layer;
+      index = S .index;
+      low = S .low;
+      inside = S .inside;
+      l = S .l′;
+      r = S .r′;
+      l′ = S .l;
+      r′ = S .r;
+      left = S .left′;
+      right = S .right′;
+      left′ = S .left;
+      right′ = S .right;
+      bytes = S .bytes′;
+      bytes′ = S .bytes;
+      differ = λ e. S .differ (sym e);
+      alike = sym (S .alike);
+    }
+
 -- ---- from numbers
 
 -- what the source has at a position's number, it has at the position

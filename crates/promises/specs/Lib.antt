@@ -9,6 +9,8 @@ pub mod Worked
 -- 02: bytes that come in bursts; marks
 pub mod Running
 pub mod Marks
+-- 02: the same messages, in any order
+pub mod AnyOrder
 -- the premises can be met
 pub mod Blank
 pub mod TwoBlocks
@@ -18,6 +20,7 @@ pub mod LayerExample
 pub mod TrueFirstPair
 pub mod PastTheBlocks
 pub mod Witness
+pub mod OneRound
 pub mod ServedAndTaken
 -- the impostors
 pub mod NumbersGiven

@@ -115,3 +115,9 @@ pub data Steps (s : List ℕ) : List ℕ → Type 0 where
 pub data OurStore (t : List ℕ) : Type 0 where
   ours : (b : List ℕ) (n plen : ℕ) (root : List ℕ) → Bytes b → Octets 32 root → openAnswer b n plen .number ≡ 0
       → Steps (openAfter b n plen root) t → OurStore t
+
+-- each call of a history is one of these calls
+pub data Each (C : Call → Type 0) {s : List ℕ} : (t : List ℕ) → Steps s t → Type 0 where
+  nothing : Each C s begin
+  called : {t : List ℕ} {h : Steps s t} (c : Call) (x : Opening c → number c t ≡ 0 → ⊥) → Each C t h → C c → Each C (after c t) (next h (call c x))
+  between : {t : List ℕ} {h : Steps s t} (v : List ℕ) (b : Bytes v) (e : SameStore t v) → Each C t h → Each C v (next h (lent v b e))

@@ -7,3 +7,4 @@ pub mod FourClauses
 pub mod File
 pub mod Answers
 pub mod Marks
+pub mod Hearing

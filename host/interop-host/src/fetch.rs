@@ -16,6 +16,7 @@ struct Counts {
     before_their_anchor: u64,
     in_padding: u64,
     at_once: u64,
+    rounds: u64,
     refused: u64,
     believed: u64,
 }
@@ -34,11 +35,12 @@ pub fn run(contents: &Contents, port: u16) -> io::Result<()> {
         judge_pieces(&mut peer, file, &mut store, &mut counts)?;
         assert_eq!(counts.believed, file.blocks(), "every block is believed");
         println!(
-            "{}: {} replies taken ({} of them had come before their anchor), {} more past the last block, {} longer than {RUN}, \
-             {} damaged ones refused, {} of {} blocks believed",
+            "{}: {} replies taken ({} of them had come before their anchor; {} rounds in two orders leave the same), {} more past the last \
+             block, {} longer than {RUN}, {} damaged ones refused, {} of {} blocks believed",
             file.path.display(),
             counts.taken,
             counts.before_their_anchor,
+            counts.rounds,
             counts.in_padding,
             counts.at_once,
             counts.refused,
@@ -111,21 +113,42 @@ fn ask(peer: &mut Peer, request: &[u8]) -> io::Result<Vec<u8>> {
 }
 
 fn learn_hashes(peer: &mut Peer, file: &File, store: &mut Store, counts: &mut Counts) -> io::Result<()> {
-    let mut early = Vec::new();
+    let (mut replies, mut early) = (Vec::new(), Vec::new());
     for request in requests(file) {
         let reply = ask(peer, &request)?;
         if offer(store, &reply, counts) == Answer::NoAnchor {
-            early.push(reply);
+            early.push(reply.clone());
         }
+        replies.push(reply);
     }
     counts.before_their_anchor = early.len() as u64;
     for reply in early {
         assert!(offer(store, &reply, counts).is_done(), "its anchor is held by now");
     }
+    let (leaves_first, some) = hear_in_rounds(file, &replies);
+    replies.reverse();
+    let (pieces_first, others) = hear_in_rounds(file, &replies);
+    assert!(leaves_first == pieces_first && leaves_first == store.bytes(), "the same messages in any order");
+    counts.rounds = some + others;
     for block in 0..file.blocks() {
         assert!(store.held(0, block).is_done(), "every leaf is held");
     }
     Ok(())
+}
+
+/// Offers all replies to a fresh store, again and again, until a whole round makes nothing newly held: its bytes, and how many rounds it took.
+fn hear_in_rounds(file: &File, replies: &[Vec<u8>]) -> (Vec<u8>, u64) {
+    let mut memory = Vec::new();
+    let mut store = file.open(&mut memory);
+    let mut rounds = 0;
+    loop {
+        rounds += 1;
+        let newly: u64 =
+            replies.iter().map(|reply| if let Answer::Done(count) = store.take(reply) { count } else { 0 }).sum();
+        if newly == 0 {
+            return (store.bytes().to_vec(), rounds);
+        }
+    }
 }
 
 /// Offers a true reply, and damaged ones before and after it.

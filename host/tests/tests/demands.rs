@@ -1,7 +1,7 @@
 //! The user's demands, tried on the reference: what it is compared by ought to be right itself. Stores are opened by us
 //! and written by nobody else.
 
-use host_tests::call::{by_reference, Call, Entry, Outcome};
+use host_tests::call::{by_library, by_reference, Call, Entry, Outcome};
 use host_tests::compare::Comparison;
 use host_tests::random::Random;
 use host_tests::sessions::{Hands, Session};
@@ -177,6 +177,74 @@ fn a_message_settles_as_many_positions_as_the_document_says() {
     }
 }
 
+/// What the reference leaves; the library must leave the same, in every byte.
+fn by_both(call: &Call) -> Outcome {
+    let outcome = by_reference(call);
+    assert_eq!(outcome, by_library(call));
+    outcome
+}
+
+fn opened(truth: &Truth) -> Vec<u8> {
+    let facts = &truth.facts;
+    let memory = vec![0; size_of(facts) as usize];
+    by_both(&Call { root: facts.root, ..Call::new(Entry::Open).on(&memory).numbers(facts.length, facts.piece_length) })
+        .store
+}
+
+/// Offers each message once, in an order of its own: what that leaves, and how many positions it made newly held.
+fn a_round(mut store: Vec<u8>, messages: &[Vec<u8>], random: &mut Random) -> (Vec<u8>, u64) {
+    let mut left: Vec<&Vec<u8>> = messages.iter().collect();
+    let mut newly = 0;
+    while !left.is_empty() {
+        let message = left.swap_remove(random.below(left.len() as u64) as usize);
+        let outcome = by_both(&Call::new(Entry::Take).on(&store).input(message.clone()));
+        newly += outcome.given.count();
+        store = outcome.store;
+    }
+    (store, newly)
+}
+
+/// A message with the file's root: true, or with hashes of another file, or with one bit changed.
+fn any_message(files: &Pair, random: &mut Random) -> Option<Vec<u8>> {
+    let header = files.truth.header(random)?;
+    let mut message = if random.percent(15) { files.forged.message(&header) } else { files.truth.message(&header) };
+    if random.percent(15) {
+        let at = random.below(message.len() as u64) as usize;
+        message[at] ^= 1 << random.below(8);
+    }
+    Some(message)
+}
+
+/// Rounds of a set of messages, until one makes nothing newly held: what the first round leaves, what all leave, and how many there were.
+fn rounds(files: &Pair, messages: &[Vec<u8>], random: &mut Random) -> (Vec<u8>, Vec<u8>, u64) {
+    let (first, mut newly) = a_round(opened(&files.truth), messages, random);
+    let (mut store, mut count) = (first.clone(), 1);
+    while newly > 0 {
+        (store, newly) = a_round(store, messages, random);
+        count += 1;
+    }
+    (first, store, count)
+}
+
+/// Two stores hear the same messages, each in orders of its own: they end in the same bytes, within the rounds that are promised.
+fn the_same_messages_in_any_order_leave_the_same() {
+    let mut random = Random::new(14);
+    let (mut unlike, mut most) = (0, 0);
+    for _ in 0..400 {
+        let files = Pair::new(truth::small(&mut random), &mut random);
+        let messages: Vec<Vec<u8>> =
+            (0..random.between(1, 16)).filter_map(|_| any_message(&files, &mut random)).collect();
+        let [one, other] = [(); 2].map(|_| rounds(&files, &messages, &mut random));
+        assert_eq!(one.1, other.1);
+        for (_, _, count) in [&one, &other] {
+            assert!(*count < 2 * files.truth.facts.width(0) && *count as usize <= messages.len() + 1);
+            most = most.max(*count);
+        }
+        unlike += (one.0 != other.0) as u64;
+    }
+    assert!(unlike > 20 && most > 2, "{unlike} {most}: one round alone doesn't give this");
+}
+
 host_tests::tests! {
     knowledge_only_grows_and_is_counted,
     every_held_hash_is_the_files_own,
@@ -185,4 +253,5 @@ host_tests::tests! {
     true_messages_are_taken_as_soon_as_their_anchor_is_held,
     replies_of_one_store_are_taken_by_another,
     a_message_settles_as_many_positions_as_the_document_says,
+    the_same_messages_in_any_order_leave_the_same,
 }
