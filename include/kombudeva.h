@@ -97,6 +97,7 @@ extern "C" {
 #define KD_ELEMENTS 28                  /* the most path elements of a file */
 #define KD_RECORD 280                   /* the bytes of a file's record in kd_torrent_list */
 #define KD_WRITE_RECORD 56              /* the bytes of a file's record in the list that kd_torrent_write takes */
+#define KD_LONGEST_HASHED 2305843009213693951 /* the bytes of a string that SHA-256 has a hash for: below 2^64 bits */
 
 /* ---- Answers. ---- */
 
@@ -189,7 +190,8 @@ kd_history_answer kd_history_more(kd_history state, const uint8_t *data, size_t 
 /*
  * The end, or the end so far: the state may go on from here, so that a growing file can be published again and again. The root
  * comes from the state alone. The last piece's hash is written if the file is longer than the piece length; the layer then has
- * `layer_size` bytes, as kd_load_layer takes them, if each call was lent the layer as the call before left it.
+ * `layer_size` bytes, as kd_load_layer takes them, if each call was lent the layer as the call before left it, or another memory,
+ * longer or shorter, with the hashes written so far copied to its front. A logger need not know the file's length at its beginning.
  *   KD_UNUSABLE  as above.
  *   KD_NO_ROOM  the layer doesn't fit; nothing is written.
  *   KD_DONE  N, the root and the layer's size.

@@ -1,7 +1,9 @@
-// FIPS 180-4, sections 3.2 and 4.1.2: words of 32 bits and their operations.
+// FIPS 180-4, sections 3.1, 3.2 and 4.1.2: words of 32 bits, their operations, and a word as four bytes.
 ghost use mathlib.Core.Path.{_≡_};
-ghost use Prim.Native.Nat.{_+_, _<_, _%_, _^_};
+ghost use Prim.Native.Nat.{_+_, _<_, _≤_, _%_, _^_};
+ghost use lib.ListN.{length};
 ghost use Rattle.bits.specs.Words as W;
+ghost use Rattle.bits.specs.Parsing.{wordAt};
 
 // The sum, its carry dropped.
 pub fn add(x: u32, y: u32) -> u32
@@ -61,4 +63,12 @@ pub fn wide(x: u8) -> u32
     ensures { λ r. ⌜ (r ≡ x) × (r < 256) ⌝ }
 {
     x as u32
+}
+
+// The word whose four bytes stand at i, the most significant first.
+pub fn word(s: &[u8], i: usize) -> u32
+    requires { ⌜ i + 4 ≤ length (now s) ⌝ }
+    ensures { λ r. ⌜ r ≡ wordAt (now (s .entry)) i ⌝ }
+{
+    (wide(s[i]) << 24) | (wide(s[i + 1]) << 16) | (wide(s[i + 2]) << 8) | wide(s[i + 3])
 }

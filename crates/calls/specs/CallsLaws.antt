@@ -1,6 +1,6 @@
 -- Every answer is one of those; no second outcome satisfies a contract; a refused list leaves the output as it was.
 -- Assumes nothing.
-use mathlib.Core.Path.{_≡_, refl, sym, _∙_}
+use mathlib.Core.Path.{_≡_, refl, _∙_}
 use mathlib.Core.Logic.{_⊎_, inl, inr}
 use mathlib.Core.Bool.{Bool, true, false, cond}
 use mathlib.Core.List.{List, [], _∷_}
@@ -18,9 +18,6 @@ use Rattle.filetree.specs.Tree.{Element, listed, filesIn, fileNumber}
 use Rattle.torrent.specs.Torrent.{checkedOf, readOf, fileRead, noFileRead, pathRead, elementIn, noPartRead}
 use Rattle.torrent.specs.Answers.{Says, tooLarge, noEncoding, tooDeep, encodes}
 use Rattle.torrent.specs.NumberMeans.{torrent-number, read-number, refused-read, refused-file, refused-path}
-use Rattle.torrent.specs.declared.read.Torrent.{Torrent}
-use Rattle.torrent.specs.declared.read.FileRead.{FileRead}
-use Rattle.torrent.specs.declared.read.PartRead.{PartRead}
 use Rattle.catalogue.specs.Catalogue.{recordSize, recordsOf, partsOf, listAnswer, listAfter}
 use Rattle.calls.specs.Calls.{OfTorrent, ReadOutcome, done as readDone, badTorrent as readRefused, FileOutcome, done as fileDone, badTorrent as fileRefused, noFile, PathOutcome, done as pathDone, badTorrent as pathRefused, noElement, ListOutcome, done as listDone, badTorrent as listRefused, tooShort}
 
@@ -102,21 +99,3 @@ list-refused s out h = by-case (listAnswer s out) (listAfter s out) (list-outcom
     by-case a after (listDone b c e) n = absurd (n e)
     by-case a after (listRefused m p) n = (refl, refl)
     by-case a after tooShort n = (refl, refl)
-
--- ---- no second outcome satisfies a contract
-
--- kd_torrent_read
-pub one-torrent : (s : List ℕ) (x y : Torrent) → x ≡ readOf s → y ≡ readOf s → x ≡ y
-one-torrent s x y p q = p ∙ sym q
-
--- kd_torrent_file
-pub one-file : (s : List ℕ) (n : ℕ) (x y : FileRead) → x ≡ fileRead s n → y ≡ fileRead s n → x ≡ y
-one-file s n x y p q = p ∙ sym q
-
--- kd_torrent_path
-pub one-path : (s : List ℕ) (n k : ℕ) (x y : PartRead) → x ≡ pathRead s n k → y ≡ pathRead s n k → x ≡ y
-one-path s n k x y p q = p ∙ sym q
-
--- kd_torrent_list: the answer, and the output's bytes
-pub one-list : (s out : List ℕ) (x y : Answer) (t u : List ℕ) → (x ≡ listAnswer s out) × (t ≡ listAfter s out) → (y ≡ listAnswer s out) × (u ≡ listAfter s out) → (x ≡ y) × (t ≡ u)
-one-list s out x y t u p q = (p .0 ∙ sym (q .0), p .1 ∙ sym (q .1))

@@ -1,9 +1,10 @@
--- 02, request 5: no file of a torrent that is answered 0 is outside its folder; and the rule for path elements changes no other answer.
+-- 02, request 5: no file of a torrent that is answered 0 is outside its folder; the rule for path elements changes no other answer; and an
+-- element against it is 25.
 -- Assumes nothing.
-use mathlib.Core.Path.{_≡_, refl, sym, ap, _∙_}
+use mathlib.Core.Path.{_≡_, sym, ap, _∙_}
 use mathlib.Core.Logic.{_⊎_, inl, inr}
 use mathlib.Core.Bool.{true}
-use mathlib.Core.List.{List, [], _∷_, _++_}
+use mathlib.Core.List.{List, _++_}
 use Prim.Native.Nat.{ℕ, zero, suc, _+_, _≤_, _<_}
 use native.Mathlib.Omega.{arith}
 use native.Mathlib.Decide.{decLt, ℕ-discrete}
@@ -15,7 +16,9 @@ use Rattle.meaning.specs.Nth.{Nth}
 use Rattle.meaning.specs.NthLaws.{nth-some}
 use Rattle.meaning.specs.Torrent.{File, treeOf, filesOf, numberBy, valueNumber}
 use Rattle.meaning.specs.TestsLaws.{tree-no}
+use Rattle.meaning.specs.Amiss.{NoneBelow25}
 use Rattle.meaning.specs.AmissLaws.{right-tree}
+use Rattle.meaning.specs.ClimbsOut.{climbs-out}
 use Rattle.meaning.specs.FilesLaws.{FileHolds, nth-holds, nth-right, files-hold}
 use Rattle.meaning.specs.Paths.{StaysInside, AllStay, written, toZero, Location, walk, follow, InFolder}
 use Rattle.meaning.specs.PathsLaws.{element-exactly, followed, on-the-way, in-folder}
@@ -186,3 +189,7 @@ module _ (s : List ℕ) (es : Entries) (bytes : s ≡ encode (dictionary es)) (v
   -- for every torrent it is that one or 25
   pub names-give-25 : (readOf s .number ≡ numberBy treeShaped es) ⊎ (readOf s .number ≡ wrongTree)
   names-give-25 = elim (names-only-25 es) [ inl e ↦ inl (number-is ∙ e) | inr e ↦ inr (number-is ∙ e) ]
+
+  -- and with nothing of 22 to 24 amiss it is 25, if an element of a file's path is empty, `.` or `..`, or has a `/` or a zero byte
+  pub climbs-out-25 : NoneBelow25 es → (n k : ℕ) (f : File) (e : List ℕ) → Nth (filesOf es) n f → Nth (f .path) k e → (StaysInside e → ⊥) → readOf s .number ≡ wrongTree
+  climbs-out-25 below n k f e there at out = number-is ∙ climbs-out es valid below n k f e there at out

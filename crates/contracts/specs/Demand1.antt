@@ -9,7 +9,8 @@ use native.Mathlib.Omega.{arith}
 use native.Mathlib.Decide.{ℕ-discrete}
 use lib.ListN.{length}
 use Rattle.octets.specs.Octets.{pasted}
-use Rattle.numbers.specs.Numbers.{wrongSize, noRoom}
+use Rattle.numbers.specs.Numbers.{wrongSize, noRoom, table, Listed, first, later, InTable}
+use Rattle.numbers.specs.Chain.{listed-in}
 use Rattle.numbers.specs.declared.Answer.{Answer}
 use Rattle.header.specs.Header.{headerSize, requestId}
 use Rattle.serve.specs.Serve.{serveAnswer, serveAfter, rejectTo}
@@ -25,38 +26,38 @@ use Rattle.calls.specs.CallsLaws.{read-outcome, file-outcome, path-outcome, lis
 use Rattle.published.specs.Published.{WriteNumber, is-4, is-11, is-19, is-21, is-24-to-28, WriteOutcome, put, left as nothingPut}
 use Rattle.published.specs.Promised.{write-outcome, write-refused}
 use Rattle.words.specs.Messages.{Form, Rejected}
-use Rattle.words.specs.History.{Bytes, Call, take, takeReject, serve, held, loadLayer, judgeBlock, judgePiece, clear, isMarked, bitfield, reopen, number as storeNumber}
-use Rattle.words.specs.Answers.{Listed, first, later, InTable, ServeOutcome, replied, rejected, untouched}
+use Rattle.words.specs.History.{Bytes, Send, serve, bitfield, ask, send, Call, take, loadLayer, judgeBlock, judgePiece, clear, reopen, look, replyNumber, sendReply, number as storeNumber, sentTo}
+use Rattle.words.specs.Answers.{ServeOutcome, replied, rejected, untouched}
 use Rattle.promises.specs.Demand1.{calls-in-table, sha256-in-table, size-in-table, refusal-leaves-store, request-answered, beside-refusal, beside-sha256, beside-size}
 use Rattle.promises.specs.EachNumber.{serve-2, serve-3, serve-12}
 use Rattle.promises.specs.Marks.{field-refused}
 use Rattle.promises.specs.Running as Running
-use Rattle.contracts.specs.Entries.{AnyCall, onStore, sha256, storeSize, hashingMore, hashingEnd, historyBegin, historyMore, historyEnd, torrentRead, torrentFile, torrentPath, torrentList, torrentWrite, number, output, outputAfter, lent, left, RejectSent, request, ValuesZero}
+use Rattle.contracts.specs.Entries.{AnyCall, onStore, sha256, storeSize, hashingBegin, hashingMore, hashingEnd, historyBegin, historyMore, historyEnd, torrentRead, torrentFile, torrentPath, torrentList, torrentWrite, FromTable, Refused, Silent, said, output, outputAfter, lent, left, RejectSent, request, ValuesZero}
 
 -- ---- the torrent calls' numbers are in the table
 
--- k numbers from m on
-abbrev from : ℕ → ℕ → List ℕ
-from m zero = []
-from m (suc k) = m ∷ from (suc m) k
+-- k numbers from m on, and then others
+abbrev from : ℕ → ℕ → List ℕ → List ℕ
+from m zero others = others
+from m (suc k) others = m ∷ from (suc m) k others
 
-among : (k m n : ℕ) → m ≤ n → n < m + k → Listed n (from m k)
-among zero m n l h = let w : ⊥ = omega arith in absurd w
-among (suc k) m n l h = elim (ℕ-discrete m n) [ yes e ↦ rw e first | no d ↦ later (among k (suc m) n (omega (arith, d)) (omega arith)) ]
+among : (k m n : ℕ) (others : List ℕ) → m ≤ n → n < m + k → Listed n (from m k others)
+among zero m n others l h = let w : ⊥ = omega arith in absurd w
+among (suc k) m n others l h = elim (ℕ-discrete m n) [ yes e ↦ rw e first | no d ↦ later (among k (suc m) n others (omega (arith, d)) (omega arith)) ]
 
 -- 0, 4, 11
 zero-in : InTable 0
-zero-in = first
+zero-in = listed-in 0 table refl
 
 wrong-size-in : InTable wrongSize
-wrong-size-in = later (later (later (later first)))
+wrong-size-in = listed-in wrongSize table refl
 
 no-room-in : InTable noRoom
-no-room-in = later (later (later (later (later (later (later (later (later (later (later first))))))))))
+no-room-in = listed-in noRoom table refl
 
 -- 19 to 29
 torrent-in : (n : ℕ) → 19 ≤ n → n ≤ 29 → InTable n
-torrent-in n l h = later (later (later (later (later (later (later (later (later (later (later (later (later (among 11 19 n l (omega arith))))))))))))))
+torrent-in n l h = later (later (later (later (later (later (later (later (later (later (later (later (later (among 11 19 n _ l (omega arith))))))))))))))
 
 read-in : (r : Torrent) → ReadOutcome r → InTable (r .number)
 read-in r (readDone q e) = rw e zero-in
@@ -90,7 +91,8 @@ write-in out a after (nothingPut n w e p) = rw e (write-number-in n w)
 
 -- ---- a refused call on a store leaves the output lent beside it
 
-serve-leaves : (s m out : List ℕ) (x : Bytes m) (y : Bytes out) → (serveAnswer s m out .number ≡ 0 → ⊥) → (RejectSent (onStore (serve m out x y) s) → ⊥) → serveAfter s m out ≡ out
+serve-leaves : (s m out : List ℕ) (x : Bytes m) (y : Bytes out) → (serveAnswer s m out .number ≡ 0 → ⊥)
+    → (RejectSent (onStore (look (send (serve m x) out y)) s) → ⊥) → serveAfter s m out ≡ out
 serve-leaves s m out x y ne nr = by (request-answered s m out)
   where
     by : ServeOutcome s m out → serveAfter s m out ≡ out
@@ -98,18 +100,20 @@ serve-leaves s m out x y ne nr = by (request-answered s m out)
     by (rejected n r e p) = absurd (nr (request (rw e r)))
     by (untouched n w e p) = p
 
+sent-leaves : (k : Send) (s out : List ℕ) (y : Bytes out) → (replyNumber (sendReply k s out) ≡ 0 → ⊥) → (RejectSent (onStore (look (send k out y)) s) → ⊥)
+    → sentTo k s out ≡ out
+sent-leaves (serve m x) s out y ne nr = serve-leaves s m out x y ne nr
+sent-leaves bitfield s out y ne nr = field-refused s out ne
+
 output-stays : (c : Call) (s : List ℕ) → (storeNumber c s ≡ 0 → ⊥) → (RejectSent (onStore c s) → ⊥) → outputAfter c s ≡ output c
 output-stays (take m b) s ne nr = refl
-output-stays (takeReject m b) s ne nr = refl
-output-stays (serve m out b c) s ne nr = ap (λ (o : List ℕ). o ∷ []) (serve-leaves s m out b c ne nr)
-output-stays (held l i) s ne nr = refl
 output-stays (loadLayer l b) s ne nr = refl
 output-stays (judgeBlock i d b) s ne nr = refl
 output-stays (judgePiece i d b) s ne nr = refl
 output-stays (clear i) s ne nr = refl
-output-stays (isMarked i) s ne nr = refl
-output-stays (bitfield out b) s ne nr = ap (λ (o : List ℕ). o ∷ []) (field-refused s out ne)
 output-stays (reopen n plen root o) s ne nr = refl
+output-stays (look (ask k)) s ne nr = refl
+output-stays (look (send k out b)) s ne nr = ap (λ (o : List ℕ). o ∷ []) (sent-leaves k s out b ne nr)
 
 -- ---- the torrent calls' refusals stand beside zeros
 
@@ -131,10 +135,11 @@ path-zeros r noElement ne = refl
 
 -- "Any bytes may come in, as torrent, message, block or store. Every entry point answers with a number from the table,
 -- asks nothing of its caller,": (the latter: OneOutcome)
-pub every-number-in-table : (a : AnyCall) → InTable (number a)
+pub every-number-in-table : (a : AnyCall) → FromTable (said a)
 every-number-in-table (onStore c s) = calls-in-table c s
 every-number-in-table (sha256 m) = sha256-in-table m
-every-number-in-table (storeSize n plen) = size-in-table n plen
+every-number-in-table (storeSize k plen) = size-in-table k plen
+every-number-in-table hashingBegin = tt
 every-number-in-table (hashingMore h burst) = Running.hashing-more-in-table h burst
 every-number-in-table (hashingEnd h) = Running.hashing-end-in-table h
 every-number-in-table (historyBegin plen) = Running.history-begin-in-table plen
@@ -147,11 +152,29 @@ every-number-in-table (torrentList t out) = list-in out (listAnswer t out) (list
 every-number-in-table (torrentWrite list text plen name out) =
     write-in out (writeAnswer list text plen name out) (writeAfter list text plen name out) (write-outcome list text plen name out)
 
+-- a call that says none was lent nothing: there is no byte that it could change
+pub silent-lent-nothing : (a : AnyCall) → Silent (said a) → lent a ≡ []
+silent-lent-nothing hashingBegin e = refl
+silent-lent-nothing (onStore c s) e = absurd e
+silent-lent-nothing (sha256 m) e = refl
+silent-lent-nothing (storeSize k plen) e = refl
+silent-lent-nothing (hashingMore h burst) e = refl
+silent-lent-nothing (hashingEnd h) e = refl
+silent-lent-nothing (historyBegin plen) e = refl
+silent-lent-nothing (historyMore h burst layer) e = absurd e
+silent-lent-nothing (historyEnd h layer) e = absurd e
+silent-lent-nothing (torrentRead t) e = refl
+silent-lent-nothing (torrentFile t file) e = refl
+silent-lent-nothing (torrentPath t file element) e = refl
+silent-lent-nothing (torrentList t out) e = absurd e
+silent-lent-nothing (torrentWrite list text plen name out) e = absurd e
+
 -- "and on a refusal changes no byte it was lent, save for the reject message that a refused request gets."
-pub every-refusal-leaves : (a : AnyCall) → (number a ≡ 0 → ⊥) → (RejectSent a → ⊥) → left a ≡ lent a
+pub every-refusal-leaves : (a : AnyCall) → Refused (said a) → (RejectSent a → ⊥) → left a ≡ lent a
 every-refusal-leaves (onStore c s) ne nr = ap₂ (λ (t : List ℕ) (o : List (List ℕ)). t ∷ o) (refusal-leaves-store c s ne) (output-stays c s ne nr)
 every-refusal-leaves (sha256 m) ne nr = refl
 every-refusal-leaves (storeSize n plen) ne nr = refl
+every-refusal-leaves hashingBegin ne nr = refl
 every-refusal-leaves (hashingMore h burst) ne nr = refl
 every-refusal-leaves (hashingEnd h) ne nr = refl
 every-refusal-leaves (historyBegin plen) ne nr = refl
@@ -176,8 +199,8 @@ rejected-form s m out (inr (inl e)) = let w = serve-3 s m out .0 e in (w .0 .1, 
 rejected-form s m out (inr (inr e)) = let w = serve-12 s m out .0 e in (w .0 .0 .form, w .1)
 
 -- the reject: the store stays, the first 49 bytes of the output are the reject's, and all others stay
-pub reject-alone : (s m out : List ℕ) (x : Bytes m) (y : Bytes out) → RejectSent (onStore (serve m out x y) s)
-    → (left (onStore (serve m out x y) s) ≡ s ∷ pasted out 0 (rejectTo m) ∷ []) × (length (rejectTo m) ≡ headerSize) × (headerSize ≤ length out)
+pub reject-alone : (s m out : List ℕ) (x : Bytes m) (y : Bytes out) → RejectSent (onStore (look (send (serve m x) out y)) s)
+    → (left (onStore (look (send (serve m x) out y)) s) ≡ s ∷ pasted out 0 (rejectTo m) ∷ []) × (length (rejectTo m) ≡ headerSize) × (headerSize ≤ length out)
 reject-alone s m out x y (request r) = (ap (λ (o : List ℕ). s ∷ o ∷ []) (by (request-answered s m out)), reject-length m (rejected-form s m out r .0 .size), rejected-form s m out r .1)
   where
     by : ServeOutcome s m out → serveAfter s m out ≡ pasted out 0 (rejectTo m)
@@ -186,10 +209,11 @@ reject-alone s m out x y (request r) = (ap (λ (o : List ℕ). s ∷ o ∷ []) (
     by (untouched n w e p) = absurd (not-rejected n (inr w) (rw e at r))
 
 -- 01: "Beside a refusal every count, size and value is zero; beside a reject the size is 49."
-pub every-value-zero : (a : AnyCall) → (number a ≡ 0 → ⊥) → ValuesZero a
+pub every-value-zero : (a : AnyCall) → Refused (said a) → ValuesZero a
 every-value-zero (onStore c s) ne = beside-refusal c s ne
 every-value-zero (sha256 m) ne = beside-sha256 m ne
 every-value-zero (storeSize n plen) ne = beside-size n plen ne
+every-value-zero hashingBegin ne = absurd ne
 every-value-zero (hashingMore h burst) ne = Running.hashing-more-refused h burst ne
 every-value-zero (hashingEnd h) ne = Running.beside-hashing-end h ne
 every-value-zero (historyBegin plen) ne = Running.beside-history-begin plen ne

@@ -1,27 +1,27 @@
--- 00, demand 1, says "every entry point": here are all that give a number, as one type. What each is asked, the number it answers with, and
--- the memories that it was lent, before and after: the definitions that the contracts of crates/kombudeva are equations to (Says).
--- (kd_hashing_begin gives no number.)
+-- 00, demand 1, says "every entry point": here are all of them, as one type. What each is asked, the number it answers with, and the memories
+-- that it was lent, before and after: the definitions that the contracts of crates/kombudeva are equations to (Says).
 -- Assumes nothing.
+use Prim.{Unit}
 use mathlib.Core.Path.{_≡_}
 use mathlib.Core.List.{List, [], _∷_}
 use Prim.Native.Nat.{ℕ}
 use Rattle.octets.specs.Octets.{zeroHash}
+use Rattle.numbers.specs.Numbers.{InTable}
 use Rattle.sha256.specs.Answer.{hashedOf}
 use Rattle.running.specs.Bursts as Bursts
 use Rattle.running.specs.declared.Hashing.{Hashing}
 use Rattle.history.specs.Answers as Histories
 use Rattle.history.specs.declared.History.{History}
 use Rattle.store.specs.Store.{sizeAnswer}
-use Rattle.marks.specs.Marks.{fieldAfter}
-use Rattle.serve.specs.Serve.{serveAnswer, serveAfter}
+use Rattle.serve.specs.Serve.{serveAnswer}
 use Rattle.torrent.specs.Torrent.{readOf, fileRead, pathRead, noTorrent, noFileRead, noPartRead}
 use Rattle.catalogue.specs.Catalogue.{listAnswer, listAfter}
 use Rattle.writing.specs.Write.{writeAnswer, writeAfter}
 use Rattle.words.specs.Messages.{Rejected}
-use Rattle.words.specs.History.{Bytes, Call, take, takeReject, serve, held, loadLayer, judgeBlock, judgePiece, clear, isMarked, bitfield, reopen, answer, number as storeNumber, after}
+use Rattle.words.specs.History.{Bytes, serve, ask, send, Call, take, loadLayer, judgeBlock, judgePiece, clear, reopen, look, answer, number as storeNumber, after, sentTo}
 use Rattle.words.specs.Answers.{Beside}
 
--- a call of any entry point that gives a number
+-- a call of any entry point
 pub data AnyCall : Type 0 where
   -- kd_open, kd_held, kd_take, kd_take_reject, kd_serve, kd_load_layer, kd_judge_block, kd_judge_piece, kd_clear, kd_marked, kd_bitfield, and
   -- the bytes lent as their store
@@ -29,7 +29,8 @@ pub data AnyCall : Type 0 where
   -- kd_sha256, kd_store_size
   sha256 : (m : List ℕ) → AnyCall
   storeSize : (n plen : ℕ) → AnyCall
-  -- kd_hashing_more, kd_hashing_end: a state, a burst
+  -- kd_hashing_begin, kd_hashing_more, kd_hashing_end: a state, a burst
+  hashingBegin : AnyCall
   hashingMore : (h : Hashing) (burst : List ℕ) → AnyCall
   hashingEnd : (h : Hashing) → AnyCall
   -- kd_history_begin, kd_history_more, kd_history_end: a state, a burst, the memory lent for the layer
@@ -43,54 +44,69 @@ pub data AnyCall : Type 0 where
   torrentList : (t out : List ℕ) → AnyCall
   torrentWrite : (list text : List ℕ) (plen : ℕ) (name out : List ℕ) → AnyCall
 
+-- what a call says: a number; or none, if there is nothing that it could be refused for
+pub data Said : Type 0 where
+  number : ℕ → Said
+  none : Said
+
+-- it is from the table, if it is a number
+abbrev pub FromTable : Said → Type 0
+FromTable (number n) = InTable n
+FromTable none = Unit {0}
+
+-- it is a refusal: a number other than 0
+abbrev pub Refused : Said → Type 0
+Refused (number n) = n ≡ 0 → ⊥
+Refused none = ⊥
+
+abbrev pub Silent : Said → Type 0
+Silent (number n) = ⊥
+Silent none = Unit {0}
+
 -- the number that it is answered with
-abbrev pub number : AnyCall → ℕ
-number (onStore c s) = storeNumber c s
-number (sha256 m) = hashedOf m .number
-number (storeSize n plen) = sizeAnswer n plen .number
-number (hashingMore h burst) = Bursts.moreAnswer h burst .number
-number (hashingEnd h) = Bursts.endAnswer h .number
-number (historyBegin plen) = Histories.beginAnswer plen .number
-number (historyMore h burst layer) = Histories.moreAnswer h burst layer .number
-number (historyEnd h layer) = Histories.endAnswer h layer .number
-number (torrentRead t) = readOf t .number
-number (torrentFile t file) = fileRead t file .number
-number (torrentPath t file element) = pathRead t file element .number
-number (torrentList t out) = listAnswer t out .number
-number (torrentWrite list text plen name out) = writeAnswer list text plen name out .number
+abbrev pub said : AnyCall → Said
+said (onStore c s) = number (storeNumber c s)
+said (sha256 m) = number (hashedOf m .number)
+said (storeSize n plen) = number (sizeAnswer n plen .number)
+said hashingBegin = none
+said (hashingMore h burst) = number (Bursts.moreAnswer h burst .number)
+said (hashingEnd h) = number (Bursts.endAnswer h .number)
+said (historyBegin plen) = number (Histories.beginAnswer plen .number)
+said (historyMore h burst layer) = number (Histories.moreAnswer h burst layer .number)
+said (historyEnd h layer) = number (Histories.endAnswer h layer .number)
+said (torrentRead t) = number (readOf t .number)
+said (torrentFile t file) = number (fileRead t file .number)
+said (torrentPath t file element) = number (pathRead t file element .number)
+said (torrentList t out) = number (listAnswer t out .number)
+said (torrentWrite list text plen name out) = number (writeAnswer list text plen name out .number)
 
 -- the output that a call on a store is lent beside it, if any, and what is left there
 abbrev pub output : Call → List (List ℕ)
 output (take m b) = []
-output (takeReject m b) = []
-output (serve m out b c) = out ∷ []
-output (held l i) = []
 output (loadLayer l b) = []
 output (judgeBlock i d b) = []
 output (judgePiece i d b) = []
 output (clear i) = []
-output (isMarked i) = []
-output (bitfield out b) = out ∷ []
 output (reopen n plen root o) = []
+output (look (ask k)) = []
+output (look (send k out b)) = out ∷ []
 
 abbrev pub outputAfter : Call → List ℕ → List (List ℕ)
 outputAfter (take m b) s = []
-outputAfter (takeReject m b) s = []
-outputAfter (serve m out b c) s = serveAfter s m out ∷ []
-outputAfter (held l i) s = []
 outputAfter (loadLayer l b) s = []
 outputAfter (judgeBlock i d b) s = []
 outputAfter (judgePiece i d b) s = []
 outputAfter (clear i) s = []
-outputAfter (isMarked i) s = []
-outputAfter (bitfield out b) s = fieldAfter s out ∷ []
 outputAfter (reopen n plen root o) s = []
+outputAfter (look (ask k)) s = []
+outputAfter (look (send k out b)) s = sentTo k s out ∷ []
 
 -- the memories lent to it, store, output or a history's layer, before the call; what is only read, besides a store, is not among them
 abbrev pub lent : AnyCall → List (List ℕ)
 lent (onStore c s) = s ∷ output c
 lent (sha256 m) = []
 lent (storeSize n plen) = []
+lent hashingBegin = []
 lent (hashingMore h burst) = []
 lent (hashingEnd h) = []
 lent (historyBegin plen) = []
@@ -107,6 +123,7 @@ abbrev pub left : AnyCall → List (List ℕ)
 left (onStore c s) = after c s ∷ outputAfter c s
 left (sha256 m) = []
 left (storeSize n plen) = []
+left hashingBegin = []
 left (hashingMore h burst) = []
 left (hashingEnd h) = []
 left (historyBegin plen) = []
@@ -120,7 +137,7 @@ left (torrentWrite list text plen name out) = writeAfter list text plen name out
 
 -- it is a request that is refused with 2, 3 or 12, and so gets a reject
 pub data RejectSent : AnyCall → Type 0 where
-  request : {s m out : List ℕ} {x : Bytes m} {y : Bytes out} → Rejected (serveAnswer s m out .number) → RejectSent (onStore (serve m out x y) s)
+  request : {s m out : List ℕ} {x : Bytes m} {y : Bytes out} → Rejected (serveAnswer s m out .number) → RejectSent (onStore (look (send (serve m x) out y)) s)
 
 -- 01: "Beside a refusal every count, size and value is zero; beside a reject the size is 49." A state that a burst was to go on from comes
 -- back as it was given.
@@ -128,6 +145,7 @@ abbrev pub ValuesZero : AnyCall → Type 0
 ValuesZero (onStore c s) = Beside c (answer c s)
 ValuesZero (sha256 m) = hashedOf m .hash ≡ zeroHash
 ValuesZero (storeSize n plen) = sizeAnswer n plen .count ≡ 0
+ValuesZero hashingBegin = ⊥
 ValuesZero (hashingMore h burst) = Bursts.moreAnswer h burst .hashing ≡ h
 ValuesZero (hashingEnd h) = Bursts.endAnswer h .hash ≡ zeroHash
 ValuesZero (historyBegin plen) = Histories.beginAnswer plen .history ≡ Histories.noHistory

@@ -18,11 +18,11 @@ use Rattle.kombudeva.specs.declared.TorrentAnswer.{TorrentAnswer}
 use Rattle.kombudeva.specs.declared.FileAnswer.{FileAnswer}
 use Rattle.kombudeva.specs.declared.PartAnswer.{PartAnswer}
 use Rattle.kombudeva.specs.Boundary.{countAnswer, hashAnswer, torrentAnswer, fileAnswer, partAnswer}
-use Rattle.words.specs.History.{Bytes, take, takeReject, serve, held, loadLayer, judgeBlock, judgePiece, clear, isMarked, bitfield, reopen}
-use Rattle.words.specs.Answers.{InTable}
-use Rattle.contracts.specs.Entries.{AnyCall, onStore, sha256, storeSize, hashingMore, hashingEnd, historyBegin, historyMore, historyEnd, torrentRead, torrentFile, torrentPath, torrentList, torrentWrite, number, lent, left, RejectSent}
+use Rattle.words.specs.History.{Bytes, held, takeReject, isMarked, serve, bitfield, ask, send, take, loadLayer, judgeBlock, judgePiece, clear, reopen, look}
+use Rattle.contracts.specs.Entries.{AnyCall, onStore, sha256, storeSize, hashingBegin, hashingMore, hashingEnd, historyBegin, historyMore, historyEnd, torrentRead, torrentFile, torrentPath, torrentList, torrentWrite, Said, number, none, FromTable, Refused, said, lent, left, RejectSent}
 use Rattle.contracts.specs.Demand1.{every-number-in-table, every-refusal-leaves}
 use Rattle.kombudeva.proofs.kd_sha256 as hash
+use Rattle.kombudeva.proofs.kd_hashing_begin as hashing-begin
 use Rattle.kombudeva.proofs.kd_hashing_more as hashing-more
 use Rattle.kombudeva.proofs.kd_hashing_end as hashing-end
 use Rattle.kombudeva.proofs.kd_history_begin as history-begin
@@ -49,108 +49,112 @@ use Rattle.kombudeva.proofs.kd_torrent_write as writing
 -- a call, the number it was answered with, and the memories lent to it, before and after, as a contract leaves them: `a` are the arguments, in
 -- order, `r` the answer, `e` the arguments at exit. What is lent as `&` can't be written: a store lent so is as it was.
 -- `x` and `y` say that what a call on a store carries is bytes, as all that is lent is.
-pub data Outcome : AnyCall → ℕ → List (List ℕ) → List (List ℕ) → Type 0 where
+pub data Outcome : AnyCall → Said → List (List ℕ) → List (List ℕ) → Type 0 where
   -- kd_sha256
   by-hash : (κs : Lfts 1) (a : Dens κs hash.Kinds.ps) (r : resT hash.Kinds.r κs .Denot) (e : AtExit (endedOf 1 hash.Kinds.ps hash.Kinds.r) κs) → hash.Reads.Learnt κs a r e
-      → Outcome (sha256 (now (a .0))) (r .number) [] []
+      → Outcome (sha256 (now (a .0))) (number (r .number)) [] []
+  -- kd_hashing_begin
+  by-hashing-begin : (κs : Lfts 0) (a : Dens κs hashing-begin.Kinds.ps) (r : resT hashing-begin.Kinds.r κs .Denot) (e : AtExit (endedOf 0 hashing-begin.Kinds.ps hashing-begin.Kinds.r) κs) → hashing-begin.Reads.Learnt κs a r e
+      → Outcome hashingBegin none [] []
   -- kd_hashing_more
   by-hashing-more : (κs : Lfts 1) (a : Dens κs hashing-more.Kinds.ps) (r : resT hashing-more.Kinds.r κs .Denot) (e : AtExit (endedOf 1 hashing-more.Kinds.ps hashing-more.Kinds.r) κs) → hashing-more.Reads.Learnt κs a r e
-      → Outcome (hashingMore (a .0) (now (a .1 .0))) (r .number) [] []
+      → Outcome (hashingMore (a .0) (now (a .1 .0))) (number (r .number)) [] []
   -- kd_hashing_end
   by-hashing-end : (κs : Lfts 0) (a : Dens κs hashing-end.Kinds.ps) (r : resT hashing-end.Kinds.r κs .Denot) (e : AtExit (endedOf 0 hashing-end.Kinds.ps hashing-end.Kinds.r) κs) → hashing-end.Reads.Learnt κs a r e
-      → Outcome (hashingEnd (a .0)) (r .number) [] []
+      → Outcome (hashingEnd (a .0)) (number (r .number)) [] []
   -- kd_history_begin
   by-history-begin : (κs : Lfts 0) (a : Dens κs history-begin.Kinds.ps) (r : resT history-begin.Kinds.r κs .Denot) (e : AtExit (endedOf 0 history-begin.Kinds.ps history-begin.Kinds.r) κs) → history-begin.Reads.Learnt κs a r e
-      → Outcome (historyBegin (a .0)) (r .number) [] []
+      → Outcome (historyBegin (a .0)) (number (r .number)) [] []
   -- kd_history_more
   by-history-more : (κs : Lfts 2) (a : Dens κs history-more.Kinds.ps) (r : resT history-more.Kinds.r κs .Denot) (e : AtExit (endedOf 2 history-more.Kinds.ps history-more.Kinds.r) κs) → history-more.Reads.Learnt κs a r e
-      → Outcome (historyMore (a .0) (now (a .1 .0)) (now (a .1 .1 .0))) (r .number) (now (a .1 .1 .0) ∷ []) (now (e .1 .1 .0) ∷ [])
+      → Outcome (historyMore (a .0) (now (a .1 .0)) (now (a .1 .1 .0))) (number (r .number)) (now (a .1 .1 .0) ∷ []) (now (e .1 .1 .0) ∷ [])
   -- kd_history_end
   by-history-end : (κs : Lfts 1) (a : Dens κs history-end.Kinds.ps) (r : resT history-end.Kinds.r κs .Denot) (e : AtExit (endedOf 1 history-end.Kinds.ps history-end.Kinds.r) κs) → history-end.Reads.Learnt κs a r e
-      → Outcome (historyEnd (a .0) (now (a .1 .0))) (r .number) (now (a .1 .0) ∷ []) (now (e .1 .0) ∷ [])
+      → Outcome (historyEnd (a .0) (now (a .1 .0))) (number (r .number)) (now (a .1 .0) ∷ []) (now (e .1 .0) ∷ [])
   -- kd_store_size
   by-size : (κs : Lfts 0) (a : Dens κs size.Kinds.ps) (r : resT size.Kinds.r κs .Denot) (e : AtExit (endedOf 0 size.Kinds.ps size.Kinds.r) κs) → size.Reads.Learnt κs a r e
-      → Outcome (storeSize (a .0) (a .1 .0)) (r .number) [] []
+      → Outcome (storeSize (a .0) (a .1 .0)) (number (r .number)) [] []
   -- kd_open
   by-opening : (κs : Lfts 1) (a : Dens κs opening.Kinds.ps) (r : resT opening.Kinds.r κs .Denot) (e : AtExit (endedOf 1 opening.Kinds.ps opening.Kinds.r) κs) → opening.Reads.Learnt κs a r e
-      → (x : Octets 32 (a .1 .1 .1 .0 .bytes)) → Outcome (onStore (reopen (a .1 .0) (a .1 .1 .0) (a .1 .1 .1 .0 .bytes) x) (now (a .0))) (r .number) (now (a .0) ∷ []) (now (e .0) ∷ [])
+      → (x : Octets 32 (a .1 .1 .1 .0 .bytes)) → Outcome (onStore (reopen (a .1 .0) (a .1 .1 .0) (a .1 .1 .1 .0 .bytes) x) (now (a .0))) (number (r .number)) (now (a .0) ∷ []) (now (e .0) ∷ [])
   -- kd_held
   by-held : (κs : Lfts 1) (a : Dens κs heldAt.Kinds.ps) (r : resT heldAt.Kinds.r κs .Denot) (e : AtExit (endedOf 1 heldAt.Kinds.ps heldAt.Kinds.r) κs) → heldAt.Reads.Learnt κs a r e
-      → Outcome (onStore (held (a .1 .0) (a .1 .1 .0)) (now (a .0))) (r .number) (now (a .0) ∷ []) (now (a .0) ∷ [])
+      → Outcome (onStore (look (ask (held (a .1 .0) (a .1 .1 .0)))) (now (a .0))) (number (r .number)) (now (a .0) ∷ []) (now (a .0) ∷ [])
   -- kd_take
   by-taking : (κs : Lfts 2) (a : Dens κs taking.Kinds.ps) (r : resT taking.Kinds.r κs .Denot) (e : AtExit (endedOf 2 taking.Kinds.ps taking.Kinds.r) κs) → taking.Reads.Learnt κs a r e
-      → (x : Bytes (now (a .1 .0))) → Outcome (onStore (take (now (a .1 .0)) x) (now (a .0))) (r .number) (now (a .0) ∷ []) (now (e .0) ∷ [])
+      → (x : Bytes (now (a .1 .0))) → Outcome (onStore (take (now (a .1 .0)) x) (now (a .0))) (number (r .number)) (now (a .0) ∷ []) (now (e .0) ∷ [])
   -- kd_take_reject
   by-reject : (κs : Lfts 2) (a : Dens κs reject.Kinds.ps) (r : resT reject.Kinds.r κs .Denot) (e : AtExit (endedOf 2 reject.Kinds.ps reject.Kinds.r) κs) → reject.Reads.Learnt κs a r e
-      → (x : Bytes (now (a .1 .0))) → Outcome (onStore (takeReject (now (a .1 .0)) x) (now (a .0))) (r .number) (now (a .0) ∷ []) (now (a .0) ∷ [])
+      → (x : Bytes (now (a .1 .0))) → Outcome (onStore (look (ask (takeReject (now (a .1 .0)) x))) (now (a .0))) (number (r .number)) (now (a .0) ∷ []) (now (a .0) ∷ [])
   -- kd_serve
   by-serving : (κs : Lfts 3) (a : Dens κs serving.Kinds.ps) (r : resT serving.Kinds.r κs .Denot) (e : AtExit (endedOf 3 serving.Kinds.ps serving.Kinds.r) κs) → serving.Reads.Learnt κs a r e
-      → (x : Bytes (now (a .1 .0))) (y : Bytes (now (a .1 .1 .0))) → Outcome (onStore (serve (now (a .1 .0)) (now (a .1 .1 .0)) x y) (now (a .0))) (r .number) (now (a .0) ∷ now (a .1 .1 .0) ∷ []) (now (a .0) ∷ now (e .1 .1 .0) ∷ [])
+      → (x : Bytes (now (a .1 .0))) (y : Bytes (now (a .1 .1 .0))) → Outcome (onStore (look (send (serve (now (a .1 .0)) x) (now (a .1 .1 .0)) y)) (now (a .0))) (number (r .number)) (now (a .0) ∷ now (a .1 .1 .0) ∷ []) (now (a .0) ∷ now (e .1 .1 .0) ∷ [])
   -- kd_load_layer
   by-loading : (κs : Lfts 2) (a : Dens κs loading.Kinds.ps) (r : resT loading.Kinds.r κs .Denot) (e : AtExit (endedOf 2 loading.Kinds.ps loading.Kinds.r) κs) → loading.Reads.Learnt κs a r e
-      → (x : Bytes (now (a .1 .0))) → Outcome (onStore (loadLayer (now (a .1 .0)) x) (now (a .0))) (r .number) (now (a .0) ∷ []) (now (e .0) ∷ [])
+      → (x : Bytes (now (a .1 .0))) → Outcome (onStore (loadLayer (now (a .1 .0)) x) (now (a .0))) (number (r .number)) (now (a .0) ∷ []) (now (e .0) ∷ [])
   -- kd_judge_block
   by-block : (κs : Lfts 2) (a : Dens κs block.Kinds.ps) (r : resT block.Kinds.r κs .Denot) (e : AtExit (endedOf 2 block.Kinds.ps block.Kinds.r) κs) → block.Reads.Learnt κs a r e
-      → (x : Bytes (now (a .1 .1 .0))) → Outcome (onStore (judgeBlock (a .1 .0) (now (a .1 .1 .0)) x) (now (a .0))) (r .number) (now (a .0) ∷ []) (now (e .0) ∷ [])
+      → (x : Bytes (now (a .1 .1 .0))) → Outcome (onStore (judgeBlock (a .1 .0) (now (a .1 .1 .0)) x) (now (a .0))) (number (r .number)) (now (a .0) ∷ []) (now (e .0) ∷ [])
   -- kd_judge_piece
   by-piece : (κs : Lfts 2) (a : Dens κs piece.Kinds.ps) (r : resT piece.Kinds.r κs .Denot) (e : AtExit (endedOf 2 piece.Kinds.ps piece.Kinds.r) κs) → piece.Reads.Learnt κs a r e
-      → (x : Bytes (now (a .1 .1 .0))) → Outcome (onStore (judgePiece (a .1 .0) (now (a .1 .1 .0)) x) (now (a .0))) (r .number) (now (a .0) ∷ []) (now (e .0) ∷ [])
+      → (x : Bytes (now (a .1 .1 .0))) → Outcome (onStore (judgePiece (a .1 .0) (now (a .1 .1 .0)) x) (now (a .0))) (number (r .number)) (now (a .0) ∷ []) (now (e .0) ∷ [])
   -- kd_clear
   by-clearing : (κs : Lfts 1) (a : Dens κs clearing.Kinds.ps) (r : resT clearing.Kinds.r κs .Denot) (e : AtExit (endedOf 1 clearing.Kinds.ps clearing.Kinds.r) κs) → clearing.Reads.Learnt κs a r e
-      → Outcome (onStore (clear (a .1 .0)) (now (a .0))) (r .number) (now (a .0) ∷ []) (now (e .0) ∷ [])
+      → Outcome (onStore (clear (a .1 .0)) (now (a .0))) (number (r .number)) (now (a .0) ∷ []) (now (e .0) ∷ [])
   -- kd_marked
   by-asking : (κs : Lfts 1) (a : Dens κs asking.Kinds.ps) (r : resT asking.Kinds.r κs .Denot) (e : AtExit (endedOf 1 asking.Kinds.ps asking.Kinds.r) κs) → asking.Reads.Learnt κs a r e
-      → Outcome (onStore (isMarked (a .1 .0)) (now (a .0))) (r .number) (now (a .0) ∷ []) (now (a .0) ∷ [])
+      → Outcome (onStore (look (ask (isMarked (a .1 .0)))) (now (a .0))) (number (r .number)) (now (a .0) ∷ []) (now (a .0) ∷ [])
   -- kd_bitfield
   by-field : (κs : Lfts 2) (a : Dens κs field.Kinds.ps) (r : resT field.Kinds.r κs .Denot) (e : AtExit (endedOf 2 field.Kinds.ps field.Kinds.r) κs) → field.Reads.Learnt κs a r e
-      → (x : Bytes (now (a .1 .0))) → Outcome (onStore (bitfield (now (a .1 .0)) x) (now (a .0))) (r .number) (now (a .0) ∷ now (a .1 .0) ∷ []) (now (a .0) ∷ now (e .1 .0) ∷ [])
+      → (x : Bytes (now (a .1 .0))) → Outcome (onStore (look (send bitfield (now (a .1 .0)) x)) (now (a .0))) (number (r .number)) (now (a .0) ∷ now (a .1 .0) ∷ []) (now (a .0) ∷ now (e .1 .0) ∷ [])
   -- kd_torrent_read
   by-torrent : (κs : Lfts 1) (a : Dens κs torrent.Kinds.ps) (r : resT torrent.Kinds.r κs .Denot) (e : AtExit (endedOf 1 torrent.Kinds.ps torrent.Kinds.r) κs) → torrent.Reads.Learnt κs a r e
-      → Outcome (torrentRead (now (a .0))) (r .number) [] []
+      → Outcome (torrentRead (now (a .0))) (number (r .number)) [] []
   -- kd_torrent_file
   by-file : (κs : Lfts 1) (a : Dens κs file.Kinds.ps) (r : resT file.Kinds.r κs .Denot) (e : AtExit (endedOf 1 file.Kinds.ps file.Kinds.r) κs) → file.Reads.Learnt κs a r e
-      → Outcome (torrentFile (now (a .0)) (a .1 .0)) (r .number) [] []
+      → Outcome (torrentFile (now (a .0)) (a .1 .0)) (number (r .number)) [] []
   -- kd_torrent_path
   by-path : (κs : Lfts 1) (a : Dens κs path.Kinds.ps) (r : resT path.Kinds.r κs .Denot) (e : AtExit (endedOf 1 path.Kinds.ps path.Kinds.r) κs) → path.Reads.Learnt κs a r e
-      → Outcome (torrentPath (now (a .0)) (a .1 .0) (a .1 .1 .0)) (r .number) [] []
+      → Outcome (torrentPath (now (a .0)) (a .1 .0) (a .1 .1 .0)) (number (r .number)) [] []
   -- kd_torrent_list
   by-list : (κs : Lfts 2) (a : Dens κs list.Kinds.ps) (r : resT list.Kinds.r κs .Denot) (e : AtExit (endedOf 2 list.Kinds.ps list.Kinds.r) κs) → list.Reads.Learnt κs a r e
-      → Outcome (torrentList (now (a .0)) (now (a .1 .0))) (r .number) (now (a .1 .0) ∷ []) (now (e .1 .0) ∷ [])
+      → Outcome (torrentList (now (a .0)) (now (a .1 .0))) (number (r .number)) (now (a .1 .0) ∷ []) (now (e .1 .0) ∷ [])
   -- kd_torrent_write
   by-writing : (κs : Lfts 4) (a : Dens κs writing.Kinds.ps) (r : resT writing.Kinds.r κs .Denot) (e : AtExit (endedOf 4 writing.Kinds.ps writing.Kinds.r) κs) → writing.Reads.Learnt κs a r e
-      → Outcome (torrentWrite (now (a .0)) (now (a .1 .0)) (a .1 .1 .0) (now (a .1 .1 .1 .0)) (now (a .1 .1 .1 .1 .0))) (r .number) (now (a .1 .1 .1 .1 .0) ∷ []) (now (e .1 .1 .1 .1 .0) ∷ [])
+      → Outcome (torrentWrite (now (a .0)) (now (a .1 .0)) (a .1 .1 .0) (now (a .1 .1 .1 .0)) (now (a .1 .1 .1 .1 .0))) (number (r .number)) (now (a .1 .1 .1 .1 .0) ∷ []) (now (e .1 .1 .1 .1 .0) ∷ [])
 
 -- they are those of Entries
-pub outcome-is : {c : AnyCall} {n : ℕ} {before after : List (List ℕ)} → Outcome c n before after → (n ≡ number c) × (before ≡ lent c) × (after ≡ left c)
+pub outcome-is : {c : AnyCall} {n : Said} {before after : List (List ℕ)} → Outcome c n before after → (n ≡ said c) × (before ≡ lent c) × (after ≡ left c)
 unfolding countAnswer hashAnswer torrentAnswer fileAnswer partAnswer
-outcome-is (by-hash κs a r e p) = (ap (λ (s : HashAnswer). s .number) p, refl, refl)
-outcome-is (by-hashing-more κs a r e p) = (ap (λ (s : HashingAnswer). s .number) p, refl, refl)
-outcome-is (by-hashing-end κs a r e p) = (ap (λ (s : HashAnswer). s .number) p, refl, refl)
-outcome-is (by-history-begin κs a r e p) = (ap (λ (s : HistoryAnswer). s .number) p, refl, refl)
-outcome-is (by-history-more κs a r e p) = (ap (λ (s : HistoryAnswer). s .number) (p .0), refl, ap (λ (o : List ℕ). o ∷ []) (p .1))
-outcome-is (by-history-end κs a r e p) = (ap (λ (s : HistoryEnd). s .number) (p .0), refl, ap (λ (o : List ℕ). o ∷ []) (p .1))
-outcome-is (by-size κs a r e p) = (ap (λ (s : CountAnswer). s .number) p, refl, refl)
-outcome-is (by-opening κs a r e p x) = (ap (λ (s : CountAnswer). s .number) (p .0), refl, ap (λ (o : List ℕ). o ∷ []) (p .1))
-outcome-is (by-held κs a r e p) = (ap (λ (s : HashAnswer). s .number) p, refl, refl)
-outcome-is (by-taking κs a r e p x) = (ap (λ (s : CountAnswer). s .number) (p .0), refl, ap (λ (o : List ℕ). o ∷ []) (p .1))
-outcome-is (by-reject κs a r e p x) = (ap (λ (s : CountAnswer). s .number) p, refl, refl)
-outcome-is (by-serving κs a r e p x y) = (ap (λ (s : CountAnswer). s .number) (p .0), refl, ap (λ (o : List ℕ). now (a .0) ∷ o ∷ []) (p .1))
-outcome-is (by-loading κs a r e p x) = (ap (λ (s : CountAnswer). s .number) (p .0), refl, ap (λ (o : List ℕ). o ∷ []) (p .1))
-outcome-is (by-block κs a r e p x) = (ap (λ (s : CountAnswer). s .number) (p .0), refl, ap (λ (o : List ℕ). o ∷ []) (p .1))
-outcome-is (by-piece κs a r e p x) = (ap (λ (s : CountAnswer). s .number) (p .0), refl, ap (λ (o : List ℕ). o ∷ []) (p .1))
-outcome-is (by-clearing κs a r e p) = (ap (λ (s : CountAnswer). s .number) (p .0), refl, ap (λ (o : List ℕ). o ∷ []) (p .1))
-outcome-is (by-asking κs a r e p) = (ap (λ (s : CountAnswer). s .number) p, refl, refl)
-outcome-is (by-field κs a r e p x) = (ap (λ (s : CountAnswer). s .number) (p .0), refl, ap (λ (o : List ℕ). now (a .0) ∷ o ∷ []) (p .1))
-outcome-is (by-torrent κs a r e p) = (ap (λ (s : TorrentAnswer). s .number) p, refl, refl)
-outcome-is (by-file κs a r e p) = (ap (λ (s : FileAnswer). s .number) p, refl, refl)
-outcome-is (by-path κs a r e p) = (ap (λ (s : PartAnswer). s .number) p, refl, refl)
-outcome-is (by-list κs a r e p) = (ap (λ (s : CountAnswer). s .number) (p .0), refl, ap (λ (o : List ℕ). o ∷ []) (p .1))
-outcome-is (by-writing κs a r e p) = (ap (λ (s : CountAnswer). s .number) (p .0), refl, ap (λ (o : List ℕ). o ∷ []) (p .1))
+outcome-is (by-hash κs a r e p) = (ap (λ (s : HashAnswer). number (s .number)) p, refl, refl)
+outcome-is (by-hashing-begin κs a r e p) = (refl, refl, refl)
+outcome-is (by-hashing-more κs a r e p) = (ap (λ (s : HashingAnswer). number (s .number)) p, refl, refl)
+outcome-is (by-hashing-end κs a r e p) = (ap (λ (s : HashAnswer). number (s .number)) p, refl, refl)
+outcome-is (by-history-begin κs a r e p) = (ap (λ (s : HistoryAnswer). number (s .number)) p, refl, refl)
+outcome-is (by-history-more κs a r e p) = (ap (λ (s : HistoryAnswer). number (s .number)) (p .0), refl, ap (λ (o : List ℕ). o ∷ []) (p .1))
+outcome-is (by-history-end κs a r e p) = (ap (λ (s : HistoryEnd). number (s .number)) (p .0), refl, ap (λ (o : List ℕ). o ∷ []) (p .1))
+outcome-is (by-size κs a r e p) = (ap (λ (s : CountAnswer). number (s .number)) p, refl, refl)
+outcome-is (by-opening κs a r e p x) = (ap (λ (s : CountAnswer). number (s .number)) (p .0), refl, ap (λ (o : List ℕ). o ∷ []) (p .1))
+outcome-is (by-held κs a r e p) = (ap (λ (s : HashAnswer). number (s .number)) p, refl, refl)
+outcome-is (by-taking κs a r e p x) = (ap (λ (s : CountAnswer). number (s .number)) (p .0), refl, ap (λ (o : List ℕ). o ∷ []) (p .1))
+outcome-is (by-reject κs a r e p x) = (ap (λ (s : CountAnswer). number (s .number)) p, refl, refl)
+outcome-is (by-serving κs a r e p x y) = (ap (λ (s : CountAnswer). number (s .number)) (p .0), refl, ap (λ (o : List ℕ). now (a .0) ∷ o ∷ []) (p .1))
+outcome-is (by-loading κs a r e p x) = (ap (λ (s : CountAnswer). number (s .number)) (p .0), refl, ap (λ (o : List ℕ). o ∷ []) (p .1))
+outcome-is (by-block κs a r e p x) = (ap (λ (s : CountAnswer). number (s .number)) (p .0), refl, ap (λ (o : List ℕ). o ∷ []) (p .1))
+outcome-is (by-piece κs a r e p x) = (ap (λ (s : CountAnswer). number (s .number)) (p .0), refl, ap (λ (o : List ℕ). o ∷ []) (p .1))
+outcome-is (by-clearing κs a r e p) = (ap (λ (s : CountAnswer). number (s .number)) (p .0), refl, ap (λ (o : List ℕ). o ∷ []) (p .1))
+outcome-is (by-asking κs a r e p) = (ap (λ (s : CountAnswer). number (s .number)) p, refl, refl)
+outcome-is (by-field κs a r e p x) = (ap (λ (s : CountAnswer). number (s .number)) (p .0), refl, ap (λ (o : List ℕ). now (a .0) ∷ o ∷ []) (p .1))
+outcome-is (by-torrent κs a r e p) = (ap (λ (s : TorrentAnswer). number (s .number)) p, refl, refl)
+outcome-is (by-file κs a r e p) = (ap (λ (s : FileAnswer). number (s .number)) p, refl, refl)
+outcome-is (by-path κs a r e p) = (ap (λ (s : PartAnswer). number (s .number)) p, refl, refl)
+outcome-is (by-list κs a r e p) = (ap (λ (s : CountAnswer). number (s .number)) (p .0), refl, ap (λ (o : List ℕ). o ∷ []) (p .1))
+outcome-is (by-writing κs a r e p) = (ap (λ (s : CountAnswer). number (s .number)) (p .0), refl, ap (λ (o : List ℕ). o ∷ []) (p .1))
 
 -- "Every entry point answers with a number from the table,"
-pub outcome-in-table : {c : AnyCall} {n : ℕ} {before after : List (List ℕ)} → Outcome c n before after → InTable n
+pub outcome-in-table : {c : AnyCall} {n : Said} {before after : List (List ℕ)} → Outcome c n before after → FromTable n
 outcome-in-table {c} o = rw (outcome-is o .0) (every-number-in-table c)
 
 -- "and on a refusal changes no byte it was lent, save for the reject message that a refused request gets."
-pub refusal-changes-nothing : {c : AnyCall} {n : ℕ} {before after : List (List ℕ)} → Outcome c n before after → (n ≡ 0 → ⊥) → (RejectSent c → ⊥) → after ≡ before
-refusal-changes-nothing {c} o ne nr = let w = outcome-is o in w .2 ∙ every-refusal-leaves c (λ z. ne (w .0 ∙ z)) nr ∙ sym (w .1)
+pub refusal-changes-nothing : {c : AnyCall} {n : Said} {before after : List (List ℕ)} → Outcome c n before after → Refused n → (RejectSent c → ⊥) → after ≡ before
+refusal-changes-nothing {c} o ne nr = let w = outcome-is o in w .2 ∙ every-refusal-leaves c (rw (w .0) at ne) nr ∙ sym (w .1)

@@ -12,7 +12,7 @@ use Rattle.octets.specs.Octets.{cut}
 use Rattle.sha256.specs.Sha256.{sha256}
 use Rattle.lanes.specs.Hashes.{eighthHash}
 use Rattle.running.specs.Bursts.{stateOf, saidBy, saying, toWords, absorbed, hashOf}
-use Rattle.running.specs.BurstsLaws.{absorbed-more, hash-of-state, state-total, state-tail, behind-the-tail}
+use Rattle.running.specs.BurstsLaws.{absorbed-more, hash-of-state, state-total, state-tail, same-said}
 use Rattle.running.specs.declared.Hashing.{Hashing}
 use Rattle.tree.specs.Geometry.{blockLength, isPieceLength}
 use Rattle.history.specs.Growing.{nodeCount, finishing, grownBy, noted, notedBy}
@@ -33,7 +33,7 @@ begun-says s n = rw (n .words, n .tail, n .total, state-total [], state-tail [])
 
 begun-leaf : (s : History) (part : List ℕ) → NoneBegun s → sha256 part ≡ hashOf (absorbed (s .block) part)
 begun-leaf s part n =
-    sym (ap hashOf (behind-the-tail (s .block) (stateOf []) part (begun-says s n) .0 ∙ absorbed-more [] part) ∙ hash-of-state part)
+    sym (ap hashOf (same-said (s .block) (stateOf []) part (begun-says s n) .0 ∙ absorbed-more [] part) ∙ hash-of-state part)
 
 -- a block by its leaf
 pub block-grown : (s : History) (part leaf : List ℕ) → NoneBegun s → length part ≡ blockLength → leaf ≡ sha256 part → withLeaf s leaf ≡ grownBy s part

@@ -4,17 +4,17 @@
 use mathlib.Core.Path.{_≡_, ap, ap₂, sym, subst, _∙_}
 use mathlib.Core.Bool.{true, false}
 use mathlib.Core.List.{List, [], _∷_, _++_, append-assoc, append-nil}
-use Prim.Native.Nat.{ℕ, _+_, _*_, _≤_}
+use Prim.Native.Nat.{ℕ, _*_, _≤_}
 use native.Mathlib.Omega.{arith}
-use lib.ListN.{length, take}
+use lib.ListN.{length, take, length-append}
 use Rattle.octets.specs.Octets.{zeroHash}
 use Rattle.limits.specs.Limits.{longestFile}
 use Rattle.tree.specs.Geometry.{isPieceLength, pieceLayer, hasLayer, pieceCount}
 use Rattle.tree.specs.Values.{piecesRoot, wholeLayer}
-use Rattle.history.specs.Answers.{emptyHistory, layerBytes, moreAnswer, moreLayer, endAnswer, endLayer}
+use Rattle.history.specs.Answers.{emptyHistory, passed, layerBytes, moreAnswer, moreLayer, endAnswer, endLayer}
 use Rattle.history.specs.DecidingLaws.{bytes-none}
 use Rattle.history.specs.HistoryOf.{historyOf, Written}
-use Rattle.history.specs.HistoriesLaws.{empty-is, empty-written, taken-state, taken-short, written-more, refused-state, refused-layer, end-of, end-without, layer-at-end, asked-written, no-bytes, no-root, no-layer}
+use Rattle.history.specs.HistoriesLaws.{empty-is, empty-written, taken-state, taken-short, taken-with-room, written-more, refused-state, refused-layer, end-of, end-without, layer-at-end, asked-written, written-moved, no-bytes, no-root, no-layer}
 use Rattle.history.specs.declared.History.{History}
 
 -- ---- any cutting, whatever is lent
@@ -56,6 +56,27 @@ state-of-all plen cs t =
     let r = after-from plen [] cs (omega arith) (subst (λ (h : History). AllTaken h cs) (empty-is plen) t) in
     (ap (λ (h : History). afterAll h cs) (empty-is plen) ∙ r .0, r .1)
 
+-- every call is lent m bytes or more
+unfoldable pub AllLent : ℕ → List Call → Type 0
+AllLent m [] = Unit
+AllLent m (c ∷ cs) = (m ≤ length (c .lent)) × AllLent m cs
+
+taken-all : (plen : ℕ) (x : List ℕ) (cs : List Call) (n : ℕ) → isPieceLength plen ≡ true → length (x ++ bytesOf cs) ≤ longestFile
+    → length (x ++ bytesOf cs) ≤ n → AllLent (32 * passed n plen) cs → AllTaken (historyOf plen x) cs
+unfolding AllTaken AllLent bytesOf
+taken-all plen x [] n good l h r = tt
+taken-all plen x (c ∷ cs) n good l h r =
+    let a = length-append x (c .burst ++ bytesOf cs) in
+    let b = length-append (c .burst) (bytesOf cs) in
+    let d = length-append x (c .burst) in
+    let t = taken-with-room plen x (c .burst) (c .lent) good (omega arith) n (omega arith) (r .0) in
+    (t, subst (λ (s : History). AllTaken s cs) (sym (taken-state plen x (c .burst) (c .lent) t)) (taken-all plen (x ++ c .burst) cs n good (rw append-assoc l) (rw append-assoc h) (r .1)))
+
+-- no burst is refused while all of them together are a file that may be, and each call is lent room for the hashes of the pieces they run past
+pub all-taken : (plen : ℕ) (cs : List Call) → isPieceLength plen ≡ true → length (bytesOf cs) ≤ longestFile → AllLent (32 * passed (length (bytesOf cs)) plen) cs
+    → AllTaken (emptyHistory plen) cs
+all-taken plen cs good l r = subst (λ (s : History). AllTaken s cs) (sym (empty-is plen)) (taken-all plen [] cs (length (bytesOf cs)) good l (omega arith) r)
+
 -- the end: N is the length of all bytes, the root their pieces root, whatever was lent and is lent now, with room
 pub any-cutting : (plen : ℕ) (cs : List Call) (layer : List ℕ) → isPieceLength plen ≡ true → AllTaken (emptyHistory plen) cs
     → layerBytes (length (bytesOf cs)) plen ≤ length layer
@@ -89,6 +110,9 @@ pub data Logged (plen : ℕ) : List ℕ → History → List ℕ → Type 0 wher
   refused : {x : List ℕ} {s : History} {layer : List ℕ} (b : List ℕ) → Logged plen x s layer → (moreAnswer s b layer .number ≡ 0 → ⊥)
       → Logged plen x (moreAnswer s b layer .history) (moreLayer s b layer)
   asked : {x : List ℕ} {s : History} {layer : List ℕ} → Logged plen x s layer → Logged plen x s (endLayer s layer)
+  -- another memory is lent, longer or shorter, with the hashes that were written so far at its front
+  moved : {x : List ℕ} {s : History} {layer : List ℕ} (other : List ℕ) → Logged plen x s layer
+      → take (32 * passed (length x) plen) other ≡ take (32 * passed (length x) plen) layer → Logged plen x s other
 
 -- the state is that of the bytes, and the pieces that they have run past are written
 pub logged : (plen : ℕ) → isPieceLength plen ≡ true → {x : List ℕ} {s : History} {layer : List ℕ} → Logged plen x s layer
@@ -107,6 +131,9 @@ logged plen good (refused {x} {s} {layer} b g n) =
 logged plen good (asked {x} {s} {layer} g) =
     let r = logged plen good g in
     (r .0, r .1, subst (λ (h : History). Written plen x (endLayer h layer)) (sym (r .0)) (asked-written plen x layer good (r .1) (r .2)))
+logged plen good (moved {x} {s} {layer} other g e) =
+    let r = logged plen good g in
+    (r .0, r .1, written-moved plen x layer other e (r .2))
 
 -- at the end N, the root and the layer's size are those of the bytes, whatever was refused and asked before
 pub logged-end : (plen : ℕ) → isPieceLength plen ≡ true → {x : List ℕ} {s : History} {layer : List ℕ} → Logged plen x s layer → layerBytes (length x) plen ≤ length layer

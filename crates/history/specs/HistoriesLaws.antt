@@ -1,7 +1,7 @@
 -- One burst and the end, from the state of the bytes x: what the theorems about histories are made of.
 -- Assumes nothing.
 use mathlib.Core.Path.{_≡_, refl, ap, ap₂, sym, subst, _∙_}
-use mathlib.Core.Bool.{Bool, true, false, false≢true}
+use mathlib.Core.Bool.{Bool, true, false, _&&_, false≢true}
 use mathlib.Core.List.{List, [], _++_, append-assoc}
 use Prim.Native.Nat.{ℕ, zero, suc, _+_, _-_, _*_, _/_, _%_, _^_, _≤_, _<_}
 use native.Mathlib.Nat.{mul-assoc, mul-comm, add-mul, one-mul, zero-mul, le-div-iff-mul-le}
@@ -21,7 +21,7 @@ use Rattle.tree.specs.ValuesLaws.{file-octets, layer-octets}
 use Rattle.history.specs.Growing.{grownBy, notedBy, rootOf}
 use Rattle.history.specs.Answers.{emptyHistory, passed, noRoomFor, moreNumber, moreAnswer, moreLayer, layerBytes, endNumber, endAnswer, endLayer, Possible}
 use Rattle.history.specs.AnswersLaws.{says-possible}
-use Rattle.history.specs.DecidingLaws.{number-says, more-taken, layer-taken, bytes-some, bytes-none, end-done, end-room, end-taken, end-layer, last-put, last-none}
+use Rattle.history.specs.DecidingLaws.{number-done, number-says, more-taken, layer-taken, bytes-some, bytes-none, end-done, end-room, end-taken, end-layer, last-put, last-none}
 use Rattle.history.specs.HistoryOf.{lastOf, nodesOf, openBlock, historyOf, hashesOf, Written}
 use Rattle.history.specs.GrowingLaws.{node-stays, grown-by}
 use Rattle.history.specs.LastLaws.{history-length, history-pieces, last-node, root-of-history}
@@ -93,6 +93,24 @@ module _ (plen : ℕ) (x b layer : List ℕ) (taken : moreAnswer (historyOf plen
   taken-layer =
       sym (layer-taken (historyOf plen x) b layer (notedBy (historyOf plen x) layer b) (sym number-is) refl)
       ∙ noted-by plen taken-pieces x b (x ++ b) layer refl (λ m. room-said plen x b (length layer) (says .2) m)
+
+and-false : (a : Bool) → a && false ≡ false
+and-false true = refl
+and-false false = refl
+
+room-left : (plen : ℕ) (x : List ℕ) (k m n : ℕ) → isPieceLength plen ≡ true → length x + k ≤ n → 32 * passed n plen ≤ m → noRoomFor (historyOf plen x) k m ≡ false
+unfolding noRoomFor historyOf
+room-left plen x k m n good h room =
+    let g = passed-grows (length x + k) n plen (pieces-some plen good) h in
+    rw (le-ltb m (32 * passed (length x + k) plen) (omega arith)) (and-false (ltb (passed (length x) plen) (passed (length x + k) plen)))
+
+-- and so is one whose hashes fit, up to the longest file
+pub taken-with-room : (plen : ℕ) (x b layer : List ℕ) → isPieceLength plen ≡ true → length x + length b ≤ longestFile → (n : ℕ) → length x + length b ≤ n
+    → 32 * passed n plen ≤ length layer → moreAnswer (historyOf plen x) b layer .number ≡ 0
+unfolding moreAnswer
+taken-with-room plen x b layer good l n h room =
+    let e = history-length plen x in
+    sym (number-done (historyOf plen x) (length b) (length layer) (says-possible (historyOf plen x) (state-possible plen x good (omega arith))) (omega (arith, e)) (room-left plen x (length b) (length layer) n good h room))
 
 -- ---- written so far
 
@@ -280,6 +298,11 @@ asked-written plen x layer good short w = by-room (decLe (layerBytes (length x) 
         let e : layerBytes (historyOf plen x .length) (historyOf plen x .«piece_length») ≡ layerBytes (length x) plen = ap₂ layerBytes (history-length plen x) (history-pieces plen x) in
         let z = end-room (historyOf plen x) (length layer) (says-possible (historyOf plen x) (state-possible plen x good short)) (omega (arith, e)) in
         subst (Written plen x) (sym (end-refused-layer (historyOf plen x) layer (λ q. omega (arith, q, z)))) w
+
+-- a memory with the same hashes at its front has them written too
+pub written-moved : (plen : ℕ) (x layer other : List ℕ) → take (32 * passed (length x) plen) other ≡ take (32 * passed (length x) plen) layer → Written plen x layer → Written plen x other
+unfolding Written
+written-moved plen x layer other e w = e ∙ w
 
 -- ---- the empty file
 

@@ -10,3 +10,4 @@ pub mod AnswersLaws
 pub mod DecidingLaws
 pub mod HistoriesLaws
 pub mod Histories
+pub mod Behind

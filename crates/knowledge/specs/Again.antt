@@ -11,20 +11,21 @@ use lib.Dec.{eqb}
 use borrow.Author.Tests.{eq-eqb, ne-eqb}
 use Rattle.octets.specs.Octets.{same}
 use Rattle.octets.specs.OctetsLaws.{same-true, same-eq}
-use Rattle.numbers.specs.Numbers.{wrongSize, wrongPadding, noAnchor, judged}
+use Rattle.numbers.specs.Numbers.{wrongSize, wrongPadding, noAnchor, refused}
+use Rattle.numbers.specs.Chain.{exactly-of}
 use Rattle.tree.specs.Geometry.{nodeNumber}
 use Rattle.tree.specs.Values.{node}
 use Rattle.cells.specs.Cells.{heldAt, hashAt}
 use Rattle.cells.specs.Entries.{Entry, agreesAt, agrees, putAll}
 use Rattle.cells.specs.EntriesLaws.{Sound, In, sound-in, agrees-held, agrees-free, agrees-in, in-agrees, entries-held}
-use Rattle.store.specs.Store.{usable, factsRoot, blocksOf, heightOf, positions, inTree, heldAnswer, Facts}
+use Rattle.store.specs.Store.{usable, blocksOf, heightOf, positions, inTree, heldAnswer, Facts}
 use Rattle.store.specs.StoreLaws.{usable-facts, facts-usable, tree-number, held-unusable, held-outside, held-not, held-given}
 use Rattle.settling.specs.AncestorLaws.{ancestor-le}
 use Rattle.settling.specs.SubtreeLaws.{within-self}
 use Rattle.settling.specs.SettledLaws.{settled-consistent}
-use Rattle.header.specs.Header.{headerOf, isHashes, messageRoot, rulesKept, placeOf, messageSize}
+use Rattle.header.specs.Header.{headerOf, isHashes, isReject, placeOf, messageSize}
 use Rattle.header.specs.declared.Place.{Place}
-use Rattle.messages.specs.Take.{headerNumber, unclesOf, given, settled, anchor, worked, padded, anchored, bodyNumber, placeIn, orElse, takeNumber, takeAfter}
+use Rattle.messages.specs.Take.{headerNumber, unclesOf, given, settled, anchor, worked, padded, anchored, bodyNumber, placeIn, orElse, takeNumber, takeAfter, rejectAnswer}
 use Rattle.pieces.specs.Pieces.{layerNumber}
 use Rattle.pieces.specs.PiecesLaws.{layer-refused}
 use Rattle.messages.specs.Asks.{Passed, Placed, Ready}
@@ -33,6 +34,8 @@ use Rattle.messages.specs.TakenLaws.{ready-settled, taken-ready}
 use Rattle.words.specs.Held.{Holds}
 use Rattle.words.specs.History.{Steps}
 use Rattle.knowledge.specs.Through.{Preserved, through}
+use Rattle.numbers.specs.Tests.{not-both}
+use Rattle.knowledge.specs.NumberChains.{takeChain, take-tests}
 use Rattle.knowledge.specs.TakenWhen.{taken-well-formed}
 use Rattle.knowledge.specs.Grows.{Grown, grown-take, grown-on, steps-grow}
 
@@ -254,6 +257,15 @@ number-stays {t} s m h not6 = by (usable s) refl
         let e : takeAfter s m ≡ s = unfold takeAfter takeNumber headerNumber in rw u in
         ap (λ (x : List ℕ). takeNumber x m) (unusable-stays s u (rw e at h))
 
+-- so does what a reject got: it depends on the facts alone
+pub reject-stays : {t : List ℕ} (s m : List ℕ) → Steps s t → rejectAnswer t m ≡ rejectAnswer s m
+unfolding rejectAnswer
+reject-stays {t} s m h = by (usable s) refl
+  where
+    by : (b : Bool) → usable s ≡ b → refused (headerNumber (isReject m) t m) ≡ refused (headerNumber (isReject m) s m)
+    by true u = let f = usable-facts s u in ap refused (same-header s t m f (steps-grow f h) (isReject m))
+    by false u = ap (λ (x : List ℕ). refused (headerNumber (isReject m) x m)) (unusable-stays s u h)
+
 -- 6 as long as the anchor is not held
 pub no-anchor-stays : {t : List ℕ} (s m : List ℕ) → usable s ≡ true → Steps s t → takeNumber s m ≡ noAnchor → heldAt t (anchor (placeIn t m)) ≡ false
     → takeNumber t m ≡ noAnchor
@@ -269,38 +281,6 @@ no-anchor-stays {t} s m u h six free =
     cases n true false x e = e
     cases n true true x e = elim (ℕ-discrete n 0) [ yes z ↦ rw (eq-eqb n 0 z) | no ne ↦ rw (ne-eqb n 0 ne) (rw (ne-eqb n 0 ne) at e) ]
 
-judged-not-6 : (y z : Bool) → judged true y z ≡ noAnchor → ⊥
-judged-not-6 false z e = omega arith
-judged-not-6 true false e = omega arith
-judged-not-6 true true e = omega arith
-
-header-not-6 : (u form r k : Bool) → cond u (cond form (cond r (cond k 0 3) 2) 1) 9 ≡ noAnchor → ⊥
-header-not-6 true true true true e = omega arith
-header-not-6 true true true false e = omega arith
-header-not-6 true true false k e = omega arith
-header-not-6 true false r k e = omega arith
-header-not-6 false form r k e = omega arith
-
--- 9, 1, 2 and 3 are not 6
-pub header-number-not-6 : (form : Bool) (s m : List ℕ) → headerNumber form s m ≡ noAnchor → ⊥
-unfolding headerNumber
-header-number-not-6 form s m e =
-    header-not-6 (usable s) form (same (factsRoot s) (messageRoot m)) (rulesKept (headerOf m) (blocksOf s) (heightOf s)) e
-
-body-not-6 : (a b : Bool) (x : ℕ) → (x ≡ noAnchor → ⊥) → cond a (cond b x wrongPadding) wrongSize ≡ noAnchor → ⊥
-body-not-6 false b x k e = omega arith
-body-not-6 true false x k e = omega arith
-body-not-6 true true x k e = k e
-
 -- and never again as soon as it is
 pub anchor-held-not-6 : (t m : List ℕ) → heldAt t (anchor (placeIn t m)) ≡ true → takeNumber t m ≡ noAnchor → ⊥
-unfolding takeNumber bodyNumber anchored
-anchor-held-not-6 t m h e =
-    let x = judged (heldAt t (anchor (placeIn t m))) (same (hashAt t (anchor (placeIn t m))) (worked m (placeIn t m))) (agrees t (settled m (placeIn t m))) in
-    elim (ℕ-discrete (headerNumber (isHashes m) t m) 0) [
-      | yes z ↦
-          body-not-6 (eqb (length m) (messageSize (headerOf m))) (padded m (headerOf m) (placeIn t m) (blocksOf t)) x
-          (λ q. judged-not-6 (same (hashAt t (anchor (placeIn t m))) (worked m (placeIn t m))) (agrees t (settled m (placeIn t m))) (rw h at q))
-          (rw (eq-eqb (headerNumber (isHashes m) t m) 0 z) at e)
-      | no ne ↦ header-number-not-6 (isHashes m) t m (rw (ne-eqb (headerNumber (isHashes m) t m) 0 ne) at e)
-    ]
+anchor-held-not-6 t m h e = not-both h (exactly-of (takeChain t m) noAnchor (take-tests t m) refl .0 e .1 .1 .1 .1 .1 .1)

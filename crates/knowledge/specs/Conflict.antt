@@ -1,7 +1,7 @@
 -- Demand 3: in a store that only this build has written, 8 shows two different 64-byte strings with one SHA-256.
 -- Assumes nothing.
 use mathlib.Core.Path.{_≡_, refl, ap, ap₂, sym, _∙_}
-use mathlib.Core.Bool.{Bool, true, false, cond, _&&_, false≢true}
+use mathlib.Core.Bool.{Bool, true, false, _&&_, false≢true}
 use mathlib.Core.List.{List, [], _∷_, _++_}
 use mathlib.Core.Logic.{_⊎_, inl, inr}
 use Prim.Native.Nat.{ℕ, zero, suc, _+_, _-_, _*_, _/_, _%_, _^_, _≤_, _<_}
@@ -9,36 +9,36 @@ use native.Mathlib.Omega.{arith}
 use native.Mathlib.Decide.{ℕ-discrete}
 use lib.ListN.{length, take, drop}
 use lib.Seq.{take-at, drop-at}
-use lib.Dec.{eqb, ltb}
-use borrow.Author.Tests.{eq-eqb, ne-eqb, eqb-true, ltb-true}
+use borrow.Author.Tests.{eqb-true, ltb-true}
 use Rattle.octets.specs.Octets.{Octets, cut, same, zeroHash}
 use Rattle.octets.specs.OctetsLaws.{same-true, same-eq, same-false, append-octets, cut-octets, zero-octets}
+use Rattle.numbers.specs.Numbers.{conflict}
+use Rattle.numbers.specs.Chain.{exactly-of}
 use Rattle.sha256.specs.Sha256.{sha256, pairHash}
 use Rattle.sha256.specs.Sha256Laws.{pair-octets}
-use Rattle.numbers.specs.Numbers.{noMessage, otherRoot, ruleBroken, wrongSize, wrongPadding, conflict, unusable}
-use Rattle.tree.specs.Geometry.{blockCount, height, nodeNumber, hasLayer, pieceCount, pieceSize}
+use Rattle.tree.specs.Geometry.{blockCount, height, nodeNumber, pieceCount}
 use Rattle.tree.specs.Values.{node, padValue, leafOf, layerLeaf}
 use Rattle.tree.specs.ValuesLaws.{node-octets, leaf-octets, pad-octets}
 use Rattle.cells.specs.Cells.{heldAt, hashAt}
 use Rattle.cells.specs.Entries.{Entry, agreesAt, agrees}
 use Rattle.cells.specs.EntriesLaws.{Hold, In, here, there, Has, sound-in, in-cases, no-entry, agrees-held, agrees-free}
-use Rattle.store.specs.Store.{usable, fileLength, pieceLength, factsRoot, blocksOf, heightOf, positions, Facts}
+use Rattle.store.specs.Store.{fileLength, pieceLength, heightOf, positions, Facts}
 use Rattle.store.specs.StoreLaws.{usable-facts, positions-even}
 use Rattle.settling.specs.Subtree.{subtree, runLeaf}
 use Rattle.settling.specs.SubtreeLaws.{FamilyIn, run-leaf-octets, subtree-value, subtree-top}
 use Rattle.settling.specs.Path.{parentValue, uncle, path}
 use Rattle.settling.specs.PathLaws.{parent-even, parent-odd, path-cases}
 use Rattle.settling.specs.SettledLaws.{settled-anchor}
-use Rattle.header.specs.Header.{headerSize, headerOf, isHashes, messageRoot, rulesKept, messageSize}
-use Rattle.messages.specs.Take.{headerNumber, runOf, unclesOf, given, settled, anchor, worked, padded, anchored, bodyNumber, placeIn, orElse, takeNumber}
+use Rattle.header.specs.Header.{headerSize, headerOf, isHashes, messageSize}
+use Rattle.messages.specs.Take.{headerNumber, runOf, unclesOf, given, settled, anchor, worked, placeIn, takeNumber}
 use Rattle.messages.specs.Asks.{Ready}
-use Rattle.messages.specs.TakeLaws.{passed, placed, placed-ready}
+use Rattle.messages.specs.TakeLaws.{passed, passes, placed, placed-ready}
 use Rattle.pieces.specs.Pieces.{judgedAt, layerOfPieces, layerSettled, layerNumber, pieceHeight, pieceNumber}
 use Rattle.pieces.specs.PiecesLaws.{layered, run-leaves}
 use Rattle.words.specs.History.{Bytes}
 use Rattle.words.specs.Shown.{Source, heldBy, byMessage, byLayer, byPiece, ofFile}
 use Rattle.knowledge.specs.Invariant.{Chained, Ours, family-pair, Whole, message-whole, layer-whole, piece-whole}
-use Rattle.knowledge.specs.Tests.{judged-8}
+use Rattle.knowledge.specs.NumberChains.{takeChain, take-tests, layerChain, layer-tests, pieceChain, piece-tests}
 
 -- ---- what is shown
 
@@ -237,20 +237,6 @@ layer-gives-octets s layer b e i =
 
 -- ---- what 8 says
 
-let-eight : (t : Bool) (a n : ℕ) → (n ≡ conflict → ⊥) → cond t a n ≡ conflict → (t ≡ true) × (a ≡ conflict)
-let-eight true a n f e = (refl, e)
-let-eight false a n f e = absurd (f e)
-
-header-not-8 : (u form r k : Bool) → cond u (cond form (cond r (cond k 0 ruleBroken) otherRoot) noMessage) unusable ≡ conflict → ⊥
-header-not-8 true true true true e = omega arith
-header-not-8 true true true false e = omega arith
-header-not-8 true true false k e = omega arith
-header-not-8 true false r k e = omega arith
-header-not-8 false form r k e = omega arith
-
-after-header : (n a : ℕ) → (n ≡ conflict → ⊥) → orElse n a ≡ conflict → (n ≡ 0) × (a ≡ conflict)
-after-header n a f e = elim (ℕ-discrete n 0) [ yes z ↦ (z, rw (eq-eqb n 0 z) at e) | no ne ↦ absurd (f (rw (ne-eqb n 0 ne) at e)) ]
-
 -- a message answered 8
 pub record Conflicts (s m : List ℕ) : Type 0 where
   pub header : headerNumber (isHashes m) s m ≡ 0
@@ -261,20 +247,16 @@ pub record Conflicts (s m : List ℕ) : Type 0 where
 
 -- so is every message that gets 8
 pub take-conflicts : (s m : List ℕ) → takeNumber s m ≡ conflict → Conflicts s m
-unfolding takeNumber bodyNumber anchored headerNumber
 take-conflicts s m e =
-    let p = placeIn s m in
-    let h = after-header (headerNumber (isHashes m) s m) (bodyNumber s m (headerOf m) (placeIn s m))
-    (header-not-8 (usable s) (isHashes m) (same (factsRoot s) (messageRoot m)) (rulesKept (headerOf m) (blocksOf s) (heightOf s))) e in
-    let a = let-eight (eqb (length m) (messageSize (headerOf m))) _ wrongSize (λ z. omega arith) (h .1) in
-    let b = let-eight (padded m (headerOf m) (placeIn s m) (blocksOf s)) _ wrongPadding (λ z. omega arith) (a .1) in
-    let j = judged-8 (heldAt s (anchor p)) (same (hashAt s (anchor p)) (worked m p)) (agrees s (settled m p)) (b .1) in
+    let t = exactly-of (takeChain s m) conflict (take-tests s m) refl .0 e in
+    let body = t .1 .1 .1 .1 in
+    let judged = body .1 .1 in
     record {
-      header = h .0;
-      size = eqb-true (length m) (messageSize (headerOf m)) (a .0);
-      held = j .0;
-      chains = same-true (hashAt s (anchor p)) (worked m p) (j .1);
-      differs = j .2;
+      header = passes (isHashes m) s m (record { store = t .0; formed = t .1 .0; root = t .1 .1 .0; rules = t .1 .1 .1 .0 });
+      size = eqb-true (length m) (messageSize (headerOf m)) (body .0);
+      held = judged .0;
+      chains = same-true (hashAt s (anchor (placeIn s m))) (worked m (placeIn s m)) (judged .1 .0);
+      differs = judged .1 .1;
     }
 
 -- a message that passes 9, 1, 2, 3 and 4 lies in the store's tree
@@ -318,14 +300,12 @@ unfolding layerNumber judgedAt GivesAt layerSettled
 layer-conflict-shows s layer o bs bl e =
     let leaf = layerLeaf layer (layerOfPieces s) in
     let k = heightOf s - layerOfPieces s in
-    let a = let-eight (usable s) _ unusable (λ z. omega arith) e in
-    let b = let-eight (hasLayer (fileLength s) (pieceLength s)) _ ruleBroken (λ z. omega arith) (a .1) in
-    let c = let-eight (eqb (length layer) (32 * pieceCount (fileLength s) (pieceLength s))) _ wrongSize (λ z. omega arith) (b .1) in
-    let j = judged-8 (heldAt s 1) (same (hashAt s 1) (node leaf k 0)) (agrees s (subtree leaf k 1 0)) (c .1) in
-    not-both (agrees s (subtree leaf k 1 0)) (j .2)
+    let t = exactly-of (layerChain s layer) conflict (layer-tests s layer) refl .0 e in
+    let j = t .1 .1 .1 in
+    not-both (agrees s (subtree leaf k 1 0)) (j .1 .1)
     (agrees-or-shown s (byLayer s layer) (subtree leaf k 1 0) 1 (node leaf k 0) (o .chained) bs
-    (layer-whole s layer (layered s (usable-facts s (a .0)) (b .0))) (λ n u x. x) (layer-gives-octets s layer bl)
-    (subtree-top leaf k 1 0) (j .0) (same-true (hashAt s 1) (node leaf k 0) (j .1)))
+    (layer-whole s layer (layered s (usable-facts s (t .0)) (t .1 .0))) (λ n u x. x) (layer-gives-octets s layer bl)
+    (subtree-top leaf k 1 0) (j .0) (same-true (hashAt s 1) (node leaf k 0) (j .1 .0)))
 
 -- a piece
 pub piece-conflict-shows : (s : List ℕ) (i : ℕ) (piece : List ℕ) → Ours s → Bytes s → pieceNumber s i piece ≡ conflict
@@ -335,12 +315,10 @@ piece-conflict-shows s i piece o bs e =
     let leaf = leafOf piece in
     let k = pieceHeight s in
     let n = nodeNumber (heightOf s) (pieceHeight s) i in
-    let a = let-eight (usable s) _ unusable (λ z. omega arith) e in
-    let b = let-eight (ltb i (pieceCount (fileLength s) (pieceLength s))) _ ruleBroken (λ z. omega arith) (a .1) in
-    let c = let-eight (eqb (length piece) (pieceSize (fileLength s) (pieceLength s) i)) _ wrongSize (λ z. omega arith) (b .1) in
-    let j = judged-8 (heldAt s n) (same (hashAt s n) (node leaf k 0)) (agrees s (subtree leaf k n 0)) (c .1) in
-    not-both (agrees s (subtree leaf k n 0)) (j .2)
+    let t = exactly-of (pieceChain s i piece) conflict (piece-tests s i piece) refl .0 e in
+    let j = t .1 .1 .1 in
+    not-both (agrees s (subtree leaf k n 0)) (j .1 .1)
     (agrees-or-shown s (byPiece s i piece) (subtree leaf k n 0) n (node leaf k 0) (o .chained) bs
-    (piece-whole s i piece (Rattle.pieces.specs.PiecesLaws.piece-in s (usable-facts s (a .0)) i (ltb-true i (pieceCount (fileLength s) (pieceLength s)) (b .0)))) (λ m u x. x)
+    (piece-whole s i piece (Rattle.pieces.specs.PiecesLaws.piece-in s (usable-facts s (t .0)) i (ltb-true i (pieceCount (fileLength s) (pieceLength s)) (t .1 .0)))) (λ m u x. x)
     (subtree-octets leaf (leaf-octets piece) k n 0)
-    (subtree-top leaf k n 0) (j .0) (same-true (hashAt s n) (node leaf k 0) (j .1)))
+    (subtree-top leaf k n 0) (j .0) (same-true (hashAt s n) (node leaf k 0) (j .1 .0)))

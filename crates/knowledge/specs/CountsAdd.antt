@@ -16,7 +16,7 @@ use Rattle.store.specs.Store.{heightOf, positions, Facts}
 use Rattle.store.specs.StoreLaws.{positions-some, heldCount, used-held}
 use Rattle.marks.specs.Marks.{marksPut}
 use Rattle.messages.specs.Take.{takeAfter, takeAnswer}
-use Rattle.words.specs.History.{Call, take, takeReject, serve, held, loadLayer, judgeBlock, judgePiece, clear, isMarked, bitfield, reopen, after, Opening, Steps, Each, nothing, called, between}
+use Rattle.words.specs.History.{Call, take, loadLayer, judgeBlock, judgePiece, clear, reopen, look, after, Opening, Steps, Each, nothing, called, between}
 use Rattle.words.specs.Hearing.{MessageSet, Heard, NothingNew, countOf, counted}
 use Rattle.knowledge.specs.Through.{PreservedBy, by-call}
 use Rattle.knowledge.specs.Grows.{Grown, grown-same, grown-on, grown-take, grown-marks, grown-moved, steps-grow}
@@ -166,16 +166,12 @@ module _ (s : List ℕ) (f : Facts s) where
   -- each call adds its count
   call-counts : (M : MessageSet) (c : Call) → Heard M c → countOf c s + holds s s ≡ holds s (after c s)
   call-counts M (take m b) y = take-counts m
-  call-counts M (takeReject m b) y = as-many (takeReject m b) (λ o. o) tt
-  call-counts M (serve m out b c) y = as-many (serve m out b c) (λ o. o) tt
-  call-counts M (held l i) y = as-many (held l i) (λ o. o) tt
   call-counts M (loadLayer l b) y = absurd y
   call-counts M (judgeBlock i d b) y = as-many (judgeBlock i d b) (λ o. o) tt
   call-counts M (judgePiece i d b) y = as-many (judgePiece i d b) (λ o. o) tt
   call-counts M (clear i) y = as-many (clear i) (λ o. o) tt
-  call-counts M (isMarked i) y = as-many (isMarked i) (λ o. o) tt
-  call-counts M (bitfield out b) y = as-many (bitfield out b) (λ o. o) tt
   call-counts M (reopen n plen root o) y = absurd y
+  call-counts M (look k) y = as-many (look k) (λ o. o) tt
 
 -- the counts of a history add up to the positions by which the store has more
 counts-add : {M : MessageSet} {s t : List ℕ} {h : Steps s t} → Facts s → Each (Heard M) t h → counted h + holds s s ≡ holds s t

@@ -17,7 +17,7 @@ use Rattle.words.specs.Held.{Holds, Hashes, NoneDiffers, OneDiffers}
 use Rattle.knowledge.specs.Again.{what-is-held}
 use Rattle.knowledge.specs.ReadBack.{holds-at}
 use Rattle.knowledge.specs.Over.{Entered, Found}
-use Rattle.knowledge.specs.Tests.{either, not-both}
+use Rattle.numbers.specs.Tests.{either, not-both}
 
 -- ---- the test
 

@@ -2,19 +2,19 @@
 -- answers; positions are layers and indices.
 -- Assumes nothing.
 use mathlib.Core.Path.{_≡_, refl, ap, sym, _∙_}
-use mathlib.Core.Bool.{Bool, true, false, cond}
+use mathlib.Core.Bool.{true, false}
 use mathlib.Core.List.{List}
 use mathlib.Core.Logic.{_⊎_, inl, inr, _↔_}
 use Prim.Native.Nat.{ℕ, _+_, _*_, _^_}
-use native.Mathlib.Omega.{arith}
 use native.Mathlib.Decide.{decLe}
 use Rattle.octets.specs.Octets.{same}
 use Rattle.octets.specs.OctetsLaws.{same-true, same-false}
-use Rattle.numbers.specs.Numbers.{wrongPadding, noAnchor, differs, conflict, judged}
+use Rattle.numbers.specs.Numbers.{wrongPadding, noAnchor, differs, conflict}
+use Rattle.numbers.specs.Chain.{decided, exactly-of}
 use Rattle.tree.specs.Geometry.{Padding, nodeNumber}
 use Rattle.tree.specs.Values.{padValue}
 use Rattle.cells.specs.Cells.{heldAt, hashAt}
-use Rattle.cells.specs.Entries.{Entry, agrees}
+use Rattle.cells.specs.Entries.{Entry}
 use Rattle.cells.specs.EntriesLaws.{In}
 use Rattle.store.specs.Store.{blocksOf, heightOf, Facts}
 use Rattle.store.specs.StoreLaws.{usable-facts, tree-says}
@@ -24,6 +24,7 @@ use Rattle.messages.specs.Take.{given, unclesOf, settled, anchor, worked, padde
 use Rattle.messages.specs.Asks.{Passed}
 use Rattle.messages.specs.TakeLaws.{passed}
 use Rattle.words.specs.Messages.{anchorLayer, anchorIndex, Settles, ChainsTo, PaddingRight, PaddingWrong, AnchorIs, AnchorLacks, Acceptable, Unanchored, Elsewhere, Conflicting}
+use Rattle.knowledge.specs.NumberChains.{bodyChain}
 use Rattle.knowledge.specs.TakenWhen.{Formed, well-formed-number, right-then-taken, taken-then-right, wrong-padding-then-5, no-anchor-then-6, other-anchor-then-7, held-differs-then-8}
 use Rattle.knowledge.specs.Chains.{worked-chains, chain-is-worked}
 use Rattle.knowledge.specs.Again.{what-is-held}
@@ -32,7 +33,7 @@ use Rattle.knowledge.specs.RightPadding.{Pads, at-place, settled-pads}
 use Rattle.knowledge.specs.Replies.{padded-when}
 use Rattle.knowledge.specs.AnchorHeld.{anchor-number, anchor-in-tree}
 use Rattle.knowledge.specs.Differing.{each-or, none-differs, one-differs, differs-one, differs-none}
-use Rattle.knowledge.specs.Tests.{either, not-both}
+use Rattle.numbers.specs.Tests.{either, not-both}
 use Rattle.knowledge.specs.ChainsTo.{chains-exactly}
 use Rattle.knowledge.specs.Positions.{SettlesNumber, settles-entered, entry-settled, run-entry, uncle-entry}
 
@@ -126,48 +127,8 @@ module _ (s m : List ℕ) (W : Formed s m) where
 
 -- ---- the numbers
 
-five : (p h a g : Bool) → cond p (judged h a g) wrongPadding ≡ wrongPadding → p ≡ false
-five false h a g e = refl
-five true false a g e = let w : ⊥ = omega arith in absurd w
-five true true false g e = let w : ⊥ = omega arith in absurd w
-five true true true false e = let w : ⊥ = omega arith in absurd w
-five true true true true e = let w : ⊥ = omega arith in absurd w
-
-six : (p h a g : Bool) → cond p (judged h a g) wrongPadding ≡ noAnchor → (p ≡ true) × (h ≡ false)
-six false h a g e = let w : ⊥ = omega arith in absurd w
-six true false a g e = (refl, refl)
-six true true false g e = let w : ⊥ = omega arith in absurd w
-six true true true false e = let w : ⊥ = omega arith in absurd w
-six true true true true e = let w : ⊥ = omega arith in absurd w
-
-seven : (p h a g : Bool) → cond p (judged h a g) wrongPadding ≡ differs → (p ≡ true) × (h ≡ true) × (a ≡ false)
-seven false h a g e = let w : ⊥ = omega arith in absurd w
-seven true false a g e = let w : ⊥ = omega arith in absurd w
-seven true true false g e = (refl, refl, refl)
-seven true true true false e = let w : ⊥ = omega arith in absurd w
-seven true true true true e = let w : ⊥ = omega arith in absurd w
-
-eight : (p h a g : Bool) → cond p (judged h a g) wrongPadding ≡ conflict → (p ≡ true) × (h ≡ true) × (a ≡ true) × (g ≡ false)
-eight false h a g e = let w : ⊥ = omega arith in absurd w
-eight true false a g e = let w : ⊥ = omega arith in absurd w
-eight true true false g e = let w : ⊥ = omega arith in absurd w
-eight true true true false e = (refl, refl, refl, refl)
-eight true true true true e = let w : ⊥ = omega arith in absurd w
-
--- the four tests of a well-formed message, and its number by them
-abbrev paddedIn : List ℕ → List ℕ → Bool
-paddedIn s m = padded m (headerOf m) (placeIn s m) (blocksOf s)
-
-abbrev anchorIn : List ℕ → List ℕ → Bool
-anchorIn s m = heldAt s (anchor (placeIn s m))
-
-abbrev chainsIn : List ℕ → List ℕ → Bool
-chainsIn s m = same (hashAt s (anchor (placeIn s m))) (worked m (placeIn s m))
-
-abbrev agreesIn : List ℕ → List ℕ → Bool
-agreesIn s m = agrees s (settled m (placeIn s m))
-
-tests : (s m : List ℕ) → Formed s m → takeNumber s m ≡ cond (paddedIn s m) (judged (anchorIn s m) (chainsIn s m) (agreesIn s m)) wrongPadding
+-- of the tests of a well-formed message
+tests : (s m : List ℕ) → Formed s m → takeNumber s m ≡ decided (bodyChain s m)
 unfolding anchored
 tests s m W = well-formed-number s m W
 
@@ -198,7 +159,7 @@ module _ (s m : List ℕ) (W : Formed s m) where
   -- 5 EXACTLY WHEN a padding position has another value
   pub five-exactly-when : (takeNumber s m ≡ wrongPadding) ↔ PaddingWrong s m
   five-exactly-when = (
-    λ z. padding-wrong s m W (five (paddedIn s m) (anchorIn s m) (chainsIn s m) (agreesIn s m) (sym (tests s m W) ∙ z)),
+    λ z. padding-wrong s m W (exactly-of (bodyChain s m) wrongPadding (tests s m W) refl .0 z),
     λ w. wrong-padding-then-5 s m W (wrong-padding s m W w),
   )
 
@@ -206,7 +167,7 @@ module _ (s m : List ℕ) (W : Formed s m) where
   pub six-exactly-when : (takeNumber s m ≡ noAnchor) ↔ Unanchored s m
   six-exactly-when = (
     λ z.
-        (let t = six (paddedIn s m) (anchorIn s m) (chainsIn s m) (agreesIn s m) (sym (tests s m W) ∙ z) in
+        (let t = exactly-of (bodyChain s m) noAnchor (tests s m W) refl .0 z in
         record { padding = padding-right s m W (t .0); lacks = anchor-lacks s m W (t .1) }),
     λ u. no-anchor-then-6 s m W (right-padding s m W (u .padding)) (lacks-anchor s m W (u .lacks)),
   )
@@ -215,14 +176,14 @@ module _ (s m : List ℕ) (W : Formed s m) where
   pub seven-exactly-when : (takeNumber s m ≡ differs) ↔ Elsewhere s m
   seven-exactly-when = (
     λ z.
-        (let t = seven (paddedIn s m) (anchorIn s m) (chainsIn s m) (agreesIn s m) (sym (tests s m W) ∙ z) in
+        (let t = exactly-of (bodyChain s m) differs (tests s m W) refl .0 z in
         record {
           padding = padding-right s m W (t .0);
           w = hashAt s (anchor (placeIn s m));
-          held = anchor-holds s m W (t .1);
+          held = anchor-holds s m W (t .1 .0);
           other =
               λ c.
-              same-false (hashAt s (anchor (placeIn s m))) (worked m (placeIn s m)) (t .2) (to-worked s m W (hashAt s (anchor (placeIn s m))) c);
+              same-false (hashAt s (anchor (placeIn s m))) (worked m (placeIn s m)) (t .1 .1) (to-worked s m W (hashAt s (anchor (placeIn s m))) c);
         }),
     λ d.
         (let k = holds-anchor s m W (d .w) (d .held) in
@@ -236,14 +197,14 @@ module _ (s m : List ℕ) (W : Formed s m) where
   pub eight-exactly-when : (takeNumber s m ≡ conflict) ↔ Conflicting s m
   eight-exactly-when = (
     λ z.
-        (let t = eight (paddedIn s m) (anchorIn s m) (chainsIn s m) (agreesIn s m) (sym (tests s m W) ∙ z) in
-        let c : hashAt s (anchor (placeIn s m)) ≡ worked m (placeIn s m) = same-true (hashAt s (anchor (placeIn s m))) (worked m (placeIn s m)) (t .2) in
+        (let t = exactly-of (bodyChain s m) conflict (tests s m W) refl .0 z in
+        let c : hashAt s (anchor (placeIn s m)) ≡ worked m (placeIn s m) = same-true (hashAt s (anchor (placeIn s m))) (worked m (placeIn s m)) (t .1 .1 .0) in
         record {
           padding = padding-right s m W (t .0);
           w = hashAt s (anchor (placeIn s m));
-          held = anchor-holds s m W (t .1);
+          held = anchor-holds s m W (t .1 .0);
           chains = worked-to s m W (hashAt s (anchor (placeIn s m))) c;
-          one = one-differs s (facts s m W) (Settles m) (settled m (placeIn s m)) (settles-entered s m W) (entry-settled s m W) (t .3);
+          one = one-differs s (facts s m W) (Settles m) (settled m (placeIn s m)) (settles-entered s m W) (entry-settled s m W) (t .1 .1 .1);
         }),
     λ d.
         (let k = holds-anchor s m W (d .w) (d .held) in

@@ -4,8 +4,7 @@
 use mathlib.Core.Path.{_≡_, refl, ap, sym, _∙_}
 use mathlib.Core.Bool.{Bool, true, false}
 use mathlib.Core.List.{List}
-use mathlib.Core.Logic.{inl, inr}
-use Prim.Native.Nat.{ℕ, _+_, _*_, _≤_, _<_}
+use Prim.Native.Nat.{ℕ, _+_, _^_, _≤_, _<_}
 use native.Mathlib.Omega.{arith}
 use native.Mathlib.Decide.{ℕ-discrete}
 use lib.ListN.{length, getD}
@@ -14,17 +13,18 @@ use Rattle.sha256.specs.declared.Hashed.{Hashed}
 use Rattle.tree.specs.Geometry.{nodeNumber}
 use Rattle.cells.specs.Cells.{heldAt, hashAt}
 use Rattle.store.specs.Store.{usable, fileLength, heightOf, storeSize, inTree, heldAnswer, Facts}
-use Rattle.store.specs.StoreLaws.{usable-facts, facts-usable, tree-number, held-outside, held-not, held-given}
+use Rattle.store.specs.StoreLaws.{usable-facts, facts-usable, facts-leaves, tree-number, held-outside, held-not, held-given}
 use Rattle.messages.specs.Take.{takeAfter}
-use Rattle.serve.specs.Serve.{serveAfter}
-use Rattle.marks.specs.Marks.{marked, marksStart, firstBlock, blocksIn}
-use Rattle.marks.specs.MarksLaws.{mark-in, marks-before, marks-end, same-start}
+use Rattle.marks.specs.Marks.{marked, cleared, marksStart, marksPut, firstBlock, blocksIn, blockThere}
+use Rattle.marks.specs.MarksLaws.{mark-in, marks-before, marks-length, marks-end, same-start}
 use Rattle.pieces.specs.Pieces.{layerAfter, blockNumber, blockAnswer, blockAfter, pieceNumber, pieceAnswer, pieceAfter}
 use Rattle.pieces.specs.PiecesLaws.{block-right, piece-right}
 use Rattle.pieces.specs.MarkedLaws.{block-fits, block-marks, block-stays, piece-fits, piece-marks, piece-stays}
-use Rattle.words.specs.History.{Call, take, takeReject, serve, held, loadLayer, judgeBlock, judgePiece, clear, isMarked, bitfield, reopen, answer, after, Opening, call, begin, next}
-use Rattle.words.specs.Marks.{SameButMarks, AboutHashes}
+use Rattle.words.specs.History.{Ask, held, takeReject, isMarked, Send, serve, bitfield, Look, ask, send, Call, take, loadLayer, judgeBlock, judgePiece, clear, reopen, look, withCount, withHash, asked, sendReply, looked, answer, after, sentTo, Opening, Teaches, call, begin, next}
+use Rattle.words.specs.Marks.{SameButMarks, AsksHashes, SendsHashes, LooksAtHashes, AboutHashes}
 use Rattle.knowledge.specs.Grows.{Grown, steps-grow}
+use Rattle.knowledge.specs.Through.{clear-writes, clear-stays}
+use Rattle.knowledge.specs.MarkedWhen.{there-0}
 use Rattle.knowledge.specs.Alike.{Alike, alike-cells, same-front}
 use Rattle.knowledge.specs.Beyond.{take-answer-beyond, reject-beyond, serve-beyond, layer-answer-beyond, block-beyond, piece-beyond, take-leaves-alike, layer-leaves-alike}
 
@@ -88,24 +88,35 @@ module _ (s t : List ℕ) (S : SameButMarks s t) where
       by-place false x = sym (held-outside t l i ut (there ∙ x)) ∙ held-outside s l i us x
       by-place true x = by-held x (heldAt s (nodeNumber (heightOf s) l i)) refl
 
+  -- what a call that only looks at hashes answers,
+  asked-same : (k : Ask) → AsksHashes k → asked k t ≡ asked k s
+  asked-same (held l i) x = ap (λ (h : Hashed). withHash h) (held-alike l i)
+  asked-same (takeReject m b) x = ap (λ (a : Answer). withCount a) (reject-beyond s t f e m)
+  asked-same (isMarked i) x = absurd x
+
+  -- and sends
+  send-same : (k : Send) → SendsHashes k → (out : List ℕ) → (sendReply k t out ≡ sendReply k s out) × (sentTo k t out ≡ sentTo k s out)
+  send-same (serve m b) x out = let w = serve-beyond s t f e m out in (ap (λ (a : Answer). withCount a) (w .0), w .1)
+  send-same bitfield x out = absurd x
+
+  looked-same : (k : Look) → LooksAtHashes k → looked k t ≡ looked k s
+  looked-same (ask k) x = asked-same k x
+  looked-same (send k out b) x = send-same k x out .0
+
   -- the same numbers, counts and hashes,
   pub answers-same : (c : Call) → AboutHashes c → answer c t ≡ answer c s
   unfolding blockAnswer pieceAnswer
-  answers-same (take m b) x = ap (λ (a : Answer). inl a) (take-answer-beyond s t f e m)
-  answers-same (takeReject m b) x = ap (λ (a : Answer). inl a) (reject-beyond s t f e m)
-  answers-same (serve m out b c) x = ap (λ (a : Answer). inl a) (serve-beyond s t f e m out .0)
-  answers-same (held l i) x = ap (λ (h : Hashed). inr h) (held-alike l i)
-  answers-same (loadLayer l b) x = ap (λ (a : Answer). inl a) (layer-answer-beyond s t f e l)
-  answers-same (judgeBlock i d b) x = ap (λ (n : ℕ). inl (record { number = n; count = 0 })) (block-beyond s t f e i d)
-  answers-same (judgePiece i d b) x = ap (λ (n : ℕ). inl (record { number = n; count = 0 })) (piece-beyond s t f e i d)
+  answers-same (take m b) x = ap (λ (a : Answer). withCount a) (take-answer-beyond s t f e m)
+  answers-same (loadLayer l b) x = ap (λ (a : Answer). withCount a) (layer-answer-beyond s t f e l)
+  answers-same (judgeBlock i d b) x = ap (λ (n : ℕ). withCount (record { number = n; count = 0 })) (block-beyond s t f e i d)
+  answers-same (judgePiece i d b) x = ap (λ (n : ℕ). withCount (record { number = n; count = 0 })) (piece-beyond s t f e i d)
   answers-same (clear i) x = absurd x
-  answers-same (isMarked i) x = absurd x
-  answers-same (bitfield out b) x = absurd x
   answers-same (reopen n plen root o) x = absurd x
+  answers-same (look k) x = looked-same k x
 
   -- the same bytes sent,
-  pub sends-same : (m out : List ℕ) → serveAfter t m out ≡ serveAfter s m out
-  sends-same m out = serve-beyond s t f e m out .1
+  pub sends-same : (k : Send) → SendsHashes k → (out : List ℕ) → sentTo k t out ≡ sentTo k s out
+  sends-same k x out = send-same k x out .1
 
   taken-before : (m : List ℕ) (j : ℕ) → j < marksStart s → getD (takeAfter t m) j 0 ≡ getD (takeAfter s m) j 0
   unfolding marksStart
@@ -118,29 +129,21 @@ module _ (s t : List ℕ) (S : SameButMarks s t) where
   -- and the same facts and cells left
   pub cells-left : (c : Call) → AboutHashes c → (j : ℕ) → j < marksStart s → getD (after c t) j 0 ≡ getD (after c s) j 0
   cells-left (take m b) x j l = taken-before m j l
-  cells-left (takeReject m b) x j l = cell-byte j l
-  cells-left (serve m out b c) x j l = cell-byte j l
-  cells-left (held q i) x j l = cell-byte j l
   cells-left (loadLayer d b) x j l = loaded-before d j l
   cells-left (judgeBlock i d b) x j l = block-before t i d j (omega (arith, starts)) ∙ cell-byte j l ∙ sym (block-before s i d j l)
   cells-left (judgePiece i d b) x j l = piece-before t i d j (omega (arith, starts)) ∙ cell-byte j l ∙ sym (piece-before s i d j l)
   cells-left (clear i) x j l = absurd x
-  cells-left (isMarked i) x j l = absurd x
-  cells-left (bitfield out b) x j l = absurd x
   cells-left (reopen n plen root o) x j l = absurd x
+  cells-left (look k) x j l = cell-byte j l
 
   other : (c : Call) → AboutHashes c → Opening c → ⊥
   other (take m b) x o = o
-  other (takeReject m b) x o = o
-  other (serve m out b c) x o = o
-  other (held q i) x o = o
   other (loadLayer d b) x o = o
   other (judgeBlock i d b) x o = o
   other (judgePiece i d b) x o = o
   other (clear i) x o = o
-  other (isMarked i) x o = o
-  other (bitfield out b) x o = o
   other (reopen n plen root r) x o = x
+  other (look k) x o = o
 
   grown-call : (c : Call) → AboutHashes c → {u : List ℕ} → Facts u → Grown u (after c u)
   grown-call c x f = steps-grow f (next begin (call c (λ o z. other c x o)))
@@ -163,3 +166,42 @@ module _ (s t : List ℕ) (S : SameButMarks s t) where
             same-front (after c s) (after c t) (marksStart (after c s)) (omega arith) (omega arith)
             (λ j l. cells-left c x j (omega arith));
       }
+
+-- a store and what it is with marks written differ in marks only
+remarked : (s : List ℕ) → Facts s → (i n x : ℕ) → i + n ≤ 2 ^ heightOf s → SameButMarks s (marksPut s i n x)
+remarked s f i n x fits =
+    let a = mark-in s f in
+    let e = marks-length s f i n x fits in
+    let z = f .size in
+    record {
+      store = facts-usable s f;
+      room = omega arith;
+      bytes = same-front s (marksPut s i n x) (marksStart s) (omega arith) (omega arith) (λ j l. marks-before s f i n x fits j (omega arith));
+    }
+
+-- NOTHING ELSE TEACHES: but for a message, a layer and an opening every call leaves each answer of kd_held
+pub held-stays : (s : List ℕ) (c : Call) → (Teaches c → ⊥) → (l i : ℕ) → heldAnswer (after c s) l i ≡ heldAnswer s l i
+held-stays s (take m b) n l i = absurd (n tt)
+held-stays s (loadLayer d b) n l i = absurd (n tt)
+held-stays s (judgeBlock j d b) n l i =
+    elim (ℕ-discrete (blockNumber s j d) 0) [
+      | yes z ↦ rw (block-marks s j d z) (held-alike s (marksPut s j 1 marked) (remarked s (usable-facts s (block-right s j d z .store)) j 1 marked (block-fits s j d z)) l i)
+      | no ne ↦ rw (block-stays s j d ne)
+    ]
+held-stays s (judgePiece j d b) n l i =
+    elim (ℕ-discrete (pieceNumber s j d) 0) [
+      | yes z ↦
+          rw (piece-marks s j d z)
+          (held-alike s (marksPut s (firstBlock s j) (blocksIn s j) marked) (remarked s (usable-facts s (piece-right s j d z .store)) (firstBlock s j) (blocksIn s j) marked (piece-fits s j d z)) l i)
+      | no ne ↦ rw (piece-stays s j d ne)
+    ]
+held-stays s (clear j) n l i =
+    elim (ℕ-discrete (blockThere s j) 0) [
+      | yes z ↦
+          let w = there-0 s j .0 z in
+          let f = usable-facts s (w .0) in
+          rw (clear-writes s j z) (held-alike s (marksPut s j 1 cleared) (remarked s f j 1 cleared (omega (arith, w .1, facts-leaves s f))) l i)
+      | no ne ↦ rw (clear-stays s j ne)
+    ]
+held-stays s (reopen k plen root o) n l i = absurd (n tt)
+held-stays s (look k) n l i = refl

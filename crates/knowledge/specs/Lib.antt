@@ -1,5 +1,5 @@
--- tests, and what they say
-pub mod Tests
+-- each number as a chain of tests
+pub mod NumberChains
 -- a message by numbers of positions: when it is taken, what it settles
 pub mod TakenWhen
 pub mod Chains

@@ -8,11 +8,11 @@ use Prim.Native.Nat.{ℕ, _+_, _-_, _*_, _/_, _%_, _≤_, _<_}
 use native.Mathlib.Omega.{arith}
 use native.Mathlib.Decide.{decLe}
 use lib.ListN.{length, getD}
-use lib.Dec.{ltb}
-use borrow.Author.Tests.{le-ltb, ltb-false}
+use borrow.Author.Tests.{le-ltb, ltb-false, le-leb, lt-leb, leb-true, leb-false}
 use Rattle.octets.specs.Octets.{pasted}
 use Rattle.octets.specs.OctetsLaws.{getD-pasted-in, getD-pasted-after, pasted-length}
 use Rattle.numbers.specs.Numbers.{refused, done, ruleBroken, unusable, noRoom}
+use Rattle.numbers.specs.Chain.{exactly-of}
 use Rattle.numbers.specs.declared.Answer.{Answer}
 use Rattle.tree.specs.Geometry.{pieceCount}
 use Rattle.store.specs.Store.{usable, fileLength, pieceLength, blocksOf}
@@ -20,7 +20,8 @@ use Rattle.store.specs.StoreLaws.{usable-facts}
 use Rattle.marks.specs.Marks.{blockThere, markedAnswer, fieldBytes, fieldSize, fieldAnswer, fieldAfter}
 use Rattle.marks.specs.MarksLaws.{field-done, field-length, field-short, field-unusable, there-inside, there-says}
 use Rattle.words.specs.Marks.{Covers, bitOf, pieceBit}
-use Rattle.knowledge.specs.Tests.{gated-9, gated-3}
+use Rattle.numbers.specs.Tests.{through}
+use Rattle.knowledge.specs.NumberChains.{thereChain, there-tests, fieldChain, field-tests}
 use Rattle.knowledge.specs.Bitfield.{bit-at, bit-exactly, spare-unmarked}
 use Rattle.knowledge.specs.MarksSince.{marked-says}
 
@@ -29,16 +30,11 @@ use Rattle.knowledge.specs.MarksSince.{marked-says}
 module _ (s : List ℕ) (i : ℕ) where
   -- 9 EXACTLY WHEN the store is unusable
   pub there-9 : (blockThere s i ≡ unusable) ↔ (usable s ≡ false)
-  unfolding blockThere
-  there-9 = (λ e. gated-9 (usable s) (ltb i (blocksOf s)) true 0 (λ z. omega arith) e, λ u. rw u)
+  there-9 = exactly-of (thereChain s i) unusable (there-tests s i) refl
 
   -- 3 EXACTLY WHEN it is usable and the file has no such block
   pub there-3 : (blockThere s i ≡ ruleBroken) ↔ ((usable s ≡ true) × (blocksOf s ≤ i))
-  unfolding blockThere
-  there-3 = (
-    λ e. let w = gated-3 (usable s) (ltb i (blocksOf s)) true 0 (λ z. omega arith) e in (w .0, ltb-false i (blocksOf s) (w .1)),
-    λ w. rw (w .0, le-ltb i (blocksOf s) (w .1)),
-  )
+  there-3 = through (exactly-of (thereChain s i) ruleBroken (there-tests s i) refl) (λ u. (ltb-false i (blocksOf s), le-ltb i (blocksOf s)))
 
   -- 0 EXACTLY WHEN it has
   pub there-0 : (blockThere s i ≡ 0) ↔ ((usable s ≡ true) × (i < blocksOf s))
@@ -61,39 +57,16 @@ module _ (s out : List ℕ) where
 
   -- 9 EXACTLY WHEN the store is unusable
   pub field-9 : (fieldAnswer s out .number ≡ unusable) ↔ (usable s ≡ false)
-  field-9 = (by (usable s) refl, λ u. num (none u .0))
-    where
-      by : (b : Bool) → usable s ≡ b → fieldAnswer s out .number ≡ unusable → usable s ≡ false
-      by false u e = u
-      by true u e =
-          elim (decLe (fieldSize s) (length out)) [
-            | yes l ↦ absurd (omega (arith, num (given u l .0)))
-            | no l ↦ absurd (omega (arith, num (short u (omega arith) .0)))
-          ]
+  field-9 = exactly-of (fieldChain s out) unusable (field-tests s out) refl
 
   -- 11 EXACTLY WHEN it is usable and the output is shorter than the bitfield
   pub field-11 : (fieldAnswer s out .number ≡ noRoom) ↔ ((usable s ≡ true) × (length out < fieldSize s))
-  field-11 = (by (usable s) refl, λ w. num (short (w .0) (w .1) .0))
-    where
-      by : (b : Bool) → usable s ≡ b → fieldAnswer s out .number ≡ noRoom → (usable s ≡ true) × (length out < fieldSize s)
-      by false u e = absurd (omega (arith, num (none u .0)))
-      by true u e =
-          elim (decLe (fieldSize s) (length out)) [
-            | yes l ↦ absurd (omega (arith, num (given u l .0)))
-            | no l ↦ (u, omega arith)
-          ]
+  field-11 = through (exactly-of (fieldChain s out) noRoom (field-tests s out) refl) (λ u. (leb-false (fieldSize s) (length out), lt-leb (fieldSize s) (length out)))
 
   -- 0 EXACTLY WHEN it is usable and has the room
   pub field-0 : (fieldAnswer s out .number ≡ 0) ↔ ((usable s ≡ true) × (fieldSize s ≤ length out))
-  field-0 = (by (usable s) refl, λ w. num (given (w .0) (w .1) .0))
-    where
-      by : (b : Bool) → usable s ≡ b → fieldAnswer s out .number ≡ 0 → (usable s ≡ true) × (fieldSize s ≤ length out)
-      by false u e = absurd (omega (arith, num (none u .0)))
-      by true u e =
-          elim (decLe (fieldSize s) (length out)) [
-            | yes l ↦ (u, l)
-            | no l ↦ absurd (omega (arith, num (short u (omega arith) .0)))
-          ]
+  field-0 =
+      through (exactly-of (fieldChain s out) 0 (field-tests s out) refl) (λ u. (λ t. leb-true (fieldSize s) (length out) (t .0), λ l. (le-leb (fieldSize s) (length out) l, refl)))
 
   -- a refusal leaves every byte of the output
   pub field-refused : (fieldAnswer s out .number ≡ 0 → ⊥) → fieldAfter s out ≡ out

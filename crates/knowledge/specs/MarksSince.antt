@@ -5,7 +5,7 @@ use mathlib.Core.Path.{_≡_, refl, ap, sym, _∙_, subst}
 use mathlib.Core.Bool.{Bool, true, false, false≢true}
 use mathlib.Core.List.{List}
 use mathlib.Core.Logic.{_↔_, _⊎_, inl, inr}
-use Prim.Native.Nat.{ℕ, _+_, _-_, _*_, _^_, _≤_, _<_}
+use Prim.Native.Nat.{ℕ, _+_, _*_, _^_, _≤_, _<_}
 use native.Mathlib.Omega.{arith}
 use native.Mathlib.Decide.{ℕ-discrete, decLe, decLt}
 use lib.ListN.{length, getD}
@@ -15,15 +15,15 @@ use Rattle.numbers.specs.Numbers.{done}
 use Rattle.numbers.specs.declared.Answer.{Answer}
 use Rattle.sha256.specs.Sha256.{sha256}
 use Rattle.cells.specs.Entries.{oneIf}
-use Rattle.store.specs.Store.{usable, fileLength, blocksOf, heightOf, positions, storeSize, factsInRange, opened, openAnswer, openAfter, Facts, SameFacts}
+use Rattle.store.specs.Store.{usable, fileLength, blocksOf, heightOf, positions, storeSize, factsInRange, opened, openAnswer, openAfter, Facts}
 use Rattle.store.specs.StoreLaws.{facts-leaves, facts-usable, opened-file, opened-zero, usable-facts}
 use Rattle.messages.specs.Take.{takeAfter}
 use Rattle.marks.specs.Marks.{marksStart, markedAt, marked, cleared, blockThere, clearAnswer, markedAnswer, firstBlock, blocksIn}
 use Rattle.marks.specs.MarksLaws.{same-mark, marked-in, marked-out, marks-end, marks-start-some, there-fits, there-inside, there-says}
-use Rattle.pieces.specs.Pieces.{layerOfPieces, layerAfter, blockNumber, blockAnswer, pieceHeight, pieceNumber, pieceAnswer}
+use Rattle.pieces.specs.Pieces.{layerAfter, blockNumber, blockAnswer, pieceHeight, pieceNumber, pieceAnswer}
 use Rattle.pieces.specs.PiecesLaws.{piece-right}
 use Rattle.pieces.specs.MarkedLaws.{block-fits, block-marks, block-stays, piece-fits, piece-marks, piece-stays}
-use Rattle.words.specs.History.{Bytes, Call, take, takeReject, serve, held, loadLayer, judgeBlock, judgePiece, clear, isMarked, bitfield, reopen, number, after, Opening, Step, call, lent, Steps, begin, next}
+use Rattle.words.specs.History.{Bytes, Call, take, loadLayer, judgeBlock, judgePiece, clear, reopen, look, number, after, Opening, Step, call, lent, Steps, begin, next}
 use Rattle.words.specs.Marks.{Judges, Clears, JudgedBy, last, before, behind, JudgedRight, RightFor, asBlock, inPiece}
 use Rattle.knowledge.specs.Through.{clear-writes, clear-stays, reopen-refused}
 use Rattle.knowledge.specs.Grows.{Grown, grown-on, grown-take, grown-layer, steps-grow}
@@ -118,17 +118,13 @@ module _ (s : List ℕ) (f : Facts s) (j : ℕ) (l : j < 2 ^ heightOf s) where
 
   mark-after : (c : Call) → (Opening c → number c s ≡ 0 → ⊥) → MarkAfter c s j
   mark-after (take m b) x = leaves _ _ (take-leaves m) (λ y. absurd (y .0)) (λ y. absurd y)
-  mark-after (takeReject m b) x = leaves _ _ refl (λ y. absurd (y .0)) (λ y. absurd y)
-  mark-after (serve m out b c) x = leaves _ _ refl (λ y. absurd (y .0)) (λ y. absurd y)
-  mark-after (held k i) x = leaves _ _ refl (λ y. absurd (y .0)) (λ y. absurd y)
   mark-after (loadLayer d b) x = leaves _ _ (load-leaves d) (λ y. absurd (y .0)) (λ y. absurd y)
   mark-after (judgeBlock i d b) x = block-mark i d b
   mark-after (judgePiece i d b) x = piece-mark i d b
   mark-after (clear i) x = clear-mark i
-  mark-after (isMarked i) x = leaves _ _ refl (λ y. absurd (y .0)) (λ y. absurd y)
-  mark-after (bitfield out b) x = leaves _ _ refl (λ y. absurd (y .0)) (λ y. absurd y)
   mark-after (reopen n plen root o) x =
       leaves _ _ (ap (λ (t : List ℕ). markedAt t j) (reopen-refused s n plen root (x tt))) (λ y. absurd (y .0)) (λ y. absurd y)
+  mark-after (look k) x = leaves _ _ refl (λ y. absurd (y .0)) (λ y. absurd y)
 
 -- one step grows a store
 grown-step : {s t : List ℕ} → Facts s → Step s t → Grown s t
@@ -186,16 +182,12 @@ judged-grown f (behind v b e w) = let g = judged-grown f w in grown-on g (grown-
 right-0 : (s : List ℕ) (j : ℕ) (c : Call) → Judges s j c → number c s ≡ 0 → RightFor s j c
 unfolding blockAnswer pieceAnswer
 right-0 s j (take m b) x z = absurd x
-right-0 s j (takeReject m b) x z = absurd x
-right-0 s j (serve m out b c) x z = absurd x
-right-0 s j (held l i) x z = absurd x
 right-0 s j (loadLayer d b) x z = absurd x
 right-0 s j (judgeBlock i d b) x z = let w = block-0 s i d .0 z in subst (λ (k : ℕ). RightFor s k (judgeBlock i d b)) x (asBlock d b (w .0) (w .1))
 right-0 s j (judgePiece i d b) x z = let w = piece-0 s i d .0 z in inPiece i d b x (w .0) (w .1 .w) (w .1 .held) (w .1 .gives)
 right-0 s j (clear i) x z = absurd x
-right-0 s j (isMarked i) x z = absurd x
-right-0 s j (bitfield out b) x z = absurd x
 right-0 s j (reopen n plen root o) x z = absurd x
+right-0 s j (look k) x z = absurd x
 
 -- and they stay right for a store that holds at least as much
 right-grown : {s t : List ℕ} {j : ℕ} {c : Call} → Facts s → Grown s t → RightFor s j c → RightFor t j c
@@ -283,16 +275,12 @@ back-only s us c j m gone =
 
     by : (c : Call) → (markedAnswer (after c s) j ≡ done 1 → ⊥) → Clears j c ⊎ Opening c
     by (take a b) k = absurd (k (stays (take a b) (λ x. x) (λ x. x)))
-    by (takeReject a b) k = absurd (k (stays (takeReject a b) (λ x. x) (λ x. x)))
-    by (serve a out b d) k = absurd (k (stays (serve a out b d) (λ x. x) (λ x. x)))
-    by (held l i) k = absurd (k (stays (held l i) (λ x. x) (λ x. x)))
     by (loadLayer d b) k = absurd (k (stays (loadLayer d b) (λ x. x) (λ x. x)))
     by (judgeBlock i d b) k = absurd (k (stays (judgeBlock i d b) (λ x. x) (λ x. x)))
     by (judgePiece i d b) k = absurd (k (stays (judgePiece i d b) (λ x. x) (λ x. x)))
     by (clear i) k = elim (ℕ-discrete i j) [ yes q ↦ inl q | no ne ↦ absurd (k (stays (clear i) (λ x. x) ne)) ]
-    by (isMarked i) k = absurd (k (stays (isMarked i) (λ x. x) (λ x. x)))
-    by (bitfield out b) k = absurd (k (stays (bitfield out b) (λ x. x) (λ x. x)))
     by (reopen n plen root o) k = inr tt
+    by (look d) k = absurd (k (stays (look d) (λ x. x) (λ x. x)))
 
 -- ---- from the opening on
 

@@ -7,33 +7,31 @@ use mathlib.Core.Logic.{_↔_}
 use Prim.Native.Nat.{ℕ}
 use native.Mathlib.Omega.{arith}
 use native.Mathlib.Decide.{ℕ-discrete}
-use borrow.Author.Tests.{ne-eqb}
 use Rattle.numbers.specs.Numbers.{noAnchor}
+use Rattle.numbers.specs.Chain.{exactly-of}
 use Rattle.sha256.specs.declared.Hashed.{Hashed}
 use Rattle.tree.specs.Geometry.{nodeNumber}
 use Rattle.cells.specs.Cells.{heldAt}
 use Rattle.store.specs.Store.{heightOf, heldAnswer}
 use Rattle.store.specs.StoreLaws.{usable-facts, held-not}
-use Rattle.header.specs.Header.{headerOf, isHashes}
-use Rattle.messages.specs.Take.{headerNumber, anchor, bodyNumber, placeIn, orElse, takeNumber, takeAfter, takeAnswer}
+use Rattle.header.specs.Header.{isHashes}
+use Rattle.messages.specs.Take.{anchor, placeIn, takeNumber, takeAfter, takeAnswer}
 use Rattle.messages.specs.Asks.{Passed}
 use Rattle.messages.specs.TakeLaws.{passed, passes}
 use Rattle.words.specs.Held.{Holds}
 use Rattle.words.specs.History.{Steps}
 use Rattle.words.specs.Messages.{anchorLayer, anchorIndex}
+use Rattle.knowledge.specs.NumberChains.{takeChain, take-tests}
 use Rattle.knowledge.specs.Grows.{steps-grow}
-use Rattle.knowledge.specs.Again.{knowledge-only-grows, number-stays, same-header, header-number-not-6, no-anchor-stays, anchor-held-not-6}
+use Rattle.knowledge.specs.Again.{knowledge-only-grows, number-stays, same-header, no-anchor-stays, anchor-held-not-6}
 use Rattle.knowledge.specs.Refusals.{message-refused}
 use Rattle.knowledge.specs.AnchorHeld.{anchor-number, anchor-in-tree, asked-held, held-asked}
 
--- a message that gets 6 passes 9, 1, 2 and 3
-six-or : (n a : ℕ) → orElse n a ≡ noAnchor → (n ≡ noAnchor → ⊥) → n ≡ 0
-six-or n a e k = elim (ℕ-discrete n 0) [ yes z ↦ z | no ne ↦ absurd (k (rw (ne-eqb n 0 ne) at e)) ]
-
--- so 6 is given by a usable store, to a message of its root that keeps the rules
+-- 6 is given by a usable store, to a message of its root that keeps the rules
 pub six-passed : (t m : List ℕ) → takeNumber t m ≡ noAnchor → Passed (isHashes m) t m
-unfolding takeNumber
-six-passed t m e = passed (isHashes m) t m (six-or (headerNumber (isHashes m) t m) (bodyNumber t m (headerOf m) (placeIn t m)) e (header-number-not-6 (isHashes m) t m))
+six-passed t m e =
+    let p = exactly-of (takeChain t m) noAnchor (take-tests t m) refl .0 e in
+    record { store = p .0; formed = p .1 .0; root = p .1 .1 .0; rules = p .1 .1 .1 .0 }
 
 -- NEVER 6 AGAIN: once kd_held gives a reply's anchor, that reply is not answered 6, then or later
 pub never-6-again : {s t : List ℕ} (m v : List ℕ) → Steps s t → Holds s (anchorLayer m) (anchorIndex m) v → takeNumber t m ≡ noAnchor → ⊥

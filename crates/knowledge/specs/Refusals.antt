@@ -5,28 +5,26 @@ use mathlib.Core.Path.{_≡_, refl, ap, sym, _∙_}
 use mathlib.Core.Bool.{Bool, true, false, cond}
 use mathlib.Core.List.{List}
 use mathlib.Core.Logic.{_⊎_, inl, inr}
-use Prim.Native.Nat.{ℕ, _≤_}
+use Prim.Native.Nat.{ℕ}
 use native.Mathlib.Omega.{arith}
 use native.Mathlib.Decide.{decLe}
 use lib.ListN.{length}
-use lib.Dec.{eqb, leb}
+use lib.Dec.{leb}
 use Rattle.octets.specs.Octets.{same}
-use Rattle.numbers.specs.Numbers.{refused, judged}
+use Rattle.numbers.specs.Numbers.{refused}
 use Rattle.numbers.specs.declared.Answer.{Answer}
-use Rattle.cells.specs.Cells.{heldAt, hashAt}
-use Rattle.cells.specs.Entries.{agrees}
 use Rattle.store.specs.Store.{usable, factsRoot, blocksOf, heightOf, openAnswer, openAfter, factsInRange, storeSize}
-use Rattle.header.specs.Header.{headerSize, headerOf, isHashes, messageRoot, rulesKept, messageSize}
-use Rattle.messages.specs.Take.{headerNumber, settled, anchor, worked, padded, anchored, bodyNumber, placeIn, orElse, takeNumber, takeAfter, takeAnswer}
+use Rattle.header.specs.Header.{headerSize, headerOf, isRequest, messageRoot, rulesKept}
+use Rattle.messages.specs.Take.{placeIn, takeNumber, takeAfter, takeAnswer}
 use Rattle.messages.specs.TakenLaws.{take-refused}
-use Rattle.serve.specs.Serve.{requestNumber, rejectTo, replyTo}
+use Rattle.serve.specs.Serve.{allHeld, requestNumber, rejectTo, replyTo}
 use Rattle.serve.specs.ServeLaws.{fits-sent, fits-not, served-none, served-reply, served-reject, answered-form, reject-length}
 use Rattle.pieces.specs.Pieces.{layerAfter, layerAnswer}
 use Rattle.pieces.specs.PiecesLaws.{layer-refused, layer-refused-count}
 use Rattle.words.specs.Messages.{Rejected}
 use Rattle.words.specs.Answers.{ServeOutcome, replied, rejected, untouched}
 use Rattle.knowledge.specs.Through.{reopen-refused}
-use Rattle.knowledge.specs.Tests.{judged-most}
+use Rattle.knowledge.specs.NumberChains.{request-tests}
 
 -- ---- a refusal leaves every byte, and its count is zero
 
@@ -57,7 +55,7 @@ layer-not-loaded s l ne = (layer-refused s l ne, ap (λ (a : Answer). a .count) 
 
 -- ---- serving: a reply, a reject, or nothing
 
-request-values : (u form r k held : Bool) → let n : ℕ = orElse (cond u (cond form (cond r (cond k 0 3) 2) 1) 9) (cond held 0 12) in
+request-values : (u form r k held : Bool) → let n : ℕ = cond u (cond form (cond r (cond k (cond held 0 12) 3) 2) 1) 9 in
     ((n ≡ 0) ⊎ ((n ≡ 9) ⊎ (n ≡ 1))) ⊎ ((n ≡ 2) ⊎ ((n ≡ 3) ⊎ (n ≡ 12)))
 request-values true true true true true = inl (inl refl)
 request-values true true true true false = inr (inr (inr refl))
@@ -78,10 +76,9 @@ module _ (s m out : List ℕ) where
 
   -- the number of a request, before its room is looked at: 0, 9, 1; or 2, 3, 12
   pub which-number : ((requestNumber s m ≡ 0) ⊎ ((requestNumber s m ≡ 9) ⊎ (requestNumber s m ≡ 1))) ⊎ ((requestNumber s m ≡ 2) ⊎ ((requestNumber s m ≡ 3) ⊎ (requestNumber s m ≡ 12)))
-  unfolding requestNumber headerNumber
   which-number =
-      request-values (usable s) (Rattle.header.specs.Header.isRequest m) (same (factsRoot s) (messageRoot m)) (rulesKept (headerOf m) (blocksOf s) (heightOf s))
-      (Rattle.serve.specs.Serve.allHeld s (placeIn s m))
+      rw (request-tests s m)
+      (request-values (usable s) (isRequest m) (same (factsRoot s) (messageRoot m)) (rulesKept (headerOf m) (blocksOf s) (heightOf s)) (allHeld s (placeIn s m)))
 
   -- every request is answered in one of the three ways
   pub served : ServeOutcome s m out
@@ -99,22 +96,3 @@ module _ (s m out : List ℕ) where
       by (inr (inl z)) = no-room-or-sent 2 z (inl refl) (λ e. omega arith) (λ e. omega arith) (λ e. omega arith)
       by (inr (inr (inl z))) = no-room-or-sent 3 z (inr (inl refl)) (λ e. omega arith) (λ e. omega arith) (λ e. omega arith)
       by (inr (inr (inr z))) = no-room-or-sent 12 z (inr (inr refl)) (λ e. omega arith) (λ e. omega arith) (λ e. omega arith)
-
--- ---- every number of a message is in the table
-
-take-values : (u form r k size pad : Bool) (j : ℕ) → j ≤ 8 → orElse (cond u (cond form (cond r (cond k 0 3) 2) 1) 9) (cond size (cond pad j 5) 4) ≤ 9
-take-values true true true true true true j h = omega arith
-take-values true true true true true false j h = omega arith
-take-values true true true true false pad j h = omega arith
-take-values true true true false size pad j h = omega arith
-take-values true true false k size pad j h = omega arith
-take-values true false r k size pad j h = omega arith
-take-values false form r k size pad j h = omega arith
-
--- a message gets one of 0 to 9
-pub message-number-in-table : (s m : List ℕ) → takeAnswer s m .number ≤ 9
-unfolding takeAnswer takeNumber bodyNumber headerNumber anchored
-message-number-in-table s m =
-    take-values (usable s) (isHashes m) (same (factsRoot s) (messageRoot m)) (rulesKept (headerOf m) (blocksOf s) (heightOf s)) (eqb (length m) (messageSize (headerOf m))) (padded m (headerOf m) (placeIn s m) (blocksOf s))
-    (judged (heldAt s (anchor (placeIn s m))) (same (hashAt s (anchor (placeIn s m))) (worked m (placeIn s m))) (agrees s (settled m (placeIn s m))))
-    (judged-most (heldAt s (anchor (placeIn s m))) (same (hashAt s (anchor (placeIn s m))) (worked m (placeIn s m))) (agrees s (settled m (placeIn s m))))

@@ -2,9 +2,9 @@
 -- the root alone is held.
 -- Assumes nothing.
 use mathlib.Core.Path.{_≡_, refl, ap, sym, _∙_, subst}
-use mathlib.Core.Bool.{Bool, true, false, cond, _&&_, and-eq-true-iff, false≢true}
+use mathlib.Core.Bool.{true, _&&_, and-eq-true-iff, false≢true}
 use mathlib.Core.List.{List}
-use mathlib.Core.Logic.{inl, inr, _↔_}
+use mathlib.Core.Logic.{_↔_}
 use Prim.Native.Nat.{ℕ, _+_, _-_, _*_, _^_, _≤_, _<_}
 use native.Mathlib.Omega.{arith}
 use native.Mathlib.Decide.{ℕ-discrete}
@@ -13,6 +13,7 @@ use lib.Dec.{eqb, leb}
 use lib.Pow.{pow-pos}
 use borrow.Author.Tests.{ne-eqb, le-leb, leb-true, leb-false, lt-leb}
 use Rattle.numbers.specs.Numbers.{done, refused, unusable, factsOutOfRange}
+use Rattle.numbers.specs.Chain.{exactly-of}
 use Rattle.limits.specs.Limits.{longestFile}
 use Rattle.tree.specs.Geometry.{blockCount, height, nodeNumber, pieceLayer}
 use Rattle.tree.specs.GeometryLaws.{piece-length-form, piece-length-accepted, node-number-root, node-number-distinct}
@@ -22,7 +23,8 @@ use Rattle.store.specs.StoreLaws.{opened-facts, opened-height, opened-held, ope
 use Rattle.words.specs.Held.{Holds}
 use Rattle.words.specs.Answers.{InRange}
 use Rattle.knowledge.specs.Again.{what-is-held}
-use Rattle.knowledge.specs.Tests.{either, not-both}
+use Rattle.numbers.specs.Tests.{says-not, in-turn}
+use Rattle.knowledge.specs.NumberChains.{openChain, open-tests}
 use Rattle.knowledge.specs.ReadBack.{holds-at}
 
 -- the range test says this
@@ -36,65 +38,26 @@ range-exactly n plen = (
   λ r. rw (le-leb 1 n (r .some), le-leb n longestFile (r .most), r .power) (piece-length-accepted (r .p) (r .small)),
 )
 
-abbrev opens : Bool → Bool → ℕ
-opens r f = cond r (cond f 0 unusable) factsOutOfRange
-
-opens-10 : (r f : Bool) → opens r f ≡ factsOutOfRange → r ≡ false
-opens-10 false f e = refl
-opens-10 true true e = let w : ⊥ = omega arith in absurd w
-opens-10 true false e = let w : ⊥ = omega arith in absurd w
-
-opens-9 : (r f : Bool) → opens r f ≡ unusable → (r ≡ true) × (f ≡ false)
-opens-9 true false e = (refl, refl)
-opens-9 true true e = let w : ⊥ = omega arith in absurd w
-opens-9 false f e = let w : ⊥ = omega arith in absurd w
-
-opens-0 : (r f : Bool) → opens r f ≡ 0 → (r ≡ true) × (f ≡ true)
-opens-0 true true e = (refl, refl)
-opens-0 true false e = let w : ⊥ = omega arith in absurd w
-opens-0 false f e = let w : ⊥ = omega arith in absurd w
-
-number-is : (s : List ℕ) (n plen : ℕ) → openAnswer s n plen .number ≡ opens (factsInRange n plen) (leb (storeSize n) (length s))
-unfolding openAnswer
-number-is s n plen = by (factsInRange n plen) (leb (storeSize n) (length s))
-  where
-    by : (r f : Bool) → cond r (cond f (record { number = 0; count = 1 }) (refused unusable)) (refused factsOutOfRange) .number ≡ opens r f
-    by true true = refl
-    by true false = refl
-    by false f = refl
-
--- where the test fails, the facts are out of range
-out-of-range : (n plen : ℕ) → (factsInRange n plen ≡ false) ↔ (InRange n plen → ⊥)
-out-of-range n plen = (
-  λ f r. not-both (range-exactly n plen .1 r) f,
-  λ k. elim (either (factsInRange n plen)) [ inl t ↦ absurd (k (range-exactly n plen .0 t)) | inr f ↦ f ],
-)
-
 module _ (s : List ℕ) (n plen : ℕ) where
   -- 10 EXACTLY WHEN the facts are out of range
   pub opening-10 : (openAnswer s n plen .number ≡ factsOutOfRange) ↔ (InRange n plen → ⊥)
-  opening-10 = (
-    λ e. out-of-range n plen .0 (opens-10 (factsInRange n plen) (leb (storeSize n) (length s)) (sym (number-is s n plen) ∙ e)),
-    λ k. number-is s n plen ∙ rw (out-of-range n plen .1 k),
-  )
+  opening-10 = in-turn (exactly-of (openChain s n plen) factsOutOfRange (open-tests s n plen) refl) (says-not (range-exactly n plen))
 
   -- 9 EXACTLY WHEN they are in range and the buffer has not the store's size
   pub opening-9 : (openAnswer s n plen .number ≡ unusable) ↔ (InRange n plen × (length s < storeSize n))
-  opening-9 = (
-    λ e.
-        (let t = opens-9 (factsInRange n plen) (leb (storeSize n) (length s)) (sym (number-is s n plen) ∙ e) in
-        (range-exactly n plen .0 (t .0), leb-false (storeSize n) (length s) (t .1))),
-    λ t. number-is s n plen ∙ rw (range-exactly n plen .1 (t .0), lt-leb (storeSize n) (length s) (t .1)),
-  )
+  opening-9 =
+      let c = exactly-of (openChain s n plen) unusable (open-tests s n plen) refl in (
+        λ e. (let t = c .0 e in (range-exactly n plen .0 (t .0), leb-false (storeSize n) (length s) (t .1))),
+        λ t. c .1 (range-exactly n plen .1 (t .0), lt-leb (storeSize n) (length s) (t .1)),
+      )
 
   -- 0 EXACTLY WHEN they are in range and it has
   pub opening-0 : (openAnswer s n plen .number ≡ 0) ↔ (InRange n plen × (storeSize n ≤ length s))
-  opening-0 = (
-    λ e.
-        (let t = opens-0 (factsInRange n plen) (leb (storeSize n) (length s)) (sym (number-is s n plen) ∙ e) in
-        (range-exactly n plen .0 (t .0), leb-true (storeSize n) (length s) (t .1))),
-    λ t. number-is s n plen ∙ rw (range-exactly n plen .1 (t .0), le-leb (storeSize n) (length s) (t .1)),
-  )
+  opening-0 =
+      let c = exactly-of (openChain s n plen) 0 (open-tests s n plen) refl in (
+        λ e. (let t = c .0 e in (range-exactly n plen .0 (t .0), leb-true (storeSize n) (length s) (t .1 .0))),
+        λ t. c .1 (range-exactly n plen .1 (t .0), (le-leb (storeSize n) (length s) (t .1), refl)),
+      )
 
 -- the count of an opening is 1
 pub opening-counts-one : (s : List ℕ) (n plen : ℕ) → openAnswer s n plen .number ≡ 0 → openAnswer s n plen .count ≡ 1
@@ -102,6 +65,11 @@ unfolding openAnswer
 opening-counts-one s n plen z =
     let t = opening-0 s n plen .0 (unfold openAnswer in z) in
     rw (range-exactly n plen .1 (t .0), le-leb (storeSize n) (length s) (t .1))
+
+-- beside 0 an opening leaves this
+pub opening-leaves : (s : List ℕ) (n plen : ℕ) (root : List ℕ) → openAnswer s n plen .number ≡ 0 → openAfter s n plen root ≡ opened s n plen root
+unfolding openAfter
+opening-leaves s n plen root z = let t = opening-0 s n plen .0 z in rw (range-exactly n plen .1 (t .0), le-leb (storeSize n) (length s) (t .1))
 
 -- A BUFFER IS USABLE EXACTLY WHEN it names facts in range and has their room; nothing else makes it unusable
 pub usable-exactly : (s : List ℕ) → (usable s ≡ true) ↔ (InRange (fileLength s) (pieceLength s) × (storeSize (fileLength s) ≤ length s))
@@ -124,7 +92,7 @@ module _ (n plen : ℕ) where
   -- and 10, with the size 0, where they are not
   pub size-is-10 : (InRange n plen → ⊥) → sizeAnswer n plen ≡ refused factsOutOfRange
   unfolding sizeAnswer
-  size-is-10 k = rw (out-of-range n plen .1 k)
+  size-is-10 k = rw (says-not (range-exactly n plen) .1 k)
 
 module _ (s : List ℕ) (n plen : ℕ) (root : List ℕ) (size : length root ≡ 32) (z : openAnswer s n plen .number ≡ 0) where
   ok : factsInRange n plen ≡ true
@@ -134,8 +102,7 @@ module _ (s : List ℕ) (n plen : ℕ) (root : List ℕ) (size : length root ≡
   fits = opening-0 s n plen .0 z .1
 
   after : openAfter s n plen root ≡ opened s n plen root
-  unfolding openAfter
-  after = rw (ok, le-leb (storeSize n) (length s) fits)
+  after = opening-leaves s n plen root z
 
   high : heightOf (opened s n plen root) ≡ height (blockCount n)
   high = opened-height s n plen root ok fits size

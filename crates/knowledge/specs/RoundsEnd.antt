@@ -34,7 +34,7 @@ use Rattle.knowledge.specs.HeldWhen.{taken-exactly-when}
 use Rattle.knowledge.specs.HeldAfter.{settles-then-holds, held-after}
 use Rattle.knowledge.specs.AnyOrder.{Within, back, take-stays, steps-then, each-then}
 use Rattle.knowledge.specs.CountsAdd.{one-most, bit-less, count-most, count-root, quiet-or-more, quiet-count, take-counts}
-use Rattle.knowledge.specs.Tests.{either}
+use Rattle.numbers.specs.Tests.{either}
 
 -- ---- a number that grows, up to a bound, wherever something is newly held
 

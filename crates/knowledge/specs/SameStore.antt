@@ -4,7 +4,6 @@
 use mathlib.Core.Path.{_≡_, refl, ap, sym, _∙_}
 use mathlib.Core.Bool.{true}
 use mathlib.Core.List.{List}
-use mathlib.Core.Logic.{inl, inr}
 use Prim.Native.Nat.{ℕ, _+_, _*_, _^_, _≤_, _<_}
 use native.Mathlib.Omega.{arith}
 use native.Mathlib.Decide.{ℕ-discrete, decLt}
@@ -14,14 +13,13 @@ use Rattle.sha256.specs.declared.Hashed.{Hashed}
 use Rattle.store.specs.Store.{usable, fileLength, heightOf, positions, storeSize, Facts}
 use Rattle.store.specs.StoreLaws.{own-cells, usable-facts, facts-usable, used-same, used-facts, used-answer}
 use Rattle.messages.specs.Take.{takeAfter}
-use Rattle.serve.specs.Serve.{serveAfter}
 use Rattle.pieces.specs.Pieces.{layerAfter, blockNumber, blockAnswer, blockAfter, pieceNumber, pieceAnswer, pieceAfter}
 use Rattle.pieces.specs.MarkedLaws.{block-fits, block-marks, block-stays, piece-fits, piece-marks, piece-stays}
-use Rattle.marks.specs.Marks.{marked, cleared, marksPut, blockThere, clearAnswer, clearAfter, firstBlock, blocksIn, fieldAfter}
+use Rattle.marks.specs.Marks.{marked, cleared, marksPut, blockThere, clearAnswer, clearAfter, firstBlock, blocksIn}
 use Rattle.marks.specs.MarksLaws.{marks-behind, marks-end, marks-facts, marks-same-facts, there-fits}
 use Rattle.knowledge.specs.MarksBeyond.{there-beyond, marked-beyond, field-beyond, covered-beyond, marks-beyond}
 use Rattle.knowledge.specs.Through.{clear-writes, clear-stays}
-use Rattle.words.specs.History.{Call, take, takeReject, serve, held, loadLayer, judgeBlock, judgePiece, clear, isMarked, bitfield, reopen, answer, after, Opening, SameStore}
+use Rattle.words.specs.History.{Ask, held, takeReject, isMarked, Send, serve, bitfield, ask, send, Call, take, loadLayer, judgeBlock, judgePiece, clear, reopen, look, withCount, withHash, asked, sendReply, answer, after, sentTo, Opening, SameStore}
 use Rattle.knowledge.specs.BytesLeft.{SameCells}
 use Rattle.knowledge.specs.Grows.{Grown, grown-take, grown-layer}
 use Rattle.knowledge.specs.Alike.{alike, same-byte, same-front}
@@ -102,46 +100,45 @@ module _ (s t : List ℕ) (S : SameStore s t) where
         | no ne ↦ rw (clear-stays s i ne, clear-stays t i (λ w. ne (sym k ∙ w))) S
       ]
 
+  -- a call that only looks answers the same,
+  asked-alike : (k : Ask) → asked k t ≡ asked k s
+  asked-alike (held l i) = ap (λ (h : Hashed). withHash h) (used-answer s t facts (S .bytes) l i)
+  asked-alike (takeReject m b) = ap (λ (a : Answer). withCount a) (reject-beyond s t facts (alike s t facts (S .bytes)) m)
+  asked-alike (isMarked i) = ap (λ (a : Answer). withCount a) (marked-beyond s t facts (S .bytes) i)
+
+  -- and sends the same
+  send-alike : (k : Send) (out : List ℕ) → (sendReply k t out ≡ sendReply k s out) × (sentTo k t out ≡ sentTo k s out)
+  send-alike (serve m b) out = let w = serve-beyond s t facts (alike s t facts (S .bytes)) m out in (ap (λ (a : Answer). withCount a) (w .0), w .1)
+  send-alike bitfield out = let w = field-beyond s t facts (S .bytes) out in (ap (λ (a : Answer). withCount a) (w .0), w .1)
+
+  pub sends-alike : (k : Send) (out : List ℕ) → sentTo k t out ≡ sentTo k s out
+  sends-alike k out = send-alike k out .1
+
   -- every call but an opening answers the same,
   pub answers-alike : (c : Call) → (Opening c → ⊥) → answer c t ≡ answer c s
   unfolding blockAnswer pieceAnswer clearAnswer
-  answers-alike (take m b) x = ap (λ (a : Answer). inl a) (take-answer-beyond s t facts (alike s t facts (S .bytes)) m)
-  answers-alike (takeReject m b) x = ap (λ (a : Answer). inl a) (reject-beyond s t facts (alike s t facts (S .bytes)) m)
-  answers-alike (serve m out b c) x = ap (λ (a : Answer). inl a) (serve-beyond s t facts (alike s t facts (S .bytes)) m out .0)
-  answers-alike (held l i) x = ap (λ (h : Hashed). inr h) (used-answer s t facts (S .bytes) l i)
-  answers-alike (loadLayer l b) x = ap (λ (a : Answer). inl a) (layer-answer-beyond s t facts (alike s t facts (S .bytes)) l)
-  answers-alike (judgeBlock i d b) x = ap (λ (n : ℕ). inl (record { number = n; count = 0 })) (block-beyond s t facts (alike s t facts (S .bytes)) i d)
-  answers-alike (judgePiece i d b) x = ap (λ (n : ℕ). inl (record { number = n; count = 0 })) (piece-beyond s t facts (alike s t facts (S .bytes)) i d)
-  answers-alike (clear i) x = ap (λ (n : ℕ). inl (record { number = n; count = 0 })) (there-beyond s t facts (S .bytes) i)
-  answers-alike (isMarked i) x = ap (λ (a : Answer). inl a) (marked-beyond s t facts (S .bytes) i)
-  answers-alike (bitfield out b) x = ap (λ (a : Answer). inl a) (field-beyond s t facts (S .bytes) out .0)
+  answers-alike (take m b) x = ap (λ (a : Answer). withCount a) (take-answer-beyond s t facts (alike s t facts (S .bytes)) m)
+  answers-alike (loadLayer l b) x = ap (λ (a : Answer). withCount a) (layer-answer-beyond s t facts (alike s t facts (S .bytes)) l)
+  answers-alike (judgeBlock i d b) x = ap (λ (n : ℕ). withCount (record { number = n; count = 0 })) (block-beyond s t facts (alike s t facts (S .bytes)) i d)
+  answers-alike (judgePiece i d b) x = ap (λ (n : ℕ). withCount (record { number = n; count = 0 })) (piece-beyond s t facts (alike s t facts (S .bytes)) i d)
+  answers-alike (clear i) x = ap (λ (n : ℕ). withCount (record { number = n; count = 0 })) (there-beyond s t facts (S .bytes) i)
   answers-alike (reopen n plen root o) x = absurd (x tt)
+  answers-alike (look (ask k)) x = asked-alike k
+  answers-alike (look (send k out b)) x = send-alike k out .0
 
-  -- and leaves the same store;
+  -- and leaves the same store
   pub leaves-same : (c : Call) → (Opening c → ⊥) → SameStore (after c s) (after c t)
   leaves-same (take m b) x =
       written-same s t (takeAfter s m) (takeAfter t m) S (grown-take s m facts) (grown-take t m there) (take-leaves-alike s t facts (alike s t facts (S .bytes)) m)
       (take-past s s facts (alike s s facts refl) m) (take-past t t there (alike t t there refl) m)
-  leaves-same (takeReject m b) x = S
-  leaves-same (serve m out b c) x = S
-  leaves-same (held l i) x = S
   leaves-same (loadLayer l b) x =
       written-same s t (layerAfter s l) (layerAfter t l) S (grown-layer s l facts) (grown-layer t l there) (layer-leaves-alike s t facts (alike s t facts (S .bytes)) l)
       (layer-past s s facts (alike s s facts refl) l) (layer-past t t there (alike t t there refl) l)
   leaves-same (judgeBlock i d b) x = block-same i d
   leaves-same (judgePiece i d b) x = piece-same i d
   leaves-same (clear i) x = clear-same i
-  leaves-same (isMarked i) x = S
-  leaves-same (bitfield out b) x = S
   leaves-same (reopen n plen root o) x = absurd (x tt)
-
-  -- what is served is the same too
-  pub serves-alike : (m out : List ℕ) → serveAfter t m out ≡ serveAfter s m out
-  serves-alike m out = serve-beyond s t facts (alike s t facts (S .bytes)) m out .1
-
-  -- and the bitfield
-  pub fields-alike : (out : List ℕ) → fieldAfter t out ≡ fieldAfter s out
-  fields-alike out = field-beyond s t facts (S .bytes) out .1
+  leaves-same (look k) x = S
 
 -- the bytes behind the store's size stay
 module _ (s : List ℕ) (u : usable s ≡ true) where
@@ -171,13 +168,9 @@ module _ (s : List ℕ) (u : usable s ≡ true) where
 
   pub behind-stays : (c : Call) → (Opening c → ⊥) → (i : ℕ) → storeSize (fileLength s) ≤ i → getD (after c s) i 0 ≡ getD s i 0
   behind-stays (take m b) x i l = take-past s s (usable-facts s u) (alike s s (usable-facts s u) refl) m i (omega (arith, own-cells s))
-  behind-stays (takeReject m b) x i l = refl
-  behind-stays (serve m out b c) x i l = refl
-  behind-stays (held j k) x i l = refl
   behind-stays (loadLayer d b) x i l = layer-past s s (usable-facts s u) (alike s s (usable-facts s u) refl) d i (omega (arith, own-cells s))
   behind-stays (judgeBlock j d b) x i l = block-past j d i l
   behind-stays (judgePiece j d b) x i l = piece-past j d i l
   behind-stays (clear j) x i l = clear-past j i l
-  behind-stays (isMarked j) x i l = refl
-  behind-stays (bitfield out b) x i l = refl
   behind-stays (reopen n plen root o) x i l = absurd (x tt)
+  behind-stays (look k) x i l = refl

@@ -13,6 +13,7 @@ use borrow.Author.Tests.{eq-eqb, eqb-true}
 use Rattle.octets.specs.Octets.{cut, pasted, same}
 use Rattle.octets.specs.OctetsLaws.{same-true, same-eq, cut-pasted-same, cut-whole, cut-length}
 use Rattle.numbers.specs.Numbers.{noMessage, otherRoot, ruleBroken, noRoom, notHeld, unusable}
+use Rattle.numbers.specs.Chain.{last, test, Stops, exactly, exactly-of, none, passes-of}
 use Rattle.numbers.specs.declared.Answer.{Answer}
 use Rattle.tree.specs.Geometry.{height}
 use Rattle.cells.specs.Cells.{heldAt}
@@ -21,7 +22,7 @@ use Rattle.store.specs.StoreLaws.{usable-facts}
 use Rattle.settling.specs.Path.{sibling}
 use Rattle.header.specs.Header.{requestId, rejectId, headerSize, messageId, headerBytes, headerOf, messageRoot, isRequest, isReject, rulesKept, placeOf, messageSize, Kept}
 use Rattle.header.specs.HeaderLaws.{rules-kept, kept-rules}
-use Rattle.messages.specs.Take.{headerNumber, placeIn, orElse, rejectAnswer}
+use Rattle.messages.specs.Take.{headerNumber, placeIn, rejectAnswer}
 use Rattle.messages.specs.TakeLaws.{passes}
 use Rattle.serve.specs.Serve.{allHeld, requestNumber, replyTo, rejectTo, serveAnswer, serveAfter}
 use Rattle.serve.specs.Asks.{fitAfter, fitAnswer}
@@ -29,7 +30,8 @@ use Rattle.serve.specs.ServeLaws.{head-same, held-run-all, held-uncles-all, req
 use Rattle.words.specs.Messages.{unclesIn, topLayer, topIndex, sent, Form, ValidHeader, AllGiven, Rejected, RejectDue, forRoot, forRule, forHash, NoRoomFor, forReply, forReject}
 use Rattle.knowledge.specs.Again.{what-is-held}
 use Rattle.knowledge.specs.ReadBack.{run-number, uncle-number, reply-has-header, run-reads-back, uncle-reads-back}
-use Rattle.knowledge.specs.Tests.{either, not-both}
+use Rattle.numbers.specs.Tests.{either, not-both, says-not, through, in-turn}
+use Rattle.knowledge.specs.NumberChains.{headed, rejectChain, reject-tests, requestChain, request-tests}
 use Rattle.knowledge.specs.Refusals.{which-number}
 use Rattle.knowledge.specs.Sent.{served-then-valid}
 
@@ -50,157 +52,86 @@ root-is s m = (same-true (factsRoot s) (messageRoot m), same-eq (factsRoot s) (m
 rules-are : (s m : List ℕ) → (rulesKept (headerOf m) (blocksOf s) (heightOf s) ≡ true) ↔ Kept (headerOf m) (blocksOf s) (heightOf s)
 rules-are s m = (rules-kept (headerOf m) (blocksOf s) (heightOf s), kept-rules (headerOf m) (blocksOf s) (heightOf s))
 
--- where a test says this, its failure says not
-says-not : {b : Bool} {A : Type 0} → (b ≡ true) ↔ A → (b ≡ false) ↔ (A → ⊥)
-says-not {b} p = (
-  λ f a. not-both (p .1 a) f,
-  λ n. elim (either b) [ inl t ↦ absurd (n (p .0 t)) | inr f ↦ f ],
-)
+-- ---- 9, 1, 2, 3 of a request and of a reject, whose form is `formed id`
 
--- 9, 1, 2, 3 by their tests, then 12
-abbrev ahead : Bool → Bool → Bool → Bool → Bool → ℕ
-ahead u f r k a = orElse (cond u (cond f (cond r (cond k 0 ruleBroken) otherRoot) noMessage) unusable) (cond a 0 notHeld)
-
-ahead-9 : (u f r k a : Bool) → ahead u f r k a ≡ unusable → u ≡ false
-ahead-9 false f r k a e = refl
-ahead-9 true false r k a e = let w : ⊥ = omega arith in absurd w
-ahead-9 true true false k a e = let w : ⊥ = omega arith in absurd w
-ahead-9 true true true false a e = let w : ⊥ = omega arith in absurd w
-ahead-9 true true true true false e = let w : ⊥ = omega arith in absurd w
-ahead-9 true true true true true e = let w : ⊥ = omega arith in absurd w
-
-ahead-1 : (u f r k a : Bool) → ahead u f r k a ≡ noMessage → (u ≡ true) × (f ≡ false)
-ahead-1 false f r k a e = let w : ⊥ = omega arith in absurd w
-ahead-1 true false r k a e = (refl, refl)
-ahead-1 true true false k a e = let w : ⊥ = omega arith in absurd w
-ahead-1 true true true false a e = let w : ⊥ = omega arith in absurd w
-ahead-1 true true true true false e = let w : ⊥ = omega arith in absurd w
-ahead-1 true true true true true e = let w : ⊥ = omega arith in absurd w
-
-ahead-2 : (u f r k a : Bool) → ahead u f r k a ≡ otherRoot → (u ≡ true) × (f ≡ true) × (r ≡ false)
-ahead-2 false f r k a e = let w : ⊥ = omega arith in absurd w
-ahead-2 true false r k a e = let w : ⊥ = omega arith in absurd w
-ahead-2 true true false k a e = (refl, refl, refl)
-ahead-2 true true true false a e = let w : ⊥ = omega arith in absurd w
-ahead-2 true true true true false e = let w : ⊥ = omega arith in absurd w
-ahead-2 true true true true true e = let w : ⊥ = omega arith in absurd w
-
-ahead-3 : (u f r k a : Bool) → ahead u f r k a ≡ ruleBroken → (u ≡ true) × (f ≡ true) × (r ≡ true) × (k ≡ false)
-ahead-3 false f r k a e = let w : ⊥ = omega arith in absurd w
-ahead-3 true false r k a e = let w : ⊥ = omega arith in absurd w
-ahead-3 true true false k a e = let w : ⊥ = omega arith in absurd w
-ahead-3 true true true false a e = (refl, refl, refl, refl)
-ahead-3 true true true true false e = let w : ⊥ = omega arith in absurd w
-ahead-3 true true true true true e = let w : ⊥ = omega arith in absurd w
-
-ahead-on : (n : ℕ) → (n ≡ 0) ⊎ (n ≡ notHeld) → (u f r k a : Bool) → ahead u f r k a ≡ n → (u ≡ true) × (f ≡ true) × (r ≡ true) × (k ≡ true) × (cond a 0 notHeld ≡ n)
-ahead-on n o false f r k a e = absurd (elim o [ inl z ↦ (let w : ⊥ = omega arith in w) | inr z ↦ (let w : ⊥ = omega arith in w) ])
-ahead-on n o true false r k a e = absurd (elim o [ inl z ↦ (let w : ⊥ = omega arith in w) | inr z ↦ (let w : ⊥ = omega arith in w) ])
-ahead-on n o true true false k a e = absurd (elim o [ inl z ↦ (let w : ⊥ = omega arith in w) | inr z ↦ (let w : ⊥ = omega arith in w) ])
-ahead-on n o true true true false a e = absurd (elim o [ inl z ↦ (let w : ⊥ = omega arith in w) | inr z ↦ (let w : ⊥ = omega arith in w) ])
-ahead-on n o true true true true a e = (refl, refl, refl, refl, e)
-
-not-all : (a : Bool) → cond a 0 notHeld ≡ notHeld → a ≡ false
-not-all false e = refl
-not-all true e = let w : ⊥ = omega arith in absurd w
-
--- ---- 9, 1, 2, 3 of a request and of a reject
-
-module _ (id : ℕ) (s m : List ℕ) (n : ℕ) (a : Bool)
-    (tests : n ≡ ahead (usable s) (formed id m) (same (factsRoot s) (messageRoot m)) (rulesKept (headerOf m) (blocksOf s) (heightOf s)) a) where
-  by-9 : (n ≡ unusable) ↔ (usable s ≡ false)
-  by-9 = (λ e. ahead-9 (usable s) (formed id m) (same (factsRoot s) (messageRoot m)) (rulesKept (headerOf m) (blocksOf s) (heightOf s)) a (sym tests ∙ e), λ u. tests ∙ rw u)
-
-  by-1 : (n ≡ noMessage) ↔ ((usable s ≡ true) × (Form id m → ⊥))
-  by-1 = (
-    λ e.
-        (let t = ahead-1 (usable s) (formed id m) (same (factsRoot s) (messageRoot m)) (rulesKept (headerOf m) (blocksOf s) (heightOf s)) a (sym tests ∙ e) in
-        (t .0, says-not (form-is id m) .0 (t .1))),
-    λ t. tests ∙ rw (t .0, says-not (form-is id m) .1 (t .1)),
+module _ (id : ℕ) (s m : List ℕ) where
+  other-root : {n : ℕ} → (n ≡ otherRoot) ↔ Stops otherRoot (headed (formed id m) s m (last 0)) → (n ≡ otherRoot) ↔ ((usable s ≡ true) × Form id m × (factsRoot s ≡ messageRoot m → ⊥))
+  other-root p = (
+    λ e. (let t = p .0 e in (t .0, form-is id m .0 (t .1 .0), says-not (root-is s m) .0 (t .1 .1))),
+    λ t. p .1 (t .0, (form-is id m .1 (t .1), says-not (root-is s m) .1 (t .2))),
   )
 
-  by-2 : (n ≡ otherRoot) ↔ ((usable s ≡ true) × Form id m × (factsRoot s ≡ messageRoot m → ⊥))
-  by-2 = (
-    λ e.
-        (let t = ahead-2 (usable s) (formed id m) (same (factsRoot s) (messageRoot m)) (rulesKept (headerOf m) (blocksOf s) (heightOf s)) a (sym tests ∙ e) in
-        (t .0, form-is id m .0 (t .1), says-not (root-is s m) .0 (t .2))),
-    λ t. tests ∙ rw (t .0, form-is id m .1 (t .1), says-not (root-is s m) .1 (t .2)),
+  rule-broken : {n : ℕ} → (n ≡ ruleBroken) ↔ Stops ruleBroken (headed (formed id m) s m (last 0))
+      → (n ≡ ruleBroken) ↔ ((usable s ≡ true) × Form id m × (factsRoot s ≡ messageRoot m) × (Kept (headerOf m) (blocksOf s) (heightOf s) → ⊥))
+  rule-broken p = (
+    λ e. (let t = p .0 e in (t .0, form-is id m .0 (t .1 .0), root-is s m .0 (t .1 .1 .0), says-not (rules-are s m) .0 (t .1 .1 .1))),
+    λ t. p .1 (t .0, (form-is id m .1 (t .1), (root-is s m .1 (t .2), says-not (rules-are s m) .1 (t .3)))),
   )
 
-  by-3 : (n ≡ ruleBroken) ↔ ((usable s ≡ true) × Form id m × (factsRoot s ≡ messageRoot m) × (Kept (headerOf m) (blocksOf s) (heightOf s) → ⊥))
-  by-3 = (
-    λ e.
-        (let t = ahead-3 (usable s) (formed id m) (same (factsRoot s) (messageRoot m)) (rulesKept (headerOf m) (blocksOf s) (heightOf s)) a (sym tests ∙ e) in
-        (t .0, form-is id m .0 (t .1), root-is s m .0 (t .2), says-not (rules-are s m) .0 (t .3))),
-    λ t. tests ∙ rw (t .0, form-is id m .1 (t .1), root-is s m .1 (t .2), says-not (rules-are s m) .1 (t .3)),
-  )
-
-  by-on : (k : ℕ) → (k ≡ 0) ⊎ (k ≡ notHeld) → (n ≡ k) ↔ (ValidHeader id s m × (cond a 0 notHeld ≡ k))
-  by-on k o = (
-    λ e.
-        (let t = ahead-on k o (usable s) (formed id m) (same (factsRoot s) (messageRoot m)) (rulesKept (headerOf m) (blocksOf s) (heightOf s)) a (sym tests ∙ e) in
-        (record { store = t .0; form = form-is id m .0 (t .1); root = root-is s m .0 (t .2); rules = rules-are s m .0 (t .3) }, t .4)),
-    λ t. tests ∙ rw (t .0 .store, form-is id m .1 (t .0 .form), root-is s m .1 (t .0 .root), rules-are s m .1 (t .0 .rules)) (t .1),
+  valid : {A : Type 0}
+      → ((usable s ≡ true) × ((formed id m ≡ true) × ((same (factsRoot s) (messageRoot m) ≡ true) × ((rulesKept (headerOf m) (blocksOf s) (heightOf s) ≡ true) × A))))
+      ↔ (ValidHeader id s m × A)
+  valid = (
+    λ t. (record { store = t .0; form = form-is id m .0 (t .1 .0); root = root-is s m .0 (t .1 .1 .0); rules = rules-are s m .0 (t .1 .1 .1 .0) }, t .1 .1 .1 .1),
+    λ t. (t .0 .store, (form-is id m .1 (t .0 .form), (root-is s m .1 (t .0 .root), (rules-are s m .1 (t .0 .rules), t .1)))),
   )
 
 -- ---- a reject that comes in
 
 module _ (s m : List ℕ) where
-  reject-tests : rejectAnswer s m .number ≡ ahead (usable s) (formed rejectId m) (same (factsRoot s) (messageRoot m)) (rulesKept (headerOf m) (blocksOf s) (heightOf s)) true
-  unfolding rejectAnswer headerNumber isReject
-  reject-tests = by (usable s) (formed rejectId m) (same (factsRoot s) (messageRoot m)) (rulesKept (headerOf m) (blocksOf s) (heightOf s))
-    where
-      by : (u f r k : Bool) → cond u (cond f (cond r (cond k 0 ruleBroken) otherRoot) noMessage) unusable ≡ ahead u f r k true
-      by true true true true = refl
-      by true true true false = refl
-      by true true false k = refl
-      by true false r k = refl
-      by false f r k = refl
-
   -- 9 EXACTLY WHEN the store is unusable
   pub reject-9 : (rejectAnswer s m .number ≡ unusable) ↔ (usable s ≡ false)
-  reject-9 = by-9 rejectId s m (rejectAnswer s m .number) true reject-tests
+  reject-9 = exactly-of (rejectChain s m) unusable (reject-tests s m) refl
 
   -- 1 EXACTLY WHEN it is not 49 bytes with the id 23
   pub reject-1 : (rejectAnswer s m .number ≡ noMessage) ↔ ((usable s ≡ true) × (Form rejectId m → ⊥))
-  reject-1 = by-1 rejectId s m (rejectAnswer s m .number) true reject-tests
+  unfolding isReject
+  reject-1 = through (exactly-of (rejectChain s m) noMessage (reject-tests s m) refl) (λ u. says-not (form-is rejectId m))
 
   -- 2 EXACTLY WHEN it is, and has another pieces root
   pub reject-2 : (rejectAnswer s m .number ≡ otherRoot) ↔ ((usable s ≡ true) × Form rejectId m × (factsRoot s ≡ messageRoot m → ⊥))
-  reject-2 = by-2 rejectId s m (rejectAnswer s m .number) true reject-tests
+  unfolding isReject
+  reject-2 = other-root rejectId s m (exactly-of (rejectChain s m) otherRoot (reject-tests s m) refl)
 
   -- 3 EXACTLY WHEN it has this root, and a header rule fails
   pub reject-3 : (rejectAnswer s m .number ≡ ruleBroken)
       ↔ ((usable s ≡ true) × Form rejectId m × (factsRoot s ≡ messageRoot m) × (Kept (headerOf m) (blocksOf s) (heightOf s) → ⊥))
-  reject-3 = by-3 rejectId s m (rejectAnswer s m .number) true reject-tests
+  unfolding isReject
+  reject-3 = rule-broken rejectId s m (exactly-of (rejectChain s m) ruleBroken (reject-tests s m) refl)
 
   -- 0 EXACTLY WHEN none of these applies
   pub reject-0 : (rejectAnswer s m .number ≡ 0) ↔ ValidHeader rejectId s m
-  reject-0 = let p = by-on rejectId s m (rejectAnswer s m .number) true reject-tests 0 (inl refl) in (λ e. p .0 e .0, λ v. p .1 (v, refl))
+  unfolding isReject
+  reject-0 = let p = in-turn (exactly-of (rejectChain s m) 0 (reject-tests s m) refl) (valid rejectId s m) in (λ e. p .0 e .0, λ v. p .1 (v, refl))
 
 -- ---- a request
 
 module _ (s m : List ℕ) where
-  request-tests : requestNumber s m ≡ ahead (usable s) (formed requestId m) (same (factsRoot s) (messageRoot m)) (rulesKept (headerOf m) (blocksOf s) (heightOf s)) (allHeld s (placeIn s m))
-  unfolding requestNumber headerNumber isRequest
-  request-tests = refl
-
   -- 9 EXACTLY WHEN the store is unusable
   pub request-9 : (requestNumber s m ≡ unusable) ↔ (usable s ≡ false)
-  request-9 = by-9 requestId s m (requestNumber s m) (allHeld s (placeIn s m)) request-tests
+  request-9 = exactly-of (requestChain s m) unusable (request-tests s m) refl
 
   -- 1 EXACTLY WHEN it is not 49 bytes with the id 21
   pub request-1 : (requestNumber s m ≡ noMessage) ↔ ((usable s ≡ true) × (Form requestId m → ⊥))
-  request-1 = by-1 requestId s m (requestNumber s m) (allHeld s (placeIn s m)) request-tests
+  unfolding isRequest
+  request-1 = through (exactly-of (requestChain s m) noMessage (request-tests s m) refl) (λ u. says-not (form-is requestId m))
 
   -- 2 EXACTLY WHEN it is, and has another pieces root
   pub request-2 : (requestNumber s m ≡ otherRoot) ↔ ((usable s ≡ true) × Form requestId m × (factsRoot s ≡ messageRoot m → ⊥))
-  request-2 = by-2 requestId s m (requestNumber s m) (allHeld s (placeIn s m)) request-tests
+  unfolding isRequest
+  request-2 = other-root requestId s m (exactly-of (requestChain s m) otherRoot (request-tests s m) refl)
 
   -- 3 EXACTLY WHEN it has this root, and a header rule fails
   pub request-3 : (requestNumber s m ≡ ruleBroken)
       ↔ ((usable s ≡ true) × Form requestId m × (factsRoot s ≡ messageRoot m) × (Kept (headerOf m) (blocksOf s) (heightOf s) → ⊥))
-  request-3 = by-3 requestId s m (requestNumber s m) (allHeld s (placeIn s m)) request-tests
+  unfolding isRequest
+  request-3 = rule-broken requestId s m (exactly-of (requestChain s m) ruleBroken (request-tests s m) refl)
+
+  -- any other number is decided by whether all is held
+  all-or-not : (k : ℕ) → none k (headed (isRequest m) s m (last (cond (allHeld s (placeIn s m)) 0 notHeld))) ≡ true
+      → (requestNumber s m ≡ k) ↔ (ValidHeader requestId s m × (cond (allHeld s (placeIn s m)) 0 notHeld ≡ k))
+  unfolding isRequest
+  all-or-not k o = in-turn (passes-of (headed (isRequest m) s m (last (cond (allHeld s (placeIn s m)) 0 notHeld))) k (request-tests s m) o) (valid requestId s m)
 
   module _ (ok : ValidHeader requestId s m) where
     facts : Facts s
@@ -237,7 +168,7 @@ module _ (s m : List ℕ) where
   -- 0, if there is room for the reply, EXACTLY WHEN it passes these and kd_held gives every hash that it asks for
   pub request-0 : (requestNumber s m ≡ 0) ↔ (ValidHeader requestId s m × AllGiven s m)
   request-0 =
-      let p = by-on requestId s m (requestNumber s m) (allHeld s (placeIn s m)) request-tests 0 (inl refl) in (
+      let p = all-or-not 0 refl in (
         λ e. (let w = p .0 e in (w .0, all-given (w .0) (cond-zero (allHeld s (placeIn s m)) (w .1)))),
         λ w. p .1 (w .0, rw (given-all (w .0) (w .1))),
       )
@@ -245,8 +176,8 @@ module _ (s m : List ℕ) where
   -- 12 EXACTLY WHEN it passes these and kd_held does not give them all
   pub request-12 : (requestNumber s m ≡ notHeld) ↔ (ValidHeader requestId s m × (AllGiven s m → ⊥))
   request-12 =
-      let p = by-on requestId s m (requestNumber s m) (allHeld s (placeIn s m)) request-tests notHeld (inr refl) in (
-        λ e. (let w = p .0 e in (w .0, λ A. not-both (given-all (w .0) A) (not-all (allHeld s (placeIn s m)) (w .1)))),
+      let p = all-or-not notHeld refl in (
+        λ e. (let w = p .0 e in (w .0, λ A. not-both (given-all (w .0) A) (exactly (test (allHeld s (placeIn s m)) notHeld (last 0)) notHeld refl .0 (w .1)))),
         λ w. p .1 (w .0, elim (either (allHeld s (placeIn s m))) [ inl t ↦ absurd (w .1 (all-given (w .0) t)) | inr f ↦ rw f ]),
       )
 

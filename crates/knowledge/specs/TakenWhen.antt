@@ -1,23 +1,21 @@
 -- Demand 2: when a message that passes 9, 1, 2, 3 and 4 gets 0, 5, 6, 7 or 8.
 -- Assumes nothing.
-use mathlib.Core.Path.{_≡_, refl, sym, _∙_}
-use mathlib.Core.Bool.{Bool, true, false, cond}
+use mathlib.Core.Path.{_≡_, refl, _∙_}
+use mathlib.Core.Bool.{true, false, cond}
 use mathlib.Core.List.{List}
 use Prim.Native.Nat.{ℕ}
-use native.Mathlib.Omega.{arith}
 use lib.ListN.{length}
-use lib.Dec.{eqb}
 use borrow.Author.Tests.{eq-eqb, eqb-true}
-use Rattle.octets.specs.Octets.{same}
 use Rattle.octets.specs.OctetsLaws.{same-true, same-eq, same-ne}
-use Rattle.numbers.specs.Numbers.{wrongSize, wrongPadding, noAnchor, differs, conflict}
-use Rattle.numbers.specs.NumbersLaws.{judged-zero}
+use Rattle.numbers.specs.Numbers.{wrongPadding, noAnchor, differs, conflict}
+use Rattle.numbers.specs.Chain.{exactly-of}
 use Rattle.cells.specs.Cells.{heldAt, hashAt}
 use Rattle.cells.specs.Entries.{agrees}
 use Rattle.store.specs.Store.{blocksOf}
 use Rattle.header.specs.Header.{headerOf, isHashes, messageSize}
 use Rattle.messages.specs.Take.{headerNumber, settled, anchor, worked, padded, anchored, bodyNumber, placeIn, takeNumber}
-use Rattle.messages.specs.TakenLaws.{zero-or, body-zero}
+use Rattle.messages.specs.TakeLaws.{passes}
+use Rattle.knowledge.specs.NumberChains.{takeChain, take-tests}
 
 -- 9, 1, 2, 3 and 4 are not given, by their tests (words/specs/Messages.WellFormed says it of the message: FormedWhen)
 pub record Formed (s m : List ℕ) : Type 0 where
@@ -38,17 +36,11 @@ unfolding takeNumber bodyNumber
 well-formed-number s m w =
     rw (eq-eqb (headerNumber (isHashes m) s m) 0 (w .header)) (rw (eq-eqb (length m) (messageSize (headerOf m)) (w .size)))
 
-let-on : (t : Bool) (a : ℕ) → cond t a wrongPadding ≡ 0 → (t ≡ true) × (a ≡ 0)
-let-on true a e = (refl, e)
-let-on false a e = let w : ⊥ = omega arith in absurd w
-
 -- taken exactly when it is right
 pub taken-then-right : (s m : List ℕ) → Formed s m → takeNumber s m ≡ 0 → Right s m
-unfolding anchored
 taken-then-right s m w e =
-    let a = let-on (padded m (headerOf m) (placeIn s m) (blocksOf s)) (anchored s m (placeIn s m)) (sym (well-formed-number s m w) ∙ e) in
-    let j = judged-zero (heldAt s (anchor (placeIn s m))) (same (hashAt s (anchor (placeIn s m))) (worked m (placeIn s m))) (agrees s (settled m (placeIn s m))) (a .1) in
-    record { padding = a .0; held = j .0; chains = same-true _ _ (j .1); agree = j .2 }
+    let t = exactly-of (takeChain s m) 0 (take-tests s m) refl .0 e .1 .1 .1 .1 .1 in
+    record { padding = t .0; held = t .1 .0; chains = same-true _ _ (t .1 .1 .0); agree = t .1 .1 .1 .0 }
 
 -- and one that is right is taken
 pub right-then-taken : (s m : List ℕ) → Formed s m → Right s m → takeNumber s m ≡ 0
@@ -81,16 +73,11 @@ unfolding anchored
 held-differs-then-8 s m w p h c a =
     well-formed-number s m w ∙ rw (p, h, same-eq (hashAt s (anchor (placeIn s m))) (worked m (placeIn s m)) c, a)
 
-sized : (t : Bool) (a : ℕ) → cond t a wrongSize ≡ 0 → t ≡ true
-sized true a e = refl
-sized false a e = let w : ⊥ = omega arith in absurd w
-
 -- a message that is taken is well-formed: its header and its size are right
 pub taken-well-formed : (s m : List ℕ) → takeNumber s m ≡ 0 → Formed s m
-unfolding takeNumber bodyNumber
 taken-well-formed s m e =
-    let b = body-zero (headerNumber (isHashes m) s m) (cond (eqb (length m) (messageSize (headerOf m))) (cond (padded m (headerOf m) (placeIn s m) (blocksOf s)) (anchored s m (placeIn s m)) wrongPadding) wrongSize) e in
+    let t = exactly-of (takeChain s m) 0 (take-tests s m) refl .0 e in
     record {
-      header = zero-or (headerNumber (isHashes m) s m) _ e;
-      size = eqb-true (length m) (messageSize (headerOf m)) (sized (eqb (length m) (messageSize (headerOf m))) _ b);
+      header = passes (isHashes m) s m (record { store = t .0; formed = t .1 .0; root = t .1 .1 .0; rules = t .1 .1 .1 .0 });
+      size = eqb-true (length m) (messageSize (headerOf m)) (t .1 .1 .1 .1 .0);
     }

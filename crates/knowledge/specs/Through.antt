@@ -18,7 +18,7 @@ use Rattle.marks.specs.MarksLaws.{there-says, there-fits}
 use Rattle.pieces.specs.Pieces.{layerAfter, blockNumber, pieceNumber}
 use Rattle.pieces.specs.PiecesLaws.{block-right, piece-right}
 use Rattle.pieces.specs.MarkedLaws.{block-fits, block-marks, block-stays, piece-fits, piece-marks, piece-stays}
-use Rattle.words.specs.History.{Bytes, Call, take, takeReject, serve, held, loadLayer, judgeBlock, judgePiece, clear, isMarked, bitfield, reopen, number, after, Opening, SameStore, call, lent, Steps, begin, next, Each, nothing, called, between}
+use Rattle.words.specs.History.{Bytes, Call, take, loadLayer, judgeBlock, judgePiece, clear, reopen, look, number, after, Opening, SameStore, call, lent, Steps, begin, next, Each, nothing, called, between}
 
 -- an opening that is refused leaves every byte
 pub reopen-refused : (s : List ℕ) (n plen : ℕ) (root : List ℕ) → (openAnswer s n plen .number ≡ 0 → ⊥) → openAfter s n plen root ≡ s
@@ -50,9 +50,6 @@ pub record PreservedBy (C : Call → Type 0) (P : List ℕ → Type 0) : Type 0 
 module _ (C : Call → Type 0) (P : List ℕ → Type 0) (k : PreservedBy C P) where
   pub by-call : (c : Call) (s : List ℕ) → (Opening c → number c s ≡ 0 → ⊥) → C c → P s → P (after c s)
   by-call (take m b) s x y p = k .taken s m b y p
-  by-call (takeReject m b) s x y p = p
-  by-call (serve m out b c) s x y p = p
-  by-call (held l i) s x y p = p
   by-call (loadLayer l b) s x y p = k .loaded s l b y p
   by-call (judgeBlock i d b) s x y p =
       elim (ℕ-discrete (blockNumber s i d) 0) [
@@ -69,9 +66,8 @@ module _ (C : Call → Type 0) (P : List ℕ → Type 0) (k : PreservedBy C P) w
         | yes z ↦ subst P (sym (clear-writes s i z)) (k .remarked s i 1 cleared (usable-facts s (there-says s i z .0)) (let w = there-fits s i z in omega arith) (omega arith) p)
         | no ne ↦ subst P (sym (clear-stays s i ne)) p
       ]
-  by-call (isMarked i) s x y p = p
-  by-call (bitfield out b) s x y p = p
   by-call (reopen n plen root o) s x y p = subst P (sym (reopen-refused s n plen root (x tt))) p
+  by-call (look k) s x y p = p
 
   -- what each such step keeps, any number of them keeps
   pub each-through : {s t : List ℕ} {h : Steps s t} → Each C t h → P s → P t

@@ -1,20 +1,17 @@
 -- Demand 2, for a layer and a piece alike: a position is judged against the hash that leaves below it give, 6, 7, 8 or 0 each exactly
 -- when 01 says, with "held" as kd_held answers.
 -- Assumes nothing.
-use mathlib.Core.Path.{_≡_, sym, _∙_}
+use mathlib.Core.Path.{_≡_, refl, sym, _∙_}
 use mathlib.Core.Bool.{true, false}
 use mathlib.Core.List.{List}
 use mathlib.Core.Logic.{inl, inr, _↔_}
 use Prim.Native.Nat.{ℕ, _+_, _-_, _^_, _≤_, _<_}
-use Rattle.octets.specs.Octets.{same}
 use Rattle.octets.specs.OctetsLaws.{same-true, same-eq, same-false, same-ne}
 use Rattle.numbers.specs.Numbers.{noAnchor, differs, conflict}
-use Rattle.numbers.specs.NumbersLaws.{judged-zero}
-use Rattle.sha256.specs.declared.Hashed.{Hashed}
+use Rattle.numbers.specs.Chain.{exactly}
 use Rattle.tree.specs.Geometry.{nodeNumber}
 use Rattle.tree.specs.Values.{node}
 use Rattle.cells.specs.Cells.{heldAt, hashAt}
-use Rattle.cells.specs.Entries.{agrees}
 use Rattle.store.specs.Store.{heightOf, Facts}
 use Rattle.settling.specs.Subtree.{subtree}
 use Rattle.pieces.specs.Pieces.{judgedAt}
@@ -24,7 +21,8 @@ use Rattle.knowledge.specs.Again.{what-is-held}
 use Rattle.knowledge.specs.ReadBack.{holds-at}
 use Rattle.knowledge.specs.Over.{over-entered, entry-over, over-top}
 use Rattle.knowledge.specs.Differing.{none-differs, one-differs, differs-one, differs-none}
-use Rattle.knowledge.specs.Tests.{either, not-both, judged-6, judged-7, judged-8}
+use Rattle.numbers.specs.Tests.{either, not-both}
+use Rattle.knowledge.specs.NumberChains.{judgedChain}
 
 -- ---- one position
 
@@ -57,12 +55,12 @@ module _ (s : List ℕ) (f : Facts s) (leaf : ℕ → List ℕ) (base y k : ℕ)
   unfolding judgedAt
   judged-fits = (
     λ z.
-        (let t = judged-zero (heldAt s (top s base y k)) (same (hashAt s (top s base y k)) (node leaf k 0)) (agrees s (subtree leaf k (top s base y k) 0)) z in
+        (let t = exactly (judgedChain s leaf k (top s base y k)) 0 refl .0 z in
         record {
           w = hashAt s (top s base y k);
           held = marked-holds s f (base + k) y wi ti (t .0);
-          gives = over-top leaf (heightOf s) base y k wi ti (hashAt s (top s base y k)) .1 (same-true (hashAt s (top s base y k)) (node leaf k 0) (t .1));
-          agree = none-differs s f (Over leaf base y k) (subtree leaf k (top s base y k) 0) (over-entered leaf (heightOf s) base y k wi ti) (entry-over leaf (heightOf s) base y k wi ti) (t .2);
+          gives = over-top leaf (heightOf s) base y k wi ti (hashAt s (top s base y k)) .1 (same-true (hashAt s (top s base y k)) (node leaf k 0) (t .1 .0));
+          agree = none-differs s f (Over leaf base y k) (subtree leaf k (top s base y k) 0) (over-entered leaf (heightOf s) base y k wi ti) (entry-over leaf (heightOf s) base y k wi ti) (t .1 .1 .0);
         }),
     λ b.
         (let h = holds-marked s f (base + k) y wi ti (b .w) (b .held) in
@@ -80,7 +78,7 @@ module _ (s : List ℕ) (f : Facts s) (leaf : ℕ → List ℕ) (base y k : ℕ)
   judged-lacks = (
     λ z.
         marked-lacks s f (base + k) y wi ti
-        (judged-6 (heldAt s (top s base y k)) (same (hashAt s (top s base y k)) (node leaf k 0)) (agrees s (subtree leaf k (top s base y k) 0)) z),
+        (exactly (judgedChain s leaf k (top s base y k)) noAnchor refl .0 z),
     λ g. rw (lacks-marked s f (base + k) y wi ti g),
   )
 
@@ -89,7 +87,7 @@ module _ (s : List ℕ) (f : Facts s) (leaf : ℕ → List ℕ) (base y k : ℕ)
   unfolding judgedAt
   judged-misfits = (
     λ z.
-        (let t = judged-7 (heldAt s (top s base y k)) (same (hashAt s (top s base y k)) (node leaf k 0)) (agrees s (subtree leaf k (top s base y k) 0)) z in
+        (let t = exactly (judgedChain s leaf k (top s base y k)) differs refl .0 z in
         record {
           w = hashAt s (top s base y k);
           held = marked-holds s f (base + k) y wi ti (t .0);
@@ -108,12 +106,12 @@ module _ (s : List ℕ) (f : Facts s) (leaf : ℕ → List ℕ) (base y k : ℕ)
   unfolding judgedAt
   judged-clashes = (
     λ z.
-        (let t = judged-8 (heldAt s (top s base y k)) (same (hashAt s (top s base y k)) (node leaf k 0)) (agrees s (subtree leaf k (top s base y k) 0)) z in
+        (let t = exactly (judgedChain s leaf k (top s base y k)) conflict refl .0 z in
         record {
           w = hashAt s (top s base y k);
           held = marked-holds s f (base + k) y wi ti (t .0);
-          gives = over-top leaf (heightOf s) base y k wi ti (hashAt s (top s base y k)) .1 (same-true (hashAt s (top s base y k)) (node leaf k 0) (t .1));
-          one = one-differs s f (Over leaf base y k) (subtree leaf k (top s base y k) 0) (over-entered leaf (heightOf s) base y k wi ti) (entry-over leaf (heightOf s) base y k wi ti) (t .2);
+          gives = over-top leaf (heightOf s) base y k wi ti (hashAt s (top s base y k)) .1 (same-true (hashAt s (top s base y k)) (node leaf k 0) (t .1 .0));
+          one = one-differs s f (Over leaf base y k) (subtree leaf k (top s base y k) 0) (over-entered leaf (heightOf s) base y k wi ti) (entry-over leaf (heightOf s) base y k wi ti) (t .1 .1);
         }),
     λ b.
         (let h = holds-marked s f (base + k) y wi ti (b .w) (b .held) in

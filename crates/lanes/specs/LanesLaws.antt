@@ -1,6 +1,6 @@
 -- Laws of lanes: what is read from a lane, and what a store to one lane changes.
 -- Assumes nothing.
-use mathlib.Core.Path.{_≡_, refl, ap, sym, subst, _∙_}
+use mathlib.Core.Path.{_≡_, refl, ap, sym, _∙_}
 use mathlib.Core.List.{List, [], _∷_, _++_}
 use Prim.Native.Nat.{ℕ, zero, suc, _+_, _-_, _*_, _%_, _^_, _<_, _≤_}
 use native.Mathlib.Omega.{arith}
@@ -11,9 +11,10 @@ use lib.Seq.{getD-append-seam, getD-set-same, getD-set-other, ext-getD}
 use Rattle.octets.specs.Octets.{cut}
 use Rattle.rounds.specs.declared.State.{State}
 use Rattle.bits.specs.Words.{σ₀, σ₁}
-use Rattle.rounds.specs.Block.{wordAt, words, next, schedule, round, plus, compress}
-use Rattle.rounds.specs.Stage.{Stage}
-use Rattle.rounds.specs.StageLaws.{stage-first, stage-step, stage-last, stage-at, roundsBy-more, roundsBy-at, words-more, word-in}
+use Rattle.bits.specs.Parsing.{wordAt, words}
+use Rattle.bits.specs.ParsingLaws.{words-more, word-in}
+use Rattle.rounds.specs.Block.{next, schedule, round, plus, compress}
+use Rattle.rounds.specs.StageLaws.{stage-first, stage-step, stage-last, stage-at, roundsBy-more, roundsBy-at}
 use Rattle.rounds.specs.Sums.{sums, roundsBy}
 use Rattle.rounds.specs.SumsLaws.{sum-at, compress-by-sums}
 use Rattle.lanes.specs.Lanes.{lane, stateOf, stateIn}

@@ -4,7 +4,7 @@ use mathlib.Core.Path.{_≡_}
 use mathlib.Core.List.{List}
 use Prim.Native.Nat.{ℕ, _<_, _≤_}
 use lib.ListN.{length, take}
-use Rattle.rounds.specs.Block.{words}
+use Rattle.bits.specs.Parsing.{words}
 use Rattle.rounds.specs.Stage.{Stage}
 use Rattle.rounds.specs.Sums.{roundsBy}
 use Rattle.rounds.specs.declared.State.{State}

@@ -6,6 +6,7 @@ ghost use mathlib.Core.List.{List};
 ghost use Prim.Native.Nat.{ℕ, _+_, _*_, _<_, _≤_};
 ghost use lib.ListN.{length, take, set};
 ghost use Rattle.octets.specs.Octets.{cut};
+ghost use Rattle.bits.specs.Parsing.{words};
 ghost use Rattle.rounds.specs.Block as B;
 ghost use Rattle.rounds.specs.Sums.{sums, roundsBy};
 ghost use Rattle.lanes.specs.Lanes.{lane, stateIn};
@@ -13,9 +14,9 @@ ghost use Rattle.lanes.specs.Passes.{Beside, Passed, Loading, Growing, S
 use bits::add;
 use bits::small0;
 use bits::small1;
+use bits::word;
 use rounds::State;
 use rounds::round;
-use rounds::word;
 
 // The state of lane j.
 pub fn lane_of(t: &[u32; 64], j: usize) -> State
@@ -52,7 +53,7 @@ pub fn put_lane(t: &mut [u32; 64], j: usize, s: State)
 // The sixteen words of the block that starts at `at`, into lane j.
 fn load_lane(w: &mut [u32; 512], s: &[u8], at: usize, j: usize)
     requires { ⌜ (j < 8) × (at + 64 ≤ length (now s)) × (length (now w) ≡ 512) ⌝ }
-    ensures { λ _. ⌜ (take 16 (lane 64 (now (w .exit)) j) ≡ B.words 16 (cut (now (s .entry)) at 64)) × Beside 64 j (now (w .entry)) (now (w .exit)) ⌝ }
+    ensures { λ _. ⌜ (take 16 (lane 64 (now (w .exit)) j) ≡ words 16 (cut (now (s .entry)) at 64)) × Beside 64 j (now (w .entry)) (now (w .exit)) ⌝ }
 {
     let mut i: usize = 0;
     while i < 16 {

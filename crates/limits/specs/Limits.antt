@@ -1,6 +1,6 @@
--- 01: how large things may be. Each limit stands here once for the contracts, and once in src/ for the code.
+-- 01 and 02: how large things may be. Each limit stands here once for the contracts, and once in src/ for the code.
 -- Assumes nothing.
-use Prim.Native.Nat.{ℕ, _^_}
+use Prim.Native.Nat.{ℕ, _-_, _^_}
 
 -- the longest file, in bytes
 abbrev pub longestFile : ℕ
@@ -17,6 +17,10 @@ longestRun = 8192
 -- the largest torrent, in bytes
 abbrev pub largestTorrent : ℕ
 largestTorrent = 2 ^ 20
+
+-- the longest string that SHA-1 and SHA-256 have a hash for, in bytes: one of 2^64 bits has none (FIPS 180-4)
+abbrev pub longestHashed : ℕ
+longestHashed = 2 ^ 61 - 1
 
 -- how deeply a torrent may be nested, the outer dictionary being the first level
 abbrev pub maxLevels : ℕ

@@ -13,3 +13,4 @@ pub mod PathsLaws
 pub mod PathExamples
 pub mod NamesAside
 pub mod NamesAsideLaws
+pub mod ClimbsOut

@@ -1,6 +1,7 @@
 -- 01, "Numbers given back": the numbers by name, and the answer that carries one.
 -- Assumes nothing.
-use mathlib.Core.Bool.{Bool, true, false}
+use mathlib.Core.Bool.{Bool, cond}
+use mathlib.Core.List.{List, [], _∷_}
 use Prim.Native.Nat.{ℕ}
 use Rattle.numbers.specs.declared.Answer.{Answer}
 
@@ -96,12 +97,21 @@ layerDiffers = 28
 abbrev pub noSuchFile : ℕ
 noSuchFile = 29
 
+-- the numbers of the table
+abbrev pub table : List ℕ
+table = 0 ∷ 1 ∷ 2 ∷ 3 ∷ 4 ∷ 5 ∷ 6 ∷ 7 ∷ 8 ∷ 9 ∷ 10 ∷ 11 ∷ 12 ∷ 19 ∷ 20 ∷ 21 ∷ 22 ∷ 23 ∷ 24 ∷ 25 ∷ 26 ∷ 27 ∷ 28 ∷ 29 ∷ []
+
+-- n is one of these
+pub data Listed (n : ℕ) : List ℕ → Type 0 where
+  first : {ns : List ℕ} → Listed n (n ∷ ns)
+  later : {m : ℕ} {ns : List ℕ} → Listed n ns → Listed n (m ∷ ns)
+
+abbrev pub InTable : ℕ → Type 0
+InTable n = Listed n table
+
 -- 6, 7, 8 or 0: the anchor held, as worked out, no held hash different
 abbrev pub judged : Bool → Bool → Bool → ℕ
-judged false alike all = noAnchor
-judged true false all = differs
-judged true true false = conflict
-judged true true true = 0
+judged held alike all = cond held (cond alike (cond all 0 conflict) differs) noAnchor
 
 -- beside a refusal the count is zero
 abbrev pub refused : ℕ → Answer

@@ -2,8 +2,8 @@
 -- Stated over any block function f, for SHA-256 and SHA-1 alike.
 -- Assumes nothing.
 use mathlib.Core.List.{List, _++_}
-use Prim.Native.Nat.{ℕ, _+_, _*_, _/_}
-use lib.ListN.{length, drop}
+use Prim.Native.Nat.{ℕ, _+_, _-_, _*_, _/_}
+use lib.ListN.{length, drop, replicate}
 use Rattle.padding.specs.Padding.{padding}
 use Rattle.padding.specs.Cutting.{overBlocks}
 
@@ -20,6 +20,10 @@ wholeBlocks f s m = overBlocks f (length m / 64) s m
 -- the bytes of m past its whole blocks
 unfoldable pub pastBlocks : List ℕ → List ℕ
 pastBlocks m = drop (64 * (length m / 64)) m
+
+-- the bytes t of a tail as an array of 64: zero behind them
+unfoldable pub tailArray : List ℕ → List ℕ
+tailArray t = t ++ replicate (64 - length t) 0
 
 -- what the string xs leads to, from the start words z
 unfoldable pub runningOf : {S : Type 0} → (S → List ℕ → S) → S → List ℕ → Running S

@@ -1,10 +1,11 @@
-// FIPS 180-4, section 5.1.1: the last one or two blocks of a message.
+// FIPS 180-4, section 5.1.1: the last one or two blocks of a message; and the bytes that wait for a whole block.
 ghost use mathlib.Core.Path.{_≡_};
 ghost use Prim.Native.Nat.{_+_, _*_, _≤_, _%_};
 ghost use mathlib.Core.List.{_++_};
 ghost use lib.ListN.{length, take, drop};
 ghost use Rattle.octets.specs.Octets as O;
 ghost use Rattle.padding.specs.Padding as P;
+ghost use Rattle.padding.specs.Running.{tailArray};
 
 fn low(x: u64) -> u8
     ensures { λ r. ⌜ r ≡ x % 256 ⌝ }
@@ -44,5 +45,28 @@ pub fn pad(s: &[u8], n: u64) -> [u8; 128]
         return b;
     }
     put_bits(&mut b, 120, n);
+    b
+}
+
+// s into b from `at` on.
+fn put(b: &mut [u8; 64], at: usize, s: &[u8])
+    requires { ⌜ (at + length (now s) ≤ 64) × (length (now b) ≡ 64) ⌝ }
+    ensures { λ _. ⌜ now (b .exit) ≡ O.pasted (now (b .entry)) at (now (s .entry)) ⌝ }
+{
+    let mut i: usize = 0;
+    while i < s.len() {
+        b[at + i] = s[i];
+        i += 1;
+    }
+}
+
+// The first n bytes of the tail and then s, with zeros behind.
+pub fn filled(tail: [u8; 64], n: usize, s: &[u8]) -> [u8; 64]
+    requires { ⌜ n + length (now s) ≤ 64 ⌝ }
+    ensures { λ r. ⌜ r ≡ tailArray (take n tail ++ now (s .entry)) ⌝ }
+{
+    let mut b = [0u8; 64];
+    put(&mut b, 0, &tail[0..n]);
+    put(&mut b, n, s);
     b
 }

@@ -7,12 +7,11 @@ use mathlib.Core.List.{List}
 use Prim.Native.Nat.{ℕ, _≤_}
 use lib.ListN.{getD}
 use Rattle.octets.specs.Octets.{zeroHash}
+use Rattle.numbers.specs.Numbers.{InTable}
 use Rattle.sha256.specs.Answer.{hashedOf}
 use Rattle.store.specs.Store.{usable, fileLength, storeSize, sizeAnswer}
-use Rattle.marks.specs.Marks.{fieldAfter}
-use Rattle.serve.specs.Serve.{serveAfter}
-use Rattle.words.specs.History.{Call, answer, number, after, Opening, SameStore}
-use Rattle.words.specs.Answers.{InTable, Beside, ServeOutcome}
+use Rattle.words.specs.History.{Send, Call, answer, number, after, sentTo, Opening, SameStore}
+use Rattle.words.specs.Answers.{Beside, ServeOutcome}
 
 -- "Any bytes may come in, as torrent, message, block or store." The theorems are about any lists and any numbers, and so are the contracts
 -- of crates/kombudeva.
@@ -61,11 +60,8 @@ behind-decides-nothing {s} {t} = Rattle.knowledge.specs.SameStore.answers-alike
 pub same-store-left : {s t : List ℕ} → SameStore s t → (c : Call) → (Opening c → ⊥) → SameStore (after c s) (after c t)
 same-store-left {s} {t} = Rattle.knowledge.specs.SameStore.leaves-same s t
 
-pub same-bytes-sent : {s t : List ℕ} → SameStore s t → (m out : List ℕ) → serveAfter t m out ≡ serveAfter s m out
-same-bytes-sent {s} {t} = Rattle.knowledge.specs.SameStore.serves-alike s t
-
-pub same-field-sent : {s t : List ℕ} → SameStore s t → (out : List ℕ) → fieldAfter t out ≡ fieldAfter s out
-same-field-sent {s} {t} = Rattle.knowledge.specs.SameStore.fields-alike s t
+pub same-bytes-sent : {s t : List ℕ} → SameStore s t → (k : Send) (out : List ℕ) → sentTo k t out ≡ sentTo k s out
+same-bytes-sent {s} {t} = Rattle.knowledge.specs.SameStore.sends-alike s t
 
 -- and the bytes behind stay
 pub behind-stays : (s : List ℕ) → usable s ≡ true → (c : Call) → (Opening c → ⊥) → (i : ℕ) → storeSize (fileLength s) ≤ i → getD (after c s) i 0 ≡ getD s i 0

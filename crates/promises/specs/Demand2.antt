@@ -10,7 +10,7 @@ use lib.ListN.{length}
 use Rattle.numbers.specs.Numbers.{done}
 use Rattle.numbers.specs.declared.Answer.{Answer}
 use Rattle.sha256.specs.Sha256.{pairHash}
-use Rattle.store.specs.Store.{heightOf}
+use Rattle.store.specs.Store.{heightOf, heldAnswer}
 use Rattle.settling.specs.Path.{sibling}
 use Rattle.header.specs.Header.{headerSize, headerOf, messageRoot, isHashes, isReject, messageSize}
 use Rattle.messages.specs.Take.{takeAnswer, takeAfter}
@@ -19,7 +19,7 @@ use Rattle.pieces.specs.Pieces.{layerOfPieces, layerAnswer, layerAfter}
 use Rattle.words.specs.Held.{Holds, All, unheldAmong}
 use Rattle.words.specs.Messages.{unclesIn, hashIn, topLayer, topIndex, anchorLayer, anchorIndex, Settles, ChainsTo, WellFormed, Acceptable, Rejected, sent}
 use Rattle.words.specs.Pieces.{LayerFormed, LayerSettles}
-use Rattle.words.specs.History.{OurStore}
+use Rattle.words.specs.History.{OurStore, Call, after, Teaches}
 use Rattle.knowledge.specs.FormedWhen.{well-formed}
 
 -- "Trees, torrents and messages mean what BEP 52, BEP 3 and FIPS 180-4 say.": what they mean are the definitions in the files specs/ of
@@ -35,6 +35,10 @@ taken-exactly-when s m w = Rattle.knowledge.specs.HeldWhen.taken-exactly-when s
 pub held-after : (s m : List ℕ) → takeAnswer s m .number ≡ 0 → (l i : ℕ) (v : List ℕ) → Holds (takeAfter s m) l i v ↔ (Holds s l i v ⊎ Settles m l i v)
 unfolding takeAnswer
 held-after = Rattle.knowledge.specs.HeldAfter.held-after
+
+-- and nothing else teaches: but for a message, a layer and an opening no call makes a hash held or takes one away, and none changes its bytes
+pub held-stays : (s : List ℕ) (c : Call) → (Teaches c → ⊥) → (l i : ℕ) → heldAnswer (after c s) l i ≡ heldAnswer s l i
+held-stays = Rattle.knowledge.specs.Independence.held-stays
 
 -- 01: "A message settles 2·length − 1 + 2u positions: given hashes, their parents, the anchor." All of them in the tree, each with one hash;
 -- and the count is those that were not held

@@ -8,7 +8,7 @@ use mathlib.Core.Logic.{_↔_, _⊎_}
 use Prim.Native.Nat.{ℕ}
 use Rattle.numbers.specs.Numbers.{noAnchor, conflict}
 use Rattle.store.specs.Store.{fileLength, factsRoot, heightOf, heldAnswer}
-use Rattle.messages.specs.Take.{takeAnswer, takeAfter}
+use Rattle.messages.specs.Take.{takeAnswer, takeAfter, rejectAnswer}
 use Rattle.serve.specs.Serve.{serveAnswer}
 use Rattle.pieces.specs.Pieces.{layerAnswer, pieceAnswer}
 use Rattle.words.specs.Held.{Holds}
@@ -26,6 +26,10 @@ knowledge-only-grows = Rattle.knowledge.specs.Again.knowledge-only-grows
 pub number-stays : {t : List ℕ} (s m : List ℕ) → Steps (takeAfter s m) t → (takeAnswer s m .number ≡ noAnchor → ⊥) → takeAnswer t m .number ≡ takeAnswer s m .number
 unfolding takeAnswer
 number-stays = Rattle.knowledge.specs.Again.number-stays
+
+-- a reject that came in gets the same answer at every later offer too
+pub reject-stays : {t : List ℕ} (s m : List ℕ) → Steps s t → rejectAnswer t m ≡ rejectAnswer s m
+reject-stays = Rattle.knowledge.specs.Again.reject-stays
 
 -- "Only "no anchor" can change, and exactly once its anchor is held."
 pub changes-exactly-when : {t : List ℕ} (s m : List ℕ) → Steps (takeAfter s m) t

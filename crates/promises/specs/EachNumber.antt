@@ -6,18 +6,19 @@ use mathlib.Core.Path.{_≡_, refl}
 use mathlib.Core.Bool.{true, false}
 use mathlib.Core.List.{List}
 use mathlib.Core.Logic.{_↔_, inl, inr}
-use Prim.Native.Nat.{ℕ, _+_, _-_, _*_, _/_, _^_, _≤_, _<_}
+use Prim.Native.Nat.{ℕ, suc, _+_, _-_, _*_, _/_, _^_, _≤_, _<_}
 use native.Mathlib.Omega.{arith}
 use lib.ListN.{length}
 use lib.Dec.{ltb}
 use borrow.Author.Tests.{lt-ltb, le-ltb, ltb-false}
 use Rattle.numbers.specs.Numbers.{done, refused, noMessage, otherRoot, ruleBroken, wrongSize, wrongPadding, noAnchor, differs, conflict, unusable, factsOutOfRange, noRoom, notHeld}
+use Rattle.limits.specs.Limits.{longestHashed}
 use Rattle.sha256.specs.Sha256.{sha256}
 use Rattle.sha256.specs.Answer.{hashedOf}
 use Rattle.tree.specs.Geometry.{blockCount, height, Padding, blockSize, pieceSize, pieceCount}
 use Rattle.tree.specs.GeometryLaws.{padding-on}
 use Rattle.tree.specs.Values.{padValue}
-use Rattle.store.specs.Store.{usable, fileLength, pieceLength, factsRoot, blocksOf, heightOf, storeSize, sizeAnswer, openAnswer, openAfter, heldAnswer}
+use Rattle.store.specs.Store.{usable, fileLength, pieceLength, factsRoot, blocksOf, heightOf, storeSize, sizeAnswer, openAnswer, openAfter, opened, heldAnswer}
 use Rattle.settling.specs.Path.{sibling}
 use Rattle.header.specs.Header.{requestId, rejectId, headerSize, headerOf, messageRoot, messageSize, Kept}
 use Rattle.messages.specs.Take.{takeAnswer, rejectAnswer}
@@ -28,7 +29,7 @@ use Rattle.words.specs.Held.{Holds, Lacks, Position, Fits, Misfits, Clashes}
 use Rattle.words.specs.Messages.{unclesIn, hashIn, topLayer, topIndex, inRun, asUncle, OtherForm, Readable, Addressed, Ruled, WellFormed, PaddingWrong, Acceptable, Unanchored, Elsewhere, Conflicting, Form, ValidHeader, AllGiven, NoRoomFor}
 use Rattle.words.specs.Pieces.{LayerFormed, LayerSettles, BlockFormed, OtherLeaf, PieceFormed, PieceSettles}
 use Rattle.words.specs.Answers.{InRange}
-use Rattle.knowledge.specs.Tests.{either}
+use Rattle.numbers.specs.Tests.{either}
 use Rattle.knowledge.specs.FormedWhen.{nine-exactly-when, one-exactly-when, two-exactly-when, three-exactly-when, four-exactly-when, formed-by}
 use Rattle.knowledge.specs.HeldWhen.{taken-exactly-when, five-exactly-when, six-exactly-when, seven-exactly-when, eight-exactly-when}
 use Rattle.knowledge.specs.ServedWhen.{request-9, request-1, request-2, request-3, request-12, serve-silent, serve-rejects}
@@ -44,16 +45,16 @@ beside p q = (λ a. (let x = p .0 a in (q .0 (x .0), x .1)), λ y. p .1 (q .1 (y
 -- ---- kd_sha256: 4, and else the hash
 
 module _ (m : List ℕ) where
-  pub sha256-4 : (hashedOf m .number ≡ wrongSize) ↔ (2 ^ 61 ≤ length m)
+  pub sha256-4 : (hashedOf m .number ≡ wrongSize) ↔ (suc longestHashed ≤ length m)
   unfolding hashedOf
   sha256-4 = (
-    λ e. elim (either (ltb (length m) (2 ^ 61))) [ inl t ↦ (let w : ⊥ = omega (arith, rw t at e) in absurd w) | inr f ↦ ltb-false (length m) (2 ^ 61) f ],
-    λ l. rw (le-ltb (length m) (2 ^ 61) l),
+    λ e. elim (either (ltb (length m) (suc longestHashed))) [ inl t ↦ (let w : ⊥ = omega (arith, rw t at e) in absurd w) | inr f ↦ ltb-false (length m) (suc longestHashed) f ],
+    λ l. rw (le-ltb (length m) (suc longestHashed) l),
   )
 
-  pub sha256-0 : length m < 2 ^ 61 → hashedOf m ≡ record { number = 0; hash = sha256 m }
+  pub sha256-0 : length m < suc longestHashed → hashedOf m ≡ record { number = 0; hash = sha256 m }
   unfolding hashedOf
-  sha256-0 l = rw (lt-ltb (length m) (2 ^ 61) l)
+  sha256-0 l = rw (lt-ltb (length m) (suc longestHashed) l)
 
 -- ---- kd_store_size: 10, and else the size
 
@@ -78,6 +79,14 @@ module _ (s : List ℕ) (n plen : ℕ) where
 
   pub open-counts-1 : openAnswer s n plen .number ≡ 0 → openAnswer s n plen .count ≡ 1
   open-counts-1 = Rattle.knowledge.specs.RootAlone.opening-counts-one s n plen
+
+  -- beside 0 what is left is `opened`; the rows about it (crates/store, file StoreLaws) are about the call
+  pub open-leaves : (root : List ℕ) → openAnswer s n plen .number ≡ 0 → openAfter s n plen root ≡ opened s n plen root
+  open-leaves = Rattle.knowledge.specs.RootAlone.opening-leaves s n plen
+
+  -- and beside another number the buffer
+  pub open-refused : (root : List ℕ) → (openAnswer s n plen .number ≡ 0 → ⊥) → openAfter s n plen root ≡ s
+  open-refused = Rattle.knowledge.specs.Through.reopen-refused s n plen
 
   -- the root alone is held afterwards, whatever the buffer held before
   pub root-alone : (root : List ℕ) → length root ≡ 32 → openAnswer s n plen .number ≡ 0
@@ -132,7 +141,7 @@ module _ (s m : List ℕ) where
   -- a padding position with another value
   pub take-5 : (takeAnswer s m .number ≡ wrongPadding) ↔ (WellFormed s m × PaddingWrong s m)
   unfolding takeAnswer
-  take-5 = formed-by s m wrongPadding (inr (omega arith, omega arith)) (five-exactly-when s m)
+  take-5 = formed-by s m wrongPadding refl (five-exactly-when s m)
 
   -- in a run that begins past the last block, every hash must be its layer's padding value,
   pub take-5-run : WellFormed s m → Padding (blocksOf s) (headerOf m .base) (headerOf m .index) → (j : ℕ) → j < headerOf m .len
@@ -150,21 +159,21 @@ module _ (s m : List ℕ) where
   -- anchor not held
   pub take-6 : (takeAnswer s m .number ≡ noAnchor) ↔ (WellFormed s m × Unanchored s m)
   unfolding takeAnswer
-  take-6 = formed-by s m noAnchor (inr (omega arith, omega arith)) (six-exactly-when s m)
+  take-6 = formed-by s m noAnchor refl (six-exactly-when s m)
 
   -- worked-out value differs from the held anchor
   pub take-7 : (takeAnswer s m .number ≡ differs) ↔ (WellFormed s m × Elsewhere s m)
   unfolding takeAnswer
-  take-7 = formed-by s m differs (inr (omega arith, omega arith)) (seven-exactly-when s m)
+  take-7 = formed-by s m differs refl (seven-exactly-when s m)
 
   -- anchor agrees, another held position differs
   pub take-8 : (takeAnswer s m .number ≡ conflict) ↔ (WellFormed s m × Conflicting s m)
   unfolding takeAnswer
-  take-8 = formed-by s m conflict (inr (omega arith, omega arith)) (eight-exactly-when s m)
+  take-8 = formed-by s m conflict refl (eight-exactly-when s m)
 
   pub take-0 : (takeAnswer s m .number ≡ 0) ↔ (WellFormed s m × Acceptable s m)
   unfolding takeAnswer
-  take-0 = formed-by s m 0 (inl refl) (taken-exactly-when s m)
+  take-0 = formed-by s m 0 refl (taken-exactly-when s m)
 
 -- ---- kd_take_reject: 9, 1, 2, 3, 0
 

@@ -14,12 +14,11 @@ use Rattle.tree.specs.Geometry.{pieceCount, blockSize}
 use Rattle.tree.specs.Values.{blockOf}
 use Rattle.store.specs.Store.{usable, fileLength, pieceLength, blocksOf, heightOf, openAnswer, openAfter}
 use Rattle.store.specs.StoreLaws.{usable-facts}
-use Rattle.serve.specs.Serve.{serveAfter}
 use Rattle.marks.specs.Marks.{marksStart, markedAt, markedAnswer, firstBlock, fieldBytes, fieldSize, fieldAnswer, fieldAfter}
-use Rattle.words.specs.History.{Bytes, Call, judgeBlock, judgePiece, number, answer, after, Opening, Steps}
+use Rattle.words.specs.History.{Bytes, Send, Call, judgeBlock, judgePiece, number, answer, after, sentTo, Opening, Steps}
 use Rattle.words.specs.Shown.{heldBy, ofFile, OneHash, Shown}
 use Rattle.words.specs.File.{For, pieceFor, PieceIs}
-use Rattle.words.specs.Marks.{Covers, pieceBit, SameButMarks, AboutHashes, Judges, Clears, JudgedBy, JudgedRight, RightFor}
+use Rattle.words.specs.Marks.{Covers, pieceBit, SameButMarks, SendsHashes, AboutHashes, Judges, Clears, JudgedBy, JudgedRight, RightFor}
 
 -- ---- when a block is marked
 
@@ -77,7 +76,7 @@ pub marks-decide-nothing : {s t : List ℕ} → SameButMarks s t → (c : Call) 
 marks-decide-nothing {s} {t} = Rattle.knowledge.specs.Independence.answers-same s t
 
 -- sends the same bytes,
-pub same-bytes-sent : {s t : List ℕ} → SameButMarks s t → (m out : List ℕ) → serveAfter t m out ≡ serveAfter s m out
+pub same-bytes-sent : {s t : List ℕ} → SameButMarks s t → (k : Send) → SendsHashes k → (out : List ℕ) → sentTo k t out ≡ sentTo k s out
 same-bytes-sent {s} {t} = Rattle.knowledge.specs.Independence.sends-same s t
 
 -- and leaves the same facts and cells

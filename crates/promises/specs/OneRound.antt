@@ -44,7 +44,7 @@ use Rattle.knowledge.specs.AnyOrder.{take-stays}
 use Rattle.knowledge.specs.RoundsEnd.{offerAll, round-of}
 use Rattle.knowledge.specs.Conflict.{sized-bytes}
 use Rattle.knowledge.specs.Positions.{given-is}
-use Rattle.knowledge.specs.Tests.{either, not-both}
+use Rattle.numbers.specs.Tests.{either, not-both}
 use Rattle.promises.specs.Blank.{blank, blank-room, blank-bytes}
 use Rattle.promises.specs.Offered.{offered, twoHashes, offered-header, offered-past, first-hash, second-hash, two-size, well-formed-in}
 

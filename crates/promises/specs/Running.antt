@@ -3,18 +3,19 @@
 -- Cuttings, and crates/history, file Histories.)
 -- Assumes nothing.
 use mathlib.Core.Path.{_≡_, refl, ap, sym, _∙_}
-use mathlib.Core.Bool.{Bool, true, false, cond, and-eq-true-iff}
+use mathlib.Core.Bool.{true, false, and-eq-true-iff}
 use mathlib.Core.List.{List}
 use mathlib.Core.Logic.{_↔_, inl, inr}
-use Prim.Native.Nat.{ℕ, _+_, _*_, _%_, _^_, _≤_, _<_}
+use Prim.Native.Nat.{ℕ, suc, _+_, _*_, _%_, _^_, _≤_, _<_}
 use native.Mathlib.Omega.{arith}
 use native.Mathlib.Decide.{decLe, decLt}
 use lib.ListN.{length, replicate, length-replicate}
 use lib.Dec.{eqb, ltb, leb}
 use borrow.Author.Tests.{lt-ltb, le-ltb, ltb-true, ltb-false, le-leb, lt-leb, leb-true, leb-false, eq-eqb, eqb-true}
 use Rattle.octets.specs.Octets.{zeroHash}
-use Rattle.numbers.specs.Numbers.{wrongSize, unusable, factsOutOfRange, noRoom}
-use Rattle.limits.specs.Limits.{longestFile}
+use Rattle.numbers.specs.Numbers.{wrongSize, unusable, factsOutOfRange, noRoom, InTable}
+use Rattle.numbers.specs.Chain.{Chain, last, test, fault, decided, exactly-of, in-table-of}
+use Rattle.limits.specs.Limits.{longestFile, longestHashed}
 use Rattle.running.specs.Bursts.{stateOf, possible, moreAnswer as hashingMore, endAnswer as hashingEnd}
 use Rattle.running.specs.BurstsLaws.{possible-says, state-total, state-tail}
 use Rattle.running.specs.declared.Hashing.{Hashing}
@@ -28,19 +29,14 @@ use Rattle.history.specs.LastLaws.{history-length}
 use Rattle.history.specs.HistoriesLaws.{state-possible, refused-state, refused-layer, end-refused-layer}
 use Rattle.history.specs.declared.History.{History}
 use Rattle.history.specs.declared.HistoryEnd.{HistoryEnd}
-use Rattle.words.specs.Answers.{InTable, first, later}
-use Rattle.knowledge.specs.Tests.{either, not-both, gated, gated-9, gated-4, gated-on}
+use Rattle.numbers.specs.Tests.{either, not-both, says-not, in-turn, both, alone}
 
 -- ---- what the tests say
 
--- where a test says a thing, its failing says that it isn't so
-fails : {A : Type 0} {b : Bool} → (b ≡ true) ↔ A → (b ≡ false) ↔ (A → ⊥)
-fails {A} {b} w = (λ f a. not-both (w .1 a) f, λ n. elim (either b) [ inl t ↦ absurd (n (w .0 t)) | inr f ↦ f ])
-
 -- the counts of a running hash
-hashing-possible : (s : Hashing) → (possible (s .«tail_size») (s .total) ≡ true) ↔ ((s .total < 2 ^ 61) × (s .«tail_size» ≡ s .total % 64))
+hashing-possible : (s : Hashing) → (possible (s .«tail_size») (s .total) ≡ true) ↔ ((s .total < suc longestHashed) × (s .«tail_size» ≡ s .total % 64))
 unfolding possible
-hashing-possible s = (possible-says (s .«tail_size») (s .total), λ w. rw (lt-ltb (s .total) (2 ^ 61) (w .0), eq-eqb (s .«tail_size») (s .total % 64) (w .1)))
+hashing-possible s = (possible-says (s .«tail_size») (s .total), λ w. rw (lt-ltb (s .total) (suc longestHashed) (w .0), eq-eqb (s .«tail_size») (s .total % 64) (w .1)))
 
 -- those of a history
 history-possible : (s : History) → (possibleCounts s ≡ true) ↔ Possible s
@@ -96,110 +92,69 @@ module _ (s : History) (m : ℕ) where
     λ g. elim (either (ltb m (layerSize s))) [ inl t ↦ (let w = layer-no-room .0 t in absurd (omega (arith, g (w .0), w .1))) | inr f ↦ f ],
   )
 
--- ---- which test gives which number
+-- ---- the numbers as chains of tests
 
-hashing-more-number : (s : Hashing) (y : List ℕ) → hashingMore s y .number ≡ gated (possible (s .«tail_size») (s .total)) true (ltb (s .total + length y) (2 ^ 61)) 0
+abbrev hashingMoreChain : Hashing → List ℕ → Chain
+hashingMoreChain s y = test (possible (s .«tail_size») (s .total)) unusable (test (ltb (s .total + length y) (suc longestHashed)) wrongSize (last 0))
+
+hashing-more-tests : (s : Hashing) (y : List ℕ) → hashingMore s y .number ≡ decided (hashingMoreChain s y)
 unfolding hashingMore
-hashing-more-number s y =
+hashing-more-tests s y =
     elim (either (possible (s .«tail_size») (s .total))) [
-      | inl t ↦ elim (either (ltb (s .total + length y) (2 ^ 61))) [ inl l ↦ rw (t, l) | inr l ↦ rw (t, l) ]
+      | inl t ↦ elim (either (ltb (s .total + length y) (suc longestHashed))) [ inl l ↦ rw (t, l) | inr l ↦ rw (t, l) ]
       | inr f ↦ rw f
     ]
 
-hashing-end-number : (s : Hashing) → hashingEnd s .number ≡ gated (possible (s .«tail_size») (s .total)) true true 0
+abbrev hashingEndChain : Hashing → Chain
+hashingEndChain s = test (possible (s .«tail_size») (s .total)) unusable (last 0)
+
+hashing-end-tests : (s : Hashing) → hashingEnd s .number ≡ decided (hashingEndChain s)
 unfolding hashingEnd
-hashing-end-number s = elim (either (possible (s .«tail_size») (s .total))) [ inl t ↦ rw t | inr f ↦ rw f ]
+hashing-end-tests s = elim (either (possible (s .«tail_size») (s .total))) [ inl t ↦ rw t | inr f ↦ rw f ]
 
--- 9 unless the first test passes, then 10 unless the second does, then 11 if the third does
-abbrev history-gated : Bool → Bool → Bool → ℕ
-history-gated u l r = cond u (cond l (cond r noRoom 0) factsOutOfRange) unusable
+abbrev historyBeginChain : ℕ → Chain
+historyBeginChain plen = test (isPieceLength plen) factsOutOfRange (last 0)
 
-history-gated-9 : (u l r : Bool) → history-gated u l r ≡ unusable → u ≡ false
-history-gated-9 false l r e = refl
-history-gated-9 true false r e = let w : ⊥ = omega arith in absurd w
-history-gated-9 true true false e = let w : ⊥ = omega arith in absurd w
-history-gated-9 true true true e = let w : ⊥ = omega arith in absurd w
-
-history-gated-10 : (u l r : Bool) → history-gated u l r ≡ factsOutOfRange → (u ≡ true) × (l ≡ false)
-history-gated-10 false l r e = let w : ⊥ = omega arith in absurd w
-history-gated-10 true false r e = (refl, refl)
-history-gated-10 true true false e = let w : ⊥ = omega arith in absurd w
-history-gated-10 true true true e = let w : ⊥ = omega arith in absurd w
-
-history-gated-11 : (u l r : Bool) → history-gated u l r ≡ noRoom → (u ≡ true) × (l ≡ true) × (r ≡ true)
-history-gated-11 false l r e = let w : ⊥ = omega arith in absurd w
-history-gated-11 true false r e = let w : ⊥ = omega arith in absurd w
-history-gated-11 true true false e = let w : ⊥ = omega arith in absurd w
-history-gated-11 true true true e = (refl, refl, refl)
-
-history-gated-0 : (u l r : Bool) → history-gated u l r ≡ 0 → (u ≡ true) × (l ≡ true) × (r ≡ false)
-history-gated-0 false l r e = let w : ⊥ = omega arith in absurd w
-history-gated-0 true false r e = let w : ⊥ = omega arith in absurd w
-history-gated-0 true true false e = (refl, refl, refl)
-history-gated-0 true true true e = let w : ⊥ = omega arith in absurd w
-
-history-begin-number : (plen : ℕ) → historyBegin plen .number ≡ history-gated true (isPieceLength plen) false
+history-begin-tests : (plen : ℕ) → historyBegin plen .number ≡ decided (historyBeginChain plen)
 unfolding historyBegin
-history-begin-number plen = elim (either (isPieceLength plen)) [ inl t ↦ rw t | inr f ↦ rw f ]
+history-begin-tests plen = elim (either (isPieceLength plen)) [ inl t ↦ rw t | inr f ↦ rw f ]
 
-history-more-number : (s : History) (y layer : List ℕ)
-    → historyMore s y layer .number ≡ history-gated (possibleCounts s) (leb (s .length + length y) longestFile) (noRoomFor s (length y) (length layer))
+abbrev historyMoreChain : History → List ℕ → List ℕ → Chain
+historyMoreChain s y layer =
+    test (possibleCounts s) unusable (test (leb (s .length + length y) longestFile) factsOutOfRange (fault (noRoomFor s (length y) (length layer)) noRoom (last 0)))
+
+history-more-tests : (s : History) (y layer : List ℕ) → historyMore s y layer .number ≡ decided (historyMoreChain s y layer)
 unfolding historyMore moreNumber
-history-more-number s y layer = refl
+history-more-tests s y layer = refl
 
 end-number : (s : History) (layer : List ℕ) → historyEnd s layer .number ≡ endNumber s (length layer)
 unfolding historyEnd
 end-number s layer =
     elim (either (eqb (endNumber s (length layer)) 0)) [ inl t ↦ rw t (sym (eqb-true (endNumber s (length layer)) 0 t)) | inr f ↦ rw f ]
 
-history-end-number : (s : History) (layer : List ℕ) → historyEnd s layer .number ≡ history-gated (possibleCounts s) true (ltb (length layer) (layerSize s))
+abbrev historyEndChain : History → List ℕ → Chain
+historyEndChain s layer = test (possibleCounts s) unusable (fault (ltb (length layer) (layerSize s)) noRoom (last 0))
+
+history-end-tests : (s : History) (layer : List ℕ) → historyEnd s layer .number ≡ decided (historyEndChain s layer)
 unfolding endNumber
-history-end-number s layer = end-number s layer
+history-end-tests s layer = end-number s layer
 
 -- ---- 00, demand 1: "answers with a number from the table,"
 
--- 0, 4, 9, 10 and 11 are in the table
-done-in : InTable 0
-done-in = first
-
-wrong-size-in : InTable wrongSize
-wrong-size-in = later (later (later (later first)))
-
-unusable-in : InTable unusable
-unusable-in = later (later (later (later (later (later (later (later (later first))))))))
-
-out-of-range-in : InTable factsOutOfRange
-out-of-range-in = later (later (later (later (later (later (later (later (later (later first)))))))))
-
-no-room-in : InTable noRoom
-no-room-in = later (later (later (later (later (later (later (later (later (later (later first))))))))))
-
-gated-in : (u z : Bool) → InTable (gated u true z 0)
-gated-in true true = done-in
-gated-in true false = wrong-size-in
-gated-in false z = unusable-in
-
-history-gated-in : (u l r : Bool) → InTable (history-gated u l r)
-history-gated-in true true true = no-room-in
-history-gated-in true true false = done-in
-history-gated-in true false r = out-of-range-in
-history-gated-in false l r = unusable-in
-
 pub hashing-more-in-table : (s : Hashing) (y : List ℕ) → InTable (hashingMore s y .number)
-hashing-more-in-table s y = rw (hashing-more-number s y) (gated-in (possible (s .«tail_size») (s .total)) (ltb (s .total + length y) (2 ^ 61)))
+hashing-more-in-table s y = in-table-of (hashingMoreChain s y) (hashing-more-tests s y) refl
 
 pub hashing-end-in-table : (s : Hashing) → InTable (hashingEnd s .number)
-hashing-end-in-table s = rw (hashing-end-number s) (gated-in (possible (s .«tail_size») (s .total)) true)
+hashing-end-in-table s = in-table-of (hashingEndChain s) (hashing-end-tests s) refl
 
 pub history-begin-in-table : (plen : ℕ) → InTable (historyBegin plen .number)
-history-begin-in-table plen = rw (history-begin-number plen) (history-gated-in true (isPieceLength plen) false)
+history-begin-in-table plen = in-table-of (historyBeginChain plen) (history-begin-tests plen) refl
 
 pub history-more-in-table : (s : History) (y layer : List ℕ) → InTable (historyMore s y layer .number)
-history-more-in-table s y layer =
-    rw (history-more-number s y layer) (history-gated-in (possibleCounts s) (leb (s .length + length y) longestFile) (noRoomFor s (length y) (length layer)))
+history-more-in-table s y layer = in-table-of (historyMoreChain s y layer) (history-more-tests s y layer) refl
 
 pub history-end-in-table : (s : History) (layer : List ℕ) → InTable (historyEnd s layer .number)
-history-end-in-table s layer = rw (history-end-number s layer) (history-gated-in (possibleCounts s) true (ltb (length layer) (layerSize s)))
+history-end-in-table s layer = in-table-of (historyEndChain s layer) (history-end-tests s layer) refl
 
 -- ---- demand 1: "and on a refusal changes no byte it was lent,"; 02: "None changes anything." The state comes back as it was given, and
 -- the lent layer stays.
@@ -208,7 +163,7 @@ pub hashing-more-refused : (s : Hashing) (y : List ℕ) → (hashingMore s y .nu
 unfolding hashingMore
 hashing-more-refused s y ne =
     elim (either (possible (s .«tail_size») (s .total))) [
-      | inl t ↦ elim (either (ltb (s .total + length y) (2 ^ 61))) [ inl l ↦ absurd (ne (rw (t, l))) | inr l ↦ rw (t, l) ]
+      | inl t ↦ elim (either (ltb (s .total + length y) (suc longestHashed))) [ inl l ↦ absurd (ne (rw (t, l))) | inr l ↦ rw (t, l) ]
       | inr f ↦ rw f
     ]
 
@@ -247,8 +202,8 @@ unfolding zeros
 zeros-length n = length-replicate n 0
 
 pub hashing-counts : (s : Hashing)
-    → ((s .total < 2 ^ 61) × (s .«tail_size» ≡ s .total % 64))
-    ↔ ((x : List ℕ) × (length x < 2 ^ 61) × (s .total ≡ stateOf x .total) × (s .«tail_size» ≡ stateOf x .«tail_size»))
+    → ((s .total < suc longestHashed) × (s .«tail_size» ≡ s .total % 64))
+    ↔ ((x : List ℕ) × (length x < suc longestHashed) × (s .total ≡ stateOf x .total) × (s .«tail_size» ≡ stateOf x .«tail_size»))
 hashing-counts s = (
   λ w.
       (let x = zeros (s .total) in
@@ -284,133 +239,102 @@ history-counts s = (
 
 module _ (s : Hashing) (y : List ℕ) where
   -- "a state whose counts no bursts give"
-  pub hashing-more-9 : (hashingMore s y .number ≡ unusable) ↔ ((s .total < 2 ^ 61) × (s .«tail_size» ≡ s .total % 64) → ⊥)
-  hashing-more-9 = (
-    λ e. fails (hashing-possible s) .0 (gated-9 _ true (ltb (s .total + length y) (2 ^ 61)) 0 (λ z. omega arith) (sym (hashing-more-number s y) ∙ e)),
-    λ n. hashing-more-number s y ∙ rw (fails (hashing-possible s) .1 n),
-  )
+  pub hashing-more-9 : (hashingMore s y .number ≡ unusable) ↔ ((s .total < suc longestHashed) × (s .«tail_size» ≡ s .total % 64) → ⊥)
+  hashing-more-9 = in-turn (exactly-of (hashingMoreChain s y) unusable (hashing-more-tests s y) refl) (says-not (hashing-possible s))
 
   -- 01: a string above 2^61 - 1 bytes is answered 4
-  pub hashing-more-4 : (hashingMore s y .number ≡ wrongSize) ↔ (((s .total < 2 ^ 61) × (s .«tail_size» ≡ s .total % 64)) × (2 ^ 61 ≤ s .total + length y))
-  hashing-more-4 = (
-    λ e.
-        (let t = gated-4 _ true _ 0 (λ z. omega arith) (sym (hashing-more-number s y) ∙ e) in
-        (hashing-possible s .0 (t .0), ltb-false (s .total + length y) (2 ^ 61) (t .2))),
-    λ w. hashing-more-number s y ∙ rw (hashing-possible s .1 (w .0), le-ltb (s .total + length y) (2 ^ 61) (w .1)),
-  )
+  pub hashing-more-4 : (hashingMore s y .number ≡ wrongSize) ↔ (((s .total < suc longestHashed) × (s .«tail_size» ≡ s .total % 64)) × (suc longestHashed ≤ s .total + length y))
+  hashing-more-4 =
+      in-turn (exactly-of (hashingMoreChain s y) wrongSize (hashing-more-tests s y) refl)
+      (both (hashing-possible s) (ltb-false (s .total + length y) (suc longestHashed), le-ltb (s .total + length y) (suc longestHashed)))
 
-  pub hashing-more-0 : (hashingMore s y .number ≡ 0) ↔ (((s .total < 2 ^ 61) × (s .«tail_size» ≡ s .total % 64)) × (s .total + length y < 2 ^ 61))
-  hashing-more-0 = (
-    λ e.
-        (let t =
-        gated-on 0 (λ z. omega arith) (λ z. omega arith) (λ z. omega arith) _ true _ 0 (sym (hashing-more-number s y) ∙ e) in
-        (hashing-possible s .0 (t .0), ltb-true (s .total + length y) (2 ^ 61) (t .2))),
-    λ w. hashing-more-number s y ∙ rw (hashing-possible s .1 (w .0), lt-ltb (s .total + length y) (2 ^ 61) (w .1)),
-  )
+  pub hashing-more-0 : (hashingMore s y .number ≡ 0) ↔ (((s .total < suc longestHashed) × (s .«tail_size» ≡ s .total % 64)) × (s .total + length y < suc longestHashed))
+  hashing-more-0 =
+      in-turn (exactly-of (hashingMoreChain s y) 0 (hashing-more-tests s y) refl)
+      (both (hashing-possible s) (alone (ltb-true (s .total + length y) (suc longestHashed), lt-ltb (s .total + length y) (suc longestHashed))))
 
 -- ---- kd_hashing_end: 9, 0
 
 module _ (s : Hashing) where
   -- "a state whose counts no bursts give"
-  pub hashing-end-9 : (hashingEnd s .number ≡ unusable) ↔ ((s .total < 2 ^ 61) × (s .«tail_size» ≡ s .total % 64) → ⊥)
-  hashing-end-9 = (
-    λ e. fails (hashing-possible s) .0 (gated-9 _ true true 0 (λ z. omega arith) (sym (hashing-end-number s) ∙ e)),
-    λ n. hashing-end-number s ∙ rw (fails (hashing-possible s) .1 n),
-  )
+  pub hashing-end-9 : (hashingEnd s .number ≡ unusable) ↔ ((s .total < suc longestHashed) × (s .«tail_size» ≡ s .total % 64) → ⊥)
+  hashing-end-9 = in-turn (exactly-of (hashingEndChain s) unusable (hashing-end-tests s) refl) (says-not (hashing-possible s))
 
-  pub hashing-end-0 : (hashingEnd s .number ≡ 0) ↔ ((s .total < 2 ^ 61) × (s .«tail_size» ≡ s .total % 64))
-  hashing-end-0 = (
-    λ e.
-        hashing-possible s .0
-        (gated-on 0 (λ z. omega arith) (λ z. omega arith) (λ z. omega arith) _ true true 0 (sym (hashing-end-number s) ∙ e) .0),
-    λ w. hashing-end-number s ∙ rw (hashing-possible s .1 w),
-  )
+  pub hashing-end-0 : (hashingEnd s .number ≡ 0) ↔ ((s .total < suc longestHashed) × (s .«tail_size» ≡ s .total % 64))
+  hashing-end-0 =
+      in-turn (exactly-of (hashingEndChain s) 0 (hashing-end-tests s) refl) (alone (hashing-possible s))
 
 -- ---- kd_history_begin: 10, 0
 
 module _ (plen : ℕ) where
   -- "a bad piece length at the start": it isn't 16384·2^p for a p up to 10
   pub history-begin-10 : (historyBegin plen .number ≡ factsOutOfRange) ↔ ((p : ℕ) × (p ≤ 10) × (plen ≡ blockLength * 2 ^ p) → ⊥)
-  history-begin-10 = (
-    λ e. fails (piece-length-exactly plen) .0 (history-gated-10 true _ false (sym (history-begin-number plen) ∙ e) .1),
-    λ n. history-begin-number plen ∙ rw (fails (piece-length-exactly plen) .1 n),
-  )
+  history-begin-10 = in-turn (exactly-of (historyBeginChain plen) factsOutOfRange (history-begin-tests plen) refl) (says-not (piece-length-exactly plen))
 
   pub history-begin-0 : (historyBegin plen .number ≡ 0) ↔ ((p : ℕ) × (p ≤ 10) × (plen ≡ blockLength * 2 ^ p))
-  history-begin-0 = (
-    λ e. piece-length-exactly plen .0 (history-gated-0 true _ false (sym (history-begin-number plen) ∙ e) .1),
-    λ w. history-begin-number plen ∙ rw (piece-length-exactly plen .1 w),
-  )
+  history-begin-0 =
+      in-turn (exactly-of (historyBeginChain plen) 0 (history-begin-tests plen) refl) (alone (piece-length-exactly plen))
 
 -- ---- kd_history_more: 9, 10, 11, 0
 
 module _ (s : History) (y layer : List ℕ) where
   -- "a state whose counts no bursts give, 9, before both"
   pub history-more-9 : (historyMore s y layer .number ≡ unusable) ↔ (Possible s → ⊥)
-  history-more-9 = (
-    λ e.
-        fails (history-possible s) .0
-        (history-gated-9 _ (leb (s .length + length y) longestFile) (noRoomFor s (length y) (length layer)) (sym (history-more-number s y layer) ∙ e)),
-    λ n. history-more-number s y layer ∙ rw (fails (history-possible s) .1 n),
-  )
+  history-more-9 = in-turn (exactly-of (historyMoreChain s y layer) unusable (history-more-tests s y layer) refl) (says-not (history-possible s))
 
   -- "a burst past 2^30", since request 6 past 2^34
   pub history-more-10 : (historyMore s y layer .number ≡ factsOutOfRange) ↔ (Possible s × (longestFile < s .length + length y))
-  history-more-10 = (
-    λ e.
-        (let t = history-gated-10 _ _ (noRoomFor s (length y) (length layer)) (sym (history-more-number s y layer) ∙ e) in
-        (history-possible s .0 (t .0), leb-false (s .length + length y) longestFile (t .1))),
-    λ w. history-more-number s y layer ∙ rw (history-possible s .1 (w .0), lt-leb (s .length + length y) longestFile (w .1)),
-  )
+  history-more-10 =
+      in-turn (exactly-of (historyMoreChain s y layer) factsOutOfRange (history-more-tests s y layer) refl)
+      (both (history-possible s) (leb-false (s .length + length y) longestFile, lt-leb (s .length + length y) longestFile))
 
   -- "a burst … whose hashes don't fit the lent layer": the history runs past a piece, and there is no room for the hashes of all passed so far
   pub history-more-11 : (historyMore s y layer .number ≡ noRoom)
       ↔ (Possible s × (s .length + length y ≤ longestFile) × (passed (s .length) (s .«piece_length») < passed (s .length + length y) (s .«piece_length»))
       × (length layer < 32 * passed (s .length + length y) (s .«piece_length»)))
-  history-more-11 = (
-    λ e.
-        (let t = history-gated-11 _ _ _ (sym (history-more-number s y layer) ∙ e) in
-        let w = due-no-room s (length y) (length layer) .0 (t .2) in
-        (history-possible s .0 (t .0), leb-true (s .length + length y) longestFile (t .1), w .0, w .1)),
-    λ w. history-more-number s y layer ∙ rw (history-possible s .1 (w .0), le-leb (s .length + length y) longestFile (w .1), due-no-room s (length y) (length layer) .1 (w .2, w .3)),
-  )
+  history-more-11 =
+      let c = exactly-of (historyMoreChain s y layer) noRoom (history-more-tests s y layer) refl in (
+        λ e.
+            (let t = c .0 e in
+            let w = due-no-room s (length y) (length layer) .0 (t .1 .1) in
+            (history-possible s .0 (t .0), leb-true (s .length + length y) longestFile (t .1 .0), w .0, w .1)),
+        λ w. c .1 (history-possible s .1 (w .0), (le-leb (s .length + length y) longestFile (w .1), due-no-room s (length y) (length layer) .1 (w .2, w .3))),
+      )
 
   pub history-more-0 : (historyMore s y layer .number ≡ 0)
       ↔ (Possible s × (s .length + length y ≤ longestFile)
       × (passed (s .length) (s .«piece_length») < passed (s .length + length y) (s .«piece_length») → 32 * passed (s .length + length y) (s .«piece_length») ≤ length layer))
-  history-more-0 = (
-    λ e.
-        (let t = history-gated-0 _ _ _ (sym (history-more-number s y layer) ∙ e) in
-        (history-possible s .0 (t .0), leb-true (s .length + length y) longestFile (t .1), due-room s (length y) (length layer) .0 (t .2))),
-    λ w. history-more-number s y layer ∙ rw (history-possible s .1 (w .0), le-leb (s .length + length y) longestFile (w .1), due-room s (length y) (length layer) .1 (w .2)),
-  )
+  history-more-0 =
+      let c = exactly-of (historyMoreChain s y layer) 0 (history-more-tests s y layer) refl in (
+        λ e.
+            (let t = c .0 e in
+            (history-possible s .0 (t .0), leb-true (s .length + length y) longestFile (t .1 .0), due-room s (length y) (length layer) .0 (t .1 .1 .0))),
+        λ w. c .1 (history-possible s .1 (w .0), (le-leb (s .length + length y) longestFile (w .1), (due-room s (length y) (length layer) .1 (w .2), refl))),
+      )
 
 -- ---- kd_history_end: 9, 11, 0
 
 module _ (s : History) (layer : List ℕ) where
   -- "a state whose counts no bursts give, 9, before both"
   pub history-end-9 : (historyEnd s layer .number ≡ unusable) ↔ (Possible s → ⊥)
-  history-end-9 = (
-    λ e. fails (history-possible s) .0 (history-gated-9 _ true (ltb (length layer) (layerSize s)) (sym (history-end-number s layer) ∙ e)),
-    λ n. history-end-number s layer ∙ rw (fails (history-possible s) .1 n),
-  )
+  history-end-9 = in-turn (exactly-of (historyEndChain s layer) unusable (history-end-tests s layer) refl) (says-not (history-possible s))
 
   -- "a … end whose hashes don't fit the lent layer": the history is longer than the piece length, and there is no room for all its hashes
   pub history-end-11 : (historyEnd s layer .number ≡ noRoom)
       ↔ (Possible s × (s .«piece_length» < s .length) × (length layer < 32 * pieceCount (s .length) (s .«piece_length»)))
-  history-end-11 = (
-    λ e.
-        (let t = history-gated-11 _ true _ (sym (history-end-number s layer) ∙ e) in
-        let w = layer-no-room s (length layer) .0 (t .2) in
-        (history-possible s .0 (t .0), w .0, w .1)),
-    λ w. history-end-number s layer ∙ rw (history-possible s .1 (w .0), layer-no-room s (length layer) .1 (w .1, w .2)),
-  )
+  history-end-11 =
+      let c = exactly-of (historyEndChain s layer) noRoom (history-end-tests s layer) refl in (
+        λ e.
+            (let t = c .0 e in
+            let w = layer-no-room s (length layer) .0 (t .1) in
+            (history-possible s .0 (t .0), w .0, w .1)),
+        λ w. c .1 (history-possible s .1 (w .0), layer-no-room s (length layer) .1 (w .1, w .2)),
+      )
 
   pub history-end-0 : (historyEnd s layer .number ≡ 0)
       ↔ (Possible s × (s .«piece_length» < s .length → 32 * pieceCount (s .length) (s .«piece_length») ≤ length layer))
-  history-end-0 = (
-    λ e.
-        (let t = history-gated-0 _ true _ (sym (history-end-number s layer) ∙ e) in
-        (history-possible s .0 (t .0), layer-room s (length layer) .0 (t .2))),
-    λ w. history-end-number s layer ∙ rw (history-possible s .1 (w .0), layer-room s (length layer) .1 (w .1)),
-  )
+  history-end-0 =
+      let c = exactly-of (historyEndChain s layer) 0 (history-end-tests s layer) refl in (
+        λ e. (let t = c .0 e in (history-possible s .0 (t .0), layer-room s (length layer) .0 (t .1 .0))),
+        λ w. c .1 (history-possible s .1 (w .0), (layer-room s (length layer) .1 (w .1), refl)),
+      )

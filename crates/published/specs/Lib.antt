@@ -9,3 +9,5 @@ pub mod TripLaws
 pub mod OutcomeLaws
 pub mod Promised
 pub mod Worked
+pub mod TwoLayers
+pub mod Logger

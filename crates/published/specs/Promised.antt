@@ -138,12 +138,6 @@ pub write-done : (list text : List ℕ) (plen : ℕ) (name out : List ℕ) → w
     × ((i : ℕ) → writeAnswer list text plen name out .count ≤ i → getD (writeAfter list text plen name out) i 0 ≡ getD out i 0)
 write-done = behind-stays
 
--- no second outcome satisfies the contract
-pub one-write : (list text : List ℕ) (plen : ℕ) (name out : List ℕ) (x y : Answer) (t u : List ℕ)
-    → (x ≡ writeAnswer list text plen name out) × (t ≡ writeAfter list text plen name out) → (y ≡ writeAnswer list text plen name out) × (u ≡ writeAfter list text plen name out)
-    → (x ≡ y) × (t ≡ u)
-one-write list text plen name out x y t u p q = (p .0 ∙ sym (q .0), p .1 ∙ sym (q .1))
-
 -- 20, 22 and 23 are never given
 pub never-given : (list text : List ℕ) (plen : ℕ) (name out : List ℕ) (n : ℕ) → (n ≡ notStrict) ⊎ ((n ≡ keyMissing) ⊎ (n ≡ otherVersion)) → writeAnswer list text plen name out .number ≡ n → ⊥
 never-given list text plen name out n k e = by-outcome (writeAnswer list text plen name out) (writeAfter list text plen name out) (outcome list text plen name out) e k

@@ -1,19 +1,11 @@
 -- FIPS 180-4, section 6.2.2: the message schedule and the rounds of one block of 64 bytes.
 -- Assumes nothing.
 use mathlib.Core.List.{List, [], _∷_, _++_}
-use Prim.Native.Nat.{ℕ, zero, suc, _+_, _-_, _*_, _%_, _^_}
+use Prim.Native.Nat.{ℕ, zero, suc, _+_, _-_, _%_, _^_}
 use lib.ListN.{getD}
+use Rattle.bits.specs.Parsing.{words}
 use Rattle.bits.specs.Words.{Ch, Maj, Σ₀, Σ₁, σ₀, σ₁}
 use Rattle.rounds.specs.declared.State.{State}
-
--- a word of a block, the most significant byte first
-unfoldable pub wordAt : List ℕ → ℕ → ℕ
-wordAt m i = getD m i 0 * 2 ^ 24 + getD m (i + 1) 0 * 2 ^ 16 + getD m (i + 2) 0 * 2 ^ 8 + getD m (i + 3) 0
-
--- the first n words of a block
-unfoldable pub words : ℕ → List ℕ → List ℕ
-words zero m = []
-words (suc n) m = words n m ++ (wordAt m (4 * n) ∷ [])
 
 -- W_t from the words before it
 unfoldable pub next : List ℕ → ℕ → ℕ

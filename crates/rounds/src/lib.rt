@@ -3,6 +3,7 @@ ghost use mathlib.Core.Path.{_≡_};
 ghost use Prim.Native.Nat.{ℕ, _+_, _*_, _<_, _≤_};
 ghost use mathlib.Core.List.{List};
 ghost use lib.ListN.{length, take, drop, set};
+ghost use Rattle.bits.specs.Parsing.{words};
 ghost use Rattle.rounds.specs.Block as S;
 ghost use Rattle.rounds.specs.Stage.{Stage};
 ghost use Rattle.rounds.specs.Sums.{sums, roundsBy};
@@ -14,7 +15,7 @@ use bits::ch;
 use bits::maj;
 use bits::small0;
 use bits::small1;
-use bits::wide;
+use bits::word;
 
 // The eight working words.
 pub struct State {
@@ -61,17 +62,10 @@ fn sum(s: State, t: State) -> State
     }
 }
 
-pub fn word(s: &[u8], i: usize) -> u32
-    requires { ⌜ i + 4 ≤ length (now s) ⌝ }
-    ensures { λ r. ⌜ r ≡ S.wordAt (now (s .entry)) i ⌝ }
-{
-    (wide(s[i]) << 24) | (wide(s[i + 1]) << 16) | (wide(s[i + 2]) << 8) | wide(s[i + 3])
-}
-
 // The sixteen words of the block that starts at `at`, into the first sixteen of w.
 fn load(w: &mut [u32; 64], s: &[u8], at: usize)
     requires { ⌜ (at + 64 ≤ length (now s)) × (length (now w) ≡ 64) ⌝ }
-    ensures { λ _. ⌜ (length (now (w .exit)) ≡ 64) × (take 16 (now (w .exit)) ≡ S.words 16 (take 64 (drop at (now (s .entry))))) ⌝ }
+    ensures { λ _. ⌜ (length (now (w .exit)) ≡ 64) × (take 16 (now (w .exit)) ≡ words 16 (take 64 (drop at (now (s .entry))))) ⌝ }
 {
     let mut i: usize = 0;
     while i < 16 {

@@ -9,12 +9,12 @@ use lib.Seq.{take-all, take-append-add, drop-append-add, drop-cons, length-take-
 use Rattle.constants.specs.Constants.{K}
 use Rattle.padding.specs.Padding.{padding}
 use Rattle.padding.specs.Cutting.{overBlocks}
-use Rattle.padding.specs.Running.{wholeBlocks, pastBlocks, runningOf, runningMore, runningEnd}
+use Rattle.padding.specs.Running.{tailArray, wholeBlocks, pastBlocks, runningOf, runningMore, runningEnd}
 use Rattle.padding.specs.RunningLaws.{whole-short, past-short, whole-first, past-first}
 use Rattle.rounds.specs.Block.{compress}
 use Rattle.rounds.specs.declared.State.{State}
 use Rattle.sha256.specs.Sha256.{start}
-use Rattle.running.specs.Bursts.{toWords, fromWords, tailArray, saying, saidBy, stateOf, absorbed}
+use Rattle.running.specs.Bursts.{toWords, fromWords, saying, saidBy, stateOf, absorbed}
 use Rattle.running.specs.BurstsLaws.{absorbed-counts}
 use Rattle.running.specs.declared.Hashing.{Hashing}
 

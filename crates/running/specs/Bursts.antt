@@ -1,14 +1,15 @@
 -- 02, request 1: SHA-256 of bytes that come in bursts. A state is a value: it goes in, and comes back beside the number.
 -- Assumes nothing.
-use mathlib.Core.List.{List, [], _∷_, _++_}
+use mathlib.Core.List.{List, [], _∷_}
 use mathlib.Core.Bool.{Bool, cond, _&&_}
-use Prim.Native.Nat.{ℕ, _+_, _-_, _%_, _^_}
-use lib.ListN.{length, take, getD, replicate}
+use Prim.Native.Nat.{ℕ, suc, _+_, _%_}
+use lib.ListN.{length, take, getD}
 use lib.Dec.{eqb, ltb}
 use Rattle.octets.specs.Octets.{zeroHash}
 use Rattle.numbers.specs.Numbers.{wrongSize, unusable}
+use Rattle.limits.specs.Limits.{longestHashed}
 use Rattle.constants.specs.Constants.{K}
-use Rattle.padding.specs.Running.{Running, runningOf, runningMore, runningEnd}
+use Rattle.padding.specs.Running.{Running, tailArray, runningOf, runningMore, runningEnd}
 use Rattle.rounds.specs.Block.{compress}
 use Rattle.rounds.specs.declared.State.{State}
 use Rattle.sha256.specs.Sha256.{start, digest}
@@ -28,10 +29,6 @@ fromWords w =
 unfoldable pub saidBy : Hashing → Running State
 saidBy s = record { words = fromWords (s .words); tail = take (s .«tail_size») (s .tail); total = s .total }
 
--- the tail array for the bytes t: zero behind them
-unfoldable pub tailArray : List ℕ → List ℕ
-tailArray t = t ++ replicate (64 - length t) 0
-
 -- the state that says it
 unfoldable pub saying : Running State → Hashing
 saying r = record { words = toWords (r .words); tail = tailArray (r .tail); «tail_size» = length (r .tail); total = r .total }
@@ -42,7 +39,7 @@ stateOf xs = saying (runningOf (compress K) start xs)
 
 -- whether some bursts give these counts: the tail's length, and the total
 unfoldable pub possible : ℕ → ℕ → Bool
-possible n total = ltb total (2 ^ 61) && eqb n (total % 64)
+possible n total = ltb total (suc longestHashed) && eqb n (total % 64)
 
 -- the state after a burst ys
 unfoldable pub absorbed : Hashing → List ℕ → Hashing
@@ -52,11 +49,11 @@ absorbed s ys = saying (runningMore (compress K) (saidBy s) ys)
 unfoldable pub hashOf : Hashing → List ℕ
 hashOf s = digest (runningEnd (compress K) (saidBy s))
 
--- 9: counts that no bursts give; 4: past 2^61 - 1 bytes; the state is handed back as it was given
+-- 9: counts that no bursts give; 4: past the longest string that has a hash; the state is handed back as it was given
 unfoldable pub moreAnswer : Hashing → List ℕ → HashingAnswer
 moreAnswer s ys =
     cond (possible (s .«tail_size») (s .total))
-    (cond (ltb (s .total + length ys) (2 ^ 61)) (record { number = 0; hashing = absorbed s ys }) (record { number = wrongSize; hashing = s }))
+    (cond (ltb (s .total + length ys) (suc longestHashed)) (record { number = 0; hashing = absorbed s ys }) (record { number = wrongSize; hashing = s }))
     (record { number = unusable; hashing = s })
 
 unfoldable pub endAnswer : Hashing → Hashed

@@ -1,10 +1,10 @@
 // SHA-256 of bytes that come in bursts. A state goes in by value, and comes back after each burst.
 ghost use mathlib.Core.Path.{_≡_};
-ghost use mathlib.Core.List.{[], _++_};
-ghost use Prim.Native.Nat.{_+_, _≤_, _<_, _%_, _^_};
-ghost use lib.ListN.{length, take};
-ghost use Rattle.octets.specs.Octets.{pasted};
+ghost use mathlib.Core.List.{[]};
+ghost use Prim.Native.Nat.{_+_, _<_, _%_, _^_};
+ghost use lib.ListN.{length};
 ghost use Rattle.running.specs.Bursts as B;
+use padding::filled;
 use rounds::State;
 use sha256::Hashed;
 
@@ -45,18 +45,6 @@ fn from_words(w: [u32; 8]) -> State
     }
 }
 
-// s into b from `at` on.
-fn put(b: &mut [u8; 64], at: usize, s: &[u8])
-    requires { ⌜ (at + length (now s) ≤ 64) × (length (now b) ≡ 64) ⌝ }
-    ensures { λ _. ⌜ now (b .exit) ≡ pasted (now (b .entry)) at (now (s .entry)) ⌝ }
-{
-    let mut i: usize = 0;
-    while i < s.len() {
-        b[at + i] = s[i];
-        i += 1;
-    }
-}
-
 // No bytes yet.
 pub fn begin() -> Hashing
     ensures { λ r. ⌜ r ≡ B.stateOf [] ⌝ }
@@ -75,21 +63,10 @@ pub fn begin() -> Hashing
 pub fn is_possible(tail_size: u64, total: u64) -> bool
     ensures { λ r. ⌜ r ≡ B.possible «tail_size» total ⌝ }
 {
-    if total < 0x2000_0000_0000_0000 {
+    if total as usize <= limits::LONGEST_HASHED {
         return tail_size == total % 64;
     }
     false
-}
-
-// The first n bytes of the tail and then s, with zeros behind.
-fn filled(tail: [u8; 64], n: usize, s: &[u8]) -> [u8; 64]
-    requires { ⌜ n + length (now s) ≤ 64 ⌝ }
-    ensures { λ r. ⌜ r ≡ B.tailArray (take n tail ++ now (s .entry)) ⌝ }
-{
-    let mut b = [0u8; 64];
-    put(&mut b, 0, &tail[0..n]);
-    put(&mut b, n, s);
-    b
 }
 
 // The state after a burst s.
@@ -140,13 +117,13 @@ pub fn hash_of(h: Hashing) -> [u8; 32]
     sha256::digest(sha256::finish(from_words(words), &k, &tail[0..n], h.total))
 }
 
-// Takes a burst s: 9 for counts that no bursts give, 4 past 2^61 - 1 bytes, else 0 and the state after it.
+// Takes a burst s: 9 for counts that no bursts give, 4 past the longest string that has a hash, else 0 and the state after it.
 pub fn more(h: Hashing, s: &[u8]) -> HashingAnswer
     ensures { λ r. ⌜ r ≡ B.moreAnswer h (now (s .entry)) ⌝ }
 {
     if is_possible(h.tail_size, h.total) {
-        let left = 0x2000_0000_0000_0000 - h.total;
-        if (s.len() as u64) < left {
+        let left = limits::LONGEST_HASHED - h.total as usize;
+        if s.len() <= left {
             return HashingAnswer {
                 number: 0,
                 hashing: absorb(h, s),

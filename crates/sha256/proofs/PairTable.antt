@@ -7,7 +7,8 @@ use Prim.Native.Nat.{ℕ}
 use Rattle.bits.specs.Words.{rotr, σ₀, σ₁}
 use Rattle.constants.specs.Constants.{root, indivisible, primesFrom, primes, rootWord, K}
 use Rattle.padding.specs.Padding.{padding, zeros}
-use Rattle.rounds.specs.Block.{wordAt, words, next, schedule}
+use Rattle.bits.specs.Parsing.{wordAt, words}
+use Rattle.rounds.specs.Block.{next, schedule}
 use Rattle.rounds.specs.Sums.{sums}
 
 unfoldable pub pair-table : List ℕ

@@ -113,11 +113,11 @@ pub fn hash(s: &[u8]) -> [u8; 32]
     digest(finish(t, &k, rest, n as u64))
 }
 
-// The hash of the bytes of s; 4 above 2^61 - 1 bytes.
+// The hash of the bytes of s; 4 above the longest string that has one.
 pub fn sha256(s: &[u8]) -> Hashed
     ensures { λ r. ⌜ r ≡ hashedOf (now (s .entry)) ⌝ }
 {
-    if s.len() < 0x2000_0000_0000_0000 {
+    if s.len() <= limits::LONGEST_HASHED {
         let h = hash(s);
         return Hashed { number: 0, hash: h };
     }

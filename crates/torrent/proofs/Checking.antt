@@ -3,7 +3,7 @@
 use mathlib.Core.Path.{_≡_, refl, sym, ap, _∙_}
 use mathlib.Core.Bool.{Bool, true, false, cond, _&&_, false≢true}
 use mathlib.Core.List.{List, _++_, append-assoc}
-use Prim.Native.Nat.{ℕ, zero, suc, _+_, _-_, _*_, _≤_, _<_}
+use Prim.Native.Nat.{ℕ, zero, suc, _+_, _-_, _≤_, _<_}
 use native.Mathlib.Omega.{arith}
 use lib.ListN.{length, take, drop, getD, length-append}
 use lib.Seq.{getD-take, take-at}
@@ -23,13 +23,12 @@ use Rattle.filetree.specs.Count.{mostRoots, noTally, tallyAfter, countedOf}
 use Rattle.filetree.specs.CountLaws.{CountedTree}
 use Rattle.filetree.specs.FilesLaws.{files-right, roots-right}
 use Rattle.filetree.specs.declared.count.Tally.{Tally}
-use Rattle.filetree.specs.declared.count.Counted.{Counted}
 use Rattle.filetree.specs.declared.count.Counted.the-variants.{Past, WrongTree}
 use Rattle.twins.specs.Twins.{layerCount, comparedOf, Rooted}
 use Rattle.twins.specs.WalkLaws.{roots-stand, layers-roots}
 use Rattle.twins.specs.declared.Compared.the-variants.{Agree, Differ}
 use Rattle.layers.specs.Layers.{keysWide, layerKeys, Indexed, LayersOpen, worst}
-use Rattle.torrent.specs.Torrent.{filesNumber, treeNumber, judgedAs, judgedOf, unread, withJudged, checkedOf}
+use Rattle.torrent.specs.Torrent.{filesNumber, treeNumber, judgedAs, judgedOf, unread, checkedOf}
 use Rattle.torrent.specs.CheckLaws.{Open, keys-open}
 use Rattle.torrent.specs.declared.check.Judged.{Judged}
 use Rattle.torrent.specs.declared.check.Checked.{Checked}
@@ -104,9 +103,6 @@ module _ (t l : List ℕ) (plen : ℕ) where
 
     pub counted-right : right (filesIn t) ≡ true
     counted-right = so .0
-
-    pub counted-files : c .files ≡ length fs
-    counted-files = so .1
 
     pub full-fits : c .roots ≤ mostRoots
     full-fits = let a = start-fits roots₀ (rootsOf fs) in let b = ap length (e .1 (so .0)) in let d = so .2 in omega arith

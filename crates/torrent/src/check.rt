@@ -80,7 +80,7 @@ fn judge_in(t: &[u8], l: &[u8], plen: usize, roots: &mut [u32], room: &mut [u32]
             let files = tally.files;
             let full = tally.roots;
             let count = once_each(t, roots, room, full);
-            match compare(t, files, roots, count, room, plen) {
+            match compare(t, roots, count, room, plen) {
                 Compared::Differ => refused(numbers::SAME_ROOT),
                 Compared::Agree { long } => {
                     if index(l, roots, long) {

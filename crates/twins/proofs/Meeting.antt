@@ -88,6 +88,9 @@ forget-one room₀ room i e h =
 pub forgotten-length : (room₀ room : List ℕ) (i : ℕ) → room ≡ replicate i 0 ++ drop i room₀ → i ≤ length room₀ → length room ≡ length room₀
 forgotten-length room₀ room i e h = ap length e ∙ omega (arith, length-append (replicate i 0) (drop i room₀), length-replicate {A = ℕ} i 0, length-drop i room₀)
 
+pub forgotten-room : (room₀ room : List ℕ) (i : ℕ) → room ≡ replicate i 0 ++ drop i room₀ → i ≤ length room₀ → i ≤ length room
+forgotten-room room₀ room i e h = omega (arith, forgotten-length room₀ room i e h)
+
 pub forgotten : (room₀ room : List ℕ) (count : ℕ) → room ≡ replicate count 0 ++ drop count room₀ → (i : ℕ) → i < count → getD room i 0 ≡ 0
 forgotten room₀ room count e i h =
     sym (getD-take count room i 0 h) ∙ ap (λ (l : List ℕ). getD l i 0) (ap (take count) e ∙ take-at (replicate count 0) (drop count room₀) count (length-replicate {A = ℕ} count 0)) ∙ getD-replicate count i 0 0 h

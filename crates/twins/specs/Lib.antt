@@ -1,3 +1,4 @@
 pub mod Twins
 pub mod TwinsLaws
+pub mod Walk
 pub mod WalkLaws

@@ -89,7 +89,7 @@ unfolding noOtherLength
 other-front x n [] ws e = refl
 other-front x n (v ∷ vs) ws e = let p = and-eq-true-iff (Passes x n v) (noOtherLength x n (vs ++ ws)) .0 e in rw (p .0, other-front x n vs ws (p .1)) refl
 
-agree-front : (vs ws : List File) → lengthsAgree (vs ++ ws) ≡ true → lengthsAgree vs ≡ true
+pub agree-front : (vs ws : List File) → lengthsAgree (vs ++ ws) ≡ true → lengthsAgree vs ≡ true
 unfolding lengthsAgree
 agree-front [] ws e = refl
 agree-front (v ∷ vs) ws e = by-size (eqb (v .size) 0) (p .0) (agree-front vs ws (p .1))

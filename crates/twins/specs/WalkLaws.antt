@@ -1,11 +1,10 @@
--- The files of a tree one after the other, whatever directories they are in; what is noted when some are passed, and that one more keeps
--- it so.
+-- Files met one after the other: one file, or one directory, more keeps what is known; and the whole tree.
 -- Assumes nothing.
-use mathlib.Core.Path.{_≡_, refl, sym, ap, _∙_}
+use mathlib.Core.Path.{_≡_, refl, sym, ap, subst, _∙_}
 use mathlib.Core.Logic.{inl, inr}
 use mathlib.Core.Bool.{Bool, true, false, cond, _&&_, false≢true}
 use mathlib.Core.List.{List, [], _∷_, _++_, append-nil, append-assoc, map-append}
-use Prim.Native.Nat.{ℕ, zero, suc, _+_, _-_, _≤_, _<_}
+use Prim.Native.Nat.{ℕ, suc, _+_, _-_, _≤_, _<_}
 use native.Mathlib.Omega.{arith}
 use native.Mathlib.Decide.{ℕ-discrete}
 use lib.ListN.{length, drop, getD, set, length-set}
@@ -20,297 +19,325 @@ use Rattle.sorting.specs.Sorting.{Stands}
 use Rattle.sorting.specs.SortingLaws.{ascending-one}
 use Rattle.filetree.specs.Token.{endsHere, tokenAt}
 use Rattle.filetree.specs.TokenLaws.{leaf-ends, opened-ends}
-use Rattle.filetree.specs.Tree.{maxElements, Element, Listed, listedAs, down, Files, wrong, files, after, onward, onToken, filesFrom, filesBelow, filesIn, right, listed, rootsOf}
+use Rattle.filetree.specs.Tree.{maxElements, Element, Listed, listedAs, down, Files, wrong, files, after, filesFrom, filesBelow, filesIn, right, listed, rootsOf}
+use Rattle.filetree.specs.TreeLaws.{empty-tree, tree-below, no-levels, Passed, passed-none, passed-bad, passed-end, passed-closed, passed-file, passed-wrong, inside-ends, passed-directory}
 use Rattle.filetree.specs.Reading.{readFile, readFiles, rootRead}
-use Rattle.filetree.specs.declared.token.Token.{Token}
 use Rattle.filetree.specs.declared.token.Token.the-variants.{Opened, Closed, Leaf, BadToken}
 use Rattle.twins.specs.Twins.{longRoots, onceEach, layerCount, comparedOf, lengthKnown, differs, sizeNoted, RootsStand, Rooted, Meets}
-use Rattle.twins.specs.TwinsLaws.{empty-short, empty-agrees, empty-known, empty-layers, differs-so, full-agrees, full-known, others-known, full-layers, once-fewer}
+use Rattle.twins.specs.TwinsLaws.{agree-front, empty-short, empty-agrees, empty-known, empty-layers, differs-so, full-agrees, full-known, others-known, full-layers, once-fewer}
+use Rattle.twins.specs.Walk.{Known, Ahead, Compares}
+use Rattle.twins.specs.declared.Noted.the-variants.{Past}
 use Rattle.twins.specs.declared.Compared.the-variants.{Agree, Differ}
 
--- ---- token by token
+-- ---- one file more
 
--- the tokens from i on up to j are those of the files fs, and of directories that open and close
-pub data Walks (t : List ℕ) : ℕ → List Listed → ℕ → Type 0 where
-  stays : (i : ℕ) → Walks t i [] i
-  leaf : (i a b k : ℕ) (f : Listed) {fs : List Listed} {j : ℕ} → tokenAt t i ≡ Leaf a b (f .size) (f .root) k → Walks t k fs j → Walks t i (f ∷ fs) j
-  opens : (i a b : ℕ) {fs : List Listed} {j : ℕ} → tokenAt t i ≡ Opened a b → Walks t (b + 1) fs j → Walks t i fs j
-  closes : (i : ℕ) {fs : List Listed} {j : ℕ} → tokenAt t i ≡ Closed → Walks t (i + 1) fs j → Walks t i fs j
+module _ (t roots : List ℕ) (count plen : ℕ) where
+  -- nothing is noted yet
+  pub known-none : (room : List ℕ) → count ≤ length room → ((j : ℕ) → j < count → getD room j 0 ≡ 0) → Known t roots count plen room [] 0
+  unfolding lengthsAgree layerCount longRoots onceEach sizeNoted lengthKnown
+  known-none room h z = record { agree = refl; counted = refl; noted = λ j l. rw (z j l) refl; sized = h }
 
-module _ (t : List ℕ) where
-  walks-both : {i j k : ℕ} {fs gs : List Listed} → Walks t i fs j → Walks t j gs k → Walks t i (fs ++ gs) k
-  walks-both (stays i) w = w
-  walks-both (leaf i a b m f e v) w = leaf i a b m f e (walks-both v w)
-  walks-both (opens i a b e v) w = opens i a b e (walks-both v w)
-  walks-both (closes i e v) w = closes i e (walks-both v w)
+  module _ (rooted : Rooted t roots count) (room : List ℕ) (done : List Listed) (long : ℕ) (c : Known t roots count plen room done long)
+      (i a b n r k : ℕ) (path : List Element) (some : 0 < i) (e : tokenAt t i ≡ Leaf a b n r k) where
+    abbrev f : Listed
+    f = listedAs n r (down path a b)
 
-  -- files that are not wrong are walked to their end
-  abbrev Walked : ℕ → Files → Type 0
-  Walked at wrong = Unit {0}
-  Walked at (files gs k) = Walks t at gs k
+    abbrev vs : List File
+    vs = readFiles t done
 
-  walked-after : (at m : ℕ) (fs : List Listed) (w : Files) → Walks t at fs m → Walked m w → Walked at (after fs w)
-  walked-after at m fs wrong v p = tt
-  walked-after at m fs (files gs k) v p = walks-both v p
+    abbrev v : File
+    v = readFile t f
 
-  walked-open : (at a b : ℕ) (w : Files) → tokenAt t at ≡ Opened a b → Walked (b + 1) w → Walked at w
-  walked-open at a b wrong e p = tt
-  walked-open at a b (files gs k) e p = opens at a b e p
+    size-is : v .size ≡ n
+    size-is = unfold readFile in refl
 
-  from-walked : (sub : ℕ → List Element → Files) → ((x : ℕ) (p : List Element) → Walked x (sub x p)) → (steps at : ℕ) (path : List Element) → Walked at (filesFrom sub steps t at path)
-  unfolding filesFrom
-  from-walked sub hs zero at path = tt
-  from-walked sub hs (suc n) at path = by-token (tokenAt t at) refl (λ k. from-walked sub hs n k path)
-    where
-      Later : Type 0
-      Later = (k : ℕ) → Walked k (filesFrom sub n t k path)
+    root-is : (n ≡ 0 → ⊥) → v .root ≡ cut t r 32
+    root-is z = unfold readFile in rw (ne-eqb n 0 z) refl
 
-      by-sub : (b : ℕ) (w : Files) → Walked (b + 1) w → Later → Walked (b + 1) (onward w (λ k. filesFrom sub n t k path))
-      by-sub b wrong p later = tt
-      by-sub b (files fs k) p later = walked-after (b + 1) k fs (filesFrom sub n t k path) p (later k)
+    now : readFiles t (done ++ f ∷ []) ≡ vs ++ v ∷ []
+    now = map-append (readFile t) done (f ∷ [])
 
-      by-token : (x : Token) → tokenAt t at ≡ x → Later → Walked at (onToken sub (λ k. filesFrom sub n t k path) at path x)
-      by-token BadToken e later = tt
-      by-token Closed e later = closes at e (stays (at + 1))
-      by-token (Opened a b) e later = walked-open at a b (onward (sub (b + 1) (down path a b)) (λ k. filesFrom sub n t k path)) e (by-sub b (sub (b + 1) (down path a b)) (hs (b + 1) (down path a b)) later)
-      by-token (Leaf a b m r k) e later =
-          let f = listedAs m r (down path a b) in
-          walked-after at k (f ∷ []) (filesFrom sub n t k path) (leaf at a b k f e (stays k)) (later k)
+    -- with what is true of one file more
+    met : (room′ : List ℕ) (long′ : ℕ) → length room′ ≡ length room → lengthsAgree (vs ++ v ∷ []) ≡ true → long′ ≡ layerCount plen (vs ++ v ∷ [])
+        → ((j : ℕ) → j < count → sizeNoted t (getD room′ j 0) ≡ lengthKnown (cut t (getD roots j 0) 32) (vs ++ v ∷ []))
+        → Known t roots count plen room′ (done ++ f ∷ []) long′
+    met room′ long′ s g m o =
+        let d = c .sized in
+        record {
+          agree = ap lengthsAgree now ∙ g;
+          counted = m ∙ ap (layerCount plen) (sym now);
+          noted = λ j l. o j l ∙ ap (lengthKnown (cut t (getD roots j 0) 32)) (sym now);
+          sized = omega arith;
+        }
 
-  below-walked : (levels at : ℕ) (path : List Element) → Walked at (filesBelow levels t at path)
-  unfolding filesBelow
-  below-walked zero at path = tt
-  below-walked (suc l) at path = from-walked (filesBelow l t) (below-walked l) (suc (length t)) at path
+    noted-here : sizeNoted t i ≡ n
+    unfolding sizeNoted
+    noted-here = rw (ne-eqb i 0 (λ o. omega arith), e) refl
 
-  walked-right : (at : ℕ) (w : Files) → Walked at w → right w ≡ true → (k : ℕ) × Walks t at (listed w) k
-  unfolding right listed
-  walked-right at wrong p e = absurd (false≢true e)
-  walked-right at (files gs k) p e = (k, p)
+    module _ (room′ : List ℕ) (known : ℕ) (m : Meets t roots count room room′ i n r known) where
+      -- it has another length than the one known of its root
+      pub known-differs : differs known n ≡ true → (rest : List Listed) → lengthsAgree (readFiles t (done ++ f ∷ rest)) ≡ false
+      known-differs d rest = ap lengthsAgree (map-append (readFile t) done (f ∷ rest)) ∙ disagree m
+        where
+          disagree : Meets t roots count room room′ i n r known → lengthsAgree (vs ++ v ∷ readFiles t rest) ≡ false
+          disagree (inl (z, o, s)) = absurd (false≢true (sym (rw (eq-eqb known 0 o) refl) ∙ d))
+          disagree (inr (z, (j, l, q, o, s))) =
+              let is : known ≡ lengthKnown (v .root) vs = o ∙ c .noted j l ∙ ap (λ (x : List ℕ). lengthKnown x vs) (q ∙ sym (root-is z)) in
+              differs-so vs v (c .agree) (λ x. z (sym size-is ∙ x)) known is (rw size-is d) (readFiles t rest)
 
-  tree-walked : right (filesIn t) ≡ true → (k : ℕ) × Walks t 1 (listed (filesIn t)) k
-  unfolding filesIn right
-  tree-walked e = by-end (endsHere (drop 1 t)) e
-    where
-      by-end : (b : Bool) → right (cond b wrong (filesBelow maxElements t 1 [])) ≡ true → (k : ℕ) × Walks t 1 (listed (cond b wrong (filesBelow maxElements t 1 []))) k
-      by-end true q = absurd (false≢true q)
-      by-end false q = walked-right 1 (filesBelow maxElements t 1 []) (below-walked maxElements 1 []) q
+      -- it does not
+      pub known-file : differs known n ≡ false → (long′ : ℕ) → long′ ≡ cond (eqb known 0 && hasLayer n plen) (long + 1) long → Known t roots count plen room′ (done ++ f ∷ []) long′
+      known-file d long′ g = by-met m
+        where
+          by-met : Meets t roots count room room′ i n r known → Known t roots count plen room′ (done ++ f ∷ []) long′
+          by-met (inl (z, o, s)) =
+              let empty : v .size ≡ 0 = size-is ∙ z in
+              let same-long : long′ ≡ long = g ∙ rw (eq-eqb known 0 o, empty-short n plen z) refl in
+              met room′ long′ (ap length s) (empty-agrees vs v (c .agree) empty) (same-long ∙ c .counted ∙ sym (empty-layers vs v (c .agree) empty plen))
+              (λ j l. ap (λ (x : List ℕ). sizeNoted t (getD x j 0)) s ∙ c .noted j l ∙ sym (empty-known vs v (c .agree) empty (cut t (getD roots j 0) 32)))
+          by-met (inr (z, (j, l, q, o, s))) =
+              let full : (v .size ≡ 0 → ⊥) = λ x. z (sym size-is ∙ x) in
+              let is : known ≡ lengthKnown (v .root) vs = o ∙ c .noted j l ∙ ap (λ (x : List ℕ). lengthKnown x vs) (q ∙ sym (root-is z)) in
+              let d′ : differs known (v .size) ≡ false = rw size-is d in
+              let here : cut t (getD roots j 0) 32 ≡ v .root = q ∙ sym (root-is z) in
+              let inside : j < length room = (let x = c .sized in omega arith) in
+              met room′ long′ (ap length s ∙ length-set room j i) (full-agrees vs v (c .agree) full known is d′)
+              (g ∙ ap (λ (x : ℕ). cond (eqb known 0 && hasLayer x plen) (long + 1) long) (sym size-is) ∙ ap (λ (x : ℕ). cond (eqb known 0 && hasLayer (v .size) plen) (x + 1) x) (c .counted) ∙ sym (full-layers vs v (c .agree) full known is d′ plen))
+              (λ j′ l′. ap (λ (x : List ℕ). sizeNoted t (getD x j′ 0)) s ∙ by-place full is d′ j here inside l j′ l′ (ℕ-discrete j′ j))
+            where
+              by-place : (full : v .size ≡ 0 → ⊥) (is : known ≡ lengthKnown (v .root) vs) (d′ : differs known (v .size) ≡ false) (j : ℕ) → cut t (getD roots j 0) 32 ≡ v .root → j < length room → j < count → (j′ : ℕ) → j′ < count → Dec (j′ ≡ j)
+                  → sizeNoted t (getD (set room j i) j′ 0) ≡ lengthKnown (cut t (getD roots j′ 0) 32) (vs ++ v ∷ [])
+              by-place full is d′ j here inside l j′ l′ (yes x) =
+                  ap (λ (y : ℕ). sizeNoted t (getD (set room j i) y 0)) x ∙ ap (sizeNoted t) (getD-set-same room j i 0 inside) ∙ noted-here ∙ sym size-is ∙ sym (full-known vs v (c .agree) full known is d′)
+                  ∙ ap (λ (y : List ℕ). lengthKnown y (vs ++ v ∷ [])) (sym here ∙ ap (λ (y : ℕ). cut t (getD roots y 0) 32) (sym x))
+              by-place full is d′ j here inside l j′ l′ (no x) =
+                  ap (sizeNoted t) (getD-set-other room j j′ i 0 x) ∙ c .noted j′ l′
+                  ∙ sym (others-known vs v (c .agree) full known is d′ (cut t (getD roots j′ 0) 32) (λ y. x (ascending-one t roots count (rooted .ascending) j′ j l′ l (y ∙ sym here))))
 
-  -- where files are left, the next token says how it goes on
-  abbrev Some : List Listed → Type 0
-  Some fs = fs ≡ [] → ⊥
+-- a layer more at most
+pub one-at-most : (known n plen long long′ i k : ℕ) → long′ ≡ cond (eqb known 0 && hasLayer n plen) (long + 1) long → long ≤ i → i < k → long′ ≤ k
+one-at-most known n plen long long′ i k e l g = by-test (eqb known 0 && hasLayer n plen) e
+  where
+    by-test : (x : Bool) → long′ ≡ cond x (long + 1) long → long′ ≤ k
+    by-test true q = omega arith
+    by-test false q = omega arith
 
-  walks-bad : {i j : ℕ} {fs : List Listed} → Walks t i fs j → Some fs → tokenAt t i ≡ BadToken → ⊥
-  walks-bad (stays i) n q = n refl
-  walks-bad (leaf i a b k f e v) n q = let z : _≡_ {A = ℕ} 0 1 = cc in omega arith
-  walks-bad (opens i a b e v) n q = let z : _≡_ {A = ℕ} 0 1 = cc in omega arith
-  walks-bad (closes i e v) n q = let z : _≡_ {A = ℕ} 0 1 = cc in omega arith
+-- ---- files of a directory that is right
 
-  walks-closed : {i j : ℕ} {fs : List Listed} → Walks t i fs j → Some fs → tokenAt t i ≡ Closed → Walks t (i + 1) fs j
-  walks-closed (stays i) n q = absurd (n refl)
-  walks-closed (leaf i a b k f e v) n q = let z : _≡_ {A = ℕ} 0 1 = cc in absurd (omega arith)
-  walks-closed (opens i a b e v) n q = let z : _≡_ {A = ℕ} 0 1 = cc in absurd (omega arith)
-  walks-closed (closes i e v) n q = v
+no-files : (x : Files) (gs : List Listed) (k : ℕ) → x ≡ wrong → x ≡ files gs k → ⊥
+no-files x gs k e q = let z : _≡_ {A = ℕ} 0 1 = cc in omega arith
 
-  walks-opened : {i j : ℕ} {fs : List Listed} → Walks t i fs j → Some fs → (a b : ℕ) → tokenAt t i ≡ Opened a b → Walks t (b + 1) fs j
-  walks-opened (stays i) n a b q = absurd (n refl)
-  walks-opened (leaf i a′ b′ k f e v) n a b q = let z : _≡_ {A = ℕ} 0 1 = cc in absurd (omega arith)
-  walks-opened (opens i a′ b′ e v) n a b q = let z : b′ ≡ b = cc in rw z at v
-  walks-opened (closes i e v) n a b q = let z : _≡_ {A = ℕ} 0 1 = cc in absurd (omega arith)
+one-list : (x : Files) (fs gs : List Listed) (j k : ℕ) → x ≡ files fs j → x ≡ files gs k → (fs ≡ gs) × (j ≡ k)
+one-list x fs gs j k e q = let a : fs ≡ gs = cc in let b : j ≡ k = cc in (a, b)
 
-  walks-leaf : {i j : ℕ} {fs : List Listed} → Walks t i fs j → Some fs → (a b n r k : ℕ) → tokenAt t i ≡ Leaf a b n r k
-      → (f : Listed) × (gs : List Listed) × (fs ≡ f ∷ gs) × (f .size ≡ n) × (f .root ≡ r) × Walks t k gs j
-  walks-leaf (stays i) o a b n r k q = absurd (o refl)
-  walks-leaf (leaf i a′ b′ k′ f {fs} e v) o a b n r k q =
-      let x : f .size ≡ n = cc in
-      let y : f .root ≡ r = cc in
-      let z : k′ ≡ k = cc in
-      (f, fs, refl, x, y, rw z at v)
-  walks-leaf (opens i a′ b′ e v) o a b n r k q = let z : _≡_ {A = ℕ} 0 1 = cc in absurd (omega arith)
-  walks-leaf (closes i e v) o a b n r k q = let z : _≡_ {A = ℕ} 0 1 = cc in absurd (omega arith)
+not-wrong : (x : Files) → (x ≡ wrong → ⊥) → (gs : List Listed) × (k : ℕ) × (x ≡ files gs k)
+not-wrong wrong h = absurd (h refl)
+not-wrong (files gs k) h = (gs, k, refl)
 
--- ---- how far a walk has come
+-- files that are passed stand in front
+in-front : (fs gs : List Listed) (k : ℕ) (x : Files) → after fs x ≡ files gs k → (hs : List Listed) × (gs ≡ fs ++ hs)
+in-front fs gs k wrong e = absurd (no-files wrong gs k refl e)
+in-front fs gs k (files hs j) e = (hs, sym (one-list (files (fs ++ hs) j) (fs ++ hs) gs j k refl e .0))
 
-some-left : (fs : List Listed) (left : ℕ) → left ≡ length fs → (left ≡ 0 → ⊥) → fs ≡ [] → ⊥
-some-left fs left e h q = h (e ∙ ap length q)
+stand-both : (t roots : List ℕ) (count : ℕ) (xs ys : List Listed) → RootsStand t roots count (xs ++ ys) → RootsStand t roots count xs × RootsStand t roots count ys
+unfolding RootsStand
+stand-both t roots count [] ys h = (tt, h)
+stand-both t roots count (x ∷ xs) ys h = let r = stand-both t roots count xs ys (h .1) in ((h .0, r .0), r .1)
 
--- the files `done` are passed, `left` are left, i is next: the lengths of those passed agree, `long` layers are theirs, and at each root's
--- place stands a file with the length that is known of it
-pub record ComparedAt (t roots : List ℕ) (count plen : ℕ) (room : List ℕ) (left i long : ℕ) : Type 0 where
-  pub done : List Listed
-  pub rest : List Listed
-  pub all : listed (filesIn t) ≡ done ++ rest
-  pub end : ℕ
-  pub walks : Walks t i rest end
-  pub many : left ≡ length rest
-  pub agree : lengthsAgree (readFiles t done) ≡ true
-  pub counted : long ≡ layerCount plen (readFiles t done)
-  pub noted : (j : ℕ) → j < count → sizeNoted t (getD room j 0) ≡ lengthKnown (cut t (getD roots j 0) 32) (readFiles t done)
-  pub stand : RootsStand t roots count rest
-  pub sized : count ≤ length room
+stand-one : (t roots : List ℕ) (count : ℕ) (f : Listed) (fs : List Listed) → RootsStand t roots count (f ∷ fs) → (f .size ≡ 0 → ⊥) → Stands t roots count (cut t (f .root) 32)
+unfolding RootsStand
+stand-one t roots count f fs h = h .0
+
+-- lengths that don't agree in front don't agree
+front-differs : (t : List ℕ) (xs ys : List Listed) → lengthsAgree (readFiles t xs) ≡ false → lengthsAgree (readFiles t (xs ++ ys)) ≡ false
+front-differs t xs ys e = by-test (lengthsAgree (readFiles t (xs ++ ys))) refl
+  where
+    by-test : (x : Bool) → lengthsAgree (readFiles t (xs ++ ys)) ≡ x → x ≡ false
+    by-test true q = absurd (false≢true (sym e ∙ agree-front (readFiles t xs) (readFiles t ys) (ap lengthsAgree (sym (map-append (readFile t) xs ys)) ∙ q)))
+    by-test false q = refl
+
+-- ---- how far a directory has come
+
+-- of the directory that was ahead the files fs are met, and i is next
+pub record Going (t roots : List ℕ) (count plen at levels : ℕ) (room₀ : List ℕ) (before : ℕ) (w : Ahead t roots count plen at levels room₀ before) (room : List ℕ) (below i long : ℕ) : Type 0 where
+  pub fs : List Listed
+  pub passed : Passed t (filesBelow levels t at (w .path)) below (w .path) i fs
+  pub known : Known t roots count plen room (w .done ++ fs) long
   pub some : 0 < i
   pub few : long ≤ i
 
-module _ (t roots : List ℕ) (count plen : ℕ) (rooted : Rooted t roots count) where
-  pub compared-start : right (filesIn t) ≡ true → (room : List ℕ) → count ≤ length room → ((j : ℕ) → j < count → getD room j 0 ≡ 0) → (left : ℕ) → left ≡ length (listed (filesIn t))
-      → ComparedAt t roots count plen room left 1 0
-  unfolding lengthsAgree layerCount longRoots onceEach sizeNoted lengthKnown
-  compared-start e room h z left m =
-      let w = tree-walked t e in
+module _ (t roots : List ℕ) (count plen at levels : ℕ) (room₀ : List ℕ) (before : ℕ) (w : Ahead t roots count plen at levels room₀ before) where
+  -- it is right, so there are levels left
+  pub levels-left : levels ≡ 0 → ⊥
+  levels-left z = no-files (filesBelow levels t at (w .path)) (w .inside) (w .end) (no-levels levels t at (w .path) z) (w .is)
+
+  pub going-start : Going t roots count plen at levels room₀ before w room₀ (levels - 1) at before
+  going-start =
       record {
+        fs = [];
+        passed = passed-none t levels at (w .path) levels-left;
+        known = subst (λ (l : List Listed). Known t roots count plen room₀ l before) (sym (append-nil (w .done))) (w .known);
+        some = w .some;
+        few = w .few;
+      }
+
+  module _ (room : List ℕ) (below i long : ℕ) (g : Going t roots count plen at levels room₀ before w room below i long) where
+    abbrev whole : Files
+    whole = filesBelow levels t at (w .path)
+
+    never : whole ≡ wrong → ⊥
+    never e = no-files whole (w .inside) (w .end) e (w .is)
+
+    pub going-bad : tokenAt t i ≡ BadToken → ⊥
+    going-bad e = never (passed-bad t whole below (w .path) i (g .fs) (g .passed) e)
+
+    pub going-end : length t ≤ i → ⊥
+    going-end h = never (passed-end t whole below (w .path) i (g .fs) (g .passed) h)
+
+    -- files behind those that are met
+    behind : (fs : List Listed) (k : ℕ) → Passed t whole below (w .path) k fs → (hs : List Listed) × (w .inside ≡ fs ++ hs)
+    behind fs k p = in-front fs (w .inside) (w .end) (filesFrom (filesBelow below t) (p .steps) t k (w .path)) (sym (p .rest) ∙ w .is)
+
+    module _ (h : i < length t) where
+      pub going-closed : tokenAt t i ≡ Closed → Compares t roots count plen (w .done ++ w .inside) (w .end) room (Past (i + 1) long)
+      going-closed e =
+          let q = one-list whole (g .fs) (w .inside) (i + 1) (w .end) (passed-closed t whole below (w .path) i (g .fs) (g .passed) h e) (w .is) in
+          let y = g .few in
+          (q .1, omega arith, subst (λ (l : List Listed). Known t roots count plen room (w .done ++ l) long) (q .0) (g .known))
+
+      module _ (a b n r k : ℕ) (e : tokenAt t i ≡ Leaf a b n r k) where
+        abbrev leaf : Listed
+        leaf = listedAs n r (down (w .path) a b)
+
+        next : Passed t whole below (w .path) k (g .fs ++ leaf ∷ [])
+        next = passed-file t whole below (w .path) i (g .fs) (g .passed) h a b n r k e
+
+        abbrev rest : List Listed
+        rest = behind (g .fs ++ leaf ∷ []) k next .0
+
+        all : w .inside ≡ g .fs ++ leaf ∷ rest
+        all = behind (g .fs ++ leaf ∷ []) k next .1 ∙ append-assoc (g .fs) (leaf ∷ []) rest
+
+        -- its root is among those that are searched
+        pub file-stands : (n ≡ 0 → ⊥) → Stands t roots count (cut t r 32)
+        file-stands = stand-one t roots count leaf rest (stand-both t roots count (g .fs) (leaf ∷ rest) (subst (RootsStand t roots count) all (w .stand)) .1)
+
+        module _ (rooted : Rooted t roots count) (room′ : List ℕ) (known : ℕ) (m : Meets t roots count room room′ i n r known) where
+          pub going-differs : differs known n ≡ true → lengthsAgree (readFiles t (w .done ++ w .inside)) ≡ false
+          going-differs d =
+              ap (λ (l : List Listed). lengthsAgree (readFiles t l)) (ap (λ (l : List Listed). w .done ++ l) all ∙ sym (append-assoc (w .done) (g .fs) (leaf ∷ rest)))
+              ∙ known-differs t roots count plen rooted room (w .done ++ g .fs) long (g .known) i a b n r k (w .path) (g .some) e room′ known m d rest
+
+          pub going-file : differs known n ≡ false → (long′ : ℕ) → long′ ≡ cond (eqb known 0 && hasLayer n plen) (long + 1) long
+              → Going t roots count plen at levels room₀ before w room′ below k long′
+          going-file d long′ q =
+              let x = leaf-ends t i a b n r k e .0 in
+              let y = g .some in
+              record {
+                fs = g .fs ++ leaf ∷ [];
+                passed = next;
+                known = subst (λ (l : List Listed). Known t roots count plen room′ l long′) (append-assoc (w .done) (g .fs) (leaf ∷ []))
+                    (known-file t roots count plen rooted room (w .done ++ g .fs) long (g .known) i a b n r k (w .path) (g .some) e room′ known m d long′ q);
+                some = omega arith;
+                few = one-at-most known n plen long long′ i k q (g .few) x;
+              }
+
+      module _ (a b : ℕ) (e : tokenAt t i ≡ Opened a b) where
+        pub below-is : (gs : List Listed) × (k : ℕ) × (filesBelow below t (b + 1) (down (w .path) a b) ≡ files gs k)
+        below-is = not-wrong (filesBelow below t (b + 1) (down (w .path) a b)) (λ q. never (passed-wrong t whole below (w .path) i (g .fs) (g .passed) h a b e q))
+
+        abbrev gs : List Listed
+        gs = below-is .0
+
+        next-in : Passed t whole below (w .path) (below-is .1) (g .fs ++ gs)
+        next-in = passed-directory t whole below (w .path) i (g .fs) (g .passed) h a b e gs (below-is .1) (below-is .2)
+
+        rest-in : (hs : List Listed) × (w .inside ≡ (g .fs ++ gs) ++ hs)
+        rest-in = behind (g .fs ++ gs) (below-is .1) next-in
+
+        pub below-stand : RootsStand t roots count (below-is .0)
+        below-stand = stand-both t roots count (g .fs) gs (stand-both t roots count (g .fs ++ gs) (rest-in .0) (subst (RootsStand t roots count) (rest-in .1) (w .stand)) .0) .1
+
+        pub below-few : (0 < b + 1) × (long ≤ b + 1)
+        below-few = let x = opened-ends t i a b e .0 in let y = g .few in (omega arith, omega arith)
+
+        -- the directory inside is ahead
+        abbrev pub inside-ahead : Ahead t roots count plen (b + 1) below room long
+        inside-ahead =
+            record {
+              path = down (w .path) a b;
+              done = w .done ++ g .fs;
+              inside = below-is .0;
+              end = below-is .1;
+              is = below-is .2;
+              known = g .known;
+              stand = below-stand;
+              some = below-few .0;
+              few = below-few .1;
+            }
+
+        pub inside-differs : lengthsAgree (readFiles t ((w .done ++ g .fs) ++ gs)) ≡ false → lengthsAgree (readFiles t (w .done ++ w .inside)) ≡ false
+        inside-differs q =
+            ap (λ (l : List Listed). lengthsAgree (readFiles t l))
+            (ap (λ (l : List Listed). w .done ++ l) (rest-in .1 ∙ append-assoc (g .fs) gs (rest-in .0)) ∙ sym (append-assoc (w .done) (g .fs) (gs ++ rest-in .0)) ∙ sym (append-assoc (w .done ++ g .fs) gs (rest-in .0)))
+            ∙ front-differs t ((w .done ++ g .fs) ++ gs) (rest-in .0) q
+
+        module _ (room′ : List ℕ) (k long′ : ℕ) (q : Compares t roots count plen ((w .done ++ g .fs) ++ gs) (below-is .1) room′ (Past k long′)) where
+          pub inside-behind : (i < k) × (k ≤ length t)
+          inside-behind = let x = inside-ends t whole below (w .path) i (g .fs) (g .passed) h a b e gs (below-is .1) (below-is .2) in rw (q .0) x
+
+          pub going-directory : Going t roots count plen at levels room₀ before w room′ below k long′
+          going-directory =
+              let x = inside-behind .0 in
+              let y = g .some in
+              record {
+                fs = g .fs ++ gs;
+                passed = subst (λ (j : ℕ). Passed t whole below (w .path) j (g .fs ++ gs)) (sym (q .0)) next-in;
+                known = subst (λ (l : List Listed). Known t roots count plen room′ l long′) (append-assoc (w .done) (g .fs) gs) (q .2);
+                some = omega arith;
+                few = q .1;
+              }
+
+-- ---- the whole tree
+
+module _ (t roots : List ℕ) (count plen : ℕ) (rooted : Rooted t roots count) (e : right (filesIn t) ≡ true) where
+  some-there : (b : Bool) → endsHere (drop 1 t) ≡ b → b ≡ false
+  unfolding right
+  some-there true q = absurd (false≢true (sym (ap right (empty-tree t q)) ∙ e))
+  some-there false q = refl
+
+  same-files : filesIn t ≡ filesBelow maxElements t 1 []
+  same-files = tree-below t (some-there (endsHere (drop 1 t)) refl)
+
+  right-list : (x : Files) → right x ≡ true → (k : ℕ) × (x ≡ files (listed x) k)
+  unfolding right listed
+  right-list wrong q = absurd (false≢true q)
+  right-list (files gs k) q = (k, refl)
+
+  pub tree-is : (k : ℕ) × (filesBelow maxElements t 1 [] ≡ files (listed (filesIn t)) k)
+  tree-is = let x = right-list (filesIn t) e in (x .0, sym same-files ∙ x .1)
+
+  abbrev pub tree-ahead : (room : List ℕ) → count ≤ length room → ((j : ℕ) → j < count → getD room j 0 ≡ 0) → Ahead t roots count plen 1 maxElements room 0
+  tree-ahead room h z =
+      record {
+        path = [];
         done = [];
-        rest = listed (filesIn t);
-        all = refl;
-        end = w .0;
-        walks = w .1;
-        many = m;
-        agree = refl;
-        counted = refl;
-        noted = λ j l. rw (z j l) refl;
+        inside = listed (filesIn t);
+        end = tree-is .0;
+        is = tree-is .1;
+        known = known-none t roots count plen room h z;
         stand = rooted .stand;
-        sized = h;
         some = omega arith;
         few = omega arith;
       }
 
-  module _ (room : List ℕ) (left i long : ℕ) (c : ComparedAt t roots count plen room left i long) where
-    -- no file is left
-    pub compared-end : left ≡ 0 → Agree long ≡ comparedOf plen (readFiles t (listed (filesIn t)))
-    unfolding comparedOf
-    compared-end z = sym (rw (whole (c .rest) (c .all) (sym (c .many) ∙ z)) (rw (c .agree) (ap Agree (sym (c .counted)))))
-      where
-        whole : (rest : List Listed) → listed (filesIn t) ≡ c .done ++ rest → length rest ≡ 0 → listed (filesIn t) ≡ c .done
-        whole [] e l = e ∙ append-nil (c .done)
-        whole (f ∷ fs) e l = absurd (omega arith)
+  pub tree-agrees : (end k long : ℕ) (room : List ℕ) → Compares t roots count plen (listed (filesIn t)) end room (Past k long) → Agree long ≡ comparedOf plen (readFiles t (listed (filesIn t)))
+  unfolding comparedOf
+  tree-agrees end k long room q = sym (rw (q .2 .agree) (ap Agree (sym (q .2 .counted))))
 
-    module _ (h : left ≡ 0 → ⊥) where
-      left-some : c .rest ≡ [] → ⊥
-      left-some = some-left (c .rest) left (c .many) h
-
-      pub compared-bad : tokenAt t i ≡ BadToken → ⊥
-      compared-bad e = walks-bad t (c .walks) left-some e
-
-      passed-on : (k : ℕ) → i < k → Walks t k (c .rest) (c .end) → ComparedAt t roots count plen room left k long
-      passed-on k l w =
-          let p = c .some in
-          let q = c .few in
-          record { done = c .done; rest = c .rest; all = c .all; end = c .end; walks = w; many = c .many; agree = c .agree; counted = c .counted; noted = c .noted; stand = c .stand; sized = c .sized; some = omega arith; few = omega arith }
-
-      pub compared-closed : tokenAt t i ≡ Closed → ComparedAt t roots count plen room left (i + 1) long
-      compared-closed e = passed-on (i + 1) (omega arith) (walks-closed t (c .walks) left-some e)
-
-      pub compared-opened : (a b : ℕ) → tokenAt t i ≡ Opened a b → ComparedAt t roots count plen room left (b + 1) long
-      compared-opened a b e = let x = opened-ends t i a b e .0 in passed-on (b + 1) (omega arith) (walks-opened t (c .walks) left-some a b e)
-
-      module _ (a b n r k : ℕ) (e : tokenAt t i ≡ Leaf a b n r k) where
-        next : (f : Listed) × (gs : List Listed) × (c .rest ≡ f ∷ gs) × (f .size ≡ n) × (f .root ≡ r) × Walks t k gs (c .end)
-        next = walks-leaf t (c .walks) left-some a b n r k e
-
-        stands-next : RootsStand t roots count (next .0 ∷ next .1)
-        stands-next = rw (next .2) at (c .stand)
-
-        -- its root is among those that are searched
-        pub file-stands : (n ≡ 0 → ⊥) → Stands t roots count (cut t r 32)
-        unfolding RootsStand
-        file-stands z = rw (next .4) at (stands-next .0 (λ o. z (sym (next .3) ∙ o)))
-
-        abbrev vs : List File
-        vs = readFiles t (c .done)
-
-        abbrev v : File
-        v = readFile t (next .0)
-
-        size-is : v .size ≡ n
-        size-is = unfold readFile in next .3
-
-        root-is : (n ≡ 0 → ⊥) → v .root ≡ cut t r 32
-        root-is z = unfold readFile in rw (next .3, next .4, ne-eqb n 0 z) refl
-
-        now : readFiles t (c .done ++ next .0 ∷ []) ≡ vs ++ v ∷ []
-        now = map-append (readFile t) (c .done) (next .0 ∷ [])
-
-        -- with what is true of one file more
-        passed : (room′ : List ℕ) (long′ : ℕ) → length room′ ≡ length room → lengthsAgree (vs ++ v ∷ []) ≡ true → long′ ≡ layerCount plen (vs ++ v ∷ [])
-            → ((j : ℕ) → j < count → sizeNoted t (getD room′ j 0) ≡ lengthKnown (cut t (getD roots j 0) 32) (vs ++ v ∷ [])) → long′ ≤ long + 1
-            → ComparedAt t roots count plen room′ (left - 1) k long′
-        unfolding RootsStand
-        passed room′ long′ s g m o u =
-            let x = leaf-ends t i a b n r k e .0 in
-            let y = c .many in
-            let z = ap length (next .2) in
-            let p = c .some in
-            let q = c .few in
-            let d = c .sized in
-            record {
-              done = c .done ++ next .0 ∷ [];
-              rest = next .1;
-              all = c .all ∙ ap (λ (l : List Listed). c .done ++ l) (next .2) ∙ sym (append-assoc (c .done) (next .0 ∷ []) (next .1));
-              end = c .end;
-              walks = next .5;
-              many = omega arith;
-              agree = ap lengthsAgree now ∙ g;
-              counted = m ∙ ap (layerCount plen) (sym now);
-              noted = λ j l. o j l ∙ ap (lengthKnown (cut t (getD roots j 0) 32)) (sym now);
-              stand = stands-next .1;
-              sized = omega arith;
-              some = omega arith;
-              few = omega arith;
-            }
-
-        -- the files, with this one next
-        all-files : readFiles t (listed (filesIn t)) ≡ vs ++ v ∷ readFiles t (next .1)
-        all-files = ap (readFiles t) (c .all ∙ ap (λ (l : List Listed). c .done ++ l) (next .2)) ∙ map-append (readFile t) (c .done) (next .0 ∷ next .1)
-
-        noted-here : sizeNoted t i ≡ n
-        unfolding sizeNoted
-        noted-here = let p = c .some in rw (ne-eqb i 0 (λ o. omega arith), e) refl
-
-        module _ (room′ : List ℕ) (known : ℕ) (met : Meets t roots count room room′ i n r known) where
-          -- it has another length than the one known of its root
-          pub compared-differs : differs known n ≡ true → Differ ≡ comparedOf plen (readFiles t (listed (filesIn t)))
-          unfolding comparedOf
-          compared-differs d = sym (rw (disagree met) refl)
-            where
-              disagree : Meets t roots count room room′ i n r known → lengthsAgree (readFiles t (listed (filesIn t))) ≡ false
-              disagree (inl (z, o, s)) = absurd (false≢true (sym (rw (eq-eqb known 0 o) refl) ∙ d))
-              disagree (inr (z, (j, l, q, o, s))) =
-                  let is : known ≡ lengthKnown (v .root) vs = o ∙ c .noted j l ∙ ap (λ (x : List ℕ). lengthKnown x vs) (q ∙ sym (root-is z)) in
-                  ap lengthsAgree all-files ∙ differs-so vs v (c .agree) (λ x. z (sym size-is ∙ x)) known is (rw size-is d) (readFiles t (next .1))
-
-          -- it does not
-          pub compared-file : differs known n ≡ false → (long′ : ℕ) → long′ ≡ cond (eqb known 0 && hasLayer n plen) (long + 1) long → ComparedAt t roots count plen room′ (left - 1) k long′
-          compared-file d long′ m = by-met met
-            where
-              at-most : (x : Bool) → long′ ≡ cond x (long + 1) long → long′ ≤ long + 1
-              at-most true q = omega arith
-              at-most false q = omega arith
-
-              few : long′ ≤ long + 1
-              few = at-most (eqb known 0 && hasLayer n plen) m
-
-              by-met : Meets t roots count room room′ i n r known → ComparedAt t roots count plen room′ (left - 1) k long′
-              by-met (inl (z, o, s)) =
-                  let empty : v .size ≡ 0 = size-is ∙ z in
-                  let same-long : long′ ≡ long = m ∙ rw (eq-eqb known 0 o, empty-short n plen z) refl in
-                  passed room′ long′ (ap length s) (empty-agrees vs v (c .agree) empty) (same-long ∙ c .counted ∙ sym (empty-layers vs v (c .agree) empty plen))
-                  (λ j l. ap (λ (x : List ℕ). sizeNoted t (getD x j 0)) s ∙ c .noted j l ∙ sym (empty-known vs v (c .agree) empty (cut t (getD roots j 0) 32))) few
-              by-met (inr (z, (j, l, q, o, s))) =
-                  let full : (v .size ≡ 0 → ⊥) = λ x. z (sym size-is ∙ x) in
-                  let is : known ≡ lengthKnown (v .root) vs = o ∙ c .noted j l ∙ ap (λ (x : List ℕ). lengthKnown x vs) (q ∙ sym (root-is z)) in
-                  let d′ : differs known (v .size) ≡ false = rw size-is d in
-                  let here : cut t (getD roots j 0) 32 ≡ v .root = q ∙ sym (root-is z) in
-                  let inside : j < length room = (let x = c .sized in omega arith) in
-                  passed room′ long′ (ap length s ∙ length-set room j i) (full-agrees vs v (c .agree) full known is d′)
-                  (m ∙ ap (λ (x : ℕ). cond (eqb known 0 && hasLayer x plen) (long + 1) long) (sym size-is) ∙ ap (λ (x : ℕ). cond (eqb known 0 && hasLayer (v .size) plen) (x + 1) x) (c .counted) ∙ sym (full-layers vs v (c .agree) full known is d′ plen))
-                  (λ j′ l′. ap (λ (x : List ℕ). sizeNoted t (getD x j′ 0)) s ∙ by-place full is d′ j here inside l j′ l′ (ℕ-discrete j′ j)) few
-                where
-                  by-place : (full : v .size ≡ 0 → ⊥) (is : known ≡ lengthKnown (v .root) vs) (d′ : differs known (v .size) ≡ false) (j : ℕ) → cut t (getD roots j 0) 32 ≡ v .root → j < length room → j < count → (j′ : ℕ) → j′ < count → Dec (j′ ≡ j)
-                      → sizeNoted t (getD (set room j i) j′ 0) ≡ lengthKnown (cut t (getD roots j′ 0) 32) (vs ++ v ∷ [])
-                  by-place full is d′ j here inside l j′ l′ (yes x) =
-                      ap (λ (y : ℕ). sizeNoted t (getD (set room j i) y 0)) x ∙ ap (sizeNoted t) (getD-set-same room j i 0 inside) ∙ noted-here ∙ sym size-is ∙ sym (full-known vs v (c .agree) full known is d′)
-                      ∙ ap (λ (y : List ℕ). lengthKnown y (vs ++ v ∷ [])) (sym here ∙ ap (λ (y : ℕ). cut t (getD roots y 0) 32) (sym x))
-                  by-place full is d′ j here inside l j′ l′ (no x) =
-                      ap (sizeNoted t) (getD-set-other room j j′ i 0 x) ∙ c .noted j′ l′
-                      ∙ sym (others-known vs v (c .agree) full known is d′ (cut t (getD roots j′ 0) 32) (λ y. x (ascending-one t roots count (rooted .ascending) j′ j l′ l (y ∙ sym here))))
+  pub tree-differs : lengthsAgree (readFiles t (listed (filesIn t))) ≡ false → Differ ≡ comparedOf plen (readFiles t (listed (filesIn t)))
+  unfolding comparedOf
+  tree-differs q = sym (rw q refl)
 
 -- ---- where the roots stand
 

@@ -1,6 +1,8 @@
 // Files with one root. They may be in a torrent if they have one length, and share a layer then. The roots' positions are sorted, each
 // root once; a walk over the files notes at each root's place where the last file with that root stands, and compares the next one's
-// length with that file's. Each file is so read twice at most.
+// length with that file's. Each file is so read twice at most. Directories inside one another by recursion, with the levels left; nodes side by
+// side by a loop.
+use filetree::count::ELEMENTS;
 use filetree::token::Token;
 use filetree::token::read_token;
 use sorting::halving::search;
@@ -8,9 +10,9 @@ use tree::geometry::has_layer;
 ghost use mathlib.Core.Path.{_≡_};
 ghost use mathlib.Core.Bool.{true, cond, _&&_};
 ghost use mathlib.Core.List.{_++_};
-ghost use Prim.Native.Nat.{ℕ, _+_, _^_, _≤_, _<_};
+ghost use Prim.Native.Nat.{_+_, _^_, _≤_, _<_};
 ghost use lib.ListN as L;
-ghost use lib.ListN.{getD, drop, replicate};
+ghost use lib.ListN.{drop, replicate};
 ghost use lib.Dec.{eqb};
 ghost use Rattle.limits.specs.Limits.{largestTorrent};
 ghost use Rattle.octets.specs.Octets.{cut};
@@ -20,11 +22,18 @@ ghost use Rattle.filetree.specs.Tree.{filesIn, right, listed};
 ghost use Rattle.filetree.specs.Reading.{readFiles};
 ghost use Rattle.twins.specs.Twins as W;
 ghost use Rattle.twins.specs.Twins.{comparedOf, sizeNoted, Rooted, Meets};
+ghost use Rattle.twins.specs.Walk.{Ahead, Compares};
 
 // How many layers the files have, one for each root of those longer than the piece length; or two with one root differ in length.
 pub enum Compared {
     Agree { long: usize },
     Differ,
+}
+
+// The position past a directory, and how many layers the files up to there have; or two with one root differ in length.
+pub enum Noted {
+    Past { next: usize, long: usize },
+    Unlike,
 }
 
 // A note as an index.
@@ -106,31 +115,31 @@ fn one_more(long: usize, known: usize, length: usize, plen: usize) -> usize
     long
 }
 
-// The same of all files, with nothing noted of any root.
-fn walk(
+// The files of a directory of a right tree, from its first entry on, with so many levels left below it: each directory inside takes one, and as
+// the tree is right there is one. The files met before have `before` layers.
+fn compare_directory(
     t: &[u8],
-    files: usize,
+    at: usize,
+    levels: usize,
     roots: &[u32],
     count: usize,
     room: &mut [u32],
     plen: usize,
-) -> Compared
-    requires { ⌜ Rooted (now t) (now roots) count × (right (filesIn (now t)) ≡ true) × (files ≡ L.length (listed (filesIn (now t)))) × (count ≤ L.length (now room)) × ((i : ℕ) → i < count → getD (now room) i 0 ≡ 0) × (L.length (now t) ≤ largestTorrent) ⌝ }
-    ensures { λ r. ⌜ r ≡ comparedOf plen (readFiles (now (t .entry)) (listed (filesIn (now (t .entry))))) ⌝ }
+    before: usize,
+) -> Noted
+    requires { ⌜ Rooted (now t) (now roots) count × (L.length (now t) ≤ largestTorrent) × Ahead (now t) (now roots) count plen at levels (now room) before ⌝ }
+    ensures { λ r. ⌜ ((w : Ahead (now (t .entry)) (now (roots .entry)) count plen at levels (now (room .entry)) before) → Compares (now (t .entry)) (now (roots .entry)) count plen (w .done ++ w .inside) (w .end) (now (room .exit)) r) ⌝ }
 {
-    let mut left = files;
-    let mut i = 1;
-    let mut long = 0;
-    while left != 0 {
+    let below = levels - 1;
+    let mut i = at;
+    let mut long = before;
+    while i < t.len() {
         match read_token(t, i) {
             Token::BadToken => {
-                return Compared::Differ; // never: the tree is right
+                return Noted::Unlike; // never: the tree is right
             }
             Token::Closed => {
-                i += 1;
-            }
-            Token::Opened { start: _, end } => {
-                i = end + 1;
+                return Noted::Past { next: i + 1, long };
             }
             Token::Leaf {
                 start: _,
@@ -141,15 +150,32 @@ fn walk(
             } => {
                 let known = meet(t, roots, count, room, i, length, root);
                 if differs(known, length) {
-                    return Compared::Differ;
+                    return Noted::Unlike;
                 }
                 long = one_more(long, known, length, plen);
-                left -= 1;
                 i = next;
             }
+            Token::Opened { start: _, end } => match compare_directory(
+                t,
+                end + 1,
+                below,
+                roots,
+                count,
+                room,
+                plen,
+                long,
+            ) {
+                Noted::Past { next, long: inside } => {
+                    long = inside;
+                    i = next;
+                }
+                Noted::Unlike => {
+                    return Noted::Unlike;
+                }
+            },
         }
     }
-    Compared::Agree { long }
+    Noted::Unlike // never: the tree is right
 }
 
 // Nothing is noted in the first `count` places.
@@ -165,17 +191,13 @@ fn forget(room: &mut [u32], count: usize)
 }
 
 // The files of the right tree t compared, with the positions of their roots, each root once; `room` is work space.
-pub fn compare(
-    t: &[u8],
-    files: usize,
-    roots: &[u32],
-    count: usize,
-    room: &mut [u32],
-    plen: usize,
-) -> Compared
-    requires { ⌜ Rooted (now t) (now roots) count × (right (filesIn (now t)) ≡ true) × (files ≡ L.length (listed (filesIn (now t)))) × (count ≤ L.length (now room)) × (L.length (now t) ≤ largestTorrent) ⌝ }
+pub fn compare(t: &[u8], roots: &[u32], count: usize, room: &mut [u32], plen: usize) -> Compared
+    requires { ⌜ Rooted (now t) (now roots) count × (right (filesIn (now t)) ≡ true) × (count ≤ L.length (now room)) × (L.length (now t) ≤ largestTorrent) ⌝ }
     ensures { λ r. ⌜ r ≡ comparedOf plen (readFiles (now (t .entry)) (listed (filesIn (now (t .entry))))) ⌝ }
 {
     forget(room, count);
-    walk(t, files, roots, count, room, plen)
+    match compare_directory(t, 1, ELEMENTS, roots, count, room, plen, 0) {
+        Noted::Past { next: _, long } => Compared::Agree { long },
+        Noted::Unlike => Compared::Differ,
+    }
 }

@@ -1,52 +1,47 @@
--- 01, "Numbers given back": the table, and what stands beside a number.
+-- 01, "Numbers given back": what stands beside a number. (The table: crates/numbers, file Numbers.)
 -- Assumes nothing.
 use mathlib.Core.Path.{_≡_}
-use mathlib.Core.List.{List, [], _∷_}
-use mathlib.Core.Logic.{_⊎_, inl, inr}
+use mathlib.Core.List.{List}
+use mathlib.Core.Logic.{_⊎_}
 use Prim.Native.Nat.{ℕ, _*_, _^_, _≤_}
 use lib.ListN.{length}
 use Rattle.octets.specs.Octets.{pasted, zeroHash}
 use Rattle.numbers.specs.Numbers.{refused}
 use Rattle.numbers.specs.declared.Answer.{Answer}
 use Rattle.limits.specs.Limits.{longestFile}
-use Rattle.sha256.specs.declared.Hashed.{Hashed}
 use Rattle.tree.specs.Geometry.{blockLength}
 use Rattle.header.specs.Header.{headerSize}
 use Rattle.serve.specs.Serve.{replyTo, rejectTo, serveAnswer, serveAfter}
 use Rattle.words.specs.Messages.{Rejected}
-use Rattle.words.specs.History.{Call, take, takeReject, serve, held, loadLayer, judgeBlock, judgePiece, clear, isMarked, bitfield, reopen}
-
--- the numbers of the table
-abbrev pub table : List ℕ
-table = 0 ∷ 1 ∷ 2 ∷ 3 ∷ 4 ∷ 5 ∷ 6 ∷ 7 ∷ 8 ∷ 9 ∷ 10 ∷ 11 ∷ 12 ∷ 19 ∷ 20 ∷ 21 ∷ 22 ∷ 23 ∷ 24 ∷ 25 ∷ 26 ∷ 27 ∷ 28 ∷ 29 ∷ []
-
--- n is one of these
-pub data Listed (n : ℕ) : List ℕ → Type 0 where
-  first : {ns : List ℕ} → Listed n (n ∷ ns)
-  later : {m : ℕ} {ns : List ℕ} → Listed n ns → Listed n (m ∷ ns)
-
-abbrev pub InTable : ℕ → Type 0
-InTable n = Listed n table
+use Rattle.words.specs.History.{Send, serve, bitfield, Look, ask, send, Call, take, loadLayer, judgeBlock, judgePiece, clear, reopen, look, Reply, withCount, withHash, replyNumber}
 
 -- with this number the call gets a reject: it is a request, and the number 2, 3 or 12
+abbrev pub SentReject : Send → ℕ → Type 0
+SentReject (serve m b) n = Rejected n
+SentReject bitfield n = ⊥
+
+abbrev pub LookRejected : Look → ℕ → Type 0
+LookRejected (ask k) n = ⊥
+LookRejected (send k out b) n = SentReject k n
+
 abbrev pub GetsReject : Call → ℕ → Type 0
 GetsReject (take m b) n = ⊥
-GetsReject (takeReject m b) n = ⊥
-GetsReject (serve m out b c) n = Rejected n
-GetsReject (held l i) n = ⊥
 GetsReject (loadLayer l b) n = ⊥
 GetsReject (judgeBlock i d b) n = ⊥
 GetsReject (judgePiece i d b) n = ⊥
 GetsReject (clear i) n = ⊥
-GetsReject (isMarked i) n = ⊥
-GetsReject (bitfield out b) n = ⊥
 GetsReject (reopen k plen root o) n = ⊥
+GetsReject (look k) n = LookRejected k n
 
--- what stands beside a refusal: the reject's size beside a reject, else a count or a size of zero, or 32 zero bytes
-pub data Beside : Call → Answer ⊎ Hashed → Type 0 where
-  reject : {c : Call} {a : Answer} → GetsReject c (a .number) → a .count ≡ headerSize → Beside c (inl a)
-  noCount : {c : Call} {a : Answer} → (GetsReject c (a .number) → ⊥) → a .count ≡ 0 → Beside c (inl a)
-  zeroBytes : {c : Call} {h : Hashed} → h .hash ≡ zeroHash → Beside c (inr h)
+-- all that stands beside the number is zero: a count or a size, a hash's 32 bytes
+abbrev pub Zeros : Reply → Type 0
+Zeros (withCount a) = a .count ≡ 0
+Zeros (withHash h) = h .hash ≡ zeroHash
+
+-- what stands beside a refusal: the reject's size beside a reject, else zeros
+pub data Beside : Call → Reply → Type 0 where
+  reject : {c : Call} {a : Answer} → GetsReject c (a .number) → a .count ≡ headerSize → Beside c (withCount a)
+  zeros : {c : Call} {r : Reply} → (GetsReject c (replyNumber r) → ⊥) → Zeros r → Beside c r
 
 -- what a request is answered with
 pub data ServeOutcome (s m out : List ℕ) : Type 0 where

@@ -9,7 +9,7 @@ use Rattle.store.specs.Store.{openAnswer, openAfter}
 use Rattle.messages.specs.Take.{takeAnswer}
 use Rattle.pieces.specs.Pieces.{layerAnswer}
 use Rattle.words.specs.Held.{Holds}
-use Rattle.words.specs.History.{Bytes, Call, take, takeReject, serve, held, loadLayer, judgeBlock, judgePiece, clear, isMarked, bitfield, reopen, number, after, Opening, Step, call, lent, Steps, begin, next, Each}
+use Rattle.words.specs.History.{Bytes, Call, take, loadLayer, judgeBlock, judgePiece, clear, reopen, look, number, after, Opening, Step, call, lent, Steps, begin, next, Each}
 
 -- a set of messages, by which bytes are in it
 abbrev pub MessageSet : Type 1
@@ -25,16 +25,12 @@ pub data Among (m : List ℕ) : List (List ℕ) → Type 0 where
 -- the calls of a store that hears only messages of the set: "loads and openings in between are excluded"
 abbrev pub Heard : MessageSet → Call → Type 0
 Heard M (take m b) = M m
-Heard M (takeReject m b) = Unit {0}
-Heard M (serve m out b c) = Unit {0}
-Heard M (held l i) = Unit {0}
 Heard M (loadLayer l b) = ⊥
 Heard M (judgeBlock i d b) = Unit {0}
 Heard M (judgePiece i d b) = Unit {0}
 Heard M (clear i) = Unit {0}
-Heard M (isMarked i) = Unit {0}
-Heard M (bitfield out b) = Unit {0}
 Heard M (reopen n plen root o) = ⊥
+Heard M (look k) = Unit {0}
 
 -- message m was offered in a history: by the last step, or before it
 pub data Offered (m : List ℕ) {s : List ℕ} : (t : List ℕ) → Steps s t → Type 0 where
@@ -69,16 +65,12 @@ pub record Gateway (M : MessageSet) (n plen : ℕ) (root s : List ℕ) : Type 0 
 -- how many positions a call says that it made newly held,
 abbrev pub countOf : Call → List ℕ → ℕ
 countOf (take m b) s = takeAnswer s m .count
-countOf (takeReject m b) s = 0
-countOf (serve m out b c) s = 0
-countOf (held l i) s = 0
 countOf (loadLayer l b) s = layerAnswer s l .count
 countOf (judgeBlock i d b) s = 0
 countOf (judgePiece i d b) s = 0
 countOf (clear i) s = 0
-countOf (isMarked i) s = 0
-countOf (bitfield out b) s = 0
 countOf (reopen n plen root o) s = 0
+countOf (look k) s = 0
 
 -- and all calls of a history together
 unfoldable pub counted : {s t : List ℕ} → Steps s t → ℕ

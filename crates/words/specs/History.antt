@@ -5,7 +5,6 @@ use Prim.{Unit}
 use mathlib.Core.Path.{_≡_}
 use mathlib.Core.Bool.{true}
 use mathlib.Core.List.{List}
-use mathlib.Core.Logic.{_⊎_, inl, inr}
 use Prim.Native.Nat.{ℕ}
 use lib.ListN.{length}
 use Rattle.octets.specs.Octets.{Octets, cut}
@@ -13,9 +12,9 @@ use Rattle.numbers.specs.declared.Answer.{Answer}
 use Rattle.sha256.specs.declared.Hashed.{Hashed}
 use Rattle.store.specs.Store.{fileLength, storeSize, usable, openAnswer, openAfter, heldAnswer}
 use Rattle.messages.specs.Take.{takeAnswer, takeAfter, rejectAnswer}
-use Rattle.serve.specs.Serve.{serveAnswer}
+use Rattle.serve.specs.Serve.{serveAnswer, serveAfter}
 use Rattle.pieces.specs.Pieces.{layerAnswer, layerAfter, blockAnswer, blockAfter, pieceAnswer, pieceAfter}
-use Rattle.marks.specs.Marks.{clearAnswer, clearAfter, markedAnswer, fieldAnswer}
+use Rattle.marks.specs.Marks.{clearAnswer, clearAfter, markedAnswer, fieldAnswer, fieldAfter}
 
 -- a string of bytes, of whatever length
 abbrev pub Bytes : List ℕ → Type 0
@@ -23,73 +22,112 @@ Bytes l = Octets (length l) l
 
 -- ---- the calls
 
--- the calls of the interface that take a store, each with what else it is given
+-- calls that only look at a store and fill no other memory, each with what else it is given
+pub data Ask : Type 0 where
+  -- kd_held: a layer and an index
+  held : (l i : ℕ) → Ask
+  -- kd_take_reject: a reject that came in
+  takeReject : (m : List ℕ) → Bytes m → Ask
+  -- kd_marked: a block's number
+  isMarked : (i : ℕ) → Ask
+
+-- calls that only look at a store, and fill an output apart from it
+pub data Send : Type 0 where
+  -- kd_serve: a request
+  serve : (m : List ℕ) → Bytes m → Send
+  -- kd_bitfield
+  bitfield : Send
+
+-- calls that only look at a store: they are lent it as `&`
+pub data Look : Type 0 where
+  ask : Ask → Look
+  send : Send → (out : List ℕ) → Bytes out → Look
+
+-- the calls of the interface that take a store
 pub data Call : Type 0 where
   -- kd_take: a hashes message
   take : (m : List ℕ) → Bytes m → Call
-  -- kd_take_reject: a reject that came in
-  takeReject : (m : List ℕ) → Bytes m → Call
-  -- kd_serve: a request, and an output apart from the store
-  serve : (m out : List ℕ) → Bytes m → Bytes out → Call
-  -- kd_held: a layer and an index
-  held : (l i : ℕ) → Call
   -- kd_load_layer: a piece layer
   loadLayer : (layer : List ℕ) → Bytes layer → Call
   -- kd_judge_block, kd_judge_piece: a block or a piece and its number
   judgeBlock : (i : ℕ) (block : List ℕ) → Bytes block → Call
   judgePiece : (i : ℕ) (piece : List ℕ) → Bytes piece → Call
-  -- kd_clear, kd_marked: a block's number
+  -- kd_clear: a block's number
   clear : (i : ℕ) → Call
-  isMarked : (i : ℕ) → Call
-  -- kd_bitfield: an output apart from the store
-  bitfield : (out : List ℕ) → Bytes out → Call
   -- kd_open, of bytes that may be a store already: a file's length, a piece length and a pieces root
   reopen : (n plen : ℕ) (root : List ℕ) → Octets 32 root → Call
+  -- one that only looks
+  look : Look → Call
 
--- what a call answers that takes the bytes s as its store: a number with a count or a size, or a number with a hash
-abbrev pub answer : Call → List ℕ → Answer ⊎ Hashed
-answer (take m b) s = inl (takeAnswer s m)
-answer (takeReject m b) s = inl (rejectAnswer s m)
-answer (serve m out b c) s = inl (serveAnswer s m out)
-answer (held l i) s = inr (heldAnswer s l i)
-answer (loadLayer l b) s = inl (layerAnswer s l)
-answer (judgeBlock i d b) s = inl (blockAnswer s i d)
-answer (judgePiece i d b) s = inl (pieceAnswer s i d)
-answer (clear i) s = inl (clearAnswer s i)
-answer (isMarked i) s = inl (markedAnswer s i)
-answer (bitfield out b) s = inl (fieldAnswer s out)
-answer (reopen n plen root o) s = inl (openAnswer s n plen)
+-- what a call answers: a number with a count or a size, or with a hash
+pub data Reply : Type 0 where
+  withCount : Answer → Reply
+  withHash : Hashed → Reply
+
+abbrev pub replyNumber : Reply → ℕ
+replyNumber (withCount a) = a .number
+replyNumber (withHash h) = h .number
+
+-- what a call answers that takes the bytes s as its store
+abbrev pub asked : Ask → List ℕ → Reply
+asked (held l i) s = withHash (heldAnswer s l i)
+asked (takeReject m b) s = withCount (rejectAnswer s m)
+asked (isMarked i) s = withCount (markedAnswer s i)
+
+abbrev pub sendReply : Send → List ℕ → List ℕ → Reply
+sendReply (serve m b) s out = withCount (serveAnswer s m out)
+sendReply bitfield s out = withCount (fieldAnswer s out)
+
+abbrev pub looked : Look → List ℕ → Reply
+looked (ask k) s = asked k s
+looked (send k out b) s = sendReply k s out
+
+abbrev pub answer : Call → List ℕ → Reply
+answer (take m b) s = withCount (takeAnswer s m)
+answer (loadLayer l b) s = withCount (layerAnswer s l)
+answer (judgeBlock i d b) s = withCount (blockAnswer s i d)
+answer (judgePiece i d b) s = withCount (pieceAnswer s i d)
+answer (clear i) s = withCount (clearAnswer s i)
+answer (reopen n plen root o) s = withCount (openAnswer s n plen)
+answer (look k) s = looked k s
 
 abbrev pub number : Call → List ℕ → ℕ
-number c s = elim (answer c s) [ inl a ↦ a .number | inr h ↦ h .number ]
+number c s = replyNumber (answer c s)
 
--- what it leaves in those bytes. The others are lent them as `&`.
+-- what it leaves in those bytes
 abbrev pub after : Call → List ℕ → List ℕ
 after (take m b) s = takeAfter s m
-after (takeReject m b) s = s
-after (serve m out b c) s = s
-after (held l i) s = s
 after (loadLayer l b) s = layerAfter s l
 after (judgeBlock i d b) s = blockAfter s i d
 after (judgePiece i d b) s = pieceAfter s i d
 after (clear i) s = clearAfter s i
-after (isMarked i) s = s
-after (bitfield out b) s = s
 after (reopen n plen root o) s = openAfter s n plen root
+after (look k) s = s
+
+-- and in the output that it fills
+abbrev pub sentTo : Send → List ℕ → List ℕ → List ℕ
+sentTo (serve m b) s out = serveAfter s m out
+sentTo bitfield s out = fieldAfter s out
 
 -- it is an opening
 abbrev pub Opening : Call → Type 0
 Opening (take m b) = ⊥
-Opening (takeReject m b) = ⊥
-Opening (serve m out b c) = ⊥
-Opening (held l i) = ⊥
 Opening (loadLayer l b) = ⊥
 Opening (judgeBlock i d b) = ⊥
 Opening (judgePiece i d b) = ⊥
 Opening (clear i) = ⊥
-Opening (isMarked i) = ⊥
-Opening (bitfield out b) = ⊥
 Opening (reopen n plen root o) = Unit {0}
+Opening (look k) = ⊥
+
+-- it can make a hash held: a hashes message, a layer, an opening
+abbrev pub Teaches : Call → Type 0
+Teaches (take m b) = Unit {0}
+Teaches (loadLayer l b) = Unit {0}
+Teaches (judgeBlock i d b) = ⊥
+Teaches (judgePiece i d b) = ⊥
+Teaches (clear i) = ⊥
+Teaches (reopen n plen root o) = Unit {0}
+Teaches (look k) = ⊥
 
 -- ---- histories
 

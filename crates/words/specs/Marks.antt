@@ -15,7 +15,7 @@ use Rattle.marks.specs.Marks.{marksStart}
 use Rattle.pieces.specs.Pieces.{pieceHeight}
 use Rattle.words.specs.Held.{Holds}
 use Rattle.words.specs.Pieces.{BlockFormed, PieceFormed, PieceSettles}
-use Rattle.words.specs.History.{Bytes, Call, take, takeReject, serve, held, loadLayer, judgeBlock, judgePiece, clear, isMarked, bitfield, reopen, number, after, Opening, SameStore, call, lent, Steps, next}
+use Rattle.words.specs.History.{Bytes, Ask, held, takeReject, isMarked, Send, serve, bitfield, Look, ask, send, Call, take, loadLayer, judgeBlock, judgePiece, clear, reopen, look, number, after, Opening, SameStore, call, lent, Steps, next}
 
 -- block j is one of the file's, and its first byte lies in piece i
 pub record Covers (s : List ℕ) (i j : ℕ) : Type 0 where
@@ -39,48 +39,49 @@ pub record SameButMarks (s t : List ℕ) : Type 0 where
   pub bytes : cut t 0 (marksStart s) ≡ cut s 0 (marksStart s)
 
 -- a call about hashes: all but those about marks and an opening
+abbrev pub AsksHashes : Ask → Type 0
+AsksHashes (held l i) = Unit {0}
+AsksHashes (takeReject m b) = Unit {0}
+AsksHashes (isMarked i) = ⊥
+
+abbrev pub SendsHashes : Send → Type 0
+SendsHashes (serve m b) = Unit {0}
+SendsHashes bitfield = ⊥
+
+abbrev pub LooksAtHashes : Look → Type 0
+LooksAtHashes (ask k) = AsksHashes k
+LooksAtHashes (send k out b) = SendsHashes k
+
 abbrev pub AboutHashes : Call → Type 0
 AboutHashes (take m b) = Unit {0}
-AboutHashes (takeReject m b) = Unit {0}
-AboutHashes (serve m out b c) = Unit {0}
-AboutHashes (held l i) = Unit {0}
 AboutHashes (loadLayer l b) = Unit {0}
 AboutHashes (judgeBlock i d b) = Unit {0}
 AboutHashes (judgePiece i d b) = Unit {0}
 AboutHashes (clear i) = ⊥
-AboutHashes (isMarked i) = ⊥
-AboutHashes (bitfield out b) = ⊥
 AboutHashes (reopen n plen root o) = ⊥
+AboutHashes (look k) = LooksAtHashes k
 
 -- ---- marks over a history
 
 -- the call is given block j's data: the block, or a piece that covers it
 abbrev pub Judges : List ℕ → ℕ → Call → Type 0
 Judges s j (take m b) = ⊥
-Judges s j (takeReject m b) = ⊥
-Judges s j (serve m out b c) = ⊥
-Judges s j (held l i) = ⊥
 Judges s j (loadLayer l b) = ⊥
 Judges s j (judgeBlock i d b) = i ≡ j
 Judges s j (judgePiece i d b) = Covers s i j
 Judges s j (clear i) = ⊥
-Judges s j (isMarked i) = ⊥
-Judges s j (bitfield out b) = ⊥
 Judges s j (reopen n plen root o) = ⊥
+Judges s j (look k) = ⊥
 
 -- the call is to clear block j
 abbrev pub Clears : ℕ → Call → Type 0
 Clears j (take m b) = ⊥
-Clears j (takeReject m b) = ⊥
-Clears j (serve m out b c) = ⊥
-Clears j (held l i) = ⊥
 Clears j (loadLayer l b) = ⊥
 Clears j (judgeBlock i d b) = ⊥
 Clears j (judgePiece i d b) = ⊥
 Clears j (clear i) = i ≡ j
-Clears j (isMarked i) = ⊥
-Clears j (bitfield out b) = ⊥
 Clears j (reopen n plen root o) = ⊥
+Clears j (look k) = ⊥
 
 -- in a history, the call c on the bytes u judged block j right, and block j was not cleared after that: c was the last step, given block j's
 -- data and answered 0; or it came before the last step, which was no clearing of block j answered 0, or changed bytes behind the store

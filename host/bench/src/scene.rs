@@ -59,7 +59,8 @@ impl Scene {
     /// The scene of this size whose run has these leaves.
     pub fn new(size: Size, leaves: Vec<Hash>) -> Scene {
         assert_eq!(leaves.len(), size.run as usize);
-        let mut header = Header { root: [0; 32], base: 0, index: size.index(), length: size.run, proof: size.height - 1 };
+        let mut header =
+            Header { root: [0; 32], base: 0, index: size.index(), length: size.run, proof: size.height - 1 };
         assert_eq!(header.uncles(), size.uncles() as u64);
         let hashes: Vec<Hash> = leaves.into_iter().chain(uncles(size)).collect();
         let settled = header.settled(&hashes);

@@ -19,7 +19,10 @@ pub fn write(files: &[Planned], piece_length: u64, name: &[u8]) -> Result<Vec<u8
     }
     let mut sorted: Vec<&Planned> = files.iter().collect();
     sorted.sort_by(|one, other| one.path.cmp(&other.path));
-    if files.is_empty() || files.iter().any(is_wrong) || sorted.windows(2).any(|two| two[1].path.starts_with(&two[0].path)) {
+    if files.is_empty()
+        || files.iter().any(is_wrong)
+        || sorted.windows(2).any(|two| two[1].path.starts_with(&two[0].path))
+    {
         return Err(WRONG_TREE);
     }
     let layers = layers(files, piece_length)?;
@@ -61,11 +64,8 @@ fn layers(files: &[Planned], piece_length: u64) -> Result<BTreeMap<&Hash, &[u8]>
         return Err(LAYER_DIFFERS);
     }
     let filler = padding((piece_length / BLOCK).trailing_zeros() as u64);
-    let layers: BTreeMap<&Hash, &[u8]> = by_root
-        .into_values()
-        .filter(|file| !file.layer.is_empty())
-        .map(|file| (&file.root, &file.layer[..]))
-        .collect();
+    let layers: BTreeMap<&Hash, &[u8]> =
+        by_root.into_values().filter(|file| !file.layer.is_empty()).map(|file| (&file.root, &file.layer[..])).collect();
     if layers.iter().any(|(root, layer)| layer_differs(layer, root, filler)) {
         return Err(LAYER_DIFFERS);
     }

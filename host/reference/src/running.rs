@@ -1,5 +1,6 @@
 //! SHA-256 of bytes that come in bursts: request 1 of document 02.
 
+use crate::limits::LONGEST_HASHED;
 use crate::number::{DONE, UNUSABLE, WRONG_SIZE};
 use crate::sha256::{compress, digest, last_blocks, START};
 use crate::Hashed;
@@ -13,9 +14,6 @@ pub struct Hashing {
     pub total: u64,
 }
 
-/// The longest string that the standard has a hash for.
-pub const LONGEST_STRING: u64 = (1 << 61) - 1;
-
 impl Hashing {
     /// No bytes yet.
     pub fn begin() -> Hashing {
@@ -24,7 +22,7 @@ impl Hashing {
 
     /// Whether some bursts give these counts.
     pub fn possible(&self) -> bool {
-        self.total <= LONGEST_STRING && self.tail_size == self.total % 64
+        self.total <= LONGEST_HASHED && self.tail_size == self.total % 64
     }
 
     /// A burst; beside a refusal the state comes back as it was given.
@@ -32,7 +30,7 @@ impl Hashing {
         if !self.possible() {
             return (UNUSABLE, self);
         }
-        if burst.len() as u64 > LONGEST_STRING - self.total {
+        if burst.len() as u64 > LONGEST_HASHED - self.total {
             return (WRONG_SIZE, self);
         }
         (DONE, self.after(burst))
@@ -102,7 +100,7 @@ mod tests {
         assert_eq!(odd.end(), Hashed::refused(UNUSABLE));
         let past = Hashing { total: 1 << 61, ..Hashing::begin() };
         assert_eq!(past.more(b""), (UNUSABLE, past));
-        let full = Hashing { total: LONGEST_STRING, tail_size: 63, ..Hashing::begin() };
+        let full = Hashing { total: LONGEST_HASHED, tail_size: 63, ..Hashing::begin() };
         assert_eq!(full.more(b"x"), (WRONG_SIZE, full));
         assert_eq!(full.more(b"").0, DONE);
     }

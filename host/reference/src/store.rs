@@ -129,7 +129,9 @@ mod tests {
     #[test]
     fn facts_out_of_range_come_before_too_little_room() {
         let mut none = [0u8; 0];
-        for (length, piece_length) in [(0, 16384), (LONGEST_FILE + 1, 16384), (1, 8192), (1, 16385), (1, 1 << 25), (1, 0)] {
+        for (length, piece_length) in
+            [(0, 16384), (LONGEST_FILE + 1, 16384), (1, 8192), (1, 16385), (1, 1 << 25), (1, 0)]
+        {
             assert_eq!(open(&mut none, length, piece_length, [0; 32]).number, FACTS_OUT_OF_RANGE);
             assert_eq!(store_size(length, piece_length), Answer::refused(FACTS_OUT_OF_RANGE));
         }

@@ -5,8 +5,8 @@ use crate::compare::Comparison;
 use crate::random::Random;
 use crate::states::{hashing_bytes, hashing_of, history_bytes, history_of, HASHING, HISTORY};
 use reference::history::History;
-use reference::limits::{BLOCK, LONGEST_FILE};
-use reference::running::{Hashing, LONGEST_STRING};
+use reference::limits::{BLOCK, LONGEST_FILE, LONGEST_HASHED};
+use reference::running::Hashing;
 
 /// A state after one call more; the call is compared.
 fn after(compared: &mut Comparison, call: Call) -> Outcome {
@@ -42,9 +42,9 @@ fn spoiled_hashing(random: &mut Random, state: &[u8]) -> Vec<u8> {
     let mut state = hashing_of(state);
     match random.below(8) {
         0 => state.tail_size = random.pick(&[0, 1, 63, 64, 65, state.total % 64 + 1, 1 << 32, u64::MAX]),
-        1 => state.total = random.pick(&[0, 64, LONGEST_STRING, LONGEST_STRING + 1, u64::MAX]),
+        1 => state.total = random.pick(&[0, 64, LONGEST_HASHED, LONGEST_HASHED + 1, u64::MAX]),
         2 => {
-            state.total = LONGEST_STRING - random.below(200) * random.below(2);
+            state.total = LONGEST_HASHED - random.below(200) * random.below(2);
             state.tail_size = state.total % 64;
         }
         3 => state.tail[random.below(64) as usize] ^= 0x40,
@@ -53,7 +53,7 @@ fn spoiled_hashing(random: &mut Random, state: &[u8]) -> Vec<u8> {
         6 => state = hashing_of(&random.bytes(HASHING)),
         _ => {
             state = hashing_of(&random.bytes(HASHING));
-            state.total %= LONGEST_STRING + 1;
+            state.total %= LONGEST_HASHED + 1;
             state.tail_size = state.total % 64;
         }
     }

@@ -14,7 +14,8 @@ pub type Test = (&'static str, fn());
 pub fn run(tests: &[Test]) {
     let wanted = env::args().skip(1).find(|argument| !argument.starts_with('-')).unwrap_or_default();
     let chosen: Vec<&Test> = tests.iter().filter(|(name, _)| name.contains(&wanted)).collect();
-    let failed: Vec<&str> = chosen.iter().filter(|(_, test)| catch_unwind(test).is_err()).map(|(name, _)| *name).collect();
+    let failed: Vec<&str> =
+        chosen.iter().filter(|(_, test)| catch_unwind(test).is_err()).map(|(name, _)| *name).collect();
     if !failed.is_empty() {
         println!("test result: FAILED: {}", failed.join(", "));
         exit(1);

@@ -281,8 +281,7 @@ pub fn run(random: &mut Random, compared: &mut Comparison, mut go_on: impl FnMut
 }
 
 /// Among them some that are in range if they are cut to 32 bits.
-const OTHER_PIECE_LENGTHS: [u64; 9] =
-    [0, 1, 8192, 16383, 16385, 1 << 25, (1 << 32) + 16384, 1 << 63, u64::MAX];
+const OTHER_PIECE_LENGTHS: [u64; 9] = [0, 1, 8192, 16383, 16385, 1 << 25, (1 << 32) + 16384, 1 << 63, u64::MAX];
 
 /// Files that make a writer work, and of which a torrent is written.
 pub struct Shape {
@@ -338,8 +337,12 @@ pub const GOOD: [Shape; 9] = [
     shape("many-files", || (0..14_900).map(|n| file(vec![name(n)], 1, root(n))).collect()),
     shape("49000-empty", || empty_files(49_000)),
     shape("equal-roots", || (0..14_900).map(|n| file(vec![name(n)], 1, [7; 32])).collect()),
-    shape("28-elements", || (0..14_800).map(|n| file([vec![b"a".to_vec(); 27], vec![name(n)]].concat(), 1, root(n))).collect()),
-    shape("own-folders", || (0..5_000).map(|n| file([vec![name(n)], vec![b"a".to_vec(); 27]].concat(), 1, root(n))).collect()),
+    shape("28-elements", || {
+        (0..14_800).map(|n| file([vec![b"a".to_vec(); 27], vec![name(n)]].concat(), 1, root(n))).collect()
+    }),
+    shape("own-folders", || {
+        (0..5_000).map(|n| file([vec![name(n)], vec![b"a".to_vec(); 27]].concat(), 1, root(n))).collect()
+    }),
     shape("long-element", long_element),
     shape("equal-layers", equal_layers),
     shape("many-layers", many_layers),

@@ -262,8 +262,7 @@ fn change_string(content: &mut Vec<u8>, random: &mut Random) {
 }
 
 /// Path elements that are wrong, and some that are next to them.
-const NAMES: [&[u8]; 12] =
-    [b".", b"..", b"/", b"\0", b"a/b", b"../a", b"a\0", b"..\0", b"...", b". ", b"..a", b"\\"];
+const NAMES: [&[u8]; 12] = [b".", b"..", b"/", b"\0", b"a/b", b"../a", b"a\0", b"..\0", b"...", b". ", b"..a", b"\\"];
 
 fn change_entries(entries: &mut Vec<(Vec<u8>, Value)>, random: &mut Random) {
     if entries.is_empty() {

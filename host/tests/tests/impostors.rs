@@ -3,9 +3,9 @@
 
 use host_tests::call::{by_reference, Call, Entry, Given, Outcome};
 use host_tests::compare::{report, Comparison, Library};
+use host_tests::lists::{read_back, Planned};
 use host_tests::random::Random;
 use host_tests::states::{hashing_bytes, hashing_of, history_bytes, history_of};
-use host_tests::lists::{read_back, Planned};
 use host_tests::{bursts, lists, sessions, torrents};
 use reference::limits::{BLOCK, RECORD};
 use reference::marks::{clear, mark, marked};

@@ -12,10 +12,15 @@ fn source(path: &str) -> String {
     fs::read_to_string(repository.join(path)).unwrap_or_else(|error| panic!("{path}: {error}"))
 }
 
-/// A value as these sources write them: a decimal, or `2 ^ n`.
+/// A value as these sources write them: a decimal, `0x` with digits in groups, or `2 ^ n`.
 fn value(text: &str) -> u64 {
-    let decimal = |text: &str| text.trim().parse::<u64>().unwrap_or_else(|_| panic!("{text} is no number"));
-    text.split_once('^').map_or_else(|| decimal(text), |(base, power)| decimal(base).pow(decimal(power) as u32))
+    let digits = text.trim().replace('_', "");
+    let read = |text: &str, base| u64::from_str_radix(text.trim(), base).unwrap_or_else(|_| panic!("{text} is no number"));
+    match (digits.strip_prefix("0x"), digits.split_once('^')) {
+        (Some(digits), _) => read(digits, 16),
+        (_, Some((base, power))) => read(base, 10).pow(read(power, 10) as u32),
+        _ => read(&digits, 10),
+    }
 }
 
 /// `#define KD_NAME value`, without the version.
@@ -33,9 +38,9 @@ fn constants(path: &str) -> Names {
     parts.map(|(name, text)| (name.split(':').next().unwrap().to_string(), value(text))).collect()
 }
 
-/// `name = value` of a spec, as a constant's name.
+/// `name = value` of a spec, as a constant's name; a list of numbers is none.
 fn defined(path: &str) -> Names {
-    let is_value = |text: &str| text.starts_with(|first: char| first.is_ascii_digit());
+    let is_value = |text: &str| text.starts_with(|first: char| first.is_ascii_digit()) && !text.contains('∷');
     let parts = source(path);
     let parts = parts.lines().filter_map(|line| line.split_once(" = ")).filter(|(_, text)| is_value(text));
     parts.filter(|(name, _)| !name.contains(' ')).map(|(name, text)| (from_camel(name), value(text))).collect()

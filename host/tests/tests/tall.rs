@@ -103,7 +103,8 @@ impl Both {
         let request = header.write(REQUEST);
         let mut outs = [vec![0xaa; header.message_size() as usize + 1], vec![0xaa; header.message_size() as usize + 1]];
         let [ours, expected] = &mut outs;
-        let answer = same(boundary::serve(&self.library, &request, ours), messages::serve(&self.reference, &request, expected));
+        let answer =
+            same(boundary::serve(&self.library, &request, ours), messages::serve(&self.reference, &request, expected));
         assert!(outs[0] == outs[1], "the replies differ");
         answer
     }
@@ -118,7 +119,8 @@ impl Both {
     }
 
     fn held(&self, layer: u64, index: u64) -> u32 {
-        let (library, reference) = (boundary::held(&self.library, layer, index), store::held(&self.reference, layer, index));
+        let (library, reference) =
+            (boundary::held(&self.library, layer, index), store::held(&self.reference, layer, index));
         assert_eq!((library.number, library.hash.bytes), (reference.number, reference.hash));
         reference.number
     }

@@ -269,7 +269,8 @@ fn number_25_is_an_empty_or_wrong_tree() {
 /// A torrent of one file with this path.
 fn with_path(path: &[&[u8]]) -> Vec<u8> {
     let properties = dictionary(&[&entry("length", b"i1e"), &entry("pieces root", &string(&[1; 32]))]);
-    let node = path.iter().rev().fold(entry("", &properties), |below, name| [string(name), dictionary(&[&below])].concat());
+    let node =
+        path.iter().rev().fold(entry("", &properties), |below, name| [string(name), dictionary(&[&below])].concat());
     with_tree(&[&node])
 }
 
@@ -300,7 +301,8 @@ fn number_25_is_an_element_that_climbs_out() {
 
 fn elements_that_only_look_so() {
     let right: [&[u8]; 15] = [
-        b"...", b"....", b". ", b".. ", b" .", b"..a", b".a", b"a.", b"a..", b" ", b"\\", b"..\\", b"\x80", b"\xff\xfe", b"C:",
+        b"...", b"....", b". ", b".. ", b" .", b"..a", b".a", b"a.", b"a..", b" ", b"\\", b"..\\", b"\x80",
+        b"\xff\xfe", b"C:",
     ];
     right.into_iter().for_each(|name| assert_name(name, 0));
     assert_name(&[b'.'; 300], 0);

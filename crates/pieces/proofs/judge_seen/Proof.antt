@@ -15,7 +15,7 @@ judged-number-requires : tie.Need-judged-number-requires
 judged-number-requires c κs = search needs
 
 returns : tie.Need-returns
-returns c = seen-judged _ _ _ _ _ _ _ (c .before .before .hash-of .ensures) (c .before .same .ensures) (c .judged-number .ensures)
+returns c = seen-judged _ _ _ _ (c .before .before .before .before .before .args .seen .agrees) _ _ (c .before .before .hash-of .ensures) (c .before .same .ensures) (c .judged-number .ensures)
 
 pub judge-seen-spec : {M : Type 1} → statement M
 judge-seen-spec = tie.close (tie.spec hash-of-requires same-requires judged-number-requires returns)

@@ -1,6 +1,6 @@
 use lib.ListN.{length-set}
-use Rattle.rounds.specs.StageLaws.{words-more, word-in}
-use Rattle.rounds.specs.Block.{words}
+use Rattle.bits.specs.ParsingLaws.{words-more, word-in}
+use Rattle.bits.specs.Parsing.{words}
 use borrow.Author.Needs.{needs}
 use native.Mathlib.Omega.{arith}
 use Prim.Native.Nat.{_-_, _≤_}

@@ -1,10 +1,10 @@
-use Rattle.running.specs.Bursts.{tailArray}
+use Rattle.padding.specs.Running.{tailArray}
 use mathlib.Core.List.{_++_}
 use Rattle.rounds.specs.declared.State.{State}
 use Rattle.rounds.specs.Block.{compress}
 use Rattle.running.proofs.Absorbing.{beside-law, block-law, with-counts}
 use native.Mathlib.Omega.{arith}
-use Prim.Native.Nat.{ℕ, _+_, _-_, _<_, _%_}
+use Prim.Native.Nat.{ℕ, _+_, _-_, _<_}
 use lib.ListN.{length, take, drop}
 use mathlib.Core.Path.{_≡_, refl, ap, _∙_}
 use borrow.Author.Needs.{needs}

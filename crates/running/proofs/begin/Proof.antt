@@ -1,7 +1,7 @@
 use mathlib.Core.List.{[]}
 use Rattle.running.proofs.Absorbing.{begin-law}
-use Rattle.running.specs.Bursts.{toWords, tailArray}
-use Prim.Native.Nat.{_-_}
+use Rattle.running.specs.Bursts.{toWords}
+use Rattle.padding.specs.Running.{tailArray}
 use mathlib.Core.Path.{refl, ap, _∙_}
 use borrow.Author.Needs.{needs}
 use Rattle.running.proofs.begin.Statement.{statement}

@@ -2,7 +2,9 @@ use Rattle.octets.specs.Octets.{zeroHash}
 use Rattle.sha256.specs.Answer.{hashedOf}
 use borrow.Author.Tests.{lt-ltb, le-ltb}
 use mathlib.Core.List.{List}
-use Prim.Native.Nat.{ℕ, _-_, _^_}
+use Rattle.limits.specs.Limits.{longestHashed}
+use native.Mathlib.Omega.{arith}
+use Prim.Native.Nat.{ℕ, suc}
 use lib.ListN.{length}
 use mathlib.Core.Path.{ap, sym}
 use borrow.Author.Needs.{needs}
@@ -16,13 +18,13 @@ returns : tie.Need-returns
 unfolding hashedOf
 returns c =
     let m = c .before .before .before .args .s .now in
-    sym (rw (lt-ltb (length m) (2 ^ 61) (c .before .if1 .taken)) (ap (λ (h : List ℕ). record { number = 0; hash = h }) (sym (c .hash .ensures))))
+    sym (rw (lt-ltb (length m) (suc longestHashed) (omega (arith, c .before .if1 .taken))) (ap (λ (h : List ℕ). record { number = 0; hash = h }) (sym (c .hash .ensures))))
 
 returns-2 : tie.Need-returns-2
 unfolding hashedOf zeroHash
 returns-2 c =
     let m = c .before .before .args .s .now in
-    sym (rw (le-ltb (length m) (2 ^ 61) (c .if1 .left)))
+    sym (rw (le-ltb (length m) (suc longestHashed) (omega (arith, c .if1 .left))))
 
 pub sha256-spec : {M : Type 1} → statement M
 sha256-spec = tie.close (tie.spec hash-requires returns returns-2)

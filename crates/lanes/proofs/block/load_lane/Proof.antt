@@ -2,7 +2,7 @@
 -- Assumes nothing.
 use Rattle.lanes.specs.LanesLaws.{beside-none, beside-set, beside-then, load-more}
 use Rattle.octets.specs.Octets.{cut}
-use Rattle.rounds.specs.Block.{words}
+use Rattle.bits.specs.Parsing.{words}
 use Rattle.lanes.specs.Lanes.{lane}
 use Rattle.lanes.specs.Passes.{Beside}
 use borrow.Author.Needs.{needs}

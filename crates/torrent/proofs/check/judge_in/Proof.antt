@@ -1,7 +1,6 @@
 use mathlib.Core.List.{[]}
-use Rattle.torrent.proofs.Checking.{judged-wrong, counted-right, counted-files, full-fits, full-within, once-inside, roots-once, long-fits, judged-same, judged-amiss, judged-number, keys-indexed}
+use Rattle.torrent.proofs.Checking.{judged-wrong, counted-right, full-fits, full-within, once-inside, roots-once, long-fits, judged-same, judged-amiss, judged-number, keys-indexed}
 use native.Mathlib.Omega.{arith}
-use Prim.Native.Nat.{_-_}
 use mathlib.Core.Path.{sym, _∙_}
 use borrow.Author.Needs.{needs}
 use Rattle.torrent.proofs.check.judge_in.Statement.{statement}
@@ -23,7 +22,7 @@ once-each-requires : tie.Need-once-each-requires
 once-each-requires c κs = let x = full-fits _ [] 0 _ _ _ _ (rw (c .before .before .before .tally .given .1) at (c .before .before .before .before .before .before .before .count-files .ensures)) (c .before .before .before .before .before .before .before .count-files .kept .1 .0 ∙ c .before .before .before .before .before .before .before .before .before .before .before .before .before .pre .3) in let y = (c .before .before .before .before .before .before .before .count-files .kept .1 .0 ∙ c .before .before .before .before .before .before .before .before .before .before .before .before .before .pre .3) in let z = c .before .before .before .before .before .before .before .before .before .before .before .before .before .pre .4 in (omega arith, omega arith, full-within _ [] 0 _ _ _ _ (rw (c .before .before .before .tally .given .1) at (c .before .before .before .before .before .before .before .count-files .ensures)) (c .before .before .before .before .before .before .before .count-files .kept .1 .0 ∙ c .before .before .before .before .before .before .before .before .before .before .before .before .before .pre .3))
 
 compare-requires : tie.Need-compare-requires
-compare-requires c κs = let a = once-inside _ [] 0 _ _ _ _ (rw (c .before .before .before .before .before .before .before .before .before .before .tally .given .1) at (c .before .before .before .before .before .before .before .before .before .before .before .before .before .before .count-files .ensures)) (c .before .before .before .before .before .before .before .before .before .before .before .before .before .before .count-files .kept .1 .0 ∙ c .before .before .before .before .before .before .before .before .before .before .before .before .before .before .before .before .before .before .before .before .pre .3) _ (c .before .before .before .before .before .before .once-each .ensures .0) _ (c .before .before .before .before .before .before .once-each .ensures .1) in let b = c .before .before .before .before .before .before .once-each .kept .1 .0 in let d = (c .before .before .before .before .before .before .before .before .before .before .before .before .before .before .count-files .kept .1 .0 ∙ c .before .before .before .before .before .before .before .before .before .before .before .before .before .before .before .before .before .before .before .before .pre .3) in let e = c .before .before .before .before .before .before .once-each .kept .1 .1 .0 in let g = c .before .before .before .before .before .before .before .before .before .before .before .before .before .before .before .before .before .before .before .before .pre .4 in (roots-once _ [] 0 _ _ _ _ (rw (c .before .before .before .before .before .before .before .before .before .before .tally .given .1) at (c .before .before .before .before .before .before .before .before .before .before .before .before .before .before .count-files .ensures)) (c .before .before .before .before .before .before .before .before .before .before .before .before .before .before .count-files .kept .1 .0 ∙ c .before .before .before .before .before .before .before .before .before .before .before .before .before .before .before .before .before .before .before .before .pre .3) _ (c .before .before .before .before .before .before .once-each .ensures .0) _ (c .before .before .before .before .before .before .once-each .ensures .1), counted-right _ [] 0 _ _ _ _ (rw (c .before .before .before .before .before .before .before .before .before .before .tally .given .1) at (c .before .before .before .before .before .before .before .before .before .before .before .before .before .before .count-files .ensures)) (c .before .before .before .before .before .before .before .before .before .before .before .before .before .before .count-files .kept .1 .0 ∙ c .before .before .before .before .before .before .before .before .before .before .before .before .before .before .before .before .before .before .before .before .pre .3), counted-files _ [] 0 _ _ _ _ (rw (c .before .before .before .before .before .before .before .before .before .before .tally .given .1) at (c .before .before .before .before .before .before .before .before .before .before .before .before .before .before .count-files .ensures)) (c .before .before .before .before .before .before .before .before .before .before .before .before .before .before .count-files .kept .1 .0 ∙ c .before .before .before .before .before .before .before .before .before .before .before .before .before .before .before .before .before .before .before .before .pre .3), omega arith, c .before .before .before .before .before .before .before .before .before .before .before .before .before .before .before .before .before .before .before .before .pre .0)
+compare-requires c κs = let a = once-inside _ [] 0 _ _ _ _ (rw (c .before .before .before .before .before .before .before .before .before .before .tally .given .1) at (c .before .before .before .before .before .before .before .before .before .before .before .before .before .before .count-files .ensures)) (c .before .before .before .before .before .before .before .before .before .before .before .before .before .before .count-files .kept .1 .0 ∙ c .before .before .before .before .before .before .before .before .before .before .before .before .before .before .before .before .before .before .before .before .pre .3) _ (c .before .before .before .before .before .before .once-each .ensures .0) _ (c .before .before .before .before .before .before .once-each .ensures .1) in let b = c .before .before .before .before .before .before .once-each .kept .1 .0 in let d = (c .before .before .before .before .before .before .before .before .before .before .before .before .before .before .count-files .kept .1 .0 ∙ c .before .before .before .before .before .before .before .before .before .before .before .before .before .before .before .before .before .before .before .before .pre .3) in let e = c .before .before .before .before .before .before .once-each .kept .1 .1 .0 in let g = c .before .before .before .before .before .before .before .before .before .before .before .before .before .before .before .before .before .before .before .before .pre .4 in (roots-once _ [] 0 _ _ _ _ (rw (c .before .before .before .before .before .before .before .before .before .before .tally .given .1) at (c .before .before .before .before .before .before .before .before .before .before .before .before .before .before .count-files .ensures)) (c .before .before .before .before .before .before .before .before .before .before .before .before .before .before .count-files .kept .1 .0 ∙ c .before .before .before .before .before .before .before .before .before .before .before .before .before .before .before .before .before .before .before .before .pre .3) _ (c .before .before .before .before .before .before .once-each .ensures .0) _ (c .before .before .before .before .before .before .once-each .ensures .1), counted-right _ [] 0 _ _ _ _ (rw (c .before .before .before .before .before .before .before .before .before .before .tally .given .1) at (c .before .before .before .before .before .before .before .before .before .before .before .before .before .before .count-files .ensures)) (c .before .before .before .before .before .before .before .before .before .before .before .before .before .before .count-files .kept .1 .0 ∙ c .before .before .before .before .before .before .before .before .before .before .before .before .before .before .before .before .before .before .before .before .pre .3), omega arith, c .before .before .before .before .before .before .before .before .before .before .before .before .before .before .before .before .before .before .before .before .pre .0)
 
 enum-told-2 : tie.Need-enum-told-2
 enum-told-2 c = search needs

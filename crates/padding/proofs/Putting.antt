@@ -8,7 +8,7 @@ use lib.ListN.{length, take, drop, replicate, length-append, length-replicate, r
 use lib.Seq.{drop-at, length-take-le}
 use Rattle.octets.specs.Octets.{pasted}
 use Rattle.octets.specs.OctetsLaws.{pasted-append}
-use Rattle.running.specs.Bursts.{tailArray}
+use Rattle.padding.specs.Running.{tailArray}
 
 -- zeros behind the first m of n zeros
 zeros-behind : (n m : ℕ) → m ≤ n → drop {A = ℕ} m (replicate n 0) ≡ replicate (n - m) 0

@@ -1,14 +1,14 @@
 use Rattle.octets.specs.Octets.{pasted}
 use lib.Seq.{length-take-le}
 use Rattle.octets.specs.OctetsLaws.{pasted-length}
-use Rattle.running.proofs.Putting.{filled-law}
+use Rattle.padding.proofs.Putting.{filled-law}
 use native.Mathlib.Omega.{arith}
 use Prim.Native.Nat.{ℕ, _-_}
 use lib.ListN.{length, take, replicate}
 use mathlib.Core.Path.{_≡_, refl, ap, _∙_}
 use borrow.Author.Needs.{needs}
-use Rattle.running.proofs.filled.Statement.{statement}
-use Rattle.running.proofs.filled.Tie as tie
+use Rattle.padding.proofs.filled.Statement.{statement}
+use Rattle.padding.proofs.filled.Tie as tie
 
 sub-put : tie.Need-sub-put
 sub-put c = search needs

@@ -1,9 +1,8 @@
-use Rattle.rounds.proofs.Laws.{four}
-use Rattle.rounds.specs.Block.{wordAt}
-use Prim.Native.Nat.{_-_}
+use Rattle.bits.proofs.FourBytes.{four}
+use Rattle.bits.specs.Parsing.{wordAt}
 use borrow.Author.Needs.{needs}
-use Rattle.rounds.proofs.word.Statement.{statement}
-use Rattle.rounds.proofs.word.Tie as tie
+use Rattle.bits.proofs.word.Statement.{statement}
+use Rattle.bits.proofs.word.Tie as tie
 
 shared-slice-read-wide : tie.Need-shared-slice-read-wide
 shared-slice-read-wide c = search needs

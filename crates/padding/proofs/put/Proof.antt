@@ -5,8 +5,8 @@ use native.Mathlib.Omega.{arith}
 use Prim.Native.Nat.{_-_, _≤_}
 use lib.ListN.{length}
 use mathlib.Core.Path.{_≡_, refl}
-use Rattle.running.proofs.put.Statement.{statement}
-use Rattle.running.proofs.put.Tie as tie
+use Rattle.padding.proofs.put.Statement.{statement}
+use Rattle.padding.proofs.put.Tie as tie
 
 abbrev Inv-loop : tie.InvT-loop
 Inv-loop b₀ at s i₀ b i = (i ≤ length s) × (b ≡ paste b₀ at s i)
