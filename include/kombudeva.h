@@ -4,13 +4,14 @@
  * This header is the whole boundary between the proved library, libkombudeva.a, and a host program.
  *
  * ANSWERS. Every function answers with one struct by value. Its `number` says what happened: KD_DONE, which is 0, or one of
- * the refusals by name below. (kd_hashing_begin can't be refused, and answers with a state alone.)
+ * the refusals by name below. (kd_hashing_begin and kd_stream_begin can't be refused, and answer with a state alone.)
  *
  * Each function lists its numbers in the order in which they are decided: the first that applies is given. Only the KD_NO_ROOM
  * of kd_serve stands in place of the answer that there is no room for.
  *
  * Beside a refusal (any number but KD_DONE) every other field is zero, save for the size of the reject that
- * kd_serve writes, and for the running state that a burst was to go on from, which comes back as it was given. Every input is answered: nothing is
+ * kd_serve writes, and for states: the running state that a burst was to go on from comes back as it was given, and a stream's says where
+ * it stands (kd_stream_hear). Every input is answered: nothing is
  * asked of the caller's values, and no function stops the program. Compare answers field by field, since C leaves
  * the padding bytes of a struct open.
  *
@@ -24,7 +25,7 @@
  *
  * Memory marked `const` is not changed, and a refusal changes no byte of any memory, save for that reject.
  *
- * STACK. Lend calls on a store 48 kB of stack: they were seen to need 41.8 kB, calls with a burst 9.6 kB,
+ * STACK. Lend calls on a store 48 kB of stack: they were seen to need 41.8 kB, calls with a burst 9.6 kB, calls on a stream below 1 kB,
  * kd_torrent_write 571 kB, kd_torrent_list 220 kB, the other calls on a torrent 154 kB: measured on the largest file,
  * on torrents nested as deep as they may be, and on as many files as one has room for (docs/BENCHMARKS.md).
  *
@@ -45,12 +46,13 @@ extern "C" {
 #endif
 
 /* The version of header and library. Its second figure rises whenever a struct, a function or an answer changes. */
-#define KD_VERSION "0.8.0"
+#define KD_VERSION "0.9.0"
 
 /* ---- The numbers given back, each with what it says. ---- */
 
 #define KD_DONE 0
-#define KD_NO_MESSAGE 1                 /* below 49 bytes or another id; a request or a reject not of 49 bytes */
+#define KD_NO_MESSAGE 1                 /* below 49 bytes or another id; a request or a reject not of 49 bytes; of a stream, a
+                                           known id with a size that it can't have; to be framed, that or an unknown id */
 #define KD_OTHER_ROOT 2                 /* another pieces root */
 #define KD_RULE_BROKEN 3                /* a header rule fails; a block, piece or position that the file's tree does not
                                            have; a layer for a file not longer than the piece length */
@@ -62,12 +64,13 @@ extern "C" {
 #define KD_DIFFERS 7                    /* the worked-out value differs from the held anchor, leaf or node */
 #define KD_CONFLICT 8                   /* the anchor agrees, another held position differs */
 #define KD_UNUSABLE 9                   /* not a store: it names no facts in range, or has not their room; or a
-                                           running state whose counts no bursts give */
+                                           running state whose counts no bursts give; or a stream's state that no bytes
+                                           give, or that has stored more than the room has */
 #define KD_FACTS_OUT_OF_RANGE 10        /* a length or a piece length that no store is opened with; a burst past
                                            the longest file */
 #define KD_NO_ROOM 11                   /* the output is shorter than the reply, reject included; or than the bitfield, a
-                                           torrent's list, or a torrent that is written; or a piece's hash doesn't fit the lent
-                                           layer */
+                                           torrent's list, a torrent or a frame that is written; or a piece's hash doesn't fit the
+                                           lent layer; or a stream's message is larger than the room */
 #define KD_NOT_HELD 12                  /* a requested hash isn't held */
 #define KD_TORRENT_TOO_LARGE 19         /* a torrent above KD_LARGEST_TORRENT */
 #define KD_NOT_STRICT 20                /* the torrent is not one dictionary in strict bencoding */
@@ -83,6 +86,8 @@ extern "C" {
                                            or not 32 bytes per piece */
 #define KD_LAYER_DIFFERS 28             /* a layer doesn't give its root; of a list, two layers for one root */
 #define KD_NO_SUCH_FILE 29              /* no file, or no path element, of that number */
+#define KD_FRAME_TOO_LONG 30            /* a stream's prefix above KD_LONGEST_FRAME, from where on the stream is refused; or a
+                                           message of more bytes to be framed */
 
 /* ---- How large things may be. ---- */
 
@@ -97,6 +102,7 @@ extern "C" {
 #define KD_ELEMENTS 28                  /* the most path elements of a file */
 #define KD_RECORD 280                   /* the bytes of a file's record in kd_torrent_list */
 #define KD_WRITE_RECORD 56              /* the bytes of a file's record in the list that kd_torrent_write takes */
+#define KD_LONGEST_FRAME 300000         /* the bytes of a message in a stream, its id counted, its prefix not */
 #define KD_LONGEST_HASHED 2305843009213693951 /* the bytes of a string that SHA-256 has a hash for: below 2^64 bits */
 
 /* ---- Answers. ---- */
@@ -391,6 +397,89 @@ kd_answer kd_torrent_list(const uint8_t *torrent, size_t size, uint8_t *out, siz
  */
 kd_answer kd_torrent_write(const uint8_t *list, size_t list_size, const uint8_t *text, size_t text_size, uint64_t piece_length,
                            const uint8_t *name, size_t name_size, uint8_t *out, size_t out_size);
+
+/* ---- The byte stream from a neighbour, cut anywhere, and the frames that are sent to it (BEP 3). ---- */
+
+/* A frame is a prefix of 4 bytes, a big-endian length, and so many bytes: a message, its id first. Length 0 is a keep-alive. */
+
+/* The known ids, and how many bytes their messages have, the id counted. */
+#define KD_CHOKE 0                      /* 1 */
+#define KD_UNCHOKE 1                    /* 1 */
+#define KD_INTERESTED 2                 /* 1 */
+#define KD_NOT_INTERESTED 3             /* 1 */
+#define KD_HAVE 4                       /* 5 */
+#define KD_BITFIELD 5                   /* 2 or more */
+#define KD_REQUEST 6                    /* 13 */
+#define KD_PIECE 7                      /* 9 or more */
+#define KD_CANCEL 8                     /* 13 */
+#define KD_EXTENDED 20                  /* 2 or more */
+#define KD_HASH_REQUEST 21              /* 49, as kd_serve takes it */
+#define KD_HASHES 22                    /* 49 or more, as kd_take takes it */
+#define KD_HASH_REJECT 23               /* 49, as kd_take_reject takes it */
+
+/* What is heard beside KD_DONE; 0 is nothing. */
+#define KD_MESSAGE 1
+#define KD_KEEP_ALIVE 2
+
+/*
+ * Where a stream stands: a value that goes in and comes back, as `state = heard.state`. It may be copied and kept. Before the first frame and
+ * between two all fields are zero.
+ *   length       the number that the prefix's bytes make so far
+ *   length_size  how many of its 4 bytes they are
+ *   read         bytes of the frame read
+ *   mode         0 they are stored in the room; skipped: 1 an unknown id, 2 a wrong size, 3 larger than the room; 4 the stream is refused
+ */
+typedef struct { uint32_t length; uint32_t length_size; uint32_t read; uint32_t mode; } kd_stream;
+
+/*
+ * A number; what is heard (0, KD_MESSAGE or KD_KEEP_ALIVE); how many of the bytes given were used; a message's size; the state then. Beside a
+ * refusal `event` and `size` are zero.
+ */
+typedef struct { uint32_t number; uint32_t event; uint64_t used; uint64_t size; kd_stream state; } kd_heard;
+
+/* The state of a stream from which no byte has come. It begins a refused stream afresh, too. */
+kd_stream kd_stream_begin(void);
+
+/*
+ * Hears bytes, up to the first at which something is heard, or all of them. Offer what was not used again, with the state that came back and
+ * the room as it was left: every cutting of a stream gives the same messages, the same numbers and the same state at the end. The room holds
+ * the frame under way between calls; a message has its bytes at the room's start until the next call. KD_LONGEST_FRAME bytes hold any message.
+ * Messages of unknown ids are skipped without a word.
+ *   KD_UNUSABLE  a state that no bytes give, or that has stored more bytes than this room has. Nothing is used, and the state comes back as
+ *       it was given.
+ *   KD_FRAME_TOO_LONG  a prefix above KD_LONGEST_FRAME. It comes with the prefix's last byte; from then on every call is answered so, and uses
+ *       nothing.
+ *   KD_NO_MESSAGE  a message of a known id with a wrong size was skipped: it comes with its last byte, and the state is between two frames.
+ *   KD_NO_ROOM  else, a message larger than the room was skipped: likewise.
+ *   KD_DONE  `event` is KD_MESSAGE, and the message is the first `size` bytes of the room; or KD_KEEP_ALIVE; or 0: all bytes were used.
+ * No byte of the room is read, and none is written but those of the message under way. Beside a refusal the room is as it was.
+ *
+ *     kd_stream state = kd_stream_begin();                           // once for each neighbour
+ *
+ *     // for each piece of `size` bytes at `data` that the link gives
+ *     for (;;) {
+ *         kd_heard heard = kd_stream_hear(state, data, size, room, sizeof room);
+ *         state = heard.state, data += heard.used, size -= heard.used;
+ *         if (heard.number == KD_FRAME_TOO_LONG || heard.number == KD_UNUSABLE)
+ *             return hang_up();
+ *         if (heard.number == KD_DONE && heard.event == 0)
+ *             break;                                                 // the piece is used up
+ *         if (heard.event == KD_MESSAGE && room[0] == KD_HASHES)
+ *             kd_take(store, store_size, room, heard.size);          // never KD_NO_MESSAGE
+ *     }
+ */
+kd_heard kd_stream_hear(kd_stream state, const uint8_t *data, size_t size, uint8_t *room, size_t room_size);
+
+/*
+ * Writes the frame of a message, its id first, into `out`; of no bytes the keep-alive. What is written is heard by kd_stream_hear as it was
+ * given, where there is room for it.
+ *   KD_FRAME_TOO_LONG  more than KD_LONGEST_FRAME bytes.
+ *   KD_NO_MESSAGE  an unknown id, or a wrong size for its id.
+ *   KD_NO_ROOM  `out` is shorter than the frame, 4 bytes more than the message.
+ *   KD_DONE  `count` is the frame's size. Bytes of `out` behind it stay.
+ * Nothing is written beside a refusal.
+ */
+kd_answer kd_frame(const uint8_t *message, size_t size, uint8_t *out, size_t out_size);
 
 #ifdef __cplusplus
 }

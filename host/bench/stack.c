@@ -16,7 +16,7 @@ enum { BLOCK = KD_BLOCK, HEIGHT = KD_TALLEST_TREE, BLOCKS = 1 << HEIGHT, LARGEST
 enum { RUN = KD_LONGEST_RUN, RUN_LAYERS = 13, UNCLES = HEIGHT - RUN_LAYERS, PROOF = HEIGHT - 1, HEAD = 49 };
 enum { REPLY = HEAD + 32 * (RUN + UNCLES) };
 _Static_assert(RUN == 1 << RUN_LAYERS, "the layers of the longest run");
-enum { REQUEST = 21, HASHES = 22, REJECT = 23 };
+enum { REQUEST = KD_HASH_REQUEST, HASHES = KD_HASHES, REJECT = KD_HASH_REJECT };
 #define LENGTH ((uint64_t)BLOCKS * BLOCK)
 
 static uint8_t stack[STACK];
@@ -39,6 +39,17 @@ static void sha256(void) { number = kd_sha256(piece, BLOCK).number; }
 /* States with much behind them: the end of a history then goes up the whole tree. */
 static kd_hashing hashing;
 static kd_history history;
+/* A stream with the largest hashes message in its frame. */
+static kd_stream stream;
+static uint8_t framed[4 + REPLY];
+static void stream_begin(void) { stream = kd_stream_begin(); number = 0; }
+static void stream_hear(void)
+{
+    kd_heard heard = kd_stream_hear(stream, framed, sizeof framed, out, sizeof out);
+    stream = heard.state;
+    number = heard.event == KD_MESSAGE ? heard.number : KD_NO_MESSAGE;
+}
+static void frame(void) { number = kd_frame(reply, REPLY, framed, sizeof framed).number; }
 static void hashing_begin(void) { hashing = kd_hashing_begin(); number = 0; }
 static void hashing_more(void)
 {
@@ -295,6 +306,9 @@ int main(void)
     show("kd_history_begin", history_begin);
     show("kd_history_more", history_more);
     show("kd_history_end", history_end);
+    show("kd_frame", frame);
+    show("kd_stream_begin", stream_begin);
+    show("kd_stream_hear", stream_hear);
     make_layer();
     show("kd_store_size", store_size);
     show("kd_open", open_store);

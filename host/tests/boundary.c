@@ -52,6 +52,17 @@ _Static_assert(offsetof(kd_history_end_answer, length) == 8, "kd_history_end_ans
 _Static_assert(offsetof(kd_history_end_answer, root) == 16, "kd_history_end_answer.root");
 _Static_assert(offsetof(kd_history_end_answer, layer_size) == 48, "kd_history_end_answer.layer_size");
 
+_Static_assert(sizeof(kd_stream) == 16, "kd_stream");
+_Static_assert(offsetof(kd_stream, length) == 0, "kd_stream.length");
+_Static_assert(offsetof(kd_stream, length_size) == 4, "kd_stream.length_size");
+_Static_assert(offsetof(kd_stream, read) == 8, "kd_stream.read");
+_Static_assert(offsetof(kd_stream, mode) == 12, "kd_stream.mode");
+_Static_assert(sizeof(kd_heard) == 40, "kd_heard");
+_Static_assert(offsetof(kd_heard, event) == 4, "kd_heard.event");
+_Static_assert(offsetof(kd_heard, used) == 8, "kd_heard.used");
+_Static_assert(offsetof(kd_heard, size) == 16, "kd_heard.size");
+_Static_assert(offsetof(kd_heard, state) == 24, "kd_heard.state");
+
 static unsigned passed, failed;
 
 static void check(const char *what, int holds)
@@ -105,7 +116,7 @@ static void hashes(void)
 /* The file of the session in document 01: five blocks, so a tree of height 3, in pieces of four blocks. */
 enum { BLOCK = KD_BLOCK, LENGTH = 5 * BLOCK, PIECE = 4 * BLOCK, HEIGHT = 3 };
 enum { STORE = 33 * 15 + 64 + 8, HEAD = 49, ROOM = 320 };
-enum { REQUEST = 21, HASHES = 22, REJECT = 23 };
+enum { REQUEST = KD_HASH_REQUEST, HASHES = KD_HASHES, REJECT = KD_HASH_REJECT };
 
 static uint8_t file[LENGTH];
 /* tree[layer][index], made below by kd_sha256. */
@@ -586,6 +597,95 @@ static void limits(void)
     }
 }
 
+static int is_stream(kd_stream state, uint32_t length, uint32_t length_size, uint32_t read, uint32_t mode)
+{
+    return state.length == length && state.length_size == length_size && state.read == read && state.mode == mode;
+}
+
+static int is_heard(kd_heard heard, uint32_t number, uint32_t event, uint64_t used, uint64_t size)
+{
+    return heard.number == number && heard.event == event && heard.used == used && heard.size == size;
+}
+
+/* Offers a piece until it is used up, as the header says, and takes the hashes messages in it. How many there were. */
+static unsigned take_stream(kd_stream *state, const uint8_t *data, size_t size, uint8_t *room, size_t room_size)
+{
+    unsigned taken = 0;
+    for (;;) {
+        kd_heard heard = kd_stream_hear(*state, data, size, room, room_size);
+        *state = heard.state, data += heard.used, size -= heard.used;
+        if (heard.number == KD_FRAME_TOO_LONG || heard.number == KD_UNUSABLE)
+            return taken;
+        if (heard.number == KD_DONE && heard.event == 0)
+            return taken;
+        if (heard.event == KD_MESSAGE && room[0] == KD_HASHES)
+            taken += kd_take(store, STORE, room, heard.size).number == KD_DONE;
+    }
+}
+
+/* The hashes messages of the session in frames, between others, cut at every place; refusals; NULL. */
+static void streams(void)
+{
+    uint8_t bytes[2 * ROOM], message[ROOM], room[ROOM];
+    size_t size = 0, one = upper_hashes(message);
+    kd_answer framed = kd_frame(message, one, bytes, sizeof bytes);
+    answers("kd_frame", framed, KD_DONE, 4 + one);
+    check("a frame", number_at(bytes, 4) == one && memcmp(bytes + 4, message, one) == 0);
+    size += framed.count;
+    size += kd_frame(NULL, 0, bytes + size, sizeof bytes - size).count;
+    check("the keep-alive", size == 8 + one && all_are(bytes + size - 4, 4, 0));
+    one = first_leaves(message);
+    size += kd_frame(message, one, bytes + size, sizeof bytes - size).count;
+
+    kd_stream none = kd_stream_begin();
+    check("kd_stream_begin", is_stream(none, 0, 0, 0, 0));
+    for (size_t cut = 0; cut <= size; cut++) {
+        kd_stream state = none;
+        if (kd_open(store, STORE, LENGTH, PIECE, root()).number != KD_DONE)
+            exit(2);
+        unsigned taken = take_stream(&state, bytes, cut, room, ROOM);
+        taken += take_stream(&state, bytes + cut, size - cut, room, ROOM);
+        if (taken != 2 || !is_stream(state, 0, 0, 0, 0))
+            check("a stream cut anywhere", 0);
+    }
+    check("a stream in all its cuttings", is_hashed(kd_held(store, STORE, 0, 3), KD_DONE, tree[0][3]));
+
+    const uint8_t mixed[] = {0, 0, 0, 2, 9, 1, 0, 0, 0, 2, KD_CHOKE, 0, 0, 0, 0, 6, KD_BITFIELD, 1, 2, 3, 4, 5, 0, 0, 0, 0};
+    memset(room, 0xaa, ROOM);
+    kd_heard heard = kd_stream_hear(none, mixed, sizeof mixed, room, 5);
+    check("an unknown id, then a wrong size", is_heard(heard, KD_NO_MESSAGE, 0, 12, 0) && is_stream(heard.state, 0, 0, 0, 0));
+    heard = kd_stream_hear(heard.state, mixed + 12, sizeof mixed - 12, room, 5);
+    check("a message larger than the room", is_heard(heard, KD_NO_ROOM, 0, 10, 0) && all_are(room, ROOM, 0xaa));
+    heard = kd_stream_hear(none, mixed + 12, 7, room, 6);
+    check("a part of a message", is_heard(heard, KD_DONE, 0, 7, 0) && is_stream(heard.state, 6, 4, 3, 0));
+    check("is in the room", room[2] == 2 && all_are(room + 3, ROOM - 3, 0xaa));
+    heard = kd_stream_hear(heard.state, mixed + 19, 7, room, 2);
+    check("has stored more than the room", is_heard(heard, KD_UNUSABLE, 0, 0, 0) && is_stream(heard.state, 6, 4, 3, 0));
+    heard = kd_stream_hear(heard.state, mixed + 19, 7, room, 6);
+    check("a message", is_heard(heard, KD_DONE, KD_MESSAGE, 3, 6) && memcmp(room, mixed + 16, 6) == 0);
+    heard = kd_stream_hear(heard.state, mixed + 22, 4, room, 6);
+    check("a keep-alive", is_heard(heard, KD_DONE, KD_KEEP_ALIVE, 4, 0));
+    check("kd_stream_hear of NULL", is_heard(kd_stream_hear(none, NULL, 0, NULL, 0), KD_DONE, 0, 0, 0));
+
+    const uint8_t longest[] = {0, 4, 0x93, 0xe0}, longer[] = {0, 4, 0x93, 0xe1, 0};
+    check("the longest frame", is_heard(kd_stream_hear(none, longest, 4, NULL, 0), KD_DONE, 0, 4, 0));
+    heard = kd_stream_hear(none, longer, 5, NULL, 0);
+    check("a longer one", is_heard(heard, KD_FRAME_TOO_LONG, 0, 4, 0) && is_stream(heard.state, KD_LONGEST_FRAME + 1, 4, 0, 4));
+    heard = kd_stream_hear(heard.state, mixed, sizeof mixed, room, ROOM);
+    check("stays refused", is_heard(heard, KD_FRAME_TOO_LONG, 0, 0, 0) && is_stream(heard.state, KD_LONGEST_FRAME + 1, 4, 0, 4));
+
+    static uint8_t large[KD_LONGEST_FRAME + 1];
+    large[0] = KD_EXTENDED;
+    answers("kd_frame of too many bytes", kd_frame(large, sizeof large, NULL, 0), KD_FRAME_TOO_LONG, 0);
+    answers("kd_frame of the most into NULL", kd_frame(large, KD_LONGEST_FRAME, NULL, 0), KD_NO_ROOM, 0);
+    answers("kd_frame of an unknown id", kd_frame(mixed + 4, 2, room, ROOM), KD_NO_MESSAGE, 0);
+    answers("kd_frame of a wrong size", kd_frame(mixed + 10, 2, room, ROOM), KD_NO_MESSAGE, 0);
+    answers("kd_frame of NULL into NULL", kd_frame(NULL, 0, NULL, 0), KD_NO_ROOM, 0);
+    answers("guarded kd_frame", kd_frame(guarded(mixed + 16, 6), 6, guarded(room, 10), 10), KD_DONE, 10);
+    heard = kd_stream_hear(none, guarded(mixed + 12, 10), 10, guarded(room, 6), 6);
+    check("guarded kd_stream_hear", is_heard(heard, KD_DONE, KD_MESSAGE, 10, 6));
+}
+
 int main(void)
 {
     hashes();
@@ -603,6 +703,7 @@ int main(void)
     ends_of_memories();
     torrents();
     writing();
+    streams();
     torrent_of_nothing();
     file_of_nothing();
     path_of_nothing();

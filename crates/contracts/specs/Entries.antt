@@ -7,6 +7,9 @@ use mathlib.Core.List.{List, [], _∷_}
 use Prim.Native.Nat.{ℕ}
 use Rattle.octets.specs.Octets.{zeroHash}
 use Rattle.numbers.specs.Numbers.{InTable}
+use Rattle.frames.specs.Frames.{frameAnswer, frameAfter}
+use Rattle.stream.specs.Reading.{noEvent, hearAnswer, hearRoom}
+use Rattle.stream.specs.declared.Stream.{Stream}
 use Rattle.sha256.specs.Answer.{hashedOf}
 use Rattle.running.specs.Bursts as Bursts
 use Rattle.running.specs.declared.Hashing.{Hashing}
@@ -37,6 +40,10 @@ pub data AnyCall : Type 0 where
   historyBegin : (plen : ℕ) → AnyCall
   historyMore : (h : History) (burst layer : List ℕ) → AnyCall
   historyEnd : (h : History) (layer : List ℕ) → AnyCall
+  -- kd_stream_begin, kd_stream_hear: a state, bytes that came, the room; kd_frame: a message, the output
+  streamBegin : AnyCall
+  streamHear : (s : Stream) (bytes room : List ℕ) → Bytes bytes → AnyCall
+  frame : (m out : List ℕ) → AnyCall
   -- kd_torrent_read, kd_torrent_file, kd_torrent_path, kd_torrent_list, kd_torrent_write: `out` is the output
   torrentRead : (t : List ℕ) → AnyCall
   torrentFile : (t : List ℕ) (file : ℕ) → AnyCall
@@ -74,6 +81,9 @@ said (hashingEnd h) = number (Bursts.endAnswer h .number)
 said (historyBegin plen) = number (Histories.beginAnswer plen .number)
 said (historyMore h burst layer) = number (Histories.moreAnswer h burst layer .number)
 said (historyEnd h layer) = number (Histories.endAnswer h layer .number)
+said streamBegin = none
+said (streamHear s bytes room b) = number (hearAnswer s room bytes .number)
+said (frame m out) = number (frameAnswer m out .number)
 said (torrentRead t) = number (readOf t .number)
 said (torrentFile t file) = number (fileRead t file .number)
 said (torrentPath t file element) = number (pathRead t file element .number)
@@ -101,7 +111,7 @@ outputAfter (reopen n plen root o) s = []
 outputAfter (look (ask k)) s = []
 outputAfter (look (send k out b)) s = sentTo k s out ∷ []
 
--- the memories lent to it, store, output or a history's layer, before the call; what is only read, besides a store, is not among them
+-- the memories lent to it, store, output, a history's layer or a stream's room, before the call; what is only read, besides a store, is not among them
 abbrev pub lent : AnyCall → List (List ℕ)
 lent (onStore c s) = s ∷ output c
 lent (sha256 m) = []
@@ -112,6 +122,9 @@ lent (hashingEnd h) = []
 lent (historyBegin plen) = []
 lent (historyMore h burst layer) = layer ∷ []
 lent (historyEnd h layer) = layer ∷ []
+lent streamBegin = []
+lent (streamHear s bytes room b) = room ∷ []
+lent (frame m out) = out ∷ []
 lent (torrentRead t) = []
 lent (torrentFile t file) = []
 lent (torrentPath t file element) = []
@@ -129,6 +142,9 @@ left (hashingEnd h) = []
 left (historyBegin plen) = []
 left (historyMore h burst layer) = Histories.moreLayer h burst layer ∷ []
 left (historyEnd h layer) = Histories.endLayer h layer ∷ []
+left streamBegin = []
+left (streamHear s bytes room b) = hearRoom s room bytes ∷ []
+left (frame m out) = frameAfter m out ∷ []
 left (torrentRead t) = []
 left (torrentFile t file) = []
 left (torrentPath t file element) = []
@@ -140,7 +156,7 @@ pub data RejectSent : AnyCall → Type 0 where
   request : {s m out : List ℕ} {x : Bytes m} {y : Bytes out} → Rejected (serveAnswer s m out .number) → RejectSent (onStore (look (send (serve m x) out y)) s)
 
 -- 01: "Beside a refusal every count, size and value is zero; beside a reject the size is 49." A state that a burst was to go on from comes
--- back as it was given.
+-- back as it was given. A stream's moves on beside 1, 11 and 30, and the bytes used are counted: how, exactly, is said in crates/stream (AnswerLaws).
 abbrev pub ValuesZero : AnyCall → Type 0
 ValuesZero (onStore c s) = Beside c (answer c s)
 ValuesZero (sha256 m) = hashedOf m .hash ≡ zeroHash
@@ -152,6 +168,9 @@ ValuesZero (historyBegin plen) = Histories.beginAnswer plen .history ≡ Histori
 ValuesZero (historyMore h burst layer) = Histories.moreAnswer h burst layer .history ≡ h
 ValuesZero (historyEnd h layer) =
     (Histories.endAnswer h layer .length ≡ 0) × (Histories.endAnswer h layer .root ≡ zeroHash) × (Histories.endAnswer h layer .«layer_size» ≡ 0)
+ValuesZero streamBegin = ⊥
+ValuesZero (streamHear s bytes room b) = (hearAnswer s room bytes .event ≡ noEvent) × (hearAnswer s room bytes .size ≡ 0)
+ValuesZero (frame m out) = frameAnswer m out .count ≡ 0
 ValuesZero (torrentRead t) = readOf t ≡ noTorrent (readOf t .number)
 ValuesZero (torrentFile t file) = fileRead t file ≡ noFileRead (fileRead t file .number)
 ValuesZero (torrentPath t file element) = pathRead t file element ≡ noPartRead (pathRead t file element .number)

@@ -28,6 +28,9 @@ use Rattle.kombudeva.proofs.kd_judge_piece as piece
 use Rattle.kombudeva.proofs.kd_clear as clearing
 use Rattle.kombudeva.proofs.kd_marked as asking
 use Rattle.kombudeva.proofs.kd_bitfield as field
+use Rattle.kombudeva.proofs.kd_stream_begin as stream-begin
+use Rattle.kombudeva.proofs.kd_stream_hear as stream-hear
+use Rattle.kombudeva.proofs.kd_frame as framing
 use Rattle.kombudeva.proofs.kd_torrent_read as torrent
 use Rattle.kombudeva.proofs.kd_torrent_file as file
 use Rattle.kombudeva.proofs.kd_torrent_path as path
@@ -119,6 +122,18 @@ asking-asks-nothing κs a = tt
 -- kd_bitfield
 pub field-asks-nothing : AsksNothing 2 field.Kinds.ps field.Reads.Asked
 field-asks-nothing κs a = tt
+
+-- kd_stream_begin
+pub stream-begin-asks-nothing : AsksNothing 0 stream-begin.Kinds.ps stream-begin.Reads.Asked
+stream-begin-asks-nothing κs a = tt
+
+-- kd_stream_hear
+pub stream-hear-asks-nothing : AsksNothing 2 stream-hear.Kinds.ps stream-hear.Reads.Asked
+stream-hear-asks-nothing κs a = tt
+
+-- kd_frame
+pub framing-asks-nothing : AsksNothing 2 framing.Kinds.ps framing.Reads.Asked
+framing-asks-nothing κs a = tt
 
 -- kd_torrent_read
 pub torrent-asks-nothing : AsksNothing 1 torrent.Kinds.ps torrent.Reads.Asked
@@ -227,6 +242,20 @@ one-asking κs a x y t u p q = p ∙ sym q
 pub one-field : (κs : Lfts 2) (a : Dens κs field.Kinds.ps) (x y : resT field.Kinds.r κs .Denot) (t u : AtExit (endedOf 2 field.Kinds.ps field.Kinds.r) κs)
     → field.Reads.Learnt κs a x t → field.Reads.Learnt κs a y u → (x ≡ y) × (now (t .1 .0) ≡ now (u .1 .0))
 one-field κs a x y t u p q = (p .0 ∙ sym (q .0), p .1 ∙ sym (q .1))
+
+-- kd_stream_begin
+pub one-stream-begin : OneAnswer 0 stream-begin.Kinds.ps stream-begin.Kinds.r stream-begin.Reads.Learnt
+one-stream-begin κs a x y t u p q = p ∙ sym q
+
+-- kd_stream_hear: the answer, and the room's bytes
+pub one-stream-hear : (κs : Lfts 2) (a : Dens κs stream-hear.Kinds.ps) (x y : resT stream-hear.Kinds.r κs .Denot) (t u : AtExit (endedOf 2 stream-hear.Kinds.ps stream-hear.Kinds.r) κs)
+    → stream-hear.Reads.Learnt κs a x t → stream-hear.Reads.Learnt κs a y u → (x ≡ y) × (now (t .1 .1 .0) ≡ now (u .1 .1 .0))
+one-stream-hear κs a x y t u p q = (p .0 ∙ sym (q .0), p .1 ∙ sym (q .1))
+
+-- kd_frame: the answer, and the output's bytes
+pub one-framing : (κs : Lfts 2) (a : Dens κs framing.Kinds.ps) (x y : resT framing.Kinds.r κs .Denot) (t u : AtExit (endedOf 2 framing.Kinds.ps framing.Kinds.r) κs)
+    → framing.Reads.Learnt κs a x t → framing.Reads.Learnt κs a y u → (x ≡ y) × (now (t .1 .0) ≡ now (u .1 .0))
+one-framing κs a x y t u p q = (p .0 ∙ sym (q .0), p .1 ∙ sym (q .1))
 
 -- kd_torrent_read
 pub one-torrent : OneAnswer 1 torrent.Kinds.ps torrent.Kinds.r torrent.Reads.Learnt

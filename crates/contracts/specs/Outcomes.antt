@@ -9,6 +9,7 @@ use borrow.Fn.Kinds.{Dens, resT, endedOf}
 use denote.Triple.Clauses.{AtExit}
 use denote.Ref.{now}
 use Rattle.octets.specs.Octets.{Octets}
+use Rattle.stream.specs.declared.Heard.{Heard}
 use Rattle.running.specs.declared.HashingAnswer.{HashingAnswer}
 use Rattle.history.specs.declared.HistoryAnswer.{HistoryAnswer}
 use Rattle.history.specs.declared.HistoryEnd.{HistoryEnd}
@@ -19,7 +20,7 @@ use Rattle.kombudeva.specs.declared.FileAnswer.{FileAnswer}
 use Rattle.kombudeva.specs.declared.PartAnswer.{PartAnswer}
 use Rattle.kombudeva.specs.Boundary.{countAnswer, hashAnswer, torrentAnswer, fileAnswer, partAnswer}
 use Rattle.words.specs.History.{Bytes, held, takeReject, isMarked, serve, bitfield, ask, send, take, loadLayer, judgeBlock, judgePiece, clear, reopen, look}
-use Rattle.contracts.specs.Entries.{AnyCall, onStore, sha256, storeSize, hashingBegin, hashingMore, hashingEnd, historyBegin, historyMore, historyEnd, torrentRead, torrentFile, torrentPath, torrentList, torrentWrite, Said, number, none, FromTable, Refused, said, lent, left, RejectSent}
+use Rattle.contracts.specs.Entries.{AnyCall, onStore, sha256, storeSize, hashingBegin, hashingMore, hashingEnd, historyBegin, historyMore, historyEnd, streamBegin, streamHear, frame, torrentRead, torrentFile, torrentPath, torrentList, torrentWrite, Said, number, none, FromTable, Refused, said, lent, left, RejectSent}
 use Rattle.contracts.specs.Demand1.{every-number-in-table, every-refusal-leaves}
 use Rattle.kombudeva.proofs.kd_sha256 as hash
 use Rattle.kombudeva.proofs.kd_hashing_begin as hashing-begin
@@ -40,6 +41,9 @@ use Rattle.kombudeva.proofs.kd_judge_piece as piece
 use Rattle.kombudeva.proofs.kd_clear as clearing
 use Rattle.kombudeva.proofs.kd_marked as asking
 use Rattle.kombudeva.proofs.kd_bitfield as field
+use Rattle.kombudeva.proofs.kd_stream_begin as stream-begin
+use Rattle.kombudeva.proofs.kd_stream_hear as stream-hear
+use Rattle.kombudeva.proofs.kd_frame as framing
 use Rattle.kombudeva.proofs.kd_torrent_read as torrent
 use Rattle.kombudeva.proofs.kd_torrent_file as file
 use Rattle.kombudeva.proofs.kd_torrent_path as path
@@ -107,6 +111,15 @@ pub data Outcome : AnyCall → Said → List (List ℕ) → List (List ℕ) → 
   -- kd_bitfield
   by-field : (κs : Lfts 2) (a : Dens κs field.Kinds.ps) (r : resT field.Kinds.r κs .Denot) (e : AtExit (endedOf 2 field.Kinds.ps field.Kinds.r) κs) → field.Reads.Learnt κs a r e
       → (x : Bytes (now (a .1 .0))) → Outcome (onStore (look (send bitfield (now (a .1 .0)) x)) (now (a .0))) (number (r .number)) (now (a .0) ∷ now (a .1 .0) ∷ []) (now (a .0) ∷ now (e .1 .0) ∷ [])
+  -- kd_stream_begin
+  by-stream-begin : (κs : Lfts 0) (a : Dens κs stream-begin.Kinds.ps) (r : resT stream-begin.Kinds.r κs .Denot) (e : AtExit (endedOf 0 stream-begin.Kinds.ps stream-begin.Kinds.r) κs) → stream-begin.Reads.Learnt κs a r e
+      → Outcome streamBegin none [] []
+  -- kd_stream_hear
+  by-stream-hear : (κs : Lfts 2) (a : Dens κs stream-hear.Kinds.ps) (r : resT stream-hear.Kinds.r κs .Denot) (e : AtExit (endedOf 2 stream-hear.Kinds.ps stream-hear.Kinds.r) κs) → stream-hear.Reads.Learnt κs a r e
+      → (x : Bytes (now (a .1 .0))) → Outcome (streamHear (a .0) (now (a .1 .0)) (now (a .1 .1 .0)) x) (number (r .number)) (now (a .1 .1 .0) ∷ []) (now (e .1 .1 .0) ∷ [])
+  -- kd_frame
+  by-framing : (κs : Lfts 2) (a : Dens κs framing.Kinds.ps) (r : resT framing.Kinds.r κs .Denot) (e : AtExit (endedOf 2 framing.Kinds.ps framing.Kinds.r) κs) → framing.Reads.Learnt κs a r e
+      → Outcome (frame (now (a .0)) (now (a .1 .0))) (number (r .number)) (now (a .1 .0) ∷ []) (now (e .1 .0) ∷ [])
   -- kd_torrent_read
   by-torrent : (κs : Lfts 1) (a : Dens κs torrent.Kinds.ps) (r : resT torrent.Kinds.r κs .Denot) (e : AtExit (endedOf 1 torrent.Kinds.ps torrent.Kinds.r) κs) → torrent.Reads.Learnt κs a r e
       → Outcome (torrentRead (now (a .0))) (number (r .number)) [] []
@@ -145,6 +158,9 @@ outcome-is (by-piece κs a r e p x) = (ap (λ (s : CountAnswer). number (s .numb
 outcome-is (by-clearing κs a r e p) = (ap (λ (s : CountAnswer). number (s .number)) (p .0), refl, ap (λ (o : List ℕ). o ∷ []) (p .1))
 outcome-is (by-asking κs a r e p) = (ap (λ (s : CountAnswer). number (s .number)) p, refl, refl)
 outcome-is (by-field κs a r e p x) = (ap (λ (s : CountAnswer). number (s .number)) (p .0), refl, ap (λ (o : List ℕ). now (a .0) ∷ o ∷ []) (p .1))
+outcome-is (by-stream-begin κs a r e p) = (refl, refl, refl)
+outcome-is (by-stream-hear κs a r e p x) = (ap (λ (s : Heard). number (s .number)) (p .0), refl, ap (λ (o : List ℕ). o ∷ []) (p .1))
+outcome-is (by-framing κs a r e p) = (ap (λ (s : CountAnswer). number (s .number)) (p .0), refl, ap (λ (o : List ℕ). o ∷ []) (p .1))
 outcome-is (by-torrent κs a r e p) = (ap (λ (s : TorrentAnswer). number (s .number)) p, refl, refl)
 outcome-is (by-file κs a r e p) = (ap (λ (s : FileAnswer). number (s .number)) p, refl, refl)
 outcome-is (by-path κs a r e p) = (ap (λ (s : PartAnswer). number (s .number)) p, refl, refl)

@@ -7,6 +7,8 @@ use contract.Lifetimes.{Lfts}
 use borrow.Fn.Kinds.{Dens, resT, endedOf}
 use denote.Triple.Clauses.{AtExit}
 use denote.Ref.{now}
+use Rattle.frames.specs.Frames.{frameAnswer, frameAfter}
+use Rattle.stream.specs.Reading.{between, hearAnswer, hearRoom}
 use Rattle.sha256.specs.Answer.{hashedOf}
 use Rattle.running.specs.Bursts as B
 use Rattle.history.specs.Answers as W
@@ -38,6 +40,9 @@ use Rattle.kombudeva.proofs.kd_judge_piece as piece
 use Rattle.kombudeva.proofs.kd_clear as clearing
 use Rattle.kombudeva.proofs.kd_marked as asking
 use Rattle.kombudeva.proofs.kd_bitfield as field
+use Rattle.kombudeva.proofs.kd_stream_begin as stream-begin
+use Rattle.kombudeva.proofs.kd_stream_hear as stream-hear
+use Rattle.kombudeva.proofs.kd_frame as framing
 use Rattle.kombudeva.proofs.kd_torrent_read as torrent
 use Rattle.kombudeva.proofs.kd_torrent_file as file
 use Rattle.kombudeva.proofs.kd_torrent_path as path
@@ -138,6 +143,21 @@ asking-says κs a r e p = p
 pub field-says : (κs : Lfts 2) (a : Dens κs field.Kinds.ps) (r : resT field.Kinds.r κs .Denot) (e : AtExit (endedOf 2 field.Kinds.ps field.Kinds.r) κs) → field.Reads.Learnt κs a r e
     → (r ≡ countAnswer (fieldAnswer (now (a .0)) (now (a .1 .0)))) × (now (e .1 .0) ≡ fieldAfter (now (a .0)) (now (a .1 .0)))
 field-says κs a r e p = p
+
+-- kd_stream_begin
+pub stream-begin-says : (κs : Lfts 0) (a : Dens κs stream-begin.Kinds.ps) (r : resT stream-begin.Kinds.r κs .Denot) (e : AtExit (endedOf 0 stream-begin.Kinds.ps stream-begin.Kinds.r) κs) → stream-begin.Reads.Learnt κs a r e
+    → r ≡ between
+stream-begin-says κs a r e p = p
+
+-- kd_stream_hear
+pub stream-hear-says : (κs : Lfts 2) (a : Dens κs stream-hear.Kinds.ps) (r : resT stream-hear.Kinds.r κs .Denot) (e : AtExit (endedOf 2 stream-hear.Kinds.ps stream-hear.Kinds.r) κs) → stream-hear.Reads.Learnt κs a r e
+    → (r ≡ hearAnswer (a .0) (now (a .1 .1 .0)) (now (a .1 .0))) × (now (e .1 .1 .0) ≡ hearRoom (a .0) (now (a .1 .1 .0)) (now (a .1 .0)))
+stream-hear-says κs a r e p = p
+
+-- kd_frame
+pub framing-says : (κs : Lfts 2) (a : Dens κs framing.Kinds.ps) (r : resT framing.Kinds.r κs .Denot) (e : AtExit (endedOf 2 framing.Kinds.ps framing.Kinds.r) κs) → framing.Reads.Learnt κs a r e
+    → (r ≡ countAnswer (frameAnswer (now (a .0)) (now (a .1 .0)))) × (now (e .1 .0) ≡ frameAfter (now (a .0)) (now (a .1 .0)))
+framing-says κs a r e p = p
 
 -- kd_torrent_read
 pub torrent-says : (κs : Lfts 1) (a : Dens κs torrent.Kinds.ps) (r : resT torrent.Kinds.r κs .Denot) (e : AtExit (endedOf 1 torrent.Kinds.ps torrent.Kinds.r) κs) → torrent.Reads.Learnt κs a r e

@@ -13,6 +13,8 @@ ghost use Rattle.pieces.specs.Pieces.{layerAnswer, layerAfter, blockAnswer, blo
 ghost use Rattle.torrent.specs.Torrent.{readOf, fileRead, pathRead};
 ghost use Rattle.catalogue.specs.Catalogue.{listAnswer, listAfter};
 ghost use Rattle.writing.specs.Write.{writeAnswer, writeAfter};
+ghost use Rattle.frames.specs.Frames.{frameAnswer, frameAfter};
+ghost use Rattle.stream.specs.Reading.{between, hearAnswer, hearRoom};
 ghost use Rattle.kombudeva.specs.Boundary.{countAnswer, hashAnswer, torrentAnswer, fileAnswer, partAnswer};
 use history::History;
 use history::HistoryAnswer;
@@ -21,6 +23,8 @@ use numbers::Answer;
 use running::Hashing;
 use running::HashingAnswer;
 use sha256::Hashed;
+use stream::Heard;
+use stream::Stream;
 use torrent::read::FileRead;
 use torrent::read::PartRead;
 use torrent::read::Torrent;
@@ -304,4 +308,25 @@ pub extern "C" fn kd_torrent_write(
     ensures { λ r. ⌜ (r ≡ countAnswer (writeAnswer (now (list .entry)) (now (text .entry)) «piece_length» (now (name .entry)) (now (out .entry)))) × (now (out .exit) ≡ writeAfter (now (list .entry)) (now (text .entry)) «piece_length» (now (name .entry)) (now (out .entry))) ⌝ }
 {
     count_answer(writing::write(list, text, piece_length as usize, name, out))
+}
+
+#[no_mangle]
+pub extern "C" fn kd_stream_begin() -> Stream
+    ensures { λ r. ⌜ r ≡ between ⌝ }
+{
+    stream::begin()
+}
+
+#[no_mangle]
+pub extern "C" fn kd_stream_hear(standing: Stream, bytes: &[u8], room: &mut [u8]) -> Heard
+    ensures { λ r. ⌜ (r ≡ hearAnswer standing (now (room .entry)) (now (bytes .entry))) × (now (room .exit) ≡ hearRoom standing (now (room .entry)) (now (bytes .entry))) ⌝ }
+{
+    stream::hear(standing, bytes, room)
+}
+
+#[no_mangle]
+pub extern "C" fn kd_frame(message: &[u8], out: &mut [u8]) -> CountAnswer
+    ensures { λ r. ⌜ (r ≡ countAnswer (frameAnswer (now (message .entry)) (now (out .entry)))) × (now (out .exit) ≡ frameAfter (now (message .entry)) (now (out .entry))) ⌝ }
+{
+    count_answer(frames::frame(message, out))
 }

@@ -25,3 +25,7 @@ longestHashed = 2 ^ 61 - 1
 -- how deeply a torrent may be nested, the outer dictionary being the first level
 abbrev pub maxLevels : ℕ
 maxLevels = 32
+
+-- the longest frame of a neighbour's stream, in bytes, its prefix not counted
+abbrev pub longestFrame : ℕ
+longestFrame = 300000

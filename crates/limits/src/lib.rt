@@ -17,3 +17,6 @@ pub const LONGEST_HASHED: usize = 0x1fff_ffff_ffff_ffff;
 
 // How deeply a torrent may be nested, the outer dictionary being the first level.
 pub const LEVELS: usize = 32;
+
+// The longest frame of a neighbour's stream, in bytes, its prefix not counted.
+pub const LONGEST_FRAME: usize = 300000;

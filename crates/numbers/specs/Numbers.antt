@@ -97,9 +97,13 @@ layerDiffers = 28
 abbrev pub noSuchFile : ℕ
 noSuchFile = 29
 
+-- a neighbour's frame, or a message to be framed, of more bytes than a frame may have
+abbrev pub frameTooLong : ℕ
+frameTooLong = 30
+
 -- the numbers of the table
 abbrev pub table : List ℕ
-table = 0 ∷ 1 ∷ 2 ∷ 3 ∷ 4 ∷ 5 ∷ 6 ∷ 7 ∷ 8 ∷ 9 ∷ 10 ∷ 11 ∷ 12 ∷ 19 ∷ 20 ∷ 21 ∷ 22 ∷ 23 ∷ 24 ∷ 25 ∷ 26 ∷ 27 ∷ 28 ∷ 29 ∷ []
+table = 0 ∷ 1 ∷ 2 ∷ 3 ∷ 4 ∷ 5 ∷ 6 ∷ 7 ∷ 8 ∷ 9 ∷ 10 ∷ 11 ∷ 12 ∷ 19 ∷ 20 ∷ 21 ∷ 22 ∷ 23 ∷ 24 ∷ 25 ∷ 26 ∷ 27 ∷ 28 ∷ 29 ∷ 30 ∷ []
 
 -- n is one of these
 pub data Listed (n : ℕ) : List ℕ → Type 0 where

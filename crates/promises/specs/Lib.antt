@@ -9,8 +9,9 @@ pub mod Worked
 -- 02: bytes that come in bursts; marks
 pub mod Running
 pub mod Marks
--- 02: the same messages, in any order
+-- 02: the same messages, in any order; a message that is heard of a stream
 pub mod AnyOrder
+pub mod Heard
 -- the premises can be met
 pub mod Blank
 pub mod TwoBlocks

@@ -5,11 +5,14 @@
 use crate::measure::{Prepared, Work};
 use crate::plain::{self, Hasher};
 use crate::scene::{Scene, Size, LARGEST, ONE_GIB, PIECE};
-use crate::{careful, lanes, writer};
+use crate::{careful, framing, lanes, writer};
 use host_tests::lists::{self, Planned};
+use host_tests::random::Random;
 use host_tests::shapes;
+use reference::ids::{HAVE, PIECE as PIECE_ID};
 use reference::limits::{BLOCK, LONGEST_FILE, RECORD};
 use reference::sha256::{pair, sha256, Hash};
+use reference::stream::{Heard, Stream};
 use reference::torrent::{contents, contents_by};
 use std::hint::black_box;
 
@@ -61,6 +64,7 @@ pub fn all() -> Vec<Job> {
     let listed = shapes::ALL.iter().filter(|shape| LISTED.contains(&shape.name));
     jobs.extend(listed.map(|shape| on_torrent(shape, "kd_torrent_list", listing)).map(Job::plain_alone));
     jobs.extend(lists::GOOD.iter().map(on_list));
+    jobs.extend(on_streams());
     jobs
 }
 
@@ -120,6 +124,11 @@ fn on_list(list: &lists::Shape) -> Job {
 impl Job {
     fn not_counted(self) -> Job {
         Job { is_counted: false, ..self }
+    }
+
+    /// Plain Rust that copies by the C library, and in chunks, and the library.
+    fn in_two_ways(self) -> Job {
+        Job { versions: vec!["plain-rust", "in-chunks-rust", self.entry_point], ..self }
     }
 
     /// Plain Rust and the library, no other version.
@@ -595,4 +604,107 @@ fn writing(files: Vec<Planned>) -> Vec<Box<dyn Work>> {
         },
     );
     vec![in_rust, in_library]
+}
+
+/// How much of a stream is heard.
+const STREAMED: usize = 1 << 20;
+
+/// A stream of such messages, each in its frame, cut into pieces of a size, or of any size up to 3000 for 0.
+#[derive(Clone)]
+struct Pieces {
+    bytes: Vec<u8>,
+    cuts: Vec<usize>,
+    messages: usize,
+}
+
+fn cut(message: &[u8], size: usize) -> Pieces {
+    let frame = [&(message.len() as u32).to_be_bytes()[..], message].concat();
+    let messages = STREAMED / frame.len();
+    let bytes = frame.repeat(messages);
+    let mut random = Random::new(1);
+    let mut cuts = vec![0];
+    while cuts[cuts.len() - 1] < bytes.len() {
+        let size = if size == 0 { random.between(1, 3000) as usize } else { size };
+        cuts.push(bytes.len().min(cuts[cuts.len() - 1] + size));
+    }
+    Pieces { bytes, cuts, messages }
+}
+
+type Hear = fn(Stream, &[u8], &mut [u8]) -> Heard;
+
+/// Offers all pieces, each until it is used up, and counts the messages.
+fn hear_all(hear: Hear, pieces: &Pieces, room: &mut [u8]) -> usize {
+    let mut state = Stream::default();
+    let mut messages = 0;
+    for ends in pieces.cuts.windows(2) {
+        let mut piece = &pieces.bytes[ends[0]..ends[1]];
+        loop {
+            let heard = hear(state, piece, room);
+            (state, piece) = (heard.state, &piece[heard.used as usize..]);
+            messages += heard.event as usize;
+            if heard.event == 0 {
+                break;
+            }
+        }
+    }
+    messages
+}
+
+#[inline(always)]
+fn hear_in_library(state: Stream, data: &[u8], room: &mut [u8]) -> Heard {
+    let Stream { length, length_size, read, mode } = state;
+    let given = boundary::stream_hear(boundary::Stream { length, length_size, read, mode }, data, room);
+    let boundary::Stream { length, length_size, read, mode } = given.state;
+    let state = Stream { length, length_size, read, mode };
+    Heard { number: given.number, event: given.event, used: given.used, size: given.size, state }
+}
+
+fn hearing(message: Vec<u8>, size: usize) -> Vec<Box<dyn Work>> {
+    let pieces = cut(&message, size);
+    let hears: [Hear; 3] = [framing::hear::<false>, framing::hear::<true>, hear_in_library];
+    let version = |hear: Hear| {
+        work(
+            (hear, pieces.clone(), vec![0u8; message.len()]),
+            |_| (),
+            |(hear, pieces, room)| assert_eq!(hear_all(*hear, black_box(pieces), room), pieces.messages),
+        )
+    };
+    hears.map(version).into()
+}
+
+/// A message of a block, framed again and again.
+fn sending(message: Vec<u8>) -> Vec<Box<dyn Work>> {
+    let version = |frame: fn(&[u8], &mut [u8]) -> u32| {
+        work(
+            (frame, message.clone(), vec![0u8; message.len() + 4]),
+            |_| (),
+            |(frame, message, out)| (0..64).for_each(|_| assert_eq!(frame(black_box(message), black_box(out)), 0)),
+        )
+    };
+    vec![
+        version(|message, out| framing::frame::<false>(message, out).number),
+        version(|message, out| framing::frame::<true>(message, out).number),
+        version(|message, out| boundary::frame(message, out).number),
+    ]
+}
+
+/// A message with a block of a file.
+fn block_message() -> Vec<u8> {
+    [&[PIECE_ID, 0, 0, 0, 1, 0, 0, 0, 0], &bytes(BLOCK as usize)[..]].concat()
+}
+
+/// Streams of blocks and of `have`, cut in several ways, and blocks framed.
+fn on_streams() -> Vec<Job> {
+    let mut jobs = Vec::new();
+    let ways = [(1, "1", "1.5"), (1448, "1448", "1.5"), (16384, "16384", "1.3"), (0, "any", "1.5")];
+    for (size, name, asked) in ways {
+        let blocks = job("hear", "kd_stream_hear", asked, STREAMED, move || hearing(block_message(), size));
+        jobs.push(Job { name: format!("hear:blocks-{name}"), ..blocks }.in_two_ways());
+    }
+    for (size, name, _) in ways {
+        let have = job("hear", "kd_stream_hear", "1.5", STREAMED, move || hearing(vec![HAVE, 0, 0, 0, 7], size));
+        jobs.push(Job { name: format!("hear:have-{name}"), ..have }.in_two_ways());
+    }
+    jobs.push(job("frame-16KiB", "kd_frame", "1.3", 64 << 14, || sending(block_message())).in_two_ways());
+    jobs
 }

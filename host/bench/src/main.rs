@@ -6,6 +6,7 @@
 //!   bench JOB            gets the same job ready and doesn't do it: what to take off
 
 mod careful;
+mod framing;
 mod jobs;
 mod lanes;
 mod measure;

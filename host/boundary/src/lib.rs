@@ -5,7 +5,8 @@
 mod raw;
 
 pub use raw::{
-    Answer, File, Hash, Hashed, Hashing, HashingAnswer, History, HistoryAnswer, HistoryEnd, Part, Torrent, NODES,
+    Answer, File, Hash, Hashed, Hashing, HashingAnswer, Heard, History, HistoryAnswer, HistoryEnd, Part, Stream,
+    Torrent, NODES,
 };
 
 pub fn sha256(data: &[u8]) -> Hashed {
@@ -114,4 +115,16 @@ pub fn torrent_write(list: &[u8], text: &[u8], piece_length: u64, name: &[u8], o
             out.len(),
         )
     }
+}
+
+pub fn stream_begin() -> Stream {
+    unsafe { raw::kd_stream_begin() }
+}
+
+pub fn stream_hear(state: Stream, data: &[u8], room: &mut [u8]) -> Heard {
+    unsafe { raw::kd_stream_hear(state, data.as_ptr(), data.len(), room.as_mut_ptr(), room.len()) }
+}
+
+pub fn frame(message: &[u8], out: &mut [u8]) -> Answer {
+    unsafe { raw::kd_frame(message.as_ptr(), message.len(), out.as_mut_ptr(), out.len()) }
 }

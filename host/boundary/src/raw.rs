@@ -94,6 +94,25 @@ pub struct HistoryEnd {
     pub layer_size: u64,
 }
 
+#[repr(C)]
+#[derive(Clone, Copy, Debug, PartialEq, Eq)]
+pub struct Stream {
+    pub length: u32,
+    pub length_size: u32,
+    pub read: u32,
+    pub mode: u32,
+}
+
+#[repr(C)]
+#[derive(Clone, Copy, Debug, PartialEq, Eq)]
+pub struct Heard {
+    pub number: u32,
+    pub event: u32,
+    pub used: u64,
+    pub size: u64,
+    pub state: Stream,
+}
+
 // The same sizes and offsets that the C test asserts of the header.
 const _: () = {
     assert!(size_of::<Hash>() == 32);
@@ -112,6 +131,10 @@ const _: () = {
     assert!(size_of::<HistoryAnswer>() == 136 + 32 * NODES && offset_of!(HistoryAnswer, state) == 8);
     assert!(size_of::<HistoryEnd>() == 56 && offset_of!(HistoryEnd, length) == 8);
     assert!(offset_of!(HistoryEnd, root) == 16 && offset_of!(HistoryEnd, layer_size) == 48);
+    assert!(size_of::<Stream>() == 16 && offset_of!(Stream, length_size) == 4);
+    assert!(offset_of!(Stream, read) == 8 && offset_of!(Stream, mode) == 12);
+    assert!(size_of::<Heard>() == 40 && offset_of!(Heard, event) == 4 && offset_of!(Heard, used) == 8);
+    assert!(offset_of!(Heard, size) == 16 && offset_of!(Heard, state) == 24);
     assert!(size_of::<Part>() == 24 && offset_of!(Part, start) == 8 && offset_of!(Part, size) == 16);
 };
 
@@ -163,4 +186,7 @@ extern "C" {
         out: *mut u8,
         out_size: usize,
     ) -> Answer;
+    pub fn kd_stream_begin() -> Stream;
+    pub fn kd_stream_hear(state: Stream, data: *const u8, size: usize, room: *mut u8, room_size: usize) -> Heard;
+    pub fn kd_frame(message: *const u8, size: usize, out: *mut u8, out_size: usize) -> Answer;
 }

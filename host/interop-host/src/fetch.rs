@@ -2,7 +2,8 @@
 //! file, offers each reply to the library, and damaged ones in between; then it fetches all blocks and judges them.
 
 use crate::contents::{Contents, File};
-use crate::peer::{of_words, word, Peer, HASHES, HASH_REJECT, HASH_REQUEST, INTERESTED, PIECE, REQUEST, UNCHOKE};
+use crate::peer::{of_words, word, Peer};
+use kombudeva::ids::{HASHES, HASH_REJECT, HASH_REQUEST, INTERESTED, PIECE, REQUEST, UNCHOKE};
 use kombudeva::limits::{BLOCK, LONGEST_RUN};
 use kombudeva::{Answer, Store};
 use std::io;

@@ -1,5 +1,5 @@
 //! A small host program over the library that meets a real client on loopback: test code. What is proved is the library's
-//! part; handshake, framing and metadata exchange here promise nothing. `interop.py` runs it against libtorrent.
+//! part, frames included; handshake and metadata exchange here promise nothing. `interop.py` runs it against libtorrent.
 //!
 //!   interop-host fetch TORRENT PORT     gets all hashes and all blocks from a seed, and believes or refuses each
 //!   interop-host serve TORRENT FOLDER   answers one peer that knows a magnet link only; says its port first

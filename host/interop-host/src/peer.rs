@@ -1,19 +1,10 @@
-//! A connection to a BitTorrent peer: handshake, framing, the ids used here.
+//! A connection to a BitTorrent peer: handshake; messages framed and heard by the library.
 
-use kombudeva::Hash;
-use std::io::{self, Read, Write};
+use kombudeva::limits::LONGEST_FRAME;
+use kombudeva::{frame, Answer, Hash, Heard, Stream};
+use std::io::{self, ErrorKind, Read, Write};
 use std::net::TcpStream;
 use std::time::Duration;
-
-pub const UNCHOKE: u8 = 1;
-pub const INTERESTED: u8 = 2;
-pub const BITFIELD: u8 = 5;
-pub const REQUEST: u8 = 6;
-pub const PIECE: u8 = 7;
-pub const EXTENDED: u8 = 20;
-pub const HASH_REQUEST: u8 = 21;
-pub const HASHES: u8 = 22;
-pub const HASH_REJECT: u8 = 23;
 
 const PROTOCOL: &[u8; 20] = b"\x13BitTorrent protocol";
 /// Byte 5, bit 0x10: extensions. Byte 7, bit 0x10: v2; libtorrent doesn't set it where the torrent has no v1 half.
@@ -21,10 +12,12 @@ const RESERVED: [u8; 8] = [0, 0, 0, 0, 0, 0x10, 0, 0x10];
 const PEER_ID: &[u8; 20] = b"-KD0001-interop-host";
 /// So that a silent peer ends the program.
 const PATIENCE: Duration = Duration::from_secs(30);
-const LONGEST_MESSAGE: u32 = 1 << 20;
 
 pub struct Peer {
-    stream: TcpStream,
+    link: TcpStream,
+    stream: Stream<'static>,
+    /// Bytes that the link gave and the stream has not heard yet.
+    waiting: Vec<u8>,
 }
 
 impl Peer {
@@ -33,36 +26,55 @@ impl Peer {
     }
 
     /// Both sides write the same form, so neither has to wait for the other.
-    pub fn shake_hands(stream: TcpStream, info_hash: &Hash) -> io::Result<Peer> {
-        stream.set_read_timeout(Some(PATIENCE))?;
-        stream.set_nodelay(true)?;
-        let mut peer = Peer { stream };
+    pub fn shake_hands(mut link: TcpStream, info_hash: &Hash) -> io::Result<Peer> {
+        link.set_read_timeout(Some(PATIENCE))?;
+        link.set_nodelay(true)?;
         // A handshake has room for 20 bytes of the v2 info hash.
         let ours = [&PROTOCOL[..], &RESERVED, &info_hash[..20], PEER_ID].concat();
-        peer.stream.write_all(&ours)?;
+        link.write_all(&ours)?;
         let mut theirs = [0; 68];
-        peer.stream.read_exact(&mut theirs)?;
+        link.read_exact(&mut theirs)?;
         assert_eq!(theirs[..20], ours[..20], "another protocol");
         assert_eq!(theirs[28..48], ours[28..48], "another torrent");
-        Ok(peer)
+        // One connection a run: its room lives as long as the program.
+        let room = Box::leak(vec![0; LONGEST_FRAME].into_boxed_slice());
+        Ok(Peer { link, stream: Stream::begin(room), waiting: Vec::new() })
     }
 
-    /// Sends a message, its id first, behind its length.
+    /// Sends a message, its id first, in its frame.
     pub fn send(&mut self, message: &[u8]) -> io::Result<()> {
-        self.stream.write_all(&[&(message.len() as u32).to_be_bytes()[..], message].concat())
+        let mut out = vec![0; 4 + message.len()];
+        self.link.write_all(frame(message, &mut out).done().expect("a message of a known id and a right size"))
     }
 
     /// The next message, its id first. Keep-alives are passed over.
     pub fn receive(&mut self) -> io::Result<Vec<u8>> {
         loop {
-            let mut length = [0; 4];
-            self.stream.read_exact(&mut length)?;
-            let length = u32::from_be_bytes(length);
-            assert!(length <= LONGEST_MESSAGE, "a message of {length} bytes");
-            let mut message = vec![0; length as usize];
-            self.stream.read_exact(&mut message)?;
-            if !message.is_empty() {
-                return Ok(message);
+            let mut hearing = self.stream.hear(&self.waiting);
+            let heard = match hearing.next() {
+                Some(Answer::Done(Heard::Message(message))) => Some(message.to_vec()),
+                Some(Answer::Done(Heard::KeepAlive)) => Some(Vec::new()),
+                Some(refused) => panic!("the peer's stream: {refused}"),
+                None => None,
+            };
+            let used = self.waiting.len() - hearing.rest().len();
+            self.waiting.drain(..used);
+            match heard {
+                Some(message) if !message.is_empty() => return Ok(message),
+                Some(_) => (),
+                None => self.wait()?,
+            }
+        }
+    }
+
+    /// More bytes, cut as the link gives them.
+    fn wait(&mut self) -> io::Result<()> {
+        let mut piece = [0; 16384];
+        match self.link.read(&mut piece)? {
+            0 => Err(ErrorKind::UnexpectedEof.into()),
+            size => {
+                self.waiting.extend_from_slice(&piece[..size]);
+                Ok(())
             }
         }
     }

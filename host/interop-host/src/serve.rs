@@ -2,7 +2,8 @@
 //! stores through the library, blocks from the files.
 
 use crate::contents::{Contents, File};
-use crate::peer::{word, Peer, BITFIELD, EXTENDED, HASH_REQUEST, PIECE, REQUEST, UNCHOKE};
+use crate::peer::{word, Peer};
+use kombudeva::ids::{BITFIELD, EXTENDED, HASH_REQUEST, PIECE, REQUEST, UNCHOKE};
 use kombudeva::limits::{LONGEST_RUN, TALLEST_TREE};
 use kombudeva::{Answer, Store};
 use reference::bencode;

@@ -56,6 +56,8 @@ pub enum Answer<T> {
     LayerDiffers,
     /// 29: no file or path element of that number
     NoSuchFile,
+    /// 30: a frame, or a message to be framed, of more than 300,000 bytes
+    FrameTooLong,
 }
 
 /// Number, name and words of each refusal.
@@ -122,6 +124,7 @@ refusals! {
     27 LayersAmiss "piece layers that are not those of the files";
     28 LayerDiffers "a piece layer that does not give its root";
     29 NoSuchFile "no such file or path element";
+    30 FrameTooLong "a frame that is too long";
 }
 
 impl<T> Answer<T> {
@@ -150,7 +153,7 @@ mod tests {
 
     #[test]
     fn every_number_of_the_table_comes_back() {
-        for number in (0..=12).chain(19..=29) {
+        for number in (0..=12).chain(19..=30) {
             assert_eq!(Answer::of(number, ()).number(), number);
             assert_eq!(Answer::of(number, ()).map(|()| 5u8).number(), number);
         }

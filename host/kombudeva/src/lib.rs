@@ -22,15 +22,18 @@
 #![forbid(unsafe_code)]
 
 mod answer;
+pub mod ids;
 pub mod limits;
 mod running;
 mod store;
+mod stream;
 mod torrent;
 mod writing;
 
 pub use answer::Answer;
 pub use running::{Hashing, History, Logged};
 pub use store::{store_size, Served, Store};
+pub use stream::{frame, Heard, Hearing, Stream};
 pub use torrent::{File, List, Listed, Torrent};
 pub use writing::TorrentBuilder;
 

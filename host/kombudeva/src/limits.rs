@@ -22,5 +22,7 @@ pub const ELEMENTS: usize = 28;
 pub const RECORD: usize = 280;
 /// The bytes of a file's record in the list that a torrent is written of.
 pub const WRITE_RECORD: usize = 56;
+/// The bytes of a message in a stream, its id counted, its prefix not: room enough for a [`Stream`](crate::Stream).
+pub const LONGEST_FRAME: usize = 300000;
 /// The longest string that SHA-256 has a hash for, in bytes: one of 2^64 bits has none.
 pub const LONGEST_HASHED: usize = 2305843009213693951;

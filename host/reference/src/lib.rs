@@ -9,6 +9,7 @@
 
 pub mod bencode;
 pub mod history;
+pub mod ids;
 pub mod limits;
 pub mod marks;
 pub mod messages;
@@ -18,6 +19,7 @@ pub mod replay;
 pub mod running;
 pub mod sha256;
 pub mod store;
+pub mod stream;
 pub mod torrent;
 pub mod tree;
 pub mod write;

@@ -11,4 +11,5 @@ pub const LEVELS: u32 = 32;
 pub const ELEMENTS: usize = 28;
 pub const RECORD: usize = 280;
 pub const WRITE_RECORD: usize = 56;
+pub const LONGEST_FRAME: usize = 300000;
 pub const LONGEST_HASHED: u64 = 2305843009213693951;

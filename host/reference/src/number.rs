@@ -24,3 +24,4 @@ pub const SAME_ROOT: u32 = 26;
 pub const LAYERS_AMISS: u32 = 27;
 pub const LAYER_DIFFERS: u32 = 28;
 pub const NO_SUCH_FILE: u32 = 29;
+pub const FRAME_TOO_LONG: u32 = 30;

@@ -1,13 +1,15 @@
 //! A call of an entry point as a value, so that any library can be asked it, and a difference can be made small.
 
 use crate::states::{
-    from_hashing, from_history, hashing_bytes, hashing_of, history_bytes, history_of, to_hashing, to_history,
+    from_hashing, from_history, from_stream, hashing_bytes, hashing_of, history_bytes, history_of, stream_bytes,
+    stream_of, to_hashing, to_history, to_stream,
 };
 use reference::history::{End, History};
 use reference::running::Hashing;
 use reference::sha256::{sha256, Hash};
+use reference::stream::Stream;
 use reference::torrent::{File, Part, Torrent};
-use reference::{marks, messages, pieces, store, torrent, write, Answer, Hashed};
+use reference::{marks, messages, pieces, store, stream, torrent, write, Answer, Hashed};
 use std::hint::black_box;
 
 #[derive(Clone, Copy, Debug, PartialEq, Eq, PartialOrd, Ord)]
@@ -36,6 +38,9 @@ pub enum Entry {
     TorrentPath,
     TorrentList,
     TorrentWrite,
+    StreamBegin,
+    StreamHear,
+    Frame,
 }
 
 impl Entry {
@@ -65,6 +70,9 @@ impl Entry {
             Entry::TorrentPath => "kd_torrent_path",
             Entry::TorrentList => "kd_torrent_list",
             Entry::TorrentWrite => "kd_torrent_write",
+            Entry::StreamBegin => "kd_stream_begin",
+            Entry::StreamHear => "kd_stream_hear",
+            Entry::Frame => "kd_frame",
         }
     }
 }
@@ -75,9 +83,9 @@ pub struct Call {
     pub entry: Entry,
     /// The store, or the bytes of a state: any bytes are one. Or the list of files that a torrent is written of.
     pub store: Vec<u8>,
-    /// The message, layer, block, piece, torrent, string or burst; or the text that such a list points into.
+    /// The message, layer, block, piece, torrent, string, burst or bytes of a stream; or the text that such a list points into.
     pub input: Vec<u8>,
-    /// The output, or the layer lent to a history.
+    /// The output, the layer lent to a history, or the room lent to a stream.
     pub out: Vec<u8>,
     /// The numbers among the arguments, in their order.
     pub numbers: [u64; 2],
@@ -123,6 +131,8 @@ pub enum Given {
     End(End),
     /// Beside a state, which is left in the call's store.
     State(u32),
+    /// Number, event, used bytes and size of a call on a stream, whose state is left so too.
+    Heard(u32, u32, u64, u64),
 }
 
 impl Given {
@@ -134,7 +144,7 @@ impl Given {
             Given::File(file) => file.number,
             Given::Part(part) => part.number,
             Given::End(end) => end.number,
-            Given::State(number) => *number,
+            Given::State(number) | Given::Heard(number, ..) => *number,
         }
     }
 
@@ -192,6 +202,13 @@ pub fn by_reference(call: &Call) -> Outcome {
         Entry::TorrentPath => Given::Part(torrent::torrent_path(&input, first, second)),
         Entry::TorrentList => Given::Answer(torrent::torrent_list(&input, &mut out)),
         Entry::TorrentWrite => Given::Answer(write::torrent_write(&store, &input, first, &name, &mut out)),
+        Entry::StreamBegin => left(&mut store, 0, stream_bytes(&Stream::default())),
+        Entry::StreamHear => {
+            let given = stream::hear(stream_of(&store), &input, &mut out);
+            left(&mut store, given.number, stream_bytes(&given.state));
+            Given::Heard(given.number, given.event, given.used, given.size)
+        }
+        Entry::Frame => Given::Answer(stream::frame(&input, &mut out)),
     };
     Outcome { given, store, input, out, name }
 }
@@ -275,6 +292,13 @@ pub fn by_library(call: &Call) -> Outcome {
         Entry::TorrentPath => part_of(boundary::torrent_path(message, first, second)),
         Entry::TorrentList => answer(boundary::torrent_list(message, room)),
         Entry::TorrentWrite => answer(boundary::torrent_write(held_bytes, message, first, name.lent(), room)),
+        Entry::StreamBegin => left(held_bytes, 0, stream_bytes(&to_stream(boundary::stream_begin()))),
+        Entry::StreamHear => {
+            let given = boundary::stream_hear(from_stream(stream_of(held_bytes)), message, room);
+            left(held_bytes, given.number, stream_bytes(&to_stream(given.state)));
+            Given::Heard(given.number, given.event, given.used, given.size)
+        }
+        Entry::Frame => answer(boundary::frame(message, room)),
     };
     let (store, input, out, name) = (store.taken_back(), input.taken_back(), out.taken_back(), name.taken_back());
     Outcome { given, store, input, out, name }

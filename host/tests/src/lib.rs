@@ -13,5 +13,6 @@ pub mod replays;
 pub mod sessions;
 pub mod shapes;
 pub mod states;
+pub mod streams;
 pub mod torrents;
 pub mod truth;

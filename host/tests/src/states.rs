@@ -2,10 +2,12 @@
 
 use reference::history::{History, NODES};
 use reference::running::Hashing;
+use reference::stream::Stream;
 
-/// The bytes of a `kd_hashing` and of a `kd_history`.
+/// The bytes of a `kd_hashing`, of a `kd_history` and of a `kd_stream`.
 pub const HASHING: usize = 112;
 pub const HISTORY: usize = 128 + 32 * NODES;
+pub const STREAM: usize = 16;
 
 fn number(bytes: &[u8], at: usize) -> u64 {
     u64::from_le_bytes(bytes[at..at + 8].try_into().unwrap())
@@ -69,4 +71,21 @@ pub fn from_history(state: History) -> boundary::History {
         block: from_hashing(state.block),
         nodes: state.nodes.concat().try_into().unwrap(),
     }
+}
+
+pub fn stream_of(bytes: &[u8]) -> Stream {
+    let word = |at: usize| u32::from_le_bytes(bytes[at..at + 4].try_into().unwrap());
+    Stream { length: word(0), length_size: word(4), read: word(8), mode: word(12) }
+}
+
+pub fn stream_bytes(state: &Stream) -> Vec<u8> {
+    [state.length, state.length_size, state.read, state.mode].iter().flat_map(|word| word.to_le_bytes()).collect()
+}
+
+pub fn to_stream(given: boundary::Stream) -> Stream {
+    Stream { length: given.length, length_size: given.length_size, read: given.read, mode: given.mode }
+}
+
+pub fn from_stream(state: Stream) -> boundary::Stream {
+    boundary::Stream { length: state.length, length_size: state.length_size, read: state.read, mode: state.mode }
 }

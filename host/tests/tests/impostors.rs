@@ -5,9 +5,9 @@ use host_tests::call::{by_reference, Call, Entry, Given, Outcome};
 use host_tests::compare::{report, Comparison, Library};
 use host_tests::lists::{read_back, Planned};
 use host_tests::random::Random;
-use host_tests::states::{hashing_bytes, hashing_of, history_bytes, history_of};
-use host_tests::{bursts, lists, sessions, torrents};
-use reference::limits::{BLOCK, RECORD};
+use host_tests::states::{hashing_bytes, hashing_of, history_bytes, history_of, stream_bytes, stream_of};
+use host_tests::{bursts, lists, sessions, streams, torrents};
+use reference::limits::{BLOCK, LONGEST_FRAME, RECORD};
 use reference::marks::{clear, mark, marked};
 use reference::messages::{Header, HEAD};
 use reference::number::*;
@@ -50,6 +50,27 @@ fn lists(library: Library<'_>) -> Comparison<'_> {
         compared.difference.is_none() && compared.compared < CASES / 2
     });
     compared
+}
+
+fn streams(library: Library<'_>) -> Comparison<'_> {
+    let mut compared = Comparison::new(library);
+    streams::run(&mut Random::new(SEED), &mut compared, |compared| {
+        compared.difference.is_none() && compared.compared < CASES / 2
+    });
+    streams::run_through_every_length(&mut Random::new(SEED), &mut compared);
+    compared
+}
+
+/// A library that differs where `change` does, on one entry point of streams.
+fn assert_stream_found_out(name: &str, entry: Entry, change: impl Fn(&Call, &mut Outcome)) {
+    let impostor = |call: &Call| {
+        let mut outcome = by_reference(call);
+        if call.entry == entry {
+            change(call, &mut outcome);
+        }
+        outcome
+    };
+    assert!(streams(&impostor).difference.is_some(), "not found out: {name}");
 }
 
 fn assert_list_found_out(name: &str, impostor: Library) {
@@ -120,6 +141,63 @@ fn every_number_of_the_running_forms_comes_up() {
         (Entry::HistoryEnd, &[0, 9, 11]),
     ];
     assert_seen(&bursts(&by_reference), &expected);
+}
+
+fn every_number_of_a_stream_comes_up() {
+    assert_seen(&streams(&by_reference), &[(Entry::StreamHear, &[0, 1, 9, 11, 30]), (Entry::Frame, &[0, 1, 11, 30])]);
+}
+
+fn streams_that_are_wrong_in_one_way() {
+    assert_stream_found_out("300,000 itself refused", Entry::StreamHear, |_, outcome| {
+        let mut state = stream_of(&outcome.store);
+        if (state.length as usize, state.length_size, state.read) == (LONGEST_FRAME, 4, 0) {
+            state.mode = 4;
+            outcome.store = stream_bytes(&state);
+        }
+    });
+    assert_stream_found_out("11 before 1", Entry::StreamHear, |call, outcome| match outcome.given {
+        Given::Heard(NO_MESSAGE, event, used, size) if stream_of(&call.store).length as usize > call.out.len() => {
+            outcome.given = Given::Heard(NO_ROOM, event, used, size);
+        }
+        _ => (),
+    });
+    assert_stream_found_out("the prefix counted into the room", Entry::StreamHear, |call, outcome| {
+        match outcome.given {
+            Given::Heard(DONE, 1, used, size) if size as usize + 4 > call.out.len() => {
+                outcome.given = Given::Heard(NO_ROOM, 0, used, 0);
+            }
+            _ => (),
+        }
+    });
+    assert_stream_found_out("a skipped frame one byte short", Entry::StreamHear, |_, outcome| {
+        let mut state = stream_of(&outcome.store);
+        if (1..=3).contains(&state.mode) && state.read + 1 == state.length {
+            state = Default::default();
+        }
+        outcome.store = stream_bytes(&state);
+    });
+    assert_stream_found_out("a byte behind the message", Entry::StreamHear, |_, outcome| match outcome.given {
+        Given::Heard(DONE, 1, _, size) if (size as usize) < outcome.out.len() => outcome.out[size as usize] ^= 1,
+        _ => (),
+    });
+    assert_stream_found_out("a refused stream that goes on", Entry::StreamHear, |_, outcome| match outcome.given {
+        Given::Heard(FRAME_TOO_LONG, event, 0, size) => outcome.given = Given::Heard(DONE, event, 0, size),
+        _ => (),
+    });
+    assert_stream_found_out("an unusable state begun afresh", Entry::StreamHear, |_, outcome| match outcome.given {
+        Given::Heard(UNUSABLE, ..) => outcome.store.fill(0),
+        _ => (),
+    });
+    assert_stream_found_out("the prefix counted into the length", Entry::Frame, |_, outcome| {
+        if outcome.given.number() == DONE {
+            outcome.out[3] = outcome.out[3].wrapping_add(4);
+        }
+    });
+    assert_stream_found_out("room for the message alone", Entry::Frame, |call, outcome| {
+        if outcome.given.number() == NO_ROOM && call.out.len() >= call.input.len() {
+            outcome.given = Given::Answer(Answer::done(call.input.len() as u64));
+        }
+    });
 }
 
 /// 20, 22 and 23 hold of no list.
@@ -604,6 +682,8 @@ host_tests::tests! {
     every_number_of_a_torrent_comes_up,
     every_number_of_the_running_forms_comes_up,
     every_number_of_a_written_torrent_comes_up,
+    every_number_of_a_stream_comes_up,
+    streams_that_are_wrong_in_one_way,
     writers_that_are_wrong_in_one_way,
     running_forms_that_are_wrong_in_one_way,
     takes_that_never_or_always_say_yes,

@@ -80,13 +80,21 @@ fn refused() -> Names {
 fn the_numbers_of_the_table() {
     let numbers = numbers();
     let values: BTreeSet<u64> = numbers.values().copied().collect();
-    assert_eq!(values, (0..=12).chain(19..=29).collect());
+    assert_eq!(values, (0..=12).chain(19..=30).collect());
     assert_eq!(values.len(), numbers.len());
+}
+
+/// What is heard of a stream, by the header's names: all but nothing.
+fn events() -> Names {
+    let named = constants("crates/stream/src/lib.rt").into_iter();
+    named.filter(|(name, _)| ["MESSAGE", "KEEP_ALIVE"].contains(&name.as_str())).collect()
 }
 
 fn the_header_has_the_numbers_and_the_limits() {
     let mut expected = numbers();
     expected.extend(constants("host/reference/src/limits.rs"));
+    expected.extend(constants("host/reference/src/ids.rs"));
+    expected.extend(events());
     expected.insert("NODES".to_string(), expected["TALLEST_TREE"] + 1);
     assert_eq!(header(), expected);
 }
@@ -108,6 +116,26 @@ fn the_limits_have_one_name_each() {
     assert_eq!(constants("crates/lists/src/form.rt")["RECORD"], limits["WRITE_RECORD"]);
 }
 
+fn the_ids_have_one_name_each() {
+    let ids = constants("host/reference/src/ids.rs");
+    assert_eq!(ids.len(), 13);
+    assert_eq!(constants("crates/frames/src/lib.rt"), ids);
+    assert_eq!(constants("host/kombudeva/src/ids.rs"), ids);
+    let of_spec = defined("crates/frames/specs/Frames.antt").into_iter();
+    assert_eq!(of_spec.map(|(name, id)| (name.trim_end_matches("_ID").to_string(), id)).collect::<Names>(), ids);
+}
+
+fn the_modes_and_events_have_one_name_each() {
+    let mut code = constants("crates/stream/src/lib.rt");
+    code.remove("NO_EVENT");
+    let of_spec = defined("crates/stream/specs/Reading.antt").into_iter().filter(|(name, _)| name != "NO_EVENT");
+    assert_eq!(
+        of_spec.map(|(name, value)| (name.trim_end_matches("_EVENT").to_string(), value)).collect::<Names>(),
+        code
+    );
+    assert_eq!(events().len(), 2);
+}
+
 fn the_version_is_the_bindings() {
     let header = source("include/kombudeva.h");
     let (_, rest) = header.split_once("#define KD_VERSION \"").unwrap();
@@ -120,5 +148,7 @@ host_tests::tests! {
     the_header_has_the_numbers_and_the_limits,
     the_numbers_have_one_name_each,
     the_limits_have_one_name_each,
+    the_ids_have_one_name_each,
+    the_modes_and_events_have_one_name_each,
     the_version_is_the_bindings,
 }

@@ -7,7 +7,7 @@
 use host_tests::call::by_library;
 use host_tests::compare::{report, Comparison};
 use host_tests::random::Random;
-use host_tests::{bursts, fillings, headers, lists, sessions, shapes, torrents};
+use host_tests::{bursts, fillings, headers, lists, sessions, shapes, streams, torrents};
 use std::env;
 use std::process::exit;
 use std::time::{Duration, Instant, SystemTime, UNIX_EPOCH};
@@ -33,7 +33,7 @@ struct Part {
 /// A torrent of libtorrent's, with a layer.
 const SINGLE: &[u8] = include_bytes!("../../real/single.torrent");
 
-const PARTS: [Part; 15] = [
+const PARTS: [Part; 18] = [
     Part { name: "strings", cases: |random, compared, _| fillings::run(random, compared) },
     Part { name: "bursts", cases: |random, compared, go_on| bursts::run(random, compared, go_on) },
     Part { name: "every-cut-of-strings", cases: |random, compared, _| bursts::run_through_every_cut(random, compared) },
@@ -54,6 +54,15 @@ const PARTS: [Part; 15] = [
         cases: |_, compared, _| shapes::ALL.iter().for_each(|shape| torrents::ask_few(&(shape.make)(), compared)),
     },
     Part { name: "lists", cases: |random, compared, go_on| lists::run(random, compared, go_on) },
+    Part { name: "streams", cases: |random, compared, go_on| streams::run(random, compared, go_on) },
+    Part {
+        name: "every-cut-of-streams",
+        cases: |random, compared, _| streams::run_through_every_cut(random, compared),
+    },
+    Part {
+        name: "every-length-of-every-id",
+        cases: |random, compared, _| streams::run_through_every_length(random, compared),
+    },
     Part { name: "hostile-lists", cases: |_, compared, _| lists::ask_hostile(compared) },
 ];
 

@@ -1,0 +1,4 @@
+pub mod Frames
+pub mod FramesLaws
+pub mod PutLaws
+pub mod WriterLaws
