@@ -46,7 +46,7 @@ extern "C" {
 #endif
 
 /* The version of header and library. Its second figure rises whenever a struct, a function or an answer changes. */
-#define KD_VERSION "0.9.0"
+#define KD_VERSION "0.10.0"
 
 /* ---- The numbers given back, each with what it says. ---- */
 
@@ -55,12 +55,14 @@ extern "C" {
                                            known id with a size that it can't have; to be framed, that or an unknown id */
 #define KD_OTHER_ROOT 2                 /* another pieces root */
 #define KD_RULE_BROKEN 3                /* a header rule fails; a block, piece or position that the file's tree does not
-                                           have; a layer for a file not longer than the piece length */
+                                           have; a layer for a file not longer than the piece length; a layer that is
+                                           neither 0 nor the file's piece layer */
 #define KD_WRONG_SIZE 4                 /* the byte count isn't what header or file fixes, or is too long for SHA-256; or a
-                                           list of files that isn't in its form */
+                                           list of files that isn't in its form; or a list of counts that isn't one for
+                                           each piece */
 #define KD_WRONG_PADDING 5              /* a padding position with another value */
-#define KD_NO_ANCHOR 6                  /* the anchor, leaf, piece node or, for a layer, the root is not held; or the
-                                           position that kd_held is asked for */
+#define KD_NO_ANCHOR 6                  /* the anchor, leaf, piece node or, for a layer or the next request, the root is not
+                                           held; or the position that kd_held is asked for */
 #define KD_DIFFERS 7                    /* the worked-out value differs from the held anchor, leaf or node */
 #define KD_CONFLICT 8                   /* the anchor agrees, another held position differs */
 #define KD_UNUSABLE 9                   /* not a store: it names no facts in range, or has not their room; or a
@@ -311,6 +313,39 @@ kd_answer kd_clear(uint8_t *store, size_t size, uint64_t block);
  *   KD_DONE  `count` is the bitfield's size. Bytes of `out` behind it stay.
  */
 kd_answer kd_bitfield(const uint8_t *store, size_t size, uint8_t *out, size_t out_size);
+
+/* ---- What to ask for next: hashes for a layer, and a piece of the file. Neither call writes. ---- */
+
+/*
+ * A number, and beside KD_DONE a request: `asks` is 1 with its base layer, index, length and proof layers, and its 49 bytes as they
+ * are sent and as kd_serve takes them; or `asks` is 0 and all else zero: nothing to ask.
+ */
+typedef struct {
+    uint32_t number; uint32_t asks; uint32_t base; uint32_t index; uint32_t length; uint32_t proof; uint8_t message[49];
+} kd_request;
+
+/*
+ * The next request for a layer, 0 or the piece layer: the run that contains the lowest position that isn't padding and isn't held, of
+ * KD_LONGEST_RUN hashes or of the whole layer if that is shorter, with the fewest proof layers whose anchor is held. So a reply to it is
+ * never KD_NO_ANCHOR. It is named again and again until a message makes the position held.
+ *   KD_UNUSABLE
+ *   KD_RULE_BROKEN  a layer that is neither 0 nor the piece layer of a file longer than the piece length.
+ *   KD_NO_ANCHOR  the root is not held.
+ *   KD_DONE  the request; or nothing to ask: every position of the layer that isn't padding is held.
+ */
+kd_request kd_next_request(const uint8_t *store, size_t size, uint64_t layer);
+
+/* A number, and beside KD_DONE a piece: `found` is 1 with its number, or 0: nothing to fetch. */
+typedef struct { uint32_t number; uint32_t found; uint64_t piece; } kd_choice;
+
+/*
+ * The piece to fetch: of the pieces whose blocks aren't all marked the one with the smallest count above zero, the lowest number on a
+ * tie. `counts` has one for each piece: how many neighbours have it. (`count` is their number, not their size in bytes.)
+ *   KD_UNUSABLE
+ *   KD_WRONG_SIZE  `count` isn't the number of the file's pieces.
+ *   KD_DONE  the piece; or nothing to fetch.
+ */
+kd_choice kd_pick_piece(const uint8_t *store, size_t size, const uint32_t *counts, size_t count);
 
 /* ---- Reading a v2 torrent: the bytes of a .torrent file, at most KD_LARGEST_TORRENT. ---- */
 

@@ -88,6 +88,9 @@ static void judge_piece(void) { number = kd_judge_piece(store, size, 0, piece, L
 static void marked(void) { number = kd_marked(store, size, 0).number; }
 static void clear(void) { number = kd_clear(store, size, 0).number; }
 static void bitfield(void) { number = kd_bitfield(store, size, out, REPLY).number; }
+static uint32_t counts[BLOCKS / (LARGEST_PIECE / BLOCK)];
+static void next_request(void) { number = kd_next_request(store, size, 0).number; }
+static void pick_piece(void) { number = kd_pick_piece(store, size, counts, sizeof counts / sizeof counts[0]).number; }
 static void load_layer(void) { number = kd_load_layer(store, size, layer[0].bytes, sizeof layer).number; }
 
 static void show(const char *name, void (*function)(void));
@@ -322,6 +325,9 @@ int main(void)
     show("kd_marked", marked);
     show("kd_clear", clear);
     show("kd_bitfield", bitfield);
+    show("kd_next_request", next_request);
+    memset(counts, 1, sizeof counts);
+    show("kd_pick_piece", pick_piece);
     open_for_layer();
     show("kd_load_layer", load_layer);
     make_torrent();

@@ -33,6 +33,19 @@ _Static_assert(offsetof(kd_part, number) == 0, "kd_part.number");
 _Static_assert(offsetof(kd_part, start) == 8, "kd_part.start");
 _Static_assert(offsetof(kd_part, size) == 16, "kd_part.size");
 
+_Static_assert(sizeof(kd_request) == 76, "kd_request");
+_Static_assert(offsetof(kd_request, number) == 0, "kd_request.number");
+_Static_assert(offsetof(kd_request, asks) == 4, "kd_request.asks");
+_Static_assert(offsetof(kd_request, base) == 8, "kd_request.base");
+_Static_assert(offsetof(kd_request, index) == 12, "kd_request.index");
+_Static_assert(offsetof(kd_request, length) == 16, "kd_request.length");
+_Static_assert(offsetof(kd_request, proof) == 20, "kd_request.proof");
+_Static_assert(offsetof(kd_request, message) == 24, "kd_request.message");
+_Static_assert(sizeof(kd_choice) == 16, "kd_choice");
+_Static_assert(offsetof(kd_choice, number) == 0, "kd_choice.number");
+_Static_assert(offsetof(kd_choice, found) == 4, "kd_choice.found");
+_Static_assert(offsetof(kd_choice, piece) == 8, "kd_choice.piece");
+
 _Static_assert(sizeof(kd_hashing) == 112, "kd_hashing");
 _Static_assert(offsetof(kd_hashing, words) == 0, "kd_hashing.words");
 _Static_assert(offsetof(kd_hashing, tail) == 32, "kd_hashing.tail");
@@ -400,6 +413,55 @@ static void marks(void)
     check("a piece with a cleared block", field[0] == 0x40);
 }
 
+/* A request with these words and their 49 bytes; or, beside a refusal and for nothing to ask, nothing but the number. */
+static void asks(const char *what, kd_request answer, uint32_t number, const uint32_t words[4])
+{
+    uint8_t message[HEAD] = { 0 };
+    static const uint32_t none[4];
+    if (words)
+        write_head(message, REQUEST, words[0], words[1], words[2], words[3]);
+    const uint32_t *expected = words ? words : none;
+    check(what, answer.number == number && answer.asks == (words != NULL) && answer.base == expected[0] &&
+            answer.index == expected[1] && answer.length == expected[2] && answer.proof == expected[3] &&
+            memcmp(answer.message, message, HEAD) == 0);
+}
+
+static void picks(const char *what, kd_choice answer, uint32_t number, uint32_t found, uint64_t piece)
+{
+    check(what, answer.number == number && answer.found == found && answer.piece == piece);
+}
+
+/* On the store that the session left: the first four leaves and layer 2 are held, block 3's mark was cleared. */
+static void asking(void)
+{
+    static const uint32_t all_leaves[4] = { 0, 0, 8, 0 };
+    static const uint32_t counts[3] = { 2, 1, 1 }, nowhere[2] = { 0, 9 };
+    uint8_t fresh[STORE], reply[ROOM];
+    asks("the next request for leaves", kd_next_request(store, STORE, 0), KD_DONE, all_leaves);
+    asks("nothing to ask", kd_next_request(store, STORE, 2), KD_DONE, NULL);
+    asks("another layer", kd_next_request(store, STORE, 1), KD_RULE_BROKEN, NULL);
+    asks("a layer of 64 bits", kd_next_request(store, STORE, (uint64_t)1 << 32), KD_RULE_BROKEN, NULL);
+    asks("kd_next_request on NULL", kd_next_request(NULL, 0, 0), KD_UNUSABLE, NULL);
+    asks("guarded kd_next_request", kd_next_request(guarded(store, STORE), STORE, 0), KD_DONE, all_leaves);
+    kd_open(fresh, STORE, LENGTH, PIECE, root());
+    kd_request upper = kd_next_request(fresh, STORE, 2);
+    answers("a request that was named is served", kd_serve(store, STORE, upper.message, HEAD, reply, ROOM), KD_DONE, HEAD + 64);
+    answers("and its reply taken", kd_take(fresh, STORE, reply, HEAD + 64), KD_DONE, 2);
+    asks("then there is nothing to ask", kd_next_request(fresh, STORE, 2), KD_DONE, NULL);
+    fresh[64] = 0;
+    asks("no root", kd_next_request(fresh, STORE, 0), KD_NO_ANCHOR, NULL);
+
+    picks("the piece that is not on disk", kd_pick_piece(store, STORE, counts, 2), KD_DONE, 1, 0);
+    picks("nothing to fetch", kd_pick_piece(store, STORE, nowhere, 2), KD_DONE, 0, 0);
+    picks("the rarer piece", kd_pick_piece(fresh, STORE, counts, 2), KD_DONE, 1, 1);
+    picks("a count too many", kd_pick_piece(store, STORE, counts, 3), KD_WRONG_SIZE, 0, 0);
+    picks("counts from NULL", kd_pick_piece(store, STORE, NULL, 0), KD_WRONG_SIZE, 0, 0);
+    picks("kd_pick_piece on NULL", kd_pick_piece(NULL, 0, counts, 2), KD_UNUSABLE, 0, 0);
+    picks("kd_pick_piece of NULL on NULL", kd_pick_piece(NULL, 0, NULL, 0), KD_UNUSABLE, 0, 0);
+    picks("guarded kd_pick_piece",
+            kd_pick_piece(guarded(store, STORE), STORE, (const uint32_t *)(const void *)guarded(counts, 8), 2), KD_DONE, 1, 0);
+}
+
 /* The session once more in memories with such an end. */
 static void ends_of_memories(void)
 {
@@ -700,6 +762,7 @@ int main(void)
     blocks();
     pieces();
     marks();
+    asking();
     ends_of_memories();
     torrents();
     writing();

@@ -27,6 +27,8 @@ use Rattle.kombudeva.proofs.kd_judge_block as block
 use Rattle.kombudeva.proofs.kd_judge_piece as piece
 use Rattle.kombudeva.proofs.kd_clear as clearing
 use Rattle.kombudeva.proofs.kd_marked as asking
+use Rattle.kombudeva.proofs.kd_next_request as next-request
+use Rattle.kombudeva.proofs.kd_pick_piece as picking
 use Rattle.kombudeva.proofs.kd_bitfield as field
 use Rattle.kombudeva.proofs.kd_stream_begin as stream-begin
 use Rattle.kombudeva.proofs.kd_stream_hear as stream-hear
@@ -118,6 +120,14 @@ clearing-asks-nothing κs a = tt
 -- kd_marked
 pub asking-asks-nothing : AsksNothing 1 asking.Kinds.ps asking.Reads.Asked
 asking-asks-nothing κs a = tt
+
+-- kd_next_request
+pub next-request-asks-nothing : AsksNothing 1 next-request.Kinds.ps next-request.Reads.Asked
+next-request-asks-nothing κs a = tt
+
+-- kd_pick_piece
+pub picking-asks-nothing : AsksNothing 2 picking.Kinds.ps picking.Reads.Asked
+picking-asks-nothing κs a = tt
 
 -- kd_bitfield
 pub field-asks-nothing : AsksNothing 2 field.Kinds.ps field.Reads.Asked
@@ -237,6 +247,14 @@ one-clearing κs a x y t u p q = (p .0 ∙ sym (q .0), p .1 ∙ sym (q .1))
 -- kd_marked
 pub one-asking : OneAnswer 1 asking.Kinds.ps asking.Kinds.r asking.Reads.Learnt
 one-asking κs a x y t u p q = p ∙ sym q
+
+-- kd_next_request
+pub one-next-request : OneAnswer 1 next-request.Kinds.ps next-request.Kinds.r next-request.Reads.Learnt
+one-next-request κs a x y t u p q = p ∙ sym q
+
+-- kd_pick_piece
+pub one-picking : OneAnswer 2 picking.Kinds.ps picking.Kinds.r picking.Reads.Learnt
+one-picking κs a x y t u p q = p ∙ sym q
 
 -- kd_bitfield: the answer, and the output's bytes
 pub one-field : (κs : Lfts 2) (a : Dens κs field.Kinds.ps) (x y : resT field.Kinds.r κs .Denot) (t u : AtExit (endedOf 2 field.Kinds.ps field.Kinds.r) κs)

@@ -10,6 +10,8 @@ use denote.Triple.Clauses.{AtExit}
 use denote.Ref.{now}
 use Rattle.octets.specs.Octets.{Octets}
 use Rattle.stream.specs.declared.Heard.{Heard}
+use Rattle.asking.specs.declared.next.Request.{Request}
+use Rattle.asking.specs.declared.pick.Choice.{Choice}
 use Rattle.running.specs.declared.HashingAnswer.{HashingAnswer}
 use Rattle.history.specs.declared.HistoryAnswer.{HistoryAnswer}
 use Rattle.history.specs.declared.HistoryEnd.{HistoryEnd}
@@ -19,7 +21,7 @@ use Rattle.kombudeva.specs.declared.TorrentAnswer.{TorrentAnswer}
 use Rattle.kombudeva.specs.declared.FileAnswer.{FileAnswer}
 use Rattle.kombudeva.specs.declared.PartAnswer.{PartAnswer}
 use Rattle.kombudeva.specs.Boundary.{countAnswer, hashAnswer, torrentAnswer, fileAnswer, partAnswer}
-use Rattle.words.specs.History.{Bytes, held, takeReject, isMarked, serve, bitfield, ask, send, take, loadLayer, judgeBlock, judgePiece, clear, reopen, look}
+use Rattle.words.specs.History.{Bytes, held, takeReject, isMarked, nextRequest, pickPiece, serve, bitfield, ask, send, take, loadLayer, judgeBlock, judgePiece, clear, reopen, look}
 use Rattle.contracts.specs.Entries.{AnyCall, onStore, sha256, storeSize, hashingBegin, hashingMore, hashingEnd, historyBegin, historyMore, historyEnd, streamBegin, streamHear, frame, torrentRead, torrentFile, torrentPath, torrentList, torrentWrite, Said, number, none, FromTable, Refused, said, lent, left, RejectSent}
 use Rattle.contracts.specs.Demand1.{every-number-in-table, every-refusal-leaves}
 use Rattle.kombudeva.proofs.kd_sha256 as hash
@@ -40,6 +42,8 @@ use Rattle.kombudeva.proofs.kd_judge_block as block
 use Rattle.kombudeva.proofs.kd_judge_piece as piece
 use Rattle.kombudeva.proofs.kd_clear as clearing
 use Rattle.kombudeva.proofs.kd_marked as asking
+use Rattle.kombudeva.proofs.kd_next_request as next-request
+use Rattle.kombudeva.proofs.kd_pick_piece as picking
 use Rattle.kombudeva.proofs.kd_bitfield as field
 use Rattle.kombudeva.proofs.kd_stream_begin as stream-begin
 use Rattle.kombudeva.proofs.kd_stream_hear as stream-hear
@@ -108,6 +112,12 @@ pub data Outcome : AnyCall → Said → List (List ℕ) → List (List ℕ) → 
   -- kd_marked
   by-asking : (κs : Lfts 1) (a : Dens κs asking.Kinds.ps) (r : resT asking.Kinds.r κs .Denot) (e : AtExit (endedOf 1 asking.Kinds.ps asking.Kinds.r) κs) → asking.Reads.Learnt κs a r e
       → Outcome (onStore (look (ask (isMarked (a .1 .0)))) (now (a .0))) (number (r .number)) (now (a .0) ∷ []) (now (a .0) ∷ [])
+  -- kd_next_request
+  by-next : (κs : Lfts 1) (a : Dens κs next-request.Kinds.ps) (r : resT next-request.Kinds.r κs .Denot) (e : AtExit (endedOf 1 next-request.Kinds.ps next-request.Kinds.r) κs) → next-request.Reads.Learnt κs a r e
+      → Outcome (onStore (look (ask (nextRequest (a .1 .0)))) (now (a .0))) (number (r .number)) (now (a .0) ∷ []) (now (a .0) ∷ [])
+  -- kd_pick_piece
+  by-pick : (κs : Lfts 2) (a : Dens κs picking.Kinds.ps) (r : resT picking.Kinds.r κs .Denot) (e : AtExit (endedOf 2 picking.Kinds.ps picking.Kinds.r) κs) → picking.Reads.Learnt κs a r e
+      → Outcome (onStore (look (ask (pickPiece (now (a .1 .0))))) (now (a .0))) (number (r .number)) (now (a .0) ∷ []) (now (a .0) ∷ [])
   -- kd_bitfield
   by-field : (κs : Lfts 2) (a : Dens κs field.Kinds.ps) (r : resT field.Kinds.r κs .Denot) (e : AtExit (endedOf 2 field.Kinds.ps field.Kinds.r) κs) → field.Reads.Learnt κs a r e
       → (x : Bytes (now (a .1 .0))) → Outcome (onStore (look (send bitfield (now (a .1 .0)) x)) (now (a .0))) (number (r .number)) (now (a .0) ∷ now (a .1 .0) ∷ []) (now (a .0) ∷ now (e .1 .0) ∷ [])
@@ -157,6 +167,8 @@ outcome-is (by-block κs a r e p x) = (ap (λ (s : CountAnswer). number (s .numb
 outcome-is (by-piece κs a r e p x) = (ap (λ (s : CountAnswer). number (s .number)) (p .0), refl, ap (λ (o : List ℕ). o ∷ []) (p .1))
 outcome-is (by-clearing κs a r e p) = (ap (λ (s : CountAnswer). number (s .number)) (p .0), refl, ap (λ (o : List ℕ). o ∷ []) (p .1))
 outcome-is (by-asking κs a r e p) = (ap (λ (s : CountAnswer). number (s .number)) p, refl, refl)
+outcome-is (by-next κs a r e p) = (ap (λ (s : Request). number (s .number)) p, refl, refl)
+outcome-is (by-pick κs a r e p) = (ap (λ (s : Choice). number (s .number)) p, refl, refl)
 outcome-is (by-field κs a r e p x) = (ap (λ (s : CountAnswer). number (s .number)) (p .0), refl, ap (λ (o : List ℕ). now (a .0) ∷ o ∷ []) (p .1))
 outcome-is (by-stream-begin κs a r e p) = (refl, refl, refl)
 outcome-is (by-stream-hear κs a r e p x) = (ap (λ (s : Heard). number (s .number)) (p .0), refl, ap (λ (o : List ℕ). o ∷ []) (p .1))

@@ -15,6 +15,8 @@ use Rattle.history.specs.Answers as W
 use Rattle.store.specs.Store.{sizeAnswer, openAnswer, openAfter, heldAnswer}
 use Rattle.messages.specs.Take.{takeAnswer, takeAfter, rejectAnswer}
 use Rattle.serve.specs.Serve.{serveAnswer, serveAfter}
+use Rattle.asking.specs.Asking.{nextAnswer}
+use Rattle.asking.specs.Picking.{pickAnswer}
 use Rattle.marks.specs.Marks.{clearAnswer, clearAfter, markedAnswer, fieldAnswer, fieldAfter}
 use Rattle.pieces.specs.Pieces.{layerAnswer, layerAfter, blockAnswer, blockAfter, pieceAnswer, pieceAfter}
 use Rattle.torrent.specs.Torrent.{readOf, fileRead, pathRead}
@@ -39,6 +41,8 @@ use Rattle.kombudeva.proofs.kd_judge_block as block
 use Rattle.kombudeva.proofs.kd_judge_piece as piece
 use Rattle.kombudeva.proofs.kd_clear as clearing
 use Rattle.kombudeva.proofs.kd_marked as asking
+use Rattle.kombudeva.proofs.kd_next_request as next-request
+use Rattle.kombudeva.proofs.kd_pick_piece as picking
 use Rattle.kombudeva.proofs.kd_bitfield as field
 use Rattle.kombudeva.proofs.kd_stream_begin as stream-begin
 use Rattle.kombudeva.proofs.kd_stream_hear as stream-hear
@@ -138,6 +142,16 @@ clearing-says κs a r e p = p
 pub asking-says : (κs : Lfts 1) (a : Dens κs asking.Kinds.ps) (r : resT asking.Kinds.r κs .Denot) (e : AtExit (endedOf 1 asking.Kinds.ps asking.Kinds.r) κs) → asking.Reads.Learnt κs a r e
     → r ≡ countAnswer (markedAnswer (now (a .0)) (a .1 .0))
 asking-says κs a r e p = p
+
+-- kd_next_request
+pub next-request-says : (κs : Lfts 1) (a : Dens κs next-request.Kinds.ps) (r : resT next-request.Kinds.r κs .Denot) (e : AtExit (endedOf 1 next-request.Kinds.ps next-request.Kinds.r) κs) → next-request.Reads.Learnt κs a r e
+    → r ≡ nextAnswer (now (a .0)) (a .1 .0)
+next-request-says κs a r e p = p
+
+-- kd_pick_piece
+pub picking-says : (κs : Lfts 2) (a : Dens κs picking.Kinds.ps) (r : resT picking.Kinds.r κs .Denot) (e : AtExit (endedOf 2 picking.Kinds.ps picking.Kinds.r) κs) → picking.Reads.Learnt κs a r e
+    → r ≡ pickAnswer (now (a .0)) (now (a .1 .0))
+picking-says κs a r e p = p
 
 -- kd_bitfield
 pub field-says : (κs : Lfts 2) (a : Dens κs field.Kinds.ps) (r : resT field.Kinds.r κs .Denot) (e : AtExit (endedOf 2 field.Kinds.ps field.Kinds.r) κs) → field.Reads.Learnt κs a r e

@@ -27,9 +27,10 @@ use Rattle.pieces.specs.MarkedLaws.{block-stays, piece-stays}
 use Rattle.marks.specs.Marks.{blockThere, clearAnswer, markedAnswer, fieldSize, fieldAnswer}
 use Rattle.knowledge.specs.Through.{clear-stays}
 use Rattle.words.specs.Messages.{Rejected}
-use Rattle.words.specs.History.{Bytes, Ask, held, takeReject, isMarked, Send, serve, bitfield, Look, ask, send, Call, take, loadLayer, judgeBlock, judgePiece, clear, reopen, look, withCount, replyNumber, asked, sendReply, looked, answer, number, after}
+use Rattle.words.specs.History.{Bytes, Ask, held, takeReject, isMarked, nextRequest, pickPiece, Send, serve, bitfield, Look, ask, send, Call, take, loadLayer, judgeBlock, judgePiece, clear, reopen, look, withCount, replyNumber, asked, sendReply, looked, answer, number, after}
 use Rattle.words.specs.Answers.{ServeOutcome, replied, rejected, untouched, Zeros, Beside, reject, zeros}
 use Rattle.knowledge.specs.Refusals.{opening-refused, message-refused, layer-not-loaded, served}
+use Rattle.knowledge.specs.AskingNumbers.{next-in-table, next-beside, pick-in-table, pick-beside}
 use Rattle.knowledge.specs.NumberChains.{hashChain, hash-tests, sizeChain, size-tests, openChain, open-tests, heldChain, held-tests, takeChain, take-tests, rejectChain, reject-tests, layerChain, layer-tests, blockChain, block-tests, pieceChain, piece-tests, thereChain, there-tests, fieldChain, field-tests}
 
 -- ---- the number of each entry point is in the table
@@ -139,6 +140,8 @@ unfolding markedAnswer
 asked-in-table (held l i) s = in-table-of (heldChain s l i) (held-tests s l i) refl
 asked-in-table (takeReject m b) s = in-table-of (rejectChain s m) (reject-tests s m) refl
 asked-in-table (isMarked i) s = there-in-table s i
+asked-in-table (nextRequest l) s = next-in-table s l
+asked-in-table (pickPiece counts) s = pick-in-table s counts
 
 send-in-table : (k : Send) (s out : List ℕ) → InTable (replyNumber (sendReply k s out))
 send-in-table (serve m b) s out = serve-in-table s m out
@@ -187,6 +190,8 @@ unfolding rejectAnswer
 asked-zeros (held l i) s ne = no-hash s l i ne
 asked-zeros (takeReject m b) s ne = refl
 asked-zeros (isMarked i) s ne = no-mark s i ne
+asked-zeros (nextRequest l) s ne = next-beside s l ne
+asked-zeros (pickPiece counts) s ne = pick-beside s counts ne
 
 send-beside : (k : Send) (s out : List ℕ) (y : Bytes out) → (replyNumber (sendReply k s out) ≡ 0 → ⊥) → Beside (look (send k out y)) (sendReply k s out)
 send-beside (serve m b) s out y ne = by (served s m out)

@@ -12,6 +12,7 @@ use Rattle.numbers.specs.declared.Answer.{Answer}
 use Rattle.sha256.specs.declared.Hashed.{Hashed}
 use Rattle.tree.specs.Geometry.{nodeNumber}
 use Rattle.cells.specs.Cells.{heldAt, hashAt}
+use Rattle.asking.specs.declared.next.Request.{Request}
 use Rattle.store.specs.Store.{usable, fileLength, heightOf, storeSize, inTree, heldAnswer, Facts}
 use Rattle.store.specs.StoreLaws.{usable-facts, facts-usable, facts-leaves, tree-number, held-outside, held-not, held-given}
 use Rattle.messages.specs.Take.{takeAfter}
@@ -20,8 +21,9 @@ use Rattle.marks.specs.MarksLaws.{mark-in, marks-before, marks-length, marks-en
 use Rattle.pieces.specs.Pieces.{layerAfter, blockNumber, blockAnswer, blockAfter, pieceNumber, pieceAnswer, pieceAfter}
 use Rattle.pieces.specs.PiecesLaws.{block-right, piece-right}
 use Rattle.pieces.specs.MarkedLaws.{block-fits, block-marks, block-stays, piece-fits, piece-marks, piece-stays}
-use Rattle.words.specs.History.{Ask, held, takeReject, isMarked, Send, serve, bitfield, Look, ask, send, Call, take, loadLayer, judgeBlock, judgePiece, clear, reopen, look, withCount, withHash, asked, sendReply, looked, answer, after, sentTo, Opening, Teaches, call, begin, next}
+use Rattle.words.specs.History.{Ask, held, takeReject, isMarked, nextRequest, pickPiece, Send, serve, bitfield, Look, ask, send, Call, take, loadLayer, judgeBlock, judgePiece, clear, reopen, look, withCount, withHash, withRequest, asked, sendReply, looked, answer, after, sentTo, Opening, Teaches, call, begin, next}
 use Rattle.words.specs.Marks.{SameButMarks, AsksHashes, SendsHashes, LooksAtHashes, AboutHashes}
+use Rattle.knowledge.specs.AskingApart.{next-apart}
 use Rattle.knowledge.specs.Grows.{Grown, steps-grow}
 use Rattle.knowledge.specs.Through.{clear-writes, clear-stays}
 use Rattle.knowledge.specs.MarkedWhen.{there-0}
@@ -93,6 +95,8 @@ module _ (s t : List ℕ) (S : SameButMarks s t) where
   asked-same (held l i) x = ap (λ (h : Hashed). withHash h) (held-alike l i)
   asked-same (takeReject m b) x = ap (λ (a : Answer). withCount a) (reject-beyond s t f e m)
   asked-same (isMarked i) x = absurd x
+  asked-same (nextRequest l) x = ap (λ (r : Request). withRequest r) (next-apart s t S l)
+  asked-same (pickPiece counts) x = absurd x
 
   -- and sends
   send-same : (k : Send) → SendsHashes k → (out : List ℕ) → (sendReply k t out ≡ sendReply k s out) × (sentTo k t out ≡ sentTo k s out)

@@ -69,3 +69,13 @@ pub mod MarkedIsTheFiles
 pub mod Refusals
 pub mod InTable
 pub mod ByHand
+-- what to ask for next, and which piece to fetch
+pub mod Counting
+pub mod NextRequest
+pub mod RequestBytes
+pub mod AskingEnds
+pub mod RequestServed
+pub mod PickedWhen
+pub mod PickingEnds
+pub mod AskingApart
+pub mod AskingNumbers

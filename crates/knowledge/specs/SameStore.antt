@@ -10,6 +10,8 @@ use native.Mathlib.Decide.{ℕ-discrete, decLt}
 use lib.ListN.{length, getD}
 use Rattle.numbers.specs.declared.Answer.{Answer}
 use Rattle.sha256.specs.declared.Hashed.{Hashed}
+use Rattle.asking.specs.declared.next.Request.{Request}
+use Rattle.asking.specs.declared.pick.Choice.{Choice}
 use Rattle.store.specs.Store.{usable, fileLength, heightOf, positions, storeSize, Facts}
 use Rattle.store.specs.StoreLaws.{own-cells, usable-facts, facts-usable, used-same, used-facts, used-answer}
 use Rattle.messages.specs.Take.{takeAfter}
@@ -19,7 +21,8 @@ use Rattle.marks.specs.Marks.{marked, cleared, marksPut, blockThere, clearAnswe
 use Rattle.marks.specs.MarksLaws.{marks-behind, marks-end, marks-facts, marks-same-facts, there-fits}
 use Rattle.knowledge.specs.MarksBeyond.{there-beyond, marked-beyond, field-beyond, covered-beyond, marks-beyond}
 use Rattle.knowledge.specs.Through.{clear-writes, clear-stays}
-use Rattle.words.specs.History.{Ask, held, takeReject, isMarked, Send, serve, bitfield, ask, send, Call, take, loadLayer, judgeBlock, judgePiece, clear, reopen, look, withCount, withHash, asked, sendReply, answer, after, sentTo, Opening, SameStore}
+use Rattle.words.specs.History.{Ask, held, takeReject, isMarked, nextRequest, pickPiece, Send, serve, bitfield, ask, send, Call, take, loadLayer, judgeBlock, judgePiece, clear, reopen, look, withCount, withHash, withRequest, withPiece, asked, sendReply, answer, after, sentTo, Opening, SameStore}
+use Rattle.knowledge.specs.AskingApart.{next-behind, pick-behind}
 use Rattle.knowledge.specs.BytesLeft.{SameCells}
 use Rattle.knowledge.specs.Grows.{Grown, grown-take, grown-layer}
 use Rattle.knowledge.specs.Alike.{alike, same-byte, same-front}
@@ -105,6 +108,8 @@ module _ (s t : List ℕ) (S : SameStore s t) where
   asked-alike (held l i) = ap (λ (h : Hashed). withHash h) (used-answer s t facts (S .bytes) l i)
   asked-alike (takeReject m b) = ap (λ (a : Answer). withCount a) (reject-beyond s t facts (alike s t facts (S .bytes)) m)
   asked-alike (isMarked i) = ap (λ (a : Answer). withCount a) (marked-beyond s t facts (S .bytes) i)
+  asked-alike (nextRequest l) = ap (λ (r : Request). withRequest r) (next-behind s t S l)
+  asked-alike (pickPiece counts) = ap (λ (c : Choice). withPiece c) (pick-behind s t S counts)
 
   -- and sends the same
   send-alike : (k : Send) (out : List ℕ) → (sendReply k t out ≡ sendReply k s out) × (sentTo k t out ≡ sentTo k s out)

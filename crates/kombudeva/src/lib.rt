@@ -9,6 +9,8 @@ ghost use Rattle.store.specs.Store.{sizeAnswer, openAnswer, openAfter, heldAnsw
 ghost use Rattle.messages.specs.Take.{takeAnswer, takeAfter, rejectAnswer};
 ghost use Rattle.serve.specs.Serve.{serveAnswer, serveAfter};
 ghost use Rattle.marks.specs.Marks.{clearAnswer, clearAfter, markedAnswer, fieldAnswer, fieldAfter};
+ghost use Rattle.asking.specs.Asking.{nextAnswer};
+ghost use Rattle.asking.specs.Picking.{pickAnswer};
 ghost use Rattle.pieces.specs.Pieces.{layerAnswer, layerAfter, blockAnswer, blockAfter, pieceAnswer, pieceAfter};
 ghost use Rattle.torrent.specs.Torrent.{readOf, fileRead, pathRead};
 ghost use Rattle.catalogue.specs.Catalogue.{listAnswer, listAfter};
@@ -16,6 +18,8 @@ ghost use Rattle.writing.specs.Write.{writeAnswer, writeAfter};
 ghost use Rattle.frames.specs.Frames.{frameAnswer, frameAfter};
 ghost use Rattle.stream.specs.Reading.{between, hearAnswer, hearRoom};
 ghost use Rattle.kombudeva.specs.Boundary.{countAnswer, hashAnswer, torrentAnswer, fileAnswer, partAnswer};
+use asking::next::Request;
+use asking::pick::Choice;
 use history::History;
 use history::HistoryAnswer;
 use history::HistoryEnd;
@@ -267,6 +271,20 @@ pub extern "C" fn kd_bitfield(s: &[u8], out: &mut [u8]) -> CountAnswer
     ensures { λ r. ⌜ (r ≡ countAnswer (fieldAnswer (now (s .entry)) (now (out .entry)))) × (now (out .exit) ≡ fieldAfter (now (s .entry)) (now (out .entry))) ⌝ }
 {
     count_answer(marks::bitfield(s, out))
+}
+
+#[no_mangle]
+pub extern "C" fn kd_next_request(s: &[u8], layer: u64) -> Request
+    ensures { λ r. ⌜ r ≡ nextAnswer (now (s .entry)) layer ⌝ }
+{
+    asking::next::next_request(s, layer as usize)
+}
+
+#[no_mangle]
+pub extern "C" fn kd_pick_piece(s: &[u8], counts: &[u32]) -> Choice
+    ensures { λ r. ⌜ r ≡ pickAnswer (now (s .entry)) (now (counts .entry)) ⌝ }
+{
+    asking::pick::pick_piece(s, counts)
 }
 
 #[no_mangle]

@@ -21,7 +21,7 @@ use tree::geometry::piece_layer;
 use tree::geometry::piece_size;
 
 // The byte behind the cells, where block 0's mark stands.
-fn marks_start(s: &[u8]) -> usize
+pub fn marks_start(s: &[u8]) -> usize
     requires { ⌜ usable (now s) ≡ true ⌝ }
     ensures { λ r. ⌜ r ≡ M.marksStart (now (s .entry)) ⌝ }
 {
@@ -105,7 +105,7 @@ pub fn marked_block(s: &[u8], block: usize) -> Answer
 // ---- the blocks of a piece
 
 // How many blocks a piece has, but for the last.
-fn each_piece(s: &[u8]) -> usize
+pub fn each_piece(s: &[u8]) -> usize
     requires { ⌜ usable (now s) ≡ true ⌝ }
     ensures { λ r. ⌜ r ≡ M.eachPiece (now (s .entry)) ⌝ }
 {
@@ -135,12 +135,11 @@ pub fn blocks_in(s: &[u8], piece: usize) -> usize
 
 // ---- the bitfield
 
-// Whether n blocks from `block` on are all marked.
-fn all_marked(s: &[u8], block: usize, n: usize) -> bool
-    requires { ⌜ (usable (now s) ≡ true) × (block + n ≤ 2 ^ heightOf (now s)) ⌝ }
+// Whether n blocks from `block` on are all marked, where the marks begin at `start`.
+pub fn all_marked(s: &[u8], start: usize, block: usize, n: usize) -> bool
+    requires { ⌜ (usable (now s) ≡ true) × (start ≡ M.marksStart (now s)) × (block + n ≤ 2 ^ heightOf (now s)) ⌝ }
     ensures { λ r. ⌜ r ≡ M.allMarked (now (s .entry)) block n ⌝ }
 {
-    let start = marks_start(s);
     let at = start + block;
     let mut i = 0;
     while i < n {
@@ -163,9 +162,10 @@ fn piece_bit(s: &[u8], piece: usize) -> u8
     if piece >= c {
         return 0;
     }
+    let start = marks_start(s);
     let first = first_block(s, piece);
     let n = blocks_in(s, piece);
-    let all = all_marked(s, first, n);
+    let all = all_marked(s, start, first, n);
     if all { 1 } else { 0 }
 }
 

@@ -6,9 +6,10 @@ pub mod Demand3
 pub mod EachNumber
 pub mod FromRootToBlock
 pub mod Worked
--- 02: bytes that come in bursts; marks
+-- 02: bytes that come in bursts; marks; what to ask for next
 pub mod Running
 pub mod Marks
+pub mod Asking
 -- 02: the same messages, in any order; a message that is heard of a stream
 pub mod AnyOrder
 pub mod Heard
@@ -23,6 +24,7 @@ pub mod PastTheBlocks
 pub mod Witness
 pub mod OneRound
 pub mod ServedAndTaken
+pub mod AskingExample
 -- the impostors
 pub mod NumbersGiven
 pub mod Impostors

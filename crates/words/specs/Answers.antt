@@ -12,8 +12,10 @@ use Rattle.limits.specs.Limits.{longestFile}
 use Rattle.tree.specs.Geometry.{blockLength}
 use Rattle.header.specs.Header.{headerSize}
 use Rattle.serve.specs.Serve.{replyTo, rejectTo, serveAnswer, serveAfter}
+use Rattle.asking.specs.Asking.{noRequest}
+use Rattle.asking.specs.Picking.{noPiece}
 use Rattle.words.specs.Messages.{Rejected}
-use Rattle.words.specs.History.{Send, serve, bitfield, Look, ask, send, Call, take, loadLayer, judgeBlock, judgePiece, clear, reopen, look, Reply, withCount, withHash, replyNumber}
+use Rattle.words.specs.History.{Send, serve, bitfield, Look, ask, send, Call, take, loadLayer, judgeBlock, judgePiece, clear, reopen, look, Reply, withCount, withHash, withRequest, withPiece, replyNumber}
 
 -- with this number the call gets a reject: it is a request, and the number 2, 3 or 12
 abbrev pub SentReject : Send → ℕ → Type 0
@@ -33,10 +35,12 @@ GetsReject (clear i) n = ⊥
 GetsReject (reopen k plen root o) n = ⊥
 GetsReject (look k) n = LookRejected k n
 
--- all that stands beside the number is zero: a count or a size, a hash's 32 bytes
+-- all that stands beside the number is zero: a count or a size, a hash's 32 bytes, a request, a piece's number
 abbrev pub Zeros : Reply → Type 0
 Zeros (withCount a) = a .count ≡ 0
 Zeros (withHash h) = h .hash ≡ zeroHash
+Zeros (withRequest r) = r ≡ noRequest (r .number)
+Zeros (withPiece c) = c ≡ noPiece (c .number)
 
 -- what stands beside a refusal: the reject's size beside a reject, else zeros
 pub data Beside : Call → Reply → Type 0 where

@@ -14,6 +14,10 @@ use Rattle.store.specs.Store.{fileLength, storeSize, usable, openAnswer, openAf
 use Rattle.messages.specs.Take.{takeAnswer, takeAfter, rejectAnswer}
 use Rattle.serve.specs.Serve.{serveAnswer, serveAfter}
 use Rattle.pieces.specs.Pieces.{layerAnswer, layerAfter, blockAnswer, blockAfter, pieceAnswer, pieceAfter}
+use Rattle.asking.specs.declared.next.Request.{Request}
+use Rattle.asking.specs.declared.pick.Choice.{Choice}
+use Rattle.asking.specs.Asking.{nextAnswer}
+use Rattle.asking.specs.Picking.{pickAnswer}
 use Rattle.marks.specs.Marks.{clearAnswer, clearAfter, markedAnswer, fieldAnswer, fieldAfter}
 
 -- a string of bytes, of whatever length
@@ -30,6 +34,9 @@ pub data Ask : Type 0 where
   takeReject : (m : List ℕ) → Bytes m → Ask
   -- kd_marked: a block's number
   isMarked : (i : ℕ) → Ask
+  -- kd_next_request: a layer; kd_pick_piece: a count for each piece
+  nextRequest : (l : ℕ) → Ask
+  pickPiece : (counts : List ℕ) → Ask
 
 -- calls that only look at a store, and fill an output apart from it
 pub data Send : Type 0 where
@@ -59,20 +66,26 @@ pub data Call : Type 0 where
   -- one that only looks
   look : Look → Call
 
--- what a call answers: a number with a count or a size, or with a hash
+-- what a call answers: a number with a count or a size, with a hash, with a request, with a piece's number
 pub data Reply : Type 0 where
   withCount : Answer → Reply
   withHash : Hashed → Reply
+  withRequest : Request → Reply
+  withPiece : Choice → Reply
 
 abbrev pub replyNumber : Reply → ℕ
 replyNumber (withCount a) = a .number
 replyNumber (withHash h) = h .number
+replyNumber (withRequest r) = r .number
+replyNumber (withPiece c) = c .number
 
 -- what a call answers that takes the bytes s as its store
 abbrev pub asked : Ask → List ℕ → Reply
 asked (held l i) s = withHash (heldAnswer s l i)
 asked (takeReject m b) s = withCount (rejectAnswer s m)
 asked (isMarked i) s = withCount (markedAnswer s i)
+asked (nextRequest l) s = withRequest (nextAnswer s l)
+asked (pickPiece counts) s = withPiece (pickAnswer s counts)
 
 abbrev pub sendReply : Send → List ℕ → List ℕ → Reply
 sendReply (serve m b) s out = withCount (serveAnswer s m out)

@@ -8,3 +8,4 @@ pub mod File
 pub mod Answers
 pub mod Marks
 pub mod Hearing
+pub mod Asking

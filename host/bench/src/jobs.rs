@@ -5,7 +5,7 @@
 use crate::measure::{Prepared, Work};
 use crate::plain::{self, Hasher};
 use crate::scene::{Scene, Size, LARGEST, ONE_GIB, PIECE};
-use crate::{careful, framing, lanes, writer};
+use crate::{asking, careful, framing, lanes, writer};
 use host_tests::lists::{self, Planned};
 use host_tests::random::Random;
 use host_tests::shapes;
@@ -49,6 +49,10 @@ pub fn all() -> Vec<Job> {
         job("piece-1MiB", "kd_judge_piece", "0.36", PIECE as usize, judging),
         job("load-layer", "kd_load_layer", "0.70", 32 * PIECES, loading),
         job("history-256KiB", "kd_history_more", "0.40", LOGGED, logging_in_rust),
+        job("next-last-leaf", "kd_next_request", "", 1 << 20, asking::last_leaf).plain_alone(),
+        in_library("next-all-leaves", "none", "kd_next_request", "", 1 << 20, asking::all_leaves),
+        job("pick-last-piece", "kd_pick_piece", "", 1 << 20, asking::last_piece).plain_alone(),
+        in_library("pick-all-pieces", "none", "kd_pick_piece", "", 1 << 20, asking::all_pieces),
     ];
     #[cfg(has_hash8)]
     jobs.push(job("eight-blocks", "lanes::hash8", "0.36", 8 * 16384, eight_blocks));

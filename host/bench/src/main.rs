@@ -5,6 +5,7 @@
 //!   bench JOB VERSION    does a job once by one version, so that its instructions can be counted from outside
 //!   bench JOB            gets the same job ready and doesn't do it: what to take off
 
+mod asking;
 mod careful;
 mod framing;
 mod jobs;

@@ -5,8 +5,8 @@
 mod raw;
 
 pub use raw::{
-    Answer, File, Hash, Hashed, Hashing, HashingAnswer, Heard, History, HistoryAnswer, HistoryEnd, Part, Stream,
-    Torrent, NODES,
+    Answer, Choice, File, Hash, Hashed, Hashing, HashingAnswer, Heard, History, HistoryAnswer, HistoryEnd, Part,
+    Request, Stream, Torrent, NODES,
 };
 
 pub fn sha256(data: &[u8]) -> Hashed {
@@ -83,6 +83,14 @@ pub fn clear(store: &mut [u8], block: u64) -> Answer {
 
 pub fn bitfield(store: &[u8], out: &mut [u8]) -> Answer {
     unsafe { raw::kd_bitfield(store.as_ptr(), store.len(), out.as_mut_ptr(), out.len()) }
+}
+
+pub fn next_request(store: &[u8], layer: u64) -> Request {
+    unsafe { raw::kd_next_request(store.as_ptr(), store.len(), layer) }
+}
+
+pub fn pick_piece(store: &[u8], counts: &[u32]) -> Choice {
+    unsafe { raw::kd_pick_piece(store.as_ptr(), store.len(), counts.as_ptr(), counts.len()) }
 }
 
 pub fn torrent_read(torrent: &[u8]) -> Torrent {

@@ -113,6 +113,26 @@ pub struct Heard {
     pub state: Stream,
 }
 
+#[repr(C)]
+#[derive(Clone, Copy, Debug, PartialEq, Eq)]
+pub struct Request {
+    pub number: u32,
+    pub asks: u32,
+    pub base: u32,
+    pub index: u32,
+    pub length: u32,
+    pub proof: u32,
+    pub message: [u8; 49],
+}
+
+#[repr(C)]
+#[derive(Clone, Copy, Debug, PartialEq, Eq)]
+pub struct Choice {
+    pub number: u32,
+    pub found: u32,
+    pub piece: u64,
+}
+
 // The same sizes and offsets that the C test asserts of the header.
 const _: () = {
     assert!(size_of::<Hash>() == 32);
@@ -135,6 +155,10 @@ const _: () = {
     assert!(offset_of!(Stream, read) == 8 && offset_of!(Stream, mode) == 12);
     assert!(size_of::<Heard>() == 40 && offset_of!(Heard, event) == 4 && offset_of!(Heard, used) == 8);
     assert!(offset_of!(Heard, size) == 16 && offset_of!(Heard, state) == 24);
+    assert!(size_of::<Request>() == 76 && offset_of!(Request, asks) == 4 && offset_of!(Request, base) == 8);
+    assert!(offset_of!(Request, index) == 12 && offset_of!(Request, length) == 16);
+    assert!(offset_of!(Request, proof) == 20 && offset_of!(Request, message) == 24);
+    assert!(size_of::<Choice>() == 16 && offset_of!(Choice, found) == 4 && offset_of!(Choice, piece) == 8);
     assert!(size_of::<Part>() == 24 && offset_of!(Part, start) == 8 && offset_of!(Part, size) == 16);
 };
 
@@ -171,6 +195,8 @@ extern "C" {
     pub fn kd_marked(store: *const u8, size: usize, block: u64) -> Answer;
     pub fn kd_clear(store: *mut u8, size: usize, block: u64) -> Answer;
     pub fn kd_bitfield(store: *const u8, size: usize, out: *mut u8, out_size: usize) -> Answer;
+    pub fn kd_next_request(store: *const u8, size: usize, layer: u64) -> Request;
+    pub fn kd_pick_piece(store: *const u8, size: usize, counts: *const u32, count: usize) -> Choice;
     pub fn kd_torrent_read(torrent: *const u8, size: usize) -> Torrent;
     pub fn kd_torrent_file(torrent: *const u8, size: usize, file: u64) -> File;
     pub fn kd_torrent_path(torrent: *const u8, size: usize, file: u64, element: u64) -> Part;

@@ -1,5 +1,6 @@
 //! The host as a peer of a seed: it asks for a run past the last block, for a run longer than libtorrent's own and for all hashes of each
-//! file, offers each reply to the library, and damaged ones in between; then it fetches all blocks and judges them.
+//! file, offers each reply to the library, and damaged ones in between. Then, with a fresh store, it asks for exactly what the library names
+//! next, to the last leaf, and fetches the pieces that the library picks, to the last one, and judges them.
 
 use crate::contents::{Contents, File};
 use crate::peer::{of_words, word, Peer};
@@ -18,6 +19,7 @@ struct Counts {
     in_padding: u64,
     at_once: u64,
     rounds: u64,
+    named: u64,
     refused: u64,
     believed: u64,
 }
@@ -33,11 +35,15 @@ pub fn run(contents: &Contents, port: u16) -> io::Result<()> {
         learn_padding(&mut peer, file, &mut counts)?;
         learn_at_once(&mut peer, file, &mut counts)?;
         learn_hashes(&mut peer, file, &mut store, &mut counts)?;
-        judge_pieces(&mut peer, file, &mut store, &mut counts)?;
+        let mut memory = Vec::new();
+        let mut asking = file.open(&mut memory);
+        learn_by_asking(&mut peer, file, &mut asking, &mut counts)?;
+        hand_on(file, &asking);
+        judge_pieces(&mut peer, file, &mut asking, &mut counts)?;
         assert_eq!(counts.believed, file.blocks(), "every block is believed");
         println!(
             "{}: {} replies taken ({} of them had come before their anchor; {} rounds in two orders leave the same), {} more past the last \
-             block, {} longer than {RUN}, {} damaged ones refused, {} of {} blocks believed",
+             block, {} longer than {RUN}, {} damaged ones refused; from a fresh store {} requests as named, {} of {} blocks believed",
             file.path.display(),
             counts.taken,
             counts.before_their_anchor,
@@ -45,6 +51,7 @@ pub fn run(contents: &Contents, port: u16) -> io::Result<()> {
             counts.in_padding,
             counts.at_once,
             counts.refused,
+            counts.named,
             counts.believed,
             file.blocks()
         );
@@ -152,6 +159,56 @@ fn hear_in_rounds(file: &File, replies: &[Vec<u8>]) -> (Vec<u8>, u64) {
     }
 }
 
+/// The layers that the library names requests for: the piece layer, where the file has one, then the leaves.
+fn layers(file: &File) -> Vec<u64> {
+    let pieces = (file.length > file.piece_length).then_some(file.piece_layer() as u64);
+    pieces.into_iter().chain([0]).collect()
+}
+
+/// How many replies a layer takes at most: one for each run with a position that isn't padding.
+fn most_replies(file: &File, layer: u64) -> u64 {
+    let length = (LONGEST_RUN as u64).min(1 << (file.height() as u64 - layer));
+    file.blocks().div_ceil(1 << layer).div_ceil(length)
+}
+
+/// Asks the seed for exactly what the store names, until there is nothing to ask.
+fn learn_by_asking(peer: &mut Peer, file: &File, store: &mut Store, counts: &mut Counts) -> io::Result<()> {
+    for layer in layers(file) {
+        let mut replies = 0;
+        while let Some(request) =
+            store.next_request(layer).done().expect("a layer of the file, and a root that is held")
+        {
+            let reply = ask(peer, &request.message)?;
+            assert!(store.take(&reply).is_done(), "its anchor is held");
+            replies += 1;
+        }
+        assert!(replies <= most_replies(file, layer));
+        counts.named += replies;
+    }
+    for block in 0..file.blocks() {
+        assert!(store.held(0, block).is_done(), "every leaf is held");
+    }
+    Ok(())
+}
+
+/// The same once more, from one of our stores to another.
+fn hand_on(file: &File, source: &Store) {
+    let mut memory = Vec::new();
+    let mut store = file.open(&mut memory);
+    let mut out = vec![0; 49 + 32 * (LONGEST_RUN + 20) as usize];
+    for layer in layers(file) {
+        while let Some(request) =
+            store.next_request(layer).done().expect("a layer of the file, and a root that is held")
+        {
+            let served = source.serve(&request.message, &mut out);
+            assert!(served.answer.is_done() && store.take(served.reply).is_done());
+        }
+    }
+    for block in 0..file.blocks() {
+        assert_eq!(store.held(0, block), source.held(0, block));
+    }
+}
+
 /// Offers a true reply, and damaged ones before and after it.
 fn offer(store: &mut Store, reply: &[u8], counts: &mut Counts) -> Answer<u64> {
     offer_damaged(store, reply, counts);
@@ -190,8 +247,10 @@ fn offer_damaged(store: &mut Store, reply: &[u8], counts: &mut Counts) {
     counts.refused += 5;
 }
 
+/// Fetches the pieces that the library picks: the seed has each, so the lowest that isn't on disk comes first.
 fn judge_pieces(peer: &mut Peer, file: &File, store: &mut Store, counts: &mut Counts) -> io::Result<()> {
-    for piece in 0..file.pieces() {
+    let neighbours = vec![1; file.pieces() as usize];
+    while let Some(piece) = store.pick_piece(&neighbours).done().expect("a count for each piece") {
         let start = piece * file.piece_length;
         let size = file.piece_length.min(file.length - start);
         let mut bytes = fetch_piece(peer, (file.first_piece + piece) as u32, size)?;

@@ -14,9 +14,10 @@ pub enum Answer<T> {
     NoMessage,
     /// 2: another pieces root
     OtherRoot,
-    /// 3: a header rule fails; no such block, piece or position; a layer for a file not longer than the piece length
+    /// 3: a header rule fails; no such block, piece or position; a layer for a file not longer than the piece length, or
+    /// another than 0 and the piece layer
     RuleBroken,
-    /// 4: the byte count isn't what header or file fixes, or is too long for SHA-256
+    /// 4: the byte count isn't what header or file fixes, or is too long for SHA-256; not one count for each piece
     WrongSize,
     /// 5: a padding position with another value
     WrongPadding,

@@ -30,6 +30,21 @@ pub struct Served<'a> {
     pub reply: &'a [u8],
 }
 
+/// A request for hashes, as it is sent: `message` has its 49 bytes, and the numbers beside it are those of its header.
+#[derive(Clone, Copy, Debug, PartialEq, Eq)]
+pub struct Request {
+    /// The base layer.
+    pub base: u32,
+    /// The first position of the run.
+    pub index: u32,
+    /// How many positions the run has.
+    pub length: u32,
+    /// The proof layers.
+    pub proof: u32,
+    /// Id 21, the pieces root and these numbers, without the length prefix.
+    pub message: [u8; 49],
+}
+
 impl<'a> Store<'a> {
     /// Makes the memory a store of which the root alone is held. Bytes behind the store's size stay.
     ///
@@ -105,5 +120,25 @@ impl<'a> Store<'a> {
     /// Writes the bitfield of the pieces whose blocks are all marked at the front of `out`; Done says its size.
     pub fn bitfield(&self, out: &mut [u8]) -> Answer<u64> {
         count(boundary::bitfield(self.memory, out))
+    }
+
+    /// The next request for layer 0 or for the piece layer, or `None`: every position of it that isn't padding is held.
+    ///
+    /// Refused, in this order: [`Unusable`](Answer::Unusable), [`RuleBroken`](Answer::RuleBroken) for another layer or where the
+    /// file has no piece layer, [`NoAnchor`](Answer::NoAnchor) where the root isn't held.
+    pub fn next_request(&self, layer: u64) -> Answer<Option<Request>> {
+        let boundary::Request { number, asks, base, index, length, proof, message } =
+            boundary::next_request(self.memory, layer);
+        Answer::of(number, (asks == 1).then_some(Request { base, index, length, proof, message }))
+    }
+
+    /// The piece to fetch, or `None`: of the pieces whose blocks aren't all marked the one with the smallest count above
+    /// zero, the lowest on a tie. `counts` says of each piece how many neighbours have it.
+    ///
+    /// Refused, in this order: [`Unusable`](Answer::Unusable), [`WrongSize`](Answer::WrongSize) where there isn't one count
+    /// for each piece.
+    pub fn pick_piece(&self, counts: &[u32]) -> Answer<Option<u64>> {
+        let boundary::Choice { number, found, piece } = boundary::pick_piece(self.memory, counts);
+        Answer::of(number, (found == 1).then_some(piece))
     }
 }

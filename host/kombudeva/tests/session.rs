@@ -1,6 +1,6 @@
 //! The session of document 01 through the binding, on five blocks in pieces of four. The tree is made by host/reference.
 
-use kombudeva::{sha256, store_size, Answer, Hashing, History, Store, Torrent};
+use kombudeva::{sha256, store_size, Answer, Hashing, History, Request, Store, Torrent};
 use reference::limits::BLOCK;
 use reference::messages::{Header, HASHES, REJECT, REQUEST};
 use reference::tree::{of_file, Position};
@@ -160,6 +160,40 @@ fn layers_pieces_and_blocks() {
     assert_eq!(store.take(&known.message([0, 0, 8, 0])), Answer::Done(12));
     assert_eq!(store.judge_block(4, known.block(4)), Answer::Done(0));
     assert_eq!(store.judge_block(4, known.block(3)), Answer::Differs);
+}
+
+/// From a fresh store to the last leaf and the last piece, by what it names itself, from a store that has all.
+#[test]
+fn asking_and_picking_to_the_end() {
+    let known = known();
+    let (mut memory, mut other) = (Vec::new(), Vec::new());
+    let mut source = known.open(&mut memory);
+    assert_eq!(source.take(&known.message([0, 0, 8, 0])), Answer::Done(14));
+    let mut store = known.open(&mut other);
+    let mut replies = [0, 0];
+    for (which, layer) in [2, 0].into_iter().enumerate() {
+        while let Some(request) = store.next_request(layer).done().unwrap() {
+            let Request { base, index, length, proof, message } = request;
+            assert_eq!(message[..], known.header([base, index, length, proof]).write(REQUEST));
+            let mut out = [0; 1000];
+            assert!(store.take(source.serve(&message, &mut out).reply).is_done());
+            replies[which] += 1;
+        }
+    }
+    assert_eq!(replies, [1, 1]);
+    assert_eq!(store.next_request(1), Answer::RuleBroken);
+    assert_eq!(store.pick_piece(&[1]), Answer::WrongSize);
+    assert_eq!(store.pick_piece(&[0, 0]), Answer::Done(None));
+    let mut picked = Vec::new();
+    while let Some(piece) = store.pick_piece(&[2, 1]).done().unwrap() {
+        let bytes = known.bytes.chunks(PIECE as usize).nth(piece as usize).unwrap();
+        assert_eq!(store.judge_piece(piece, bytes), Answer::Done(0));
+        picked.push(piece);
+    }
+    assert_eq!(picked, [1, 0], "the rarer one first");
+    let mut none = [];
+    assert_eq!(Store::over(&mut none).next_request(0), Answer::Unusable);
+    assert_eq!(Store::over(&mut none).pick_piece(&[]), Answer::Unusable);
 }
 
 #[test]

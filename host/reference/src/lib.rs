@@ -7,6 +7,7 @@
 //! Every entry point of the C boundary has a function of the same meaning: slices in, an answer struct out.
 #![forbid(unsafe_code)]
 
+pub mod asking;
 pub mod bencode;
 pub mod history;
 pub mod ids;

@@ -52,6 +52,11 @@ pub fn marked(store: &[u8], block: u64) -> Answer {
     with_block(store, block).map_or_else(Answer::refused, |facts| Answer::done(is_marked(store, &facts, block) as u64))
 }
 
+/// All blocks of a piece of the file are marked.
+pub fn is_on_disk(store: &[u8], facts: &Facts, piece: u64) -> bool {
+    facts.blocks_of_piece(piece).all(|block| is_marked(store, facts, block))
+}
+
 /// Writes the bitfield: a bit for each piece, the first piece's the highest of its byte, set if all its blocks are marked.
 pub fn bitfield(store: &[u8], out: &mut [u8]) -> Answer {
     let Some(facts) = facts_of(store) else { return Answer::refused(UNUSABLE) };
@@ -61,7 +66,7 @@ pub fn bitfield(store: &[u8], out: &mut [u8]) -> Answer {
     }
     out[..size].fill(0);
     for piece in 0..facts.pieces() {
-        if facts.blocks_of_piece(piece).all(|block| is_marked(store, &facts, block)) {
+        if is_on_disk(store, &facts, piece) {
             out[piece as usize / 8] |= 0x80 >> (piece % 8);
         }
     }

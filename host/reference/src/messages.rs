@@ -69,6 +69,12 @@ impl Header {
         (self.proof as u64).saturating_sub(self.run_layers() - 1)
     }
 
+    /// The position that a message is held against: the path's, above the run and its uncles.
+    pub fn anchor(&self) -> Position {
+        let layers = self.run_layers() + self.uncles();
+        Position { layer: self.base as u64 + layers, index: self.index as u64 >> layers }
+    }
+
     /// Bytes of a hashes message with this header.
     pub fn message_size(&self) -> u64 {
         HEAD as u64 + 32 * (self.length as u64 + self.uncles())

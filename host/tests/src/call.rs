@@ -4,6 +4,7 @@ use crate::states::{
     from_hashing, from_history, from_stream, hashing_bytes, hashing_of, history_bytes, history_of, stream_bytes,
     stream_of, to_hashing, to_history, to_stream,
 };
+use reference::asking::{self, Choice, Request};
 use reference::history::{End, History};
 use reference::running::Hashing;
 use reference::sha256::{sha256, Hash};
@@ -33,6 +34,8 @@ pub enum Entry {
     Marked,
     Clear,
     Bitfield,
+    NextRequest,
+    PickPiece,
     TorrentRead,
     TorrentFile,
     TorrentPath,
@@ -65,6 +68,8 @@ impl Entry {
             Entry::Marked => "kd_marked",
             Entry::Clear => "kd_clear",
             Entry::Bitfield => "kd_bitfield",
+            Entry::NextRequest => "kd_next_request",
+            Entry::PickPiece => "kd_pick_piece",
             Entry::TorrentRead => "kd_torrent_read",
             Entry::TorrentFile => "kd_torrent_file",
             Entry::TorrentPath => "kd_torrent_path",
@@ -83,7 +88,8 @@ pub struct Call {
     pub entry: Entry,
     /// The store, or the bytes of a state: any bytes are one. Or the list of files that a torrent is written of.
     pub store: Vec<u8>,
-    /// The message, layer, block, piece, torrent, string, burst or bytes of a stream; or the text that such a list points into.
+    /// The message, layer, block, piece, torrent, string, burst or bytes of a stream; or the text that such a list points into; or
+    /// counts of pieces, four bytes each.
     pub input: Vec<u8>,
     /// The output, the layer lent to a history, or the room lent to a stream.
     pub out: Vec<u8>,
@@ -129,6 +135,8 @@ pub enum Given {
     File(File),
     Part(Part),
     End(End),
+    Request(Request),
+    Choice(Choice),
     /// Beside a state, which is left in the call's store.
     State(u32),
     /// Number, event, used bytes and size of a call on a stream, whose state is left so too.
@@ -144,6 +152,8 @@ impl Given {
             Given::File(file) => file.number,
             Given::Part(part) => part.number,
             Given::End(end) => end.number,
+            Given::Request(request) => request.number,
+            Given::Choice(choice) => choice.number,
             Given::State(number) | Given::Heard(number, ..) => *number,
         }
     }
@@ -197,6 +207,8 @@ pub fn by_reference(call: &Call) -> Outcome {
         Entry::Marked => Given::Answer(marks::marked(&store, first)),
         Entry::Clear => Given::Answer(marks::clear(&mut store, first)),
         Entry::Bitfield => Given::Answer(marks::bitfield(&store, &mut out)),
+        Entry::NextRequest => Given::Request(asking::next_request(&store, first)),
+        Entry::PickPiece => Given::Choice(asking::pick_piece(&store, &counts_in(&input))),
         Entry::TorrentRead => Given::Torrent(torrent::torrent_read(&input)),
         Entry::TorrentFile => Given::File(torrent::torrent_file(&input, first)),
         Entry::TorrentPath => Given::Part(torrent::torrent_path(&input, first, second)),
@@ -211,6 +223,15 @@ pub fn by_reference(call: &Call) -> Outcome {
         Entry::Frame => Given::Answer(stream::frame(&input, &mut out)),
     };
     Outcome { given, store, input, out, name }
+}
+
+/// Counts of pieces as bytes.
+pub fn bytes_of(counts: &[u32]) -> Vec<u8> {
+    counts.iter().flat_map(|count| count.to_le_bytes()).collect()
+}
+
+fn counts_in(bytes: &[u8]) -> Vec<u32> {
+    bytes.chunks_exact(4).map(|count| u32::from_le_bytes(count.try_into().unwrap())).collect()
 }
 
 /// A state comes back beside the number.
@@ -287,6 +308,14 @@ pub fn by_library(call: &Call) -> Outcome {
         Entry::Marked => answer(boundary::marked(held_bytes, first)),
         Entry::Clear => answer(boundary::clear(held_bytes, first)),
         Entry::Bitfield => answer(boundary::bitfield(held_bytes, room)),
+        Entry::NextRequest => request_of(boundary::next_request(held_bytes, first)),
+        Entry::PickPiece => {
+            // Counts are words, so that they stand in a memory of their own, and are written back as bytes.
+            let counts = counts_in(message);
+            let given = choice_of(boundary::pick_piece(held_bytes, black_box(&counts)));
+            message[..4 * counts.len()].copy_from_slice(&bytes_of(black_box(&counts)));
+            given
+        }
         Entry::TorrentRead => torrent_of(boundary::torrent_read(message)),
         Entry::TorrentFile => file_of(boundary::torrent_file(message, first)),
         Entry::TorrentPath => part_of(boundary::torrent_path(message, first, second)),
@@ -334,6 +363,15 @@ fn file_of(given: boundary::File) -> Given {
 
 fn part_of(given: boundary::Part) -> Given {
     Given::Part(Part { number: given.number, start: given.start, size: given.size })
+}
+
+fn request_of(given: boundary::Request) -> Given {
+    let boundary::Request { number, asks, base, index, length, proof, message } = given;
+    Given::Request(Request { number, asks, base, index, length, proof, message })
+}
+
+fn choice_of(given: boundary::Choice) -> Given {
+    Given::Choice(Choice { number: given.number, found: given.found, piece: given.piece })
 }
 
 fn end_of(given: boundary::HistoryEnd) -> Given {

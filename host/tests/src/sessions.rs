@@ -1,7 +1,7 @@
 //! Sequences of calls on one store: true replies and requests, damaged ones, hostile ones, on stores of our own, on
 //! stores that another hand has changed, and on foreign bytes.
 
-use crate::call::{Call, Entry, Outcome};
+use crate::call::{bytes_of, Call, Entry, Outcome};
 use crate::compare::Comparison;
 use crate::random::Random;
 use crate::truth::{self, Pair, Truth};
@@ -124,7 +124,7 @@ impl<'a> Session<'a> {
     /// A call about this session's file.
     pub fn call(&self, random: &mut Random) -> Call {
         let judges = if self.truth.bytes.is_empty() { 1 } else { 40 };
-        match random.below(115 + judges) {
+        match random.below(127 + judges) {
             0..=49 => Call::new(Entry::Take).on(&self.store).input(self.hashes(random)),
             50..=69 => self.request(random),
             70..=74 => Call::new(Entry::TakeReject).on(&self.store).input(self.reject(random)),
@@ -135,6 +135,8 @@ impl<'a> Session<'a> {
                 Call::new(Entry::StoreSize).numbers(random.pick(&HOSTILE_LENGTHS), random.pick(&HOSTILE_PIECE_LENGTHS))
             }
             100..=114 => self.about_marks(random),
+            115..=122 => self.next_request(random),
+            123..=126 => self.pick_piece(random),
             _ => self.judgement(random),
         }
     }
@@ -302,6 +304,28 @@ impl<'a> Session<'a> {
             1 => Call::new(Entry::Marked).on(&self.store).numbers(block, 0),
             _ => Call::new(Entry::Bitfield).on(&self.store).out(out),
         }
+    }
+
+    /// The next request for layer 0, for the piece layer, or for another.
+    fn next_request(&self, random: &mut Random) -> Call {
+        let facts = &self.truth.facts;
+        let layer = match random.below(8) {
+            0 => random.below(facts.height() + 2),
+            1 => random.pick(&HOSTILE_NUMBERS),
+            2..=4 => facts.piece_layer(),
+            _ => 0,
+        };
+        Call::new(Entry::NextRequest).on(&self.store).numbers(layer, 0)
+    }
+
+    /// The piece to fetch: counts with many ties and zeros, or any; sometimes one too many or too few.
+    fn pick_piece(&self, random: &mut Random) -> Call {
+        let pieces = self.truth.facts.pieces();
+        let length = random.pick(&[pieces, pieces, pieces, pieces, pieces, pieces, pieces + 1, pieces - 1, 0]);
+        let some =
+            random.pick(&[[0, 1, 1, 2], [0, 0, 0, 1], [1, 2, 3, 4], [0, 1, u32::MAX, u32::MAX - 1], [0, 0, 0, 0]]);
+        let counts: Vec<u32> = (0..length).map(|_| random.pick(&some)).collect();
+        Call::new(Entry::PickPiece).on(&self.store).input(bytes_of(&counts))
     }
 
     fn judgement(&self, random: &mut Random) -> Call {

@@ -67,7 +67,7 @@ fn a_block_is_marked_exactly_if_judged_right_and_not_cleared_since() {
     let mut right: HashSet<u64> = HashSet::new();
     let mut root = [0; 32];
     let (mut set, mut taken_back) = (0, 0);
-    for seed in 7..14 {
+    for seed in 7..20 {
         look_at_calls(seed, &mut |truth, call, outcome| {
             let facts = &truth.facts;
             if facts.root != root {

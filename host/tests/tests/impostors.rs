@@ -7,14 +7,15 @@ use host_tests::lists::{read_back, Planned};
 use host_tests::random::Random;
 use host_tests::states::{hashing_bytes, hashing_of, history_bytes, history_of, stream_bytes, stream_of};
 use host_tests::{bursts, lists, sessions, streams, torrents};
+use reference::asking::{Choice, Request};
 use reference::limits::{BLOCK, LONGEST_FRAME, RECORD};
-use reference::marks::{clear, mark, marked};
-use reference::messages::{Header, HEAD};
+use reference::marks::{clear, is_on_disk, mark, marked};
+use reference::messages::{Header, HEAD, REQUEST};
 use reference::number::*;
 use reference::sha256::sha256;
-use reference::store::{facts_of, hold, size_of, CELL};
+use reference::store::{facts_of, held_at, hold, size_of, CELL};
 use reference::torrent::{contents, File, Torrent};
-use reference::tree::Position;
+use reference::tree::{Facts, Position};
 use reference::{Answer, Hashed};
 
 const CASES: u64 = 60_000;
@@ -104,7 +105,7 @@ fn untouched(call: &Call) -> Outcome {
 }
 
 fn every_number_comes_up() {
-    let expected: [(Entry, &[u32]); 12] = [
+    let expected: [(Entry, &[u32]); 14] = [
         (Entry::StoreSize, &[0, 10]),
         (Entry::Open, &[0, 9, 10]),
         (Entry::Held, &[0, 3, 6, 9]),
@@ -117,6 +118,8 @@ fn every_number_comes_up() {
         (Entry::Marked, &[0, 3, 9]),
         (Entry::Clear, &[0, 3, 9]),
         (Entry::Bitfield, &[0, 9, 11]),
+        (Entry::NextRequest, &[0, 3, 6, 9]),
+        (Entry::PickPiece, &[0, 4, 9]),
     ];
     assert_seen(&sessions(&by_reference), &expected);
 }
@@ -474,6 +477,124 @@ fn marks_of_blocks_that_are_wrong_in_one_way() {
     });
 }
 
+/// A library whose next request has a header that `change` gives for the file and the right header.
+fn assert_asking_found_out(name: &str, change: impl Fn(&[u8], &Facts, Header) -> Header) {
+    assert_found_out(name, &|call| match (call.entry, by_reference(call)) {
+        (Entry::NextRequest, outcome) => match outcome.given {
+            Given::Request(request) if request.asks == 1 => {
+                let facts = facts_of(&call.store).unwrap();
+                let header = change(&call.store, &facts, Header::read(&request.message));
+                Outcome { given: Given::Request(asking(&header)), ..outcome }
+            }
+            _ => outcome,
+        },
+        (_, outcome) => outcome,
+    });
+}
+
+fn asking(header: &Header) -> Request {
+    let Header { base, index, length, proof, .. } = *header;
+    let message = header.write(REQUEST).try_into().unwrap();
+    Request { number: DONE, asks: 1, base, index, length, proof, message }
+}
+
+fn requests_that_are_wrong_in_one_way() {
+    assert_asking_found_out("one proof layer more", |_, facts, header| {
+        let more = Header { proof: header.proof + 1, ..header };
+        if more.obeys_the_rules(facts) {
+            more
+        } else {
+            header
+        }
+    });
+    assert_asking_found_out("proof layers up to the root", |_, facts, header| Header {
+        proof: facts.height() as u32 - 1 - header.base,
+        ..header
+    });
+    assert_asking_found_out("half the run", |_, _, header| match header.length {
+        2 => header,
+        length => Header { length: length / 2, ..header },
+    });
+    assert_found_out("padding asked for", &|call| match (call.entry, by_reference(call)) {
+        (Entry::NextRequest, outcome) if outcome.given == Given::Request(Request::none(DONE)) => {
+            let facts = facts_of(&call.store).unwrap();
+            let (layer, length) = (call.numbers[0], facts.width(call.numbers[0]));
+            let is_held = |index: &u64| held_at(&call.store, &facts, Position { layer, index: *index }).is_some();
+            let header = Header { root: facts.root, base: layer as u32, index: 0, length: length as u32, proof: 0 };
+            match (0..length).all(|index| is_held(&index)) {
+                true => outcome,
+                false => Outcome { given: Given::Request(asking(&header)), ..outcome },
+            }
+        }
+        (_, outcome) => outcome,
+    });
+    assert_found_out("numbers without the bytes", &|call| match (call.entry, by_reference(call)) {
+        (Entry::NextRequest, mut outcome) => {
+            if let Given::Request(request) = &mut outcome.given {
+                request.message = [0; HEAD];
+            }
+            outcome
+        }
+        (_, outcome) => outcome,
+    });
+    for number in [3, 6, 9] {
+        assert_needed(Entry::NextRequest, number);
+    }
+}
+
+/// A picker that chooses the piece that `best` gives for the counts and for whether each piece is on disk.
+fn assert_picking_found_out(name: &str, best: impl Fn(&[u32], &[bool]) -> Option<usize>) {
+    assert_found_out(name, &|call| match (call.entry, by_reference(call)) {
+        (Entry::PickPiece, outcome) if outcome.given.number() == DONE => {
+            let facts = facts_of(&call.store).unwrap();
+            let counts: Vec<u32> =
+                call.input.chunks(4).map(|count| u32::from_le_bytes(count.try_into().unwrap())).collect();
+            let disk: Vec<bool> = (0..facts.pieces()).map(|piece| is_on_disk(&call.store, &facts, piece)).collect();
+            let choice = best(&counts, &disk).map_or(Choice::none(DONE), |piece| Choice {
+                number: DONE,
+                found: 1,
+                piece: piece as u64,
+            });
+            Outcome { given: Given::Choice(choice), ..outcome }
+        }
+        (_, outcome) => outcome,
+    });
+}
+
+fn pieces_picked_wrong() {
+    let pieces = |counts: &[u32]| 0..counts.len();
+    assert_picking_found_out("the last of a tie", |counts, disk| {
+        pieces(counts).rev().filter(|piece| counts[*piece] > 0 && !disk[*piece]).min_by_key(|piece| counts[*piece])
+    });
+    assert_picking_found_out("a piece that no one has", |counts, disk| {
+        pieces(counts).filter(|piece| !disk[*piece]).min_by_key(|piece| counts[*piece])
+    });
+    assert_picking_found_out("a piece on disk", |counts, _| {
+        pieces(counts).filter(|piece| counts[*piece] > 0).min_by_key(|piece| counts[*piece])
+    });
+    assert_picking_found_out("the most common", |counts, disk| {
+        let to_fetch = pieces(counts).filter(|piece| counts[*piece] > 0 && !disk[*piece]);
+        to_fetch.rev().max_by_key(|piece| counts[*piece])
+    });
+    assert_found_out("marks of padding leaves asked for", &|call| match (call.entry, by_reference(call)) {
+        (Entry::PickPiece, outcome) if outcome.given.number() == DONE => {
+            let facts = facts_of(&call.store).unwrap();
+            let longer = Facts { length: facts.width(0) * BLOCK, ..facts };
+            let counts: Vec<u32> =
+                call.input.chunks(4).map(|count| u32::from_le_bytes(count.try_into().unwrap())).collect();
+            let to_fetch = (0..facts.pieces())
+                .filter(|piece| counts[*piece as usize] > 0 && !is_on_disk(&call.store, &longer, *piece));
+            let rarest = to_fetch.min_by_key(|piece| counts[*piece as usize]);
+            let choice = rarest.map_or(Choice::none(DONE), |piece| Choice { number: DONE, found: 1, piece });
+            Outcome { given: Given::Choice(choice), ..outcome }
+        }
+        (_, outcome) => outcome,
+    });
+    for number in [4, 9] {
+        assert_needed(Entry::PickPiece, number);
+    }
+}
+
 fn replies_with_wrong_bytes() {
     assert_found_out("a reject with the request's id", &|call| match (call.entry, by_reference(call)) {
         (Entry::Serve, mut outcome) if outcome.given.count() == 49 => {
@@ -692,6 +813,8 @@ host_tests::tests! {
     checks_that_are_left_out,
     marks_that_say_neither_read_as_held,
     marks_of_blocks_that_are_wrong_in_one_way,
+    requests_that_are_wrong_in_one_way,
+    pieces_picked_wrong,
     replies_with_wrong_bytes,
     hashes_that_look_right,
     numbers_of_a_torrent_that_are_left_out,

@@ -1,3 +1,4 @@
+-- Past the file's pieces the bit is 0; else it says whether all blocks that the piece covers are marked.
 use Rattle.store.specs.StoreLaws.{usable-facts}
 use Rattle.marks.specs.MarksLaws.{covered-fits}
 use Rattle.marks.proofs.Answers.{counted, bit-past, bit-by}
@@ -19,20 +20,35 @@ piece-count-requires c κs = search needs
 returns : tie.Need-returns
 returns c = bit-past _ _ (omega (arith, counted _ _ _ _ (c .before .before .before .file-length .ensures) (c .before .before .piece-length-of .ensures) (c .before .piece-count .ensures), c .if1 .taken))
 
+marks-start-requires : tie.Need-marks-start-requires
+marks-start-requires c κs = search needs
+
 first-block-requires : tie.Need-first-block-requires
-first-block-requires c κs = (c .before .before .before .before .before .pre, omega (arith, counted _ _ _ _ (c .before .before .before .file-length .ensures) (c .before .before .piece-length-of .ensures) (c .before .piece-count .ensures), c .if1 .left))
+first-block-requires c κs =
+    let d = c .before .before in
+    (d .before .before .before .before .pre, omega (arith, counted _ _ _ _ (d .before .before .file-length .ensures) (d .before .piece-length-of .ensures) (d .piece-count .ensures), c .before .if1 .left))
 
 blocks-in-requires : tie.Need-blocks-in-requires
 blocks-in-requires c κs = search needs
 
 all-marked-requires : tie.Need-all-marked-requires
-all-marked-requires c κs = (c .before .before .before .before .before .before .before .pre, omega (arith, c .blocks-in .ensures, c .before .first-block .ensures, covered-fits _ (usable-facts _ (c .before .before .before .before .before .before .before .pre)) (c .before .before .before .before .before .before .before .args .piece) (omega (arith, counted _ _ _ _ (c .before .before .before .before .before .file-length .ensures) (c .before .before .before .before .piece-length-of .ensures) (c .before .before .before .piece-count .ensures), c .before .before .if1 .left))))
+all-marked-requires c κs =
+    let d = c .before .before .before .before in
+    let start = d .before .before .before .before in (
+      start .pre,
+      c .before .before .marks-start .ensures,
+      omega (arith, c .blocks-in .ensures, c .before .first-block .ensures, covered-fits _ (usable-facts _ (start .pre)) (start .args .piece) (omega (arith, counted _ _ _ _ (d .before .before .file-length .ensures) (d .before .piece-length-of .ensures) (d .piece-count .ensures), c .before .before .before .if1 .left))),
+    )
 
 returns-2 : tie.Need-returns-2
-returns-2 c = bit-by _ _ _ _ _ _ (omega (arith, counted _ _ _ _ (c .before .before .before .before .before .before .before .file-length .ensures) (c .before .before .before .before .before .before .piece-length-of .ensures) (c .before .before .before .before .before .piece-count .ensures), c .before .before .before .before .if1 .left)) (c .before .before .before .first-block .ensures) (c .before .before .blocks-in .ensures) (c .before .all-marked .ensures) (c .if2 .taken)
+returns-2 c =
+    let d = c .before .before .before .before .before .before in
+    bit-by _ _ _ _ _ _ (omega (arith, counted _ _ _ _ (d .before .before .file-length .ensures) (d .before .piece-length-of .ensures) (d .piece-count .ensures), c .before .before .before .before .before .if1 .left)) (c .before .before .before .first-block .ensures) (c .before .before .blocks-in .ensures) (c .before .all-marked .ensures) (c .if2 .taken)
 
 returns-3 : tie.Need-returns-3
-returns-3 c = bit-by _ _ _ _ _ _ (omega (arith, counted _ _ _ _ (c .before .before .before .before .before .before .before .file-length .ensures) (c .before .before .before .before .before .before .piece-length-of .ensures) (c .before .before .before .before .before .piece-count .ensures), c .before .before .before .before .if1 .left)) (c .before .before .before .first-block .ensures) (c .before .before .blocks-in .ensures) (c .before .all-marked .ensures) (c .if2 .left)
+returns-3 c =
+    let d = c .before .before .before .before .before .before in
+    bit-by _ _ _ _ _ _ (omega (arith, counted _ _ _ _ (d .before .before .file-length .ensures) (d .before .piece-length-of .ensures) (d .piece-count .ensures), c .before .before .before .before .before .if1 .left)) (c .before .before .before .first-block .ensures) (c .before .before .blocks-in .ensures) (c .before .all-marked .ensures) (c .if2 .left)
 
 pub piece-bit-spec : {M : Type 1} → statement M
 piece-bit-spec =
@@ -42,6 +58,7 @@ piece-bit-spec =
     piece-length-of-requires
     piece-count-requires
     returns
+    marks-start-requires
     first-block-requires
     blocks-in-requires
     all-marked-requires

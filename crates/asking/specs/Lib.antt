@@ -1,0 +1,5 @@
+pub mod Asking
+pub mod Picking
+pub mod Asks
+pub mod AskingLaws
+pub mod PickingLaws
