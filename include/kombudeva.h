@@ -46,7 +46,7 @@ extern "C" {
 #endif
 
 /* The version of header and library. Its second figure rises whenever a struct, a function or an answer changes. */
-#define KD_VERSION "0.10.0"
+#define KD_VERSION "0.11.0"
 
 /* ---- The numbers given back, each with what it says. ---- */
 
@@ -68,10 +68,10 @@ extern "C" {
 #define KD_UNUSABLE 9                   /* not a store: it names no facts in range, or has not their room; or a
                                            running state whose counts no bursts give; or a stream's state that no bytes
                                            give, or that has stored more than the room has */
-#define KD_FACTS_OUT_OF_RANGE 10        /* a length or a piece length that no store is opened with; a burst past
-                                           the longest file */
+#define KD_FACTS_OUT_OF_RANGE 10        /* a length or a piece length that no store is opened with, or that saved bytes open
+                                           with; a burst past the longest file */
 #define KD_NO_ROOM 11                   /* the output is shorter than the reply, reject included; or than the bitfield, a
-                                           torrent's list, a torrent or a frame that is written; or a piece's hash doesn't fit the
+                                           torrent's list, a save, a torrent or a frame that is written; or a piece's hash doesn't fit the
                                            lent layer; or a stream's message is larger than the room */
 #define KD_NOT_HELD 12                  /* a requested hash isn't held */
 #define KD_TORRENT_TOO_LARGE 19         /* a torrent above KD_LARGEST_TORRENT */
@@ -90,6 +90,8 @@ extern "C" {
 #define KD_NO_SUCH_FILE 29              /* no file, or no path element, of that number */
 #define KD_FRAME_TOO_LONG 30            /* a stream's prefix above KD_LONGEST_FRAME, from where on the stream is refused; or a
                                            message of more bytes to be framed */
+#define KD_NOT_SAVED 32                 /* saved bytes without a whole opening record, not of the form, or not those of a store
+                                           whose hashes chain to its root */
 
 /* ---- How large things may be. ---- */
 
@@ -105,6 +107,7 @@ extern "C" {
 #define KD_RECORD 280                   /* the bytes of a file's record in kd_torrent_list */
 #define KD_WRITE_RECORD 56              /* the bytes of a file's record in the list that kd_torrent_write takes */
 #define KD_LONGEST_FRAME 300000         /* the bytes of a message in a stream, its id counted, its prefix not */
+#define KD_LARGEST_SAVE 91226121        /* the bytes of the largest save: the longest file, all held, all marked */
 #define KD_LONGEST_HASHED 2305843009213693951 /* the bytes of a string that SHA-256 has a hash for: below 2^64 bits */
 
 /* ---- Answers. ---- */
@@ -217,7 +220,8 @@ kd_answer kd_store_size(uint64_t length, uint64_t piece_length);
 
 /*
  * Makes the memory a store for the file of this length, piece length and pieces root. The root alone is held then, and no
- * block is marked. A store that is opened again forgets everything: that is the one way to lose a held hash.
+ * block is marked. A store that is opened again forgets everything: opening, loading and repairing, each answered KD_DONE, are
+ * the ways to lose a held hash.
  *   KD_FACTS_OUT_OF_RANGE  as above.
  *   KD_UNUSABLE  the memory is shorter than the store.
  *   KD_DONE  `count` is 1. Every byte that the store uses has been set; the bytes behind them stay.
@@ -285,12 +289,12 @@ kd_answer kd_judge_block(uint8_t *store, size_t size, uint64_t block, const uint
  */
 kd_answer kd_judge_piece(uint8_t *store, size_t size, uint64_t piece, const uint8_t *data, size_t data_size);
 
-/* ---- Marks: which blocks were judged right, for a host to know what it has on disk. Judging sets them; only kd_clear and
-   kd_open take them back. ---- */
+/* ---- Marks: which blocks were judged right, for a host to know what it has on disk. Judging sets them, and kd_load those that
+   were saved; only kd_clear, kd_open, kd_load and kd_repair take them back. ---- */
 
 /*
  * Whether a block is marked: in a store that no one else wrote to, its data was judged right since the opening, and the mark
- * not cleared since.
+ * not cleared since; or kd_load set the mark, because the saved bytes named the block.
  *   KD_UNUSABLE
  *   KD_RULE_BROKEN  the file has no such block.
  *   KD_DONE  `count` is 1 if it is marked, else 0.
@@ -346,6 +350,43 @@ typedef struct { uint32_t number; uint32_t found; uint64_t piece; } kd_choice;
  *   KD_DONE  the piece; or nothing to fetch.
  */
 kd_choice kd_pick_piece(const uint8_t *store, size_t size, const uint32_t *counts, size_t count);
+
+/* ---- A store saved and loaded again, after a restart or elsewhere. docs/LAYOUT.md gives the form to the byte. ---- */
+
+/*
+ * Writes what a store holds into `out`: its facts, every held position, every marked block. The same knowledge always has the same bytes.
+ * Twice the store's size is always room enough.
+ *   KD_UNUSABLE  nothing is written.
+ *   KD_NO_ROOM  `out` is shorter than the save; nothing is written.
+ *   KD_DONE  `count` is the save's size. Bytes of `out` behind it stay.
+ */
+kd_answer kd_save(const uint8_t *store, size_t size, uint8_t *out, size_t out_size);
+
+/*
+ * Makes the memory the store that was saved, whatever stood there, as kd_open does: an older save brings back older knowledge. The
+ * bytes may come from anywhere: loaded is only what has the form, holds the root with the opening's value, and in which every
+ * other position has its sibling and its parent, which is the hash of the two, and padding its value. So a hash that was loaded
+ * is worth as much as one that was taken.
+ * A mark can't be checked so: it is believed, and says of the data just what the save says. A host that doubts its file repairs.
+ *   KD_NOT_SAVED  no whole opening record.
+ *   KD_FACTS_OUT_OF_RANGE  its facts.
+ *   KD_UNUSABLE  the memory is shorter than their store.
+ *   KD_NOT_SAVED  for the rest; any part that a save was cut to is refused so.
+ *   KD_DONE  `count` is the positions held. Every byte that the store uses has been set; the bytes behind them stay.
+ */
+kd_answer kd_load(uint8_t *store, size_t size, const uint8_t *saved, size_t saved_size);
+
+/* A number, and beside KD_DONE how many positions were dropped and how many are held. */
+typedef struct { uint32_t number; uint64_t dropped; uint64_t held; } kd_repaired;
+
+/*
+ * Loads the largest part of the positions that kd_load would load, and clears all marks. It helps against damaged hashes; it asks for
+ * the whole form, so not against a save that was cut short, nor against a damaged kind, layer, index, mark or end.
+ *   KD_NOT_SAVED, KD_FACTS_OUT_OF_RANGE, KD_UNUSABLE  as kd_load.
+ *   KD_NOT_SAVED  not the form, or the root is not held with the opening's value.
+ *   KD_DONE  how many positions were dropped and how many are held.
+ */
+kd_repaired kd_repair(uint8_t *store, size_t size, const uint8_t *saved, size_t saved_size);
 
 /* ---- Reading a v2 torrent: the bytes of a .torrent file, at most KD_LARGEST_TORRENT. ---- */
 

@@ -93,6 +93,18 @@ static void next_request(void) { number = kd_next_request(store, size, 0).number
 static void pick_piece(void) { number = kd_pick_piece(store, size, counts, sizeof counts / sizeof counts[0]).number; }
 static void load_layer(void) { number = kd_load_layer(store, size, layer[0].bytes, sizeof layer).number; }
 
+/* The save of a store that holds the whole tree. */
+static uint8_t *saved;
+static size_t saved_size;
+static void save(void)
+{
+    kd_answer answer = kd_save(store, size, saved, KD_LARGEST_SAVE);
+    saved_size = answer.count;
+    number = answer.number;
+}
+static void load(void) { number = kd_load(store, size, saved, saved_size).number; }
+static void repair(void) { number = kd_repair(store, size, saved, saved_size).number; }
+
 static void show(const char *name, void (*function)(void));
 
 /* A torrent of the same file, its path as deep as it may be, with the longest layer that 1 MiB has room for. */
@@ -256,6 +268,7 @@ static void make_inputs(void)
         memcpy(reply + HEAD + 32 * (RUN + i), at_layer[RUN_LAYERS + i].bytes, 32);
     size = kd_store_size(LENGTH, BLOCK).count;
     store = malloc(size);
+    saved = malloc(KD_LARGEST_SAVE);
 }
 
 /* Makes the nodes of the largest pieces, layer 10, held: the piece is then judged to its end. */
@@ -330,6 +343,9 @@ int main(void)
     show("kd_pick_piece", pick_piece);
     open_for_layer();
     show("kd_load_layer", load_layer);
+    show("kd_save", save);
+    show("kd_load", load);
+    show("kd_repair", repair);
     make_torrent();
     show_torrent("of one file with a long layer");
     make_torrent_of_many();
@@ -341,5 +357,6 @@ int main(void)
     printf("of 47,000 empty files:\n");
     show("kd_torrent_write", torrent_write);
     free(store);
+    free(saved);
     return 0;
 }

@@ -46,6 +46,11 @@ _Static_assert(offsetof(kd_choice, number) == 0, "kd_choice.number");
 _Static_assert(offsetof(kd_choice, found) == 4, "kd_choice.found");
 _Static_assert(offsetof(kd_choice, piece) == 8, "kd_choice.piece");
 
+_Static_assert(sizeof(kd_repaired) == 24, "kd_repaired");
+_Static_assert(offsetof(kd_repaired, number) == 0, "kd_repaired.number");
+_Static_assert(offsetof(kd_repaired, dropped) == 8, "kd_repaired.dropped");
+_Static_assert(offsetof(kd_repaired, held) == 16, "kd_repaired.held");
+
 _Static_assert(sizeof(kd_hashing) == 112, "kd_hashing");
 _Static_assert(offsetof(kd_hashing, words) == 0, "kd_hashing.words");
 _Static_assert(offsetof(kd_hashing, tail) == 32, "kd_hashing.tail");
@@ -462,6 +467,54 @@ static void asking(void)
             kd_pick_piece(guarded(store, STORE), STORE, (const uint32_t *)(const void *)guarded(counts, 8), 2), KD_DONE, 1, 0);
 }
 
+static void repairs(const char *what, kd_repaired answer, uint32_t number, uint64_t dropped, uint64_t held)
+{
+    int holds = answer.number == number && answer.dropped == dropped && answer.held == held;
+    check(what, holds);
+    if (!holds)
+        printf("  %u %llu %llu\n", answer.number, (unsigned long long)answer.dropped, (unsigned long long)answer.held);
+}
+
+/* The store with all positions held but those below one, and four marks, saved and loaded into another memory. */
+static void saves(void)
+{
+    uint8_t save[2 * STORE], again[STORE + 1], other[STORE];
+    uint64_t held = 0;
+    for (uint64_t layer = 0; layer <= HEIGHT; layer++)
+        for (uint64_t index = 0; index < 8u >> layer; index++)
+            held += kd_held(store, STORE, layer, index).number == KD_DONE;
+    size_t size = (size_t)(50 + 41 * held + 5 * 4);
+    memset(save, 0x55, sizeof save);
+    answers("kd_save on NULL", kd_save(NULL, 0, NULL, 0), KD_UNUSABLE, 0);
+    answers("kd_save into NULL", kd_save(store, STORE, NULL, 0), KD_NO_ROOM, 0);
+    answers("kd_save without room", kd_save(store, STORE, save, size - 1), KD_NO_ROOM, 0);
+    check("nothing saved without room", save[0] == 0x55 && save[size - 2] == 0x55);
+    answers("kd_save", kd_save(store, STORE, save, sizeof save), KD_DONE, size);
+    check("the kinds, the count of marks, the byte behind",
+            save[0] == 1 && save[45] == 2 && save[size - 10] == 3 && save[size - 5] == 4 && save[size - 1] == 4 && save[size] == 0x55);
+    memset(again, 0xaa, sizeof again);
+    answers("kd_load of NULL", kd_load(again, sizeof again, NULL, 0), KD_NOT_SAVED, 0);
+    answers("kd_load into NULL", kd_load(NULL, 0, save, size), KD_UNUSABLE, 0);
+    answers("a save cut short", kd_load(again, sizeof again, save, size - 1), KD_NOT_SAVED, 0);
+    answers("guarded kd_load", kd_load(guarded(again, STORE), STORE, guarded(save, size), size), KD_DONE, held);
+    answers("kd_load", kd_load(again, sizeof again, save, size), KD_DONE, held);
+    check("a load gives the store back, and leaves the byte behind", memcmp(again, store, STORE) == 0 && again[STORE] == 0xaa);
+    answers("saved again", kd_save(again, STORE, guarded(save, size), size), KD_DONE, size);
+    memset(other, 0xaa, sizeof other);
+    repairs("kd_repair of NULL", kd_repair(other, STORE, NULL, 0), KD_NOT_SAVED, 0, 0);
+    repairs("kd_repair into NULL", kd_repair(NULL, 0, save, size), KD_UNUSABLE, 0, 0);
+    save[45 + 9] ^= 1; /* the first position's hash */
+    answers("a hash that does not chain", kd_load(other, STORE, save, size), KD_NOT_SAVED, 0);
+    check("a refused load changes nothing", other[0] == 0xaa && other[STORE - 1] == 0xaa);
+    repairs("kd_repair", kd_repair(other, STORE, save, size), KD_DONE, 2, held - 2);
+    check("a repair clears all marks", kd_marked(other, STORE, 0).count == 0 && kd_marked(store, STORE, 0).count == 1);
+    save[1] = 0x80;
+    answers("facts out of range", kd_load(other, STORE, save, size), KD_FACTS_OUT_OF_RANGE, 0);
+    save[0] = 2;
+    repairs("no opening", kd_repair(other, STORE, save, size), KD_NOT_SAVED, 0, 0);
+    answers("a store is no save", kd_load(other, STORE, store, STORE), KD_NOT_SAVED, 0);
+}
+
 /* The session once more in memories with such an end. */
 static void ends_of_memories(void)
 {
@@ -763,6 +816,7 @@ int main(void)
     pieces();
     marks();
     asking();
+    saves();
     ends_of_memories();
     torrents();
     writing();

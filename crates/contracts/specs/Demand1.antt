@@ -29,11 +29,12 @@ use Rattle.calls.specs.CallsLaws.{read-outcome, file-outcome, path-outcome, lis
 use Rattle.published.specs.Published.{WriteNumber, is-4, is-11, is-19, is-21, is-24-to-28, WriteOutcome, put, left as nothingPut}
 use Rattle.published.specs.Promised.{write-outcome, write-refused}
 use Rattle.words.specs.Messages.{Form, Rejected}
-use Rattle.words.specs.History.{Bytes, Send, serve, bitfield, ask, send, Call, take, loadLayer, judgeBlock, judgePiece, clear, reopen, look, replyNumber, sendReply, number as storeNumber, sentTo}
+use Rattle.words.specs.History.{Bytes, Send, serve, bitfield, save, ask, send, Call, take, loadLayer, judgeBlock, judgePiece, clear, reopen, load, repair, look, replyNumber, sendReply, number as storeNumber, sentTo}
 use Rattle.words.specs.Answers.{ServeOutcome, replied, rejected, untouched}
 use Rattle.promises.specs.Demand1.{calls-in-table, sha256-in-table, size-in-table, refusal-leaves-store, request-answered, beside-refusal, beside-sha256, beside-size}
 use Rattle.promises.specs.EachNumber.{serve-2, serve-3, serve-12}
 use Rattle.promises.specs.Marks.{field-refused}
+use Rattle.promises.specs.Saved.{save-refused}
 use Rattle.promises.specs.Running as Running
 use Rattle.contracts.specs.Entries.{AnyCall, onStore, sha256, storeSize, hashingBegin, hashingMore, hashingEnd, historyBegin, historyMore, historyEnd, streamBegin, streamHear, frame, torrentRead, torrentFile, torrentPath, torrentList, torrentWrite, FromTable, Refused, Silent, said, output, outputAfter, lent, left, RejectSent, request, ValuesZero}
 
@@ -107,6 +108,7 @@ sent-leaves : (k : Send) (s out : List ℕ) (y : Bytes out) → (replyNumber (se
     → sentTo k s out ≡ out
 sent-leaves (serve m x) s out y ne nr = serve-leaves s m out x y ne nr
 sent-leaves bitfield s out y ne nr = field-refused s out ne
+sent-leaves save s out y ne nr = save-refused s out ne
 
 output-stays : (c : Call) (s : List ℕ) → (storeNumber c s ≡ 0 → ⊥) → (RejectSent (onStore c s) → ⊥) → outputAfter c s ≡ output c
 output-stays (take m b) s ne nr = refl
@@ -115,6 +117,8 @@ output-stays (judgeBlock i d b) s ne nr = refl
 output-stays (judgePiece i d b) s ne nr = refl
 output-stays (clear i) s ne nr = refl
 output-stays (reopen n plen root o) s ne nr = refl
+output-stays (load b x) s ne nr = refl
+output-stays (repair b x) s ne nr = refl
 output-stays (look (ask k)) s ne nr = refl
 output-stays (look (send k out b)) s ne nr = ap (λ (o : List ℕ). o ∷ []) (sent-leaves k s out b ne nr)
 

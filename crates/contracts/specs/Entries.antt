@@ -21,13 +21,13 @@ use Rattle.torrent.specs.Torrent.{readOf, fileRead, pathRead, noTorrent, noFile
 use Rattle.catalogue.specs.Catalogue.{listAnswer, listAfter}
 use Rattle.writing.specs.Write.{writeAnswer, writeAfter}
 use Rattle.words.specs.Messages.{Rejected}
-use Rattle.words.specs.History.{Bytes, serve, ask, send, Call, take, loadLayer, judgeBlock, judgePiece, clear, reopen, look, answer, number as storeNumber, after, sentTo}
+use Rattle.words.specs.History.{Bytes, serve, ask, send, Call, take, loadLayer, judgeBlock, judgePiece, clear, reopen, load, repair, look, answer, number as storeNumber, after, sentTo}
 use Rattle.words.specs.Answers.{Beside}
 
 -- a call of any entry point
 pub data AnyCall : Type 0 where
-  -- kd_open, kd_held, kd_take, kd_take_reject, kd_serve, kd_load_layer, kd_judge_block, kd_judge_piece, kd_clear, kd_marked, kd_bitfield, kd_next_request, kd_pick_piece, and
-  -- the bytes lent as their store
+  -- kd_open, kd_held, kd_take, kd_take_reject, kd_serve, kd_load_layer, kd_judge_block, kd_judge_piece, kd_clear, kd_marked, kd_bitfield,
+  -- kd_next_request, kd_pick_piece, kd_save, kd_load, kd_repair, and the bytes lent as their store
   onStore : (c : Call) (s : List ℕ) → AnyCall
   -- kd_sha256, kd_store_size
   sha256 : (m : List ℕ) → AnyCall
@@ -98,6 +98,8 @@ output (judgeBlock i d b) = []
 output (judgePiece i d b) = []
 output (clear i) = []
 output (reopen n plen root o) = []
+output (load b x) = []
+output (repair b x) = []
 output (look (ask k)) = []
 output (look (send k out b)) = out ∷ []
 
@@ -108,6 +110,8 @@ outputAfter (judgeBlock i d b) s = []
 outputAfter (judgePiece i d b) s = []
 outputAfter (clear i) s = []
 outputAfter (reopen n plen root o) s = []
+outputAfter (load b x) s = []
+outputAfter (repair b x) s = []
 outputAfter (look (ask k)) s = []
 outputAfter (look (send k out b)) s = sentTo k s out ∷ []
 

@@ -33,6 +33,9 @@ use Rattle.kombudeva.proofs.kd_bitfield as field
 use Rattle.kombudeva.proofs.kd_stream_begin as stream-begin
 use Rattle.kombudeva.proofs.kd_stream_hear as stream-hear
 use Rattle.kombudeva.proofs.kd_frame as framing
+use Rattle.kombudeva.proofs.kd_save as saving
+use Rattle.kombudeva.proofs.kd_load as saved-loading
+use Rattle.kombudeva.proofs.kd_repair as repairing
 use Rattle.kombudeva.proofs.kd_torrent_read as torrent
 use Rattle.kombudeva.proofs.kd_torrent_file as file
 use Rattle.kombudeva.proofs.kd_torrent_path as path
@@ -144,6 +147,16 @@ stream-hear-asks-nothing κs a = tt
 -- kd_frame
 pub framing-asks-nothing : AsksNothing 2 framing.Kinds.ps framing.Reads.Asked
 framing-asks-nothing κs a = tt
+
+-- kd_save, kd_load, kd_repair
+pub saving-asks-nothing : AsksNothing 2 saving.Kinds.ps saving.Reads.Asked
+saving-asks-nothing κs a = tt
+
+pub saved-loading-asks-nothing : AsksNothing 2 saved-loading.Kinds.ps saved-loading.Reads.Asked
+saved-loading-asks-nothing κs a = tt
+
+pub repairing-asks-nothing : AsksNothing 2 repairing.Kinds.ps repairing.Reads.Asked
+repairing-asks-nothing κs a = tt
 
 -- kd_torrent_read
 pub torrent-asks-nothing : AsksNothing 1 torrent.Kinds.ps torrent.Reads.Asked
@@ -274,6 +287,20 @@ one-stream-hear κs a x y t u p q = (p .0 ∙ sym (q .0), p .1 ∙ sym (q .1))
 pub one-framing : (κs : Lfts 2) (a : Dens κs framing.Kinds.ps) (x y : resT framing.Kinds.r κs .Denot) (t u : AtExit (endedOf 2 framing.Kinds.ps framing.Kinds.r) κs)
     → framing.Reads.Learnt κs a x t → framing.Reads.Learnt κs a y u → (x ≡ y) × (now (t .1 .0) ≡ now (u .1 .0))
 one-framing κs a x y t u p q = (p .0 ∙ sym (q .0), p .1 ∙ sym (q .1))
+
+-- kd_save: the answer, and the output's bytes
+pub one-saving : (κs : Lfts 2) (a : Dens κs saving.Kinds.ps) (x y : resT saving.Kinds.r κs .Denot) (t u : AtExit (endedOf 2 saving.Kinds.ps saving.Kinds.r) κs)
+    → saving.Reads.Learnt κs a x t → saving.Reads.Learnt κs a y u → (x ≡ y) × (now (t .1 .0) ≡ now (u .1 .0))
+one-saving κs a x y t u p q = (p .0 ∙ sym (q .0), p .1 ∙ sym (q .1))
+
+-- kd_load, kd_repair: the answer, and the store's bytes
+pub one-saved-loading : (κs : Lfts 2) (a : Dens κs saved-loading.Kinds.ps) (x y : resT saved-loading.Kinds.r κs .Denot) (t u : AtExit (endedOf 2 saved-loading.Kinds.ps saved-loading.Kinds.r) κs)
+    → saved-loading.Reads.Learnt κs a x t → saved-loading.Reads.Learnt κs a y u → (x ≡ y) × (now (t .0) ≡ now (u .0))
+one-saved-loading κs a x y t u p q = (p .0 ∙ sym (q .0), p .1 ∙ sym (q .1))
+
+pub one-repairing : (κs : Lfts 2) (a : Dens κs repairing.Kinds.ps) (x y : resT repairing.Kinds.r κs .Denot) (t u : AtExit (endedOf 2 repairing.Kinds.ps repairing.Kinds.r) κs)
+    → repairing.Reads.Learnt κs a x t → repairing.Reads.Learnt κs a y u → (x ≡ y) × (now (t .0) ≡ now (u .0))
+one-repairing κs a x y t u p q = (p .0 ∙ sym (q .0), p .1 ∙ sym (q .1))
 
 -- kd_torrent_read
 pub one-torrent : OneAnswer 1 torrent.Kinds.ps torrent.Kinds.r torrent.Reads.Learnt

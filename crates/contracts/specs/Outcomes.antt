@@ -15,13 +15,14 @@ use Rattle.asking.specs.declared.pick.Choice.{Choice}
 use Rattle.running.specs.declared.HashingAnswer.{HashingAnswer}
 use Rattle.history.specs.declared.HistoryAnswer.{HistoryAnswer}
 use Rattle.history.specs.declared.HistoryEnd.{HistoryEnd}
+use Rattle.saved.specs.declared.repair.Repaired.{Repaired}
 use Rattle.kombudeva.specs.declared.CountAnswer.{CountAnswer}
 use Rattle.kombudeva.specs.declared.HashAnswer.{HashAnswer}
 use Rattle.kombudeva.specs.declared.TorrentAnswer.{TorrentAnswer}
 use Rattle.kombudeva.specs.declared.FileAnswer.{FileAnswer}
 use Rattle.kombudeva.specs.declared.PartAnswer.{PartAnswer}
 use Rattle.kombudeva.specs.Boundary.{countAnswer, hashAnswer, torrentAnswer, fileAnswer, partAnswer}
-use Rattle.words.specs.History.{Bytes, held, takeReject, isMarked, nextRequest, pickPiece, serve, bitfield, ask, send, take, loadLayer, judgeBlock, judgePiece, clear, reopen, look}
+use Rattle.words.specs.History.{Bytes, held, takeReject, isMarked, nextRequest, pickPiece, serve, bitfield, ask, send, take, loadLayer, judgeBlock, judgePiece, clear, reopen, look, save, load, repair}
 use Rattle.contracts.specs.Entries.{AnyCall, onStore, sha256, storeSize, hashingBegin, hashingMore, hashingEnd, historyBegin, historyMore, historyEnd, streamBegin, streamHear, frame, torrentRead, torrentFile, torrentPath, torrentList, torrentWrite, Said, number, none, FromTable, Refused, said, lent, left, RejectSent}
 use Rattle.contracts.specs.Demand1.{every-number-in-table, every-refusal-leaves}
 use Rattle.kombudeva.proofs.kd_sha256 as hash
@@ -48,6 +49,9 @@ use Rattle.kombudeva.proofs.kd_bitfield as field
 use Rattle.kombudeva.proofs.kd_stream_begin as stream-begin
 use Rattle.kombudeva.proofs.kd_stream_hear as stream-hear
 use Rattle.kombudeva.proofs.kd_frame as framing
+use Rattle.kombudeva.proofs.kd_save as saving
+use Rattle.kombudeva.proofs.kd_load as saved-loading
+use Rattle.kombudeva.proofs.kd_repair as repairing
 use Rattle.kombudeva.proofs.kd_torrent_read as torrent
 use Rattle.kombudeva.proofs.kd_torrent_file as file
 use Rattle.kombudeva.proofs.kd_torrent_path as path
@@ -130,6 +134,15 @@ pub data Outcome : AnyCall → Said → List (List ℕ) → List (List ℕ) → 
   -- kd_frame
   by-framing : (κs : Lfts 2) (a : Dens κs framing.Kinds.ps) (r : resT framing.Kinds.r κs .Denot) (e : AtExit (endedOf 2 framing.Kinds.ps framing.Kinds.r) κs) → framing.Reads.Learnt κs a r e
       → Outcome (frame (now (a .0)) (now (a .1 .0))) (number (r .number)) (now (a .1 .0) ∷ []) (now (e .1 .0) ∷ [])
+  -- kd_save
+  by-saving : (κs : Lfts 2) (a : Dens κs saving.Kinds.ps) (r : resT saving.Kinds.r κs .Denot) (e : AtExit (endedOf 2 saving.Kinds.ps saving.Kinds.r) κs) → saving.Reads.Learnt κs a r e
+      → (x : Bytes (now (a .1 .0))) → Outcome (onStore (look (send save (now (a .1 .0)) x)) (now (a .0))) (number (r .number)) (now (a .0) ∷ now (a .1 .0) ∷ []) (now (a .0) ∷ now (e .1 .0) ∷ [])
+  -- kd_load
+  by-saved-loading : (κs : Lfts 2) (a : Dens κs saved-loading.Kinds.ps) (r : resT saved-loading.Kinds.r κs .Denot) (e : AtExit (endedOf 2 saved-loading.Kinds.ps saved-loading.Kinds.r) κs) → saved-loading.Reads.Learnt κs a r e
+      → (x : Bytes (now (a .1 .0))) → Outcome (onStore (load (now (a .1 .0)) x) (now (a .0))) (number (r .number)) (now (a .0) ∷ []) (now (e .0) ∷ [])
+  -- kd_repair
+  by-repairing : (κs : Lfts 2) (a : Dens κs repairing.Kinds.ps) (r : resT repairing.Kinds.r κs .Denot) (e : AtExit (endedOf 2 repairing.Kinds.ps repairing.Kinds.r) κs) → repairing.Reads.Learnt κs a r e
+      → (x : Bytes (now (a .1 .0))) → Outcome (onStore (repair (now (a .1 .0)) x) (now (a .0))) (number (r .number)) (now (a .0) ∷ []) (now (e .0) ∷ [])
   -- kd_torrent_read
   by-torrent : (κs : Lfts 1) (a : Dens κs torrent.Kinds.ps) (r : resT torrent.Kinds.r κs .Denot) (e : AtExit (endedOf 1 torrent.Kinds.ps torrent.Kinds.r) κs) → torrent.Reads.Learnt κs a r e
       → Outcome (torrentRead (now (a .0))) (number (r .number)) [] []
@@ -173,6 +186,9 @@ outcome-is (by-field κs a r e p x) = (ap (λ (s : CountAnswer). number (s .numb
 outcome-is (by-stream-begin κs a r e p) = (refl, refl, refl)
 outcome-is (by-stream-hear κs a r e p x) = (ap (λ (s : Heard). number (s .number)) (p .0), refl, ap (λ (o : List ℕ). o ∷ []) (p .1))
 outcome-is (by-framing κs a r e p) = (ap (λ (s : CountAnswer). number (s .number)) (p .0), refl, ap (λ (o : List ℕ). o ∷ []) (p .1))
+outcome-is (by-saving κs a r e p x) = (ap (λ (s : CountAnswer). number (s .number)) (p .0), refl, ap (λ (o : List ℕ). now (a .0) ∷ o ∷ []) (p .1))
+outcome-is (by-saved-loading κs a r e p x) = (ap (λ (s : CountAnswer). number (s .number)) (p .0), refl, ap (λ (o : List ℕ). o ∷ []) (p .1))
+outcome-is (by-repairing κs a r e p x) = (ap (λ (s : Repaired). number (s .number)) (p .0), refl, ap (λ (o : List ℕ). o ∷ []) (p .1))
 outcome-is (by-torrent κs a r e p) = (ap (λ (s : TorrentAnswer). number (s .number)) p, refl, refl)
 outcome-is (by-file κs a r e p) = (ap (λ (s : FileAnswer). number (s .number)) p, refl, refl)
 outcome-is (by-path κs a r e p) = (ap (λ (s : PartAnswer). number (s .number)) p, refl, refl)

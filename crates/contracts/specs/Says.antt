@@ -19,6 +19,8 @@ use Rattle.asking.specs.Asking.{nextAnswer}
 use Rattle.asking.specs.Picking.{pickAnswer}
 use Rattle.marks.specs.Marks.{clearAnswer, clearAfter, markedAnswer, fieldAnswer, fieldAfter}
 use Rattle.pieces.specs.Pieces.{layerAnswer, layerAfter, blockAnswer, blockAfter, pieceAnswer, pieceAfter}
+use Rattle.saved.specs.Save.{saveAnswer, saveAfter}
+use Rattle.saved.specs.Saved.{loadAnswer, loadAfter, repairAnswer, repairAfter}
 use Rattle.torrent.specs.Torrent.{readOf, fileRead, pathRead}
 use Rattle.catalogue.specs.Catalogue.{listAnswer, listAfter}
 use Rattle.writing.specs.Write.{writeAnswer, writeAfter}
@@ -47,6 +49,9 @@ use Rattle.kombudeva.proofs.kd_bitfield as field
 use Rattle.kombudeva.proofs.kd_stream_begin as stream-begin
 use Rattle.kombudeva.proofs.kd_stream_hear as stream-hear
 use Rattle.kombudeva.proofs.kd_frame as framing
+use Rattle.kombudeva.proofs.kd_save as saving
+use Rattle.kombudeva.proofs.kd_load as saved-loading
+use Rattle.kombudeva.proofs.kd_repair as repairing
 use Rattle.kombudeva.proofs.kd_torrent_read as torrent
 use Rattle.kombudeva.proofs.kd_torrent_file as file
 use Rattle.kombudeva.proofs.kd_torrent_path as path
@@ -172,6 +177,21 @@ stream-hear-says κs a r e p = p
 pub framing-says : (κs : Lfts 2) (a : Dens κs framing.Kinds.ps) (r : resT framing.Kinds.r κs .Denot) (e : AtExit (endedOf 2 framing.Kinds.ps framing.Kinds.r) κs) → framing.Reads.Learnt κs a r e
     → (r ≡ countAnswer (frameAnswer (now (a .0)) (now (a .1 .0)))) × (now (e .1 .0) ≡ frameAfter (now (a .0)) (now (a .1 .0)))
 framing-says κs a r e p = p
+
+-- kd_save
+pub saving-says : (κs : Lfts 2) (a : Dens κs saving.Kinds.ps) (r : resT saving.Kinds.r κs .Denot) (e : AtExit (endedOf 2 saving.Kinds.ps saving.Kinds.r) κs) → saving.Reads.Learnt κs a r e
+    → (r ≡ countAnswer (saveAnswer (now (a .0)) (now (a .1 .0)))) × (now (e .1 .0) ≡ saveAfter (now (a .0)) (now (a .1 .0)))
+saving-says κs a r e p = p
+
+-- kd_load
+pub saved-loading-says : (κs : Lfts 2) (a : Dens κs saved-loading.Kinds.ps) (r : resT saved-loading.Kinds.r κs .Denot) (e : AtExit (endedOf 2 saved-loading.Kinds.ps saved-loading.Kinds.r) κs) → saved-loading.Reads.Learnt κs a r e
+    → (r ≡ countAnswer (loadAnswer (now (a .0)) (now (a .1 .0)))) × (now (e .0) ≡ loadAfter (now (a .0)) (now (a .1 .0)))
+saved-loading-says κs a r e p = p
+
+-- kd_repair
+pub repairing-says : (κs : Lfts 2) (a : Dens κs repairing.Kinds.ps) (r : resT repairing.Kinds.r κs .Denot) (e : AtExit (endedOf 2 repairing.Kinds.ps repairing.Kinds.r) κs) → repairing.Reads.Learnt κs a r e
+    → (r ≡ repairAnswer (now (a .0)) (now (a .1 .0))) × (now (e .0) ≡ repairAfter (now (a .0)) (now (a .1 .0)))
+repairing-says κs a r e p = p
 
 -- kd_torrent_read
 pub torrent-says : (κs : Lfts 1) (a : Dens κs torrent.Kinds.ps) (r : resT torrent.Kinds.r κs .Denot) (e : AtExit (endedOf 1 torrent.Kinds.ps torrent.Kinds.r) κs) → torrent.Reads.Learnt κs a r e

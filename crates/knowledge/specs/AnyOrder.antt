@@ -22,10 +22,10 @@ use Rattle.messages.specs.TakeLaws.{passed}
 use Rattle.messages.specs.TakenLaws.{take-refused}
 use Rattle.marks.specs.Marks.{marksPut}
 use Rattle.words.specs.Held.{Holds}
-use Rattle.words.specs.History.{Bytes, Steps, begin, next, Each, nothing, called, between, OurStore, ours}
+use Rattle.words.specs.History.{Bytes, Steps, begin, next, Each, nothing, called, between, Begins, byOpening, OurStore, ours}
 use Rattle.words.specs.Messages.{anchorLayer, anchorIndex, Settles, WellFormed, Acceptable}
 use Rattle.words.specs.Shown.{heldBy, byMessage, Gives, Shown}
-use Rattle.words.specs.Hearing.{MessageSet, Heard, Offered, last, before, Round, NothingNew, Gateway}
+use Rattle.words.specs.Hearing.{MessageSet, Heard, Offered, last, before, Round, NothingNew, Gateway, GatewayFrom}
 use Rattle.knowledge.specs.Through.{PreservedBy, each-through}
 use Rattle.knowledge.specs.TakenWhen.{Formed, taken-well-formed, taken-then-right, right-then-taken}
 use Rattle.knowledge.specs.Chains.{chain-is-worked}
@@ -33,8 +33,8 @@ use Rattle.knowledge.specs.MarksApart.{marks-held}
 use Rattle.knowledge.specs.Grows.{Grown, grown-same, grown-on, grown-take, grown-marks, grown-moved, steps-grow}
 use Rattle.knowledge.specs.Again.{what-is-held, grown-holds, knowledge-only-grows, number-stays}
 use Rattle.knowledge.specs.Invariant.{ours-opened}
-use Rattle.knowledge.specs.OwnBytes.{ours-have, ours-bytes}
-use Rattle.knowledge.specs.FourClauses.{ours-meet}
+use Rattle.knowledge.specs.OwnBytes.{begins-ours, ours-have, ours-bytes}
+use Rattle.knowledge.specs.OursMeet.{ours-meet}
 use Rattle.knowledge.specs.Conflict.{message-or-shown}
 use Rattle.knowledge.specs.Shown.{shown, shown-too, shown-turned, reads-message}
 use Rattle.knowledge.specs.ConflictShows.{ours-reads}
@@ -226,8 +226,40 @@ module _ (M : MessageSet) {t : List ℕ} (o : OurStore t) (still : Still M t) wh
 
 -- ---- two gateways
 
+-- from stores of ours with one length and root, of which the other holds all that the one holds
+one-way-from : {M : MessageSet} {s t u v : List ℕ} → Begins s → Begins t → fileLength t ≡ fileLength s → factsRoot t ≡ factsRoot s → Within s t
+    → GatewayFrom M s u → GatewayFrom M t v → Shown (heightOf v) (heldBy v) (heldBy u) ⊎ Within u v
+one-way-from {M} {s} {t} {u} {v} a b files roots w g k =
+    let whole : Steps t v = steps-then (k .history) (k .round .history) in
+    let same = steps-grow (begins-ours b .chained .facts) whole .same in
+    learnt-within M (ours b whole) (still-then (k .round) (k .quiet)) s (begins-ours a .chained .facts) (same .file ∙ files) (same .root ∙ roots)
+    (λ l i x h. knowledge-only-grows whole l i x (w l i x h))
+    (each-then (g .only) (g .round .only))
+
+-- SAME MESSAGES, ANY ORDER: two gateways that began with stores of ours of one length and root, which held the same (piece lengths may differ), and
+-- heard the same messages hold the same positions with the same bytes, or the two stores show two different 64-byte strings with one SHA-256
+pub same-held-from : {M : MessageSet} {s t u v : List ℕ} → Begins s → Begins t → fileLength t ≡ fileLength s → factsRoot t ≡ factsRoot s
+    → ((l i : ℕ) (x : List ℕ) → Holds s l i x ↔ Holds t l i x) → GatewayFrom M s u → GatewayFrom M t v
+    → Shown (heightOf u) (heldBy u) (heldBy v) ⊎ ((l i : ℕ) (x : List ℕ) → Holds u l i x ↔ Holds v l i x)
+same-held-from {M} {s} {t} {u} {v} a b files roots same g k =
+    elim (one-way-from a b files roots (λ l i x. same l i x .0) g k) [
+      | inl x ↦ inl (subst (λ (h : ℕ). Shown h (heldBy u) (heldBy v)) high (shown-turned x))
+      | inr p ↦ elim (one-way-from b a (sym files) (sym roots) (λ l i x. same l i x .1) k g) [ inl x ↦ inl x | inr q ↦ inr (λ l i x. (p l i x, q l i x)) ]
+    ]
+  where
+    left : fileLength u ≡ fileLength s
+    left = steps-grow (begins-ours a .chained .facts) (steps-then (g .history) (g .round .history)) .same .file
+
+    right : fileLength v ≡ fileLength t
+    right = steps-grow (begins-ours b .chained .facts) (steps-then (k .history) (k .round .history)) .same .file
+
+    high : heightOf v ≡ heightOf u
+    high = unfold heightOf blocksOf in ap (λ (y : ℕ). height (blockCount y)) (right ∙ files ∙ sym left)
+
+-- ---- from openings
+
 -- an opened store names what it was opened with
-opened-names : (b : List ℕ) (n plen : ℕ) (root : List ℕ) → length root ≡ 32 → openAnswer b n plen .number ≡ 0
+pub opened-names : (b : List ℕ) (n plen : ℕ) (root : List ℕ) → length root ≡ 32 → openAnswer b n plen .number ≡ 0
     → (fileLength (openAfter b n plen root) ≡ n) × (factsRoot (openAfter b n plen root) ≡ root)
 opened-names b n plen root size z =
     let r = opening-0 b n plen .0 z in
@@ -236,7 +268,7 @@ opened-names b n plen root size z =
     (ap fileLength (sym e) ∙ opened-file b n plen root ok (r .1) size, ap factsRoot (sym e) ∙ opened-facts-root b n plen root ok (r .1) size)
 
 -- it is within every store of ours of that length and root
-opened-within : (b : List ℕ) (n plen : ℕ) (root t : List ℕ) → length root ≡ 32 → openAnswer b n plen .number ≡ 0 → OurStore t → fileLength t ≡ n → factsRoot t ≡ root
+pub opened-within : (b : List ℕ) (n plen : ℕ) (root t : List ℕ) → length root ≡ 32 → openAnswer b n plen .number ≡ 0 → OurStore t → fileLength t ≡ n → factsRoot t ≡ root
     → Within (openAfter b n plen root) t
 unfolding heightOf blocksOf
 opened-within b n plen root t size z o file top l i v h =
@@ -249,12 +281,15 @@ module _ {M : MessageSet} {n plen : ℕ} {root s : List ℕ} (g : Gateway M n pl
   whole : Steps (openAfter (g .buffer) n plen root) s
   whole = steps-then (g .history) (g .round .history)
 
+  begins : Begins (openAfter (g .buffer) n plen root)
+  begins = byOpening (g .buffer) n plen root (g .bytes) (g .octets) (g .opens)
+
   start : Facts (openAfter (g .buffer) n plen root)
   start = ours-opened (g .buffer) n plen root (g .octets .size) (g .opens) .chained .facts
 
   -- a gateway's store is one that only this build has written,
   pub gateway-ours : OurStore s
-  gateway-ours = ours (g .buffer) n plen root (g .bytes) (g .octets) (g .opens) whole
+  gateway-ours = ours begins whole
 
   -- of that length and root
   pub gateway-names : (fileLength s ≡ n) × (factsRoot s ≡ root)
@@ -263,25 +298,18 @@ module _ {M : MessageSet} {n plen : ℕ} {root s : List ℕ} (g : Gateway M n pl
       let k = steps-grow start whole .same in
       (k .file ∙ e .0, k .root ∙ e .1)
 
--- what one gateway holds the other holds, or the two show a pair
-one-way : {M : MessageSet} {n plen plen′ : ℕ} {root s t : List ℕ} → Gateway M n plen root s → Gateway M n plen′ root t
-    → Shown (heightOf t) (heldBy t) (heldBy s) ⊎ Within s t
-one-way {M} {n} {plen} {plen′} {root} {s} {t} g k =
-    let e = opened-names (g .buffer) n plen root (g .octets .size) (g .opens) in
-    let N = gateway-names k in
-    learnt-within M (gateway-ours k) (still-then (k .round) (k .quiet)) (openAfter (g .buffer) n plen root) (start g) (N .0 ∙ sym (e .0)) (N .1 ∙ sym (e .1))
-    (opened-within (g .buffer) n plen root t (g .octets .size) (g .opens) (gateway-ours k) (N .0) (N .1))
-    (each-then (g .only) (g .round .only))
+  gateway-from : GatewayFrom M (openAfter (g .buffer) n plen root) s
+  gateway-from = record { began = g .began; history = g .history; only = g .only; round = g .round; quiet = g .quiet }
 
--- SAME MESSAGES, ANY ORDER: two gateways of one length and root (piece lengths may differ) that heard the same messages hold the same
--- positions with the same bytes, or the two stores show two different 64-byte strings with one SHA-256
+-- two gateways that began with openings of one length and root
 pub same-held : {M : MessageSet} {n plen plen′ : ℕ} {root s t : List ℕ} → Gateway M n plen root s → Gateway M n plen′ root t
     → Shown (heightOf s) (heldBy s) (heldBy t) ⊎ ((l i : ℕ) (v : List ℕ) → Holds s l i v ↔ Holds t l i v)
-same-held {s = s} {t = t} g k =
-    elim (one-way g k) [
-      | inl x ↦ inl (subst (λ (h : ℕ). Shown h (heldBy s) (heldBy t)) high (shown-turned x))
-      | inr a ↦ elim (one-way k g) [ inl x ↦ inl x | inr b ↦ inr (λ l i v. (a l i v, b l i v)) ]
-    ]
-  where
-    high : heightOf t ≡ heightOf s
-    high = unfold heightOf blocksOf in ap (λ (y : ℕ). height (blockCount y)) (gateway-names k .0 ∙ sym (gateway-names g .0))
+same-held {n = n} {plen = plen} {plen′ = plen′} {root = root} g k =
+    let d = opened-names (g .buffer) n plen root (g .octets .size) (g .opens) in
+    let e = opened-names (k .buffer) n plen′ root (k .octets .size) (k .opens) in
+    same-held-from (begins g) (begins k) (e .0 ∙ sym (d .0)) (e .1 ∙ sym (d .1))
+    (λ l i v.
+    let p = root-alone (g .buffer) n plen root (g .octets .size) (g .opens) l i v in
+    let q = root-alone (k .buffer) n plen′ root (k .octets .size) (k .opens) l i v in
+    (λ x. q .1 (p .0 x), λ x. p .1 (q .0 x)))
+    (gateway-from g) (gateway-from k)

@@ -1,4 +1,4 @@
--- The four clauses, as kd_held answers and by numbers of positions, are one; a store that only this build has written meets them.
+-- The four clauses, as kd_held answers and by numbers of positions, are one.
 -- Assumes nothing.
 use mathlib.Core.Path.{_≡_, ap, ap₂, sym, _∙_, subst}
 use mathlib.Core.Bool.{true}
@@ -20,14 +20,12 @@ use Rattle.store.specs.StoreLaws.{usable-facts, tree-says, tree-number}
 use Rattle.settling.specs.Path.{sibling}
 use Rattle.settling.specs.PathLaws.{sibling-below, sibling-even, sibling-odd, parent-even, parent-odd}
 use Rattle.words.specs.Held.{Holds}
-use Rattle.words.specs.History.{OurStore}
 use Rattle.words.specs.FourClauses.{FourClauses}
 use Rattle.knowledge.specs.RightPadding.{sibling-number}
 use Rattle.knowledge.specs.Again.{what-is-held, held-usable}
 use Rattle.knowledge.specs.ReadBack.{holds-at}
 use Rattle.knowledge.specs.Invariant.{Family, Ours, Pair, family-pair}
 use Rattle.knowledge.specs.Positions.{even-number}
-use Rattle.knowledge.specs.OwnBytes.{ours-have}
 
 module _ (s : List ℕ) (o : Ours s) where
   facts : Facts s
@@ -164,7 +162,3 @@ four-clauses-exactly s = (
   by-numbers s,
   λ o. record { root = root-held s o; beside = sibling-held s o; above = parent-held s o; padding = padding-right s o },
 )
-
--- EVERY STORE THAT ONLY THIS BUILD HAS WRITTEN meets the four clauses
-pub ours-meet : {s : List ℕ} → OurStore s → FourClauses s
-ours-meet {s} w = four-clauses-exactly s .1 (ours-have w)

@@ -1,13 +1,14 @@
 -- Demand 1: each number is in the table; a refusal leaves every byte of the store, and beside it every count, size and value is zero.
 -- Assumes nothing.
-use mathlib.Core.Path.{_≡_, refl, ap, subst}
+use mathlib.Core.Path.{_≡_, refl, ap, sym, subst}
 use mathlib.Core.Bool.{Bool, true, false, cond}
 use mathlib.Core.List.{List}
 use mathlib.Core.Logic.{_⊎_, inl, inr}
 use Prim.Native.Nat.{ℕ, suc}
 use native.Mathlib.Omega.{arith}
+use native.Mathlib.Decide.{ℕ-discrete}
 use lib.ListN.{length}
-use lib.Dec.{leb, ltb}
+use lib.Dec.{eqb, leb, ltb}
 use Rattle.octets.specs.Octets.{zeroHash}
 use borrow.Author.Tests.{ne-eqb}
 use Rattle.numbers.specs.Numbers.{table, InTable, refused, done}
@@ -25,13 +26,18 @@ use Rattle.serve.specs.Serve.{serveAnswer}
 use Rattle.pieces.specs.Pieces.{layerAnswer, blockAnswer, pieceAnswer}
 use Rattle.pieces.specs.MarkedLaws.{block-stays, piece-stays}
 use Rattle.marks.specs.Marks.{blockThere, clearAnswer, markedAnswer, fieldSize, fieldAnswer}
-use Rattle.knowledge.specs.Through.{clear-stays}
+use Rattle.saved.specs.Form.{placeCount, savedBytes}
+use Rattle.saved.specs.Save.{savedOf, saveAnswer}
+use Rattle.saved.specs.Saved.{sound, rooted, loadNumber, loadAnswer, repairNumber, repairAnswer}
+use Rattle.knowledge.specs.Through.{clear-stays, load-stays, repair-stays}
+use Rattle.words.specs.Held.{Holds}
 use Rattle.words.specs.Messages.{Rejected}
-use Rattle.words.specs.History.{Bytes, Ask, held, takeReject, isMarked, nextRequest, pickPiece, Send, serve, bitfield, Look, ask, send, Call, take, loadLayer, judgeBlock, judgePiece, clear, reopen, look, withCount, replyNumber, asked, sendReply, looked, answer, number, after}
+use Rattle.words.specs.History.{Bytes, Ask, held, takeReject, isMarked, nextRequest, pickPiece, Send, serve, bitfield, Look, ask, send, Call, take, loadLayer, judgeBlock, judgePiece, clear, reopen, look, withCount, replyNumber, asked, sendReply, looked, answer, number, after, Opening, call, begin, next, save, load, repair}
 use Rattle.words.specs.Answers.{ServeOutcome, replied, rejected, untouched, Zeros, Beside, reject, zeros}
+use Rattle.knowledge.specs.Again.{knowledge-only-grows}
 use Rattle.knowledge.specs.Refusals.{opening-refused, message-refused, layer-not-loaded, served}
 use Rattle.knowledge.specs.AskingNumbers.{next-in-table, next-beside, pick-in-table, pick-beside}
-use Rattle.knowledge.specs.NumberChains.{hashChain, hash-tests, sizeChain, size-tests, openChain, open-tests, heldChain, held-tests, takeChain, take-tests, rejectChain, reject-tests, layerChain, layer-tests, blockChain, block-tests, pieceChain, piece-tests, thereChain, there-tests, fieldChain, field-tests}
+use Rattle.knowledge.specs.NumberChains.{hashChain, hash-tests, sizeChain, size-tests, openChain, open-tests, heldChain, held-tests, takeChain, take-tests, rejectChain, reject-tests, layerChain, layer-tests, blockChain, block-tests, pieceChain, piece-tests, thereChain, there-tests, fieldChain, field-tests, saveChain, save-tests, savedChain, load-tests, repair-tests}
 
 -- ---- the number of each entry point is in the table
 
@@ -101,6 +107,32 @@ no-field s out = by (usable s) (leb (fieldSize s) (length out)) (fieldSize s)
     by true false n ne = refl
     by false b n ne = refl
 
+-- kd_save: the size is 0
+no-save : (s out : List ℕ) → (saveAnswer s out .number ≡ 0 → ⊥) → saveAnswer s out .count ≡ 0
+unfolding saveAnswer
+no-save s out = by (usable s) (leb (length (savedBytes (savedOf s))) (length out)) (length (savedBytes (savedOf s)))
+  where
+    by : (a b : Bool) (n : ℕ) → (cond a (cond b (done n) (refused 11)) (refused 9) .number ≡ 0 → ⊥) → cond a (cond b (done n) (refused 11)) (refused 9) .count ≡ 0
+    by true true n ne = absurd (ne refl)
+    by true false n ne = refl
+    by false b n ne = refl
+
+-- kd_load: the count is 0
+no-load : (s b : List ℕ) → (loadAnswer s b .number ≡ 0 → ⊥) → loadAnswer s b .count ≡ 0
+no-load s b ne = by (eqb (loadNumber s b) 0) refl
+  where
+    by : (x : Bool) → eqb (loadNumber s b) 0 ≡ x → loadAnswer s b .count ≡ 0
+    by true e = absurd (ne (unfold loadAnswer in rw e))
+    by false e = unfold loadAnswer in rw e
+
+-- kd_repair: both counts are 0
+no-repair : (s b : List ℕ) → (repairAnswer s b .number ≡ 0 → ⊥) → (repairAnswer s b .dropped ≡ 0) × (repairAnswer s b .held ≡ 0)
+no-repair s b ne = by (eqb (repairNumber s b) 0) refl
+  where
+    by : (x : Bool) → eqb (repairNumber s b) 0 ≡ x → (repairAnswer s b .dropped ≡ 0) × (repairAnswer s b .held ≡ 0)
+    by true e = absurd (ne (unfold repairAnswer in rw e))
+    by false e = unfold repairAnswer in rw e (refl, refl)
+
 -- kd_sha256: the hash is 32 zero bytes
 pub no-hash-beside-4 : (m : List ℕ) → (hashedOf m .number ≡ 0 → ⊥) → hashedOf m .hash ≡ zeroHash
 unfolding hashedOf
@@ -146,6 +178,7 @@ asked-in-table (pickPiece counts) s = pick-in-table s counts
 send-in-table : (k : Send) (s out : List ℕ) → InTable (replyNumber (sendReply k s out))
 send-in-table (serve m b) s out = serve-in-table s m out
 send-in-table bitfield s out = in-table-of (fieldChain s out) (field-tests s out) refl
+send-in-table save s out = in-table-of (saveChain s out) (save-tests s out) refl
 
 look-in-table : (k : Look) (s : List ℕ) → InTable (replyNumber (looked k s))
 look-in-table (ask k) s = asked-in-table k s
@@ -159,6 +192,8 @@ call-in-table (judgeBlock i d b) s = block-in-table s i d
 call-in-table (judgePiece i d b) s = piece-in-table s i d
 call-in-table (clear i) s = there-in-table s i
 call-in-table (reopen n plen root o) s = in-table-of (openChain s n plen) (open-tests s n plen) refl
+call-in-table (load b x) s = in-table-of (savedChain (sound b) s b) (load-tests s b) refl
+call-in-table (repair b x) s = in-table-of (savedChain (rooted b) s b) (repair-tests s b) refl
 call-in-table (look k) s = look-in-table k s
 
 -- a refusal leaves every byte of the store
@@ -170,6 +205,8 @@ refused-leaves (judgeBlock i d b) s ne = block-stays s i d ne
 refused-leaves (judgePiece i d b) s ne = piece-stays s i d ne
 refused-leaves (clear i) s ne = clear-stays s i ne
 refused-leaves (reopen n plen root o) s ne = opening-refused s n plen root ne .0
+refused-leaves (load b x) s ne = load-stays s b ne
+refused-leaves (repair b x) s ne = repair-stays s b ne
 refused-leaves (look k) s ne = refl
 
 -- 9, 1 and 11 are given without a reject
@@ -201,6 +238,7 @@ send-beside (serve m b) s out y ne = by (served s m out)
     by (rejected n r e a) = reject {c = look (send (serve m b) out y)} {a = serveAnswer s m out} (rw e r) (ap (λ (x : Answer). x .count) e)
     by (untouched n r e a) = zeros (λ w. no-reject n r (subst Rejected (ap (λ (x : Answer). x .number) e) w)) (ap (λ (x : Answer). x .count) e)
 send-beside bitfield s out y ne = zeros (λ w. w) (no-field s out ne)
+send-beside save s out y ne = zeros (λ w. w) (no-save s out ne)
 
 pub beside-refusal : (c : Call) (s : List ℕ) → (number c s ≡ 0 → ⊥) → Beside c (answer c s)
 unfolding blockAnswer pieceAnswer clearAnswer
@@ -210,5 +248,31 @@ beside-refusal (judgeBlock i d b) s ne = zeros (λ w. w) refl
 beside-refusal (judgePiece i d b) s ne = zeros (λ w. w) refl
 beside-refusal (clear i) s ne = zeros (λ w. w) refl
 beside-refusal (reopen n plen root o) s ne = zeros (λ w. w) (opening-refused s n plen root ne .1)
+beside-refusal (load b x) s ne = zeros (λ w. w) (no-load s b ne)
+beside-refusal (repair b x) s ne = zeros (λ w. w) (no-repair s b ne)
 beside-refusal (look (ask k)) s ne = zeros (λ w. w) (asked-zeros k s ne)
 beside-refusal (look (send k out b)) s ne = send-beside k s out b ne
+
+-- ---- what is lost
+
+-- A HELD HASH IS LOST only by an opening, a load or a repair that is answered 0
+pub lost-only : (s : List ℕ) (c : Call) (l i : ℕ) (v : List ℕ) → Holds s l i v → (Holds (after c s) l i v → ⊥) → Opening c × (number c s ≡ 0)
+lost-only s c l i v h gone =
+    elim (ℕ-discrete (number c s) 0) [
+      | no ne ↦ absurd (gone (subst (λ (t : List ℕ). Holds t l i v) (sym (refused-leaves c s ne)) h))
+      | yes z ↦ (by c gone, z)
+    ]
+  where
+    stays : (c : Call) → (Opening c → ⊥) → Holds (after c s) l i v
+    stays c x = knowledge-only-grows (next begin (call c (λ o z. x o))) l i v h
+
+    by : (c : Call) → (Holds (after c s) l i v → ⊥) → Opening c
+    by (take a b) k = absurd (k (stays (take a b) (λ x. x)))
+    by (loadLayer d b) k = absurd (k (stays (loadLayer d b) (λ x. x)))
+    by (judgeBlock i d b) k = absurd (k (stays (judgeBlock i d b) (λ x. x)))
+    by (judgePiece i d b) k = absurd (k (stays (judgePiece i d b) (λ x. x)))
+    by (clear i) k = absurd (k (stays (clear i) (λ x. x)))
+    by (reopen n plen root o) k = tt
+    by (load b o) k = tt
+    by (repair b o) k = tt
+    by (look d) k = absurd (k (stays (look d) (λ x. x)))

@@ -21,7 +21,7 @@ use Rattle.marks.specs.MarksLaws.{mark-in, marks-before, marks-length, marks-en
 use Rattle.pieces.specs.Pieces.{layerAfter, blockNumber, blockAnswer, blockAfter, pieceNumber, pieceAnswer, pieceAfter}
 use Rattle.pieces.specs.PiecesLaws.{block-right, piece-right}
 use Rattle.pieces.specs.MarkedLaws.{block-fits, block-marks, block-stays, piece-fits, piece-marks, piece-stays}
-use Rattle.words.specs.History.{Ask, held, takeReject, isMarked, nextRequest, pickPiece, Send, serve, bitfield, Look, ask, send, Call, take, loadLayer, judgeBlock, judgePiece, clear, reopen, look, withCount, withHash, withRequest, asked, sendReply, looked, answer, after, sentTo, Opening, Teaches, call, begin, next}
+use Rattle.words.specs.History.{Ask, held, takeReject, isMarked, nextRequest, pickPiece, Send, serve, bitfield, Look, ask, send, Call, take, loadLayer, judgeBlock, judgePiece, clear, reopen, look, withCount, withHash, withRequest, asked, sendReply, looked, answer, after, sentTo, Opening, Teaches, call, begin, next, save, load, repair}
 use Rattle.words.specs.Marks.{SameButMarks, AsksHashes, SendsHashes, LooksAtHashes, AboutHashes}
 use Rattle.knowledge.specs.AskingApart.{next-apart}
 use Rattle.knowledge.specs.Grows.{Grown, steps-grow}
@@ -102,6 +102,7 @@ module _ (s t : List ℕ) (S : SameButMarks s t) where
   send-same : (k : Send) → SendsHashes k → (out : List ℕ) → (sendReply k t out ≡ sendReply k s out) × (sentTo k t out ≡ sentTo k s out)
   send-same (serve m b) x out = let w = serve-beyond s t f e m out in (ap (λ (a : Answer). withCount a) (w .0), w .1)
   send-same bitfield x out = absurd x
+  send-same save x out = absurd x
 
   looked-same : (k : Look) → LooksAtHashes k → looked k t ≡ looked k s
   looked-same (ask k) x = asked-same k x
@@ -116,6 +117,8 @@ module _ (s t : List ℕ) (S : SameButMarks s t) where
   answers-same (judgePiece i d b) x = ap (λ (n : ℕ). withCount (record { number = n; count = 0 })) (piece-beyond s t f e i d)
   answers-same (clear i) x = absurd x
   answers-same (reopen n plen root o) x = absurd x
+  answers-same (load b o) x = absurd x
+  answers-same (repair b o) x = absurd x
   answers-same (look k) x = looked-same k x
 
   -- the same bytes sent,
@@ -138,6 +141,8 @@ module _ (s t : List ℕ) (S : SameButMarks s t) where
   cells-left (judgePiece i d b) x j l = piece-before t i d j (omega (arith, starts)) ∙ cell-byte j l ∙ sym (piece-before s i d j l)
   cells-left (clear i) x j l = absurd x
   cells-left (reopen n plen root o) x j l = absurd x
+  cells-left (load b o) x j l = absurd x
+  cells-left (repair b o) x j l = absurd x
   cells-left (look k) x j l = cell-byte j l
 
   other : (c : Call) → AboutHashes c → Opening c → ⊥
@@ -147,6 +152,8 @@ module _ (s t : List ℕ) (S : SameButMarks s t) where
   other (judgePiece i d b) x o = o
   other (clear i) x o = o
   other (reopen n plen root r) x o = x
+  other (load b r) x o = x
+  other (repair b r) x o = x
   other (look k) x o = o
 
   grown-call : (c : Call) → AboutHashes c → {u : List ℕ} → Facts u → Grown u (after c u)
@@ -208,4 +215,6 @@ held-stays s (clear j) n l i =
       | no ne ↦ rw (clear-stays s j ne)
     ]
 held-stays s (reopen k plen root o) n l i = absurd (n tt)
+held-stays s (load b o) n l i = absurd (n tt)
+held-stays s (repair b o) n l i = absurd (n tt)
 held-stays s (look k) n l i = refl

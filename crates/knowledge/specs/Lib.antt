@@ -16,14 +16,20 @@ pub mod BytesLeft
 pub mod Alike
 pub mod Beyond
 pub mod MarksBeyond
+pub mod SavedBeyond
 -- marks decide nothing about hashes; the bitfield
 pub mod Independence
 pub mod Bitfield
 pub mod SameStore
 -- what a store that only this build has written looks like
 pub mod Invariant
-pub mod OwnBytes
 pub mod FourClauses
+-- and one that was loaded or repaired
+pub mod SavedWhen
+pub mod SaveBytes
+pub mod Restored
+pub mod OwnBytes
+pub mod OursMeet
 -- two strings with one SHA-256
 pub mod Conflict
 pub mod Shown
@@ -42,18 +48,28 @@ pub mod Verdicts
 pub mod JudgedWhen
 -- marks over a history
 pub mod MarksSince
+pub mod RepairedMarks
 pub mod MarkedWhen
 pub mod ServedWhen
 pub mod AskedWhen
 pub mod RootAlone
+pub mod LoadedWhen
+pub mod BehindLoads
+pub mod LoadedMarks
+pub mod FormWhen
+pub mod ThereAndBack
 pub mod NoAnchor
 -- what is held and counted afterwards
 pub mod HeldAfter
 pub mod SettledMany
+pub mod CountedAll
 -- the same messages, in any order
 pub mod AnyOrder
 pub mod CountsAdd
 pub mod RoundsEnd
+-- and what was answered 0, offered again
+pub mod Journal
+pub mod Replayed
 -- replies, read back
 pub mod Replies
 pub mod ReadThere

@@ -1,4 +1,4 @@
--- From the root to a mark: in a store of ours, opened with a file's own length and pieces root, the bytes that a marked block was judged by are
+-- From the root to a mark: in a store of ours with a file's own length and pieces root, the bytes that a marked block was judged by are
 -- the file's, unless two strings with one SHA-256 are shown.
 -- Assumes nothing.
 use mathlib.Core.Path.{_≡_, ap, sym, _∙_}
@@ -7,31 +7,29 @@ use mathlib.Core.Logic.{_⊎_}
 use Prim.Native.Nat.{ℕ, _+_, _-_, _*_, _^_, _<_}
 use native.Mathlib.Nat.{mul-comm}
 use native.Mathlib.Omega.{arith}
-use Rattle.octets.specs.Octets.{Octets}
 use Rattle.tree.specs.Geometry.{pieceCount, blockSize}
 use Rattle.tree.specs.Values.{blockOf}
 use Rattle.tree.specs.ValuesLaws.{block-of-piece}
-use Rattle.store.specs.Store.{fileLength, pieceLength, heightOf, openAnswer, openAfter, Facts}
+use Rattle.store.specs.Store.{fileLength, pieceLength, heightOf, Facts}
 use Rattle.marks.specs.Marks.{eachPiece, firstBlock, blocksIn}
 use Rattle.pieces.specs.Pieces.{layerOfPieces, blockAnswer, pieceAnswer}
-use Rattle.words.specs.History.{Bytes, Call, judgeBlock, judgePiece, Steps, OurStore, ours}
+use Rattle.words.specs.History.{Bytes, Call, judgeBlock, judgePiece, Steps, Begins, OurStore, ours}
 use Rattle.words.specs.Shown.{heldBy, ofFile, OneHash, Shown}
 use Rattle.words.specs.File.{For, pieceFor, PieceIs}
 use Rattle.words.specs.Marks.{Covers, JudgedBy}
-use Rattle.knowledge.specs.Invariant.{ours-opened}
+use Rattle.knowledge.specs.OwnBytes.{begins-ours}
 use Rattle.knowledge.specs.Bitfield.{in-covered}
 use Rattle.knowledge.specs.MarksSince.{judged-answered, judged-history, judged-grown}
 
-module _ (b : List ℕ) (n plen : ℕ) (root : List ℕ) (bytes : Bytes b) (o : Octets 32 root) (z : openAnswer b n plen .number ≡ 0) {t : List ℕ}
-    (h : Steps (openAfter b n plen root) t) (file : List ℕ) (w : For file t) (bf : Bytes file) {j : ℕ} {u : List ℕ} where
+module _ {s t : List ℕ} (begun : Begins s) (h : Steps s t) (file : List ℕ) (w : For file t) (bf : Bytes file) {j : ℕ} {u : List ℕ} where
   -- the bytes that the judging call was made on are a store of ours,
   ours-then : {c : Call} → JudgedBy j c u t h → OurStore u
-  ours-then x = ours b n plen root bytes o z (judged-history x)
+  ours-then x = ours begun (judged-history x)
 
   -- for that file
   for-then : {c : Call} → JudgedBy j c u t h → For file u
   for-then x =
-      let e = judged-grown (ours-opened b n plen root (o .size) z .chained .facts) x .same in
+      let e = judged-grown (begins-ours begun .chained .facts) x .same in
       record { long = sym (e .file) ∙ w .long; root = sym (e .root) ∙ w .root }
 
   -- THE BLOCK THAT WAS JUDGED is the file's

@@ -23,9 +23,9 @@ use Rattle.marks.specs.MarksLaws.{same-mark, marked-in, marked-out, marks-end, 
 use Rattle.pieces.specs.Pieces.{layerAfter, blockNumber, blockAnswer, pieceHeight, pieceNumber, pieceAnswer}
 use Rattle.pieces.specs.PiecesLaws.{piece-right}
 use Rattle.pieces.specs.MarkedLaws.{block-fits, block-marks, block-stays, piece-fits, piece-marks, piece-stays}
-use Rattle.words.specs.History.{Bytes, Call, take, loadLayer, judgeBlock, judgePiece, clear, reopen, look, number, after, Opening, Step, call, lent, Steps, begin, next}
-use Rattle.words.specs.Marks.{Judges, Clears, JudgedBy, last, before, behind, JudgedRight, RightFor, asBlock, inPiece}
-use Rattle.knowledge.specs.Through.{clear-writes, clear-stays, reopen-refused}
+use Rattle.words.specs.History.{Bytes, Call, take, loadLayer, judgeBlock, judgePiece, clear, reopen, load, repair, look, number, after, Opening, Step, call, lent, Steps, begin, next}
+use Rattle.words.specs.Marks.{Judges, Clears, JudgedBy, last, before, behind, JudgedRight, Uncleared, atFirst, byCall, byLending, RightFor, asBlock, inPiece}
+use Rattle.knowledge.specs.Through.{clear-writes, clear-stays, reopen-refused, load-stays, repair-stays}
 use Rattle.knowledge.specs.Grows.{Grown, grown-on, grown-take, grown-layer, steps-grow}
 use Rattle.knowledge.specs.Again.{grown-holds}
 use Rattle.knowledge.specs.Alike.{alike}
@@ -124,6 +124,8 @@ module _ (s : List ℕ) (f : Facts s) (j : ℕ) (l : j < 2 ^ heightOf s) where
   mark-after (clear i) x = clear-mark i
   mark-after (reopen n plen root o) x =
       leaves _ _ (ap (λ (t : List ℕ). markedAt t j) (reopen-refused s n plen root (x tt))) (λ y. absurd (y .0)) (λ y. absurd y)
+  mark-after (load b o) x = leaves _ _ (ap (λ (t : List ℕ). markedAt t j) (load-stays s b (x tt))) (λ y. absurd (y .0)) (λ y. absurd y)
+  mark-after (repair b o) x = leaves _ _ (ap (λ (t : List ℕ). markedAt t j) (repair-stays s b (x tt))) (λ y. absurd (y .0)) (λ y. absurd y)
   mark-after (look k) x = leaves _ _ refl (λ y. absurd (y .0)) (λ y. absurd y)
 
 -- one step grows a store
@@ -132,31 +134,48 @@ grown-step f x = steps-grow f (next begin x)
 
 -- ---- any number of steps
 
-module _ {s : List ℕ} (f : Facts s) (none : (j : ℕ) → j < 2 ^ heightOf s → markedAt s j ≡ false) (j : ℕ) where
+module _ {s : List ℕ} (f : Facts s) (j : ℕ) where
   small : {t : List ℕ} → Steps s t → j < 2 ^ heightOf s → j < 2 ^ heightOf t
   small h l = rw (steps-grow f h .same .layers) l
 
-  judged-from : {t : List ℕ} → j < 2 ^ heightOf s → (h : Steps s t) → markedAt t j ≡ true → JudgedRight j h
-  judged-from l begin m = absurd (false≢true (sym (none j l) ∙ m))
-  judged-from l (next {t} h (call c x)) m =
+  marked-from : {t : List ℕ} → j < 2 ^ heightOf s → (h : Steps s t) → markedAt t j ≡ true → JudgedRight j h ⊎ ((markedAt s j ≡ true) × Uncleared j t h)
+  marked-from l begin m = inr (m, atFirst)
+  marked-from l (next {t} h (call c x)) m =
       elim (mark-after t (steps-grow f h .facts) j (small h l) c x .0 m) [
-        | inl y ↦ record { c = c; u = t; by = last h x (y .0) (y .1) }
-        | inr y ↦ let w = judged-from l h (y .0) in record { c = w .c; u = w .u; by = before c x (w .by) (y .1) }
+        | inl y ↦ inl (record { c = c; u = t; by = last h x (y .0) (y .1) })
+        | inr y ↦ elim (marked-from l h (y .0)) [
+          | inl w ↦ inl (record { c = w .c; u = w .u; by = before c x (w .by) (y .1) })
+          | inr w ↦ inr (w .0, byCall c x (w .1) (y .1))
+        ]
       ]
-  judged-from l (next {t} h (lent v b e)) m =
-      let w = judged-from l h (sym (mark-used t v (steps-grow f h .facts) (e .bytes) j (small h l)) ∙ m) in
-      record { c = w .c; u = w .u; by = behind v b e (w .by) }
+  marked-from l (next {t} h (lent v b e)) m =
+      elim (marked-from l h (sym (mark-used t v (steps-grow f h .facts) (e .bytes) j (small h l)) ∙ m)) [
+        | inl w ↦ inl (record { c = w .c; u = w .u; by = behind v b e (w .by) })
+        | inr w ↦ inr (w .0, byLending v b e (w .1))
+      ]
 
   judged-marked : {c : Call} {u t : List ℕ} {h : Steps s t} → j < 2 ^ heightOf s → JudgedBy j c u t h → markedAt t j ≡ true
   judged-marked {c} {u} l (last h x a z) = mark-after u (steps-grow f h .facts) j (small h l) c x .1 (inl (a, z))
   judged-marked l (before {t} {h} d x w k) = mark-after t (steps-grow f h .facts) j (small h l) d x .1 (inr (judged-marked l w, k))
   judged-marked l (behind {t} {h} v b e w) = mark-used t v (steps-grow f h .facts) (e .bytes) j (small h l) ∙ judged-marked l w
 
-  -- by the byte: marked exactly if judged right and not cleared after that
-  pub marks-since : {t : List ℕ} (h : Steps s t) → j < 2 ^ heightOf t → (markedAt t j ≡ true) ↔ JudgedRight j h
-  marks-since h l =
+  uncleared-marked : {t : List ℕ} {h : Steps s t} → j < 2 ^ heightOf s → markedAt s j ≡ true → Uncleared j t h → markedAt t j ≡ true
+  uncleared-marked l m atFirst = m
+  uncleared-marked l m (byCall {t} {h} d x w k) = mark-after t (steps-grow f h .facts) j (small h l) d x .1 (inr (uncleared-marked l m w, k))
+  uncleared-marked l m (byLending {t} {h} v b e w) = mark-used t v (steps-grow f h .facts) (e .bytes) j (small h l) ∙ uncleared-marked l m w
+
+  -- by the byte: marked exactly if judged right and not cleared after that, or marked at first and not cleared since
+  pub marks-from : {t : List ℕ} (h : Steps s t) → j < 2 ^ heightOf t → (markedAt t j ≡ true) ↔ (JudgedRight j h ⊎ ((markedAt s j ≡ true) × Uncleared j t h))
+  marks-from h l =
       let k : j < 2 ^ heightOf s = rw (steps-grow f h .same .layers) at l in
-      (judged-from k h, λ r. judged-marked k (r .by))
+      (marked-from k h, λ r. elim r [ inl y ↦ judged-marked k (y .by) | inr y ↦ uncleared-marked k (y .0) (y .1) ])
+
+  -- where no block was marked at first: exactly if judged right
+  pub marks-since : ((i : ℕ) → i < 2 ^ heightOf s → markedAt s i ≡ false) → {t : List ℕ} (h : Steps s t) → j < 2 ^ heightOf t → (markedAt t j ≡ true) ↔ JudgedRight j h
+  marks-since none h l =
+      let k : j < 2 ^ heightOf s = rw (steps-grow f h .same .layers) at l in
+      let w = marks-from h l in
+      (λ m. elim (w .0 m) [ inl y ↦ y | inr y ↦ absurd (false≢true (sym (none j k) ∙ y .0)) ], λ r. w .1 (inl r))
 
 -- ---- the bytes that were judged
 
@@ -187,6 +206,8 @@ right-0 s j (judgeBlock i d b) x z = let w = block-0 s i d .0 z in subst (λ (k 
 right-0 s j (judgePiece i d b) x z = let w = piece-0 s i d .0 z in inPiece i d b x (w .0) (w .1 .w) (w .1 .held) (w .1 .gives)
 right-0 s j (clear i) x z = absurd x
 right-0 s j (reopen n plen root o) x z = absurd x
+right-0 s j (load b o) x z = absurd x
+right-0 s j (repair b o) x z = absurd x
 right-0 s j (look k) x z = absurd x
 
 -- and they stay right for a store that holds at least as much
@@ -203,7 +224,7 @@ right-grown {s} {t} {j} f g (inPiece i piece b cov w v h p) =
     (rw (same-node (g .same)) (grown-holds s t f g (pieceHeight s) i v h))
     (rw (same-node (g .same)) p)
 
-right-inside : {t : List ℕ} {j : ℕ} {c : Call} → RightFor t j c → j < blocksOf t
+pub right-inside : {t : List ℕ} {j : ℕ} {c : Call} → RightFor t j c → j < blocksOf t
 right-inside (asBlock block b w h) = w .inside
 right-inside (inPiece i piece b cov w v h p) = cov .inside
 
@@ -261,6 +282,36 @@ after-call s us c x j = (to, from)
     from (inl y) = let l = right-inside (right-0 s j c (y .0) (y .1)) in kept l (step l .1 (inl y))
     from (inr y) = let w = marked-says s f j .0 (y .0) in kept (w .0) (step (w .0) .1 (inr (w .1, y .1)))
 
+-- SINCE ANY BEGINNING a block is marked exactly if it was judged right and not cleared after that, or was marked at first and not cleared since
+pub marked-since : (s : List ℕ) → usable s ≡ true → {t : List ℕ} (h : Steps s t) (j : ℕ)
+    → (markedAnswer t j ≡ done 1) ↔ (JudgedRight j h ⊎ ((markedAnswer s j ≡ done 1) × Uncleared j t h))
+marked-since s us {t} h j = (to, from)
+  where
+    f : Facts s
+    f = usable-facts s us
+
+    g : Grown s t
+    g = steps-grow f h
+
+    kept : j < blocksOf s → markedAt t j ≡ true → markedAnswer t j ≡ done 1
+    kept l m = marked-says t (g .facts) j .1 (rw (g .same .blocks) l, m)
+
+    byte : j < blocksOf s → (markedAt t j ≡ true) ↔ (JudgedRight j h ⊎ ((markedAt s j ≡ true) × Uncleared j t h))
+    byte l = marks-from f j h (rw (g .same .layers) (omega (arith, facts-leaves s f)))
+
+    to : markedAnswer t j ≡ done 1 → JudgedRight j h ⊎ ((markedAnswer s j ≡ done 1) × Uncleared j t h)
+    to m =
+        let w = marked-says t (g .facts) j .0 m in
+        let l : j < blocksOf s = rw (g .same .blocks) at (w .0) in
+        elim (byte l .0 (w .1)) [ inl y ↦ inl y | inr y ↦ inr (marked-says s f j .1 (l, y .0), y .1) ]
+
+    from : JudgedRight j h ⊎ ((markedAnswer s j ≡ done 1) × Uncleared j t h) → markedAnswer t j ≡ done 1
+    from (inl r) =
+        let w = right-inside (right-still f (r .by)) in
+        let l : j < blocksOf s = rw (g .same .blocks) at w in
+        kept l (byte l .1 (inl r))
+    from (inr y) = let w = marked-says s f j .0 (y .0) in kept (w .0) (byte (w .0) .1 (inr (w .1, y .1)))
+
 -- A MARK GOES BACK only by a clearing of its block and by an opening
 pub back-only : (s : List ℕ) → usable s ≡ true → (c : Call) (j : ℕ) → markedAnswer s j ≡ done 1 → (markedAnswer (after c s) j ≡ done 1 → ⊥)
     → (Clears j c ⊎ Opening c) × (number c s ≡ 0)
@@ -280,6 +331,8 @@ back-only s us c j m gone =
     by (judgePiece i d b) k = absurd (k (stays (judgePiece i d b) (λ x. x) (λ x. x)))
     by (clear i) k = elim (ℕ-discrete i j) [ yes q ↦ inl q | no ne ↦ absurd (k (stays (clear i) (λ x. x) ne)) ]
     by (reopen n plen root o) k = inr tt
+    by (load b o) k = inr tt
+    by (repair b o) k = inr tt
     by (look d) k = absurd (k (stays (look d) (λ x. x) (λ x. x)))
 
 -- ---- from the opening on
@@ -290,7 +343,7 @@ unfolding markedAt
 zero-unmarked s j e = ap (λ (x : ℕ). eqb x 1) e
 
 module _ (b : List ℕ) (n plen : ℕ) (root : List ℕ) (size : length root ≡ 32) (z : openAnswer b n plen .number ≡ 0) where
-  first : List ℕ
+  unfoldable pub first : List ℕ
   first = openAfter b n plen root
 
   start : Facts first
@@ -298,7 +351,7 @@ module _ (b : List ℕ) (n plen : ℕ) (root : List ℕ) (size : length root ≡
   start = ours-opened b n plen root size z .chained .facts
 
   -- an opened store has no mark
-  unmarked : (j : ℕ) → j < 2 ^ heightOf first → markedAt first j ≡ false
+  pub unmarked : (j : ℕ) → j < 2 ^ heightOf first → markedAt first j ≡ false
   unfolding first
   unmarked j l = by (factsInRange n plen) (leb (storeSize n) (length b)) refl refl
     where
@@ -324,24 +377,8 @@ module _ (b : List ℕ) (n plen : ℕ) (root : List ℕ) (size : length root ≡
     marked-exactly = (
       λ m.
           let w = marked-says t there j .0 m in
-          marks-since start unmarked j h (omega (arith, w .0, facts-leaves t there)) .0 (w .1),
+          marks-since start j unmarked h (omega (arith, w .0, facts-leaves t there)) .0 (w .1),
       λ r.
           let l = right-inside (right-still start (r .by)) in
-          marked-says t there j .1 (l, marks-since start unmarked j h (omega (arith, l, facts-leaves t there)) .1 r),
+          marked-says t there j .1 (l, marks-since start j unmarked h (omega (arith, l, facts-leaves t there)) .1 r),
     )
-
-    -- the byte of a block past the file's is never set
-    pub past-never : blocksOf t ≤ j → j < 2 ^ heightOf t → markedAt t j ≡ false
-    unfolding first
-    past-never a l = by (markedAt t j) refl
-      where
-        by : (x : Bool) → markedAt t j ≡ x → markedAt t j ≡ false
-        by false e = e
-        by true e =
-            let r = marks-since start unmarked j h l .0 e in
-            let i = right-inside (right-still start (r .by)) in
-            absurd (omega arith)
-
-    pub right-now : {c : Call} {u : List ℕ} → JudgedBy j c u t h → RightFor t j c
-    unfolding first
-    right-now = right-still start

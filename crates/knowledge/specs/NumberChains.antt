@@ -1,14 +1,15 @@
 -- The number of each call as a chain of tests, in 01's order. When each number is given, and that it is in the table, follows from the chain
 -- (numbers/specs/Chain); what the tests say, from the laws of what is tested.
 -- Assumes nothing.
-use mathlib.Core.Path.{_≡_, refl}
+use mathlib.Core.Path.{_≡_, refl, sym, _∙_}
 use mathlib.Core.Bool.{Bool, true, false, cond}
 use mathlib.Core.List.{List}
 use Prim.Native.Nat.{ℕ, suc, _-_, _*_}
 use lib.ListN.{length}
 use lib.Dec.{eqb, leb, ltb}
+use borrow.Author.Tests.{eqb-true}
 use Rattle.octets.specs.Octets.{same, zeroHash}
-use Rattle.numbers.specs.Numbers.{noMessage, otherRoot, ruleBroken, wrongSize, wrongPadding, noAnchor, unusable, factsOutOfRange, noRoom, notHeld, refused, done}
+use Rattle.numbers.specs.Numbers.{noMessage, otherRoot, ruleBroken, wrongSize, wrongPadding, noAnchor, unusable, factsOutOfRange, noRoom, notHeld, notSaved, refused, done}
 use Rattle.numbers.specs.Chain.{Chain, last, test, decided, verdict}
 use Rattle.limits.specs.Limits.{longestHashed}
 use Rattle.sha256.specs.Sha256.{sha256}
@@ -25,6 +26,10 @@ use Rattle.messages.specs.Take.{headerNumber, settled, anchor, worked, padded, 
 use Rattle.serve.specs.Serve.{allHeld, requestNumber}
 use Rattle.pieces.specs.Pieces.{judgedAt, layerOfPieces, layerNumber, blockNumber, pieceHeight, pieceNumber}
 use Rattle.marks.specs.Marks.{blockThere, fieldSize, fieldAnswer}
+use Rattle.saved.specs.Form.{lengthIn, pieceLengthIn, placeCount, savedBytes, opens}
+use Rattle.saved.specs.Save.{savedOf, saveAnswer}
+use Rattle.saved.specs.Saved.{openingNumber, sound, rooted, loadNumber, loadAnswer, notRepaired, repairedMany, repairNumber, repairAnswer}
+use Rattle.saved.specs.declared.repair.Repaired.{Repaired}
 
 -- ---- kd_sha256, kd_store_size, kd_open, kd_held
 
@@ -187,3 +192,63 @@ field-tests s out = by (usable s) (leb (fieldSize s) (length out)) (fieldSize s)
     by true true n = refl
     by true false n = refl
     by false b n = refl
+
+-- ---- kd_save, kd_load, kd_repair
+
+abbrev pub saveChain : List ℕ → List ℕ → Chain
+saveChain s out = test (usable s) unusable (test (leb (length (savedBytes (savedOf s))) (length out)) noRoom (last 0))
+
+pub save-tests : (s out : List ℕ) → saveAnswer s out .number ≡ decided (saveChain s out)
+unfolding saveAnswer
+save-tests s out = by (usable s) (leb (length (savedBytes (savedOf s))) (length out)) (length (savedBytes (savedOf s)))
+  where
+    by : (a b : Bool) (n : ℕ) → cond a (cond b (done n) (refused noRoom)) (refused unusable) .number ≡ cond a (cond b 0 noRoom) unusable
+    by true true n = refl
+    by true false n = refl
+    by false b n = refl
+
+-- 32 without a whole opening record, then 10, 9 and 32: `ok` is what is asked besides
+abbrev pub savedChain : Bool → List ℕ → List ℕ → Chain
+savedChain ok s b =
+    test (opens b) notSaved
+    (test (factsInRange (lengthIn b) (pieceLengthIn b)) factsOutOfRange (test (leb (storeSize (lengthIn b)) (length s)) unusable (test ok notSaved (last 0))))
+
+-- the opening's number first, then the rest
+in-two : (a b c d : Bool)
+    → cond (eqb (cond a (cond b (cond c 0 unusable) factsOutOfRange) notSaved) 0) (cond d 0 notSaved) (cond a (cond b (cond c 0 unusable) factsOutOfRange) notSaved)
+    ≡ cond a (cond b (cond c (cond d 0 notSaved) unusable) factsOutOfRange) notSaved
+in-two true true true true = refl
+in-two true true true false = refl
+in-two true true false d = refl
+in-two true false c d = refl
+in-two false b c d = refl
+
+load-number : (s b : List ℕ) → loadNumber s b ≡ decided (savedChain (sound b) s b)
+unfolding openingNumber
+load-number s b = in-two (opens b) (factsInRange (lengthIn b) (pieceLengthIn b)) (leb (storeSize (lengthIn b)) (length s)) (sound b)
+
+repair-number : (s b : List ℕ) → repairNumber s b ≡ decided (savedChain (rooted b) s b)
+unfolding openingNumber
+repair-number s b = in-two (opens b) (factsInRange (lengthIn b) (pieceLengthIn b)) (leb (storeSize (lengthIn b)) (length s)) (rooted b)
+
+counted : (n p : ℕ) → cond (eqb n 0) (done p) (refused n) .number ≡ n
+counted n p = by (eqb n 0) refl
+  where
+    by : (x : Bool) → eqb n 0 ≡ x → cond (eqb n 0) (done p) (refused n) .number ≡ n
+    by true e = rw e (sym (eqb-true n 0 e))
+    by false e = rw e
+
+counted-two : (n p q : ℕ) → cond {A = Repaired} (eqb n 0) (record { number = 0; dropped = p; held = q }) (notRepaired n) .number ≡ n
+counted-two n p q = by (eqb n 0) refl
+  where
+    by : (x : Bool) → eqb n 0 ≡ x → cond {A = Repaired} (eqb n 0) (record { number = 0; dropped = p; held = q }) (notRepaired n) .number ≡ n
+    by true e = rw e (sym (eqb-true n 0 e))
+    by false e = rw e
+
+pub load-tests : (s b : List ℕ) → loadAnswer s b .number ≡ decided (savedChain (sound b) s b)
+unfolding loadAnswer
+load-tests s b = counted (loadNumber s b) (placeCount b) ∙ load-number s b
+
+pub repair-tests : (s b : List ℕ) → repairAnswer s b .number ≡ decided (savedChain (rooted b) s b)
+unfolding repairAnswer
+repair-tests s b = counted-two (repairNumber s b) (placeCount b - repairedMany s b) (repairedMany s b) ∙ repair-number s b

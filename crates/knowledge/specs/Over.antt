@@ -17,7 +17,7 @@ use Rattle.cells.specs.Entries.{Entry}
 use Rattle.cells.specs.EntriesLaws.{In, Has, has-same, Consistent, apart-consistent}
 use Rattle.settling.specs.Subtree.{subtree}
 use Rattle.settling.specs.SubtreeLaws.{FamilyIn, subtree-has, subtree-value, subtree-apart, subtree-family, number-below}
-use Rattle.words.specs.Held.{Hashes}
+use Rattle.saved.specs.Clauses.{Hashes}
 use Rattle.words.specs.Pieces.{Over, atLeaf, above}
 
 -- with the hashes of two children there is the hash of left then right above them

@@ -20,9 +20,9 @@ use Rattle.store.specs.StoreLaws.{facts-usable, used-held, heldCount}
 use Rattle.marks.specs.Marks.{marksPut}
 use Rattle.messages.specs.Take.{takeNumber, takeAfter, takeAnswer}
 use Rattle.words.specs.Held.{Holds}
-use Rattle.words.specs.History.{Bytes, take, Steps, begin, next, call, Each, nothing, called, OurStore, ours}
+use Rattle.words.specs.History.{Bytes, take, Steps, begin, next, call, Each, nothing, called, byOpening, OurStore, ours}
 use Rattle.words.specs.Messages.{Settles, WellFormed, Acceptable}
-use Rattle.words.specs.Hearing.{MessageSet, Among, first, later, Heard, Offered, last, before, Round, NothingNew, Gateway}
+use Rattle.words.specs.Hearing.{MessageSet, Among, first, later, Heard, Offered, last, before, Round, NothingNew, Gateway, GatewayFrom}
 use Rattle.knowledge.specs.Through.{PreservedBy, each-through}
 use Rattle.knowledge.specs.TakenWhen.{taken-well-formed}
 use Rattle.knowledge.specs.MarksApart.{marks-held}
@@ -244,7 +244,10 @@ module _ {M : MessageSet} (f : ℕ → List ℕ) (r : (k : ℕ) → Round M (f k
   until-round zero = (begin, nothing)
   until-round (suc k) = let w = until-round k in (steps-then (w .0) (r k .history), each-then (w .1) (r k .only))
 
-  -- up to one that makes nothing newly held, they leave a gateway's store
+  -- up to one that makes nothing newly held, they leave a gateway's store, from whatever they began with
+  pub rounds-heard-from : (k : ℕ) → NothingNew (f k) (f (suc k)) → GatewayFrom M (f 0) (f (suc k))
+  rounds-heard-from k q = let w = until-round k in record { began = f k; history = w .0; only = w .1; round = r k; quiet = q }
+
   pub rounds-heard : {b : List ℕ} {n plen : ℕ} {root : List ℕ} → Bytes b → Octets 32 root → openAnswer b n plen .number ≡ 0 → f 0 ≡ openAfter b n plen root
       → (k : ℕ) → NothingNew (f k) (f (suc k)) → Gateway M n plen root (f (suc k))
   rounds-heard {b} {n} {plen} {root} bb o z e k q =
@@ -294,5 +297,13 @@ unfolding turned
 gateway-exists L bytes b n plen root bb o z =
     let s = openAfter b n plen root in
     let r = turns L bytes s in
-    let w = rounds-settle (turned L s) (ours b n plen root bb o z begin) r in
+    let w = rounds-settle (turned L s) (ours (byOpening b n plen root bb o z) begin) r in
     (turned L s (suc (w .0)), rounds-heard (turned L s) r bb o z refl (w .0) (w .2))
+
+-- and to any store of ours
+pub gateway-exists-from : (L : List (List ℕ)) → ((m : List ℕ) → Among m L → Bytes m) → {s : List ℕ} → OurStore s → (t : List ℕ) × GatewayFrom (λ m. Among m L) s t
+unfolding turned
+gateway-exists-from L bytes {s} o =
+    let r = turns L bytes s in
+    let w = rounds-settle (turned L s) o r in
+    (turned L s (suc (w .0)), rounds-heard-from (turned L s) r (w .0) (w .2))

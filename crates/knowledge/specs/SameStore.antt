@@ -20,8 +20,9 @@ use Rattle.pieces.specs.MarkedLaws.{block-fits, block-marks, block-stays, piece
 use Rattle.marks.specs.Marks.{marked, cleared, marksPut, blockThere, clearAnswer, clearAfter, firstBlock, blocksIn}
 use Rattle.marks.specs.MarksLaws.{marks-behind, marks-end, marks-facts, marks-same-facts, there-fits}
 use Rattle.knowledge.specs.MarksBeyond.{there-beyond, marked-beyond, field-beyond, covered-beyond, marks-beyond}
+use Rattle.knowledge.specs.SavedBeyond.{save-beyond}
 use Rattle.knowledge.specs.Through.{clear-writes, clear-stays}
-use Rattle.words.specs.History.{Ask, held, takeReject, isMarked, nextRequest, pickPiece, Send, serve, bitfield, ask, send, Call, take, loadLayer, judgeBlock, judgePiece, clear, reopen, look, withCount, withHash, withRequest, withPiece, asked, sendReply, answer, after, sentTo, Opening, SameStore}
+use Rattle.words.specs.History.{Ask, held, takeReject, isMarked, nextRequest, pickPiece, Send, serve, bitfield, ask, send, Call, take, loadLayer, judgeBlock, judgePiece, clear, reopen, look, withCount, withHash, withRequest, withPiece, asked, sendReply, answer, after, sentTo, Opening, SameStore, save, load, repair}
 use Rattle.knowledge.specs.AskingApart.{next-behind, pick-behind}
 use Rattle.knowledge.specs.BytesLeft.{SameCells}
 use Rattle.knowledge.specs.Grows.{Grown, grown-take, grown-layer}
@@ -114,6 +115,7 @@ module _ (s t : List ℕ) (S : SameStore s t) where
   -- and sends the same
   send-alike : (k : Send) (out : List ℕ) → (sendReply k t out ≡ sendReply k s out) × (sentTo k t out ≡ sentTo k s out)
   send-alike (serve m b) out = let w = serve-beyond s t facts (alike s t facts (S .bytes)) m out in (ap (λ (a : Answer). withCount a) (w .0), w .1)
+  send-alike save out = let w = save-beyond s t facts (S .bytes) out in (ap (λ (a : Answer). withCount a) (w .0), w .1)
   send-alike bitfield out = let w = field-beyond s t facts (S .bytes) out in (ap (λ (a : Answer). withCount a) (w .0), w .1)
 
   pub sends-alike : (k : Send) (out : List ℕ) → sentTo k t out ≡ sentTo k s out
@@ -128,6 +130,8 @@ module _ (s t : List ℕ) (S : SameStore s t) where
   answers-alike (judgePiece i d b) x = ap (λ (n : ℕ). withCount (record { number = n; count = 0 })) (piece-beyond s t facts (alike s t facts (S .bytes)) i d)
   answers-alike (clear i) x = ap (λ (n : ℕ). withCount (record { number = n; count = 0 })) (there-beyond s t facts (S .bytes) i)
   answers-alike (reopen n plen root o) x = absurd (x tt)
+  answers-alike (load b o) x = absurd (x tt)
+  answers-alike (repair b o) x = absurd (x tt)
   answers-alike (look (ask k)) x = asked-alike k
   answers-alike (look (send k out b)) x = send-alike k out .0
 
@@ -143,6 +147,8 @@ module _ (s t : List ℕ) (S : SameStore s t) where
   leaves-same (judgePiece i d b) x = piece-same i d
   leaves-same (clear i) x = clear-same i
   leaves-same (reopen n plen root o) x = absurd (x tt)
+  leaves-same (load b o) x = absurd (x tt)
+  leaves-same (repair b o) x = absurd (x tt)
   leaves-same (look k) x = S
 
 -- the bytes behind the store's size stay
@@ -178,4 +184,6 @@ module _ (s : List ℕ) (u : usable s ≡ true) where
   behind-stays (judgePiece j d b) x i l = piece-past j d i l
   behind-stays (clear j) x i l = clear-past j i l
   behind-stays (reopen n plen root o) x i l = absurd (x tt)
+  behind-stays (load b o) x i l = absurd (x tt)
+  behind-stays (repair b o) x i l = absurd (x tt)
   behind-stays (look k) x i l = refl

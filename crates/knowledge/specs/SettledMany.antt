@@ -32,7 +32,8 @@ use Rattle.pieces.specs.Pieces.{layerOfPieces, layerSettled, layerNumber, layer
 use Rattle.pieces.specs.Asks.{Layered}
 use Rattle.pieces.specs.PiecesLaws.{layered, layer-sound, layer-taken, settled-from-root}
 use Rattle.words.specs.Messages.{unclesIn, Settles}
-use Rattle.words.specs.Held.{Hashes, Fixed, Stands, first, later, Distinct, none, more, All, unheldAmong}
+use Rattle.saved.specs.Clauses.{Hashes}
+use Rattle.words.specs.Held.{Fixed, Stands, first, later, Distinct, none, more, All, unheldAmong}
 use Rattle.words.specs.Pieces.{LayerFormed, LayerSettles}
 use Rattle.knowledge.specs.TakenWhen.{Formed, taken-well-formed}
 use Rattle.knowledge.specs.TakenEntries.{lacking, count-lacking, count-most, fresh-lacking}
@@ -82,7 +83,7 @@ module _ (h : ℕ) (R : Hashes) where
       more (λ v x. let w = stands-entry L (λ g y. f g (there y)) (f e here .l) (f e here .i) v x in k (w .0) (w .1) (w .2 ∙ sym (f e here .number)))
       (fixed-distinct L (λ g y. f g (there y)) A)
 
-  all-of : (L : List Entry) → ((l i : ℕ) (v : List ℕ) → R l i v → Entered h L l i v) → ((e : Entry) → In e L → Found h R (e .at) (e .hash)) → Apart L → (n : ℕ) → length L ≡ n → All R n
+  pub all-of : (L : List Entry) → ((l i : ℕ) (v : List ℕ) → R l i v → Entered h L l i v) → ((e : Entry) → In e L → Found h R (e .at) (e .hash)) → Apart L → (n : ℕ) → length L ≡ n → All R n
   all-of L to f A n q =
       record {
         all = fixedIn L f;

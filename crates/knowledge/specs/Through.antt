@@ -9,7 +9,7 @@ use native.Mathlib.Decide.{ℕ-discrete}
 use native.Mathlib.Omega.{arith}
 use borrow.Author.Tests.{ne-eqb}
 use lib.ListN.{length}
-use lib.Dec.{leb}
+use lib.Dec.{eqb, leb}
 use Rattle.store.specs.Store.{heightOf, openAnswer, openAfter, opened, factsInRange, storeSize, Facts}
 use Rattle.messages.specs.Take.{takeAfter}
 use Rattle.store.specs.StoreLaws.{usable-facts}
@@ -18,7 +18,8 @@ use Rattle.marks.specs.MarksLaws.{there-says, there-fits}
 use Rattle.pieces.specs.Pieces.{layerAfter, blockNumber, pieceNumber}
 use Rattle.pieces.specs.PiecesLaws.{block-right, piece-right}
 use Rattle.pieces.specs.MarkedLaws.{block-fits, block-marks, block-stays, piece-fits, piece-marks, piece-stays}
-use Rattle.words.specs.History.{Bytes, Call, take, loadLayer, judgeBlock, judgePiece, clear, reopen, look, number, after, Opening, SameStore, call, lent, Steps, begin, next, Each, nothing, called, between}
+use Rattle.saved.specs.Saved.{loadNumber, loadAnswer, loadAfter, repairNumber, repairAnswer, repairAfter}
+use Rattle.words.specs.History.{Bytes, Call, take, loadLayer, judgeBlock, judgePiece, clear, reopen, load, repair, look, number, after, Opening, SameStore, call, lent, Steps, begin, next, Each, nothing, called, between}
 
 -- an opening that is refused leaves every byte
 pub reopen-refused : (s : List ℕ) (n plen : ℕ) (root : List ℕ) → (openAnswer s n plen .number ≡ 0 → ⊥) → openAfter s n plen root ≡ s
@@ -29,6 +30,21 @@ reopen-refused s n plen root ne = by (factsInRange n plen) (leb (storeSize n) (l
     by true true p q = absurd (ne (unfold openAnswer in rw (p, q)))
     by true false p q = rw (p, q)
     by false b p q = rw p
+
+-- so does a load or a repair that is refused
+pub load-stays : (s b : List ℕ) → (loadAnswer s b .number ≡ 0 → ⊥) → loadAfter s b ≡ s
+load-stays s b ne = by (eqb (loadNumber s b) 0) refl
+  where
+    by : (x : Bool) → eqb (loadNumber s b) 0 ≡ x → loadAfter s b ≡ s
+    by true e = absurd (ne (unfold loadAnswer in rw e))
+    by false e = unfold loadAfter in rw e
+
+pub repair-stays : (s b : List ℕ) → (repairAnswer s b .number ≡ 0 → ⊥) → repairAfter s b ≡ s
+repair-stays s b ne = by (eqb (repairNumber s b) 0) refl
+  where
+    by : (x : Bool) → eqb (repairNumber s b) 0 ≡ x → repairAfter s b ≡ s
+    by true e = absurd (ne (unfold repairAnswer in rw e))
+    by false e = unfold repairAfter in rw e
 
 -- clearing a mark writes one byte; refused, none
 pub clear-writes : (s : List ℕ) (i : ℕ) → blockThere s i ≡ 0 → clearAfter s i ≡ marksPut s i 1 cleared
@@ -67,6 +83,8 @@ module _ (C : Call → Type 0) (P : List ℕ → Type 0) (k : PreservedBy C P) w
         | no ne ↦ subst P (sym (clear-stays s i ne)) p
       ]
   by-call (reopen n plen root o) s x y p = subst P (sym (reopen-refused s n plen root (x tt))) p
+  by-call (load b o) s x y p = subst P (sym (load-stays s b (x tt))) p
+  by-call (repair b o) s x y p = subst P (sym (repair-stays s b (x tt))) p
   by-call (look k) s x y p = p
 
   -- what each such step keeps, any number of them keeps

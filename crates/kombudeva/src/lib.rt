@@ -12,6 +12,8 @@ ghost use Rattle.marks.specs.Marks.{clearAnswer, clearAfter, markedAnswer, fiel
 ghost use Rattle.asking.specs.Asking.{nextAnswer};
 ghost use Rattle.asking.specs.Picking.{pickAnswer};
 ghost use Rattle.pieces.specs.Pieces.{layerAnswer, layerAfter, blockAnswer, blockAfter, pieceAnswer, pieceAfter};
+ghost use Rattle.saved.specs.Save.{saveAnswer, saveAfter};
+ghost use Rattle.saved.specs.Saved.{loadAnswer, loadAfter, repairAnswer, repairAfter};
 ghost use Rattle.torrent.specs.Torrent.{readOf, fileRead, pathRead};
 ghost use Rattle.catalogue.specs.Catalogue.{listAnswer, listAfter};
 ghost use Rattle.writing.specs.Write.{writeAnswer, writeAfter};
@@ -26,6 +28,7 @@ use history::HistoryEnd;
 use numbers::Answer;
 use running::Hashing;
 use running::HashingAnswer;
+use saved::repair::Repaired;
 use sha256::Hashed;
 use stream::Heard;
 use stream::Stream;
@@ -285,6 +288,27 @@ pub extern "C" fn kd_pick_piece(s: &[u8], counts: &[u32]) -> Choice
     ensures { λ r. ⌜ r ≡ pickAnswer (now (s .entry)) (now (counts .entry)) ⌝ }
 {
     asking::pick::pick_piece(s, counts)
+}
+
+#[no_mangle]
+pub extern "C" fn kd_save(s: &[u8], out: &mut [u8]) -> CountAnswer
+    ensures { λ r. ⌜ (r ≡ countAnswer (saveAnswer (now (s .entry)) (now (out .entry)))) × (now (out .exit) ≡ saveAfter (now (s .entry)) (now (out .entry))) ⌝ }
+{
+    count_answer(saved::save::save(s, out))
+}
+
+#[no_mangle]
+pub extern "C" fn kd_load(s: &mut [u8], bytes: &[u8]) -> CountAnswer
+    ensures { λ r. ⌜ (r ≡ countAnswer (loadAnswer (now (s .entry)) (now (bytes .entry)))) × (now (s .exit) ≡ loadAfter (now (s .entry)) (now (bytes .entry))) ⌝ }
+{
+    count_answer(saved::load::load(s, bytes))
+}
+
+#[no_mangle]
+pub extern "C" fn kd_repair(s: &mut [u8], bytes: &[u8]) -> Repaired
+    ensures { λ r. ⌜ (r ≡ repairAnswer (now (s .entry)) (now (bytes .entry))) × (now (s .exit) ≡ repairAfter (now (s .entry)) (now (bytes .entry))) ⌝ }
+{
+    saved::repair::repair(s, bytes)
 }
 
 #[no_mangle]

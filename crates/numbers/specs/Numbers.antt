@@ -101,9 +101,13 @@ noSuchFile = 29
 abbrev pub frameTooLong : ℕ
 frameTooLong = 30
 
+-- saved bytes without a whole opening record, not of the form, or not a store's
+abbrev pub notSaved : ℕ
+notSaved = 32
+
 -- the numbers of the table
 abbrev pub table : List ℕ
-table = 0 ∷ 1 ∷ 2 ∷ 3 ∷ 4 ∷ 5 ∷ 6 ∷ 7 ∷ 8 ∷ 9 ∷ 10 ∷ 11 ∷ 12 ∷ 19 ∷ 20 ∷ 21 ∷ 22 ∷ 23 ∷ 24 ∷ 25 ∷ 26 ∷ 27 ∷ 28 ∷ 29 ∷ 30 ∷ []
+table = 0 ∷ 1 ∷ 2 ∷ 3 ∷ 4 ∷ 5 ∷ 6 ∷ 7 ∷ 8 ∷ 9 ∷ 10 ∷ 11 ∷ 12 ∷ 19 ∷ 20 ∷ 21 ∷ 22 ∷ 23 ∷ 24 ∷ 25 ∷ 26 ∷ 27 ∷ 28 ∷ 29 ∷ 30 ∷ 32 ∷ []
 
 -- n is one of these
 pub data Listed (n : ℕ) : List ℕ → Type 0 where

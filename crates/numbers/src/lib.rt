@@ -52,6 +52,8 @@ pub const NO_SUCH_FILE: u32 = 29;
 
 pub const FRAME_TOO_LONG: u32 = 30;
 
+pub const NOT_SAVED: u32 = 32;
+
 // A number, and beside it the count of newly held positions or the reply's size.
 pub struct Answer {
     pub number: u32,

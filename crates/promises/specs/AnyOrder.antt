@@ -1,6 +1,6 @@
 -- 02, request 14, sentence by sentence. Its words: crates/words, files Hearing (rounds, a gateway), History, Held, Shown.
 -- Assumes nothing.
-use mathlib.Core.Path.{_≡_}
+use mathlib.Core.Path.{_≡_, sym, _∙_}
 use mathlib.Core.Bool.{true}
 use mathlib.Core.List.{List}
 use mathlib.Core.Logic.{_↔_, _⊎_}
@@ -8,11 +8,12 @@ use Prim.Native.Nat.{ℕ, suc, _-_, _*_, _^_, _≤_}
 use native.Mathlib.Omega.{arith}
 use lib.ListN.{length}
 use Rattle.octets.specs.Octets.{Octets}
-use Rattle.store.specs.Store.{usable, heightOf, openAnswer, openAfter}
+use Rattle.store.specs.Store.{usable, fileLength, factsRoot, heightOf, openAnswer, openAfter}
 use Rattle.store.specs.StoreLaws.{usable-facts}
+use Rattle.saved.specs.Saved.{loadAnswer, loadAfter}
 use Rattle.words.specs.Held.{Holds}
-use Rattle.words.specs.History.{Bytes, OurStore}
-use Rattle.words.specs.Hearing.{MessageSet, Among, Round, NothingNew, Gateway, counted}
+use Rattle.words.specs.History.{Bytes, Begins, byLoading, OurStore}
+use Rattle.words.specs.Hearing.{MessageSet, Among, Round, NothingNew, Gateway, GatewayFrom, counted}
 use Rattle.words.specs.Shown.{heldBy, Shown}
 
 -- "Two gateways hear the same set of messages in different orders, each offering every message again until a whole round makes nothing
@@ -22,6 +23,25 @@ use Rattle.words.specs.Shown.{heldBy, Shown}
 pub same-messages-any-order : {M : MessageSet} {n plen plen′ : ℕ} {root s t : List ℕ} → Gateway M n plen root s → Gateway M n plen′ root t
     → Shown (heightOf s) (heldBy s) (heldBy t) ⊎ ((l i : ℕ) (v : List ℕ) → Holds s l i v ↔ Holds t l i v)
 same-messages-any-order = Rattle.knowledge.specs.AnyOrder.same-held
+
+-- The same of gateways that began with stores of ours of one length and root that held the same (`GatewayFrom`):
+pub same-messages-from : {M : MessageSet} {s t u v : List ℕ} → Begins s → Begins t → fileLength t ≡ fileLength s → factsRoot t ≡ factsRoot s
+    → ((l i : ℕ) (x : List ℕ) → Holds s l i x ↔ Holds t l i x) → GatewayFrom M s u → GatewayFrom M t v
+    → Shown (heightOf u) (heldBy u) (heldBy v) ⊎ ((l i : ℕ) (x : List ℕ) → Holds u l i x ↔ Holds v l i x)
+same-messages-from = Rattle.knowledge.specs.AnyOrder.same-held-from
+
+-- 02, request 13: so of two gateways that loaded the same saved bytes
+pub same-messages-from-a-save : {M : MessageSet} {s t : List ℕ} (a b saved : List ℕ) → Bytes a → Bytes b → Bytes saved → loadAnswer a saved .number ≡ 0 → loadAnswer b saved .number ≡ 0
+    → GatewayFrom M (loadAfter a saved) s → GatewayFrom M (loadAfter b saved) t
+    → Shown (heightOf s) (heldBy s) (heldBy t) ⊎ ((l i : ℕ) (x : List ℕ) → Holds s l i x ↔ Holds t l i x)
+same-messages-from-a-save a b saved ba bb bs y z =
+    let p = Rattle.knowledge.specs.LoadedWhen.load-names a saved y in
+    let q = Rattle.knowledge.specs.LoadedWhen.load-names b saved z in
+    same-messages-from (byLoading a saved ba bs y) (byLoading b saved bb bs z) (q .0 ∙ sym (p .0)) (q .1 ∙ sym (p .1))
+    (λ l i x.
+    let c = Rattle.knowledge.specs.LoadedWhen.load-holds a saved y l i x in
+    let d = Rattle.knowledge.specs.LoadedWhen.load-holds b saved z l i x in
+    (λ k. d .1 (c .0 k), λ k. c .1 (d .0 k)))
 
 -- "until a whole round makes nothing newly held": a gateway sees it by the counts, which are then all zero;
 pub quiet-by-counts : {M : MessageSet} {s t : List ℕ} → usable s ≡ true → (r : Round M s t) → (counted (r .history) ≡ 0) ↔ NothingNew s t
@@ -43,9 +63,17 @@ pub rounds-heard : {M : MessageSet} (f : ℕ → List ℕ) → ((k : ℕ) → Ro
     → (k : ℕ) → NothingNew (f k) (f (suc k)) → Gateway M n plen root (f (suc k))
 rounds-heard = Rattle.knowledge.specs.RoundsEnd.rounds-heard
 
+-- from whatever store they began with
+pub rounds-heard-from : {M : MessageSet} (f : ℕ → List ℕ) → ((k : ℕ) → Round M (f k) (f (suc k))) → (k : ℕ) → NothingNew (f k) (f (suc k)) → GatewayFrom M (f 0) (f (suc k))
+rounds-heard-from = Rattle.knowledge.specs.RoundsEnd.rounds-heard-from
+
 -- so every list of messages can be heard so, in every store that is opened
 pub any-list-heard : (L : List (List ℕ)) → ((m : List ℕ) → Among m L → Bytes m) → (b : List ℕ) (n plen : ℕ) (root : List ℕ) → Bytes b → Octets 32 root
     → openAnswer b n plen .number ≡ 0 → (s : List ℕ) × Gateway (λ m. Among m L) n plen root s
 any-list-heard = Rattle.knowledge.specs.RoundsEnd.gateway-exists
+
+-- and in every store of ours, a loaded one too
+pub any-list-heard-from : (L : List (List ℕ)) → ((m : List ℕ) → Among m L → Bytes m) → {s : List ℕ} → OurStore s → (t : List ℕ) × GatewayFrom (λ m. Among m L) s t
+any-list-heard-from = Rattle.knowledge.specs.RoundsEnd.gateway-exists-from
 
 -- "One round alone doesn't give this, because a message without an anchor is dropped.": OneRound.antt

@@ -30,7 +30,7 @@ use Rattle.asking.specs.AskingLaws.{says-number}
 use Rattle.asking.specs.Picking.{thisPiece, pickAnswer}
 use Rattle.words.specs.File.{pieceFor}
 use Rattle.words.specs.Held.{Holds}
-use Rattle.words.specs.History.{Bytes, begin, OurStore, ours}
+use Rattle.words.specs.History.{Bytes, begin, OurStore, ours, byOpening}
 use Rattle.words.specs.Marks.{Covers}
 use Rattle.words.specs.Asking.{Answered, unasked, reply, HoldsFrom, CountEach, ToFetch, Picked, nothingLeft, rarest, unmoved, Fetched, unpicked, judgedRight}
 use Rattle.numbers.specs.Tests.{not-both}
@@ -159,7 +159,7 @@ module _ (a b : List ℕ) (oa : Octets 32 a) (ob : Octets 32 b) (buffer : List �
         files = told-grown .same .file;
         roots = told-grown .same .root;
         all = λ k i l P. each-held k i (rw told-high at (P .low)) (rw told-high at (P .inside));
-        asker = rw (← is-opened) (ours buffer 32768 16384 (pairHash a b) bytes (pair-octets a b) (opens buffer fits) begin);
+        asker = rw (← is-opened) (ours (byOpening buffer 32768 16384 (pairHash a b) bytes (pair-octets a b) (opens buffer fits)) begin);
         server = rw (← is-opened) (ours-with-two-leaves a b oa ob buffer bytes fits);
       }
 

@@ -13,7 +13,7 @@ use Rattle.serve.specs.Serve.{serveAnswer}
 use Rattle.pieces.specs.Pieces.{layerAnswer, pieceAnswer}
 use Rattle.words.specs.Held.{Holds}
 use Rattle.words.specs.Messages.{anchorLayer, anchorIndex, sent}
-use Rattle.words.specs.History.{Bytes, Steps, OurStore}
+use Rattle.words.specs.History.{Bytes, Call, number, after, Opening, Steps, OurStore}
 use Rattle.words.specs.Shown.{heldBy, byMessage, byLayer, byPiece, Shown}
 use Rattle.words.specs.FourClauses.{FourClauses}
 
@@ -21,6 +21,10 @@ use Rattle.words.specs.FourClauses.{FourClauses}
 -- a held hash stays held with the same bytes,"
 pub knowledge-only-grows : {s t : List ℕ} → Steps s t → (l i : ℕ) (v : List ℕ) → Holds s l i v → Holds t l i v
 knowledge-only-grows = Rattle.knowledge.specs.Again.knowledge-only-grows
+
+-- 01: "Opening again … is the one way to lose a held hash." Since 02, request 13: opening, loading and repairing, each answered 0
+pub lost-only-by-opening : (s : List ℕ) (c : Call) (l i : ℕ) (v : List ℕ) → Holds s l i v → (Holds (after c s) l i v → ⊥) → Opening c × (number c s ≡ 0)
+lost-only-by-opening = Rattle.knowledge.specs.InTable.lost-only
 
 -- "and the number a reply gets stays the same at every later offer." But for "no anchor":
 pub number-stays : {t : List ℕ} (s m : List ℕ) → Steps (takeAfter s m) t → (takeAnswer s m .number ≡ noAnchor → ⊥) → takeAnswer t m .number ≡ takeAnswer s m .number
@@ -66,4 +70,4 @@ other-store-reply-taken = Rattle.knowledge.specs.ConflictShows.other-store-repl
 
 -- What a store that only this build has written knows
 pub our-store-meets : {s : List ℕ} → OurStore s → FourClauses s
-our-store-meets = Rattle.knowledge.specs.FourClauses.ours-meet
+our-store-meets = Rattle.knowledge.specs.OursMeet.ours-meet

@@ -10,6 +10,8 @@ pub mod Worked
 pub mod Running
 pub mod Marks
 pub mod Asking
+-- 02: a store that was saved
+pub mod Saved
 -- 02: the same messages, in any order; a message that is heard of a stream
 pub mod AnyOrder
 pub mod Heard
@@ -25,6 +27,7 @@ pub mod Witness
 pub mod OneRound
 pub mod ServedAndTaken
 pub mod AskingExample
+pub mod SavedExample
 -- the impostors
 pub mod NumbersGiven
 pub mod Impostors

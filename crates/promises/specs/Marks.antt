@@ -15,22 +15,28 @@ use Rattle.tree.specs.Values.{blockOf}
 use Rattle.store.specs.Store.{usable, fileLength, pieceLength, blocksOf, heightOf, openAnswer, openAfter}
 use Rattle.store.specs.StoreLaws.{usable-facts}
 use Rattle.marks.specs.Marks.{marksStart, markedAt, markedAnswer, firstBlock, fieldBytes, fieldSize, fieldAnswer, fieldAfter}
-use Rattle.words.specs.History.{Bytes, Send, Call, judgeBlock, judgePiece, number, answer, after, sentTo, Opening, Steps}
+use Rattle.words.specs.History.{Bytes, Send, Call, judgeBlock, judgePiece, number, answer, after, sentTo, Opening, Steps, Begins}
 use Rattle.words.specs.Shown.{heldBy, ofFile, OneHash, Shown}
 use Rattle.words.specs.File.{For, pieceFor, PieceIs}
-use Rattle.words.specs.Marks.{Covers, pieceBit, SameButMarks, SendsHashes, AboutHashes, Judges, Clears, JudgedBy, JudgedRight, RightFor}
+use Rattle.words.specs.Marks.{Covers, pieceBit, SameButMarks, SendsHashes, AboutHashes, Judges, Clears, JudgedBy, JudgedRight, Uncleared, RightFor}
 
 -- ---- when a block is marked
 
-module _ (b : List ℕ) (n plen : ℕ) (root : List ℕ) (o : Octets 32 root) (z : openAnswer b n plen .number ≡ 0) {t : List ℕ} (h : Steps (openAfter b n plen root) t) where
-  -- over any history of our store kd_marked answers 1 for a block exactly if since the opening the block, or a piece that covers it, was
-  -- answered 0, and it was not cleared after that
-  pub marked-exactly : (j : ℕ) → (markedAnswer t j ≡ done 1) ↔ JudgedRight j h
-  marked-exactly = Rattle.knowledge.specs.MarksSince.marked-exactly b n plen root (o .size) z h
+-- over any history of our store kd_marked answers 1 for a block exactly if since the opening the block, or a piece that covers it, was
+-- answered 0, and it was not cleared after that (since a load and a repair: Saved)
+pub marked-exactly : (b : List ℕ) (n plen : ℕ) (root : List ℕ) → Octets 32 root → openAnswer b n plen .number ≡ 0 → {t : List ℕ} (h : Steps (openAfter b n plen root) t)
+    → (j : ℕ) → (markedAnswer t j ≡ done 1) ↔ JudgedRight j h
+marked-exactly b n plen root o z h = Rattle.knowledge.specs.MarksSince.marked-exactly b n plen root (o .size) z h
 
-  -- the bytes of blocks past the file's are never set
-  pub past-never-marked : (j : ℕ) → blocksOf t ≤ j → j < 2 ^ heightOf t → markedAt t j ≡ false
-  past-never-marked = Rattle.knowledge.specs.MarksSince.past-never b n plen root (o .size) z h
+-- the bytes of blocks past the file's are never set
+pub past-never-marked : {s t : List ℕ} → Begins s → Steps s t → (j : ℕ) → blocksOf t ≤ j → j < 2 ^ heightOf t → markedAt t j ≡ false
+past-never-marked = Rattle.knowledge.specs.LoadedMarks.past-never
+
+-- over any history of any usable store, one that was loaded too: exactly if judged right and not cleared after that, or marked at first and not
+-- cleared since
+pub marked-since : (s : List ℕ) → usable s ≡ true → {t : List ℕ} (h : Steps s t) (j : ℕ)
+    → (markedAnswer t j ≡ done 1) ↔ (JudgedRight j h ⊎ ((markedAnswer s j ≡ done 1) × Uncleared j t h))
+marked-since = Rattle.knowledge.specs.MarksSince.marked-since
 
 -- "the marks may go back, but only by that call", and by an opening: of any usable store
 pub goes-back-only : (s : List ℕ) → usable s ≡ true → (c : Call) (j : ℕ) → markedAnswer s j ≡ done 1 → (markedAnswer (after c s) j ≡ done 1 → ⊥)
@@ -48,21 +54,21 @@ marked-after = Rattle.knowledge.specs.MarksSince.after-call
 pub right-then : {j : ℕ} {c : Call} {u s t : List ℕ} {h : Steps s t} → JudgedBy j c u t h → RightFor u j c
 right-then = Rattle.knowledge.specs.MarksSince.right-then
 
-module _ (b : List ℕ) (n plen : ℕ) (root : List ℕ) (o : Octets 32 root) (z : openAnswer b n plen .number ≡ 0) {t : List ℕ} (h : Steps (openAfter b n plen root) t) where
-  -- and by what the store holds at last
-  pub right-still : (j : ℕ) {c : Call} {u : List ℕ} → JudgedBy j c u t h → RightFor t j c
-  right-still j {c} {u} = Rattle.knowledge.specs.MarksSince.right-now b n plen root (o .size) z h j
+-- and by what the store holds at last
+pub right-still : {s t : List ℕ} → usable s ≡ true → {h : Steps s t} {j : ℕ} {c : Call} {u : List ℕ} → JudgedBy j c u t h → RightFor t j c
+right-still {s} us = Rattle.knowledge.specs.MarksSince.right-still (usable-facts s us)
 
+module _ {s t : List ℕ} (begun : Begins s) (h : Steps s t) where
   -- from the root to the mark: in a store for a file the block that was judged is the file's, or a pair is shown,
-  pub marked-block-is-the-files : (file : List ℕ) → Bytes b → For file t → Bytes file → {j : ℕ} {u : List ℕ} (i : ℕ) (block : List ℕ) (bb : Bytes block)
+  pub marked-block-is-the-files : (file : List ℕ) → For file t → Bytes file → {j : ℕ} {u : List ℕ} (i : ℕ) (block : List ℕ) (bb : Bytes block)
       → JudgedBy j (judgeBlock i block bb) u t h
       → Shown (heightOf u) (heldBy u) (ofFile file) ⊎ (OneHash (blockSize (fileLength u) i) block (blockOf file i) ⊎ (block ≡ blockOf file i))
-  marked-block-is-the-files file bytes w bf = Rattle.knowledge.specs.MarkedIsTheFiles.marked-by-block b n plen root bytes o z h file w bf
+  marked-block-is-the-files = Rattle.knowledge.specs.MarkedIsTheFiles.marked-by-block begun h
 
   -- and so is the piece,
-  pub marked-piece-is-the-files : (file : List ℕ) → Bytes b → For file t → Bytes file → {j : ℕ} {u : List ℕ} (i : ℕ) (piece : List ℕ) (bp : Bytes piece)
+  pub marked-piece-is-the-files : (file : List ℕ) → For file t → Bytes file → {j : ℕ} {u : List ℕ} (i : ℕ) (piece : List ℕ) (bp : Bytes piece)
       → JudgedBy j (judgePiece i piece bp) u t h → PieceIs file u i piece
-  marked-piece-is-the-files file bytes w bf = Rattle.knowledge.specs.MarkedIsTheFiles.marked-by-piece b n plen root bytes o z h file w bf
+  marked-piece-is-the-files = Rattle.knowledge.specs.MarkedIsTheFiles.marked-by-piece begun h
 
 -- in which the file's block stands at its place
 pub block-in-piece : (file s : List ℕ) → usable s ≡ true → (i j : ℕ) → i < pieceCount (fileLength s) (pieceLength s) → Covers s i j

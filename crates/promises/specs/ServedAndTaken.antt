@@ -23,7 +23,7 @@ use Rattle.messages.specs.TakeLaws.{passed, passes}
 use Rattle.serve.specs.Serve.{heldRun, runHashes, heldUncles, uncleHashes, allHeld, allHashes, requestNumber, replyTo, serveAnswer}
 use Rattle.serve.specs.ServeLaws.{head-same, request-zero, served-reply, fits-sent}
 use Rattle.words.specs.Held.{Holds}
-use Rattle.words.specs.History.{Bytes, begin, OurStore, ours}
+use Rattle.words.specs.History.{Bytes, begin, byOpening, OurStore, ours}
 use Rattle.words.specs.Messages.{anchorLayer, anchorIndex}
 use Rattle.knowledge.specs.Grows.{Grown, grown-take}
 use Rattle.knowledge.specs.Again.{what-is-held}
@@ -198,7 +198,7 @@ module _ (a b : List ℕ) (oa : Octets 32 a) (ob : Octets 32 b) (buffer other ou
       let e = open-is other (pairHash a b) room in
       record {
         ours = ours-with-two-leaves a b oa ob buffer bytes fits;
-        theirs = ours other 32768 16384 (pairHash a b) theirs (pair-octets a b) (opens other room) begin;
+        theirs = ours (byOpening other 32768 16384 (pairHash a b) theirs (pair-octets a b) (opens other room)) begin;
         files = file-here ∙ sym (ap fileLength e ∙ opened-file other 32768 16384 R ok room (root-size a b oa ob));
         roots = root a b oa ob buffer bytes fits ∙ sym (ap factsRoot e ∙ opened-facts-root other 32768 16384 R ok room (root-size a b oa ob));
         served = served-with-0 a b oa ob buffer bytes fits out long;

@@ -32,7 +32,7 @@ use Rattle.header.specs.Header.{hashesId, headerOf, isHashes}
 use Rattle.messages.specs.Take.{given, placeIn, takeNumber, takeAfter}
 use Rattle.messages.specs.TakeLaws.{passed}
 use Rattle.words.specs.Held.{Holds}
-use Rattle.words.specs.History.{Bytes, take, judgeBlock, call, lent, begin, next, OurStore, ours}
+use Rattle.words.specs.History.{Bytes, take, judgeBlock, call, lent, begin, next, byOpening, OurStore, ours}
 use Rattle.words.specs.Messages.{hashIn, anchorLayer, anchorIndex, Settles, inRun, parent}
 use Rattle.words.specs.File.{For, pieceFor, TrueHashes}
 use Rattle.knowledge.specs.Again.{what-is-held}
@@ -75,7 +75,7 @@ module _ (a b : List ℕ) (oa : Octets 32 a) (ob : Octets 32 b) (buffer : List �
 module _ (a b : List ℕ) (oa : Octets 32 a) (ob : Octets 32 b) (buffer : List ℕ) (bytes : Bytes buffer) (fits : storeSize 32768 ≤ length buffer) where
   -- a store of two blocks, opened by us, that has heard its two leaves: written by this build only,
   pub ours-with-two-leaves : OurStore (takeAfter (openAfter buffer 32768 16384 (pairHash a b)) (twoLeaves a b))
-  ours-with-two-leaves = ours buffer 32768 16384 (pairHash a b) bytes (pair-octets a b) (opens buffer fits) (next begin (call (take (twoLeaves a b) (leaves-bytes a b oa ob)) (λ x. absurd x)))
+  ours-with-two-leaves = ours (byOpening buffer 32768 16384 (pairHash a b) bytes (pair-octets a b) (opens buffer fits)) (next begin (call (take (twoLeaves a b) (leaves-bytes a b oa ob)) (λ x. absurd x)))
 
   opened-two : List ℕ
   opened-two = opened buffer 32768 16384 (pairHash a b)
@@ -162,7 +162,7 @@ module _ (file buffer : List ℕ) (two-blocks : length file ≡ 32768) (fits : s
   pub ours-for-the-file : Bytes buffer → OurStore (opened buffer 32768 16384 (piecesRoot file))
   ours-for-the-file bytes =
       let o : Octets 32 (piecesRoot file) = rw root-is (pair-octets (leafOf file 0) (leafOf file 1)) in
-      rw (← open-is buffer (piecesRoot file) fits) (ours buffer 32768 16384 (piecesRoot file) bytes o (opens buffer fits) begin)
+      rw (← open-is buffer (piecesRoot file) fits) (ours (byOpening buffer 32768 16384 (piecesRoot file) bytes o (opens buffer fits)) begin)
 
   -- and kd_held gives the message's anchor
   pub anchor-for-the-file :
@@ -180,7 +180,7 @@ module _ (file buffer : List ℕ) (two-blocks : length file ≡ 32768) (fits : s
 
 -- a store of ours exists: a file of one byte
 pub a-store-of-ours : OurStore (openAfter (blank 1) 1 16384 zeroHash)
-a-store-of-ours = ours (blank 1) 1 16384 zeroHash (blank-bytes 1) zero-octets (blank-opens 1 16384 in-range) begin
+a-store-of-ours = ours (byOpening (blank 1) 1 16384 zeroHash (blank-bytes 1) zero-octets (blank-opens 1 16384 in-range)) begin
   where
     in-range : factsInRange 1 16384 ≡ true
     in-range = unfold factsInRange isPieceLength pieceLayer height heightFrom in refl
@@ -200,10 +200,10 @@ a-store-lent-longer x b = by a-store-of-ours
         byte (suc i) l = let w : ⊥ = omega arith in absurd w
 
     by : OurStore s → OurStore (s ++ (x ∷ []))
-    by (ours m n plen root bytes o z h) =
-        let f = ours-have (ours m n plen root bytes o z h) .chained .facts in
-        let c = append-octets (ours-bytes (ours m n plen root bytes o z h)) one in
-        ours m n plen root bytes o z
+    by (ours w h) =
+        let f = ours-have (ours w h) .chained .facts in
+        let c = append-octets (ours-bytes (ours w h)) one in
+        ours w
         (next h (lent (s ++ (x ∷ [])) (sized-bytes (length s + 1) (s ++ (x ∷ [])) c)
         (record { store = facts-usable s f; bytes = cut-append-left s (x ∷ []) 0 (storeSize (fileLength s)) (omega (arith, f .size)) })))
 

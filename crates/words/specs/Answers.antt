@@ -15,12 +15,13 @@ use Rattle.serve.specs.Serve.{replyTo, rejectTo, serveAnswer, serveAfter}
 use Rattle.asking.specs.Asking.{noRequest}
 use Rattle.asking.specs.Picking.{noPiece}
 use Rattle.words.specs.Messages.{Rejected}
-use Rattle.words.specs.History.{Send, serve, bitfield, Look, ask, send, Call, take, loadLayer, judgeBlock, judgePiece, clear, reopen, look, Reply, withCount, withHash, withRequest, withPiece, replyNumber}
+use Rattle.words.specs.History.{Send, serve, bitfield, Look, ask, send, Call, take, loadLayer, judgeBlock, judgePiece, clear, reopen, look, Reply, withCount, withHash, withRequest, withPiece, replyNumber, save, load, repair, withCounts}
 
 -- with this number the call gets a reject: it is a request, and the number 2, 3 or 12
 abbrev pub SentReject : Send → ℕ → Type 0
 SentReject (serve m b) n = Rejected n
 SentReject bitfield n = ⊥
+SentReject save n = ⊥
 
 abbrev pub LookRejected : Look → ℕ → Type 0
 LookRejected (ask k) n = ⊥
@@ -33,14 +34,17 @@ GetsReject (judgeBlock i d b) n = ⊥
 GetsReject (judgePiece i d b) n = ⊥
 GetsReject (clear i) n = ⊥
 GetsReject (reopen k plen root o) n = ⊥
+GetsReject (load b x) n = ⊥
+GetsReject (repair b x) n = ⊥
 GetsReject (look k) n = LookRejected k n
 
--- all that stands beside the number is zero: a count or a size, a hash's 32 bytes, a request, a piece's number
+-- all that stands beside the number is zero: a count or a size, a hash's 32 bytes, a request, a piece's number, the counts of a repair
 abbrev pub Zeros : Reply → Type 0
 Zeros (withCount a) = a .count ≡ 0
 Zeros (withHash h) = h .hash ≡ zeroHash
 Zeros (withRequest r) = r ≡ noRequest (r .number)
 Zeros (withPiece c) = c ≡ noPiece (c .number)
+Zeros (withCounts r) = (r .dropped ≡ 0) × (r .held ≡ 0)
 
 -- what stands beside a refusal: the reject's size beside a reject, else zeros
 pub data Beside : Call → Reply → Type 0 where

@@ -10,6 +10,7 @@ use lib.Dec.{eqb}
 use Rattle.sha256.specs.declared.Hashed.{Hashed}
 use Rattle.cells.specs.Entries.{oneIf}
 use Rattle.store.specs.Store.{heldAnswer}
+use Rattle.saved.specs.Clauses.{Hashes}
 
 -- position i of layer l is held with the hash v
 pub record Holds (s : List ℕ) (l i : ℕ) (v : List ℕ) : Type 0 where
@@ -26,10 +27,6 @@ pub record Position (h l i : ℕ) : Type 0 where
   pub inside : i < 2 ^ (h - l)
 
 -- ---- hashes offered to a store
-
--- hashes at the positions of a tree, by layer and index
-abbrev pub Hashes : Type 1
-Hashes = ℕ → ℕ → List ℕ → Type 0
 
 -- no hash that the store holds differs from these
 abbrev pub NoneDiffers : List ℕ → Hashes → Type 0

@@ -1,5 +1,5 @@
 -- 00, demand 3: what happens to one store "from one opening to the next, through any messages and layer loads and with no other
--- hand in its bytes".
+-- hand in its bytes". 02, request 13: loading a save and repairing one count as openings.
 -- Assumes nothing.
 use Prim.{Unit}
 use mathlib.Core.Path.{_≡_}
@@ -19,6 +19,9 @@ use Rattle.asking.specs.declared.pick.Choice.{Choice}
 use Rattle.asking.specs.Asking.{nextAnswer}
 use Rattle.asking.specs.Picking.{pickAnswer}
 use Rattle.marks.specs.Marks.{clearAnswer, clearAfter, markedAnswer, fieldAnswer, fieldAfter}
+use Rattle.saved.specs.Save.{saveAnswer, saveAfter}
+use Rattle.saved.specs.Saved.{loadAnswer, loadAfter, repairAnswer, repairAfter}
+use Rattle.saved.specs.declared.repair.Repaired.{Repaired}
 
 -- a string of bytes, of whatever length
 abbrev pub Bytes : List ℕ → Type 0
@@ -44,6 +47,8 @@ pub data Send : Type 0 where
   serve : (m : List ℕ) → Bytes m → Send
   -- kd_bitfield
   bitfield : Send
+  -- kd_save
+  save : Send
 
 -- calls that only look at a store: they are lent it as `&`
 pub data Look : Type 0 where
@@ -63,21 +68,26 @@ pub data Call : Type 0 where
   clear : (i : ℕ) → Call
   -- kd_open, of bytes that may be a store already: a file's length, a piece length and a pieces root
   reopen : (n plen : ℕ) (root : List ℕ) → Octets 32 root → Call
+  -- kd_load, kd_repair, into bytes that may be a store already: saved bytes
+  load : (saved : List ℕ) → Bytes saved → Call
+  repair : (saved : List ℕ) → Bytes saved → Call
   -- one that only looks
   look : Look → Call
 
--- what a call answers: a number with a count or a size, with a hash, with a request, with a piece's number
+-- what a call answers: a number with a count or a size, with a hash, with a request, with a piece's number, with the two counts of a repair
 pub data Reply : Type 0 where
   withCount : Answer → Reply
   withHash : Hashed → Reply
   withRequest : Request → Reply
   withPiece : Choice → Reply
+  withCounts : Repaired → Reply
 
 abbrev pub replyNumber : Reply → ℕ
 replyNumber (withCount a) = a .number
 replyNumber (withHash h) = h .number
 replyNumber (withRequest r) = r .number
 replyNumber (withPiece c) = c .number
+replyNumber (withCounts r) = r .number
 
 -- what a call answers that takes the bytes s as its store
 abbrev pub asked : Ask → List ℕ → Reply
@@ -90,6 +100,7 @@ asked (pickPiece counts) s = withPiece (pickAnswer s counts)
 abbrev pub sendReply : Send → List ℕ → List ℕ → Reply
 sendReply (serve m b) s out = withCount (serveAnswer s m out)
 sendReply bitfield s out = withCount (fieldAnswer s out)
+sendReply save s out = withCount (saveAnswer s out)
 
 abbrev pub looked : Look → List ℕ → Reply
 looked (ask k) s = asked k s
@@ -102,6 +113,8 @@ answer (judgeBlock i d b) s = withCount (blockAnswer s i d)
 answer (judgePiece i d b) s = withCount (pieceAnswer s i d)
 answer (clear i) s = withCount (clearAnswer s i)
 answer (reopen n plen root o) s = withCount (openAnswer s n plen)
+answer (load b x) s = withCount (loadAnswer s b)
+answer (repair b x) s = withCounts (repairAnswer s b)
 answer (look k) s = looked k s
 
 abbrev pub number : Call → List ℕ → ℕ
@@ -115,14 +128,17 @@ after (judgeBlock i d b) s = blockAfter s i d
 after (judgePiece i d b) s = pieceAfter s i d
 after (clear i) s = clearAfter s i
 after (reopen n plen root o) s = openAfter s n plen root
+after (load b x) s = loadAfter s b
+after (repair b x) s = repairAfter s b
 after (look k) s = s
 
 -- and in the output that it fills
 abbrev pub sentTo : Send → List ℕ → List ℕ → List ℕ
 sentTo (serve m b) s out = serveAfter s m out
 sentTo bitfield s out = fieldAfter s out
+sentTo save s out = saveAfter s out
 
--- it is an opening
+-- it is an opening: loading and repairing count as one
 abbrev pub Opening : Call → Type 0
 Opening (take m b) = ⊥
 Opening (loadLayer l b) = ⊥
@@ -130,6 +146,8 @@ Opening (judgeBlock i d b) = ⊥
 Opening (judgePiece i d b) = ⊥
 Opening (clear i) = ⊥
 Opening (reopen n plen root o) = Unit {0}
+Opening (load b x) = Unit {0}
+Opening (repair b x) = Unit {0}
 Opening (look k) = ⊥
 
 -- it can make a hash held: a hashes message, a layer, an opening
@@ -140,6 +158,8 @@ Teaches (judgeBlock i d b) = ⊥
 Teaches (judgePiece i d b) = ⊥
 Teaches (clear i) = ⊥
 Teaches (reopen n plen root o) = Unit {0}
+Teaches (load b x) = Unit {0}
+Teaches (repair b x) = Unit {0}
 Teaches (look k) = ⊥
 
 -- ---- histories
@@ -161,11 +181,16 @@ pub data Steps (s : List ℕ) : List ℕ → Type 0 where
   begin : Steps s s
   next : {t u : List ℕ} → Steps s t → Step t u → Steps s u
 
--- the bytes of a store that only this build has written: opened by us, and changed since by our calls that take it as their store. It is a
--- statement about what happened: whatever a buffer held before, it begins with an opening, and filling it as an output is no step.
+-- what an opening, a load or a repair leaves that is answered 0, whatever the buffer held before
+pub data Begins : List ℕ → Type 0 where
+  byOpening : (b : List ℕ) (n plen : ℕ) (root : List ℕ) → Bytes b → Octets 32 root → openAnswer b n plen .number ≡ 0 → Begins (openAfter b n plen root)
+  byLoading : (b saved : List ℕ) → Bytes b → Bytes saved → loadAnswer b saved .number ≡ 0 → Begins (loadAfter b saved)
+  byRepairing : (b saved : List ℕ) → Bytes b → Bytes saved → repairAnswer b saved .number ≡ 0 → Begins (repairAfter b saved)
+
+-- the bytes of a store that only this build has written: begun by us, and changed since by our calls that take it as their store. It is a
+-- statement about what happened: filling it as an output is no step.
 pub data OurStore (t : List ℕ) : Type 0 where
-  ours : (b : List ℕ) (n plen : ℕ) (root : List ℕ) → Bytes b → Octets 32 root → openAnswer b n plen .number ≡ 0
-      → Steps (openAfter b n plen root) t → OurStore t
+  ours : {s : List ℕ} → Begins s → Steps s t → OurStore t
 
 -- each call of a history is one of these calls
 pub data Each (C : Call → Type 0) {s : List ℕ} : (t : List ℕ) → Steps s t → Type 0 where

@@ -7,5 +7,6 @@ pub mod FourClauses
 pub mod File
 pub mod Answers
 pub mod Marks
+pub mod Saving
 pub mod Hearing
 pub mod Asking

@@ -15,7 +15,7 @@ use Rattle.marks.specs.Marks.{marksStart}
 use Rattle.pieces.specs.Pieces.{pieceHeight}
 use Rattle.words.specs.Held.{Holds}
 use Rattle.words.specs.Pieces.{BlockFormed, PieceFormed, PieceSettles}
-use Rattle.words.specs.History.{Bytes, Ask, held, takeReject, isMarked, nextRequest, pickPiece, Send, serve, bitfield, Look, ask, send, Call, take, loadLayer, judgeBlock, judgePiece, clear, reopen, look, number, after, Opening, SameStore, call, lent, Steps, next}
+use Rattle.words.specs.History.{Bytes, Ask, held, takeReject, isMarked, nextRequest, pickPiece, Send, serve, bitfield, Look, ask, send, Call, take, loadLayer, judgeBlock, judgePiece, clear, reopen, look, number, after, Opening, SameStore, call, lent, Steps, next, save, load, repair, begin}
 
 -- block j is one of the file's, and its first byte lies in piece i
 pub record Covers (s : List ℕ) (i j : ℕ) : Type 0 where
@@ -38,7 +38,7 @@ pub record SameButMarks (s t : List ℕ) : Type 0 where
   pub room : storeSize (fileLength s) ≤ length t
   pub bytes : cut t 0 (marksStart s) ≡ cut s 0 (marksStart s)
 
--- a call about hashes: all but those about marks and an opening
+-- a call about hashes: all but those about marks, a save, which has the marks in it, and an opening, loading and repairing included
 abbrev pub AsksHashes : Ask → Type 0
 AsksHashes (held l i) = Unit {0}
 AsksHashes (takeReject m b) = Unit {0}
@@ -49,6 +49,7 @@ AsksHashes (pickPiece counts) = ⊥
 abbrev pub SendsHashes : Send → Type 0
 SendsHashes (serve m b) = Unit {0}
 SendsHashes bitfield = ⊥
+SendsHashes save = ⊥
 
 abbrev pub LooksAtHashes : Look → Type 0
 LooksAtHashes (ask k) = AsksHashes k
@@ -61,6 +62,8 @@ AboutHashes (judgeBlock i d b) = Unit {0}
 AboutHashes (judgePiece i d b) = Unit {0}
 AboutHashes (clear i) = ⊥
 AboutHashes (reopen n plen root o) = ⊥
+AboutHashes (load b x) = ⊥
+AboutHashes (repair b x) = ⊥
 AboutHashes (look k) = LooksAtHashes k
 
 -- ---- marks over a history
@@ -73,6 +76,8 @@ Judges s j (judgeBlock i d b) = i ≡ j
 Judges s j (judgePiece i d b) = Covers s i j
 Judges s j (clear i) = ⊥
 Judges s j (reopen n plen root o) = ⊥
+Judges s j (load b x) = ⊥
+Judges s j (repair b x) = ⊥
 Judges s j (look k) = ⊥
 
 -- the call is to clear block j
@@ -83,6 +88,8 @@ Clears j (judgeBlock i d b) = ⊥
 Clears j (judgePiece i d b) = ⊥
 Clears j (clear i) = i ≡ j
 Clears j (reopen n plen root o) = ⊥
+Clears j (load b x) = ⊥
+Clears j (repair b x) = ⊥
 Clears j (look k) = ⊥
 
 -- in a history, the call c on the bytes u judged block j right, and block j was not cleared after that: c was the last step, given block j's
@@ -98,6 +105,13 @@ pub record JudgedRight (j : ℕ) {s t : List ℕ} (h : Steps s t) : Type 0 where
   pub c : Call
   pub u : List ℕ
   pub by : JudgedBy j c u t h
+
+-- in a history block j was not cleared
+pub data Uncleared (j : ℕ) {s : List ℕ} : (t : List ℕ) → Steps s t → Type 0 where
+  atFirst : Uncleared j s begin
+  byCall : {t : List ℕ} {h : Steps s t} (d : Call) (x : Opening d → number d t ≡ 0 → ⊥) → Uncleared j t h → (Clears j d → number d t ≡ 0 → ⊥)
+      → Uncleared j (after d t) (next h (call d x))
+  byLending : {t : List ℕ} {h : Steps s t} (v : List ℕ) (b : Bytes v) (e : SameStore t v) → Uncleared j t h → Uncleared j v (next h (lent v b e))
 
 -- the bytes that a call was given are right for block j in the store t: a block has the block's length, and its SHA-256 is the hash that
 -- kd_held gives for leaf j; a piece that covers it has the piece's length, and what its blocks make is the hash that kd_held gives for its node

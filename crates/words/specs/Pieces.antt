@@ -10,7 +10,8 @@ use Rattle.tree.specs.Geometry.{pieceCount, blockSize, pieceSize}
 use Rattle.tree.specs.Values.{leafOf, layerLeaf}
 use Rattle.store.specs.Store.{usable, fileLength, pieceLength, blocksOf, heightOf}
 use Rattle.pieces.specs.Pieces.{layerOfPieces, pieceHeight}
-use Rattle.words.specs.Held.{Holds, Hashes}
+use Rattle.saved.specs.Clauses.{Hashes}
+use Rattle.words.specs.Held.{Holds}
 
 -- 2^k leaves stand in layer b, those under number y of the layer k above it; and above two children the hash of left then right
 pub data Over (leaf : ℕ → List ℕ) (b y k : ℕ) : ℕ → ℕ → List ℕ → Type 0 where

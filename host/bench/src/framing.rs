@@ -28,7 +28,7 @@ fn mode(id: u8, length: usize, room: usize) -> u32 {
 
 /// The C library copies long parts by an instruction that counts as many as it moves bytes; in chunks no such instruction is used.
 #[inline(always)]
-fn copy<const IN_CHUNKS: bool>(to: &mut [u8], from: &[u8]) {
+pub fn copy<const IN_CHUNKS: bool>(to: &mut [u8], from: &[u8]) {
     if !IN_CHUNKS {
         return to.copy_from_slice(from);
     }

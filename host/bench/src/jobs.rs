@@ -5,7 +5,7 @@
 use crate::measure::{Prepared, Work};
 use crate::plain::{self, Hasher};
 use crate::scene::{Scene, Size, LARGEST, ONE_GIB, PIECE};
-use crate::{asking, careful, framing, lanes, writer};
+use crate::{asking, careful, framing, lanes, saving, writer};
 use host_tests::lists::{self, Planned};
 use host_tests::random::Random;
 use host_tests::shapes;
@@ -25,6 +25,8 @@ pub struct Job {
     pub bytes: usize,
     /// Instructions are counted of this job.
     pub is_counted: bool,
+    /// Its time is taken.
+    pub is_timed: bool,
     /// The names of the versions, in their order; the first is what the others are compared with.
     pub versions: Vec<&'static str>,
     pub ready: Box<dyn Fn() -> Vec<Box<dyn Work>>>,
@@ -69,6 +71,7 @@ pub fn all() -> Vec<Job> {
     jobs.extend(listed.map(|shape| on_torrent(shape, "kd_torrent_list", listing)).map(Job::plain_alone));
     jobs.extend(lists::GOOD.iter().map(on_list));
     jobs.extend(on_streams());
+    jobs.extend(on_saves());
     jobs
 }
 
@@ -80,7 +83,16 @@ fn job(
     ready: impl Fn() -> Vec<Box<dyn Work>> + 'static,
 ) -> Job {
     let versions = vec!["plain-rust", "careful-rust", "eight-lane-rust", entry_point];
-    Job { name: name.to_string(), entry_point, asked, bytes, is_counted: true, versions, ready: Box::new(ready) }
+    Job {
+        name: name.to_string(),
+        entry_point,
+        asked,
+        bytes,
+        is_counted: true,
+        is_timed: true,
+        versions,
+        ready: Box::new(ready),
+    }
 }
 
 /// A job of hashes that come one after the other, so that none are side by side.
@@ -128,6 +140,10 @@ fn on_list(list: &lists::Shape) -> Job {
 impl Job {
     fn not_counted(self) -> Job {
         Job { is_counted: false, ..self }
+    }
+
+    fn not_timed(self) -> Job {
+        Job { is_timed: false, ..self }
     }
 
     /// Plain Rust that copies by the C library, and in chunks, and the library.
@@ -690,6 +706,27 @@ fn sending(message: Vec<u8>) -> Vec<Box<dyn Work>> {
         version(|message, out| framing::frame::<true>(message, out).number),
         version(|message, out| boundary::frame(message, out).number),
     ]
+}
+
+/// The blocks of a file of 1 GiB; of one that is half padding, in a tree of the same height; of the longest file.
+const SAVED: [(usize, &str); 3] = [(1 << 16, "1GiB"), ((1 << 15) + 1, "padded"), (LONGEST_LAYER, "16GiB")];
+
+/// Stores saved, loaded and repaired.
+fn on_saves() -> Vec<Job> {
+    let mut jobs = Vec::new();
+    for (blocks, name) in SAVED {
+        let size = saving::Full::new(blocks).saved_size();
+        let load = job("load", "kd_load", "1.3", size, move || saving::loading(blocks, IN_RUST));
+        jobs.push(Job { name: format!("load-{name}"), ..load });
+        let repair =
+            in_library("repair", "kd_load", "kd_repair", "", size, move || saving::repairing(blocks, IN_RUST[0]));
+        jobs.push(Job { name: format!("repair-{name}"), ..repair });
+        let save = job("save", "kd_save", "2.0", size, move || saving::saving(blocks, IN_RUST[0]));
+        let versions = vec!["copy-rust", "in-chunks-rust", "plain-rust", "kd_save"];
+        jobs.push(Job { name: format!("save-{name}"), versions, ..save });
+    }
+    let too_long = |job: &Job| job.name.ends_with("16GiB");
+    jobs.into_iter().map(|job| if too_long(&job) { job.not_timed() } else { job }).collect()
 }
 
 /// A message with a block of a file.

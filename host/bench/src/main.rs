@@ -12,6 +12,7 @@ mod jobs;
 mod lanes;
 mod measure;
 mod plain;
+mod saving;
 mod scene;
 mod writer;
 
@@ -20,7 +21,7 @@ use jobs::Job;
 fn main() {
     let arguments: Vec<String> = std::env::args().skip(1).collect();
     match &arguments[..] {
-        [] => jobs::all().iter().for_each(table),
+        [] => jobs::all().iter().filter(|job| job.is_timed).for_each(table),
         [word] if word == "jobs" => jobs::all().iter().filter(|job| job.is_counted).for_each(names),
         [name] => drop((find(name).ready)()),
         [name, version] => once(&find(name), version),

@@ -1,14 +1,19 @@
 //! A store as an ordinary Rust programmer writes it, for comparison: an `Option` for each node, a `Vec` for what a message
 //! settles, every hash worked out once, alone or eight at a time.
 
-use reference::limits::LONGEST_RUN;
+use reference::limits::{LARGEST_PIECE_LENGTH, LONGEST_FILE, LONGEST_RUN};
 use reference::sha256::Hash;
 
 const BLOCK: usize = 16384;
 const HEAD: usize = 49;
+/// The records of a save: its opening, a position, a mark or the end.
+const OPENING: usize = 45;
+const POSITION: usize = 41;
+const MARK: usize = 5;
 
 pub struct Store {
     root: Hash,
+    length: u64,
     blocks: usize,
     height: u32,
     piece_length: usize,
@@ -74,7 +79,7 @@ impl Store {
         for layer in 0..height as usize {
             padding.push((hasher.one)(&[padding[layer]; 2].concat()));
         }
-        Store { root, blocks, height, piece_length: piece_length as usize, nodes, padding, hasher }
+        Store { root, length, blocks, height, piece_length: piece_length as usize, nodes, padding, hasher }
     }
 
     /// Takes a hashes message, and says how many positions are newly held.
@@ -137,6 +142,118 @@ impl Store {
         worked_out.extend((worked_out.len()..leaves).map(|missing| (first + missing, [0; 32])));
         self.add_parents(&mut worked_out, leaves);
         worked_out.last().is_some_and(|&(node, hash)| self.nodes[node] == Some(hash)) && self.agree(&worked_out)
+    }
+
+    /// Writes what is held and marked, and says how many bytes that are.
+    pub fn save(&self, marks: &[bool], out: &mut [u8]) -> Option<usize> {
+        let held = self.nodes.iter().flatten().count();
+        let marked = marks.iter().filter(|is_marked| **is_marked).count();
+        let size = OPENING + POSITION * held + MARK * marked + MARK;
+        let (opening, rest) = out.get_mut(..size)?.split_at_mut(OPENING);
+        let (positions, rest) = rest.split_at_mut(POSITION * held);
+        let (marked_blocks, end) = rest.split_at_mut(MARK * marked);
+        opening[0] = 1;
+        opening[1..9].copy_from_slice(&self.length.to_be_bytes());
+        opening[9..13].copy_from_slice(&(self.piece_length as u32).to_be_bytes());
+        opening[13..].copy_from_slice(&self.root);
+        let places = (0..=self.height).flat_map(|layer| {
+            let width = 1 << (self.height - layer);
+            let row = self.nodes[width..2 * width].iter().enumerate();
+            row.filter_map(move |(index, hash)| Some((layer, index as u32, hash.as_ref()?)))
+        });
+        for (record, (layer, index, hash)) in positions.chunks_exact_mut(POSITION).zip(places) {
+            record[0] = 2;
+            record[1..5].copy_from_slice(&layer.to_be_bytes());
+            record[5..9].copy_from_slice(&index.to_be_bytes());
+            record[9..].copy_from_slice(hash);
+        }
+        let blocks = marks.iter().enumerate().filter(|(_, is_marked)| **is_marked);
+        for (record, (block, _)) in marked_blocks.chunks_exact_mut(MARK).zip(blocks) {
+            record[0] = 3;
+            record[1..].copy_from_slice(&(block as u32).to_be_bytes());
+        }
+        end[0] = 4;
+        end[1..].copy_from_slice(&(marked as u32).to_be_bytes());
+        Some(size)
+    }
+
+    /// The store that was saved, and its marks: if the bytes have the form, and the positions chain to the root.
+    pub fn load(saved: &[u8], hasher: Hasher) -> Option<(Store, Vec<bool>)> {
+        let word = |bytes: &[u8]| u32::from_be_bytes(bytes.try_into().unwrap());
+        let (opening, rest) = saved.split_at_checked(OPENING)?;
+        let length = u64::from_be_bytes(opening[1..9].try_into().unwrap());
+        let piece_length = word(&opening[9..13]) as u64;
+        let in_range = (1..=LONGEST_FILE).contains(&length)
+            && piece_length.is_power_of_two()
+            && (BLOCK as u64..=LARGEST_PIECE_LENGTH).contains(&piece_length);
+        if opening[0] != 1 || !in_range {
+            return None;
+        }
+        let (rest, end) = rest.split_at_checked(rest.len().checked_sub(MARK)?)?;
+        let marked = word(&end[1..]) as usize;
+        let (positions, marked_blocks) = rest.split_at_checked(rest.len().checked_sub(MARK * marked)?)?;
+        if end[0] != 4 || positions.len() % POSITION != 0 {
+            return None;
+        }
+        let mut store = Store::open(length, piece_length, opening[13..].try_into().unwrap(), hasher);
+        let root = store.nodes[1].take();
+        let mut last = None;
+        for record in positions.chunks_exact(POSITION) {
+            let (layer, index) = (word(&record[1..5]), word(&record[5..9]) as usize);
+            let in_tree = layer <= store.height && index < 1 << (store.height - layer);
+            if record[0] != 2 || !in_tree || last.is_some_and(|last| last >= (layer, index)) {
+                return None;
+            }
+            last = Some((layer, index));
+            let node = (1 << (store.height - layer)) + index;
+            let hash = record[9..].try_into().unwrap();
+            if !store.is_right_padding(node, &hash) {
+                return None;
+            }
+            store.nodes[node] = Some(hash);
+        }
+        if store.nodes[1] != root || !store.has_families() {
+            return None;
+        }
+        let mut marks = vec![false; store.blocks];
+        let mut next = 0;
+        for record in marked_blocks.chunks_exact(MARK) {
+            let block = word(&record[1..]) as usize;
+            if record[0] != 3 || block < next {
+                return None;
+            }
+            *marks.get_mut(block)? = true;
+            next = block + 1;
+        }
+        Some((store, marks))
+    }
+
+    /// Whether every position but the root is held with its sibling and its parent, and the parent is the hash of the two.
+    fn has_families(&self) -> bool {
+        let mut both = Vec::with_capacity(8);
+        for (parent, children) in self.nodes.chunks_exact(2).enumerate().skip(1) {
+            match (self.nodes[parent], children[0], children[1]) {
+                (_, None, None) => (),
+                (Some(above), Some(left), Some(right)) => both.push((above, joined(&left, &right))),
+                _ => return false,
+            }
+            if both.len() == 8 && !self.are_parents(&mut both) {
+                return false;
+            }
+        }
+        self.are_parents(&mut both)
+    }
+
+    /// Whether each hash is that of the two beside it, eight at a time where that can be.
+    fn are_parents(&self, both: &mut Vec<(Hash, [u8; 64])>) -> bool {
+        let of_eight = match (self.hasher.eight, <&[_; 8]>::try_from(&both[..])) {
+            (Some(eight), Ok(all)) => Some(eight(all.each_ref().map(|(_, two)| &two[..]))),
+            _ => None,
+        };
+        let hashes = (0..).map(|i| of_eight.map_or_else(|| (self.hasher.one)(&both[i].1), |hashes| hashes[i]));
+        let is_right = both.iter().zip(hashes).all(|((above, _), hash)| *above == hash);
+        both.clear();
+        is_right
     }
 
     /// The header of a message of this id, if it obeys the rules.

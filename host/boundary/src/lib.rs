@@ -6,7 +6,7 @@ mod raw;
 
 pub use raw::{
     Answer, Choice, File, Hash, Hashed, Hashing, HashingAnswer, Heard, History, HistoryAnswer, HistoryEnd, Part,
-    Request, Stream, Torrent, NODES,
+    Repaired, Request, Stream, Torrent, NODES,
 };
 
 pub fn sha256(data: &[u8]) -> Hashed {
@@ -91,6 +91,18 @@ pub fn next_request(store: &[u8], layer: u64) -> Request {
 
 pub fn pick_piece(store: &[u8], counts: &[u32]) -> Choice {
     unsafe { raw::kd_pick_piece(store.as_ptr(), store.len(), counts.as_ptr(), counts.len()) }
+}
+
+pub fn save(store: &[u8], out: &mut [u8]) -> Answer {
+    unsafe { raw::kd_save(store.as_ptr(), store.len(), out.as_mut_ptr(), out.len()) }
+}
+
+pub fn load(store: &mut [u8], saved: &[u8]) -> Answer {
+    unsafe { raw::kd_load(store.as_mut_ptr(), store.len(), saved.as_ptr(), saved.len()) }
+}
+
+pub fn repair(store: &mut [u8], saved: &[u8]) -> Repaired {
+    unsafe { raw::kd_repair(store.as_mut_ptr(), store.len(), saved.as_ptr(), saved.len()) }
 }
 
 pub fn torrent_read(torrent: &[u8]) -> Torrent {

@@ -133,6 +133,14 @@ pub struct Choice {
     pub piece: u64,
 }
 
+#[repr(C)]
+#[derive(Clone, Copy, Debug, PartialEq, Eq)]
+pub struct Repaired {
+    pub number: u32,
+    pub dropped: u64,
+    pub held: u64,
+}
+
 // The same sizes and offsets that the C test asserts of the header.
 const _: () = {
     assert!(size_of::<Hash>() == 32);
@@ -159,6 +167,7 @@ const _: () = {
     assert!(offset_of!(Request, index) == 12 && offset_of!(Request, length) == 16);
     assert!(offset_of!(Request, proof) == 20 && offset_of!(Request, message) == 24);
     assert!(size_of::<Choice>() == 16 && offset_of!(Choice, found) == 4 && offset_of!(Choice, piece) == 8);
+    assert!(size_of::<Repaired>() == 24 && offset_of!(Repaired, dropped) == 8 && offset_of!(Repaired, held) == 16);
     assert!(size_of::<Part>() == 24 && offset_of!(Part, start) == 8 && offset_of!(Part, size) == 16);
 };
 
@@ -197,6 +206,9 @@ extern "C" {
     pub fn kd_bitfield(store: *const u8, size: usize, out: *mut u8, out_size: usize) -> Answer;
     pub fn kd_next_request(store: *const u8, size: usize, layer: u64) -> Request;
     pub fn kd_pick_piece(store: *const u8, size: usize, counts: *const u32, count: usize) -> Choice;
+    pub fn kd_save(store: *const u8, size: usize, out: *mut u8, out_size: usize) -> Answer;
+    pub fn kd_load(store: *mut u8, size: usize, saved: *const u8, saved_size: usize) -> Answer;
+    pub fn kd_repair(store: *mut u8, size: usize, saved: *const u8, saved_size: usize) -> Repaired;
     pub fn kd_torrent_read(torrent: *const u8, size: usize) -> Torrent;
     pub fn kd_torrent_file(torrent: *const u8, size: usize, file: u64) -> File;
     pub fn kd_torrent_path(torrent: *const u8, size: usize, file: u64, element: u64) -> Part;

@@ -1,6 +1,7 @@
 //! The host as a peer of a seed: it asks for a run past the last block, for a run longer than libtorrent's own and for all hashes of each
 //! file, offers each reply to the library, and damaged ones in between. Then, with a fresh store, it asks for exactly what the library names
-//! next, to the last leaf, and fetches the pieces that the library picks, to the last one, and judges them.
+//! next, to the last leaf, and fetches the pieces that the library picks, to the last one, and judges them. On the way it is restarted: the store
+//! is saved, loaded into fresh memory, and the host goes on with that.
 
 use crate::contents::{Contents, File};
 use crate::peer::{of_words, word, Peer};
@@ -20,6 +21,7 @@ struct Counts {
     at_once: u64,
     rounds: u64,
     named: u64,
+    restarts: u64,
     refused: u64,
     believed: u64,
 }
@@ -36,14 +38,15 @@ pub fn run(contents: &Contents, port: u16) -> io::Result<()> {
         learn_at_once(&mut peer, file, &mut counts)?;
         learn_hashes(&mut peer, file, &mut store, &mut counts)?;
         let mut memory = Vec::new();
-        let mut asking = file.open(&mut memory);
-        learn_by_asking(&mut peer, file, &mut asking, &mut counts)?;
-        hand_on(file, &asking);
-        judge_pieces(&mut peer, file, &mut asking, &mut counts)?;
+        file.open(&mut memory);
+        learn_by_asking(&mut peer, file, &mut memory, &mut counts)?;
+        hand_on(file, &Store::over(&mut memory));
+        judge_pieces(&mut peer, file, &mut memory, &mut counts)?;
         assert_eq!(counts.believed, file.blocks(), "every block is believed");
         println!(
             "{}: {} replies taken ({} of them had come before their anchor; {} rounds in two orders leave the same), {} more past the last \
-             block, {} longer than {RUN}, {} damaged ones refused; from a fresh store {} requests as named, {} of {} blocks believed",
+             block, {} longer than {RUN}, {} damaged ones refused; from a fresh store {} requests as named, {} restarts, {} of {} blocks \
+             believed",
             file.path.display(),
             counts.taken,
             counts.before_their_anchor,
@@ -52,6 +55,7 @@ pub fn run(contents: &Contents, port: u16) -> io::Result<()> {
             counts.at_once,
             counts.refused,
             counts.named,
+            counts.restarts,
             counts.believed,
             file.blocks()
         );
@@ -171,22 +175,34 @@ fn most_replies(file: &File, layer: u64) -> u64 {
     file.blocks().div_ceil(1 << layer).div_ceil(length)
 }
 
-/// Asks the seed for exactly what the store names, until there is nothing to ask.
-fn learn_by_asking(peer: &mut Peer, file: &File, store: &mut Store, counts: &mut Counts) -> io::Result<()> {
+/// A restart: the store is saved, and loaded into memory that held something else. It is the same then, byte by byte.
+fn restart(memory: &mut Vec<u8>, counts: &mut Counts) {
+    let mut saved = vec![0; 2 * memory.len()];
+    let size = Store::over(memory).save(&mut saved).done().expect("twice the store's size is room enough");
+    let mut fresh = vec![0xa5; memory.len()];
+    let (store, held) = Store::load(&mut fresh, &saved[..size as usize]).done().expect("what was saved is loaded");
+    assert!(held > 0 && store.bytes() == memory, "the same hashes and marks");
+    *memory = fresh;
+    counts.restarts += 1;
+}
+
+/// Asks the seed for exactly what the store names, until there is nothing to ask; behind each reply there is a restart.
+fn learn_by_asking(peer: &mut Peer, file: &File, memory: &mut Vec<u8>, counts: &mut Counts) -> io::Result<()> {
     for layer in layers(file) {
         let mut replies = 0;
         while let Some(request) =
-            store.next_request(layer).done().expect("a layer of the file, and a root that is held")
+            Store::over(memory).next_request(layer).done().expect("a layer of the file, and a root that is held")
         {
             let reply = ask(peer, &request.message)?;
-            assert!(store.take(&reply).is_done(), "its anchor is held");
+            assert!(Store::over(memory).take(&reply).is_done(), "its anchor is held");
+            restart(memory, counts);
             replies += 1;
         }
         assert!(replies <= most_replies(file, layer));
         counts.named += replies;
     }
     for block in 0..file.blocks() {
-        assert!(store.held(0, block).is_done(), "every leaf is held");
+        assert!(Store::over(memory).held(0, block).is_done(), "every leaf is held");
     }
     Ok(())
 }
@@ -247,10 +263,13 @@ fn offer_damaged(store: &mut Store, reply: &[u8], counts: &mut Counts) {
     counts.refused += 5;
 }
 
-/// Fetches the pieces that the library picks: the seed has each, so the lowest that isn't on disk comes first.
-fn judge_pieces(peer: &mut Peer, file: &File, store: &mut Store, counts: &mut Counts) -> io::Result<()> {
+/// Fetches the pieces that the library picks: the seed has each, so the lowest that isn't on disk comes first. Behind the middle one
+/// there is a restart, and the picking goes on behind it.
+fn judge_pieces(peer: &mut Peer, file: &File, memory: &mut Vec<u8>, counts: &mut Counts) -> io::Result<()> {
     let neighbours = vec![1; file.pieces() as usize];
-    while let Some(piece) = store.pick_piece(&neighbours).done().expect("a count for each piece") {
+    loop {
+        let mut store = Store::over(memory);
+        let Some(piece) = store.pick_piece(&neighbours).done().expect("a count for each piece") else { break };
         let start = piece * file.piece_length;
         let size = file.piece_length.min(file.length - start);
         let mut bytes = fetch_piece(peer, (file.first_piece + piece) as u32, size)?;
@@ -264,8 +283,11 @@ fn judge_pieces(peer: &mut Peer, file: &File, store: &mut Store, counts: &mut Co
             assert_eq!(store.judge_block(number, block), Answer::Differs, "a damaged block is not believed");
         }
         assert_eq!(store.judge_piece(piece, &bytes), Answer::Differs, "nor a piece of them");
+        if piece == file.pieces() / 2 {
+            restart(memory, counts);
+        }
     }
-    all_marked(file, store);
+    all_marked(file, &Store::over(memory));
     Ok(())
 }
 

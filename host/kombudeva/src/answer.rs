@@ -59,6 +59,8 @@ pub enum Answer<T> {
     NoSuchFile,
     /// 30: a frame, or a message to be framed, of more than 300,000 bytes
     FrameTooLong,
+    /// 32: bytes that are no saved store
+    NotSaved,
 }
 
 /// Number, name and words of each refusal.
@@ -126,6 +128,7 @@ refusals! {
     28 LayerDiffers "a piece layer that does not give its root";
     29 NoSuchFile "no such file or path element";
     30 FrameTooLong "a frame that is too long";
+    32 NotSaved "not a saved store";
 }
 
 impl<T> Answer<T> {
@@ -154,7 +157,7 @@ mod tests {
 
     #[test]
     fn every_number_of_the_table_comes_back() {
-        for number in (0..=12).chain(19..=30) {
+        for number in (0..=12).chain(19..=30).chain([32]) {
             assert_eq!(Answer::of(number, ()).number(), number);
             assert_eq!(Answer::of(number, ()).map(|()| 5u8).number(), number);
         }

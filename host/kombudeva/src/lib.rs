@@ -32,7 +32,7 @@ mod writing;
 
 pub use answer::Answer;
 pub use running::{Hashing, History, Logged};
-pub use store::{store_size, Request, Served, Store};
+pub use store::{store_size, Repaired, Request, Served, Store};
 pub use stream::{frame, Heard, Hearing, Stream};
 pub use torrent::{File, List, Listed, Torrent};
 pub use writing::TorrentBuilder;

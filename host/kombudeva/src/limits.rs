@@ -24,5 +24,7 @@ pub const RECORD: usize = 280;
 pub const WRITE_RECORD: usize = 56;
 /// The bytes of a message in a stream, its id counted, its prefix not: room enough for a [`Stream`](crate::Stream).
 pub const LONGEST_FRAME: usize = 300000;
+/// The bytes of the largest save: the longest file, all held, all marked.
+pub const LARGEST_SAVE: usize = 91226121;
 /// The longest string that SHA-256 has a hash for, in bytes: one of 2^64 bits has none.
 pub const LONGEST_HASHED: usize = 2305843009213693951;

@@ -45,6 +45,13 @@ pub struct Request {
     pub message: [u8; 49],
 }
 
+/// What a repair made of saved bytes: how many positions it dropped, and how many are held.
+#[derive(Clone, Copy, Debug, PartialEq, Eq)]
+pub struct Repaired {
+    pub dropped: u64,
+    pub held: u64,
+}
+
 impl<'a> Store<'a> {
     /// Makes the memory a store of which the root alone is held. Bytes behind the store's size stay.
     ///
@@ -53,6 +60,25 @@ impl<'a> Store<'a> {
     pub fn open(memory: &'a mut [u8], length: u64, piece_length: u64, root: Hash) -> Answer<Store<'a>> {
         let given = boundary::open(memory, length, piece_length, boundary::Hash { bytes: root });
         Answer::of(given.number, Store { memory })
+    }
+
+    /// Makes the memory the store that was saved, whatever stood there; Done has the positions held beside it. The bytes may come from
+    /// anywhere: they are loaded only if all their hashes chain to the root. Their marks can't be checked and are believed.
+    ///
+    /// Refused, in this order: [`NotSaved`](Answer::NotSaved) without a whole opening record,
+    /// [`FactsOutOfRange`](Answer::FactsOutOfRange), [`Unusable`](Answer::Unusable) where the memory is shorter than the store,
+    /// [`NotSaved`](Answer::NotSaved) for the rest.
+    pub fn load(memory: &'a mut [u8], saved: &[u8]) -> Answer<(Store<'a>, u64)> {
+        let given = boundary::load(memory, saved);
+        Answer::of(given.number, (Store { memory }, given.count))
+    }
+
+    /// Loads the largest part of saved positions that can be loaded, and clears all marks. It asks for the whole form, and the root.
+    ///
+    /// Refused as [`Store::load`].
+    pub fn repair(memory: &'a mut [u8], saved: &[u8]) -> Answer<(Store<'a>, Repaired)> {
+        let given = boundary::repair(memory, saved);
+        Answer::of(given.number, (Store { memory }, Repaired { dropped: given.dropped, held: given.held }))
     }
 
     /// A store opened earlier, or any bytes.
@@ -140,5 +166,13 @@ impl<'a> Store<'a> {
     pub fn pick_piece(&self, counts: &[u32]) -> Answer<Option<u64>> {
         let boundary::Choice { number, found, piece } = boundary::pick_piece(self.memory, counts);
         Answer::of(number, (found == 1).then_some(piece))
+    }
+
+    /// Writes what is held and marked at the front of `out`, for [`Store::load`]; Done says its size. Twice the store's size is always
+    /// room enough.
+    ///
+    /// Refused, in this order: [`Unusable`](Answer::Unusable), [`NoRoom`](Answer::NoRoom).
+    pub fn save(&self, out: &mut [u8]) -> Answer<u64> {
+        count(boundary::save(self.memory, out))
     }
 }

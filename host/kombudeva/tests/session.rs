@@ -1,6 +1,6 @@
 //! The session of document 01 through the binding, on five blocks in pieces of four. The tree is made by host/reference.
 
-use kombudeva::{sha256, store_size, Answer, Hashing, History, Request, Store, Torrent};
+use kombudeva::{sha256, store_size, Answer, Hashing, History, Repaired, Request, Store, Torrent};
 use reference::limits::BLOCK;
 use reference::messages::{Header, HASHES, REJECT, REQUEST};
 use reference::tree::{of_file, Position};
@@ -142,6 +142,36 @@ fn marks() {
     assert_eq!(field[0], 0x40);
     assert_eq!(store.bitfield(&mut []), Answer::NoRoom);
     assert_eq!(store.held(2, 0), Answer::Done(known.at(2, 0)), "no hash is forgotten");
+}
+
+#[test]
+fn a_store_is_saved_loaded_and_repaired() {
+    let known = known();
+    let mut memory = Vec::new();
+    let mut store = known.open(&mut memory);
+    assert_eq!(store.take(&known.message([2, 0, 2, 0])), Answer::Done(2));
+    assert_eq!(store.take(&known.message([0, 0, 4, 1])), Answer::Done(6));
+    assert_eq!(store.judge_block(2, known.block(2)), Answer::Done(0));
+    let mut saved = vec![0; 2 * store.bytes().len()];
+    assert_eq!(store.save(&mut []), Answer::NoRoom);
+    let size = store.save(&mut saved).done().unwrap() as usize;
+    saved.truncate(size);
+
+    let mut other = vec![0xaa; store.bytes().len()];
+    assert_eq!(Store::load(&mut other, &saved[1..]).number(), 32);
+    let (loaded, held) = Store::load(&mut other, &saved).done().unwrap();
+    assert_eq!(held, 9);
+    assert_eq!(size, 50 + 41 * 9 + 5);
+    assert_eq!(loaded.bytes(), store.bytes());
+    assert_eq!(loaded.marked(2), Answer::Done(1));
+
+    saved[45 + 9] ^= 1; // the first position's hash
+    let mut other = vec![0xaa; store.bytes().len()];
+    assert_eq!(Store::load(&mut other, &saved).number(), 32);
+    let (repaired, counts) = Store::repair(&mut other, &saved).done().unwrap();
+    assert_eq!(counts, Repaired { dropped: 2, held: held - 2 });
+    assert_eq!(repaired.held(0, 0), Answer::NoAnchor);
+    assert_eq!(repaired.marked(2), Answer::Done(0));
 }
 
 #[test]

@@ -18,6 +18,7 @@ pub mod number;
 pub mod pieces;
 pub mod replay;
 pub mod running;
+pub mod saved;
 pub mod sha256;
 pub mod store;
 pub mod stream;

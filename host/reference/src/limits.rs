@@ -12,4 +12,5 @@ pub const ELEMENTS: usize = 28;
 pub const RECORD: usize = 280;
 pub const WRITE_RECORD: usize = 56;
 pub const LONGEST_FRAME: usize = 300000;
+pub const LARGEST_SAVE: usize = 91226121;
 pub const LONGEST_HASHED: u64 = 2305843009213693951;

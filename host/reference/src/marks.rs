@@ -16,7 +16,8 @@ fn place(facts: &Facts, block: u64) -> usize {
     (size_of(facts) - facts.width(0) + block) as usize
 }
 
-fn is_marked(store: &[u8], facts: &Facts, block: u64) -> bool {
+/// Whether a block's data was judged right.
+pub fn is_marked(store: &[u8], facts: &Facts, block: u64) -> bool {
     store[place(facts, block)] == MARKED
 }
 

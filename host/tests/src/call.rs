@@ -7,6 +7,7 @@ use crate::states::{
 use reference::asking::{self, Choice, Request};
 use reference::history::{End, History};
 use reference::running::Hashing;
+use reference::saved::{self, Repaired};
 use reference::sha256::{sha256, Hash};
 use reference::stream::Stream;
 use reference::torrent::{File, Part, Torrent};
@@ -36,6 +37,9 @@ pub enum Entry {
     Bitfield,
     NextRequest,
     PickPiece,
+    Save,
+    Load,
+    Repair,
     TorrentRead,
     TorrentFile,
     TorrentPath,
@@ -70,6 +74,9 @@ impl Entry {
             Entry::Bitfield => "kd_bitfield",
             Entry::NextRequest => "kd_next_request",
             Entry::PickPiece => "kd_pick_piece",
+            Entry::Save => "kd_save",
+            Entry::Load => "kd_load",
+            Entry::Repair => "kd_repair",
             Entry::TorrentRead => "kd_torrent_read",
             Entry::TorrentFile => "kd_torrent_file",
             Entry::TorrentPath => "kd_torrent_path",
@@ -88,7 +95,7 @@ pub struct Call {
     pub entry: Entry,
     /// The store, or the bytes of a state: any bytes are one. Or the list of files that a torrent is written of.
     pub store: Vec<u8>,
-    /// The message, layer, block, piece, torrent, string, burst or bytes of a stream; or the text that such a list points into; or
+    /// The message, layer, block, piece, torrent, string, burst, save or bytes of a stream; or the text that such a list points into; or
     /// counts of pieces, four bytes each.
     pub input: Vec<u8>,
     /// The output, the layer lent to a history, or the room lent to a stream.
@@ -137,6 +144,7 @@ pub enum Given {
     End(End),
     Request(Request),
     Choice(Choice),
+    Repaired(Repaired),
     /// Beside a state, which is left in the call's store.
     State(u32),
     /// Number, event, used bytes and size of a call on a stream, whose state is left so too.
@@ -154,6 +162,7 @@ impl Given {
             Given::End(end) => end.number,
             Given::Request(request) => request.number,
             Given::Choice(choice) => choice.number,
+            Given::Repaired(repaired) => repaired.number,
             Given::State(number) | Given::Heard(number, ..) => *number,
         }
     }
@@ -209,6 +218,9 @@ pub fn by_reference(call: &Call) -> Outcome {
         Entry::Bitfield => Given::Answer(marks::bitfield(&store, &mut out)),
         Entry::NextRequest => Given::Request(asking::next_request(&store, first)),
         Entry::PickPiece => Given::Choice(asking::pick_piece(&store, &counts_in(&input))),
+        Entry::Save => Given::Answer(saved::save(&store, &mut out)),
+        Entry::Load => Given::Answer(saved::load(&mut store, &input)),
+        Entry::Repair => Given::Repaired(saved::repair(&mut store, &input)),
         Entry::TorrentRead => Given::Torrent(torrent::torrent_read(&input)),
         Entry::TorrentFile => Given::File(torrent::torrent_file(&input, first)),
         Entry::TorrentPath => Given::Part(torrent::torrent_path(&input, first, second)),
@@ -316,6 +328,9 @@ pub fn by_library(call: &Call) -> Outcome {
             message[..4 * counts.len()].copy_from_slice(&bytes_of(black_box(&counts)));
             given
         }
+        Entry::Save => answer(boundary::save(held_bytes, room)),
+        Entry::Load => answer(boundary::load(held_bytes, message)),
+        Entry::Repair => repaired(boundary::repair(held_bytes, message)),
         Entry::TorrentRead => torrent_of(boundary::torrent_read(message)),
         Entry::TorrentFile => file_of(boundary::torrent_file(message, first)),
         Entry::TorrentPath => part_of(boundary::torrent_path(message, first, second)),
@@ -339,6 +354,10 @@ fn answer(given: boundary::Answer) -> Given {
 
 fn hashed(given: boundary::Hashed) -> Given {
     Given::Hashed(Hashed { number: given.number, hash: given.hash.bytes })
+}
+
+fn repaired(given: boundary::Repaired) -> Given {
+    Given::Repaired(Repaired { number: given.number, dropped: given.dropped, held: given.held })
 }
 
 fn torrent_of(given: boundary::Torrent) -> Given {

@@ -10,6 +10,7 @@ pub mod headers;
 pub mod lists;
 pub mod random;
 pub mod replays;
+pub mod saves;
 pub mod sessions;
 pub mod shapes;
 pub mod states;

@@ -7,7 +7,7 @@
 use host_tests::call::by_library;
 use host_tests::compare::{report, Comparison};
 use host_tests::random::Random;
-use host_tests::{bursts, fillings, headers, lists, sessions, shapes, streams, torrents};
+use host_tests::{bursts, fillings, headers, lists, saves, sessions, shapes, streams, torrents};
 use std::env;
 use std::process::exit;
 use std::time::{Duration, Instant, SystemTime, UNIX_EPOCH};
@@ -33,7 +33,7 @@ struct Part {
 /// A torrent of libtorrent's, with a layer.
 const SINGLE: &[u8] = include_bytes!("../../real/single.torrent");
 
-const PARTS: [Part; 18] = [
+const PARTS: [Part; 20] = [
     Part { name: "strings", cases: |random, compared, _| fillings::run(random, compared) },
     Part { name: "bursts", cases: |random, compared, go_on| bursts::run(random, compared, go_on) },
     Part { name: "every-cut-of-strings", cases: |random, compared, _| bursts::run_through_every_cut(random, compared) },
@@ -42,6 +42,8 @@ const PARTS: [Part; 18] = [
     Part { name: "every-header-odd", cases: |random, compared, _| headers::run(1, random, compared) },
     Part { name: "every-header-even", cases: |random, compared, _| headers::run(2, random, compared) },
     Part { name: "large-file", cases: |random, compared, _| sessions::run_on_a_large_file(random, compared, 40) },
+    Part { name: "saves", cases: |random, compared, go_on| saves::run(random, compared, go_on) },
+    Part { name: "each-byte-of-a-save", cases: |random, compared, _| saves::run_through_every_byte(random, compared) },
     Part { name: "torrents", cases: |random, compared, go_on| torrents::run(random, compared, go_on) },
     Part { name: "each-byte-of-single", cases: |_, compared, _| torrents::run_through_every_byte(SINGLE, compared) },
     Part {

@@ -1,0 +1,21 @@
+use Rattle.saved.specs.Form.{indexIn}
+use Prim.Native.Nat.{_-_}
+use borrow.Author.Needs.{needs}
+use Rattle.saved.proofs.form.index_in.Statement.{statement}
+use Rattle.saved.proofs.form.index_in.Tie as tie
+
+mul-number-at : tie.Need-mul-number-at
+mul-number-at c = search needs
+
+add-number-at : tie.Need-add-number-at
+add-number-at c = search needs
+
+number-at-requires : tie.Need-number-at-requires
+number-at-requires c κs = search needs
+
+returns : tie.Need-returns
+unfolding indexIn
+returns c = search needs
+
+pub index-in-spec : {M : Type 1} → statement M
+index-in-spec = tie.close (tie.spec mul-number-at add-number-at number-at-requires returns)
