@@ -9,7 +9,7 @@
 #include <string.h>
 #include <sys/mman.h>
 
-_Static_assert(sizeof(kd_hash) == 32, "kd_hash");
+_Static_assert(sizeof(kd_hash) == KD_HASH, "kd_hash");
 _Static_assert(sizeof(kd_hashed) == 36, "kd_hashed");
 _Static_assert(offsetof(kd_hashed, number) == 0, "kd_hashed.number");
 _Static_assert(offsetof(kd_hashed, hash) == 4, "kd_hashed.hash");
@@ -342,7 +342,7 @@ static void layers(void)
     uint8_t fresh[STORE], damaged[64];
     memcpy(damaged, tree[2], sizeof damaged);
     damaged[63] ^= 1;
-    kd_open(fresh, STORE, LENGTH, PIECE, root());
+    answers("kd_open of a fresh store", kd_open(fresh, STORE, LENGTH, PIECE, root()), KD_DONE, 1);
     answers("a damaged layer", kd_load_layer(fresh, STORE, damaged, 64), KD_DIFFERS, 0);
     answers("half a layer", kd_load_layer(fresh, STORE, tree[2][0].bytes, 32), KD_WRONG_SIZE, 0);
     answers("kd_load_layer of NULL", kd_load_layer(fresh, STORE, NULL, 0), KD_WRONG_SIZE, 0);
@@ -448,7 +448,7 @@ static void asking(void)
     asks("a layer of 64 bits", kd_next_request(store, STORE, (uint64_t)1 << 32), KD_RULE_BROKEN, NULL);
     asks("kd_next_request on NULL", kd_next_request(NULL, 0, 0), KD_UNUSABLE, NULL);
     asks("guarded kd_next_request", kd_next_request(guarded(store, STORE), STORE, 0), KD_DONE, all_leaves);
-    kd_open(fresh, STORE, LENGTH, PIECE, root());
+    answers("kd_open of a fresh store", kd_open(fresh, STORE, LENGTH, PIECE, root()), KD_DONE, 1);
     kd_request upper = kd_next_request(fresh, STORE, 2);
     answers("a request that was named is served", kd_serve(store, STORE, upper.message, HEAD, reply, ROOM), KD_DONE, HEAD + 64);
     answers("and its reply taken", kd_take(fresh, STORE, reply, HEAD + 64), KD_DONE, 2);
@@ -688,16 +688,23 @@ static void limits(void)
     answers("the largest piece length", kd_store_size(longest, largest), KD_DONE, whole.count);
     answers("a larger piece length", kd_store_size(longest, 2 * largest), KD_FACTS_OUT_OF_RANGE, 0);
 
-    uint8_t *tallest = malloc(whole.count), reject[HEAD];
+    static uint8_t out[KD_LARGEST_REPLY];
+    uint8_t *tallest = malloc(whole.count), message[HEAD];
     if (tallest == NULL || kd_open(tallest, whole.count, longest, smallest, root()).number != KD_DONE)
         exit(2);
     check("the tallest tree", is_hashed(kd_held(tallest, whole.count, KD_TALLEST_TREE, 0), KD_DONE, root()));
     check("a taller tree", kd_held(tallest, whole.count, KD_TALLEST_TREE + 1, 0).number == KD_RULE_BROKEN);
-    write_head(reject, REJECT, 0, 0, 0, 0);
-    reject[43] = KD_LONGEST_RUN >> 8;
-    answers("the longest run", kd_take_reject(tallest, whole.count, reject, HEAD), KD_DONE, 0);
-    reject[43] = 2 * KD_LONGEST_RUN >> 8;
-    answers("a longer run", kd_take_reject(tallest, whole.count, reject, HEAD), KD_RULE_BROKEN, 0);
+    write_head(message, REJECT, 0, 0, 0, 0);
+    message[43] = KD_LONGEST_RUN >> 8;
+    answers("the longest run", kd_take_reject(tallest, whole.count, message, HEAD), KD_DONE, 0);
+    message[43] = 2 * KD_LONGEST_RUN >> 8;
+    answers("a longer run", kd_take_reject(tallest, whole.count, message, HEAD), KD_RULE_BROKEN, 0);
+    /* Every position is held, and the request goes up to the root. */
+    memset(tallest + 64, 1, whole.count - 64);
+    write_head(message, REQUEST, 0, 0, 0, KD_TALLEST_TREE - 1);
+    message[43] = KD_LONGEST_RUN >> 8;
+    answers("the largest reply", kd_serve(tallest, whole.count, message, HEAD, out, sizeof out), KD_DONE, KD_LARGEST_REPLY);
+    answers("a byte less room", kd_serve(tallest, whole.count, message, HEAD, out, sizeof out - 1), KD_NO_ROOM, 0);
     free(tallest);
 
     static uint8_t bytes[KD_LARGEST_TORRENT + 1];
@@ -803,6 +810,7 @@ static void streams(void)
 
 int main(void)
 {
+    check("kd_version", kd_version() == KD_VERSION_NUMBER);
     hashes();
     make_tree();
     bursts();

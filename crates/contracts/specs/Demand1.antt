@@ -36,7 +36,7 @@ use Rattle.promises.specs.EachNumber.{serve-2, serve-3, serve-12}
 use Rattle.promises.specs.Marks.{field-refused}
 use Rattle.promises.specs.Saved.{save-refused}
 use Rattle.promises.specs.Running as Running
-use Rattle.contracts.specs.Entries.{AnyCall, onStore, sha256, storeSize, hashingBegin, hashingMore, hashingEnd, historyBegin, historyMore, historyEnd, streamBegin, streamHear, frame, torrentRead, torrentFile, torrentPath, torrentList, torrentWrite, FromTable, Refused, Silent, said, output, outputAfter, lent, left, RejectSent, request, ValuesZero}
+use Rattle.contracts.specs.Entries.{AnyCall, onStore, version, sha256, storeSize, hashingBegin, hashingMore, hashingEnd, historyBegin, historyMore, historyEnd, streamBegin, streamHear, frame, torrentRead, torrentFile, torrentPath, torrentList, torrentWrite, FromTable, Refused, Silent, said, output, outputAfter, lent, left, RejectSent, request, ValuesZero}
 
 -- ---- the torrent calls' numbers are in the table
 
@@ -152,6 +152,7 @@ every-number-in-table (hashingEnd h) = Running.hashing-end-in-table h
 every-number-in-table (historyBegin plen) = Running.history-begin-in-table plen
 every-number-in-table (historyMore h burst layer) = Running.history-more-in-table h burst layer
 every-number-in-table (historyEnd h layer) = Running.history-end-in-table h layer
+every-number-in-table version = tt
 every-number-in-table streamBegin = tt
 every-number-in-table (streamHear s bytes room b) = hear-in-table s room bytes
 every-number-in-table (frame m out) = rw (answer-number m out) (frame-in-table m (length out))
@@ -173,6 +174,7 @@ silent-lent-nothing (hashingEnd h) e = refl
 silent-lent-nothing (historyBegin plen) e = refl
 silent-lent-nothing (historyMore h burst layer) e = absurd e
 silent-lent-nothing (historyEnd h layer) e = absurd e
+silent-lent-nothing version e = refl
 silent-lent-nothing streamBegin e = refl
 silent-lent-nothing (streamHear s bytes room b) e = absurd e
 silent-lent-nothing (frame m out) e = absurd e
@@ -193,6 +195,7 @@ every-refusal-leaves (hashingEnd h) ne nr = refl
 every-refusal-leaves (historyBegin plen) ne nr = refl
 every-refusal-leaves (historyMore h burst layer) ne nr = ap (λ (o : List ℕ). o ∷ []) (Running.history-more-refused h burst layer ne .1)
 every-refusal-leaves (historyEnd h layer) ne nr = ap (λ (o : List ℕ). o ∷ []) (Running.history-end-refused h layer ne)
+every-refusal-leaves version ne nr = refl
 every-refusal-leaves streamBegin ne nr = refl
 every-refusal-leaves (streamHear s bytes room b) ne nr = ap (λ (o : List ℕ). o ∷ []) (refusal-leaves-room s room bytes (bytes-of bytes b) ne)
 every-refusal-leaves (frame m out) ne nr = ap (λ (o : List ℕ). o ∷ []) (frame-refusal m out ne .1)
@@ -235,6 +238,7 @@ every-value-zero (hashingEnd h) ne = Running.beside-hashing-end h ne
 every-value-zero (historyBegin plen) ne = Running.beside-history-begin plen ne
 every-value-zero (historyMore h burst layer) ne = Running.history-more-refused h burst layer ne .0
 every-value-zero (historyEnd h layer) ne = Running.beside-history-end h layer ne
+every-value-zero version ne = absurd ne
 every-value-zero streamBegin ne = absurd ne
 every-value-zero (streamHear s bytes room b) ne = hear-refusal s room bytes ne
 every-value-zero (frame m out) ne = frame-refusal m out ne .0

@@ -29,6 +29,8 @@ pub data AnyCall : Type 0 where
   -- kd_open, kd_held, kd_take, kd_take_reject, kd_serve, kd_load_layer, kd_judge_block, kd_judge_piece, kd_clear, kd_marked, kd_bitfield,
   -- kd_next_request, kd_pick_piece, kd_save, kd_load, kd_repair, and the bytes lent as their store
   onStore : (c : Call) (s : List ℕ) → AnyCall
+  -- kd_version
+  version : AnyCall
   -- kd_sha256, kd_store_size
   sha256 : (m : List ℕ) → AnyCall
   storeSize : (n plen : ℕ) → AnyCall
@@ -81,6 +83,7 @@ said (hashingEnd h) = number (Bursts.endAnswer h .number)
 said (historyBegin plen) = number (Histories.beginAnswer plen .number)
 said (historyMore h burst layer) = number (Histories.moreAnswer h burst layer .number)
 said (historyEnd h layer) = number (Histories.endAnswer h layer .number)
+said version = none
 said streamBegin = none
 said (streamHear s bytes room b) = number (hearAnswer s room bytes .number)
 said (frame m out) = number (frameAnswer m out .number)
@@ -126,6 +129,7 @@ lent (hashingEnd h) = []
 lent (historyBegin plen) = []
 lent (historyMore h burst layer) = layer ∷ []
 lent (historyEnd h layer) = layer ∷ []
+lent version = []
 lent streamBegin = []
 lent (streamHear s bytes room b) = room ∷ []
 lent (frame m out) = out ∷ []
@@ -146,6 +150,7 @@ left (hashingEnd h) = []
 left (historyBegin plen) = []
 left (historyMore h burst layer) = Histories.moreLayer h burst layer ∷ []
 left (historyEnd h layer) = Histories.endLayer h layer ∷ []
+left version = []
 left streamBegin = []
 left (streamHear s bytes room b) = hearRoom s room bytes ∷ []
 left (frame m out) = frameAfter m out ∷ []
@@ -172,6 +177,7 @@ ValuesZero (historyBegin plen) = Histories.beginAnswer plen .history ≡ Histori
 ValuesZero (historyMore h burst layer) = Histories.moreAnswer h burst layer .history ≡ h
 ValuesZero (historyEnd h layer) =
     (Histories.endAnswer h layer .length ≡ 0) × (Histories.endAnswer h layer .root ≡ zeroHash) × (Histories.endAnswer h layer .«layer_size» ≡ 0)
+ValuesZero version = ⊥
 ValuesZero streamBegin = ⊥
 ValuesZero (streamHear s bytes room b) = (hearAnswer s room bytes .event ≡ noEvent) × (hearAnswer s room bytes .size ≡ 0)
 ValuesZero (frame m out) = frameAnswer m out .count ≡ 0

@@ -31,6 +31,7 @@ use Rattle.kombudeva.proofs.kd_next_request as next-request
 use Rattle.kombudeva.proofs.kd_pick_piece as picking
 use Rattle.kombudeva.proofs.kd_bitfield as field
 use Rattle.kombudeva.proofs.kd_stream_begin as stream-begin
+use Rattle.kombudeva.proofs.kd_version as versioning
 use Rattle.kombudeva.proofs.kd_stream_hear as stream-hear
 use Rattle.kombudeva.proofs.kd_frame as framing
 use Rattle.kombudeva.proofs.kd_save as saving
@@ -135,6 +136,10 @@ picking-asks-nothing κs a = tt
 -- kd_bitfield
 pub field-asks-nothing : AsksNothing 2 field.Kinds.ps field.Reads.Asked
 field-asks-nothing κs a = tt
+
+-- kd_version
+pub versioning-asks-nothing : AsksNothing 0 versioning.Kinds.ps versioning.Reads.Asked
+versioning-asks-nothing κs a = tt
 
 -- kd_stream_begin
 pub stream-begin-asks-nothing : AsksNothing 0 stream-begin.Kinds.ps stream-begin.Reads.Asked
@@ -273,6 +278,10 @@ one-picking κs a x y t u p q = p ∙ sym q
 pub one-field : (κs : Lfts 2) (a : Dens κs field.Kinds.ps) (x y : resT field.Kinds.r κs .Denot) (t u : AtExit (endedOf 2 field.Kinds.ps field.Kinds.r) κs)
     → field.Reads.Learnt κs a x t → field.Reads.Learnt κs a y u → (x ≡ y) × (now (t .1 .0) ≡ now (u .1 .0))
 one-field κs a x y t u p q = (p .0 ∙ sym (q .0), p .1 ∙ sym (q .1))
+
+-- kd_version
+pub one-versioning : OneAnswer 0 versioning.Kinds.ps versioning.Kinds.r versioning.Reads.Learnt
+one-versioning κs a x y t u p q = p ∙ sym q
 
 -- kd_stream_begin
 pub one-stream-begin : OneAnswer 0 stream-begin.Kinds.ps stream-begin.Kinds.r stream-begin.Reads.Learnt

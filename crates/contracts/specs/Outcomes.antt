@@ -23,7 +23,7 @@ use Rattle.kombudeva.specs.declared.FileAnswer.{FileAnswer}
 use Rattle.kombudeva.specs.declared.PartAnswer.{PartAnswer}
 use Rattle.kombudeva.specs.Boundary.{countAnswer, hashAnswer, torrentAnswer, fileAnswer, partAnswer}
 use Rattle.words.specs.History.{Bytes, held, takeReject, isMarked, nextRequest, pickPiece, serve, bitfield, ask, send, take, loadLayer, judgeBlock, judgePiece, clear, reopen, look, save, load, repair}
-use Rattle.contracts.specs.Entries.{AnyCall, onStore, sha256, storeSize, hashingBegin, hashingMore, hashingEnd, historyBegin, historyMore, historyEnd, streamBegin, streamHear, frame, torrentRead, torrentFile, torrentPath, torrentList, torrentWrite, Said, number, none, FromTable, Refused, said, lent, left, RejectSent}
+use Rattle.contracts.specs.Entries.{AnyCall, onStore, version, sha256, storeSize, hashingBegin, hashingMore, hashingEnd, historyBegin, historyMore, historyEnd, streamBegin, streamHear, frame, torrentRead, torrentFile, torrentPath, torrentList, torrentWrite, Said, number, none, FromTable, Refused, said, lent, left, RejectSent}
 use Rattle.contracts.specs.Demand1.{every-number-in-table, every-refusal-leaves}
 use Rattle.kombudeva.proofs.kd_sha256 as hash
 use Rattle.kombudeva.proofs.kd_hashing_begin as hashing-begin
@@ -47,6 +47,7 @@ use Rattle.kombudeva.proofs.kd_next_request as next-request
 use Rattle.kombudeva.proofs.kd_pick_piece as picking
 use Rattle.kombudeva.proofs.kd_bitfield as field
 use Rattle.kombudeva.proofs.kd_stream_begin as stream-begin
+use Rattle.kombudeva.proofs.kd_version as versioning
 use Rattle.kombudeva.proofs.kd_stream_hear as stream-hear
 use Rattle.kombudeva.proofs.kd_frame as framing
 use Rattle.kombudeva.proofs.kd_save as saving
@@ -125,6 +126,9 @@ pub data Outcome : AnyCall → Said → List (List ℕ) → List (List ℕ) → 
   -- kd_bitfield
   by-field : (κs : Lfts 2) (a : Dens κs field.Kinds.ps) (r : resT field.Kinds.r κs .Denot) (e : AtExit (endedOf 2 field.Kinds.ps field.Kinds.r) κs) → field.Reads.Learnt κs a r e
       → (x : Bytes (now (a .1 .0))) → Outcome (onStore (look (send bitfield (now (a .1 .0)) x)) (now (a .0))) (number (r .number)) (now (a .0) ∷ now (a .1 .0) ∷ []) (now (a .0) ∷ now (e .1 .0) ∷ [])
+  -- kd_version
+  by-version : (κs : Lfts 0) (a : Dens κs versioning.Kinds.ps) (r : resT versioning.Kinds.r κs .Denot) (e : AtExit (endedOf 0 versioning.Kinds.ps versioning.Kinds.r) κs) → versioning.Reads.Learnt κs a r e
+      → Outcome version none [] []
   -- kd_stream_begin
   by-stream-begin : (κs : Lfts 0) (a : Dens κs stream-begin.Kinds.ps) (r : resT stream-begin.Kinds.r κs .Denot) (e : AtExit (endedOf 0 stream-begin.Kinds.ps stream-begin.Kinds.r) κs) → stream-begin.Reads.Learnt κs a r e
       → Outcome streamBegin none [] []
@@ -183,6 +187,7 @@ outcome-is (by-asking κs a r e p) = (ap (λ (s : CountAnswer). number (s .numbe
 outcome-is (by-next κs a r e p) = (ap (λ (s : Request). number (s .number)) p, refl, refl)
 outcome-is (by-pick κs a r e p) = (ap (λ (s : Choice). number (s .number)) p, refl, refl)
 outcome-is (by-field κs a r e p x) = (ap (λ (s : CountAnswer). number (s .number)) (p .0), refl, ap (λ (o : List ℕ). now (a .0) ∷ o ∷ []) (p .1))
+outcome-is (by-version κs a r e p) = (refl, refl, refl)
 outcome-is (by-stream-begin κs a r e p) = (refl, refl, refl)
 outcome-is (by-stream-hear κs a r e p x) = (ap (λ (s : Heard). number (s .number)) (p .0), refl, ap (λ (o : List ℕ). o ∷ []) (p .1))
 outcome-is (by-framing κs a r e p) = (ap (λ (s : CountAnswer). number (s .number)) (p .0), refl, ap (λ (o : List ℕ). o ∷ []) (p .1))

@@ -25,6 +25,7 @@ use Rattle.torrent.specs.Torrent.{readOf, fileRead, pathRead}
 use Rattle.catalogue.specs.Catalogue.{listAnswer, listAfter}
 use Rattle.writing.specs.Write.{writeAnswer, writeAfter}
 use Rattle.kombudeva.specs.Boundary.{countAnswer, hashAnswer, torrentAnswer, fileAnswer, partAnswer}
+use Rattle.kombudeva.specs.Version.{version}
 use Rattle.kombudeva.proofs.kd_sha256 as hash
 use Rattle.kombudeva.proofs.kd_hashing_begin as hashing-begin
 use Rattle.kombudeva.proofs.kd_hashing_more as hashing-more
@@ -47,6 +48,7 @@ use Rattle.kombudeva.proofs.kd_next_request as next-request
 use Rattle.kombudeva.proofs.kd_pick_piece as picking
 use Rattle.kombudeva.proofs.kd_bitfield as field
 use Rattle.kombudeva.proofs.kd_stream_begin as stream-begin
+use Rattle.kombudeva.proofs.kd_version as versioning
 use Rattle.kombudeva.proofs.kd_stream_hear as stream-hear
 use Rattle.kombudeva.proofs.kd_frame as framing
 use Rattle.kombudeva.proofs.kd_save as saving
@@ -162,6 +164,11 @@ picking-says κs a r e p = p
 pub field-says : (κs : Lfts 2) (a : Dens κs field.Kinds.ps) (r : resT field.Kinds.r κs .Denot) (e : AtExit (endedOf 2 field.Kinds.ps field.Kinds.r) κs) → field.Reads.Learnt κs a r e
     → (r ≡ countAnswer (fieldAnswer (now (a .0)) (now (a .1 .0)))) × (now (e .1 .0) ≡ fieldAfter (now (a .0)) (now (a .1 .0)))
 field-says κs a r e p = p
+
+-- kd_version
+pub versioning-says : (κs : Lfts 0) (a : Dens κs versioning.Kinds.ps) (r : resT versioning.Kinds.r κs .Denot) (e : AtExit (endedOf 0 versioning.Kinds.ps versioning.Kinds.r) κs) → versioning.Reads.Learnt κs a r e
+    → r ≡ version
+versioning-says κs a r e p = p
 
 -- kd_stream_begin
 pub stream-begin-says : (κs : Lfts 0) (a : Dens κs stream-begin.Kinds.ps) (r : resT stream-begin.Kinds.r κs .Denot) (e : AtExit (endedOf 0 stream-begin.Kinds.ps stream-begin.Kinds.r) κs) → stream-begin.Reads.Learnt κs a r e

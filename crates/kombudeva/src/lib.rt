@@ -20,6 +20,7 @@ ghost use Rattle.writing.specs.Write.{writeAnswer, writeAfter};
 ghost use Rattle.frames.specs.Frames.{frameAnswer, frameAfter};
 ghost use Rattle.stream.specs.Reading.{between, hearAnswer, hearRoom};
 ghost use Rattle.kombudeva.specs.Boundary.{countAnswer, hashAnswer, torrentAnswer, fileAnswer, partAnswer};
+ghost use Rattle.kombudeva.specs.Version.{version};
 use asking::next::Request;
 use asking::pick::Choice;
 use history::History;
@@ -35,6 +36,9 @@ use stream::Stream;
 use torrent::read::FileRead;
 use torrent::read::PartRead;
 use torrent::read::Torrent;
+
+// KD_VERSION_NUMBER
+pub const VERSION: u32 = 12000;
 
 // kd_hash
 #[repr(C)]
@@ -140,6 +144,13 @@ fn part_answer(r: PartRead) -> PartAnswer
         start: r.start as u64,
         size: r.size as u64,
     }
+}
+
+#[no_mangle]
+pub extern "C" fn kd_version() -> u32
+    ensures { λ r. ⌜ r ≡ version ⌝ }
+{
+    VERSION
 }
 
 #[no_mangle]

@@ -25,6 +25,8 @@ pub fn hash8(messages: [&[u8]; 8]) -> [Hash; 8] {
 }
 
 /// The schedules of eight blocks, each word with its round's constant added.
+// Loops over lanes, as the library has them.
+#[allow(clippy::needless_range_loop)]
 fn schedule(blocks: [&[u8]; 8]) -> [Lanes; 64] {
     let mut w = [[0; 8]; 64];
     for lane in 0..8 {

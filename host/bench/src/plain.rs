@@ -23,11 +23,14 @@ pub struct Store {
     hasher: Hasher,
 }
 
+/// The hashes of eight messages of one length.
+pub type Eight = fn([&[u8]; 8]) -> [Hash; 8];
+
 /// How a version hashes: one message, and eight of one length side by side where it can.
 #[derive(Clone, Copy)]
 pub struct Hasher {
     pub one: fn(&[u8]) -> Hash,
-    pub eight: Option<fn([&[u8]; 8]) -> [Hash; 8]>,
+    pub eight: Option<Eight>,
 }
 
 impl Hasher {

@@ -54,7 +54,7 @@ fn layers(files: &[Planned], piece_length: u64) -> Result<BTreeMap<&Hash, &[u8]>
     let mut by_root: HashMap<&Hash, &Planned> = HashMap::with_capacity(files.len());
     let full = || files.iter().filter(|file| file.length > 0);
     if full().any(|file| by_root.entry(&file.root).or_insert(file).length != file.length) {
-        return Err(SAME_ROOT);
+        return Err(TWO_LENGTHS);
     }
     let size = |file: &Planned| if file.length > piece_length { 32 * file.length.div_ceil(piece_length) } else { 0 };
     if files.iter().any(|file| file.layer.len() as u64 != size(file)) {

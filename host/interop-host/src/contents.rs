@@ -59,18 +59,18 @@ impl File<'_> {
     }
 
     /// Opens a store for this file in `memory`.
-    pub fn open<'m>(&self, memory: &'m mut Vec<u8>) -> Store<'m> {
-        memory.resize(store_size(self.length, self.piece_length).done().expect("facts of a good torrent") as usize, 0);
-        Store::open(memory, self.length, self.piece_length, self.root).done().expect("room of the store's size")
+    pub fn open<'m>(&self, memory: &'m mut Vec<u8>) -> Store<&'m mut [u8]> {
+        memory.resize(store_size(self.length, self.piece_length).expect("facts of a good torrent"), 0);
+        Store::open(&mut memory[..], self.length, self.piece_length, self.root).expect("room of the store's size")
     }
 }
 
 /// The info hash, and the files without the numbers of their pieces.
 fn read(bytes: &[u8]) -> (Hash, Vec<File<'_>>) {
-    let torrent = Torrent::read(bytes).done().expect("a good torrent");
+    let torrent = Torrent::read(bytes).expect("a good torrent");
     let file = |number| {
-        let file = torrent.file(number).done().expect("a file of the torrent");
-        let elements = (0..file.elements).map(|element| torrent.path(number, element).done().expect("an element"));
+        let file = torrent.file(number).expect("a file of the torrent");
+        let elements = (0..file.elements).map(|element| torrent.path(number, element).expect("an element"));
         let path = elements.map(text).collect();
         let piece_length = torrent.piece_length;
         File { length: file.length, root: file.root, path, layer: file.layer, first_piece: 0, piece_length }

@@ -6,8 +6,8 @@
 use crate::contents::{Contents, File};
 use crate::peer::{of_words, word, Peer};
 use kombudeva::ids::{HASHES, HASH_REJECT, HASH_REQUEST, INTERESTED, PIECE, REQUEST, UNCHOKE};
-use kombudeva::limits::{BLOCK, LONGEST_RUN};
-use kombudeva::{Answer, Store};
+use kombudeva::limits::{BLOCK, LARGEST_REPLY, LONGEST_RUN};
+use kombudeva::{Refusal, Store};
 use std::io;
 
 /// The longest run that libtorrent asks for; it answers longer ones.
@@ -38,9 +38,9 @@ pub fn run(contents: &Contents, port: u16) -> io::Result<()> {
         learn_at_once(&mut peer, file, &mut counts)?;
         learn_hashes(&mut peer, file, &mut store, &mut counts)?;
         let mut memory = Vec::new();
-        file.open(&mut memory);
+        let _ = file.open(&mut memory);
         learn_by_asking(&mut peer, file, &mut memory, &mut counts)?;
-        hand_on(file, &Store::over(&mut memory));
+        hand_on(file, &Store::over(&memory));
         judge_pieces(&mut peer, file, &mut memory, &mut counts)?;
         assert_eq!(counts.believed, file.blocks(), "every block is believed");
         println!(
@@ -96,8 +96,8 @@ fn learn_padding(peer: &mut Peer, file: &File, counts: &mut Counts) -> io::Resul
     let reply = ask(peer, &request(file, [0, leaves as u32 - 2, 2, file.height() - 1]))?;
     let mut memory = Vec::new();
     let mut store = file.open(&mut memory);
-    assert!(store.take(&reply).is_done(), "its anchor is the root");
-    assert_eq!(store.held(0, leaves - 1), Answer::Done([0; 32]), "a leaf past the last block is zeros");
+    assert!(store.take(&reply).is_ok(), "its anchor is the root");
+    assert_eq!(store.held(0, leaves - 1), Ok([0; 32]), "a leaf past the last block is zeros");
     counts.in_padding += 1;
     Ok(())
 }
@@ -111,7 +111,7 @@ fn learn_at_once(peer: &mut Peer, file: &File, counts: &mut Counts) -> io::Resul
     let reply = ask(peer, &request(file, [0, 0, leaves, 0]))?;
     let mut memory = Vec::new();
     let mut store = file.open(&mut memory);
-    assert_eq!(store.take(&reply), Answer::Done(2 * leaves as u64 - 2), "all positions but the root are new");
+    assert_eq!(store.take(&reply), Ok(2 * leaves as u64 - 2), "all positions but the root are new");
     counts.at_once += 1;
     Ok(())
 }
@@ -124,18 +124,18 @@ fn ask(peer: &mut Peer, request: &[u8]) -> io::Result<Vec<u8>> {
     Ok(reply)
 }
 
-fn learn_hashes(peer: &mut Peer, file: &File, store: &mut Store, counts: &mut Counts) -> io::Result<()> {
+fn learn_hashes(peer: &mut Peer, file: &File, store: &mut Store<&mut [u8]>, counts: &mut Counts) -> io::Result<()> {
     let (mut replies, mut early) = (Vec::new(), Vec::new());
     for request in requests(file) {
         let reply = ask(peer, &request)?;
-        if offer(store, &reply, counts) == Answer::NoAnchor {
+        if offer(store, &reply, counts) == Err(Refusal::NoAnchor) {
             early.push(reply.clone());
         }
         replies.push(reply);
     }
     counts.before_their_anchor = early.len() as u64;
     for reply in early {
-        assert!(offer(store, &reply, counts).is_done(), "its anchor is held by now");
+        assert!(offer(store, &reply, counts).is_ok(), "its anchor is held by now");
     }
     let (leaves_first, some) = hear_in_rounds(file, &replies);
     replies.reverse();
@@ -143,7 +143,7 @@ fn learn_hashes(peer: &mut Peer, file: &File, store: &mut Store, counts: &mut Co
     assert!(leaves_first == pieces_first && leaves_first == store.bytes(), "the same messages in any order");
     counts.rounds = some + others;
     for block in 0..file.blocks() {
-        assert!(store.held(0, block).is_done(), "every leaf is held");
+        assert!(store.held(0, block).is_ok(), "every leaf is held");
     }
     Ok(())
 }
@@ -155,8 +155,7 @@ fn hear_in_rounds(file: &File, replies: &[Vec<u8>]) -> (Vec<u8>, u64) {
     let mut rounds = 0;
     loop {
         rounds += 1;
-        let newly: u64 =
-            replies.iter().map(|reply| if let Answer::Done(count) = store.take(reply) { count } else { 0 }).sum();
+        let newly: u64 = replies.iter().map(|reply| store.take(reply).unwrap_or(0)).sum();
         if newly == 0 {
             return (store.bytes().to_vec(), rounds);
         }
@@ -177,12 +176,11 @@ fn most_replies(file: &File, layer: u64) -> u64 {
 
 /// A restart: the store is saved, and loaded into memory that held something else. It is the same then, byte by byte.
 fn restart(memory: &mut Vec<u8>, counts: &mut Counts) {
-    let mut saved = vec![0; 2 * memory.len()];
-    let size = Store::over(memory).save(&mut saved).done().expect("twice the store's size is room enough");
-    let mut fresh = vec![0xa5; memory.len()];
-    let (store, held) = Store::load(&mut fresh, &saved[..size as usize]).done().expect("what was saved is loaded");
+    let mut room = vec![0; 2 * memory.len()];
+    let saved = Store::over(&memory).save(&mut room).expect("twice the store's size is room enough");
+    let (store, held) = Store::load(vec![0xa5; memory.len()], saved).expect("what was saved is loaded");
     assert!(held > 0 && store.bytes() == memory, "the same hashes and marks");
-    *memory = fresh;
+    *memory = store.bytes().to_vec();
     counts.restarts += 1;
 }
 
@@ -191,10 +189,10 @@ fn learn_by_asking(peer: &mut Peer, file: &File, memory: &mut Vec<u8>, counts: &
     for layer in layers(file) {
         let mut replies = 0;
         while let Some(request) =
-            Store::over(memory).next_request(layer).done().expect("a layer of the file, and a root that is held")
+            Store::over(&memory).next_request(layer).expect("a layer of the file, and a root that is held")
         {
             let reply = ask(peer, &request.message)?;
-            assert!(Store::over(memory).take(&reply).is_done(), "its anchor is held");
+            assert!(Store::over(&mut *memory).take(&reply).is_ok(), "its anchor is held");
             restart(memory, counts);
             replies += 1;
         }
@@ -202,22 +200,20 @@ fn learn_by_asking(peer: &mut Peer, file: &File, memory: &mut Vec<u8>, counts: &
         counts.named += replies;
     }
     for block in 0..file.blocks() {
-        assert!(Store::over(memory).held(0, block).is_done(), "every leaf is held");
+        assert!(Store::over(&memory).held(0, block).is_ok(), "every leaf is held");
     }
     Ok(())
 }
 
 /// The same once more, from one of our stores to another.
-fn hand_on(file: &File, source: &Store) {
+fn hand_on<M: AsRef<[u8]>>(file: &File, source: &Store<M>) {
     let mut memory = Vec::new();
     let mut store = file.open(&mut memory);
-    let mut out = vec![0; 49 + 32 * (LONGEST_RUN + 20) as usize];
+    let mut out = vec![0; LARGEST_REPLY];
     for layer in layers(file) {
-        while let Some(request) =
-            store.next_request(layer).done().expect("a layer of the file, and a root that is held")
-        {
+        while let Some(request) = store.next_request(layer).expect("a layer of the file, and a root that is held") {
             let served = source.serve(&request.message, &mut out);
-            assert!(served.answer.is_done() && store.take(served.reply).is_done());
+            assert!(served.answer.is_ok() && store.take(served.reply).is_ok());
         }
     }
     for block in 0..file.blocks() {
@@ -226,21 +222,21 @@ fn hand_on(file: &File, source: &Store) {
 }
 
 /// Offers a true reply, and damaged ones before and after it.
-fn offer(store: &mut Store, reply: &[u8], counts: &mut Counts) -> Answer<u64> {
+fn offer(store: &mut Store<&mut [u8]>, reply: &[u8], counts: &mut Counts) -> Result<u64, Refusal> {
     offer_damaged(store, reply, counts);
     let answer = store.take(reply);
     match answer {
-        Answer::Done(_) => counts.taken += 1,
-        Answer::NoAnchor => return answer,
-        refused => panic!("a true reply is refused: {refused}"),
+        Ok(_) => counts.taken += 1,
+        Err(Refusal::NoAnchor) => return answer,
+        Err(refused) => panic!("a true reply is refused: {refused}"),
     }
     offer_damaged(store, reply, counts);
-    assert_eq!(store.take(reply), Answer::Done(0), "the same reply again tells nothing new");
+    assert_eq!(store.take(reply), Ok(0), "the same reply again tells nothing new");
     answer
 }
 
 /// Offers a reply damaged in one way after the other. Each is refused by its own number, and no byte changes.
-fn offer_damaged(store: &mut Store, reply: &[u8], counts: &mut Counts) {
+fn offer_damaged(store: &mut Store<&mut [u8]>, reply: &[u8], counts: &mut Counts) {
     let damaged = |change: fn(&mut Vec<u8>)| {
         let mut message = reply.to_vec();
         change(&mut message);
@@ -249,16 +245,16 @@ fn offer_damaged(store: &mut Store, reply: &[u8], counts: &mut Counts) {
     // The first hash of a run is above a block, so it is no padding.
     let first_hash = damaged(|message| message[49] ^= 1);
     let ways = [
-        (damaged(|message| message[0] = HASH_REJECT), Answer::NoMessage),
-        (damaged(|message| message[1] ^= 1), Answer::OtherRoot),
-        (damaged(|message| message[44] ^= 1), Answer::RuleBroken),
-        (damaged(|message| message.truncate(message.len() - 32)), Answer::WrongSize),
+        (damaged(|message| message[0] = HASH_REJECT), Err(Refusal::NoMessage)),
+        (damaged(|message| message[1] ^= 1), Err(Refusal::OtherRoot)),
+        (damaged(|message| message[44] ^= 1), Err(Refusal::RuleBroken)),
+        (damaged(|message| message.truncate(message.len() - 32)), Err(Refusal::WrongSize)),
     ];
     let before = store.bytes().to_vec();
     for (message, expected) in ways {
         assert_eq!(store.take(&message), expected);
     }
-    assert!(matches!(store.take(&first_hash), Answer::Differs | Answer::NoAnchor));
+    assert!(matches!(store.take(&first_hash), Err(Refusal::Differs | Refusal::NoAnchor)));
     assert_eq!(store.bytes(), before, "a refusal loses nothing");
     counts.refused += 5;
 }
@@ -268,35 +264,35 @@ fn offer_damaged(store: &mut Store, reply: &[u8], counts: &mut Counts) {
 fn judge_pieces(peer: &mut Peer, file: &File, memory: &mut Vec<u8>, counts: &mut Counts) -> io::Result<()> {
     let neighbours = vec![1; file.pieces() as usize];
     loop {
-        let mut store = Store::over(memory);
-        let Some(piece) = store.pick_piece(&neighbours).done().expect("a count for each piece") else { break };
+        let mut store = Store::over(&mut *memory);
+        let Some(piece) = store.pick_piece(&neighbours).expect("a count for each piece") else { break };
         let start = piece * file.piece_length;
         let size = file.piece_length.min(file.length - start);
         let mut bytes = fetch_piece(peer, (file.first_piece + piece) as u32, size)?;
-        assert_eq!(store.judge_piece(piece, &bytes), Answer::Done(0));
+        assert_eq!(store.judge_piece(piece, &bytes), Ok(()));
         for (offset, block) in bytes.chunks_mut(BLOCK as usize).enumerate() {
             let number = start / BLOCK + offset as u64;
-            if store.judge_block(number, block).is_done() {
+            if store.judge_block(number, block).is_ok() {
                 counts.believed += 1;
             }
             block[0] ^= 1;
-            assert_eq!(store.judge_block(number, block), Answer::Differs, "a damaged block is not believed");
+            assert_eq!(store.judge_block(number, block), Err(Refusal::Differs), "a damaged block is not believed");
         }
-        assert_eq!(store.judge_piece(piece, &bytes), Answer::Differs, "nor a piece of them");
+        assert_eq!(store.judge_piece(piece, &bytes), Err(Refusal::Differs), "nor a piece of them");
         if piece == file.pieces() / 2 {
             restart(memory, counts);
         }
     }
-    all_marked(file, &Store::over(memory));
+    all_marked(file, &Store::over(&memory));
     Ok(())
 }
 
 /// Every block is marked, and the bitfield is all ones.
-fn all_marked(file: &File, store: &Store) {
+fn all_marked<M: AsRef<[u8]>>(file: &File, store: &Store<M>) {
     let mut field = vec![0; file.pieces().div_ceil(8) as usize];
-    assert_eq!(store.bitfield(&mut field), Answer::Done(field.len() as u64));
+    assert_eq!(store.bitfield(&mut field).map(<[u8]>::len), Ok(file.pieces().div_ceil(8) as usize));
     assert!((0..file.pieces()).all(|piece| field[piece as usize / 8] & 0x80 >> (piece % 8) != 0));
-    assert!((0..file.length.div_ceil(BLOCK)).all(|block| store.marked(block) == Answer::Done(1)));
+    assert!((0..file.length.div_ceil(BLOCK)).all(|block| store.marked(block) == Ok(true)));
 }
 
 /// A piece of this size, block by block.

@@ -1,7 +1,7 @@
 //! A connection to a BitTorrent peer: handshake; messages framed and heard by the library.
 
 use kombudeva::limits::LONGEST_FRAME;
-use kombudeva::{frame, Answer, Hash, Heard, Stream};
+use kombudeva::{frame, Hash, Heard, Stream};
 use std::io::{self, ErrorKind, Read, Write};
 use std::net::TcpStream;
 use std::time::Duration;
@@ -44,7 +44,7 @@ impl Peer {
     /// Sends a message, its id first, in its frame.
     pub fn send(&mut self, message: &[u8]) -> io::Result<()> {
         let mut out = vec![0; 4 + message.len()];
-        self.link.write_all(frame(message, &mut out).done().expect("a message of a known id and a right size"))
+        self.link.write_all(frame(message, &mut out).expect("a message of a known id and a right size"))
     }
 
     /// The next message, its id first. Keep-alives are passed over.
@@ -52,9 +52,9 @@ impl Peer {
         loop {
             let mut hearing = self.stream.hear(&self.waiting);
             let heard = match hearing.next() {
-                Some(Answer::Done(Heard::Message(message))) => Some(message.to_vec()),
-                Some(Answer::Done(Heard::KeepAlive)) => Some(Vec::new()),
-                Some(refused) => panic!("the peer's stream: {refused}"),
+                Some(Ok(Heard::Message(message))) => Some(message.to_vec()),
+                Some(Ok(Heard::KeepAlive)) => Some(Vec::new()),
+                Some(Err(refused)) => panic!("the peer's stream: {refused}"),
                 None => None,
             };
             let used = self.waiting.len() - hearing.rest().len();

@@ -4,8 +4,8 @@
 use crate::contents::{Contents, File};
 use crate::peer::{word, Peer};
 use kombudeva::ids::{BITFIELD, EXTENDED, HASH_REQUEST, PIECE, REQUEST, UNCHOKE};
-use kombudeva::limits::{LONGEST_RUN, TALLEST_TREE};
-use kombudeva::{Answer, Store};
+use kombudeva::limits::LARGEST_REPLY;
+use kombudeva::Store;
 use reference::bencode;
 use std::net::TcpListener;
 use std::path::Path;
@@ -19,7 +19,7 @@ const METADATA_PART: usize = 16384;
 struct Shared<'a> {
     file: &'a File<'a>,
     bytes: Vec<u8>,
-    store: Store<'a>,
+    store: Store<&'a mut [u8]>,
 }
 
 #[derive(Default)]
@@ -50,7 +50,7 @@ pub fn run(contents: &Contents, folder: &Path) -> io::Result<()> {
 fn share<'a>(file: &'a File<'a>, memory: &'a mut Vec<u8>, folder: &Path) -> io::Result<Shared<'a>> {
     let mut store = file.open(memory);
     if !file.layer.is_empty() {
-        assert!(store.load_layer(file.layer).is_done(), "the layer of a good torrent");
+        assert!(store.load_layer(file.layer).is_ok(), "the layer of a good torrent");
     }
     Ok(Shared { file, bytes: fs::read(folder.join(&file.path))?, store })
 }
@@ -123,11 +123,11 @@ fn metadata_part(id: u8, info: &[u8], request: &[u8]) -> Vec<u8> {
 /// store, which rejects it.
 fn hashes_reply(shared: &[Shared], request: &[u8], counts: &mut Counts) -> Vec<u8> {
     let asked = shared.iter().find(|one| request[1..].starts_with(&one.file.root)).unwrap_or(&shared[0]);
-    let mut out = vec![0; 49 + 32 * (LONGEST_RUN as usize + TALLEST_TREE as usize)];
+    let mut out = vec![0; LARGEST_REPLY];
     let served = asked.store.serve(request, &mut out);
     match served.answer {
-        Answer::Done(_) => counts.hashes += 1,
-        _ => counts.rejects += 1,
+        Ok(()) => counts.hashes += 1,
+        Err(_) => counts.rejects += 1,
     }
     served.reply.to_vec()
 }

@@ -1,15 +1,14 @@
 //! The numbers given back, by name.
 
-use std::fmt;
+use core::{error, fmt};
 
-/// What a call answers: done, with what it was asked for, or one of the refusals of the header's table.
+/// Why a call was refused: the numbers of the header's table but 0, for which a call gives what it was asked for.
 ///
-/// A refusal has changed no byte, save for the reject that [`Store::serve`](crate::Store::serve) writes.
+/// A refusal has changed no byte, save for the reject that [`Store::serve`](crate::Store::serve) writes. Later versions may have
+/// more of them.
 #[derive(Clone, Copy, Debug, PartialEq, Eq, Hash)]
-#[must_use]
-pub enum Answer<T> {
-    /// 0
-    Done(T),
+#[non_exhaustive]
+pub enum Refusal {
     /// 1: below 49 bytes or another id; a request or a reject that isn't of 49 bytes
     NoMessage,
     /// 2: another pieces root
@@ -50,7 +49,7 @@ pub enum Answer<T> {
     /// 25: a file tree against the rules
     WrongTree,
     /// 26: two non-empty files with the same root and different lengths
-    SameRoot,
+    TwoLengths,
     /// 27: the piece layers aren't those of the files, or have another size
     LayersAmiss,
     /// 28: a layer doesn't give its root
@@ -66,37 +65,28 @@ pub enum Answer<T> {
 /// Number, name and words of each refusal.
 macro_rules! refusals {
     ($($number:literal $name:ident $words:literal;)*) => {
-        impl<T> Answer<T> {
-            /// What the library's number means, with the value that stands beside 0.
-            pub(crate) fn of(number: u32, value: T) -> Answer<T> {
+        impl Refusal {
+            /// The refusal of this number, if the table has it.
+            fn of(number: u32) -> Option<Refusal> {
                 match number {
-                    0 => Answer::Done(value),
-                    $($number => Answer::$name,)*
-                    _ => panic!("{number} is not in the table: header and library are of different builds"),
+                    $($number => Some(Refusal::$name),)*
+                    _ => None,
                 }
             }
 
             /// The number of the table.
-            pub fn number(&self) -> u32 {
+            #[must_use]
+            pub const fn number(self) -> u32 {
                 match self {
-                    Answer::Done(_) => 0,
-                    $(Answer::$name => $number,)*
+                    $(Refusal::$name => $number,)*
                 }
             }
 
-            /// The same answer with another value beside 0.
-            pub fn map<U>(self, change: impl FnOnce(T) -> U) -> Answer<U> {
+            /// The refusal in words.
+            #[must_use]
+            pub const fn words(self) -> &'static str {
                 match self {
-                    Answer::Done(value) => Answer::Done(change(value)),
-                    $(Answer::$name => Answer::$name,)*
-                }
-            }
-
-            /// The answer in words.
-            pub fn words(&self) -> &'static str {
-                match self {
-                    Answer::Done(_) => "done",
-                    $(Answer::$name => $words,)*
+                    $(Refusal::$name => $words,)*
                 }
             }
         }
@@ -123,7 +113,7 @@ refusals! {
     23 OtherVersion "another version than 2";
     24 PieceLengthOutOfRange "the piece length out of range";
     25 WrongTree "a wrong file tree";
-    26 SameRoot "two files with the same root and different lengths";
+    26 TwoLengths "two files with the same root and different lengths";
     27 LayersAmiss "piece layers that are not those of the files";
     28 LayerDiffers "a piece layer that does not give its root";
     29 NoSuchFile "no such file or path element";
@@ -131,44 +121,61 @@ refusals! {
     32 NotSaved "not a saved store";
 }
 
-impl<T> Answer<T> {
-    /// The value beside 0.
-    pub fn done(self) -> Option<T> {
-        match self {
-            Answer::Done(value) => Some(value),
-            _ => None,
-        }
-    }
-
-    pub fn is_done(&self) -> bool {
-        self.number() == 0
+/// What the library's number means, with the value that stands beside 0.
+///
+/// # Panics
+///
+/// For a number that is not in the table: binding and library are of different builds.
+pub(crate) fn answer<T>(number: u32, value: T) -> Result<T, Refusal> {
+    match Refusal::of(number) {
+        Some(refusal) => Err(refusal),
+        None if number == 0 => Ok(value),
+        None => panic!("{number} is not in the table: binding and library are of different builds"),
     }
 }
 
-impl<T> fmt::Display for Answer<T> {
+/// The words, and the number after them.
+impl fmt::Display for Refusal {
     fn fmt(&self, f: &mut fmt::Formatter) -> fmt::Result {
         write!(f, "{} ({})", self.words(), self.number())
+    }
+}
+
+impl error::Error for Refusal {}
+
+#[cfg(feature = "std")]
+impl From<Refusal> for std::io::Error {
+    fn from(refusal: Refusal) -> std::io::Error {
+        std::io::Error::other(refusal)
     }
 }
 
 #[cfg(test)]
 mod tests {
     use super::*;
+    use alloc::string::ToString;
 
     #[test]
     fn every_number_of_the_table_comes_back() {
-        for number in (0..=12).chain(19..=30).chain([32]) {
-            assert_eq!(Answer::of(number, ()).number(), number);
-            assert_eq!(Answer::of(number, ()).map(|()| 5u8).number(), number);
+        for number in (1..=12).chain(19..=30).chain([32]) {
+            assert_eq!(answer(number, ()).unwrap_err().number(), number);
         }
-        assert_eq!(Answer::of(0, 7).done(), Some(7));
-        assert_eq!(Answer::of(6, 7).done(), None);
-        assert_eq!(Answer::of(6, ()).to_string(), "nothing held to compare it with (6)");
+        assert_eq!(answer(0, 7), Ok(7));
+        assert_eq!(answer(6, 7), Err(Refusal::NoAnchor));
+        assert_eq!(Refusal::NoAnchor.to_string(), "nothing held to compare it with (6)");
     }
 
     #[test]
     #[should_panic(expected = "not in the table")]
     fn a_number_outside_the_table_is_a_wrong_build() {
-        let _ = Answer::of(13, ());
+        let _ = answer(13, ());
+    }
+
+    #[test]
+    #[cfg(feature = "std")]
+    fn it_goes_where_an_error_goes() {
+        let error = std::io::Error::from(Refusal::NoRoom);
+        assert_eq!(error.to_string(), Refusal::NoRoom.to_string());
+        assert_eq!(error.get_ref().unwrap().downcast_ref(), Some(&Refusal::NoRoom));
     }
 }

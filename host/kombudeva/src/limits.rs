@@ -12,6 +12,13 @@ pub const LONGEST_FILE: u64 = 17179869184;
 pub const TALLEST_TREE: u64 = 20;
 /// The longest run of hashes that a message may give or ask for.
 pub const LONGEST_RUN: u32 = 8192;
+/// The bytes of a hash.
+pub const HASH: usize = 32;
+/// The bytes of a hash message without its hashes: a request or a reject has no others.
+pub const HEADER_SIZE: usize = 49;
+/// The bytes of the largest hashes message, so room enough for [`Store::serve`](crate::Store::serve): the longest run and the uncles above it
+/// in the tallest tree.
+pub const LARGEST_REPLY: usize = 262417;
 /// The largest torrent, in bytes.
 pub const LARGEST_TORRENT: usize = 1048576;
 /// How deeply a torrent may be nested, its outer dictionary being the first level.

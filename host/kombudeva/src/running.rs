@@ -1,13 +1,17 @@
 //! Bytes that come in bursts: their SHA-256, and the tree of a file that they are.
 
-use crate::{Answer, Hash};
+use crate::answer::answer;
+use crate::{Hash, Refusal};
 
-/// SHA-256 of bytes that come in bursts. It may be copied, asked in between, and gone on with.
+/// SHA-256 of bytes that come in bursts. It may be copied, asked in between, and gone on with. With feature `std` it is an
+/// [`io::Write`](std::io::Write) too.
 ///
 /// ```
 /// let mut hashing = kombudeva::Hashing::begin();
-/// assert!(hashing.more(b"a").is_done() && hashing.more(b"bc").is_done());
-/// assert_eq!(hashing.end(), kombudeva::sha256(b"abc").done().unwrap());
+/// hashing.more(b"a")?;
+/// hashing.more(b"bc")?;
+/// assert_eq!(hashing.end(), kombudeva::sha256(b"abc")?);
+/// # Ok::<(), kombudeva::Refusal>(())
 /// ```
 #[derive(Clone, Copy, Debug, PartialEq, Eq)]
 pub struct Hashing {
@@ -16,20 +20,28 @@ pub struct Hashing {
 
 impl Hashing {
     /// No bytes yet.
+    #[must_use]
     pub fn begin() -> Hashing {
         Hashing { state: boundary::hashing_begin() }
     }
 
     /// Takes a burst.
     ///
-    /// Refused: [`WrongSize`](Answer::WrongSize) past 2^61 - 1 bytes; nothing has changed then.
-    pub fn more(&mut self, burst: &[u8]) -> Answer<()> {
+    /// # Errors
+    ///
+    /// [`WrongSize`](Refusal::WrongSize) past 2^61 - 1 bytes; nothing has changed then.
+    pub fn more(&mut self, burst: &[u8]) -> Result<(), Refusal> {
         let given = boundary::hashing_more(self.state, burst);
         self.state = given.state;
-        Answer::of(given.number, ())
+        answer(given.number, ())
     }
 
     /// The hash of the bytes so far.
+    ///
+    /// # Panics
+    ///
+    /// Never with the library of this crate's build: its state is one that bursts have made, and such a state has a hash.
+    #[must_use]
     pub fn end(&self) -> Hash {
         let given = boundary::hashing_end(self.state);
         assert_eq!(given.number, 0, "a state that only bursts have made");
@@ -37,18 +49,39 @@ impl Hashing {
     }
 }
 
+/// No bytes yet.
+impl Default for Hashing {
+    fn default() -> Hashing {
+        Hashing::begin()
+    }
+}
+
+/// Takes all bytes of a write, or is refused as [`Hashing::more`] is.
+#[cfg(feature = "std")]
+impl std::io::Write for Hashing {
+    fn write(&mut self, burst: &[u8]) -> std::io::Result<usize> {
+        self.more(burst)?;
+        Ok(burst.len())
+    }
+
+    fn flush(&mut self) -> std::io::Result<()> {
+        Ok(())
+    }
+}
+
 /// The tree of a file whose bytes come in bursts. It borrows the memory that the piece layer is written to, so that nothing
-/// else writes there in between.
+/// else writes there in between. With feature `std` it is an [`io::Write`](std::io::Write) too.
 ///
 /// ```
-/// use kombudeva::{Answer, History};
+/// use kombudeva::History;
 ///
 /// let mut layer = [0; 2 * 32];
-/// let mut history = History::begin(16384, &mut layer).done().expect("a piece length in range");
-/// assert!(history.more(&[7; 10_000]).is_done());
-/// assert!(history.more(&[7; 10_000]).is_done());
-/// let Answer::Done(so_far) = history.end() else { panic!("two hashes have room") };
+/// let mut history = History::begin(16384, &mut layer)?;
+/// history.more(&[7; 10_000])?;
+/// history.more(&[7; 10_000])?;
+/// let so_far = history.end()?;
 /// assert_eq!((so_far.length, so_far.layer.len()), (20_000, 64));
+/// # Ok::<(), kombudeva::Refusal>(())
 /// ```
 #[derive(Debug)]
 pub struct History<'a> {
@@ -59,6 +92,7 @@ pub struct History<'a> {
 /// A file as far as it has been written.
 #[derive(Clone, Copy, Debug, PartialEq, Eq)]
 pub struct Logged<'a> {
+    /// How many bytes it has.
     pub length: u64,
     /// The pieces root; zero for an empty file.
     pub root: Hash,
@@ -69,33 +103,53 @@ pub struct Logged<'a> {
 impl<'a> History<'a> {
     /// No bytes yet.
     ///
-    /// Refused: [`FactsOutOfRange`](Answer::FactsOutOfRange) for a bad piece length.
-    pub fn begin(piece_length: u64, layer: &'a mut [u8]) -> Answer<History<'a>> {
+    /// # Errors
+    ///
+    /// [`FactsOutOfRange`](Refusal::FactsOutOfRange) for a bad piece length.
+    pub fn begin(piece_length: u64, layer: &'a mut [u8]) -> Result<History<'a>, Refusal> {
         let given = boundary::history_begin(piece_length);
-        Answer::of(given.number, History { state: given.state, layer })
+        answer(given.number, History { state: given.state, layer })
     }
 
     /// Takes a burst. A piece's hash is written once the history runs past the piece.
     ///
-    /// Refused, in this order: [`FactsOutOfRange`](Answer::FactsOutOfRange) past the longest file,
-    /// [`NoRoom`](Answer::NoRoom) where a hash has no room in the layer. Nothing has changed then.
-    pub fn more(&mut self, burst: &[u8]) -> Answer<()> {
+    /// # Errors
+    ///
+    /// In this order: [`FactsOutOfRange`](Refusal::FactsOutOfRange) past the longest file,
+    /// [`NoRoom`](Refusal::NoRoom) where a hash has no room in the layer. Nothing has changed then.
+    pub fn more(&mut self, burst: &[u8]) -> Result<(), Refusal> {
         let given = boundary::history_more(self.state, burst, self.layer);
         self.state = given.state;
-        Answer::of(given.number, ())
+        answer(given.number, ())
     }
 
     /// How many bytes have come.
+    #[must_use]
     pub fn length(&self) -> u64 {
         self.state.length
     }
 
     /// The file as it is now. More bursts may follow.
     ///
-    /// Refused: [`NoRoom`](Answer::NoRoom) where the last hash has no room in the layer.
-    pub fn end(&mut self) -> Answer<Logged<'_>> {
+    /// # Errors
+    ///
+    /// [`NoRoom`](Refusal::NoRoom) where the last hash has no room in the layer.
+    pub fn end(&mut self) -> Result<Logged<'_>, Refusal> {
         let given = boundary::history_end(self.state, self.layer);
         let layer = &self.layer[..given.layer_size as usize];
-        Answer::of(given.number, Logged { length: given.length, root: given.root.bytes, layer })
+        answer(given.number, Logged { length: given.length, root: given.root.bytes, layer })
+    }
+}
+
+/// Takes all bytes of a write, or is refused as [`History::more`] is.
+#[cfg(feature = "std")]
+impl std::io::Write for History<'_> {
+    fn write(&mut self, burst: &[u8]) -> std::io::Result<usize> {
+        self.more(burst)?;
+        Ok(burst.len())
+    }
+
+    fn flush(&mut self) -> std::io::Result<()> {
+        Ok(())
     }
 }

@@ -1,31 +1,55 @@
 //! The store, and what is asked of it.
 
-use crate::{Answer, Hash};
+use crate::answer::answer;
+use crate::{Hash, Refusal};
 
 /// The bytes that a store for a file of this length uses.
 ///
-/// Refused: [`FactsOutOfRange`](Answer::FactsOutOfRange).
-pub fn store_size(length: u64, piece_length: u64) -> Answer<u64> {
-    count(boundary::store_size(length, piece_length))
+/// # Errors
+///
+/// [`Refusal::FactsOutOfRange`].
+pub fn store_size(length: u64, piece_length: u64) -> Result<usize, Refusal> {
+    count(boundary::store_size(length, piece_length)).map(|size| size as usize)
 }
 
-fn count(given: boundary::Answer) -> Answer<u64> {
-    Answer::of(given.number, given.count)
+/// The count beside 0.
+fn count(given: boundary::Answer) -> Result<u64, Refusal> {
+    answer(given.number, given.count)
 }
 
-/// A store of held hashes of one file's tree, in memory that it borrows.
+/// Done or refused, where the count beside 0 says nothing.
+fn done(given: boundary::Answer) -> Result<(), Refusal> {
+    answer(given.number, ())
+}
+
+/// A store of held hashes of one file's tree, in memory of any kind: `&mut [u8]`, `Vec<u8>`, an array. Over `&[u8]` it is one that
+/// is only read, and has the calls that only look.
 ///
 /// Any bytes may be lent. Whether they are a store is answered by each call, so a store can be kept in a file or
 /// come from elsewhere: [`Store::over`].
-#[derive(Debug, PartialEq, Eq)]
-pub struct Store<'a> {
-    memory: &'a mut [u8],
+///
+/// ```
+/// use kombudeva::{store_size, Refusal, Store};
+///
+/// let mut memory = vec![0; store_size(20_000, 16384)?];
+/// let mut store = Store::open(&mut memory[..], 20_000, 16384, [7; 32])?;
+/// assert_eq!(store.judge_block(0, &[0; 16384]), Err(Refusal::NoAnchor));
+///
+/// let only_read = Store::over(&memory[..]);
+/// assert_eq!(only_read.held(1, 0), Ok([7; 32]));
+/// # Ok::<(), Refusal>(())
+/// ```
+#[derive(Clone, Copy, Debug, PartialEq, Eq)]
+pub struct Store<M> {
+    memory: M,
 }
 
-/// What a request got: the answer, with the size of a hashes message beside 0, and the message to send back.
+/// What a request got: whether it is served, and the message to send back.
 #[derive(Clone, Copy, Debug, PartialEq, Eq)]
+#[must_use = "the reply is to be sent, a reject too"]
 pub struct Served<'a> {
-    pub answer: Answer<u64>,
+    /// Whether the reply is a hashes message.
+    pub answer: Result<(), Refusal>,
     /// The hashes message, a reject, or nothing.
     pub reply: &'a [u8],
 }
@@ -45,134 +69,208 @@ pub struct Request {
     pub message: [u8; 49],
 }
 
-/// What a repair made of saved bytes: how many positions it dropped, and how many are held.
+/// What a repair made of saved bytes.
 #[derive(Clone, Copy, Debug, PartialEq, Eq)]
 pub struct Repaired {
+    /// How many positions that the bytes name were dropped.
     pub dropped: u64,
+    /// How many are held.
     pub held: u64,
 }
 
-impl<'a> Store<'a> {
-    /// Makes the memory a store of which the root alone is held. Bytes behind the store's size stay.
-    ///
-    /// Refused, in this order: [`FactsOutOfRange`](Answer::FactsOutOfRange), [`Unusable`](Answer::Unusable) where the
-    /// memory is shorter than [`store_size`] says.
-    pub fn open(memory: &'a mut [u8], length: u64, piece_length: u64, root: Hash) -> Answer<Store<'a>> {
-        let given = boundary::open(memory, length, piece_length, boundary::Hash { bytes: root });
-        Answer::of(given.number, Store { memory })
-    }
-
-    /// Makes the memory the store that was saved, whatever stood there; Done has the positions held beside it. The bytes may come from
-    /// anywhere: they are loaded only if all their hashes chain to the root. Their marks can't be checked and are believed.
-    ///
-    /// Refused, in this order: [`NotSaved`](Answer::NotSaved) without a whole opening record,
-    /// [`FactsOutOfRange`](Answer::FactsOutOfRange), [`Unusable`](Answer::Unusable) where the memory is shorter than the store,
-    /// [`NotSaved`](Answer::NotSaved) for the rest.
-    pub fn load(memory: &'a mut [u8], saved: &[u8]) -> Answer<(Store<'a>, u64)> {
-        let given = boundary::load(memory, saved);
-        Answer::of(given.number, (Store { memory }, given.count))
-    }
-
-    /// Loads the largest part of saved positions that can be loaded, and clears all marks. It asks for the whole form, and the root.
-    ///
-    /// Refused as [`Store::load`].
-    pub fn repair(memory: &'a mut [u8], saved: &[u8]) -> Answer<(Store<'a>, Repaired)> {
-        let given = boundary::repair(memory, saved);
-        Answer::of(given.number, (Store { memory }, Repaired { dropped: given.dropped, held: given.held }))
-    }
-
+/// Calls that only look.
+impl<M: AsRef<[u8]>> Store<M> {
     /// A store opened earlier, or any bytes.
-    pub fn over(memory: &'a mut [u8]) -> Store<'a> {
+    #[must_use]
+    pub fn over(memory: M) -> Store<M> {
         Store { memory }
     }
 
-    /// The store's bytes.
+    /// The store's bytes, and those behind them.
+    #[must_use]
     pub fn bytes(&self) -> &[u8] {
+        self.memory.as_ref()
+    }
+
+    /// The memory itself.
+    #[must_use]
+    pub fn into_memory(self) -> M {
         self.memory
     }
 
     /// The hash held at a position. Layer 0 has the blocks.
     ///
-    /// Refused, in this order: [`Unusable`](Answer::Unusable), [`RuleBroken`](Answer::RuleBroken) where the tree has no
-    /// such position, [`NoAnchor`](Answer::NoAnchor) where it is not held.
-    pub fn held(&self, layer: u64, index: u64) -> Answer<Hash> {
-        let given = boundary::held(self.memory, layer, index);
-        Answer::of(given.number, given.hash.bytes)
-    }
-
-    /// Offers a hashes message (id 22), asked for or not. Done says how many positions are newly held.
-    pub fn take(&mut self, message: &[u8]) -> Answer<u64> {
-        count(boundary::take(self.memory, message))
+    /// # Errors
+    ///
+    /// In this order: [`Unusable`](Refusal::Unusable), [`RuleBroken`](Refusal::RuleBroken) where the tree has no
+    /// such position, [`NoAnchor`](Refusal::NoAnchor) where it is not held.
+    pub fn held(&self, layer: u64, index: u64) -> Result<Hash, Refusal> {
+        let given = boundary::held(self.bytes(), layer, index);
+        answer(given.number, given.hash.bytes)
     }
 
     /// Hears a reject (id 23). It changes nothing.
-    pub fn take_reject(&self, message: &[u8]) -> Answer<u64> {
-        count(boundary::take_reject(self.memory, message))
+    ///
+    /// # Errors
+    ///
+    /// In this order: [`Unusable`](Refusal::Unusable), [`NoMessage`](Refusal::NoMessage), [`OtherRoot`](Refusal::OtherRoot),
+    /// [`RuleBroken`](Refusal::RuleBroken).
+    pub fn take_reject(&self, message: &[u8]) -> Result<(), Refusal> {
+        done(boundary::take_reject(self.bytes(), message))
     }
 
-    /// Answers a request (id 21) in `out`. A refusal with [`OtherRoot`](Answer::OtherRoot),
-    /// [`RuleBroken`](Answer::RuleBroken) or [`NotHeld`](Answer::NotHeld) has a reject to send back; others have nothing.
+    /// Answers a request (id 21) in `out`; [`LARGEST_REPLY`](crate::limits::LARGEST_REPLY) bytes are always room enough.
+    ///
+    /// Refused, in this order: [`Unusable`](Refusal::Unusable), [`NoMessage`](Refusal::NoMessage);
+    /// [`OtherRoot`](Refusal::OtherRoot), [`RuleBroken`](Refusal::RuleBroken) or [`NotHeld`](Refusal::NotHeld), with a reject to
+    /// send back; [`NoRoom`](Refusal::NoRoom) in place of a reply or a reject that there is no room for.
     pub fn serve<'o>(&self, request: &[u8], out: &'o mut [u8]) -> Served<'o> {
-        let given = boundary::serve(self.memory, request, out);
-        Served { answer: count(given), reply: &out[..given.count as usize] }
+        let given = boundary::serve(self.bytes(), request, out);
+        Served { answer: done(given), reply: &out[..given.count as usize] }
     }
 
-    /// Loads the file's piece layer: it and all above it are held then. Done says how many positions are newly held.
-    pub fn load_layer(&mut self, layer: &[u8]) -> Answer<u64> {
-        count(boundary::load_layer(self.memory, layer))
+    /// Whether a block is marked: its data was judged right.
+    ///
+    /// # Errors
+    ///
+    /// In this order: [`Unusable`](Refusal::Unusable), [`RuleBroken`](Refusal::RuleBroken) where the file has no such block.
+    pub fn marked(&self, block: u64) -> Result<bool, Refusal> {
+        count(boundary::marked(self.bytes(), block)).map(|count| count == 1)
     }
 
-    /// Judges a block against its leaf: [`Done`](Answer::Done) if it may be believed, and then it is marked.
-    pub fn judge_block(&mut self, block: u64, data: &[u8]) -> Answer<u64> {
-        count(boundary::judge_block(self.memory, block, data))
-    }
-
-    /// Judges a piece against its node in the piece layer, or the root of a file not longer than the piece length.
-    /// Done marks each of its blocks.
-    pub fn judge_piece(&mut self, piece: u64, data: &[u8]) -> Answer<u64> {
-        count(boundary::judge_piece(self.memory, piece, data))
-    }
-
-    /// Whether a block is marked, its data judged right: Done says 1 if it is, else 0.
-    pub fn marked(&self, block: u64) -> Answer<u64> {
-        count(boundary::marked(self.memory, block))
-    }
-
-    /// Clears a block's mark, for a host that lost the block. No hash is forgotten.
-    pub fn clear(&mut self, block: u64) -> Answer<u64> {
-        count(boundary::clear(self.memory, block))
-    }
-
-    /// Writes the bitfield of the pieces whose blocks are all marked at the front of `out`; Done says its size.
-    pub fn bitfield(&self, out: &mut [u8]) -> Answer<u64> {
-        count(boundary::bitfield(self.memory, out))
+    /// Writes the bitfield of the pieces whose blocks are all marked at the front of `out`, and gives the part that it is.
+    ///
+    /// # Errors
+    ///
+    /// In this order: [`Unusable`](Refusal::Unusable), [`NoRoom`](Refusal::NoRoom).
+    pub fn bitfield<'o>(&self, out: &'o mut [u8]) -> Result<&'o [u8], Refusal> {
+        let given = boundary::bitfield(self.bytes(), out);
+        answer(given.number, &out[..given.count as usize])
     }
 
     /// The next request for layer 0 or for the piece layer, or `None`: every position of it that isn't padding is held.
     ///
-    /// Refused, in this order: [`Unusable`](Answer::Unusable), [`RuleBroken`](Answer::RuleBroken) for another layer or where the
-    /// file has no piece layer, [`NoAnchor`](Answer::NoAnchor) where the root isn't held.
-    pub fn next_request(&self, layer: u64) -> Answer<Option<Request>> {
+    /// # Errors
+    ///
+    /// In this order: [`Unusable`](Refusal::Unusable), [`RuleBroken`](Refusal::RuleBroken) for another layer or where the
+    /// file has no piece layer, [`NoAnchor`](Refusal::NoAnchor) where the root isn't held.
+    pub fn next_request(&self, layer: u64) -> Result<Option<Request>, Refusal> {
         let boundary::Request { number, asks, base, index, length, proof, message } =
-            boundary::next_request(self.memory, layer);
-        Answer::of(number, (asks == 1).then_some(Request { base, index, length, proof, message }))
+            boundary::next_request(self.bytes(), layer);
+        answer(number, (asks == 1).then_some(Request { base, index, length, proof, message }))
     }
 
     /// The piece to fetch, or `None`: of the pieces whose blocks aren't all marked the one with the smallest count above
     /// zero, the lowest on a tie. `counts` says of each piece how many neighbours have it.
     ///
-    /// Refused, in this order: [`Unusable`](Answer::Unusable), [`WrongSize`](Answer::WrongSize) where there isn't one count
+    /// # Errors
+    ///
+    /// In this order: [`Unusable`](Refusal::Unusable), [`WrongSize`](Refusal::WrongSize) where there isn't one count
     /// for each piece.
-    pub fn pick_piece(&self, counts: &[u32]) -> Answer<Option<u64>> {
-        let boundary::Choice { number, found, piece } = boundary::pick_piece(self.memory, counts);
-        Answer::of(number, (found == 1).then_some(piece))
+    pub fn pick_piece(&self, counts: &[u32]) -> Result<Option<u64>, Refusal> {
+        let boundary::Choice { number, found, piece } = boundary::pick_piece(self.bytes(), counts);
+        answer(number, (found == 1).then_some(piece))
     }
 
-    /// Writes what is held and marked at the front of `out`, for [`Store::load`]; Done says its size. Twice the store's size is always
-    /// room enough.
+    /// Writes what is held and marked at the front of `out`, for [`Store::load`], and gives the part that it is. Twice the
+    /// store's size is always room enough.
     ///
-    /// Refused, in this order: [`Unusable`](Answer::Unusable), [`NoRoom`](Answer::NoRoom).
-    pub fn save(&self, out: &mut [u8]) -> Answer<u64> {
-        count(boundary::save(self.memory, out))
+    /// # Errors
+    ///
+    /// In this order: [`Unusable`](Refusal::Unusable), [`NoRoom`](Refusal::NoRoom).
+    pub fn save<'o>(&self, out: &'o mut [u8]) -> Result<&'o [u8], Refusal> {
+        let given = boundary::save(self.bytes(), out);
+        answer(given.number, &out[..given.count as usize])
+    }
+}
+
+/// Calls that write.
+impl<M: AsRef<[u8]> + AsMut<[u8]>> Store<M> {
+    /// Makes the memory a store of which the root alone is held. Bytes behind the store's size stay.
+    ///
+    /// # Errors
+    ///
+    /// In this order: [`FactsOutOfRange`](Refusal::FactsOutOfRange), [`Unusable`](Refusal::Unusable) where the
+    /// memory is shorter than [`store_size`] says.
+    pub fn open(mut memory: M, length: u64, piece_length: u64, root: Hash) -> Result<Store<M>, Refusal> {
+        let given = boundary::open(memory.as_mut(), length, piece_length, boundary::Hash { bytes: root });
+        answer(given.number, Store { memory })
+    }
+
+    /// Makes the memory the store that was saved, whatever stood there, and says how many positions are held. The bytes may come
+    /// from anywhere: they are loaded only if all their hashes chain to the root. Their marks can't be checked and are believed.
+    ///
+    /// # Errors
+    ///
+    /// In this order: [`NotSaved`](Refusal::NotSaved) without a whole opening record,
+    /// [`FactsOutOfRange`](Refusal::FactsOutOfRange), [`Unusable`](Refusal::Unusable) where the memory is shorter than the store,
+    /// [`NotSaved`](Refusal::NotSaved) for the rest.
+    pub fn load(mut memory: M, saved: &[u8]) -> Result<(Store<M>, u64), Refusal> {
+        let given = boundary::load(memory.as_mut(), saved);
+        answer(given.number, (Store { memory }, given.count))
+    }
+
+    /// Loads the largest part of saved positions that can be loaded, and clears all marks. It asks for the whole form, and the
+    /// root.
+    ///
+    /// # Errors
+    ///
+    /// As [`Store::load`].
+    pub fn repair(mut memory: M, saved: &[u8]) -> Result<(Store<M>, Repaired), Refusal> {
+        let given = boundary::repair(memory.as_mut(), saved);
+        answer(given.number, (Store { memory }, Repaired { dropped: given.dropped, held: given.held }))
+    }
+
+    /// Offers a hashes message (id 22), asked for or not, and says how many positions are newly held.
+    ///
+    /// # Errors
+    ///
+    /// In this order: [`Unusable`](Refusal::Unusable), [`NoMessage`](Refusal::NoMessage), [`OtherRoot`](Refusal::OtherRoot),
+    /// [`RuleBroken`](Refusal::RuleBroken), [`WrongSize`](Refusal::WrongSize), [`WrongPadding`](Refusal::WrongPadding),
+    /// [`NoAnchor`](Refusal::NoAnchor), [`Differs`](Refusal::Differs), [`Conflict`](Refusal::Conflict).
+    pub fn take(&mut self, message: &[u8]) -> Result<u64, Refusal> {
+        count(boundary::take(self.memory.as_mut(), message))
+    }
+
+    /// Loads the file's piece layer: it and all above it are held then. Says how many positions are newly held.
+    ///
+    /// # Errors
+    ///
+    /// In this order: [`Unusable`](Refusal::Unusable), [`RuleBroken`](Refusal::RuleBroken) where the file has no piece layer,
+    /// [`WrongSize`](Refusal::WrongSize), [`NoAnchor`](Refusal::NoAnchor), [`Differs`](Refusal::Differs),
+    /// [`Conflict`](Refusal::Conflict).
+    pub fn load_layer(&mut self, layer: &[u8]) -> Result<u64, Refusal> {
+        count(boundary::load_layer(self.memory.as_mut(), layer))
+    }
+
+    /// Judges a block against its leaf. It may be believed if this is `Ok`, and then it is marked.
+    ///
+    /// # Errors
+    ///
+    /// In this order: [`Unusable`](Refusal::Unusable), [`RuleBroken`](Refusal::RuleBroken) where the file has no such block,
+    /// [`WrongSize`](Refusal::WrongSize), [`NoAnchor`](Refusal::NoAnchor), [`Differs`](Refusal::Differs).
+    pub fn judge_block(&mut self, block: u64, data: &[u8]) -> Result<(), Refusal> {
+        done(boundary::judge_block(self.memory.as_mut(), block, data))
+    }
+
+    /// Judges a piece against its node in the piece layer, or the root of a file not longer than the piece length. If this is
+    /// `Ok`, each of its blocks is marked.
+    ///
+    /// # Errors
+    ///
+    /// In this order: [`Unusable`](Refusal::Unusable), [`RuleBroken`](Refusal::RuleBroken) where the file has no such piece,
+    /// [`WrongSize`](Refusal::WrongSize), [`NoAnchor`](Refusal::NoAnchor), [`Differs`](Refusal::Differs),
+    /// [`Conflict`](Refusal::Conflict).
+    pub fn judge_piece(&mut self, piece: u64, data: &[u8]) -> Result<(), Refusal> {
+        done(boundary::judge_piece(self.memory.as_mut(), piece, data))
+    }
+
+    /// Clears a block's mark, for a host that lost the block. No hash is forgotten.
+    ///
+    /// # Errors
+    ///
+    /// In this order: [`Unusable`](Refusal::Unusable), [`RuleBroken`](Refusal::RuleBroken) where the file has no such block.
+    pub fn clear(&mut self, block: u64) -> Result<(), Refusal> {
+        done(boundary::clear(self.memory.as_mut(), block))
     }
 }

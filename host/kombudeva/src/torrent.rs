@@ -1,29 +1,29 @@
 //! Reading a v2 torrent.
 //!
 //! ```no_run
-//! use kombudeva::{Answer, Torrent};
+//! use kombudeva::Torrent;
 //!
-//! let bytes = std::fs::read("cells.torrent").unwrap();
-//! match Torrent::read(&bytes) {
-//!     Answer::Done(torrent) => {
-//!         let mut memory = vec![0; torrent.list_size()];
-//!         for listed in torrent.list(&mut memory).done().expect("room for the list") {
-//!             let path: Vec<&[u8]> = listed.path().collect();
-//!             println!("{} bytes: {path:?}", listed.file.length);
-//!         }
-//!     }
-//!     refused => println!("{}", refused.words()),
+//! let bytes = std::fs::read("cells.torrent")?;
+//! let torrent = Torrent::read(&bytes)?;
+//! let mut memory = vec![0; torrent.list_size()];
+//! for listed in torrent.list(&mut memory)? {
+//!     let path: Vec<&[u8]> = listed.path().collect();
+//!     println!("{} bytes: {path:?}", listed.file.length);
 //! }
+//! # Ok::<(), Box<dyn std::error::Error>>(())
 //! ```
 
+use crate::answer::answer;
 use crate::limits::RECORD;
-use crate::{Answer, Hash};
+use crate::{Hash, Refusal};
 
 /// A good torrent, read from bytes that it borrows.
 #[derive(Clone, Copy, Debug, PartialEq, Eq)]
 pub struct Torrent<'a> {
     bytes: &'a [u8],
+    /// The SHA-256 of its `info`.
     pub info_hash: Hash,
+    /// The piece length of all its files.
     pub piece_length: u64,
     /// How many files it has.
     pub files: u64,
@@ -32,6 +32,7 @@ pub struct Torrent<'a> {
 /// One file of a torrent.
 #[derive(Clone, Copy, Debug, PartialEq, Eq)]
 pub struct File<'a> {
+    /// How many bytes it has.
     pub length: u64,
     /// The pieces root; zeros for an empty file.
     pub root: Hash,
@@ -48,12 +49,13 @@ const PATH: usize = 56;
 #[derive(Clone, Debug)]
 pub struct List<'a, 'm> {
     torrent: &'a [u8],
-    records: std::slice::ChunksExact<'m, u8>,
+    records: core::slice::ChunksExact<'m, u8>,
 }
 
 /// One file of the list, with its path.
 #[derive(Clone, Copy, Debug, PartialEq, Eq)]
 pub struct Listed<'a, 'm> {
+    /// The file.
     pub file: File<'a>,
     torrent: &'a [u8],
     /// Start and size of each path element.
@@ -61,35 +63,52 @@ pub struct Listed<'a, 'm> {
 }
 
 impl<'a> Torrent<'a> {
-    /// Reads a whole torrent. Refused by the numbers 19 to 28.
-    pub fn read(bytes: &'a [u8]) -> Answer<Torrent<'a>> {
+    /// Reads a whole torrent.
+    ///
+    /// # Errors
+    ///
+    /// Numbers 19 to 28, [`TorrentTooLarge`](Refusal::TorrentTooLarge) to [`LayerDiffers`](Refusal::LayerDiffers), as the header says.
+    pub fn read(bytes: &'a [u8]) -> Result<Torrent<'a>, Refusal> {
         let boundary::Torrent { number, info_hash, piece_length, files } = boundary::torrent_read(bytes);
-        Answer::of(number, Torrent { bytes, info_hash: info_hash.bytes, piece_length, files })
+        answer(number, Torrent { bytes, info_hash: info_hash.bytes, piece_length, files })
     }
 
     /// A file by its number in tree order. Each call checks the whole torrent anew; [`Torrent::list`] has all files in one pass.
-    pub fn file(&self, file: u64) -> Answer<File<'a>> {
+    ///
+    /// # Errors
+    ///
+    /// [`NoSuchFile`](Refusal::NoSuchFile).
+    pub fn file(&self, file: u64) -> Result<File<'a>, Refusal> {
         let given = boundary::torrent_file(self.bytes, file);
         let layer = self.part(given.layer_start, given.layer_size);
-        Answer::of(given.number, File { length: given.length, root: given.root.bytes, elements: given.elements, layer })
+        answer(given.number, File { length: given.length, root: given.root.bytes, elements: given.elements, layer })
     }
 
     /// An element of a file's path, from 0: any bytes, but not empty, `.` or `..`, and without `/` and zero bytes.
-    pub fn path(&self, file: u64, element: u64) -> Answer<&'a [u8]> {
+    ///
+    /// # Errors
+    ///
+    /// [`NoSuchFile`](Refusal::NoSuchFile): no such file, or no such element.
+    pub fn path(&self, file: u64, element: u64) -> Result<&'a [u8], Refusal> {
         let given = boundary::torrent_path(self.bytes, file, element);
-        Answer::of(given.number, self.part(given.start, given.size))
+        answer(given.number, self.part(given.start, given.size))
     }
 
     /// The bytes of memory that [`Torrent::list`] needs.
+    #[must_use]
     pub fn list_size(&self) -> usize {
         self.files as usize * RECORD
     }
 
-    /// All files with their paths in one pass, into lent memory. Refused with 11 if that is too small.
-    pub fn list<'m>(&self, memory: &'m mut [u8]) -> Answer<List<'a, 'm>> {
+    /// All files with their paths in one pass, into lent memory.
+    ///
+    /// # Errors
+    ///
+    /// [`NoRoom`](Refusal::NoRoom) if that is shorter than [`Torrent::list_size`].
+    pub fn list<'m>(&self, memory: &'m mut [u8]) -> Result<List<'a, 'm>, Refusal> {
         let given = boundary::torrent_list(self.bytes, memory);
         let records = memory[..given.count as usize].chunks_exact(RECORD);
-        Answer::of(given.number, List { torrent: self.bytes, records })
+        answer(given.number, List { torrent: self.bytes, records })
     }
 
     /// A part of the torrent's bytes; beside a refusal it is empty.
@@ -109,6 +128,7 @@ fn number(bytes: &[u8]) -> u64 {
 
 impl<'a, 'm> List<'a, 'm> {
     /// A file by its number in tree order.
+    #[must_use]
     pub fn get(&self, file: usize) -> Option<Listed<'a, 'm>> {
         self.clone().nth(file)
     }

@@ -1,8 +1,11 @@
 //! Writing a v2 torrent.
 
+use crate::answer::answer;
 use crate::limits::{LARGEST_TORRENT, WRITE_RECORD};
-use crate::{Answer, Hash, Logged};
-use std::collections::HashMap;
+use crate::{Hash, Logged, Refusal};
+use alloc::collections::BTreeMap;
+use alloc::vec;
+use alloc::vec::Vec;
 
 /// The files of a torrent that is to be written, in any order.
 ///
@@ -10,16 +13,17 @@ use std::collections::HashMap;
 /// depend on the order they were added in.
 ///
 /// ```
-/// use kombudeva::{Answer, Torrent, TorrentBuilder};
+/// use kombudeva::{Refusal, Torrent, TorrentBuilder};
 ///
 /// let mut builder = TorrentBuilder::new(16384, b"rack 7");
 /// builder.add(["cells", "3.71 V"], 6, [7; 32], &[]);
 /// builder.add(["cells", "empty"], 0, [0; 32], &[]);
-/// let torrent = builder.write().done().expect("two good files");
-/// assert_eq!(Torrent::read(&torrent).done().unwrap().files, 2);
+/// let torrent = builder.write()?;
+/// assert_eq!(Torrent::read(&torrent)?.files, 2);
 ///
 /// builder.add(["cells"], 1, [8; 32], &[]);
-/// assert_eq!(builder.write(), Answer::WrongTree);
+/// assert_eq!(builder.write(), Err(Refusal::WrongTree));
+/// # Ok::<(), Refusal>(())
 /// ```
 #[derive(Clone, Debug)]
 pub struct TorrentBuilder {
@@ -29,7 +33,7 @@ pub struct TorrentBuilder {
     list: Vec<u8>,
     text: Vec<u8>,
     /// Where the last layer of a root stands, so that twins share it.
-    layers: HashMap<Hash, Part>,
+    layers: BTreeMap<Hash, Part>,
     /// Every part has a start and a size of four bytes.
     fits: bool,
 }
@@ -42,12 +46,14 @@ struct Part {
 
 impl TorrentBuilder {
     /// No files yet.
+    #[must_use]
     pub fn new(piece_length: u64, name: &[u8]) -> TorrentBuilder {
         let (list, text) = (Vec::new(), Vec::new());
-        TorrentBuilder { piece_length, name: name.to_vec(), list, text, layers: HashMap::new(), fits: true }
+        TorrentBuilder { piece_length, name: name.to_vec(), list, text, layers: BTreeMap::new(), fits: true }
     }
 
     /// How many files have been added.
+    #[must_use]
     pub fn files(&self) -> usize {
         self.list.len() / WRITE_RECORD
     }
@@ -81,23 +87,30 @@ impl TorrentBuilder {
 
     /// The torrent's bytes, which do not depend on the order of the files.
     ///
-    /// Refused by 19 and 21 to 28 as the header says; and by [`WrongSize`](Answer::WrongSize) for a length of 2^63 or more, or for
-    /// more than 4 GiB of paths and layers, which no list has room for. The call needs more stack than others: the header says how much.
-    pub fn write(&self) -> Answer<Vec<u8>> {
+    /// The call needs more stack than others: the header says how much.
+    ///
+    /// # Errors
+    ///
+    /// Numbers 19 and 21 to 28 as the header says; and [`WrongSize`](Refusal::WrongSize) for a length of 2^63 or more, or for
+    /// more than 4 GiB of paths and layers, which no list has room for.
+    pub fn write(&self) -> Result<Vec<u8>, Refusal> {
         let mut out = vec![0; LARGEST_TORRENT];
-        self.write_into(&mut out).map(|torrent| torrent.len()).map(|size| {
-            out.truncate(size);
-            out
-        })
+        let size = self.write_into(&mut out)?.len();
+        out.truncate(size);
+        Ok(out)
     }
 
-    /// The same into lent memory. Refused with [`NoRoom`](Answer::NoRoom) after all other numbers; a refusal writes nothing.
-    pub fn write_into<'m>(&self, out: &'m mut [u8]) -> Answer<&'m [u8]> {
+    /// The same into lent memory.
+    ///
+    /// # Errors
+    ///
+    /// After all other numbers [`NoRoom`](Refusal::NoRoom). Nothing is written then.
+    pub fn write_into<'m>(&self, out: &'m mut [u8]) -> Result<&'m [u8], Refusal> {
         if !self.fits {
-            return Answer::WrongSize;
+            return Err(Refusal::WrongSize);
         }
         let given = boundary::torrent_write(&self.list, &self.text, self.piece_length, &self.name, out);
-        Answer::of(given.number, &out[..given.count as usize])
+        answer(given.number, &out[..given.count as usize])
     }
 
     /// Where a layer stands: a twin's, if that is the same.

@@ -2,7 +2,7 @@
 //! builder's own edges.
 
 use kombudeva::limits::LARGEST_TORRENT;
-use kombudeva::{store_size, Answer, History, Store, Torrent, TorrentBuilder};
+use kombudeva::{store_size, History, Refusal, Store, Torrent, TorrentBuilder};
 
 const PIECE: u64 = 32768;
 
@@ -12,9 +12,9 @@ fn bytes(seed: usize, size: usize) -> Vec<u8> {
 
 /// Bursts into a running tree.
 fn logged<'a>(file: &[u8], layer: &'a mut [u8]) -> History<'a> {
-    let mut history = History::begin(PIECE, layer).done().unwrap();
+    let mut history = History::begin(PIECE, layer).unwrap();
     for burst in file.chunks(999) {
-        assert_eq!(history.more(burst), Answer::Done(()));
+        assert_eq!(history.more(burst), Ok(()));
     }
     history
 }
@@ -28,14 +28,14 @@ fn a_logger_from_end_to_end() {
     let mut builder = TorrentBuilder::new(PIECE, b"rack 7");
     for (path, file) in paths.iter().zip(&files) {
         let mut layer = [0xaa; 7 * 32];
-        builder.add_logged(path, &logged(file, &mut layer).end().done().unwrap());
+        builder.add_logged(path, &logged(file, &mut layer).end().unwrap());
     }
-    let written = builder.write().done().unwrap();
+    let written = builder.write().unwrap();
 
-    let torrent = Torrent::read(&written).done().unwrap();
+    let torrent = Torrent::read(&written).unwrap();
     assert_eq!((torrent.piece_length, torrent.files), (PIECE, 4));
     let mut memory = vec![0; torrent.list_size()];
-    let list = torrent.list(&mut memory).done().unwrap();
+    let list = torrent.list(&mut memory).unwrap();
     for ((listed, path), bytes) in list.zip(&paths).zip(&files) {
         let elements: Vec<&[u8]> = path.iter().map(|element| element.as_bytes()).collect();
         assert_eq!(listed.path().collect::<Vec<_>>(), elements);
@@ -44,13 +44,13 @@ fn a_logger_from_end_to_end() {
             assert_eq!(listed.file.root, [0; 32]);
             continue;
         }
-        let mut memory = vec![0; store_size(listed.file.length, PIECE).done().unwrap() as usize];
-        let mut store = Store::open(&mut memory, listed.file.length, PIECE, listed.file.root).done().unwrap();
+        let mut memory = vec![0; store_size(listed.file.length, PIECE).unwrap()];
+        let mut store = Store::open(&mut memory, listed.file.length, PIECE, listed.file.root).unwrap();
         if listed.file.length > PIECE {
-            assert_eq!(store.load_layer(listed.file.layer).number(), 0);
+            assert!(store.load_layer(listed.file.layer).is_ok());
         }
         for (piece, bytes) in bytes.chunks(PIECE as usize).enumerate() {
-            assert_eq!(store.judge_piece(piece as u64, bytes), Answer::Done(0));
+            assert_eq!(store.judge_piece(piece as u64, bytes), Ok(()));
         }
     }
 }
@@ -60,12 +60,12 @@ fn a_logger_from_end_to_end() {
 fn a_growing_file() {
     let file = bytes(3, 100_000);
     let mut layer = [0; 4 * 32];
-    let mut history = History::begin(PIECE, &mut layer).done().unwrap();
+    let mut history = History::begin(PIECE, &mut layer).unwrap();
     for burst in file.chunks(25_000) {
-        assert_eq!(history.more(burst), Answer::Done(()));
-        let so_far = history.end().done().unwrap();
-        let written = TorrentBuilder::new(PIECE, b"").add_logged(["log"], &so_far).write().done().unwrap();
-        let read = Torrent::read(&written).done().unwrap().file(0).done().unwrap();
+        assert_eq!(history.more(burst), Ok(()));
+        let so_far = history.end().unwrap();
+        let written = TorrentBuilder::new(PIECE, b"").add_logged(["log"], &so_far).write().unwrap();
+        let read = Torrent::read(&written).unwrap().file(0).unwrap();
         assert_eq!((read.length, read.root, read.layer), (so_far.length, so_far.root, so_far.layer));
     }
 }
@@ -76,14 +76,14 @@ fn order_and_twins() {
     let file = bytes(1, 100_000);
     let mut layer = [0; 4 * 32];
     let mut history = logged(&file, &mut layer);
-    let twin = history.end().done().unwrap();
+    let twin = history.end().unwrap();
     let write = |names: [&str; 3]| {
         let mut builder = TorrentBuilder::new(PIECE, b"x");
         for name in names {
             builder.add_logged([name], &twin);
         }
         assert_eq!(builder.files(), 3);
-        builder.write().done().unwrap()
+        builder.write().unwrap()
     };
     let torrent = write(["a", "b", "c"]);
     assert_eq!(torrent, write(["c", "a", "b"]));
@@ -93,17 +93,17 @@ fn order_and_twins() {
 #[test]
 fn refusals() {
     let mut builder = TorrentBuilder::new(PIECE, b"x");
-    assert_eq!(builder.write(), Answer::WrongTree, "no file");
+    assert_eq!(builder.write(), Err(Refusal::WrongTree), "no file");
     builder.add(["a"], 1, [1; 32], &[]);
-    let whole = builder.write().done().unwrap();
+    let whole = builder.write().unwrap();
     let mut out = vec![0xaa; whole.len() + 1];
-    assert_eq!(builder.write_into(&mut out[..whole.len() - 1]), Answer::NoRoom);
+    assert_eq!(builder.write_into(&mut out[..whole.len() - 1]), Err(Refusal::NoRoom));
     assert!(out.iter().all(|byte| *byte == 0xaa));
-    assert_eq!(builder.write_into(&mut out), Answer::Done(&whole[..]));
+    assert_eq!(builder.write_into(&mut out), Ok(&whole[..]));
     assert_eq!(out[whole.len()], 0xaa);
 
     let number = |path: &[&str], length: u64, root: [u8; 32], layer: &[u8]| {
-        builder.clone().add(path, length, root, layer).write().number()
+        builder.clone().add(path, length, root, layer).write().unwrap_err().number()
     };
     for path in [&["a"][..], &["a", "b"], &[], &[""], &["b", ".."], &["."], &["b/c"], &["b\0"]] {
         assert_eq!(number(path, 1, [2; 32], &[]), 25, "{path:?}");
@@ -114,6 +114,6 @@ fn refusals() {
     assert_eq!(number(&["b"], 2, [1; 32], &[]), 26);
     assert_eq!(number(&["b"], 2, [2; 32], &[0; 32]), 27);
     assert_eq!(number(&["b"], PIECE + 1, [2; 32], &[0; 64]), 28);
-    assert_eq!(TorrentBuilder::new(PIECE + 1, b"").write(), Answer::PieceLengthOutOfRange);
-    assert_eq!(TorrentBuilder::new(PIECE, &vec![0; LARGEST_TORRENT]).write(), Answer::TorrentTooLarge);
+    assert_eq!(TorrentBuilder::new(PIECE + 1, b"").write(), Err(Refusal::PieceLengthOutOfRange));
+    assert_eq!(TorrentBuilder::new(PIECE, &vec![0; LARGEST_TORRENT]).write(), Err(Refusal::TorrentTooLarge));
 }

@@ -1,10 +1,11 @@
 //! The session of document 01 through the binding, on five blocks in pieces of four. The tree is made by host/reference.
 
-use kombudeva::{sha256, store_size, Answer, Hashing, History, Repaired, Request, Store, Torrent};
+use kombudeva::{sha256, store_size, Hashing, History, Refusal, Repaired, Request, Store, Torrent};
 use reference::limits::BLOCK;
 use reference::messages::{Header, HASHES, REJECT, REQUEST};
 use reference::tree::{of_file, Position};
 use std::collections::HashMap;
+use std::io::{self, Write};
 
 const LENGTH: u64 = 5 * BLOCK;
 const PIECE: u64 = 4 * BLOCK;
@@ -39,9 +40,9 @@ impl Known {
         header.write(HASHES).into_iter().chain(hashes).collect()
     }
 
-    fn open<'a>(&self, memory: &'a mut Vec<u8>) -> Store<'a> {
-        memory.resize(store_size(LENGTH, PIECE).done().unwrap() as usize, 0xaa);
-        Store::open(memory, LENGTH, PIECE, self.root()).done().unwrap()
+    fn open<'a>(&self, memory: &'a mut Vec<u8>) -> Store<&'a mut [u8]> {
+        memory.resize(store_size(LENGTH, PIECE).unwrap(), 0xaa);
+        Store::open(&mut memory[..], LENGTH, PIECE, self.root()).unwrap()
     }
 
     fn block(&self, block: u64) -> &[u8] {
@@ -51,7 +52,7 @@ impl Known {
 
 #[test]
 fn a_hash() {
-    assert_eq!(sha256(b"abc").done(), Some(reference::sha256::sha256(b"abc")));
+    assert_eq!(sha256(b"abc"), Ok(reference::sha256::sha256(b"abc")));
 }
 
 #[test]
@@ -59,17 +60,17 @@ fn the_session_of_the_document() {
     let known = known();
     let mut memory = Vec::new();
     let mut store = known.open(&mut memory);
-    assert_eq!(store.held(3, 0), Answer::Done(known.root()));
+    assert_eq!(store.held(3, 0), Ok(known.root()));
     let leaves = known.message([0, 0, 4, 1]);
-    assert_eq!(store.take(&leaves), Answer::NoAnchor);
-    assert_eq!(store.take(&known.message([2, 0, 2, 0])), Answer::Done(2));
-    assert_eq!(store.take(&leaves), Answer::Done(6));
-    assert_eq!(store.take(&leaves), Answer::Done(0));
-    assert_eq!(store.held(0, 3), Answer::Done(known.at(0, 3)));
-    assert_eq!(store.held(0, 4), Answer::NoAnchor);
-    assert_eq!(store.held(0, 8), Answer::RuleBroken);
-    assert_eq!(store.take_reject(&known.header([0, 4, 4, 2]).write(REJECT)), Answer::Done(0));
-    assert_eq!(store.take_reject(&leaves), Answer::NoMessage);
+    assert_eq!(store.take(&leaves), Err(Refusal::NoAnchor));
+    assert_eq!(store.take(&known.message([2, 0, 2, 0])), Ok(2));
+    assert_eq!(store.take(&leaves), Ok(6));
+    assert_eq!(store.take(&leaves), Ok(0));
+    assert_eq!(store.held(0, 3), Ok(known.at(0, 3)));
+    assert_eq!(store.held(0, 4), Err(Refusal::NoAnchor));
+    assert_eq!(store.held(0, 8), Err(Refusal::RuleBroken));
+    assert_eq!(store.take_reject(&known.header([0, 4, 4, 2]).write(REJECT)), Ok(()));
+    assert_eq!(store.take_reject(&leaves), Err(Refusal::NoMessage));
 }
 
 #[test]
@@ -80,28 +81,28 @@ fn refusals_change_nothing() {
     let before = store.bytes().to_vec();
     let mut damaged = known.message([0, 0, 8, 0]);
     damaged[60] ^= 1;
-    assert_eq!(store.take(&damaged), Answer::Differs);
-    assert_eq!(store.take(&damaged[..100]), Answer::WrongSize);
-    assert_eq!(store.take(&[]), Answer::NoMessage);
+    assert_eq!(store.take(&damaged), Err(Refusal::Differs));
+    assert_eq!(store.take(&damaged[..100]), Err(Refusal::WrongSize));
+    assert_eq!(store.take(&[]), Err(Refusal::NoMessage));
     assert_eq!(store.bytes(), before);
 }
 
 #[test]
 fn any_bytes_may_be_lent() {
     let mut none = [0; 0];
-    assert_eq!(Store::over(&mut none).held(0, 0), Answer::Unusable);
-    assert_eq!(Store::over(&mut [0xff; 500]).take(&[22; 49]), Answer::Unusable);
-    assert_eq!(Store::open(&mut none, 0, PIECE, [0; 32]), Answer::FactsOutOfRange);
-    assert_eq!(Store::open(&mut none, 1, PIECE, [0; 32]), Answer::Unusable);
-    assert_eq!(store_size(1, 16385), Answer::FactsOutOfRange);
+    assert_eq!(Store::over(&none).held(0, 0), Err(Refusal::Unusable));
+    assert_eq!(Store::over(&mut [0xff; 500]).take(&[22; 49]), Err(Refusal::Unusable));
+    assert_eq!(Store::open(&mut none, 0, PIECE, [0; 32]), Err(Refusal::FactsOutOfRange));
+    assert_eq!(Store::open(&mut none, 1, PIECE, [0; 32]), Err(Refusal::Unusable));
+    assert_eq!(store_size(1, 16385), Err(Refusal::FactsOutOfRange));
 }
 
 #[test]
 fn a_store_is_found_again_in_its_bytes() {
     let known = known();
     let mut memory = Vec::new();
-    assert_eq!(known.open(&mut memory).take(&known.message([0, 0, 8, 0])), Answer::Done(14));
-    assert_eq!(Store::over(&mut memory).held(0, 4), Answer::Done(known.at(0, 4)));
+    assert_eq!(known.open(&mut memory).take(&known.message([0, 0, 8, 0])), Ok(14));
+    assert_eq!(Store::over(&memory[..]).held(0, 4), Ok(known.at(0, 4)));
 }
 
 #[test]
@@ -112,12 +113,12 @@ fn serving() {
     let request = known.header([0, 4, 4, 2]).write(REQUEST);
     let mut out = [0; 300];
     let served = store.serve(&request, &mut out);
-    assert_eq!((served.answer, served.reply), (Answer::NotHeld, &known.header([0, 4, 4, 2]).write(REJECT)[..]));
-    assert_eq!(store.take(&known.message([0, 0, 8, 0])), Answer::Done(14));
+    assert_eq!((served.answer, served.reply), (Err(Refusal::NotHeld), &known.header([0, 4, 4, 2]).write(REJECT)[..]));
+    assert_eq!(store.take(&known.message([0, 0, 8, 0])), Ok(14));
     let served = store.serve(&request, &mut out);
-    assert_eq!((served.answer, served.reply), (Answer::Done(209), &known.message([0, 4, 4, 2])[..]));
+    assert_eq!((served.answer, served.reply), (Ok(()), &known.message([0, 4, 4, 2])[..]));
     let served = store.serve(&request, &mut out[..208]);
-    assert_eq!((served.answer, served.reply), (Answer::NoRoom, &[][..]));
+    assert_eq!((served.answer, served.reply), (Err(Refusal::NoRoom), &[][..]));
 }
 
 #[test]
@@ -128,20 +129,19 @@ fn marks() {
     let layer = [known.at(2, 0), known.at(2, 1)].concat();
     let (first, last) = known.bytes.split_at(PIECE as usize);
     let mut field = [0xff; 2];
-    assert_eq!(store.load_layer(&layer), Answer::Done(2));
-    assert_eq!(store.bitfield(&mut field), Answer::Done(1));
-    assert_eq!(field, [0, 0xff], "nothing was judged yet");
-    assert_eq!(store.judge_piece(0, first), Answer::Done(0));
-    assert_eq!(store.judge_piece(1, last), Answer::Done(0));
-    assert_eq!(store.bitfield(&mut field), Answer::Done(1));
+    assert_eq!(store.load_layer(&layer), Ok(2));
+    assert_eq!(store.bitfield(&mut field), Ok(&[0][..]), "nothing was judged yet");
+    assert_eq!(field, [0, 0xff]);
+    assert_eq!(store.judge_piece(0, first), Ok(()));
+    assert_eq!(store.judge_piece(1, last), Ok(()));
+    assert_eq!(store.bitfield(&mut field), Ok(&[0xc0][..]));
     assert_eq!(field, [0xc0, 0xff]);
-    assert_eq!(store.clear(2), Answer::Done(0));
-    assert_eq!((store.marked(2), store.marked(3)), (Answer::Done(0), Answer::Done(1)));
-    assert_eq!((store.clear(5), store.marked(5)), (Answer::RuleBroken, Answer::RuleBroken));
-    assert_eq!(store.bitfield(&mut field[..1]), Answer::Done(1));
-    assert_eq!(field[0], 0x40);
-    assert_eq!(store.bitfield(&mut []), Answer::NoRoom);
-    assert_eq!(store.held(2, 0), Answer::Done(known.at(2, 0)), "no hash is forgotten");
+    assert_eq!(store.clear(2), Ok(()));
+    assert_eq!((store.marked(2), store.marked(3)), (Ok(false), Ok(true)));
+    assert_eq!((store.clear(5), store.marked(5)), (Err(Refusal::RuleBroken), Err(Refusal::RuleBroken)));
+    assert_eq!(store.bitfield(&mut field[..1]), Ok(&[0x40][..]));
+    assert_eq!(store.bitfield(&mut []), Err(Refusal::NoRoom));
+    assert_eq!(store.held(2, 0), Ok(known.at(2, 0)), "no hash is forgotten");
 }
 
 #[test]
@@ -149,29 +149,27 @@ fn a_store_is_saved_loaded_and_repaired() {
     let known = known();
     let mut memory = Vec::new();
     let mut store = known.open(&mut memory);
-    assert_eq!(store.take(&known.message([2, 0, 2, 0])), Answer::Done(2));
-    assert_eq!(store.take(&known.message([0, 0, 4, 1])), Answer::Done(6));
-    assert_eq!(store.judge_block(2, known.block(2)), Answer::Done(0));
-    let mut saved = vec![0; 2 * store.bytes().len()];
-    assert_eq!(store.save(&mut []), Answer::NoRoom);
-    let size = store.save(&mut saved).done().unwrap() as usize;
-    saved.truncate(size);
+    assert_eq!(store.take(&known.message([2, 0, 2, 0])), Ok(2));
+    assert_eq!(store.take(&known.message([0, 0, 4, 1])), Ok(6));
+    assert_eq!(store.judge_block(2, known.block(2)), Ok(()));
+    assert_eq!(store.save(&mut []), Err(Refusal::NoRoom));
+    let mut saved = store.save(&mut vec![0; 2 * store.bytes().len()]).unwrap().to_vec();
 
     let mut other = vec![0xaa; store.bytes().len()];
-    assert_eq!(Store::load(&mut other, &saved[1..]).number(), 32);
-    let (loaded, held) = Store::load(&mut other, &saved).done().unwrap();
+    assert_eq!(Store::load(&mut other[..], &saved[1..]), Err(Refusal::NotSaved));
+    let (loaded, held) = Store::load(&mut other[..], &saved).unwrap();
     assert_eq!(held, 9);
-    assert_eq!(size, 50 + 41 * 9 + 5);
+    assert_eq!(saved.len(), 50 + 41 * 9 + 5);
     assert_eq!(loaded.bytes(), store.bytes());
-    assert_eq!(loaded.marked(2), Answer::Done(1));
+    assert_eq!(loaded.marked(2), Ok(true));
 
     saved[45 + 9] ^= 1; // the first position's hash
     let mut other = vec![0xaa; store.bytes().len()];
-    assert_eq!(Store::load(&mut other, &saved).number(), 32);
-    let (repaired, counts) = Store::repair(&mut other, &saved).done().unwrap();
+    assert_eq!(Store::load(&mut other[..], &saved), Err(Refusal::NotSaved));
+    let (repaired, counts) = Store::repair(&mut other[..], &saved).unwrap();
     assert_eq!(counts, Repaired { dropped: 2, held: held - 2 });
-    assert_eq!(repaired.held(0, 0), Answer::NoAnchor);
-    assert_eq!(repaired.marked(2), Answer::Done(0));
+    assert_eq!(repaired.held(0, 0), Err(Refusal::NoAnchor));
+    assert_eq!(repaired.marked(2), Ok(false));
 }
 
 #[test]
@@ -181,15 +179,15 @@ fn layers_pieces_and_blocks() {
     let mut store = known.open(&mut memory);
     let layer = [known.at(2, 0), known.at(2, 1)].concat();
     let (first, last) = known.bytes.split_at(PIECE as usize);
-    assert_eq!(store.judge_piece(1, last), Answer::NoAnchor);
-    assert_eq!(store.load_layer(&layer), Answer::Done(2));
-    assert_eq!(store.judge_piece(0, first), Answer::Done(0));
-    assert_eq!(store.judge_piece(1, last), Answer::Done(0));
-    assert_eq!(store.judge_piece(2, last), Answer::RuleBroken);
-    assert_eq!(store.judge_block(4, known.block(4)), Answer::NoAnchor);
-    assert_eq!(store.take(&known.message([0, 0, 8, 0])), Answer::Done(12));
-    assert_eq!(store.judge_block(4, known.block(4)), Answer::Done(0));
-    assert_eq!(store.judge_block(4, known.block(3)), Answer::Differs);
+    assert_eq!(store.judge_piece(1, last), Err(Refusal::NoAnchor));
+    assert_eq!(store.load_layer(&layer), Ok(2));
+    assert_eq!(store.judge_piece(0, first), Ok(()));
+    assert_eq!(store.judge_piece(1, last), Ok(()));
+    assert_eq!(store.judge_piece(2, last), Err(Refusal::RuleBroken));
+    assert_eq!(store.judge_block(4, known.block(4)), Err(Refusal::NoAnchor));
+    assert_eq!(store.take(&known.message([0, 0, 8, 0])), Ok(12));
+    assert_eq!(store.judge_block(4, known.block(4)), Ok(()));
+    assert_eq!(store.judge_block(4, known.block(3)), Err(Refusal::Differs));
 }
 
 /// From a fresh store to the last leaf and the last piece, by what it names itself, from a store that has all.
@@ -198,32 +196,32 @@ fn asking_and_picking_to_the_end() {
     let known = known();
     let (mut memory, mut other) = (Vec::new(), Vec::new());
     let mut source = known.open(&mut memory);
-    assert_eq!(source.take(&known.message([0, 0, 8, 0])), Answer::Done(14));
+    assert_eq!(source.take(&known.message([0, 0, 8, 0])), Ok(14));
     let mut store = known.open(&mut other);
     let mut replies = [0, 0];
     for (which, layer) in [2, 0].into_iter().enumerate() {
-        while let Some(request) = store.next_request(layer).done().unwrap() {
+        while let Some(request) = store.next_request(layer).unwrap() {
             let Request { base, index, length, proof, message } = request;
             assert_eq!(message[..], known.header([base, index, length, proof]).write(REQUEST));
             let mut out = [0; 1000];
-            assert!(store.take(source.serve(&message, &mut out).reply).is_done());
+            assert!(store.take(source.serve(&message, &mut out).reply).is_ok());
             replies[which] += 1;
         }
     }
     assert_eq!(replies, [1, 1]);
-    assert_eq!(store.next_request(1), Answer::RuleBroken);
-    assert_eq!(store.pick_piece(&[1]), Answer::WrongSize);
-    assert_eq!(store.pick_piece(&[0, 0]), Answer::Done(None));
+    assert_eq!(store.next_request(1), Err(Refusal::RuleBroken));
+    assert_eq!(store.pick_piece(&[1]), Err(Refusal::WrongSize));
+    assert_eq!(store.pick_piece(&[0, 0]), Ok(None));
     let mut picked = Vec::new();
-    while let Some(piece) = store.pick_piece(&[2, 1]).done().unwrap() {
+    while let Some(piece) = store.pick_piece(&[2, 1]).unwrap() {
         let bytes = known.bytes.chunks(PIECE as usize).nth(piece as usize).unwrap();
-        assert_eq!(store.judge_piece(piece, bytes), Answer::Done(0));
+        assert_eq!(store.judge_piece(piece, bytes), Ok(()));
         picked.push(piece);
     }
     assert_eq!(picked, [1, 0], "the rarer one first");
-    let mut none = [];
-    assert_eq!(Store::over(&mut none).next_request(0), Answer::Unusable);
-    assert_eq!(Store::over(&mut none).pick_piece(&[]), Answer::Unusable);
+    let none = [];
+    assert_eq!(Store::over(&none).next_request(0), Err(Refusal::Unusable));
+    assert_eq!(Store::over(&none).pick_piece(&[]), Err(Refusal::Unusable));
 }
 
 #[test]
@@ -235,9 +233,9 @@ fn stores_in_several_threads_at_once() {
                 let mut memory = Vec::new();
                 let mut store = known.open(&mut memory);
                 for (words, newly) in [([2, 0, 2, 0], 2), ([0, 0, 4, 1], 6), ([0, 4, 4, 2], 6), ([0, 0, 8, 0], 0)] {
-                    assert_eq!(store.take(&known.message(words)), Answer::Done(newly));
+                    assert_eq!(store.take(&known.message(words)), Ok(newly));
                 }
-                assert!((0..5).all(|block| store.judge_block(block, known.block(block)).is_done()));
+                assert!((0..5).all(|block| store.judge_block(block, known.block(block)).is_ok()));
             });
         }
     });
@@ -248,31 +246,31 @@ const SEVERAL: &[u8] = include_bytes!("../../tests/real/several.torrent");
 
 #[test]
 fn a_torrent() {
-    let torrent = Torrent::read(SEVERAL).done().unwrap();
+    let torrent = Torrent::read(SEVERAL).unwrap();
     assert_eq!((torrent.piece_length, torrent.files), (32768, 6));
-    let voltage = torrent.file(0).done().unwrap();
+    let voltage = torrent.file(0).unwrap();
     assert_eq!((voltage.length, voltage.elements, voltage.layer.len()), (100_000, 3, 4 * 32));
-    assert_eq!(torrent.path(0, 2), Answer::Done(&b"voltage"[..]));
-    assert_eq!(torrent.path(4, 1), Answer::Done(&b"\xff\xfe"[..]));
-    assert_eq!(torrent.path(0, 3), Answer::NoSuchFile);
-    assert_eq!(torrent.file(6), Answer::NoSuchFile);
-    assert_eq!(Torrent::read(&SEVERAL[1..]), Answer::NotStrict);
+    assert_eq!(torrent.path(0, 2), Ok(&b"voltage"[..]));
+    assert_eq!(torrent.path(4, 1), Ok(&b"\xff\xfe"[..]));
+    assert_eq!(torrent.path(0, 3), Err(Refusal::NoSuchFile));
+    assert_eq!(torrent.file(6), Err(Refusal::NoSuchFile));
+    assert_eq!(Torrent::read(&SEVERAL[1..]), Err(Refusal::NotStrict));
 }
 
 #[test]
 fn a_list_of_files() {
-    let torrent = Torrent::read(SEVERAL).done().unwrap();
+    let torrent = Torrent::read(SEVERAL).unwrap();
     let mut memory = vec![0xaa; torrent.list_size() + 1];
     let short = memory.len() - 2;
-    assert!(matches!(torrent.list(&mut memory[..short]), Answer::NoRoom));
-    let list = torrent.list(&mut memory).done().unwrap();
+    assert!(matches!(torrent.list(&mut memory[..short]), Err(Refusal::NoRoom)));
+    let list = torrent.list(&mut memory).unwrap();
     assert_eq!(list.len(), 6);
     for (number, listed) in list.clone().enumerate() {
-        assert_eq!(Answer::Done(listed.file), torrent.file(number as u64));
+        assert_eq!(Ok(listed.file), torrent.file(number as u64));
         let path: Vec<&[u8]> = listed.path().collect();
         assert_eq!(path.len() as u64, listed.file.elements);
         for (element, name) in path.into_iter().enumerate() {
-            assert_eq!(torrent.path(number as u64, element as u64), Answer::Done(name));
+            assert_eq!(torrent.path(number as u64, element as u64), Ok(name));
         }
     }
     assert_eq!(list.get(5).unwrap().path().collect::<Vec<_>>(), [b"readme"]);
@@ -282,12 +280,12 @@ fn a_list_of_files() {
 /// A store that is opened and filled with nothing but what a torrent says.
 #[test]
 fn from_the_torrent_to_the_store() {
-    let torrent = Torrent::read(SEVERAL).done().unwrap();
-    let file = torrent.file(0).done().unwrap();
-    let mut memory = vec![0; store_size(file.length, torrent.piece_length).done().unwrap() as usize];
-    let mut store = Store::open(&mut memory, file.length, torrent.piece_length, file.root).done().unwrap();
+    let torrent = Torrent::read(SEVERAL).unwrap();
+    let file = torrent.file(0).unwrap();
+    let mut memory = vec![0; store_size(file.length, torrent.piece_length).unwrap()];
+    let mut store = Store::open(&mut memory, file.length, torrent.piece_length, file.root).unwrap();
     // Four pieces, that is layers 1, 2 and 3 of seven blocks, the root held before.
-    assert_eq!(store.load_layer(file.layer), Answer::Done(6));
+    assert_eq!(store.load_layer(file.layer), Ok(6));
 }
 
 /// A file that is logged in bursts, published on the way, and believed by a store opened with what was published.
@@ -295,26 +293,58 @@ fn from_the_torrent_to_the_store() {
 fn a_history_is_logged_and_loaded() {
     let file: Vec<u8> = (0..100_000u32).map(|i| (i * 7 + i / 251) as u8).collect();
     let mut layer = [0xaa; 4 * 32];
-    let mut history = History::begin(32768, &mut layer).done().unwrap();
-    assert_eq!(History::begin(5, &mut []).number(), 10);
+    let mut history = History::begin(32768, &mut layer).unwrap();
+    assert_eq!(History::begin(5, &mut []).unwrap_err(), Refusal::FactsOutOfRange);
     let mut hashing = Hashing::begin();
     for (number, burst) in file.chunks(999).enumerate() {
-        assert_eq!(history.more(burst), Answer::Done(()));
-        assert_eq!(hashing.more(burst), Answer::Done(()));
+        assert_eq!(history.more(burst), Ok(()));
+        assert_eq!(hashing.more(burst), Ok(()));
         if number % 40 == 0 {
-            let so_far = history.end().done().unwrap();
+            let so_far = history.end().unwrap();
             assert_eq!(so_far.length as usize, (number + 1) * 999);
         }
     }
-    assert_eq!(Answer::Done(hashing.end()), sha256(&file));
-    let logged = history.end().done().unwrap();
+    assert_eq!(Ok(hashing.end()), sha256(&file));
+    let logged = history.end().unwrap();
     assert_eq!((logged.length, logged.layer.len()), (100_000, 4 * 32));
-    let mut memory = vec![0; store_size(logged.length, 32768).done().unwrap() as usize];
-    let mut store = Store::open(&mut memory, logged.length, 32768, logged.root).done().unwrap();
-    assert_eq!(store.load_layer(logged.layer), Answer::Done(6));
+    let mut memory = vec![0; store_size(logged.length, 32768).unwrap()];
+    let mut store = Store::open(&mut memory, logged.length, 32768, logged.root).unwrap();
+    assert_eq!(store.load_layer(logged.layer), Ok(6));
     for (piece, bytes) in file.chunks(32768).enumerate() {
-        assert_eq!(store.judge_piece(piece as u64, bytes), Answer::Done(0));
+        assert_eq!(store.judge_piece(piece as u64, bytes), Ok(()));
     }
-    assert_eq!(history.more(&file[..65536]), Answer::NoRoom);
+    assert_eq!(history.more(&file[..65536]), Err(Refusal::NoRoom));
     assert_eq!(history.length(), 100_000);
+}
+
+/// What copies bytes elsewhere copies them here too; a refusal comes back as it is.
+#[test]
+fn writing_as_to_a_file() {
+    let file: Vec<u8> = (0..50_000u32).map(|i| (i / 7) as u8).collect();
+    let mut hashing = Hashing::default();
+    assert_eq!(io::copy(&mut &file[..], &mut hashing).unwrap(), 50_000);
+    assert_eq!(Ok(hashing.end()), sha256(&file));
+
+    let mut layer = [0; 3 * 32];
+    let mut history = History::begin(16384, &mut layer).unwrap();
+    assert_eq!(io::copy(&mut &file[..], &mut history).unwrap(), 50_000);
+    assert_eq!(history.end().unwrap_err(), Refusal::NoRoom);
+    let error = history.write_all(&file).unwrap_err();
+    assert_eq!(error.get_ref().unwrap().downcast_ref(), Some(&Refusal::NoRoom));
+    assert_eq!(history.length(), 50_000);
+}
+
+/// A store that is only read, and one that owns its memory.
+#[test]
+fn over_memory_of_any_kind() {
+    let known = known();
+    let mut memory = Vec::new();
+    assert_eq!(known.open(&mut memory).take(&known.message([0, 0, 8, 0])), Ok(14));
+    let only_read = Store::over(&memory[..]);
+    let copied = only_read;
+    assert_eq!((copied.held(0, 4), copied.marked(4)), (Ok(known.at(0, 4)), Ok(false)));
+    assert_eq!(only_read.serve(&known.header([0, 4, 4, 2]).write(REQUEST), &mut [0; 209]).answer, Ok(()));
+    let mut owned = Store::over(memory);
+    assert_eq!(owned.judge_block(4, known.block(4)), Ok(()));
+    assert_eq!(Store::over(owned.into_memory()).marked(4), Ok(true));
 }

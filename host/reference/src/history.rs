@@ -78,13 +78,13 @@ impl History {
     /// Bytes of one block, at least one. If they run past a piece, its hash is written; if they end the block, its leaf is
     /// finished, and each node that it is the last leaf of.
     fn take(&mut self, part: &[u8], layer: &mut [u8]) {
-        if self.length > 0 && self.length % self.piece_length == 0 {
+        if self.length > 0 && self.length.is_multiple_of(self.piece_length) {
             let piece = (self.length / self.piece_length) as usize - 1;
             layer[32 * piece..][..32].copy_from_slice(&self.nodes[self.piece_layer()]);
         }
         self.block = self.block.after(part);
         self.length += part.len() as u64;
-        if self.length % BLOCK == 0 {
+        if self.length.is_multiple_of(BLOCK) {
             self.finish(self.block.end().hash);
             self.block = Hashing::begin();
         }
@@ -93,12 +93,12 @@ impl History {
     fn finish(&mut self, leaf: Hash) {
         let before = self.nodes;
         let mut hash = leaf;
-        for layer in 0..NODES {
-            if (self.length / BLOCK) % (1 << layer) != 0 {
+        for (layer, last) in before.iter().enumerate() {
+            if !(self.length / BLOCK).is_multiple_of(1 << layer) {
                 return;
             }
             self.nodes[layer] = hash;
-            hash = pair(&before[layer], &hash);
+            hash = pair(last, &hash);
         }
     }
 
@@ -108,11 +108,11 @@ impl History {
 
     /// The node of layer `layer` over the last byte.
     fn last(&self, layer: usize) -> Hash {
-        if self.length % (BLOCK << layer) == 0 {
+        if self.length.is_multiple_of(BLOCK << layer) {
             return self.nodes[layer];
         }
         let mut index = self.length / BLOCK;
-        let mut hash = if self.length % BLOCK == 0 { [0; 32] } else { self.block.end().hash };
+        let mut hash = if self.length.is_multiple_of(BLOCK) { [0; 32] } else { self.block.end().hash };
         for below in 0..layer {
             hash = match index % 2 {
                 1 => pair(&self.nodes[below], &hash),

@@ -1,6 +1,6 @@
 //! The three hash messages: request, hashes, reject. Section "The hash messages" of document 01.
 
-use crate::limits::LONGEST_RUN;
+use crate::limits::{HEADER_SIZE, LONGEST_RUN};
 use crate::number::*;
 use crate::sha256::{pair, Hash};
 use crate::store::{any_differs, facts_of, held_at, hold};
@@ -11,7 +11,7 @@ pub const REQUEST: u8 = 21;
 pub const HASHES: u8 = 22;
 pub const REJECT: u8 = 23;
 /// The id byte and the header behind it.
-pub const HEAD: usize = 49;
+pub const HEAD: usize = HEADER_SIZE;
 
 /// The 48 bytes behind the id.
 #[derive(Clone, Copy, Debug, PartialEq, Eq)]
@@ -53,7 +53,7 @@ impl Header {
         let (base, index, proof) = (self.base as u64, self.index as u64, self.proof as u64);
         self.length.is_power_of_two()
             && (2..=LONGEST_RUN).contains(&self.length)
-            && self.index % self.length == 0
+            && self.index.is_multiple_of(self.length)
             && base + self.run_layers() <= facts.height()
             && base + proof < facts.height()
             && index + self.length as u64 <= facts.width(base)
@@ -197,7 +197,7 @@ pub fn serve(store: &[u8], request: &[u8], out: &mut [u8]) -> Answer {
 #[cfg(test)]
 mod tests {
     use super::*;
-    use crate::limits::BLOCK;
+    use crate::limits::{BLOCK, LARGEST_REPLY, LONGEST_FILE};
     use crate::store::{held, open, store_size};
     use crate::tree::of_file;
     use std::collections::HashMap;
@@ -241,6 +241,22 @@ mod tests {
             let answer = serve(&self.store, &self.header(words).write(REQUEST), &mut [0; 20000]);
             (answer.number, answer.count)
         }
+    }
+
+    /// No message that keeps the rules of the tallest tree is larger than the largest reply, and one is as large.
+    #[test]
+    fn the_largest_reply() {
+        let facts = Facts { length: LONGEST_FILE, piece_length: BLOCK, root: [0; 32] };
+        let mut largest = 0;
+        for (base, proof, run_layers) in
+            (0..=20).flat_map(|base| (0..=20).flat_map(move |proof| (1..=13).map(move |layers| (base, proof, layers))))
+        {
+            let header = Header { root: [0; 32], base, index: 0, length: 1 << run_layers, proof };
+            if header.obeys_the_rules(&facts) {
+                largest = largest.max(header.message_size());
+            }
+        }
+        assert_eq!(largest, LARGEST_REPLY as u64);
     }
 
     #[test]

@@ -101,7 +101,7 @@ mod tests {
     }
 
     fn primes(count: usize) -> Vec<u128> {
-        let is_prime = |n: &u128| (2..*n).all(|d| n % d != 0);
+        let is_prime = |n: &u128| (2..*n).all(|d| !n.is_multiple_of(d));
         (2..).filter(is_prime).take(count).collect()
     }
 

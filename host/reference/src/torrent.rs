@@ -209,7 +209,7 @@ pub fn contents_by(
     let mut files = Vec::new();
     add_files(torrent, fields.file_tree, &mut Vec::new(), &mut files)?;
     if has_two_lengths(&files) {
-        return Err(SAME_ROOT);
+        return Err(TWO_LENGTHS);
     }
     assign_layers(torrent, fields.piece_layers, piece_length, &mut files)?;
     let filler = padding((piece_length / BLOCK).trailing_zeros() as u64);
@@ -447,7 +447,7 @@ mod tests {
 
     #[test]
     fn same_roots() {
-        assert_eq!(number_of_tree(&directory(&[file("a", 1, Some(1)), file("b", 2, Some(1))])), SAME_ROOT);
+        assert_eq!(number_of_tree(&directory(&[file("a", 1, Some(1)), file("b", 2, Some(1))])), TWO_LENGTHS);
         assert_eq!(number_of_tree(&directory(&[file("a", 1, Some(1)), file("b", 1, Some(1))])), 0);
         assert_eq!(number_of_tree(&directory(&[file("a", 1, Some(0)), file("b", 0, None), file("c", 0, None)])), 0);
     }
@@ -509,7 +509,7 @@ mod tests {
         let twins = [file("a", 40000), file("b", 40000)];
         let triplets = [&twins[..], &[file("c", 40000)]].concat();
         for files in [&twins[..], &triplets] {
-            let good = with(files, &[right.clone()]);
+            let good = with(files, std::slice::from_ref(&right));
             let first = torrent_file(&good, 0);
             assert_eq!((first.number, first.layer_size), (0, 96));
             assert!((1..files.len() as u64).all(|other| torrent_file(&good, other) == first));
@@ -519,7 +519,10 @@ mod tests {
             assert_eq!(number(&with(files, &[entry(&root, &[5; 96])])), LAYER_DIFFERS);
         }
         for length in [1, 16384, 32769, 49152] {
-            assert_eq!(number(&with(&[file("a", 40000), file("b", length)], &[right.clone()])), SAME_ROOT);
+            assert_eq!(
+                number(&with(&[file("a", 40000), file("b", length)], std::slice::from_ref(&right))),
+                TWO_LENGTHS
+            );
         }
     }
 }

@@ -25,7 +25,7 @@ pub struct Item<'a> {
 
 /// The content of a list, or nothing if it isn't in its form.
 pub fn content<'a>(list: &[u8], text: &'a [u8]) -> Option<Vec<Item<'a>>> {
-    if list.len() % WRITE_RECORD != 0 {
+    if !list.len().is_multiple_of(WRITE_RECORD) {
         return None;
     }
     list.chunks_exact(WRITE_RECORD).map(|record| item_of(record, text)).collect()
@@ -201,7 +201,7 @@ pub fn number_of(items: &[Item], piece_length: u64, name: &[u8]) -> u32 {
     } else if items.is_empty() || items.iter().any(is_wrong) || paths_meet(items) {
         WRONG_TREE
     } else if one_root_two(items, |item| item.length) {
-        SAME_ROOT
+        TWO_LENGTHS
     } else if items.iter().any(|item| item.layer.len() as u64 != item.layer_size(piece_length)) {
         LAYERS_AMISS
     } else if one_root_two(items, |item| item.layer) || items.iter().any(|item| has_other_root(item, piece_length)) {
@@ -389,7 +389,7 @@ mod tests {
         assert_eq!(number(&with(entry("c", 0, [1; 32], b""))), WRONG_TREE);
         assert_eq!(number(&with(entry("c", LONGEST_FILE + 1, [2; 32], b""))), WRONG_TREE);
         // 26: one root, two lengths; an empty file has no root.
-        assert_eq!(number(&with(entry("c", 2, [1; 32], b""))), SAME_ROOT);
+        assert_eq!(number(&with(entry("c", 2, [1; 32], b""))), TWO_LENGTHS);
         assert_eq!(number(&with(entry("c", 2, [0; 32], b""))), DONE);
         // 27
         assert_eq!(number(&with(entry("c", 2, [2; 32], &[9; 32]))), LAYERS_AMISS);

@@ -227,7 +227,7 @@ fn placing(random: &mut Random) -> Placing {
     }
 }
 
-/// What is written is read back as the same files by the reference, and every call that reads it is compared as well.
+/// What is written is read back as the same files by the reference, and the calls that read it whole are compared as well.
 fn ask_back(files: &[Planned], outcome: &Outcome, piece_length: u64, compared: &mut Comparison) {
     let torrent = &outcome.out[..outcome.given.count() as usize];
     assert_eq!(contents(torrent).map(|all| all.piece_length), Ok(piece_length));
@@ -237,8 +237,8 @@ fn ask_back(files: &[Planned], outcome: &Outcome, piece_length: u64, compared: &
     compared.ask(&Call::new(Entry::TorrentList).input(torrent.to_vec()).out(vec![0xaa; RECORD * files.len()]));
 }
 
-/// A list in just the room, a byte less, a byte more and none; then in another order with other places: the same answer, and
-/// the same bytes.
+/// A list with room to spare, in just the room, a byte less and none; then in another order with other places: the same answer,
+/// and the same bytes.
 fn ask_list(files: &[Planned], piece_length: u64, name: &[u8], random: &mut Random, compared: &mut Comparison) {
     let written = written_down(files, placing(random));
     let first = compared.ask(&written.call(piece_length, name, 4096.max(120 * files.len()) + name.len()));

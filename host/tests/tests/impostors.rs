@@ -183,13 +183,15 @@ fn streams_that_are_wrong_in_one_way() {
         Given::Heard(DONE, 1, _, size) if (size as usize) < outcome.out.len() => outcome.out[size as usize] ^= 1,
         _ => (),
     });
-    assert_stream_found_out("a refused stream that goes on", Entry::StreamHear, |_, outcome| match outcome.given {
-        Given::Heard(FRAME_TOO_LONG, event, 0, size) => outcome.given = Given::Heard(DONE, event, 0, size),
-        _ => (),
+    assert_stream_found_out("a refused stream that goes on", Entry::StreamHear, |_, outcome| {
+        if let Given::Heard(FRAME_TOO_LONG, event, 0, size) = outcome.given {
+            outcome.given = Given::Heard(DONE, event, 0, size)
+        }
     });
-    assert_stream_found_out("an unusable state begun afresh", Entry::StreamHear, |_, outcome| match outcome.given {
-        Given::Heard(UNUSABLE, ..) => outcome.store.fill(0),
-        _ => (),
+    assert_stream_found_out("an unusable state begun afresh", Entry::StreamHear, |_, outcome| {
+        if let Given::Heard(UNUSABLE, ..) = outcome.given {
+            outcome.store.fill(0)
+        }
     });
     assert_stream_found_out("the prefix counted into the length", Entry::Frame, |_, outcome| {
         if outcome.given.number() == DONE {
@@ -278,7 +280,7 @@ fn running_forms_that_are_wrong_in_one_way() {
         (Entry::HistoryMore, mut outcome) if outcome.given.number() == DONE => {
             let state = history_of(&outcome.store);
             let place = 32 * (state.length / state.piece_length) as usize;
-            if state.length % state.piece_length == 0 && place > 0 && place <= outcome.out.len() {
+            if state.length.is_multiple_of(state.piece_length) && place > 0 && place <= outcome.out.len() {
                 let layer = (state.piece_length / 16384).ilog2() as usize;
                 outcome.out[place - 32..place].copy_from_slice(&state.nodes[layer]);
             }
@@ -301,7 +303,7 @@ fn running_forms_that_are_wrong_in_one_way() {
         &|call| match (call.entry, by_reference(call)) {
             (Entry::HistoryMore, mut outcome) if outcome.given.number() == DONE => {
                 let mut state = history_of(&outcome.store);
-                if state.length % 32768 == 0 {
+                if state.length.is_multiple_of(32768) {
                     state.nodes[0] = [0; 32];
                 }
                 outcome.store = history_bytes(&state);
@@ -738,7 +740,7 @@ fn twins_read_wrong() {
         Outcome { given: Given::Torrent(torrent), .. }
             if torrent.number == DONE && (0..torrent.files).any(|file| is_a_later_twin(&call.input, file)) =>
         {
-            let given = Given::Torrent(Torrent { number: SAME_ROOT, info_hash: [0; 32], piece_length: 0, files: 0 });
+            let given = Given::Torrent(Torrent { number: TWO_LENGTHS, info_hash: [0; 32], piece_length: 0, files: 0 });
             Outcome { given, ..untouched(call) }
         }
         outcome => outcome,

@@ -15,7 +15,8 @@ fn source(path: &str) -> String {
 /// A value as these sources write them: a decimal, `0x` with digits in groups, or `2 ^ n`.
 fn value(text: &str) -> u64 {
     let digits = text.trim().replace('_', "");
-    let read = |text: &str, base| u64::from_str_radix(text.trim(), base).unwrap_or_else(|_| panic!("{text} is no number"));
+    let read =
+        |text: &str, base| u64::from_str_radix(text.trim(), base).unwrap_or_else(|_| panic!("{text} is no number"));
     match (digits.strip_prefix("0x"), digits.split_once('^')) {
         (Some(digits), _) => read(digits, 16),
         (_, Some((base, power))) => read(base, 10).pow(read(power, 10) as u32),
@@ -23,12 +24,19 @@ fn value(text: &str) -> u64 {
     }
 }
 
-/// `#define KD_NAME value`, without the version.
-fn header() -> Names {
+/// `#define KD_NAME text`, without what is behind it.
+fn macros() -> BTreeMap<String, String> {
     let text = source("include/kombudeva.h");
     let defined = text.lines().filter_map(|line| line.strip_prefix("#define KD_")?.split_once(' '));
-    let names = defined.filter(|(name, _)| *name != "VERSION");
-    names.map(|(name, rest)| (name.to_string(), value(rest.split("/*").next().unwrap()))).collect()
+    defined.map(|(name, rest)| (name.to_string(), rest.split("/*").next().unwrap().trim().to_string())).collect()
+}
+
+/// Names and values of the header, without its version, the attribute and old names.
+fn header() -> Names {
+    let others = ["VERSION", "VERSION_NUMBER", "MUST_USE"];
+    let values =
+        macros().into_iter().filter(|(name, text)| !others.contains(&name.as_str()) && !text.starts_with("KD_"));
+    values.map(|(name, text)| (name, value(&text))).collect()
 }
 
 /// `pub const NAME: type = value;`, in Rattle and in Rust.
@@ -69,7 +77,14 @@ fn from_camel(name: &str) -> String {
 }
 
 fn numbers() -> Names {
-    constants("crates/numbers/src/lib.rt")
+    as_hosts_say(constants("crates/numbers/src/lib.rt"))
+}
+
+/// Number 26 has its old name in the proved code.
+fn as_hosts_say(mut names: Names) -> Names {
+    let number = names.remove("SAME_ROOT").expect("no longer the old name: this function can go");
+    names.insert("TWO_LENGTHS".to_string(), number);
+    names
 }
 
 /// The numbers but 0: a spec's and the binding's 0 carry what was asked for.
@@ -101,7 +116,7 @@ fn the_header_has_the_numbers_and_the_limits() {
 
 fn the_numbers_have_one_name_each() {
     assert_eq!(constants("host/reference/src/number.rs"), numbers());
-    assert_eq!(defined("crates/numbers/specs/Numbers.antt"), refused());
+    assert_eq!(as_hosts_say(defined("crates/numbers/specs/Numbers.antt")), refused());
     assert_eq!(refusals(), refused());
 }
 
@@ -136,11 +151,22 @@ fn the_modes_and_events_have_one_name_each() {
     assert_eq!(events().len(), 2);
 }
 
-fn the_version_is_the_bindings() {
-    let header = source("include/kombudeva.h");
-    let (_, rest) = header.split_once("#define KD_VERSION \"").unwrap();
-    let (version, _) = rest.split_once('"').unwrap();
-    assert!(source("host/kombudeva/Cargo.toml").contains(&format!("\nversion = \"{version}\"\n")));
+fn an_old_name_says_the_same() {
+    let old: Vec<(String, String)> = macros().into_iter().filter(|(_, text)| text.starts_with("KD_")).collect();
+    assert_eq!(old, [("SAME_ROOT".to_string(), "KD_TWO_LENGTHS".to_string())]);
+}
+
+/// As text and as a number in the header, in code and specs of the boundary, and in both crates of the binding.
+fn the_version_is_one() {
+    let (version, number) = (&macros()["VERSION"], value(&macros()["VERSION_NUMBER"]));
+    let figures: Vec<u64> = version.trim_matches('"').split('.').map(value).collect();
+    assert_eq!(figures.iter().fold(0, |number, figure| number * 1000 + figure), number);
+    assert_eq!(figures.len(), 3);
+    assert_eq!(constants("crates/kombudeva/src/lib.rt")["VERSION"], number);
+    assert_eq!(defined("crates/kombudeva/specs/Version.antt")["VERSION"], number);
+    for manifest in ["host/kombudeva/Cargo.toml", "host/kombudeva-sys/Cargo.toml"] {
+        assert!(source(manifest).contains(&format!("\nversion = {version}\n")), "{manifest}");
+    }
 }
 
 host_tests::tests! {
@@ -150,5 +176,6 @@ host_tests::tests! {
     the_limits_have_one_name_each,
     the_ids_have_one_name_each,
     the_modes_and_events_have_one_name_each,
-    the_version_is_the_bindings,
+    an_old_name_says_the_same,
+    the_version_is_one,
 }

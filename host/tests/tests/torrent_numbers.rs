@@ -473,8 +473,8 @@ fn number_27_is_a_layer_too_few_or_too_many() {
     let layered = layered();
     let [first, second] = layered.good();
     assert_number(&layered.torrent(&[]), 27);
-    assert_number(&layered.torrent(&[first.clone()]), 27);
-    assert_number(&layered.torrent(&[second.clone()]), 27);
+    assert_number(&layered.torrent(std::slice::from_ref(&first)), 27);
+    assert_number(&layered.torrent(std::slice::from_ref(&second)), 27);
     let more: [(&[u8], Vec<u8>); 7] = [
         // The root of a file not longer than a piece, of an empty file, of none; no root at all.
         (&[3; 32], string(&[3; 32])),

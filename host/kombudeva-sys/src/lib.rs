@@ -1,13 +1,19 @@
-//! The C boundary as Rust sees it: the header's structs, and for each entry point a safe function over slices.
+//! The C boundary as Rust sees it: the header's structs, and for each entry point a safe function over slices, named as there without `kd_`.
+//! `include/kombudeva.h` says what each does; crate `kombudeva` is the binding that hosts use.
 //!
 //! A slice is as long as it says, and a `&mut` slice overlaps no other: just what the header asks of a C caller.
+#![no_std]
 
-mod raw;
+pub mod raw;
 
 pub use raw::{
     Answer, Choice, File, Hash, Hashed, Hashing, HashingAnswer, Heard, History, HistoryAnswer, HistoryEnd, Part,
     Repaired, Request, Stream, Torrent, NODES,
 };
+
+pub fn version() -> u32 {
+    unsafe { raw::kd_version() }
+}
 
 pub fn sha256(data: &[u8]) -> Hashed {
     unsafe { raw::kd_sha256(data.as_ptr(), data.len()) }

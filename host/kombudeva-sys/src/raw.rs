@@ -1,6 +1,6 @@
 //! The header's declarations, word for word.
 
-use std::mem::{offset_of, size_of};
+use core::mem::{offset_of, size_of};
 
 #[repr(C)]
 #[derive(Clone, Copy, Debug, PartialEq, Eq)]
@@ -172,6 +172,7 @@ const _: () = {
 };
 
 extern "C" {
+    pub fn kd_version() -> u32;
     pub fn kd_sha256(data: *const u8, size: usize) -> Hashed;
     pub fn kd_hashing_begin() -> Hashing;
     pub fn kd_hashing_more(state: Hashing, data: *const u8, size: usize) -> HashingAnswer;
