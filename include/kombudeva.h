@@ -54,8 +54,8 @@ extern "C" {
  * thousand for the second, one for the third. The second rises whenever a struct, a function or an
  * answer changes.
  */
-#define KD_VERSION "0.12.0"
-#define KD_VERSION_NUMBER 12000
+#define KD_VERSION "0.13.0"
+#define KD_VERSION_NUMBER 13000
 
 /* An answer that is not looked at is a warning, where the compiler has one. */
 #ifndef KD_MUST_USE
@@ -507,6 +507,31 @@ typedef struct { uint32_t number; uint64_t dropped; uint64_t held; } kd_repaired
  */
 KD_MUST_USE
 kd_repaired kd_repair(uint8_t *store, size_t size, const uint8_t *saved, size_t saved_size);
+
+/* ---- A file that goes on from an earlier one. ---- */
+
+/*
+ * Whether the file that the store is of begins with an earlier file, every byte of it: a history
+ * that grew is told from one that changed. Of the earlier file its length and pieces root are
+ * enough; of the store's file the hashes over the earlier one's whole blocks, which come by kd_take
+ * or kd_load_layer like any others, and the one block over the earlier end. Nothing is written.
+ *
+ * `block` is the store's file's block number old_length / KD_BLOCK, at its own length; it is judged
+ * here, and need not be before. Where old_length is a multiple of KD_BLOCK it is empty. With all
+ * leaves held (nothing to ask of layer 0) no hash is missing, and none is with the piece layer
+ * loaded where old_length is a multiple of the piece length.
+ *   KD_UNUSABLE
+ *   KD_RULE_BROKEN  old_length is 0, or above the store's length: a file can't have been longer.
+ *   KD_WRONG_SIZE  block_size isn't that of the block.
+ *   KD_NO_ANCHOR  the block's leaf, or a hash over whole blocks of the earlier file that is needed,
+ *       isn't held.
+ *   KD_DIFFERS  the block isn't the one held, or the file doesn't begin with such a file: another
+ *       history.
+ *   KD_DONE  it does; `count` is old_length.
+ */
+KD_MUST_USE
+kd_answer kd_extends(const uint8_t *store, size_t size, uint64_t old_length, kd_hash old_root,
+                     const uint8_t *block, size_t block_size);
 
 /* ---- Reading a v2 torrent: the bytes of a .torrent file, at most KD_LARGEST_TORRENT. ---- */
 

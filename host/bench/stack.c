@@ -91,6 +91,19 @@ static void bitfield(void) { number = kd_bitfield(store, size, out, REPLY).numbe
 static uint32_t counts[BLOCKS / (LARGEST_PIECE / BLOCK)];
 static void next_request(void) { number = kd_next_request(store, size, 0).number; }
 static void pick_piece(void) { number = kd_pick_piece(store, size, counts, sizeof counts / sizeof counts[0]).number; }
+/* The file without its last bytes: but for one, of the last block. */
+static kd_hash earlier;
+static void extends(void) { number = kd_extends(store, size, LENGTH - BLOCK + 1, earlier, piece, BLOCK).number; }
+static void make_earlier(void)
+{
+    uint8_t both[64];
+    earlier = kd_sha256(piece, 1).hash;
+    for (int i = 0; i < HEIGHT; i++) {
+        memcpy(both, at_layer[i].bytes, 32);
+        memcpy(both + 32, earlier.bytes, 32);
+        earlier = kd_sha256(both, 64).hash;
+    }
+}
 static void load_layer(void) { number = kd_load_layer(store, size, layer[0].bytes, sizeof layer).number; }
 
 /* The save of a store that holds the whole tree. */
@@ -346,6 +359,8 @@ int main(void)
     show("kd_save", save);
     show("kd_load", load);
     show("kd_repair", repair);
+    make_earlier();
+    show("kd_extends", extends);
     make_torrent();
     show_torrent("of one file with a long layer");
     make_torrent_of_many();

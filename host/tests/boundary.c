@@ -515,6 +515,47 @@ static void saves(void)
     answers("a store is no save", kd_load(other, STORE, store, STORE), KD_NOT_SAVED, 0);
 }
 
+/* On the same store. Of three blocks yesterday (1, 0) and leaf 2 are needed, of four (2, 0); leaf 4 is not held. */
+static void younger(void)
+{
+    uint8_t before[STORE], full[STORE], reply[ROOM], other[BLOCK], nodes[3 * 64];
+    kd_history state = kd_history_begin(BLOCK).state;
+    kd_hash none = zero, one, three, part;
+    state = kd_history_more(state, file, BLOCK - 1, nodes, sizeof nodes).state;
+    one = kd_history_end(state, nodes, sizeof nodes).root;
+    state = kd_history_more(state, file + BLOCK - 1, 2 * BLOCK + 1, nodes, sizeof nodes).state;
+    three = kd_history_end(state, nodes, sizeof nodes).root;
+    state = kd_history_more(state, file + 3 * BLOCK, 9, nodes, sizeof nodes).state;
+    part = kd_history_end(state, nodes, sizeof nodes).root;
+    memcpy(before, store, STORE);
+    answers("three blocks yesterday", kd_extends(store, STORE, 3 * BLOCK, three, NULL, 0), KD_DONE, 3 * BLOCK);
+    answers("four", kd_extends(store, STORE, 4 * BLOCK, tree[2][0], NULL, 0), KD_DONE, 4 * BLOCK);
+    answers("three and nine bytes", kd_extends(store, STORE, 3 * BLOCK + 9, part, file + 3 * BLOCK, BLOCK), KD_DONE, 3 * BLOCK + 9);
+    answers("less than a block", kd_extends(store, STORE, BLOCK - 1, one, file, BLOCK), KD_DONE, BLOCK - 1);
+    answers("another history", kd_extends(store, STORE, 3 * BLOCK, none, NULL, 0), KD_DIFFERS, 0);
+    memcpy(other, file + 3 * BLOCK, BLOCK);
+    other[9] ^= 1;
+    answers("a byte behind the earlier end changed", kd_extends(store, STORE, 3 * BLOCK + 9, part, other, BLOCK), KD_DIFFERS, 0);
+    answers("leaf 4 is not held", kd_extends(store, STORE, LENGTH, root(), NULL, 0), KD_NO_ANCHOR, 0);
+    answers("nor is it for a part of it", kd_extends(store, STORE, 4 * BLOCK + 1, none, other, BLOCK), KD_NO_ANCHOR, 0);
+    answers("the beginning alone", kd_extends(store, STORE, 3 * BLOCK + 9, part, file + 3 * BLOCK, 9), KD_WRONG_SIZE, 0);
+    answers("a block where none is due", kd_extends(store, STORE, 3 * BLOCK, three, file, BLOCK), KD_WRONG_SIZE, 0);
+    answers("no block where one is due", kd_extends(store, STORE, 1, one, NULL, 0), KD_WRONG_SIZE, 0);
+    answers("nothing yesterday", kd_extends(store, STORE, 0, none, NULL, 0), KD_RULE_BROKEN, 0);
+    answers("more yesterday", kd_extends(store, STORE, LENGTH + 1, none, NULL, 0), KD_RULE_BROKEN, 0);
+    answers("2^64 - 1 bytes yesterday", kd_extends(store, STORE, UINT64_MAX, none, NULL, 0), KD_RULE_BROKEN, 0);
+    answers("kd_extends on NULL", kd_extends(NULL, 0, 1, none, NULL, 0), KD_UNUSABLE, 0);
+    check("kd_extends writes nothing", memcmp(before, store, STORE) == 0);
+    answers("guarded kd_extends", kd_extends(guarded(store, STORE), STORE, 3 * BLOCK + 9, part, guarded(file + 3 * BLOCK, BLOCK), BLOCK),
+            KD_DONE, 3 * BLOCK + 9);
+    /* With all leaves held the file is the same as itself. */
+    kd_open(full, STORE, LENGTH, PIECE, root());
+    write_head(reply, HASHES, 0, 0, 8, 0);
+    memcpy(reply + HEAD, tree[0], 8 * 32);
+    answers("all leaves", kd_take(full, STORE, reply, HEAD + 8 * 32), KD_DONE, 14);
+    answers("the same", kd_extends(full, STORE, LENGTH, root(), NULL, 0), KD_DONE, LENGTH);
+}
+
 /* The session once more in memories with such an end. */
 static void ends_of_memories(void)
 {
@@ -825,6 +866,7 @@ int main(void)
     marks();
     asking();
     saves();
+    younger();
     ends_of_memories();
     torrents();
     writing();

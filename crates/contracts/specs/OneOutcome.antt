@@ -29,6 +29,7 @@ use Rattle.kombudeva.proofs.kd_clear as clearing
 use Rattle.kombudeva.proofs.kd_marked as asking
 use Rattle.kombudeva.proofs.kd_next_request as next-request
 use Rattle.kombudeva.proofs.kd_pick_piece as picking
+use Rattle.kombudeva.proofs.kd_extends as beginning
 use Rattle.kombudeva.proofs.kd_bitfield as field
 use Rattle.kombudeva.proofs.kd_stream_begin as stream-begin
 use Rattle.kombudeva.proofs.kd_version as versioning
@@ -132,6 +133,10 @@ next-request-asks-nothing κs a = tt
 -- kd_pick_piece
 pub picking-asks-nothing : AsksNothing 2 picking.Kinds.ps picking.Reads.Asked
 picking-asks-nothing κs a = tt
+
+-- kd_extends
+pub beginning-asks-nothing : AsksNothing 2 beginning.Kinds.ps beginning.Reads.Asked
+beginning-asks-nothing κs a = tt
 
 -- kd_bitfield
 pub field-asks-nothing : AsksNothing 2 field.Kinds.ps field.Reads.Asked
@@ -273,6 +278,10 @@ one-next-request κs a x y t u p q = p ∙ sym q
 -- kd_pick_piece
 pub one-picking : OneAnswer 2 picking.Kinds.ps picking.Kinds.r picking.Reads.Learnt
 one-picking κs a x y t u p q = p ∙ sym q
+
+-- kd_extends
+pub one-beginning : OneAnswer 2 beginning.Kinds.ps beginning.Kinds.r beginning.Reads.Learnt
+one-beginning κs a x y t u p q = p ∙ sym q
 
 -- kd_bitfield: the answer, and the output's bytes
 pub one-field : (κs : Lfts 2) (a : Dens κs field.Kinds.ps) (x y : resT field.Kinds.r κs .Denot) (t u : AtExit (endedOf 2 field.Kinds.ps field.Kinds.r) κs)

@@ -22,7 +22,7 @@ use Rattle.kombudeva.specs.declared.TorrentAnswer.{TorrentAnswer}
 use Rattle.kombudeva.specs.declared.FileAnswer.{FileAnswer}
 use Rattle.kombudeva.specs.declared.PartAnswer.{PartAnswer}
 use Rattle.kombudeva.specs.Boundary.{countAnswer, hashAnswer, torrentAnswer, fileAnswer, partAnswer}
-use Rattle.words.specs.History.{Bytes, held, takeReject, isMarked, nextRequest, pickPiece, serve, bitfield, ask, send, take, loadLayer, judgeBlock, judgePiece, clear, reopen, look, save, load, repair}
+use Rattle.words.specs.History.{Bytes, held, takeReject, isMarked, nextRequest, pickPiece, beginsWith, serve, bitfield, ask, send, take, loadLayer, judgeBlock, judgePiece, clear, reopen, look, save, load, repair}
 use Rattle.contracts.specs.Entries.{AnyCall, onStore, version, sha256, storeSize, hashingBegin, hashingMore, hashingEnd, historyBegin, historyMore, historyEnd, streamBegin, streamHear, frame, torrentRead, torrentFile, torrentPath, torrentList, torrentWrite, Said, number, none, FromTable, Refused, said, lent, left, RejectSent}
 use Rattle.contracts.specs.Demand1.{every-number-in-table, every-refusal-leaves}
 use Rattle.kombudeva.proofs.kd_sha256 as hash
@@ -45,6 +45,7 @@ use Rattle.kombudeva.proofs.kd_clear as clearing
 use Rattle.kombudeva.proofs.kd_marked as asking
 use Rattle.kombudeva.proofs.kd_next_request as next-request
 use Rattle.kombudeva.proofs.kd_pick_piece as picking
+use Rattle.kombudeva.proofs.kd_extends as beginning
 use Rattle.kombudeva.proofs.kd_bitfield as field
 use Rattle.kombudeva.proofs.kd_stream_begin as stream-begin
 use Rattle.kombudeva.proofs.kd_version as versioning
@@ -123,6 +124,9 @@ pub data Outcome : AnyCall → Said → List (List ℕ) → List (List ℕ) → 
   -- kd_pick_piece
   by-pick : (κs : Lfts 2) (a : Dens κs picking.Kinds.ps) (r : resT picking.Kinds.r κs .Denot) (e : AtExit (endedOf 2 picking.Kinds.ps picking.Kinds.r) κs) → picking.Reads.Learnt κs a r e
       → Outcome (onStore (look (ask (pickPiece (now (a .1 .0))))) (now (a .0))) (number (r .number)) (now (a .0) ∷ []) (now (a .0) ∷ [])
+  -- kd_extends
+  by-beginning : (κs : Lfts 2) (a : Dens κs beginning.Kinds.ps) (r : resT beginning.Kinds.r κs .Denot) (e : AtExit (endedOf 2 beginning.Kinds.ps beginning.Kinds.r) κs) → beginning.Reads.Learnt κs a r e
+      → (x : Octets 32 (a .1 .1 .0 .bytes)) (y : Bytes (now (a .1 .1 .1 .0))) → Outcome (onStore (look (ask (beginsWith (a .1 .0) (a .1 .1 .0 .bytes) (now (a .1 .1 .1 .0)) x y))) (now (a .0))) (number (r .number)) (now (a .0) ∷ []) (now (a .0) ∷ [])
   -- kd_bitfield
   by-field : (κs : Lfts 2) (a : Dens κs field.Kinds.ps) (r : resT field.Kinds.r κs .Denot) (e : AtExit (endedOf 2 field.Kinds.ps field.Kinds.r) κs) → field.Reads.Learnt κs a r e
       → (x : Bytes (now (a .1 .0))) → Outcome (onStore (look (send bitfield (now (a .1 .0)) x)) (now (a .0))) (number (r .number)) (now (a .0) ∷ now (a .1 .0) ∷ []) (now (a .0) ∷ now (e .1 .0) ∷ [])
@@ -186,6 +190,7 @@ outcome-is (by-clearing κs a r e p) = (ap (λ (s : CountAnswer). number (s .num
 outcome-is (by-asking κs a r e p) = (ap (λ (s : CountAnswer). number (s .number)) p, refl, refl)
 outcome-is (by-next κs a r e p) = (ap (λ (s : Request). number (s .number)) p, refl, refl)
 outcome-is (by-pick κs a r e p) = (ap (λ (s : Choice). number (s .number)) p, refl, refl)
+outcome-is (by-beginning κs a r e p x y) = (ap (λ (s : CountAnswer). number (s .number)) p, refl, refl)
 outcome-is (by-field κs a r e p x) = (ap (λ (s : CountAnswer). number (s .number)) (p .0), refl, ap (λ (o : List ℕ). now (a .0) ∷ o ∷ []) (p .1))
 outcome-is (by-version κs a r e p) = (refl, refl, refl)
 outcome-is (by-stream-begin κs a r e p) = (refl, refl, refl)

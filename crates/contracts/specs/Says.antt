@@ -17,6 +17,7 @@ use Rattle.messages.specs.Take.{takeAnswer, takeAfter, rejectAnswer}
 use Rattle.serve.specs.Serve.{serveAnswer, serveAfter}
 use Rattle.asking.specs.Asking.{nextAnswer}
 use Rattle.asking.specs.Picking.{pickAnswer}
+use Rattle.extends.specs.Extends.{extendsAnswer}
 use Rattle.marks.specs.Marks.{clearAnswer, clearAfter, markedAnswer, fieldAnswer, fieldAfter}
 use Rattle.pieces.specs.Pieces.{layerAnswer, layerAfter, blockAnswer, blockAfter, pieceAnswer, pieceAfter}
 use Rattle.saved.specs.Save.{saveAnswer, saveAfter}
@@ -46,6 +47,7 @@ use Rattle.kombudeva.proofs.kd_clear as clearing
 use Rattle.kombudeva.proofs.kd_marked as asking
 use Rattle.kombudeva.proofs.kd_next_request as next-request
 use Rattle.kombudeva.proofs.kd_pick_piece as picking
+use Rattle.kombudeva.proofs.kd_extends as beginning
 use Rattle.kombudeva.proofs.kd_bitfield as field
 use Rattle.kombudeva.proofs.kd_stream_begin as stream-begin
 use Rattle.kombudeva.proofs.kd_version as versioning
@@ -159,6 +161,11 @@ next-request-says κs a r e p = p
 pub picking-says : (κs : Lfts 2) (a : Dens κs picking.Kinds.ps) (r : resT picking.Kinds.r κs .Denot) (e : AtExit (endedOf 2 picking.Kinds.ps picking.Kinds.r) κs) → picking.Reads.Learnt κs a r e
     → r ≡ pickAnswer (now (a .0)) (now (a .1 .0))
 picking-says κs a r e p = p
+
+-- kd_extends
+pub beginning-says : (κs : Lfts 2) (a : Dens κs beginning.Kinds.ps) (r : resT beginning.Kinds.r κs .Denot) (e : AtExit (endedOf 2 beginning.Kinds.ps beginning.Kinds.r) κs) → beginning.Reads.Learnt κs a r e
+    → r ≡ countAnswer (extendsAnswer (now (a .0)) (a .1 .0) (a .1 .1 .0 .bytes) (now (a .1 .1 .1 .0)))
+beginning-says κs a r e p = p
 
 -- kd_bitfield
 pub field-says : (κs : Lfts 2) (a : Dens κs field.Kinds.ps) (r : resT field.Kinds.r κs .Denot) (e : AtExit (endedOf 2 field.Kinds.ps field.Kinds.r) κs) → field.Reads.Learnt κs a r e

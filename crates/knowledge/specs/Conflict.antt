@@ -71,7 +71,7 @@ pub record ShownAt (h : ℕ) (x y : Source) : Type 0 where
 
 -- ---- two pairs with one hash are the same or show it
 
-append-parts : (a b c d : List ℕ) → length a ≡ length c → a ++ b ≡ c ++ d → (a ≡ c) × (b ≡ d)
+pub append-parts : (a b c d : List ℕ) → length a ≡ length c → a ++ b ≡ c ++ d → (a ≡ c) × (b ≡ d)
 append-parts a b c d n e = (
   sym (take-at a b (length a) refl) ∙ ap (take (length a)) e ∙ take-at c d (length a) (sym n),
   sym (drop-at a b (length a) refl) ∙ ap (drop (length a)) e ∙ drop-at c d (length a) (sym n),

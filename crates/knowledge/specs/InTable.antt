@@ -32,10 +32,11 @@ use Rattle.saved.specs.Saved.{sound, rooted, loadNumber, loadAnswer, repairNumb
 use Rattle.knowledge.specs.Through.{clear-stays, load-stays, repair-stays}
 use Rattle.words.specs.Held.{Holds}
 use Rattle.words.specs.Messages.{Rejected}
-use Rattle.words.specs.History.{Bytes, Ask, held, takeReject, isMarked, nextRequest, pickPiece, Send, serve, bitfield, Look, ask, send, Call, take, loadLayer, judgeBlock, judgePiece, clear, reopen, look, withCount, replyNumber, asked, sendReply, looked, answer, number, after, Opening, call, begin, next, save, load, repair}
+use Rattle.words.specs.History.{Bytes, Ask, held, takeReject, isMarked, nextRequest, pickPiece, beginsWith, Send, serve, bitfield, Look, ask, send, Call, take, loadLayer, judgeBlock, judgePiece, clear, reopen, look, withCount, replyNumber, asked, sendReply, looked, answer, number, after, Opening, call, begin, next, save, load, repair}
 use Rattle.words.specs.Answers.{ServeOutcome, replied, rejected, untouched, Zeros, Beside, reject, zeros}
 use Rattle.knowledge.specs.Again.{knowledge-only-grows}
 use Rattle.knowledge.specs.Refusals.{opening-refused, message-refused, layer-not-loaded, served}
+use Rattle.knowledge.specs.YoungerNumbers.{extends-in-table, extends-beside}
 use Rattle.knowledge.specs.AskingNumbers.{next-in-table, next-beside, pick-in-table, pick-beside}
 use Rattle.knowledge.specs.NumberChains.{hashChain, hash-tests, sizeChain, size-tests, openChain, open-tests, heldChain, held-tests, takeChain, take-tests, rejectChain, reject-tests, layerChain, layer-tests, blockChain, block-tests, pieceChain, piece-tests, thereChain, there-tests, fieldChain, field-tests, saveChain, save-tests, savedChain, load-tests, repair-tests}
 
@@ -174,6 +175,7 @@ asked-in-table (takeReject m b) s = in-table-of (rejectChain s m) (reject-tests 
 asked-in-table (isMarked i) s = there-in-table s i
 asked-in-table (nextRequest l) s = next-in-table s l
 asked-in-table (pickPiece counts) s = pick-in-table s counts
+asked-in-table (beginsWith n root block o b) s = extends-in-table s n root block
 
 send-in-table : (k : Send) (s out : List ℕ) → InTable (replyNumber (sendReply k s out))
 send-in-table (serve m b) s out = serve-in-table s m out
@@ -229,6 +231,7 @@ asked-zeros (takeReject m b) s ne = refl
 asked-zeros (isMarked i) s ne = no-mark s i ne
 asked-zeros (nextRequest l) s ne = next-beside s l ne
 asked-zeros (pickPiece counts) s ne = pick-beside s counts ne
+asked-zeros (beginsWith n root block o b) s ne = extends-beside s n root block ne
 
 send-beside : (k : Send) (s out : List ℕ) (y : Bytes out) → (replyNumber (sendReply k s out) ≡ 0 → ⊥) → Beside (look (send k out y)) (sendReply k s out)
 send-beside (serve m b) s out y ne = by (served s m out)

@@ -95,3 +95,10 @@ pub mod PickedWhen
 pub mod PickingEnds
 pub mod AskingApart
 pub mod AskingNumbers
+-- a file and an earlier one
+pub mod Peaks
+pub mod YoungerNumbers
+pub mod OneRoot
+pub mod Younger
+pub mod YoungerSince
+pub mod YoungerLeaf

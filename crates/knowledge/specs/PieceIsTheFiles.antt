@@ -78,7 +78,7 @@ leaves-or-shown h x y f g (suc k) n j j2 a w gx gy of og e =
     ]
 
 -- the first block that differs, of c
-search : (a b : List ℕ) (c : ℕ) → ((x : ℕ) → x < c → OneHash (blockSize (length a) x) (blockOf a x) (blockOf b x) ⊎ (blockOf a x ≡ blockOf b x))
+pub search : (a b : List ℕ) (c : ℕ) → ((x : ℕ) → x < c → OneHash (blockSize (length a) x) (blockOf a x) (blockOf b x) ⊎ (blockOf a x ≡ blockOf b x))
     → ((x : ℕ) × OneHash (blockSize (length a) x) (blockOf a x) (blockOf b x)) ⊎ ((x : ℕ) → x < c → blockOf a x ≡ blockOf b x)
 search a b zero f = inr (λ x l. absurd (omega arith))
 search a b (suc c) f =
@@ -91,7 +91,7 @@ search a b (suc c) f =
     ]
 
 -- strings of the same blocks are the same
-by-blocks : (a b : List ℕ) → length a ≡ length b → ((x : ℕ) → x < blockCount (length a) → blockOf a x ≡ blockOf b x) → a ≡ b
+pub by-blocks : (a b : List ℕ) → length a ≡ length b → ((x : ℕ) → x < blockCount (length a) → blockOf a x ≡ blockOf b x) → a ≡ b
 unfolding blockOf
 by-blocks a b n f =
     ext-getD 0 a b n

@@ -11,6 +11,7 @@ ghost use Rattle.serve.specs.Serve.{serveAnswer, serveAfter};
 ghost use Rattle.marks.specs.Marks.{clearAnswer, clearAfter, markedAnswer, fieldAnswer, fieldAfter};
 ghost use Rattle.asking.specs.Asking.{nextAnswer};
 ghost use Rattle.asking.specs.Picking.{pickAnswer};
+ghost use Rattle.extends.specs.Extends.{extendsAnswer};
 ghost use Rattle.pieces.specs.Pieces.{layerAnswer, layerAfter, blockAnswer, blockAfter, pieceAnswer, pieceAfter};
 ghost use Rattle.saved.specs.Save.{saveAnswer, saveAfter};
 ghost use Rattle.saved.specs.Saved.{loadAnswer, loadAfter, repairAnswer, repairAfter};
@@ -38,7 +39,7 @@ use torrent::read::PartRead;
 use torrent::read::Torrent;
 
 // KD_VERSION_NUMBER
-pub const VERSION: u32 = 12000;
+pub const VERSION: u32 = 13000;
 
 // kd_hash
 #[repr(C)]
@@ -299,6 +300,15 @@ pub extern "C" fn kd_pick_piece(s: &[u8], counts: &[u32]) -> Choice
     ensures { λ r. ⌜ r ≡ pickAnswer (now (s .entry)) (now (counts .entry)) ⌝ }
 {
     asking::pick::pick_piece(s, counts)
+}
+
+// Whether the store's file begins with an earlier one, of this length and root.
+#[no_mangle]
+pub extern "C" fn kd_extends(s: &[u8], length: u64, root: Hash, block: &[u8]) -> CountAnswer
+    ensures { λ r. ⌜ r ≡ countAnswer (extendsAnswer (now (s .entry)) length (root .bytes) (now (block .entry))) ⌝ }
+{
+    let bytes = root.bytes;
+    count_answer(extends::extends(s, length as usize, bytes, block))
 }
 
 #[no_mangle]

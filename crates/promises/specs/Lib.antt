@@ -15,6 +15,8 @@ pub mod Saved
 -- 02: the same messages, in any order; a message that is heard of a stream
 pub mod AnyOrder
 pub mod Heard
+-- 00: a battery does not get younger
+pub mod Younger
 -- the premises can be met
 pub mod Blank
 pub mod TwoBlocks
@@ -28,6 +30,7 @@ pub mod OneRound
 pub mod ServedAndTaken
 pub mod AskingExample
 pub mod SavedExample
+pub mod YoungerExample
 -- the impostors
 pub mod NumbersGiven
 pub mod Impostors

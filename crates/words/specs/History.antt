@@ -18,6 +18,7 @@ use Rattle.asking.specs.declared.next.Request.{Request}
 use Rattle.asking.specs.declared.pick.Choice.{Choice}
 use Rattle.asking.specs.Asking.{nextAnswer}
 use Rattle.asking.specs.Picking.{pickAnswer}
+use Rattle.extends.specs.Extends.{extendsAnswer}
 use Rattle.marks.specs.Marks.{clearAnswer, clearAfter, markedAnswer, fieldAnswer, fieldAfter}
 use Rattle.saved.specs.Save.{saveAnswer, saveAfter}
 use Rattle.saved.specs.Saved.{loadAnswer, loadAfter, repairAnswer, repairAfter}
@@ -40,6 +41,8 @@ pub data Ask : Type 0 where
   -- kd_next_request: a layer; kd_pick_piece: a count for each piece
   nextRequest : (l : ℕ) → Ask
   pickPiece : (counts : List ℕ) → Ask
+  -- kd_extends: an earlier file's length and pieces root, and the block over its end
+  beginsWith : (n : ℕ) (root block : List ℕ) → Octets 32 root → Bytes block → Ask
 
 -- calls that only look at a store, and fill an output apart from it
 pub data Send : Type 0 where
@@ -96,6 +99,7 @@ asked (takeReject m b) s = withCount (rejectAnswer s m)
 asked (isMarked i) s = withCount (markedAnswer s i)
 asked (nextRequest l) s = withRequest (nextAnswer s l)
 asked (pickPiece counts) s = withPiece (pickAnswer s counts)
+asked (beginsWith n root block o b) s = withCount (extendsAnswer s n root block)
 
 abbrev pub sendReply : Send → List ℕ → List ℕ → Reply
 sendReply (serve m b) s out = withCount (serveAnswer s m out)

@@ -10,3 +10,4 @@ pub mod Marks
 pub mod Saving
 pub mod Hearing
 pub mod Asking
+pub mod Younger

@@ -5,7 +5,7 @@
 use crate::measure::{Prepared, Work};
 use crate::plain::{self, Hasher};
 use crate::scene::{Scene, Size, LARGEST, ONE_GIB, PIECE};
-use crate::{asking, careful, framing, lanes, saving, writer};
+use crate::{asking, careful, framing, lanes, saving, writer, younger};
 use host_tests::lists::{self, Planned};
 use host_tests::random::Random;
 use host_tests::shapes;
@@ -55,6 +55,11 @@ pub fn all() -> Vec<Job> {
         in_library("next-all-leaves", "none", "kd_next_request", "", 1 << 20, asking::all_leaves),
         job("pick-last-piece", "kd_pick_piece", "", 1 << 20, asking::last_piece).plain_alone(),
         in_library("pick-all-pieces", "none", "kd_pick_piece", "", 1 << 20, asking::all_pieces),
+        job("extends-1-byte", "kd_extends", "", 1, || younger::extending(1)).plain_alone(),
+        job("extends-blocks", "kd_extends", "", 1, || younger::extending(LONGEST_FILE - BLOCK)).plain_alone(),
+        job("extends-inside", "kd_extends", "", BLOCK as usize, || younger::extending(LONGEST_FILE - 1)).plain_alone(),
+        job("extends-half", "kd_extends", "", BLOCK as usize, || younger::extending(LONGEST_FILE / 2 + 1))
+            .plain_alone(),
     ];
     #[cfg(has_hash8)]
     jobs.push(job("eight-blocks", "lanes::hash8", "0.36", 8 * 16384, eight_blocks));

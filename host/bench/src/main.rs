@@ -15,6 +15,7 @@ mod plain;
 mod saving;
 mod scene;
 mod writer;
+mod younger;
 
 use jobs::Job;
 

@@ -111,6 +111,10 @@ pub fn repair(store: &mut [u8], saved: &[u8]) -> Repaired {
     unsafe { raw::kd_repair(store.as_mut_ptr(), store.len(), saved.as_ptr(), saved.len()) }
 }
 
+pub fn extends(store: &[u8], old_length: u64, old_root: Hash, block: &[u8]) -> Answer {
+    unsafe { raw::kd_extends(store.as_ptr(), store.len(), old_length, old_root, block.as_ptr(), block.len()) }
+}
+
 pub fn torrent_read(torrent: &[u8]) -> Torrent {
     unsafe { raw::kd_torrent_read(torrent.as_ptr(), torrent.len()) }
 }

@@ -210,6 +210,14 @@ extern "C" {
     pub fn kd_save(store: *const u8, size: usize, out: *mut u8, out_size: usize) -> Answer;
     pub fn kd_load(store: *mut u8, size: usize, saved: *const u8, saved_size: usize) -> Answer;
     pub fn kd_repair(store: *mut u8, size: usize, saved: *const u8, saved_size: usize) -> Repaired;
+    pub fn kd_extends(
+        store: *const u8,
+        size: usize,
+        old_length: u64,
+        old_root: Hash,
+        block: *const u8,
+        block_size: usize,
+    ) -> Answer;
     pub fn kd_torrent_read(torrent: *const u8, size: usize) -> Torrent;
     pub fn kd_torrent_file(torrent: *const u8, size: usize, file: u64) -> File;
     pub fn kd_torrent_path(torrent: *const u8, size: usize, file: u64, element: u64) -> Part;

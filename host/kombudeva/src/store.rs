@@ -172,6 +172,20 @@ impl<M: AsRef<[u8]>> Store<M> {
         answer(number, (found == 1).then_some(piece))
     }
 
+    /// Whether the store's file begins with an earlier file of this length and pieces root, every byte of it: a history that grew
+    /// is told from one that changed. `block` is the store's file's block number `old_length / BLOCK`, at its own length, which is
+    /// judged here; it is empty where `old_length` is a multiple of [`BLOCK`](crate::limits::BLOCK).
+    ///
+    /// # Errors
+    ///
+    /// In this order: [`Unusable`](Refusal::Unusable), [`RuleBroken`](Refusal::RuleBroken) where the earlier length is 0 or above
+    /// the store's, [`WrongSize`](Refusal::WrongSize) for a block of another size, [`NoAnchor`](Refusal::NoAnchor) where its leaf
+    /// or a hash over whole blocks of the earlier file isn't held, [`Differs`](Refusal::Differs) where the block isn't the one
+    /// held, or the file doesn't begin with such a file: another history.
+    pub fn extends(&self, old_length: u64, old_root: Hash, block: &[u8]) -> Result<(), Refusal> {
+        done(boundary::extends(self.bytes(), old_length, boundary::Hash { bytes: old_root }, block))
+    }
+
     /// Writes what is held and marked at the front of `out`, for [`Store::load`], and gives the part that it is. Twice the
     /// store's size is always room enough.
     ///

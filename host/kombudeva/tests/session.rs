@@ -225,6 +225,25 @@ fn asking_and_picking_to_the_end() {
 }
 
 #[test]
+fn a_history_that_grew_and_one_that_changed() {
+    let known = known();
+    let mut memory = Vec::new();
+    let mut store = known.open(&mut memory);
+    let earlier = |length: u64| reference::tree::root_of_file(&known.bytes[..length as usize]);
+    let inside = 3 * BLOCK + 9;
+    assert_eq!(store.extends(inside, earlier(inside), known.block(3)), Err(Refusal::NoAnchor));
+    assert!(store.take(&known.message([0, 0, 8, 0])).is_ok());
+    assert_eq!(store.extends(inside, earlier(inside), known.block(3)), Ok(()));
+    assert_eq!(store.extends(4 * BLOCK, earlier(4 * BLOCK), &[]), Ok(()));
+    assert_eq!(store.extends(LENGTH, known.root(), &[]), Ok(()), "the same");
+    assert_eq!(store.extends(inside, earlier(inside + 1), known.block(3)), Err(Refusal::Differs));
+    assert_eq!(store.extends(inside, earlier(inside), known.block(2)), Err(Refusal::Differs));
+    assert_eq!(store.extends(inside, earlier(inside), &known.block(3)[..9]), Err(Refusal::WrongSize));
+    assert_eq!(store.extends(LENGTH + 1, known.root(), &[]), Err(Refusal::RuleBroken));
+    assert_eq!(Store::over([]).extends(1, known.root(), &[]), Err(Refusal::Unusable));
+}
+
+#[test]
 fn stores_in_several_threads_at_once() {
     let known = known();
     std::thread::scope(|scope| {

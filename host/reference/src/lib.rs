@@ -9,6 +9,7 @@
 
 pub mod asking;
 pub mod bencode;
+pub mod extends;
 pub mod history;
 pub mod ids;
 pub mod limits;

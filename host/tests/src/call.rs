@@ -11,7 +11,7 @@ use reference::saved::{self, Repaired};
 use reference::sha256::{sha256, Hash};
 use reference::stream::Stream;
 use reference::torrent::{File, Part, Torrent};
-use reference::{marks, messages, pieces, store, stream, torrent, write, Answer, Hashed};
+use reference::{extends, marks, messages, pieces, store, stream, torrent, write, Answer, Hashed};
 use std::hint::black_box;
 
 #[derive(Clone, Copy, Debug, PartialEq, Eq, PartialOrd, Ord)]
@@ -40,6 +40,7 @@ pub enum Entry {
     Save,
     Load,
     Repair,
+    Extends,
     TorrentRead,
     TorrentFile,
     TorrentPath,
@@ -77,6 +78,7 @@ impl Entry {
             Entry::Save => "kd_save",
             Entry::Load => "kd_load",
             Entry::Repair => "kd_repair",
+            Entry::Extends => "kd_extends",
             Entry::TorrentRead => "kd_torrent_read",
             Entry::TorrentFile => "kd_torrent_file",
             Entry::TorrentPath => "kd_torrent_path",
@@ -221,6 +223,7 @@ pub fn by_reference(call: &Call) -> Outcome {
         Entry::Save => Given::Answer(saved::save(&store, &mut out)),
         Entry::Load => Given::Answer(saved::load(&mut store, &input)),
         Entry::Repair => Given::Repaired(saved::repair(&mut store, &input)),
+        Entry::Extends => Given::Answer(extends::extends(&store, first, root, &input)),
         Entry::TorrentRead => Given::Torrent(torrent::torrent_read(&input)),
         Entry::TorrentFile => Given::File(torrent::torrent_file(&input, first)),
         Entry::TorrentPath => Given::Part(torrent::torrent_path(&input, first, second)),
@@ -331,6 +334,7 @@ pub fn by_library(call: &Call) -> Outcome {
         Entry::Save => answer(boundary::save(held_bytes, room)),
         Entry::Load => answer(boundary::load(held_bytes, message)),
         Entry::Repair => repaired(boundary::repair(held_bytes, message)),
+        Entry::Extends => answer(boundary::extends(held_bytes, first, boundary::Hash { bytes: call.root }, message)),
         Entry::TorrentRead => torrent_of(boundary::torrent_read(message)),
         Entry::TorrentFile => file_of(boundary::torrent_file(message, first)),
         Entry::TorrentPath => part_of(boundary::torrent_path(message, first, second)),

@@ -7,8 +7,9 @@ use crate::random::Random;
 use crate::truth::{self, Pair, Truth};
 use reference::limits::{BLOCK, LONGEST_FILE};
 use reference::messages::{Header, HASHES, HEAD, REJECT, REQUEST};
+use reference::sha256::{sha256, Hash};
 use reference::store::{facts_of, size_of, CELL, HEAD as FACTS, HELD};
-use reference::tree::{padding, Position};
+use reference::tree::{over_run, padding, Position};
 use std::ops::Range;
 
 const HOSTILE_WORDS: [u32; 22] =
@@ -124,7 +125,7 @@ impl<'a> Session<'a> {
     /// A call about this session's file.
     pub fn call(&self, random: &mut Random) -> Call {
         let judges = if self.truth.bytes.is_empty() { 1 } else { 40 };
-        match random.below(127 + judges) {
+        match random.below(133 + judges) {
             0..=49 => Call::new(Entry::Take).on(&self.store).input(self.hashes(random)),
             50..=69 => self.request(random),
             70..=74 => Call::new(Entry::TakeReject).on(&self.store).input(self.reject(random)),
@@ -137,6 +138,7 @@ impl<'a> Session<'a> {
             100..=114 => self.about_marks(random),
             115..=122 => self.next_request(random),
             123..=126 => self.pick_piece(random),
+            127..=132 => self.extends(random),
             _ => self.judgement(random),
         }
     }
@@ -326,6 +328,45 @@ impl<'a> Session<'a> {
             random.pick(&[[0, 1, 1, 2], [0, 0, 0, 1], [1, 2, 3, 4], [0, 1, u32::MAX, u32::MAX - 1], [0, 0, 0, 0]]);
         let counts: Vec<u32> = (0..length).map(|_| random.pick(&some)).collect();
         Call::new(Entry::PickPiece).on(&self.store).input(bytes_of(&counts))
+    }
+
+    /// Whether the file begins with an earlier one: mostly its own first bytes, else another root, length or block.
+    fn extends(&self, random: &mut Random) -> Call {
+        let facts = &self.truth.facts;
+        let block = random.below(facts.blocks());
+        let length = match random.below(12) {
+            0 => random.pick(&HOSTILE_LENGTHS),
+            1 => facts.length + 1,
+            2..=3 => facts.length,
+            4..=7 => (block * BLOCK).max(1),
+            _ => block * BLOCK + random.between(1, facts.block_size(block).unwrap_or(1)),
+        };
+        let over = length / BLOCK;
+        let size = if length % BLOCK == 0 { 0 } else { facts.block_size(over).unwrap_or(3) };
+        let mut input = self.truth.part(over, BLOCK, size);
+        let mut root = self.earlier_root(length);
+        match random.below(10) {
+            0 => root = random.hash(),
+            1 => root = facts.root,
+            2 => flip(&mut input, random),
+            3 => resize(&mut input, random),
+            _ => (),
+        }
+        Call { root, ..Call::new(Entry::Extends) }.on(&self.store).numbers(length, 0).input(input)
+    }
+
+    /// The root of the file's first bytes; of a file without bytes, as if they were zeros where they end inside a block.
+    fn earlier_root(&self, length: u64) -> Hash {
+        if length == 0 || length > self.truth.facts.length {
+            return self.truth.facts.root;
+        }
+        let (whole, rest) = (length / BLOCK, length % BLOCK);
+        let mut leaves: Vec<Hash> = (0..whole).map(|index| self.truth.at(Position { layer: 0, index })).collect();
+        if rest != 0 {
+            leaves.push(sha256(&self.truth.part(whole, BLOCK, rest)[..rest as usize]));
+        }
+        leaves.resize(leaves.len().next_power_of_two(), [0; 32]);
+        over_run(Position { layer: 0, index: 0 }, &leaves).last().expect("a tree has a root").1
     }
 
     fn judgement(&self, random: &mut Random) -> Call {

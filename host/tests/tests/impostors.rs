@@ -8,6 +8,7 @@ use host_tests::random::Random;
 use host_tests::states::{hashing_bytes, hashing_of, history_bytes, history_of, stream_bytes, stream_of};
 use host_tests::{bursts, lists, sessions, streams, torrents};
 use reference::asking::{Choice, Request};
+use reference::extends::extends;
 use reference::limits::{BLOCK, LONGEST_FRAME, RECORD};
 use reference::marks::{clear, is_on_disk, mark, marked};
 use reference::messages::{Header, HEAD, REQUEST};
@@ -105,7 +106,7 @@ fn untouched(call: &Call) -> Outcome {
 }
 
 fn every_number_comes_up() {
-    let expected: [(Entry, &[u32]); 14] = [
+    let expected: [(Entry, &[u32]); 15] = [
         (Entry::StoreSize, &[0, 10]),
         (Entry::Open, &[0, 9, 10]),
         (Entry::Held, &[0, 3, 6, 9]),
@@ -120,6 +121,7 @@ fn every_number_comes_up() {
         (Entry::Bitfield, &[0, 9, 11]),
         (Entry::NextRequest, &[0, 3, 6, 9]),
         (Entry::PickPiece, &[0, 4, 9]),
+        (Entry::Extends, &[0, 3, 4, 6, 7, 9]),
     ];
     assert_seen(&sessions(&by_reference), &expected);
 }
@@ -597,6 +599,63 @@ fn pieces_picked_wrong() {
     }
 }
 
+/// A comparison that answers by another store, length, root or block where the reference's number passes `when`.
+fn assert_younger_found_out(name: &str, when: impl Fn(u32) -> bool, other: impl Fn(&Call, &Facts) -> u32) {
+    assert_found_out(name, &|call| match (call.entry, by_reference(call)) {
+        (Entry::Extends, outcome) if when(outcome.given.number()) => {
+            let facts = facts_of(&call.store).expect("it was not 9");
+            let number = other(call, &facts);
+            let count = if number == DONE { call.numbers[0] } else { 0 };
+            Outcome { given: Given::Answer(Answer { number, count }), ..outcome }
+        }
+        (_, outcome) => outcome,
+    });
+}
+
+fn a_younger_battery() {
+    let compared = |number: u32| [DONE, NO_ANCHOR, DIFFERS].contains(&number);
+    let asked = |call: &Call, length: u64, block: &[u8]| extends(&call.store, length, call.root, block).number;
+    let rest = |call: &Call| (call.numbers[0] % BLOCK) as usize;
+    assert_younger_found_out("any root", |number| number == DIFFERS, |_, _| DONE);
+    assert_younger_found_out("7 where it is 6", |number| number == NO_ANCHOR, |_, _| DIFFERS);
+    assert_younger_found_out("6 where it is 7", |number| number == DIFFERS, |_, _| NO_ANCHOR);
+    assert_younger_found_out("the leaf of the whole block", compared, |call, facts| {
+        let whole = call.numbers[0].next_multiple_of(BLOCK).min(facts.length);
+        asked(call, whole, if rest(call) == 0 || whole % BLOCK == 0 { &[] } else { &call.input })
+    });
+    assert_younger_found_out(
+        "the block not held against its leaf",
+        |number| number == DIFFERS,
+        |call, facts| {
+            let at = Position { layer: 0, index: call.numbers[0] / BLOCK };
+            if rest(call) == 0 {
+                return DIFFERS;
+            }
+            let mut store = call.store.clone();
+            hold(&mut store, facts, &[(at, sha256(&call.input))]);
+            extends(&store, call.numbers[0], call.root, &call.input).number
+        },
+    );
+    assert_found_out("whole blocks counted", &|call| match (call.entry, by_reference(call)) {
+        (Entry::Extends, outcome) if outcome.given.number() == DONE => {
+            Outcome { given: Given::Answer(Answer::done(call.numbers[0] / BLOCK)), ..outcome }
+        }
+        (_, outcome) => outcome,
+    });
+    assert_found_out("a mark set", &|call| match (call.entry, by_reference(call)) {
+        (Entry::Extends, mut outcome) if outcome.given.number() == DONE && rest(call) != 0 => {
+            let facts = facts_of(&call.store).unwrap();
+            let block = call.numbers[0] / BLOCK;
+            mark(&mut outcome.store, &facts, block..block + 1);
+            outcome
+        }
+        (_, outcome) => outcome,
+    });
+    for number in [3, 4, 6, 7, 9] {
+        assert_needed(Entry::Extends, number);
+    }
+}
+
 fn replies_with_wrong_bytes() {
     assert_found_out("a reject with the request's id", &|call| match (call.entry, by_reference(call)) {
         (Entry::Serve, mut outcome) if outcome.given.count() == 49 => {
@@ -817,6 +876,7 @@ host_tests::tests! {
     marks_of_blocks_that_are_wrong_in_one_way,
     requests_that_are_wrong_in_one_way,
     pieces_picked_wrong,
+    a_younger_battery,
     replies_with_wrong_bytes,
     hashes_that_look_right,
     numbers_of_a_torrent_that_are_left_out,

@@ -1,0 +1,3 @@
+pub mod Extends
+pub mod Asks
+pub mod ExtendsLaws
