@@ -1,8 +1,8 @@
 # run: proves the library and its programs, and shows what they are for. test: the gate.
-# lib: the library for hosts. install, uninstall: header, archive and pkg-config file below PREFIX.
+# lib: the library for hosts. install, uninstall: header, archive, pkg-config file, examples and layout below PREFIX; dist: the same as one tar, with sums.
 # bench: speed against plain Rust. interop: with a real client, libtorrent, on loopback. torrents: read those that libtorrent
 # makes, and have it read ours. soak: generated calls compared with the second implementation, for long.
-.PHONY: run test lib install uninstall bench interop torrents soak
+.PHONY: run test lib install uninstall dist bench interop torrents soak
 
 PREFIX ?= /usr/local
 export PREFIX DESTDIR
@@ -23,6 +23,10 @@ install:
 
 uninstall:
 	@host/install remove
+
+dist:
+	@[ -f target/staticlib/libkombudeva.a ] || $(MAKE) lib
+	@host/dist
 
 bench: lib
 	host/bench.sh

@@ -8,11 +8,13 @@
  * kd_stream_begin can't be refused, and answer with a version or a state alone.)
  *
  * Each function lists its numbers in the order in which they are decided: the first that applies is
- * given. Only the KD_NO_ROOM of kd_serve stands in place of the answer that there is no room for.
+ * given. Only the KD_NO_ROOM of kd_serve stands in place of the answer that there is no room for,
+ * and kd_stream_hear gives what comes first in the stream.
  *
  * Beside a refusal (any number but KD_DONE) every other field is zero, save for the size of the
  * reject that kd_serve writes, and for states: the running state that a burst was to go on from
- * comes back as it was given, and a stream's says where it stands (kd_stream_hear). Every input is
+ * comes back as it was given, and a stream's says where it stands, beside the count of bytes that
+ * were used (kd_stream_hear). Every input is
  * answered: nothing is asked of the caller's values, and no function stops the program. Compare
  * answers field by field, since C leaves the padding bytes of a struct open.
  *
@@ -21,9 +23,13 @@
  * different memories may run in different threads at once. NULL with size 0 is a memory of no
  * bytes, and safe.
  *
- * Two things C can't check, and the caller has to see to:
+ * Three things C can't check, and the caller has to see to:
  *   - each memory is as long as said;
- *   - a memory that a call writes overlaps no other memory lent to that call.
+ *   - a memory that a call writes overlaps no other memory lent to that call;
+ *   - nobody changes a lent memory, `const` ones included, while the call runs. What another
+ *     program or a device may write to, a mapped file or a driver's ring, is copied first: a
+ *     message that changes while it is taken may leave a wrong hash held. A store is for one thread
+ *     at a time, since judging marks it.
  *
  * Memory marked `const` is not changed, and a refusal changes no byte of any memory, save for that
  * reject.
@@ -54,8 +60,8 @@ extern "C" {
  * thousand for the second, one for the third. The second rises whenever a struct, a function or an
  * answer changes.
  */
-#define KD_VERSION "0.13.0"
-#define KD_VERSION_NUMBER 13000
+#define KD_VERSION "0.14.0"
+#define KD_VERSION_NUMBER 14000
 
 /* An answer that is not looked at is a warning, where the compiler has one. */
 #ifndef KD_MUST_USE
@@ -76,16 +82,19 @@ extern "C" {
 #define KD_RULE_BROKEN 3                /* a header rule fails; a block, piece or position that the
                                            file's tree does not have; a layer for a file not longer
                                            than the piece length; a layer that is neither 0 nor the
-                                           file's piece layer */
+                                           file's piece layer; an earlier length of 0, or above the
+                                           store's */
 #define KD_WRONG_SIZE 4                 /* the byte count isn't what header or file fixes, or is too
                                            long for SHA-256; or a list of files that isn't in its
                                            form; or of counts that aren't one for each piece */
 #define KD_WRONG_PADDING 5              /* a padding position with another value */
 #define KD_NO_ANCHOR 6                  /* the anchor, leaf, piece node or, for a layer or the next
                                            request, the root is not held; or the position that
-                                           kd_held is asked for */
+                                           kd_held is asked for, or a hash over whole blocks of an
+                                           earlier file */
 #define KD_DIFFERS 7                    /* the worked-out value differs from the held anchor, leaf
-                                           or node */
+                                           or node, or from an earlier file's root: another
+                                           history */
 #define KD_CONFLICT 8                   /* the anchor agrees, another held position differs */
 #define KD_UNUSABLE 9                   /* not a store: it names no facts in range, or has not their
                                            room; or a running state whose counts no bursts give; or
@@ -117,13 +126,49 @@ extern "C" {
                                            each piece */
 #define KD_LAYER_DIFFERS 28             /* a layer doesn't give its root; of a list, two layers for
                                            one root */
-#define KD_NO_SUCH_FILE 29              /* no file, or no path element, of that number */
+#define KD_NO_SUCH_PART 29              /* no file, no path element or no piece of that number; no
+                                           string `name` in `info` */
+#define KD_NO_SUCH_FILE KD_NO_SUCH_PART /* its old name, for one version more */
 #define KD_FRAME_TOO_LONG 30            /* a stream's prefix above KD_LONGEST_FRAME, from where on
                                            the stream is refused; or a message of more bytes to be
                                            framed */
 #define KD_NOT_SAVED 32                 /* saved bytes without a whole opening record, not of the
                                            form, or not those of a store whose hashes chain to its
                                            root */
+
+/*
+ * All of them, for X(number, name, words), so that no host writes them down again:
+ *
+ *     #define WORDS(number, name, words) case name: return words;
+ *     switch (answer.number) { KD_NUMBERS(WORDS) }
+ */
+#define KD_NUMBERS(X) \
+    X(0, KD_DONE, "done") \
+    X(1, KD_NO_MESSAGE, "not such a message") \
+    X(2, KD_OTHER_ROOT, "about another file") \
+    X(3, KD_RULE_BROKEN, "against the rules for this file") \
+    X(4, KD_WRONG_SIZE, "of another size") \
+    X(5, KD_WRONG_PADDING, "with another value at a padding position") \
+    X(6, KD_NO_ANCHOR, "nothing held to compare it with") \
+    X(7, KD_DIFFERS, "not what is held") \
+    X(8, KD_CONFLICT, "in conflict with a held hash") \
+    X(9, KD_UNUSABLE, "not a store") \
+    X(10, KD_FACTS_OUT_OF_RANGE, "facts out of range") \
+    X(11, KD_NO_ROOM, "no room for the reply") \
+    X(12, KD_NOT_HELD, "a requested hash is not held") \
+    X(19, KD_TORRENT_TOO_LARGE, "a torrent above 1 MiB") \
+    X(20, KD_NOT_STRICT, "not strict bencoding") \
+    X(21, KD_NESTED_TOO_DEEPLY, "nested too deep") \
+    X(22, KD_KEY_MISSING, "a key missing or of another type") \
+    X(23, KD_OTHER_VERSION, "another version than 2") \
+    X(24, KD_PIECE_LENGTH_OUT_OF_RANGE, "the piece length out of range") \
+    X(25, KD_WRONG_TREE, "a wrong file tree") \
+    X(26, KD_TWO_LENGTHS, "two files with the same root and different lengths") \
+    X(27, KD_LAYERS_AMISS, "piece layers that are not those of the files") \
+    X(28, KD_LAYER_DIFFERS, "a piece layer that does not give its root") \
+    X(29, KD_NO_SUCH_PART, "no such file, path element, name or piece") \
+    X(30, KD_FRAME_TOO_LONG, "a frame that is too long") \
+    X(32, KD_NOT_SAVED, "not a saved store")
 
 /* ---- How large things may be. ---- */
 
@@ -139,6 +184,7 @@ extern "C" {
                                            request, of a reject */
 #define KD_LARGEST_REPLY 262417         /* the bytes of the largest hashes message: KD_LONGEST_RUN
                                            hashes, and the uncles above them in the tallest tree */
+#define KD_LARGEST_HASHES KD_LARGEST_REPLY /* the same, by the message's name */
 #define KD_LARGEST_TORRENT 1048576      /* in bytes */
 #define KD_LEVELS 32                    /* how deeply a torrent may be nested, its outer dictionary
                                            being the first level */
@@ -290,7 +336,7 @@ kd_history_end_answer kd_history_end(kd_history state, uint8_t *layer, size_t la
 /*
  * The size of a store for a file of `length` bytes.
  *   KD_FACTS_OUT_OF_RANGE  the length is not from 1 to KD_LONGEST_FILE, or the piece length not in
- *       its range.
+ *       its range. An empty file has no tree, and so no store.
  *   KD_DONE  `count` is the number of bytes that a store uses. A larger memory may be lent: the
  *       rest is never touched.
  */
@@ -319,6 +365,23 @@ kd_answer kd_open(uint8_t *store, size_t size, uint64_t length, uint64_t piece_l
  */
 KD_MUST_USE
 kd_hashed kd_held(const uint8_t *store, size_t size, uint64_t layer, uint64_t index);
+
+/* A number, and beside KD_DONE what a store is about. */
+typedef struct {
+    uint32_t number;
+    uint64_t length;
+    uint64_t piece_length;
+    kd_hash root;
+} kd_facts_answer;
+
+/*
+ * The facts that a store was opened with. Any usable memory is a store of some file, yesterday's
+ * too: a host that finds one asks which.
+ *   KD_UNUSABLE
+ *   KD_DONE  the file's length, the piece length and the pieces root.
+ */
+KD_MUST_USE
+kd_facts_answer kd_facts(const uint8_t *store, size_t size);
 
 /* ---- The hash messages, without their length prefix: the id byte first. ---- */
 
@@ -487,7 +550,7 @@ kd_answer kd_save(const uint8_t *store, size_t size, uint8_t *out, size_t out_si
  *   KD_NOT_SAVED  no whole opening record.
  *   KD_FACTS_OUT_OF_RANGE  its facts.
  *   KD_UNUSABLE  the memory is shorter than their store.
- *   KD_NOT_SAVED  for the rest; any part that a save was cut to is refused so.
+ *   KD_NOT_SAVED  for the rest; so every beginning that a save was cut to is refused.
  *   KD_DONE  `count` is the positions held. Every byte that the store uses has been set; the bytes
  *       behind them stay.
  */
@@ -500,7 +563,7 @@ typedef struct { uint32_t number; uint64_t dropped; uint64_t held; } kd_repaired
 /*
  * Loads the largest part of the positions that kd_load would load, and clears all marks. It helps
  * against damaged hashes; it asks for the whole form, so not against a save that was cut short, nor
- * against a damaged kind, layer, index, mark or end.
+ * against a damaged kind, layer, index, mark or end with which the form is lost.
  *   KD_NOT_SAVED, KD_FACTS_OUT_OF_RANGE, KD_UNUSABLE  as kd_load.
  *   KD_NOT_SAVED  not the form, or the root is not held with the opening's value.
  *   KD_DONE  how many positions were dropped and how many are held.
@@ -517,9 +580,9 @@ kd_repaired kd_repair(uint8_t *store, size_t size, const uint8_t *saved, size_t 
  * or kd_load_layer like any others, and the one block over the earlier end. Nothing is written.
  *
  * `block` is the store's file's block number old_length / KD_BLOCK, at its own length; it is judged
- * here, and need not be before. Where old_length is a multiple of KD_BLOCK it is empty. With all
- * leaves held (nothing to ask of layer 0) no hash is missing, and none is with the piece layer
- * loaded where old_length is a multiple of the piece length.
+ * here, and need not be before. Where old_length is a multiple of KD_BLOCK it is empty. In a store
+ * that only this library has written no hash is missing with all leaves held (nothing to ask of
+ * layer 0), nor with the piece layer loaded where old_length is a multiple of the piece length.
  *   KD_UNUSABLE
  *   KD_RULE_BROKEN  old_length is 0, or above the store's length: a file can't have been longer.
  *   KD_WRONG_SIZE  block_size isn't that of the block.
@@ -552,7 +615,7 @@ typedef struct {
 
 /*
  * A number, and beside KD_DONE a part of the torrent's bytes: a string's content, without its
- * length prefix.
+ * length prefix, or the value of `info`.
  */
 typedef struct { uint32_t number; uint64_t start; uint64_t size; } kd_part;
 
@@ -568,7 +631,7 @@ kd_torrent kd_torrent_read(const uint8_t *torrent, size_t size);
 /*
  * File number `file` in tree order, from 0. Each call checks the whole torrent anew:
  * kd_torrent_list gives all files at once.
- *   19 to 28 as above, then KD_NO_SUCH_FILE.
+ *   19 to 28 as above, then KD_NO_SUCH_PART.
  *   KD_DONE  the file.
  */
 KD_MUST_USE
@@ -583,8 +646,8 @@ kd_file kd_torrent_file(const uint8_t *torrent, size_t size, uint64_t file);
  * What the host still has to see to: on a system with other separators or names of its own (a
  * backslash, a colon, `NUL`, a dot or a space at the end, names that differ in case alone, bytes
  * that are no text there) it refuses or encodes such elements itself; and a link that stands in the
- * folder already may lead out of it. The torrent's `name` is not read, so not checked.
- *   19 to 28 as above, then KD_NO_SUCH_FILE: no such file, or no such element.
+ * folder already may lead out of it. The torrent's `name` is not checked.
+ *   19 to 28 as above, then KD_NO_SUCH_PART: no such file, or no such element.
  *   KD_DONE  where it stands.
  */
 KD_MUST_USE
@@ -601,6 +664,104 @@ kd_part kd_torrent_path(const uint8_t *torrent, size_t size, uint64_t file, uint
  */
 KD_MUST_USE
 kd_answer kd_torrent_list(const uint8_t *torrent, size_t size, uint8_t *out, size_t out_size);
+
+/*
+ * The part of the torrent that the value of `info` is, whole and encoded: its SHA-256 is the info
+ * hash. The metadata exchange serves it.
+ *   19 to 28 as above.
+ *   KD_DONE  where it stands.
+ */
+KD_MUST_USE
+kd_part kd_torrent_info(const uint8_t *torrent, size_t size);
+
+/*
+ * The part that the content of the string `name` in `info` is, with its place also where it is
+ * empty. It is any bytes: no rule for path elements has been asked of it.
+ *   19 to 28 as above, then KD_NO_SUCH_PART: `info` has no string `name`.
+ *   KD_DONE  where it stands.
+ */
+KD_MUST_USE
+kd_part kd_torrent_name(const uint8_t *torrent, size_t size);
+
+/* ---- Pieces as they are counted on the wire: file by file in tree order. An empty file has none.
+   Both calls take the list that kd_torrent_list writes, `count` bytes of it. ---- */
+
+/* A number, and beside KD_DONE a file and a piece of it, both from 0. */
+typedef struct { uint32_t number; uint64_t file; uint64_t piece; } kd_placed;
+
+/*
+ * Where a piece of the wire stands. Each piece up to the last has exactly one place.
+ *   KD_WRONG_SIZE  the list isn't in its form: no whole number of records, more than 1048576 of
+ *       them, or a length above KD_LONGEST_FILE.
+ *   KD_PIECE_LENGTH_OUT_OF_RANGE
+ *   KD_NO_SUCH_PART  past the last piece.
+ *   KD_DONE  the file's number, and the piece's in it.
+ */
+KD_MUST_USE
+kd_placed kd_place(const uint8_t *list, size_t list_size, uint64_t piece_length, uint64_t piece);
+
+/*
+ * The way back: the number on the wire of a file's first piece; of an empty file it is the next
+ * file's.
+ *   KD_WRONG_SIZE, KD_PIECE_LENGTH_OUT_OF_RANGE  as above.
+ *   KD_NO_SUCH_PART  no such file.
+ *   KD_DONE  `count` is the number.
+ */
+KD_MUST_USE
+kd_answer kd_first_piece(const uint8_t *list, size_t list_size, uint64_t piece_length,
+                         uint64_t file);
+
+/* ---- The records of lists, read and written. Nothing is checked here: the list is one that
+   kd_torrent_list wrote, `file` and `element` are in it, and the memory has the room. ---- */
+
+/* A number of so many bytes, most significant first, as lists and messages have them. */
+static inline uint64_t kd_get(const uint8_t *bytes, size_t size)
+{
+    uint64_t number = 0;
+    for (size_t i = 0; i < size; i++)
+        number = number << 8 | bytes[i];
+    return number;
+}
+
+static inline void kd_put(uint8_t *bytes, size_t size, uint64_t number)
+{
+    for (size_t i = size; i-- > 0; number >>= 8)
+        bytes[i] = (uint8_t)number;
+}
+
+/* A file of the list, as kd_torrent_file answers it. */
+static inline kd_file kd_listed_file(const uint8_t *list, uint64_t file)
+{
+    const uint8_t *record = list + KD_RECORD * file;
+    kd_file read = {KD_DONE, kd_get(record, 8), {{0}}, kd_get(record + 48, 4),
+                    kd_get(record + 40, 4), kd_get(record + 44, 4)};
+    for (size_t i = 0; i < KD_HASH; i++)
+        read.root.bytes[i] = record[8 + i];
+    return read;
+}
+
+/* An element of its path, as kd_torrent_path answers it. */
+static inline kd_part kd_listed_path(const uint8_t *list, uint64_t file, uint64_t element)
+{
+    const uint8_t *place = list + KD_RECORD * file + 56 + 8 * element;
+    kd_part part = {KD_DONE, kd_get(place, 4), kd_get(place + 4, 4)};
+    return part;
+}
+
+/* Record number `file` of the list that kd_torrent_write takes. */
+static inline void kd_write_record(uint8_t *list, uint64_t file, uint64_t length, kd_hash root,
+                                   uint32_t layer_start, uint32_t layer_size, uint32_t path_start,
+                                   uint32_t path_size)
+{
+    uint8_t *record = list + KD_WRITE_RECORD * file;
+    kd_put(record, 8, length);
+    for (size_t i = 0; i < KD_HASH; i++)
+        record[8 + i] = root.bytes[i];
+    kd_put(record + 40, 4, layer_start);
+    kd_put(record + 44, 4, layer_size);
+    kd_put(record + 48, 4, path_start);
+    kd_put(record + 52, 4, path_size);
+}
 
 /* ---- Writing a v2 torrent. ---- */
 

@@ -37,10 +37,9 @@ static void compare(const char *what, kd_history_end_answer yesterday, const uin
     kd_history_end_answer today = logged(history, length, layer);
     size_t size = (size_t)kd_store_size(today.length, PIECE_LENGTH).count;
     uint8_t *store = malloc(size);
-    if (!store)
+    if (!store || kd_open(store, size, today.length, PIECE_LENGTH, today.root).number != KD_DONE
+            || kd_load_layer(store, size, layer, (size_t)today.layer_size).number != KD_DONE)
         exit(1);
-    kd_open(store, size, today.length, PIECE_LENGTH, today.root);
-    kd_load_layer(store, size, layer, (size_t)today.layer_size);
 
     uint64_t start = yesterday.length / KD_BLOCK * KD_BLOCK;
     size_t block = start < yesterday.length && yesterday.length <= length ? length - (size_t)start : 0;

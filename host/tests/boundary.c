@@ -33,6 +33,15 @@ _Static_assert(offsetof(kd_part, number) == 0, "kd_part.number");
 _Static_assert(offsetof(kd_part, start) == 8, "kd_part.start");
 _Static_assert(offsetof(kd_part, size) == 16, "kd_part.size");
 
+_Static_assert(sizeof(kd_facts_answer) == 56, "kd_facts_answer");
+_Static_assert(offsetof(kd_facts_answer, length) == 8, "kd_facts_answer.length");
+_Static_assert(offsetof(kd_facts_answer, piece_length) == 16, "kd_facts_answer.piece_length");
+_Static_assert(offsetof(kd_facts_answer, root) == 24, "kd_facts_answer.root");
+_Static_assert(sizeof(kd_placed) == 24, "kd_placed");
+_Static_assert(offsetof(kd_placed, number) == 0, "kd_placed.number");
+_Static_assert(offsetof(kd_placed, file) == 8, "kd_placed.file");
+_Static_assert(offsetof(kd_placed, piece) == 16, "kd_placed.piece");
+
 _Static_assert(sizeof(kd_request) == 76, "kd_request");
 _Static_assert(offsetof(kd_request, number) == 0, "kd_request.number");
 _Static_assert(offsetof(kd_request, asks) == 4, "kd_request.asks");
@@ -549,7 +558,7 @@ static void younger(void)
     answers("guarded kd_extends", kd_extends(guarded(store, STORE), STORE, 3 * BLOCK + 9, part, guarded(file + 3 * BLOCK, BLOCK), BLOCK),
             KD_DONE, 3 * BLOCK + 9);
     /* With all leaves held the file is the same as itself. */
-    kd_open(full, STORE, LENGTH, PIECE, root());
+    answers("another store", kd_open(full, STORE, LENGTH, PIECE, root()), KD_DONE, 1);
     write_head(reply, HASHES, 0, 0, 8, 0);
     memcpy(reply + HEAD, tree[0], 8 * 32);
     answers("all leaves", kd_take(full, STORE, reply, HEAD + 8 * 32), KD_DONE, 14);
@@ -691,10 +700,58 @@ static void torrents(void)
                                  one.elements == 2 && one.layer_start == layer && one.layer_size == 64);
     kd_part part = kd_torrent_path(lent, size, 0, 1);
     check("kd_torrent_path", part.number == KD_DONE && part.size == 7 && memcmp(lent + part.start, "voltage", 7) == 0);
-    check("no second file", kd_torrent_file(lent, size, 1).number == KD_NO_SUCH_FILE);
-    check("no third element", kd_torrent_path(lent, size, 0, 2).number == KD_NO_SUCH_FILE);
+    check("no second file", kd_torrent_file(lent, size, 1).number == KD_NO_SUCH_PART);
+    check("no third element", kd_torrent_path(lent, size, 0, 2).number == KD_NO_SUCH_PART);
+    part = kd_torrent_info(lent, size);
+    check("kd_torrent_info", part.number == KD_DONE && part.start == info && part.size == info_end - info);
+    part = kd_torrent_name(lent, size);
+    check("no name", part.number == KD_NO_SUCH_PART && part.start == 0 && part.size == 0);
     check("a torrent cut short", kd_torrent_read(guarded(torrent, size - 1), size - 1).number == KD_NOT_STRICT);
     list(lent, size, &one);
+}
+
+static void places_are(const char *what, kd_placed answer, uint32_t number, uint64_t file, uint64_t piece)
+{
+    check(what, answer.number == number && answer.file == file && answer.piece == piece);
+}
+
+/* Two files with an empty one between: five pieces on the wire. */
+static void places(void)
+{
+    static uint8_t records[3 * KD_RECORD];
+    kd_put(records, 8, 40000);
+    kd_put(records + 2 * KD_RECORD, 8, 16385);
+    uint8_t *lent = guarded(records, sizeof records);
+    check("kd_listed_file", kd_listed_file(lent, 2).length == 16385 && kd_listed_file(lent, 1).length == 0);
+    places_are("the third piece", kd_place(lent, sizeof records, 16384, 2), KD_DONE, 0, 2);
+    places_are("the last piece", kd_place(lent, sizeof records, 16384, 4), KD_DONE, 2, 1);
+    places_are("past the last piece", kd_place(lent, sizeof records, 16384, 5), KD_NO_SUCH_PART, 0, 0);
+    places_are("a cut list", kd_place(lent, sizeof records - 1, 16384, 0), KD_WRONG_SIZE, 0, 0);
+    places_are("no piece length", kd_place(lent, sizeof records, 0, 0), KD_PIECE_LENGTH_OUT_OF_RANGE, 0, 0);
+    places_are("kd_place in NULL", kd_place(NULL, 0, 16384, 0), KD_NO_SUCH_PART, 0, 0);
+    answers("an empty file begins where the next does", kd_first_piece(lent, sizeof records, 16384, 1), KD_DONE, 3);
+    answers("kd_first_piece", kd_first_piece(lent, sizeof records, 16384, 2), KD_DONE, 3);
+    answers("no fourth file", kd_first_piece(lent, sizeof records, 16384, 3), KD_NO_SUCH_PART, 0);
+    answers("kd_first_piece in NULL", kd_first_piece(NULL, 0, 16384, 0), KD_NO_SUCH_PART, 0);
+}
+
+static void facts(void)
+{
+    kd_facts_answer answer = kd_facts(guarded(store, STORE), STORE);
+    check("kd_facts", answer.number == KD_DONE && kd_store_size(answer.length, answer.piece_length).count == STORE &&
+                          kd_get(store, 8) == answer.length && memcmp(&answer.root, store + 12, 32) == 0);
+    answer = kd_facts(NULL, 0);
+    check("kd_facts of NULL", answer.number == KD_UNUSABLE && answer.length == 0 && answer.piece_length == 0 &&
+                                  memcmp(&answer.root, &zero, 32) == 0);
+}
+
+/* Every number has its words. */
+static void numbers(void)
+{
+    int count = 0;
+#define COUNTED(number, name, words) count += number == name && words[0] != 0;
+    KD_NUMBERS(COUNTED)
+    check("KD_NUMBERS", count == 26);
 }
 
 static void torrent_of_nothing(void)
@@ -875,6 +932,11 @@ int main(void)
     file_of_nothing();
     path_of_nothing();
     limits();
+    check("kd_torrent_info of NULL", kd_torrent_info(NULL, 0).number == KD_NOT_STRICT);
+    check("kd_torrent_name of NULL", kd_torrent_name(NULL, 0).number == KD_NOT_STRICT);
+    places();
+    facts();
+    numbers();
     answers("kd_torrent_list of NULL", kd_torrent_list(NULL, 0, NULL, 0), KD_NOT_STRICT, 0);
     printf("boundary.c: %u passed, %u failed\n", passed, failed);
     return failed != 0;

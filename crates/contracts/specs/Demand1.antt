@@ -26,6 +26,9 @@ use Rattle.catalogue.specs.Catalogue.{listAnswer, listAfter}
 use Rattle.writing.specs.Write.{writeAnswer, writeAfter}
 use Rattle.calls.specs.Calls.{ReadOutcome, done as readDone, badTorrent as readRefused, FileOutcome, done as fileDone, badTorrent as fileRefused, noFile, PathOutcome, done as pathDone, badTorrent as pathRefused, noElement, ListOutcome, done as listDone, badTorrent as listRefused, tooShort}
 use Rattle.calls.specs.CallsLaws.{read-outcome, file-outcome, path-outcome, list-outcome, list-refused}
+use Rattle.about.specs.About.{infoRead, nameRead}
+use Rattle.about.specs.AboutMeans.{info-outcome, name-outcome}
+use Rattle.places.specs.Where.{place-in-table, first-in-table, place-zeros, first-zeros}
 use Rattle.published.specs.Published.{WriteNumber, is-4, is-11, is-19, is-21, is-24-to-28, WriteOutcome, put, left as nothingPut}
 use Rattle.published.specs.Promised.{write-outcome, write-refused}
 use Rattle.words.specs.Messages.{Form, Rejected}
@@ -36,7 +39,7 @@ use Rattle.promises.specs.EachNumber.{serve-2, serve-3, serve-12}
 use Rattle.promises.specs.Marks.{field-refused}
 use Rattle.promises.specs.Saved.{save-refused}
 use Rattle.promises.specs.Running as Running
-use Rattle.contracts.specs.Entries.{AnyCall, onStore, version, sha256, storeSize, hashingBegin, hashingMore, hashingEnd, historyBegin, historyMore, historyEnd, streamBegin, streamHear, frame, torrentRead, torrentFile, torrentPath, torrentList, torrentWrite, FromTable, Refused, Silent, said, output, outputAfter, lent, left, RejectSent, request, ValuesZero}
+use Rattle.contracts.specs.Entries.{AnyCall, onStore, version, sha256, storeSize, hashingBegin, hashingMore, hashingEnd, historyBegin, historyMore, historyEnd, streamBegin, streamHear, frame, torrentRead, torrentFile, torrentPath, torrentList, torrentInfo, torrentName, torrentWrite, place, firstPiece, FromTable, Refused, Silent, said, output, outputAfter, lent, left, RejectSent, request, ValuesZero}
 
 -- ---- the torrent calls' numbers are in the table
 
@@ -160,6 +163,10 @@ every-number-in-table (torrentRead t) = read-in (readOf t) (read-outcome t)
 every-number-in-table (torrentFile t file) = file-in (fileRead t file) (file-outcome t file)
 every-number-in-table (torrentPath t file element) = path-in (pathRead t file element) (path-outcome t file element)
 every-number-in-table (torrentList t out) = list-in out (listAnswer t out) (listAfter t out) (list-outcome t out)
+every-number-in-table (torrentInfo t) = path-in (infoRead t) (info-outcome t)
+every-number-in-table (torrentName t) = path-in (nameRead t) (name-outcome t)
+every-number-in-table (place list plen piece) = place-in-table list plen piece
+every-number-in-table (firstPiece list plen file) = first-in-table list plen file
 every-number-in-table (torrentWrite list text plen name out) =
     write-in out (writeAnswer list text plen name out) (writeAfter list text plen name out) (write-outcome list text plen name out)
 
@@ -182,7 +189,11 @@ silent-lent-nothing (torrentRead t) e = refl
 silent-lent-nothing (torrentFile t file) e = refl
 silent-lent-nothing (torrentPath t file element) e = refl
 silent-lent-nothing (torrentList t out) e = absurd e
+silent-lent-nothing (torrentInfo t) e = refl
+silent-lent-nothing (torrentName t) e = refl
 silent-lent-nothing (torrentWrite list text plen name out) e = absurd e
+silent-lent-nothing (place list plen piece) e = refl
+silent-lent-nothing (firstPiece list plen file) e = refl
 
 -- "and on a refusal changes no byte it was lent, save for the reject message that a refused request gets."
 pub every-refusal-leaves : (a : AnyCall) → Refused (said a) → (RejectSent a → ⊥) → left a ≡ lent a
@@ -203,6 +214,10 @@ every-refusal-leaves (torrentRead t) ne nr = refl
 every-refusal-leaves (torrentFile t file) ne nr = refl
 every-refusal-leaves (torrentPath t file element) ne nr = refl
 every-refusal-leaves (torrentList t out) ne nr = ap (λ (o : List ℕ). o ∷ []) (list-refused t out ne .1)
+every-refusal-leaves (torrentInfo t) ne nr = refl
+every-refusal-leaves (torrentName t) ne nr = refl
+every-refusal-leaves (place list plen piece) ne nr = refl
+every-refusal-leaves (firstPiece list plen file) ne nr = refl
 every-refusal-leaves (torrentWrite list text plen name out) ne nr = ap (λ (o : List ℕ). o ∷ []) (write-refused list text plen name out ne .1)
 
 -- 0, 9, 1 and 11 bring no reject
@@ -246,4 +261,8 @@ every-value-zero (torrentRead t) ne = read-zeros (readOf t) (read-outcome t) ne
 every-value-zero (torrentFile t file) ne = file-zeros (fileRead t file) (file-outcome t file) ne
 every-value-zero (torrentPath t file element) ne = path-zeros (pathRead t file element) (path-outcome t file element) ne
 every-value-zero (torrentList t out) ne = list-refused t out ne .0
+every-value-zero (torrentInfo t) ne = path-zeros (infoRead t) (info-outcome t) ne
+every-value-zero (torrentName t) ne = path-zeros (nameRead t) (name-outcome t) ne
+every-value-zero (place list plen piece) ne = place-zeros list plen piece ne
+every-value-zero (firstPiece list plen file) ne = first-zeros list plen file ne
 every-value-zero (torrentWrite list text plen name out) ne = write-refused list text plen name out ne .0

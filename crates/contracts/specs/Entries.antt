@@ -19,6 +19,8 @@ use Rattle.store.specs.Store.{sizeAnswer}
 use Rattle.serve.specs.Serve.{serveAnswer}
 use Rattle.torrent.specs.Torrent.{readOf, fileRead, pathRead, noTorrent, noFileRead, noPartRead}
 use Rattle.catalogue.specs.Catalogue.{listAnswer, listAfter}
+use Rattle.about.specs.About.{infoRead, nameRead}
+use Rattle.places.specs.Places.{firstAnswer, noPlace, placeAnswer}
 use Rattle.writing.specs.Write.{writeAnswer, writeAfter}
 use Rattle.words.specs.Messages.{Rejected}
 use Rattle.words.specs.History.{Bytes, serve, ask, send, Call, take, loadLayer, judgeBlock, judgePiece, clear, reopen, load, repair, look, answer, number as storeNumber, after, sentTo}
@@ -27,7 +29,7 @@ use Rattle.words.specs.Answers.{Beside}
 -- a call of any entry point
 pub data AnyCall : Type 0 where
   -- kd_open, kd_held, kd_take, kd_take_reject, kd_serve, kd_load_layer, kd_judge_block, kd_judge_piece, kd_clear, kd_marked, kd_bitfield,
-  -- kd_next_request, kd_pick_piece, kd_save, kd_load, kd_repair, kd_extends, and the bytes lent as their store
+  -- kd_next_request, kd_pick_piece, kd_save, kd_load, kd_repair, kd_extends, kd_facts, and the bytes lent as their store
   onStore : (c : Call) (s : List ℕ) → AnyCall
   -- kd_version
   version : AnyCall
@@ -46,12 +48,17 @@ pub data AnyCall : Type 0 where
   streamBegin : AnyCall
   streamHear : (s : Stream) (bytes room : List ℕ) → Bytes bytes → AnyCall
   frame : (m out : List ℕ) → AnyCall
-  -- kd_torrent_read, kd_torrent_file, kd_torrent_path, kd_torrent_list, kd_torrent_write: `out` is the output
+  -- kd_torrent_read, kd_torrent_file, kd_torrent_path, kd_torrent_list, kd_torrent_info, kd_torrent_name, kd_torrent_write: `out` is the output
   torrentRead : (t : List ℕ) → AnyCall
   torrentFile : (t : List ℕ) (file : ℕ) → AnyCall
   torrentPath : (t : List ℕ) (file element : ℕ) → AnyCall
   torrentList : (t out : List ℕ) → AnyCall
+  torrentInfo : (t : List ℕ) → AnyCall
+  torrentName : (t : List ℕ) → AnyCall
   torrentWrite : (list text : List ℕ) (plen : ℕ) (name out : List ℕ) → AnyCall
+  -- kd_place, kd_first_piece: a list, a piece length, a piece of the wire or a file
+  place : (list : List ℕ) (plen piece : ℕ) → AnyCall
+  firstPiece : (list : List ℕ) (plen file : ℕ) → AnyCall
 
 -- what a call says: a number; or none, if there is nothing that it could be refused for
 pub data Said : Type 0 where
@@ -91,7 +98,11 @@ said (torrentRead t) = number (readOf t .number)
 said (torrentFile t file) = number (fileRead t file .number)
 said (torrentPath t file element) = number (pathRead t file element .number)
 said (torrentList t out) = number (listAnswer t out .number)
+said (torrentInfo t) = number (infoRead t .number)
+said (torrentName t) = number (nameRead t .number)
 said (torrentWrite list text plen name out) = number (writeAnswer list text plen name out .number)
+said (place list plen piece) = number (placeAnswer list plen piece .number)
+said (firstPiece list plen file) = number (firstAnswer list plen file .number)
 
 -- the output that a call on a store is lent beside it, if any, and what is left there
 abbrev pub output : Call → List (List ℕ)
@@ -137,7 +148,11 @@ lent (torrentRead t) = []
 lent (torrentFile t file) = []
 lent (torrentPath t file element) = []
 lent (torrentList t out) = out ∷ []
+lent (torrentInfo t) = []
+lent (torrentName t) = []
 lent (torrentWrite list text plen name out) = out ∷ []
+lent (place list plen piece) = []
+lent (firstPiece list plen file) = []
 
 -- and after it
 abbrev pub left : AnyCall → List (List ℕ)
@@ -158,7 +173,11 @@ left (torrentRead t) = []
 left (torrentFile t file) = []
 left (torrentPath t file element) = []
 left (torrentList t out) = listAfter t out ∷ []
+left (torrentInfo t) = []
+left (torrentName t) = []
 left (torrentWrite list text plen name out) = writeAfter list text plen name out ∷ []
+left (place list plen piece) = []
+left (firstPiece list plen file) = []
 
 -- it is a request that is refused with 2, 3 or 12, and so gets a reject
 pub data RejectSent : AnyCall → Type 0 where
@@ -185,4 +204,8 @@ ValuesZero (torrentRead t) = readOf t ≡ noTorrent (readOf t .number)
 ValuesZero (torrentFile t file) = fileRead t file ≡ noFileRead (fileRead t file .number)
 ValuesZero (torrentPath t file element) = pathRead t file element ≡ noPartRead (pathRead t file element .number)
 ValuesZero (torrentList t out) = listAnswer t out .count ≡ 0
+ValuesZero (torrentInfo t) = infoRead t ≡ noPartRead (infoRead t .number)
+ValuesZero (torrentName t) = nameRead t ≡ noPartRead (nameRead t .number)
 ValuesZero (torrentWrite list text plen name out) = writeAnswer list text plen name out .count ≡ 0
+ValuesZero (place list plen piece) = placeAnswer list plen piece ≡ noPlace (placeAnswer list plen piece .number)
+ValuesZero (firstPiece list plen file) = firstAnswer list plen file .count ≡ 0

@@ -43,6 +43,11 @@ use Rattle.kombudeva.proofs.kd_torrent_file as file
 use Rattle.kombudeva.proofs.kd_torrent_path as path
 use Rattle.kombudeva.proofs.kd_torrent_list as list
 use Rattle.kombudeva.proofs.kd_torrent_write as writing
+use Rattle.kombudeva.proofs.kd_facts as facts-named
+use Rattle.kombudeva.proofs.kd_torrent_info as info
+use Rattle.kombudeva.proofs.kd_torrent_name as named
+use Rattle.kombudeva.proofs.kd_place as placing
+use Rattle.kombudeva.proofs.kd_first_piece as first-piece
 
 -- nothing is asked of the caller, whatever the arguments are
 abbrev pub AsksNothing : (n : ℕ) (ps : List (PK n)) → In n ps → Type 0
@@ -183,6 +188,26 @@ path-asks-nothing κs a = tt
 -- kd_torrent_list
 pub list-asks-nothing : AsksNothing 2 list.Kinds.ps list.Reads.Asked
 list-asks-nothing κs a = tt
+
+-- kd_facts
+pub facts-named-asks-nothing : AsksNothing 1 facts-named.Kinds.ps facts-named.Reads.Asked
+facts-named-asks-nothing κs a = tt
+
+-- kd_torrent_info
+pub info-asks-nothing : AsksNothing 1 info.Kinds.ps info.Reads.Asked
+info-asks-nothing κs a = tt
+
+-- kd_torrent_name
+pub named-asks-nothing : AsksNothing 1 named.Kinds.ps named.Reads.Asked
+named-asks-nothing κs a = tt
+
+-- kd_place
+pub placing-asks-nothing : AsksNothing 1 placing.Kinds.ps placing.Reads.Asked
+placing-asks-nothing κs a = tt
+
+-- kd_first_piece
+pub first-piece-asks-nothing : AsksNothing 1 first-piece.Kinds.ps first-piece.Reads.Asked
+first-piece-asks-nothing κs a = tt
 
 -- kd_torrent_write
 pub writing-asks-nothing : AsksNothing 4 writing.Kinds.ps writing.Reads.Asked
@@ -336,6 +361,26 @@ one-path κs a x y t u p q = p ∙ sym q
 pub one-list : (κs : Lfts 2) (a : Dens κs list.Kinds.ps) (x y : resT list.Kinds.r κs .Denot) (t u : AtExit (endedOf 2 list.Kinds.ps list.Kinds.r) κs)
     → list.Reads.Learnt κs a x t → list.Reads.Learnt κs a y u → (x ≡ y) × (now (t .1 .0) ≡ now (u .1 .0))
 one-list κs a x y t u p q = (p .0 ∙ sym (q .0), p .1 ∙ sym (q .1))
+
+-- kd_facts
+pub one-facts-named : OneAnswer 1 facts-named.Kinds.ps facts-named.Kinds.r facts-named.Reads.Learnt
+one-facts-named κs a x y t u p q = p ∙ sym q
+
+-- kd_torrent_info
+pub one-info : OneAnswer 1 info.Kinds.ps info.Kinds.r info.Reads.Learnt
+one-info κs a x y t u p q = p ∙ sym q
+
+-- kd_torrent_name
+pub one-named : OneAnswer 1 named.Kinds.ps named.Kinds.r named.Reads.Learnt
+one-named κs a x y t u p q = p ∙ sym q
+
+-- kd_place
+pub one-placing : OneAnswer 1 placing.Kinds.ps placing.Kinds.r placing.Reads.Learnt
+one-placing κs a x y t u p q = p ∙ sym q
+
+-- kd_first_piece
+pub one-first-piece : OneAnswer 1 first-piece.Kinds.ps first-piece.Kinds.r first-piece.Reads.Learnt
+one-first-piece κs a x y t u p q = p ∙ sym q
 
 -- kd_torrent_write: the answer, and the output's bytes
 pub one-writing : (κs : Lfts 4) (a : Dens κs writing.Kinds.ps) (x y : resT writing.Kinds.r κs .Denot) (t u : AtExit (endedOf 4 writing.Kinds.ps writing.Kinds.r) κs)

@@ -18,12 +18,14 @@ use Rattle.history.specs.declared.HistoryEnd.{HistoryEnd}
 use Rattle.saved.specs.declared.repair.Repaired.{Repaired}
 use Rattle.kombudeva.specs.declared.CountAnswer.{CountAnswer}
 use Rattle.kombudeva.specs.declared.HashAnswer.{HashAnswer}
+use Rattle.places.specs.declared.Placed.{Placed}
+use Rattle.kombudeva.specs.declared.FactsAnswer.{FactsAnswer}
 use Rattle.kombudeva.specs.declared.TorrentAnswer.{TorrentAnswer}
 use Rattle.kombudeva.specs.declared.FileAnswer.{FileAnswer}
 use Rattle.kombudeva.specs.declared.PartAnswer.{PartAnswer}
-use Rattle.kombudeva.specs.Boundary.{countAnswer, hashAnswer, torrentAnswer, fileAnswer, partAnswer}
-use Rattle.words.specs.History.{Bytes, held, takeReject, isMarked, nextRequest, pickPiece, beginsWith, serve, bitfield, ask, send, take, loadLayer, judgeBlock, judgePiece, clear, reopen, look, save, load, repair}
-use Rattle.contracts.specs.Entries.{AnyCall, onStore, version, sha256, storeSize, hashingBegin, hashingMore, hashingEnd, historyBegin, historyMore, historyEnd, streamBegin, streamHear, frame, torrentRead, torrentFile, torrentPath, torrentList, torrentWrite, Said, number, none, FromTable, Refused, said, lent, left, RejectSent}
+use Rattle.kombudeva.specs.Boundary.{countAnswer, hashAnswer, factsStruct, torrentAnswer, fileAnswer, partAnswer}
+use Rattle.words.specs.History.{Bytes, held, takeReject, isMarked, nextRequest, pickPiece, theFacts, beginsWith, serve, bitfield, ask, send, take, loadLayer, judgeBlock, judgePiece, clear, reopen, look, save, load, repair}
+use Rattle.contracts.specs.Entries.{AnyCall, onStore, version, sha256, storeSize, hashingBegin, hashingMore, hashingEnd, historyBegin, historyMore, historyEnd, streamBegin, streamHear, frame, torrentRead, torrentFile, torrentPath, torrentList, torrentInfo, torrentName, torrentWrite, place, firstPiece, Said, number, none, FromTable, Refused, said, lent, left, RejectSent}
 use Rattle.contracts.specs.Demand1.{every-number-in-table, every-refusal-leaves}
 use Rattle.kombudeva.proofs.kd_sha256 as hash
 use Rattle.kombudeva.proofs.kd_hashing_begin as hashing-begin
@@ -59,6 +61,11 @@ use Rattle.kombudeva.proofs.kd_torrent_file as file
 use Rattle.kombudeva.proofs.kd_torrent_path as path
 use Rattle.kombudeva.proofs.kd_torrent_list as list
 use Rattle.kombudeva.proofs.kd_torrent_write as writing
+use Rattle.kombudeva.proofs.kd_facts as facts-named
+use Rattle.kombudeva.proofs.kd_torrent_info as info
+use Rattle.kombudeva.proofs.kd_torrent_name as named
+use Rattle.kombudeva.proofs.kd_place as placing
+use Rattle.kombudeva.proofs.kd_first_piece as first-piece
 
 -- a call, the number it was answered with, and the memories lent to it, before and after, as a contract leaves them: `a` are the arguments, in
 -- order, `r` the answer, `e` the arguments at exit. What is lent as `&` can't be written: a store lent so is as it was.
@@ -127,6 +134,9 @@ pub data Outcome : AnyCall → Said → List (List ℕ) → List (List ℕ) → 
   -- kd_extends
   by-beginning : (κs : Lfts 2) (a : Dens κs beginning.Kinds.ps) (r : resT beginning.Kinds.r κs .Denot) (e : AtExit (endedOf 2 beginning.Kinds.ps beginning.Kinds.r) κs) → beginning.Reads.Learnt κs a r e
       → (x : Octets 32 (a .1 .1 .0 .bytes)) (y : Bytes (now (a .1 .1 .1 .0))) → Outcome (onStore (look (ask (beginsWith (a .1 .0) (a .1 .1 .0 .bytes) (now (a .1 .1 .1 .0)) x y))) (now (a .0))) (number (r .number)) (now (a .0) ∷ []) (now (a .0) ∷ [])
+  -- kd_facts
+  by-facts : (κs : Lfts 1) (a : Dens κs facts-named.Kinds.ps) (r : resT facts-named.Kinds.r κs .Denot) (e : AtExit (endedOf 1 facts-named.Kinds.ps facts-named.Kinds.r) κs) → facts-named.Reads.Learnt κs a r e
+      → Outcome (onStore (look (ask theFacts)) (now (a .0))) (number (r .number)) (now (a .0) ∷ []) (now (a .0) ∷ [])
   -- kd_bitfield
   by-field : (κs : Lfts 2) (a : Dens κs field.Kinds.ps) (r : resT field.Kinds.r κs .Denot) (e : AtExit (endedOf 2 field.Kinds.ps field.Kinds.r) κs) → field.Reads.Learnt κs a r e
       → (x : Bytes (now (a .1 .0))) → Outcome (onStore (look (send bitfield (now (a .1 .0)) x)) (now (a .0))) (number (r .number)) (now (a .0) ∷ now (a .1 .0) ∷ []) (now (a .0) ∷ now (e .1 .0) ∷ [])
@@ -163,13 +173,25 @@ pub data Outcome : AnyCall → Said → List (List ℕ) → List (List ℕ) → 
   -- kd_torrent_list
   by-list : (κs : Lfts 2) (a : Dens κs list.Kinds.ps) (r : resT list.Kinds.r κs .Denot) (e : AtExit (endedOf 2 list.Kinds.ps list.Kinds.r) κs) → list.Reads.Learnt κs a r e
       → Outcome (torrentList (now (a .0)) (now (a .1 .0))) (number (r .number)) (now (a .1 .0) ∷ []) (now (e .1 .0) ∷ [])
+  -- kd_torrent_info
+  by-info : (κs : Lfts 1) (a : Dens κs info.Kinds.ps) (r : resT info.Kinds.r κs .Denot) (e : AtExit (endedOf 1 info.Kinds.ps info.Kinds.r) κs) → info.Reads.Learnt κs a r e
+      → Outcome (torrentInfo (now (a .0))) (number (r .number)) [] []
+  -- kd_torrent_name
+  by-name : (κs : Lfts 1) (a : Dens κs named.Kinds.ps) (r : resT named.Kinds.r κs .Denot) (e : AtExit (endedOf 1 named.Kinds.ps named.Kinds.r) κs) → named.Reads.Learnt κs a r e
+      → Outcome (torrentName (now (a .0))) (number (r .number)) [] []
+  -- kd_place
+  by-placing : (κs : Lfts 1) (a : Dens κs placing.Kinds.ps) (r : resT placing.Kinds.r κs .Denot) (e : AtExit (endedOf 1 placing.Kinds.ps placing.Kinds.r) κs) → placing.Reads.Learnt κs a r e
+      → Outcome (place (now (a .0)) (a .1 .0) (a .1 .1 .0)) (number (r .number)) [] []
+  -- kd_first_piece
+  by-first-piece : (κs : Lfts 1) (a : Dens κs first-piece.Kinds.ps) (r : resT first-piece.Kinds.r κs .Denot) (e : AtExit (endedOf 1 first-piece.Kinds.ps first-piece.Kinds.r) κs) → first-piece.Reads.Learnt κs a r e
+      → Outcome (firstPiece (now (a .0)) (a .1 .0) (a .1 .1 .0)) (number (r .number)) [] []
   -- kd_torrent_write
   by-writing : (κs : Lfts 4) (a : Dens κs writing.Kinds.ps) (r : resT writing.Kinds.r κs .Denot) (e : AtExit (endedOf 4 writing.Kinds.ps writing.Kinds.r) κs) → writing.Reads.Learnt κs a r e
       → Outcome (torrentWrite (now (a .0)) (now (a .1 .0)) (a .1 .1 .0) (now (a .1 .1 .1 .0)) (now (a .1 .1 .1 .1 .0))) (number (r .number)) (now (a .1 .1 .1 .1 .0) ∷ []) (now (e .1 .1 .1 .1 .0) ∷ [])
 
 -- they are those of Entries
 pub outcome-is : {c : AnyCall} {n : Said} {before after : List (List ℕ)} → Outcome c n before after → (n ≡ said c) × (before ≡ lent c) × (after ≡ left c)
-unfolding countAnswer hashAnswer torrentAnswer fileAnswer partAnswer
+unfolding countAnswer hashAnswer factsStruct torrentAnswer fileAnswer partAnswer
 outcome-is (by-hash κs a r e p) = (ap (λ (s : HashAnswer). number (s .number)) p, refl, refl)
 outcome-is (by-hashing-begin κs a r e p) = (refl, refl, refl)
 outcome-is (by-hashing-more κs a r e p) = (ap (λ (s : HashingAnswer). number (s .number)) p, refl, refl)
@@ -191,6 +213,7 @@ outcome-is (by-asking κs a r e p) = (ap (λ (s : CountAnswer). number (s .numbe
 outcome-is (by-next κs a r e p) = (ap (λ (s : Request). number (s .number)) p, refl, refl)
 outcome-is (by-pick κs a r e p) = (ap (λ (s : Choice). number (s .number)) p, refl, refl)
 outcome-is (by-beginning κs a r e p x y) = (ap (λ (s : CountAnswer). number (s .number)) p, refl, refl)
+outcome-is (by-facts κs a r e p) = (ap (λ (s : FactsAnswer). number (s .number)) p, refl, refl)
 outcome-is (by-field κs a r e p x) = (ap (λ (s : CountAnswer). number (s .number)) (p .0), refl, ap (λ (o : List ℕ). now (a .0) ∷ o ∷ []) (p .1))
 outcome-is (by-version κs a r e p) = (refl, refl, refl)
 outcome-is (by-stream-begin κs a r e p) = (refl, refl, refl)
@@ -203,6 +226,10 @@ outcome-is (by-torrent κs a r e p) = (ap (λ (s : TorrentAnswer). number (s .nu
 outcome-is (by-file κs a r e p) = (ap (λ (s : FileAnswer). number (s .number)) p, refl, refl)
 outcome-is (by-path κs a r e p) = (ap (λ (s : PartAnswer). number (s .number)) p, refl, refl)
 outcome-is (by-list κs a r e p) = (ap (λ (s : CountAnswer). number (s .number)) (p .0), refl, ap (λ (o : List ℕ). o ∷ []) (p .1))
+outcome-is (by-info κs a r e p) = (ap (λ (s : PartAnswer). number (s .number)) p, refl, refl)
+outcome-is (by-name κs a r e p) = (ap (λ (s : PartAnswer). number (s .number)) p, refl, refl)
+outcome-is (by-placing κs a r e p) = (ap (λ (s : Placed). number (s .number)) p, refl, refl)
+outcome-is (by-first-piece κs a r e p) = (ap (λ (s : CountAnswer). number (s .number)) p, refl, refl)
 outcome-is (by-writing κs a r e p) = (ap (λ (s : CountAnswer). number (s .number)) (p .0), refl, ap (λ (o : List ℕ). o ∷ []) (p .1))
 
 -- "Every entry point answers with a number from the table,"

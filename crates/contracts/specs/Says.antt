@@ -24,8 +24,11 @@ use Rattle.saved.specs.Save.{saveAnswer, saveAfter}
 use Rattle.saved.specs.Saved.{loadAnswer, loadAfter, repairAnswer, repairAfter}
 use Rattle.torrent.specs.Torrent.{readOf, fileRead, pathRead}
 use Rattle.catalogue.specs.Catalogue.{listAnswer, listAfter}
+use Rattle.facts.specs.Facts.{factsAnswer}
+use Rattle.about.specs.About.{infoRead, nameRead}
+use Rattle.places.specs.Places.{placeAnswer, firstAnswer}
 use Rattle.writing.specs.Write.{writeAnswer, writeAfter}
-use Rattle.kombudeva.specs.Boundary.{countAnswer, hashAnswer, torrentAnswer, fileAnswer, partAnswer}
+use Rattle.kombudeva.specs.Boundary.{countAnswer, hashAnswer, factsStruct, torrentAnswer, fileAnswer, partAnswer}
 use Rattle.kombudeva.specs.Version.{version}
 use Rattle.kombudeva.proofs.kd_sha256 as hash
 use Rattle.kombudeva.proofs.kd_hashing_begin as hashing-begin
@@ -61,6 +64,11 @@ use Rattle.kombudeva.proofs.kd_torrent_file as file
 use Rattle.kombudeva.proofs.kd_torrent_path as path
 use Rattle.kombudeva.proofs.kd_torrent_list as list
 use Rattle.kombudeva.proofs.kd_torrent_write as writing
+use Rattle.kombudeva.proofs.kd_facts as facts-named
+use Rattle.kombudeva.proofs.kd_torrent_info as info
+use Rattle.kombudeva.proofs.kd_torrent_name as named
+use Rattle.kombudeva.proofs.kd_place as placing
+use Rattle.kombudeva.proofs.kd_first_piece as first-piece
 
 -- kd_sha256
 pub hash-says : (κs : Lfts 1) (a : Dens κs hash.Kinds.ps) (r : resT hash.Kinds.r κs .Denot) (e : AtExit (endedOf 1 hash.Kinds.ps hash.Kinds.r) κs) → hash.Reads.Learnt κs a r e
@@ -226,6 +234,31 @@ path-says κs a r e p = p
 pub list-says : (κs : Lfts 2) (a : Dens κs list.Kinds.ps) (r : resT list.Kinds.r κs .Denot) (e : AtExit (endedOf 2 list.Kinds.ps list.Kinds.r) κs) → list.Reads.Learnt κs a r e
     → (r ≡ countAnswer (listAnswer (now (a .0)) (now (a .1 .0)))) × (now (e .1 .0) ≡ listAfter (now (a .0)) (now (a .1 .0)))
 list-says κs a r e p = p
+
+-- kd_facts
+pub facts-named-says : (κs : Lfts 1) (a : Dens κs facts-named.Kinds.ps) (r : resT facts-named.Kinds.r κs .Denot) (e : AtExit (endedOf 1 facts-named.Kinds.ps facts-named.Kinds.r) κs) → facts-named.Reads.Learnt κs a r e
+    → r ≡ factsStruct (factsAnswer (now (a .0)))
+facts-named-says κs a r e p = p
+
+-- kd_torrent_info
+pub info-says : (κs : Lfts 1) (a : Dens κs info.Kinds.ps) (r : resT info.Kinds.r κs .Denot) (e : AtExit (endedOf 1 info.Kinds.ps info.Kinds.r) κs) → info.Reads.Learnt κs a r e
+    → r ≡ partAnswer (infoRead (now (a .0)))
+info-says κs a r e p = p
+
+-- kd_torrent_name
+pub named-says : (κs : Lfts 1) (a : Dens κs named.Kinds.ps) (r : resT named.Kinds.r κs .Denot) (e : AtExit (endedOf 1 named.Kinds.ps named.Kinds.r) κs) → named.Reads.Learnt κs a r e
+    → r ≡ partAnswer (nameRead (now (a .0)))
+named-says κs a r e p = p
+
+-- kd_place
+pub placing-says : (κs : Lfts 1) (a : Dens κs placing.Kinds.ps) (r : resT placing.Kinds.r κs .Denot) (e : AtExit (endedOf 1 placing.Kinds.ps placing.Kinds.r) κs) → placing.Reads.Learnt κs a r e
+    → r ≡ placeAnswer (now (a .0)) (a .1 .0) (a .1 .1 .0)
+placing-says κs a r e p = p
+
+-- kd_first_piece
+pub first-piece-says : (κs : Lfts 1) (a : Dens κs first-piece.Kinds.ps) (r : resT first-piece.Kinds.r κs .Denot) (e : AtExit (endedOf 1 first-piece.Kinds.ps first-piece.Kinds.r) κs) → first-piece.Reads.Learnt κs a r e
+    → r ≡ countAnswer (firstAnswer (now (a .0)) (a .1 .0) (a .1 .1 .0))
+first-piece-says κs a r e p = p
 
 -- kd_torrent_write
 pub writing-says : (κs : Lfts 4) (a : Dens κs writing.Kinds.ps) (r : resT writing.Kinds.r κs .Denot) (e : AtExit (endedOf 4 writing.Kinds.ps writing.Kinds.r) κs) → writing.Reads.Learnt κs a r e

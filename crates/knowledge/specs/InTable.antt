@@ -25,6 +25,7 @@ use Rattle.messages.specs.Take.{takeAnswer, rejectAnswer}
 use Rattle.serve.specs.Serve.{serveAnswer}
 use Rattle.pieces.specs.Pieces.{layerAnswer, blockAnswer, pieceAnswer}
 use Rattle.pieces.specs.MarkedLaws.{block-stays, piece-stays}
+use Rattle.facts.specs.FactsLaws.{facts-in-table, facts-zeros}
 use Rattle.marks.specs.Marks.{blockThere, clearAnswer, markedAnswer, fieldSize, fieldAnswer}
 use Rattle.saved.specs.Form.{placeCount, savedBytes}
 use Rattle.saved.specs.Save.{savedOf, saveAnswer}
@@ -32,7 +33,7 @@ use Rattle.saved.specs.Saved.{sound, rooted, loadNumber, loadAnswer, repairNumb
 use Rattle.knowledge.specs.Through.{clear-stays, load-stays, repair-stays}
 use Rattle.words.specs.Held.{Holds}
 use Rattle.words.specs.Messages.{Rejected}
-use Rattle.words.specs.History.{Bytes, Ask, held, takeReject, isMarked, nextRequest, pickPiece, beginsWith, Send, serve, bitfield, Look, ask, send, Call, take, loadLayer, judgeBlock, judgePiece, clear, reopen, look, withCount, replyNumber, asked, sendReply, looked, answer, number, after, Opening, call, begin, next, save, load, repair}
+use Rattle.words.specs.History.{Bytes, Ask, held, takeReject, isMarked, nextRequest, pickPiece, theFacts, beginsWith, Send, serve, bitfield, Look, ask, send, Call, take, loadLayer, judgeBlock, judgePiece, clear, reopen, look, withCount, replyNumber, asked, sendReply, looked, answer, number, after, Opening, call, begin, next, save, load, repair}
 use Rattle.words.specs.Answers.{ServeOutcome, replied, rejected, untouched, Zeros, Beside, reject, zeros}
 use Rattle.knowledge.specs.Again.{knowledge-only-grows}
 use Rattle.knowledge.specs.Refusals.{opening-refused, message-refused, layer-not-loaded, served}
@@ -176,6 +177,7 @@ asked-in-table (isMarked i) s = there-in-table s i
 asked-in-table (nextRequest l) s = next-in-table s l
 asked-in-table (pickPiece counts) s = pick-in-table s counts
 asked-in-table (beginsWith n root block o b) s = extends-in-table s n root block
+asked-in-table theFacts s = facts-in-table s
 
 send-in-table : (k : Send) (s out : List ℕ) → InTable (replyNumber (sendReply k s out))
 send-in-table (serve m b) s out = serve-in-table s m out
@@ -232,6 +234,7 @@ asked-zeros (isMarked i) s ne = no-mark s i ne
 asked-zeros (nextRequest l) s ne = next-beside s l ne
 asked-zeros (pickPiece counts) s ne = pick-beside s counts ne
 asked-zeros (beginsWith n root block o b) s ne = extends-beside s n root block ne
+asked-zeros theFacts s ne = facts-zeros s ne
 
 send-beside : (k : Send) (s out : List ℕ) (y : Bytes out) → (replyNumber (sendReply k s out) ≡ 0 → ⊥) → Beside (look (send k out y)) (sendReply k s out)
 send-beside (serve m b) s out y ne = by (served s m out)

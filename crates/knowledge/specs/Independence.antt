@@ -13,6 +13,8 @@ use Rattle.sha256.specs.declared.Hashed.{Hashed}
 use Rattle.tree.specs.Geometry.{nodeNumber}
 use Rattle.cells.specs.Cells.{heldAt, hashAt}
 use Rattle.asking.specs.declared.next.Request.{Request}
+use Rattle.facts.specs.declared.FactsRead.{FactsRead}
+use Rattle.facts.specs.FactsLaws.{facts-same}
 use Rattle.store.specs.Store.{usable, fileLength, heightOf, storeSize, inTree, heldAnswer, Facts}
 use Rattle.store.specs.StoreLaws.{usable-facts, facts-usable, facts-leaves, tree-number, held-outside, held-not, held-given}
 use Rattle.messages.specs.Take.{takeAfter}
@@ -22,7 +24,7 @@ use Rattle.marks.specs.MarksLaws.{mark-in, marks-before, marks-length, marks-en
 use Rattle.pieces.specs.Pieces.{layerAfter, blockNumber, blockAnswer, blockAfter, pieceNumber, pieceAnswer, pieceAfter}
 use Rattle.pieces.specs.PiecesLaws.{block-right, piece-right}
 use Rattle.pieces.specs.MarkedLaws.{block-fits, block-marks, block-stays, piece-fits, piece-marks, piece-stays}
-use Rattle.words.specs.History.{Ask, held, takeReject, isMarked, nextRequest, pickPiece, beginsWith, Send, serve, bitfield, Look, ask, send, Call, take, loadLayer, judgeBlock, judgePiece, clear, reopen, look, withCount, withHash, withRequest, asked, sendReply, looked, answer, after, sentTo, Opening, Teaches, call, begin, next, save, load, repair}
+use Rattle.words.specs.History.{Ask, held, takeReject, isMarked, nextRequest, pickPiece, theFacts, beginsWith, Send, serve, bitfield, Look, ask, send, Call, take, loadLayer, judgeBlock, judgePiece, clear, reopen, look, withCount, withHash, withRequest, withFacts, asked, sendReply, looked, answer, after, sentTo, Opening, Teaches, call, begin, next, save, load, repair}
 use Rattle.words.specs.Marks.{SameButMarks, AsksHashes, SendsHashes, LooksAtHashes, AboutHashes}
 use Rattle.knowledge.specs.AskingApart.{next-apart}
 use Rattle.knowledge.specs.Grows.{Grown, steps-grow}
@@ -99,6 +101,7 @@ module _ (s t : List ℕ) (S : SameButMarks s t) where
   asked-same (nextRequest l) x = ap (λ (r : Request). withRequest r) (next-apart s t S l)
   asked-same (pickPiece counts) x = absurd x
   asked-same (beginsWith n root block o b) x = ap (λ (a : Answer). withCount a) (extends-alike s t (facts-usable t (e .facts) ∙ sym (S .store)) (e .same .file) held-alike n root block)
+  asked-same theFacts x = ap (λ (r : FactsRead). withFacts r) (facts-same s t (facts-usable s f) (facts-usable t (e .facts)) (e .same))
 
   -- and sends
   send-same : (k : Send) → SendsHashes k → (out : List ℕ) → (sendReply k t out ≡ sendReply k s out) × (sentTo k t out ≡ sentTo k s out)

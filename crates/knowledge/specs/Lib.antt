@@ -11,6 +11,7 @@ pub mod MarksApart
 pub mod Through
 pub mod Grows
 pub mod Again
+pub mod FactsKept
 -- bytes behind the store
 pub mod BytesLeft
 pub mod Alike

@@ -12,6 +12,8 @@ use Rattle.numbers.specs.declared.Answer.{Answer}
 use Rattle.sha256.specs.declared.Hashed.{Hashed}
 use Rattle.asking.specs.declared.next.Request.{Request}
 use Rattle.asking.specs.declared.pick.Choice.{Choice}
+use Rattle.facts.specs.declared.FactsRead.{FactsRead}
+use Rattle.facts.specs.FactsLaws.{facts-same}
 use Rattle.store.specs.Store.{usable, fileLength, heightOf, positions, storeSize, Facts}
 use Rattle.store.specs.StoreLaws.{own-cells, usable-facts, facts-usable, used-same, used-facts, used-answer}
 use Rattle.messages.specs.Take.{takeAfter}
@@ -23,7 +25,7 @@ use Rattle.marks.specs.MarksLaws.{marks-behind, marks-end, marks-facts, marks-s
 use Rattle.knowledge.specs.MarksBeyond.{there-beyond, marked-beyond, field-beyond, covered-beyond, marks-beyond}
 use Rattle.knowledge.specs.SavedBeyond.{save-beyond}
 use Rattle.knowledge.specs.Through.{clear-writes, clear-stays}
-use Rattle.words.specs.History.{Ask, held, takeReject, isMarked, nextRequest, pickPiece, beginsWith, Send, serve, bitfield, ask, send, Call, take, loadLayer, judgeBlock, judgePiece, clear, reopen, look, withCount, withHash, withRequest, withPiece, asked, sendReply, answer, after, sentTo, Opening, SameStore, save, load, repair}
+use Rattle.words.specs.History.{Ask, held, takeReject, isMarked, nextRequest, pickPiece, theFacts, beginsWith, Send, serve, bitfield, ask, send, Call, take, loadLayer, judgeBlock, judgePiece, clear, reopen, look, withCount, withHash, withRequest, withPiece, withFacts, asked, sendReply, answer, after, sentTo, Opening, SameStore, save, load, repair}
 use Rattle.knowledge.specs.AskingApart.{next-behind, pick-behind}
 use Rattle.knowledge.specs.BytesLeft.{SameCells}
 use Rattle.knowledge.specs.Grows.{Grown, grown-take, grown-layer}
@@ -113,6 +115,7 @@ module _ (s t : List ℕ) (S : SameStore s t) where
   asked-alike (nextRequest l) = ap (λ (r : Request). withRequest r) (next-behind s t S l)
   asked-alike (pickPiece counts) = ap (λ (c : Choice). withPiece c) (pick-behind s t S counts)
   asked-alike (beginsWith n root block o b) = ap (λ (a : Answer). withCount a) (extends-alike s t (facts-usable t (used-facts s t facts (S .bytes)) ∙ sym (S .store)) (used-same s t facts (S .bytes) .file) (used-answer s t facts (S .bytes)) n root block)
+  asked-alike theFacts = ap (λ (r : FactsRead). withFacts r) (facts-same s t (S .store) usable-there (used-same s t facts (S .bytes)))
 
   -- and sends the same
   send-alike : (k : Send) (out : List ℕ) → (sendReply k t out ≡ sendReply k s out) × (sentTo k t out ≡ sentTo k s out)

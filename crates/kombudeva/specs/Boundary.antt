@@ -2,11 +2,13 @@
 -- Assumes nothing.
 use Rattle.numbers.specs.declared.Answer.{Answer}
 use Rattle.sha256.specs.declared.Hashed.{Hashed}
+use Rattle.facts.specs.declared.FactsRead.{FactsRead}
 use Rattle.torrent.specs.declared.read.Torrent.{Torrent}
 use Rattle.torrent.specs.declared.read.FileRead.{FileRead}
 use Rattle.torrent.specs.declared.read.PartRead.{PartRead}
 use Rattle.kombudeva.specs.declared.CountAnswer.{CountAnswer}
 use Rattle.kombudeva.specs.declared.HashAnswer.{HashAnswer}
+use Rattle.kombudeva.specs.declared.FactsAnswer.{FactsAnswer}
 use Rattle.kombudeva.specs.declared.TorrentAnswer.{TorrentAnswer}
 use Rattle.kombudeva.specs.declared.FileAnswer.{FileAnswer}
 use Rattle.kombudeva.specs.declared.PartAnswer.{PartAnswer}
@@ -16,6 +18,9 @@ countAnswer r = record { number = r .number; count = r .count }
 
 unfoldable pub hashAnswer : Hashed → HashAnswer
 hashAnswer r = record { number = r .number; hash = record { bytes = r .hash } }
+
+unfoldable pub factsStruct : FactsRead → FactsAnswer
+factsStruct r = record { number = r .number; length = r .length; «piece_length» = r .plen; root = record { bytes = r .root } }
 
 unfoldable pub torrentAnswer : Torrent → TorrentAnswer
 torrentAnswer r = record { number = r .number; «info_hash» = record { bytes = r .hash }; «piece_length» = r .plen; files = r .files }

@@ -6,6 +6,7 @@ ghost use Rattle.sha256.specs.Answer.{hashedOf};
 ghost use Rattle.running.specs.Bursts as B;
 ghost use Rattle.history.specs.Answers as W;
 ghost use Rattle.store.specs.Store.{sizeAnswer, openAnswer, openAfter, heldAnswer};
+ghost use Rattle.facts.specs.Facts.{factsAnswer};
 ghost use Rattle.messages.specs.Take.{takeAnswer, takeAfter, rejectAnswer};
 ghost use Rattle.serve.specs.Serve.{serveAnswer, serveAfter};
 ghost use Rattle.marks.specs.Marks.{clearAnswer, clearAfter, markedAnswer, fieldAnswer, fieldAfter};
@@ -17,17 +18,21 @@ ghost use Rattle.saved.specs.Save.{saveAnswer, saveAfter};
 ghost use Rattle.saved.specs.Saved.{loadAnswer, loadAfter, repairAnswer, repairAfter};
 ghost use Rattle.torrent.specs.Torrent.{readOf, fileRead, pathRead};
 ghost use Rattle.catalogue.specs.Catalogue.{listAnswer, listAfter};
+ghost use Rattle.about.specs.About.{infoRead, nameRead};
+ghost use Rattle.places.specs.Places.{placeAnswer, firstAnswer};
 ghost use Rattle.writing.specs.Write.{writeAnswer, writeAfter};
 ghost use Rattle.frames.specs.Frames.{frameAnswer, frameAfter};
 ghost use Rattle.stream.specs.Reading.{between, hearAnswer, hearRoom};
-ghost use Rattle.kombudeva.specs.Boundary.{countAnswer, hashAnswer, torrentAnswer, fileAnswer, partAnswer};
+ghost use Rattle.kombudeva.specs.Boundary.{countAnswer, hashAnswer, factsStruct, torrentAnswer, fileAnswer, partAnswer};
 ghost use Rattle.kombudeva.specs.Version.{version};
 use asking::next::Request;
 use asking::pick::Choice;
+use facts::FactsRead;
 use history::History;
 use history::HistoryAnswer;
 use history::HistoryEnd;
 use numbers::Answer;
+use places::Placed;
 use running::Hashing;
 use running::HashingAnswer;
 use saved::repair::Repaired;
@@ -39,7 +44,7 @@ use torrent::read::PartRead;
 use torrent::read::Torrent;
 
 // KD_VERSION_NUMBER
-pub const VERSION: u32 = 13000;
+pub const VERSION: u32 = 14000;
 
 // kd_hash
 #[repr(C)]
@@ -59,6 +64,15 @@ pub struct CountAnswer {
 pub struct HashAnswer {
     pub number: u32,
     pub hash: Hash,
+}
+
+// kd_facts_answer
+#[repr(C)]
+pub struct FactsAnswer {
+    pub number: u32,
+    pub length: u64,
+    pub piece_length: u64,
+    pub root: Hash,
 }
 
 // kd_torrent
@@ -106,6 +120,19 @@ fn hash_answer(r: Hashed) -> HashAnswer
     HashAnswer {
         number: r.number,
         hash,
+    }
+}
+
+fn facts_answer(r: FactsRead) -> FactsAnswer
+    ensures { λ a. ⌜ a ≡ factsStruct r ⌝ }
+{
+    let bytes = r.root;
+    let root = Hash { bytes };
+    FactsAnswer {
+        number: r.number,
+        length: r.length as u64,
+        piece_length: r.plen as u64,
+        root,
     }
 }
 
@@ -216,6 +243,13 @@ pub extern "C" fn kd_open(s: &mut [u8], length: u64, piece_length: u64, root: Ha
 {
     let bytes = root.bytes;
     count_answer(store::open(s, length as usize, piece_length as usize, bytes))
+}
+
+#[no_mangle]
+pub extern "C" fn kd_facts(s: &[u8]) -> FactsAnswer
+    ensures { λ r. ⌜ r ≡ factsStruct (factsAnswer (now (s .entry))) ⌝ }
+{
+    facts_answer(facts::read_facts(s))
 }
 
 #[no_mangle]
@@ -358,6 +392,34 @@ pub extern "C" fn kd_torrent_list(torrent: &[u8], out: &mut [u8]) -> CountAnswer
     ensures { λ r. ⌜ (r ≡ countAnswer (listAnswer (now (torrent .entry)) (now (out .entry)))) × (now (out .exit) ≡ listAfter (now (torrent .entry)) (now (out .entry))) ⌝ }
 {
     count_answer(catalogue::list(torrent, out))
+}
+
+#[no_mangle]
+pub extern "C" fn kd_torrent_info(torrent: &[u8]) -> PartAnswer
+    ensures { λ r. ⌜ r ≡ partAnswer (infoRead (now (torrent .entry))) ⌝ }
+{
+    part_answer(about::read_info(torrent))
+}
+
+#[no_mangle]
+pub extern "C" fn kd_torrent_name(torrent: &[u8]) -> PartAnswer
+    ensures { λ r. ⌜ r ≡ partAnswer (nameRead (now (torrent .entry))) ⌝ }
+{
+    part_answer(about::read_name(torrent))
+}
+
+#[no_mangle]
+pub extern "C" fn kd_place(list: &[u8], piece_length: u64, piece: u64) -> Placed
+    ensures { λ r. ⌜ r ≡ placeAnswer (now (list .entry)) «piece_length» piece ⌝ }
+{
+    places::place(list, piece_length as usize, piece as usize)
+}
+
+#[no_mangle]
+pub extern "C" fn kd_first_piece(list: &[u8], piece_length: u64, file: u64) -> CountAnswer
+    ensures { λ r. ⌜ r ≡ countAnswer (firstAnswer (now (list .entry)) «piece_length» file) ⌝ }
+{
+    count_answer(places::first_piece(list, piece_length as usize, file as usize))
 }
 
 #[no_mangle]

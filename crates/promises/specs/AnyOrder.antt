@@ -24,7 +24,7 @@ pub same-messages-any-order : {M : MessageSet} {n plen plen′ : ℕ} {root s t 
     → Shown (heightOf s) (heldBy s) (heldBy t) ⊎ ((l i : ℕ) (v : List ℕ) → Holds s l i v ↔ Holds t l i v)
 same-messages-any-order = Rattle.knowledge.specs.AnyOrder.same-held
 
--- The same of gateways that began with stores of ours of one length and root that held the same (`GatewayFrom`):
+-- The same of gateways that began with an opening, a load or a repair, of one length and root, and held the same (`GatewayFrom`):
 pub same-messages-from : {M : MessageSet} {s t u v : List ℕ} → Begins s → Begins t → fileLength t ≡ fileLength s → factsRoot t ≡ factsRoot s
     → ((l i : ℕ) (x : List ℕ) → Holds s l i x ↔ Holds t l i x) → GatewayFrom M s u → GatewayFrom M t v
     → Shown (heightOf u) (heldBy u) (heldBy v) ⊎ ((l i : ℕ) (x : List ℕ) → Holds u l i x ↔ Holds v l i x)

@@ -13,11 +13,16 @@ use lib.Dec.{ltb}
 use borrow.Author.Tests.{lt-ltb, le-ltb, ltb-false}
 use Rattle.numbers.specs.Numbers.{done, refused, noMessage, otherRoot, ruleBroken, wrongSize, wrongPadding, noAnchor, differs, conflict, unusable, factsOutOfRange, noRoom, notHeld}
 use Rattle.limits.specs.Limits.{longestHashed}
+use Rattle.octets.specs.Octets.{Octets}
+use Rattle.numbers.specs.Chain.{exactly-of}
+use Rattle.words.specs.History.{Steps}
 use Rattle.sha256.specs.Sha256.{sha256}
 use Rattle.sha256.specs.Answer.{hashedOf}
 use Rattle.tree.specs.Geometry.{blockCount, height, Padding, blockSize, pieceSize, pieceCount}
 use Rattle.tree.specs.GeometryLaws.{padding-on}
 use Rattle.tree.specs.Values.{padValue}
+use Rattle.facts.specs.Facts.{factsAnswer}
+use Rattle.facts.specs.FactsLaws.{facts-given, factsChain, facts-tests}
 use Rattle.store.specs.Store.{usable, fileLength, pieceLength, factsRoot, blocksOf, heightOf, storeSize, sizeAnswer, openAnswer, openAfter, opened, heldAnswer}
 use Rattle.settling.specs.Path.{sibling}
 use Rattle.header.specs.Header.{requestId, rejectId, headerSize, headerOf, messageRoot, messageSize, Kept}
@@ -95,6 +100,20 @@ module _ (s : List ℕ) (n plen : ℕ) where
 
 pub usable-exactly : (s : List ℕ) → (usable s ≡ true) ↔ (InRange (fileLength s) (pieceLength s) × (storeSize (fileLength s) ≤ length s))
 usable-exactly = Rattle.knowledge.specs.RootAlone.usable-exactly
+
+-- ---- kd_facts: 9, and else the facts
+
+module _ (s : List ℕ) where
+  pub facts-9 : (factsAnswer s .number ≡ unusable) ↔ (usable s ≡ false)
+  facts-9 = exactly-of (factsChain s) unusable (facts-tests s) refl
+
+  pub facts-0 : usable s ≡ true → factsAnswer s ≡ record { number = 0; length = fileLength s; plen = pieceLength s; root = factsRoot s }
+  facts-0 = facts-given s
+
+-- what a store was opened with it names, whatever calls came since: "which file is this store about"
+pub facts-of-opening : (b : List ℕ) (n plen : ℕ) (root : List ℕ) → Octets 32 root → openAnswer b n plen .number ≡ 0 → {t : List ℕ} → Steps (openAfter b n plen root) t
+    → factsAnswer t ≡ record { number = 0; length = n; plen = plen; root = root }
+facts-of-opening b n plen root o z h = Rattle.knowledge.specs.FactsKept.facts-kept b n plen root (o .size) z h
 
 -- ---- kd_held: 9, 3, 6, 0 (docs/DECISIONS.md reads the table's rows so)
 

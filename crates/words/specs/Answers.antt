@@ -14,8 +14,9 @@ use Rattle.header.specs.Header.{headerSize}
 use Rattle.serve.specs.Serve.{replyTo, rejectTo, serveAnswer, serveAfter}
 use Rattle.asking.specs.Asking.{noRequest}
 use Rattle.asking.specs.Picking.{noPiece}
+use Rattle.facts.specs.Facts.{noFacts}
 use Rattle.words.specs.Messages.{Rejected}
-use Rattle.words.specs.History.{Send, serve, bitfield, Look, ask, send, Call, take, loadLayer, judgeBlock, judgePiece, clear, reopen, look, Reply, withCount, withHash, withRequest, withPiece, replyNumber, save, load, repair, withCounts}
+use Rattle.words.specs.History.{Send, serve, bitfield, Look, ask, send, Call, take, loadLayer, judgeBlock, judgePiece, clear, reopen, look, Reply, withCount, withHash, withRequest, withPiece, withFacts, replyNumber, save, load, repair, withCounts}
 
 -- with this number the call gets a reject: it is a request, and the number 2, 3 or 12
 abbrev pub SentReject : Send → ℕ → Type 0
@@ -38,13 +39,14 @@ GetsReject (load b x) n = ⊥
 GetsReject (repair b x) n = ⊥
 GetsReject (look k) n = LookRejected k n
 
--- all that stands beside the number is zero: a count or a size, a hash's 32 bytes, a request, a piece's number, the counts of a repair
+-- all that stands beside the number is zero: a count or a size, a hash's 32 bytes, a request, a piece's number, the counts of a repair, facts
 abbrev pub Zeros : Reply → Type 0
 Zeros (withCount a) = a .count ≡ 0
 Zeros (withHash h) = h .hash ≡ zeroHash
 Zeros (withRequest r) = r ≡ noRequest (r .number)
 Zeros (withPiece c) = c ≡ noPiece (c .number)
 Zeros (withCounts r) = (r .dropped ≡ 0) × (r .held ≡ 0)
+Zeros (withFacts f) = f ≡ noFacts (f .number)
 
 -- what stands beside a refusal: the reject's size beside a reject, else zeros
 pub data Beside : Call → Reply → Type 0 where

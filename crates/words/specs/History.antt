@@ -11,6 +11,8 @@ use Rattle.octets.specs.Octets.{Octets, cut}
 use Rattle.numbers.specs.declared.Answer.{Answer}
 use Rattle.sha256.specs.declared.Hashed.{Hashed}
 use Rattle.store.specs.Store.{fileLength, storeSize, usable, openAnswer, openAfter, heldAnswer}
+use Rattle.facts.specs.declared.FactsRead.{FactsRead}
+use Rattle.facts.specs.Facts.{factsAnswer}
 use Rattle.messages.specs.Take.{takeAnswer, takeAfter, rejectAnswer}
 use Rattle.serve.specs.Serve.{serveAnswer, serveAfter}
 use Rattle.pieces.specs.Pieces.{layerAnswer, layerAfter, blockAnswer, blockAfter, pieceAnswer, pieceAfter}
@@ -43,6 +45,8 @@ pub data Ask : Type 0 where
   pickPiece : (counts : List ℕ) → Ask
   -- kd_extends: an earlier file's length and pieces root, and the block over its end
   beginsWith : (n : ℕ) (root block : List ℕ) → Octets 32 root → Bytes block → Ask
+  -- kd_facts
+  theFacts : Ask
 
 -- calls that only look at a store, and fill an output apart from it
 pub data Send : Type 0 where
@@ -77,13 +81,15 @@ pub data Call : Type 0 where
   -- one that only looks
   look : Look → Call
 
--- what a call answers: a number with a count or a size, with a hash, with a request, with a piece's number, with the two counts of a repair
+-- what a call answers: a number with a count or a size, with a hash, with a request, with a piece's number, with the two counts of a repair,
+-- with a store's facts
 pub data Reply : Type 0 where
   withCount : Answer → Reply
   withHash : Hashed → Reply
   withRequest : Request → Reply
   withPiece : Choice → Reply
   withCounts : Repaired → Reply
+  withFacts : FactsRead → Reply
 
 abbrev pub replyNumber : Reply → ℕ
 replyNumber (withCount a) = a .number
@@ -91,6 +97,7 @@ replyNumber (withHash h) = h .number
 replyNumber (withRequest r) = r .number
 replyNumber (withPiece c) = c .number
 replyNumber (withCounts r) = r .number
+replyNumber (withFacts f) = f .number
 
 -- what a call answers that takes the bytes s as its store
 abbrev pub asked : Ask → List ℕ → Reply
@@ -100,6 +107,7 @@ asked (isMarked i) s = withCount (markedAnswer s i)
 asked (nextRequest l) s = withRequest (nextAnswer s l)
 asked (pickPiece counts) s = withPiece (pickAnswer s counts)
 asked (beginsWith n root block o b) s = withCount (extendsAnswer s n root block)
+asked theFacts s = withFacts (factsAnswer s)
 
 abbrev pub sendReply : Send → List ℕ → List ℕ → Reply
 sendReply (serve m b) s out = withCount (serveAnswer s m out)

@@ -15,7 +15,7 @@ use Rattle.marks.specs.Marks.{marksStart}
 use Rattle.pieces.specs.Pieces.{pieceHeight}
 use Rattle.words.specs.Held.{Holds}
 use Rattle.words.specs.Pieces.{BlockFormed, PieceFormed, PieceSettles}
-use Rattle.words.specs.History.{Bytes, Ask, held, takeReject, isMarked, nextRequest, pickPiece, beginsWith, Send, serve, bitfield, Look, ask, send, Call, take, loadLayer, judgeBlock, judgePiece, clear, reopen, look, number, after, Opening, SameStore, call, lent, Steps, next, save, load, repair, begin}
+use Rattle.words.specs.History.{Bytes, Ask, held, takeReject, isMarked, nextRequest, pickPiece, theFacts, beginsWith, Send, serve, bitfield, Look, ask, send, Call, take, loadLayer, judgeBlock, judgePiece, clear, reopen, look, number, after, Opening, SameStore, call, lent, Steps, next, save, load, repair, begin}
 
 -- block j is one of the file's, and its first byte lies in piece i
 pub record Covers (s : List ℕ) (i j : ℕ) : Type 0 where
@@ -38,7 +38,7 @@ pub record SameButMarks (s t : List ℕ) : Type 0 where
   pub room : storeSize (fileLength s) ≤ length t
   pub bytes : cut t 0 (marksStart s) ≡ cut s 0 (marksStart s)
 
--- a call about hashes: all but those about marks, a save, which has the marks in it, and an opening, loading and repairing included
+-- a call about hashes or facts: all but those about marks, a save, which has the marks in it, and an opening, loading and repairing included
 abbrev pub AsksHashes : Ask → Type 0
 AsksHashes (held l i) = Unit {0}
 AsksHashes (takeReject m b) = Unit {0}
@@ -46,6 +46,7 @@ AsksHashes (isMarked i) = ⊥
 AsksHashes (nextRequest l) = Unit {0}
 AsksHashes (pickPiece counts) = ⊥
 AsksHashes (beginsWith n root block o b) = Unit {0}
+AsksHashes theFacts = Unit {0}
 
 abbrev pub SendsHashes : Send → Type 0
 SendsHashes (serve m b) = Unit {0}

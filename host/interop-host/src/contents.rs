@@ -1,10 +1,11 @@
 //! What the host has from a torrent, read by the library.
 
 use kombudeva::limits::BLOCK;
-use kombudeva::{store_size, Hash, Store, Torrent};
-use reference::bencode;
-use std::ops::Range;
+use kombudeva::{first_piece, store_size, Hash, Store, Torrent};
 use std::path::PathBuf;
+
+/// A store in memory that it borrows.
+pub type Lent<'m> = Store<&'m mut [u8]>;
 
 pub struct Contents<'a> {
     pub info_hash: Hash,
@@ -24,14 +25,10 @@ pub struct File<'a> {
 }
 
 impl<'a> Contents<'a> {
-    pub fn read(torrent: &'a [u8]) -> Contents<'a> {
-        let (info_hash, mut files) = read(torrent);
-        let mut pieces = 0;
-        for file in &mut files {
-            file.first_piece = pieces;
-            pieces += file.pieces();
-        }
-        Contents { info_hash, info: &torrent[info_part(torrent)], files }
+    pub fn read(bytes: &'a [u8]) -> Contents<'a> {
+        let torrent = Torrent::read(bytes).expect("a good torrent");
+        let info = torrent.info().expect("a good torrent");
+        Contents { info_hash: torrent.info_hash, info, files: files(&torrent) }
     }
 
     pub fn pieces(&self) -> u64 {
@@ -59,31 +56,26 @@ impl File<'_> {
     }
 
     /// Opens a store for this file in `memory`.
-    pub fn open<'m>(&self, memory: &'m mut Vec<u8>) -> Store<&'m mut [u8]> {
+    pub fn open<'m>(&self, memory: &'m mut Vec<u8>) -> Lent<'m> {
         memory.resize(store_size(self.length, self.piece_length).expect("facts of a good torrent"), 0);
         Store::open(&mut memory[..], self.length, self.piece_length, self.root).expect("room of the store's size")
     }
 }
 
-/// The info hash, and the files without the numbers of their pieces.
-fn read(bytes: &[u8]) -> (Hash, Vec<File<'_>>) {
-    let torrent = Torrent::read(bytes).expect("a good torrent");
+fn files<'a>(torrent: &Torrent<'a>) -> Vec<File<'a>> {
+    let mut list = vec![0; torrent.list_size()];
+    torrent.list(&mut list).expect("room for the list");
+    let piece_length = torrent.piece_length;
     let file = |number| {
         let file = torrent.file(number).expect("a file of the torrent");
         let elements = (0..file.elements).map(|element| torrent.path(number, element).expect("an element"));
         let path = elements.map(text).collect();
-        let piece_length = torrent.piece_length;
-        File { length: file.length, root: file.root, path, layer: file.layer, first_piece: 0, piece_length }
+        let first_piece = first_piece(&list, piece_length, number).expect("a file of the list");
+        File { length: file.length, root: file.root, path, layer: file.layer, first_piece, piece_length }
     };
-    (torrent.info_hash, (0..torrent.files).map(file).collect())
+    (0..torrent.files).map(file).collect()
 }
 
 fn text(element: &[u8]) -> &str {
     std::str::from_utf8(element).expect("paths here are text")
-}
-
-/// Where the value of `info` stands. The library answers its hash, not its place.
-fn info_part(torrent: &[u8]) -> Range<usize> {
-    let whole = bencode::read(torrent).expect("a good torrent");
-    bencode::find(torrent, whole.dictionary().unwrap(), b"info").unwrap().part.clone()
 }

@@ -3,7 +3,7 @@
 //! next, to the last leaf, and fetches the pieces that the library picks, to the last one, and judges them. On the way it is restarted: the store
 //! is saved, loaded into fresh memory, and the host goes on with that.
 
-use crate::contents::{Contents, File};
+use crate::contents::{Contents, File, Lent};
 use crate::peer::{of_words, word, Peer};
 use kombudeva::ids::{HASHES, HASH_REJECT, HASH_REQUEST, INTERESTED, PIECE, REQUEST, UNCHOKE};
 use kombudeva::limits::{BLOCK, LARGEST_REPLY, LONGEST_RUN};
@@ -124,7 +124,7 @@ fn ask(peer: &mut Peer, request: &[u8]) -> io::Result<Vec<u8>> {
     Ok(reply)
 }
 
-fn learn_hashes(peer: &mut Peer, file: &File, store: &mut Store<&mut [u8]>, counts: &mut Counts) -> io::Result<()> {
+fn learn_hashes(peer: &mut Peer, file: &File, store: &mut Lent<'_>, counts: &mut Counts) -> io::Result<()> {
     let (mut replies, mut early) = (Vec::new(), Vec::new());
     for request in requests(file) {
         let reply = ask(peer, &request)?;
@@ -222,7 +222,7 @@ fn hand_on<M: AsRef<[u8]>>(file: &File, source: &Store<M>) {
 }
 
 /// Offers a true reply, and damaged ones before and after it.
-fn offer(store: &mut Store<&mut [u8]>, reply: &[u8], counts: &mut Counts) -> Result<u64, Refusal> {
+fn offer(store: &mut Lent<'_>, reply: &[u8], counts: &mut Counts) -> Result<u64, Refusal> {
     offer_damaged(store, reply, counts);
     let answer = store.take(reply);
     match answer {
@@ -236,7 +236,7 @@ fn offer(store: &mut Store<&mut [u8]>, reply: &[u8], counts: &mut Counts) -> Res
 }
 
 /// Offers a reply damaged in one way after the other. Each is refused by its own number, and no byte changes.
-fn offer_damaged(store: &mut Store<&mut [u8]>, reply: &[u8], counts: &mut Counts) {
+fn offer_damaged(store: &mut Lent<'_>, reply: &[u8], counts: &mut Counts) {
     let damaged = |change: fn(&mut Vec<u8>)| {
         let mut message = reply.to_vec();
         change(&mut message);

@@ -1,11 +1,10 @@
 //! The host as the one peer of a client that knows a magnet link only: metadata from the torrent, piece layers from
 //! stores through the library, blocks from the files.
 
-use crate::contents::{Contents, File};
+use crate::contents::{Contents, File, Lent};
 use crate::peer::{word, Peer};
 use kombudeva::ids::{BITFIELD, EXTENDED, HASH_REQUEST, PIECE, REQUEST, UNCHOKE};
 use kombudeva::limits::LARGEST_REPLY;
-use kombudeva::Store;
 use reference::bencode;
 use std::net::TcpListener;
 use std::path::Path;
@@ -19,7 +18,7 @@ const METADATA_PART: usize = 16384;
 struct Shared<'a> {
     file: &'a File<'a>,
     bytes: Vec<u8>,
-    store: Store<&'a mut [u8]>,
+    store: Lent<'a>,
 }
 
 #[derive(Default)]

@@ -7,8 +7,8 @@
 pub mod raw;
 
 pub use raw::{
-    Answer, Choice, File, Hash, Hashed, Hashing, HashingAnswer, Heard, History, HistoryAnswer, HistoryEnd, Part,
-    Repaired, Request, Stream, Torrent, NODES,
+    Answer, Choice, Facts, File, Hash, Hashed, Hashing, HashingAnswer, Heard, History, HistoryAnswer, HistoryEnd, Part,
+    Placed, Repaired, Request, Stream, Torrent, NODES,
 };
 
 pub fn version() -> u32 {
@@ -49,6 +49,10 @@ pub fn store_size(length: u64, piece_length: u64) -> Answer {
 
 pub fn open(store: &mut [u8], length: u64, piece_length: u64, root: Hash) -> Answer {
     unsafe { raw::kd_open(store.as_mut_ptr(), store.len(), length, piece_length, root) }
+}
+
+pub fn facts(store: &[u8]) -> Facts {
+    unsafe { raw::kd_facts(store.as_ptr(), store.len()) }
 }
 
 pub fn held(store: &[u8], layer: u64, index: u64) -> Hashed {
@@ -129,6 +133,22 @@ pub fn torrent_path(torrent: &[u8], file: u64, element: u64) -> Part {
 
 pub fn torrent_list(torrent: &[u8], out: &mut [u8]) -> Answer {
     unsafe { raw::kd_torrent_list(torrent.as_ptr(), torrent.len(), out.as_mut_ptr(), out.len()) }
+}
+
+pub fn torrent_info(torrent: &[u8]) -> Part {
+    unsafe { raw::kd_torrent_info(torrent.as_ptr(), torrent.len()) }
+}
+
+pub fn torrent_name(torrent: &[u8]) -> Part {
+    unsafe { raw::kd_torrent_name(torrent.as_ptr(), torrent.len()) }
+}
+
+pub fn place(list: &[u8], piece_length: u64, piece: u64) -> Placed {
+    unsafe { raw::kd_place(list.as_ptr(), list.len(), piece_length, piece) }
+}
+
+pub fn first_piece(list: &[u8], piece_length: u64, file: u64) -> Answer {
+    unsafe { raw::kd_first_piece(list.as_ptr(), list.len(), piece_length, file) }
 }
 
 pub fn torrent_write(list: &[u8], text: &[u8], piece_length: u64, name: &[u8], out: &mut [u8]) -> Answer {

@@ -141,6 +141,23 @@ pub struct Repaired {
     pub held: u64,
 }
 
+#[repr(C)]
+#[derive(Clone, Copy, Debug, PartialEq, Eq)]
+pub struct Facts {
+    pub number: u32,
+    pub length: u64,
+    pub piece_length: u64,
+    pub root: Hash,
+}
+
+#[repr(C)]
+#[derive(Clone, Copy, Debug, PartialEq, Eq)]
+pub struct Placed {
+    pub number: u32,
+    pub file: u64,
+    pub piece: u64,
+}
+
 // The same sizes and offsets that the C test asserts of the header.
 const _: () = {
     assert!(size_of::<Hash>() == 32);
@@ -168,6 +185,9 @@ const _: () = {
     assert!(offset_of!(Request, proof) == 20 && offset_of!(Request, message) == 24);
     assert!(size_of::<Choice>() == 16 && offset_of!(Choice, found) == 4 && offset_of!(Choice, piece) == 8);
     assert!(size_of::<Repaired>() == 24 && offset_of!(Repaired, dropped) == 8 && offset_of!(Repaired, held) == 16);
+    assert!(size_of::<Facts>() == 56 && offset_of!(Facts, length) == 8 && offset_of!(Facts, piece_length) == 16);
+    assert!(offset_of!(Facts, root) == 24);
+    assert!(size_of::<Placed>() == 24 && offset_of!(Placed, file) == 8 && offset_of!(Placed, piece) == 16);
     assert!(size_of::<Part>() == 24 && offset_of!(Part, start) == 8 && offset_of!(Part, size) == 16);
 };
 
@@ -188,6 +208,7 @@ extern "C" {
     pub fn kd_history_end(state: History, layer: *mut u8, layer_size: usize) -> HistoryEnd;
     pub fn kd_store_size(length: u64, piece_length: u64) -> Answer;
     pub fn kd_open(store: *mut u8, size: usize, length: u64, piece_length: u64, root: Hash) -> Answer;
+    pub fn kd_facts(store: *const u8, size: usize) -> Facts;
     pub fn kd_held(store: *const u8, size: usize, layer: u64, index: u64) -> Hashed;
     pub fn kd_take(store: *mut u8, size: usize, message: *const u8, message_size: usize) -> Answer;
     pub fn kd_take_reject(store: *const u8, size: usize, message: *const u8, message_size: usize) -> Answer;
@@ -222,6 +243,10 @@ extern "C" {
     pub fn kd_torrent_file(torrent: *const u8, size: usize, file: u64) -> File;
     pub fn kd_torrent_path(torrent: *const u8, size: usize, file: u64, element: u64) -> Part;
     pub fn kd_torrent_list(torrent: *const u8, size: usize, out: *mut u8, out_size: usize) -> Answer;
+    pub fn kd_torrent_info(torrent: *const u8, size: usize) -> Part;
+    pub fn kd_torrent_name(torrent: *const u8, size: usize) -> Part;
+    pub fn kd_place(list: *const u8, list_size: usize, piece_length: u64, piece: u64) -> Placed;
+    pub fn kd_first_piece(list: *const u8, list_size: usize, piece_length: u64, file: u64) -> Answer;
     pub fn kd_torrent_write(
         list: *const u8,
         list_size: usize,

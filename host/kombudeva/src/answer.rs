@@ -54,8 +54,8 @@ pub enum Refusal {
     LayersAmiss,
     /// 28: a layer doesn't give its root
     LayerDiffers,
-    /// 29: no file or path element of that number
-    NoSuchFile,
+    /// 29: no file, path element or piece of that number; no string `name` in `info`
+    NoSuchPart,
     /// 30: a frame, or a message to be framed, of more than 300,000 bytes
     FrameTooLong,
     /// 32: bytes that are no saved store
@@ -116,7 +116,7 @@ refusals! {
     26 TwoLengths "two files with the same root and different lengths";
     27 LayersAmiss "piece layers that are not those of the files";
     28 LayerDiffers "a piece layer that does not give its root";
-    29 NoSuchFile "no such file or path element";
+    29 NoSuchPart "no such file, path element, name or piece";
     30 FrameTooLong "a frame that is too long";
     32 NotSaved "not a saved store";
 }

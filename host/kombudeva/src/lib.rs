@@ -25,7 +25,7 @@
 //! # Features
 //!
 //! `std`, on by default, is for [`io::Write`](std::io::Write) and [`io::Error`](std::io::Error). Without it the crate is `no_std`
-//! with `alloc`, which [`TorrentBuilder`] alone needs.
+//! with `alloc`, which [`TorrentBuilder`] and [`History::kept`] alone need.
 //!
 //! # Panics
 //!
@@ -50,9 +50,9 @@ mod writing;
 
 pub use answer::Refusal;
 pub use running::{Hashing, History, Logged};
-pub use store::{store_size, Repaired, Request, Served, Store};
+pub use store::{store_size, Facts, Repaired, Request, Served, Store};
 pub use stream::{frame, Heard, Hearing, Stream};
-pub use torrent::{File, List, Listed, Torrent};
+pub use torrent::{first_piece, place, File, List, Listed, Placed, Torrent};
 pub use writing::TorrentBuilder;
 
 use answer::answer;

@@ -2,6 +2,7 @@
 
 use crate::answer::answer;
 use crate::{Hash, Refusal};
+use alloc::vec::Vec;
 
 /// SHA-256 of bytes that come in bursts. It may be copied, asked in between, and gone on with. With feature `std` it is an
 /// [`io::Write`](std::io::Write) too.
@@ -109,6 +110,41 @@ impl<'a> History<'a> {
     pub fn begin(piece_length: u64, layer: &'a mut [u8]) -> Result<History<'a>, Refusal> {
         let given = boundary::history_begin(piece_length);
         answer(given.number, History { state: given.state, layer })
+    }
+
+    /// The state, to be kept over a restart beside the layer's bytes: piece length and N (8 bytes each, big-endian), the block's eight words (4
+    /// each), its tail (64), tail size and total (8 each), then the nodes.
+    #[must_use]
+    pub fn kept(&self) -> Vec<u8> {
+        let boundary::History { piece_length, length, block, nodes } = self.state;
+        let mut bytes = [piece_length, length].map(u64::to_be_bytes).concat();
+        bytes.extend(block.words.map(u32::to_be_bytes).concat());
+        bytes.extend(block.tail);
+        bytes.extend([block.tail_size, block.total].map(u64::to_be_bytes).concat());
+        bytes.extend(nodes);
+        bytes
+    }
+
+    /// A history that was kept, with its layer as it was then; `None` for bytes of another size. Bytes that no history left are refused with
+    /// [`Unusable`](Refusal::Unusable) by the calls that go on from them.
+    #[must_use]
+    pub fn taken_up(kept: &[u8], layer: &'a mut [u8]) -> Option<History<'a>> {
+        fn front<const N: usize>(bytes: &mut &[u8]) -> Option<[u8; N]> {
+            let (first, rest) = bytes.split_first_chunk::<N>()?;
+            *bytes = rest;
+            Some(*first)
+        }
+        let bytes = &mut &kept[..];
+        let number = |bytes: &mut &[u8]| front(bytes).map(u64::from_be_bytes);
+        let (piece_length, length) = (number(bytes)?, number(bytes)?);
+        let mut words = [0; 8];
+        for word in &mut words {
+            *word = u32::from_be_bytes(front(bytes)?);
+        }
+        let (tail, tail_size, total) = (front(bytes)?, number(bytes)?, number(bytes)?);
+        let block = boundary::Hashing { words, tail, tail_size, total };
+        let nodes = front(bytes)?;
+        bytes.is_empty().then_some(History { state: boundary::History { piece_length, length, block, nodes }, layer })
     }
 
     /// Takes a burst. A piece's hash is written once the history runs past the piece.

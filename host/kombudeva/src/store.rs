@@ -69,6 +69,17 @@ pub struct Request {
     pub message: [u8; 49],
 }
 
+/// What a store is about, as it was opened.
+#[derive(Clone, Copy, Debug, PartialEq, Eq)]
+pub struct Facts {
+    /// The file's length.
+    pub length: u64,
+    /// The piece length.
+    pub piece_length: u64,
+    /// The pieces root.
+    pub root: Hash,
+}
+
 /// What a repair made of saved bytes.
 #[derive(Clone, Copy, Debug, PartialEq, Eq)]
 pub struct Repaired {
@@ -96,6 +107,16 @@ impl<M: AsRef<[u8]>> Store<M> {
     #[must_use]
     pub fn into_memory(self) -> M {
         self.memory
+    }
+
+    /// The facts that the store was opened with. Any usable memory is a store of some file: ask which, of one that was found.
+    ///
+    /// # Errors
+    ///
+    /// [`Unusable`](Refusal::Unusable).
+    pub fn facts(&self) -> Result<Facts, Refusal> {
+        let boundary::Facts { number, length, piece_length, root } = boundary::facts(self.bytes());
+        answer(number, Facts { length, piece_length, root: root.bytes })
     }
 
     /// The hash held at a position. Layer 0 has the blocks.

@@ -77,7 +77,7 @@ impl<'a> Torrent<'a> {
     ///
     /// # Errors
     ///
-    /// [`NoSuchFile`](Refusal::NoSuchFile).
+    /// [`NoSuchPart`](Refusal::NoSuchPart).
     pub fn file(&self, file: u64) -> Result<File<'a>, Refusal> {
         let given = boundary::torrent_file(self.bytes, file);
         let layer = self.part(given.layer_start, given.layer_size);
@@ -88,9 +88,29 @@ impl<'a> Torrent<'a> {
     ///
     /// # Errors
     ///
-    /// [`NoSuchFile`](Refusal::NoSuchFile): no such file, or no such element.
+    /// [`NoSuchPart`](Refusal::NoSuchPart): no such file, or no such element.
     pub fn path(&self, file: u64, element: u64) -> Result<&'a [u8], Refusal> {
         let given = boundary::torrent_path(self.bytes, file, element);
+        answer(given.number, self.part(given.start, given.size))
+    }
+
+    /// The encoded value of `info`, which the info hash is of, as the metadata exchange serves it.
+    ///
+    /// # Errors
+    ///
+    /// None, of bytes that [`Torrent::read`] took.
+    pub fn info(&self) -> Result<&'a [u8], Refusal> {
+        let given = boundary::torrent_info(self.bytes);
+        answer(given.number, self.part(given.start, given.size))
+    }
+
+    /// The string `name` in `info`: any bytes, no rule for path elements has been asked of it.
+    ///
+    /// # Errors
+    ///
+    /// [`NoSuchPart`](Refusal::NoSuchPart) if there is none.
+    pub fn name(&self) -> Result<&'a [u8], Refusal> {
+        let given = boundary::torrent_name(self.bytes);
         answer(given.number, self.part(given.start, given.size))
     }
 
@@ -115,6 +135,36 @@ impl<'a> Torrent<'a> {
     fn part(&self, start: u64, size: u64) -> &'a [u8] {
         part_of(self.bytes, start, size)
     }
+}
+
+/// A piece of a file, both counted from 0.
+#[derive(Clone, Copy, Debug, PartialEq, Eq)]
+pub struct Placed {
+    /// The file's number.
+    pub file: u64,
+    /// The piece's number in it.
+    pub piece: u64,
+}
+
+/// Where a piece of the wire stands, by the memory that [`Torrent::list`] has written to. The wire counts pieces file by file.
+///
+/// # Errors
+///
+/// In this order: [`WrongSize`](Refusal::WrongSize) for bytes that are no list,
+/// [`PieceLengthOutOfRange`](Refusal::PieceLengthOutOfRange), [`NoSuchPart`](Refusal::NoSuchPart) past the last piece.
+pub fn place(list: &[u8], piece_length: u64, piece: u64) -> Result<Placed, Refusal> {
+    let given = boundary::place(list, piece_length, piece);
+    answer(given.number, Placed { file: given.file, piece: given.piece })
+}
+
+/// The number on the wire of a file's first piece; an empty file has that of the next file.
+///
+/// # Errors
+///
+/// As [`place`]; [`NoSuchPart`](Refusal::NoSuchPart) for no such file.
+pub fn first_piece(list: &[u8], piece_length: u64, file: u64) -> Result<u64, Refusal> {
+    let given = boundary::first_piece(list, piece_length, file);
+    answer(given.number, given.count)
 }
 
 fn part_of(torrent: &[u8], start: u64, size: u64) -> &[u8] {

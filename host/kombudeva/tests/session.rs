@@ -271,8 +271,8 @@ fn a_torrent() {
     assert_eq!((voltage.length, voltage.elements, voltage.layer.len()), (100_000, 3, 4 * 32));
     assert_eq!(torrent.path(0, 2), Ok(&b"voltage"[..]));
     assert_eq!(torrent.path(4, 1), Ok(&b"\xff\xfe"[..]));
-    assert_eq!(torrent.path(0, 3), Err(Refusal::NoSuchFile));
-    assert_eq!(torrent.file(6), Err(Refusal::NoSuchFile));
+    assert_eq!(torrent.path(0, 3), Err(Refusal::NoSuchPart));
+    assert_eq!(torrent.file(6), Err(Refusal::NoSuchPart));
     assert_eq!(Torrent::read(&SEVERAL[1..]), Err(Refusal::NotStrict));
 }
 

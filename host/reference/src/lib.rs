@@ -11,6 +11,7 @@ pub mod asking;
 pub mod bencode;
 pub mod extends;
 pub mod history;
+pub mod hosts;
 pub mod ids;
 pub mod limits;
 pub mod marks;

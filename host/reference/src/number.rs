@@ -23,6 +23,6 @@ pub const WRONG_TREE: u32 = 25;
 pub const TWO_LENGTHS: u32 = 26;
 pub const LAYERS_AMISS: u32 = 27;
 pub const LAYER_DIFFERS: u32 = 28;
-pub const NO_SUCH_FILE: u32 = 29;
+pub const NO_SUCH_PART: u32 = 29;
 pub const FRAME_TOO_LONG: u32 = 30;
 pub const NOT_SAVED: u32 = 32;

@@ -71,7 +71,8 @@ pub fn judge_piece(store: &mut [u8], piece: u64, data: &[u8]) -> Answer {
     answer(judged.map(|facts| mark(store, &facts, facts.blocks_of_piece(piece))))
 }
 
-fn piece_judged(store: &[u8], piece: u64, data: &[u8]) -> Result<Facts, u32> {
+/// The facts of a store against which a piece is right, or the number it is refused with.
+pub fn piece_judged(store: &[u8], piece: u64, data: &[u8]) -> Result<Facts, u32> {
     let facts = facts_of(store).ok_or(UNUSABLE)?;
     let size = facts.piece_size(piece).ok_or(RULE_BROKEN)?;
     if data.len() as u64 != size {

@@ -240,7 +240,7 @@ pub fn torrent_file(torrent: &[u8], file: u64) -> File {
 
 /// What `torrent_file` answers for a torrent with these contents.
 pub fn file_in(all: &Contents, file: u64) -> File {
-    usize::try_from(file).ok().and_then(|file| all.files.get(file)).map_or(File::refused(NO_SUCH_FILE), File::of)
+    usize::try_from(file).ok().and_then(|file| all.files.get(file)).map_or(File::refused(NO_SUCH_PART), File::of)
 }
 
 /// Path element number `element` of file number `file`.
@@ -252,7 +252,7 @@ pub fn torrent_path(torrent: &[u8], file: u64, element: u64) -> Part {
 pub fn path_in(all: &Contents, file: u64, element: u64) -> Part {
     let found = usize::try_from(file).ok().and_then(|file| all.files.get(file));
     let found = found.and_then(|file| file.path.get(usize::try_from(element).ok()?));
-    found.map_or(Part::refused(NO_SUCH_FILE), |part| Part {
+    found.map_or(Part::refused(NO_SUCH_PART), |part| Part {
         number: DONE,
         start: part.start as u64,
         size: part.len() as u64,
@@ -365,9 +365,9 @@ mod tests {
             [part(0, 0), part(0, 1), part(1, 0)],
             [(0, b"a".to_vec()), (0, b"b".to_vec()), (0, b"a.txt".to_vec())]
         );
-        assert_eq!([part(0, 2).0, part(3, 0).0, part(u64::MAX, 0).0], [NO_SUCH_FILE; 3]);
+        assert_eq!([part(0, 2).0, part(3, 0).0, part(u64::MAX, 0).0], [NO_SUCH_PART; 3]);
         assert_eq!(torrent_file(&bytes, 1).root, [0; 32]);
-        assert_eq!(torrent_file(&bytes, 3), File::refused(NO_SUCH_FILE));
+        assert_eq!(torrent_file(&bytes, 3), File::refused(NO_SUCH_PART));
         assert_eq!(torrent_file(b"de", 99).number, KEY_MISSING);
     }
 

@@ -6,6 +6,7 @@ use crate::states::{
 };
 use reference::asking::{self, Choice, Request};
 use reference::history::{End, History};
+use reference::hosts::{self, Named, Placed};
 use reference::running::Hashing;
 use reference::saved::{self, Repaired};
 use reference::sha256::{sha256, Hash};
@@ -25,6 +26,7 @@ pub enum Entry {
     HistoryEnd,
     StoreSize,
     Open,
+    Facts,
     Held,
     Take,
     TakeReject,
@@ -45,6 +47,10 @@ pub enum Entry {
     TorrentFile,
     TorrentPath,
     TorrentList,
+    TorrentInfo,
+    TorrentName,
+    Place,
+    FirstPiece,
     TorrentWrite,
     StreamBegin,
     StreamHear,
@@ -63,6 +69,7 @@ impl Entry {
             Entry::HistoryEnd => "kd_history_end",
             Entry::StoreSize => "kd_store_size",
             Entry::Open => "kd_open",
+            Entry::Facts => "kd_facts",
             Entry::Held => "kd_held",
             Entry::Take => "kd_take",
             Entry::TakeReject => "kd_take_reject",
@@ -83,6 +90,10 @@ impl Entry {
             Entry::TorrentFile => "kd_torrent_file",
             Entry::TorrentPath => "kd_torrent_path",
             Entry::TorrentList => "kd_torrent_list",
+            Entry::TorrentInfo => "kd_torrent_info",
+            Entry::TorrentName => "kd_torrent_name",
+            Entry::Place => "kd_place",
+            Entry::FirstPiece => "kd_first_piece",
             Entry::TorrentWrite => "kd_torrent_write",
             Entry::StreamBegin => "kd_stream_begin",
             Entry::StreamHear => "kd_stream_hear",
@@ -97,7 +108,7 @@ pub struct Call {
     pub entry: Entry,
     /// The store, or the bytes of a state: any bytes are one. Or the list of files that a torrent is written of.
     pub store: Vec<u8>,
-    /// The message, layer, block, piece, torrent, string, burst, save or bytes of a stream; or the text that such a list points into; or
+    /// The message, layer, block, piece, torrent, its list, string, burst, save or bytes of a stream; or the text that such a list points into; or
     /// counts of pieces, four bytes each.
     pub input: Vec<u8>,
     /// The output, the layer lent to a history, or the room lent to a stream.
@@ -147,6 +158,8 @@ pub enum Given {
     Request(Request),
     Choice(Choice),
     Repaired(Repaired),
+    Named(Named),
+    Placed(Placed),
     /// Beside a state, which is left in the call's store.
     State(u32),
     /// Number, event, used bytes and size of a call on a stream, whose state is left so too.
@@ -165,6 +178,8 @@ impl Given {
             Given::Request(request) => request.number,
             Given::Choice(choice) => choice.number,
             Given::Repaired(repaired) => repaired.number,
+            Given::Named(named) => named.number,
+            Given::Placed(placed) => placed.number,
             Given::State(number) | Given::Heard(number, ..) => *number,
         }
     }
@@ -208,6 +223,7 @@ pub fn by_reference(call: &Call) -> Outcome {
         Entry::HistoryEnd => Given::End(history_of(&store).end(&mut out)),
         Entry::StoreSize => Given::Answer(store::store_size(first, second)),
         Entry::Open => Given::Answer(store::open(&mut store, first, second, root)),
+        Entry::Facts => Given::Named(hosts::facts(&store)),
         Entry::Held => Given::Hashed(store::held(&store, first, second)),
         Entry::Take => Given::Answer(messages::take(&mut store, &input)),
         Entry::TakeReject => Given::Answer(messages::take_reject(&store, &input)),
@@ -228,6 +244,10 @@ pub fn by_reference(call: &Call) -> Outcome {
         Entry::TorrentFile => Given::File(torrent::torrent_file(&input, first)),
         Entry::TorrentPath => Given::Part(torrent::torrent_path(&input, first, second)),
         Entry::TorrentList => Given::Answer(torrent::torrent_list(&input, &mut out)),
+        Entry::TorrentInfo => Given::Part(hosts::torrent_info(&input)),
+        Entry::TorrentName => Given::Part(hosts::torrent_name(&input)),
+        Entry::Place => Given::Placed(hosts::place(&input, first, second)),
+        Entry::FirstPiece => Given::Answer(hosts::first_piece(&input, first, second)),
         Entry::TorrentWrite => Given::Answer(write::torrent_write(&store, &input, first, &name, &mut out)),
         Entry::StreamBegin => left(&mut store, 0, stream_bytes(&Stream::default())),
         Entry::StreamHear => {
@@ -313,6 +333,7 @@ pub fn by_library(call: &Call) -> Outcome {
         Entry::HistoryEnd => end_of(boundary::history_end(from_history(history_of(held_bytes)), room)),
         Entry::StoreSize => answer(boundary::store_size(first, second)),
         Entry::Open => answer(boundary::open(held_bytes, first, second, boundary::Hash { bytes: call.root })),
+        Entry::Facts => named_of(boundary::facts(held_bytes)),
         Entry::Held => hashed(boundary::held(held_bytes, first, second)),
         Entry::Take => answer(boundary::take(held_bytes, message)),
         Entry::TakeReject => answer(boundary::take_reject(held_bytes, message)),
@@ -339,6 +360,10 @@ pub fn by_library(call: &Call) -> Outcome {
         Entry::TorrentFile => file_of(boundary::torrent_file(message, first)),
         Entry::TorrentPath => part_of(boundary::torrent_path(message, first, second)),
         Entry::TorrentList => answer(boundary::torrent_list(message, room)),
+        Entry::TorrentInfo => part_of(boundary::torrent_info(message)),
+        Entry::TorrentName => part_of(boundary::torrent_name(message)),
+        Entry::Place => placed_of(boundary::place(message, first, second)),
+        Entry::FirstPiece => answer(boundary::first_piece(message, first, second)),
         Entry::TorrentWrite => answer(boundary::torrent_write(held_bytes, message, first, name.lent(), room)),
         Entry::StreamBegin => left(held_bytes, 0, stream_bytes(&to_stream(boundary::stream_begin()))),
         Entry::StreamHear => {
@@ -386,6 +411,15 @@ fn file_of(given: boundary::File) -> Given {
 
 fn part_of(given: boundary::Part) -> Given {
     Given::Part(Part { number: given.number, start: given.start, size: given.size })
+}
+
+fn named_of(given: boundary::Facts) -> Given {
+    let boundary::Facts { number, length, piece_length, root } = given;
+    Given::Named(Named { number, length, piece_length, root: root.bytes })
+}
+
+fn placed_of(given: boundary::Placed) -> Given {
+    Given::Placed(Placed { number: given.number, file: given.file, piece: given.piece })
 }
 
 fn request_of(given: boundary::Request) -> Given {

@@ -8,6 +8,7 @@ pub mod fillings;
 pub mod harness;
 pub mod headers;
 pub mod lists;
+pub mod places;
 pub mod random;
 pub mod replays;
 pub mod saves;

@@ -441,6 +441,7 @@ pub fn run(random: &mut Random, compared: &mut Comparison, mut go_on: impl FnMut
         }
         let files = if random.percent(4) { &with_bytes[which % with_bytes.len()] } else { &small[which] };
         let mut session = Session::begin(files, Hands::Others, random, compared);
+        session.apply(&Call::new(Entry::Facts).on(&session.store), compared);
         for _ in 0..random.between(1, 40) {
             session.step(random, compared);
             // An unusable store has one answer to everything.

@@ -4,7 +4,7 @@ use crate::call::{Call, Entry, Given};
 use crate::compare::Comparison;
 use crate::random::Random;
 use reference::limits::RECORD;
-use reference::number::DONE;
+use reference::number::{DONE, TORRENT_TOO_LARGE};
 use reference::pieces::over_piece_layer;
 use reference::torrent::{element_right, Torrent};
 use reference::tree::Facts;
@@ -380,6 +380,8 @@ fn ask_about_files(torrent: &[u8], files: u64, compared: &mut Comparison) {
     for room in [size, size + 9, size.saturating_sub(1), 0] {
         compared.ask(&about(Entry::TorrentList).out(vec![0xaa; room]));
     }
+    compared.ask(&about(Entry::TorrentInfo));
+    compared.ask(&about(Entry::TorrentName));
 }
 
 /// The same of a torrent that is likely to be refused: one call of each entry point then, and the list without room.
@@ -392,6 +394,15 @@ fn ask_some(torrent: &[u8], compared: &mut Comparison) {
         compared.ask(&Call::new(entry).input(torrent.to_vec()).out(vec![0xaa; RECORD]));
     }
     compared.ask(&Call::new(Entry::TorrentList).input(torrent.to_vec()));
+    // Both decide by the same number, so that half of the torrents are enough for each; few are too large.
+    let parts: &[Entry] = match (whole.number, torrent.len() % 2) {
+        (TORRENT_TOO_LARGE, _) => &[Entry::TorrentInfo, Entry::TorrentName],
+        (_, 0) => &[Entry::TorrentInfo],
+        _ => &[Entry::TorrentName],
+    };
+    for part in parts {
+        compared.ask(&Call::new(*part).input(torrent.to_vec()));
+    }
 }
 
 /// One call of each entry point, about the last file, on a torrent so large that every call takes its time.

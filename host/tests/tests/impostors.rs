@@ -6,16 +6,18 @@ use host_tests::compare::{report, Comparison, Library};
 use host_tests::lists::{read_back, Planned};
 use host_tests::random::Random;
 use host_tests::states::{hashing_bytes, hashing_of, history_bytes, history_of, stream_bytes, stream_of};
-use host_tests::{bursts, lists, sessions, streams, torrents};
+use host_tests::{bursts, lists, places, saves, sessions, streams, torrents};
 use reference::asking::{Choice, Request};
 use reference::extends::extends;
+use reference::hosts::{Named, Placed};
 use reference::limits::{BLOCK, LONGEST_FRAME, RECORD};
 use reference::marks::{clear, is_on_disk, mark, marked};
 use reference::messages::{Header, HEAD, REQUEST};
 use reference::number::*;
+use reference::saved::Repaired;
 use reference::sha256::sha256;
 use reference::store::{facts_of, held_at, hold, size_of, CELL};
-use reference::torrent::{contents, File, Torrent};
+use reference::torrent::{contents, File, Part, Torrent};
 use reference::tree::{Facts, Position};
 use reference::{Answer, Hashed};
 
@@ -50,6 +52,22 @@ fn lists(library: Library<'_>) -> Comparison<'_> {
     let mut compared = Comparison::new(library);
     lists::run(&mut Random::new(SEED), &mut compared, |compared| {
         compared.difference.is_none() && compared.compared < CASES / 2
+    });
+    compared
+}
+
+fn places(library: Library<'_>) -> Comparison<'_> {
+    let mut compared = Comparison::new(library);
+    places::run(&mut Random::new(SEED), &mut compared, |compared| {
+        compared.difference.is_none() && compared.compared < CASES / 6
+    });
+    compared
+}
+
+fn saves(library: Library<'_>) -> Comparison<'_> {
+    let mut compared = Comparison::new(library);
+    saves::run(&mut Random::new(SEED), &mut compared, |compared| {
+        compared.difference.is_none() && compared.compared < CASES / 6
     });
     compared
 }
@@ -106,9 +124,10 @@ fn untouched(call: &Call) -> Outcome {
 }
 
 fn every_number_comes_up() {
-    let expected: [(Entry, &[u32]); 15] = [
+    let expected: [(Entry, &[u32]); 16] = [
         (Entry::StoreSize, &[0, 10]),
         (Entry::Open, &[0, 9, 10]),
+        (Entry::Facts, &[0, 9]),
         (Entry::Held, &[0, 3, 6, 9]),
         (Entry::Take, &[0, 1, 2, 3, 4, 5, 6, 7, 8, 9]),
         (Entry::TakeReject, &[0, 1, 2, 3, 9]),
@@ -128,13 +147,16 @@ fn every_number_comes_up() {
 
 fn every_number_of_a_torrent_comes_up() {
     let refused = [19, 20, 21, 22, 23, 24, 25, 26, 27, 28];
-    let expected: [(Entry, &[u32]); 4] = [
+    let expected: [(Entry, &[u32]); 6] = [
         (Entry::TorrentRead, &[&[0], &refused[..]].concat()),
         (Entry::TorrentFile, &[&[0], &refused[..], &[29]].concat()),
         (Entry::TorrentPath, &[&[0], &refused[..], &[29]].concat()),
         (Entry::TorrentList, &[&[0, 11], &refused[..]].concat()),
+        (Entry::TorrentInfo, &[&[0], &refused[..]].concat()),
+        (Entry::TorrentName, &[&[0], &refused[..], &[29]].concat()),
     ];
     assert_seen(&torrents(&by_reference), &expected);
+    assert_seen(&places(&by_reference), &[(Entry::Place, &[0, 4, 24, 29]), (Entry::FirstPiece, &[0, 4, 24, 29])]);
 }
 
 fn every_number_of_the_running_forms_comes_up() {
@@ -656,6 +678,84 @@ fn a_younger_battery() {
     }
 }
 
+/// A library that differs where `change` does, on one entry point of saved stores.
+fn assert_save_found_out(name: &str, entry: Entry, change: impl Fn(&Call, &mut Outcome)) {
+    let impostor = |call: &Call| {
+        let mut outcome = by_reference(call);
+        if call.entry == entry && outcome.given.number() == DONE {
+            change(call, &mut outcome);
+        }
+        outcome
+    };
+    assert!(saves(&impostor).difference.is_some(), "not found out: {name}");
+}
+
+fn stores_saved_and_loaded_wrong() {
+    assert_save_found_out("a save whose end record counts no marks", Entry::Save, |_, outcome| {
+        if let Given::Answer(answer) = outcome.given {
+            outcome.out[answer.count as usize - 1] = 0;
+        }
+    });
+    assert_save_found_out("a load that forgets the marks", Entry::Load, |_, outcome| {
+        let facts = facts_of(&outcome.store).expect("a store");
+        for block in 0..facts.length.div_ceil(BLOCK) {
+            clear(&mut outcome.store, block);
+        }
+    });
+    assert_save_found_out("a load that counts the root alone", Entry::Load, |_, outcome| {
+        outcome.given = Given::Answer(Answer::done(1));
+    });
+    assert_save_found_out("a repair that leaves the memory", Entry::Repair, |call, outcome| {
+        if let Given::Repaired(repaired) = outcome.given {
+            outcome.given = Given::Repaired(Repaired { dropped: 0, ..repaired });
+            outcome.store.clone_from(&call.store);
+        }
+    });
+    assert_save_found_out("held counted as dropped", Entry::Repair, |_, outcome| {
+        if let Given::Repaired(repaired) = &mut outcome.given {
+            std::mem::swap(&mut repaired.dropped, &mut repaired.held);
+        }
+    });
+}
+
+fn every_number_of_a_save_comes_up() {
+    let expected: [(Entry, &[u32]); 3] =
+        [(Entry::Save, &[0, 9, 11]), (Entry::Load, &[0, 9, 10, 32]), (Entry::Repair, &[0, 9, 10, 32])];
+    assert_seen(&saves(&by_reference), &expected);
+}
+
+fn what_hosts_need_answered_wrong() {
+    assert_found_out("the piece length where the file's length should be", &|call| {
+        let outcome = by_reference(call);
+        match outcome.given {
+            Given::Named(named) => {
+                Outcome { given: Given::Named(Named { length: named.piece_length, ..named }), ..outcome }
+            }
+            _ => outcome,
+        }
+    });
+    assert_torrent_found_out("the name with its length prefix", &|call| {
+        let outcome = by_reference(call);
+        match (call.entry, outcome.given) {
+            (Entry::TorrentName, Given::Part(part)) if part.number == DONE => {
+                let part = Part { start: part.start - 2, size: part.size + 2, ..part };
+                Outcome { given: Given::Part(part), ..outcome }
+            }
+            _ => outcome,
+        }
+    });
+    let counted_over_all = |call: &Call| {
+        let outcome = by_reference(call);
+        match outcome.given {
+            Given::Placed(placed) if placed.number == DONE => {
+                Outcome { given: Given::Placed(Placed { piece: call.numbers[1], ..placed }), ..outcome }
+            }
+            _ => outcome,
+        }
+    };
+    assert!(places(&counted_over_all).difference.is_some(), "not found out: a piece counted over all files");
+}
+
 fn replies_with_wrong_bytes() {
     assert_found_out("a reject with the request's id", &|call| match (call.entry, by_reference(call)) {
         (Entry::Serve, mut outcome) if outcome.given.count() == 49 => {
@@ -758,7 +858,7 @@ fn torrents_read_wrong() {
     });
     assert_torrent_found_out("29 before the torrent's own number", &|call| match (call.entry, by_reference(call)) {
         (Entry::TorrentFile, outcome) if outcome.given.number() == DONE => outcome,
-        (Entry::TorrentFile, outcome) => Outcome { given: torrent_file_refused(NO_SUCH_FILE), ..outcome },
+        (Entry::TorrentFile, outcome) => Outcome { given: torrent_file_refused(NO_SUCH_PART), ..outcome },
         (_, outcome) => outcome,
     });
 }
@@ -877,6 +977,9 @@ host_tests::tests! {
     requests_that_are_wrong_in_one_way,
     pieces_picked_wrong,
     a_younger_battery,
+    stores_saved_and_loaded_wrong,
+    every_number_of_a_save_comes_up,
+    what_hosts_need_answered_wrong,
     replies_with_wrong_bytes,
     hashes_that_look_right,
     numbers_of_a_torrent_that_are_left_out,

@@ -33,7 +33,7 @@ fn macros() -> BTreeMap<String, String> {
 
 /// Names and values of the header, without its version, the attribute and old names.
 fn header() -> Names {
-    let others = ["VERSION", "VERSION_NUMBER", "MUST_USE"];
+    let others = ["VERSION", "VERSION_NUMBER", "MUST_USE", "NUMBERS(X)"];
     let values =
         macros().into_iter().filter(|(name, text)| !others.contains(&name.as_str()) && !text.starts_with("KD_"));
     values.map(|(name, text)| (name, value(&text))).collect()
@@ -80,10 +80,12 @@ fn numbers() -> Names {
     as_hosts_say(constants("crates/numbers/src/lib.rt"))
 }
 
-/// Number 26 has its old name in the proved code.
+/// Numbers 26 and 29 have their old names in the proved code.
 fn as_hosts_say(mut names: Names) -> Names {
-    let number = names.remove("SAME_ROOT").expect("no longer the old name: this function can go");
-    names.insert("TWO_LENGTHS".to_string(), number);
+    for (old, new) in [("SAME_ROOT", "TWO_LENGTHS"), ("NO_SUCH_FILE", "NO_SUCH_PART")] {
+        let number = names.remove(old).expect("no longer the old name: this row can go");
+        names.insert(new.to_string(), number);
+    }
     names
 }
 
@@ -112,6 +114,18 @@ fn the_header_has_the_numbers_and_the_limits() {
     expected.extend(events());
     expected.insert("NODES".to_string(), expected["TALLEST_TREE"] + 1);
     assert_eq!(header(), expected);
+}
+
+/// `X(number, KD_NAME, "words")` of the header's table has every number once.
+fn the_headers_table_has_all_numbers() {
+    let text = source("include/kombudeva.h");
+    let (_, table) = text.split_once("#define KD_NUMBERS(X)").unwrap();
+    let rows = table.split("    X(").skip(1).take(numbers().len());
+    let named = rows.map(|row| {
+        let (number, rest) = row.split_once(", KD_").unwrap();
+        (rest.split(',').next().unwrap().to_string(), value(number))
+    });
+    assert_eq!(named.collect::<Names>(), numbers());
 }
 
 fn the_numbers_have_one_name_each() {
@@ -151,9 +165,11 @@ fn the_modes_and_events_have_one_name_each() {
     assert_eq!(events().len(), 2);
 }
 
-fn an_old_name_says_the_same() {
-    let old: Vec<(String, String)> = macros().into_iter().filter(|(_, text)| text.starts_with("KD_")).collect();
-    assert_eq!(old, [("SAME_ROOT".to_string(), "KD_TWO_LENGTHS".to_string())]);
+fn another_name_says_the_same() {
+    let others: Vec<(String, String)> = macros().into_iter().filter(|(_, text)| text.starts_with("KD_")).collect();
+    let same =
+        [("LARGEST_HASHES", "KD_LARGEST_REPLY"), ("NO_SUCH_FILE", "KD_NO_SUCH_PART"), ("SAME_ROOT", "KD_TWO_LENGTHS")];
+    assert_eq!(others, same.map(|(name, text)| (name.to_string(), text.to_string())));
 }
 
 /// As text and as a number in the header, in code and specs of the boundary, and in both crates of the binding.
@@ -172,10 +188,11 @@ fn the_version_is_one() {
 host_tests::tests! {
     the_numbers_of_the_table,
     the_header_has_the_numbers_and_the_limits,
+    the_headers_table_has_all_numbers,
     the_numbers_have_one_name_each,
     the_limits_have_one_name_each,
     the_ids_have_one_name_each,
     the_modes_and_events_have_one_name_each,
-    an_old_name_says_the_same,
+    another_name_says_the_same,
     the_version_is_one,
 }

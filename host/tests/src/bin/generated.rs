@@ -7,7 +7,7 @@
 use host_tests::call::by_library;
 use host_tests::compare::{report, Comparison};
 use host_tests::random::Random;
-use host_tests::{bursts, fillings, headers, lists, saves, sessions, shapes, streams, torrents};
+use host_tests::{bursts, fillings, headers, lists, places, saves, sessions, shapes, streams, torrents};
 use std::env;
 use std::process::exit;
 use std::time::{Duration, Instant, SystemTime, UNIX_EPOCH};
@@ -33,7 +33,7 @@ struct Part {
 /// A torrent of libtorrent's, with a layer.
 const SINGLE: &[u8] = include_bytes!("../../real/single.torrent");
 
-const PARTS: [Part; 20] = [
+const PARTS: [Part; 21] = [
     Part { name: "strings", cases: |random, compared, _| fillings::run(random, compared) },
     Part { name: "bursts", cases: |random, compared, go_on| bursts::run(random, compared, go_on) },
     Part { name: "every-cut-of-strings", cases: |random, compared, _| bursts::run_through_every_cut(random, compared) },
@@ -56,6 +56,7 @@ const PARTS: [Part; 20] = [
         cases: |_, compared, _| shapes::ALL.iter().for_each(|shape| torrents::ask_few(&(shape.make)(), compared)),
     },
     Part { name: "lists", cases: |random, compared, go_on| lists::run(random, compared, go_on) },
+    Part { name: "places", cases: |random, compared, go_on| places::run(random, compared, go_on) },
     Part { name: "streams", cases: |random, compared, go_on| streams::run(random, compared, go_on) },
     Part {
         name: "every-cut-of-streams",

@@ -1,0 +1,3 @@
+pub mod About
+pub mod AboutLaws
+pub mod AboutMeans
