@@ -1,8 +1,9 @@
 # run: proves the library and its programs, and shows what they are for. test: the gate.
-# lib: the library for hosts. install, uninstall: header, archive, pkg-config file, examples and layout below PREFIX; dist: the same as one tar, with sums.
+# lib: the library for hosts. kd: the program for people. install, uninstall: both below PREFIX, with header, examples, man page and the
+# rest; dist: the library's part of that as one tar, with sums.
 # bench: speed against plain Rust. interop: with a real client, libtorrent, on loopback. torrents: read those that libtorrent
 # makes, and have it read ours. soak: generated calls compared with the second implementation, for long.
-.PHONY: run test lib install uninstall dist bench interop torrents soak
+.PHONY: run test lib kd install uninstall dist bench interop torrents soak
 
 PREFIX ?= /usr/local
 export PREFIX DESTDIR
@@ -17,8 +18,11 @@ lib:
 	rt staticlib kombudeva
 	@echo target/staticlib/libkombudeva.a
 
-install:
+kd:
 	@[ -f target/staticlib/libkombudeva.a ] || $(MAKE) lib
+	host/kd/build
+
+install: kd
 	@host/install
 
 uninstall:

@@ -21,7 +21,7 @@ use reference::torrent::{contents, File, Part, Torrent};
 use reference::tree::{Facts, Position};
 use reference::{Answer, Hashed};
 
-const CASES: u64 = 60_000;
+const CASES: u64 = 150_000;
 const SEED: u64 = 1;
 
 fn sessions(library: Library<'_>) -> Comparison<'_> {
