@@ -34,9 +34,9 @@
  * Memory marked `const` is not changed, and a refusal changes no byte of any memory, save for that
  * reject.
  *
- * STACK. Lend calls on a store 48 kB of stack: they were seen to need 41.8 kB, calls with a burst
- * 9.6 kB, calls on a stream below 1 kB, kd_torrent_write 571 kB, kd_torrent_list 220 kB, the other
- * calls on a torrent 154 kB: measured on the largest file, on torrents nested as deep as they may
+ * STACK. Lend calls on a store 48 kB of stack: they were seen to need 45.1 kB, calls with a burst
+ * 9.6 kB, calls on a stream below 1 kB, kd_torrent_write 574 kB, kd_torrent_list 222 kB, the other
+ * calls on a torrent 156 kB: measured on the largest file, on torrents nested as deep as they may
  * be, and on as many files as one has room for (docs/BENCHMARKS.md).
  *
  * EXAMPLE
@@ -60,8 +60,8 @@ extern "C" {
  * thousand for the second, one for the third. The second rises whenever a struct, a function or an
  * answer changes.
  */
-#define KD_VERSION "0.14.0"
-#define KD_VERSION_NUMBER 14000
+#define KD_VERSION "0.15.0"
+#define KD_VERSION_NUMBER 15000
 
 /* An answer that is not looked at is a warning, where the compiler has one. */
 #ifndef KD_MUST_USE
@@ -83,18 +83,20 @@ extern "C" {
                                            file's tree does not have; a layer for a file not longer
                                            than the piece length; a layer that is neither 0 nor the
                                            file's piece layer; an earlier length of 0, or above the
-                                           store's */
+                                           store's; of a v1 piece, a torrent that is no hybrid, or
+                                           a piece that the file does not have */
 #define KD_WRONG_SIZE 4                 /* the byte count isn't what header or file fixes, or is too
-                                           long for SHA-256; or a list of files that isn't in its
-                                           form; or of counts that aren't one for each piece */
+                                           long for SHA-256 or SHA-1; or a list of files that isn't
+                                           in its form, or of counts that aren't one for each piece;
+                                           or more zeros than the piece has room for */
 #define KD_WRONG_PADDING 5              /* a padding position with another value */
 #define KD_NO_ANCHOR 6                  /* the anchor, leaf, piece node or, for a layer or the next
                                            request, the root is not held; or the position that
                                            kd_held is asked for, or a hash over whole blocks of an
                                            earlier file */
 #define KD_DIFFERS 7                    /* the worked-out value differs from the held anchor, leaf
-                                           or node, or from an earlier file's root: another
-                                           history */
+                                           or node, or from the v1 hash of a hybrid's piece; or from
+                                           an earlier file's root: another history */
 #define KD_CONFLICT 8                   /* the anchor agrees, another held position differs */
 #define KD_UNUSABLE 9                   /* not a store: it names no facts in range, or has not their
                                            room; or a running state whose counts no bursts give; or
@@ -132,6 +134,8 @@ extern "C" {
 #define KD_FRAME_TOO_LONG 30            /* a stream's prefix above KD_LONGEST_FRAME, from where on
                                            the stream is refused; or a message of more bytes to be
                                            framed */
+#define KD_HALVES_DIFFER 31             /* a hybrid whose v1 half is malformed, or does not describe
+                                           the files of its v2 half; after 28 and before 29 */
 #define KD_NOT_SAVED 32                 /* saved bytes without a whole opening record, not of the
                                            form, or not those of a store whose hashes chain to its
                                            root */
@@ -168,11 +172,13 @@ extern "C" {
     X(28, KD_LAYER_DIFFERS, "a piece layer that does not give its root") \
     X(29, KD_NO_SUCH_PART, "no such file, path element, name or piece") \
     X(30, KD_FRAME_TOO_LONG, "a frame that is too long") \
+    X(31, KD_HALVES_DIFFER, "a hybrid whose halves differ") \
     X(32, KD_NOT_SAVED, "not a saved store")
 
 /* ---- How large things may be. ---- */
 
 #define KD_HASH 32                      /* the bytes of a hash */
+#define KD_SHA1 20                      /* the bytes of a SHA-1 */
 #define KD_BLOCK 16384                  /* the bytes of a block; the last one of a file may have
                                            fewer */
 #define KD_SMALLEST_PIECE_LENGTH 16384  /* a piece length is a power of two from this */
@@ -196,8 +202,8 @@ extern "C" {
                                            prefix not */
 #define KD_LARGEST_SAVE 91226121        /* the bytes of the largest save: the longest file, all
                                            held, all marked */
-#define KD_LONGEST_HASHED 2305843009213693951 /* the bytes of a string that SHA-256 has a hash for:
-                                                 below 2^64 bits */
+#define KD_LONGEST_HASHED 2305843009213693951 /* the bytes of a string that SHA-256 and SHA-1 have a
+                                                 hash for: below 2^64 bits */
 
 /*
  * The version of the archive. A program that was compiled with a header of another version, another
@@ -224,6 +230,22 @@ typedef struct { uint32_t number; kd_hash hash; } kd_hashed;
  */
 KD_MUST_USE
 kd_hashed kd_sha256(const uint8_t *data, size_t size);
+
+/* The 20 bytes of a SHA-1, in the order in which the standard prints them. */
+typedef struct { uint8_t bytes[KD_SHA1]; } kd_sha1_hash;
+
+/* A number, and beside KD_DONE a SHA-1. */
+typedef struct { uint32_t number; kd_sha1_hash hash; } kd_sha1_answer;
+
+/*
+ * SHA-1 by FIPS 180-4 of the `size` bytes at `data`: what the v1 half of a hybrid torrent is hashed
+ * with. Different strings with one SHA-1 are known, so that it alone says little of bytes that
+ * somebody chose.
+ *   KD_WRONG_SIZE  more than 2^61 - 1 bytes, for which the standard has no hash.
+ *   KD_DONE  `hash` is the hash.
+ */
+KD_MUST_USE
+kd_sha1_answer kd_sha1(const uint8_t *data, size_t size);
 
 /* ---- SHA-256 of bytes that come in bursts. ---- */
 
@@ -451,6 +473,22 @@ KD_MUST_USE
 kd_answer kd_judge_piece(uint8_t *store, size_t size, uint64_t piece, const uint8_t *data,
                          size_t data_size);
 
+/*
+ * Judges a piece of a hybrid torrent by both halves: as kd_judge_piece, and then by its v1 hash,
+ * which covers `zeros` zeros behind the data (kd_torrent_v1_piece, kd_torrent_v1_pieces). They
+ * stand in no memory. A store does not know whether its file is a hybrid's: kd_judge_block and
+ * kd_judge_piece judge, and mark, by the v2 half alone there too.
+ *   KD_UNUSABLE, KD_RULE_BROKEN, KD_WRONG_SIZE, KD_NO_ANCHOR, KD_DIFFERS, KD_CONFLICT  as
+ *       kd_judge_piece answers them.
+ *   KD_WRONG_SIZE  data and zeros are more than the piece length.
+ *   KD_DIFFERS  the SHA-1 of data and zeros is another: by the v2 half the piece is right. No byte
+ *       of the store changes.
+ *   KD_DONE  both halves agree, and the mark of each block of the piece is set; `count` is 0.
+ */
+KD_MUST_USE
+kd_answer kd_judge_hybrid_piece(uint8_t *store, size_t size, uint64_t piece, const uint8_t *data,
+                                size_t data_size, kd_sha1_hash v1, uint64_t zeros);
+
 /* ---- Marks: which blocks were judged right, for a host to know what it has on disk. Judging sets
    them, and kd_load those that were saved; only kd_clear, kd_open, kd_load and kd_repair take them
    back. ---- */
@@ -623,6 +661,7 @@ typedef struct { uint32_t number; uint64_t start; uint64_t size; } kd_part;
  * Reads a whole torrent.
  *   19 to 28, KD_TORRENT_TOO_LARGE to KD_LAYER_DIFFERS: the lowest, but of 20 and 21 the one met
  *       first from the left.
+ *   KD_HALVES_DIFFER  a hybrid (its `info` has `pieces`) whose halves don't fit; below.
  *   KD_DONE  the info hash, the piece length and the number of files.
  */
 KD_MUST_USE
@@ -631,7 +670,7 @@ kd_torrent kd_torrent_read(const uint8_t *torrent, size_t size);
 /*
  * File number `file` in tree order, from 0. Each call checks the whole torrent anew:
  * kd_torrent_list gives all files at once.
- *   19 to 28 as above, then KD_NO_SUCH_PART.
+ *   19 to 28, 31 as above, then KD_NO_SUCH_PART.
  *   KD_DONE  the file.
  */
 KD_MUST_USE
@@ -647,7 +686,7 @@ kd_file kd_torrent_file(const uint8_t *torrent, size_t size, uint64_t file);
  * backslash, a colon, `NUL`, a dot or a space at the end, names that differ in case alone, bytes
  * that are no text there) it refuses or encodes such elements itself; and a link that stands in the
  * folder already may lead out of it. The torrent's `name` is not checked.
- *   19 to 28 as above, then KD_NO_SUCH_PART: no such file, or no such element.
+ *   19 to 28, 31 as above, then KD_NO_SUCH_PART: no such file, or no such element.
  *   KD_DONE  where it stands.
  */
 KD_MUST_USE
@@ -658,7 +697,7 @@ kd_part kd_torrent_path(const uint8_t *torrent, size_t size, uint64_t file, uint
  *    0  length (8 bytes)             8  pieces root (32), zero for an empty file
  *   40  layer's start (4), size (4)  48  number of path elements (4), 1 to KD_ELEMENTS; 4 zeros
  *   56  start (4) and size (4) of each of KD_ELEMENTS path elements; zero for those it has not
- *   19 to 28 as above, then KD_NO_ROOM; nothing is written.
+ *   19 to 28, 31 as above, then KD_NO_ROOM; nothing is written.
  *   KD_DONE  `count` is the number of bytes written, KD_RECORD for each file. Bytes of `out` behind
  *       them stay.
  */
@@ -668,7 +707,7 @@ kd_answer kd_torrent_list(const uint8_t *torrent, size_t size, uint8_t *out, siz
 /*
  * The part of the torrent that the value of `info` is, whole and encoded: its SHA-256 is the info
  * hash. The metadata exchange serves it.
- *   19 to 28 as above.
+ *   19 to 28, 31 as above.
  *   KD_DONE  where it stands.
  */
 KD_MUST_USE
@@ -677,11 +716,67 @@ kd_part kd_torrent_info(const uint8_t *torrent, size_t size);
 /*
  * The part that the content of the string `name` in `info` is, with its place also where it is
  * empty. It is any bytes: no rule for path elements has been asked of it.
- *   19 to 28 as above, then KD_NO_SUCH_PART: `info` has no string `name`.
+ *   19 to 28, 31 as above, then KD_NO_SUCH_PART: `info` has no string `name`.
  *   KD_DONE  where it stands.
  */
 KD_MUST_USE
 kd_part kd_torrent_name(const uint8_t *torrent, size_t size);
+
+/* ---- Hybrid torrents: `info` has `pieces`, and so a v1 half beside the v2 half. ---- */
+
+/*
+ * The halves fit, and no call on a torrent answers KD_HALVES_DIFFER, exactly where all of this
+ * holds, of BEP 3 and BEP 47:
+ *   - `info` has either `files`, a list, where `name`, if there is one, is a string; or `length`,
+ *     and a string `name`, which is the one path element of the one file;
+ *   - each entry of `files` is a dictionary with a `length` that isn't negative; its `attr`, if
+ *     there is one, is a string; its `path` is a list of one or more strings, none of them empty.
+ *     An `attr` with a `p` in it makes the entry padding, which may do without a `path`;
+ *   - the entries that aren't padding are the files of the file tree: in tree order, each with its
+ *     length and its path;
+ *   - each file, an empty one too, begins at a multiple of the piece length;
+ *   - `pieces` is a string of KD_SHA1 bytes for each piece of all entries together.
+ * Other keys are skipped: `sha1`, `mtime` and `symlink path` of an entry, `attr` of `info`.
+ */
+
+/* A number, and beside KD_DONE 1 with the v1 info hash of a hybrid, or 0 and a zero hash. */
+typedef struct { uint32_t number; uint32_t hybrid; kd_sha1_hash info_hash; } kd_hybrid;
+
+/*
+ * Whether a torrent is a hybrid. Its v1 info hash is the SHA-1 of the part that kd_torrent_info
+ * gives: neighbours that speak v1 alone know the torrent by it.
+ *   19 to 28, 31 as above.
+ *   KD_DONE  `hybrid` is 1 and `info_hash` the v1 info hash; or `hybrid` is 0.
+ */
+KD_MUST_USE
+kd_hybrid kd_torrent_hybrid(const uint8_t *torrent, size_t size);
+
+/* A number, and beside KD_DONE the v1 hash of a piece, and how many zeros behind it it covers. */
+typedef struct { uint32_t number; kd_sha1_hash hash; uint64_t zeros; } kd_v1_piece;
+
+/*
+ * The v1 hash of a piece of a file, both from 0, as kd_judge_hybrid_piece takes it. It covers the
+ * file's piece and the zeros of the padding behind it, up to the piece length or the end of all
+ * entries. Each call checks the whole torrent anew: kd_torrent_v1_pieces gives all of a file.
+ *   19 to 28, 31 as above, then KD_NO_SUCH_PART: no such file.
+ *   KD_RULE_BROKEN  the torrent is no hybrid, or the file has no such piece.
+ *   KD_DONE  the hash and the zeros; only behind a file's last piece are there any.
+ */
+KD_MUST_USE
+kd_v1_piece kd_torrent_v1_piece(const uint8_t *torrent, size_t size, uint64_t file,
+                                uint64_t piece);
+
+/* A number, and beside KD_DONE a part of the torrent's bytes, and a count of zeros. */
+typedef struct { uint32_t number; uint64_t start; uint64_t size; uint64_t zeros; } kd_v1_part;
+
+/*
+ * The v1 hashes of all pieces of a file: KD_SHA1 bytes each, in a row.
+ *   19 to 28, 31 as above, then KD_NO_SUCH_PART: no such file.
+ *   KD_RULE_BROKEN  the torrent is no hybrid.
+ *   KD_DONE  where they stand (0 0 for an empty file), and the zeros that the last one covers.
+ */
+KD_MUST_USE
+kd_v1_part kd_torrent_v1_pieces(const uint8_t *torrent, size_t size, uint64_t file);
 
 /* ---- Pieces as they are counted on the wire: file by file in tree order. An empty file has none.
    Both calls take the list that kd_torrent_list writes, `count` bytes of it. ---- */

@@ -36,6 +36,7 @@ static volatile uint32_t number;
 
 static void nothing(void) { number = 0; }
 static void sha256(void) { number = kd_sha256(piece, BLOCK).number; }
+static void sha1(void) { number = kd_sha1(piece, BLOCK).number; }
 /* States with much behind them: the end of a history then goes up the whole tree. */
 static kd_hashing hashing;
 static kd_history history;
@@ -85,6 +86,12 @@ static void take_reject(void) { number = kd_take_reject(store, size, reject, HEA
 static void serve(void) { number = kd_serve(store, size, request, HEAD, out, REPLY).number; }
 static void judge_block(void) { number = kd_judge_block(store, size, 0, piece, BLOCK).number; }
 static void judge_piece(void) { number = kd_judge_piece(store, size, 0, piece, LARGEST_PIECE).number; }
+/* The SHA-1 of that piece. */
+static kd_sha1_hash v1;
+static void judge_hybrid_piece(void)
+{
+    number = kd_judge_hybrid_piece(store, size, 0, piece, LARGEST_PIECE, v1, 0).number;
+}
 static void marked(void) { number = kd_marked(store, size, 0).number; }
 static void clear(void) { number = kd_clear(store, size, 0).number; }
 static void bitfield(void) { number = kd_bitfield(store, size, out, REPLY).number; }
@@ -130,6 +137,10 @@ static void torrent_file(void) { number = kd_torrent_file(torrent, torrent_size,
 static void torrent_path(void) { number = kd_torrent_path(torrent, torrent_size, 0, ELEMENTS - 1).number; }
 static uint8_t list[FILES * KD_RECORD];
 static void torrent_list(void) { number = kd_torrent_list(torrent, torrent_size, list, sizeof list).number; }
+
+static void torrent_hybrid(void) { number = kd_torrent_hybrid(torrent, torrent_size).number; }
+static void torrent_v1_piece(void) { number = kd_torrent_v1_piece(torrent, torrent_size, 0, 0).number; }
+static void torrent_v1_pieces(void) { number = kd_torrent_v1_pieces(torrent, torrent_size, 0).number; }
 
 static void add(const void *bytes, size_t count)
 {
@@ -177,6 +188,41 @@ static void make_torrent_of_many(void)
     add_text("12:meta versioni2e12:piece lengthi65536ee12:piece layersdee");
 }
 
+/* A hybrid with as many files at the deepest level as both halves have room for. */
+static void make_hybrid(void)
+{
+    enum { HYBRID_FILES = 4000 };
+    static uint8_t hashes[HYBRID_FILES * KD_SHA1];
+    torrent_size = 0;
+    add_text("d4:infod9:file treed");
+    for (int i = 1; i < ELEMENTS; i++)
+        add_text("1:ad");
+    for (int i = 0; i < HYBRID_FILES; i++) {
+        uint8_t name[2] = { (uint8_t)(0x40 + i / 128), (uint8_t)(0x80 + i % 128) };
+        kd_hash root = { { (uint8_t)(0xff - name[0]), (uint8_t)(0xff - name[1]) } };
+        add_text("2:");
+        add(name, 2);
+        add_text("d0:d6:lengthi1e11:pieces root32:");
+        add(&root, 32);
+        add_text("ee");
+    }
+    for (int i = 0; i < ELEMENTS; i++)
+        add_text("e");
+    add_text("5:filesl");
+    for (int i = 0; i < HYBRID_FILES; i++) {
+        uint8_t name[2] = { (uint8_t)(0x40 + i / 128), (uint8_t)(0x80 + i % 128) };
+        add_text("d6:lengthi1e4:pathl");
+        for (int k = 1; k < ELEMENTS; k++)
+            add_text("1:a");
+        add_text("2:");
+        add(name, 2);
+        add_text("eed4:attr1:p6:lengthi16383ee");
+    }
+    add_text("e12:meta versioni2e12:piece lengthi16384e6:pieces80000:");
+    add(hashes, sizeof hashes);
+    add_text("e12:piece layersdee");
+}
+
 /* The entry points on the torrent that has been made. */
 static void show_torrent(const char *what)
 {
@@ -185,6 +231,7 @@ static void show_torrent(const char *what)
     show("kd_torrent_file", torrent_file);
     show("kd_torrent_path", torrent_path);
     show("kd_torrent_list", torrent_list);
+    show("kd_torrent_hybrid", torrent_hybrid);
 }
 
 /* Lists to write a torrent of: that file with its layer behind a deep path, and the most files, which are empty. */
@@ -322,13 +369,14 @@ static void show(const char *name, void (*function)(void))
         printf("%s is answered %u\n", name, number);
         exit(1);
     }
-    printf("%-16s %7zu bytes of stack\n", name, with - around);
+    printf("%-21s %7zu bytes of stack\n", name, with - around);
 }
 
 int main(void)
 {
     make_inputs();
     show("kd_sha256", sha256);
+    show("kd_sha1", sha1);
     show("kd_hashing_begin", hashing_begin);
     show("kd_hashing_more", hashing_more);
     show("kd_hashing_end", hashing_end);
@@ -348,6 +396,8 @@ int main(void)
     show("kd_judge_block", judge_block);
     take_piece_nodes();
     show("kd_judge_piece", judge_piece);
+    v1 = kd_sha1(piece, LARGEST_PIECE).hash;
+    show("kd_judge_hybrid_piece", judge_hybrid_piece);
     show("kd_marked", marked);
     show("kd_clear", clear);
     show("kd_bitfield", bitfield);
@@ -365,6 +415,10 @@ int main(void)
     show_torrent("of one file with a long layer");
     make_torrent_of_many();
     show_torrent("of 14,000 files");
+    make_hybrid();
+    show_torrent("that is a hybrid of 4,000 files");
+    show("kd_torrent_v1_piece", torrent_v1_piece);
+    show("kd_torrent_v1_pieces", torrent_v1_pieces);
     list_of_one();
     printf("of one file with a long layer:\n");
     show("kd_torrent_write", torrent_write);

@@ -36,11 +36,11 @@ def write_files(folder):
             file.write(content(path, length))
 
 
-def make_torrent(folder):
+def make_torrent(folder, flags):
     storage = libtorrent.file_storage()
     for path, length in FILES.items():
         storage.add_file("rack/" + path, length)
-    torrent = libtorrent.create_torrent(storage, PIECE_LENGTH, libtorrent.create_torrent.v2_only)
+    torrent = libtorrent.create_torrent(storage, PIECE_LENGTH, flags)
     libtorrent.set_piece_hashes(torrent, folder)
     return libtorrent.bencode(torrent.generate())
 
@@ -96,12 +96,15 @@ def client_fetches_from_host(torrent, encoded, folder, empty):
 
 with tempfile.TemporaryDirectory() as folder, tempfile.TemporaryDirectory() as empty:
     write_files(folder)
-    encoded = make_torrent(folder)
-    torrent = os.path.join(folder, "rack.torrent")
-    with open(torrent, "wb") as file:
-        file.write(encoded)
+    encoded, hybrid = make_torrent(folder, libtorrent.create_torrent.v2_only), make_torrent(folder, 0)
+    torrent, of_both = os.path.join(folder, "rack.torrent"), os.path.join(folder, "hybrid.torrent")
+    for name, bytes_of in ((torrent, encoded), (of_both, hybrid)):
+        with open(name, "wb") as file:
+            file.write(bytes_of)
     print(f"libtorrent {libtorrent.version} seeds, the host fetches and judges", flush=True)
     host_fetches_from_seed(torrent, encoded, folder)
+    print("libtorrent seeds a hybrid, the host judges by both halves", flush=True)
+    host_fetches_from_seed(of_both, hybrid, folder)
     print("libtorrent has the magnet link, the host serves", flush=True)
     client_fetches_from_host(torrent, encoded, folder, empty)
     print(f"{len(FILES)} files complete and the same")

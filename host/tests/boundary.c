@@ -13,6 +13,10 @@ _Static_assert(sizeof(kd_hash) == KD_HASH, "kd_hash");
 _Static_assert(sizeof(kd_hashed) == 36, "kd_hashed");
 _Static_assert(offsetof(kd_hashed, number) == 0, "kd_hashed.number");
 _Static_assert(offsetof(kd_hashed, hash) == 4, "kd_hashed.hash");
+_Static_assert(sizeof(kd_sha1_hash) == KD_SHA1, "kd_sha1_hash");
+_Static_assert(sizeof(kd_sha1_answer) == 24, "kd_sha1_answer");
+_Static_assert(offsetof(kd_sha1_answer, number) == 0, "kd_sha1_answer.number");
+_Static_assert(offsetof(kd_sha1_answer, hash) == 4, "kd_sha1_answer.hash");
 _Static_assert(sizeof(kd_answer) == 16, "kd_answer");
 _Static_assert(offsetof(kd_answer, number) == 0, "kd_answer.number");
 _Static_assert(offsetof(kd_answer, count) == 8, "kd_answer.count");
@@ -32,6 +36,20 @@ _Static_assert(sizeof(kd_part) == 24, "kd_part");
 _Static_assert(offsetof(kd_part, number) == 0, "kd_part.number");
 _Static_assert(offsetof(kd_part, start) == 8, "kd_part.start");
 _Static_assert(offsetof(kd_part, size) == 16, "kd_part.size");
+
+_Static_assert(sizeof(kd_hybrid) == 28, "kd_hybrid");
+_Static_assert(offsetof(kd_hybrid, number) == 0, "kd_hybrid.number");
+_Static_assert(offsetof(kd_hybrid, hybrid) == 4, "kd_hybrid.hybrid");
+_Static_assert(offsetof(kd_hybrid, info_hash) == 8, "kd_hybrid.info_hash");
+_Static_assert(sizeof(kd_v1_piece) == 32, "kd_v1_piece");
+_Static_assert(offsetof(kd_v1_piece, number) == 0, "kd_v1_piece.number");
+_Static_assert(offsetof(kd_v1_piece, hash) == 4, "kd_v1_piece.hash");
+_Static_assert(offsetof(kd_v1_piece, zeros) == 24, "kd_v1_piece.zeros");
+_Static_assert(sizeof(kd_v1_part) == 32, "kd_v1_part");
+_Static_assert(offsetof(kd_v1_part, number) == 0, "kd_v1_part.number");
+_Static_assert(offsetof(kd_v1_part, start) == 8, "kd_v1_part.start");
+_Static_assert(offsetof(kd_v1_part, size) == 16, "kd_v1_part.size");
+_Static_assert(offsetof(kd_v1_part, zeros) == 24, "kd_v1_part.zeros");
 
 _Static_assert(sizeof(kd_facts_answer) == 56, "kd_facts_answer");
 _Static_assert(offsetof(kd_facts_answer, length) == 8, "kd_facts_answer.length");
@@ -117,15 +135,29 @@ static int is_hashed(kd_hashed answer, uint32_t number, kd_hash hash)
     return answer.number == number && memcmp(&answer.hash, &hash, sizeof hash) == 0;
 }
 
-/* A hash from the 64 hexadecimal digits that the standard prints. */
+/* Bytes from the hexadecimal digits that the standard prints. */
+static void put_digits(uint8_t *bytes, const char *digits)
+{
+    for (size_t i = 0; digits[i] != 0; i++) {
+        uint8_t value = (uint8_t)(digits[i] <= '9' ? digits[i] - '0' : digits[i] - 'a' + 10);
+        bytes[i / 2] = (uint8_t)(bytes[i / 2] << 4 | value);
+    }
+}
+
 static kd_hash hash_of_digits(const char *digits)
 {
     kd_hash hash = zero;
-    for (int i = 0; i < 64; i++) {
-        uint8_t value = (uint8_t)(digits[i] <= '9' ? digits[i] - '0' : digits[i] - 'a' + 10);
-        hash.bytes[i / 2] = (uint8_t)(hash.bytes[i / 2] << 4 | value);
-    }
+    put_digits(hash.bytes, digits);
     return hash;
+}
+
+static const kd_sha1_hash zero_v1;
+
+static int is_sha1(kd_sha1_answer answer, uint32_t number, const char *digits)
+{
+    kd_sha1_hash hash = zero_v1;
+    put_digits(hash.bytes, digits);
+    return answer.number == number && memcmp(&answer.hash, &hash, sizeof hash) == 0;
 }
 
 static void hashes(void)
@@ -138,6 +170,12 @@ static void hashes(void)
     /* No memory is that long. The call is tried all the same, since the size alone decides and no byte is read. */
     check("kd_sha256 of 2^61 bytes",
             is_hashed(kd_sha256((const uint8_t *)"abc", (size_t)1 << 61), KD_WRONG_SIZE, zero));
+    check("kd_sha1 of NULL with size 0", is_sha1(kd_sha1(NULL, 0), KD_DONE, "da39a3ee5e6b4b0d3255bfef95601890afd80709"));
+    check("kd_sha1 of no bytes",
+            is_sha1(kd_sha1((const uint8_t *)"abc", 0), KD_DONE, "da39a3ee5e6b4b0d3255bfef95601890afd80709"));
+    check("kd_sha1 of abc",
+            is_sha1(kd_sha1((const uint8_t *)"abc", 3), KD_DONE, "a9993e364706816aba3e25717850c26c9cd0d89d"));
+    check("kd_sha1 of 2^61 bytes", is_sha1(kd_sha1((const uint8_t *)"abc", (size_t)1 << 61), KD_WRONG_SIZE, ""));
 }
 
 /* The file of the session in document 01: five blocks, so a tree of height 3, in pieces of four blocks. */
@@ -574,6 +612,8 @@ static void ends_of_memories(void)
     uint8_t *upper = guarded(bytes, size);
     check("guarded kd_sha256",
             is_hashed(kd_sha256(guarded("abc", 3), 3), KD_DONE, kd_sha256((const uint8_t *)"abc", 3).hash));
+    check("guarded kd_sha1",
+            is_sha1(kd_sha1(guarded("abc", 3), 3), KD_DONE, "a9993e364706816aba3e25717850c26c9cd0d89d"));
     answers("guarded kd_open", kd_open(lent, STORE, LENGTH, PIECE, root()), KD_DONE, 1);
     answers("guarded kd_take", kd_take(lent, STORE, upper, size), KD_DONE, 2);
     answers("guarded kd_take of a cut message",
@@ -710,6 +750,107 @@ static void torrents(void)
     list(lent, size, &one);
 }
 
+/* The last piece of the file of five blocks, with three blocks of zeros behind it or fewer, judged by both halves. */
+static void both_halves(void)
+{
+    static uint8_t covered[PIECE];
+    enum { ZEROS = PIECE - BLOCK };
+    uint8_t fresh[STORE], before[STORE];
+    memcpy(covered, file + PIECE, BLOCK);
+    kd_sha1_hash whole = kd_sha1(covered, PIECE).hash, alone = kd_sha1(covered, BLOCK).hash, other = whole;
+    other.bytes[19] ^= 1;
+    answers("kd_open of a fresh store", kd_open(fresh, STORE, LENGTH, PIECE, root()), KD_DONE, 1);
+    answers("its layer", kd_load_layer(fresh, STORE, tree[2][0].bytes, 64), KD_DONE, 2);
+    memcpy(before, fresh, STORE);
+#define JUDGE(piece, data, size, v1, zeros) kd_judge_hybrid_piece(fresh, STORE, piece, data, size, v1, zeros)
+    answers("another v1 hash", JUDGE(1, covered, BLOCK, other, ZEROS), KD_DIFFERS, 0);
+    answers("the v1 hash without its zeros", JUDGE(1, covered, BLOCK, whole, 0), KD_DIFFERS, 0);
+    answers("a zero more than there is room for", JUDGE(1, covered, BLOCK, whole, ZEROS + 1), KD_WRONG_SIZE, 0);
+    answers("2^64 - 1 zeros", JUDGE(1, covered, BLOCK, whole, UINT64_MAX), KD_WRONG_SIZE, 0);
+    answers("zeros behind a whole piece", JUDGE(0, file, PIECE, kd_sha1(file, PIECE).hash, 1), KD_WRONG_SIZE, 0);
+    answers("the v1 half alone", JUDGE(1, file, BLOCK, kd_sha1(file, BLOCK).hash, 0), KD_DIFFERS, 0);
+    answers("a hybrid's piece of another size", JUDGE(1, covered, PIECE, whole, 0), KD_WRONG_SIZE, 0);
+    answers("a hybrid's piece past the file", JUDGE(2, covered, BLOCK, whole, ZEROS), KD_RULE_BROKEN, 0);
+    answers("kd_judge_hybrid_piece of NULL", JUDGE(1, NULL, 0, whole, ZEROS), KD_WRONG_SIZE, 0);
+    answers("kd_judge_hybrid_piece on NULL", kd_judge_hybrid_piece(NULL, 0, 1, NULL, 0, whole, ZEROS), KD_UNUSABLE, 0);
+    check("what is refused marks nothing", memcmp(before, fresh, STORE) == 0);
+    answers("both halves agree", JUDGE(1, guarded(covered, BLOCK), BLOCK, whole, ZEROS), KD_DONE, 0);
+    answers("and the block is marked", kd_marked(fresh, STORE, 4), KD_DONE, 1);
+    answers("without padding", JUDGE(1, covered, BLOCK, alone, 0), KD_DONE, 0);
+    answers("a whole piece", JUDGE(0, file, PIECE, kd_sha1(file, PIECE).hash, 0), KD_DONE, 0);
+#undef JUDGE
+    uint8_t *lent = guarded(before, STORE);
+    answers("guarded kd_judge_hybrid_piece", kd_judge_hybrid_piece(lent, STORE, 1, covered, BLOCK, whole, ZEROS), KD_DONE, 0);
+    check("the guarded store is marked", kd_marked(lent, STORE, 4).count == 1);
+}
+
+/* A hybrid of two files, of two blocks and of one byte, the second with padding behind it. The texts stand around the roots, the v1 hashes and
+ * the layer. */
+static void hybrids(void)
+{
+    static const char tree_of[] = "d4:infod9:file treed2:upd7:voltaged0:d6:lengthi32768e11:pieces root32:";
+    static const char second[] = "eee1:zd0:d6:lengthi1e11:pieces root32:";
+    static const char files[] = "eee5:filesld6:lengthi32768e4:pathl2:up7:voltageeed6:lengthi1e4:pathl1:zeed4:attr1:p6:lengthi16383eee"
+                                "12:meta versioni2e4:name4:rack12:piece lengthi16384e6:pieces60:";
+    static const char layers_of[] = "e12:piece layersd32:";
+    uint8_t torrent[700], last[BLOCK] = { 'z' }, v1[3 * KD_SHA1];
+    kd_hash byte = kd_sha256(last, 1).hash;
+    for (size_t piece = 0; piece < 2; piece++)
+        memcpy(v1 + KD_SHA1 * piece, kd_sha1(file + BLOCK * piece, BLOCK).hash.bytes, KD_SHA1);
+    memcpy(v1 + 2 * KD_SHA1, kd_sha1(last, BLOCK).hash.bytes, KD_SHA1);
+    size_t info = 7, size = add(torrent, 0, tree_of, strlen(tree_of));
+    size = add(torrent, size, &tree[1][0], 32);
+    size = add(torrent, size, second, strlen(second));
+    size = add(torrent, size, &byte, 32);
+    size_t files_at = size, pieces_at = add(torrent, size, files, strlen(files));
+    size_t info_end = add(torrent, pieces_at, v1, sizeof v1) + 1;
+    size = add(torrent, info_end - 1, layers_of, strlen(layers_of));
+    size = add(torrent, size, &tree[1][0], 32);
+    size = add(torrent, size, before_layer, strlen(before_layer));
+    size = add(torrent, size, tree[0], 64);
+    size = add(torrent, size, behind_layer, strlen(behind_layer));
+    uint8_t *lent = guarded(torrent, size);
+
+    kd_hybrid whole = kd_torrent_hybrid(lent, size);
+    kd_sha1_hash info_hash = kd_sha1(torrent + info, info_end - info).hash;
+    check("kd_torrent_hybrid", whole.number == KD_DONE && whole.hybrid == 1 && memcmp(&whole.info_hash, &info_hash, KD_SHA1) == 0);
+    check("a hybrid is read", kd_torrent_read(lent, size).number == KD_DONE);
+    kd_v1_part row = kd_torrent_v1_pieces(lent, size, 0);
+    check("kd_torrent_v1_pieces", row.number == KD_DONE && row.start == pieces_at && row.size == 2 * KD_SHA1 && row.zeros == 0);
+    row = kd_torrent_v1_pieces(lent, size, 1);
+    check("the zeros behind the last piece", row.number == KD_DONE && row.start == pieces_at + 2 * KD_SHA1 &&
+                                                 row.size == KD_SHA1 && row.zeros == BLOCK - 1);
+    kd_v1_piece one = kd_torrent_v1_piece(lent, size, 0, 1);
+    check("kd_torrent_v1_piece", one.number == KD_DONE && memcmp(&one.hash, v1 + KD_SHA1, KD_SHA1) == 0 && one.zeros == 0);
+    one = kd_torrent_v1_piece(lent, size, 1, 0);
+    check("the v1 hash of one byte", one.number == KD_DONE && memcmp(&one.hash, v1 + 2 * KD_SHA1, KD_SHA1) == 0 && one.zeros == BLOCK - 1);
+    one = kd_torrent_v1_piece(lent, size, 1, 1);
+    check("no second piece", one.number == KD_RULE_BROKEN && memcmp(&one.hash, &zero_v1, KD_SHA1) == 0 && one.zeros == 0);
+    check("no third file", kd_torrent_v1_piece(lent, size, 2, 0).number == KD_NO_SUCH_PART);
+    row = kd_torrent_v1_pieces(lent, size, 2);
+    check("nor its hashes", row.number == KD_NO_SUCH_PART && row.start == 0 && row.size == 0 && row.zeros == 0);
+
+    lent[pieces_at - strlen("6:pieces60:") + 2] = 'q';
+    whole = kd_torrent_hybrid(lent, size);
+    check("without `pieces` it is no hybrid", whole.number == KD_DONE && whole.hybrid == 0 &&
+                                                  memcmp(&whole.info_hash, &zero_v1, KD_SHA1) == 0);
+    check("and has no v1 hash", kd_torrent_v1_piece(lent, size, 0, 0).number == KD_RULE_BROKEN);
+    check("nor any", kd_torrent_v1_pieces(lent, size, 0).number == KD_RULE_BROKEN);
+    lent[pieces_at - strlen("6:pieces60:") + 2] = 'p';
+    /* The v1 half says that the second file is `y`. */
+    lent[files_at + strlen("eee5:filesld6:lengthi32768e4:pathl2:up7:voltageeed6:lengthi1e4:pathl1:")] = 'y';
+    whole = kd_torrent_hybrid(lent, size);
+    check("halves that differ", whole.number == KD_HALVES_DIFFER && whole.hybrid == 0 &&
+                                    memcmp(&whole.info_hash, &zero_v1, KD_SHA1) == 0);
+    check("kd_torrent_read of them", kd_torrent_read(lent, size).number == KD_HALVES_DIFFER);
+    check("31 before 29", kd_torrent_file(lent, size, 9).number == KD_HALVES_DIFFER &&
+                              kd_torrent_v1_pieces(lent, size, 9).number == KD_HALVES_DIFFER);
+    answers("31 before 11", kd_torrent_list(lent, size, NULL, 0), KD_HALVES_DIFFER, 0);
+    check("kd_torrent_hybrid of NULL", kd_torrent_hybrid(NULL, 0).number == KD_NOT_STRICT);
+    check("kd_torrent_v1_piece of NULL", kd_torrent_v1_piece(NULL, 0, 0, 0).number == KD_NOT_STRICT);
+    check("kd_torrent_v1_pieces of NULL", kd_torrent_v1_pieces(NULL, 0, 0).number == KD_NOT_STRICT);
+}
+
 static void places_are(const char *what, kd_placed answer, uint32_t number, uint64_t file, uint64_t piece)
 {
     check(what, answer.number == number && answer.file == file && answer.piece == piece);
@@ -751,7 +892,7 @@ static void numbers(void)
     int count = 0;
 #define COUNTED(number, name, words) count += number == name && words[0] != 0;
     KD_NUMBERS(COUNTED)
-    check("KD_NUMBERS", count == 26);
+    check("KD_NUMBERS", count == 27);
 }
 
 static void torrent_of_nothing(void)
@@ -926,6 +1067,8 @@ int main(void)
     younger();
     ends_of_memories();
     torrents();
+    both_halves();
+    hybrids();
     writing();
     streams();
     torrent_of_nothing();

@@ -5,7 +5,7 @@ use mathlib.Core.List.{List}
 use Prim.Native.Nat.{ℕ, _-_}
 use lib.ListN.{drop}
 use lib.Dec.{eqb}
-use Rattle.numbers.specs.Numbers.{noSuchFile}
+use Rattle.numbers.specs.Numbers.{noSuchPart}
 use Rattle.bencode.specs.Parts.{findKey}
 use Rattle.bencode.specs.declared.scalar.ByteString.{ByteString}
 use Rattle.bencode.specs.declared.scalar.ByteString.the-variants.{Content, NoString}
@@ -19,7 +19,7 @@ use Rattle.torrent.specs.declared.read.PartRead.{PartRead}
 abbrev pub partTo : ℕ → ℕ → PartRead
 partTo a b = record { number = 0; start = a; size = b - a }
 
--- ---- `info`: 19 to 28, or 0 and its value's part
+-- ---- `info`: 19 to 28 or 31, or 0 and its value's part
 
 abbrev pub infoIn : Checked → PartRead
 infoIn c = cond (eqb (c .keys .number) 0) (partTo (c .keys .info .start) (c .keys .info .end)) (noPartRead (c .keys .number))
@@ -27,10 +27,10 @@ infoIn c = cond (eqb (c .keys .number) 0) (partTo (c .keys .info .start) (c .key
 unfoldable pub infoRead : List ℕ → PartRead
 infoRead s = infoIn (checkedOf s)
 
--- ---- its `name`: 19 to 28; 29 where `info` has no string `name`; or 0 and the part of the string's content
+-- ---- its `name`: 19 to 28 or 31; 29 where `info` has no string `name`; or 0 and the part of the string's content
 
 abbrev pub contentPart : ByteString → PartRead
-contentPart NoString = noPartRead noSuchFile
+contentPart NoString = noPartRead noSuchPart
 contentPart (Content a b) = partTo a b
 
 -- the string that the dictionary at `at` has for `name`

@@ -2,16 +2,16 @@
 -- the info hash; the part of `name` is the string's content.
 -- Assumes nothing.
 use mathlib.Core.Path.{_≡_, refl, sym, ap, _∙_}
-use mathlib.Core.Logic.{_⊎_, inl, inr, _↔_}
+use mathlib.Core.Logic.{inl, inr, _↔_}
 use mathlib.Core.List.{List, _∷_, _++_}
-use Prim.Native.Nat.{ℕ, _+_, _-_, _≤_}
+use Prim.Native.Nat.{ℕ, _+_, _-_}
 use native.Mathlib.Omega.{arith}
 use native.Mathlib.Decide.{ℕ-discrete}
 use lib.ListN.{length, drop, length-append}
 use Rattle.limits.specs.Limits.{maxLevels}
 use Rattle.octets.specs.Octets.{cut}
 use Rattle.octets.specs.OctetsLaws.{cut-length}
-use Rattle.numbers.specs.Numbers.{noSuchFile}
+use Rattle.numbers.specs.Numbers.{noSuchPart}
 use Rattle.sha256.specs.Sha256.{sha256}
 use Rattle.bencode.specs.Grammar.{colon, Value, integer, string, list, dictionary, Entries, none, decimal, encodeString, encode, Valid}
 use Rattle.bencode.specs.Parts.{findKey, FoundIs, Lookup, absent, present, lookup}
@@ -25,20 +25,22 @@ use Rattle.bencode.specs.declared.parts.Found.the-variants.{Part, Missing}
 use Rattle.meaning.specs.Keys.{keyInfo}
 use Rattle.meaning.specs.Torrent.{infoOf}
 use Rattle.publishing.specs.Content.{keyName}
-use Rattle.metainfo.specs.Metainfo.{bytesIn, keysOf}
+use Rattle.metainfo.specs.Metainfo.{bytesIn}
 use Rattle.metainfo.specs.declared.Keys.{Keys}
 use Rattle.layers.specs.Layers.{stringIn}
 use Rattle.joined.specs.FileLaws.{string-there}
-use Rattle.torrent.specs.Torrent.{checkedOf, readOf, noPartRead}
+use Rattle.halves.specs.V1Keys.{keyPieces}
+use Rattle.torrent.specs.Torrent.{v2CheckedOf, checkedOf, readOf, noPartRead}
 use Rattle.torrent.specs.Answers.{Says, PartIs}
 use Rattle.torrent.specs.CheckLaws.{checked-whole}
 use Rattle.torrent.specs.NumberMeans.{read-number, read-encodes}
 use Rattle.torrent.specs.ReadMeans.{number-zero, same-keys, at-values, torrent-is}
+use Rattle.torrent.specs.HalvesMeans.{as-before}
 use Rattle.torrent.specs.declared.read.PartRead.{PartRead}
-use Rattle.calls.specs.Calls.{OfTorrent, PathOutcome, done as pathDone, badTorrent as pathRefused, noElement}
-use Rattle.calls.specs.CallsLaws.{checked-ranged}
+use Rattle.calls.specs.Calls.{PathOutcome, done as pathDone, badTorrent as pathRefused, noElement}
+use Rattle.calls.specs.CallsLaws.{checked-ranged, of-torrent, not-zero}
 use Rattle.calls.specs.EachNumber.{read-exactly}
-use Rattle.about.specs.About.{contentPart, nameFrom, infoRead, nameRead}
+use Rattle.about.specs.About.{contentPart, nameFrom, infoIn, infoRead, nameIn, nameRead}
 use Rattle.about.specs.AboutLaws.{info-done, info-refused, name-done, name-refused}
 
 -- `info` of a torrent has a string `name`
@@ -49,11 +51,11 @@ Named es = (b : List ℕ) × (lookup keyName (infoOf es) ≡ present (string b))
 
 -- the answer of what is found: a string's content, and for all else 29
 abbrev NameIs : List ℕ → PartRead → Lookup → Type 0
-NameIs s r absent = r ≡ noPartRead noSuchFile
+NameIs s r absent = r ≡ noPartRead noSuchPart
 NameIs s r (present (string b)) = PartIs s b r
-NameIs s r (present (integer minus n)) = r ≡ noPartRead noSuchFile
-NameIs s r (present (list vs)) = r ≡ noPartRead noSuchFile
-NameIs s r (present (dictionary es)) = r ≡ noPartRead noSuchFile
+NameIs s r (present (integer minus n)) = r ≡ noPartRead noSuchPart
+NameIs s r (present (list vs)) = r ≡ noPartRead noSuchPart
+NameIs s r (present (dictionary es)) = r ≡ noPartRead noSuchPart
 
 -- a string that stands from a to k
 string-part : (s : List ℕ) (a k : ℕ) (b : List ℕ) → cut s a (k - a) ≡ encode (string b) → PartIs s b (contentPart (Content (contentStart a b) (a + length (encodeString b))))
@@ -126,10 +128,10 @@ module _ (s : List ℕ) (es : Entries) (start : s ≡ encode (dictionary es)) (v
   name-part b e = rw e at name-is
 
   -- and where `info` has no string `name` it is 29
-  pub no-name : (Named es → ⊥) → nameRead s ≡ noPartRead noSuchFile
+  pub no-name : (Named es → ⊥) → nameRead s ≡ noPartRead noSuchPart
   no-name g = by (lookup keyName (infoOf es)) refl name-is
     where
-      by : (x : Lookup) → lookup keyName (infoOf es) ≡ x → NameIs s (nameRead s) x → nameRead s ≡ noPartRead noSuchFile
+      by : (x : Lookup) → lookup keyName (infoOf es) ≡ x → NameIs s (nameRead s) x → nameRead s ≡ noPartRead noSuchPart
       by absent e w = w
       by (present (string b)) e w = absurd (g (b, e))
       by (present (integer minus n)) e w = w
@@ -138,7 +140,7 @@ module _ (s : List ℕ) (es : Entries) (start : s ≡ encode (dictionary es)) (v
 
 -- ---- each number exactly when
 
--- kd_torrent_info has the torrent's own number: 19 to 28, the lowest, or 0
+-- kd_torrent_info has the torrent's own number: 19 to 28 and 31, the lowest, or 0
 pub info-number : (s : List ℕ) → infoRead s .number ≡ readOf s .number
 info-number s =
     elim (ℕ-discrete (checkedOf s .keys .number) 0) [
@@ -153,29 +155,25 @@ info-exactly s n = let w = read-exactly s n in (λ e. w .0 (sym (info-number s) 
 by-name : (s : List ℕ) → checkedOf s .keys .number ≡ 0 → (w : ByteString) → nameFrom s (checkedOf s .keys .info .start) ≡ w → nameRead s ≡ contentPart w
 by-name s z w e = sym (name-done s (checkedOf s) refl z (nameFrom s (checkedOf s .keys .info .start)) w refl e)
 
--- kd_torrent_name: 29 after all of 19 to 28, exactly where `info` has no string `name`,
-pub name-29 : (s : List ℕ) → (nameRead s .number ≡ noSuchFile)
+-- kd_torrent_name: 29 after all of 19 to 28 and 31, exactly where `info` has no string `name`,
+pub name-29 : (s : List ℕ) → (nameRead s .number ≡ noSuchPart)
     ↔ ((readOf s .number ≡ 0) × ((es : Entries) → s ≡ encode (dictionary es) → Valid (dictionary es) maxLevels → Named es → ⊥))
 name-29 s = (
   λ e. let z = after e in (z, λ es q v n. (let p = name-part s es q v z (n .0) (n .1) .number in let w : ⊥ = omega arith in w)),
   λ p. (let v = read-encodes s (p .0) .1 in ap (λ (r : PartRead). r .number) (no-name s (v .0) (v .2) (v .1) (p .0) (p .1 (v .0) (v .2) (v .1)))),
 )
   where
-    after : nameRead s .number ≡ noSuchFile → readOf s .number ≡ 0
+    after : nameRead s .number ≡ noSuchPart → readOf s .number ≡ 0
     after e =
         elim (checked-ranged s) [
           | inl z ↦ read-number s ∙ z
           | inr p ↦
-              let x = p .0 in
-              let y = p .1 in
-              let ne : (checkedOf s .keys .number ≡ 0 → ⊥) = λ q. omega arith in
-              let f = ap (λ (r : PartRead). r .number) (name-refused s (checkedOf s) refl ne) in
-              let w : ⊥ = omega arith in
-              absurd w
+              let f = ap (λ (r : PartRead). r .number) (name-refused s (checkedOf s) refl (not-zero (checkedOf s .keys .number) p)) in
+              absurd (of-torrent (checkedOf s .keys .number) p .1 (f ∙ e))
         ]
 
 -- and every other number is the torrent's own
-pub name-number : (s : List ℕ) → (nameRead s .number ≡ noSuchFile → ⊥) → nameRead s .number ≡ readOf s .number
+pub name-number : (s : List ℕ) → (nameRead s .number ≡ noSuchPart → ⊥) → nameRead s .number ≡ readOf s .number
 name-number s h =
     elim (ℕ-discrete (checkedOf s .keys .number) 0) [
       | yes z ↦ by z (nameFrom s (checkedOf s .keys .info .start)) refl
@@ -192,16 +190,27 @@ pub info-outcome : (s : List ℕ) → PathOutcome (infoRead s)
 info-outcome s =
     elim (checked-ranged s) [
       | inl z ↦ pathDone (infoRead s) (info-number s ∙ read-number s ∙ z)
-      | inr p ↦ (let x = p .0 in rw (sym (info-refused s (checkedOf s) refl (λ q. omega arith))) (pathRefused (checkedOf s .keys .number) p))
+      | inr p ↦ rw (sym (info-refused s (checkedOf s) refl (not-zero (checkedOf s .keys .number) p))) (pathRefused (checkedOf s .keys .number) p)
     ]
 
 pub name-outcome : (s : List ℕ) → PathOutcome (nameRead s)
 name-outcome s =
     elim (checked-ranged s) [
       | inl z ↦ by z (nameFrom s (checkedOf s .keys .info .start)) refl
-      | inr p ↦ (let x = p .0 in rw (sym (name-refused s (checkedOf s) refl (λ q. omega arith))) (pathRefused (checkedOf s .keys .number) p))
+      | inr p ↦ rw (sym (name-refused s (checkedOf s) refl (not-zero (checkedOf s .keys .number) p))) (pathRefused (checkedOf s .keys .number) p)
     ]
   where
     by : checkedOf s .keys .number ≡ 0 → (w : ByteString) → nameFrom s (checkedOf s .keys .info .start) ≡ w → PathOutcome (nameRead s)
     by z NoString e = rw (by-name s z NoString e) noElement
     by z (Content a b) e = pathDone (nameRead s) (ap (λ (r : PartRead). r .number) (by-name s z (Content a b) e))
+
+-- ---- 02, request 12: of a pure v2 torrent both are as by its v2 half alone
+
+module _ (s : List ℕ) (es : Entries) (start : s ≡ encode (dictionary es)) (valid : Valid (dictionary es) maxLevels) (pure : lookup keyPieces (infoOf es) ≡ absent) where
+  pub info-as-before : infoRead s ≡ infoIn (v2CheckedOf s)
+  unfolding infoRead
+  info-as-before = ap infoIn (as-before s es start valid pure)
+
+  pub name-as-before : nameRead s ≡ nameIn s (v2CheckedOf s)
+  unfolding nameRead
+  name-as-before = ap (nameIn s) (as-before s es start valid pure)

@@ -19,7 +19,7 @@ fn no_part(number: u32) -> PartRead
     }
 }
 
-// The part that the value of `info` is; or 19 to 28.
+// The part that the value of `info` is; or 19 to 28 or 31.
 pub fn read_info(s: &[u8]) -> PartRead
     ensures { λ r. ⌜ r ≡ infoRead (now (s .entry)) ⌝ }
 {
@@ -48,7 +48,7 @@ fn name_from(s: &[u8], at: usize) -> ByteString
     }
 }
 
-// The part that the content of `name` in `info` is; 29 where it has no such string; or 19 to 28.
+// The part that the content of `name` in `info` is; 29 where it has no such string; or 19 to 28 or 31.
 pub fn read_name(s: &[u8]) -> PartRead
     ensures { λ r. ⌜ r ≡ nameRead (now (s .entry)) ⌝ }
 {
@@ -57,7 +57,7 @@ pub fn read_name(s: &[u8]) -> PartRead
     let info = c.keys.info.start;
     if number == 0 {
         return match name_from(s, info) {
-            ByteString::NoString => no_part(numbers::NO_SUCH_FILE),
+            ByteString::NoString => no_part(numbers::NO_SUCH_PART),
             ByteString::Content { start, end } => PartRead {
                 number: 0,
                 start,

@@ -1,4 +1,4 @@
--- FIPS 180-4, sections 3.2 and 4.1.2: the operations on words of 32 bits. A word is a number below 2 ^ 32.
+-- FIPS 180-4, sections 3.2, 4.1.1 and 4.1.2: the operations on words of 32 bits. A word is a number below 2 ^ 32.
 -- Assumes nothing.
 use Prim.Native.Nat.{ℕ, _+_, _-_, _*_, _/_, _%_, _^_}
 use lib.Bits.{bitAnd, bitOr, bitXor}
@@ -7,8 +7,15 @@ use lib.Bits.{bitAnd, bitOr, bitXor}
 unfoldable pub rotr : ℕ → ℕ → ℕ
 rotr n x = bitOr (x / 2 ^ n) (x * 2 ^ (32 - n) % 2 ^ 32)
 
+-- ROTL
+unfoldable pub rotl : ℕ → ℕ → ℕ
+rotl n x = bitOr (x * 2 ^ n % 2 ^ 32) (x / 2 ^ (32 - n))
+
 unfoldable pub Ch : ℕ → ℕ → ℕ → ℕ
 Ch x y z = bitXor (bitAnd x y) (bitAnd (2 ^ 32 - 1 - x) z)
+
+unfoldable pub Parity : ℕ → ℕ → ℕ → ℕ
+Parity x y z = bitXor (bitXor x y) z
 
 unfoldable pub Maj : ℕ → ℕ → ℕ → ℕ
 Maj x y z = bitXor (bitXor (bitAnd x y) (bitAnd x z)) (bitAnd y z)

@@ -1,4 +1,4 @@
-// FIPS 180-4, sections 3.1, 3.2 and 4.1.2: words of 32 bits, their operations, and a word as four bytes.
+// FIPS 180-4, sections 3.1, 3.2, 4.1.1 and 4.1.2: words of 32 bits, their operations, and a word as four bytes.
 ghost use mathlib.Core.Path.{_≡_};
 ghost use Prim.Native.Nat.{_+_, _<_, _≤_, _%_, _^_};
 ghost use lib.ListN.{length};
@@ -17,6 +17,19 @@ pub fn rotr(x: u32, n: u32) -> u32
     ensures { λ r. ⌜ r ≡ W.rotr n x ⌝ }
 {
     (x >> n) | (x << (32 - n))
+}
+
+pub fn rotl(x: u32, n: u32) -> u32
+    requires { ⌜ (0 < n) × (n < 32) ⌝ }
+    ensures { λ r. ⌜ r ≡ W.rotl n x ⌝ }
+{
+    (x << n) | (x >> (32 - n))
+}
+
+pub fn parity(x: u32, y: u32, z: u32) -> u32
+    ensures { λ r. ⌜ r ≡ W.Parity x y z ⌝ }
+{
+    x ^ y ^ z
 }
 
 // The standard's form has four operations; this one has three.

@@ -1,12 +1,13 @@
 -- 01, "Numbers given back", for the calls that read a torrent: which answers there are, and what a record of the list carries. The
--- numbers 19 to 29 and 11 are in the table; `torrent`'s Answers says when each of 19 to 28 is given.
+-- numbers 19 to 29, 31 and 11 are in the table; `torrent`'s Answers says when each of 19 to 28 and 31 is given.
 -- Assumes nothing.
 use mathlib.Core.Path.{_≡_}
+use mathlib.Core.Logic.{_⊎_}
 use mathlib.Core.List.{List}
 use Prim.Native.Nat.{ℕ, _+_, _*_, _≤_, _<_}
 use lib.ListN.{length}
 use Rattle.octets.specs.Octets.{cut, numberAt}
-use Rattle.numbers.specs.Numbers.{noRoom, noSuchFile, refused}
+use Rattle.numbers.specs.Numbers.{noRoom, noSuchPart, halvesDiffer, refused}
 use Rattle.numbers.specs.declared.Answer.{Answer}
 use Rattle.filetree.specs.Tree.{maxElements}
 use Rattle.torrent.specs.Torrent.{noTorrent, noFileRead, noPartRead}
@@ -14,9 +15,9 @@ use Rattle.torrent.specs.declared.read.Torrent.{Torrent}
 use Rattle.torrent.specs.declared.read.FileRead.{FileRead}
 use Rattle.torrent.specs.declared.read.PartRead.{PartRead}
 
--- the numbers of a torrent that is refused: 19 to 28
+-- the numbers of a torrent that is refused: 19 to 28, or 31
 abbrev pub OfTorrent : ℕ → Type 0
-OfTorrent n = (19 ≤ n) × (n ≤ 28)
+OfTorrent n = ((19 ≤ n) × (n ≤ 28)) ⊎ (n ≡ halvesDiffer)
 
 -- kd_torrent_read: done, or such a number beside zeros
 pub data ReadOutcome : Torrent → Type 0 where
@@ -27,13 +28,13 @@ pub data ReadOutcome : Torrent → Type 0 where
 pub data FileOutcome : FileRead → Type 0 where
   done : (r : FileRead) → r .number ≡ 0 → FileOutcome r
   badTorrent : (n : ℕ) → OfTorrent n → FileOutcome (noFileRead n)
-  noFile : FileOutcome (noFileRead noSuchFile)
+  noFile : FileOutcome (noFileRead noSuchPart)
 
 -- kd_torrent_path: the same
 pub data PathOutcome : PartRead → Type 0 where
   done : (r : PartRead) → r .number ≡ 0 → PathOutcome r
   badTorrent : (n : ℕ) → OfTorrent n → PathOutcome (noPartRead n)
-  noElement : PathOutcome (noPartRead noSuchFile)
+  noElement : PathOutcome (noPartRead noSuchPart)
 
 -- kd_torrent_list, with the output before and after: done; or such a number or 11, beside zero, and the output as it was
 pub data ListOutcome (out : List ℕ) : Answer → List ℕ → Type 0 where

@@ -4,15 +4,15 @@ use mathlib.Core.Path.{_≡_, refl, _∙_}
 use mathlib.Core.Logic.{_⊎_, inl, inr}
 use mathlib.Core.Bool.{Bool, true, false, cond}
 use mathlib.Core.List.{List, [], _∷_}
-use Prim.Native.Nat.{ℕ, zero, suc, _*_}
+use Prim.Native.Nat.{ℕ, zero, suc, _*_, _<_}
 use native.Mathlib.Omega.{arith}
 use lib.ListN.{length}
 use lib.Dec.{eqb, ltb}
 use borrow.Author.Tests.{ne-eqb}
 use Rattle.octets.specs.Octets.{pasted}
-use Rattle.numbers.specs.Numbers.{noRoom, noSuchFile, refused, done}
+use Rattle.numbers.specs.Numbers.{noRoom, noSuchPart, refused, done}
 use Rattle.numbers.specs.declared.Answer.{Answer}
-use Rattle.meaning.specs.AmissLaws.{value-ranged}
+use Rattle.halves.specs.HalvesLaws.{torrent-ranged}
 use Rattle.metainfo.specs.Metainfo.{bytesIn}
 use Rattle.filetree.specs.Tree.{Element, listed, filesIn, fileNumber}
 use Rattle.torrent.specs.Torrent.{checkedOf, readOf, fileRead, noFileRead, pathRead, elementIn, noPartRead}
@@ -21,18 +21,24 @@ use Rattle.torrent.specs.NumberMeans.{torrent-number, read-number, refused-read
 use Rattle.catalogue.specs.Catalogue.{recordSize, recordsOf, partsOf, listAnswer, listAfter}
 use Rattle.calls.specs.Calls.{OfTorrent, ReadOutcome, done as readDone, badTorrent as readRefused, FileOutcome, done as fileDone, badTorrent as fileRefused, noFile, PathOutcome, done as pathDone, badTorrent as pathRefused, noElement, ListOutcome, done as listDone, badTorrent as listRefused, tooShort}
 
--- the number of a torrent is 0 or 19 to 28
+-- the number of a torrent is 0, 19 to 28, or 31
 pub checked-ranged : (s : List ℕ) → (checkedOf s .keys .number ≡ 0) ⊎ OfTorrent (checkedOf s .keys .number)
 checked-ranged s = by-case (torrent-number s)
   where
     by-case : Says s (checkedOf s .keys .number) → (checkedOf s .keys .number ≡ 0) ⊎ OfTorrent (checkedOf s .keys .number)
-    by-case (tooLarge h q) = inr (omega arith, omega arith)
-    by-case (noEncoding h a b q) = inr (omega arith, omega arith)
-    by-case (tooDeep h d q) = inr (omega arith, omega arith)
-    by-case (encodes h es v b q) = elim (value-ranged es) [ inl z ↦ inl (q ∙ z) | inr p ↦ (let x = p .0 in let y = p .1 in inr (omega arith, omega arith)) ]
+    by-case (tooLarge h q) = inr (inl (omega arith, omega arith))
+    by-case (noEncoding h a b q) = inr (inl (omega arith, omega arith))
+    by-case (tooDeep h d q) = inr (inl (omega arith, omega arith))
+    by-case (encodes h es v b q) =
+        elim (torrent-ranged es) [ inl z ↦ inl (q ∙ z) | inr w ↦ inr (elim w [ inl p ↦ (let x = p .0 in let y = p .1 in inl (omega arith, omega arith)) | inr z ↦ inr (q ∙ z) ]) ]
 
-not-zero : (n : ℕ) → OfTorrent n → n ≡ 0 → ⊥
-not-zero n p z = let x = p .0 in omega arith
+-- such a number is above 11, and is not 29
+pub of-torrent : (n : ℕ) → OfTorrent n → (noRoom < n) × (n ≡ noSuchPart → ⊥)
+of-torrent n (inl p) = let x = p .0 in let y = p .1 in (omega arith, λ z. omega arith)
+of-torrent n (inr e) = (omega arith, λ z. omega arith)
+
+pub not-zero : (n : ℕ) → OfTorrent n → n ≡ 0 → ⊥
+not-zero n p z = let x = of-torrent n p .0 in omega arith
 
 -- ---- each call
 
@@ -52,7 +58,7 @@ file-outcome s n =
   where
     by-file : checkedOf s .keys .number ≡ 0 → (b : Bool) → ltb n (checkedOf s .files) ≡ b → FileOutcome (fileRead s n)
     by-file z true q = fileDone (fileRead s n) (unfold fileRead in rw (z, q) refl)
-    by-file z false q = let none : fileRead s n ≡ noFileRead noSuchFile = unfold fileRead in rw (z, q) refl in rw none noFile
+    by-file z false q = let none : fileRead s n ≡ noFileRead noSuchPart = unfold fileRead in rw (z, q) refl in rw none noFile
 
 -- an element, or none of that number
 element-outcome : (base : ℕ) (path : List Element) (k : ℕ) → PathOutcome (elementIn base path k)
@@ -74,7 +80,7 @@ path-outcome s n k =
         let path = fileNumber (listed (filesIn (bytesIn s (checkedOf s .keys .tree)))) n .path in
         let some : pathRead s n k ≡ elementIn base path k = unfold pathRead in rw (z, q) refl in
         rw some (element-outcome base path k)
-    by-file z false q = let none : pathRead s n k ≡ noPartRead noSuchFile = unfold pathRead in rw (z, q) refl in rw none noElement
+    by-file z false q = let none : pathRead s n k ≡ noPartRead noSuchPart = unfold pathRead in rw (z, q) refl in rw none noElement
 
 pub list-outcome : (s out : List ℕ) → ListOutcome out (listAnswer s out) (listAfter s out)
 unfolding listAnswer listAfter

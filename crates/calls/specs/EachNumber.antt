@@ -11,7 +11,7 @@ use native.Mathlib.Decide.{decLt, ℕ-discrete}
 use lib.ListN.{length}
 use borrow.Author.Tests.{ne-eqb, lt-ltb, le-ltb}
 use Rattle.limits.specs.Limits.{maxLevels}
-use Rattle.numbers.specs.Numbers.{noRoom, noSuchFile}
+use Rattle.numbers.specs.Numbers.{noRoom, noSuchPart}
 use Rattle.bencode.specs.Grammar.{dictionary, Entries, encode, Valid}
 use Rattle.meaning.specs.Nth.{Nth}
 use Rattle.meaning.specs.NthLaws.{nth-some}
@@ -23,13 +23,13 @@ use Rattle.torrent.specs.ReadMeans.{torrent-is, file-is, no-file, no-file-only,
 use Rattle.torrent.specs.declared.read.FileRead.{FileRead}
 use Rattle.torrent.specs.declared.read.PartRead.{PartRead}
 use Rattle.catalogue.specs.Catalogue.{recordSize, listAnswer}
-use Rattle.calls.specs.CallsLaws.{checked-ranged}
+use Rattle.calls.specs.CallsLaws.{checked-ranged, of-torrent}
 use Rattle.calls.specs.InsideLaws.{file-elements, file-answered}
 
--- ---- kd_torrent_read: 19 to 28, the lowest, or 0
+-- ---- kd_torrent_read: 19 to 28 and 31, the lowest, or 0
 
--- 19: above 1 MiB; 20, 21: not strict bencoding, deeper than 32, whichever comes first from the left; 22 to 28: what 01 says of the value, the
--- lowest; 0 otherwise
+-- 19: above 1 MiB; 20, 21: not strict bencoding, deeper than 32, whichever comes first from the left; 22 to 28, then 31: what 01 and 02 say
+-- of the value, the lowest; 0 otherwise
 pub read-exactly : (s : List ℕ) (n : ℕ) → (readOf s .number ≡ n) ↔ Says s n
 read-exactly s n = (λ e. rw e at (read-says s), λ w. read-number s ∙ sym (no-other-number s n w))
 
@@ -53,23 +53,23 @@ module _ (s : List ℕ) (taken : readOf s .number ≡ 0) where
   file-at n l = let v = nth-some (filesOf value) n (omega (arith, count)) in (v .0, v .1, file-is s value bytes valid taken n (v .0) (v .1) .elements)
 
   -- 29 where there is no file n
-  past-files : (n : ℕ) → readOf s .files ≤ n → fileRead s n .number ≡ noSuchFile
+  past-files : (n : ℕ) → readOf s .files ≤ n → fileRead s n .number ≡ noSuchPart
   past-files n l = ap (λ (r : FileRead). r .number) (no-file s value bytes valid taken n (omega (arith, count)))
 
-  past-files-only : (n : ℕ) → fileRead s n .number ≡ noSuchFile → readOf s .files ≤ n
+  past-files-only : (n : ℕ) → fileRead s n .number ≡ noSuchPart → readOf s .files ≤ n
   past-files-only n e = omega (arith, count, no-file-only s value bytes valid taken n e)
 
   -- 29 for its path elements, and where the path of file n has no element k
-  past-paths : (n k : ℕ) → readOf s .files ≤ n → pathRead s n k .number ≡ noSuchFile
+  past-paths : (n k : ℕ) → readOf s .files ≤ n → pathRead s n k .number ≡ noSuchPart
   past-paths n k l = ap (λ (r : PartRead). r .number) (no-path s value bytes valid taken n k (omega (arith, count)))
 
-  past-elements : (n k : ℕ) → n < readOf s .files → fileRead s n .elements ≤ k → pathRead s n k .number ≡ noSuchFile
+  past-elements : (n k : ℕ) → n < readOf s .files → fileRead s n .elements ≤ k → pathRead s n k .number ≡ noSuchPart
   past-elements n k l h =
       let v = file-at n l in
       let m = v .2 in
       ap (λ (r : PartRead). r .number) (no-element s value bytes valid taken n (v .0) (v .1) k (omega arith))
 
-  past-elements-only : (n k : ℕ) → n < readOf s .files → pathRead s n k .number ≡ noSuchFile → fileRead s n .elements ≤ k
+  past-elements-only : (n k : ℕ) → n < readOf s .files → pathRead s n k .number ≡ noSuchPart → fileRead s n .elements ≤ k
   past-elements-only n k l e =
       let v = file-at n l in
       let m = v .2 in
@@ -78,12 +78,12 @@ module _ (s : List ℕ) (taken : readOf s .number ≡ 0) where
 -- ---- kd_torrent_file: 29, and else the torrent's own number
 
 module _ (s : List ℕ) (n : ℕ) where
-  -- no file of that number; after all of 19 to 28
-  pub file-29 : (fileRead s n .number ≡ noSuchFile) ↔ ((readOf s .number ≡ 0) × (readOf s .files ≤ n))
+  -- no file of that number; after all of 19 to 28 and 31
+  pub file-29 : (fileRead s n .number ≡ noSuchPart) ↔ ((readOf s .number ≡ 0) × (readOf s .files ≤ n))
   file-29 = (λ e. let z = file-29-after s n e in (z, past-files-only s z n e), λ p. past-files s (p .0) n (p .1))
 
   -- every other number is that of kd_torrent_read
-  pub file-number : (fileRead s n .number ≡ noSuchFile → ⊥) → fileRead s n .number ≡ readOf s .number
+  pub file-number : (fileRead s n .number ≡ noSuchPart → ⊥) → fileRead s n .number ≡ readOf s .number
   file-number h = by-number (ℕ-discrete (checkedOf s .keys .number) 0)
     where
       by-file : readOf s .number ≡ 0 → Dec (n < readOf s .files) → fileRead s n .number ≡ readOf s .number
@@ -97,21 +97,21 @@ module _ (s : List ℕ) (n : ℕ) where
 -- ---- kd_torrent_path: 29, and else the torrent's own number
 
 module _ (s : List ℕ) (n k : ℕ) where
-  -- no file, or no path element, of that number; after all of 19 to 28
-  pub path-29 : (pathRead s n k .number ≡ noSuchFile) ↔ ((readOf s .number ≡ 0) × ((readOf s .files ≤ n) ⊎ (fileRead s n .elements ≤ k)))
+  -- no file, or no path element, of that number; after all of 19 to 28 and 31
+  pub path-29 : (pathRead s n k .number ≡ noSuchPart) ↔ ((readOf s .number ≡ 0) × ((readOf s .files ≤ n) ⊎ (fileRead s n .elements ≤ k)))
   path-29 = (λ e. let z = path-29-after s n k e in (z, none z e (decLt n (readOf s .files))), λ p. given (p .0) (decLt n (readOf s .files)) (p .1))
     where
-      none : readOf s .number ≡ 0 → pathRead s n k .number ≡ noSuchFile → Dec (n < readOf s .files) → (readOf s .files ≤ n) ⊎ (fileRead s n .elements ≤ k)
+      none : readOf s .number ≡ 0 → pathRead s n k .number ≡ noSuchPart → Dec (n < readOf s .files) → (readOf s .files ≤ n) ⊎ (fileRead s n .elements ≤ k)
       none z e (yes l) = inr (past-elements-only s z n k l e)
       none z e (no g) = inl (omega arith)
 
-      given : readOf s .number ≡ 0 → Dec (n < readOf s .files) → (readOf s .files ≤ n) ⊎ (fileRead s n .elements ≤ k) → pathRead s n k .number ≡ noSuchFile
+      given : readOf s .number ≡ 0 → Dec (n < readOf s .files) → (readOf s .files ≤ n) ⊎ (fileRead s n .elements ≤ k) → pathRead s n k .number ≡ noSuchPart
       given z (no g) w = past-paths s z n k (omega arith)
       given z (yes l) (inl h) = past-paths s z n k h
       given z (yes l) (inr h) = past-elements s z n k l h
 
   -- every other number is that of kd_torrent_read
-  pub path-number : (pathRead s n k .number ≡ noSuchFile → ⊥) → pathRead s n k .number ≡ readOf s .number
+  pub path-number : (pathRead s n k .number ≡ noSuchPart → ⊥) → pathRead s n k .number ≡ readOf s .number
   path-number h = by-number (ℕ-discrete (checkedOf s .keys .number) 0)
     where
       by-place : readOf s .number ≡ 0 → Dec (n < readOf s .files) → Dec (k < fileRead s n .elements) → pathRead s n k .number ≡ readOf s .number
@@ -144,7 +144,7 @@ module _ (s out : List ℕ) where
   unfolding readOf
   files-same z = rw z refl
 
-  -- output shorter than the reply, a record of `recordSize` bytes for each file; after all of 19 to 28
+  -- output shorter than the reply, a record of `recordSize` bytes for each file; after all of 19 to 28 and 31
   pub list-11 : (listAnswer s out .number ≡ noRoom) ↔ ((readOf s .number ≡ 0) × (length out < recordSize * readOf s .files))
   list-11 = (
     λ e. by-number e (ℕ-discrete (checkedOf s .keys .number) 0),
@@ -160,7 +160,7 @@ module _ (s out : List ℕ) where
       by-number e (yes z) = by-room e z (decLt (length out) (recordSize * checkedOf s .files))
       by-number e (no g) =
           let q = list-as-torrent g in
-          let w : ⊥ = elim (checked-ranged s) [ inl z ↦ g z | inr p ↦ (let x = p .0 in omega arith) ] in
+          let w : ⊥ = elim (checked-ranged s) [ inl z ↦ g z | inr p ↦ (let x = of-torrent (checkedOf s .keys .number) p .0 in omega arith) ] in
           absurd w
 
   -- every other number is that of kd_torrent_read

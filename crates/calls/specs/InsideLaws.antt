@@ -1,7 +1,7 @@
 -- 02, request 5: no file of a torrent that is answered 0 is outside its folder; the rule for path elements changes no other answer; and an
 -- element against it is 25.
 -- Assumes nothing.
-use mathlib.Core.Path.{_≡_, sym, ap, _∙_}
+use mathlib.Core.Path.{_≡_, refl, sym, ap, _∙_}
 use mathlib.Core.Logic.{_⊎_, inl, inr}
 use mathlib.Core.Bool.{true}
 use mathlib.Core.List.{List, _++_}
@@ -10,7 +10,7 @@ use native.Mathlib.Omega.{arith}
 use native.Mathlib.Decide.{decLt, ℕ-discrete}
 use lib.ListN.{length, take}
 use Rattle.limits.specs.Limits.{largestTorrent, maxLevels}
-use Rattle.numbers.specs.Numbers.{wrongTree, noSuchFile}
+use Rattle.numbers.specs.Numbers.{wrongTree, noSuchPart}
 use Rattle.bencode.specs.Grammar.{dictionary, Entries, encode, Valid}
 use Rattle.meaning.specs.Nth.{Nth}
 use Rattle.meaning.specs.NthLaws.{nth-some}
@@ -24,6 +24,7 @@ use Rattle.meaning.specs.Paths.{StaysInside, AllStay, written, toZero, Location
 use Rattle.meaning.specs.PathsLaws.{element-exactly, followed, on-the-way, in-folder}
 use Rattle.meaning.specs.NamesAside.{treeShaped, namesRight}
 use Rattle.meaning.specs.NamesAsideLaws.{names-right-stands, names-only-25}
+use Rattle.halves.specs.V1Half.{withHalves, torrentNumber}
 use Rattle.torrent.specs.Torrent.{checkedOf, readOf, fileRead, pathRead}
 use Rattle.torrent.specs.NumberMeans.{number-is-the-values, read-number, read-encodes, refused-read, refused-file, refused-path}
 use Rattle.torrent.specs.ReadMeans.{at-values, value-zero, torrent-is, file-is, no-file, element-is, no-element, no-path}
@@ -81,7 +82,7 @@ file-found s n e = by-number (ℕ-discrete (checkedOf s .keys .number) 0)
     by-number (no g) = absurd (g (sym (ap (λ (r : FileRead). r .number) (refused-file s n g)) ∙ e))
     by-number (yes z) =
         let taken = read-number s ∙ z in
-        file-there s n taken (λ es bytes valid l. let q : fileRead s n .number ≡ noSuchFile = ap (λ (r : FileRead). r .number) (no-file s es bytes valid taken n l) in omega arith)
+        file-there s n taken (λ es bytes valid l. let q : fileRead s n .number ≡ noSuchPart = ap (λ (r : FileRead). r .number) (no-file s es bytes valid taken n l) in omega arith)
 
 path-found : (s : List ℕ) (n k : ℕ) → pathRead s n k .number ≡ 0 → FileAt s n
 path-found s n k e = by-number (ℕ-discrete (checkedOf s .keys .number) 0)
@@ -90,7 +91,7 @@ path-found s n k e = by-number (ℕ-discrete (checkedOf s .keys .number) 0)
     by-number (no g) = absurd (g (sym (ap (λ (r : PartRead). r .number) (refused-path s n k g)) ∙ e))
     by-number (yes z) =
         let taken = read-number s ∙ z in
-        file-there s n taken (λ es bytes valid l. let q : pathRead s n k .number ≡ noSuchFile = ap (λ (r : PartRead). r .number) (no-path s es bytes valid taken n k l) in omega arith)
+        file-there s n taken (λ es bytes valid l. let q : pathRead s n k .number ≡ noSuchPart = ap (λ (r : PartRead). r .number) (no-path s es bytes valid taken n k l) in omega arith)
 
 -- ---- every element of every path
 
@@ -103,7 +104,7 @@ element-stays s n k e = by-count (decLt k (length (f .file .path)))
 
     by-count : Dec (k < length (f .file .path)) → StaysInside (elementRead s n k)
     by-count (no g) =
-        let q : pathRead s n k .number ≡ noSuchFile = ap (λ (r : PartRead). r .number) (no-element s (f .value) (f .bytes) (f .valid) (f .taken) n (f .file) (f .there) k (omega arith)) in
+        let q : pathRead s n k .number ≡ noSuchPart = ap (λ (r : PartRead). r .number) (no-element s (f .value) (f .bytes) (f .valid) (f .taken) n (f .file) (f .there) k (omega arith)) in
         absurd (omega arith)
     by-count (yes l) =
         let x = nth-some (f .file .path) k l in
@@ -179,17 +180,17 @@ list-element-stays s out e n k l h =
 -- ---- the rule changes no other answer
 
 module _ (s : List ℕ) (es : Entries) (bytes : s ≡ encode (dictionary es)) (valid : Valid (dictionary es) maxLevels) (small : length s ≤ largestTorrent) where
-  number-is : readOf s .number ≡ valueNumber es
-  number-is = read-number s ∙ number-is-the-values s es bytes valid small
+  number-is : readOf s .number ≡ withHalves es (valueNumber es)
+  number-is = read-number s ∙ number-is-the-values s es bytes valid small ∙ (unfold torrentNumber in refl)
 
-  -- where all path elements are right, the number is the one with the names left aside
-  pub right-names-stand : namesRight (treeOf es) ≡ true → readOf s .number ≡ numberBy treeShaped es
-  right-names-stand e = number-is ∙ names-right-stands es e
+  -- where all path elements are right, the number of the v2 half is the one with the names left aside
+  pub right-names-stand : namesRight (treeOf es) ≡ true → readOf s .number ≡ withHalves es (numberBy treeShaped es)
+  right-names-stand e = number-is ∙ ap (withHalves es) (names-right-stands es e)
 
   -- for every torrent it is that one or 25
-  pub names-give-25 : (readOf s .number ≡ numberBy treeShaped es) ⊎ (readOf s .number ≡ wrongTree)
-  names-give-25 = elim (names-only-25 es) [ inl e ↦ inl (number-is ∙ e) | inr e ↦ inr (number-is ∙ e) ]
+  pub names-give-25 : (readOf s .number ≡ withHalves es (numberBy treeShaped es)) ⊎ (readOf s .number ≡ wrongTree)
+  names-give-25 = elim (names-only-25 es) [ inl e ↦ inl (number-is ∙ ap (withHalves es) e) | inr e ↦ inr (number-is ∙ ap (withHalves es) e) ]
 
   -- and with nothing of 22 to 24 amiss it is 25, if an element of a file's path is empty, `.` or `..`, or has a `/` or a zero byte
   pub climbs-out-25 : NoneBelow25 es → (n k : ℕ) (f : File) (e : List ℕ) → Nth (filesOf es) n f → Nth (f .path) k e → (StaysInside e → ⊥) → readOf s .number ≡ wrongTree
-  climbs-out-25 below n k f e there at out = number-is ∙ climbs-out es valid below n k f e there at out
+  climbs-out-25 below n k f e there at out = number-is ∙ ap (withHalves es) (climbs-out es valid below n k f e there at out)

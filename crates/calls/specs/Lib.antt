@@ -6,3 +6,4 @@ pub mod InsideLaws
 pub mod SameContent
 pub mod SameContentLaws
 pub mod EachNumber
+pub mod AsBefore

@@ -9,7 +9,7 @@ use lib.ListN.{length}
 use lib.Dec.{eqb}
 use Rattle.octets.specs.Octets.{same}
 use Rattle.limits.specs.Limits.{largestTorrent, maxLevels}
-use Rattle.numbers.specs.Numbers.{keyMissing, otherVersion, pieceLengthOutOfRange, wrongTree, sameRoot, layersAmiss, layerDiffers}
+use Rattle.numbers.specs.Numbers.{keyMissing, otherVersion, pieceLengthOutOfRange, wrongTree, twoLengths, layersAmiss, layerDiffers}
 use Rattle.tree.specs.Geometry.{isPieceLength}
 use Rattle.bencode.specs.Grammar.{dictionary, Entries, encode, Valid}
 use Rattle.bencode.specs.Parts.{lookup}
@@ -47,7 +47,7 @@ numberBefore torrent =
     0
     layerDiffers)
     layersAmiss)
-    sameRoot)
+    twoLengths)
     wrongTree)
     pieceLengthOutOfRange)
     otherVersion)

@@ -1,7 +1,7 @@
 -- 02, request 2: 26 exactly when two non-empty files have one root and different lengths and no lower number is due; a torrent keeps the
 -- number that it had, unless that was 26; one in which no two non-empty files have one root keeps it, and is never 26.
 -- Assumes nothing.
-use mathlib.Core.Path.{_≡_, refl, sym, _∙_}
+use mathlib.Core.Path.{_≡_, refl, sym, ap, _∙_}
 use mathlib.Core.Logic.{_⊎_, inl, inr, _↔_}
 use mathlib.Core.Bool.{Bool, true, false, cond, not, _&&_, _||_, false≢true, and-eq-true-iff}
 use mathlib.Core.List.{List, [], _∷_}
@@ -11,7 +11,7 @@ use lib.ListN.{length}
 use lib.Dec.{eqb}
 use Rattle.limits.specs.Limits.{largestTorrent, maxLevels}
 use Rattle.octets.specs.Octets.{same}
-use Rattle.numbers.specs.Numbers.{keyMissing, otherVersion, pieceLengthOutOfRange, wrongTree, sameRoot, layersAmiss, layerDiffers}
+use Rattle.numbers.specs.Numbers.{keyMissing, otherVersion, pieceLengthOutOfRange, wrongTree, twoLengths, layersAmiss, layerDiffers}
 use Rattle.tree.specs.Geometry.{isPieceLength}
 use Rattle.bencode.specs.Grammar.{dictionary, Entries, encode, Valid}
 use Rattle.bencode.specs.Parts.{lookup}
@@ -19,6 +19,8 @@ use Rattle.meaning.specs.Keys.{keyMetaVersion}
 use Rattle.meaning.specs.Torrent.{File, isNumber, infoOf, treeOf, filesOf, plenOf, layersOf, hasKeys, treeRight, noOtherLength, lengthsAgree, layersFit, noOthers, layersGiveRoots, valueNumber}
 use Rattle.meaning.specs.TestsLaws.{roots-right}
 use Rattle.meaning.specs.AmissLaws.{exactly-26}
+use Rattle.halves.specs.V1Half.{withHalves, torrentNumber}
+use Rattle.halves.specs.HalvesLaws.{lower-exactly}
 use Rattle.torrent.specs.Torrent.{readOf}
 use Rattle.torrent.specs.Answers.{encodes}
 use Rattle.torrent.specs.NumberMeans.{number-is-the-values, no-other-number, read-number, value-only}
@@ -26,18 +28,22 @@ use Rattle.calls.specs.SameContent.{TwoLengthsIn, noneWith, rootsApart, 
 
 -- ---- 26
 
+-- 26 is given by the v2 half
+at-26 : (es : Entries) → (torrentNumber es ≡ twoLengths) ↔ (valueNumber es ≡ twoLengths)
+at-26 es = lower-exactly es twoLengths (omega arith) (omega arith)
+
 -- kd_torrent_read answers 26 EXACTLY WHEN that is so
-pub read-26 : (s : List ℕ) → (readOf s .number ≡ sameRoot) ↔ TwoLengthsIn s
+pub read-26 : (s : List ℕ) → (readOf s .number ≡ twoLengths) ↔ TwoLengthsIn s
 read-26 s = (
   λ e.
       let q = sym (read-number s) ∙ e in
       let v = value-only s (inr (omega arith)) in
-      let w = exactly-26 (v .1 .0) .0 (sym (v .1 .3) ∙ q) in
+      let w = exactly-26 (v .1 .0) .0 (at-26 (v .1 .0) .0 (sym (v .1 .3) ∙ q)) in
       (v .0, (v .1 .0, v .1 .1, v .1 .2, w .0, w .1)),
   λ w.
       let es = w .1 .0 in
-      let n : sameRoot ≡ valueNumber es = sym (exactly-26 es .1 (w .1 .3, w .1 .4)) in
-      read-number s ∙ sym (no-other-number s sameRoot (encodes (w .0) es (w .1 .1) (w .1 .2) n)),
+      let n : twoLengths ≡ torrentNumber es = sym (at-26 es .1 (exactly-26 es .1 (w .1 .3, w .1 .4))) in
+      read-number s ∙ sym (no-other-number s twoLengths (encodes (w .0) es (w .1 .1) (w .1 .2) n)),
 )
 
 -- ---- what it was before
@@ -68,8 +74,8 @@ apart-agree (f ∷ fs) e = by-size (eqb (f .size) 0) (p .0) (apart-agree fs (p .
     by-size true q ih = ih
     by-size false q ih = rw (none-other (f .root) (f .size) fs q, ih) refl
 
--- a value keeps its number, unless that was 26
-pub kept-or-26 : (es : Entries) → (numberBefore es ≡ sameRoot) ⊎ (valueNumber es ≡ numberBefore es)
+-- a value keeps its number by the v2 half, unless that was 26
+pub kept-or-26 : (es : Entries) → (numberBefore es ≡ twoLengths) ⊎ (valueNumber es ≡ numberBefore es)
 unfolding valueNumber numberBefore
 kept-or-26 es =
     by-tests (hasKeys es) (isNumber 2 (lookup keyMetaVersion (infoOf es))) (isPieceLength (plenOf es)) (treeRight (treeOf es)) (rootsApart (filesOf es)) refl
@@ -78,9 +84,9 @@ kept-or-26 es =
     others = cond (layersFit (plenOf es) (layersOf es) (filesOf es) && noOthers (plenOf es) (filesOf es) (layersOf es)) (cond (layersGiveRoots (plenOf es) (layersOf es) (filesOf es)) 0 layerDiffers) layersAmiss
 
     number : Bool → Bool → Bool → Bool → Bool → ℕ
-    number a b c d e = cond a (cond b (cond c (cond d (cond e others sameRoot) wrongTree) pieceLengthOutOfRange) otherVersion) keyMissing
+    number a b c d e = cond a (cond b (cond c (cond d (cond e others twoLengths) wrongTree) pieceLengthOutOfRange) otherVersion) keyMissing
 
-    by-tests : (a b c d e : Bool) → rootsApart (filesOf es) ≡ e → (number a b c d e ≡ sameRoot) ⊎ (number a b c d (lengthsAgree (filesOf es)) ≡ number a b c d e)
+    by-tests : (a b c d e : Bool) → rootsApart (filesOf es) ≡ e → (number a b c d e ≡ twoLengths) ⊎ (number a b c d (lengthsAgree (filesOf es)) ≡ number a b c d e)
     by-tests false b c d e q = inr refl
     by-tests true false c d e q = inr refl
     by-tests true true false d e q = inr refl
@@ -93,11 +99,11 @@ pub apart-kept : (es : Entries) → rootsApart (filesOf es) ≡ true → valueNu
 unfolding valueNumber numberBefore
 apart-kept es e = rw (e, apart-agree (filesOf es) e) refl
 
--- so it is of the number that is read
+-- so it is of the number that is read, with 31 behind 28
 pub read-kept : (s : List ℕ) (es : Entries) → s ≡ encode (dictionary es) → Valid (dictionary es) maxLevels → length s ≤ largestTorrent → rootsApart (filesOf es) ≡ true
-    → readOf s .number ≡ numberBefore es
-read-kept s es e v h a = read-number s ∙ number-is-the-values s es e v h ∙ apart-kept es a
+    → readOf s .number ≡ withHalves es (numberBefore es)
+read-kept s es e v h a = read-number s ∙ number-is-the-values s es e v h ∙ (unfold torrentNumber in ap (withHalves es) (apart-kept es a))
 
 -- and 26 is never its number; nothing else in what the calls answer mentions this rule
-pub apart-never-26 : (es : Entries) → rootsApart (filesOf es) ≡ true → valueNumber es ≡ sameRoot → ⊥
-apart-never-26 es a q = roots-right (filesOf es) (apart-agree (filesOf es) a) (exactly-26 es .0 q .1)
+pub apart-never-26 : (es : Entries) → rootsApart (filesOf es) ≡ true → torrentNumber es ≡ twoLengths → ⊥
+apart-never-26 es a q = roots-right (filesOf es) (apart-agree (filesOf es) a) (exactly-26 es .0 (at-26 es .0 q) .1)

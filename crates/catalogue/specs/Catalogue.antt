@@ -65,7 +65,7 @@ abbrev pub partsOf : List ℕ → Keys → Parts
 partsOf s k =
     record { t = bytesIn s (k .tree); l = bytesIn s (k .layers); tree = k .tree .start; layers = k .layers .start; plen = k .plen }
 
--- 19 to 28; 11 where the output is too short; 0 and the size of the list
+-- 19 to 28 or 31; 11 where the output is too short; 0 and the size of the list
 abbrev pub answerIn : List ℕ → Checked → Answer
 answerIn out c =
     cond (eqb (c .keys .number) 0)

@@ -13,7 +13,7 @@ use borrow.Author.Tests.{eqb-false, le-ltb, lt-ltb}
 use Rattle.limits.specs.Limits.{largestTorrent}
 use Rattle.octets.specs.Octets.{cut, zeroHash, be}
 use Rattle.octets.specs.OctetsLaws.{cut-length, be-octets, zero-octets}
-use Rattle.numbers.specs.Numbers.{wrongTree, sameRoot, layersAmiss}
+use Rattle.numbers.specs.Numbers.{wrongTree, twoLengths, layersAmiss}
 use Rattle.bencode.specs.declared.scalar.ByteString.{ByteString}
 use Rattle.metainfo.specs.Metainfo.{bytesIn}
 use Rattle.filetree.specs.Token.{tokenAt}
@@ -242,11 +242,11 @@ tree-keyed t l plen fs e = by-right (right fs) e
     by-keys true q g = q
     by-keys false q g = absurd (omega arith)
 
-    by-roots : (b : Bool) → cond b (cond both (worst t l plen 0 (listed fs)) layersAmiss) sameRoot ≡ 0 → both ≡ true
+    by-roots : (b : Bool) → cond b (cond both (worst t l plen 0 (listed fs)) layersAmiss) twoLengths ≡ 0 → both ≡ true
     by-roots true g = by-keys both refl g
     by-roots false g = absurd (omega arith)
 
-    by-right : (b : Bool) → cond b (cond (lengthsAgree (readFiles t (listed fs))) (cond both (worst t l plen 0 (listed fs)) layersAmiss) sameRoot) wrongTree ≡ 0 → both ≡ true
+    by-right : (b : Bool) → cond b (cond (lengthsAgree (readFiles t (listed fs))) (cond both (worst t l plen 0 (listed fs)) layersAmiss) twoLengths) wrongTree ≡ 0 → both ≡ true
     by-right true g = by-roots (lengthsAgree (readFiles t (listed fs))) g
     by-right false g = absurd (omega arith)
 

@@ -134,7 +134,7 @@ fn list_in(t: &[u8], l: &[u8], keys: &mut [u32], out: &mut [u8], list: Listing)
     put_directory(t, l, keys, &mut path, out, spot);
 }
 
-// 0 and the size of the list, which is then at the start of `out`; or 19 to 28, or 11 if `out` is too short for it.
+// 0 and the size of the list, which is then at the start of `out`; or 19 to 28 or 31, or 11 if `out` is too short for it.
 pub fn list(s: &[u8], out: &mut [u8]) -> Answer
     ensures { λ r. ⌜ (r ≡ listAnswer (now (s .entry)) (now (out .entry))) × (now (out .exit) ≡ listAfter (now (s .entry)) (now (out .entry))) ⌝ }
 {

@@ -9,12 +9,13 @@ use native.Mathlib.Omega.{arith}
 use native.Mathlib.Decide.{ℕ-discrete}
 use lib.ListN.{length}
 use Rattle.octets.specs.Octets.{pasted}
-use Rattle.numbers.specs.Numbers.{wrongSize, noRoom, table, Listed, first, later, InTable}
+use Rattle.numbers.specs.Numbers.{ruleBroken, wrongSize, noRoom, halvesDiffer, table, Listed, first, later, InTable}
 use Rattle.numbers.specs.Chain.{listed-in}
 use Rattle.numbers.specs.declared.Answer.{Answer}
 use Rattle.frames.specs.WriterLaws.{frame-in-table, answer-number, frame-refusal}
 use Rattle.frames.specs.FramesLaws.{bytes-of}
 use Rattle.stream.specs.AnswerLaws.{hear-in-table, hear-refusal, refusal-leaves-room}
+use Rattle.sha1.specs.AnswerLaws.{sha1-in-table, beside-sha1}
 use Rattle.header.specs.Header.{headerSize, requestId}
 use Rattle.serve.specs.Serve.{serveAnswer, serveAfter, rejectTo}
 use Rattle.serve.specs.ServeLaws.{reject-length}
@@ -24,22 +25,27 @@ use Rattle.torrent.specs.declared.read.FileRead.{FileRead}
 use Rattle.torrent.specs.declared.read.PartRead.{PartRead}
 use Rattle.catalogue.specs.Catalogue.{listAnswer, listAfter}
 use Rattle.writing.specs.Write.{writeAnswer, writeAfter}
-use Rattle.calls.specs.Calls.{ReadOutcome, done as readDone, badTorrent as readRefused, FileOutcome, done as fileDone, badTorrent as fileRefused, noFile, PathOutcome, done as pathDone, badTorrent as pathRefused, noElement, ListOutcome, done as listDone, badTorrent as listRefused, tooShort}
+use Rattle.calls.specs.Calls.{OfTorrent, ReadOutcome, done as readDone, badTorrent as readRefused, FileOutcome, done as fileDone, badTorrent as fileRefused, noFile, PathOutcome, done as pathDone, badTorrent as pathRefused, noElement, ListOutcome, done as listDone, badTorrent as listRefused, tooShort}
 use Rattle.calls.specs.CallsLaws.{read-outcome, file-outcome, path-outcome, list-outcome, list-refused}
 use Rattle.about.specs.About.{infoRead, nameRead}
 use Rattle.about.specs.AboutMeans.{info-outcome, name-outcome}
+use Rattle.v1.specs.V1.{noHybrid, hybridOf, noPiece, v1PieceOf, noPart, v1PiecesOf}
+use Rattle.v1.specs.EachNumber.{HybridOutcome, done as hybridDone, badTorrent as hybridRefused, hybrid-outcome, PieceOutcome, done as v1PieceDone, badTorrent as v1PieceRefused, noFile as v1PieceNoFile, notThere as v1PieceNotThere, piece-outcome, PiecesOutcome, done as v1PiecesDone, badTorrent as v1PiecesRefused, noFile as v1PiecesNoFile, notThere as v1PiecesNotThere, pieces-outcome}
+use Rattle.v1.specs.declared.read.HybridRead.{HybridRead}
+use Rattle.v1.specs.declared.read.V1Piece.{V1Piece}
+use Rattle.v1.specs.declared.read.V1Part.{V1Part}
 use Rattle.places.specs.Where.{place-in-table, first-in-table, place-zeros, first-zeros}
 use Rattle.published.specs.Published.{WriteNumber, is-4, is-11, is-19, is-21, is-24-to-28, WriteOutcome, put, left as nothingPut}
 use Rattle.published.specs.Promised.{write-outcome, write-refused}
 use Rattle.words.specs.Messages.{Form, Rejected}
-use Rattle.words.specs.History.{Bytes, Send, serve, bitfield, save, ask, send, Call, take, loadLayer, judgeBlock, judgePiece, clear, reopen, load, repair, look, replyNumber, sendReply, number as storeNumber, sentTo}
+use Rattle.words.specs.History.{Bytes, Send, serve, bitfield, save, ask, send, Call, take, loadLayer, judgeBlock, judgePiece, judgeHybridPiece, clear, reopen, load, repair, look, replyNumber, sendReply, number as storeNumber, sentTo}
 use Rattle.words.specs.Answers.{ServeOutcome, replied, rejected, untouched}
 use Rattle.promises.specs.Demand1.{calls-in-table, sha256-in-table, size-in-table, refusal-leaves-store, request-answered, beside-refusal, beside-sha256, beside-size}
 use Rattle.promises.specs.EachNumber.{serve-2, serve-3, serve-12}
 use Rattle.promises.specs.Marks.{field-refused}
 use Rattle.promises.specs.Saved.{save-refused}
 use Rattle.promises.specs.Running as Running
-use Rattle.contracts.specs.Entries.{AnyCall, onStore, version, sha256, storeSize, hashingBegin, hashingMore, hashingEnd, historyBegin, historyMore, historyEnd, streamBegin, streamHear, frame, torrentRead, torrentFile, torrentPath, torrentList, torrentInfo, torrentName, torrentWrite, place, firstPiece, FromTable, Refused, Silent, said, output, outputAfter, lent, left, RejectSent, request, ValuesZero}
+use Rattle.contracts.specs.Entries.{AnyCall, onStore, version, sha256, sha1, storeSize, hashingBegin, hashingMore, hashingEnd, historyBegin, historyMore, historyEnd, streamBegin, streamHear, frame, torrentRead, torrentFile, torrentPath, torrentList, torrentInfo, torrentName, torrentHybrid, torrentV1Piece, torrentV1Pieces, torrentWrite, place, firstPiece, FromTable, Refused, Silent, said, output, outputAfter, lent, left, RejectSent, request, ValuesZero}
 
 -- ---- the torrent calls' numbers are in the table
 
@@ -52,9 +58,12 @@ among : (k m n : ℕ) (others : List ℕ) → m ≤ n → n < m + k → Listed n
 among zero m n others l h = let w : ⊥ = omega arith in absurd w
 among (suc k) m n others l h = elim (ℕ-discrete m n) [ yes e ↦ rw e first | no d ↦ later (among k (suc m) n others (omega (arith, d)) (omega arith)) ]
 
--- 0, 4, 11
+-- 0, 3, 4, 11
 zero-in : InTable 0
 zero-in = listed-in 0 table refl
+
+rule-broken-in : InTable ruleBroken
+rule-broken-in = listed-in ruleBroken table refl
 
 wrong-size-in : InTable wrongSize
 wrong-size-in = listed-in wrongSize table refl
@@ -66,23 +75,44 @@ no-room-in = listed-in noRoom table refl
 torrent-in : (n : ℕ) → 19 ≤ n → n ≤ 29 → InTable n
 torrent-in n l h = later (later (later (later (later (later (later (later (later (later (later (later (later (among 11 19 n _ l (omega arith))))))))))))))
 
+-- the numbers of a torrent that is refused: these without 29, and 31
+refused-in : (n : ℕ) → OfTorrent n → InTable n
+refused-in n (inl p) = torrent-in n (p .0) (omega (arith, p .1))
+refused-in n (inr e) = rw e (listed-in halvesDiffer table refl)
+
 read-in : (r : Torrent) → ReadOutcome r → InTable (r .number)
 read-in r (readDone q e) = rw e zero-in
-read-in r (readRefused n p) = torrent-in n (p .0) (omega (arith, p .1))
+read-in r (readRefused n p) = refused-in n p
 
 file-in : (r : FileRead) → FileOutcome r → InTable (r .number)
 file-in r (fileDone q e) = rw e zero-in
-file-in r (fileRefused n p) = torrent-in n (p .0) (omega (arith, p .1))
+file-in r (fileRefused n p) = refused-in n p
 file-in r noFile = torrent-in 29 (omega arith) (omega arith)
 
 path-in : (r : PartRead) → PathOutcome r → InTable (r .number)
 path-in r (pathDone q e) = rw e zero-in
-path-in r (pathRefused n p) = torrent-in n (p .0) (omega (arith, p .1))
+path-in r (pathRefused n p) = refused-in n p
 path-in r noElement = torrent-in 29 (omega arith) (omega arith)
+
+hybrid-in : (r : HybridRead) → HybridOutcome r → InTable (r .number)
+hybrid-in r (hybridDone q e) = rw e zero-in
+hybrid-in r (hybridRefused n p) = refused-in n p
+
+v1-piece-in : (r : V1Piece) → PieceOutcome r → InTable (r .number)
+v1-piece-in r (v1PieceDone q e) = rw e zero-in
+v1-piece-in r (v1PieceRefused n p) = refused-in n p
+v1-piece-in r v1PieceNoFile = torrent-in 29 (omega arith) (omega arith)
+v1-piece-in r v1PieceNotThere = rule-broken-in
+
+v1-pieces-in : (r : V1Part) → PiecesOutcome r → InTable (r .number)
+v1-pieces-in r (v1PiecesDone q e) = rw e zero-in
+v1-pieces-in r (v1PiecesRefused n p) = refused-in n p
+v1-pieces-in r v1PiecesNoFile = torrent-in 29 (omega arith) (omega arith)
+v1-pieces-in r v1PiecesNotThere = rule-broken-in
 
 list-in : (out : List ℕ) (a : Answer) (after : List ℕ) → ListOutcome out a after → InTable (a .number)
 list-in out a after (listDone q t e) = rw e zero-in
-list-in out a after (listRefused n p) = torrent-in n (p .0) (omega (arith, p .1))
+list-in out a after (listRefused n p) = refused-in n p
 list-in out a after tooShort = no-room-in
 
 write-number-in : (n : ℕ) → WriteNumber n → InTable n
@@ -118,6 +148,7 @@ output-stays (take m b) s ne nr = refl
 output-stays (loadLayer l b) s ne nr = refl
 output-stays (judgeBlock i d b) s ne nr = refl
 output-stays (judgePiece i d b) s ne nr = refl
+output-stays (judgeHybridPiece i d v z b o) s ne nr = refl
 output-stays (clear i) s ne nr = refl
 output-stays (reopen n plen root o) s ne nr = refl
 output-stays (load b x) s ne nr = refl
@@ -141,6 +172,22 @@ path-zeros r (pathDone q e) ne = absurd (ne e)
 path-zeros r (pathRefused n p) ne = refl
 path-zeros r noElement ne = refl
 
+hybrid-zeros : (r : HybridRead) → HybridOutcome r → (r .number ≡ 0 → ⊥) → r ≡ noHybrid (r .number)
+hybrid-zeros r (hybridDone q e) ne = absurd (ne e)
+hybrid-zeros r (hybridRefused n p) ne = refl
+
+v1-piece-zeros : (r : V1Piece) → PieceOutcome r → (r .number ≡ 0 → ⊥) → r ≡ noPiece (r .number)
+v1-piece-zeros r (v1PieceDone q e) ne = absurd (ne e)
+v1-piece-zeros r (v1PieceRefused n p) ne = refl
+v1-piece-zeros r v1PieceNoFile ne = refl
+v1-piece-zeros r v1PieceNotThere ne = refl
+
+v1-pieces-zeros : (r : V1Part) → PiecesOutcome r → (r .number ≡ 0 → ⊥) → r ≡ noPart (r .number)
+v1-pieces-zeros r (v1PiecesDone q e) ne = absurd (ne e)
+v1-pieces-zeros r (v1PiecesRefused n p) ne = refl
+v1-pieces-zeros r v1PiecesNoFile ne = refl
+v1-pieces-zeros r v1PiecesNotThere ne = refl
+
 -- ---- the demand
 
 -- "Any bytes may come in, as torrent, message, block or store. Every entry point answers with a number from the table,
@@ -148,6 +195,7 @@ path-zeros r noElement ne = refl
 pub every-number-in-table : (a : AnyCall) → FromTable (said a)
 every-number-in-table (onStore c s) = calls-in-table c s
 every-number-in-table (sha256 m) = sha256-in-table m
+every-number-in-table (sha1 m) = sha1-in-table m
 every-number-in-table (storeSize k plen) = size-in-table k plen
 every-number-in-table hashingBegin = tt
 every-number-in-table (hashingMore h burst) = Running.hashing-more-in-table h burst
@@ -165,6 +213,9 @@ every-number-in-table (torrentPath t file element) = path-in (pathRead t file el
 every-number-in-table (torrentList t out) = list-in out (listAnswer t out) (listAfter t out) (list-outcome t out)
 every-number-in-table (torrentInfo t) = path-in (infoRead t) (info-outcome t)
 every-number-in-table (torrentName t) = path-in (nameRead t) (name-outcome t)
+every-number-in-table (torrentHybrid t) = hybrid-in (hybridOf t) (hybrid-outcome t)
+every-number-in-table (torrentV1Piece t file piece) = v1-piece-in (v1PieceOf t file piece) (piece-outcome t file piece)
+every-number-in-table (torrentV1Pieces t file) = v1-pieces-in (v1PiecesOf t file) (pieces-outcome t file)
 every-number-in-table (place list plen piece) = place-in-table list plen piece
 every-number-in-table (firstPiece list plen file) = first-in-table list plen file
 every-number-in-table (torrentWrite list text plen name out) =
@@ -175,6 +226,7 @@ pub silent-lent-nothing : (a : AnyCall) → Silent (said a) → lent a ≡ []
 silent-lent-nothing hashingBegin e = refl
 silent-lent-nothing (onStore c s) e = absurd e
 silent-lent-nothing (sha256 m) e = refl
+silent-lent-nothing (sha1 m) e = refl
 silent-lent-nothing (storeSize k plen) e = refl
 silent-lent-nothing (hashingMore h burst) e = refl
 silent-lent-nothing (hashingEnd h) e = refl
@@ -191,6 +243,9 @@ silent-lent-nothing (torrentPath t file element) e = refl
 silent-lent-nothing (torrentList t out) e = absurd e
 silent-lent-nothing (torrentInfo t) e = refl
 silent-lent-nothing (torrentName t) e = refl
+silent-lent-nothing (torrentHybrid t) e = refl
+silent-lent-nothing (torrentV1Piece t file piece) e = refl
+silent-lent-nothing (torrentV1Pieces t file) e = refl
 silent-lent-nothing (torrentWrite list text plen name out) e = absurd e
 silent-lent-nothing (place list plen piece) e = refl
 silent-lent-nothing (firstPiece list plen file) e = refl
@@ -199,6 +254,7 @@ silent-lent-nothing (firstPiece list plen file) e = refl
 pub every-refusal-leaves : (a : AnyCall) → Refused (said a) → (RejectSent a → ⊥) → left a ≡ lent a
 every-refusal-leaves (onStore c s) ne nr = ap₂ (λ (t : List ℕ) (o : List (List ℕ)). t ∷ o) (refusal-leaves-store c s ne) (output-stays c s ne nr)
 every-refusal-leaves (sha256 m) ne nr = refl
+every-refusal-leaves (sha1 m) ne nr = refl
 every-refusal-leaves (storeSize n plen) ne nr = refl
 every-refusal-leaves hashingBegin ne nr = refl
 every-refusal-leaves (hashingMore h burst) ne nr = refl
@@ -216,6 +272,9 @@ every-refusal-leaves (torrentPath t file element) ne nr = refl
 every-refusal-leaves (torrentList t out) ne nr = ap (λ (o : List ℕ). o ∷ []) (list-refused t out ne .1)
 every-refusal-leaves (torrentInfo t) ne nr = refl
 every-refusal-leaves (torrentName t) ne nr = refl
+every-refusal-leaves (torrentHybrid t) ne nr = refl
+every-refusal-leaves (torrentV1Piece t file piece) ne nr = refl
+every-refusal-leaves (torrentV1Pieces t file) ne nr = refl
 every-refusal-leaves (place list plen piece) ne nr = refl
 every-refusal-leaves (firstPiece list plen file) ne nr = refl
 every-refusal-leaves (torrentWrite list text plen name out) ne nr = ap (λ (o : List ℕ). o ∷ []) (write-refused list text plen name out ne .1)
@@ -246,6 +305,7 @@ reject-alone s m out x y (request r) = (ap (λ (o : List ℕ). s ∷ o ∷ []) (
 pub every-value-zero : (a : AnyCall) → Refused (said a) → ValuesZero a
 every-value-zero (onStore c s) ne = beside-refusal c s ne
 every-value-zero (sha256 m) ne = beside-sha256 m ne
+every-value-zero (sha1 m) ne = beside-sha1 m ne
 every-value-zero (storeSize n plen) ne = beside-size n plen ne
 every-value-zero hashingBegin ne = absurd ne
 every-value-zero (hashingMore h burst) ne = Running.hashing-more-refused h burst ne
@@ -263,6 +323,9 @@ every-value-zero (torrentPath t file element) ne = path-zeros (pathRead t file e
 every-value-zero (torrentList t out) ne = list-refused t out ne .0
 every-value-zero (torrentInfo t) ne = path-zeros (infoRead t) (info-outcome t) ne
 every-value-zero (torrentName t) ne = path-zeros (nameRead t) (name-outcome t) ne
+every-value-zero (torrentHybrid t) ne = hybrid-zeros (hybridOf t) (hybrid-outcome t) ne
+every-value-zero (torrentV1Piece t file piece) ne = v1-piece-zeros (v1PieceOf t file piece) (piece-outcome t file piece) ne
+every-value-zero (torrentV1Pieces t file) ne = v1-pieces-zeros (v1PiecesOf t file) (pieces-outcome t file) ne
 every-value-zero (place list plen piece) ne = place-zeros list plen piece ne
 every-value-zero (firstPiece list plen file) ne = first-zeros list plen file ne
 every-value-zero (torrentWrite list text plen name out) ne = write-refused list text plen name out ne .0

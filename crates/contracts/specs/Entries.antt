@@ -11,6 +11,7 @@ use Rattle.frames.specs.Frames.{frameAnswer, frameAfter}
 use Rattle.stream.specs.Reading.{noEvent, hearAnswer, hearRoom}
 use Rattle.stream.specs.declared.Stream.{Stream}
 use Rattle.sha256.specs.Answer.{hashedOf}
+use Rattle.sha1.specs.Answer.{zeroSha1, sha1Of}
 use Rattle.running.specs.Bursts as Bursts
 use Rattle.running.specs.declared.Hashing.{Hashing}
 use Rattle.history.specs.Answers as Histories
@@ -20,21 +21,23 @@ use Rattle.serve.specs.Serve.{serveAnswer}
 use Rattle.torrent.specs.Torrent.{readOf, fileRead, pathRead, noTorrent, noFileRead, noPartRead}
 use Rattle.catalogue.specs.Catalogue.{listAnswer, listAfter}
 use Rattle.about.specs.About.{infoRead, nameRead}
+use Rattle.v1.specs.V1.{noHybrid, hybridOf, noPiece, v1PieceOf, noPart, v1PiecesOf}
 use Rattle.places.specs.Places.{firstAnswer, noPlace, placeAnswer}
 use Rattle.writing.specs.Write.{writeAnswer, writeAfter}
 use Rattle.words.specs.Messages.{Rejected}
-use Rattle.words.specs.History.{Bytes, serve, ask, send, Call, take, loadLayer, judgeBlock, judgePiece, clear, reopen, load, repair, look, answer, number as storeNumber, after, sentTo}
+use Rattle.words.specs.History.{Bytes, serve, ask, send, Call, take, loadLayer, judgeBlock, judgePiece, judgeHybridPiece, clear, reopen, load, repair, look, answer, number as storeNumber, after, sentTo}
 use Rattle.words.specs.Answers.{Beside}
 
 -- a call of any entry point
 pub data AnyCall : Type 0 where
-  -- kd_open, kd_held, kd_take, kd_take_reject, kd_serve, kd_load_layer, kd_judge_block, kd_judge_piece, kd_clear, kd_marked, kd_bitfield,
+  -- kd_open, kd_held, kd_take, kd_take_reject, kd_serve, kd_load_layer, kd_judge_block, kd_judge_piece, kd_judge_hybrid_piece, kd_clear, kd_marked, kd_bitfield,
   -- kd_next_request, kd_pick_piece, kd_save, kd_load, kd_repair, kd_extends, kd_facts, and the bytes lent as their store
   onStore : (c : Call) (s : List ℕ) → AnyCall
   -- kd_version
   version : AnyCall
-  -- kd_sha256, kd_store_size
+  -- kd_sha256, kd_sha1, kd_store_size
   sha256 : (m : List ℕ) → AnyCall
+  sha1 : (m : List ℕ) → AnyCall
   storeSize : (n plen : ℕ) → AnyCall
   -- kd_hashing_begin, kd_hashing_more, kd_hashing_end: a state, a burst
   hashingBegin : AnyCall
@@ -56,6 +59,10 @@ pub data AnyCall : Type 0 where
   torrentInfo : (t : List ℕ) → AnyCall
   torrentName : (t : List ℕ) → AnyCall
   torrentWrite : (list text : List ℕ) (plen : ℕ) (name out : List ℕ) → AnyCall
+  -- kd_torrent_hybrid, kd_torrent_v1_piece, kd_torrent_v1_pieces
+  torrentHybrid : (t : List ℕ) → AnyCall
+  torrentV1Piece : (t : List ℕ) (file piece : ℕ) → AnyCall
+  torrentV1Pieces : (t : List ℕ) (file : ℕ) → AnyCall
   -- kd_place, kd_first_piece: a list, a piece length, a piece of the wire or a file
   place : (list : List ℕ) (plen piece : ℕ) → AnyCall
   firstPiece : (list : List ℕ) (plen file : ℕ) → AnyCall
@@ -83,6 +90,7 @@ Silent none = Unit {0}
 abbrev pub said : AnyCall → Said
 said (onStore c s) = number (storeNumber c s)
 said (sha256 m) = number (hashedOf m .number)
+said (sha1 m) = number (sha1Of m .number)
 said (storeSize n plen) = number (sizeAnswer n plen .number)
 said hashingBegin = none
 said (hashingMore h burst) = number (Bursts.moreAnswer h burst .number)
@@ -100,6 +108,9 @@ said (torrentPath t file element) = number (pathRead t file element .number)
 said (torrentList t out) = number (listAnswer t out .number)
 said (torrentInfo t) = number (infoRead t .number)
 said (torrentName t) = number (nameRead t .number)
+said (torrentHybrid t) = number (hybridOf t .number)
+said (torrentV1Piece t file piece) = number (v1PieceOf t file piece .number)
+said (torrentV1Pieces t file) = number (v1PiecesOf t file .number)
 said (torrentWrite list text plen name out) = number (writeAnswer list text plen name out .number)
 said (place list plen piece) = number (placeAnswer list plen piece .number)
 said (firstPiece list plen file) = number (firstAnswer list plen file .number)
@@ -110,6 +121,7 @@ output (take m b) = []
 output (loadLayer l b) = []
 output (judgeBlock i d b) = []
 output (judgePiece i d b) = []
+output (judgeHybridPiece i d v z b o) = []
 output (clear i) = []
 output (reopen n plen root o) = []
 output (load b x) = []
@@ -122,6 +134,7 @@ outputAfter (take m b) s = []
 outputAfter (loadLayer l b) s = []
 outputAfter (judgeBlock i d b) s = []
 outputAfter (judgePiece i d b) s = []
+outputAfter (judgeHybridPiece i d v z b o) s = []
 outputAfter (clear i) s = []
 outputAfter (reopen n plen root o) s = []
 outputAfter (load b x) s = []
@@ -133,6 +146,7 @@ outputAfter (look (send k out b)) s = sentTo k s out ∷ []
 abbrev pub lent : AnyCall → List (List ℕ)
 lent (onStore c s) = s ∷ output c
 lent (sha256 m) = []
+lent (sha1 m) = []
 lent (storeSize n plen) = []
 lent hashingBegin = []
 lent (hashingMore h burst) = []
@@ -150,6 +164,9 @@ lent (torrentPath t file element) = []
 lent (torrentList t out) = out ∷ []
 lent (torrentInfo t) = []
 lent (torrentName t) = []
+lent (torrentHybrid t) = []
+lent (torrentV1Piece t file piece) = []
+lent (torrentV1Pieces t file) = []
 lent (torrentWrite list text plen name out) = out ∷ []
 lent (place list plen piece) = []
 lent (firstPiece list plen file) = []
@@ -158,6 +175,7 @@ lent (firstPiece list plen file) = []
 abbrev pub left : AnyCall → List (List ℕ)
 left (onStore c s) = after c s ∷ outputAfter c s
 left (sha256 m) = []
+left (sha1 m) = []
 left (storeSize n plen) = []
 left hashingBegin = []
 left (hashingMore h burst) = []
@@ -175,6 +193,9 @@ left (torrentPath t file element) = []
 left (torrentList t out) = listAfter t out ∷ []
 left (torrentInfo t) = []
 left (torrentName t) = []
+left (torrentHybrid t) = []
+left (torrentV1Piece t file piece) = []
+left (torrentV1Pieces t file) = []
 left (torrentWrite list text plen name out) = writeAfter list text plen name out ∷ []
 left (place list plen piece) = []
 left (firstPiece list plen file) = []
@@ -188,6 +209,7 @@ pub data RejectSent : AnyCall → Type 0 where
 abbrev pub ValuesZero : AnyCall → Type 0
 ValuesZero (onStore c s) = Beside c (answer c s)
 ValuesZero (sha256 m) = hashedOf m .hash ≡ zeroHash
+ValuesZero (sha1 m) = sha1Of m .hash ≡ zeroSha1
 ValuesZero (storeSize n plen) = sizeAnswer n plen .count ≡ 0
 ValuesZero hashingBegin = ⊥
 ValuesZero (hashingMore h burst) = Bursts.moreAnswer h burst .hashing ≡ h
@@ -206,6 +228,9 @@ ValuesZero (torrentPath t file element) = pathRead t file element ≡ noPartRead
 ValuesZero (torrentList t out) = listAnswer t out .count ≡ 0
 ValuesZero (torrentInfo t) = infoRead t ≡ noPartRead (infoRead t .number)
 ValuesZero (torrentName t) = nameRead t ≡ noPartRead (nameRead t .number)
+ValuesZero (torrentHybrid t) = hybridOf t ≡ noHybrid (hybridOf t .number)
+ValuesZero (torrentV1Piece t file piece) = v1PieceOf t file piece ≡ noPiece (v1PieceOf t file piece .number)
+ValuesZero (torrentV1Pieces t file) = v1PiecesOf t file ≡ noPart (v1PiecesOf t file .number)
 ValuesZero (torrentWrite list text plen name out) = writeAnswer list text plen name out .count ≡ 0
 ValuesZero (place list plen piece) = placeAnswer list plen piece ≡ noPlace (placeAnswer list plen piece .number)
 ValuesZero (firstPiece list plen file) = firstAnswer list plen file .count ≡ 0

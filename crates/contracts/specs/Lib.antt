@@ -4,3 +4,4 @@ pub mod Says
 pub mod Entries
 pub mod Demand1
 pub mod Outcomes
+pub mod HybridJudged

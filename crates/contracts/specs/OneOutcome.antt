@@ -10,6 +10,7 @@ use borrow.Fn.Kinds.{PK, RK, Dens, resT, endedOf, In, Out}
 use denote.Triple.Clauses.{AtExit}
 use denote.Ref.{now}
 use Rattle.kombudeva.proofs.kd_sha256 as hash
+use Rattle.kombudeva.proofs.kd_sha1 as sha-one
 use Rattle.kombudeva.proofs.kd_hashing_begin as hashing-begin
 use Rattle.kombudeva.proofs.kd_hashing_more as hashing-more
 use Rattle.kombudeva.proofs.kd_hashing_end as hashing-end
@@ -25,6 +26,7 @@ use Rattle.kombudeva.proofs.kd_serve as serving
 use Rattle.kombudeva.proofs.kd_load_layer as loading
 use Rattle.kombudeva.proofs.kd_judge_block as block
 use Rattle.kombudeva.proofs.kd_judge_piece as piece
+use Rattle.kombudeva.proofs.kd_judge_hybrid_piece as hybrid-piece
 use Rattle.kombudeva.proofs.kd_clear as clearing
 use Rattle.kombudeva.proofs.kd_marked as asking
 use Rattle.kombudeva.proofs.kd_next_request as next-request
@@ -46,6 +48,9 @@ use Rattle.kombudeva.proofs.kd_torrent_write as writing
 use Rattle.kombudeva.proofs.kd_facts as facts-named
 use Rattle.kombudeva.proofs.kd_torrent_info as info
 use Rattle.kombudeva.proofs.kd_torrent_name as named
+use Rattle.kombudeva.proofs.kd_torrent_hybrid as hybrid
+use Rattle.kombudeva.proofs.kd_torrent_v1_piece as v1-piece
+use Rattle.kombudeva.proofs.kd_torrent_v1_pieces as v1-pieces
 use Rattle.kombudeva.proofs.kd_place as placing
 use Rattle.kombudeva.proofs.kd_first_piece as first-piece
 
@@ -62,6 +67,10 @@ OneAnswer n ps r learnt = (κs : Lfts n) (a : Dens κs ps) (x y : resT r κs .De
 -- kd_sha256
 pub hash-asks-nothing : AsksNothing 1 hash.Kinds.ps hash.Reads.Asked
 hash-asks-nothing κs a = tt
+
+-- kd_sha1
+pub sha-one-asks-nothing : AsksNothing 1 sha-one.Kinds.ps sha-one.Reads.Asked
+sha-one-asks-nothing κs a = tt
 
 -- kd_hashing_begin
 pub hashing-begin-asks-nothing : AsksNothing 0 hashing-begin.Kinds.ps hashing-begin.Reads.Asked
@@ -122,6 +131,10 @@ block-asks-nothing κs a = tt
 -- kd_judge_piece
 pub piece-asks-nothing : AsksNothing 2 piece.Kinds.ps piece.Reads.Asked
 piece-asks-nothing κs a = tt
+
+-- kd_judge_hybrid_piece
+pub hybrid-piece-asks-nothing : AsksNothing 2 hybrid-piece.Kinds.ps hybrid-piece.Reads.Asked
+hybrid-piece-asks-nothing κs a = tt
 
 -- kd_clear
 pub clearing-asks-nothing : AsksNothing 1 clearing.Kinds.ps clearing.Reads.Asked
@@ -201,6 +214,18 @@ info-asks-nothing κs a = tt
 pub named-asks-nothing : AsksNothing 1 named.Kinds.ps named.Reads.Asked
 named-asks-nothing κs a = tt
 
+-- kd_torrent_hybrid
+pub hybrid-asks-nothing : AsksNothing 1 hybrid.Kinds.ps hybrid.Reads.Asked
+hybrid-asks-nothing κs a = tt
+
+-- kd_torrent_v1_piece
+pub v1-piece-asks-nothing : AsksNothing 1 v1-piece.Kinds.ps v1-piece.Reads.Asked
+v1-piece-asks-nothing κs a = tt
+
+-- kd_torrent_v1_pieces
+pub v1-pieces-asks-nothing : AsksNothing 1 v1-pieces.Kinds.ps v1-pieces.Reads.Asked
+v1-pieces-asks-nothing κs a = tt
+
 -- kd_place
 pub placing-asks-nothing : AsksNothing 1 placing.Kinds.ps placing.Reads.Asked
 placing-asks-nothing κs a = tt
@@ -218,6 +243,10 @@ writing-asks-nothing κs a = tt
 -- kd_sha256
 pub one-hash : OneAnswer 1 hash.Kinds.ps hash.Kinds.r hash.Reads.Learnt
 one-hash κs a x y t u p q = p ∙ sym q
+
+-- kd_sha1
+pub one-sha-one : OneAnswer 1 sha-one.Kinds.ps sha-one.Kinds.r sha-one.Reads.Learnt
+one-sha-one κs a x y t u p q = p ∙ sym q
 
 -- kd_hashing_begin
 pub one-hashing-begin : OneAnswer 0 hashing-begin.Kinds.ps hashing-begin.Kinds.r hashing-begin.Reads.Learnt
@@ -286,6 +315,11 @@ one-block κs a x y t u p q = (p .0 ∙ sym (q .0), p .1 ∙ sym (q .1))
 pub one-piece : (κs : Lfts 2) (a : Dens κs piece.Kinds.ps) (x y : resT piece.Kinds.r κs .Denot) (t u : AtExit (endedOf 2 piece.Kinds.ps piece.Kinds.r) κs)
     → piece.Reads.Learnt κs a x t → piece.Reads.Learnt κs a y u → (x ≡ y) × (now (t .0) ≡ now (u .0))
 one-piece κs a x y t u p q = (p .0 ∙ sym (q .0), p .1 ∙ sym (q .1))
+
+-- kd_judge_hybrid_piece: the answer, and the store's bytes
+pub one-hybrid-piece : (κs : Lfts 2) (a : Dens κs hybrid-piece.Kinds.ps) (x y : resT hybrid-piece.Kinds.r κs .Denot) (t u : AtExit (endedOf 2 hybrid-piece.Kinds.ps hybrid-piece.Kinds.r) κs)
+    → hybrid-piece.Reads.Learnt κs a x t → hybrid-piece.Reads.Learnt κs a y u → (x ≡ y) × (now (t .0) ≡ now (u .0))
+one-hybrid-piece κs a x y t u p q = (p .0 ∙ sym (q .0), p .1 ∙ sym (q .1))
 
 -- kd_clear: the answer, and the store's bytes
 pub one-clearing : (κs : Lfts 1) (a : Dens κs clearing.Kinds.ps) (x y : resT clearing.Kinds.r κs .Denot) (t u : AtExit (endedOf 1 clearing.Kinds.ps clearing.Kinds.r) κs)
@@ -373,6 +407,18 @@ one-info κs a x y t u p q = p ∙ sym q
 -- kd_torrent_name
 pub one-named : OneAnswer 1 named.Kinds.ps named.Kinds.r named.Reads.Learnt
 one-named κs a x y t u p q = p ∙ sym q
+
+-- kd_torrent_hybrid
+pub one-hybrid : OneAnswer 1 hybrid.Kinds.ps hybrid.Kinds.r hybrid.Reads.Learnt
+one-hybrid κs a x y t u p q = p ∙ sym q
+
+-- kd_torrent_v1_piece
+pub one-v1-piece : OneAnswer 1 v1-piece.Kinds.ps v1-piece.Kinds.r v1-piece.Reads.Learnt
+one-v1-piece κs a x y t u p q = p ∙ sym q
+
+-- kd_torrent_v1_pieces
+pub one-v1-pieces : OneAnswer 1 v1-pieces.Kinds.ps v1-pieces.Kinds.r v1-pieces.Reads.Learnt
+one-v1-pieces κs a x y t u p q = p ∙ sym q
 
 -- kd_place
 pub one-placing : OneAnswer 1 placing.Kinds.ps placing.Kinds.r placing.Reads.Learnt

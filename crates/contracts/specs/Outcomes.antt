@@ -13,6 +13,7 @@ use Rattle.stream.specs.declared.Heard.{Heard}
 use Rattle.asking.specs.declared.next.Request.{Request}
 use Rattle.asking.specs.declared.pick.Choice.{Choice}
 use Rattle.running.specs.declared.HashingAnswer.{HashingAnswer}
+use Rattle.sha1.specs.declared.Sha1Answer.{Sha1Answer}
 use Rattle.history.specs.declared.HistoryAnswer.{HistoryAnswer}
 use Rattle.history.specs.declared.HistoryEnd.{HistoryEnd}
 use Rattle.saved.specs.declared.repair.Repaired.{Repaired}
@@ -23,11 +24,15 @@ use Rattle.kombudeva.specs.declared.FactsAnswer.{FactsAnswer}
 use Rattle.kombudeva.specs.declared.TorrentAnswer.{TorrentAnswer}
 use Rattle.kombudeva.specs.declared.FileAnswer.{FileAnswer}
 use Rattle.kombudeva.specs.declared.PartAnswer.{PartAnswer}
-use Rattle.kombudeva.specs.Boundary.{countAnswer, hashAnswer, factsStruct, torrentAnswer, fileAnswer, partAnswer}
-use Rattle.words.specs.History.{Bytes, held, takeReject, isMarked, nextRequest, pickPiece, theFacts, beginsWith, serve, bitfield, ask, send, take, loadLayer, judgeBlock, judgePiece, clear, reopen, look, save, load, repair}
-use Rattle.contracts.specs.Entries.{AnyCall, onStore, version, sha256, storeSize, hashingBegin, hashingMore, hashingEnd, historyBegin, historyMore, historyEnd, streamBegin, streamHear, frame, torrentRead, torrentFile, torrentPath, torrentList, torrentInfo, torrentName, torrentWrite, place, firstPiece, Said, number, none, FromTable, Refused, said, lent, left, RejectSent}
+use Rattle.kombudeva.specs.declared.HybridAnswer.{HybridAnswer}
+use Rattle.kombudeva.specs.declared.V1PieceAnswer.{V1PieceAnswer}
+use Rattle.kombudeva.specs.declared.V1PartAnswer.{V1PartAnswer}
+use Rattle.kombudeva.specs.Boundary.{countAnswer, hashAnswer, factsStruct, torrentAnswer, fileAnswer, partAnswer, hybridAnswer, v1PieceAnswer, v1PartAnswer}
+use Rattle.words.specs.History.{Bytes, held, takeReject, isMarked, nextRequest, pickPiece, theFacts, beginsWith, serve, bitfield, ask, send, take, loadLayer, judgeBlock, judgePiece, judgeHybridPiece, clear, reopen, look, save, load, repair}
+use Rattle.contracts.specs.Entries.{AnyCall, onStore, version, sha256, sha1, storeSize, hashingBegin, hashingMore, hashingEnd, historyBegin, historyMore, historyEnd, streamBegin, streamHear, frame, torrentRead, torrentFile, torrentPath, torrentList, torrentInfo, torrentName, torrentHybrid, torrentV1Piece, torrentV1Pieces, torrentWrite, place, firstPiece, Said, number, none, FromTable, Refused, said, lent, left, RejectSent}
 use Rattle.contracts.specs.Demand1.{every-number-in-table, every-refusal-leaves}
 use Rattle.kombudeva.proofs.kd_sha256 as hash
+use Rattle.kombudeva.proofs.kd_sha1 as sha-one
 use Rattle.kombudeva.proofs.kd_hashing_begin as hashing-begin
 use Rattle.kombudeva.proofs.kd_hashing_more as hashing-more
 use Rattle.kombudeva.proofs.kd_hashing_end as hashing-end
@@ -43,6 +48,7 @@ use Rattle.kombudeva.proofs.kd_serve as serving
 use Rattle.kombudeva.proofs.kd_load_layer as loading
 use Rattle.kombudeva.proofs.kd_judge_block as block
 use Rattle.kombudeva.proofs.kd_judge_piece as piece
+use Rattle.kombudeva.proofs.kd_judge_hybrid_piece as hybrid-piece
 use Rattle.kombudeva.proofs.kd_clear as clearing
 use Rattle.kombudeva.proofs.kd_marked as asking
 use Rattle.kombudeva.proofs.kd_next_request as next-request
@@ -64,6 +70,9 @@ use Rattle.kombudeva.proofs.kd_torrent_write as writing
 use Rattle.kombudeva.proofs.kd_facts as facts-named
 use Rattle.kombudeva.proofs.kd_torrent_info as info
 use Rattle.kombudeva.proofs.kd_torrent_name as named
+use Rattle.kombudeva.proofs.kd_torrent_hybrid as hybrid
+use Rattle.kombudeva.proofs.kd_torrent_v1_piece as v1-piece
+use Rattle.kombudeva.proofs.kd_torrent_v1_pieces as v1-pieces
 use Rattle.kombudeva.proofs.kd_place as placing
 use Rattle.kombudeva.proofs.kd_first_piece as first-piece
 
@@ -74,6 +83,9 @@ pub data Outcome : AnyCall → Said → List (List ℕ) → List (List ℕ) → 
   -- kd_sha256
   by-hash : (κs : Lfts 1) (a : Dens κs hash.Kinds.ps) (r : resT hash.Kinds.r κs .Denot) (e : AtExit (endedOf 1 hash.Kinds.ps hash.Kinds.r) κs) → hash.Reads.Learnt κs a r e
       → Outcome (sha256 (now (a .0))) (number (r .number)) [] []
+  -- kd_sha1
+  by-sha-one : (κs : Lfts 1) (a : Dens κs sha-one.Kinds.ps) (r : resT sha-one.Kinds.r κs .Denot) (e : AtExit (endedOf 1 sha-one.Kinds.ps sha-one.Kinds.r) κs) → sha-one.Reads.Learnt κs a r e
+      → Outcome (sha1 (now (a .0))) (number (r .number)) [] []
   -- kd_hashing_begin
   by-hashing-begin : (κs : Lfts 0) (a : Dens κs hashing-begin.Kinds.ps) (r : resT hashing-begin.Kinds.r κs .Denot) (e : AtExit (endedOf 0 hashing-begin.Kinds.ps hashing-begin.Kinds.r) κs) → hashing-begin.Reads.Learnt κs a r e
       → Outcome hashingBegin none [] []
@@ -119,6 +131,9 @@ pub data Outcome : AnyCall → Said → List (List ℕ) → List (List ℕ) → 
   -- kd_judge_piece
   by-piece : (κs : Lfts 2) (a : Dens κs piece.Kinds.ps) (r : resT piece.Kinds.r κs .Denot) (e : AtExit (endedOf 2 piece.Kinds.ps piece.Kinds.r) κs) → piece.Reads.Learnt κs a r e
       → (x : Bytes (now (a .1 .1 .0))) → Outcome (onStore (judgePiece (a .1 .0) (now (a .1 .1 .0)) x) (now (a .0))) (number (r .number)) (now (a .0) ∷ []) (now (e .0) ∷ [])
+  -- kd_judge_hybrid_piece
+  by-hybrid-piece : (κs : Lfts 2) (a : Dens κs hybrid-piece.Kinds.ps) (r : resT hybrid-piece.Kinds.r κs .Denot) (e : AtExit (endedOf 2 hybrid-piece.Kinds.ps hybrid-piece.Kinds.r) κs) → hybrid-piece.Reads.Learnt κs a r e
+      → (x : Bytes (now (a .1 .1 .0))) (y : Octets 20 (a .1 .1 .1 .0 .bytes)) → Outcome (onStore (judgeHybridPiece (a .1 .0) (now (a .1 .1 .0)) (a .1 .1 .1 .0 .bytes) (a .1 .1 .1 .1 .0) x y) (now (a .0))) (number (r .number)) (now (a .0) ∷ []) (now (e .0) ∷ [])
   -- kd_clear
   by-clearing : (κs : Lfts 1) (a : Dens κs clearing.Kinds.ps) (r : resT clearing.Kinds.r κs .Denot) (e : AtExit (endedOf 1 clearing.Kinds.ps clearing.Kinds.r) κs) → clearing.Reads.Learnt κs a r e
       → Outcome (onStore (clear (a .1 .0)) (now (a .0))) (number (r .number)) (now (a .0) ∷ []) (now (e .0) ∷ [])
@@ -179,6 +194,15 @@ pub data Outcome : AnyCall → Said → List (List ℕ) → List (List ℕ) → 
   -- kd_torrent_name
   by-name : (κs : Lfts 1) (a : Dens κs named.Kinds.ps) (r : resT named.Kinds.r κs .Denot) (e : AtExit (endedOf 1 named.Kinds.ps named.Kinds.r) κs) → named.Reads.Learnt κs a r e
       → Outcome (torrentName (now (a .0))) (number (r .number)) [] []
+  -- kd_torrent_hybrid
+  by-hybrid : (κs : Lfts 1) (a : Dens κs hybrid.Kinds.ps) (r : resT hybrid.Kinds.r κs .Denot) (e : AtExit (endedOf 1 hybrid.Kinds.ps hybrid.Kinds.r) κs) → hybrid.Reads.Learnt κs a r e
+      → Outcome (torrentHybrid (now (a .0))) (number (r .number)) [] []
+  -- kd_torrent_v1_piece
+  by-v1-piece : (κs : Lfts 1) (a : Dens κs v1-piece.Kinds.ps) (r : resT v1-piece.Kinds.r κs .Denot) (e : AtExit (endedOf 1 v1-piece.Kinds.ps v1-piece.Kinds.r) κs) → v1-piece.Reads.Learnt κs a r e
+      → Outcome (torrentV1Piece (now (a .0)) (a .1 .0) (a .1 .1 .0)) (number (r .number)) [] []
+  -- kd_torrent_v1_pieces
+  by-v1-pieces : (κs : Lfts 1) (a : Dens κs v1-pieces.Kinds.ps) (r : resT v1-pieces.Kinds.r κs .Denot) (e : AtExit (endedOf 1 v1-pieces.Kinds.ps v1-pieces.Kinds.r) κs) → v1-pieces.Reads.Learnt κs a r e
+      → Outcome (torrentV1Pieces (now (a .0)) (a .1 .0)) (number (r .number)) [] []
   -- kd_place
   by-placing : (κs : Lfts 1) (a : Dens κs placing.Kinds.ps) (r : resT placing.Kinds.r κs .Denot) (e : AtExit (endedOf 1 placing.Kinds.ps placing.Kinds.r) κs) → placing.Reads.Learnt κs a r e
       → Outcome (place (now (a .0)) (a .1 .0) (a .1 .1 .0)) (number (r .number)) [] []
@@ -191,8 +215,9 @@ pub data Outcome : AnyCall → Said → List (List ℕ) → List (List ℕ) → 
 
 -- they are those of Entries
 pub outcome-is : {c : AnyCall} {n : Said} {before after : List (List ℕ)} → Outcome c n before after → (n ≡ said c) × (before ≡ lent c) × (after ≡ left c)
-unfolding countAnswer hashAnswer factsStruct torrentAnswer fileAnswer partAnswer
+unfolding countAnswer hashAnswer factsStruct torrentAnswer fileAnswer partAnswer hybridAnswer v1PieceAnswer v1PartAnswer
 outcome-is (by-hash κs a r e p) = (ap (λ (s : HashAnswer). number (s .number)) p, refl, refl)
+outcome-is (by-sha-one κs a r e p) = (ap (λ (s : Sha1Answer). number (s .number)) p, refl, refl)
 outcome-is (by-hashing-begin κs a r e p) = (refl, refl, refl)
 outcome-is (by-hashing-more κs a r e p) = (ap (λ (s : HashingAnswer). number (s .number)) p, refl, refl)
 outcome-is (by-hashing-end κs a r e p) = (ap (λ (s : HashAnswer). number (s .number)) p, refl, refl)
@@ -208,6 +233,7 @@ outcome-is (by-serving κs a r e p x y) = (ap (λ (s : CountAnswer). number (s .
 outcome-is (by-loading κs a r e p x) = (ap (λ (s : CountAnswer). number (s .number)) (p .0), refl, ap (λ (o : List ℕ). o ∷ []) (p .1))
 outcome-is (by-block κs a r e p x) = (ap (λ (s : CountAnswer). number (s .number)) (p .0), refl, ap (λ (o : List ℕ). o ∷ []) (p .1))
 outcome-is (by-piece κs a r e p x) = (ap (λ (s : CountAnswer). number (s .number)) (p .0), refl, ap (λ (o : List ℕ). o ∷ []) (p .1))
+outcome-is (by-hybrid-piece κs a r e p x y) = (ap (λ (s : CountAnswer). number (s .number)) (p .0), refl, ap (λ (o : List ℕ). o ∷ []) (p .1))
 outcome-is (by-clearing κs a r e p) = (ap (λ (s : CountAnswer). number (s .number)) (p .0), refl, ap (λ (o : List ℕ). o ∷ []) (p .1))
 outcome-is (by-asking κs a r e p) = (ap (λ (s : CountAnswer). number (s .number)) p, refl, refl)
 outcome-is (by-next κs a r e p) = (ap (λ (s : Request). number (s .number)) p, refl, refl)
@@ -228,6 +254,9 @@ outcome-is (by-path κs a r e p) = (ap (λ (s : PartAnswer). number (s .number))
 outcome-is (by-list κs a r e p) = (ap (λ (s : CountAnswer). number (s .number)) (p .0), refl, ap (λ (o : List ℕ). o ∷ []) (p .1))
 outcome-is (by-info κs a r e p) = (ap (λ (s : PartAnswer). number (s .number)) p, refl, refl)
 outcome-is (by-name κs a r e p) = (ap (λ (s : PartAnswer). number (s .number)) p, refl, refl)
+outcome-is (by-hybrid κs a r e p) = (ap (λ (s : HybridAnswer). number (s .number)) p, refl, refl)
+outcome-is (by-v1-piece κs a r e p) = (ap (λ (s : V1PieceAnswer). number (s .number)) p, refl, refl)
+outcome-is (by-v1-pieces κs a r e p) = (ap (λ (s : V1PartAnswer). number (s .number)) p, refl, refl)
 outcome-is (by-placing κs a r e p) = (ap (λ (s : Placed). number (s .number)) p, refl, refl)
 outcome-is (by-first-piece κs a r e p) = (ap (λ (s : CountAnswer). number (s .number)) p, refl, refl)
 outcome-is (by-writing κs a r e p) = (ap (λ (s : CountAnswer). number (s .number)) (p .0), refl, ap (λ (o : List ℕ). o ∷ []) (p .1))

@@ -10,6 +10,7 @@ use denote.Ref.{now}
 use Rattle.frames.specs.Frames.{frameAnswer, frameAfter}
 use Rattle.stream.specs.Reading.{between, hearAnswer, hearRoom}
 use Rattle.sha256.specs.Answer.{hashedOf}
+use Rattle.sha1.specs.Answer.{sha1Of}
 use Rattle.running.specs.Bursts as B
 use Rattle.history.specs.Answers as W
 use Rattle.store.specs.Store.{sizeAnswer, openAnswer, openAfter, heldAnswer}
@@ -20,17 +21,20 @@ use Rattle.asking.specs.Picking.{pickAnswer}
 use Rattle.extends.specs.Extends.{extendsAnswer}
 use Rattle.marks.specs.Marks.{clearAnswer, clearAfter, markedAnswer, fieldAnswer, fieldAfter}
 use Rattle.pieces.specs.Pieces.{layerAnswer, layerAfter, blockAnswer, blockAfter, pieceAnswer, pieceAfter}
+use Rattle.pieces.specs.Hybrid as Both
 use Rattle.saved.specs.Save.{saveAnswer, saveAfter}
 use Rattle.saved.specs.Saved.{loadAnswer, loadAfter, repairAnswer, repairAfter}
 use Rattle.torrent.specs.Torrent.{readOf, fileRead, pathRead}
 use Rattle.catalogue.specs.Catalogue.{listAnswer, listAfter}
 use Rattle.facts.specs.Facts.{factsAnswer}
 use Rattle.about.specs.About.{infoRead, nameRead}
+use Rattle.v1.specs.V1.{hybridOf, v1PieceOf, v1PiecesOf}
 use Rattle.places.specs.Places.{placeAnswer, firstAnswer}
 use Rattle.writing.specs.Write.{writeAnswer, writeAfter}
-use Rattle.kombudeva.specs.Boundary.{countAnswer, hashAnswer, factsStruct, torrentAnswer, fileAnswer, partAnswer}
+use Rattle.kombudeva.specs.Boundary.{countAnswer, hashAnswer, factsStruct, torrentAnswer, fileAnswer, partAnswer, hybridAnswer, v1PieceAnswer, v1PartAnswer}
 use Rattle.kombudeva.specs.Version.{version}
 use Rattle.kombudeva.proofs.kd_sha256 as hash
+use Rattle.kombudeva.proofs.kd_sha1 as sha-one
 use Rattle.kombudeva.proofs.kd_hashing_begin as hashing-begin
 use Rattle.kombudeva.proofs.kd_hashing_more as hashing-more
 use Rattle.kombudeva.proofs.kd_hashing_end as hashing-end
@@ -46,6 +50,7 @@ use Rattle.kombudeva.proofs.kd_serve as serving
 use Rattle.kombudeva.proofs.kd_load_layer as loading
 use Rattle.kombudeva.proofs.kd_judge_block as block
 use Rattle.kombudeva.proofs.kd_judge_piece as piece
+use Rattle.kombudeva.proofs.kd_judge_hybrid_piece as hybrid-piece
 use Rattle.kombudeva.proofs.kd_clear as clearing
 use Rattle.kombudeva.proofs.kd_marked as asking
 use Rattle.kombudeva.proofs.kd_next_request as next-request
@@ -67,6 +72,9 @@ use Rattle.kombudeva.proofs.kd_torrent_write as writing
 use Rattle.kombudeva.proofs.kd_facts as facts-named
 use Rattle.kombudeva.proofs.kd_torrent_info as info
 use Rattle.kombudeva.proofs.kd_torrent_name as named
+use Rattle.kombudeva.proofs.kd_torrent_hybrid as hybrid
+use Rattle.kombudeva.proofs.kd_torrent_v1_piece as v1-piece
+use Rattle.kombudeva.proofs.kd_torrent_v1_pieces as v1-pieces
 use Rattle.kombudeva.proofs.kd_place as placing
 use Rattle.kombudeva.proofs.kd_first_piece as first-piece
 
@@ -74,6 +82,11 @@ use Rattle.kombudeva.proofs.kd_first_piece as first-piece
 pub hash-says : (κs : Lfts 1) (a : Dens κs hash.Kinds.ps) (r : resT hash.Kinds.r κs .Denot) (e : AtExit (endedOf 1 hash.Kinds.ps hash.Kinds.r) κs) → hash.Reads.Learnt κs a r e
     → r ≡ hashAnswer (hashedOf (now (a .0)))
 hash-says κs a r e p = p
+
+-- kd_sha1
+pub sha-one-says : (κs : Lfts 1) (a : Dens κs sha-one.Kinds.ps) (r : resT sha-one.Kinds.r κs .Denot) (e : AtExit (endedOf 1 sha-one.Kinds.ps sha-one.Kinds.r) κs) → sha-one.Reads.Learnt κs a r e
+    → r ≡ sha1Of (now (a .0))
+sha-one-says κs a r e p = p
 
 -- kd_hashing_begin
 pub hashing-begin-says : (κs : Lfts 0) (a : Dens κs hashing-begin.Kinds.ps) (r : resT hashing-begin.Kinds.r κs .Denot) (e : AtExit (endedOf 0 hashing-begin.Kinds.ps hashing-begin.Kinds.r) κs) → hashing-begin.Reads.Learnt κs a r e
@@ -149,6 +162,12 @@ block-says κs a r e p = p
 pub piece-says : (κs : Lfts 2) (a : Dens κs piece.Kinds.ps) (r : resT piece.Kinds.r κs .Denot) (e : AtExit (endedOf 2 piece.Kinds.ps piece.Kinds.r) κs) → piece.Reads.Learnt κs a r e
     → (r ≡ countAnswer (pieceAnswer (now (a .0)) (a .1 .0) (now (a .1 .1 .0)))) × (now (e .0) ≡ pieceAfter (now (a .0)) (a .1 .0) (now (a .1 .1 .0)))
 piece-says κs a r e p = p
+
+-- kd_judge_hybrid_piece
+pub hybrid-piece-says : (κs : Lfts 2) (a : Dens κs hybrid-piece.Kinds.ps) (r : resT hybrid-piece.Kinds.r κs .Denot) (e : AtExit (endedOf 2 hybrid-piece.Kinds.ps hybrid-piece.Kinds.r) κs) → hybrid-piece.Reads.Learnt κs a r e
+    → (r ≡ countAnswer (Both.hybridAnswer (now (a .0)) (a .1 .0) (now (a .1 .1 .0)) (a .1 .1 .1 .0 .bytes) (a .1 .1 .1 .1 .0)))
+    × (now (e .0) ≡ Both.hybridAfter (now (a .0)) (a .1 .0) (now (a .1 .1 .0)) (a .1 .1 .1 .0 .bytes) (a .1 .1 .1 .1 .0))
+hybrid-piece-says κs a r e p = p
 
 -- kd_clear
 pub clearing-says : (κs : Lfts 1) (a : Dens κs clearing.Kinds.ps) (r : resT clearing.Kinds.r κs .Denot) (e : AtExit (endedOf 1 clearing.Kinds.ps clearing.Kinds.r) κs) → clearing.Reads.Learnt κs a r e
@@ -249,6 +268,21 @@ info-says κs a r e p = p
 pub named-says : (κs : Lfts 1) (a : Dens κs named.Kinds.ps) (r : resT named.Kinds.r κs .Denot) (e : AtExit (endedOf 1 named.Kinds.ps named.Kinds.r) κs) → named.Reads.Learnt κs a r e
     → r ≡ partAnswer (nameRead (now (a .0)))
 named-says κs a r e p = p
+
+-- kd_torrent_hybrid
+pub hybrid-says : (κs : Lfts 1) (a : Dens κs hybrid.Kinds.ps) (r : resT hybrid.Kinds.r κs .Denot) (e : AtExit (endedOf 1 hybrid.Kinds.ps hybrid.Kinds.r) κs) → hybrid.Reads.Learnt κs a r e
+    → r ≡ hybridAnswer (hybridOf (now (a .0)))
+hybrid-says κs a r e p = p
+
+-- kd_torrent_v1_piece
+pub v1-piece-says : (κs : Lfts 1) (a : Dens κs v1-piece.Kinds.ps) (r : resT v1-piece.Kinds.r κs .Denot) (e : AtExit (endedOf 1 v1-piece.Kinds.ps v1-piece.Kinds.r) κs) → v1-piece.Reads.Learnt κs a r e
+    → r ≡ v1PieceAnswer (v1PieceOf (now (a .0)) (a .1 .0) (a .1 .1 .0))
+v1-piece-says κs a r e p = p
+
+-- kd_torrent_v1_pieces
+pub v1-pieces-says : (κs : Lfts 1) (a : Dens κs v1-pieces.Kinds.ps) (r : resT v1-pieces.Kinds.r κs .Denot) (e : AtExit (endedOf 1 v1-pieces.Kinds.ps v1-pieces.Kinds.r) κs) → v1-pieces.Reads.Learnt κs a r e
+    → r ≡ v1PartAnswer (v1PiecesOf (now (a .0)) (a .1 .0))
+v1-pieces-says κs a r e p = p
 
 -- kd_place
 pub placing-says : (κs : Lfts 1) (a : Dens κs placing.Kinds.ps) (r : resT placing.Kinds.r κs .Denot) (e : AtExit (endedOf 1 placing.Kinds.ps placing.Kinds.r) κs) → placing.Reads.Learnt κs a r e

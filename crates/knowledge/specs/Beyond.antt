@@ -35,6 +35,8 @@ use Rattle.messages.specs.TakenLaws.{ready-settled}
 use Rattle.serve.specs.Serve.{heldRun, runHashes, heldUncles, uncleHashes, allHeld, allHashes, replyTo, requestNumber, sentBack, serveAnswer, serveAfter}
 use Rattle.serve.specs.ServeLaws.{sibling-near, request-passes, run-inside, uncles-inside}
 use Rattle.pieces.specs.Pieces.{blockNumber, judgedAt, layerOfPieces, layerNumber, layerSettled, layerAfter, layerAnswer, pieceHeight, pieceNumber}
+use Rattle.pieces.specs.Hybrid.{hybridNumber}
+use Rattle.pieces.specs.HybridLaws.{v1-same}
 use Rattle.pieces.specs.PiecesLaws.{layered, layer-within, layer-leaf-length, piece-within, layer-sound, loads-layered, layer-loads}
 use Rattle.knowledge.specs.TakenWhen.{taken-well-formed}
 use Rattle.knowledge.specs.Alike.{Alike}
@@ -146,6 +148,11 @@ module _ (s t : List ℕ) (f : Facts s) (e : Alike s t) where
       by true x =
           let w = piece-within s i (Rattle.pieces.specs.PiecesLaws.piece-in s f i (ltb-true i (pieceCount (fileLength s) (pieceLength s)) x)) in
           rw (judged-used (leafOf piece) (λ j. leaf-octets piece j .size) (pieceHeight s) (nodeNumber (heightOf s) (pieceHeight s) i) w)
+
+  -- a piece of a hybrid
+  pub hybrid-beyond : (i : ℕ) (piece v1 : List ℕ) (zeros : ℕ) → hybridNumber t i piece v1 zeros ≡ hybridNumber s i piece v1 zeros
+  unfolding hybridNumber
+  hybrid-beyond i piece v1 zeros = rw (piece-beyond i piece, v1-same s piece v1 zeros t (e .same .piece))
 
   -- a layer,
   pub layer-beyond : (layer : List ℕ) → layerNumber t layer ≡ layerNumber s layer

@@ -1,10 +1,11 @@
 -- Demand 3: in a store that only this build has written, "conflict" shows two different 64-byte strings with one SHA-256; and a reply of
 -- another such store is taken unless the two stores show such a pair.
 -- Assumes nothing.
-use mathlib.Core.Path.{_≡_, ap, sym, subst}
+use mathlib.Core.Path.{_≡_, refl, ap, sym, subst}
 use mathlib.Core.List.{List}
 use mathlib.Core.Logic.{_⊎_, inl, inr}
 use Prim.Native.Nat.{ℕ, _+_, _-_, _/_, _^_}
+use native.Mathlib.Omega.{arith}
 use Rattle.numbers.specs.Numbers.{conflict}
 use Rattle.tree.specs.Geometry.{blockCount, height}
 use Rattle.store.specs.Store.{fileLength, factsRoot, blocksOf, heightOf, heldAnswer}
@@ -14,6 +15,8 @@ use Rattle.messages.specs.Take.{takeNumber}
 use Rattle.messages.specs.TakeLaws.{passed}
 use Rattle.serve.specs.Serve.{replyTo, requestNumber, serveAnswer}
 use Rattle.pieces.specs.Pieces.{layerNumber, pieceNumber}
+use Rattle.pieces.specs.Hybrid.{hybridNumber}
+use Rattle.pieces.specs.HybridLaws.{hybrid-v2}
 use Rattle.words.specs.History.{Bytes, OurStore}
 use Rattle.words.specs.Messages.{anchorLayer, anchorIndex, sent}
 use Rattle.words.specs.Shown.{heldBy, byMessage, byLayer, byPiece, Shown}
@@ -47,6 +50,11 @@ our-layer-conflict-shows {s} l o bl e =
 pub our-piece-conflict-shows : {s : List ℕ} (i : ℕ) (piece : List ℕ) → OurStore s → pieceNumber s i piece ≡ conflict → Shown (heightOf s) (heldBy s) (byPiece s i piece)
 our-piece-conflict-shows {s} i piece o e =
     shown (heightOf s) (heldBy s) (byPiece s i piece) (ours-reads o) (reads-piece s i piece (piece-8 s i piece .0 e .0)) (piece-conflict-shows s i piece (ours-have o) (ours-bytes o) e)
+
+-- also by both halves of a hybrid
+pub our-hybrid-conflict-shows : {s : List ℕ} (i : ℕ) (piece v1 : List ℕ) (zeros : ℕ) → OurStore s → hybridNumber s i piece v1 zeros ≡ conflict
+    → Shown (heightOf s) (heldBy s) (byPiece s i piece)
+our-hybrid-conflict-shows {s} i piece v1 zeros o e = our-piece-conflict-shows i piece o (hybrid-v2 s i piece v1 zeros conflict refl (λ z. omega arith) .0 e)
 
 -- ---- another store's reply
 

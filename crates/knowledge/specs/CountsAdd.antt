@@ -16,7 +16,7 @@ use Rattle.store.specs.Store.{heightOf, positions, Facts}
 use Rattle.store.specs.StoreLaws.{positions-some, heldCount, used-held}
 use Rattle.marks.specs.Marks.{marksPut}
 use Rattle.messages.specs.Take.{takeAfter, takeAnswer}
-use Rattle.words.specs.History.{Call, take, loadLayer, judgeBlock, judgePiece, clear, reopen, load, repair, look, after, Opening, Steps, Each, nothing, called, between}
+use Rattle.words.specs.History.{Call, take, loadLayer, judgeBlock, judgePiece, judgeHybridPiece, clear, reopen, load, repair, look, after, Opening, Steps, Each, nothing, called, between}
 use Rattle.words.specs.Hearing.{MessageSet, Heard, NothingNew, countOf, counted}
 use Rattle.knowledge.specs.Through.{PreservedBy, by-call}
 use Rattle.knowledge.specs.Grows.{Grown, grown-same, grown-on, grown-take, grown-marks, grown-moved, steps-grow}
@@ -169,6 +169,7 @@ module _ (s : List ℕ) (f : Facts s) where
   call-counts M (loadLayer l b) y = absurd y
   call-counts M (judgeBlock i d b) y = as-many (judgeBlock i d b) (λ o. o) tt
   call-counts M (judgePiece i d b) y = as-many (judgePiece i d b) (λ o. o) tt
+  call-counts M (judgeHybridPiece i d v z b r) y = as-many (judgeHybridPiece i d v z b r) (λ o. o) tt
   call-counts M (clear i) y = as-many (clear i) (λ o. o) tt
   call-counts M (reopen n plen root o) y = absurd y
   call-counts M (load b o) y = absurd y

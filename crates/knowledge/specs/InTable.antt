@@ -25,6 +25,8 @@ use Rattle.messages.specs.Take.{takeAnswer, rejectAnswer}
 use Rattle.serve.specs.Serve.{serveAnswer}
 use Rattle.pieces.specs.Pieces.{layerAnswer, blockAnswer, pieceAnswer}
 use Rattle.pieces.specs.MarkedLaws.{block-stays, piece-stays}
+use Rattle.pieces.specs.Hybrid.{hybridAnswer}
+use Rattle.pieces.specs.HybridLaws.{hybrid-in-table, hybrid-stays}
 use Rattle.facts.specs.FactsLaws.{facts-in-table, facts-zeros}
 use Rattle.marks.specs.Marks.{blockThere, clearAnswer, markedAnswer, fieldSize, fieldAnswer}
 use Rattle.saved.specs.Form.{placeCount, savedBytes}
@@ -33,7 +35,7 @@ use Rattle.saved.specs.Saved.{sound, rooted, loadNumber, loadAnswer, repairNumb
 use Rattle.knowledge.specs.Through.{clear-stays, load-stays, repair-stays}
 use Rattle.words.specs.Held.{Holds}
 use Rattle.words.specs.Messages.{Rejected}
-use Rattle.words.specs.History.{Bytes, Ask, held, takeReject, isMarked, nextRequest, pickPiece, theFacts, beginsWith, Send, serve, bitfield, Look, ask, send, Call, take, loadLayer, judgeBlock, judgePiece, clear, reopen, look, withCount, replyNumber, asked, sendReply, looked, answer, number, after, Opening, call, begin, next, save, load, repair}
+use Rattle.words.specs.History.{Bytes, Ask, held, takeReject, isMarked, nextRequest, pickPiece, theFacts, beginsWith, Send, serve, bitfield, Look, ask, send, Call, take, loadLayer, judgeBlock, judgePiece, judgeHybridPiece, clear, reopen, look, withCount, replyNumber, asked, sendReply, looked, answer, number, after, Opening, call, begin, next, save, load, repair}
 use Rattle.words.specs.Answers.{ServeOutcome, replied, rejected, untouched, Zeros, Beside, reject, zeros}
 use Rattle.knowledge.specs.Again.{knowledge-only-grows}
 use Rattle.knowledge.specs.Refusals.{opening-refused, message-refused, layer-not-loaded, served}
@@ -75,7 +77,7 @@ serve-in-table s m out = by (served s m out)
     by (rejected n c e a) = rw e (rejected-in n c)
     by (untouched n c e a) = rw e (silent-in n c)
 
--- kd_load_layer, kd_judge_block, kd_judge_piece
+-- kd_load_layer, kd_judge_block, kd_judge_piece, kd_judge_hybrid_piece
 layer-in-table : (s layer : List ℕ) → InTable (layerAnswer s layer .number)
 unfolding layerAnswer
 layer-in-table s layer = in-table-of (layerChain s layer) (layer-tests s layer) refl
@@ -87,6 +89,10 @@ block-in-table s i block = in-table-of (blockChain s i block) (block-tests s i b
 piece-in-table : (s : List ℕ) (i : ℕ) (piece : List ℕ) → InTable (pieceAnswer s i piece .number)
 unfolding pieceAnswer
 piece-in-table s i piece = in-table-of (pieceChain s i piece) (piece-tests s i piece) refl
+
+both-in-table : (s : List ℕ) (i : ℕ) (piece v1 : List ℕ) (z : ℕ) → InTable (hybridAnswer s i piece v1 z .number)
+unfolding pieceAnswer hybridAnswer
+both-in-table s i piece v1 z = hybrid-in-table s i piece v1 z (piece-in-table s i piece)
 
 -- kd_clear, kd_marked
 there-in-table : (s : List ℕ) (i : ℕ) → InTable (blockThere s i)
@@ -194,6 +200,7 @@ call-in-table (take m b) s = take-in-table s m
 call-in-table (loadLayer l b) s = layer-in-table s l
 call-in-table (judgeBlock i d b) s = block-in-table s i d
 call-in-table (judgePiece i d b) s = piece-in-table s i d
+call-in-table (judgeHybridPiece i d v z b o) s = both-in-table s i d v z
 call-in-table (clear i) s = there-in-table s i
 call-in-table (reopen n plen root o) s = in-table-of (openChain s n plen) (open-tests s n plen) refl
 call-in-table (load b x) s = in-table-of (savedChain (sound b) s b) (load-tests s b) refl
@@ -202,11 +209,12 @@ call-in-table (look k) s = look-in-table k s
 
 -- a refusal leaves every byte of the store
 pub refused-leaves : (c : Call) (s : List ℕ) → (number c s ≡ 0 → ⊥) → after c s ≡ s
-unfolding blockAnswer pieceAnswer clearAnswer
+unfolding blockAnswer pieceAnswer hybridAnswer clearAnswer
 refused-leaves (take m b) s ne = message-refused s m ne .0
 refused-leaves (loadLayer l b) s ne = layer-not-loaded s l ne .0
 refused-leaves (judgeBlock i d b) s ne = block-stays s i d ne
 refused-leaves (judgePiece i d b) s ne = piece-stays s i d ne
+refused-leaves (judgeHybridPiece i d v z b o) s ne = hybrid-stays s i d v z ne
 refused-leaves (clear i) s ne = clear-stays s i ne
 refused-leaves (reopen n plen root o) s ne = opening-refused s n plen root ne .0
 refused-leaves (load b x) s ne = load-stays s b ne
@@ -247,11 +255,12 @@ send-beside bitfield s out y ne = zeros (λ w. w) (no-field s out ne)
 send-beside save s out y ne = zeros (λ w. w) (no-save s out ne)
 
 pub beside-refusal : (c : Call) (s : List ℕ) → (number c s ≡ 0 → ⊥) → Beside c (answer c s)
-unfolding blockAnswer pieceAnswer clearAnswer
+unfolding blockAnswer pieceAnswer hybridAnswer clearAnswer
 beside-refusal (take m b) s ne = zeros (λ w. w) (message-refused s m ne .1)
 beside-refusal (loadLayer l b) s ne = zeros (λ w. w) (layer-not-loaded s l ne .1)
 beside-refusal (judgeBlock i d b) s ne = zeros (λ w. w) refl
 beside-refusal (judgePiece i d b) s ne = zeros (λ w. w) refl
+beside-refusal (judgeHybridPiece i d v z b o) s ne = zeros (λ w. w) refl
 beside-refusal (clear i) s ne = zeros (λ w. w) refl
 beside-refusal (reopen n plen root o) s ne = zeros (λ w. w) (opening-refused s n plen root ne .1)
 beside-refusal (load b x) s ne = zeros (λ w. w) (no-load s b ne)
@@ -277,6 +286,7 @@ lost-only s c l i v h gone =
     by (loadLayer d b) k = absurd (k (stays (loadLayer d b) (λ x. x)))
     by (judgeBlock i d b) k = absurd (k (stays (judgeBlock i d b) (λ x. x)))
     by (judgePiece i d b) k = absurd (k (stays (judgePiece i d b) (λ x. x)))
+    by (judgeHybridPiece i d v z b o) k = absurd (k (stays (judgeHybridPiece i d v z b o) (λ x. x)))
     by (clear i) k = absurd (k (stays (clear i) (λ x. x)))
     by (reopen n plen root o) k = tt
     by (load b o) k = tt

@@ -24,14 +24,16 @@ use Rattle.marks.specs.MarksLaws.{mark-in, marks-before, marks-length, marks-en
 use Rattle.pieces.specs.Pieces.{layerAfter, blockNumber, blockAnswer, blockAfter, pieceNumber, pieceAnswer, pieceAfter}
 use Rattle.pieces.specs.PiecesLaws.{block-right, piece-right}
 use Rattle.pieces.specs.MarkedLaws.{block-fits, block-marks, block-stays, piece-fits, piece-marks, piece-stays}
-use Rattle.words.specs.History.{Ask, held, takeReject, isMarked, nextRequest, pickPiece, theFacts, beginsWith, Send, serve, bitfield, Look, ask, send, Call, take, loadLayer, judgeBlock, judgePiece, clear, reopen, look, withCount, withHash, withRequest, withFacts, asked, sendReply, looked, answer, after, sentTo, Opening, Teaches, call, begin, next, save, load, repair}
+use Rattle.pieces.specs.Hybrid.{hybridAnswer, hybridAfter}
+use Rattle.pieces.specs.HybridLaws.{hybrid-leaves}
+use Rattle.words.specs.History.{Ask, held, takeReject, isMarked, nextRequest, pickPiece, theFacts, beginsWith, Send, serve, bitfield, Look, ask, send, Call, take, loadLayer, judgeBlock, judgePiece, judgeHybridPiece, clear, reopen, look, withCount, withHash, withRequest, withFacts, asked, sendReply, looked, answer, after, sentTo, Opening, Teaches, call, begin, next, save, load, repair}
 use Rattle.words.specs.Marks.{SameButMarks, AsksHashes, SendsHashes, LooksAtHashes, AboutHashes}
 use Rattle.knowledge.specs.AskingApart.{next-apart}
 use Rattle.knowledge.specs.Grows.{Grown, steps-grow}
 use Rattle.knowledge.specs.Through.{clear-writes, clear-stays}
 use Rattle.knowledge.specs.MarkedWhen.{there-0}
 use Rattle.knowledge.specs.Alike.{Alike, alike-cells, same-front}
-use Rattle.knowledge.specs.Beyond.{take-answer-beyond, reject-beyond, serve-beyond, layer-answer-beyond, block-beyond, piece-beyond, take-leaves-alike, layer-leaves-alike}
+use Rattle.knowledge.specs.Beyond.{take-answer-beyond, reject-beyond, serve-beyond, layer-answer-beyond, block-beyond, piece-beyond, hybrid-beyond, take-leaves-alike, layer-leaves-alike}
 
 -- judging changes no byte before the marks
 block-before : (s : List ℕ) (i : ℕ) (d : List ℕ) (j : ℕ) → j < marksStart s → getD (blockAfter s i d) j 0 ≡ getD s j 0
@@ -47,6 +49,9 @@ piece-before s i d j l =
       | yes z ↦ rw (piece-marks s i d z) (marks-before s (usable-facts s (piece-right s i d z .store)) (firstBlock s i) (blocksIn s i) marked (piece-fits s i d z) j (omega arith))
       | no ne ↦ rw (piece-stays s i d ne)
     ]
+
+hybrid-before : (s : List ℕ) (i : ℕ) (d v : List ℕ) (z j : ℕ) → j < marksStart s → getD (hybridAfter s i d v z) j 0 ≡ getD s j 0
+hybrid-before s i d v z j l = hybrid-leaves s i d v z (λ t. getD t j 0 ≡ getD s j 0) refl (piece-before s i d j l)
 
 module _ (s t : List ℕ) (S : SameButMarks s t) where
   f : Facts s
@@ -115,11 +120,12 @@ module _ (s t : List ℕ) (S : SameButMarks s t) where
 
   -- the same numbers, counts and hashes,
   pub answers-same : (c : Call) → AboutHashes c → answer c t ≡ answer c s
-  unfolding blockAnswer pieceAnswer
+  unfolding blockAnswer pieceAnswer hybridAnswer
   answers-same (take m b) x = ap (λ (a : Answer). withCount a) (take-answer-beyond s t f e m)
   answers-same (loadLayer l b) x = ap (λ (a : Answer). withCount a) (layer-answer-beyond s t f e l)
   answers-same (judgeBlock i d b) x = ap (λ (n : ℕ). withCount (record { number = n; count = 0 })) (block-beyond s t f e i d)
   answers-same (judgePiece i d b) x = ap (λ (n : ℕ). withCount (record { number = n; count = 0 })) (piece-beyond s t f e i d)
+  answers-same (judgeHybridPiece i d v z b o) x = ap (λ (n : ℕ). withCount (record { number = n; count = 0 })) (hybrid-beyond s t f e i d v z)
   answers-same (clear i) x = absurd x
   answers-same (reopen n plen root o) x = absurd x
   answers-same (load b o) x = absurd x
@@ -144,6 +150,7 @@ module _ (s t : List ℕ) (S : SameButMarks s t) where
   cells-left (loadLayer d b) x j l = loaded-before d j l
   cells-left (judgeBlock i d b) x j l = block-before t i d j (omega (arith, starts)) ∙ cell-byte j l ∙ sym (block-before s i d j l)
   cells-left (judgePiece i d b) x j l = piece-before t i d j (omega (arith, starts)) ∙ cell-byte j l ∙ sym (piece-before s i d j l)
+  cells-left (judgeHybridPiece i d v z b o) x j l = hybrid-before t i d v z j (omega (arith, starts)) ∙ cell-byte j l ∙ sym (hybrid-before s i d v z j l)
   cells-left (clear i) x j l = absurd x
   cells-left (reopen n plen root o) x j l = absurd x
   cells-left (load b o) x j l = absurd x
@@ -155,6 +162,7 @@ module _ (s t : List ℕ) (S : SameButMarks s t) where
   other (loadLayer d b) x o = o
   other (judgeBlock i d b) x o = o
   other (judgePiece i d b) x o = o
+  other (judgeHybridPiece i d v z b r) x o = o
   other (clear i) x o = o
   other (reopen n plen root r) x o = x
   other (load b r) x o = x
@@ -195,6 +203,16 @@ remarked s f i n x fits =
       bytes = same-front s (marksPut s i n x) (marksStart s) (omega arith) (omega arith) (λ j l. marks-before s f i n x fits j (omega arith));
     }
 
+-- a piece that is judged leaves each answer of kd_held
+piece-holds : (s : List ℕ) (j : ℕ) (d : List ℕ) (l i : ℕ) → heldAnswer (pieceAfter s j d) l i ≡ heldAnswer s l i
+piece-holds s j d l i =
+    elim (ℕ-discrete (pieceNumber s j d) 0) [
+      | yes z ↦
+          rw (piece-marks s j d z)
+          (held-alike s (marksPut s (firstBlock s j) (blocksIn s j) marked) (remarked s (usable-facts s (piece-right s j d z .store)) (firstBlock s j) (blocksIn s j) marked (piece-fits s j d z)) l i)
+      | no ne ↦ rw (piece-stays s j d ne)
+    ]
+
 -- NOTHING ELSE TEACHES: but for a message, a layer and an opening every call leaves each answer of kd_held
 pub held-stays : (s : List ℕ) (c : Call) → (Teaches c → ⊥) → (l i : ℕ) → heldAnswer (after c s) l i ≡ heldAnswer s l i
 held-stays s (take m b) n l i = absurd (n tt)
@@ -204,13 +222,8 @@ held-stays s (judgeBlock j d b) n l i =
       | yes z ↦ rw (block-marks s j d z) (held-alike s (marksPut s j 1 marked) (remarked s (usable-facts s (block-right s j d z .store)) j 1 marked (block-fits s j d z)) l i)
       | no ne ↦ rw (block-stays s j d ne)
     ]
-held-stays s (judgePiece j d b) n l i =
-    elim (ℕ-discrete (pieceNumber s j d) 0) [
-      | yes z ↦
-          rw (piece-marks s j d z)
-          (held-alike s (marksPut s (firstBlock s j) (blocksIn s j) marked) (remarked s (usable-facts s (piece-right s j d z .store)) (firstBlock s j) (blocksIn s j) marked (piece-fits s j d z)) l i)
-      | no ne ↦ rw (piece-stays s j d ne)
-    ]
+held-stays s (judgePiece j d b) n l i = piece-holds s j d l i
+held-stays s (judgeHybridPiece j d v z b o) n l i = hybrid-leaves s j d v z (λ t. heldAnswer t l i ≡ heldAnswer s l i) refl (piece-holds s j d l i)
 held-stays s (clear j) n l i =
     elim (ℕ-discrete (blockThere s j) 0) [
       | yes z ↦

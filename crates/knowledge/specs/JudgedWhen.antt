@@ -1,19 +1,20 @@
--- Demand 2: what a layer, a block and a piece get, each number exactly when 01 says, in the order 9, 3, 4, 6, 7, 8. "Held" is what
--- kd_held answers; positions are layers and indices.
+-- Demand 2: what a layer, a block and a piece get, each number exactly when 01 says, in the order 9, 3, 4, 6, 7, 8; and a piece that is judged by
+-- both halves of a hybrid. "Held" is what kd_held answers; positions are layers and indices.
 -- Assumes nothing.
 use mathlib.Core.Path.{_≡_, refl, sym, _∙_, subst}
 use mathlib.Core.Bool.{true, false, false≢true}
-use mathlib.Core.List.{List}
-use mathlib.Core.Logic.{_↔_}
+use mathlib.Core.List.{List, _++_}
+use mathlib.Core.Logic.{_↔_, _⊎_, inl, inr}
 use Prim.Native.Nat.{ℕ, _+_, _-_, _*_, _^_, _≤_, _<_}
 use native.Mathlib.Omega.{arith}
-use lib.ListN.{length}
+use lib.ListN.{length, replicate}
 use lib.Pow.{pow-pos}
 use borrow.Author.Tests.{eq-eqb, ne-eqb, eqb-true, lt-ltb, le-ltb, ltb-true, ltb-false}
 use Rattle.octets.specs.OctetsLaws.{same-true, same-eq, same-false, same-ne}
 use Rattle.numbers.specs.Numbers.{ruleBroken, wrongSize, noAnchor, differs, conflict, unusable}
 use Rattle.numbers.specs.Chain.{last, decided, exactly, exactly-of, none, passes-of}
 use Rattle.sha256.specs.Sha256.{sha256}
+use Rattle.sha1.specs.Sha1.{sha1}
 use Rattle.tree.specs.Geometry.{nodeNumber, hasLayer, pieceCount, blockSize, pieceSize}
 use Rattle.tree.specs.GeometryLaws.{node-number-root, has-longer, longer-has}
 use Rattle.tree.specs.Values.{leafOf, layerLeaf}
@@ -22,9 +23,11 @@ use Rattle.store.specs.Store.{usable, fileLength, pieceLength, blocksOf, height
 use Rattle.store.specs.StoreLaws.{usable-facts, facts-leaves}
 use Rattle.pieces.specs.Pieces.{judgedAt, layerOfPieces, layerNumber, blockNumber, pieceHeight, pieceNumber}
 use Rattle.pieces.specs.PiecesLaws.{layered, piece-in}
+use Rattle.pieces.specs.Hybrid.{V1Agrees, hybridNumber}
+use Rattle.pieces.specs.HybridLaws as Both
 use Rattle.words.specs.Held.{Holds, Lacks, Fits, Misfits, Clashes}
 use Rattle.words.specs.Pieces.{LayerFormed, LayerSettles, BlockFormed, OtherLeaf, PieceFormed, PieceSettles}
-use Rattle.numbers.specs.Tests.{eqb-no, through}
+use Rattle.numbers.specs.Tests.{eqb-no, through, in-turn, both}
 use Rattle.knowledge.specs.NumberChains.{layerThen, layerChain, layer-tests, blockThen, leafChain, blockChain, block-tests, pieceThen, pieceChain, piece-tests}
 use Rattle.knowledge.specs.Verdicts.{marked-holds, holds-marked, marked-lacks, lacks-marked, judged-fits, judged-lacks, judged-misfits, judged-clashes}
 
@@ -263,3 +266,44 @@ module _ (s : List ℕ) (i : ℕ) (piece : List ℕ) where
   piece-0 =
       through (piece-on 0 refl)
       (λ f. rw from-leaves at (judged-fits s (piece-facts f) (leafOf piece) 0 i (pieceHeight s) (node-low f) (node-inside f)))
+
+-- ---- a piece of a hybrid
+
+either-way : {A B C D : Type 0} → A ↔ B → C ↔ D → (A ⊎ C) ↔ (B ⊎ D)
+either-way p q = (
+  λ x. elim x [ inl a ↦ inl (p .0 a) | inr c ↦ inr (q .0 c) ],
+  λ y. elim y [ inl b ↦ inl (p .1 b) | inr d ↦ inr (q .1 d) ],
+)
+
+first-so : {A B C : Type 0} → A ↔ B → (A × C) ↔ (B × C)
+first-so p = both p (λ c. c, λ c. c)
+
+module _ (s : List ℕ) (i : ℕ) (piece v1 : List ℕ) (zeros : ℕ) where
+  -- 9, 3, 6 AND 8 EXACTLY WHEN the v2 half gives them
+  pub hybrid-9 : (hybridNumber s i piece v1 zeros ≡ unusable) ↔ (usable s ≡ false)
+  hybrid-9 = in-turn (Both.hybrid-v2 s i piece v1 zeros unusable refl (λ z. omega arith)) (piece-9 s i piece)
+
+  pub hybrid-3 : (hybridNumber s i piece v1 zeros ≡ ruleBroken) ↔ ((usable s ≡ true) × (pieceCount (fileLength s) (pieceLength s) ≤ i))
+  hybrid-3 = in-turn (Both.hybrid-v2 s i piece v1 zeros ruleBroken refl (λ z. omega arith)) (piece-3 s i piece)
+
+  pub hybrid-6 : (hybridNumber s i piece v1 zeros ≡ noAnchor) ↔ (PieceFormed s i piece × Lacks s (pieceHeight s) i)
+  hybrid-6 = in-turn (Both.hybrid-v2 s i piece v1 zeros noAnchor refl (λ z. omega arith)) (piece-6 s i piece)
+
+  pub hybrid-8 : (hybridNumber s i piece v1 zeros ≡ conflict) ↔ (PieceFormed s i piece × Clashes s (PieceSettles s i piece) (pieceHeight s) i)
+  hybrid-8 = in-turn (Both.hybrid-v2 s i piece v1 zeros conflict refl (λ z. omega arith)) (piece-8 s i piece)
+
+  -- 4 EXACTLY WHEN the v2 half gives it, or the v2 half is right and the zeros pass the piece length
+  pub hybrid-4 : (hybridNumber s i piece v1 zeros ≡ wrongSize)
+      ↔ (((usable s ≡ true) × (i < pieceCount (fileLength s) (pieceLength s)) × (length piece ≡ pieceSize (fileLength s) (pieceLength s) i → ⊥))
+      ⊎ ((PieceFormed s i piece × Fits s (PieceSettles s i piece) (pieceHeight s) i) × (pieceLength s < length piece + zeros)))
+  hybrid-4 = in-turn (Both.hybrid-4 s i piece v1 zeros) (either-way (piece-4 s i piece) (first-so (piece-0 s i piece)))
+
+  -- 7 EXACTLY WHEN the v2 half gives it, or the v2 half is right, the zeros fit, and SHA-1 of both is another than the hash given
+  pub hybrid-7 : (hybridNumber s i piece v1 zeros ≡ differs)
+      ↔ ((PieceFormed s i piece × Misfits s (PieceSettles s i piece) (pieceHeight s) i)
+      ⊎ ((PieceFormed s i piece × Fits s (PieceSettles s i piece) (pieceHeight s) i) × ((length piece + zeros ≤ pieceLength s) × (sha1 (piece ++ replicate zeros 0) ≡ v1 → ⊥))))
+  hybrid-7 = in-turn (Both.hybrid-7 s i piece v1 zeros) (either-way (piece-7 s i piece) (first-so (piece-0 s i piece)))
+
+  -- 0 EXACTLY WHEN BOTH HASHES AGREE
+  pub hybrid-0 : (hybridNumber s i piece v1 zeros ≡ 0) ↔ ((PieceFormed s i piece × Fits s (PieceSettles s i piece) (pieceHeight s) i) × V1Agrees s piece v1 zeros)
+  hybrid-0 = in-turn (Both.hybrid-0 s i piece v1 zeros) (first-so (piece-0 s i piece))

@@ -23,6 +23,8 @@ use Rattle.messages.specs.Take.{given, unclesOf, anchor, placeIn, takeNumber}
 use Rattle.messages.specs.Asks.{Passed}
 use Rattle.messages.specs.TakeLaws.{passed}
 use Rattle.pieces.specs.Pieces.{blockNumber, pieceHeight, pieceNumber, layerNumber}
+use Rattle.pieces.specs.Hybrid.{V1Agrees, hybridNumber}
+use Rattle.pieces.specs.HybridLaws.{hybrid-0}
 use Rattle.words.specs.Held.{Holds}
 use Rattle.words.specs.History.{Bytes, OurStore}
 use Rattle.words.specs.Messages.{topLayer, topIndex, anchorLayer, anchorIndex}
@@ -118,6 +120,11 @@ module _ {s : List ℕ} (file : List ℕ) (o : OurStore s) (w : For file s) wher
       by (pieceShowsAt x) = pieceShows (shown (heightOf s) (byPiece s i piece) (ofFile file) (reads-piece s i piece (piece-0 s i piece .0 z .0)) (reads-file file s w) x)
       by (blockShowsAt x c) = blockShows x c
 
+  -- so is a hybrid's, and its v1 half agrees
+  pub hybrid-piece-is-the-files : (i : ℕ) (piece v1 : List ℕ) (zeros : ℕ) → Bytes file → Bytes piece → hybridNumber s i piece v1 zeros ≡ 0
+      → PieceIs file s i piece × V1Agrees s piece v1 zeros
+  hybrid-piece-is-the-files i piece v1 zeros bf bp z = let x = hybrid-0 s i piece v1 zeros .0 z in (piece-is-the-files i piece bf bp (x .0), x .1)
+
   -- THE FILE'S OWN HASHES, where kd_held gives their anchor, are taken, or a pair is shown
   pub known-message : (m : List ℕ) → TrueHashes file s m → heldAnswer s (anchorLayer m) (anchorIndex m) .number ≡ 0
       → Shown (heightOf s) (heldBy s) (ofFile file) ⊎ (takeNumber s m ≡ 0)
@@ -135,3 +142,8 @@ module _ {s : List ℕ} (file : List ℕ) (o : OurStore s) (w : For file s) wher
   pub known-piece : (i : ℕ) (v : List ℕ) → i < pieceCount (fileLength s) (pieceLength s) → Holds s (pieceHeight s) i v
       → Shown (heightOf s) (heldBy s) (ofFile file) ⊎ (pieceNumber s i (pieceFor file s i) ≡ 0)
   known-piece i v l h = or-shown (true-piece file i o w l (what-is-held s (pieceHeight s) i v (ours-have o .chained .facts) h .1))
+
+  -- by both halves too, where the v1 half agrees
+  pub known-hybrid-piece : (i : ℕ) (v v1 : List ℕ) (zeros : ℕ) → i < pieceCount (fileLength s) (pieceLength s) → Holds s (pieceHeight s) i v
+      → V1Agrees s (pieceFor file s i) v1 zeros → Shown (heightOf s) (heldBy s) (ofFile file) ⊎ (hybridNumber s i (pieceFor file s i) v1 zeros ≡ 0)
+  known-hybrid-piece i v v1 zeros l h a = elim (known-piece i v l h) [ inl x ↦ inl x | inr z ↦ inr (hybrid-0 s i (pieceFor file s i) v1 zeros .1 (z, a)) ]

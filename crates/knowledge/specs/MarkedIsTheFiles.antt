@@ -7,13 +7,15 @@ use mathlib.Core.Logic.{_⊎_}
 use Prim.Native.Nat.{ℕ, _+_, _-_, _*_, _^_, _<_}
 use native.Mathlib.Nat.{mul-comm}
 use native.Mathlib.Omega.{arith}
+use Rattle.octets.specs.Octets.{Octets}
 use Rattle.tree.specs.Geometry.{pieceCount, blockSize}
 use Rattle.tree.specs.Values.{blockOf}
 use Rattle.tree.specs.ValuesLaws.{block-of-piece}
 use Rattle.store.specs.Store.{fileLength, pieceLength, heightOf, Facts}
 use Rattle.marks.specs.Marks.{eachPiece, firstBlock, blocksIn}
 use Rattle.pieces.specs.Pieces.{layerOfPieces, blockAnswer, pieceAnswer}
-use Rattle.words.specs.History.{Bytes, Call, judgeBlock, judgePiece, Steps, Begins, OurStore, ours}
+use Rattle.pieces.specs.Hybrid.{V1Agrees, hybridAnswer}
+use Rattle.words.specs.History.{Bytes, Call, judgeBlock, judgePiece, judgeHybridPiece, Steps, Begins, OurStore, ours}
 use Rattle.words.specs.Shown.{heldBy, ofFile, OneHash, Shown}
 use Rattle.words.specs.File.{For, pieceFor, PieceIs}
 use Rattle.words.specs.Marks.{Covers, JudgedBy}
@@ -42,6 +44,13 @@ module _ {s t : List ℕ} (begun : Begins s) (h : Steps s t) (file : List ℕ) (
   pub marked-by-piece : (i : ℕ) (piece : List ℕ) (bp : Bytes piece) → JudgedBy j (judgePiece i piece bp) u t h → PieceIs file u i piece
   unfolding pieceAnswer
   marked-by-piece i piece bp x = Rattle.knowledge.specs.Known.piece-is-the-files file (ours-then x) (for-then x) i piece bf bp (judged-answered x .1)
+
+  -- A HYBRID'S PIECE is the file's, and the v1 half agreed
+  pub marked-by-both : (i : ℕ) (piece v1 : List ℕ) (zeros : ℕ) (bp : Bytes piece) (o : Octets 20 v1) → JudgedBy j (judgeHybridPiece i piece v1 zeros bp o) u t h
+      → PieceIs file u i piece × V1Agrees u piece v1 zeros
+  unfolding hybridAnswer
+  marked-by-both i piece v1 zeros bp o x =
+      Rattle.knowledge.specs.Known.hybrid-piece-is-the-files file (ours-then x) (for-then x) i piece v1 zeros bf bp (judged-answered x .1)
 
 -- and in the file's piece stands the file's block
 pub block-in-piece : (file s : List ℕ) → Facts s → (i j : ℕ) → i < pieceCount (fileLength s) (pieceLength s) → Covers s i j

@@ -11,6 +11,7 @@ use native.Mathlib.Decide.{ℕ-discrete, decLe, decLt}
 use lib.ListN.{length, getD}
 use lib.Dec.{eqb, leb}
 use borrow.Author.Tests.{leb-true}
+use Rattle.octets.specs.Octets.{Octets}
 use Rattle.numbers.specs.Numbers.{done}
 use Rattle.numbers.specs.declared.Answer.{Answer}
 use Rattle.sha256.specs.Sha256.{sha256}
@@ -23,8 +24,10 @@ use Rattle.marks.specs.MarksLaws.{same-mark, marked-in, marked-out, marks-end, 
 use Rattle.pieces.specs.Pieces.{layerAfter, blockNumber, blockAnswer, pieceHeight, pieceNumber, pieceAnswer}
 use Rattle.pieces.specs.PiecesLaws.{piece-right}
 use Rattle.pieces.specs.MarkedLaws.{block-fits, block-marks, block-stays, piece-fits, piece-marks, piece-stays}
-use Rattle.words.specs.History.{Bytes, Call, take, loadLayer, judgeBlock, judgePiece, clear, reopen, load, repair, look, number, after, Opening, Step, call, lent, Steps, begin, next}
-use Rattle.words.specs.Marks.{Judges, Clears, JudgedBy, last, before, behind, JudgedRight, Uncleared, atFirst, byCall, byLending, RightFor, asBlock, inPiece}
+use Rattle.pieces.specs.Hybrid.{hybridNumber, hybridAnswer}
+use Rattle.pieces.specs.HybridLaws.{hybrid-0, hybrid-marks, hybrid-stays}
+use Rattle.words.specs.History.{Bytes, Call, take, loadLayer, judgeBlock, judgePiece, judgeHybridPiece, clear, reopen, load, repair, look, number, after, Opening, Step, call, lent, Steps, begin, next}
+use Rattle.words.specs.Marks.{Covers, Judges, Clears, JudgedBy, last, before, behind, JudgedRight, Uncleared, atFirst, byCall, byLending, RightFor, asBlock, inPiece, inHybridPiece}
 use Rattle.knowledge.specs.Through.{clear-writes, clear-stays, reopen-refused, load-stays, repair-stays}
 use Rattle.knowledge.specs.Grows.{Grown, grown-on, grown-take, grown-layer, steps-grow}
 use Rattle.knowledge.specs.Again.{grown-holds}
@@ -102,6 +105,20 @@ module _ (s : List ℕ) (f : Facts s) (j : ℕ) (l : j < 2 ^ heightOf s) where
         | no ne ↦ leaves _ _ (ap (λ (t : List ℕ). markedAt t j) (piece-stays s i d ne)) (λ x. ne (x .1)) (λ x. absurd x)
       ]
 
+  -- on 0 as by the v2 half alone, which gave 0 too
+  hybrid-mark : (i : ℕ) (d v : List ℕ) (z : ℕ) (b : Bytes d) (o : Octets 20 v) → MarkAfter (judgeHybridPiece i d v z b o) s j
+  unfolding pieceAnswer hybridAnswer
+  hybrid-mark i d v z b o =
+      elim (ℕ-discrete (hybridNumber s i d v z) 0) [
+        | yes e ↦
+            let p = piece-mark i d b in
+            rw (hybrid-marks s i d v z e) (
+              λ m. elim (p .0 m) [ inl y ↦ inl (y .0, e) | inr y ↦ inr (y .0, λ x. absurd x) ],
+              λ w. p .1 (elim w [ inl y ↦ inl (y .0, hybrid-0 s i d v z .0 e .0) | inr y ↦ inr (y .0, λ x. absurd x) ]),
+            )
+        | no ne ↦ leaves _ _ (ap (λ (t : List ℕ). markedAt t j) (hybrid-stays s i d v z ne)) (λ x. ne (x .1)) (λ x. absurd x)
+      ]
+
   clear-mark : (i : ℕ) → MarkAfter (clear i) s j
   unfolding clearAnswer
   clear-mark i =
@@ -121,6 +138,7 @@ module _ (s : List ℕ) (f : Facts s) (j : ℕ) (l : j < 2 ^ heightOf s) where
   mark-after (loadLayer d b) x = leaves _ _ (load-leaves d) (λ y. absurd (y .0)) (λ y. absurd y)
   mark-after (judgeBlock i d b) x = block-mark i d b
   mark-after (judgePiece i d b) x = piece-mark i d b
+  mark-after (judgeHybridPiece i d v z b o) x = hybrid-mark i d v z b o
   mark-after (clear i) x = clear-mark i
   mark-after (reopen n plen root o) x =
       leaves _ _ (ap (λ (t : List ℕ). markedAt t j) (reopen-refused s n plen root (x tt))) (λ y. absurd (y .0)) (λ y. absurd y)
@@ -198,12 +216,16 @@ judged-grown f (before d x w k) = let g = judged-grown f w in grown-on g (grown-
 judged-grown f (behind v b e w) = let g = judged-grown f w in grown-on g (grown-step (g .facts) (lent v b e))
 
 -- the number 0 says that the bytes were right
+right-piece : (s : List ℕ) (j i : ℕ) (d : List ℕ) (b : Bytes d) → Covers s i j → pieceNumber s i d ≡ 0 → RightFor s j (judgePiece i d b)
+right-piece s j i d b x z = let w = piece-0 s i d .0 z in inPiece i d b x (w .0) (w .1 .w) (w .1 .held) (w .1 .gives)
+
 right-0 : (s : List ℕ) (j : ℕ) (c : Call) → Judges s j c → number c s ≡ 0 → RightFor s j c
-unfolding blockAnswer pieceAnswer
+unfolding blockAnswer pieceAnswer hybridAnswer
 right-0 s j (take m b) x z = absurd x
 right-0 s j (loadLayer d b) x z = absurd x
 right-0 s j (judgeBlock i d b) x z = let w = block-0 s i d .0 z in subst (λ (k : ℕ). RightFor s k (judgeBlock i d b)) x (asBlock d b (w .0) (w .1))
-right-0 s j (judgePiece i d b) x z = let w = piece-0 s i d .0 z in inPiece i d b x (w .0) (w .1 .w) (w .1 .held) (w .1 .gives)
+right-0 s j (judgePiece i d b) x z = right-piece s j i d b x z
+right-0 s j (judgeHybridPiece i d v n b o) x z = let w = hybrid-0 s i d v n .0 z in inHybridPiece i d v n b o (right-piece s j i d b x (w .0)) (w .1)
 right-0 s j (clear i) x z = absurd x
 right-0 s j (reopen n plen root o) x z = absurd x
 right-0 s j (load b o) x z = absurd x
@@ -223,10 +245,13 @@ right-grown {s} {t} {j} f g (inPiece i piece b cov w v h p) =
     v
     (rw (same-node (g .same)) (grown-holds s t f g (pieceHeight s) i v h))
     (rw (same-node (g .same)) p)
+right-grown {s} {t} {j} f g (inHybridPiece i piece v1 zeros b o r w) =
+    inHybridPiece i piece v1 zeros b o (right-grown f g r) (record { room = rw (g .same .piece) (w .room); hash = w .hash })
 
 pub right-inside : {t : List ℕ} {j : ℕ} {c : Call} → RightFor t j c → j < blocksOf t
 right-inside (asBlock block b w h) = w .inside
 right-inside (inPiece i piece b cov w v h p) = cov .inside
+right-inside (inHybridPiece i piece v1 zeros b o r w) = right-inside r
 
 -- WHAT A MARK PROMISES: the bytes judged were right then,
 pub right-then : {j : ℕ} {c : Call} {u s t : List ℕ} {h : Steps s t} → JudgedBy j c u t h → RightFor u j c
@@ -329,6 +354,7 @@ back-only s us c j m gone =
     by (loadLayer d b) k = absurd (k (stays (loadLayer d b) (λ x. x) (λ x. x)))
     by (judgeBlock i d b) k = absurd (k (stays (judgeBlock i d b) (λ x. x) (λ x. x)))
     by (judgePiece i d b) k = absurd (k (stays (judgePiece i d b) (λ x. x) (λ x. x)))
+    by (judgeHybridPiece i d v z b o) k = absurd (k (stays (judgeHybridPiece i d v z b o) (λ x. x) (λ x. x)))
     by (clear i) k = elim (ℕ-discrete i j) [ yes q ↦ inl q | no ne ↦ absurd (k (stays (clear i) (λ x. x) ne)) ]
     by (reopen n plen root o) k = inr tt
     by (load b o) k = inr tt

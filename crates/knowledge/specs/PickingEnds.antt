@@ -1,6 +1,6 @@
 -- 02, request 11: the picking ends. Each piece picked was not on disk, and is once it was judged right; marks stay but for clearings.
 -- Assumes nothing.
-use mathlib.Core.Path.{_≡_, ap, sym, _∙_}
+use mathlib.Core.Path.{_≡_, ap, sym, _∙_, subst}
 use mathlib.Core.Bool.{Bool, true, false, not, and-eq-true-iff}
 use mathlib.Core.List.{List}
 use mathlib.Core.Logic.{inl, inr}
@@ -14,10 +14,12 @@ use Rattle.store.specs.StoreLaws.{usable-facts, facts-usable, facts-leaves}
 use Rattle.marks.specs.Marks.{marked, markedAt, eachPiece, firstBlock, blocksIn, allMarked, pieceMarked}
 use Rattle.marks.specs.MarksLaws.{marked-in, covered-inside, all-marked-says, all-marked-each}
 use Rattle.pieces.specs.Pieces.{pieceNumber, pieceAnswer, pieceAfter}
+use Rattle.pieces.specs.Hybrid.{hybridNumber, hybridAnswer}
+use Rattle.pieces.specs.HybridLaws.{hybrid-0, hybrid-marks}
 use Rattle.pieces.specs.MarkedLaws.{piece-fits, piece-marks}
 use Rattle.asking.specs.declared.pick.Choice.{Choice}
 use Rattle.asking.specs.Picking.{noPiece, thisPiece, pickAnswer}
-use Rattle.words.specs.Asking.{CountEach, ToFetch, Picked, nothingLeft, rarest, countBelow, notOnDisk, KeepsMarks, unmoved, called, relent, Fetched, unpicked, between, judgedRight}
+use Rattle.words.specs.Asking.{CountEach, ToFetch, Picked, nothingLeft, rarest, countBelow, notOnDisk, KeepsMarks, unmoved, called, relent, Fetched, unpicked, between, judgedRight, judgedByBoth}
 use Rattle.numbers.specs.Tests.{either, not-both}
 use Rattle.words.specs.History.{Bytes, Call, judgePiece, Opening, number, after, SameStore, Steps, call, begin, next}
 use Rattle.words.specs.Marks.{Clears}
@@ -161,6 +163,11 @@ far f (judgedRight {n} {t} {u} counts i piece b H L e k z) =
     let F = far f H in
     let T = pick-says t counts i L e in
     far-right i piece b F (T .0) (T .1) (stays-through (F .grown .facts) k) (unfold pieceAnswer in z)
+far {s} f (judgedByBoth {n} {t} {u} counts i piece v1 zeros b H L e k z) =
+    let F = far f H in
+    let T = pick-says t counts i L e in
+    let w : hybridNumber u i piece v1 zeros ≡ 0 = unfold hybridAnswer in z in
+    subst (Far s (suc n)) (sym (hybrid-marks u i piece v1 zeros w)) (far-right i piece b F (T .0) (T .1) (stays-through (F .grown .facts) k) (hybrid-0 u i piece v1 zeros .0 w .0))
 
 -- THE PICKING ENDS: where each piece picked is then judged right, whatever else happens between but no mark is cleared, at most as many are
 -- picked as were not on disk,

@@ -19,7 +19,7 @@ use Rattle.store.specs.Store.{usable, fileLength, heightOf, storeSize, factsInR
 use Rattle.store.specs.StoreLaws.{facts-usable, usable-facts, used-same, used-facts, store-size-some, opened-facts, opened-file, opened-length, opened-spare, opened-zero}
 use Rattle.marks.specs.Marks.{marksStart, marksPut}
 use Rattle.marks.specs.MarksLaws.{marks-end, marks-cells, marks-same-facts, marks-facts, mark-in}
-use Rattle.words.specs.History.{Call, take, loadLayer, judgeBlock, judgePiece, clear, reopen, load, repair, look, Reply, replyNumber, answer, number, after, Opening, Teaches, call, lent, Steps, begin, next, SameStore}
+use Rattle.words.specs.History.{Call, take, loadLayer, judgeBlock, judgePiece, judgeHybridPiece, clear, reopen, load, repair, look, Reply, replyNumber, answer, number, after, Opening, Teaches, call, lent, Steps, begin, next, SameStore}
 use Rattle.words.specs.Marks.{SameButMarks}
 use Rattle.words.specs.Hearing.{noted, journal, afterAll, AllDone}
 use Rattle.knowledge.specs.Through.{PreservedBy, by-call}
@@ -66,6 +66,7 @@ untaught s r S c x n = by c x n
     Silent (loadLayer d b) = ⊥
     Silent (judgeBlock i d b) = Unit {0}
     Silent (judgePiece i d b) = Unit {0}
+    Silent (judgeHybridPiece i d v z b o) = Unit {0}
     Silent (clear i) = Unit {0}
     Silent (reopen k plen root o) = Unit {0}
     Silent (load b o) = Unit {0}
@@ -86,6 +87,7 @@ untaught s r S c x n = by c x n
     by (loadLayer d b) x n = absurd (n tt)
     by (judgeBlock i d b) x n = by-call Silent (λ (a : List ℕ). SameButMarks a r) keeps (judgeBlock i d b) s x tt S
     by (judgePiece i d b) x n = by-call Silent (λ (a : List ℕ). SameButMarks a r) keeps (judgePiece i d b) s x tt S
+    by (judgeHybridPiece i d v z b o) x n = by-call Silent (λ (a : List ℕ). SameButMarks a r) keeps (judgeHybridPiece i d v z b o) s x tt S
     by (clear i) x n = by-call Silent (λ (a : List ℕ). SameButMarks a r) keeps (clear i) s x tt S
     by (reopen k plen root o) x n = absurd (n tt)
     by (load b o) x n = absurd (n tt)
@@ -134,6 +136,8 @@ one-more L r t a (loadLayer d b) x =
     ]
 one-more L r t a (judgeBlock i d b) x = nothing-noted L r (after (judgeBlock i d b) t) (a .0, untaught t (afterAll L r) (a .1) (judgeBlock i d b) x (λ y. y))
 one-more L r t a (judgePiece i d b) x = nothing-noted L r (after (judgePiece i d b) t) (a .0, untaught t (afterAll L r) (a .1) (judgePiece i d b) x (λ y. y))
+one-more L r t a (judgeHybridPiece i d v z b o) x =
+    nothing-noted L r (after (judgeHybridPiece i d v z b o) t) (a .0, untaught t (afterAll L r) (a .1) (judgeHybridPiece i d v z b o) x (λ y. y))
 one-more L r t a (clear i) x = nothing-noted L r (after (clear i) t) (a .0, untaught t (afterAll L r) (a .1) (clear i) x (λ y. y))
 one-more L r t a (reopen n plen root o) x = rw (refused-leaves (reopen n plen root o) t (x tt)) (nothing-noted L r t a)
 one-more L r t a (load b o) x = rw (refused-leaves (load b o) t (x tt)) (nothing-noted L r t a)

@@ -20,17 +20,19 @@ use Rattle.messages.specs.Take.{takeAfter}
 use Rattle.extends.specs.ExtendsLaws.{extends-alike}
 use Rattle.pieces.specs.Pieces.{layerAfter, blockNumber, blockAnswer, blockAfter, pieceNumber, pieceAnswer, pieceAfter}
 use Rattle.pieces.specs.MarkedLaws.{block-fits, block-marks, block-stays, piece-fits, piece-marks, piece-stays}
+use Rattle.pieces.specs.Hybrid.{hybridNumber, hybridAnswer, hybridAfter}
+use Rattle.pieces.specs.HybridLaws.{hybrid-marks, hybrid-stays, hybrid-leaves}
 use Rattle.marks.specs.Marks.{marked, cleared, marksPut, blockThere, clearAnswer, clearAfter, firstBlock, blocksIn}
 use Rattle.marks.specs.MarksLaws.{marks-behind, marks-end, marks-facts, marks-same-facts, there-fits}
 use Rattle.knowledge.specs.MarksBeyond.{there-beyond, marked-beyond, field-beyond, covered-beyond, marks-beyond}
 use Rattle.knowledge.specs.SavedBeyond.{save-beyond}
 use Rattle.knowledge.specs.Through.{clear-writes, clear-stays}
-use Rattle.words.specs.History.{Ask, held, takeReject, isMarked, nextRequest, pickPiece, theFacts, beginsWith, Send, serve, bitfield, ask, send, Call, take, loadLayer, judgeBlock, judgePiece, clear, reopen, look, withCount, withHash, withRequest, withPiece, withFacts, asked, sendReply, answer, after, sentTo, Opening, SameStore, save, load, repair}
+use Rattle.words.specs.History.{Ask, held, takeReject, isMarked, nextRequest, pickPiece, theFacts, beginsWith, Send, serve, bitfield, ask, send, Call, take, loadLayer, judgeBlock, judgePiece, judgeHybridPiece, clear, reopen, look, withCount, withHash, withRequest, withPiece, withFacts, asked, sendReply, answer, after, sentTo, Opening, SameStore, save, load, repair}
 use Rattle.knowledge.specs.AskingApart.{next-behind, pick-behind}
 use Rattle.knowledge.specs.BytesLeft.{SameCells}
 use Rattle.knowledge.specs.Grows.{Grown, grown-take, grown-layer}
 use Rattle.knowledge.specs.Alike.{alike, same-byte, same-front}
-use Rattle.knowledge.specs.Beyond.{take-answer-beyond, reject-beyond, serve-beyond, layer-answer-beyond, block-beyond, piece-beyond, take-leaves-alike, layer-leaves-alike, take-past, layer-past}
+use Rattle.knowledge.specs.Beyond.{take-answer-beyond, reject-beyond, serve-beyond, layer-answer-beyond, block-beyond, piece-beyond, hybrid-beyond, take-leaves-alike, layer-leaves-alike, take-past, layer-past}
 use Rattle.knowledge.specs.RootAlone.{usable-exactly}
 
 -- two memories that agree byte for byte up to the size
@@ -99,6 +101,14 @@ module _ (s t : List ℕ) (S : SameStore s t) where
         | no ne ↦ rw (piece-stays s i d ne, piece-stays t i d (λ w. ne (sym k ∙ w))) S
       ]
 
+  hybrid-same : (i : ℕ) (d v : List ℕ) (z : ℕ) → SameStore (hybridAfter s i d v z) (hybridAfter t i d v z)
+  hybrid-same i d v z =
+      let k = hybrid-beyond s t facts (alike s t facts (S .bytes)) i d v z in
+      elim (ℕ-discrete (hybridNumber s i d v z) 0) [
+        | yes e ↦ rw (hybrid-marks s i d v z e, hybrid-marks t i d v z (k ∙ e)) (piece-same i d)
+        | no ne ↦ rw (hybrid-stays s i d v z ne, hybrid-stays t i d v z (λ w. ne (sym k ∙ w))) S
+      ]
+
   clear-same : (i : ℕ) → SameStore (clearAfter s i) (clearAfter t i)
   clear-same i =
       let k = there-beyond s t facts (S .bytes) i in
@@ -128,11 +138,12 @@ module _ (s t : List ℕ) (S : SameStore s t) where
 
   -- every call but an opening answers the same,
   pub answers-alike : (c : Call) → (Opening c → ⊥) → answer c t ≡ answer c s
-  unfolding blockAnswer pieceAnswer clearAnswer
+  unfolding blockAnswer pieceAnswer hybridAnswer clearAnswer
   answers-alike (take m b) x = ap (λ (a : Answer). withCount a) (take-answer-beyond s t facts (alike s t facts (S .bytes)) m)
   answers-alike (loadLayer l b) x = ap (λ (a : Answer). withCount a) (layer-answer-beyond s t facts (alike s t facts (S .bytes)) l)
   answers-alike (judgeBlock i d b) x = ap (λ (n : ℕ). withCount (record { number = n; count = 0 })) (block-beyond s t facts (alike s t facts (S .bytes)) i d)
   answers-alike (judgePiece i d b) x = ap (λ (n : ℕ). withCount (record { number = n; count = 0 })) (piece-beyond s t facts (alike s t facts (S .bytes)) i d)
+  answers-alike (judgeHybridPiece i d v z b o) x = ap (λ (n : ℕ). withCount (record { number = n; count = 0 })) (hybrid-beyond s t facts (alike s t facts (S .bytes)) i d v z)
   answers-alike (clear i) x = ap (λ (n : ℕ). withCount (record { number = n; count = 0 })) (there-beyond s t facts (S .bytes) i)
   answers-alike (reopen n plen root o) x = absurd (x tt)
   answers-alike (load b o) x = absurd (x tt)
@@ -150,6 +161,7 @@ module _ (s t : List ℕ) (S : SameStore s t) where
       (layer-past s s facts (alike s s facts refl) l) (layer-past t t there (alike t t there refl) l)
   leaves-same (judgeBlock i d b) x = block-same i d
   leaves-same (judgePiece i d b) x = piece-same i d
+  leaves-same (judgeHybridPiece i d v z b o) x = hybrid-same i d v z
   leaves-same (clear i) x = clear-same i
   leaves-same (reopen n plen root o) x = absurd (x tt)
   leaves-same (load b o) x = absurd (x tt)
@@ -187,6 +199,7 @@ module _ (s : List ℕ) (u : usable s ≡ true) where
   behind-stays (loadLayer d b) x i l = layer-past s s (usable-facts s u) (alike s s (usable-facts s u) refl) d i (omega (arith, own-cells s))
   behind-stays (judgeBlock j d b) x i l = block-past j d i l
   behind-stays (judgePiece j d b) x i l = piece-past j d i l
+  behind-stays (judgeHybridPiece j d v z b o) x i l = hybrid-leaves s j d v z (λ t. getD t i 0 ≡ getD s i 0) refl (piece-past j d i l)
   behind-stays (clear j) x i l = clear-past j i l
   behind-stays (reopen n plen root o) x i l = absurd (x tt)
   behind-stays (load b o) x i l = absurd (x tt)

@@ -15,11 +15,12 @@ use Rattle.messages.specs.Take.{takeAfter}
 use Rattle.store.specs.StoreLaws.{usable-facts}
 use Rattle.marks.specs.Marks.{marked, cleared, marksPut, blockThere, clearAfter, firstBlock, blocksIn}
 use Rattle.marks.specs.MarksLaws.{there-says, there-fits}
-use Rattle.pieces.specs.Pieces.{layerAfter, blockNumber, pieceNumber}
+use Rattle.pieces.specs.Pieces.{layerAfter, blockNumber, pieceNumber, pieceAfter}
 use Rattle.pieces.specs.PiecesLaws.{block-right, piece-right}
 use Rattle.pieces.specs.MarkedLaws.{block-fits, block-marks, block-stays, piece-fits, piece-marks, piece-stays}
+use Rattle.pieces.specs.HybridLaws.{hybrid-leaves}
 use Rattle.saved.specs.Saved.{loadNumber, loadAnswer, loadAfter, repairNumber, repairAnswer, repairAfter}
-use Rattle.words.specs.History.{Bytes, Call, take, loadLayer, judgeBlock, judgePiece, clear, reopen, load, repair, look, number, after, Opening, SameStore, call, lent, Steps, begin, next, Each, nothing, called, between}
+use Rattle.words.specs.History.{Bytes, Call, take, loadLayer, judgeBlock, judgePiece, judgeHybridPiece, clear, reopen, load, repair, look, number, after, Opening, SameStore, call, lent, Steps, begin, next, Each, nothing, called, between}
 
 -- an opening that is refused leaves every byte
 pub reopen-refused : (s : List ℕ) (n plen : ℕ) (root : List ℕ) → (openAnswer s n plen .number ≡ 0 → ⊥) → openAfter s n plen root ≡ s
@@ -64,6 +65,13 @@ pub record PreservedBy (C : Call → Type 0) (P : List ℕ → Type 0) : Type 0 
   pub moved : (s t : List ℕ) → Bytes t → SameStore s t → P s → P t
 
 module _ (C : Call → Type 0) (P : List ℕ → Type 0) (k : PreservedBy C P) where
+  piece-kept : (s : List ℕ) (i : ℕ) (d : List ℕ) → P s → P (pieceAfter s i d)
+  piece-kept s i d p =
+      elim (ℕ-discrete (pieceNumber s i d) 0) [
+        | yes z ↦ subst P (sym (piece-marks s i d z)) (k .remarked s (firstBlock s i) (blocksIn s i) marked (usable-facts s (piece-right s i d z .store)) (piece-fits s i d z) (omega arith) p)
+        | no ne ↦ subst P (sym (piece-stays s i d ne)) p
+      ]
+
   pub by-call : (c : Call) (s : List ℕ) → (Opening c → number c s ≡ 0 → ⊥) → C c → P s → P (after c s)
   by-call (take m b) s x y p = k .taken s m b y p
   by-call (loadLayer l b) s x y p = k .loaded s l b y p
@@ -72,11 +80,8 @@ module _ (C : Call → Type 0) (P : List ℕ → Type 0) (k : PreservedBy C P) w
         | yes z ↦ subst P (sym (block-marks s i d z)) (k .remarked s i 1 marked (usable-facts s (block-right s i d z .store)) (block-fits s i d z) (omega arith) p)
         | no ne ↦ subst P (sym (block-stays s i d ne)) p
       ]
-  by-call (judgePiece i d b) s x y p =
-      elim (ℕ-discrete (pieceNumber s i d) 0) [
-        | yes z ↦ subst P (sym (piece-marks s i d z)) (k .remarked s (firstBlock s i) (blocksIn s i) marked (usable-facts s (piece-right s i d z .store)) (piece-fits s i d z) (omega arith) p)
-        | no ne ↦ subst P (sym (piece-stays s i d ne)) p
-      ]
+  by-call (judgePiece i d b) s x y p = piece-kept s i d p
+  by-call (judgeHybridPiece i d v z b o) s x y p = hybrid-leaves s i d v z P p (piece-kept s i d p)
   by-call (clear i) s x y p =
       elim (ℕ-discrete (blockThere s i) 0) [
         | yes z ↦ subst P (sym (clear-writes s i z)) (k .remarked s i 1 cleared (usable-facts s (there-says s i z .0)) (let w = there-fits s i z in omega arith) (omega arith) p)

@@ -6,12 +6,18 @@ use Rattle.facts.specs.declared.FactsRead.{FactsRead}
 use Rattle.torrent.specs.declared.read.Torrent.{Torrent}
 use Rattle.torrent.specs.declared.read.FileRead.{FileRead}
 use Rattle.torrent.specs.declared.read.PartRead.{PartRead}
+use Rattle.v1.specs.declared.read.HybridRead.{HybridRead}
+use Rattle.v1.specs.declared.read.V1Piece.{V1Piece}
+use Rattle.v1.specs.declared.read.V1Part.{V1Part}
 use Rattle.kombudeva.specs.declared.CountAnswer.{CountAnswer}
 use Rattle.kombudeva.specs.declared.HashAnswer.{HashAnswer}
 use Rattle.kombudeva.specs.declared.FactsAnswer.{FactsAnswer}
 use Rattle.kombudeva.specs.declared.TorrentAnswer.{TorrentAnswer}
 use Rattle.kombudeva.specs.declared.FileAnswer.{FileAnswer}
 use Rattle.kombudeva.specs.declared.PartAnswer.{PartAnswer}
+use Rattle.kombudeva.specs.declared.HybridAnswer.{HybridAnswer}
+use Rattle.kombudeva.specs.declared.V1PieceAnswer.{V1PieceAnswer}
+use Rattle.kombudeva.specs.declared.V1PartAnswer.{V1PartAnswer}
 
 unfoldable pub countAnswer : Answer → CountAnswer
 countAnswer r = record { number = r .number; count = r .count }
@@ -31,3 +37,12 @@ fileAnswer r =
 
 unfoldable pub partAnswer : PartRead → PartAnswer
 partAnswer r = record { number = r .number; start = r .start; size = r .size }
+
+unfoldable pub hybridAnswer : HybridRead → HybridAnswer
+hybridAnswer r = record { number = r .number; hybrid = r .hybrid; «info_hash» = record { bytes = r .hash } }
+
+unfoldable pub v1PieceAnswer : V1Piece → V1PieceAnswer
+v1PieceAnswer r = record { number = r .number; hash = record { bytes = r .hash }; zeros = r .zeros }
+
+unfoldable pub v1PartAnswer : V1Part → V1PartAnswer
+v1PartAnswer r = record { number = r .number; start = r .start; size = r .size; zeros = r .zeros }

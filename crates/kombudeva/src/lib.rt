@@ -3,6 +3,7 @@
 ghost use mathlib.Core.Path.{_≡_};
 ghost use mathlib.Core.List.{[]};
 ghost use Rattle.sha256.specs.Answer.{hashedOf};
+ghost use Rattle.sha1.specs.Answer.{sha1Of};
 ghost use Rattle.running.specs.Bursts as B;
 ghost use Rattle.history.specs.Answers as W;
 ghost use Rattle.store.specs.Store.{sizeAnswer, openAnswer, openAfter, heldAnswer};
@@ -14,16 +15,18 @@ ghost use Rattle.asking.specs.Asking.{nextAnswer};
 ghost use Rattle.asking.specs.Picking.{pickAnswer};
 ghost use Rattle.extends.specs.Extends.{extendsAnswer};
 ghost use Rattle.pieces.specs.Pieces.{layerAnswer, layerAfter, blockAnswer, blockAfter, pieceAnswer, pieceAfter};
+ghost use Rattle.pieces.specs.Hybrid as Both;
 ghost use Rattle.saved.specs.Save.{saveAnswer, saveAfter};
 ghost use Rattle.saved.specs.Saved.{loadAnswer, loadAfter, repairAnswer, repairAfter};
 ghost use Rattle.torrent.specs.Torrent.{readOf, fileRead, pathRead};
 ghost use Rattle.catalogue.specs.Catalogue.{listAnswer, listAfter};
 ghost use Rattle.about.specs.About.{infoRead, nameRead};
+ghost use Rattle.v1.specs.V1.{hybridOf, v1PieceOf, v1PiecesOf};
 ghost use Rattle.places.specs.Places.{placeAnswer, firstAnswer};
 ghost use Rattle.writing.specs.Write.{writeAnswer, writeAfter};
 ghost use Rattle.frames.specs.Frames.{frameAnswer, frameAfter};
 ghost use Rattle.stream.specs.Reading.{between, hearAnswer, hearRoom};
-ghost use Rattle.kombudeva.specs.Boundary.{countAnswer, hashAnswer, factsStruct, torrentAnswer, fileAnswer, partAnswer};
+ghost use Rattle.kombudeva.specs.Boundary.{countAnswer, hashAnswer, factsStruct, torrentAnswer, fileAnswer, partAnswer, hybridAnswer, v1PieceAnswer, v1PartAnswer};
 ghost use Rattle.kombudeva.specs.Version.{version};
 use asking::next::Request;
 use asking::pick::Choice;
@@ -36,20 +39,30 @@ use places::Placed;
 use running::Hashing;
 use running::HashingAnswer;
 use saved::repair::Repaired;
+use sha1::Sha1Answer;
 use sha256::Hashed;
 use stream::Heard;
 use stream::Stream;
 use torrent::read::FileRead;
 use torrent::read::PartRead;
 use torrent::read::Torrent;
+use v1::read::HybridRead;
+use v1::read::V1Part;
+use v1::read::V1Piece;
 
 // KD_VERSION_NUMBER
-pub const VERSION: u32 = 14000;
+pub const VERSION: u32 = 15000;
 
 // kd_hash
 #[repr(C)]
 pub struct Hash {
     pub bytes: [u8; 32],
+}
+
+// kd_sha1_hash
+#[repr(C)]
+pub struct Sha1Hash {
+    pub bytes: [u8; 20],
 }
 
 // kd_answer
@@ -101,6 +114,31 @@ pub struct PartAnswer {
     pub number: u32,
     pub start: u64,
     pub size: u64,
+}
+
+// kd_hybrid
+#[repr(C)]
+pub struct HybridAnswer {
+    pub number: u32,
+    pub hybrid: u32,
+    pub info_hash: Sha1Hash,
+}
+
+// kd_v1_piece
+#[repr(C)]
+pub struct V1PieceAnswer {
+    pub number: u32,
+    pub hash: Sha1Hash,
+    pub zeros: u64,
+}
+
+// kd_v1_part
+#[repr(C)]
+pub struct V1PartAnswer {
+    pub number: u32,
+    pub start: u64,
+    pub size: u64,
+    pub zeros: u64,
 }
 
 fn count_answer(r: Answer) -> CountAnswer
@@ -174,6 +212,41 @@ fn part_answer(r: PartRead) -> PartAnswer
     }
 }
 
+fn hybrid_answer(r: HybridRead) -> HybridAnswer
+    ensures { λ a. ⌜ a ≡ hybridAnswer r ⌝ }
+{
+    let bytes = r.hash;
+    let info_hash = Sha1Hash { bytes };
+    HybridAnswer {
+        number: r.number,
+        hybrid: r.hybrid,
+        info_hash,
+    }
+}
+
+fn v1_piece_answer(r: V1Piece) -> V1PieceAnswer
+    ensures { λ a. ⌜ a ≡ v1PieceAnswer r ⌝ }
+{
+    let bytes = r.hash;
+    let hash = Sha1Hash { bytes };
+    V1PieceAnswer {
+        number: r.number,
+        hash,
+        zeros: r.zeros as u64,
+    }
+}
+
+fn v1_part_answer(r: V1Part) -> V1PartAnswer
+    ensures { λ a. ⌜ a ≡ v1PartAnswer r ⌝ }
+{
+    V1PartAnswer {
+        number: r.number,
+        start: r.start as u64,
+        size: r.size as u64,
+        zeros: r.zeros as u64,
+    }
+}
+
 #[no_mangle]
 pub extern "C" fn kd_version() -> u32
     ensures { λ r. ⌜ r ≡ version ⌝ }
@@ -186,6 +259,13 @@ pub extern "C" fn kd_sha256(string: &[u8]) -> HashAnswer
     ensures { λ r. ⌜ r ≡ hashAnswer (hashedOf (now (string .entry))) ⌝ }
 {
     hash_answer(sha256::sha256(string))
+}
+
+#[no_mangle]
+pub extern "C" fn kd_sha1(string: &[u8]) -> Sha1Answer
+    ensures { λ r. ⌜ r ≡ sha1Of (now (string .entry)) ⌝ }
+{
+    sha1::sha1(string)
 }
 
 #[no_mangle]
@@ -302,6 +382,20 @@ pub extern "C" fn kd_judge_piece(s: &mut [u8], piece: u64, bytes: &[u8]) -> Coun
 }
 
 #[no_mangle]
+pub extern "C" fn kd_judge_hybrid_piece(
+    s: &mut [u8],
+    piece: u64,
+    bytes: &[u8],
+    v1: Sha1Hash,
+    zeros: u64,
+) -> CountAnswer
+    ensures { λ r. ⌜ (r ≡ countAnswer (Both.hybridAnswer (now (s .entry)) piece (now (bytes .entry)) (v1 .bytes) zeros)) × (now (s .exit) ≡ Both.hybridAfter (now (s .entry)) piece (now (bytes .entry)) (v1 .bytes) zeros) ⌝ }
+{
+    let hash = v1.bytes;
+    count_answer(pieces::judge_hybrid_piece(s, piece as usize, bytes, hash, zeros as usize))
+}
+
+#[no_mangle]
 pub extern "C" fn kd_marked(s: &[u8], block: u64) -> CountAnswer
     ensures { λ r. ⌜ r ≡ countAnswer (markedAnswer (now (s .entry)) block) ⌝ }
 {
@@ -406,6 +500,27 @@ pub extern "C" fn kd_torrent_name(torrent: &[u8]) -> PartAnswer
     ensures { λ r. ⌜ r ≡ partAnswer (nameRead (now (torrent .entry))) ⌝ }
 {
     part_answer(about::read_name(torrent))
+}
+
+#[no_mangle]
+pub extern "C" fn kd_torrent_hybrid(torrent: &[u8]) -> HybridAnswer
+    ensures { λ r. ⌜ r ≡ hybridAnswer (hybridOf (now (torrent .entry))) ⌝ }
+{
+    hybrid_answer(v1::read::read_hybrid(torrent))
+}
+
+#[no_mangle]
+pub extern "C" fn kd_torrent_v1_piece(torrent: &[u8], file: u64, piece: u64) -> V1PieceAnswer
+    ensures { λ r. ⌜ r ≡ v1PieceAnswer (v1PieceOf (now (torrent .entry)) file piece) ⌝ }
+{
+    v1_piece_answer(v1::read::v1_piece(torrent, file as usize, piece as usize))
+}
+
+#[no_mangle]
+pub extern "C" fn kd_torrent_v1_pieces(torrent: &[u8], file: u64) -> V1PartAnswer
+    ensures { λ r. ⌜ r ≡ v1PartAnswer (v1PiecesOf (now (torrent .entry)) file) ⌝ }
+{
+    v1_part_answer(v1::read::v1_pieces(torrent, file as usize))
 }
 
 #[no_mangle]

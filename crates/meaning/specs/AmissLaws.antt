@@ -5,7 +5,7 @@ use mathlib.Core.Logic.{_⊎_, inl, inr, _↔_}
 use mathlib.Core.Bool.{Bool, true, false, _&&_, false≢true, and-eq-true-iff}
 use Prim.Native.Nat.{ℕ, _≤_}
 use native.Mathlib.Omega.{arith}
-use Rattle.numbers.specs.Numbers.{keyMissing, otherVersion, pieceLengthOutOfRange, wrongTree, sameRoot, layersAmiss, layerDiffers}
+use Rattle.numbers.specs.Numbers.{keyMissing, otherVersion, pieceLengthOutOfRange, wrongTree, twoLengths, layersAmiss, layerDiffers}
 use Rattle.numbers.specs.Tests.{through, in-turn, grouped, alone}
 use Rattle.numbers.specs.Chain.{Chain, last, test, decided, exactly-of, each}
 use Rattle.tree.specs.Geometry.{isPieceLength}
@@ -64,7 +64,7 @@ module _ (torrent : Entries) where
   chain =
       test a keyMissing
       (test b otherVersion
-      (test c pieceLengthOutOfRange (test d wrongTree (test e sameRoot (test f layersAmiss (test g layerDiffers (last 0)))))))
+      (test c pieceLengthOutOfRange (test d wrongTree (test e twoLengths (test f layersAmiss (test g layerDiffers (last 0)))))))
 
   number-is : valueNumber torrent ≡ decided chain
   unfolding valueNumber
@@ -151,8 +151,8 @@ module _ (torrent : Entries) where
   exactly-25 = through (in-turn (exactly-of chain wrongTree number-is refl) below25) (λ w. fails-where d tree-false tree-true)
 
   -- 26 EXACTLY WHEN those are right and two non-empty files have one root and different lengths
-  pub exactly-26 : (valueNumber torrent ≡ sameRoot) ↔ (NoneBelow26 torrent × Amiss26 torrent)
-  exactly-26 = through (in-turn (exactly-of chain sameRoot number-is refl) below26) (λ w. fails-where e (roots-amiss (filesOf torrent)) (roots-right (filesOf torrent)))
+  pub exactly-26 : (valueNumber torrent ≡ twoLengths) ↔ (NoneBelow26 torrent × Amiss26 torrent)
+  exactly-26 = through (in-turn (exactly-of chain twoLengths number-is refl) below26) (λ w. fails-where e (roots-amiss (filesOf torrent)) (roots-right (filesOf torrent)))
 
   -- 27 EXACTLY WHEN those are right and the piece layers aren't those of the longer files, or not of their size
   pub exactly-27 : (valueNumber torrent ≡ layersAmiss) ↔ (NoneBelow27 torrent × Amiss27 torrent)

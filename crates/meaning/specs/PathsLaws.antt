@@ -18,13 +18,13 @@ use Rattle.meaning.specs.Paths.{StaysInside, AllStay, written, toZero, L
 
 -- ---- the rule
 
-without-yes : (b : ℕ) (s : List ℕ) → without b s ≡ true → Member b s → ⊥
+pub without-yes : (b : ℕ) (s : List ℕ) → without b s ≡ true → Member b s → ⊥
 unfolding without Member
 without-yes b [] h m = m
 without-yes b (c ∷ cs) h (inl e) = let w = and-eq-true-iff (not (eqb c b)) (without b cs) .0 h in eqb-false c b (not-true (eqb c b) (w .0)) (sym e)
 without-yes b (c ∷ cs) h (inr m) = without-yes b cs (and-eq-true-iff (not (eqb c b)) (without b cs) .0 h .1) m
 
-without-no : (b : ℕ) (s : List ℕ) → (Member b s → ⊥) → without b s ≡ true
+pub without-no : (b : ℕ) (s : List ℕ) → (Member b s → ⊥) → without b s ≡ true
 unfolding without Member
 without-no b [] h = refl
 without-no b (c ∷ cs) h = rw (ne-eqb c b (λ e. h (inl (sym e))), without-no b cs (λ m. h (inr m))) refl

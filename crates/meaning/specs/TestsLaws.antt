@@ -147,7 +147,7 @@ piece-right torrent e w =
 
 -- ---- 25
 
-natural-yes : (x : Lookup) → isNatural x ≡ true → x ≡ present (integer false (numberOf x))
+pub natural-yes : (x : Lookup) → isNatural x ≡ true → x ≡ present (integer false (numberOf x))
 natural-yes (present (integer false n)) e = refl
 natural-yes (present (integer true n)) e = absurd (false≢true e)
 natural-yes absent e = absurd (false≢true e)

@@ -8,7 +8,7 @@ use lib.Dec.{eqb, leb}
 use Rattle.limits.specs.Limits.{longestFile}
 use Rattle.meaning.specs.Keys.{keyLength, keyPiecesRoot, keyInfo, keyFileTree, keyPieceLength, keyMetaVersion, keyPieceLayers}
 use Rattle.octets.specs.Octets.{same, zeroHash}
-use Rattle.numbers.specs.Numbers.{keyMissing, otherVersion, pieceLengthOutOfRange, wrongTree, sameRoot, layersAmiss, layerDiffers}
+use Rattle.numbers.specs.Numbers.{keyMissing, otherVersion, pieceLengthOutOfRange, wrongTree, twoLengths, layersAmiss, layerDiffers}
 use Rattle.tree.specs.Geometry.{blockCount, height, isPieceLength, pieceLayer, pieceCount, hasLayer}
 use Rattle.tree.specs.Values.{layerRoot}
 use Rattle.bencode.specs.Grammar.{Value, integer, string, list, dictionary, Entries, noEntries, entry}
@@ -246,7 +246,7 @@ numberBy tree torrent =
     0
     layerDiffers)
     layersAmiss)
-    sameRoot)
+    twoLengths)
     wrongTree)
     pieceLengthOutOfRange)
     otherVersion)

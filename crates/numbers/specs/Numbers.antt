@@ -82,8 +82,8 @@ abbrev pub wrongTree : ℕ
 wrongTree = 25
 
 -- two non-empty files with the same root and different lengths
-abbrev pub sameRoot : ℕ
-sameRoot = 26
+abbrev pub twoLengths : ℕ
+twoLengths = 26
 
 -- `piece layers` aren't those of the files longer than the piece length, each of its size
 abbrev pub layersAmiss : ℕ
@@ -93,13 +93,17 @@ layersAmiss = 27
 abbrev pub layerDiffers : ℕ
 layerDiffers = 28
 
--- no file, or no path element, of that number
-abbrev pub noSuchFile : ℕ
-noSuchFile = 29
+-- no file, path element, name or piece of that number
+abbrev pub noSuchPart : ℕ
+noSuchPart = 29
 
 -- a neighbour's frame, or a message to be framed, of more bytes than a frame may have
 abbrev pub frameTooLong : ℕ
 frameTooLong = 30
+
+-- a hybrid whose halves don't describe the same files, or a malformed v1 key
+abbrev pub halvesDiffer : ℕ
+halvesDiffer = 31
 
 -- saved bytes without a whole opening record, not of the form, or not a store's
 abbrev pub notSaved : ℕ
@@ -107,7 +111,7 @@ notSaved = 32
 
 -- the numbers of the table
 abbrev pub table : List ℕ
-table = 0 ∷ 1 ∷ 2 ∷ 3 ∷ 4 ∷ 5 ∷ 6 ∷ 7 ∷ 8 ∷ 9 ∷ 10 ∷ 11 ∷ 12 ∷ 19 ∷ 20 ∷ 21 ∷ 22 ∷ 23 ∷ 24 ∷ 25 ∷ 26 ∷ 27 ∷ 28 ∷ 29 ∷ 30 ∷ 32 ∷ []
+table = 0 ∷ 1 ∷ 2 ∷ 3 ∷ 4 ∷ 5 ∷ 6 ∷ 7 ∷ 8 ∷ 9 ∷ 10 ∷ 11 ∷ 12 ∷ 19 ∷ 20 ∷ 21 ∷ 22 ∷ 23 ∷ 24 ∷ 25 ∷ 26 ∷ 27 ∷ 28 ∷ 29 ∷ 30 ∷ 31 ∷ 32 ∷ []
 
 -- n is one of these
 pub data Listed (n : ℕ) : List ℕ → Type 0 where

@@ -42,15 +42,17 @@ pub const PIECE_LENGTH_OUT_OF_RANGE: u32 = 24;
 
 pub const WRONG_TREE: u32 = 25;
 
-pub const SAME_ROOT: u32 = 26;
+pub const TWO_LENGTHS: u32 = 26;
 
 pub const LAYERS_AMISS: u32 = 27;
 
 pub const LAYER_DIFFERS: u32 = 28;
 
-pub const NO_SUCH_FILE: u32 = 29;
+pub const NO_SUCH_PART: u32 = 29;
 
 pub const FRAME_TOO_LONG: u32 = 30;
+
+pub const HALVES_DIFFER: u32 = 31;
 
 pub const NOT_SAVED: u32 = 32;
 

@@ -16,7 +16,7 @@ use Rattle.bencode.specs.Grammar.{precedes}
 use Rattle.sorting.specs.PrecedesLaws.{precedes-self, behind-trans}
 use Rattle.meaning.specs.Counting.{Member}
 use Rattle.publishing.specs.Content.{Item, layerBefore, withLayer, layersGiven}
-use Rattle.publishing.specs.Number.{some, twoLengths, givesOther, twoLayers}
+use Rattle.publishing.specs.Number.{some, lengthsClash, givesOther, twoLayers}
 use Rattle.publishing.specs.Refused.{OneRoot}
 use Rattle.publishing.specs.RefusedLaws.{pair-of}
 use Rattle.publishing.specs.SomeLaws.{or-left, or-right, or-one, both-ways, some-there, some-one}
@@ -140,17 +140,17 @@ one-root xs x y m n r =
     let b = full-of xs y n in
     record { one = a .0; other = b .0; one-full = a .1; other-full = b .1; same-root = r }
 
-pub lengths-clash : (plen : ℕ) (xs : List Item) → Ordered rootBefore xs → clash false plen xs ≡ twoLengths xs
+pub lengths-clash : (plen : ℕ) (xs : List Item) → Ordered rootBefore xs → clash false plen xs ≡ lengthsClash xs
 unfolding clash
 lengths-clash plen xs o =
-    both-ways (runs (firstWrong false plen) (λ (x y : Item). not (agree false x y)) (fullOnes xs)) (twoLengths xs)
+    both-ways (runs (firstWrong false plen) (λ (x y : Item). not (agree false x y)) (fullOnes xs)) (lengthsClash xs)
     (λ e. from (runs-found (firstWrong false plen) (agree false) (fullOnes xs) e)) to
   where
-    from : Found (firstWrong false plen) (agree false) (fullOnes xs) → twoLengths xs ≡ true
+    from : Found (firstWrong false plen) (agree false) (fullOnes xs) → lengthsClash xs ≡ true
     from (one x m e) = absurd (false≢true e)
     from (two x y m n r e) = pair-of (agree false) xs .1 (x, y, one-root xs x y m n r, e)
 
-    to : twoLengths xs ≡ true → runs (firstWrong false plen) (λ (x y : Item). not (agree false x y)) (fullOnes xs) ≡ true
+    to : lengthsClash xs ≡ true → runs (firstWrong false plen) (λ (x y : Item). not (agree false x y)) (fullOnes xs) ≡ true
     to e = by-case (runs (firstWrong false plen) (λ (x y : Item). not (agree false x y)) (fullOnes xs)) refl
       where
         w : (x : Item) × (y : Item) × OneRoot xs x y × (agree false x y ≡ false)
@@ -174,7 +174,7 @@ gives plen n layer root = hasLayer n plen && not (same (layerRoot layer (pieceLa
 gives-same : (plen n m : ℕ) (a b r s : List ℕ) → n ≡ m → a ≡ b → r ≡ s → gives plen n a r ≡ gives plen m b s
 gives-same plen n m a b r s e f g = rw (e, f, g) refl
 
-module _ (plen : ℕ) (xs : List Item) (o : Ordered rootBefore xs) (l : twoLengths xs ≡ false) where
+module _ (plen : ℕ) (xs : List Item) (o : Ordered rootBefore xs) (l : lengthsClash xs ≡ false) where
   -- files of one root have one length
   one-length : (x y : Item) → Member x (fullOnes xs) → Member y (fullOnes xs) → x .root ≡ y .root → x .size ≡ y .size
   one-length x y m n r = by-case (eqb (x .size) (y .size)) refl

@@ -10,11 +10,11 @@ use lib.ListN.{length}
 use lib.Dec.{eqb, ltb}
 use borrow.Author.Tests.{eqb-true, lt-ltb, le-ltb}
 use Rattle.limits.specs.Limits.{largestTorrent}
-use Rattle.numbers.specs.Numbers.{torrentTooLarge, nestedTooDeeply, pieceLengthOutOfRange, wrongTree, sameRoot, layersAmiss, layerDiffers}
+use Rattle.numbers.specs.Numbers.{torrentTooLarge, nestedTooDeeply, pieceLengthOutOfRange, wrongTree, twoLengths, layersAmiss, layerDiffers}
 use Rattle.tree.specs.Geometry.{isPieceLength}
 use Rattle.bencode.specs.Grammar.{dictionary, encode}
 use Rattle.publishing.specs.Content.{Item, torrentOf}
-use Rattle.publishing.specs.Number.{some, tooDeep, wrongItem, meet, nothing, twoLengths, misfit, givesOther, twoLayers, contentNumber}
+use Rattle.publishing.specs.Number.{some, tooDeep, wrongItem, meet, nothing, lengthsClash, misfit, givesOther, twoLayers, contentNumber}
 use Rattle.lists.specs.Lists.{recordSize, itemAt, formUpTo, itemsUpTo, recordCount, listForm, contentOf}
 use Rattle.ordered.specs.Roots.{rootNumber}
 
@@ -102,10 +102,10 @@ module _ (plen : ℕ) (name : List ℕ) (xs : List Item) (size : ℕ) (e : size 
 -- ---- 26 to 28
 
 module _ (plen : ℕ) (xs : List Item) where
-  pub has-lengths : twoLengths xs ≡ true → sameRoot ≡ rootNumber plen xs
+  pub has-lengths : lengthsClash xs ≡ true → twoLengths ≡ rootNumber plen xs
   has-lengths h = rw h refl
 
-  module _ (a : twoLengths xs ≡ false) where
+  module _ (a : lengthsClash xs ≡ false) where
     pub has-misfit : some (misfit plen) xs ≡ true → layersAmiss ≡ rootNumber plen xs
     has-misfit h = rw (a, h) refl
 

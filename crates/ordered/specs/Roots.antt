@@ -3,14 +3,14 @@
 use mathlib.Core.Bool.{cond, _||_}
 use mathlib.Core.List.{List}
 use Prim.Native.Nat.{ℕ}
-use Rattle.numbers.specs.Numbers.{sameRoot, layersAmiss, layerDiffers}
+use Rattle.numbers.specs.Numbers.{twoLengths, layersAmiss, layerDiffers}
 use Rattle.publishing.specs.Content.{Item}
-use Rattle.publishing.specs.Number.{some, twoLengths, misfit, givesOther, twoLayers}
+use Rattle.publishing.specs.Number.{some, lengthsClash, misfit, givesOther, twoLayers}
 
 -- the lowest of them that holds, or 0
 abbrev pub rootNumber : ℕ → List Item → ℕ
 rootNumber plen xs =
-    cond (twoLengths xs) sameRoot
+    cond (lengthsClash xs) twoLengths
     (cond (some (misfit plen) xs) layersAmiss
     (cond (some (givesOther plen) xs || twoLayers xs) layerDiffers
     0))

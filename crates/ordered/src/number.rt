@@ -32,7 +32,7 @@ pub fn root_number(list: &[u8], text: &[u8], plen: usize, at: &[u32], rest: usiz
         return 0;
     }
     if clashes(list, text, plen, false, at) {
-        return numbers::SAME_ROOT;
+        return numbers::TWO_LENGTHS;
     }
     if one_fails(list, text, plen, Test::Layer) {
         return numbers::LAYERS_AMISS;

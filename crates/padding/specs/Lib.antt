@@ -4,3 +4,4 @@ pub mod Running
 pub mod PaddingLaws
 pub mod CuttingLaws
 pub mod RunningLaws
+pub mod ZerosLaws

@@ -1,4 +1,4 @@
-// Loading a piece layer into a store, judging a block, judging a piece.
+// Loading a piece layer into a store, judging a block, a piece, and a piece of a hybrid.
 ghost use mathlib.Core.Path.{_≡_};
 ghost use mathlib.Core.Bool.{true};
 ghost use Prim.Native.Nat.{_+_, _-_, _≤_};
@@ -10,11 +10,12 @@ ghost use Rattle.tree.specs.Geometry.{nodeNumber};
 ghost use Rattle.tree.specs.Values.{leafOf, layerLeaf};
 ghost use Rattle.cells.specs.Cells.{Room, heldAt, hashAt};
 ghost use Rattle.cells.specs.Entries.{putAll, fresh};
-ghost use Rattle.store.specs.Store.{heightOf};
+ghost use Rattle.store.specs.Store.{heightOf, pieceLength};
 ghost use Rattle.settling.specs.Span.{Fit};
 ghost use Rattle.settling.specs.Subtree.{runLeaf};
 ghost use Rattle.pieces.specs.Pieces as P;
 ghost use Rattle.pieces.specs.Asks.{Layered, PieceIn};
+ghost use Rattle.pieces.specs.Hybrid.{v1Number, hybridNumber, hybridAnswer, hybridAfter};
 use marks::blocks_in;
 use marks::first_block;
 use marks::put_marks;
@@ -190,7 +191,7 @@ pub fn judge_block(s: &mut [u8], block: usize, bytes: &[u8]) -> Answer
 // ---- a piece
 
 // The layer of the node that a piece is judged against: layer p, or the root's if the file has no piece layer.
-fn piece_height(s: &[u8]) -> usize
+pub fn piece_height(s: &[u8]) -> usize
     requires { ⌜ 64 ≤ length (now s) ⌝ }
     ensures { λ r. ⌜ r ≡ P.pieceHeight (now (s .entry)) ⌝ }
 {
@@ -216,7 +217,7 @@ fn judge_node(s: &[u8], piece: usize, bytes: &[u8]) -> u32
 }
 
 // What a piece's bytes get.
-fn piece_number(s: &[u8], piece: usize, bytes: &[u8]) -> u32
+pub fn piece_number(s: &[u8], piece: usize, bytes: &[u8]) -> u32
     ensures { λ r. ⌜ r ≡ P.pieceNumber (now (s .entry)) piece (now (bytes .entry)) ⌝ }
 {
     let usable = is_usable(s);
@@ -241,6 +242,57 @@ pub fn judge_piece(s: &mut [u8], piece: usize, bytes: &[u8]) -> Answer
     ensures { λ r. ⌜ (r ≡ P.pieceAnswer (now (s .entry)) piece (now (bytes .entry))) × (now (s .exit) ≡ P.pieceAfter (now (s .entry)) piece (now (bytes .entry))) ⌝ }
 {
     let number = piece_number(s, piece, bytes);
+    if number == 0 {
+        let first = first_block(s, piece);
+        let n = blocks_in(s, piece);
+        put_marks(s, first, n, 1);
+        return numbers::success(0);
+    }
+    numbers::refusal(number)
+}
+
+// ---- a piece of a hybrid
+
+// What the v1 half gives a piece that has at most a piece's bytes: 4 where the zeros behind it would pass the piece length, 7 where SHA-1 of both is not v1.
+fn v1_number(s: &[u8], bytes: &[u8], v1: [u8; 20], zeros: usize) -> u32
+    requires { ⌜ (64 ≤ length (now s)) × (length (now bytes) ≤ pieceLength (now s)) ⌝ }
+    ensures { λ r. ⌜ r ≡ v1Number (now (s .entry)) (now (bytes .entry)) v1 zeros ⌝ }
+{
+    let plen = piece_length_of(s);
+    let room = plen - bytes.len();
+    if room < zeros {
+        return numbers::WRONG_SIZE;
+    }
+    let hash = sha1::hash_with_zeros(bytes, zeros);
+    let alike = sha1::same(hash, v1);
+    if alike {
+        return numbers::DONE;
+    }
+    numbers::DIFFERS
+}
+
+// What a hybrid's piece gets: the v2 answer first.
+fn hybrid_number(s: &[u8], piece: usize, bytes: &[u8], v1: [u8; 20], zeros: usize) -> u32
+    ensures { λ r. ⌜ r ≡ hybridNumber (now (s .entry)) piece (now (bytes .entry)) v1 zeros ⌝ }
+{
+    let number = piece_number(s, piece, bytes);
+    if number == 0 {
+        return v1_number(s, bytes, v1, zeros);
+    }
+    number
+}
+
+// Judges a piece's bytes by both halves of a hybrid, the v1 half with so many zeros behind them, and marks its blocks on 0. The count is 0.
+pub fn judge_hybrid_piece(
+    s: &mut [u8],
+    piece: usize,
+    bytes: &[u8],
+    v1: [u8; 20],
+    zeros: usize,
+) -> Answer
+    ensures { λ r. ⌜ (r ≡ hybridAnswer (now (s .entry)) piece (now (bytes .entry)) v1 zeros) × (now (s .exit) ≡ hybridAfter (now (s .entry)) piece (now (bytes .entry)) v1 zeros) ⌝ }
+{
+    let number = hybrid_number(s, piece, bytes, v1, zeros);
     if number == 0 {
         let first = first_block(s, piece);
         let n = blocks_in(s, piece);

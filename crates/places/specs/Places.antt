@@ -7,7 +7,7 @@ use lib.ListN.{length}
 use lib.Dec.{eqb, leb, ltb}
 use Rattle.limits.specs.Limits.{longestFile, largestTorrent}
 use Rattle.octets.specs.Octets.{numberAt}
-use Rattle.numbers.specs.Numbers.{refused, done, wrongSize, pieceLengthOutOfRange, noSuchFile}
+use Rattle.numbers.specs.Numbers.{refused, done, wrongSize, pieceLengthOutOfRange, noSuchPart}
 use Rattle.numbers.specs.declared.Answer.{Answer}
 use Rattle.tree.specs.Geometry.{isPieceLength, pieceCount}
 use Rattle.catalogue.specs.Catalogue.{recordSize}
@@ -47,7 +47,7 @@ piecesBefore list plen (suc n) = piecesBefore list plen n + piecesOf list plen n
 unfoldable pub firstAnswer : List ℕ → ℕ → ℕ → Answer
 firstAnswer list plen file =
     cond (eqb (listNumber list plen) 0)
-    (cond (ltb file (filesIn list)) (done (piecesBefore list plen file)) (refused noSuchFile))
+    (cond (ltb file (filesIn list)) (done (piecesBefore list plen file)) (refused noSuchPart))
     (refused (listNumber list plen))
 
 -- ---- the place of a piece
@@ -61,7 +61,7 @@ placeAt file piece = record { number = 0; file = file; piece = piece }
 
 -- piece i, counted from the first piece of file n on, in the c files from there
 unfoldable pub placeFrom : List ℕ → ℕ → ℕ → ℕ → ℕ → Placed
-placeFrom list plen n zero i = noPlace noSuchFile
+placeFrom list plen n zero i = noPlace noSuchPart
 placeFrom list plen n (suc c) i = cond (ltb i (piecesOf list plen n)) (placeAt n i) (placeFrom list plen (suc n) c (i - piecesOf list plen n))
 
 unfoldable pub placeAnswer : List ℕ → ℕ → ℕ → Placed

@@ -11,7 +11,7 @@ use lib.ListN.{length}
 use lib.Dec.{eqb, leb, ltb}
 use borrow.Author.Tests.{eq-eqb, ne-eqb, eqb-true, le-leb, lt-leb, leb-true, lt-ltb, le-ltb}
 use Rattle.limits.specs.Limits.{longestFile, largestTorrent}
-use Rattle.numbers.specs.Numbers.{refused, done, wrongSize, pieceLengthOutOfRange, noSuchFile}
+use Rattle.numbers.specs.Numbers.{refused, done, wrongSize, pieceLengthOutOfRange, noSuchPart}
 use Rattle.numbers.specs.declared.Answer.{Answer}
 use Rattle.tree.specs.Geometry.{isPieceLength, pieceCount}
 use Rattle.tree.specs.GeometryLaws.{ceil-least, piece-some}
@@ -173,7 +173,7 @@ module _ (list : List ℕ) (plen file : ℕ) where
   unfolding firstAnswer
   first-refused ne = rw (ne-eqb (listNumber list plen) 0 ne) refl
 
-  pub first-past : listNumber list plen ≡ 0 → filesIn list ≤ file → firstAnswer list plen file ≡ refused noSuchFile
+  pub first-past : listNumber list plen ≡ 0 → filesIn list ≤ file → firstAnswer list plen file ≡ refused noSuchPart
   unfolding firstAnswer
   first-past z l = rw (z, le-ltb file (filesIn list) l) refl
 
@@ -191,7 +191,7 @@ place-after : (list : List ℕ) (plen n c i : ℕ) → piecesOf list plen n ≤ 
 unfolding placeFrom
 place-after list plen n c i l = rw (le-ltb i (piecesOf list plen n) l) refl
 
-place-nowhere : (list : List ℕ) (plen n i : ℕ) → placeFrom list plen n 0 i ≡ noPlace noSuchFile
+place-nowhere : (list : List ℕ) (plen n i : ℕ) → placeFrom list plen n 0 i ≡ noPlace noSuchPart
 unfolding placeFrom
 place-nowhere list plen n i = refl
 
@@ -210,7 +210,7 @@ place-next list plen i files left l h =
     sym (ap (λ (c : ℕ). placeFrom list plen i c left) e ∙ place-after list plen i (files - (i + 1)) left h
     ∙ ap (λ (n : ℕ). placeFrom list plen n (files - (i + 1)) (left - piecesOf list plen i)) (sym (add-one i)))
 
-pub place-none : (list : List ℕ) (plen i files left : ℕ) → files ≤ i → placeFrom list plen i (files - i) left ≡ noPlace noSuchFile
+pub place-none : (list : List ℕ) (plen i files left : ℕ) → files ≤ i → placeFrom list plen i (files - i) left ≡ noPlace noSuchPart
 place-none list plen i files left l = let e : files - i ≡ 0 = omega arith in ap (λ (c : ℕ). placeFrom list plen i c left) e ∙ place-nowhere list plen i left
 
 module _ (list : List ℕ) (plen piece : ℕ) where

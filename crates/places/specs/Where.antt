@@ -9,7 +9,7 @@ use native.Mathlib.Omega.{arith}
 use native.Mathlib.Decide.{ℕ-discrete, decLt}
 use lib.Dec.{eqb, ltb}
 use borrow.Author.Tests.{lt-ltb, le-ltb, ltb-true, ltb-false}
-use Rattle.numbers.specs.Numbers.{InTable, refused, done, wrongSize, pieceLengthOutOfRange, noSuchFile}
+use Rattle.numbers.specs.Numbers.{InTable, refused, done, wrongSize, pieceLengthOutOfRange, noSuchPart}
 use Rattle.numbers.specs.Chain.{Chain, last, test, decided, exactly-of, in-table-of}
 use Rattle.numbers.specs.declared.Answer.{Answer}
 use Rattle.tree.specs.Geometry.{isPieceLength}
@@ -48,7 +48,7 @@ before-apart list plen f g l =
 -- ---- what is found
 
 data Found (list : List ℕ) (plen n c i : ℕ) : Placed → Type 0 where
-  nowhere : piecesBefore list plen (n + c) ≤ piecesBefore list plen n + i → Found list plen n c i (noPlace noSuchFile)
+  nowhere : piecesBefore list plen (n + c) ≤ piecesBefore list plen n + i → Found list plen n c i (noPlace noSuchPart)
   here : (f j : ℕ) → f < n + c → j < piecesOf list plen f → piecesBefore list plen f + j ≡ piecesBefore list plen n + i → Found list plen n c i (placeAt f j)
 
 place-none : (list : List ℕ) (plen n i : ℕ) → Found list plen n 0 i (placeFrom list plen n 0 i)
@@ -117,10 +117,10 @@ module _ (list : List ℕ) (plen : ℕ) where
             rw (o .0, o .1) refl
 
     -- 29 past the last piece, and else 0
-    pub past-last : (n : ℕ) → allPieces list plen ≤ n → placeAnswer list plen n ≡ noPlace noSuchFile
+    pub past-last : (n : ℕ) → allPieces list plen ≤ n → placeAnswer list plen n ≡ noPlace noSuchPart
     past-last n l = by (placeAnswer list plen n) (placed-cases n)
       where
-        by : (r : Placed) → Found list plen 0 (filesIn list) n r → r ≡ noPlace noSuchFile
+        by : (r : Placed) → Found list plen 0 (filesIn list) n r → r ≡ noPlace noSuchPart
         by r (nowhere h) = refl
         by r (here g j a b c) = let w : ⊥ = omega (arith, at-within n g j (record { there = omega arith; inside = b; counted = omega (arith, zero-before) })) in absurd w
 
@@ -156,11 +156,11 @@ module _ (list : List ℕ) (plen : ℕ) where
 
 abbrev pub placeChain : List ℕ → ℕ → ℕ → Chain
 placeChain list plen n =
-    test (listRight list) wrongSize (test (isPieceLength plen) pieceLengthOutOfRange (test (ltb n (allPieces list plen)) noSuchFile (last 0)))
+    test (listRight list) wrongSize (test (isPieceLength plen) pieceLengthOutOfRange (test (ltb n (allPieces list plen)) noSuchPart (last 0)))
 
 abbrev pub firstChain : List ℕ → ℕ → ℕ → Chain
 firstChain list plen f =
-    test (listRight list) wrongSize (test (isPieceLength plen) pieceLengthOutOfRange (test (ltb f (filesIn list)) noSuchFile (last 0)))
+    test (listRight list) wrongSize (test (isPieceLength plen) pieceLengthOutOfRange (test (ltb f (filesIn list)) noSuchPart (last 0)))
 
 number-is : (list : List ℕ) (plen : ℕ) → listNumber list plen ≡ cond (listRight list) (cond (isPieceLength plen) 0 pieceLengthOutOfRange) wrongSize
 unfolding listNumber
@@ -175,21 +175,21 @@ then-rest false b x r e y f g = f (λ z. omega arith) ∙ e
 
 pub place-tests : (list : List ℕ) (plen n : ℕ) → placeAnswer list plen n .number ≡ decided (placeChain list plen n)
 place-tests list plen n =
-    then-rest (listRight list) (isPieceLength plen) (listNumber list plen) (cond (ltb n (allPieces list plen)) 0 noSuchFile) (number-is list plen) (placeAnswer list plen n .number)
+    then-rest (listRight list) (isPieceLength plen) (listNumber list plen) (cond (ltb n (allPieces list plen)) 0 noSuchPart) (number-is list plen) (placeAnswer list plen n .number)
     (λ ne. ap (λ (r : Placed). r .number) (place-refused list plen n ne))
     (λ z. by z (decLt n (allPieces list plen)))
   where
-    by : listNumber list plen ≡ 0 → Dec (n < allPieces list plen) → placeAnswer list plen n .number ≡ cond (ltb n (allPieces list plen)) 0 noSuchFile
+    by : listNumber list plen ≡ 0 → Dec (n < allPieces list plen) → placeAnswer list plen n .number ≡ cond (ltb n (allPieces list plen)) 0 noSuchPart
     by z (yes l) = up-to-last list plen z n l ∙ sym (rw (lt-ltb n (allPieces list plen) l) refl)
     by z (no g) = ap (λ (r : Placed). r .number) (past-last list plen z n (omega arith)) ∙ sym (rw (le-ltb n (allPieces list plen) (omega arith)) refl)
 
 pub first-tests : (list : List ℕ) (plen f : ℕ) → firstAnswer list plen f .number ≡ decided (firstChain list plen f)
 first-tests list plen f =
-    then-rest (listRight list) (isPieceLength plen) (listNumber list plen) (cond (ltb f (filesIn list)) 0 noSuchFile) (number-is list plen) (firstAnswer list plen f .number)
+    then-rest (listRight list) (isPieceLength plen) (listNumber list plen) (cond (ltb f (filesIn list)) 0 noSuchPart) (number-is list plen) (firstAnswer list plen f .number)
     (λ ne. ap (λ (a : Answer). a .number) (first-refused list plen f ne))
     (λ z. by z (decLt f (filesIn list)))
   where
-    by : listNumber list plen ≡ 0 → Dec (f < filesIn list) → firstAnswer list plen f .number ≡ cond (ltb f (filesIn list)) 0 noSuchFile
+    by : listNumber list plen ≡ 0 → Dec (f < filesIn list) → firstAnswer list plen f .number ≡ cond (ltb f (filesIn list)) 0 noSuchPart
     by z (yes l) = ap (λ (a : Answer). a .number) (first-done list plen f z l) ∙ sym (rw (lt-ltb f (filesIn list) l) refl)
     by z (no g) = ap (λ (a : Answer). a .number) (first-past list plen f z (omega arith)) ∙ sym (rw (le-ltb f (filesIn list) (omega arith)) refl)
 
@@ -206,9 +206,9 @@ module _ (list : List ℕ) (plen n : ℕ) where
   pub place-24 : (placeAnswer list plen n .number ≡ pieceLengthOutOfRange) ↔ ((listRight list ≡ true) × (isPieceLength plen ≡ false))
   place-24 = exactly-of (placeChain list plen n) pieceLengthOutOfRange (place-tests list plen n) refl
 
-  pub place-29 : (placeAnswer list plen n .number ≡ noSuchFile) ↔ ((listNumber list plen ≡ 0) × (allPieces list plen ≤ n))
+  pub place-29 : (placeAnswer list plen n .number ≡ noSuchPart) ↔ ((listNumber list plen ≡ 0) × (allPieces list plen ≤ n))
   place-29 = (
-    λ e. let w = exactly-of (placeChain list plen n) noSuchFile (place-tests list plen n) refl .0 e in
+    λ e. let w = exactly-of (placeChain list plen n) noSuchPart (place-tests list plen n) refl .0 e in
         (number-is list plen ∙ rw (w .0, w .1 .0) refl, ltb-false n (allPieces list plen) (w .1 .1)),
     λ p. ap (λ (r : Placed). r .number) (past-last list plen (p .0) n (p .1)),
   )
@@ -239,9 +239,9 @@ module _ (list : List ℕ) (plen f : ℕ) where
   pub first-24 : (firstAnswer list plen f .number ≡ pieceLengthOutOfRange) ↔ ((listRight list ≡ true) × (isPieceLength plen ≡ false))
   first-24 = exactly-of (firstChain list plen f) pieceLengthOutOfRange (first-tests list plen f) refl
 
-  pub first-29 : (firstAnswer list plen f .number ≡ noSuchFile) ↔ ((listNumber list plen ≡ 0) × (filesIn list ≤ f))
+  pub first-29 : (firstAnswer list plen f .number ≡ noSuchPart) ↔ ((listNumber list plen ≡ 0) × (filesIn list ≤ f))
   first-29 = (
-    λ e. let w = exactly-of (firstChain list plen f) noSuchFile (first-tests list plen f) refl .0 e in
+    λ e. let w = exactly-of (firstChain list plen f) noSuchPart (first-tests list plen f) refl .0 e in
         (number-is list plen ∙ rw (w .0, w .1 .0) refl, ltb-false f (filesIn list) (w .1 .1)),
     λ p. ap (λ (a : Answer). a .number) (first-past list plen f (p .0) (p .1)),
   )

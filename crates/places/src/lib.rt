@@ -113,7 +113,7 @@ pub fn first_piece(list: &[u8], plen: usize, file: usize) -> Answer
         let n = pieces_before(list, plen, file);
         return success(n as u64);
     }
-    refusal(numbers::NO_SUCH_FILE)
+    refusal(numbers::NO_SUCH_PART)
 }
 
 // The file that has the piece, of all.
@@ -136,7 +136,7 @@ fn find_place(list: &[u8], plen: usize, piece: usize, files: usize) -> Placed
         left -= c;
         i += 1;
     }
-    no_place(numbers::NO_SUCH_FILE)
+    no_place(numbers::NO_SUCH_PART)
 }
 
 // Where a piece of the wire stands: 4, 24, 29, or 0, the file and the piece in it.

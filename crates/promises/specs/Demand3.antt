@@ -11,6 +11,7 @@ use Rattle.store.specs.Store.{fileLength, factsRoot, heightOf, heldAnswer}
 use Rattle.messages.specs.Take.{takeAnswer, takeAfter, rejectAnswer}
 use Rattle.serve.specs.Serve.{serveAnswer}
 use Rattle.pieces.specs.Pieces.{layerAnswer, pieceAnswer}
+use Rattle.pieces.specs.Hybrid.{hybridAnswer}
 use Rattle.words.specs.Held.{Holds}
 use Rattle.words.specs.Messages.{anchorLayer, anchorIndex, sent}
 use Rattle.words.specs.History.{Bytes, Call, number, after, Opening, Steps, OurStore}
@@ -47,7 +48,7 @@ unfolding takeAnswer
 never-6-again = Rattle.knowledge.specs.NoAnchor.never-6-again
 
 -- "In a store that only this build has written, "conflict" shows two different 64-byte strings with one SHA-256.": of a message, a layer
--- and a piece
+-- and a piece, also of a hybrid
 pub conflict-shows : {s : List ℕ} (m : List ℕ) → OurStore s → Bytes m → takeAnswer s m .number ≡ conflict → Shown (heightOf s) (heldBy s) (byMessage s m)
 unfolding takeAnswer
 conflict-shows = Rattle.knowledge.specs.ConflictShows.our-conflict-shows
@@ -59,6 +60,11 @@ layer-conflict-shows = Rattle.knowledge.specs.ConflictShows.our-layer-conflict-
 pub piece-conflict-shows : {s : List ℕ} (i : ℕ) (piece : List ℕ) → OurStore s → pieceAnswer s i piece .number ≡ conflict → Shown (heightOf s) (heldBy s) (byPiece s i piece)
 unfolding pieceAnswer
 piece-conflict-shows = Rattle.knowledge.specs.ConflictShows.our-piece-conflict-shows
+
+pub hybrid-conflict-shows : {s : List ℕ} (i : ℕ) (piece v1 : List ℕ) (zeros : ℕ) → OurStore s → hybridAnswer s i piece v1 zeros .number ≡ conflict
+    → Shown (heightOf s) (heldBy s) (byPiece s i piece)
+unfolding hybridAnswer
+hybrid-conflict-shows = Rattle.knowledge.specs.ConflictShows.our-hybrid-conflict-shows
 
 -- "A reply built from another such store for the same length and root, its anchor held here, is taken unless the two stores show such a
 -- pair.": the bytes that kd_serve leaves beside 0; the piece lengths may differ

@@ -1,14 +1,14 @@
--- 01, "Numbers given back", and 02, request 7: each number by entry point, exactly when it is given, in the order of 01. "Held" is what
+-- 01, "Numbers given back", and 02, requests 7 and 12: each number by entry point, exactly when it is given, in the order of 01. "Held" is what
 -- kd_held answers.
 -- (The numbers of the torrent calls: crates/calls, file EachNumber, and crates/published; of the calls that take bursts: Running.)
 -- Assumes nothing.
 use mathlib.Core.Path.{_≡_, refl}
 use mathlib.Core.Bool.{true, false}
-use mathlib.Core.List.{List}
-use mathlib.Core.Logic.{_↔_, inl, inr}
+use mathlib.Core.List.{List, _++_}
+use mathlib.Core.Logic.{_↔_, _⊎_, inl, inr}
 use Prim.Native.Nat.{ℕ, suc, _+_, _-_, _*_, _/_, _^_, _≤_, _<_}
 use native.Mathlib.Omega.{arith}
-use lib.ListN.{length}
+use lib.ListN.{length, replicate}
 use lib.Dec.{ltb}
 use borrow.Author.Tests.{lt-ltb, le-ltb, ltb-false}
 use Rattle.numbers.specs.Numbers.{done, refused, noMessage, otherRoot, ruleBroken, wrongSize, wrongPadding, noAnchor, differs, conflict, unusable, factsOutOfRange, noRoom, notHeld}
@@ -18,6 +18,7 @@ use Rattle.numbers.specs.Chain.{exactly-of}
 use Rattle.words.specs.History.{Steps}
 use Rattle.sha256.specs.Sha256.{sha256}
 use Rattle.sha256.specs.Answer.{hashedOf}
+use Rattle.sha1.specs.Sha1.{sha1}
 use Rattle.tree.specs.Geometry.{blockCount, height, Padding, blockSize, pieceSize, pieceCount}
 use Rattle.tree.specs.GeometryLaws.{padding-on}
 use Rattle.tree.specs.Values.{padValue}
@@ -30,6 +31,7 @@ use Rattle.messages.specs.Take.{takeAnswer, rejectAnswer}
 use Rattle.serve.specs.Serve.{serveAnswer}
 use Rattle.marks.specs.Marks.{clearAnswer, markedAnswer, fieldSize, fieldAnswer}
 use Rattle.pieces.specs.Pieces.{layerAnswer, blockAnswer, pieceHeight, pieceAnswer}
+use Rattle.pieces.specs.Hybrid.{V1Agrees, hybridAnswer}
 use Rattle.words.specs.Held.{Holds, Lacks, Position, Fits, Misfits, Clashes}
 use Rattle.words.specs.Messages.{unclesIn, hashIn, topLayer, topIndex, inRun, asUncle, OtherForm, Readable, Addressed, Ruled, WellFormed, PaddingWrong, Acceptable, Unanchored, Elsewhere, Conflicting, Form, ValidHeader, AllGiven, NoRoomFor}
 use Rattle.words.specs.Pieces.{LayerFormed, LayerSettles, BlockFormed, OtherLeaf, PieceFormed, PieceSettles}
@@ -353,6 +355,50 @@ module _ (s : List ℕ) (i : ℕ) (piece : List ℕ) where
   pub piece-counts-nothing : pieceAnswer s i piece .count ≡ 0
   unfolding pieceAnswer
   piece-counts-nothing = refl
+
+-- ---- kd_judge_hybrid_piece: 9, 3, 4, 6, 7, 8 of the v2 half, then 4 and 7 of the v1 half, 0
+
+module _ (s : List ℕ) (i : ℕ) (piece v1 : List ℕ) (zeros : ℕ) where
+  pub hybrid-9 : (hybridAnswer s i piece v1 zeros .number ≡ unusable) ↔ (usable s ≡ false)
+  unfolding hybridAnswer
+  hybrid-9 = Rattle.knowledge.specs.JudgedWhen.hybrid-9 s i piece v1 zeros
+
+  -- piece number past the file
+  pub hybrid-3 : (hybridAnswer s i piece v1 zeros .number ≡ ruleBroken) ↔ ((usable s ≡ true) × (pieceCount (fileLength s) (pieceLength s) ≤ i))
+  unfolding hybridAnswer
+  hybrid-3 = Rattle.knowledge.specs.JudgedWhen.hybrid-3 s i piece v1 zeros
+
+  -- not the piece's bytes; or right by the v2 half, and with the zeros more than the piece length
+  pub hybrid-4 : (hybridAnswer s i piece v1 zeros .number ≡ wrongSize)
+      ↔ (((usable s ≡ true) × (i < pieceCount (fileLength s) (pieceLength s)) × (length piece ≡ pieceSize (fileLength s) (pieceLength s) i → ⊥))
+      ⊎ ((PieceFormed s i piece × Fits s (PieceSettles s i piece) (pieceHeight s) i) × (pieceLength s < length piece + zeros)))
+  unfolding hybridAnswer
+  hybrid-4 = Rattle.knowledge.specs.JudgedWhen.hybrid-4 s i piece v1 zeros
+
+  -- piece node not held
+  pub hybrid-6 : (hybridAnswer s i piece v1 zeros .number ≡ noAnchor) ↔ (PieceFormed s i piece × Lacks s (pieceHeight s) i)
+  unfolding hybridAnswer
+  hybrid-6 = Rattle.knowledge.specs.JudgedWhen.hybrid-6 s i piece v1 zeros
+
+  -- another node is held; or right by the v2 half, the zeros fit, and SHA-1 of the piece and the zeros is not the hash given
+  pub hybrid-7 : (hybridAnswer s i piece v1 zeros .number ≡ differs)
+      ↔ ((PieceFormed s i piece × Misfits s (PieceSettles s i piece) (pieceHeight s) i)
+      ⊎ ((PieceFormed s i piece × Fits s (PieceSettles s i piece) (pieceHeight s) i) × ((length piece + zeros ≤ pieceLength s) × (sha1 (piece ++ replicate zeros 0) ≡ v1 → ⊥))))
+  unfolding hybridAnswer
+  hybrid-7 = Rattle.knowledge.specs.JudgedWhen.hybrid-7 s i piece v1 zeros
+
+  pub hybrid-8 : (hybridAnswer s i piece v1 zeros .number ≡ conflict) ↔ (PieceFormed s i piece × Clashes s (PieceSettles s i piece) (pieceHeight s) i)
+  unfolding hybridAnswer
+  hybrid-8 = Rattle.knowledge.specs.JudgedWhen.hybrid-8 s i piece v1 zeros
+
+  pub hybrid-0 : (hybridAnswer s i piece v1 zeros .number ≡ 0) ↔ ((PieceFormed s i piece × Fits s (PieceSettles s i piece) (pieceHeight s) i) × V1Agrees s piece v1 zeros)
+  unfolding hybridAnswer
+  hybrid-0 = Rattle.knowledge.specs.JudgedWhen.hybrid-0 s i piece v1 zeros
+
+  -- there is nothing to count
+  pub hybrid-counts-nothing : hybridAnswer s i piece v1 zeros .count ≡ 0
+  unfolding hybridAnswer
+  hybrid-counts-nothing = refl
 
 -- ---- kd_clear and kd_marked: 9, 3, 0
 

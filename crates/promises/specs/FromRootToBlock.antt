@@ -13,6 +13,7 @@ use Rattle.tree.specs.Values.{node, leafOf, blockOf}
 use Rattle.store.specs.Store.{fileLength, pieceLength, blocksOf, heightOf, heldAnswer}
 use Rattle.messages.specs.Take.{takeAnswer}
 use Rattle.pieces.specs.Pieces.{layerAnswer, blockAnswer, pieceHeight, pieceAnswer}
+use Rattle.pieces.specs.Hybrid.{V1Agrees, hybridAnswer}
 use Rattle.words.specs.Held.{Holds}
 use Rattle.words.specs.Messages.{anchorLayer, anchorIndex}
 use Rattle.words.specs.History.{Bytes, OurStore}
@@ -41,6 +42,12 @@ module _ {s : List ℕ} (file : List ℕ) (o : OurStore s) (w : For file s) wher
   unfolding pieceAnswer
   piece-is-the-files = Rattle.knowledge.specs.Known.piece-is-the-files file o w
 
+  -- and a hybrid's, of which the v1 half agrees too
+  pub hybrid-piece-is-the-files : (i : ℕ) (piece v1 : List ℕ) (zeros : ℕ) → Bytes file → Bytes piece → hybridAnswer s i piece v1 zeros .number ≡ 0
+      → PieceIs file s i piece × V1Agrees s piece v1 zeros
+  unfolding hybridAnswer
+  hybrid-piece-is-the-files = Rattle.knowledge.specs.Known.hybrid-piece-is-the-files file o w
+
   -- the file's own hashes, where kd_held gives their anchor, are taken,
   pub true-hashes-taken : (m : List ℕ) → TrueHashes file s m → heldAnswer s (anchorLayer m) (anchorIndex m) .number ≡ 0
       → Shown (heightOf s) (heldBy s) (ofFile file) ⊎ (takeAnswer s m .number ≡ 0)
@@ -62,3 +69,9 @@ module _ {s : List ℕ} (file : List ℕ) (o : OurStore s) (w : For file s) wher
       → Shown (heightOf s) (heldBy s) (ofFile file) ⊎ (pieceAnswer s i (pieceFor file s i) .number ≡ 0)
   unfolding pieceAnswer
   true-piece-believed = Rattle.knowledge.specs.Known.known-piece file o w
+
+  -- by both halves too, where the v1 half agrees
+  pub true-hybrid-piece-believed : (i : ℕ) (v v1 : List ℕ) (zeros : ℕ) → i < pieceCount (fileLength s) (pieceLength s) → Holds s (pieceHeight s) i v
+      → V1Agrees s (pieceFor file s i) v1 zeros → Shown (heightOf s) (heldBy s) (ofFile file) ⊎ (hybridAnswer s i (pieceFor file s i) v1 zeros .number ≡ 0)
+  unfolding hybridAnswer
+  true-hybrid-piece-believed = Rattle.knowledge.specs.Known.known-hybrid-piece file o w

@@ -15,6 +15,8 @@ pub mod Saved
 -- 02: the same messages, in any order; a message that is heard of a stream
 pub mod AnyOrder
 pub mod Heard
+-- 02: a piece of a hybrid
+pub mod Hybrid
 -- 00: a battery does not get younger
 pub mod Younger
 -- the premises can be met
@@ -31,6 +33,7 @@ pub mod ServedAndTaken
 pub mod AskingExample
 pub mod SavedExample
 pub mod YoungerExample
+pub mod HybridExample
 -- the impostors
 pub mod NumbersGiven
 pub mod Impostors

@@ -15,7 +15,8 @@ use Rattle.tree.specs.Values.{blockOf}
 use Rattle.store.specs.Store.{usable, fileLength, pieceLength, blocksOf, heightOf, openAnswer, openAfter}
 use Rattle.store.specs.StoreLaws.{usable-facts}
 use Rattle.marks.specs.Marks.{marksStart, markedAt, markedAnswer, firstBlock, fieldBytes, fieldSize, fieldAnswer, fieldAfter}
-use Rattle.words.specs.History.{Bytes, Send, Call, judgeBlock, judgePiece, number, answer, after, sentTo, Opening, Steps, Begins}
+use Rattle.pieces.specs.Hybrid.{V1Agrees}
+use Rattle.words.specs.History.{Bytes, Send, Call, judgeBlock, judgePiece, judgeHybridPiece, number, answer, after, sentTo, Opening, Steps, Begins}
 use Rattle.words.specs.Shown.{heldBy, ofFile, OneHash, Shown}
 use Rattle.words.specs.File.{For, pieceFor, PieceIs}
 use Rattle.words.specs.Marks.{Covers, pieceBit, SameButMarks, SendsHashes, AboutHashes, Judges, Clears, JudgedBy, JudgedRight, Uncleared, RightFor}
@@ -50,7 +51,8 @@ marked-after = Rattle.knowledge.specs.MarksSince.after-call
 
 -- ---- what a mark promises
 
--- the bytes that were judged had the block's length and the held leaf's hash, or the piece's length and its node's: then,
+-- the bytes that were judged had the block's length and the held leaf's hash, or the piece's length and its node's, and by both halves of a hybrid
+-- the v1 hash too: then,
 pub right-then : {j : ℕ} {c : Call} {u s t : List ℕ} {h : Steps s t} → JudgedBy j c u t h → RightFor u j c
 right-then = Rattle.knowledge.specs.MarksSince.right-then
 
@@ -69,6 +71,11 @@ module _ {s t : List ℕ} (begun : Begins s) (h : Steps s t) where
   pub marked-piece-is-the-files : (file : List ℕ) → For file t → Bytes file → {j : ℕ} {u : List ℕ} (i : ℕ) (piece : List ℕ) (bp : Bytes piece)
       → JudgedBy j (judgePiece i piece bp) u t h → PieceIs file u i piece
   marked-piece-is-the-files = Rattle.knowledge.specs.MarkedIsTheFiles.marked-by-piece begun h
+
+  -- by both halves of a hybrid too, and the v1 half agreed,
+  pub marked-hybrid-piece-is-the-files : (file : List ℕ) → For file t → Bytes file → {j : ℕ} {u : List ℕ} (i : ℕ) (piece v1 : List ℕ) (zeros : ℕ) (bp : Bytes piece) (o : Octets 20 v1)
+      → JudgedBy j (judgeHybridPiece i piece v1 zeros bp o) u t h → PieceIs file u i piece × V1Agrees u piece v1 zeros
+  marked-hybrid-piece-is-the-files = Rattle.knowledge.specs.MarkedIsTheFiles.marked-by-both begun h
 
 -- in which the file's block stands at its place
 pub block-in-piece : (file s : List ℕ) → usable s ≡ true → (i j : ℕ) → i < pieceCount (fileLength s) (pieceLength s) → Covers s i j

@@ -9,7 +9,7 @@ use native.Mathlib.Omega.{arith}
 use lib.ListN.{length}
 use lib.Dec.{eqb, ltb}
 use borrow.Author.Tests.{eqb-true, eqb-false, ltb-true, ltb-false}
-use Rattle.numbers.specs.Numbers.{torrentTooLarge, nestedTooDeeply, pieceLengthOutOfRange, wrongTree, sameRoot, layersAmiss, layerDiffers}
+use Rattle.numbers.specs.Numbers.{torrentTooLarge, nestedTooDeeply, pieceLengthOutOfRange, wrongTree, twoLengths, layersAmiss, layerDiffers}
 use Rattle.publishing.specs.Content.{Item}
 use Rattle.publishing.specs.Number.{contentNumber}
 use Rattle.publishing.specs.Refused.{TooLarge, TooDeep, OutOfRange, WrongFiles, TwoLengths, WrongLayers, LayersDiffer}
@@ -32,7 +32,7 @@ module _ (plen : ℕ) (name : List ℕ) (xs : List Item) where
   number = contentNumber plen name xs
 
   below : (n : ℕ) → (torrentTooLarge < n → TooLarge plen name xs → ⊥) → (nestedTooDeeply < n → TooDeep xs → ⊥) → (pieceLengthOutOfRange < n → OutOfRange plen → ⊥) → (wrongTree < n → WrongFiles xs → ⊥)
-      → (sameRoot < n → TwoLengths xs → ⊥) → (layersAmiss < n → WrongLayers plen xs → ⊥) → (layerDiffers < n → LayersDiffer plen xs → ⊥) → (m : ℕ) → m < n → ContentSays plen name xs m → ⊥
+      → (twoLengths < n → TwoLengths xs → ⊥) → (layersAmiss < n → WrongLayers plen xs → ⊥) → (layerDiffers < n → LayersDiffer plen xs → ⊥) → (m : ℕ) → m < n → ContentSays plen name xs m → ⊥
   below n a b c d e f g m h (too-large q w) = a (omega arith) w
   below n a b c d e f g m h (too-deep q w) = b (omega arith) w
   below n a b c d e f g m h (out-of-range q w) = c (omega arith) w
@@ -51,13 +51,13 @@ module _ (plen : ℕ) (name : List ℕ) (xs : List Item) where
   at-27 n19 n21 n24 n25 n26 true q = let z = eqb-true number layersAmiss q in refusedAs (wrong-layers z (exactly-27 plen name xs .0 z .1 .1 .1 .1 .1)) (below number (λ h. n19) (λ h. n21) (λ h. n24) (λ h. n25) (λ h. n26) (λ h u. omega arith) (λ h u. omega arith))
   at-27 n19 n21 n24 n25 n26 false q = at-28 n19 n21 n24 n25 n26 (λ w. eqb-false number layersAmiss q (exactly-27 plen name xs .1 (n19, (n21, (n24, (n25, (n26, w))))))) (eqb number layerDiffers) refl
 
-  at-26 : (TooLarge plen name xs → ⊥) → (TooDeep xs → ⊥) → (OutOfRange plen → ⊥) → (WrongFiles xs → ⊥) → (b : Bool) → eqb number sameRoot ≡ b → Lowest plen name xs number
-  at-26 n19 n21 n24 n25 true q = let z = eqb-true number sameRoot q in refusedAs (two-lengths z (exactly-26 plen name xs .0 z .1 .1 .1 .1)) (below number (λ h. n19) (λ h. n21) (λ h. n24) (λ h. n25) (λ h u. omega arith) (λ h u. omega arith) (λ h u. omega arith))
-  at-26 n19 n21 n24 n25 false q = at-27 n19 n21 n24 n25 (λ w. eqb-false number sameRoot q (exactly-26 plen name xs .1 (n19, (n21, (n24, (n25, w)))))) (eqb number layersAmiss) refl
+  at-26 : (TooLarge plen name xs → ⊥) → (TooDeep xs → ⊥) → (OutOfRange plen → ⊥) → (WrongFiles xs → ⊥) → (b : Bool) → eqb number twoLengths ≡ b → Lowest plen name xs number
+  at-26 n19 n21 n24 n25 true q = let z = eqb-true number twoLengths q in refusedAs (two-lengths z (exactly-26 plen name xs .0 z .1 .1 .1 .1)) (below number (λ h. n19) (λ h. n21) (λ h. n24) (λ h. n25) (λ h u. omega arith) (λ h u. omega arith) (λ h u. omega arith))
+  at-26 n19 n21 n24 n25 false q = at-27 n19 n21 n24 n25 (λ w. eqb-false number twoLengths q (exactly-26 plen name xs .1 (n19, (n21, (n24, (n25, w)))))) (eqb number layersAmiss) refl
 
   at-25 : (TooLarge plen name xs → ⊥) → (TooDeep xs → ⊥) → (OutOfRange plen → ⊥) → (b : Bool) → eqb number wrongTree ≡ b → Lowest plen name xs number
   at-25 n19 n21 n24 true q = let z = eqb-true number wrongTree q in refusedAs (wrong-files z (exactly-25 plen name xs .0 z .1 .1 .1)) (below number (λ h. n19) (λ h. n21) (λ h. n24) (λ h u. omega arith) (λ h u. omega arith) (λ h u. omega arith) (λ h u. omega arith))
-  at-25 n19 n21 n24 false q = at-26 n19 n21 n24 (λ w. eqb-false number wrongTree q (exactly-25 plen name xs .1 (n19, (n21, (n24, w))))) (eqb number sameRoot) refl
+  at-25 n19 n21 n24 false q = at-26 n19 n21 n24 (λ w. eqb-false number wrongTree q (exactly-25 plen name xs .1 (n19, (n21, (n24, w))))) (eqb number twoLengths) refl
 
   at-24 : (TooLarge plen name xs → ⊥) → (TooDeep xs → ⊥) → (b : Bool) → eqb number pieceLengthOutOfRange ≡ b → Lowest plen name xs number
   at-24 n19 n21 true q = let z = eqb-true number pieceLengthOutOfRange q in refusedAs (out-of-range z (exactly-24 plen name xs .0 z .1 .1)) (below number (λ h. n19) (λ h. n21) (λ h u. omega arith) (λ h u. omega arith) (λ h u. omega arith) (λ h u. omega arith) (λ h u. omega arith))

@@ -19,6 +19,7 @@ use Rattle.publishing.specs.Content.{Item, inTreeOrder}
 use Rattle.publishing.specs.Reads.{itemRead, contentRead}
 use Rattle.publishing.specs.Shortest.{value-right}
 use Rattle.publishing.specs.RoundTrip.{order-read}
+use Rattle.halves.specs.HalvesLaws.{zero-below}
 use Rattle.torrent.specs.Torrent.{readOf, fileRead}
 use Rattle.torrent.specs.Answers.{FileIs}
 use Rattle.torrent.specs.NumberMeans.{read-encodes}
@@ -124,4 +125,4 @@ pub some-content : (s : List ℕ) → readOf s .number ≡ 0 → (xs : List Item
 some-content s e =
     let r = read-encodes s e .1 in
     let g = value-given s (r .0) (r .2) (r .1) e in
-    (contentRead (r .0), rw (sym (g .piece-length)) at g, order-read (r .0) (value-right (r .0) (r .3)) (r .1))
+    (contentRead (r .0), rw (sym (g .piece-length)) at g, order-read (r .0) (value-right (r .0) (zero-below (r .0) (r .3))) (r .1))

@@ -9,7 +9,7 @@ use Prim.Native.Nat.{ℕ, _*_, _≤_, _<_}
 use native.Mathlib.Omega.{arith}
 use native.Mathlib.Decide.{ℕ-discrete}
 use lib.ListN.{length, take}
-use Rattle.numbers.specs.Numbers.{sameRoot, layersAmiss, layerDiffers}
+use Rattle.numbers.specs.Numbers.{twoLengths, layersAmiss, layerDiffers}
 use Rattle.tree.specs.Geometry.{blockCount, height, covering, isPieceLength, pieceLayer, hasLayer, pieceCount}
 use Rattle.tree.specs.GeometryLaws.{piece-length-form, pieces-covering, longer-has, has-longer, long-file-height}
 use Rattle.tree.specs.Values.{piecesRoot, wholeLayer, layerRoot}
@@ -155,7 +155,7 @@ module _ (list text : List ℕ) (plen : ℕ) (name out : List ℕ) (good : isPie
   content-28 (wrong-files e w) z = absurd (omega (arith, e))
   content-28 (two-lengths e w) z = absurd (omega (arith, e))
   content-28 (wrong-layers e w) z = absurd (omega (arith, e))
-  content-28 (layers-differ e w) z = only-two w (λ q. z sameRoot (omega arith) (two-lengths refl q))
+  content-28 (layers-differ e w) z = only-two w (λ q. z twoLengths (omega arith) (two-lengths refl q))
 
   says-28 : WriteSays list text plen name out layerDiffers → Two
   says-28 (no-form e w) = absurd (omega (arith, e))

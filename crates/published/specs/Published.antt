@@ -7,7 +7,7 @@ use Prim.Native.Nat.{ℕ, _+_, _*_, _^_, _≤_, _<_}
 use lib.ListN.{length, drop}
 use Rattle.limits.specs.Limits.{maxLevels}
 use Rattle.octets.specs.Octets.{cut, numberAt, pasted, zeroHash}
-use Rattle.numbers.specs.Numbers.{wrongSize, noRoom, torrentTooLarge, nestedTooDeeply, pieceLengthOutOfRange, wrongTree, sameRoot, layersAmiss, layerDiffers, refused, done}
+use Rattle.numbers.specs.Numbers.{wrongSize, noRoom, torrentTooLarge, nestedTooDeeply, pieceLengthOutOfRange, wrongTree, twoLengths, layersAmiss, layerDiffers, refused, done}
 use Rattle.numbers.specs.declared.Answer.{Answer}
 use Rattle.bencode.specs.Grammar.{string, dictionary, Entries, encode, Valid}
 use Rattle.bencode.specs.Parts.{present, lookup}
@@ -80,7 +80,7 @@ pub data ContentSays (plen : ℕ) (name : List ℕ) (xs : List Item) (n : ℕ) :
   too-deep : n ≡ nestedTooDeeply → TooDeep xs → ContentSays plen name xs n
   out-of-range : n ≡ pieceLengthOutOfRange → OutOfRange plen → ContentSays plen name xs n
   wrong-files : n ≡ wrongTree → WrongFiles xs → ContentSays plen name xs n
-  two-lengths : n ≡ sameRoot → TwoLengths xs → ContentSays plen name xs n
+  two-lengths : n ≡ twoLengths → TwoLengths xs → ContentSays plen name xs n
   wrong-layers : n ≡ layersAmiss → WrongLayers plen xs → ContentSays plen name xs n
   layers-differ : n ≡ layerDiffers → LayersDiffer plen xs → ContentSays plen name xs n
 

@@ -9,14 +9,18 @@ use lib.ListN.{length}
 use lib.Dec.{eqb, ltb}
 use borrow.Author.Tests.{ltb-true, ltb-false}
 use Rattle.limits.specs.Limits.{largestTorrent, maxLevels}
+use Rattle.octets.specs.Octets.{same}
 use Rattle.numbers.specs.Numbers.{torrentTooLarge, notStrict, nestedTooDeeply}
 use Rattle.bencode.specs.Grammar.{Value, dictionary, Entries, encode, Valid}
+use Rattle.bencode.specs.Parts.{absent, lookup}
 use Rattle.bencode.specs.PartsLaws.{one-value}
 use Rattle.bencode.specs.Strict.{strictness}
 use Rattle.bencode.specs.StrictLaws.{taken-only, deep-first, one-of-three, otherwise-only}
 use Rattle.meaning.specs.Counting.{Member}
-use Rattle.meaning.specs.Torrent.{valueNumber}
-use Rattle.publishing.specs.Content.{torrentOf}
+use Rattle.meaning.specs.Torrent.{infoOf, valueNumber}
+use Rattle.halves.specs.V1Keys.{keyPieces}
+use Rattle.halves.specs.HalvesLaws.{pure-stands}
+use Rattle.publishing.specs.Content.{Item, torrentOf}
 use Rattle.publishing.specs.Number.{contentNumber}
 use Rattle.publishing.specs.ValidLaws.{AllFull}
 use Rattle.publishing.specs.RightLaws.{PathFull}
@@ -31,11 +35,11 @@ use Rattle.torrent.specs.NumberMeans.{no-other-number, read-number}
 use Rattle.published.specs.Published.{InForm, PlainContent}
 use Rattle.published.specs.FormLaws.{content-below}
 
--- ---- the reader's number of a value is that of its encoding
+-- ---- the reader's number of a value without a v1 half is that of its encoding
 
-value-says : (t : Entries) → Says (encode (dictionary t)) (readNumber t)
+value-says : (t : Entries) → lookup keyPieces (infoOf t) ≡ absent → Says (encode (dictionary t)) (readNumber t)
 unfolding readNumber
-value-says t = by-size (ltb largestTorrent (length s)) refl
+value-says t pure = by-size (ltb largestTorrent (length s)) refl
   where
     s : List ℕ
     s = encode (dictionary t)
@@ -48,7 +52,7 @@ value-says t = by-size (ltb largestTorrent (length s)) refl
         let v = taken-only s e in
         let same = one-value (dictionary (v .0)) (dictionary t) (sym (v .2)) in
         let valid : Valid (dictionary t) maxLevels = subst (λ (w : Value). Valid w maxLevels) same (v .1) in
-        encodes h t valid refl (rw e refl)
+        encodes h t valid refl (rw e (sym (pure-stands t pure)))
     by-strict h (inr (inl e)) = let o = otherwise-only s e in noEncoding h (o .0) (o .1) (rw e refl)
     by-strict h (inr (inr e)) = tooDeep h (deep-first s e) (rw e refl)
 
@@ -56,8 +60,13 @@ value-says t = by-size (ltb largestTorrent (length s)) refl
     by-size true e = tooLarge (ltb-true largestTorrent (length s) e) refl
     by-size false e = by-strict (ltb-false largestTorrent (length s) e) (one-of-three s)
 
-pub value-read : (t : Entries) → readNumber t ≡ readOf (encode (dictionary t)) .number
-value-read t = no-other-number (encode (dictionary t)) (readNumber t) (value-says t) ∙ sym (read-number (encode (dictionary t)))
+value-read : (t : Entries) → lookup keyPieces (infoOf t) ≡ absent → readNumber t ≡ readOf (encode (dictionary t)) .number
+value-read t pure = no-other-number (encode (dictionary t)) (readNumber t) (value-says t pure) ∙ sym (read-number (encode (dictionary t)))
+
+-- what is written has none
+pub written-pure : (plen : ℕ) (name : List ℕ) (xs : List Item) → lookup keyPieces (infoOf (torrentOf plen name xs)) ≡ absent
+unfolding lookup torrentOf same
+written-pure plen name xs = refl
 
 -- ---- plain contents of lists
 
@@ -87,4 +96,4 @@ plain list text plen f p l =
 pub number-read : (list text : List ℕ) (plen : ℕ) (name : List ℕ) → InForm list text → PlainContent (contentOf list text) → plen < 2 ^ 63
     → contentNumber plen name (contentOf list text) ≡ readOf (torrentBytes list text plen name) .number
 number-read list text plen name f p l =
-    same-number plen name (contentOf list text) (plain list text plen f p l) ∙ value-read (torrentOf plen name (contentOf list text))
+    same-number plen name (contentOf list text) (plain list text plen f p l) ∙ value-read (torrentOf plen name (contentOf list text)) (written-pure plen name (contentOf list text))

@@ -33,9 +33,11 @@ use Rattle.publishing.specs.RoundTrip.{fine-read, wide-read, order-read, files-
 use Rattle.lists.specs.Lists.{contentOf}
 use Rattle.writing.specs.Write.{torrentBytes, writeNumber, writeAnswer}
 use Rattle.writing.specs.WrittenReads.{content-wide, content-good, not-large, is-strict, has-plen, has-files, has-layers, has-number}
+use Rattle.halves.specs.HalvesLaws.{pure-stands, zero-below}
 use Rattle.torrent.specs.Torrent.{readOf}
 use Rattle.torrent.specs.NumberMeans.{number-is-the-values, read-number, read-encodes}
 use Rattle.torrent.specs.ReadMeans.{value-zero}
+use Rattle.published.specs.SameNumberLaws.{written-pure}
 use Rattle.published.specs.Published.{Gives, Named, InForm, writtenBytes}
 use Rattle.published.specs.GivenLaws.{value-given, given-is}
 use Rattle.published.specs.FormLaws.{in-form}
@@ -85,6 +87,7 @@ module _ (list text : List ℕ) (plen : ℕ) (name out : List ℕ) (e : writeNum
   torrent-read =
       read-number (torrentBytes list text plen name)
       ∙ number-is-the-values (torrentBytes list text plen name) t refl (is-strict list text plen name out e) (not-large list text plen name out e)
+      ∙ pure-stands t (written-pure plen name (contentOf list text))
       ∙ has-number list text plen name out e
 
   pub torrent-given : Gives (torrentBytes list text plen name) plen (inTreeOrder (contentOf list text))
@@ -171,7 +174,7 @@ pub unnamed-number : (s : List ℕ) (plen : ℕ) (xs : List Item) → Gives s pl
 unnamed-number s plen xs r l =
     let n = read-encodes s (r .number) .1 in
     let t = n .0 in
-    let v = value-right t (n .3) in
+    let v = value-right t (zero-below t (n .3)) in
     let w = given-is s t (n .2) (n .1) (r .number) plen xs r in
     let small : length (encode (dictionary t)) + 8 ≤ largestTorrent = rw (n .2) at l in
     rw (w .0, w .1) (number-unnamed t v (n .1) small)
@@ -181,13 +184,13 @@ pub given-order : (s : List ℕ) (plen : ℕ) (xs : List Item) → Gives s plen 
 given-order s plen xs r =
     let n = read-encodes s (r .number) .1 in
     let w = given-is s (n .0) (n .2) (n .1) (r .number) plen xs r in
-    rw (w .1) (order-read (n .0) (value-right (n .0) (n .3)) (n .1))
+    rw (w .1) (order-read (n .0) (value-right (n .0) (zero-below (n .0) (n .3))) (n .1))
 
 -- its lengths and roots go into records
 pub given-listable : (s : List ℕ) (plen : ℕ) (xs : List Item) → Gives s plen xs → (x : Item) → Member x xs → Listable x
 given-listable s plen xs r x m =
     let n = read-encodes s (r .number) .1 in
-    let v = value-right (n .0) (n .3) in
+    let v = value-right (n .0) (zero-below (n .0) (n .3)) in
     let w = given-is s (n .0) (n .2) (n .1) (r .number) plen xs r in
     let k : Member x (contentRead (n .0)) = rw (w .1) at m in
     (omega (arith, fine-read (n .0) v (n .1) .in-range x k), wide-read (n .0) v (n .1) x k)

@@ -9,7 +9,7 @@ use native.Mathlib.Omega.{arith}
 use lib.ListN.{length, length-append}
 use lib.Dec.{eqb, ltb}
 use Rattle.limits.specs.Limits.{largestTorrent}
-use Rattle.numbers.specs.Numbers.{torrentTooLarge, nestedTooDeeply, pieceLengthOutOfRange, wrongTree, sameRoot, layersAmiss, layerDiffers}
+use Rattle.numbers.specs.Numbers.{torrentTooLarge, nestedTooDeeply, pieceLengthOutOfRange, wrongTree, twoLengths, layersAmiss, layerDiffers}
 use Rattle.octets.specs.Octets.{same}
 use Rattle.octets.specs.OctetsLaws.{same-refl}
 use Rattle.tree.specs.Geometry.{isPieceLength}
@@ -19,7 +19,7 @@ use Rattle.meaning.specs.Keys.{keyInfo, keyFileTree, keyPieceLength, keyMetaVer
 use Rattle.publishing.specs.Sorting.{sortedBy, Permuted, none, keep, swap, then}
 use Rattle.publishing.specs.SortingLaws.{permuted-self, sorted-same, Ties}
 use Rattle.publishing.specs.Content.{Item, pathBefore, itemBefore, inTreeOrder, Layer, layerBefore, withLayer, layersGiven, layersOfAll, treeOfAll, keyName, infoWritten, torrentOf}
-use Rattle.publishing.specs.Number.{some, begins, tooLarge, tooDeep, wrongItem, onePath, meet, nothing, oneRoot, twoLengths, misfit, givesOther, twoLayers, contentNumber}
+use Rattle.publishing.specs.Number.{some, begins, tooLarge, tooDeep, wrongItem, onePath, meet, nothing, oneRoot, lengthsClash, misfit, givesOther, twoLayers, contentNumber}
 use Rattle.publishing.specs.SomeLaws.{or-left, or-right, or-none, some-there, none-passes, some-permuted, pair-permuted}
 use Rattle.publishing.specs.OrderLaws.{path-either, path-one-way, path-behind, layer-either, layer-one-way, layer-behind}
 use Rattle.publishing.specs.SizeLaws.{tree-size-any-order}

@@ -5,13 +5,13 @@ use mathlib.Core.Bool.{Bool, true, false, _||_, not, false≢true}
 use mathlib.Core.Logic.{_⊎_, inl, inr, _↔_}
 use mathlib.Core.List.{List}
 use Prim.Native.Nat.{ℕ}
-use Rattle.numbers.specs.Numbers.{torrentTooLarge, notStrict, nestedTooDeeply, keyMissing, otherVersion, pieceLengthOutOfRange, wrongTree, sameRoot, layersAmiss, layerDiffers}
+use Rattle.numbers.specs.Numbers.{torrentTooLarge, notStrict, nestedTooDeeply, keyMissing, otherVersion, pieceLengthOutOfRange, wrongTree, twoLengths, layersAmiss, layerDiffers}
 use Rattle.numbers.specs.Tests.{says-not, in-turn, both, alone}
 use Rattle.numbers.specs.Chain.{Chain, last, fault, decided, exactly-of, never-given}
 use Rattle.tree.specs.Geometry.{isPieceLength, pieceLayer}
 use Rattle.tree.specs.GeometryLaws.{piece-length-form, piece-length-accepted}
 use Rattle.publishing.specs.Content.{Item}
-use Rattle.publishing.specs.Number.{some, tooLarge, tooDeep, wrongItem, meet, nothing, twoLengths, misfit, givesOther, twoLayers, contentNumber}
+use Rattle.publishing.specs.Number.{some, tooLarge, tooDeep, wrongItem, meet, nothing, lengthsClash, misfit, givesOther, twoLayers, contentNumber}
 use Rattle.publishing.specs.Refused.{TooLarge, TooDeep, OutOfRange, WrongFiles, TwoLengths, WrongLayers, LayersDiffer}
 use Rattle.publishing.specs.RefusedLaws.{too-large, too-deep, wrong-files, two-lengths, wrong-layers, layers-differ}
 
@@ -53,7 +53,7 @@ module _ (plen : ℕ) (name : List ℕ) (xs : List Item) where
   a25 = nothing xs || some wrongItem xs || meet xs
 
   abbrev a26 : Bool
-  a26 = twoLengths xs
+  a26 = lengthsClash xs
 
   abbrev a27 : Bool
   a27 = some (misfit plen) xs
@@ -65,7 +65,7 @@ module _ (plen : ℕ) (name : List ℕ) (xs : List Item) where
   chain =
       fault a19 torrentTooLarge
       (fault a21 nestedTooDeeply
-      (fault a24 pieceLengthOutOfRange (fault a25 wrongTree (fault a26 sameRoot (fault a27 layersAmiss (fault a28 layerDiffers (last 0)))))))
+      (fault a24 pieceLengthOutOfRange (fault a25 wrongTree (fault a26 twoLengths (fault a27 layersAmiss (fault a28 layerDiffers (last 0)))))))
 
   number-is : contentNumber plen name xs ≡ decided chain
   unfolding contentNumber
@@ -90,8 +90,8 @@ module _ (plen : ℕ) (name : List ℕ) (xs : List Item) where
   pub exactly-25 : (contentNumber plen name xs ≡ wrongTree) ↔ Unless24 (WrongFiles xs)
   exactly-25 = in-turn (exactly-of chain wrongTree number-is refl) (unless24 (wrong-files xs))
 
-  pub exactly-26 : (contentNumber plen name xs ≡ sameRoot) ↔ Unless24 (Unless (WrongFiles xs) (TwoLengths xs))
-  exactly-26 = in-turn (exactly-of chain sameRoot number-is refl) (unless24 (unless (wrong-files xs) (two-lengths xs)))
+  pub exactly-26 : (contentNumber plen name xs ≡ twoLengths) ↔ Unless24 (Unless (WrongFiles xs) (TwoLengths xs))
+  exactly-26 = in-turn (exactly-of chain twoLengths number-is refl) (unless24 (unless (wrong-files xs) (two-lengths xs)))
 
   pub exactly-27 : (contentNumber plen name xs ≡ layersAmiss) ↔ Unless24 (Unless (WrongFiles xs) (Unless (TwoLengths xs) (WrongLayers plen xs)))
   exactly-27 = in-turn (exactly-of chain layersAmiss number-is refl) (unless24 (unless (wrong-files xs) (unless (two-lengths xs) (wrong-layers plen xs))))

@@ -10,7 +10,7 @@ use lib.ListN.{length}
 use lib.Dec.{eqb, ltb}
 use borrow.Author.Tests.{not-false, eqb-true, eqb-false, eq-eqb, ne-eqb, ltb-true, ltb-false, lt-ltb, le-ltb}
 use Rattle.limits.specs.Limits.{largestTorrent, longestFile, maxLevels}
-use Rattle.numbers.specs.Numbers.{torrentTooLarge, nestedTooDeeply, pieceLengthOutOfRange, wrongTree, sameRoot, layersAmiss, layerDiffers}
+use Rattle.numbers.specs.Numbers.{torrentTooLarge, nestedTooDeeply, pieceLengthOutOfRange, wrongTree, twoLengths, layersAmiss, layerDiffers}
 use Rattle.octets.specs.Octets.{same, zeroHash}
 use Rattle.octets.specs.OctetsLaws.{same-true, same-eq, same-false}
 use Rattle.tree.specs.Geometry.{blockCount, height, isPieceLength, pieceLayer, pieceCount, hasLayer}
@@ -19,7 +19,7 @@ use Rattle.bencode.specs.Grammar.{dictionary, encode}
 use Rattle.meaning.specs.Counting.{Member}
 use Rattle.meaning.specs.Torrent.{elementRight}
 use Rattle.publishing.specs.Content.{Item, torrentOf}
-use Rattle.publishing.specs.Number.{some, tooLarge, tooDeep, noElements, wrongItem, meet, nothing, oneRoot, twoLengths, layerSize, misfit, givesOther, twoLayers, contentNumber}
+use Rattle.publishing.specs.Number.{some, tooLarge, tooDeep, noElements, wrongItem, meet, nothing, oneRoot, lengthsClash, layerSize, misfit, givesOther, twoLayers, contentNumber}
 use Rattle.publishing.specs.SomeLaws.{or-none, or-left, or-right, none-passes, some-there, some-one}
 use Rattle.publishing.specs.TreeLaws.{AllRight, PathRight, path-all}
 use Rattle.publishing.specs.ContentLaws.{Passed, passed}
@@ -40,7 +40,7 @@ pub record AllPassed (plen : ℕ) (name : List ℕ) (xs : List Item) : Type 0 wh
   pub not-deep : some tooDeep xs ≡ false
   pub piece : not (isPieceLength plen) ≡ false
   pub tree : nothing xs || some wrongItem xs || meet xs ≡ false
-  pub lengths : twoLengths xs ≡ false
+  pub lengths : lengthsClash xs ≡ false
   pub fits : some (misfit plen) xs ≡ false
   pub gives : some (givesOther plen) xs || twoLayers xs ≡ false
 
@@ -51,7 +51,7 @@ all-passed plen name xs e =
     let b = past (some tooDeep xs) nestedTooDeeply _ (λ z. omega arith) (a .1) in
     let c = past (not (isPieceLength plen)) pieceLengthOutOfRange _ (λ z. omega arith) (b .1) in
     let d = past (nothing xs || some wrongItem xs || meet xs) wrongTree _ (λ z. omega arith) (c .1) in
-    let f = past (twoLengths xs) sameRoot _ (λ z. omega arith) (d .1) in
+    let f = past (lengthsClash xs) twoLengths _ (λ z. omega arith) (d .1) in
     let g = past (some (misfit plen) xs) layersAmiss _ (λ z. omega arith) (f .1) in
     let h = past (some (givesOther plen) xs || twoLayers xs) layerDiffers _ (λ z. omega arith) (g .1) in
     record { not-large = a .0; not-deep = b .0; piece = c .0; tree = d .0; lengths = f .0; fits = g .0; gives = h .0 }

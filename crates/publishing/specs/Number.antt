@@ -6,7 +6,7 @@ use Prim.Native.Nat.{ℕ, _+_, _*_}
 use lib.ListN.{length}
 use lib.Dec.{eqb, ltb}
 use Rattle.limits.specs.Limits.{largestTorrent, longestFile, maxLevels}
-use Rattle.numbers.specs.Numbers.{torrentTooLarge, nestedTooDeeply, pieceLengthOutOfRange, wrongTree, sameRoot, layersAmiss, layerDiffers}
+use Rattle.numbers.specs.Numbers.{torrentTooLarge, nestedTooDeeply, pieceLengthOutOfRange, wrongTree, twoLengths, layersAmiss, layerDiffers}
 use Rattle.octets.specs.Octets.{same, zeroHash}
 use Rattle.tree.specs.Geometry.{blockCount, height, isPieceLength, pieceLayer, pieceCount, hasLayer}
 use Rattle.tree.specs.Values.{layerRoot}
@@ -61,8 +61,8 @@ abbrev pub oneRoot : Item → Item → Bool
 oneRoot x y = ltb 0 (x .size) && ltb 0 (y .size) && same (x .root) (y .root)
 
 -- 26: of different lengths
-abbrev pub twoLengths : List Item → Bool
-twoLengths xs = some (λ (x : Item). some (λ (y : Item). oneRoot x y && not (eqb (x .size) (y .size))) xs) xs
+abbrev pub lengthsClash : List Item → Bool
+lengthsClash xs = some (λ (x : Item). some (λ (y : Item). oneRoot x y && not (eqb (x .size) (y .size))) xs) xs
 
 -- 27: 32 bytes for each piece of a file longer than the piece length, none for another
 abbrev pub layerSize : ℕ → Item → ℕ
@@ -85,7 +85,7 @@ contentNumber plen name xs =
     (cond (some tooDeep xs) nestedTooDeeply
     (cond (not (isPieceLength plen)) pieceLengthOutOfRange
     (cond (nothing xs || some wrongItem xs || meet xs) wrongTree
-    (cond (twoLengths xs) sameRoot
+    (cond (lengthsClash xs) twoLengths
     (cond (some (misfit plen) xs) layersAmiss
     (cond (some (givesOther plen) xs || twoLayers xs) layerDiffers
     0))))))

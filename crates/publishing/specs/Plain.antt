@@ -1,5 +1,5 @@
 -- 02, request 4: the contents of which the number is what the reader says of the torrent that would be written; and what the reader says
--- of a value, by 19, then 20 and 21, then 22 to 28.
+-- of a value without a v1 half, by 19, then 20 and 21, then 22 to 28.
 -- Assumes nothing.
 use mathlib.Core.Path.{_≡_}
 use mathlib.Core.Bool.{cond}

@@ -19,7 +19,7 @@ use Rattle.meaning.specs.Counting.{Member}
 use Rattle.meaning.specs.Nth.{Nth}
 use Rattle.meaning.specs.Torrent.{elementRight}
 use Rattle.publishing.specs.Content.{Item, torrentOf}
-use Rattle.publishing.specs.Number.{some, begins, tooLarge, tooDeep, noElements, wrongItem, onePath, meet, nothing, oneRoot, twoLengths, layerSize, misfit, givesOther, twoLayers, contentNumber}
+use Rattle.publishing.specs.Number.{some, begins, tooLarge, tooDeep, noElements, wrongItem, onePath, meet, nothing, oneRoot, lengthsClash, layerSize, misfit, givesOther, twoLayers, contentNumber}
 use Rattle.publishing.specs.SomeLaws.{or-left, or-right, or-one, or-none, some-there, some-one}
 use Rattle.publishing.specs.Refused.{TooLarge, TooDeep, OutOfRange, WrongFiles, no-file, no-element, wrong-element, too-long, empty-with-root, one-path, OneRoot, TwoLengths, WrongLayers, wrong-size, not-wanted, LayersDiffer, other-root, two-layers}
 
@@ -194,7 +194,7 @@ pair-of told xs = (from, to)
         (some-there (λ (v : Item). oneRoot x v && not (told x v)) xs y (r .other)
         (rw (lt-ltb 0 (x .size) (r .one-full), lt-ltb 0 (y .size) (r .other-full), same-eq (x .root) (y .root) (r .same-root), w .3) refl))
 
-pub two-lengths : (xs : List Item) → (twoLengths xs ≡ true) ↔ TwoLengths xs
+pub two-lengths : (xs : List Item) → (lengthsClash xs ≡ true) ↔ TwoLengths xs
 two-lengths xs = (
   (λ e. let w = pair-of (λ (u v : Item). eqb (u .size) (v .size)) xs .0 e in (w .0, w .1, w .2, eqb-false (w .0 .size) (w .1 .size) (w .3))),
   λ w. pair-of (λ (u v : Item). eqb (u .size) (v .size)) xs .1 (w .0, w .1, w .2, ne-eqb (w .0 .size) (w .1 .size) (w .3)),

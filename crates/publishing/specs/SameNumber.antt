@@ -10,7 +10,7 @@ use lib.ListN.{length}
 use lib.Dec.{eqb, leb, ltb}
 use borrow.Author.Tests.{eqb-true, eqb-false, leb-true, ltb-true, ltb-false}
 use Rattle.limits.specs.Limits.{largestTorrent, longestFile, maxLevels}
-use Rattle.numbers.specs.Numbers.{torrentTooLarge, nestedTooDeeply, pieceLengthOutOfRange, wrongTree, sameRoot, layersAmiss, layerDiffers}
+use Rattle.numbers.specs.Numbers.{torrentTooLarge, nestedTooDeeply, pieceLengthOutOfRange, wrongTree, twoLengths, layersAmiss, layerDiffers}
 use Rattle.octets.specs.Octets.{same, zeroHash}
 use Rattle.octets.specs.OctetsLaws.{same-true, same-false}
 use Rattle.tree.specs.Geometry.{blockCount, height, isPieceLength, pieceLayer, pieceCount}
@@ -29,7 +29,7 @@ use Rattle.meaning.specs.TestsLaws.{tree-yes, roots-amiss, roots-right, layers-
 use Rattle.publishing.specs.Sorting.{sortedBy, Permuted, none as nothingMoved, keep, swap, then}
 use Rattle.publishing.specs.SortingLaws.{permuted-member, permuted-back, sorted-permuted, sorted-ordered, Ordered, OrderedFrom}
 use Rattle.publishing.specs.Content.{Item, pathBefore, itemBefore, inTreeOrder, properties, treeOfAll, Layer, layerBefore, layersGiven, layersOfAll, torrentOf}
-use Rattle.publishing.specs.Number.{some, tooLarge, tooDeep, begins, onePath, wrongItem, meet, nothing, twoLengths, misfit, givesOther, twoLayers, contentNumber}
+use Rattle.publishing.specs.Number.{some, tooLarge, tooDeep, begins, onePath, wrongItem, meet, nothing, lengthsClash, misfit, givesOther, twoLayers, contentNumber}
 use Rattle.publishing.specs.SomeLaws.{or-none, none-passes, some-one}
 use Rattle.publishing.specs.OrderLaws.{path-either, layer-one-way, layer-behind}
 use Rattle.publishing.specs.SizeLaws.{sum, map-permuted, in-order}
@@ -457,21 +457,21 @@ module _ (plen : ℕ) (name : List ℕ) (xs : List Item) (k : Plain plen xs) whe
           absurd (false≢true (sym f ∙ layers-no plen (layersWritten xs) (map fileOfItem (inTreeOrder xs)) (layers-if p (none-said (some (misfit plen) xs) (wrong-layers plen xs) e))))
 
   abbrev ours26 : ℕ
-  ours26 = cond (twoLengths xs) sameRoot (cond (some (misfit plen) xs) layersAmiss (cond (some (givesOther plen) xs || twoLayers xs) layerDiffers 0))
+  ours26 = cond (lengthsClash xs) twoLengths (cond (some (misfit plen) xs) layersAmiss (cond (some (givesOther plen) xs || twoLayers xs) layerDiffers 0))
 
   abbrev theirs26 : ℕ
-  theirs26 = cond (lengthsAgree (map fileOfItem (inTreeOrder xs))) (cond theirs27 (cond (layersGiveRoots plen (layersWritten xs) (map fileOfItem (inTreeOrder xs))) 0 layerDiffers) layersAmiss) sameRoot
+  theirs26 = cond (lengthsAgree (map fileOfItem (inTreeOrder xs))) (cond theirs27 (cond (layersGiveRoots plen (layersWritten xs) (map fileOfItem (inTreeOrder xs))) 0 layerDiffers) layersAmiss) twoLengths
 
   test-26 : isPieceLength plen ≡ true → ours26 ≡ theirs26
-  test-26 p = by-tests (twoLengths xs) refl (lengthsAgree (map fileOfItem (inTreeOrder xs))) refl
+  test-26 p = by-tests (lengthsClash xs) refl (lengthsAgree (map fileOfItem (inTreeOrder xs))) refl
     where
-      by-tests : (a : Bool) → twoLengths xs ≡ a → (b : Bool) → lengthsAgree (map fileOfItem (inTreeOrder xs)) ≡ b
-          → cond a sameRoot (cond (some (misfit plen) xs) layersAmiss (cond (some (givesOther plen) xs || twoLayers xs) layerDiffers 0))
-          ≡ cond b (cond theirs27 (cond (layersGiveRoots plen (layersWritten xs) (map fileOfItem (inTreeOrder xs))) 0 layerDiffers) layersAmiss) sameRoot
+      by-tests : (a : Bool) → lengthsClash xs ≡ a → (b : Bool) → lengthsAgree (map fileOfItem (inTreeOrder xs)) ≡ b
+          → cond a twoLengths (cond (some (misfit plen) xs) layersAmiss (cond (some (givesOther plen) xs || twoLayers xs) layerDiffers 0))
+          ≡ cond b (cond theirs27 (cond (layersGiveRoots plen (layersWritten xs) (map fileOfItem (inTreeOrder xs))) 0 layerDiffers) layersAmiss) twoLengths
       by-tests true e true f = absurd (lengths-not (two-lengths xs .0 e) f)
       by-tests true e false f = refl
-      by-tests false e true f = test-27 p (none-said (twoLengths xs) (two-lengths xs) e)
-      by-tests false e false f = absurd (false≢true (sym f ∙ lengths-if (none-said (twoLengths xs) (two-lengths xs) e)))
+      by-tests false e true f = test-27 p (none-said (lengthsClash xs) (two-lengths xs) e)
+      by-tests false e false f = absurd (false≢true (sym f ∙ lengths-if (none-said (lengthsClash xs) (two-lengths xs) e)))
 
   -- what the reader says from 25 on
   abbrev theirs25 : ℕ
@@ -481,7 +481,7 @@ module _ (plen : ℕ) (name : List ℕ) (xs : List Item) (k : Plain plen xs) whe
       (cond (layersFit plen (layersWritten xs) (filesOf (torrentOf plen name xs)) && noOthers plen (filesOf (torrentOf plen name xs)) (layersWritten xs))
       (cond (layersGiveRoots plen (layersWritten xs) (filesOf (torrentOf plen name xs))) 0 layerDiffers)
       layersAmiss)
-      sameRoot)
+      twoLengths)
       wrongTree
 
   test-25 : isPieceLength plen ≡ true → (TooDeep xs → ⊥) → cond (nothing xs || some wrongItem xs || meet xs) wrongTree ours26 ≡ theirs25
@@ -494,7 +494,7 @@ module _ (plen : ℕ) (name : List ℕ) (xs : List Item) (k : Plain plen xs) whe
           (cond (layersFit plen (layersWritten xs) (filesOf (torrentOf plen name xs)) && noOthers plen (filesOf (torrentOf plen name xs)) (layersWritten xs))
           (cond (layersGiveRoots plen (layersWritten xs) (filesOf (torrentOf plen name xs))) 0 layerDiffers)
           layersAmiss)
-          sameRoot)
+          twoLengths)
           wrongTree
       by-tests true e true f = absurd (wrong-not d f (wrong-files xs .0 e))
       by-tests true e false f = refl

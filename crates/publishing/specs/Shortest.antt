@@ -12,7 +12,7 @@ use borrow.Author.Tests.{eqb-true}
 use Rattle.limits.specs.Limits.{maxLevels}
 use Rattle.octets.specs.Octets.{same}
 use Rattle.octets.specs.OctetsLaws.{same-true}
-use Rattle.numbers.specs.Numbers.{keyMissing, otherVersion, pieceLengthOutOfRange, wrongTree, sameRoot, layersAmiss, layerDiffers}
+use Rattle.numbers.specs.Numbers.{keyMissing, otherVersion, pieceLengthOutOfRange, wrongTree, twoLengths, layersAmiss, layerDiffers}
 use Rattle.numbers.specs.NumbersLaws.{let-through}
 use Rattle.tree.specs.Geometry.{isPieceLength}
 use Rattle.bencode.specs.Grammar.{Value, integer, string, list, dictionary, Entries, noEntries, entry, encode, encodeEntries, precedes, none, after, Valid, EntriesValid}
@@ -53,7 +53,7 @@ value-right t e =
     let b = let-through (isNumber 2 (lookup keyMetaVersion (infoOf t))) _ otherVersion (λ z. omega arith) (a .1) in
     let c = let-through (isPieceLength (plenOf t)) _ pieceLengthOutOfRange (λ z. omega arith) (b .1) in
     let d = let-through (treeRight (treeOf t)) _ wrongTree (λ z. omega arith) (c .1) in
-    let f = let-through (lengthsAgree (filesOf t)) _ sameRoot (λ z. omega arith) (d .1) in
+    let f = let-through (lengthsAgree (filesOf t)) _ twoLengths (λ z. omega arith) (d .1) in
     let g = let-through (layersFit (plenOf t) (layersOf t) (filesOf t) && noOthers (plenOf t) (filesOf t) (layersOf t)) _ layersAmiss (λ z. omega arith) (f .1) in
     let h = let-through (layersGiveRoots (plenOf t) (layersOf t) (filesOf t)) _ layerDiffers (λ z. omega arith) (g .1) in
     record { keys = a .0; version = b .0; piece = c .0; tree = d .0; roots = f .0; fit = g .0; give = h .0 }

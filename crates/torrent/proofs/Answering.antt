@@ -9,7 +9,7 @@ use lib.ListN.{length, take, drop}
 use borrow.Author.Tests.{eq-eqb, ne-eqb, lt-ltb, le-ltb}
 use Rattle.limits.specs.Limits.{largestTorrent}
 use Rattle.octets.specs.Octets.{cut, zeroHash}
-use Rattle.numbers.specs.Numbers.{noSuchFile}
+use Rattle.numbers.specs.Numbers.{noSuchPart}
 use Rattle.sha256.specs.Sha256.{sha256}
 use Rattle.tree.specs.Geometry.{hasLayer}
 use Rattle.bencode.specs.Parts.{findKey}
@@ -95,11 +95,11 @@ module _ (s : List ℕ) (c : Checked) (e : c ≡ checkedOf s) where
     read-done hash q = rw (sym e, q) (simp (eq-eqb (c .keys .number) 0 h) (rw h refl))
 
     module _ (n : ℕ) where
-      pub file-past : c .files ≤ n → noFileRead noSuchFile ≡ fileRead s n
+      pub file-past : c .files ≤ n → noFileRead noSuchPart ≡ fileRead s n
       unfolding fileRead
       file-past l = rw (sym e) (simp (eq-eqb (c .keys .number) 0 h, le-ltb n (c .files) l))
 
-      pub path-past : (k : ℕ) → c .files ≤ n → noPartRead noSuchFile ≡ pathRead s n k
+      pub path-past : (k : ℕ) → c .files ≤ n → noPartRead noSuchPart ≡ pathRead s n k
       unfolding pathRead
       path-past k l = rw (sym e) (simp (eq-eqb (c .keys .number) 0 h, le-ltb n (c .files) l))
 

@@ -1,21 +1,30 @@
 -- The numbers of a torrent, one after the other, as the code comes to them.
 -- Assumes nothing.
 use mathlib.Core.Path.{_≡_, refl, sym, ap, _∙_}
-use mathlib.Core.Bool.{Bool, true, false, cond, _&&_, false≢true}
-use mathlib.Core.List.{List, _++_, append-assoc}
+use mathlib.Core.Bool.{Bool, true, false, cond, not, _&&_, _||_, false≢true}
+use mathlib.Core.List.{List, [], _++_, append-assoc, append-nil}
 use Prim.Native.Nat.{ℕ, zero, suc, _+_, _-_, _≤_, _<_}
 use native.Mathlib.Omega.{arith}
 use lib.ListN.{length, take, drop, getD, length-append}
 use lib.Seq.{getD-take, take-at}
 use lib.Dec.{eqb}
 use borrow.Author.Tests.{eq-eqb, ne-eqb}
-use Rattle.limits.specs.Limits.{largestTorrent}
+use Rattle.limits.specs.Limits.{largestTorrent, maxLevels}
 use Rattle.octets.specs.Octets.{cut, pasted}
-use Rattle.numbers.specs.Numbers.{wrongTree, sameRoot, layersAmiss}
+use Rattle.octets.specs.OctetsLaws.{cut-size}
+use Rattle.numbers.specs.Numbers.{wrongTree, twoLengths, layersAmiss, halvesDiffer}
 use Rattle.sorting.specs.Sorting.{sorted, thinned}
 use Rattle.sorting.specs.ThinnedLaws.{once-ascending, once-fits, once-stands}
-use Rattle.meaning.specs.Torrent.{File, lengthsAgree}
-use Rattle.metainfo.specs.Metainfo.{bytesIn, noKeys, metainfoOf}
+use Rattle.bencode.specs.Grammar.{dictionary, Entries, encode, Valid, none}
+use Rattle.bencode.specs.DepthLaws.{more-levels}
+use Rattle.bencode.specs.PartsLaws.{lookup-valid}
+use Rattle.meaning.specs.Keys.{keyInfo}
+use Rattle.meaning.specs.Torrent.{infoOf, plenOf, File, filesOf, lengthsAgree}
+use Rattle.halves.specs.Decoded.{decoded, torrentIn}
+use Rattle.halves.specs.V1Half.{isHybrid, halvesFit}
+use Rattle.hybrid.specs.Entry.{StandsAt}
+use Rattle.metainfo.specs.Metainfo.{bytesIn, noKeys, keysOf, metainfoOf}
+use Rattle.metainfo.specs.MetainfoLaws.{metainfo-right}
 use Rattle.metainfo.specs.declared.Keys.{Keys}
 use Rattle.filetree.specs.Tree.{Listed, Files, wrong, files, right, listed, filesIn, rootsOf}
 use Rattle.filetree.specs.Reading.{readFiles}
@@ -28,8 +37,11 @@ use Rattle.twins.specs.Twins.{layerCount, comparedOf, Rooted}
 use Rattle.twins.specs.WalkLaws.{roots-stand, layers-roots}
 use Rattle.twins.specs.declared.Compared.the-variants.{Agree, Differ}
 use Rattle.layers.specs.Layers.{keysWide, layerKeys, Indexed, LayersOpen, worst}
-use Rattle.torrent.specs.Torrent.{filesNumber, treeNumber, judgedAs, judgedOf, unread, checkedOf}
-use Rattle.torrent.specs.CheckLaws.{Open, keys-open}
+use Rattle.torrent.specs.Torrent.{filesNumber, treeNumber, judgedAs, judgedOf, unread, v2CheckedOf, checkedOf}
+use Rattle.joined.specs.KeysLaws.{KeysAt, keys-point}
+use Rattle.joined.specs.StrictTorrentLaws.{torrent-files}
+use Rattle.torrent.specs.HalvesFit.{fitBeside}
+use Rattle.torrent.specs.CheckLaws.{Open, keys-open, Whole, v2-so}
 use Rattle.torrent.specs.declared.check.Judged.{Judged}
 use Rattle.torrent.specs.declared.check.Checked.{Checked}
 
@@ -147,11 +159,11 @@ module _ (t l : List ℕ) (plen : ℕ) where
             stand = roots-stand t once m fs (once-stands t (rootsOf fs) m once rest size front);
           }
 
-    number-is : (b : Bool) → lengthsAgree vs ≡ b → treeNumber t l plen (filesIn t) ≡ cond b (cond (keysWide l && eqb (length (layerKeys l)) (layerCount plen vs)) (worst t l plen 0 fs) layersAmiss) sameRoot
+    number-is : (b : Bool) → lengthsAgree vs ≡ b → treeNumber t l plen (filesIn t) ≡ cond b (cond (keysWide l && eqb (length (layerKeys l)) (layerCount plen vs)) (worst t l plen 0 fs) layersAmiss) twoLengths
     unfolding treeNumber filesNumber
     number-is b q = rw (so .0) (rw q refl)
 
-    pub judged-same : Differ ≡ comparedOf plen vs → _≡_ {A = Judged} (record { number = sameRoot; files = 0; long = 0 }) (judgedOf t l plen)
+    pub judged-same : Differ ≡ comparedOf plen vs → _≡_ {A = Judged} (record { number = twoLengths; files = 0; long = 0 }) (judgedOf t l plen)
     unfolding judgedOf
     judged-same q = sym (ap (λ (z : ℕ). judgedAs z (length fs) (layerCount plen vs)) (number-is false (differ-so plen vs q)))
 
@@ -190,8 +202,8 @@ module _ (t l : List ℕ) (plen : ℕ) where
 -- ---- from the keys on
 
 module _ (s : List ℕ) (k : Keys) (e : k ≡ metainfoOf s) where
-  pub keys-refused : (k .number ≡ 0 → ⊥) → unread (k .number) ≡ checkedOf s
-  unfolding checkedOf
+  pub keys-refused : (k .number ≡ 0 → ⊥) → unread (k .number) ≡ v2CheckedOf s
+  unfolding v2CheckedOf
   keys-refused h = rw (sym e) (simp (ne-eqb (k .number) 0 h))
 
   module _ (h : k .number ≡ 0) where
@@ -203,12 +215,12 @@ module _ (s : List ℕ) (k : Keys) (e : k ≡ metainfoOf s) where
       unfolding cut
       judged-is = ej
 
-      pub number-refused : (j .number ≡ 0 → ⊥) → unread (j .number) ≡ checkedOf s
-      unfolding checkedOf
+      pub number-refused : (j .number ≡ 0 → ⊥) → unread (j .number) ≡ v2CheckedOf s
+      unfolding v2CheckedOf
       number-refused g = rw (sym e) (simp (eq-eqb (k .number) 0 h) (rw (sym judged-is) (simp (ne-eqb (j .number) 0 g))))
 
-      pub number-done : j .number ≡ 0 → _≡_ {A = Checked} (record { keys = k; files = j .files; long = j .long }) (checkedOf s)
-      unfolding checkedOf
+      pub number-done : j .number ≡ 0 → _≡_ {A = Checked} (record { keys = k; files = j .files; long = j .long }) (v2CheckedOf s)
+      unfolding v2CheckedOf
       number-done g = rw (sym e) (simp (eq-eqb (k .number) 0 h) (rw (sym judged-is) (simp (eq-eqb (j .number) 0 g))))
 
     pub tree-small : length (take (k .tree .end - k .tree .start) (drop (k .tree .start) s)) ≤ largestTorrent
@@ -218,3 +230,82 @@ module _ (s : List ℕ) (k : Keys) (e : k ≡ metainfoOf s) where
     pub layers-open : LayersOpen (take (k .layers .end - k .layers .start) (drop (k .layers .start) s))
     unfolding cut
     layers-open = opened .layers-open
+
+-- ---- then the halves
+
+module _ (s : List ℕ) (c : Checked) (e : c ≡ v2CheckedOf s) where
+  pub half-refused : (c .keys .number ≡ 0 → ⊥) → c ≡ checkedOf s
+  unfolding checkedOf
+  half-refused h = rw (sym e) (simp (ne-eqb (c .keys .number) 0 h))
+
+  module _ (h : c .keys .number ≡ 0) where
+    pub whole : Whole s c
+    whole = v2-so s c e h
+
+    -- the parts that `info` and `file tree` are
+    abbrev i : List ℕ
+    i = take (c .keys .info .end - c .keys .info .start) (drop (c .keys .info .start) s)
+
+    abbrev t : List ℕ
+    t = take (c .keys .tree .end - c .keys .tree .start) (drop (c .keys .tree .start) s)
+
+    pub info-small : length i ≤ largestTorrent
+    unfolding cut
+    info-small = let o = whole .opened in let x = cut-size s (c .keys .info .start) (c .keys .info .end - c .keys .info .start) in let y = o .info-within in let z = o .small in omega arith
+
+    pub half-tree : (right (filesIn t) ≡ true) × (c .files ≡ length (listed (filesIn t)))
+    unfolding cut
+    half-tree = (whole .tree-right, whole .all-files)
+
+    found : metainfoOf s .number ≡ 0
+    found = ap (λ (k : Keys). k .number) (sym (whole .keys-are)) ∙ h
+
+    same-keys : c .keys ≡ keysOf s
+    same-keys = whole .keys-are ∙ metainfo-right s found .same-keys
+
+    keys-zero : keysOf s .number ≡ 0
+    keys-zero = ap (λ (k : Keys). k .number) (sym same-keys) ∙ h
+
+    -- the value that the torrent encodes
+    abbrev es : Entries
+    es = torrentIn s
+
+    value : Valid (dictionary es) maxLevels × (s ≡ encode (dictionary es))
+    value = decoded s .1 (metainfo-right s found .strict)
+
+    at-values : KeysAt s es (keysOf s)
+    at-values = keys-point s es (value .1) (value .0) keys-zero
+
+    info-valid : Valid (dictionary (infoOf es)) maxLevels
+    info-valid =
+        let v : Valid (dictionary (infoOf es)) (maxLevels - 1) = unfold Valid in lookup-valid keyInfo es none (maxLevels - 1) (dictionary (infoOf es)) (value .0) (at-values .info-value) in
+        more-levels (dictionary (infoOf es)) (maxLevels - 1) maxLevels (omega arith) v
+
+    info-is : i ≡ encode (dictionary (infoOf es)) ++ []
+    unfolding cut
+    info-is = ap (λ (k : Keys). bytesIn s (k .info)) same-keys ∙ at-values .info-bytes ∙ sym (append-nil (encode (dictionary (infoOf es))))
+
+    info-stands : StandsAt i 0 (dictionary (infoOf es))
+    info-stands = record { behind = []; bytes = info-is; valid = info-valid }
+
+    files-are : readFiles t (listed (filesIn t)) ≡ filesOf es
+    unfolding cut
+    files-are =
+        ap (λ (k : Keys). readFiles (bytesIn s (k .tree)) (listed (filesIn (bytesIn s (k .tree))))) same-keys
+        ∙ torrent-files s es (value .1) (value .0) keys-zero (ap (λ (k : Keys). right (filesIn (bytesIn s (k .tree)))) (sym same-keys) ∙ whole .tree-right)
+
+    plen-is : c .keys .plen ≡ plenOf es
+    plen-is = ap (λ (k : Keys). k .plen) same-keys ∙ at-values .plen-is
+
+    module _ (r : Bool) (f : (info : Entries) → StandsAt i 0 (dictionary info) → r ≡ fitBeside (c .keys .plen) (readFiles t (listed (filesIn t))) info) where
+      fits-is : r ≡ not (isHybrid es) || halvesFit es
+      unfolding halvesFit
+      fits-is = f (infoOf es) info-stands ∙ rw (plen-is, files-are) refl
+
+      pub halves-right : r ≡ true → c ≡ checkedOf s
+      unfolding checkedOf
+      halves-right q = rw (sym e) (simp (eq-eqb (c .keys .number) 0 h) (rw (sym fits-is ∙ q) refl))
+
+      pub halves-wrong : r ≡ false → unread halvesDiffer ≡ checkedOf s
+      unfolding checkedOf
+      halves-wrong q = rw (sym e) (simp (eq-eqb (c .keys .number) 0 h) (rw (sym fits-is ∙ q) refl))

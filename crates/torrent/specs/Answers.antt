@@ -14,18 +14,19 @@ use Rattle.bencode.specs.Grammar.{string, dictionary, Entries, encode, Valid}
 use Rattle.bencode.specs.Parts.{present, lookup}
 use Rattle.bencode.specs.Strict.{Encoded, TooDeepFirst}
 use Rattle.meaning.specs.Keys.{keyInfo}
-use Rattle.meaning.specs.Torrent.{infoOf, plenOf, layersOf, File, filesOf, valueNumber}
+use Rattle.meaning.specs.Torrent.{infoOf, plenOf, layersOf, File, filesOf}
+use Rattle.halves.specs.V1Half.{torrentNumber}
 use Rattle.torrent.specs.declared.read.Torrent.{Torrent}
 use Rattle.torrent.specs.declared.read.FileRead.{FileRead}
 use Rattle.torrent.specs.declared.read.PartRead.{PartRead}
 
 -- what the number n says of the bytes s: they are more than 1 MiB; or they are no strict bencoding, and the depth is not wrong first; or
--- it is; or they encode a valid dictionary, and n is what 01 says of that value (`meaning`'s Amiss)
+-- it is; or they encode a valid dictionary, and n is what 01 and 02 say of that value (`meaning`'s Amiss, `halves`' Amiss31)
 pub data Says (s : List ℕ) (n : ℕ) : Type 0 where
   tooLarge : largestTorrent < length s → n ≡ torrentTooLarge → Says s n
   noEncoding : length s ≤ largestTorrent → (Encoded maxLevels s → ⊥) → (TooDeepFirst s → ⊥) → n ≡ notStrict → Says s n
   tooDeep : length s ≤ largestTorrent → TooDeepFirst s → n ≡ nestedTooDeeply → Says s n
-  encodes : length s ≤ largestTorrent → (es : Entries) → Valid (dictionary es) maxLevels → s ≡ encode (dictionary es) → n ≡ valueNumber es → Says s n
+  encodes : length s ≤ largestTorrent → (es : Entries) → Valid (dictionary es) maxLevels → s ≡ encode (dictionary es) → n ≡ torrentNumber es → Says s n
 
 -- ---- of a torrent that gets 0
 

@@ -1,7 +1,7 @@
 -- What the parts of a torrent that gets 0 so far are, for the code that goes on with them.
 -- Assumes nothing.
 use mathlib.Core.Path.{_≡_, refl, sym, ap, _∙_}
-use mathlib.Core.Bool.{Bool, true, false, cond, false≢true}
+use mathlib.Core.Bool.{Bool, true, false, cond, not, _||_, false≢true}
 use mathlib.Core.List.{List, [], _++_, append-nil}
 use Prim.Native.Nat.{ℕ, zero, suc, _+_, _-_, _≤_}
 use native.Mathlib.Omega.{arith}
@@ -13,13 +13,15 @@ use Rattle.limits.specs.Limits.{largestTorrent, maxLevels}
 use Rattle.octets.specs.Octets.{cut}
 use Rattle.octets.specs.OctetsLaws.{cut-length}
 use Rattle.tree.specs.Geometry.{isPieceLength}
-use Rattle.numbers.specs.Numbers.{wrongTree}
+use Rattle.numbers.specs.Numbers.{wrongTree, halvesDiffer}
 use Rattle.bencode.specs.Grammar.{Value, integer, string, list, dictionary, Entries, encode, Valid, none}
 use Rattle.bencode.specs.Parts.{isDictionary, findKey, FoundIs, Lookup, absent, present, lookup}
 use Rattle.bencode.specs.PartsLaws.{part-front, find-ends, find-is, lookup-valid, dictionary-is, isDictionaryValue}
 use Rattle.bencode.specs.StrictLaws.{taken-only}
 use Rattle.bencode.specs.declared.parts.Found.{Found}
 use Rattle.bencode.specs.declared.parts.Found.the-variants.{Part, Missing}
+use Rattle.halves.specs.Decoded.{torrentIn}
+use Rattle.halves.specs.V1Half.{isHybrid, halvesFit}
 use Rattle.metainfo.specs.Metainfo.{bytesIn, dictionaryIn, metainfoOf}
 use Rattle.metainfo.specs.MetainfoLaws.{metainfo-right}
 use Rattle.metainfo.specs.declared.Keys.{Keys}
@@ -28,7 +30,7 @@ use Rattle.filetree.specs.Reading.{readFiles}
 use Rattle.twins.specs.Twins.{layerCount}
 use Rattle.layers.specs.Layers.{LayersOpen}
 use Rattle.layers.specs.KeysLaws.{keys-ascending}
-use Rattle.torrent.specs.Torrent.{filesNumber, treeNumber, judgedAs, judgedOf, unread, withJudged, checkedOf}
+use Rattle.torrent.specs.Torrent.{filesNumber, treeNumber, judgedAs, judgedOf, unread, withJudged, v2CheckedOf, checkedOf}
 use Rattle.torrent.specs.declared.check.Checked.{Checked}
 
 -- a dictionary that is found is one
@@ -137,9 +139,9 @@ right-tree t l plen fs e = by-right (right fs) e
     by-right true q = refl
     by-right false q = let z : ⊥ = omega arith in absurd z
 
-pub checked-whole : (s : List ℕ) → checkedOf s .keys .number ≡ 0 → Whole s (checkedOf s)
-unfolding checkedOf judgedOf
-checked-whole s e = by-keys (eqb (metainfoOf s .number) 0) refl e
+v2-whole : (s : List ℕ) → v2CheckedOf s .keys .number ≡ 0 → Whole s (v2CheckedOf s)
+unfolding v2CheckedOf judgedOf
+v2-whole s e = by-keys (eqb (metainfoOf s .number) 0) refl e
   where
     t : List ℕ
     t = bytesIn s (metainfoOf s .tree)
@@ -160,5 +162,24 @@ checked-whole s e = by-keys (eqb (metainfoOf s .number) 0) refl e
     by-keys true q f = by-number (treeNumber t l (metainfoOf s .plen) (filesIn t)) refl (eqb-true (metainfoOf s .number) 0 q) f
     by-keys false q f = absurd (eqb-false (metainfoOf s .number) 0 q f)
 
+pub v2-so : (s : List ℕ) (c : Checked) → c ≡ v2CheckedOf s → c .keys .number ≡ 0 → Whole s c
+v2-so s c e h = rw e (v2-whole s (ap (λ (z : Checked). z .keys .number) (sym e) ∙ h))
+
+-- ---- and 0 by both halves
+
+-- 0 is given only where it is given by the v2 half, and with the same parts and counts
+pub zero-by-both : (s : List ℕ) → checkedOf s .keys .number ≡ 0 → checkedOf s ≡ v2CheckedOf s
+unfolding checkedOf
+zero-by-both s e = by (eqb (v2CheckedOf s .keys .number) 0) (not (isHybrid (torrentIn s)) || halvesFit (torrentIn s)) e
+  where
+    by : (b t : Bool) → cond b (cond t (v2CheckedOf s) (unread halvesDiffer)) (v2CheckedOf s) .keys .number ≡ 0
+        → cond b (cond t (v2CheckedOf s) (unread halvesDiffer)) (v2CheckedOf s) ≡ v2CheckedOf s
+    by true true q = refl
+    by true false q = let z : ⊥ = omega arith in absurd z
+    by false t q = refl
+
 pub checked-so : (s : List ℕ) (c : Checked) → c ≡ checkedOf s → c .keys .number ≡ 0 → Whole s c
-checked-so s c e h = rw e (checked-whole s (ap (λ (z : Checked). z .keys .number) (sym e) ∙ h))
+checked-so s c e h = v2-so s c (e ∙ zero-by-both s (ap (λ (z : Checked). z .keys .number) (sym e) ∙ h)) h
+
+pub checked-whole : (s : List ℕ) → checkedOf s .keys .number ≡ 0 → Whole s (checkedOf s)
+checked-whole s e = checked-so s (checkedOf s) refl e

@@ -10,12 +10,14 @@ use lib.ListN.{length}
 use Rattle.meaning.specs.Keys.{keyLength, keyPiecesRoot, keyInfo, keyFileTree, keyPieceLength, keyMetaVersion, keyPieceLayers}
 use Rattle.limits.specs.Limits.{maxLevels, largestTorrent}
 use Rattle.octets.specs.Octets.{zeroHash, same}
-use Rattle.numbers.specs.Numbers.{noSuchFile}
+use Rattle.numbers.specs.Numbers.{noSuchPart}
 use Rattle.tree.specs.Geometry.{isPieceLength, pieceLayer, height, heightFrom, hasLayer}
 use Rattle.bencode.specs.Grammar.{Value, integer, string, dictionary, Entries, noEntries, entry, decimalIn, encode, precedes, Valid}
-use Rattle.bencode.specs.Parts.{lookup}
+use Rattle.bencode.specs.Parts.{absent, lookup}
 use Rattle.meaning.specs.Nth.{Nth}
-use Rattle.meaning.specs.Torrent.{File, filesOf, without, hasKeys, elementRight, fileRight, nodeRight, branchRight, nodesRight, treeRight, filesOfNode, filesOfEntries, noOtherLength, lengthsAgree, layersFit, noOthers, layersGiveRoots, valueNumber}
+use Rattle.meaning.specs.Torrent.{File, infoOf, filesOf, without, hasKeys, elementRight, fileRight, nodeRight, branchRight, nodesRight, treeRight, filesOfNode, filesOfEntries, noOtherLength, lengthsAgree, layersFit, noOthers, layersGiveRoots, valueNumber}
+use Rattle.halves.specs.V1Keys.{keyPieces}
+use Rattle.halves.specs.HalvesLaws.{pure-stands}
 use Rattle.torrent.specs.Torrent.{readOf, noFileRead, fileRead, pathRead}
 use Rattle.torrent.specs.NumberMeans.{number-is-the-values, read-number}
 use Rattle.torrent.specs.Answers.{FileIs, PartIs}
@@ -58,6 +60,11 @@ pub small-right : valueNumber small ≡ 0
 unfolding valueNumber lookup same hasKeys isPieceLength pieceLayer height heightFrom treeRight branchRight nodeRight nodesRight elementRight without fileRight filesOfEntries filesOfNode lengthsAgree noOtherLength layersFit hasLayer noOthers layersGiveRoots zeroHash
 small-right = refl
 
+-- it is a pure v2 torrent
+small-pure : lookup keyPieces (infoOf small) ≡ absent
+unfolding lookup same
+small-pure = refl
+
 -- it is small
 pub small-size : length (encode (dictionary small)) ≤ largestTorrent
 unfolding encode decimalIn zeroHash
@@ -65,7 +72,7 @@ small-size = omega arith
 
 -- so it gets 0
 pub small-taken : readOf (encode (dictionary small)) .number ≡ 0
-small-taken = read-number (encode (dictionary small)) ∙ number-is-the-values (encode (dictionary small)) small refl small-valid small-size ∙ small-right
+small-taken = read-number (encode (dictionary small)) ∙ number-is-the-values (encode (dictionary small)) small refl small-valid small-size ∙ pure-stands small small-pure ∙ small-right
 
 -- ---- what is read of it
 
@@ -94,5 +101,5 @@ two : length (filesOf small) ≤ 2
 unfolding lookup same filesOfEntries filesOfNode
 two = omega arith
 
-pub small-no-third : fileRead (encode (dictionary small)) 2 ≡ noFileRead noSuchFile
+pub small-no-third : fileRead (encode (dictionary small)) 2 ≡ noFileRead noSuchPart
 small-no-third = no-file (encode (dictionary small)) small refl small-valid small-taken 2 two

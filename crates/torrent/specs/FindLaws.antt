@@ -18,7 +18,7 @@ use Rattle.filetree.specs.PathLaws.{flat-length, flat-down, elementNumber, hold
 use Rattle.filetree.specs.FilesLaws.{FileRight, path-element, files-right, number-right, number-behind, number-before}
 use Rattle.layers.specs.JudgeLaws.{tree-some}
 use Rattle.filetree.specs.declared.token.Token.the-variants.{Opened, Closed, Leaf, BadToken}
-use Rattle.numbers.specs.Numbers.{noSuchFile}
+use Rattle.numbers.specs.Numbers.{noSuchPart}
 use Rattle.torrent.specs.Torrent.{noPartRead, elementIn}
 use Rattle.torrent.specs.Find.{soughtFile, Found, Finds, FoundFile, PathGiven, ElementRead}
 use Rattle.torrent.specs.declared.read.PartRead.{PartRead}
@@ -26,7 +26,7 @@ use Rattle.torrent.specs.declared.one.SoughtFile.{SoughtFile}
 use Rattle.torrent.specs.declared.one.Search.{Search}
 use Rattle.torrent.specs.declared.one.Search.the-variants.{Here, Past, WrongTree}
 
-pub element-none : (base : ℕ) (p : List Element) (k : ℕ) → length p ≤ k → elementIn base p k ≡ noPartRead noSuchFile
+pub element-none : (base : ℕ) (p : List Element) (k : ℕ) → length p ≤ k → elementIn base p k ≡ noPartRead noSuchPart
 unfolding elementIn
 element-none base [] k h = refl
 element-none base (e ∷ es) zero h = absurd (omega arith)
@@ -41,7 +41,7 @@ element-is base (e ∷ es) (suc k) h = element-is base es k (omega arith)
 pub element-here : (path : List ℕ) (elements base k : ℕ) → k < elements → ElementRead path elements base k (record { number = 0; start = base + getD path (2 * k) 0; size = getD path (2 * k + 1) 0 - getD path (2 * k) 0 })
 element-here path elements base k h p w l = let y = holds-element path elements p w k h in rw (y .0, y .1) (sym (element-is base p k (rw l at h)))
 
-pub element-past : (path : List ℕ) (elements base k : ℕ) → elements ≤ k → ElementRead path elements base k (noPartRead noSuchFile)
+pub element-past : (path : List ℕ) (elements base k : ℕ) → elements ≤ k → ElementRead path elements base k (noPartRead noSuchPart)
 element-past path elements base k h p w l = sym (element-none base p k (rw l at h))
 
 -- the path to a directory is in the path to what is inside

@@ -21,18 +21,26 @@ use Rattle.bencode.specs.Parts.{Lookup, present, absent, lookup}
 use Rattle.bencode.specs.CompleteLaws.{dictionary-length}
 use Rattle.meaning.specs.Nth.{Nth}
 use Rattle.meaning.specs.Torrent.{File, isNumber, infoOf, treeOf, filesOf, plenOf, layersOf, without, hasKeys, elementRight, fileRight, nodeRight, branchRight, nodesRight, treeRight, filesOfNode, filesOfEntries, noOtherLength, lengthsAgree, layerFits, layersFit, someLonger, noOthers, givesRoot, layerBytes, layersGiveRoots, valueNumber}
+use Rattle.halves.specs.V1Keys.{keyPieces}
+use Rattle.halves.specs.V1Half.{torrentNumber}
+use Rattle.halves.specs.HalvesLaws.{pure-stands}
 use Rattle.torrent.specs.Torrent.{readOf, fileRead}
 use Rattle.torrent.specs.NumberMeans.{number-is-the-values, read-number}
 use Rattle.torrent.specs.Answers.{FileIs}
 use Rattle.torrent.specs.ReadMeans.{file-is}
 
--- ---- a torrent gets 0 where all seven tests of its value pass
+-- ---- a pure v2 torrent gets 0 where all seven tests of its value pass
 
-pub all-pass : (es : Entries) → hasKeys es ≡ true → isNumber 2 (lookup keyMetaVersion (infoOf es)) ≡ true → isPieceLength (plenOf es) ≡ true
+seven-pass : (es : Entries) → hasKeys es ≡ true → isNumber 2 (lookup keyMetaVersion (infoOf es)) ≡ true → isPieceLength (plenOf es) ≡ true
     → treeRight (treeOf es) ≡ true → lengthsAgree (filesOf es) ≡ true → layersFit (plenOf es) (layersOf es) (filesOf es) ≡ true
     → noOthers (plenOf es) (filesOf es) (layersOf es) ≡ true → layersGiveRoots (plenOf es) (layersOf es) (filesOf es) ≡ true → valueNumber es ≡ 0
 unfolding valueNumber
-all-pass es a b c d e f g h = rw (a, b, c, d, e, f, g, h) refl
+seven-pass es a b c d e f g h = rw (a, b, c, d, e, f, g, h) refl
+
+pub all-pass : (es : Entries) → lookup keyPieces (infoOf es) ≡ absent → hasKeys es ≡ true → isNumber 2 (lookup keyMetaVersion (infoOf es)) ≡ true → isPieceLength (plenOf es) ≡ true
+    → treeRight (treeOf es) ≡ true → lengthsAgree (filesOf es) ≡ true → layersFit (plenOf es) (layersOf es) (filesOf es) ≡ true
+    → noOthers (plenOf es) (filesOf es) (layersOf es) ≡ true → layersGiveRoots (plenOf es) (layersOf es) (filesOf es) ≡ true → torrentNumber es ≡ 0
+all-pass es pure a b c d e f g h = pure-stands es pure ∙ seven-pass es a b c d e f g h
 
 -- ---- with any root
 
@@ -115,9 +123,14 @@ module _ (root : List ℕ) where
   unfolding lookup same filesOfEntries filesOfNode layersGiveRoots hasLayer
   gives-right e = ap (λ (t : Bool). t && true) (ap (λ (x : Lookup). givesRoot 16384 theFile (layerBytes x)) the-key ∙ gives e)
 
+  -- it has no v1 half
+  with-pure : lookup keyPieces (infoOf withRoot) ≡ absent
+  unfolding lookup same
+  with-pure = refl
+
   -- all tests pass
-  with-right : length root ≡ 32 → layerRoot layer 0 1 ≡ root → valueNumber withRoot ≡ 0
-  with-right l e = all-pass withRoot keys-right version-right piece-right (tree-right l) lengths-right fit-right others-right (gives-right e)
+  with-right : length root ≡ 32 → layerRoot layer 0 1 ≡ root → torrentNumber withRoot ≡ 0
+  with-right l e = all-pass withRoot with-pure keys-right version-right piece-right (tree-right l) lengths-right fit-right others-right (gives-right e)
 
 -- ---- its size
 

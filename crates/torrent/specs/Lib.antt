@@ -1,10 +1,16 @@
 pub mod Torrent
 pub mod Answers
 pub mod Find
+pub mod HalvesFit
+pub mod KeysLaws
+pub mod KeyStringLaws
+pub mod OneFileLaws
+pub mod HalvesFitLaws
 pub mod CheckLaws
 pub mod FindLaws
 pub mod NumberMeans
 pub mod ReadMeans
+pub mod HalvesMeans
 pub mod Example
 pub mod LayerExample
 pub mod TwinsExample

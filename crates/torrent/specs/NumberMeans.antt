@@ -1,8 +1,8 @@
--- 01, "The torrent", 19 to 28: the number that is answered for any bytes at all is what `Says` says, and no other number is.
+-- 01, "The torrent", 19 to 28, and 02, request 12, 31: the number that is answered for any bytes at all is what `Says` says, and no other number is.
 -- Assumes nothing.
 use mathlib.Core.Path.{_≡_, refl, sym, ap, _∙_}
 use mathlib.Core.Logic.{_⊎_, inl, inr}
-use mathlib.Core.Bool.{Bool, true, false, cond, _&&_}
+use mathlib.Core.Bool.{Bool, true, false, cond, not, _&&_, _||_}
 use mathlib.Core.List.{List}
 use Prim.Native.Nat.{ℕ, zero, suc, _-_, _≤_, _<_}
 use native.Mathlib.Omega.{arith}
@@ -10,7 +10,7 @@ use lib.ListN.{length}
 use lib.Dec.{eqb, leb}
 use borrow.Author.Tests.{eqb-true, eqb-false, ne-eqb, le-leb, lt-leb, leb-true, leb-false}
 use Rattle.limits.specs.Limits.{largestTorrent, maxLevels}
-use Rattle.numbers.specs.Numbers.{torrentTooLarge, notStrict, nestedTooDeeply, wrongTree, sameRoot, layersAmiss, layerDiffers, noSuchFile}
+use Rattle.numbers.specs.Numbers.{torrentTooLarge, notStrict, nestedTooDeeply, wrongTree, twoLengths, layersAmiss, layerDiffers, noSuchPart, halvesDiffer}
 use Rattle.sha256.specs.Sha256.{sha256}
 use Rattle.tree.specs.Geometry.{isPieceLength}
 use Rattle.bencode.specs.Grammar.{dictionary, Entries, encode, Valid}
@@ -20,8 +20,10 @@ use Rattle.bencode.specs.Strict.{Encoded, TooDeepFirst, strictness}
 use Rattle.bencode.specs.StrictLaws.{taken, taken-only, deep-first, deep-only, one-of-three, otherwise, otherwise-only}
 use Rattle.meaning.specs.Keys.{keyMetaVersion}
 use Rattle.meaning.specs.Torrent.{File, isNumber, infoOf, treeOf, hasKeys, treeRight, filesOf, lengthsAgree, layersFit, noOthers, layersGiveRoots, plenOf, layersOf, valueNumber}
-use Rattle.meaning.specs.AmissLaws.{value-ranged}
 use Rattle.meaning.specs.FilesLaws.{AllHold, files-hold}
+use Rattle.halves.specs.Decoded.{torrentIn, torrent-in}
+use Rattle.halves.specs.V1Half.{isHybrid, halvesFit, withHalves, torrentNumber}
+use Rattle.halves.specs.HalvesLaws.{torrent-ranged}
 use Rattle.metainfo.specs.Metainfo.{bytesIn, noKeys, keysOf, metainfoOf}
 use Rattle.metainfo.specs.declared.Keys.{Keys}
 use Rattle.filetree.specs.Tree.{Listed, Files, right, listed, filesIn}
@@ -31,7 +33,7 @@ use Rattle.joined.specs.Alike.{all-alike}
 use Rattle.joined.specs.LayersMeaning.{layers-number}
 use Rattle.joined.specs.KeysLaws.{KeysAt, keys-number, keys-point, none-exactly}
 use Rattle.joined.specs.StrictTorrentLaws.{strict-keys, keys-first, tree-next, torrent-tree, torrent-files}
-use Rattle.torrent.specs.Torrent.{filesNumber, treeNumber, judgedAs, judgedOf, unread, withJudged, checkedOf, noTorrent, readOf, noFileRead, fileRead, noPartRead, pathRead}
+use Rattle.torrent.specs.Torrent.{filesNumber, treeNumber, judgedAs, judgedOf, unread, withJudged, v2CheckedOf, checkedOf, noTorrent, readOf, noFileRead, fileRead, noPartRead, pathRead}
 use Rattle.torrent.specs.Answers.{Says, tooLarge, noEncoding, tooDeep, encodes}
 use Rattle.torrent.specs.declared.read.FileRead.{FileRead}
 use Rattle.torrent.specs.declared.read.PartRead.{PartRead}
@@ -41,14 +43,14 @@ use Rattle.torrent.specs.declared.read.PartRead.{PartRead}
 -- 26 to 28 of the files vs with the layers ls
 abbrev filesValue : ℕ → Entries → List File → ℕ
 filesValue plen ls vs =
-    cond (lengthsAgree vs) (cond (layersFit plen ls vs && noOthers plen vs ls) (cond (layersGiveRoots plen ls vs) 0 layerDiffers) layersAmiss) sameRoot
+    cond (lengthsAgree vs) (cond (layersFit plen ls vs && noOthers plen vs ls) (cond (layersGiveRoots plen ls vs) 0 layerDiffers) layersAmiss) twoLengths
 
 -- 26 to 28 by positions are those of the value
 files-number : (t l : List ℕ) (ls : Entries) → l ≡ encode (dictionary ls) → Valid (dictionary ls) maxLevels → (plen : ℕ) (fs : List Listed) (vs : List File)
     → readFiles t fs ≡ vs → AllHold vs → filesNumber t l plen fs ≡ filesValue plen ls vs
 unfolding filesNumber
 files-number t l ls bytes valid plen fs vs read hold =
-    rw read (ap (λ (n : ℕ). cond (lengthsAgree vs) n sameRoot) (layers-number t l ls bytes valid plen fs vs (rw read at (all-alike t fs)) hold))
+    rw read (ap (λ (n : ℕ). cond (lengthsAgree vs) n twoLengths) (layers-number t l ls bytes valid plen fs vs (rw read at (all-alike t fs)) hold))
 
 -- where keys and tree are right, the value's number is that of its files
 from-files : (es : Entries) → (hasKeys es ≡ true) × (isNumber 2 (lookup keyMetaVersion (infoOf es)) ≡ true) × (isPieceLength (plenOf es) ≡ true)
@@ -61,7 +63,18 @@ judged-number : (k : Keys) (n files long : ℕ) → k .number ≡ 0 → withJudg
 judged-number k zero files long e = e
 judged-number k (suc n) files long e = simp (ne-eqb (suc n) 0 (λ z. omega arith))
 
--- ---- 22 to 28: the number of the encoding of a value is the number of the value
+-- the v1 half makes of what is checked what it makes of its number
+half-number : (s : List ℕ) → checkedOf s .keys .number ≡ withHalves (torrentIn s) (v2CheckedOf s .keys .number)
+unfolding checkedOf
+half-number s = by (eqb (v2CheckedOf s .keys .number) 0) refl (not (isHybrid (torrentIn s)) || halvesFit (torrentIn s))
+  where
+    by : (b : Bool) → eqb (v2CheckedOf s .keys .number) 0 ≡ b → (t : Bool)
+        → cond b (cond t (v2CheckedOf s) (unread halvesDiffer)) (v2CheckedOf s) .keys .number ≡ cond b (cond t 0 halvesDiffer) (v2CheckedOf s .keys .number)
+    by true q true = eqb-true (v2CheckedOf s .keys .number) 0 q
+    by true q false = refl
+    by false q t = refl
+
+-- ---- 22 to 28 and 31: the number of the encoding of a value is the number of the value
 
 module _ (s : List ℕ) (es : Entries) (start : s ≡ encode (dictionary es)) (valid : Valid (dictionary es) maxLevels) where
   -- the parts that `file tree` and `piece layers` are
@@ -92,10 +105,10 @@ module _ (s : List ℕ) (es : Entries) (start : s ≡ encode (dictionary es)) (v
           ∙ ap (λ (p : ℕ). filesValue p (layersOf es) (filesOf es)) (k .plen-is)
           ∙ sym (from-files es (none-exactly s es start valid .0 e) (sym same-tree ∙ q))
 
-  -- a torrent of at most 1 MiB that encodes a valid value gets the number of that value
-  pub number-is-the-values : length s ≤ largestTorrent → checkedOf s .keys .number ≡ valueNumber es
-  unfolding checkedOf judgedOf
-  number-is-the-values small = rw (strict-keys s small (taken s (es, valid, start))) (by-keys (eqb (keysOf s .number) 0) refl)
+  -- a torrent of at most 1 MiB that encodes a valid value gets the number of that value, by the v2 half alone
+  v2-number : length s ≤ largestTorrent → v2CheckedOf s .keys .number ≡ valueNumber es
+  unfolding v2CheckedOf judgedOf
+  v2-number small = rw (strict-keys s small (taken s (es, valid, start))) (by-keys (eqb (keysOf s .number) 0) refl)
     where
       files : Files
       files = filesIn t
@@ -113,12 +126,24 @@ module _ (s : List ℕ) (es : Entries) (start : s ≡ encode (dictionary es)) (v
           judged-number (keysOf s) number (length (listed files)) (layerCount plen (readFiles t (listed files))) z ∙ tree-number z
       by-keys false q = keys-number s es start valid ∙ sym (keys-first es (λ z. eqb-false (keysOf s .number) 0 q (keys-number s es start valid ∙ z)))
 
+  -- and by both
+  pub number-is-the-values : length s ≤ largestTorrent → checkedOf s .keys .number ≡ torrentNumber es
+  number-is-the-values small = half-number s ∙ ap (λ (x : Entries). withHalves x (v2CheckedOf s .keys .number)) (torrent-in s es valid start) ∙ by-value
+    where
+      by-value : withHalves es (v2CheckedOf s .keys .number) ≡ torrentNumber es
+      by-value = unfold torrentNumber in ap (withHalves es) (v2-number small)
+
 -- ---- 19 to 21, and all of them together
 
 -- a refusal by what comes before the tree is the answer
+v2-refused : (s : List ℕ) (n : ℕ) → metainfoOf s ≡ noKeys n → (n ≡ 0 → ⊥) → v2CheckedOf s .keys .number ≡ n
+unfolding v2CheckedOf
+v2-refused s n e h = rw e (rw (ne-eqb n 0 h) refl)
+
 checked-refused : (s : List ℕ) (n : ℕ) → metainfoOf s ≡ noKeys n → (n ≡ 0 → ⊥) → checkedOf s .keys .number ≡ n
-unfolding checkedOf
-checked-refused s n e h = rw e (rw (ne-eqb n 0 h) refl)
+checked-refused s n e h =
+    let v : v2CheckedOf s .keys .number ≡ n = v2-refused s n e h in
+    half-number s ∙ rw v (rw (ne-eqb n 0 h) refl)
 
 -- more than 1 MiB
 large-keys : (s : List ℕ) → largestTorrent < length s → metainfoOf s ≡ noKeys torrentTooLarge
@@ -153,8 +178,8 @@ no-other-number s n (encodes h es v b e) = e ∙ sym (number-is-the-values s es 
 -- ---- 19, 20 and 21 only then
 
 -- no value has one of them
-no-value-has : (es : Entries) (n : ℕ) → 0 < n → n < 22 → valueNumber es ≡ n → ⊥
-no-value-has es n l h q = elim (value-ranged es) [ inl z ↦ omega arith | inr p ↦ (let w = p .0 in omega arith) ]
+no-value-has : (es : Entries) (n : ℕ) → 0 < n → n < 22 → torrentNumber es ≡ n → ⊥
+no-value-has es n l h q = elim (torrent-ranged es) [ inl z ↦ omega arith | inr w ↦ elim w [ inl p ↦ (let w = p .0 in omega arith) | inr z ↦ omega arith ] ]
 
 -- 19 only for more than 1 MiB
 pub large-only : (s : List ℕ) → checkedOf s .keys .number ≡ torrentTooLarge → largestTorrent < length s
@@ -186,34 +211,34 @@ too-deep-only s e = by-case (torrent-number s)
     by-case (tooDeep h d q) = (h, d)
     by-case (encodes h es v b q) = absurd (no-value-has es nestedTooDeeply (omega arith) (omega arith) (sym q ∙ e))
 
--- every other number, 0 among them, is what 01 says of the value that the bytes encode
+-- every other number, 0 among them, is what 01 and 02 say of the value that the bytes encode
 pub value-only : (s : List ℕ) → (checkedOf s .keys .number ≡ 0) ⊎ (22 ≤ checkedOf s .keys .number)
-    → (length s ≤ largestTorrent) × ((es : Entries) × Valid (dictionary es) maxLevels × (s ≡ encode (dictionary es)) × (checkedOf s .keys .number ≡ valueNumber es))
+    → (length s ≤ largestTorrent) × ((es : Entries) × Valid (dictionary es) maxLevels × (s ≡ encode (dictionary es)) × (checkedOf s .keys .number ≡ torrentNumber es))
 value-only s e = by-case (torrent-number s)
   where
     other : (n : ℕ) → checkedOf s .keys .number ≡ n → 0 < n → n < 22 → ⊥
     other n q l h = elim e [ inl z ↦ omega arith | inr z ↦ omega arith ]
 
-    by-case : Says s (checkedOf s .keys .number) → (length s ≤ largestTorrent) × ((es : Entries) × Valid (dictionary es) maxLevels × (s ≡ encode (dictionary es)) × (checkedOf s .keys .number ≡ valueNumber es))
+    by-case : Says s (checkedOf s .keys .number) → (length s ≤ largestTorrent) × ((es : Entries) × Valid (dictionary es) maxLevels × (s ≡ encode (dictionary es)) × (checkedOf s .keys .number ≡ torrentNumber es))
     by-case (tooLarge h q) = absurd (other torrentTooLarge q (omega arith) (omega arith))
     by-case (noEncoding h a b q) = absurd (other notStrict q (omega arith) (omega arith))
     by-case (tooDeep h d q) = absurd (other nestedTooDeeply q (omega arith) (omega arith))
     by-case (encodes h es v b q) = (h, (es, v, b, q))
 
--- ---- none above 28
+-- ---- 29 is not among them
 
-value-below : (es : Entries) → valueNumber es < noSuchFile
-value-below es = elim (value-ranged es) [ inl z ↦ omega arith | inr p ↦ (let w = p .1 in omega arith) ]
+value-other : (es : Entries) → torrentNumber es ≡ noSuchPart → ⊥
+value-other es q = elim (torrent-ranged es) [ inl z ↦ omega arith | inr w ↦ elim w [ inl p ↦ (let w = p .1 in omega arith) | inr z ↦ omega arith ] ]
 
 -- 29 is never the number of the torrent itself
-number-below : (s : List ℕ) → checkedOf s .keys .number < noSuchFile
-number-below s = by-case (torrent-number s)
+number-other : (s : List ℕ) → checkedOf s .keys .number ≡ noSuchPart → ⊥
+number-other s e = by-case (torrent-number s)
   where
-    by-case : Says s (checkedOf s .keys .number) → checkedOf s .keys .number < noSuchFile
+    by-case : Says s (checkedOf s .keys .number) → ⊥
     by-case (tooLarge h q) = omega arith
     by-case (noEncoding h a b q) = omega arith
     by-case (tooDeep h d q) = omega arith
-    by-case (encodes h es v b q) = omega (arith, value-below es)
+    by-case (encodes h es v b q) = value-other es (sym q ∙ e)
 
 -- ---- the same number from every call
 
@@ -231,8 +256,8 @@ read-number s = by-number (eqb (checkedOf s .keys .number) 0) refl
 pub read-says : (s : List ℕ) → Says s (readOf s .number)
 read-says s = rw (read-number s) (torrent-number s)
 
--- 0 is read only from the encoding of a valid dictionary, of at most 1 MiB, of which 01 says 0
-pub read-encodes : (s : List ℕ) → readOf s .number ≡ 0 → (length s ≤ largestTorrent) × ((es : Entries) × Valid (dictionary es) maxLevels × (s ≡ encode (dictionary es)) × (valueNumber es ≡ 0))
+-- 0 is read only from the encoding of a valid dictionary, of at most 1 MiB, of which 01 and 02 say 0
+pub read-encodes : (s : List ℕ) → readOf s .number ≡ 0 → (length s ≤ largestTorrent) × ((es : Entries) × Valid (dictionary es) maxLevels × (s ≡ encode (dictionary es)) × (torrentNumber es ≡ 0))
 read-encodes s e =
     let z = sym (read-number s) ∙ e in
     let v = value-only s (inl z) in
@@ -253,24 +278,22 @@ pub refused-path : (s : List ℕ) (n k : ℕ) → (checkedOf s .keys .number ≡
 unfolding pathRead
 refused-path s n k h = rw (ne-eqb (checkedOf s .keys .number) 0 h) refl
 
--- so 29 for a file is after all of 19 to 28: the torrent itself is read with 0
-pub file-29-after : (s : List ℕ) (n : ℕ) → fileRead s n .number ≡ noSuchFile → readOf s .number ≡ 0
+-- so 29 for a file is after all of 19 to 28 and 31: the torrent itself is read with 0
+pub file-29-after : (s : List ℕ) (n : ℕ) → fileRead s n .number ≡ noSuchPart → readOf s .number ≡ 0
 file-29-after s n e = by-number (eqb (checkedOf s .keys .number) 0) refl
   where
     by-number : (b : Bool) → eqb (checkedOf s .keys .number) 0 ≡ b → readOf s .number ≡ 0
     by-number true q = read-number s ∙ eqb-true (checkedOf s .keys .number) 0 q
     by-number false q =
         let f : fileRead s n .number ≡ checkedOf s .keys .number = ap (λ (z : FileRead). z .number) (refused-file s n (eqb-false (checkedOf s .keys .number) 0 q)) in
-        let w : ⊥ = omega (arith, number-below s) in
-        absurd w
+        absurd (number-other s (sym f ∙ e))
 
 -- and so it is for a path element
-pub path-29-after : (s : List ℕ) (n k : ℕ) → pathRead s n k .number ≡ noSuchFile → readOf s .number ≡ 0
+pub path-29-after : (s : List ℕ) (n k : ℕ) → pathRead s n k .number ≡ noSuchPart → readOf s .number ≡ 0
 path-29-after s n k e = by-number (eqb (checkedOf s .keys .number) 0) refl
   where
     by-number : (b : Bool) → eqb (checkedOf s .keys .number) 0 ≡ b → readOf s .number ≡ 0
     by-number true q = read-number s ∙ eqb-true (checkedOf s .keys .number) 0 q
     by-number false q =
         let f : pathRead s n k .number ≡ checkedOf s .keys .number = ap (λ (z : PartRead). z .number) (refused-path s n k (eqb-false (checkedOf s .keys .number) 0 q)) in
-        let w : ⊥ = omega (arith, number-below s) in
-        absurd w
+        absurd (number-other s (sym f ∙ e))

@@ -12,7 +12,7 @@ use borrow.Author.Tests.{eq-eqb, ne-eqb, lt-ltb, le-ltb}
 use Rattle.octets.specs.Octets.{cut, zeroHash}
 use Rattle.octets.specs.OctetsLaws.{cut-cut, cut-size}
 use Rattle.limits.specs.Limits.{maxLevels}
-use Rattle.numbers.specs.Numbers.{noSuchFile}
+use Rattle.numbers.specs.Numbers.{noSuchPart}
 use Rattle.sha256.specs.Sha256.{sha256}
 use Rattle.tree.specs.Geometry.{hasLayer}
 use Rattle.bencode.specs.Grammar.{colon, string, dictionary, Entries, decimal, encodeString, encode, Valid}
@@ -28,6 +28,7 @@ use Rattle.meaning.specs.Nth.{Nth}
 use Rattle.meaning.specs.NthLaws.{nth-some}
 use Rattle.meaning.specs.Torrent.{File, infoOf, treeOf, filesOf, plenOf, layersOf, valueNumber}
 use Rattle.meaning.specs.AmissLaws.{all-layers}
+use Rattle.halves.specs.HalvesLaws.{zero-below}
 use Rattle.metainfo.specs.Metainfo.{bytesIn, keysOf, metainfoOf}
 use Rattle.metainfo.specs.MetainfoLaws.{metainfo-right}
 use Rattle.metainfo.specs.declared.Keys.{Keys}
@@ -173,9 +174,9 @@ module _ (s : List ℕ) (es : Entries) (start : s ≡ encode (dictionary es)) (v
   pub at-values : KeysAt s es (keysOf s)
   at-values = keys-point s es start valid keys-zero
 
-  -- the value's number is 0
+  -- the value's number by its v2 half is 0
   pub value-zero : valueNumber es ≡ 0
-  value-zero = sym (number-is-the-values s es start valid (metainfo-right s found-zero .small)) ∙ number-zero
+  value-zero = zero-below es (sym (number-is-the-values s es start valid (metainfo-right s found-zero .small)) ∙ number-zero)
 
   -- the parts that `file tree` and `piece layers` are
   abbrev t : List ℕ
@@ -311,12 +312,12 @@ module _ (s : List ℕ) (es : Entries) (start : s ≡ encode (dictionary es)) (v
       rw (file-answer n (p .0), file-answer m (q .0)) (ap (startOf (keysOf s .layers .start)) same, ap sizeOf same)
 
   -- 29 where there is no file n
-  pub no-file : (n : ℕ) → length (filesOf es) ≤ n → fileRead s n ≡ noFileRead noSuchFile
+  pub no-file : (n : ℕ) → length (filesOf es) ≤ n → fileRead s n ≡ noFileRead noSuchPart
   unfolding fileRead
   no-file n h = rw (number-zero, le-ltb n (checkedOf s .files) (omega (arith, count-files))) refl
 
   -- and only there
-  pub no-file-only : (n : ℕ) → fileRead s n .number ≡ noSuchFile → length (filesOf es) ≤ n
+  pub no-file-only : (n : ℕ) → fileRead s n .number ≡ noSuchPart → length (filesOf es) ≤ n
   no-file-only n e = by-count (decLt n (length (filesOf es)))
     where
       by-count : Dec (n < length (filesOf es)) → length (filesOf es) ≤ n
@@ -345,7 +346,7 @@ module _ (s : List ℕ) (es : Entries) (start : s ≡ encode (dictionary es)) (v
       rw (path-answer n k (p .0)) (element-answered v k x at (fileNumber files n) (p .2) (nth-fits t files n fit-files (p .1)))
 
   -- 29 where the path has no element k
-  pub no-element : (n : ℕ) (v : File) → Nth (filesOf es) n v → (k : ℕ) → length (v .path) ≤ k → pathRead s n k ≡ noPartRead noSuchFile
+  pub no-element : (n : ℕ) (v : File) → Nth (filesOf es) n v → (k : ℕ) → length (v .path) ≤ k → pathRead s n k ≡ noPartRead noSuchPart
   no-element n v e k h =
       let p = file-read n v e in
       let f = fileNumber files n in
@@ -353,7 +354,7 @@ module _ (s : List ℕ) (es : Entries) (start : s ≡ encode (dictionary es)) (v
       path-answer n k (p .0) ∙ element-none (keysOf s .tree .start) (f .path) k (omega arith)
 
   -- and only there, if there is a file n
-  pub no-element-only : (n : ℕ) (v : File) → Nth (filesOf es) n v → (k : ℕ) → pathRead s n k .number ≡ noSuchFile → length (v .path) ≤ k
+  pub no-element-only : (n : ℕ) (v : File) → Nth (filesOf es) n v → (k : ℕ) → pathRead s n k .number ≡ noSuchPart → length (v .path) ≤ k
   no-element-only n v at k e = by-count (decLt k (length (v .path)))
     where
       by-count : Dec (k < length (v .path)) → length (v .path) ≤ k
@@ -361,6 +362,6 @@ module _ (s : List ℕ) (es : Entries) (start : s ≡ encode (dictionary es)) (v
       by-count (no h) = omega arith
 
   -- 29 for every element where there is no file n
-  pub no-path : (n k : ℕ) → length (filesOf es) ≤ n → pathRead s n k ≡ noPartRead noSuchFile
+  pub no-path : (n k : ℕ) → length (filesOf es) ≤ n → pathRead s n k ≡ noPartRead noSuchPart
   unfolding pathRead
   no-path n k h = rw (number-zero, le-ltb n (checkedOf s .files) (omega (arith, count-files))) refl

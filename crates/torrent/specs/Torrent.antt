@@ -1,15 +1,18 @@
 -- 01, "The torrent": what is answered of a torrent s, by its parts: t is the part that `file tree` is, l the part that `piece layers`
 -- is. A position that is answered is the part's start and the position in it.
 -- Assumes nothing.
-use mathlib.Core.Bool.{Bool, true, false, cond, _&&_}
+use mathlib.Core.Bool.{cond, not, _&&_, _||_}
 use mathlib.Core.List.{List, [], _∷_}
 use Prim.Native.Nat.{ℕ, zero, suc, _+_, _-_}
 use lib.ListN.{length}
 use lib.Dec.{eqb, ltb}
 use Rattle.octets.specs.Octets.{cut, zeroHash}
-use Rattle.numbers.specs.Numbers.{wrongTree, sameRoot, layersAmiss, noSuchFile}
+use Rattle.numbers.specs.Numbers.{wrongTree, twoLengths, layersAmiss, noSuchPart, halvesDiffer}
 use Rattle.sha256.specs.Sha256.{sha256}
+use Rattle.bencode.specs.Grammar.{Entries}
 use Rattle.meaning.specs.Torrent.{lengthsAgree}
+use Rattle.halves.specs.Decoded.{torrentIn}
+use Rattle.halves.specs.V1Half.{isHybrid, halvesFit}
 use Rattle.metainfo.specs.Metainfo.{bytesIn, noKeys, metainfoOf}
 use Rattle.metainfo.specs.declared.Keys.{Keys}
 use Rattle.filetree.specs.Tree.{Element, Listed, Files, right, listed, filesIn, fileNumber}
@@ -28,7 +31,7 @@ unfoldable pub filesNumber : List ℕ → List ℕ → ℕ → List Listed → �
 filesNumber t l plen fs =
     cond (lengthsAgree (readFiles t fs))
     (cond (keysWide l && eqb (length (layerKeys l)) (layerCount plen (readFiles t fs))) (worst t l plen 0 fs) layersAmiss)
-    sameRoot
+    twoLengths
 
 unfoldable pub treeNumber : List ℕ → List ℕ → ℕ → Files → ℕ
 treeNumber t l plen fs = cond (right fs) (filesNumber t l plen (listed fs)) wrongTree
@@ -41,7 +44,7 @@ judgedAs (suc n) files long = record { number = suc n; files = 0; long = 0 }
 unfoldable pub judgedOf : List ℕ → List ℕ → ℕ → Judged
 judgedOf t l plen = judgedAs (treeNumber t l plen (filesIn t)) (length (listed (filesIn t))) (layerCount plen (readFiles t (listed (filesIn t))))
 
--- ---- 19 to 28
+-- ---- 19 to 28, by the v2 half alone
 
 abbrev pub unread : ℕ → Checked
 unread n = record { keys = noKeys n; files = 0; long = 0 }
@@ -55,8 +58,17 @@ withKeys s k =
     (withJudged k (judgedOf (bytesIn s (k .tree)) (bytesIn s (k .layers)) (k .plen)))
     (unread (k .number))
 
+unfoldable pub v2CheckedOf : List ℕ → Checked
+v2CheckedOf s = withKeys s (metainfoOf s)
+
+-- ---- then 31, by both
+
+-- what the v1 half of a torrent makes of what its v2 half is found to be
+abbrev pub withHalf : Entries → Checked → Checked
+withHalf torrent c = cond (eqb (c .keys .number) 0) (cond (not (isHybrid torrent) || halvesFit torrent) c (unread halvesDiffer)) c
+
 unfoldable pub checkedOf : List ℕ → Checked
-checkedOf s = withKeys s (metainfoOf s)
+checkedOf s = withHalf (torrentIn s) (v2CheckedOf s)
 
 -- ---- the torrent itself
 
@@ -91,13 +103,13 @@ fileAnswer t l base plen f =
       size = sizeOf (layerString l plen (f .size) (cut t (f .root) 32));
     }
 
--- 29 comes after all of 19 to 28
+-- 29 comes after all of 19 to 28 and 31
 abbrev pub fileIn : List ℕ → ℕ → Checked → FileRead
 fileIn s n c =
     cond (eqb (c .keys .number) 0)
     (cond (ltb n (c .files))
     (fileAnswer (bytesIn s (c .keys .tree)) (bytesIn s (c .keys .layers)) (c .keys .layers .start) (c .keys .plen) (fileNumber (listed (filesIn (bytesIn s (c .keys .tree)))) n))
-    (noFileRead noSuchFile))
+    (noFileRead noSuchPart))
     (noFileRead (c .keys .number))
 
 unfoldable pub fileRead : List ℕ → ℕ → FileRead
@@ -110,7 +122,7 @@ noPartRead n = record { number = n; start = 0; size = 0 }
 
 -- t begins at `base`
 unfoldable pub elementIn : ℕ → List Element → ℕ → PartRead
-elementIn base [] k = noPartRead noSuchFile
+elementIn base [] k = noPartRead noSuchPart
 elementIn base (e ∷ es) zero = record { number = 0; start = base + e .start; size = e .end - e .start }
 elementIn base (e ∷ es) (suc k) = elementIn base es k
 
@@ -119,7 +131,7 @@ pathIn s n k c =
     cond (eqb (c .keys .number) 0)
     (cond (ltb n (c .files))
     (elementIn (c .keys .tree .start) (fileNumber (listed (filesIn (bytesIn s (c .keys .tree)))) n .path) k)
-    (noPartRead noSuchFile))
+    (noPartRead noSuchPart))
     (noPartRead (c .keys .number))
 
 unfoldable pub pathRead : List ℕ → ℕ → ℕ → PartRead

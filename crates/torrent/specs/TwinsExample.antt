@@ -20,7 +20,9 @@ use Rattle.bencode.specs.PartsLaws.{entries-length, one-string}
 use Rattle.bencode.specs.Parts.{Lookup, present, absent, lookup}
 use Rattle.bencode.specs.CompleteLaws.{dictionary-length}
 use Rattle.meaning.specs.Nth.{Nth}
-use Rattle.meaning.specs.Torrent.{File, isNumber, infoOf, treeOf, filesOf, plenOf, layersOf, without, hasKeys, elementRight, fileRight, nodeRight, branchRight, nodesRight, treeRight, filesOfNode, filesOfEntries, noOtherLength, lengthsAgree, layerFits, layersFit, someLonger, noOthers, givesRoot, layerBytes, layersGiveRoots, valueNumber}
+use Rattle.meaning.specs.Torrent.{File, isNumber, infoOf, treeOf, filesOf, plenOf, layersOf, without, hasKeys, elementRight, fileRight, nodeRight, branchRight, nodesRight, treeRight, filesOfNode, filesOfEntries, noOtherLength, lengthsAgree, layerFits, layersFit, someLonger, noOthers, givesRoot, layerBytes, layersGiveRoots}
+use Rattle.halves.specs.V1Keys.{keyPieces}
+use Rattle.halves.specs.V1Half.{torrentNumber}
 use Rattle.torrent.specs.Torrent.{readOf, fileRead, pathRead}
 use Rattle.torrent.specs.NumberMeans.{number-is-the-values, read-number}
 use Rattle.torrent.specs.Answers.{FileIs, PartIs}
@@ -128,8 +130,12 @@ module _ (root : List ℕ) where
       each : (path : List ℕ) → givesRoot 16384 (imageIn path) (layerBytes (lookup root layers)) ≡ true
       each path = ap (λ (x : Lookup). givesRoot 16384 (imageIn path) (layerBytes x)) the-key ∙ gives e path
 
-  with-right : length root ≡ 32 → layerRoot layer 0 1 ≡ root → valueNumber withRoot ≡ 0
-  with-right l e = all-pass withRoot keys-right version-right piece-right (tree-right l) lengths-right fit-right others-right (gives-right e)
+  with-pure : lookup keyPieces (infoOf withRoot) ≡ absent
+  unfolding lookup same
+  with-pure = refl
+
+  with-right : length root ≡ 32 → layerRoot layer 0 1 ≡ root → torrentNumber withRoot ≡ 0
+  with-right l e = all-pass withRoot with-pure keys-right version-right piece-right (tree-right l) lengths-right fit-right others-right (gives-right e)
 
 -- ---- its size
 

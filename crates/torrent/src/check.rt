@@ -1,5 +1,6 @@
-// The numbers 19 to 28 of a torrent, the lowest; and where its parts are, if it gets 0. t is the part of the torrent that `file tree`
+// The numbers 19 to 28 and 31 of a torrent, the lowest; and where its parts are, if it gets 0. t is the part of the torrent that `file tree`
 // is, l the part that `piece layers` is.
+use crate::both::halves_fit;
 use filetree::count::Counted;
 use filetree::count::MOST;
 use filetree::count::count_files;
@@ -19,7 +20,7 @@ ghost use Rattle.limits.specs.Limits.{largestTorrent};
 ghost use Rattle.tree.specs.Geometry.{isPieceLength};
 ghost use Rattle.filetree.specs.Count.{mostRoots};
 ghost use Rattle.layers.specs.Layers.{LayersOpen};
-ghost use Rattle.torrent.specs.Torrent.{judgedAs, judgedOf, unread, checkedOf};
+ghost use Rattle.torrent.specs.Torrent.{judgedAs, judgedOf, unread, v2CheckedOf, checkedOf};
 
 // 0 with how many files there are, and how many layers; or 25 to 28.
 pub struct Judged {
@@ -28,7 +29,7 @@ pub struct Judged {
     pub long: usize,
 }
 
-// The keys, with 0 or the number 19 to 28; and the counts, zeros beside a refusal.
+// The keys, with 0 or the number 19 to 28 or 31; and the counts, zeros beside a refusal.
 pub struct Checked {
     pub keys: Keys,
     pub files: usize,
@@ -81,7 +82,7 @@ fn judge_in(t: &[u8], l: &[u8], plen: usize, roots: &mut [u32], room: &mut [u32]
             let full = tally.roots;
             let count = once_each(t, roots, room, full);
             match compare(t, roots, count, room, plen) {
-                Compared::Differ => refused(numbers::SAME_ROOT),
+                Compared::Differ => refused(numbers::TWO_LENGTHS),
                 Compared::Agree { long } => {
                     if index(l, roots, long) {
                         let number = judge_layers(t, l, roots, long, plen);
@@ -104,9 +105,9 @@ fn judge(t: &[u8], l: &[u8], plen: usize) -> Judged
     judge_in(t, l, plen, &mut roots, &mut room)
 }
 
-// 19 to 28 or 0 of any bytes.
-pub fn check(s: &[u8]) -> Checked
-    ensures { λ r. ⌜ r ≡ checkedOf (now (s .entry)) ⌝ }
+// 19 to 28 or 0 of any bytes, by the v2 half alone.
+fn check_v2(s: &[u8]) -> Checked
+    ensures { λ r. ⌜ r ≡ v2CheckedOf (now (s .entry)) ⌝ }
 {
     let keys = read_keys(s);
     let number = keys.number;
@@ -128,4 +129,25 @@ pub fn check(s: &[u8]) -> Checked
         return not_read(answer);
     }
     not_read(number)
+}
+
+// 19 to 28, 31 or 0 of any bytes. What the v2 half is judged with is gone before the halves are held against each other.
+pub fn check(s: &[u8]) -> Checked
+    ensures { λ r. ⌜ r ≡ checkedOf (now (s .entry)) ⌝ }
+{
+    let c = check_v2(s);
+    let number = c.keys.number;
+    let plen = c.keys.plen;
+    let info = c.keys.info.start;
+    let info_end = c.keys.info.end;
+    let tree = c.keys.tree.start;
+    let tree_end = c.keys.tree.end;
+    let files = c.files;
+    if number != 0 {
+        return c;
+    }
+    if halves_fit(&s[info..info_end], &s[tree..tree_end], plen, files) {
+        return c;
+    }
+    not_read(numbers::HALVES_DIFFER)
 }

@@ -14,7 +14,7 @@ ghost use Rattle.filetree.specs.Tree.{filesIn, right, listed, fileNumber};
 ghost use Rattle.torrent.specs.Find.{PathGiven, ElementRead};
 ghost use Rattle.torrent.specs.Torrent.{noTorrent, readOf, noFileRead, fileAnswer, fileRead, noPartRead, elementIn, pathRead};
 
-// 0, the info hash, the piece length and how many files; or 19 to 28 beside zeros.
+// 0, the info hash, the piece length and how many files; or 19 to 28 or 31 beside zeros.
 pub struct Torrent {
     pub number: u32,
     pub hash: [u8; 32],
@@ -22,7 +22,7 @@ pub struct Torrent {
     pub files: usize,
 }
 
-// 0 and a file: its length, its root, how many path elements, and its layer's part; or 19 to 29 beside zeros.
+// 0 and a file: its length, its root, how many path elements, and its layer's part; or 19 to 29 or 31 beside zeros.
 pub struct FileRead {
     pub number: u32,
     pub length: usize,
@@ -32,7 +32,7 @@ pub struct FileRead {
     pub size: usize,
 }
 
-// 0 and a part of the torrent; or 19 to 29 beside zeros.
+// 0 and a part of the torrent; or 19 to 29 or 31 beside zeros.
 pub struct PartRead {
     pub number: u32,
     pub start: usize,
@@ -140,7 +140,7 @@ pub fn read_file(s: &[u8], n: usize) -> FileRead
         if n < files {
             return one_file(&s[tree..tree_end], &s[layers..layers_end], layers, plen, n);
         }
-        return no_file(numbers::NO_SUCH_FILE);
+        return no_file(numbers::NO_SUCH_PART);
     }
     no_file(number)
 }
@@ -159,7 +159,7 @@ fn element_of(path: &[usize], elements: usize, base: usize, k: usize) -> PartRea
             size: end - start,
         };
     }
-    no_part(numbers::NO_SUCH_FILE)
+    no_part(numbers::NO_SUCH_PART)
 }
 
 // Element k of the path of file n of the right tree t, which begins at `base` of the torrent.
@@ -185,7 +185,7 @@ pub fn read_path(s: &[u8], n: usize, k: usize) -> PartRead
         if n < files {
             return one_element(&s[tree..tree_end], tree, n, k);
         }
-        return no_part(numbers::NO_SUCH_FILE);
+        return no_part(numbers::NO_SUCH_PART);
     }
     no_part(number)
 }

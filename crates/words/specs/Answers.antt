@@ -16,7 +16,7 @@ use Rattle.asking.specs.Asking.{noRequest}
 use Rattle.asking.specs.Picking.{noPiece}
 use Rattle.facts.specs.Facts.{noFacts}
 use Rattle.words.specs.Messages.{Rejected}
-use Rattle.words.specs.History.{Send, serve, bitfield, Look, ask, send, Call, take, loadLayer, judgeBlock, judgePiece, clear, reopen, look, Reply, withCount, withHash, withRequest, withPiece, withFacts, replyNumber, save, load, repair, withCounts}
+use Rattle.words.specs.History.{Send, serve, bitfield, Look, ask, send, Call, take, loadLayer, judgeBlock, judgePiece, judgeHybridPiece, clear, reopen, look, Reply, withCount, withHash, withRequest, withPiece, withFacts, replyNumber, save, load, repair, withCounts}
 
 -- with this number the call gets a reject: it is a request, and the number 2, 3 or 12
 abbrev pub SentReject : Send → ℕ → Type 0
@@ -33,6 +33,7 @@ GetsReject (take m b) n = ⊥
 GetsReject (loadLayer l b) n = ⊥
 GetsReject (judgeBlock i d b) n = ⊥
 GetsReject (judgePiece i d b) n = ⊥
+GetsReject (judgeHybridPiece i d v z b o) n = ⊥
 GetsReject (clear i) n = ⊥
 GetsReject (reopen k plen root o) n = ⊥
 GetsReject (load b x) n = ⊥

@@ -16,6 +16,7 @@ use Rattle.marks.specs.Marks.{marksStart, markedAnswer, pieceMarked}
 use Rattle.header.specs.Header.{headerOf}
 use Rattle.messages.specs.Take.{takeAnswer, takeAfter}
 use Rattle.pieces.specs.Pieces.{pieceAnswer, pieceAfter}
+use Rattle.pieces.specs.Hybrid.{hybridAnswer, hybridAfter}
 use Rattle.asking.specs.declared.next.Request.{Request}
 use Rattle.asking.specs.Asking.{nextAnswer}
 use Rattle.asking.specs.Picking.{noPiece, thisPiece, pickAnswer}
@@ -103,12 +104,15 @@ pub data KeepsMarks {s : List ℕ} : (t : List ℕ) → Steps s t → Type 0 whe
       → KeepsMarks (after c t) (next h (call c x))
   relent : {t : List ℕ} {h : Steps s t} (v : List ℕ) (b : Bytes v) (e : SameStore t v) → KeepsMarks t h → KeepsMarks v (next h (lent v b e))
 
--- from s to t n pieces were picked, one after the other and by whatever counts, and each was then judged right; no mark was cleared
+-- from s to t n pieces were picked, one after the other and by whatever counts, and each was then judged right, by the v2 hash or by both of a
+-- hybrid; no mark was cleared
 pub data Fetched (s : List ℕ) : ℕ → List ℕ → Type 0 where
   unpicked : Fetched s 0 s
   between : {n : ℕ} {t u : List ℕ} {h : Steps t u} → Fetched s n t → KeepsMarks u h → Fetched s n u
   judgedRight : {n : ℕ} {t u : List ℕ} {h : Steps t u} (counts : List ℕ) (i : ℕ) (piece : List ℕ) → Bytes piece → Fetched s n t → CountEach t counts
       → pickAnswer t counts ≡ thisPiece i → KeepsMarks u h → pieceAnswer u i piece .number ≡ 0 → Fetched s (suc n) (pieceAfter u i piece)
+  judgedByBoth : {n : ℕ} {t u : List ℕ} {h : Steps t u} (counts : List ℕ) (i : ℕ) (piece v1 : List ℕ) (zeros : ℕ) → Bytes piece → Fetched s n t → CountEach t counts
+      → pickAnswer t counts ≡ thisPiece i → KeepsMarks u h → hybridAnswer u i piece v1 zeros .number ≡ 0 → Fetched s (suc n) (hybridAfter u i piece v1 zeros)
 
 -- s is usable, t has its room, its facts and its marks: they differ in hashes, and behind the store
 pub record SameButHashes (s t : List ℕ) : Type 0 where

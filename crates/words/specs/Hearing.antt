@@ -11,7 +11,7 @@ use Rattle.store.specs.Store.{openAnswer, openAfter}
 use Rattle.messages.specs.Take.{takeAnswer}
 use Rattle.pieces.specs.Pieces.{layerAnswer}
 use Rattle.words.specs.Held.{Holds}
-use Rattle.words.specs.History.{Bytes, Call, take, loadLayer, judgeBlock, judgePiece, clear, reopen, load, repair, look, number, after, Opening, Step, call, lent, Steps, begin, next, Each}
+use Rattle.words.specs.History.{Bytes, Call, take, loadLayer, judgeBlock, judgePiece, judgeHybridPiece, clear, reopen, load, repair, look, number, after, Opening, Step, call, lent, Steps, begin, next, Each}
 
 -- a set of messages, by which bytes are in it
 abbrev pub MessageSet : Type 1
@@ -30,6 +30,7 @@ Heard M (take m b) = M m
 Heard M (loadLayer l b) = ⊥
 Heard M (judgeBlock i d b) = Unit {0}
 Heard M (judgePiece i d b) = Unit {0}
+Heard M (judgeHybridPiece i d v z b o) = Unit {0}
 Heard M (clear i) = Unit {0}
 Heard M (reopen n plen root o) = ⊥
 Heard M (load b x) = ⊥
@@ -92,6 +93,7 @@ Again {s} {t} h (take m b) = Took m t h
 Again {s} {t} h (loadLayer d b) = TookLayer d t h
 Again h (judgeBlock i d b) = Unit {0}
 Again h (judgePiece i d b) = Unit {0}
+Again h (judgeHybridPiece i d v z b o) = Unit {0}
 Again h (clear i) = Unit {0}
 Again h (reopen n plen root o) = ⊥
 Again h (load b x) = ⊥
@@ -104,6 +106,7 @@ noted (take m b) n = cond (eqb n 0) (take m b ∷ []) []
 noted (loadLayer d b) n = cond (eqb n 0) (loadLayer d b ∷ []) []
 noted (judgeBlock i d b) n = []
 noted (judgePiece i d b) n = []
+noted (judgeHybridPiece i d v z b o) n = []
 noted (clear i) n = []
 noted (reopen k plen root o) n = []
 noted (load b x) n = []
@@ -133,6 +136,7 @@ countOf (take m b) s = takeAnswer s m .count
 countOf (loadLayer l b) s = layerAnswer s l .count
 countOf (judgeBlock i d b) s = 0
 countOf (judgePiece i d b) s = 0
+countOf (judgeHybridPiece i d v z b o) s = 0
 countOf (clear i) s = 0
 countOf (reopen n plen root o) s = 0
 countOf (load b x) s = 0

@@ -16,6 +16,7 @@ use Rattle.facts.specs.Facts.{factsAnswer}
 use Rattle.messages.specs.Take.{takeAnswer, takeAfter, rejectAnswer}
 use Rattle.serve.specs.Serve.{serveAnswer, serveAfter}
 use Rattle.pieces.specs.Pieces.{layerAnswer, layerAfter, blockAnswer, blockAfter, pieceAnswer, pieceAfter}
+use Rattle.pieces.specs.Hybrid.{hybridAnswer, hybridAfter}
 use Rattle.asking.specs.declared.next.Request.{Request}
 use Rattle.asking.specs.declared.pick.Choice.{Choice}
 use Rattle.asking.specs.Asking.{nextAnswer}
@@ -71,6 +72,8 @@ pub data Call : Type 0 where
   -- kd_judge_block, kd_judge_piece: a block or a piece and its number
   judgeBlock : (i : ℕ) (block : List ℕ) → Bytes block → Call
   judgePiece : (i : ℕ) (piece : List ℕ) → Bytes piece → Call
+  -- kd_judge_hybrid_piece: a piece and its number, its v1 hash, and how many zeros behind it that hash covers
+  judgeHybridPiece : (i : ℕ) (piece v1 : List ℕ) (zeros : ℕ) → Bytes piece → Octets 20 v1 → Call
   -- kd_clear: a block's number
   clear : (i : ℕ) → Call
   -- kd_open, of bytes that may be a store already: a file's length, a piece length and a pieces root
@@ -123,6 +126,7 @@ answer (take m b) s = withCount (takeAnswer s m)
 answer (loadLayer l b) s = withCount (layerAnswer s l)
 answer (judgeBlock i d b) s = withCount (blockAnswer s i d)
 answer (judgePiece i d b) s = withCount (pieceAnswer s i d)
+answer (judgeHybridPiece i d v z b o) s = withCount (hybridAnswer s i d v z)
 answer (clear i) s = withCount (clearAnswer s i)
 answer (reopen n plen root o) s = withCount (openAnswer s n plen)
 answer (load b x) s = withCount (loadAnswer s b)
@@ -138,6 +142,7 @@ after (take m b) s = takeAfter s m
 after (loadLayer l b) s = layerAfter s l
 after (judgeBlock i d b) s = blockAfter s i d
 after (judgePiece i d b) s = pieceAfter s i d
+after (judgeHybridPiece i d v z b o) s = hybridAfter s i d v z
 after (clear i) s = clearAfter s i
 after (reopen n plen root o) s = openAfter s n plen root
 after (load b x) s = loadAfter s b
@@ -156,6 +161,7 @@ Opening (take m b) = ⊥
 Opening (loadLayer l b) = ⊥
 Opening (judgeBlock i d b) = ⊥
 Opening (judgePiece i d b) = ⊥
+Opening (judgeHybridPiece i d v z b o) = ⊥
 Opening (clear i) = ⊥
 Opening (reopen n plen root o) = Unit {0}
 Opening (load b x) = Unit {0}
@@ -168,6 +174,7 @@ Teaches (take m b) = Unit {0}
 Teaches (loadLayer l b) = Unit {0}
 Teaches (judgeBlock i d b) = ⊥
 Teaches (judgePiece i d b) = ⊥
+Teaches (judgeHybridPiece i d v z b o) = ⊥
 Teaches (clear i) = ⊥
 Teaches (reopen n plen root o) = Unit {0}
 Teaches (load b x) = Unit {0}

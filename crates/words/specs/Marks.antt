@@ -7,15 +7,16 @@ use mathlib.Core.Bool.{true}
 use mathlib.Core.List.{List}
 use Prim.Native.Nat.{ℕ, zero, suc, _+_, _-_, _*_, _/_, _%_, _≤_, _<_}
 use lib.ListN.{length, getD}
-use Rattle.octets.specs.Octets.{cut}
+use Rattle.octets.specs.Octets.{Octets, cut}
 use Rattle.sha256.specs.Sha256.{sha256}
 use Rattle.tree.specs.Geometry.{blockLength}
 use Rattle.store.specs.Store.{usable, fileLength, pieceLength, blocksOf, storeSize}
 use Rattle.marks.specs.Marks.{marksStart}
 use Rattle.pieces.specs.Pieces.{pieceHeight}
+use Rattle.pieces.specs.Hybrid.{V1Agrees}
 use Rattle.words.specs.Held.{Holds}
 use Rattle.words.specs.Pieces.{BlockFormed, PieceFormed, PieceSettles}
-use Rattle.words.specs.History.{Bytes, Ask, held, takeReject, isMarked, nextRequest, pickPiece, theFacts, beginsWith, Send, serve, bitfield, Look, ask, send, Call, take, loadLayer, judgeBlock, judgePiece, clear, reopen, look, number, after, Opening, SameStore, call, lent, Steps, next, save, load, repair, begin}
+use Rattle.words.specs.History.{Bytes, Ask, held, takeReject, isMarked, nextRequest, pickPiece, theFacts, beginsWith, Send, serve, bitfield, Look, ask, send, Call, take, loadLayer, judgeBlock, judgePiece, judgeHybridPiece, clear, reopen, look, number, after, Opening, SameStore, call, lent, Steps, next, save, load, repair, begin}
 
 -- block j is one of the file's, and its first byte lies in piece i
 pub record Covers (s : List ℕ) (i j : ℕ) : Type 0 where
@@ -62,6 +63,7 @@ AboutHashes (take m b) = Unit {0}
 AboutHashes (loadLayer l b) = Unit {0}
 AboutHashes (judgeBlock i d b) = Unit {0}
 AboutHashes (judgePiece i d b) = Unit {0}
+AboutHashes (judgeHybridPiece i d v z b o) = Unit {0}
 AboutHashes (clear i) = ⊥
 AboutHashes (reopen n plen root o) = ⊥
 AboutHashes (load b x) = ⊥
@@ -76,6 +78,7 @@ Judges s j (take m b) = ⊥
 Judges s j (loadLayer l b) = ⊥
 Judges s j (judgeBlock i d b) = i ≡ j
 Judges s j (judgePiece i d b) = Covers s i j
+Judges s j (judgeHybridPiece i d v z b o) = Covers s i j
 Judges s j (clear i) = ⊥
 Judges s j (reopen n plen root o) = ⊥
 Judges s j (load b x) = ⊥
@@ -88,6 +91,7 @@ Clears j (take m b) = ⊥
 Clears j (loadLayer l b) = ⊥
 Clears j (judgeBlock i d b) = ⊥
 Clears j (judgePiece i d b) = ⊥
+Clears j (judgeHybridPiece i d v z b o) = ⊥
 Clears j (clear i) = i ≡ j
 Clears j (reopen n plen root o) = ⊥
 Clears j (load b x) = ⊥
@@ -116,8 +120,11 @@ pub data Uncleared (j : ℕ) {s : List ℕ} : (t : List ℕ) → Steps s t → T
   byLending : {t : List ℕ} {h : Steps s t} (v : List ℕ) (b : Bytes v) (e : SameStore t v) → Uncleared j t h → Uncleared j v (next h (lent v b e))
 
 -- the bytes that a call was given are right for block j in the store t: a block has the block's length, and its SHA-256 is the hash that
--- kd_held gives for leaf j; a piece that covers it has the piece's length, and what its blocks make is the hash that kd_held gives for its node
+-- kd_held gives for leaf j; a piece that covers it has the piece's length, and what its blocks make is the hash that kd_held gives for its node;
+-- and of a hybrid's piece, judged by both halves, the v1 half agrees too
 pub data RightFor (t : List ℕ) (j : ℕ) : Call → Type 0 where
   asBlock : (block : List ℕ) (b : Bytes block) → BlockFormed t j block → Holds t 0 j (sha256 block) → RightFor t j (judgeBlock j block b)
   inPiece : (i : ℕ) (piece : List ℕ) (b : Bytes piece) → Covers t i j → PieceFormed t i piece → (w : List ℕ) → Holds t (pieceHeight t) i w
       → PieceSettles t i piece (pieceHeight t) i w → RightFor t j (judgePiece i piece b)
+  inHybridPiece : (i : ℕ) (piece v1 : List ℕ) (zeros : ℕ) (b : Bytes piece) (o : Octets 20 v1) → RightFor t j (judgePiece i piece b) → V1Agrees t piece v1 zeros
+      → RightFor t j (judgeHybridPiece i piece v1 zeros b o)

@@ -11,6 +11,7 @@ use host_tests::random::Random;
 use host_tests::shapes;
 use reference::ids::{HAVE, PIECE as PIECE_ID};
 use reference::limits::{BLOCK, LONGEST_FILE, RECORD};
+use reference::sha1::{sha1, Sha1};
 use reference::sha256::{pair, sha256, Hash};
 use reference::stream::{Heard, Stream};
 use reference::torrent::{contents, contents_by};
@@ -41,6 +42,7 @@ pub fn all() -> Vec<Job> {
         one_by_one("sha-1MiB", "kd_sha256", "", 1 << 20, || hashing(1 << 20)).not_counted(),
         one_by_one("sha-64KiB", "kd_sha256", "0.78", 65536, || hashing(65536)),
         one_by_one("sha-16KiB", "kd_sha256", "", 16384, || hashing(16384)).not_counted(),
+        job("sha1-64KiB", "kd_sha1", "0.80", 65536, || hashing_for_v1(65536)).plain_alone(),
         job("take", "kd_take", "0.50", ONE_GIB.reply(), || taking(ONE_GIB)),
         job("take-again", "kd_take", "", ONE_GIB.reply(), taking_again),
         job("serve", "kd_serve", "1.5", ONE_GIB.reply(), || serving(ONE_GIB)),
@@ -49,6 +51,7 @@ pub fn all() -> Vec<Job> {
         in_library("open-16GiB", "none", "kd_open", "", largest_store(), opening),
         in_library("layer-16GiB", "one-by-one", "kd_load_layer", "", 32 * LONGEST_LAYER, loading_longest),
         job("piece-1MiB", "kd_judge_piece", "0.36", PIECE as usize, judging),
+        job("hybrid-piece-1MiB", "kd_judge_hybrid_piece", "0.75", PIECE as usize, judging_both).plain_alone(),
         job("load-layer", "kd_load_layer", "0.70", 32 * PIECES, loading),
         job("history-256KiB", "kd_history_more", "0.40", LOGGED, logging_in_rust),
         job("next-last-leaf", "kd_next_request", "", 1 << 20, asking::last_leaf).plain_alone(),
@@ -124,7 +127,8 @@ fn in_library(
 }
 
 /// The ratios asked of reading a torrent.
-const ASKED: [(&str, &str); 3] = [(shapes::ORDINARY, "3.0"), ("one-layer", "0.36"), ("many-layers", "1.8")];
+const ASKED: [(&str, &str); 4] =
+    [(shapes::ORDINARY, "3.0"), ("one-layer", "0.36"), ("many-layers", "1.8"), (shapes::HYBRID, "1.8")];
 
 /// A job on a torrent of one shape.
 fn on_torrent(shape: &shapes::Shape, entry_point: &'static str, ready: fn(Vec<u8>, u32) -> Vec<Box<dyn Work>>) -> Job {
@@ -185,6 +189,15 @@ fn hashing(size: usize) -> Vec<Box<dyn Work>> {
         |hash: Sha256| work((hash, bytes(size)), |_| (), |(hash, data)| _ = black_box(hash(black_box(data))));
     let by_library: Sha256 = |data| boundary::sha256(data).hash.bytes;
     ONE_BY_ONE.into_iter().chain([by_library]).map(of_version).collect()
+}
+
+/// SHA-1, as the v1 half of a hybrid has it.
+fn hashing_for_v1(size: usize) -> Vec<Box<dyn Work>> {
+    let of_version = |hash: fn(&[u8]) -> Sha1| {
+        work((hash, bytes(size)), |_| (), |(hash, data)| _ = black_box(hash(black_box(data))))
+    };
+    let by_library: fn(&[u8]) -> Sha1 = |data| boundary::sha1(data).hash.bytes;
+    [sha1, by_library].map(of_version).into()
 }
 
 /// SHA-256 in bursts of 16 KiB, against the same bytes at once.
@@ -496,12 +509,17 @@ fn serving(size: Size) -> Vec<Box<dyn Work>> {
     in_rust.into_iter().chain([in_library]).collect()
 }
 
-/// Judging the piece that the run begins with, its leaves and its node held.
-fn judging() -> Vec<Box<dyn Work>> {
+/// A piece, and a scene whose run begins with its leaves.
+fn piece_in_scene() -> (Vec<u8>, Scene) {
     let piece = bytes(PIECE as usize);
     let mut leaves: Vec<Hash> = piece.chunks(16384).map(sha256).collect();
     leaves.resize(ONE_GIB.run as usize, [1; 32]);
-    let scene = Scene::new(ONE_GIB, leaves);
+    (piece, Scene::new(ONE_GIB, leaves))
+}
+
+/// Judging the piece that the run begins with, its leaves and its node held.
+fn judging() -> Vec<Box<dyn Work>> {
+    let (piece, scene) = piece_in_scene();
     let in_rust = IN_RUST.map(|hasher| {
         let state = InRust::told(&scene, hasher, piece.clone());
         work(state, |_| (), |state| assert!(state.judge()))
@@ -509,6 +527,27 @@ fn judging() -> Vec<Box<dyn Work>> {
     let state = InLibrary::new(&scene, scene.told(), piece.clone());
     let in_library = work(state, |_| (), |state| assert_eq!(state.judge().number, 0));
     in_rust.into_iter().chain([in_library]).collect()
+}
+
+/// The same by both halves of a hybrid: for plain Rust its v2 half and SHA-1 one after the other.
+fn judging_both() -> Vec<Box<dyn Work>> {
+    let (piece, scene) = piece_in_scene();
+    let v1 = sha1(&piece);
+    let in_rust = work(
+        (InRust::told(&scene, IN_RUST[0], piece.clone()), v1),
+        |_| (),
+        |(state, v1)| assert!(state.judge() && black_box(sha1(black_box(&state.message))) == *v1),
+    );
+    let in_library = work(
+        (InLibrary::new(&scene, scene.told(), piece), v1),
+        |_| (),
+        |(state, v1)| {
+            let (number, v1) = (ONE_GIB.piece_number(), boundary::Sha1Hash { bytes: *v1 });
+            let judged = boundary::judge_hybrid_piece(&mut state.store, number, black_box(&state.message), v1, 0);
+            assert_eq!(black_box(judged).number, 0)
+        },
+    );
+    vec![in_rust, in_library]
 }
 
 const LONGEST_LAYER: usize = (LONGEST_FILE / BLOCK) as usize;

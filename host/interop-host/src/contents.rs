@@ -1,7 +1,7 @@
 //! What the host has from a torrent, read by the library.
 
 use kombudeva::limits::BLOCK;
-use kombudeva::{first_piece, store_size, Hash, Store, Torrent};
+use kombudeva::{first_piece, store_size, Hash, Store, Torrent, V1Pieces};
 use std::path::PathBuf;
 
 /// A store in memory that it borrows.
@@ -19,6 +19,8 @@ pub struct File<'a> {
     pub root: Hash,
     pub path: PathBuf,
     pub layer: &'a [u8],
+    /// Of a hybrid: the v1 hashes of its pieces.
+    pub v1: Option<V1Pieces<'a>>,
     /// The number of its first piece: pieces are counted file by file in tree order.
     pub first_piece: u64,
     pub piece_length: u64,
@@ -71,7 +73,8 @@ fn files<'a>(torrent: &Torrent<'a>) -> Vec<File<'a>> {
         let elements = (0..file.elements).map(|element| torrent.path(number, element).expect("an element"));
         let path = elements.map(text).collect();
         let first_piece = first_piece(&list, piece_length, number).expect("a file of the list");
-        File { length: file.length, root: file.root, path, layer: file.layer, first_piece, piece_length }
+        let v1 = torrent.v1_pieces(number).ok();
+        File { length: file.length, root: file.root, path, layer: file.layer, v1, first_piece, piece_length }
     };
     (0..torrent.files).map(file).collect()
 }

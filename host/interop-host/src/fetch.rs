@@ -269,7 +269,7 @@ fn judge_pieces(peer: &mut Peer, file: &File, memory: &mut Vec<u8>, counts: &mut
         let start = piece * file.piece_length;
         let size = file.piece_length.min(file.length - start);
         let mut bytes = fetch_piece(peer, (file.first_piece + piece) as u32, size)?;
-        assert_eq!(store.judge_piece(piece, &bytes), Ok(()));
+        assert_eq!(judge(&mut store, file, piece, &bytes), Ok(()));
         for (offset, block) in bytes.chunks_mut(BLOCK as usize).enumerate() {
             let number = start / BLOCK + offset as u64;
             if store.judge_block(number, block).is_ok() {
@@ -278,13 +278,21 @@ fn judge_pieces(peer: &mut Peer, file: &File, memory: &mut Vec<u8>, counts: &mut
             block[0] ^= 1;
             assert_eq!(store.judge_block(number, block), Err(Refusal::Differs), "a damaged block is not believed");
         }
-        assert_eq!(store.judge_piece(piece, &bytes), Err(Refusal::Differs), "nor a piece of them");
+        assert_eq!(judge(&mut store, file, piece, &bytes), Err(Refusal::Differs), "nor a piece of them");
         if piece == file.pieces() / 2 {
             restart(memory, counts);
         }
     }
     all_marked(file, &Store::over(&memory));
     Ok(())
+}
+
+/// By both halves, where the torrent is a hybrid.
+fn judge(store: &mut Store<&mut Vec<u8>>, file: &File, piece: u64, bytes: &[u8]) -> Result<(), Refusal> {
+    match &file.v1 {
+        Some(v1) => store.judge_hybrid_piece(piece, bytes, v1.piece(piece).expect("a piece of the file")),
+        None => store.judge_piece(piece, bytes),
+    }
 }
 
 /// Every block is marked, and the bitfield is all ones.

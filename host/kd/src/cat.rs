@@ -26,7 +26,7 @@ pub fn run(args: &Args) -> Result<Verdict, Failure> {
     if args.torrent == Path::new("-") && args.place == Path::new("-") {
         return Err(Failure::usage("torrent and file can't both be standard input"));
     }
-    let meta = Meta::read(&args.torrent)?;
+    let meta = Meta::to_judge(&args.torrent)?;
     let Some(file) = meta.files.iter().find(|file| file.joined() == args.file.as_bytes()) else {
         let name = shown(args.file.as_bytes());
         return Err(Failure::usage(format!("the torrent has no file {name}; kd show lists what it has")));

@@ -16,7 +16,7 @@ pub struct Args {
 }
 
 /// Each refusal, and what it means in a day's work.
-const MEANINGS: [(Refusal, &str); 25] = [
+const MEANINGS: [(Refusal, &str); 26] = [
     (NoMessage, "Too short for a hash message, or another kind of message."),
     (OtherRoot, "The message names another pieces root than this file's."),
     (RuleBroken, "The file has no such block, piece or position, or a message asks for a run that no tree has."),
@@ -41,6 +41,7 @@ const MEANINGS: [(Refusal, &str); 25] = [
     (LayerDiffers, "A piece layer that does not hash to its file's root: damaged or forged."),
     (NoSuchPart, "The torrent has no file, path element or piece of that number, or no name."),
     (FrameTooLong, "A neighbour announced a message above 300,000 bytes. Nothing more is heard from it."),
+    (HalvesDiffer, "A hybrid that says one thing to v1 clients and another to v2 clients, or whose v1 half is malformed."),
     (NotSaved, "No saved store, or a damaged one: cut short, or a hash does not chain to the root. kd store repair may keep a part."),
 ];
 

@@ -3,10 +3,12 @@
 //! The library has read the torrent, so the file's piece layer gives its root. A whole piece's hash there is the root of the tree over
 //! its blocks alone: a store opened with it judges that piece. The last piece may be short and is filled up to a whole one in the file's
 //! tree: it is judged beside the piece before it, as the second of a file of two pieces.
+//!
+//! A piece of a hybrid is judged by both halves.
 
 use crate::torrent::Entry;
 use kombudeva::limits::HASH;
-use kombudeva::{sha256, store_size, Refusal, Store};
+use kombudeva::{sha256, store_size, Refusal, Store, V1Piece};
 
 pub struct Pieces<'a> {
     file: &'a Entry,
@@ -29,19 +31,27 @@ impl<'a> Pieces<'a> {
 
     pub fn judge(&mut self, piece: u64, data: &[u8]) -> Result<(), Refusal> {
         let (at, size) = self.place(piece);
-        let Entry { length, root, layer, .. } = self.file;
+        let Entry { length, root, layer, v1, .. } = self.file;
+        let v1 = v1.as_ref().and_then(|v1| v1.piece(piece));
         if layer.is_empty() {
-            return Store::open(&mut self.memory[..], *length, self.piece_length, *root)?.judge_piece(0, data);
+            return judged(Store::open(&mut self.memory[..], *length, self.piece_length, *root)?, 0, data, v1);
         }
         let hashes = &layer[piece as usize * HASH..];
         if size == self.piece_length {
             let root = hashes[..HASH].try_into().expect("a hash");
-            return Store::open(&mut self.memory[..], size, self.piece_length, root)?.judge_piece(0, data);
+            return judged(Store::open(&mut self.memory[..], size, self.piece_length, root)?, 0, data, v1);
         }
         let pair = &layer[layer.len() - 2 * HASH..];
         let both = length - (at - self.piece_length);
         let mut store = Store::open(&mut self.memory[..], both, self.piece_length, sha256(pair)?)?;
         store.load_layer(pair)?;
-        store.judge_piece(1, data)
+        judged(store, 1, data, v1)
+    }
+}
+
+fn judged(mut store: Store<&mut [u8]>, piece: u64, data: &[u8], v1: Option<V1Piece>) -> Result<(), Refusal> {
+    match v1 {
+        Some(v1) => store.judge_hybrid_piece(piece, data, v1),
+        None => store.judge_piece(piece, data),
     }
 }

@@ -8,7 +8,7 @@ use crate::torrent::{Entry, Meta};
 use serde::Serialize;
 use std::path::PathBuf;
 
-/// Show what a v2 torrent says: name, info hash, piece length, files
+/// Show what a v2 or hybrid torrent says: name, info hashes, piece length, files
 #[derive(clap::Args)]
 pub struct Args {
     /// Whole hashes
@@ -41,6 +41,9 @@ fn page(meta: &Meta, long: bool) -> Result<(), Failure> {
         out::line(&format!("name          {}", shown(name)))?;
     }
     out::line(&format!("info hash     {}", hex(&meta.info_hash)))?;
+    if let Some(v1) = &meta.v1_info_hash {
+        out::line(&format!("hybrid        v1 info hash {}", hex(v1)))?;
+    }
     out::line(&format!("piece length  {}", size(meta.piece_length)))?;
     let (files, pieces) = (meta.files.len() as u64, count(meta.pieces(), "piece"));
     out::line(&format!("files         {files}, {} in {pieces}\n", size(meta.length())))?;
@@ -64,8 +67,9 @@ fn tree(files: &[Entry], depth: usize, digits: usize) -> Result<(), Failure> {
 }
 
 fn magnet(meta: &Meta) -> String {
+    let v1 = meta.v1_info_hash.map_or(String::new(), |v1| format!("xt=urn:btih:{}&", hex(&v1)));
     // 12 20: a SHA-256 of 32 bytes, as multihashes have it.
-    let link = format!("magnet:?xt=urn:btmh:1220{}", hex(&meta.info_hash));
+    let link = format!("magnet:?{v1}xt=urn:btmh:1220{}", hex(&meta.info_hash));
     match &meta.name {
         Some(name) => format!("{link}&dn={}", percent(name)),
         None => link,
@@ -82,6 +86,9 @@ struct Object {
     #[serde(flatten)]
     name: Option<Name>,
     info_hash: String,
+    hybrid: bool,
+    #[serde(skip_serializing_if = "Option::is_none")]
+    v1_info_hash: Option<String>,
     magnet: String,
     piece_length: u64,
     bytes: u64,
@@ -109,6 +116,8 @@ impl Object {
         Object {
             name: meta.name.as_deref().map(Name::new),
             info_hash: hex(&meta.info_hash),
+            hybrid: meta.v1_info_hash.is_some(),
+            v1_info_hash: meta.v1_info_hash.map(|v1| hex(&v1)),
             magnet: magnet(meta),
             piece_length: meta.piece_length,
             bytes: meta.length(),

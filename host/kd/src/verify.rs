@@ -35,7 +35,7 @@ pub struct Args {
 }
 
 pub fn run(args: &Args, colour: Colour) -> Result<Verdict, Failure> {
-    let meta = Meta::read(&args.torrent)?;
+    let meta = Meta::to_judge(&args.torrent)?;
     let paths = paths(&meta, &args.place)?;
     let progress = Progress::new("verify", Some(meta.length()), args.quiet);
     let report = Report::new(&meta, args.quiet, args.json, colour, &progress);

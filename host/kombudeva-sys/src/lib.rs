@@ -7,8 +7,8 @@
 pub mod raw;
 
 pub use raw::{
-    Answer, Choice, Facts, File, Hash, Hashed, Hashing, HashingAnswer, Heard, History, HistoryAnswer, HistoryEnd, Part,
-    Placed, Repaired, Request, Stream, Torrent, NODES,
+    Answer, Choice, Facts, File, Hash, Hashed, Hashing, HashingAnswer, Heard, History, HistoryAnswer, HistoryEnd,
+    Hybrid, Part, Placed, Repaired, Request, Sha1Answer, Sha1Hash, Stream, Torrent, V1Part, V1Piece, NODES,
 };
 
 pub fn version() -> u32 {
@@ -17,6 +17,10 @@ pub fn version() -> u32 {
 
 pub fn sha256(data: &[u8]) -> Hashed {
     unsafe { raw::kd_sha256(data.as_ptr(), data.len()) }
+}
+
+pub fn sha1(data: &[u8]) -> Sha1Answer {
+    unsafe { raw::kd_sha1(data.as_ptr(), data.len()) }
 }
 
 pub fn hashing_begin() -> Hashing {
@@ -83,6 +87,10 @@ pub fn judge_piece(store: &mut [u8], piece: u64, data: &[u8]) -> Answer {
     unsafe { raw::kd_judge_piece(store.as_mut_ptr(), store.len(), piece, data.as_ptr(), data.len()) }
 }
 
+pub fn judge_hybrid_piece(store: &mut [u8], piece: u64, data: &[u8], v1: Sha1Hash, zeros: u64) -> Answer {
+    unsafe { raw::kd_judge_hybrid_piece(store.as_mut_ptr(), store.len(), piece, data.as_ptr(), data.len(), v1, zeros) }
+}
+
 pub fn marked(store: &[u8], block: u64) -> Answer {
     unsafe { raw::kd_marked(store.as_ptr(), store.len(), block) }
 }
@@ -141,6 +149,18 @@ pub fn torrent_info(torrent: &[u8]) -> Part {
 
 pub fn torrent_name(torrent: &[u8]) -> Part {
     unsafe { raw::kd_torrent_name(torrent.as_ptr(), torrent.len()) }
+}
+
+pub fn torrent_hybrid(torrent: &[u8]) -> Hybrid {
+    unsafe { raw::kd_torrent_hybrid(torrent.as_ptr(), torrent.len()) }
+}
+
+pub fn torrent_v1_piece(torrent: &[u8], file: u64, piece: u64) -> V1Piece {
+    unsafe { raw::kd_torrent_v1_piece(torrent.as_ptr(), torrent.len(), file, piece) }
+}
+
+pub fn torrent_v1_pieces(torrent: &[u8], file: u64) -> V1Part {
+    unsafe { raw::kd_torrent_v1_pieces(torrent.as_ptr(), torrent.len(), file) }
 }
 
 pub fn place(list: &[u8], piece_length: u64, piece: u64) -> Placed {

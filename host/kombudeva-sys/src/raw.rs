@@ -24,6 +24,19 @@ pub struct Hashed {
 
 #[repr(C)]
 #[derive(Clone, Copy, Debug, PartialEq, Eq)]
+pub struct Sha1Hash {
+    pub bytes: [u8; 20],
+}
+
+#[repr(C)]
+#[derive(Clone, Copy, Debug, PartialEq, Eq)]
+pub struct Sha1Answer {
+    pub number: u32,
+    pub hash: Sha1Hash,
+}
+
+#[repr(C)]
+#[derive(Clone, Copy, Debug, PartialEq, Eq)]
 pub struct Torrent {
     pub number: u32,
     pub info_hash: Hash,
@@ -48,6 +61,31 @@ pub struct Part {
     pub number: u32,
     pub start: u64,
     pub size: u64,
+}
+
+#[repr(C)]
+#[derive(Clone, Copy, Debug, PartialEq, Eq)]
+pub struct Hybrid {
+    pub number: u32,
+    pub hybrid: u32,
+    pub info_hash: Sha1Hash,
+}
+
+#[repr(C)]
+#[derive(Clone, Copy, Debug, PartialEq, Eq)]
+pub struct V1Piece {
+    pub number: u32,
+    pub hash: Sha1Hash,
+    pub zeros: u64,
+}
+
+#[repr(C)]
+#[derive(Clone, Copy, Debug, PartialEq, Eq)]
+pub struct V1Part {
+    pub number: u32,
+    pub start: u64,
+    pub size: u64,
+    pub zeros: u64,
 }
 
 #[repr(C)]
@@ -163,11 +201,17 @@ const _: () = {
     assert!(size_of::<Hash>() == 32);
     assert!(size_of::<Answer>() == 16 && offset_of!(Answer, count) == 8);
     assert!(size_of::<Hashed>() == 36 && offset_of!(Hashed, hash) == 4);
+    assert!(size_of::<Sha1Hash>() == 20);
+    assert!(size_of::<Sha1Answer>() == 24 && offset_of!(Sha1Answer, hash) == 4);
     assert!(size_of::<Torrent>() == 56 && offset_of!(Torrent, info_hash) == 4);
     assert!(offset_of!(Torrent, piece_length) == 40 && offset_of!(Torrent, files) == 48);
     assert!(size_of::<File>() == 72 && offset_of!(File, length) == 8 && offset_of!(File, root) == 16);
     assert!(offset_of!(File, elements) == 48 && offset_of!(File, layer_start) == 56);
     assert!(offset_of!(File, layer_size) == 64);
+    assert!(size_of::<Hybrid>() == 28 && offset_of!(Hybrid, hybrid) == 4 && offset_of!(Hybrid, info_hash) == 8);
+    assert!(size_of::<V1Piece>() == 32 && offset_of!(V1Piece, hash) == 4 && offset_of!(V1Piece, zeros) == 24);
+    assert!(size_of::<V1Part>() == 32 && offset_of!(V1Part, start) == 8);
+    assert!(offset_of!(V1Part, size) == 16 && offset_of!(V1Part, zeros) == 24);
     assert!(size_of::<Hashing>() == 112 && offset_of!(Hashing, tail) == 32);
     assert!(offset_of!(Hashing, tail_size) == 96 && offset_of!(Hashing, total) == 104);
     assert!(size_of::<HashingAnswer>() == 120 && offset_of!(HashingAnswer, state) == 8);
@@ -194,6 +238,7 @@ const _: () = {
 extern "C" {
     pub fn kd_version() -> u32;
     pub fn kd_sha256(data: *const u8, size: usize) -> Hashed;
+    pub fn kd_sha1(data: *const u8, size: usize) -> Sha1Answer;
     pub fn kd_hashing_begin() -> Hashing;
     pub fn kd_hashing_more(state: Hashing, data: *const u8, size: usize) -> HashingAnswer;
     pub fn kd_hashing_end(state: Hashing) -> Hashed;
@@ -223,6 +268,15 @@ extern "C" {
     pub fn kd_load_layer(store: *mut u8, size: usize, layer: *const u8, layer_size: usize) -> Answer;
     pub fn kd_judge_block(store: *mut u8, size: usize, block: u64, data: *const u8, data_size: usize) -> Answer;
     pub fn kd_judge_piece(store: *mut u8, size: usize, piece: u64, data: *const u8, data_size: usize) -> Answer;
+    pub fn kd_judge_hybrid_piece(
+        store: *mut u8,
+        size: usize,
+        piece: u64,
+        data: *const u8,
+        data_size: usize,
+        v1: Sha1Hash,
+        zeros: u64,
+    ) -> Answer;
     pub fn kd_marked(store: *const u8, size: usize, block: u64) -> Answer;
     pub fn kd_clear(store: *mut u8, size: usize, block: u64) -> Answer;
     pub fn kd_bitfield(store: *const u8, size: usize, out: *mut u8, out_size: usize) -> Answer;
@@ -245,6 +299,9 @@ extern "C" {
     pub fn kd_torrent_list(torrent: *const u8, size: usize, out: *mut u8, out_size: usize) -> Answer;
     pub fn kd_torrent_info(torrent: *const u8, size: usize) -> Part;
     pub fn kd_torrent_name(torrent: *const u8, size: usize) -> Part;
+    pub fn kd_torrent_hybrid(torrent: *const u8, size: usize) -> Hybrid;
+    pub fn kd_torrent_v1_piece(torrent: *const u8, size: usize, file: u64, piece: u64) -> V1Piece;
+    pub fn kd_torrent_v1_pieces(torrent: *const u8, size: usize, file: u64) -> V1Part;
     pub fn kd_place(list: *const u8, list_size: usize, piece_length: u64, piece: u64) -> Placed;
     pub fn kd_first_piece(list: *const u8, list_size: usize, piece_length: u64, file: u64) -> Answer;
     pub fn kd_torrent_write(

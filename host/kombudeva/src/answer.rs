@@ -14,15 +14,16 @@ pub enum Refusal {
     /// 2: another pieces root
     OtherRoot,
     /// 3: a header rule fails; no such block, piece or position; a layer for a file not longer than the piece length, or
-    /// another than 0 and the piece layer
+    /// another than 0 and the piece layer; of a v1 hash, a torrent that is no hybrid
     RuleBroken,
-    /// 4: the byte count isn't what header or file fixes, or is too long for SHA-256; not one count for each piece
+    /// 4: the byte count isn't what header or file fixes, or is too long for SHA-256 or SHA-1; not one count for each piece; more zeros
+    /// than the piece has room for
     WrongSize,
     /// 5: a padding position with another value
     WrongPadding,
     /// 6: the anchor, leaf, piece node, root or position is not held
     NoAnchor,
-    /// 7: the worked-out value differs from the held anchor, leaf or node
+    /// 7: the worked-out value differs from the held anchor, leaf or node, or from the v1 hash of a hybrid's piece
     Differs,
     /// 8: the anchor agrees, another held position differs
     Conflict,
@@ -58,6 +59,8 @@ pub enum Refusal {
     NoSuchPart,
     /// 30: a frame, or a message to be framed, of more than 300,000 bytes
     FrameTooLong,
+    /// 31: a hybrid whose v1 half is malformed, or doesn't describe the files of its v2 half
+    HalvesDiffer,
     /// 32: bytes that are no saved store
     NotSaved,
 }
@@ -118,6 +121,7 @@ refusals! {
     28 LayerDiffers "a piece layer that does not give its root";
     29 NoSuchPart "no such file, path element, name or piece";
     30 FrameTooLong "a frame that is too long";
+    31 HalvesDiffer "a hybrid whose halves differ";
     32 NotSaved "not a saved store";
 }
 
@@ -157,7 +161,7 @@ mod tests {
 
     #[test]
     fn every_number_of_the_table_comes_back() {
-        for number in (1..=12).chain(19..=30).chain([32]) {
+        for number in (1..=12).chain(19..=32) {
             assert_eq!(answer(number, ()).unwrap_err().number(), number);
         }
         assert_eq!(answer(0, 7), Ok(7));

@@ -52,13 +52,16 @@ pub use answer::Refusal;
 pub use running::{Hashing, History, Logged};
 pub use store::{store_size, Facts, Repaired, Request, Served, Store};
 pub use stream::{frame, Heard, Hearing, Stream};
-pub use torrent::{first_piece, place, File, List, Listed, Placed, Torrent};
+pub use torrent::{first_piece, place, File, List, Listed, Placed, Torrent, V1Piece, V1Pieces};
 pub use writing::TorrentBuilder;
 
 use answer::answer;
 
 /// A SHA-256: 32 bytes in the order in which the standard prints them.
 pub type Hash = [u8; 32];
+
+/// A SHA-1: 20 bytes in the order in which the standard prints them.
+pub type Sha1 = [u8; 20];
 
 /// The version of the library that is linked, as the header's `KD_VERSION_NUMBER`: a million for the first figure, a thousand for the
 /// second, one for the third. It is this crate's own, or they are of different builds.
@@ -84,5 +87,21 @@ pub fn version() -> u32 {
 /// [`Refusal::WrongSize`] above 2^61 - 1 bytes, for which the standard has no hash.
 pub fn sha256(data: &[u8]) -> Result<Hash, Refusal> {
     let given = boundary::sha256(data);
+    answer(given.number, given.hash.bytes)
+}
+
+/// SHA-1 by FIPS 180-4: what the v1 half of a hybrid torrent is hashed with. Different strings with one SHA-1 are known, so that it
+/// alone says little of bytes that somebody chose.
+///
+/// ```
+/// assert_eq!(kombudeva::sha1(b"abc")?[..4], [0xa9, 0x99, 0x3e, 0x36]);
+/// # Ok::<(), kombudeva::Refusal>(())
+/// ```
+///
+/// # Errors
+///
+/// [`Refusal::WrongSize`] above 2^61 - 1 bytes, for which the standard has no hash.
+pub fn sha1(data: &[u8]) -> Result<Sha1, Refusal> {
+    let given = boundary::sha1(data);
     answer(given.number, given.hash.bytes)
 }

@@ -14,6 +14,8 @@ pub const TALLEST_TREE: u64 = 20;
 pub const LONGEST_RUN: u32 = 8192;
 /// The bytes of a hash.
 pub const HASH: usize = 32;
+/// The bytes of a SHA-1.
+pub const SHA1: usize = 20;
 /// The bytes of a hash message without its hashes: a request or a reject has no others.
 pub const HEADER_SIZE: usize = 49;
 /// The bytes of the largest hashes message, so room enough for [`Store::serve`](crate::Store::serve): the longest run and the uncles above it
@@ -33,5 +35,5 @@ pub const WRITE_RECORD: usize = 56;
 pub const LONGEST_FRAME: usize = 300000;
 /// The bytes of the largest save: the longest file, all held, all marked.
 pub const LARGEST_SAVE: usize = 91226121;
-/// The longest string that SHA-256 has a hash for, in bytes: one of 2^64 bits has none.
+/// The longest string that SHA-256 and SHA-1 have a hash for, in bytes: one of 2^64 bits has none.
 pub const LONGEST_HASHED: usize = 2305843009213693951;

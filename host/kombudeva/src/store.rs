@@ -1,7 +1,7 @@
 //! The store, and what is asked of it.
 
 use crate::answer::answer;
-use crate::{Hash, Refusal};
+use crate::{Hash, Refusal, V1Piece};
 
 /// The bytes that a store for a file of this length uses.
 ///
@@ -298,6 +298,21 @@ impl<M: AsRef<[u8]> + AsMut<[u8]>> Store<M> {
     /// [`Conflict`](Refusal::Conflict).
     pub fn judge_piece(&mut self, piece: u64, data: &[u8]) -> Result<(), Refusal> {
         done(boundary::judge_piece(self.memory.as_mut(), piece, data))
+    }
+
+    /// Judges a piece of a hybrid torrent by both halves: as [`Store::judge_piece`], and then by its v1 hash, which covers so many
+    /// zeros behind the data. If this is `Ok`, each of its blocks is marked.
+    ///
+    /// That a torrent is a hybrid the store does not know: [`Store::judge_block`] and [`Store::judge_piece`] judge, and mark, by the
+    /// v2 half alone.
+    ///
+    /// # Errors
+    ///
+    /// As [`Store::judge_piece`]; then [`WrongSize`](Refusal::WrongSize) where data and zeros are more than the piece length, and
+    /// [`Differs`](Refusal::Differs) where the v1 hash is another.
+    pub fn judge_hybrid_piece(&mut self, piece: u64, data: &[u8], v1: V1Piece) -> Result<(), Refusal> {
+        let hash = boundary::Sha1Hash { bytes: v1.hash };
+        done(boundary::judge_hybrid_piece(self.memory.as_mut(), piece, data, hash, v1.zeros))
     }
 
     /// Clears a block's mark, for a host that lost the block. No hash is forgotten.

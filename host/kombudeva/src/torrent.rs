@@ -1,4 +1,4 @@
-//! Reading a v2 torrent.
+//! Reading a v2 torrent, a hybrid one too.
 //!
 //! ```no_run
 //! use kombudeva::Torrent;
@@ -14,8 +14,8 @@
 //! ```
 
 use crate::answer::answer;
-use crate::limits::RECORD;
-use crate::{Hash, Refusal};
+use crate::limits::{RECORD, SHA1};
+use crate::{Hash, Refusal, Sha1};
 
 /// A good torrent, read from bytes that it borrows.
 #[derive(Clone, Copy, Debug, PartialEq, Eq)]
@@ -67,7 +67,8 @@ impl<'a> Torrent<'a> {
     ///
     /// # Errors
     ///
-    /// Numbers 19 to 28, [`TorrentTooLarge`](Refusal::TorrentTooLarge) to [`LayerDiffers`](Refusal::LayerDiffers), as the header says.
+    /// Numbers 19 to 28, [`TorrentTooLarge`](Refusal::TorrentTooLarge) to [`LayerDiffers`](Refusal::LayerDiffers), as the header says;
+    /// then 31, [`HalvesDiffer`](Refusal::HalvesDiffer), for a hybrid whose halves don't fit.
     pub fn read(bytes: &'a [u8]) -> Result<Torrent<'a>, Refusal> {
         let boundary::Torrent { number, info_hash, piece_length, files } = boundary::torrent_read(bytes);
         answer(number, Torrent { bytes, info_hash: info_hash.bytes, piece_length, files })
@@ -114,6 +115,40 @@ impl<'a> Torrent<'a> {
         answer(given.number, self.part(given.start, given.size))
     }
 
+    /// The v1 info hash of a hybrid, SHA-1 of its `info`; `None` if the torrent is no hybrid.
+    ///
+    /// # Errors
+    ///
+    /// None, of bytes that [`Torrent::read`] took.
+    pub fn hybrid(&self) -> Result<Option<Sha1>, Refusal> {
+        let given = boundary::torrent_hybrid(self.bytes);
+        answer(given.number, (given.hybrid == 1).then_some(given.info_hash.bytes))
+    }
+
+    /// The v1 hash of a piece of a file, as [`Store::judge_hybrid_piece`](crate::Store::judge_hybrid_piece) takes it. Each call checks
+    /// the whole torrent anew; [`Torrent::v1_pieces`] has all of a file.
+    ///
+    /// # Errors
+    ///
+    /// In this order: [`NoSuchPart`](Refusal::NoSuchPart) for no such file, [`RuleBroken`](Refusal::RuleBroken) where the torrent is no
+    /// hybrid, or the file has no such piece.
+    pub fn v1_piece(&self, file: u64, piece: u64) -> Result<V1Piece, Refusal> {
+        let given = boundary::torrent_v1_piece(self.bytes, file, piece);
+        answer(given.number, V1Piece { hash: given.hash.bytes, zeros: given.zeros })
+    }
+
+    /// The v1 hashes of all pieces of a file.
+    ///
+    /// # Errors
+    ///
+    /// In this order: [`NoSuchPart`](Refusal::NoSuchPart) for no such file, [`RuleBroken`](Refusal::RuleBroken) where the torrent is no
+    /// hybrid.
+    pub fn v1_pieces(&self, file: u64) -> Result<V1Pieces<'a>, Refusal> {
+        let given = boundary::torrent_v1_pieces(self.bytes, file);
+        let hashes = self.part(given.start, given.size);
+        answer(given.number, V1Pieces { start: given.start as usize, hashes, zeros: given.zeros })
+    }
+
     /// The bytes of memory that [`Torrent::list`] needs.
     #[must_use]
     pub fn list_size(&self) -> usize {
@@ -134,6 +169,37 @@ impl<'a> Torrent<'a> {
     /// A part of the torrent's bytes; beside a refusal it is empty.
     fn part(&self, start: u64, size: u64) -> &'a [u8] {
         part_of(self.bytes, start, size)
+    }
+}
+
+/// The v1 hash of a piece of a hybrid torrent.
+#[derive(Clone, Copy, Debug, PartialEq, Eq)]
+pub struct V1Piece {
+    /// The SHA-1 of the piece and of the zeros behind it.
+    pub hash: Sha1,
+    /// How many zeros of padding behind the piece it covers.
+    pub zeros: u64,
+}
+
+/// The v1 hashes of a file's pieces, over the torrent's bytes.
+#[derive(Clone, Copy, Debug, PartialEq, Eq)]
+pub struct V1Pieces<'a> {
+    /// Where they begin among the torrent's bytes; 0 for an empty file.
+    pub start: usize,
+    /// The hashes, [`SHA1`](crate::limits::SHA1) bytes each, in a row.
+    pub hashes: &'a [u8],
+    /// How many zeros behind the last piece its hash covers.
+    pub zeros: u64,
+}
+
+impl V1Pieces<'_> {
+    /// The v1 hash of a piece by its number in the file, if the file has it.
+    #[must_use]
+    pub fn piece(&self, piece: u64) -> Option<V1Piece> {
+        let last = (self.hashes.len() / SHA1).checked_sub(1)?;
+        let piece = usize::try_from(piece).ok().filter(|piece| *piece <= last)?;
+        let hash = self.hashes[piece * SHA1..][..SHA1].try_into().ok()?;
+        Some(V1Piece { hash, zeros: if piece == last { self.zeros } else { 0 } })
     }
 }
 

@@ -1,6 +1,6 @@
 //! The session of document 01 through the binding, on five blocks in pieces of four. The tree is made by host/reference.
 
-use kombudeva::{sha256, store_size, Hashing, History, Refusal, Repaired, Request, Store, Torrent};
+use kombudeva::{sha1, sha256, store_size, Hashing, History, Refusal, Repaired, Request, Store, Torrent};
 use reference::limits::BLOCK;
 use reference::messages::{Header, HASHES, REJECT, REQUEST};
 use reference::tree::{of_file, Position};
@@ -305,6 +305,41 @@ fn from_the_torrent_to_the_store() {
     let mut store = Store::open(&mut memory, file.length, torrent.piece_length, file.root).unwrap();
     // Four pieces, that is layers 1, 2 and 3 of seven blocks, the root held before.
     assert_eq!(store.load_layer(file.layer), Ok(6));
+}
+
+const HYBRID: &[u8] = include_bytes!("../../tests/real/hybrid.torrent");
+
+/// The v1 half of a hybrid, and a piece that is judged by both.
+#[test]
+fn a_hybrid_torrent() {
+    let torrent = Torrent::read(HYBRID).unwrap();
+    assert_eq!(torrent.hybrid(), sha1(torrent.info().unwrap()).map(Some));
+    assert_eq!(Torrent::read(SEVERAL).unwrap().hybrid(), Ok(None));
+    assert_eq!(Torrent::read(SEVERAL).unwrap().v1_pieces(0), Err(Refusal::RuleBroken));
+    assert_eq!(torrent.v1_pieces(6), Err(Refusal::NoSuchPart));
+    assert_eq!(torrent.v1_piece(1, 1), Err(Refusal::RuleBroken));
+    // `history`: a piece of 16 KiB and one byte, with zeros behind it.
+    let (row, file) = (torrent.v1_pieces(3).unwrap(), torrent.file(3).unwrap());
+    assert_eq!((row.hashes.len(), row.zeros, row.hashes), (40, 16383, &HYBRID[row.start..][..40]));
+    for piece in 0..2 {
+        assert_eq!(torrent.v1_piece(3, piece), Ok(row.piece(piece).unwrap()));
+    }
+    assert_eq!((row.piece(2), torrent.v1_pieces(4).unwrap().piece(0)), (None, None));
+    let seed: u64 = b"history".iter().map(|byte| u64::from(*byte)).sum();
+    let bytes: Vec<u8> = (0..file.length).map(|i| (i * 7 + i / 251 + seed) as u8).collect();
+    let memory = vec![0; store_size(file.length, torrent.piece_length).unwrap()];
+    let mut store = Store::open(memory, file.length, torrent.piece_length, file.root).unwrap();
+    store.load_layer(file.layer).unwrap();
+    let (first, last) = (row.piece(0).unwrap(), row.piece(1).unwrap());
+    assert_eq!(store.judge_hybrid_piece(1, &bytes[16384..], first), Err(Refusal::Differs));
+    assert_eq!(store.marked(1), Ok(false));
+    assert_eq!(store.judge_hybrid_piece(1, &bytes[16384..], last), Ok(()));
+    assert_eq!(store.judge_hybrid_piece(0, &bytes[..16384], first), Ok(()));
+    assert_eq!(store.marked(1), Ok(true));
+    let mut bent = HYBRID.to_vec();
+    let place = bent.windows(9).position(|part| part == b"4:attr1:p").unwrap();
+    bent[place + 8] = b'q';
+    assert_eq!(Torrent::read(&bent), Err(Refusal::HalvesDiffer));
 }
 
 /// A file that is logged in bursts, published on the way, and believed by a store opened with what was published.

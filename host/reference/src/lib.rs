@@ -12,6 +12,7 @@ pub mod bencode;
 pub mod extends;
 pub mod history;
 pub mod hosts;
+pub mod hybrid;
 pub mod ids;
 pub mod limits;
 pub mod marks;
@@ -21,6 +22,7 @@ pub mod pieces;
 pub mod replay;
 pub mod running;
 pub mod saved;
+pub mod sha1;
 pub mod sha256;
 pub mod store;
 pub mod stream;
@@ -40,6 +42,13 @@ pub struct Answer {
 pub struct Hashed {
     pub number: u32,
     pub hash: sha256::Hash,
+}
+
+/// A number, and beside 0 a SHA-1.
+#[derive(Clone, Copy, Debug, PartialEq, Eq)]
+pub struct Sha1Answer {
+    pub number: u32,
+    pub hash: sha1::Sha1,
 }
 
 impl Answer {

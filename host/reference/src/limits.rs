@@ -7,6 +7,7 @@ pub const LONGEST_FILE: u64 = 17179869184;
 pub const TALLEST_TREE: u64 = 20;
 pub const LONGEST_RUN: u32 = 8192;
 pub const HASH: usize = 32;
+pub const SHA1: usize = 20;
 pub const HEADER_SIZE: usize = 49;
 pub const LARGEST_REPLY: usize = 262417;
 pub const LARGEST_TORRENT: usize = 1048576;

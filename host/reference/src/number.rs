@@ -25,4 +25,5 @@ pub const LAYERS_AMISS: u32 = 27;
 pub const LAYER_DIFFERS: u32 = 28;
 pub const NO_SUCH_PART: u32 = 29;
 pub const FRAME_TOO_LONG: u32 = 30;
+pub const HALVES_DIFFER: u32 = 31;
 pub const NOT_SAVED: u32 = 32;

@@ -1,10 +1,11 @@
-//! Reading a v2 torrent: numbers 19 to 29. Section "The torrent" of document 01.
+//! Reading a v2 torrent: numbers 19 to 29. Section "The torrent" of document 01. What 31 is about is in `hybrid`.
 //!
 //! The torrent is parsed once, to a value. Then each of 22 to 28 is looked for in the whole of it before the next one, so
 //! that the lowest number wins. The benchmarks call this reader 1.00: roots are found by hashing, every layer is worked out
 //! once.
 
 use crate::bencode::{find, read as read_bencoding, Value};
+use crate::hybrid::{v1_half, V1Half};
 use crate::limits::{BLOCK, ELEMENTS, LARGEST_TORRENT, LONGEST_FILE, RECORD};
 use crate::number::*;
 use crate::sha256::{pair, sha256, Hash};
@@ -58,6 +59,8 @@ pub struct Contents {
     pub info_hash: Hash,
     pub piece_length: u64,
     pub files: Vec<Listed>,
+    /// The v1 half of a hybrid.
+    pub half: Option<V1Half>,
 }
 
 /// The values that 22 is about, each of its type.
@@ -217,7 +220,8 @@ pub fn contents_by(
     if files.iter().filter(|file| file.length > piece_length).any(differs) {
         return Err(LAYER_DIFFERS);
     }
-    Ok(Contents { info_hash: hash(&torrent[fields.info.part.clone()]), piece_length, files })
+    let half = v1_half(torrent, fields.info, &files, piece_length)?;
+    Ok(Contents { info_hash: hash(&torrent[fields.info.part.clone()]), piece_length, files, half })
 }
 
 /// Info hash, piece length and file count.

@@ -7,17 +7,20 @@ use crate::states::{
 use reference::asking::{self, Choice, Request};
 use reference::history::{End, History};
 use reference::hosts::{self, Named, Placed};
+use reference::hybrid::{self, Hybrid, V1Part, V1Piece};
 use reference::running::Hashing;
 use reference::saved::{self, Repaired};
+use reference::sha1::{sha1, Sha1};
 use reference::sha256::{sha256, Hash};
 use reference::stream::Stream;
 use reference::torrent::{File, Part, Torrent};
-use reference::{extends, marks, messages, pieces, store, stream, torrent, write, Answer, Hashed};
+use reference::{extends, marks, messages, pieces, store, stream, torrent, write, Answer, Hashed, Sha1Answer};
 use std::hint::black_box;
 
 #[derive(Clone, Copy, Debug, PartialEq, Eq, PartialOrd, Ord)]
 pub enum Entry {
     Sha256,
+    Sha1,
     HashingBegin,
     HashingMore,
     HashingEnd,
@@ -34,6 +37,7 @@ pub enum Entry {
     LoadLayer,
     JudgeBlock,
     JudgePiece,
+    JudgeHybridPiece,
     Marked,
     Clear,
     Bitfield,
@@ -49,6 +53,9 @@ pub enum Entry {
     TorrentList,
     TorrentInfo,
     TorrentName,
+    TorrentHybrid,
+    TorrentV1Piece,
+    TorrentV1Pieces,
     Place,
     FirstPiece,
     TorrentWrite,
@@ -61,6 +68,7 @@ impl Entry {
     pub fn name(self) -> &'static str {
         match self {
             Entry::Sha256 => "kd_sha256",
+            Entry::Sha1 => "kd_sha1",
             Entry::HashingBegin => "kd_hashing_begin",
             Entry::HashingMore => "kd_hashing_more",
             Entry::HashingEnd => "kd_hashing_end",
@@ -77,6 +85,7 @@ impl Entry {
             Entry::LoadLayer => "kd_load_layer",
             Entry::JudgeBlock => "kd_judge_block",
             Entry::JudgePiece => "kd_judge_piece",
+            Entry::JudgeHybridPiece => "kd_judge_hybrid_piece",
             Entry::Marked => "kd_marked",
             Entry::Clear => "kd_clear",
             Entry::Bitfield => "kd_bitfield",
@@ -92,6 +101,9 @@ impl Entry {
             Entry::TorrentList => "kd_torrent_list",
             Entry::TorrentInfo => "kd_torrent_info",
             Entry::TorrentName => "kd_torrent_name",
+            Entry::TorrentHybrid => "kd_torrent_hybrid",
+            Entry::TorrentV1Piece => "kd_torrent_v1_piece",
+            Entry::TorrentV1Pieces => "kd_torrent_v1_pieces",
             Entry::Place => "kd_place",
             Entry::FirstPiece => "kd_first_piece",
             Entry::TorrentWrite => "kd_torrent_write",
@@ -115,6 +127,7 @@ pub struct Call {
     pub out: Vec<u8>,
     /// The numbers among the arguments, in their order.
     pub numbers: [u64; 2],
+    /// The root; or a v1 hash, in its first bytes.
     pub root: Hash,
     /// The name of a torrent that is written.
     pub name: Vec<u8>,
@@ -145,6 +158,12 @@ impl Call {
     pub fn numbers(self, first: u64, second: u64) -> Call {
         Call { numbers: [first, second], ..self }
     }
+
+    pub fn v1(self, hash: Sha1) -> Call {
+        let mut root = [0; 32];
+        root[..20].copy_from_slice(&hash);
+        Call { root, ..self }
+    }
 }
 
 #[derive(Clone, Copy, Debug, PartialEq, Eq)]
@@ -160,6 +179,10 @@ pub enum Given {
     Repaired(Repaired),
     Named(Named),
     Placed(Placed),
+    Sha1(Sha1Answer),
+    Hybrid(Hybrid),
+    V1Piece(V1Piece),
+    V1Part(V1Part),
     /// Beside a state, which is left in the call's store.
     State(u32),
     /// Number, event, used bytes and size of a call on a stream, whose state is left so too.
@@ -180,6 +203,10 @@ impl Given {
             Given::Repaired(repaired) => repaired.number,
             Given::Named(named) => named.number,
             Given::Placed(placed) => placed.number,
+            Given::Sha1(answer) => answer.number,
+            Given::Hybrid(hybrid) => hybrid.number,
+            Given::V1Piece(piece) => piece.number,
+            Given::V1Part(part) => part.number,
             Given::State(number) | Given::Heard(number, ..) => *number,
         }
     }
@@ -202,10 +229,16 @@ pub struct Outcome {
     pub name: Vec<u8>,
 }
 
+/// The v1 hash that a call is given.
+fn v1_of(root: &Hash) -> Sha1 {
+    std::array::from_fn(|at| root[at])
+}
+
 pub fn by_reference(call: &Call) -> Outcome {
     let Call { mut store, input, mut out, numbers: [first, second], root, entry, name } = call.clone();
     let given = match entry {
         Entry::Sha256 => Given::Hashed(Hashed::done(sha256(&input))),
+        Entry::Sha1 => Given::Sha1(Sha1Answer { number: 0, hash: sha1(&input) }),
         Entry::HashingBegin => left(&mut store, 0, hashing_bytes(&Hashing::begin())),
         Entry::HashingMore => {
             let (number, after) = hashing_of(&store).more(&input);
@@ -231,6 +264,9 @@ pub fn by_reference(call: &Call) -> Outcome {
         Entry::LoadLayer => Given::Answer(pieces::load_layer(&mut store, &input)),
         Entry::JudgeBlock => Given::Answer(pieces::judge_block(&mut store, first, &input)),
         Entry::JudgePiece => Given::Answer(pieces::judge_piece(&mut store, first, &input)),
+        Entry::JudgeHybridPiece => {
+            Given::Answer(hybrid::judge_hybrid_piece(&mut store, first, &input, v1_of(&root), second))
+        }
         Entry::Marked => Given::Answer(marks::marked(&store, first)),
         Entry::Clear => Given::Answer(marks::clear(&mut store, first)),
         Entry::Bitfield => Given::Answer(marks::bitfield(&store, &mut out)),
@@ -246,6 +282,9 @@ pub fn by_reference(call: &Call) -> Outcome {
         Entry::TorrentList => Given::Answer(torrent::torrent_list(&input, &mut out)),
         Entry::TorrentInfo => Given::Part(hosts::torrent_info(&input)),
         Entry::TorrentName => Given::Part(hosts::torrent_name(&input)),
+        Entry::TorrentHybrid => Given::Hybrid(hybrid::torrent_hybrid(&input)),
+        Entry::TorrentV1Piece => Given::V1Piece(hybrid::torrent_v1_piece(&input, first, second)),
+        Entry::TorrentV1Pieces => Given::V1Part(hybrid::torrent_v1_pieces(&input, first)),
         Entry::Place => Given::Placed(hosts::place(&input, first, second)),
         Entry::FirstPiece => Given::Answer(hosts::first_piece(&input, first, second)),
         Entry::TorrentWrite => Given::Answer(write::torrent_write(&store, &input, first, &name, &mut out)),
@@ -316,6 +355,7 @@ pub fn by_library(call: &Call) -> Outcome {
     let (held_bytes, message, room) = (store.lent(), input.lent(), out.lent());
     let given = match call.entry {
         Entry::Sha256 => hashed(boundary::sha256(message)),
+        Entry::Sha1 => sha1_of(boundary::sha1(message)),
         Entry::HashingBegin => left(held_bytes, 0, hashing_bytes(&to_hashing(boundary::hashing_begin()))),
         Entry::HashingMore => {
             let given = boundary::hashing_more(from_hashing(hashing_of(held_bytes)), message);
@@ -341,6 +381,10 @@ pub fn by_library(call: &Call) -> Outcome {
         Entry::LoadLayer => answer(boundary::load_layer(held_bytes, message)),
         Entry::JudgeBlock => answer(boundary::judge_block(held_bytes, first, message)),
         Entry::JudgePiece => answer(boundary::judge_piece(held_bytes, first, message)),
+        Entry::JudgeHybridPiece => {
+            let v1 = boundary::Sha1Hash { bytes: v1_of(&call.root) };
+            answer(boundary::judge_hybrid_piece(held_bytes, first, message, v1, second))
+        }
         Entry::Marked => answer(boundary::marked(held_bytes, first)),
         Entry::Clear => answer(boundary::clear(held_bytes, first)),
         Entry::Bitfield => answer(boundary::bitfield(held_bytes, room)),
@@ -362,6 +406,9 @@ pub fn by_library(call: &Call) -> Outcome {
         Entry::TorrentList => answer(boundary::torrent_list(message, room)),
         Entry::TorrentInfo => part_of(boundary::torrent_info(message)),
         Entry::TorrentName => part_of(boundary::torrent_name(message)),
+        Entry::TorrentHybrid => hybrid_of(boundary::torrent_hybrid(message)),
+        Entry::TorrentV1Piece => v1_piece_of(boundary::torrent_v1_piece(message, first, second)),
+        Entry::TorrentV1Pieces => v1_part_of(boundary::torrent_v1_pieces(message, first)),
         Entry::Place => placed_of(boundary::place(message, first, second)),
         Entry::FirstPiece => answer(boundary::first_piece(message, first, second)),
         Entry::TorrentWrite => answer(boundary::torrent_write(held_bytes, message, first, name.lent(), room)),
@@ -383,6 +430,22 @@ fn answer(given: boundary::Answer) -> Given {
 
 fn hashed(given: boundary::Hashed) -> Given {
     Given::Hashed(Hashed { number: given.number, hash: given.hash.bytes })
+}
+
+fn sha1_of(given: boundary::Sha1Answer) -> Given {
+    Given::Sha1(Sha1Answer { number: given.number, hash: given.hash.bytes })
+}
+
+fn hybrid_of(given: boundary::Hybrid) -> Given {
+    Given::Hybrid(Hybrid { number: given.number, hybrid: given.hybrid, info_hash: given.info_hash.bytes })
+}
+
+fn v1_piece_of(given: boundary::V1Piece) -> Given {
+    Given::V1Piece(V1Piece { number: given.number, hash: given.hash.bytes, zeros: given.zeros })
+}
+
+fn v1_part_of(given: boundary::V1Part) -> Given {
+    Given::V1Part(V1Part { number: given.number, start: given.start, size: given.size, zeros: given.zeros })
 }
 
 fn repaired(given: boundary::Repaired) -> Given {

@@ -33,6 +33,8 @@ pub fn run(random: &mut Random, compared: &mut Comparison) {
     for _ in 0..STRINGS {
         let most = random.pick(&[64, 64, 130, 130, 300, 2000]);
         let size = random.between(0, most) as usize;
-        compared.ask(&Call::new(Entry::Sha256).input(random.bytes(size)));
+        let string = random.bytes(size);
+        compared.ask(&Call::new(Entry::Sha256).input(string.clone()));
+        compared.ask(&Call::new(Entry::Sha1).input(string));
     }
 }

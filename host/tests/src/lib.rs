@@ -7,6 +7,7 @@ pub mod compare;
 pub mod fillings;
 pub mod harness;
 pub mod headers;
+pub mod hybrids;
 pub mod lists;
 pub mod places;
 pub mod random;

@@ -7,6 +7,7 @@ use crate::random::Random;
 use crate::truth::{self, Pair, Truth};
 use reference::limits::{BLOCK, LONGEST_FILE};
 use reference::messages::{Header, HASHES, HEAD, REJECT, REQUEST};
+use reference::sha1::{sha1, Sha1};
 use reference::sha256::{sha256, Hash};
 use reference::store::{facts_of, size_of, CELL, HEAD as FACTS, HELD};
 use reference::tree::{over_run, padding, Position};
@@ -375,7 +376,7 @@ impl<'a> Session<'a> {
         let (parts, part, entry) = if is_block {
             (facts.blocks(), BLOCK, Entry::JudgeBlock)
         } else {
-            (facts.pieces(), facts.piece_length, Entry::JudgePiece)
+            (facts.pieces(), facts.piece_length, random.pick(&[Entry::JudgePiece, Entry::JudgeHybridPiece]))
         };
         let number = match random.below(12) {
             0 => parts,
@@ -386,6 +387,7 @@ impl<'a> Session<'a> {
         };
         let size = if is_block { facts.block_size(number) } else { facts.piece_size(number) };
         let mut data = self.truth.part(number, part, size.unwrap_or(10));
+        let (v1, zeros) = if entry == Entry::JudgeHybridPiece { self.v1_half(&data, random) } else { ([0; 20], 0) };
         match random.below(8) {
             0 => resize(&mut data, random),
             1 => flip(&mut data, random),
@@ -393,7 +395,23 @@ impl<'a> Session<'a> {
             2 => data.resize(data.len().next_multiple_of(BLOCK as usize), 0),
             _ => (),
         }
-        Call::new(entry).on(&self.store).numbers(number, 0).input(data)
+        Call::new(entry).on(&self.store).numbers(number, zeros).input(data).v1(v1)
+    }
+
+    /// The v1 hash of a piece with so many zeros behind it: up to the piece length, or fewer; or with one thing wrong.
+    fn v1_half(&self, data: &[u8], random: &mut Random) -> (Sha1, u64) {
+        let most = self.truth.facts.piece_length.saturating_sub(data.len() as u64);
+        // A piece of 16 MiB is hashed with few zeros only.
+        let most = if most > 1 << 20 { 1000 } else { most };
+        let zeros = random.pick(&[0, most, most, random.clone().below(most + 1)]);
+        let mut v1 = sha1(&[data, &vec![0; zeros as usize]].concat());
+        match random.below(10) {
+            0 => v1[random.below(20) as usize] ^= 1 << random.below(8),
+            1 => return (v1, random.pick(&[zeros + 1, zeros.saturating_sub(1), self.truth.facts.piece_length])),
+            2 => return (v1, random.pick(&HOSTILE_NUMBERS)),
+            _ => (),
+        }
+        (v1, zeros)
     }
 }
 

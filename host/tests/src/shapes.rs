@@ -1,4 +1,4 @@
-//! Torrents whose shape makes a reader work: an ordinary one of 10,000 files, and hostile ones of 1 MiB, as much as may be.
+//! Torrents whose shape makes a reader work: an ordinary one of 10,000 files, a hybrid of as many, and hostile ones of 1 MiB, as much as may be.
 
 use crate::random::Random;
 use reference::limits::LARGEST_TORRENT;
@@ -17,7 +17,10 @@ pub struct Shape {
 /// The name of the ordinary one.
 pub const ORDINARY: &str = "10000-files";
 
-pub const ALL: [Shape; 13] = [
+/// The name of the hybrid one.
+pub const HYBRID: &str = "10000-hybrid";
+
+pub const ALL: [Shape; 17] = [
     shape(ORDINARY, ten_thousand_files, DONE),
     shape("many-files", || files(1, random_root), DONE),
     shape("empty-files", empty_files, DONE),
@@ -31,6 +34,10 @@ pub const ALL: [Shape; 13] = [
     shape("small-values", small_values, DONE),
     shape("small-keys", small_keys, DONE),
     shape("huge-prefix", huge_prefix, NOT_STRICT),
+    shape(HYBRID, ten_thousand_in_both_halves, DONE),
+    shape("hybrid-files", || hybrid_files(1), DONE),
+    shape("hybrid-28", || hybrid_files(28), DONE),
+    shape("hybrid-padding", hybrid_padding, DONE),
 ];
 
 const fn shape(name: &'static str, make: fn() -> Vec<u8>, number: u32) -> Shape {
@@ -196,6 +203,76 @@ fn small_keys() -> Vec<u8> {
     with(&as_many_as_fit(with(b"").len(), |number| [&string(&number.to_be_bytes()[1..])[..], b"0:"].concat()))
 }
 
+/// A hybrid with this file tree, these entries of `files` and so many pieces of 16 KiB.
+fn hybrid(tree: &[u8], entries: &[u8], pieces: usize) -> Vec<u8> {
+    let pieces = string(&vec![7; 20 * pieces]);
+    let behind: [&[u8]; 4] = [b"e12:meta versioni2e4:name1:x12:piece lengthi16384e6:pieces", &pieces, b"e", b""];
+    let info = [b"d9:file tree", tree, b"5:filesl", entries, &behind.concat()].concat();
+    [b"d4:info", &info[..], b"12:piece layersdee"].concat()
+}
+
+/// An entry of `files` behind the elements before its name, encoded, and padding up to the next piece.
+fn v1_entry(before: &[u8], name: &[u8], length: u64) -> Vec<u8> {
+    let length_text = length.to_string();
+    let entry = [b"d6:lengthi", length_text.as_bytes(), b"e4:pathl", before, name, b"ee"].concat();
+    let gap = (length.next_multiple_of(16384) - length).to_string();
+    let pad = [b"d4:attr1:p6:lengthi", gap.as_bytes(), b"e4:pathl4:.pad", &string(gap.as_bytes()), b"ee"].concat();
+    if gap == "0" {
+        entry
+    } else {
+        [entry, pad].concat()
+    }
+}
+
+/// 100 folders of 100 files; two of three files are empty, or both halves would not go into 1 MiB.
+fn ten_thousand_in_both_halves() -> Vec<u8> {
+    let (mut tree, mut entries, mut pieces) = (Vec::new(), Vec::new(), 0);
+    for folder in 0..100u32 {
+        let folder_name = string(format!("{folder:02}").as_bytes());
+        let mut files = Vec::new();
+        for in_folder in 0..100 {
+            let number = 100 * folder + in_folder;
+            let name = string(format!("{number:05}").as_bytes());
+            let length = if in_folder % 3 == 0 { 10000 + u64::from(number * 7 % 6384) } else { 0 };
+            let node = if length == 0 { b"d0:d6:lengthi0eee".to_vec() } else { file(length, &random_root(number)) };
+            files.extend([&name[..], &node].concat());
+            entries.extend(v1_entry(&folder_name, &name, length));
+            pieces += (length > 0) as usize;
+        }
+        tree.extend([&folder_name[..], &dictionary(&files)].concat());
+    }
+    hybrid(&dictionary(&tree), &entries, pieces)
+}
+
+/// The most files of one byte in both halves, each with so many path elements, all but the last alike.
+fn hybrid_files(elements: usize) -> Vec<u8> {
+    let (before, behind) = (b"1:ad".repeat(elements - 1), b"e".repeat(elements - 1));
+    let path = b"1:a".repeat(elements - 1);
+    let whole =
+        |tree: &[u8], entries: &[u8], pieces| hybrid(&dictionary(&[&before, tree, &behind].concat()), entries, pieces);
+    let (mut tree, mut entries, mut pieces) = (Vec::new(), Vec::new(), 0);
+    // A few bytes for the digits of the size of `pieces`.
+    let mut size = whole(b"", b"", 0).len() + 6;
+    loop {
+        let name = name(pieces as u32);
+        let node = [&name[..], &file(1, &random_root(pieces as u32))].concat();
+        let entry = v1_entry(&path, &name, 1);
+        size += node.len() + entry.len() + 20;
+        if size > LARGEST_TORRENT {
+            return whole(&tree, &entries, pieces);
+        }
+        tree.extend(node);
+        entries.extend(entry);
+        pieces += 1;
+    }
+}
+
+/// One file, and behind it as much padding of no bytes as there is room for.
+fn hybrid_padding() -> Vec<u8> {
+    let with = |entries: &[u8]| hybrid(&one_file(), &[&v1_entry(b"", b"1:a", 1)[..], entries].concat(), 1);
+    with(&as_many_as_fit(with(b"").len(), |_| b"d4:attr1:p6:lengthi0ee".to_vec()))
+}
+
 /// A length prefix of a million digits.
 fn huge_prefix() -> Vec<u8> {
     [&b"d"[..], &vec![b'9'; LARGEST_TORRENT - 1]].concat()
@@ -218,7 +295,7 @@ mod tests {
                 torrent.len(),
                 read.map_or(0, |all| all.files.len())
             );
-            let least = if shape.name == ORDINARY { 770_000 } else { LARGEST_TORRENT - 500 };
+            let least = if [ORDINARY, HYBRID].contains(&shape.name) { 770_000 } else { LARGEST_TORRENT - 500 };
             assert!((least..=LARGEST_TORRENT).contains(&torrent.len()), "{}", shape.name);
         }
     }

@@ -2,9 +2,10 @@
 
 use crate::call::{Call, Entry, Given};
 use crate::compare::Comparison;
+use crate::hybrids::{break_one, Half};
 use crate::random::Random;
 use reference::limits::RECORD;
-use reference::number::{DONE, TORRENT_TOO_LARGE};
+use reference::number::{DONE, HALVES_DIFFER, TORRENT_TOO_LARGE};
 use reference::pieces::over_piece_layer;
 use reference::torrent::{element_right, Torrent};
 use reference::tree::Facts;
@@ -84,12 +85,12 @@ fn encode_string(content: &[u8], bytes: &mut Vec<u8>) {
     bytes.extend_from_slice(content);
 }
 
-fn integer(amount: u64) -> Value {
+pub fn integer(amount: u64) -> Value {
     Integer(amount.to_string())
 }
 
 /// A dictionary with its keys in order.
-fn dictionary(entries: BTreeMap<Vec<u8>, Value>) -> Value {
+pub fn dictionary(entries: BTreeMap<Vec<u8>, Value>) -> Value {
     Dictionary(entries.into_iter().collect())
 }
 
@@ -199,17 +200,34 @@ pub fn good(random: &mut Random) -> Value {
     dictionary(outer)
 }
 
-/// A good torrent of a few hundred bytes that has a layer, an empty file and a folder.
-pub fn small(random: &mut Random) -> Vec<u8> {
+/// The same, as a hybrid whose halves fit.
+pub fn hybrid(random: &mut Random) -> Value {
+    let mut torrent = good(random);
+    Half::fitting(&mut torrent, random).put_into(&mut torrent);
+    torrent
+}
+
+/// A torrent with nothing wrong that these make, of so few bytes, with a layer, an empty file and a folder.
+fn shorter(most: usize, random: &mut Random, make: fn(&mut Random) -> Value) -> Vec<u8> {
     loop {
-        let torrent = good(random).encoded();
+        let torrent = make(random).encoded();
         let files = reference::torrent::contents(&torrent).map_or(Vec::new(), |all| all.files);
         let has_layer = files.iter().any(|file| !file.layer.is_empty());
         let has_empty = files.iter().any(|file| file.length == 0);
-        if torrent.len() < 500 && has_layer && has_empty && files.iter().any(|file| file.path.len() > 1) {
+        if torrent.len() < most && has_layer && has_empty && files.iter().any(|file| file.path.len() > 1) {
             return torrent;
         }
     }
+}
+
+/// A good torrent of a few hundred bytes that has a layer, an empty file and a folder.
+pub fn small(random: &mut Random) -> Vec<u8> {
+    shorter(500, random, good)
+}
+
+/// The same, a hybrid.
+pub fn small_hybrid(random: &mut Random) -> Vec<u8> {
+    shorter(900, random, hybrid)
 }
 
 /// Among them some that are in range if they are cut to 32 or 64 bits.
@@ -346,6 +364,17 @@ fn damaged(good: &Value, random: &mut Random) -> Vec<u8> {
     bytes
 }
 
+/// A hybrid with a clause broken; now and then with something else wrong too.
+fn with_a_broken_half(torrent: &Value, half: &Half, random: &mut Random) -> Vec<u8> {
+    let (mut torrent, mut half) = (torrent.clone(), half.clone());
+    break_one(&mut half, random);
+    half.put_into(&mut torrent);
+    if random.percent(10) {
+        change_value(&mut torrent, random);
+    }
+    torrent.encoded()
+}
+
 /// Numbers to ask for: all below `count` or, of many, some; then two that are past them.
 fn some(count: u64) -> impl Iterator<Item = u64> {
     let below = if count <= 12 { (0..count).collect() } else { vec![0, 1, count / 2, count - 1] };
@@ -382,6 +411,22 @@ fn ask_about_files(torrent: &[u8], files: u64, compared: &mut Comparison) {
     }
     compared.ask(&about(Entry::TorrentInfo));
     compared.ask(&about(Entry::TorrentName));
+    ask_about_halves(torrent, files, compared);
+}
+
+/// The v1 hashes of the first files and of the last, piece by piece; of a torrent that is no hybrid, and past its files, one of each.
+fn ask_about_halves(torrent: &[u8], files: u64, compared: &mut Comparison) {
+    let about = |entry| Call::new(entry).input(torrent.to_vec());
+    let Given::Hybrid(whole) = compared.ask(&about(Entry::TorrentHybrid)).given else { unreachable!() };
+    let asked = if whole.hybrid == 1 { some(files).collect() } else { vec![0, files] };
+    for file in asked {
+        let Given::V1Part(part) = compared.ask(&about(Entry::TorrentV1Pieces).numbers(file, 0)).given else {
+            unreachable!()
+        };
+        for piece in some(part.size / 20) {
+            compared.ask(&about(Entry::TorrentV1Piece).numbers(file, piece));
+        }
+    }
 }
 
 /// The same of a torrent that is likely to be refused: one call of each entry point then, and the list without room.
@@ -403,6 +448,17 @@ fn ask_some(torrent: &[u8], compared: &mut Comparison) {
     for part in parts {
         compared.ask(&Call::new(*part).input(torrent.to_vec()));
     }
+    let halves: &[Entry] = match (whole.number, torrent.len() % 3) {
+        (TORRENT_TOO_LARGE | HALVES_DIFFER, _) => {
+            &[Entry::TorrentHybrid, Entry::TorrentV1Piece, Entry::TorrentV1Pieces]
+        }
+        (_, 0) => &[Entry::TorrentHybrid],
+        (_, 1) => &[Entry::TorrentV1Piece],
+        _ => &[Entry::TorrentV1Pieces],
+    };
+    for half in halves {
+        compared.ask(&Call::new(*half).input(torrent.to_vec()));
+    }
 }
 
 /// One call of each entry point, about the last file, on a torrent so large that every call takes its time.
@@ -413,17 +469,24 @@ pub fn ask_few(torrent: &[u8], compared: &mut Comparison) {
     compared.ask(&about(Entry::TorrentFile).numbers(last, 0));
     compared.ask(&about(Entry::TorrentPath).numbers(last, 0));
     compared.ask(&about(Entry::TorrentList).out(vec![0xaa; whole.files as usize * RECORD]));
+    compared.ask(&about(Entry::TorrentHybrid));
+    compared.ask(&about(Entry::TorrentV1Pieces).numbers(last, 0));
 }
 
 /// Torrents, as long as wanted.
 pub fn run(random: &mut Random, compared: &mut Comparison, mut go_on: impl FnMut(&Comparison) -> bool) {
     while go_on(compared) {
-        let good = good(random);
+        let mut torrent = good(random);
+        if random.percent(35) {
+            let half = Half::fitting(&mut torrent, random);
+            ask_some(&with_a_broken_half(&torrent, &half, random), compared);
+            half.put_into(&mut torrent);
+        }
         if random.percent(30) {
-            ask_some(&good.encoded(), compared);
+            ask_some(&torrent.encoded(), compared);
         }
         for _ in 0..random.between(1, 7) {
-            ask_some(&damaged(&good, random), compared);
+            ask_some(&damaged(&torrent, random), compared);
         }
     }
 }

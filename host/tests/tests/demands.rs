@@ -77,7 +77,7 @@ fn a_block_is_marked_exactly_if_judged_right_and_not_cleared_since() {
             let number = call.numbers[0];
             match (call.entry, outcome.given.number()) {
                 (Entry::JudgeBlock, DONE) => set += right.insert(number) as u64,
-                (Entry::JudgePiece, DONE) => {
+                (Entry::JudgePiece | Entry::JudgeHybridPiece, DONE) => {
                     facts.blocks_of_piece(number).for_each(|block| set += right.insert(block) as u64)
                 }
                 (Entry::Clear, DONE) => taken_back += right.remove(&number) as u64,

@@ -10,11 +10,13 @@ use host_tests::{bursts, lists, places, saves, sessions, streams, torrents};
 use reference::asking::{Choice, Request};
 use reference::extends::extends;
 use reference::hosts::{Named, Placed};
+use reference::hybrid::{Hybrid, V1Part, V1Piece};
 use reference::limits::{BLOCK, LONGEST_FRAME, RECORD};
 use reference::marks::{clear, is_on_disk, mark, marked};
 use reference::messages::{Header, HEAD, REQUEST};
 use reference::number::*;
 use reference::saved::Repaired;
+use reference::sha1::sha1;
 use reference::sha256::sha256;
 use reference::store::{facts_of, held_at, hold, size_of, CELL};
 use reference::torrent::{contents, File, Part, Torrent};
@@ -124,7 +126,7 @@ fn untouched(call: &Call) -> Outcome {
 }
 
 fn every_number_comes_up() {
-    let expected: [(Entry, &[u32]); 16] = [
+    let expected: [(Entry, &[u32]); 17] = [
         (Entry::StoreSize, &[0, 10]),
         (Entry::Open, &[0, 9, 10]),
         (Entry::Facts, &[0, 9]),
@@ -135,6 +137,7 @@ fn every_number_comes_up() {
         (Entry::LoadLayer, &[0, 3, 4, 6, 7, 8, 9]),
         (Entry::JudgeBlock, &[0, 3, 4, 6, 7, 9]),
         (Entry::JudgePiece, &[0, 3, 4, 6, 7, 8, 9]),
+        (Entry::JudgeHybridPiece, &[0, 3, 4, 6, 7, 8, 9]),
         (Entry::Marked, &[0, 3, 9]),
         (Entry::Clear, &[0, 3, 9]),
         (Entry::Bitfield, &[0, 9, 11]),
@@ -147,13 +150,16 @@ fn every_number_comes_up() {
 
 fn every_number_of_a_torrent_comes_up() {
     let refused = [19, 20, 21, 22, 23, 24, 25, 26, 27, 28];
-    let expected: [(Entry, &[u32]); 6] = [
-        (Entry::TorrentRead, &[&[0], &refused[..]].concat()),
-        (Entry::TorrentFile, &[&[0], &refused[..], &[29]].concat()),
-        (Entry::TorrentPath, &[&[0], &refused[..], &[29]].concat()),
-        (Entry::TorrentList, &[&[0, 11], &refused[..]].concat()),
-        (Entry::TorrentInfo, &[&[0], &refused[..]].concat()),
-        (Entry::TorrentName, &[&[0], &refused[..], &[29]].concat()),
+    let expected: [(Entry, &[u32]); 9] = [
+        (Entry::TorrentRead, &[&[0], &refused[..], &[31]].concat()),
+        (Entry::TorrentFile, &[&[0], &refused[..], &[29, 31]].concat()),
+        (Entry::TorrentPath, &[&[0], &refused[..], &[29, 31]].concat()),
+        (Entry::TorrentList, &[&[0, 11], &refused[..], &[31]].concat()),
+        (Entry::TorrentInfo, &[&[0], &refused[..], &[31]].concat()),
+        (Entry::TorrentName, &[&[0], &refused[..], &[29, 31]].concat()),
+        (Entry::TorrentHybrid, &[&[0], &refused[..], &[31]].concat()),
+        (Entry::TorrentV1Piece, &[&[0, 3], &refused[..], &[29, 31]].concat()),
+        (Entry::TorrentV1Pieces, &[&[0, 3], &refused[..], &[29, 31]].concat()),
     ];
     assert_seen(&torrents(&by_reference), &expected);
     assert_seen(&places(&by_reference), &[(Entry::Place, &[0, 4, 24, 29]), (Entry::FirstPiece, &[0, 4, 24, 29])]);
@@ -423,6 +429,7 @@ fn checks_that_are_left_out() {
     for number in [3, 4, 6, 7, 8, 9] {
         assert_needed(Entry::LoadLayer, number);
         assert_needed(Entry::JudgePiece, number);
+        assert_needed(Entry::JudgeHybridPiece, number);
     }
 }
 
@@ -830,7 +837,7 @@ fn hashes_that_look_right() {
 
 /// A number that is never given: the answer is 0 with what the call would give for a good torrent of nothing.
 fn numbers_of_a_torrent_that_are_left_out() {
-    for left_out in 19..=28 {
+    for left_out in (19..=28).chain([31]) {
         assert_torrent_found_out("a number left out", &|call| {
             let mut outcome = by_reference(call);
             if let Given::Torrent(torrent) = &mut outcome.given {
@@ -915,6 +922,86 @@ fn twins_read_wrong() {
     });
 }
 
+/// Whether the v2 half of a call that judges by both halves agrees.
+fn agrees_by_v2(call: &Call) -> bool {
+    let by_v2 = || by_reference(&Call { entry: Entry::JudgePiece, ..call.clone() });
+    call.entry == Entry::JudgeHybridPiece && by_v2().given.number() == DONE
+}
+
+fn pieces_judged_by_one_half() {
+    assert_found_out("the v2 half alone", &|call| match call.entry {
+        Entry::JudgeHybridPiece => by_reference(&Call { entry: Entry::JudgePiece, ..call.clone() }),
+        _ => by_reference(call),
+    });
+    assert_found_out("marked before the v1 half", &|call| match by_reference(call) {
+        outcome if agrees_by_v2(call) && outcome.given.number() == DIFFERS => {
+            let marked = by_reference(&Call { entry: Entry::JudgePiece, ..call.clone() }).store;
+            Outcome { store: marked, ..outcome }
+        }
+        outcome => outcome,
+    });
+    assert_found_out("zeros left out of the v1 hash", &|call| match call.entry {
+        Entry::JudgeHybridPiece if agrees_by_v2(call) && call.numbers[1] < 1 << 20 => {
+            by_reference(&call.clone().numbers(call.numbers[0], 0))
+        }
+        _ => by_reference(call),
+    });
+    assert_found_out("the v1 hash of a piece compared in part", &|call| match by_reference(call) {
+        outcome if agrees_by_v2(call) && outcome.given.number() == DIFFERS => {
+            // Data and zeros are at most a piece, or it would be 4.
+            let covered = [&call.input[..], &vec![0; call.numbers[1] as usize]].concat();
+            match sha1(&covered)[..16] == call.root[..16] {
+                true => by_reference(&Call { entry: Entry::JudgePiece, ..call.clone() }),
+                false => outcome,
+            }
+        }
+        outcome => outcome,
+    });
+    assert_found_out("4 for the zeros before the v2 answer", &|call| match (call.entry, facts_of(&call.store)) {
+        (Entry::JudgeHybridPiece, Some(facts)) if call.numbers[1] > facts.piece_length => answered(call, WRONG_SIZE, 0),
+        _ => by_reference(call),
+    });
+}
+
+fn hybrids_read_wrong() {
+    assert_torrent_found_out("every torrent a hybrid", &|call| match by_reference(call) {
+        Outcome { given: Given::Hybrid(hybrid), .. } if hybrid.number == DONE => {
+            Outcome { given: Given::Hybrid(Hybrid { hybrid: 1, ..hybrid }), ..untouched(call) }
+        }
+        outcome => outcome,
+    });
+    assert_torrent_found_out("a v1 hash by the file's own piece number", &|call| match by_reference(call) {
+        Outcome { given: Given::V1Piece(piece), .. } if piece.number == DONE => {
+            let first = reference::hybrid::torrent_v1_pieces(&call.input, 0);
+            let at = first.start as usize + 20 * call.numbers[1] as usize;
+            let hash = call.input.get(at..at + 20).map_or(piece.hash, |hash| hash.try_into().unwrap());
+            Outcome { given: Given::V1Piece(V1Piece { hash, ..piece }), ..untouched(call) }
+        }
+        outcome => outcome,
+    });
+    assert_torrent_found_out("zeros up to the boundary past the end", &|call| match by_reference(call) {
+        Outcome { given: Given::V1Part(part), .. } if part.number == DONE && part.size > 0 => {
+            let all = contents(&call.input).unwrap();
+            let length = all.files[call.numbers[0] as usize].length;
+            let zeros = length.next_multiple_of(all.piece_length) - length;
+            Outcome { given: Given::V1Part(V1Part { zeros, ..part }), ..untouched(call) }
+        }
+        outcome => outcome,
+    });
+    assert_torrent_found_out("3 before 29", &|call| match by_reference(call) {
+        Outcome { given: Given::V1Part(part), .. } if part.number == NO_SUCH_PART => {
+            Outcome { given: Given::V1Part(V1Part { number: RULE_BROKEN, ..part }), ..untouched(call) }
+        }
+        outcome => outcome,
+    });
+    assert_torrent_found_out("31 after 29", &|call| match by_reference(call) {
+        Outcome { given: Given::File(file), .. } if file.number == HALVES_DIFFER => {
+            Outcome { given: torrent_file_refused(NO_SUCH_PART), ..untouched(call) }
+        }
+        outcome => outcome,
+    });
+}
+
 fn torrent_file_refused(number: u32) -> Given {
     Given::File(File { number, length: 0, root: [0; 32], elements: 0, layer_start: 0, layer_size: 0 })
 }
@@ -987,5 +1074,7 @@ host_tests::tests! {
     path_elements_that_are_let_through,
     twins_read_wrong,
     lists_written_wrong,
+    pieces_judged_by_one_half,
+    hybrids_read_wrong,
     a_difference_is_shown_small,
 }

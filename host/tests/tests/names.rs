@@ -77,16 +77,7 @@ fn from_camel(name: &str) -> String {
 }
 
 fn numbers() -> Names {
-    as_hosts_say(constants("crates/numbers/src/lib.rt"))
-}
-
-/// Numbers 26 and 29 have their old names in the proved code.
-fn as_hosts_say(mut names: Names) -> Names {
-    for (old, new) in [("SAME_ROOT", "TWO_LENGTHS"), ("NO_SUCH_FILE", "NO_SUCH_PART")] {
-        let number = names.remove(old).expect("no longer the old name: this row can go");
-        names.insert(new.to_string(), number);
-    }
-    names
+    constants("crates/numbers/src/lib.rt")
 }
 
 /// The numbers but 0: a spec's and the binding's 0 carry what was asked for.
@@ -97,7 +88,7 @@ fn refused() -> Names {
 fn the_numbers_of_the_table() {
     let numbers = numbers();
     let values: BTreeSet<u64> = numbers.values().copied().collect();
-    assert_eq!(values, (0..=12).chain(19..=30).chain([32]).collect());
+    assert_eq!(values, (0..=12).chain(19..=32).collect());
     assert_eq!(values.len(), numbers.len());
 }
 
@@ -130,7 +121,7 @@ fn the_headers_table_has_all_numbers() {
 
 fn the_numbers_have_one_name_each() {
     assert_eq!(constants("host/reference/src/number.rs"), numbers());
-    assert_eq!(as_hosts_say(defined("crates/numbers/specs/Numbers.antt")), refused());
+    assert_eq!(defined("crates/numbers/specs/Numbers.antt"), refused());
     assert_eq!(refusals(), refused());
 }
 

@@ -5,6 +5,7 @@ mod explain;
 mod extends;
 mod folder;
 mod habits;
+mod hybrid;
 mod make;
 mod real;
 mod root;
@@ -17,6 +18,7 @@ use cat::*;
 use explain::*;
 use extends::*;
 use habits::*;
+use hybrid::*;
 use make::*;
 use real::*;
 use root::*;
@@ -61,6 +63,10 @@ host_tests::tests![
     explain_has_the_numbers,
     real_torrents_are_shown,
     real_torrents_are_verified,
+    a_hybrid_is_shown,
+    a_hybrid_is_judged_by_both_halves,
+    a_hybrid_in_any_manner,
+    halves_that_differ_are_refused,
     usage_is_2,
     every_verb_has_help,
     a_pipe_closed_early_is_141,

@@ -22,22 +22,25 @@ fn bytes(hex: &str) -> Vec<u8> {
     (0..hex.len() / 2).map(|i| u8::from_str_radix(&hex[2 * i..2 * i + 2], 16).unwrap()).collect()
 }
 
-/// The info hash, and each file.
-fn said(name: &str) -> (String, Vec<Line>) {
+/// The info hash, that of v1 (`-` if there is none), and each file.
+fn said(name: &str) -> (String, String, Vec<Line>) {
     let text = fs::read_to_string(place(name, "txt")).unwrap();
     let line = |line: &str| {
         let words: Vec<_> = line.split(' ').collect();
-        let path = words[3].split('/').map(bytes).collect::<Vec<_>>().join(&b'/');
+        let path = words[5].split('/').map(bytes).collect::<Vec<_>>().join(&b'/');
         Line { length: words[0].parse().unwrap(), root: words[1].into(), path }
     };
-    (text.lines().next().unwrap().into(), text.lines().skip(2).map(line).collect())
+    let mut lines = text.lines();
+    let mut hash = || lines.next().unwrap().to_string();
+    (hash(), hash(), text.lines().skip(3).map(line).collect())
 }
 
 pub fn real_torrents_are_shown() {
     for name in NAMES {
-        let (info_hash, lines) = said(name);
+        let (info_hash, v1, lines) = said(name);
         let object = &kd(&["show", "--json", &place(name, "torrent")]).objects()[0];
         assert_eq!(object["info_hash"], info_hash);
+        assert_eq!((object["hybrid"] == true, object["v1_info_hash"].as_str().unwrap_or("-")), (v1 != "-", &v1[..]));
         for (file, line) in object["files"].as_array().unwrap().iter().zip(&lines) {
             assert_eq!((&file["length"], &file["root"]), (&line.length.into(), &line.root[..].into()));
             let hex = file["path_hex"].as_str().map(bytes);
@@ -50,7 +53,7 @@ pub fn real_torrents_are_shown() {
 pub fn real_torrents_are_verified() {
     for name in NAMES {
         let folder = Folder::new();
-        for line in said(name).1 {
+        for line in said(name).2 {
             folder.put(OsStr::from_bytes(&line.path), &content(&line.path, line.length as usize));
         }
         kd(&["verify", "-q", &place(name, "torrent"), &folder.text("")]).assert(0, "", "");

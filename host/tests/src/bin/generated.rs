@@ -33,7 +33,7 @@ struct Part {
 /// A torrent of libtorrent's, with a layer.
 const SINGLE: &[u8] = include_bytes!("../../real/single.torrent");
 
-const PARTS: [Part; 21] = [
+const PARTS: [Part; 22] = [
     Part { name: "strings", cases: |random, compared, _| fillings::run(random, compared) },
     Part { name: "bursts", cases: |random, compared, go_on| bursts::run(random, compared, go_on) },
     Part { name: "every-cut-of-strings", cases: |random, compared, _| bursts::run_through_every_cut(random, compared) },
@@ -49,6 +49,10 @@ const PARTS: [Part; 21] = [
     Part {
         name: "each-byte-of-a-small-one",
         cases: |random, compared, _| torrents::run_through_every_byte(&torrents::small(random), compared),
+    },
+    Part {
+        name: "each-byte-of-a-small-hybrid",
+        cases: |random, compared, _| torrents::run_through_every_byte(&torrents::small_hybrid(random), compared),
     },
     Part { name: "each-cut-of-single", cases: |_, compared, _| torrents::run_through_every_cut(SINGLE, compared) },
     Part {
@@ -83,7 +87,7 @@ fn compare(Part { name, cases }: &Part) {
     });
     println!("{name}: seed {seed}, {} calls compared in {} s", compared.compared, began.elapsed().as_secs());
     for ((entry, number), times) in &compared.seen {
-        println!("  {:<16} {number:>2} {times:>9}", entry.name());
+        println!("  {:<21} {number:>2} {times:>9}", entry.name());
     }
     if let Some(call) = compared.difference {
         println!("{name}: seed {seed}: the library differs from the reference\n{}", report(&by_library, &call));

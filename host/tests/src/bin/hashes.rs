@@ -5,9 +5,13 @@ use host_tests::fillings::{filled, lengths, FILLINGS};
 fn main() {
     for length in lengths() {
         for filling in 0..FILLINGS {
-            let hash = boundary::sha256(&filled(length, filling)).hash.bytes;
-            let hex: String = hash.iter().map(|byte| format!("{byte:02x}")).collect();
-            println!("{length} {filling} {hex}");
+            let string = filled(length, filling);
+            let (sha256, sha1) = (boundary::sha256(&string).hash.bytes, boundary::sha1(&string).hash.bytes);
+            println!("{length} {filling} {} {}", hex(&sha256), hex(&sha1));
         }
     }
+}
+
+fn hex(hash: &[u8]) -> String {
+    hash.iter().map(|byte| format!("{byte:02x}")).collect()
 }

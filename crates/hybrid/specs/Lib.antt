@@ -1,0 +1,13 @@
+pub mod Entry
+pub mod EntryLaws
+pub mod Meet
+pub mod MeetLaws
+pub mod Tally
+pub mod TallyLaws
+pub mod Ahead
+pub mod AheadLaws
+pub mod PathLaws
+pub mod Compare
+pub mod CompareLaws
+pub mod Half
+pub mod HalfLaws

@@ -1,0 +1,4 @@
+pub mod Words
+pub mod Block
+pub mod Stage
+pub mod StageLaws

@@ -1,0 +1,53 @@
+use Rattle.sha1.proofs.Messages.{whole-law}
+use Rattle.sha1.specs.Sha1.{digest, sha1}
+use Prim.Native.Nat.{_-_}
+use mathlib.Core.Path.{refl, ap, _∙_}
+use borrow.Author.Needs.{needs}
+use Rattle.sha1.proofs.hash.Statement.{statement}
+use Rattle.sha1.proofs.hash.Tie as tie
+
+start-requires : tie.Need-start-requires
+start-requires c κs = search needs
+
+whole-blocks-requires : tie.Need-whole-blocks-requires
+whole-blocks-requires c κs = search needs
+
+sub-at : tie.Need-sub-at
+sub-at c = search needs
+
+sub-rest : tie.Need-sub-rest
+sub-rest c = search needs
+
+part-rest-start : tie.Need-part-rest-start
+part-rest-start c = search needs
+
+part-rest-end : tie.Need-part-rest-end
+part-rest-end c = search needs
+
+finish-requires : tie.Need-finish-requires
+finish-requires c κs = search needs
+
+digest-requires : tie.Need-digest-requires
+digest-requires c κs = search needs
+
+returns : tie.Need-returns
+unfolding sha1
+returns c =
+    let m = c .before .before .before .before .before .before .args .s .now in
+    let z = c .before .before .before .before .start in
+    let t = c .before .before .before .whole-blocks in
+    c .digest .ensures ∙ ap digest (c .before .finish .ensures ∙ whole-law m _ (z .result) (t .result) refl (z .ensures) (t .ensures))
+
+pub hash-spec : {M : Type 1} → statement M
+hash-spec =
+    tie.close
+    (tie.spec
+    start-requires
+    whole-blocks-requires
+    sub-at
+    sub-rest
+    part-rest-start
+    part-rest-end
+    finish-requires
+    digest-requires
+    returns)

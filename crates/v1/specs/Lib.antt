@@ -1,0 +1,9 @@
+pub mod Place
+pub mod PlaceLaws
+pub mod V1
+pub mod Asked
+pub mod HalfLaws
+pub mod KnownLaws
+pub mod ReadLaws
+pub mod V1Means
+pub mod EachNumber
