@@ -489,6 +489,23 @@ KD_MUST_USE
 kd_answer kd_judge_hybrid_piece(uint8_t *store, size_t size, uint64_t piece, const uint8_t *data,
                                 size_t data_size, kd_sha1_hash v1, uint64_t zeros);
 
+/*
+ * Writes the hashes of a piece's blocks into `out`, as the message (KD_HASHES) that teaches them:
+ * kd_take of it on this store is KD_DONE, and then every leaf of the piece is held. So a store that
+ * learnt from a layer, or is of a file that was logged here, can answer requests for leaves. The
+ * store is only read, and no mark is set. KD_HEADER_SIZE and a 512th of the piece length are always
+ * room enough.
+ *   KD_UNUSABLE, KD_RULE_BROKEN, KD_WRONG_SIZE, KD_NO_ANCHOR, KD_DIFFERS, KD_CONFLICT  as
+ *       kd_judge_piece; nothing is written.
+ *   KD_NO_ROOM  `out` is shorter than the message; nothing is written.
+ *   KD_DONE  `count` is the message's size, leaves that are padding included; 0 only where the
+ *       piece's node is itself a leaf (pieces of one block, or a file of one): there is nothing to
+ *       say then. Bytes of `out` behind it stay.
+ */
+KD_MUST_USE
+kd_answer kd_piece_hashes(const uint8_t *store, size_t size, uint64_t piece, const uint8_t *data,
+                          size_t data_size, uint8_t *out, size_t out_size);
+
 /* ---- Marks: which blocks were judged right, for a host to know what it has on disk. Judging sets
    them, and kd_load those that were saved; only kd_clear, kd_open, kd_load and kd_repair take them
    back. ---- */

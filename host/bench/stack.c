@@ -92,6 +92,10 @@ static void judge_hybrid_piece(void)
 {
     number = kd_judge_hybrid_piece(store, size, 0, piece, LARGEST_PIECE, v1, 0).number;
 }
+static void piece_hashes(void)
+{
+    number = kd_piece_hashes(store, size, 0, piece, LARGEST_PIECE, out, REPLY).number;
+}
 static void marked(void) { number = kd_marked(store, size, 0).number; }
 static void clear(void) { number = kd_clear(store, size, 0).number; }
 static void bitfield(void) { number = kd_bitfield(store, size, out, REPLY).number; }
@@ -398,6 +402,7 @@ int main(void)
     show("kd_judge_piece", judge_piece);
     v1 = kd_sha1(piece, LARGEST_PIECE).hash;
     show("kd_judge_hybrid_piece", judge_hybrid_piece);
+    show("kd_piece_hashes", piece_hashes);
     show("kd_marked", marked);
     show("kd_clear", clear);
     show("kd_bitfield", bitfield);

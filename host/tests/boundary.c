@@ -443,6 +443,41 @@ static uint8_t *guarded(const void *bytes, size_t size)
     return memcpy(pages + room - size, bytes, size);
 }
 
+/* The leaves of both pieces, as the messages that teach them. The last piece has one block, and is filled up to four leaves. */
+static void piece_hashes(void)
+{
+    enum { SIZE = HEAD + 4 * 32 };
+    uint8_t fresh[STORE], before[STORE], out[ROOM];
+    kd_answer none;
+    answers("kd_open of another fresh store", kd_open(fresh, STORE, LENGTH, PIECE, root()), KD_DONE, 1);
+    answers("a piece whose node is not held",
+            kd_piece_hashes(fresh, STORE, 0, file, PIECE, out, ROOM), KD_NO_ANCHOR, 0);
+    answers("the layer over the pieces", kd_load_layer(fresh, STORE, tree[2][0].bytes, 64), KD_DONE, 2);
+    memcpy(before, fresh, STORE);
+    memset(out, 0xaa, ROOM);
+    answers("a piece's hashes without room",
+            kd_piece_hashes(fresh, STORE, 0, file, PIECE, out, SIZE - 1), KD_NO_ROOM, 0);
+    answers("a piece's hashes into NULL", kd_piece_hashes(fresh, STORE, 0, file, PIECE, NULL, 0), KD_NO_ROOM, 0);
+    answers("another piece's bytes", kd_piece_hashes(fresh, STORE, 0, file + 1, PIECE, out, ROOM), KD_DIFFERS, 0);
+    answers("the hashes of a piece past the file",
+            kd_piece_hashes(fresh, STORE, 2, file, PIECE, out, ROOM), KD_RULE_BROKEN, 0);
+    answers("kd_piece_hashes of NULL", kd_piece_hashes(fresh, STORE, 0, NULL, 0, out, ROOM), KD_WRONG_SIZE, 0);
+    answers("kd_piece_hashes on NULL", kd_piece_hashes(NULL, 0, 0, file, PIECE, out, ROOM), KD_UNUSABLE, 0);
+    none = kd_piece_hashes(NULL, 0, 0, NULL, 0, NULL, 0);
+    answers("kd_piece_hashes with NULL everywhere", none, KD_UNUSABLE, 0);
+    check("refusals write nothing", all_are(out, ROOM, 0xaa));
+    answers("kd_piece_hashes",
+            kd_piece_hashes(fresh, STORE, 1, file + PIECE, LENGTH - PIECE, out, ROOM), KD_DONE, SIZE);
+    check("the last piece's block and its padding",
+            memcmp(out + HEAD, tree[0][4].bytes, 4 * 32) == 0 && all_are(out + SIZE, ROOM - SIZE, 0xaa));
+    check("the store is only read", memcmp(fresh, before, STORE) == 0);
+    answers("they are taken", kd_take(fresh, STORE, out, SIZE), KD_DONE, 6);
+    answers("the first piece's hashes", kd_piece_hashes(fresh, STORE, 0, file, PIECE, out, SIZE), KD_DONE, SIZE);
+    answers("they are taken too", kd_take(fresh, STORE, out, SIZE), KD_DONE, 6);
+    check("all leaves are held", is_hashed(kd_held(fresh, STORE, 0, 3), KD_DONE, tree[0][3]) &&
+                                     kd_next_request(fresh, STORE, 0).asks == 0);
+}
+
 /* Both pieces, of four blocks and of one, were judged right on this store. */
 static void marks(void)
 {
@@ -632,6 +667,10 @@ static void ends_of_memories(void)
     check("guarded reply", memcmp(out, upper, size) == 0);
     answers("guarded kd_load_layer", kd_load_layer(lent, STORE, guarded(tree[2], 64), 64), KD_DONE, 0);
     answers("guarded kd_judge_piece", kd_judge_piece(lent, STORE, 1, guarded(file + PIECE, BLOCK), BLOCK), KD_DONE, 0);
+    out = guarded(bytes, HEAD + 4 * 32);
+    answers("guarded kd_piece_hashes",
+            kd_piece_hashes(guarded(lent, STORE), STORE, 1, guarded(file + PIECE, BLOCK), BLOCK, out, HEAD + 4 * 32),
+            KD_DONE, HEAD + 4 * 32);
     size = first_leaves(bytes);
     answers("guarded leaves", kd_take(lent, STORE, guarded(bytes, size), size), KD_DONE, 6);
     answers("guarded kd_judge_block",
@@ -1061,6 +1100,7 @@ int main(void)
     layers();
     blocks();
     pieces();
+    piece_hashes();
     marks();
     asking();
     saves();

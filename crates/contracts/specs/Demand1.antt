@@ -38,12 +38,13 @@ use Rattle.places.specs.Where.{place-in-table, first-in-table, place-zeros, fir
 use Rattle.published.specs.Published.{WriteNumber, is-4, is-11, is-19, is-21, is-24-to-28, WriteOutcome, put, left as nothingPut}
 use Rattle.published.specs.Promised.{write-outcome, write-refused}
 use Rattle.words.specs.Messages.{Form, Rejected}
-use Rattle.words.specs.History.{Bytes, Send, serve, bitfield, save, ask, send, Call, take, loadLayer, judgeBlock, judgePiece, judgeHybridPiece, clear, reopen, load, repair, look, replyNumber, sendReply, number as storeNumber, sentTo}
+use Rattle.words.specs.History.{Bytes, Send, serve, bitfield, save, pieceHashes, ask, send, Call, take, loadLayer, judgeBlock, judgePiece, judgeHybridPiece, clear, reopen, load, repair, look, replyNumber, sendReply, number as storeNumber, sentTo}
 use Rattle.words.specs.Answers.{ServeOutcome, replied, rejected, untouched}
 use Rattle.promises.specs.Demand1.{calls-in-table, sha256-in-table, size-in-table, refusal-leaves-store, request-answered, beside-refusal, beside-sha256, beside-size}
 use Rattle.promises.specs.EachNumber.{serve-2, serve-3, serve-12}
 use Rattle.promises.specs.Marks.{field-refused}
 use Rattle.promises.specs.Saved.{save-refused}
+use Rattle.promises.specs.Teaching.{told-refused}
 use Rattle.promises.specs.Running as Running
 use Rattle.contracts.specs.Entries.{AnyCall, onStore, version, sha256, sha1, storeSize, hashingBegin, hashingMore, hashingEnd, historyBegin, historyMore, historyEnd, streamBegin, streamHear, frame, torrentRead, torrentFile, torrentPath, torrentList, torrentInfo, torrentName, torrentHybrid, torrentV1Piece, torrentV1Pieces, torrentWrite, place, firstPiece, FromTable, Refused, Silent, said, output, outputAfter, lent, left, RejectSent, request, ValuesZero}
 
@@ -142,6 +143,7 @@ sent-leaves : (k : Send) (s out : List ℕ) (y : Bytes out) → (replyNumber (se
 sent-leaves (serve m x) s out y ne nr = serve-leaves s m out x y ne nr
 sent-leaves bitfield s out y ne nr = field-refused s out ne
 sent-leaves save s out y ne nr = save-refused s out ne
+sent-leaves (pieceHashes i d b) s out y ne nr = told-refused s i d out ne
 
 output-stays : (c : Call) (s : List ℕ) → (storeNumber c s ≡ 0 → ⊥) → (RejectSent (onStore c s) → ⊥) → outputAfter c s ≡ output c
 output-stays (take m b) s ne nr = refl

@@ -31,7 +31,7 @@ use Rattle.words.specs.Answers.{Beside}
 -- a call of any entry point
 pub data AnyCall : Type 0 where
   -- kd_open, kd_held, kd_take, kd_take_reject, kd_serve, kd_load_layer, kd_judge_block, kd_judge_piece, kd_judge_hybrid_piece, kd_clear, kd_marked, kd_bitfield,
-  -- kd_next_request, kd_pick_piece, kd_save, kd_load, kd_repair, kd_extends, kd_facts, and the bytes lent as their store
+  -- kd_next_request, kd_pick_piece, kd_save, kd_load, kd_repair, kd_extends, kd_facts, kd_piece_hashes, and the bytes lent as their store
   onStore : (c : Call) (s : List ℕ) → AnyCall
   -- kd_version
   version : AnyCall

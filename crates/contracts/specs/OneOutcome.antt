@@ -53,6 +53,7 @@ use Rattle.kombudeva.proofs.kd_torrent_v1_piece as v1-piece
 use Rattle.kombudeva.proofs.kd_torrent_v1_pieces as v1-pieces
 use Rattle.kombudeva.proofs.kd_place as placing
 use Rattle.kombudeva.proofs.kd_first_piece as first-piece
+use Rattle.kombudeva.proofs.kd_piece_hashes as teaching
 
 -- nothing is asked of the caller, whatever the arguments are
 abbrev pub AsksNothing : (n : ℕ) (ps : List (PK n)) → In n ps → Type 0
@@ -155,6 +156,10 @@ picking-asks-nothing κs a = tt
 -- kd_extends
 pub beginning-asks-nothing : AsksNothing 2 beginning.Kinds.ps beginning.Reads.Asked
 beginning-asks-nothing κs a = tt
+
+-- kd_piece_hashes
+pub teaching-asks-nothing : AsksNothing 3 teaching.Kinds.ps teaching.Reads.Asked
+teaching-asks-nothing κs a = tt
 
 -- kd_bitfield
 pub field-asks-nothing : AsksNothing 2 field.Kinds.ps field.Reads.Asked
@@ -341,6 +346,11 @@ one-picking κs a x y t u p q = p ∙ sym q
 -- kd_extends
 pub one-beginning : OneAnswer 2 beginning.Kinds.ps beginning.Kinds.r beginning.Reads.Learnt
 one-beginning κs a x y t u p q = p ∙ sym q
+
+-- kd_piece_hashes: the answer, and the output's bytes
+pub one-teaching : (κs : Lfts 3) (a : Dens κs teaching.Kinds.ps) (x y : resT teaching.Kinds.r κs .Denot) (t u : AtExit (endedOf 3 teaching.Kinds.ps teaching.Kinds.r) κs)
+    → teaching.Reads.Learnt κs a x t → teaching.Reads.Learnt κs a y u → (x ≡ y) × (now (t .1 .1 .1 .0) ≡ now (u .1 .1 .1 .0))
+one-teaching κs a x y t u p q = (p .0 ∙ sym (q .0), p .1 ∙ sym (q .1))
 
 -- kd_bitfield: the answer, and the output's bytes
 pub one-field : (κs : Lfts 2) (a : Dens κs field.Kinds.ps) (x y : resT field.Kinds.r κs .Denot) (t u : AtExit (endedOf 2 field.Kinds.ps field.Kinds.r) κs)

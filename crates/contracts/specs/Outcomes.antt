@@ -28,7 +28,7 @@ use Rattle.kombudeva.specs.declared.HybridAnswer.{HybridAnswer}
 use Rattle.kombudeva.specs.declared.V1PieceAnswer.{V1PieceAnswer}
 use Rattle.kombudeva.specs.declared.V1PartAnswer.{V1PartAnswer}
 use Rattle.kombudeva.specs.Boundary.{countAnswer, hashAnswer, factsStruct, torrentAnswer, fileAnswer, partAnswer, hybridAnswer, v1PieceAnswer, v1PartAnswer}
-use Rattle.words.specs.History.{Bytes, held, takeReject, isMarked, nextRequest, pickPiece, theFacts, beginsWith, serve, bitfield, ask, send, take, loadLayer, judgeBlock, judgePiece, judgeHybridPiece, clear, reopen, look, save, load, repair}
+use Rattle.words.specs.History.{Bytes, held, takeReject, isMarked, nextRequest, pickPiece, theFacts, beginsWith, serve, bitfield, ask, send, take, loadLayer, judgeBlock, judgePiece, judgeHybridPiece, clear, reopen, look, save, pieceHashes, load, repair}
 use Rattle.contracts.specs.Entries.{AnyCall, onStore, version, sha256, sha1, storeSize, hashingBegin, hashingMore, hashingEnd, historyBegin, historyMore, historyEnd, streamBegin, streamHear, frame, torrentRead, torrentFile, torrentPath, torrentList, torrentInfo, torrentName, torrentHybrid, torrentV1Piece, torrentV1Pieces, torrentWrite, place, firstPiece, Said, number, none, FromTable, Refused, said, lent, left, RejectSent}
 use Rattle.contracts.specs.Demand1.{every-number-in-table, every-refusal-leaves}
 use Rattle.kombudeva.proofs.kd_sha256 as hash
@@ -55,6 +55,7 @@ use Rattle.kombudeva.proofs.kd_next_request as next-request
 use Rattle.kombudeva.proofs.kd_pick_piece as picking
 use Rattle.kombudeva.proofs.kd_extends as beginning
 use Rattle.kombudeva.proofs.kd_bitfield as field
+use Rattle.kombudeva.proofs.kd_piece_hashes as teaching
 use Rattle.kombudeva.proofs.kd_stream_begin as stream-begin
 use Rattle.kombudeva.proofs.kd_version as versioning
 use Rattle.kombudeva.proofs.kd_stream_hear as stream-hear
@@ -152,6 +153,9 @@ pub data Outcome : AnyCall → Said → List (List ℕ) → List (List ℕ) → 
   -- kd_facts
   by-facts : (κs : Lfts 1) (a : Dens κs facts-named.Kinds.ps) (r : resT facts-named.Kinds.r κs .Denot) (e : AtExit (endedOf 1 facts-named.Kinds.ps facts-named.Kinds.r) κs) → facts-named.Reads.Learnt κs a r e
       → Outcome (onStore (look (ask theFacts)) (now (a .0))) (number (r .number)) (now (a .0) ∷ []) (now (a .0) ∷ [])
+  -- kd_piece_hashes
+  by-teaching : (κs : Lfts 3) (a : Dens κs teaching.Kinds.ps) (r : resT teaching.Kinds.r κs .Denot) (e : AtExit (endedOf 3 teaching.Kinds.ps teaching.Kinds.r) κs) → teaching.Reads.Learnt κs a r e
+      → (x : Bytes (now (a .1 .1 .0))) (y : Bytes (now (a .1 .1 .1 .0))) → Outcome (onStore (look (send (pieceHashes (a .1 .0) (now (a .1 .1 .0)) x) (now (a .1 .1 .1 .0)) y)) (now (a .0))) (number (r .number)) (now (a .0) ∷ now (a .1 .1 .1 .0) ∷ []) (now (a .0) ∷ now (e .1 .1 .1 .0) ∷ [])
   -- kd_bitfield
   by-field : (κs : Lfts 2) (a : Dens κs field.Kinds.ps) (r : resT field.Kinds.r κs .Denot) (e : AtExit (endedOf 2 field.Kinds.ps field.Kinds.r) κs) → field.Reads.Learnt κs a r e
       → (x : Bytes (now (a .1 .0))) → Outcome (onStore (look (send bitfield (now (a .1 .0)) x)) (now (a .0))) (number (r .number)) (now (a .0) ∷ now (a .1 .0) ∷ []) (now (a .0) ∷ now (e .1 .0) ∷ [])
@@ -240,6 +244,7 @@ outcome-is (by-next κs a r e p) = (ap (λ (s : Request). number (s .number)) p,
 outcome-is (by-pick κs a r e p) = (ap (λ (s : Choice). number (s .number)) p, refl, refl)
 outcome-is (by-beginning κs a r e p x y) = (ap (λ (s : CountAnswer). number (s .number)) p, refl, refl)
 outcome-is (by-facts κs a r e p) = (ap (λ (s : FactsAnswer). number (s .number)) p, refl, refl)
+outcome-is (by-teaching κs a r e p x y) = (ap (λ (s : CountAnswer). number (s .number)) (p .0), refl, ap (λ (o : List ℕ). now (a .0) ∷ o ∷ []) (p .1))
 outcome-is (by-field κs a r e p x) = (ap (λ (s : CountAnswer). number (s .number)) (p .0), refl, ap (λ (o : List ℕ). now (a .0) ∷ o ∷ []) (p .1))
 outcome-is (by-version κs a r e p) = (refl, refl, refl)
 outcome-is (by-stream-begin κs a r e p) = (refl, refl, refl)

@@ -22,6 +22,7 @@ use Rattle.extends.specs.Extends.{extendsAnswer}
 use Rattle.marks.specs.Marks.{clearAnswer, clearAfter, markedAnswer, fieldAnswer, fieldAfter}
 use Rattle.pieces.specs.Pieces.{layerAnswer, layerAfter, blockAnswer, blockAfter, pieceAnswer, pieceAfter}
 use Rattle.pieces.specs.Hybrid as Both
+use Rattle.leaves.specs.Leaves.{leavesAnswer, leavesAfter}
 use Rattle.saved.specs.Save.{saveAnswer, saveAfter}
 use Rattle.saved.specs.Saved.{loadAnswer, loadAfter, repairAnswer, repairAfter}
 use Rattle.torrent.specs.Torrent.{readOf, fileRead, pathRead}
@@ -77,6 +78,7 @@ use Rattle.kombudeva.proofs.kd_torrent_v1_piece as v1-piece
 use Rattle.kombudeva.proofs.kd_torrent_v1_pieces as v1-pieces
 use Rattle.kombudeva.proofs.kd_place as placing
 use Rattle.kombudeva.proofs.kd_first_piece as first-piece
+use Rattle.kombudeva.proofs.kd_piece_hashes as teaching
 
 -- kd_sha256
 pub hash-says : (κs : Lfts 1) (a : Dens κs hash.Kinds.ps) (r : resT hash.Kinds.r κs .Denot) (e : AtExit (endedOf 1 hash.Kinds.ps hash.Kinds.r) κs) → hash.Reads.Learnt κs a r e
@@ -193,6 +195,11 @@ picking-says κs a r e p = p
 pub beginning-says : (κs : Lfts 2) (a : Dens κs beginning.Kinds.ps) (r : resT beginning.Kinds.r κs .Denot) (e : AtExit (endedOf 2 beginning.Kinds.ps beginning.Kinds.r) κs) → beginning.Reads.Learnt κs a r e
     → r ≡ countAnswer (extendsAnswer (now (a .0)) (a .1 .0) (a .1 .1 .0 .bytes) (now (a .1 .1 .1 .0)))
 beginning-says κs a r e p = p
+
+-- kd_piece_hashes
+pub teaching-says : (κs : Lfts 3) (a : Dens κs teaching.Kinds.ps) (r : resT teaching.Kinds.r κs .Denot) (e : AtExit (endedOf 3 teaching.Kinds.ps teaching.Kinds.r) κs) → teaching.Reads.Learnt κs a r e
+    → (r ≡ countAnswer (leavesAnswer (now (a .0)) (a .1 .0) (now (a .1 .1 .0)) (now (a .1 .1 .1 .0)))) × (now (e .1 .1 .1 .0) ≡ leavesAfter (now (a .0)) (a .1 .0) (now (a .1 .1 .0)) (now (a .1 .1 .1 .0)))
+teaching-says κs a r e p = p
 
 -- kd_bitfield
 pub field-says : (κs : Lfts 2) (a : Dens κs field.Kinds.ps) (r : resT field.Kinds.r κs .Denot) (e : AtExit (endedOf 2 field.Kinds.ps field.Kinds.r) κs) → field.Reads.Learnt κs a r e

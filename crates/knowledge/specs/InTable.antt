@@ -35,11 +35,12 @@ use Rattle.saved.specs.Saved.{sound, rooted, loadNumber, loadAnswer, repairNumb
 use Rattle.knowledge.specs.Through.{clear-stays, load-stays, repair-stays}
 use Rattle.words.specs.Held.{Holds}
 use Rattle.words.specs.Messages.{Rejected}
-use Rattle.words.specs.History.{Bytes, Ask, held, takeReject, isMarked, nextRequest, pickPiece, theFacts, beginsWith, Send, serve, bitfield, Look, ask, send, Call, take, loadLayer, judgeBlock, judgePiece, judgeHybridPiece, clear, reopen, look, withCount, replyNumber, asked, sendReply, looked, answer, number, after, Opening, call, begin, next, save, load, repair}
+use Rattle.words.specs.History.{Bytes, Ask, held, takeReject, isMarked, nextRequest, pickPiece, theFacts, beginsWith, Send, serve, bitfield, Look, ask, send, Call, take, loadLayer, judgeBlock, judgePiece, judgeHybridPiece, clear, reopen, look, withCount, replyNumber, asked, sendReply, looked, answer, number, after, Opening, call, begin, next, save, pieceHashes, load, repair}
 use Rattle.words.specs.Answers.{ServeOutcome, replied, rejected, untouched, Zeros, Beside, reject, zeros}
 use Rattle.knowledge.specs.Again.{knowledge-only-grows}
 use Rattle.knowledge.specs.Refusals.{opening-refused, message-refused, layer-not-loaded, served}
 use Rattle.knowledge.specs.YoungerNumbers.{extends-in-table, extends-beside}
+use Rattle.knowledge.specs.LeavesNumbers.{leaves-in-table, leaves-leave}
 use Rattle.knowledge.specs.AskingNumbers.{next-in-table, next-beside, pick-in-table, pick-beside}
 use Rattle.knowledge.specs.NumberChains.{hashChain, hash-tests, sizeChain, size-tests, openChain, open-tests, heldChain, held-tests, takeChain, take-tests, rejectChain, reject-tests, layerChain, layer-tests, blockChain, block-tests, pieceChain, piece-tests, thereChain, there-tests, fieldChain, field-tests, saveChain, save-tests, savedChain, load-tests, repair-tests}
 
@@ -189,6 +190,7 @@ send-in-table : (k : Send) (s out : List ℕ) → InTable (replyNumber (sendRepl
 send-in-table (serve m b) s out = serve-in-table s m out
 send-in-table bitfield s out = in-table-of (fieldChain s out) (field-tests s out) refl
 send-in-table save s out = in-table-of (saveChain s out) (save-tests s out) refl
+send-in-table (pieceHashes i d b) s out = leaves-in-table s i d out
 
 look-in-table : (k : Look) (s : List ℕ) → InTable (replyNumber (looked k s))
 look-in-table (ask k) s = asked-in-table k s
@@ -253,6 +255,7 @@ send-beside (serve m b) s out y ne = by (served s m out)
     by (untouched n r e a) = zeros (λ w. no-reject n r (subst Rejected (ap (λ (x : Answer). x .number) e) w)) (ap (λ (x : Answer). x .count) e)
 send-beside bitfield s out y ne = zeros (λ w. w) (no-field s out ne)
 send-beside save s out y ne = zeros (λ w. w) (no-save s out ne)
+send-beside (pieceHashes i d b) s out y ne = zeros (λ w. w) (leaves-leave s i d out ne .1)
 
 pub beside-refusal : (c : Call) (s : List ℕ) → (number c s ≡ 0 → ⊥) → Beside c (answer c s)
 unfolding blockAnswer pieceAnswer hybridAnswer clearAnswer

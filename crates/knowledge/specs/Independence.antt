@@ -26,9 +26,10 @@ use Rattle.pieces.specs.PiecesLaws.{block-right, piece-right}
 use Rattle.pieces.specs.MarkedLaws.{block-fits, block-marks, block-stays, piece-fits, piece-marks, piece-stays}
 use Rattle.pieces.specs.Hybrid.{hybridAnswer, hybridAfter}
 use Rattle.pieces.specs.HybridLaws.{hybrid-leaves}
-use Rattle.words.specs.History.{Ask, held, takeReject, isMarked, nextRequest, pickPiece, theFacts, beginsWith, Send, serve, bitfield, Look, ask, send, Call, take, loadLayer, judgeBlock, judgePiece, judgeHybridPiece, clear, reopen, look, withCount, withHash, withRequest, withFacts, asked, sendReply, looked, answer, after, sentTo, Opening, Teaches, call, begin, next, save, load, repair}
+use Rattle.words.specs.History.{Ask, held, takeReject, isMarked, nextRequest, pickPiece, theFacts, beginsWith, Send, serve, bitfield, Look, ask, send, Call, take, loadLayer, judgeBlock, judgePiece, judgeHybridPiece, clear, reopen, look, withCount, withHash, withRequest, withFacts, asked, sendReply, looked, answer, after, sentTo, Opening, Teaches, call, begin, next, save, pieceHashes, load, repair}
 use Rattle.words.specs.Marks.{SameButMarks, AsksHashes, SendsHashes, LooksAtHashes, AboutHashes}
 use Rattle.knowledge.specs.AskingApart.{next-apart}
+use Rattle.knowledge.specs.LeavesNumbers.{leaves-beyond}
 use Rattle.knowledge.specs.Grows.{Grown, steps-grow}
 use Rattle.knowledge.specs.Through.{clear-writes, clear-stays}
 use Rattle.knowledge.specs.MarkedWhen.{there-0}
@@ -113,6 +114,7 @@ module _ (s t : List ℕ) (S : SameButMarks s t) where
   send-same (serve m b) x out = let w = serve-beyond s t f e m out in (ap (λ (a : Answer). withCount a) (w .0), w .1)
   send-same bitfield x out = absurd x
   send-same save x out = absurd x
+  send-same (pieceHashes i d b) x out = let w = leaves-beyond s t f e i d out in (ap (λ (a : Answer). withCount a) (w .0), w .1)
 
   looked-same : (k : Look) → LooksAtHashes k → looked k t ≡ looked k s
   looked-same (ask k) x = asked-same k x

@@ -96,6 +96,9 @@ pub mod PickedWhen
 pub mod PickingEnds
 pub mod AskingApart
 pub mod AskingNumbers
+-- a piece's block hashes, taught
+pub mod LeavesNumbers
+pub mod LeavesTaught
 -- a file and an earlier one
 pub mod Peaks
 pub mod YoungerNumbers

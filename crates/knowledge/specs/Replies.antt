@@ -13,7 +13,7 @@ use lib.ListN.{length}
 use lib.Dec.{leb}
 use lib.Pow.{pow-add}
 use borrow.Author.Tests.{leb-true}
-use Rattle.octets.specs.Octets.{Octets, cut, same, zeroHash}
+use Rattle.octets.specs.Octets.{Octets, same, zeroHash}
 use Rattle.octets.specs.OctetsLaws.{same-eq}
 use Rattle.sha256.specs.Sha256.{pairHash}
 use Rattle.numbers.specs.Numbers.{done}
@@ -33,13 +33,14 @@ use Rattle.settling.specs.PathLaws.{sibling-below, path-cases}
 use Rattle.settling.specs.AncestorLaws.{ancestor-le, ancestor-parent}
 use Rattle.header.specs.Header.{headerOf, isHashes, isRequest, placeOf, messageSize}
 use Rattle.header.specs.HeaderLaws.{rules-kept, log-some, top-inside}
-use Rattle.messages.specs.Padded.{allFrom, runPadded, unclePadded, unclesPadded}
+use Rattle.messages.specs.Padded.{runPadded, unclePadded, unclesPadded}
 use Rattle.messages.specs.Take.{headerNumber, runOf, unclesOf, given, settled, anchor, worked, padded, placeIn, takeNumber, takeAfter, takeAnswer}
 use Rattle.messages.specs.TakeLaws.{passed, passes}
 use Rattle.serve.specs.Serve.{replyTo, requestNumber}
 use Rattle.serve.specs.ServeLaws.{request-passes, reply-root, reply-header, reply-own-size, reply-form, reply-given, reply-uncle, run-held, uncle-held}
 use Rattle.words.specs.History.{Bytes, OurStore}
 use Rattle.words.specs.Shown.{heldBy}
+use Rattle.leaves.specs.Taught.{all-from}
 use Rattle.knowledge.specs.TakenWhen.{Right, right-then-taken}
 use Rattle.knowledge.specs.Again.{held-agrees}
 use Rattle.knowledge.specs.RightPadding.{Pads, sibling-number, run-size}
@@ -205,16 +206,6 @@ carried-held s r c w =
     )
 
 -- ---- its padding is right
-
-all-from : (run v : List ℕ) (from n : ℕ) → ((j : ℕ) → from ≤ j → j < n → cut run (32 * j) 32 ≡ v) → allFrom run v from n ≡ true
-unfolding allFrom
-all-from run v from zero f = refl
-all-from run v from (suc n) f =
-    ap₂ (λ (x y : Bool). x && y) (all-from run v from n (λ j a b. f j a (omega arith))) (by (leb from n) refl)
-  where
-    by : (t : Bool) → leb from n ≡ t → cond (leb from n) (same (cut run (32 * n) 32) v) true ≡ true
-    by true e = rw e (same-eq (cut run (32 * n) 32) v (f n (leb-true from n e) (omega arith)))
-    by false e = rw e
 
 uncles-right : (h b : ℕ) (hashes : List ℕ) (i u l x : ℕ) → l + u ≤ h → x < 2 ^ (h - l)
     → ((j : ℕ) → j < u → Pads h b (sibling (ancestor j (nodeNumber h l x))) (uncle hashes (i + j)))

@@ -9,8 +9,8 @@ use lib.ListN.{length, length-append}
 use lib.Dec.{eqb}
 use lib.Pow.{pow-mono}
 use borrow.Author.Tests.{eq-eqb}
-use Rattle.octets.specs.Octets.{cut, be, numberAt}
-use Rattle.octets.specs.OctetsLaws.{cut-length, cut-append-left, cut-append-right, number-cut, number-of-be}
+use Rattle.octets.specs.Octets.{cut, be}
+use Rattle.octets.specs.OctetsLaws.{cut-length, cut-append-right}
 use Rattle.store.specs.Store.{factsRoot, heightOf, Facts}
 use Rattle.header.specs.declared.Header.{Header}
 use Rattle.header.specs.Header.{requestId, headerSize, headerOf, messageRoot, isRequest, Small}
@@ -18,19 +18,8 @@ use Rattle.asking.specs.declared.next.Request.{Request}
 use Rattle.asking.specs.Asking.{wanted, lowest, unclesNeeded, runTop, runHeader, nextHeader, requestBytes, nextAnswer, runLayers, nextRun}
 use Rattle.asking.specs.AskingLaws.{needed-most, proof-most, run-facts, Asked, height-small, asked-below, asked-run}
 use Rattle.words.specs.Asking.{HeaderOf}
+use Rattle.leaves.specs.LeavesLaws.{field, number-field}
 use Rattle.knowledge.specs.NextRequest.{named}
-
-field : (pre f rest : List ℕ) (at n : ℕ) → length pre ≡ at → length f ≡ n → cut (pre ++ (f ++ rest)) at n ≡ f
-field pre f rest at n a b =
-    let q : pre ++ (f ++ rest) ≡ pre ++ f ++ rest = sym (append-assoc pre f rest) in
-    ap (λ (y : List ℕ). cut y at n) q
-    ∙ cut-append-left (pre ++ f) rest at n (omega (arith, length-append pre f))
-    ∙ cut-append-right pre f at n a b
-
-number-field : (m : List ℕ) (at x : ℕ) → x < 2 ^ 32 → cut m at 4 ≡ be 4 x → numberAt m at 4 ≡ x
-number-field m at x small e =
-    let z : at + 0 ≡ at = omega arith in
-    ap (λ (y : ℕ). numberAt m y 4) (sym z) ∙ sym (number-cut m at 4 0 4 (omega arith)) ∙ ap (λ (y : List ℕ). numberAt y 0 4) e ∙ number-of-be 4 x small
 
 module _ (root : List ℕ) (x : Header) (size : length root ≡ 32) (S : Small x) where
   B : List ℕ

@@ -27,8 +27,9 @@ use Rattle.marks.specs.MarksLaws.{marks-behind, marks-end, marks-facts, marks-s
 use Rattle.knowledge.specs.MarksBeyond.{there-beyond, marked-beyond, field-beyond, covered-beyond, marks-beyond}
 use Rattle.knowledge.specs.SavedBeyond.{save-beyond}
 use Rattle.knowledge.specs.Through.{clear-writes, clear-stays}
-use Rattle.words.specs.History.{Ask, held, takeReject, isMarked, nextRequest, pickPiece, theFacts, beginsWith, Send, serve, bitfield, ask, send, Call, take, loadLayer, judgeBlock, judgePiece, judgeHybridPiece, clear, reopen, look, withCount, withHash, withRequest, withPiece, withFacts, asked, sendReply, answer, after, sentTo, Opening, SameStore, save, load, repair}
+use Rattle.words.specs.History.{Ask, held, takeReject, isMarked, nextRequest, pickPiece, theFacts, beginsWith, Send, serve, bitfield, ask, send, Call, take, loadLayer, judgeBlock, judgePiece, judgeHybridPiece, clear, reopen, look, withCount, withHash, withRequest, withPiece, withFacts, asked, sendReply, answer, after, sentTo, Opening, SameStore, save, pieceHashes, load, repair}
 use Rattle.knowledge.specs.AskingApart.{next-behind, pick-behind}
+use Rattle.knowledge.specs.LeavesNumbers.{leaves-beyond}
 use Rattle.knowledge.specs.BytesLeft.{SameCells}
 use Rattle.knowledge.specs.Grows.{Grown, grown-take, grown-layer}
 use Rattle.knowledge.specs.Alike.{alike, same-byte, same-front}
@@ -131,6 +132,7 @@ module _ (s t : List ℕ) (S : SameStore s t) where
   send-alike : (k : Send) (out : List ℕ) → (sendReply k t out ≡ sendReply k s out) × (sentTo k t out ≡ sentTo k s out)
   send-alike (serve m b) out = let w = serve-beyond s t facts (alike s t facts (S .bytes)) m out in (ap (λ (a : Answer). withCount a) (w .0), w .1)
   send-alike save out = let w = save-beyond s t facts (S .bytes) out in (ap (λ (a : Answer). withCount a) (w .0), w .1)
+  send-alike (pieceHashes i d b) out = let w = leaves-beyond s t facts (alike s t facts (S .bytes)) i d out in (ap (λ (a : Answer). withCount a) (w .0), w .1)
   send-alike bitfield out = let w = field-beyond s t facts (S .bytes) out in (ap (λ (a : Answer). withCount a) (w .0), w .1)
 
   pub sends-alike : (k : Send) (out : List ℕ) → sentTo k t out ≡ sentTo k s out

@@ -16,6 +16,7 @@ ghost use Rattle.asking.specs.Picking.{pickAnswer};
 ghost use Rattle.extends.specs.Extends.{extendsAnswer};
 ghost use Rattle.pieces.specs.Pieces.{layerAnswer, layerAfter, blockAnswer, blockAfter, pieceAnswer, pieceAfter};
 ghost use Rattle.pieces.specs.Hybrid as Both;
+ghost use Rattle.leaves.specs.Leaves.{leavesAnswer, leavesAfter};
 ghost use Rattle.saved.specs.Save.{saveAnswer, saveAfter};
 ghost use Rattle.saved.specs.Saved.{loadAnswer, loadAfter, repairAnswer, repairAfter};
 ghost use Rattle.torrent.specs.Torrent.{readOf, fileRead, pathRead};
@@ -393,6 +394,13 @@ pub extern "C" fn kd_judge_hybrid_piece(
 {
     let hash = v1.bytes;
     count_answer(pieces::judge_hybrid_piece(s, piece as usize, bytes, hash, zeros as usize))
+}
+
+#[no_mangle]
+pub extern "C" fn kd_piece_hashes(s: &[u8], piece: u64, bytes: &[u8], out: &mut [u8]) -> CountAnswer
+    ensures { λ r. ⌜ (r ≡ countAnswer (leavesAnswer (now (s .entry)) piece (now (bytes .entry)) (now (out .entry)))) × (now (out .exit) ≡ leavesAfter (now (s .entry)) piece (now (bytes .entry)) (now (out .entry))) ⌝ }
+{
+    count_answer(leaves::piece_hashes(s, piece as usize, bytes, out))
 }
 
 #[no_mangle]

@@ -35,8 +35,8 @@ pub refusal-leaves-store : (c : Call) (s : List ℕ) → (number c s ≡ 0 → �
 refusal-leaves-store = Rattle.knowledge.specs.InTable.refused-leaves
 
 -- "save for the reject message that a refused request gets.": of kd_serve's output. It has the reply; or the reject beside 2, 3 or 12; or
--- stays as it is. (The other outputs lent to a call on a store are kd_bitfield's and kd_save's: `field-refused`
--- in Marks, `save-refused` in Saved.)
+-- stays as it is. (The other outputs lent to a call on a store are kd_bitfield's, kd_save's and kd_piece_hashes': `field-refused`
+-- in Marks, `save-refused` in Saved, `told-refused` in Teaching.)
 pub request-answered : (s m out : List ℕ) → ServeOutcome s m out
 request-answered = Rattle.knowledge.specs.Refusals.served
 

@@ -17,6 +17,8 @@ pub mod AnyOrder
 pub mod Heard
 -- 02: a piece of a hybrid
 pub mod Hybrid
+-- what hosts need: a piece's block hashes
+pub mod Teaching
 -- 00: a battery does not get younger
 pub mod Younger
 -- the premises can be met
@@ -34,6 +36,7 @@ pub mod AskingExample
 pub mod SavedExample
 pub mod YoungerExample
 pub mod HybridExample
+pub mod TeachingExample
 -- the impostors
 pub mod NumbersGiven
 pub mod Impostors

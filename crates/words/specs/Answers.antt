@@ -16,13 +16,14 @@ use Rattle.asking.specs.Asking.{noRequest}
 use Rattle.asking.specs.Picking.{noPiece}
 use Rattle.facts.specs.Facts.{noFacts}
 use Rattle.words.specs.Messages.{Rejected}
-use Rattle.words.specs.History.{Send, serve, bitfield, Look, ask, send, Call, take, loadLayer, judgeBlock, judgePiece, judgeHybridPiece, clear, reopen, look, Reply, withCount, withHash, withRequest, withPiece, withFacts, replyNumber, save, load, repair, withCounts}
+use Rattle.words.specs.History.{Send, serve, bitfield, Look, ask, send, Call, take, loadLayer, judgeBlock, judgePiece, judgeHybridPiece, clear, reopen, look, Reply, withCount, withHash, withRequest, withPiece, withFacts, replyNumber, save, pieceHashes, load, repair, withCounts}
 
 -- with this number the call gets a reject: it is a request, and the number 2, 3 or 12
 abbrev pub SentReject : Send → ℕ → Type 0
 SentReject (serve m b) n = Rejected n
 SentReject bitfield n = ⊥
 SentReject save n = ⊥
+SentReject (pieceHashes i d b) n = ⊥
 
 abbrev pub LookRejected : Look → ℕ → Type 0
 LookRejected (ask k) n = ⊥

@@ -23,6 +23,7 @@ use Rattle.asking.specs.Asking.{nextAnswer}
 use Rattle.asking.specs.Picking.{pickAnswer}
 use Rattle.extends.specs.Extends.{extendsAnswer}
 use Rattle.marks.specs.Marks.{clearAnswer, clearAfter, markedAnswer, fieldAnswer, fieldAfter}
+use Rattle.leaves.specs.Leaves.{leavesAnswer, leavesAfter}
 use Rattle.saved.specs.Save.{saveAnswer, saveAfter}
 use Rattle.saved.specs.Saved.{loadAnswer, loadAfter, repairAnswer, repairAfter}
 use Rattle.saved.specs.declared.repair.Repaired.{Repaired}
@@ -57,6 +58,8 @@ pub data Send : Type 0 where
   bitfield : Send
   -- kd_save
   save : Send
+  -- kd_piece_hashes: a piece and its number
+  pieceHashes : (i : ℕ) (piece : List ℕ) → Bytes piece → Send
 
 -- calls that only look at a store: they are lent it as `&`
 pub data Look : Type 0 where
@@ -116,6 +119,7 @@ abbrev pub sendReply : Send → List ℕ → List ℕ → Reply
 sendReply (serve m b) s out = withCount (serveAnswer s m out)
 sendReply bitfield s out = withCount (fieldAnswer s out)
 sendReply save s out = withCount (saveAnswer s out)
+sendReply (pieceHashes i d b) s out = withCount (leavesAnswer s i d out)
 
 abbrev pub looked : Look → List ℕ → Reply
 looked (ask k) s = asked k s
@@ -154,6 +158,7 @@ abbrev pub sentTo : Send → List ℕ → List ℕ → List ℕ
 sentTo (serve m b) s out = serveAfter s m out
 sentTo bitfield s out = fieldAfter s out
 sentTo save s out = saveAfter s out
+sentTo (pieceHashes i d b) s out = leavesAfter s i d out
 
 -- it is an opening: loading and repairing count as one
 abbrev pub Opening : Call → Type 0

@@ -11,3 +11,4 @@ pub mod Saving
 pub mod Hearing
 pub mod Asking
 pub mod Younger
+pub mod Teaching

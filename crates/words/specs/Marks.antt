@@ -16,7 +16,7 @@ use Rattle.pieces.specs.Pieces.{pieceHeight}
 use Rattle.pieces.specs.Hybrid.{V1Agrees}
 use Rattle.words.specs.Held.{Holds}
 use Rattle.words.specs.Pieces.{BlockFormed, PieceFormed, PieceSettles}
-use Rattle.words.specs.History.{Bytes, Ask, held, takeReject, isMarked, nextRequest, pickPiece, theFacts, beginsWith, Send, serve, bitfield, Look, ask, send, Call, take, loadLayer, judgeBlock, judgePiece, judgeHybridPiece, clear, reopen, look, number, after, Opening, SameStore, call, lent, Steps, next, save, load, repair, begin}
+use Rattle.words.specs.History.{Bytes, Ask, held, takeReject, isMarked, nextRequest, pickPiece, theFacts, beginsWith, Send, serve, bitfield, Look, ask, send, Call, take, loadLayer, judgeBlock, judgePiece, judgeHybridPiece, clear, reopen, look, number, after, Opening, SameStore, call, lent, Steps, next, save, pieceHashes, load, repair, begin}
 
 -- block j is one of the file's, and its first byte lies in piece i
 pub record Covers (s : List ℕ) (i j : ℕ) : Type 0 where
@@ -53,6 +53,7 @@ abbrev pub SendsHashes : Send → Type 0
 SendsHashes (serve m b) = Unit {0}
 SendsHashes bitfield = ⊥
 SendsHashes save = ⊥
+SendsHashes (pieceHashes i d b) = Unit {0}
 
 abbrev pub LooksAtHashes : Look → Type 0
 LooksAtHashes (ask k) = AsksHashes k

@@ -52,6 +52,7 @@ pub fn all() -> Vec<Job> {
         in_library("layer-16GiB", "one-by-one", "kd_load_layer", "", 32 * LONGEST_LAYER, loading_longest),
         job("piece-1MiB", "kd_judge_piece", "0.36", PIECE as usize, judging),
         job("hybrid-piece-1MiB", "kd_judge_hybrid_piece", "0.75", PIECE as usize, judging_both).plain_alone(),
+        in_library("hashes-1MiB", "kd_judge_piece", "kd_piece_hashes", "", PIECE as usize, teaching),
         job("load-layer", "kd_load_layer", "0.70", 32 * PIECES, loading),
         job("history-256KiB", "kd_history_more", "0.40", LOGGED, logging_in_rust),
         job("next-last-leaf", "kd_next_request", "", 1 << 20, asking::last_leaf).plain_alone(),
@@ -467,6 +468,11 @@ impl InLibrary {
         black_box(boundary::serve(&self.store, black_box(&self.message), &mut self.out))
     }
 
+    fn teach(&mut self) -> boundary::Answer {
+        let piece = ONE_GIB.piece_number();
+        black_box(boundary::piece_hashes(&self.store, piece, black_box(&self.message), &mut self.out))
+    }
+
     fn judge(&mut self) -> boundary::Answer {
         black_box(boundary::judge_piece(&mut self.store, ONE_GIB.piece_number(), black_box(&self.message)))
     }
@@ -515,6 +521,17 @@ fn piece_in_scene() -> (Vec<u8>, Scene) {
     let mut leaves: Vec<Hash> = piece.chunks(16384).map(sha256).collect();
     leaves.resize(ONE_GIB.run as usize, [1; 32]);
     (piece, Scene::new(ONE_GIB, leaves))
+}
+
+/// A piece's hashes written, beside the same piece judged: both hash it, the first twice.
+fn teaching() -> Vec<Box<dyn Work>> {
+    let (piece, scene) = piece_in_scene();
+    let judged = InLibrary::new(&scene, scene.told(), piece.clone());
+    let taught = InLibrary::new(&scene, scene.told(), piece);
+    vec![
+        work(judged, |_| (), |state| assert_eq!(state.judge().number, 0)),
+        work(taught, |_| (), |state| assert_eq!(state.teach().count, 49 + PIECE / 512)),
+    ]
 }
 
 /// Judging the piece that the run begins with, its leaves and its node held.

@@ -4,8 +4,8 @@ use crate::colour::Colour;
 use crate::end::{Failure, Verdict};
 use crate::text::{hex, shown, size};
 use crate::torrent::{Entry, Meta};
-use crate::{json, leaves, out, place};
-use kombudeva::limits::BLOCK;
+use crate::{json, out, place};
+use kombudeva::limits::{BLOCK, HEADER_SIZE};
 use kombudeva::{store_size, Refusal, Store};
 use serde::Serialize;
 use std::io;
@@ -91,10 +91,13 @@ fn extends(old: &Entry, new: &Entry, piece_length: u64, path: &Path) -> io::Resu
     if inside {
         let piece = old.length / piece_length;
         data = read_piece(path, piece * piece_length, piece_length.min(new.length - piece * piece_length))?;
-        if let Some(message) = leaves::message(new, piece_length, piece, &data) {
-            if let Err(refusal) = store.take(&message) {
-                return Ok(Err(refusal));
-            }
+        let mut room = vec![0; HEADER_SIZE + piece_length as usize / 512];
+        let message = match store.piece_hashes(piece, &data, &mut room) {
+            Ok(message) => message,
+            Err(refusal) => return Ok(Err(refusal)),
+        };
+        if !message.is_empty() {
+            store.take(message)?;
         }
         if old.length % BLOCK != 0 {
             let first = (old.length / BLOCK * BLOCK - piece * piece_length) as usize;

@@ -9,7 +9,6 @@ mod explain;
 mod extends;
 mod hashed;
 mod json;
-mod leaves;
 mod make;
 mod out;
 mod pieces;

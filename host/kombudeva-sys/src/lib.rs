@@ -91,6 +91,11 @@ pub fn judge_hybrid_piece(store: &mut [u8], piece: u64, data: &[u8], v1: Sha1Has
     unsafe { raw::kd_judge_hybrid_piece(store.as_mut_ptr(), store.len(), piece, data.as_ptr(), data.len(), v1, zeros) }
 }
 
+pub fn piece_hashes(store: &[u8], piece: u64, data: &[u8], out: &mut [u8]) -> Answer {
+    let (bytes, size) = (data.as_ptr(), data.len());
+    unsafe { raw::kd_piece_hashes(store.as_ptr(), store.len(), piece, bytes, size, out.as_mut_ptr(), out.len()) }
+}
+
 pub fn marked(store: &[u8], block: u64) -> Answer {
     unsafe { raw::kd_marked(store.as_ptr(), store.len(), block) }
 }

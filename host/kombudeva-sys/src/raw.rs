@@ -277,6 +277,15 @@ extern "C" {
         v1: Sha1Hash,
         zeros: u64,
     ) -> Answer;
+    pub fn kd_piece_hashes(
+        store: *const u8,
+        size: usize,
+        piece: u64,
+        data: *const u8,
+        data_size: usize,
+        out: *mut u8,
+        out_size: usize,
+    ) -> Answer;
     pub fn kd_marked(store: *const u8, size: usize, block: u64) -> Answer;
     pub fn kd_clear(store: *mut u8, size: usize, block: u64) -> Answer;
     pub fn kd_bitfield(store: *const u8, size: usize, out: *mut u8, out_size: usize) -> Answer;

@@ -150,6 +150,18 @@ impl<M: AsRef<[u8]>> Store<M> {
         Served { answer: done(given), reply: &out[..given.count as usize] }
     }
 
+    /// Writes the hashes of a piece's blocks at the front of `out`, as the message (id 22) that teaches them, and gives the part that it
+    /// is: taken by [`Store::take`] on this store it makes every leaf of the piece held. It is empty where the piece's node is itself a
+    /// leaf. [`HEADER_SIZE`](crate::limits::HEADER_SIZE) bytes and a 512th of the piece length are always room enough.
+    ///
+    /// # Errors
+    ///
+    /// As [`Store::judge_piece`]; then [`NoRoom`](Refusal::NoRoom).
+    pub fn piece_hashes<'o>(&self, piece: u64, data: &[u8], out: &'o mut [u8]) -> Result<&'o [u8], Refusal> {
+        let given = boundary::piece_hashes(self.bytes(), piece, data, out);
+        answer(given.number, &out[..given.count as usize])
+    }
+
     /// Whether a block is marked: its data was judged right.
     ///
     /// # Errors

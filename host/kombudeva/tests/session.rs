@@ -190,6 +190,25 @@ fn layers_pieces_and_blocks() {
     assert_eq!(store.judge_block(4, known.block(3)), Err(Refusal::Differs));
 }
 
+/// A store that learnt from a layer comes to hold its leaves, of the pieces at hand.
+#[test]
+fn a_layer_and_the_pieces_teach_the_leaves() {
+    let known = known();
+    let mut memory = Vec::new();
+    let mut store = known.open(&mut memory);
+    let layer: Vec<u8> = (0..2).flat_map(|piece| known.at(2, piece)).collect();
+    assert_eq!(store.load_layer(&layer), Ok(2));
+    let mut room = [0; 49 + 4 * 32];
+    for (piece, data) in known.bytes.chunks(PIECE as usize).enumerate() {
+        assert_eq!(store.piece_hashes(piece as u64, data, &mut room[1..]), Err(Refusal::NoRoom));
+        let message = store.piece_hashes(piece as u64, data, &mut room).unwrap();
+        assert_eq!(message, known.message([0, 4 * piece as u32, 4, 0]));
+        assert_eq!(store.take(message), Ok(6));
+    }
+    assert_eq!(store.next_request(0), Ok(None));
+    assert_eq!(store.marked(0), Ok(false));
+}
+
 /// From a fresh store to the last leaf and the last piece, by what it names itself, from a store that has all.
 #[test]
 fn asking_and_picking_to_the_end() {

@@ -38,6 +38,7 @@ pub enum Entry {
     JudgeBlock,
     JudgePiece,
     JudgeHybridPiece,
+    PieceHashes,
     Marked,
     Clear,
     Bitfield,
@@ -86,6 +87,7 @@ impl Entry {
             Entry::JudgeBlock => "kd_judge_block",
             Entry::JudgePiece => "kd_judge_piece",
             Entry::JudgeHybridPiece => "kd_judge_hybrid_piece",
+            Entry::PieceHashes => "kd_piece_hashes",
             Entry::Marked => "kd_marked",
             Entry::Clear => "kd_clear",
             Entry::Bitfield => "kd_bitfield",
@@ -267,6 +269,7 @@ pub fn by_reference(call: &Call) -> Outcome {
         Entry::JudgeHybridPiece => {
             Given::Answer(hybrid::judge_hybrid_piece(&mut store, first, &input, v1_of(&root), second))
         }
+        Entry::PieceHashes => Given::Answer(hosts::piece_hashes(&store, first, &input, &mut out)),
         Entry::Marked => Given::Answer(marks::marked(&store, first)),
         Entry::Clear => Given::Answer(marks::clear(&mut store, first)),
         Entry::Bitfield => Given::Answer(marks::bitfield(&store, &mut out)),
@@ -385,6 +388,7 @@ pub fn by_library(call: &Call) -> Outcome {
             let v1 = boundary::Sha1Hash { bytes: v1_of(&call.root) };
             answer(boundary::judge_hybrid_piece(held_bytes, first, message, v1, second))
         }
+        Entry::PieceHashes => answer(boundary::piece_hashes(held_bytes, first, message, room)),
         Entry::Marked => answer(boundary::marked(held_bytes, first)),
         Entry::Clear => answer(boundary::clear(held_bytes, first)),
         Entry::Bitfield => answer(boundary::bitfield(held_bytes, room)),

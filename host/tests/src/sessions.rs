@@ -102,7 +102,7 @@ impl<'a> Session<'a> {
         if call.entry != Entry::StoreSize {
             self.store.clone_from(&outcome.store);
         }
-        if call.entry == Entry::Serve {
+        if [Entry::Serve, Entry::PieceHashes].contains(&call.entry) {
             self.last_reply = outcome.out[..outcome.given.count() as usize].to_vec();
         }
         outcome
@@ -140,6 +140,7 @@ impl<'a> Session<'a> {
             115..=122 => self.next_request(random),
             123..=126 => self.pick_piece(random),
             127..=132 => self.extends(random),
+            _ if random.percent(30) => self.piece_hashes(random),
             _ => self.judgement(random),
         }
     }
@@ -368,6 +369,28 @@ impl<'a> Session<'a> {
         }
         leaves.resize(leaves.len().next_power_of_two(), [0; 32]);
         over_run(Position { layer: 0, index: 0 }, &leaves).last().expect("a tree has a root").1
+    }
+
+    /// A piece's block hashes, in any room; the bytes as a judgement has them.
+    fn piece_hashes(&self, random: &mut Random) -> Call {
+        let facts = &self.truth.facts;
+        let node = facts.piece_position(0).layer;
+        let size = if node == 0 { 0 } else { HEAD + 32 * (1 << node) };
+        let room = random.pick(&[size, size, size + 1, size + 40, size.saturating_sub(1), 0]);
+        let out = random.bytes(room);
+        let number = match random.below(12) {
+            0 => facts.pieces(),
+            1 => random.pick(&HOSTILE_NUMBERS),
+            2..=6 => facts.pieces() - 1,
+            _ => random.below(facts.pieces()),
+        };
+        let mut data = self.truth.part(number, facts.piece_length, facts.piece_size(number).unwrap_or(10));
+        match random.below(10) {
+            0 => resize(&mut data, random),
+            1 => flip(&mut data, random),
+            _ => (),
+        }
+        Call::new(Entry::PieceHashes).on(&self.store).numbers(number, 0).input(data).out(out)
     }
 
     fn judgement(&self, random: &mut Random) -> Call {

@@ -126,7 +126,7 @@ fn untouched(call: &Call) -> Outcome {
 }
 
 fn every_number_comes_up() {
-    let expected: [(Entry, &[u32]); 17] = [
+    let expected: [(Entry, &[u32]); 18] = [
         (Entry::StoreSize, &[0, 10]),
         (Entry::Open, &[0, 9, 10]),
         (Entry::Facts, &[0, 9]),
@@ -138,6 +138,7 @@ fn every_number_comes_up() {
         (Entry::JudgeBlock, &[0, 3, 4, 6, 7, 9]),
         (Entry::JudgePiece, &[0, 3, 4, 6, 7, 8, 9]),
         (Entry::JudgeHybridPiece, &[0, 3, 4, 6, 7, 8, 9]),
+        (Entry::PieceHashes, &[0, 3, 4, 6, 7, 8, 9, 11]),
         (Entry::Marked, &[0, 3, 9]),
         (Entry::Clear, &[0, 3, 9]),
         (Entry::Bitfield, &[0, 9, 11]),
@@ -685,6 +686,50 @@ fn a_younger_battery() {
     }
 }
 
+/// A library whose message of a piece's hashes `change` makes another where there is one.
+fn assert_teaching_found_out(name: &str, change: impl Fn(&Call, &mut Outcome)) {
+    assert_found_out(name, &|call| match (call.entry, by_reference(call)) {
+        (Entry::PieceHashes, mut outcome) if outcome.given.number() == DONE && outcome.given.count() > 0 => {
+            change(call, &mut outcome);
+            outcome
+        }
+        (_, outcome) => outcome,
+    });
+}
+
+fn hashes_of_a_piece_that_are_wrong_in_one_way() {
+    assert_teaching_found_out("padding left out", |call, outcome| {
+        let blocks = call.input.len().div_ceil(BLOCK as usize);
+        outcome.given = Given::Answer(Answer::done((HEAD + 32 * blocks) as u64));
+    });
+    assert_teaching_found_out("the piece's number for its first leaf", |call, outcome| {
+        outcome.out[37..41].copy_from_slice(&(call.numbers[0] as u32).to_be_bytes());
+    });
+    assert_teaching_found_out("with the proof layers up to the root", |call, outcome| {
+        let facts = facts_of(&call.store).unwrap();
+        outcome.out[45..49].copy_from_slice(&(facts.height() as u32 - 1).to_be_bytes());
+    });
+    assert_teaching_found_out("the last block filled up before it is hashed", |call, outcome| {
+        let blocks = call.input.len().div_ceil(BLOCK as usize);
+        let mut last = call.input[(blocks - 1) * BLOCK as usize..].to_vec();
+        last.resize(BLOCK as usize, 0);
+        outcome.out[HEAD + 32 * (blocks - 1)..][..32].copy_from_slice(&sha256(&last));
+    });
+    assert_teaching_found_out("marked as if it were judged", |call, outcome| {
+        let facts = facts_of(&call.store).unwrap();
+        mark(&mut outcome.store, &facts, facts.blocks_of_piece(call.numbers[0]));
+    });
+    assert_found_out("a header where there is nothing to say", &|call| match (call.entry, by_reference(call)) {
+        (Entry::PieceHashes, outcome) if outcome.given.number() == DONE && outcome.given.count() == 0 => {
+            Outcome { given: Given::Answer(Answer::done(HEAD as u64)), ..outcome }
+        }
+        (_, outcome) => outcome,
+    });
+    for number in [3, 4, 6, 7, 8, 9, 11] {
+        assert_needed(Entry::PieceHashes, number);
+    }
+}
+
 /// A library that differs where `change` does, on one entry point of saved stores.
 fn assert_save_found_out(name: &str, entry: Entry, change: impl Fn(&Call, &mut Outcome)) {
     let impostor = |call: &Call| {
@@ -1064,6 +1109,7 @@ host_tests::tests! {
     requests_that_are_wrong_in_one_way,
     pieces_picked_wrong,
     a_younger_battery,
+    hashes_of_a_piece_that_are_wrong_in_one_way,
     stores_saved_and_loaded_wrong,
     every_number_of_a_save_comes_up,
     what_hosts_need_answered_wrong,
