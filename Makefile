@@ -3,7 +3,9 @@
 # rest; dist: the library's part of that as one tar, with sums.
 # bench: speed against plain Rust. interop: with a real client, libtorrent, on loopback. torrents: read those that libtorrent
 # makes, and have it read ours. soak: generated calls compared with the second implementation, for long.
-.PHONY: run test lib kd install uninstall dist bench interop torrents soak
+# gateway: a small gateway over the library. gateway-test: its long tests. gateway-demo: two of them on loopback; gateway-damage damages a
+# file of the second and shows it found and fetched again, gateway-stop ends both.
+.PHONY: run test lib kd install uninstall dist bench interop torrents soak gateway gateway-test gateway-demo gateway-damage gateway-stop
 
 PREFIX ?= /usr/local
 export PREFIX DESTDIR
@@ -43,3 +45,20 @@ torrents: lib
 
 soak: lib
 	host/soak
+
+gateway:
+	@[ -f target/staticlib/libkombudeva.a ] || $(MAKE) lib
+	host/gateway/build
+
+gateway-test:
+	@[ -f target/staticlib/libkombudeva.a ] || $(MAKE) lib
+	host/gateway/test all
+
+gateway-demo: gateway
+	@host/gateway/demo start
+
+gateway-damage:
+	@host/gateway/demo damage
+
+gateway-stop:
+	@host/gateway/demo stop
