@@ -106,10 +106,10 @@ extern "C" {
                                            or that saved bytes open with; a burst past the longest
                                            file */
 #define KD_NO_ROOM 11                   /* the output is shorter than the reply, reject included; or
-                                           than the bitfield, a torrent's list, a save, a torrent or
-                                           a frame that is written; or a piece's hash doesn't fit
-                                           the lent layer; or a stream's message is larger than the
-                                           room */
+                                           than the bitfield, a torrent's list, a piece's hashes, a
+                                           save, a torrent or a frame that is written; or a piece's
+                                           hash doesn't fit the lent layer; or a stream's message is
+                                           larger than the room */
 #define KD_NOT_HELD 12                  /* a requested hash isn't held */
 #define KD_TORRENT_TOO_LARGE 19         /* a torrent above KD_LARGEST_TORRENT */
 #define KD_NOT_STRICT 20                /* the torrent is not one dictionary in strict bencoding */
@@ -742,8 +742,8 @@ kd_part kd_torrent_name(const uint8_t *torrent, size_t size);
 /* ---- Hybrid torrents: `info` has `pieces`, and so a v1 half beside the v2 half. ---- */
 
 /*
- * The halves fit, and no call on a torrent answers KD_HALVES_DIFFER, exactly where all of this
- * holds, of BEP 3 and BEP 47:
+ * Of a hybrid with none of 19 to 28, the halves fit, and no call on it answers KD_HALVES_DIFFER,
+ * exactly where all of this holds, of BEP 3 and BEP 47:
  *   - `info` has either `files`, a list, where `name`, if there is one, is a string; or `length`,
  *     and a string `name`, which is the one path element of the one file;
  *   - each entry of `files` is a dictionary with a `length` that isn't negative; its `attr`, if
@@ -796,7 +796,9 @@ KD_MUST_USE
 kd_v1_part kd_torrent_v1_pieces(const uint8_t *torrent, size_t size, uint64_t file);
 
 /* ---- Pieces as they are counted on the wire: file by file in tree order. An empty file has none.
-   Both calls take the list that kd_torrent_list writes, `count` bytes of it. ---- */
+   (In a hybrid whose padding has a whole piece or more, v1 counts that padding's pieces too;
+   kd_torrent_v1_piece takes the file's own number.) Both calls take the list that kd_torrent_list
+   writes, `count` bytes of it. ---- */
 
 /* A number, and beside KD_DONE a file and a piece of it, both from 0. */
 typedef struct { uint32_t number; uint64_t file; uint64_t piece; } kd_placed;

@@ -9,7 +9,7 @@ use Rattle.numbers.specs.Numbers.{noSuchPart}
 use Rattle.bencode.specs.Parts.{findKey}
 use Rattle.bencode.specs.declared.scalar.ByteString.{ByteString}
 use Rattle.bencode.specs.declared.scalar.ByteString.the-variants.{Content, NoString}
-use Rattle.publishing.specs.Content.{keyName}
+use Rattle.writer_meaning.specs.Content.{keyName}
 use Rattle.layers.specs.Layers.{stringIn}
 use Rattle.torrent.specs.Torrent.{checkedOf, noPartRead}
 use Rattle.torrent.specs.declared.check.Checked.{Checked}

@@ -1,10 +1,8 @@
 -- What is answered, from what was checked and found.
 -- Assumes nothing.
-use Prim.{Unit}
 use mathlib.Core.Path.{_≡_, refl, sym, ap, _∙_}
 use mathlib.Core.List.{List}
 use Prim.Native.Nat.{ℕ, _-_, _≤_}
-use native.Mathlib.Omega.{arith}
 use lib.ListN.{length, drop}
 use borrow.Author.Tests.{eq-eqb, ne-eqb}
 use Rattle.bencode.specs.Scalar.{readString}
@@ -14,7 +12,7 @@ use Rattle.bencode.specs.declared.scalar.ByteString.{ByteString}
 use Rattle.bencode.specs.declared.scalar.ByteString.the-variants.{Content, NoString}
 use Rattle.bencode.specs.declared.parts.Found.{Found}
 use Rattle.bencode.specs.declared.parts.Found.the-variants.{Part, Missing}
-use Rattle.publishing.specs.Content.{keyName}
+use Rattle.writer_meaning.specs.Content.{keyName}
 use Rattle.layers.specs.Layers.{Inside, stringIn}
 use Rattle.torrent.specs.Torrent.{checkedOf, noPartRead}
 use Rattle.torrent.specs.CheckLaws.{checked-so}

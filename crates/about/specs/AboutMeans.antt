@@ -24,7 +24,7 @@ use Rattle.bencode.specs.declared.parts.Found.{Found}
 use Rattle.bencode.specs.declared.parts.Found.the-variants.{Part, Missing}
 use Rattle.meaning.specs.Keys.{keyInfo}
 use Rattle.meaning.specs.Torrent.{infoOf}
-use Rattle.publishing.specs.Content.{keyName}
+use Rattle.writer_meaning.specs.Content.{keyName}
 use Rattle.metainfo.specs.Metainfo.{bytesIn}
 use Rattle.metainfo.specs.declared.Keys.{Keys}
 use Rattle.layers.specs.Layers.{stringIn}

@@ -342,10 +342,6 @@ pub height-small : (s : List ℕ) → Facts s → heightOf s ≤ tallestTree
 unfolding heightOf blocksOf
 height-small s f = height-most (fileLength s) (f .most)
 
-pub lowest-most : (s : List ℕ) (l : ℕ) → lowest s l ≤ wanted s l
-unfolding lowest
-lowest-most s l = front-most s (nodeNumber (heightOf s) l 0) (wanted s l)
-
 layer-start : (h l j : ℕ) → nodeNumber h l 0 + j ≡ nodeNumber h l j
 unfolding nodeNumber
 layer-start h l j = omega arith

@@ -47,22 +47,25 @@ module _ (s : List ℕ) (i : ℕ) where
     unfolding byFirst
     first-step ls ds = rw (drop-step s i h)
 
--- ---- a list: the loop has come from a to i, and what is left gives what the whole gives
+-- ---- a list
 
-abbrev pub ListAt : (ℕ → List ℕ → Walked) → List ℕ → ℕ → ℕ → Type 0
-ListAt value s a i = (steps : ℕ) × (length s < i + steps) × (walkList value a (drop a s) ≡ walkItems value steps i (drop i s))
+-- the loop has come from a to i: with enough steps, what is left gives what the whole gives
+pub record ListAt (value : ℕ → List ℕ → Walked) (s : List ℕ) (a i : ℕ) : Type 0 where
+  pub steps : ℕ
+  pub enough : length s < i + steps
+  pub gives : walkList value a (drop a s) ≡ walkItems value steps i (drop i s)
 
 pub list-start : (value : ℕ → List ℕ → Walked) (s : List ℕ) (a : ℕ) → ListAt value s a a
-list-start value s a = (suc (length (drop a s)), omega (arith, length-drop a s), refl)
+list-start value s a = record { steps = suc (length (drop a s)); enough = omega (arith, length-drop a s); gives = refl }
 
-module _ (value : ℕ → List ℕ → Walked) (s : List ℕ) (a i : ℕ) where
+module _ {value : ℕ → List ℕ → Walked} {s : List ℕ} {a i : ℕ} (w : ListAt value s a i) where
   items-none : (f : ℕ) → length s ≤ i → walkItems value f i (drop i s) ≡ Broken
   unfolding walkItems
   items-none zero h = refl
   items-none (suc f) h = end-none s i _ h
 
-  pub list-none : ListAt value s a i → length s ≤ i → walkList value a (drop a s) ≡ Broken
-  list-none w h = w .2 ∙ items-none (w .0) h
+  pub list-none : length s ≤ i → walkList value a (drop a s) ≡ Broken
+  list-none h = w .gives ∙ items-none (w .steps) h
 
   module _ (h : i < length s) where
     items-end : (f : ℕ) → length s < i + f → getD s i 0 ≡ letterE → walkItems value f i (drop i s) ≡ Past (i + 1)
@@ -70,30 +73,31 @@ module _ (value : ℕ → List ℕ → Walked) (s : List ℕ) (a i : ℕ) where
     items-end zero g e = absurd (omega arith)
     items-end (suc f) g e = end-here s i h _ e
 
-    pub list-closed : ListAt value s a i → getD s i 0 ≡ letterE → walkList value a (drop a s) ≡ Past (i + 1)
-    list-closed w e = w .2 ∙ items-end (w .0) (w .1) e
+    pub list-closed : getD s i 0 ≡ letterE → walkList value a (drop a s) ≡ Past (i + 1)
+    list-closed e = w .gives ∙ items-end (w .steps) (w .enough) e
 
     module _ (ne : getD s i 0 ≡ letterE → ⊥) where
       items-step : (f : ℕ) → walkItems value (suc f) i (drop i s) ≡ onward (value i (drop i s)) (λ k. walkItems value f k (drop (k - i) (drop i s)))
       unfolding walkItems
       items-step f = end-not s i h _ ne
 
-      items-stuck : (w : Walked) → ((go : ℕ → Walked) → onward w go ≡ w) → (f : ℕ) → length s < i + f → value i (drop i s) ≡ w → walkItems value f i (drop i s) ≡ w
-      items-stuck w stuck zero g e = absurd (omega arith)
-      items-stuck w stuck (suc f) g e = items-step f ∙ rw e (stuck _)
+      items-stuck : (x : Walked) → ((go : ℕ → Walked) → onward x go ≡ x) → (f : ℕ) → length s < i + f → value i (drop i s) ≡ x → walkItems value f i (drop i s) ≡ x
+      items-stuck x stuck zero g e = absurd (omega arith)
+      items-stuck x stuck (suc f) g e = items-step f ∙ rw e (stuck _)
 
-      pub list-broken : ListAt value s a i → value i (drop i s) ≡ Broken → walkList value a (drop a s) ≡ Broken
-      list-broken w e = w .2 ∙ items-stuck Broken (λ go. refl) (w .0) (w .1) e
+      pub list-broken : value i (drop i s) ≡ Broken → walkList value a (drop a s) ≡ Broken
+      list-broken e = w .gives ∙ items-stuck Broken (λ go. refl) (w .steps) (w .enough) e
 
-      pub list-deep : ListAt value s a i → value i (drop i s) ≡ TooDeep → walkList value a (drop a s) ≡ TooDeep
-      list-deep w e = w .2 ∙ items-stuck TooDeep (λ go. refl) (w .0) (w .1) e
+      pub list-deep : value i (drop i s) ≡ TooDeep → walkList value a (drop a s) ≡ TooDeep
+      list-deep e = w .gives ∙ items-stuck TooDeep (λ go. refl) (w .steps) (w .enough) e
 
       items-on : (k f : ℕ) → length s < i + f → walkList value a (drop a s) ≡ walkItems value f i (drop i s) → value i (drop i s) ≡ Past k → i < k → ListAt value s a k
       items-on k zero g q e l = absurd (omega arith)
-      items-on k (suc f) g q e l = (f, omega arith, q ∙ items-step f ∙ rw e (rw (drop-further s i k (omega arith)) refl))
+      items-on k (suc f) g q e l =
+          record { steps = f; enough = omega arith; gives = q ∙ items-step f ∙ rw e (rw (drop-further s i k (omega arith)) refl) }
 
-      pub list-on : (k : ℕ) → ListAt value s a i → value i (drop i s) ≡ Past k → i < k → ListAt value s a k
-      list-on k w e l = items-on k (w .0) (w .1) (w .2) e l
+      pub list-on : (k : ℕ) → value i (drop i s) ≡ Past k → i < k → ListAt value s a k
+      list-on k e l = items-on k (w .steps) (w .enough) (w .gives) e l
 
 -- ---- a key
 
@@ -121,20 +125,22 @@ entry-ends j levels at s x y k e f =
 
 -- ---- a dictionary: the same, with the key before
 
-abbrev pub DictionaryAt : (ℕ → List ℕ → Walked) → List ℕ → ℕ → ℕ → KeyBefore → Type 0
-DictionaryAt value s a i j = (steps : ℕ) × (length s < i + steps) × (walkDictionary value a (drop a s) ≡ walkEntries value steps j i (drop i s))
+pub record DictionaryAt (value : ℕ → List ℕ → Walked) (s : List ℕ) (a i : ℕ) (j : KeyBefore) : Type 0 where
+  pub steps : ℕ
+  pub enough : length s < i + steps
+  pub gives : walkDictionary value a (drop a s) ≡ walkEntries value steps j i (drop i s)
 
 pub dictionary-start : (value : ℕ → List ℕ → Walked) (s : List ℕ) (a : ℕ) → DictionaryAt value s a a none
-dictionary-start value s a = (suc (length (drop a s)), omega (arith, length-drop a s), refl)
+dictionary-start value s a = record { steps = suc (length (drop a s)); enough = omega (arith, length-drop a s); gives = refl }
 
-module _ (value : ℕ → List ℕ → Walked) (s : List ℕ) (a i : ℕ) (j : KeyBefore) where
+module _ {value : ℕ → List ℕ → Walked} {s : List ℕ} {a i : ℕ} {j : KeyBefore} (w : DictionaryAt value s a i j) where
   entries-none : (f : ℕ) → length s ≤ i → walkEntries value f j i (drop i s) ≡ Broken
   unfolding walkEntries
   entries-none zero h = refl
   entries-none (suc f) h = end-none s i _ h
 
-  pub dictionary-none : DictionaryAt value s a i j → length s ≤ i → walkDictionary value a (drop a s) ≡ Broken
-  dictionary-none w h = w .2 ∙ entries-none (w .0) h
+  pub dictionary-none : length s ≤ i → walkDictionary value a (drop a s) ≡ Broken
+  dictionary-none h = w .gives ∙ entries-none (w .steps) h
 
   module _ (h : i < length s) where
     entries-end : (f : ℕ) → length s < i + f → getD s i 0 ≡ letterE → walkEntries value f j i (drop i s) ≡ Past (i + 1)
@@ -142,8 +148,8 @@ module _ (value : ℕ → List ℕ → Walked) (s : List ℕ) (a i : ℕ) (j : K
     entries-end zero g e = absurd (omega arith)
     entries-end (suc f) g e = end-here s i h _ e
 
-    pub dictionary-closed : DictionaryAt value s a i j → getD s i 0 ≡ letterE → walkDictionary value a (drop a s) ≡ Past (i + 1)
-    dictionary-closed w e = w .2 ∙ entries-end (w .0) (w .1) e
+    pub dictionary-closed : getD s i 0 ≡ letterE → walkDictionary value a (drop a s) ≡ Past (i + 1)
+    dictionary-closed e = w .gives ∙ entries-end (w .steps) (w .enough) e
 
     module _ (ne : getD s i 0 ≡ letterE → ⊥) where
       entries-step : (f : ℕ) →
@@ -157,10 +163,10 @@ module _ (value : ℕ → List ℕ → Walked) (s : List ℕ) (a i : ℕ) (j : K
       entries-no-key zero g e = absurd (omega arith)
       entries-no-key (suc f) g e = entries-step f ∙ rw e
 
-      pub dictionary-no-key : DictionaryAt value s a i j → readKey j i (drop i s) ≡ NoString → walkDictionary value a (drop a s) ≡ Broken
-      dictionary-no-key w e = w .2 ∙ entries-no-key (w .0) (w .1) e
+      pub dictionary-no-key : readKey j i (drop i s) ≡ NoString → walkDictionary value a (drop a s) ≡ Broken
+      dictionary-no-key e = w .gives ∙ entries-no-key (w .steps) (w .enough) e
 
-      module _ (x y : ℕ) (e : readKey j i (drop i s) ≡ Content x y) where
+      module _ {x y : ℕ} (e : readKey j i (drop i s) ≡ Content x y) where
         entries-key : (f : ℕ) →
             walkEntries value (suc f) j i (drop i s) ≡
             onward (value y (drop y s)) (λ k. walkEntries value f (after (cut s x (y - x))) k (drop (k - i) (drop i s)))
@@ -171,22 +177,23 @@ module _ (value : ℕ → List ℕ → Walked) (s : List ℕ) (a i : ℕ) (j : K
             let ly = l .1 in
             entries-step f ∙ rw e (rw (drop-further s i x (omega arith), drop-further s i y (omega arith)) refl)
 
-        entries-stuck : (w : Walked) → ((go : ℕ → Walked) → onward w go ≡ w) → (f : ℕ) → length s < i + f → value y (drop y s) ≡ w → walkEntries value f j i (drop i s) ≡ w
-        entries-stuck w stuck zero g q = absurd (omega arith)
-        entries-stuck w stuck (suc f) g q = entries-key f ∙ rw q (stuck _)
+        entries-stuck : (v : Walked) → ((go : ℕ → Walked) → onward v go ≡ v) → (f : ℕ) → length s < i + f → value y (drop y s) ≡ v → walkEntries value f j i (drop i s) ≡ v
+        entries-stuck v stuck zero g q = absurd (omega arith)
+        entries-stuck v stuck (suc f) g q = entries-key f ∙ rw q (stuck _)
 
-        pub dictionary-broken : DictionaryAt value s a i j → value y (drop y s) ≡ Broken → walkDictionary value a (drop a s) ≡ Broken
-        dictionary-broken w q = w .2 ∙ entries-stuck Broken (λ go. refl) (w .0) (w .1) q
+        pub dictionary-broken : value y (drop y s) ≡ Broken → walkDictionary value a (drop a s) ≡ Broken
+        dictionary-broken q = w .gives ∙ entries-stuck Broken (λ go. refl) (w .steps) (w .enough) q
 
-        pub dictionary-deep : DictionaryAt value s a i j → value y (drop y s) ≡ TooDeep → walkDictionary value a (drop a s) ≡ TooDeep
-        dictionary-deep w q = w .2 ∙ entries-stuck TooDeep (λ go. refl) (w .0) (w .1) q
+        pub dictionary-deep : value y (drop y s) ≡ TooDeep → walkDictionary value a (drop a s) ≡ TooDeep
+        dictionary-deep q = w .gives ∙ entries-stuck TooDeep (λ go. refl) (w .steps) (w .enough) q
 
         entries-on : (k f : ℕ) → length s < i + f → walkDictionary value a (drop a s) ≡ walkEntries value f j i (drop i s) → value y (drop y s) ≡ Past k → i < k → DictionaryAt value s a k (after (cut s x (y - x)))
         entries-on k zero g q r l = absurd (omega arith)
-        entries-on k (suc f) g q r l = (f, omega arith, q ∙ entries-key f ∙ rw r (rw (drop-further s i k (omega arith)) refl))
+        entries-on k (suc f) g q r l =
+            record { steps = f; enough = omega arith; gives = q ∙ entries-key f ∙ rw r (rw (drop-further s i k (omega arith)) refl) }
 
-        pub dictionary-on : (k : ℕ) → DictionaryAt value s a i j → value y (drop y s) ≡ Past k → i < k → DictionaryAt value s a k (after (cut s x (y - x)))
-        dictionary-on k w r l = entries-on k (w .0) (w .1) (w .2) r l
+        pub dictionary-on : (k : ℕ) → value y (drop y s) ≡ Past k → i < k → DictionaryAt value s a k (after (cut s x (y - x)))
+        dictionary-on k r l = entries-on k (w .steps) (w .enough) (w .gives) r l
 
 -- ---- one value, by its first byte
 

@@ -15,7 +15,7 @@ use Rattle.octets.specs.Octets.{cut}
 use Rattle.bencode.specs.Grammar.{minusSign, digitZero, digitNine, colon, letterD, letterE, letterI, letterL, Value, integer, string, list, dictionary, Items, noItems, item, Entries, noEntries, entry, decimalIn, decimal, sign, encodeString, encode, encodeItems, encodeEntries, KeyBefore, none, after, ascends, IntegerFits, Valid, ItemsValid, EntriesValid}
 use Rattle.bencode.specs.Scalar.{bounded, readDigits, readZero, readNumber, contentIn, readString, negative, positive, readSigned, readInteger}
 use Rattle.bencode.specs.Walk.{pastInteger, pastString, endOr, between, inOrder, readKey, walkItems, walkEntries, walkList, walkDictionary, byFirst, walkValue}
-use Rattle.bencode.specs.EndsLaws.{cond-case}
+use Rattle.bencode.specs.CondLaws.{cond-case}
 use Rattle.bencode.specs.declared.decimal.Number.the-variants.{Is}
 use Rattle.bencode.specs.declared.scalar.ByteString.the-variants.{Content}
 use Rattle.bencode.specs.declared.scalar.Integer.the-variants.{Whole}

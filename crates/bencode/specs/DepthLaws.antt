@@ -14,7 +14,7 @@ use borrow.Author.Tests.{eqb-true}
 use Rattle.bencode.specs.Grammar.{letterD, letterE, letterI, letterL, Value, integer, string, list, dictionary, Items, noItems, item, Entries, noEntries, entry, encodeString, encode, encodeItems, encodeEntries, KeyBefore, none, after, ascends, Valid, ItemsValid, EntriesValid}
 use Rattle.bencode.specs.Scalar.{readString, readSigned}
 use Rattle.bencode.specs.Walk.{pastInteger, pastString, onward, withKey, endOr, between, readKey, walkItems, walkEntries, walkList, walkDictionary, byFirst, walkValue}
-use Rattle.bencode.specs.EndsLaws.{cond-case}
+use Rattle.bencode.specs.CondLaws.{cond-case}
 use Rattle.bencode.specs.CompleteLaws.{complete, NoEnd, value-no-end, string-no-end, value-some, string-some, items-one, entries-one, key-read, past-part, walk-list, walk-dictionary, list-bytes, dictionary-bytes}
 use Rattle.bencode.specs.SoundLaws.{Begins, ValueIs, rest-is, value-sound, KeyIs, key-sound}
 use Rattle.bencode.specs.declared.scalar.ByteString.{ByteString}
@@ -461,12 +461,6 @@ pub entries-more-levels : (es : Entries) (j : KeyBefore) (l m : ℕ) → l ≤ m
 unfolding Valid
 entries-more-levels noEntries j l m h p = tt
 entries-more-levels (entry k v es) j l m h p = (p .0, more-levels v l m h (p .1), entries-more-levels es (after k) l m h (p .2))
-
--- and for items
-pub items-more-levels : (vs : Items) (l m : ℕ) → l ≤ m → ItemsValid vs l → ItemsValid vs m
-unfolding Valid
-items-more-levels noItems l m h p = tt
-items-more-levels (item v vs) l m h p = (more-levels v l m h (p .0), items-more-levels vs l m h (p .1))
 
 items-then-valid : (vs : Items) (v : Value) (l : ℕ) → ItemsValid vs l → Valid v l → ItemsValid (itemsThen vs v) l
 unfolding Valid itemsThen

@@ -5,9 +5,10 @@ pub mod Walk
 pub mod Strict
 pub mod Parts
 pub mod FrontLaws
-pub mod EndsLaws
+pub mod CondLaws
 pub mod CompleteLaws
 pub mod SoundLaws
+pub mod EndsLaws
 pub mod UniqueLaws
 pub mod DepthLaws
 pub mod StrictLaws

@@ -3,7 +3,7 @@
 -- Assumes nothing.
 use mathlib.Core.Path.{_≡_, refl, sym, ap, _∙_}
 use mathlib.Core.Bool.{Bool, true, false, cond}
-use mathlib.Core.List.{List, [], _∷_, _++_, append-assoc, append-nil}
+use mathlib.Core.List.{List, [], _∷_, _++_, append-assoc}
 use Prim.Native.Nat.{ℕ, zero, suc, _+_, _-_, _≤_, _<_}
 use native.Mathlib.Omega.{arith}
 use lib.ListN.{length, drop, length-append, take-append-drop}
@@ -17,7 +17,6 @@ use Rattle.bencode.specs.Walk.{between, walkValue}
 use Rattle.bencode.specs.Parts.{isDictionary, entryTo, entryWith, readEntry, fromEntry, findIn, findKey, Lookup, present, lookup, FoundIs}
 use Rattle.bencode.specs.EndsLaws.{drop-further, string-ends, value-ends}
 use Rattle.bencode.specs.CompleteLaws.{BeginsWithDigit, decimal-first, contentStart, string-read, integer-read, past-part, string-some, dictionary-bytes, complete}
-use Rattle.bencode.specs.SoundLaws.{sound}
 use Rattle.bencode.specs.UniqueLaws.{unique}
 use Rattle.bencode.specs.DepthLaws.{entries-more-levels}
 use Rattle.bencode.specs.declared.scalar.Integer.{Integer}
@@ -120,24 +119,9 @@ part-bytes : (s : List ℕ) (at n : ℕ) (p q : List ℕ) → n ≡ length p →
 unfolding cut
 part-bytes s at n p q l e = rw (l, e) (take-append-seam p q)
 
--- the part that the walk goes over is the encoding of a valid value
-pub part-is : (l at k : ℕ) (s : List ℕ) → walkValue l at (drop at s) ≡ Past k → (v : Value) × Valid v l × (cut s at (k - at) ≡ encode v)
-part-is l at k s e =
-    let p = sound l at (drop at s) k e in
-    let o : k - at ≡ length (encode (p .it)) = omega (arith, p .ends) in
-    (p .it, p .valid, part-bytes s at (k - at) (encode (p .it)) (p .rest) o (p .bytes))
-
 -- and of no other
 pub one-value : (v w : Value) → encode v ≡ encode w → v ≡ w
 one-value v w e = unique v w [] [] (ap (λ (l : List ℕ). l ++ []) e) .0
-
--- read alone, it is that value, and all of the part
-pub value-alone : (v : Value) (l : ℕ) → Valid v l → walkValue l 0 (encode v) ≡ Past (length (encode v))
-value-alone v l h = let o : 0 + length (encode v) ≡ length (encode v) = omega arith in rw append-nil at (complete v l 0 [] h) ∙ ap Past o
-
--- so the part of a value, read alone, is walked over to its end
-pub part-alone : (l at k : ℕ) (s : List ℕ) → walkValue l at (drop at s) ≡ Past k → walkValue l 0 (cut s at (k - at)) ≡ Past (length (cut s at (k - at)))
-part-alone l at k s e = let p = part-is l at k s e in rw (p .2) (value-alone (p .0) l (p .1))
 
 -- ---- of which kind it is
 

@@ -12,7 +12,7 @@ use borrow.Author.Tests.{ne-eqb, lt-ltb, le-ltb, ltb-true, ltb-false, leb-true, 
 use Rattle.bencode.specs.Grammar.{minusSign, digitZero, digitNine, colon, letterD, letterE, letterI, letterL, integer, string, list, dictionary, noItems, item, noEntries, entry, decimalIn, decimal, sign, encodeString, encode, encodeItems, encodeEntries, KeyBefore, none, after, ascends, IntegerFits, Valid, ItemsValid, EntriesValid}
 use Rattle.bencode.specs.Scalar.{bounded, readDigits, readZero, readNumber, contentIn, readString, negative, positive, readSigned}
 use Rattle.bencode.specs.Walk.{pastInteger, pastString, onward, withKey, endOr, between, inOrder, readKey, walkItems, walkEntries, walkList, walkDictionary, byFirst, walkValue}
-use Rattle.bencode.specs.EndsLaws.{cond-case}
+use Rattle.bencode.specs.CondLaws.{cond-case}
 use Rattle.bencode.specs.CompleteLaws.{div-mod, contentStart, content-bytes, past-part, integer-bytes, integer-length}
 use Rattle.bencode.specs.declared.decimal.Number.{Number}
 use Rattle.bencode.specs.declared.decimal.Number.the-variants.{Is, NoNumber}
@@ -59,7 +59,7 @@ decimal-longer n d h g =
 
 -- ---- numbers: xs begin with the digits of n that are not among those before, then `stop`
 
-abbrev NumberIs : ℕ → ℕ → List ℕ → List ℕ → Number → Type 0
+abbrev pub NumberIs : ℕ → ℕ → List ℕ → List ℕ → Number → Type 0
 NumberIs stop at before xs NoNumber = Unit {0}
 NumberIs stop at before xs (Is n k) = (ds r : List ℕ) × (xs ≡ ds ++ stop ∷ r) × (decimal n ≡ before ++ ds) × (k ≡ at + length ds + 1)
 
@@ -122,7 +122,7 @@ first-sound stop c at cs not-zero not-stop =
         let z : 0 < m = some (c - digitZero) (λ q. not-zero (omega arith)) in
         number-longer stop at c [] cs (readDigits stop m (at + 1) cs) (rw s at (digits-sound stop m (at + 1) cs z))
 
-number-sound : (stop at : ℕ) (xs : List ℕ) → NumberIs stop at [] xs (readNumber stop at xs)
+pub number-sound : (stop at : ℕ) (xs : List ℕ) → NumberIs stop at [] xs (readNumber stop at xs)
 unfolding readNumber
 number-sound stop at [] = tt
 number-sound stop at (c ∷ cs) =

@@ -3,7 +3,7 @@ use octets::wide;
 ghost use mathlib.Core.Path.{_≡_};
 ghost use mathlib.Core.Bool.{true};
 ghost use Prim.Native.Nat.{_+_, _≤_, _<_};
-ghost use lib.ListN.{length, getD};
+ghost use lib.ListN.{length};
 ghost use Rattle.bencode.specs.Front.{Alike, FourAlike, Front};
 
 // Whether four bytes at i are the same. Written out, so that they are read as one word.

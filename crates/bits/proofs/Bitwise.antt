@@ -1,14 +1,14 @@
 -- Laws of bitwise functions: two that agree on bits agree on numbers.
 -- Assumes nothing.
 use mathlib.Core.Path.{_≡_, refl, ap, sym, subst, _∙_}
-use Prim.Native.Nat.{ℕ, zero, suc, _+_, _-_, _*_, _/_, _%_, _^_, _<_, _≤_}
+use Prim.Native.Nat.{ℕ, zero, suc, _+_, _-_, _*_, _/_, _%_, _^_, _<_}
 use native.Mathlib.Omega.{arith}
 use native.Mathlib.Nat.{pow-suc, mod-eq-of-lt, mod-lt, add-comm, add-zero, mul-mod-left, mul-assoc, mul-comm, add-assoc, add-mul, mul-add-mod-self-right, mul-add-div-right}
 use lib.Pow.{pow-add, pow-pos, shr-lt, mod-pow-add, shl-shr, shr-shr}
 use lib.Arith.{digits-lt}
 use lib.Dec.{lit<}
 use Rattle.bits.specs.Words.{Ch, Maj, rotr, Σ₀, Σ₁, σ₀, σ₁}
-use lib.Bits.{and-comm, xor-comm, bitAnd, bitOr, bitXor, and-shr, xor-shr, and-mod, xor-mod, xor-add-and, and-mask, xor-lt, and-lt, xor-block, or-shifted-r}
+use lib.Bits.{and-comm, xor-comm, bitAnd, bitOr, bitXor, and-shr, xor-shr, and-mod, xor-mod, xor-add-and, and-mask, xor-lt, xor-block, or-shifted-r}
 
 -- a function of three numbers that goes bit by bit
 pub record Bitwise (F : ℕ → ℕ → ℕ → ℕ) : Type 0 where

@@ -1,6 +1,6 @@
 -- FIPS 180-4, sections 3.2, 4.1.1 and 4.1.2: the operations on words of 32 bits. A word is a number below 2 ^ 32.
 -- Assumes nothing.
-use Prim.Native.Nat.{ℕ, _+_, _-_, _*_, _/_, _%_, _^_}
+use Prim.Native.Nat.{ℕ, _-_, _*_, _/_, _%_, _^_}
 use lib.Bits.{bitAnd, bitOr, bitXor}
 
 -- ROTR. (SHR by n is the quotient by 2 ^ n; the complement of x is 2 ^ 32 - 1 - x.)

@@ -1,6 +1,6 @@
 -- 01, "Numbers given back" and "The torrent", for the calls that read a torrent: each number by entry point, exactly when it is given. What a
 -- number says of the bytes is `torrent`'s `Says`; files and path elements are counted from 0.
--- (The numbers of the calls on a store: crates/promises, file EachNumber; those of kd_torrent_write: crates/published.)
+-- (The numbers of the calls on a store: crates/promises, file EachNumber; those of kd_torrent_write: crates/writer_promises.)
 -- Assumes nothing.
 use mathlib.Core.Path.{_≡_, refl, sym, ap, _∙_}
 use mathlib.Core.Logic.{_⊎_, inl, inr, _↔_}

@@ -79,29 +79,17 @@ layer-forward base layer a b e p = rw e at p
 
 module _ (s : List ℕ) (at base n : ℕ) (root : List ℕ) (layer : ByteString) (elements : ℕ) (r : length root ≡ 32) (h : at + 56 ≤ length s)
     (t₁ : List ℕ) (p₁ : t₁ ≡ pasted s at (be 8 n)) where
-  length-first : length t₁ ≡ length s
-  length-first = put-length s t₁ (be 8 n) at 8 p₁ (be-octets 8 n .size) (omega arith)
-
   module _ (t₂ : List ℕ) (p₂ : t₂ ≡ pasted t₁ (at + 8) root) where
-    length-second : length t₂ ≡ length s
-    length-second = put-length t₁ t₂ root (at + 8) 32 p₂ r (omega (arith, length-first)) ∙ length-first
-
     two : t₂ ≡ pasted s at (be 8 n ++ root)
     two = then-pasted s t₁ t₂ (be 8 n) root at 8 p₁ p₂ (be-octets 8 n .size) (omega arith)
 
     module _ (t₃ : List ℕ) (p₃ : t₃ ≡ pasted t₂ (at + 40) (partBytes (startOf base layer) (sizeOf layer))) where
-      length-third : length t₃ ≡ length s
-      length-third = put-length t₂ t₃ (partBytes (startOf base layer) (sizeOf layer)) (at + 40) 8 p₃ (part-length (startOf base layer) (sizeOf layer)) (omega (arith, length-second)) ∙ length-second
-
       three : t₃ ≡ pasted s at (be 8 n ++ root ++ partBytes (startOf base layer) (sizeOf layer))
       three =
           then-pasted s t₂ t₃ (be 8 n ++ root) (partBytes (startOf base layer) (sizeOf layer)) at 40 two p₃ (length-append (be 8 n) root ∙ omega (arith, be-octets 8 n .size))
           (omega (arith, part-length (startOf base layer) (sizeOf layer)))
 
       module _ (t₄ : List ℕ) (p₄ : t₄ ≡ pasted t₃ (at + 48) (be 4 elements)) where
-        length-fourth : length t₄ ≡ length s
-        length-fourth = put-length t₃ t₄ (be 4 elements) (at + 48) 4 p₄ (be-octets 4 elements .size) (omega (arith, length-third)) ∙ length-third
-
         abbrev a : List ℕ
         a = be 8 n ++ root ++ partBytes (startOf base layer) (sizeOf layer)
 
@@ -140,9 +128,6 @@ module _ (t l path out₀ : List ℕ) (f : Record) (w : RecordRight (length t) (
     (out₁ root : List ℕ) (layer : ByteString) (er : root ≡ rootBytes t (f .length) (f .root)) (el : layer ≡ layerString l (f .list .plen) (f .length) (cut t (f .root) 32)) (p : out₁ ≡ pasted out₀ (f .at) (headBytes (f .list .layers) (f .length) root layer (f .elements))) where
   root-size : length root ≡ 32
   root-size = ap length er ∙ root-length t (f .length) (f .root) (w .root-within)
-
-  pub head-room : length out₁ ≡ length out₀
-  head-room = let h = w .fits in put-length out₀ out₁ (headBytes (f .list .layers) (f .length) root layer (f .elements)) (f .at) 56 p (head-length (f .list .layers) (f .length) root layer (f .elements) root-size) (omega arith)
 
   pub record-written : (out₂ : List ℕ) → out₂ ≡ pasted out₁ (f .at + 56) (arrayElements (f .list .tree) path (f .elements) maxElements) → out₂ ≡ pasted out₀ (f .at) (recordFrom t l path f)
   unfolding recordFrom

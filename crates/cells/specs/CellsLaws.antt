@@ -1,12 +1,12 @@
 -- What `put` changes and what it leaves. Nothing above these laws looks at a store's bytes.
 -- Assumes nothing.
-use mathlib.Core.Path.{_≡_, refl, ap, sym, _∙_}
+use mathlib.Core.Path.{_≡_, ap, sym, _∙_}
 use mathlib.Core.List.{List, _∷_}
-use mathlib.Core.Bool.{Bool, true, false}
+use mathlib.Core.Bool.{true, false}
 use mathlib.Core.Logic.{_⊎_, inl, inr}
-use Prim.Native.Nat.{ℕ, zero, suc, _+_, _-_, _*_, _≤_, _<_}
+use Prim.Native.Nat.{ℕ, suc, _+_, _-_, _*_, _≤_, _<_}
 use native.Mathlib.Nat.{lt-of-not-le}
-use native.Mathlib.Decide.{decLe, ℕ-discrete}
+use native.Mathlib.Decide.{decLe}
 use native.Mathlib.Omega.{arith}
 use lib.ListN.{length, getD}
 use lib.Seq.{ext-getD}
@@ -22,13 +22,6 @@ lt-or-ge m n = elim (decLe n m) [ yes h ↦ inr h | no h ↦ inl (lt-of-not-le h
 -- i is a byte of position n's cell
 abbrev pub InCell : ℕ → ℕ → Type 0
 InCell n i = (31 + 33 * n ≤ i) × (i < 64 + 33 * n)
-
-pub in-cell : (n i : ℕ) → InCell n i ⊎ (InCell n i → ⊥)
-in-cell n i =
-    elim (lt-or-ge i (31 + 33 * n)) [
-      | inl l ↦ inr (λ c. omega arith)
-      | inr g ↦ elim (lt-or-ge i (64 + 33 * n)) [ inl l ↦ inl (g, l) | inr k ↦ inr (λ c. omega arith) ]
-    ]
 
 module _ (s : List ℕ) (b n : ℕ) (room : Room b s) (below : n < b) where
   pub hash-length : length (hashAt s n) ≡ 32
@@ -96,33 +89,3 @@ module _ (s : List ℕ) (b n : ℕ) (room : Room b s) (below : n < b) where
 pub unheld : (s : List ℕ) (n : ℕ) → getD s (31 + 33 * n) 0 ≡ 0 → heldAt s n ≡ false
 unfolding heldAt
 unheld s n e = rw e
-
--- the order in which two cells are written does not matter, unless one position is given two hashes
-pub put-comm : (s : List ℕ) (b n m : ℕ) (h g : List ℕ) → Room b s → n < b → m < b → length h ≡ 32 → length g ≡ 32 → (n ≡ m → h ≡ g)
-    → put (put s n h) m g ≡ put (put s m g) n h
-put-comm s b n m h g room bn bm sh sg alike =
-    elim (ℕ-discrete n m) [
-      | yes e ↦ rw (alike e, e)
-      | no ne ↦ ext-getD 0 (put (put s n h) m g) (put (put s m g) n h) (ll ∙ sym lr)
-          (λ i l. elim (in-cell n i) [
-            | inl c ↦
-                let o : InCell m i → ⊥ = λ x. ne (omega arith) in
-                put-outside (put s n h) b m rn bm g sg i o ∙ put-inside s b n room bn h sh i c ∙ sym (put-inside (put s m g) b n rm bn h sh i c)
-            | inr c ↦ elim (in-cell m i) [
-              | inl x ↦ put-inside (put s n h) b m rn bm g sg i x ∙ sym (put-inside s b m room bm g sg i x) ∙ sym (put-outside (put s m g) b n rm bn h sh i c)
-              | inr x ↦ put-outside (put s n h) b m rn bm g sg i x ∙ put-outside s b n room bn h sh i c ∙ sym (put-outside s b m room bm g sg i x) ∙ sym (put-outside (put s m g) b n rm bn h sh i c)
-            ]
-          ])
-    ]
-  where
-    rn : Room b (put s n h)
-    rn = put-room s b n room bn h sh
-
-    rm : Room b (put s m g)
-    rm = put-room s b m room bm g sg
-
-    ll : length (put (put s n h) m g) ≡ length s
-    ll = put-length (put s n h) b m rn bm g sg ∙ put-length s b n room bn h sh
-
-    lr : length (put (put s m g) n h) ≡ length s
-    lr = put-length (put s m g) b n rm bn h sh ∙ put-length s b m room bm g sg

@@ -3,16 +3,16 @@
 -- Assumes nothing.
 use mathlib.Core.Path.{_≡_, refl, ap, ap₂, sym, _∙_}
 use mathlib.Core.List.{List, [], _∷_, _++_}
-use mathlib.Core.Bool.{Bool, true, false, not, _&&_, _||_, false≢true, and-eq-true-iff, and-assoc, and-true}
+use mathlib.Core.Bool.{Bool, true, false, not, _&&_, false≢true, and-eq-true-iff, and-assoc, and-true}
 use mathlib.Core.Logic.{_⊎_, inl, inr}
 use Prim.Native.Nat.{ℕ, zero, suc, _+_, _≤_, _<_}
 use native.Mathlib.Decide.{ℕ-discrete}
 use native.Mathlib.Omega.{arith}
 use lib.ListN.{length}
 use Rattle.octets.specs.Octets.{same}
-use Rattle.octets.specs.OctetsLaws.{same-true, same-eq}
+use Rattle.octets.specs.OctetsLaws.{same-true}
 use Rattle.cells.specs.Cells.{Room, heldAt, hashAt, put}
-use Rattle.cells.specs.CellsLaws.{put-length, put-room, held-put-same, hash-put-same, held-put-other, hash-put-other, put-comm}
+use Rattle.cells.specs.CellsLaws.{put-length, put-room, held-put-same, hash-put-same, held-put-other, hash-put-other}
 use Rattle.cells.specs.Entries.{Entry, one, agreesAt, agrees, putAll, oneIf, newly, lacks, fresh}
 
 -- ---- one entry, and lists put together
@@ -206,29 +206,6 @@ pub count-fresh : (N : ℕ) (L : List Entry) (s : List ℕ) → Room N s → Sou
 unfolding Extends
 count-fresh N L s room S F = omega (arith, newly-putAll N L s s room S F (λ p b k. k), newly-none N s)
 
--- ---- order
-
-past : (N : ℕ) (L : List Entry) (s : List ℕ) (n : ℕ) (h : List ℕ) → Room N s → Sound N L → n < N → length h ≡ 32 → Says n h L
-    → putAll (put s n h) L ≡ put (putAll s L) n h
-unfolding putAll
-past N [] s n h room none b z none = refl
-past N (e ∷ L) s n h room (more i l S) b z (more f F) =
-    ap (λ (t : List ℕ). putAll t L) (put-comm s N n (e .at) h (e .hash) room b i z l (λ q. sym (f (sym q))))
-    ∙ past N L (put s (e .at) (e .hash)) n h (put-room s N (e .at) room i (e .hash) l) S b z F
-
--- no entry of A says of a position what an entry of B does not
-pub data Accord (B : List Entry) : List Entry → Type 0 where
-  nil : Accord B []
-  also : {e : Entry} {A : List Entry} → Says (e .at) (e .hash) B → Accord B A → Accord B (e ∷ A)
-
--- either first
-pub either-order : (N : ℕ) (A B : List Entry) (s : List ℕ) → Room N s → Sound N A → Sound N B → Accord B A → putAll (putAll s A) B ≡ putAll (putAll s B) A
-unfolding putAll
-either-order N [] B s room none T nil = refl
-either-order N (e ∷ A) B s room (more i l S) T (also f F) =
-    either-order N A B (put s (e .at) (e .hash)) (put-room s N (e .at) room i (e .hash) l) S T F
-    ∙ ap (λ (t : List ℕ). putAll t A) (past N B s (e .at) (e .hash) room T i l f)
-
 -- ---- how much a list changes
 
 -- a list of entries changes no length
@@ -373,13 +350,3 @@ held-or-entry N (e ∷ L) s room (more i l S) q t =
         | no ne ↦ inl (sym (held-put-other s N (e .at) room i (e .hash) l q ne) ∙ k)
       ]
     ]
-
--- a position that no entry has stays as it was, held or not, with the same bytes
-pub putAll-other : (N : ℕ) (L : List Entry) (s : List ℕ) → Room N s → Sound N L → (q : ℕ) → q < N → ((e : Entry) → In e L → e .at ≡ q → ⊥)
-    → (heldAt (putAll s L) q ≡ heldAt s q) × (hashAt (putAll s L) q ≡ hashAt s q)
-unfolding putAll
-putAll-other N [] s room none q b f = (refl, refl)
-putAll-other N (e ∷ L) s room (more i l S) q b f =
-    let w = putAll-other N L (put s (e .at) (e .hash)) (put-room s N (e .at) room i (e .hash) l) S q b (λ g k. f g (there k)) in
-    let ne : q ≡ e .at → ⊥ = λ z. f e here (sym z) in
-    (w .0 ∙ held-put-other s N (e .at) room i (e .hash) l q ne, w .1 ∙ hash-put-other s N (e .at) room i (e .hash) l q b ne)

@@ -9,8 +9,8 @@ use native.Mathlib.Decide.{decLt, decLe}
 use native.Mathlib.Nat.{pow-suc, pow-le-pow-left, le-of-suc-le-suc, not-suc-le-zero}
 use lib.ListN.{length, getD, take, length-map}
 use lib.Seq.{getD-take, length-take-le}
-use lib.Dec.{leb, eqb, lit<, lit≤}
-use borrow.Author.Tests.{leb-true, leb-false, eqb-true, eqb-false, ne-eqb}
+use lib.Dec.{leb, eqb, lit≤}
+use borrow.Author.Tests.{leb-true, leb-false, eqb-false, ne-eqb}
 use Rattle.constants.specs.Rule.{Prime, FirstPrimes, Largest, RootWord, RootWords}
 use Rattle.constants.specs.Constants.{root, indivisible, primesFrom, primes, rootWord, K, H}
 

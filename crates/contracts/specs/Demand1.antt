@@ -1,5 +1,5 @@
 -- 00, demand 1, over all entry points at once. Its words: Entries (the calls, what they are lent), and crates/words, file Answers (the table).
--- By groups of entry points: crates/promises, files Demand1, Marks and Running; crates/calls and crates/published.
+-- By groups of entry points: crates/promises, files Demand1, Marks and Running; crates/calls and crates/writer_promises.
 -- Assumes nothing.
 use mathlib.Core.Path.{_≡_, refl, ap, ap₂}
 use mathlib.Core.List.{List, [], _∷_}
@@ -24,7 +24,7 @@ use Rattle.torrent.specs.declared.read.Torrent.{Torrent}
 use Rattle.torrent.specs.declared.read.FileRead.{FileRead}
 use Rattle.torrent.specs.declared.read.PartRead.{PartRead}
 use Rattle.catalogue.specs.Catalogue.{listAnswer, listAfter}
-use Rattle.writing.specs.Write.{writeAnswer, writeAfter}
+use Rattle.writer.specs.Write.{writeAnswer, writeAfter}
 use Rattle.calls.specs.Calls.{OfTorrent, ReadOutcome, done as readDone, badTorrent as readRefused, FileOutcome, done as fileDone, badTorrent as fileRefused, noFile, PathOutcome, done as pathDone, badTorrent as pathRefused, noElement, ListOutcome, done as listDone, badTorrent as listRefused, tooShort}
 use Rattle.calls.specs.CallsLaws.{read-outcome, file-outcome, path-outcome, list-outcome, list-refused}
 use Rattle.about.specs.About.{infoRead, nameRead}
@@ -35,8 +35,8 @@ use Rattle.v1.specs.declared.read.HybridRead.{HybridRead}
 use Rattle.v1.specs.declared.read.V1Piece.{V1Piece}
 use Rattle.v1.specs.declared.read.V1Part.{V1Part}
 use Rattle.places.specs.Where.{place-in-table, first-in-table, place-zeros, first-zeros}
-use Rattle.published.specs.Published.{WriteNumber, is-4, is-11, is-19, is-21, is-24-to-28, WriteOutcome, put, left as nothingPut}
-use Rattle.published.specs.Promised.{write-outcome, write-refused}
+use Rattle.writer_promises.specs.Published.{WriteNumber, is-4, is-11, is-19, is-21, is-24-to-28, WriteOutcome, put, left as nothingPut}
+use Rattle.writer_promises.specs.Promised.{write-outcome, write-refused}
 use Rattle.words.specs.Messages.{Form, Rejected}
 use Rattle.words.specs.History.{Bytes, Send, serve, bitfield, save, pieceHashes, ask, send, Call, take, loadLayer, judgeBlock, judgePiece, judgeHybridPiece, clear, reopen, load, repair, look, replyNumber, sendReply, number as storeNumber, sentTo}
 use Rattle.words.specs.Answers.{ServeOutcome, replied, rejected, untouched}

@@ -23,7 +23,7 @@ use Rattle.catalogue.specs.Catalogue.{listAnswer, listAfter}
 use Rattle.about.specs.About.{infoRead, nameRead}
 use Rattle.v1.specs.V1.{noHybrid, hybridOf, noPiece, v1PieceOf, noPart, v1PiecesOf}
 use Rattle.places.specs.Places.{firstAnswer, noPlace, placeAnswer}
-use Rattle.writing.specs.Write.{writeAnswer, writeAfter}
+use Rattle.writer.specs.Write.{writeAnswer, writeAfter}
 use Rattle.words.specs.Messages.{Rejected}
 use Rattle.words.specs.History.{Bytes, serve, ask, send, Call, take, loadLayer, judgeBlock, judgePiece, judgeHybridPiece, clear, reopen, load, repair, look, answer, number as storeNumber, after, sentTo}
 use Rattle.words.specs.Answers.{Beside}

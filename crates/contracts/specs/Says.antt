@@ -31,277 +31,277 @@ use Rattle.facts.specs.Facts.{factsAnswer}
 use Rattle.about.specs.About.{infoRead, nameRead}
 use Rattle.v1.specs.V1.{hybridOf, v1PieceOf, v1PiecesOf}
 use Rattle.places.specs.Places.{placeAnswer, firstAnswer}
-use Rattle.writing.specs.Write.{writeAnswer, writeAfter}
+use Rattle.writer.specs.Write.{writeAnswer, writeAfter}
 use Rattle.kombudeva.specs.Boundary.{countAnswer, hashAnswer, factsStruct, torrentAnswer, fileAnswer, partAnswer, hybridAnswer, v1PieceAnswer, v1PartAnswer}
 use Rattle.kombudeva.specs.Version.{version}
-use Rattle.kombudeva.proofs.kd_sha256 as hash
-use Rattle.kombudeva.proofs.kd_sha1 as sha-one
-use Rattle.kombudeva.proofs.kd_hashing_begin as hashing-begin
-use Rattle.kombudeva.proofs.kd_hashing_more as hashing-more
-use Rattle.kombudeva.proofs.kd_hashing_end as hashing-end
-use Rattle.kombudeva.proofs.kd_history_begin as history-begin
-use Rattle.kombudeva.proofs.kd_history_more as history-more
-use Rattle.kombudeva.proofs.kd_history_end as history-end
-use Rattle.kombudeva.proofs.kd_store_size as size
-use Rattle.kombudeva.proofs.kd_open as opening
-use Rattle.kombudeva.proofs.kd_held as held
-use Rattle.kombudeva.proofs.kd_take as taking
-use Rattle.kombudeva.proofs.kd_take_reject as reject
-use Rattle.kombudeva.proofs.kd_serve as serving
-use Rattle.kombudeva.proofs.kd_load_layer as loading
-use Rattle.kombudeva.proofs.kd_judge_block as block
-use Rattle.kombudeva.proofs.kd_judge_piece as piece
-use Rattle.kombudeva.proofs.kd_judge_hybrid_piece as hybrid-piece
-use Rattle.kombudeva.proofs.kd_clear as clearing
-use Rattle.kombudeva.proofs.kd_marked as asking
-use Rattle.kombudeva.proofs.kd_next_request as next-request
-use Rattle.kombudeva.proofs.kd_pick_piece as picking
-use Rattle.kombudeva.proofs.kd_extends as beginning
-use Rattle.kombudeva.proofs.kd_bitfield as field
-use Rattle.kombudeva.proofs.kd_stream_begin as stream-begin
-use Rattle.kombudeva.proofs.kd_version as versioning
-use Rattle.kombudeva.proofs.kd_stream_hear as stream-hear
-use Rattle.kombudeva.proofs.kd_frame as framing
-use Rattle.kombudeva.proofs.kd_save as saving
-use Rattle.kombudeva.proofs.kd_load as saved-loading
-use Rattle.kombudeva.proofs.kd_repair as repairing
-use Rattle.kombudeva.proofs.kd_torrent_read as torrent
-use Rattle.kombudeva.proofs.kd_torrent_file as file
-use Rattle.kombudeva.proofs.kd_torrent_path as path
-use Rattle.kombudeva.proofs.kd_torrent_list as list
-use Rattle.kombudeva.proofs.kd_torrent_write as writing
-use Rattle.kombudeva.proofs.kd_facts as facts-named
-use Rattle.kombudeva.proofs.kd_torrent_info as info
-use Rattle.kombudeva.proofs.kd_torrent_name as named
-use Rattle.kombudeva.proofs.kd_torrent_hybrid as hybrid
-use Rattle.kombudeva.proofs.kd_torrent_v1_piece as v1-piece
-use Rattle.kombudeva.proofs.kd_torrent_v1_pieces as v1-pieces
-use Rattle.kombudeva.proofs.kd_place as placing
-use Rattle.kombudeva.proofs.kd_first_piece as first-piece
-use Rattle.kombudeva.proofs.kd_piece_hashes as teaching
+use Rattle.kombudeva.proofs.kd_sha256 as kd-sha256
+use Rattle.kombudeva.proofs.kd_sha1 as kd-sha1
+use Rattle.kombudeva.proofs.kd_hashing_begin as kd-hashing-begin
+use Rattle.kombudeva.proofs.kd_hashing_more as kd-hashing-more
+use Rattle.kombudeva.proofs.kd_hashing_end as kd-hashing-end
+use Rattle.kombudeva.proofs.kd_history_begin as kd-history-begin
+use Rattle.kombudeva.proofs.kd_history_more as kd-history-more
+use Rattle.kombudeva.proofs.kd_history_end as kd-history-end
+use Rattle.kombudeva.proofs.kd_store_size as kd-store-size
+use Rattle.kombudeva.proofs.kd_open as kd-open
+use Rattle.kombudeva.proofs.kd_held as kd-held
+use Rattle.kombudeva.proofs.kd_take as kd-take
+use Rattle.kombudeva.proofs.kd_take_reject as kd-take-reject
+use Rattle.kombudeva.proofs.kd_serve as kd-serve
+use Rattle.kombudeva.proofs.kd_load_layer as kd-load-layer
+use Rattle.kombudeva.proofs.kd_judge_block as kd-judge-block
+use Rattle.kombudeva.proofs.kd_judge_piece as kd-judge-piece
+use Rattle.kombudeva.proofs.kd_judge_hybrid_piece as kd-judge-hybrid-piece
+use Rattle.kombudeva.proofs.kd_clear as kd-clear
+use Rattle.kombudeva.proofs.kd_marked as kd-marked
+use Rattle.kombudeva.proofs.kd_next_request as kd-next-request
+use Rattle.kombudeva.proofs.kd_pick_piece as kd-pick-piece
+use Rattle.kombudeva.proofs.kd_extends as kd-extends
+use Rattle.kombudeva.proofs.kd_bitfield as kd-bitfield
+use Rattle.kombudeva.proofs.kd_stream_begin as kd-stream-begin
+use Rattle.kombudeva.proofs.kd_version as kd-version
+use Rattle.kombudeva.proofs.kd_stream_hear as kd-stream-hear
+use Rattle.kombudeva.proofs.kd_frame as kd-frame
+use Rattle.kombudeva.proofs.kd_save as kd-save
+use Rattle.kombudeva.proofs.kd_load as kd-load
+use Rattle.kombudeva.proofs.kd_repair as kd-repair
+use Rattle.kombudeva.proofs.kd_torrent_read as kd-torrent-read
+use Rattle.kombudeva.proofs.kd_torrent_file as kd-torrent-file
+use Rattle.kombudeva.proofs.kd_torrent_path as kd-torrent-path
+use Rattle.kombudeva.proofs.kd_torrent_list as kd-torrent-list
+use Rattle.kombudeva.proofs.kd_torrent_write as kd-torrent-write
+use Rattle.kombudeva.proofs.kd_facts as kd-facts
+use Rattle.kombudeva.proofs.kd_torrent_info as kd-torrent-info
+use Rattle.kombudeva.proofs.kd_torrent_name as kd-torrent-name
+use Rattle.kombudeva.proofs.kd_torrent_hybrid as kd-torrent-hybrid
+use Rattle.kombudeva.proofs.kd_torrent_v1_piece as kd-torrent-v1-piece
+use Rattle.kombudeva.proofs.kd_torrent_v1_pieces as kd-torrent-v1-pieces
+use Rattle.kombudeva.proofs.kd_place as kd-place
+use Rattle.kombudeva.proofs.kd_first_piece as kd-first-piece
+use Rattle.kombudeva.proofs.kd_piece_hashes as kd-piece-hashes
 
 -- kd_sha256
-pub hash-says : (κs : Lfts 1) (a : Dens κs hash.Kinds.ps) (r : resT hash.Kinds.r κs .Denot) (e : AtExit (endedOf 1 hash.Kinds.ps hash.Kinds.r) κs) → hash.Reads.Learnt κs a r e
+pub kd-sha256-says : (κs : Lfts 1) (a : Dens κs kd-sha256.Kinds.ps) (r : resT kd-sha256.Kinds.r κs .Denot) (e : AtExit (endedOf 1 kd-sha256.Kinds.ps kd-sha256.Kinds.r) κs) → kd-sha256.Reads.Learnt κs a r e
     → r ≡ hashAnswer (hashedOf (now (a .0)))
-hash-says κs a r e p = p
+kd-sha256-says κs a r e p = p
 
 -- kd_sha1
-pub sha-one-says : (κs : Lfts 1) (a : Dens κs sha-one.Kinds.ps) (r : resT sha-one.Kinds.r κs .Denot) (e : AtExit (endedOf 1 sha-one.Kinds.ps sha-one.Kinds.r) κs) → sha-one.Reads.Learnt κs a r e
+pub kd-sha1-says : (κs : Lfts 1) (a : Dens κs kd-sha1.Kinds.ps) (r : resT kd-sha1.Kinds.r κs .Denot) (e : AtExit (endedOf 1 kd-sha1.Kinds.ps kd-sha1.Kinds.r) κs) → kd-sha1.Reads.Learnt κs a r e
     → r ≡ sha1Of (now (a .0))
-sha-one-says κs a r e p = p
+kd-sha1-says κs a r e p = p
 
 -- kd_hashing_begin
-pub hashing-begin-says : (κs : Lfts 0) (a : Dens κs hashing-begin.Kinds.ps) (r : resT hashing-begin.Kinds.r κs .Denot) (e : AtExit (endedOf 0 hashing-begin.Kinds.ps hashing-begin.Kinds.r) κs) → hashing-begin.Reads.Learnt κs a r e
+pub kd-hashing-begin-says : (κs : Lfts 0) (a : Dens κs kd-hashing-begin.Kinds.ps) (r : resT kd-hashing-begin.Kinds.r κs .Denot) (e : AtExit (endedOf 0 kd-hashing-begin.Kinds.ps kd-hashing-begin.Kinds.r) κs) → kd-hashing-begin.Reads.Learnt κs a r e
     → r ≡ B.stateOf []
-hashing-begin-says κs a r e p = p
+kd-hashing-begin-says κs a r e p = p
 
 -- kd_hashing_more
-pub hashing-more-says : (κs : Lfts 1) (a : Dens κs hashing-more.Kinds.ps) (r : resT hashing-more.Kinds.r κs .Denot) (e : AtExit (endedOf 1 hashing-more.Kinds.ps hashing-more.Kinds.r) κs) → hashing-more.Reads.Learnt κs a r e
+pub kd-hashing-more-says : (κs : Lfts 1) (a : Dens κs kd-hashing-more.Kinds.ps) (r : resT kd-hashing-more.Kinds.r κs .Denot) (e : AtExit (endedOf 1 kd-hashing-more.Kinds.ps kd-hashing-more.Kinds.r) κs) → kd-hashing-more.Reads.Learnt κs a r e
     → r ≡ B.moreAnswer (a .0) (now (a .1 .0))
-hashing-more-says κs a r e p = p
+kd-hashing-more-says κs a r e p = p
 
 -- kd_hashing_end
-pub hashing-end-says : (κs : Lfts 0) (a : Dens κs hashing-end.Kinds.ps) (r : resT hashing-end.Kinds.r κs .Denot) (e : AtExit (endedOf 0 hashing-end.Kinds.ps hashing-end.Kinds.r) κs) → hashing-end.Reads.Learnt κs a r e
+pub kd-hashing-end-says : (κs : Lfts 0) (a : Dens κs kd-hashing-end.Kinds.ps) (r : resT kd-hashing-end.Kinds.r κs .Denot) (e : AtExit (endedOf 0 kd-hashing-end.Kinds.ps kd-hashing-end.Kinds.r) κs) → kd-hashing-end.Reads.Learnt κs a r e
     → r ≡ hashAnswer (B.endAnswer (a .0))
-hashing-end-says κs a r e p = p
+kd-hashing-end-says κs a r e p = p
 
 -- kd_history_begin
-pub history-begin-says : (κs : Lfts 0) (a : Dens κs history-begin.Kinds.ps) (r : resT history-begin.Kinds.r κs .Denot) (e : AtExit (endedOf 0 history-begin.Kinds.ps history-begin.Kinds.r) κs) → history-begin.Reads.Learnt κs a r e
+pub kd-history-begin-says : (κs : Lfts 0) (a : Dens κs kd-history-begin.Kinds.ps) (r : resT kd-history-begin.Kinds.r κs .Denot) (e : AtExit (endedOf 0 kd-history-begin.Kinds.ps kd-history-begin.Kinds.r) κs) → kd-history-begin.Reads.Learnt κs a r e
     → r ≡ W.beginAnswer (a .0)
-history-begin-says κs a r e p = p
+kd-history-begin-says κs a r e p = p
 
 -- kd_history_more
-pub history-more-says : (κs : Lfts 2) (a : Dens κs history-more.Kinds.ps) (r : resT history-more.Kinds.r κs .Denot) (e : AtExit (endedOf 2 history-more.Kinds.ps history-more.Kinds.r) κs) → history-more.Reads.Learnt κs a r e
+pub kd-history-more-says : (κs : Lfts 2) (a : Dens κs kd-history-more.Kinds.ps) (r : resT kd-history-more.Kinds.r κs .Denot) (e : AtExit (endedOf 2 kd-history-more.Kinds.ps kd-history-more.Kinds.r) κs) → kd-history-more.Reads.Learnt κs a r e
     → (r ≡ W.moreAnswer (a .0) (now (a .1 .0)) (now (a .1 .1 .0))) × (now (e .1 .1 .0) ≡ W.moreLayer (a .0) (now (a .1 .0)) (now (a .1 .1 .0)))
-history-more-says κs a r e p = p
+kd-history-more-says κs a r e p = p
 
 -- kd_history_end
-pub history-end-says : (κs : Lfts 1) (a : Dens κs history-end.Kinds.ps) (r : resT history-end.Kinds.r κs .Denot) (e : AtExit (endedOf 1 history-end.Kinds.ps history-end.Kinds.r) κs) → history-end.Reads.Learnt κs a r e
+pub kd-history-end-says : (κs : Lfts 1) (a : Dens κs kd-history-end.Kinds.ps) (r : resT kd-history-end.Kinds.r κs .Denot) (e : AtExit (endedOf 1 kd-history-end.Kinds.ps kd-history-end.Kinds.r) κs) → kd-history-end.Reads.Learnt κs a r e
     → (r ≡ W.endAnswer (a .0) (now (a .1 .0))) × (now (e .1 .0) ≡ W.endLayer (a .0) (now (a .1 .0)))
-history-end-says κs a r e p = p
+kd-history-end-says κs a r e p = p
 
 -- kd_store_size
-pub size-says : (κs : Lfts 0) (a : Dens κs size.Kinds.ps) (r : resT size.Kinds.r κs .Denot) (e : AtExit (endedOf 0 size.Kinds.ps size.Kinds.r) κs) → size.Reads.Learnt κs a r e
+pub kd-store-size-says : (κs : Lfts 0) (a : Dens κs kd-store-size.Kinds.ps) (r : resT kd-store-size.Kinds.r κs .Denot) (e : AtExit (endedOf 0 kd-store-size.Kinds.ps kd-store-size.Kinds.r) κs) → kd-store-size.Reads.Learnt κs a r e
     → r ≡ countAnswer (sizeAnswer (a .0) (a .1 .0))
-size-says κs a r e p = p
+kd-store-size-says κs a r e p = p
 
 -- kd_open
-pub opening-says : (κs : Lfts 1) (a : Dens κs opening.Kinds.ps) (r : resT opening.Kinds.r κs .Denot) (e : AtExit (endedOf 1 opening.Kinds.ps opening.Kinds.r) κs) → opening.Reads.Learnt κs a r e
+pub kd-open-says : (κs : Lfts 1) (a : Dens κs kd-open.Kinds.ps) (r : resT kd-open.Kinds.r κs .Denot) (e : AtExit (endedOf 1 kd-open.Kinds.ps kd-open.Kinds.r) κs) → kd-open.Reads.Learnt κs a r e
     → (r ≡ countAnswer (openAnswer (now (a .0)) (a .1 .0) (a .1 .1 .0))) × (now (e .0) ≡ openAfter (now (a .0)) (a .1 .0) (a .1 .1 .0) (a .1 .1 .1 .0 .bytes))
-opening-says κs a r e p = p
+kd-open-says κs a r e p = p
 
 -- kd_held
-pub held-says : (κs : Lfts 1) (a : Dens κs held.Kinds.ps) (r : resT held.Kinds.r κs .Denot) (e : AtExit (endedOf 1 held.Kinds.ps held.Kinds.r) κs) → held.Reads.Learnt κs a r e
+pub kd-held-says : (κs : Lfts 1) (a : Dens κs kd-held.Kinds.ps) (r : resT kd-held.Kinds.r κs .Denot) (e : AtExit (endedOf 1 kd-held.Kinds.ps kd-held.Kinds.r) κs) → kd-held.Reads.Learnt κs a r e
     → r ≡ hashAnswer (heldAnswer (now (a .0)) (a .1 .0) (a .1 .1 .0))
-held-says κs a r e p = p
+kd-held-says κs a r e p = p
 
 -- kd_take
-pub taking-says : (κs : Lfts 2) (a : Dens κs taking.Kinds.ps) (r : resT taking.Kinds.r κs .Denot) (e : AtExit (endedOf 2 taking.Kinds.ps taking.Kinds.r) κs) → taking.Reads.Learnt κs a r e
+pub kd-take-says : (κs : Lfts 2) (a : Dens κs kd-take.Kinds.ps) (r : resT kd-take.Kinds.r κs .Denot) (e : AtExit (endedOf 2 kd-take.Kinds.ps kd-take.Kinds.r) κs) → kd-take.Reads.Learnt κs a r e
     → (r ≡ countAnswer (takeAnswer (now (a .0)) (now (a .1 .0)))) × (now (e .0) ≡ takeAfter (now (a .0)) (now (a .1 .0)))
-taking-says κs a r e p = p
+kd-take-says κs a r e p = p
 
 -- kd_take_reject
-pub reject-says : (κs : Lfts 2) (a : Dens κs reject.Kinds.ps) (r : resT reject.Kinds.r κs .Denot) (e : AtExit (endedOf 2 reject.Kinds.ps reject.Kinds.r) κs) → reject.Reads.Learnt κs a r e
+pub kd-take-reject-says : (κs : Lfts 2) (a : Dens κs kd-take-reject.Kinds.ps) (r : resT kd-take-reject.Kinds.r κs .Denot) (e : AtExit (endedOf 2 kd-take-reject.Kinds.ps kd-take-reject.Kinds.r) κs) → kd-take-reject.Reads.Learnt κs a r e
     → r ≡ countAnswer (rejectAnswer (now (a .0)) (now (a .1 .0)))
-reject-says κs a r e p = p
+kd-take-reject-says κs a r e p = p
 
 -- kd_serve
-pub serving-says : (κs : Lfts 3) (a : Dens κs serving.Kinds.ps) (r : resT serving.Kinds.r κs .Denot) (e : AtExit (endedOf 3 serving.Kinds.ps serving.Kinds.r) κs) → serving.Reads.Learnt κs a r e
+pub kd-serve-says : (κs : Lfts 3) (a : Dens κs kd-serve.Kinds.ps) (r : resT kd-serve.Kinds.r κs .Denot) (e : AtExit (endedOf 3 kd-serve.Kinds.ps kd-serve.Kinds.r) κs) → kd-serve.Reads.Learnt κs a r e
     → (r ≡ countAnswer (serveAnswer (now (a .0)) (now (a .1 .0)) (now (a .1 .1 .0)))) × (now (e .1 .1 .0) ≡ serveAfter (now (a .0)) (now (a .1 .0)) (now (a .1 .1 .0)))
-serving-says κs a r e p = p
+kd-serve-says κs a r e p = p
 
 -- kd_load_layer
-pub loading-says : (κs : Lfts 2) (a : Dens κs loading.Kinds.ps) (r : resT loading.Kinds.r κs .Denot) (e : AtExit (endedOf 2 loading.Kinds.ps loading.Kinds.r) κs) → loading.Reads.Learnt κs a r e
+pub kd-load-layer-says : (κs : Lfts 2) (a : Dens κs kd-load-layer.Kinds.ps) (r : resT kd-load-layer.Kinds.r κs .Denot) (e : AtExit (endedOf 2 kd-load-layer.Kinds.ps kd-load-layer.Kinds.r) κs) → kd-load-layer.Reads.Learnt κs a r e
     → (r ≡ countAnswer (layerAnswer (now (a .0)) (now (a .1 .0)))) × (now (e .0) ≡ layerAfter (now (a .0)) (now (a .1 .0)))
-loading-says κs a r e p = p
+kd-load-layer-says κs a r e p = p
 
 -- kd_judge_block
-pub block-says : (κs : Lfts 2) (a : Dens κs block.Kinds.ps) (r : resT block.Kinds.r κs .Denot) (e : AtExit (endedOf 2 block.Kinds.ps block.Kinds.r) κs) → block.Reads.Learnt κs a r e
+pub kd-judge-block-says : (κs : Lfts 2) (a : Dens κs kd-judge-block.Kinds.ps) (r : resT kd-judge-block.Kinds.r κs .Denot) (e : AtExit (endedOf 2 kd-judge-block.Kinds.ps kd-judge-block.Kinds.r) κs) → kd-judge-block.Reads.Learnt κs a r e
     → (r ≡ countAnswer (blockAnswer (now (a .0)) (a .1 .0) (now (a .1 .1 .0)))) × (now (e .0) ≡ blockAfter (now (a .0)) (a .1 .0) (now (a .1 .1 .0)))
-block-says κs a r e p = p
+kd-judge-block-says κs a r e p = p
 
 -- kd_judge_piece
-pub piece-says : (κs : Lfts 2) (a : Dens κs piece.Kinds.ps) (r : resT piece.Kinds.r κs .Denot) (e : AtExit (endedOf 2 piece.Kinds.ps piece.Kinds.r) κs) → piece.Reads.Learnt κs a r e
+pub kd-judge-piece-says : (κs : Lfts 2) (a : Dens κs kd-judge-piece.Kinds.ps) (r : resT kd-judge-piece.Kinds.r κs .Denot) (e : AtExit (endedOf 2 kd-judge-piece.Kinds.ps kd-judge-piece.Kinds.r) κs) → kd-judge-piece.Reads.Learnt κs a r e
     → (r ≡ countAnswer (pieceAnswer (now (a .0)) (a .1 .0) (now (a .1 .1 .0)))) × (now (e .0) ≡ pieceAfter (now (a .0)) (a .1 .0) (now (a .1 .1 .0)))
-piece-says κs a r e p = p
+kd-judge-piece-says κs a r e p = p
 
 -- kd_judge_hybrid_piece
-pub hybrid-piece-says : (κs : Lfts 2) (a : Dens κs hybrid-piece.Kinds.ps) (r : resT hybrid-piece.Kinds.r κs .Denot) (e : AtExit (endedOf 2 hybrid-piece.Kinds.ps hybrid-piece.Kinds.r) κs) → hybrid-piece.Reads.Learnt κs a r e
+pub kd-judge-hybrid-piece-says : (κs : Lfts 2) (a : Dens κs kd-judge-hybrid-piece.Kinds.ps) (r : resT kd-judge-hybrid-piece.Kinds.r κs .Denot) (e : AtExit (endedOf 2 kd-judge-hybrid-piece.Kinds.ps kd-judge-hybrid-piece.Kinds.r) κs) → kd-judge-hybrid-piece.Reads.Learnt κs a r e
     → (r ≡ countAnswer (Both.hybridAnswer (now (a .0)) (a .1 .0) (now (a .1 .1 .0)) (a .1 .1 .1 .0 .bytes) (a .1 .1 .1 .1 .0)))
     × (now (e .0) ≡ Both.hybridAfter (now (a .0)) (a .1 .0) (now (a .1 .1 .0)) (a .1 .1 .1 .0 .bytes) (a .1 .1 .1 .1 .0))
-hybrid-piece-says κs a r e p = p
+kd-judge-hybrid-piece-says κs a r e p = p
 
 -- kd_clear
-pub clearing-says : (κs : Lfts 1) (a : Dens κs clearing.Kinds.ps) (r : resT clearing.Kinds.r κs .Denot) (e : AtExit (endedOf 1 clearing.Kinds.ps clearing.Kinds.r) κs) → clearing.Reads.Learnt κs a r e
+pub kd-clear-says : (κs : Lfts 1) (a : Dens κs kd-clear.Kinds.ps) (r : resT kd-clear.Kinds.r κs .Denot) (e : AtExit (endedOf 1 kd-clear.Kinds.ps kd-clear.Kinds.r) κs) → kd-clear.Reads.Learnt κs a r e
     → (r ≡ countAnswer (clearAnswer (now (a .0)) (a .1 .0))) × (now (e .0) ≡ clearAfter (now (a .0)) (a .1 .0))
-clearing-says κs a r e p = p
+kd-clear-says κs a r e p = p
 
 -- kd_marked
-pub asking-says : (κs : Lfts 1) (a : Dens κs asking.Kinds.ps) (r : resT asking.Kinds.r κs .Denot) (e : AtExit (endedOf 1 asking.Kinds.ps asking.Kinds.r) κs) → asking.Reads.Learnt κs a r e
+pub kd-marked-says : (κs : Lfts 1) (a : Dens κs kd-marked.Kinds.ps) (r : resT kd-marked.Kinds.r κs .Denot) (e : AtExit (endedOf 1 kd-marked.Kinds.ps kd-marked.Kinds.r) κs) → kd-marked.Reads.Learnt κs a r e
     → r ≡ countAnswer (markedAnswer (now (a .0)) (a .1 .0))
-asking-says κs a r e p = p
+kd-marked-says κs a r e p = p
 
 -- kd_next_request
-pub next-request-says : (κs : Lfts 1) (a : Dens κs next-request.Kinds.ps) (r : resT next-request.Kinds.r κs .Denot) (e : AtExit (endedOf 1 next-request.Kinds.ps next-request.Kinds.r) κs) → next-request.Reads.Learnt κs a r e
+pub kd-next-request-says : (κs : Lfts 1) (a : Dens κs kd-next-request.Kinds.ps) (r : resT kd-next-request.Kinds.r κs .Denot) (e : AtExit (endedOf 1 kd-next-request.Kinds.ps kd-next-request.Kinds.r) κs) → kd-next-request.Reads.Learnt κs a r e
     → r ≡ nextAnswer (now (a .0)) (a .1 .0)
-next-request-says κs a r e p = p
+kd-next-request-says κs a r e p = p
 
 -- kd_pick_piece
-pub picking-says : (κs : Lfts 2) (a : Dens κs picking.Kinds.ps) (r : resT picking.Kinds.r κs .Denot) (e : AtExit (endedOf 2 picking.Kinds.ps picking.Kinds.r) κs) → picking.Reads.Learnt κs a r e
+pub kd-pick-piece-says : (κs : Lfts 2) (a : Dens κs kd-pick-piece.Kinds.ps) (r : resT kd-pick-piece.Kinds.r κs .Denot) (e : AtExit (endedOf 2 kd-pick-piece.Kinds.ps kd-pick-piece.Kinds.r) κs) → kd-pick-piece.Reads.Learnt κs a r e
     → r ≡ pickAnswer (now (a .0)) (now (a .1 .0))
-picking-says κs a r e p = p
+kd-pick-piece-says κs a r e p = p
 
 -- kd_extends
-pub beginning-says : (κs : Lfts 2) (a : Dens κs beginning.Kinds.ps) (r : resT beginning.Kinds.r κs .Denot) (e : AtExit (endedOf 2 beginning.Kinds.ps beginning.Kinds.r) κs) → beginning.Reads.Learnt κs a r e
+pub kd-extends-says : (κs : Lfts 2) (a : Dens κs kd-extends.Kinds.ps) (r : resT kd-extends.Kinds.r κs .Denot) (e : AtExit (endedOf 2 kd-extends.Kinds.ps kd-extends.Kinds.r) κs) → kd-extends.Reads.Learnt κs a r e
     → r ≡ countAnswer (extendsAnswer (now (a .0)) (a .1 .0) (a .1 .1 .0 .bytes) (now (a .1 .1 .1 .0)))
-beginning-says κs a r e p = p
+kd-extends-says κs a r e p = p
 
 -- kd_piece_hashes
-pub teaching-says : (κs : Lfts 3) (a : Dens κs teaching.Kinds.ps) (r : resT teaching.Kinds.r κs .Denot) (e : AtExit (endedOf 3 teaching.Kinds.ps teaching.Kinds.r) κs) → teaching.Reads.Learnt κs a r e
+pub kd-piece-hashes-says : (κs : Lfts 3) (a : Dens κs kd-piece-hashes.Kinds.ps) (r : resT kd-piece-hashes.Kinds.r κs .Denot) (e : AtExit (endedOf 3 kd-piece-hashes.Kinds.ps kd-piece-hashes.Kinds.r) κs) → kd-piece-hashes.Reads.Learnt κs a r e
     → (r ≡ countAnswer (leavesAnswer (now (a .0)) (a .1 .0) (now (a .1 .1 .0)) (now (a .1 .1 .1 .0)))) × (now (e .1 .1 .1 .0) ≡ leavesAfter (now (a .0)) (a .1 .0) (now (a .1 .1 .0)) (now (a .1 .1 .1 .0)))
-teaching-says κs a r e p = p
+kd-piece-hashes-says κs a r e p = p
 
 -- kd_bitfield
-pub field-says : (κs : Lfts 2) (a : Dens κs field.Kinds.ps) (r : resT field.Kinds.r κs .Denot) (e : AtExit (endedOf 2 field.Kinds.ps field.Kinds.r) κs) → field.Reads.Learnt κs a r e
+pub kd-bitfield-says : (κs : Lfts 2) (a : Dens κs kd-bitfield.Kinds.ps) (r : resT kd-bitfield.Kinds.r κs .Denot) (e : AtExit (endedOf 2 kd-bitfield.Kinds.ps kd-bitfield.Kinds.r) κs) → kd-bitfield.Reads.Learnt κs a r e
     → (r ≡ countAnswer (fieldAnswer (now (a .0)) (now (a .1 .0)))) × (now (e .1 .0) ≡ fieldAfter (now (a .0)) (now (a .1 .0)))
-field-says κs a r e p = p
+kd-bitfield-says κs a r e p = p
 
 -- kd_version
-pub versioning-says : (κs : Lfts 0) (a : Dens κs versioning.Kinds.ps) (r : resT versioning.Kinds.r κs .Denot) (e : AtExit (endedOf 0 versioning.Kinds.ps versioning.Kinds.r) κs) → versioning.Reads.Learnt κs a r e
+pub kd-version-says : (κs : Lfts 0) (a : Dens κs kd-version.Kinds.ps) (r : resT kd-version.Kinds.r κs .Denot) (e : AtExit (endedOf 0 kd-version.Kinds.ps kd-version.Kinds.r) κs) → kd-version.Reads.Learnt κs a r e
     → r ≡ version
-versioning-says κs a r e p = p
+kd-version-says κs a r e p = p
 
 -- kd_stream_begin
-pub stream-begin-says : (κs : Lfts 0) (a : Dens κs stream-begin.Kinds.ps) (r : resT stream-begin.Kinds.r κs .Denot) (e : AtExit (endedOf 0 stream-begin.Kinds.ps stream-begin.Kinds.r) κs) → stream-begin.Reads.Learnt κs a r e
+pub kd-stream-begin-says : (κs : Lfts 0) (a : Dens κs kd-stream-begin.Kinds.ps) (r : resT kd-stream-begin.Kinds.r κs .Denot) (e : AtExit (endedOf 0 kd-stream-begin.Kinds.ps kd-stream-begin.Kinds.r) κs) → kd-stream-begin.Reads.Learnt κs a r e
     → r ≡ between
-stream-begin-says κs a r e p = p
+kd-stream-begin-says κs a r e p = p
 
 -- kd_stream_hear
-pub stream-hear-says : (κs : Lfts 2) (a : Dens κs stream-hear.Kinds.ps) (r : resT stream-hear.Kinds.r κs .Denot) (e : AtExit (endedOf 2 stream-hear.Kinds.ps stream-hear.Kinds.r) κs) → stream-hear.Reads.Learnt κs a r e
+pub kd-stream-hear-says : (κs : Lfts 2) (a : Dens κs kd-stream-hear.Kinds.ps) (r : resT kd-stream-hear.Kinds.r κs .Denot) (e : AtExit (endedOf 2 kd-stream-hear.Kinds.ps kd-stream-hear.Kinds.r) κs) → kd-stream-hear.Reads.Learnt κs a r e
     → (r ≡ hearAnswer (a .0) (now (a .1 .1 .0)) (now (a .1 .0))) × (now (e .1 .1 .0) ≡ hearRoom (a .0) (now (a .1 .1 .0)) (now (a .1 .0)))
-stream-hear-says κs a r e p = p
+kd-stream-hear-says κs a r e p = p
 
 -- kd_frame
-pub framing-says : (κs : Lfts 2) (a : Dens κs framing.Kinds.ps) (r : resT framing.Kinds.r κs .Denot) (e : AtExit (endedOf 2 framing.Kinds.ps framing.Kinds.r) κs) → framing.Reads.Learnt κs a r e
+pub kd-frame-says : (κs : Lfts 2) (a : Dens κs kd-frame.Kinds.ps) (r : resT kd-frame.Kinds.r κs .Denot) (e : AtExit (endedOf 2 kd-frame.Kinds.ps kd-frame.Kinds.r) κs) → kd-frame.Reads.Learnt κs a r e
     → (r ≡ countAnswer (frameAnswer (now (a .0)) (now (a .1 .0)))) × (now (e .1 .0) ≡ frameAfter (now (a .0)) (now (a .1 .0)))
-framing-says κs a r e p = p
+kd-frame-says κs a r e p = p
 
 -- kd_save
-pub saving-says : (κs : Lfts 2) (a : Dens κs saving.Kinds.ps) (r : resT saving.Kinds.r κs .Denot) (e : AtExit (endedOf 2 saving.Kinds.ps saving.Kinds.r) κs) → saving.Reads.Learnt κs a r e
+pub kd-save-says : (κs : Lfts 2) (a : Dens κs kd-save.Kinds.ps) (r : resT kd-save.Kinds.r κs .Denot) (e : AtExit (endedOf 2 kd-save.Kinds.ps kd-save.Kinds.r) κs) → kd-save.Reads.Learnt κs a r e
     → (r ≡ countAnswer (saveAnswer (now (a .0)) (now (a .1 .0)))) × (now (e .1 .0) ≡ saveAfter (now (a .0)) (now (a .1 .0)))
-saving-says κs a r e p = p
+kd-save-says κs a r e p = p
 
 -- kd_load
-pub saved-loading-says : (κs : Lfts 2) (a : Dens κs saved-loading.Kinds.ps) (r : resT saved-loading.Kinds.r κs .Denot) (e : AtExit (endedOf 2 saved-loading.Kinds.ps saved-loading.Kinds.r) κs) → saved-loading.Reads.Learnt κs a r e
+pub kd-load-says : (κs : Lfts 2) (a : Dens κs kd-load.Kinds.ps) (r : resT kd-load.Kinds.r κs .Denot) (e : AtExit (endedOf 2 kd-load.Kinds.ps kd-load.Kinds.r) κs) → kd-load.Reads.Learnt κs a r e
     → (r ≡ countAnswer (loadAnswer (now (a .0)) (now (a .1 .0)))) × (now (e .0) ≡ loadAfter (now (a .0)) (now (a .1 .0)))
-saved-loading-says κs a r e p = p
+kd-load-says κs a r e p = p
 
 -- kd_repair
-pub repairing-says : (κs : Lfts 2) (a : Dens κs repairing.Kinds.ps) (r : resT repairing.Kinds.r κs .Denot) (e : AtExit (endedOf 2 repairing.Kinds.ps repairing.Kinds.r) κs) → repairing.Reads.Learnt κs a r e
+pub kd-repair-says : (κs : Lfts 2) (a : Dens κs kd-repair.Kinds.ps) (r : resT kd-repair.Kinds.r κs .Denot) (e : AtExit (endedOf 2 kd-repair.Kinds.ps kd-repair.Kinds.r) κs) → kd-repair.Reads.Learnt κs a r e
     → (r ≡ repairAnswer (now (a .0)) (now (a .1 .0))) × (now (e .0) ≡ repairAfter (now (a .0)) (now (a .1 .0)))
-repairing-says κs a r e p = p
+kd-repair-says κs a r e p = p
 
 -- kd_torrent_read
-pub torrent-says : (κs : Lfts 1) (a : Dens κs torrent.Kinds.ps) (r : resT torrent.Kinds.r κs .Denot) (e : AtExit (endedOf 1 torrent.Kinds.ps torrent.Kinds.r) κs) → torrent.Reads.Learnt κs a r e
+pub kd-torrent-read-says : (κs : Lfts 1) (a : Dens κs kd-torrent-read.Kinds.ps) (r : resT kd-torrent-read.Kinds.r κs .Denot) (e : AtExit (endedOf 1 kd-torrent-read.Kinds.ps kd-torrent-read.Kinds.r) κs) → kd-torrent-read.Reads.Learnt κs a r e
     → r ≡ torrentAnswer (readOf (now (a .0)))
-torrent-says κs a r e p = p
+kd-torrent-read-says κs a r e p = p
 
 -- kd_torrent_file
-pub file-says : (κs : Lfts 1) (a : Dens κs file.Kinds.ps) (r : resT file.Kinds.r κs .Denot) (e : AtExit (endedOf 1 file.Kinds.ps file.Kinds.r) κs) → file.Reads.Learnt κs a r e
+pub kd-torrent-file-says : (κs : Lfts 1) (a : Dens κs kd-torrent-file.Kinds.ps) (r : resT kd-torrent-file.Kinds.r κs .Denot) (e : AtExit (endedOf 1 kd-torrent-file.Kinds.ps kd-torrent-file.Kinds.r) κs) → kd-torrent-file.Reads.Learnt κs a r e
     → r ≡ fileAnswer (fileRead (now (a .0)) (a .1 .0))
-file-says κs a r e p = p
+kd-torrent-file-says κs a r e p = p
 
 -- kd_torrent_path
-pub path-says : (κs : Lfts 1) (a : Dens κs path.Kinds.ps) (r : resT path.Kinds.r κs .Denot) (e : AtExit (endedOf 1 path.Kinds.ps path.Kinds.r) κs) → path.Reads.Learnt κs a r e
+pub kd-torrent-path-says : (κs : Lfts 1) (a : Dens κs kd-torrent-path.Kinds.ps) (r : resT kd-torrent-path.Kinds.r κs .Denot) (e : AtExit (endedOf 1 kd-torrent-path.Kinds.ps kd-torrent-path.Kinds.r) κs) → kd-torrent-path.Reads.Learnt κs a r e
     → r ≡ partAnswer (pathRead (now (a .0)) (a .1 .0) (a .1 .1 .0))
-path-says κs a r e p = p
+kd-torrent-path-says κs a r e p = p
 
 -- kd_torrent_list
-pub list-says : (κs : Lfts 2) (a : Dens κs list.Kinds.ps) (r : resT list.Kinds.r κs .Denot) (e : AtExit (endedOf 2 list.Kinds.ps list.Kinds.r) κs) → list.Reads.Learnt κs a r e
+pub kd-torrent-list-says : (κs : Lfts 2) (a : Dens κs kd-torrent-list.Kinds.ps) (r : resT kd-torrent-list.Kinds.r κs .Denot) (e : AtExit (endedOf 2 kd-torrent-list.Kinds.ps kd-torrent-list.Kinds.r) κs) → kd-torrent-list.Reads.Learnt κs a r e
     → (r ≡ countAnswer (listAnswer (now (a .0)) (now (a .1 .0)))) × (now (e .1 .0) ≡ listAfter (now (a .0)) (now (a .1 .0)))
-list-says κs a r e p = p
+kd-torrent-list-says κs a r e p = p
 
 -- kd_facts
-pub facts-named-says : (κs : Lfts 1) (a : Dens κs facts-named.Kinds.ps) (r : resT facts-named.Kinds.r κs .Denot) (e : AtExit (endedOf 1 facts-named.Kinds.ps facts-named.Kinds.r) κs) → facts-named.Reads.Learnt κs a r e
+pub kd-facts-says : (κs : Lfts 1) (a : Dens κs kd-facts.Kinds.ps) (r : resT kd-facts.Kinds.r κs .Denot) (e : AtExit (endedOf 1 kd-facts.Kinds.ps kd-facts.Kinds.r) κs) → kd-facts.Reads.Learnt κs a r e
     → r ≡ factsStruct (factsAnswer (now (a .0)))
-facts-named-says κs a r e p = p
+kd-facts-says κs a r e p = p
 
 -- kd_torrent_info
-pub info-says : (κs : Lfts 1) (a : Dens κs info.Kinds.ps) (r : resT info.Kinds.r κs .Denot) (e : AtExit (endedOf 1 info.Kinds.ps info.Kinds.r) κs) → info.Reads.Learnt κs a r e
+pub kd-torrent-info-says : (κs : Lfts 1) (a : Dens κs kd-torrent-info.Kinds.ps) (r : resT kd-torrent-info.Kinds.r κs .Denot) (e : AtExit (endedOf 1 kd-torrent-info.Kinds.ps kd-torrent-info.Kinds.r) κs) → kd-torrent-info.Reads.Learnt κs a r e
     → r ≡ partAnswer (infoRead (now (a .0)))
-info-says κs a r e p = p
+kd-torrent-info-says κs a r e p = p
 
 -- kd_torrent_name
-pub named-says : (κs : Lfts 1) (a : Dens κs named.Kinds.ps) (r : resT named.Kinds.r κs .Denot) (e : AtExit (endedOf 1 named.Kinds.ps named.Kinds.r) κs) → named.Reads.Learnt κs a r e
+pub kd-torrent-name-says : (κs : Lfts 1) (a : Dens κs kd-torrent-name.Kinds.ps) (r : resT kd-torrent-name.Kinds.r κs .Denot) (e : AtExit (endedOf 1 kd-torrent-name.Kinds.ps kd-torrent-name.Kinds.r) κs) → kd-torrent-name.Reads.Learnt κs a r e
     → r ≡ partAnswer (nameRead (now (a .0)))
-named-says κs a r e p = p
+kd-torrent-name-says κs a r e p = p
 
 -- kd_torrent_hybrid
-pub hybrid-says : (κs : Lfts 1) (a : Dens κs hybrid.Kinds.ps) (r : resT hybrid.Kinds.r κs .Denot) (e : AtExit (endedOf 1 hybrid.Kinds.ps hybrid.Kinds.r) κs) → hybrid.Reads.Learnt κs a r e
+pub kd-torrent-hybrid-says : (κs : Lfts 1) (a : Dens κs kd-torrent-hybrid.Kinds.ps) (r : resT kd-torrent-hybrid.Kinds.r κs .Denot) (e : AtExit (endedOf 1 kd-torrent-hybrid.Kinds.ps kd-torrent-hybrid.Kinds.r) κs) → kd-torrent-hybrid.Reads.Learnt κs a r e
     → r ≡ hybridAnswer (hybridOf (now (a .0)))
-hybrid-says κs a r e p = p
+kd-torrent-hybrid-says κs a r e p = p
 
 -- kd_torrent_v1_piece
-pub v1-piece-says : (κs : Lfts 1) (a : Dens κs v1-piece.Kinds.ps) (r : resT v1-piece.Kinds.r κs .Denot) (e : AtExit (endedOf 1 v1-piece.Kinds.ps v1-piece.Kinds.r) κs) → v1-piece.Reads.Learnt κs a r e
+pub kd-torrent-v1-piece-says : (κs : Lfts 1) (a : Dens κs kd-torrent-v1-piece.Kinds.ps) (r : resT kd-torrent-v1-piece.Kinds.r κs .Denot) (e : AtExit (endedOf 1 kd-torrent-v1-piece.Kinds.ps kd-torrent-v1-piece.Kinds.r) κs) → kd-torrent-v1-piece.Reads.Learnt κs a r e
     → r ≡ v1PieceAnswer (v1PieceOf (now (a .0)) (a .1 .0) (a .1 .1 .0))
-v1-piece-says κs a r e p = p
+kd-torrent-v1-piece-says κs a r e p = p
 
 -- kd_torrent_v1_pieces
-pub v1-pieces-says : (κs : Lfts 1) (a : Dens κs v1-pieces.Kinds.ps) (r : resT v1-pieces.Kinds.r κs .Denot) (e : AtExit (endedOf 1 v1-pieces.Kinds.ps v1-pieces.Kinds.r) κs) → v1-pieces.Reads.Learnt κs a r e
+pub kd-torrent-v1-pieces-says : (κs : Lfts 1) (a : Dens κs kd-torrent-v1-pieces.Kinds.ps) (r : resT kd-torrent-v1-pieces.Kinds.r κs .Denot) (e : AtExit (endedOf 1 kd-torrent-v1-pieces.Kinds.ps kd-torrent-v1-pieces.Kinds.r) κs) → kd-torrent-v1-pieces.Reads.Learnt κs a r e
     → r ≡ v1PartAnswer (v1PiecesOf (now (a .0)) (a .1 .0))
-v1-pieces-says κs a r e p = p
+kd-torrent-v1-pieces-says κs a r e p = p
 
 -- kd_place
-pub placing-says : (κs : Lfts 1) (a : Dens κs placing.Kinds.ps) (r : resT placing.Kinds.r κs .Denot) (e : AtExit (endedOf 1 placing.Kinds.ps placing.Kinds.r) κs) → placing.Reads.Learnt κs a r e
+pub kd-place-says : (κs : Lfts 1) (a : Dens κs kd-place.Kinds.ps) (r : resT kd-place.Kinds.r κs .Denot) (e : AtExit (endedOf 1 kd-place.Kinds.ps kd-place.Kinds.r) κs) → kd-place.Reads.Learnt κs a r e
     → r ≡ placeAnswer (now (a .0)) (a .1 .0) (a .1 .1 .0)
-placing-says κs a r e p = p
+kd-place-says κs a r e p = p
 
 -- kd_first_piece
-pub first-piece-says : (κs : Lfts 1) (a : Dens κs first-piece.Kinds.ps) (r : resT first-piece.Kinds.r κs .Denot) (e : AtExit (endedOf 1 first-piece.Kinds.ps first-piece.Kinds.r) κs) → first-piece.Reads.Learnt κs a r e
+pub kd-first-piece-says : (κs : Lfts 1) (a : Dens κs kd-first-piece.Kinds.ps) (r : resT kd-first-piece.Kinds.r κs .Denot) (e : AtExit (endedOf 1 kd-first-piece.Kinds.ps kd-first-piece.Kinds.r) κs) → kd-first-piece.Reads.Learnt κs a r e
     → r ≡ countAnswer (firstAnswer (now (a .0)) (a .1 .0) (a .1 .1 .0))
-first-piece-says κs a r e p = p
+kd-first-piece-says κs a r e p = p
 
 -- kd_torrent_write
-pub writing-says : (κs : Lfts 4) (a : Dens κs writing.Kinds.ps) (r : resT writing.Kinds.r κs .Denot) (e : AtExit (endedOf 4 writing.Kinds.ps writing.Kinds.r) κs) → writing.Reads.Learnt κs a r e
+pub kd-torrent-write-says : (κs : Lfts 4) (a : Dens κs kd-torrent-write.Kinds.ps) (r : resT kd-torrent-write.Kinds.r κs .Denot) (e : AtExit (endedOf 4 kd-torrent-write.Kinds.ps kd-torrent-write.Kinds.r) κs) → kd-torrent-write.Reads.Learnt κs a r e
     → (r ≡ countAnswer (writeAnswer (now (a .0)) (now (a .1 .0)) (a .1 .1 .0) (now (a .1 .1 .1 .0)) (now (a .1 .1 .1 .1 .0)))) × (now (e .1 .1 .1 .1 .0) ≡ writeAfter (now (a .0)) (now (a .1 .0)) (a .1 .1 .0) (now (a .1 .1 .1 .0)) (now (a .1 .1 .1 .1 .0)))
-writing-says κs a r e p = p
+kd-torrent-write-says κs a r e p = p

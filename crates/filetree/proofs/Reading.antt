@@ -1,42 +1,38 @@
 -- A file's dictionary and the tokens of the tree, at a position of the torrent s: each definition of specs/ as the code meets it.
 -- Assumes nothing.
 use mathlib.Core.Path.{_≡_, refl, sym, ap, _∙_}
-use mathlib.Core.Bool.{Bool, true, false, cond, _&&_, _||_, not, and-false, false≢true}
+use mathlib.Core.Bool.{Bool, true, false, _&&_, _||_, not, and-false, false≢true}
 use mathlib.Core.List.{List, [], _∷_}
 use Prim.Native.Nat.{ℕ, suc, _+_, _-_, _≤_, _<_}
 use native.Mathlib.Omega.{arith}
-use native.Mathlib.Decide.{decLt}
 use lib.ListN.{length, getD, take, drop}
-use lib.Dec.{eqb, leb}
+use lib.Dec.{eqb}
 use borrow.Author.Tests.{eq-eqb, ne-eqb, le-leb, lt-leb}
 use Rattle.meaning.specs.Keys.{keyLength, keyPiecesRoot}
 use Rattle.octets.specs.Octets.{cut, same}
 use Rattle.octets.specs.OctetsLaws.{cut-length, same-ne, drop-step}
 use Rattle.limits.specs.Limits.{longestFile, maxLevels}
-use Rattle.bencode.specs.Grammar.{letterE, letterD}
-use Rattle.bencode.specs.Scalar.{readInteger, readString}
+use Rattle.bencode.specs.Grammar.{letterE}
+use Rattle.bencode.specs.Scalar.{readString}
 use Rattle.bencode.specs.Walk.{walkValue}
 use Rattle.bencode.specs.Parts.{isDictionary, findKey}
 use Rattle.bencode.specs.EndsLaws.{string-ends}
 use Rattle.bencode.specs.declared.scalar.ByteString.{ByteString}
-use Rattle.bencode.specs.declared.scalar.ByteString.the-variants.{Content, NoString}
+use Rattle.bencode.specs.declared.scalar.ByteString.the-variants.{Content}
 use Rattle.bencode.specs.declared.scalar.Integer.{Integer}
-use Rattle.bencode.specs.declared.scalar.Integer.the-variants.{Whole, NoInteger}
+use Rattle.bencode.specs.declared.scalar.Integer.the-variants.{Whole}
 use Rattle.bencode.specs.declared.walk.Walked.{Walked}
-use Rattle.bencode.specs.declared.walk.Walked.the-variants.{Past, Broken, TooDeep}
+use Rattle.bencode.specs.declared.walk.Walked.the-variants.{Past}
 use Rattle.bencode.specs.declared.parts.Found.{Found}
-use Rattle.bencode.specs.declared.parts.Found.the-variants.{Part, Missing}
 use Rattle.bencode.proofs.Reading.{drop-end}
 use Rattle.filetree.specs.File.{lengthOf, rootOf, lengthIn, rootIn, fileLength, fileRoot, emptyFile, fullFile, withLength, fileAt}
 use Rattle.meaning.specs.Torrent.{without, dot, dots, slash, elementRight}
 use Rattle.filetree.specs.Token.{endsHere, behindFile, pastFile, withFile, fileToken, firstKey, nodeToken, keyToken, tokenAt}
-use Rattle.filetree.specs.declared.file.Length.{Length}
 use Rattle.filetree.specs.declared.file.Length.the-variants.{Bytes, NoLength}
 use Rattle.filetree.specs.declared.file.Root.{Root}
 use Rattle.filetree.specs.declared.file.Root.the-variants.{At, NoRoot}
 use Rattle.filetree.specs.declared.file.File.{File}
-use Rattle.filetree.specs.declared.file.File.the-variants.{Right, WrongFile}
-use Rattle.filetree.specs.declared.token.Token.{Token}
+use Rattle.filetree.specs.declared.file.File.the-variants.{WrongFile}
 use Rattle.filetree.specs.declared.token.Token.the-variants.{Opened, Closed, Leaf, BadToken}
 
 -- ---- lengths and roots
@@ -203,14 +199,6 @@ module _ (s : List ℕ) (i : ℕ) where
   pub ends-byte : i < length s → endsHere (drop i s) ≡ eqb (getD s i 0) letterE
   unfolding endsHere
   ends-byte h = rw (drop-step s i h) refl
-
-  -- where something ends there is a byte
-  pub ends-within : endsHere (drop i s) ≡ true → i < length s
-  ends-within e = by-length (decLt i (length s))
-    where
-      by-length : Dec (i < length s) → i < length s
-      by-length (yes h) = h
-      by-length (no g) = absurd (false≢true (sym (ends-none (omega arith)) ∙ e))
 
 module _ (s : List ℕ) (a b n r at : ℕ) where
   pub past-wrong : (w : Walked) → walkValue maxLevels at (drop at s) ≡ w → pastFile s a b n r at ≡ behindFile s a b n r w

@@ -1,6 +1,6 @@
 -- Counting, file by file: what is counted when a walk has passed the files fs, and that one file, or a directory, keeps it so.
 -- Assumes nothing.
-use mathlib.Core.Path.{_≡_, refl, sym, ap, ap₂, _∙_}
+use mathlib.Core.Path.{_≡_, refl, sym, ap, _∙_}
 use mathlib.Core.Bool.{Bool, true, false, cond, false≢true}
 use mathlib.Core.List.{List, [], _∷_, _++_, append-assoc, append-nil}
 use Prim.Native.Nat.{ℕ, _+_, _-_, _*_, _^_, _≤_, _<_}
@@ -9,10 +9,10 @@ use native.Mathlib.Numerals.{add-one}
 use lib.ListN.{length, take, drop, set, length-append, length-set}
 use lib.Seq.{set-split}
 use lib.Dec.{eqb}
-use borrow.Author.Tests.{eqb-true, eqb-false, eq-eqb, ne-eqb}
+use borrow.Author.Tests.{eqb-false}
 use Rattle.limits.specs.Limits.{largestTorrent}
 use Rattle.octets.specs.Octets.{pasted}
-use Rattle.octets.specs.OctetsLaws.{pasted-append, pasted-length, pasted-none}
+use Rattle.octets.specs.OctetsLaws.{pasted-append, pasted-none}
 use Rattle.filetree.specs.Token.{endsHere, tokenAt}
 use Rattle.filetree.specs.TokenLaws.{leaf-ends}
 use Rattle.filetree.specs.Tree.{maxElements, Element, Listed, listedAs, down, Files, wrong, files, filesBelow, filesIn, right, listed, rootsOf}
@@ -119,7 +119,7 @@ unfolding countedOf right
 counts-wrong t at levels before roots after h =
     record { counted = λ path. sym (ap (countedOf before) (h path)); kept = λ path e. absurd (false≢true (sym (ap right (h path)) ∙ e)); within = tt }
 
-module _ (t : List ℕ) (at levels : ℕ) (before : Tally) (roots₀ roots : List ℕ) (below i : ℕ) (c : Tally) (w : CountedAt t at levels before roots₀ roots below i c) where
+module _ {t : List ℕ} {at levels : ℕ} {before : Tally} {roots₀ roots : List ℕ} {below i : ℕ} {c : Tally} (w : CountedAt t at levels before roots₀ roots below i c) where
   abbrev whole : List Element → Files
   whole path = filesBelow levels t at path
 
@@ -145,7 +145,7 @@ module _ (t : List ℕ) (at levels : ℕ) (before : Tally) (roots₀ roots : Lis
     pub room-left : length t ≤ largestTorrent → c .roots < length roots
     room-left l = let x = w .within .few-roots in let y = w .sized in omega arith
 
-    module _ (a b n r k : ℕ) (e : tokenAt t i ≡ Leaf a b n r k) (l : length t ≤ largestTorrent) where
+    module _ {a b n r k : ℕ} (e : tokenAt t i ≡ Leaf a b n r k) (l : length t ≤ largestTorrent) where
       pub file-asked : Within largestTorrent c × (c .roots < length roots) × ((n ≡ 0 → ⊥) → r < 2 ^ 32)
       file-asked = (further i largestTorrent c (omega arith) (w .within), room-left l, λ z. let x = leaf-ends t i a b n r k e .2 z .1 in omega arith)
 
@@ -192,7 +192,7 @@ module _ (t : List ℕ) (at levels : ℕ) (before : Tally) (roots₀ roots : Lis
                   set-pasted roots (c .roots) r x
                   ∙ kept-more roots₀ roots (rootsOf (w .passed path .0)) (r ∷ []) (before .roots) (c .roots) (w .passed path .3) (roots-so before c (w .passed path .0) (w .passed path .2)) (omega arith)
 
-    module _ (a b : ℕ) (e : tokenAt t i ≡ Opened a b) (roots′ : List ℕ) where
+    module _ {a b : ℕ} (e : tokenAt t i ≡ Opened a b) (roots′ : List ℕ) where
       pub counts-inside : Counts t (b + 1) below c roots roots′ WrongTree → Counts t at levels before roots₀ roots′ WrongTree
       counts-inside q = counts-wrong t at levels before roots₀ roots′ (λ path. passed-wrong t (whole path) below path i (w .passed path .0) (w .passed path .1) h a b e (is path))
         where

@@ -1,6 +1,6 @@
 -- 01, "The torrent", 25: what the value of an empty key says of a file, by positions of the bytes s.
 -- Assumes nothing.
-use mathlib.Core.Bool.{Bool, true, false, cond}
+use mathlib.Core.Bool.{true, false, cond}
 use mathlib.Core.List.{List}
 use Prim.Native.Nat.{ℕ, _-_}
 use lib.ListN.{drop}

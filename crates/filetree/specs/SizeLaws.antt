@@ -2,30 +2,29 @@
 -- Assumes nothing.
 use mathlib.Core.Path.{_≡_, refl, sym, ap, _∙_}
 use mathlib.Core.Bool.{Bool, true, false, cond, false≢true}
-use mathlib.Core.List.{List, [], _∷_, _++_}
+use mathlib.Core.List.{List, _∷_, _++_}
 use Prim.Native.Nat.{ℕ, zero, suc, _+_, _-_, _≤_}
 use native.Mathlib.Omega.{arith}
 use lib.ListN.{length, drop, length-append}
 use lib.Dec.{eqb, leb}
-use borrow.Author.Tests.{eqb-true, eqb-false, leb-true}
+use borrow.Author.Tests.{eqb-true, leb-true}
 use Rattle.meaning.specs.Keys.{keyLength, keyPiecesRoot}
 use Rattle.octets.specs.Octets.{same}
 use Rattle.octets.specs.OctetsLaws.{same-true, same-eq}
 use Rattle.limits.specs.Limits.{longestFile, maxLevels}
-use Rattle.bencode.specs.Grammar.{colon, letterD, letterE, Value, integer, string, list, dictionary, Entries, noEntries, entry, decimal, decimalIn, encodeString, encode, encodeEntries, Valid}
+use Rattle.bencode.specs.Grammar.{colon, Value, integer, string, list, dictionary, Entries, noEntries, entry, decimal, decimalIn, encodeString, encode, encodeEntries, Valid}
 use Rattle.bencode.specs.Scalar.{readString, readInteger}
 use Rattle.bencode.specs.Walk.{walkValue}
 use Rattle.bencode.specs.Parts.{isDictionary, findKey, Lookup, absent, present, lookup, FoundIs}
-use Rattle.bencode.specs.EndsLaws.{string-ends, value-ends}
-use Rattle.bencode.specs.CompleteLaws.{string-some, value-some, dictionary-bytes, contentStart, decimal-some}
+use Rattle.bencode.specs.EndsLaws.{string-ends}
+use Rattle.bencode.specs.CompleteLaws.{value-some, dictionary-bytes, contentStart, decimal-some}
 use Rattle.bencode.specs.SoundLaws.{sound}
-use Rattle.bencode.specs.PartsLaws.{part-front, find-is, find-ends, string-is, stringOf, dictionary-is, isDictionaryValue, entries-length}
+use Rattle.bencode.specs.PartsLaws.{part-front, find-is, string-is, stringOf, dictionary-is, isDictionaryValue, entries-length}
 use Rattle.bencode.specs.declared.scalar.ByteString.{ByteString}
 use Rattle.bencode.specs.declared.scalar.ByteString.the-variants.{Content, NoString}
 use Rattle.bencode.specs.declared.scalar.Integer.{Integer}
 use Rattle.bencode.specs.declared.scalar.Integer.the-variants.{Whole, NoInteger}
-use Rattle.bencode.specs.declared.walk.Walked.{Walked}
-use Rattle.bencode.specs.declared.walk.Walked.the-variants.{Past, Broken, TooDeep}
+use Rattle.bencode.specs.declared.walk.Walked.the-variants.{Past}
 use Rattle.bencode.specs.declared.parts.Found.{Found}
 use Rattle.bencode.specs.declared.parts.Found.the-variants.{Part, Missing}
 use Rattle.filetree.specs.File.{lengthOf, rootOf, lengthIn, rootIn, fileLength, fileRoot, emptyFile, fullFile, withLength, fileAt}
@@ -33,7 +32,6 @@ use Rattle.filetree.specs.declared.file.Length.{Length}
 use Rattle.filetree.specs.declared.file.Length.the-variants.{Bytes, NoLength}
 use Rattle.filetree.specs.declared.file.Root.{Root}
 use Rattle.filetree.specs.declared.file.Root.the-variants.{At, NoRoot}
-use Rattle.filetree.specs.declared.file.File.{File}
 use Rattle.filetree.specs.declared.file.File.the-variants.{Right, WrongFile}
 
 -- ---- what a dictionary's entries take

@@ -1,6 +1,6 @@
 -- What stands next in an open directory of the file tree, by its position. s is the part of the torrent that `file tree` is.
 -- Assumes nothing.
-use mathlib.Core.Bool.{Bool, true, false, cond}
+use mathlib.Core.Bool.{Bool, false, cond}
 use mathlib.Core.List.{List, [], _∷_}
 use Prim.Native.Nat.{ℕ, _+_, _-_}
 use lib.ListN.{drop}

@@ -14,6 +14,7 @@ use Rattle.bencode.specs.Scalar.{readString, readNumber}
 use Rattle.bencode.specs.Walk.{walkValue}
 use Rattle.bencode.specs.Parts.{isDictionary}
 use Rattle.bencode.specs.EndsLaws.{string-ends, value-ends}
+use Rattle.bencode.proofs.Finding.{dictionary-within}
 use Rattle.bencode.specs.declared.scalar.ByteString.{ByteString}
 use Rattle.bencode.specs.declared.scalar.ByteString.the-variants.{Content, NoString}
 use Rattle.bencode.specs.declared.walk.Walked.{Walked}
@@ -27,17 +28,10 @@ use Rattle.filetree.specs.declared.file.File.the-variants.{Right, WrongF
 use Rattle.filetree.specs.declared.token.Token.{Token}
 use Rattle.filetree.specs.declared.token.Token.the-variants.{Opened, Closed, Leaf, BadToken}
 
-ends-inside : (s : List ℕ) (i : ℕ) → endsHere (drop i s) ≡ true → i < length s
+-- where something ends there is a byte
+pub ends-inside : (s : List ℕ) (i : ℕ) → endsHere (drop i s) ≡ true → i < length s
 unfolding endsHere
 ends-inside s i e = by-length (decLt i (length s))
-  where
-    by-length : Dec (i < length s) → i < length s
-    by-length (yes h) = h
-    by-length (no g) = absurd (false≢true (rw (drop-of-length-le s {i = i} (omega arith)) at e))
-
-dictionary-inside : (s : List ℕ) (i : ℕ) → isDictionary (drop i s) ≡ true → i < length s
-unfolding isDictionary
-dictionary-inside s i e = by-length (decLt i (length s))
   where
     by-length : Dec (i < length s) → i < length s
     by-length (yes h) = h
@@ -102,7 +96,7 @@ node-in s at a b o h = by-kind (isDictionary (drop b s)) refl
     by-end l false = first-in s at a b o h l (readString (b + 1) (drop (b + 1) s)) refl
 
     by-kind : (t : Bool) → isDictionary (drop b s) ≡ t → TokenIn at (length s) (cond t (cond (endsHere (drop (b + 1) s)) BadToken (firstKey s a b (readString (b + 1) (drop (b + 1) s)))) BadToken)
-    by-kind true e = by-end (dictionary-inside s b e) (endsHere (drop (b + 1) s))
+    by-kind true e = by-end (dictionary-within s b e) (endsHere (drop (b + 1) s))
     by-kind false e = tt
 
 pub token-in : (s : List ℕ) (at : ℕ) → TokenIn at (length s) (tokenAt s at)
@@ -131,6 +125,13 @@ opened-ends s at a b e = rw e at (token-in s at)
 
 pub leaf-ends : (s : List ℕ) (at a b n r k : ℕ) → tokenAt s at ≡ Leaf a b n r k → (at < k) × (k ≤ length s) × Takes at (length s) n r k × (n ≤ longestFile) × (a ≤ b) × (b ≤ length s)
 leaf-ends s at a b n r k e = rw e at (token-in s at)
+
+-- what ends further on leaves fewer bytes behind it
+pub fewer-behind : (n at k : ℕ) → at < k → k ≤ n → n - k < n - at
+fewer-behind n at k l h = omega arith
+
+pub leaf-fewer : (s : List ℕ) (at a b n r k : ℕ) → tokenAt s at ≡ Leaf a b n r k → length s - k < length s - at
+leaf-fewer s at a b n r k e = let ends = leaf-ends s at a b n r k e in fewer-behind (length s) at k (ends .0) (ends .1)
 
 -- past the end there is none
 pub token-none : (s : List ℕ) (at : ℕ) → length s ≤ at → tokenAt s at ≡ BadToken

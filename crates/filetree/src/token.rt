@@ -12,7 +12,7 @@ use limits::LEVELS;
 ghost use mathlib.Core.Path.{_≡_};
 ghost use lib.ListN.{drop};
 ghost use Rattle.bencode.specs.Scalar.{readString};
-ghost use Rattle.filetree.specs.Token.{endsHere, pastFile, fileToken, firstKey, nodeToken, keyToken, tokenAt};
+ghost use Rattle.filetree.specs.Token.{endsHere, pastFile, fileToken, firstKey, nodeToken, tokenAt};
 
 // What stands next in an open directory: a directory inside, with its key; the directory's end; a file, with its key; or something
 // that may not stand there.

@@ -136,7 +136,7 @@ fn put_few(room: &mut [u8], at: usize, s: &[u8])
     }
 }
 
-// The same of 64 bytes or more, 64 at a time; the last 64 once more, so that none are left over.
+// 64 bytes of s or more into room, 64 at a time; the last 64 once more, so that none are left over.
 fn put_many(room: &mut [u8], at: usize, s: &[u8])
     requires { ⌜ (64 ≤ length (now s)) × (at + length (now s) ≤ length (now room)) ⌝ }
     ensures { λ _. ⌜ now (room .exit) ≡ pasted (now (room .entry)) at (now (s .entry)) ⌝ }

@@ -10,8 +10,8 @@ use Rattle.tree.specs.Geometry.{isPieceLength, pieceLayer, height, heightFrom, 
 use Rattle.bencode.specs.Grammar.{Value, integer, string, list, dictionary, Items, noItems, item, Entries, noEntries, entry}
 use Rattle.bencode.specs.Parts.{lookup}
 use Rattle.meaning.specs.Keys.{keyLength, keyPiecesRoot, keyInfo, keyFileTree, keyPieceLength, keyMetaVersion, keyPieceLayers}
-use Rattle.halves.specs.V1Keys.{keyPieces, keyFiles, keyName, keyPath, keyAttr}
-use Rattle.meaning.specs.Torrent.{without, hasKeys, elementRight, fileRight, nodeRight, branchRight, nodesRight, treeRight, filesOfNode, filesOfEntries, noOtherLength, lengthsAgree, layersFit, someLonger, noOthers, layersGiveRoots, valueNumber}
+use Rattle.halves.specs.V1Keys.{keyPieces, keyFiles, keyPath, keyAttr}
+use Rattle.meaning.specs.Torrent.{without, hasKeys, elementRight, fileRight, nodeRight, branchRight, nodesRight, treeRight, filesOfNode, filesOfEntries, noOtherLength, lengthsAgree, layersFit, noOthers, layersGiveRoots, valueNumber}
 use Rattle.halves.specs.V1Half.{namesFull, namesOf, entryFits, itemsFit, entriesIn, halfFits, v1Entries, total, samePath, filesAmong, sameFiles, onBoundary, halvesFit, torrentNumber}
 
 abbrev a : List ℕ

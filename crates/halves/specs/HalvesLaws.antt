@@ -26,8 +26,8 @@ use Rattle.meaning.specs.Amiss.{NoneAmiss}
 use Rattle.meaning.specs.PathsLaws.{without-yes, without-no}
 use Rattle.meaning.specs.TestsLaws.{natural-yes}
 use Rattle.meaning.specs.AmissLaws.{value-ranged, exactly-0}
-use Rattle.halves.specs.V1Half.{V1Entry, isThere, hasString, bytesOf, isFull, namesFull, namesOf, pathFull, pathNames, letterP, stringOrNone, isPadding, pathFits, entryFits, entryOf, itemsFit, entriesIn, listFits, listEntries, oneFile, halfFits, v1Entries, total, samePath, filesAmong, sameFiles, onBoundary, piecesFit, isHybrid, halvesFit, torrentNumber}
-use Rattle.halves.specs.Halves.{Hybrid, Names, none, name, PathIs, PathGiven, given, leftOut, AttrIs, missing, plain, padding, EntryIs, EntriesAre, more, NameOrNone, named, V1Files, single, several, SameFiles, aside, one, startAt, OnBoundary, PiecesRight, HalvesAgree, Amiss31}
+use Rattle.halves.specs.V1Half.{V1Entry, isThere, hasString, bytesOf, namesFull, namesOf, pathFull, pathNames, letterP, stringOrNone, isPadding, pathFits, entryFits, entryOf, itemsFit, entriesIn, listFits, listEntries, oneFile, halfFits, v1Entries, total, samePath, filesAmong, sameFiles, onBoundary, piecesFit, isHybrid, halvesFit, torrentNumber}
+use Rattle.halves.specs.Halves.{Names, none, name, PathIs, PathGiven, given, leftOut, AttrIs, missing, plain, padding, EntryIs, EntriesAre, more, NameOrNone, named, V1Files, single, several, SameFiles, aside, one, startAt, PiecesRight, HalvesAgree, Amiss31}
 
 -- ---- what is there
 

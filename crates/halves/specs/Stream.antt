@@ -8,7 +8,7 @@ use Prim.Native.Nat.{ℕ, zero, suc, _+_, _-_, _*_, _/_, _<_, min}
 use lib.ListN.{length, replicate}
 use Rattle.octets.specs.Octets.{cut}
 use Rattle.sha1.specs.Sha1.{sha1}
-use Rattle.halves.specs.V1Half.{V1Entry, total}
+use Rattle.halves.specs.V1Half.{V1Entry}
 
 -- `bytes` is what the entries es say, one after the other, with the contents cs of the files in order and zeros for padding (BEP 47)
 pub data StreamOf : List V1Entry → List (List ℕ) → List ℕ → Type 0 where

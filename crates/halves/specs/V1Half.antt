@@ -3,10 +3,10 @@
 -- Assumes nothing.
 use mathlib.Core.Bool.{Bool, true, false, cond, _&&_, _||_, not}
 use mathlib.Core.List.{List, [], _∷_}
-use Prim.Native.Nat.{ℕ, zero, suc, _+_, _-_, _*_, _/_, _%_}
+use Prim.Native.Nat.{ℕ, _+_, _*_, _%_}
 use lib.ListN.{length}
-use lib.Dec.{eqb, leb}
-use Rattle.octets.specs.Octets.{same, cut}
+use lib.Dec.{eqb}
+use Rattle.octets.specs.Octets.{same}
 use Rattle.numbers.specs.Numbers.{halvesDiffer}
 use Rattle.tree.specs.Geometry.{pieceCount}
 use Rattle.bencode.specs.Grammar.{Value, integer, string, list, dictionary, Items, noItems, item, Entries, noEntries}

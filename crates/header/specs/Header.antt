@@ -1,5 +1,10 @@
 -- 01, "The hash messages": the 49 bytes before the hashes, the rules that a header keeps against a file's B and h, and the place
 -- in the tree that it names.
+--
+--   layer 3                   anchor                   base layer 0, index 4, length 2, proof layers 2:
+--   layer 2           uncle               o            the run is 4 and 5, its top position 2 of layer 1; the uncles are
+--   layer 1                           top     uncle    the positions beside the path from the top to the anchor, lowest first;
+--   layer 0                         run run            o is worked out on the way
 -- Assumes nothing.
 use mathlib.Core.List.{List}
 use mathlib.Core.Bool.{Bool, _&&_}

@@ -1,14 +1,14 @@
 -- What the header rules say, as facts, and where a header that keeps them stands in the tree.
 -- Assumes nothing.
-use mathlib.Core.Path.{_≡_, refl, ap, sym, _∙_}
-use mathlib.Core.Bool.{Bool, true, false, _&&_, and-eq-true-iff}
+use mathlib.Core.Path.{_≡_, ap, _∙_}
+use mathlib.Core.Bool.{true, _&&_, and-eq-true-iff}
 use Prim.Native.Nat.{ℕ, zero, suc, _+_, _-_, _*_, _/_, _%_, _^_, _≤_, _<_}
-use native.Mathlib.Nat.{div-lt-iff-lt-mul, sub-add-cancel, le-trans}
+use native.Mathlib.Nat.{div-lt-iff-lt-mul}
 use native.Mathlib.Omega.{arith}
 use lib.Dec.{eqb, leb, ltb}
-use lib.Pow.{pow-pos, pow-add, pow-mono}
-use borrow.Author.Tests.{eq-eqb, ne-eqb, eqb-true, le-leb, lt-leb, leb-true, lt-ltb, le-ltb, ltb-true}
-use Rattle.tree.specs.Geometry.{height, nodeNumber}
+use lib.Pow.{pow-add}
+use borrow.Author.Tests.{eq-eqb, eqb-true, le-leb, leb-true, lt-ltb, ltb-true}
+use Rattle.tree.specs.Geometry.{height}
 use Rattle.tree.specs.GeometryLaws.{height-enough}
 use Rattle.header.specs.declared.Header.{Header}
 use Rattle.limits.specs.Limits.{longestRun}

@@ -1,6 +1,6 @@
 // The 49 bytes before a message's hashes: read, held to the rules, and turned into a place in the tree.
 ghost use mathlib.Core.Path.{_≡_};
-ghost use Prim.Native.Nat.{_+_, _^_, _≤_, _<_};
+ghost use Prim.Native.Nat.{_+_, _≤_, _<_};
 ghost use lib.ListN.{length};
 ghost use Rattle.header.specs.Header as Hd;
 ghost use mathlib.Core.Bool.{true};

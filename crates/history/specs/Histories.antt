@@ -86,11 +86,6 @@ any-cutting plen cs layer good t room =
     let r = state-of-all plen cs t in
     ap (λ (s : History). endAnswer s layer) (r .0) ∙ end-of plen (bytesOf cs) layer good (r .1) room
 
--- two cuttings of the same bytes end in the same state, so that every later answer is the same
-pub same-state : (plen : ℕ) (cs ds : List Call) → bytesOf cs ≡ bytesOf ds → AllTaken (emptyHistory plen) cs → AllTaken (emptyHistory plen) ds
-    → afterAll (emptyHistory plen) cs ≡ afterAll (emptyHistory plen) ds
-same-state plen cs ds e t u = state-of-all plen cs t .0 ∙ ap (historyOf plen) e ∙ sym (state-of-all plen ds u .0)
-
 -- an empty history: N is 0, the root zero, and nothing is written
 pub empty-history : (plen : ℕ) (layer : List ℕ) → isPieceLength plen ≡ true
     → (endAnswer (emptyHistory plen) layer ≡ record { number = 0; length = 0; root = zeroHash; «layer_size» = 0 }) × (endLayer (emptyHistory plen) layer ≡ layer)

@@ -8,7 +8,7 @@ use native.Mathlib.Nat.{mul-assoc, mul-comm, add-mul, one-mul, zero-mul, le-div-
 use native.Mathlib.Omega.{arith}
 use native.Mathlib.Decide.{decLe, decLt}
 use lib.ListN.{length, take, drop, length-append, length-drop}
-use lib.Seq.{take-at, drop-at}
+use lib.Seq.{take-at}
 use lib.Dec.{ltb}
 use borrow.Author.Tests.{eq-eqb, ne-eqb, ltb-true, lt-ltb, le-ltb}
 use Rattle.octets.specs.Octets.{pasted, zeroHash}
@@ -142,12 +142,6 @@ unfolding pasted
 take-pasted layer h at l =
     take-at (take at layer ++ h) (drop (at + length h) layer) (at + length h) (length-append (take at layer) h ∙ ap (λ (n : ℕ). n + length h) l)
 
--- what follows it stays
-drop-pasted : (layer h : List ℕ) (at : ℕ) → length (take at layer) ≡ at → drop (at + length h) (pasted layer at h) ≡ drop (at + length h) layer
-unfolding pasted
-drop-pasted layer h at l =
-    drop-at (take at layer ++ h) (drop (at + length h) layer) (at + length h) (length-append (take at layer) h ∙ ap (λ (n : ℕ). n + length h) l)
-
 -- and what is before it
 front-stays : (layer h : List ℕ) (at : ℕ) → length (take at layer) ≡ at → take at (pasted layer at h) ≡ take at layer
 unfolding pasted
@@ -183,20 +177,6 @@ written-more plen x b layer taken w =
     (w ∙ sym (layer-stays x b (pieceLayer plen) (passed (length x) plen) (passed-whole plen x good)))
     ∙ hashes-behind (x ++ b) (pieceLayer plen) (passed (length x) plen) (passed (length (x ++ b)) plen - passed (length x) plen)
     ∙ ap (layerOf (x ++ b) (pieceLayer plen)) sum
-
--- nothing behind the hashes that are due is touched
-pub rest-more : (plen : ℕ) (x b layer : List ℕ) → moreAnswer (historyOf plen x) b layer .number ≡ 0 → Written plen x layer
-    → drop (32 * passed (length (x ++ b)) plen) (moreLayer (historyOf plen x) b layer) ≡ drop (32 * passed (length (x ++ b)) plen) layer
-rest-more plen x b layer taken w =
-    let good = taken-pieces plen x b layer taken in
-    let more : passed (length x) plen ≤ passed (length (x ++ b)) plen = passed-grows (length x) (length (x ++ b)) plen (pieces-some plen good) (omega (arith, length-append x b)) in
-    let size = hashes-size (x ++ b) (pieceLayer plen) (passed (length x) plen) (passed (length (x ++ b)) plen - passed (length x) plen) in
-    let at : 32 * passed (length (x ++ b)) plen ≡ 32 * passed (length x) plen + length (hashesOf (x ++ b) (pieceLayer plen) (passed (length x) plen) (passed (length (x ++ b)) plen - passed (length x) plen)) =
-    omega (arith, size, more) in
-    ap (drop (32 * passed (length (x ++ b)) plen)) (taken-layer plen x b layer taken)
-    ∙ ap (λ (k : ℕ). drop k (pasted layer (32 * passed (length x) plen) (hashesOf (x ++ b) (pieceLayer plen) (passed (length x) plen) (passed (length (x ++ b)) plen - passed (length x) plen)))) at
-    ∙ drop-pasted layer (hashesOf (x ++ b) (pieceLayer plen) (passed (length x) plen) (passed (length (x ++ b)) plen - passed (length x) plen)) (32 * passed (length x) plen) (written-length plen x layer w)
-    ∙ ap (λ (k : ℕ). drop k layer) (sym at)
 
 -- ---- the end
 

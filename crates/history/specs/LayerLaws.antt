@@ -109,9 +109,6 @@ passed-bytes n plen p = by-case (ceilDiv n plen) refl
 -- ---- what is written
 
 module _ (plen : ℕ) (good : isPieceLength plen ≡ true) where
-  p-is : ℕ
-  p-is = pieceLayer plen
-
   form : plen ≡ blockLength * 2 ^ pieceLayer plen
   form = piece-length-form plen good .1
 

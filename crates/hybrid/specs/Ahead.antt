@@ -9,7 +9,7 @@ use lib.ListN.{length}
 use Rattle.limits.specs.Limits.{maxLevels}
 use Rattle.bencode.specs.Grammar.{Items, ItemsValid}
 use Rattle.filetree.specs.Tree.{Element}
-use Rattle.halves.specs.V1Half.{V1Entry, itemsFit}
+use Rattle.halves.specs.V1Half.{itemsFit}
 use Rattle.hybrid.specs.Entry.{PathStands, TokenIn}
 use Rattle.hybrid.specs.EntryLaws.{ItemsAt}
 use Rattle.hybrid.specs.Meet.{Next, noFile, file, nextFile}

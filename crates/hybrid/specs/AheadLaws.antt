@@ -1,10 +1,9 @@
 -- How a walk over the entries goes on, and how a path is compared element by element.
 -- Assumes nothing.
-use Prim.{Unit}
 use mathlib.Core.Path.{_≡_, refl, sym, ap, _∙_}
-use mathlib.Core.Bool.{Bool, true, false, cond, _&&_, false≢true, and-eq-true-iff}
-use mathlib.Core.List.{List, [], _∷_, _++_}
-use Prim.Native.Nat.{ℕ, zero, suc, _+_, _-_, _≤_, _<_}
+use mathlib.Core.Bool.{Bool, true, false, and-eq-true-iff}
+use mathlib.Core.List.{List, [], _++_}
+use Prim.Native.Nat.{ℕ, _+_, _-_, _≤_}
 use native.Mathlib.Omega.{arith}
 use lib.ListN.{length, drop}
 use Rattle.limits.specs.Limits.{maxLevels}
@@ -13,8 +12,8 @@ use Rattle.bencode.specs.DepthLaws.{more-levels}
 use Rattle.bencode.specs.PartsLaws.{after-part}
 use Rattle.filetree.specs.Token.{endsHere}
 use Rattle.halves.specs.V1Half.{V1Entry, entryFits, entryOf, itemsFit}
-use Rattle.hybrid.specs.Entry.{StandsAt, PathStands, TokenIs, TokenIn, Reads}
-use Rattle.hybrid.specs.EntryLaws.{ItemsAt, item-front, items-ended, items-some, items-inside}
+use Rattle.hybrid.specs.Entry.{StandsAt, PathStands, Reads}
+use Rattle.hybrid.specs.EntryLaws.{ItemsAt, item-front, items-inside}
 use Rattle.hybrid.specs.Meet.{Next, noFile, file, nextFile}
 use Rattle.hybrid.specs.Ahead.{Ahead, NextIs, NextReads}
 use Rattle.hybrid.specs.declared.V1Token.{V1Token}

@@ -1,34 +1,33 @@
 -- How far the walk over a directory has come beside `files`, and how each token of the tree takes it on.
 -- Assumes nothing.
 use mathlib.Core.Path.{_≡_, refl, sym, ap, _∙_}
-use mathlib.Core.Bool.{Bool, true, false, cond, _&&_, false≢true, and-eq-true-iff}
-use mathlib.Core.List.{List, [], _∷_, _++_, map, append-nil}
+use mathlib.Core.Bool.{Bool, true, false, cond, _&&_, false≢true}
+use mathlib.Core.List.{List, [], _∷_, _++_}
 use Prim.Native.Nat.{ℕ, zero, suc, _+_, _-_, _*_, _≤_, _<_}
 use native.Mathlib.Omega.{arith}
 use lib.ListN.{length, take, set, length-append}
 use lib.Seq.{take-set-le}
 use lib.Dec.{eqb}
-use borrow.Author.Tests.{eqb-true, eqb-false, eq-eqb, ne-eqb}
+use borrow.Author.Tests.{eq-eqb, ne-eqb}
 use Rattle.bencode.specs.Grammar.{list, Items}
 use Rattle.filetree.specs.Token.{tokenAt}
 use Rattle.filetree.specs.TokenLaws.{leaf-ends, opened-ends}
 use Rattle.filetree.specs.Tree.{maxElements, Element, Listed, listedAs, down, Files, wrong, files, after, filesFrom, filesBelow, right}
-use Rattle.filetree.specs.TreeLaws.{Passed, passed-none, passed-bad, passed-end, passed-closed, passed-file, passed-wrong, inside-ends, passed-directory}
+use Rattle.filetree.specs.TreeLaws.{Passed, passed-none, passed-bad, passed-end, passed-closed, passed-file, passed-wrong, passed-directory}
 use Rattle.filetree.specs.Path.{pathSize, setElement, Holds}
-use Rattle.filetree.specs.PathLaws.{holds-length, holds-down, holds-still, set-length}
+use Rattle.filetree.specs.PathLaws.{holds-length, holds-down, set-length}
 use Rattle.filetree.specs.Reading.{elements, readFile, readFiles}
-use Rattle.filetree.specs.declared.token.Token.{Token}
 use Rattle.filetree.specs.declared.token.Token.the-variants.{Opened, Closed, Leaf, BadToken}
 use Rattle.meaning.specs.Torrent.{File}
 use Rattle.halves.specs.V1Half.{V1Entry, namesFull, namesOf, samePath}
 use Rattle.hybrid.specs.Entry.{StandsAt, PathStands}
-use Rattle.hybrid.specs.Meet.{Next, noFile, file, nextFile, Left, differ, left, meets, afterNext, onLeft, afterFiles}
+use Rattle.hybrid.specs.Meet.{Next, noFile, file, nextFile, Left, differ, left, afterNext, onLeft, afterFiles}
 use Rattle.hybrid.specs.MeetLaws.{after-append}
 use Rattle.hybrid.specs.Ahead.{Ahead, NextIs, NextReads, AllInside}
 use Rattle.hybrid.specs.PathLaws.{Kept}
-use Rattle.hybrid.specs.Compare.{MetIs, OutcomeIs, ComparedIn, Compares}
+use Rattle.hybrid.specs.Compare.{MetIs, OutcomeIs, Compares}
 use Rattle.hybrid.specs.declared.V1Token.{V1Token}
-use Rattle.hybrid.specs.declared.V1Token.the-variants.{Entry, Ended, BadEntry}
+use Rattle.hybrid.specs.declared.V1Token.the-variants.{Entry}
 use Rattle.hybrid.specs.declared.Met.{Met}
 use Rattle.hybrid.specs.declared.Met.the-variants.{Behind, Other}
 use Rattle.hybrid.specs.declared.Compared.{Compared}

@@ -2,16 +2,16 @@
 -- Assumes nothing.
 use Prim.{Unit}
 use mathlib.Core.Path.{_≡_}
-use mathlib.Core.Bool.{Bool, true, false, cond, not, _&&_}
+use mathlib.Core.Bool.{Bool, true, false, cond}
 use mathlib.Core.List.{List, [], _∷_, _++_}
-use Prim.Native.Nat.{ℕ, _+_, _^_, _≤_, _<_}
+use Prim.Native.Nat.{ℕ, _+_, _≤_, _<_}
 use lib.ListN.{length, drop}
 use lib.Dec.{eqb}
 use Rattle.limits.specs.Limits.{maxLevels}
-use Rattle.bencode.specs.Grammar.{letterE, letterL, Value, integer, string, list, dictionary, Items, Entries, encode, encodeItems, Valid}
-use Rattle.bencode.specs.Parts.{Lookup, absent, present, lookup}
+use Rattle.bencode.specs.Grammar.{letterL, Value, integer, string, list, dictionary, Items, Entries, encode, Valid}
+use Rattle.bencode.specs.Parts.{Lookup, absent, present}
 use Rattle.meaning.specs.Torrent.{without}
-use Rattle.halves.specs.V1Half.{V1Entry, letterP, isThere, namesFull, namesOf, pathFull, entryFits, entryOf}
+use Rattle.halves.specs.V1Half.{V1Entry, letterP, namesFull, namesOf, pathFull, entryFits, entryOf}
 use Rattle.filetree.specs.Token.{endsHere}
 use Rattle.hybrid.specs.declared.Natural.{Natural}
 use Rattle.hybrid.specs.declared.Natural.the-variants.{Is, NoNatural}

@@ -3,11 +3,11 @@
 use mathlib.Core.Path.{_≡_, refl, sym, ap, _∙_}
 use mathlib.Core.Bool.{Bool, true, false, cond, not, _&&_}
 use mathlib.Core.List.{List, [], _∷_, _++_, append-assoc}
-use Prim.Native.Nat.{ℕ, zero, suc, _+_, _-_, _≤_, _<_}
+use Prim.Native.Nat.{ℕ, suc, _+_, _-_, _≤_, _<_}
 use native.Mathlib.Omega.{arith}
-use lib.ListN.{length, getD, take, drop, length-append, drop-of-length-le}
+use lib.ListN.{length, getD, drop, length-append, drop-of-length-le}
 use lib.Dec.{eqb}
-use borrow.Author.Tests.{eq-eqb, ne-eqb}
+use borrow.Author.Tests.{ne-eqb}
 use Rattle.octets.specs.OctetsLaws.{drop-step}
 use Rattle.limits.specs.Limits.{maxLevels}
 use Rattle.octets.specs.Octets.{cut}
@@ -19,24 +19,21 @@ use Rattle.bencode.specs.PartsLaws.{integer-is, integerOf, string-is, stringOf,
 use Rattle.bencode.specs.CompleteLaws.{contentStart, decimal-first, BeginsWithDigit, value-some, complete}
 use Rattle.bencode.specs.Walk.{walkValue}
 use Rattle.bencode.specs.declared.walk.Walked.{Walked}
-use Rattle.bencode.specs.declared.walk.Walked.the-variants.{Past, Broken, TooDeep}
+use Rattle.bencode.specs.declared.walk.Walked.the-variants.{Past}
 use Rattle.filetree.specs.Token.{endsHere}
-use Rattle.bencode.specs.declared.scalar.Integer.{Integer}
 use Rattle.bencode.specs.declared.scalar.Integer.the-variants.{Whole, NoInteger}
-use Rattle.bencode.specs.declared.scalar.ByteString.{ByteString}
 use Rattle.bencode.specs.declared.scalar.ByteString.the-variants.{Content, NoString}
 use Rattle.bencode.specs.declared.parts.Found.{Found}
 use Rattle.bencode.specs.declared.parts.Found.the-variants.{Part, Missing}
 use Rattle.meaning.specs.Keys.{keyLength}
 use Rattle.halves.specs.V1Keys.{keyPath, keyAttr}
 use Rattle.meaning.specs.Torrent.{without, isNatural, numberOf}
-use Rattle.halves.specs.V1Half.{letterP, isFull, namesFull, namesOf, pathFull, pathNames, stringOrNone, isPadding, pathFits, isThere, entryFits, entryOf}
-use Rattle.hybrid.specs.Entry.{StandsAt, naturalIn, attrIn, PathFoundIs, isList, PathStands, TokenIs, withPath, EndsAt, EntryReads, TokenIn, Reads}
+use Rattle.halves.specs.V1Half.{letterP, namesFull, pathFull, pathNames, stringOrNone, isPadding, isThere, entryFits, entryOf}
+use Rattle.hybrid.specs.Entry.{StandsAt, naturalIn, attrIn, PathFoundIs, isList, TokenIs, withPath, EndsAt, EntryReads, TokenIn, Reads}
 use Rattle.hybrid.specs.declared.PathFound.{PathFound}
 use Rattle.hybrid.specs.declared.PathFound.the-variants.{At, LeftOut, BadPath}
 use Rattle.hybrid.specs.declared.V1Token.{V1Token}
 use Rattle.hybrid.specs.declared.V1Token.the-variants.{Entry, Ended, BadEntry}
-use Rattle.hybrid.specs.declared.Natural.{Natural}
 use Rattle.hybrid.specs.declared.Natural.the-variants.{Is, NoNatural}
 use Rattle.hybrid.specs.declared.Attr.{Attr}
 use Rattle.hybrid.specs.declared.Attr.the-variants.{Plain, Padding, BadAttr}

@@ -3,14 +3,14 @@
 use mathlib.Core.Path.{_≡_, refl, sym, ap, _∙_}
 use mathlib.Core.Bool.{Bool, true, false, cond, _&&_, false≢true, and-eq-true-iff}
 use mathlib.Core.List.{List, []}
-use Prim.Native.Nat.{ℕ, _+_, _-_, _*_, _^_, _≤_, _<_}
+use Prim.Native.Nat.{ℕ, _-_, _*_, _^_, _≤_, _<_}
 use native.Mathlib.Omega.{arith}
-use lib.ListN.{length, take, drop, length-map}
+use lib.ListN.{length, drop, length-map}
 use lib.Dec.{eqb, leb}
-use borrow.Author.Tests.{eqb-true, eqb-false, eq-eqb, ne-eqb, le-leb, lt-leb, leb-true, leb-false}
-use Rattle.bencode.specs.Grammar.{list, Items}
+use borrow.Author.Tests.{eqb-true, eq-eqb, ne-eqb, le-leb, lt-leb}
+use Rattle.bencode.specs.Grammar.{Items}
 use Rattle.filetree.specs.Token.{endsHere}
-use Rattle.filetree.specs.Tree.{maxElements, Element, Listed, Files, wrong, files, filesBelow, filesIn}
+use Rattle.filetree.specs.Tree.{maxElements, Listed, files, filesBelow, filesIn}
 use Rattle.filetree.specs.TreeLaws.{empty-tree, tree-below}
 use Rattle.filetree.specs.Path.{Holds, flat}
 use Rattle.filetree.specs.Reading.{readFile, readFiles}

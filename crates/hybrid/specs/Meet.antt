@@ -1,11 +1,10 @@
 -- 02, request 12: the files of `files` and those of the tree side by side. The tree's walk drives: at each of its files the next entry of
 -- `files` that is no padding has to be that file.
 -- Assumes nothing.
-use mathlib.Core.Bool.{Bool, true, false, cond, _&&_}
+use mathlib.Core.Bool.{Bool, cond, _&&_}
 use mathlib.Core.List.{List, [], _∷_}
-use Prim.Native.Nat.{ℕ}
 use lib.Dec.{eqb}
-use Rattle.bencode.specs.Grammar.{Value, Items, noItems, item}
+use Rattle.bencode.specs.Grammar.{Items, noItems, item}
 use Rattle.meaning.specs.Torrent.{File}
 use Rattle.halves.specs.V1Half.{V1Entry, entryOf, samePath}
 

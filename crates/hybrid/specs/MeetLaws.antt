@@ -1,17 +1,17 @@
 -- Files met one after the other; and that all are met, and as many, exactly if the halves have the same files.
 -- Assumes nothing.
 use mathlib.Core.Path.{_≡_, refl, sym, ap, _∙_}
-use mathlib.Core.Bool.{Bool, true, false, cond, _&&_, false≢true, and-eq-true-iff}
+use mathlib.Core.Bool.{Bool, true, false, cond, _&&_}
 use mathlib.Core.List.{List, [], _∷_, _++_}
 use Prim.Native.Nat.{ℕ, suc, _+_}
 use native.Mathlib.Omega.{arith}
 use lib.ListN.{length}
 use lib.Dec.{eqb}
 use borrow.Author.Tests.{eqb-true, eqb-false, eq-eqb, ne-eqb}
-use Rattle.bencode.specs.Grammar.{Value, Items, noItems, item}
+use Rattle.bencode.specs.Grammar.{Items, noItems, item}
 use Rattle.meaning.specs.Torrent.{File}
 use Rattle.halves.specs.V1Half.{V1Entry, entryOf, entriesIn, samePath, filesAmong, sameFiles}
-use Rattle.hybrid.specs.Meet.{Next, noFile, file, nextFile, Left, differ, left, meets, afterNext, onLeft, afterFiles}
+use Rattle.hybrid.specs.Meet.{Next, noFile, file, nextFile, Left, differ, left, afterNext, onLeft, afterFiles}
 
 -- files, and then others
 pub after-append : (vs : Items) (fs gs : List File) → afterFiles vs (fs ++ gs) ≡ onLeft (afterFiles vs fs) (λ us. afterFiles us gs)

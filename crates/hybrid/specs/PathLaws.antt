@@ -1,21 +1,20 @@
 -- A path of `files` and one of the tree, compared element by element.
 -- Assumes nothing.
 use mathlib.Core.Path.{_≡_, refl, sym, ap, ap₂, _∙_}
-use mathlib.Core.Bool.{Bool, true, false, cond, _&&_, false≢true, and-eq-true-iff}
+use mathlib.Core.Bool.{Bool, true, false, _&&_, false≢true, and-eq-true-iff}
 use mathlib.Core.List.{List, [], _∷_, _++_}
 use Prim.Native.Nat.{ℕ, zero, suc, _+_, _-_, _*_, _≤_, _<_}
 use native.Mathlib.Omega.{arith}
 use lib.ListN.{length, getD, drop, drop-of-length-le}
 use Rattle.octets.specs.Octets.{cut, same}
-use Rattle.bencode.specs.Grammar.{letterL, Value, integer, string, list, dictionary, Items, noItems, item, encode, encodeItems, encodeString}
+use Rattle.bencode.specs.Grammar.{letterL, integer, string, list, dictionary, Items, noItems, item, encode, encodeItems, encodeString}
 use Rattle.bencode.specs.Scalar.{readString, readNumber, readDigits}
 use Rattle.bencode.specs.CompleteLaws.{contentStart}
-use Rattle.bencode.specs.PartsLaws.{string-is, stringOf, content-is, after-part}
-use Rattle.bencode.specs.declared.scalar.ByteString.{ByteString}
+use Rattle.bencode.specs.PartsLaws.{string-is, content-is, after-part}
 use Rattle.bencode.specs.declared.scalar.ByteString.the-variants.{Content, NoString}
 use Rattle.filetree.specs.Token.{endsHere}
-use Rattle.filetree.specs.Tree.{maxElements, Element}
-use Rattle.filetree.specs.Path.{pathSize, Holds}
+use Rattle.filetree.specs.Tree.{Element}
+use Rattle.filetree.specs.Path.{Holds}
 use Rattle.filetree.specs.PathLaws.{elementNumber, holds-element}
 use Rattle.filetree.specs.Reading.{element, elements}
 use Rattle.halves.specs.V1Half.{isFull, namesFull, namesOf, samePath}

@@ -1,14 +1,13 @@
 -- 02, request 12: what is counted of the entries of `files`, one by one.
 -- Assumes nothing.
 use mathlib.Core.Path.{_≡_}
-use mathlib.Core.Bool.{Bool, true, false, cond, _&&_, _||_, not}
+use mathlib.Core.Bool.{cond, _&&_, _||_}
 use mathlib.Core.List.{List}
-use Prim.Native.Nat.{ℕ, _+_, _-_, _%_, _≤_, _<_}
-use lib.ListN.{length}
+use Prim.Native.Nat.{ℕ, _+_, _-_, _%_}
 use lib.Dec.{eqb, leb}
 use Rattle.limits.specs.Limits.{maxLevels}
-use Rattle.bencode.specs.Grammar.{Value, list, Items, noItems, item, encode, Valid}
-use Rattle.halves.specs.V1Half.{V1Entry, entryFits, entryOf}
+use Rattle.bencode.specs.Grammar.{list, Items, noItems, item, encode, Valid}
+use Rattle.halves.specs.V1Half.{entryFits, entryOf}
 use Rattle.hybrid.specs.declared.Tallied.{Tallied}
 use Rattle.hybrid.specs.declared.Tallied.the-variants.{Sums, Amiss}
 

@@ -1,26 +1,24 @@
 -- The tally as a walk comes to it; and what it says of the entries: each well formed, each file on a boundary, how many files, how many bytes.
 -- Assumes nothing.
 use mathlib.Core.Path.{_≡_, refl, sym, ap, _∙_}
-use mathlib.Core.Bool.{Bool, true, false, cond, _&&_, _||_, not, false≢true, and-eq-true-iff}
+use mathlib.Core.Bool.{Bool, true, false, cond, _&&_, _||_, false≢true, and-eq-true-iff}
 use mathlib.Core.List.{List, [], _∷_, _++_, append-nil}
-use Prim.Native.Nat.{ℕ, suc, _+_, _-_, _%_, _^_, _≤_, _<_}
+use Prim.Native.Nat.{ℕ, _+_, _-_, _%_, _≤_, _<_}
 use native.Mathlib.Omega.{arith}
-use lib.ListN.{length, drop, length-append}
-use lib.Seq.{drop-at}
+use lib.ListN.{length, drop}
 use lib.Dec.{eqb, leb}
 use borrow.Author.Tests.{leb-true, leb-false, le-leb, lt-leb}
 use Rattle.limits.specs.Limits.{maxLevels}
-use Rattle.bencode.specs.Grammar.{letterL, Value, list, Items, noItems, item, encode, encodeItems, Valid, ItemsValid}
+use Rattle.bencode.specs.Grammar.{Value, Items, noItems, item, encode, encodeItems, Valid, ItemsValid}
 use Rattle.bencode.specs.DepthLaws.{more-levels}
 use Rattle.bencode.specs.PartsLaws.{after-part}
 use Rattle.filetree.specs.Token.{endsHere}
 use Rattle.halves.specs.V1Half.{V1Entry, entryFits, entryOf, itemsFit, entriesIn, total, filesAmong, onBoundary}
-use Rattle.hybrid.specs.Entry.{StandsAt, TokenIs, TokenIn, Reads}
+use Rattle.hybrid.specs.Entry.{StandsAt, Reads}
 use Rattle.hybrid.specs.EntryLaws.{ItemsAt, items-ended, items-some, items-inside}
 use Rattle.hybrid.specs.Tally.{Encodes, mostBytes, talliedFrom, talliedOf}
 use Rattle.hybrid.specs.declared.V1Token.{V1Token}
 use Rattle.hybrid.specs.declared.V1Token.the-variants.{Entry, Ended, BadEntry}
-use Rattle.hybrid.specs.declared.Tallied.{Tallied}
 use Rattle.hybrid.specs.declared.Tallied.the-variants.{Sums, Amiss}
 
 -- ---- how far the walk has come

@@ -4,7 +4,7 @@
 -- Assumes nothing.
 use mathlib.Core.Path.{_≡_, refl, sym, ap, ap₂, _∙_}
 use mathlib.Core.Logic.{_⊎_, inl, inr}
-use mathlib.Core.Bool.{Bool, true, false, cond, not, _&&_, _||_, false≢true, and-eq-true-iff}
+use mathlib.Core.Bool.{Bool, true, false, cond, not, _&&_, _||_, false≢true, and-eq-true-iff, and-false}
 use mathlib.Core.List.{List, [], _∷_, _++_, append-nil}
 use Prim.Native.Nat.{ℕ, _+_, _-_}
 use native.Mathlib.Omega.{arith}
@@ -144,10 +144,6 @@ keys-all-wide (entry k u es) f = rw (eq-eqb (length k) 32 (f k (inl refl))) (key
 
 -- ---- the numbers
 
-and-no : (t : Bool) → t && false ≡ false
-and-no true = refl
-and-no false = refl
-
 module _ (s l : List ℕ) (ls : Entries) (bytes : l ≡ encode (dictionary ls)) (valid : Valid (dictionary ls) maxLevels) (plen : ℕ) (fs : List Listed)
     (vs : List File) (alike : AllAlike s fs vs) (hold : AllHold vs) where
   whole : l ≡ encode (dictionary ls) ++ []
@@ -183,7 +179,7 @@ module _ (s l : List ℕ) (ls : Entries) (bytes : l ≡ encode (dictionary ls)) 
       by-count w true e =
           let q = eqb-true (length (layerKeys l)) (layerCount plen vs) e in
           absurd (contained-all roots (entryKeys ls) distinct are-keys (omega (arith, key-count, root-count)) (w .0) (w .1) (λ m. w .2 (once-in (w .0) (longRoots plen vs) m)))
-      by-count w false e = and-no (keysWide l)
+      by-count w false e = and-false (keysWide l)
 
       by-others : (t : Bool) → noOthers plen vs ls ≡ t → keysWide l && eqb (length (layerKeys l)) (layerCount plen vs) ≡ t
       by-others true e =

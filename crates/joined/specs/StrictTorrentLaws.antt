@@ -3,28 +3,20 @@
 use mathlib.Core.Path.{_≡_, refl, sym, _∙_}
 use mathlib.Core.Bool.{Bool, true, false, cond}
 use mathlib.Core.List.{List}
-use Prim.Native.Nat.{ℕ, _≤_}
+use Prim.Native.Nat.{ℕ}
 use native.Mathlib.Omega.{arith}
-use lib.ListN.{length}
-use borrow.Author.Tests.{le-leb}
 use Rattle.meaning.specs.Keys.{keyMetaVersion}
-use Rattle.limits.specs.Limits.{maxLevels, largestTorrent}
+use Rattle.limits.specs.Limits.{maxLevels}
 use Rattle.numbers.specs.Numbers.{keyMissing, otherVersion, pieceLengthOutOfRange, wrongTree}
 use Rattle.tree.specs.Geometry.{isPieceLength}
 use Rattle.bencode.specs.Grammar.{dictionary, Entries, encode, Valid}
 use Rattle.bencode.specs.Parts.{lookup}
-use Rattle.bencode.specs.Strict.{strictness}
-use Rattle.metainfo.specs.Metainfo.{bytesIn, keysOf, metainfoOf}
+use Rattle.metainfo.specs.Metainfo.{bytesIn, keysOf}
 use Rattle.filetree.specs.Tree.{right, listed, filesIn}
 use Rattle.meaning.specs.Torrent.{isNumber, infoOf, treeOf, hasKeys, plenOf, treeRight, filesOf, valueNumber}
 use Rattle.filetree.specs.Reading.{readFiles}
 use Rattle.joined.specs.TreeLaws.{tree-right, tree-files}
 use Rattle.joined.specs.KeysLaws.{keysNumber, KeysAt, keys-point}
-
--- what is answered for strict bytes of at most 1 MiB is what their keys say
-pub strict-keys : (s : List ℕ) → length s ≤ largestTorrent → strictness s ≡ 0 → metainfoOf s ≡ keysOf s
-unfolding metainfoOf
-strict-keys s h e = rw (le-leb (length s) largestTorrent h, e) refl
 
 -- ---- the order of the numbers
 

@@ -32,7 +32,6 @@ use Rattle.knowledge.specs.Chains.{chain-is-worked}
 use Rattle.knowledge.specs.MarksApart.{marks-held}
 use Rattle.knowledge.specs.Grows.{Grown, grown-same, grown-on, grown-take, grown-marks, grown-moved, steps-grow}
 use Rattle.knowledge.specs.Again.{what-is-held, grown-holds, knowledge-only-grows, number-stays}
-use Rattle.knowledge.specs.Invariant.{ours-opened}
 use Rattle.knowledge.specs.OwnBytes.{begins-ours, ours-have, ours-bytes}
 use Rattle.knowledge.specs.OursMeet.{ours-meet}
 use Rattle.knowledge.specs.Conflict.{message-or-shown}
@@ -283,20 +282,6 @@ module _ {M : MessageSet} {n plen : ℕ} {root s : List ℕ} (g : Gateway M n pl
 
   begins : Begins (openAfter (g .buffer) n plen root)
   begins = byOpening (g .buffer) n plen root (g .bytes) (g .octets) (g .opens)
-
-  start : Facts (openAfter (g .buffer) n plen root)
-  start = ours-opened (g .buffer) n plen root (g .octets .size) (g .opens) .chained .facts
-
-  -- a gateway's store is one that only this build has written,
-  pub gateway-ours : OurStore s
-  gateway-ours = ours begins whole
-
-  -- of that length and root
-  pub gateway-names : (fileLength s ≡ n) × (factsRoot s ≡ root)
-  gateway-names =
-      let e = opened-names (g .buffer) n plen root (g .octets .size) (g .opens) in
-      let k = steps-grow start whole .same in
-      (k .file ∙ e .0, k .root ∙ e .1)
 
   gateway-from : GatewayFrom M (openAfter (g .buffer) n plen root) s
   gateway-from = record { began = g .began; history = g .history; only = g .only; round = g .round; quiet = g .quiet }

@@ -1,24 +1,23 @@
 -- A load and a repair write the store's bytes alone: the memory keeps its length, and every byte behind the store stays.
 -- Assumes nothing.
-use mathlib.Core.Path.{_≡_, refl, ap, sym, _∙_}
+use mathlib.Core.Path.{_≡_, ap, _∙_}
 use mathlib.Core.Bool.{true}
 use mathlib.Core.List.{List}
-use Prim.Native.Nat.{ℕ, zero, suc, _+_, _-_, _*_, _^_, _≤_, _<_}
+use Prim.Native.Nat.{ℕ, zero, suc, _+_, _-_, _^_, _≤_}
 use native.Mathlib.Omega.{arith}
 use lib.ListN.{length, getD}
-use Rattle.cells.specs.EntriesLaws.{Sound}
-use Rattle.store.specs.Store.{fileLength, blocksOf, heightOf, positions, storeSize, opened, Facts}
+use Rattle.store.specs.Store.{fileLength, blocksOf, heightOf, positions, storeSize, Facts}
 use Rattle.store.specs.StoreLaws.{opened-past, opened-length, putAll-past, cells-within}
-use Rattle.marks.specs.Marks.{marked, marksStart}
+use Rattle.marks.specs.Marks.{marked}
 use Rattle.marks.specs.MarksLaws.{marks-behind, marks-end}
 use Rattle.saved.specs.Form.{lengthIn, pieceLengthIn, rootIn, blocksIn, heightIn, markCount, placeCount, blockIn, marksFrom, marksGood, formed}
-use Rattle.saved.specs.Saved.{entriesIn, marksSet, openingNumber, begun, loaded, loadAnswer, loadAfter, repaired, repairAnswer, repairAfter}
+use Rattle.saved.specs.Saved.{entriesIn, marksSet, openingNumber, loaded, loadAnswer, loadAfter, repairAnswer, repairAfter}
 use Rattle.saved.specs.PrefixLaws.{FormIn, form-says, mark-at, mark-says}
-use Rattle.saved.specs.LoadLaws.{marks-set-none, marks-set-next, marks-set-same, mark-fits, Opens, opening-says, root-long, first, first-height, first-room, first-length, second, second-facts, second-same, second-length, second-marks, entries-sound}
+use Rattle.saved.specs.LoadLaws.{marks-set-none, marks-set-next, marks-set-same, mark-fits, Opens, opening-says, root-long, first, first-room, second, second-facts, second-same, second-length, second-marks, entries-sound}
 use Rattle.saved.specs.RepairedLaws.{repaired-length}
 use Rattle.knowledge.specs.SavedWhen.{load-0, repair-0}
 use Rattle.knowledge.specs.RepairedMarks.{repaired-past}
-use Rattle.knowledge.specs.LoadedWhen.{load-is-0, repair-is-0}
+use Rattle.knowledge.specs.LoadedWhen.{load-is-0}
 
 -- marks are written inside the store
 marks-set-behind : (s b : List ℕ) (at m : ℕ) → Facts s → marksGood (blocksOf s) b at m ≡ true → (k : ℕ) → k ≤ m → (i : ℕ) → storeSize (fileLength s) ≤ i

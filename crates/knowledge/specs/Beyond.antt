@@ -1,7 +1,7 @@
 -- Two memories with the same facts and cells get the same numbers, counts and hashes: bytes past the store's size decide nothing, and nor
 -- do marks.
 -- Assumes nothing.
-use mathlib.Core.Path.{_≡_, refl, ap, ap₂, sym, _∙_}
+use mathlib.Core.Path.{_≡_, refl, ap, ap₂, _∙_}
 use mathlib.Core.Bool.{Bool, true, false, cond}
 use mathlib.Core.List.{List, [], _∷_}
 use Prim.Native.Nat.{ℕ, zero, suc, _+_, _/_, _-_, _*_, _^_, _≤_, _<_}
@@ -20,7 +20,7 @@ use Rattle.tree.specs.ValuesLaws.{leaf-octets}
 use Rattle.cells.specs.Cells.{heldAt, hashAt}
 use Rattle.cells.specs.Entries.{Entry, agreesAt, agrees, putAll, newly}
 use Rattle.cells.specs.EntriesLaws.{Sound, none, more}
-use Rattle.store.specs.Store.{fileLength, pieceLength, blocksOf, heightOf, positions, storeSize, Facts, SameFacts}
+use Rattle.store.specs.Store.{fileLength, pieceLength, blocksOf, heightOf, positions, Facts, SameFacts}
 use Rattle.store.specs.StoreLaws.{putAll-past, facts-usable}
 use Rattle.settling.specs.Path.{sibling}
 use Rattle.settling.specs.AncestorLaws.{ancestor-le}

@@ -12,7 +12,7 @@ use lib.ListN.{length, length-append}
 use lib.Pow.{pow-pos}
 use Rattle.numbers.specs.Numbers.{done}
 use Rattle.tree.specs.Geometry.{blockCount, height, nodeNumber}
-use Rattle.tree.specs.GeometryLaws.{node-number-covers, node-number-range}
+use Rattle.tree.specs.GeometryLaws.{node-number-covers}
 use Rattle.cells.specs.Cells.{heldAt, hashAt}
 use Rattle.cells.specs.Entries.{Entry, oneIf}
 use Rattle.marks.specs.Marks.{markedAt}

@@ -4,7 +4,7 @@ use mathlib.Core.Path.{_≡_, ap, sym, _∙_}
 use mathlib.Core.List.{List}
 use Prim.Native.Nat.{ℕ}
 use lib.ListN.{length}
-use Rattle.store.specs.Store.{fileLength, pieceLength, factsRoot, opened, openAnswer, openAfter, Facts}
+use Rattle.store.specs.Store.{fileLength, pieceLength, factsRoot, openAnswer, openAfter, Facts}
 use Rattle.store.specs.StoreLaws.{facts-usable, opened-file, opened-piece, opened-facts-root, opened-facts}
 use Rattle.facts.specs.Facts.{factsAnswer}
 use Rattle.facts.specs.FactsLaws.{facts-read}

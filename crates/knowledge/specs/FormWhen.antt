@@ -1,6 +1,6 @@
 -- Bytes have the saved form exactly if they are the bytes of a value in order: opening, positions rising, marks rising, end.
 -- Assumes nothing.
-use mathlib.Core.Path.{_≡_, refl, ap, sym, _∙_, subst}
+use mathlib.Core.Path.{_≡_, refl, ap, sym}
 use mathlib.Core.Bool.{true}
 use mathlib.Core.List.{List, [], _∷_, _++_}
 use mathlib.Core.Logic.{_↔_}
@@ -9,11 +9,10 @@ use native.Mathlib.Omega.{arith}
 use lib.ListN.{length}
 use Rattle.octets.specs.Octets.{Octets}
 use Rattle.octets.specs.OctetsLaws.{cut-octets}
-use Rattle.tree.specs.Geometry.{blockCount, height}
 use Rattle.store.specs.StoreLaws.{blocks-most, height-most, piece-length-most, range-says}
-use Rattle.saved.specs.Form.{Place, Saved, savedBytes, rank, Rising, none, more, RisingBlocks, Ordered, lengthIn, pieceLengthIn, rootIn, blocksIn, heightIn, markCount, placeCount, layerIn, indexIn, hashIn, blockIn, rankIn, opens, nextRank, placesGood, nextBlock, marksGood, marksFrom, formed, placeIn, placesTo, marksTo, valueIn}
+use Rattle.saved.specs.Form.{Place, Saved, savedBytes, rank, Rising, none, more, RisingBlocks, Ordered, lengthIn, pieceLengthIn, rootIn, blocksIn, heightIn, markCount, placeCount, hashIn, blockIn, nextRank, placesGood, nextBlock, marksGood, marksFrom, formed, placeIn, placesTo, marksTo, valueIn}
 use Rattle.saved.specs.SoundLaws.{place-at, place-says}
-use Rattle.saved.specs.PrefixLaws.{FormIn, form-says, mark-at, mark-says}
+use Rattle.saved.specs.PrefixLaws.{form-says, mark-at, mark-says}
 use Rattle.saved.specs.ReadLaws.{read-back}
 use Rattle.saved.specs.ExactLaws.{written-back}
 use Rattle.words.specs.History.{Bytes}

@@ -37,8 +37,6 @@ use Rattle.numbers.specs.Tests.{either, not-both}
 use Rattle.knowledge.specs.ChainsTo.{chains-exactly}
 use Rattle.knowledge.specs.Positions.{SettlesNumber, settles-entered, entry-settled, run-entry, uncle-entry}
 
--- ---- what each number is about
-
 -- ---- from the tests to these
 
 module _ (s m : List ℕ) (W : Formed s m) where

@@ -29,7 +29,7 @@ use Rattle.pieces.specs.Hybrid.{hybridAnswer}
 use Rattle.pieces.specs.HybridLaws.{hybrid-in-table, hybrid-stays}
 use Rattle.facts.specs.FactsLaws.{facts-in-table, facts-zeros}
 use Rattle.marks.specs.Marks.{blockThere, clearAnswer, markedAnswer, fieldSize, fieldAnswer}
-use Rattle.saved.specs.Form.{placeCount, savedBytes}
+use Rattle.saved.specs.Form.{savedBytes}
 use Rattle.saved.specs.Save.{savedOf, saveAnswer}
 use Rattle.saved.specs.Saved.{sound, rooted, loadNumber, loadAnswer, repairNumber, repairAnswer}
 use Rattle.knowledge.specs.Through.{clear-stays, load-stays, repair-stays}

@@ -1,16 +1,14 @@
 -- A journal: a host that keeps the messages and layers that were answered 0, and offers some of them again to a store opened with the same facts,
 -- holds a part of what was held, with the same bytes.
 -- Assumes nothing.
-use mathlib.Core.Path.{_≡_, refl, ap, ap₂, sym, _∙_, subst}
+use mathlib.Core.Path.{_≡_, ap, sym, _∙_, subst}
 use mathlib.Core.Bool.{true}
 use mathlib.Core.List.{List}
-use mathlib.Core.Logic.{_⊎_, inl, inr}
+use mathlib.Core.Logic.{inl, inr}
 use Prim.Native.Nat.{ℕ, _-_, _<_}
 use native.Mathlib.Decide.{ℕ-discrete}
-use lib.ListN.{length}
 use Rattle.octets.specs.Octets.{Octets}
 use Rattle.tree.specs.Geometry.{blockCount, height, pieceLayer}
-use Rattle.tree.specs.Values.{layerLeaf}
 use Rattle.cells.specs.Cells.{heldAt}
 use Rattle.store.specs.Store.{usable, fileLength, pieceLength, factsRoot, blocksOf, heightOf, positions, openAnswer, openAfter, Facts}
 use Rattle.store.specs.StoreLaws.{usable-facts, used-held, open-done, opened-piece}
@@ -22,9 +20,9 @@ use Rattle.saved.specs.Form.{lengthIn, pieceLengthIn}
 use Rattle.saved.specs.Save.{saveAnswer}
 use Rattle.saved.specs.Saved.{loadAnswer, loadAfter}
 use Rattle.words.specs.Held.{Holds}
-use Rattle.words.specs.History.{Bytes, Begins, Steps, begin, next, Each, OurStore, ours}
+use Rattle.words.specs.History.{Begins, Steps, begin, next, Each, OurStore, ours}
 use Rattle.words.specs.Messages.{Settles}
-use Rattle.words.specs.Pieces.{Over, LayerSettles}
+use Rattle.words.specs.Pieces.{LayerSettles}
 use Rattle.words.specs.Saving.{saveOf}
 use Rattle.words.specs.Hearing.{Took, TookLayer, last, before, Again}
 use Rattle.knowledge.specs.Through.{PreservedBy, each-through}

@@ -2,24 +2,21 @@
 -- not cleared since. And where the saved bytes are what a save left: named exactly if it was marked there; so, from save to load to save, marked
 -- exactly if it was judged right in one of the histories and not cleared after that.
 -- Assumes nothing.
-use mathlib.Core.Path.{_≡_, refl, ap, sym, _∙_, subst}
+use mathlib.Core.Path.{_≡_, refl, sym, _∙_}
 use mathlib.Core.Bool.{Bool, true, false, false≢true}
 use mathlib.Core.List.{List}
 use mathlib.Core.Logic.{_↔_, _⊎_, inl, inr}
-use Prim.Native.Nat.{ℕ, _+_, _^_, _≤_, _<_}
+use Prim.Native.Nat.{ℕ, _^_, _≤_, _<_}
 use native.Mathlib.Omega.{arith}
 use lib.ListN.{length}
-use Rattle.octets.specs.Octets.{Octets, cut, pasted}
 use Rattle.octets.specs.OctetsLaws.{cut-pasted-same}
 use Rattle.numbers.specs.Numbers.{done}
-use Rattle.numbers.specs.declared.Answer.{Answer}
-use Rattle.numbers.specs.Tests.{in-turn}
-use Rattle.store.specs.Store.{usable, blocksOf, heightOf, openAnswer, openAfter, Facts}
-use Rattle.store.specs.StoreLaws.{usable-facts, facts-usable, facts-leaves}
+use Rattle.store.specs.Store.{usable, blocksOf, heightOf, Facts}
+use Rattle.store.specs.StoreLaws.{usable-facts, facts-usable}
 use Rattle.marks.specs.Marks.{markedAt, markedAnswer}
-use Rattle.saved.specs.Form.{savedBytes, blocksIn, heightIn, markCount, blockIn, marksFrom, formed, NamesMark}
-use Rattle.saved.specs.Save.{savedOf, saveAnswer, saveAfter}
-use Rattle.saved.specs.Saved.{rootRight, chained, openingNumber, sound, loaded, loadAnswer, loadAfter, repairAnswer, repairAfter}
+use Rattle.saved.specs.Form.{savedBytes, blocksIn, heightIn, markCount, marksFrom, formed, NamesMark}
+use Rattle.saved.specs.Save.{savedOf, saveAnswer}
+use Rattle.saved.specs.Saved.{chained, loaded, loadAnswer, loadAfter, repairAnswer, repairAfter}
 use Rattle.saved.specs.PrefixLaws.{form-says, mark-at, mark-says}
 use Rattle.saved.specs.RoundTrip.{loaded-facts, loaded-height, loaded-blocks, loaded-marks, loaded-marks-all}
 use Rattle.saved.specs.SaveLaws.{saved-ordered}
@@ -30,7 +27,7 @@ use Rattle.words.specs.Saving.{saveOf, OwnLine, fromOpening, fromRepair, fromSa
 use Rattle.knowledge.specs.SaveBytes.{every-byte, ordered-bytes}
 use Rattle.knowledge.specs.SavedWhen.{load-0, repair-0, save-0, save-counts}
 use Rattle.knowledge.specs.Grows.{Grown, steps-grow}
-use Rattle.knowledge.specs.OwnBytes.{begins-ours, ours-have, ours-bytes}
+use Rattle.knowledge.specs.OwnBytes.{begins-ours, ours-bytes}
 use Rattle.knowledge.specs.MarksSince.{right-inside, right-still, marked-says, marks-from, marked-since, first, unmarked, marked-exactly}
 use Rattle.saved.specs.RepairedLaws.{repaired-height}
 use Rattle.knowledge.specs.RepairedMarks.{none-set, repair-clears}

@@ -2,22 +2,22 @@
 -- without a whole opening record, and for the rest.
 -- Assumes nothing.
 use mathlib.Core.Path.{_≡_, refl, sym, _∙_}
-use mathlib.Core.Bool.{Bool, true, false, cond, _&&_, and-eq-true-iff, false≢true}
+use mathlib.Core.Bool.{Bool, true, false, cond, and-eq-true-iff, false≢true}
 use mathlib.Core.List.{List}
 use mathlib.Core.Logic.{_↔_, _⊎_, inl, inr}
-use Prim.Native.Nat.{ℕ, _-_, _^_, _≤_, _<_}
+use Prim.Native.Nat.{ℕ, _-_, _≤_, _<_}
 use native.Mathlib.Omega.{arith}
 use lib.ListN.{length, getD, drop}
 use lib.Dec.{eqb, leb}
 use borrow.Author.Tests.{eq-eqb, eqb-true, le-leb, lt-leb, leb-true, leb-false}
 use Rattle.numbers.specs.Numbers.{unusable, factsOutOfRange, notSaved}
 use Rattle.numbers.specs.Chain.{decided, exactly-of}
-use Rattle.numbers.specs.Tests.{says-not, either}
+use Rattle.numbers.specs.Tests.{says-not}
 use Rattle.tree.specs.GeometryLaws.{block-count-some}
 use Rattle.store.specs.Store.{usable, fileLength, pieceLength, factsRoot, factsInRange, storeSize}
 use Rattle.store.specs.StoreLaws.{range-says, facts-usable, opened-forgets}
-use Rattle.saved.specs.Form.{lengthIn, pieceLengthIn, rootIn, blocksIn, heightIn, placeCount, opens, formed}
-use Rattle.saved.specs.Clauses.{Hashes, Clauses, Within, Kept}
+use Rattle.saved.specs.Form.{lengthIn, pieceLengthIn, rootIn, blocksIn, heightIn, opens, formed}
+use Rattle.saved.specs.Clauses.{Kept}
 use Rattle.saved.specs.Saved.{rootRight, sound, loaded, rooted, repaired, loadAnswer, loadAfter, repairAnswer, repairAfter}
 use Rattle.saved.specs.SoundExactly.{root-exactly}
 use Rattle.saved.specs.PrefixLaws.{form-says}

@@ -25,9 +25,6 @@ abbrev numberOf : Hashed → ℕ
 numberOf x = x .number
 
 module _ (s : List ℕ) (n : ℕ) (last : List ℕ) where
-  abbrev w : ℕ
-  w = wholeBlocks n
-
   abbrev at : ℕ → ℕ → ℕ
   at l i = earlier s n last l i .number
 

@@ -8,14 +8,13 @@ use Prim.Native.Nat.{ℕ, _<_}
 use native.Mathlib.Omega.{arith}
 use lib.ListN.{length, getD}
 use lib.Dec.{ltb}
-use borrow.Author.Tests.{eq-eqb, ne-eqb, lt-ltb, ltb-true}
-use Rattle.numbers.specs.Numbers.{wrongSize, unusable}
+use borrow.Author.Tests.{eq-eqb, lt-ltb, ltb-true}
 use Rattle.tree.specs.Geometry.{pieceCount}
-use Rattle.store.specs.Store.{usable, fileLength, pieceLength, Facts}
+use Rattle.store.specs.Store.{fileLength, pieceLength, Facts}
 use Rattle.store.specs.StoreLaws.{usable-facts}
 use Rattle.marks.specs.Marks.{firstBlock, blocksIn, allMarked, pieceMarked}
 use Rattle.marks.specs.MarksLaws.{all-marked-says, all-marked-each}
-use Rattle.asking.specs.Picking.{fetchable, noPiece, bestOf, pickAnswer}
+use Rattle.asking.specs.Picking.{fetchable, bestOf, pickAnswer}
 use Rattle.asking.specs.PickingLaws.{Best, none, this, best-is}
 use Rattle.words.specs.Asking.{CountEach, OnDisk, ToFetch, Picked, nothingLeft, rarest}
 use Rattle.numbers.specs.Tests.{either, not-both}
@@ -49,14 +48,6 @@ fetch-says s counts i e =
 says-fetch : (s counts : List ℕ) (i : ℕ) → 0 < getD counts i 0 → pieceMarked s i ≡ false → fetchable s counts i ≡ true
 unfolding fetchable
 says-fetch s counts i c m = rw (lt-ltb 0 (getD counts i 0) c, m)
-
-pub picked-9 : (s counts : List ℕ) → usable s ≡ false → pickAnswer s counts ≡ noPiece unusable
-unfolding pickAnswer
-picked-9 s counts e = rw e
-
-pub picked-4 : (s counts : List ℕ) → usable s ≡ true → (length counts ≡ pieceCount (fileLength s) (pieceLength s) → ⊥) → pickAnswer s counts ≡ noPiece wrongSize
-unfolding pickAnswer
-picked-4 s counts e ne = rw (e, ne-eqb (length counts) (pieceCount (fileLength s) (pieceLength s)) ne)
 
 pub picked-0 : (s counts : List ℕ) → CountEach s counts → pickAnswer s counts ≡ bestOf s counts (length counts)
 unfolding pickAnswer

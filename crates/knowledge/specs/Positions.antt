@@ -15,8 +15,8 @@ use Rattle.tree.specs.GeometryLaws.{node-number-parent}
 use Rattle.tree.specs.Values.{node}
 use Rattle.cells.specs.Entries.{Entry}
 use Rattle.cells.specs.EntriesLaws.{In, here, there, Has, has-same, in-left, in-right, in-cases, no-entry, Consistent}
-use Rattle.store.specs.Store.{blocksOf, heightOf, Facts}
-use Rattle.store.specs.StoreLaws.{usable-facts, tree-says}
+use Rattle.store.specs.Store.{blocksOf, heightOf}
+use Rattle.store.specs.StoreLaws.{tree-says}
 use Rattle.settling.specs.Subtree.{subtree}
 use Rattle.settling.specs.SubtreeLaws.{FamilyIn, subtree-has, run-leaf-in}
 use Rattle.settling.specs.Path.{sibling, uncle, ancestor, parentValue, path}
@@ -52,9 +52,6 @@ path-uncle hashes a (suc u) n v (suc i) l =
 module _ (s m : List ℕ) (W : Formed s m) where
   P : Passed (isHashes m) s m
   P = passed (isHashes m) s m (W .header)
-
-  facts : Facts s
-  facts = usable-facts s (P .store)
 
   kept : Kept (headerOf m) (blocksOf s) (heightOf s)
   kept = rules-kept (headerOf m) (blocksOf s) (heightOf s) (P .rules)

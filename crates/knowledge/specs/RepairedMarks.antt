@@ -9,7 +9,7 @@ use lib.ListN.{length, getD}
 use lib.Dec.{eqb}
 use Rattle.octets.specs.OctetsLaws.{cut-length}
 use Rattle.numbers.specs.Numbers.{done}
-use Rattle.tree.specs.Geometry.{blockCount, height, nodeNumber}
+use Rattle.tree.specs.Geometry.{nodeNumber}
 use Rattle.tree.specs.GeometryLaws.{node-number-range}
 use Rattle.cells.specs.Cells.{Room}
 use Rattle.cells.specs.CellsLaws.{put-room, put-outside}

@@ -2,23 +2,22 @@
 -- differs from the one that wrote the journal in marks only.
 -- Assumes nothing.
 use Prim.{Unit}
-use mathlib.Core.Path.{_≡_, refl, ap, sym, _∙_, subst}
+use mathlib.Core.Path.{_≡_, refl, ap, sym, _∙_}
 use mathlib.Core.Bool.{true}
 use mathlib.Core.List.{List, [], _∷_, _++_, append-nil}
-use Prim.Native.Nat.{ℕ, _+_, _-_, _*_, _^_, _≤_, _<_}
+use Prim.Native.Nat.{ℕ, _+_, _-_, _^_, _≤_, _<_}
 use native.Mathlib.Omega.{arith}
 use native.Mathlib.Decide.{ℕ-discrete, decLt}
 use lib.ListN.{length, length-append, getD}
 use lib.Seq.{ext-getD}
-use lib.Dec.{eqb}
 use borrow.Author.Tests.{eq-eqb, ne-eqb}
 use Rattle.octets.specs.Octets.{Octets, cut, pasted, be, zeroed}
-use Rattle.octets.specs.OctetsLaws.{cut-length, getD-cut, cut-cut, be-octets, pasted-length, getD-pasted-before, getD-pasted-in, getD-pasted-after, zeroed-length, zeroed-at}
+use Rattle.octets.specs.OctetsLaws.{cut-length, getD-cut, cut-cut, be-octets, pasted-length, getD-pasted-before, getD-pasted-in, zeroed-length}
 use Rattle.cells.specs.Cells.{put}
-use Rattle.store.specs.Store.{usable, fileLength, heightOf, storeSize, factsInRange, opened, openAnswer, openAfter, Facts, SameFacts}
+use Rattle.store.specs.Store.{fileLength, heightOf, storeSize, factsInRange, opened, openAnswer, openAfter, Facts, SameFacts}
 use Rattle.store.specs.StoreLaws.{facts-usable, usable-facts, used-same, used-facts, store-size-some, opened-facts, opened-file, opened-length, opened-spare, opened-zero}
 use Rattle.marks.specs.Marks.{marksStart, marksPut}
-use Rattle.marks.specs.MarksLaws.{marks-end, marks-cells, marks-same-facts, marks-facts, mark-in}
+use Rattle.marks.specs.MarksLaws.{marks-end, marks-cells, marks-same-facts, marks-facts}
 use Rattle.words.specs.History.{Call, take, loadLayer, judgeBlock, judgePiece, judgeHybridPiece, clear, reopen, load, repair, look, Reply, replyNumber, answer, number, after, Opening, Teaches, call, lent, Steps, begin, next, SameStore}
 use Rattle.words.specs.Marks.{SameButMarks}
 use Rattle.words.specs.Hearing.{noted, journal, afterAll, AllDone}

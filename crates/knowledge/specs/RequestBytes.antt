@@ -22,9 +22,6 @@ use Rattle.leaves.specs.LeavesLaws.{field, number-field}
 use Rattle.knowledge.specs.NextRequest.{named}
 
 module _ (root : List ℕ) (x : Header) (size : length root ≡ 32) (S : Small x) where
-  B : List ℕ
-  B = be 4 (x .base)
-
   bytes-length : length (requestBytes root x) ≡ headerSize
   unfolding requestBytes
   bytes-length = ap suc (length-append root (be 4 (x .base) ++ (be 4 (x .index) ++ (be 4 (x .len) ++ be 4 (x .proof)))) ∙ omega arith)

@@ -1,18 +1,16 @@
 -- "A loaded store counts as one that only this build has written": what is loaded, and what is repaired, meets the four clauses as kd_held answers.
 -- Assumes nothing.
-use mathlib.Core.Path.{_≡_, refl, ap, ap₂, sym, _∙_, subst}
-use mathlib.Core.Bool.{Bool, true, _&&_, and-eq-true-iff}
+use mathlib.Core.Path.{_≡_, subst}
+use mathlib.Core.Bool.{true, _&&_, and-eq-true-iff}
 use mathlib.Core.List.{List}
-use mathlib.Core.Logic.{_↔_, _⊎_, inl, inr}
-use Prim.Native.Nat.{ℕ, suc, _+_, _-_, _*_, _^_, _≤_, _<_}
+use mathlib.Core.Logic.{_↔_}
+use Prim.Native.Nat.{ℕ, _-_, _^_, _≤_, _<_}
 use native.Mathlib.Omega.{arith}
-use lib.ListN.{length, getD}
+use lib.ListN.{length}
 use lib.Pow.{pow-pos}
-use Rattle.sha256.specs.Sha256.{pairHash}
-use Rattle.tree.specs.Geometry.{Padding, nodeNumber}
-use Rattle.settling.specs.Path.{sibling}
+use Rattle.tree.specs.Geometry.{nodeNumber}
 use Rattle.cells.specs.EntriesLaws.{Hold}
-use Rattle.store.specs.Store.{factsRoot, blocksOf, heightOf, inTree, Facts}
+use Rattle.store.specs.Store.{factsRoot, blocksOf, heightOf, Facts}
 use Rattle.store.specs.StoreLaws.{tree-says}
 use Rattle.words.specs.Held.{Holds}
 use Rattle.words.specs.FourClauses.{FourClauses}
@@ -20,8 +18,8 @@ use Rattle.knowledge.specs.Again.{what-is-held}
 use Rattle.knowledge.specs.ReadBack.{holds-at}
 use Rattle.knowledge.specs.Invariant.{Ours}
 use Rattle.knowledge.specs.FourClauses.{four-clauses-exactly}
-use Rattle.saved.specs.Clauses.{Hashes, Clauses, InTree, Within, Kept}
-use Rattle.saved.specs.ClausesLaws.{kept-within, kept-clauses, kept-largest}
+use Rattle.saved.specs.Clauses.{Clauses, InTree, Kept}
+use Rattle.saved.specs.ClausesLaws.{kept-within, kept-clauses}
 use Rattle.saved.specs.Form.{rootIn, blocksIn, heightIn, placeCount, formed, Placed}
 use Rattle.saved.specs.Saved.{openingNumber, rootRight, chained, sound, loaded, rooted, repaired}
 use Rattle.saved.specs.SoundLaws.{placed-in-tree, record-at}
@@ -120,7 +118,3 @@ module _ (s b : List ℕ) (z : openingNumber (length s) b ≡ 0) (g : rooted b �
 
   pub repaired-ours : Ours (repaired s b)
   repaired-ours = four-clauses-exactly (repaired s b) .0 repaired-four
-
-  -- and holds the largest part of what the bytes name that does
-  pub repaired-largest : (S : Hashes) → Within S (Placed b (placeCount b)) → Clauses (heightIn b) (blocksIn b) (rootIn b) S → Within S (HeldIn (repaired s b))
-  repaired-largest S part C l i v x = kept-in l i v (kept-largest (heightIn b) (blocksIn b) (rootIn b) (Placed b (placeCount b)) tree S part C l i v x)

@@ -4,7 +4,6 @@ use mathlib.Core.Path.{_≡_, refl, ap₂}
 use mathlib.Core.List.{List, _++_}
 use Prim.Native.Nat.{ℕ, zero, suc, _-_, _^_, _≤_, _<_}
 use native.Mathlib.Omega.{arith}
-use lib.ListN.{length}
 use Rattle.octets.specs.Octets.{cut}
 use Rattle.tree.specs.Geometry.{nodeNumber}
 use Rattle.tree.specs.GeometryLaws.{node-number-range}

@@ -1,23 +1,22 @@
 -- There and back, as kd_held and kd_marked answer: what a save names, what is loaded from it, and which bytes are loaded at all. And the repair: the
 -- largest part, and the only one.
 -- Assumes nothing.
-use mathlib.Core.Path.{_≡_, refl, ap, sym, _∙_, subst}
+use mathlib.Core.Path.{_≡_, ap, sym, _∙_}
 use mathlib.Core.Bool.{true, false}
 use mathlib.Core.List.{List}
 use mathlib.Core.Logic.{_↔_, inl, inr}
 use Prim.Native.Nat.{ℕ, _≤_, _<_}
-use native.Mathlib.Omega.{arith}
 use lib.ListN.{length, take}
 use Rattle.numbers.specs.Numbers.{done, notSaved}
 use Rattle.numbers.specs.Tests.{either}
-use Rattle.store.specs.Store.{usable, fileLength, pieceLength, factsRoot, blocksOf, heightOf, storeSize, Facts}
+use Rattle.store.specs.Store.{usable, fileLength, pieceLength, heightOf, storeSize, Facts}
 use Rattle.store.specs.StoreLaws.{usable-facts}
 use Rattle.marks.specs.Marks.{markedAnswer}
-use Rattle.saved.specs.Form.{Saved, savedBytes, lengthIn, pieceLengthIn, rootIn, blocksIn, heightIn, opens, formed, valueIn, NamesMark}
+use Rattle.saved.specs.Form.{Saved, savedBytes, lengthIn, pieceLengthIn, rootIn, blocksIn, heightIn, opens, formed, valueIn}
 use Rattle.saved.specs.Clauses.{Hashes, Clauses, Within, Kept}
 use Rattle.saved.specs.ClausesLaws.{kept-within, kept-clauses, kept-largest}
 use Rattle.saved.specs.Save.{savedOf, saveAnswer}
-use Rattle.saved.specs.Saved.{openingNumber, sound, loaded, loadAnswer, loadAfter, repairAnswer, repairAfter}
+use Rattle.saved.specs.Saved.{loadAnswer, loadAfter, repairAnswer, repairAfter}
 use Rattle.saved.specs.PrefixLaws.{cut-short-not-formed}
 use Rattle.saved.specs.Apart.{store-not-saved, saved-not-store}
 use Rattle.saved.specs.SaveLaws.{saved-ordered, saved-reads, saved-exactly}
@@ -27,7 +26,7 @@ use Rattle.words.specs.Held.{Holds}
 use Rattle.words.specs.History.{Bytes, byLoading, OurStore, ours, begin}
 use Rattle.words.specs.Answers.{InRange}
 use Rattle.words.specs.FourClauses.{FourClauses}
-use Rattle.words.specs.Saving.{WholeOpening, OfForm, Ready, NamedBy, Loadable, saveOf, IsSave}
+use Rattle.words.specs.Saving.{WholeOpening, OfForm, NamedBy, saveOf, IsSave}
 use Rattle.knowledge.specs.Again.{held-usable}
 use Rattle.knowledge.specs.Restored.{holds-exactly, of-four, tree}
 use Rattle.knowledge.specs.OwnBytes.{ours-bytes}

@@ -23,9 +23,8 @@ use Rattle.store.specs.Store.{fileLength, blocksOf, heightOf, heldAnswer}
 use Rattle.store.specs.StoreLaws.{tree-says, facts-usable}
 use Rattle.extends.specs.Extends.{wholeBlocks, restSize, earlierRoot, overSize, lastHash, extendsAnswer}
 use Rattle.extends.specs.ExtendsLaws.{lastBytes, HeldOf, earlier-root}
-use Rattle.words.specs.Held.{Holds}
 use Rattle.words.specs.History.{Bytes, OurStore}
-use Rattle.words.specs.Shown.{heldBy, ofFile, Shown, OneHash}
+use Rattle.words.specs.Shown.{heldBy, ofFile, Shown}
 use Rattle.words.specs.File.{For}
 use Rattle.words.specs.Younger.{firstBytes, BeginsWith, overEnd, TwoStrings, storeShows, lentShows, treeShows, blockShows, Needed, Follows, same, grew, ShownAmong, here, before}
 use Rattle.knowledge.specs.Again.{what-is-held}

@@ -5,11 +5,10 @@ use mathlib.Core.Path.{_≡_, refl, ap, ap₂, sym, _∙_}
 use mathlib.Core.Bool.{true, true≢false}
 use mathlib.Core.List.{List}
 use mathlib.Core.Logic.{inr, _↔_}
-use Prim.Native.Nat.{ℕ, zero, suc, _+_, _-_, _*_, _/_, _%_, _^_, _≤_, _<_}
+use Prim.Native.Nat.{ℕ, zero, suc, _+_, _-_, _*_, _/_, _^_, _≤_, _<_}
 use native.Mathlib.Omega.{arith}
 use native.Mathlib.Decide.{decLt, decLe, ℕ-discrete}
 use native.Mathlib.Nat.{mul-assoc, mul-comm, mul-le-mul-right, add-mul, one-mul}
-use lib.ListN.{length}
 use lib.Pow.{pow-pos, pow-add, pow-lt}
 use Rattle.numbers.specs.Numbers.{noAnchor}
 use Rattle.sha256.specs.Sha256.{sha256, pairHash}
@@ -26,8 +25,8 @@ use Rattle.words.specs.Held.{Holds, Position}
 use Rattle.words.specs.FourClauses.{FourClauses}
 use Rattle.words.specs.Pieces.{LayerFormed}
 use Rattle.words.specs.History.{Steps, OurStore}
-use Rattle.words.specs.Asking.{Wanted, HoldsFrom}
-use Rattle.words.specs.Younger.{Peak, Needed, Comparable, InRange, Leads, ExtendsGives, is-9, is-3, is-4, is-6, is-7, is-0}
+use Rattle.words.specs.Asking.{HoldsFrom}
+use Rattle.words.specs.Younger.{Peak, Needed, Comparable, Leads, ExtendsGives, is-9, is-3, is-4, is-6, is-7, is-0}
 use Rattle.knowledge.specs.Grows.{Grown, steps-grow, grown-layer}
 use Rattle.knowledge.specs.Again.{knowledge-only-grows}
 use Rattle.knowledge.specs.OwnBytes.{ours-have}

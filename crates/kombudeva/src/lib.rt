@@ -24,7 +24,7 @@ ghost use Rattle.catalogue.specs.Catalogue.{listAnswer, listAfter};
 ghost use Rattle.about.specs.About.{infoRead, nameRead};
 ghost use Rattle.v1.specs.V1.{hybridOf, v1PieceOf, v1PiecesOf};
 ghost use Rattle.places.specs.Places.{placeAnswer, firstAnswer};
-ghost use Rattle.writing.specs.Write.{writeAnswer, writeAfter};
+ghost use Rattle.writer.specs.Write.{writeAnswer, writeAfter};
 ghost use Rattle.frames.specs.Frames.{frameAnswer, frameAfter};
 ghost use Rattle.stream.specs.Reading.{between, hearAnswer, hearRoom};
 ghost use Rattle.kombudeva.specs.Boundary.{countAnswer, hashAnswer, factsStruct, torrentAnswer, fileAnswer, partAnswer, hybridAnswer, v1PieceAnswer, v1PartAnswer};
@@ -555,7 +555,7 @@ pub extern "C" fn kd_torrent_write(
 ) -> CountAnswer
     ensures { λ r. ⌜ (r ≡ countAnswer (writeAnswer (now (list .entry)) (now (text .entry)) «piece_length» (now (name .entry)) (now (out .entry)))) × (now (out .exit) ≡ writeAfter (now (list .entry)) (now (text .entry)) «piece_length» (now (name .entry)) (now (out .entry))) ⌝ }
 {
-    count_answer(writing::write(list, text, piece_length as usize, name, out))
+    count_answer(writer::write(list, text, piece_length as usize, name, out))
 }
 
 #[no_mangle]

@@ -14,7 +14,7 @@ use Rattle.bits.specs.Words.{σ₀, σ₁}
 use Rattle.bits.specs.Parsing.{wordAt, words}
 use Rattle.bits.specs.ParsingLaws.{words-more, word-in}
 use Rattle.rounds.specs.Block.{next, schedule, round, plus, compress}
-use Rattle.rounds.specs.StageLaws.{stage-first, stage-step, stage-last, stage-at, roundsBy-more, roundsBy-at}
+use Rattle.rounds.specs.StageLaws.{stage-first, stage-step, stage-last, stage-at, roundsBy-more, roundsBy-at, roundsBy-next}
 use Rattle.rounds.specs.Sums.{sums, roundsBy}
 use Rattle.rounds.specs.SumsLaws.{sum-at, compress-by-sums}
 use Rattle.lanes.specs.Lanes.{lane, stateOf, stateIn}
@@ -144,11 +144,6 @@ pub state-reads : (t : List ℕ) (j : ℕ) →
 unfolding stateIn stateOf lane
 state-reads t j = rw (zero-add j)
 
--- a state beside the lane that changes stays
-pub state-beside : {j : ℕ} {t t′ : List ℕ} → Beside 8 j t t′ → (x : ℕ) → x < 8 → (x ≡ j → ⊥) → stateIn t′ x ≡ stateIn t x
-unfolding stateIn
-state-beside p x h d = ap stateOf (p .others x h d)
-
 -- the sum of all words is the sum in each lane
 pub state-sum : (z t r : List ℕ) → ((i : ℕ) → i < 64 → getD r i 0 ≡ (getD z i 0 + getD t i 0) % 2 ^ 32) → (j : ℕ) → j < 8 → stateIn r j ≡ plus (stateIn z j) (stateIn t j)
 unfolding plus
@@ -229,9 +224,9 @@ pub four-steppings : (xs : List ℕ) (s₀ s₁ s₂ s₃ s₄ : State) (i : ℕ
 unfolding Stepping
 four-steppings xs s₀ s₁ s₂ s₃ s₄ i p q r u =
     λ z h.
-    let h₂ = roundsBy-at xs z (i + 1 + 1) (i + 2) (q z (p z h)) (omega arith) in
-    let h₃ = roundsBy-at xs z (i + 2 + 1) (i + 3) (r z h₂) (omega arith) in
-    roundsBy-at xs z (i + 3 + 1) (i + 4) (u z h₃) (omega arith)
+    let h₂ = roundsBy-next xs z i 1 (q z (p z h)) in
+    let h₃ = roundsBy-next xs z i 2 (r z h₂) in
+    roundsBy-next xs z i 3 (u z h₃)
 
 -- ---- passes over the lanes
 

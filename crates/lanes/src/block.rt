@@ -2,9 +2,8 @@
 // instructions of it. That needs arrays that are locals of the function for a block, with all its parts inlined: a part that
 // is long has one caller only, or the vectors are lost without a word.
 ghost use mathlib.Core.Path.{_≡_};
-ghost use mathlib.Core.List.{List};
 ghost use Prim.Native.Nat.{ℕ, _+_, _*_, _<_, _≤_};
-ghost use lib.ListN.{length, take, set};
+ghost use lib.ListN.{length, take};
 ghost use Rattle.octets.specs.Octets.{cut};
 ghost use Rattle.bits.specs.Parsing.{words};
 ghost use Rattle.rounds.specs.Block as B;

@@ -6,14 +6,13 @@ use mathlib.Core.List.{List, [], _∷_, _++_, append-assoc, append-nil}
 use Prim.Native.Nat.{ℕ, zero, suc, _+_, _-_, _≤_, _<_}
 use native.Mathlib.Numerals.{add-one}
 use native.Mathlib.Omega.{arith}
-use lib.ListN.{length, drop, take, set, length-append, length-drop, length-set, drop-of-length-le}
+use lib.ListN.{length, drop, take, set, length-append, length-drop, drop-of-length-le}
 use lib.Seq.{take-suc-set}
 use lib.Dec.{eqb}
 use borrow.Author.Tests.{eq-eqb, ne-eqb, eqb-true}
 use Rattle.bencode.specs.Scalar.{readNumber}
 use Rattle.bencode.specs.Parts.{readEntry}
 use Rattle.bencode.specs.PartsLaws.{entry-ends}
-use Rattle.bencode.specs.declared.parts.Entry.{Entry}
 use Rattle.bencode.specs.declared.parts.Entry.the-variants.{Keyed, NoEntry}
 use Rattle.layers.specs.Layers.{keysOn, keysFrom, wideOn, wideFrom, layerKeys, keysWide}
 use Rattle.tree.specs.GeometryLaws.{and-false}

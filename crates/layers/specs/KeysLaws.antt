@@ -1,7 +1,7 @@
 -- The keys of `piece layers` by their positions are the keys of the dictionary that stands there: as many, in order, ascending, and
 -- within the bytes.
 -- Assumes nothing.
-use mathlib.Core.Path.{_≡_, refl, sym, ap, ap₂, _∙_}
+use mathlib.Core.Path.{_≡_, refl, sym, ap, _∙_}
 use mathlib.Core.Bool.{Bool, true, false, cond, false≢true}
 use mathlib.Core.List.{List, [], _∷_, _++_}
 use Prim.Native.Nat.{ℕ, zero, suc, _+_, _-_, _≤_, _<_}
@@ -16,12 +16,12 @@ use Rattle.limits.specs.Limits.{maxLevels}
 use Rattle.bencode.specs.Grammar.{colon, letterD, Value, dictionary, Entries, noEntries, entry, decimal, encode, encodeEntries, precedes, KeyBefore, none, after, Valid, EntriesValid}
 use Rattle.bencode.specs.Parts.{readEntry}
 use Rattle.bencode.specs.CompleteLaws.{contentStart, string-some, dictionary-bytes}
-use Rattle.bencode.specs.PartsLaws.{valueStart, entry-is, entry-none, entry-ends, dictionary-is, entries-length, entries-some}
+use Rattle.bencode.specs.PartsLaws.{valueStart, entry-is, entry-none, entry-ends, entries-length, entries-some}
 use Rattle.bencode.specs.DepthLaws.{more-levels, entries-more-levels}
 use Rattle.bencode.specs.declared.parts.Entry.{Entry}
 use Rattle.bencode.specs.declared.parts.Entry.the-variants.{Keyed, NoEntry}
-use Rattle.sorting.specs.Sorting.{stringsAt, Ascending}
-use Rattle.layers.specs.Layers.{keysOn, keysFrom, wideOn, wideFrom, layerKeys, keysWide, Indexed}
+use Rattle.sorting.specs.Sorting.{Ascending}
+use Rattle.layers.specs.Layers.{keysOn, keysFrom, wideOn, wideFrom, layerKeys, keysWide}
 
 -- the keys of a dictionary, in order
 unfoldable pub entryKeys : Entries → List (List ℕ)
@@ -62,16 +62,6 @@ from-stand s (entry k v es) j (suc f) at r e h g =
     let size : valueStart at k - contentStart at k ≡ length k = omega arith in
     let more = from-stand s es (after k) f (valueStart at k + length (encode v)) r (w .next) (h .2) fewer in
     rw (w .read) ((rw size at (w .key), more .0), rw (size, more .1) refl)
-
--- what keys of 32 bytes are at these positions
-stand-strings : (s ps : List ℕ) (es : Entries) → KeysStand s ps es → allWide es ≡ true → stringsAt s ps ≡ entryKeys es
-unfolding KeysStand stringsAt entryKeys
-stand-strings s [] noEntries p w = refl
-stand-strings s [] (entry k v es) p w = absurd p
-stand-strings s (a ∷ ps) noEntries p w = absurd p
-stand-strings s (a ∷ ps) (entry k v es) p w =
-    let q = wide-first k v es w in
-    ap₂ (λ (x : List ℕ) (xs : List (List ℕ)). x ∷ xs) (rw (q .0) at (p .0)) (stand-strings s ps es (p .1) (q .1))
 
 stand-count : (s ps : List ℕ) (es : Entries) → KeysStand s ps es → length ps ≡ length (entryKeys es)
 unfolding KeysStand entryKeys
@@ -153,18 +143,9 @@ module _ (s : List ℕ) (es : Entries) (r : List ℕ) (bytes : s ≡ encode (dic
   pub keys-count : length (layerKeys s) ≡ length (entryKeys es)
   keys-count = stand-count s (layerKeys s) es keys-stand
 
-  -- keys of 32 bytes are the strings at their positions
-  pub keys-strings : keysWide s ≡ true → stringsAt s (layerKeys s) ≡ entryKeys es
-  keys-strings w = stand-strings s (layerKeys s) es keys-stand (sym keys-wide ∙ w)
-
   -- and ascend, in an array that begins with their positions
   pub keys-ascending : keysWide s ≡ true → (keys : List ℕ) (count : ℕ) → count ≤ length keys → take count keys ≡ layerKeys s → Ascending s keys count
   keys-ascending w keys count room e i h =
       let t = taken keys (layerKeys s) count room e in
       let step = stand-ascending s (layerKeys s) es none maxLevels keys-stand (sym keys-wide ∙ w) levels i (omega (arith, t .0)) in
       rw (t .1 i (omega arith), t .1 (i + 1) h) (rw (add-one i) step)
-
-  -- so such an array is the index that a search asks for
-  pub keys-indexed : keysWide s ≡ true → (keys : List ℕ) (count : ℕ) → count ≤ length keys → take count keys ≡ layerKeys s → Indexed s keys count
-  keys-indexed w keys count room e =
-      record { opens = rw (bytes, dictionary-is (dictionary es) r); wide = w; room = room; all = e; ascending = keys-ascending w keys count room e }

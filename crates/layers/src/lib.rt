@@ -132,7 +132,7 @@ fn lower_of(number: u32, n: u32) -> u32
     n
 }
 
-// The same of the files of a directory, from its first entry on, with so many levels left below it.
+// 27, 28 or 0, the lowest, of the files of a directory, from its first entry on, with so many levels left below it.
 fn judge_directory(
     t: &[u8],
     at: usize,

@@ -21,8 +21,8 @@ use Rattle.tree.specs.GeometryLaws.{ceil-least, covering-most, ceil-below, piec
 use Rattle.cells.specs.Entries.{oneIf}
 use Rattle.limits.specs.Limits.{tallestTree}
 use Rattle.store.specs.Store.{usable, fileLength, pieceLength, blocksOf, heightOf, positions, storeSize, Facts, SameFacts, factBytes}
-use Rattle.store.specs.StoreLaws.{facts-blocks-most, facts-height, facts-leaves, facts-positions, facts-same, facts-usable, own-marks, positions-some, same-facts, usable-facts}
-use Rattle.marks.specs.Marks.{marksStart, markedAt, marksPut, marked, blockThere, eachPiece, firstBlock, blocksIn, allMarked, pieceMarked, fieldBits, fieldBytes, fieldSize, fieldAnswer, fieldAfter}
+use Rattle.store.specs.StoreLaws.{facts-blocks-most, facts-height, facts-leaves, facts-positions, facts-same, own-marks, positions-some, same-facts, usable-facts}
+use Rattle.marks.specs.Marks.{marksStart, markedAt, marksPut, blockThere, eachPiece, firstBlock, blocksIn, allMarked, pieceMarked, fieldBits, fieldBytes, fieldSize, fieldAnswer, fieldAfter}
 
 -- ---- where the marks stand
 
@@ -94,9 +94,6 @@ module _ (s : List ℕ) (f : Facts s) (i n x : ℕ) (fits : i + n ≤ 2 ^ height
   pub marks-facts : Facts (marksPut s i n x)
   marks-facts = facts-same s (marksPut s i n x) marks-fact-bytes f (omega (arith, marks-length, f .size))
 
-  pub marks-usable : usable (marksPut s i n x) ≡ usable s
-  marks-usable = facts-usable (marksPut s i n x) marks-facts ∙ sym (facts-usable s f)
-
   byte-in : (k : ℕ) → k < n → getD (marksPut s i n x) (marksStart s + i + k) 0 ≡ x
   unfolding marksPut
   byte-in k l =
@@ -158,11 +155,6 @@ covered-below b l i c = ceil-below b (2 ^ l) i (pow-pos l) c
 pub pieces-are : (s : List ℕ) → Facts s → pieceCount (fileLength s) (pieceLength s) ≡ covering (blocksOf s) (pieceLayer (pieceLength s))
 unfolding blocksOf
 pieces-are s f = ap (pieceCount (fileLength s)) (piece-length-form (pieceLength s) (f .piece) .1) ∙ pieces-covering (fileLength s) (pieceLayer (pieceLength s))
-
--- a piece has some blocks
-pub each-some : (s : List ℕ) → 1 ≤ eachPiece s
-unfolding eachPiece
-each-some s = pow-pos (pieceLayer (pieceLength s))
 
 module _ (s : List ℕ) (f : Facts s) (i : ℕ) (b : i < pieceCount (fileLength s) (pieceLength s)) where
   -- its first block is one of the file's

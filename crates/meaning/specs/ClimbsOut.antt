@@ -20,7 +20,7 @@ use Rattle.meaning.specs.FilesLaws.{nth-holds, nth-right, files-hold}
 use Rattle.meaning.specs.Paths.{StaysInside}
 use Rattle.meaning.specs.PathsLaws.{element-exactly}
 
-dictionary-there : (x : Lookup) → hasDictionary x ≡ true → x ≡ present (dictionary (entriesOf x))
+pub dictionary-there : (x : Lookup) → hasDictionary x ≡ true → x ≡ present (dictionary (entriesOf x))
 dictionary-there absent e = absurd (false≢true e)
 dictionary-there (present (dictionary es)) e = refl
 dictionary-there (present (integer minus n)) e = absurd (false≢true e)

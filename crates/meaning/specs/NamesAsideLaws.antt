@@ -3,16 +3,15 @@
 -- Assumes nothing.
 use mathlib.Core.Path.{_≡_, refl, sym, ap, ap₂, _∙_}
 use mathlib.Core.Logic.{_⊎_, inl, inr}
-use mathlib.Core.Bool.{Bool, true, false, cond, _&&_, and-false}
-use mathlib.Core.List.{List, [], _∷_}
-use Prim.Native.Nat.{ℕ}
+use mathlib.Core.Bool.{Bool, true, false, _&&_, and-false}
+use mathlib.Core.List.{[], _∷_}
 use Rattle.numbers.specs.Numbers.{wrongTree}
 use Rattle.tree.specs.Geometry.{isPieceLength}
 use Rattle.bencode.specs.Grammar.{Value, integer, string, list, dictionary, Entries, noEntries, entry}
 use Rattle.bencode.specs.Parts.{lookup}
 use Rattle.meaning.specs.Keys.{keyMetaVersion}
 use Rattle.meaning.specs.Torrent.{isNumber, infoOf, treeOf, plenOf, hasKeys, fileRight, noMore, elementRight, nodeRight, branchRight, nodesRight, treeRight, numberBy, valueNumber}
-use Rattle.meaning.specs.NamesAside.{notEmpty, nodeShaped, branchShaped, nodesShaped, treeShaped, nodeNamed, branchNamed, namesRight}
+use Rattle.meaning.specs.NamesAside.{nodeShaped, branchShaped, nodesShaped, treeShaped, nodeNamed, branchNamed, namesRight}
 
 -- ---- the tree is right where its shape is and its names are
 

@@ -3,7 +3,7 @@
 -- Assumes nothing.
 use mathlib.Core.Path.{_≡_, refl, sym, ap, _∙_}
 use mathlib.Core.Bool.{Bool, true, false, _&&_, not, false≢true, and-eq-true-iff}
-use mathlib.Core.Logic.{_⊎_, inl, inr, _↔_}
+use mathlib.Core.Logic.{inl, inr, _↔_}
 use mathlib.Core.List.{List, [], _∷_, _++_, append-assoc, append-nil}
 use Prim.Native.Nat.{ℕ, zero, suc}
 use lib.ListN.{take}
@@ -13,8 +13,7 @@ use Rattle.octets.specs.Octets.{same}
 use Rattle.octets.specs.OctetsLaws.{same-false, same-ne}
 use Rattle.meaning.specs.Counting.{Member}
 use Rattle.meaning.specs.Torrent.{without, dot, dots, slash, elementRight}
-use Rattle.meaning.specs.FilesLaws.{ElementsRight}
-use Rattle.meaning.specs.Paths.{StaysInside, AllStay, written, toZero, Location, above, step, walk, ahead, split, follow, InFolder}
+use Rattle.meaning.specs.Paths.{StaysInside, AllStay, written, toZero, Location, step, walk, split, follow, InFolder}
 
 -- ---- the rule
 
@@ -63,12 +62,6 @@ element-exactly (c ∷ cs) = (from, to)
         rw
         (same-ne (c ∷ cs) dot (w .not-dot), same-ne (c ∷ cs) dots (w .not-dots), without-no slash (c ∷ cs) (w .no-slash), without-no 0 (c ∷ cs) (w .no-zero))
         refl
-
--- so of a whole path
-pub all-stay : (es : List (List ℕ)) → ElementsRight es → AllStay es
-unfolding ElementsRight AllStay
-all-stay [] a = tt
-all-stay (e ∷ es) a = (element-exactly e .0 (a .0), all-stay es (a .1))
 
 -- ---- a path keeps its bytes and its elements
 

@@ -1,17 +1,14 @@
 -- One law for each way out of the tests before the header is read.
 -- Assumes nothing.
-use mathlib.Core.Path.{_≡_, refl, ap, ap₂, sym, _∙_}
-use mathlib.Core.Bool.{Bool, true, false, cond, _&&_}
-use mathlib.Core.List.{List, _++_}
-use Prim.Native.Nat.{ℕ, zero, suc, _+_, _-_, _*_, _/_, _^_, _<_}
-use native.Mathlib.Omega.{arith}
+use mathlib.Core.Path.{_≡_, ap₂, sym, _∙_}
+use mathlib.Core.Bool.{Bool, true, false}
+use mathlib.Core.List.{List}
+use Prim.Native.Nat.{ℕ, _-_}
 use Rattle.octets.specs.Octets.{cut, same}
-use Rattle.numbers.specs.Numbers.{noMessage, otherRoot, ruleBroken, wrongSize, wrongPadding, noAnchor, differs, conflict, unusable}
-use Rattle.store.specs.Store.{usable, factsRoot, blocksOf, heightOf}
-use Rattle.header.specs.declared.Header.{Header}
-use Rattle.header.specs.Header.{messageRoot, headerOf, rulesKept}
-use Rattle.messages.specs.Take.{headerNumber}
-use Rattle.messages.specs.Asks.{firstNumber, Passed}
+use Rattle.numbers.specs.Numbers.{noMessage, otherRoot, unusable}
+use Rattle.store.specs.Store.{usable, factsRoot}
+use Rattle.header.specs.Header.{messageRoot}
+use Rattle.messages.specs.Asks.{firstNumber}
 
 -- ---- 9, 1, 2
 

@@ -1,39 +1,34 @@
 -- The functions below the entry points, each by one law over plain variables.
 -- Assumes nothing.
-use mathlib.Core.Path.{_≡_, refl, ap, ap₂, sym, _∙_, subst}
-use mathlib.Core.Bool.{Bool, true, false, cond, _&&_}
+use mathlib.Core.Path.{_≡_, refl, ap, ap₂, sym, _∙_}
+use mathlib.Core.Bool.{Bool, true, false, _&&_}
 use mathlib.Core.List.{List, _++_}
-use Prim.Native.Nat.{ℕ, zero, suc, _+_, _-_, _*_, _/_, _%_, _^_, _≤_, _<_}
+use Prim.Native.Nat.{ℕ, _+_, _-_, _*_, _/_, _^_, _≤_, _<_}
 use native.Mathlib.Omega.{arith}
 use native.Mathlib.Decide.{ℕ-discrete}
-use native.Mathlib.Nat.{mod-eq-of-lt}
 use lib.ListN.{length, take, drop}
-use lib.Pow.{pow-mono}
 use lib.Dec.{eqb}
-use borrow.Author.Tests.{eq-eqb, ne-eqb, eqb-true}
+use borrow.Author.Tests.{eq-eqb, ne-eqb}
 use Rattle.octets.specs.Octets.{cut, same, zeroHash}
-use Rattle.octets.specs.OctetsLaws.{cut-length, zero-octets}
 use Rattle.numbers.specs.Numbers.{refused, done, wrongSize, wrongPadding, noAnchor, judged}
 use Rattle.numbers.specs.declared.Answer.{Answer}
-use Rattle.tree.specs.Values.{node, padValue}
-use Rattle.cells.specs.Cells.{Room, heldAt, hashAt}
-use Rattle.cells.specs.Entries.{Entry, agrees, putAll, newly, fresh}
-use Rattle.cells.specs.EntriesLaws.{Sound, agree-append, put-append, fresh-append, newly-none, count-fresh}
-use Rattle.store.specs.Store.{usable, blocksOf, heightOf, positions, Facts}
-use Rattle.store.specs.StoreLaws.{usable-facts, facts-height, facts-leaves}
-use Rattle.settling.specs.Span.{Within, Fit, Way}
+use Rattle.tree.specs.Values.{node}
+use Rattle.cells.specs.Cells.{heldAt, hashAt}
+use Rattle.cells.specs.Entries.{Entry, agrees, putAll, fresh}
+use Rattle.cells.specs.EntriesLaws.{agree-append, put-append, fresh-append}
+use Rattle.store.specs.Store.{blocksOf}
+use Rattle.settling.specs.Span.{Fit, Way}
 use Rattle.settling.specs.Subtree.{subtree, runLeaf, Heaped}
-use Rattle.settling.specs.SubtreeLaws.{within-self, run-leaf-length, subtree-small}
+use Rattle.settling.specs.SubtreeLaws.{within-self, subtree-small}
 use Rattle.settling.specs.Path.{ancestor, risen, path}
 use Rattle.settling.specs.PathLaws.{path-small}
 use Rattle.settling.specs.AncestorLaws.{ancestor-le}
-use Rattle.settling.specs.SettledLaws.{settled-sound}
 use Rattle.header.specs.declared.Header.{Header}
 use Rattle.header.specs.declared.Place.{Place}
-use Rattle.header.specs.Header.{headerSize, headerOf, isHashes, isReject, rulesKept, placeOf, messageSize}
+use Rattle.header.specs.Header.{headerSize, headerOf, isHashes, messageSize}
 use Rattle.messages.specs.Padded.{runPadded, unclesPadded}
-use Rattle.messages.specs.Take.{headerNumber, runOf, unclesOf, given, settled, anchor, worked, padded, anchored, bodyNumber, placeIn, orElse, takeNumber, takeAfter, takeAnswer, rejectAnswer}
-use Rattle.messages.specs.Asks.{Passed, Placed, Carried, Ready, compared, answerTo, leftBy}
+use Rattle.messages.specs.Take.{headerNumber, runOf, unclesOf, given, settled, anchor, worked, padded, anchored, bodyNumber, placeIn, takeNumber, takeAfter, takeAnswer}
+use Rattle.messages.specs.Asks.{Placed, Ready, compared, answerTo, leftBy}
 use Rattle.messages.specs.TakenLaws.{uncles-length, take-refused, take-done}
 
 -- ---- the message's parts

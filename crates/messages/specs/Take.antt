@@ -1,14 +1,13 @@
 -- 01, "The hash messages" and "Numbers given back": what a message gets, in the order 9, 1, 2, 3, 4, 5, 6, 7, 8, and what it leaves.
 -- Assumes nothing.
 use mathlib.Core.List.{List, _++_}
-use mathlib.Core.Bool.{Bool, true, false, cond, _&&_}
+use mathlib.Core.Bool.{Bool, cond, _&&_}
 use Prim.Native.Nat.{ℕ, _+_, _*_, _/_, _^_}
 use lib.ListN.{length}
 use lib.Dec.{eqb}
 use Rattle.octets.specs.Octets.{cut, same, zeroHash}
 use Rattle.numbers.specs.Numbers.{noMessage, otherRoot, ruleBroken, wrongSize, wrongPadding, unusable, judged}
 use Rattle.numbers.specs.declared.Answer.{Answer}
-use Rattle.tree.specs.Geometry.{height}
 use Rattle.tree.specs.Values.{node}
 use Rattle.cells.specs.Cells.{heldAt, hashAt}
 use Rattle.cells.specs.Entries.{Entry, agrees, putAll, newly}

@@ -1,25 +1,21 @@
 -- Laws of taking: what a message that passes 9, 1, 2, 3 and 4 is sure of.
 -- Assumes nothing.
-use mathlib.Core.Path.{_≡_, refl, ap, ap₂, sym, _∙_, subst}
-use mathlib.Core.Bool.{Bool, true, false, cond, _&&_, and-eq-true-iff, false≢true}
-use mathlib.Core.List.{List, _++_}
-use Prim.Native.Nat.{ℕ, zero, suc, _+_, _-_, _*_, _/_, _%_, _^_, _≤_, _<_}
-use native.Mathlib.Nat.{mul-assoc, le-trans, mul-le-mul-right}
+use mathlib.Core.Path.{_≡_, refl, ap, sym, _∙_}
+use mathlib.Core.Bool.{Bool, true, false, cond, and-eq-true-iff}
+use mathlib.Core.List.{List}
+use Prim.Native.Nat.{ℕ, _+_, _-_, _*_, _/_, _^_, _≤_, _<_}
 use native.Mathlib.Omega.{arith}
-use lib.ListN.{length, getD}
+use lib.ListN.{length}
 use lib.Dec.{eqb, leb}
-use lib.Pow.{pow-add, pow-pos, pow-mono}
+use lib.Pow.{pow-mono}
 use borrow.Author.Tests.{leb-true, eqb-true}
-use Rattle.octets.specs.Octets.{cut, same, zeroHash}
-use Rattle.octets.specs.OctetsLaws.{cut-length, zero-octets}
-use Rattle.numbers.specs.Numbers.{noMessage, otherRoot, ruleBroken, wrongSize, wrongPadding, noAnchor, differs, conflict, unusable}
+use Rattle.octets.specs.Octets.{same}
+use Rattle.numbers.specs.Numbers.{noMessage, otherRoot, ruleBroken, unusable}
 use Rattle.numbers.specs.NumbersLaws.{let-through}
 use Rattle.tree.specs.Geometry.{height}
-use Rattle.store.specs.Store.{usable, factsRoot, blocksOf, heightOf, positions, Facts}
+use Rattle.store.specs.Store.{usable, factsRoot, blocksOf, heightOf, positions}
 use Rattle.store.specs.StoreLaws.{usable-facts, positions-even, positions-most, facts-height}
-use Rattle.settling.specs.Span.{Within}
 use Rattle.settling.specs.SubtreeLaws.{within-tree}
-use Rattle.settling.specs.Path.{ancestor}
 use Rattle.settling.specs.AncestorLaws.{ancestor-positive}
 use Rattle.header.specs.declared.Header.{Header}
 use Rattle.header.specs.declared.Place.{Place}

@@ -1,9 +1,9 @@
 -- A message that is taken: what it is sure of, what it leaves; and one that is refused.
 -- Assumes nothing.
-use mathlib.Core.Path.{_≡_, refl, ap, ap₂, sym, _∙_}
-use mathlib.Core.Bool.{Bool, true, false, cond, _&&_}
-use mathlib.Core.List.{List, _++_}
-use Prim.Native.Nat.{ℕ, zero, suc, _+_, _*_, _^_, _≤_, _<_}
+use mathlib.Core.Path.{_≡_, refl, ap, sym, _∙_}
+use mathlib.Core.Bool.{Bool, true, false, cond}
+use mathlib.Core.List.{List}
+use Prim.Native.Nat.{ℕ, _+_, _*_, _^_}
 use native.Mathlib.Omega.{arith}
 use native.Mathlib.Decide.{ℕ-discrete}
 use lib.ListN.{length}
@@ -13,7 +13,7 @@ use Rattle.octets.specs.Octets.{zeroHash}
 use Rattle.octets.specs.OctetsLaws.{cut-length, zero-octets}
 use Rattle.numbers.specs.Numbers.{refused, done, wrongSize, wrongPadding}
 use Rattle.tree.specs.Values.{node}
-use Rattle.cells.specs.Entries.{putAll, newly, fresh}
+use Rattle.cells.specs.Entries.{putAll, fresh}
 use Rattle.cells.specs.EntriesLaws.{Sound, FromRoot, from-root-in, newly-none, count-fresh}
 use Rattle.store.specs.Store.{blocksOf, heightOf, positions}
 use Rattle.store.specs.StoreLaws.{usable-facts}
@@ -24,7 +24,7 @@ use Rattle.header.specs.declared.Header.{Header}
 use Rattle.header.specs.declared.Place.{Place}
 use Rattle.header.specs.Header.{headerSize, headerOf, isHashes, messageSize}
 use Rattle.messages.specs.Take.{headerNumber, runOf, unclesOf, given, settled, padded, anchored, bodyNumber, placeIn, orElse, takeNumber, takeAfter, takeAnswer}
-use Rattle.messages.specs.Asks.{Passed, Placed, Carried, Ready}
+use Rattle.messages.specs.Asks.{Passed, Carried, Ready}
 use Rattle.messages.specs.TakeLaws.{passed, placed, placed-ready}
 
 pub uncles-length : (m : List ℕ) (x : Header) (p : Place) → Carried (length m) x p → length (unclesOf m (x .len) (p .u)) ≡ 32 * p .u

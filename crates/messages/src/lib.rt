@@ -1,3 +1,3 @@
-// The three hash messages: a hashes message taken, an incoming reject, a request served.
+// A hashes message taken, and an incoming reject. (A request is served in `serve`.)
 pub mod padded;
 pub mod take;

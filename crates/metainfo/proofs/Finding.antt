@@ -1,21 +1,19 @@
 -- The keys as the code finds them, one after the other.
 -- Assumes nothing.
-use mathlib.Core.Path.{_≡_, refl, sym, ap, _∙_}
-use mathlib.Core.Bool.{Bool, true, false, cond}
+use mathlib.Core.Path.{_≡_, refl, ap, _∙_}
+use mathlib.Core.Bool.{Bool, true, false}
 use mathlib.Core.List.{List}
 use Prim.Native.Nat.{ℕ, zero, suc, _≤_, _<_}
-use native.Mathlib.Omega.{arith}
 use lib.ListN.{length, drop}
-use lib.Dec.{eqb, leb}
 use borrow.Author.Tests.{eq-eqb, ne-eqb, le-leb, lt-leb}
 use Rattle.meaning.specs.Keys.{keyInfo, keyFileTree, keyPieceLength, keyMetaVersion, keyPieceLayers}
 use Rattle.limits.specs.Limits.{largestTorrent}
-use Rattle.numbers.specs.Numbers.{torrentTooLarge, keyMissing, otherVersion, pieceLengthOutOfRange}
+use Rattle.numbers.specs.Numbers.{torrentTooLarge, otherVersion, pieceLengthOutOfRange}
 use Rattle.tree.specs.Geometry.{isPieceLength}
 use Rattle.bencode.specs.Strict.{strictness}
 use Rattle.bencode.specs.Parts.{isDictionary}
 use Rattle.bencode.specs.declared.scalar.Integer.{Integer}
-use Rattle.bencode.specs.declared.scalar.Integer.the-variants.{Whole, NoInteger}
+use Rattle.bencode.specs.declared.scalar.Integer.the-variants.{Whole}
 use Rattle.bencode.specs.declared.parts.Found.{Found}
 use Rattle.bencode.specs.declared.parts.Found.the-variants.{Part, Missing}
 use Rattle.metainfo.specs.Metainfo.{dictionaryIn, findDictionary, findInteger, partOf, noPart, noKeys, rightKeys, withVersion, withPieceLength, infoKeys, withLayers, withTree, dictionaryKeys, withInfo, keysOf, ifStrict, metainfoOf}

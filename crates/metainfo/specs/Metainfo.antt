@@ -1,6 +1,6 @@
 -- 01, "The torrent": the keys of a torrent s by their positions, and the numbers 19 to 24.
 -- Assumes nothing.
-use mathlib.Core.Bool.{Bool, true, false, cond}
+use mathlib.Core.Bool.{Bool, cond}
 use mathlib.Core.List.{List}
 use Prim.Native.Nat.{ℕ, zero, suc, _-_}
 use lib.ListN.{length, drop}

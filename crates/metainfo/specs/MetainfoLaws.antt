@@ -1,6 +1,6 @@
 -- What a torrent that gets 0 so far has: where its keys are.
 -- Assumes nothing.
-use mathlib.Core.Path.{_≡_, refl, sym, ap, _∙_}
+use mathlib.Core.Path.{_≡_, refl, ap}
 use mathlib.Core.Bool.{Bool, true, false, cond}
 use mathlib.Core.List.{List}
 use Prim.Native.Nat.{ℕ, zero, suc, _≤_}
@@ -18,7 +18,6 @@ use Rattle.bencode.specs.declared.scalar.Integer.the-variants.{Whole, NoInteger
 use Rattle.bencode.specs.declared.parts.Found.{Found}
 use Rattle.bencode.specs.declared.parts.Found.the-variants.{Part, Missing}
 use Rattle.metainfo.specs.Metainfo.{findDictionary, findInteger, partOf, noKeys, rightKeys, withVersion, withPieceLength, infoKeys, withLayers, withTree, dictionaryKeys, withInfo, keysOf, ifStrict, metainfoOf}
-use Rattle.metainfo.specs.declared.Part.{Part as PartOf}
 use Rattle.metainfo.specs.declared.Keys.{Keys}
 
 -- the keys are found where k says, and the piece length is one

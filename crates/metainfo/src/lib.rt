@@ -92,7 +92,7 @@ fn right_keys(keys: Keys, below: bool, minus: bool, version: usize) -> Keys
     no_keys(numbers::PIECE_LENGTH_OUT_OF_RANGE)
 }
 
-// The same, with `piece length` and `meta version` still to find in `info`.
+// The keys with their number 22, 23, 24 or 0, where `piece length` and `meta version` are still to be found in `info`.
 fn info_keys(s: &[u8], info: Part, tree: Part, layers: Part) -> Keys
     ensures { λ r. ⌜ r ≡ infoKeys (now (s .entry)) info tree layers ⌝ }
 {
@@ -123,7 +123,7 @@ fn info_keys(s: &[u8], info: Part, tree: Part, layers: Part) -> Keys
     }
 }
 
-// The same, with `file tree` and `piece layers` still to find.
+// The keys with their number, where `file tree` and `piece layers` are still to be found as well.
 fn dictionary_keys(s: &[u8], info: Part) -> Keys
     ensures { λ r. ⌜ r ≡ dictionaryKeys (now (s .entry)) info ⌝ }
 {

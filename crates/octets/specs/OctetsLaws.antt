@@ -2,7 +2,7 @@
 -- Assumes nothing.
 use mathlib.Core.Path.{_≡_, refl, ap, ap₂, sym, _∙_}
 use mathlib.Core.List.{List, [], _∷_, _++_, append-assoc, append-nil}
-use mathlib.Core.Bool.{Bool, true, false, _&&_, false≢true, and-eq-true-iff}
+use mathlib.Core.Bool.{Bool, true, false, false≢true, and-eq-true-iff}
 use mathlib.Core.Logic.{_⊎_, inl, inr}
 use Prim.Native.Nat.{ℕ, zero, suc, _+_, _-_, _*_, _/_, _%_, _^_, _≤_, _<_, min}
 use native.Mathlib.Nat.{mod-lt, mod-eq-of-lt, pow-suc, pow-zero, div-one, div-div-eq-div-mul}
@@ -10,8 +10,8 @@ use lib.Arith.{mod-mul}
 use native.Mathlib.Numerals.{add-one}
 use native.Mathlib.Omega.{arith}
 use native.Mathlib.Decide.{decLt}
-use lib.ListN.{length, take, drop, getD, set, length-append, length-take, length-drop, length-set, replicate, length-replicate, getD-replicate, List·getD-append, drop-of-length-le, take-append-drop}
-use lib.Seq.{length-take-le, take-at, drop-at, getD-take, getD-drop, getD-append-add, getD-set-other, ext-getD, take-take, take-nil, take-all, take-append-le, drop-append-le, drop-append-add, drop-drop, drop-cons}
+use lib.ListN.{length, take, drop, getD, length-append, length-take, length-drop, replicate, length-replicate, getD-replicate, List·getD-append, take-append-drop}
+use lib.Seq.{length-take-le, take-at, drop-at, getD-take, getD-drop, getD-append-add, ext-getD, take-take, take-nil, take-all, take-append-le, drop-append-le, drop-append-add, drop-drop, drop-cons}
 use lib.Dec.{eqb, lit<}
 use borrow.Author.Tests.{eqb-true, eq-eqb}
 use Rattle.octets.specs.Octets.{Octets, cut, pasted, same, be, numberAt, zeroed, zeroHash}
@@ -80,17 +80,6 @@ cut-pasted-same s at h n e k =
     ap (λ (l : List ℕ). take n (drop at l)) (append-assoc (take at s) h (drop (at + length h) s))
     ∙ ap (λ (l : List ℕ). take n l) (drop-at (take at s) (h ++ drop (at + length h) s) at hl)
     ∙ take-at h (drop (at + length h) s) n e
-
-pub cut-set-other : (s : List ℕ) (i x a n : ℕ) → (i < a) ⊎ (a + n ≤ i) → a + n ≤ length s → cut (set s i x) a n ≡ cut s a n
-cut-set-other s i x a n w f =
-    let l1 = cut-length (set s i x) a n (simp length-set (omega arith)) in
-    let l2 = cut-length s a n f in
-    ext-getD 0 (cut (set s i x) a n) (cut s a n) (l1 ∙ sym l2)
-    (λ j b.
-    let b′ : j < n = omega (arith, l1) in
-    getD-cut (set s i x) a n j b′
-    ∙ getD-set-other s i (a + j) x 0 (λ q. elim w [ inl y ↦ omega arith | inr y ↦ omega arith ])
-    ∙ sym (getD-cut s a n j b′))
 
 pub same-true : (a b : List ℕ) → same a b ≡ true → a ≡ b
 unfolding same
@@ -178,11 +167,6 @@ cut-cut s a m b n h =
     drop-take (suc m) (suc b) [] = sym (take-nil (suc m - suc b))
     drop-take (suc m) (suc b) (x ∷ l) = let e : suc m - suc b ≡ m - b = omega arith in rw e (drop-take m b l)
 
--- a part that starts at or past the end is empty
-pub cut-past : (s : List ℕ) (at n : ℕ) → length s ≤ at → cut s at n ≡ []
-unfolding cut
-cut-past s at n h = ap (λ (l : List ℕ). take n l) (drop-of-length-le s {i = at} h) ∙ take-nil n
-
 -- a part from the start that is long enough is the whole
 pub cut-whole : (s : List ℕ) (n : ℕ) → length s ≤ n → cut s 0 n ≡ s
 unfolding cut
@@ -266,13 +250,6 @@ pub number-of-be : (k n : ℕ) → n < 256 ^ k → numberAt (be k n) 0 k ≡ n
 number-of-be k n h =
     let e : k - k ≡ 0 = omega arith in
     leading k k n (omega arith) ∙ rw (e, pow-zero, div-one) (mod-eq-of-lt h)
-
-pub number-pasted : (s : List ℕ) (at k n : ℕ) → at + k ≤ length s → n < 256 ^ k → numberAt (pasted s at (be k n)) at k ≡ n
-number-pasted s at k n l h =
-    let z = be-octets k n .size in
-    number-same (pasted s at (be k n)) (be k n) at 0 k
-    (λ i g. let e : 0 + i ≡ i = omega arith in getD-pasted-in s at (be k n) (omega arith) i (omega arith) ∙ ap (λ (j : ℕ). getD (be k n) j 0) (sym e))
-    ∙ number-of-be k n h
 
 -- ---- two parts side by side
 

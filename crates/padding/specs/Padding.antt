@@ -1,6 +1,6 @@
 -- FIPS 180-4, section 5.1.1, in bytes: the padding that SHA-1 and SHA-256 share.
 -- Assumes nothing.
-use mathlib.Core.List.{List, [], _∷_, _++_}
+use mathlib.Core.List.{List, _∷_, _++_}
 use Prim.Native.Nat.{ℕ, _-_, _*_, _%_}
 use lib.ListN.{length, replicate}
 use Rattle.octets.specs.Octets.{be}

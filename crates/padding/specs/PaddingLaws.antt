@@ -10,16 +10,6 @@ pub length-padding : (n : ℕ) → length (padding n) ≡ zeros n + 9
 unfolding padding
 length-padding n = simp (length-append, length-replicate) (omega arith)
 
--- the padding ends a block of 64 bytes
-pub padding-ends : (n : ℕ) → (n + length (padding n)) % 64 ≡ 0
-unfolding zeros
-padding-ends n = omega (arith, length-padding n)
-
--- with the fewest zeros
-pub zeros-least : (n k : ℕ) → (n + (k + 9)) % 64 ≡ 0 → zeros n ≤ k
-unfolding zeros
-zeros-least n k h = omega arith
-
 -- the last bytes of a message leave room for the count in their block, or do not
 pub zeros-short : (r n : ℕ) → r ≡ n % 64 → r < 56 → zeros n ≡ 56 - 1 - r
 unfolding zeros

@@ -1,7 +1,7 @@
 -- Laws of a message that comes in bursts: cutting it elsewhere leads to the same, and the end is the hash of the whole.
 -- Assumes nothing.
 use mathlib.Core.Path.{_≡_, refl, ap, ap₂, sym, _∙_}
-use mathlib.Core.List.{List, [], _++_, append-assoc, append-nil}
+use mathlib.Core.List.{List, _++_, append-assoc}
 use Prim.Native.Nat.{ℕ, _+_, _-_, _*_, _/_, _%_, _<_, _≤_}
 use native.Mathlib.Omega.{arith}
 use lib.ListN.{length, take, drop, length-append, length-drop}
@@ -68,13 +68,6 @@ module _ {S : Type 0} (f : S → List ℕ → S) where
       let a : r .tail ++ (xs ++ ys) ≡ (r .tail ++ xs) ++ ys = sym (append-assoc (r .tail) xs ys) in
       let n : r .total + length xs + length ys ≡ r .total + length (xs ++ ys) = omega (arith, length-append xs ys) in
       cc (whole-append (r .words) (r .tail ++ xs) ys, past-append (r .tail ++ xs) ys)
-
-  -- an empty burst changes nothing where less than a block waits
-  pub running-none : (r : Running S) → length (r .tail) < 64 → runningMore f r [] ≡ r
-  unfolding runningMore
-  running-none r h =
-      let n : r .total + 0 ≡ r .total = omega arith in
-      rw (append-nil (r .tail), whole-short f (r .words) (r .tail) h, past-short (r .tail) h, n)
 
   -- the end of what xs leads to is the whole message
   pub running-end : (z : S) (xs : List ℕ) → runningEnd f (runningOf f z xs) ≡ overMessage f z xs

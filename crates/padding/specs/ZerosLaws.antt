@@ -4,11 +4,11 @@ use mathlib.Core.Path.{_≡_, refl, ap, ap₂, sym, _∙_}
 use mathlib.Core.List.{List, _++_}
 use Prim.Native.Nat.{ℕ, _+_, _-_, _*_, _/_, _%_, _<_, _≤_}
 use native.Mathlib.Omega.{arith}
-use lib.ListN.{length, take, drop, replicate, length-append, length-drop, length-replicate, replicate-append-replicate}
+use lib.ListN.{length, take, drop, replicate, length-append, length-replicate, replicate-append-replicate}
 use lib.Seq.{take-all, take-at, drop-at, take-append-add, drop-append-add}
 use Rattle.padding.specs.Padding.{padding}
 use Rattle.padding.specs.Cutting.{overBlocks, overMessage}
-use Rattle.padding.specs.Running.{Running, wholeBlocks, pastBlocks, runningOf, runningMore, runningEnd}
+use Rattle.padding.specs.Running.{wholeBlocks, pastBlocks, runningOf, runningMore, runningEnd}
 use Rattle.padding.specs.RunningLaws.{past-size, past-short, whole-short, running-more, running-end, whole-first, past-first}
 
 -- the first k of n zeros, and those behind them

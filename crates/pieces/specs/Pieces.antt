@@ -2,7 +2,7 @@
 -- marks that a judgement sets. What a block or a piece gets is a matter of the cells alone.
 -- Assumes nothing.
 use mathlib.Core.List.{List}
-use mathlib.Core.Bool.{Bool, true, false, cond}
+use mathlib.Core.Bool.{true, cond}
 use Prim.Native.Nat.{ℕ, _-_, _*_}
 use lib.ListN.{length}
 use lib.Dec.{eqb, ltb}

@@ -1,31 +1,30 @@
 -- What follows from the definitions of Pieces: where a layer and a piece lie in the tree, what each number says, what loading a layer leaves.
 -- Assumes nothing.
 use mathlib.Core.Path.{_≡_, refl, ap, ap₂, sym, _∙_}
-use mathlib.Core.List.{List, [], _∷_}
-use mathlib.Core.Bool.{Bool, true, false, cond, _||_}
+use mathlib.Core.List.{List}
+use mathlib.Core.Bool.{Bool, true, false}
 use mathlib.Core.Logic.{_⊎_, inl, inr}
 use Prim.Native.Nat.{ℕ, _+_, _-_, _*_, _^_, _≤_, _<_}
 use native.Mathlib.Nat.{one-mul, mul-assoc}
-use native.Mathlib.Decide.{ℕ-discrete}
 use native.Mathlib.Omega.{arith}
-use lib.ListN.{length, getD}
+use lib.ListN.{length}
 use lib.Dec.{eqb, ltb}
 use lib.Pow.{pow-pos, pow-mono, pow-add}
 use borrow.Author.Tests.{ltb-true, ltb-false, eqb-true, lt-ltb, eq-eqb, ne-eqb}
 use Rattle.tree.specs.Geometry.{blockLength, Padding, covering, nodeNumber, hasLayer, pieceCount, blockSize, pieceSize}
-use Rattle.tree.specs.GeometryLaws.{ceil-least, covering-most, covering-within, covering-until-padding, long-file-height, node-number-root, node-number-range, node-number-layer, node-number-covers, piece-length-form}
-use Rattle.tree.specs.Values.{node, padValue, leafOf, layerLeaf, layerRoot}
+use Rattle.tree.specs.GeometryLaws.{ceil-least, covering-most, covering-within, covering-until-padding, long-file-height, node-number-root, node-number-layer, piece-length-form}
+use Rattle.tree.specs.Values.{node, padValue, leafOf, layerLeaf}
 use Rattle.tree.specs.ValuesLaws.{pad-octets, node-padding, layer-leaf-past}
 use Rattle.cells.specs.Cells.{Room, heldAt, hashAt}
-use Rattle.cells.specs.Entries.{Entry, agrees, putAll, fresh}
-use Rattle.cells.specs.EntriesLaws.{Sound, Hold, keeps, newly-none, count-fresh, putAll-length, In, Has, has-same, Apart, apart-consistent, entries-held, held-or-entry, putAll-other, FromRoot, from-root-in}
+use Rattle.cells.specs.Entries.{Entry, agrees, putAll}
+use Rattle.cells.specs.EntriesLaws.{Sound, Hold, keeps, newly-none, In, Has, has-same, Apart, apart-consistent, entries-held, held-or-entry, FromRoot, from-root-in}
 use Rattle.octets.specs.Octets.{same}
 use Rattle.octets.specs.OctetsLaws.{same-true, same-eq}
 use Rattle.sha256.specs.Sha256.{sha256}
-use Rattle.numbers.specs.Numbers.{refused, done, ruleBroken, wrongSize, noAnchor, differs, conflict, unusable, judged}
+use Rattle.numbers.specs.Numbers.{refused, ruleBroken, wrongSize, unusable}
 use Rattle.numbers.specs.NumbersLaws.{let-through, judged-zero}
-use Rattle.store.specs.Store.{usable, fileLength, pieceLength, blocksOf, heightOf, positions, storeSize, Facts, SameFacts}
-use Rattle.store.specs.StoreLaws.{usable-facts, facts-usable, facts-blocks-most, own-cells, putAll-same-facts, putAll-facts, putAll-past}
+use Rattle.store.specs.Store.{usable, fileLength, pieceLength, blocksOf, heightOf, positions, Facts, SameFacts}
+use Rattle.store.specs.StoreLaws.{usable-facts, facts-blocks-most, putAll-same-facts, putAll-facts}
 use Rattle.settling.specs.Span.{Within}
 use Rattle.settling.specs.Subtree.{subtree, runLeaf}
 use Rattle.settling.specs.SubtreeLaws.{run-leaf-length, within-tree, subtree-sound, subtree-apart, subtree-value, subtree-has, FamilyIn, subtree-family}
@@ -239,100 +238,14 @@ right-piece s i piece r =
     rw (r .store, lt-ltb i (pieceCount (fileLength s) (pieceLength s)) (r .inside), eq-eqb (length piece) (pieceSize (fileLength s) (pieceLength s) i) (r .size))
     (judged-enough s (leafOf piece) (pieceHeight s) (nodeNumber (heightOf s) (pieceHeight s) i) (r .node))
 
--- ---- which numbers there are
-
--- n is one of these numbers
-abbrev pub among : List ℕ → ℕ → Bool
-among [] n = false
-among (m ∷ ms) n = eqb n m || among ms n
-
-either : (ms : List ℕ) (t : Bool) (a n : ℕ) → among ms a ≡ true → among ms n ≡ true → among ms (cond t a n) ≡ true
-either ms true a n p q = p
-either ms false a n p q = q
-
-judged-among : (ms : List ℕ) → among ms 0 ≡ true → among ms noAnchor ≡ true → among ms differs ≡ true → among ms conflict ≡ true
-    → (a b c : Bool) → among ms (judged a b c) ≡ true
-judged-among ms p q r t true true true = p
-judged-among ms p q r t true true false = t
-judged-among ms p q r t true false c = r
-judged-among ms p q r t false b c = q
-
-judged-true : (ms : List ℕ) → among ms 0 ≡ true → among ms noAnchor ≡ true → among ms differs ≡ true → (a b : Bool) → among ms (judged a b true) ≡ true
-judged-true ms p q r true true = p
-judged-true ms p q r true false = r
-judged-true ms p q r false b = q
-
--- 9, 3, 4, 6, 7, 8 and 0, of a layer
-abbrev pub layerNumbers : List ℕ
-layerNumbers = 0 ∷ ruleBroken ∷ wrongSize ∷ noAnchor ∷ differs ∷ conflict ∷ unusable ∷ []
-
--- a layer gets one of these
-pub layer-numbers : (s layer : List ℕ) → among layerNumbers (layerNumber s layer) ≡ true
-unfolding layerNumber judgedAt
-layer-numbers s layer =
-    let leaf = layerLeaf layer (layerOfPieces s) in
-    let k = heightOf s - layerOfPieces s in
-    either layerNumbers (usable s) _ unusable
-    (either layerNumbers (hasLayer (fileLength s) (pieceLength s)) _ ruleBroken
-    (either layerNumbers (eqb (length layer) (32 * pieceCount (fileLength s) (pieceLength s))) _ wrongSize
-    (judged-among layerNumbers refl refl refl refl (heldAt s 1) (same (hashAt s 1) (node leaf k 0)) (agrees s (subtree leaf k 1 0)))
-    refl)
-    refl)
-    refl
-
--- of a block: nothing lies below a leaf that could differ, so never 8
-abbrev pub blockNumbers : List ℕ
-blockNumbers = 0 ∷ ruleBroken ∷ wrongSize ∷ noAnchor ∷ differs ∷ unusable ∷ []
-
--- a block gets one of these
-pub block-numbers : (s : List ℕ) (i : ℕ) (block : List ℕ) → among blockNumbers (blockNumber s i block) ≡ true
-unfolding blockNumber
-block-numbers s i block =
-    let n = nodeNumber (heightOf s) 0 i in
-    either blockNumbers (usable s) _ unusable
-    (either blockNumbers (ltb i (blocksOf s)) _ ruleBroken
-    (either blockNumbers (eqb (length block) (blockSize (fileLength s) i)) _ wrongSize
-    (judged-true blockNumbers refl refl refl (heldAt s n) (same (hashAt s n) (sha256 block)))
-    refl)
-    refl)
-    refl
-
--- of a piece: as of a layer
-abbrev pub pieceNumbers : List ℕ
-pieceNumbers = 0 ∷ ruleBroken ∷ wrongSize ∷ noAnchor ∷ differs ∷ conflict ∷ unusable ∷ []
-
--- a piece gets one of these
-pub piece-numbers : (s : List ℕ) (i : ℕ) (piece : List ℕ) → among pieceNumbers (pieceNumber s i piece) ≡ true
-unfolding pieceNumber judgedAt
-piece-numbers s i piece =
-    let k = pieceHeight s in
-    let n = nodeNumber (heightOf s) k i in
-    either pieceNumbers (usable s) _ unusable
-    (either pieceNumbers (ltb i (pieceCount (fileLength s) (pieceLength s))) _ ruleBroken
-    (either pieceNumbers (eqb (length piece) (pieceSize (fileLength s) (pieceLength s) i)) _ wrongSize
-    (judged-among pieceNumbers refl refl refl refl (heldAt s n) (same (hashAt s n) (node (leafOf piece) k 0)) (agrees s (subtree (leafOf piece) k n 0)))
-    refl)
-    refl)
-    refl
-
 -- ---- a piece's node in the tree
 
 module _ (s : List ℕ) (f : Facts s) (i : ℕ) (l : i < pieceCount (fileLength s) (pieceLength s)) where
-  -- in a file that has a layer it is number i of layer p, and no padding
-  pub piece-in-layer : hasLayer (fileLength s) (pieceLength s) ≡ true
-      → (nodeNumber (heightOf s) (pieceHeight s) i ≡ nodeNumber (heightOf s) (layerOfPieces s) i) × (i < covering (blocksOf s) (layerOfPieces s))
-  piece-in-layer t = (ap (λ (x : ℕ). nodeNumber (heightOf s) x i) (height-layer s f t), omega (arith, pieces-are s f))
-
   -- else the file has the one piece 0, and its node is the root
   pub piece-at-root : hasLayer (fileLength s) (pieceLength s) ≡ false → (i ≡ 0) × (nodeNumber (heightOf s) (pieceHeight s) i ≡ 1)
   piece-at-root t =
       let z : i ≡ 0 = omega (arith, one-piece-only s f t) in
       (z, ap₂ (λ (x y : ℕ). nodeNumber (heightOf s) x y) (height-root s f t) z ∙ node-number-root (heightOf s))
-
-  -- its number is that of a position of the tree
-  pub piece-position : (1 ≤ nodeNumber (heightOf s) (pieceHeight s) i) × (nodeNumber (heightOf s) (pieceHeight s) i < positions (heightOf s))
-  unfolding positions
-  piece-position = node-number-range (heightOf s) (pieceHeight s) i (piece-in s f i l .inside)
 
 -- ---- the positions that a layer settles
 
@@ -388,20 +301,6 @@ module _ (s layer : List ℕ) (f : Layered s) where
       let g : 2 ^ (heightOf s - w .l) ≤ 2 ^ (heightOf s - layerOfPieces s) = pow-mono (omega (arith, w .from)) in
       let n = node-number-layer (heightOf s) (w .l) (w .i) (w .inside) in
       (omega (arith, w .position, pow-pos (heightOf s - w .l)), omega (arith, w .position))
-
-  -- all of them
-  pub numbers-settled : (q : ℕ) → 1 ≤ q → q < 2 * 2 ^ (heightOf s - layerOfPieces s) → (v : List ℕ) × Has q v (layerSettled s layer)
-  unfolding nodeNumber
-  numbers-settled q a b =
-      let k = heightOf s - layerOfPieces s in
-      let w = node-number-covers k q a b in
-      let d : heightOf s - (w .0 + layerOfPieces s) ≡ k - w .0 = omega arith in
-      let e : nodeNumber (heightOf s) (w .0 + layerOfPieces s) (w .1) ≡ q = rw d (sym (w .4)) in
-      let v = node (layerLeaf layer (layerOfPieces s)) (w .0 + layerOfPieces s - layerOfPieces s) (w .1) in (
-        v,
-        has-same (layerSettled s layer) (nodeNumber (heightOf s) (w .0 + layerOfPieces s) (w .1)) q v v e refl
-            (layers-in-settled (w .0 + layerOfPieces s) (w .1) (omega arith) (omega (arith, w .2, f .above)) (rw d (w .3))),
-      )
 
   -- none of them twice
   pub settled-apart : Apart (layerSettled s layer)
@@ -469,11 +368,6 @@ module _ (s layer : List ℕ) (z : layerNumber s layer ≡ 0) where
   unfolding layerAfter
   layer-taken = rw (eq-eqb (layerNumber s layer) 0 z)
 
-  -- the hashes give the root that is held
-  pub layer-gives-root : (heldAt s 1 ≡ true) × (hashAt s 1 ≡ layerRoot layer (layerOfPieces s) (heightOf s))
-  unfolding layerRoot
-  layer-gives-root = (loaded .root .held, loaded .root .alike)
-
   -- the facts stay
   pub layer-same-facts : SameFacts s (layerAfter s layer)
   layer-same-facts = rw layer-taken (putAll-same-facts s (layers .facts) (layerSettled s layer) sound (settled-from-root s layer layers))
@@ -493,13 +387,6 @@ module _ (s layer : List ℕ) (z : layerNumber s layer ≡ 0) where
   pub layer-keeps : (q : ℕ) → q < positions (heightOf s) → heldAt s q ≡ true → (heldAt (layerAfter s layer) q ≡ true) × (hashAt (layerAfter s layer) q ≡ hashAt s q)
   layer-keeps q b h = rw layer-taken (keeps (positions (heightOf s)) (layerSettled s layer) s room sound agreed q b h)
 
-  -- what lies below layer p stays as it was
-  pub layer-leaves : (q : ℕ) → 2 * 2 ^ (heightOf s - layerOfPieces s) ≤ q → q < positions (heightOf s)
-      → (heldAt (layerAfter s layer) q ≡ heldAt s q) × (hashAt (layerAfter s layer) q ≡ hashAt s q)
-  layer-leaves q a b =
-      rw layer-taken (putAll-other (positions (heightOf s)) (layerSettled s layer) s room sound q b
-      (λ e x p. omega (arith, settled-numbers s layer layers e x)))
-
   -- so what is held then was held before, or is in layer p or above
   pub layer-only : (q : ℕ) → heldAt (layerAfter s layer) q ≡ true → (heldAt s q ≡ true) ⊎ ((1 ≤ q) × (q < 2 * 2 ^ (heightOf s - layerOfPieces s)))
   layer-only q h =
@@ -507,33 +394,3 @@ module _ (s layer : List ℕ) (z : layerNumber s layer ≡ 0) where
         | inl x ↦ inl x
         | inr o ↦ inr (settled-numbers s layer layers (record { at = q; hash = o .0 }) (o .1))
       ]
-
-  -- the count is the settled positions that were not held
-  pub layer-count : layerAnswer s layer ≡ done (fresh s (layerSettled s layer))
-  unfolding layerAnswer
-  layer-count = rw (z, layer-taken, count-fresh (positions (heightOf s)) (layerSettled s layer) s room sound (settled-from-root s layer layers))
-
--- ---- whatever the number
-
-module _ (s layer : List ℕ) where
-  by-number : (P : List ℕ → Type 0) → P s → (layerNumber s layer ≡ 0 → P (layerAfter s layer)) → P (layerAfter s layer)
-  by-number P same f =
-      elim (ℕ-discrete (layerNumber s layer) 0) [ yes z ↦ f z | no ne ↦ rw (layer-refused s layer ne) same ]
-
-  -- the buffer keeps its length
-  pub layer-length : length (layerAfter s layer) ≡ length s
-  layer-length =
-      by-number (λ t. length t ≡ length s) refl
-      (λ z. rw (layer-taken s layer z) (putAll-length (positions (heightOf s)) (layerSettled s layer) s (room s layer z) (sound s layer z)))
-
-  -- is usable as before
-  pub layer-usable : usable (layerAfter s layer) ≡ usable s
-  layer-usable =
-      by-number (λ t. usable t ≡ usable s) refl
-      (λ z. facts-usable (layerAfter s layer) (layer-facts s layer z) ∙ sym (loaded s layer z .store))
-
-  -- and keeps its bytes past the store's size
-  pub layer-past : (i : ℕ) → storeSize (fileLength s) ≤ i → getD (layerAfter s layer) i 0 ≡ getD s i 0
-  layer-past i l =
-      by-number (λ t. getD t i 0 ≡ getD s i 0) refl
-      (λ z. rw (layer-taken s layer z) (putAll-past (positions (heightOf s)) (layerSettled s layer) s (room s layer z) (sound s layer z) i (omega (arith, own-cells s))))

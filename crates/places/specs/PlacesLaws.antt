@@ -3,20 +3,18 @@
 use mathlib.Core.Path.{_≡_, refl, ap, sym, _∙_}
 use mathlib.Core.Bool.{Bool, true, false, cond, _&&_, and-eq-true-iff}
 use mathlib.Core.List.{List}
-use Prim.Native.Nat.{ℕ, zero, suc, _+_, _-_, _*_, _/_, _%_, _≤_, _<_}
+use Prim.Native.Nat.{ℕ, zero, suc, _+_, _-_, _*_, _%_, _≤_, _<_}
 use native.Mathlib.Nat.{mul-le-mul-left, mul-one}
 use native.Mathlib.Numerals.{add-one}
 use native.Mathlib.Omega.{arith}
 use lib.ListN.{length}
-use lib.Dec.{eqb, leb, ltb}
+use lib.Dec.{eqb, leb}
 use borrow.Author.Tests.{eq-eqb, ne-eqb, eqb-true, le-leb, lt-leb, leb-true, lt-ltb, le-ltb}
 use Rattle.limits.specs.Limits.{longestFile, largestTorrent}
 use Rattle.numbers.specs.Numbers.{refused, done, wrongSize, pieceLengthOutOfRange, noSuchPart}
-use Rattle.numbers.specs.declared.Answer.{Answer}
 use Rattle.tree.specs.Geometry.{isPieceLength, pieceCount}
 use Rattle.tree.specs.GeometryLaws.{ceil-least, piece-some}
 use Rattle.catalogue.specs.Catalogue.{recordSize}
-use Rattle.places.specs.declared.Placed.{Placed}
 use Rattle.places.specs.Places.{filesIn, lengthOf, lengthsRight, listRight, listNumber, piecesOf, piecesBefore, firstAnswer, noPlace, placeAt, placeFrom, placeAnswer}
 
 -- ---- lengths
@@ -91,13 +89,6 @@ list-formed list e =
       few = leb-true (filesIn list) largestTorrent (q .0);
       lengths = λ n l. (let z : 0 + n ≡ n = omega arith in rw z at (length-within list 0 (filesIn list) n (q .1) l));
     }
-
-lengths-all : (list : List ℕ) (n c : ℕ) → ((k : ℕ) → k < n + c → lengthOf list k ≤ longestFile) → lengthsRight list n c ≡ true
-lengths-all list n zero f = lengths-none list n
-lengths-all list n (suc c) f = lengths-step list n c (f n (omega arith)) ∙ lengths-all list (suc n) c (λ k l. f k (omega arith))
-
-pub formed-list : (list : List ℕ) → ListFormed list → listRight list ≡ true
-formed-list list f = list-parts list (f .whole) (f .few) ∙ lengths-all list 0 (filesIn list) (λ k l. f .lengths k (omega arith))
 
 -- ---- 4, 24 or 0
 

@@ -7,15 +7,15 @@ use mathlib.Core.Logic.{_↔_}
 use Prim.Native.Nat.{ℕ, zero, suc, _+_, _-_, _≤_, _<_}
 use native.Mathlib.Omega.{arith}
 use native.Mathlib.Decide.{ℕ-discrete, decLt}
-use lib.Dec.{eqb, ltb}
+use lib.Dec.{ltb}
 use borrow.Author.Tests.{lt-ltb, le-ltb, ltb-true, ltb-false}
-use Rattle.numbers.specs.Numbers.{InTable, refused, done, wrongSize, pieceLengthOutOfRange, noSuchPart}
+use Rattle.numbers.specs.Numbers.{InTable, done, wrongSize, pieceLengthOutOfRange, noSuchPart}
 use Rattle.numbers.specs.Chain.{Chain, last, test, decided, exactly-of, in-table-of}
 use Rattle.numbers.specs.declared.Answer.{Answer}
 use Rattle.tree.specs.Geometry.{isPieceLength}
 use Rattle.places.specs.declared.Placed.{Placed}
 use Rattle.places.specs.Places.{filesIn, listRight, listNumber, piecesOf, piecesBefore, firstAnswer, noPlace, placeAt, placeFrom, placeAnswer}
-use Rattle.places.specs.PlacesLaws.{number-right, before-more, first-refused, first-past, first-done, place-refused, place-found}
+use Rattle.places.specs.PlacesLaws.{before-more, first-refused, first-past, first-done, place-refused, place-found}
 
 -- piece i of file f is piece number n of the wire: file f is in the list and has that piece, and n counts the pieces of the files before it
 pub record At (list : List ℕ) (plen n f i : ℕ) : Type 0 where

@@ -1,5 +1,5 @@
 -- 00, demand 1, sentence by sentence. Its words: crates/words, files History (the calls), Answers (the table).
--- (The torrent calls: crates/calls and crates/published. The calls that take bursts: Running.)
+-- (The torrent calls: crates/calls and crates/writer_promises. The calls that take bursts: Running.)
 -- Assumes nothing.
 use mathlib.Core.Path.{_≡_}
 use mathlib.Core.Bool.{true}

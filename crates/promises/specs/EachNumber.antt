@@ -1,6 +1,6 @@
 -- 01, "Numbers given back", and 02, requests 7 and 12: each number by entry point, exactly when it is given, in the order of 01. "Held" is what
 -- kd_held answers.
--- (The numbers of the torrent calls: crates/calls, file EachNumber, and crates/published; of the calls that take bursts: Running.)
+-- (The numbers of the torrent calls: crates/calls, file EachNumber, and crates/writer_promises; of the calls that take bursts: Running.)
 -- Assumes nothing.
 use mathlib.Core.Path.{_≡_, refl}
 use mathlib.Core.Bool.{true, false}

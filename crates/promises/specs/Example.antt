@@ -1,4 +1,4 @@
--- A message that is taken: two leaves below the root of a file of two (blocks buffer (pairHash a b) fits root-size), on a (opened buffer 32768 16384 (pairHash a b)) store. So what the theorems say of taken
+-- A message that is taken: two leaves below the root of a file of two blocks, on a store opened for it. So what the theorems say of taken
 -- messages is said of something.
 -- Assumes nothing.
 use mathlib.Core.Path.{_≡_, refl, ap, ap₂, sym, _∙_}
@@ -32,7 +32,7 @@ use Rattle.promises.specs.TwoBlocks.{high, blocks, store, root-is, held,
 abbrev numbers : List ℕ
 numbers = 0 ∷ 0 ∷ 0 ∷ 0 ∷ 0 ∷ 0 ∷ 0 ∷ 0 ∷ 0 ∷ 0 ∷ 0 ∷ 2 ∷ 0 ∷ 0 ∷ 0 ∷ 0 ∷ []
 
--- (0,0,2,0): the two leaves of a file of two (blocks buffer (pairHash a b) fits root-size)
+-- (0,0,2,0): the two leaves of a file of two blocks
 abbrev pub twoLeaves : List ℕ → List ℕ → List ℕ
 twoLeaves a b = twoHashes (pairHash a b) numbers a b
 

@@ -1,4 +1,4 @@
--- A layer that is loaded: the two leaves of a file of two blocks, each a piece, on a (opened buffer 32768 16384 (pairHash a b)) store. So what the theorems say of loaded
+-- A layer that is loaded: the two leaves of a file of two blocks, each a piece, on a store opened for it. So what the theorems say of loaded
 -- layers is said of something.
 -- Assumes nothing.
 use mathlib.Core.Path.{_≡_, ap, sym, _∙_, subst}

@@ -1,24 +1,24 @@
 -- The premises of Saved can be met: a marked block that is marked still after a save and a load; and saved bytes that are 32 to a load and that a repair
 -- takes, dropping something.
 -- Assumes nothing.
-use mathlib.Core.Path.{_≡_, refl, ap, sym, _∙_, subst}
+use mathlib.Core.Path.{_≡_, refl, ap, sym, _∙_}
 use mathlib.Core.Bool.{true}
-use mathlib.Core.List.{List, [], _∷_, _++_}
+use mathlib.Core.List.{List, [], _∷_}
 use mathlib.Core.Logic.{inr}
 use Prim.Native.Nat.{ℕ, zero, suc, _+_, _-_, _*_, _^_, _≤_, _<_}
 use native.Mathlib.Omega.{arith}
-use lib.ListN.{length, length-append, replicate, length-replicate, getD}
+use lib.ListN.{length, length-append, replicate, length-replicate}
 use lib.Dec.{lit<}
-use Rattle.octets.specs.Octets.{Octets, zeroHash}
+use Rattle.octets.specs.Octets.{zeroHash}
 use Rattle.octets.specs.OctetsLaws.{zero-octets}
 use Rattle.numbers.specs.Numbers.{done, notSaved}
 use Rattle.tree.specs.Geometry.{ceilDiv, blockCount, heightFrom, height}
 use Rattle.settling.specs.Path.{sibling}
 use Rattle.settling.specs.PathLaws.{sibling-even}
-use Rattle.store.specs.Store.{usable, fileLength, storeSize, factsInRange}
+use Rattle.store.specs.Store.{fileLength, storeSize}
 use Rattle.store.specs.StoreLaws.{facts-usable, blocks-most, height-most}
 use Rattle.marks.specs.Marks.{markedAnswer}
-use Rattle.saved.specs.Form.{Place, Saved, savedBytes, rank, Rising, none, more, RisingBlocks, Ordered, lengthIn, pieceLengthIn, rootIn, blocksIn, heightIn, placeCount, layerIn, indexIn, hashIn, formed, placeIn, placesTo, valueIn, Placed}
+use Rattle.saved.specs.Form.{Place, Saved, savedBytes, rank, Rising, none, more, Ordered, lengthIn, pieceLengthIn, rootIn, heightIn, placeCount, layerIn, indexIn, formed, placeIn, placesTo, valueIn}
 use Rattle.saved.specs.ReadLaws.{read-back}
 use Rattle.saved.specs.Save.{saveAnswer}
 use Rattle.saved.specs.Saved.{loadAnswer, loadAfter, repairAnswer}
@@ -29,7 +29,7 @@ use Rattle.knowledge.specs.OwnBytes.{ours-have, ours-bytes}
 use Rattle.knowledge.specs.OursMeet.{ours-meet}
 use Rattle.knowledge.specs.RootAlone.{range-exactly}
 use Rattle.knowledge.specs.SaveBytes.{ordered-bytes}
-use Rattle.promises.specs.Blank.{blank, blank-room, zero-bytes}
+use Rattle.promises.specs.Blank.{blank, blank-room}
 use Rattle.promises.specs.TwoBlocks.{range}
 use Rattle.promises.specs.Saved.{save-0, save-fits, save-loads, loads-same-marks, form-exactly, load-32, load-0, repair-0, load-drops-nothing}
 

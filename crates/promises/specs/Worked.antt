@@ -15,7 +15,6 @@ use Rattle.tree.specs.Values.{piecesRoot}
 use Rattle.store.specs.Store.{usable, fileLength, factsRoot, blocksOf, heightOf, positions, factsInRange, storeSize, opened, heldAnswer}
 use Rattle.settling.specs.Path.{sibling, ancestor}
 use Rattle.header.specs.declared.Header.{Header}
-use Rattle.header.specs.declared.Place.{Place}
 use Rattle.header.specs.Header.{headerSize, headerOf, messageRoot, isRequest, lengthRule, indexRule, rulesKept, placeOf, messageSize}
 use Rattle.header.specs.HeaderLaws.{rules-kept}
 use Rattle.messages.specs.Take.{anchor, takeAnswer, rejectAnswer}

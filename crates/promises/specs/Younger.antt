@@ -3,7 +3,7 @@
 -- store that only this build has written (`OurStore`); "held" is what kd_held answers. Its words: crates/words, file Younger; its definition:
 -- crates/extends, file Extends. It writes nothing: it is lent the store as `&`.
 -- Assumes nothing.
-use mathlib.Core.Path.{_≡_, ap, ap₂, sym, _∙_}
+use mathlib.Core.Path.{_≡_, ap, sym, _∙_}
 use mathlib.Core.Bool.{true, false}
 use mathlib.Core.List.{List, _++_}
 use mathlib.Core.Logic.{_⊎_, inl, inr, _↔_}

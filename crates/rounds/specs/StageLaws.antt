@@ -80,3 +80,7 @@ roundsBy-more xs z s i e = rw (add-one i) (cc)
 
 pub roundsBy-at : {s : State} (xs : List ℕ) (z : State) (i j : ℕ) → s ≡ roundsBy xs i z → i ≡ j → s ≡ roundsBy xs j z
 roundsBy-at {s} xs z i j h e = subst (λ (n : ℕ). s ≡ roundsBy xs n z) e h
+
+-- the round behind k of them, counted from i
+pub roundsBy-next : {s : State} (xs : List ℕ) (z : State) (i k : ℕ) → s ≡ roundsBy xs (i + k + 1) z → s ≡ roundsBy xs (i + (k + 1)) z
+roundsBy-next xs z i k h = roundsBy-at xs z (i + k + 1) (i + (k + 1)) h (omega arith)

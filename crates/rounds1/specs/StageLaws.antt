@@ -1,26 +1,20 @@
 -- Laws of SHA-1's message schedule and of its rounds.
 -- Assumes nothing.
 use mathlib.Core.Path.{_≡_, refl, ap, sym, subst, _∙_}
-use mathlib.Core.List.{List, [], _∷_, _++_}
-use Prim.Native.Nat.{ℕ, zero, suc, _+_, _-_, _<_, _≤_}
+use mathlib.Core.List.{List}
+use Prim.Native.Nat.{ℕ, suc, _+_, _-_, _<_, _≤_}
 use native.Mathlib.Omega.{arith}
 use native.Mathlib.Numerals.{add-one}
-use lib.ListN.{length, getD, take, set, length-append, length-set}
+use lib.ListN.{length, getD, take, set, length-set}
 use lib.Seq.{take-all, take-suc-set, getD-take}
 use borrow.Author.Tests.{lt-ltb, le-ltb}
 use Rattle.bits.specs.Words.{Ch, Maj}
 use Rattle.bits.specs.Parsing.{words}
-use Rattle.bits.specs.ParsingLaws.{length-words}
 use Rattle.rounds1.specs.declared.Five.{Five}
 use Rattle.bits.specs.Words.{Parity}
 use Rattle.rounds1.specs.Words.{f, K}
 use Rattle.rounds1.specs.Block.{next, schedule, turn, rounds}
 use Rattle.rounds1.specs.Stage.{Stage, ByParity}
-
-pub length-schedule : (n : ℕ) (m : List ℕ) → length (schedule n m) ≡ 16 + n
-unfolding schedule
-length-schedule zero m = length-words 16 m
-length-schedule (suc n) m = simp (length-append, length-schedule n m) (omega arith)
 
 -- ---- the schedule
 

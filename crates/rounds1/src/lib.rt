@@ -4,7 +4,6 @@ ghost use Prim.Native.Nat.{ℕ, _+_, _*_, _<_, _≤_};
 ghost use mathlib.Core.List.{List};
 ghost use lib.ListN.{length, take, drop, set};
 ghost use Rattle.bits.specs.Parsing.{words};
-ghost use Rattle.rounds1.specs.Words as W;
 ghost use Rattle.rounds1.specs.Block as S;
 ghost use Rattle.rounds1.specs.Stage.{Stage, ByParity};
 ghost use Rattle.rounds1.specs.declared.Five as D;

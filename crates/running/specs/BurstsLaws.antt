@@ -90,11 +90,6 @@ unfolding absorbed hashOf
 same-said s t ys e =
     (ap (λ (r : Running State). saying (runningMore (compress K) r ys)) e, ap (λ (r : Running State). digest (runningEnd (compress K) r)) e)
 
--- bytes of the tail behind its length are zero in every state that we make
-pub zero-behind : (r : Running State) → saying r .tail ≡ r .tail ++ replicate (64 - saying r .«tail_size») 0
-unfolding saying tailArray
-zero-behind r = refl
-
 -- ---- which number is given
 
 -- what possible counts are

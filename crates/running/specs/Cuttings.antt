@@ -67,11 +67,6 @@ any-cutting bs t =
     let r = after-all [] bs (omega arith) t in
     ap endAnswer (r .0) ∙ sym (end-done (stateOf (joined bs)) (sha256 (joined bs)) (state-possible (joined bs) (r .1)) (sym (hash-of-state (joined bs))))
 
--- and two cuttings of one string end in the same state
-pub same-state : (cs bs : List (List ℕ)) → joined cs ≡ joined bs → AllTaken (stateOf []) cs → AllTaken (stateOf []) bs
-    → afterAll (stateOf []) cs ≡ afterAll (stateOf []) bs
-same-state cs bs e t u = after-all [] cs (omega arith) t .0 ∙ ap stateOf e ∙ sym (after-all [] bs (omega arith) u .0)
-
 -- no burst is refused while all of them together are a string that SHA-256 takes
 pub all-taken : (xs : List ℕ) (bs : List (List ℕ)) → length (xs ++ joined bs) < suc longestHashed → AllTaken (stateOf xs) bs
 unfolding AllTaken joined

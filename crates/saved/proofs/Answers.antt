@@ -1,20 +1,18 @@
 -- What each function answers, from what its callees ensure and the tests it took: every answer is one case of the definition.
 use mathlib.Core.Path.{_≡_, refl, ap, ap₂, sym, _∙_}
-use mathlib.Core.List.{List, [], _∷_, _++_, append-assoc, append-nil}
+use mathlib.Core.List.{List}
 use mathlib.Core.Bool.{Bool, true, false, cond, _&&_, and-eq-true-iff}
 use Prim.Native.Nat.{ℕ, zero, suc, _+_, _-_, _*_, _/_, _%_, _^_, _≤_, _<_}
 use native.Mathlib.Omega.{arith}
 use native.Mathlib.Decide.{ℕ-discrete}
 use native.Mathlib.Numerals.{add-one}
-use lib.ListN.{length, getD, set, take, drop, length-append, length-set}
-use lib.Seq.{set-split, append-snoc}
+use lib.ListN.{length, getD}
 use lib.Dec.{eqb, leb, ltb}
 use lib.Pow.{pow-mono}
-use borrow.Author.Tests.{eq-eqb, ne-eqb, eqb-true, lt-ltb, le-ltb, le-leb, lt-leb, leb-true}
+use borrow.Author.Tests.{eq-eqb, ne-eqb, eqb-true, lt-ltb, le-ltb, le-leb, lt-leb}
 use Rattle.octets.specs.Octets.{same}
 use Rattle.sha256.specs.Sha256.{pairHash}
 use Rattle.tree.specs.Geometry.{covering}
-use Rattle.tree.specs.GeometryLaws.{shifted-one}
 use Rattle.tree.specs.Values.{padValue}
 use Rattle.numbers.specs.Numbers.{refused, done, unusable, factsOutOfRange, notSaved}
 use Rattle.numbers.specs.declared.Answer.{Answer}
@@ -35,15 +33,15 @@ use Rattle.saved.specs.SoundExactly.{root-says}
 use Rattle.saved.specs.MendedLaws.{mended-yes, mended-no, mended-none, mended-one, many-yes, many-no, many-none, many-one}
 use Rattle.cells.specs.Cells.{heldAt, hashAt}
 use Rattle.saved.specs.Saved.{entriesIn, withPlace, marksSet, loaded, loadAnswer, loadAfter}
-use Rattle.saved.specs.LoadLaws.{put-next, put-none, marks-set-none, marks-set-next, marks-set-same, mark-fits, Opens, opening-says, root-long, first, first-facts, first-height, first-room, first-length, second, second-facts, second-marks, second-length}
+use Rattle.saved.specs.LoadLaws.{put-next, marks-set-next, marks-set-same, mark-fits, Opens, opening-says, first, first-room, second, second-facts, second-marks}
 use Rattle.cells.specs.Cells.{Room, put}
 use Rattle.cells.specs.Entries.{putAll}
 use Rattle.marks.specs.Marks.{marked, marksStart, marksPut}
 use Rattle.marks.specs.MarksLaws.{mark-in}
 use Rattle.tree.specs.Geometry.{nodeNumber}
 use Rattle.tree.specs.GeometryLaws.{node-number-range}
-use Rattle.store.specs.Store.{usable, blocksOf, heightOf, positions, opened, openAfter, Facts}
-use Rattle.store.specs.StoreLaws.{facts-usable, open-done}
+use Rattle.store.specs.Store.{blocksOf, heightOf, positions, opened, openAfter, Facts}
+use Rattle.store.specs.StoreLaws.{open-done}
 use Rattle.saved.specs.RankLaws.{rank-most, width-most}
 use Rattle.saved.specs.SoundLaws.{place-at}
 use Rattle.saved.specs.ClaimedLaws.{claimed-none}
@@ -453,10 +451,6 @@ formed-sized b t e f =
 module _ (b : List ℕ) (h k l i : ℕ) (el : l ≡ layerIn b k) (ei : i ≡ indexIn b k) (t : inTree h (layerIn b k) (indexIn b k) ≡ true) where
   pub place-range : (l ≤ h) × (i < 2 ^ (h - l))
   place-range = let w = tree-says h (layerIn b k) (indexIn b k) t in (omega arith, rw (el, ei) (w .1))
-
-  pub place-room : (s : List ℕ) (n : ℕ) → n ≡ nodeNumber h l i → Room (positions h) s → Room (n + 1) s
-  unfolding positions
-  place-room s n e r = omega (arith, node-number-range h l i (place-range .1))
 
   pub place-put : (s s′ : List ℕ) (n : ℕ) (v : List ℕ) → n ≡ nodeNumber h l i → v ≡ hashIn b k → s′ ≡ put s n v → s′ ≡ withPlace h b s k
   place-put s s′ n v en ev e = e ∙ ap₂ (put s) (en ∙ ap₂ (nodeNumber h) el ei) ev

@@ -1,7 +1,7 @@
 -- What saving answers and writes, from what the callees ensure and the tests it took: records one behind the other.
 use mathlib.Core.Path.{_≡_, refl, ap, ap₂, sym, _∙_}
 use mathlib.Core.List.{List, [], _∷_, _++_, append-assoc, append-nil}
-use mathlib.Core.Bool.{Bool, true, false, cond, _&&_}
+use mathlib.Core.Bool.{Bool, true, false, cond}
 use Prim.Native.Nat.{ℕ, zero, suc, _+_, _-_, _*_, _%_, _^_, _≤_, _<_}
 use native.Mathlib.Omega.{arith}
 use native.Mathlib.Decide.{ℕ-discrete}
@@ -20,7 +20,7 @@ use Rattle.tree.specs.GeometryLaws.{node-number-range, shifted-one}
 use Rattle.cells.specs.Cells.{Room, heldAt, hashAt}
 use Rattle.cells.specs.CellsLaws.{hash-length}
 use Rattle.store.specs.Store.{usable, fileLength, pieceLength, factsRoot, blocksOf, heightOf, positions, Facts}
-use Rattle.store.specs.StoreLaws.{usable-facts, facts-height, facts-leaves, facts-blocks-most}
+use Rattle.store.specs.StoreLaws.{usable-facts, facts-height, facts-leaves}
 use Rattle.marks.specs.Marks.{marksStart, markedAt, marksPut}
 use Rattle.saved.specs.Form.{Place, openingBytes, placeBytes, placesBytes, markBytes, marksBytes, endBytes, savedBytes}
 use Rattle.saved.specs.Save.{placeHeld, layerHeld, heldBelow, blockMarked, markedBelow, savedOf, saveAnswer, saveAfter}

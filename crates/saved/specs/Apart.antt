@@ -1,21 +1,20 @@
 -- What a host that loses power can rely on: a saved store that was cut short is never loaded or repaired; and neither a store is taken for a saved
 -- one nor a saved one for a store.
 -- Assumes nothing.
-use mathlib.Core.Path.{_≡_, refl, ap, sym, _∙_}
-use mathlib.Core.Bool.{Bool, true, false, false≢true, _&&_, and-eq-true-iff}
+use mathlib.Core.Path.{_≡_, refl}
+use mathlib.Core.Bool.{Bool, true, false, and-eq-true-iff}
 use mathlib.Core.List.{List}
-use Prim.Native.Nat.{ℕ, zero, suc, _+_, _-_, _*_, _^_, _≤_, _<_}
+use Prim.Native.Nat.{ℕ, zero, suc, _+_, _-_, _<_}
 use native.Mathlib.Omega.{arith}
 use lib.ListN.{length, getD, take}
 use lib.Dec.{eqb, leb}
 use borrow.Author.Tests.{eqb-true, ne-eqb}
 use Rattle.octets.specs.Octets.{numberAt}
-use Rattle.limits.specs.Limits.{longestFile}
-use Rattle.store.specs.Store.{fileLength, usable, Facts}
+use Rattle.store.specs.Store.{fileLength, usable}
 use Rattle.store.specs.StoreLaws.{usable-facts}
-use Rattle.saved.specs.Form.{blocksIn, heightIn, opens, formed}
+use Rattle.saved.specs.Form.{opens, formed}
 use Rattle.numbers.specs.Numbers.{notSaved}
-use Rattle.saved.specs.Saved.{openingNumber, rootRight, chained, sound, loadNumber, rooted, repairNumber}
+use Rattle.saved.specs.Saved.{openingNumber, sound, loadNumber}
 use Rattle.saved.specs.PrefixLaws.{cut-short-not-formed}
 
 unformed : (b : List ℕ) (k : ℕ) → formed b ≡ true → k < length b → formed (take k b) ≡ false
@@ -32,17 +31,6 @@ cut-short-not-loaded s b k g l z = by (openingNumber (length s) (take k b)) refl
   where
     no : sound (take k b) ≡ false
     no = let e = unformed b k g l in unfold sound in rw e
-
-    by : (n : ℕ) → openingNumber (length s) (take k b) ≡ n → ⊥
-    by zero e = let w : notSaved ≡ 0 = rw (e, no) at z in omega arith
-    by (suc n) e = let q : eqb (suc n) 0 ≡ false = ne-eqb (suc n) 0 (λ x. omega arith) in let w : suc n ≡ 0 = rw (e, q) at z in omega arith
-
--- and never repaired
-pub cut-short-not-repaired : (s b : List ℕ) (k : ℕ) → formed b ≡ true → k < length b → repairNumber s (take k b) ≡ 0 → ⊥
-cut-short-not-repaired s b k g l z = by (openingNumber (length s) (take k b)) refl
-  where
-    no : rooted (take k b) ≡ false
-    no = let e = unformed b k g l in unfold rooted in rw e
 
     by : (n : ℕ) → openingNumber (length s) (take k b) ≡ n → ⊥
     by zero e = let w : notSaved ≡ 0 = rw (e, no) at z in omega arith

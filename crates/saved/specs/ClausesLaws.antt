@@ -1,18 +1,18 @@
 -- What the repair keeps is the largest part of a set that may be loaded; a set may be loaded exactly if all of it is kept.
 -- Assumes nothing.
-use mathlib.Core.Path.{_≡_, refl, ap, ap₂, sym, _∙_, subst}
+use mathlib.Core.Path.{_≡_, refl, ap, _∙_, subst}
 use mathlib.Core.List.{List}
-use mathlib.Core.Logic.{_↔_, _⊎_, inl, inr}
+use mathlib.Core.Logic.{_↔_, inl, inr}
 use Prim.Native.Nat.{ℕ, zero, suc, _+_, _-_, _*_, _/_, _%_, _^_, _≤_, _<_}
 use native.Mathlib.Omega.{arith}
-use native.Mathlib.Decide.{ℕ-discrete, decLt}
+use native.Mathlib.Decide.{ℕ-discrete}
 use native.Mathlib.Nat.{pow-zero}
 use Rattle.sha256.specs.Sha256.{pairHash}
 use Rattle.tree.specs.Geometry.{Padding}
 use Rattle.tree.specs.Values.{padValue}
 use Rattle.settling.specs.Path.{sibling}
 use Rattle.settling.specs.PathLaws.{sibling-even, sibling-odd}
-use Rattle.saved.specs.Clauses.{Hashes, Clauses, InTree, Within, Children, Kept, top, child}
+use Rattle.saved.specs.Clauses.{Hashes, Clauses, InTree, Within, Kept, top, child}
 
 -- the only position of layer h is number 0
 pub root-alone : (h i : ℕ) → i < 2 ^ (h - h) → i ≡ 0
@@ -29,9 +29,6 @@ module _ (h b : ℕ) (root : List ℕ) (R : Hashes) where
   kept-within l j v (child i x y lt C K (inr w)) = rw (w .0, w .1) (C .right)
 
   module _ (T : InTree h R) where
-    kept-one : (l j : ℕ) (v w : List ℕ) → Kept h b root R l j v → Kept h b root R l j w → v ≡ w
-    kept-one l j v w a c = T .one l j v w (kept-within l j v a) (kept-within l j w c)
-
     kept-beside : (l j : ℕ) (v : List ℕ) → l < h → Kept h b root R l j v → (y : List ℕ) × Kept h b root R l (sibling j) y
     kept-beside l j v lt (top p q r x) = absurd (omega arith)
     kept-beside l j v lt (child i x y l2 C K (inl w)) =

@@ -1,6 +1,6 @@
 -- The count beside a load: as many positions are held then as the bytes name. And the marks of a store that was saved and loaded are the same.
 -- Assumes nothing.
-use mathlib.Core.Path.{_≡_, refl, ap, ap₂, sym, _∙_, subst}
+use mathlib.Core.Path.{_≡_, refl, ap, sym, _∙_, subst}
 use mathlib.Core.Bool.{Bool, true, false, cond}
 use mathlib.Core.List.{List, [], _∷_, _++_}
 use mathlib.Core.Logic.{_↔_, _⊎_, inl, inr}
@@ -12,18 +12,16 @@ use lib.ListN.{length, getD, length-append}
 use lib.Pow.{pow-pos}
 use Rattle.tree.specs.Geometry.{nodeNumber}
 use Rattle.tree.specs.GeometryLaws.{layer-doubles}
-use Rattle.cells.specs.Cells.{heldAt, hashAt}
+use Rattle.cells.specs.Cells.{heldAt}
 use Rattle.cells.specs.Entries.{oneIf}
-use Rattle.store.specs.Store.{blocksOf, heightOf, factsRoot, positions, Facts}
+use Rattle.store.specs.Store.{blocksOf, heightOf, positions, Facts}
 use Rattle.store.specs.StoreLaws.{heldCount}
 use Rattle.marks.specs.Marks.{markedAt}
-use Rattle.saved.specs.Clauses.{Clauses}
-use Rattle.saved.specs.Form.{Place, Saved, savedBytes, blocksIn, heightIn, markCount, placeCount, blockIn, placesTo, marksTo, marksFrom, valueIn, NamesMark}
+use Rattle.saved.specs.Form.{Saved, savedBytes, markCount, placeCount, blockIn, placesTo, marksTo, marksFrom, valueIn, NamesMark}
 use Rattle.saved.specs.Saved.{openingNumber, sound, loaded}
 use Rattle.saved.specs.Save.{placeHeld, layerHeld, heldBelow, markedBelow, savedOf}
-use Rattle.saved.specs.RoundTrip.{loaded-height, saved-of-loaded, loaded-marks}
-use Rattle.saved.specs.SaveLaws.{saved-reads, read-blocks}
-use Rattle.saved.specs.Promises.{HeldIn, saved-loads}
+use Rattle.saved.specs.RoundTrip.{saved-of-loaded}
+use Rattle.saved.specs.SaveLaws.{saved-reads}
 
 module _ (s : List ℕ) (h : ℕ) where
   count-next : (k : ℕ) → heldCount (suc k) s ≡ heldCount k s + oneIf (heldAt s (suc k))
@@ -172,12 +170,3 @@ module _ (s : List ℕ) (f : Facts s) (bytes : (i : ℕ) → getD s i 0 < 256) w
       let n = named-exactly (savedBytes (savedOf s)) (marksFrom (savedBytes (savedOf s))) (markCount (savedBytes (savedOf s))) j in
       let m = marked-exactly s (blocksOf s) j in
       (λ x. m .0 (subst (InBlocks j) read-marks (n .1 x)), λ x. n .0 (subst (InBlocks j) (sym read-marks) (m .1 x)))
-
--- THE SAME MARKS after saving and loading
-module _ (s : List ℕ) (f : Facts s) (bytes : (i : ℕ) → getD s i 0 < 256) (K : Clauses (heightOf s) (blocksOf s) (factsRoot s) (HeldIn s)) (t : List ℕ)
-    (z : openingNumber (length t) (savedBytes (savedOf s)) ≡ 0) where
-  pub same-marks : (j : ℕ) → j < blocksOf s → (markedAt (loaded t (savedBytes (savedOf s))) j ≡ true) ↔ (markedAt s j ≡ true)
-  same-marks j l =
-      let a = loaded-marks t (savedBytes (savedOf s)) z (saved-loads s f bytes K) j (rw (read-blocks s f bytes) l) in
-      let n = saved-marks s f bytes j in
-      (λ x. n .0 (a .0 x) .1, λ x. a .1 (n .1 (l, x)))

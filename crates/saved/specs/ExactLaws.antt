@@ -1,19 +1,18 @@
 -- Bytes of the form are the bytes of what they say: what is read is written again byte for byte.
 -- Assumes nothing.
 use mathlib.Core.Path.{_≡_, refl, ap, ap₂, sym, _∙_}
-use mathlib.Core.Bool.{Bool, true, _&&_, and-eq-true-iff}
+use mathlib.Core.Bool.{true, and-eq-true-iff}
 use mathlib.Core.List.{List, [], _∷_, _++_, append-assoc, append-nil}
-use Prim.Native.Nat.{ℕ, zero, suc, _+_, _-_, _*_, _/_, _%_, _^_, _≤_, _<_}
+use Prim.Native.Nat.{ℕ, zero, suc, _+_, _-_, _*_, _≤_, _<_}
 use native.Mathlib.Omega.{arith}
 use lib.ListN.{length, getD, take, drop, length-append}
 use lib.Seq.{take-add, drop-drop, ext-getD}
 use lib.Dec.{eqb, leb}
 use borrow.Author.Tests.{eqb-true, leb-true}
-use Rattle.octets.specs.Octets.{Octets, cut, be, numberAt}
+use Rattle.octets.specs.Octets.{cut, be, numberAt}
 use Rattle.octets.specs.OctetsLaws.{cut-length, getD-cut, be-octets, cut-whole, drop-step}
-use Rattle.saved.specs.Form.{Place, Saved, openingBytes, placeBytes, markBytes, endBytes, placesBytes, marksBytes, savedBytes, lengthIn, pieceLengthIn, rootIn, blocksIn, heightIn, markCount, placeCount, layerIn, indexIn, hashIn, blockIn, opens, formed, marksFrom, placeIn, placesTo, marksTo, valueIn}
-use Rattle.saved.specs.SoundLaws.{place-at, place-says}
-use Rattle.saved.specs.PrefixLaws.{mark-at, mark-says, FormIn, form-says, Kinds, form-kinds}
+use Rattle.saved.specs.Form.{Place, openingBytes, placeBytes, markBytes, endBytes, placesBytes, marksBytes, savedBytes, lengthIn, pieceLengthIn, rootIn, markCount, placeCount, layerIn, indexIn, hashIn, blockIn, opens, formed, marksFrom, placeIn, placesTo, marksTo, valueIn}
+use Rattle.saved.specs.PrefixLaws.{form-says, form-kinds}
 
 -- ---- parts of bytes
 

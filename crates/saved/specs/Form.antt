@@ -3,14 +3,14 @@
 -- (3: the block's number 4), rising, and an end (4: the count of marks 4).
 -- Assumes nothing.
 use mathlib.Core.List.{List, [], _∷_, _++_}
-use mathlib.Core.Bool.{Bool, true, cond, _&&_}
+use mathlib.Core.Bool.{Bool, true, _&&_}
 use mathlib.Core.Path.{_≡_}
 use Prim.Native.Nat.{ℕ, zero, suc, _+_, _-_, _*_, _/_, _^_, _≤_, _<_}
 use lib.ListN.{length, getD}
 use lib.Dec.{eqb, leb, ltb}
 use Rattle.octets.specs.Octets.{Octets, cut, be, numberAt}
 use Rattle.tree.specs.Geometry.{blockCount, height}
-use Rattle.store.specs.Store.{inTree, positions}
+use Rattle.store.specs.Store.{inTree}
 
 -- ---- what is saved, and its bytes
 

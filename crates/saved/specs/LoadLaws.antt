@@ -1,30 +1,29 @@
 -- What a loaded store is: usable, with the facts that the bytes name; it holds the positions that they name, and has the marks.
 -- Assumes nothing.
-use mathlib.Core.Path.{_≡_, refl, ap, ap₂, sym, _∙_, subst}
+use mathlib.Core.Path.{_≡_, refl, ap, ap₂, sym, _∙_}
 use mathlib.Core.Bool.{Bool, true, false, _&&_, and-eq-true-iff}
-use mathlib.Core.List.{List, [], _∷_, _++_}
-use mathlib.Core.Logic.{_↔_, _⊎_, inl, inr}
-use Prim.Native.Nat.{ℕ, zero, suc, _+_, _-_, _*_, _/_, _%_, _^_, _≤_, _<_}
+use mathlib.Core.List.{List}
+use mathlib.Core.Logic.{inl, inr}
+use Prim.Native.Nat.{ℕ, zero, suc, _+_, _-_, _*_, _^_, _≤_, _<_}
 use native.Mathlib.Omega.{arith}
 use native.Mathlib.Decide.{ℕ-discrete}
 use lib.ListN.{length, getD}
-use lib.Dec.{eqb, leb, ltb}
+use lib.Dec.{eqb, leb}
 use borrow.Author.Tests.{leb-true}
-use Rattle.octets.specs.Octets.{cut}
 use Rattle.octets.specs.OctetsLaws.{cut-length}
-use Rattle.tree.specs.Geometry.{blockCount, height, nodeNumber}
-use Rattle.tree.specs.GeometryLaws.{node-number-range, node-number-distinct, node-number-root}
-use Rattle.cells.specs.Cells.{Room, heldAt, hashAt, put}
+use Rattle.tree.specs.Geometry.{nodeNumber}
+use Rattle.tree.specs.GeometryLaws.{node-number-range, node-number-distinct}
+use Rattle.cells.specs.Cells.{Room, put}
 use Rattle.cells.specs.Entries.{Entry, one, putAll}
-use Rattle.cells.specs.EntriesLaws.{Sound, none, more, sound-append, sound-one, FromRoot, empty, next, from-root-append, In, here, there, in-left, in-right, in-cases, one-is, Apart, apart-append, apart-one, apart-consistent, Hold, entries-held, held-or-entry, put-append, put-one, putAll-length}
-use Rattle.store.specs.Store.{blocksOf, heightOf, positions, factsInRange, storeSize, opened, Facts, SameFacts, inTree}
-use Rattle.store.specs.StoreLaws.{facts-leaves, facts-usable, opened-facts, opened-height, opened-blocks, opened-length, putAll-facts, putAll-same-facts, tree-says}
-use Rattle.marks.specs.Marks.{marked, marksPut, markedAt}
+use Rattle.cells.specs.EntriesLaws.{Sound, none, sound-append, sound-one, FromRoot, empty, next, from-root-append, In, here, in-left, in-right, in-cases, one-is, put-append, put-one, putAll-length}
+use Rattle.store.specs.Store.{blocksOf, heightOf, positions, factsInRange, storeSize, opened, Facts, SameFacts}
+use Rattle.store.specs.StoreLaws.{facts-leaves, opened-facts, opened-height, opened-blocks, opened-length, putAll-facts, putAll-same-facts}
+use Rattle.marks.specs.Marks.{marked, marksPut}
 use Rattle.marks.specs.MarksLaws.{marks-facts, marks-same-facts, marks-length}
-use Rattle.saved.specs.Form.{lengthIn, pieceLengthIn, rootIn, blocksIn, heightIn, markCount, placeCount, layerIn, indexIn, hashIn, blockIn, placesGood, marksGood, marksFrom, opens, formed, Placed}
-use Rattle.saved.specs.Saved.{entriesIn, marksSet, loaded, openingNumber}
+use Rattle.saved.specs.Form.{lengthIn, pieceLengthIn, rootIn, blocksIn, heightIn, markCount, placeCount, layerIn, indexIn, hashIn, blockIn, placesGood, marksGood, marksFrom, opens}
+use Rattle.saved.specs.Saved.{entriesIn, marksSet, openingNumber}
 use Rattle.saved.specs.SoundLaws.{PlaceIn, place-at, place-says, one-record}
-use Rattle.saved.specs.PrefixLaws.{MarkIn, mark-at, mark-says, FormIn, form-says}
+use Rattle.saved.specs.PrefixLaws.{mark-at, mark-says, FormIn}
 
 -- ---- the entries
 

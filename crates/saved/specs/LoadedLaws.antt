@@ -1,35 +1,34 @@
 -- A LOADED STORE holds exactly the positions that the bytes name, and these meet the clauses; its marks are those that the bytes name.
 -- Assumes nothing.
-use mathlib.Core.Path.{_≡_, refl, ap, ap₂, sym, _∙_, subst}
-use mathlib.Core.Bool.{Bool, true, false, false≢true, _&&_, and-eq-true-iff}
+use mathlib.Core.Path.{_≡_, refl, ap, ap₂, sym, _∙_}
+use mathlib.Core.Bool.{true, _&&_, and-eq-true-iff}
 use mathlib.Core.List.{List}
 use mathlib.Core.Logic.{_↔_, _⊎_, inl, inr}
-use Prim.Native.Nat.{ℕ, zero, suc, _+_, _-_, _*_, _/_, _%_, _^_, _≤_, _<_}
+use Prim.Native.Nat.{ℕ, zero, suc, _+_, _-_, _*_, _^_, _≤_, _<_}
 use native.Mathlib.Omega.{arith}
 use native.Mathlib.Decide.{ℕ-discrete, decLt}
-use lib.ListN.{length, getD}
+use lib.ListN.{length}
 use lib.Dec.{eqb}
 use lib.Pow.{pow-pos}
 use borrow.Author.Tests.{eqb-true}
 use Rattle.octets.specs.Octets.{cut}
 use Rattle.octets.specs.OctetsLaws.{cut-cut}
-use Rattle.tree.specs.Geometry.{blockCount, height, nodeNumber}
+use Rattle.tree.specs.Geometry.{nodeNumber}
 use Rattle.tree.specs.GeometryLaws.{block-count-some, node-number-range, node-number-distinct, node-number-root}
-use Rattle.cells.specs.Cells.{Room, heldAt, hashAt}
-use Rattle.cells.specs.Entries.{Entry, putAll}
-use Rattle.cells.specs.EntriesLaws.{Sound, FromRoot, In, Hold, entries-held, held-or-entry}
-use Rattle.store.specs.Store.{fileLength, factsRoot, blocksOf, heightOf, positions, opened, Facts, SameFacts}
-use Rattle.store.specs.StoreLaws.{opened-held, opened-hash, opened-file, range-says}
-use Rattle.marks.specs.Marks.{marked, cleared, marksStart, marksPut, markedAt}
-use Rattle.marks.specs.MarksLaws.{marks-before, marks-cells, marked-in, marked-out, marks-end}
+use Rattle.cells.specs.Cells.{heldAt, hashAt}
+use Rattle.cells.specs.EntriesLaws.{Sound, Hold, entries-held, held-or-entry}
+use Rattle.store.specs.Store.{blocksOf, heightOf, positions, Facts}
+use Rattle.store.specs.StoreLaws.{opened-held, range-says}
+use Rattle.marks.specs.Marks.{marked, marksStart, marksPut, markedAt}
+use Rattle.marks.specs.MarksLaws.{marks-before, marks-cells, marked-in, marked-out}
 use Rattle.saved.specs.Clauses.{Clauses}
-use Rattle.saved.specs.Form.{lengthIn, pieceLengthIn, rootIn, blocksIn, heightIn, markCount, placeCount, layerIn, indexIn, hashIn, blockIn, placesGood, marksGood, marksFrom, formed, Placed}
+use Rattle.saved.specs.Form.{lengthIn, pieceLengthIn, rootIn, blocksIn, heightIn, markCount, placeCount, layerIn, indexIn, hashIn, blockIn, marksGood, marksFrom, formed, Placed}
 use Rattle.saved.specs.Saved.{entriesIn, marksSet, loaded, openingNumber, rootRight, chained, sound}
 use Rattle.saved.specs.SoundLaws.{record-at}
 use Rattle.saved.specs.SoundExactly.{RootLast, root-says, sound-exactly}
 use Rattle.saved.specs.RankLaws.{rank-root}
 use Rattle.saved.specs.PrefixLaws.{FormIn, form-says, mark-at, mark-says}
-use Rattle.saved.specs.LoadLaws.{StillSame, marks-set-none, marks-set-next, marks-set-same, mark-fits, Opens, opening-says, root-long, first, first-facts, first-height, first-room, first-blocks, second, second-facts, second-same, second-marks, entries-sound, entries-are, entry-of, entries-consistent}
+use Rattle.saved.specs.LoadLaws.{marks-set-none, marks-set-next, marks-set-same, mark-fits, Opens, opening-says, root-long, first, first-height, first-room, second, second-facts, second-same, second-marks, entries-sound, entries-are, entry-of, entries-consistent}
 
 -- ---- marks leave the cells
 

@@ -2,7 +2,7 @@
 -- already if it is kept, and two that belong together are neighbours.
 -- Assumes nothing.
 use mathlib.Core.Path.{_≡_, refl, ap, ap₂, sym, _∙_, subst}
-use mathlib.Core.Bool.{Bool, true, false, false≢true, cond, _&&_, and-eq-true-iff}
+use mathlib.Core.Bool.{Bool, true, false, false≢true, _&&_, and-eq-true-iff}
 use mathlib.Core.List.{List}
 use mathlib.Core.Logic.{_↔_, _⊎_, inl, inr}
 use Prim.Native.Nat.{ℕ, zero, suc, _+_, _-_, _*_, _/_, _%_, _^_, _≤_, _<_}
@@ -15,19 +15,19 @@ use borrow.Author.Tests.{eq-eqb, eqb-true, lt-ltb, ltb-true}
 use Rattle.octets.specs.Octets.{same}
 use Rattle.octets.specs.OctetsLaws.{same-true, same-eq, cut-length}
 use Rattle.sha256.specs.Sha256.{pairHash}
-use Rattle.tree.specs.Geometry.{Padding, nodeNumber}
+use Rattle.tree.specs.Geometry.{nodeNumber}
 use Rattle.tree.specs.GeometryLaws.{node-number-root, node-number-range, node-number-distinct, node-number-parent, layer-doubles}
 use Rattle.tree.specs.Values.{padValue}
-use Rattle.cells.specs.Cells.{Room, heldAt, hashAt, put}
+use Rattle.cells.specs.Cells.{Room, heldAt, hashAt}
 use Rattle.cells.specs.CellsLaws.{put-room, held-put-same, hash-put-same, held-put-other, hash-put-other}
 use Rattle.cells.specs.EntriesLaws.{Hold}
 use Rattle.store.specs.Store.{positions}
 use Rattle.store.specs.StoreLaws.{positions-some}
-use Rattle.saved.specs.Clauses.{Clauses, Children, Kept, top, child}
-use Rattle.saved.specs.ClausesLaws.{root-alone, kept-within}
+use Rattle.saved.specs.Clauses.{Children, Kept, top, child}
+use Rattle.saved.specs.ClausesLaws.{kept-within}
 use Rattle.saved.specs.Form.{rootIn, placeCount, layerIn, indexIn, hashIn, rank, rankIn, placesGood, Placed}
 use Rattle.saved.specs.Saved.{padRight, neighbours, parentIn, joins, withPlace, mended, mendedMany}
-use Rattle.saved.specs.RankLaws.{rank-most, rank-root, rank-below, rank-parent, rank-next, rank-parity}
+use Rattle.saved.specs.RankLaws.{rank-root, rank-below, rank-parent, rank-next, rank-parity}
 use Rattle.saved.specs.SoundLaws.{PlaceIn, place-at, place-says, pad-says, pad-from, rises, one-record, next-record, record-at, not-root}
 use Rattle.saved.specs.SoundExactly.{RootLast}
 

@@ -1,29 +1,27 @@
 -- 02, request 13: accepted exactly when; saved and loaded; what the repair holds. By node number; as kd_held answers it stands in promises.
 -- Assumes nothing.
-use mathlib.Core.Path.{_≡_, refl, ap, ap₂, sym, _∙_, subst}
-use mathlib.Core.Bool.{Bool, true, false, _&&_, and-eq-true-iff}
+use mathlib.Core.Path.{_≡_}
+use mathlib.Core.Bool.{true, _&&_, and-eq-true-iff}
 use mathlib.Core.List.{List}
-use mathlib.Core.Logic.{_↔_, _⊎_, inl, inr}
+use mathlib.Core.Logic.{_↔_}
 use Prim.Native.Nat.{ℕ, suc, _+_, _-_, _*_, _^_, _≤_, _<_}
 use native.Mathlib.Omega.{arith}
 use lib.ListN.{length, getD}
 use Rattle.sha256.specs.Sha256.{pairHash}
 use Rattle.settling.specs.Path.{sibling}
-use Rattle.tree.specs.Geometry.{blockCount, height, nodeNumber}
-use Rattle.tree.specs.GeometryLaws.{block-count-some}
+use Rattle.tree.specs.Geometry.{nodeNumber}
 use Rattle.cells.specs.EntriesLaws.{Hold}
 use Rattle.store.specs.Store.{factsRoot, blocksOf, heightOf, Facts}
-use Rattle.store.specs.StoreLaws.{facts-blocks, opened-held, opened-hash, range-says}
+use Rattle.store.specs.StoreLaws.{facts-blocks, opened-held, opened-hash}
 use Rattle.saved.specs.Clauses.{Hashes, Clauses, Within, Kept}
-use Rattle.saved.specs.ClausesLaws.{kept-largest, kept-clauses, kept-within, loads-when-all-kept}
-use Rattle.saved.specs.Form.{savedBytes, lengthIn, pieceLengthIn, rootIn, blocksIn, heightIn, placeCount, opens, formed, Placed}
-use Rattle.saved.specs.Saved.{rootRight, chained, sound, openingNumber, loaded, rooted, repaired, begun}
+use Rattle.saved.specs.ClausesLaws.{loads-when-all-kept}
+use Rattle.saved.specs.Form.{savedBytes, lengthIn, pieceLengthIn, rootIn, blocksIn, heightIn, placeCount, formed, Placed}
+use Rattle.saved.specs.Saved.{rootRight, chained, sound, openingNumber, rooted, repaired, begun}
 use Rattle.saved.specs.Save.{savedOf}
 use Rattle.saved.specs.SoundLaws.{placed-in-tree}
-use Rattle.saved.specs.SoundExactly.{RootLast, root-says, sound-exactly}
+use Rattle.saved.specs.SoundExactly.{root-says, sound-exactly}
 use Rattle.saved.specs.PrefixLaws.{form-says}
 use Rattle.saved.specs.LoadLaws.{Opens, opening-says, root-long, first-room, first}
-use Rattle.saved.specs.LoadedLaws.{loaded-exactly}
 use Rattle.saved.specs.MendedLaws.{mended-exactly}
 use Rattle.saved.specs.SaveLaws.{saved-reads, saved-exactly, read-blocks, read-height, saved-root}
 
@@ -77,15 +75,6 @@ module _ (s : List ℕ) (f : Facts s) (bytes : (i : ℕ) → getD s i 0 < 256) (
       let C = clauses-same (heightOf s) (blocksOf s) (factsRoot s) (HeldIn s) (Placed (savedBytes (savedOf s)) (placeCount (savedBytes (savedOf s)))) (λ l i v. (saved-exactly s f bytes l i v .1, saved-exactly s f bytes l i v .0)) K in
       accepted-exactly-when (savedBytes (savedOf s)) (rw (read-blocks s f bytes) (facts-blocks s f)) .1
       (saved-reads s f bytes .1, rw (read-height s f bytes, read-blocks s f bytes, saved-root s f bytes) C)
-
-  pub same-held : (t : List ℕ) → openingNumber (length t) (savedBytes (savedOf s)) ≡ 0 → (l i : ℕ) (v : List ℕ) → l ≤ heightOf s → i < 2 ^ (heightOf s - l)
-      → Hold (loaded t (savedBytes (savedOf s))) (nodeNumber (heightOf s) l i) v ↔ Hold s (nodeNumber (heightOf s) l i) v
-  same-held t z l i v lh ib =
-      let e = read-height s f bytes in
-      let w = loaded-exactly t (savedBytes (savedOf s)) z saved-loads l i v (rw e lh) (rw e ib) in
-      let x : Hold (loaded t (savedBytes (savedOf s))) (nodeNumber (heightOf s) l i) v ↔ Placed (savedBytes (savedOf s)) (placeCount (savedBytes (savedOf s))) l i v = rw e at w in
-      let y = saved-exactly s f bytes l i v in
-      (λ a. y .0 (x .0 a) .2, λ a. x .1 (y .1 (lh, ib, a)))
 
 -- THE REPAIR holds exactly what is kept: the largest part that meets the clauses
 module _ (s b : List ℕ) (z : openingNumber (length s) b ≡ 0) (g : rooted b ≡ true) where

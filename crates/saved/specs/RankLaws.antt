@@ -1,11 +1,10 @@
 -- The order by layer and then index, as a number: the first position of layer 0 is 0, the root the last; the parent of r is 2^h + r / 2.
 -- Assumes nothing.
-use mathlib.Core.Path.{_≡_, refl, ap, sym, _∙_}
-use mathlib.Core.Logic.{_↔_, _⊎_, inl, inr}
-use Prim.Native.Nat.{ℕ, zero, suc, _+_, _-_, _*_, _/_, _%_, _^_, _≤_, _<_}
+use mathlib.Core.Path.{_≡_, ap, sym, _∙_}
+use Prim.Native.Nat.{ℕ, suc, _+_, _-_, _*_, _%_, _^_, _≤_, _<_}
 use native.Mathlib.Omega.{arith}
 use native.Mathlib.Nat.{pow-succ', pow-zero}
-use native.Mathlib.Decide.{ℕ-discrete, decLt}
+use native.Mathlib.Decide.{decLt}
 use lib.Pow.{pow-pos, pow-mono}
 use Rattle.tree.specs.GeometryLaws.{layer-doubles}
 use Rattle.saved.specs.Form.{rank}
@@ -47,39 +46,9 @@ rank-layer h l i m j mh lt b =
     let g : 2 ^ suc (h - m) ≤ 2 ^ (h - l) = pow-mono (omega arith) in
     omega (arith, width-most h l, width-most h m, pow-succ' 2 (h - m))
 
--- and then by index
-pub rank-index : (h l i j : ℕ) → i < j → rank h l i < rank h l j
-unfolding rank
-rank-index h l i j lt = omega arith
-
 rank-same : (h l i j : ℕ) → rank h l i ≡ rank h l j → i ≡ j
 unfolding rank
 rank-same h l i j e = omega arith
-
-rank-back : (h l i j : ℕ) → rank h l i < rank h l j → i < j
-unfolding rank
-rank-back h l i j e = omega arith
-
--- "rising by layer and then index"
-pub rank-rises : (h l i m j : ℕ) → l ≤ h → m ≤ h → i < 2 ^ (h - l) → j < 2 ^ (h - m) → (rank h l i < rank h m j) ↔ ((l < m) ⊎ ((l ≡ m) × (i < j)))
-rank-rises h l i m j lh mh ib jb = (to, from)
-  where
-    to : rank h l i < rank h m j → (l < m) ⊎ ((l ≡ m) × (i < j))
-    to lt =
-        elim (decLt l m) [
-          | yes y ↦ inl y
-          | no n ↦ elim (decLt m l) [
-            | yes y ↦ absurd (omega (arith, rank-layer h m j l i lh y jb))
-            | no k ↦
-                let e : l ≡ m = omega arith in
-                let lt2 : rank h m i < rank h m j = rw e at lt in
-                inr (e, rank-back h m i j lt2)
-          ]
-        ]
-
-    from : (l < m) ⊎ ((l ≡ m) × (i < j)) → rank h l i < rank h m j
-    from (inl y) = rank-layer h l i m j mh y ib
-    from (inr w) = rw (w .0) (rank-index h m i j (w .1))
 
 -- two positions of one rank are one position
 pub rank-distinct : (h l i m j : ℕ) → l ≤ h → m ≤ h → i < 2 ^ (h - l) → j < 2 ^ (h - m) → rank h l i ≡ rank h m j → (l ≡ m) × (i ≡ j)

@@ -1,9 +1,9 @@
 -- WHAT IS WRITTEN IS READ: the bytes of an ordered value have the form, and say that value.
 -- Assumes nothing.
 use mathlib.Core.Path.{_≡_, refl, ap, ap₂, sym, _∙_}
-use mathlib.Core.Bool.{Bool, true, _&&_, and-eq-true-iff}
+use mathlib.Core.Bool.{true, _&&_, and-eq-true-iff}
 use mathlib.Core.List.{List, [], _∷_, _++_, append-assoc, append-nil}
-use Prim.Native.Nat.{ℕ, zero, suc, _+_, _-_, _*_, _/_, _%_, _^_, _≤_, _<_}
+use Prim.Native.Nat.{ℕ, suc, _+_, _-_, _*_, _^_, _≤_, _<_}
 use native.Mathlib.Omega.{arith}
 use lib.ListN.{length, getD, take, drop, length-append, List·getD-append}
 use lib.Seq.{getD-append-add, drop-append-add, take-append-seam}
@@ -11,8 +11,8 @@ use lib.Dec.{eqb, leb, ltb}
 use lib.Pow.{pow-mono}
 use borrow.Author.Tests.{eq-eqb, le-leb, lt-ltb}
 use Rattle.limits.specs.Limits.{tallestTree}
-use Rattle.octets.specs.Octets.{Octets, cut, be, numberAt}
-use Rattle.octets.specs.OctetsLaws.{be-octets, number-same, number-of-be, cut-append-left, cut-append-right}
+use Rattle.octets.specs.Octets.{cut, be, numberAt}
+use Rattle.octets.specs.OctetsLaws.{be-octets, number-same, number-of-be}
 use Rattle.tree.specs.Geometry.{blockCount, height}
 use Rattle.store.specs.Store.{inTree}
 use Rattle.saved.specs.Form.{Place, Saved, openingBytes, placeBytes, markBytes, endBytes, placesBytes, marksBytes, savedBytes, rank, Rising, none, more, RisingBlocks, Ordered, lengthIn, pieceLengthIn, rootIn, blocksIn, heightIn, markCount, placeCount, layerIn, indexIn, hashIn, blockIn, rankIn, opens, sized, nextRank, placeGood, placesGood, nextBlock, markGood, marksGood, marksFrom, formed, placeIn, placesTo, marksTo, valueIn}

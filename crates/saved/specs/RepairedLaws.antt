@@ -1,16 +1,16 @@
 -- A REPAIRED STORE is usable, with the facts that the bytes name.
 -- Assumes nothing.
-use mathlib.Core.Path.{_≡_, refl, ap, ap₂, sym, _∙_}
-use mathlib.Core.Bool.{Bool, true, false, _&&_, and-eq-true-iff}
+use mathlib.Core.Path.{_≡_, refl, _∙_}
+use mathlib.Core.Bool.{Bool, true, false, and-eq-true-iff}
 use mathlib.Core.List.{List}
-use Prim.Native.Nat.{ℕ, zero, suc, _+_, _-_, _*_, _^_, _≤_, _<_}
+use Prim.Native.Nat.{ℕ, zero, suc, _+_, _-_, _*_, _≤_, _<_}
 use native.Mathlib.Omega.{arith}
 use lib.ListN.{length}
 use Rattle.octets.specs.OctetsLaws.{cut-length}
 use Rattle.tree.specs.Geometry.{nodeNumber}
 use Rattle.tree.specs.GeometryLaws.{node-number-range}
 use Rattle.cells.specs.CellsLaws.{put-length}
-use Rattle.store.specs.Store.{pieceLength, fileLength, factsRoot, blocksOf, heightOf, positions, Facts, SameFacts}
+use Rattle.store.specs.Store.{pieceLength, fileLength, factsRoot, blocksOf, heightOf, positions, Facts}
 use Rattle.store.specs.StoreLaws.{put-facts, put-same-facts, opened-facts-root, opened-file, opened-piece}
 use Rattle.saved.specs.Form.{lengthIn, pieceLengthIn, rootIn, blocksIn, heightIn, placeCount, layerIn, indexIn, hashIn, placesGood, formed}
 use Rattle.saved.specs.Saved.{joins, withPlace, mended, openingNumber, rootRight, rooted, begun, repaired}

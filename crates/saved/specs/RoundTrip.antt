@@ -1,27 +1,25 @@
 -- THE ROUND TRIP from bytes: a store loaded from bytes is saved as these bytes.
 -- Assumes nothing.
-use mathlib.Core.Path.{_≡_, refl, ap, ap₂, sym, _∙_, subst}
-use mathlib.Core.Bool.{Bool, true, false, false≢true, _&&_, and-eq-true-iff}
+use mathlib.Core.Path.{_≡_, refl, ap, sym, _∙_}
+use mathlib.Core.Bool.{true, false, false≢true, _&&_, and-eq-true-iff}
 use mathlib.Core.List.{List}
-use mathlib.Core.Logic.{_↔_, _⊎_, inl, inr}
+use mathlib.Core.Logic.{_↔_, inl, inr}
 use Prim.Native.Nat.{ℕ, suc, _+_, _-_, _*_, _^_, _≤_, _<_}
 use native.Mathlib.Omega.{arith}
 use lib.ListN.{length, getD}
 use lib.Dec.{eqb}
-use Rattle.tree.specs.Geometry.{blockCount, height, nodeNumber}
 use Rattle.tree.specs.GeometryLaws.{height-enough}
-use Rattle.cells.specs.Entries.{putAll}
-use Rattle.cells.specs.EntriesLaws.{Hold, Sound}
-use Rattle.store.specs.Store.{fileLength, pieceLength, factsRoot, blocksOf, heightOf, positions, storeSize, opened, Facts, SameFacts}
+use Rattle.cells.specs.EntriesLaws.{Sound}
+use Rattle.store.specs.Store.{fileLength, pieceLength, factsRoot, blocksOf, heightOf, positions, storeSize, opened, Facts}
 use Rattle.store.specs.StoreLaws.{opened-file, opened-piece, opened-facts-root, opened-zero, putAll-past}
 use Rattle.marks.specs.Marks.{marksStart, markedAt}
 use Rattle.marks.specs.MarksLaws.{marks-end, marks-start-some, same-mark}
-use Rattle.saved.specs.Form.{Saved, savedBytes, lengthIn, pieceLengthIn, rootIn, blocksIn, heightIn, markCount, placeCount, blockIn, placesTo, marksTo, marksFrom, valueIn, formed, Placed, NamesMark}
+use Rattle.saved.specs.Form.{savedBytes, lengthIn, pieceLengthIn, rootIn, blocksIn, heightIn, markCount, placeCount, placesTo, marksTo, marksFrom, valueIn, formed, NamesMark}
 use Rattle.saved.specs.Saved.{entriesIn, marksSet, loaded, openingNumber, rootRight, chained, sound}
 use Rattle.saved.specs.Save.{heldBelow, markedBelow, savedOf}
 use Rattle.saved.specs.PrefixLaws.{FormIn, form-says}
 use Rattle.saved.specs.ExactLaws.{written-back}
-use Rattle.saved.specs.LoadLaws.{StillSame, marks-set-same, Opens, opening-says, root-long, first, first-facts, first-height, first-room, first-blocks, second, second-facts, second-same, second-marks, entries-sound}
+use Rattle.saved.specs.LoadLaws.{StillSame, marks-set-same, Opens, opening-says, root-long, first, first-facts, first-height, first-blocks, second, second-facts, second-same, second-marks, entries-sound}
 use Rattle.saved.specs.LoadedLaws.{marks-set-exactly, loaded-exactly}
 use Rattle.saved.specs.SavedAgain.{all-places, all-marks}
 

@@ -1,8 +1,8 @@
 -- 02, request 13: what is saved of a store, and what saving answers and leaves.
 -- Assumes nothing.
 use mathlib.Core.List.{List, [], _∷_, _++_}
-use mathlib.Core.Bool.{Bool, true, cond, _&&_}
-use Prim.Native.Nat.{ℕ, zero, suc, _+_, _-_, _*_, _^_}
+use mathlib.Core.Bool.{cond, _&&_}
+use Prim.Native.Nat.{ℕ, zero, suc, _+_, _-_, _^_}
 use lib.ListN.{length}
 use lib.Dec.{leb}
 use Rattle.octets.specs.Octets.{pasted}

@@ -1,34 +1,27 @@
 -- THE ROUND TRIP from a store: what is saved of a usable store has the form, names exactly what it holds, and is loaded if that meets the clauses.
 -- Assumes nothing.
-use mathlib.Core.Path.{_≡_, refl, ap, ap₂, sym, _∙_, subst}
-use mathlib.Core.Bool.{Bool, true, false, false≢true, cond, _&&_, and-eq-true-iff}
-use mathlib.Core.List.{List, [], _∷_, _++_, append-nil, append-assoc}
+use mathlib.Core.Path.{_≡_, refl, ap, sym, _∙_, subst}
+use mathlib.Core.Bool.{Bool, true, false, cond}
+use mathlib.Core.List.{List, [], _∷_, _++_}
 use mathlib.Core.Logic.{_↔_, _⊎_, inl, inr}
 use Prim.Native.Nat.{ℕ, zero, suc, _+_, _-_, _*_, _^_, _≤_, _<_}
 use native.Mathlib.Omega.{arith}
-use native.Mathlib.Decide.{ℕ-discrete, decLt}
-use native.Mathlib.Nat.{pow-zero}
+use native.Mathlib.Decide.{ℕ-discrete}
 use lib.ListN.{length, getD}
-use lib.Pow.{pow-pos}
-use Rattle.octets.specs.Octets.{Octets, cut}
+use Rattle.octets.specs.Octets.{Octets}
 use Rattle.octets.specs.OctetsLaws.{cut-octets}
-use Rattle.limits.specs.Limits.{longestFile, tallestTree}
 use Rattle.tree.specs.Geometry.{blockCount, height, nodeNumber}
-use Rattle.tree.specs.GeometryLaws.{node-number-range, layer-doubles}
-use Rattle.cells.specs.Cells.{Room, heldAt, hashAt}
+use Rattle.tree.specs.GeometryLaws.{node-number-range}
+use Rattle.cells.specs.Cells.{heldAt, hashAt}
 use Rattle.cells.specs.EntriesLaws.{Hold}
 use Rattle.store.specs.Store.{fileLength, pieceLength, factsRoot, blocksOf, heightOf, positions, Facts}
-use Rattle.store.specs.StoreLaws.{facts-blocks, facts-blocks-most, facts-height, piece-length-most}
+use Rattle.store.specs.StoreLaws.{facts-blocks-most, facts-height, piece-length-most}
 use Rattle.marks.specs.Marks.{markedAt}
-use Rattle.saved.specs.Clauses.{Clauses, Hashes}
-use Rattle.saved.specs.Form.{Place, Saved, savedBytes, rank, Rising, none, more, RisingBlocks, Ordered, lengthIn, rootIn, blocksIn, heightIn, placeCount, layerIn, indexIn, hashIn, placeIn, placesTo, opens, formed, valueIn, Placed}
-use Rattle.saved.specs.Saved.{rootRight, chained, sound}
+use Rattle.saved.specs.Form.{Place, Saved, savedBytes, rank, Rising, none, more, RisingBlocks, Ordered, lengthIn, rootIn, blocksIn, heightIn, placeCount, placeIn, placesTo, opens, formed, valueIn, Placed}
 use Rattle.saved.specs.Save.{placeHeld, layerHeld, heldBelow, markedBelow, savedOf}
-use Rattle.saved.specs.RankLaws.{rank-most, rank-next, width-most}
-use Rattle.saved.specs.SoundExactly.{sound-exactly}
-use Rattle.saved.specs.PrefixLaws.{form-says}
+use Rattle.saved.specs.RankLaws.{rank-next}
 use Rattle.saved.specs.ReadLaws.{read-back}
-use Rattle.saved.specs.SavedAgain.{rank-layer-end, rank-begin}
+use Rattle.saved.specs.SavedAgain.{rank-layer-end}
 
 -- ---- positions that rise, up to a rank
 
@@ -36,10 +29,6 @@ data Between (h : ℕ) : ℕ → ℕ → List Place → Type 0 where
   nil : {r q : ℕ} → r ≤ q → Between h r q []
   and : {r q : ℕ} {x : Place} {L : List Place} → x .layer ≤ h → x .index < 2 ^ (h - x .layer) → Octets 32 (x .hash) → r ≤ rank h (x .layer) (x .index)
       → Between h (suc (rank h (x .layer) (x .index))) q L → Between h r q (x ∷ L)
-
-between-order : (h r q : ℕ) (L : List Place) → Between h r q L → r ≤ q
-between-order h r q [] (nil l) = l
-between-order h r q (x ∷ L) (and a b o l B) = omega (arith, between-order h (suc (rank h (x .layer) (x .index))) q L B)
 
 between-more : (h r s q : ℕ) (L : List Place) → r ≤ s → Between h s q L → Between h r q L
 between-more h r s q [] l (nil k) = nil {r = r} {q = q} (omega arith)

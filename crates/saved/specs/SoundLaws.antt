@@ -1,31 +1,27 @@
 -- Bytes of the form are loaded exactly if the positions that they name meet the clauses.
 -- Assumes nothing.
-use mathlib.Core.Path.{_≡_, refl, ap, ap₂, sym, _∙_, subst}
-use mathlib.Core.Bool.{Bool, true, false, false≢true, cond, _&&_, and-eq-true-iff}
+use mathlib.Core.Path.{_≡_, refl, ap, ap₂, sym, _∙_}
+use mathlib.Core.Bool.{Bool, true, _&&_, and-eq-true-iff}
 use mathlib.Core.List.{List}
-use mathlib.Core.Logic.{_↔_, _⊎_, inl, inr}
-use Prim.Native.Nat.{ℕ, zero, suc, _+_, _-_, _*_, _/_, _%_, _^_, _≤_, _<_}
+use Prim.Native.Nat.{ℕ, zero, suc, _+_, _-_, _*_, _^_, _≤_, _<_}
 use native.Mathlib.Omega.{arith}
-use native.Mathlib.Decide.{ℕ-discrete, decLt, decLe}
-use lib.ListN.{length, getD}
+use native.Mathlib.Decide.{ℕ-discrete, decLt}
+use lib.ListN.{getD}
 use lib.Dec.{eqb, leb, ltb}
 use borrow.Author.Tests.{eq-eqb, eqb-true, lt-ltb, ltb-true, le-ltb, leb-true}
 use Rattle.octets.specs.Octets.{same}
 use Rattle.octets.specs.OctetsLaws.{same-true, same-eq}
 use Rattle.sha256.specs.Sha256.{pairHash}
 use Rattle.tree.specs.Geometry.{Padding, covering}
-use Rattle.tree.specs.GeometryLaws.{covering-until-padding, padding-from-covering, layer-doubles}
+use Rattle.tree.specs.GeometryLaws.{covering-until-padding, padding-from-covering}
 use Rattle.tree.specs.Values.{padValue}
 use Rattle.store.specs.Store.{inTree}
 use Rattle.store.specs.StoreLaws.{tree-says}
-use Rattle.settling.specs.Path.{sibling}
-use Rattle.settling.specs.PathLaws.{sibling-even, sibling-odd}
-use Rattle.saved.specs.Clauses.{Hashes, Clauses, InTree}
+use Rattle.saved.specs.Clauses.{InTree}
 use Rattle.saved.specs.ClausesLaws.{root-alone}
-use Rattle.saved.specs.Form.{rootIn, placeCount, layerIn, indexIn, hashIn, rank, rankIn, nextRank, placeGood, placesGood, Placed}
-use Rattle.saved.specs.Saved.{padRight, childrenOf, madeBy, familyAt, claimedBy, claimed, rootRight, chained}
-use Rattle.saved.specs.RankLaws.{rank-most, rank-root, rank-below, rank-parent, rank-next, rank-parity, rank-distinct}
-use Rattle.saved.specs.ClaimedLaws.{claimed-even, claimed-each, all-claimed}
+use Rattle.saved.specs.Form.{layerIn, indexIn, hashIn, rank, rankIn, nextRank, placeGood, placesGood, Placed}
+use Rattle.saved.specs.Saved.{padRight, childrenOf, madeBy, familyAt}
+use Rattle.saved.specs.RankLaws.{rank-most, rank-root, rank-distinct}
 
 -- ---- what the tests say
 

@@ -127,7 +127,7 @@ fn mend_by(s: &mut [u8], b: &[u8], pads: &[u8], h: usize, c: usize, p: usize) ->
     kept
 }
 
-// The same, with the padding values worked out once.
+// What mend_by does, with the padding values worked out here, once.
 fn mend(s: &mut [u8], b: &[u8], h: usize, c: usize, p: usize) -> usize
     requires { ⌜ (h ≤ tallestTree) × (45 + 41 * p ≤ length (now b)) × (F.placesGood h (now b) p ≡ true) × Room (positions h) (now s) ⌝ }
     ensures { λ r. ⌜ (r ≡ S.mendedMany h c (now (b .entry)) (now (s .entry)) p) × (now (s .exit) ≡ S.mended h c (now (b .entry)) (now (s .entry)) p) × (r ≤ p) ⌝ }

@@ -10,7 +10,7 @@ use native.Mathlib.Omega.{arith}
 use lib.ListN.{length, length-append}
 use lib.Pow.{pow-mono, shl-exact}
 use borrow.Author.Tests.{ne-eqb}
-use Rattle.octets.specs.Octets.{cut, pasted}
+use Rattle.octets.specs.Octets.{pasted}
 use Rattle.octets.specs.OctetsLaws.{cut-length, pasted-append}
 use Rattle.numbers.specs.Numbers.{refused, done, unusable, noMessage, noRoom, notHeld}
 use Rattle.numbers.specs.declared.Answer.{Answer}
@@ -23,7 +23,7 @@ use Rattle.messages.specs.Take.{headerNumber, placeIn}
 use Rattle.messages.specs.TakeLaws.{passed, request-form}
 use Rattle.serve.specs.Serve.{heldRun, heldUncles, runHashes, uncleHashes, allHeld, allHashes, replyTo, rejectTo, requestNumber, serveAnswer, serveAfter}
 use Rattle.serve.specs.Asks.{Reach, fitAnswer, fitAfter}
-use Rattle.serve.specs.ServeLaws.{run-hashes-length, uncle-hashes-length, fits-sent, fits-not, request-passes, served-none, served-reply, served-reject, answered-form, request-size, request-reach, reply-length, reject-length}
+use Rattle.serve.specs.ServeLaws.{run-hashes-length, uncle-hashes-length, fits-sent, fits-not, served-none, served-reply, served-reject, answered-form, request-size, request-reach, reply-length, reject-length}
 
 -- a power of two as it is shifted
 pub count-of : (k : ℕ) → k ≤ tallestTree → ((1 * 2 ^ k) % 18446744073709551616 ≡ 2 ^ k) × ((1 * 2 ^ k) % 18446744073709551616 ≤ 2 ^ tallestTree)
@@ -160,9 +160,6 @@ module _ (s m out : List ℕ) (n : ℕ) (e : n ≡ requestNumber s m) where
   pub serve-reply : (r : Answer) (out1 : List ℕ) → n ≡ 0 → (r ≡ fitAnswer 0 (replyTo s m) out) × (out1 ≡ fitAfter (replyTo s m) out)
       → (r ≡ serveAnswer s m out) × (out1 ≡ serveAfter s m out)
   serve-reply r out1 z w = along w (served-reply s m out (sym e ∙ z))
-
-  pub serve-passed : n ≡ 0 → headerNumber (isRequest m) s m ≡ 0
-  serve-passed z = request-passes s m (sym e ∙ z)
 
   module _ (a : n ≡ unusable → ⊥) (b : n ≡ noMessage → ⊥) where
     pub serve-form : length m ≡ headerSize

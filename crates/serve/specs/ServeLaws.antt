@@ -6,34 +6,32 @@ use mathlib.Core.List.{List, _∷_, _++_, append-assoc, append-nil}
 use mathlib.Core.Bool.{Bool, true, false, cond, and-eq-true-iff}
 use mathlib.Core.Logic.{_⊎_, inl, inr}
 use Prim.Native.Nat.{ℕ, zero, suc, _+_, _-_, _*_, _/_, _%_, _^_, _≤_, _<_}
-use native.Mathlib.Nat.{add-mul, one-mul, mul-le-mul-left, mul-le-mul-right}
+use native.Mathlib.Nat.{add-mul, one-mul, mul-le-mul-left}
 use native.Mathlib.Decide.{ℕ-discrete}
 use native.Mathlib.Numerals.{add-one}
 use native.Mathlib.Omega.{arith}
-use lib.ListN.{length, take, getD, length-append}
+use lib.ListN.{length, take, length-append}
 use lib.Seq.{drop-append-add}
-use lib.Dec.{leb}
-use borrow.Author.Tests.{eq-eqb, ne-eqb, le-leb, lt-leb, leb-true}
-use Rattle.octets.specs.Octets.{cut, pasted, same, numberAt, zeroHash}
-use Rattle.octets.specs.OctetsLaws.{cut-length, cut-cut, cut-whole, cut-append-left, cut-append-right, number-cut, pasted-length, getD-pasted-after}
-use Rattle.numbers.specs.Numbers.{refused, noMessage, otherRoot, ruleBroken, unusable, noRoom, notHeld}
-use Rattle.numbers.specs.declared.Answer.{Answer}
+use borrow.Author.Tests.{eq-eqb, ne-eqb, le-leb, lt-leb}
+use Rattle.octets.specs.Octets.{cut, pasted, numberAt, zeroHash}
+use Rattle.octets.specs.OctetsLaws.{cut-length, cut-cut, cut-whole, cut-append-left, cut-append-right, number-cut}
+use Rattle.numbers.specs.Numbers.{refused, noMessage, unusable, noRoom, notHeld}
 use Rattle.cells.specs.Cells.{Room, heldAt, hashAt}
 use Rattle.cells.specs.CellsLaws.{hash-length}
-use Rattle.store.specs.Store.{usable, factsRoot, blocksOf, heightOf, positions}
+use Rattle.store.specs.Store.{usable, heightOf, positions}
 use Rattle.store.specs.StoreLaws.{usable-facts}
 use Rattle.settling.specs.Path.{sibling, ancestor, uncle}
-use Rattle.settling.specs.PathLaws.{sibling-even, sibling-odd, sibling-parent}
-use Rattle.settling.specs.AncestorLaws.{ancestor-le, ancestor-add, ancestor-parent}
+use Rattle.settling.specs.PathLaws.{sibling-even, sibling-odd}
+use Rattle.settling.specs.AncestorLaws.{ancestor-le}
 use Rattle.settling.specs.Span.{Within}
 use Rattle.settling.specs.SubtreeLaws.{run-leaf-in}
 use Rattle.header.specs.declared.Place.{Place}
-use Rattle.header.specs.Header.{headerSize, headerBytes, hashesId, rejectId, messageRoot, headerOf, isHashes, isRequest, isReject, rulesKept, messageSize}
+use Rattle.header.specs.Header.{headerSize, headerBytes, hashesId, messageRoot, headerOf, isHashes, isRequest, messageSize}
 use Rattle.messages.specs.Take.{headerNumber, runOf, unclesOf, given, placeIn, orElse}
 use Rattle.messages.specs.Asks.{Placed}
 use Rattle.messages.specs.TakeLaws.{passed, placed, request-form}
 use Rattle.serve.specs.Asks.{Reach, fitAnswer, fitAfter}
-use Rattle.serve.specs.Serve.{heldRun, runHashes, heldUncles, uncleHashes, allHeld, allHashes, replyTo, rejectTo, requestNumber, sentBack, unanswered, serveAnswer, serveAfter}
+use Rattle.serve.specs.Serve.{heldRun, runHashes, heldUncles, uncleHashes, allHeld, allHashes, replyTo, rejectTo, requestNumber, sentBack, serveAnswer, serveAfter}
 
 -- ---- the positions of a place
 
@@ -225,30 +223,6 @@ reject-length m e = ap suc (cut-length m 1 48 (omega arith))
 
 -- ---- where the hashes come from
 
-module _ (s m : List ℕ) (e : headerNumber (isRequest m) s m ≡ 0) where
-  top-some : 1 ≤ placeIn s m .top
-  top-some = omega (arith, request-placed s m e .anchor, ancestor-le (placeIn s m .u) (placeIn s m .top))
-
-  -- each hash of the run is a position's of the tree
-  pub run-position : (j : ℕ) → j < 2 ^ placeIn s m .k
-      → (1 ≤ placeIn s m .top * 2 ^ placeIn s m .k + j) × (placeIn s m .top * 2 ^ placeIn s m .k + j < positions (heightOf s))
-  run-position j l =
-      let p = placeIn s m in
-      let w : 1 * 2 ^ p .k ≤ p .top * 2 ^ p .k = mul-le-mul-right (2 ^ p .k) top-some in
-      (omega (arith, one-mul (2 ^ p .k)), omega (arith, run-inside s m e))
-
-  -- so is each uncle
-  pub uncle-position : (i : ℕ) → i < placeIn s m .u
-      → (1 ≤ sibling (ancestor i (placeIn s m .top))) × (sibling (ancestor i (placeIn s m .top)) < positions (heightOf s))
-  uncle-position i l =
-      let p = placeIn s m in
-      let x = ancestor i (p .top) in
-      let d : i + suc (p .u - suc i) ≡ p .u = omega arith in
-      let a : ancestor (p .u) (p .top) ≡ ancestor (suc (p .u - suc i)) x =
-      ap (λ (k : ℕ). ancestor k (p .top)) (sym d) ∙ ancestor-add i (suc (p .u - suc i)) (p .top) in
-      let h : 1 ≤ x / 2 = ancestor-parent (p .u - suc i) x (omega (arith, request-placed s m e .anchor)) in
-      (omega (arith, sibling-parent x), omega (arith, uncle-near i (p .top), uncles-inside s m e))
-
 module _ (s m : List ℕ) (z : requestNumber s m ≡ 0) where
   both-held : (heldRun s (placeIn s m .top * 2 ^ placeIn s m .k) (2 ^ placeIn s m .k) ≡ true) × (heldUncles s (placeIn s m .u) (placeIn s m .top) ≡ true)
   unfolding allHeld
@@ -306,16 +280,6 @@ head-same a b e = (
   where
     number : (at : ℕ) → at + 4 ≤ 48 → numberAt a (1 + at) 4 ≡ numberAt b (1 + at) 4
     number at l = sym (number-cut a 1 48 at 4 l) ∙ ap (λ (l : List ℕ). numberAt l at 4) e ∙ number-cut b 1 48 at 4 l
-
--- a reject repeats the request's,
-pub reject-head : (m : List ℕ) → length m ≡ headerSize → cut (rejectTo m) 1 48 ≡ headerBytes m
-unfolding rejectTo cut
-reject-head m e = cut-whole (headerBytes m) 48 (omega (arith, cut-length m 1 48 (omega arith)))
-
--- and is one
-pub reject-form-sent : (m : List ℕ) → length m ≡ headerSize → isReject (rejectTo m) ≡ true
-unfolding isReject rejectTo
-reject-form-sent m e = rw (eq-eqb (length (rejectTo m)) headerSize (reject-length m e))
 
 module _ (s m : List ℕ) (e : headerNumber (isRequest m) s m ≡ 0) where
   request-head : length (headerBytes m) ≡ 48
@@ -420,70 +384,3 @@ pub served-reject : (s m out : List ℕ) (n : ℕ) → requestNumber s m ≡ n �
     → (serveAnswer s m out ≡ fitAnswer n (rejectTo m) out) × (serveAfter s m out ≡ fitAfter (rejectTo m) out)
 unfolding serveAnswer serveAfter sentBack fitAnswer fitAfter
 served-reject s m out n e a b z = rw (e, ne-eqb n unusable a, ne-eqb n noMessage b, ne-eqb n 0 z) (refl, refl)
-
--- the output keeps its length,
-pub served-length : (s m out : List ℕ) → length (serveAfter s m out) ≡ length out
-unfolding serveAfter
-served-length s m out = by (sentBack s m) (unanswered (requestNumber s m)) (leb (length (sentBack s m)) (length out)) refl
-  where
-    by : (sent : List ℕ) (t v : Bool) → leb (length sent) (length out) ≡ v → length (cond t out (cond v (pasted out 0 sent) out)) ≡ length out
-    by sent true v e = refl
-    by sent false true e = pasted-length out 0 sent (omega (arith, leb-true (length sent) (length out) e))
-    by sent false false e = refl
-
--- and its bytes beyond what is sent
-pub served-rest : (s m out : List ℕ) (i : ℕ) → serveAnswer s m out .count ≤ i → getD (serveAfter s m out) i 0 ≡ getD out i 0
-unfolding serveAnswer serveAfter
-served-rest s m out i l = by (requestNumber s m) (sentBack s m) (unanswered (requestNumber s m)) (leb (length (sentBack s m)) (length out)) refl l
-  where
-    by : (n : ℕ) (sent : List ℕ) (t v : Bool) → leb (length sent) (length out) ≡ v
-        → cond t (refused n) (cond v (record { number = n; count = length sent }) (refused noRoom)) .count ≤ i
-        → getD (cond t out (cond v (pasted out 0 sent) out)) i 0 ≡ getD out i 0
-    by n sent true v e h = refl
-    by n sent false true e h = getD-pasted-after out 0 sent (omega (arith, leb-true (length sent) (length out) e)) i (omega arith)
-    by n sent false false e h = refl
-
--- the numbers that serving gives
-pub data ServeNumber : ℕ → Type 0 where
-  given-0 : ServeNumber 0
-  given-1 : ServeNumber 1
-  given-2 : ServeNumber 2
-  given-3 : ServeNumber 3
-  given-9 : ServeNumber 9
-  given-11 : ServeNumber 11
-  given-12 : ServeNumber 12
-
-header-numbers : (u f r k : Bool) → ServeNumber (cond u (cond f (cond r (cond k 0 ruleBroken) otherRoot) noMessage) unusable)
-header-numbers false f r k = given-9
-header-numbers true false r k = given-1
-header-numbers true true false k = given-2
-header-numbers true true true false = given-3
-header-numbers true true true true = given-0
-
-then-held : (n : ℕ) (t : Bool) → ServeNumber n → ServeNumber (orElse n (cond t 0 notHeld))
-then-held n true given-0 = given-0
-then-held n false given-0 = given-12
-then-held n t given-1 = given-1
-then-held n t given-2 = given-2
-then-held n t given-3 = given-3
-then-held n t given-9 = given-9
-then-held n t given-11 = given-11
-then-held n t given-12 = given-12
-
--- a request has one of them
-pub request-numbers : (s m : List ℕ) → ServeNumber (requestNumber s m)
-unfolding requestNumber headerNumber
-request-numbers s m =
-    then-held (headerNumber (isRequest m) s m) (allHeld s (placeIn s m))
-    (header-numbers (usable s) (isRequest m) (same (factsRoot s) (messageRoot m)) (rulesKept (headerOf m) (blocksOf s) (heightOf s)))
-
--- and an answer
-pub serve-numbers : (s m out : List ℕ) → ServeNumber (serveAnswer s m out .number)
-unfolding serveAnswer
-serve-numbers s m out =
-    by (requestNumber s m) (length (sentBack s m)) (unanswered (requestNumber s m)) (leb (length (sentBack s m)) (length out)) (request-numbers s m)
-  where
-    by : (n c : ℕ) (t v : Bool) → ServeNumber n → ServeNumber (cond t (refused n) (cond v (record { number = n; count = c }) (refused noRoom)) .number)
-    by n c true v q = q
-    by n c false true q = q
-    by n c false false q = given-11

@@ -1,14 +1,14 @@
 -- Each answer of the code, by one law over plain variables.
 -- Assumes nothing.
 use mathlib.Core.Path.{_≡_, refl, ap, ap₂, sym, _∙_, subst}
-use mathlib.Core.Bool.{Bool, true, false, cond, _&&_}
+use mathlib.Core.Bool.{Bool, true, false, cond}
 use mathlib.Core.List.{List, [], _∷_, _++_}
-use Prim.Native.Nat.{ℕ, zero, suc, _+_, _-_, _*_, _≤_, _<_}
+use Prim.Native.Nat.{ℕ, _+_, _-_, _≤_, _<_}
 use native.Mathlib.Omega.{arith}
 use native.Mathlib.Numerals.{add-one}
-use lib.ListN.{length, take, drop, set, getD}
+use lib.ListN.{length, take, set}
 use lib.Seq.{take-suc-set, length-take-le, getD-take}
-use lib.Dec.{leb, eqb}
+use lib.Dec.{leb}
 use borrow.Author.Tests.{eq-eqb, ne-eqb, le-leb, lt-leb}
 use Rattle.octets.specs.Octets.{cut, numberAt}
 use Rattle.octets.specs.OctetsLaws.{number-same, cut-cut}
@@ -19,12 +19,9 @@ use Rattle.store.specs.Store.{openAnswer, openAfter, opened, factsInRange, stor
 use Rattle.header.specs.Header.{hashesId}
 use Rattle.messages.specs.Take.{takeAnswer, takeAfter}
 use Rattle.session.specs.declared.Phase.{Phase}
-use Rattle.session.specs.declared.Phase.the-variants.{Fresh, Open, Opening, Inside, Body, Stopped}
-use Rattle.session.specs.declared.Line.{Line}
-use Rattle.session.specs.declared.Line.the-variants.{Nothing, Answered}
-use Rattle.session.specs.declared.Progress.{Progress}
+use Rattle.session.specs.declared.Phase.the-variants.{Open, Opening, Inside, Body, Stopped}
 use Rattle.session.specs.declared.Stepped.{Stepped}
-use Rattle.session.specs.Session.{Outcome, goes, says, broken, shut, outside, inside, opening, openingByte, bodyByte, step, seen, goesAt, saysAt, Due, Follows, maxBlocks, maxStore, maxMessage, lengthIn, pieceIn, rootIn}
+use Rattle.session.specs.Session.{Outcome, goes, says, outside, inside, opening, openingByte, bodyByte, step, goesAt, saysAt, Due, Follows, maxBlocks, maxStore, maxMessage, lengthIn, pieceIn, rootIn}
 use Rattle.session.specs.RoomLaws.{store-room, open-with-room}
 
 -- ---- the two forms of an answer

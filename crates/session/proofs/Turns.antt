@@ -1,20 +1,20 @@
 -- The turns of the loop over a piece.
 -- Assumes nothing.
-use mathlib.Core.Path.{_≡_, refl, ap, sym, _∙_, subst}
-use mathlib.Core.Bool.{Bool, true, false, cond}
-use mathlib.Core.List.{List, [], _∷_}
-use Prim.Native.Nat.{ℕ, zero, suc, _+_, _≤_, _<_}
+use mathlib.Core.Path.{_≡_, refl, ap, sym, _∙_}
+use mathlib.Core.Bool.{true, false}
+use mathlib.Core.List.{List, _∷_}
+use Prim.Native.Nat.{ℕ, suc, _+_, _≤_, _<_}
 use native.Mathlib.Omega.{arith}
 use native.Mathlib.Numerals.{add-one}
 use lib.ListN.{length, take, drop, getD, drop-of-length-le}
 use lib.Seq.{drop-cons}
 use Rattle.session.specs.declared.Line.{Line}
-use Rattle.session.specs.declared.Line.the-variants.{Nothing, Answered}
+use Rattle.session.specs.declared.Line.the-variants.{Nothing}
 use Rattle.session.specs.declared.Progress.{Progress}
 use Rattle.session.specs.declared.Stepped.{Stepped}
 use Rattle.session.specs.declared.Part.{Part}
 use Rattle.session.specs.SessionLaws.{reading-on, reading-said, reading-none}
-use Rattle.session.specs.Session.{Session, Outcome, Reading, step, next, silent, further, reading, seen, Due, Follows, Reads, maxMessage}
+use Rattle.session.specs.Session.{Session, Reading, step, next, silent, further, reading, seen, Due, Follows, Reads}
 
 -- ---- a reading with another count
 

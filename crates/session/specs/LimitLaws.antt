@@ -9,7 +9,7 @@ use borrow.Author.Tests.{lt-leb}
 use Rattle.numbers.specs.Numbers.{noMessage, factsOutOfRange}
 use Rattle.tree.specs.Geometry.{blockCount}
 use Rattle.session.specs.Session.{maxBlocks, maxMessage, lengthIn}
-use Rattle.session.specs.Lines.{Turn, inside, hash, stops, told, opened}
+use Rattle.session.specs.Lines.{inside, hash, stops, told, opened}
 
 -- a message of 528 hashes takes no other: the next hash record stops the replay with `1 0`, whatever length the header has
 pub hash-529-stops : (s m rest : List ℕ) → length m ≡ 49 + 32 * 528 → told (inside s m) hash rest ≡ stops noMessage s

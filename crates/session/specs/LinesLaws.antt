@@ -1,25 +1,24 @@
 -- The session, byte by byte, prints the lines of the records.
 -- Assumes nothing.
-use mathlib.Core.Path.{_≡_, refl, ap, ap₂, sym, _∙_, subst}
+use mathlib.Core.Path.{_≡_, refl, ap, sym, _∙_}
 use mathlib.Core.Bool.{Bool, true, false, cond, _&&_}
 use mathlib.Core.List.{List, [], _∷_, _++_, append-assoc}
-use Prim.Native.Nat.{ℕ, zero, suc, _+_, _-_, _*_, _≤_, _<_}
+use Prim.Native.Nat.{ℕ, zero, suc, _+_, _-_, _≤_, _<_}
 use native.Mathlib.Omega.{arith}
 use native.Mathlib.Decide.{ℕ-discrete}
 use lib.ListN.{length, take, drop, length-drop}
 use lib.Dec.{leb, eqb}
-use borrow.Author.Tests.{eq-eqb, ne-eqb, le-leb, lt-leb, leb-true, leb-false}
+use borrow.Author.Tests.{ne-eqb, le-leb, leb-true, leb-false}
 use Rattle.numbers.specs.Numbers.{refused, done, noMessage, factsOutOfRange}
 use Rattle.numbers.specs.declared.Answer.{Answer}
 use Rattle.session.specs.declared.Phase.{Phase}
-use Rattle.session.specs.declared.Phase.the-variants.{Fresh, Open, Opening, Inside, Body, Stopped}
-use Rattle.session.specs.declared.Line.{Line}
-use Rattle.session.specs.declared.Line.the-variants.{Nothing, Answered}
+use Rattle.session.specs.declared.Phase.the-variants.{Open, Opening, Inside, Body, Stopped}
+use Rattle.session.specs.declared.Line.the-variants.{Answered}
 use Rattle.session.specs.Session as S
-use Rattle.session.specs.Session.{Session, Outcome, goes, says, broken, step, next, lineOf, ending, printed, begun, maxMessage, lengthIn, pieceIn, rootIn, opens, bodyByte, openingByte}
+use Rattle.session.specs.Session.{Session, Outcome, goes, says, broken, step, lineOf, ending, printed, begun, maxMessage, lengthIn, pieceIn, rootIn, opens, bodyByte, openingByte}
 use Rattle.store.specs.Store as St
 use Rattle.header.specs.Header.{hashesId}
-use Rattle.session.specs.Lines.{Kind, opening, header, hash, finish, unknown, kindOf, bodySize, Turn, fresh, ready, inside, stopped, Told, opened, told, taken, atEnd, linesFrom, lines}
+use Rattle.session.specs.Lines.{Kind, opening, header, hash, finish, unknown, kindOf, bodySize, Turn, fresh, ready, inside, stopped, Told, opened, told, atEnd, linesFrom, lines}
 
 -- ---- the session between two records
 

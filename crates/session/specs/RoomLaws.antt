@@ -2,7 +2,7 @@
 -- Assumes nothing.
 use mathlib.Core.Path.{_≡_, refl}
 use mathlib.Core.Bool.{cond}
-use mathlib.Core.List.{List, []}
+use mathlib.Core.List.{List}
 use Prim.Native.Nat.{ℕ, _*_, _≤_}
 use native.Mathlib.Omega.{arith}
 use lib.ListN.{length}
@@ -12,7 +12,6 @@ use Rattle.tree.specs.Geometry.{blockLength, blockCount, ceilDiv, height, heigh
 use Rattle.store.specs.Store.{factsInRange, storeSize, positions, openAnswer}
 use Rattle.store.specs.StoreLaws.{store-size-grows}
 use Rattle.session.specs.Session.{maxBlocks, maxStore}
-use Rattle.session.specs.Lines.{lines, linesFrom}
 
 -- the store's bytes, counted
 pub max-store : maxStore ≡ 34335
@@ -31,8 +30,3 @@ pub open-with-room : (s : List ℕ) (n plen : ℕ) → maxStore ≤ length s →
     → openAnswer s n plen ≡ cond (factsInRange n plen) (done 1) (refused factsOutOfRange)
 unfolding openAnswer
 open-with-room s n plen l b = rw (le-leb (storeSize n) (length s) (omega (arith, store-room n b))) refl
-
--- an empty input prints nothing but `end`
-pub empty-lines : (lent : List ℕ) → lines lent [] ≡ []
-unfolding lines linesFrom
-empty-lines lent = refl

@@ -5,7 +5,7 @@ use mathlib.Core.Bool.{Bool, true, false, cond, _&&_}
 use mathlib.Core.Path.{_≡_}
 use Prim.Native.Nat.{ℕ, _+_, _-_, _*_, _≤_, _<_}
 use lib.ListN.{length, take}
-use lib.Dec.{leb, ltb, eqb}
+use lib.Dec.{leb, eqb}
 use Rattle.octets.specs.Octets.{cut, numberAt}
 use Rattle.numbers.specs.Numbers.{refused, done, noMessage, factsOutOfRange}
 use Rattle.numbers.specs.declared.Answer.{Answer}

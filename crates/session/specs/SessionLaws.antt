@@ -1,9 +1,9 @@
 -- Laws of a session: what reading a piece uses up, and that pieces of any size give the lines of the whole.
 -- Assumes nothing.
-use mathlib.Core.Path.{_≡_, refl, ap, sym, _∙_, subst}
-use mathlib.Core.Bool.{Bool, true, false, cond}
+use mathlib.Core.Path.{_≡_, refl, ap, _∙_}
+use mathlib.Core.Bool.{true, false}
 use mathlib.Core.List.{List, [], _∷_, _++_}
-use Prim.Native.Nat.{ℕ, zero, suc, _+_, _-_, _≤_, _<_}
+use Prim.Native.Nat.{ℕ, suc, _+_, _-_, _≤_, _<_}
 use native.Mathlib.Omega.{arith}
 use lib.ListN.{length, take, drop, length-take, length-drop}
 use Rattle.numbers.specs.declared.Answer.{Answer}
@@ -11,15 +11,12 @@ use Rattle.session.specs.declared.Line.{Line}
 use Rattle.session.specs.declared.Line.the-variants.{Nothing, Answered}
 use Rattle.session.specs.declared.Progress.{Progress}
 use Rattle.session.specs.declared.Part.{Part}
-use Rattle.session.specs.Session.{Session, Outcome, Reading, step, next, silent, lineOf, printed, begun, further, reading, seen, started, Due, Reads}
+use Rattle.session.specs.Session.{Session, Reading, next, silent, lineOf, printed, further, reading, seen, started, Due, Reads}
 
 -- ---- at the start nothing is gathered
 
 pub started-due : (q : Progress) → q ≡ started → Due (q .phase) (q .at)
 started-due q e = rw e (omega arith)
-
-pub started-seen : (s room : List ℕ) → seen started s room ≡ begun s
-started-seen s room = refl
 
 -- ---- one byte more of a reading
 

@@ -1,7 +1,6 @@
 // The replay of a session: records come in byte by byte, in pieces of any size, and each opening and each message's end gives a line.
 ghost use mathlib.Core.Path.{_≡_};
 ghost use mathlib.Core.Bool.{true};
-ghost use mathlib.Core.List.{[], _∷_};
 ghost use Prim.Native.Nat.{_+_, _≤_, _<_};
 ghost use lib.ListN.{length, take, replicate};
 ghost use Rattle.numbers.specs.Numbers.{refused};

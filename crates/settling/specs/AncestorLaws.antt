@@ -40,12 +40,6 @@ pub ancestor-suc : (u n : ℕ) → ancestor (suc u) n ≡ ancestor u n / 2
 unfolding ancestor
 ancestor-suc u n = ancestor-half u n
 
--- up u layers and then t more
-pub ancestor-add : (u t n : ℕ) → ancestor (u + t) n ≡ ancestor t (ancestor u n)
-unfolding ancestor
-ancestor-add zero t n = let e : zero + t ≡ t = omega arith in ap (λ (x : ℕ). ancestor x n) e
-ancestor-add (suc u) t n = let e : suc u + t ≡ suc (u + t) = omega arith in ap (λ (x : ℕ). ancestor x n) e ∙ ancestor-add u t (n / 2)
-
 -- where the anchor is a position, so is the parent that the way starts with
 pub ancestor-parent : (u n : ℕ) → 1 ≤ ancestor (suc u) n → 1 ≤ n / 2
 unfolding ancestor

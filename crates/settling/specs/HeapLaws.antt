@@ -3,8 +3,8 @@
 use mathlib.Core.Path.{_≡_, refl, ap, ap₂, sym, _∙_}
 use mathlib.Core.List.{List, _++_}
 use mathlib.Core.Bool.{Bool, _&&_}
-use mathlib.Core.Logic.{inl, inr}
-use Prim.Native.Nat.{ℕ, zero, suc, _+_, _-_, _*_, _/_, _%_, _^_, _≤_, _<_}
+use mathlib.Core.Logic.{inl}
+use Prim.Native.Nat.{ℕ, zero, suc, _+_, _-_, _*_, _%_, _^_, _≤_, _<_}
 use native.Mathlib.Nat.{add-mul, one-mul, mul-le-mul-right, le-mul-of-pos-right}
 use native.Mathlib.Decide.{decLt}
 use native.Mathlib.Omega.{arith}
@@ -22,10 +22,10 @@ use Rattle.tree.specs.ValuesLaws.{node-pair, leaf-block}
 use Rattle.heaps.specs.Heaps.{hashIn, Parents, Over, Worked}
 use Rattle.heaps.specs.HeapsLaws.{hash-over, node-moved, heap-top}
 use Rattle.cells.specs.Cells.{put}
-use Rattle.cells.specs.Entries.{Entry, one, agreesAt, agrees, lacks, fresh, putAll}
+use Rattle.cells.specs.Entries.{Entry, one, agreesAt, agrees, lacks}
 use Rattle.settling.specs.Span.{Within, Fit, roomLayers, roomSize}
 use Rattle.settling.specs.Subtree.{subtree, runLeaf, Loaded, Heaped}
-use Rattle.settling.specs.SubtreeLaws.{run-leaf-in, run-leaf-past, looked-zero, looked-up, Wrote, wrote-zero, wrote-up}
+use Rattle.settling.specs.SubtreeLaws.{run-leaf-in, run-leaf-past, looked-up, Wrote, wrote-up}
 
 -- a subtree's entries depend only on the leaves below it, wherever they are counted from
 pub subtree-moved : (f g : ℕ → List ℕ) (k n a c : ℕ) → ((y : ℕ) → y < 2 ^ k → f (a * 2 ^ k + y) ≡ g (c * 2 ^ k + y)) → subtree f k n a ≡ subtree g k n c

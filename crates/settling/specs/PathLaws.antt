@@ -151,12 +151,6 @@ parent-length n v w =
       | no z ↦ rw (parent-odd n v w z) (pair-octets w v .size)
     ]
 
--- what is worked out is 32 bytes, if it starts so
-pub risen-length : (hashes : List ℕ) (i u n : ℕ) (v : List ℕ) → length v ≡ 32 → length (risen hashes i u n v) ≡ 32
-unfolding risen
-risen-length hashes i zero n v e = e
-risen-length hashes i (suc u) n v e = risen-length hashes (i + 1) u (n / 2) (parentValue n v (uncle hashes i)) (parent-length n v (uncle hashes i))
-
 -- the path is sound, if the string has its uncles and b is even
 pub path-sound : (hashes : List ℕ) (b i u n : ℕ) (v : List ℕ) → 32 * (i + u) ≤ length hashes → b % 2 ≡ 0 → n < b → Sound b (path hashes i u n v)
 unfolding path
@@ -189,14 +183,6 @@ sibling-differs n e = elim (ℕ-discrete (n % 2) 0) [ yes z ↦ omega (arith, si
 -- both have the same parent
 pub sibling-parent : (n : ℕ) → sibling n / 2 ≡ n / 2
 sibling-parent n = elim (ℕ-discrete (n % 2) 0) [ yes z ↦ omega (arith, sibling-even n z) | no z ↦ omega (arith, sibling-odd n z) ]
-
--- and each stands beside the other
-pub sibling-twice : (n : ℕ) → sibling (sibling n) ≡ n
-sibling-twice n =
-    elim (ℕ-discrete (n % 2) 0) [
-      | yes z ↦ let e = sibling-even n z in omega (arith, sibling-odd (sibling n) (λ y. omega arith))
-      | no z ↦ let e = sibling-odd n z in omega (arith, sibling-even (sibling n) (omega arith))
-    ]
 
 -- what stands beside n is not below it
 pub sibling-outside : (n : ℕ) → 1 ≤ n → Under n (sibling n) → ⊥

@@ -16,12 +16,12 @@ use Rattle.octets.specs.OctetsLaws.{cut-length, cut-octets}
 use Rattle.sha256.specs.Sha256.{pairHash}
 use Rattle.sha256.specs.Sha256Laws.{pair-octets}
 use Rattle.tree.specs.Geometry.{nodeNumber}
-use Rattle.tree.specs.Values.{node, padValue, layerLeaf}
+use Rattle.tree.specs.Values.{node, padValue}
 use Rattle.tree.specs.ValuesLaws.{node-leaf, node-pair, node-same, node-padding}
 use Rattle.tree.specs.GeometryLaws.{right-end, left-start}
 use Rattle.cells.specs.Cells.{put}
 use Rattle.cells.specs.Entries.{Entry, one, agreesAt, agrees, putAll, lacks, fresh}
-use Rattle.cells.specs.EntriesLaws.{agree-one, put-one, fresh-one, agree-append, put-append, fresh-append, fresh-small, Sound, sound-one, sound-append, In, here, Has, has-same, in-left, in-right, in-cases, one-is, Apart, apart-one, apart-append}
+use Rattle.cells.specs.EntriesLaws.{agree-one, put-one, fresh-one, agree-append, put-append, fresh-append, fresh-small, lacks-small, Sound, sound-one, sound-append, In, here, Has, has-same, in-left, in-right, in-cases, one-is, Apart, apart-one, apart-append}
 use Rattle.settling.specs.Span.{Within, Fit}
 use Rattle.settling.specs.Subtree.{subtree, runLeaf}
 use Rattle.settling.specs.AncestorLaws.{Under, under-self, under-parent, under-from, under-apart}
@@ -56,11 +56,6 @@ unfolding Within
 within-pow b k n h =
     let one : 1 ≤ n + 1 = omega arith in
     omega (arith, mul-le-mul-right (2 ^ k) one)
-
--- from the inequality itself
-pub within-of : (b k n : ℕ) → (n + 1) * 2 ^ k ≤ b → Within b k n
-unfolding Within
-within-of b k n h = h
 
 -- a lower subtree with the same top lies below b too
 pub within-lower : (b k m n : ℕ) → m ≤ k → Within b k n → Within b m n
@@ -146,6 +141,18 @@ subtree-length leaf (suc k) n j =
 -- so fewer than 2·b positions become held
 pub subtree-small : (s : List ℕ) (leaf : ℕ → List ℕ) (b k n j : ℕ) → Within b k n → fresh s (subtree leaf k n j) < 2 * b
 subtree-small s leaf b k n j w = omega (arith, fresh-small s (subtree leaf k n j), subtree-length leaf k n j, within-pow b k n w)
+
+-- nor do more with both children and the top
+pub up-small : {ls b k n i : ℕ} → Fit ls b k n i → (k ≡ 0 → ⊥) → (s s1 s2 : List ℕ) (leaf : ℕ → List ℕ) (j al ar a : ℕ)
+    → al ≡ fresh s (subtree leaf (k - 1) (2 * n) (2 * j)) → ar ≡ fresh s1 (subtree leaf (k - 1) (2 * n + 1) (2 * j + 1)) → a ≡ lacks s2 n
+    → al + ar + a < 4 * b
+up-small {ls} {b} {k} {n} {i} f ne s s1 s2 leaf j al ar a el er ea =
+    omega (
+      arith,
+      subtree-small s leaf b (k - 1) (2 * n) (2 * j) (fit-left f ne .top),
+      subtree-small s1 leaf b (k - 1) (2 * n + 1) (2 * j + 1) (fit-right f ne .top),
+      lacks-small s2 n,
+    )
 
 -- ---- a call that looks, by its two ways
 
@@ -406,15 +413,6 @@ number-below h l i layers offset a b =
 pub spot-padding : (leaf : ℕ → List ℕ) (p from : ℕ) → ((i : ℕ) → from ≤ i → leaf i ≡ padValue p) → (k n j : ℕ) (e : Entry) (P : Spot leaf k n j e)
     → from ≤ (j * 2 ^ P .layers + P .offset) * 2 ^ (k - P .layers) → e .hash ≡ padValue (p + (k - P .layers))
 spot-padding leaf p from h k n j e P l = P .value ∙ node-padding leaf p from h (k - P .layers) (j * 2 ^ P .layers + P .offset) l
-
--- a run with a layer's padding value past it is that layer
-pub run-layer : (run : List ℕ) (p i : ℕ) → runLeaf run (padValue p) i ≡ layerLeaf run p i
-unfolding runLeaf layerLeaf
-run-layer run p i = refl
-
--- and its nodes are those above that layer
-pub run-layer-node : (run : List ℕ) (p k j : ℕ) → node (runLeaf run (padValue p)) k j ≡ node (layerLeaf run p) k j
-run-layer-node run p k j = node-same (runLeaf run (padValue p)) (layerLeaf run p) k j (λ i a b. run-layer run p i)
 
 -- what a subtree settles depends only on the leaves below it
 pub subtree-same : (f g : ℕ → List ℕ) (k n j : ℕ) → ((i : ℕ) → j * 2 ^ k ≤ i → i < (j + 1) * 2 ^ k → f i ≡ g i) → subtree f k n j ≡ subtree g k n j

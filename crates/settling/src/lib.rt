@@ -104,7 +104,7 @@ fn look_part(
     Seen { hash, agrees }
 }
 
-// The same, and every position of it becomes held.
+// The subtree over such a part of a run, worked out in the heap; and every position of it becomes held.
 fn write_part(
     s: &mut [u8],
     run: &[u8],
@@ -163,7 +163,7 @@ pub fn look_parts(
     }
 }
 
-// The same, in a room of its own.
+// What look_parts finds of a run, in a room of its own.
 pub fn look_run(
     s: &[u8],
     run: &[u8],
@@ -282,7 +282,7 @@ fn look_pieces(
     }
 }
 
-// The same, in a room of its own.
+// What look_pieces finds of a piece's bytes, in a room of its own.
 pub fn look_data(s: &[u8], bytes: &[u8], b: usize, k: usize, n: usize, j: usize) -> Seen
     requires { ⌜ Fit (length (now s)) b k n j ⌝ }
     ensures { λ r. ⌜ (r .hash ≡ node (leafOf (now (bytes .entry))) k j) × (r .agrees ≡ agrees (now (s .entry)) (subtree (leafOf (now (bytes .entry))) k n j)) ⌝ }
@@ -325,7 +325,7 @@ fn write_parts(
     Filled { hash: v, new: t }
 }
 
-// The same, in the room where look_parts has worked it out: what stayed there is written from there, not worked out again.
+// Every position becomes held, in the room where look_parts has worked it out: what stayed there is written from there, not worked out again.
 pub fn write_looked(
     s: &mut [u8],
     run: &[u8],

@@ -1,7 +1,7 @@
 -- A message as the code takes it: its whole blocks, then its last bytes with the padding; and with zeros behind it: the block of its last bytes
 -- filled up with zeros, then blocks of zeros.
 -- Assumes nothing.
-use mathlib.Core.Path.{_≡_, refl, ap, sym, _∙_}
+use mathlib.Core.Path.{_≡_, ap, sym, _∙_}
 use mathlib.Core.List.{List, _++_}
 use Prim.Native.Nat.{ℕ, _+_, _-_, _*_, _/_, _%_, _<_, _≤_}
 use native.Mathlib.Omega.{arith}

@@ -2,7 +2,7 @@
 -- Assumes nothing.
 use mathlib.Core.List.{List}
 use Prim.Native.Nat.{ℕ}
-use Rattle.octets.specs.Octets.{Octets, be}
+use Rattle.octets.specs.Octets.{Octets}
 use Rattle.octets.specs.OctetsLaws.{append-octets, be-octets}
 use Rattle.padding.specs.Cutting.{overMessage}
 use Rattle.rounds1.specs.Block.{compress}

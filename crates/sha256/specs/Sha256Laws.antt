@@ -2,7 +2,7 @@
 -- Assumes nothing.
 use mathlib.Core.List.{List, _++_}
 use Prim.Native.Nat.{ℕ}
-use Rattle.octets.specs.Octets.{Octets, be}
+use Rattle.octets.specs.Octets.{Octets}
 use Rattle.octets.specs.OctetsLaws.{append-octets, be-octets}
 use Rattle.constants.specs.Constants.{K}
 use Rattle.padding.specs.Cutting.{overMessage}

@@ -12,10 +12,9 @@ use lib.Dec.{ltb}
 use lib.Seq.{drop-cons, getD-take, getD-drop, drop-drop, take-at, take-suc-set, drop-set-lt, drop-at, getD-set-same, getD-set-other, length-take-le}
 use Rattle.octets.specs.Octets.{cut}
 use Rattle.bencode.specs.Grammar.{precedes}
-use Rattle.sorting.specs.Sorting.{lower, sorted, thinnedFrom, thinned}
-use Rattle.sorting.specs.Order.{Fit, Sorted}
-use Rattle.sorting.specs.MovedLaws.{moved-length, moved-fit}
-use Rattle.sorting.proofs.Sorting.{is-sorted}
+use Rattle.sorting.specs.Sorting.{Fit, lower, sorted, thinnedFrom, thinned}
+use Rattle.sorting.specs.SortedByLaws.{sorted-member, sorted-length}
+use Rattle.sorting.specs.SortingLaws.{fit-within}
 
 -- ---- one position
 
@@ -135,17 +134,16 @@ first-fit m at z count e f i h =
     rw (getD-take z at i 0 (omega arith)) (f i (omega arith))
 
 module _ (s at : List ℕ) (z count : ℕ) (e : z ≡ count) (l : count ≤ length at) (a : List ℕ) (p : a ≡ sorted s (take z at)) where
-  so : Sorted s (take z at) a
-  so = is-sorted s (take z at) a p
-
   sorted-size : length a ≡ z
-  sorted-size = sym (moved-length (so .moved)) ∙ length-take-le z at (omega arith)
+  sorted-size = ap length p ∙ sorted-length (lower s) (take z at) ∙ length-take-le z at (omega arith)
 
   sorted-back : take z (a ++ drop z at) ≡ a
   sorted-back = take-at a (drop z at) z sorted-size
 
   pub sorted-fit : (m : ℕ) → ((i : ℕ) → i < count → getD at i 0 + 32 ≤ m) → Fit m (take z (a ++ drop z at))
-  sorted-fit m f = subst (λ (t : List ℕ). Fit m t) (sym sorted-back) (moved-fit m (so .moved) (first-fit m at z count e f))
+  sorted-fit m f =
+      subst (λ (t : List ℕ). Fit m t) (sym (sorted-back ∙ p))
+      (fit-within m (take z at) (sorted s (take z at)) (sorted-member (lower s) (take z at)) (first-fit m at z count e f))
 
   -- and thinned
   pub thinned-back : (r : ℕ) (b : List ℕ) → (r ≡ length (thinned s (take z (a ++ drop z at)))) × (b ≡ thinned s (take z (a ++ drop z at)) ++ drop r (take z (a ++ drop z at)))

@@ -1,8 +1,9 @@
+pub mod SortedBy
+pub mod Merged
 pub mod Sorting
-pub mod Order
+pub mod PermutedLaws
+pub mod SortedByLaws
+pub mod MergedLaws
 pub mod PrecedesLaws
-pub mod MovedLaws
-pub mod OrderLaws
-pub mod SortedLaws
-pub mod ThinnedLaws
 pub mod SortingLaws
+pub mod ThinnedLaws

@@ -97,11 +97,3 @@ behind-trans x y z p q = by-case (precedes z x) refl (precedes y z) refl
     by-case false e u f = refl
     by-case true e true f = absurd (false≢true (sym p ∙ precedes-trans y z x f e))
     by-case true e false f = absurd (false≢true (sym p ∙ ap (λ (l : List ℕ). precedes l x) (precedes-either y z f q) ∙ e))
-
--- before one that does not stand behind: before it too
-pub before-behind : (x y z : List ℕ) → precedes x y ≡ true → precedes z y ≡ false → precedes x z ≡ true
-before-behind x y z p q = by-case (precedes x z) refl
-  where
-    by-case : (t : Bool) → precedes x z ≡ t → t ≡ true
-    by-case true e = refl
-    by-case false e = absurd (false≢true (sym (behind-trans y z x q e) ∙ p))

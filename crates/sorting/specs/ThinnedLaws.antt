@@ -1,6 +1,7 @@
 -- Positions in the order of their strings, each string once: what is kept ascends, lies where the others did, and has every string.
 -- Assumes nothing.
 use mathlib.Core.Path.{_≡_, refl, sym, ap, _∙_}
+use mathlib.Core.Logic.{_⊎_, inl, inr}
 use mathlib.Core.Bool.{Bool, true, false, cond}
 use mathlib.Core.List.{List, [], _∷_, _++_}
 use Prim.Native.Nat.{ℕ, zero, suc, _+_, _≤_, _<_}
@@ -10,11 +11,12 @@ use lib.ListN.{length, getD, take}
 use lib.Seq.{take-at, getD-take}
 use Rattle.octets.specs.Octets.{cut}
 use Rattle.bencode.specs.Grammar.{precedes}
-use Rattle.sorting.specs.Sorting.{Ascending, Stands, lower, sorted, thinnedFrom, thinned}
-use Rattle.sorting.specs.Order.{Fit, All, Rising}
+use Rattle.meaning.specs.Counting.{Member, Contained}
+use Rattle.sorting.specs.Sorting.{Fit, Ascending, Stands, lower, sorted, thinnedFrom, thinned}
+use Rattle.sorting.specs.PermutedLaws.{permuted-member, member-at}
+use Rattle.sorting.specs.SortedByLaws.{OrderedFrom, Ordered, ordered-skip, sorted-permuted, sorted-member, sorted-ordered}
 use Rattle.sorting.specs.PrecedesLaws.{precedes-either}
-use Rattle.sorting.specs.MovedLaws.{moved-back, moved-all, all-of, all-at, all-so}
-use Rattle.sorting.specs.SortedLaws.{sorted-so}
+use Rattle.sorting.specs.SortingLaws.{lower-one-way, lower-behind, fit-within}
 
 module _ (s : List ℕ) where
   -- ---- it ascends
@@ -41,20 +43,22 @@ module _ (s : List ℕ) where
 
   -- ---- it lies where the others did
 
-  module _ (P : ℕ → Type 0) where
-    from-all : (p : ℕ) (qs : List ℕ) → All P qs → All P (thinnedFrom s p qs)
-    unfolding thinnedFrom All
-    from-all p [] a = tt
-    from-all p (q ∷ qs) a = by-test (lower s p q) (from-all q qs (a .1)) (from-all p qs (a .1))
-      where
-        by-test : (t : Bool) → All P (thinnedFrom s q qs) → All P (thinnedFrom s p qs) → All P (cond t (q ∷ thinnedFrom s q qs) (thinnedFrom s p qs))
-        by-test true f g = (a .0, f)
-        by-test false f g = g
+  from-there : (p : ℕ) (qs : List ℕ) → Contained (thinnedFrom s p qs) qs
+  unfolding thinnedFrom Member
+  from-there p [] z m = m
+  from-there p (q ∷ qs) z m = by-test (lower s p q) m (from-there q qs z) (from-there p qs z)
+    where
+      by-test : (t : Bool) → Member z (cond t (q ∷ thinnedFrom s q qs) (thinnedFrom s p qs)) → (Member z (thinnedFrom s q qs) → Member z qs)
+          → (Member z (thinnedFrom s p qs) → Member z qs) → (z ≡ q) ⊎ Member z qs
+      by-test true (inl e) f g = inl e
+      by-test true (inr k) f g = inr (f k)
+      by-test false k f g = inr (g k)
 
-    thinned-all : (ps : List ℕ) → All P ps → All P (thinned s ps)
-    unfolding thinned All
-    thinned-all [] a = tt
-    thinned-all (p ∷ ps) a = (a .0, from-all p ps (a .1))
+  thinned-there : (ps : List ℕ) → Contained (thinned s ps) ps
+  unfolding thinned Member
+  thinned-there [] z m = m
+  thinned-there (p ∷ ps) z (inl e) = inl e
+  thinned-there (p ∷ ps) z (inr m) = inr (from-there p ps z m)
 
   -- ---- every string is there
 
@@ -68,21 +72,24 @@ module _ (s : List ℕ) where
   unfolding lower
   same-string p q e f = precedes-either (cut s p 32) (cut s q 32) e f
 
-  from-kept : (p : ℕ) (qs : List ℕ) → Rising s (p ∷ qs) → All (Kept (p ∷ thinnedFrom s p qs)) qs
-  unfolding thinnedFrom All Rising
-  from-kept p [] r = tt
-  from-kept p (q ∷ qs) r = by-test (lower s p q) refl (from-kept q qs (r .1)) (from-kept p qs (r .0 .1, r .1 .1))
+  from-kept : (p : ℕ) (qs : List ℕ) → OrderedFrom (lower s) p qs → (z : ℕ) → Member z qs → Kept (p ∷ thinnedFrom s p qs) z
+  unfolding thinnedFrom OrderedFrom Member
+  from-kept p [] o z m = absurd m
+  from-kept p (q ∷ qs) o z m =
+      by-test (lower s p q) refl m (from-kept q qs (o .1) z) (from-kept p qs (ordered-skip (lower s) (lower-behind s) p q qs (o .0) (o .1)) z)
     where
-      by-test : (t : Bool) → lower s p q ≡ t → All (Kept (q ∷ thinnedFrom s q qs)) qs → All (Kept (p ∷ thinnedFrom s p qs)) qs
-          → Kept (p ∷ cond t (q ∷ thinnedFrom s q qs) (thinnedFrom s p qs)) q × All (Kept (p ∷ cond t (q ∷ thinnedFrom s q qs) (thinnedFrom s p qs))) qs
-      by-test true e f g =
-          ((1, omega arith, refl), all-so (Kept (q ∷ thinnedFrom s q qs)) (Kept (p ∷ q ∷ thinnedFrom s q qs)) qs (λ x k. behind p (q ∷ thinnedFrom s q qs) x k) f)
-      by-test false e f g = ((0, omega arith, same-string p q e (r .0 .0)), g)
+      by-test : (t : Bool) → lower s p q ≡ t → (z ≡ q) ⊎ Member z qs → (Member z qs → Kept (q ∷ thinnedFrom s q qs) z)
+          → (Member z qs → Kept (p ∷ thinnedFrom s p qs) z) → Kept (p ∷ cond t (q ∷ thinnedFrom s q qs) (thinnedFrom s p qs)) z
+      by-test true e (inl a) f g = (1, omega arith, ap (λ (x : ℕ). cut s x 32) (sym a))
+      by-test true e (inr k) f g = behind p (q ∷ thinnedFrom s q qs) z (f k)
+      by-test false e (inl a) f g = (0, omega arith, same-string p q e (o .0) ∙ ap (λ (x : ℕ). cut s x 32) (sym a))
+      by-test false e (inr k) f g = g k
 
-  thinned-kept : (ps : List ℕ) → Rising s ps → All (Kept (thinned s ps)) ps
-  unfolding thinned All
-  thinned-kept [] r = tt
-  thinned-kept (p ∷ ps) r = ((0, omega arith, refl), from-kept p ps r)
+  thinned-kept : (ps : List ℕ) → Ordered (lower s) ps → (z : ℕ) → Member z ps → Kept (thinned s ps) z
+  unfolding thinned Ordered Member
+  thinned-kept [] o z m = absurd m
+  thinned-kept (p ∷ ps) o z (inl a) = (0, omega arith, ap (λ (x : ℕ). cut s x 32) (sym a))
+  thinned-kept (p ∷ ps) o z (inr m) = from-kept p ps o z m
 
   -- ---- of positions that were sorted, in an array that begins with what is kept
 
@@ -98,11 +105,12 @@ module _ (s : List ℕ) where
 
     pub once-fits : (m : ℕ) → Fit m ps → (i : ℕ) → i < count → getD at i 0 + 32 ≤ m
     once-fits m f i h =
-        let P : (ℕ → Type 0) = λ p. p + 32 ≤ m in
-        rw (place i h) (all-at P (thinned s (sorted s ps)) (thinned-all P (sorted s ps) (moved-all P (sorted-so s ps .moved) (all-of P ps f))) i (omega arith))
+        let within : Contained (thinned s (sorted s ps)) ps = λ p k. sorted-member (lower s) ps p (thinned-there (sorted s ps) p k) in
+        rw (place i h) (fit-within m ps (thinned s (sorted s ps)) within f i (omega arith))
 
     pub once-stands : (i : ℕ) → i < length ps → Stands s at count (cut s (getD ps i 0) 32)
     once-stands i h =
-        let w = all-at (Kept (thinned s (sorted s ps))) ps (moved-all (Kept (thinned s (sorted s ps))) (moved-back (sorted-so s ps .moved)) (thinned-kept (sorted s ps) (sorted-so s ps .rising))) i h in
+        let there = permuted-member ps (sorted s ps) (getD ps i 0) (sorted-permuted (lower s) ps) (member-at ps i 0 h) in
+        let w = thinned-kept (sorted s ps) (sorted-ordered (lower s) (lower-one-way s) (lower-behind s) ps) (getD ps i 0) there in
         let b : w .0 < count = omega (arith, w .1) in
         (w .0, b, ap (λ (p : ℕ). cut s p 32) (place (w .0) b) ∙ w .2)

@@ -8,8 +8,7 @@ ghost use lib.ListN.{length, take, drop, getD, set};
 ghost use lib.Dec.{ltb};
 ghost use mathlib.Core.Bool.{cond};
 ghost use mathlib.Core.List.{_++_};
-ghost use Rattle.sorting.specs.Sorting.{lower, sorted, thinned};
-ghost use Rattle.sorting.specs.Order.{Fit};
+ghost use Rattle.sorting.specs.Sorting.{Fit, lower, sorted, thinned};
 
 // Position i goes behind the `kept` ones, if its string stands behind the last of theirs; how many are kept then.
 fn keep(s: &[u8], at: &mut [u32], kept: usize, i: usize) -> usize

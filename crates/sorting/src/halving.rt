@@ -2,8 +2,6 @@
 use crate::compare::follows_key;
 use crate::compare::index;
 use crate::compare::precedes_key;
-ghost use mathlib.Core.Path.{_≡_};
-ghost use mathlib.Core.Logic.{_⊎_};
 ghost use Prim.Native.Nat.{ℕ, _+_, _≤_, _<_};
 ghost use lib.ListN.{length, getD};
 ghost use Rattle.sorting.specs.Sorting.{Ascending, SearchedFor};

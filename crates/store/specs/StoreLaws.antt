@@ -20,8 +20,8 @@ use Rattle.tree.specs.Geometry.{blockLength, blockCount, height, nodeNumber, pi
 use Rattle.tree.specs.GeometryLaws.{block-count-some, block-outside, height-enough, height-grows, node-number-range, short-file-height}
 use Rattle.cells.specs.Cells.{Room, heldAt, hashAt, put}
 use Rattle.cells.specs.CellsLaws.{put-length, put-room, put-outside, held-put-same, held-put-other, hash-put-same, unheld}
-use Rattle.cells.specs.Entries.{Entry, one, putAll, oneIf, newly}
-use Rattle.cells.specs.EntriesLaws.{Sound, none, more, FromRoot, empty, next, count-fresh, fresh-one, lacks-free, put-one, putAll-length}
+use Rattle.cells.specs.Entries.{Entry, putAll, oneIf}
+use Rattle.cells.specs.EntriesLaws.{Sound, none, more, FromRoot, empty, next, putAll-length}
 use Rattle.limits.specs.Limits.{longestFile, tallestTree}
 use Rattle.store.specs.Store.{fileLength, pieceLength, factsRoot, blocksOf, heightOf, positions, factsInRange, storeSize, usable, sizeAnswer, opened, openAnswer, openAfter, inTree, noHash, heldAnswer, Facts, SameFacts, factBytes}
 
@@ -395,10 +395,6 @@ module _ (s : List ℕ) (f : Facts s) (n : ℕ) (low : 1 ≤ n) (below : n < pos
   pub put-facts : Facts (put s n h)
   put-facts = facts-same s (put s n h) put-fact-bytes f (omega (arith, put-length s (positions (heightOf s)) n (f .room) below h size, f .size))
 
-  -- so usable is what it was
-  pub put-usable : usable (put s n h) ≡ usable s
-  put-usable = facts-usable (put s n h) put-facts ∙ sym (facts-usable s f)
-
 module _ (s : List ℕ) (f : Facts s) (L : List Entry) (sound : Sound (positions (heightOf s)) L) (from : FromRoot L) where
   -- any list of entries changes no byte of the facts
   pub putAll-fact-bytes : factBytes (putAll s L) ≡ factBytes s
@@ -607,12 +603,3 @@ module _ (s : List ℕ) (n plen : ℕ) (root : List ℕ) (ok : factsInRange n pl
   opened-count =
       count-one (opened s n plen root) (positions (height (blockCount n)) - 1) (omega (arith, two))
       (λ q a b. opened-held q a (omega (arith, two)))
-
-  -- the same as other counts are given: one position is held that the bare facts do not hold
-  pub opened-newly : newly (positions (height (blockCount n))) (pasted (zeroed s (storeSize n)) 0 (be 8 n ++ (be 4 plen ++ root))) (opened s n plen root) ≡ 1
-  unfolding opened bare named
-  opened-newly =
-      ap (newly (positions (height (blockCount n))) bare) (sym (put-one bare 1 root))
-      ∙ count-fresh (positions (height (blockCount n))) (one 1 root) bare bare-room (more two size none) (next (omega arith) empty)
-      ∙ fresh-one bare 1 root
-      ∙ lacks-free bare 1 (bare-unheld 1 (omega arith) two)

@@ -8,7 +8,7 @@ use Prim.Native.Nat.{ℕ, zero, suc, _-_, _≤_, _<_}
 use native.Mathlib.Omega.{arith}
 use lib.ListN.{length}
 use lib.Dec.{eqb, leb}
-use borrow.Author.Tests.{eqb-true, eqb-false, ne-eqb, le-leb, lt-leb, leb-true, leb-false}
+use borrow.Author.Tests.{eqb-true, eqb-false, ne-eqb, le-leb, leb-true, leb-false}
 use Rattle.limits.specs.Limits.{largestTorrent, maxLevels}
 use Rattle.numbers.specs.Numbers.{torrentTooLarge, notStrict, nestedTooDeeply, wrongTree, twoLengths, layersAmiss, layerDiffers, noSuchPart, halvesDiffer}
 use Rattle.sha256.specs.Sha256.{sha256}
@@ -16,7 +16,7 @@ use Rattle.tree.specs.Geometry.{isPieceLength}
 use Rattle.bencode.specs.Grammar.{dictionary, Entries, encode, Valid}
 use Rattle.bencode.specs.Parts.{lookup}
 use Rattle.bencode.specs.DepthLaws.{more-levels}
-use Rattle.bencode.specs.Strict.{Encoded, TooDeepFirst, strictness}
+use Rattle.bencode.specs.Strict.{strictness}
 use Rattle.bencode.specs.StrictLaws.{taken, taken-only, deep-first, deep-only, one-of-three, otherwise, otherwise-only}
 use Rattle.meaning.specs.Keys.{keyMetaVersion}
 use Rattle.meaning.specs.Torrent.{File, isNumber, infoOf, treeOf, hasKeys, treeRight, filesOf, lengthsAgree, layersFit, noOthers, layersGiveRoots, plenOf, layersOf, valueNumber}
@@ -32,7 +32,8 @@ use Rattle.twins.specs.Twins.{layerCount}
 use Rattle.joined.specs.Alike.{all-alike}
 use Rattle.joined.specs.LayersMeaning.{layers-number}
 use Rattle.joined.specs.KeysLaws.{KeysAt, keys-number, keys-point, none-exactly}
-use Rattle.joined.specs.StrictTorrentLaws.{strict-keys, keys-first, tree-next, torrent-tree, torrent-files}
+use Rattle.metainfo.proofs.Finding.{too-large, strict-keys}
+use Rattle.joined.specs.StrictTorrentLaws.{keys-first, tree-next, torrent-tree, torrent-files}
 use Rattle.torrent.specs.Torrent.{filesNumber, treeNumber, judgedAs, judgedOf, unread, withJudged, v2CheckedOf, checkedOf, noTorrent, readOf, noFileRead, fileRead, noPartRead, pathRead}
 use Rattle.torrent.specs.Answers.{Says, tooLarge, noEncoding, tooDeep, encodes}
 use Rattle.torrent.specs.declared.read.FileRead.{FileRead}
@@ -145,11 +146,6 @@ checked-refused s n e h =
     let v : v2CheckedOf s .keys .number ≡ n = v2-refused s n e h in
     half-number s ∙ rw v (rw (ne-eqb n 0 h) refl)
 
--- more than 1 MiB
-large-keys : (s : List ℕ) → largestTorrent < length s → metainfoOf s ≡ noKeys torrentTooLarge
-unfolding metainfoOf
-large-keys s h = rw (lt-leb (length s) largestTorrent h) refl
-
 -- bytes that are not strict
 broken-keys : (s : List ℕ) (n : ℕ) → length s ≤ largestTorrent → strictness s ≡ suc n → metainfoOf s ≡ noKeys (suc n)
 unfolding metainfoOf
@@ -166,50 +162,16 @@ torrent-number s = by-size (leb (length s) largestTorrent) refl
 
     by-size : (b : Bool) → leb (length s) largestTorrent ≡ b → Says s (checkedOf s .keys .number)
     by-size true e = by-strict (leb-true (length s) largestTorrent e) (one-of-three s)
-    by-size false e = let h = leb-false (length s) largestTorrent e in tooLarge h (checked-refused s torrentTooLarge (large-keys s h) (λ z. omega arith))
+    by-size false e = let h = leb-false (length s) largestTorrent e in tooLarge h (checked-refused s torrentTooLarge (too-large s h) (λ z. omega arith))
 
 -- and of no other number
 pub no-other-number : (s : List ℕ) (n : ℕ) → Says s n → n ≡ checkedOf s .keys .number
-no-other-number s n (tooLarge h e) = e ∙ sym (checked-refused s torrentTooLarge (large-keys s h) (λ z. omega arith))
+no-other-number s n (tooLarge h e) = e ∙ sym (checked-refused s torrentTooLarge (too-large s h) (λ z. omega arith))
 no-other-number s n (noEncoding h a b e) = e ∙ sym (checked-refused s notStrict (broken-keys s 19 h (otherwise s a b)) (λ z. omega arith))
 no-other-number s n (tooDeep h d e) = e ∙ sym (checked-refused s nestedTooDeeply (broken-keys s 20 h (deep-only s d)) (λ z. omega arith))
 no-other-number s n (encodes h es v b e) = e ∙ sym (number-is-the-values s es b v h)
 
 -- ---- 19, 20 and 21 only then
-
--- no value has one of them
-no-value-has : (es : Entries) (n : ℕ) → 0 < n → n < 22 → torrentNumber es ≡ n → ⊥
-no-value-has es n l h q = elim (torrent-ranged es) [ inl z ↦ omega arith | inr w ↦ elim w [ inl p ↦ (let w = p .0 in omega arith) | inr z ↦ omega arith ] ]
-
--- 19 only for more than 1 MiB
-pub large-only : (s : List ℕ) → checkedOf s .keys .number ≡ torrentTooLarge → largestTorrent < length s
-large-only s e = by-case (torrent-number s)
-  where
-    by-case : Says s (checkedOf s .keys .number) → largestTorrent < length s
-    by-case (tooLarge h q) = h
-    by-case (noEncoding h a b q) = absurd (omega arith)
-    by-case (tooDeep h d q) = absurd (omega arith)
-    by-case (encodes h es v b q) = absurd (no-value-has es torrentTooLarge (omega arith) (omega arith) (sym q ∙ e))
-
--- 20 only for bytes that encode no valid dictionary, and in which the depth is not wrong first
-pub broken-only : (s : List ℕ) → checkedOf s .keys .number ≡ notStrict → (length s ≤ largestTorrent) × (Encoded maxLevels s → ⊥) × (TooDeepFirst s → ⊥)
-broken-only s e = by-case (torrent-number s)
-  where
-    by-case : Says s (checkedOf s .keys .number) → (length s ≤ largestTorrent) × (Encoded maxLevels s → ⊥) × (TooDeepFirst s → ⊥)
-    by-case (tooLarge h q) = absurd (omega arith)
-    by-case (noEncoding h a b q) = (h, a, b)
-    by-case (tooDeep h d q) = absurd (omega arith)
-    by-case (encodes h es v b q) = absurd (no-value-has es notStrict (omega arith) (omega arith) (sym q ∙ e))
-
--- 21 only where the depth is wrong first
-pub too-deep-only : (s : List ℕ) → checkedOf s .keys .number ≡ nestedTooDeeply → (length s ≤ largestTorrent) × TooDeepFirst s
-too-deep-only s e = by-case (torrent-number s)
-  where
-    by-case : Says s (checkedOf s .keys .number) → (length s ≤ largestTorrent) × TooDeepFirst s
-    by-case (tooLarge h q) = absurd (omega arith)
-    by-case (noEncoding h a b q) = absurd (omega arith)
-    by-case (tooDeep h d q) = (h, d)
-    by-case (encodes h es v b q) = absurd (no-value-has es nestedTooDeeply (omega arith) (omega arith) (sym q ∙ e))
 
 -- every other number, 0 among them, is what 01 and 02 say of the value that the bytes encode
 pub value-only : (s : List ℕ) → (checkedOf s .keys .number ≡ 0) ⊎ (22 ≤ checkedOf s .keys .number)

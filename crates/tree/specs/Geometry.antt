@@ -1,5 +1,12 @@
 -- 01, "The tree", and BEP 52: what a file's length and its piece length fix. Numbers only.
 -- Positions are a layer l, from 0 at the leaves, and an index i in it.
+--
+--   layer 3                     0                      the root: height 3 for five to eight blocks
+--   layer 2           0                   1
+--   layer 1       0       1           2       3        3 is padding: all leaves below it are
+--   layer 0     0   1   2   3       4   5   6   7      a file of five blocks: 5, 6 and 7 are padding, their value is zeros
+--
+-- With pieces of two blocks layer 1 is the piece layer, and its positions 0, 1 and 2 are the file's pieces.
 -- Assumes nothing.
 use mathlib.Core.Bool.{Bool, cond, _&&_}
 use Prim.Native.Nat.{ℕ, zero, suc, _+_, _-_, _*_, _/_, _^_, _≤_, min}

@@ -3,7 +3,7 @@
 use mathlib.Core.Path.{_≡_, refl, ap, sym, _∙_}
 use mathlib.Core.Bool.{Bool, true, false, cond, _&&_, and-eq-true-iff}
 use Prim.Native.Nat.{ℕ, zero, suc, _+_, _-_, _*_, _/_, _%_, _^_, _≤_, _<_}
-use native.Mathlib.Nat.{add-mul, one-mul, mul-one, add-div-right, zero-mul, mul-suc, mul-assoc, mul-comm, pow-succ', div-zero, div-lt-iff-lt-mul, mul-div-cancel-left, one-le-mul, mul-le-mul-left, le-antisymm}
+use native.Mathlib.Nat.{add-mul, one-mul, mul-one, add-div-right, zero-mul, mul-assoc, mul-comm, pow-succ', div-zero, div-lt-iff-lt-mul, mul-div-cancel-left, one-le-mul, mul-le-mul-left, le-antisymm}
 use native.Mathlib.Decide.{decLe, decLt}
 use native.Mathlib.Omega.{arith}
 use lib.Dec.{leb, eqb}
@@ -116,10 +116,6 @@ height-least b k h = height-from-least b 0 b k (omega arith) h
 pub height-zero : height 0 ≡ 0
 height-zero = let l = height-least 0 0 (omega arith) in omega arith
 
--- and so has that of one block
-pub height-one : height 1 ≡ 0
-height-one = let l = height-least 1 0 (pow-pos 0) in omega arith
-
 -- of a power of two it is the exponent
 pub height-pow : (k : ℕ) → height (2 ^ k) ≡ k
 height-pow k = le-antisymm (height-least (2 ^ k) k (omega arith)) (at-least (decLt (height (2 ^ k)) k))
@@ -152,11 +148,6 @@ pub height-fits : (b : ℕ) → b < 2 ^ 64 → height b ≤ 64
 height-fits b l = height-least b 64 (omega arith)
 
 -- ---- padding
-
--- one layer up the positions that aren't padding halve, rounded up
-pub covering-halves : (b l : ℕ) → covering b (suc l) ≡ ceilDiv (covering b l) 2
-unfolding covering
-covering-halves b l = rw pow-succ' (sym (ceil-ceil b (2 ^ l) 2 (pow-pos l) (omega arith)))
 
 -- a position is padding exactly from the covering count on
 pub padding-from-covering : (b l i : ℕ) → covering b l ≤ i → Padding b l i
@@ -227,11 +218,6 @@ right-start i l = add-mul (2 * i) 1 (2 ^ l) ∙ ap (λ (x : ℕ). (2 * i) * 2 ^ 
 -- and ends where its parent does
 pub right-end : (i l : ℕ) → (2 * i + 1 + 1) * 2 ^ l ≡ (i + 1) * 2 ^ suc l
 right-end i l = let e : 2 * i + 1 + 1 ≡ 2 * (i + 1) = omega arith in rw e (left-start (i + 1) l)
-
--- the parent of a left child that is padding is padding
-pub padding-parent : (b l i : ℕ) → Padding b l (2 * i) → Padding b (suc l) i
-unfolding Padding
-padding-parent b l i h = omega (arith, left-start i l)
 
 -- and both children of padding are padding
 pub padding-left : (b l i : ℕ) → Padding b (suc l) i → Padding b l (2 * i)
@@ -304,7 +290,7 @@ pub and-false : (t : Bool) → (t && false) ≡ false
 and-false true = refl
 and-false false = refl
 
-and-true : (t : Bool) → (t && true) ≡ t
+pub and-true : (t : Bool) → (t && true) ≡ t
 and-true true = refl
 and-true false = refl
 
@@ -331,21 +317,10 @@ unfolding pieceCount
 piece-starts n zero i h = absurd (omega (arith, ceil-by-zero n))
 piece-starts n (suc d) i h = omega (arith, ceil-below n (suc d) i (omega arith) h, mul-comm i (suc d))
 
--- a piece that the file has isn't empty
-pub piece-size-some : (n plen i : ℕ) → i < pieceCount n plen → 0 < pieceSize n plen i
-unfolding pieceCount pieceSize
-piece-size-some n zero i h = absurd (omega (arith, ceil-by-zero n))
-piece-size-some n (suc d) i h = omega (arith, piece-starts n (suc d) i h)
-
 -- none is longer than the piece length
 pub piece-size-most : (n plen i : ℕ) → pieceSize n plen i ≤ plen
 unfolding pieceSize
 piece-size-most n plen i = omega arith
-
--- all pieces but the last have the piece length
-pub piece-size-whole : (n plen i : ℕ) → suc i < pieceCount n plen → pieceSize n plen i ≡ plen
-unfolding pieceSize
-piece-size-whole n plen i h = omega (arith, piece-starts n plen (suc i) h, mul-suc plen i)
 
 -- past the file a piece is empty
 pub piece-size-past : (n plen i : ℕ) → pieceCount n plen ≤ i → pieceSize n plen i ≡ 0
@@ -353,35 +328,10 @@ unfolding pieceCount pieceSize
 piece-size-past n zero i h = omega arith
 piece-size-past n (suc d) i h = omega (arith, ceil-enough n (suc d) i (omega arith) h, mul-comm i (suc d))
 
--- and there alone
-pub piece-size-only : (n plen i : ℕ) → 0 < pieceSize n plen i → i < pieceCount n plen
-unfolding pieceCount pieceSize
-piece-size-only n plen i h = below-ceil n plen i (omega arith) (omega (arith, mul-comm i plen))
-
--- a block that the file has isn't empty
-pub block-size-some : (n i : ℕ) → i < blockCount n → 0 < blockSize n i
-unfolding blockCount ceilDiv blockSize
-block-size-some n i h = omega arith
-
 -- none is longer than 16 KiB
 pub block-size-most : (n i : ℕ) → blockSize n i ≤ blockLength
 unfolding blockSize
 block-size-most n i = omega arith
-
--- all but the last are that long
-pub block-size-whole : (n i : ℕ) → suc i < blockCount n → blockSize n i ≡ blockLength
-unfolding blockCount ceilDiv blockSize
-block-size-whole n i h = omega arith
-
--- past the file there is nothing
-pub block-size-past : (n i : ℕ) → blockCount n ≤ i → blockSize n i ≡ 0
-unfolding blockCount ceilDiv blockSize
-block-size-past n i h = omega arith
-
--- and there alone
-pub block-size-only : (n i : ℕ) → 0 < blockSize n i → i < blockCount n
-unfolding blockCount ceilDiv blockSize
-block-size-only n i h = omega arith
 
 -- a file that has a byte has a block
 pub block-count-some : (n : ℕ) → 1 ≤ n → 1 ≤ blockCount n

@@ -208,23 +208,10 @@ leaf-of-piece file p i x h = by-side (decLt (i * 2 ^ p + x) (blockCount (length 
         leaf-padding (pieceOf file p i) x (block-outside (length (pieceOf file p i)) x (omega (arith, piece-bytes file p i, start, block-past (length file) (i * 2 ^ p + x) (omega arith))))
         ∙ sym (leaf-padding file (i * 2 ^ p + x) (omega arith))
 
--- the file's node of layer p over piece i is the node of the piece alone, filled up to 2^p leaves: a piece is judged by its own bytes
-pub piece-node : (file : List ℕ) (p i : ℕ) → node (leafOf file) p i ≡ node (leafOf (pieceOf file p i)) p 0
-piece-node file p i =
-    (let e : i ≡ i + 0 = omega arith in ap (node (leafOf file) p) e)
-    ∙ sym (node-shift (leafOf file) p i 0)
-    ∙ node-same (λ x. leafOf file (i * 2 ^ p + x)) (leafOf (pieceOf file p i)) p 0 (λ x a b. sym (leaf-of-piece file p i x (omega arith)))
-
 -- a file that isn't longer than the piece length is its one piece
 pub one-piece : (file : List ℕ) (p : ℕ) → length file ≤ blockLength * 2 ^ p → pieceOf file p 0 ≡ file
 unfolding pieceOf
 one-piece file p h = let e : blockLength * 2 ^ p * 0 ≡ 0 = omega arith in rw e (cut-whole file (blockLength * 2 ^ p) h)
-
--- its root is the node of that piece filled up only to 2^h leaves
-pub one-piece-root : (file : List ℕ) (p : ℕ) → length file ≤ blockLength * 2 ^ p
-    → piecesRoot file ≡ node (leafOf (pieceOf file p 0)) (height (blockCount (length file))) 0
-unfolding piecesRoot
-one-piece-root file p h = rw (one-piece file p h)
 
 -- ---- a node as code meets it: a leaf, or the hash of two
 

@@ -2,7 +2,7 @@
 -- Assumes nothing.
 use mathlib.Core.Path.{_≡_, refl, sym, ap, ap₂, _∙_}
 use mathlib.Core.Logic.{_⊎_, inl, inr}
-use mathlib.Core.Bool.{Bool, true, false, cond, not, _&&_, _||_, false≢true, and-eq-true-iff}
+use mathlib.Core.Bool.{Bool, true, false, cond, not, _&&_, _||_, false≢true, and-eq-true-iff, and-assoc}
 use mathlib.Core.List.{List, [], _∷_, _++_, append-nil, append-assoc}
 use Prim.Native.Nat.{ℕ, suc, _+_, _≤_}
 use native.Mathlib.Omega.{arith}
@@ -13,7 +13,7 @@ use borrow.Author.Tests.{eqb-true, eqb-false, eq-eqb, ne-eqb, not-true}
 use Rattle.octets.specs.Octets.{same}
 use Rattle.octets.specs.OctetsLaws.{same-true, same-false, same-refl, same-ne}
 use Rattle.tree.specs.Geometry.{hasLayer}
-use Rattle.tree.specs.GeometryLaws.{long-full}
+use Rattle.tree.specs.GeometryLaws.{long-full, and-true}
 use Rattle.meaning.specs.Torrent.{File, noOtherLength, lengthsAgree}
 use Rattle.meaning.specs.Counting.{Member, Distinct}
 use Rattle.twins.specs.Twins.{longRoots, noneSame, onceEach, layerCount, lengthKnown, differs}
@@ -25,14 +25,6 @@ and-swap true true c = refl
 and-swap true false c = refl
 and-swap false true c = refl
 and-swap false false c = refl
-
-and-assoc : (a b c : Bool) → a && (b && c) ≡ (a && b) && c
-and-assoc true b c = refl
-and-assoc false b c = refl
-
-and-true : (a : Bool) → a && true ≡ a
-and-true true = refl
-and-true false = refl
 
 same-sym : (a b : List ℕ) → same a b ≡ same b a
 same-sym a b = by-case (same a b) refl
@@ -64,7 +56,7 @@ Passes x n v = not (not (eqb (v .size) 0) && same x (v .root) && not (eqb n (v .
 other-snoc : (x : List ℕ) (n : ℕ) (vs : List File) (v : File) → noOtherLength x n (vs ++ v ∷ []) ≡ noOtherLength x n vs && Passes x n v
 unfolding noOtherLength
 other-snoc x n [] v = and-true (Passes x n v)
-other-snoc x n (w ∷ vs) v = ap (λ (t : Bool). Passes x n w && t) (other-snoc x n vs v) ∙ and-assoc (Passes x n w) (noOtherLength x n vs) (Passes x n v)
+other-snoc x n (w ∷ vs) v = ap (λ (t : Bool). Passes x n w && t) (other-snoc x n vs v) ∙ sym (and-assoc (Passes x n w) (noOtherLength x n vs) (Passes x n v))
 
 -- the Booleans of a file w before and a file v behind: whether each is empty, has a length of its own in between, and whether they have
 -- one root and one length
@@ -151,7 +143,7 @@ long-snoc plen (w ∷ vs) v = by-length (hasLayer (w .size) plen) (long-snoc ple
 none-snoc : (y : List ℕ) (xs : List (List ℕ)) (x : List ℕ) → noneSame y (xs ++ x ∷ []) ≡ noneSame y xs && not (same y x)
 unfolding noneSame
 none-snoc y [] x = and-true (not (same y x))
-none-snoc y (z ∷ xs) x = ap (λ (t : Bool). not (same y z) && t) (none-snoc y xs x) ∙ and-assoc (not (same y z)) (noneSame y xs) (not (same y x))
+none-snoc y (z ∷ xs) x = ap (λ (t : Bool). not (same y z) && t) (none-snoc y xs x) ∙ sym (and-assoc (not (same y z)) (noneSame y xs) (not (same y x)))
 
 once-snoc : (xs : List (List ℕ)) (x : List ℕ) → length (onceEach (xs ++ x ∷ [])) ≡ cond (noneSame x xs) (suc (length (onceEach xs))) (length (onceEach xs))
 unfolding onceEach noneSame

@@ -166,7 +166,7 @@ pub record Going (t roots : List ℕ) (count plen at levels : ℕ) (room₀ : Li
   pub some : 0 < i
   pub few : long ≤ i
 
-module _ (t roots : List ℕ) (count plen at levels : ℕ) (room₀ : List ℕ) (before : ℕ) (w : Ahead t roots count plen at levels room₀ before) where
+module _ {t roots : List ℕ} {count plen at levels : ℕ} {room₀ : List ℕ} {before : ℕ} (w : Ahead t roots count plen at levels room₀ before) where
   -- it is right, so there are levels left
   pub levels-left : levels ≡ 0 → ⊥
   levels-left z = no-files (filesBelow levels t at (w .path)) (w .inside) (w .end) (no-levels levels t at (w .path) z) (w .is)
@@ -181,7 +181,7 @@ module _ (t roots : List ℕ) (count plen at levels : ℕ) (room₀ : List ℕ) 
         few = w .few;
       }
 
-  module _ (room : List ℕ) (below i long : ℕ) (g : Going t roots count plen at levels room₀ before w room below i long) where
+  module _ {room : List ℕ} {below i long : ℕ} (g : Going t roots count plen at levels room₀ before w room below i long) where
     abbrev whole : Files
     whole = filesBelow levels t at (w .path)
 
@@ -205,7 +205,7 @@ module _ (t roots : List ℕ) (count plen at levels : ℕ) (room₀ : List ℕ) 
           let y = g .few in
           (q .1, omega arith, subst (λ (l : List Listed). Known t roots count plen room (w .done ++ l) long) (q .0) (g .known))
 
-      module _ (a b n r k : ℕ) (e : tokenAt t i ≡ Leaf a b n r k) where
+      module _ {a b n r k : ℕ} (e : tokenAt t i ≡ Leaf a b n r k) where
         abbrev leaf : Listed
         leaf = listedAs n r (down (w .path) a b)
 
@@ -242,7 +242,7 @@ module _ (t roots : List ℕ) (count plen at levels : ℕ) (room₀ : List ℕ) 
                 few = one-at-most known n plen long long′ i k q (g .few) x;
               }
 
-      module _ (a b : ℕ) (e : tokenAt t i ≡ Opened a b) where
+      module _ {a b : ℕ} (e : tokenAt t i ≡ Opened a b) where
         pub below-is : (gs : List Listed) × (k : ℕ) × (filesBelow below t (b + 1) (down (w .path) a b) ≡ files gs k)
         below-is = not-wrong (filesBelow below t (b + 1) (down (w .path) a b)) (λ q. never (passed-wrong t whole below (w .path) i (g .fs) (g .passed) h a b e q))
 

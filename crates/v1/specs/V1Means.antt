@@ -4,17 +4,16 @@
 -- Assumes nothing.
 use mathlib.Core.Path.{_≡_, refl, sym, ap, _∙_}
 use mathlib.Core.Logic.{_↔_}
-use mathlib.Core.Bool.{true, false, false≢true}
+use mathlib.Core.Bool.{true, false≢true}
 use mathlib.Core.List.{List, _++_}
 use Prim.Native.Nat.{ℕ, zero, suc, _+_, _-_, _*_, _/_, _≤_, _<_}
 use native.Mathlib.Omega.{arith}
 use native.Mathlib.Nat.{add-mul}
 use lib.ListN.{length, replicate}
-use borrow.Author.Tests.{eq-eqb, ne-eqb, lt-ltb, le-ltb}
+use borrow.Author.Tests.{eq-eqb, ne-eqb, lt-ltb}
 use Rattle.limits.specs.Limits.{maxLevels}
 use Rattle.octets.specs.Octets.{cut}
 use Rattle.octets.specs.OctetsLaws.{cut-cut}
-use Rattle.numbers.specs.Numbers.{ruleBroken, noSuchPart}
 use Rattle.sha256.specs.Sha256.{sha256}
 use Rattle.sha1.specs.Sha1.{sha1}
 use Rattle.tree.specs.Geometry.{pieceCount}
@@ -34,7 +33,7 @@ use Rattle.halves.specs.Decoded.{torrentIn, torrent-in}
 use Rattle.torrent.specs.Torrent.{checkedOf, readOf}
 use Rattle.torrent.specs.ReadMeans.{number-zero, info-hash, file-read}
 use Rattle.v1.specs.Place.{fileSize}
-use Rattle.v1.specs.V1.{noHybrid, hybridOf, fileOf, piecesIn, noPiece, pieceOf, v1PieceOf, piecesFrom, noPart, partOf, v1PiecesOf}
+use Rattle.v1.specs.V1.{noHybrid, hybridOf, fileOf, piecesIn, pieceOf, v1PieceOf, piecesFrom, noPart, partOf, v1PiecesOf}
 use Rattle.v1.specs.Asked.{Stands}
 use Rattle.v1.specs.HalfLaws.{Halves, same-size}
 use Rattle.v1.specs.KnownLaws.{known, no-pieces, pieces-stand, file-stands}
@@ -138,27 +137,6 @@ module _ (s : List ℕ) (es : Entries) (start : s ≡ encode (dictionary es)) (v
           let w : ⊥ = omega arith in
           absurd w
 
-  -- ---- no file n, or no hybrid
-
-  files-are : checkedOf s .files ≡ length (filesOf es)
-  files-are = known s got .files-are ∙ ap (λ (x : Entries). length (filesOf x)) value
-
-  pub piece-no-file : (n i : ℕ) → length (filesOf es) ≤ n → v1PieceOf s n i ≡ noPiece noSuchPart
-  unfolding v1PieceOf
-  piece-no-file n i h = rw (got, le-ltb n (checkedOf s .files) (omega (arith, files-are))) refl
-
-  pub part-no-file : (n : ℕ) → length (filesOf es) ≤ n → v1PiecesOf s n ≡ noPart noSuchPart
-  unfolding v1PiecesOf
-  part-no-file n h = rw (got, le-ltb n (checkedOf s .files) (omega (arith, files-are))) refl
-
-  pub piece-pure : lookup keyPieces (infoOf es) ≡ absent → (n i : ℕ) → n < length (filesOf es) → v1PieceOf s n i ≡ noPiece ruleBroken
-  unfolding v1PieceOf
-  piece-pure p n i h = rw (got, lt-ltb n (checkedOf s .files) (omega (arith, files-are)), value, ap isThere p) refl
-
-  pub part-pure : lookup keyPieces (infoOf es) ≡ absent → (n : ℕ) → n < length (filesOf es) → v1PiecesOf s n ≡ noPart ruleBroken
-  unfolding v1PiecesOf
-  part-pure p n h = rw (got, lt-ltb n (checkedOf s .files) (omega (arith, files-are)), value, ap isThere p) refl
-
   -- ---- file n of a hybrid
 
   module _ (hybrid : Hybrid es) where
@@ -199,9 +177,6 @@ module _ (s : List ℕ) (es : Entries) (start : s ≡ encode (dictionary es)) (v
       -- A PIECE: its v1 hash, and the zeros behind it
       pub piece-is : (i : ℕ) → i < pieceCount (v .size) (plenOf es) → PieceIs es n v i (v1PieceOf s n i)
       piece-is i h = rw (piece-answer i, size-is, lt-ltb i (pieceCount (v .size) (plenOf es)) h) (record { number = refl; hash = refl; zeros = refl })
-
-      pub piece-past : (i : ℕ) → pieceCount (v .size) (plenOf es) ≤ i → v1PieceOf s n i ≡ noPiece ruleBroken
-      piece-past i h = piece-answer i ∙ rw (size-is, le-ltb i (pieceCount (v .size) (plenOf es)) h) refl
 
       -- the content of the file among them has its length
       pub content-size : (cs : List (List ℕ)) (bytes : List ℕ) → StreamOf (entriesOfHalf es) cs bytes → (c : List ℕ) → Nth cs n c → length c ≡ v .size

@@ -7,7 +7,6 @@ use mathlib.Core.Logic.{_↔_}
 use Prim.Native.Nat.{ℕ, _+_, _-_, _^_, _≤_, _<_}
 use lib.ListN.{length}
 use lib.Dec.{eqb}
-use Rattle.sha256.specs.declared.Hashed.{Hashed}
 use Rattle.cells.specs.Entries.{oneIf}
 use Rattle.store.specs.Store.{heldAnswer}
 use Rattle.saved.specs.Clauses.{Hashes}

@@ -1,5 +1,5 @@
 //! What hosts need besides the document's calls: a store's facts, the parts that `info` and its `name` are, a piece's block hashes as a message,
-//! and pieces as the wire counts them. ("What hosts need" of the interface.)
+//! and pieces as the wire counts them. (docs/changes/15-hosts.md.)
 
 use crate::bencode::{find, read as read_bencoding};
 use crate::ids::HASHES;

@@ -133,7 +133,7 @@ fn the_limits_have_one_name_each() {
     for (name, value) in proved {
         assert_eq!(limits.get(&name), Some(&value), "{name}");
     }
-    assert_eq!(constants("crates/lists/src/form.rt")["RECORD"], limits["WRITE_RECORD"]);
+    assert_eq!(constants("crates/writer_lists/src/form.rt")["RECORD"], limits["WRITE_RECORD"]);
 }
 
 fn the_ids_have_one_name_each() {

@@ -6,12 +6,6 @@ use mathlib.Core.Path.{sym}
 use borrow.Author.Needs.{needs}
 use Rattle.catalogue.proofs.list.Statement.{statement}
 use Rattle.catalogue.proofs.list.Tie as tie
-use Rattle.catalogue.proofs.list.Reads as reads
-use Rattle.catalogue.proofs.list.Lts as lts
-use Rattle.catalogue.proofs.list_in.Reads as list-in-reads
-use Rattle.numbers.proofs.refusal.Reads as refusal-reads
-use Rattle.numbers.proofs.success.Reads as success-reads
-use Rattle.torrent.proofs.check.check.Reads as check-reads
 use Rattle.filetree.specs.Count.{mostRoots}
 
 check-requires : tie.Need-check-requires

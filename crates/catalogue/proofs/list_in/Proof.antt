@@ -8,10 +8,6 @@ use mathlib.Core.Path.{refl}
 use borrow.Author.Needs.{needs}
 use Rattle.catalogue.proofs.list_in.Statement.{statement}
 use Rattle.catalogue.proofs.list_in.Tie as tie
-use Rattle.catalogue.proofs.list_in.Reads as reads
-use Rattle.catalogue.proofs.list_in.Lts as lts
-use Rattle.catalogue.proofs.put_directory.Reads as put-directory-reads
-use Rattle.layers.proofs.index.Reads as index-reads
 
 index-requires : tie.Need-index-requires
 index-requires c κs = (c .before .before .before .before .before .pre .0 .opened .small, let x = c .before .before .before .before .before .pre .0 .few-long in let y = c .before .before .before .before .before .pre .1 in omega arith)

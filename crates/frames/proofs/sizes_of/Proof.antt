@@ -1,166 +1,125 @@
-use borrow.Author.Tests.{eq-eqb, ne-eqb}
+-- At an id that is met the table gives its sizes; where none is met, it has none.
+use borrow.Author.Tests.{ne-eqb}
+use mathlib.Core.Path.{sym, ap, _∙_}
 use Rattle.frames.specs.Frames.{sizesOf, sizesIn, table}
 use borrow.Author.Needs.{needs}
 use Rattle.frames.proofs.sizes_of.Statement.{statement}
 use Rattle.frames.proofs.sizes_of.Tie as tie
 
--- At the id that is met the ones before it were not, so that the table gives the sizes of this one.
-
-exactly-requires : tie.Need-exactly-requires
-exactly-requires c κs = search needs
-
 returns : tie.Need-returns
 unfolding sizesOf sizesIn table
-returns c =
-    let id = c .before .before .args .id in
-    rw (eq-eqb id 0 (c .before .if1 .taken)) (c .exactly .ensures)
-
-exactly-requires-2 : tie.Need-exactly-requires-2
-exactly-requires-2 c κs = search needs
+returns c = c .exactly .ensures ∙ sym (ap sizesOf (c .before .if1 .taken))
 
 returns-2 : tie.Need-returns-2
 unfolding sizesOf sizesIn table
-returns-2 c =
-    let id = c .before .before .before .args .id in
-    rw (ne-eqb id 0 (c .before .before .if1 .left), eq-eqb id 1 (c .before .if2 .taken)) (c .exactly2 .ensures)
-
-exactly-requires-3 : tie.Need-exactly-requires-3
-exactly-requires-3 c κs = search needs
+returns-2 c = c .exactly2 .ensures ∙ sym (ap sizesOf (c .before .if2 .taken))
 
 returns-3 : tie.Need-returns-3
 unfolding sizesOf sizesIn table
-returns-3 c =
-    let id = c .before .before .before .before .args .id in
-    rw (ne-eqb id 0 (c .before .before .before .if1 .left), ne-eqb id 1 (c .before .before .if2 .left), eq-eqb id 2 (c .before .if3 .taken)) (c .exactly3 .ensures)
-
-exactly-requires-4 : tie.Need-exactly-requires-4
-exactly-requires-4 c κs = search needs
+returns-3 c = c .exactly3 .ensures ∙ sym (ap sizesOf (c .before .if3 .taken))
 
 returns-4 : tie.Need-returns-4
 unfolding sizesOf sizesIn table
-returns-4 c =
-    let id = c .before .before .before .before .before .args .id in
-    rw (ne-eqb id 0 (c .before .before .before .before .if1 .left), ne-eqb id 1 (c .before .before .before .if2 .left), ne-eqb id 2 (c .before .before .if3 .left), eq-eqb id 3 (c .before .if4 .taken)) (c .exactly4 .ensures)
-
-exactly-requires-5 : tie.Need-exactly-requires-5
-exactly-requires-5 c κs = search needs
+returns-4 c = c .exactly4 .ensures ∙ sym (ap sizesOf (c .before .if4 .taken))
 
 returns-5 : tie.Need-returns-5
 unfolding sizesOf sizesIn table
-returns-5 c =
-    let id = c .before .before .before .before .before .before .args .id in
-    rw (ne-eqb id 0 (c .before .before .before .before .before .if1 .left), ne-eqb id 1 (c .before .before .before .before .if2 .left), ne-eqb id 2 (c .before .before .before .if3 .left), ne-eqb id 3 (c .before .before .if4 .left), eq-eqb id 4 (c .before .if5 .taken)) (c .exactly5 .ensures)
-
-at-least-requires : tie.Need-at-least-requires
-at-least-requires c κs = search needs
+returns-5 c = c .exactly5 .ensures ∙ sym (ap sizesOf (c .before .if5 .taken))
 
 returns-6 : tie.Need-returns-6
 unfolding sizesOf sizesIn table
-returns-6 c =
-    let id = c .before .before .before .before .before .before .before .args .id in
-    rw (ne-eqb id 0 (c .before .before .before .before .before .before .if1 .left), ne-eqb id 1 (c .before .before .before .before .before .if2 .left), ne-eqb id 2 (c .before .before .before .before .if3 .left), ne-eqb id 3 (c .before .before .before .if4 .left), ne-eqb id 4 (c .before .before .if5 .left), eq-eqb id 5 (c .before .if6 .taken)) (c .at-least .ensures)
-
-exactly-requires-6 : tie.Need-exactly-requires-6
-exactly-requires-6 c κs = search needs
+returns-6 c = c .at-least .ensures ∙ sym (ap sizesOf (c .before .if6 .taken))
 
 returns-7 : tie.Need-returns-7
 unfolding sizesOf sizesIn table
-returns-7 c =
-    let id = c .before .before .before .before .before .before .before .before .args .id in
-    rw (ne-eqb id 0 (c .before .before .before .before .before .before .before .if1 .left), ne-eqb id 1 (c .before .before .before .before .before .before .if2 .left), ne-eqb id 2 (c .before .before .before .before .before .if3 .left), ne-eqb id 3 (c .before .before .before .before .if4 .left), ne-eqb id 4 (c .before .before .before .if5 .left), ne-eqb id 5 (c .before .before .if6 .left), eq-eqb id 6 (c .before .if7 .taken)) (c .exactly6 .ensures)
-
-at-least-requires-2 : tie.Need-at-least-requires-2
-at-least-requires-2 c κs = search needs
+returns-7 c = c .exactly6 .ensures ∙ sym (ap sizesOf (c .before .if7 .taken))
 
 returns-8 : tie.Need-returns-8
 unfolding sizesOf sizesIn table
-returns-8 c =
-    let id = c .before .before .before .before .before .before .before .before .before .args .id in
-    rw (ne-eqb id 0 (c .before .before .before .before .before .before .before .before .if1 .left), ne-eqb id 1 (c .before .before .before .before .before .before .before .if2 .left), ne-eqb id 2 (c .before .before .before .before .before .before .if3 .left), ne-eqb id 3 (c .before .before .before .before .before .if4 .left), ne-eqb id 4 (c .before .before .before .before .if5 .left), ne-eqb id 5 (c .before .before .before .if6 .left), ne-eqb id 6 (c .before .before .if7 .left), eq-eqb id 7 (c .before .if8 .taken)) (c .at-least2 .ensures)
-
-exactly-requires-7 : tie.Need-exactly-requires-7
-exactly-requires-7 c κs = search needs
+returns-8 c = c .at-least2 .ensures ∙ sym (ap sizesOf (c .before .if8 .taken))
 
 returns-9 : tie.Need-returns-9
 unfolding sizesOf sizesIn table
-returns-9 c =
-    let id = c .before .before .before .before .before .before .before .before .before .before .args .id in
-    rw (ne-eqb id 0 (c .before .before .before .before .before .before .before .before .before .if1 .left), ne-eqb id 1 (c .before .before .before .before .before .before .before .before .if2 .left), ne-eqb id 2 (c .before .before .before .before .before .before .before .if3 .left), ne-eqb id 3 (c .before .before .before .before .before .before .if4 .left), ne-eqb id 4 (c .before .before .before .before .before .if5 .left), ne-eqb id 5 (c .before .before .before .before .if6 .left), ne-eqb id 6 (c .before .before .before .if7 .left), ne-eqb id 7 (c .before .before .if8 .left), eq-eqb id 8 (c .before .if9 .taken)) (c .exactly7 .ensures)
-
-at-least-requires-3 : tie.Need-at-least-requires-3
-at-least-requires-3 c κs = search needs
+returns-9 c = c .exactly7 .ensures ∙ sym (ap sizesOf (c .before .if9 .taken))
 
 returns-10 : tie.Need-returns-10
 unfolding sizesOf sizesIn table
-returns-10 c =
-    let id = c .before .before .before .before .before .before .before .before .before .before .before .args .id in
-    rw (ne-eqb id 0 (c .before .before .before .before .before .before .before .before .before .before .if1 .left), ne-eqb id 1 (c .before .before .before .before .before .before .before .before .before .if2 .left), ne-eqb id 2 (c .before .before .before .before .before .before .before .before .if3 .left), ne-eqb id 3 (c .before .before .before .before .before .before .before .if4 .left), ne-eqb id 4 (c .before .before .before .before .before .before .if5 .left), ne-eqb id 5 (c .before .before .before .before .before .if6 .left), ne-eqb id 6 (c .before .before .before .before .if7 .left), ne-eqb id 7 (c .before .before .before .if8 .left), ne-eqb id 8 (c .before .before .if9 .left), eq-eqb id 20 (c .before .if10 .taken)) (c .at-least3 .ensures)
-
-exactly-requires-8 : tie.Need-exactly-requires-8
-exactly-requires-8 c κs = search needs
+returns-10 c = c .at-least3 .ensures ∙ sym (ap sizesOf (c .before .if10 .taken))
 
 returns-11 : tie.Need-returns-11
 unfolding sizesOf sizesIn table
-returns-11 c =
-    let id = c .before .before .before .before .before .before .before .before .before .before .before .before .args .id in
-    rw (ne-eqb id 0 (c .before .before .before .before .before .before .before .before .before .before .before .if1 .left), ne-eqb id 1 (c .before .before .before .before .before .before .before .before .before .before .if2 .left), ne-eqb id 2 (c .before .before .before .before .before .before .before .before .before .if3 .left), ne-eqb id 3 (c .before .before .before .before .before .before .before .before .if4 .left), ne-eqb id 4 (c .before .before .before .before .before .before .before .if5 .left), ne-eqb id 5 (c .before .before .before .before .before .before .if6 .left), ne-eqb id 6 (c .before .before .before .before .before .if7 .left), ne-eqb id 7 (c .before .before .before .before .if8 .left), ne-eqb id 8 (c .before .before .before .if9 .left), ne-eqb id 20 (c .before .before .if10 .left), eq-eqb id 21 (c .before .if11 .taken)) (c .exactly8 .ensures)
-
-at-least-requires-4 : tie.Need-at-least-requires-4
-at-least-requires-4 c κs = search needs
+returns-11 c = c .exactly8 .ensures ∙ sym (ap sizesOf (c .before .if11 .taken))
 
 returns-12 : tie.Need-returns-12
 unfolding sizesOf sizesIn table
-returns-12 c =
-    let id = c .before .before .before .before .before .before .before .before .before .before .before .before .before .args .id in
-    rw (ne-eqb id 0 (c .before .before .before .before .before .before .before .before .before .before .before .before .if1 .left), ne-eqb id 1 (c .before .before .before .before .before .before .before .before .before .before .before .if2 .left), ne-eqb id 2 (c .before .before .before .before .before .before .before .before .before .before .if3 .left), ne-eqb id 3 (c .before .before .before .before .before .before .before .before .before .if4 .left), ne-eqb id 4 (c .before .before .before .before .before .before .before .before .if5 .left), ne-eqb id 5 (c .before .before .before .before .before .before .before .if6 .left), ne-eqb id 6 (c .before .before .before .before .before .before .if7 .left), ne-eqb id 7 (c .before .before .before .before .before .if8 .left), ne-eqb id 8 (c .before .before .before .before .if9 .left), ne-eqb id 20 (c .before .before .before .if10 .left), ne-eqb id 21 (c .before .before .if11 .left), eq-eqb id 22 (c .before .if12 .taken)) (c .at-least4 .ensures)
-
-exactly-requires-9 : tie.Need-exactly-requires-9
-exactly-requires-9 c κs = search needs
+returns-12 c = c .at-least4 .ensures ∙ sym (ap sizesOf (c .before .if12 .taken))
 
 returns-13 : tie.Need-returns-13
 unfolding sizesOf sizesIn table
-returns-13 c =
-    let id = c .before .before .before .before .before .before .before .before .before .before .before .before .before .before .args .id in
-    rw (ne-eqb id 0 (c .before .before .before .before .before .before .before .before .before .before .before .before .before .if1 .left), ne-eqb id 1 (c .before .before .before .before .before .before .before .before .before .before .before .before .if2 .left), ne-eqb id 2 (c .before .before .before .before .before .before .before .before .before .before .before .if3 .left), ne-eqb id 3 (c .before .before .before .before .before .before .before .before .before .before .if4 .left), ne-eqb id 4 (c .before .before .before .before .before .before .before .before .before .if5 .left), ne-eqb id 5 (c .before .before .before .before .before .before .before .before .if6 .left), ne-eqb id 6 (c .before .before .before .before .before .before .before .if7 .left), ne-eqb id 7 (c .before .before .before .before .before .before .if8 .left), ne-eqb id 8 (c .before .before .before .before .before .if9 .left), ne-eqb id 20 (c .before .before .before .before .if10 .left), ne-eqb id 21 (c .before .before .before .if11 .left), ne-eqb id 22 (c .before .before .if12 .left), eq-eqb id 23 (c .before .if13 .taken)) (c .exactly9 .ensures)
-
-exactly-requires-10 : tie.Need-exactly-requires-10
-exactly-requires-10 c κs = search needs
+returns-13 c = c .exactly9 .ensures ∙ sym (ap sizesOf (c .before .if13 .taken))
 
 returns-14 : tie.Need-returns-14
 unfolding sizesOf sizesIn table
 returns-14 c =
-    let id = c .before .before .before .before .before .before .before .before .before .before .before .before .before .before .args .id in
-    rw (ne-eqb id 0 (c .before .before .before .before .before .before .before .before .before .before .before .before .before .if1 .left), ne-eqb id 1 (c .before .before .before .before .before .before .before .before .before .before .before .before .if2 .left), ne-eqb id 2 (c .before .before .before .before .before .before .before .before .before .before .before .if3 .left), ne-eqb id 3 (c .before .before .before .before .before .before .before .before .before .before .if4 .left), ne-eqb id 4 (c .before .before .before .before .before .before .before .before .before .if5 .left), ne-eqb id 5 (c .before .before .before .before .before .before .before .before .if6 .left), ne-eqb id 6 (c .before .before .before .before .before .before .before .if7 .left), ne-eqb id 7 (c .before .before .before .before .before .before .if8 .left), ne-eqb id 8 (c .before .before .before .before .before .if9 .left), ne-eqb id 20 (c .before .before .before .before .if10 .left), ne-eqb id 21 (c .before .before .before .if11 .left), ne-eqb id 22 (c .before .before .if12 .left), ne-eqb id 23 (c .before .if13 .left)) (c .exactly10 .ensures)
+    let i13 = c .before in
+    let i12 = i13 .before in
+    let i11 = i12 .before in
+    let i10 = i11 .before in
+    let i9 = i10 .before in
+    let i8 = i9 .before in
+    let i7 = i8 .before in
+    let i6 = i7 .before in
+    let i5 = i6 .before in
+    let i4 = i5 .before in
+    let i3 = i4 .before in
+    let i2 = i3 .before in
+    let i1 = i2 .before in
+    let id = i1 .before .args .id in
+    rw (
+      ne-eqb id 0 (i1 .if1 .left),
+      ne-eqb id 1 (i2 .if2 .left),
+      ne-eqb id 2 (i3 .if3 .left),
+      ne-eqb id 3 (i4 .if4 .left),
+      ne-eqb id 4 (i5 .if5 .left),
+      ne-eqb id 5 (i6 .if6 .left),
+      ne-eqb id 6 (i7 .if7 .left),
+      ne-eqb id 7 (i8 .if8 .left),
+      ne-eqb id 8 (i9 .if9 .left),
+      ne-eqb id 20 (i10 .if10 .left),
+      ne-eqb id 21 (i11 .if11 .left),
+      ne-eqb id 22 (i12 .if12 .left),
+      ne-eqb id 23 (i13 .if13 .left),
+    ) (c .exactly10 .ensures)
 
 pub sizes-of-spec : {M : Type 1} → statement M
 sizes-of-spec =
     tie.close
     (tie.spec
-    exactly-requires
+    (λ c κs. search needs)
     returns
-    exactly-requires-2
+    (λ c κs. search needs)
     returns-2
-    exactly-requires-3
+    (λ c κs. search needs)
     returns-3
-    exactly-requires-4
+    (λ c κs. search needs)
     returns-4
-    exactly-requires-5
+    (λ c κs. search needs)
     returns-5
-    at-least-requires
+    (λ c κs. search needs)
     returns-6
-    exactly-requires-6
+    (λ c κs. search needs)
     returns-7
-    at-least-requires-2
+    (λ c κs. search needs)
     returns-8
-    exactly-requires-7
+    (λ c κs. search needs)
     returns-9
-    at-least-requires-3
+    (λ c κs. search needs)
     returns-10
-    exactly-requires-8
+    (λ c κs. search needs)
     returns-11
-    at-least-requires-4
+    (λ c κs. search needs)
     returns-12
-    exactly-requires-9
+    (λ c κs. search needs)
     returns-13
-    exactly-requires-10
+    (λ c κs. search needs)
     returns-14)

@@ -1,5 +1,4 @@
 use Rattle.header.proofs.Rules.{index-by}
-use native.Mathlib.Omega.{arith}
 use Prim.Native.Nat.{_-_}
 use mathlib.Core.Path.{refl}
 use borrow.Author.Needs.{needs}

@@ -1,8 +1,8 @@
 use Rattle.heaps.proofs.Steps.{layer-under, leaves-few, root-worked}
-use Prim.Native.Nat.{ℕ, _-_, _*_, _^_, _<_}
+use Prim.Native.Nat.{ℕ, _-_, _^_, _<_}
 use native.Mathlib.Omega.{arith}
-use lib.ListN.{length, length-replicate}
-use mathlib.Core.Path.{_≡_, sym, _∙_, ap}
+use lib.ListN.{length-replicate}
+use mathlib.Core.Path.{sym, _∙_, ap}
 use Rattle.tree.specs.Values.{layerLeaf, padValue}
 use Rattle.heaps.specs.HeapsLaws.{over-layer}
 use borrow.Author.Needs.{needs}

@@ -3,11 +3,6 @@ use mathlib.Core.Path.{sym, _∙_}
 use borrow.Author.Needs.{needs}
 use Rattle.metainfo.proofs.dictionary_keys.Statement.{statement}
 use Rattle.metainfo.proofs.dictionary_keys.Tie as tie
-use Rattle.metainfo.proofs.dictionary_keys.Reads as reads
-use Rattle.metainfo.proofs.dictionary_keys.Lts as lts
-use Rattle.metainfo.proofs.find_dictionary.Reads as find-dictionary-reads
-use Rattle.metainfo.proofs.info_keys.Reads as info-keys-reads
-use Rattle.metainfo.proofs.no_keys.Reads as no-keys-reads
 
 slice-aggregate-find-dictionary : tie.Need-slice-aggregate-find-dictionary
 slice-aggregate-find-dictionary c = search needs

@@ -3,11 +3,6 @@ use mathlib.Core.Path.{sym, _∙_}
 use borrow.Author.Needs.{needs}
 use Rattle.metainfo.proofs.info_keys.Statement.{statement}
 use Rattle.metainfo.proofs.info_keys.Tie as tie
-use Rattle.metainfo.proofs.info_keys.Reads as reads
-use Rattle.metainfo.proofs.info_keys.Lts as lts
-use Rattle.metainfo.proofs.find_integer.Reads as find-integer-reads
-use Rattle.metainfo.proofs.no_keys.Reads as no-keys-reads
-use Rattle.metainfo.proofs.right_keys.Reads as right-keys-reads
 
 slice-aggregate-find-integer : tie.Need-slice-aggregate-find-integer
 slice-aggregate-find-integer c = search needs

@@ -2,9 +2,6 @@ use Rattle.metainfo.proofs.Finding.{none-found}
 use borrow.Author.Needs.{needs}
 use Rattle.metainfo.proofs.no_keys.Statement.{statement}
 use Rattle.metainfo.proofs.no_keys.Tie as tie
-use Rattle.metainfo.proofs.no_keys.Reads as reads
-use Rattle.metainfo.proofs.no_keys.Lts as lts
-use Rattle.metainfo.proofs.no_part.Reads as no-part-reads
 
 no-part-requires : tie.Need-no-part-requires
 no-part-requires c κs = search needs

@@ -3,10 +3,6 @@ use mathlib.Core.Path.{sym, _∙_}
 use borrow.Author.Needs.{needs}
 use Rattle.metainfo.proofs.right_keys.Statement.{statement}
 use Rattle.metainfo.proofs.right_keys.Tie as tie
-use Rattle.metainfo.proofs.right_keys.Reads as reads
-use Rattle.metainfo.proofs.right_keys.Lts as lts
-use Rattle.metainfo.proofs.no_keys.Reads as no-keys-reads
-use Rattle.tree.proofs.geometry.is_piece_length.Reads as is-piece-length-reads
 
 no-keys-requires : tie.Need-no-keys-requires
 no-keys-requires c κs = search needs

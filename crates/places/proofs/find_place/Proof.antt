@@ -4,7 +4,7 @@ use Rattle.places.specs.PlacesLaws.{place-start, place-here, place-next,
 use borrow.Author.Needs.{needs}
 use native.Mathlib.Omega.{arith}
 use Prim.Native.Nat.{ℕ, _+_, _-_, _≤_}
-use mathlib.Core.Path.{_≡_, refl, ap, sym, _∙_}
+use mathlib.Core.Path.{_≡_, ap, sym, _∙_}
 use Rattle.places.proofs.find_place.Statement.{statement}
 use Rattle.places.proofs.find_place.Tie as tie
 

@@ -4,7 +4,7 @@ use Rattle.places.specs.PlacesLaws.{lengths-start, lengths-more, lengths
 use borrow.Author.Needs.{needs}
 use native.Mathlib.Omega.{arith}
 use Prim.Native.Nat.{_-_, _≤_}
-use mathlib.Core.Path.{_≡_, refl, ap, sym, _∙_}
+use mathlib.Core.Path.{_≡_, sym, _∙_}
 use Rattle.places.proofs.lengths_right.Statement.{statement}
 use Rattle.places.proofs.lengths_right.Tie as tie
 

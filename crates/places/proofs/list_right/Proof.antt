@@ -2,7 +2,6 @@ use Rattle.places.specs.PlacesLaws.{list-parts, list-not-whole, list-too
 use native.Mathlib.Omega.{arith}
 use Prim.Native.Nat.{_-_}
 use mathlib.Core.Path.{sym, _∙_}
-use borrow.Author.Needs.{needs}
 use Rattle.places.proofs.list_right.Statement.{statement}
 use Rattle.places.proofs.list_right.Tie as tie
 

@@ -1,10 +1,10 @@
 -- The sum is that of the files before i; a list in its form keeps it far below 2^64.
-use Rattle.places.specs.Places.{piecesOf, piecesBefore}
+use Rattle.places.specs.Places.{piecesBefore}
 use Rattle.places.specs.PlacesLaws.{record-within, before-none, before-more, sum-fits, pieces-are}
 use borrow.Author.Needs.{needs}
 use native.Mathlib.Omega.{arith}
-use Prim.Native.Nat.{_+_, _-_, _≤_}
-use mathlib.Core.Path.{_≡_, refl, ap, sym, _∙_}
+use Prim.Native.Nat.{_-_, _≤_}
+use mathlib.Core.Path.{_≡_, ap, sym, _∙_}
 use Rattle.places.proofs.pieces_before.Statement.{statement}
 use Rattle.places.proofs.pieces_before.Tie as tie
 

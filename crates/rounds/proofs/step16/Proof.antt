@@ -1,158 +1,84 @@
-use Rattle.rounds.specs.StageLaws.{roundsBy-at}
+-- Round after round: what the step at i + k leaves is k + 1 rounds from i on.
+use Rattle.rounds.specs.StageLaws.{roundsBy-next}
 use native.Mathlib.Omega.{arith}
-use Prim.Native.Nat.{_+_, _-_}
 use borrow.Author.Needs.{needs}
 use Rattle.rounds.proofs.step16.Statement.{statement}
 use Rattle.rounds.proofs.step16.Tie as tie
 
-step-requires : tie.Need-step-requires
-step-requires c κs = search needs
-
-add-step : tie.Need-add-step
-add-step c = search needs
-
-step-requires-2 : tie.Need-step-requires-2
-step-requires-2 c κs = search needs
-
-add-step-2 : tie.Need-add-step-2
-add-step-2 c = search needs
-
-step-requires-3 : tie.Need-step-requires-3
-step-requires-3 c κs = search needs
-
-add-step-3 : tie.Need-add-step-3
-add-step-3 c = search needs
-
-step-requires-4 : tie.Need-step-requires-4
-step-requires-4 c κs = search needs
-
-add-step-4 : tie.Need-add-step-4
-add-step-4 c = search needs
-
-step-requires-5 : tie.Need-step-requires-5
-step-requires-5 c κs = search needs
-
-add-step-5 : tie.Need-add-step-5
-add-step-5 c = search needs
-
-step-requires-6 : tie.Need-step-requires-6
-step-requires-6 c κs = search needs
-
-add-step-6 : tie.Need-add-step-6
-add-step-6 c = search needs
-
-step-requires-7 : tie.Need-step-requires-7
-step-requires-7 c κs = search needs
-
-add-step-7 : tie.Need-add-step-7
-add-step-7 c = search needs
-
-step-requires-8 : tie.Need-step-requires-8
-step-requires-8 c κs = search needs
-
-add-step-8 : tie.Need-add-step-8
-add-step-8 c = search needs
-
-step-requires-9 : tie.Need-step-requires-9
-step-requires-9 c κs = search needs
-
-add-step-9 : tie.Need-add-step-9
-add-step-9 c = search needs
-
-step-requires-10 : tie.Need-step-requires-10
-step-requires-10 c κs = search needs
-
-add-step-10 : tie.Need-add-step-10
-add-step-10 c = omega (arith, c .before .before .before .before .before .before .before .before .before .before)
-
-step-requires-11 : tie.Need-step-requires-11
-step-requires-11 c κs = omega (arith, c .before .before .before .before .before .before .before .before .before .before)
-
-add-step-11 : tie.Need-add-step-11
-add-step-11 c = omega (arith, c .before .before .before .before .before .before .before .before .before .before .before)
-
-step-requires-12 : tie.Need-step-requires-12
-step-requires-12 c κs = omega (arith, c .before .before .before .before .before .before .before .before .before .before .before)
-
-add-step-12 : tie.Need-add-step-12
-add-step-12 c = omega (arith, c .before .before .before .before .before .before .before .before .before .before .before .before)
-
-step-requires-13 : tie.Need-step-requires-13
-step-requires-13 c κs = omega (arith, c .before .before .before .before .before .before .before .before .before .before .before .before)
-
-add-step-13 : tie.Need-add-step-13
-add-step-13 c = omega (arith, c .before .before .before .before .before .before .before .before .before .before .before .before .before)
-
-step-requires-14 : tie.Need-step-requires-14
-step-requires-14 c κs = omega (arith, c .before .before .before .before .before .before .before .before .before .before .before .before .before)
-
-add-step-14 : tie.Need-add-step-14
-add-step-14 c = omega (arith, c .before .before .before .before .before .before .before .before .before .before .before .before .before .before)
-
-step-requires-15 : tie.Need-step-requires-15
-step-requires-15 c κs = omega (arith, c .before .before .before .before .before .before .before .before .before .before .before .before .before .before)
-
-add-step-15 : tie.Need-add-step-15
-add-step-15 c = omega (arith, c .before .before .before .before .before .before .before .before .before .before .before .before .before .before .before)
-
-step-requires-16 : tie.Need-step-requires-16
-step-requires-16 c κs = omega (arith, c .before .before .before .before .before .before .before .before .before .before .before .before .before .before .before)
+-- where the sixteen begin, seen from behind the tenth
+abbrev start : tie.After-step10 → tie.Start
+start c = c .before .before .before .before .before .before .before .before .before .before
 
 returns : tie.Need-returns
 returns c =
+    let s15 = c .before in
+    let s14 = s15 .before in
+    let s13 = s14 .before in
+    let s12 = s13 .before in
+    let s11 = s12 .before in
+    let s10 = s11 .before in
+    let s9 = s10 .before in
+    let s8 = s9 .before in
+    let s7 = s8 .before in
+    let s6 = s7 .before in
+    let s5 = s6 .before in
+    let s4 = s5 .before in
+    let s3 = s4 .before in
+    let s2 = s3 .before in
+    let s1 = s2 .before in
+    let x = s1 .before .args .x .now in
+    let i = s1 .before .args .i in
     λ z h.
-    let x = c .before .before .before .before .before .before .before .before .before .before .before .before .before .before .before .before .args .x .now in
-    let i = c .before .before .before .before .before .before .before .before .before .before .before .before .before .before .before .before .args .i in
-    let h1 = c .before .before .before .before .before .before .before .before .before .before .before .before .before .before .before .step .ensures z h in
-    let h2 = roundsBy-at x z (i + 1 + 1) (i + 2) (c .before .before .before .before .before .before .before .before .before .before .before .before .before .before .step2 .ensures z h1) (omega arith) in
-    let h3 = roundsBy-at x z (i + 2 + 1) (i + 3) (c .before .before .before .before .before .before .before .before .before .before .before .before .before .step3 .ensures z h2) (omega arith) in
-    let h4 = roundsBy-at x z (i + 3 + 1) (i + 4) (c .before .before .before .before .before .before .before .before .before .before .before .before .step4 .ensures z h3) (omega arith) in
-    let h5 = roundsBy-at x z (i + 4 + 1) (i + 5) (c .before .before .before .before .before .before .before .before .before .before .before .step5 .ensures z h4) (omega arith) in
-    let h6 = roundsBy-at x z (i + 5 + 1) (i + 6) (c .before .before .before .before .before .before .before .before .before .before .step6 .ensures z h5) (omega arith) in
-    let h7 = roundsBy-at x z (i + 6 + 1) (i + 7) (c .before .before .before .before .before .before .before .before .before .step7 .ensures z h6) (omega arith) in
-    let h8 = roundsBy-at x z (i + 7 + 1) (i + 8) (c .before .before .before .before .before .before .before .before .step8 .ensures z h7) (omega arith) in
-    let h9 = roundsBy-at x z (i + 8 + 1) (i + 9) (c .before .before .before .before .before .before .before .step9 .ensures z h8) (omega arith) in
-    let h10 = roundsBy-at x z (i + 9 + 1) (i + 10) (c .before .before .before .before .before .before .step10 .ensures z h9) (omega arith) in
-    let h11 = roundsBy-at x z (i + 10 + 1) (i + 11) (c .before .before .before .before .before .step11 .ensures z h10) (omega arith) in
-    let h12 = roundsBy-at x z (i + 11 + 1) (i + 12) (c .before .before .before .before .step12 .ensures z h11) (omega arith) in
-    let h13 = roundsBy-at x z (i + 12 + 1) (i + 13) (c .before .before .before .step13 .ensures z h12) (omega arith) in
-    let h14 = roundsBy-at x z (i + 13 + 1) (i + 14) (c .before .before .step14 .ensures z h13) (omega arith) in
-    let h15 = roundsBy-at x z (i + 14 + 1) (i + 15) (c .before .step15 .ensures z h14) (omega arith) in
-    roundsBy-at x z (i + 15 + 1) (i + 16) (c .step16 .ensures z h15) (omega arith)
+    let h1 = s1 .step .ensures z h in
+    let h2 = roundsBy-next x z i 1 (s2 .step2 .ensures z h1) in
+    let h3 = roundsBy-next x z i 2 (s3 .step3 .ensures z h2) in
+    let h4 = roundsBy-next x z i 3 (s4 .step4 .ensures z h3) in
+    let h5 = roundsBy-next x z i 4 (s5 .step5 .ensures z h4) in
+    let h6 = roundsBy-next x z i 5 (s6 .step6 .ensures z h5) in
+    let h7 = roundsBy-next x z i 6 (s7 .step7 .ensures z h6) in
+    let h8 = roundsBy-next x z i 7 (s8 .step8 .ensures z h7) in
+    let h9 = roundsBy-next x z i 8 (s9 .step9 .ensures z h8) in
+    let h10 = roundsBy-next x z i 9 (s10 .step10 .ensures z h9) in
+    let h11 = roundsBy-next x z i 10 (s11 .step11 .ensures z h10) in
+    let h12 = roundsBy-next x z i 11 (s12 .step12 .ensures z h11) in
+    let h13 = roundsBy-next x z i 12 (s13 .step13 .ensures z h12) in
+    let h14 = roundsBy-next x z i 13 (s14 .step14 .ensures z h13) in
+    let h15 = roundsBy-next x z i 14 (s15 .step15 .ensures z h14) in
+    roundsBy-next x z i 15 (c .step16 .ensures z h15)
 
 pub step16-spec : {M : Type 1} → statement M
 step16-spec =
     tie.close
     (tie.spec
-    step-requires
-    add-step
-    step-requires-2
-    add-step-2
-    step-requires-3
-    add-step-3
-    step-requires-4
-    add-step-4
-    step-requires-5
-    add-step-5
-    step-requires-6
-    add-step-6
-    step-requires-7
-    add-step-7
-    step-requires-8
-    add-step-8
-    step-requires-9
-    add-step-9
-    step-requires-10
-    add-step-10
-    step-requires-11
-    add-step-11
-    step-requires-12
-    add-step-12
-    step-requires-13
-    add-step-13
-    step-requires-14
-    add-step-14
-    step-requires-15
-    add-step-15
-    step-requires-16
+    (λ c κs. search needs)
+    (λ c. search needs)
+    (λ c κs. search needs)
+    (λ c. search needs)
+    (λ c κs. search needs)
+    (λ c. search needs)
+    (λ c κs. search needs)
+    (λ c. search needs)
+    (λ c κs. search needs)
+    (λ c. search needs)
+    (λ c κs. search needs)
+    (λ c. search needs)
+    (λ c κs. search needs)
+    (λ c. search needs)
+    (λ c κs. search needs)
+    (λ c. search needs)
+    (λ c κs. search needs)
+    (λ c. search needs)
+    (λ c κs. search needs)
+    (λ c. omega (arith, start c))
+    (λ c κs. omega (arith, start c))
+    (λ c. omega (arith, start (c .before)))
+    (λ c κs. omega (arith, start (c .before)))
+    (λ c. omega (arith, start (c .before .before)))
+    (λ c κs. omega (arith, start (c .before .before)))
+    (λ c. omega (arith, start (c .before .before .before)))
+    (λ c κs. omega (arith, start (c .before .before .before)))
+    (λ c. omega (arith, start (c .before .before .before .before)))
+    (λ c κs. omega (arith, start (c .before .before .before .before)))
+    (λ c. omega (arith, start (c .before .before .before .before .before)))
+    (λ c κs. omega (arith, start (c .before .before .before .before .before)))
     returns)

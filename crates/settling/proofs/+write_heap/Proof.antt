@@ -1,143 +1,117 @@
 -- Top, left child, right child, by recursion on the height: the hash in the heap is the node over the hashes below it.
 -- Assumes nothing.
-use Rattle.cells.specs.EntriesLaws.{lacks-small}
 use Rattle.heaps.specs.Heaps.{hashIn}
 use Rattle.heaps.specs.HeapsLaws.{children-in}
 use Rattle.settling.specs.HeapLaws.{hash-within, fit-first, heap-wrote}
-use Rattle.settling.specs.SubtreeLaws.{fit-self, fit-left, fit-right, fit-length, subtree-small, wrote-zero}
+use Rattle.settling.specs.SubtreeLaws.{fit-self, fit-left, fit-right, fit-length, up-small, wrote-zero}
 use borrow.Author.Needs.{needs}
 use native.Mathlib.Omega.{arith}
 use lib.ListN.{length}
 use mathlib.Core.Path.{_∙_}
-use Prim.Native.Nat.{ℕ, _<_, _+_, _-_, _*_}
+use Prim.Native.Nat.{ℕ, _≤_, _<_, _+_, _*_, _^_}
 use borrow.Fn.Kinds.{In}
 use borrow.Fn.PlainCycle.{Measures, is, falls, and}
 use Rattle.settling.proofs.write_heap.Reads as write-heap
-use Rattle.settling.proofs.write_heap.Kinds as write-heap-kinds
-use Rattle.settling.proofs.+write_heap.Lts-write_heap as write-heap-lts
+use Rattle.settling.proofs.write_heap.Kinds as kinds
+use Rattle.settling.proofs.+write_heap.Lts-write_heap as lts
 use Rattle.cells.proofs.add_at.Reads as add-at-reads
 use Rattle.octets.proofs.hash_at.Reads as hash-at-reads
 use Rattle.settling.proofs.+write_heap.{statement}
 use Rattle.settling.proofs.+write_heap.Tie.{close}
 
-abbrev μ-write-heap : Measures 2 write-heap-kinds.ps ℕ
-μ-write-heap κs a = a .1 .1 .1 .0
+abbrev μ : Measures 2 kinds.ps ℕ
+μ κs a = a .1 .1 .1 .0
 
-abbrev write-heap-at : ℕ → In 2 write-heap-kinds.ps
-write-heap-at t =
-    and 2 write-heap-kinds.ps (is 2 write-heap-kinds.ps μ-write-heap t) write-heap.Pre
+abbrev here : ℕ → In 2 kinds.ps
+here t = and 2 kinds.ps (is 2 kinds.ps μ t) write-heap.Pre
 
-abbrev write-heap-below : ℕ → In 2 write-heap-kinds.ps
-write-heap-below t =
-    and 2 write-heap-kinds.ps (falls 2 write-heap-kinds.ps _<_ μ-write-heap t) write-heap.Pre
+abbrev deeper : ℕ → In 2 kinds.ps
+deeper t = and 2 kinds.ps (falls 2 kinds.ps _<_ μ t) write-heap.Pre
 
-abbrev write-heap-claims : ℕ → write-heap-lts.Claims
-write-heap-claims t = (
-  hash-at-reads.Asked,
-  hash-at-reads.Learnt,
-  add-at-reads.Asked,
-  add-at-reads.Learnt,
-  write-heap-below t,
-  write-heap.Post,
-)
+abbrev claims : ℕ → lts.Claims
+claims t = (hash-at-reads.Asked, hash-at-reads.Learnt, add-at-reads.Asked, add-at-reads.Learnt, deeper t, write-heap.Post)
 
-write-heap-mul-hash-at : (t : ℕ) → write-heap-lts.Need-mul-hash-at (write-heap-claims t) (write-heap-at t) write-heap.Post
-write-heap-mul-hash-at t c = let w = hash-within _ (c .before .before .args .k) (c .before .before .args .x) (c .before .before .pre .1 .3) in omega arith
+write-heap-returns : (t : ℕ) → lts.Need-returns (claims t) (here t) write-heap.Post
+write-heap-returns t c =
+    let top = c .before .before in let leaf = top .before .before in let read = leaf .before in let a = read .before .before .before .args in
+    wrote-zero (a .s .now) (hashIn (a .heap .now)) (a .k) (a .n) (a .x) _ _ _ (leaf .if1 .taken) (read .hash-at .ensures)
+    (top .add-at .ensures .0) (top .add-at .ensures .1) .1
 
-write-heap-hash-at-requires : (t : ℕ) → write-heap-lts.Need-hash-at-requires (write-heap-claims t) (write-heap-at t) write-heap.Post
-write-heap-hash-at-requires t c κs = hash-within _ (c .before .before .args .k) (c .before .before .args .x) (c .before .before .pre .1 .3)
+-- ---- above the leaves
 
-write-heap-add-at-requires : (t : ℕ) → write-heap-lts.Need-add-at-requires (write-heap-claims t) (write-heap-at t) write-heap.Post
-write-heap-add-at-requires t c κs = omega (arith, c .before .before .before .before .before .pre .1 .0 .room, fit-self (c .before .before .before .before .before .pre .1 .0))
+module _ (t : ℕ) (c : lts.Else1 (claims t) (here t) write-heap.Post) where
+  abbrev start : lts.Start (claims t) (here t) write-heap.Post
+  start = c .before .before .before .before
 
-write-heap-same-length : (t : ℕ) → write-heap-lts.Need-same-length (write-heap-claims t) (write-heap-at t) write-heap.Post
-write-heap-same-length t c = c .before .before .add-at .kept .0
+  -- the children's numbers are below the largest, and their hashes are in the heap
+  child-below : 2 * start .args .n + 1 < start .args .b
+  child-below = fit-self (fit-right (start .pre .1 .0) (c .if1 .left))
 
-write-heap-returns : (t : ℕ) → write-heap-lts.Need-returns (write-heap-claims t) (write-heap-at t) write-heap.Post
-write-heap-returns t c = let a = c .before .before .before .before .before .before .before .before .args in wrote-zero (a .s .now) (hashIn (a .heap .now)) (a .k) (a .n) (a .x) _ _ _ (c .before .before .before .before .if1 .taken) (c .before .before .before .before .before .hash-at .ensures) (c .before .before .add-at .ensures .0) (c .before .before .add-at .ensures .1) .1
+  child-in : 64 * start .args .x + 64 ≤ length (start .args .heap .now)
+  child-in = children-in (length (start .args .heap .now)) (start .args .k) (start .args .x) (omega (arith, c .if1 .left)) (start .pre .1 .3) .0
 
-write-heap-sub-d : (t : ℕ) → write-heap-lts.Need-sub-d (write-heap-claims t) (write-heap-at t) write-heap.Post
-write-heap-sub-d t c = search needs
+write-heap-write-heap-requires : (t : ℕ) → lts.Need-write-heap-requires (claims t) (here t) write-heap.Post
+write-heap-write-heap-requires t c κs =
+    let some = c .before in let s = start t some in let a = s .args in let p = s .pre .1 in
+    let q = children-in (length (a .heap .now)) (a .k) (a .x) (omega (arith, some .if1 .left)) (p .3) in
+    (omega arith, (fit-first (fit-left (p .0) (some .if1 .left)), p .1, omega (arith, p .2), q .1))
 
-write-heap-mul-n2 : (t : ℕ) → write-heap-lts.Need-mul-n2 (write-heap-claims t) (write-heap-at t) write-heap.Post
-write-heap-mul-n2 t c = let a = c .before .before .before .before .args in
-    let p = c .before .before .before .before .pre .1 in
-    let q = children-in (length (a .heap .now)) (a .k) (a .x) (omega (arith, c .if1 .left)) (p .3) in
-    omega (arith, q .0, p .0 .room, fit-self (fit-right (p .0) (c .if1 .left)))
+write-heap-write-heap-requires-2 : (t : ℕ) → lts.Need-write-heap-requires-2 (claims t) (here t) write-heap.Post
+write-heap-write-heap-requires-2 t c κs =
+    let l = c .before .before .before in let some = l .before .before in let s = start t some in let a = s .args in let p = s .pre .1 in
+    let q = children-in (length (a .heap .now)) (a .k) (a .x) (omega (arith, some .if1 .left)) (p .3) in
+    (omega arith, (fit-length (fit-first (fit-right (p .0) (some .if1 .left))) _ (l .write-heap .kept .0), p .1, omega (arith, p .2), q .2))
 
-write-heap-mul-x2 : (t : ℕ) → write-heap-lts.Need-mul-x2 (write-heap-claims t) (write-heap-at t) write-heap.Post
-write-heap-mul-x2 t c = let a = c .before .before .before .before .args in
-    let p = c .before .before .before .before .pre .1 in
-    let q = children-in (length (a .heap .now)) (a .k) (a .x) (omega (arith, c .if1 .left)) (p .3) in
-    omega (arith, q .0, p .0 .room, fit-self (fit-right (p .0) (c .if1 .left)))
+write-heap-add-at-requires-2 : (t : ℕ) → lts.Need-add-at-requires-2 (claims t) (here t) write-heap.Post
+write-heap-add-at-requires-2 t c κs =
+    let r = c .before .before .before in let l = r .before .before .before .before in
+    let f = start t (l .before .before) .pre .1 .0 in
+    omega (arith, f .room, fit-self f, l .write-heap .kept .0, r .write-heap2 .kept .0)
 
-write-heap-add-n3 : (t : ℕ) → write-heap-lts.Need-add-n3 (write-heap-claims t) (write-heap-at t) write-heap.Post
-write-heap-add-n3 t c = let a = c .before .before .before .before .args in
-    let p = c .before .before .before .before .pre .1 in
-    let q = children-in (length (a .heap .now)) (a .k) (a .x) (omega (arith, c .if1 .left)) (p .3) in
-    omega (arith, q .0, p .0 .room, fit-self (fit-right (p .0) (c .if1 .left)))
+-- what the children and the top add
+module _ (t : ℕ) (c : lts.After-add-at2 (claims t) (here t) write-heap.Post) where
+  abbrev right : lts.After-write-heap2 (claims t) (here t) write-heap.Post
+  right = c .before .before .before .before
 
-write-heap-add-x3 : (t : ℕ) → write-heap-lts.Need-add-x3 (write-heap-claims t) (write-heap-at t) write-heap.Post
-write-heap-add-x3 t c = let a = c .before .before .before .before .args in
-    let p = c .before .before .before .before .pre .1 in
-    let q = children-in (length (a .heap .now)) (a .k) (a .x) (omega (arith, c .if1 .left)) (p .3) in
-    omega (arith, q .0, p .0 .room, fit-self (fit-right (p .0) (c .if1 .left)))
+  abbrev left : lts.After-write-heap (claims t) (here t) write-heap.Post
+  left = right .before .before .before .before
 
-write-heap-write-heap-requires : (t : ℕ) → write-heap-lts.Need-write-heap-requires (write-heap-claims t) (write-heap-at t) write-heap.Post
-write-heap-write-heap-requires t c κs = let a = c .before .before .before .before .before .args in
-    let p = c .before .before .before .before .before .pre .1 in
-    let q = children-in (length (a .heap .now)) (a .k) (a .x) (omega (arith, c .before .if1 .left)) (p .3) in
-    (omega arith, (fit-first (fit-left (p .0) (c .before .if1 .left)), p .1, omega (arith, p .2), q .1))
+  abbrev split : lts.Else1 (claims t) (here t) write-heap.Post
+  split = left .before .before
 
-write-heap-write-heap-requires-2 : (t : ℕ) → write-heap-lts.Need-write-heap-requires-2 (write-heap-claims t) (write-heap-at t) write-heap.Post
-write-heap-write-heap-requires-2 t c κs = let a = c .before .before .before .before .before .before .before .before .before .args in
-    let p = c .before .before .before .before .before .before .before .before .before .pre .1 in
-    let q = children-in (length (a .heap .now)) (a .k) (a .x) (omega (arith, c .before .before .before .before .before .if1 .left)) (p .3) in
-    (omega arith, (fit-length (fit-first (fit-right (p .0) (c .before .before .before .before .before .if1 .left))) _ (c .before .before .before .write-heap .kept .0), p .1, omega (arith, p .2), q .2))
+  few : left .write-heap .result + right .write-heap2 .result + c .add-at2 .result < 4 * start t split .args .b
+  few =
+      let a = start t split .args in
+      up-small (start t split .pre .1 .0) (split .if1 .left) (a .s .now) (left .write-heap .last .0) (right .write-heap2 .last .0)
+      (hashIn (a .heap .now)) (a .x) _ _ _ (left .write-heap .ensures .0) (right .write-heap2 .ensures .0) (c .add-at2 .ensures .0)
 
-write-heap-add-at-requires-2 : (t : ℕ) → write-heap-lts.Need-add-at-requires-2 (write-heap-claims t) (write-heap-at t) write-heap.Post
-write-heap-add-at-requires-2 t c κs = omega (arith, c .before .before .before .before .before .before .before .before .before .before .before .before .before .pre .1 .0 .room, fit-self (c .before .before .before .before .before .before .before .before .before .before .before .before .before .pre .1 .0), c .before .before .before .before .before .before .before .write-heap .kept .0, c .before .before .before .write-heap2 .kept .0)
+  fits : 4 * start t split .args .b < 2 ^ 64
+  fits = omega (arith, start t split .pre .1 .0 .room, start t split .good .0 .0)
 
-write-heap-add-result : (t : ℕ) → write-heap-lts.Need-add-result (write-heap-claims t) (write-heap-at t) write-heap.Post
-write-heap-add-result t c = let a = c .before .before .before .before .before .before .before .before .before .before .before .before .before .before .before .before .args in
-    let p = c .before .before .before .before .before .before .before .before .before .before .before .before .before .before .before .before .pre .1 in
-    let l = subtree-small (a .s .now) (hashIn (a .heap .now)) (a .b) (a .k - 1) (2 * a .n) (2 * a .x) (fit-left (p .0) (c .before .before .before .before .before .before .before .before .before .before .before .before .if1 .left) .top) in
-    let r = subtree-small (c .before .before .before .before .before .before .before .before .before .before .write-heap .last .0) (hashIn (a .heap .now)) (a .b) (a .k - 1) (2 * a .n + 1) (2 * a .x + 1) (fit-right (p .0) (c .before .before .before .before .before .before .before .before .before .before .before .before .if1 .left) .top) in
-    omega (arith, p .0 .room, c .before .before .before .before .before .before .before .before .before .before .before .before .before .before .before .before .good .0 .0, c .before .before .before .before .before .before .before .before .before .before .write-heap .ensures .0, c .before .before .before .before .before .before .write-heap2 .ensures .0, c .before .before .add-at2 .ensures .0, lacks-small (c .before .before .before .before .before .before .write-heap2 .last .0) (a .n))
-
-write-heap-add-result-2 : (t : ℕ) → write-heap-lts.Need-add-result-2 (write-heap-claims t) (write-heap-at t) write-heap.Post
-write-heap-add-result-2 t c = let a = c .before .before .before .before .before .before .before .before .before .before .before .before .before .before .before .before .args in
-    let p = c .before .before .before .before .before .before .before .before .before .before .before .before .before .before .before .before .pre .1 in
-    let l = subtree-small (a .s .now) (hashIn (a .heap .now)) (a .b) (a .k - 1) (2 * a .n) (2 * a .x) (fit-left (p .0) (c .before .before .before .before .before .before .before .before .before .before .before .before .if1 .left) .top) in
-    let r = subtree-small (c .before .before .before .before .before .before .before .before .before .before .write-heap .last .0) (hashIn (a .heap .now)) (a .b) (a .k - 1) (2 * a .n + 1) (2 * a .x + 1) (fit-right (p .0) (c .before .before .before .before .before .before .before .before .before .before .before .before .if1 .left) .top) in
-    omega (arith, p .0 .room, c .before .before .before .before .before .before .before .before .before .before .before .before .before .before .before .before .good .0 .0, c .before .before .before .before .before .before .before .before .before .before .write-heap .ensures .0, c .before .before .before .before .before .before .write-heap2 .ensures .0, c .before .before .add-at2 .ensures .0, lacks-small (c .before .before .before .before .before .before .write-heap2 .last .0) (a .n))
-
-write-heap-same-length-2 : (t : ℕ) → write-heap-lts.Need-same-length-2 (write-heap-claims t) (write-heap-at t) write-heap.Post
-write-heap-same-length-2 t c = c .before .before .add-at2 .kept .0 ∙ c .before .before .before .before .before .before .write-heap2 .kept .0 ∙ c .before .before .before .before .before .before .before .before .before .before .write-heap .kept .0
-
-write-heap-returns-2 : (t : ℕ) → write-heap-lts.Need-returns-2 (write-heap-claims t) (write-heap-at t) write-heap.Post
-write-heap-returns-2 t c = let a = c .before .before .before .before .before .before .before .before .before .before .before .before .before .before .before .before .args in
-    let p = c .before .before .before .before .before .before .before .before .before .before .before .before .before .before .before .before .pre .1 in
-    heap-wrote (a .heap .now) (p .1) (a .k) (a .x) (p .2) (p .3) (a .s .now) (c .before .before .before .before .before .before .before .before .before .before .write-heap .last .0) (c .before .before .before .before .before .before .write-heap2 .last .0) _ _ (a .n) _ _ _ (c .before .before .before .before .before .before .before .before .before .before .before .before .if1 .left) (c .before .before .before .before .before .before .before .before .before .before .before .before .before .hash-at .ensures) (c .before .before .add-at2 .ensures .0) (c .before .before .add-at2 .ensures .1) (c .before .before .before .before .before .before .before .before .before .before .write-heap .ensures) (c .before .before .before .before .before .before .write-heap2 .ensures)
+write-heap-returns-2 : (t : ℕ) → lts.Need-returns-2 (claims t) (here t) write-heap.Post
+write-heap-returns-2 t c =
+    let top = c .before .before in let l = left t top .write-heap in let r = right t top .write-heap2 in let some = split t top in
+    let s = start t some in let a = s .args in let p = s .pre .1 in
+    heap-wrote (a .heap .now) (p .1) (a .k) (a .x) (p .2) (p .3) (a .s .now) (l .last .0) (r .last .0) _ _ (a .n) _ _ _ (some .if1 .left)
+    (some .before .hash-at .ensures) (top .add-at2 .ensures .0) (top .add-at2 .ensures .1) (l .ensures) (r .ensures)
 
 pub +write-heap-spec : {M : Type 1} → statement M
-+write-heap-spec = close μ-write-heap λ t. write-heap-lts.spec (write-heap-claims t)
-    (write-heap-at t)
-    write-heap.Post
-    (write-heap-mul-hash-at t)
-    (write-heap-hash-at-requires t)
-    (write-heap-add-at-requires t)
-    (write-heap-same-length t)
++write-heap-spec = close μ λ t. lts.spec (claims t) (here t) write-heap.Post
+    (λ c. let s = c .before .before in let w = hash-within _ (s .args .k) (s .args .x) (s .pre .1 .3) in omega arith)
+    (λ c κs. let s = c .before .before in hash-within _ (s .args .k) (s .args .x) (s .pre .1 .3))
+    (λ c κs. let f = c .before .before .before .before .before .pre .1 .0 in omega (arith, f .room, fit-self f))
+    (λ c. c .before .before .add-at .kept .0)
     (write-heap-returns t)
-    (write-heap-sub-d t)
-    (write-heap-mul-n2 t)
-    (write-heap-mul-x2 t)
-    (write-heap-add-n3 t)
-    (write-heap-add-x3 t)
+    (λ c. search needs)
+    (λ c. omega (arith, child-in t c, start t c .pre .1 .0 .room, child-below t c))
+    (λ c. omega (arith, child-in t c, start t c .pre .1 .0 .room, child-below t c))
+    (λ c. omega (arith, child-in t c, start t c .pre .1 .0 .room, child-below t c))
+    (λ c. omega (arith, child-in t c, start t c .pre .1 .0 .room, child-below t c))
     (write-heap-write-heap-requires t)
     (write-heap-write-heap-requires-2 t)
     (write-heap-add-at-requires-2 t)
-    (write-heap-add-result t)
-    (write-heap-add-result-2 t)
-    (write-heap-same-length-2 t)
+    (λ c. let top = c .before .before in omega (arith, few t top, fits t top))
+    (λ c. let top = c .before .before in omega (arith, few t top, fits t top))
+    (λ c. let top = c .before .before in
+    top .add-at2 .kept .0 ∙ right t top .write-heap2 .kept .0 ∙ left t top .write-heap .kept .0)
     (write-heap-returns-2 t)

@@ -1,40 +1,38 @@
 -- Up to nine layers in one heap; above, left child, right child and top, by recursion on the height.
 -- Assumes nothing.
-use Rattle.cells.specs.EntriesLaws.{lacks-small}
 use Rattle.settling.specs.Subtree.{runLeaf}
 use Rattle.heaps.specs.HeapsLaws.{front-length}
 use Rattle.settling.specs.HeapLaws.{room-part}
-use Rattle.settling.specs.SubtreeLaws.{fit-self, fit-left, fit-right, fit-length, subtree-small, wrote-up}
+use Rattle.settling.specs.SubtreeLaws.{fit-self, fit-left, fit-right, fit-length, up-small, wrote-up}
 use borrow.Author.Needs.{needs}
 use native.Mathlib.Omega.{arith}
 use mathlib.Core.Path.{_≡_, refl, _∙_}
-use Prim.Native.Nat.{ℕ, _<_, _+_, _-_, _*_, _^_}
+use Prim.Native.Nat.{ℕ, _<_, _+_, _*_, _^_}
 use borrow.Fn.Kinds.{In}
 use borrow.Fn.PlainCycle.{Measures, is, falls, and}
 use Rattle.settling.proofs.write_parts.Reads as write-parts
-use Rattle.settling.proofs.write_parts.Kinds as write-parts-kinds
-use Rattle.settling.proofs.+write_parts.Lts-write_parts as write-parts-lts
+use Rattle.settling.proofs.write_parts.Kinds as kinds
+use Rattle.settling.proofs.+write_parts.Lts-write_parts as lts
 use Rattle.cells.proofs.add_at.Reads as add-at-reads
 use Rattle.settling.proofs.write_part.Reads as write-part-reads
 use Rattle.sha256.proofs.pair.Reads as pair-reads
 use Rattle.settling.proofs.+write_parts.{statement}
 use Rattle.settling.proofs.+write_parts.Tie.{close}
 
-abbrev μ-write-parts : Measures 3 write-parts-kinds.ps ℕ
-μ-write-parts κs a = a .1 .1 .1 .1 .1 .0
+abbrev μ : Measures 3 kinds.ps ℕ
+μ κs a = a .1 .1 .1 .1 .1 .0
 
-abbrev write-parts-at : ℕ → In 3 write-parts-kinds.ps
-write-parts-at t = and 3 write-parts-kinds.ps (is 3 write-parts-kinds.ps μ-write-parts t) write-parts.Pre
+abbrev here : ℕ → In 3 kinds.ps
+here t = and 3 kinds.ps (is 3 kinds.ps μ t) write-parts.Pre
 
-abbrev write-parts-below : ℕ → In 3 write-parts-kinds.ps
-write-parts-below t =
-    and 3 write-parts-kinds.ps (falls 3 write-parts-kinds.ps _<_ μ-write-parts t) write-parts.Pre
+abbrev deeper : ℕ → In 3 kinds.ps
+deeper t = and 3 kinds.ps (falls 3 kinds.ps _<_ μ t) write-parts.Pre
 
-abbrev write-parts-claims : ℕ → write-parts-lts.Claims
-write-parts-claims t = (
+abbrev claims : ℕ → lts.Claims
+claims t = (
   write-part-reads.Asked,
   write-part-reads.Learnt,
-  write-parts-below t,
+  deeper t,
   write-parts.Post,
   pair-reads.Asked,
   pair-reads.Learnt,
@@ -42,110 +40,110 @@ write-parts-claims t = (
   add-at-reads.Learnt,
 )
 
-write-parts-shl-m : (t : ℕ) → write-parts-lts.Need-shl-m (write-parts-claims t) (write-parts-at t) write-parts.Post
-write-parts-shl-m t c = omega (arith, c .if1 .taken)
+write-parts-part-write-part-end : (t : ℕ) → lts.Need-part-write-part-end (claims t) (here t) write-parts.Post
+write-parts-part-write-part-end t c =
+    let s = c .before .before .before .before .before in
+    let q = room-part (s .args .k) (c .before .if1 .taken) in omega (arith, q .0, q .1, s .pre .1 .1)
 
-write-parts-mul-size : (t : ℕ) → write-parts-lts.Need-mul-size (write-parts-claims t) (write-parts-at t) write-parts.Post
-write-parts-mul-size t c = let q = room-part (c .before .before .before .before .args .k) (c .if1 .taken) in omega (arith, q .0, q .1)
-
-write-parts-sub-write-part : (t : ℕ) → write-parts-lts.Need-sub-write-part (write-parts-claims t) (write-parts-at t) write-parts.Post
-write-parts-sub-write-part t c = search needs
-
-write-parts-part-write-part-start : (t : ℕ) → write-parts-lts.Need-part-write-part-start (write-parts-claims t) (write-parts-at t) write-parts.Post
-write-parts-part-write-part-start t c = search needs
-
-write-parts-part-write-part-end : (t : ℕ) → write-parts-lts.Need-part-write-part-end (write-parts-claims t) (write-parts-at t) write-parts.Post
-write-parts-part-write-part-end t c = let q = room-part (c .before .before .before .before .before .args .k) (c .before .if1 .taken) in omega (arith, q .0, q .1, c .before .before .before .before .before .pre .1 .1)
-
-write-parts-write-part-requires : (t : ℕ) → write-parts-lts.Need-write-part-requires (write-parts-claims t) (write-parts-at t) write-parts.Post
-write-parts-write-part-requires t c κs = let a = c .before .before .before .before .before .before .args in
-    let p = c .before .before .before .before .before .before .pre .1 in
+write-parts-write-part-requires : (t : ℕ) → lts.Need-write-part-requires (claims t) (here t) write-parts.Post
+write-parts-write-part-requires t c κs =
+    let s = c .before .before .before .before .before .before in let a = s .args in let p = s .pre .1 in
     let q = room-part (a .k) (c .before .before .if1 .taken) in
     rw (q .0) (p .0, refl, front-length (a .room .now) (64 * 2 ^ a .k) (omega (arith, q .1, p .1)))
 
-write-parts-same-length : (t : ℕ) → write-parts-lts.Need-same-length (write-parts-claims t) (write-parts-at t) write-parts.Post
-write-parts-same-length t c = c .before .before .before .before .write-part .kept .0
+-- ---- above nine layers
 
-write-parts-same-length-2 : (t : ℕ) → write-parts-lts.Need-same-length-2 (write-parts-claims t) (write-parts-at t) write-parts.Post
-write-parts-same-length-2 t c = search needs
+module _ (t : ℕ) (c : lts.Else1 (claims t) (here t) write-parts.Post) where
+  abbrev start : lts.Start (claims t) (here t) write-parts.Post
+  start = c .before .before .before .before
 
-write-parts-returns : (t : ℕ) → write-parts-lts.Need-returns (write-parts-claims t) (write-parts-at t) write-parts.Post
-write-parts-returns t c = c .before .before .before .before .write-part .ensures
+  not-leaf : start .args .k ≡ 0 → ⊥
+  not-leaf z = omega (arith, c .if1 .left)
 
-write-parts-sub-d : (t : ℕ) → write-parts-lts.Need-sub-d (write-parts-claims t) (write-parts-at t) write-parts.Post
-write-parts-sub-d t c = search needs
+  -- the children's numbers are below the largest
+  child-below : 2 * start .args .n + 1 < start .args .b
+  child-below = fit-self (fit-right (start .pre .1 .0) not-leaf)
 
-write-parts-mul-n2 : (t : ℕ) → write-parts-lts.Need-mul-n2 (write-parts-claims t) (write-parts-at t) write-parts.Post
-write-parts-mul-n2 t c = let ne : c .before .before .before .before .args .k ≡ 0 → ⊥ = λ z. omega (arith, c .if1 .left) in omega (arith, c .before .before .before .before .pre .1 .0 .room, c .before .before .before .before .pre .1 .0 .index, fit-self (fit-right (c .before .before .before .before .pre .1 .0) ne))
+write-parts-write-parts-requires : (t : ℕ) → lts.Need-write-parts-requires (claims t) (here t) write-parts.Post
+write-parts-write-parts-requires t c κs =
+    let some = c .before .before in let pre = start t some .pre .1 in
+    let ne = not-leaf t some in (omega arith, (fit-left (pre .0) ne, pre .1))
 
-write-parts-mul-j2 : (t : ℕ) → write-parts-lts.Need-mul-j2 (write-parts-claims t) (write-parts-at t) write-parts.Post
-write-parts-mul-j2 t c = let ne : c .before .before .before .before .args .k ≡ 0 → ⊥ = λ z. omega (arith, c .if1 .left) in omega (arith, c .before .before .before .before .pre .1 .0 .room, c .before .before .before .before .pre .1 .0 .index, fit-self (fit-right (c .before .before .before .before .pre .1 .0) ne))
+write-parts-write-parts-requires-2 : (t : ℕ) → lts.Need-write-parts-requires-2 (claims t) (here t) write-parts.Post
+write-parts-write-parts-requires-2 t c κs =
+    let left = c .before .before .before .before .before .before in let some = left .before .before .before in
+    let pre = start t some .pre .1 in let ne = not-leaf t some in (
+      omega arith,
+      (fit-length (fit-right (pre .0) ne) _ (left .write-parts .kept .0), left .write-parts .kept .1 .1 .1 .0 ∙ pre .1),
+    )
 
-write-parts-add-n3 : (t : ℕ) → write-parts-lts.Need-add-n3 (write-parts-claims t) (write-parts-at t) write-parts.Post
-write-parts-add-n3 t c = let ne : c .before .before .before .before .args .k ≡ 0 → ⊥ = λ z. omega (arith, c .if1 .left) in omega (arith, c .before .before .before .before .pre .1 .0 .room, c .before .before .before .before .pre .1 .0 .index, fit-self (fit-right (c .before .before .before .before .pre .1 .0) ne))
+write-parts-add-at-requires : (t : ℕ) → lts.Need-add-at-requires (claims t) (here t) write-parts.Post
+write-parts-add-at-requires t c κs =
+    let right = c .before .before .before .before .before .before .before .before in
+    let left = right .before .before .before .before .before .before .before in
+    let f = start t (left .before .before .before) .pre .1 .0 in
+    omega (arith, f .room, fit-self f, left .write-parts .kept .0, right .write-parts2 .kept .0)
 
-write-parts-add-j3 : (t : ℕ) → write-parts-lts.Need-add-j3 (write-parts-claims t) (write-parts-at t) write-parts.Post
-write-parts-add-j3 t c = let ne : c .before .before .before .before .args .k ≡ 0 → ⊥ = λ z. omega (arith, c .if1 .left) in omega (arith, c .before .before .before .before .pre .1 .0 .room, c .before .before .before .before .pre .1 .0 .index, fit-self (fit-right (c .before .before .before .before .pre .1 .0) ne))
+-- what the children and the top add
+module _ (t : ℕ) (c : lts.After-add-at (claims t) (here t) write-parts.Post) where
+  abbrev right : lts.After-write-parts2 (claims t) (here t) write-parts.Post
+  right = c .before .before .before .before .before .before .before .before .before
 
-write-parts-write-parts-requires : (t : ℕ) → write-parts-lts.Need-write-parts-requires (write-parts-claims t) (write-parts-at t) write-parts.Post
-write-parts-write-parts-requires t c κs = let ne : c .before .before .before .before .before .before .args .k ≡ 0 → ⊥ = λ z. omega (arith, c .before .before .if1 .left) in (omega arith, (fit-left (c .before .before .before .before .before .before .pre .1 .0) ne, c .before .before .before .before .before .before .pre .1 .1))
+  abbrev left : lts.After-write-parts (claims t) (here t) write-parts.Post
+  left = right .before .before .before .before .before .before .before
 
-write-parts-write-parts-requires-2 : (t : ℕ) → write-parts-lts.Need-write-parts-requires-2 (write-parts-claims t) (write-parts-at t) write-parts.Post
-write-parts-write-parts-requires-2 t c κs = let ne : c .before .before .before .before .before .before .before .before .before .before .before .before .before .args .k ≡ 0 → ⊥ = λ z. omega (arith, c .before .before .before .before .before .before .before .before .before .if1 .left) in (omega arith, (fit-length (fit-right (c .before .before .before .before .before .before .before .before .before .before .before .before .before .pre .1 .0) ne) _ (c .before .before .before .before .before .before .write-parts .kept .0), c .before .before .before .before .before .before .write-parts .kept .1 .1 .1 .0 ∙ c .before .before .before .before .before .before .before .before .before .before .before .before .before .pre .1 .1))
+  abbrev split : lts.Else1 (claims t) (here t) write-parts.Post
+  split = left .before .before .before
 
-write-parts-pair-requires : (t : ℕ) → write-parts-lts.Need-pair-requires (write-parts-claims t) (write-parts-at t) write-parts.Post
-write-parts-pair-requires t c κs = search needs
+  few : left .write-parts .result .new + right .write-parts2 .result .new + c .add-at .result < 4 * start t split .args .b
+  few =
+      let a = start t split .args in
+      up-small (start t split .pre .1 .0) (not-leaf t split) (a .s .now) (left .write-parts .last .0) (right .write-parts2 .last .0)
+      (runLeaf (a .run .now) (a .past)) (a .j) _ _ _ (left .write-parts .ensures .1 .0) (right .write-parts2 .ensures .1 .0) (c .add-at .ensures .0)
 
-write-parts-add-at-requires : (t : ℕ) → write-parts-lts.Need-add-at-requires (write-parts-claims t) (write-parts-at t) write-parts.Post
-write-parts-add-at-requires t c κs = omega (arith, c .before .before .before .before .before .before .before .before .before .before .before .before .before .before .before .before .before .before .before .before .before .before .pre .1 .0 .room, fit-self (c .before .before .before .before .before .before .before .before .before .before .before .before .before .before .before .before .before .before .before .before .before .before .pre .1 .0), c .before .before .before .before .before .before .before .before .before .before .before .before .before .before .before .write-parts .kept .0, c .before .before .before .before .before .before .before .before .write-parts2 .kept .0)
+  fits : 4 * start t split .args .b < 2 ^ 64
+  fits = omega (arith, start t split .pre .1 .0 .room, start t split .good .0 .0)
 
-write-parts-add-t : (t : ℕ) → write-parts-lts.Need-add-t (write-parts-claims t) (write-parts-at t) write-parts.Post
-write-parts-add-t t c = let ne : c .before .before .before .before .before .before .before .before .before .before .before .before .before .before .before .before .before .before .before .before .before .before .before .before .before .before .before .args .k ≡ 0 → ⊥ = λ z. omega (arith, c .before .before .before .before .before .before .before .before .before .before .before .before .before .before .before .before .before .before .before .before .before .before .before .if1 .left) in let a = c .before .before .before .before .before .before .before .before .before .before .before .before .before .before .before .before .before .before .before .before .before .before .before .before .before .before .before .args in
-    let l = subtree-small (a .s .now) (runLeaf (a .run .now) (a .past)) (a .b) (a .k - 1) (2 * a .n) (2 * a .j) (fit-left (c .before .before .before .before .before .before .before .before .before .before .before .before .before .before .before .before .before .before .before .before .before .before .before .before .before .before .before .pre .1 .0) ne .top) in
-    let r = subtree-small (c .before .before .before .before .before .before .before .before .before .before .before .before .before .before .before .before .before .before .before .before .write-parts .last .0) (runLeaf (a .run .now) (a .past)) (a .b) (a .k - 1) (2 * a .n + 1) (2 * a .j + 1) (fit-right (c .before .before .before .before .before .before .before .before .before .before .before .before .before .before .before .before .before .before .before .before .before .before .before .before .before .before .before .pre .1 .0) ne .top) in
-    omega (arith, c .before .before .before .before .before .before .before .before .before .before .before .before .before .before .before .before .before .before .before .before .before .before .before .before .before .before .before .pre .1 .0 .room, c .before .before .before .before .before .before .before .before .before .before .before .before .before .before .before .before .before .before .before .before .before .before .before .before .before .before .before .good .0 .0, c .before .before .before .before .before .before .before .before .before .before .before .before .before .before .before .before .before .before .before .before .write-parts .ensures .1 .0, c .before .before .before .before .before .before .before .before .before .before .before .before .before .write-parts2 .ensures .1 .0, c .before .before .before .before .add-at .ensures .0, lacks-small (c .before .before .before .before .before .before .before .before .before .before .before .before .before .write-parts2 .last .0) (a .n))
+write-parts-same-length-3 : (t : ℕ) → lts.Need-same-length-3 (claims t) (here t) write-parts.Post
+write-parts-same-length-3 t c =
+    let top = c .before .before .before .before in
+    top .add-at .kept .0 ∙ right t top .write-parts2 .kept .0 ∙ left t top .write-parts .kept .0
 
-write-parts-add-t-2 : (t : ℕ) → write-parts-lts.Need-add-t-2 (write-parts-claims t) (write-parts-at t) write-parts.Post
-write-parts-add-t-2 t c = let ne : c .before .before .before .before .before .before .before .before .before .before .before .before .before .before .before .before .before .before .before .before .before .before .before .before .before .before .before .args .k ≡ 0 → ⊥ = λ z. omega (arith, c .before .before .before .before .before .before .before .before .before .before .before .before .before .before .before .before .before .before .before .before .before .before .before .if1 .left) in let a = c .before .before .before .before .before .before .before .before .before .before .before .before .before .before .before .before .before .before .before .before .before .before .before .before .before .before .before .args in
-    let l = subtree-small (a .s .now) (runLeaf (a .run .now) (a .past)) (a .b) (a .k - 1) (2 * a .n) (2 * a .j) (fit-left (c .before .before .before .before .before .before .before .before .before .before .before .before .before .before .before .before .before .before .before .before .before .before .before .before .before .before .before .pre .1 .0) ne .top) in
-    let r = subtree-small (c .before .before .before .before .before .before .before .before .before .before .before .before .before .before .before .before .before .before .before .before .write-parts .last .0) (runLeaf (a .run .now) (a .past)) (a .b) (a .k - 1) (2 * a .n + 1) (2 * a .j + 1) (fit-right (c .before .before .before .before .before .before .before .before .before .before .before .before .before .before .before .before .before .before .before .before .before .before .before .before .before .before .before .pre .1 .0) ne .top) in
-    omega (arith, c .before .before .before .before .before .before .before .before .before .before .before .before .before .before .before .before .before .before .before .before .before .before .before .before .before .before .before .pre .1 .0 .room, c .before .before .before .before .before .before .before .before .before .before .before .before .before .before .before .before .before .before .before .before .before .before .before .before .before .before .before .good .0 .0, c .before .before .before .before .before .before .before .before .before .before .before .before .before .before .before .before .before .before .before .before .write-parts .ensures .1 .0, c .before .before .before .before .before .before .before .before .before .before .before .before .before .write-parts2 .ensures .1 .0, c .before .before .before .before .add-at .ensures .0, lacks-small (c .before .before .before .before .before .before .before .before .before .before .before .before .before .write-parts2 .last .0) (a .n))
+write-parts-same-length-4 : (t : ℕ) → lts.Need-same-length-4 (claims t) (here t) write-parts.Post
+write-parts-same-length-4 t c =
+    let top = c .before .before .before .before in
+    right t top .write-parts2 .kept .1 .1 .1 .0 ∙ left t top .write-parts .kept .1 .1 .1 .0
 
-write-parts-same-length-3 : (t : ℕ) → write-parts-lts.Need-same-length-3 (write-parts-claims t) (write-parts-at t) write-parts.Post
-write-parts-same-length-3 t c = c .before .before .before .before .add-at .kept .0 ∙ c .before .before .before .before .before .before .before .before .before .before .before .before .before .write-parts2 .kept .0 ∙ c .before .before .before .before .before .before .before .before .before .before .before .before .before .before .before .before .before .before .before .before .write-parts .kept .0
-
-write-parts-same-length-4 : (t : ℕ) → write-parts-lts.Need-same-length-4 (write-parts-claims t) (write-parts-at t) write-parts.Post
-write-parts-same-length-4 t c = c .before .before .before .before .before .before .before .before .before .before .before .before .before .write-parts2 .kept .1 .1 .1 .0 ∙ c .before .before .before .before .before .before .before .before .before .before .before .before .before .before .before .before .before .before .before .before .write-parts .kept .1 .1 .1 .0
-
-write-parts-returns-2 : (t : ℕ) → write-parts-lts.Need-returns-2 (write-parts-claims t) (write-parts-at t) write-parts.Post
-write-parts-returns-2 t c = let ne : c .before .before .before .before .before .before .before .before .before .before .before .before .before .before .before .before .before .before .before .before .before .before .before .before .before .before .before .args .k ≡ 0 → ⊥ = λ z. omega (arith, c .before .before .before .before .before .before .before .before .before .before .before .before .before .before .before .before .before .before .before .before .before .before .before .if1 .left) in let a = c .before .before .before .before .before .before .before .before .before .before .before .before .before .before .before .before .before .before .before .before .before .before .before .before .before .before .before .args in
-    wrote-up (a .s .now) (runLeaf (a .run .now) (a .past)) (a .k) (a .n) (a .j) (c .before .before .before .before .before .before .before .before .before .before .before .before .before .before .before .before .before .before .before .before .write-parts .result .hash) (c .before .before .before .before .before .before .before .before .before .before .before .before .before .before .before .before .before .before .before .before .write-parts .result .new) (c .before .before .before .before .before .before .before .before .before .before .before .before .before .before .before .before .before .before .before .before .write-parts .last .0) (c .before .before .before .before .before .before .before .before .before .before .before .before .before .write-parts2 .result .hash) (c .before .before .before .before .before .before .before .before .before .before .before .before .before .write-parts2 .result .new) (c .before .before .before .before .before .before .before .before .before .before .before .before .before .write-parts2 .last .0) (c .before .before .before .before .before .before .pair .result) (c .before .before .before .before .add-at .result) (c .before .before .before .before .add-at .last .0)
-    ne (c .before .before .before .before .before .before .before .before .before .before .before .before .before .before .before .before .before .before .before .before .write-parts .ensures) (c .before .before .before .before .before .before .before .before .before .before .before .before .before .write-parts2 .ensures) (c .before .before .before .before .before .before .pair .ensures) (c .before .before .before .before .add-at .ensures .0) (c .before .before .before .before .add-at .ensures .1)
+write-parts-returns-2 : (t : ℕ) → lts.Need-returns-2 (claims t) (here t) write-parts.Post
+write-parts-returns-2 t c =
+    let top = c .before .before .before .before in let l = left t top .write-parts in let r = right t top .write-parts2 in
+    let v = top .before .before .pair in let a = start t (split t top) .args in
+    wrote-up (a .s .now) (runLeaf (a .run .now) (a .past)) (a .k) (a .n) (a .j) (l .result .hash) (l .result .new) (l .last .0)
+    (r .result .hash) (r .result .new) (r .last .0) (v .result) (top .add-at .result) (top .add-at .last .0) (not-leaf t (split t top))
+    (l .ensures) (r .ensures) (v .ensures) (top .add-at .ensures .0) (top .add-at .ensures .1)
 
 pub +write-parts-spec : {M : Type 1} → statement M
-+write-parts-spec = close μ-write-parts λ t. write-parts-lts.spec (write-parts-claims t)
-    (write-parts-at t)
-    write-parts.Post
-    (write-parts-shl-m t)
-    (write-parts-mul-size t)
-    (write-parts-sub-write-part t)
-    (write-parts-part-write-part-start t)
++write-parts-spec = close μ λ t. lts.spec (claims t) (here t) write-parts.Post
+    (λ c. omega (arith, c .if1 .taken))
+    (λ c. let q = room-part (c .before .before .before .before .args .k) (c .if1 .taken) in omega (arith, q .0, q .1))
+    (λ c. search needs)
+    (λ c. search needs)
     (write-parts-part-write-part-end t)
     (write-parts-write-part-requires t)
-    (write-parts-same-length t)
-    (write-parts-same-length-2 t)
-    (write-parts-returns t)
-    (write-parts-sub-d t)
-    (write-parts-mul-n2 t)
-    (write-parts-mul-j2 t)
-    (write-parts-add-n3 t)
-    (write-parts-add-j3 t)
+    (λ c. c .before .before .before .before .write-part .kept .0)
+    (λ c. search needs)
+    (λ c. c .before .before .before .before .write-part .ensures)
+    (λ c. search needs)
+    (λ c. let f = start t c .pre .1 .0 in omega (arith, f .room, child-below t c))
+    (λ c. let f = start t c .pre .1 .0 in omega (arith, f .room, f .index, child-below t c))
+    (λ c. let f = start t c .pre .1 .0 in omega (arith, f .room, child-below t c))
+    (λ c. let f = start t c .pre .1 .0 in omega (arith, f .room, f .index, child-below t c))
     (write-parts-write-parts-requires t)
     (write-parts-write-parts-requires-2 t)
-    (write-parts-pair-requires t)
+    (λ c κs. search needs)
     (write-parts-add-at-requires t)
-    (write-parts-add-t t)
-    (write-parts-add-t-2 t)
+    (λ c. let top = c .before .before .before .before in omega (arith, few t top, fits t top))
+    (λ c. let top = c .before .before .before .before in omega (arith, few t top, fits t top))
     (write-parts-same-length-3 t)
     (write-parts-same-length-4 t)
     (write-parts-returns-2 t)

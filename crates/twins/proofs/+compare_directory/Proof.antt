@@ -1,5 +1,5 @@
 -- Nodes side by side by a loop, directories by recursion: how far the directory has come (Going), for whatever is known of what was ahead.
-use Rattle.filetree.specs.TokenLaws.{leaf-ends, opened-ends}
+use Rattle.filetree.specs.TokenLaws.{leaf-ends, leaf-fewer, fewer-behind, opened-ends}
 use Rattle.twins.specs.Walk.{Ahead}
 use Rattle.twins.specs.WalkLaws.{Going, levels-left, going-start, going-bad, going-end, going-closed, file-stands, going-differs, going-file, inside-ahead, inside-differs, inside-behind, going-directory}
 use borrow.Author.Needs.{needs}
@@ -10,8 +10,8 @@ use Prim.Native.Nat.{ℕ, _<_, _-_}
 use borrow.Fn.Kinds.{In}
 use borrow.Fn.PlainCycle.{Measures, is, falls, and}
 use Rattle.twins.proofs.compare_directory.Reads as compare-directory
-use Rattle.twins.proofs.compare_directory.Kinds as compare-directory-kinds
-use Rattle.twins.proofs.+compare_directory.Lts-compare_directory as compare-directory-lts
+use Rattle.twins.proofs.compare_directory.Kinds as kinds
+use Rattle.twins.proofs.+compare_directory.Lts-compare_directory as lts
 use Rattle.filetree.proofs.token.read_token.Reads as read-token-reads
 use Rattle.twins.proofs.differs.Reads as differs-reads
 use Rattle.twins.proofs.meet.Reads as meet-reads
@@ -19,27 +19,17 @@ use Rattle.twins.proofs.one_more.Reads as one-more-reads
 use Rattle.twins.proofs.+compare_directory.{statement}
 use Rattle.twins.proofs.+compare_directory.Tie.{close}
 
-abbrev μ-compare-directory : Measures 3 compare-directory-kinds.ps ℕ
-μ-compare-directory κs a = a .1 .1 .0
+abbrev μ : Measures 3 kinds.ps ℕ
+μ κs a = a .1 .1 .0
 
-abbrev compare-directory-at : ℕ → In 3 compare-directory-kinds.ps
-compare-directory-at t =
-    and
-    3
-    compare-directory-kinds.ps
-    (is 3 compare-directory-kinds.ps μ-compare-directory t)
-    compare-directory.Pre
+abbrev here : ℕ → In 3 kinds.ps
+here t = and 3 kinds.ps (is 3 kinds.ps μ t) compare-directory.Pre
 
-abbrev compare-directory-below : ℕ → In 3 compare-directory-kinds.ps
-compare-directory-below t =
-    and
-    3
-    compare-directory-kinds.ps
-    (falls 3 compare-directory-kinds.ps _<_ μ-compare-directory t)
-    compare-directory.Pre
+abbrev deeper : ℕ → In 3 kinds.ps
+deeper t = and 3 kinds.ps (falls 3 kinds.ps _<_ μ t) compare-directory.Pre
 
-abbrev compare-directory-claims : ℕ → compare-directory-lts.Claims
-compare-directory-claims t = (
+abbrev claims : ℕ → lts.Claims
+claims t = (
   read-token-reads.Asked,
   read-token-reads.Learnt,
   meet-reads.Asked,
@@ -48,246 +38,143 @@ compare-directory-claims t = (
   differs-reads.Learnt,
   one-more-reads.Asked,
   one-more-reads.Learnt,
-  compare-directory-below t,
+  deeper t,
   compare-directory.Post,
 )
 
-abbrev compare-directory-Inv-loop : compare-directory-lts.InvT-loop
-compare-directory-Inv-loop t at levels roots count room₀ plen before below i₀ long₀ room i long =
-    (length room ≡ length room₀) × ((w : Ahead t roots count plen at levels room₀ before) → Going t roots count plen at levels room₀ before w room below i long)
+abbrev Inv-loop : lts.InvT-loop
+Inv-loop t at levels roots count room₀ plen before below i₀ long₀ room i long =
+    (length room ≡ length room₀)
+    × ((w : Ahead t roots count plen at levels room₀ before) → Going t roots count plen at levels room₀ before w room below i long)
 
-abbrev compare-directory-μ-loop : compare-directory-lts.MeasureT-loop
-compare-directory-μ-loop t at levels roots count room₀ plen before below i₀ long₀ room i long = length t - i
+abbrev μ-loop : lts.MeasureT-loop
+μ-loop t at levels roots count room₀ plen before below i₀ long₀ room i long = length t - i
 
-compare-directory-sub-below : (t : ℕ) →
-    compare-directory-lts.Need-sub-below (compare-directory-claims t) (compare-directory-at t) compare-directory.Post
-    compare-directory-Inv-loop compare-directory-μ-loop
-compare-directory-sub-below t c =
-    let z = levels-left _ _ _ _ _ _ _ _ (c .before .before .before .pre .1 .2) in omega arith
-
-compare-directory-loop-holds : (t : ℕ) →
-    compare-directory-lts.Need-loop-holds (compare-directory-claims t) (compare-directory-at t) compare-directory.Post
-    compare-directory-Inv-loop compare-directory-μ-loop
-compare-directory-loop-holds t c =
-    (refl, λ w. going-start _ _ _ _ _ _ _ _ w)
-
-compare-directory-read-token-requires : (t : ℕ) →
-    compare-directory-lts.Need-read-token-requires (compare-directory-claims t) (compare-directory-at t) compare-directory.Post
-    compare-directory-Inv-loop compare-directory-μ-loop
-compare-directory-read-token-requires t c κs = search needs
-
-compare-directory-enum-told : (t : ℕ) →
-    compare-directory-lts.Need-enum-told (compare-directory-claims t) (compare-directory-at t) compare-directory.Post
-    compare-directory-Inv-loop compare-directory-μ-loop
-compare-directory-enum-told t c = search needs
-
-compare-directory-same-length : (t : ℕ) →
-    compare-directory-lts.Need-same-length (compare-directory-claims t) (compare-directory-at t) compare-directory.Post
-    compare-directory-Inv-loop compare-directory-μ-loop
-compare-directory-same-length t c =
-    c .before .before .before .before .loop .inv .0
-
-compare-directory-returns : (t : ℕ) →
-    compare-directory-lts.Need-returns (compare-directory-claims t) (compare-directory-at t) compare-directory.Post
-    compare-directory-Inv-loop compare-directory-μ-loop
+compare-directory-returns : (t : ℕ) → lts.Need-returns (claims t) (here t) compare-directory.Post Inv-loop μ-loop
 compare-directory-returns t c =
-    λ w. absurd (going-bad _ _ _ _ _ _ _ _ w _ _ _ _ (c .before .before .before .before .loop .inv .1 w) (sym (c .before .before .read-token .ensures) ∙ c .enum-told .given .1))
+    let read = c .before .before in
+    λ w. absurd (going-bad w (read .before .before .loop .inv .1 w) (sym (read .read-token .ensures) ∙ c .enum-told .given .1))
 
-compare-directory-enum-told-2 : (t : ℕ) →
-    compare-directory-lts.Need-enum-told-2 (compare-directory-claims t) (compare-directory-at t) compare-directory.Post
-    compare-directory-Inv-loop compare-directory-μ-loop
-compare-directory-enum-told-2 t c = search needs
-
-compare-directory-add-t22 : (t : ℕ) →
-    compare-directory-lts.Need-add-t22 (compare-directory-claims t) (compare-directory-at t) compare-directory.Post
-    compare-directory-Inv-loop compare-directory-μ-loop
-compare-directory-add-t22 t c = search needs
-
-compare-directory-same-length-2 : (t : ℕ) →
-    compare-directory-lts.Need-same-length-2 (compare-directory-claims t) (compare-directory-at t) compare-directory.Post
-    compare-directory-Inv-loop compare-directory-μ-loop
-compare-directory-same-length-2 t c =
-    c .before .before .before .before .loop .inv .0
-
-compare-directory-returns-2 : (t : ℕ) →
-    compare-directory-lts.Need-returns-2 (compare-directory-claims t) (compare-directory-at t) compare-directory.Post
-    compare-directory-Inv-loop compare-directory-μ-loop
+compare-directory-returns-2 : (t : ℕ) → lts.Need-returns-2 (claims t) (here t) compare-directory.Post Inv-loop μ-loop
 compare-directory-returns-2 t c =
-    λ w. going-closed _ _ _ _ _ _ _ _ w _ _ _ _ (c .before .before .before .before .loop .inv .1 w) (c .before .before .before .loop-test .taken) (sym (c .before .before .read-token .ensures) ∙ c .enum-told2 .given .1)
+    let read = c .before .before in let test = read .before in
+    λ w. going-closed w (test .before .loop .inv .1 w) (test .loop-test .taken) (sym (read .read-token .ensures) ∙ c .enum-told2 .given .1)
 
-compare-directory-enum-known-length : (t : ℕ) →
-    compare-directory-lts.Need-enum-known-length (compare-directory-claims t) (compare-directory-at t) compare-directory.Post
-    compare-directory-Inv-loop compare-directory-μ-loop
-compare-directory-enum-known-length t c = search needs
-
-compare-directory-meet-requires : (t : ℕ) →
-    compare-directory-lts.Need-meet-requires (compare-directory-claims t) (compare-directory-at t) compare-directory.Post
-    compare-directory-Inv-loop compare-directory-μ-loop
+compare-directory-meet-requires : (t : ℕ) → lts.Need-meet-requires (claims t) (here t) compare-directory.Post Inv-loop μ-loop
 compare-directory-meet-requires t c κs =
-    let tok = (sym (c .before .before .before .before .read-token .ensures) ∙ c .before .before .length .given .1) in
-    let z = leaf-ends _ _ _ _ _ _ _ tok in
-    let x = z .0 in
-    let y = z .1 in
-    let u = c .before .before .before .before .before .before .before .before .before .before .pre .1 .1 in
-    let w = c .before .before .before .before .before .before .before .before .before .before .pre .1 .2 in
-    let g = c .before .before .before .before .before .before .loop .inv .1 w in
-    (c .before .before .before .before .before .before .before .before .before .before .pre .1 .0, g .known .sized, omega arith, λ o. z .2 o .1, file-stands _ _ _ _ _ _ _ _ w _ _ _ _ g (c .before .before .before .before .before .loop-test .taken) _ _ _ _ _ tok)
+    let read = c .before .before .before .before in let turn = read .before .before in
+    let pre = turn .before .before .before .before .pre .1 in let short = pre .1 in let w = pre .2 in
+    let g = turn .loop .inv .1 w in let h = read .before .loop-test .taken in
+    let e = sym (read .read-token .ensures) ∙ c .before .before .length .given .1 in
+    (pre .0, g .known .sized, omega arith, λ o. leaf-ends _ _ _ _ _ _ _ e .2 o .1, file-stands w g h e)
 
-compare-directory-differs-requires : (t : ℕ) →
-    compare-directory-lts.Need-differs-requires (compare-directory-claims t) (compare-directory-at t) compare-directory.Post
-    compare-directory-Inv-loop compare-directory-μ-loop
-compare-directory-differs-requires t c κs = search needs
-
-compare-directory-same-length-3 : (t : ℕ) →
-    compare-directory-lts.Need-same-length-3 (compare-directory-claims t) (compare-directory-at t) compare-directory.Post
-    compare-directory-Inv-loop compare-directory-μ-loop
-compare-directory-same-length-3 t c =
-    c .before .before .before .before .meet .kept .1 .1 .1 .0 ∙ c .before .before .before .before .before .before .before .before .before .before .before .loop .inv .0
-
-compare-directory-returns-3 : (t : ℕ) →
-    compare-directory-lts.Need-returns-3 (compare-directory-claims t) (compare-directory-at t) compare-directory.Post
-    compare-directory-Inv-loop compare-directory-μ-loop
+compare-directory-returns-3 : (t : ℕ) → lts.Need-returns-3 (claims t) (here t) compare-directory.Post Inv-loop μ-loop
 compare-directory-returns-3 t c =
-    λ w.
-    going-differs _ _ _ _ _ _ _ _ w _ _ _ _ (c .before .before .before .before .before .before .before .before .before .before .before .loop .inv .1 w) (c .before .before .before .before .before .before .before .before .before .before .loop-test .taken) _ _ _ _ _ (sym (c .before .before .before .before .before .before .before .before .before .read-token .ensures) ∙ c .before .before .before .before .before .before .before .length .given .1) (c .before .before .before .before .before .before .before .before .before .before .before .before .before .before .before .pre .1 .0) _ _ (c .before .before .before .before .meet .ensures)
+    let met = c .before .before .before .before in
+    let leaf = met .before .before .before in let read = leaf .before .before in let turn = read .before .before in
+    let rooted = turn .before .before .before .before .pre .1 .0 in
+    let e = sym (read .read-token .ensures) ∙ leaf .length .given .1 in
+    λ w. going-differs w (turn .loop .inv .1 w) (read .before .loop-test .taken) e rooted _ _ (met .meet .ensures)
     (sym (c .before .differs .ensures) ∙ c .if1 .taken)
 
-compare-directory-one-more-requires : (t : ℕ) →
-    compare-directory-lts.Need-one-more-requires (compare-directory-claims t) (compare-directory-at t) compare-directory.Post
-    compare-directory-Inv-loop compare-directory-μ-loop
+compare-directory-one-more-requires : (t : ℕ) → lts.Need-one-more-requires (claims t) (here t) compare-directory.Post Inv-loop μ-loop
 compare-directory-one-more-requires t c κs =
-    let z = leaf-ends _ _ _ _ _ _ _ (sym (c .before .before .before .before .before .before .before .before .before .read-token .ensures) ∙ c .before .before .before .before .before .before .before .length .given .1) in
-    let x = z .0 in
-    let y = z .1 in
-    let u = c .before .before .before .before .before .before .before .before .before .before .before .before .before .before .before .pre .1 .1 in
-    let v = c .before .before .before .before .before .before .before .before .before .before .before .loop .inv .1 (c .before .before .before .before .before .before .before .before .before .before .before .before .before .before .before .pre .1 .2) .few in
-    omega arith
+    let test = c .before .before .before .before .before .before .before .before .before .before in let turn = test .before in
+    let pre = turn .before .before .before .before .pre .1 in let short = pre .1 in
+    let few = turn .loop .inv .1 (pre .2) .few in let h = test .loop-test .taken in omega arith
 
-compare-directory-loop-less : (t : ℕ) →
-    compare-directory-lts.Need-loop-less (compare-directory-claims t) (compare-directory-at t) compare-directory.Post
-    compare-directory-Inv-loop compare-directory-μ-loop
+compare-directory-loop-less : (t : ℕ) → lts.Need-loop-less (claims t) (here t) compare-directory.Post Inv-loop μ-loop
 compare-directory-loop-less t c =
-    let z = leaf-ends _ _ _ _ _ _ _ (sym (c .before .before .before .before .before .before .before .before .before .before .read-token .ensures) ∙ c .before .before .before .before .before .before .before .before .length .given .1) in
-    let x = z .0 in
-    let y = z .1 in
-    omega arith
+    let leaf = c .before .before .before .before .before .before .before .before in
+    leaf-fewer _ _ _ _ _ _ _ (sym (leaf .before .before .read-token .ensures) ∙ leaf .length .given .1)
 
-compare-directory-loop-again : (t : ℕ) →
-    compare-directory-lts.Need-loop-again (compare-directory-claims t) (compare-directory-at t) compare-directory.Post
-    compare-directory-Inv-loop compare-directory-μ-loop
-compare-directory-loop-again t c = (
-  c .before .before .before .before .before .meet .kept .1 .1 .1 .0 ∙ c .before .before .before .before .before .before .before .before .before .before .before .before .loop .inv .0,
-  λ w. going-file _ _ _ _ _ _ _ _ w _ _ _ _ (c .before .before .before .before .before .before .before .before .before .before .before .before .loop .inv .1 w) (c .before .before .before .before .before .before .before .before .before .before .before .loop-test .taken) _ _ _ _ _ (sym (c .before .before .before .before .before .before .before .before .before .before .read-token .ensures) ∙ c .before .before .before .before .before .before .before .before .length .given .1) (c .before .before .before .before .before .before .before .before .before .before .before .before .before .before .before .before .pre .1 .0) _ _ (c .before .before .before .before .before .meet .ensures)
-      (sym (c .before .before .differs .ensures) ∙ c .before .if1 .left) _ (c .one-more .ensures),
-)
-
-compare-directory-enum-known-end : (t : ℕ) →
-    compare-directory-lts.Need-enum-known-end (compare-directory-claims t) (compare-directory-at t) compare-directory.Post
-    compare-directory-Inv-loop compare-directory-μ-loop
-compare-directory-enum-known-end t c = search needs
-
-compare-directory-add-compare-directory :
-    (t : ℕ) →
-    compare-directory-lts.Need-add-compare-directory (compare-directory-claims t) (compare-directory-at t) compare-directory.Post
-    compare-directory-Inv-loop compare-directory-μ-loop
-compare-directory-add-compare-directory t c =
-    let ends = opened-ends _ _ _ _ (sym (c .before .before .before .read-token .ensures) ∙ c .before .end .given .1) in let x = ends .1 in let u = c .before .before .before .before .before .before .before .before .before .pre .1 .1 in omega arith
-
-compare-directory-compare-directory-requires :
-    (t : ℕ) →
-    compare-directory-lts.Need-compare-directory-requires (compare-directory-claims t) (compare-directory-at t) compare-directory.Post
-    compare-directory-Inv-loop compare-directory-μ-loop
-compare-directory-compare-directory-requires t c κs =
-    let w = c .before .before .before .before .before .before .before .before .before .before .pre .1 .2 in
-    let z = levels-left _ _ _ _ _ _ _ _ w in (
-      omega arith,
-      (c .before .before .before .before .before .before .before .before .before .before .pre .1 .0, c .before .before .before .before .before .before .before .before .before .before .pre .1 .1, inside-ahead _ _ _ _ _ _ _ _ w _ _ _ _ (c .before .before .before .before .before .before .loop .inv .1 w) (c .before .before .before .before .before .loop-test .taken) _ _ (sym (c .before .before .before .before .read-token .ensures) ∙ c .before .before .end .given .1)),
+compare-directory-loop-again : (t : ℕ) → lts.Need-loop-again (claims t) (here t) compare-directory.Post Inv-loop μ-loop
+compare-directory-loop-again t c =
+    let met = c .before .before .before .before .before in
+    let leaf = met .before .before .before in let read = leaf .before .before in let turn = read .before .before in
+    let rooted = turn .before .before .before .before .pre .1 .0 in
+    let e = sym (read .read-token .ensures) ∙ leaf .length .given .1 in (
+      met .meet .kept .1 .1 .1 .0 ∙ turn .loop .inv .0,
+      λ w. going-file w (turn .loop .inv .1 w) (read .before .loop-test .taken) e rooted _ _ (met .meet .ensures)
+          (sym (c .before .before .differs .ensures) ∙ c .before .if1 .left) _ (c .one-more .ensures),
     )
 
-compare-directory-enum-known-next : (t : ℕ) →
-    compare-directory-lts.Need-enum-known-next (compare-directory-claims t) (compare-directory-at t) compare-directory.Post
-    compare-directory-Inv-loop compare-directory-μ-loop
-compare-directory-enum-known-next t c = search needs
+compare-directory-add-compare-directory : (t : ℕ) → lts.Need-add-compare-directory (claims t) (here t) compare-directory.Post Inv-loop μ-loop
+compare-directory-add-compare-directory t c =
+    let read = c .before .before .before in let short = read .before .before .before .before .before .before .pre .1 .1 in
+    let inside = opened-ends _ _ _ _ (sym (read .read-token .ensures) ∙ c .before .end .given .1) .1 in omega arith
 
-compare-directory-loop-less-2 : (t : ℕ) →
-    compare-directory-lts.Need-loop-less-2 (compare-directory-claims t) (compare-directory-at t) compare-directory.Post
-    compare-directory-Inv-loop compare-directory-μ-loop
+compare-directory-compare-directory-requires : (t : ℕ) → lts.Need-compare-directory-requires (claims t) (here t) compare-directory.Post Inv-loop μ-loop
+compare-directory-compare-directory-requires t c κs =
+    let read = c .before .before .before .before in let turn = read .before .before in
+    let pre = turn .before .before .before .before .pre .1 in let w = pre .2 in let left = levels-left w in
+    let e = sym (read .read-token .ensures) ∙ c .before .before .end .given .1 in
+    (omega arith, (pre .0, pre .1, inside-ahead w (turn .loop .inv .1 w) (read .before .loop-test .taken) e))
+
+compare-directory-loop-less-2 : (t : ℕ) → lts.Need-loop-less-2 (claims t) (here t) compare-directory.Post Inv-loop μ-loop
 compare-directory-loop-less-2 t c =
-    let w = c .before .before .before .before .before .before .before .before .before .before .before .before .before .before .before .before .pre .1 .2 in
-    let ends = inside-behind _ _ _ _ _ _ _ _ w _ _ _ _ (c .before .before .before .before .before .before .before .before .before .before .before .before .loop .inv .1 w) (c .before .before .before .before .before .before .before .before .before .before .before .loop-test .taken) _ _ (sym (c .before .before .before .before .before .before .before .before .before .before .read-token .ensures) ∙ c .before .before .before .before .before .before .before .before .end .given .1) _ _ _ (rw (c .before .next .given .1) at (c .before .before .before .before .before .compare-directory .ensures (inside-ahead _ _ _ _ _ _ _ _ w _ _ _ _ (c .before .before .before .before .before .before .before .before .before .before .before .before .loop .inv .1 w) (c .before .before .before .before .before .before .before .before .before .before .before .loop-test .taken) _ _ (sym (c .before .before .before .before .before .before .before .before .before .before .read-token .ensures) ∙ c .before .before .before .before .before .before .before .before .end .given .1)))) in
-    let x = ends .0 in
-    let y = ends .1 in
-    omega arith
+    let inner = c .before .before .before .before .before in
+    let opened = inner .before .before .before in let read = opened .before .before in let turn = read .before .before in
+    let h = read .before .loop-test .taken in
+    let e = sym (read .read-token .ensures) ∙ opened .end .given .1 in
+    let w = turn .before .before .before .before .pre .1 .2 in let g = turn .loop .inv .1 w in
+    let ends = inside-behind w g h e _ _ _ (rw (c .before .next .given .1) at (inner .compare-directory .ensures (inside-ahead w g h e))) in
+    fewer-behind _ _ _ (ends .0) (ends .1)
 
-compare-directory-loop-again-2 : (t : ℕ) →
-    compare-directory-lts.Need-loop-again-2 (compare-directory-claims t) (compare-directory-at t) compare-directory.Post
-    compare-directory-Inv-loop compare-directory-μ-loop
-compare-directory-loop-again-2 t c = (
-  c .before .before .before .before .before .compare-directory .kept .1 .1 .1 .1 .1 .0 ∙ c .before .before .before .before .before .before .before .before .before .before .before .before .loop .inv .0,
-  λ w. going-directory _ _ _ _ _ _ _ _ w _ _ _ _ (c .before .before .before .before .before .before .before .before .before .before .before .before .loop .inv .1 w) (c .before .before .before .before .before .before .before .before .before .before .before .loop-test .taken) _ _ (sym (c .before .before .before .before .before .before .before .before .before .before .read-token .ensures) ∙ c .before .before .before .before .before .before .before .before .end .given .1) _ _ _ (rw (c .before .next .given .1) at (c .before .before .before .before .before .compare-directory .ensures (inside-ahead _ _ _ _ _ _ _ _ w _ _ _ _ (c .before .before .before .before .before .before .before .before .before .before .before .before .loop .inv .1 w) (c .before .before .before .before .before .before .before .before .before .before .before .loop-test .taken) _ _ (sym (c .before .before .before .before .before .before .before .before .before .before .read-token .ensures) ∙ c .before .before .before .before .before .before .before .before .end .given .1)))),
-)
+compare-directory-loop-again-2 : (t : ℕ) → lts.Need-loop-again-2 (claims t) (here t) compare-directory.Post Inv-loop μ-loop
+compare-directory-loop-again-2 t c =
+    let inner = c .before .before .before .before .before in
+    let opened = inner .before .before .before in let read = opened .before .before in let turn = read .before .before in
+    let h = read .before .loop-test .taken in
+    let e = sym (read .read-token .ensures) ∙ opened .end .given .1 in (
+      inner .compare-directory .kept .1 .1 .1 .1 .1 .0 ∙ turn .loop .inv .0,
+      λ w. let g = turn .loop .inv .1 w in
+          going-directory w g h e _ _ _ (rw (c .before .next .given .1) at (inner .compare-directory .ensures (inside-ahead w g h e))),
+    )
 
-compare-directory-enum-told-3 : (t : ℕ) →
-    compare-directory-lts.Need-enum-told-3 (compare-directory-claims t) (compare-directory-at t) compare-directory.Post
-    compare-directory-Inv-loop compare-directory-μ-loop
-compare-directory-enum-told-3 t c = search needs
-
-compare-directory-same-length-4 : (t : ℕ) →
-    compare-directory-lts.Need-same-length-4 (compare-directory-claims t) (compare-directory-at t) compare-directory.Post
-    compare-directory-Inv-loop compare-directory-μ-loop
-compare-directory-same-length-4 t c =
-    c .before .before .before .before .compare-directory .kept .1 .1 .1 .1 .1 .0 ∙ c .before .before .before .before .before .before .before .before .before .before .before .loop .inv .0
-
-compare-directory-returns-4 : (t : ℕ) →
-    compare-directory-lts.Need-returns-4 (compare-directory-claims t) (compare-directory-at t) compare-directory.Post
-    compare-directory-Inv-loop compare-directory-μ-loop
+compare-directory-returns-4 : (t : ℕ) → lts.Need-returns-4 (claims t) (here t) compare-directory.Post Inv-loop μ-loop
 compare-directory-returns-4 t c =
-    λ w. inside-differs _ _ _ _ _ _ _ _ w _ _ _ _ (c .before .before .before .before .before .before .before .before .before .before .before .loop .inv .1 w) (c .before .before .before .before .before .before .before .before .before .before .loop-test .taken) _ _ (sym (c .before .before .before .before .before .before .before .before .before .read-token .ensures) ∙ c .before .before .before .before .before .before .before .end .given .1) (rw (c .enum-told3 .given .1) at (c .before .before .before .before .compare-directory .ensures (inside-ahead _ _ _ _ _ _ _ _ w _ _ _ _ (c .before .before .before .before .before .before .before .before .before .before .before .loop .inv .1 w) (c .before .before .before .before .before .before .before .before .before .before .loop-test .taken) _ _ (sym (c .before .before .before .before .before .before .before .before .before .read-token .ensures) ∙ c .before .before .before .before .before .before .before .end .given .1))))
+    let inner = c .before .before .before .before in
+    let opened = inner .before .before .before in let read = opened .before .before in let turn = read .before .before in
+    let h = read .before .loop-test .taken in
+    let e = sym (read .read-token .ensures) ∙ opened .end .given .1 in
+    λ w. let g = turn .loop .inv .1 w in
+    inside-differs w g h e (rw (c .enum-told3 .given .1) at (inner .compare-directory .ensures (inside-ahead w g h e)))
 
-compare-directory-same-length-5 : (t : ℕ) →
-    compare-directory-lts.Need-same-length-5 (compare-directory-claims t) (compare-directory-at t) compare-directory.Post
-    compare-directory-Inv-loop compare-directory-μ-loop
-compare-directory-same-length-5 t c =
-    c .before .loop .inv .0
-
-compare-directory-returns-5 : (t : ℕ) →
-    compare-directory-lts.Need-returns-5 (compare-directory-claims t) (compare-directory-at t) compare-directory.Post
-    compare-directory-Inv-loop compare-directory-μ-loop
+compare-directory-returns-5 : (t : ℕ) → lts.Need-returns-5 (claims t) (here t) compare-directory.Post Inv-loop μ-loop
 compare-directory-returns-5 t c =
-    λ w. absurd (going-end _ _ _ _ _ _ _ _ w _ _ _ _ (c .before .loop .inv .1 w) (c .loop-test .left))
+    λ w. absurd (going-end w (c .before .loop .inv .1 w) (c .loop-test .left))
 
 pub +compare-directory-spec : {M : Type 1} → statement M
-+compare-directory-spec = close μ-compare-directory λ t. compare-directory-lts.spec (compare-directory-claims t)
-    (compare-directory-at t)
-    compare-directory.Post
-    compare-directory-Inv-loop
-    compare-directory-μ-loop
-    (compare-directory-sub-below t)
-    (compare-directory-loop-holds t)
-    (compare-directory-read-token-requires t)
-    (compare-directory-enum-told t)
-    (compare-directory-same-length t)
++compare-directory-spec = close μ λ t. lts.spec (claims t) (here t) compare-directory.Post Inv-loop μ-loop
+    (λ c. let left = levels-left (c .before .before .before .pre .1 .2) in omega arith)
+    (λ c. (refl, λ w. going-start w))
+    (λ c κs. search needs)
+    (λ c. search needs)
+    (λ c. c .before .before .before .before .loop .inv .0)
     (compare-directory-returns t)
-    (compare-directory-enum-told-2 t)
-    (compare-directory-add-t22 t)
-    (compare-directory-same-length-2 t)
+    (λ c. search needs)
+    (λ c. search needs)
+    (λ c. c .before .before .before .before .loop .inv .0)
     (compare-directory-returns-2 t)
-    (compare-directory-enum-known-length t)
+    (λ c. search needs)
     (compare-directory-meet-requires t)
-    (compare-directory-differs-requires t)
-    (compare-directory-same-length-3 t)
+    (λ c κs. search needs)
+    (λ c. let met = c .before .before .before .before in
+    met .meet .kept .1 .1 .1 .0 ∙ met .before .before .before .before .before .before .before .loop .inv .0)
     (compare-directory-returns-3 t)
     (compare-directory-one-more-requires t)
     (compare-directory-loop-less t)
     (compare-directory-loop-again t)
-    (compare-directory-enum-known-end t)
+    (λ c. search needs)
     (compare-directory-add-compare-directory t)
     (compare-directory-compare-directory-requires t)
-    (compare-directory-enum-known-next t)
+    (λ c. search needs)
     (compare-directory-loop-less-2 t)
     (compare-directory-loop-again-2 t)
-    (compare-directory-enum-told-3 t)
-    (compare-directory-same-length-4 t)
+    (λ c. search needs)
+    (λ c. let inner = c .before .before .before .before in
+    inner .compare-directory .kept .1 .1 .1 .1 .1 .0 ∙ inner .before .before .before .before .before .before .before .loop .inv .0)
     (compare-directory-returns-4 t)
-    (compare-directory-same-length-5 t)
+    (λ c. c .before .loop .inv .0)
     (compare-directory-returns-5 t)

@@ -1,14 +1,11 @@
 use lib.ListN.{length-set}
 use borrow.Author.Needs.{needs}
 use native.Mathlib.Omega.{arith}
-use Prim.Native.Nat.{ℕ, _+_, _-_, _*_, _≤_, _<_, _/_, _%_, _^_}
-use lib.ListN.{length, getD, set, take, drop}
-use mathlib.Core.Path.{_≡_, refl, ap, sym, _∙_}
+use Prim.Native.Nat.{_-_, _≤_}
+use lib.ListN.{length}
+use mathlib.Core.Path.{_≡_}
 use Rattle.vectors.proofs.line.Statement.{statement}
 use Rattle.vectors.proofs.line.Tie as tie
-use Rattle.vectors.proofs.line.Reads as reads
-use Rattle.vectors.proofs.line.Lts as lts
-use Rattle.vectors.proofs.digit.Reads as digit-reads
 
 abbrev Inv-loop : tie.InvT-loop
 Inv-loop h out₀ i₀ out i = (i ≤ 32) × (length out ≡ 65)

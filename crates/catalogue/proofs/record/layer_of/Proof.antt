@@ -5,10 +5,6 @@ use mathlib.Core.Path.{sym, _∙_}
 use borrow.Author.Needs.{needs}
 use Rattle.catalogue.proofs.record.layer_of.Statement.{statement}
 use Rattle.catalogue.proofs.record.layer_of.Tie as tie
-use Rattle.catalogue.proofs.record.layer_of.Reads as reads
-use Rattle.catalogue.proofs.record.layer_of.Lts as lts
-use Rattle.layers.proofs.find_layer.Reads as find-layer-reads
-use Rattle.tree.proofs.geometry.has_layer.Reads as has-layer-reads
 
 has-layer-requires : tie.Need-has-layer-requires
 has-layer-requires c κs = search needs

@@ -5,10 +5,6 @@ use mathlib.Core.Path.{ap, sym, _∙_}
 use borrow.Author.Needs.{needs}
 use Rattle.catalogue.proofs.record.put_element.Statement.{statement}
 use Rattle.catalogue.proofs.record.put_element.Tie as tie
-use Rattle.catalogue.proofs.record.put_element.Reads as reads
-use Rattle.catalogue.proofs.record.put_element.Lts as lts
-use Rattle.catalogue.proofs.record.put_part.Reads as put-part-reads
-use Rattle.octets.proofs.put_number.Reads as put-number-reads
 
 mul-i : tie.Need-mul-i
 mul-i c = search needs

@@ -8,9 +8,6 @@ use Prim.Native.Nat.{_-_, _≤_}
 use mathlib.Core.Path.{_≡_}
 use Rattle.catalogue.proofs.record.put_elements.Statement.{statement}
 use Rattle.catalogue.proofs.record.put_elements.Tie as tie
-use Rattle.catalogue.proofs.record.put_elements.Reads as reads
-use Rattle.catalogue.proofs.record.put_elements.Lts as lts
-use Rattle.catalogue.proofs.record.put_element.Reads as put-element-reads
 
 abbrev Inv-loop : tie.InvT-loop
 Inv-loop out₀ at base path n k₀ out k = (k ≤ maxElements) × (out ≡ pasted out₀ at (arrayElements base path n k))

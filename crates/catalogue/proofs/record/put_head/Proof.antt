@@ -4,11 +4,6 @@ use mathlib.Core.Path.{_≡_}
 use borrow.Author.Needs.{needs}
 use Rattle.catalogue.proofs.record.put_head.Statement.{statement}
 use Rattle.catalogue.proofs.record.put_head.Tie as tie
-use Rattle.catalogue.proofs.record.put_head.Reads as reads
-use Rattle.catalogue.proofs.record.put_head.Lts as lts
-use Rattle.catalogue.proofs.record.put_layer.Reads as put-layer-reads
-use Rattle.octets.proofs.put_hash.Reads as put-hash-reads
-use Rattle.octets.proofs.put_number.Reads as put-number-reads
 
 put-number-requires : tie.Need-put-number-requires
 put-number-requires c κs = search needs

@@ -3,9 +3,6 @@ use native.Mathlib.Omega.{arith}
 use borrow.Author.Needs.{needs}
 use Rattle.catalogue.proofs.record.put_layer.Statement.{statement}
 use Rattle.catalogue.proofs.record.put_layer.Tie as tie
-use Rattle.catalogue.proofs.record.put_layer.Reads as reads
-use Rattle.catalogue.proofs.record.put_layer.Lts as lts
-use Rattle.catalogue.proofs.record.put_part.Reads as put-part-reads
 
 enum-told : tie.Need-enum-told
 enum-told c = search needs

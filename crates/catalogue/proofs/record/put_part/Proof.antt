@@ -2,9 +2,6 @@ use Rattle.catalogue.proofs.Writing.{part-written}
 use borrow.Author.Needs.{needs}
 use Rattle.catalogue.proofs.record.put_part.Statement.{statement}
 use Rattle.catalogue.proofs.record.put_part.Tie as tie
-use Rattle.catalogue.proofs.record.put_part.Reads as reads
-use Rattle.catalogue.proofs.record.put_part.Lts as lts
-use Rattle.octets.proofs.put_number.Reads as put-number-reads
 
 put-number-requires : tie.Need-put-number-requires
 put-number-requires c κs = search needs

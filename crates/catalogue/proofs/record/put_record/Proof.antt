@@ -2,12 +2,6 @@ use Rattle.catalogue.proofs.Writing.{record-written}
 use borrow.Author.Needs.{needs}
 use Rattle.catalogue.proofs.record.put_record.Statement.{statement}
 use Rattle.catalogue.proofs.record.put_record.Tie as tie
-use Rattle.catalogue.proofs.record.put_record.Reads as reads
-use Rattle.catalogue.proofs.record.put_record.Lts as lts
-use Rattle.catalogue.proofs.record.layer_of.Reads as layer-of-reads
-use Rattle.catalogue.proofs.record.put_elements.Reads as put-elements-reads
-use Rattle.catalogue.proofs.record.put_head.Reads as put-head-reads
-use Rattle.torrent.proofs.one.root_of.Reads as root-of-reads
 
 root-of-requires : tie.Need-root-of-requires
 root-of-requires c κs = search needs

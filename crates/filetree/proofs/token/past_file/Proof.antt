@@ -1,4 +1,5 @@
-use Rattle.filetree.proofs.Reading.{ends-within, past-wrong, past-end, past-more}
+use Rattle.filetree.proofs.Reading.{past-wrong, past-end, past-more}
+use Rattle.filetree.specs.TokenLaws.{ends-inside}
 use native.Mathlib.Omega.{arith}
 use Prim.Native.Nat.{_-_, _<_}
 use lib.ListN.{length}
@@ -23,7 +24,7 @@ ends-here-requires : tie.Need-ends-here-requires
 ends-here-requires c κs = search needs
 
 add-t11 : tie.Need-add-t11
-add-t11 c = let below : c .before .before .before .k .given .0 .0 < length (c .before .before .before .before .before .before .before .args .s .now) = ends-within _ _ (sym (c .before .ends-here .ensures) ∙ c .if1 .taken) in omega arith
+add-t11 c = let below : c .before .before .before .k .given .0 .0 < length (c .before .before .before .before .before .before .before .args .s .now) = ends-inside _ _ (sym (c .before .ends-here .ensures) ∙ c .if1 .taken) in omega arith
 
 returns : tie.Need-returns
 returns c = sym (past-end _ _ _ _ _ _ _ (sym (c .before .before .before .before .before .value-end .ensures) ∙ c .before .before .before .k .given .1) (sym (c .before .ends-here .ensures) ∙ c .if1 .taken))

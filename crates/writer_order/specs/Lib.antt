@@ -1,0 +1,14 @@
+pub mod Order
+pub mod OrderLaws
+pub mod CompareLaws
+pub mod Neighbours
+pub mod Roots
+pub mod MeetLaws
+pub mod RunsLaws
+pub mod ClashLaws
+pub mod StepsLaws
+pub mod LayerLaws
+pub mod Items
+pub mod ItemLaws
+pub mod InOrderLaws
+pub mod NumberLaws
