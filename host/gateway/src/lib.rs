@@ -2,8 +2,8 @@
 //!
 //! It fetches histories from neighbours by BitTorrent v2, judges each block before it is written, keeps its stores over kills and power
 //! loss, publishes what its own logger writes, and shows a technician what may be believed. It believes nothing itself: each byte
-//! that goes to a history's file or to a neighbour has been answered 0 by a call of the library. It is crash-only: there is no
-//! clean shutdown, stopping it is killing it.
+//! that goes to a history's file or to a neighbour has been answered 0 by a call of the library, but for zeros behind a file's last block
+//! where a neighbour asks for more than the file has. It is crash-only: there is no clean shutdown, stopping it is killing it.
 #![forbid(unsafe_code)]
 
 pub mod ask;
