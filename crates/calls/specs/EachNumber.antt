@@ -10,14 +10,16 @@ use native.Mathlib.Omega.{arith}
 use native.Mathlib.Decide.{decLt, ℕ-discrete}
 use lib.ListN.{length}
 use borrow.Author.Tests.{ne-eqb, lt-ltb, le-ltb}
-use Rattle.limits.specs.Limits.{maxLevels}
-use Rattle.numbers.specs.Numbers.{noRoom, noSuchPart}
+use Rattle.limits.specs.Limits.{largestTorrent, maxLevels}
+use Rattle.numbers.specs.Numbers.{keyMissing, layerDiffers, noRoom, noSuchPart}
 use Rattle.bencode.specs.Grammar.{dictionary, Entries, encode, Valid}
 use Rattle.meaning.specs.Nth.{Nth}
 use Rattle.meaning.specs.NthLaws.{nth-some}
-use Rattle.meaning.specs.Torrent.{File, filesOf}
+use Rattle.meaning.specs.Torrent.{File, filesOf, valueNumber}
+use Rattle.halves.specs.V1Half.{torrentNumber}
+use Rattle.halves.specs.HalvesLaws.{lower-exactly}
 use Rattle.torrent.specs.Torrent.{checkedOf, readOf, fileRead, pathRead}
-use Rattle.torrent.specs.Answers.{Says}
+use Rattle.torrent.specs.Answers.{Says, tooLarge, noEncoding, tooDeep, encodes}
 use Rattle.torrent.specs.NumberMeans.{read-number, read-says, no-other-number, read-encodes, refused-file, refused-path, file-29-after, path-29-after}
 use Rattle.torrent.specs.ReadMeans.{torrent-is, file-is, no-file, no-file-only, no-element, no-element-only, no-path}
 use Rattle.torrent.specs.declared.read.FileRead.{FileRead}
@@ -32,6 +34,21 @@ use Rattle.calls.specs.InsideLaws.{file-elements, file-answered}
 -- of the value, the lowest; 0 otherwise
 pub read-exactly : (s : List ℕ) (n : ℕ) → (readOf s .number ≡ n) ↔ Says s n
 read-exactly s n = (λ e. rw e at (read-says s), λ w. read-number s ∙ sym (no-other-number s n w))
+
+-- 22 to 28, each: s is at most 1 MiB and the strict encoding of a dictionary that has this number by the v2 half, hybrid or not. What the number says of
+-- the dictionary: `exactly-22` to `exactly-28`, crates/meaning, file AmissLaws
+pub read-22-to-28 : (s : List ℕ) (n : ℕ) → keyMissing ≤ n → n ≤ layerDiffers
+    → (readOf s .number ≡ n) ↔ ((length s ≤ largestTorrent) × ((es : Entries) × Valid (dictionary es) maxLevels × (s ≡ encode (dictionary es)) × (valueNumber es ≡ n)))
+read-22-to-28 s n l h = (λ e. said (read-exactly s n .0 e), λ w. read-exactly s n .1 (encodes (w .0) (w .1 .0) (w .1 .1) (w .1 .2) (sym (lower (w .1 .0) .1 (w .1 .3)))))
+  where
+    lower : (es : Entries) → (torrentNumber es ≡ n) ↔ (valueNumber es ≡ n)
+    lower es = lower-exactly es n (omega arith) h
+
+    said : Says s n → (length s ≤ largestTorrent) × ((es : Entries) × Valid (dictionary es) maxLevels × (s ≡ encode (dictionary es)) × (valueNumber es ≡ n))
+    said (tooLarge g e) = absurd (omega arith)
+    said (noEncoding g a b e) = absurd (omega arith)
+    said (tooDeep g d e) = absurd (omega arith)
+    said (encodes g es v b e) = (g, (es, v, b, lower es .0 (sym e)))
 
 -- ---- what stands in a torrent that is answered 0
 

@@ -1,7 +1,7 @@
 -- 02, request 2: 26 exactly when two non-empty files have one root and different lengths and no lower number is due; a torrent keeps the
 -- number that it had, unless that was 26; one in which no two non-empty files have one root keeps it, and is never 26.
 -- Assumes nothing.
-use mathlib.Core.Path.{_≡_, refl, sym, ap, _∙_}
+use mathlib.Core.Path.{_≡_, refl, ap, _∙_}
 use mathlib.Core.Logic.{_⊎_, inl, inr, _↔_}
 use mathlib.Core.Bool.{Bool, true, false, cond, not, _&&_, _||_, false≢true, and-eq-true-iff}
 use mathlib.Core.List.{List, [], _∷_}
@@ -22,28 +22,20 @@ use Rattle.meaning.specs.AmissLaws.{exactly-26}
 use Rattle.halves.specs.V1Half.{withHalves, torrentNumber}
 use Rattle.halves.specs.HalvesLaws.{lower-exactly}
 use Rattle.torrent.specs.Torrent.{readOf}
-use Rattle.torrent.specs.Answers.{encodes}
-use Rattle.torrent.specs.NumberMeans.{number-is-the-values, no-other-number, read-number, value-only}
+use Rattle.torrent.specs.NumberMeans.{number-is-the-values, read-number}
+use Rattle.calls.specs.EachNumber.{read-22-to-28}
 use Rattle.calls.specs.SameContent.{TwoLengthsIn, noneWith, rootsApart, numberBefore}
 
 -- ---- 26
-
--- 26 is given by the v2 half
-at-26 : (es : Entries) → (torrentNumber es ≡ twoLengths) ↔ (valueNumber es ≡ twoLengths)
-at-26 es = lower-exactly es twoLengths (omega arith) (omega arith)
 
 -- kd_torrent_read answers 26 EXACTLY WHEN that is so
 pub read-26 : (s : List ℕ) → (readOf s .number ≡ twoLengths) ↔ TwoLengthsIn s
 read-26 s = (
   λ e.
-      let q = sym (read-number s) ∙ e in
-      let v = value-only s (inr (omega arith)) in
-      let w = exactly-26 (v .1 .0) .0 (at-26 (v .1 .0) .0 (sym (v .1 .3) ∙ q)) in
-      (v .0, (v .1 .0, v .1 .1, v .1 .2, w .0, w .1)),
-  λ w.
-      let es = w .1 .0 in
-      let n : twoLengths ≡ torrentNumber es = sym (at-26 es .1 (exactly-26 es .1 (w .1 .3, w .1 .4))) in
-      read-number s ∙ sym (no-other-number s twoLengths (encodes (w .0) es (w .1 .1) (w .1 .2) n)),
+      let w = read-22-to-28 s twoLengths (omega arith) (omega arith) .0 e in
+      let x = exactly-26 (w .1 .0) .0 (w .1 .3) in
+      (w .0, (w .1 .0, w .1 .1, w .1 .2, x .0, x .1)),
+  λ w. read-22-to-28 s twoLengths (omega arith) (omega arith) .1 (w .0, (w .1 .0, w .1 .1, w .1 .2, exactly-26 (w .1 .0) .1 (w .1 .3, w .1 .4))),
 )
 
 -- ---- what it was before
@@ -106,4 +98,4 @@ read-kept s es e v h a = read-number s ∙ number-is-the-values s es e v h ∙ (
 
 -- and 26 is never its number; nothing else in what the calls answer mentions this rule
 pub apart-never-26 : (es : Entries) → rootsApart (filesOf es) ≡ true → torrentNumber es ≡ twoLengths → ⊥
-apart-never-26 es a q = roots-right (filesOf es) (apart-agree (filesOf es) a) (exactly-26 es .0 (at-26 es .0 q) .1)
+apart-never-26 es a q = roots-right (filesOf es) (apart-agree (filesOf es) a) (exactly-26 es .0 (lower-exactly es twoLengths (omega arith) (omega arith) .0 q) .1)

@@ -2,16 +2,22 @@
 -- (The torrent calls: crates/calls and crates/writer_promises. The calls that take bursts: Running.)
 -- Assumes nothing.
 use mathlib.Core.Path.{_≡_}
-use mathlib.Core.Bool.{true}
+use mathlib.Core.Bool.{true, false}
 use mathlib.Core.List.{List}
+use mathlib.Core.Logic.{_↔_}
 use Prim.Native.Nat.{ℕ, _≤_}
 use lib.ListN.{getD}
 use Rattle.octets.specs.Octets.{zeroHash}
-use Rattle.numbers.specs.Numbers.{InTable}
+use Rattle.numbers.specs.Numbers.{unusable, InTable}
 use Rattle.sha256.specs.Answer.{hashedOf}
 use Rattle.store.specs.Store.{usable, fileLength, storeSize, sizeAnswer}
-use Rattle.words.specs.History.{Send, Call, answer, number, after, sentTo, Opening, SameStore}
+use Rattle.words.specs.History.{Ask, held, takeReject, isMarked, nextRequest, pickPiece, beginsWith, theFacts, Send, serve, bitfield, save, pieceHashes, ask, send, Call, take, loadLayer, judgeBlock, judgePiece, judgeHybridPiece, clear, reopen, load, repair, look, replyNumber, asked, sendReply, answer, number, after, sentTo, Opening, SameStore}
 use Rattle.words.specs.Answers.{Beside, ServeOutcome}
+use Rattle.promises.specs.EachNumber.{facts-9, held-9, take-9, reject-9, serve-9, layer-9, block-9, piece-9, hybrid-9, clear-9, marked-9, field-9}
+use Rattle.promises.specs.Asking.{next-9, pick-9}
+use Rattle.promises.specs.Saved.{save-9}
+use Rattle.promises.specs.Teaching.{leaves-9}
+use Rattle.promises.specs.Younger.{extends-9}
 
 -- "Any bytes may come in, as torrent, message, block or store." The theorems are about any lists and any numbers, and so are the contracts
 -- of crates/kombudeva.
@@ -49,6 +55,39 @@ beside-sha256 = Rattle.knowledge.specs.InTable.no-hash-beside-4
 
 pub beside-size : (n plen : ℕ) → (sizeAnswer n plen .number ≡ 0 → ⊥) → sizeAnswer n plen .count ≡ 0
 beside-size = Rattle.knowledge.specs.InTable.no-size-beside-10
+
+-- 9 of a call that only looks at a store,
+asked-9 : (k : Ask) (s : List ℕ) → (replyNumber (asked k s) ≡ unusable) ↔ (usable s ≡ false)
+asked-9 (held l i) s = held-9 s l i
+asked-9 (takeReject m b) s = reject-9 s m
+asked-9 (isMarked i) s = marked-9 s i
+asked-9 (nextRequest l) s = next-9 s l
+asked-9 (pickPiece counts) s = pick-9 s counts
+asked-9 (beginsWith n root block o b) s = extends-9 s n root block
+asked-9 theFacts s = facts-9 s
+
+-- and of one that fills an output beside it
+sent-9 : (k : Send) (s out : List ℕ) → (replyNumber (sendReply k s out) ≡ unusable) ↔ (usable s ≡ false)
+sent-9 (serve m b) s out = serve-9 s m out
+sent-9 bitfield s out = field-9 s out
+sent-9 save s out = save-9 s out
+sent-9 (pieceHashes i d b) s out = leaves-9 s i d out
+
+-- 01: "Any buffer, ours or not, either names such facts and has that room, or is answered 9 (opening asks only for the room). Nothing else makes a store
+-- unusable.": of every call but an opening, a load and a repair. (Which buffers do: EachNumber.usable-exactly. Those three: EachNumber.open-9,
+-- Saved.load-9 and Saved.repair-9.)
+pub nine-exactly : (c : Call) → (Opening c → ⊥) → (s : List ℕ) → (number c s ≡ unusable) ↔ (usable s ≡ false)
+nine-exactly (take m b) h s = take-9 s m
+nine-exactly (loadLayer l b) h s = layer-9 s l
+nine-exactly (judgeBlock i d b) h s = block-9 s i d
+nine-exactly (judgePiece i d b) h s = piece-9 s i d
+nine-exactly (judgeHybridPiece i d v z b o) h s = hybrid-9 s i d v z
+nine-exactly (clear i) h s = clear-9 s i
+nine-exactly (reopen n plen root o) h s = absurd (h tt)
+nine-exactly (load b x) h s = absurd (h tt)
+nine-exactly (repair b x) h s = absurd (h tt)
+nine-exactly (look (ask k)) h s = asked-9 k s
+nine-exactly (look (send k out b)) h s = sent-9 k s out
 
 -- 01: a store "uses exactly the first 33·(2·2^h − 1) + 64 bytes", and with the marks 2^h more (the size: EachNumber.size-0): of two memories
 -- that agree up to there both are usable, and every call but an opening answers the same, leaves the same store and sends the same bytes;
