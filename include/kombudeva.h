@@ -556,7 +556,8 @@ typedef struct {
  * The next request for a layer, 0 or the piece layer: the run that contains the lowest position
  * that isn't padding and isn't held, of KD_LONGEST_RUN hashes or of the whole layer if that is
  * shorter, with the fewest proof layers whose anchor is held. So a reply to it is never
- * KD_NO_ANCHOR. It is named again and again until a message makes the position held.
+ * KD_NO_ANCHOR. Its run is named again and again until a message makes the position held, with
+ * fewer proof layers once a nearer anchor is held.
  *   KD_UNUSABLE
  *   KD_RULE_BROKEN  a layer that is neither 0 nor the piece layer of a file longer than the piece
  *       length.

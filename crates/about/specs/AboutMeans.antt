@@ -13,16 +13,15 @@ use Rattle.octets.specs.Octets.{cut}
 use Rattle.octets.specs.OctetsLaws.{cut-length}
 use Rattle.numbers.specs.Numbers.{noSuchPart}
 use Rattle.sha256.specs.Sha256.{sha256}
-use Rattle.bencode.specs.Grammar.{colon, Value, integer, string, list, dictionary, Entries, none, decimal, encodeString, encode, Valid}
+use Rattle.bencode.specs.Grammar.{colon, Value, integer, string, list, dictionary, Entries, decimal, encodeString, encode, Valid}
 use Rattle.bencode.specs.Parts.{findKey, FoundIs, Lookup, absent, present, lookup}
-use Rattle.bencode.specs.PartsLaws.{part-front, stringOf, content-is, find-is, lookup-valid}
+use Rattle.bencode.specs.PartsLaws.{part-front, stringOf, content-is, find-is}
 use Rattle.bencode.specs.CompleteLaws.{contentStart}
 use Rattle.bencode.specs.DepthLaws.{more-levels}
 use Rattle.bencode.specs.declared.scalar.ByteString.{ByteString}
 use Rattle.bencode.specs.declared.scalar.ByteString.the-variants.{Content, NoString}
 use Rattle.bencode.specs.declared.parts.Found.{Found}
 use Rattle.bencode.specs.declared.parts.Found.the-variants.{Part, Missing}
-use Rattle.meaning.specs.Keys.{keyInfo}
 use Rattle.meaning.specs.Torrent.{infoOf}
 use Rattle.writer_meaning.specs.Content.{keyName}
 use Rattle.metainfo.specs.Metainfo.{bytesIn}
@@ -34,7 +33,7 @@ use Rattle.torrent.specs.Torrent.{v2CheckedOf, checkedOf, readOf, noPartRead}
 use Rattle.torrent.specs.Answers.{Says, PartIs}
 use Rattle.torrent.specs.CheckLaws.{checked-whole}
 use Rattle.torrent.specs.NumberMeans.{read-number, read-encodes}
-use Rattle.torrent.specs.ReadMeans.{number-zero, same-keys, at-values, torrent-is}
+use Rattle.torrent.specs.ReadMeans.{number-zero, same-keys, at-values, torrent-is, info-valid}
 use Rattle.torrent.specs.HalvesMeans.{as-before}
 use Rattle.torrent.specs.declared.read.PartRead.{PartRead}
 use Rattle.calls.specs.Calls.{PathOutcome, done as pathDone, badTorrent as pathRefused, noElement}
@@ -77,10 +76,6 @@ found-name s (Part a k) (present v) f = rw (string-there s a k v f) (by v f)
     by (integer minus n) e = refl
     by (list vs) e = refl
     by (dictionary es) e = refl
-
-info-valid : (es : Entries) → Valid (dictionary es) maxLevels → lookup keyInfo es ≡ present (dictionary (infoOf es)) → Valid (dictionary (infoOf es)) (maxLevels - 1)
-unfolding Valid
-info-valid es h q = lookup-valid keyInfo es none (maxLevels - 1) (dictionary (infoOf es)) h q
 
 -- ---- of a torrent that gets 0
 

@@ -20,10 +20,10 @@ fn no_part(number: u32) -> PartRead
 }
 
 // The part that the value of `info` is; or 19 to 28 or 31.
-pub fn read_info(s: &[u8]) -> PartRead
-    ensures { λ r. ⌜ r ≡ infoRead (now (s .entry)) ⌝ }
+pub fn read_info(torrent: &[u8]) -> PartRead
+    ensures { λ r. ⌜ r ≡ infoRead (now (torrent .entry)) ⌝ }
 {
-    let c = check(s);
+    let c = check(torrent);
     let number = c.keys.number;
     let info = c.keys.info.start;
     let past = c.keys.info.end;
@@ -39,24 +39,24 @@ pub fn read_info(s: &[u8]) -> PartRead
 }
 
 // The string that the dictionary at `at` has for `name`.
-fn name_from(s: &[u8], at: usize) -> ByteString
-    ensures { λ r. ⌜ r ≡ nameFrom (now (s .entry)) at ⌝ }
+fn name_from(torrent: &[u8], at: usize) -> ByteString
+    ensures { λ r. ⌜ r ≡ nameFrom (now (torrent .entry)) at ⌝ }
 {
-    match find(s, at, b"name") {
+    match find(torrent, at, b"name") {
         Found::Missing => ByteString::NoString,
-        Found::Part { start, end: _ } => read_string(s, start),
+        Found::Part { start, end: _ } => read_string(torrent, start),
     }
 }
 
 // The part that the content of `name` in `info` is; 29 where it has no such string; or 19 to 28 or 31.
-pub fn read_name(s: &[u8]) -> PartRead
-    ensures { λ r. ⌜ r ≡ nameRead (now (s .entry)) ⌝ }
+pub fn read_name(torrent: &[u8]) -> PartRead
+    ensures { λ r. ⌜ r ≡ nameRead (now (torrent .entry)) ⌝ }
 {
-    let c = check(s);
+    let c = check(torrent);
     let number = c.keys.number;
     let info = c.keys.info.start;
     if number == 0 {
-        return match name_from(s, info) {
+        return match name_from(torrent, info) {
             ByteString::NoString => no_part(numbers::NO_SUCH_PART),
             ByteString::Content { start, end } => PartRead {
                 number: 0,

@@ -1,9 +1,9 @@
 -- Where the first position that isn't held stands in a layer, and the first that is held above a position; what a run's header is.
 -- Assumes nothing.
 use mathlib.Core.Path.{_≡_, refl, ap, sym, _∙_}
-use mathlib.Core.Bool.{Bool, true, false, _||_, false≢true, and-eq-true-iff}
+use mathlib.Core.Bool.{Bool, true, false, and-eq-true-iff}
 use mathlib.Core.List.{List}
-use mathlib.Core.Logic.{_⊎_, inl, inr}
+use mathlib.Core.Logic.{inl, inr}
 use Prim.Native.Nat.{ℕ, zero, suc, _+_, _-_, _*_, _/_, _^_, _≤_, _<_, min}
 use native.Mathlib.Omega.{arith}
 use native.Mathlib.Nat.{div-add-mod', mul-le-mul-right, add-mul, one-mul}
@@ -12,6 +12,7 @@ use lib.Pow.{pow-mono, pow-add}
 use borrow.Author.Tests.{eqb-true}
 use Rattle.limits.specs.Limits.{longestRun, tallestTree}
 use Rattle.numbers.specs.Numbers.{ruleBroken, noAnchor, unusable}
+use Rattle.numbers.specs.Tests.{either, not-both, or-one}
 use Rattle.tree.specs.Geometry.{height, log2, blockCount, nodeNumber, pieceLayer, hasLayer}
 use Rattle.tree.specs.GeometryLaws.{height-pow, piece-length-form, has-longer, long-file-height, covering-within, covering-top, block-count-some, node-number-root}
 use Rattle.store.specs.Store.{usable, fileLength, pieceLength, blocksOf, heightOf, Facts}
@@ -20,15 +21,6 @@ use Rattle.cells.specs.Cells.{heldAt}
 use Rattle.cells.specs.CellsLaws.{lt-or-ge}
 use Rattle.settling.specs.Path.{ancestor}
 use Rattle.asking.specs.Asking.{layerAsked, nextNumber, wanted, heldFront, lowest, runLength, unclesNeeded, proofFor}
-
--- a test gives one or the other,
-pub either : (b : Bool) → (b ≡ true) ⊎ (b ≡ false)
-either true = inl refl
-either false = inr refl
-
--- and not both
-pub not-both : {b : Bool} → b ≡ true → b ≡ false → ⊥
-not-both p q = false≢true (sym q ∙ p)
 
 -- ---- along a layer
 
@@ -303,10 +295,6 @@ pub says-number : (s : List ℕ) (l : ℕ) → usable s ≡ true → layerAsked 
 unfolding nextNumber
 says-number s l p q r = rw (p, q, r)
 
-or-cases : (a b : Bool) → (a || b) ≡ true → (a ≡ true) ⊎ (b ≡ true)
-or-cases true b e = inl refl
-or-cases false b e = inr e
-
 pub number-says : (s : List ℕ) (l : ℕ) → nextNumber s l ≡ 0 → Asked s l
 number-says s l z = by (usable s) (layerAsked s l) (heldAt s 1) refl refl refl
   where
@@ -320,7 +308,7 @@ number-says s l z = by (usable s) (layerAsked s l) (heldAt s 1) refl refl refl
 pub asked-low : (s : List ℕ) (l : ℕ) → Facts s → layerAsked s l ≡ true → l ≤ heightOf s
 unfolding layerAsked heightOf blocksOf
 asked-low s l f e =
-    elim (or-cases (eqb l 0) _ e) [
+    elim (or-one (eqb l 0) _ e) [
       | inl a ↦ omega (arith, eqb-true l 0 a)
       | inr a ↦
           let w = and-eq-true-iff (eqb l (pieceLayer (pieceLength s))) (hasLayer (fileLength s) (pieceLength s)) .0 a in

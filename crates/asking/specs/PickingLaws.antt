@@ -8,11 +8,11 @@ use Prim.Native.Nat.{ℕ, zero, suc, _+_, _≤_, _<_}
 use native.Mathlib.Omega.{arith}
 use lib.Dec.{ltb}
 use borrow.Author.Tests.{lt-ltb, le-ltb}
+use Rattle.numbers.specs.Tests.{either, not-both}
 use Rattle.cells.specs.CellsLaws.{lt-or-ge}
 use Rattle.marks.specs.Marks.{pieceMarked}
 use Rattle.asking.specs.declared.pick.Choice.{Choice}
 use Rattle.asking.specs.Picking.{countOf, fetchable, before, noPiece, thisPiece, chosen, bestOf}
-use Rattle.asking.specs.AskingLaws.{either, not-both}
 
 chosen-this : (s counts : List ℕ) (i : ℕ) (best : Choice) → (fetchable s counts i && before counts (countOf counts i) best) ≡ true → chosen s counts i best ≡ thisPiece i
 unfolding chosen

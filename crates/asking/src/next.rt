@@ -37,70 +37,70 @@ pub struct Request {
     pub message: [u8; 49],
 }
 
-// Of the c positions from number n on, how many stand before the first that isn't held.
-fn held_front(s: &[u8], n: usize, c: usize) -> usize
-    requires { ⌜ Room (n + c) (now s) ⌝ }
-    ensures { λ r. ⌜ r ≡ S.heldFront (now (s .entry)) n c ⌝ }
+// Of the `count` positions from number `node` on, how many stand before the first that isn't held.
+fn held_front(store: &[u8], node: usize, count: usize) -> usize
+    requires { ⌜ Room (node + count) (now store) ⌝ }
+    ensures { λ r. ⌜ r ≡ S.heldFront (now (store .entry)) node count ⌝ }
 {
     let mut i = 0;
-    while i < c {
-        let there = held(s, n + i);
+    while i < count {
+        let there = held(store, node + i);
         if !there {
             return i;
         }
         i += 1;
     }
-    c
+    count
 }
 
-// How many layers above position n the first held one stands, at most t.
-fn uncles_needed(s: &[u8], t: usize, n: usize) -> usize
-    requires { ⌜ Room (n + 1) (now s) ⌝ }
-    ensures { λ r. ⌜ r ≡ S.unclesNeeded (now (s .entry)) t n ⌝ }
+// How many layers above position `node` the first held one stands, at most `top`.
+fn uncles_needed(store: &[u8], top: usize, node: usize) -> usize
+    requires { ⌜ Room (node + 1) (now store) ⌝ }
+    ensures { λ r. ⌜ r ≡ S.unclesNeeded (now (store .entry)) top node ⌝ }
 {
-    let mut x = n;
+    let mut x = node;
     let mut u = 0;
-    while u < t {
-        let there = held(s, x);
+    while u < top {
+        let there = held(store, x);
         if there {
             return u;
         }
         x = x / 2;
         u += 1;
     }
-    t
+    top
 }
 
 // Whether a layer may be asked for.
-fn layer_asked(s: &[u8], l: usize) -> bool
-    requires { ⌜ usable (now s) ≡ true ⌝ }
-    ensures { λ r. ⌜ r ≡ S.layerAsked (now (s .entry)) l ⌝ }
+fn layer_asked(store: &[u8], layer: usize) -> bool
+    requires { ⌜ usable (now store) ≡ true ⌝ }
+    ensures { λ r. ⌜ r ≡ S.layerAsked (now (store .entry)) layer ⌝ }
 {
-    if l == 0 {
+    if layer == 0 {
         return true;
     }
-    let plen = piece_length_of(s);
+    let plen = piece_length_of(store);
     let p = piece_layer(plen);
-    if l != p {
+    if layer != p {
         return false;
     }
-    let size = file_length(s);
+    let size = file_length(store);
     has_layer(size, plen)
 }
 
 // 9, 3, 6 or 0.
-fn next_number(s: &[u8], l: usize) -> u32
-    ensures { λ r. ⌜ r ≡ S.nextNumber (now (s .entry)) l ⌝ }
+fn next_number(store: &[u8], layer: usize) -> u32
+    ensures { λ r. ⌜ r ≡ S.nextNumber (now (store .entry)) layer ⌝ }
 {
-    let ok = is_usable(s);
+    let ok = is_usable(store);
     if !ok {
         return numbers::UNUSABLE;
     }
-    let right = layer_asked(s, l);
+    let right = layer_asked(store, layer);
     if !right {
         return numbers::RULE_BROKEN;
     }
-    let root = held(s, 1);
+    let root = held(store, 1);
     if root {
         return numbers::DONE;
     }
@@ -108,11 +108,11 @@ fn next_number(s: &[u8], l: usize) -> u32
 }
 
 // The length of a base run: the limit, or the whole layer.
-fn run_length(h: usize, l: usize) -> usize
-    requires { ⌜ (l ≤ h) × (h ≤ tallestTree) ⌝ }
-    ensures { λ r. ⌜ r ≡ S.runLength h l ⌝ }
+fn run_length(height: usize, layer: usize) -> usize
+    requires { ⌜ (layer ≤ height) × (height ≤ tallestTree) ⌝ }
+    ensures { λ r. ⌜ r ≡ S.runLength height layer ⌝ }
 {
-    let d = h - l;
+    let d = height - layer;
     let whole = 1 << d;
     if whole < limits::LONGEST_RUN {
         whole
@@ -132,21 +132,21 @@ fn proof_for(k: usize, u: usize) -> usize
     k + (u - 1)
 }
 
-// The header that asks for run j of layer l.
-fn run_header(s: &[u8], h: usize, l: usize, j: usize) -> Header
-    requires { ⌜ (usable (now s) ≡ true) × (h ≡ heightOf (now s)) × InLayer h l j ⌝ }
-    ensures { λ r. ⌜ (r ≡ S.runHeader (now (s .entry)) l j) × Small r ⌝ }
+// The header that asks for `run` of `layer`.
+fn run_header(store: &[u8], height: usize, layer: usize, run: usize) -> Header
+    requires { ⌜ (usable (now store) ≡ true) × (height ≡ heightOf (now store)) × InLayer height layer run ⌝ }
+    ensures { λ r. ⌜ (r ≡ S.runHeader (now (store .entry)) layer run) × Small r ⌝ }
 {
-    let len = run_length(h, l);
+    let len = run_length(height, layer);
     let k = log2(len);
-    let up = l + k;
-    let t = h - up;
-    let top = node_number(h, up, j);
-    let u = uncles_needed(s, t, top);
+    let up = layer + k;
+    let t = height - up;
+    let top = node_number(height, up, run);
+    let u = uncles_needed(store, t, top);
     let proof = proof_for(k, u);
-    let index = j * len;
+    let index = run * len;
     Header {
-        base: l,
+        base: layer,
         index,
         len,
         proof,
@@ -154,13 +154,13 @@ fn run_header(s: &[u8], h: usize, l: usize, j: usize) -> Header
 }
 
 // A request's 49 bytes.
-fn request_bytes(root: [u8; 32], x: Header) -> [u8; 49]
-    ensures { λ r. ⌜ r ≡ S.requestBytes root x ⌝ }
+fn request_bytes(root: [u8; 32], header: Header) -> [u8; 49]
+    ensures { λ r. ⌜ r ≡ S.requestBytes root header ⌝ }
 {
-    let base = x.base;
-    let index = x.index;
-    let len = x.len;
-    let proof = x.proof;
+    let base = header.base;
+    let index = header.index;
+    let len = header.len;
+    let proof = header.proof;
     let mut m = [0u8; 49];
     m[0] = REQUEST;
     put_hash(&mut m, 1, root);
@@ -188,15 +188,15 @@ fn no_request(number: u32) -> Request
 }
 
 // The request with a header.
-fn request_for(root: [u8; 32], x: Header) -> Request
-    requires { ⌜ Small x ⌝ }
-    ensures { λ r. ⌜ r ≡ S.requestFor root x ⌝ }
+fn request_for(root: [u8; 32], header: Header) -> Request
+    requires { ⌜ Small header ⌝ }
+    ensures { λ r. ⌜ r ≡ S.requestFor root header ⌝ }
 {
-    let base = x.base as u32;
-    let index = x.index as u32;
-    let len = x.len as u32;
-    let proof = x.proof as u32;
-    let message = request_bytes(root, x);
+    let base = header.base as u32;
+    let index = header.index as u32;
+    let len = header.len as u32;
+    let proof = header.proof as u32;
+    let message = request_bytes(root, header);
     Request {
         number: 0,
         asks: 1,
@@ -209,23 +209,23 @@ fn request_for(root: [u8; 32], x: Header) -> Request
 }
 
 // The next request for a layer: 9, 3, 6, or 0 with the request, or with nothing to ask.
-pub fn next_request(s: &[u8], l: usize) -> Request
-    ensures { λ r. ⌜ r ≡ S.nextAnswer (now (s .entry)) l ⌝ }
+pub fn next_request(store: &[u8], layer: usize) -> Request
+    ensures { λ r. ⌜ r ≡ S.nextAnswer (now (store .entry)) layer ⌝ }
 {
-    let number = next_number(s, l);
+    let number = next_number(store, layer);
     if number != numbers::DONE {
         return no_request(number);
     }
-    let h = height_of(s);
-    let b = blocks_of(s);
-    let c = covering(b, l);
-    let first = node_number(h, l, 0);
-    let i = held_front(s, first, c);
+    let h = height_of(store);
+    let b = blocks_of(store);
+    let c = covering(b, layer);
+    let first = node_number(h, layer, 0);
+    let i = held_front(store, first, c);
     if i < c {
-        let len = run_length(h, l);
+        let len = run_length(h, layer);
         let j = i / len;
-        let x = run_header(s, h, l, j);
-        let root = facts_root(s);
+        let x = run_header(store, h, layer, j);
+        let root = facts_root(store);
         return request_for(root, x);
     }
     no_request(numbers::DONE)

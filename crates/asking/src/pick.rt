@@ -33,13 +33,13 @@ pub struct Disk {
     pub blocks: usize,
 }
 
-fn disk_of(s: &[u8]) -> Disk
-    requires { ⌜ usable (now s) ≡ true ⌝ }
-    ensures { λ r. ⌜ DiskOf (now (s .entry)) r ⌝ }
+fn disk_of(store: &[u8]) -> Disk
+    requires { ⌜ usable (now store) ≡ true ⌝ }
+    ensures { λ r. ⌜ DiskOf (now (store .entry)) r ⌝ }
 {
-    let start = marks_start(s);
-    let each = each_piece(s);
-    let blocks = blocks_of(s);
+    let start = marks_start(store);
+    let each = each_piece(store);
+    let blocks = blocks_of(store);
     Disk {
         start,
         each,
@@ -48,16 +48,16 @@ fn disk_of(s: &[u8]) -> Disk
 }
 
 // Whether the blocks of one of the file's pieces are all marked.
-fn on_disk(s: &[u8], d: Disk, piece: usize) -> bool
-    requires { ⌜ (usable (now s) ≡ true) × DiskOf (now s) d × (piece < pieceCount (fileLength (now s)) (pieceLength (now s))) ⌝ }
-    ensures { λ r. ⌜ r ≡ pieceMarked (now (s .entry)) piece ⌝ }
+fn on_disk(store: &[u8], disk: Disk, piece: usize) -> bool
+    requires { ⌜ (usable (now store) ≡ true) × DiskOf (now store) disk × (piece < pieceCount (fileLength (now store)) (pieceLength (now store))) ⌝ }
+    ensures { λ r. ⌜ r ≡ pieceMarked (now (store .entry)) piece ⌝ }
 {
-    let start = d.start;
-    let each = d.each;
-    let blocks = d.blocks;
+    let start = disk.start;
+    let each = disk.each;
+    let blocks = disk.blocks;
     let first = each * piece;
     let n = piece_size(blocks, each, piece);
-    all_marked(s, start, first, n)
+    all_marked(store, start, first, n)
 }
 
 // Whether a piece with that count goes before the choice made so far.
@@ -74,9 +74,9 @@ fn goes_before(counts: &[u32], count: u32, best: Choice) -> bool
 }
 
 // The choice after one more piece.
-fn with_piece(s: &[u8], counts: &[u32], d: Disk, best: Choice, piece: usize) -> Choice
-    requires { ⌜ (usable (now s) ≡ true) × DiskOf (now s) d × (length (now counts) ≡ pieceCount (fileLength (now s)) (pieceLength (now s))) × (piece < length (now counts)) × (best .piece < length (now counts)) ⌝ }
-    ensures { λ r. ⌜ r ≡ P.chosen (now (s .entry)) (now (counts .entry)) piece best ⌝ }
+fn with_piece(store: &[u8], counts: &[u32], disk: Disk, best: Choice, piece: usize) -> Choice
+    requires { ⌜ (usable (now store) ≡ true) × DiskOf (now store) disk × (length (now counts) ≡ pieceCount (fileLength (now store)) (pieceLength (now store))) × (piece < length (now counts)) × (best .piece < length (now counts)) ⌝ }
+    ensures { λ r. ⌜ r ≡ P.chosen (now (store .entry)) (now (counts .entry)) piece best ⌝ }
 {
     let count = counts[piece];
     if count == 0 {
@@ -86,7 +86,7 @@ fn with_piece(s: &[u8], counts: &[u32], d: Disk, best: Choice, piece: usize) -> 
     if !rarer {
         return best;
     }
-    let whole = on_disk(s, d, piece);
+    let whole = on_disk(store, disk, piece);
     if whole {
         return best;
     }
@@ -99,16 +99,16 @@ fn with_piece(s: &[u8], counts: &[u32], d: Disk, best: Choice, piece: usize) -> 
 }
 
 // The choice among all pieces.
-fn best_piece(s: &[u8], counts: &[u32]) -> Choice
-    requires { ⌜ (usable (now s) ≡ true) × (length (now counts) ≡ pieceCount (fileLength (now s)) (pieceLength (now s))) ⌝ }
-    ensures { λ r. ⌜ r ≡ P.bestOf (now (s .entry)) (now (counts .entry)) (length (now (counts .entry))) ⌝ }
+fn best_piece(store: &[u8], counts: &[u32]) -> Choice
+    requires { ⌜ (usable (now store) ≡ true) × (length (now counts) ≡ pieceCount (fileLength (now store)) (pieceLength (now store))) ⌝ }
+    ensures { λ r. ⌜ r ≡ P.bestOf (now (store .entry)) (now (counts .entry)) (length (now (counts .entry))) ⌝ }
 {
-    let d = disk_of(s);
+    let d = disk_of(store);
     let n = counts.len();
     let mut best = no_piece(numbers::DONE);
     let mut i = 0;
     while i < n {
-        let next = with_piece(s, counts, d, best, i);
+        let next = with_piece(store, counts, d, best, i);
         best = next;
         i += 1;
     }
@@ -127,18 +127,18 @@ fn no_piece(number: u32) -> Choice
 }
 
 // The piece to fetch: 9, 4, or 0 with the rarest piece that isn't on disk, the lowest on a tie, or with nothing to fetch.
-pub fn pick_piece(s: &[u8], counts: &[u32]) -> Choice
-    ensures { λ r. ⌜ r ≡ P.pickAnswer (now (s .entry)) (now (counts .entry)) ⌝ }
+pub fn pick_piece(store: &[u8], counts: &[u32]) -> Choice
+    ensures { λ r. ⌜ r ≡ P.pickAnswer (now (store .entry)) (now (counts .entry)) ⌝ }
 {
-    let ok = is_usable(s);
+    let ok = is_usable(store);
     if !ok {
         return no_piece(numbers::UNUSABLE);
     }
-    let size = file_length(s);
-    let plen = piece_length_of(s);
+    let size = file_length(store);
+    let plen = piece_length_of(store);
     let c = piece_count(size, plen);
     if counts.len() != c {
         return no_piece(numbers::WRONG_SIZE);
     }
-    best_piece(s, counts)
+    best_piece(store, counts)
 }

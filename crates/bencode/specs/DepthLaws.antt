@@ -456,7 +456,7 @@ more-levels v l m h p = let e : l + (m - l) ≡ m = omega arith in rw e at (by-c
     by-count zero = let e : l + 0 ≡ l = omega arith in rw e p
     by-count (suc d) = let e : l + suc d ≡ suc (l + d) = omega arith in rw e (deeper v (l + d) (by-count d))
 
--- the same for entries
+-- nor do more levels harm entries
 pub entries-more-levels : (es : Entries) (j : KeyBefore) (l m : ℕ) → l ≤ m → EntriesValid es j l → EntriesValid es j m
 unfolding Valid
 entries-more-levels noEntries j l m h p = tt

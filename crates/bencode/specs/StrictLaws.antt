@@ -11,7 +11,7 @@ use lib.ListN.{length, drop, getD, length-append, List·getD-append}
 use lib.Dec.{eqb}
 use borrow.Author.Tests.{eq-eqb, eqb-true}
 use Rattle.octets.specs.Octets.{Octets}
-use Rattle.octets.specs.OctetsLaws.{append-octets}
+use Rattle.octets.specs.OctetsLaws.{append-octets, one-byte}
 use Rattle.limits.specs.Limits.{maxLevels}
 use Rattle.bencode.specs.Grammar.{digitZero, colon, letterD, letterE, letterL, Value, integer, string, list, dictionary, noItems, Entries, noEntries, decimalIn, encode, encodeEntries, Valid}
 use Rattle.bencode.specs.Walk.{walkValue}
@@ -100,9 +100,6 @@ filled-encoded st n cs x p q v e h b f =
 -- what closes a stem is bytes
 bytes-both : (a b : List ℕ) → Octets (length a) a → Octets (length b) b → Octets (length (a ++ b)) (a ++ b)
 bytes-both a b p q = rw (length-append a b) (append-octets p q)
-
-one-byte : (c : ℕ) → c < 256 → Octets 1 (c ∷ [])
-one-byte c h = record { size = refl; bytes = λ i g. let o : i ≡ 0 = omega arith in rw o h }
 
 closing-bytes : (l : ℕ) → Octets (length (closing l)) (closing l)
 unfolding closing

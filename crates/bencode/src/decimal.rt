@@ -16,13 +16,13 @@ pub const BOUND: usize = 9223372036854775808;
 const TENTH: usize = 922337203685477580;
 
 // Digits from `at` up to `stop`. A number above the bound is none, so that no product wraps.
-fn digits(s: &[u8], at: usize, stop: u8) -> Number
-    ensures { λ r. ⌜ r ≡ bounded (readDigits stop 0 at (drop at (now (s .entry)))) ⌝ }
+fn digits(bytes: &[u8], at: usize, stop: u8) -> Number
+    ensures { λ r. ⌜ r ≡ bounded (readDigits stop 0 at (drop at (now (bytes .entry)))) ⌝ }
 {
     let mut i = at;
     let mut n: usize = 0;
-    while i < s.len() {
-        let c = s[i];
+    while i < bytes.len() {
+        let c = bytes[i];
         if c == stop {
             if n <= BOUND {
                 return Number::Is {
@@ -48,13 +48,13 @@ fn digits(s: &[u8], at: usize, stop: u8) -> Number
 }
 
 // What follows a first digit 0: nothing but `stop`.
-fn lone_zero(s: &[u8], at: usize, stop: u8) -> Number
-    ensures { λ r. ⌜ r ≡ readZero stop at (drop at (now (s .entry))) ⌝ }
+fn lone_zero(bytes: &[u8], at: usize, stop: u8) -> Number
+    ensures { λ r. ⌜ r ≡ readZero stop at (drop at (now (bytes .entry))) ⌝ }
 {
-    if s.len() <= at {
+    if bytes.len() <= at {
         return Number::NoNumber;
     }
-    if s[at] == stop {
+    if bytes[at] == stop {
         Number::Is {
             value: 0,
             next: at + 1,
@@ -65,18 +65,18 @@ fn lone_zero(s: &[u8], at: usize, stop: u8) -> Number
 }
 
 // A number up to `stop`.
-pub fn read_number(s: &[u8], at: usize, stop: u8) -> Number
-    ensures { λ r. ⌜ r ≡ bounded (readNumber stop at (drop at (now (s .entry)))) ⌝ }
+pub fn read_number(bytes: &[u8], at: usize, stop: u8) -> Number
+    ensures { λ r. ⌜ r ≡ bounded (readNumber stop at (drop at (now (bytes .entry)))) ⌝ }
 {
-    if s.len() <= at {
+    if bytes.len() <= at {
         return Number::NoNumber;
     }
-    let c = s[at];
+    let c = bytes[at];
     if c == b'0' {
-        return lone_zero(s, at + 1, stop);
+        return lone_zero(bytes, at + 1, stop);
     }
     if c == stop {
         return Number::NoNumber;
     }
-    digits(s, at, stop)
+    digits(bytes, at, stop)
 }

@@ -9,41 +9,41 @@ ghost use Rattle.octets.specs.Octets as O;
 ghost use Rattle.bencode.specs.Grammar.{precedes};
 ghost use Rattle.bencode.specs.Walk.{readKey, keyBefore};
 
-// Whether x and y are the same bytes.
-pub fn same(x: &[u8], y: &[u8]) -> bool
-    ensures { λ r. ⌜ r ≡ O.same (now (x .entry)) (now (y .entry)) ⌝ }
+// Whether `one` and `other` are the same bytes.
+pub fn same(one: &[u8], other: &[u8]) -> bool
+    ensures { λ r. ⌜ r ≡ O.same (now (one .entry)) (now (other .entry)) ⌝ }
 {
-    if x.len() != y.len() {
+    if one.len() != other.len() {
         return false;
     }
-    let n = front(x, y);
-    n == x.len()
+    let n = front(one, other);
+    n == one.len()
 }
 
-// Whether x stands before y: at the first byte that differs x has the smaller one, or x is y's beginning.
-pub fn comes_before(x: &[u8], y: &[u8]) -> bool
-    ensures { λ r. ⌜ r ≡ precedes (now (x .entry)) (now (y .entry)) ⌝ }
+// Whether `one` stands before `other`: at the first byte that differs `one` has the smaller one, or `one` is `other`'s beginning.
+pub fn comes_before(one: &[u8], other: &[u8]) -> bool
+    ensures { λ r. ⌜ r ≡ precedes (now (one .entry)) (now (other .entry)) ⌝ }
 {
-    let n = front(x, y);
-    if y.len() <= n {
+    let n = front(one, other);
+    if other.len() <= n {
         return false;
     }
-    if x.len() <= n {
+    if one.len() <= n {
         return true;
     }
-    x[n] < y[n]
+    one[n] < other[n]
 }
 
 // The string at `at` if it is a key: it stands after the key before it, which is the bytes from start up to end where one was seen.
-pub fn read_key(s: &[u8], at: usize, seen: bool, start: usize, end: usize) -> ByteString
-    requires { ⌜ (start ≤ end) × (end ≤ length (now s)) ⌝ }
-    ensures { λ r. ⌜ r ≡ readKey (keyBefore seen start end (now (s .entry))) at (drop at (now (s .entry))) ⌝ }
+pub fn read_key(bytes: &[u8], at: usize, seen: bool, start: usize, end: usize) -> ByteString
+    requires { ⌜ (start ≤ end) × (end ≤ length (now bytes)) ⌝ }
+    ensures { λ r. ⌜ r ≡ readKey (keyBefore seen start end (now (bytes .entry))) at (drop at (now (bytes .entry))) ⌝ }
 {
-    match read_string(s, at) {
+    match read_string(bytes, at) {
         ByteString::NoString => ByteString::NoString,
         ByteString::Content { start: a, end: b } => {
             if seen {
-                if comes_before(&s[start..end], &s[a..b]) {
+                if comes_before(&bytes[start..end], &bytes[a..b]) {
                     ByteString::Content { start: a, end: b }
                 } else {
                     ByteString::NoString

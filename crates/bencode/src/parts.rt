@@ -27,22 +27,22 @@ pub enum Entry {
 }
 
 // Whether a dictionary begins at `at`.
-pub fn is_dictionary(s: &[u8], at: usize) -> bool
-    ensures { λ r. ⌜ r ≡ isDictionary (drop at (now (s .entry))) ⌝ }
+pub fn is_dictionary(bytes: &[u8], at: usize) -> bool
+    ensures { λ r. ⌜ r ≡ isDictionary (drop at (now (bytes .entry))) ⌝ }
 {
-    if s.len() <= at {
+    if bytes.len() <= at {
         return false;
     }
-    s[at] == b'd'
+    bytes[at] == b'd'
 }
 
 // The entry of a dictionary that begins at `at`: the first behind the `d`, each other where the one before ends, none at the `e`.
-pub fn read_entry(s: &[u8], at: usize) -> Entry
-    ensures { λ r. ⌜ r ≡ readEntry at (drop at (now (s .entry))) ⌝ }
+pub fn read_entry(bytes: &[u8], at: usize) -> Entry
+    ensures { λ r. ⌜ r ≡ readEntry at (drop at (now (bytes .entry))) ⌝ }
 {
-    match read_string(s, at) {
+    match read_string(bytes, at) {
         ByteString::NoString => Entry::NoEntry,
-        ByteString::Content { start, end } => match value_end(s, end, LEVELS) {
+        ByteString::Content { start, end } => match value_end(bytes, end, LEVELS) {
             Walked::Past(k) => Entry::Keyed {
                 start,
                 value: end,
@@ -55,20 +55,20 @@ pub fn read_entry(s: &[u8], at: usize) -> Entry
 }
 
 // The value of `key` in the dictionary that begins at `at`.
-pub fn find(s: &[u8], at: usize, key: &[u8]) -> Found
-    ensures { λ r. ⌜ r ≡ findKey (now (key .entry)) at (drop at (now (s .entry))) ⌝ }
+pub fn find(bytes: &[u8], at: usize, key: &[u8]) -> Found
+    ensures { λ r. ⌜ r ≡ findKey (now (key .entry)) at (drop at (now (bytes .entry))) ⌝ }
 {
-    if !is_dictionary(s, at) {
+    if !is_dictionary(bytes, at) {
         return Found::Missing;
     }
     let mut i = at + 1;
-    while i < s.len() {
-        match read_entry(s, i) {
+    while i < bytes.len() {
+        match read_entry(bytes, i) {
             Entry::NoEntry => {
                 return Found::Missing;
             }
             Entry::Keyed { start, value, end } => {
-                if same(key, &s[start..value]) {
+                if same(key, &bytes[start..value]) {
                     return Found::Part { start: value, end };
                 }
                 i = end;

@@ -23,13 +23,13 @@ pub enum Integer {
 }
 
 // The string whose encoding begins at `at`.
-pub fn read_string(s: &[u8], at: usize) -> ByteString
-    ensures { λ r. ⌜ r ≡ readString at (drop at (now (s .entry))) ⌝ }
+pub fn read_string(bytes: &[u8], at: usize) -> ByteString
+    ensures { λ r. ⌜ r ≡ readString at (drop at (now (bytes .entry))) ⌝ }
 {
-    match read_number(s, at, b':') {
+    match read_number(bytes, at, b':') {
         Number::NoNumber => ByteString::NoString,
         Number::Is { value, next } => {
-            if value <= s.len() - next {
+            if value <= bytes.len() - next {
                 ByteString::Content {
                     start: next,
                     end: next + value,
@@ -42,14 +42,14 @@ pub fn read_string(s: &[u8], at: usize) -> ByteString
 }
 
 // An integer past its `i`. Minus zero is none, and neither is one outside 64 bits.
-pub fn read_signed(s: &[u8], at: usize) -> Integer
-    ensures { λ r. ⌜ r ≡ readSigned at (drop at (now (s .entry))) ⌝ }
+pub fn read_signed(bytes: &[u8], at: usize) -> Integer
+    ensures { λ r. ⌜ r ≡ readSigned at (drop at (now (bytes .entry))) ⌝ }
 {
-    if s.len() <= at {
+    if bytes.len() <= at {
         return Integer::NoInteger;
     }
-    if s[at] == b'-' {
-        match read_number(s, at + 1, b'e') {
+    if bytes[at] == b'-' {
+        match read_number(bytes, at + 1, b'e') {
             Number::NoNumber => Integer::NoInteger,
             Number::Is { value, next } => {
                 if value == 0 {
@@ -64,7 +64,7 @@ pub fn read_signed(s: &[u8], at: usize) -> Integer
             }
         }
     } else {
-        match read_number(s, at, b'e') {
+        match read_number(bytes, at, b'e') {
             Number::NoNumber => Integer::NoInteger,
             Number::Is { value, next } => {
                 if value < BOUND {
@@ -82,14 +82,14 @@ pub fn read_signed(s: &[u8], at: usize) -> Integer
 }
 
 // The integer whose encoding begins at `at`.
-pub fn read_integer(s: &[u8], at: usize) -> Integer
-    ensures { λ r. ⌜ r ≡ readInteger at (drop at (now (s .entry))) ⌝ }
+pub fn read_integer(bytes: &[u8], at: usize) -> Integer
+    ensures { λ r. ⌜ r ≡ readInteger at (drop at (now (bytes .entry))) ⌝ }
 {
-    if s.len() <= at {
+    if bytes.len() <= at {
         return Integer::NoInteger;
     }
-    if s[at] == b'i' {
-        read_signed(s, at + 1)
+    if bytes[at] == b'i' {
+        read_signed(bytes, at + 1)
     } else {
         Integer::NoInteger
     }

@@ -19,10 +19,10 @@ pub enum Walked {
 }
 
 // Past an integer, from behind its `i`.
-fn integer_end(s: &[u8], at: usize) -> Walked
-    ensures { λ r. ⌜ r ≡ pastInteger (readSigned at (drop at (now (s .entry)))) ⌝ }
+fn integer_end(bytes: &[u8], at: usize) -> Walked
+    ensures { λ r. ⌜ r ≡ pastInteger (readSigned at (drop at (now (bytes .entry)))) ⌝ }
 {
-    match read_signed(s, at) {
+    match read_signed(bytes, at) {
         Integer::Whole {
             minus: _,
             size: _,
@@ -32,25 +32,25 @@ fn integer_end(s: &[u8], at: usize) -> Walked
     }
 }
 
-fn string_end(s: &[u8], at: usize) -> Walked
-    ensures { λ r. ⌜ r ≡ pastString (readString at (drop at (now (s .entry)))) ⌝ }
+fn string_end(bytes: &[u8], at: usize) -> Walked
+    ensures { λ r. ⌜ r ≡ pastString (readString at (drop at (now (bytes .entry)))) ⌝ }
 {
-    match read_string(s, at) {
+    match read_string(bytes, at) {
         ByteString::Content { start: _, end } => Walked::Past(end),
         ByteString::NoString => Walked::Broken,
     }
 }
 
 // Past a list, from behind its `l`.
-fn list_end(s: &[u8], at: usize, levels: usize) -> Walked
-    ensures { λ r. ⌜ r ≡ walkList (walkValue levels) at (drop at (now (s .entry))) ⌝ }
+fn list_end(bytes: &[u8], at: usize, levels: usize) -> Walked
+    ensures { λ r. ⌜ r ≡ walkList (walkValue levels) at (drop at (now (bytes .entry))) ⌝ }
 {
     let mut i = at;
-    while i < s.len() {
-        if s[i] == b'e' {
+    while i < bytes.len() {
+        if bytes[i] == b'e' {
             return Walked::Past(i + 1);
         }
-        match value_end(s, i, levels) {
+        match value_end(bytes, i, levels) {
             Walked::Past(k) => {
                 i = k;
             }
@@ -66,22 +66,22 @@ fn list_end(s: &[u8], at: usize, levels: usize) -> Walked
 }
 
 // Past a dictionary, from behind its `d`. The key before is start..end, once one was seen.
-fn dictionary_end(s: &[u8], at: usize, levels: usize) -> Walked
-    ensures { λ r. ⌜ r ≡ walkDictionary (walkValue levels) at (drop at (now (s .entry))) ⌝ }
+fn dictionary_end(bytes: &[u8], at: usize, levels: usize) -> Walked
+    ensures { λ r. ⌜ r ≡ walkDictionary (walkValue levels) at (drop at (now (bytes .entry))) ⌝ }
 {
     let mut i = at;
     let mut seen = false;
     let mut start: usize = 0;
     let mut end: usize = 0;
-    while i < s.len() {
-        if s[i] == b'e' {
+    while i < bytes.len() {
+        if bytes[i] == b'e' {
             return Walked::Past(i + 1);
         }
-        match read_key(s, i, seen, start, end) {
+        match read_key(bytes, i, seen, start, end) {
             ByteString::NoString => {
                 return Walked::Broken;
             }
-            ByteString::Content { start: a, end: b } => match value_end(s, b, levels) {
+            ByteString::Content { start: a, end: b } => match value_end(bytes, b, levels) {
                 Walked::Past(k) => {
                     i = k;
                     seen = true;
@@ -101,44 +101,50 @@ fn dictionary_end(s: &[u8], at: usize, levels: usize) -> Walked
 }
 
 // Past the value at `at`, with so many levels left.
-pub fn value_end(s: &[u8], at: usize, levels: usize) -> Walked
-    ensures { λ r. ⌜ r ≡ walkValue levels at (drop at (now (s .entry))) ⌝ }
+pub fn value_end(bytes: &[u8], at: usize, levels: usize) -> Walked
+    ensures { λ r. ⌜ r ≡ walkValue levels at (drop at (now (bytes .entry))) ⌝ }
 {
-    if s.len() <= at {
+    if bytes.len() <= at {
         return Walked::Broken;
     }
-    let c = s[at];
+    let c = bytes[at];
     if c == b'i' {
-        return integer_end(s, at + 1);
+        return integer_end(bytes, at + 1);
     }
     if c == b'l' {
         if levels == 0 {
             return Walked::TooDeep;
         }
-        return list_end(s, at + 1, levels - 1);
+        return list_end(bytes, at + 1, levels - 1);
     }
     if c == b'd' {
         if levels == 0 {
             return Walked::TooDeep;
         }
-        return dictionary_end(s, at + 1, levels - 1);
+        return dictionary_end(bytes, at + 1, levels - 1);
     }
-    string_end(s, at)
+    string_end(bytes, at)
 }
 
 // 0 for one dictionary in strict bencoding and nothing after it; else 20 or 21.
-pub fn strict(s: &[u8]) -> u32
-    ensures { λ r. ⌜ r ≡ strictness (now (s .entry)) ⌝ }
+pub fn strict(bytes: &[u8]) -> u32
+    ensures { λ r. ⌜ r ≡ strictness (now (bytes .entry)) ⌝ }
 {
-    if s.len() == 0 {
+    if bytes.len() == 0 {
         return numbers::NOT_STRICT;
     }
-    if s[0] != b'd' {
+    if bytes[0] != b'd' {
         return numbers::NOT_STRICT;
     }
-    match value_end(s, 0, LEVELS) {
+    match value_end(bytes, 0, LEVELS) {
         Walked::Broken => numbers::NOT_STRICT,
         Walked::TooDeep => numbers::NESTED_TOO_DEEPLY,
-        Walked::Past(k) => { if k == s.len() { 0 } else { numbers::NOT_STRICT } }
+        Walked::Past(k) => {
+            if k == bytes.len() {
+                0
+            } else {
+                numbers::NOT_STRICT
+            }
+        }
     }
 }

@@ -72,16 +72,19 @@ pub fn small1(x: u32) -> u32
 }
 
 // A byte as a word.
-pub fn wide(x: u8) -> u32
-    ensures { λ r. ⌜ (r ≡ x) × (r < 256) ⌝ }
+pub fn wide(byte: u8) -> u32
+    ensures { λ r. ⌜ (r ≡ byte) × (r < 256) ⌝ }
 {
-    x as u32
+    byte as u32
 }
 
-// The word whose four bytes stand at i, the most significant first.
-pub fn word(s: &[u8], i: usize) -> u32
-    requires { ⌜ i + 4 ≤ length (now s) ⌝ }
-    ensures { λ r. ⌜ r ≡ wordAt (now (s .entry)) i ⌝ }
+// The word whose four bytes stand at `index`, the most significant first.
+pub fn word(bytes: &[u8], index: usize) -> u32
+    requires { ⌜ index + 4 ≤ length (now bytes) ⌝ }
+    ensures { λ r. ⌜ r ≡ wordAt (now (bytes .entry)) index ⌝ }
 {
-    (wide(s[i]) << 24) | (wide(s[i + 1]) << 16) | (wide(s[i + 2]) << 8) | wide(s[i + 3])
+    (wide(bytes[index]) << 24)
+        | (wide(bytes[index + 1]) << 16)
+        | (wide(bytes[index + 2]) << 8)
+        | wide(bytes[index + 3])
 }

@@ -6,12 +6,12 @@ use mathlib.Core.List.{List, [], _∷_, _++_, append-assoc}
 use Prim.Native.Nat.{ℕ, zero, suc, _+_, _-_, _*_, _^_, _≤_, _<_}
 use native.Mathlib.Omega.{arith}
 use native.Mathlib.Decide.{decLt}
-use lib.ListN.{length, take, drop, getD, List·getD-append}
-use lib.Seq.{drop-append-add, getD-append-add, take-append-seam}
+use lib.ListN.{length, List·getD-append}
+use lib.Seq.{take-append-seam}
 use lib.Dec.{eqb, ltb}
 use borrow.Author.Tests.{eqb-true, eqb-false, ltb-false}
 use Rattle.octets.specs.Octets.{cut, pasted, be, numberAt}
-use Rattle.octets.specs.OctetsLaws.{cut-cut, cut-pasted-same, cut-append-left, number-same, number-of-be, be-octets}
+use Rattle.octets.specs.OctetsLaws.{cut-cut, cut-pasted-same, cut-append-left, number-same, number-of-be, number-behind, cut-behind, be-size, number-first}
 use Rattle.limits.specs.Limits.{largestTorrent, maxLevels}
 use Rattle.numbers.specs.Numbers.{noRoom}
 use Rattle.tree.specs.Geometry.{pieceCount, ceilDiv}
@@ -40,26 +40,6 @@ use Rattle.torrent.specs.declared.read.PartRead.{PartRead}
 use Rattle.catalogue.specs.Catalogue.{partBytes, elementBytes, elementsBytes, headBytes, Parts, recordOf, recordSize, recordsOf, partsOf, listAnswer, listAfter}
 use Rattle.catalogue.specs.CatalogueLaws.{element-none, elements-length, root-length, record-length, records-length, record-at}
 use Rattle.calls.specs.Calls.{RecordIs}
-
--- ---- numbers among other bytes
-
--- behind the bytes a
-pub number-behind : (a b : List ℕ) (at i k : ℕ) → at ≡ length a + i → numberAt (a ++ b) at k ≡ numberAt b i k
-number-behind a b at i k e =
-    number-same (a ++ b) b at i k
-    (λ j h. let o : at + j ≡ length a + (i + j) = omega arith in ap (λ (z : ℕ). getD (a ++ b) z 0) o ∙ getD-append-add a b (i + j) 0)
-
-pub cut-behind : (a b : List ℕ) (at i k : ℕ) → at ≡ length a + i → cut (a ++ b) at k ≡ cut b i k
-unfolding cut
-cut-behind a b at i k e = ap (λ (l : List ℕ). take k l) (ap (λ (z : ℕ). drop z (a ++ b)) e ∙ drop-append-add a b i)
-
-pub be-size : (k n : ℕ) → length (be k n) ≡ k
-be-size k n = be-octets k n .size
-
--- a number at the front
-pub number-first : (k n : ℕ) (b : List ℕ) → n < 256 ^ k → numberAt (be k n ++ b) 0 k ≡ n
-number-first k n b h =
-    number-same (be k n ++ b) (be k n) 0 0 k (λ j l. List·getD-append (be k n) b 0 (0 + j) (omega (arith, be-size k n))) ∙ number-of-be k n h
 
 -- ---- the head
 

@@ -31,7 +31,7 @@ module _ (t l : List ℕ) (k : Listing) (r : Listable t l k) where
   keys-indexed keys₀ keys l₀ lk b e f =
       let all : take (k .count) keys ≡ layerKeys l = f (e ∙ r .keyed) in
       let wide : keysWide l ≡ true = first (keysWide l) (eqb (length (layerKeys l)) (k .count)) (r .keyed) in
-      let fits : k .count ≤ length keys = omega (arith, r .few-long) in
+      let fits : k .count ≤ length keys = omega (arith, r .few-layered) in
       record { opens = r .opened .opens; wide = wide; room = fits; all = all; ascending = r .opened .ascending wide keys (k .count) fits all }
     where
       first : (a b : Bool) → (a && b) ≡ true → a ≡ true

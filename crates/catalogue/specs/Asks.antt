@@ -65,7 +65,7 @@ pub record Listable (t l : List ℕ) (k : Listing) : Type 0 where
   pub tree-right : right (filesIn t) ≡ true
   pub opened : LayersOpen l
   pub keyed : (keysWide l && eqb (length (layerKeys l)) (k .count)) ≡ true
-  pub few-long : k .count ≤ mostRoots
+  pub few-layered : k .count ≤ mostRoots
 
 -- a directory can be written
 pub record SpotRight (tree layers room : ℕ) (path : List ℕ) (s : Spot) : Type 0 where

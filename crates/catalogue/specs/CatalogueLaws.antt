@@ -1,4 +1,4 @@
--- How long a record and the list are, how the list grows by a file, and what a torrent that gets 0 has.
+-- How layered a record and the list are, how the list grows by a file, and what a torrent that gets 0 has.
 -- Assumes nothing.
 use mathlib.Core.Path.{_≡_, refl, sym, ap, ap₂, _∙_}
 use mathlib.Core.Bool.{Bool, true, false, cond, _&&_, false≢true}
@@ -251,7 +251,7 @@ tree-keyed t l plen fs e = by-right (right fs) e
     by-right false g = absurd (omega arith)
 
 abbrev pub listingOf : Checked → Listing
-listingOf c = record { tree = c .keys .tree .start; layers = c .keys .layers .start; plen = c .keys .plen; count = c .long }
+listingOf c = record { tree = c .keys .tree .start; layers = c .keys .layers .start; plen = c .keys .plen; count = c .layered }
 
 module _ (s : List ℕ) (c : Checked) (w : Whole s c) where
   abbrev t : List ℕ
@@ -271,15 +271,15 @@ module _ (s : List ℕ) (c : Checked) (w : Whole s c) where
       let f = w .opened .small in
       let few = files-few t (w .tree-right) .1 in
       let most = layers-roots (c .keys .plen) t (listed (filesIn t)) in
-      let long = w .all-long in
+      let layered = w .all-layered in
       let inside = tree-inside in
       record {
         tree-within = inside;
         layers-within = omega arith;
         tree-right = w .tree-right;
         opened = w .opened .layers-open;
-        keyed = rw long (tree-keyed t l (c .keys .plen) (filesIn t) (w .number-right));
-        few-long = omega arith;
+        keyed = rw layered (tree-keyed t l (c .keys .plen) (filesIn t) (w .number-right));
+        few-layered = omega arith;
       }
 
   pub few-files : c .files ≤ largestTorrent

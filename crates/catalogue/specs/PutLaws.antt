@@ -14,12 +14,12 @@ use Rattle.octets.specs.OctetsLaws.{pasted-append, pasted-none}
 use Rattle.filetree.specs.Token.{tokenAt}
 use Rattle.filetree.specs.TokenLaws.{leaf-ends, opened-ends}
 use Rattle.filetree.specs.Tree.{maxElements, Element, Listed, listedAs, down, Files, wrong, files, filesFrom, filesBelow, filesIn, right, listed}
-use Rattle.filetree.specs.TreeLaws.{tree-below, Passed, passed-none, passed-bad, passed-end, passed-closed, passed-file, passed-wrong, passed-directory}
+use Rattle.filetree.specs.TreeLaws.{tree-below, FilesPassed, passed-none, passed-bad, passed-end, passed-closed, passed-file, passed-wrong, passed-directory, split, same-files, not-wrong, is-right}
 use Rattle.filetree.specs.Path.{setElement, flat, Holds}
 use Rattle.filetree.specs.PathLaws.{holds-length, holds-down, holds-still, set-length}
 use Rattle.layers.specs.JudgeLaws.{tree-some}
 use Rattle.torrent.specs.Find.{PathGiven}
-use Rattle.torrent.specs.FindLaws.{holds-up, not-wrong, is-right, right-is, split, same-files}
+use Rattle.torrent.specs.FindLaws.{holds-up, right-is}
 use Rattle.filetree.specs.declared.token.Token.the-variants.{Opened, Closed, Leaf, BadToken}
 use Rattle.catalogue.specs.Catalogue.{Parts, recordSize, recordsOf}
 use Rattle.catalogue.specs.Asks.{recordFrom, RecordRight, partsWith, SpotRight, Recorded, Puts}
@@ -99,15 +99,15 @@ pub record PutAt (t l : List ℕ) (s : Spot) (path₀ path out₀ out : List ℕ
   pub early : to ≤ recordSize * i
   pub passed : (p : List Element) → Holds path₀ (maxElements - s .levels) p → right (filesBelow (s .levels) t (s .at) p) ≡ true
       → s .to + recordSize * length (listed (filesBelow (s .levels) t (s .at) p)) ≤ length out₀
-      → (fs : List Listed) × Passed t (filesBelow (s .levels) t (s .at) p) below p i fs × (to ≡ s .to + recordSize * length fs)
+      → (fs : List Listed) × FilesPassed t (filesBelow (s .levels) t (s .at) p) below p i fs × (to ≡ s .to + recordSize * length fs)
       × (out ≡ pasted out₀ (s .to) (recordsOf (partsWith t l (s .list)) fs)) × (length (recordsOf (partsWith t l (s .list)) fs) ≡ recordSize * length fs) × Holds path (maxElements - s .levels) p
 
 none-written : (q : Parts) (out : List ℕ) (to : ℕ) → (to ≡ to + recordSize * 0) × (out ≡ pasted out to (recordsOf q [])) × (length (recordsOf q []) ≡ recordSize * 0)
 unfolding recordsOf
 none-written q out to = (omega arith, sym (pasted-none out to), refl)
 
-pub put-start : (t l : List ℕ) (s : Spot) (path out : List ℕ) → (s .levels ≡ 0 → ⊥) → SpotRight (length t) (length l) (length out) path s → PutAt t l s path path out out (s .levels - 1) (s .at) (s .to)
-put-start t l s path out h w =
+pub put-start : {t l : List ℕ} {s : Spot} {path out : List ℕ} → (s .levels ≡ 0 → ⊥) → SpotRight (length t) (length l) (length out) path s → PutAt t l s path path out out (s .levels - 1) (s .at) (s .to)
+put-start {t} {l} {s} {out} h w =
     let n = none-written (partsWith t l (s .list)) out (s .to) in
     record { in-order = omega arith; given = w .given; sized = refl; fits = w .fits; early = w .early; passed = λ p o e g. ([], passed-none t (s .levels) (s .at) p h, n .0, n .1, n .2, o) }
 
@@ -126,7 +126,12 @@ puts-never t l s path₀ path out₀ out g h =
       puts = λ p o fs k e r. absurd (h p o (is-right (filesBelow (s .levels) t (s .at) p) fs k e) (rw (files-listed (filesBelow (s .levels) t (s .at) p) fs k e) r));
     }
 
-module _ (t l : List ℕ) (s : Spot) (path₀ path out₀ out : List ℕ) (below i to : ℕ) (w : PutAt t l s path₀ path out₀ out below i to) where
+-- a directory inside ends behind its opening
+pub inside-behind : {t l : List ℕ} {s : Spot} {path path′ out out′ : List ℕ} (i : ℕ) {a b k m : ℕ} → tokenAt t i ≡ Opened a b → Puts t l s path path′ out out′ (Past k m) → s .at ≡ b + 1
+    → (i < k) × (k ≤ length t)
+inside-behind {t} i {a} {b} e x q = let y = x .ends .0 in let z = opened-ends t i a b e .0 in (omega arith, x .ends .1)
+
+module _ {t l : List ℕ} {s : Spot} {path₀ path out₀ out : List ℕ} {below i to : ℕ} (w : PutAt t l s path₀ path out₀ out below i to) where
   abbrev whole : List Element → Files
   whole p = filesBelow (s .levels) t (s .at) p
 
@@ -159,7 +164,7 @@ module _ (t l : List ℕ) (s : Spot) (path₀ path out₀ out : List ℕ) (below
               x .5,
             )
 
-    module _ (a b n r k : ℕ) (e : tokenAt t i ≡ Leaf a b n r k) where
+    module _ {a b n r k : ℕ} (e : tokenAt t i ≡ Leaf a b n r k) where
       -- how many files there are at least
       at-least : (p : List Element) (o : Holds path₀ depth p) (u : right (whole p) ≡ true) (g : s .to + recordSize * length (listed (whole p)) ≤ length out₀) → to + recordSize ≤ length out₀
       at-least p o u g =
@@ -175,7 +180,7 @@ module _ (t l : List ℕ) (s : Spot) (path₀ path out₀ out : List ℕ) (below
       pub puts-full : length out - to < recordSize → Puts t l s path₀ path out₀ out WrongTree
       puts-full g = puts-never t l s path₀ path out₀ out (w .given) (λ p o u v. let x = at-least p o u v in let y = w .sized in let z = w .fits in omega arith)
 
-      module _ (c : SpotRight (length t) (length l) (length out₀) path₀ s) (nz : s .levels ≡ 0 → ⊥) (room : recordSize ≤ length out - to) (path′ : List ℕ) (ep : path′ ≡ setElement path depth a b) where
+      module _ (c : SpotRight (length t) (length l) (length out₀) path₀ s) (nz : s .levels ≡ 0 → ⊥) (room : recordSize ≤ length out - to) {path′ : List ℕ} (ep : path′ ≡ setElement path depth a b) where
         low : depth < maxElements
         low = let x = c .shallow in omega arith
 
@@ -188,9 +193,9 @@ module _ (t l : List ℕ) (s : Spot) (path₀ path out₀ out : List ℕ) (below
             let v = w .sized in
             record { root-within = λ m. x .2 m .1; layers-within = c .layers-within; path-given = rw ep (given-down path depth a b (s .list .tree) (w .given) low (x .4) (omega arith)); fits = omega arith }
 
-        pub put-next : (out′ : List ℕ) → out′ ≡ pasted out to (recordFrom t l path′ (record { list = s .list; length = n; root = r; elements = depth + 1; at = to })) → length out′ ≡ length out
+        pub put-next : {out′ : List ℕ} → out′ ≡ pasted out to (recordFrom t l path′ (record { list = s .list; length = n; root = r; elements = depth + 1; at = to })) → length out′ ≡ length out
             → PutAt t l s path₀ path′ out₀ out′ below k (to + recordSize)
-        put-next out′ eo lo =
+        put-next {out′} eo lo =
             record {
               in-order = let x = w .in-order in let y = leaf-ends t i a b n r k e .0 in omega arith;
               given = rw ep (given-still path depth a b (s .list .tree) (w .given));
@@ -201,7 +206,7 @@ module _ (t l : List ℕ) (s : Spot) (path₀ path out₀ out : List ℕ) (below
             }
           where
             go : (p : List Element) → Holds path₀ depth p → right (whole p) ≡ true → s .to + recordSize * length (listed (whole p)) ≤ length out₀
-                → (fs : List Listed) × Passed t (whole p) below p k fs × (to + recordSize ≡ s .to + recordSize * length fs)
+                → (fs : List Listed) × FilesPassed t (whole p) below p k fs × (to + recordSize ≡ s .to + recordSize * length fs)
                 × (out′ ≡ pasted out₀ (s .to) (recordsOf q fs)) × (length (recordsOf q fs) ≡ recordSize * length fs) × Holds path′ depth p
             go p o u g =
                 let x = w .passed p o u g in
@@ -216,7 +221,7 @@ module _ (t l : List ℕ) (s : Spot) (path₀ path out₀ out : List ℕ) (below
                 let y = more-records q out₀ out out′ (s .to) (x .0) (f ∷ []) (x .3) (x .4) one (eo ∙ ap (pasted out to) rec ∙ ap (λ (z : ℕ). pasted out z (recordsOf q (f ∷ []))) m) (omega arith) in
                 (x .0 ++ f ∷ [], passed-file t (whole p) below p i (x .0) (x .1) h a b n r k e, omega (arith, length-append (x .0) (f ∷ [])), y .0, y .1, rw ep (holds-still path depth p a b (x .5)))
 
-    module _ (a b : ℕ) (e : tokenAt t i ≡ Opened a b) (c : SpotRight (length t) (length l) (length out₀) path₀ s) (nz : s .levels ≡ 0 → ⊥) (lb : below ≡ s .levels - 1) (path′ : List ℕ) (ep : path′ ≡ setElement path depth a b) where
+    module _ {a b : ℕ} (e : tokenAt t i ≡ Opened a b) (c : SpotRight (length t) (length l) (length out₀) path₀ s) (nz : s .levels ≡ 0 → ⊥) (lb : below ≡ s .levels - 1) {path′ : List ℕ} (ep : path′ ≡ setElement path depth a b) where
       abbrev inner : Spot
       inner = record { list = s .list; at = b + 1; levels = below; to = to }
 
@@ -259,7 +264,7 @@ module _ (t l : List ℕ) (s : Spot) (path₀ path out₀ out : List ℕ) (below
       held : (p : List Element) → Holds path depth p → Holds path′ (maxElements - below) (down p a b)
       held p o = rw (deep, ep) (holds-down path depth p (w .given .sized) o a b (let x = c .shallow in omega arith))
 
-      module _ (path″ out″ : List ℕ) (lo : length out″ ≡ length out) where
+      module _ {path″ out″ : List ℕ} (lo : length out″ ≡ length out) where
         inside-puts : (r : Put) → Puts t l inner path′ path″ out out″ r → (p : List Element) (o : Holds path₀ depth p) (u : right (whole p) ≡ true) (g : s .to + recordSize * length (listed (whole p)) ≤ length out₀)
             → Recorded q (inside-right p o u g .0) (inside-right p o u g .1) to out out″ r × Holds path″ (maxElements - below) (down p a b)
         inside-puts r x p o u g =
@@ -276,13 +281,10 @@ module _ (t l : List ℕ) (s : Spot) (path₀ path out₀ out : List ℕ) (below
             puts-never t l s path₀ path″ out₀ out″ (after-inside WrongTree x)
             (λ p o u g. let y = inside-puts WrongTree x p o u g .0 .answer in let z : _≡_ {A = ℕ} 0 1 = cc in omega arith)
 
-        pub inside-behind : (k m : ℕ) → Puts t l inner path′ path″ out out″ (Past k m) → (i < k) × (k ≤ length t)
-        inside-behind k m x = let y = x .ends .0 in let z = opened-ends t i a b e .0 in (omega arith, x .ends .1)
-
-        pub put-past : (k m : ℕ) → Puts t l inner path′ path″ out out″ (Past k m) → PutAt t l s path₀ path″ out₀ out″ below k m
-        put-past k m x =
+        pub put-past : {k m : ℕ} → Puts t l inner path′ path″ out out″ (Past k m) → PutAt t l s path₀ path″ out₀ out″ below k m
+        put-past {k} {m} x =
             record {
-              in-order = let y = inside-behind k m x .0 in let z = w .in-order in omega arith;
+              in-order = let y = inside-behind i e x refl .0 in let z = w .in-order in omega arith;
               given = after-inside (Past k m) x;
               sized = lo ∙ w .sized;
               fits = let y = x .ends .2 in let z = w .sized in omega arith;
@@ -291,7 +293,7 @@ module _ (t l : List ℕ) (s : Spot) (path₀ path out₀ out : List ℕ) (below
             }
           where
             go : (p : List Element) → Holds path₀ depth p → right (whole p) ≡ true → s .to + recordSize * length (listed (whole p)) ≤ length out₀
-                → (fs : List Listed) × Passed t (whole p) below p k fs × (m ≡ s .to + recordSize * length fs)
+                → (fs : List Listed) × FilesPassed t (whole p) below p k fs × (m ≡ s .to + recordSize * length fs)
                 × (out″ ≡ pasted out₀ (s .to) (recordsOf q fs)) × (length (recordsOf q fs) ≡ recordSize * length fs) × Holds path″ depth p
             go p o u g =
                 let x′ = w .passed p o u g in

@@ -5,7 +5,7 @@ use crate::record::Listing;
 use crate::record::Record;
 use crate::record::put_record;
 use filetree::count::ELEMENTS;
-use filetree::count::MOST;
+use filetree::count::MOST_ROOTS;
 use filetree::path::PATH;
 use filetree::path::set_element;
 use filetree::token::Token;
@@ -44,15 +44,15 @@ pub enum Put {
 
 // Writes the records of the files of a directory, one after the other. `path` has the elements of the path to the directory.
 fn put_directory(
-    t: &[u8],
-    l: &[u8],
+    tree: &[u8],
+    layers: &[u8],
     keys: &[u32],
     path: &mut [usize],
     out: &mut [u8],
     spot: Spot,
 ) -> Put
-    requires { ⌜ Indexed (now l) (now keys) (spot .list .count) × SpotRight (L.length (now t)) (L.length (now l)) (L.length (now out)) (now path) spot ⌝ }
-    ensures { λ r. ⌜ Puts (now (t .entry)) (now (l .entry)) spot (now (path .entry)) (now (path .exit)) (now (out .entry)) (now (out .exit)) r ⌝ }
+    requires { ⌜ Indexed (now layers) (now keys) (spot .list .count) × SpotRight (L.length (now tree)) (L.length (now layers)) (L.length (now out)) (now path) spot ⌝ }
+    ensures { λ r. ⌜ Puts (now (tree .entry)) (now (layers .entry)) spot (now (path .entry)) (now (path .exit)) (now (out .entry)) (now (out .exit)) r ⌝ }
 {
     let list = spot.list;
     let at = spot.at;
@@ -64,8 +64,8 @@ fn put_directory(
     let depth = ELEMENTS - levels;
     let mut to = spot.to;
     let mut i = at;
-    while i < t.len() {
-        match read_token(t, i) {
+    while i < tree.len() {
+        match read_token(tree, i) {
             Token::BadToken => {
                 return Put::WrongTree;
             }
@@ -90,7 +90,7 @@ fn put_directory(
                     elements: depth + 1,
                     at: to,
                 };
-                put_record(t, l, keys, path, out, record);
+                put_record(tree, layers, keys, path, out, record);
                 to += RECORD;
                 i = next;
             }
@@ -102,7 +102,7 @@ fn put_directory(
                     levels: below,
                     to,
                 };
-                match put_directory(t, l, keys, path, out, inside) {
+                match put_directory(tree, layers, keys, path, out, inside) {
                     Put::Past { next, to: behind } => {
                         to = behind;
                         i = next;
@@ -119,9 +119,9 @@ fn put_directory(
 
 // Writes the records of all files of a torrent that gets 0; `keys` is work space, for where the keys of `piece layers` stand. They are as
 // many as they should be: `check` has seen it, so that `index` need not be asked again.
-fn list_in(t: &[u8], l: &[u8], keys: &mut [u32], out: &mut [u8], list: Listing)
-    requires { ⌜ Listable (now t) (now l) list × (L.length (now keys) ≡ mostRoots) × (recordSize * L.length (listed (filesIn (now t))) ≤ L.length (now out)) ⌝ }
-    ensures { λ _. ⌜ now (out .exit) ≡ pasted (now (out .entry)) 0 (recordsOf (partsWith (now (t .entry)) (now (l .entry)) list) (listed (filesIn (now (t .entry))))) ⌝ }
+fn list_in(tree: &[u8], layers: &[u8], keys: &mut [u32], out: &mut [u8], list: Listing)
+    requires { ⌜ Listable (now tree) (now layers) list × (L.length (now keys) ≡ mostRoots) × (recordSize * L.length (listed (filesIn (now tree))) ≤ L.length (now out)) ⌝ }
+    ensures { λ _. ⌜ now (out .exit) ≡ pasted (now (out .entry)) 0 (recordsOf (partsWith (now (tree .entry)) (now (layers .entry)) list) (listed (filesIn (now (tree .entry))))) ⌝ }
 {
     let mut path = [0usize; PATH];
     let spot = Spot {
@@ -130,15 +130,15 @@ fn list_in(t: &[u8], l: &[u8], keys: &mut [u32], out: &mut [u8], list: Listing)
         levels: ELEMENTS,
         to: 0,
     };
-    index(l, keys, list.count);
-    put_directory(t, l, keys, &mut path, out, spot);
+    index(layers, keys, list.count);
+    put_directory(tree, layers, keys, &mut path, out, spot);
 }
 
 // 0 and the size of the list, which is then at the start of `out`; or 19 to 28 or 31, or 11 if `out` is too short for it.
-pub fn list(s: &[u8], out: &mut [u8]) -> Answer
-    ensures { λ r. ⌜ (r ≡ listAnswer (now (s .entry)) (now (out .entry))) × (now (out .exit) ≡ listAfter (now (s .entry)) (now (out .entry))) ⌝ }
+pub fn list(torrent: &[u8], out: &mut [u8]) -> Answer
+    ensures { λ r. ⌜ (r ≡ listAnswer (now (torrent .entry)) (now (out .entry))) × (now (out .exit) ≡ listAfter (now (torrent .entry)) (now (out .entry))) ⌝ }
 {
-    let c = check(s);
+    let c = check(torrent);
     let number = c.keys.number;
     let tree = c.keys.tree.start;
     let tree_end = c.keys.tree.end;
@@ -146,7 +146,7 @@ pub fn list(s: &[u8], out: &mut [u8]) -> Answer
     let layers_end = c.keys.layers.end;
     let plen = c.keys.plen;
     let files = c.files;
-    let count = c.long;
+    let count = c.layered;
     if number == 0 {
         let size = RECORD * files;
         if out.len() < size {
@@ -158,10 +158,10 @@ pub fn list(s: &[u8], out: &mut [u8]) -> Answer
             plen,
             count,
         };
-        let mut keys = [0u32; MOST];
+        let mut keys = [0u32; MOST_ROOTS];
         list_in(
-            &s[tree..tree_end],
-            &s[layers..layers_end],
+            &torrent[tree..tree_end],
+            &torrent[layers..layers_end],
             &mut keys,
             out,
             list,

@@ -99,29 +99,43 @@ fn put_head(out: &mut [u8], file: Record, root: [u8; 32], layer: ByteString)
 }
 
 // The layer of a file; none if it is not longer than the piece length.
-fn layer_of(t: &[u8], l: &[u8], keys: &[u32], list: Listing, n: usize, root: usize) -> ByteString
-    requires { ⌜ Indexed (now l) (now keys) (list .count) × ((n ≡ 0 → ⊥) → root + 32 ≤ L.length (now t)) × (list .layers + L.length (now l) ≤ largestTorrent) ⌝ }
-    ensures { λ r. ⌜ (r ≡ layerString (now (l .entry)) (list .plen) n (cut (now (t .entry)) root 32)) × Forward (list .layers) r ⌝ }
+fn layer_of(
+    tree: &[u8],
+    layers: &[u8],
+    keys: &[u32],
+    list: Listing,
+    length: usize,
+    root: usize,
+) -> ByteString
+    requires { ⌜ Indexed (now layers) (now keys) (list .count) × ((length ≡ 0 → ⊥) → root + 32 ≤ L.length (now tree)) × (list .layers + L.length (now layers) ≤ largestTorrent) ⌝ }
+    ensures { λ r. ⌜ (r ≡ layerString (now (layers .entry)) (list .plen) length (cut (now (tree .entry)) root 32)) × Forward (list .layers) r ⌝ }
 {
-    if has_layer(n, list.plen) {
-        return find_layer(l, keys, list.count, &t[root..root + 32]);
+    if has_layer(length, list.plen) {
+        return find_layer(layers, keys, list.count, &tree[root..root + 32]);
     }
     ByteString::NoString
 }
 
 // Writes the record of a file.
-pub fn put_record(t: &[u8], l: &[u8], keys: &[u32], path: &[usize], out: &mut [u8], file: Record)
-    requires { ⌜ Indexed (now l) (now keys) (file .list .count) × RecordRight (L.length (now t)) (L.length (now l)) (L.length (now out)) (now path) file ⌝ }
-    ensures { λ _. ⌜ now (out .exit) ≡ pasted (now (out .entry)) (file .at) (recordFrom (now (t .entry)) (now (l .entry)) (now (path .entry)) file) ⌝ }
+pub fn put_record(
+    files: &[u8],
+    layers: &[u8],
+    keys: &[u32],
+    path: &[usize],
+    out: &mut [u8],
+    file: Record,
+)
+    requires { ⌜ Indexed (now layers) (now keys) (file .list .count) × RecordRight (L.length (now files)) (L.length (now layers)) (L.length (now out)) (now path) file ⌝ }
+    ensures { λ _. ⌜ now (out .exit) ≡ pasted (now (out .entry)) (file .at) (recordFrom (now (files .entry)) (now (layers .entry)) (now (path .entry)) file) ⌝ }
 {
     let list = file.list;
-    let tree = list.tree;
+    let base = list.tree;
     let at = file.at;
     let elements = file.elements;
     let length = file.length;
     let root = file.root;
-    let hash = root_of(t, length, root);
-    let layer = layer_of(t, l, keys, list, length, root);
+    let hash = root_of(files, length, root);
+    let layer = layer_of(files, layers, keys, list, length, root);
     put_head(out, file, hash, layer);
-    put_elements(out, at + 56, tree, path, elements);
+    put_elements(out, at + 56, base, path, elements);
 }

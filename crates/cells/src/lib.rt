@@ -4,49 +4,49 @@ ghost use Prim.Native.Nat.{_+_};
 ghost use Rattle.cells.specs.Cells.{Room, heldAt, hashAt, put};
 ghost use Rattle.cells.specs.Entries.{agreesAt, lacks};
 
-// Whether position n is held.
-pub fn held(s: &[u8], n: usize) -> bool
-    requires { ⌜ Room (n + 1) (now s) ⌝ }
-    ensures { λ r. ⌜ r ≡ heldAt (now (s .entry)) n ⌝ }
+// Whether position `node` is held.
+pub fn held(store: &[u8], node: usize) -> bool
+    requires { ⌜ Room (node + 1) (now store) ⌝ }
+    ensures { λ r. ⌜ r ≡ heldAt (now (store .entry)) node ⌝ }
 {
-    s[31 + 33 * n] == 1
+    store[31 + 33 * node] == 1
 }
 
-// The hash in position n's cell, held or not.
-pub fn hash_of(s: &[u8], n: usize) -> [u8; 32]
-    requires { ⌜ Room (n + 1) (now s) ⌝ }
-    ensures { λ r. ⌜ r ≡ hashAt (now (s .entry)) n ⌝ }
+// The hash in position `node`'s cell, held or not.
+pub fn hash_of(store: &[u8], node: usize) -> [u8; 32]
+    requires { ⌜ Room (node + 1) (now store) ⌝ }
+    ensures { λ r. ⌜ r ≡ hashAt (now (store .entry)) node ⌝ }
 {
-    octets::hash_at(s, 32 + 33 * n)
+    octets::hash_at(store, 32 + 33 * node)
 }
 
-// Position n becomes held, with hash h.
-pub fn put_at(s: &mut [u8], n: usize, h: [u8; 32])
-    requires { ⌜ Room (n + 1) (now s) ⌝ }
-    ensures { λ _. ⌜ now (s .exit) ≡ put (now (s .entry)) n h ⌝ }
+// Position `node` becomes held, with `hash`.
+pub fn put_at(store: &mut [u8], node: usize, hash: [u8; 32])
+    requires { ⌜ Room (node + 1) (now store) ⌝ }
+    ensures { λ _. ⌜ now (store .exit) ≡ put (now (store .entry)) node hash ⌝ }
 {
-    s[31 + 33 * n] = 1;
-    octets::put_hash(s, 32 + 33 * n, h);
+    store[31 + 33 * node] = 1;
+    octets::put_hash(store, 32 + 33 * node, hash);
 }
 
-// Whether position n is not held, or held with v.
-pub fn agrees_at(s: &[u8], n: usize, v: [u8; 32]) -> bool
-    requires { ⌜ Room (n + 1) (now s) ⌝ }
-    ensures { λ r. ⌜ r ≡ agreesAt (now (s .entry)) n v ⌝ }
+// Whether position `node` is not held, or held with `hash`.
+pub fn agrees_at(store: &[u8], node: usize, hash: [u8; 32]) -> bool
+    requires { ⌜ Room (node + 1) (now store) ⌝ }
+    ensures { λ r. ⌜ r ≡ agreesAt (now (store .entry)) node hash ⌝ }
 {
-    if held(s, n) {
-        octets::same(hash_of(s, n), v)
+    if held(store, node) {
+        octets::same(hash_of(store, node), hash)
     } else {
         true
     }
 }
 
-// Position n becomes held with h; 1 where it was not held before.
-pub fn add_at(s: &mut [u8], n: usize, h: [u8; 32]) -> u64
-    requires { ⌜ Room (n + 1) (now s) ⌝ }
-    ensures { λ r. ⌜ (r ≡ lacks (now (s .entry)) n) × (now (s .exit) ≡ put (now (s .entry)) n h) ⌝ }
+// Position `node` becomes held with `hash`; 1 where it was not held before.
+pub fn add_at(store: &mut [u8], node: usize, hash: [u8; 32]) -> u64
+    requires { ⌜ Room (node + 1) (now store) ⌝ }
+    ensures { λ r. ⌜ (r ≡ lacks (now (store .entry)) node) × (now (store .exit) ≡ put (now (store .entry)) node hash) ⌝ }
 {
-    let was = held(s, n);
-    put_at(s, n, h);
+    let was = held(store, node);
+    put_at(store, node, hash);
     if was { 0 } else { 1 }
 }

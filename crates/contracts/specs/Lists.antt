@@ -10,7 +10,7 @@ use lib.ListN.{length}
 use lib.Dec.{eqb, ltb}
 use borrow.Author.Tests.{eq-eqb, eqb-true, eqb-false, le-leb, ltb-false}
 use Rattle.octets.specs.Octets.{cut, be, pasted, numberAt}
-use Rattle.octets.specs.OctetsLaws.{cut-pasted-same, number-cut}
+use Rattle.octets.specs.OctetsLaws.{cut-pasted-same, number-cut, number-first}
 use Rattle.numbers.specs.Numbers.{wrongSize, noRoom}
 use Rattle.limits.specs.Limits.{longestFile, largestTorrent}
 use Rattle.metainfo.specs.Metainfo.{bytesIn}
@@ -21,7 +21,6 @@ use Rattle.torrent.specs.Torrent.{checkedOf}
 use Rattle.torrent.specs.CheckLaws.{Whole, checked-whole}
 use Rattle.catalogue.specs.Catalogue.{partBytes, headBytes, elementsBytes, Parts, recordOf, recordsOf, recordSize, partsOf, listAnswer, listAfter}
 use Rattle.catalogue.specs.CatalogueLaws.{records-length, record-at, few-files}
-use Rattle.calls.specs.RecordLaws.{number-first}
 use Rattle.places.specs.Places.{filesIn, lengthOf, lengthsRight, listRight, placeAnswer, firstAnswer}
 use Rattle.places.specs.Where.{place-4, first-4}
 

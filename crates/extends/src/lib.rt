@@ -52,12 +52,12 @@ fn parent(l: Hashed, r: Hashed, pad: [u8; 32]) -> Mixing
     Mixing { found, pad: above }
 }
 
-// The one position of layer l that is neither held nor padding. Of its children again at most one is worked out.
-fn edge(s: &[u8], n: usize, last: [u8; 32], l: usize, i: usize) -> Mixing
-    requires { ⌜ (l ≤ tallestTree) × (n ≤ longestFile) × R.Mixed n l i ⌝ }
-    ensures { λ r. ⌜ (r .found ≡ E.earlier (now (s .entry)) n last l i) × (r .pad ≡ padValue l) ⌝ }
+// The one position of `layer` that is neither held nor padding. Of its children again at most one is worked out.
+fn edge(store: &[u8], length: usize, last: [u8; 32], layer: usize, index: usize) -> Mixing
+    requires { ⌜ (layer ≤ tallestTree) × (length ≤ longestFile) × R.Mixed length layer index ⌝ }
+    ensures { λ r. ⌜ (r .found ≡ E.earlier (now (store .entry)) length last layer index) × (r .pad ≡ padValue layer) ⌝ }
 {
-    if l == 0 {
+    if layer == 0 {
         let found = Hashed {
             number: 0,
             hash: last,
@@ -65,13 +65,13 @@ fn edge(s: &[u8], n: usize, last: [u8; 32], l: usize, i: usize) -> Mixing
         let pad = pad_value(0);
         return Mixing { found, pad };
     }
-    let d = l - 1;
-    let j = 2 * i;
+    let d = layer - 1;
+    let j = 2 * index;
     let k = j + 1;
-    let w = n / 16384;
+    let w = length / 16384;
     let whole = w >> d;
     if whole <= j {
-        let below = edge(s, n, last, d, j);
+        let below = edge(store, length, last, d, j);
         let left = below.found;
         let pad = below.pad;
         let right = Hashed {
@@ -80,8 +80,8 @@ fn edge(s: &[u8], n: usize, last: [u8; 32], l: usize, i: usize) -> Mixing
         };
         return parent(left, right, pad);
     }
-    let left = held_hash(s, d, j);
-    let b = block_count(n);
+    let left = held_hash(store, d, j);
+    let b = block_count(length);
     let some = covering(b, d);
     if some <= k {
         let pad = pad_value(d);
@@ -91,38 +91,38 @@ fn edge(s: &[u8], n: usize, last: [u8; 32], l: usize, i: usize) -> Mixing
         };
         return parent(left, right, pad);
     }
-    let below = edge(s, n, last, d, k);
+    let below = edge(store, length, last, d, k);
     let right = below.found;
     let pad = below.pad;
     parent(left, right, pad)
 }
 
 // The earlier tree's root.
-fn earlier_root(s: &[u8], n: usize, last: [u8; 32]) -> Hashed
-    requires { ⌜ (1 ≤ n) × (n ≤ longestFile) ⌝ }
-    ensures { λ r. ⌜ r ≡ E.earlierRoot (now (s .entry)) n last ⌝ }
+fn earlier_root(store: &[u8], length: usize, last: [u8; 32]) -> Hashed
+    requires { ⌜ (1 ≤ length) × (length ≤ longestFile) ⌝ }
+    ensures { λ r. ⌜ r ≡ E.earlierRoot (now (store .entry)) length last ⌝ }
 {
-    let b = block_count(n);
+    let b = block_count(length);
     let h = height(b);
-    let w = n / 16384;
+    let w = length / 16384;
     let whole = w >> h;
     if 0 < whole {
-        return held_hash(s, h, 0);
+        return held_hash(store, h, 0);
     }
-    let top = edge(s, n, last, h, 0);
+    let top = edge(store, length, last, h, 0);
     top.found
 }
 
 // ---- the block over the earlier end
 
 // How many bytes it has.
-fn over_size(most: usize, n: usize) -> usize
-    ensures { λ r. ⌜ r ≡ E.overSize most n ⌝ }
+fn over_size(most: usize, length: usize) -> usize
+    ensures { λ r. ⌜ r ≡ E.overSize most length ⌝ }
 {
-    if n % 16384 == 0 {
+    if length % 16384 == 0 {
         return 0;
     }
-    let w = n / 16384;
+    let w = length / 16384;
     block_size(most, w)
 }
 
@@ -166,59 +166,59 @@ fn reaches(x: Hashed, right: bool, root: [u8; 32]) -> u32
 }
 
 // Of an earlier file that ends inside block w.
-fn in_block(s: &[u8], n: usize, root: [u8; 32], block: &[u8]) -> u32
-    requires { ⌜ R.Inside (now s) n (now block) ⌝ }
-    ensures { λ r. ⌜ r ≡ E.extendsNumber (now (s .entry)) n root (now (block .entry)) ⌝ }
+fn in_block(store: &[u8], length: usize, root: [u8; 32], block: &[u8]) -> u32
+    requires { ⌜ R.Inside (now store) length (now block) ⌝ }
+    ensures { λ r. ⌜ r ≡ E.extendsNumber (now (store .entry)) length root (now (block .entry)) ⌝ }
 {
-    let w = n / 16384;
-    let leaf = held_hash(s, 0, w);
+    let w = length / 16384;
+    let leaf = held_hash(store, 0, w);
     if leaf.number != 0 {
         return numbers::NO_ANCHOR;
     }
-    let r = n % 16384;
+    let r = length % 16384;
     let ends = ends_of(block, r);
     let held = leaf.hash;
     let whole = ends.whole;
     let last = ends.last;
     let right = octets::same(held, whole);
-    let found = earlier_root(s, n, last);
+    let found = earlier_root(store, length, last);
     reaches(found, right, root)
 }
 
 // What an earlier file's length and root and the block over its end get.
-fn extends_number(s: &[u8], n: usize, root: [u8; 32], block: &[u8]) -> u32
-    ensures { λ r. ⌜ r ≡ E.extendsNumber (now (s .entry)) n root (now (block .entry)) ⌝ }
+fn extends_number(store: &[u8], length: usize, root: [u8; 32], block: &[u8]) -> u32
+    ensures { λ r. ⌜ r ≡ E.extendsNumber (now (store .entry)) length root (now (block .entry)) ⌝ }
 {
-    let usable = is_usable(s);
+    let usable = is_usable(store);
     if !usable {
         return numbers::UNUSABLE;
     }
-    if n == 0 {
+    if length == 0 {
         return numbers::RULE_BROKEN;
     }
-    let most = file_length(s);
-    if n > most {
+    let most = file_length(store);
+    if length > most {
         return numbers::RULE_BROKEN;
     }
-    let size = over_size(most, n);
+    let size = over_size(most, length);
     if block.len() != size {
         return numbers::WRONG_SIZE;
     }
-    if n % 16384 != 0 {
-        return in_block(s, n, root, block);
+    if length % 16384 != 0 {
+        return in_block(store, length, root, block);
     }
     let none = [0u8; 32];
-    let found = earlier_root(s, n, none);
+    let found = earlier_root(store, length, none);
     reaches(found, true, root)
 }
 
-// Whether the store's file begins with an earlier one of n bytes: 0 with n. Nothing is written.
-pub fn extends(s: &[u8], n: usize, root: [u8; 32], block: &[u8]) -> Answer
-    ensures { λ r. ⌜ r ≡ E.extendsAnswer (now (s .entry)) n root (now (block .entry)) ⌝ }
+// Whether the store's file begins with an earlier one of `length` bytes: 0 with `length`. Nothing is written.
+pub fn extends(store: &[u8], length: usize, root: [u8; 32], block: &[u8]) -> Answer
+    ensures { λ r. ⌜ r ≡ E.extendsAnswer (now (store .entry)) length root (now (block .entry)) ⌝ }
 {
-    let number = extends_number(s, n, root, block);
+    let number = extends_number(store, length, root, block);
     if number == 0 {
-        return numbers::success(n as u64);
+        return numbers::success(length as u64);
     }
     numbers::refusal(number)
 }

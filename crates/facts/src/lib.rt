@@ -26,14 +26,14 @@ fn no_facts(number: u32) -> FactsRead
 }
 
 // The facts of a usable store.
-pub fn read_facts(s: &[u8]) -> FactsRead
-    ensures { λ r. ⌜ r ≡ factsAnswer (now (s .entry)) ⌝ }
+pub fn read_facts(store: &[u8]) -> FactsRead
+    ensures { λ r. ⌜ r ≡ factsAnswer (now (store .entry)) ⌝ }
 {
-    let usable = is_usable(s);
+    let usable = is_usable(store);
     if usable {
-        let length = file_length(s);
-        let plen = piece_length_of(s);
-        let root = facts_root(s);
+        let length = file_length(store);
+        let plen = piece_length_of(store);
+        let root = facts_root(store);
         return FactsRead {
             number: 0,
             length,

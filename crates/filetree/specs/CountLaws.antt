@@ -2,21 +2,19 @@
 -- Assumes nothing.
 use mathlib.Core.Path.{_≡_, refl, sym, ap, _∙_}
 use mathlib.Core.Bool.{Bool, true, false, cond, false≢true}
-use mathlib.Core.List.{List, [], _∷_, _++_, append-assoc, append-nil}
+use mathlib.Core.List.{List, [], _∷_, _++_, append-nil}
 use Prim.Native.Nat.{ℕ, _+_, _-_, _*_, _^_, _≤_, _<_}
 use native.Mathlib.Omega.{arith}
-use native.Mathlib.Numerals.{add-one}
-use lib.ListN.{length, take, drop, set, length-append, length-set}
-use lib.Seq.{set-split}
+use lib.ListN.{length, drop, set, length-append, length-set}
 use lib.Dec.{eqb}
 use borrow.Author.Tests.{eqb-false}
 use Rattle.limits.specs.Limits.{largestTorrent}
 use Rattle.octets.specs.Octets.{pasted}
-use Rattle.octets.specs.OctetsLaws.{pasted-append, pasted-none}
+use Rattle.octets.specs.OctetsLaws.{pasted-append, pasted-none, set-pasted}
 use Rattle.filetree.specs.Token.{endsHere, tokenAt}
 use Rattle.filetree.specs.TokenLaws.{leaf-ends}
 use Rattle.filetree.specs.Tree.{maxElements, Element, Listed, listedAs, down, Files, wrong, files, filesBelow, filesIn, right, listed, rootsOf}
-use Rattle.filetree.specs.TreeLaws.{empty-tree, tree-below, Passed, passed-none, passed-bad, passed-end, passed-closed, passed-file, passed-wrong, inside-ends, passed-directory}
+use Rattle.filetree.specs.TreeLaws.{empty-tree, tree-below, FilesPassed, passed-none, passed-bad, passed-end, passed-closed, passed-file, passed-wrong, inside-ends, passed-directory}
 use Rattle.filetree.specs.Count.{mostRoots, noTally, tallyWith, tallyAfter, countedOf, Within, Counts}
 use Rattle.filetree.specs.declared.token.Token.the-variants.{Opened, Closed, Leaf, BadToken}
 use Rattle.filetree.specs.declared.count.Tally.{Tally}
@@ -61,10 +59,6 @@ one-file c f =
 
 -- ---- the roots that are kept
 
-set-pasted : (s : List ℕ) (k x : ℕ) → k < length s → set s k x ≡ pasted s k (x ∷ [])
-unfolding pasted
-set-pasted s k x h = set-split s k x h ∙ ap (λ (j : ℕ). take k s ++ x ∷ drop j s) (sym (add-one k)) ∙ sym (append-assoc (take k s) (x ∷ []) (drop (k + 1) s))
-
 -- others behind them
 kept-more : (roots₀ roots xs ys : List ℕ) (b m : ℕ) → roots ≡ pasted roots₀ b xs → m ≡ b + length xs → m + length ys ≤ length roots₀ → pasted roots m ys ≡ pasted roots₀ b (xs ++ ys)
 kept-more roots₀ roots xs ys b m e q h = rw (e, q) (pasted-append roots₀ b xs ys (rw q at h))
@@ -93,7 +87,7 @@ right-files x gs k e = rw e (refl, refl)
 
 -- in any directory with these bytes
 pub record CountedAt (t : List ℕ) (at levels : ℕ) (before : Tally) (roots₀ roots : List ℕ) (below i : ℕ) (c : Tally) : Type 0 where
-  pub passed : (path : List Element) → (fs : List Listed) × Passed t (filesBelow levels t at path) below path i fs × (c ≡ tallyAfter before fs) × (roots ≡ pasted roots₀ (before .roots) (rootsOf fs))
+  pub passed : (path : List Element) → (fs : List Listed) × FilesPassed t (filesBelow levels t at path) below path i fs × (c ≡ tallyAfter before fs) × (roots ≡ pasted roots₀ (before .roots) (rootsOf fs))
   pub within : Within i c
   pub sized₀ : length roots₀ ≡ mostRoots
   pub sized : length roots ≡ mostRoots

@@ -2,14 +2,14 @@
 -- steps, whatever it does at a file.
 -- Assumes nothing.
 use mathlib.Core.Path.{_≡_, refl, sym, ap, _∙_}
-use mathlib.Core.Bool.{true, false}
+use mathlib.Core.Bool.{true, false, false≢true}
 use mathlib.Core.List.{List, [], _∷_, _++_, append-assoc, append-nil}
 use Prim.Native.Nat.{ℕ, zero, suc, _+_, _-_, _≤_, _<_}
 use native.Mathlib.Omega.{arith}
 use lib.ListN.{length, drop}
 use Rattle.filetree.specs.Token.{endsHere, tokenAt}
 use Rattle.filetree.specs.TokenLaws.{TokenIn, token-in, token-none, opened-ends, leaf-ends}
-use Rattle.filetree.specs.Tree.{maxElements, Element, Listed, listedAs, down, Files, wrong, files, after, onward, onToken, filesFrom, filesBelow, filesIn}
+use Rattle.filetree.specs.Tree.{maxElements, Element, Listed, listedAs, down, Files, wrong, files, after, onward, onToken, filesFrom, filesBelow, filesIn, right}
 use Rattle.filetree.specs.declared.token.Token.{Token}
 use Rattle.filetree.specs.declared.token.Token.the-variants.{Opened, Closed, Leaf, BadToken}
 
@@ -22,6 +22,24 @@ after-none (files fs k) = refl
 pub after-after : (fs gs : List Listed) (w : Files) → after fs (after gs w) ≡ after (fs ++ gs) w
 after-after fs gs wrong = refl
 after-after fs gs (files hs k) = ap (λ (x : List Listed). files x k) (sym (append-assoc fs gs hs))
+
+-- files with others behind them
+pub split : (xs : List Listed) (w : Files) (fs : List Listed) (k : ℕ) → after xs w ≡ files fs k → (ys : List Listed) × (fs ≡ xs ++ ys)
+split xs wrong fs k e = let z : _≡_ {A = ℕ} 0 1 = cc in absurd (omega arith)
+split xs (files ys j) fs k e = (ys, cc)
+
+pub same-files : (fs gs : List Listed) (j k : ℕ) → files fs j ≡ files gs k → (fs ≡ gs) × (j ≡ k)
+same-files fs gs j k e = (cc, cc)
+
+-- ---- whether a directory is right
+
+pub not-wrong : {A : Type 0} (x : Files) → right x ≡ true → x ≡ wrong → A
+unfolding right
+not-wrong x e q = absurd (false≢true (sym (ap right q) ∙ e))
+
+pub is-right : (x : Files) (fs : List Listed) (k : ℕ) → x ≡ files fs k → right x ≡ true
+unfolding right
+is-right x fs k e = ap right e
 
 -- ---- where a directory ends
 
@@ -90,16 +108,16 @@ from-step sub n t at path x e = ap (onToken sub (λ k. filesFrom sub n t k path)
 -- ---- how far a walk has come
 
 -- in the directory `path`, whose files are `whole`, the files fs are passed, and i is next; `below` levels are left for what is inside
-pub record Passed (t : List ℕ) (whole : Files) (below : ℕ) (path : List Element) (i : ℕ) (fs : List Listed) : Type 0 where
+pub record FilesPassed (t : List ℕ) (whole : Files) (below : ℕ) (path : List Element) (i : ℕ) (fs : List Listed) : Type 0 where
   pub steps : ℕ
   pub enough : length t < i + steps
   pub rest : whole ≡ after fs (filesFrom (filesBelow below t) steps t i path)
 
-pub passed-none : (t : List ℕ) (levels at : ℕ) (path : List Element) → (levels ≡ 0 → ⊥) → Passed t (filesBelow levels t at path) (levels - 1) path at []
+pub passed-none : (t : List ℕ) (levels at : ℕ) (path : List Element) → (levels ≡ 0 → ⊥) → FilesPassed t (filesBelow levels t at path) (levels - 1) path at []
 passed-none t levels at path h =
     record { steps = suc (length t); enough = omega arith; rest = a-level levels t at path h ∙ sym (after-none (filesFrom (filesBelow (levels - 1) t) (suc (length t)) t at path)) }
 
-module _ (t : List ℕ) (whole : Files) (below : ℕ) (path : List Element) (i : ℕ) (fs : List Listed) (w : Passed t whole below path i fs) where
+module _ (t : List ℕ) (whole : Files) (below : ℕ) (path : List Element) (i : ℕ) (fs : List Listed) (w : FilesPassed t whole below path i fs) where
   from-bad : (n : ℕ) → tokenAt t i ≡ BadToken → filesFrom (filesBelow below t) n t i path ≡ wrong
   unfolding filesFrom
   from-bad zero e = refl
@@ -125,7 +143,7 @@ module _ (t : List ℕ) (whole : Files) (below : ℕ) (path : List Element) (i :
     passed-closed e = by-token Closed e .2 ∙ ap (λ (x : List Listed). files x (i + 1)) (append-nil fs)
 
     module _ (a b n r k : ℕ) (e : tokenAt t i ≡ Leaf a b n r k) where
-      pub passed-file : Passed t whole below path k (fs ++ listedAs n r (down path a b) ∷ [])
+      pub passed-file : FilesPassed t whole below path k (fs ++ listedAs n r (down path a b) ∷ [])
       passed-file =
           let x = by-token (Leaf a b n r k) e in
           let y = x .1 in
@@ -144,7 +162,7 @@ module _ (t : List ℕ) (whole : Files) (below : ℕ) (path : List Element) (i :
             let z = y .0 in
             (omega arith, y .1)
 
-        pub passed-directory : Passed t whole below path k (fs ++ gs)
+        pub passed-directory : FilesPassed t whole below path k (fs ++ gs)
         passed-directory =
             let x = by-token (Opened a b) e in
             let y = x .1 in

@@ -20,7 +20,7 @@ ghost use Rattle.filetree.specs.Count.{mostRoots, tallyWith, noTally, co
 pub const ELEMENTS: usize = LEVELS - 4;
 
 // A file that is not empty takes 64 bytes or more: the largest torrent has no more of them.
-pub const MOST: usize = LARGEST_TORRENT / 64;
+pub const MOST_ROOTS: usize = LARGEST_TORRENT / 64;
 
 // How many files there are, and how many of them are not empty.
 pub struct Tally {
@@ -59,9 +59,15 @@ fn count_file(tally: Tally, length: usize, root: usize, roots: &mut [u32]) -> Ta
 }
 
 // The files of a directory, from its first entry on, with so many levels left below it: each directory inside takes one.
-fn count_directory(t: &[u8], at: usize, levels: usize, before: Tally, roots: &mut [u32]) -> Counted
-    requires { ⌜ (L.length (now t) ≤ largestTorrent) × (L.length (now roots) ≡ mostRoots) × Within at before ⌝ }
-    ensures { λ r. ⌜ Counts (now (t .entry)) at levels before (now (roots .entry)) (now (roots .exit)) r ⌝ }
+fn count_directory(
+    tree: &[u8],
+    at: usize,
+    levels: usize,
+    before: Tally,
+    roots: &mut [u32],
+) -> Counted
+    requires { ⌜ (L.length (now tree) ≤ largestTorrent) × (L.length (now roots) ≡ mostRoots) × Within at before ⌝ }
+    ensures { λ r. ⌜ Counts (now (tree .entry)) at levels before (now (roots .entry)) (now (roots .exit)) r ⌝ }
 {
     if levels == 0 {
         return Counted::WrongTree;
@@ -69,8 +75,8 @@ fn count_directory(t: &[u8], at: usize, levels: usize, before: Tally, roots: &mu
     let below = levels - 1;
     let mut i = at;
     let mut tally = before;
-    while i < t.len() {
-        match read_token(t, i) {
+    while i < tree.len() {
+        match read_token(tree, i) {
             Token::BadToken => {
                 return Counted::WrongTree;
             }
@@ -88,7 +94,7 @@ fn count_directory(t: &[u8], at: usize, levels: usize, before: Tally, roots: &mu
                 i = next;
             }
             Token::Opened { start: _, end } => match count_directory(
-                t,
+                tree,
                 end + 1,
                 below,
                 tally,
@@ -110,15 +116,15 @@ fn count_directory(t: &[u8], at: usize, levels: usize, before: Tally, roots: &mu
     Counted::WrongTree
 }
 
-// The files of `file tree`, whose part t is. If the tree is right, the positions of the roots of those that are not empty are then at
+// The files of `file tree`, whose part `tree` is. If the tree is right, the positions of the roots of those that are not empty are then at
 // the start of `roots`, in order.
-pub fn count_files(t: &[u8], roots: &mut [u32]) -> Counted
-    requires { ⌜ (L.length (now t) ≤ largestTorrent) × (L.length (now roots) ≡ mostRoots) ⌝ }
-    ensures { λ r. ⌜ (r ≡ countedOf noTally (filesIn (now (t .entry)))) × (right (filesIn (now (t .entry))) ≡ true → now (roots .exit) ≡ pasted (now (roots .entry)) 0 (rootsOf (listed (filesIn (now (t .entry)))))) ⌝ }
+pub fn count_files(tree: &[u8], roots: &mut [u32]) -> Counted
+    requires { ⌜ (L.length (now tree) ≤ largestTorrent) × (L.length (now roots) ≡ mostRoots) ⌝ }
+    ensures { λ r. ⌜ (r ≡ countedOf noTally (filesIn (now (tree .entry)))) × (right (filesIn (now (tree .entry))) ≡ true → now (roots .exit) ≡ pasted (now (roots .entry)) 0 (rootsOf (listed (filesIn (now (tree .entry)))))) ⌝ }
 {
-    if ends_here(t, 1) {
+    if ends_here(tree, 1) {
         return Counted::WrongTree; // an empty one
     }
     let none = Tally { files: 0, roots: 0 };
-    count_directory(t, 1, ELEMENTS, none, roots)
+    count_directory(tree, 1, ELEMENTS, none, roots)
 }

@@ -18,13 +18,13 @@ fn forbidden(c: u8) -> bool
 }
 
 // Whether none of the `size` bytes from `start` on is forbidden.
-fn bytes_right(s: &[u8], start: usize, size: usize) -> bool
-    requires { ⌜ start + size ≤ length (now s) ⌝ }
-    ensures { λ r. ⌜ r ≡ without slash (cut (now (s .entry)) start size) && without 0 (cut (now (s .entry)) start size) ⌝ }
+fn bytes_right(bytes: &[u8], start: usize, size: usize) -> bool
+    requires { ⌜ start + size ≤ length (now bytes) ⌝ }
+    ensures { λ r. ⌜ r ≡ without slash (cut (now (bytes .entry)) start size) && without 0 (cut (now (bytes .entry)) start size) ⌝ }
 {
     let mut i = 0;
     while i < size {
-        if forbidden(s[start + i]) {
+        if forbidden(bytes[start + i]) {
             return false;
         }
         i += 1;
@@ -33,18 +33,18 @@ fn bytes_right(s: &[u8], start: usize, size: usize) -> bool
 }
 
 // Whether they are `.` or `..`, which lead to the folder itself and out of it.
-fn only_dots(s: &[u8], start: usize, size: usize) -> bool
-    requires { ⌜ start + size ≤ length (now s) ⌝ }
-    ensures { λ r. ⌜ r ≡ same (cut (now (s .entry)) start size) dot || same (cut (now (s .entry)) start size) dots ⌝ }
+fn only_dots(bytes: &[u8], start: usize, size: usize) -> bool
+    requires { ⌜ start + size ≤ length (now bytes) ⌝ }
+    ensures { λ r. ⌜ r ≡ same (cut (now (bytes .entry)) start size) dot || same (cut (now (bytes .entry)) start size) dots ⌝ }
 {
     if size == 1 {
-        return s[start] == b'.';
+        return bytes[start] == b'.';
     }
     if size != 2 {
         return false;
     }
-    let first = s[start];
-    let second = s[start + 1];
+    let first = bytes[start];
+    let second = bytes[start + 1];
     if first != b'.' {
         return false;
     }
@@ -52,15 +52,15 @@ fn only_dots(s: &[u8], start: usize, size: usize) -> bool
 }
 
 // Whether the `size` bytes from `start` on may be a path element. The one test of it: for keys that are read and paths that are written.
-pub fn element_right(s: &[u8], start: usize, size: usize) -> bool
-    requires { ⌜ start + size ≤ length (now s) ⌝ }
-    ensures { λ r. ⌜ r ≡ elementRight (cut (now (s .entry)) start size) ⌝ }
+pub fn element_right(bytes: &[u8], start: usize, size: usize) -> bool
+    requires { ⌜ start + size ≤ length (now bytes) ⌝ }
+    ensures { λ r. ⌜ r ≡ elementRight (cut (now (bytes .entry)) start size) ⌝ }
 {
     if size == 0 {
         return false;
     }
-    if only_dots(s, start, size) {
+    if only_dots(bytes, start, size) {
         return false;
     }
-    bytes_right(s, start, size)
+    bytes_right(bytes, start, size)
 }

@@ -33,10 +33,10 @@ pub enum File {
 }
 
 // The length whose encoding begins at `at`.
-fn length_here(s: &[u8], at: usize) -> Length
-    ensures { λ r. ⌜ r ≡ lengthOf (readInteger at (drop at (now (s .entry)))) ⌝ }
+fn length_here(tree: &[u8], at: usize) -> Length
+    ensures { λ r. ⌜ r ≡ lengthOf (readInteger at (drop at (now (tree .entry)))) ⌝ }
 {
-    match read_integer(s, at) {
+    match read_integer(tree, at) {
         Integer::NoInteger => Length::NoLength,
         Integer::Whole {
             minus,
@@ -55,10 +55,10 @@ fn length_here(s: &[u8], at: usize) -> Length
 }
 
 // The root whose encoding begins at `at`.
-fn root_here(s: &[u8], at: usize) -> Root
-    ensures { λ r. ⌜ r ≡ rootOf (readString at (drop at (now (s .entry)))) ⌝ }
+fn root_here(tree: &[u8], at: usize) -> Root
+    ensures { λ r. ⌜ r ≡ rootOf (readString at (drop at (now (tree .entry)))) ⌝ }
 {
-    match read_string(s, at) {
+    match read_string(tree, at) {
         ByteString::NoString => Root::NoRoot,
         ByteString::Content { start, end } => {
             if end - start == ROOT_SIZE {
@@ -71,39 +71,39 @@ fn root_here(s: &[u8], at: usize) -> Root
 }
 
 // The length in the dictionary at `at`.
-fn read_length(s: &[u8], at: usize) -> Length
-    ensures { λ r. ⌜ r ≡ fileLength (now (s .entry)) at ⌝ }
+fn read_length(tree: &[u8], at: usize) -> Length
+    ensures { λ r. ⌜ r ≡ fileLength (now (tree .entry)) at ⌝ }
 {
-    match find(s, at, b"length") {
+    match find(tree, at, b"length") {
         Found::Missing => Length::NoLength,
-        Found::Part { start, end: _ } => length_here(s, start),
+        Found::Part { start, end: _ } => length_here(tree, start),
     }
 }
 
 // The root in the dictionary at `at`.
-fn read_root(s: &[u8], at: usize) -> Root
-    ensures { λ r. ⌜ r ≡ fileRoot (now (s .entry)) at ⌝ }
+fn read_root(tree: &[u8], at: usize) -> Root
+    ensures { λ r. ⌜ r ≡ fileRoot (now (tree .entry)) at ⌝ }
 {
-    match find(s, at, b"pieces root") {
+    match find(tree, at, b"pieces root") {
         Found::Missing => Root::NoRoot,
-        Found::Part { start, end: _ } => root_here(s, start),
+        Found::Part { start, end: _ } => root_here(tree, start),
     }
 }
 
 // The file whose dictionary is at `at`. A file that is not empty has a root; an empty one has none, of any type.
-pub fn read_file(s: &[u8], at: usize) -> File
-    ensures { λ r. ⌜ r ≡ fileAt (now (s .entry)) at ⌝ }
+pub fn read_file(tree: &[u8], at: usize) -> File
+    ensures { λ r. ⌜ r ≡ fileAt (now (tree .entry)) at ⌝ }
 {
-    match read_length(s, at) {
+    match read_length(tree, at) {
         Length::NoLength => File::WrongFile,
         Length::Bytes(length) => {
             if length == 0 {
-                match find(s, at, b"pieces root") {
+                match find(tree, at, b"pieces root") {
                     Found::Missing => File::Right { length: 0, root: 0 },
                     Found::Part { start: _, end: _ } => File::WrongFile,
                 }
             } else {
-                match read_root(s, at) {
+                match read_root(tree, at) {
                     Root::NoRoot => File::WrongFile,
                     Root::At(root) => File::Right { length, root },
                 }

@@ -9,11 +9,11 @@ ghost use Rattle.filetree.specs.Path.{pathSize, setElement};
 // Two numbers for each element that a path may have.
 pub const PATH: usize = 2 * ELEMENTS;
 
-// Element d of the path is the key start..end.
-pub fn set_element(path: &mut [usize], d: usize, start: usize, end: usize)
-    requires { ⌜ (length (now path) ≡ pathSize) × (d < maxElements) ⌝ }
-    ensures { λ _. ⌜ now (path .exit) ≡ setElement (now (path .entry)) d start end ⌝ }
+// Element `depth` of the path is the key start..end.
+pub fn set_element(path: &mut [usize], depth: usize, start: usize, end: usize)
+    requires { ⌜ (length (now path) ≡ pathSize) × (depth < maxElements) ⌝ }
+    ensures { λ _. ⌜ now (path .exit) ≡ setElement (now (path .entry)) depth start end ⌝ }
 {
-    path[2 * d] = start;
-    path[2 * d + 1] = end;
+    path[2 * depth] = start;
+    path[2 * depth + 1] = end;
 }

@@ -33,24 +33,24 @@ pub enum Token {
 }
 
 // Whether a dictionary ends at `at`.
-pub fn ends_here(s: &[u8], at: usize) -> bool
-    ensures { λ r. ⌜ r ≡ endsHere (drop at (now (s .entry))) ⌝ }
+pub fn ends_here(tree: &[u8], at: usize) -> bool
+    ensures { λ r. ⌜ r ≡ endsHere (drop at (now (tree .entry))) ⌝ }
 {
-    if s.len() <= at {
+    if tree.len() <= at {
         return false;
     }
-    s[at] == b'e'
+    tree[at] == b'e'
 }
 
 // The file with key start..end, length and root, whose dictionary is at `at`: it is all that its node has.
-fn past_file(s: &[u8], start: usize, end: usize, length: usize, root: usize, at: usize) -> Token
-    ensures { λ r. ⌜ r ≡ pastFile (now (s .entry)) start end length root at ⌝ }
+fn past_file(tree: &[u8], start: usize, end: usize, length: usize, root: usize, at: usize) -> Token
+    ensures { λ r. ⌜ r ≡ pastFile (now (tree .entry)) start end length root at ⌝ }
 {
-    match value_end(s, at, LEVELS) {
+    match value_end(tree, at, LEVELS) {
         Walked::Broken => Token::BadToken,
         Walked::TooDeep => Token::BadToken,
         Walked::Past(k) => {
-            if ends_here(s, k) {
+            if ends_here(tree, k) {
                 return Token::Leaf {
                     start,
                     end,
@@ -65,24 +65,24 @@ fn past_file(s: &[u8], start: usize, end: usize, length: usize, root: usize, at:
 }
 
 // The file with key start..end, whose dictionary is at `at`.
-fn file_token(s: &[u8], start: usize, end: usize, at: usize) -> Token
-    ensures { λ r. ⌜ r ≡ fileToken (now (s .entry)) start end at ⌝ }
+fn file_token(tree: &[u8], start: usize, end: usize, at: usize) -> Token
+    ensures { λ r. ⌜ r ≡ fileToken (now (tree .entry)) start end at ⌝ }
 {
-    match read_file(s, at) {
+    match read_file(tree, at) {
         File::WrongFile => Token::BadToken,
-        File::Right { length, root } => past_file(s, start, end, length, root, at),
+        File::Right { length, root } => past_file(tree, start, end, length, root, at),
     }
 }
 
 // The node with key start..end, by its first key at `at`.
-fn first_key(s: &[u8], start: usize, end: usize, at: usize) -> Token
-    ensures { λ r. ⌜ r ≡ firstKey (now (s .entry)) start end (readString at (drop at (now (s .entry)))) ⌝ }
+fn first_key(tree: &[u8], start: usize, end: usize, at: usize) -> Token
+    ensures { λ r. ⌜ r ≡ firstKey (now (tree .entry)) start end (readString at (drop at (now (tree .entry)))) ⌝ }
 {
-    match read_string(s, at) {
+    match read_string(tree, at) {
         ByteString::NoString => Token::BadToken,
         ByteString::Content { start: a, end: b } => {
             if a == b {
-                return file_token(s, start, end, b);
+                return file_token(tree, start, end, b);
             }
             Token::Opened { start, end }
         }
@@ -90,31 +90,31 @@ fn first_key(s: &[u8], start: usize, end: usize, at: usize) -> Token
 }
 
 // The node with key start..end: a dictionary, and not an empty one.
-fn node_token(s: &[u8], start: usize, end: usize) -> Token
-    ensures { λ r. ⌜ r ≡ nodeToken (now (s .entry)) start end ⌝ }
+fn node_token(tree: &[u8], start: usize, end: usize) -> Token
+    ensures { λ r. ⌜ r ≡ nodeToken (now (tree .entry)) start end ⌝ }
 {
-    if is_dictionary(s, end) {
+    if is_dictionary(tree, end) {
         let at = end + 1;
-        if ends_here(s, at) {
+        if ends_here(tree, at) {
             return Token::BadToken; // an empty directory
         }
-        return first_key(s, start, end, at);
+        return first_key(tree, start, end, at);
     }
     Token::BadToken
 }
 
 // The token at `at`. Each key here is a path element.
-pub fn read_token(s: &[u8], at: usize) -> Token
-    ensures { λ r. ⌜ r ≡ tokenAt (now (s .entry)) at ⌝ }
+pub fn read_token(tree: &[u8], at: usize) -> Token
+    ensures { λ r. ⌜ r ≡ tokenAt (now (tree .entry)) at ⌝ }
 {
-    if ends_here(s, at) {
+    if ends_here(tree, at) {
         return Token::Closed;
     }
-    match read_string(s, at) {
+    match read_string(tree, at) {
         ByteString::NoString => Token::BadToken,
         ByteString::Content { start, end } => {
-            if element_right(s, start, end - start) {
-                return node_token(s, start, end);
+            if element_right(tree, start, end - start) {
+                return node_token(tree, start, end);
             }
             Token::BadToken // no path element
         }

@@ -105,62 +105,62 @@ pub fn sizes_of(id: usize) -> Sizes
     exactly(0)
 }
 
-// Whether n bytes are right for a message of these sizes.
-pub fn right_for(z: Sizes, n: usize) -> bool
-    ensures { λ r. ⌜ r ≡ F.rightFor z n ⌝ }
+// Whether `size` bytes are right for a message of these sizes.
+pub fn right_for(sizes: Sizes, size: usize) -> bool
+    ensures { λ r. ⌜ r ≡ F.rightFor sizes size ⌝ }
 {
-    if z.longer {
-        return z.least <= n;
+    if sizes.longer {
+        return sizes.least <= size;
     }
-    n == z.least
+    size == sizes.least
 }
 
-// The 32 bytes of s from i on into room, as many places behind `at`.
-fn put_part(room: &mut [u8], at: usize, s: &[u8], i: usize)
-    requires { ⌜ (i + 32 ≤ length (now s)) × (at + length (now s) ≤ length (now room)) ⌝ }
-    ensures { λ _. ⌜ now (room .exit) ≡ pasted (now (room .entry)) (at + i) (cut (now (s .entry)) i 32) ⌝ }
+// The 32 bytes of `bytes` from i on into room, as many places behind `at`.
+fn put_part(room: &mut [u8], at: usize, bytes: &[u8], i: usize)
+    requires { ⌜ (i + 32 ≤ length (now bytes)) × (at + length (now bytes) ≤ length (now room)) ⌝ }
+    ensures { λ _. ⌜ now (room .exit) ≡ pasted (now (room .entry)) (at + i) (cut (now (bytes .entry)) i 32) ⌝ }
 {
-    let part = octets::hash_at(s, i);
+    let part = octets::hash_at(bytes, i);
     octets::put_hash(room, at + i, part);
 }
 
-// s into room from `at` on, byte by byte.
-fn put_few(room: &mut [u8], at: usize, s: &[u8])
-    requires { ⌜ at + length (now s) ≤ length (now room) ⌝ }
-    ensures { λ _. ⌜ now (room .exit) ≡ pasted (now (room .entry)) at (now (s .entry)) ⌝ }
+// `bytes` into room from `at` on, byte by byte.
+fn put_few(room: &mut [u8], at: usize, bytes: &[u8])
+    requires { ⌜ at + length (now bytes) ≤ length (now room) ⌝ }
+    ensures { λ _. ⌜ now (room .exit) ≡ pasted (now (room .entry)) at (now (bytes .entry)) ⌝ }
 {
     let mut i: usize = 0;
-    while i < s.len() {
-        room[at + i] = s[i];
+    while i < bytes.len() {
+        room[at + i] = bytes[i];
         i += 1;
     }
 }
 
-// 64 bytes of s or more into room, 64 at a time; the last 64 once more, so that none are left over.
-fn put_many(room: &mut [u8], at: usize, s: &[u8])
-    requires { ⌜ (64 ≤ length (now s)) × (at + length (now s) ≤ length (now room)) ⌝ }
-    ensures { λ _. ⌜ now (room .exit) ≡ pasted (now (room .entry)) at (now (s .entry)) ⌝ }
+// 64 bytes of `bytes` or more into room, 64 at a time; the last 64 once more, so that none are left over.
+fn put_many(room: &mut [u8], at: usize, bytes: &[u8])
+    requires { ⌜ (64 ≤ length (now bytes)) × (at + length (now bytes) ≤ length (now room)) ⌝ }
+    ensures { λ _. ⌜ now (room .exit) ≡ pasted (now (room .entry)) at (now (bytes .entry)) ⌝ }
 {
-    let n = s.len();
+    let n = bytes.len();
     let mut i: usize = 0;
     while i + 64 <= n {
-        put_part(room, at, s, i);
-        put_part(room, at, s, i + 32);
+        put_part(room, at, bytes, i);
+        put_part(room, at, bytes, i + 32);
         i += 64;
     }
-    put_part(room, at, s, n - 64);
-    put_part(room, at, s, n - 32);
+    put_part(room, at, bytes, n - 64);
+    put_part(room, at, bytes, n - 32);
 }
 
-// s into room from `at` on.
-pub fn put_bytes(room: &mut [u8], at: usize, s: &[u8])
-    requires { ⌜ at + length (now s) ≤ length (now room) ⌝ }
-    ensures { λ _. ⌜ now (room .exit) ≡ pasted (now (room .entry)) at (now (s .entry)) ⌝ }
+// `bytes` into room from `at` on.
+pub fn put_bytes(room: &mut [u8], at: usize, bytes: &[u8])
+    requires { ⌜ at + length (now bytes) ≤ length (now room) ⌝ }
+    ensures { λ _. ⌜ now (room .exit) ≡ pasted (now (room .entry)) at (now (bytes .entry)) ⌝ }
 {
-    if s.len() < 64 {
-        put_few(room, at, s);
+    if bytes.len() < 64 {
+        put_few(room, at, bytes);
     } else {
-        put_many(room, at, s);
+        put_many(room, at, bytes);
     }
 }
 

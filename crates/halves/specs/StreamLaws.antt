@@ -8,27 +8,15 @@ use native.Mathlib.Omega.{arith}
 use native.Mathlib.Decide.{decLe}
 use native.Mathlib.Nat.{mod-eq-of-lt, mul-add-mod-self-right, div-add-mod', add-assoc, add-mul}
 use lib.ListN.{length, take, drop, replicate, length-append, length-drop, length-replicate, replicate-append-replicate}
-use lib.Seq.{take-all, take-at, take-append-le, take-append-add, drop-append-add, drop-append-le}
+use lib.Seq.{take-all, take-append-le, take-append-add, drop-append-le}
 use lib.Dec.{eqb}
 use borrow.Author.Tests.{eqb-true}
 use Rattle.octets.specs.Octets.{cut}
+use Rattle.octets.specs.OctetsLaws.{cut-behind, zeros-front}
 use Rattle.meaning.specs.Nth.{Nth}
 use Rattle.halves.specs.V1Half.{V1Entry, total, onBoundary}
 use Rattle.sha1.specs.Sha1.{sha1}
 use Rattle.halves.specs.Stream.{StreamOf, none, zeros, content, fileStart, zerosBehind, v1HashAt, HashesAre}
-
--- the first k of n zeros
-zeros-front : (n k : ℕ) → k ≤ n → take {A = ℕ} k (replicate n 0) ≡ replicate k 0
-zeros-front n k h =
-    let e : k + (n - k) ≡ n = omega arith in
-    ap (λ (j : ℕ). take k (replicate {A = ℕ} j 0)) (sym e)
-    ∙ ap (take k) (sym (replicate-append-replicate {A = ℕ} k (n - k) 0))
-    ∙ take-at (replicate k 0) (replicate (n - k) 0) k (length-replicate {A = ℕ} k 0)
-
--- behind a list of n the part from n + x on is the part of the rest from x on
-cut-behind : (a b : List ℕ) (n x k : ℕ) → length a ≡ n → cut (a ++ b) (n + x) k ≡ cut b x k
-unfolding cut
-cut-behind a b n x k l = ap (λ (m : ℕ). take k (drop (m + x) (a ++ b))) (sym l) ∙ ap (take k) (drop-append-add a b x)
 
 first-test : (t : Bool) (n : ℕ) → t ≡ false → t || eqb n 0 ≡ true → n ≡ 0
 first-test true n f g = absurd (false≢true (sym f))
@@ -151,7 +139,7 @@ module _ (plen : ℕ) where
       → cut (a ++ more) (from + x) plen ≡ piece ++ replicate (zerosBehind plen (k + all) (from + x) left) 0
   moved a more piece from k f x all left la ef i =
       let e : from + x ≡ k + (f + x) = omega arith in
-      ap (λ (m : ℕ). cut (a ++ more) m plen) e ∙ cut-behind a more k (f + x) plen la ∙ i
+      cut-behind a more (from + x) (f + x) plen (omega arith) ∙ i
       ∙ ap (λ (z : ℕ). piece ++ replicate z 0) (sym (same-zeros all k (f + x) left) ∙ ap (λ (m : ℕ). zerosBehind plen (k + all) m left) (sym e))
 
   -- piece i of file n, whose content is c, is its bytes and then the zeros behind them; the first entry begins at `at`

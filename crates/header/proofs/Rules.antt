@@ -90,33 +90,33 @@ length-log len e = let l = leb-true len longestRun (last (eqb (2 ^ height len) l
 
 -- ---- the index
 
-pub index-by : (x : Header) (b h d : ℕ) → h ≤ 32 → d ≡ h - x .base → leb (x .index + x .len) (1 * 2 ^ d % 2 ^ 64) ≡ indexRule x b h
+pub index-by : (x : Header) (h d : ℕ) → h ≤ 32 → d ≡ h - x .base → leb (x .index + x .len) (1 * 2 ^ d % 2 ^ 64) ≡ indexRule x h
 unfolding indexRule
-index-by x b h d l e = ap (leb (x .index + x .len)) (shifted-one d (omega arith) ∙ ap (λ (y : ℕ). 2 ^ y) e)
+index-by x h d l e = ap (leb (x .index + x .len)) (shifted-one d (omega arith) ∙ ap (λ (y : ℕ). 2 ^ y) e)
 
 -- ---- all rules
 
-module _ (x : Header) (b h : ℕ) where
-  pub rules-1 : lengthRule (x .len) ≡ false → false ≡ rulesKept x b h
+module _ (x : Header) (h : ℕ) where
+  pub rules-1 : lengthRule (x .len) ≡ false → false ≡ rulesKept x h
   unfolding rulesKept
   rules-1 a = sym (rw a)
 
   module _ (a : lengthRule (x .len) ≡ true) where
-    pub rules-2 : (x .index % x .len ≡ 0 → ⊥) → false ≡ rulesKept x b h
+    pub rules-2 : (x .index % x .len ≡ 0 → ⊥) → false ≡ rulesKept x h
     unfolding rulesKept
     rules-2 c = sym (rw (a, ne-eqb (x .index % x .len) 0 c))
 
     module _ (c : x .index % x .len ≡ 0) (k : ℕ) (e : k ≡ height (x .len)) where
-      pub rules-3 : h < x .base + k → false ≡ rulesKept x b h
+      pub rules-3 : h < x .base + k → false ≡ rulesKept x h
       unfolding rulesKept
       rules-3 d = sym (rw (a, eq-eqb (x .index % x .len) 0 c, ← e, lt-leb (x .base + k) h d))
 
       module _ (d : x .base + k ≤ h) where
-        pub rules-4 : h ≤ x .base + x .proof → false ≡ rulesKept x b h
+        pub rules-4 : h ≤ x .base + x .proof → false ≡ rulesKept x h
         unfolding rulesKept
         rules-4 f = sym (rw (a, eq-eqb (x .index % x .len) 0 c, ← e, le-leb (x .base + k) h d, le-ltb (x .base + x .proof) h f))
 
-        pub rules-5 : x .base + x .proof < h → indexRule x b h ≡ rulesKept x b h
+        pub rules-5 : x .base + x .proof < h → indexRule x h ≡ rulesKept x h
         unfolding rulesKept
         rules-5 f = sym (rw (a, eq-eqb (x .index % x .len) 0 c, ← e, le-leb (x .base + k) h d, lt-ltb (x .base + x .proof) h f))
 

@@ -1,4 +1,4 @@
--- 01, "The hash messages": the 49 bytes before the hashes, the rules that a header keeps against a file's B and h, and the place
+-- 01, "The hash messages": the 49 bytes before the hashes, the rules that a header keeps against a file's height h, and the place
 -- in the tree that it names.
 --
 --   layer 3                   anchor                   base layer 0, index 4, length 2, proof layers 2:
@@ -67,17 +67,17 @@ unfoldable pub lengthRule : ℕ → Bool
 lengthRule len = eqb (2 ^ log2 len) len && leb 2 len && leb len longestRun
 
 -- index + length is at most 2^(h - base): the run ends within its layer, whose last positions may be padding; base is at most h by
--- another rule, and the blocks b play no part
-unfoldable pub indexRule : Header → ℕ → ℕ → Bool
-indexRule x b h = leb (x .index + x .len) (2 ^ (h - x .base))
+-- another rule
+unfoldable pub indexRule : Header → ℕ → Bool
+indexRule x h = leb (x .index + x .len) (2 ^ (h - x .base))
 
 -- index is a multiple of length; base + log2(length) is at most h; base + proof layers is at most h - 1
-unfoldable pub rulesKept : Header → ℕ → ℕ → Bool
-rulesKept x b h =
-    lengthRule (x .len) && eqb (x .index % x .len) 0 && leb (x .base + log2 (x .len)) h && ltb (x .base + x .proof) h && indexRule x b h
+unfoldable pub rulesKept : Header → ℕ → Bool
+rulesKept x h =
+    lengthRule (x .len) && eqb (x .index % x .len) 0 && leb (x .base + log2 (x .len)) h && ltb (x .base + x .proof) h && indexRule x h
 
--- the same, rule by rule
-pub record Kept (x : Header) (b h : ℕ) : Type 0 where
+-- a header that keeps the rules, one by one
+pub record Kept (x : Header) (h : ℕ) : Type 0 where
   pub power : 2 ^ log2 (x .len) ≡ x .len
   pub two : 2 ≤ x .len
   pub most : x .len ≤ longestRun

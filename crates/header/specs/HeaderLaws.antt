@@ -14,18 +14,18 @@ use Rattle.header.specs.declared.Header.{Header}
 use Rattle.limits.specs.Limits.{longestRun}
 use Rattle.header.specs.Header.{lengthRule, indexRule, rulesKept, Kept}
 
-index-kept : (x : Header) (b h : ℕ) → indexRule x b h ≡ true → x .index + x .len ≤ 2 ^ (h - x .base)
+index-kept : (x : Header) (h : ℕ) → indexRule x h ≡ true → x .index + x .len ≤ 2 ^ (h - x .base)
 unfolding indexRule
-index-kept x b h e = leb-true (x .index + x .len) (2 ^ (h - x .base)) e
+index-kept x h e = leb-true (x .index + x .len) (2 ^ (h - x .base)) e
 
-kept-index : (x : Header) (b h : ℕ) → x .index + x .len ≤ 2 ^ (h - x .base) → indexRule x b h ≡ true
+kept-index : (x : Header) (h : ℕ) → x .index + x .len ≤ 2 ^ (h - x .base) → indexRule x h ≡ true
 unfolding indexRule
-kept-index x b h l = le-leb (x .index + x .len) (2 ^ (h - x .base)) l
+kept-index x h l = le-leb (x .index + x .len) (2 ^ (h - x .base)) l
 
-pub rules-kept : (x : Header) (b h : ℕ) → rulesKept x b h ≡ true → Kept x b h
+pub rules-kept : (x : Header) (h : ℕ) → rulesKept x h ≡ true → Kept x h
 unfolding rulesKept lengthRule
-rules-kept x b h e =
-    let p = and-eq-true-iff _ (indexRule x b h) .0 e in
+rules-kept x h e =
+    let p = and-eq-true-iff _ (indexRule x h) .0 e in
     let q = and-eq-true-iff _ (ltb (x .base + x .proof) h) .0 (p .0) in
     let r = and-eq-true-iff _ (leb (x .base + height (x .len)) h) .0 (q .0) in
     let t = and-eq-true-iff (eqb (2 ^ height (x .len)) (x .len) && leb 2 (x .len) && leb (x .len) longestRun) (eqb (x .index % x .len) 0) .0 (r .0) in
@@ -38,12 +38,12 @@ rules-kept x b h e =
       multiple = eqb-true _ _ (t .1);
       within = leb-true _ _ (r .1);
       above = ltb-true _ _ (q .1);
-      inside = omega (arith, index-kept x b h (p .1));
+      inside = omega (arith, index-kept x h (p .1));
     }
 
-pub kept-rules : (x : Header) (b h : ℕ) → Kept x b h → rulesKept x b h ≡ true
+pub kept-rules : (x : Header) (h : ℕ) → Kept x h → rulesKept x h ≡ true
 unfolding rulesKept lengthRule
-kept-rules x b h f =
+kept-rules x h f =
     rw (
       eq-eqb (2 ^ height (x .len)) (x .len) (f .power),
       le-leb 2 (x .len) (f .two),
@@ -51,7 +51,7 @@ kept-rules x b h f =
       eq-eqb (x .index % x .len) 0 (f .multiple),
       le-leb (x .base + height (x .len)) h (f .within),
       lt-ltb (x .base + x .proof) h (f .above),
-      kept-index x b h (omega (arith, f .inside)),
+      kept-index x h (omega (arith, f .inside)),
     )
 
 -- a length from 2 on has a logarithm from 1 on
@@ -63,8 +63,8 @@ log-some len h = by (height len) (height-enough len)
     by (suc k) e = omega arith
 
 -- the run's top is in its layer
-pub top-inside : (x : Header) (b h : ℕ) → Kept x b h → x .index / x .len < 2 ^ (h - (x .base + height (x .len)))
-top-inside x b h f =
+pub top-inside : (x : Header) (h : ℕ) → Kept x h → x .index / x .len < 2 ^ (h - (x .base + height (x .len)))
+top-inside x h f =
     let k : ℕ = height (x .len) in
     let t : ℕ = h - (x .base + k) in
     let s : h - x .base ≡ t + k = omega (arith, f .within) in

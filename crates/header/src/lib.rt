@@ -30,14 +30,14 @@ pub struct Place {
     pub top: usize,
 }
 
-pub fn header_of(m: &[u8]) -> Header
-    requires { ⌜ Hd.headerSize ≤ length (now m) ⌝ }
-    ensures { λ r. ⌜ (r ≡ Hd.headerOf (now (m .entry))) × Hd.Small r ⌝ }
+pub fn header_of(message: &[u8]) -> Header
+    requires { ⌜ Hd.headerSize ≤ length (now message) ⌝ }
+    ensures { λ r. ⌜ (r ≡ Hd.headerOf (now (message .entry))) × Hd.Small r ⌝ }
 {
-    let base = octets::number_at(m, 33, 4);
-    let index = octets::number_at(m, 37, 4);
-    let len = octets::number_at(m, 41, 4);
-    let proof = octets::number_at(m, 45, 4);
+    let base = octets::number_at(message, 33, 4);
+    let index = octets::number_at(message, 37, 4);
+    let len = octets::number_at(message, 41, 4);
+    let proof = octets::number_at(message, 45, 4);
     Header {
         base,
         index,
@@ -46,31 +46,31 @@ pub fn header_of(m: &[u8]) -> Header
     }
 }
 
-pub fn is_hashes(m: &[u8]) -> bool
-    ensures { λ r. ⌜ r ≡ Hd.isHashes (now (m .entry)) ⌝ }
+pub fn is_hashes(message: &[u8]) -> bool
+    ensures { λ r. ⌜ r ≡ Hd.isHashes (now (message .entry)) ⌝ }
 {
-    if m.len() < HEADER_SIZE {
+    if message.len() < HEADER_SIZE {
         return false;
     }
-    m[0] == HASHES
+    message[0] == HASHES
 }
 
-pub fn is_request(m: &[u8]) -> bool
-    ensures { λ r. ⌜ r ≡ Hd.isRequest (now (m .entry)) ⌝ }
+pub fn is_request(message: &[u8]) -> bool
+    ensures { λ r. ⌜ r ≡ Hd.isRequest (now (message .entry)) ⌝ }
 {
-    if m.len() != HEADER_SIZE {
+    if message.len() != HEADER_SIZE {
         return false;
     }
-    m[0] == REQUEST
+    message[0] == REQUEST
 }
 
-pub fn is_reject(m: &[u8]) -> bool
-    ensures { λ r. ⌜ r ≡ Hd.isReject (now (m .entry)) ⌝ }
+pub fn is_reject(message: &[u8]) -> bool
+    ensures { λ r. ⌜ r ≡ Hd.isReject (now (message .entry)) ⌝ }
 {
-    if m.len() != HEADER_SIZE {
+    if message.len() != HEADER_SIZE {
         return false;
     }
-    m[0] == REJECT
+    message[0] == REJECT
 }
 
 fn length_rule(len: usize) -> bool
@@ -86,27 +86,27 @@ fn length_rule(len: usize) -> bool
     1 << k == len
 }
 
-// Whether the run ends within its layer, in a tree of height h. Two numbers of 32 bits: their sum can't wrap.
-fn index_rule(x: Header, b: usize, h: usize) -> bool
-    requires { ⌜ Hd.Small x × (x .base ≤ h) × (h ≤ 32) ⌝ }
-    ensures { λ r. ⌜ r ≡ Hd.indexRule x b h ⌝ }
+// Whether the run ends within its layer, in a tree of `height`. Two numbers of 32 bits: their sum can't wrap.
+fn index_rule(header: Header, height: usize) -> bool
+    requires { ⌜ Hd.Small header × (header .base ≤ height) × (height ≤ 32) ⌝ }
+    ensures { λ r. ⌜ r ≡ Hd.indexRule header height ⌝ }
 {
-    let base = x.base;
-    let index = x.index;
-    let len = x.len;
-    let d = h - base;
+    let base = header.base;
+    let index = header.index;
+    let len = header.len;
+    let d = height - base;
     index + len <= 1 << d
 }
 
-// Whether a header keeps the rules, for a file of b blocks and height h.
-pub fn keeps_rules(x: Header, b: usize, h: usize) -> bool
-    requires { ⌜ Hd.Small x × (h ≤ 32) ⌝ }
-    ensures { λ r. ⌜ r ≡ Hd.rulesKept x b h ⌝ }
+// Whether a header keeps the rules, for a file of `height`.
+pub fn keeps_rules(header: Header, height: usize) -> bool
+    requires { ⌜ Hd.Small header × (height ≤ 32) ⌝ }
+    ensures { λ r. ⌜ r ≡ Hd.rulesKept header height ⌝ }
 {
-    let base = x.base;
-    let index = x.index;
-    let len = x.len;
-    let proof = x.proof;
+    let base = header.base;
+    let index = header.index;
+    let len = header.len;
+    let proof = header.proof;
     let fine = length_rule(len);
     if !fine {
         return false;
@@ -115,24 +115,24 @@ pub fn keeps_rules(x: Header, b: usize, h: usize) -> bool
         return false;
     }
     let k = tree::geometry::log2(len);
-    if h < base + k {
+    if height < base + k {
         return false;
     }
-    if h <= base + proof {
+    if height <= base + proof {
         return false;
     }
-    index_rule(x, b, h)
+    index_rule(header, height)
 }
 
 // The place that a header names which keeps the rules.
-pub fn place_of(x: Header, b: usize, h: usize) -> Place
-    requires { ⌜ Hd.Small x × (h ≤ 32) × (Hd.rulesKept x b h ≡ true) ⌝ }
-    ensures { λ r. ⌜ r ≡ Hd.placeOf x h ⌝ }
+pub fn place_of(header: Header, height: usize) -> Place
+    requires { ⌜ Hd.Small header × (height ≤ 32) × (Hd.rulesKept header height ≡ true) ⌝ }
+    ensures { λ r. ⌜ r ≡ Hd.placeOf header height ⌝ }
 {
-    let base = x.base;
-    let index = x.index;
-    let len = x.len;
-    let proof = x.proof;
+    let base = header.base;
+    let index = header.index;
+    let len = header.len;
+    let proof = header.proof;
     let k = tree::geometry::log2(len);
     let mut u = 0;
     if k <= proof + 1 {
@@ -140,6 +140,6 @@ pub fn place_of(x: Header, b: usize, h: usize) -> Place
     }
     let l = base + k;
     let i = index / len;
-    let top = tree::geometry::node_number(h, l, i);
+    let top = tree::geometry::node_number(height, l, i);
     Place { k, u, top }
 }

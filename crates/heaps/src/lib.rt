@@ -18,46 +18,46 @@ use tree::geometry::covering;
 use tree::geometry::height;
 use tree::geometry::piece_layer;
 
-// Hash i of a run, and `past` after its last one.
-fn leaf_in(run: &[u8], past: [u8; 32], i: usize) -> [u8; 32]
-    ensures { λ r. ⌜ (length r ≡ 32) × ((leaf : ℕ → List ℕ) → Over (now (run .entry)) past leaf → r ≡ leaf i) ⌝ }
+// Hash i of a run, and `pad` after its last one.
+fn leaf_in(run: &[u8], pad: [u8; 32], i: usize) -> [u8; 32]
+    ensures { λ r. ⌜ (length r ≡ 32) × ((leaf : ℕ → List ℕ) → Over (now (run .entry)) pad leaf → r ≡ leaf i) ⌝ }
 {
     let c = run.len() / 32;
     if i >= c {
-        return past;
+        return pad;
     }
     hash_at(run, 32 * i)
 }
 
-// The m hashes of a run from number `from` on become the leaves of a heap.
-fn load(heap: &mut [u8], run: &[u8], past: [u8; 32], m: usize, from: usize)
-    requires { ⌜ (length (now heap) ≡ 64 * m) × (from + m < 2 ^ 64) ⌝ }
-    ensures { λ _. ⌜ (length (now (heap .exit)) ≡ 64 * m) × ((leaf : ℕ → List ℕ) → Over (now (run .entry)) past leaf → (y : ℕ) → y < m → cut (now (heap .exit)) (32 * (m + y)) 32 ≡ leaf (from + y)) ⌝ }
+// The `leaves` hashes of a run from number `from` on become the leaves of a heap.
+fn load(heap: &mut [u8], run: &[u8], pad: [u8; 32], leaves: usize, from: usize)
+    requires { ⌜ (length (now heap) ≡ 64 * leaves) × (from + leaves < 2 ^ 64) ⌝ }
+    ensures { λ _. ⌜ (length (now (heap .exit)) ≡ 64 * leaves) × ((leaf : ℕ → List ℕ) → Over (now (run .entry)) pad leaf → (y : ℕ) → y < leaves → cut (now (heap .exit)) (32 * (leaves + y)) 32 ≡ leaf (from + y)) ⌝ }
 {
     let mut y: usize = 0;
-    while y < m {
-        let h = leaf_in(run, past, from + y);
-        put_hash(heap, 32 * (m + y), h);
+    while y < leaves {
+        let h = leaf_in(run, pad, from + y);
+        put_hash(heap, 32 * (leaves + y), h);
         y += 1;
     }
 }
 
-// The heap over the m hashes of a run from number j * m on.
-pub fn work(heap: &mut [u8], run: &[u8], past: [u8; 32], m: usize, j: usize)
-    requires { ⌜ (length (now heap) ≡ 64 * m) × (1 ≤ m) × (j * m + m < 2 ^ 64) ⌝ }
-    ensures { λ _. ⌜ ((leaf : ℕ → List ℕ) → Over (now (run .entry)) past leaf → Worked leaf m j (now (heap .exit))) ⌝ }
+// The heap over the `leaves` hashes of a run from number `index` * `leaves` on.
+pub fn work(heap: &mut [u8], run: &[u8], pad: [u8; 32], leaves: usize, index: usize)
+    requires { ⌜ (length (now heap) ≡ 64 * leaves) × (1 ≤ leaves) × (index * leaves + leaves < 2 ^ 64) ⌝ }
+    ensures { λ _. ⌜ ((leaf : ℕ → List ℕ) → Over (now (run .entry)) pad leaf → Worked leaf leaves index (now (heap .exit))) ⌝ }
 {
-    let from = j * m;
-    load(heap, run, past, m, from);
-    lanes::runs::fill_heap(heap, m);
+    let from = index * leaves;
+    load(heap, run, pad, leaves, from);
+    lanes::runs::fill_heap(heap, leaves);
 }
 
 // The node above them.
-fn top(heap: &mut [u8], run: &[u8], past: [u8; 32], m: usize, j: usize) -> [u8; 32]
-    requires { ⌜ (length (now heap) ≡ 64 * m) × (1 ≤ m) × (j * m + m < 2 ^ 64) ⌝ }
-    ensures { λ r. ⌜ ((leaf : ℕ → List ℕ) (k : ℕ) → Over (now (run .entry)) past leaf → m ≡ 2 ^ k → r ≡ node leaf k j) ⌝ }
+fn top(heap: &mut [u8], run: &[u8], pad: [u8; 32], leaves: usize, index: usize) -> [u8; 32]
+    requires { ⌜ (length (now heap) ≡ 64 * leaves) × (1 ≤ leaves) × (index * leaves + leaves < 2 ^ 64) ⌝ }
+    ensures { λ r. ⌜ ((leaf : ℕ → List ℕ) (k : ℕ) → Over (now (run .entry)) pad leaf → leaves ≡ 2 ^ k → r ≡ node leaf k index) ⌝ }
 {
-    work(heap, run, past, m, j);
+    work(heap, run, pad, leaves, index);
     hash_at(&*heap, 32)
 }
 
@@ -75,25 +75,25 @@ fn raise(v: [u8; 32], k: usize) -> [u8; 32]
     h
 }
 
-// The node k layers above a run of hashes, number j, by heaps over at most 2^e of them; past the run each hash is `past`.
-fn run_node(room: &mut [u8], e: usize, run: &[u8], past: [u8; 32], k: usize, j: usize) -> [u8; 32]
+// The node k layers above a run of hashes, number j, by heaps over at most 2^e of them; past the run each hash is `pad`.
+fn run_node(room: &mut [u8], e: usize, run: &[u8], pad: [u8; 32], k: usize, j: usize) -> [u8; 32]
     requires { ⌜ (length (now room) ≡ 64 * 2 ^ e) × ((j + 1) * 2 ^ k < 2 ^ 64) ⌝ }
-    ensures { λ r. ⌜ ((leaf : ℕ → List ℕ) → Over (now (run .entry)) past leaf → r ≡ node leaf k j) ⌝ }
+    ensures { λ r. ⌜ ((leaf : ℕ → List ℕ) → Over (now (run .entry)) pad leaf → r ≡ node leaf k j) ⌝ }
 {
     let c = covering(run.len() / 32, k);
     if j >= c {
-        return raise(past, k);
+        return raise(pad, k);
     }
     if k <= e {
         let m = 1 << k;
         let size = 64 * m;
-        return top(&mut room[0..size], run, past, m, j);
+        return top(&mut room[0..size], run, pad, m, j);
     }
     let d = k - 1;
     let j2 = 2 * j;
     let j3 = j2 + 1;
-    let l = run_node(room, e, run, past, d, j2);
-    let r = run_node(room, e, run, past, d, j3);
+    let l = run_node(room, e, run, pad, d, j2);
+    let r = run_node(room, e, run, pad, d, j3);
     pair(l, r)
 }
 
@@ -102,17 +102,17 @@ const HEAP_LAYERS: usize = 6;
 
 const HEAP_SIZE: usize = 4096;
 
-// Whether the layer of a file of n bytes gives its root. `past` is the padding value of the piece layer.
-pub fn gives_root(layer: &[u8], past: [u8; 32], plen: usize, n: usize, root: &[u8]) -> bool
-    requires { ⌜ (isPieceLength plen ≡ true) × (hasLayer n plen ≡ true) × (length (now root) ≡ 32) × (past ≡ padValue (pieceLayer plen)) ⌝ }
-    ensures { λ r. ⌜ r ≡ same (layerRoot (now (layer .entry)) (pieceLayer plen) (G.height (blockCount n))) (now (root .entry)) ⌝ }
+// Whether the layer of a file of `size` bytes gives its root. `pad` is the padding value of the piece layer.
+pub fn gives_root(layer: &[u8], pad: [u8; 32], plen: usize, size: usize, root: &[u8]) -> bool
+    requires { ⌜ (isPieceLength plen ≡ true) × (hasLayer size plen ≡ true) × (length (now root) ≡ 32) × (pad ≡ padValue (pieceLayer plen)) ⌝ }
+    ensures { λ r. ⌜ r ≡ same (layerRoot (now (layer .entry)) (pieceLayer plen) (G.height (blockCount size))) (now (root .entry)) ⌝ }
 {
     let p = piece_layer(plen);
-    let b = block_count(n);
+    let b = block_count(size);
     let h = height(b);
     let k = h - p;
     let mut room = [0u8; HEAP_SIZE];
-    let worked = run_node(&mut room, HEAP_LAYERS, layer, past, k, 0);
+    let worked = run_node(&mut room, HEAP_LAYERS, layer, pad, k, 0);
     let mine = hash_at(root, 0);
     octets::same(worked, mine)
 }

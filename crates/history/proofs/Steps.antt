@@ -1,7 +1,7 @@
 -- One turn of each loop, and what a part of a burst leads to, as the code takes it.
 -- Assumes nothing.
 use mathlib.Core.Path.{_≡_, refl, ap, ap₂, sym, _∙_}
-use mathlib.Core.Bool.{Bool, true, false, cond, _&&_}
+use mathlib.Core.Bool.{true, cond, and-false}
 use mathlib.Core.List.{List, [], _∷_, _++_}
 use Prim.Native.Nat.{ℕ, zero, suc, _+_, _-_, _*_, _/_, _%_, _^_, _≤_, _<_}
 use native.Mathlib.Nat.{mul-assoc, mul-comm, zero-mul, div-add-mod', pow-succ', pow-suc, div-div-eq-div-mul, mod-eq-of-lt}
@@ -11,7 +11,7 @@ use lib.Seq.{drop-drop}
 use lib.Pow.{pow-pos, pow-mono}
 use lib.Dec.{eqb, ltb}
 use borrow.Author.Tests.{eq-eqb, ne-eqb, lt-ltb, le-ltb}
-use Rattle.octets.specs.Octets.{pasted, zeroHash}
+use Rattle.octets.specs.Octets.{pasted}
 use Rattle.limits.specs.Limits.{tallestTree}
 use Rattle.sha256.specs.Sha256.{pairHash}
 use Rattle.running.specs.Bursts.{stateOf, absorbed, hashOf}
@@ -100,22 +100,22 @@ unfolding grownBy notedBy
 noted-rest s layer [] ys = refl
 noted-rest s layer (x ∷ xs) ys = noted-rest (grown s x) _ xs ys
 
--- a history that has bytes of a block under way passes no piece
-pub noted-inside : (s : History) (layer : List ℕ) → isPieceLength (s .«piece_length») ≡ true → (s .length % blockLength ≡ 0 → ⊥) → noted s layer ≡ layer
+-- a history that ends within a piece passes none
+pub noted-not : (s : History) (layer : List ℕ) → (s .length % s .«piece_length» ≡ 0 → ⊥) → noted s layer ≡ layer
 unfolding noted
+noted-not s layer n = rw (ne-eqb (s .length % s .«piece_length») 0 n, and-false (ltb 0 (s .length)))
+
+-- and so does one that has bytes of a block under way
+pub noted-inside : (s : History) (layer : List ℕ) → isPieceLength (s .«piece_length») ≡ true → (s .length % blockLength ≡ 0 → ⊥) → noted s layer ≡ layer
 noted-inside s layer good n =
     let g : s .length % s .«piece_length» ≡ 0 → ⊥ = λ e.
     n (whole-pieces (s .length) (s .«piece_length») (2 ^ pieceLayer (s .«piece_length»)) (piece-length-form (s .«piece_length») good .1) e) in
-    rw (ne-eqb (s .length % s .«piece_length») 0 g, and-false (ltb 0 (s .length)))
+    noted-not s layer g
   where
     whole-pieces : (n plen m : ℕ) → plen ≡ blockLength * m → n % plen ≡ 0 → n % blockLength ≡ 0
     whole-pieces n plen m f e =
         let d : n / plen * plen ≡ blockLength * (m * (n / plen)) = ap (λ (x : ℕ). n / plen * x) f ∙ mul-comm (n / plen) (blockLength * m) ∙ mul-assoc blockLength m (n / plen) in
         omega (arith, e, d, div-add-mod' n plen)
-
-    and-false : (t : Bool) → (t && false) ≡ false
-    and-false true = refl
-    and-false false = refl
 
 -- so a part writes what its first byte does
 pub noted-part : (y : ℕ) (ys : List ℕ) (s : History) (layer : List ℕ) → isPieceLength (s .«piece_length») ≡ true → s .length % blockLength + length (y ∷ ys) ≤ blockLength
@@ -137,14 +137,6 @@ piece-layer-below plen good = omega (arith, piece-length-form plen good .0)
 pub noted-none : (s : History) (layer : List ℕ) → s .length ≡ 0 → noted s layer ≡ layer
 unfolding noted
 noted-none s layer e = rw (le-ltb 0 (s .length) (omega (arith, e)))
-
-pub noted-not : (s : History) (layer : List ℕ) → (s .length % s .«piece_length» ≡ 0 → ⊥) → noted s layer ≡ layer
-unfolding noted
-noted-not s layer n = rw (ne-eqb (s .length % s .«piece_length») 0 n, and-false (ltb 0 (s .length)))
-  where
-    and-false : (t : Bool) → (t && false) ≡ false
-    and-false true = refl
-    and-false false = refl
 
 pub noted-yes : (s : History) (layer : List ℕ) → (s .length ≡ 0 → ⊥) → s .length % s .«piece_length» ≡ 0
     → noted s layer ≡ pasted layer (32 * (s .length / s .«piece_length» - 1)) (nodeAt (s .nodes) (pieceLayer (s .«piece_length»)))
@@ -241,10 +233,6 @@ above-more nodes leaf left child pad up i j l ec ep ej el eu =
 
 pub half-more : (i j l : ℕ) → j ≡ i / 2 ^ l → j / 2 ≡ i / 2 ^ (l + 1)
 half-more i j l e = let s : l + 1 ≡ suc l = omega arith in rw (s, e, pow-suc) (div-div-eq-div-mul i (2 ^ l) 2)
-
-pub zero-pad : zeroHash ≡ padValue 0
-unfolding padValue
-zero-pad = refl
 
 pub above-none : (nodes leaf : List ℕ) (i : ℕ) → leaf ≡ openAbove nodes leaf i 0
 unfolding openAbove

@@ -40,7 +40,7 @@ possibleCounts s =
     isPieceLength (s .«piece_length») && leb (s .length) longestFile && eqb (s .block .total) (s .length % blockLength)
     && eqb (s .block .«tail_size») (s .block .total % 64)
 
--- the same, one by one
+-- a state whose counts some bursts give, count by count
 pub record Possible (s : History) : Type 0 where
   pub pieces : isPieceLength (s .«piece_length») ≡ true
   pub short : s .length ≤ longestFile

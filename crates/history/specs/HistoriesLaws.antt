@@ -1,7 +1,7 @@
 -- One burst and the end, from the state of the bytes x: what the theorems about histories are made of.
 -- Assumes nothing.
 use mathlib.Core.Path.{_≡_, refl, ap, ap₂, sym, subst, _∙_}
-use mathlib.Core.Bool.{Bool, true, false, _&&_, false≢true}
+use mathlib.Core.Bool.{Bool, true, false, and-false, false≢true}
 use mathlib.Core.List.{List, [], _++_, append-assoc}
 use Prim.Native.Nat.{ℕ, zero, suc, _+_, _-_, _*_, _/_, _%_, _^_, _≤_, _<_}
 use native.Mathlib.Nat.{mul-assoc, mul-comm, add-mul, one-mul, zero-mul, le-div-iff-mul-le}
@@ -93,10 +93,6 @@ module _ (plen : ℕ) (x b layer : List ℕ) (taken : moreAnswer (historyOf plen
   taken-layer =
       sym (layer-taken (historyOf plen x) b layer (notedBy (historyOf plen x) layer b) (sym number-is) refl)
       ∙ noted-by plen taken-pieces x b (x ++ b) layer refl (λ m. room-said plen x b (length layer) (says .2) m)
-
-and-false : (a : Bool) → a && false ≡ false
-and-false true = refl
-and-false false = refl
 
 room-left : (plen : ℕ) (x : List ℕ) (k m n : ℕ) → isPieceLength plen ≡ true → length x + k ≤ n → 32 * passed n plen ≤ m → noRoomFor (historyOf plen x) k m ≡ false
 unfolding noRoomFor historyOf

@@ -44,9 +44,10 @@ history-block plen x = refl
 
 -- ---- the open node of each layer
 
-zero-leaf : zeroHash ≡ padValue 0
+-- padding in the lowest layer is 32 zero bytes
+pub zero-pad : zeroHash ≡ padValue 0
 unfolding padValue
-zero-leaf = refl
+zero-pad = refl
 
 padding-at : (b k i : ℕ) → b ≤ i * 2 ^ k → Padding b k i
 unfolding Padding
@@ -69,7 +70,7 @@ open-node plen x zero l = rw (history-length plen x, history-block plen x, hash-
     by-case : Dec (length x % blockLength ≡ 0) → cond (eqb (length x % blockLength) 0) zeroHash (sha256 (openBlock x)) ≡ leafOf x (length x / blockLength / 2 ^ 0)
     by-case (yes e) =
         rw (eq-eqb (length x % blockLength) 0 e, one)
-        (zero-leaf ∙ sym (leaf-padding x (length x / blockLength) (block-outside (length x) (length x / blockLength) (omega (arith, e)))))
+        (zero-pad ∙ sym (leaf-padding x (length x / blockLength) (block-outside (length x) (length x / blockLength) (omega (arith, e)))))
     by-case (no n) = rw (ne-eqb (length x % blockLength) 0 n, one) (open-leaf x n)
 open-node plen x (suc k) l = by-case (ℕ-discrete (length x / blockLength / 2 ^ k % 2) 1) (open-node plen x k (omega arith))
   where
@@ -183,7 +184,7 @@ root-of-history plen x l = rw (history-length plen x) (by-case (ℕ-discrete (le
         no-block = padding-at (blockCount (length x)) (height (blockCount (length x))) 0 (omega (arith, few-blocks))
 
         empty-root : zeroHash ≡ padValue (height (blockCount (length x)))
-        empty-root = zero-leaf ∙ ap padValue (sym (ap height few-blocks ∙ height-zero))
+        empty-root = zero-pad ∙ ap padValue (sym (ap height few-blocks ∙ height-zero))
     by-case (no n) =
         let h : ℕ = height (blockCount (length x)) in
         let one : pieceCount (length x) (blockLength * 2 ^ height (blockCount (length x))) - 1 ≡ 0 =

@@ -1,7 +1,7 @@
 -- What a burst writes to the lent layer: the hashes of the pieces that the history runs past, and nothing else.
 -- Assumes nothing.
 use mathlib.Core.Path.{_≡_, refl, ap, sym, _∙_}
-use mathlib.Core.Bool.{Bool, true, false, _&&_, and-eq-true-iff}
+use mathlib.Core.Bool.{true, _&&_, and-false, and-eq-true-iff}
 use mathlib.Core.List.{List, [], _∷_, _++_, append-assoc, append-nil}
 use Prim.Native.Nat.{ℕ, zero, suc, _+_, _-_, _*_, _/_, _%_, _^_, _≤_, _<_}
 use native.Mathlib.Nat.{add-mul, one-mul, zero-mul, div-div-eq-div-mul, div-lt-iff-lt-mul, div-add-mod', mod-lt, one-le-mul, add-zero}
@@ -134,10 +134,6 @@ module _ (plen : ℕ) (good : isPieceLength plen ≡ true) where
   pub noted-within : (x layer : List ℕ) → (length x % plen ≡ 0 → ⊥) → noted (historyOf plen x) layer ≡ layer
   unfolding noted historyOf
   noted-within x layer n = rw (ne-eqb (length x % plen) 0 n, and-false (ltb 0 (length x)))
-    where
-      and-false : (t : Bool) → (t && false) ≡ false
-      and-false true = refl
-      and-false false = refl
 
   pub noted-first : (x layer : List ℕ) → length x ≡ 0 → noted (historyOf plen x) layer ≡ layer
   unfolding noted historyOf

@@ -115,15 +115,15 @@ fn finish(nodes: &mut [u8], i: usize, leaf: [u8; 32])
 }
 
 // The state after a part that ends within a block or with it.
-fn grow(h: History, part: &[u8]) -> History
-    requires { ⌜ (0 < length (now part)) × (h .length % blockLength + length (now part) ≤ blockLength) × (h .length + length (now part) ≤ longestFile) × (h .block .total ≡ h .length % blockLength) × (h .block .«tail_size» ≡ h .block .total % 64) ⌝ }
-    ensures { λ r. ⌜ (r ≡ G.grownBy h (now (part .entry))) × (r .«piece_length» ≡ h .«piece_length») × (r .length ≡ h .length + length (now (part .entry))) × (r .block .total ≡ r .length % blockLength) × (r .block .«tail_size» ≡ r .block .total % 64) ⌝ }
+fn grow(history: History, part: &[u8]) -> History
+    requires { ⌜ (0 < length (now part)) × (history .length % blockLength + length (now part) ≤ blockLength) × (history .length + length (now part) ≤ longestFile) × (history .block .total ≡ history .length % blockLength) × (history .block .«tail_size» ≡ history .block .total % 64) ⌝ }
+    ensures { λ r. ⌜ (r ≡ G.grownBy history (now (part .entry))) × (r .«piece_length» ≡ history .«piece_length») × (r .length ≡ history .length + length (now (part .entry))) × (r .block .total ≡ r .length % blockLength) × (r .block .«tail_size» ≡ r .block .total % 64) ⌝ }
 {
-    let plen = h.piece_length;
-    let before = h.length as usize;
+    let plen = history.piece_length;
+    let before = history.length as usize;
     let now_length = before + part.len();
-    let old = h.block;
-    let mut nodes = h.nodes;
+    let old = history.block;
+    let mut nodes = history.nodes;
     let block = running::absorb(old, part);
     if now_length % 16384 == 0 {
         let leaf = running::hash_of(block);
@@ -144,19 +144,19 @@ fn grow(h: History, part: &[u8]) -> History
 }
 
 // The lent layer as a byte comes: where it runs past a piece, the piece's hash is written.
-fn note(h: History, layer: &mut [u8])
-    requires { ⌜ (isPieceLength (h .«piece_length») ≡ true) × (0 < h .length → h .length % h .«piece_length» ≡ 0 → 32 * (h .length / h .«piece_length») ≤ length (now layer)) ⌝ }
-    ensures { λ _. ⌜ now (layer .exit) ≡ G.noted h (now (layer .entry)) ⌝ }
+fn note(history: History, layer: &mut [u8])
+    requires { ⌜ (isPieceLength (history .«piece_length») ≡ true) × (0 < history .length → history .length % history .«piece_length» ≡ 0 → 32 * (history .length / history .«piece_length») ≤ length (now layer)) ⌝ }
+    ensures { λ _. ⌜ now (layer .exit) ≡ G.noted history (now (layer .entry)) ⌝ }
 {
-    let n = h.length as usize;
-    let plen = h.piece_length as usize;
+    let n = history.length as usize;
+    let plen = history.piece_length as usize;
     if n == 0 {
         return;
     }
     if n % plen != 0 {
         return;
     }
-    let nodes = h.nodes;
+    let nodes = history.nodes;
     let p = piece_layer(plen);
     let hash = hash_at(&nodes, 32 * p);
     let i = n / plen - 1;
@@ -166,12 +166,12 @@ fn note(h: History, layer: &mut [u8])
 // ---- a burst
 
 // Whether some bursts give such counts.
-fn is_possible(h: History) -> bool
-    ensures { λ r. ⌜ r ≡ W.possibleCounts h ⌝ }
+fn is_possible(history: History) -> bool
+    ensures { λ r. ⌜ r ≡ W.possibleCounts history ⌝ }
 {
-    let n = h.length as usize;
-    let block = h.block;
-    if is_piece_length(h.piece_length as usize) {
+    let n = history.length as usize;
+    let block = history.block;
+    if is_piece_length(history.piece_length as usize) {
         if n > limits::LONGEST_FILE {
             return false;
         }
@@ -195,12 +195,12 @@ fn passed(n: usize, plen: usize) -> usize
 }
 
 // Whether a hash that a burst of k bytes makes due doesn't fit a layer of m.
-fn no_room(h: History, k: usize, m: usize) -> bool
-    requires { ⌜ h .length + k ≤ longestFile ⌝ }
-    ensures { λ r. ⌜ r ≡ W.noRoomFor h k m ⌝ }
+fn no_room(history: History, k: usize, m: usize) -> bool
+    requires { ⌜ history .length + k ≤ longestFile ⌝ }
+    ensures { λ r. ⌜ r ≡ W.noRoomFor history k m ⌝ }
 {
-    let n = h.length as usize;
-    let plen = h.piece_length as usize;
+    let n = history.length as usize;
+    let plen = history.piece_length as usize;
     let before = passed(n, plen);
     let after = passed(n + k, plen);
     if before < after {
@@ -210,15 +210,15 @@ fn no_room(h: History, k: usize, m: usize) -> bool
 }
 
 // The number for a burst of k bytes and a layer of m.
-fn more_number(h: History, k: usize, m: usize) -> u32
-    ensures { λ r. ⌜ r ≡ W.moreNumber h k m ⌝ }
+fn more_number(history: History, k: usize, m: usize) -> u32
+    ensures { λ r. ⌜ r ≡ W.moreNumber history k m ⌝ }
 {
-    if is_possible(h) {
-        let left = limits::LONGEST_FILE - h.length as usize;
+    if is_possible(history) {
+        let left = limits::LONGEST_FILE - history.length as usize;
         if k > left {
             return numbers::FACTS_OUT_OF_RANGE;
         }
-        if no_room(h, k, m) {
+        if no_room(history, k, m) {
             return numbers::NO_ROOM;
         }
         return 0;
@@ -252,10 +252,10 @@ fn within_block(n: usize, left: usize) -> usize
 }
 
 // How many of the bytes that are left are taken at once: those of the block under way, or eight whole blocks where none is begun.
-fn part_size(h: History, left: usize) -> usize
-    ensures { λ r. ⌜ P.PartSize h left r ⌝ }
+fn part_size(history: History, left: usize) -> usize
+    ensures { λ r. ⌜ P.PartSize history left r ⌝ }
 {
-    let n = h.length as usize;
+    let n = history.length as usize;
     let size = within_block(n, left);
     if left < EIGHT_BLOCKS {
         return size;
@@ -263,22 +263,22 @@ fn part_size(h: History, left: usize) -> usize
     if n % 16384 != 0 {
         return size;
     }
-    if is_begun(h.block) {
+    if is_begun(history.block) {
         return EIGHT_BLOCKS;
     }
     size
 }
 
 // The state after a whole block whose leaf is given, where none is begun.
-fn grow_block(h: History, leaf: [u8; 32]) -> History
-    requires { ⌜ h .length + blockLength ≤ longestFile ⌝ }
-    ensures { λ r. ⌜ r ≡ P.withLeaf h leaf ⌝ }
+fn grow_block(history: History, leaf: [u8; 32]) -> History
+    requires { ⌜ history .length + blockLength ≤ longestFile ⌝ }
+    ensures { λ r. ⌜ r ≡ P.withLeaf history leaf ⌝ }
 {
-    let before = h.length as usize;
-    let mut nodes = h.nodes;
+    let before = history.length as usize;
+    let mut nodes = history.nodes;
     finish(&mut nodes, before / 16384, leaf);
     History {
-        piece_length: h.piece_length,
+        piece_length: history.piece_length,
         length: (before + 16384) as u64,
         block: running::begin(),
         nodes,
@@ -286,12 +286,12 @@ fn grow_block(h: History, leaf: [u8; 32]) -> History
 }
 
 // Eight whole blocks: their leaves are worked out side by side, and finished one after the other.
-fn grow8(h: History, part: &[u8], layer: &mut [u8]) -> History
-    requires { ⌜ (length (now part) ≡ 8 * blockLength) × (h .length + length (now part) ≤ longestFile) × P.NoneBegun h × P.Due h (length (now part)) (length (now layer)) ⌝ }
-    ensures { λ r. ⌜ P.Grows h (now (part .entry)) (now (layer .entry)) r (now (layer .exit)) ⌝ }
+fn grow8(history: History, part: &[u8], layer: &mut [u8]) -> History
+    requires { ⌜ (length (now part) ≡ 8 * blockLength) × (history .length + length (now part) ≤ longestFile) × P.NoneBegun history × P.Due history (length (now part)) (length (now layer)) ⌝ }
+    ensures { λ r. ⌜ P.Grows history (now (part .entry)) (now (layer .entry)) r (now (layer .exit)) ⌝ }
 {
     let leaves = hash8(part);
-    let mut t = h;
+    let mut t = history;
     let mut x: usize = 0;
     while x < 8 {
         note(t, layer);
@@ -304,24 +304,24 @@ fn grow8(h: History, part: &[u8], layer: &mut [u8]) -> History
 }
 
 // The state after a part, and before it the hash of a piece that it runs past.
-fn take_part(h: History, part: &[u8], layer: &mut [u8]) -> History
-    requires { ⌜ (0 < length (now part)) × (h .length + length (now part) ≤ longestFile) × P.Part h (length (now part)) × P.Due h (length (now part)) (length (now layer)) ⌝ }
-    ensures { λ r. ⌜ P.Grows h (now (part .entry)) (now (layer .entry)) r (now (layer .exit)) ⌝ }
+fn take_part(history: History, part: &[u8], layer: &mut [u8]) -> History
+    requires { ⌜ (0 < length (now part)) × (history .length + length (now part) ≤ longestFile) × P.Part history (length (now part)) × P.Due history (length (now part)) (length (now layer)) ⌝ }
+    ensures { λ r. ⌜ P.Grows history (now (part .entry)) (now (layer .entry)) r (now (layer .exit)) ⌝ }
 {
     if part.len() > 16384 {
-        return grow8(h, part, layer);
+        return grow8(history, part, layer);
     }
-    let later = grow(h, part);
-    note(h, layer);
+    let later = grow(history, part);
+    note(history, layer);
     later
 }
 
 // The burst part by part.
-fn run(h: History, burst: &[u8], layer: &mut [u8]) -> History
-    requires { ⌜ Possible h × (h .length + length (now burst) ≤ longestFile) × (W.noRoomFor h (length (now burst)) (length (now layer)) ≡ false) ⌝ }
-    ensures { λ r. ⌜ (r ≡ G.grownBy h (now (burst .entry))) × (now (layer .exit) ≡ G.notedBy h (now (layer .entry)) (now (burst .entry))) ⌝ }
+fn run(history: History, burst: &[u8], layer: &mut [u8]) -> History
+    requires { ⌜ Possible history × (history .length + length (now burst) ≤ longestFile) × (W.noRoomFor history (length (now burst)) (length (now layer)) ≡ false) ⌝ }
+    ensures { λ r. ⌜ (r ≡ G.grownBy history (now (burst .entry))) × (now (layer .exit) ≡ G.notedBy history (now (layer .entry)) (now (burst .entry))) ⌝ }
 {
-    let mut t = h;
+    let mut t = history;
     let mut at = 0;
     while at < burst.len() {
         let n = part_size(t, burst.len() - at);
@@ -335,28 +335,31 @@ fn run(h: History, burst: &[u8], layer: &mut [u8]) -> History
 
 // Takes a burst: 9 for counts that no bursts give, 10 past the longest file, 11 if a hash due doesn't fit the layer, else 0.
 // A refusal hands back the state as it was given, and leaves the layer.
-pub fn more(h: History, burst: &[u8], layer: &mut [u8]) -> HistoryAnswer
-    ensures { λ r. ⌜ (r ≡ W.moreAnswer h (now (burst .entry)) (now (layer .entry))) × (now (layer .exit) ≡ W.moreLayer h (now (burst .entry)) (now (layer .entry))) ⌝ }
+pub fn more(before: History, burst: &[u8], layer: &mut [u8]) -> HistoryAnswer
+    ensures { λ r. ⌜ (r ≡ W.moreAnswer before (now (burst .entry)) (now (layer .entry))) × (now (layer .exit) ≡ W.moreLayer before (now (burst .entry)) (now (layer .entry))) ⌝ }
 {
-    let number = more_number(h, burst.len(), layer.len());
+    let number = more_number(before, burst.len(), layer.len());
     if number == 0 {
-        let history = run(h, burst, layer);
+        let history = run(before, burst, layer);
         return HistoryAnswer { number: 0, history };
     }
-    HistoryAnswer { number, history: h }
+    HistoryAnswer {
+        number,
+        history: before,
+    }
 }
 
 // ---- the end
 
 // The block under way as a leaf; zero if there is none.
-fn open_leaf(h: History) -> [u8; 32]
-    requires { ⌜ h .block .«tail_size» ≡ h .block .total % 64 ⌝ }
-    ensures { λ r. ⌜ r ≡ G.openLeaf h ⌝ }
+fn open_leaf(history: History) -> [u8; 32]
+    requires { ⌜ history .block .«tail_size» ≡ history .block .total % 64 ⌝ }
+    ensures { λ r. ⌜ r ≡ G.openLeaf history ⌝ }
 {
-    if h.length % 16384 == 0 {
+    if history.length % 16384 == 0 {
         return [0u8; 32];
     }
-    let block = h.block;
+    let block = history.block;
     running::hash_of(block)
 }
 
@@ -392,30 +395,30 @@ fn open_above(nodes: &[u8], leaf: [u8; 32], i: usize, k: usize) -> [u8; 32]
 }
 
 // The node of layer k over the last byte.
-fn last_node(h: History, k: usize) -> [u8; 32]
-    requires { ⌜ (h .block .«tail_size» ≡ h .block .total % 64) × (k < G.nodeCount) ⌝ }
-    ensures { λ r. ⌜ r ≡ G.lastNode h k ⌝ }
+fn last_node(history: History, k: usize) -> [u8; 32]
+    requires { ⌜ (history .block .«tail_size» ≡ history .block .total % 64) × (k < G.nodeCount) ⌝ }
+    ensures { λ r. ⌜ r ≡ G.lastNode history k ⌝ }
 {
-    let n = h.length as usize;
+    let n = history.length as usize;
     let size = 16384 << k;
-    let nodes = h.nodes;
+    let nodes = history.nodes;
     if n % size == 0 {
         return hash_at(&nodes, 32 * k);
     }
-    let leaf = open_leaf(h);
+    let leaf = open_leaf(history);
     open_above(&nodes, leaf, n / 16384, k)
 }
 
 // The pieces root, from the state alone; zero for an empty history.
-fn root_of(h: History) -> [u8; 32]
-    requires { ⌜ (h .block .«tail_size» ≡ h .block .total % 64) × (h .length ≤ longestFile) ⌝ }
-    ensures { λ r. ⌜ r ≡ G.rootOf h ⌝ }
+fn root_of(history: History) -> [u8; 32]
+    requires { ⌜ (history .block .«tail_size» ≡ history .block .total % 64) × (history .length ≤ longestFile) ⌝ }
+    ensures { λ r. ⌜ r ≡ G.rootOf history ⌝ }
 {
-    let n = h.length as usize;
+    let n = history.length as usize;
     if n == 0 {
         return [0u8; 32];
     }
-    last_node(h, height(block_count(n)))
+    last_node(history, height(block_count(n)))
 }
 
 // How many bytes the piece layer has.
@@ -430,11 +433,11 @@ fn layer_size(n: usize, plen: usize) -> usize
 }
 
 // The number at the end, for a layer of m bytes.
-fn end_number(h: History, m: usize) -> u32
-    ensures { λ r. ⌜ r ≡ W.endNumber h m ⌝ }
+fn end_number(history: History, m: usize) -> u32
+    ensures { λ r. ⌜ r ≡ W.endNumber history m ⌝ }
 {
-    if is_possible(h) {
-        if m < layer_size(h.length as usize, h.piece_length as usize) {
+    if is_possible(history) {
+        if m < layer_size(history.length as usize, history.piece_length as usize) {
             return numbers::NO_ROOM;
         }
         return 0;
@@ -443,15 +446,15 @@ fn end_number(h: History, m: usize) -> u32
 }
 
 // Writes the last piece's hash, if there is a layer.
-fn put_last(h: History, layer: &mut [u8])
-    requires { ⌜ Possible h × (W.layerSize h ≤ length (now layer)) ⌝ }
-    ensures { λ _. ⌜ now (layer .exit) ≡ W.withLast h (now (layer .entry)) ⌝ }
+fn put_last(history: History, layer: &mut [u8])
+    requires { ⌜ Possible history × (W.layerSize history ≤ length (now layer)) ⌝ }
+    ensures { λ _. ⌜ now (layer .exit) ≡ W.withLast history (now (layer .entry)) ⌝ }
 {
-    let n = h.length as usize;
-    let plen = h.piece_length as usize;
+    let n = history.length as usize;
+    let plen = history.piece_length as usize;
     if has_layer(n, plen) {
         let p = piece_layer(plen);
-        let hash = last_node(h, p);
+        let hash = last_node(history, p);
         let at = layer_size(n, plen) - 32;
         put_hash(layer, at, hash);
     }
@@ -459,18 +462,18 @@ fn put_last(h: History, layer: &mut [u8])
 
 // N, the pieces root and the piece layer's size; 9 for counts that no bursts give, 11 if the layer doesn't fit.
 // The state is a copy: it may go on.
-pub fn end(h: History, layer: &mut [u8]) -> HistoryEnd
-    ensures { λ r. ⌜ (r ≡ W.endAnswer h (now (layer .entry))) × (now (layer .exit) ≡ W.endLayer h (now (layer .entry))) ⌝ }
+pub fn end(history: History, layer: &mut [u8]) -> HistoryEnd
+    ensures { λ r. ⌜ (r ≡ W.endAnswer history (now (layer .entry))) × (now (layer .exit) ≡ W.endLayer history (now (layer .entry))) ⌝ }
 {
-    let number = end_number(h, layer.len());
-    let n = h.length as usize;
+    let number = end_number(history, layer.len());
+    let n = history.length as usize;
     if number == 0 {
-        put_last(h, layer);
+        put_last(history, layer);
         return HistoryEnd {
             number: 0,
-            length: h.length,
-            root: root_of(h),
-            layer_size: layer_size(n, h.piece_length as usize) as u64,
+            length: history.length,
+            root: root_of(history),
+            layer_size: layer_size(n, history.piece_length as usize) as u64,
         };
     }
     let none = [0u8; 32];

@@ -2,7 +2,7 @@
 -- Assumes nothing.
 use mathlib.Core.Path.{_≡_, refl, sym, ap, _∙_}
 use mathlib.Core.Bool.{Bool, true, false, cond, _&&_, false≢true}
-use mathlib.Core.List.{List, [], _∷_, _++_}
+use mathlib.Core.List.{List, [], _∷_, _++_, map-append}
 use Prim.Native.Nat.{ℕ, zero, suc, _+_, _-_, _*_, _≤_, _<_}
 use native.Mathlib.Omega.{arith}
 use lib.ListN.{length, take, set, length-append}
@@ -12,8 +12,8 @@ use borrow.Author.Tests.{eq-eqb, ne-eqb}
 use Rattle.bencode.specs.Grammar.{list, Items}
 use Rattle.filetree.specs.Token.{tokenAt}
 use Rattle.filetree.specs.TokenLaws.{leaf-ends, opened-ends}
-use Rattle.filetree.specs.Tree.{maxElements, Element, Listed, listedAs, down, Files, wrong, files, after, filesFrom, filesBelow, right}
-use Rattle.filetree.specs.TreeLaws.{Passed, passed-none, passed-bad, passed-end, passed-closed, passed-file, passed-wrong, passed-directory}
+use Rattle.filetree.specs.Tree.{maxElements, Element, Listed, listedAs, down, Files, wrong, files, filesFrom, filesBelow, right}
+use Rattle.filetree.specs.TreeLaws.{FilesPassed, passed-none, passed-bad, passed-end, passed-closed, passed-file, passed-wrong, passed-directory, split, same-files, not-wrong, is-right}
 use Rattle.filetree.specs.Path.{pathSize, setElement, Holds}
 use Rattle.filetree.specs.PathLaws.{holds-length, holds-down, set-length}
 use Rattle.filetree.specs.Reading.{elements, readFile, readFiles}
@@ -88,26 +88,6 @@ module _ (v : List ℕ) (c : ℕ) (us : Items) (a : Ahead v c us) (f : File) whe
 
 -- ---- laws of files and their places
 
--- a right directory is not wrong
-not-wrong : {A : Type 0} (x : Files) → right x ≡ true → x ≡ wrong → A
-unfolding right
-not-wrong x e q = absurd (false≢true (sym (ap right q) ∙ e))
-
-is-right : (x : Files) (fs : List Listed) (k : ℕ) → x ≡ files fs k → right x ≡ true
-unfolding right
-is-right x fs k e = ap right e
-
-split : (xs : List Listed) (w : Files) (fs : List Listed) (k : ℕ) → after xs w ≡ files fs k → (ys : List Listed) × (fs ≡ xs ++ ys)
-split xs wrong fs k e = let z : _≡_ {A = ℕ} 0 1 = cc in absurd (omega arith)
-split xs (files ys j) fs k e = (ys, cc)
-
-same-places : (fs gs : List Listed) (j k : ℕ) → files fs j ≡ files gs k → (fs ≡ gs) × (j ≡ k)
-same-places fs gs j k e = (cc, cc)
-
-read-append : (t : List ℕ) (fs gs : List Listed) → readFiles t (fs ++ gs) ≡ readFiles t fs ++ readFiles t gs
-read-append t [] gs = refl
-read-append t (f ∷ fs) gs = ap (λ (l : List File). readFile t f ∷ l) (read-append t fs gs)
-
 inside-down : (n : ℕ) (p : List Element) (a b : ℕ) → AllInside n p → a ≤ b → b ≤ n → AllInside n (down p a b)
 unfolding AllInside
 inside-down n [] a b i h g = (h, g, tt)
@@ -119,6 +99,10 @@ take-fewer (suc m) zero l h = absurd (omega arith)
 take-fewer (suc m) (suc n) [] h = refl
 take-fewer (suc m) (suc n) (x ∷ xs) h = ap (λ (y : List ℕ). x ∷ y) (take-fewer m n xs (omega arith))
 
+-- a directory inside ends behind its opening
+pub inside-behind : {t v : List ℕ} (i : ℕ) {a b below d : ℕ} {path path′ : List ℕ} {k d2 : ℕ} → tokenAt t i ≡ Opened a b → Compares t v (b + 1) below d path path′ (Past k d2) → (i < k) × (k ≤ length t)
+inside-behind {t} i {a} {b} e x = let y = x .ends .0 in let z = opened-ends t i a b e .0 in (omega arith, x .ends .1)
+
 -- ---- how far the walk has come
 
 pub record CompareAt (t v : List ℕ) (at levels c : ℕ) (path₀ path : List ℕ) (below i d : ℕ) : Type 0 where
@@ -126,10 +110,10 @@ pub record CompareAt (t v : List ℕ) (at levels c : ℕ) (path₀ path : List �
   pub sized : length path ≡ pathSize
   pub kept : take (2 * (maxElements - levels)) path ≡ take (2 * (maxElements - levels)) path₀
   pub so-far : (p : List Element) → Holds path₀ (maxElements - levels) p → AllInside (length t) p → right (filesBelow levels t at p) ≡ true → (vs : Items) → Ahead v c vs
-      → (fs : List Listed) × Passed t (filesBelow levels t at p) below p i fs × (us : Items) × (afterFiles vs (readFiles t fs) ≡ left us) × Ahead v d us
+      → (fs : List Listed) × FilesPassed t (filesBelow levels t at p) below p i fs × (us : Items) × (afterFiles vs (readFiles t fs) ≡ left us) × Ahead v d us
 
-pub compare-begin : (t v : List ℕ) (at levels c : ℕ) (path : List ℕ) → (levels ≡ 0 → ⊥) → length path ≡ pathSize → CompareAt t v at levels c path path (levels - 1) at c
-compare-begin t v at levels c path h l =
+pub compare-begin : {t v : List ℕ} {at levels c : ℕ} {path : List ℕ} → (levels ≡ 0 → ⊥) → length path ≡ pathSize → CompareAt t v at levels c path path (levels - 1) at c
+compare-begin {t} {at} {levels} h l =
     record { in-order = omega arith; sized = l; kept = refl; so-far = λ p w a r vs b. ([], passed-none t levels at p h, vs, (unfold afterFiles in refl), b) }
 
 module _ (t v : List ℕ) (at levels c : ℕ) (path₀ : List ℕ) where
@@ -150,7 +134,7 @@ module _ (t v : List ℕ) (at levels c : ℕ) (path₀ : List ℕ) where
       moved : (k : ℕ) (l : Left) → l ≡ differ → OutcomeIs v k l Differ
       moved k l e = rw e refl
 
-module _ (t v : List ℕ) (at levels c : ℕ) (path₀ path : List ℕ) (below i d : ℕ) (w : CompareAt t v at levels c path₀ path below i d) where
+module _ {t v : List ℕ} {at levels c : ℕ} {path₀ path : List ℕ} {below i d : ℕ} (w : CompareAt t v at levels c path₀ path below i d) where
   abbrev whole : List Element → Files
   whole p = filesBelow levels t at p
 
@@ -179,12 +163,12 @@ module _ (t v : List ℕ) (at levels c : ℕ) (path₀ path : List ℕ) (below i
             → OutcomeIs v k (afterFiles vs (readFiles t fs)) (Past (i + 1) d)
         go p o a fs k q vs b =
             let x = w .so-far p o a (is-right (whole p) fs k q) vs b in
-            let y = same-places (x .0) fs (i + 1) k (sym (passed-closed t (whole p) below p i (x .0) (x .1) h e) ∙ q) in
+            let y = same-files (x .0) fs (i + 1) k (sym (passed-closed t (whole p) below p i (x .0) (x .1) h e) ∙ q) in
             moved k (afterFiles vs (readFiles t fs)) (x .2) (ap (λ (l : List Listed). afterFiles vs (readFiles t l)) (sym (y .0)) ∙ x .3) (y .1) (x .4)
 
     -- ---- a file
 
-    module _ (a b m r k : ℕ) (e : tokenAt t i ≡ Leaf a b m r k) (lv : levels ≤ maxElements) (nz : levels ≡ 0 → ⊥) (path′ : List ℕ) (ep : path′ ≡ setElement path depth a b) where
+    module _ {a b m r k : ℕ} (e : tokenAt t i ≡ Leaf a b m r k) (lv : levels ≤ maxElements) (nz : levels ≡ 0 → ⊥) {path′ : List ℕ} (ep : path′ ≡ setElement path depth a b) where
       -- the array has its path
       kept-file : (p : List Element) → Holds path₀ depth p → AllInside (length t) p → Kept (length t) path′ (depth + 1) (down p a b)
       kept-file p o i2 =
@@ -205,7 +189,7 @@ module _ (t v : List ℕ) (at levels c : ℕ) (path₀ path : List ℕ) (below i
           → afterFiles vs (readFiles t (fs ++ listedAs m r (down p a b) ∷ [])) ≡ afterNext (nextFile us) (the-one p)
       unfolding afterFiles
       met-next p vs us fs q =
-          ap (afterFiles vs) (read-append t fs (listedAs m r (down p a b) ∷ []))
+          ap (afterFiles vs) (map-append (readFile t) fs (listedAs m r (down p a b) ∷ []))
           ∙ after-append vs (readFiles t fs) (the-one p ∷ [])
           ∙ ap (λ (l : Left). onLeft l (λ ws. afterFiles ws (the-one p ∷ []))) q
           ∙ by-left (afterNext (nextFile us) (the-one p))
@@ -237,13 +221,13 @@ module _ (t v : List ℕ) (at levels c : ℕ) (path₀ path : List ℕ) (below i
               let s = split (x .0 ++ f ∷ []) (filesFrom (filesBelow below t) (y .steps) t k p) fs j (sym (y .rest) ∙ q) in
               let n = never (afterNext (nextFile (x .2)) (the-one p)) (g (x .2) (x .4) (down p a b) (kept-file p o i2) (the-one p) (one-is p .0) (one-is p .1)) in
               ap (λ (l : List Listed). afterFiles vs (readFiles t l)) (s .1)
-              ∙ ap (afterFiles vs) (read-append t (x .0 ++ f ∷ []) (s .0))
+              ∙ ap (afterFiles vs) (map-append (readFile t) (x .0 ++ f ∷ []) (s .0))
               ∙ after-append vs (readFiles t (x .0 ++ f ∷ [])) (readFiles t (s .0))
               ∙ ap (λ (l : Left). onLeft l (λ ws. afterFiles ws (readFiles t (s .0)))) (met-next p vs (x .2) (x .0) (x .3) ∙ n)
 
       -- it is this one
-      pub compare-next : (d2 : ℕ) → Meets (Behind d2) → CompareAt t v at levels c path₀ path′ below k d2
-      compare-next d2 g =
+      pub compare-next : {d2 : ℕ} → Meets (Behind d2) → CompareAt t v at levels c path₀ path′ below k d2
+      compare-next {d2} g =
           record {
             in-order = let x = w .in-order in let y = leaf-ends t i a b m r k e .0 in omega arith;
             sized = ap length ep ∙ set-length path depth a b ∙ w .sized;
@@ -256,7 +240,7 @@ module _ (t v : List ℕ) (at levels c : ℕ) (path₀ path : List ℕ) (below i
           taken (left us) q = let y = q .1 in let z : q .0 ≡ d2 = cc in (us, refl, rw z at (q .2))
 
           go : (p : List Element) → Holds path₀ depth p → AllInside (length t) p → right (whole p) ≡ true → (vs : Items) → Ahead v c vs
-              → (fs : List Listed) × Passed t (whole p) below p k fs × (us : Items) × (afterFiles vs (readFiles t fs) ≡ left us) × Ahead v d2 us
+              → (fs : List Listed) × FilesPassed t (whole p) below p k fs × (us : Items) × (afterFiles vs (readFiles t fs) ≡ left us) × Ahead v d2 us
           go p o i2 q vs ah =
               let x = w .so-far p o i2 q vs ah in
               let n = taken (afterNext (nextFile (x .2)) (the-one p)) (g (x .2) (x .4) (down p a b) (kept-file p o i2) (the-one p) (one-is p .0) (one-is p .1)) in
@@ -264,7 +248,7 @@ module _ (t v : List ℕ) (at levels c : ℕ) (path₀ path : List ℕ) (below i
 
     -- ---- a directory inside
 
-    module _ (a b : ℕ) (e : tokenAt t i ≡ Opened a b) (lv : levels ≤ maxElements) (nz : levels ≡ 0 → ⊥) (lb : below ≡ levels - 1) (path′ : List ℕ) (ep : path′ ≡ setElement path depth a b) where
+    module _ {a b : ℕ} (e : tokenAt t i ≡ Opened a b) (lv : levels ≤ maxElements) (nz : levels ≡ 0 → ⊥) (lb : below ≡ levels - 1) {path′ : List ℕ} (ep : path′ ≡ setElement path depth a b) where
       one-more : maxElements - below ≡ depth + 1
       one-more = omega arith
 
@@ -286,7 +270,7 @@ module _ (t v : List ℕ) (at levels c : ℕ) (path₀ path : List ℕ) (below i
       -- its files behind those before it
       met-inside : (vs us : Items) (fs gs : List Listed) → afterFiles vs (readFiles t fs) ≡ left us → afterFiles vs (readFiles t (fs ++ gs)) ≡ afterFiles us (readFiles t gs)
       met-inside vs us fs gs q =
-          ap (afterFiles vs) (read-append t fs gs) ∙ after-append vs (readFiles t fs) (readFiles t gs) ∙ ap (λ (l : Left). onLeft l (λ ws. afterFiles ws (readFiles t gs))) q
+          ap (afterFiles vs) (map-append (readFile t) fs gs) ∙ after-append vs (readFiles t fs) (readFiles t gs) ∙ ap (λ (l : Left). onLeft l (λ ws. afterFiles ws (readFiles t gs))) q
 
       module _ (path″ : List ℕ) (r : Compared) (x : Compares t v (b + 1) below d path′ path″ r) where
         still-there : take (2 * depth) path″ ≡ take (2 * depth) path₀
@@ -302,8 +286,8 @@ module _ (t v : List ℕ) (at levels c : ℕ) (path₀ path : List ℕ) (below i
             let s = w .so-far p o i2 q vs ah in
             x .compares (down p a b) (held p o) (inside-all p i2) (u .0) (u .1) (u .2) (s .2) (s .4)
 
-      pub compares-inside : (path″ : List ℕ) → Compares t v (b + 1) below d path′ path″ Differ → Compares t v at levels c path₀ path″ Differ
-      compares-inside path″ x = compares-differ t v at levels c path₀ path″ (still-there path″ Differ x) go
+      pub compares-inside : {path″ : List ℕ} → Compares t v (b + 1) below d path′ path″ Differ → Compares t v at levels c path₀ path″ Differ
+      compares-inside {path″} x = compares-differ t v at levels c path₀ path″ (still-there path″ Differ x) go
         where
           never : (k : ℕ) (l : Left) → OutcomeIs v k l Differ → l ≡ differ
           never k differ q = refl
@@ -322,13 +306,13 @@ module _ (t v : List ℕ) (at levels c : ℕ) (path₀ path : List ℕ) (below i
             where
               met-inside2 : (vs us : Items) (fs gs hs : List Listed) → afterFiles vs (readFiles t fs) ≡ left us → afterFiles us (readFiles t gs) ≡ differ → afterFiles vs (readFiles t ((fs ++ gs) ++ hs)) ≡ differ
               met-inside2 vs us fs gs hs q n =
-                  ap (afterFiles vs) (read-append t (fs ++ gs) hs) ∙ after-append vs (readFiles t (fs ++ gs)) (readFiles t hs)
+                  ap (afterFiles vs) (map-append (readFile t) (fs ++ gs) hs) ∙ after-append vs (readFiles t (fs ++ gs)) (readFiles t hs)
                   ∙ ap (λ (l : Left). onLeft l (λ ws. afterFiles ws (readFiles t hs))) (met-inside vs us fs gs q ∙ n)
 
-      pub compare-past : (path″ : List ℕ) (k d2 : ℕ) → length path″ ≡ pathSize → Compares t v (b + 1) below d path′ path″ (Past k d2) → CompareAt t v at levels c path₀ path″ below k d2
-      compare-past path″ k d2 l x =
+      pub compare-past : {path″ : List ℕ} {k d2 : ℕ} → length path″ ≡ pathSize → Compares t v (b + 1) below d path′ path″ (Past k d2) → CompareAt t v at levels c path₀ path″ below k d2
+      compare-past {path″} {k} {d2} l x =
           record {
-            in-order = let y = w .in-order in let z = x .ends .0 in let u = opened-ends t i a b e .0 in omega arith;
+            in-order = let y = w .in-order in let z = inside-behind i e x .0 in omega arith;
             sized = l;
             kept = still-there path″ (Past k d2) x;
             so-far = go;
@@ -339,7 +323,7 @@ module _ (t v : List ℕ) (at levels c : ℕ) (path₀ path : List ℕ) (below i
           taken j (left us) q = let y = q .1 in let z : q .0 ≡ d2 = cc in let s : j ≡ k = cc in (us, refl, s, rw z at (q .2))
 
           go : (p : List Element) → Holds path₀ depth p → AllInside (length t) p → right (whole p) ≡ true → (vs : Items) → Ahead v c vs
-              → (fs : List Listed) × Passed t (whole p) below p k fs × (us : Items) × (afterFiles vs (readFiles t fs) ≡ left us) × Ahead v d2 us
+              → (fs : List Listed) × FilesPassed t (whole p) below p k fs × (us : Items) × (afterFiles vs (readFiles t fs) ≡ left us) × Ahead v d2 us
           go p o i2 q vs ah =
               let m = w .so-far p o i2 q vs ah in
               let u = inside-right p o i2 q vs ah in

@@ -1,7 +1,7 @@
 -- What stands at a position, read: an integer, a string, the value of a key.
 -- Assumes nothing.
 use mathlib.Core.Path.{_≡_, refl, sym, ap, _∙_}
-use mathlib.Core.Bool.{Bool, true, false, cond, not, _&&_}
+use mathlib.Core.Bool.{Bool, true, false, cond, not, _&&_, and-false}
 use mathlib.Core.List.{List, [], _∷_, _++_, append-assoc}
 use Prim.Native.Nat.{ℕ, suc, _+_, _-_, _≤_, _<_}
 use native.Mathlib.Omega.{arith}
@@ -10,6 +10,7 @@ use lib.Dec.{eqb}
 use borrow.Author.Tests.{ne-eqb}
 use Rattle.octets.specs.OctetsLaws.{drop-step}
 use Rattle.limits.specs.Limits.{maxLevels}
+use Rattle.numbers.specs.Tests.{not-both}
 use Rattle.octets.specs.Octets.{cut}
 use Rattle.bencode.specs.Grammar.{Value, integer, string, list, dictionary, Items, Entries, encode, encodeItems, encodeString, decimal, colon, letterE, letterL, noItems, item, noEntries, Valid, none}
 use Rattle.bencode.specs.DepthLaws.{more-levels}
@@ -28,7 +29,7 @@ use Rattle.bencode.specs.declared.parts.Found.the-variants.{Part, Missing}
 use Rattle.meaning.specs.Keys.{keyLength}
 use Rattle.halves.specs.V1Keys.{keyPath, keyAttr}
 use Rattle.meaning.specs.Torrent.{without, isNatural, numberOf}
-use Rattle.halves.specs.V1Half.{letterP, namesFull, pathFull, pathNames, stringOrNone, isPadding, isThere, entryFits, entryOf}
+use Rattle.halves.specs.V1Half.{letterP, namesFull, pathFull, pathNames, stringOrNone, isPadding, isThere, entryFits}
 use Rattle.hybrid.specs.Entry.{StandsAt, naturalIn, attrIn, PathFoundIs, isList, TokenIs, withPath, EndsAt, EntryReads, TokenIn, Reads}
 use Rattle.hybrid.specs.declared.PathFound.{PathFound}
 use Rattle.hybrid.specs.declared.PathFound.the-variants.{At, LeftOut, BadPath}
@@ -164,19 +165,15 @@ pub item-front : (x : Value) (us : Items) (rest : List ℕ) → encodeItems (ite
 unfolding encode
 item-front x us rest = append-assoc (encode x) (encodeItems us) rest
 
-false-true : (t : Bool) → t ≡ true → t ≡ false → ⊥
-false-true true e f = let z : _≡_ {A = ℕ} 0 1 = cc in omega arith
-false-true false e f = let z : _≡_ {A = ℕ} 0 1 = cc in omega arith
-
 -- where an `e` stands, no item does
 pub items-ended : (v : List ℕ) (i : ℕ) (us : Items) (rest : List ℕ) → ItemsAt v i us rest → endsHere (drop i v) ≡ true → us ≡ noItems
 items-ended v i noItems rest e h = refl
-items-ended v i (item x us) rest e h = absurd (false-true (endsHere (drop i v)) h (ap endsHere (e ∙ item-front x us rest) ∙ not-end x (encodeItems us ++ rest)))
+items-ended v i (item x us) rest e h = absurd (not-both h (ap endsHere (e ∙ item-front x us rest) ∙ not-end x (encodeItems us ++ rest)))
 
 -- and where none stands, an item does
 pub items-some : (v : List ℕ) (i : ℕ) (us : Items) (rest : List ℕ) → ItemsAt v i us rest → endsHere (drop i v) ≡ false
     → (x : Value) × (ws : Items) × (us ≡ item x ws) × (drop i v ≡ encode x ++ (encodeItems ws ++ rest))
-items-some v i noItems rest e h = absurd (false-true (endsHere (drop i v)) (unfold encode endsHere in ap endsHere e) h)
+items-some v i noItems rest e h = absurd (not-both {b = endsHere (drop i v)} (unfold encode endsHere in ap endsHere e) h)
 items-some v i (item x us) rest e h = (x, us, refl, e ∙ item-front x us rest)
 
 -- nothing stands past the end
@@ -299,7 +296,7 @@ path-names v at t e h n x s =
 
 -- ---- an entry
 
-natural-is : (x : Lookup) (n : ℕ) → Is n ≡ naturalIn x → (isNatural x ≡ true) × (numberOf x ≡ n)
+pub natural-is : (x : Lookup) (n : ℕ) → Is n ≡ naturalIn x → (isNatural x ≡ true) × (numberOf x ≡ n)
 natural-is (present (integer false m)) n e = let q : n ≡ m = cc in (refl, sym q)
 natural-is (present (integer true m)) n e = let z : _≡_ {A = ℕ} 0 1 = cc in absurd (omega arith)
 natural-is absent n e = let z : _≡_ {A = ℕ} 0 1 = cc in absurd (omega arith)
@@ -307,7 +304,7 @@ natural-is (present (string b)) n e = let z : _≡_ {A = ℕ} 0 1 = cc in absurd
 natural-is (present (list vs)) n e = let z : _≡_ {A = ℕ} 0 1 = cc in absurd (omega arith)
 natural-is (present (dictionary es)) n e = let z : _≡_ {A = ℕ} 0 1 = cc in absurd (omega arith)
 
-natural-not : (x : Lookup) → NoNatural ≡ naturalIn x → isNatural x ≡ false
+pub natural-not : (x : Lookup) → NoNatural ≡ naturalIn x → isNatural x ≡ false
 natural-not (present (integer false m)) e = let z : _≡_ {A = ℕ} 0 1 = cc in absurd (omega arith)
 natural-not (present (integer true m)) e = refl
 natural-not absent e = refl
@@ -353,13 +350,13 @@ full-names : (ws : Items) → pathFull (present (list ws)) ≡ true → namesFul
 full-names noItems e = let z : _≡_ {A = ℕ} 0 1 = cc in absurd (omega arith)
 full-names (item x ws) e = e
 
-is-there : (x : Lookup) → (x ≡ absent → ⊥) → isThere x ≡ true
+pub is-there : (x : Lookup) → (x ≡ absent → ⊥) → isThere x ≡ true
 is-there absent h = absurd (h refl)
 is-there (present v) h = refl
 
 -- a value that does not fit is no entry
 misfit : (v : List ℕ) (at : ℕ) (x : Value) → entryFits x ≡ false → TokenIs v at x BadEntry
-misfit v at x e = record { fits = λ q. absurd (false-true (entryFits x) q e); amiss = λ q. refl }
+misfit v at x e = record { fits = λ q. absurd (not-both q e); amiss = λ q. refl }
 
 pub no-length : (v : List ℕ) (at k : ℕ) → ((es : Entries) → StandsAt v at (dictionary es) → NoNatural ≡ naturalIn (lookup keyLength es)) → EntryReads v at k BadEntry
 unfolding entryFits
@@ -387,18 +384,14 @@ module _ (v : List ℕ) (at k n : ℕ) (t : Bool) where
   unfolding entryFits
   by-path es h g BadPath p q =
       let a = attr-is (lookup keyAttr es) t g in
-      misfit v at (dictionary es) (rw (natural-is (lookup keyLength es) n h .0, a .0, a .1, p .1, is-there (lookup keyPath es) (p .0)) (none-left t))
-    where
-      none-left : (u : Bool) → u && false ≡ false
-      none-left true = refl
-      none-left false = refl
+      misfit v at (dictionary es) (rw (natural-is (lookup keyLength es) n h .0, a .0, a .1, p .1, is-there (lookup keyPath es) (p .0)) (and-false t))
   by-path es h g (At p) x q =
       let a = attr-is (lookup keyAttr es) t g in
       let m = natural-is (lookup keyLength es) n h in
       let good : entryFits (dictionary es) ≡ true = rw (m .0, a .0, a .1, x .2) refl in
       record {
         fits = λ w. (p, rw (a .1, m .1, q) refl, λ z. (x .0, x .3, full-names (x .0) (ap pathFull (sym (x .1)) ∙ x .2), sym (ap pathNames (x .1))));
-        amiss = λ w. absurd (false-true (entryFits (dictionary es)) good w);
+        amiss = λ w. absurd (not-both good w);
       }
   by-path es h g LeftOut x q = by-kind t refl g
     where
@@ -410,8 +403,8 @@ module _ (v : List ℕ) (at k n : ℕ) (t : Bool) where
           let a = attr-is (lookup keyAttr es) true g2 in
           let good : entryFits (dictionary es) ≡ true = rw (m .0, a .0, a .1, x) refl in
           record {
-            fits = λ w. (0, rw (a .1, m .1, q) refl, λ z. absurd (false-true (entryOf (dictionary es) .padding) (a .1) z));
-            amiss = λ w. absurd (false-true (entryFits (dictionary es)) good w);
+            fits = λ w. (0, rw (a .1, m .1, q) refl, λ z. absurd (not-both (a .1) z));
+            amiss = λ w. absurd (not-both good w);
           }
       by-kind false e g2 = let a = attr-is (lookup keyAttr es) false g2 in misfit v at (dictionary es) (rw (m .0, a .0, a .1, x) refl)
 
@@ -438,13 +431,13 @@ no-dictionary (list vs) e = refl
 
 module _ (v : List ℕ) (at : ℕ) where
   pub reads-ended : endsHere (drop at v) ≡ true → Reads v at Ended
-  reads-ended h = record { ends = tt; closed = λ q. refl; item = λ x s. absurd (false-true (endsHere (drop at v)) h (ap endsHere (s .bytes) ∙ not-end x (s .behind))) }
+  reads-ended h = record { ends = tt; closed = λ q. refl; item = λ x s. absurd (not-both h (ap endsHere (s .bytes) ∙ not-end x (s .behind))) }
 
   pub reads-other : endsHere (drop at v) ≡ false → isDictionary (drop at v) ≡ false → Reads v at BadEntry
   reads-other h e =
       record {
         ends = tt;
-        closed = λ q. absurd (false-true (endsHere (drop at v)) q h);
+        closed = λ q. absurd (not-both q h);
         item = λ x s. misfit v at x (no-dictionary x (sym (dictionary-is x (s .behind)) ∙ ap isDictionary (sym (s .bytes)) ∙ e));
       }
 
@@ -454,14 +447,14 @@ module _ (v : List ℕ) (at : ℕ) where
 
   pub reads-broken : endsHere (drop at v) ≡ false → (w : Walked) → walkValue maxLevels at (drop at v) ≡ w → ((k : ℕ) → w ≡ Past k → ⊥) → Reads v at BadEntry
   reads-broken h w e n =
-      record { ends = tt; closed = λ q. absurd (false-true (endsHere (drop at v)) q h); item = λ x s. absurd (n (at + length (encode x)) (sym e ∙ walked x s)) }
+      record { ends = tt; closed = λ q. absurd (not-both q h); item = λ x s. absurd (n (at + length (encode x)) (sym e ∙ walked x s)) }
 
   pub reads-entry : endsHere (drop at v) ≡ false → isDictionary (drop at v) ≡ true → (k : ℕ) → walkValue maxLevels at (drop at v) ≡ Past k → (at < k) × (k ≤ length v)
       → (r : V1Token) → EntryReads v at k r → Reads v at r
   reads-entry h e k w b r i =
       record {
         ends = by-end r (i .same-end);
-        closed = λ q. absurd (false-true (endsHere (drop at v)) q h);
+        closed = λ q. absurd (not-both q h);
         item = λ x s.
             let d = other-kind x noEntries (sym (dictionary-is x (s .behind)) ∙ ap isDictionary (sym (s .bytes)) ∙ e) in
             let s2 : StandsAt v at (dictionary (d .0)) = rw (d .1) at s in

@@ -1,7 +1,7 @@
 -- The v1 half beside the tree, from the tally and the walk.
 -- Assumes nothing.
 use mathlib.Core.Path.{_≡_, refl, sym, ap, _∙_}
-use mathlib.Core.Bool.{Bool, true, false, cond, _&&_, false≢true, and-eq-true-iff}
+use mathlib.Core.Bool.{Bool, true, false, cond, _&&_, false≢true, and-eq-true-iff, and-false}
 use mathlib.Core.List.{List, []}
 use Prim.Native.Nat.{ℕ, _-_, _*_, _^_, _≤_, _<_}
 use native.Mathlib.Omega.{arith}
@@ -64,13 +64,9 @@ module _ (v : List ℕ) (plen : ℕ) (vs : Items) (gs : List File) where
     unfolding halfOf
     not-same q = sym (misfit (itemsFit vs) (sameFiles (filesAmong es) gs) (onBoundary plen 0 es) (leb (total es) mostBytes) (Bytes (total es)) (λ f b l s. false≢true (sym q ∙ s)))
 
-    none-left : (b : Bool) → b && false ≡ false
-    none-left true = refl
-    none-left false = refl
-
     -- another count
     pub several-count : (g ≡ length gs → ⊥) → Misfit ≡ severalOf plen vs gs
-    several-count h = not-same (same-as ∙ ap (λ (b : Bool). met (afterFiles vs gs) && b) (ne-eqb g (length gs) h) ∙ none-left (met (afterFiles vs gs)))
+    several-count h = not-same (same-as ∙ ap (λ (b : Bool). met (afterFiles vs gs) && b) (ne-eqb g (length gs) h) ∙ and-false (met (afterFiles vs gs)))
 
     -- a file differs
     pub several-differ : afterFiles vs gs ≡ differ → Misfit ≡ severalOf plen vs gs
@@ -131,14 +127,18 @@ read-count t fs = length-map fs (readFile t)
 -- ---- with `pieces`
 
 -- a torrent has no hashes for more bytes than are counted
-few-enough : (plen n : ℕ) (x : Lookup) → 0 < plen → plen ≤ 2 ^ 24 → length (bytesOf x) ≤ largestTorrent → piecesFit plen n x ≡ true → n ≤ mostBytes
+pub pieces-few : (plen n : ℕ) → 0 < plen → plen ≤ 2 ^ 24 → 20 * pieceCount n plen ≤ largestTorrent → n ≤ mostBytes
 unfolding pieceCount
-few-enough plen n x l h g e =
-    let p = and-eq-true-iff (hasString x) (eqb (length (bytesOf x)) (20 * pieceCount n plen)) .0 e in
-    let q = eqb-true (length (bytesOf x)) (20 * pieceCount n plen) (p .1) in
+pieces-few plen n l h g =
     let k : pieceCount n plen ≤ 52428 = omega arith in
     let m = ceil-enough n plen 52428 l k in
     omega arith
+
+few-enough : (plen n : ℕ) (x : Lookup) → 0 < plen → plen ≤ 2 ^ 24 → length (bytesOf x) ≤ largestTorrent → piecesFit plen n x ≡ true → n ≤ mostBytes
+few-enough plen n x l h g e =
+    let p = and-eq-true-iff (hasString x) (eqb (length (bytesOf x)) (20 * pieceCount n plen)) .0 e in
+    let q = eqb-true (length (bytesOf x)) (20 * pieceCount n plen) (p .1) in
+    pieces-few plen n l h (omega arith)
 
 -- so the halves fit exactly if the half that was read fits `pieces`
 pub half-decides : (plen : ℕ) (ok : Bool) (es : List V1Entry) (gs : List File) (x : Lookup) → 0 < plen → plen ≤ 2 ^ 24 → length (bytesOf x) ≤ largestTorrent

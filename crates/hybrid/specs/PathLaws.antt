@@ -30,7 +30,8 @@ pub data Look (v : List ℕ) (i : ℕ) (us : Items) (rest : List ℕ) : Type 0 w
   one : (c : List ℕ) (ws : Items) → us ≡ item (string c) ws → readString i (drop i v) ≡ Content (contentStart i c) (i + length (encodeString c)) → endsHere (drop i v) ≡ false
       → cut v (contentStart i c) (i + length (encodeString c) - contentStart i c) ≡ c → ItemsAt v (i + length (encodeString c)) ws rest → namesFull ws ≡ true → Look v i us rest
 
-string-bytes : (c : List ℕ) → encode (string c) ≡ encodeString c
+-- a string's encoding
+pub string-bytes : (c : List ℕ) → encode (string c) ≡ encodeString c
 unfolding encode
 string-bytes c = refl
 

@@ -1,13 +1,14 @@
 -- The tally as a walk comes to it; and what it says of the entries: each well formed, each file on a boundary, how many files, how many bytes.
 -- Assumes nothing.
 use mathlib.Core.Path.{_≡_, refl, sym, ap, _∙_}
-use mathlib.Core.Bool.{Bool, true, false, cond, _&&_, _||_, false≢true, and-eq-true-iff}
+use mathlib.Core.Bool.{Bool, true, false, cond, _&&_, _||_, and-eq-true-iff}
 use mathlib.Core.List.{List, [], _∷_, _++_, append-nil}
 use Prim.Native.Nat.{ℕ, _+_, _-_, _%_, _≤_, _<_}
 use native.Mathlib.Omega.{arith}
 use lib.ListN.{length, drop}
 use lib.Dec.{eqb, leb}
 use borrow.Author.Tests.{leb-true, leb-false, le-leb, lt-leb}
+use Rattle.meaning.specs.TestsLaws.{three-true}
 use Rattle.limits.specs.Limits.{maxLevels}
 use Rattle.bencode.specs.Grammar.{Value, Items, noItems, item, encode, encodeItems, Valid, ItemsValid}
 use Rattle.bencode.specs.DepthLaws.{more-levels}
@@ -152,12 +153,6 @@ pub record Means (plen files sum : ℕ) (vs : Items) (g n : ℕ) : Type 0 where
   pub bytes : n ≡ sum + total (entriesIn vs)
   pub few : n ≤ mostBytes
 
-three : (a b c : Bool) → a && (b && c) ≡ true → (a ≡ true) × (b ≡ true) × (c ≡ true)
-three true true true e = (refl, refl, refl)
-three true true false e = absurd (false≢true e)
-three true false c e = absurd (false≢true e)
-three false b c e = absurd (false≢true e)
-
 counted-among : (t : Bool) (e : V1Entry) (es : List V1Entry) (files : ℕ) → cond t files (files + 1) + length es ≡ files + length (cond t es (e ∷ es))
 counted-among true e es files = refl
 counted-among false e es files = omega arith
@@ -183,7 +178,7 @@ tally-sums plen files sum (item x vs) g n l e = by-test (entryFits x && (near &&
         → Means plen files sum (item x vs) g n
     by-test false q f i = let z : _≡_ {A = ℕ} 0 1 = cc in absurd (omega arith)
     by-test true q f i =
-        let t = three (entryFits x) near few q in
+        let t = three-true (entryFits x) near few q in
         let y = leb-true (entryOf x .size) (mostBytes - sum) (t .2) in
         let m = i (omega arith) f in
         let counts = counted-among (entryOf x .padding) (entryOf x) (filesAmong (entriesIn vs)) files in

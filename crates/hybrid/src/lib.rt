@@ -1,5 +1,5 @@
-// The v1 half of a hybrid torrent (BEP 3, BEP 47) held against the v2 half. v is the part of the torrent that `files` is, t the part that
-// `file tree` is.
+// The v1 half of a hybrid torrent (BEP 3, BEP 47) held against the v2 half. `list` is the part of the torrent that `files` is, `tree` the part
+// that `file tree` is.
 use bencode::order::same;
 use bencode::parts::Found;
 use bencode::parts::find;
@@ -76,10 +76,10 @@ pub enum V1Token {
 }
 
 // The integer at `at`, if it is not negative.
-fn natural_at(v: &[u8], at: usize) -> Natural
-    ensures { λ r. ⌜ ((x : Value) → StandsAt (now (v .entry)) at x → r ≡ naturalIn (present x)) ⌝ }
+fn natural_at(bytes: &[u8], at: usize) -> Natural
+    ensures { λ r. ⌜ ((x : Value) → StandsAt (now (bytes .entry)) at x → r ≡ naturalIn (present x)) ⌝ }
 {
-    match read_integer(v, at) {
+    match read_integer(bytes, at) {
         Integer::NoInteger => Natural::NoNatural,
         Integer::Whole {
             minus,
@@ -95,23 +95,23 @@ fn natural_at(v: &[u8], at: usize) -> Natural
 }
 
 // The `length` of the entry at `at`.
-pub fn length_of(v: &[u8], at: usize) -> Natural
-    ensures { λ r. ⌜ ((es : Entries) → StandsAt (now (v .entry)) at (dictionary es) → r ≡ naturalIn (lookup keyLength es)) ⌝ }
+pub fn length_of(bytes: &[u8], at: usize) -> Natural
+    ensures { λ r. ⌜ ((es : Entries) → StandsAt (now (bytes .entry)) at (dictionary es) → r ≡ naturalIn (lookup keyLength es)) ⌝ }
 {
-    match find(v, at, b"length") {
+    match find(bytes, at, b"length") {
         Found::Missing => Natural::NoNatural,
-        Found::Part { start, end: _ } => natural_at(v, start),
+        Found::Part { start, end: _ } => natural_at(bytes, start),
     }
 }
 
 // Whether none of the bytes from start up to end is a `p`.
-fn without_p(v: &[u8], start: usize, end: usize) -> bool
-    requires { ⌜ (start ≤ end) × (end ≤ L.length (now v)) ⌝ }
-    ensures { λ r. ⌜ r ≡ without letterP (cut (now (v .entry)) start (end - start)) ⌝ }
+fn without_p(bytes: &[u8], start: usize, end: usize) -> bool
+    requires { ⌜ (start ≤ end) × (end ≤ L.length (now bytes)) ⌝ }
+    ensures { λ r. ⌜ r ≡ without letterP (cut (now (bytes .entry)) start (end - start)) ⌝ }
 {
     let mut i = start;
     while i < end {
-        if v[i] == b'p' {
+        if bytes[i] == b'p' {
             return false;
         }
         i += 1;
@@ -120,13 +120,13 @@ fn without_p(v: &[u8], start: usize, end: usize) -> bool
 }
 
 // What the string at `at` says, as an `attr`.
-fn attr_at(v: &[u8], at: usize) -> Attr
-    ensures { λ r. ⌜ ((x : Value) → StandsAt (now (v .entry)) at x → r ≡ attrIn (present x)) ⌝ }
+fn attr_at(bytes: &[u8], at: usize) -> Attr
+    ensures { λ r. ⌜ ((x : Value) → StandsAt (now (bytes .entry)) at x → r ≡ attrIn (present x)) ⌝ }
 {
-    match read_string(v, at) {
+    match read_string(bytes, at) {
         ByteString::NoString => Attr::BadAttr,
         ByteString::Content { start, end } => {
-            if without_p(v, start, end) {
+            if without_p(bytes, start, end) {
                 return Attr::Plain;
             }
             Attr::Padding
@@ -135,25 +135,25 @@ fn attr_at(v: &[u8], at: usize) -> Attr
 }
 
 // The `attr` of the entry at `at`.
-fn attr_of(v: &[u8], at: usize) -> Attr
-    ensures { λ r. ⌜ ((es : Entries) → StandsAt (now (v .entry)) at (dictionary es) → r ≡ attrIn (lookup keyAttr es)) ⌝ }
+fn attr_of(bytes: &[u8], at: usize) -> Attr
+    ensures { λ r. ⌜ ((es : Entries) → StandsAt (now (bytes .entry)) at (dictionary es) → r ≡ attrIn (lookup keyAttr es)) ⌝ }
 {
-    match find(v, at, b"attr") {
+    match find(bytes, at, b"attr") {
         Found::Missing => Attr::Plain,
-        Found::Part { start, end: _ } => attr_at(v, start),
+        Found::Part { start, end: _ } => attr_at(bytes, start),
     }
 }
 
 // Whether the items from `at` on are strings, none of them empty.
-fn names_full(v: &[u8], at: usize) -> bool
-    ensures { λ r. ⌜ ((vs : Items) (rest : List ℕ) → L.drop at (now (v .entry)) ≡ encodeItems vs ++ rest → r ≡ namesFull vs) ⌝ }
+fn names_full(bytes: &[u8], at: usize) -> bool
+    ensures { λ r. ⌜ ((vs : Items) (rest : List ℕ) → L.drop at (now (bytes .entry)) ≡ encodeItems vs ++ rest → r ≡ namesFull vs) ⌝ }
 {
     let mut i = at;
-    while i < v.len() {
-        if ends_here(v, i) {
+    while i < bytes.len() {
+        if ends_here(bytes, i) {
             return true;
         }
-        match read_string(v, i) {
+        match read_string(bytes, i) {
             ByteString::NoString => {
                 return false;
             }
@@ -169,42 +169,42 @@ fn names_full(v: &[u8], at: usize) -> bool
 }
 
 // Whether a list begins at `at`.
-pub fn is_list(v: &[u8], at: usize) -> bool
-    ensures { λ r. ⌜ r ≡ isList (L.drop at (now (v .entry))) ⌝ }
+pub fn is_list(bytes: &[u8], at: usize) -> bool
+    ensures { λ r. ⌜ r ≡ isList (L.drop at (now (bytes .entry))) ⌝ }
 {
-    if v.len() <= at {
+    if bytes.len() <= at {
         return false;
     }
-    v[at] == b'l'
+    bytes[at] == b'l'
 }
 
 // Whether the value at `at` is a path: a list of strings, one or more, none of them empty.
-fn path_at(v: &[u8], at: usize) -> PathFound
-    ensures { λ r. ⌜ ((x : Value) → StandsAt (now (v .entry)) at x → PathFoundIs (now (v .entry)) (present x) r) ⌝ }
+fn path_at(bytes: &[u8], at: usize) -> PathFound
+    ensures { λ r. ⌜ ((x : Value) → StandsAt (now (bytes .entry)) at x → PathFoundIs (now (bytes .entry)) (present x) r) ⌝ }
 {
-    if v.len() <= at {
+    if bytes.len() <= at {
         return PathFound::BadPath;
     }
-    if !is_list(v, at) {
+    if !is_list(bytes, at) {
         return PathFound::BadPath;
     }
     let first = at + 1;
-    if ends_here(v, first) {
+    if ends_here(bytes, first) {
         return PathFound::BadPath;
     }
-    if names_full(v, first) {
+    if names_full(bytes, first) {
         return PathFound::At(at);
     }
     PathFound::BadPath
 }
 
 // The `path` of the entry at `at`.
-fn path_of(v: &[u8], at: usize) -> PathFound
-    ensures { λ r. ⌜ ((es : Entries) → StandsAt (now (v .entry)) at (dictionary es) → PathFoundIs (now (v .entry)) (lookup keyPath es) r) ⌝ }
+fn path_of(bytes: &[u8], at: usize) -> PathFound
+    ensures { λ r. ⌜ ((es : Entries) → StandsAt (now (bytes .entry)) at (dictionary es) → PathFoundIs (now (bytes .entry)) (lookup keyPath es) r) ⌝ }
 {
-    match find(v, at, b"path") {
+    match find(bytes, at, b"path") {
         Found::Missing => PathFound::LeftOut,
-        Found::Part { start, end: _ } => path_at(v, start),
+        Found::Part { start, end: _ } => path_at(bytes, start),
     }
 }
 
@@ -235,37 +235,37 @@ fn with_path(found: PathFound, padding: bool, length: usize, next: usize) -> V1T
 }
 
 // The entry of the dictionary from `at` up to `next`.
-fn entry_at(v: &[u8], at: usize, next: usize) -> V1Token
-    ensures { λ r. ⌜ EntryReads (now (v .entry)) at next r ⌝ }
+fn entry_at(bytes: &[u8], at: usize, next: usize) -> V1Token
+    ensures { λ r. ⌜ EntryReads (now (bytes .entry)) at next r ⌝ }
 {
-    match length_of(v, at) {
+    match length_of(bytes, at) {
         Natural::NoNatural => V1Token::BadEntry,
-        Natural::Is(length) => match attr_of(v, at) {
+        Natural::Is(length) => match attr_of(bytes, at) {
             Attr::BadAttr => V1Token::BadEntry,
-            Attr::Plain => with_path(path_of(v, at), false, length, next),
-            Attr::Padding => with_path(path_of(v, at), true, length, next),
+            Attr::Plain => with_path(path_of(bytes, at), false, length, next),
+            Attr::Padding => with_path(path_of(bytes, at), true, length, next),
         },
     }
 }
 
-// What stands at `at` in the list that v is.
-pub fn read_v1(v: &[u8], at: usize) -> V1Token
-    ensures { λ r. ⌜ Reads (now (v .entry)) at r ⌝ }
+// What stands at `at` in the list that stands in `bytes`.
+pub fn read_v1(bytes: &[u8], at: usize) -> V1Token
+    ensures { λ r. ⌜ Reads (now (bytes .entry)) at r ⌝ }
 {
-    if ends_here(v, at) {
+    if ends_here(bytes, at) {
         return V1Token::Ended;
     }
-    if !is_dictionary(v, at) {
+    if !is_dictionary(bytes, at) {
         return V1Token::BadEntry;
     }
-    match value_end(v, at, LEVELS) {
+    match value_end(bytes, at, LEVELS) {
         Walked::Broken => V1Token::BadEntry,
         Walked::TooDeep => V1Token::BadEntry,
-        Walked::Past(next) => entry_at(v, at, next),
+        Walked::Past(next) => entry_at(bytes, at, next),
     }
 }
 
-// How many files the list v has, and how many bytes all its entries, padding included; or something in it is malformed, a file does not
+// How many files a list has, and how many bytes all its entries, padding included; or something in it is malformed, a file does not
 // begin at a multiple of the piece length, or there are more bytes than a torrent can have pieces for.
 pub enum Tallied {
     Sums { files: usize, total: usize },
@@ -297,16 +297,16 @@ fn counted(padding: bool, files: usize) -> usize
     files + 1
 }
 
-// The entries of the list v.
-pub fn tally(v: &[u8], plen: usize) -> Tallied
-    requires { ⌜ (0 < plen) × (L.length (now v) ≤ largestTorrent) ⌝ }
-    ensures { λ r. ⌜ ((vs : Items) → Encodes (now (v .entry)) vs → r ≡ talliedOf plen vs) ⌝ }
+// The entries of `list`.
+pub fn tally(list: &[u8], plen: usize) -> Tallied
+    requires { ⌜ (0 < plen) × (L.length (now list) ≤ largestTorrent) ⌝ }
+    ensures { λ r. ⌜ ((vs : Items) → Encodes (now (list .entry)) vs → r ≡ talliedOf plen vs) ⌝ }
 {
     let mut i = 1;
     let mut files = 0;
     let mut total = 0;
-    while i < v.len() {
-        match read_v1(v, i) {
+    while i < list.len() {
+        match read_v1(list, i) {
             V1Token::BadEntry => {
                 return Tallied::Amiss;
             }
@@ -334,13 +334,13 @@ pub fn tally(v: &[u8], plen: usize) -> Tallied
     Tallied::Amiss
 }
 
-// The next entry of v that is no padding, from `at` on.
-fn next_file(v: &[u8], at: usize) -> V1Token
-    ensures { λ r. ⌜ NextReads (now (v .entry)) at r ⌝ }
+// The next entry of `list` that is no padding, from `at` on.
+fn next_file(list: &[u8], at: usize) -> V1Token
+    ensures { λ r. ⌜ NextReads (now (list .entry)) at r ⌝ }
 {
     let mut i = at;
-    while i < v.len() {
-        match read_v1(v, i) {
+    while i < list.len() {
+        match read_v1(list, i) {
             V1Token::BadEntry => {
                 return V1Token::BadEntry;
             }
@@ -368,12 +368,12 @@ fn next_file(v: &[u8], at: usize) -> V1Token
     V1Token::Ended
 }
 
-// Whether the names of the list at `at` are the first `depth` elements of the path, which stand in t.
-fn same_path(t: &[u8], path: &[usize], depth: usize, v: &[u8], at: usize) -> bool
+// Whether the names of the list at `at` are the first `depth` elements of the path, which stand in `tree`.
+fn same_path(tree: &[u8], path: &[usize], depth: usize, bytes: &[u8], at: usize) -> bool
     requires { ⌜ (L.length (now path) ≡ pathSize) × (depth ≤ maxElements) ⌝ }
-    ensures { λ r. ⌜ ((ws : Items) → StandsAt (now (v .entry)) at (list ws) → namesFull ws ≡ true → (p : List Element) → Kept (L.length (now (t .entry))) (now (path .entry)) depth p → r ≡ samePath (namesOf ws) (elements (now (t .entry)) p)) ⌝ }
+    ensures { λ r. ⌜ ((ws : Items) → StandsAt (now (bytes .entry)) at (list ws) → namesFull ws ≡ true → (p : List Element) → Kept (L.length (now (tree .entry))) (now (path .entry)) depth p → r ≡ samePath (namesOf ws) (elements (now (tree .entry)) p)) ⌝ }
 {
-    if v.len() <= at {
+    if bytes.len() <= at {
         return false;
     }
     let mut i = at + 1;
@@ -384,15 +384,15 @@ fn same_path(t: &[u8], path: &[usize], depth: usize, v: &[u8], at: usize) -> boo
         if y < x {
             return false; // never: an element's end is not before its start
         }
-        if t.len() < y {
-            return false; // never: it stands in t
+        if tree.len() < y {
+            return false; // never: it stands in `tree`
         }
-        match read_string(v, i) {
+        match read_string(bytes, i) {
             ByteString::NoString => {
                 return false;
             }
             ByteString::Content { start, end } => {
-                if !same(&v[start..end], &t[x..y]) {
+                if !same(&bytes[start..end], &tree[x..y]) {
                     return false;
                 }
                 i = end;
@@ -400,21 +400,21 @@ fn same_path(t: &[u8], path: &[usize], depth: usize, v: &[u8], at: usize) -> boo
         }
         k += 1;
     }
-    ends_here(v, i)
+    ends_here(bytes, i)
 }
 
-// Where v goes on behind the file that was met; or it is another.
+// Where the list goes on behind the file that was met; or it is another.
 pub enum Met {
     Behind(usize),
     Other,
 }
 
-// Whether the next file of v is the one with this path and length.
-fn meet(t: &[u8], path: &[usize], depth: usize, v: &[u8], cursor: usize, length: usize) -> Met
+// Whether the next file of `list` is the one with this path and length.
+fn meet(tree: &[u8], path: &[usize], depth: usize, list: &[u8], cursor: usize, length: usize) -> Met
     requires { ⌜ (L.length (now path) ≡ pathSize) × (depth ≤ maxElements) ⌝ }
-    ensures { λ r. ⌜ ((us : Items) → Ahead (now (v .entry)) cursor us → (p : List Element) → Kept (L.length (now (t .entry))) (now (path .entry)) depth p → (f : File) → f .size ≡ length → f .path ≡ elements (now (t .entry)) p → MetIs (now (v .entry)) (afterNext (nextFile us) f) r) ⌝ }
+    ensures { λ r. ⌜ ((us : Items) → Ahead (now (list .entry)) cursor us → (p : List Element) → Kept (L.length (now (tree .entry))) (now (path .entry)) depth p → (f : File) → f .size ≡ length → f .path ≡ elements (now (tree .entry)) p → MetIs (now (list .entry)) (afterNext (nextFile us) f) r) ⌝ }
 {
-    match next_file(v, cursor) {
+    match next_file(list, cursor) {
         V1Token::BadEntry => Met::Other,
         V1Token::Ended => Met::Other,
         V1Token::Entry {
@@ -426,7 +426,7 @@ fn meet(t: &[u8], path: &[usize], depth: usize, v: &[u8], cursor: usize, length:
             if n != length {
                 return Met::Other;
             }
-            if same_path(t, path, depth, v, at) {
+            if same_path(tree, path, depth, list, at) {
                 return Met::Behind(next);
             }
             Met::Other
@@ -434,24 +434,24 @@ fn meet(t: &[u8], path: &[usize], depth: usize, v: &[u8], cursor: usize, length:
     }
 }
 
-// The position past a directory, and where v goes on behind its files; or one of them is another than v has.
+// The position past a directory, and where the list goes on behind its files; or one of them is another than the list has.
 pub enum Compared {
     Past { next: usize, cursor: usize },
     Differ,
 }
 
-// The files of a directory, from its first entry on, with so many levels left below it, beside those of v from `cursor` on. `path` has the
+// The files of a directory, from its first entry on, with so many levels left below it, beside those of `list` from `cursor` on. `path` has the
 // elements of the path to the directory.
 fn compare_directory(
-    t: &[u8],
+    tree: &[u8],
     at: usize,
     levels: usize,
-    v: &[u8],
+    list: &[u8],
     cursor: usize,
     path: &mut [usize],
 ) -> Compared
     requires { ⌜ (levels ≤ maxElements) × (L.length (now path) ≡ pathSize) ⌝ }
-    ensures { λ r. ⌜ Compares (now (t .entry)) (now (v .entry)) at levels cursor (now (path .entry)) (now (path .exit)) r ⌝ }
+    ensures { λ r. ⌜ Compares (now (tree .entry)) (now (list .entry)) at levels cursor (now (path .entry)) (now (path .exit)) r ⌝ }
 {
     if levels == 0 {
         return Compared::Differ;
@@ -460,8 +460,8 @@ fn compare_directory(
     let depth = ELEMENTS - levels;
     let mut behind = cursor;
     let mut i = at;
-    while i < t.len() {
-        match read_token(t, i) {
+    while i < tree.len() {
+        match read_token(tree, i) {
             Token::BadToken => {
                 return Compared::Differ;
             }
@@ -479,7 +479,7 @@ fn compare_directory(
                 next,
             } => {
                 set_element(path, depth, start, end);
-                match meet(t, path, depth + 1, v, behind, length) {
+                match meet(tree, path, depth + 1, list, behind, length) {
                     Met::Other => {
                         return Compared::Differ;
                     }
@@ -491,7 +491,7 @@ fn compare_directory(
             }
             Token::Opened { start, end } => {
                 set_element(path, depth, start, end);
-                match compare_directory(t, end + 1, below, v, behind, path) {
+                match compare_directory(tree, end + 1, below, list, behind, path) {
                     Compared::Past {
                         next,
                         cursor: inside,
@@ -515,19 +515,19 @@ pub enum HalfRead {
     Misfit,
 }
 
-// The list v beside the tree t, which has so many files.
-pub fn several(t: &[u8], v: &[u8], plen: usize, files: usize) -> HalfRead
-    requires { ⌜ (0 < plen) × (L.length (now v) ≤ largestTorrent) ⌝ }
-    ensures { λ r. ⌜ ((vs : Items) → Encodes (now (v .entry)) vs → (fs : List Listed) (k : ℕ) → filesIn (now (t .entry)) ≡ Tree.files fs k → files ≡ L.length fs → r ≡ severalOf plen vs (readFiles (now (t .entry)) fs)) ⌝ }
+// `list` beside `tree`, which has so many files.
+pub fn several(tree: &[u8], list: &[u8], plen: usize, files: usize) -> HalfRead
+    requires { ⌜ (0 < plen) × (L.length (now list) ≤ largestTorrent) ⌝ }
+    ensures { λ r. ⌜ ((vs : Items) → Encodes (now (list .entry)) vs → (fs : List Listed) (k : ℕ) → filesIn (now (tree .entry)) ≡ Tree.files fs k → files ≡ L.length fs → r ≡ severalOf plen vs (readFiles (now (tree .entry)) fs)) ⌝ }
 {
-    match tally(v, plen) {
+    match tally(list, plen) {
         Tallied::Amiss => HalfRead::Misfit,
         Tallied::Sums { files: n, total } => {
             if n != files {
                 return HalfRead::Misfit;
             }
             let mut path = [0usize; PATH];
-            match compare_directory(t, 1, ELEMENTS, v, 1, &mut path) {
+            match compare_directory(tree, 1, ELEMENTS, list, 1, &mut path) {
                 Compared::Differ => HalfRead::Misfit,
                 Compared::Past { next: _, cursor: _ } => HalfRead::Bytes(total),
             }

@@ -3,7 +3,7 @@
 -- Assumes nothing.
 use mathlib.Core.Path.{_≡_, refl, sym, ap, ap₂, _∙_}
 use mathlib.Core.Bool.{Bool, true, false, _&&_, and-false, false≢true}
-use mathlib.Core.List.{List, [], _∷_, _++_, append-nil}
+use mathlib.Core.List.{List, [], _∷_, _++_, append-nil, map-append}
 use Prim.Native.Nat.{ℕ, zero, suc, _+_, _-_, _≤_}
 use native.Mathlib.Omega.{arith}
 use lib.ListN.{length, drop, length-append}
@@ -26,10 +26,6 @@ use Rattle.joined.specs.FileLaws.{FileAgrees, file-is}
 use Rattle.joined.specs.TokenLaws.{entries-there, entry-bytes, ends-is, token-end, key-token, node-other, node-empty, node-opened, node-file, file-wrong, file-right}
 
 -- ---- files and paths as they are read
-
-read-append : (t : List ℕ) (fs gs : List Listed) → readFiles t (fs ++ gs) ≡ readFiles t fs ++ readFiles t gs
-read-append t [] gs = refl
-read-append t (f ∷ fs) gs = ap (λ (l : List File). readFile t f ∷ l) (read-append t fs gs)
 
 -- one element more
 elements-down : (t : List ℕ) (path : List Element) (a b : ℕ) (k : List ℕ) → cut t a (b - a) ≡ k → elements t (down path a b) ≡ elements t path ++ (k ∷ [])
@@ -73,7 +69,7 @@ both : (a b : Bool) (t : List ℕ) (w : Files) (go : ℕ → Files) (mid end : �
 both false b t w go mid end vs us n g = n
 both true false t w go mid end vs us n g = n .1 ∙ ap (after (n .0)) g
 both true true t w go mid end vs us n g =
-    (n .0 ++ g .0, n .1 ∙ ap (after (n .0)) (g .1), read-append t (n .0) (g .0) ∙ ap₂ _++_ (n .2) (g .2), fit-append t (n .0) (g .0) (n .3) (g .3))
+    (n .0 ++ g .0, n .1 ∙ ap (after (n .0)) (g .1), map-append (readFile t) (n .0) (g .0) ∙ ap₂ _++_ (n .2) (g .2), fit-append t (n .0) (g .0) (n .3) (g .3))
 
 -- ---- what a level of nesting is needed for
 

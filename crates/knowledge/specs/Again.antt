@@ -28,7 +28,7 @@ use Rattle.header.specs.declared.Place.{Place}
 use Rattle.messages.specs.Take.{headerNumber, unclesOf, given, settled, anchor, worked, padded, anchored, bodyNumber, placeIn, orElse, takeNumber, takeAfter, rejectAnswer}
 use Rattle.pieces.specs.Pieces.{layerNumber}
 use Rattle.pieces.specs.PiecesLaws.{layer-refused}
-use Rattle.messages.specs.Asks.{Passed, Placed, Ready}
+use Rattle.messages.specs.Asks.{RulesPassed, Placed, Ready}
 use Rattle.messages.specs.TakeLaws.{passed, placed, placed-ready}
 use Rattle.messages.specs.TakenLaws.{ready-settled, taken-ready}
 use Rattle.words.specs.Held.{Holds}
@@ -106,7 +106,7 @@ module _ (s t m : List ℕ) (f : Facts s) (g : Grown s t) where
   -- with more held, 9, 1, 2 and 3 come out as they did
   pub same-header : (form : Bool) → headerNumber form t m ≡ headerNumber form s m
   unfolding headerNumber
-  same-header form = rw (facts-usable t (g .facts), facts-usable s f, g .same .root, g .same .blocks, g .same .layers)
+  same-header form = rw (facts-usable t (g .facts), facts-usable s f, g .same .root, g .same .layers)
 
   same-padding : padded m (headerOf m) (placeIn t m) (blocksOf t) ≡ padded m (headerOf m) (placeIn s m) (blocksOf s)
   same-padding = ap₂ (λ (p : Place) (b : ℕ). padded m (headerOf m) p b) same-place (g .same .blocks)
@@ -138,7 +138,7 @@ settled-stay s t m z g =
     let p = placeIn s m in
     let r = taken-ready s m (takeNumber s m) refl z in
     let L = settled m (placeIn s m) in
-    let S = ready-settled (length s) m (positions (heightOf s)) (headerOf m) (placeIn s m) r in
+    let S = ready-settled (length s) m (heightOf s) (headerOf m) (placeIn s m) r in
     let f = usable-facts s (passed (isHashes m) s m (taken-well-formed s m z .header) .store) in
     let lay = grown-take s m f .same .layers in
     let c = settled-consistent (given m (p .k)) (unclesOf m (2 ^ p .k) (p .u)) (p .k) (p .top) 0 0 (p .u) (node (given m (p .k)) (p .k) 0) (r .anchor) in
@@ -158,15 +158,15 @@ module _ (s t m : List ℕ) (f : Facts s) (g₁ : Grown (takeAfter s m) t) where
   p = placeIn s m
 
   -- with header and size right, and the anchor held, the three tests come out as they did
-  anchored-again : Passed (isHashes m) s m → length m ≡ messageSize (headerOf m) → padded m (headerOf m) (placeIn s m) (blocksOf s) ≡ true
+  anchored-again : RulesPassed (isHashes m) s m → length m ≡ messageSize (headerOf m) → padded m (headerOf m) (placeIn s m) (blocksOf s) ≡ true
       → heldAt s (anchor (placeIn s m)) ≡ true → anchored t m (placeIn s m) ≡ anchored s m (placeIn s m)
   unfolding anchored anchor
   anchored-again P e pd h = by (same (hashAt s a) w) refl
     where
-      q : Placed (positions (heightOf s)) (headerOf m) (placeIn s m)
+      q : Placed (heightOf s) (headerOf m) (placeIn s m)
       q = placed (isHashes m) s m P
 
-      r : Ready (length s) (length m) (positions (heightOf s)) (headerOf m) (placeIn s m)
+      r : Ready (length s) (length m) (heightOf s) (headerOf m) (placeIn s m)
       r = placed-ready (length s) (length m) q (f .room) (omega (arith, q .size))
 
       a : ℕ
@@ -189,7 +189,7 @@ module _ (s t m : List ℕ) (f : Facts s) (g₁ : Grown (takeAfter s m) t) where
           (record { padding = pd; held = h; chains = same-true (hashAt s (anchor (placeIn s m))) (worked m (placeIn s m)) z; agree = x }) in
           sym y ∙ settled-stay s t m zero g₁
       agree false true x y z =
-          sym (less-agrees s t (settled m (placeIn s m)) g (ready-settled (length s) m (positions (heightOf s)) (headerOf m) (placeIn s m) r) y) ∙ x
+          sym (less-agrees s t (settled m (placeIn s m)) g (ready-settled (length s) m (heightOf s) (headerOf m) (placeIn s m) r) y) ∙ x
 
       by : (b : Bool) → same (hashAt s (anchor (placeIn s m))) (worked m (placeIn s m)) ≡ b → anchored t m (placeIn s m) ≡ anchored s m (placeIn s m)
       by false z = unfold anchored in rw (k .0, k .1, h, z)

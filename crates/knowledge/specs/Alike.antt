@@ -65,13 +65,6 @@ module _ (s t : List ℕ) (f : Facts s) (room : storeSize (fileLength s) ≤ len
 
 -- so do the same bytes up to the store's size
 module _ (s t : List ℕ) (f : Facts s) (e : cut t 0 (storeSize (fileLength s)) ≡ cut s 0 (storeSize (fileLength s))) where
-  -- byte for byte,
-  pub same-byte : (i : ℕ) → i < storeSize (fileLength s) → getD t i 0 ≡ getD s i 0
-  same-byte i b =
-      let z : 0 + i ≡ i = omega arith in
-      let g : (u : List ℕ) → getD (cut u 0 (storeSize (fileLength s))) i 0 ≡ getD u i 0 = λ u. getD-cut u 0 (storeSize (fileLength s)) i b ∙ ap (λ (x : ℕ). getD u x 0) z in
-      sym (g t) ∙ ap (λ (u : List ℕ). getD u i 0) e ∙ g s
-
   pub alike : Alike s t
   alike =
       record {
@@ -79,5 +72,5 @@ module _ (s t : List ℕ) (f : Facts s) (e : cut t 0 (storeSize (fileLength s)) 
         facts = Rattle.store.specs.StoreLaws.used-facts s t f e;
         held = Rattle.store.specs.StoreLaws.used-held s t f e;
         hash = Rattle.store.specs.StoreLaws.used-hash s t f e;
-        bytes = λ i l. same-byte i (omega (arith, own-cells s));
+        bytes = λ i l. Rattle.store.specs.StoreLaws.byte-same s t f e i (omega (arith, own-cells s));
       }

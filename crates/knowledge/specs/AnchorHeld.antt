@@ -11,22 +11,22 @@ use borrow.Author.Tests.{le-leb, lt-ltb}
 use Rattle.sha256.specs.declared.Hashed.{Hashed}
 use Rattle.tree.specs.Geometry.{height, nodeNumber}
 use Rattle.cells.specs.Cells.{heldAt}
-use Rattle.store.specs.Store.{blocksOf, heightOf, inTree, heldAnswer}
+use Rattle.store.specs.Store.{heightOf, inTree, heldAnswer}
 use Rattle.store.specs.StoreLaws.{held-given, held-not}
 use Rattle.settling.specs.AncestorLaws.{ancestor-number}
 use Rattle.header.specs.Header.{headerOf, placeOf}
 use Rattle.header.specs.HeaderLaws.{rules-kept, log-some, top-inside}
 use Rattle.messages.specs.Take.{anchor, placeIn}
-use Rattle.messages.specs.Asks.{Passed}
+use Rattle.messages.specs.Asks.{RulesPassed}
 use Rattle.words.specs.Messages.{unclesIn, anchorLayer, anchorIndex}
 
-module _ (form : Bool) (s m : List ℕ) (P : Passed form s m) where
+module _ (form : Bool) (s m : List ℕ) (P : RulesPassed form s m) where
   -- the anchor's number is that of this layer and index
   pub anchor-number : anchor (placeIn s m) ≡ nodeNumber (heightOf s) (anchorLayer m) (anchorIndex m)
   unfolding anchor placeOf
   anchor-number =
       let X = headerOf m in
-      let K = rules-kept X (blocksOf s) (heightOf s) (P .rules) in
+      let K = rules-kept X (heightOf s) (P .rules) in
       let one = log-some (X .len) (K .two) in
       ancestor-number (heightOf s) (X .base + height (X .len)) (X .index / X .len) (X .proof - (height (X .len) - 1)) (omega (arith, K .within, K .above))
 
@@ -36,9 +36,9 @@ module _ (form : Bool) (s m : List ℕ) (P : Passed form s m) where
   anchor-in-tree =
       let X = headerOf m in
       let h = heightOf s in
-      let K = rules-kept X (blocksOf s) (heightOf s) (P .rules) in
+      let K = rules-kept X (heightOf s) (P .rules) in
       let one = log-some (X .len) (K .two) in
-      let ins = top-inside X (blocksOf s) h K in
+      let ins = top-inside X h K in
       let up : anchorLayer m ≤ heightOf s = omega (arith, K .within, K .above) in
       let ex : heightOf s - anchorLayer m + unclesIn m ≡ heightOf s - (X .base + height (X .len)) = omega (arith, K .within, K .above) in
       let pw : 2 ^ (heightOf s - anchorLayer m) * 2 ^ unclesIn m ≡ 2 ^ (heightOf s - (X .base + height (X .len))) =

@@ -17,7 +17,7 @@ use Rattle.store.specs.StoreLaws.{facts-usable, open-done, opened-file, opened-
 use Rattle.header.specs.declared.Place.{Place}
 use Rattle.header.specs.Header.{headerOf, isHashes, placeOf}
 use Rattle.messages.specs.Take.{anchor, worked, padded, placeIn, takeNumber, takeAfter}
-use Rattle.messages.specs.Asks.{Passed}
+use Rattle.messages.specs.Asks.{RulesPassed}
 use Rattle.messages.specs.TakeLaws.{passed}
 use Rattle.messages.specs.TakenLaws.{take-refused}
 use Rattle.marks.specs.Marks.{marksPut}
@@ -132,14 +132,14 @@ module _ (M : MessageSet) {t : List ℕ} (o : OurStore t) (still : Still M t) wh
     well =
         let W = well-formed a m .1 there in
         record {
-          ruled = record { store = facts-usable t facts; form = W .ruled .form; root = roots ∙ W .ruled .root; rules = rw (blocks, layers) (W .ruled .rules) };
+          ruled = record { store = facts-usable t facts; form = W .ruled .form; root = roots ∙ W .ruled .root; rules = rw layers (W .ruled .rules) };
           size = W .size;
         }
 
     formed : Formed t m
     formed = well-formed t m .0 well
 
-    P : Passed (isHashes m) t m
+    P : RulesPassed (isHashes m) t m
     P = passed (isHashes m) t m (formed .header)
 
     A : Acceptable a m

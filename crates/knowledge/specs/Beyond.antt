@@ -57,12 +57,12 @@ module _ (s t : List ℕ) (f : Facts s) (e : Alike s t) where
     header-used : (form : Bool) → headerNumber form t m ≡ headerNumber form s m
     unfolding headerNumber
     header-used form =
-        rw (facts-usable t (e .facts), facts-usable s f, e .same .root, e .same .blocks, e .same .layers)
+        rw (facts-usable t (e .facts), facts-usable s f, e .same .root, e .same .layers)
 
     place-used : placeIn t m ≡ placeIn s m
     place-used = ap (placeOf (headerOf m)) (e .same .layers)
 
-    placed-here : headerNumber (isHashes m) s m ≡ 0 → Placed (positions (heightOf s)) (headerOf m) (placeIn s m)
+    placed-here : headerNumber (isHashes m) s m ≡ 0 → Placed (heightOf s) (headerOf m) (placeIn s m)
     placed-here z = placed (isHashes m) s m (passed (isHashes m) s m z)
 
     anchor-below : headerNumber (isHashes m) s m ≡ 0 → anchor (placeIn s m) < positions (heightOf s)
@@ -75,7 +75,7 @@ module _ (s t : List ℕ) (f : Facts s) (e : Alike s t) where
     unfolding settled
     settled-sound z n =
         let q = placed-here z in
-        ready-settled (length s) m (positions (heightOf s)) (headerOf m) (placeIn s m) (placed-ready (length s) (length m) q (f .room) (omega (arith, q .size)))
+        ready-settled (length s) m (heightOf s) (headerOf m) (placeIn s m) (placed-ready (length s) (length m) q (f .room) (omega (arith, q .size)))
 
     tests-used : headerNumber (isHashes m) s m ≡ 0 → length m ≡ messageSize (headerOf m) → anchored t m (placeIn s m) ≡ anchored s m (placeIn s m)
     unfolding anchored

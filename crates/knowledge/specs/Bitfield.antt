@@ -87,7 +87,7 @@ module _ (s : List ℕ) (f : Facts s) (i : ℕ) (b : i < pieceCount (fileLength 
   in-covered j c =
       (omega (arith, start-is, c .from), omega (arith, start-is, end-is, blocks-are, c .inside, c .from, c .upto))
 
-  all-of-piece : pieceMarked s i ≡ allMarked s (firstBlock s i) (blocksIn s i)
+  pub all-of-piece : pieceMarked s i ≡ allMarked s (firstBlock s i) (blocksIn s i)
   unfolding pieceMarked
   all-of-piece = rw (lt-ltb i (pieceCount (fileLength s) (pieceLength s)) b)
 

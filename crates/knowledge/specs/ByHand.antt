@@ -39,9 +39,9 @@ place-is : placeOf first-pair 3 ≡ first-pair-place
 unfolding placeOf nodeNumber heightFrom height
 place-is = refl
 
-height-is : height (blockCount 81920) ≡ 3
+pub three-high : height (blockCount 81920) ≡ 3
 unfolding ceilDiv blockCount heightFrom height
-height-is = refl
+three-high = refl
 
 seven : (s m : List ℕ)
     → lacking s (settled m first-pair-place) ≡ lacks s 8 + (lacks s 9 + (lacks s 4 + (lacks s 5 + (lacks s 2 + (lacks s 3 + (lacks s 1 + 0))))))
@@ -55,9 +55,9 @@ pub six-new : (b : List ℕ) (plen : ℕ) (root m : List ℕ) → factsInRange 8
 unfolding lacks positions
 six-new b plen root m ok fits size h z =
     let s = opened b 81920 plen root in
-    let e : heightOf s ≡ 3 = opened-height b 81920 plen root ok fits size ∙ height-is in
+    let e : heightOf s ≡ 3 = opened-height b 81920 plen root ok fits size ∙ three-high in
     let p : placeIn s m ≡ first-pair-place = ap₂ (λ (x : Header) (y : ℕ). placeOf x y) h e ∙ place-is in
-    let held : (q : ℕ) → 1 ≤ q → q < 16 → heldAt s q ≡ eqb q 1 = λ q l g. opened-held b 81920 plen root ok fits size q l (rw height-is g) in
+    let held : (q : ℕ) → 1 ≤ q → q < 16 → heldAt s q ≡ eqb q 1 = λ q l g. opened-held b 81920 plen root ok fits size q l (rw three-high g) in
     count-lacking s m z ∙ ap (λ (x : Place). lacking s (settled m x)) p ∙ seven s m
     ∙ rw (
       held 8 (lit≤ tt) (lit< tt),
@@ -73,12 +73,12 @@ six-new b plen root m ok fits size h z =
 
 -- a rule that fails, in a usable store with the message's root, is 3
 broken : (form : Bool) (s m : List ℕ) → usable s ≡ true → form ≡ true → same (factsRoot s) (messageRoot m) ≡ true
-    → rulesKept (headerOf m) (blocksOf s) (heightOf s) ≡ false → headerNumber form s m ≡ ruleBroken
+    → rulesKept (headerOf m) (heightOf s) ≡ false → headerNumber form s m ≡ ruleBroken
 unfolding headerNumber
 broken form s m u f r k = rw (u, f, r, k)
 
 -- so in whichever of the three forms it comes
-pub broken-3 : (s m : List ℕ) → usable s ≡ true → same (factsRoot s) (messageRoot m) ≡ true → rulesKept (headerOf m) (blocksOf s) (heightOf s) ≡ false → Refused3 s m
+pub broken-3 : (s m : List ℕ) → usable s ≡ true → same (factsRoot s) (messageRoot m) ≡ true → rulesKept (headerOf m) (heightOf s) ≡ false → Refused3 s m
 broken-3 s m u r k =
     record {
       hashes = λ f. unfold takeAnswer takeNumber in rw (broken (isHashes m) s m u f r k);
@@ -86,17 +86,17 @@ broken-3 s m u r k =
       reject = λ f. unfold rejectAnswer in broken (isReject m) s m u f r k;
     }
 
--- a rule that fails for five blocks, in a store of N=81920
-pub of-five : (s m : List ℕ) (x : Header) → fileLength s ≡ 81920 → headerOf m ≡ x → rulesKept x 5 3 ≡ false → rulesKept (headerOf m) (blocksOf s) (heightOf s) ≡ false
+-- a rule that fails in a tree of height 3, in a store of N=81920
+pub of-five : (s m : List ℕ) (x : Header) → fileLength s ≡ 81920 → headerOf m ≡ x → rulesKept x 3 ≡ false → rulesKept (headerOf m) (heightOf s) ≡ false
 unfolding heightOf blocksOf ceilDiv blockCount heightFrom height
 of-five s m x n e k = rw (n, e) k
 
 -- no header keeps the rules of a tree of height 0
-pub no-rule-at-height-0 : (x : Header) (b : ℕ) → rulesKept x b 0 ≡ false
+pub no-rule-at-height-0 : (x : Header) → rulesKept x 0 ≡ false
 unfolding rulesKept
-no-rule-at-height-0 x b =
+no-rule-at-height-0 x =
     rw (le-ltb (x .base + x .proof) 0 (omega arith))
-    (last (lengthRule (x .len) && eqb (x .index % x .len) 0 && leb (x .base + height (x .len)) 0) (indexRule x b 0))
+    (last (lengthRule (x .len) && eqb (x .index % x .len) 0 && leb (x .base + height (x .len)) 0) (indexRule x 0))
   where
     last : (a c : Bool) → (a && false && c) ≡ false
     last true c = refl

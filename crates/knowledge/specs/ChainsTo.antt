@@ -9,12 +9,12 @@ use native.Mathlib.Omega.{arith}
 use Rattle.sha256.specs.Sha256.{pairHash}
 use Rattle.tree.specs.Geometry.{nodeNumber}
 use Rattle.tree.specs.GeometryLaws.{node-number-parent}
-use Rattle.store.specs.Store.{blocksOf, heightOf}
+use Rattle.store.specs.Store.{heightOf}
 use Rattle.settling.specs.Path.{uncle}
 use Rattle.header.specs.Header.{headerOf, isHashes, Kept}
 use Rattle.header.specs.HeaderLaws.{rules-kept, log-some}
 use Rattle.messages.specs.Take.{given, unclesOf, placeIn}
-use Rattle.messages.specs.Asks.{Passed}
+use Rattle.messages.specs.Asks.{RulesPassed}
 use Rattle.messages.specs.TakeLaws.{passed, placed}
 use Rattle.words.specs.Messages.{Makes, alone, pair, Climbs, there, left, right, hashIn, topLayer, topIndex, anchorLayer, anchorIndex, Settles, ChainsTo}
 use Rattle.knowledge.specs.Chains.{Chain}
@@ -60,11 +60,11 @@ climbs-up f g b h l i u n x v w e a c q (right d k y z t o r) =
     right d k n z t (ap (λ (p : ℕ). p % 2) q ∙ nx ∙ o) (rw (e d (omega arith)) at r2)
 
 module _ (s m : List ℕ) (W : Formed s m) where
-  P : Passed (isHashes m) s m
+  P : RulesPassed (isHashes m) s m
   P = passed (isHashes m) s m (W .header)
 
-  kept : Kept (headerOf m) (blocksOf s) (heightOf s)
-  kept = rules-kept (headerOf m) (blocksOf s) (heightOf s) (P .rules)
+  kept : Kept (headerOf m) (heightOf s)
+  kept = rules-kept (headerOf m) (heightOf s) (P .rules)
 
   length-is : 2 ^ placeIn s m .k ≡ headerOf m .len
   length-is = placed (isHashes m) s m P .power

@@ -211,7 +211,7 @@ pub sized-bytes : (n : ℕ) (l : List ℕ) → Octets n l → Bytes l
 sized-bytes n l o = rw (o .size) o
 
 -- what a message settles
-pub message-octets : (s m : List ℕ) → Bytes m → Ready (length s) (length m) (positions (heightOf s)) (headerOf m) (placeIn s m)
+pub message-octets : (s m : List ℕ) → Bytes m → Ready (length s) (length m) (heightOf s) (headerOf m) (placeIn s m)
     → (e : Entry) → In e (settled m (placeIn s m)) → Octets 32 (e .hash)
 unfolding settled given runOf unclesOf
 message-octets s m b r e i =
@@ -261,7 +261,7 @@ take-conflicts s m e =
 
 -- a message that passes 9, 1, 2, 3 and 4 lies in the store's tree
 pub well-ready : (s m : List ℕ) → headerNumber (isHashes m) s m ≡ 0 → length m ≡ messageSize (headerOf m)
-    → Ready (length s) (length m) (positions (heightOf s)) (headerOf m) (placeIn s m)
+    → Ready (length s) (length m) (heightOf s) (headerOf m) (placeIn s m)
 well-ready s m h e =
     let P = passed (isHashes m) s m h in
     let q = placed (isHashes m) s m P in

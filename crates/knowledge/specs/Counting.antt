@@ -7,17 +7,14 @@ use Prim.Native.Nat.{ℕ, zero, suc, _+_, _≤_, _<_}
 use native.Mathlib.Omega.{arith}
 use Rattle.cells.specs.CellsLaws.{lt-or-ge}
 use Rattle.cells.specs.Entries.{oneIf}
+use Rattle.marks.specs.MarksLaws.{one-small}
 use Rattle.words.specs.Asking.{countBelow}
-
-one-most : (b : Bool) → oneIf b ≤ 1
-one-most true = omega arith
-one-most false = omega arith
 
 -- n at most do
 pub count-most : (f : ℕ → Bool) (n : ℕ) → countBelow f n ≤ n
 unfolding countBelow
 count-most f zero = omega arith
-count-most f (suc n) = omega (arith, count-most f n, one-most (f n))
+count-most f (suc n) = omega (arith, count-most f n, one-small (f n))
 
 one-less : (a b : Bool) → (b ≡ true → a ≡ true) → oneIf b ≤ oneIf a
 one-less true true f = omega arith

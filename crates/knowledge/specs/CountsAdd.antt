@@ -15,6 +15,7 @@ use Rattle.cells.specs.Entries.{oneIf, newly}
 use Rattle.store.specs.Store.{heightOf, positions, Facts}
 use Rattle.store.specs.StoreLaws.{positions-some, heldCount, used-held}
 use Rattle.marks.specs.Marks.{marksPut}
+use Rattle.marks.specs.MarksLaws.{one-small}
 use Rattle.messages.specs.Take.{takeAfter, takeAnswer}
 use Rattle.words.specs.History.{Call, take, loadLayer, judgeBlock, judgePiece, judgeHybridPiece, clear, reopen, load, repair, look, after, Opening, Steps, Each, nothing, called, between}
 use Rattle.words.specs.Hearing.{MessageSet, Heard, NothingNew, countOf, counted}
@@ -27,15 +28,11 @@ use Rattle.knowledge.specs.AnyOrder.{back}
 
 -- ---- how many positions are held
 
-pub one-most : (b : Bool) → oneIf b ≤ 1
-one-most true = omega arith
-one-most false = omega arith
-
 -- at most all are,
 pub count-most : (k : ℕ) (s : List ℕ) → heldCount k s ≤ k
 unfolding heldCount
 count-most zero s = omega arith
-count-most (suc k) s = omega (arith, count-most k s, one-most (heldAt s (suc k)))
+count-most (suc k) s = omega (arith, count-most k s, one-small (heldAt s (suc k)))
 
 -- and at least one, where the root is
 pub count-root : (k : ℕ) (s : List ℕ) → heldAt s 1 ≡ true → 1 ≤ k → 1 ≤ heldCount k s

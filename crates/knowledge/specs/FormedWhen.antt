@@ -15,7 +15,7 @@ use Rattle.octets.specs.OctetsLaws.{same-true, same-eq, same-false, same-ne}
 use Rattle.numbers.specs.Numbers.{noMessage, otherRoot, ruleBroken, wrongSize, unusable}
 use Rattle.numbers.specs.Chain.{last, decided, exactly-of, none, passes-of}
 use Rattle.cells.specs.CellsLaws.{lt-or-ge}
-use Rattle.store.specs.Store.{usable, factsRoot, blocksOf, heightOf}
+use Rattle.store.specs.Store.{usable, factsRoot, heightOf}
 use Rattle.header.specs.Header.{hashesId, headerSize, messageId, headerOf, messageRoot, isHashes, rulesKept, messageSize, Kept}
 use Rattle.header.specs.HeaderLaws.{rules-kept, kept-rules}
 use Rattle.messages.specs.Take.{takeNumber}
@@ -54,12 +54,12 @@ false-form m o =
       ]
     ]
 
-rules-false : (s m : List ℕ) → rulesKept (headerOf m) (blocksOf s) (heightOf s) ≡ false → Kept (headerOf m) (blocksOf s) (heightOf s) → ⊥
-rules-false s m f k = not-both (kept-rules (headerOf m) (blocksOf s) (heightOf s) k) f
+rules-false : (s m : List ℕ) → rulesKept (headerOf m) (heightOf s) ≡ false → Kept (headerOf m) (heightOf s) → ⊥
+rules-false s m f k = not-both (kept-rules (headerOf m) (heightOf s) k) f
 
-false-rules : (s m : List ℕ) → (Kept (headerOf m) (blocksOf s) (heightOf s) → ⊥) → rulesKept (headerOf m) (blocksOf s) (heightOf s) ≡ false
+false-rules : (s m : List ℕ) → (Kept (headerOf m) (heightOf s) → ⊥) → rulesKept (headerOf m) (heightOf s) ≡ false
 false-rules s m n =
-    elim (either (rulesKept (headerOf m) (blocksOf s) (heightOf s))) [ inl t ↦ absurd (n (rules-kept (headerOf m) (blocksOf s) (heightOf s) t)) | inr f ↦ f ]
+    elim (either (rulesKept (headerOf m) (heightOf s))) [ inl t ↦ absurd (n (rules-kept (headerOf m) (heightOf s) t)) | inr f ↦ f ]
 
 module _ (s m : List ℕ) where
   -- 9 EXACTLY WHEN the store is unusable
@@ -79,7 +79,7 @@ module _ (s m : List ℕ) where
       )
 
   -- 3 EXACTLY WHEN it passes those, and a header rule fails
-  pub three-exactly-when : (takeNumber s m ≡ ruleBroken) ↔ (Addressed s m × (Kept (headerOf m) (blocksOf s) (heightOf s) → ⊥))
+  pub three-exactly-when : (takeNumber s m ≡ ruleBroken) ↔ (Addressed s m × (Kept (headerOf m) (heightOf s) → ⊥))
   three-exactly-when =
       let c = exactly-of (takeChain s m) ruleBroken (take-tests s m) refl in (
         λ e.
@@ -90,18 +90,18 @@ module _ (s m : List ℕ) where
 
   -- the first four tests say that a message keeps the rules of this store
   ruled : {A : Type 0}
-      → ((usable s ≡ true) × ((isHashes m ≡ true) × ((same (factsRoot s) (messageRoot m) ≡ true) × ((rulesKept (headerOf m) (blocksOf s) (heightOf s) ≡ true) × A))))
+      → ((usable s ≡ true) × ((isHashes m ≡ true) × ((same (factsRoot s) (messageRoot m) ≡ true) × ((rulesKept (headerOf m) (heightOf s) ≡ true) × A))))
       ↔ (Ruled s m × A)
   ruled = (
     λ t. (
-      record { store = t .0; form = form-true m (t .1 .0); root = same-true (factsRoot s) (messageRoot m) (t .1 .1 .0); rules = rules-kept (headerOf m) (blocksOf s) (heightOf s) (t .1 .1 .1 .0) },
+      record { store = t .0; form = form-true m (t .1 .0); root = same-true (factsRoot s) (messageRoot m) (t .1 .1 .0); rules = rules-kept (headerOf m) (heightOf s) (t .1 .1 .1 .0) },
       t .1 .1 .1 .1,
     ),
     λ t. (
       t .0 .store,
       (
         true-form m (t .0 .form),
-        (same-eq (factsRoot s) (messageRoot m) (t .0 .root), (kept-rules (headerOf m) (blocksOf s) (heightOf s) (t .0 .rules), t .1)),
+        (same-eq (factsRoot s) (messageRoot m) (t .0 .root), (kept-rules (headerOf m) (heightOf s) (t .0 .rules), t .1)),
       ),
     ),
   )
@@ -119,13 +119,13 @@ module _ (s m : List ℕ) where
     λ w. record {
       header =
           passes (isHashes m) s m
-          (record { store = w .ruled .store; formed = true-form m (w .ruled .form); root = same-eq (factsRoot s) (messageRoot m) (w .ruled .root); rules = kept-rules (headerOf m) (blocksOf s) (heightOf s) (w .ruled .rules) });
+          (record { store = w .ruled .store; formed = true-form m (w .ruled .form); root = same-eq (factsRoot s) (messageRoot m) (w .ruled .root); rules = kept-rules (headerOf m) (heightOf s) (w .ruled .rules) });
       size = w .size;
     },
     λ w.
         (let P = passed (isHashes m) s m (w .header) in
         record {
-          ruled = record { store = P .store; form = form-true m (P .formed); root = same-true (factsRoot s) (messageRoot m) (P .root); rules = rules-kept (headerOf m) (blocksOf s) (heightOf s) (P .rules) };
+          ruled = record { store = P .store; form = form-true m (P .formed); root = same-true (factsRoot s) (messageRoot m) (P .root); rules = rules-kept (headerOf m) (heightOf s) (P .rules) };
           size = w .size;
         }),
   )

@@ -73,7 +73,7 @@ grown-putAll s L f S r a =
 
 -- a taken message writes no byte of the facts
 pub taken-from-root : (s m : List ℕ) → takeNumber s m ≡ 0 → FromRoot (settled m (placeIn s m))
-taken-from-root s m z = ready-from-root (length s) m (positions (heightOf s)) (headerOf m) (placeIn s m) (taken-ready s m (takeNumber s m) refl z)
+taken-from-root s m z = ready-from-root (length s) m (heightOf s) (headerOf m) (placeIn s m) (taken-ready s m (takeNumber s m) refl z)
 
 -- a message, whatever it gets
 pub grown-take : (s m : List ℕ) → Facts s → Grown s (takeAfter s m)
@@ -84,7 +84,7 @@ grown-take s m f =
           let r = taken-ready s m (takeNumber s m) refl z in
           let w = taken-then-right s m (taken-well-formed s m z) z in
           rw (eq-eqb (takeNumber s m) 0 z)
-          (grown-putAll s (settled m (placeIn s m)) f (ready-settled (length s) m (positions (heightOf s)) (headerOf m) (placeIn s m) r) (taken-from-root s m z) (w .agree))
+          (grown-putAll s (settled m (placeIn s m)) f (ready-settled (length s) m (heightOf s) (headerOf m) (placeIn s m) r) (taken-from-root s m z) (w .agree))
       | no ne ↦ rw (ne-eqb (takeNumber s m) 0 ne) (grown-same s f)
     ]
 

@@ -21,7 +21,7 @@ use Rattle.store.specs.StoreLaws.{usable-facts, tree-says}
 use Rattle.settling.specs.Path.{sibling, uncle, ancestor}
 use Rattle.header.specs.Header.{headerOf, isHashes}
 use Rattle.messages.specs.Take.{given, unclesOf, settled, anchor, worked, padded, anchored, placeIn, takeNumber}
-use Rattle.messages.specs.Asks.{Passed}
+use Rattle.messages.specs.Asks.{RulesPassed}
 use Rattle.messages.specs.TakeLaws.{passed}
 use Rattle.words.specs.Messages.{anchorLayer, anchorIndex, Settles, ChainsTo, PaddingRight, PaddingWrong, AnchorIs, AnchorLacks, Acceptable, Unanchored, Elsewhere, Conflicting}
 use Rattle.knowledge.specs.NumberChains.{bodyChain}
@@ -40,7 +40,7 @@ use Rattle.knowledge.specs.Positions.{SettlesNumber, settles-entered, en
 -- ---- from the tests to these
 
 module _ (s m : List ℕ) (W : Formed s m) where
-  P : Passed (isHashes m) s m
+  P : RulesPassed (isHashes m) s m
   P = passed (isHashes m) s m (W .header)
 
   facts : Facts s

@@ -125,7 +125,7 @@ pub record Whole (N a : ℕ) (L : List Entry) : Type 0 where
   pub family : (e : Entry) → In e L → (e .at ≡ a) ⊎ FamilyIn L (e .at)
 
 -- a message that lies in the tree settles such a list, up to its anchor
-pub message-whole : (s m : List ℕ) → Ready (length s) (length m) (positions (heightOf s)) (headerOf m) (placeIn s m)
+pub message-whole : (s m : List ℕ) → Ready (length s) (length m) (heightOf s) (headerOf m) (placeIn s m)
     → Whole (positions (heightOf s)) (anchor (placeIn s m)) (settled m (placeIn s m))
 unfolding settled anchor
 message-whole s m r =
@@ -133,7 +133,7 @@ message-whole s m r =
     let leaf = given m (p .k) in
     let us = unclesOf m (2 ^ p .k) (p .u) in
     record {
-      sound = unfold settled in ready-settled (length s) m (positions (heightOf s)) (headerOf m) (placeIn s m) r;
+      sound = unfold settled in ready-settled (length s) m (heightOf s) (headerOf m) (placeIn s m) r;
       from = settled-positive leaf us (p .k) (p .top) 0 0 (p .u) (node leaf (p .k) 0) (r .anchor);
       alone = settled-consistent leaf us (p .k) (p .top) 0 0 (p .u) (node leaf (p .k) 0) (r .anchor);
       family = settled-family leaf us (p .k) (p .top) 0 0 (p .u) (r .anchor);

@@ -20,7 +20,7 @@ use Rattle.settling.specs.Path.{sibling, uncle, ancestor}
 use Rattle.header.specs.Header.{headerOf, isHashes, placeOf, Kept}
 use Rattle.header.specs.HeaderLaws.{rules-kept}
 use Rattle.messages.specs.Take.{given, unclesOf, anchor, placeIn, takeNumber}
-use Rattle.messages.specs.Asks.{Passed}
+use Rattle.messages.specs.Asks.{RulesPassed}
 use Rattle.messages.specs.TakeLaws.{passed}
 use Rattle.pieces.specs.Pieces.{blockNumber, pieceHeight, pieceNumber, layerNumber}
 use Rattle.pieces.specs.Hybrid.{V1Agrees, hybridNumber}
@@ -50,11 +50,11 @@ module _ (file s m : List ℕ) (w : For file s) (T : TrueHashes file s m) where
   formed : Formed s m
   formed = well-formed s m .0 (T .formed)
 
-  P : Passed (isHashes m) s m
+  P : RulesPassed (isHashes m) s m
   P = passed (isHashes m) s m (formed .header)
 
-  kept : Kept (headerOf m) (blocksOf s) (heightOf s)
-  kept = rules-kept (headerOf m) (blocksOf s) (heightOf s) (P .rules)
+  kept : Kept (headerOf m) (heightOf s)
+  kept = rules-kept (headerOf m) (heightOf s) (P .rules)
 
   in-tree : (n l i : ℕ) (v : List ℕ) → l ≤ heightOf s → i < 2 ^ (heightOf s - l) → nodeNumber (heightOf s) l i ≡ n → node (leafOf file) l i ≡ v → Has n v (treeOf file)
   in-tree n l i v a b e q =
@@ -66,16 +66,16 @@ module _ (file s m : List ℕ) (w : For file s) (T : TrueHashes file s m) where
       let X = headerOf m in
       let c : j < headerOf m .len = omega (arith, kept .power) in
       in-tree (placeOf X (heightOf s) .top * 2 ^ height (X .len) + j) (X .base) (X .index + j) (given m (height (X .len)) j) (omega (arith, kept .within))
-      (run-in-layer X (blocksOf s) (heightOf s) kept j l) (sym (run-number X (blocksOf s) (heightOf s) kept j l)) (sym (T .run j c) ∙ sym (given-is s m formed j l))
+      (run-in-layer X (heightOf s) kept j l) (sym (run-number X (heightOf s) kept j l)) (sym (T .run j c) ∙ sym (given-is s m formed j l))
 
   uncle-told : (i : ℕ) → i < placeIn s m .u
       → Has (sibling (ancestor i (placeIn s m .top))) (uncle (unclesOf m (2 ^ placeIn s m .k) (placeIn s m .u)) i) (treeOf file)
   unfolding placeOf
   uncle-told i l =
       let X = headerOf m in
-      let b = uncle-layer X (blocksOf s) (heightOf s) kept i l in
+      let b = uncle-layer X (heightOf s) kept i l in
       in-tree (sibling (ancestor i (placeIn s m .top))) (topLayer m + i) (sibling (topIndex m / 2 ^ i)) (uncle (unclesOf m (2 ^ placeIn s m .k) (placeIn s m .u)) i) (omega arith)
-      (uncle-in-layer X (blocksOf s) (heightOf s) kept i l) (sym (uncle-number X (blocksOf s) (heightOf s) kept i l))
+      (uncle-in-layer X (heightOf s) kept i l) (sym (uncle-number X (heightOf s) kept i l))
       (sym (T .uncles i l) ∙ sym (uncle-is s m formed i l))
 
   tells : Tells file s m

@@ -25,11 +25,11 @@ use Rattle.header.specs.declared.Header.{Header}
 use Rattle.header.specs.Header.{headerSize, headerOf, uncleCount}
 use Rattle.messages.specs.Take.{runOf, takeNumber, takeAfter}
 use Rattle.pieces.specs.Pieces.{layerOfPieces, pieceHeight, pieceNumber}
-use Rattle.pieces.specs.PiecesLaws.{height-layer, height-root, pieces-are, piece-in, piece-right}
+use Rattle.pieces.specs.PiecesLaws.{height-layer, height-root, pieces-are, piece-in, piece-right, piece-length-by-layer}
 use Rattle.asking.specs.Asking.{noRequest, nextAnswer}
 use Rattle.leaves.specs.Leaves.{runOver, leafMessage, leavesTold, leavesAnswer, leavesAfter}
 use Rattle.leaves.specs.LeavesLaws.{leaves-done, told-none, told-some, message-length, root-size}
-use Rattle.leaves.specs.Taught.{plen-form, header-is, leaf-is, leaves-taken}
+use Rattle.leaves.specs.Taught.{header-is, leaf-is, leaves-taken}
 use Rattle.words.specs.Held.{Holds}
 use Rattle.words.specs.Messages.{hashIn, unclesIn, Settles, inRun, WellFormed}
 use Rattle.words.specs.File.{For, pieceFor, TrueHashes}
@@ -76,7 +76,7 @@ module _ (s : List ℕ) (f : Facts s) where
       by true t = (
         λ k.
             (let p : 2 ^ layerOfPieces s ≡ 1 = ap (λ (x : ℕ). 2 ^ x) (sym (height-layer s f t) ∙ k) in
-            inl (omega (arith, plen-form s f))),
+            inl (omega (arith, piece-length-by-layer s f))),
         λ c.
             elim c [
               | inl e ↦
@@ -85,10 +85,10 @@ module _ (s : List ℕ) (f : Facts s) where
                     | yes y ↦ y
                     | no n ↦
                         let m : 2 ^ 1 ≤ 2 ^ layerOfPieces s = pow-mono {i = 1} {j = layerOfPieces s} (omega arith) in
-                        let w : ⊥ = omega (arith, plen-form s f) in
+                        let w : ⊥ = omega (arith, piece-length-by-layer s f) in
                         absurd w
                   ]
-              | inr l ↦ (let w : ⊥ = omega (arith, plen-form s f, pow-pos (layerOfPieces s), has-longer (fileLength s) (pieceLength s) t) in absurd w)
+              | inr l ↦ (let w : ⊥ = omega (arith, piece-length-by-layer s f, pow-pos (layerOfPieces s), has-longer (fileLength s) (pieceLength s) t) in absurd w)
             ],
       )
       by false t = (
@@ -111,7 +111,7 @@ piece-of s f b l = by (hasLayer (fileLength s) (pieceLength s)) refl
     layered = unfold covering in part-below b (blocksOf s) (2 ^ layerOfPieces s) (pow-pos (layerOfPieces s)) l
 
     any : 0 < pieceCount (fileLength s) (pieceLength s)
-    any = unfold pieceCount in some-part (fileLength s) (pieceLength s) (omega (arith, plen-form s f, pow-pos (layerOfPieces s))) (f .some)
+    any = unfold pieceCount in some-part (fileLength s) (pieceLength s) (omega (arith, piece-length-by-layer s f, pow-pos (layerOfPieces s))) (f .some)
       where
         some-part : (n c : ℕ) → 0 < c → 1 ≤ n → 0 < ceilDiv n c
         some-part n c p o = let w = part-below 0 n c p o in omega arith

@@ -14,10 +14,9 @@ use Rattle.octets.specs.Octets.{cut, pasted}
 use Rattle.octets.specs.OctetsLaws.{getD-pasted-before, getD-pasted-in, getD-pasted-after}
 use Rattle.tree.specs.Geometry.{pieceLayer, pieceCount, ceilDiv}
 use Rattle.store.specs.Store.{fileLength, pieceLength, heightOf, storeSize, Facts}
-use Rattle.store.specs.StoreLaws.{facts-usable, used-same, used-facts}
+use Rattle.store.specs.StoreLaws.{facts-usable, used-same, used-facts, byte-same}
 use Rattle.marks.specs.Marks.{marksStart, markedAt, marksPut, blockThere, markedAnswer, eachPiece, firstBlock, blocksIn, allMarked, pieceMarked, fieldBits, fieldBytes, fieldSize, fieldAnswer, fieldAfter}
 use Rattle.marks.specs.MarksLaws.{same-mark, same-start, marks-end, mark-in, there-fits, covered-fits}
-use Rattle.knowledge.specs.Alike.{same-byte}
 
 -- the same row written at the same place of two lists
 row-same : (s t : List ℕ) (at : ℕ) (h : List ℕ) → at + length h ≤ length s → at + length h ≤ length t → (j : ℕ) → getD t j 0 ≡ getD s j 0
@@ -45,7 +44,7 @@ module _ (s t : List ℕ) (f : Facts s) (e : cut t 0 (storeSize (fileLength s)) 
 
   -- a mark is the same in both,
   pub mark-used : (i : ℕ) → i < 2 ^ heightOf s → markedAt t i ≡ markedAt s i
-  mark-used i l = same-mark s t (used-same s t f e) i (same-byte s t f e (marksStart s + i) (omega (arith, marks-end s)))
+  mark-used i l = same-mark s t (used-same s t f e) i (byte-same s t f e (marksStart s + i) (omega (arith, marks-end s)))
 
   -- and so is the answer about it,
   pub marked-beyond : (i : ℕ) → markedAnswer t i ≡ markedAnswer s i
@@ -118,4 +117,4 @@ module _ (s t : List ℕ) (f : Facts s) (e : cut t 0 (storeSize (fileLength s)) 
       let h : 2 ^ heightOf t ≡ 2 ^ heightOf s = ap (λ (k : ℕ). 2 ^ k) (used-same s t f e .layers) in
       let at = mark-in t (used-facts s t f e) in
       ap (λ (k : ℕ). getD (pasted t (k + i) (replicate n x)) j 0) start-used
-      ∙ row-same s t (marksStart s + i) (replicate n x) (omega (arith, mark-in s f)) (omega (arith, start-used)) j (same-byte s t f e j b)
+      ∙ row-same s t (marksStart s + i) (replicate n x) (omega (arith, mark-in s f)) (omega (arith, start-used)) j (byte-same s t f e j b)

@@ -364,7 +364,7 @@ back-only s us c j m gone =
 -- ---- from the opening on
 
 -- a zero byte is no mark
-zero-unmarked : (s : List ℕ) (j : ℕ) → getD s (marksStart s + j) 0 ≡ 0 → markedAt s j ≡ false
+pub zero-unmarked : (s : List ℕ) (j : ℕ) → getD s (marksStart s + j) 0 ≡ 0 → markedAt s j ≡ false
 unfolding markedAt
 zero-unmarked s j e = ap (λ (x : ℕ). eqb x 1) e
 

@@ -233,7 +233,7 @@ module _ (s : List ℕ) (l : ℕ) (e : nextAnswer s l .asks ≡ 1) where
     inside = asked-run s l A (N .some)
 
     -- it keeps the header's rules: no store of this file answers it 3
-    pub keeps-rules : Kept (headerOf m) (blocksOf s) (heightOf s)
+    pub keeps-rules : Kept (headerOf m) (heightOf s)
     keeps-rules =
         record {
           power = rw header-len (R .power);

@@ -16,7 +16,7 @@ use Rattle.store.specs.Store.{heightOf, heldAnswer}
 use Rattle.store.specs.StoreLaws.{usable-facts, held-not}
 use Rattle.header.specs.Header.{isHashes}
 use Rattle.messages.specs.Take.{anchor, placeIn, takeNumber, takeAfter, takeAnswer}
-use Rattle.messages.specs.Asks.{Passed}
+use Rattle.messages.specs.Asks.{RulesPassed}
 use Rattle.messages.specs.TakeLaws.{passed, passes}
 use Rattle.words.specs.Held.{Holds}
 use Rattle.words.specs.History.{Steps}
@@ -28,7 +28,7 @@ use Rattle.knowledge.specs.Refusals.{message-refused}
 use Rattle.knowledge.specs.AnchorHeld.{anchor-number, anchor-in-tree, asked-held, held-asked}
 
 -- 6 is given by a usable store, to a message of its root that keeps the rules
-pub six-passed : (t m : List ℕ) → takeNumber t m ≡ noAnchor → Passed (isHashes m) t m
+pub six-passed : (t m : List ℕ) → takeNumber t m ≡ noAnchor → RulesPassed (isHashes m) t m
 six-passed t m e =
     let p = exactly-of (takeChain t m) noAnchor (take-tests t m) refl .0 e in
     record { store = p .0; formed = p .1 .0; root = p .1 .1 .0; rules = p .1 .1 .1 .0 }
@@ -41,7 +41,7 @@ never-6-again {s} {t} m v h k e =
 
 -- 6 WHILE THE ANCHOR IS NOT HELD: a reply that got 6 gets 6 at a later offer exactly if kd_held does not give its anchor then
 module _ {s t : List ℕ} (m : List ℕ) (six : takeNumber s m ≡ noAnchor) (h : Steps s t) where
-  there : Passed (isHashes m) t m
+  there : RulesPassed (isHashes m) t m
   there =
       let p = six-passed s m six in
       let f = usable-facts s (p .store) in

@@ -87,7 +87,7 @@ held-tests s l i = by (usable s) (inTree (heightOf s) l i) (heldAt s (nodeNumber
 abbrev pub headed : Bool → List ℕ → List ℕ → Chain → Chain
 headed form s m c =
     test (usable s) unusable
-    (test form noMessage (test (same (factsRoot s) (messageRoot m)) otherRoot (test (rulesKept (headerOf m) (blocksOf s) (heightOf s)) ruleBroken c)))
+    (test form noMessage (test (same (factsRoot s) (messageRoot m)) otherRoot (test (rulesKept (headerOf m) (heightOf s)) ruleBroken c)))
 
 header-then : (u f r k : Bool) (x : ℕ)
     → orElse (cond u (cond f (cond r (cond k 0 ruleBroken) otherRoot) noMessage) unusable) x ≡ cond u (cond f (cond r (cond k x ruleBroken) otherRoot) noMessage) unusable
@@ -112,7 +112,7 @@ takeChain s m = formedThen s m (bodyChain s m)
 
 pub take-tests : (s m : List ℕ) → takeNumber s m ≡ decided (takeChain s m)
 unfolding takeNumber headerNumber bodyNumber anchored
-take-tests s m = header-then (usable s) (isHashes m) (same (factsRoot s) (messageRoot m)) (rulesKept (headerOf m) (blocksOf s) (heightOf s)) _
+take-tests s m = header-then (usable s) (isHashes m) (same (factsRoot s) (messageRoot m)) (rulesKept (headerOf m) (heightOf s)) _
 
 abbrev pub rejectChain : List ℕ → List ℕ → Chain
 rejectChain s m = headed (isReject m) s m (last 0)
@@ -127,7 +127,7 @@ requestChain s m = headed (isRequest m) s m (test (allHeld s (placeIn s m)) notH
 
 pub request-tests : (s m : List ℕ) → requestNumber s m ≡ decided (requestChain s m)
 unfolding requestNumber headerNumber
-request-tests s m = header-then (usable s) (isRequest m) (same (factsRoot s) (messageRoot m)) (rulesKept (headerOf m) (blocksOf s) (heightOf s)) _
+request-tests s m = header-then (usable s) (isRequest m) (same (factsRoot s) (messageRoot m)) (rulesKept (headerOf m) (heightOf s)) _
 
 -- ---- kd_load_layer, kd_judge_block, kd_judge_piece
 

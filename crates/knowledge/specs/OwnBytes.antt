@@ -1,7 +1,7 @@
 -- A store that only this build has written is a string of bytes; so the promises about it need not ask for that.
 -- Assumes nothing.
 use mathlib.Core.Path.{_≡_, refl, ap, _∙_, subst}
-use mathlib.Core.Bool.{Bool, true, false, _&&_, and-eq-true-iff}
+use mathlib.Core.Bool.{Bool, true, false}
 use mathlib.Core.List.{List, [], _∷_, _++_}
 use Prim.Native.Nat.{ℕ, zero, suc, _+_, _-_, _*_, _^_, _≤_, _<_}
 use native.Mathlib.Omega.{arith}
@@ -26,8 +26,8 @@ use Rattle.messages.specs.TakenLaws.{taken-ready}
 use Rattle.pieces.specs.Pieces.{layerSettled, layerNumber, layerAfter}
 use Rattle.pieces.specs.PiecesLaws.{layer-loads, loads-layered, layer-refused, layer-taken}
 use Rattle.saved.specs.Form.{lengthIn, pieceLengthIn, rootIn, blocksIn, heightIn, markCount, placeCount, layerIn, indexIn, hashIn, blockIn, marksFrom, formed}
-use Rattle.saved.specs.Saved.{joins, withPlace, mended, openingNumber, entriesIn, marksSet, loaded, rootRight, chained, sound, rooted, repaired}
-use Rattle.saved.specs.SoundLaws.{place-at, place-says}
+use Rattle.saved.specs.Saved.{joins, withPlace, mended, openingNumber, entriesIn, marksSet, loaded, chained, sound, repaired}
+use Rattle.saved.specs.SoundLaws.{place-at, place-says, sound-formed, rooted-formed}
 use Rattle.saved.specs.PrefixLaws.{FormIn, form-says, mark-at, mark-says}
 use Rattle.saved.specs.LoadLaws.{Opens, opening-says, entries-sound, entries-are, marks-set-none, marks-set-next, marks-set-same, mark-fits, first, first-room, second, second-facts, second-marks}
 use Rattle.saved.specs.MendedLaws.{mended-yes, mended-no, mended-none, mended-one}
@@ -215,15 +215,6 @@ module _ (s b : List ℕ) (bs : Bytes s) (bb : Bytes b) (z : openingNumber (leng
   bytes-repaired : Bytes (repaired s b)
   unfolding repaired first
   bytes-repaired = bytes-mended (placeCount b - 1) (first s b opening form) (omega arith) (first-room s b opening form) bytes-first
-
-sound-formed : (b : List ℕ) → sound b ≡ true → formed b ≡ true
-unfolding sound
-sound-formed b g =
-    and-eq-true-iff (formed b) (rootRight (heightIn b) b) .0 (and-eq-true-iff (formed b && rootRight (heightIn b) b) (chained (heightIn b) (blocksIn b) b) .0 g .0) .0
-
-rooted-formed : (b : List ℕ) → rooted b ≡ true → formed b ≡ true
-unfolding rooted
-rooted-formed b g = and-eq-true-iff (formed b) (rootRight (heightIn b) b) .0 g .0
 
 -- what a store begins with
 begins-both : {s : List ℕ} → Begins s → Ours s × Bytes s

@@ -12,27 +12,23 @@ use borrow.Author.Tests.{eq-eqb, lt-ltb, ltb-true}
 use Rattle.tree.specs.Geometry.{pieceCount}
 use Rattle.store.specs.Store.{fileLength, pieceLength, Facts}
 use Rattle.store.specs.StoreLaws.{usable-facts}
-use Rattle.marks.specs.Marks.{firstBlock, blocksIn, allMarked, pieceMarked}
+use Rattle.marks.specs.Marks.{firstBlock, blocksIn, pieceMarked}
 use Rattle.marks.specs.MarksLaws.{all-marked-says, all-marked-each}
 use Rattle.asking.specs.Picking.{fetchable, bestOf, pickAnswer}
 use Rattle.asking.specs.PickingLaws.{Best, none, this, best-is}
 use Rattle.words.specs.Asking.{CountEach, OnDisk, ToFetch, Picked, nothingLeft, rarest}
 use Rattle.numbers.specs.Tests.{either, not-both}
-use Rattle.knowledge.specs.Bitfield.{covered-in, in-covered}
+use Rattle.knowledge.specs.Bitfield.{covered-in, in-covered, all-of-piece}
 use Rattle.knowledge.specs.MarksSince.{marked-says}
 
 -- piece i of the file is marked as a whole exactly if it is on disk
 module _ (s : List ℕ) (f : Facts s) (i : ℕ) (l : i < pieceCount (fileLength s) (pieceLength s)) where
-  all-of-piece : pieceMarked s i ≡ allMarked s (firstBlock s i) (blocksIn s i)
-  unfolding pieceMarked
-  all-of-piece = rw (lt-ltb i (pieceCount (fileLength s) (pieceLength s)) l)
-
   pub on-disk-exactly : (pieceMarked s i ≡ true) ↔ OnDisk s i
   on-disk-exactly = (
     λ e j c.
         let w = in-covered s f i l j c in
-        marked-says s f j .1 (c .inside, all-marked-says s (firstBlock s i) (blocksIn s i) (sym all-of-piece ∙ e) j (w .0) (w .1)),
-    λ g. all-of-piece ∙ all-marked-each s (firstBlock s i) (blocksIn s i) (λ j a b. marked-says s f j .0 (g j (covered-in s f i l j a b)) .1),
+        marked-says s f j .1 (c .inside, all-marked-says s (firstBlock s i) (blocksIn s i) (sym (all-of-piece s f i l) ∙ e) j (w .0) (w .1)),
+    λ g. all-of-piece s f i l ∙ all-marked-each s (firstBlock s i) (blocksIn s i) (λ j a b. marked-says s f j .0 (g j (covered-in s f i l j a b)) .1),
   )
 
 fetch-says : (s counts : List ℕ) (i : ℕ) → fetchable s counts i ≡ true → (0 < getD counts i 0) × (pieceMarked s i ≡ false)

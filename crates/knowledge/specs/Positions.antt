@@ -15,7 +15,7 @@ use Rattle.tree.specs.GeometryLaws.{node-number-parent}
 use Rattle.tree.specs.Values.{node}
 use Rattle.cells.specs.Entries.{Entry}
 use Rattle.cells.specs.EntriesLaws.{In, here, there, Has, has-same, in-left, in-right, in-cases, no-entry, Consistent}
-use Rattle.store.specs.Store.{blocksOf, heightOf}
+use Rattle.store.specs.Store.{heightOf}
 use Rattle.store.specs.StoreLaws.{tree-says}
 use Rattle.settling.specs.Subtree.{subtree}
 use Rattle.settling.specs.SubtreeLaws.{FamilyIn, subtree-has, run-leaf-in}
@@ -25,7 +25,7 @@ use Rattle.settling.specs.SettledLaws.{settled-consistent, settled-family}
 use Rattle.header.specs.Header.{headerSize, headerOf, isHashes, placeOf, Kept}
 use Rattle.header.specs.HeaderLaws.{rules-kept, log-some, top-inside}
 use Rattle.messages.specs.Take.{runOf, given, unclesOf, settled, anchor, worked, placeIn}
-use Rattle.messages.specs.Asks.{Passed}
+use Rattle.messages.specs.Asks.{RulesPassed}
 use Rattle.messages.specs.TakeLaws.{passed, placed}
 use Rattle.words.specs.Messages.{unclesIn, hashIn, topLayer, topIndex, anchorLayer, anchorIndex, Settles, inRun, asUncle, parent}
 use Rattle.knowledge.specs.Chains.{Chain, worked-chains, chain-is-worked}
@@ -50,11 +50,11 @@ path-uncle hashes a (suc u) n v (suc i) l =
     (path-uncle hashes (a + 1) u (n / 2) (parentValue n v (uncle hashes a)) i (omega arith))))
 
 module _ (s m : List ℕ) (W : Formed s m) where
-  P : Passed (isHashes m) s m
+  P : RulesPassed (isHashes m) s m
   P = passed (isHashes m) s m (W .header)
 
-  kept : Kept (headerOf m) (blocksOf s) (heightOf s)
-  kept = rules-kept (headerOf m) (blocksOf s) (heightOf s) (P .rules)
+  kept : Kept (headerOf m) (heightOf s)
+  kept = rules-kept (headerOf m) (heightOf s) (P .rules)
 
   k-is : placeIn s m .k ≡ height (headerOf m .len)
   unfolding placeOf
@@ -127,21 +127,21 @@ module _ (s m : List ℕ) (W : Formed s m) where
       let w : j < 2 ^ placeIn s m .k = rw k-is a′ in
       record {
         low = omega (arith, kept .within);
-        inside = run-in-layer (headerOf m) (blocksOf s) (heightOf s) kept j a′;
+        inside = run-in-layer (headerOf m) (heightOf s) kept j a′;
         has =
             has-same (settled m (placeIn s m)) (placeIn s m .top * 2 ^ placeIn s m .k + j) (nodeNumber (heightOf s) (X .base) (X .index + j)) (given m (placeIn s m .k) j) (hashIn m j)
-            (run-number (headerOf m) (blocksOf s) (heightOf s) kept j a′) (given-is j w) (run-entry j w);
+            (run-number (headerOf m) (heightOf s) kept j a′) (given-is j w) (run-entry j w);
       }
   settles-entered l i v (asUncle j a) =
       let X = headerOf m in
       let a′ : j < placeIn s m .u = rw u-is a in
-      let lay = uncle-layer (headerOf m) (blocksOf s) (heightOf s) kept j a′ in
+      let lay = uncle-layer (headerOf m) (heightOf s) kept j a′ in
       record {
         low = omega arith;
-        inside = uncle-in-layer (headerOf m) (blocksOf s) (heightOf s) kept j a′;
+        inside = uncle-in-layer (headerOf m) (heightOf s) kept j a′;
         has =
             has-same (settled m (placeIn s m)) (sibling (ancestor j (placeIn s m .top))) (nodeNumber (heightOf s) (topLayer m + j) (sibling (topIndex m / 2 ^ j))) (uncle (unclesOf m (2 ^ placeIn s m .k) (placeIn s m .u)) j) (hashIn m (X .len + j))
-            (uncle-number (headerOf m) (blocksOf s) (heightOf s) kept j a′) (uncle-is j a′) (uncle-entry j a′);
+            (uncle-number (headerOf m) (heightOf s) kept j a′) (uncle-is j a′) (uncle-entry j a′);
       }
   settles-entered l i v (parent b c x y p q) =
       entered-parent (heightOf s) (ancestor (placeIn s m .u) (placeIn s m .top)) (settled m (placeIn s m)) consistent families b c x y
@@ -231,7 +231,7 @@ module _ (s m : List ℕ) (W : Formed s m) where
   run-settled e x =
       let K = kept s m W in
       let wi : headerOf m .base + placeIn s m .k ≤ heightOf s = rw (k-is s m W) (K .within) in
-      let ti = top-inside (headerOf m) (blocksOf s) (heightOf s) K in
+      let ti = top-inside (headerOf m) (heightOf s) K in
       let ti′ : topIndex m < 2 ^ (heightOf s - (headerOf m .base + placeIn s m .k)) = rw (k-is s m W) ti in
       let tp : placeIn s m .top ≡ nodeNumber (heightOf s) (headerOf m .base + placeIn s m .k) (topIndex m) = rw (k-is s m W) (top-is s m W) in
       subtree-found (Settles m) parent (given m (placeIn s m .k)) (headerOf m .base) (topIndex m) (placeIn s m .k) leaves-settled (heightOf s) wi ti′ e (rw tp at x)
@@ -244,7 +244,7 @@ module _ (s m : List ℕ) (W : Formed s m) where
       let p = placeIn s m in
       let us = unclesOf m (2 ^ p .k) (p .u) in
       let v = node (given m (p .k)) (p .k) 0 in
-      let ti = top-inside (headerOf m) (blocksOf s) (heightOf s) K in
+      let ti = top-inside (headerOf m) (heightOf s) K in
       let uw : placeIn s m .u ≡ headerOf m .proof - (height (headerOf m .len) - 1) = u-is s m W in
       let one = log-some (headerOf m .len) (K .two) in
       elim (in-cases (subtree (given m (p .k)) (p .k) (p .top) 0) (path us 0 (p .u) (p .top) v) x) [

@@ -13,7 +13,7 @@ use Rattle.octets.specs.Octets.{cut}
 use Rattle.octets.specs.OctetsLaws.{cut-cut}
 use Rattle.tree.specs.Geometry.{height, nodeNumber}
 use Rattle.cells.specs.Cells.{heldAt, hashAt}
-use Rattle.store.specs.Store.{blocksOf, heightOf, inTree, Facts}
+use Rattle.store.specs.Store.{heightOf, inTree, Facts}
 use Rattle.store.specs.StoreLaws.{usable-facts, facts-usable, held-given}
 use Rattle.sha256.specs.declared.Hashed.{Hashed}
 use Rattle.settling.specs.Path.{sibling, uncle, ancestor}
@@ -24,7 +24,7 @@ use Rattle.header.specs.declared.Header.{Header}
 use Rattle.header.specs.Header.{headerSize, headerOf, messageRoot, isRequest, isHashes, placeOf, messageSize, Kept}
 use Rattle.header.specs.HeaderLaws.{rules-kept, top-inside, log-some}
 use Rattle.messages.specs.Take.{placeIn, unclesOf}
-use Rattle.messages.specs.Asks.{Passed}
+use Rattle.messages.specs.Asks.{RulesPassed}
 use Rattle.messages.specs.TakeLaws.{passed}
 use Rattle.serve.specs.Serve.{requestNumber, replyTo}
 use Rattle.serve.specs.ServeLaws.{request-passes, run-held, uncle-held, reply-hash, reply-uncle, reply-header, reply-root, reply-form, reply-own-size}
@@ -48,11 +48,11 @@ uncle-cut m c u j l =
     let e : headerSize + 32 * c + 32 * j ≡ headerSize + 32 * (c + j) = omega arith in
     cut-cut m (headerSize + 32 * c) (32 * u) (32 * j) 32 (omega arith) ∙ ap (λ (y : ℕ). cut m y 32) e
 
--- ---- the positions that a header names, by layer and index, and their numbers in a tree of height h over b blocks
+-- ---- the positions that a header names, by layer and index, and their numbers in a tree of height h
 
-module _ (x : Header) (b h : ℕ) (K : Kept x b h) where
+module _ (x : Header) (h : ℕ) (K : Kept x h) where
   inside : x .index / x .len < 2 ^ (h - (x .base + height (x .len)))
-  inside = top-inside x b h K
+  inside = top-inside x h K
 
   whole : x .index / x .len * 2 ^ height (x .len) ≡ x .index
   whole = ap (λ (y : ℕ). x .index / x .len * y) (K .power) ∙ omega (arith, div-add-mod' (x .index) (x .len), K .multiple)
@@ -97,14 +97,14 @@ module _ (x : Header) (b h : ℕ) (K : Kept x b h) where
 -- ---- what a request is answered with
 
 module _ (s m : List ℕ) (z : requestNumber s m ≡ 0) where
-  P : Passed (isRequest m) s m
+  P : RulesPassed (isRequest m) s m
   P = passed (isRequest m) s m (request-passes s m z)
 
   facts : Facts s
   facts = usable-facts s (P .store)
 
-  kept : Kept (headerOf m) (blocksOf s) (heightOf s)
-  kept = rules-kept (headerOf m) (blocksOf s) (heightOf s) (P .rules)
+  kept : Kept (headerOf m) (heightOf s)
+  kept = rules-kept (headerOf m) (heightOf s) (P .rules)
 
   -- the reply has the request's header
   pub reply-has-header : (isHashes (replyTo s m) ≡ true) × (messageRoot (replyTo s m) ≡ messageRoot m) × (headerOf (replyTo s m) ≡ headerOf m)
@@ -116,8 +116,8 @@ module _ (s m : List ℕ) (z : requestNumber s m ≡ 0) where
   run-reads-back j l =
       let x = headerOf m in
       let l′ : j < 2 ^ height (headerOf m .len) = omega (arith, kept .power) in
-      let n = run-number (headerOf m) (blocksOf s) (heightOf s) kept j l′ in
-      let b = run-in-layer (headerOf m) (blocksOf s) (heightOf s) kept j l′ in
+      let n = run-number (headerOf m) (heightOf s) kept j l′ in
+      let b = run-in-layer (headerOf m) (heightOf s) kept j l′ in
       subst (Holds s (x .base) (x .index + j)) (ap (hashAt s) (sym n) ∙ sym (reply-hash s m (request-passes s m z) j (rw k-is l′)))
       (holds-at s (x .base) (x .index + j) facts (omega (arith, kept .within)) b (rw (← n) (run-held s m z j (rw k-is l′))))
     where
@@ -129,9 +129,9 @@ module _ (s m : List ℕ) (z : requestNumber s m ≡ 0) where
   unfolding placeOf
   uncle-reads-back i l =
       let c = 2 ^ height (headerOf m .len) in
-      let n = uncle-number (headerOf m) (blocksOf s) (heightOf s) kept i l in
-      let b = uncle-in-layer (headerOf m) (blocksOf s) (heightOf s) kept i l in
-      let a = uncle-layer (headerOf m) (blocksOf s) (heightOf s) kept i l in
+      let n = uncle-number (headerOf m) (heightOf s) kept i l in
+      let b = uncle-in-layer (headerOf m) (heightOf s) kept i l in
+      let a = uncle-layer (headerOf m) (heightOf s) kept i l in
       let e : uncle (unclesOf (replyTo s m) (2 ^ height (headerOf m .len)) (unclesIn m)) i ≡ hashIn (replyTo s m) (headerOf m .len + i) =
       uncle-cut (replyTo s m) c (unclesIn m) i l ∙ ap (λ (y : ℕ). hashIn (replyTo s m) (y + i)) (kept .power) in
       subst (Holds s (topLayer m + i) (sibling (topIndex m / 2 ^ i))) (ap (hashAt s) (sym n) ∙ sym (reply-uncle s m (request-passes s m z) i l) ∙ e)

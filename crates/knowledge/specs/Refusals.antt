@@ -13,7 +13,7 @@ use lib.Dec.{leb}
 use Rattle.octets.specs.Octets.{same}
 use Rattle.numbers.specs.Numbers.{refused}
 use Rattle.numbers.specs.declared.Answer.{Answer}
-use Rattle.store.specs.Store.{usable, factsRoot, blocksOf, heightOf, openAnswer, openAfter, factsInRange, storeSize}
+use Rattle.store.specs.Store.{usable, factsRoot, heightOf, openAnswer, openAfter, factsInRange, storeSize}
 use Rattle.header.specs.Header.{headerSize, headerOf, isRequest, messageRoot, rulesKept}
 use Rattle.messages.specs.Take.{placeIn, takeNumber, takeAfter, takeAnswer}
 use Rattle.messages.specs.TakenLaws.{take-refused}
@@ -78,7 +78,7 @@ module _ (s m out : List ℕ) where
   pub which-number : ((requestNumber s m ≡ 0) ⊎ ((requestNumber s m ≡ 9) ⊎ (requestNumber s m ≡ 1))) ⊎ ((requestNumber s m ≡ 2) ⊎ ((requestNumber s m ≡ 3) ⊎ (requestNumber s m ≡ 12)))
   which-number =
       rw (request-tests s m)
-      (request-values (usable s) (isRequest m) (same (factsRoot s) (messageRoot m)) (rulesKept (headerOf m) (blocksOf s) (heightOf s)) (allHeld s (placeIn s m)))
+      (request-values (usable s) (isRequest m) (same (factsRoot s) (messageRoot m)) (rulesKept (headerOf m) (heightOf s)) (allHeld s (placeIn s m)))
 
   -- every request is answered in one of the three ways
   pub served : ServeOutcome s m out

@@ -1,7 +1,7 @@
 -- A repaired store has no mark.
 -- Assumes nothing.
 use mathlib.Core.Path.{_≡_, refl, ap, sym, _∙_}
-use mathlib.Core.Bool.{Bool, true, false, false≢true, and-eq-true-iff}
+use mathlib.Core.Bool.{Bool, true, false, false≢true}
 use mathlib.Core.List.{List}
 use Prim.Native.Nat.{ℕ, zero, suc, _+_, _-_, _*_, _^_, _≤_, _<_}
 use native.Mathlib.Omega.{arith}
@@ -16,9 +16,9 @@ use Rattle.cells.specs.CellsLaws.{put-room, put-outside}
 use Rattle.store.specs.Store.{heightOf, positions, storeSize}
 use Rattle.store.specs.StoreLaws.{opened-zero, positions-some, facts-leaves}
 use Rattle.marks.specs.Marks.{marksStart, markedAt, markedAnswer}
-use Rattle.saved.specs.Form.{lengthIn, pieceLengthIn, rootIn, blocksIn, heightIn, placeCount, layerIn, indexIn, hashIn, formed}
-use Rattle.saved.specs.Saved.{joins, withPlace, mended, openingNumber, rootRight, rooted, begun, repaired, repairAnswer, repairAfter}
-use Rattle.saved.specs.SoundLaws.{place-at, place-says}
+use Rattle.saved.specs.Form.{lengthIn, pieceLengthIn, rootIn, blocksIn, heightIn, placeCount, layerIn, indexIn, hashIn}
+use Rattle.saved.specs.Saved.{joins, withPlace, mended, openingNumber, rooted, begun, repaired, repairAnswer, repairAfter}
+use Rattle.saved.specs.SoundLaws.{place-at, place-says, rooted-formed}
 use Rattle.saved.specs.PrefixLaws.{FormIn, form-says}
 use Rattle.saved.specs.LoadLaws.{Opens, opening-says, root-long, first, first-room}
 use Rattle.saved.specs.MendedLaws.{mended-yes, mended-no, mended-none, mended-one}
@@ -27,12 +27,8 @@ use Rattle.knowledge.specs.SavedWhen.{repair-0}
 use Rattle.knowledge.specs.MarksSince.{marked-says}
 
 module _ (s b : List ℕ) (z : openingNumber (length s) b ≡ 0) (g : rooted b ≡ true) where
-  formed-here : formed b ≡ true
-  unfolding rooted
-  formed-here = and-eq-true-iff (formed b) (rootRight (heightIn b) b) .0 g .0
-
   form : FormIn b
-  form = form-says b formed-here
+  form = form-says b (rooted-formed b g)
 
   opening : Opens (length s) b
   opening = opening-says (length s) b z

@@ -14,10 +14,10 @@ use borrow.Author.Tests.{eq-eqb, ne-eqb}
 use Rattle.octets.specs.Octets.{Octets, cut, pasted, be, zeroed}
 use Rattle.octets.specs.OctetsLaws.{cut-length, getD-cut, cut-cut, be-octets, pasted-length, getD-pasted-before, getD-pasted-in, zeroed-length}
 use Rattle.cells.specs.Cells.{put}
-use Rattle.store.specs.Store.{fileLength, heightOf, storeSize, factsInRange, opened, openAnswer, openAfter, Facts, SameFacts}
+use Rattle.store.specs.Store.{fileLength, heightOf, storeSize, factsInRange, opened, openAnswer, openAfter, Facts}
 use Rattle.store.specs.StoreLaws.{facts-usable, usable-facts, used-same, used-facts, store-size-some, opened-facts, opened-file, opened-length, opened-spare, opened-zero}
 use Rattle.marks.specs.Marks.{marksStart, marksPut}
-use Rattle.marks.specs.MarksLaws.{marks-end, marks-cells, marks-same-facts, marks-facts}
+use Rattle.marks.specs.MarksLaws.{marks-end, marks-cells, marks-same-facts, marks-facts, same-start}
 use Rattle.words.specs.History.{Call, take, loadLayer, judgeBlock, judgePiece, judgeHybridPiece, clear, reopen, load, repair, look, Reply, replyNumber, answer, number, after, Opening, Teaches, call, lent, Steps, begin, next, SameStore}
 use Rattle.words.specs.Marks.{SameButMarks}
 use Rattle.words.specs.Hearing.{noted, journal, afterAll, AllDone}
@@ -28,10 +28,6 @@ use Rattle.knowledge.specs.RootAlone.{range-exactly, opening-0, opening-
 
 -- ---- two stores that differ in marks only
 
-start-same : {s t : List ℕ} → SameFacts s t → marksStart t ≡ marksStart s
-unfolding marksStart
-start-same e = rw (e .layers)
-
 -- still do when marks are written to the first
 remarked : (s r : List ℕ) → SameButMarks s r → (i n x : ℕ) → Facts s → i + n ≤ 2 ^ heightOf s → SameButMarks (marksPut s i n x) r
 remarked s r S i n x f fits =
@@ -39,7 +35,7 @@ remarked s r S i n x f fits =
     record {
       store = facts-usable (marksPut s i n x) (marks-facts s f i n x fits);
       room = rw (e .file) (S .room);
-      bytes = rw (start-same e) (S .bytes ∙ sym (marks-cells s f i n x fits));
+      bytes = rw (same-start e) (S .bytes ∙ sym (marks-cells s f i n x fits));
     }
 
 -- and when it is lent in another memory
@@ -53,7 +49,7 @@ moved s r u S e =
     record {
       store = facts-usable u (used-facts s u f (e .bytes));
       room = rw (g .file) (S .room);
-      bytes = rw (start-same g) (S .bytes ∙ sym front);
+      bytes = rw (same-start g) (S .bytes ∙ sym front);
     }
 
 -- and after a call that teaches nothing

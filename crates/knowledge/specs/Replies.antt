@@ -260,15 +260,14 @@ pub padded-when : (s r : List ℕ) → headerNumber (isHashes r) s r ≡ 0 → l
 unfolding padded
 padded-when s r header sz run uncles =
     let X = headerOf r in
-    let b = blocksOf s in
     let h = heightOf s in
     let P = passed (isHashes r) s r header in
-    let K = rules-kept X b h (P .rules) in
+    let K = rules-kept X h (P .rules) in
     let y = X .index / X .len in
     let pw : 2 ^ height (X .len) ≡ X .len = K .power in
     let one : 1 ≤ height (X .len) = log-some (X .len) (K .two) in
     let ix : y * 2 ^ height (X .len) ≡ X .index = ap (λ (z : ℕ). y * z) pw ∙ exact (X .index) (X .len) (K .multiple) in
-    let ins = top-inside X b h K in
+    let ins = top-inside X h K in
     parts run uncles pw ix (K .within) (K .above) one ins sz
   where
     parts :
@@ -357,7 +356,7 @@ module _ (s t r : List ℕ) (os : Ours s) (ot : Ours t) (bs : Bytes s) (bt : Byt
   header-here = sym same-header ∙ w .header
     where
       same-header : headerNumber (isHashes r) s r ≡ headerNumber (isHashes r) t r
-      same-header = unfold headerNumber in rw (facts-usable s (os .chained .facts), facts-usable t (ot .chained .facts), roots, blocks, layers)
+      same-header = unfold headerNumber in rw (facts-usable s (os .chained .facts), facts-usable t (ot .chained .facts), roots, layers)
 
   place : placeIn s r ≡ placeIn t r
   place = ap (placeOf (headerOf r)) layers

@@ -41,7 +41,7 @@ form-of m e =
 
 -- IT IS NEVER 3: no store of the file that the request is about, whoever wrote it, says of a message with its header that a rule is broken
 module _ (s : List ℕ) (l : ℕ) (e : nextAnswer s l .asks ≡ 1) (m : List ℕ) (H : HeaderOf (nextAnswer s l) m) (t : List ℕ) (files : fileLength t ≡ fileLength s) where
-  rules-there : Kept (headerOf m) (blocksOf t) (heightOf t)
+  rules-there : Kept (headerOf m) (heightOf t)
   unfolding blocksOf heightOf
   rules-there = rw files (keeps-rules s l e m H)
 
@@ -56,14 +56,14 @@ module _ (s : List ℕ) (l : ℕ) (e : nextAnswer s l .asks ≡ 1) (m : List ℕ
   served-never-3 out z = request-3 t m .0 (serve-rejects t m out ruleBroken (inr (inl refl)) .0 z .0) .3 rules-there
 
 -- a request that keeps the rules asks for positions of its layer and of those above it
-given-all : (s m : List ℕ) → Kept (headerOf m) (blocksOf s) (heightOf s) → HoldsFrom s (headerOf m .base) → AllGiven s m
+given-all : (s m : List ℕ) → Kept (headerOf m) (heightOf s) → HoldsFrom s (headerOf m .base) → AllGiven s m
 given-all s m K H =
     record {
       run = λ j a. H (headerOf m .base) (headerOf m .index + j) (omega arith) (record { low = omega (arith, K .within); inside = omega (arith, K .inside) });
       uncles =
           λ j a.
           let one = log-some (headerOf m .len) (K .two) in
-          let t = top-inside (headerOf m) (blocksOf s) (heightOf s) K in
+          let t = top-inside (headerOf m) (heightOf s) K in
           let lt : topLayer m + j < heightOf s = omega (arith, K .above, K .within) in
           let x : heightOf s - (topLayer m + j) + j ≡ heightOf s - topLayer m = omega arith in
           let p : 2 ^ (heightOf s - (topLayer m + j)) * 2 ^ j ≡ 2 ^ (heightOf s - topLayer m) = sym (pow-add 2 (heightOf s - (topLayer m + j)) j) ∙ ap (λ (y : ℕ). 2 ^ y) x in
@@ -85,8 +85,8 @@ module _ (t : List ℕ) (l : ℕ) (e : nextAnswer t l .asks ≡ 1) (s : List ℕ
   unfolding heightOf
   same-height = ap height same-blocks
 
-  kept : Kept (headerOf (nextAnswer t l .message)) (blocksOf s) (heightOf s)
-  kept = rw (same-blocks, same-height) (keeps-rules t l e (nextAnswer t l .message) (request-bytes t l e .2))
+  kept : Kept (headerOf (nextAnswer t l .message)) (heightOf s)
+  kept = rw same-height (keeps-rules t l e (nextAnswer t l .message) (request-bytes t l e .2))
 
   base-is : headerOf (nextAnswer t l .message) .base ≡ l
   base-is = request-bytes t l e .2 .base ∙ request-run t l e .1

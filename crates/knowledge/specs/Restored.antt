@@ -1,7 +1,7 @@
 -- "A loaded store counts as one that only this build has written": what is loaded, and what is repaired, meets the four clauses as kd_held answers.
 -- Assumes nothing.
 use mathlib.Core.Path.{_≡_, subst}
-use mathlib.Core.Bool.{true, _&&_, and-eq-true-iff}
+use mathlib.Core.Bool.{true, and-eq-true-iff}
 use mathlib.Core.List.{List}
 use mathlib.Core.Logic.{_↔_}
 use Prim.Native.Nat.{ℕ, _-_, _^_, _≤_, _<_}
@@ -21,8 +21,8 @@ use Rattle.knowledge.specs.FourClauses.{four-clauses-exactly}
 use Rattle.saved.specs.Clauses.{Clauses, InTree, Kept}
 use Rattle.saved.specs.ClausesLaws.{kept-within, kept-clauses}
 use Rattle.saved.specs.Form.{rootIn, blocksIn, heightIn, placeCount, formed, Placed}
-use Rattle.saved.specs.Saved.{openingNumber, rootRight, chained, sound, loaded, rooted, repaired}
-use Rattle.saved.specs.SoundLaws.{placed-in-tree, record-at}
+use Rattle.saved.specs.Saved.{openingNumber, rootRight, sound, loaded, rooted, repaired}
+use Rattle.saved.specs.SoundLaws.{placed-in-tree, record-at, sound-formed}
 use Rattle.saved.specs.SoundExactly.{root-says}
 use Rattle.saved.specs.RankLaws.{rank-root}
 use Rattle.saved.specs.PrefixLaws.{form-says}
@@ -48,16 +48,11 @@ module _ (s : List ℕ) (f : Facts s) where
 module _ (s b : List ℕ) (z : openingNumber (length s) b ≡ 0) (g : sound b ≡ true) where
   pub held-in : (l i : ℕ) (v : List ℕ) → Placed b (placeCount b) l i v → HeldIn (loaded s b) l i v
   held-in l i v X =
-      let T = placed-in-tree (heightIn b) (blocksIn b) b (placeCount b) (form-says b (formed-here g) .places) in
+      let T = placed-in-tree (heightIn b) (blocksIn b) b (placeCount b) (form-says b (sound-formed b g) .places) in
       let e = loaded-height s b z g in
       let lh = T .low l i v X in
       let ib = T .inside l i v X in
       rw e (lh, ib, loaded-exactly s b z g l i v lh ib .1 X)
-    where
-      formed-here : sound b ≡ true → formed b ≡ true
-      formed-here g =
-          unfold sound in
-          and-eq-true-iff (formed b) (rootRight (heightIn b) b) .0 (and-eq-true-iff (formed b && rootRight (heightIn b) b) (chained (heightIn b) (blocksIn b) b) .0 g .0) .0
 
   pub named-in : (l i : ℕ) (v : List ℕ) → HeldIn (loaded s b) l i v → Placed b (placeCount b) l i v
   named-in l i v w =

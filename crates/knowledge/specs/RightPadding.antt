@@ -29,7 +29,7 @@ use Rattle.header.specs.Header.{headerSize, headerOf, isHashes, placeOf, messag
 use Rattle.header.specs.HeaderLaws.{rules-kept, log-some, top-inside}
 use Rattle.messages.specs.Padded.{allFrom, runPadded, unclePadded, unclesPadded}
 use Rattle.messages.specs.Take.{runOf, unclesOf, given, settled, padded, placeIn}
-use Rattle.messages.specs.Asks.{Passed}
+use Rattle.messages.specs.Asks.{RulesPassed}
 
 -- in a tree of height h over b blocks: where position n is padding, v is its layer's padding value
 abbrev pub Pads : ℕ → ℕ → ℕ → List ℕ → Type 0
@@ -200,14 +200,14 @@ path-pads h b hashes i (suc u) l x v lh xb t f e k =
 -- ---- a message
 
 -- a well-formed message with its given padding right settles every padding position with its padding value
-pub settled-pads : (s m : List ℕ) → Passed (isHashes m) s m → length m ≡ messageSize (headerOf m) → padded m (headerOf m) (placeIn s m) (blocksOf s) ≡ true
+pub settled-pads : (s m : List ℕ) → RulesPassed (isHashes m) s m → length m ≡ messageSize (headerOf m) → padded m (headerOf m) (placeIn s m) (blocksOf s) ≡ true
     → (e : Entry) → In e (settled m (placeIn s m)) → Pads (heightOf s) (blocksOf s) (e .at) (e .hash)
 unfolding settled padded placeOf given messageSize
 settled-pads s m P size pd e x =
     let X = headerOf m in
     let b = blocksOf s in
     let h = heightOf s in
-    let K = rules-kept X b h (P .rules) in
+    let K = rules-kept X h (P .rules) in
     let k = height (X .len) in
     let y = X .index / X .len in
     let u = X .proof - (height (X .len) - 1) in
@@ -220,7 +220,7 @@ settled-pads s m P size pd e x =
     ap₂ (λ (z j : ℕ). runPadded (runOf m z) b (X .base) j z) pw ix ∙ W .0 in
     let up : unclesPadded (unclesOf m (2 ^ height (X .len)) u) b 0 u (X .base + height (X .len)) y ≡ true =
     ap (λ (z : ℕ). unclesPadded (unclesOf m z u) b 0 u (X .base + height (X .len)) y) pw ∙ W .1 in
-    let ins = top-inside X b h K in
+    let ins = top-inside X h K in
     let leaf = runLeaf (runOf m (2 ^ height (X .len))) zeroHash in
     let n = nodeNumber h (X .base + height (X .len)) y in
     let v = node leaf (height (X .len)) 0 in

@@ -18,6 +18,7 @@ use Rattle.cells.specs.Entries.{oneIf}
 use Rattle.store.specs.Store.{heightOf, positions, openAnswer, openAfter, Facts}
 use Rattle.store.specs.StoreLaws.{facts-usable, used-held, heldCount}
 use Rattle.marks.specs.Marks.{marksPut}
+use Rattle.marks.specs.MarksLaws.{one-small}
 use Rattle.messages.specs.Take.{takeNumber, takeAfter, takeAnswer}
 use Rattle.words.specs.Held.{Holds}
 use Rattle.words.specs.History.{Bytes, take, Steps, begin, next, call, Each, nothing, called, byOpening, OurStore, ours}
@@ -33,7 +34,7 @@ use Rattle.knowledge.specs.FormedWhen.{well-formed}
 use Rattle.knowledge.specs.HeldWhen.{taken-exactly-when}
 use Rattle.knowledge.specs.HeldAfter.{settles-then-holds, held-after}
 use Rattle.knowledge.specs.AnyOrder.{Within, back, take-stays, steps-then, each-then}
-use Rattle.knowledge.specs.CountsAdd.{one-most, bit-less, count-most, count-root, quiet-or-more, quiet-count, take-counts}
+use Rattle.knowledge.specs.CountsAdd.{bit-less, count-most, count-root, quiet-or-more, quiet-count, take-counts}
 use Rattle.numbers.specs.Tests.{either}
 
 -- ---- a number that grows, up to a bound, wherever something is newly held
@@ -76,7 +77,7 @@ done-grows s t m f g d = record { taken = taken-exactly-when t m (well-formed t 
                 store = facts-usable t (g .facts);
                 form = here .ruled .form;
                 root = g .same .root ∙ here .ruled .root;
-                rules = rw (g .same .blocks, g .same .layers) (here .ruled .rules);
+                rules = rw (g .same .layers) (here .ruled .rules);
               };
           size = here .size;
         }
@@ -183,7 +184,7 @@ doneAmong s (m ∷ L) = oneIf (doneIn s m) + doneAmong s L
 done-most : (s : List ℕ) (L : List (List ℕ)) → doneAmong s L ≤ length L
 unfolding doneAmong
 done-most s [] = omega arith
-done-most s (m ∷ L) = omega (arith, done-most s L, one-most (doneIn s m))
+done-most s (m ∷ L) = omega (arith, done-most s L, one-small (doneIn s m))
 
 module _ (s t : List ℕ) (f : Facts s) (g : Grown s t) where
   done-on : (m : List ℕ) → doneIn s m ≡ true → doneIn t m ≡ true

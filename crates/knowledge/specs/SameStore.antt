@@ -15,7 +15,7 @@ use Rattle.asking.specs.declared.pick.Choice.{Choice}
 use Rattle.facts.specs.declared.FactsRead.{FactsRead}
 use Rattle.facts.specs.FactsLaws.{facts-same}
 use Rattle.store.specs.Store.{usable, fileLength, heightOf, positions, storeSize, Facts}
-use Rattle.store.specs.StoreLaws.{own-cells, usable-facts, facts-usable, used-same, used-facts, used-answer}
+use Rattle.store.specs.StoreLaws.{own-cells, usable-facts, facts-usable, used-same, used-facts, used-answer, byte-same}
 use Rattle.messages.specs.Take.{takeAfter}
 use Rattle.extends.specs.ExtendsLaws.{extends-alike}
 use Rattle.pieces.specs.Pieces.{layerAfter, blockNumber, blockAnswer, blockAfter, pieceNumber, pieceAnswer, pieceAfter}
@@ -32,7 +32,7 @@ use Rattle.knowledge.specs.AskingApart.{next-behind, pick-behind}
 use Rattle.knowledge.specs.LeavesNumbers.{leaves-beyond}
 use Rattle.knowledge.specs.BytesLeft.{SameCells}
 use Rattle.knowledge.specs.Grows.{Grown, grown-take, grown-layer}
-use Rattle.knowledge.specs.Alike.{alike, same-byte, same-front}
+use Rattle.knowledge.specs.Alike.{alike, same-front}
 use Rattle.knowledge.specs.Beyond.{take-answer-beyond, reject-beyond, serve-beyond, layer-answer-beyond, block-beyond, piece-beyond, hybrid-beyond, take-leaves-alike, layer-leaves-alike, take-past, layer-past}
 use Rattle.knowledge.specs.RootAlone.{usable-exactly}
 
@@ -60,7 +60,7 @@ module _ (s t s₁ t₁ : List ℕ) (S : SameStore s t) (gs : Grown s s₁) (gt 
       (λ i l.
       elim (decLt i (31 + 33 * positions (heightOf s))) [
         | yes y ↦ cells .same i y
-        | no x ↦ pt i (omega arith) ∙ same-byte s t f (S .bytes) i (omega arith) ∙ sym (ps i (omega arith))
+        | no x ↦ pt i (omega arith) ∙ byte-same s t f (S .bytes) i (omega arith) ∙ sym (ps i (omega arith))
       ])
 
 module _ (s t : List ℕ) (S : SameStore s t) where

@@ -2,12 +2,12 @@
 -- Assumes nothing.
 use mathlib.Core.Path.{refl}
 use mathlib.Core.List.{List, [], _∷_, _++_}
-use Prim.Native.Nat.{ℕ, zero, suc, _+_, _<_}
+use Prim.Native.Nat.{ℕ, _+_, _<_}
 use native.Mathlib.Omega.{arith}
 use native.Mathlib.Decide.{decLt}
 use lib.ListN.{length, getD, List·getD-eq-default}
-use Rattle.octets.specs.Octets.{Octets, be}
-use Rattle.octets.specs.OctetsLaws.{append-octets, be-octets}
+use Rattle.octets.specs.Octets.{be}
+use Rattle.octets.specs.OctetsLaws.{append-octets, be-octets, one-byte}
 use Rattle.saved.specs.Form.{Place, Saved, openingBytes, placeBytes, markBytes, endBytes, placesBytes, marksBytes, savedBytes, Rising, none, more, Ordered}
 use Rattle.words.specs.History.{Bytes}
 use Rattle.knowledge.specs.Conflict.{sized-bytes}
@@ -22,13 +22,6 @@ every-byte s b i =
 
 joined : {a b : List ℕ} → Bytes a → Bytes b → Bytes (a ++ b)
 joined {a} {b} x y = sized-bytes (length a + length b) (a ++ b) (append-octets x y)
-
-one-byte : (n : ℕ) → n < 256 → Octets 1 (n ∷ [])
-one-byte n l = record { size = refl; bytes = by }
-  where
-    by : (i : ℕ) → i < 1 → getD (n ∷ []) i 0 < 256
-    by zero a = l
-    by (suc i) a = let w : ⊥ = omega arith in absurd w
 
 kinded : (n : ℕ) → n < 256 → {a : List ℕ} → Bytes a → Bytes (n ∷ a)
 kinded n l {a} x = joined (sized-bytes 1 (n ∷ []) (one-byte n l)) x

@@ -17,7 +17,7 @@ use Rattle.numbers.specs.Chain.{last, test, Stops, exactly, exactly-of, none, p
 use Rattle.numbers.specs.declared.Answer.{Answer}
 use Rattle.tree.specs.Geometry.{height}
 use Rattle.cells.specs.Cells.{heldAt}
-use Rattle.store.specs.Store.{usable, factsRoot, blocksOf, heightOf, Facts}
+use Rattle.store.specs.Store.{usable, factsRoot, heightOf, Facts}
 use Rattle.store.specs.StoreLaws.{usable-facts}
 use Rattle.settling.specs.Path.{sibling}
 use Rattle.header.specs.Header.{requestId, rejectId, headerSize, messageId, headerBytes, headerOf, messageRoot, isRequest, isReject, rulesKept, placeOf, messageSize, Kept}
@@ -49,8 +49,8 @@ form-is id m = (
 root-is : (s m : List ℕ) → (same (factsRoot s) (messageRoot m) ≡ true) ↔ (factsRoot s ≡ messageRoot m)
 root-is s m = (same-true (factsRoot s) (messageRoot m), same-eq (factsRoot s) (messageRoot m))
 
-rules-are : (s m : List ℕ) → (rulesKept (headerOf m) (blocksOf s) (heightOf s) ≡ true) ↔ Kept (headerOf m) (blocksOf s) (heightOf s)
-rules-are s m = (rules-kept (headerOf m) (blocksOf s) (heightOf s), kept-rules (headerOf m) (blocksOf s) (heightOf s))
+rules-are : (s m : List ℕ) → (rulesKept (headerOf m) (heightOf s) ≡ true) ↔ Kept (headerOf m) (heightOf s)
+rules-are s m = (rules-kept (headerOf m) (heightOf s), kept-rules (headerOf m) (heightOf s))
 
 -- ---- 9, 1, 2, 3 of a request and of a reject, whose form is `formed id`
 
@@ -62,14 +62,14 @@ module _ (id : ℕ) (s m : List ℕ) where
   )
 
   rule-broken : {n : ℕ} → (n ≡ ruleBroken) ↔ Stops ruleBroken (headed (formed id m) s m (last 0))
-      → (n ≡ ruleBroken) ↔ ((usable s ≡ true) × Form id m × (factsRoot s ≡ messageRoot m) × (Kept (headerOf m) (blocksOf s) (heightOf s) → ⊥))
+      → (n ≡ ruleBroken) ↔ ((usable s ≡ true) × Form id m × (factsRoot s ≡ messageRoot m) × (Kept (headerOf m) (heightOf s) → ⊥))
   rule-broken p = (
     λ e. (let t = p .0 e in (t .0, form-is id m .0 (t .1 .0), root-is s m .0 (t .1 .1 .0), says-not (rules-are s m) .0 (t .1 .1 .1))),
     λ t. p .1 (t .0, (form-is id m .1 (t .1), (root-is s m .1 (t .2), says-not (rules-are s m) .1 (t .3)))),
   )
 
   valid : {A : Type 0}
-      → ((usable s ≡ true) × ((formed id m ≡ true) × ((same (factsRoot s) (messageRoot m) ≡ true) × ((rulesKept (headerOf m) (blocksOf s) (heightOf s) ≡ true) × A))))
+      → ((usable s ≡ true) × ((formed id m ≡ true) × ((same (factsRoot s) (messageRoot m) ≡ true) × ((rulesKept (headerOf m) (heightOf s) ≡ true) × A))))
       ↔ (ValidHeader id s m × A)
   valid = (
     λ t. (record { store = t .0; form = form-is id m .0 (t .1 .0); root = root-is s m .0 (t .1 .1 .0); rules = rules-are s m .0 (t .1 .1 .1 .0) }, t .1 .1 .1 .1),
@@ -95,7 +95,7 @@ module _ (s m : List ℕ) where
 
   -- 3 EXACTLY WHEN it has this root, and a header rule fails
   pub reject-3 : (rejectAnswer s m .number ≡ ruleBroken)
-      ↔ ((usable s ≡ true) × Form rejectId m × (factsRoot s ≡ messageRoot m) × (Kept (headerOf m) (blocksOf s) (heightOf s) → ⊥))
+      ↔ ((usable s ≡ true) × Form rejectId m × (factsRoot s ≡ messageRoot m) × (Kept (headerOf m) (heightOf s) → ⊥))
   unfolding isReject
   reject-3 = rule-broken rejectId s m (exactly-of (rejectChain s m) ruleBroken (reject-tests s m) refl)
 
@@ -123,7 +123,7 @@ module _ (s m : List ℕ) where
 
   -- 3 EXACTLY WHEN it has this root, and a header rule fails
   pub request-3 : (requestNumber s m ≡ ruleBroken)
-      ↔ ((usable s ≡ true) × Form requestId m × (factsRoot s ≡ messageRoot m) × (Kept (headerOf m) (blocksOf s) (heightOf s) → ⊥))
+      ↔ ((usable s ≡ true) × Form requestId m × (factsRoot s ≡ messageRoot m) × (Kept (headerOf m) (heightOf s) → ⊥))
   unfolding isRequest
   request-3 = rule-broken requestId s m (exactly-of (requestChain s m) ruleBroken (request-tests s m) refl)
 
@@ -153,11 +153,11 @@ module _ (s m : List ℕ) where
         (λ j l.
         let c : j < headerOf m .len = omega (arith, ok .rules .power) in
         let w = what-is-held s (X .base) (X .index + j) (A .run j c .0) facts (A .run j c .1) in
-        ap (heldAt s) (run-number (headerOf m) (blocksOf s) (heightOf s) (ok .rules) j l) ∙ w .1) in
+        ap (heldAt s) (run-number (headerOf m) (heightOf s) (ok .rules) j l) ∙ w .1) in
         let us = held-uncles-all s (unclesIn m) (placeOf (headerOf m) (heightOf s) .top)
         (λ i l.
         let w = what-is-held s (topLayer m + i) (sibling (topIndex m / 2 ^ i)) (A .uncles i l .0) facts (A .uncles i l .1) in
-        ap (heldAt s) (uncle-number (headerOf m) (blocksOf s) (heightOf s) (ok .rules) i l) ∙ w .1) in
+        ap (heldAt s) (uncle-number (headerOf m) (heightOf s) (ok .rules) i l) ∙ w .1) in
         rw (run, us)
 
     all-given : allHeld s (placeIn s m) ≡ true → AllGiven s m

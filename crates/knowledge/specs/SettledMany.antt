@@ -24,9 +24,9 @@ use Rattle.settling.specs.SubtreeLaws.{subtree-length, subtree-apart}
 use Rattle.settling.specs.Path.{path}
 use Rattle.settling.specs.PathLaws.{path-length}
 use Rattle.settling.specs.SettledLaws.{settled-apart}
-use Rattle.header.specs.Header.{headerOf, isHashes, placeOf}
+use Rattle.header.specs.Header.{headerOf, isHashes}
 use Rattle.messages.specs.Take.{given, unclesOf, settled, placeIn, takeNumber, takeAnswer}
-use Rattle.messages.specs.Asks.{Passed}
+use Rattle.messages.specs.Asks.{RulesPassed}
 use Rattle.messages.specs.TakeLaws.{passed, placed}
 use Rattle.pieces.specs.Pieces.{layerOfPieces, layerSettled, layerNumber, layerAnswer}
 use Rattle.pieces.specs.Asks.{Layered}
@@ -38,7 +38,7 @@ use Rattle.words.specs.Pieces.{LayerFormed, LayerSettles}
 use Rattle.knowledge.specs.TakenWhen.{Formed, taken-well-formed}
 use Rattle.knowledge.specs.TakenEntries.{lacking, count-lacking, count-most, fresh-lacking}
 use Rattle.knowledge.specs.Over.{Entered, Found, over-entered, entry-over}
-use Rattle.knowledge.specs.Positions.{settles-entered, entry-settled}
+use Rattle.knowledge.specs.Positions.{settles-entered, entry-settled, u-is}
 use Rattle.knowledge.specs.JudgedWhen.{layer-0}
 
 -- ---- from entries
@@ -99,15 +99,11 @@ module _ (h : ℕ) (R : Hashes) where
 -- ---- a message
 
 module _ (s m : List ℕ) (W : Formed s m) where
-  P : Passed (isHashes m) s m
+  P : RulesPassed (isHashes m) s m
   P = passed (isHashes m) s m (W .header)
 
   run-is : 2 ^ placeIn s m .k ≡ headerOf m .len
   run-is = placed (isHashes m) s m P .power
-
-  uncles-are : placeIn s m .u ≡ unclesIn m
-  unfolding placeOf
-  uncles-are = refl
 
   entries-many : length (settled m (placeIn s m)) ≡ 2 * headerOf m .len - 1 + 2 * unclesIn m
   unfolding settled
@@ -118,7 +114,7 @@ module _ (s m : List ℕ) (W : Formed s m) where
       omega (
         arith,
         run-is,
-        uncles-are,
+        u-is s m W,
         length-append A B,
         subtree-length (given m (p .k)) (p .k) (p .top) 0,
         path-length (unclesOf m (2 ^ p .k) (p .u)) 0 (p .u) (p .top) (node (given m (p .k)) (p .k) 0),
@@ -176,7 +172,7 @@ module _ (s m : List ℕ) (z : takeNumber s m ≡ 0) where
 
   -- at most 2·length − 2 + 2u
   pub count-bound : takeAnswer s m .count ≤ 2 * headerOf m .len - 2 + 2 * unclesIn m
-  count-bound = omega (arith, count-most s m z, run-is s m well, uncles-are s m well)
+  count-bound = omega (arith, count-most s m z, run-is s m well, u-is s m well)
 
 -- ---- a layer
 

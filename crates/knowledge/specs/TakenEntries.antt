@@ -30,7 +30,7 @@ module _ (s m : List ℕ) (z : takeNumber s m ≡ 0) where
   taken-is = rw (eq-eqb (takeNumber s m) 0 z)
 
   sound : Sound (positions (heightOf s)) (settled m (placeIn s m))
-  sound = ready-settled (length s) m (positions (heightOf s)) (headerOf m) (placeIn s m) (taken-ready s m (takeNumber s m) refl z)
+  sound = ready-settled (length s) m (heightOf s) (headerOf m) (placeIn s m) (taken-ready s m (takeNumber s m) refl z)
 
   -- every position that the message settles is held, with the message's value
   pub settled-held : (e : Entry) → In e (settled m (placeIn s m)) → (heldAt (takeAfter s m) (e .at) ≡ true) × (hashAt (takeAfter s m) (e .at) ≡ e .hash)
@@ -110,7 +110,7 @@ module _ (s m : List ℕ) (z : takeNumber s m ≡ 0) where
       let r = taken-ready s m (takeNumber s m) refl z in
       ap (newly (positions (heightOf s)) s) (taken-is s m z)
       ∙ count-fresh (positions (heightOf s)) (settled m (placeIn s m)) s (r .room) (sound s m z)
-      (ready-from-root (length s) m (positions (heightOf s)) (headerOf m) (placeIn s m) r)
+      (ready-from-root (length s) m (heightOf s) (headerOf m) (placeIn s m) r)
       ∙ fresh-lacking (positions (heightOf s)) (settled m (placeIn s m)) s (r .room) (sound s m z) (settled-distinct s m z)
 
   -- at most 2·length − 2 + 2u, since the anchor was held

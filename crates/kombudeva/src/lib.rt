@@ -319,153 +319,163 @@ pub extern "C" fn kd_store_size(length: u64, piece_length: u64) -> CountAnswer
 }
 
 #[no_mangle]
-pub extern "C" fn kd_open(s: &mut [u8], length: u64, piece_length: u64, root: Hash) -> CountAnswer
-    ensures { λ r. ⌜ (r ≡ countAnswer (openAnswer (now (s .entry)) length «piece_length»)) × (now (s .exit) ≡ openAfter (now (s .entry)) length «piece_length» (root .bytes)) ⌝ }
+pub extern "C" fn kd_open(
+    store: &mut [u8],
+    length: u64,
+    piece_length: u64,
+    root: Hash,
+) -> CountAnswer
+    ensures { λ r. ⌜ (r ≡ countAnswer (openAnswer (now (store .entry)) length «piece_length»)) × (now (store .exit) ≡ openAfter (now (store .entry)) length «piece_length» (root .bytes)) ⌝ }
 {
     let bytes = root.bytes;
-    count_answer(store::open(s, length as usize, piece_length as usize, bytes))
+    count_answer(store::open(store, length as usize, piece_length as usize, bytes))
 }
 
 #[no_mangle]
-pub extern "C" fn kd_facts(s: &[u8]) -> FactsAnswer
-    ensures { λ r. ⌜ r ≡ factsStruct (factsAnswer (now (s .entry))) ⌝ }
+pub extern "C" fn kd_facts(store: &[u8]) -> FactsAnswer
+    ensures { λ r. ⌜ r ≡ factsStruct (factsAnswer (now (store .entry))) ⌝ }
 {
-    facts_answer(facts::read_facts(s))
+    facts_answer(facts::read_facts(store))
 }
 
 #[no_mangle]
-pub extern "C" fn kd_held(s: &[u8], layer: u64, index: u64) -> HashAnswer
-    ensures { λ r. ⌜ r ≡ hashAnswer (heldAnswer (now (s .entry)) layer index) ⌝ }
+pub extern "C" fn kd_held(store: &[u8], layer: u64, index: u64) -> HashAnswer
+    ensures { λ r. ⌜ r ≡ hashAnswer (heldAnswer (now (store .entry)) layer index) ⌝ }
 {
-    hash_answer(store::held_hash(s, layer as usize, index as usize))
+    hash_answer(store::held_hash(store, layer as usize, index as usize))
 }
 
 #[no_mangle]
-pub extern "C" fn kd_take(s: &mut [u8], message: &[u8]) -> CountAnswer
-    ensures { λ r. ⌜ (r ≡ countAnswer (takeAnswer (now (s .entry)) (now (message .entry)))) × (now (s .exit) ≡ takeAfter (now (s .entry)) (now (message .entry))) ⌝ }
+pub extern "C" fn kd_take(store: &mut [u8], message: &[u8]) -> CountAnswer
+    ensures { λ r. ⌜ (r ≡ countAnswer (takeAnswer (now (store .entry)) (now (message .entry)))) × (now (store .exit) ≡ takeAfter (now (store .entry)) (now (message .entry))) ⌝ }
 {
-    count_answer(messages::take::take(s, message))
+    count_answer(messages::take::take(store, message))
 }
 
 #[no_mangle]
-pub extern "C" fn kd_take_reject(s: &[u8], message: &[u8]) -> CountAnswer
-    ensures { λ r. ⌜ r ≡ countAnswer (rejectAnswer (now (s .entry)) (now (message .entry))) ⌝ }
+pub extern "C" fn kd_take_reject(store: &[u8], message: &[u8]) -> CountAnswer
+    ensures { λ r. ⌜ r ≡ countAnswer (rejectAnswer (now (store .entry)) (now (message .entry))) ⌝ }
 {
-    count_answer(messages::take::take_reject(s, message))
+    count_answer(messages::take::take_reject(store, message))
 }
 
 #[no_mangle]
-pub extern "C" fn kd_serve(s: &[u8], request: &[u8], out: &mut [u8]) -> CountAnswer
-    ensures { λ r. ⌜ (r ≡ countAnswer (serveAnswer (now (s .entry)) (now (request .entry)) (now (out .entry)))) × (now (out .exit) ≡ serveAfter (now (s .entry)) (now (request .entry)) (now (out .entry))) ⌝ }
+pub extern "C" fn kd_serve(store: &[u8], request: &[u8], out: &mut [u8]) -> CountAnswer
+    ensures { λ r. ⌜ (r ≡ countAnswer (serveAnswer (now (store .entry)) (now (request .entry)) (now (out .entry)))) × (now (out .exit) ≡ serveAfter (now (store .entry)) (now (request .entry)) (now (out .entry))) ⌝ }
 {
-    count_answer(serve::serve(s, request, out))
+    count_answer(serve::serve(store, request, out))
 }
 
 #[no_mangle]
-pub extern "C" fn kd_load_layer(s: &mut [u8], layer: &[u8]) -> CountAnswer
-    ensures { λ r. ⌜ (r ≡ countAnswer (layerAnswer (now (s .entry)) (now (layer .entry)))) × (now (s .exit) ≡ layerAfter (now (s .entry)) (now (layer .entry))) ⌝ }
+pub extern "C" fn kd_load_layer(store: &mut [u8], layer: &[u8]) -> CountAnswer
+    ensures { λ r. ⌜ (r ≡ countAnswer (layerAnswer (now (store .entry)) (now (layer .entry)))) × (now (store .exit) ≡ layerAfter (now (store .entry)) (now (layer .entry))) ⌝ }
 {
-    count_answer(pieces::load_layer(s, layer))
+    count_answer(pieces::load_layer(store, layer))
 }
 
 #[no_mangle]
-pub extern "C" fn kd_judge_block(s: &mut [u8], block: u64, bytes: &[u8]) -> CountAnswer
-    ensures { λ r. ⌜ (r ≡ countAnswer (blockAnswer (now (s .entry)) block (now (bytes .entry)))) × (now (s .exit) ≡ blockAfter (now (s .entry)) block (now (bytes .entry))) ⌝ }
+pub extern "C" fn kd_judge_block(store: &mut [u8], block: u64, bytes: &[u8]) -> CountAnswer
+    ensures { λ r. ⌜ (r ≡ countAnswer (blockAnswer (now (store .entry)) block (now (bytes .entry)))) × (now (store .exit) ≡ blockAfter (now (store .entry)) block (now (bytes .entry))) ⌝ }
 {
-    count_answer(pieces::judge_block(s, block as usize, bytes))
+    count_answer(pieces::judge_block(store, block as usize, bytes))
 }
 
 #[no_mangle]
-pub extern "C" fn kd_judge_piece(s: &mut [u8], piece: u64, bytes: &[u8]) -> CountAnswer
-    ensures { λ r. ⌜ (r ≡ countAnswer (pieceAnswer (now (s .entry)) piece (now (bytes .entry)))) × (now (s .exit) ≡ pieceAfter (now (s .entry)) piece (now (bytes .entry))) ⌝ }
+pub extern "C" fn kd_judge_piece(store: &mut [u8], piece: u64, bytes: &[u8]) -> CountAnswer
+    ensures { λ r. ⌜ (r ≡ countAnswer (pieceAnswer (now (store .entry)) piece (now (bytes .entry)))) × (now (store .exit) ≡ pieceAfter (now (store .entry)) piece (now (bytes .entry))) ⌝ }
 {
-    count_answer(pieces::judge_piece(s, piece as usize, bytes))
+    count_answer(pieces::judge_piece(store, piece as usize, bytes))
 }
 
 #[no_mangle]
 pub extern "C" fn kd_judge_hybrid_piece(
-    s: &mut [u8],
+    store: &mut [u8],
     piece: u64,
     bytes: &[u8],
     v1: Sha1Hash,
     zeros: u64,
 ) -> CountAnswer
-    ensures { λ r. ⌜ (r ≡ countAnswer (Both.hybridAnswer (now (s .entry)) piece (now (bytes .entry)) (v1 .bytes) zeros)) × (now (s .exit) ≡ Both.hybridAfter (now (s .entry)) piece (now (bytes .entry)) (v1 .bytes) zeros) ⌝ }
+    ensures { λ r. ⌜ (r ≡ countAnswer (Both.hybridAnswer (now (store .entry)) piece (now (bytes .entry)) (v1 .bytes) zeros)) × (now (store .exit) ≡ Both.hybridAfter (now (store .entry)) piece (now (bytes .entry)) (v1 .bytes) zeros) ⌝ }
 {
     let hash = v1.bytes;
-    count_answer(pieces::judge_hybrid_piece(s, piece as usize, bytes, hash, zeros as usize))
+    count_answer(pieces::judge_hybrid_piece(store, piece as usize, bytes, hash, zeros as usize))
 }
 
 #[no_mangle]
-pub extern "C" fn kd_piece_hashes(s: &[u8], piece: u64, bytes: &[u8], out: &mut [u8]) -> CountAnswer
-    ensures { λ r. ⌜ (r ≡ countAnswer (leavesAnswer (now (s .entry)) piece (now (bytes .entry)) (now (out .entry)))) × (now (out .exit) ≡ leavesAfter (now (s .entry)) piece (now (bytes .entry)) (now (out .entry))) ⌝ }
+pub extern "C" fn kd_piece_hashes(
+    store: &[u8],
+    piece: u64,
+    bytes: &[u8],
+    out: &mut [u8],
+) -> CountAnswer
+    ensures { λ r. ⌜ (r ≡ countAnswer (leavesAnswer (now (store .entry)) piece (now (bytes .entry)) (now (out .entry)))) × (now (out .exit) ≡ leavesAfter (now (store .entry)) piece (now (bytes .entry)) (now (out .entry))) ⌝ }
 {
-    count_answer(leaves::piece_hashes(s, piece as usize, bytes, out))
+    count_answer(leaves::piece_hashes(store, piece as usize, bytes, out))
 }
 
 #[no_mangle]
-pub extern "C" fn kd_marked(s: &[u8], block: u64) -> CountAnswer
-    ensures { λ r. ⌜ r ≡ countAnswer (markedAnswer (now (s .entry)) block) ⌝ }
+pub extern "C" fn kd_marked(store: &[u8], block: u64) -> CountAnswer
+    ensures { λ r. ⌜ r ≡ countAnswer (markedAnswer (now (store .entry)) block) ⌝ }
 {
-    count_answer(marks::marked_block(s, block as usize))
+    count_answer(marks::marked_block(store, block as usize))
 }
 
 #[no_mangle]
-pub extern "C" fn kd_clear(s: &mut [u8], block: u64) -> CountAnswer
-    ensures { λ r. ⌜ (r ≡ countAnswer (clearAnswer (now (s .entry)) block)) × (now (s .exit) ≡ clearAfter (now (s .entry)) block) ⌝ }
+pub extern "C" fn kd_clear(store: &mut [u8], block: u64) -> CountAnswer
+    ensures { λ r. ⌜ (r ≡ countAnswer (clearAnswer (now (store .entry)) block)) × (now (store .exit) ≡ clearAfter (now (store .entry)) block) ⌝ }
 {
-    count_answer(marks::clear_mark(s, block as usize))
+    count_answer(marks::clear_mark(store, block as usize))
 }
 
 #[no_mangle]
-pub extern "C" fn kd_bitfield(s: &[u8], out: &mut [u8]) -> CountAnswer
-    ensures { λ r. ⌜ (r ≡ countAnswer (fieldAnswer (now (s .entry)) (now (out .entry)))) × (now (out .exit) ≡ fieldAfter (now (s .entry)) (now (out .entry))) ⌝ }
+pub extern "C" fn kd_bitfield(store: &[u8], out: &mut [u8]) -> CountAnswer
+    ensures { λ r. ⌜ (r ≡ countAnswer (fieldAnswer (now (store .entry)) (now (out .entry)))) × (now (out .exit) ≡ fieldAfter (now (store .entry)) (now (out .entry))) ⌝ }
 {
-    count_answer(marks::bitfield(s, out))
+    count_answer(marks::bitfield(store, out))
 }
 
 #[no_mangle]
-pub extern "C" fn kd_next_request(s: &[u8], layer: u64) -> Request
-    ensures { λ r. ⌜ r ≡ nextAnswer (now (s .entry)) layer ⌝ }
+pub extern "C" fn kd_next_request(store: &[u8], layer: u64) -> Request
+    ensures { λ r. ⌜ r ≡ nextAnswer (now (store .entry)) layer ⌝ }
 {
-    asking::next::next_request(s, layer as usize)
+    asking::next::next_request(store, layer as usize)
 }
 
 #[no_mangle]
-pub extern "C" fn kd_pick_piece(s: &[u8], counts: &[u32]) -> Choice
-    ensures { λ r. ⌜ r ≡ pickAnswer (now (s .entry)) (now (counts .entry)) ⌝ }
+pub extern "C" fn kd_pick_piece(store: &[u8], counts: &[u32]) -> Choice
+    ensures { λ r. ⌜ r ≡ pickAnswer (now (store .entry)) (now (counts .entry)) ⌝ }
 {
-    asking::pick::pick_piece(s, counts)
+    asking::pick::pick_piece(store, counts)
 }
 
 // Whether the store's file begins with an earlier one, of this length and root.
 #[no_mangle]
-pub extern "C" fn kd_extends(s: &[u8], length: u64, root: Hash, block: &[u8]) -> CountAnswer
-    ensures { λ r. ⌜ r ≡ countAnswer (extendsAnswer (now (s .entry)) length (root .bytes) (now (block .entry))) ⌝ }
+pub extern "C" fn kd_extends(store: &[u8], length: u64, root: Hash, block: &[u8]) -> CountAnswer
+    ensures { λ r. ⌜ r ≡ countAnswer (extendsAnswer (now (store .entry)) length (root .bytes) (now (block .entry))) ⌝ }
 {
     let bytes = root.bytes;
-    count_answer(extends::extends(s, length as usize, bytes, block))
+    count_answer(extends::extends(store, length as usize, bytes, block))
 }
 
 #[no_mangle]
-pub extern "C" fn kd_save(s: &[u8], out: &mut [u8]) -> CountAnswer
-    ensures { λ r. ⌜ (r ≡ countAnswer (saveAnswer (now (s .entry)) (now (out .entry)))) × (now (out .exit) ≡ saveAfter (now (s .entry)) (now (out .entry))) ⌝ }
+pub extern "C" fn kd_save(store: &[u8], out: &mut [u8]) -> CountAnswer
+    ensures { λ r. ⌜ (r ≡ countAnswer (saveAnswer (now (store .entry)) (now (out .entry)))) × (now (out .exit) ≡ saveAfter (now (store .entry)) (now (out .entry))) ⌝ }
 {
-    count_answer(saved::save::save(s, out))
+    count_answer(saved::save::save(store, out))
 }
 
 #[no_mangle]
-pub extern "C" fn kd_load(s: &mut [u8], bytes: &[u8]) -> CountAnswer
-    ensures { λ r. ⌜ (r ≡ countAnswer (loadAnswer (now (s .entry)) (now (bytes .entry)))) × (now (s .exit) ≡ loadAfter (now (s .entry)) (now (bytes .entry))) ⌝ }
+pub extern "C" fn kd_load(store: &mut [u8], bytes: &[u8]) -> CountAnswer
+    ensures { λ r. ⌜ (r ≡ countAnswer (loadAnswer (now (store .entry)) (now (bytes .entry)))) × (now (store .exit) ≡ loadAfter (now (store .entry)) (now (bytes .entry))) ⌝ }
 {
-    count_answer(saved::load::load(s, bytes))
+    count_answer(saved::load::load(store, bytes))
 }
 
 #[no_mangle]
-pub extern "C" fn kd_repair(s: &mut [u8], bytes: &[u8]) -> Repaired
-    ensures { λ r. ⌜ (r ≡ repairAnswer (now (s .entry)) (now (bytes .entry))) × (now (s .exit) ≡ repairAfter (now (s .entry)) (now (bytes .entry))) ⌝ }
+pub extern "C" fn kd_repair(store: &mut [u8], bytes: &[u8]) -> Repaired
+    ensures { λ r. ⌜ (r ≡ repairAnswer (now (store .entry)) (now (bytes .entry))) × (now (store .exit) ≡ repairAfter (now (store .entry)) (now (bytes .entry))) ⌝ }
 {
-    saved::repair::repair(s, bytes)
+    saved::repair::repair(store, bytes)
 }
 
 #[no_mangle]

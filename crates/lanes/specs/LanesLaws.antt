@@ -18,7 +18,7 @@ use Rattle.rounds.specs.StageLaws.{stage-first, stage-step, stage-last, stage-a
 use Rattle.rounds.specs.Sums.{sums, roundsBy}
 use Rattle.rounds.specs.SumsLaws.{sum-at, compress-by-sums}
 use Rattle.lanes.specs.Lanes.{lane, stateOf, stateIn}
-use Rattle.lanes.specs.Passes.{Beside, Passed, Loading, Growing, Stepping, Rounding, Grown, Rounded}
+use Rattle.lanes.specs.Passes.{Beside, LanesPassed, Loading, Growing, Stepping, Rounding, Grown, Rounded}
 
 pub length-lane : (n : ℕ) (w : List ℕ) (j : ℕ) → length (lane n w j) ≡ n
 unfolding lane
@@ -231,10 +231,10 @@ four-steppings xs s₀ s₁ s₂ s₃ s₄ i p q r u =
 -- ---- passes over the lanes
 
 module _ (n : ℕ) (F : ℕ → List ℕ → List ℕ → Type 0) where
-  pub passed-none : (w : List ℕ) → Passed n F 0 w w
+  pub passed-none : (w : List ℕ) → LanesPassed n F 0 w w
   passed-none w = record { size = refl; done = λ x h. absurd (omega arith); left = λ x g h. refl }
 
-  pub passed-more : (j : ℕ) (w₀ w w′ : List ℕ) → j < 8 → Passed n F j w₀ w → Beside n j w w′ → F j (lane n w j) (lane n w′ j) → Passed n F (j + 1) w₀ w′
+  pub passed-more : (j : ℕ) (w₀ w w′ : List ℕ) → j < 8 → LanesPassed n F j w₀ w → Beside n j w w′ → F j (lane n w j) (lane n w′ j) → LanesPassed n F (j + 1) w₀ w′
   passed-more j w₀ w w′ h p b f =
       record {
         size = b .size ∙ p .size;
@@ -250,8 +250,8 @@ module _ (n : ℕ) (F : ℕ → List ℕ → List ℕ → Type 0) where
       by-lane x l (no d) = rw (b .others x (omega arith) d) (p .done x (omega arith))
 
 -- a pass over states, one lane more
-pub rounding-more : (xs : ℕ → List ℕ) (i k j : ℕ) (t₀ t t′ : List ℕ) → j < 8 → Passed 8 (Rounding xs i k) j t₀ t → Beside 8 j t t′
-    → Stepping (xs j) i k (stateIn t j) (stateIn t′ j) → Passed 8 (Rounding xs i k) (j + 1) t₀ t′
+pub rounding-more : (xs : ℕ → List ℕ) (i k j : ℕ) (t₀ t t′ : List ℕ) → j < 8 → LanesPassed 8 (Rounding xs i k) j t₀ t → Beside 8 j t t′
+    → Stepping (xs j) i k (stateIn t j) (stateIn t′ j) → LanesPassed 8 (Rounding xs i k) (j + 1) t₀ t′
 unfolding Rounding stateIn
 rounding-more xs i k j t₀ t t′ h p b f = passed-more 8 (Rounding xs i k) j t₀ t t′ h p b f
 
@@ -262,7 +262,7 @@ reach j stride h = mul-le-mul-right stride (omega arith)
 -- ---- one block in every lane
 
 module _ (m : ℕ → List ℕ) where
-  pub grown-first : (w₀ w : List ℕ) → length w₀ ≡ 512 → Passed 64 (Loading m) 8 w₀ w → Grown m 0 w
+  pub grown-first : (w₀ w : List ℕ) → length w₀ ≡ 512 → LanesPassed 64 (Loading m) 8 w₀ w → Grown m 0 w
   unfolding Loading
   grown-first w₀ w l p =
       record {
@@ -270,7 +270,7 @@ module _ (m : ℕ → List ℕ) where
         stage = λ x h. stage-first (m x) (lane 64 w x) (length-lane 64 w x) (p .done x h);
       }
 
-  pub grown-on : (i : ℕ) (w w′ : List ℕ) → Grown m i w → Passed 64 (λ (x : ℕ). Growing i (i + 4)) 8 w w′ → Grown m (i + 4) w′
+  pub grown-on : (i : ℕ) (w w′ : List ℕ) → Grown m i w → LanesPassed 64 (λ (x : ℕ). Growing i (i + 4)) 8 w w′ → Grown m (i + 4) w′
   unfolding Growing
   grown-on i w w′ a p = record { room = p .size ∙ a .room; stage = λ x h. p .done x h (m x) (a .stage x h) }
 
@@ -282,7 +282,7 @@ module _ (xs : ℕ → List ℕ) (z : List ℕ) where
   unfolding roundsBy
   rounded-none l = record { size = l; done = λ x h. refl }
 
-  pub rounded-on : (i : ℕ) (t t′ : List ℕ) → Rounded xs z i t → Passed 8 (Rounding xs i (i + 4)) 8 t t′ → Rounded xs z (i + 4) t′
+  pub rounded-on : (i : ℕ) (t t′ : List ℕ) → Rounded xs z i t → LanesPassed 8 (Rounding xs i (i + 4)) 8 t t′ → Rounded xs z (i + 4) t′
   unfolding Rounding Stepping stateIn
   rounded-on i t t′ a p = record { size = p .size ∙ a .size; done = λ x h. p .done x h (stateIn z x) (a .done x h) }
 

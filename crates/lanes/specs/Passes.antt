@@ -1,4 +1,4 @@
--- What holds between the steps of a block, in one lane and in all of them. Only private functions' contracts cite it.
+-- What holds between the steps of a block, in one lane and in all of them. Only contracts within this crate cite it.
 -- Assumes nothing.
 use mathlib.Core.Path.{_≡_}
 use mathlib.Core.List.{List}
@@ -16,7 +16,7 @@ pub record Beside (n j : ℕ) (w w′ : List ℕ) : Type 0 where
   pub others : (x : ℕ) → x < 8 → (x ≡ j → ⊥) → lane n w′ x ≡ lane n w x
 
 -- how far a pass over the lanes has come, from w₀ to w: each lane below j stands to what it was as F asks, the others are as before
-pub record Passed (n : ℕ) (F : ℕ → List ℕ → List ℕ → Type 0) (j : ℕ) (w₀ w : List ℕ) : Type 0 where
+pub record LanesPassed (n : ℕ) (F : ℕ → List ℕ → List ℕ → Type 0) (j : ℕ) (w₀ w : List ℕ) : Type 0 where
   pub size : length w ≡ length w₀
   pub done : (x : ℕ) → x < j → F x (lane n w₀ x) (lane n w x)
   pub left : (x : ℕ) → j ≤ x → x < 8 → lane n w x ≡ lane n w₀ x
@@ -33,7 +33,7 @@ Growing i k w w′ = (m : List ℕ) → Stage m i w → Stage m k w′
 unfoldable pub Stepping : List ℕ → ℕ → ℕ → State → State → Type 0
 Stepping xs i k s s′ = (z : State) → s ≡ roundsBy xs i z → s′ ≡ roundsBy xs k z
 
--- the same of lane x, whose sums are xs x
+-- from any state of lane x, the rounds from i to k by its sums, xs x, are done
 unfoldable pub Rounding : (ℕ → List ℕ) → ℕ → ℕ → ℕ → List ℕ → List ℕ → Type 0
 Rounding xs i k x l l′ = Stepping (xs x) i k (stateOf l) (stateOf l′)
 

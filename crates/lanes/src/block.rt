@@ -9,7 +9,7 @@ ghost use Rattle.bits.specs.Parsing.{words};
 ghost use Rattle.rounds.specs.Block as B;
 ghost use Rattle.rounds.specs.Sums.{sums, roundsBy};
 ghost use Rattle.lanes.specs.Lanes.{lane, stateIn};
-ghost use Rattle.lanes.specs.Passes.{Beside, Passed, Loading, Growing, Stepping, Rounding};
+ghost use Rattle.lanes.specs.Passes.{Beside, LanesPassed, Loading, Growing, Stepping, Rounding};
 use bits::add;
 use bits::small0;
 use bits::small1;
@@ -17,58 +17,58 @@ use bits::word;
 use rounds::State;
 use rounds::round;
 
-// The state of lane j.
-pub fn lane_of(t: &[u32; 64], j: usize) -> State
-    requires { ⌜ j < 8 ⌝ }
-    ensures { λ r. ⌜ r ≡ stateIn (now (t .entry)) j ⌝ }
+// The state of `lane`.
+pub fn lane_of(states: &[u32; 64], lane: usize) -> State
+    requires { ⌜ lane < 8 ⌝ }
+    ensures { λ r. ⌜ r ≡ stateIn (now (states .entry)) lane ⌝ }
 {
     State {
-        a: t[j],
-        b: t[8 + j],
-        c: t[16 + j],
-        d: t[24 + j],
-        e: t[32 + j],
-        f: t[40 + j],
-        g: t[48 + j],
-        h: t[56 + j],
+        a: states[lane],
+        b: states[8 + lane],
+        c: states[16 + lane],
+        d: states[24 + lane],
+        e: states[32 + lane],
+        f: states[40 + lane],
+        g: states[48 + lane],
+        h: states[56 + lane],
     }
 }
 
-// s becomes the state of lane j.
-pub fn put_lane(t: &mut [u32; 64], j: usize, s: State)
-    requires { ⌜ (j < 8) × (length (now t) ≡ 64) ⌝ }
-    ensures { λ _. ⌜ (stateIn (now (t .exit)) j ≡ s) × Beside 8 j (now (t .entry)) (now (t .exit)) ⌝ }
+// `state` becomes the state of `lane`.
+pub fn put_lane(states: &mut [u32; 64], lane: usize, state: State)
+    requires { ⌜ (lane < 8) × (length (now states) ≡ 64) ⌝ }
+    ensures { λ _. ⌜ (stateIn (now (states .exit)) lane ≡ state) × Beside 8 lane (now (states .entry)) (now (states .exit)) ⌝ }
 {
-    t[j] = s.a;
-    t[8 + j] = s.b;
-    t[16 + j] = s.c;
-    t[24 + j] = s.d;
-    t[32 + j] = s.e;
-    t[40 + j] = s.f;
-    t[48 + j] = s.g;
-    t[56 + j] = s.h;
+    states[lane] = state.a;
+    states[8 + lane] = state.b;
+    states[16 + lane] = state.c;
+    states[24 + lane] = state.d;
+    states[32 + lane] = state.e;
+    states[40 + lane] = state.f;
+    states[48 + lane] = state.g;
+    states[56 + lane] = state.h;
 }
 
 // The sixteen words of the block that starts at `at`, into lane j.
-fn load_lane(w: &mut [u32; 512], s: &[u8], at: usize, j: usize)
-    requires { ⌜ (j < 8) × (at + 64 ≤ length (now s)) × (length (now w) ≡ 512) ⌝ }
-    ensures { λ _. ⌜ (take 16 (lane 64 (now (w .exit)) j) ≡ words 16 (cut (now (s .entry)) at 64)) × Beside 64 j (now (w .entry)) (now (w .exit)) ⌝ }
+fn load_lane(w: &mut [u32; 512], bytes: &[u8], at: usize, j: usize)
+    requires { ⌜ (j < 8) × (at + 64 ≤ length (now bytes)) × (length (now w) ≡ 512) ⌝ }
+    ensures { λ _. ⌜ (take 16 (lane 64 (now (w .exit)) j) ≡ words 16 (cut (now (bytes .entry)) at 64)) × Beside 64 j (now (w .entry)) (now (w .exit)) ⌝ }
 {
     let mut i: usize = 0;
     while i < 16 {
-        w[i * 8 + j] = word(s, at + i * 4);
+        w[i * 8 + j] = word(bytes, at + i * 4);
         i += 1;
     }
 }
 
 // Eight blocks, each `stride` bytes after the one before.
-fn load(w: &mut [u32; 512], s: &[u8], at: usize, stride: usize)
-    requires { ⌜ (at + 7 * stride + 64 ≤ length (now s)) × (length (now w) ≡ 512) ⌝ }
-    ensures { λ _. ⌜ Passed 64 (Loading (λ (x : ℕ). cut (now (s .entry)) (at + x * stride) 64)) 8 (now (w .entry)) (now (w .exit)) ⌝ }
+fn load(w: &mut [u32; 512], bytes: &[u8], at: usize, stride: usize)
+    requires { ⌜ (at + 7 * stride + 64 ≤ length (now bytes)) × (length (now w) ≡ 512) ⌝ }
+    ensures { λ _. ⌜ LanesPassed 64 (Loading (λ (x : ℕ). cut (now (bytes .entry)) (at + x * stride) 64)) 8 (now (w .entry)) (now (w .exit)) ⌝ }
 {
     let mut j: usize = 0;
     while j < 8 {
-        load_lane(&mut *w, s, at + j * stride, j);
+        load_lane(&mut *w, bytes, at + j * stride, j);
         j += 1;
     }
 }
@@ -101,7 +101,7 @@ fn grow4(w: &mut [u32; 512], i: usize, j: usize)
 // Four such words in every lane.
 fn grow_all(w: &mut [u32; 512], i: usize)
     requires { ⌜ (i ≤ 44) × (length (now w) ≡ 512) ⌝ }
-    ensures { λ _. ⌜ Passed 64 (λ (x : ℕ). Growing i (i + 4)) 8 (now (w .entry)) (now (w .exit)) ⌝ }
+    ensures { λ _. ⌜ LanesPassed 64 (λ (x : ℕ). Growing i (i + 4)) 8 (now (w .entry)) (now (w .exit)) ⌝ }
 {
     let mut j: usize = 0;
     while j < 8 {
@@ -111,11 +111,11 @@ fn grow_all(w: &mut [u32; 512], i: usize)
 }
 
 // The message schedules of eight blocks.
-fn fill(w: &mut [u32; 512], s: &[u8], at: usize, stride: usize)
-    requires { ⌜ (at + 7 * stride + 64 ≤ length (now s)) × (length (now w) ≡ 512) ⌝ }
-    ensures { λ _. ⌜ ((j : ℕ) → j < 8 → lane 64 (now (w .exit)) j ≡ B.schedule 48 (cut (now (s .entry)) (at + j * stride) 64)) ⌝ }
+fn fill(w: &mut [u32; 512], bytes: &[u8], at: usize, stride: usize)
+    requires { ⌜ (at + 7 * stride + 64 ≤ length (now bytes)) × (length (now w) ≡ 512) ⌝ }
+    ensures { λ _. ⌜ ((j : ℕ) → j < 8 → lane 64 (now (w .exit)) j ≡ B.schedule 48 (cut (now (bytes .entry)) (at + j * stride) 64)) ⌝ }
 {
-    load(&mut *w, s, at, stride);
+    load(&mut *w, bytes, at, stride);
     let mut i: usize = 0;
     while i <= 44 {
         grow_all(&mut *w, i);
@@ -147,7 +147,7 @@ fn step4(t: &mut [u32; 64], k: &[u32; 64], w: &[u32; 512], i: usize, j: usize)
 // Four rounds of every lane.
 fn step_all(t: &mut [u32; 64], k: &[u32; 64], w: &[u32; 512], i: usize)
     requires { ⌜ (i ≤ 60) × (length (now t) ≡ 64) ⌝ }
-    ensures { λ _. ⌜ Passed 8 (Rounding (λ (x : ℕ). sums 64 (now (k .entry)) (lane 64 (now (w .entry)) x)) i (i + 4)) 8 (now (t .entry)) (now (t .exit)) ⌝ }
+    ensures { λ _. ⌜ LanesPassed 8 (Rounding (λ (x : ℕ). sums 64 (now (k .entry)) (lane 64 (now (w .entry)) x)) i (i + 4)) 8 (now (t .entry)) (now (t .exit)) ⌝ }
 {
     let mut j: usize = 0;
     while j < 8 {
@@ -182,13 +182,19 @@ fn sum_all(st: [u32; 64], t: [u32; 64]) -> [u32; 64]
 }
 
 // One block in each lane: lane j's starts at `at + j * stride`.
-pub fn compress8(st: [u32; 64], k: &[u32; 64], s: &[u8], at: usize, stride: usize) -> [u32; 64]
-    requires { ⌜ at + 7 * stride + 64 ≤ length (now s) ⌝ }
-    ensures { λ r. ⌜ (length r ≡ 64) × ((j : ℕ) → j < 8 → stateIn r j ≡ B.compress (now (k .entry)) (stateIn st j) (cut (now (s .entry)) (at + j * stride) 64)) ⌝ }
+pub fn compress8(
+    states: [u32; 64],
+    k: &[u32; 64],
+    bytes: &[u8],
+    at: usize,
+    stride: usize,
+) -> [u32; 64]
+    requires { ⌜ at + 7 * stride + 64 ≤ length (now bytes) ⌝ }
+    ensures { λ r. ⌜ (length r ≡ 64) × ((j : ℕ) → j < 8 → stateIn r j ≡ B.compress (now (k .entry)) (stateIn states j) (cut (now (bytes .entry)) (at + j * stride) 64)) ⌝ }
 {
     let mut w = [0u32; 512];
-    fill(&mut w, s, at, stride);
-    sum_all(st, steps(st, k, &w))
+    fill(&mut w, bytes, at, stride);
+    sum_all(states, steps(states, k, &w))
 }
 
 // Round i of a block that is the same in every lane, by the sum of its two words.
@@ -213,7 +219,7 @@ fn known4(t: &mut [u32; 64], x: &[u32; 64], i: usize, j: usize)
 
 fn known_all(t: &mut [u32; 64], x: &[u32; 64], i: usize)
     requires { ⌜ (i ≤ 60) × (length (now t) ≡ 64) ⌝ }
-    ensures { λ _. ⌜ Passed 8 (Rounding (λ (j : ℕ). now (x .entry)) i (i + 4)) 8 (now (t .entry)) (now (t .exit)) ⌝ }
+    ensures { λ _. ⌜ LanesPassed 8 (Rounding (λ (j : ℕ). now (x .entry)) i (i + 4)) 8 (now (t .entry)) (now (t .exit)) ⌝ }
 {
     let mut j: usize = 0;
     while j < 8 {
@@ -223,14 +229,14 @@ fn known_all(t: &mut [u32; 64], x: &[u32; 64], i: usize)
 }
 
 // A block that is the same in every lane, by the sums of its words and the round words: no schedule is made.
-pub fn compress_sums8(st: [u32; 64], x: &[u32; 64]) -> [u32; 64]
-    ensures { λ r. ⌜ (length r ≡ 64) × ((j : ℕ) → j < 8 → stateIn r j ≡ B.plus (stateIn st j) (roundsBy (now (x .entry)) 64 (stateIn st j))) ⌝ }
+pub fn compress_sums8(states: [u32; 64], sums: &[u32; 64]) -> [u32; 64]
+    ensures { λ r. ⌜ (length r ≡ 64) × ((j : ℕ) → j < 8 → stateIn r j ≡ B.plus (stateIn states j) (roundsBy (now (sums .entry)) 64 (stateIn states j))) ⌝ }
 {
-    let mut t = st;
+    let mut t = states;
     let mut i: usize = 0;
     while i <= 60 {
-        known_all(&mut t, x, i);
+        known_all(&mut t, sums, i);
         i += 4;
     }
-    sum_all(st, t)
+    sum_all(states, t)
 }

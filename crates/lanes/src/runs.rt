@@ -8,13 +8,13 @@ use crate::hashes::put8;
 use octets::hash_at;
 use octets::put_hash;
 
-// Works out a whole subtree from its m leaves, which stand in `heap` from 32 m on: each hash from its two children, eight at
+// Works out a whole subtree from its `leaves` leaves, which stand in `heap` from 32 `leaves` on: each hash from its two children, eight at
 // a time while their children lie behind them, and the last ones alone.
-pub fn fill_heap(heap: &mut [u8], m: usize)
-    requires { ⌜ (length (now heap) ≡ 64 * m) × (1 ≤ m) ⌝ }
-    ensures { λ _. ⌜ Heap 1 m (now (heap .entry)) (now (heap .exit)) ⌝ }
+pub fn fill_heap(heap: &mut [u8], leaves: usize)
+    requires { ⌜ (length (now heap) ≡ 64 * leaves) × (1 ≤ leaves) ⌝ }
+    ensures { λ _. ⌜ Heap 1 leaves (now (heap .entry)) (now (heap .exit)) ⌝ }
 {
-    let mut q = m;
+    let mut q = leaves;
     while 16 <= q {
         q -= 8;
         let from = 64 * q;

@@ -1,7 +1,7 @@
 -- The loop that gathers the keys of `piece layers`: how far it has come, and each way on from there.
 -- Assumes nothing.
 use mathlib.Core.Path.{_≡_, refl, sym, ap, _∙_}
-use mathlib.Core.Bool.{Bool, true, false, cond, _&&_, false≢true}
+use mathlib.Core.Bool.{Bool, true, false, cond, _&&_, false≢true, and-false}
 use mathlib.Core.List.{List, [], _∷_, _++_, append-assoc, append-nil}
 use Prim.Native.Nat.{ℕ, zero, suc, _+_, _-_, _≤_, _<_}
 use native.Mathlib.Numerals.{add-one}
@@ -15,7 +15,6 @@ use Rattle.bencode.specs.Parts.{readEntry}
 use Rattle.bencode.specs.PartsLaws.{entry-ends}
 use Rattle.bencode.specs.declared.parts.Entry.the-variants.{Keyed, NoEntry}
 use Rattle.layers.specs.Layers.{keysOn, keysFrom, wideOn, wideFrom, layerKeys, keysWide}
-use Rattle.tree.specs.GeometryLaws.{and-false}
 
 pub record IndexAt (s keys : List ℕ) (most i n : ℕ) : Type 0 where
   pub steps : ℕ

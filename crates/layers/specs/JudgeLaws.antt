@@ -11,7 +11,7 @@ use Rattle.octets.specs.Octets.{cut}
 use Rattle.filetree.specs.Token.{endsHere, tokenAt}
 use Rattle.filetree.specs.TokenLaws.{leaf-ends}
 use Rattle.filetree.specs.Tree.{maxElements, Element, Listed, listedAs, down, Files, wrong, files, filesBelow, filesIn, right, listed}
-use Rattle.filetree.specs.TreeLaws.{empty-tree, tree-below, Passed, passed-none, passed-bad, passed-end, passed-closed, passed-file, passed-wrong, inside-ends, passed-directory}
+use Rattle.filetree.specs.TreeLaws.{empty-tree, tree-below, FilesPassed, passed-none, passed-bad, passed-end, passed-closed, passed-file, passed-wrong, inside-ends, passed-directory}
 use Rattle.filetree.specs.declared.token.Token.the-variants.{Opened, Closed, Leaf, BadToken}
 use Rattle.layers.specs.Layers.{numberByLayer, lower, worst, numberedOf, Judges}
 use Rattle.layers.specs.declared.Numbered.the-variants.{Past, WrongTree}
@@ -44,7 +44,7 @@ only-right t l plen w k m (files gs j) g = let p : k ≡ j = cc in let q : m ≡
 
 abbrev pub JudgedAt : List ℕ → ℕ → ℕ → List ℕ → ℕ → ℕ → ℕ → ℕ → ℕ → Type 0
 JudgedAt t at levels l plen w below i m =
-    (path : List Element) → (fs : List Listed) × Passed t (filesBelow levels t at path) below path i fs × (m ≡ worst t l plen w fs)
+    (path : List Element) → (fs : List Listed) × FilesPassed t (filesBelow levels t at path) below path i fs × (m ≡ worst t l plen w fs)
 
 pub judged-start : (t : List ℕ) (at levels : ℕ) (l : List ℕ) (plen w : ℕ) → (levels ≡ 0 → ⊥) → JudgedAt t at levels l plen w (levels - 1) at w
 judged-start t at levels l plen w h path = ([], passed-none t levels at path h, sym (worst-none t l plen w))

@@ -1,5 +1,5 @@
-// The piece layers of a torrent: where their keys stand, a layer found by its root, and whether it is what its file needs. `l` is the part
-// of the torrent that the value of `piece layers` is, `t` the part that `file tree` is.
+// The piece layers of a torrent: where their keys stand, a layer found by its root, and whether it is what its file needs. `layers` is the
+// part of the torrent that the value of `piece layers` is, `tree` the part that `file tree` is.
 use bencode::parts::Entry;
 use bencode::parts::read_entry;
 use bencode::scalar::ByteString;
@@ -29,15 +29,15 @@ ghost use Rattle.layers.specs.Layers.{layerKeys, keysWide, Indexed, Insi
 // A pieces root, and so each key of `piece layers`, has 32 bytes.
 const ROOT: usize = 32;
 
-// Whether the dictionary l has `most` keys, each of 32 bytes; if so, where they stand is left in `keys`, in order.
-pub fn index(l: &[u8], keys: &mut [u32], most: usize) -> bool
-    requires { ⌜ (L.length (now l) ≤ largestTorrent) × (most ≤ L.length (now keys)) ⌝ }
-    ensures { λ r. ⌜ (r ≡ (keysWide (now (l .entry)) && eqb (L.length (layerKeys (now (l .entry)))) most)) × (r ≡ true → take most (now (keys .exit)) ≡ layerKeys (now (l .entry))) ⌝ }
+// Whether the dictionary `layers` has `most` keys, each of 32 bytes; if so, where they stand is left in `keys`, in order.
+pub fn index(layers: &[u8], keys: &mut [u32], most: usize) -> bool
+    requires { ⌜ (L.length (now layers) ≤ largestTorrent) × (most ≤ L.length (now keys)) ⌝ }
+    ensures { λ r. ⌜ (r ≡ (keysWide (now (layers .entry)) && eqb (L.length (layerKeys (now (layers .entry)))) most)) × (r ≡ true → take most (now (keys .exit)) ≡ layerKeys (now (layers .entry))) ⌝ }
 {
     let mut i = 1;
     let mut n = 0;
-    while i < l.len() {
-        match read_entry(l, i) {
+    while i < layers.len() {
+        match read_entry(layers, i) {
             Entry::NoEntry => {
                 return n == most;
             }
@@ -57,30 +57,37 @@ pub fn index(l: &[u8], keys: &mut [u32], most: usize) -> bool
     n == most
 }
 
-// The string that the dictionary l has for a root.
-pub fn find_layer(l: &[u8], keys: &[u32], count: usize, root: &[u8]) -> ByteString
-    requires { ⌜ Indexed (now l) (now keys) count ⌝ }
-    ensures { λ r. ⌜ r ≡ layerAt (now (l .entry)) (now (root .entry)) ⌝ }
+// The string that the dictionary `layers` has for a root.
+pub fn find_layer(layers: &[u8], keys: &[u32], count: usize, root: &[u8]) -> ByteString
+    requires { ⌜ Indexed (now layers) (now keys) count ⌝ }
+    ensures { λ r. ⌜ r ≡ layerAt (now (layers .entry)) (now (root .entry)) ⌝ }
 {
-    let i = search(l, keys, count, root);
+    let i = search(layers, keys, count, root);
     if i < count {
         let key = keys[i] as usize;
-        return read_string(l, key + ROOT);
+        return read_string(layers, key + ROOT);
     }
     ByteString::NoString
 }
 
-// 0, 27 or 28 of a file of n bytes by its layer.
-fn of_layer(l: &[u8], past: [u8; 32], plen: usize, n: usize, root: &[u8], layer: ByteString) -> u32
-    requires { ⌜ (isPieceLength plen ≡ true) × (hasLayer n plen ≡ true) × (n ≤ longestFile) × (L.length (now root) ≡ 32) × Inside (L.length (now l)) layer × (past ≡ padValue (pieceLayer plen)) ⌝ }
-    ensures { λ r. ⌜ r ≡ ofLayer (now (l .entry)) plen n (now (root .entry)) layer ⌝ }
+// 0, 27 or 28 of a file of `length` bytes by its layer.
+fn of_layer(
+    layers: &[u8],
+    pad: [u8; 32],
+    plen: usize,
+    length: usize,
+    root: &[u8],
+    layer: ByteString,
+) -> u32
+    requires { ⌜ (isPieceLength plen ≡ true) × (hasLayer length plen ≡ true) × (length ≤ longestFile) × (L.length (now root) ≡ 32) × Inside (L.length (now layers)) layer × (pad ≡ padValue (pieceLayer plen)) ⌝ }
+    ensures { λ r. ⌜ r ≡ ofLayer (now (layers .entry)) plen length (now (root .entry)) layer ⌝ }
 {
     match layer {
         ByteString::NoString => numbers::LAYERS_AMISS,
         ByteString::Content { start, end } => {
-            let pieces = piece_count(n, plen);
+            let pieces = piece_count(length, plen);
             if end - start == 32 * pieces {
-                if gives_root(&l[start..end], past, plen, n, root) {
+                if gives_root(&layers[start..end], pad, plen, length, root) {
                     return 0;
                 }
                 return numbers::LAYER_DIFFERS;
@@ -94,7 +101,7 @@ fn of_layer(l: &[u8], past: [u8; 32], plen: usize, n: usize, root: &[u8], layer:
 pub struct Judging {
     pub count: usize,
     pub plen: usize,
-    pub past: [u8; 32],
+    pub pad: [u8; 32],
     pub number: u32,
 }
 
@@ -104,17 +111,24 @@ pub enum Numbered {
     WrongTree,
 }
 
-// 0, 27 or 28 of a file of n bytes with its root at `root`: 0 if it is not longer than the piece length.
-fn number_by_layer(t: &[u8], l: &[u8], keys: &[u32], job: Judging, n: usize, root: usize) -> u32
-    requires { ⌜ Indexed (now l) (now keys) (job .count) × (isPieceLength (job .plen) ≡ true) × (n ≤ longestFile) × ((n ≡ 0 → ⊥) → root + 32 ≤ L.length (now t)) × (job .past ≡ padValue (pieceLayer (job .plen))) ⌝ }
-    ensures { λ r. ⌜ r ≡ numberByLayer (now (l .entry)) (job .plen) n (cut (now (t .entry)) root 32) ⌝ }
+// 0, 27 or 28 of a file of `length` bytes with its root at `root`: 0 if it is not longer than the piece length.
+fn number_by_layer(
+    tree: &[u8],
+    layers: &[u8],
+    keys: &[u32],
+    job: Judging,
+    length: usize,
+    root: usize,
+) -> u32
+    requires { ⌜ Indexed (now layers) (now keys) (job .count) × (isPieceLength (job .plen) ≡ true) × (length ≤ longestFile) × ((length ≡ 0 → ⊥) → root + 32 ≤ L.length (now tree)) × (job .pad ≡ padValue (pieceLayer (job .plen))) ⌝ }
+    ensures { λ r. ⌜ r ≡ numberByLayer (now (layers .entry)) (job .plen) length (cut (now (tree .entry)) root 32) ⌝ }
 {
     let plen = job.plen;
-    let pad = job.past;
-    if has_layer(n, plen) {
+    let pad = job.pad;
+    if has_layer(length, plen) {
         let past = root + ROOT;
-        let layer = find_layer(l, keys, job.count, &t[root..past]);
-        return of_layer(l, pad, plen, n, &t[root..past], layer);
+        let layer = find_layer(layers, keys, job.count, &tree[root..past]);
+        return of_layer(layers, pad, plen, length, &tree[root..past], layer);
     }
     0
 }
@@ -134,15 +148,15 @@ fn lower_of(number: u32, n: u32) -> u32
 
 // 27, 28 or 0, the lowest, of the files of a directory, from its first entry on, with so many levels left below it.
 fn judge_directory(
-    t: &[u8],
+    tree: &[u8],
     at: usize,
     levels: usize,
-    l: &[u8],
+    layers: &[u8],
     keys: &[u32],
     job: Judging,
 ) -> Numbered
-    requires { ⌜ Indexed (now l) (now keys) (job .count) × (isPieceLength (job .plen) ≡ true) × (job .past ≡ padValue (pieceLayer (job .plen))) ⌝ }
-    ensures { λ r. ⌜ Judges (now (t .entry)) at levels (now (l .entry)) (job .plen) (job .number) r ⌝ }
+    requires { ⌜ Indexed (now layers) (now keys) (job .count) × (isPieceLength (job .plen) ≡ true) × (job .pad ≡ padValue (pieceLayer (job .plen))) ⌝ }
+    ensures { λ r. ⌜ Judges (now (tree .entry)) at levels (now (layers .entry)) (job .plen) (job .number) r ⌝ }
 {
     if levels == 0 {
         return Numbered::WrongTree;
@@ -150,11 +164,11 @@ fn judge_directory(
     let below = levels - 1;
     let count = job.count;
     let plen = job.plen;
-    let past = job.past;
+    let pad = job.pad;
     let mut number = job.number;
     let mut i = at;
-    while i < t.len() {
-        match read_token(t, i) {
+    while i < tree.len() {
+        match read_token(tree, i) {
             Token::BadToken => {
                 return Numbered::WrongTree;
             }
@@ -174,10 +188,10 @@ fn judge_directory(
                 let here = Judging {
                     count,
                     plen,
-                    past,
+                    pad,
                     number,
                 };
-                let n = number_by_layer(t, l, keys, here, length, root);
+                let n = number_by_layer(tree, layers, keys, here, length, root);
                 number = lower_of(number, n);
                 i = next;
             }
@@ -185,10 +199,10 @@ fn judge_directory(
                 let here = Judging {
                     count,
                     plen,
-                    past,
+                    pad,
                     number,
                 };
-                match judge_directory(t, end + 1, below, l, keys, here) {
+                match judge_directory(tree, end + 1, below, layers, keys, here) {
                     Numbered::Past {
                         next,
                         number: inside,
@@ -206,19 +220,19 @@ fn judge_directory(
     Numbered::WrongTree
 }
 
-// 0, 27 or 28 of all files of the tree t.
-pub fn judge_layers(t: &[u8], l: &[u8], keys: &[u32], count: usize, plen: usize) -> u32
-    requires { ⌜ Indexed (now l) (now keys) count × (isPieceLength plen ≡ true) × (right (filesIn (now t)) ≡ true) ⌝ }
-    ensures { λ r. ⌜ r ≡ worst (now (t .entry)) (now (l .entry)) plen 0 (listed (filesIn (now (t .entry)))) ⌝ }
+// 0, 27 or 28 of all files of `tree`.
+pub fn judge_layers(tree: &[u8], layers: &[u8], keys: &[u32], count: usize, plen: usize) -> u32
+    requires { ⌜ Indexed (now layers) (now keys) count × (isPieceLength plen ≡ true) × (right (filesIn (now tree)) ≡ true) ⌝ }
+    ensures { λ r. ⌜ r ≡ worst (now (tree .entry)) (now (layers .entry)) plen 0 (listed (filesIn (now (tree .entry)))) ⌝ }
 {
-    let past = pad_value(piece_layer(plen));
+    let pad = pad_value(piece_layer(plen));
     let job = Judging {
         count,
         plen,
-        past,
+        pad,
         number: 0,
     };
-    match judge_directory(t, 1, ELEMENTS, l, keys, job) {
+    match judge_directory(tree, 1, ELEMENTS, layers, keys, job) {
         Numbered::Past { next: _, number } => number,
         Numbered::WrongTree => 0, // not of a right tree
     }

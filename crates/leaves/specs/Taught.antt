@@ -33,17 +33,13 @@ use Rattle.messages.specs.Padded.{allFrom, runPadded, unclesPadded}
 use Rattle.messages.specs.TakeLaws.{passes}
 use Rattle.pieces.specs.Asks.{PieceIn}
 use Rattle.pieces.specs.Pieces.{layerOfPieces, pieceHeight, pieceNumber}
-use Rattle.pieces.specs.PiecesLaws.{height-layer, height-root, one-piece-only, piece-in, RightPiece, piece-right}
+use Rattle.pieces.specs.PiecesLaws.{height-layer, height-root, one-piece-only, piece-in, RightPiece, piece-right, piece-length-by-layer}
 use Rattle.leaves.specs.Leaves.{leafRun, headOf, runOver, leafMessage}
 use Rattle.leaves.specs.LeavesLaws.{run-length, run-at, run-inside, head-length, message-root, message-header, message-length, root-size}
 
 -- ---- how high a piece's node stands, and how many of its leaves are blocks
 
 module _ (s : List ℕ) (f : Facts s) where
-  pub plen-form : pieceLength s ≡ blockLength * 2 ^ layerOfPieces s
-  unfolding layerOfPieces
-  plen-form = piece-length-form (pieceLength s) (f .piece) .1
-
   layer-most : layerOfPieces s ≤ 10
   unfolding layerOfPieces
   layer-most = piece-length-form (pieceLength s) (f .piece) .0
@@ -52,7 +48,7 @@ module _ (s : List ℕ) (f : Facts s) where
   unfolding heightOf blocksOf blockCount hasLayer
   short-file t =
       height-least (ceilDiv (fileLength s) blockLength) (layerOfPieces s)
-      (ceil-least (fileLength s) blockLength (2 ^ layerOfPieces s) (omega arith) (omega (arith, plen-form, ltb-false (pieceLength s) (fileLength s) t)))
+      (ceil-least (fileLength s) blockLength (2 ^ layerOfPieces s) (omega arith) (omega (arith, piece-length-by-layer s f, ltb-false (pieceLength s) (fileLength s) t)))
 
   -- a piece has at most 1024 blocks
   pub node-low : pieceHeight s ≤ 10
@@ -79,7 +75,7 @@ module _ (s : List ℕ) (f : Facts s) where
     where
       by : (t : Bool) → hasLayer (fileLength s) (pieceLength s) ≡ t → blockCount n ≤ blocksOf s - i * 2 ^ pieceHeight s
       by true t =
-          let p : pieceLength s * i ≡ blockLength * (2 ^ layerOfPieces s * i) = ap (λ (y : ℕ). y * i) plen-form ∙ mul-assoc blockLength (2 ^ layerOfPieces s) i in
+          let p : pieceLength s * i ≡ blockLength * (2 ^ layerOfPieces s * i) = ap (λ (y : ℕ). y * i) (piece-length-by-layer s f) ∙ mul-assoc blockLength (2 ^ layerOfPieces s) i in
           let h : 2 ^ pieceHeight s ≡ 2 ^ layerOfPieces s = ap (λ (y : ℕ). 2 ^ y) (height-layer s f t) in
           let c : i * 2 ^ pieceHeight s ≡ 2 ^ layerOfPieces s * i = ap (λ (y : ℕ). i * y) h ∙ mul-comm i (2 ^ layerOfPieces s) in
           blocks-within i n (omega (arith, size-most (fileLength s) (pieceLength s) i))
@@ -179,7 +175,7 @@ module _ (s : List ℕ) (i : ℕ) (piece : List ℕ) (z : pieceNumber s i piece 
   unfolding isHashes
   is-hashes = rw (le-leb headerSize (length m) (omega (arith, size-is)), eq-eqb (messageId m) hashesId first-is)
 
-  pub rules : Kept x (blocksOf s) (heightOf s)
+  pub rules : Kept x (heightOf s)
   rules =
       let e = height-pow k in
       let w : 2 ^ 1 ≤ 2 ^ k = pow-mono {i = 1} {j = k} (omega (arith, some)) in
@@ -204,7 +200,7 @@ module _ (s : List ℕ) (i : ℕ) (piece : List ℕ) (z : pieceNumber s i piece 
         store = R .store;
         formed = is-hashes;
         root = same-eq (factsRoot s) (messageRoot m) (sym root-is);
-        rules = rw header-is (kept-rules x (blocksOf s) (heightOf s) rules);
+        rules = rw header-is (kept-rules x (heightOf s) rules);
       })
 
   -- and 4 is not

@@ -77,14 +77,14 @@ fn put_leaves(out: &mut [u8], at: usize, bytes: &[u8], c: usize)
 }
 
 // The numbers of judging a piece; 11; or 0 and the size of the message, which is then at the start of `out`: none where the piece's node is a leaf.
-pub fn piece_hashes(s: &[u8], piece: usize, bytes: &[u8], out: &mut [u8]) -> Answer
-    ensures { λ r. ⌜ (r ≡ leavesAnswer (now (s .entry)) piece (now (bytes .entry)) (now (out .entry))) × (now (out .exit) ≡ leavesAfter (now (s .entry)) piece (now (bytes .entry)) (now (out .entry))) ⌝ }
+pub fn piece_hashes(store: &[u8], piece: usize, bytes: &[u8], out: &mut [u8]) -> Answer
+    ensures { λ r. ⌜ (r ≡ leavesAnswer (now (store .entry)) piece (now (bytes .entry)) (now (out .entry))) × (now (out .exit) ≡ leavesAfter (now (store .entry)) piece (now (bytes .entry)) (now (out .entry))) ⌝ }
 {
-    let number = piece_number(s, piece, bytes);
+    let number = piece_number(store, piece, bytes);
     if number != numbers::DONE {
         return refusal(number);
     }
-    let k = piece_height(s);
+    let k = piece_height(store);
     if k == 0 {
         return success(0);
     }
@@ -93,7 +93,7 @@ pub fn piece_hashes(s: &[u8], piece: usize, bytes: &[u8], out: &mut [u8]) -> Ans
     if out.len() < size {
         return refusal(numbers::NO_ROOM);
     }
-    let root = facts_root(s);
+    let root = facts_root(store);
     let index = piece * c;
     put_head(out, root, index, c);
     put_leaves(out, HEADER_SIZE, bytes, c);

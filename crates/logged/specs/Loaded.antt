@@ -2,8 +2,8 @@
 -- That blocks and pieces of the file are then judged 0 once their hashes are held, or two strings are shown, is `true-block-believed`
 -- and `true-piece-believed` of the promises: the file is the history's bytes.
 -- Assumes nothing.
-use mathlib.Core.Path.{_≡_, refl, ap, ap₂, sym, _∙_}
-use mathlib.Core.Bool.{Bool, true, false, not, _||_}
+use mathlib.Core.Path.{_≡_, ap, ap₂, sym, _∙_}
+use mathlib.Core.Bool.{true, not, _||_, or-true}
 use mathlib.Core.List.{List}
 use Prim.Native.Nat.{ℕ, _+_, _-_, _*_, _^_, _≤_, _<_}
 use native.Mathlib.Omega.{arith}
@@ -109,10 +109,6 @@ module _ (x b : List ℕ) (plen : ℕ) (ok : factsInRange (length x) plen ≡ tr
         where
           at-top : (h : ℕ) → 0 < 2 ^ (h - h)
           at-top h = let z : h - h ≡ 0 = omega arith in rw z (omega arith)
-
-          or-true : (t : Bool) → (t || true) ≡ true
-          or-true true = refl
-          or-true false = refl
 
   -- THE FILE'S PIECE LAYER is answered 0 by a store that was just opened for it
   pub own-layer-loads : layerNumber s own ≡ 0

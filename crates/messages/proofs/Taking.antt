@@ -16,10 +16,11 @@ use Rattle.tree.specs.Values.{node}
 use Rattle.cells.specs.Cells.{heldAt, hashAt}
 use Rattle.cells.specs.Entries.{Entry, agrees, putAll, fresh}
 use Rattle.cells.specs.EntriesLaws.{agree-append, put-append, fresh-append}
-use Rattle.store.specs.Store.{blocksOf}
+use Rattle.store.specs.Store.{blocksOf, positions}
+use Rattle.store.specs.StoreLaws.{positions-even, positions-most}
 use Rattle.settling.specs.Span.{Fit, Way}
 use Rattle.settling.specs.Subtree.{subtree, runLeaf, Heaped}
-use Rattle.settling.specs.SubtreeLaws.{within-self, subtree-small}
+use Rattle.settling.specs.SubtreeLaws.{within-self, fit-below, subtree-small}
 use Rattle.settling.specs.Path.{ancestor, risen, path}
 use Rattle.settling.specs.PathLaws.{path-small}
 use Rattle.settling.specs.AncestorLaws.{ancestor-le}
@@ -132,32 +133,32 @@ module _ (s m : List ℕ) (p : Place) (a : ℕ) (ea : a ≡ ancestor (p .u) (p .
   unfolding anchored anchor
   anchor-there r f e = e ∙ sym (rw (← ea, ← et, f))
 
-module _ (ls : ℕ) (m : List ℕ) (n : ℕ) (x : Header) (p : Place) (r : Ready ls (length m) n x p) where
-  pub ready-fit : Fit ls n (p .k) (p .top) 0
-  ready-fit = record { room = r .room; top = r .top; index = omega arith }
+module _ (ls : ℕ) (m : List ℕ) {h : ℕ} (x : Header) (p : Place) (r : Ready ls (length m) h x p) where
+  pub ready-fit : Fit ls (p .k) (p .top) 0
+  ready-fit = fit-below _ (r .room) (r .top) (omega arith)
 
-  pub ready-way : (ls′ : ℕ) → ls′ ≡ ls → (hashes : List ℕ) → hashes ≡ unclesOf m (x .len) (p .u) → Way ls′ (length hashes) n 0 (p .u) (p .top)
+  pub ready-way : (ls′ : ℕ) → ls′ ≡ ls → (hashes : List ℕ) → hashes ≡ unclesOf m (x .len) (p .u) → Way ls′ (length hashes) 0 (p .u) (p .top)
   ready-way ls′ e hashes f =
       let l : length hashes ≡ 32 * p .u = ap length f ∙ uncles-length m x p (r .carried) in
-      record { room = omega (arith, r .room); uncles = omega arith; even = r .even; below = within-self n (p .k) (p .top) (r .top) }
+      record { room = omega (arith, r .room, within-self (positions h) (p .k) (p .top) (r .top), positions-even h); uncles = omega arith }
 
   pub ready-anchor : (a : ℕ) → a ≡ ancestor (p .u) (p .top) → 31 + 33 * (a + 1) ≤ ls
-  ready-anchor a e = omega (arith, r .room, ancestor-le (p .u) (p .top), within-self n (p .k) (p .top) (r .top))
+  ready-anchor a e = omega (arith, r .room, ancestor-le (p .u) (p .top), within-self (positions h) (p .k) (p .top) (r .top))
 
   pub ready-sum : (s s1 run past hashes v : List ℕ) (c1 c2 : ℕ) → c1 ≡ fresh s (subtree (runLeaf run past) (p .k) (p .top) 0) → c2 ≡ fresh s1 (path hashes 0 (p .u) (p .top) v)
       → c1 + c2 < 2 ^ 64
   ready-sum s s1 run past hashes v c1 c2 e f =
       omega (
         arith,
-        subtree-small s (runLeaf run past) n (p .k) (p .top) 0 (r .top),
+        subtree-small s (runLeaf run past) (positions h) (p .k) (p .top) 0 (r .top),
         path-small s1 hashes 0 (p .u) (p .top) v,
-        r .few,
+        positions-most h (r .low),
         r .carried .layers,
       )
 
 -- ---- the numbers
 
-module _ (s m : List ℕ) (x : Header) (p : Place) (n : ℕ) (q : Placed n x p) where
+module _ (s m : List ℕ) (x : Header) (p : Place) {h : ℕ} (q : Placed h x p) where
   pub body-4 : (length m ≡ headerSize + 32 * (x .len + p .u) → ⊥) → wrongSize ≡ bodyNumber s m x p
   unfolding bodyNumber
   body-4 ne = sym (rw (ne-eqb (length m) (messageSize x) (λ e. ne (e ∙ q .size))))

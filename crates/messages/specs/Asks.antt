@@ -3,7 +3,7 @@
 use mathlib.Core.Path.{_≡_}
 use mathlib.Core.Bool.{Bool, true, cond}
 use mathlib.Core.List.{List}
-use Prim.Native.Nat.{ℕ, _+_, _*_, _%_, _^_, _≤_, _<_}
+use Prim.Native.Nat.{ℕ, _+_, _*_, _^_, _≤_, _<_}
 use Rattle.limits.specs.Limits.{tallestTree, longestRun}
 use lib.Dec.{eqb}
 use Rattle.octets.specs.Octets.{same}
@@ -11,7 +11,7 @@ use Rattle.numbers.specs.declared.Answer.{Answer}
 use Rattle.numbers.specs.Numbers.{noMessage, otherRoot, unusable, judged, refused, done}
 use Rattle.cells.specs.Cells.{hashAt}
 use Rattle.cells.specs.Entries.{Entry, agrees, putAll, fresh}
-use Rattle.store.specs.Store.{usable, factsRoot, blocksOf, heightOf}
+use Rattle.store.specs.Store.{usable, factsRoot, heightOf, positions}
 use Rattle.settling.specs.Span.{Within}
 use Rattle.settling.specs.Path.{ancestor}
 use Rattle.header.specs.declared.Header.{Header}
@@ -24,24 +24,23 @@ unfoldable pub firstNumber : Bool → List ℕ → List ℕ → ℕ
 firstNumber form s m = cond (usable s) (cond form (cond (same (factsRoot s) (messageRoot m)) 0 otherRoot) noMessage) unusable
 
 -- a message that passes 9, 1, 2 and 3
-pub record Passed (form : Bool) (s m : List ℕ) : Type 0 where
+pub record RulesPassed (form : Bool) (s m : List ℕ) : Type 0 where
   pub store : usable s ≡ true
   pub formed : form ≡ true
   pub root : same (factsRoot s) (messageRoot m) ≡ true
-  pub rules : rulesKept (headerOf m) (blocksOf s) (heightOf s) ≡ true
+  pub rules : rulesKept (headerOf m) (heightOf s) ≡ true
 
--- the place of a header that keeps the rules, in a tree whose positions have numbers below n
-pub record Placed (n : ℕ) (x : Header) (p : Place) : Type 0 where
+-- the place of a header that keeps the rules, in a tree of height h
+pub record Placed (h : ℕ) (x : Header) (p : Place) : Type 0 where
   pub power : 2 ^ p .k ≡ x .len
   pub some : 2 ≤ x .len
   pub most : x .len ≤ longestRun
   pub index : x .index < 2 ^ 32
-  pub top : Within n (p .k) (p .top)
+  pub top : Within (positions h) (p .k) (p .top)
   pub anchor : 1 ≤ ancestor (p .u) (p .top)
   pub layers : x .base + p .k + p .u ≤ tallestTree
   pub size : messageSize x ≡ headerSize + 32 * (x .len + p .u)
-  pub even : n % 2 ≡ 0
-  pub few : n ≤ 2 * 2 ^ tallestTree
+  pub low : h ≤ tallestTree
 
 -- a message of lm bytes carries the run and the uncles
 pub record Carried (lm : ℕ) (x : Header) (p : Place) : Type 0 where
@@ -52,14 +51,13 @@ pub record Carried (lm : ℕ) (x : Header) (p : Place) : Type 0 where
   pub layers : x .base + p .k + p .u ≤ tallestTree
   pub carries : headerSize + 32 * (x .len + p .u) ≤ lm
 
--- and a store of ls bytes has the positions below n, the run's and the path's among them
-pub record Ready (ls lm n : ℕ) (x : Header) (p : Place) : Type 0 where
+-- and a store of ls bytes has the positions of a tree of height h, the run's and the path's among them
+pub record Ready (ls lm h : ℕ) (x : Header) (p : Place) : Type 0 where
   pub carried : Carried lm x p
-  pub room : 31 + 33 * n ≤ ls
-  pub top : Within n (p .k) (p .top)
+  pub room : 31 + 33 * positions h ≤ ls
+  pub top : Within (positions h) (p .k) (p .top)
   pub anchor : 1 ≤ ancestor (p .u) (p .top)
-  pub even : n % 2 ≡ 0
-  pub few : n ≤ 2 * 2 ^ tallestTree
+  pub low : h ≤ tallestTree
 
 -- ---- what is answered and left
 

@@ -24,7 +24,7 @@ unfoldable pub headerNumber : Bool → List ℕ → List ℕ → ℕ
 headerNumber form s m =
     cond (usable s)
     (cond form
-    (cond (same (factsRoot s) (messageRoot m)) (cond (rulesKept (headerOf m) (blocksOf s) (heightOf s)) 0 ruleBroken) otherRoot)
+    (cond (same (factsRoot s) (messageRoot m)) (cond (rulesKept (headerOf m) (heightOf s)) 0 ruleBroken) otherRoot)
     noMessage)
     unusable
 

@@ -13,8 +13,8 @@ use Rattle.octets.specs.Octets.{same}
 use Rattle.numbers.specs.Numbers.{noMessage, otherRoot, ruleBroken, unusable}
 use Rattle.numbers.specs.NumbersLaws.{let-through}
 use Rattle.tree.specs.Geometry.{height}
-use Rattle.store.specs.Store.{usable, factsRoot, blocksOf, heightOf, positions}
-use Rattle.store.specs.StoreLaws.{usable-facts, positions-even, positions-most, facts-height}
+use Rattle.store.specs.Store.{usable, factsRoot, heightOf, positions}
+use Rattle.store.specs.StoreLaws.{usable-facts, facts-height}
 use Rattle.settling.specs.SubtreeLaws.{within-tree}
 use Rattle.settling.specs.AncestorLaws.{ancestor-positive}
 use Rattle.header.specs.declared.Header.{Header}
@@ -23,7 +23,7 @@ use Rattle.limits.specs.Limits.{tallestTree}
 use Rattle.header.specs.Header.{headerSize, messageId, requestId, hashesId, rejectId, messageRoot, headerOf, isHashes, isRequest, isReject, rulesKept, placeOf, messageSize, Kept}
 use Rattle.header.specs.HeaderLaws.{rules-kept, log-some, top-inside}
 use Rattle.messages.specs.Take.{headerNumber, placeIn}
-use Rattle.messages.specs.Asks.{firstNumber, Passed, Placed, Carried, Ready}
+use Rattle.messages.specs.Asks.{firstNumber, RulesPassed, Placed, Carried, Ready}
 
 -- a form has its header's bytes
 pub hashes-form : (m : List ℕ) → isHashes m ≡ true → headerSize ≤ length m
@@ -40,16 +40,16 @@ reject-form m e = eqb-true (length m) headerSize (and-eq-true-iff (eqb (length m
 
 -- ---- a header number of 0
 
-pub passed : (form : Bool) (s m : List ℕ) → headerNumber form s m ≡ 0 → Passed form s m
+pub passed : (form : Bool) (s m : List ℕ) → headerNumber form s m ≡ 0 → RulesPassed form s m
 unfolding headerNumber
 passed form s m e =
     let a = let-through (usable s) _ unusable (λ z. omega arith) e in
     let b = let-through form _ noMessage (λ z. omega arith) (a .1) in
     let c = let-through (same (factsRoot s) (messageRoot m)) _ otherRoot (λ z. omega arith) (b .1) in
-    let d = let-through (rulesKept (headerOf m) (blocksOf s) (heightOf s)) 0 ruleBroken (λ z. omega arith) (c .1) in
+    let d = let-through (rulesKept (headerOf m) (heightOf s)) 0 ruleBroken (λ z. omega arith) (c .1) in
     record { store = a .0; formed = b .0; root = c .0; rules = d .0 }
 
-pub passes : (form : Bool) (s m : List ℕ) → Passed form s m → headerNumber form s m ≡ 0
+pub passes : (form : Bool) (s m : List ℕ) → RulesPassed form s m → headerNumber form s m ≡ 0
 unfolding headerNumber
 passes form s m p = rw (p .store, p .formed, p .root, p .rules)
 
@@ -77,28 +77,28 @@ module _ (form : Bool) (s m : List ℕ) (r : ℕ) (e : r ≡ firstNumber form s 
         let c = let-through (same (factsRoot s) (messageRoot m)) 0 otherRoot (λ y. omega arith) (b .1) in
         (a .0, b .0, c .0)
 
-    module _ (x : Header) (k : Bool) (ex : x ≡ headerOf m) (ek : k ≡ rulesKept x (blocksOf s) (heightOf s)) where
-      rules : k ≡ rulesKept (headerOf m) (blocksOf s) (heightOf s)
-      rules = ek ∙ ap (λ (y : Header). rulesKept y (blocksOf s) (heightOf s)) ex
+    module _ (x : Header) (k : Bool) (ex : x ≡ headerOf m) (ek : k ≡ rulesKept x (heightOf s)) where
+      rules : k ≡ rulesKept (headerOf m) (heightOf s)
+      rules = ek ∙ ap (λ (y : Header). rulesKept y (heightOf s)) ex
 
       pub rules-broken : k ≡ false → ruleBroken ≡ headerNumber form s m
       unfolding headerNumber
       rules-broken y = sym (rw (first-passed .0, first-passed .1, first-passed .2, ← rules, y))
 
-      pub rules-passed : k ≡ true → Passed form s m
+      pub rules-passed : k ≡ true → RulesPassed form s m
       rules-passed y = record { store = first-passed .0; formed = first-passed .1; root = first-passed .2; rules = sym rules ∙ y }
 
       pub rules-done : k ≡ true → 0 ≡ headerNumber form s m
       rules-done y = sym (passes form s m (rules-passed y))
 
--- ---- the place of a header that keeps the rules, in a tree whose positions have numbers below n
+-- ---- the place of a header that keeps the rules, in a tree of height h
 
-placed-at : (x : Header) (b h : ℕ) → h ≤ tallestTree → Kept x b h → Placed (positions h) x (placeOf x h)
+placed-at : (x : Header) (h : ℕ) → h ≤ tallestTree → Kept x h → Placed h x (placeOf x h)
 unfolding positions placeOf messageSize
-placed-at x b h hs f =
+placed-at x h hs f =
     let k : ℕ = height (x .len) in
     let s : 1 ≤ height (x .len) = log-some (x .len) (f .two) in
-    let i : x .index / x .len < 2 ^ (h - (x .base + height (x .len))) = top-inside x b h f in
+    let i : x .index / x .len < 2 ^ (h - (x .base + height (x .len))) = top-inside x h f in
     let w : 2 ^ (h - x .base) ≤ 2 ^ tallestTree = pow-mono {i = h - x .base} {j = tallestTree} (omega arith) in
     record {
       power = f .power;
@@ -111,21 +111,20 @@ placed-at x b h hs f =
           (omega (arith, f .within, f .above));
       layers = omega (arith, f .within, f .above);
       size = refl;
-      even = positions-even h;
-      few = positions-most h hs;
+      low = hs;
     }
 
-pub placed : (form : Bool) (s m : List ℕ) → Passed form s m → Placed (positions (heightOf s)) (headerOf m) (placeIn s m)
+pub placed : (form : Bool) (s m : List ℕ) → RulesPassed form s m → Placed (heightOf s) (headerOf m) (placeIn s m)
 placed form s m p =
     let f = usable-facts s (p .store) in
-    placed-at (headerOf m) (blocksOf s) (heightOf s) (facts-height s f) (rules-kept (headerOf m) (blocksOf s) (heightOf s) (p .rules))
+    placed-at (headerOf m) (heightOf s) (facts-height s f) (rules-kept (headerOf m) (heightOf s) (p .rules))
 
 -- ---- from one to the next
 
-pub placed-carried : {n : ℕ} {x : Header} {p : Place} (lm : ℕ) → Placed n x p → headerSize + 32 * (x .len + p .u) ≤ lm → Carried lm x p
-placed-carried lm q h =
-    record { power = q .power; some = q .some; most = q .most; index = q .index; layers = q .layers; carries = h }
+pub placed-carried : {h : ℕ} {x : Header} {p : Place} (lm : ℕ) → Placed h x p → headerSize + 32 * (x .len + p .u) ≤ lm → Carried lm x p
+placed-carried lm q c =
+    record { power = q .power; some = q .some; most = q .most; index = q .index; layers = q .layers; carries = c }
 
-pub placed-ready : {n : ℕ} {x : Header} {p : Place} (ls lm : ℕ) → Placed n x p → 31 + 33 * n ≤ ls → headerSize + 32 * (x .len + p .u) ≤ lm → Ready ls lm n x p
-placed-ready ls lm q r h =
-    record { carried = placed-carried lm q h; room = r; top = q .top; anchor = q .anchor; even = q .even; few = q .few }
+pub placed-ready : {h : ℕ} {x : Header} {p : Place} (ls lm : ℕ) → Placed h x p → 31 + 33 * positions h ≤ ls → headerSize + 32 * (x .len + p .u) ≤ lm → Ready ls lm h x p
+placed-ready ls lm q r c =
+    record { carried = placed-carried lm q c; room = r; top = q .top; anchor = q .anchor; low = q .low }

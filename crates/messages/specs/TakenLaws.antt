@@ -16,7 +16,7 @@ use Rattle.tree.specs.Values.{node}
 use Rattle.cells.specs.Entries.{putAll, fresh}
 use Rattle.cells.specs.EntriesLaws.{Sound, FromRoot, from-root-in, newly-none, count-fresh}
 use Rattle.store.specs.Store.{blocksOf, heightOf, positions}
-use Rattle.store.specs.StoreLaws.{usable-facts}
+use Rattle.store.specs.StoreLaws.{usable-facts, positions-even}
 use Rattle.settling.specs.Subtree.{runLeaf}
 use Rattle.settling.specs.SubtreeLaws.{run-leaf-length}
 use Rattle.settling.specs.SettledLaws.{settled-sound, settled-positive}
@@ -24,7 +24,7 @@ use Rattle.header.specs.declared.Header.{Header}
 use Rattle.header.specs.declared.Place.{Place}
 use Rattle.header.specs.Header.{headerSize, headerOf, isHashes, messageSize}
 use Rattle.messages.specs.Take.{headerNumber, runOf, unclesOf, given, settled, padded, anchored, bodyNumber, placeIn, orElse, takeNumber, takeAfter, takeAnswer}
-use Rattle.messages.specs.Asks.{Passed, Carried, Ready}
+use Rattle.messages.specs.Asks.{RulesPassed, Carried, Ready}
 use Rattle.messages.specs.TakeLaws.{passed, placed, placed-ready}
 
 pub uncles-length : (m : List ℕ) (x : Header) (p : Place) → Carried (length m) x p → length (unclesOf m (x .len) (p .u)) ≡ 32 * p .u
@@ -32,18 +32,18 @@ unfolding unclesOf
 uncles-length m x p c = cut-length m (headerSize + 32 * x .len) (32 * p .u) (omega (arith, c .carries))
 
 -- what a message settles are hashes, at positions of the tree
-pub ready-settled : (ls : ℕ) (m : List ℕ) (n : ℕ) (x : Header) (p : Place) → Ready ls (length m) n x p → Sound n (settled m p)
+pub ready-settled : (ls : ℕ) (m : List ℕ) (h : ℕ) (x : Header) (p : Place) → Ready ls (length m) h x p → Sound (positions h) (settled m p)
 unfolding settled given
-ready-settled ls m n x p r =
+ready-settled ls m h x p r =
     let q = r .carried .power in
     let l : length (unclesOf m (2 ^ p .k) (p .u)) ≡ 32 * p .u = ap (λ (y : ℕ). length (unclesOf m y (p .u))) q ∙ uncles-length m x p (r .carried) in
     settled-sound (runLeaf (runOf m (2 ^ p .k)) zeroHash) (run-leaf-length (runOf m (2 ^ p .k)) zeroHash (zero-octets .size))
-    (unclesOf m (2 ^ p .k) (p .u)) n (p .k) (p .top) 0 0 (p .u) (node (runLeaf (runOf m (2 ^ p .k)) zeroHash) (p .k) 0) (r .top) (omega arith) (r .even)
+    (unclesOf m (2 ^ p .k) (p .u)) (positions h) (p .k) (p .top) 0 0 (p .u) (node (runLeaf (runOf m (2 ^ p .k)) zeroHash) (p .k) 0) (r .top) (omega arith) (positions-even h)
 
 -- at positions from the root's on
-pub ready-from-root : (ls : ℕ) (m : List ℕ) (n : ℕ) (x : Header) (p : Place) → Ready ls (length m) n x p → FromRoot (settled m p)
+pub ready-from-root : (ls : ℕ) (m : List ℕ) (h : ℕ) (x : Header) (p : Place) → Ready ls (length m) h x p → FromRoot (settled m p)
 unfolding settled
-ready-from-root ls m n x p r =
+ready-from-root ls m h x p r =
     from-root-in _
     (λ e i.
     settled-positive (given m (p .k)) (unclesOf m (2 ^ p .k) (p .u)) (p .k) (p .top) 0 0 (p .u) (node (given m (p .k)) (p .k) 0) (r .anchor) e i)
@@ -53,7 +53,7 @@ ready-from-root ls m n x p r =
 pub zero-or : (n a : ℕ) → orElse n a ≡ 0 → n ≡ 0
 zero-or n a e = elim (ℕ-discrete n 0) [ yes z ↦ z | no ne ↦ rw (ne-eqb n 0 ne) at e ]
 
-pub taken-passed : (s m : List ℕ) (r : ℕ) → r ≡ takeNumber s m → r ≡ 0 → Passed (isHashes m) s m
+pub taken-passed : (s m : List ℕ) (r : ℕ) → r ≡ takeNumber s m → r ≡ 0 → RulesPassed (isHashes m) s m
 unfolding takeNumber
 taken-passed s m r e z = passed (isHashes m) s m (zero-or (headerNumber (isHashes m) s m) (bodyNumber s m (headerOf m) (placeIn s m)) (sym e ∙ z))
 
@@ -74,7 +74,7 @@ unfolding takeNumber
 taken-size s m r e z =
     body-sized s m (headerOf m) (placeIn s m) (body-zero (headerNumber (isHashes m) s m) (bodyNumber s m (headerOf m) (placeIn s m)) (sym e ∙ z))
 
-pub taken-ready : (s m : List ℕ) (r : ℕ) → r ≡ takeNumber s m → r ≡ 0 → Ready (length s) (length m) (positions (heightOf s)) (headerOf m) (placeIn s m)
+pub taken-ready : (s m : List ℕ) (r : ℕ) → r ≡ takeNumber s m → r ≡ 0 → Ready (length s) (length m) (heightOf s) (headerOf m) (placeIn s m)
 taken-ready s m r e z =
     let P = taken-passed s m r e z in
     let q = placed (isHashes m) s m P in
@@ -93,6 +93,6 @@ take-done s m s′ r c p e z ep ec es =
     let t : takeNumber s m ≡ 0 = sym e ∙ z in
     let R = taken-ready s m r e z in
     let n = positions (heightOf s) in
-    let k = count-fresh (positions (heightOf s)) (settled m (placeIn s m)) s (R .room) (ready-settled (length s) m (positions (heightOf s)) (headerOf m) (placeIn s m) R)
-    (ready-from-root (length s) m (positions (heightOf s)) (headerOf m) (placeIn s m) R) in
+    let k = count-fresh (positions (heightOf s)) (settled m (placeIn s m)) s (R .room) (ready-settled (length s) m (heightOf s) (headerOf m) (placeIn s m) R)
+    (ready-from-root (length s) m (heightOf s) (headerOf m) (placeIn s m) R) in
     rw (eq-eqb (takeNumber s m) 0 t) (cc, cc)

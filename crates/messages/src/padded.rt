@@ -6,7 +6,7 @@ ghost use Rattle.tree.specs.Values.{padValue};
 ghost use Rattle.messages.specs.Padded.{allFrom, runPadded, unclePadded, unclesPadded};
 use octets::hash_at;
 use octets::same;
-use settling::beside;
+use settling::sibling;
 use sha256::pair;
 use tree::geometry::covering;
 use tree::values::pad_value;
@@ -29,11 +29,11 @@ fn all_from(run: &[u8], v: [u8; 32], from: usize, n: usize) -> bool
 }
 
 // The base run, `len` hashes at the positions from `index` on of layer `base`.
-pub fn run_padded(run: &[u8], b: usize, base: usize, index: usize, len: usize) -> bool
+pub fn run_padded(run: &[u8], blocks: usize, base: usize, index: usize, len: usize) -> bool
     requires { ⌜ 32 * len ≤ length (now run) ⌝ }
-    ensures { λ r. ⌜ r ≡ runPadded (now (run .entry)) b base index len ⌝ }
+    ensures { λ r. ⌜ r ≡ runPadded (now (run .entry)) blocks base index len ⌝ }
 {
-    let c = covering(b, base);
+    let c = covering(blocks, base);
     let v = pad_value(base);
     if c <= index {
         return all_from(run, v, 0, len);
@@ -41,43 +41,50 @@ pub fn run_padded(run: &[u8], b: usize, base: usize, index: usize, len: usize) -
     all_from(run, v, c - index, len)
 }
 
-// Uncle number i, beside the path that is at x in layer l. v is layer l's padding value.
-fn uncle_padded(hashes: &[u8], b: usize, i: usize, l: usize, x: usize, v: [u8; 32]) -> bool
-    requires { ⌜ (32 * (i + 1) ≤ length (now hashes)) × (x < 2 ^ 63) × (v ≡ padValue l) ⌝ }
-    ensures { λ r. ⌜ r ≡ unclePadded (now (hashes .entry)) b i l x ⌝ }
+// Uncle `number`, beside the path that is at `index` in `layer`. `pad` is `layer`'s padding value.
+fn uncle_padded(
+    hashes: &[u8],
+    blocks: usize,
+    number: usize,
+    layer: usize,
+    index: usize,
+    pad: [u8; 32],
+) -> bool
+    requires { ⌜ (32 * (number + 1) ≤ length (now hashes)) × (index < 2 ^ 63) × (pad ≡ padValue layer) ⌝ }
+    ensures { λ r. ⌜ r ≡ unclePadded (now (hashes .entry)) blocks number layer index ⌝ }
 {
-    let c = covering(b, l);
-    let y = beside(x);
+    let c = covering(blocks, layer);
+    let y = sibling(index);
     if y < c {
         return true;
     }
-    same(hash_at(hashes, 32 * i), v)
+    same(hash_at(hashes, 32 * number), pad)
 }
 
-// The uncles from number i on, u of them.
+// The uncles from `number` on, `count` of them.
 pub fn uncles_padded(
     hashes: &[u8],
-    b: usize,
-    i: usize,
-    u: usize,
-    l: usize,
-    x: usize,
-    v: [u8; 32],
+    blocks: usize,
+    number: usize,
+    count: usize,
+    layer: usize,
+    index: usize,
+    pad: [u8; 32],
 ) -> bool
-    requires { ⌜ (32 * (i + u) ≤ length (now hashes)) × (l + u < 2 ^ 63) × (x < 2 ^ 63) × (v ≡ padValue l) ⌝ }
-    ensures { λ r. ⌜ r ≡ unclesPadded (now (hashes .entry)) b i u l x ⌝ }
+    requires { ⌜ (32 * (number + count) ≤ length (now hashes)) × (layer + count < 2 ^ 63) × (index < 2 ^ 63) × (pad ≡ padValue layer) ⌝ }
+    ensures { λ r. ⌜ r ≡ unclesPadded (now (hashes .entry)) blocks number count layer index ⌝ }
 {
-    if u == 0 {
+    if count == 0 {
         return true;
     }
-    let d = u - 1;
-    let i2 = i + 1;
-    let l2 = l + 1;
-    let x2 = x / 2;
-    let right = uncle_padded(hashes, b, i, l, x, v);
+    let d = count - 1;
+    let i2 = number + 1;
+    let l2 = layer + 1;
+    let x2 = index / 2;
+    let right = uncle_padded(hashes, blocks, number, layer, index, pad);
     if right {
-        let v2 = pair(v, v);
-        return uncles_padded(hashes, b, i2, d, l2, x2, v2);
+        let v2 = pair(pad, pad);
+        return uncles_padded(hashes, blocks, i2, d, l2, x2, v2);
     }
     false
 }

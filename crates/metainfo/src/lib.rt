@@ -49,13 +49,13 @@ pub fn no_keys(number: u32) -> Keys
 }
 
 // The value of `key` in the dictionary at `at`, if it is a dictionary.
-fn find_dictionary(s: &[u8], at: usize, key: &[u8]) -> Found
-    ensures { λ r. ⌜ r ≡ dictionaryIn (now (s .entry)) (findKey (now (key .entry)) at (drop at (now (s .entry)))) ⌝ }
+fn find_dictionary(torrent: &[u8], at: usize, key: &[u8]) -> Found
+    ensures { λ r. ⌜ r ≡ dictionaryIn (now (torrent .entry)) (findKey (now (key .entry)) at (drop at (now (torrent .entry)))) ⌝ }
 {
-    match find(s, at, key) {
+    match find(torrent, at, key) {
         Found::Missing => Found::Missing,
         Found::Part { start, end } => {
-            if is_dictionary(s, start) {
+            if is_dictionary(torrent, start) {
                 return Found::Part { start, end };
             }
             Found::Missing
@@ -64,12 +64,12 @@ fn find_dictionary(s: &[u8], at: usize, key: &[u8]) -> Found
 }
 
 // The value of `key` in the dictionary at `at`, if it is an integer.
-fn find_integer(s: &[u8], at: usize, key: &[u8]) -> Integer
-    ensures { λ r. ⌜ r ≡ integerIn (now (s .entry)) (findKey (now (key .entry)) at (drop at (now (s .entry)))) ⌝ }
+fn find_integer(torrent: &[u8], at: usize, key: &[u8]) -> Integer
+    ensures { λ r. ⌜ r ≡ integerIn (now (torrent .entry)) (findKey (now (key .entry)) at (drop at (now (torrent .entry)))) ⌝ }
 {
-    match find(s, at, key) {
+    match find(torrent, at, key) {
         Found::Missing => Integer::NoInteger,
-        Found::Part { start, end: _ } => read_integer(s, start),
+        Found::Part { start, end: _ } => read_integer(torrent, start),
     }
 }
 
@@ -93,17 +93,17 @@ fn right_keys(keys: Keys, below: bool, minus: bool, version: usize) -> Keys
 }
 
 // The keys with their number 22, 23, 24 or 0, where `piece length` and `meta version` are still to be found in `info`.
-fn info_keys(s: &[u8], info: Part, tree: Part, layers: Part) -> Keys
-    ensures { λ r. ⌜ r ≡ infoKeys (now (s .entry)) info tree layers ⌝ }
+fn info_keys(torrent: &[u8], info: Part, tree: Part, layers: Part) -> Keys
+    ensures { λ r. ⌜ r ≡ infoKeys (now (torrent .entry)) info tree layers ⌝ }
 {
     let at = info.start;
-    match find_integer(s, at, b"piece length") {
+    match find_integer(torrent, at, b"piece length") {
         Integer::NoInteger => no_keys(numbers::KEY_MISSING),
         Integer::Whole {
             minus: below,
             size: plen,
             next: _,
-        } => match find_integer(s, at, b"meta version") {
+        } => match find_integer(torrent, at, b"meta version") {
             Integer::NoInteger => no_keys(numbers::KEY_MISSING),
             Integer::Whole {
                 minus,
@@ -124,19 +124,19 @@ fn info_keys(s: &[u8], info: Part, tree: Part, layers: Part) -> Keys
 }
 
 // The keys with their number, where `file tree` and `piece layers` are still to be found as well.
-fn dictionary_keys(s: &[u8], info: Part) -> Keys
-    ensures { λ r. ⌜ r ≡ dictionaryKeys (now (s .entry)) info ⌝ }
+fn dictionary_keys(torrent: &[u8], info: Part) -> Keys
+    ensures { λ r. ⌜ r ≡ dictionaryKeys (now (torrent .entry)) info ⌝ }
 {
     let at = info.start;
-    match find_dictionary(s, at, b"file tree") {
+    match find_dictionary(torrent, at, b"file tree") {
         Found::Missing => no_keys(numbers::KEY_MISSING),
-        Found::Part { start, end } => match find_dictionary(s, 0, b"piece layers") {
+        Found::Part { start, end } => match find_dictionary(torrent, 0, b"piece layers") {
             Found::Missing => no_keys(numbers::KEY_MISSING),
             Found::Part {
                 start: layers,
                 end: past,
             } => info_keys(
-                s,
+                torrent,
                 info,
                 Part { start, end },
                 Part {
@@ -149,25 +149,25 @@ fn dictionary_keys(s: &[u8], info: Part) -> Keys
 }
 
 // 22, 23, 24 or 0 of bytes that are strict.
-fn find_keys(s: &[u8]) -> Keys
-    ensures { λ r. ⌜ r ≡ keysOf (now (s .entry)) ⌝ }
+fn find_keys(torrent: &[u8]) -> Keys
+    ensures { λ r. ⌜ r ≡ keysOf (now (torrent .entry)) ⌝ }
 {
-    match find_dictionary(s, 0, b"info") {
+    match find_dictionary(torrent, 0, b"info") {
         Found::Missing => no_keys(numbers::KEY_MISSING),
-        Found::Part { start, end } => dictionary_keys(s, Part { start, end }),
+        Found::Part { start, end } => dictionary_keys(torrent, Part { start, end }),
     }
 }
 
 // 19 to 24 or 0 of any bytes.
-pub fn read_keys(s: &[u8]) -> Keys
-    ensures { λ r. ⌜ r ≡ metainfoOf (now (s .entry)) ⌝ }
+pub fn read_keys(torrent: &[u8]) -> Keys
+    ensures { λ r. ⌜ r ≡ metainfoOf (now (torrent .entry)) ⌝ }
 {
-    if s.len() > LARGEST_TORRENT {
+    if torrent.len() > LARGEST_TORRENT {
         return no_keys(numbers::TORRENT_TOO_LARGE);
     }
-    let n = strict(s);
+    let n = strict(torrent);
     if n == 0 {
-        return find_keys(s);
+        return find_keys(torrent);
     }
     no_keys(n)
 }

@@ -1,7 +1,7 @@
 -- What a test says, and how what is said of tests is said of what they test. For the numbers that a chain of tests decides.
 -- Assumes nothing.
 use mathlib.Core.Path.{_≡_, refl, sym, _∙_}
-use mathlib.Core.Bool.{Bool, true, false, false≢true}
+use mathlib.Core.Bool.{Bool, true, false, _||_, false≢true}
 use mathlib.Core.Logic.{_⊎_, inl, inr, _↔_}
 use Prim.Native.Nat.{ℕ}
 use lib.Dec.{eqb}
@@ -14,6 +14,11 @@ either false = inr refl
 
 pub not-both : {b : Bool} → b ≡ true → b ≡ false → ⊥
 not-both t f = false≢true (sym f ∙ t)
+
+-- where one of two passes, the first does or the second
+pub or-one : (a b : Bool) → a || b ≡ true → (a ≡ true) ⊎ (b ≡ true)
+or-one true b e = inl refl
+or-one false b e = inr e
 
 -- where a test says this, its failure says not
 pub says-not : {b : Bool} {A : Type 0} → (b ≡ true) ↔ A → (b ≡ false) ↔ (A → ⊥)

@@ -10,8 +10,8 @@ use lib.Arith.{mod-mul}
 use native.Mathlib.Numerals.{add-one}
 use native.Mathlib.Omega.{arith}
 use native.Mathlib.Decide.{decLt}
-use lib.ListN.{length, take, drop, getD, length-append, length-take, length-drop, replicate, length-replicate, getD-replicate, List·getD-append, take-append-drop}
-use lib.Seq.{length-take-le, take-at, drop-at, getD-take, getD-drop, getD-append-add, ext-getD, take-take, take-nil, take-all, take-append-le, drop-append-le, drop-append-add, drop-drop, drop-cons}
+use lib.ListN.{length, take, drop, getD, set, length-append, length-take, length-drop, replicate, length-replicate, replicate-append-replicate, getD-replicate, List·getD-append, take-append-drop}
+use lib.Seq.{length-take-le, take-at, drop-at, getD-take, getD-drop, getD-append-add, ext-getD, take-take, take-nil, take-all, take-append-le, drop-append-le, drop-append-add, drop-drop, drop-cons, set-split}
 use lib.Dec.{eqb, lit<}
 use borrow.Author.Tests.{eqb-true, eq-eqb}
 use Rattle.octets.specs.Octets.{Octets, cut, pasted, same, be, numberAt, zeroed, zeroHash}
@@ -32,6 +32,11 @@ pasted-length s at h k = simp (length-append, length-take, length-drop) (omega a
 pub pasted-none : (s : List ℕ) (at : ℕ) → pasted s at [] ≡ s
 unfolding pasted
 pasted-none s at = let e : at + 0 ≡ at = omega arith in rw e (ap (λ (l : List ℕ). l ++ drop at s) (append-nil (take at s)) ∙ take-append-drop at s)
+
+-- one byte put
+pub set-pasted : (s : List ℕ) (at x : ℕ) → at < length s → set s at x ≡ pasted s at (x ∷ [])
+unfolding pasted
+set-pasted s at x h = set-split s at x h ∙ ap (λ (j : ℕ). take at s ++ x ∷ drop j s) (sym (add-one at)) ∙ sym (append-assoc (take at s) (x ∷ []) (drop (at + 1) s))
 
 -- what is left from an index inside: its element, and what is left behind it
 pub drop-step : (s : List ℕ) (i : ℕ) → i < length s → drop i s ≡ getD s i 0 ∷ drop (i + 1) s
@@ -132,6 +137,9 @@ append-octets {n} {k} {a} {b} p q =
         let f : getD (a ++ b) i 0 ≡ getD b (i - n) 0 = ap (λ (j : ℕ). getD (a ++ b) j 0) (sym e) ∙ getD-append-add a b (i - n) 0 in
         rw f (q .bytes (i - n) (omega arith))
 
+pub one-byte : (n : ℕ) → n < 256 → Octets 1 (n ∷ [])
+one-byte n h = record { size = refl; bytes = λ i g. let o : i ≡ 0 = omega arith in rw o h }
+
 pub be-octets : (k n : ℕ) → Octets k (be k n)
 be-octets k n = record { size = size k; bytes = bytes k }
   where
@@ -143,6 +151,9 @@ be-octets k n = record { size = size k; bytes = bytes k }
     bytes zero i h = absurd (omega arith)
     bytes (suc k) zero h = mod-lt (n / 256 ^ k) (lit< tt)
     bytes (suc k) (suc i) h = bytes k i (omega arith)
+
+pub be-size : (k n : ℕ) → length (be k n) ≡ k
+be-size k n = be-octets k n .size
 
 pub zero-octets : Octets 32 zeroHash
 unfolding zeroHash
@@ -193,10 +204,30 @@ unfolding cut
 cut-append-left a b at n h =
     ap (λ (l : List ℕ). take n l) (drop-append-le at a b (omega arith)) ∙ take-append-le n (drop at a) b (simp length-drop (omega arith))
 
+-- a part that lies in the second, i behind its start
+pub cut-behind : (a b : List ℕ) (at i n : ℕ) → at ≡ length a + i → cut (a ++ b) at n ≡ cut b i n
+unfolding cut
+cut-behind a b at i n e = ap (λ (l : List ℕ). take n l) (ap (λ (z : ℕ). drop z (a ++ b)) e ∙ drop-append-add a b i)
+
 -- the part that is the second
 pub cut-append-right : (a b : List ℕ) (at n : ℕ) → length a ≡ at → length b ≡ n → cut (a ++ b) at n ≡ b
 unfolding cut
 cut-append-right a b at n e f = ap (λ (l : List ℕ). take n l) (drop-at a b at e) ∙ take-all n b (omega arith)
+
+-- the first k of n zeros, and those behind them
+pub zeros-front : (n k : ℕ) → k ≤ n → take {A = ℕ} k (replicate n 0) ≡ replicate k 0
+zeros-front n k h =
+    let e : k + (n - k) ≡ n = omega arith in
+    ap (λ (j : ℕ). take k (replicate {A = ℕ} j 0)) (sym e)
+    ∙ ap (take k) (sym (replicate-append-replicate {A = ℕ} k (n - k) 0))
+    ∙ take-at (replicate k 0) (replicate (n - k) 0) k (length-replicate {A = ℕ} k 0)
+
+pub zeros-behind : (n k : ℕ) → k ≤ n → drop {A = ℕ} k (replicate n 0) ≡ replicate (n - k) 0
+zeros-behind n k h =
+    let e : k + (n - k) ≡ n = omega arith in
+    ap (λ (j : ℕ). drop k (replicate {A = ℕ} j 0)) (sym e)
+    ∙ ap (drop k) (sym (replicate-append-replicate {A = ℕ} k (n - k) 0))
+    ∙ drop-at (replicate k 0) (replicate (n - k) 0) k (length-replicate {A = ℕ} k 0)
 
 pub zeroed-length : (s : List ℕ) (n : ℕ) → n ≤ length s → length (zeroed s n) ≡ length s
 unfolding zeroed
@@ -221,6 +252,12 @@ pub number-same : (s t : List ℕ) (a b k : ℕ) → ((i : ℕ) → i < k → ge
 unfolding numberAt
 number-same s t a b zero f = refl
 number-same s t a b (suc k) f = ap₂ (λ (x y : ℕ). x * 256 + y) (number-same s t a b k (λ i h. f i (omega arith))) (f k (omega arith))
+
+-- behind the bytes a
+pub number-behind : (a b : List ℕ) (at i k : ℕ) → at ≡ length a + i → numberAt (a ++ b) at k ≡ numberAt b i k
+number-behind a b at i k e =
+    number-same (a ++ b) b at i k
+    (λ j h. let o : at + j ≡ length a + (i + j) = omega arith in ap (λ (z : ℕ). getD (a ++ b) z 0) o ∙ getD-append-add a b (i + j) 0)
 
 digit-at : (k i n : ℕ) → i < k → getD (be k n) i 0 ≡ n / 256 ^ (k - 1 - i) % 256
 digit-at zero i n h = absurd (omega arith)
@@ -250,6 +287,11 @@ pub number-of-be : (k n : ℕ) → n < 256 ^ k → numberAt (be k n) 0 k ≡ n
 number-of-be k n h =
     let e : k - k ≡ 0 = omega arith in
     leading k k n (omega arith) ∙ rw (e, pow-zero, div-one) (mod-eq-of-lt h)
+
+-- and so where other bytes stand behind it
+pub number-first : (k n : ℕ) (b : List ℕ) → n < 256 ^ k → numberAt (be k n ++ b) 0 k ≡ n
+number-first k n b h =
+    number-same (be k n ++ b) (be k n) 0 0 k (λ j l. List·getD-append (be k n) b 0 (0 + j) (omega (arith, be-size k n))) ∙ number-of-be k n h
 
 -- ---- two parts side by side
 

@@ -5,38 +5,38 @@ ghost use lib.ListN.{length};
 ghost use Rattle.octets.specs.Octets as O;
 
 // The 32 bytes at `at`.
-pub fn hash_at(s: &[u8], at: usize) -> [u8; 32]
-    requires { ⌜ at + 32 ≤ length (now s) ⌝ }
-    ensures { λ r. ⌜ r ≡ O.cut (now (s .entry)) at 32 ⌝ }
+pub fn hash_at(bytes: &[u8], at: usize) -> [u8; 32]
+    requires { ⌜ at + 32 ≤ length (now bytes) ⌝ }
+    ensures { λ r. ⌜ r ≡ O.cut (now (bytes .entry)) at 32 ⌝ }
 {
     let mut h = [0u8; 32];
     let mut i = 0;
     while i < 32 {
-        h[i] = s[at + i];
+        h[i] = bytes[at + i];
         i += 1;
     }
     h
 }
 
 // Writes the 32 bytes at `at`.
-pub fn put_hash(s: &mut [u8], at: usize, h: [u8; 32])
-    requires { ⌜ at + 32 ≤ length (now s) ⌝ }
-    ensures { λ _. ⌜ now (s .exit) ≡ O.pasted (now (s .entry)) at h ⌝ }
+pub fn put_hash(bytes: &mut [u8], at: usize, hash: [u8; 32])
+    requires { ⌜ at + 32 ≤ length (now bytes) ⌝ }
+    ensures { λ _. ⌜ now (bytes .exit) ≡ O.pasted (now (bytes .entry)) at hash ⌝ }
 {
     let mut i = 0;
     while i < 32 {
-        s[at + i] = h[i];
+        bytes[at + i] = hash[i];
         i += 1;
     }
 }
 
 // Whether two hashes are the same, all bytes compared. The one place where hashes are compared.
-pub fn same(a: [u8; 32], b: [u8; 32]) -> bool
-    ensures { λ r. ⌜ r ≡ O.same a b ⌝ }
+pub fn same(one: [u8; 32], other: [u8; 32]) -> bool
+    ensures { λ r. ⌜ r ≡ O.same one other ⌝ }
 {
     let mut i = 0;
     while i < 32 {
-        if a[i] != b[i] {
+        if one[i] != other[i] {
             return false;
         }
         i += 1;
@@ -45,49 +45,49 @@ pub fn same(a: [u8; 32], b: [u8; 32]) -> bool
 }
 
 // A byte as a number.
-pub fn wide(x: u8) -> usize
-    ensures { λ r. ⌜ (r ≡ x) × (r < 256) ⌝ }
+pub fn wide(byte: u8) -> usize
+    ensures { λ r. ⌜ (r ≡ byte) × (r < 256) ⌝ }
 {
-    x as usize
+    byte as usize
 }
 
-// The number that k bytes at `at` write, the most significant first.
-pub fn number_at(s: &[u8], at: usize, k: usize) -> usize
-    requires { ⌜ (at + k ≤ length (now s)) × (k ≤ 8) ⌝ }
-    ensures { λ r. ⌜ (r ≡ O.numberAt (now (s .entry)) at k) × (r < 256 ^ k) ⌝ }
+// The number that `size` bytes at `at` write, the most significant first.
+pub fn number_at(bytes: &[u8], at: usize, size: usize) -> usize
+    requires { ⌜ (at + size ≤ length (now bytes)) × (size ≤ 8) ⌝ }
+    ensures { λ r. ⌜ (r ≡ O.numberAt (now (bytes .entry)) at size) × (r < 256 ^ size) ⌝ }
 {
     let mut x = 0;
     let mut i = 0;
-    while i < k {
-        let b = wide(s[at + i]);
+    while i < size {
+        let b = wide(bytes[at + i]);
         x = x * 256 + b;
         i += 1;
     }
     x
 }
 
-// Writes x as k bytes at `at`, the most significant first.
-pub fn put_number(s: &mut [u8], at: usize, k: usize, x: usize)
-    requires { ⌜ (at + k ≤ length (now s)) × (k ≤ 8) ⌝ }
-    ensures { λ _. ⌜ now (s .exit) ≡ O.pasted (now (s .entry)) at (O.be k x) ⌝ }
+// Writes `number` as `size` bytes at `at`, the most significant first.
+pub fn put_number(bytes: &mut [u8], at: usize, size: usize, number: usize)
+    requires { ⌜ (at + size ≤ length (now bytes)) × (size ≤ 8) ⌝ }
+    ensures { λ _. ⌜ now (bytes .exit) ≡ O.pasted (now (bytes .entry)) at (O.be size number) ⌝ }
 {
-    let mut rest = x;
-    let mut i = k;
+    let mut rest = number;
+    let mut i = size;
     while 0 < i {
         i -= 1;
-        s[at + i] = (rest % 256) as u8;
+        bytes[at + i] = (rest % 256) as u8;
         rest = rest / 256;
     }
 }
 
-// The first n bytes become zero.
-pub fn clear(s: &mut [u8], n: usize)
-    requires { ⌜ n ≤ length (now s) ⌝ }
-    ensures { λ _. ⌜ now (s .exit) ≡ O.zeroed (now (s .entry)) n ⌝ }
+// The first `count` bytes become zero.
+pub fn clear(bytes: &mut [u8], count: usize)
+    requires { ⌜ count ≤ length (now bytes) ⌝ }
+    ensures { λ _. ⌜ now (bytes .exit) ≡ O.zeroed (now (bytes .entry)) count ⌝ }
 {
     let mut i = 0;
-    while i < n {
-        s[i] = 0;
+    while i < count {
+        bytes[i] = 0;
         i += 1;
     }
 }

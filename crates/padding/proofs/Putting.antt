@@ -4,19 +4,11 @@ use mathlib.Core.Path.{_≡_, ap, ap₂, sym, _∙_}
 use mathlib.Core.List.{List, _++_}
 use Prim.Native.Nat.{ℕ, _+_, _-_, _≤_}
 use native.Mathlib.Omega.{arith}
-use lib.ListN.{length, take, drop, replicate, length-append, length-replicate, replicate-append-replicate}
-use lib.Seq.{drop-at, length-take-le}
+use lib.ListN.{length, take, replicate, length-append, length-replicate}
+use lib.Seq.{length-take-le}
 use Rattle.octets.specs.Octets.{pasted}
-use Rattle.octets.specs.OctetsLaws.{pasted-append}
+use Rattle.octets.specs.OctetsLaws.{pasted-append, zeros-behind}
 use Rattle.padding.specs.Running.{tailArray}
-
--- zeros behind the first m of n zeros
-zeros-behind : (n m : ℕ) → m ≤ n → drop {A = ℕ} m (replicate n 0) ≡ replicate (n - m) 0
-zeros-behind n m h =
-    let e : m + (n - m) ≡ n = omega arith in
-    ap (λ (k : ℕ). drop m (replicate {A = ℕ} k 0)) (sym e)
-    ∙ ap (drop m) (sym (replicate-append-replicate {A = ℕ} m (n - m) 0))
-    ∙ drop-at (replicate m 0) (replicate (n - m) 0) m (length-replicate {A = ℕ} m 0)
 
 pub filled-law : (t s b c : List ℕ) (n : ℕ) → length t ≡ 64 → n + length s ≤ 64
     → b ≡ pasted (replicate 64 0) 0 (take n t) → c ≡ pasted b n s → c ≡ tailArray (take n t ++ s)

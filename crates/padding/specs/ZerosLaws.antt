@@ -5,26 +5,12 @@ use mathlib.Core.List.{List, _++_}
 use Prim.Native.Nat.{ℕ, _+_, _-_, _*_, _/_, _%_, _<_, _≤_}
 use native.Mathlib.Omega.{arith}
 use lib.ListN.{length, take, drop, replicate, length-append, length-replicate, replicate-append-replicate}
-use lib.Seq.{take-all, take-at, drop-at, take-append-add, drop-append-add}
+use lib.Seq.{take-all, take-append-add, drop-append-add}
+use Rattle.octets.specs.OctetsLaws.{zeros-front, zeros-behind}
 use Rattle.padding.specs.Padding.{padding}
 use Rattle.padding.specs.Cutting.{overBlocks, overMessage}
 use Rattle.padding.specs.Running.{wholeBlocks, pastBlocks, runningOf, runningMore, runningEnd}
 use Rattle.padding.specs.RunningLaws.{past-size, past-short, whole-short, running-more, running-end, whole-first, past-first}
-
--- the first k of n zeros, and those behind them
-pub zeros-front : (n k : ℕ) → k ≤ n → take {A = ℕ} k (replicate n 0) ≡ replicate k 0
-zeros-front n k h =
-    let e : k + (n - k) ≡ n = omega arith in
-    ap (λ (j : ℕ). take k (replicate {A = ℕ} j 0)) (sym e)
-    ∙ ap (take k) (sym (replicate-append-replicate {A = ℕ} k (n - k) 0))
-    ∙ take-at (replicate k 0) (replicate (n - k) 0) k (length-replicate {A = ℕ} k 0)
-
-pub zeros-behind : (n k : ℕ) → k ≤ n → drop {A = ℕ} k (replicate n 0) ≡ replicate (n - k) 0
-zeros-behind n k h =
-    let e : k + (n - k) ≡ n = omega arith in
-    ap (λ (j : ℕ). drop k (replicate {A = ℕ} j 0)) (sym e)
-    ∙ ap (drop k) (sym (replicate-append-replicate {A = ℕ} k (n - k) 0))
-    ∙ drop-at (replicate k 0) (replicate (n - k) 0) k (length-replicate {A = ℕ} k 0)
 
 -- a block of zeros is any block of them
 pub zero-block : (n at : ℕ) → at + 64 ≤ n → take {A = ℕ} 64 (drop at (replicate n 0)) ≡ replicate 64 0

@@ -28,45 +28,45 @@ fn put_bits(b: &mut [u8; 128], at: usize, n: u64)
     b[at + 7] = low(n % 32 * 8);
 }
 
-// The last bytes s of a message of n, with the padding: 64 bytes of the result, or all 128.
-pub fn pad(s: &[u8], n: u64) -> [u8; 128]
-    requires { ⌜ length (now s) ≡ n % 64 ⌝ }
-    ensures { λ r. ⌜ (length r ≡ 128) × (take (length (now (s .entry) ++ P.padding n)) r ≡ now (s .entry) ++ P.padding n) ⌝ }
+// The last bytes `tail` of a message of `total`, with the padding: 64 bytes of the result, or all 128.
+pub fn pad(tail: &[u8], total: u64) -> [u8; 128]
+    requires { ⌜ length (now tail) ≡ total % 64 ⌝ }
+    ensures { λ r. ⌜ (length r ≡ 128) × (take (length (now (tail .entry) ++ P.padding total)) r ≡ now (tail .entry) ++ P.padding total) ⌝ }
 {
     let mut b = [0u8; 128];
     let mut i: usize = 0;
-    while i < s.len() {
-        b[i] = s[i];
+    while i < tail.len() {
+        b[i] = tail[i];
         i += 1;
     }
     b[i] = 0x80;
     if i < 56 {
-        put_bits(&mut b, 56, n);
+        put_bits(&mut b, 56, total);
         return b;
     }
-    put_bits(&mut b, 120, n);
+    put_bits(&mut b, 120, total);
     b
 }
 
-// s into b from `at` on.
-fn put(b: &mut [u8; 64], at: usize, s: &[u8])
-    requires { ⌜ (at + length (now s) ≤ 64) × (length (now b) ≡ 64) ⌝ }
-    ensures { λ _. ⌜ now (b .exit) ≡ O.pasted (now (b .entry)) at (now (s .entry)) ⌝ }
+// `bytes` into b from `at` on.
+fn put(b: &mut [u8; 64], at: usize, bytes: &[u8])
+    requires { ⌜ (at + length (now bytes) ≤ 64) × (length (now b) ≡ 64) ⌝ }
+    ensures { λ _. ⌜ now (b .exit) ≡ O.pasted (now (b .entry)) at (now (bytes .entry)) ⌝ }
 {
     let mut i: usize = 0;
-    while i < s.len() {
-        b[at + i] = s[i];
+    while i < bytes.len() {
+        b[at + i] = bytes[i];
         i += 1;
     }
 }
 
-// The first n bytes of the tail and then s, with zeros behind.
-pub fn filled(tail: [u8; 64], n: usize, s: &[u8]) -> [u8; 64]
-    requires { ⌜ n + length (now s) ≤ 64 ⌝ }
-    ensures { λ r. ⌜ r ≡ tailArray (take n tail ++ now (s .entry)) ⌝ }
+// The first `have` bytes of the tail and then `bytes`, with zeros behind.
+pub fn filled(tail: [u8; 64], have: usize, bytes: &[u8]) -> [u8; 64]
+    requires { ⌜ have + length (now bytes) ≤ 64 ⌝ }
+    ensures { λ r. ⌜ r ≡ tailArray (take have tail ++ now (bytes .entry)) ⌝ }
 {
     let mut b = [0u8; 64];
-    put(&mut b, 0, &tail[0..n]);
-    put(&mut b, n, s);
+    put(&mut b, 0, &tail[0..have]);
+    put(&mut b, have, bytes);
     b
 }

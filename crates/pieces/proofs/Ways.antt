@@ -20,6 +20,7 @@ use Rattle.store.specs.Store.{usable, fileLength, pieceLength, blocksOf, height
 use Rattle.store.specs.StoreLaws.{usable-facts, facts-height, facts-leaves, facts-cell}
 use Rattle.settling.specs.Span.{Fit}
 use Rattle.settling.specs.Subtree.{subtree, runLeaf}
+use Rattle.settling.specs.SubtreeLaws.{fit-below}
 use Rattle.limits.specs.Limits.{tallestTree}
 use Rattle.pieces.specs.Pieces.{judgedAt, layerOfPieces, layerSettled, layerNumber, layerAfter, layerAnswer, blockNumber, pieceHeight, pieceNumber}
 use Rattle.pieces.specs.Asks.{Layered, PieceIn}
@@ -68,8 +69,8 @@ module _ (s : List ℕ) (f : Layered s) (h plen p : ℕ) (eh : h ≡ heightOf s)
   depth : h - p ≡ heightOf s - layerOfPieces s
   depth = ap₂ (λ (x y : ℕ). x - y) eh layer-number-is
 
-  pub layer-fit : (b : ℕ) → b ≡ positions (heightOf s) → Fit (length s) b (h - p) 1 0
-  layer-fit b q = record { room = omega (arith, f .facts .room); top = rw (q, depth) (layer-within s f); index = omega arith }
+  pub layer-fit : Fit (length s) (h - p) 1 0
+  layer-fit = fit-below _ (f .facts .room) (rw depth (layer-within s f)) (omega arith)
 
   module _ (layer past : List ℕ) (e : past ≡ padValue p) where
     leaves : runLeaf layer past ≡ layerLeaf layer (layerOfPieces s)
@@ -215,8 +216,8 @@ module _ (s : List ℕ) (i h k : ℕ) (f : PieceIn s i) (eh : h ≡ heightOf s) 
     node-is : q ≡ nodeNumber (heightOf s) (pieceHeight s) i
     node-is = eq ∙ ap₂ (λ (x y : ℕ). nodeNumber x y i) eh ek
 
-    pub node-fit : (b : ℕ) → b ≡ positions (heightOf s) → Fit (length s) b k q 0
-    node-fit b z = record { room = omega (arith, f .facts .room); top = rw (z, ek, node-is) (piece-within s i f); index = omega arith }
+    pub node-fit : Fit (length s) k q 0
+    node-fit = fit-below _ (f .facts .room) (rw (ek, node-is) (piece-within s i f)) (omega arith)
 
     pub node-judged : (piece : List ℕ) (r : ℕ) → r ≡ judgedAt s (leafOf piece) k q → r ≡ judgedAt s (leafOf piece) (pieceHeight s) (nodeNumber (heightOf s) (pieceHeight s) i)
     node-judged piece r w = w ∙ ap₂ (λ (x y : ℕ). judgedAt s (leafOf piece) x y) ek node-is

@@ -35,9 +35,10 @@ use Rattle.pieces.specs.Pieces.{judgedAt, layerOfPieces, layerSettled, l
 -- ---- where a layer and a piece lie
 
 module _ (s : List ℕ) (f : Facts s) where
-  plen-form : pieceLength s ≡ blockLength * 2 ^ layerOfPieces s
+  -- a piece is 2^p blocks
+  pub piece-length-by-layer : pieceLength s ≡ blockLength * 2 ^ layerOfPieces s
   unfolding layerOfPieces
-  plen-form = piece-length-form (pieceLength s) (f .piece) .1
+  piece-length-by-layer = piece-length-form (pieceLength s) (f .piece) .1
 
   -- the pieces are the positions of layer p that aren't padding
   pub pieces-are : pieceCount (fileLength s) (pieceLength s) ≡ covering (blocksOf s) (layerOfPieces s)
@@ -53,7 +54,7 @@ module _ (s : List ℕ) (f : Facts s) where
   layered t = record { facts = f; above = higher (ltb-true (pieceLength s) (fileLength s) (unfold hasLayer in t)) }
     where
       higher : pieceLength s < fileLength s → layerOfPieces s < heightOf s
-      higher l = unfold heightOf blocksOf in long-file-height (fileLength s) (layerOfPieces s) (omega (arith, plen-form))
+      higher l = unfold heightOf blocksOf in long-file-height (fileLength s) (layerOfPieces s) (omega (arith, piece-length-by-layer))
 
   -- where there is a piece layer, a piece's node is in it
   pub height-layer : hasLayer (fileLength s) (pieceLength s) ≡ true → pieceHeight s ≡ layerOfPieces s
@@ -69,7 +70,7 @@ module _ (s : List ℕ) (f : Facts s) where
   pub one-piece-only : hasLayer (fileLength s) (pieceLength s) ≡ false → pieceCount (fileLength s) (pieceLength s) ≤ 1
   unfolding pieceCount hasLayer
   one-piece-only t =
-      ceil-least (fileLength s) (pieceLength s) 1 (omega (arith, plen-form, pow-pos (layerOfPieces s)))
+      ceil-least (fileLength s) (pieceLength s) 1 (omega (arith, piece-length-by-layer, pow-pos (layerOfPieces s)))
       (omega (arith, ltb-false (pieceLength s) (fileLength s) t, one-mul (pieceLength s)))
 
   -- every piece of the file has its node in the tree

@@ -10,7 +10,7 @@ use lib.ListN.{length}
 use Rattle.limits.specs.Limits.{longestRun}
 use Rattle.numbers.specs.Numbers.{ruleBroken, wrongSize, noAnchor, unusable, InTable}
 use Rattle.tree.specs.Geometry.{ceilDiv, pieceCount}
-use Rattle.store.specs.Store.{usable, fileLength, pieceLength, factsRoot, blocksOf, heightOf}
+use Rattle.store.specs.Store.{usable, fileLength, pieceLength, factsRoot, heightOf}
 use Rattle.store.specs.StoreLaws.{usable-facts}
 use Rattle.marks.specs.Marks.{pieceMarked}
 use Rattle.header.specs.Header.{headerOf, messageRoot, isRequest, messageSize, Kept}
@@ -71,7 +71,7 @@ module _ (s : List ℕ) (l : ℕ) where
 
     -- of the request, of a reply to it and of a reject, whatever hashes they carry: the rules are kept,
     module _ (m : List ℕ) (H : HeaderOf (nextAnswer s l) m) where
-      pub keeps-rules : Kept (headerOf m) (blocksOf s) (heightOf s)
+      pub keeps-rules : Kept (headerOf m) (heightOf s)
       keeps-rules = Rattle.knowledge.specs.NextRequest.keeps-rules s l e m H
 
       -- so that no store for a file of this length, whoever wrote it, says 3,

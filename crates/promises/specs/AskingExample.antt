@@ -7,7 +7,7 @@ use mathlib.Core.List.{List, [], _∷_}
 use Prim.Native.Nat.{ℕ, zero, suc, _+_, _-_, _*_, _^_, _≤_, _<_}
 use native.Mathlib.Omega.{arith}
 use lib.ListN.{length, getD, replicate, length-replicate}
-use lib.Dec.{eqb, lit<, lit≤}
+use lib.Dec.{lit<, lit≤}
 use lib.Pow.{pow-pos}
 use Rattle.octets.specs.Octets.{Octets, cut, zeroHash}
 use Rattle.octets.specs.OctetsLaws.{cut-size, getD-cut, zero-octets}
@@ -37,7 +37,7 @@ use Rattle.numbers.specs.Tests.{not-both}
 use Rattle.knowledge.specs.Grows.{Grown, grown-take}
 use Rattle.knowledge.specs.Alike.{alike}
 use Rattle.knowledge.specs.Beyond.{take-past}
-use Rattle.knowledge.specs.MarksSince.{marked-says}
+use Rattle.knowledge.specs.MarksSince.{marked-says, zero-unmarked}
 use Rattle.promises.specs.Asking.{then-nothing, picked-exactly}
 use Rattle.promises.specs.Blank.{blank, blank-room, blank-bytes, zero-bytes}
 use Rattle.promises.specs.Example.{twoLeaves, header-two, taken-with-two}
@@ -192,11 +192,6 @@ piece-bytes file p i b = cut-bytes (blockLength * 2 ^ p * i) (blockLength * 2 ^ 
               let q = cut-size file at n in
               rw (getD-cut file at n z (omega arith)) (b .bytes (at + z) (omega arith));
         }
-
--- a zero byte is no mark
-zero-unmarked : (s : List ℕ) (j : ℕ) → getD s (marksStart s + j) 0 ≡ 0 → markedAt s j ≡ false
-unfolding markedAt
-zero-unmarked s j e = ap (λ (x : ℕ). eqb x 1) e
 
 -- a store for a file of two blocks, just opened, and the same once it has heard the two leaves
 abbrev begun : List ℕ → List ℕ → List ℕ

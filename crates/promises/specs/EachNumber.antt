@@ -150,7 +150,7 @@ module _ (s m : List ℕ) where
   take-2 = two-exactly-when s m
 
   -- a header rule fails
-  pub take-3 : (takeAnswer s m .number ≡ ruleBroken) ↔ (Addressed s m × (Kept (headerOf m) (blocksOf s) (heightOf s) → ⊥))
+  pub take-3 : (takeAnswer s m .number ≡ ruleBroken) ↔ (Addressed s m × (Kept (headerOf m) (heightOf s) → ⊥))
   unfolding takeAnswer
   take-3 = three-exactly-when s m
 
@@ -209,7 +209,7 @@ module _ (s m : List ℕ) where
   reject-2 = Rattle.knowledge.specs.ServedWhen.reject-2 s m
 
   pub reject-3 : (rejectAnswer s m .number ≡ ruleBroken)
-      ↔ ((usable s ≡ true) × Form rejectId m × (factsRoot s ≡ messageRoot m) × (Kept (headerOf m) (blocksOf s) (heightOf s) → ⊥))
+      ↔ ((usable s ≡ true) × Form rejectId m × (factsRoot s ≡ messageRoot m) × (Kept (headerOf m) (heightOf s) → ⊥))
   reject-3 = Rattle.knowledge.specs.ServedWhen.reject-3 s m
 
   pub reject-0 : (rejectAnswer s m .number ≡ 0) ↔ ValidHeader rejectId s m
@@ -233,7 +233,7 @@ module _ (s m out : List ℕ) where
   serve-2 = beside (serve-rejects s m out otherRoot (inl refl)) (request-2 s m)
 
   pub serve-3 : (serveAnswer s m out .number ≡ ruleBroken)
-      ↔ (((usable s ≡ true) × Form requestId m × (factsRoot s ≡ messageRoot m) × (Kept (headerOf m) (blocksOf s) (heightOf s) → ⊥)) × (headerSize ≤ length out))
+      ↔ (((usable s ≡ true) × Form requestId m × (factsRoot s ≡ messageRoot m) × (Kept (headerOf m) (heightOf s) → ⊥)) × (headerSize ≤ length out))
   serve-3 = beside (serve-rejects s m out ruleBroken (inr (inl refl))) (request-3 s m)
 
   pub serve-12 : (serveAnswer s m out .number ≡ notHeld) ↔ ((ValidHeader requestId s m × (AllGiven s m → ⊥)) × (headerSize ≤ length out))

@@ -66,8 +66,8 @@ module _ (a b : List ℕ) (oa : Octets 32 a) (ob : Octets 32 b) where
     well : Formed (opened buffer 32768 16384 (pairHash a b)) (twoLeaves a b)
     unfolding messageSize rulesKept lengthRule indexRule height heightFrom
     well =
-        well-formed-in (pairHash a b) numbers (a ++ b) root-size refl (opened buffer 32768 16384 (pairHash a b)) two 2 1 header-two
-        (store buffer (pairHash a b) fits root-size) (root-is buffer (pairHash a b) fits root-size) (blocks buffer (pairHash a b) fits root-size) (high buffer (pairHash a b) fits root-size) refl (sym (two-size (pairHash a b) numbers a b root-size refl (oa .size) (ob .size)))
+        well-formed-in (pairHash a b) numbers (a ++ b) root-size refl (opened buffer 32768 16384 (pairHash a b)) two 1 header-two
+        (store buffer (pairHash a b) fits root-size) (root-is buffer (pairHash a b) fits root-size) (high buffer (pairHash a b) fits root-size) refl (sym (two-size (pairHash a b) numbers a b root-size refl (oa .size) (ob .size)))
 
     settled-agree : agrees (opened buffer 32768 16384 (pairHash a b)) (settled (twoLeaves a b) below-root) ≡ true
     unfolding agrees settled subtree path node

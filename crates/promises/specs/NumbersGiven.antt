@@ -115,8 +115,8 @@ module _ (buffer root a b : List ℕ) (fits : storeSize 49152 ≤ length buffer)
   well-next : Formed three (twoHashes root nextTwo a b)
   unfolding three messageSize rulesKept lengthRule indexRule height heightFrom
   well-next =
-      well-formed-in root nextTwo (a ++ b) lr refl three (header 2) 3 2 (header-next root a b lr la lb) (opened-usable buffer 49152 16384 root range3 fits lr)
-      (opened-facts-root buffer 49152 16384 root range3 fits lr) blocks3 high3 refl (sym (two-size root firstTwo a b lr refl la lb))
+      well-formed-in root nextTwo (a ++ b) lr refl three (header 2) 2 (header-next root a b lr la lb) (opened-usable buffer 49152 16384 root range3 fits lr)
+      (opened-facts-root buffer 49152 16384 root range3 fits lr) high3 refl (sym (two-size root firstTwo a b lr refl la lb))
 
   padding-next : same b zeroHash ≡ false → padded (twoHashes root nextTwo a b) (header 2) next-place 3 ≡ false
   unfolding padded runPadded allFrom unclesPadded covering ceilDiv padValue
@@ -136,8 +136,8 @@ module _ (buffer root a b : List ℕ) (fits : storeSize 49152 ≤ length buffer)
   well-first : Formed three (twoHashes root firstTwo a b)
   unfolding three messageSize rulesKept lengthRule indexRule height heightFrom
   well-first =
-      well-formed-in root firstTwo (a ++ b) lr refl three (header 0) 3 2 (header-first root a b lr la lb) (opened-usable buffer 49152 16384 root range3 fits lr)
-      (opened-facts-root buffer 49152 16384 root range3 fits lr) blocks3 high3 refl (sym (two-size root firstTwo a b lr refl la lb))
+      well-formed-in root firstTwo (a ++ b) lr refl three (header 0) 2 (header-first root a b lr la lb) (opened-usable buffer 49152 16384 root range3 fits lr)
+      (opened-facts-root buffer 49152 16384 root range3 fits lr) high3 refl (sym (two-size root firstTwo a b lr refl la lb))
 
   padding-first : padded (twoHashes root firstTwo a b) (header 0) first-place 3 ≡ true
   unfolding padded runPadded allFrom unclesPadded covering ceilDiv
@@ -162,7 +162,7 @@ module _ (s root a b : List ℕ) (lr : length root ≡ 32) (la : length a ≡ 32
 
   well : Formed s (twoHashes root firstTwo a b)
   unfolding messageSize rulesKept lengthRule indexRule height heightFrom
-  well = well-formed-in root firstTwo (a ++ b) lr refl s (header 0) 2 1 (header-first root a b lr la lb) u r blocks high refl (sym (two-size root firstTwo a b lr refl la lb))
+  well = well-formed-in root firstTwo (a ++ b) lr refl s (header 0) 1 (header-first root a b lr la lb) u r high refl (sym (two-size root firstTwo a b lr refl la lb))
 
   padding-is : padded (twoHashes root firstTwo a b) (headerOf (twoHashes root firstTwo a b)) (placeIn s (twoHashes root firstTwo a b)) (blocksOf s) ≡ true
   unfolding padded runPadded allFrom unclesPadded covering ceilDiv

@@ -12,7 +12,7 @@ use lib.Dec.{lit≤}
 use borrow.Author.Tests.{le-leb}
 use Rattle.octets.specs.Octets.{cut, numberAt, zeroHash}
 use Rattle.octets.specs.OctetsLaws.{same-eq, number-same, cut-whole, cut-append-left, cut-append-right}
-use Rattle.store.specs.Store.{usable, factsRoot, blocksOf, heightOf}
+use Rattle.store.specs.Store.{usable, factsRoot, heightOf}
 use Rattle.settling.specs.SubtreeLaws.{run-leaf-in}
 use Rattle.header.specs.declared.Header.{Header}
 use Rattle.header.specs.Header.{hashesId, headerSize, isHashes, headerOf, messageRoot, messageSize, rulesKept}
@@ -69,15 +69,15 @@ module _ (root numbers hashes : List ℕ) (lr : length root ≡ 32) (ln : length
       let l : headerSize + at ≡ length H + at = omega (arith, length-append root numbers) in
       ap₂ (λ (m : List ℕ) (x : ℕ). take n (drop x m)) e l ∙ ap (take n) (drop-append-add H hashes at)
 
-  -- offered to a usable store with this root, of a file whose blocks and height let its header keep the rules, with as many hashes as the
+  -- offered to a usable store with this root, of a file whose height lets its header keep the rules, with as many hashes as the
   -- header says, it is well-formed
-  pub well-formed-in : (s : List ℕ) (x : Header) (blocks h : ℕ) → headerOf (offered root numbers hashes) ≡ x → usable s ≡ true → factsRoot s ≡ root
-      → blocksOf s ≡ blocks → heightOf s ≡ h → rulesKept x blocks h ≡ true → messageSize x ≡ headerSize + length hashes → Formed s (offered root numbers hashes)
-  well-formed-in s x blocks h e u r eb eh k z =
+  pub well-formed-in : (s : List ℕ) (x : Header) (h : ℕ) → headerOf (offered root numbers hashes) ≡ x → usable s ≡ true → factsRoot s ≡ root
+      → heightOf s ≡ h → rulesKept x h ≡ true → messageSize x ≡ headerSize + length hashes → Formed s (offered root numbers hashes)
+  well-formed-in s x h e u r eh k z =
       record {
         header =
             passes (isHashes (offered root numbers hashes)) s (offered root numbers hashes)
-            (record { store = u; formed = offered-form; root = same-eq (factsRoot s) (messageRoot (offered root numbers hashes)) (r ∙ sym offered-root); rules = rw (e, eb, eh) k });
+            (record { store = u; formed = offered-form; root = same-eq (factsRoot s) (messageRoot (offered root numbers hashes)) (r ∙ sym offered-root); rules = rw (e, eh) k });
         size = offered-size ∙ sym z ∙ sym (ap messageSize e);
       }
 

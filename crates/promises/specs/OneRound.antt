@@ -11,7 +11,7 @@ use lib.ListN.{length, length-append}
 use lib.Dec.{eqb, lit<, lit≤}
 use borrow.Author.Tests.{le-leb, ne-eqb}
 use Rattle.octets.specs.Octets.{Octets, cut, be, numberAt, zeroHash}
-use Rattle.octets.specs.OctetsLaws.{same-eq, zero-octets, be-octets, append-octets, cut-cut, cut-whole, cut-append-left, cut-append-right}
+use Rattle.octets.specs.OctetsLaws.{same-eq, zero-octets, be-octets, append-octets, cut-cut, cut-whole, cut-append-left, cut-append-right, one-byte}
 use Rattle.numbers.specs.Numbers.{noAnchor}
 use Rattle.sha256.specs.Sha256.{pairHash}
 use Rattle.sha256.specs.Sha256Laws.{pair-octets}
@@ -44,6 +44,7 @@ use Rattle.knowledge.specs.AnyOrder.{take-stays}
 use Rattle.knowledge.specs.RoundsEnd.{offerAll, round-of}
 use Rattle.knowledge.specs.Conflict.{sized-bytes}
 use Rattle.knowledge.specs.Positions.{given-is}
+use Rattle.knowledge.specs.ByHand.{three-high}
 use Rattle.numbers.specs.Tests.{either, not-both}
 use Rattle.promises.specs.Blank.{blank, blank-room, blank-bytes}
 use Rattle.promises.specs.Offered.{offered, twoHashes, offered-header, offered-past, first-hash, second-hash, two-size, well-formed-in}
@@ -179,9 +180,6 @@ leafPlace = record { k = 2; u = 0; top = 2 }
 abbrev topPlace : Place
 topPlace = record { k = 1; u = 0; top = 1 }
 
-one-byte : Octets 1 (hashesId ∷ [])
-one-byte = be-octets 1 hashesId
-
 leaf-numbers : Octets 16 (be 4 0 ++ (be 4 0 ++ (be 4 4 ++ be 4 1)))
 leaf-numbers = append-octets (be-octets 4 0) (append-octets (be-octets 4 0) (append-octets (be-octets 4 4) (be-octets 4 1)))
 
@@ -191,10 +189,6 @@ top-numbers = append-octets (be-octets 4 2) (append-octets (be-octets 4 0) (appe
 range : factsInRange 81920 16384 ≡ true
 unfolding factsInRange isPieceLength pieceLayer height heightFrom
 range = refl
-
-three-high : height (blockCount 81920) ≡ 3
-unfolding height heightFrom blockCount ceilDiv
-three-high = refl
 
 module _ (c d e f b : List ℕ) (oc : Octets 32 c) (od : Octets 32 d) (oe : Octets 32 e) (of : Octets 32 f) (ob : Octets 32 b) where
   X : List ℕ
@@ -212,11 +206,11 @@ module _ (c d e f b : List ℕ) (oc : Octets 32 c) (od : Octets 32 d) (oe : Octe
   leaf-bytes : Bytes X
   unfolding X
   leaf-bytes =
-      sized-bytes 177 (leaves c d e f b) (append-octets one-byte (append-octets root-octets (append-octets leaf-numbers (append-octets (append-octets oc od) (append-octets oe of)))))
+      sized-bytes 177 (leaves c d e f b) (append-octets (one-byte hashesId (omega arith)) (append-octets root-octets (append-octets leaf-numbers (append-octets (append-octets oc od) (append-octets oe of)))))
 
   top-bytes : Bytes Y
   unfolding Y
-  top-bytes = sized-bytes 113 (tops c d e f b) (append-octets one-byte (append-octets root-octets (append-octets top-numbers (append-octets four-octets ob))))
+  top-bytes = sized-bytes 113 (tops c d e f b) (append-octets (one-byte hashesId (omega arith)) (append-octets root-octets (append-octets top-numbers (append-octets four-octets ob))))
 
   leaf-header : headerOf X ≡ leafHeader
   unfolding X numberAt
@@ -266,18 +260,18 @@ module _ (c d e f b : List ℕ) (oc : Octets 32 c) (od : Octets 32 d) (oe : Octe
   unfolding padded runPadded allFrom unclesPadded covering ceilDiv
   top-padding = refl
 
-  -- in every store of a file of five blocks with this root
-  module _ (s : List ℕ) (us : usable s ≡ true) (r : factsRoot s ≡ rootOf c d e f b) (eb : blocksOf s ≡ 5) (eh : heightOf s ≡ 3) where
+  -- in every store with this root and a tree of height 3
+  module _ (s : List ℕ) (us : usable s ≡ true) (r : factsRoot s ≡ rootOf c d e f b) (eh : heightOf s ≡ 3) where
     leaf-well : Formed s X
     unfolding X messageSize rulesKept lengthRule indexRule height heightFrom
     leaf-well =
-        well-formed-in (rootOf c d e f b) leafNumbers ((c ++ d) ++ (e ++ f)) (root-octets .size) refl s leafHeader 5 3 (unfold X in leaf-header) us r eb eh refl
+        well-formed-in (rootOf c d e f b) leafNumbers ((c ++ d) ++ (e ++ f)) (root-octets .size) refl s leafHeader 3 (unfold X in leaf-header) us r eh refl
         (sym (ap (λ (n : ℕ). headerSize + n) (run-size (rootOf c d e f b) leafNumbers c d e f (root-octets .size) refl (oc .size) (od .size) (oe .size) (of .size))))
 
     top-well : Formed s Y
     unfolding Y messageSize rulesKept lengthRule indexRule height heightFrom
     top-well =
-        well-formed-in (rootOf c d e f b) topNumbers (fourOf c d e f ++ b) (root-octets .size) refl s topHeader 5 3 (unfold Y in top-header) us r eb eh refl
+        well-formed-in (rootOf c d e f b) topNumbers (fourOf c d e f ++ b) (root-octets .size) refl s topHeader 3 (unfold Y in top-header) us r eh refl
         (sym (two-size (rootOf c d e f b) topNumbers (fourOf c d e f) b (root-octets .size) refl (four-octets .size) (ob .size)))
 
     leaf-place : placeIn s X ≡ leafPlace
@@ -323,12 +317,12 @@ module _ (c d e f b : List ℕ) (oc : Octets 32 c) (od : Octets 32 d) (oe : Octe
     waits : takeNumber fresh X ≡ noAnchor
     unfolding anchor ancestor
     waits =
-        let p = leaf-place fresh us root-is blocks high in
-        no-anchor-then-6 fresh X (leaf-well fresh us root-is blocks high) (rw (p, leaf-header, blocks) leaf-padding) (rw p (held 2 (lit≤ tt) (lit< tt)))
+        let p = leaf-place fresh us root-is high in
+        no-anchor-then-6 fresh X (leaf-well fresh us root-is high) (rw (p, leaf-header, blocks) leaf-padding) (rw p (held 2 (lit≤ tt) (lit< tt)))
 
     -- the two below the root are taken
     top-place-is : placeIn fresh Y ≡ topPlace
-    top-place-is = top-place fresh us root-is blocks high
+    top-place-is = top-place fresh us root-is high
 
     top-agrees : agrees fresh (settled Y topPlace) ≡ true
     unfolding agrees settled subtree path
@@ -351,7 +345,7 @@ module _ (c d e f b : List ℕ) (oc : Octets 32 c) (od : Octets 32 d) (oe : Octe
         }
 
     top-taken : takeNumber fresh Y ≡ 0
-    top-taken = right-then-taken fresh Y (top-well fresh us root-is blocks high) top-right
+    top-taken = right-then-taken fresh Y (top-well fresh us root-is high) top-right
 
     -- then nothing below them is held, and the leaves' anchor is
     grown : Grown fresh (takeAfter fresh Y)
@@ -391,10 +385,10 @@ module _ (c d e f b : List ℕ) (oc : Octets 32 c) (od : Octets 32 d) (oe : Octe
     then-us = facts-usable (takeAfter fresh Y) (grown .facts)
 
     then-well : Formed (takeAfter fresh Y) X
-    then-well = leaf-well (takeAfter fresh Y) then-us (grown .same .root ∙ root-is) (grown .same .blocks ∙ blocks) (grown .same .layers ∙ high)
+    then-well = leaf-well (takeAfter fresh Y) then-us (grown .same .root ∙ root-is) (grown .same .layers ∙ high)
 
     then-place : placeIn (takeAfter fresh Y) X ≡ leafPlace
-    then-place = leaf-place (takeAfter fresh Y) then-us (grown .same .root ∙ root-is) (grown .same .blocks ∙ blocks) (grown .same .layers ∙ high)
+    then-place = leaf-place (takeAfter fresh Y) then-us (grown .same .root ∙ root-is) (grown .same .layers ∙ high)
 
     then-agrees : agrees (takeAfter fresh Y) (settled X leafPlace) ≡ true
     unfolding agrees settled subtree path

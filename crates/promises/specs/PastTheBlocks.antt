@@ -55,10 +55,10 @@ module _ (root : List ℕ) (lr : length root ≡ 32) where
   unfolding numberAt
   header-is = offered-header root numbers (zeroHash ++ zeroHash) lr refl
 
-  well : (s : List ℕ) → usable s ≡ true → factsRoot s ≡ root → blocksOf s ≡ 5 → heightOf s ≡ 3 → Formed s (pastBlocks root)
+  well : (s : List ℕ) → usable s ≡ true → factsRoot s ≡ root → heightOf s ≡ 3 → Formed s (pastBlocks root)
   unfolding messageSize rulesKept lengthRule indexRule height heightFrom
-  well s u r eb eh =
-      well-formed-in root numbers (zeroHash ++ zeroHash) lr refl s header 5 3 header-is u r eb eh refl
+  well s u r eh =
+      well-formed-in root numbers (zeroHash ++ zeroHash) lr refl s header 3 header-is u r eh refl
       (sym (two-size root numbers zeroHash zeroHash lr refl (zero-octets .size) (zero-octets .size)))
 
   place-in : (s : List ℕ) → heightOf s ≡ 3 → placeIn s (pastBlocks root) ≡ place
@@ -92,7 +92,7 @@ module _ (root : List ℕ) (lr : length root ≡ 32) where
         let s = opened buffer 81920 plen root in
         let p = place-in s high in
         no-anchor-then-6 s (pastBlocks root)
-        (well s (opened-usable buffer 81920 plen root range fits lr) (opened-facts-root buffer 81920 plen root range fits lr) blocks high) (rw (p, header-is, blocks) padding-is)
+        (well s (opened-usable buffer 81920 plen root range fits lr) (opened-facts-root buffer 81920 plen root range fits lr) high) (rw (p, header-is, blocks) padding-is)
         (rw p (held 7 (lit≤ tt) (lit< tt)))
 
     -- nor are its leaves
@@ -148,10 +148,6 @@ module _ (file : List ℕ) {s : List ℕ} (o : OurStore s) (w : For file s) (fiv
   unfolding blockCount ceilDiv
   blocks-5 = rw five refl
 
-  blocks-in : blocksOf s ≡ 5
-  unfolding blocksOf
-  blocks-in = ap blockCount (w .long) ∙ blocks-5
-
   high-in : heightOf s ≡ 3
   unfolding heightOf blocksOf height heightFrom
   high-in = ap height (ap blockCount (w .long) ∙ blocks-5)
@@ -164,7 +160,7 @@ module _ (file : List ℕ) {s : List ℕ} (o : OurStore s) (w : For file s) (fiv
   true-hashes =
       let e = header-is (piecesRoot file) root-size in
       record {
-        formed = well-formed s (pastBlocks (piecesRoot file)) .1 (well (piecesRoot file) root-size s (facts-usable s (ours-have o .chained .facts)) (w .root) blocks-in high-in);
+        formed = well-formed s (pastBlocks (piecesRoot file)) .1 (well (piecesRoot file) root-size s (facts-usable s (ours-have o .chained .facts)) (w .root) high-in);
         run = λ j l. (let l′ : j < 2 = rw e at l in rw e (hash-is (piecesRoot file) root-size j l′ ∙ leaf-is (6 + j) (omega arith)));
         uncles = λ j l. (let l′ : j < 0 - (height 2 - 1) = rw e at l in absurd (omega arith));
       }

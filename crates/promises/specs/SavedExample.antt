@@ -7,12 +7,12 @@ use mathlib.Core.List.{List, [], _∷_}
 use mathlib.Core.Logic.{inr}
 use Prim.Native.Nat.{ℕ, zero, suc, _+_, _-_, _*_, _^_, _≤_, _<_}
 use native.Mathlib.Omega.{arith}
-use lib.ListN.{length, length-append, replicate, length-replicate}
+use lib.ListN.{length, replicate, length-replicate}
 use lib.Dec.{lit<}
 use Rattle.octets.specs.Octets.{zeroHash}
 use Rattle.octets.specs.OctetsLaws.{zero-octets}
 use Rattle.numbers.specs.Numbers.{done, notSaved}
-use Rattle.tree.specs.Geometry.{ceilDiv, blockCount, heightFrom, height}
+use Rattle.tree.specs.Geometry.{blockCount, height}
 use Rattle.settling.specs.Path.{sibling}
 use Rattle.settling.specs.PathLaws.{sibling-even}
 use Rattle.store.specs.Store.{fileLength, storeSize}
@@ -22,6 +22,7 @@ use Rattle.saved.specs.Form.{Place, Saved, savedBytes, rank, Rising, none, more
 use Rattle.saved.specs.ReadLaws.{read-back}
 use Rattle.saved.specs.Save.{saveAnswer}
 use Rattle.saved.specs.Saved.{loadAnswer, loadAfter, repairAnswer}
+use Rattle.saved.specs.CountLaws.{places-many}
 use Rattle.words.specs.History.{Bytes, OurStore}
 use Rattle.words.specs.Answers.{InRange}
 use Rattle.words.specs.Saving.{WholeOpening, OfForm, Ready, NamedBy, Loadable, Repairable, saveOf}
@@ -30,7 +31,7 @@ use Rattle.knowledge.specs.OursMeet.{ours-meet}
 use Rattle.knowledge.specs.RootAlone.{range-exactly}
 use Rattle.knowledge.specs.SaveBytes.{ordered-bytes}
 use Rattle.promises.specs.Blank.{blank, blank-room}
-use Rattle.promises.specs.TwoBlocks.{range}
+use Rattle.promises.specs.TwoBlocks.{range, one-high}
 use Rattle.promises.specs.Saved.{save-0, save-fits, save-loads, loads-same-marks, form-exactly, load-32, load-0, repair-0, load-drops-nothing}
 
 -- ---- a store of ours is saved and loaded
@@ -67,10 +68,6 @@ lone =
       places = record { layer = 0; index = 0; hash = zeroHash } ∷ (record { layer = 1; index = 0; hash = zeroHash } ∷ []);
       marks = [];
     }
-
-one-high : height (blockCount 32768) ≡ 1
-unfolding height heightFrom blockCount ceilDiv
-one-high = refl
 
 step : {r : ℕ} {L : List Place} (l i : ℕ) → l ≤ 1 → i < 2 ^ (1 - l) → r ≤ rank 1 l i → Rising 1 (suc (rank 1 l i)) L → Rising 1 r (record { layer = l; index = i; hash = zeroHash } ∷ L)
 step l i a b c R = more a b zero-octets c R
@@ -117,16 +114,11 @@ root-is = unfold valueIn lone in ap (λ (v : Saved). v .root) value-is
 height-is : heightIn loneLeaf ≡ 1
 height-is = ap (λ (n : ℕ). height (blockCount n)) length-is ∙ one-high
 
-many : (b : List ℕ) (p : ℕ) → length (placesTo b p) ≡ p
-unfolding placesTo
-many b zero = refl
-many b (suc p) = simp length-append (omega (arith, many b p))
-
 places-are : placesTo loneLeaf (placeCount loneLeaf) ≡ record { layer = 0; index = 0; hash = zeroHash } ∷ (record { layer = 1; index = 0; hash = zeroHash } ∷ [])
 places-are = unfold valueIn lone in ap (λ (v : Saved). v .places) value-is
 
 two : placeCount loneLeaf ≡ 2
-two = sym (many loneLeaf (placeCount loneLeaf)) ∙ ap length places-are
+two = sym (places-many loneLeaf (placeCount loneLeaf)) ∙ ap length places-are
 
 pair-is : placeIn loneLeaf 0 ∷ (placeIn loneLeaf 1 ∷ []) ≡ record { layer = 0; index = 0; hash = zeroHash } ∷ (record { layer = 1; index = 0; hash = zeroHash } ∷ [])
 pair-is = let e : placesTo loneLeaf 2 ≡ placeIn loneLeaf 0 ∷ (placeIn loneLeaf 1 ∷ []) = unfold placesTo in refl in sym e ∙ ap (placesTo loneLeaf) (sym two) ∙ places-are

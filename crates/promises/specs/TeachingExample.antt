@@ -19,9 +19,8 @@ use Rattle.tree.specs.ValuesLaws.{root-octets}
 use Rattle.store.specs.Store.{fileLength, pieceLength, factsRoot, blocksOf, heightOf, factsInRange, storeSize, Facts, openAnswer, openAfter, opened}
 use Rattle.store.specs.StoreLaws.{opened-facts, opened-file, opened-piece, opened-facts-root, opened-height}
 use Rattle.pieces.specs.Pieces.{layerOfPieces, pieceHeight}
-use Rattle.pieces.specs.PiecesLaws.{height-root}
+use Rattle.pieces.specs.PiecesLaws.{height-root, piece-length-by-layer}
 use Rattle.leaves.specs.Leaves.{leavesAnswer}
-use Rattle.leaves.specs.Taught.{plen-form}
 use Rattle.words.specs.Held.{Holds}
 use Rattle.words.specs.History.{Bytes, OurStore, ours, byOpening, begin}
 use Rattle.words.specs.File.{For, pieceFor}
@@ -83,7 +82,7 @@ module _ (b file : List ℕ) (plen : ℕ) (bb : Bytes b) (z : openAnswer b (leng
   whole =
       let e : blockLength * 2 ^ layerOfPieces s * 0 ≡ 0 = omega arith in
       ap (λ (x : ℕ). cut file x (blockLength * 2 ^ layerOfPieces s)) e
-      ∙ cut-whole file (blockLength * 2 ^ layerOfPieces s) (omega (arith, plen-form s facts, piece-length))
+      ∙ cut-whole file (blockLength * 2 ^ layerOfPieces s) (omega (arith, piece-length-by-layer s facts, piece-length))
 
   some-block : 0 < blocksOf s
   unfolding blocksOf blockCount

@@ -116,8 +116,8 @@ module _ (a b c d : List ℕ) (la : length a ≡ 32) (lb : length b ≡ 32) (lc 
     well : Formed fresh (firstPair a b c d)
     unfolding fresh messageSize rulesKept lengthRule indexRule height heightFrom
     well =
-        well-formed-in (rootOf a b c d) numbers ((a ++ b) ++ (c ++ d)) root-size refl fresh header 5 3 header-is
-        (opened-usable buffer 81920 plen (rootOf a b c d) range fits root-size) (opened-facts-root buffer 81920 plen (rootOf a b c d) range fits root-size) blocks high refl size-is
+        well-formed-in (rootOf a b c d) numbers ((a ++ b) ++ (c ++ d)) root-size refl fresh header 3 header-is
+        (opened-usable buffer 81920 plen (rootOf a b c d) range fits root-size) (opened-facts-root buffer 81920 plen (rootOf a b c d) range fits root-size) high refl size-is
 
     agree : agrees fresh (settled (firstPair a b c d) place) ≡ true
     unfolding fresh agrees settled subtree path sibling worked risen

@@ -16,7 +16,7 @@ pub range : factsInRange 32768 16384 ≡ true
 unfolding factsInRange isPieceLength pieceLayer height heightFrom
 range = refl
 
-one-high : height (blockCount 32768) ≡ 1
+pub one-high : height (blockCount 32768) ≡ 1
 unfolding height heightFrom blockCount ceilDiv
 one-high = refl
 

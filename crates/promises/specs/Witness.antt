@@ -11,7 +11,7 @@ use lib.ListN.{length, getD, replicate, length-replicate}
 use lib.Dec.{lit<}
 use Rattle.octets.specs.Octets.{Octets, be, zeroHash}
 use Rattle.numbers.specs.Numbers.{done}
-use Rattle.octets.specs.OctetsLaws.{same-eq, zero-octets, be-octets, append-octets, cut-append-left}
+use Rattle.octets.specs.OctetsLaws.{same-eq, zero-octets, be-octets, append-octets, cut-append-left, one-byte}
 use Rattle.sha256.specs.Sha256.{pairHash}
 use Rattle.sha256.specs.Sha256Laws.{pair-octets}
 use Rattle.tree.specs.Geometry.{nodeNumber, hasLayer, pieceCount, ceilDiv, blockCount, blockSize, heightFrom, height, pieceLayer, isPieceLength}
@@ -52,14 +52,11 @@ use Rattle.knowledge.specs.FormedWhen.{well-formed}
 use Rattle.promises.specs.Marks.{marked-after}
 
 -- the message is a string of bytes
-one-byte : Octets 1 (hashesId ∷ [])
-one-byte = be-octets 1 hashesId
-
 four-numbers : Octets 16 (be 4 0 ++ (be 4 0 ++ (be 4 2 ++ be 4 0)))
 four-numbers = append-octets (be-octets 4 0) (append-octets (be-octets 4 0) (append-octets (be-octets 4 2) (be-octets 4 0)))
 
 leaves-bytes : (a b : List ℕ) → Octets 32 a → Octets 32 b → Bytes (twoLeaves a b)
-leaves-bytes a b oa ob = sized-bytes 113 (twoLeaves a b) (append-octets one-byte (append-octets (pair-octets a b) (append-octets four-numbers (append-octets oa ob))))
+leaves-bytes a b oa ob = sized-bytes 113 (twoLeaves a b) (append-octets (one-byte hashesId (omega arith)) (append-octets (pair-octets a b) (append-octets four-numbers (append-octets oa ob))))
 
 -- hash j of the message is leaf j
 module _ (a b : List ℕ) (oa : Octets 32 a) (ob : Octets 32 b) (buffer : List ℕ) (fits : storeSize 32768 ≤ length buffer) where

@@ -37,7 +37,7 @@ pub message-for-one-byte : (s m : List ℕ) → usable s ≡ true → fileLength
 unfolding heightOf blocksOf
 message-for-one-byte s m u n r =
     let h : height (blockCount (fileLength s)) ≡ 0 = ap (λ (x : ℕ). height (blockCount x)) n ∙ n-1 in
-    broken-3 s m u r (ap (rulesKept (headerOf m) (blockCount (fileLength s))) h ∙ no-rule-at-height-0 (headerOf m) (blockCount (fileLength s)))
+    broken-3 s m u r (ap (rulesKept (headerOf m)) h ∙ no-rule-at-height-0 (headerOf m))
 
 pub request-for-one-byte : (s m out : List ℕ) → usable s ≡ true → fileLength s ≡ 1 → isRequest m ≡ true → same (factsRoot s) (messageRoot m) ≡ true → headerSize ≤ length out
     → serveAnswer s m out .number ≡ ruleBroken
@@ -82,7 +82,7 @@ header base index len proof = record { base = base; index = index; len = len; pr
 
 -- "(0,0,2,2): u=2, 177 bytes, anchor the root, 6 new on a fresh store."
 pub message-0-0-2-2 :
-    (rulesKept (header 0 0 2 2) 5 3 ≡ true) × (placeOf (header 0 0 2 2) 3 .u ≡ 2) × (messageSize (header 0 0 2 2) ≡ 177) × (anchor (placeOf (header 0 0 2 2) 3) ≡ nodeNumber 3 3 0)
+    (rulesKept (header 0 0 2 2) 3 ≡ true) × (placeOf (header 0 0 2 2) 3 .u ≡ 2) × (messageSize (header 0 0 2 2) ≡ 177) × (anchor (placeOf (header 0 0 2 2) 3) ≡ nodeNumber 3 3 0)
 unfolding rulesKept lengthRule indexRule placeOf messageSize anchor ancestor nodeNumber heightFrom height
 message-0-0-2-2 = (refl, refl, refl, refl)
 
@@ -93,17 +93,17 @@ unfolding takeAnswer
 six-new = Rattle.knowledge.specs.ByHand.six-new
 
 -- "(0,4,4,2): u=1, 209 bytes."
-pub message-0-4-4-2 : (rulesKept (header 0 4 4 2) 5 3 ≡ true) × (placeOf (header 0 4 4 2) 3 .u ≡ 1) × (messageSize (header 0 4 4 2) ≡ 209)
+pub message-0-4-4-2 : (rulesKept (header 0 4 4 2) 3 ≡ true) × (placeOf (header 0 4 4 2) 3 .u ≡ 1) × (messageSize (header 0 4 4 2) ≡ 209)
 unfolding rulesKept lengthRule indexRule placeOf messageSize nodeNumber heightFrom height
 message-0-4-4-2 = (refl, refl, refl)
 
 -- "(0,0,4,1): u=0, anchor in layer 2."
-pub message-0-0-4-1 : (rulesKept (header 0 0 4 1) 5 3 ≡ true) × (placeOf (header 0 0 4 1) 3 .u ≡ 0) × (anchor (placeOf (header 0 0 4 1) 3) ≡ nodeNumber 3 2 0)
+pub message-0-0-4-1 : (rulesKept (header 0 0 4 1) 3 ≡ true) × (placeOf (header 0 0 4 1) 3 .u ≡ 0) × (anchor (placeOf (header 0 0 4 1) 3) ≡ nodeNumber 3 2 0)
 unfolding rulesKept lengthRule indexRule placeOf messageSize anchor ancestor nodeNumber heightFrom height
 message-0-0-4-1 = (refl, refl, refl)
 
 -- "(1,2,2,1): u=1."
-pub message-1-2-2-1 : (rulesKept (header 1 2 2 1) 5 3 ≡ true) × (placeOf (header 1 2 2 1) 3 .u ≡ 1)
+pub message-1-2-2-1 : (rulesKept (header 1 2 2 1) 3 ≡ true) × (placeOf (header 1 2 2 1) 3 .u ≡ 1)
 unfolding rulesKept lengthRule indexRule placeOf messageSize nodeNumber heightFrom height
 message-1-2-2-1 = (refl, refl)
 
@@ -111,7 +111,7 @@ message-1-2-2-1 = (refl, refl)
 
 -- a run wholly in padding, from its first leaf to its anchor, (0,6,2,0): not 3 any more
 pub message-0-6-2-0 :
-    (rulesKept (header 0 6 2 0) 5 3 ≡ true) × (messageSize (header 0 6 2 0) ≡ 113) × (anchor (placeOf (header 0 6 2 0) 3) ≡ nodeNumber 3 1 3) × Padding 5 0 6 × Padding 5 1 3
+    (rulesKept (header 0 6 2 0) 3 ≡ true) × (messageSize (header 0 6 2 0) ≡ 113) × (anchor (placeOf (header 0 6 2 0) 3) ≡ nodeNumber 3 1 3) × Padding 5 0 6 × Padding 5 1 3
 unfolding rulesKept lengthRule indexRule placeOf messageSize anchor ancestor nodeNumber heightFrom height Padding
 message-0-6-2-0 = (refl, refl, refl, omega arith, omega arith)
 
@@ -132,16 +132,16 @@ pub past-blocks-taken : (file : List ℕ) {s : List ℕ} → OurStore s → For 
 past-blocks-taken = Rattle.promises.specs.PastTheBlocks.past-blocks-taken
 
 -- with an uncle, (0,6,2,1): the uncle, index 2 of layer 1, covers block 4 and is no padding
-pub message-0-6-2-1 : (rulesKept (header 0 6 2 1) 5 3 ≡ true) × (placeOf (header 0 6 2 1) 3 .u ≡ 1) × (sibling 3 ≡ 2) × (Padding 5 1 2 → ⊥)
+pub message-0-6-2-1 : (rulesKept (header 0 6 2 1) 3 ≡ true) × (placeOf (header 0 6 2 1) 3 .u ≡ 1) × (sibling 3 ≡ 2) × (Padding 5 1 2 → ⊥)
 unfolding rulesKept lengthRule indexRule placeOf nodeNumber heightFrom height sibling Padding
 message-0-6-2-1 = (refl, refl, refl, λ p. omega arith)
 
 -- runs half in padding, (0,4,2,0) and (1,2,2,0): the second hash is padding, the first is not
-pub message-0-4-2-0 : (rulesKept (header 0 4 2 0) 5 3 ≡ true) × (Padding 5 0 4 → ⊥) × Padding 5 0 5
+pub message-0-4-2-0 : (rulesKept (header 0 4 2 0) 3 ≡ true) × (Padding 5 0 4 → ⊥) × Padding 5 0 5
 unfolding rulesKept lengthRule indexRule heightFrom height Padding
 message-0-4-2-0 = (refl, λ p. omega arith, omega arith)
 
-pub message-1-2-2-0 : (rulesKept (header 1 2 2 0) 5 3 ≡ true) × (Padding 5 1 2 → ⊥) × Padding 5 1 3
+pub message-1-2-2-0 : (rulesKept (header 1 2 2 0) 3 ≡ true) × (Padding 5 1 2 → ⊥) × Padding 5 1 3
 unfolding rulesKept lengthRule indexRule heightFrom height Padding
 message-1-2-2-0 = (refl, λ p. omega arith, omega arith)
 
@@ -151,27 +151,27 @@ message-1-2-2-0 = (refl, λ p. omega arith, omega arith)
 pub refused-0-0-2-3 : (s m : List ℕ) → usable s ≡ true → fileLength s ≡ 81920 → same (factsRoot s) (messageRoot m) ≡ true → headerOf m ≡ header 0 0 2 3 → Refused3 s m
 refused-0-0-2-3 s m u n r e = broken-3 s m u r (of-five s m (header 0 0 2 3) n e fails)
   where
-    fails : rulesKept (header 0 0 2 3) 5 3 ≡ false
+    fails : rulesKept (header 0 0 2 3) 3 ≡ false
     fails = unfold rulesKept lengthRule indexRule heightFrom height in refl
 
 -- "(1,0,2,4294967295)"
 pub refused-1-0-2-large : (s m : List ℕ) → usable s ≡ true → fileLength s ≡ 81920 → same (factsRoot s) (messageRoot m) ≡ true → headerOf m ≡ header 1 0 2 4294967295 → Refused3 s m
 refused-1-0-2-large s m u n r e = broken-3 s m u r (of-five s m (header 1 0 2 4294967295) n e fails)
   where
-    fails : rulesKept (header 1 0 2 4294967295) 5 3 ≡ false
+    fails : rulesKept (header 1 0 2 4294967295) 3 ≡ false
     fails = unfold rulesKept lengthRule indexRule heightFrom height in refl
 
 -- one past the layer, (0,8,2,0), and an index whose sum with the length is 2^32
 pub refused-0-8-2-0 : (s m : List ℕ) → usable s ≡ true → fileLength s ≡ 81920 → same (factsRoot s) (messageRoot m) ≡ true → headerOf m ≡ header 0 8 2 0 → Refused3 s m
 refused-0-8-2-0 s m u n r e = broken-3 s m u r (of-five s m (header 0 8 2 0) n e fails)
   where
-    fails : rulesKept (header 0 8 2 0) 5 3 ≡ false
+    fails : rulesKept (header 0 8 2 0) 3 ≡ false
     fails = unfold rulesKept lengthRule indexRule heightFrom height in refl
 
 pub refused-0-large-2-0 : (s m : List ℕ) → usable s ≡ true → fileLength s ≡ 81920 → same (factsRoot s) (messageRoot m) ≡ true → headerOf m ≡ header 0 4294967294 2 0 → Refused3 s m
 refused-0-large-2-0 s m u n r e = broken-3 s m u r (of-five s m (header 0 4294967294 2 0) n e fails)
   where
-    fails : rulesKept (header 0 4294967294 2 0) 5 3 ≡ false
+    fails : rulesKept (header 0 4294967294 2 0) 3 ≡ false
     fails = unfold rulesKept lengthRule indexRule heightFrom height in refl
 
 -- ---- 02, request 6: "length up to 8192 instead of 512, N up to 2^34 (h up to 20)"
@@ -187,7 +187,7 @@ n-longest = (refl, refl, refl, refl, refl, refl)
 pub refused-0-0-1024-0 : (s m : List ℕ) → usable s ≡ true → fileLength s ≡ 81920 → same (factsRoot s) (messageRoot m) ≡ true → headerOf m ≡ header 0 0 1024 0 → Refused3 s m
 refused-0-0-1024-0 s m u n r e = broken-3 s m u r (of-five s m (header 0 0 1024 0) n e fails)
   where
-    fails : rulesKept (header 0 0 1024 0) 5 3 ≡ false
+    fails : rulesKept (header 0 0 1024 0) 3 ≡ false
     fails = unfold rulesKept lengthRule indexRule heightFrom height in refl
 
 -- a header that keeps the rules is not 3, in whichever of the three forms it comes
@@ -195,16 +195,16 @@ abbrev Not3 : List ℕ → List ℕ → Type 0
 Not3 s m =
     (takeAnswer s m .number ≡ ruleBroken → ⊥) × ((out : List ℕ) → serveAnswer s m out .number ≡ ruleBroken → ⊥) × (rejectAnswer s m .number ≡ ruleBroken → ⊥)
 
-kept-not-3 : (s m : List ℕ) → rulesKept (headerOf m) (blocksOf s) (heightOf s) ≡ true → Not3 s m
+kept-not-3 : (s m : List ℕ) → rulesKept (headerOf m) (heightOf s) ≡ true → Not3 s m
 kept-not-3 s m k =
-    let f = rules-kept (headerOf m) (blocksOf s) (heightOf s) k in
+    let f = rules-kept (headerOf m) (heightOf s) k in
     (λ e. take-3 s m .0 e .1 f, λ out e. serve-3 s m out .0 e .0 .3 f, λ e. reject-3 s m .0 e .3 f)
 
 -- in a tree of height 10, B=1024, it is not 3 any more
 pub tall-0-0-1024-0 : (s m : List ℕ) → fileLength s ≡ 16777216 → headerOf m ≡ header 0 0 1024 0 → Not3 s m
 tall-0-0-1024-0 s m n e = kept-not-3 s m kept
   where
-    kept : rulesKept (headerOf m) (blocksOf s) (heightOf s) ≡ true
+    kept : rulesKept (headerOf m) (heightOf s) ≡ true
     kept = unfold heightOf blocksOf ceilDiv blockCount rulesKept lengthRule indexRule heightFrom height in rw (n, e) refl
 
 -- nor is the longest run in the tallest tree, (0,0,8192,19): u=7, 262417 bytes, anchor the root
@@ -216,12 +216,12 @@ message-0-0-8192-19 = (refl, refl, refl)
 pub tall-0-0-8192-19 : (s m : List ℕ) → fileLength s ≡ 2 ^ 34 → headerOf m ≡ header 0 0 8192 19 → Not3 s m
 tall-0-0-8192-19 s m n e = kept-not-3 s m kept
   where
-    kept : rulesKept (headerOf m) (blocksOf s) (heightOf s) ≡ true
+    kept : rulesKept (headerOf m) (heightOf s) ≡ true
     kept = unfold heightOf blocksOf ceilDiv blockCount rulesKept lengthRule indexRule heightFrom height in rw (n, e) refl
 
 -- length 16384 is 3 in every usable store
 pub refused-16384 : (s m : List ℕ) → usable s ≡ true → same (factsRoot s) (messageRoot m) ≡ true → headerOf m .len ≡ 16384 → Refused3 s m
 refused-16384 s m u r e = broken-3 s m u r fails
   where
-    fails : rulesKept (headerOf m) (blocksOf s) (heightOf s) ≡ false
+    fails : rulesKept (headerOf m) (heightOf s) ≡ false
     fails = unfold rulesKept lengthRule heightFrom height in rw e refl

@@ -21,14 +21,14 @@ fn show(line: Line) {
 }
 
 // A piece of the input, line by line.
-fn pass(p: Progress, s: &mut [u8], room: &mut [u8], piece: &[u8]) -> Progress
-    requires { ⌜ S.Lent p (length (now s)) (length (now room)) ⌝ }
+fn pass(progress: Progress, store: &mut [u8], room: &mut [u8], piece: &[u8]) -> Progress
+    requires { ⌜ S.Lent progress (length (now store)) (length (now room)) ⌝ }
     ensures { λ r. ⌜ S.Due (r .phase) (r .at) ⌝ }
 {
-    let mut q = p;
+    let mut q = progress;
     let mut at: usize = 0;
     while at < piece.len() {
-        let part = session::take_piece(q, s, room, &piece[at..]);
+        let part = session::take_piece(q, store, room, &piece[at..]);
         let line = part.line;
         show(line);
         let next = part.progress;
@@ -39,8 +39,8 @@ fn pass(p: Progress, s: &mut [u8], room: &mut [u8], piece: &[u8]) -> Progress
 }
 
 // The whole input. A proved loop has to end, and nothing says that an input does: the turns are counted down from a number that no run uses up.
-fn pass_all(s: &mut [u8], room: &mut [u8], buf: &mut [u8]) -> Progress
-    requires { ⌜ (S.maxStore ≤ length (now s)) × (S.maxMessage ≤ length (now room)) ⌝ }
+fn pass_all(store: &mut [u8], room: &mut [u8], buf: &mut [u8]) -> Progress
+    requires { ⌜ (S.maxStore ≤ length (now store)) × (S.maxMessage ≤ length (now room)) ⌝ }
 {
     let mut q = session::start();
     let mut turns = u64::MAX;
@@ -50,7 +50,7 @@ fn pass_all(s: &mut [u8], room: &mut [u8], buf: &mut [u8]) -> Progress
             return q;
         }
         let n = io::count(got, buf);
-        q = pass(q, s, room, &buf[..n]);
+        q = pass(q, store, room, &buf[..n]);
         turns -= 1;
     }
     q

@@ -29,21 +29,24 @@ pub struct State {
     pub h: u32,
 }
 
-// A round takes its two words K_t and W_t by their sum x alone.
-pub fn round(s: State, x: u32) -> State
-    ensures { λ r. ⌜ r ≡ S.round s x 0 ⌝ }
+// A round takes its two words K_t and W_t by their `sum` alone.
+pub fn round(state: State, sum: u32) -> State
+    ensures { λ r. ⌜ r ≡ S.round state sum 0 ⌝ }
 {
-    let t1 = add(add(add(s.h, x), ch(s.e, s.f, s.g)), big1(s.e));
-    let t2 = add(big0(s.a), maj(s.a, s.b, s.c));
+    let t1 = add(
+        add(add(state.h, sum), ch(state.e, state.f, state.g)),
+        big1(state.e),
+    );
+    let t2 = add(big0(state.a), maj(state.a, state.b, state.c));
     State {
         a: add(t1, t2),
-        b: s.a,
-        c: s.b,
-        d: s.c,
-        e: add(s.d, t1),
-        f: s.e,
-        g: s.f,
-        h: s.g,
+        b: state.a,
+        c: state.b,
+        d: state.c,
+        e: add(state.d, t1),
+        f: state.e,
+        g: state.f,
+        h: state.g,
     }
 }
 
@@ -63,13 +66,13 @@ fn sum(s: State, t: State) -> State
 }
 
 // The sixteen words of the block that starts at `at`, into the first sixteen of w.
-fn load(w: &mut [u32; 64], s: &[u8], at: usize)
-    requires { ⌜ (at + 64 ≤ length (now s)) × (length (now w) ≡ 64) ⌝ }
-    ensures { λ _. ⌜ (length (now (w .exit)) ≡ 64) × (take 16 (now (w .exit)) ≡ words 16 (take 64 (drop at (now (s .entry))))) ⌝ }
+fn load(w: &mut [u32; 64], bytes: &[u8], at: usize)
+    requires { ⌜ (at + 64 ≤ length (now bytes)) × (length (now w) ≡ 64) ⌝ }
+    ensures { λ _. ⌜ (length (now (w .exit)) ≡ 64) × (take 16 (now (w .exit)) ≡ words 16 (take 64 (drop at (now (bytes .entry))))) ⌝ }
 {
     let mut i: usize = 0;
     while i < 16 {
-        w[i] = word(s, at + i * 4);
+        w[i] = word(bytes, at + i * 4);
         i += 1;
     }
 }
@@ -97,11 +100,11 @@ fn grow4(w: &mut [u32; 64], i: usize)
 }
 
 // The message schedule of the block that starts at `at`.
-fn fill(w: &mut [u32; 64], s: &[u8], at: usize)
-    requires { ⌜ (at + 64 ≤ length (now s)) × (length (now w) ≡ 64) ⌝ }
-    ensures { λ _. ⌜ now (w .exit) ≡ S.schedule 48 (take 64 (drop at (now (s .entry)))) ⌝ }
+fn fill(w: &mut [u32; 64], bytes: &[u8], at: usize)
+    requires { ⌜ (at + 64 ≤ length (now bytes)) × (length (now w) ≡ 64) ⌝ }
+    ensures { λ _. ⌜ now (w .exit) ≡ S.schedule 48 (take 64 (drop at (now (bytes .entry)))) ⌝ }
 {
-    load(&mut *w, s, at);
+    load(&mut *w, bytes, at);
     let mut i: usize = 0;
     while i <= 44 {
         grow4(&mut *w, i);
@@ -153,25 +156,25 @@ fn step16(st: State, x: &[u32; 64], i: usize) -> State
 }
 
 // The rounds of a block whose schedule is given with the round words added, and their sum with the state before.
-pub fn compress_sums(st: State, x: &[u32; 64]) -> State
-    ensures { λ r. ⌜ r ≡ S.plus st (roundsBy (now (x .entry)) 64 st) ⌝ }
+pub fn compress_sums(state: State, sums: &[u32; 64]) -> State
+    ensures { λ r. ⌜ r ≡ S.plus state (roundsBy (now (sums .entry)) 64 state) ⌝ }
 {
-    let mut t = st;
+    let mut t = state;
     let mut i: usize = 0;
     while i <= 48 {
-        t = step16(t, x, i);
+        t = step16(t, sums, i);
         i += 16;
     }
-    sum(st, t)
+    sum(state, t)
 }
 
-// The block of s at `at`.
-pub fn compress(st: State, k: &[u32; 64], s: &[u8], at: usize) -> State
-    requires { ⌜ at + 64 ≤ length (now s) ⌝ }
-    ensures { λ r. ⌜ r ≡ S.compress (now (k .entry)) st (take 64 (drop at (now (s .entry)))) ⌝ }
+// The block of `bytes` at `at`.
+pub fn compress(state: State, k: &[u32; 64], bytes: &[u8], at: usize) -> State
+    requires { ⌜ at + 64 ≤ length (now bytes) ⌝ }
+    ensures { λ r. ⌜ r ≡ S.compress (now (k .entry)) state (take 64 (drop at (now (bytes .entry)))) ⌝ }
 {
     let mut w = [0u32; 64];
-    fill(&mut w, s, at);
+    fill(&mut w, bytes, at);
     add_round_words(&mut w, k);
-    compress_sums(st, &w)
+    compress_sums(state, &w)
 }

@@ -49,13 +49,13 @@ fn sum(s: Five, t: Five) -> Five
 }
 
 // The sixteen words of the block that starts at `at`, into the first sixteen of w.
-fn load(w: &mut [u32; 80], s: &[u8], at: usize)
-    requires { ⌜ (at + 64 ≤ length (now s)) × (length (now w) ≡ 80) ⌝ }
-    ensures { λ _. ⌜ (length (now (w .exit)) ≡ 80) × (take 16 (now (w .exit)) ≡ words 16 (take 64 (drop at (now (s .entry))))) ⌝ }
+fn load(w: &mut [u32; 80], bytes: &[u8], at: usize)
+    requires { ⌜ (at + 64 ≤ length (now bytes)) × (length (now w) ≡ 80) ⌝ }
+    ensures { λ _. ⌜ (length (now (w .exit)) ≡ 80) × (take 16 (now (w .exit)) ≡ words 16 (take 64 (drop at (now (bytes .entry))))) ⌝ }
 {
     let mut i: usize = 0;
     while i < 16 {
-        w[i] = word(s, at + i * 4);
+        w[i] = word(bytes, at + i * 4);
         i += 1;
     }
 }
@@ -80,11 +80,11 @@ fn grow4(w: &mut [u32; 80], i: usize)
 }
 
 // The message schedule of the block that starts at `at`.
-fn fill(w: &mut [u32; 80], s: &[u8], at: usize)
-    requires { ⌜ (at + 64 ≤ length (now s)) × (length (now w) ≡ 80) ⌝ }
-    ensures { λ _. ⌜ now (w .exit) ≡ S.schedule 64 (take 64 (drop at (now (s .entry)))) ⌝ }
+fn fill(w: &mut [u32; 80], bytes: &[u8], at: usize)
+    requires { ⌜ (at + 64 ≤ length (now bytes)) × (length (now w) ≡ 80) ⌝ }
+    ensures { λ _. ⌜ now (w .exit) ≡ S.schedule 64 (take 64 (drop at (now (bytes .entry)))) ⌝ }
 {
-    load(&mut *w, s, at);
+    load(&mut *w, bytes, at);
     let mut i: usize = 0;
     while i <= 60 {
         grow4(&mut *w, i);
@@ -190,16 +190,16 @@ fn majorities(st: Five, w: &[u32; 80]) -> Five
     t
 }
 
-// The block of s at `at`.
-pub fn compress(st: Five, s: &[u8], at: usize) -> Five
-    requires { ⌜ at + 64 ≤ length (now s) ⌝ }
-    ensures { λ r. ⌜ r ≡ S.compress st (take 64 (drop at (now (s .entry)))) ⌝ }
+// The block of `bytes` at `at`.
+pub fn compress(state: Five, bytes: &[u8], at: usize) -> Five
+    requires { ⌜ at + 64 ≤ length (now bytes) ⌝ }
+    ensures { λ r. ⌜ r ≡ S.compress state (take 64 (drop at (now (bytes .entry)))) ⌝ }
 {
     let mut w = [0u32; 80];
-    fill(&mut w, s, at);
-    let t20 = choices(st, &w);
+    fill(&mut w, bytes, at);
+    let t20 = choices(state, &w);
     let t40 = parities(t20, &w, 0x6ed9_eba1, 20);
     let t60 = majorities(t40, &w);
     let t80 = parities(t60, &w, 0xca62_c1d6, 60);
-    sum(st, t80)
+    sum(state, t80)
 }

@@ -69,19 +69,19 @@ pub fn is_possible(tail_size: u64, total: u64) -> bool
     false
 }
 
-// The state after a burst s.
-pub fn absorb(h: Hashing, s: &[u8]) -> Hashing
-    requires { ⌜ (h .«tail_size» ≡ h .total % 64) × (h .total + length (now s) < 2 ^ 64) ⌝ }
-    ensures { λ r. ⌜ (r ≡ B.absorbed h (now (s .entry))) × (r .«tail_size» ≡ r .total % 64) ⌝ }
+// The state after a `burst`.
+pub fn absorb(hashing: Hashing, burst: &[u8]) -> Hashing
+    requires { ⌜ (hashing .«tail_size» ≡ hashing .total % 64) × (hashing .total + length (now burst) < 2 ^ 64) ⌝ }
+    ensures { λ r. ⌜ (r ≡ B.absorbed hashing (now (burst .entry))) × (r .«tail_size» ≡ r .total % 64) ⌝ }
 {
-    let n = h.tail_size as usize;
-    let total = h.total + s.len() as u64;
+    let n = hashing.tail_size as usize;
+    let total = hashing.total + burst.len() as u64;
     let room = 64 - n;
-    let words = h.words;
-    let old = h.tail;
-    if s.len() < room {
-        let tail = filled(old, n, s);
-        let size = n + s.len();
+    let words = hashing.words;
+    let old = hashing.tail;
+    if burst.len() < room {
+        let tail = filled(old, n, burst);
+        let size = n + burst.len();
         return Hashing {
             words,
             tail,
@@ -89,10 +89,10 @@ pub fn absorb(h: Hashing, s: &[u8]) -> Hashing
             total,
         };
     }
-    let first = filled(old, n, &s[0..room]);
+    let first = filled(old, n, &burst[0..room]);
     let k = constants::round_words();
     let t = rounds::compress(from_words(words), &k, &first, 0);
-    let rest = &s[room..];
+    let rest = &burst[room..];
     let u = sha256::whole_blocks(t, &k, rest);
     let at = rest.len() - rest.len() % 64;
     let left = &rest[at..];
@@ -106,46 +106,46 @@ pub fn absorb(h: Hashing, s: &[u8]) -> Hashing
 }
 
 // The hash of the bytes so far.
-pub fn hash_of(h: Hashing) -> [u8; 32]
-    requires { ⌜ h .«tail_size» ≡ h .total % 64 ⌝ }
-    ensures { λ r. ⌜ r ≡ B.hashOf h ⌝ }
+pub fn hash_of(hashing: Hashing) -> [u8; 32]
+    requires { ⌜ hashing .«tail_size» ≡ hashing .total % 64 ⌝ }
+    ensures { λ r. ⌜ r ≡ B.hashOf hashing ⌝ }
 {
     let k = constants::round_words();
-    let n = (h.total % 64) as usize;
-    let words = h.words;
-    let tail = h.tail;
-    sha256::digest(sha256::finish(from_words(words), &k, &tail[0..n], h.total))
+    let n = (hashing.total % 64) as usize;
+    let words = hashing.words;
+    let tail = hashing.tail;
+    sha256::digest(sha256::finish(from_words(words), &k, &tail[0..n], hashing.total))
 }
 
-// Takes a burst s: 9 for counts that no bursts give, 4 past the longest string that has a hash, else 0 and the state after it.
-pub fn more(h: Hashing, s: &[u8]) -> HashingAnswer
-    ensures { λ r. ⌜ r ≡ B.moreAnswer h (now (s .entry)) ⌝ }
+// Takes a `burst`: 9 for counts that no bursts give, 4 past the longest string that has a hash, else 0 and the state after it.
+pub fn more(hashing: Hashing, burst: &[u8]) -> HashingAnswer
+    ensures { λ r. ⌜ r ≡ B.moreAnswer hashing (now (burst .entry)) ⌝ }
 {
-    if is_possible(h.tail_size, h.total) {
-        let left = limits::LONGEST_HASHED - h.total as usize;
-        if s.len() <= left {
+    if is_possible(hashing.tail_size, hashing.total) {
+        let left = limits::LONGEST_HASHED - hashing.total as usize;
+        if burst.len() <= left {
             return HashingAnswer {
                 number: 0,
-                hashing: absorb(h, s),
+                hashing: absorb(hashing, burst),
             };
         }
         return HashingAnswer {
             number: numbers::WRONG_SIZE,
-            hashing: h,
+            hashing: hashing,
         };
     }
     HashingAnswer {
         number: numbers::UNUSABLE,
-        hashing: h,
+        hashing: hashing,
     }
 }
 
 // The hash of the bytes so far; 9 for counts that no bursts give. The state is a copy: it may go on.
-pub fn end(h: Hashing) -> Hashed
-    ensures { λ r. ⌜ r ≡ B.endAnswer h ⌝ }
+pub fn end(hashing: Hashing) -> Hashed
+    ensures { λ r. ⌜ r ≡ B.endAnswer hashing ⌝ }
 {
-    if is_possible(h.tail_size, h.total) {
-        let hash = hash_of(h);
+    if is_possible(hashing.tail_size, hashing.total) {
+        let hash = hash_of(hashing);
         return Hashed { number: 0, hash };
     }
     let none = [0u8; 32];

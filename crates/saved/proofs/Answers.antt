@@ -1,7 +1,7 @@
 -- What each function answers, from what its callees ensure and the tests it took: every answer is one case of the definition.
 use mathlib.Core.Path.{_≡_, refl, ap, ap₂, sym, _∙_}
 use mathlib.Core.List.{List}
-use mathlib.Core.Bool.{Bool, true, false, cond, _&&_, and-eq-true-iff}
+use mathlib.Core.Bool.{Bool, true, false, cond, _&&_, and-eq-true-iff, and-false}
 use Prim.Native.Nat.{ℕ, zero, suc, _+_, _-_, _*_, _/_, _%_, _^_, _≤_, _<_}
 use native.Mathlib.Omega.{arith}
 use native.Mathlib.Decide.{ℕ-discrete}
@@ -45,10 +45,6 @@ use Rattle.store.specs.StoreLaws.{open-done}
 use Rattle.saved.specs.RankLaws.{rank-most, width-most}
 use Rattle.saved.specs.SoundLaws.{place-at}
 use Rattle.saved.specs.ClaimedLaws.{claimed-none}
-
-and-false : (x : Bool) → (x && false) ≡ false
-and-false true = refl
-and-false false = refl
 
 -- ---- whether the length fits
 
@@ -476,14 +472,6 @@ module _ (s₀ b s : List ℕ) (at m k x : ℕ) (f : Facts s₀) (g : marksGood 
       q ∙ ap₂ (λ (t : List ℕ) (y : ℕ). marksPut t y 1 marked) e ex ∙ sym (marks-set-next s₀ b at k) ∙ ap (marksSet s₀ b at) (sym (add-one k))
 
 -- ---- all of it
-
-pub sound-formed : (b : List ℕ) → sound b ≡ true → formed b ≡ true
-unfolding sound
-sound-formed b g = and-eq-true-iff (formed b) (rootRight (heightIn b) b) .0 (and-eq-true-iff (formed b && rootRight (heightIn b) b) (chained (heightIn b) (blocksIn b) b) .0 g .0) .0
-
-pub rooted-formed : (b : List ℕ) → rooted b ≡ true → formed b ≡ true
-unfolding rooted
-rooted-formed b g = and-eq-true-iff (formed b) (rootRight (heightIn b) b) .0 g .0
 
 pub kept-written : (s b : List ℕ) (t : List ℕ) (h c p kept : ℕ) (u : List ℕ) → h ≡ heightIn b → c ≡ blocksIn b → p ≡ placeCount b → t ≡ begun s b → kept ≡ mendedMany h c b t (p - 1) → u ≡ mended h c b t (p - 1)
     → (kept + 1 ≡ repairedMany s b) × (u ≡ repaired s b)

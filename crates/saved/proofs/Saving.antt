@@ -6,12 +6,11 @@ use Prim.Native.Nat.{ℕ, zero, suc, _+_, _-_, _*_, _%_, _^_, _≤_, _<_}
 use native.Mathlib.Omega.{arith}
 use native.Mathlib.Decide.{ℕ-discrete}
 use native.Mathlib.Numerals.{add-one}
-use lib.ListN.{length, set, take, drop, length-append, length-set}
-use lib.Seq.{set-split, append-snoc}
+use lib.ListN.{length, set, length-append, length-set}
 use lib.Dec.{leb}
 use borrow.Author.Tests.{le-leb, lt-leb}
 use Rattle.octets.specs.Octets.{be, pasted}
-use Rattle.octets.specs.OctetsLaws.{be-octets, cut-length, pasted-append, pasted-length, pasted-none}
+use Rattle.octets.specs.OctetsLaws.{be-octets, cut-length, pasted-append, pasted-length, pasted-none, set-pasted}
 use Rattle.limits.specs.Limits.{tallestTree}
 use Rattle.numbers.specs.Numbers.{refused, done, unusable, noRoom}
 use Rattle.numbers.specs.declared.Answer.{Answer}
@@ -75,13 +74,6 @@ count-turn s h l i n r t e le f q = by t refl
         let w : r ≡ n = q ∙ ap (λ (x : Bool). cond x (n + 1) n) z in
         let p : length (placeHeld s h l i) ≡ 0 = place-long s h l i t f ∙ ap (λ (x : Bool). cond x 1 0) z in
         (omega (arith, a), omega arith)
-
--- one byte written
-set-pasted : (out : List ℕ) (at x : ℕ) → at < length out → set out at x ≡ pasted out at (x ∷ [])
-set-pasted out at x l = unfold pasted in set-split out at x l ∙ whole
-  where
-    whole : take at out ++ x ∷ drop (suc at) out ≡ take at out ++ (x ∷ []) ++ drop (at + length {A = ℕ} (x ∷ [])) out
-    whole = let e : suc at ≡ at + 1 = omega arith in rw e (sym (append-snoc (take at out) x (drop (at + 1) out)))
 
 -- a mark is one byte
 pub mark-set : (s : List ℕ) (start x : ℕ) → start ≡ marksStart s → start + x < length s → set s (start + x) 1 ≡ marksPut s x 1 1

@@ -78,7 +78,8 @@ module _ (s : List ℕ) (h : ℕ) where
       let q : heldCount (2 ^ (h - h) - 1) s ≡ 0 = ap (λ (k : ℕ). heldCount k s) e ∙ count-none in
       omega (arith, below-count h (omega arith), whole-layer h (omega arith))
 
-places-many : (b : List ℕ) (p : ℕ) → length (placesTo b p) ≡ p
+-- a place is read for each record
+pub places-many : (b : List ℕ) (p : ℕ) → length (placesTo b p) ≡ p
 unfolding placesTo
 places-many b zero = refl
 places-many b (suc p) = simp length-append (omega (arith, places-many b p))

@@ -2,7 +2,7 @@
 -- already if it is kept, and two that belong together are neighbours.
 -- Assumes nothing.
 use mathlib.Core.Path.{_≡_, refl, ap, ap₂, sym, _∙_, subst}
-use mathlib.Core.Bool.{Bool, true, false, false≢true, _&&_, and-eq-true-iff}
+use mathlib.Core.Bool.{Bool, true, false, false≢true, _&&_}
 use mathlib.Core.List.{List}
 use mathlib.Core.Logic.{_↔_, _⊎_, inl, inr}
 use Prim.Native.Nat.{ℕ, zero, suc, _+_, _-_, _*_, _/_, _%_, _^_, _≤_, _<_}
@@ -28,7 +28,7 @@ use Rattle.saved.specs.ClausesLaws.{kept-within}
 use Rattle.saved.specs.Form.{rootIn, placeCount, layerIn, indexIn, hashIn, rank, rankIn, placesGood, Placed}
 use Rattle.saved.specs.Saved.{padRight, neighbours, parentIn, joins, withPlace, mended, mendedMany}
 use Rattle.saved.specs.RankLaws.{rank-root, rank-below, rank-parent, rank-next, rank-parity}
-use Rattle.saved.specs.SoundLaws.{PlaceIn, place-at, place-says, pad-says, pad-from, rises, one-record, next-record, record-at, not-root}
+use Rattle.saved.specs.SoundLaws.{PlaceIn, place-at, place-says, pad-says, pad-from, rises, one-record, next-record, record-at, not-root, both, and-two}
 use Rattle.saved.specs.SoundExactly.{RootLast}
 
 -- ---- what the test says
@@ -41,12 +41,6 @@ pub record Joined (h c : ℕ) (b s : List ℕ) (k : ℕ) : Type 0 where
   pub leftPads : padRight c b k ≡ true
   pub rightPads : padRight c b (k + 1) ≡ true
   pub made : pairHash (hashIn b k) (hashIn b (k + 1)) ≡ hashAt s (nodeNumber h (layerIn b k) (indexIn b k) / 2)
-
-both : (x y : Bool) → (x && y) ≡ true → (x ≡ true) × (y ≡ true)
-both x y e = and-eq-true-iff x y .0 e
-
-and-two : (x y : Bool) → x ≡ true → y ≡ true → (x && y) ≡ true
-and-two x y e f = and-eq-true-iff x y .1 (e, f)
 
 module _ (h c : ℕ) (b s : List ℕ) (k : ℕ) where
   near-says : neighbours h b k ≡ true → (rankIn h b (k + 1) ≡ rankIn h b k + 1) × (indexIn b k ≡ 2 * (indexIn b k / 2)) × (layerIn b k < h)

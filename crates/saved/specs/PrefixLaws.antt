@@ -2,7 +2,7 @@
 -- the form.
 -- Assumes nothing.
 use mathlib.Core.Path.{_≡_, ap, sym, _∙_}
-use mathlib.Core.Bool.{Bool, true, _&&_, and-eq-true-iff}
+use mathlib.Core.Bool.{true, _&&_}
 use mathlib.Core.List.{List}
 use Prim.Native.Nat.{ℕ, zero, suc, _+_, _-_, _*_, _≤_, _<_}
 use native.Mathlib.Omega.{arith}
@@ -12,7 +12,7 @@ use lib.Seq.{getD-take, length-take-le}
 use lib.Dec.{eqb, leb, ltb}
 use borrow.Author.Tests.{eqb-true, leb-true, ltb-true}
 use Rattle.saved.specs.Form.{blocksIn, heightIn, markCount, placeCount, blockIn, sized, nextBlock, placesGood, markGood, marksGood, marksFrom, formed}
-use Rattle.saved.specs.SoundLaws.{place-at, place-says}
+use Rattle.saved.specs.SoundLaws.{place-at, place-says, both}
 
 -- the kinds of the records, p positions and m marks
 pub record Kinds (b : List ℕ) (p m : ℕ) : Type 0 where
@@ -60,9 +60,6 @@ same-counts a b p m q n A B l f = by (decLt p q) (decLt q p)
     by (no x) (no y) = let e : p ≡ q = omega arith in (e, marks e)
 
 -- ---- of the form
-
-both : (x y : Bool) → (x && y) ≡ true → (x ≡ true) × (y ≡ true)
-both x y e = and-eq-true-iff x y .0 e
 
 pub mark-at : (c : ℕ) (b : List ℕ) (at m : ℕ) → marksGood c b at m ≡ true → (k : ℕ) → k < m → markGood c b at k ≡ true
 unfolding marksGood

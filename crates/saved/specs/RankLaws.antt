@@ -1,13 +1,14 @@
 -- The order by layer and then index, as a number: the first position of layer 0 is 0, the root the last; the parent of r is 2^h + r / 2.
 -- Assumes nothing.
-use mathlib.Core.Path.{_≡_, ap, sym, _∙_}
+use mathlib.Core.Path.{_≡_, refl, ap, sym, _∙_}
+use mathlib.Core.List.{List}
 use Prim.Native.Nat.{ℕ, suc, _+_, _-_, _*_, _%_, _^_, _≤_, _<_}
 use native.Mathlib.Omega.{arith}
 use native.Mathlib.Nat.{pow-succ', pow-zero}
 use native.Mathlib.Decide.{decLt}
 use lib.Pow.{pow-pos, pow-mono}
 use Rattle.tree.specs.GeometryLaws.{layer-doubles}
-use Rattle.saved.specs.Form.{rank}
+use Rattle.saved.specs.Form.{rank, rankIn, nextRank}
 
 pub width-most : (h l : ℕ) → 2 ^ (h - l) ≤ 2 ^ h
 width-most h l = pow-mono (omega arith)
@@ -63,3 +64,8 @@ rank-distinct h l i m j lh mh ib jb e =
             (q, rank-same h m i j e2)
       ]
     ]
+
+-- behind a record the rank is above its own
+pub rank-after : (h : ℕ) (b : List ℕ) (k : ℕ) → nextRank h b (suc k) ≡ suc (rankIn h b k)
+unfolding nextRank
+rank-after h b k = refl

@@ -5,38 +5,23 @@ use mathlib.Core.Bool.{true, _&&_, and-eq-true-iff}
 use mathlib.Core.List.{List, [], _∷_, _++_, append-assoc, append-nil}
 use Prim.Native.Nat.{ℕ, suc, _+_, _-_, _*_, _^_, _≤_, _<_}
 use native.Mathlib.Omega.{arith}
-use lib.ListN.{length, getD, take, drop, length-append, List·getD-append}
-use lib.Seq.{getD-append-add, drop-append-add, take-append-seam}
+use lib.ListN.{length, getD, take, length-append}
+use lib.Seq.{getD-append-add, take-append-seam}
 use lib.Dec.{eqb, leb, ltb}
 use lib.Pow.{pow-mono}
 use borrow.Author.Tests.{eq-eqb, le-leb, lt-ltb}
 use Rattle.limits.specs.Limits.{tallestTree}
 use Rattle.octets.specs.Octets.{cut, be, numberAt}
-use Rattle.octets.specs.OctetsLaws.{be-octets, number-same, number-of-be}
+use Rattle.octets.specs.OctetsLaws.{number-behind, cut-behind, be-size, number-first}
 use Rattle.tree.specs.Geometry.{blockCount, height}
 use Rattle.store.specs.Store.{inTree}
 use Rattle.saved.specs.Form.{Place, Saved, openingBytes, placeBytes, markBytes, endBytes, placesBytes, marksBytes, savedBytes, rank, Rising, none, more, RisingBlocks, Ordered, lengthIn, pieceLengthIn, rootIn, blocksIn, heightIn, markCount, placeCount, layerIn, indexIn, hashIn, blockIn, rankIn, opens, sized, nextRank, placeGood, placesGood, nextBlock, markGood, marksGood, marksFrom, formed, placeIn, placesTo, marksTo, valueIn}
+use Rattle.saved.specs.RankLaws.{rank-after}
 
 -- ---- numbers among other bytes
 
-number-behind : (a b : List ℕ) (at i k : ℕ) → at ≡ length a + i → numberAt (a ++ b) at k ≡ numberAt b i k
-number-behind a b at i k e =
-    number-same (a ++ b) b at i k
-    (λ j h. let o : at + j ≡ length a + (i + j) = omega arith in ap (λ (z : ℕ). getD (a ++ b) z 0) o ∙ getD-append-add a b (i + j) 0)
-
 byte-behind : (a b : List ℕ) (at i : ℕ) → at ≡ length a + i → getD (a ++ b) at 0 ≡ getD b i 0
 byte-behind a b at i e = ap (λ (z : ℕ). getD (a ++ b) z 0) e ∙ getD-append-add a b i 0
-
-cut-behind : (a b : List ℕ) (at i k : ℕ) → at ≡ length a + i → cut (a ++ b) at k ≡ cut b i k
-unfolding cut
-cut-behind a b at i k e = ap (λ (l : List ℕ). take k l) (ap (λ (z : ℕ). drop z (a ++ b)) e ∙ drop-append-add a b i)
-
-be-size : (k n : ℕ) → length (be k n) ≡ k
-be-size k n = be-octets k n .size
-
-number-first : (k n : ℕ) (b : List ℕ) → n < 256 ^ k → numberAt (be k n ++ b) 0 k ≡ n
-number-first k n b h =
-    number-same (be k n ++ b) (be k n) 0 0 k (λ j l. List·getD-append (be k n) b 0 (0 + j) (omega (arith, be-size k n))) ∙ number-of-be k n h
 
 cut-front : (a b : List ℕ) (n : ℕ) → length a ≡ n → cut (a ++ b) 0 n ≡ a
 unfolding cut
@@ -114,10 +99,6 @@ places-next b k = refl
 good-next : (h : ℕ) (b : List ℕ) (k : ℕ) → placesGood h b k ≡ true → placeGood h b k ≡ true → placesGood h b (suc k) ≡ true
 unfolding placesGood
 good-next h b k x y = and-eq-true-iff (placesGood h b k) (placeGood h b k) .1 (x, y)
-
-rank-after : (h : ℕ) (b : List ℕ) (k : ℕ) → nextRank h b (suc k) ≡ suc (rankIn h b k)
-unfolding nextRank
-rank-after h b k = refl
 
 place-from : (h : ℕ) (b : List ℕ) (k : ℕ) (x : Place) → getD b (45 + 41 * k) 0 ≡ 2 → layerIn b k ≡ x .layer → indexIn b k ≡ x .index → x .layer ≤ h → x .index < 2 ^ (h - x .layer)
     → nextRank h b k ≤ rank h (x .layer) (x .index) → placeGood h b k ≡ true

@@ -1,7 +1,7 @@
 -- The counts beside a repair: the positions then held, and those that are not, of all that the bytes name.
 -- Assumes nothing.
 use mathlib.Core.Path.{_≡_, refl, ap, ap₂, sym, _∙_}
-use mathlib.Core.Bool.{Bool, true, false, and-eq-true-iff}
+use mathlib.Core.Bool.{Bool, true, false}
 use mathlib.Core.List.{List}
 use Prim.Native.Nat.{ℕ, zero, suc, _+_, _-_, _*_, _≤_, _<_}
 use native.Mathlib.Omega.{arith}
@@ -17,9 +17,9 @@ use Rattle.cells.specs.CellsLaws.{put-room, held-put-same, held-put-other}
 use Rattle.cells.specs.Entries.{oneIf}
 use Rattle.store.specs.Store.{positions}
 use Rattle.store.specs.StoreLaws.{heldCount, opened-held, opened-count}
-use Rattle.saved.specs.Form.{lengthIn, pieceLengthIn, rootIn, blocksIn, heightIn, placeCount, layerIn, indexIn, hashIn, rank, placesGood, formed}
-use Rattle.saved.specs.Saved.{joins, withPlace, mended, mendedMany, openingNumber, rootRight, rooted, begun, repaired, repairedMany}
-use Rattle.saved.specs.SoundLaws.{place-at, place-says, PlaceIn, one-record, not-root}
+use Rattle.saved.specs.Form.{lengthIn, pieceLengthIn, rootIn, blocksIn, heightIn, placeCount, layerIn, indexIn, hashIn, rank, placesGood}
+use Rattle.saved.specs.Saved.{joins, withPlace, mended, mendedMany, openingNumber, rooted, begun, repaired, repairedMany}
+use Rattle.saved.specs.SoundLaws.{place-at, place-says, PlaceIn, one-record, not-root, rooted-formed}
 use Rattle.saved.specs.PrefixLaws.{FormIn, form-says}
 use Rattle.saved.specs.LoadLaws.{Opens, opening-says, root-long, first, first-room}
 use Rattle.saved.specs.MendedLaws.{mended-yes, mended-no, mended-none, mended-one, many-yes, many-no, many-none, many-one}
@@ -109,12 +109,8 @@ module _ (h c : ℕ) (b : List ℕ) (G : placesGood h b (placeCount b) ≡ true)
       by false q u v x y = rw (mended-no h c b s k q, many-no h c b s k q) y
 
 module _ (s b : List ℕ) (z : openingNumber (length s) b ≡ 0) (g : rooted b ≡ true) where
-  formed-here : formed b ≡ true
-  unfolding rooted
-  formed-here = and-eq-true-iff (formed b) (rootRight (heightIn b) b) .0 g .0
-
   form : FormIn b
-  form = form-says b formed-here
+  form = form-says b (rooted-formed b g)
 
   opening : Opens (length s) b
   opening = opening-says (length s) b z

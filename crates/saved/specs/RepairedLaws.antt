@@ -1,7 +1,7 @@
 -- A REPAIRED STORE is usable, with the facts that the bytes name.
 -- Assumes nothing.
 use mathlib.Core.Path.{_≡_, refl, _∙_}
-use mathlib.Core.Bool.{Bool, true, false, and-eq-true-iff}
+use mathlib.Core.Bool.{Bool, true, false}
 use mathlib.Core.List.{List}
 use Prim.Native.Nat.{ℕ, zero, suc, _+_, _-_, _*_, _≤_, _<_}
 use native.Mathlib.Omega.{arith}
@@ -12,9 +12,9 @@ use Rattle.tree.specs.GeometryLaws.{node-number-range}
 use Rattle.cells.specs.CellsLaws.{put-length}
 use Rattle.store.specs.Store.{pieceLength, fileLength, factsRoot, blocksOf, heightOf, positions, Facts}
 use Rattle.store.specs.StoreLaws.{put-facts, put-same-facts, opened-facts-root, opened-file, opened-piece}
-use Rattle.saved.specs.Form.{lengthIn, pieceLengthIn, rootIn, blocksIn, heightIn, placeCount, layerIn, indexIn, hashIn, placesGood, formed}
-use Rattle.saved.specs.Saved.{joins, withPlace, mended, openingNumber, rootRight, rooted, begun, repaired}
-use Rattle.saved.specs.SoundLaws.{place-at, place-says}
+use Rattle.saved.specs.Form.{lengthIn, pieceLengthIn, rootIn, blocksIn, heightIn, placeCount, layerIn, indexIn, hashIn, placesGood}
+use Rattle.saved.specs.Saved.{joins, withPlace, mended, openingNumber, rooted, begun, repaired}
+use Rattle.saved.specs.SoundLaws.{place-at, place-says, rooted-formed}
 use Rattle.saved.specs.PrefixLaws.{FormIn, form-says}
 use Rattle.saved.specs.LoadLaws.{StillSame, Opens, opening-says, root-long, first, first-facts, first-height, first-blocks}
 use Rattle.saved.specs.MendedLaws.{mended-yes, mended-no, mended-none, mended-one}
@@ -68,12 +68,8 @@ module _ (s b : List ℕ) (z : openingNumber (length s) b ≡ 0) (g : rooted b �
   O : Opens (length s) b
   O = opening-says (length s) b z
 
-  formed-here : formed b ≡ true
-  unfolding rooted
-  formed-here = and-eq-true-iff (formed b) (rootRight (heightIn b) b) .0 g .0
-
   F : FormIn b
-  F = form-says b formed-here
+  F = form-says b (rooted-formed b g)
 
   begun-facts : Facts (begun s b)
   begun-facts = unfold first in first-facts s b O F

@@ -1,7 +1,7 @@
 -- THE ROUND TRIP from bytes: a store loaded from bytes is saved as these bytes.
 -- Assumes nothing.
 use mathlib.Core.Path.{_≡_, refl, ap, sym, _∙_}
-use mathlib.Core.Bool.{true, false, false≢true, _&&_, and-eq-true-iff}
+use mathlib.Core.Bool.{true, false, false≢true}
 use mathlib.Core.List.{List}
 use mathlib.Core.Logic.{_↔_, inl, inr}
 use Prim.Native.Nat.{ℕ, suc, _+_, _-_, _*_, _^_, _≤_, _<_}
@@ -14,8 +14,9 @@ use Rattle.store.specs.Store.{fileLength, pieceLength, factsRoot, blocksOf, hei
 use Rattle.store.specs.StoreLaws.{opened-file, opened-piece, opened-facts-root, opened-zero, putAll-past}
 use Rattle.marks.specs.Marks.{marksStart, markedAt}
 use Rattle.marks.specs.MarksLaws.{marks-end, marks-start-some, same-mark}
-use Rattle.saved.specs.Form.{savedBytes, lengthIn, pieceLengthIn, rootIn, blocksIn, heightIn, markCount, placeCount, placesTo, marksTo, marksFrom, valueIn, formed, NamesMark}
-use Rattle.saved.specs.Saved.{entriesIn, marksSet, loaded, openingNumber, rootRight, chained, sound}
+use Rattle.saved.specs.Form.{savedBytes, lengthIn, pieceLengthIn, rootIn, blocksIn, heightIn, markCount, placeCount, placesTo, marksTo, marksFrom, valueIn, NamesMark}
+use Rattle.saved.specs.Saved.{entriesIn, marksSet, loaded, openingNumber, sound}
+use Rattle.saved.specs.SoundLaws.{sound-formed}
 use Rattle.saved.specs.Save.{heldBelow, markedBelow, savedOf}
 use Rattle.saved.specs.PrefixLaws.{FormIn, form-says}
 use Rattle.saved.specs.ExactLaws.{written-back}
@@ -27,12 +28,8 @@ module _ (s b : List ℕ) (z : openingNumber (length s) b ≡ 0) (g : sound b �
   here : Opens (length s) b
   here = opening-says (length s) b z
 
-  formed-here : formed b ≡ true
-  unfolding sound
-  formed-here = and-eq-true-iff (formed b) (rootRight (heightIn b) b) .0 (and-eq-true-iff (formed b && rootRight (heightIn b) b) (chained (heightIn b) (blocksIn b) b) .0 g .0) .0
-
   form : FormIn b
-  form = form-says b formed-here
+  form = form-says b (sound-formed b g)
 
   loaded-is : loaded s b ≡ marksSet (second s b here form) b (marksFrom b) (markCount b)
   unfolding loaded first second
@@ -118,4 +115,4 @@ module _ (s b : List ℕ) (z : openingNumber (length s) b ≡ 0) (g : sound b �
 
   -- SAVED AGAIN, byte for byte
   pub saved-again : ((i : ℕ) → getD b i 0 < 256) → savedBytes (savedOf (loaded s b)) ≡ b
-  saved-again bytes = ap savedBytes saved-of-loaded ∙ written-back b bytes (here .begins) formed-here
+  saved-again bytes = ap savedBytes saved-of-loaded ∙ written-back b bytes (here .begins) (sound-formed b g)

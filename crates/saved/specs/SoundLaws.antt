@@ -1,6 +1,6 @@
 -- Bytes of the form are loaded exactly if the positions that they name meet the clauses.
 -- Assumes nothing.
-use mathlib.Core.Path.{_≡_, refl, ap, ap₂, sym, _∙_}
+use mathlib.Core.Path.{_≡_, ap, ap₂, sym, _∙_}
 use mathlib.Core.Bool.{Bool, true, _&&_, and-eq-true-iff}
 use mathlib.Core.List.{List}
 use Prim.Native.Nat.{ℕ, zero, suc, _+_, _-_, _*_, _^_, _≤_, _<_}
@@ -19,17 +19,26 @@ use Rattle.store.specs.Store.{inTree}
 use Rattle.store.specs.StoreLaws.{tree-says}
 use Rattle.saved.specs.Clauses.{InTree}
 use Rattle.saved.specs.ClausesLaws.{root-alone}
-use Rattle.saved.specs.Form.{layerIn, indexIn, hashIn, rank, rankIn, nextRank, placeGood, placesGood, Placed}
-use Rattle.saved.specs.Saved.{padRight, childrenOf, madeBy, familyAt}
-use Rattle.saved.specs.RankLaws.{rank-most, rank-root, rank-distinct}
+use Rattle.saved.specs.Form.{layerIn, indexIn, hashIn, rank, rankIn, nextRank, placeGood, placesGood, Placed, blocksIn, heightIn, formed}
+use Rattle.saved.specs.Saved.{padRight, childrenOf, madeBy, familyAt, rootRight, chained, sound, rooted}
+use Rattle.saved.specs.RankLaws.{rank-most, rank-root, rank-distinct, rank-after}
 
 -- ---- what the tests say
 
-both : (x y : Bool) → (x && y) ≡ true → (x ≡ true) × (y ≡ true)
+pub both : (x y : Bool) → (x && y) ≡ true → (x ≡ true) × (y ≡ true)
 both x y e = and-eq-true-iff x y .0 e
 
-and-two : (x y : Bool) → x ≡ true → y ≡ true → (x && y) ≡ true
+pub and-two : (x y : Bool) → x ≡ true → y ≡ true → (x && y) ≡ true
 and-two x y e f = and-eq-true-iff x y .1 (e, f)
+
+-- sound bytes have the form, and so have those whose root is right
+pub sound-formed : (b : List ℕ) → sound b ≡ true → formed b ≡ true
+unfolding sound
+sound-formed b g = both (formed b) (rootRight (heightIn b) b) (both (formed b && rootRight (heightIn b) b) (chained (heightIn b) (blocksIn b) b) g .0) .0
+
+pub rooted-formed : (b : List ℕ) → rooted b ≡ true → formed b ≡ true
+unfolding rooted
+rooted-formed b g = both (formed b) (rootRight (heightIn b) b) g .0
 
 pub place-at : (h : ℕ) (b : List ℕ) (p : ℕ) → placesGood h b p ≡ true → (k : ℕ) → k < p → placeGood h b k ≡ true
 unfolding placesGood
@@ -56,10 +65,6 @@ place-says h b k g =
       inside = t .1;
       from = leb-true (nextRank h b k) (rankIn h b k) (a .1);
     }
-
-next-is : (h : ℕ) (b : List ℕ) (k : ℕ) → nextRank h b (suc k) ≡ suc (rankIn h b k)
-unfolding nextRank
-next-is h b k = refl
 
 pub pad-says : (c : ℕ) (b : List ℕ) (k : ℕ) → padRight c b k ≡ true → Padding c (layerIn b k) (indexIn b k) → hashIn b k ≡ padValue (layerIn b k)
 unfolding padRight
@@ -137,7 +142,7 @@ module _ (h c : ℕ) (b : List ℕ) (p : ℕ) (G : placesGood h b p ≡ true) wh
   rises k zero lt l = absurd (omega arith)
   rises k (suc m) lt l =
       let f = at (suc m) l .from in
-      let e = next-is h b m in
+      let e = rank-after h b m in
       elim (ℕ-discrete k m) [
         | yes q ↦ let w : rankIn h b k ≡ rankIn h b m = ap (rankIn h b) q in omega arith
         | no ne ↦ omega (arith, rises k m (omega arith) (omega arith))

@@ -29,17 +29,17 @@ use tree::geometry::height;
 use tree::geometry::node_number;
 
 // 32 without a whole opening record, 10 for its facts, 9 for the room that a buffer of `size` bytes has not; or 0.
-pub fn opening_number(size: usize, b: &[u8]) -> u32
-    ensures { λ r. ⌜ r ≡ S.openingNumber size (now (b .entry)) ⌝ }
+pub fn opening_number(size: usize, bytes: &[u8]) -> u32
+    ensures { λ r. ⌜ r ≡ S.openingNumber size (now (bytes .entry)) ⌝ }
 {
-    if b.len() < 45 {
+    if bytes.len() < 45 {
         return numbers::NOT_SAVED;
     }
-    if b[0] != 1 {
+    if bytes[0] != 1 {
         return numbers::NOT_SAVED;
     }
-    let n = number_at(b, 1, 8);
-    let plen = number_at(b, 9, 4);
+    let n = number_at(bytes, 1, 8);
+    let plen = number_at(bytes, 9, 4);
     let due = store::store_size(n, plen);
     if due.number != 0 {
         return numbers::FACTS_OUT_OF_RANGE;
@@ -51,103 +51,103 @@ pub fn opening_number(size: usize, b: &[u8]) -> u32
 }
 
 // Whether bytes with a whole opening record in range may be loaded.
-pub fn is_sound(b: &[u8]) -> bool
-    requires { ⌜ (45 ≤ length (now b)) × (F.lengthIn (now b) ≤ longestFile) ⌝ }
-    ensures { λ r. ⌜ r ≡ S.sound (now (b .entry)) ⌝ }
+pub fn is_sound(bytes: &[u8]) -> bool
+    requires { ⌜ (45 ≤ length (now bytes)) × (F.lengthIn (now bytes) ≤ longestFile) ⌝ }
+    ensures { λ r. ⌜ r ≡ S.sound (now (bytes .entry)) ⌝ }
 {
-    let n = number_at(b, 1, 8);
+    let n = number_at(bytes, 1, 8);
     let c = block_count(n);
     let h = height(c);
-    let ok = is_formed(b, h, c);
+    let ok = is_formed(bytes, h, c);
     if !ok {
         return false;
     }
-    let p = place_count(b);
-    let root = root_right(b, h, p);
+    let p = place_count(bytes);
+    let root = root_right(bytes, h, p);
     if !root {
         return false;
     }
-    let k = claimed(b, h, c, p);
+    let k = claimed(bytes, h, c, p);
     k + 1 == p
 }
 
-// Position k of the bytes becomes held.
-pub fn put_place(s: &mut [u8], b: &[u8], h: usize, k: usize)
-    requires { ⌜ (h ≤ tallestTree) × (86 + 41 * k ≤ length (now b)) × (inTree h (F.layerIn (now b) k) (F.indexIn (now b) k) ≡ true) × Room (positions h) (now s) ⌝ }
-    ensures { λ _. ⌜ now (s .exit) ≡ S.withPlace h (now (b .entry)) (now (s .entry)) k ⌝ }
+// Position `place` of the bytes becomes held.
+pub fn put_place(store: &mut [u8], bytes: &[u8], height: usize, place: usize)
+    requires { ⌜ (height ≤ tallestTree) × (86 + 41 * place ≤ length (now bytes)) × (inTree height (F.layerIn (now bytes) place) (F.indexIn (now bytes) place) ≡ true) × Room (positions height) (now store) ⌝ }
+    ensures { λ _. ⌜ now (store .exit) ≡ S.withPlace height (now (bytes .entry)) (now (store .entry)) place ⌝ }
 {
-    let l = layer_in(b, k);
-    let i = index_in(b, k);
-    let hash = hash_in(b, k);
-    let n = node_number(h, l, i);
-    cells::put_at(s, n, hash);
+    let l = layer_in(bytes, place);
+    let i = index_in(bytes, place);
+    let hash = hash_in(bytes, place);
+    let n = node_number(height, l, i);
+    cells::put_at(store, n, hash);
 }
 
-// The first p positions become held.
-fn put_places(s: &mut [u8], b: &[u8], h: usize, p: usize)
-    requires { ⌜ (h ≤ tallestTree) × (45 + 41 * p ≤ length (now b)) × (F.placesGood h (now b) p ≡ true) × Room (positions h) (now s) ⌝ }
-    ensures { λ _. ⌜ now (s .exit) ≡ putAll (now (s .entry)) (S.entriesIn h (now (b .entry)) p) ⌝ }
+// The first `places` positions become held.
+fn put_places(store: &mut [u8], bytes: &[u8], height: usize, places: usize)
+    requires { ⌜ (height ≤ tallestTree) × (45 + 41 * places ≤ length (now bytes)) × (F.placesGood height (now bytes) places ≡ true) × Room (positions height) (now store) ⌝ }
+    ensures { λ _. ⌜ now (store .exit) ≡ putAll (now (store .entry)) (S.entriesIn height (now (bytes .entry)) places) ⌝ }
 {
     let mut k = 0;
-    while k < p {
-        put_place(s, b, h, k);
+    while k < places {
+        put_place(store, bytes, height, k);
         k += 1;
     }
 }
 
 // A block's mark is set, where the marks begin at `start`.
-fn set_mark(s: &mut [u8], start: usize, block: usize)
-    requires { ⌜ (start ≡ marksStart (now s)) × (start + block < length (now s)) ⌝ }
-    ensures { λ _. ⌜ now (s .exit) ≡ marksPut (now (s .entry)) block 1 1 ⌝ }
+fn set_mark(store: &mut [u8], start: usize, block: usize)
+    requires { ⌜ (start ≡ marksStart (now store)) × (start + block < length (now store)) ⌝ }
+    ensures { λ _. ⌜ now (store .exit) ≡ marksPut (now (store .entry)) block 1 1 ⌝ }
 {
-    s[start + block] = 1;
+    store[start + block] = 1;
 }
 
 // The m marks that begin at `at` are set.
-fn set_marks(s: &mut [u8], b: &[u8], at: usize, m: usize)
-    requires { ⌜ Facts (now s) × (F.marksGood (blocksOf (now s)) (now b) at m ≡ true) × (at + 5 * m ≤ length (now b)) ⌝ }
-    ensures { λ _. ⌜ now (s .exit) ≡ S.marksSet (now (s .entry)) (now (b .entry)) at m ⌝ }
+fn set_marks(store: &mut [u8], bytes: &[u8], at: usize, m: usize)
+    requires { ⌜ Facts (now store) × (F.marksGood (blocksOf (now store)) (now bytes) at m ≡ true) × (at + 5 * m ≤ length (now bytes)) ⌝ }
+    ensures { λ _. ⌜ now (store .exit) ≡ S.marksSet (now (store .entry)) (now (bytes .entry)) at m ⌝ }
 {
-    let start = marks_start(s);
+    let start = marks_start(store);
     let mut k = 0;
     while k < m {
-        let block = block_in(b, at, k);
-        set_mark(s, start, block);
+        let block = block_in(bytes, at, k);
+        set_mark(store, start, block);
         k += 1;
     }
 }
 
 // The buffer is opened with the facts that the bytes name; then their positions become held and their marks are set.
-fn write_all(s: &mut [u8], b: &[u8]) -> Answer
-    requires { ⌜ (S.openingNumber (length (now s)) (now b) ≡ 0) × (S.sound (now b) ≡ true) ⌝ }
-    ensures { λ r. ⌜ (r ≡ done (F.placeCount (now (b .entry)))) × (now (s .exit) ≡ S.loaded (now (s .entry)) (now (b .entry))) ⌝ }
+fn write_all(store: &mut [u8], bytes: &[u8]) -> Answer
+    requires { ⌜ (S.openingNumber (length (now store)) (now bytes) ≡ 0) × (S.sound (now bytes) ≡ true) ⌝ }
+    ensures { λ r. ⌜ (r ≡ done (F.placeCount (now (bytes .entry)))) × (now (store .exit) ≡ S.loaded (now (store .entry)) (now (bytes .entry))) ⌝ }
 {
-    let n = number_at(b, 1, 8);
-    let plen = number_at(b, 9, 4);
-    let root = hash_at(b, 13);
-    store::open(s, n, plen, root);
+    let n = number_at(bytes, 1, 8);
+    let plen = number_at(bytes, 9, 4);
+    let root = hash_at(bytes, 13);
+    store::open(store, n, plen, root);
     let c = block_count(n);
     let h = height(c);
-    let p = place_count(b);
-    put_places(s, b, h, p);
-    let m = mark_count(b);
+    let p = place_count(bytes);
+    put_places(store, bytes, h, p);
+    let m = mark_count(bytes);
     let at = 45 + 41 * p;
-    set_marks(s, b, at, m);
+    set_marks(store, bytes, at, m);
     numbers::success(p as u64)
 }
 
 // Loads a saved store: 32 without a whole opening record, 10 for its facts, 9 for the room, 32 where the bytes have not the form or do not chain to the
 // root; or 0 and the positions then held. A refusal changes nothing.
-pub fn load(s: &mut [u8], b: &[u8]) -> Answer
-    ensures { λ r. ⌜ (r ≡ S.loadAnswer (now (s .entry)) (now (b .entry))) × (now (s .exit) ≡ S.loadAfter (now (s .entry)) (now (b .entry))) ⌝ }
+pub fn load(store: &mut [u8], bytes: &[u8]) -> Answer
+    ensures { λ r. ⌜ (r ≡ S.loadAnswer (now (store .entry)) (now (bytes .entry))) × (now (store .exit) ≡ S.loadAfter (now (store .entry)) (now (bytes .entry))) ⌝ }
 {
-    let number = opening_number(s.len(), b);
+    let number = opening_number(store.len(), bytes);
     if number != 0 {
         return numbers::refusal(number);
     }
-    let ok = is_sound(b);
+    let ok = is_sound(bytes);
     if !ok {
         return numbers::refusal(numbers::NOT_SAVED);
     }
-    write_all(s, b)
+    write_all(store, bytes)
 }

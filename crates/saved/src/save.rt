@@ -35,24 +35,24 @@ fn one_more(n: usize, yes: bool) -> usize
     n
 }
 
-// Whether position i of layer l is held.
-fn held_in(s: &[u8], h: usize, l: usize, i: usize) -> bool
-    requires { ⌜ (h ≤ tallestTree) × (l ≤ h) × (i < 2 ^ (h - l)) × Room (positions h) (now s) ⌝ }
-    ensures { λ r. ⌜ r ≡ heldAt (now (s .entry)) (nodeNumber h l i) ⌝ }
+// Whether position i of `layer` is held.
+fn held_in(store: &[u8], height: usize, layer: usize, i: usize) -> bool
+    requires { ⌜ (height ≤ tallestTree) × (layer ≤ height) × (i < 2 ^ (height - layer)) × Room (positions height) (now store) ⌝ }
+    ensures { λ r. ⌜ r ≡ heldAt (now (store .entry)) (nodeNumber height layer i) ⌝ }
 {
-    let n = node_number(h, l, i);
-    cells::held(s, n)
+    let n = node_number(height, layer, i);
+    cells::held(store, n)
 }
 
-// How many of the first w positions of layer l are held.
-fn count_layer(s: &[u8], h: usize, l: usize, w: usize) -> usize
-    requires { ⌜ (h ≤ tallestTree) × (l ≤ h) × (w ≤ 2 ^ (h - l)) × Room (positions h) (now s) ⌝ }
-    ensures { λ r. ⌜ (r ≡ length (S.layerHeld (now (s .entry)) h l w)) × (r ≤ w) ⌝ }
+// How many of the first w positions of `layer` are held.
+fn count_layer(store: &[u8], height: usize, layer: usize, w: usize) -> usize
+    requires { ⌜ (height ≤ tallestTree) × (layer ≤ height) × (w ≤ 2 ^ (height - layer)) × Room (positions height) (now store) ⌝ }
+    ensures { λ r. ⌜ (r ≡ length (S.layerHeld (now (store .entry)) height layer w)) × (r ≤ w) ⌝ }
 {
     let mut n = 0;
     let mut i = 0;
     while i < w {
-        let held = held_in(s, h, l, i);
+        let held = held_in(store, height, layer, i);
         n = one_more(n, held);
         i += 1;
     }
@@ -70,46 +70,53 @@ fn put_record(out: &mut [u8], at: usize, l: usize, i: usize, hash: [u8; 32])
     put_hash(out, at + 9, hash);
 }
 
-// Writes the record of position i of layer l if it is held, and gives the place behind.
-fn put_held(s: &[u8], out: &mut [u8], at: usize, h: usize, l: usize, i: usize) -> usize
-    requires { ⌜ (h ≤ tallestTree) × (l ≤ h) × (i < 2 ^ (h - l)) × Room (positions h) (now s) × (at + 41 * length (S.placeHeld (now s) h l i) ≤ length (now out)) ⌝ }
-    ensures { λ r. ⌜ (r ≡ at + 41 * length (S.placeHeld (now (s .entry)) h l i)) × (now (out .exit) ≡ pasted (now (out .entry)) at (F.placesBytes (S.placeHeld (now (s .entry)) h l i))) ⌝ }
+// Writes the record of position i of `layer` if it is held, and gives the place behind.
+fn put_held(store: &[u8], out: &mut [u8], at: usize, height: usize, layer: usize, i: usize) -> usize
+    requires { ⌜ (height ≤ tallestTree) × (layer ≤ height) × (i < 2 ^ (height - layer)) × Room (positions height) (now store) × (at + 41 * length (S.placeHeld (now store) height layer i) ≤ length (now out)) ⌝ }
+    ensures { λ r. ⌜ (r ≡ at + 41 * length (S.placeHeld (now (store .entry)) height layer i)) × (now (out .exit) ≡ pasted (now (out .entry)) at (F.placesBytes (S.placeHeld (now (store .entry)) height layer i))) ⌝ }
 {
-    let held = held_in(s, h, l, i);
+    let held = held_in(store, height, layer, i);
     if !held {
         return at;
     }
-    let n = node_number(h, l, i);
-    let hash = cells::hash_of(s, n);
-    put_record(out, at, l, i, hash);
+    let n = node_number(height, layer, i);
+    let hash = cells::hash_of(store, n);
+    put_record(out, at, layer, i, hash);
     at + 41
 }
 
-// Writes the records of the held ones among the first w positions of layer l, and gives the place behind.
-fn put_layer(s: &[u8], out: &mut [u8], at: usize, h: usize, l: usize, w: usize) -> usize
-    requires { ⌜ (h ≤ tallestTree) × (l ≤ h) × (w ≤ 2 ^ (h - l)) × Room (positions h) (now s) × (at + 41 * length (S.layerHeld (now s) h l w) ≤ length (now out)) ⌝ }
-    ensures { λ r. ⌜ (r ≡ at + 41 * length (S.layerHeld (now (s .entry)) h l w)) × (now (out .exit) ≡ pasted (now (out .entry)) at (F.placesBytes (S.layerHeld (now (s .entry)) h l w))) ⌝ }
+// Writes the records of the held ones among the first w positions of `layer`, and gives the place behind.
+fn put_layer(
+    store: &[u8],
+    out: &mut [u8],
+    at: usize,
+    height: usize,
+    layer: usize,
+    w: usize,
+) -> usize
+    requires { ⌜ (height ≤ tallestTree) × (layer ≤ height) × (w ≤ 2 ^ (height - layer)) × Room (positions height) (now store) × (at + 41 * length (S.layerHeld (now store) height layer w) ≤ length (now out)) ⌝ }
+    ensures { λ r. ⌜ (r ≡ at + 41 * length (S.layerHeld (now (store .entry)) height layer w)) × (now (out .exit) ≡ pasted (now (out .entry)) at (F.placesBytes (S.layerHeld (now (store .entry)) height layer w))) ⌝ }
 {
     let mut here = at;
     let mut i = 0;
     while i < w {
-        here = put_held(s, out, here, h, l, i);
+        here = put_held(store, out, here, height, layer, i);
         i += 1;
     }
     here
 }
 
 // How many positions of the layers below `upto` are held.
-fn count_layers(s: &[u8], h: usize, upto: usize) -> usize
-    requires { ⌜ (h ≤ tallestTree) × (upto ≤ h + 1) × Room (positions h) (now s) ⌝ }
-    ensures { λ r. ⌜ (r ≡ length (S.heldBelow (now (s .entry)) h upto)) × (r ≤ upto * 2 ^ tallestTree) ⌝ }
+fn count_layers(store: &[u8], height: usize, upto: usize) -> usize
+    requires { ⌜ (height ≤ tallestTree) × (upto ≤ height + 1) × Room (positions height) (now store) ⌝ }
+    ensures { λ r. ⌜ (r ≡ length (S.heldBelow (now (store .entry)) height upto)) × (r ≤ upto * 2 ^ tallestTree) ⌝ }
 {
     let mut n = 0;
     let mut l = 0;
     while l < upto {
-        let d = h - l;
+        let d = height - l;
         let w = 1 << d;
-        let more = count_layer(s, h, l, w);
+        let more = count_layer(store, height, l, w);
         n += more;
         l += 1;
     }
@@ -117,39 +124,39 @@ fn count_layers(s: &[u8], h: usize, upto: usize) -> usize
 }
 
 // Writes the records of the held positions of the layers below `upto`, and gives the place behind.
-fn put_layers(s: &[u8], out: &mut [u8], at: usize, h: usize, upto: usize) -> usize
-    requires { ⌜ (h ≤ tallestTree) × (upto ≤ h + 1) × Room (positions h) (now s) × (at + 41 * length (S.heldBelow (now s) h upto) ≤ length (now out)) ⌝ }
-    ensures { λ r. ⌜ (r ≡ at + 41 * length (S.heldBelow (now (s .entry)) h upto)) × (now (out .exit) ≡ pasted (now (out .entry)) at (F.placesBytes (S.heldBelow (now (s .entry)) h upto))) ⌝ }
+fn put_layers(store: &[u8], out: &mut [u8], at: usize, height: usize, upto: usize) -> usize
+    requires { ⌜ (height ≤ tallestTree) × (upto ≤ height + 1) × Room (positions height) (now store) × (at + 41 * length (S.heldBelow (now store) height upto) ≤ length (now out)) ⌝ }
+    ensures { λ r. ⌜ (r ≡ at + 41 * length (S.heldBelow (now (store .entry)) height upto)) × (now (out .exit) ≡ pasted (now (out .entry)) at (F.placesBytes (S.heldBelow (now (store .entry)) height upto))) ⌝ }
 {
     let mut here = at;
     let mut l = 0;
     while l < upto {
-        let d = h - l;
+        let d = height - l;
         let w = 1 << d;
-        here = put_layer(s, out, here, h, l, w);
+        here = put_layer(store, out, here, height, l, w);
         l += 1;
     }
     here
 }
 
 // Whether a block is marked, where the marks begin at `start`.
-fn mark_at(s: &[u8], start: usize, i: usize) -> bool
-    requires { ⌜ (usable (now s) ≡ true) × (start ≡ marksStart (now s)) × (i < 2 ^ heightOf (now s)) ⌝ }
-    ensures { λ r. ⌜ r ≡ markedAt (now (s .entry)) i ⌝ }
+fn mark_at(store: &[u8], start: usize, i: usize) -> bool
+    requires { ⌜ (usable (now store) ≡ true) × (start ≡ marksStart (now store)) × (i < 2 ^ heightOf (now store)) ⌝ }
+    ensures { λ r. ⌜ r ≡ markedAt (now (store .entry)) i ⌝ }
 {
-    s[start + i] == 1
+    store[start + i] == 1
 }
 
 // How many of the first n blocks are marked.
-fn count_marks(s: &[u8], n: usize) -> usize
-    requires { ⌜ (usable (now s) ≡ true) × (n ≤ 2 ^ heightOf (now s)) ⌝ }
-    ensures { λ r. ⌜ (r ≡ length (S.markedBelow (now (s .entry)) n)) × (r ≤ n) ⌝ }
+fn count_marks(store: &[u8], n: usize) -> usize
+    requires { ⌜ (usable (now store) ≡ true) × (n ≤ 2 ^ heightOf (now store)) ⌝ }
+    ensures { λ r. ⌜ (r ≡ length (S.markedBelow (now (store .entry)) n)) × (r ≤ n) ⌝ }
 {
-    let start = marks_start(s);
+    let start = marks_start(store);
     let mut m = 0;
     let mut i = 0;
     while i < n {
-        let set = mark_at(s, start, i);
+        let set = mark_at(store, start, i);
         m = one_more(m, set);
         i += 1;
     }
@@ -166,11 +173,11 @@ fn put_short(out: &mut [u8], at: usize, kind: u8, x: usize)
 }
 
 // Writes the record of block i if it is marked, and gives the place behind.
-fn put_mark(s: &[u8], start: usize, out: &mut [u8], at: usize, i: usize) -> usize
-    requires { ⌜ (usable (now s) ≡ true) × (start ≡ marksStart (now s)) × (i < 2 ^ heightOf (now s)) × (at + 5 * length (S.blockMarked (now s) i) ≤ length (now out)) ⌝ }
-    ensures { λ r. ⌜ (r ≡ at + 5 * length (S.blockMarked (now (s .entry)) i)) × (now (out .exit) ≡ pasted (now (out .entry)) at (F.marksBytes (S.blockMarked (now (s .entry)) i))) ⌝ }
+fn put_mark(store: &[u8], start: usize, out: &mut [u8], at: usize, i: usize) -> usize
+    requires { ⌜ (usable (now store) ≡ true) × (start ≡ marksStart (now store)) × (i < 2 ^ heightOf (now store)) × (at + 5 * length (S.blockMarked (now store) i) ≤ length (now out)) ⌝ }
+    ensures { λ r. ⌜ (r ≡ at + 5 * length (S.blockMarked (now (store .entry)) i)) × (now (out .exit) ≡ pasted (now (out .entry)) at (F.marksBytes (S.blockMarked (now (store .entry)) i))) ⌝ }
 {
-    let set = mark_at(s, start, i);
+    let set = mark_at(store, start, i);
     if !set {
         return at;
     }
@@ -179,15 +186,15 @@ fn put_mark(s: &[u8], start: usize, out: &mut [u8], at: usize, i: usize) -> usiz
 }
 
 // Writes the records of the marked ones among the first n blocks, and gives the place behind.
-fn put_marked(s: &[u8], out: &mut [u8], at: usize, n: usize) -> usize
-    requires { ⌜ (usable (now s) ≡ true) × (n ≤ 2 ^ heightOf (now s)) × (at + 5 * length (S.markedBelow (now s) n) ≤ length (now out)) ⌝ }
-    ensures { λ r. ⌜ (r ≡ at + 5 * length (S.markedBelow (now (s .entry)) n)) × (now (out .exit) ≡ pasted (now (out .entry)) at (F.marksBytes (S.markedBelow (now (s .entry)) n))) ⌝ }
+fn put_marked(store: &[u8], out: &mut [u8], at: usize, n: usize) -> usize
+    requires { ⌜ (usable (now store) ≡ true) × (n ≤ 2 ^ heightOf (now store)) × (at + 5 * length (S.markedBelow (now store) n) ≤ length (now out)) ⌝ }
+    ensures { λ r. ⌜ (r ≡ at + 5 * length (S.markedBelow (now (store .entry)) n)) × (now (out .exit) ≡ pasted (now (out .entry)) at (F.marksBytes (S.markedBelow (now (store .entry)) n))) ⌝ }
 {
-    let start = marks_start(s);
+    let start = marks_start(store);
     let mut here = at;
     let mut i = 0;
     while i < n {
-        here = put_mark(s, start, out, here, i);
+        here = put_mark(store, start, out, here, i);
         i += 1;
     }
     here
@@ -205,37 +212,37 @@ fn put_opening(out: &mut [u8], n: usize, plen: usize, root: [u8; 32])
 }
 
 // Writes all records: the opening, the held positions, the marked blocks, the end.
-fn put_all(s: &[u8], out: &mut [u8], m: usize)
-    requires { ⌜ (usable (now s) ≡ true) × (m ≡ length (S.markedBelow (now s) (blocksOf (now s)))) × (length (F.savedBytes (S.savedOf (now s))) ≤ length (now out)) ⌝ }
-    ensures { λ _. ⌜ now (out .exit) ≡ pasted (now (out .entry)) 0 (F.savedBytes (S.savedOf (now (s .entry)))) ⌝ }
+fn put_all(store: &[u8], out: &mut [u8], m: usize)
+    requires { ⌜ (usable (now store) ≡ true) × (m ≡ length (S.markedBelow (now store) (blocksOf (now store)))) × (length (F.savedBytes (S.savedOf (now store))) ≤ length (now out)) ⌝ }
+    ensures { λ _. ⌜ now (out .exit) ≡ pasted (now (out .entry)) 0 (F.savedBytes (S.savedOf (now (store .entry)))) ⌝ }
 {
-    let n = file_length(s);
-    let plen = piece_length_of(s);
-    let root = facts_root(s);
+    let n = file_length(store);
+    let plen = piece_length_of(store);
+    let root = facts_root(store);
     put_opening(out, n, plen, root);
-    let h = height_of(s);
-    let behind = put_layers(s, out, 45, h, h + 1);
-    let c = blocks_of(s);
-    let end = put_marked(s, out, behind, c);
+    let h = height_of(store);
+    let behind = put_layers(store, out, 45, h, h + 1);
+    let c = blocks_of(store);
+    let end = put_marked(store, out, behind, c);
     put_short(out, end, 4, m);
 }
 
 // Saves a store: 9 for one that is not usable, 11 where the output is shorter than the save, or 0 and its size. A refusal writes nothing.
-pub fn save(s: &[u8], out: &mut [u8]) -> Answer
-    ensures { λ r. ⌜ (r ≡ S.saveAnswer (now (s .entry)) (now (out .entry))) × (now (out .exit) ≡ S.saveAfter (now (s .entry)) (now (out .entry))) ⌝ }
+pub fn save(store: &[u8], out: &mut [u8]) -> Answer
+    ensures { λ r. ⌜ (r ≡ S.saveAnswer (now (store .entry)) (now (out .entry))) × (now (out .exit) ≡ S.saveAfter (now (store .entry)) (now (out .entry))) ⌝ }
 {
-    let ok = is_usable(s);
+    let ok = is_usable(store);
     if !ok {
         return numbers::refusal(numbers::UNUSABLE);
     }
-    let h = height_of(s);
-    let p = count_layers(s, h, h + 1);
-    let c = blocks_of(s);
-    let m = count_marks(s, c);
+    let h = height_of(store);
+    let p = count_layers(store, h, h + 1);
+    let c = blocks_of(store);
+    let m = count_marks(store, c);
     let size = 50 + 41 * p + 5 * m;
     if out.len() < size {
         return numbers::refusal(numbers::NO_ROOM);
     }
-    put_all(s, out, m);
+    put_all(store, out, m);
     numbers::success(size as u64)
 }

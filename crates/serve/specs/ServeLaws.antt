@@ -179,7 +179,7 @@ module _ (s m : List ℕ) (e : headerNumber (isRequest m) s m ≡ 0) where
   request-size = request-form m (passed (isRequest m) s m e .formed)
 
   -- its place lies in the tree
-  pub request-placed : Placed (positions (heightOf s)) (headerOf m) (placeIn s m)
+  pub request-placed : Placed (heightOf s) (headerOf m) (placeIn s m)
   request-placed = placed (isRequest m) s m (passed (isRequest m) s m e)
 
   -- the run's last position,

@@ -54,7 +54,7 @@ reading-some x [] h = absurd (none h)
     none l = omega arith
 reading-some x (b ∷ rest) h = some-by x b rest (next x b .line) refl
 
--- the same of the rest of a piece
+-- how many bytes are used of the rest of a piece
 pub rest-used : (x : Session) (piece : List ℕ) (at u : ℕ) → at < length piece → u ≡ reading x (take (length piece - at) (drop at piece)) .used → (at + u ≤ length piece) × (1 ≤ u)
 rest-used x piece at u l e =
     let n : length (take (length piece - at) (drop at piece)) ≡ length piece - at = simp (length-take, length-drop) (omega arith) in

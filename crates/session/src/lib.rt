@@ -94,9 +94,9 @@ fn stops(number: u32) -> Stepped
 }
 
 // A kind byte outside a message.
-fn outside(opened: bool, s: &[u8], room: &mut [u8], kind: u8) -> Stepped
+fn outside(opened: bool, store: &[u8], room: &mut [u8], kind: u8) -> Stepped
     requires { ⌜ S.maxMessage ≤ length (now room) ⌝ }
-    ensures { λ r. ⌜ S.Follows (S.outside opened (now (s .entry)) kind) r (now (s .entry)) (now (room .exit)) ⌝ }
+    ensures { λ r. ⌜ S.Follows (S.outside opened (now (store .entry)) kind) r (now (store .entry)) (now (room .exit)) ⌝ }
 {
     if kind == 1 {
         return goes(Phase::Opening(43), 0);
@@ -112,9 +112,9 @@ fn outside(opened: bool, s: &[u8], room: &mut [u8], kind: u8) -> Stepped
 }
 
 // A kind byte inside a message, of which `at` bytes are gathered.
-fn inside(s: &mut [u8], room: &[u8], at: usize, kind: u8) -> Stepped
+fn inside(store: &mut [u8], room: &[u8], at: usize, kind: u8) -> Stepped
     requires { ⌜ (S.maxMessage ≤ length (now room)) × (at ≤ S.maxMessage) ⌝ }
-    ensures { λ r. ⌜ S.Follows (S.inside (take at (now (room .entry))) (now (s .entry)) kind) r (now (s .exit)) (now (room .entry)) ⌝ }
+    ensures { λ r. ⌜ S.Follows (S.inside (take at (now (room .entry))) (now (store .entry)) kind) r (now (store .exit)) (now (room .entry)) ⌝ }
 {
     if kind == 3 {
         if at + 32 <= MAX_MESSAGE {
@@ -123,23 +123,23 @@ fn inside(s: &mut [u8], room: &[u8], at: usize, kind: u8) -> Stepped
         return stops(numbers::NO_MESSAGE);
     }
     if kind == 4 {
-        let answer = messages::take::take(s, &room[0..at]);
+        let answer = messages::take::take(store, &room[0..at]);
         return says(Phase::Open, answer);
     }
     stops(numbers::NO_MESSAGE)
 }
 
 // A whole opening stands at the front of the room.
-fn opening(s: &mut [u8], room: &[u8]) -> Stepped
-    requires { ⌜ (44 ≤ length (now room)) × (S.maxStore ≤ length (now s)) ⌝ }
-    ensures { λ r. ⌜ S.Follows (S.opening (take 44 (now (room .entry))) (now (s .entry))) r (now (s .exit)) (now (room .entry)) ⌝ }
+fn opening(store: &mut [u8], room: &[u8]) -> Stepped
+    requires { ⌜ (44 ≤ length (now room)) × (S.maxStore ≤ length (now store)) ⌝ }
+    ensures { λ r. ⌜ S.Follows (S.opening (take 44 (now (room .entry))) (now (store .entry))) r (now (store .exit)) (now (room .entry)) ⌝ }
 {
     let n = octets::number_at(room, 0, 8);
     let blocks = block_count(n);
     if blocks <= MAX_BLOCKS {
         let plen = octets::number_at(room, 8, 4);
         let root = octets::hash_at(room, 12);
-        let answer = store::open(s, n, plen, root);
+        let answer = store::open(store, n, plen, root);
         if answer.number == 0 {
             return says(Phase::Open, answer);
         }
@@ -149,25 +149,25 @@ fn opening(s: &mut [u8], room: &[u8]) -> Stepped
 }
 
 // The next byte of the input.
-pub fn take_byte(p: Progress, s: &mut [u8], room: &mut [u8], b: u8) -> Stepped
-    requires { ⌜ S.Lent p (length (now s)) (length (now room)) ⌝ }
-    ensures { λ r. ⌜ S.Follows (S.step (p .phase) (take (p .at) (now (room .entry))) (now (s .entry)) b) r (now (s .exit)) (now (room .exit)) ⌝ }
+pub fn take_byte(progress: Progress, store: &mut [u8], room: &mut [u8], byte: u8) -> Stepped
+    requires { ⌜ S.Lent progress (length (now store)) (length (now room)) ⌝ }
+    ensures { λ r. ⌜ S.Follows (S.step (progress .phase) (take (progress .at) (now (room .entry))) (now (store .entry)) byte) r (now (store .exit)) (now (room .exit)) ⌝ }
 {
-    let at = p.at;
-    let phase = p.phase;
+    let at = progress.at;
+    let phase = progress.phase;
     match phase {
-        Phase::Fresh => outside(false, s, room, b),
-        Phase::Open => outside(true, s, room, b),
+        Phase::Fresh => outside(false, store, room, byte),
+        Phase::Open => outside(true, store, room, byte),
         Phase::Opening(left) => {
-            room[at] = b;
+            room[at] = byte;
             if left == 0 {
-                return opening(s, room);
+                return opening(store, room);
             }
             goes(Phase::Opening(left - 1), at + 1)
         }
-        Phase::Inside => inside(s, room, at, b),
+        Phase::Inside => inside(store, room, at, byte),
         Phase::Body(left) => {
-            room[at] = b;
+            room[at] = byte;
             if left == 0 {
                 return goes(Phase::Inside, at + 1);
             }
@@ -178,10 +178,10 @@ pub fn take_byte(p: Progress, s: &mut [u8], room: &mut [u8], b: u8) -> Stepped
 }
 
 // The end of the input.
-pub fn end(p: Progress) -> Line
-    ensures { λ r. ⌜ r ≡ S.ending (p .phase) ⌝ }
+pub fn end(progress: Progress) -> Line
+    ensures { λ r. ⌜ r ≡ S.ending (progress .phase) ⌝ }
 {
-    let phase = p.phase;
+    let phase = progress.phase;
     let cut = refusal(numbers::NO_MESSAGE);
     match phase {
         Phase::Fresh => Line::Nothing,
@@ -203,15 +203,15 @@ fn is_silent(line: Line) -> bool
 }
 
 // The next bytes of the input, as many as there are up to the first line.
-pub fn take_piece(p: Progress, s: &mut [u8], room: &mut [u8], piece: &[u8]) -> Part
-    requires { ⌜ S.Lent p (length (now s)) (length (now room)) ⌝ }
-    ensures { λ r. ⌜ S.Reads (S.reading (S.seen p (now (s .entry)) (now (room .entry))) (now (piece .entry))) r (now (s .exit)) (now (room .exit)) ⌝ }
+pub fn take_piece(progress: Progress, store: &mut [u8], room: &mut [u8], piece: &[u8]) -> Part
+    requires { ⌜ S.Lent progress (length (now store)) (length (now room)) ⌝ }
+    ensures { λ r. ⌜ S.Reads (S.reading (S.seen progress (now (store .entry)) (now (room .entry))) (now (piece .entry))) r (now (store .exit)) (now (room .exit)) ⌝ }
 {
-    let mut q = p;
+    let mut q = progress;
     let mut i: usize = 0;
     while i < piece.len() {
         let b = piece[i];
-        let f = take_byte(q, s, room, b);
+        let f = take_byte(q, store, room, b);
         let next = f.progress;
         let line = f.line;
         q = next;

@@ -23,7 +23,7 @@ use Rattle.heaps.specs.Heaps.{hashIn, Parents, Over, Worked}
 use Rattle.heaps.specs.HeapsLaws.{hash-over, node-moved, heap-top}
 use Rattle.cells.specs.Cells.{put}
 use Rattle.cells.specs.Entries.{Entry, one, agreesAt, agrees, lacks}
-use Rattle.settling.specs.Span.{Within, Fit, roomLayers, roomSize}
+use Rattle.settling.specs.Span.{Fit, roomLayers, roomSize}
 use Rattle.settling.specs.Subtree.{subtree, runLeaf, Loaded, Heaped}
 use Rattle.settling.specs.SubtreeLaws.{run-leaf-in, run-leaf-past, looked-up, Wrote, wrote-up}
 
@@ -82,16 +82,15 @@ worked-top leaf k j heap m e w = heap-top leaf k j heap (rw e at w)
 -- ---- its place
 
 -- the leaves of a subtree that fits can be counted
-pub fit-leaves : (ls b k n j m : ℕ) → Fit ls b k n j → m ≡ 2 ^ k → (1 ≤ m) × (j * m + m ≤ b)
-unfolding Within
-fit-leaves ls b k n j m f e =
+pub fit-leaves : {ls k n j : ℕ} → Fit ls k n j → (m : ℕ) → m ≡ 2 ^ k → (1 ≤ m) × (j * m + m < ls)
+fit-leaves {ls} {k} {n} {j} f m e =
     let w : (j + 1) * 2 ^ k ≤ (n + 1) * 2 ^ k = mul-le-mul-right (2 ^ k) (omega (arith, f .index)) in
     let d = add-mul j 1 (2 ^ k) in
     let o = one-mul (2 ^ k) in
-    rw e (pow-pos k, omega (arith, f .top))
+    rw e (pow-pos k, omega (arith, f .room))
 
-pub fit-first : {ls b k n j : ℕ} → Fit ls b k n j → Fit ls b k n 0
-fit-first f = record { room = f .room; top = f .top; index = omega arith }
+pub fit-first : {ls k n j : ℕ} → Fit ls k n j → Fit ls k n 0
+fit-first f = record { room = f .room; index = omega arith }
 
 pub room-part : (k : ℕ) → k ≤ roomLayers → ((1 * 2 ^ k) % 2 ^ 64 ≡ 2 ^ k) × (64 * 2 ^ k ≤ roomSize)
 room-part k h = (shifted-one k (omega arith), omega (arith, pow-mono {i = k} {j = roomLayers} h))

@@ -47,9 +47,14 @@ parent-odd n v w e = rw (ne-eqb (n % 2) 0 e)
 pub sibling-below : (n b : ℕ) → n < b → b % 2 ≡ 0 → sibling n < b
 sibling-below n b h e = elim (ℕ-discrete (n % 2) 0) [ yes z ↦ omega (arith, sibling-even n z) | no z ↦ omega (arith, sibling-odd n z) ]
 
--- a way goes on one layer up, in every store of the same length
-pub way-on : {ls lh b i u n : ℕ} → Way ls lh b i u n → (ls' : ℕ) → ls' ≡ ls → (u ≡ 0 → ⊥) → Way ls' lh b (i + 1) (u - 1) (n / 2)
-way-on f ls' e ne = record { room = omega (arith, f .room); uncles = omega (arith, f .uncles); even = f .even; below = omega (arith, f .below) }
+module _ {ls lh i u n : ℕ} (f : Way ls lh i u n) where
+  -- what stands beside the beginning of a way has a cell
+  pub way-beside : 31 + 33 * (sibling n + 1) ≤ ls
+  way-beside = omega (arith, f .room, sibling-below n (2 * (n / 2) + 2) (omega arith) (omega arith))
+
+  -- a way goes on one layer up, in every store of the same length
+  pub way-on : (ls' : ℕ) → ls' ≡ ls → (u ≡ 0 → ⊥) → Way ls' lh (i + 1) (u - 1) (n / 2)
+  way-on ls' e ne = record { room = omega (arith, f .room); uncles = omega (arith, f .uncles) }
 
 -- ---- the equations as code meets them
 

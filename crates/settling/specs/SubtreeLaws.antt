@@ -72,22 +72,32 @@ within-tree h l i k a b c =
     within-lower (2 * 2 ^ h) l k (2 ^ (h - l) + i) c
     (le-trans (mul-le-mul-right (2 ^ l) m) (omega (arith, mul-assoc 2 (2 ^ (h - l)) (2 ^ l))))
 
-module _ {ls b k n j : ℕ} (f : Fit ls b k n j) where
-  -- where a subtree fits, its top is below b
-  pub fit-self : n < b
-  fit-self = within-self b k n (f .top)
+-- a subtree below b fits where the cells below b have room
+pub fit-below : {ls k n j : ℕ} (b : ℕ) → 31 + 33 * b ≤ ls → Within b k n → j ≤ n → Fit ls k n j
+unfolding Within
+fit-below b r w i = record { room = omega arith; index = i }
+
+module _ {ls k n j : ℕ} (f : Fit ls k n j) where
+  -- a subtree that fits lies below the end of its lowest layer
+  lowest : Within ((n + 1) * 2 ^ k) k n
+  unfolding Within
+  lowest = omega arith
+
+  -- its top has a cell
+  pub fit-self : 31 + 33 * (n + 1) ≤ ls
+  fit-self = omega (arith, f .room, within-self _ k n lowest)
 
   -- it fits in every store of the same length
-  pub fit-length : (ls' : ℕ) → ls' ≡ ls → Fit ls' b k n j
-  fit-length ls' e = record { room = omega (arith, f .room); top = f .top; index = f .index }
+  pub fit-length : (ls' : ℕ) → ls' ≡ ls → Fit ls' k n j
+  fit-length ls' e = record { room = omega (arith, f .room); index = f .index }
 
   -- its left child's fits
-  pub fit-left : (k ≡ 0 → ⊥) → Fit ls b (k - 1) (2 * n) (2 * j)
-  fit-left ne = record { room = f .room; top = within-down b k n ne (f .top) .0; index = omega (arith, f .index) }
+  pub fit-left : (k ≡ 0 → ⊥) → Fit ls (k - 1) (2 * n) (2 * j)
+  fit-left ne = fit-below _ (f .room) (within-down _ k n ne lowest .0) (omega (arith, f .index))
 
   -- its right child's fits
-  pub fit-right : (k ≡ 0 → ⊥) → Fit ls b (k - 1) (2 * n + 1) (2 * j + 1)
-  fit-right ne = record { room = f .room; top = within-down b k n ne (f .top) .1; index = omega (arith, f .index) }
+  pub fit-right : (k ≡ 0 → ⊥) → Fit ls (k - 1) (2 * n + 1) (2 * j + 1)
+  fit-right ne = fit-below _ (f .room) (within-down _ k n ne lowest .1) (omega (arith, f .index))
 
 -- ---- the leaves of a run
 
@@ -142,15 +152,17 @@ subtree-length leaf (suc k) n j =
 pub subtree-small : (s : List ℕ) (leaf : ℕ → List ℕ) (b k n j : ℕ) → Within b k n → fresh s (subtree leaf k n j) < 2 * b
 subtree-small s leaf b k n j w = omega (arith, fresh-small s (subtree leaf k n j), subtree-length leaf k n j, within-pow b k n w)
 
--- nor do more with both children and the top
-pub up-small : {ls b k n i : ℕ} → Fit ls b k n i → (k ≡ 0 → ⊥) → (s s1 s2 : List ℕ) (leaf : ℕ → List ℕ) (j al ar a : ℕ)
+-- with both children and the top, fewer than the store has bytes
+pub up-small : {ls k n i : ℕ} → Fit ls k n i → (k ≡ 0 → ⊥) → (s s1 s2 : List ℕ) (leaf : ℕ → List ℕ) (j al ar a : ℕ)
     → al ≡ fresh s (subtree leaf (k - 1) (2 * n) (2 * j)) → ar ≡ fresh s1 (subtree leaf (k - 1) (2 * n + 1) (2 * j + 1)) → a ≡ lacks s2 n
-    → al + ar + a < 4 * b
-up-small {ls} {b} {k} {n} {i} f ne s s1 s2 leaf j al ar a el er ea =
+    → al + ar + a < ls
+up-small {ls} {k} {n} {i} f ne s s1 s2 leaf j al ar a el er ea =
+    let below = within-down ((n + 1) * 2 ^ k) k n ne (lowest f) in
     omega (
       arith,
-      subtree-small s leaf b (k - 1) (2 * n) (2 * j) (fit-left f ne .top),
-      subtree-small s1 leaf b (k - 1) (2 * n + 1) (2 * j + 1) (fit-right f ne .top),
+      f .room,
+      subtree-small s leaf ((n + 1) * 2 ^ k) (k - 1) (2 * n) (2 * j) (below .0),
+      subtree-small s1 leaf ((n + 1) * 2 ^ k) (k - 1) (2 * n + 1) (2 * j + 1) (below .1),
       lacks-small s2 n,
     )
 

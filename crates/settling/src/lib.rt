@@ -43,119 +43,116 @@ fn all_three(a: bool, b: bool, c: bool) -> bool
     if a { if b { c } else { false } } else { false }
 }
 
-// Compares the subtree of height k whose top is hash x of a heap with what is held below b, from position n on.
-fn look_heap(s: &[u8], heap: &[u8], b: usize, k: usize, n: usize, x: usize) -> bool
-    requires { ⌜ Fit (length (now s)) b k n 0 × Parents (now heap) × (1 ≤ x) × (32 * ((x + 1) * 2 ^ k) ≤ length (now heap)) ⌝ }
-    ensures { λ r. ⌜ r ≡ agrees (now (s .entry)) (subtree (hashIn (now (heap .entry))) k n x) ⌝ }
+// Compares the subtree of `height` whose top is hash x of a heap with what is held, from position `top` on.
+fn look_heap(store: &[u8], heap: &[u8], height: usize, top: usize, x: usize) -> bool
+    requires { ⌜ Fit (length (now store)) height top 0 × Parents (now heap) × (1 ≤ x) × (32 * ((x + 1) * 2 ^ height) ≤ length (now heap)) ⌝ }
+    ensures { λ r. ⌜ r ≡ agrees (now (store .entry)) (subtree (hashIn (now (heap .entry))) height top x) ⌝ }
 {
     let h = hash_at(heap, 32 * x);
-    let o = agrees_at(s, n, h);
-    if k == 0 {
+    let o = agrees_at(store, top, h);
+    if height == 0 {
         return o;
     }
-    let d = k - 1;
-    let n2 = 2 * n;
+    let d = height - 1;
+    let n2 = 2 * top;
     let x2 = 2 * x;
     let n3 = n2 + 1;
     let x3 = x2 + 1;
-    let l = look_heap(s, heap, b, d, n2, x2);
-    let r = look_heap(s, heap, b, d, n3, x3);
+    let l = look_heap(store, heap, d, n2, x2);
+    let r = look_heap(store, heap, d, n3, x3);
     all_three(l, r, o)
 }
 
 // Every position of that subtree becomes held; how many of them were not.
-fn write_heap(s: &mut [u8], heap: &[u8], b: usize, k: usize, n: usize, x: usize) -> u64
-    requires { ⌜ Fit (length (now s)) b k n 0 × Parents (now heap) × (1 ≤ x) × (32 * ((x + 1) * 2 ^ k) ≤ length (now heap)) ⌝ }
-    ensures { λ r. ⌜ (r ≡ fresh (now (s .entry)) (subtree (hashIn (now (heap .entry))) k n x)) × (now (s .exit) ≡ putAll (now (s .entry)) (subtree (hashIn (now (heap .entry))) k n x)) ⌝ }
+fn write_heap(store: &mut [u8], heap: &[u8], height: usize, top: usize, x: usize) -> u64
+    requires { ⌜ Fit (length (now store)) height top 0 × Parents (now heap) × (1 ≤ x) × (32 * ((x + 1) * 2 ^ height) ≤ length (now heap)) ⌝ }
+    ensures { λ r. ⌜ (r ≡ fresh (now (store .entry)) (subtree (hashIn (now (heap .entry))) height top x)) × (now (store .exit) ≡ putAll (now (store .entry)) (subtree (hashIn (now (heap .entry))) height top x)) ⌝ }
 {
     let h = hash_at(heap, 32 * x);
-    if k == 0 {
-        return add_at(s, n, h);
+    if height == 0 {
+        return add_at(store, top, h);
     }
-    let d = k - 1;
-    let n2 = 2 * n;
+    let d = height - 1;
+    let n2 = 2 * top;
     let x2 = 2 * x;
     let n3 = n2 + 1;
     let x3 = x2 + 1;
-    let l = write_heap(s, heap, b, d, n2, x2);
-    let r = write_heap(s, heap, b, d, n3, x3);
-    let a = add_at(s, n, h);
+    let l = write_heap(store, heap, d, n2, x2);
+    let r = write_heap(store, heap, d, n3, x3);
+    let a = add_at(store, top, h);
     l + r + a
 }
 
-// Works out the subtree over the 2^k = m hashes of a run from number j * m on in a heap, and compares it.
+// Works out the subtree over the 2^`height` = m hashes of a run from number `index` * m on in a heap, and compares it.
 fn look_part(
-    s: &[u8],
+    store: &[u8],
     run: &[u8],
-    past: [u8; 32],
+    pad: [u8; 32],
     heap: &mut [u8],
     m: usize,
-    b: usize,
-    k: usize,
-    n: usize,
-    j: usize,
+    height: usize,
+    top: usize,
+    index: usize,
 ) -> Seen
-    requires { ⌜ Fit (length (now s)) b k n j × (m ≡ 2 ^ k) × (length (now heap) ≡ 64 * m) ⌝ }
-    ensures { λ r. ⌜ (r .hash ≡ node (runLeaf (now (run .entry)) past) k j) × (r .agrees ≡ agrees (now (s .entry)) (subtree (runLeaf (now (run .entry)) past) k n j)) × Worked (runLeaf (now (run .entry)) past) m j (now (heap .exit)) ⌝ }
+    requires { ⌜ Fit (length (now store)) height top index × (m ≡ 2 ^ height) × (length (now heap) ≡ 64 * m) ⌝ }
+    ensures { λ r. ⌜ (r .hash ≡ node (runLeaf (now (run .entry)) pad) height index) × (r .agrees ≡ agrees (now (store .entry)) (subtree (runLeaf (now (run .entry)) pad) height top index)) × Worked (runLeaf (now (run .entry)) pad) m index (now (heap .exit)) ⌝ }
 {
-    work(heap, run, past, m, j);
+    work(heap, run, pad, m, index);
     let hash = hash_at(&*heap, 32);
-    let agrees = look_heap(s, &*heap, b, k, n, 1);
+    let agrees = look_heap(store, &*heap, height, top, 1);
     Seen { hash, agrees }
 }
 
 // The subtree over such a part of a run, worked out in the heap; and every position of it becomes held.
 fn write_part(
-    s: &mut [u8],
+    store: &mut [u8],
     run: &[u8],
-    past: [u8; 32],
+    pad: [u8; 32],
     heap: &mut [u8],
     m: usize,
-    b: usize,
-    k: usize,
-    n: usize,
-    j: usize,
+    height: usize,
+    top: usize,
+    index: usize,
 ) -> Filled
-    requires { ⌜ Fit (length (now s)) b k n j × (m ≡ 2 ^ k) × (length (now heap) ≡ 64 * m) ⌝ }
-    ensures { λ r. ⌜ (r .hash ≡ node (runLeaf (now (run .entry)) past) k j) × ((r .new ≡ fresh (now (s .entry)) (subtree (runLeaf (now (run .entry)) past) k n j)) × (now (s .exit) ≡ putAll (now (s .entry)) (subtree (runLeaf (now (run .entry)) past) k n j))) ⌝ }
+    requires { ⌜ Fit (length (now store)) height top index × (m ≡ 2 ^ height) × (length (now heap) ≡ 64 * m) ⌝ }
+    ensures { λ r. ⌜ (r .hash ≡ node (runLeaf (now (run .entry)) pad) height index) × ((r .new ≡ fresh (now (store .entry)) (subtree (runLeaf (now (run .entry)) pad) height top index)) × (now (store .exit) ≡ putAll (now (store .entry)) (subtree (runLeaf (now (run .entry)) pad) height top index))) ⌝ }
 {
-    work(heap, run, past, m, j);
+    work(heap, run, pad, m, index);
     let hash = hash_at(&*heap, 32);
-    let new = write_heap(s, &*heap, b, k, n, 1);
+    let new = write_heap(store, &*heap, height, top, 1);
     Filled { hash, new }
 }
 
-// Works out the subtree of height k whose top is n, over a run of hashes, and compares it with what is held below b: in a room
+// Works out the subtree of `height` whose top is `top`, over a run of hashes, and compares it with what is held: in a room
 // for the heap over ROOM_LAYERS layers, where a subtree that is not higher stays; above those layer by layer.
 pub fn look_parts(
-    s: &[u8],
+    store: &[u8],
     run: &[u8],
-    past: [u8; 32],
+    pad: [u8; 32],
     room: &mut [u8],
-    b: usize,
-    k: usize,
-    n: usize,
-    j: usize,
+    height: usize,
+    top: usize,
+    index: usize,
 ) -> Seen
-    requires { ⌜ Fit (length (now s)) b k n j × (length (now room) ≡ roomSize) ⌝ }
-    ensures { λ r. ⌜ (r .hash ≡ node (runLeaf (now (run .entry)) past) k j) × (r .agrees ≡ agrees (now (s .entry)) (subtree (runLeaf (now (run .entry)) past) k n j)) × Heaped (runLeaf (now (run .entry)) past) k j (now (room .exit)) ⌝ }
+    requires { ⌜ Fit (length (now store)) height top index × (length (now room) ≡ roomSize) ⌝ }
+    ensures { λ r. ⌜ (r .hash ≡ node (runLeaf (now (run .entry)) pad) height index) × (r .agrees ≡ agrees (now (store .entry)) (subtree (runLeaf (now (run .entry)) pad) height top index)) × Heaped (runLeaf (now (run .entry)) pad) height index (now (room .exit)) ⌝ }
 {
-    if k <= ROOM_LAYERS {
-        let m = 1 << k;
+    if height <= ROOM_LAYERS {
+        let m = 1 << height;
         let size = 64 * m;
-        return look_part(s, run, past, &mut room[0..size], m, b, k, n, j);
+        return look_part(store, run, pad, &mut room[0..size], m, height, top, index);
     }
-    let d = k - 1;
-    let n2 = 2 * n;
-    let j2 = 2 * j;
+    let d = height - 1;
+    let n2 = 2 * top;
+    let j2 = 2 * index;
     let n3 = n2 + 1;
     let j3 = j2 + 1;
-    let l = look_parts(s, run, past, room, b, d, n2, j2);
-    let r = look_parts(s, run, past, room, b, d, n3, j3);
+    let l = look_parts(store, run, pad, room, d, n2, j2);
+    let r = look_parts(store, run, pad, room, d, n3, j3);
     let lh = l.hash;
     let rh = r.hash;
     let h = pair(lh, rh);
-    let o = agrees_at(s, n, h);
+    let o = agrees_at(store, top, h);
     let all = all_three(l.agrees, r.agrees, o);
     Seen {
         hash: h,
@@ -165,19 +162,18 @@ pub fn look_parts(
 
 // What look_parts finds of a run, in a room of its own.
 pub fn look_run(
-    s: &[u8],
+    store: &[u8],
     run: &[u8],
-    past: [u8; 32],
-    b: usize,
-    k: usize,
-    n: usize,
-    j: usize,
+    pad: [u8; 32],
+    height: usize,
+    top: usize,
+    index: usize,
 ) -> Seen
-    requires { ⌜ Fit (length (now s)) b k n j ⌝ }
-    ensures { λ r. ⌜ (r .hash ≡ node (runLeaf (now (run .entry)) past) k j) × (r .agrees ≡ agrees (now (s .entry)) (subtree (runLeaf (now (run .entry)) past) k n j)) ⌝ }
+    requires { ⌜ Fit (length (now store)) height top index ⌝ }
+    ensures { λ r. ⌜ (r .hash ≡ node (runLeaf (now (run .entry)) pad) height index) × (r .agrees ≡ agrees (now (store .entry)) (subtree (runLeaf (now (run .entry)) pad) height top index)) ⌝ }
 {
     let mut room = [0u8; ROOM_SIZE];
-    look_parts(s, run, past, &mut room, b, k, n, j)
+    look_parts(store, run, pad, &mut room, height, top, index)
 }
 
 // ---- the blocks of a piece's bytes
@@ -226,55 +222,53 @@ fn work_blocks(heap: &mut [u8], bytes: &[u8], m: usize, j: usize)
     fill_heap(heap, m);
 }
 
-// Works out the subtree over the 2^k = m blocks from number j * m on in a heap, and compares it.
+// Works out the subtree over the 2^`height` = m blocks from number `index` * m on in a heap, and compares it.
 fn look_blocks(
-    s: &[u8],
+    store: &[u8],
     bytes: &[u8],
     heap: &mut [u8],
     m: usize,
-    b: usize,
-    k: usize,
-    n: usize,
-    j: usize,
+    height: usize,
+    top: usize,
+    index: usize,
 ) -> Seen
-    requires { ⌜ Fit (length (now s)) b k n j × (m ≡ 2 ^ k) × (length (now heap) ≡ 64 * m) ⌝ }
-    ensures { λ r. ⌜ (r .hash ≡ node (leafOf (now (bytes .entry))) k j) × (r .agrees ≡ agrees (now (s .entry)) (subtree (leafOf (now (bytes .entry))) k n j)) ⌝ }
+    requires { ⌜ Fit (length (now store)) height top index × (m ≡ 2 ^ height) × (length (now heap) ≡ 64 * m) ⌝ }
+    ensures { λ r. ⌜ (r .hash ≡ node (leafOf (now (bytes .entry))) height index) × (r .agrees ≡ agrees (now (store .entry)) (subtree (leafOf (now (bytes .entry))) height top index)) ⌝ }
 {
-    work_blocks(heap, bytes, m, j);
+    work_blocks(heap, bytes, m, index);
     let hash = hash_at(&*heap, 32);
-    let agrees = look_heap(s, &*heap, b, k, n, 1);
+    let agrees = look_heap(store, &*heap, height, top, 1);
     Seen { hash, agrees }
 }
 
-// Works out the subtree of height k whose top is n, over the blocks of a piece's bytes, and compares it as look_parts does.
+// Works out the subtree of `height` whose top is `top`, over the blocks of a piece's bytes, and compares it as look_parts does.
 fn look_pieces(
-    s: &[u8],
+    store: &[u8],
     bytes: &[u8],
     room: &mut [u8],
-    b: usize,
-    k: usize,
-    n: usize,
-    j: usize,
+    height: usize,
+    top: usize,
+    index: usize,
 ) -> Seen
-    requires { ⌜ Fit (length (now s)) b k n j × (length (now room) ≡ roomSize) ⌝ }
-    ensures { λ r. ⌜ (r .hash ≡ node (leafOf (now (bytes .entry))) k j) × (r .agrees ≡ agrees (now (s .entry)) (subtree (leafOf (now (bytes .entry))) k n j)) ⌝ }
+    requires { ⌜ Fit (length (now store)) height top index × (length (now room) ≡ roomSize) ⌝ }
+    ensures { λ r. ⌜ (r .hash ≡ node (leafOf (now (bytes .entry))) height index) × (r .agrees ≡ agrees (now (store .entry)) (subtree (leafOf (now (bytes .entry))) height top index)) ⌝ }
 {
-    if k <= ROOM_LAYERS {
-        let m = 1 << k;
+    if height <= ROOM_LAYERS {
+        let m = 1 << height;
         let size = 64 * m;
-        return look_blocks(s, bytes, &mut room[0..size], m, b, k, n, j);
+        return look_blocks(store, bytes, &mut room[0..size], m, height, top, index);
     }
-    let d = k - 1;
-    let n2 = 2 * n;
-    let j2 = 2 * j;
+    let d = height - 1;
+    let n2 = 2 * top;
+    let j2 = 2 * index;
     let n3 = n2 + 1;
     let j3 = j2 + 1;
-    let l = look_pieces(s, bytes, room, b, d, n2, j2);
-    let r = look_pieces(s, bytes, room, b, d, n3, j3);
+    let l = look_pieces(store, bytes, room, d, n2, j2);
+    let r = look_pieces(store, bytes, room, d, n3, j3);
     let lh = l.hash;
     let rh = r.hash;
     let h = pair(lh, rh);
-    let o = agrees_at(s, n, h);
+    let o = agrees_at(store, top, h);
     let all = all_three(l.agrees, r.agrees, o);
     Seen {
         hash: h,
@@ -283,96 +277,93 @@ fn look_pieces(
 }
 
 // What look_pieces finds of a piece's bytes, in a room of its own.
-pub fn look_data(s: &[u8], bytes: &[u8], b: usize, k: usize, n: usize, j: usize) -> Seen
-    requires { ⌜ Fit (length (now s)) b k n j ⌝ }
-    ensures { λ r. ⌜ (r .hash ≡ node (leafOf (now (bytes .entry))) k j) × (r .agrees ≡ agrees (now (s .entry)) (subtree (leafOf (now (bytes .entry))) k n j)) ⌝ }
+pub fn look_data(store: &[u8], bytes: &[u8], height: usize, top: usize, index: usize) -> Seen
+    requires { ⌜ Fit (length (now store)) height top index ⌝ }
+    ensures { λ r. ⌜ (r .hash ≡ node (leafOf (now (bytes .entry))) height index) × (r .agrees ≡ agrees (now (store .entry)) (subtree (leafOf (now (bytes .entry))) height top index)) ⌝ }
 {
     let mut room = [0u8; ROOM_SIZE];
-    look_pieces(s, bytes, &mut room, b, k, n, j)
+    look_pieces(store, bytes, &mut room, height, top, index)
 }
 
 // Every position of that subtree over a run becomes held.
 fn write_parts(
-    s: &mut [u8],
+    store: &mut [u8],
     run: &[u8],
-    past: [u8; 32],
+    pad: [u8; 32],
     room: &mut [u8],
-    b: usize,
-    k: usize,
-    n: usize,
-    j: usize,
+    height: usize,
+    top: usize,
+    index: usize,
 ) -> Filled
-    requires { ⌜ Fit (length (now s)) b k n j × (length (now room) ≡ roomSize) ⌝ }
-    ensures { λ r. ⌜ (r .hash ≡ node (runLeaf (now (run .entry)) past) k j) × ((r .new ≡ fresh (now (s .entry)) (subtree (runLeaf (now (run .entry)) past) k n j)) × (now (s .exit) ≡ putAll (now (s .entry)) (subtree (runLeaf (now (run .entry)) past) k n j))) ⌝ }
+    requires { ⌜ Fit (length (now store)) height top index × (length (now room) ≡ roomSize) ⌝ }
+    ensures { λ r. ⌜ (r .hash ≡ node (runLeaf (now (run .entry)) pad) height index) × ((r .new ≡ fresh (now (store .entry)) (subtree (runLeaf (now (run .entry)) pad) height top index)) × (now (store .exit) ≡ putAll (now (store .entry)) (subtree (runLeaf (now (run .entry)) pad) height top index))) ⌝ }
 {
-    if k <= ROOM_LAYERS {
-        let m = 1 << k;
+    if height <= ROOM_LAYERS {
+        let m = 1 << height;
         let size = 64 * m;
-        return write_part(s, run, past, &mut room[0..size], m, b, k, n, j);
+        return write_part(store, run, pad, &mut room[0..size], m, height, top, index);
     }
-    let d = k - 1;
-    let n2 = 2 * n;
-    let j2 = 2 * j;
+    let d = height - 1;
+    let n2 = 2 * top;
+    let j2 = 2 * index;
     let n3 = n2 + 1;
     let j3 = j2 + 1;
-    let l = write_parts(s, run, past, room, b, d, n2, j2);
-    let r = write_parts(s, run, past, room, b, d, n3, j3);
+    let l = write_parts(store, run, pad, room, d, n2, j2);
+    let r = write_parts(store, run, pad, room, d, n3, j3);
     let lh = l.hash;
     let rh = r.hash;
     let v = pair(lh, rh);
-    let a = add_at(s, n, v);
+    let a = add_at(store, top, v);
     let t = l.new + r.new + a;
     Filled { hash: v, new: t }
 }
 
 // Every position becomes held, in the room where look_parts has worked it out: what stayed there is written from there, not worked out again.
 pub fn write_looked(
-    s: &mut [u8],
+    store: &mut [u8],
     run: &[u8],
-    past: [u8; 32],
+    pad: [u8; 32],
     room: &mut [u8],
-    b: usize,
-    k: usize,
-    n: usize,
-    j: usize,
+    height: usize,
+    top: usize,
+    index: usize,
 ) -> Filled
-    requires { ⌜ Fit (length (now s)) b k n j × (length (now room) ≡ roomSize) × Heaped (runLeaf (now run) past) k j (now room) ⌝ }
-    ensures { λ r. ⌜ (r .hash ≡ node (runLeaf (now (run .entry)) past) k j) × ((r .new ≡ fresh (now (s .entry)) (subtree (runLeaf (now (run .entry)) past) k n j)) × (now (s .exit) ≡ putAll (now (s .entry)) (subtree (runLeaf (now (run .entry)) past) k n j))) ⌝ }
+    requires { ⌜ Fit (length (now store)) height top index × (length (now room) ≡ roomSize) × Heaped (runLeaf (now run) pad) height index (now room) ⌝ }
+    ensures { λ r. ⌜ (r .hash ≡ node (runLeaf (now (run .entry)) pad) height index) × ((r .new ≡ fresh (now (store .entry)) (subtree (runLeaf (now (run .entry)) pad) height top index)) × (now (store .exit) ≡ putAll (now (store .entry)) (subtree (runLeaf (now (run .entry)) pad) height top index))) ⌝ }
 {
-    if k <= ROOM_LAYERS {
-        let m = 1 << k;
+    if height <= ROOM_LAYERS {
+        let m = 1 << height;
         let size = 64 * m;
         let heap = &room[0..size];
         let hash = hash_at(heap, 32);
-        let new = write_heap(s, heap, b, k, n, 1);
+        let new = write_heap(store, heap, height, top, 1);
         return Filled { hash, new };
     }
-    write_parts(s, run, past, room, b, k, n, j)
+    write_parts(store, run, pad, room, height, top, index)
 }
 
 // Every position of that subtree becomes held, in a room of its own.
 pub fn write_run(
-    s: &mut [u8],
+    store: &mut [u8],
     run: &[u8],
-    past: [u8; 32],
-    b: usize,
-    k: usize,
-    n: usize,
-    j: usize,
+    pad: [u8; 32],
+    height: usize,
+    top: usize,
+    index: usize,
 ) -> Filled
-    requires { ⌜ Fit (length (now s)) b k n j ⌝ }
-    ensures { λ r. ⌜ (r .hash ≡ node (runLeaf (now (run .entry)) past) k j) × ((r .new ≡ fresh (now (s .entry)) (subtree (runLeaf (now (run .entry)) past) k n j)) × (now (s .exit) ≡ putAll (now (s .entry)) (subtree (runLeaf (now (run .entry)) past) k n j))) ⌝ }
+    requires { ⌜ Fit (length (now store)) height top index ⌝ }
+    ensures { λ r. ⌜ (r .hash ≡ node (runLeaf (now (run .entry)) pad) height index) × ((r .new ≡ fresh (now (store .entry)) (subtree (runLeaf (now (run .entry)) pad) height top index)) × (now (store .exit) ≡ putAll (now (store .entry)) (subtree (runLeaf (now (run .entry)) pad) height top index))) ⌝ }
 {
     let mut room = [0u8; ROOM_SIZE];
-    write_parts(s, run, past, &mut room, b, k, n, j)
+    write_parts(store, run, pad, &mut room, height, top, index)
 }
 
-// The position beside n.
-pub fn beside(n: usize) -> usize
-    requires { ⌜ n + 1 < 2 ^ 64 ⌝ }
-    ensures { λ r. ⌜ r ≡ sibling n ⌝ }
+// The position beside `node`.
+pub fn sibling(node: usize) -> usize
+    requires { ⌜ node + 1 < 2 ^ 64 ⌝ }
+    ensures { λ r. ⌜ r ≡ sibling node ⌝ }
 {
-    if n % 2 == 0 { n + 1 } else { n - 1 }
+    if node % 2 == 0 { node + 1 } else { node - 1 }
 }
 
 // The parent's value, of v at n and w beside it.
@@ -382,36 +373,43 @@ fn above(n: usize, v: [u8; 32], w: [u8; 32]) -> [u8; 32]
     if n % 2 == 0 { pair(v, w) } else { pair(w, v) }
 }
 
-// The position u layers above n.
-pub fn rising(n: usize, u: usize) -> usize
-    ensures { λ r. ⌜ r ≡ ancestor u n ⌝ }
+// The position `layers` layers above `node`.
+pub fn ancestor(node: usize, layers: usize) -> usize
+    ensures { λ r. ⌜ r ≡ ancestor layers node ⌝ }
 {
-    if u == 0 {
-        return n;
+    if layers == 0 {
+        return node;
     }
-    rising(n / 2, u - 1)
+    ancestor(node / 2, layers - 1)
 }
 
-// The value u layers above n, whose value is v, by the uncles from number i on; compared on the way with what is held below b.
-pub fn climb(s: &[u8], hashes: &[u8], b: usize, i: usize, u: usize, n: usize, v: [u8; 32]) -> Seen
-    requires { ⌜ Way (length (now s)) (length (now hashes)) b i u n ⌝ }
-    ensures { λ r. ⌜ (r .hash ≡ risen (now (hashes .entry)) i u n v) × (r .agrees ≡ agrees (now (s .entry)) (path (now (hashes .entry)) i u n v)) ⌝ }
+// The value `count` layers above `node`, whose value is `value`, by the uncles from `number` on; compared on the way with what is held.
+pub fn climb(
+    store: &[u8],
+    hashes: &[u8],
+    number: usize,
+    count: usize,
+    node: usize,
+    value: [u8; 32],
+) -> Seen
+    requires { ⌜ Way (length (now store)) (length (now hashes)) number count node ⌝ }
+    ensures { λ r. ⌜ (r .hash ≡ risen (now (hashes .entry)) number count node value) × (r .agrees ≡ agrees (now (store .entry)) (path (now (hashes .entry)) number count node value)) ⌝ }
 {
-    if u == 0 {
+    if count == 0 {
         return Seen {
-            hash: v,
+            hash: value,
             agrees: true,
         };
     }
-    let d = u - 1;
-    let i2 = i + 1;
-    let n2 = n / 2;
-    let w = hash_at(hashes, 32 * i);
-    let x = beside(n);
-    let v2 = above(n, v, w);
-    let o1 = agrees_at(s, x, w);
-    let o2 = agrees_at(s, n2, v2);
-    let r = climb(s, hashes, b, i2, d, n2, v2);
+    let d = count - 1;
+    let i2 = number + 1;
+    let n2 = node / 2;
+    let w = hash_at(hashes, 32 * number);
+    let x = sibling(node);
+    let v2 = above(node, value, w);
+    let o1 = agrees_at(store, x, w);
+    let o2 = agrees_at(store, n2, v2);
+    let r = climb(store, hashes, i2, d, n2, v2);
     let h = r.hash;
     let all = all_three(o1, o2, r.agrees);
     Seen {
@@ -422,28 +420,27 @@ pub fn climb(s: &[u8], hashes: &[u8], b: usize, i: usize, u: usize, n: usize, v:
 
 // Every uncle and every parent on that way becomes held; how many of them were not.
 pub fn write_path(
-    s: &mut [u8],
+    store: &mut [u8],
     hashes: &[u8],
-    b: usize,
-    i: usize,
-    u: usize,
-    n: usize,
-    v: [u8; 32],
+    number: usize,
+    count: usize,
+    node: usize,
+    value: [u8; 32],
 ) -> u64
-    requires { ⌜ Way (length (now s)) (length (now hashes)) b i u n ⌝ }
-    ensures { λ r. ⌜ (r ≡ fresh (now (s .entry)) (path (now (hashes .entry)) i u n v)) × (now (s .exit) ≡ putAll (now (s .entry)) (path (now (hashes .entry)) i u n v)) ⌝ }
+    requires { ⌜ Way (length (now store)) (length (now hashes)) number count node ⌝ }
+    ensures { λ r. ⌜ (r ≡ fresh (now (store .entry)) (path (now (hashes .entry)) number count node value)) × (now (store .exit) ≡ putAll (now (store .entry)) (path (now (hashes .entry)) number count node value)) ⌝ }
 {
-    if u == 0 {
+    if count == 0 {
         return 0;
     }
-    let d = u - 1;
-    let i2 = i + 1;
-    let n2 = n / 2;
-    let w = hash_at(hashes, 32 * i);
-    let x = beside(n);
-    let v2 = above(n, v, w);
-    let a1 = add_at(s, x, w);
-    let a2 = add_at(s, n2, v2);
-    let a = write_path(s, hashes, b, i2, d, n2, v2);
+    let d = count - 1;
+    let i2 = number + 1;
+    let n2 = node / 2;
+    let w = hash_at(hashes, 32 * number);
+    let x = sibling(node);
+    let v2 = above(node, value, w);
+    let a1 = add_at(store, x, w);
+    let a2 = add_at(store, n2, v2);
+    let a = write_path(store, hashes, i2, d, n2, v2);
     a1 + a2 + a
 }

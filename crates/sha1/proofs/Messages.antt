@@ -7,11 +7,12 @@ use Prim.Native.Nat.{ℕ, _+_, _-_, _*_, _/_, _%_, _<_, _≤_}
 use native.Mathlib.Omega.{arith}
 use lib.ListN.{length, take, drop, replicate, length-drop}
 use lib.Seq.{take-all, take-append-add}
+use Rattle.octets.specs.OctetsLaws.{zeros-front}
 use Rattle.padding.specs.Padding.{padding}
 use Rattle.padding.specs.Cutting.{overBlocks, overMessage}
 use Rattle.padding.specs.Running.{wholeBlocks, pastBlocks, tailArray, runningOf, runningEnd}
 use Rattle.padding.specs.RunningLaws.{past-size, running-end}
-use Rattle.padding.specs.ZerosLaws.{zeros-front, few-zeros, many-zeros}
+use Rattle.padding.specs.ZerosLaws.{few-zeros, many-zeros}
 use Rattle.rounds1.specs.Block.{compress}
 use Rattle.rounds1.specs.declared.Five.{Five}
 use Rattle.sha1.specs.Sha1.{start}

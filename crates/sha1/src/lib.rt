@@ -31,76 +31,76 @@ fn start() -> Five
     }
 }
 
-// The whole blocks of s.
-fn whole_blocks(st: Five, s: &[u8]) -> Five
-    ensures { λ r. ⌜ r ≡ overBlocks B.compress (length (now (s .entry)) / 64) st (now (s .entry)) ⌝ }
+// The whole blocks of `bytes`.
+fn whole_blocks(state: Five, bytes: &[u8]) -> Five
+    ensures { λ r. ⌜ r ≡ overBlocks B.compress (length (now (bytes .entry)) / 64) state (now (bytes .entry)) ⌝ }
 {
-    let mut t = st;
+    let mut t = state;
     let mut at: usize = 0;
-    while 64 <= s.len() - at {
-        t = compress(t, s, at);
+    while 64 <= bytes.len() - at {
+        t = compress(t, bytes, at);
         at += 64;
     }
     t
 }
 
-// The last one or two blocks of a message of n bytes, whose last bytes are s.
-fn finish(st: Five, s: &[u8], n: u64) -> Five
-    requires { ⌜ length (now s) ≡ n % 64 ⌝ }
-    ensures { λ r. ⌜ r ≡ overBlocks B.compress (length (now (s .entry) ++ P.padding n) / 64) st (now (s .entry) ++ P.padding n) ⌝ }
+// The last one or two blocks of a message of `total` bytes, whose last bytes are `bytes`.
+fn finish(state: Five, bytes: &[u8], total: u64) -> Five
+    requires { ⌜ length (now bytes) ≡ total % 64 ⌝ }
+    ensures { λ r. ⌜ r ≡ overBlocks B.compress (length (now (bytes .entry) ++ P.padding total) / 64) state (now (bytes .entry) ++ P.padding total) ⌝ }
 {
-    let b = padding::pad(s, n);
-    let t = compress(st, &b, 0);
-    if s.len() < 56 {
+    let b = padding::pad(bytes, total);
+    let t = compress(state, &b, 0);
+    if bytes.len() < 56 {
         return t;
     }
     compress(t, &b, 64)
 }
 
-fn digest(s: Five) -> [u8; 20]
-    ensures { λ r. ⌜ r ≡ S.digest s ⌝ }
+fn digest(state: Five) -> [u8; 20]
+    ensures { λ r. ⌜ r ≡ S.digest state ⌝ }
 {
     [
-        ((s.a >> 24) % 256) as u8,
-        ((s.a >> 16) % 256) as u8,
-        ((s.a >> 8) % 256) as u8,
-        (s.a % 256) as u8,
-        ((s.b >> 24) % 256) as u8,
-        ((s.b >> 16) % 256) as u8,
-        ((s.b >> 8) % 256) as u8,
-        (s.b % 256) as u8,
-        ((s.c >> 24) % 256) as u8,
-        ((s.c >> 16) % 256) as u8,
-        ((s.c >> 8) % 256) as u8,
-        (s.c % 256) as u8,
-        ((s.d >> 24) % 256) as u8,
-        ((s.d >> 16) % 256) as u8,
-        ((s.d >> 8) % 256) as u8,
-        (s.d % 256) as u8,
-        ((s.e >> 24) % 256) as u8,
-        ((s.e >> 16) % 256) as u8,
-        ((s.e >> 8) % 256) as u8,
-        (s.e % 256) as u8,
+        ((state.a >> 24) % 256) as u8,
+        ((state.a >> 16) % 256) as u8,
+        ((state.a >> 8) % 256) as u8,
+        (state.a % 256) as u8,
+        ((state.b >> 24) % 256) as u8,
+        ((state.b >> 16) % 256) as u8,
+        ((state.b >> 8) % 256) as u8,
+        (state.b % 256) as u8,
+        ((state.c >> 24) % 256) as u8,
+        ((state.c >> 16) % 256) as u8,
+        ((state.c >> 8) % 256) as u8,
+        (state.c % 256) as u8,
+        ((state.d >> 24) % 256) as u8,
+        ((state.d >> 16) % 256) as u8,
+        ((state.d >> 8) % 256) as u8,
+        (state.d % 256) as u8,
+        ((state.e >> 24) % 256) as u8,
+        ((state.e >> 16) % 256) as u8,
+        ((state.e >> 8) % 256) as u8,
+        (state.e % 256) as u8,
     ]
 }
 
-// The hash of the bytes of s. (A slice too long for the standard is hashed with its count of bits modulo 2^64.)
-pub fn hash(s: &[u8]) -> [u8; 20]
-    ensures { λ r. ⌜ r ≡ S.sha1 (now (s .entry)) ⌝ }
+// The hash of `bytes`. (A slice too long for the standard is hashed with its count of bits modulo 2^64.)
+pub fn hash(bytes: &[u8]) -> [u8; 20]
+    ensures { λ r. ⌜ r ≡ S.sha1 (now (bytes .entry)) ⌝ }
 {
-    let t = whole_blocks(start(), s);
-    let n = s.len();
+    let t = whole_blocks(start(), bytes);
+    let n = bytes.len();
     let at = n - n % 64;
-    let rest = &s[at..];
+    let rest = &bytes[at..];
     digest(finish(t, rest, n as u64))
 }
 
-// The hash of the bytes of s; 4 above the longest string that has one.
-pub fn sha1(s: &[u8]) -> Sha1Answer
-    ensures { λ r. ⌜ r ≡ sha1Of (now (s .entry)) ⌝ }
+// The hash of `bytes`; 4 above the longest string that has one.
+pub fn sha1(bytes: &[u8]) -> Sha1Answer
+    ensures { λ r. ⌜ r ≡ sha1Of (now (bytes .entry)) ⌝ }
 {
-    if s.len() <= limits::LONGEST_HASHED {
-        let hash = hash(s);
+    if bytes.len() <= limits::LONGEST_HASHED {
+        let hash = hash(bytes);
         return Sha1Answer { number: 0, hash };
     }
     let none = [0u8; 20];
@@ -111,11 +111,11 @@ pub fn sha1(s: &[u8]) -> Sha1Answer
 }
 
 // The whole blocks of so many zeros.
-fn zero_blocks(st: Five, zeros: usize) -> Five
-    ensures { λ r. ⌜ r ≡ overBlocks B.compress (zeros / 64) st (replicate zeros 0) ⌝ }
+fn zero_blocks(state: Five, zeros: usize) -> Five
+    ensures { λ r. ⌜ r ≡ overBlocks B.compress (zeros / 64) state (replicate zeros 0) ⌝ }
 {
     let none = [0u8; 64];
-    let mut t = st;
+    let mut t = state;
     let mut at: usize = 0;
     while 64 <= zeros - at {
         t = compress(t, &none, 0);
@@ -124,18 +124,18 @@ fn zero_blocks(st: Five, zeros: usize) -> Five
     t
 }
 
-// The hash of the bytes of s with so many zeros behind them, which need not lie in memory.
-pub fn hash_with_zeros(s: &[u8], zeros: usize) -> [u8; 20]
-    requires { ⌜ length (now s) + zeros < 2 ^ 64 ⌝ }
-    ensures { λ r. ⌜ r ≡ S.sha1 (now (s .entry) ++ replicate zeros 0) ⌝ }
+// The hash of `bytes` with so many zeros behind them, which need not lie in memory.
+pub fn hash_with_zeros(bytes: &[u8], zeros: usize) -> [u8; 20]
+    requires { ⌜ length (now bytes) + zeros < 2 ^ 64 ⌝ }
+    ensures { λ r. ⌜ r ≡ S.sha1 (now (bytes .entry) ++ replicate zeros 0) ⌝ }
 {
-    let t = whole_blocks(start(), s);
-    let n = s.len();
+    let t = whole_blocks(start(), bytes);
+    let n = bytes.len();
     let total = n + zeros;
     let left = n % 64;
     let at = n - left;
     let none = [0u8; 64];
-    let block = padding::filled(none, 0, &s[at..]);
+    let block = padding::filled(none, 0, &bytes[at..]);
     let room = 64 - left;
     if zeros < room {
         let size = left + zeros;
@@ -149,12 +149,12 @@ pub fn hash_with_zeros(s: &[u8], zeros: usize) -> [u8; 20]
 }
 
 // Whether two hashes are the same, all bytes compared. The one place where hashes of 20 bytes are compared.
-pub fn same(a: [u8; 20], b: [u8; 20]) -> bool
-    ensures { λ r. ⌜ r ≡ O.same a b ⌝ }
+pub fn same(one: [u8; 20], other: [u8; 20]) -> bool
+    ensures { λ r. ⌜ r ≡ O.same one other ⌝ }
 {
     let mut i = 0;
     while i < 20 {
-        if a[i] != b[i] {
+        if one[i] != other[i] {
             return false;
         }
         i += 1;

@@ -36,89 +36,89 @@ pub fn start() -> State
     }
 }
 
-// The whole blocks of s.
-pub fn whole_blocks(st: State, k: &[u32; 64], s: &[u8]) -> State
-    ensures { λ r. ⌜ r ≡ overBlocks (B.compress (now (k .entry))) (length (now (s .entry)) / 64) st (now (s .entry)) ⌝ }
+// The whole blocks of `bytes`.
+pub fn whole_blocks(state: State, k: &[u32; 64], bytes: &[u8]) -> State
+    ensures { λ r. ⌜ r ≡ overBlocks (B.compress (now (k .entry))) (length (now (bytes .entry)) / 64) state (now (bytes .entry)) ⌝ }
 {
-    let mut t = st;
+    let mut t = state;
     let mut at: usize = 0;
-    while 64 <= s.len() - at {
-        t = compress(t, k, s, at);
+    while 64 <= bytes.len() - at {
+        t = compress(t, k, bytes, at);
         at += 64;
     }
     t
 }
 
-// The last one or two blocks of a message of n bytes, whose last bytes are s.
-pub fn finish(st: State, k: &[u32; 64], s: &[u8], n: u64) -> State
-    requires { ⌜ length (now s) ≡ n % 64 ⌝ }
-    ensures { λ r. ⌜ r ≡ overBlocks (B.compress (now (k .entry))) (length (now (s .entry) ++ P.padding n) / 64) st (now (s .entry) ++ P.padding n) ⌝ }
+// The last one or two blocks of a message of `total` bytes, whose last bytes are `bytes`.
+pub fn finish(state: State, k: &[u32; 64], bytes: &[u8], total: u64) -> State
+    requires { ⌜ length (now bytes) ≡ total % 64 ⌝ }
+    ensures { λ r. ⌜ r ≡ overBlocks (B.compress (now (k .entry))) (length (now (bytes .entry) ++ P.padding total) / 64) state (now (bytes .entry) ++ P.padding total) ⌝ }
 {
-    let b = padding::pad(s, n);
-    let t = compress(st, k, &b, 0);
-    if s.len() < 56 {
+    let b = padding::pad(bytes, total);
+    let t = compress(state, k, &b, 0);
+    if bytes.len() < 56 {
         return t;
     }
     compress(t, k, &b, 64)
 }
 
-pub fn digest(s: State) -> [u8; 32]
-    ensures { λ r. ⌜ r ≡ S.digest s ⌝ }
+pub fn digest(state: State) -> [u8; 32]
+    ensures { λ r. ⌜ r ≡ S.digest state ⌝ }
 {
     [
-        ((s.a >> 24) % 256) as u8,
-        ((s.a >> 16) % 256) as u8,
-        ((s.a >> 8) % 256) as u8,
-        (s.a % 256) as u8,
-        ((s.b >> 24) % 256) as u8,
-        ((s.b >> 16) % 256) as u8,
-        ((s.b >> 8) % 256) as u8,
-        (s.b % 256) as u8,
-        ((s.c >> 24) % 256) as u8,
-        ((s.c >> 16) % 256) as u8,
-        ((s.c >> 8) % 256) as u8,
-        (s.c % 256) as u8,
-        ((s.d >> 24) % 256) as u8,
-        ((s.d >> 16) % 256) as u8,
-        ((s.d >> 8) % 256) as u8,
-        (s.d % 256) as u8,
-        ((s.e >> 24) % 256) as u8,
-        ((s.e >> 16) % 256) as u8,
-        ((s.e >> 8) % 256) as u8,
-        (s.e % 256) as u8,
-        ((s.f >> 24) % 256) as u8,
-        ((s.f >> 16) % 256) as u8,
-        ((s.f >> 8) % 256) as u8,
-        (s.f % 256) as u8,
-        ((s.g >> 24) % 256) as u8,
-        ((s.g >> 16) % 256) as u8,
-        ((s.g >> 8) % 256) as u8,
-        (s.g % 256) as u8,
-        ((s.h >> 24) % 256) as u8,
-        ((s.h >> 16) % 256) as u8,
-        ((s.h >> 8) % 256) as u8,
-        (s.h % 256) as u8,
+        ((state.a >> 24) % 256) as u8,
+        ((state.a >> 16) % 256) as u8,
+        ((state.a >> 8) % 256) as u8,
+        (state.a % 256) as u8,
+        ((state.b >> 24) % 256) as u8,
+        ((state.b >> 16) % 256) as u8,
+        ((state.b >> 8) % 256) as u8,
+        (state.b % 256) as u8,
+        ((state.c >> 24) % 256) as u8,
+        ((state.c >> 16) % 256) as u8,
+        ((state.c >> 8) % 256) as u8,
+        (state.c % 256) as u8,
+        ((state.d >> 24) % 256) as u8,
+        ((state.d >> 16) % 256) as u8,
+        ((state.d >> 8) % 256) as u8,
+        (state.d % 256) as u8,
+        ((state.e >> 24) % 256) as u8,
+        ((state.e >> 16) % 256) as u8,
+        ((state.e >> 8) % 256) as u8,
+        (state.e % 256) as u8,
+        ((state.f >> 24) % 256) as u8,
+        ((state.f >> 16) % 256) as u8,
+        ((state.f >> 8) % 256) as u8,
+        (state.f % 256) as u8,
+        ((state.g >> 24) % 256) as u8,
+        ((state.g >> 16) % 256) as u8,
+        ((state.g >> 8) % 256) as u8,
+        (state.g % 256) as u8,
+        ((state.h >> 24) % 256) as u8,
+        ((state.h >> 16) % 256) as u8,
+        ((state.h >> 8) % 256) as u8,
+        (state.h % 256) as u8,
     ]
 }
 
-// The hash of the bytes of s. (A slice too long for the standard is hashed with its count of bits modulo 2^64.)
-pub fn hash(s: &[u8]) -> [u8; 32]
-    ensures { λ r. ⌜ r ≡ S.sha256 (now (s .entry)) ⌝ }
+// The hash of `bytes`. (A slice too long for the standard is hashed with its count of bits modulo 2^64.)
+pub fn hash(bytes: &[u8]) -> [u8; 32]
+    ensures { λ r. ⌜ r ≡ S.sha256 (now (bytes .entry)) ⌝ }
 {
     let k = constants::round_words();
-    let t = whole_blocks(start(), &k, s);
-    let n = s.len();
+    let t = whole_blocks(start(), &k, bytes);
+    let n = bytes.len();
     let at = n - n % 64;
-    let rest = &s[at..];
+    let rest = &bytes[at..];
     digest(finish(t, &k, rest, n as u64))
 }
 
-// The hash of the bytes of s; 4 above the longest string that has one.
-pub fn sha256(s: &[u8]) -> Hashed
-    ensures { λ r. ⌜ r ≡ hashedOf (now (s .entry)) ⌝ }
+// The hash of `bytes`; 4 above the longest string that has one.
+pub fn sha256(bytes: &[u8]) -> Hashed
+    ensures { λ r. ⌜ r ≡ hashedOf (now (bytes .entry)) ⌝ }
 {
-    if s.len() <= limits::LONGEST_HASHED {
-        let h = hash(s);
+    if bytes.len() <= limits::LONGEST_HASHED {
+        let h = hash(bytes);
         return Hashed { number: 0, hash: h };
     }
     let none = [0u8; 32];
@@ -129,12 +129,12 @@ pub fn sha256(s: &[u8]) -> Hashed
 }
 
 // Left then right, as one block.
-fn joined(l: [u8; 32], r: [u8; 32]) -> [u8; 64]
-    ensures { λ b. ⌜ b ≡ l ++ r ⌝ }
+fn joined(left: [u8; 32], right: [u8; 32]) -> [u8; 64]
+    ensures { λ b. ⌜ b ≡ left ++ right ⌝ }
 {
     let mut b = [0u8; 64];
-    octets::put_hash(&mut b, 0, l);
-    octets::put_hash(&mut b, 32, r);
+    octets::put_hash(&mut b, 0, left);
+    octets::put_hash(&mut b, 32, right);
     b
 }
 
@@ -214,12 +214,12 @@ pub fn pair_sums() -> [u32; 64]
 }
 
 // The hash of two hashes, left then right: the parent of two nodes.
-pub fn pair(l: [u8; 32], r: [u8; 32]) -> [u8; 32]
-    ensures { λ h. ⌜ h ≡ S.pairHash l r ⌝ }
+pub fn pair(left: [u8; 32], right: [u8; 32]) -> [u8; 32]
+    ensures { λ h. ⌜ h ≡ S.pairHash left right ⌝ }
 {
     let k = constants::round_words();
     let x = pair_sums();
-    let b = joined(l, r);
+    let b = joined(left, right);
     let t = compress(start(), &k, &b, 0);
     digest(compress_sums(t, &x))
 }

@@ -1,5 +1,5 @@
 pub mod Telling
-pub mod Sorting
+pub mod Copying
 pub mod Merging
 pub mod Thinning
 pub mod Narrowing

@@ -4,6 +4,7 @@ pub mod Sorting
 pub mod PermutedLaws
 pub mod SortedByLaws
 pub mod MergedLaws
+pub mod HalvesLaws
 pub mod PrecedesLaws
 pub mod SortingLaws
 pub mod ThinnedLaws

@@ -311,7 +311,7 @@ module _ (s t : List ℕ) (f : Facts s) (e : cut t 0 (storeSize (fileLength s)) 
       let g : (u : List ℕ) → cut (cut u 0 (storeSize (fileLength s))) a n ≡ cut u a n = λ u. cut-cut u 0 (storeSize (fileLength s)) a n l ∙ ap (λ (x : ℕ). cut u x n) z in
       sym (g t) ∙ ap (λ (u : List ℕ). cut u a n) e ∙ g s
 
-  byte-same : (i : ℕ) → i < storeSize (fileLength s) → getD t i 0 ≡ getD s i 0
+  pub byte-same : (i : ℕ) → i < storeSize (fileLength s) → getD t i 0 ≡ getD s i 0
   byte-same i l =
       let z : 0 + i ≡ i = omega arith in
       let g : (u : List ℕ) → getD (cut u 0 (storeSize (fileLength s))) i 0 ≡ getD u i 0 = λ u. getD-cut u 0 (storeSize (fileLength s)) i l ∙ ap (λ (x : ℕ). getD u x 0) z in

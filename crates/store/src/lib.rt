@@ -18,53 +18,53 @@ use tree::geometry::is_piece_length;
 use tree::geometry::node_number;
 
 // The file's length, as the facts name it.
-pub fn file_length(s: &[u8]) -> usize
-    requires { ⌜ 64 ≤ length (now s) ⌝ }
-    ensures { λ r. ⌜ r ≡ S.fileLength (now (s .entry)) ⌝ }
+pub fn file_length(store: &[u8]) -> usize
+    requires { ⌜ 64 ≤ length (now store) ⌝ }
+    ensures { λ r. ⌜ r ≡ S.fileLength (now (store .entry)) ⌝ }
 {
-    octets::number_at(s, 0, 8)
+    octets::number_at(store, 0, 8)
 }
 
 // The piece length, as the facts name it.
-pub fn piece_length_of(s: &[u8]) -> usize
-    requires { ⌜ 64 ≤ length (now s) ⌝ }
-    ensures { λ r. ⌜ r ≡ S.pieceLength (now (s .entry)) ⌝ }
+pub fn piece_length_of(store: &[u8]) -> usize
+    requires { ⌜ 64 ≤ length (now store) ⌝ }
+    ensures { λ r. ⌜ r ≡ S.pieceLength (now (store .entry)) ⌝ }
 {
-    octets::number_at(s, 8, 4)
+    octets::number_at(store, 8, 4)
 }
 
 // The pieces root, as the facts name it. What is held at layer h is asked elsewhere.
-pub fn facts_root(s: &[u8]) -> [u8; 32]
-    requires { ⌜ 64 ≤ length (now s) ⌝ }
-    ensures { λ r. ⌜ r ≡ S.factsRoot (now (s .entry)) ⌝ }
+pub fn facts_root(store: &[u8]) -> [u8; 32]
+    requires { ⌜ 64 ≤ length (now store) ⌝ }
+    ensures { λ r. ⌜ r ≡ S.factsRoot (now (store .entry)) ⌝ }
 {
-    octets::hash_at(s, 12)
+    octets::hash_at(store, 12)
 }
 
 // B, the blocks of the file.
-pub fn blocks_of(s: &[u8]) -> usize
-    requires { ⌜ 64 ≤ length (now s) ⌝ }
-    ensures { λ r. ⌜ r ≡ S.blocksOf (now (s .entry)) ⌝ }
+pub fn blocks_of(store: &[u8]) -> usize
+    requires { ⌜ 64 ≤ length (now store) ⌝ }
+    ensures { λ r. ⌜ r ≡ S.blocksOf (now (store .entry)) ⌝ }
 {
-    block_count(file_length(s))
+    block_count(file_length(store))
 }
 
 // h, the height of the file's tree.
-pub fn height_of(s: &[u8]) -> usize
-    requires { ⌜ 64 ≤ length (now s) ⌝ }
-    ensures { λ r. ⌜ r ≡ S.heightOf (now (s .entry)) ⌝ }
+pub fn height_of(store: &[u8]) -> usize
+    requires { ⌜ 64 ≤ length (now store) ⌝ }
+    ensures { λ r. ⌜ r ≡ S.heightOf (now (store .entry)) ⌝ }
 {
-    height(blocks_of(s))
+    height(blocks_of(store))
 }
 
 // Whether a file's length and a piece length are in range.
-fn facts_in_range(n: usize, plen: usize) -> bool
-    ensures { λ r. ⌜ r ≡ S.factsInRange n plen ⌝ }
+fn facts_in_range(length: usize, plen: usize) -> bool
+    ensures { λ r. ⌜ r ≡ S.factsInRange length plen ⌝ }
 {
-    if n < 1 {
+    if length < 1 {
         return false;
     }
-    if n > limits::LONGEST_FILE {
+    if length > limits::LONGEST_FILE {
         return false;
     }
     is_piece_length(plen)
@@ -83,81 +83,81 @@ fn size_in_range(n: usize) -> usize
 }
 
 // Whether the buffer names facts in range and has their room; nothing else makes a store unusable.
-pub fn is_usable(s: &[u8]) -> bool
-    ensures { λ r. ⌜ r ≡ S.usable (now (s .entry)) ⌝ }
+pub fn is_usable(store: &[u8]) -> bool
+    ensures { λ r. ⌜ r ≡ S.usable (now (store .entry)) ⌝ }
 {
-    if s.len() < 64 {
+    if store.len() < 64 {
         return false;
     }
-    let n = file_length(s);
-    let plen = piece_length_of(s);
+    let n = file_length(store);
+    let plen = piece_length_of(store);
     let ok = facts_in_range(n, plen);
     if ok {
         let size = size_in_range(n);
-        return size <= s.len();
+        return size <= store.len();
     }
     false
 }
 
 // The number that the positions of a store's tree stay below.
-pub fn positions_of(s: &[u8]) -> usize
-    requires { ⌜ S.usable (now s) ≡ true ⌝ }
-    ensures { λ r. ⌜ r ≡ S.positions (S.heightOf (now (s .entry))) ⌝ }
+pub fn positions_of(store: &[u8]) -> usize
+    requires { ⌜ S.usable (now store) ≡ true ⌝ }
+    ensures { λ r. ⌜ r ≡ S.positions (S.heightOf (now (store .entry))) ⌝ }
 {
-    let h = height_of(s);
+    let h = height_of(store);
     2 << h
 }
 
 // The size of a store, or 10.
-pub fn store_size(n: usize, plen: usize) -> Answer
-    ensures { λ r. ⌜ r ≡ S.sizeAnswer n plen ⌝ }
+pub fn store_size(length: usize, plen: usize) -> Answer
+    ensures { λ r. ⌜ r ≡ S.sizeAnswer length plen ⌝ }
 {
-    let ok = facts_in_range(n, plen);
+    let ok = facts_in_range(length, plen);
     if ok {
-        let size = size_in_range(n);
+        let size = size_in_range(length);
         return success(size as u64);
     }
     refusal(numbers::FACTS_OUT_OF_RANGE)
 }
 
 // Sets the first `size` bytes: the facts, the root held, zeros.
-fn set_bytes(s: &mut [u8], size: usize, n: usize, plen: usize, root: [u8; 32])
-    requires { ⌜ (97 ≤ size) × (size ≤ length (now s)) ⌝ }
-    ensures { λ _. ⌜ now (s .exit) ≡ put (pasted (zeroed (now (s .entry)) size) 0 (be 8 n ++ (be 4 plen ++ root))) 1 root ⌝ }
+fn set_bytes(store: &mut [u8], size: usize, n: usize, plen: usize, root: [u8; 32])
+    requires { ⌜ (97 ≤ size) × (size ≤ length (now store)) ⌝ }
+    ensures { λ _. ⌜ now (store .exit) ≡ put (pasted (zeroed (now (store .entry)) size) 0 (be 8 n ++ (be 4 plen ++ root))) 1 root ⌝ }
 {
-    octets::clear(s, size);
-    octets::put_number(s, 0, 8, n);
-    octets::put_number(s, 8, 4, plen);
-    octets::put_hash(s, 12, root);
-    cells::put_at(s, 1, root);
+    octets::clear(store, size);
+    octets::put_number(store, 0, 8, n);
+    octets::put_number(store, 8, 4, plen);
+    octets::put_hash(store, 12, root);
+    cells::put_at(store, 1, root);
 }
 
-// Opens a store for a file of n bytes: 10 for facts out of range, then 9 for too little room; else the root alone is held, and the count is 1.
-pub fn open(s: &mut [u8], n: usize, plen: usize, root: [u8; 32]) -> Answer
-    ensures { λ r. ⌜ (r ≡ S.openAnswer (now (s .entry)) n plen) × (now (s .exit) ≡ S.openAfter (now (s .entry)) n plen root) ⌝ }
+// Opens a store for a file of `length` bytes: 10 for facts out of range, then 9 for too little room; else the root alone is held, and the count is 1.
+pub fn open(store: &mut [u8], length: usize, plen: usize, root: [u8; 32]) -> Answer
+    ensures { λ r. ⌜ (r ≡ S.openAnswer (now (store .entry)) length plen) × (now (store .exit) ≡ S.openAfter (now (store .entry)) length plen root) ⌝ }
 {
-    let ok = facts_in_range(n, plen);
+    let ok = facts_in_range(length, plen);
     if ok {
-        let size = size_in_range(n);
-        if s.len() < size {
+        let size = size_in_range(length);
+        if store.len() < size {
             return refusal(numbers::UNUSABLE);
         }
-        set_bytes(s, size, n, plen, root);
+        set_bytes(store, size, length, plen, root);
         return success(1);
     }
     refusal(numbers::FACTS_OUT_OF_RANGE)
 }
 
-// Whether a tree of height h has position i of layer l.
-fn in_tree(h: usize, l: usize, i: usize) -> bool
-    requires { ⌜ h ≤ 63 ⌝ }
-    ensures { λ r. ⌜ r ≡ S.inTree h l i ⌝ }
+// Whether a tree of `height` has position `index` of `layer`.
+fn in_tree(height: usize, layer: usize, index: usize) -> bool
+    requires { ⌜ height ≤ 63 ⌝ }
+    ensures { λ r. ⌜ r ≡ S.inTree height layer index ⌝ }
 {
-    if l > h {
+    if layer > height {
         return false;
     }
-    let d = h - l;
-    i < 1 << d
+    let d = height - layer;
+    index < 1 << d
 }
 
 // Beside a refusal the hash is zero.
@@ -168,19 +168,19 @@ fn no_hash(number: u32) -> Hashed
     Hashed { number, hash: none }
 }
 
-// The hash held at position i of layer l; 3 where the tree has no such position, 6 where it is not held.
-pub fn held_hash(s: &[u8], l: usize, i: usize) -> Hashed
-    ensures { λ r. ⌜ r ≡ S.heldAnswer (now (s .entry)) l i ⌝ }
+// The hash held at position `index` of `layer`; 3 where the tree has no such position, 6 where it is not held.
+pub fn held_hash(store: &[u8], layer: usize, index: usize) -> Hashed
+    ensures { λ r. ⌜ r ≡ S.heldAnswer (now (store .entry)) layer index ⌝ }
 {
-    let ok = is_usable(s);
+    let ok = is_usable(store);
     if ok {
-        let h = height_of(s);
-        let there = in_tree(h, l, i);
+        let h = height_of(store);
+        let there = in_tree(h, layer, index);
         if there {
-            let q = node_number(h, l, i);
-            let held = cells::held(s, q);
+            let q = node_number(h, layer, index);
+            let held = cells::held(store, q);
             if held {
-                let hash = cells::hash_of(s, q);
+                let hash = cells::hash_of(store, q);
                 return Hashed { number: 0, hash };
             }
             return no_hash(numbers::NO_ANCHOR);

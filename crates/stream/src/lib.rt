@@ -76,38 +76,38 @@ fn fitting(l: usize, n: usize, chosen: u32) -> u32
 }
 
 // What is done with the frame from its next byte b on.
-fn mode_at(t: Stream, n: usize, b: u8) -> u32
-    ensures { λ r. ⌜ r ≡ R.modeAt t n b ⌝ }
+fn mode_at(before: Stream, n: usize, b: u8) -> u32
+    ensures { λ r. ⌜ r ≡ R.modeAt before n b ⌝ }
 {
-    let l = t.length as usize;
-    if t.read == 0 {
+    let l = before.length as usize;
+    if before.read == 0 {
         let id = octets::wide(b);
         let m = mode_of(id, l);
         return fitting(l, n, m);
     }
-    fitting(l, n, t.mode)
+    fitting(l, n, before.mode)
 }
 
 // Bytes of a frame into the room if the frame is stored.
-fn keep(mode: u32, room: &mut [u8], at: usize, s: &[u8])
-    requires { ⌜ (mode ≡ 0 → at + length (now s) ≤ length (now room)) ⌝ }
-    ensures { λ _. ⌜ now (room .exit) ≡ R.kept mode (now (room .entry)) at (now (s .entry)) ⌝ }
+fn keep(mode: u32, room: &mut [u8], at: usize, bytes: &[u8])
+    requires { ⌜ (mode ≡ 0 → at + length (now bytes) ≤ length (now room)) ⌝ }
+    ensures { λ _. ⌜ now (room .exit) ≡ R.kept mode (now (room .entry)) at (now (bytes .entry)) ⌝ }
 {
     if mode == STORING {
-        frames::put_bytes(room, at, s);
+        frames::put_bytes(room, at, bytes);
     }
 }
 
 // An answer at which nothing is heard.
-fn without_event(number: u32, used: usize, next: Stream) -> Heard
-    ensures { λ r. ⌜ r ≡ S.withoutEvent number used next ⌝ }
+fn without_event(number: u32, used: usize, before: Stream) -> Heard
+    ensures { λ r. ⌜ r ≡ S.withoutEvent number used before ⌝ }
 {
     Heard {
         number,
         event: NO_EVENT,
         used: used as u64,
         size: 0,
-        state: next,
+        state: before,
     }
 }
 
@@ -182,15 +182,15 @@ fn prefixed(l: usize) -> Heard
 }
 
 // A byte of the prefix.
-fn prefix_byte(t: Stream, b: usize) -> Heard
-    requires { ⌜ (t .length * 256 + b < 4294967296) × (t .«length_size» < 4) ⌝ }
-    ensures { λ r. ⌜ r ≡ S.prefixAnswer t b ⌝ }
+fn prefix_byte(before: Stream, b: usize) -> Heard
+    requires { ⌜ (before .length * 256 + b < 4294967296) × (before .«length_size» < 4) ⌝ }
+    ensures { λ r. ⌜ r ≡ S.prefixAnswer before b ⌝ }
 {
-    let l = t.length as usize * 256 + b;
-    if t.length_size == 3 {
+    let l = before.length as usize * 256 + b;
+    if before.length_size == 3 {
         return prefixed(l);
     }
-    let size = t.length_size + 1;
+    let size = before.length_size + 1;
     let next = standing(l, size, 0, STORING);
     without_event(numbers::DONE, 1, next)
 }
@@ -206,16 +206,16 @@ fn smaller(a: usize, b: usize) -> usize
 }
 
 // A run of the bytes of a frame: to its end, or to the end of the bytes.
-fn frame_run(t: Stream, bytes: &[u8], room: &mut [u8]) -> Heard
-    requires { ⌜ Going t (length (now room)) × (4 ≤ t .«length_size») × (0 < length (now bytes)) ⌝ }
-    ensures { λ r. ⌜ (r ≡ S.frameAnswerOf t (now (room .entry)) (now (bytes .entry))) × (now (room .exit) ≡ S.frameStep t (now (room .entry)) (now (bytes .entry)) .room) ⌝ }
+fn frame_run(before: Stream, bytes: &[u8], room: &mut [u8]) -> Heard
+    requires { ⌜ Going before (length (now room)) × (4 ≤ before .«length_size») × (0 < length (now bytes)) ⌝ }
+    ensures { λ r. ⌜ (r ≡ S.frameAnswerOf before (now (room .entry)) (now (bytes .entry))) × (now (room .exit) ≡ S.frameStep before (now (room .entry)) (now (bytes .entry)) .room) ⌝ }
 {
-    let l = t.length as usize;
-    let read = t.read as usize;
+    let l = before.length as usize;
+    let read = before.read as usize;
     let left = l - read;
     let size = room.len();
     let first = bytes[0];
-    let mode = mode_at(t, size, first);
+    let mode = mode_at(before, size, first);
     let n = smaller(left, bytes.len());
     keep(mode, room, read, &bytes[0..n]);
     if n == left {
@@ -227,23 +227,23 @@ fn frame_run(t: Stream, bytes: &[u8], room: &mut [u8]) -> Heard
 }
 
 // The next byte of the prefix, or a run of the frame.
-fn step(t: Stream, bytes: &[u8], room: &mut [u8]) -> Heard
-    requires { ⌜ Going t (length (now room)) × (0 < length (now bytes)) ⌝ }
-    ensures { λ r. ⌜ S.Stepping t (now (room .entry)) (now (bytes .entry)) r (now (room .exit)) ⌝ }
+fn step(before: Stream, bytes: &[u8], room: &mut [u8]) -> Heard
+    requires { ⌜ Going before (length (now room)) × (0 < length (now bytes)) ⌝ }
+    ensures { λ r. ⌜ S.Stepping before (now (room .entry)) (now (bytes .entry)) r (now (room .exit)) ⌝ }
 {
-    if t.length_size < 4 {
+    if before.length_size < 4 {
         let b = octets::wide(bytes[0]);
-        return prefix_byte(t, b);
+        return prefix_byte(before, b);
     }
-    frame_run(t, bytes, room)
+    frame_run(before, bytes, room)
 }
 
 // Up to the first byte at which something is heard, or to the end.
-fn run(s: Stream, bytes: &[u8], room: &mut [u8]) -> Heard
-    requires { ⌜ Going s (length (now room)) ⌝ }
-    ensures { λ r. ⌜ (r ≡ R.answerOf (R.hears s (now (room .entry)) (now (bytes .entry)))) × (now (room .exit) ≡ R.hears s (now (room .entry)) (now (bytes .entry)) .room) ⌝ }
+fn run(before: Stream, bytes: &[u8], room: &mut [u8]) -> Heard
+    requires { ⌜ Going before (length (now room)) ⌝ }
+    ensures { λ r. ⌜ (r ≡ R.answerOf (R.hears before (now (room .entry)) (now (bytes .entry)))) × (now (room .exit) ≡ R.hears before (now (room .entry)) (now (bytes .entry)) .room) ⌝ }
 {
-    let mut t = s;
+    let mut t = before;
     let mut at: usize = 0;
     while at < bytes.len() {
         let p = step(t, &bytes[at..bytes.len()], room);
@@ -290,67 +290,67 @@ fn within(l: usize, k: u32) -> bool
 }
 
 // Whether some bytes give such a state in the prefix.
-fn usable_prefix(s: Stream) -> bool
-    requires { ⌜ s .«length_size» < 4 ⌝ }
-    ensures { λ r. ⌜ r ≡ R.usablePrefix s ⌝ }
+fn usable_prefix(before: Stream) -> bool
+    requires { ⌜ before .«length_size» < 4 ⌝ }
+    ensures { λ r. ⌜ r ≡ R.usablePrefix before ⌝ }
 {
-    if s.read != 0 {
+    if before.read != 0 {
         return false;
     }
-    if s.mode != STORING {
+    if before.mode != STORING {
         return false;
     }
-    within(s.length as usize, s.length_size)
+    within(before.length as usize, before.length_size)
 }
 
 // Or in a frame, and has not stored more than n bytes.
-fn usable_frame(s: Stream, n: usize) -> bool
-    ensures { λ r. ⌜ r ≡ R.usableFrame s n ⌝ }
+fn usable_frame(before: Stream, n: usize) -> bool
+    ensures { λ r. ⌜ r ≡ R.usableFrame before n ⌝ }
 {
-    if limits::LONGEST_FRAME < s.length as usize {
+    if limits::LONGEST_FRAME < before.length as usize {
         return false;
     }
-    if s.length <= s.read {
+    if before.length <= before.read {
         return false;
     }
-    if s.mode == STORING {
-        return s.read as usize <= n;
+    if before.mode == STORING {
+        return before.read as usize <= n;
     }
-    if s.read == 0 {
+    if before.read == 0 {
         return false;
     }
-    s.mode < REFUSING
+    before.mode < REFUSING
 }
 
 // Whether some bytes give such a state, in this room.
-fn is_usable(s: Stream, n: usize) -> bool
-    ensures { λ r. ⌜ r ≡ R.usable s n ⌝ }
+fn is_usable(before: Stream, n: usize) -> bool
+    ensures { λ r. ⌜ r ≡ R.usable before n ⌝ }
 {
-    if s.length_size < 4 {
-        return usable_prefix(s);
+    if before.length_size < 4 {
+        return usable_prefix(before);
     }
-    if s.length_size != 4 {
+    if before.length_size != 4 {
         return false;
     }
-    if s.mode == REFUSING {
-        if s.read != 0 {
+    if before.mode == REFUSING {
+        if before.read != 0 {
             return false;
         }
-        return limits::LONGEST_FRAME < s.length as usize;
+        return limits::LONGEST_FRAME < before.length as usize;
     }
-    usable_frame(s, n)
+    usable_frame(before, n)
 }
 
 // Hears bytes: 9, 30, 1, 11 or 0; at most one message, keep-alive or number a call.
-pub fn hear(s: Stream, bytes: &[u8], room: &mut [u8]) -> Heard
-    ensures { λ r. ⌜ (r ≡ R.hearAnswer s (now (room .entry)) (now (bytes .entry))) × (now (room .exit) ≡ R.hearRoom s (now (room .entry)) (now (bytes .entry))) ⌝ }
+pub fn hear(before: Stream, bytes: &[u8], room: &mut [u8]) -> Heard
+    ensures { λ r. ⌜ (r ≡ R.hearAnswer before (now (room .entry)) (now (bytes .entry))) × (now (room .exit) ≡ R.hearRoom before (now (room .entry)) (now (bytes .entry))) ⌝ }
 {
     let n = room.len();
-    if !is_usable(s, n) {
-        return without_event(numbers::UNUSABLE, 0, s);
+    if !is_usable(before, n) {
+        return without_event(numbers::UNUSABLE, 0, before);
     }
-    if s.mode == REFUSING {
-        return without_event(numbers::FRAME_TOO_LONG, 0, s);
+    if before.mode == REFUSING {
+        return without_event(numbers::FRAME_TOO_LONG, 0, before);
     }
-    run(s, bytes, room)
+    run(before, bytes, room)
 }

@@ -45,15 +45,15 @@ use Rattle.torrent.specs.CheckLaws.{Open, keys-open, Whole, v2-so}
 use Rattle.torrent.specs.declared.check.Judged.{Judged}
 use Rattle.torrent.specs.declared.check.Checked.{Checked}
 
-pub judged-done : (n count long : ℕ) → n ≡ 0 → _≡_ {A = Judged} (record { number = n; files = count; long = long }) (judgedAs n count long)
-judged-done zero count long e = refl
-judged-done (suc n) count long e = let z : ⊥ = omega arith in absurd z
+pub judged-done : (n count layered : ℕ) → n ≡ 0 → _≡_ {A = Judged} (record { number = n; files = count; layered = layered }) (judgedAs n count layered)
+judged-done zero count layered e = refl
+judged-done (suc n) count layered e = let z : ⊥ = omega arith in absurd z
 
-pub judged-refused : (n count long : ℕ) → (n ≡ 0 → ⊥) → _≡_ {A = Judged} (record { number = n; files = 0; long = 0 }) (judgedAs n count long)
-judged-refused zero count long h = absurd (h refl)
-judged-refused (suc n) count long h = refl
+pub judged-refused : (n count layered : ℕ) → (n ≡ 0 → ⊥) → _≡_ {A = Judged} (record { number = n; files = 0; layered = 0 }) (judgedAs n count layered)
+judged-refused zero count layered h = absurd (h refl)
+judged-refused (suc n) count layered h = refl
 
-pub not-read-so : (n : ℕ) (k : Keys) → k ≡ noKeys n → _≡_ {A = Checked} (record { keys = k; files = 0; long = 0 }) (unread n)
+pub not-read-so : (n : ℕ) (k : Keys) → k ≡ noKeys n → _≡_ {A = Checked} (record { keys = k; files = 0; layered = 0 }) (unread n)
 not-read-so n k e = rw e refl
 
 -- ---- what was counted
@@ -82,12 +82,12 @@ unfolding pasted
 start-taken s xs n e = take-at xs (drop (0 + length xs) s) n (sym e)
 
 -- the lengths agree where so many layers are counted, and do not where they differ
-agree-so : (plen long : ℕ) (vs : List File) → Agree long ≡ comparedOf plen vs → (lengthsAgree vs ≡ true) × (long ≡ layerCount plen vs)
+agree-so : (plen layered : ℕ) (vs : List File) → Agree layered ≡ comparedOf plen vs → (lengthsAgree vs ≡ true) × (layered ≡ layerCount plen vs)
 unfolding comparedOf
-agree-so plen long vs e = by-lengths (lengthsAgree vs) refl e
+agree-so plen layered vs e = by-lengths (lengthsAgree vs) refl e
   where
-    by-lengths : (b : Bool) → lengthsAgree vs ≡ b → Agree long ≡ cond b (Agree (layerCount plen vs)) Differ → (lengthsAgree vs ≡ true) × (long ≡ layerCount plen vs)
-    by-lengths true q f = let z : long ≡ layerCount plen vs = cc in (q, z)
+    by-lengths : (b : Bool) → lengthsAgree vs ≡ b → Agree layered ≡ cond b (Agree (layerCount plen vs)) Differ → (lengthsAgree vs ≡ true) × (layered ≡ layerCount plen vs)
+    by-lengths true q f = let z : layered ≡ layerCount plen vs = cc in (q, z)
     by-lengths false q f = let z : _≡_ {A = ℕ} 0 1 = cc in absurd (omega arith)
 
 differ-so : (plen : ℕ) (vs : List File) → Differ ≡ comparedOf plen vs → lengthsAgree vs ≡ false
@@ -99,7 +99,7 @@ differ-so plen vs e = by-lengths (lengthsAgree vs) refl e
     by-lengths false q f = q
 
 module _ (t l : List ℕ) (plen : ℕ) where
-  pub judged-wrong : WrongTree ≡ countedOf noTally (filesIn t) → _≡_ {A = Judged} (record { number = wrongTree; files = 0; long = 0 }) (judgedOf t l plen)
+  pub judged-wrong : WrongTree ≡ countedOf noTally (filesIn t) → _≡_ {A = Judged} (record { number = wrongTree; files = 0; layered = 0 }) (judgedOf t l plen)
   unfolding judgedOf treeNumber
   judged-wrong e = rw (wrong-so (filesIn t) e) refl
 
@@ -163,37 +163,37 @@ module _ (t l : List ℕ) (plen : ℕ) where
     unfolding treeNumber filesNumber
     number-is b q = rw (so .0) (rw q refl)
 
-    pub judged-same : Differ ≡ comparedOf plen vs → _≡_ {A = Judged} (record { number = twoLengths; files = 0; long = 0 }) (judgedOf t l plen)
+    pub judged-same : Differ ≡ comparedOf plen vs → _≡_ {A = Judged} (record { number = twoLengths; files = 0; layered = 0 }) (judgedOf t l plen)
     unfolding judgedOf
     judged-same q = sym (ap (λ (z : ℕ). judgedAs z (length fs) (layerCount plen vs)) (number-is false (differ-so plen vs q)))
 
-    module _ (long : ℕ) (q : Agree long ≡ comparedOf plen vs) where
-      agreed : (lengthsAgree vs ≡ true) × (long ≡ layerCount plen vs)
-      agreed = agree-so plen long vs q
+    module _ (layered : ℕ) (q : Agree layered ≡ comparedOf plen vs) where
+      agreed : (lengthsAgree vs ≡ true) × (layered ≡ layerCount plen vs)
+      agreed = agree-so plen layered vs q
 
-      pub long-fits : long ≤ mostRoots
+      pub long-fits : layered ≤ mostRoots
       long-fits = let a = agreed .1 in let b = layers-roots plen t fs in let d = full-fits in let f = so .2 in omega arith
 
-      module _ (x : Bool) (ex : x ≡ (keysWide l && eqb (length (layerKeys l)) long)) where
+      module _ (x : Bool) (ex : x ≡ (keysWide l && eqb (length (layerKeys l)) layered)) where
         layers-are : (b : Bool) → x ≡ b → treeNumber t l plen (filesIn t) ≡ cond b (worst t l plen 0 fs) layersAmiss
         layers-are b g =
             number-is true (agreed .0)
             ∙ ap (λ (z : Bool). cond z (worst t l plen 0 fs) layersAmiss) (ap (λ (z : ℕ). keysWide l && eqb (length (layerKeys l)) z) (sym (agreed .1)) ∙ sym ex ∙ g)
 
-        pub judged-amiss : x ≡ false → _≡_ {A = Judged} (record { number = layersAmiss; files = 0; long = 0 }) (judgedOf t l plen)
+        pub judged-amiss : x ≡ false → _≡_ {A = Judged} (record { number = layersAmiss; files = 0; layered = 0 }) (judgedOf t l plen)
         unfolding judgedOf
         judged-amiss g = sym (ap (λ (z : ℕ). judgedAs z (length fs) (layerCount plen vs)) (layers-are false g))
 
-        pub judged-number : x ≡ true → (n : ℕ) → n ≡ worst t l plen 0 fs → judgedAs n (c .files) long ≡ judgedOf t l plen
+        pub judged-number : x ≡ true → (n : ℕ) → n ≡ worst t l plen 0 fs → judgedAs n (c .files) layered ≡ judgedOf t l plen
         unfolding judgedOf
         judged-number g n en = rw (en, so .1, agreed .1) (rw (layers-are true g) refl)
 
         -- the keys that were gathered
-        pub keys-indexed : x ≡ true → (keys : List ℕ) → length keys ≡ mostRoots → (x ≡ true → take long keys ≡ layerKeys l) → LayersOpen l → Indexed l keys long
+        pub keys-indexed : x ≡ true → (keys : List ℕ) → length keys ≡ mostRoots → (x ≡ true → take layered keys ≡ layerKeys l) → LayersOpen l → Indexed l keys layered
         keys-indexed g keys z f o =
-            let w : keysWide l ≡ true = first (keysWide l) (eqb (length (layerKeys l)) long) (sym ex ∙ g) in
-            let fits : long ≤ length keys = rw z long-fits in
-            record { opens = o .opens; wide = w; room = fits; all = f g; ascending = o .ascending w keys long fits (f g) }
+            let w : keysWide l ≡ true = first (keysWide l) (eqb (length (layerKeys l)) layered) (sym ex ∙ g) in
+            let fits : layered ≤ length keys = rw z long-fits in
+            record { opens = o .opens; wide = w; room = fits; all = f g; ascending = o .ascending w keys layered fits (f g) }
           where
             first : (a b : Bool) → (a && b) ≡ true → a ≡ true
             first true b z = refl
@@ -219,7 +219,7 @@ module _ (s : List ℕ) (k : Keys) (e : k ≡ metainfoOf s) where
       unfolding v2CheckedOf
       number-refused g = rw (sym e) (simp (eq-eqb (k .number) 0 h) (rw (sym judged-is) (simp (ne-eqb (j .number) 0 g))))
 
-      pub number-done : j .number ≡ 0 → _≡_ {A = Checked} (record { keys = k; files = j .files; long = j .long }) (v2CheckedOf s)
+      pub number-done : j .number ≡ 0 → _≡_ {A = Checked} (record { keys = k; files = j .files; layered = j .layered }) (v2CheckedOf s)
       unfolding v2CheckedOf
       number-done g = rw (sym e) (simp (eq-eqb (k .number) 0 h) (rw (sym judged-is) (simp (eq-eqb (j .number) 0 g))))
 

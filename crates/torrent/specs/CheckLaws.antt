@@ -128,7 +128,7 @@ pub record Whole (s : List ℕ) (c : Checked) : Type 0 where
   pub number-right : treeNumber (bytesIn s (c .keys .tree)) (bytesIn s (c .keys .layers)) (c .keys .plen) (filesIn (bytesIn s (c .keys .tree))) ≡ 0
   pub tree-right : right (filesIn (bytesIn s (c .keys .tree))) ≡ true
   pub all-files : c .files ≡ length (listed (filesIn (bytesIn s (c .keys .tree))))
-  pub all-long : c .long ≡ layerCount (c .keys .plen) (readFiles (bytesIn s (c .keys .tree)) (listed (filesIn (bytesIn s (c .keys .tree)))))
+  pub all-layered : c .layered ≡ layerCount (c .keys .plen) (readFiles (bytesIn s (c .keys .tree)) (listed (filesIn (bytesIn s (c .keys .tree)))))
 
 -- only a right tree gets 0
 right-tree : (t l : List ℕ) (plen : ℕ) (fs : Files) → treeNumber t l plen fs ≡ 0 → right fs ≡ true
@@ -153,7 +153,7 @@ v2-whole s e = by-keys (eqb (metainfoOf s .number) 0) refl e
         → withJudged (metainfoOf s) (judgedAs n (length (listed (filesIn t))) (layerCount (metainfoOf s .plen) (readFiles t (listed (filesIn t))))) .keys .number ≡ 0
         → Whole s (withJudged (metainfoOf s) (judgedAs n (length (listed (filesIn t))) (layerCount (metainfoOf s .plen) (readFiles t (listed (filesIn t))))))
     by-number zero q g f =
-        record { opened = keys-open s g; keys-are = refl; number-right = q; tree-right = right-tree t l (metainfoOf s .plen) (filesIn t) q; all-files = refl; all-long = refl }
+        record { opened = keys-open s g; keys-are = refl; number-right = q; tree-right = right-tree t l (metainfoOf s .plen) (filesIn t) q; all-files = refl; all-layered = refl }
     by-number (suc n) q g f = let o : (suc n ≡ 0 → ⊥) = λ z. omega arith in let h : suc n ≡ 0 = simp (ne-eqb (suc n) 0 o) at f in absurd (o h)
 
     by-keys : (b : Bool) → eqb (metainfoOf s .number) 0 ≡ b

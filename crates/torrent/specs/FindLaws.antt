@@ -10,9 +10,9 @@ use lib.ListN.{length, take, getD, length-append}
 use lib.Seq.{take-take, take-at}
 use Rattle.limits.specs.Limits.{largestTorrent}
 use Rattle.filetree.specs.Token.{tokenAt}
-use Rattle.filetree.specs.TokenLaws.{leaf-ends, opened-ends}
-use Rattle.filetree.specs.Tree.{maxElements, Element, Listed, listedAs, down, Files, wrong, files, after, filesFrom, filesBelow, filesIn, right, listed, fileNumber}
-use Rattle.filetree.specs.TreeLaws.{tree-below, Passed, passed-none, passed-bad, passed-end, passed-closed, passed-file, passed-wrong, passed-directory}
+use Rattle.filetree.specs.TokenLaws.{leaf-ends, opened-ends, fewer-behind}
+use Rattle.filetree.specs.Tree.{maxElements, Element, Listed, listedAs, down, Files, wrong, files, filesFrom, filesBelow, filesIn, right, listed, fileNumber}
+use Rattle.filetree.specs.TreeLaws.{tree-below, FilesPassed, passed-none, passed-bad, passed-end, passed-closed, passed-file, passed-wrong, passed-directory, same-files, not-wrong, is-right, split}
 use Rattle.filetree.specs.Path.{pathSize, setElement, flat, Holds}
 use Rattle.filetree.specs.PathLaws.{flat-length, flat-down, elementNumber, holds-length, holds-down, holds-element, set-length}
 use Rattle.filetree.specs.FilesLaws.{FileRight, path-element, files-right, number-right, number-behind, number-before}
@@ -58,35 +58,32 @@ same-here v u e = cc
 -- ---- how far the search has come
 
 pub record FindAt (t : List ℕ) (at levels n : ℕ) (path₀ path : List ℕ) (below i left : ℕ) : Type 0 where
+  pub few : levels ≤ maxElements
+  pub some : levels ≡ 0 → ⊥
+  pub deeper : below ≡ levels - 1
   pub in-order : at ≤ i
   pub sized : length path ≡ pathSize
+  pub kept : length path ≡ length path₀
   pub passed : (p : List Element) → Holds path₀ (maxElements - levels) p → right (filesBelow levels t at p) ≡ true
-      → (fs : List Listed) × Passed t (filesBelow levels t at p) below p i fs × (n ≡ length fs + left) × Holds path (maxElements - levels) p
+      → (fs : List Listed) × FilesPassed t (filesBelow levels t at p) below p i fs × (n ≡ length fs + left) × Holds path (maxElements - levels) p
 
-pub find-start : (t : List ℕ) (at levels n : ℕ) (path : List ℕ) → (levels ≡ 0 → ⊥) → length path ≡ pathSize → FindAt t at levels n path path (levels - 1) at n
-find-start t at levels n path h l = record { in-order = omega arith; sized = l; passed = λ p w e. ([], passed-none t levels at p h, omega arith, w) }
-
--- a right directory is not wrong
-pub not-wrong : {A : Type 0} (x : Files) → right x ≡ true → x ≡ wrong → A
-unfolding right
-not-wrong x e q = absurd (false≢true (sym (ap right q) ∙ e))
-
-pub is-right : (x : Files) (fs : List Listed) (k : ℕ) → x ≡ files fs k → right x ≡ true
-unfolding right
-is-right x fs k e = ap right e
+pub find-start : (t : List ℕ) (at levels n : ℕ) (path : List ℕ) → levels ≤ maxElements → (levels ≡ 0 → ⊥) → length path ≡ pathSize
+    → FindAt t at levels n path path (levels - 1) at n
+find-start t at levels n path f h l =
+    record {
+      few = f;
+      some = h;
+      deeper = refl;
+      in-order = omega arith;
+      sized = l;
+      kept = refl;
+      passed = λ p w e. ([], passed-none t levels at p h, omega arith, w);
+    }
 
 pub right-is : (x : Files) → right x ≡ true → (fs : List Listed) × (k : ℕ) × (x ≡ files fs k)
 unfolding right
 right-is wrong e = absurd (false≢true e)
 right-is (files fs k) e = (fs, k, refl)
-
--- files with others behind them
-pub split : (xs : List Listed) (w : Files) (fs : List Listed) (k : ℕ) → after xs w ≡ files fs k → (ys : List Listed) × (fs ≡ xs ++ ys)
-split xs wrong fs k e = let z : _≡_ {A = ℕ} 0 1 = cc in absurd (omega arith)
-split xs (files ys j) fs k e = (ys, cc)
-
-pub same-files : (fs gs : List Listed) (j k : ℕ) → files fs j ≡ files gs k → (fs ≡ gs) × (j ≡ k)
-same-files fs gs j k e = (cc, cc)
 
 module _ (t : List ℕ) (at levels n : ℕ) (path₀ : List ℕ) where
   -- a directory that is wrong
@@ -94,12 +91,20 @@ module _ (t : List ℕ) (at levels n : ℕ) (path₀ : List ℕ) where
   finds-wrong path h =
       record { ends = tt; finds = λ p w fs k e. let r = is-right (filesBelow levels t at p) fs k e in not-wrong (filesBelow levels t at p) r (h p w r) }
 
-module _ (t : List ℕ) (at levels n : ℕ) (path₀ path : List ℕ) (below i left : ℕ) (w : FindAt t at levels n path₀ path below i left) where
+module _ {t : List ℕ} {at levels n : ℕ} {path₀ path : List ℕ} {below i left : ℕ} (w : FindAt t at levels n path₀ path below i left) where
   abbrev whole : List Element → Files
   whole p = filesBelow levels t at p
 
   abbrev depth : ℕ
   depth = maxElements - levels
+
+  -- what is asked for an element of the path
+  pub element-asked : (length path ≡ pathSize) × (depth < maxElements)
+  element-asked = (w .sized, omega arith)
+
+  -- and for the search inside, with a level less
+  pub inside-asked : (path′ : List ℕ) → length path′ ≡ length path → {u : ℕ} → levels ≡ u → (below < u) × ((below ≤ maxElements) × (length path′ ≡ pathSize))
+  inside-asked path′ l e = (omega arith, (omega arith, l ∙ w .sized))
 
   pub finds-bad : tokenAt t i ≡ BadToken → Finds t at levels n path₀ path WrongTree
   finds-bad e = finds-wrong t at levels n path₀ path (λ p h r. let x = w .passed p h r in passed-bad t (whole p) below p i (x .0) (x .1) e)
@@ -119,14 +124,14 @@ module _ (t : List ℕ) (at levels n : ℕ) (path₀ path : List ℕ) (below i l
             let m : left ≡ n - length fs = omega arith in
             ((λ g. let u : ⊥ = omega arith in absurd u), λ g. (rw (y .1, sym m) refl, x .3))
 
-    module _ (a b m r k : ℕ) (e : tokenAt t i ≡ Leaf a b m r k) where
+    module _ {a b m r k : ℕ} (e : tokenAt t i ≡ Leaf a b m r k) where
       pub file-ends : (i < k) × (k ≤ length t)
       file-ends = let x = leaf-ends t i a b m r k e in (x .0, x .1)
 
       -- this file is the one
-      pub finds-here : left ≡ 0 → levels ≤ maxElements → (levels ≡ 0 → ⊥) → (path′ : List ℕ) → path′ ≡ setElement path depth a b
+      pub finds-here : left ≡ 0 → {path′ : List ℕ} → path′ ≡ setElement path depth a b
           → Finds t at levels n path₀ path′ (Here (record { length = m; root = r; elements = depth + 1 }))
-      finds-here z lv nz path′ ep = record { ends = tt; finds = go }
+      finds-here z {path′} ep = record { ends = tt; finds = go }
         where
           go : (p : List Element) → Holds path₀ depth p → (fs : List Listed) (j : ℕ) → whole p ≡ files fs j → Found fs j n p depth path′ (Here (record { length = m; root = r; elements = depth + 1 }))
           go p o fs j q =
@@ -150,13 +155,17 @@ module _ (t : List ℕ) (at levels n : ℕ) (path₀ path : List ℕ) (below i l
       pub find-next : (left ≡ 0 → ⊥) → FindAt t at levels n path₀ path below k (left - 1)
       find-next z =
           record {
+            few = w .few;
+            some = w .some;
+            deeper = w .deeper;
             in-order = let x = w .in-order in let y = file-ends .0 in omega arith;
             sized = w .sized;
+            kept = w .kept;
             passed = λ p o q. let x = w .passed p o q in let u = x .2 in
                 (x .0 ++ listedAs m r (down p a b) ∷ [], passed-file t (whole p) below p i (x .0) (x .1) h a b m r k e, omega (arith, length-append (x .0) (listedAs m r (down p a b) ∷ [])), x .3);
           }
 
-    module _ (a b : ℕ) (e : tokenAt t i ≡ Opened a b) (lv : levels ≤ maxElements) (nz : levels ≡ 0 → ⊥) (lb : below ≡ levels - 1) (path′ : List ℕ) (ep : path′ ≡ setElement path depth a b) where
+    module _ {a b : ℕ} (e : tokenAt t i ≡ Opened a b) {path′ : List ℕ} (ep : path′ ≡ setElement path depth a b) where
       -- the path to the directory inside
       held : (p : List Element) → Holds path depth p → Holds path′ (maxElements - below) (down p a b)
       held p o = let d : maxElements - below ≡ depth + 1 = omega arith in rw (d, ep) (holds-down path depth p (w .sized) o a b (omega arith))
@@ -169,7 +178,7 @@ module _ (t : List ℕ) (at levels n : ℕ) (path₀ path : List ℕ) (below i l
           by-files wrong u = let x = w .passed p o q in not-wrong (whole p) q (passed-wrong t (whole p) below p i (x .0) (x .1) h a b e u)
           by-files (files gs j) u = (gs, j, u)
 
-      module _ (path″ : List ℕ) where
+      module _ {path″ : List ℕ} where
         -- what the search inside says, where the whole is right
         inside-finds : (r : Search) → Finds t (b + 1) below left path′ path″ r → (p : List Element) (o : Holds path₀ depth p) (q : right (whole p) ≡ true)
             → Found (inside-right p o q .0) (inside-right p o q .1) left (down p a b) (maxElements - below) path″ r
@@ -182,8 +191,8 @@ module _ (t : List ℕ) (at levels n : ℕ) (path₀ path : List ℕ) (below i l
             never p o q (yes g) = let u = inside-finds WrongTree x p o q .0 g .0 in let z : _≡_ {A = ℕ} 0 1 = cc in absurd (omega arith)
             never p o q (no g) = let u = inside-finds WrongTree x p o q .1 (omega arith) .0 in let z : _≡_ {A = ℕ} 0 1 = cc in absurd (omega arith)
 
-        pub finds-found : (v : SoughtFile) → Finds t (b + 1) below left path′ path″ (Here v) → Finds t at levels n path₀ path″ (Here v)
-        finds-found v x = record { ends = tt; finds = go }
+        pub finds-found : {v : SoughtFile} → Finds t (b + 1) below left path′ path″ (Here v) → Finds t at levels n path₀ path″ (Here v)
+        finds-found {v} x = record { ends = tt; finds = go }
           where
             go : (p : List Element) → Holds path₀ depth p → (fs : List Listed) (k : ℕ) → whole p ≡ files fs k → Found fs k n p depth path″ (Here v)
             go p o fs k q = by-number (decLt left (length gs))
@@ -200,7 +209,7 @@ module _ (t : List ℕ) (at levels n : ℕ) (path₀ path : List ℕ) (below i l
                 found : Found gs (inside-right p o rt .1) left (down p a b) (maxElements - below) path″ (Here v)
                 found = inside-finds (Here v) x p o rt
 
-                z : Passed t (whole p) below p (inside-right p o rt .1) (xs ++ gs)
+                z : FilesPassed t (whole p) below p (inside-right p o rt .1) (xs ++ gs)
                 z = passed-directory t (whole p) below p i xs (w .passed p o rt .1) h a b e gs (inside-right p o rt .1) (inside-right p o rt .2)
 
                 s : (ys : List Listed) × (fs ≡ (xs ++ gs) ++ ys)
@@ -222,19 +231,27 @@ module _ (t : List ℕ) (at levels n : ℕ) (path₀ path : List ℕ) (below i l
                 by-number (yes g) = ((λ l. rw (is g) (found .0 g)), λ l. let u : ⊥ = omega (arith, both, long, place) in absurd u)
                 by-number (no g) = let u = found .1 (omega arith) .0 in let y : _≡_ {A = ℕ} 0 1 = cc in absurd (omega arith)
 
-        pub inside-behind : (k m : ℕ) → Finds t (b + 1) below left path′ path″ (Past k m) → (i < k) × (k ≤ length t)
-        inside-behind k m x = let y = x .ends .0 in let z = opened-ends t i a b e .0 in (omega arith, x .ends .1)
+        -- the walk goes on behind the directory
+        inside-behind : {k m : ℕ} → Finds t (b + 1) below left path′ path″ (Past k m) → i < k
+        inside-behind x = let y = x .ends .0 in let z = opened-ends t i a b e .0 in omega arith
 
-        pub find-past : (k m : ℕ) → Finds t (b + 1) below left path′ path″ (Past k m) → length path″ ≡ length path′ → FindAt t at levels n path₀ path″ below k m
-        find-past k m x l =
+        pub inside-fewer : {k m : ℕ} → Finds t (b + 1) below left path′ path″ (Past k m) → length t - k < length t - i
+        inside-fewer {k} x = fewer-behind (length t) i k (inside-behind x) (x .ends .1)
+
+        pub find-past : {k m : ℕ} → Finds t (b + 1) below left path′ path″ (Past k m) → length path″ ≡ length path′ → FindAt t at levels n path₀ path″ below k m
+        find-past {k} {m} x l =
             record {
-              in-order = let y = inside-behind k m x .0 in let z = w .in-order in omega arith;
+              few = w .few;
+              some = w .some;
+              deeper = w .deeper;
+              in-order = let y = inside-behind x in let z = w .in-order in omega arith;
               sized = l ∙ ap length ep ∙ set-length path depth a b ∙ w .sized;
+              kept = l ∙ ap length ep ∙ set-length path depth a b ∙ w .kept;
               passed = go;
             }
           where
             go : (p : List Element) → Holds path₀ depth p → right (whole p) ≡ true
-                → (fs : List Listed) × Passed t (whole p) below p k fs × (n ≡ length fs + m) × Holds path″ depth p
+                → (fs : List Listed) × FilesPassed t (whole p) below p k fs × (n ≡ length fs + m) × Holds path″ depth p
             go p o q = by-number (decLt left (length gs))
               where
                 xs : List Listed
@@ -249,7 +266,7 @@ module _ (t : List ℕ) (at levels n : ℕ) (path₀ path : List ℕ) (below i l
                 place : n ≡ length xs + left
                 place = w .passed p o q .2
 
-                by-number : Dec (left < length gs) → (fs : List Listed) × Passed t (whole p) below p k fs × (n ≡ length fs + m) × Holds path″ depth p
+                by-number : Dec (left < length gs) → (fs : List Listed) × FilesPassed t (whole p) below p k fs × (n ≡ length fs + m) × Holds path″ depth p
                 by-number (yes g) = let u = found .0 g .0 in let y : _≡_ {A = ℕ} 0 1 = cc in absurd (omega arith)
                 by-number (no g) =
                     let f = found .1 (omega arith) in

@@ -27,7 +27,7 @@ use Rattle.meaning.specs.Torrent.{File, isNatural, numberOf}
 use Rattle.halves.specs.V1Keys.{keyPieces, keyFiles, keyName}
 use Rattle.halves.specs.V1Half.{V1Entry, isThere, hasString, bytesOf, stringOrNone, itemsFit, entriesIn, listFits, listEntries, oneFile, halfFits, v1Entries, total, filesAmong, sameFiles, onBoundary, piecesFit}
 use Rattle.hybrid.specs.Entry.{StandsAt, naturalIn, isList}
-use Rattle.hybrid.specs.EntryLaws.{isListValue, list-is}
+use Rattle.hybrid.specs.EntryLaws.{isListValue, list-is, natural-is, natural-not}
 use Rattle.hybrid.specs.Tally.{Encodes}
 use Rattle.hybrid.specs.Half.{halfOf, severalOf, fitsWith}
 use Rattle.hybrid.specs.HalfLaws.{half-decides}
@@ -41,22 +41,6 @@ use Rattle.torrent.specs.declared.both.KeyString.the-variants.{NoKey, Te
 
 -- ---- without `files`
 
-natural-no : (x : Lookup) → NoNatural ≡ naturalIn x → isNatural x ≡ false
-natural-no absent e = refl
-natural-no (present (integer true n)) e = refl
-natural-no (present (integer false n)) e = let z : _≡_ {A = ℕ} 0 1 = cc in absurd (omega arith)
-natural-no (present (string b)) e = refl
-natural-no (present (list vs)) e = refl
-natural-no (present (dictionary es)) e = refl
-
-natural-is : (n : ℕ) (x : Lookup) → Is n ≡ naturalIn x → (isNatural x ≡ true) × (numberOf x ≡ n)
-natural-is n absent e = let z : _≡_ {A = ℕ} 0 1 = cc in absurd (omega arith)
-natural-is n (present (integer true m)) e = let z : _≡_ {A = ℕ} 0 1 = cc in absurd (omega arith)
-natural-is n (present (integer false m)) e = let z : n ≡ m = cc in (refl, sym z)
-natural-is n (present (string b)) e = let z : _≡_ {A = ℕ} 0 1 = cc in absurd (omega arith)
-natural-is n (present (list vs)) e = let z : _≡_ {A = ℕ} 0 1 = cc in absurd (omega arith)
-natural-is n (present (dictionary es)) e = let z : _≡_ {A = ℕ} 0 1 = cc in absurd (omega arith)
-
 module _ (info : Entries) (gs : List File) where
   module _ (no-files : isThere (lookup keyFiles info) ≡ false) where
     fits-single : halfFits info ≡ isNatural (lookup keyLength info) && hasString (lookup keyName info)
@@ -68,10 +52,10 @@ module _ (info : Entries) (gs : List File) where
     entries-single = rw no-files refl
 
     pub single-no-length : NoNatural ≡ naturalIn (lookup keyLength info) → (plen : ℕ) → Misfit ≡ halfOf plen (halfFits info) (v1Entries info) gs
-    single-no-length e plen = half-bad plen (halfFits info) (v1Entries info) gs (fits-single ∙ ap (λ (b : Bool). b && hasString (lookup keyName info)) (natural-no (lookup keyLength info) e))
+    single-no-length e plen = half-bad plen (halfFits info) (v1Entries info) gs (fits-single ∙ ap (λ (b : Bool). b && hasString (lookup keyName info)) (natural-not (lookup keyLength info) e))
 
     pub single-no-name : (n : ℕ) → Is n ≡ naturalIn (lookup keyLength info) → hasString (lookup keyName info) ≡ false → (plen : ℕ) → Misfit ≡ halfOf plen (halfFits info) (v1Entries info) gs
-    single-no-name n e h plen = half-bad plen (halfFits info) (v1Entries info) gs (fits-single ∙ rw (natural-is n (lookup keyLength info) e .0, h) refl)
+    single-no-name n e h plen = half-bad plen (halfFits info) (v1Entries info) gs (fits-single ∙ rw (natural-is (lookup keyLength info) n e .0, h) refl)
 
     pub single-count : (length gs ≡ 1 → ⊥) → (plen : ℕ) → Misfit ≡ halfOf plen (halfFits info) (v1Entries info) gs
     unfolding filesAmong
@@ -81,7 +65,7 @@ module _ (info : Entries) (gs : List File) where
     pub single-is : (n : ℕ) (name : List ℕ) (plen : ℕ) (r : HalfRead) → Is n ≡ naturalIn (lookup keyLength info) → hasString (lookup keyName info) ≡ true → name ≡ bytesOf (lookup keyName info)
         → r ≡ halfOf plen true (oneFile n name ∷ []) gs → r ≡ halfOf plen (halfFits info) (v1Entries info) gs
     single-is n name plen r e h q z =
-        let m = natural-is n (lookup keyLength info) e in
+        let m = natural-is (lookup keyLength info) n e in
         z ∙ rw (fits-single, entries-single, m .0, m .1, h, q) refl
 
   -- ---- with `files`

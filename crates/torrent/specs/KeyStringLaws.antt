@@ -18,12 +18,9 @@ use Rattle.bencode.specs.declared.parts.Found.the-variants.{Part, Missing}
 use Rattle.halves.specs.V1Half.{isThere, hasString, stringOrNone}
 use Rattle.hybrid.specs.Entry.{StandsAt}
 use Rattle.hybrid.specs.EntryLaws.{found-here, found-missing, found-part}
+use Rattle.hybrid.specs.PathLaws.{string-bytes}
 use Rattle.torrent.specs.HalvesFit.{StringIs, StringRead}
 use Rattle.torrent.specs.declared.both.KeyString.the-variants.{NoKey, Text, OtherType}
-
-string-bytes : (c : List ℕ) → encode (string c) ≡ encodeString c
-unfolding encode
-string-bytes c = refl
 
 module _ (i key : List ℕ) (f : Found) (e : f ≡ findKey key 0 (drop 0 i)) where
   -- whether the key is there
@@ -43,7 +40,7 @@ module _ (i key : List ℕ) (f : Found) (e : f ≡ findKey key 0 (drop 0 i)) whe
   string-missing q = record { ends = tt; string = λ info s. key-missing q info s }
 
 -- the string at a
-string-at : (i : List ℕ) (a : ℕ) (x : Value) → StandsAt i a x → (u v : ℕ) → readString a (drop a i) ≡ Content u v → StringIs i (present x) (Text u v)
+pub string-at : (i : List ℕ) (a : ℕ) (x : Value) → StandsAt i a x → (u v : ℕ) → readString a (drop a i) ≡ Content u v → StringIs i (present x) (Text u v)
 string-at i a x s u v e = by-value x (sym e ∙ ap (readString a) (s .bytes) ∙ string-is x a (s .behind)) (s .bytes)
   where
     by-value : (x : Value) → Content u v ≡ stringOf a x → drop a i ≡ encode x ++ s .behind → StringIs i (present x) (Text u v)
@@ -57,7 +54,7 @@ string-at i a x s u v e = by-value x (sym e ∙ ap (readString a) (s .bytes) ∙
     by-value (dictionary es) q d = let z : _≡_ {A = ℕ} 0 1 = cc in absurd (omega arith)
 
 -- no string there
-other-at : (i : List ℕ) (a : ℕ) (x : Value) → StandsAt i a x → readString a (drop a i) ≡ NoString → hasString (present x) ≡ false
+pub other-at : (i : List ℕ) (a : ℕ) (x : Value) → StandsAt i a x → readString a (drop a i) ≡ NoString → hasString (present x) ≡ false
 other-at i a x s e = by-value x (sym e ∙ ap (readString a) (s .bytes) ∙ string-is x a (s .behind))
   where
     by-value : (x : Value) → NoString ≡ stringOf a x → hasString (present x) ≡ false

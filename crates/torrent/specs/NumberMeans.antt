@@ -60,9 +60,9 @@ unfolding valueNumber
 from-files es h o = rw (h .0, h .1, h .2, o) refl
 
 -- what is judged keeps its number
-judged-number : (k : Keys) (n files long : ℕ) → k .number ≡ 0 → withJudged k (judgedAs n files long) .keys .number ≡ n
-judged-number k zero files long e = e
-judged-number k (suc n) files long e = simp (ne-eqb (suc n) 0 (λ z. omega arith))
+judged-number : (k : Keys) (n files layered : ℕ) → k .number ≡ 0 → withJudged k (judgedAs n files layered) .keys .number ≡ n
+judged-number k zero files layered e = e
+judged-number k (suc n) files layered e = simp (ne-eqb (suc n) 0 (λ z. omega arith))
 
 -- the v1 half makes of what is checked what it makes of its number
 half-number : (s : List ℕ) → checkedOf s .keys .number ≡ withHalves (torrentIn s) (v2CheckedOf s .keys .number)

@@ -1,7 +1,7 @@
 -- A v1 half of one file beside a tree of one file.
 -- Assumes nothing.
 use mathlib.Core.Path.{_≡_, refl, sym, ap, _∙_}
-use mathlib.Core.Bool.{Bool, true, false, cond, _&&_}
+use mathlib.Core.Bool.{Bool, true, false, cond, _&&_, and-false}
 use mathlib.Core.List.{List, [], _∷_}
 use Prim.Native.Nat.{ℕ, _+_, _-_, _%_, _≤_, _<_}
 use native.Mathlib.Omega.{arith}
@@ -23,10 +23,6 @@ use Rattle.hybrid.specs.declared.HalfRead.the-variants.{Bytes, Misfit}
 use Rattle.torrent.specs.Find.{FoundFile}
 use Rattle.torrent.specs.declared.one.SoughtFile.{SoughtFile}
 
-none-left : (b : Bool) → b && false ≡ false
-none-left true = refl
-none-left false = refl
-
 -- ---- one file among the tree's
 
 one-listed : (fs : List Listed) → length fs ≡ 1 → fs ≡ fileNumber fs 0 ∷ []
@@ -46,14 +42,14 @@ path-other : (t name : List ℕ) (p : List Element) → (length p ≡ 1 → ⊥)
 unfolding samePath
 path-other t name [] h = refl
 path-other t name (e ∷ []) h = absurd (h refl)
-path-other t name (e ∷ g ∷ gs) h = none-left (same name (element t e))
+path-other t name (e ∷ g ∷ gs) h = and-false (same name (element t e))
 
 -- another count of files are other files
 pub count-other : (e : V1Entry) (gs : List File) → (length gs ≡ 1 → ⊥) → sameFiles (e ∷ []) gs ≡ false
 unfolding sameFiles
 count-other e [] h = refl
 count-other e (g ∷ []) h = absurd (h refl)
-count-other e (g ∷ k ∷ gs) h = ap (λ (b : Bool). eqb (e .size) (g .size) && b) (none-left (samePath (e .path) (g .path))) ∙ none-left (eqb (e .size) (g .size))
+count-other e (g ∷ k ∷ gs) h = ap (λ (b : Bool). eqb (e .size) (g .size) && b) (and-false (samePath (e .path) (g .path))) ∙ and-false (eqb (e .size) (g .size))
 
 -- ---- the half
 

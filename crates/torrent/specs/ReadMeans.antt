@@ -9,23 +9,25 @@ use native.Mathlib.Decide.{decLt}
 use native.Mathlib.Omega.{arith}
 use lib.ListN.{length, drop, length-append}
 use borrow.Author.Tests.{eq-eqb, ne-eqb, lt-ltb, le-ltb}
+use Rattle.hybrid.specs.HalfLaws.{read-count}
 use Rattle.octets.specs.Octets.{cut, zeroHash}
 use Rattle.octets.specs.OctetsLaws.{cut-cut, cut-size}
 use Rattle.limits.specs.Limits.{maxLevels}
 use Rattle.numbers.specs.Numbers.{noSuchPart}
 use Rattle.sha256.specs.Sha256.{sha256}
 use Rattle.tree.specs.Geometry.{hasLayer}
-use Rattle.bencode.specs.Grammar.{colon, string, dictionary, Entries, decimal, encodeString, encode, Valid}
+use Rattle.bencode.specs.Grammar.{colon, string, dictionary, Entries, decimal, encodeString, encode, Valid, none}
 use Rattle.bencode.specs.Parts.{findKey, present, lookup, FoundIs}
 use Rattle.bencode.specs.CompleteLaws.{contentStart}
 use Rattle.bencode.specs.DepthLaws.{more-levels}
-use Rattle.bencode.specs.PartsLaws.{part-front, content-is}
+use Rattle.bencode.specs.PartsLaws.{part-front, content-is, lookup-valid}
 use Rattle.bencode.specs.declared.scalar.ByteString.{ByteString}
 use Rattle.bencode.specs.declared.scalar.ByteString.the-variants.{NoString}
 use Rattle.bencode.specs.declared.parts.Found.{Found}
 use Rattle.bencode.specs.declared.parts.Found.the-variants.{Part, Missing}
 use Rattle.meaning.specs.Nth.{Nth}
 use Rattle.meaning.specs.NthLaws.{nth-some}
+use Rattle.meaning.specs.Keys.{keyInfo}
 use Rattle.meaning.specs.Torrent.{File, infoOf, treeOf, filesOf, plenOf, layersOf, valueNumber}
 use Rattle.meaning.specs.AmissLaws.{all-layers}
 use Rattle.halves.specs.HalvesLaws.{zero-below}
@@ -97,10 +99,6 @@ unfolding rootBytes
 root-full t n q h = rw (ne-eqb n 0 h) refl
 
 -- as many are read as there are
-read-count : (t : List ℕ) (fs : List Listed) → length (readFiles t fs) ≡ length fs
-read-count t [] = refl
-read-count t (f ∷ fs) = ap suc (read-count t fs)
-
 elements-count : (t : List ℕ) (path : List Element) → length (elements t path) ≡ length path
 elements-count t [] = refl
 elements-count t (e ∷ path) = ap suc (elements-count t path)
@@ -147,6 +145,11 @@ unfolding layerString hasLayer
 layer-some l plen n root h = rw (lt-ltb plen n h) refl
 
 -- ---- a torrent that gets 0
+
+-- a valid torrent's `info` is valid, with a level less
+pub info-valid : (es : Entries) → Valid (dictionary es) maxLevels → lookup keyInfo es ≡ present (dictionary (infoOf es)) → Valid (dictionary (infoOf es)) (maxLevels - 1)
+unfolding Valid
+info-valid es h q = lookup-valid keyInfo es none (maxLevels - 1) (dictionary (infoOf es)) h q
 
 module _ (s : List ℕ) (es : Entries) (start : s ≡ encode (dictionary es)) (valid : Valid (dictionary es) maxLevels) (taken : readOf s .number ≡ 0) where
   -- ---- where it stands

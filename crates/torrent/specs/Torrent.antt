@@ -38,8 +38,8 @@ treeNumber t l plen fs = cond (right fs) (filesNumber t l plen (listed fs)) wron
 
 -- beside a refusal the counts are zero
 abbrev pub judgedAs : ℕ → ℕ → ℕ → Judged
-judgedAs zero files long = record { number = 0; files = files; long = long }
-judgedAs (suc n) files long = record { number = suc n; files = 0; long = 0 }
+judgedAs zero files layered = record { number = 0; files = files; layered = layered }
+judgedAs (suc n) files layered = record { number = suc n; files = 0; layered = 0 }
 
 unfoldable pub judgedOf : List ℕ → List ℕ → ℕ → Judged
 judgedOf t l plen = judgedAs (treeNumber t l plen (filesIn t)) (length (listed (filesIn t))) (layerCount plen (readFiles t (listed (filesIn t))))
@@ -47,10 +47,10 @@ judgedOf t l plen = judgedAs (treeNumber t l plen (filesIn t)) (length (listed (
 -- ---- 19 to 28, by the v2 half alone
 
 abbrev pub unread : ℕ → Checked
-unread n = record { keys = noKeys n; files = 0; long = 0 }
+unread n = record { keys = noKeys n; files = 0; layered = 0 }
 
 abbrev pub withJudged : Keys → Judged → Checked
-withJudged k j = cond (eqb (j .number) 0) (record { keys = k; files = j .files; long = j .long }) (unread (j .number))
+withJudged k j = cond (eqb (j .number) 0) (record { keys = k; files = j .files; layered = j .layered }) (unread (j .number))
 
 abbrev pub withKeys : List ℕ → Keys → Checked
 withKeys s k =

@@ -1,4 +1,4 @@
-// Whether the halves of a hybrid fit. i is the part of the torrent that `info` is, t the part that `file tree` is.
+// Whether the halves of a hybrid fit. `bytes` are the part of the torrent that `info` is, `tree` the part that `file tree` is.
 use crate::one::find_file;
 use bencode::order::same;
 use bencode::parts::Entry;
@@ -46,14 +46,21 @@ pub struct HalfKeys {
 
 // What is found for a key up to the end of an entry: what was found before it, or else its value, where the entry has that key. Its key's content is start..value, and its
 // value's part value..end.
-fn found_by(i: &[u8], start: usize, value: usize, end: usize, key: &[u8], before: Found) -> Found
-    requires { ⌜ (start ≤ value) × (value ≤ L.length (now i)) ⌝ }
-    ensures { λ r. ⌜ r ≡ orElse before (cond (Octets.same (now (key .entry)) (cut (now (i .entry)) start (value - start))) (Part value end) Missing) ⌝ }
+fn found_by(
+    bytes: &[u8],
+    start: usize,
+    value: usize,
+    end: usize,
+    key: &[u8],
+    before: Found,
+) -> Found
+    requires { ⌜ (start ≤ value) × (value ≤ L.length (now bytes)) ⌝ }
+    ensures { λ r. ⌜ r ≡ orElse before (cond (Octets.same (now (key .entry)) (cut (now (bytes .entry)) start (value - start))) (Part value end) Missing) ⌝ }
 {
     match before {
         Found::Part { start: a, end: b } => Found::Part { start: a, end: b },
         Found::Missing => {
-            if same(key, &i[start..value]) {
+            if same(key, &bytes[start..value]) {
                 return Found::Part { start: value, end };
             }
             Found::Missing
@@ -62,14 +69,14 @@ fn found_by(i: &[u8], start: usize, value: usize, end: usize, key: &[u8], before
 }
 
 // Each of them is what `find` gives for it, all in one walk.
-fn half_keys(i: &[u8]) -> HalfKeys
-    ensures { λ r. ⌜ KeysFound (now (i .entry)) r ⌝ }
+fn half_keys(bytes: &[u8]) -> HalfKeys
+    ensures { λ r. ⌜ KeysFound (now (bytes .entry)) r ⌝ }
 {
     let mut files = Found::Missing;
     let mut length = Found::Missing;
     let mut name = Found::Missing;
     let mut pieces = Found::Missing;
-    if !is_dictionary(i, 0) {
+    if !is_dictionary(bytes, 0) {
         return HalfKeys {
             files,
             length,
@@ -78,8 +85,8 @@ fn half_keys(i: &[u8]) -> HalfKeys
         };
     }
     let mut at = 1;
-    while at < i.len() {
-        match read_entry(i, at) {
+    while at < bytes.len() {
+        match read_entry(bytes, at) {
             Entry::NoEntry => {
                 return HalfKeys {
                     files,
@@ -89,10 +96,10 @@ fn half_keys(i: &[u8]) -> HalfKeys
                 };
             }
             Entry::Keyed { start, value, end } => {
-                files = found_by(i, start, value, end, b"files", files);
-                length = found_by(i, start, value, end, b"length", length);
-                name = found_by(i, start, value, end, b"name", name);
-                pieces = found_by(i, start, value, end, b"pieces", pieces);
+                files = found_by(bytes, start, value, end, b"files", files);
+                length = found_by(bytes, start, value, end, b"length", length);
+                name = found_by(bytes, start, value, end, b"name", name);
+                pieces = found_by(bytes, start, value, end, b"pieces", pieces);
                 at = end;
             }
         }
@@ -122,12 +129,12 @@ pub enum KeyString {
     OtherType,
 }
 
-fn string_of(i: &[u8], found: Found) -> KeyString
-    ensures { λ r. ⌜ ((key : List ℕ) → found ≡ findKey key 0 (now (i .entry)) → StringRead (now (i .entry)) key r) ⌝ }
+fn string_of(bytes: &[u8], found: Found) -> KeyString
+    ensures { λ r. ⌜ ((key : List ℕ) → found ≡ findKey key 0 (now (bytes .entry)) → StringRead (now (bytes .entry)) key r) ⌝ }
 {
     match found {
         Found::Missing => KeyString::NoKey,
-        Found::Part { start: at, end: _ } => match read_string(i, at) {
+        Found::Part { start: at, end: _ } => match read_string(bytes, at) {
             ByteString::NoString => KeyString::OtherType,
             ByteString::Content { start, end } => KeyString::Text { start, end },
         },
@@ -135,24 +142,24 @@ fn string_of(i: &[u8], found: Found) -> KeyString
 }
 
 // Whether `name` is a string, or missing.
-fn name_fits(i: &[u8], name: Found) -> bool
-    requires { ⌜ name ≡ findKey keyName 0 (now i) ⌝ }
-    ensures { λ r. ⌜ ((info : Entries) → StandsAt (now (i .entry)) 0 (dictionary info) → r ≡ stringOrNone (lookup keyName info)) ⌝ }
+fn name_fits(bytes: &[u8], name: Found) -> bool
+    requires { ⌜ name ≡ findKey keyName 0 (now bytes) ⌝ }
+    ensures { λ r. ⌜ ((info : Entries) → StandsAt (now (bytes .entry)) 0 (dictionary info) → r ≡ stringOrNone (lookup keyName info)) ⌝ }
 {
-    match string_of(i, name) {
+    match string_of(bytes, name) {
         KeyString::OtherType => false,
         KeyString::NoKey => true,
         KeyString::Text { start: _, end: _ } => true,
     }
 }
 
-// The one file of t beside a v1 half of one file, with this name and n bytes.
-fn alone(t: &[u8], name: &[u8], n: usize) -> HalfRead
-    requires { ⌜ (right (filesIn (now t)) ≡ true) × (L.length (listed (filesIn (now t))) ≡ 1) ⌝ }
-    ensures { λ r. ⌜ ((plen : ℕ) → 0 < plen → r ≡ halfOf plen true (oneFile n (now (name .entry)) ∷ []) (readFiles (now (t .entry)) (listed (filesIn (now (t .entry)))))) ⌝ }
+// The one file of `tree` beside a v1 half of one file, with this name and n bytes.
+fn alone(tree: &[u8], name: &[u8], n: usize) -> HalfRead
+    requires { ⌜ (right (filesIn (now tree)) ≡ true) × (L.length (listed (filesIn (now tree))) ≡ 1) ⌝ }
+    ensures { λ r. ⌜ ((plen : ℕ) → 0 < plen → r ≡ halfOf plen true (oneFile n (now (name .entry)) ∷ []) (readFiles (now (tree .entry)) (listed (filesIn (now (tree .entry)))))) ⌝ }
 {
     let mut path = [0usize; PATH];
-    let f = find_file(t, 0, &mut path);
+    let f = find_file(tree, 0, &mut path);
     let elements = f.elements;
     let length = f.length;
     if elements != 1 {
@@ -163,76 +170,76 @@ fn alone(t: &[u8], name: &[u8], n: usize) -> HalfRead
     }
     let x = path[0];
     let y = path[1];
-    if same(name, &t[x..y]) {
+    if same(name, &tree[x..y]) {
         return HalfRead::Bytes(n);
     }
     HalfRead::Misfit
 }
 
 // A v1 half without `files`: one file, with `length` and `name`.
-fn single(i: &[u8], t: &[u8], files: usize, name: Found) -> HalfRead
-    requires { ⌜ (right (filesIn (now t)) ≡ true) × (files ≡ L.length (listed (filesIn (now t)))) × (name ≡ findKey keyName 0 (now i)) ⌝ }
-    ensures { λ r. ⌜ ((info : Entries) → StandsAt (now (i .entry)) 0 (dictionary info) → isThere (lookup keyFiles info) ≡ false → (plen : ℕ) → 0 < plen → r ≡ halfOf plen (halfFits info) (v1Entries info) (readFiles (now (t .entry)) (listed (filesIn (now (t .entry)))))) ⌝ }
+fn single(bytes: &[u8], tree: &[u8], files: usize, name: Found) -> HalfRead
+    requires { ⌜ (right (filesIn (now tree)) ≡ true) × (files ≡ L.length (listed (filesIn (now tree)))) × (name ≡ findKey keyName 0 (now bytes)) ⌝ }
+    ensures { λ r. ⌜ ((info : Entries) → StandsAt (now (bytes .entry)) 0 (dictionary info) → isThere (lookup keyFiles info) ≡ false → (plen : ℕ) → 0 < plen → r ≡ halfOf plen (halfFits info) (v1Entries info) (readFiles (now (tree .entry)) (listed (filesIn (now (tree .entry)))))) ⌝ }
 {
-    match length_of(i, 0) {
+    match length_of(bytes, 0) {
         Natural::NoNatural => HalfRead::Misfit,
-        Natural::Is(n) => match string_of(i, name) {
+        Natural::Is(n) => match string_of(bytes, name) {
             KeyString::NoKey => HalfRead::Misfit,
             KeyString::OtherType => HalfRead::Misfit,
             KeyString::Text { start, end } => {
                 if files != 1 {
                     return HalfRead::Misfit;
                 }
-                alone(t, &i[start..end], n)
+                alone(tree, &bytes[start..end], n)
             }
         },
     }
 }
 
-// The v1 half beside the files of t.
+// The v1 half beside the files of `tree`.
 fn half(
-    i: &[u8],
-    t: &[u8],
+    bytes: &[u8],
+    tree: &[u8],
     plen: usize,
     files: usize,
     list: Found,
     length: Found,
     name: Found,
 ) -> HalfRead
-    requires { ⌜ (0 < plen) × (L.length (now i) ≤ largestTorrent) × (right (filesIn (now t)) ≡ true) × (files ≡ L.length (listed (filesIn (now t)))) × (list ≡ findKey keyFiles 0 (now i)) × (length ≡ findKey keyLength 0 (now i)) × (name ≡ findKey keyName 0 (now i)) ⌝ }
-    ensures { λ r. ⌜ ((info : Entries) → StandsAt (now (i .entry)) 0 (dictionary info) → r ≡ halfOf plen (halfFits info) (v1Entries info) (readFiles (now (t .entry)) (listed (filesIn (now (t .entry)))))) ⌝ }
+    requires { ⌜ (0 < plen) × (L.length (now bytes) ≤ largestTorrent) × (right (filesIn (now tree)) ≡ true) × (files ≡ L.length (listed (filesIn (now tree)))) × (list ≡ findKey keyFiles 0 (now bytes)) × (length ≡ findKey keyLength 0 (now bytes)) × (name ≡ findKey keyName 0 (now bytes)) ⌝ }
+    ensures { λ r. ⌜ ((info : Entries) → StandsAt (now (bytes .entry)) 0 (dictionary info) → r ≡ halfOf plen (halfFits info) (v1Entries info) (readFiles (now (tree .entry)) (listed (filesIn (now (tree .entry)))))) ⌝ }
 {
     match list {
-        Found::Missing => single(i, t, files, name),
+        Found::Missing => single(bytes, tree, files, name),
         Found::Part { start, end } => {
             if is_there(length) {
                 return HalfRead::Misfit;
             }
-            if !name_fits(i, name) {
+            if !name_fits(bytes, name) {
                 return HalfRead::Misfit;
             }
-            if !is_list(i, start) {
+            if !is_list(bytes, start) {
                 return HalfRead::Misfit;
             }
-            several(t, &i[start..end], plen, files)
+            several(tree, &bytes[start..end], plen, files)
         }
     }
 }
 
 // Whether the torrent is no hybrid, or one whose halves fit.
-pub fn halves_fit(i: &[u8], t: &[u8], plen: usize, files: usize) -> bool
-    requires { ⌜ (isPieceLength plen ≡ true) × (L.length (now i) ≤ largestTorrent) × (right (filesIn (now t)) ≡ true) × (files ≡ L.length (listed (filesIn (now t)))) ⌝ }
-    ensures { λ r. ⌜ ((info : Entries) → StandsAt (now (i .entry)) 0 (dictionary info) → r ≡ fitBeside plen (readFiles (now (t .entry)) (listed (filesIn (now (t .entry))))) info) ⌝ }
+pub fn halves_fit(bytes: &[u8], tree: &[u8], plen: usize, files: usize) -> bool
+    requires { ⌜ (isPieceLength plen ≡ true) × (L.length (now bytes) ≤ largestTorrent) × (right (filesIn (now tree)) ≡ true) × (files ≡ L.length (listed (filesIn (now tree)))) ⌝ }
+    ensures { λ r. ⌜ ((info : Entries) → StandsAt (now (bytes .entry)) 0 (dictionary info) → r ≡ fitBeside plen (readFiles (now (tree .entry)) (listed (filesIn (now (tree .entry))))) info) ⌝ }
 {
-    let keys = half_keys(i);
+    let keys = half_keys(bytes);
     let list = keys.files;
     let length = keys.length;
     let name = keys.name;
     let pieces = keys.pieces;
-    match string_of(i, pieces) {
+    match string_of(bytes, pieces) {
         KeyString::NoKey => true,
         KeyString::OtherType => false,
-        KeyString::Text { start, end } => match half(i, t, plen, files, list, length, name) {
+        KeyString::Text { start, end } => match half(bytes, tree, plen, files, list, length, name) {
             HalfRead::Misfit => false,
             HalfRead::Bytes(n) => {
                 let count = piece_count(n, plen);

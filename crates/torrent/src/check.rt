@@ -1,8 +1,8 @@
-// The numbers 19 to 28 and 31 of a torrent, the lowest; and where its parts are, if it gets 0. t is the part of the torrent that `file tree`
-// is, l the part that `piece layers` is.
+// The numbers 19 to 28 and 31 of a torrent, the lowest; and where its parts are, if it gets 0. `tree` is the part of the torrent that `file tree`
+// is, `layers` the part that `piece layers` is.
 use crate::both::halves_fit;
 use filetree::count::Counted;
-use filetree::count::MOST;
+use filetree::count::MOST_ROOTS;
 use filetree::count::count_files;
 use layers::index;
 use layers::judge_layers;
@@ -26,23 +26,23 @@ ghost use Rattle.torrent.specs.Torrent.{judgedAs, judgedOf, unread, v2Ch
 pub struct Judged {
     pub number: u32,
     pub files: usize,
-    pub long: usize,
+    pub layered: usize,
 }
 
 // The keys, with 0 or the number 19 to 28 or 31; and the counts, zeros beside a refusal.
 pub struct Checked {
     pub keys: Keys,
     pub files: usize,
-    pub long: usize,
+    pub layered: usize,
 }
 
 fn refused(number: u32) -> Judged
-    ensures { λ r. ⌜ r ≡ record { number = number; files = 0; long = 0 } ⌝ }
+    ensures { λ r. ⌜ r ≡ record { number = number; files = 0; layered = 0 } ⌝ }
 {
     Judged {
         number,
         files: 0,
-        long: 0,
+        layered: 0,
     }
 }
 
@@ -53,40 +53,40 @@ fn not_read(number: u32) -> Checked
     Checked {
         keys,
         files: 0,
-        long: 0,
+        layered: 0,
     }
 }
 
-fn counted(number: u32, files: usize, long: usize) -> Judged
-    ensures { λ r. ⌜ r ≡ judgedAs number files long ⌝ }
+fn counted(number: u32, files: usize, layered: usize) -> Judged
+    ensures { λ r. ⌜ r ≡ judgedAs number files layered ⌝ }
 {
     if number == 0 {
         return Judged {
             number,
             files,
-            long,
+            layered,
         };
     }
     refused(number)
 }
 
 // 25 to 28 or 0; `roots` and `room` are work space.
-fn judge_in(t: &[u8], l: &[u8], plen: usize, roots: &mut [u32], room: &mut [u32]) -> Judged
-    requires { ⌜ (length (now t) ≤ largestTorrent) × (isPieceLength plen ≡ true) × LayersOpen (now l) × (length (now roots) ≡ mostRoots) × (length (now room) ≡ mostRoots) ⌝ }
-    ensures { λ r. ⌜ r ≡ judgedOf (now (t .entry)) (now (l .entry)) plen ⌝ }
+fn judge_in(tree: &[u8], layers: &[u8], plen: usize, roots: &mut [u32], room: &mut [u32]) -> Judged
+    requires { ⌜ (length (now tree) ≤ largestTorrent) × (isPieceLength plen ≡ true) × LayersOpen (now layers) × (length (now roots) ≡ mostRoots) × (length (now room) ≡ mostRoots) ⌝ }
+    ensures { λ r. ⌜ r ≡ judgedOf (now (tree .entry)) (now (layers .entry)) plen ⌝ }
 {
-    match count_files(t, roots) {
+    match count_files(tree, roots) {
         Counted::WrongTree => refused(numbers::WRONG_TREE),
         Counted::Past { next: _, tally } => {
             let files = tally.files;
             let full = tally.roots;
-            let count = once_each(t, roots, room, full);
-            match compare(t, roots, count, room, plen) {
+            let count = once_each(tree, roots, room, full);
+            match compare(tree, roots, count, room, plen) {
                 Compared::Differ => refused(numbers::TWO_LENGTHS),
-                Compared::Agree { long } => {
-                    if index(l, roots, long) {
-                        let number = judge_layers(t, l, roots, long, plen);
-                        return counted(number, files, long);
+                Compared::Agree { layered } => {
+                    if index(layers, roots, layered) {
+                        let number = judge_layers(tree, layers, roots, layered, plen);
+                        return counted(number, files, layered);
                     }
                     refused(numbers::LAYERS_AMISS)
                 }
@@ -95,21 +95,21 @@ fn judge_in(t: &[u8], l: &[u8], plen: usize, roots: &mut [u32], room: &mut [u32]
     }
 }
 
-// The same. A torrent has no more than MOST files that are not empty.
-fn judge(t: &[u8], l: &[u8], plen: usize) -> Judged
-    requires { ⌜ (length (now t) ≤ largestTorrent) × (isPieceLength plen ≡ true) × LayersOpen (now l) ⌝ }
-    ensures { λ r. ⌜ r ≡ judgedOf (now (t .entry)) (now (l .entry)) plen ⌝ }
+// 25 to 28 or 0, in work space of its own: a torrent has no more than MOST_ROOTS files that are not empty.
+fn judge(tree: &[u8], layers: &[u8], plen: usize) -> Judged
+    requires { ⌜ (length (now tree) ≤ largestTorrent) × (isPieceLength plen ≡ true) × LayersOpen (now layers) ⌝ }
+    ensures { λ r. ⌜ r ≡ judgedOf (now (tree .entry)) (now (layers .entry)) plen ⌝ }
 {
-    let mut roots = [0u32; MOST];
-    let mut room = [0u32; MOST];
-    judge_in(t, l, plen, &mut roots, &mut room)
+    let mut roots = [0u32; MOST_ROOTS];
+    let mut room = [0u32; MOST_ROOTS];
+    judge_in(tree, layers, plen, &mut roots, &mut room)
 }
 
 // 19 to 28 or 0 of any bytes, by the v2 half alone.
-fn check_v2(s: &[u8]) -> Checked
-    ensures { λ r. ⌜ r ≡ v2CheckedOf (now (s .entry)) ⌝ }
+fn check_v2(torrent: &[u8]) -> Checked
+    ensures { λ r. ⌜ r ≡ v2CheckedOf (now (torrent .entry)) ⌝ }
 {
-    let keys = read_keys(s);
+    let keys = read_keys(torrent);
     let number = keys.number;
     let plen = keys.plen;
     let tree = keys.tree.start;
@@ -117,13 +117,13 @@ fn check_v2(s: &[u8]) -> Checked
     let layers = keys.layers.start;
     let layers_end = keys.layers.end;
     if number == 0 {
-        let judged = judge(&s[tree..tree_end], &s[layers..layers_end], plen);
+        let judged = judge(&torrent[tree..tree_end], &torrent[layers..layers_end], plen);
         let answer = judged.number;
         if answer == 0 {
             return Checked {
                 keys,
                 files: judged.files,
-                long: judged.long,
+                layered: judged.layered,
             };
         }
         return not_read(answer);
@@ -132,10 +132,10 @@ fn check_v2(s: &[u8]) -> Checked
 }
 
 // 19 to 28, 31 or 0 of any bytes. What the v2 half is judged with is gone before the halves are held against each other.
-pub fn check(s: &[u8]) -> Checked
-    ensures { λ r. ⌜ r ≡ checkedOf (now (s .entry)) ⌝ }
+pub fn check(torrent: &[u8]) -> Checked
+    ensures { λ r. ⌜ r ≡ checkedOf (now (torrent .entry)) ⌝ }
 {
-    let c = check_v2(s);
+    let c = check_v2(torrent);
     let number = c.keys.number;
     let plen = c.keys.plen;
     let info = c.keys.info.start;
@@ -146,7 +146,12 @@ pub fn check(s: &[u8]) -> Checked
     if number != 0 {
         return c;
     }
-    if halves_fit(&s[info..info_end], &s[tree..tree_end], plen, files) {
+    if halves_fit(
+        &torrent[info..info_end],
+        &torrent[tree..tree_end],
+        plen,
+        files,
+    ) {
         return c;
     }
     not_read(numbers::HALVES_DIFFER)

@@ -1,5 +1,5 @@
-// One file of a right file tree, by its number; and its layer. t is the part of the torrent that `file tree` is, l the part that
-// `piece layers` is.
+// One file of a right file tree, by its number; and its layer. `tree` is the part of the torrent that `file tree` is, `layers` the part
+// that `piece layers` is.
 use bencode::parts::Found;
 use bencode::parts::find;
 use bencode::scalar::ByteString;
@@ -34,21 +34,21 @@ pub enum Search {
     WrongTree,
 }
 
-// File n of a directory, from its first entry on, with so many levels left below it. `path` has the elements of the path to the
+// File `file` of a directory, from its first entry on, with so many levels left below it. `path` has the elements of the path to the
 // directory; where the file is found, those of its own path.
-fn find_in(t: &[u8], at: usize, levels: usize, n: usize, path: &mut [usize]) -> Search
+fn find_in(tree: &[u8], at: usize, levels: usize, file: usize, path: &mut [usize]) -> Search
     requires { ⌜ (levels ≤ maxElements) × (L.length (now path) ≡ pathSize) ⌝ }
-    ensures { λ r. ⌜ Finds (now (t .entry)) at levels n (now (path .entry)) (now (path .exit)) r ⌝ }
+    ensures { λ r. ⌜ Finds (now (tree .entry)) at levels file (now (path .entry)) (now (path .exit)) r ⌝ }
 {
     if levels == 0 {
         return Search::WrongTree;
     }
     let below = levels - 1;
     let depth = ELEMENTS - levels;
-    let mut left = n;
+    let mut left = file;
     let mut i = at;
-    while i < t.len() {
-        match read_token(t, i) {
+    while i < tree.len() {
+        match read_token(tree, i) {
             Token::BadToken => {
                 return Search::WrongTree;
             }
@@ -76,7 +76,7 @@ fn find_in(t: &[u8], at: usize, levels: usize, n: usize, path: &mut [usize]) -> 
             }
             Token::Opened { start, end } => {
                 set_element(path, depth, start, end);
-                match find_in(t, end + 1, below, left, path) {
+                match find_in(tree, end + 1, below, left, path) {
                     Search::Here { place } => {
                         return Search::Here { place };
                     }
@@ -104,46 +104,46 @@ fn no_place() -> SoughtFile
     }
 }
 
-// File n of the tree t, if it has one; its path is then in `path`.
-pub fn find_file(t: &[u8], n: usize, path: &mut [usize]) -> SoughtFile
-    requires { ⌜ (right (filesIn (now t)) ≡ true) × (n < L.length (listed (filesIn (now t)))) × (L.length (now path) ≡ pathSize) ⌝ }
-    ensures { λ r. ⌜ FoundFile (now (path .exit)) (fileNumber (listed (filesIn (now (t .entry)))) n) r ⌝ }
+// File `file` of `tree`, if it has one; its path is then in `path`.
+pub fn find_file(tree: &[u8], file: usize, path: &mut [usize]) -> SoughtFile
+    requires { ⌜ (right (filesIn (now tree)) ≡ true) × (file < L.length (listed (filesIn (now tree)))) × (L.length (now path) ≡ pathSize) ⌝ }
+    ensures { λ r. ⌜ FoundFile (now (path .exit)) (fileNumber (listed (filesIn (now (tree .entry)))) file) r ⌝ }
 {
-    match find_in(t, 1, ELEMENTS, n, path) {
+    match find_in(tree, 1, ELEMENTS, file, path) {
         Search::Here { place } => place,
-        Search::Past { next: _, left: _ } => no_place(), // never: the tree has file n
+        Search::Past { next: _, left: _ } => no_place(), // never: the tree has `file`
         Search::WrongTree => no_place(), // never: the tree is right
     }
 }
 
-// The root of a file of n bytes: 32 zero bytes if it is empty.
-pub fn root_of(t: &[u8], n: usize, root: usize) -> [u8; 32]
-    requires { ⌜ ((n ≡ 0 → ⊥) → root + 32 ≤ L.length (now t)) ⌝ }
-    ensures { λ r. ⌜ r ≡ rootBytes (now (t .entry)) n root ⌝ }
+// The root of a file of `length` bytes: 32 zero bytes if it is empty.
+pub fn root_of(tree: &[u8], length: usize, root: usize) -> [u8; 32]
+    requires { ⌜ ((length ≡ 0 → ⊥) → root + 32 ≤ L.length (now tree)) ⌝ }
+    ensures { λ r. ⌜ r ≡ rootBytes (now (tree .entry)) length root ⌝ }
 {
-    if n == 0 {
+    if length == 0 {
         return [0u8; 32];
     }
-    hash_at(t, root)
+    hash_at(tree, root)
 }
 
-// The string that the dictionary l has for a root.
-fn layer_at(l: &[u8], root: &[u8]) -> ByteString
-    ensures { λ r. ⌜ r ≡ layerAt (now (l .entry)) (now (root .entry)) ⌝ }
+// The string that the dictionary `layers` has for a root.
+fn layer_at(layers: &[u8], root: &[u8]) -> ByteString
+    ensures { λ r. ⌜ r ≡ layerAt (now (layers .entry)) (now (root .entry)) ⌝ }
 {
-    match find(l, 0, root) {
+    match find(layers, 0, root) {
         Found::Missing => ByteString::NoString,
-        Found::Part { start, end: _ } => read_string(l, start),
+        Found::Part { start, end: _ } => read_string(layers, start),
     }
 }
 
-// The layer of a file of n bytes with its root at `root`; none if it is not longer than the piece length.
-pub fn layer_of(t: &[u8], l: &[u8], plen: usize, n: usize, root: usize) -> ByteString
-    requires { ⌜ ((n ≡ 0 → ⊥) → root + 32 ≤ L.length (now t)) ⌝ }
-    ensures { λ r. ⌜ r ≡ layerString (now (l .entry)) plen n (cut (now (t .entry)) root 32) ⌝ }
+// The layer of a file of `length` bytes with its root at `root`; none if it is not longer than the piece length.
+pub fn layer_of(tree: &[u8], layers: &[u8], plen: usize, length: usize, root: usize) -> ByteString
+    requires { ⌜ ((length ≡ 0 → ⊥) → root + 32 ≤ L.length (now tree)) ⌝ }
+    ensures { λ r. ⌜ r ≡ layerString (now (layers .entry)) plen length (cut (now (tree .entry)) root 32) ⌝ }
 {
-    if has_layer(n, plen) {
-        return layer_at(l, &t[root..root + 32]);
+    if has_layer(length, plen) {
+        return layer_at(layers, &tree[root..root + 32]);
     }
     ByteString::NoString
 }

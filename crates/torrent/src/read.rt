@@ -1,4 +1,4 @@
-// What is answered of a torrent: the torrent itself, file n, element k of its path.
+// What is answered of a torrent: the torrent itself, one of its files, an element of its path.
 use crate::check::check;
 use crate::one::find_file;
 use crate::one::layer_of;
@@ -74,15 +74,15 @@ fn no_part(number: u32) -> PartRead
 }
 
 // The torrent itself.
-pub fn read(s: &[u8]) -> Torrent
-    ensures { λ r. ⌜ r ≡ readOf (now (s .entry)) ⌝ }
+pub fn read(torrent: &[u8]) -> Torrent
+    ensures { λ r. ⌜ r ≡ readOf (now (torrent .entry)) ⌝ }
 {
-    let c = check(s);
+    let c = check(torrent);
     let number = c.keys.number;
     let info = c.keys.info.start;
     let past = c.keys.info.end;
     if number == 0 {
-        let hash = sha256::hash(&s[info..past]);
+        let hash = sha256::hash(&torrent[info..past]);
         return Torrent {
             number,
             hash,
@@ -93,18 +93,18 @@ pub fn read(s: &[u8]) -> Torrent
     no_torrent(number)
 }
 
-// File n of the right tree t; l begins at `base` of the torrent.
-fn one_file(t: &[u8], l: &[u8], base: usize, plen: usize, n: usize) -> FileRead
-    requires { ⌜ (right (filesIn (now t)) ≡ true) × (n < L.length (listed (filesIn (now t)))) × (base + L.length (now l) ≤ largestTorrent) ⌝ }
-    ensures { λ r. ⌜ r ≡ fileAnswer (now (t .entry)) (now (l .entry)) base plen (fileNumber (listed (filesIn (now (t .entry)))) n) ⌝ }
+// File `file` of the right `tree`; `layers` begins at `base` of the torrent.
+fn one_file(tree: &[u8], layers: &[u8], base: usize, plen: usize, file: usize) -> FileRead
+    requires { ⌜ (right (filesIn (now tree)) ≡ true) × (file < L.length (listed (filesIn (now tree)))) × (base + L.length (now layers) ≤ largestTorrent) ⌝ }
+    ensures { λ r. ⌜ r ≡ fileAnswer (now (tree .entry)) (now (layers .entry)) base plen (fileNumber (listed (filesIn (now (tree .entry)))) file) ⌝ }
 {
     let mut path = [0usize; PATH];
-    let f = find_file(t, n, &mut path);
+    let f = find_file(tree, file, &mut path);
     let length = f.length;
     let at = f.root;
     let elements = f.elements;
-    let root = root_of(t, length, at);
-    match layer_of(t, l, plen, length, at) {
+    let root = root_of(tree, length, at);
+    match layer_of(tree, layers, plen, length, at) {
         ByteString::NoString => FileRead {
             number: 0,
             length,
@@ -124,11 +124,11 @@ fn one_file(t: &[u8], l: &[u8], base: usize, plen: usize, n: usize) -> FileRead
     }
 }
 
-// File n in tree order, from 0.
-pub fn read_file(s: &[u8], n: usize) -> FileRead
-    ensures { λ r. ⌜ r ≡ fileRead (now (s .entry)) n ⌝ }
+// File `file` in tree order, from 0.
+pub fn read_file(torrent: &[u8], file: usize) -> FileRead
+    ensures { λ r. ⌜ r ≡ fileRead (now (torrent .entry)) file ⌝ }
 {
-    let c = check(s);
+    let c = check(torrent);
     let number = c.keys.number;
     let plen = c.keys.plen;
     let tree = c.keys.tree.start;
@@ -137,22 +137,28 @@ pub fn read_file(s: &[u8], n: usize) -> FileRead
     let layers_end = c.keys.layers.end;
     let files = c.files;
     if number == 0 {
-        if n < files {
-            return one_file(&s[tree..tree_end], &s[layers..layers_end], layers, plen, n);
+        if file < files {
+            return one_file(
+                &torrent[tree..tree_end],
+                &torrent[layers..layers_end],
+                layers,
+                plen,
+                file,
+            );
         }
         return no_file(numbers::NO_SUCH_PART);
     }
     no_file(number)
 }
 
-// Element k of a path of so many elements, of a tree that begins at `base` of the torrent.
-fn element_of(path: &[usize], elements: usize, base: usize, k: usize) -> PartRead
+// Element `element` of a path of so many elements, of a tree that begins at `base` of the torrent.
+fn element_of(path: &[usize], elements: usize, base: usize, element: usize) -> PartRead
     requires { ⌜ PathGiven (now path) elements base ⌝ }
-    ensures { λ r. ⌜ ElementRead (now (path .entry)) elements base k r ⌝ }
+    ensures { λ r. ⌜ ElementRead (now (path .entry)) elements base element r ⌝ }
 {
-    if k < elements {
-        let start = path[2 * k];
-        let end = path[2 * k + 1];
+    if element < elements {
+        let start = path[2 * element];
+        let end = path[2 * element + 1];
         return PartRead {
             number: 0,
             start: base + start,
@@ -162,28 +168,28 @@ fn element_of(path: &[usize], elements: usize, base: usize, k: usize) -> PartRea
     no_part(numbers::NO_SUCH_PART)
 }
 
-// Element k of the path of file n of the right tree t, which begins at `base` of the torrent.
-fn one_element(t: &[u8], base: usize, n: usize, k: usize) -> PartRead
-    requires { ⌜ (right (filesIn (now t)) ≡ true) × (n < L.length (listed (filesIn (now t)))) × (base + L.length (now t) ≤ largestTorrent) ⌝ }
-    ensures { λ r. ⌜ r ≡ elementIn base (fileNumber (listed (filesIn (now (t .entry)))) n .path) k ⌝ }
+// Element `element` of the path of `file` of the right `tree`, which begins at `base` of the torrent.
+fn one_element(tree: &[u8], base: usize, file: usize, element: usize) -> PartRead
+    requires { ⌜ (right (filesIn (now tree)) ≡ true) × (file < L.length (listed (filesIn (now tree)))) × (base + L.length (now tree) ≤ largestTorrent) ⌝ }
+    ensures { λ r. ⌜ r ≡ elementIn base (fileNumber (listed (filesIn (now (tree .entry)))) file .path) element ⌝ }
 {
     let mut path = [0usize; PATH];
-    let f = find_file(t, n, &mut path);
-    element_of(&path, f.elements, base, k)
+    let f = find_file(tree, file, &mut path);
+    element_of(&path, f.elements, base, element)
 }
 
-// Element k, from 0, of the path of file n.
-pub fn read_path(s: &[u8], n: usize, k: usize) -> PartRead
-    ensures { λ r. ⌜ r ≡ pathRead (now (s .entry)) n k ⌝ }
+// Element `element`, from 0, of the path of `file`.
+pub fn read_path(torrent: &[u8], file: usize, element: usize) -> PartRead
+    ensures { λ r. ⌜ r ≡ pathRead (now (torrent .entry)) file element ⌝ }
 {
-    let c = check(s);
+    let c = check(torrent);
     let number = c.keys.number;
     let tree = c.keys.tree.start;
     let tree_end = c.keys.tree.end;
     let files = c.files;
     if number == 0 {
-        if n < files {
-            return one_element(&s[tree..tree_end], tree, n, k);
+        if file < files {
+            return one_element(&torrent[tree..tree_end], tree, file, element);
         }
         return no_part(numbers::NO_SUCH_PART);
     }

@@ -1,7 +1,7 @@
 -- What follows from the definitions of Geometry: rounding up, the height, padding, piece lengths, sizes, node numbers.
 -- Assumes nothing.
 use mathlib.Core.Path.{_≡_, refl, ap, sym, _∙_}
-use mathlib.Core.Bool.{Bool, true, false, cond, _&&_, and-eq-true-iff}
+use mathlib.Core.Bool.{true, false, cond, and-true, and-false, and-eq-true-iff}
 use Prim.Native.Nat.{ℕ, zero, suc, _+_, _-_, _*_, _/_, _%_, _^_, _≤_, _<_}
 use native.Mathlib.Nat.{add-mul, one-mul, mul-one, add-div-right, zero-mul, mul-assoc, mul-comm, pow-succ', div-zero, div-lt-iff-lt-mul, mul-div-cancel-left, one-le-mul, mul-le-mul-left, le-antisymm}
 use native.Mathlib.Decide.{decLe, decLt}
@@ -30,7 +30,7 @@ ceil-enough a d i p h =
     let g : a + (d - 1) < (i + 1) * d = div-lt-iff-lt-mul p .0 l in
     omega arith
 
--- the same, as positions below the count
+-- a position that begins before the end is below the count
 pub below-ceil : (a d i : ℕ) → 0 < d → i * d < a → i < ceilDiv a d
 below-ceil a d i p h = by-size (decLt i (ceilDiv a d))
   where
@@ -285,14 +285,6 @@ pub piece-some : (plen : ℕ) → isPieceLength plen ≡ true → 0 < plen
 piece-some plen good =
     let w : 0 < blockLength * 2 ^ pieceLayer plen = one-le-mul (omega arith) (pow-pos (pieceLayer plen)) in
     omega (arith, piece-length-form plen good .1)
-
-pub and-false : (t : Bool) → (t && false) ≡ false
-and-false true = refl
-and-false false = refl
-
-pub and-true : (t : Bool) → (t && true) ≡ t
-and-true true = refl
-and-true false = refl
 
 -- above 16 MiB there is no piece length
 pub piece-length-large : (plen : ℕ) → 16777216 < plen → isPieceLength plen ≡ false

@@ -16,18 +16,18 @@ pub fn ceil_div(a: usize, d: usize) -> usize
     (a - 1) / d + 1
 }
 
-// How many blocks of 16 KiB a file of n bytes has, the last one perhaps shorter.
-pub fn block_count(n: usize) -> usize
-    ensures { λ r. ⌜ r ≡ G.blockCount n ⌝ }
+// How many blocks of 16 KiB a file of `length` bytes has, the last one perhaps shorter.
+pub fn block_count(length: usize) -> usize
+    ensures { λ r. ⌜ r ≡ G.blockCount length ⌝ }
 {
-    ceil_div(n, 16384)
+    ceil_div(length, 16384)
 }
 
-// The least h with 2^h at least b.
-pub fn height(b: usize) -> usize
-    ensures { λ r. ⌜ r ≡ G.height b ⌝ }
+// The least h with 2^h at least `blocks`.
+pub fn height(blocks: usize) -> usize
+    ensures { λ r. ⌜ r ≡ G.height blocks ⌝ }
 {
-    let mut rest = b;
+    let mut rest = blocks;
     let mut h = 0;
     while rest > 1 {
         rest = rest / 2 + rest % 2;
@@ -43,17 +43,17 @@ pub fn log2(n: usize) -> usize
     height(n)
 }
 
-// How many positions of layer l aren't padding, for a file of b blocks.
-pub fn covering(b: usize, l: usize) -> usize
-    ensures { λ r. ⌜ r ≡ G.covering b l ⌝ }
+// How many positions of `layer` aren't padding, for a file of `blocks` blocks.
+pub fn covering(blocks: usize, layer: usize) -> usize
+    ensures { λ r. ⌜ r ≡ G.covering blocks layer ⌝ }
 {
-    if b == 0 {
+    if blocks == 0 {
         return 0;
     }
-    if l >= 64 {
+    if layer >= 64 {
         return 1;
     }
-    ((b - 1) >> l) + 1
+    ((blocks - 1) >> layer) + 1
 }
 
 // The piece layer's number.
@@ -74,44 +74,44 @@ pub fn is_piece_length(plen: usize) -> bool
     16384 << p == plen
 }
 
-// Whether a file of n bytes has a piece layer.
-pub fn has_layer(n: usize, plen: usize) -> bool
-    ensures { λ r. ⌜ r ≡ G.hasLayer n plen ⌝ }
+// Whether a file of `length` bytes has a piece layer.
+pub fn has_layer(length: usize, plen: usize) -> bool
+    ensures { λ r. ⌜ r ≡ G.hasLayer length plen ⌝ }
 {
-    plen < n
+    plen < length
 }
 
-// How many pieces a file of n bytes has.
-pub fn piece_count(n: usize, plen: usize) -> usize
-    ensures { λ r. ⌜ r ≡ G.pieceCount n plen ⌝ }
+// How many pieces a file of `length` bytes has.
+pub fn piece_count(length: usize, plen: usize) -> usize
+    ensures { λ r. ⌜ r ≡ G.pieceCount length plen ⌝ }
 {
-    ceil_div(n, plen)
+    ceil_div(length, plen)
 }
 
-// How many bytes piece i has; none past the file.
-pub fn piece_size(n: usize, plen: usize, i: usize) -> usize
-    ensures { λ r. ⌜ r ≡ G.pieceSize n plen i ⌝ }
+// How many bytes `piece` has; none past the file.
+pub fn piece_size(length: usize, plen: usize, piece: usize) -> usize
+    ensures { λ r. ⌜ r ≡ G.pieceSize length plen piece ⌝ }
 {
-    let c = piece_count(n, plen);
-    if i >= c {
+    let c = piece_count(length, plen);
+    if piece >= c {
         return 0;
     }
-    let left = n - plen * i;
+    let left = length - plen * piece;
     if left < plen { left } else { plen }
 }
 
-// How many bytes block i has; none past the file.
-pub fn block_size(n: usize, i: usize) -> usize
-    ensures { λ r. ⌜ r ≡ G.blockSize n i ⌝ }
+// How many bytes `block` has; none past the file.
+pub fn block_size(length: usize, block: usize) -> usize
+    ensures { λ r. ⌜ r ≡ G.blockSize length block ⌝ }
 {
-    piece_size(n, 16384, i)
+    piece_size(length, 16384, block)
 }
 
-// The number of position i of layer l in a tree of height h.
-pub fn node_number(h: usize, l: usize, i: usize) -> usize
-    requires { ⌜ (l ≤ h) × (h ≤ 63) × (i < 2 ^ (h - l)) ⌝ }
-    ensures { λ r. ⌜ r ≡ G.nodeNumber h l i ⌝ }
+// The number of position `index` of `layer` in a tree of `height`.
+pub fn node_number(height: usize, layer: usize, index: usize) -> usize
+    requires { ⌜ (layer ≤ height) × (height ≤ 63) × (index < 2 ^ (height - layer)) ⌝ }
+    ensures { λ r. ⌜ r ≡ G.nodeNumber height layer index ⌝ }
 {
-    let d = h - l;
-    (1 << d) + i
+    let d = height - layer;
+    (1 << d) + index
 }

@@ -60,14 +60,14 @@ module _ (known n : ℕ) where
   pub differs-some : (known ≡ 0 → ⊥) → not (eqb known n) ≡ differs known n
   differs-some h = rw (ne-eqb known 0 h) refl
 
-module _ (long known n plen : ℕ) where
-  pub one-long : known ≡ 0 → (b : Bool) → b ≡ hasLayer n plen → b ≡ true → long + 1 ≡ cond (eqb known 0 && hasLayer n plen) (long + 1) long
+module _ (layered known n plen : ℕ) where
+  pub one-long : known ≡ 0 → (b : Bool) → b ≡ hasLayer n plen → b ≡ true → layered + 1 ≡ cond (eqb known 0 && hasLayer n plen) (layered + 1) layered
   one-long z b e q = rw (eq-eqb known 0 z, sym e ∙ q) refl
 
-  pub one-short : known ≡ 0 → (b : Bool) → b ≡ hasLayer n plen → b ≡ false → long ≡ cond (eqb known 0 && hasLayer n plen) (long + 1) long
+  pub one-short : known ≡ 0 → (b : Bool) → b ≡ hasLayer n plen → b ≡ false → layered ≡ cond (eqb known 0 && hasLayer n plen) (layered + 1) layered
   one-short z b e q = rw (eq-eqb known 0 z, sym e ∙ q) refl
 
-  pub one-known : (known ≡ 0 → ⊥) → long ≡ cond (eqb known 0 && hasLayer n plen) (long + 1) long
+  pub one-known : (known ≡ 0 → ⊥) → layered ≡ cond (eqb known 0 && hasLayer n plen) (layered + 1) layered
   one-known h = rw (ne-eqb known 0 h) refl
 
 -- ---- places forgotten

@@ -2,7 +2,7 @@
 -- Assumes nothing.
 use mathlib.Core.Path.{_≡_, refl, sym, ap, ap₂, _∙_}
 use mathlib.Core.Logic.{_⊎_, inl, inr}
-use mathlib.Core.Bool.{Bool, true, false, cond, not, _&&_, _||_, false≢true, and-eq-true-iff, and-assoc}
+use mathlib.Core.Bool.{Bool, true, false, cond, not, _&&_, _||_, false≢true, and-eq-true-iff, and-assoc, and-true}
 use mathlib.Core.List.{List, [], _∷_, _++_, append-nil, append-assoc}
 use Prim.Native.Nat.{ℕ, suc, _+_, _≤_}
 use native.Mathlib.Omega.{arith}
@@ -13,7 +13,7 @@ use borrow.Author.Tests.{eqb-true, eqb-false, eq-eqb, ne-eqb, not-true}
 use Rattle.octets.specs.Octets.{same}
 use Rattle.octets.specs.OctetsLaws.{same-true, same-false, same-refl, same-ne}
 use Rattle.tree.specs.Geometry.{hasLayer}
-use Rattle.tree.specs.GeometryLaws.{long-full, and-true}
+use Rattle.tree.specs.GeometryLaws.{long-full}
 use Rattle.meaning.specs.Torrent.{File, noOtherLength, lengthsAgree}
 use Rattle.meaning.specs.Counting.{Member, Distinct}
 use Rattle.twins.specs.Twins.{longRoots, noneSame, onceEach, layerCount, lengthKnown, differs}

@@ -14,11 +14,11 @@ use Rattle.twins.specs.Twins.{layerCount, lengthKnown, sizeNoted, RootsS
 use Rattle.twins.specs.declared.Noted.{Noted}
 use Rattle.twins.specs.declared.Noted.the-variants.{Past, Unlike}
 
--- the files `done` are met: their lengths agree, `long` layers are theirs, and at each root's place stands a file with the length that is
+-- the files `done` are met: their lengths agree, `layered` layers are theirs, and at each root's place stands a file with the length that is
 -- known of it
-pub record Known (t roots : List ℕ) (count plen : ℕ) (room : List ℕ) (done : List Listed) (long : ℕ) : Type 0 where
+pub record Known (t roots : List ℕ) (count plen : ℕ) (room : List ℕ) (done : List Listed) (layered : ℕ) : Type 0 where
   pub agree : lengthsAgree (readFiles t done) ≡ true
-  pub counted : long ≡ layerCount plen (readFiles t done)
+  pub counted : layered ≡ layerCount plen (readFiles t done)
   pub noted : (j : ℕ) → j < count → sizeNoted t (getD room j 0) ≡ lengthKnown (cut t (getD roots j 0) 32) (readFiles t done)
   pub sized : count ≤ length room
 
@@ -36,5 +36,5 @@ pub record Ahead (t roots : List ℕ) (count plen at levels : ℕ) (room : List 
 
 -- what is then said of the directory: all of its files are met too, or with them two of one root have different lengths
 abbrev pub Compares : List ℕ → List ℕ → ℕ → ℕ → List Listed → ℕ → List ℕ → Noted → Type 0
-Compares t roots count plen fs end room (Past k long) = (k ≡ end) × (long ≤ k) × Known t roots count plen room fs long
+Compares t roots count plen fs end room (Past k layered) = (k ≡ end) × (layered ≤ k) × Known t roots count plen room fs layered
 Compares t roots count plen fs end room Unlike = lengthsAgree (readFiles t fs) ≡ false

@@ -20,7 +20,7 @@ use Rattle.sorting.specs.SortingLaws.{ascending-one}
 use Rattle.filetree.specs.Token.{endsHere, tokenAt}
 use Rattle.filetree.specs.TokenLaws.{leaf-ends, opened-ends}
 use Rattle.filetree.specs.Tree.{maxElements, Element, Listed, listedAs, down, Files, wrong, files, after, filesFrom, filesBelow, filesIn, right, listed, rootsOf}
-use Rattle.filetree.specs.TreeLaws.{empty-tree, tree-below, no-levels, Passed, passed-none, passed-bad, passed-end, passed-closed, passed-file, passed-wrong, inside-ends, passed-directory}
+use Rattle.filetree.specs.TreeLaws.{empty-tree, tree-below, no-levels, FilesPassed, passed-none, passed-bad, passed-end, passed-closed, passed-file, passed-wrong, inside-ends, passed-directory}
 use Rattle.filetree.specs.Reading.{readFile, readFiles, rootRead}
 use Rattle.filetree.specs.declared.token.Token.the-variants.{Opened, Closed, Leaf, BadToken}
 use Rattle.twins.specs.Twins.{longRoots, onceEach, layerCount, comparedOf, lengthKnown, differs, sizeNoted, RootsStand, Rooted, Meets}
@@ -37,7 +37,7 @@ module _ (t roots : List ℕ) (count plen : ℕ) where
   unfolding lengthsAgree layerCount longRoots onceEach sizeNoted lengthKnown
   known-none room h z = record { agree = refl; counted = refl; noted = λ j l. rw (z j l) refl; sized = h }
 
-  module _ (rooted : Rooted t roots count) (room : List ℕ) (done : List Listed) (long : ℕ) (c : Known t roots count plen room done long)
+  module _ (rooted : Rooted t roots count) (room : List ℕ) (done : List Listed) (layered : ℕ) (c : Known t roots count plen room done layered)
       (i a b n r k : ℕ) (path : List Element) (some : 0 < i) (e : tokenAt t i ≡ Leaf a b n r k) where
     abbrev f : Listed
     f = listedAs n r (down path a b)
@@ -58,10 +58,10 @@ module _ (t roots : List ℕ) (count plen : ℕ) where
     now = map-append (readFile t) done (f ∷ [])
 
     -- with what is true of one file more
-    met : (room′ : List ℕ) (long′ : ℕ) → length room′ ≡ length room → lengthsAgree (vs ++ v ∷ []) ≡ true → long′ ≡ layerCount plen (vs ++ v ∷ [])
+    met : (room′ : List ℕ) (layered′ : ℕ) → length room′ ≡ length room → lengthsAgree (vs ++ v ∷ []) ≡ true → layered′ ≡ layerCount plen (vs ++ v ∷ [])
         → ((j : ℕ) → j < count → sizeNoted t (getD room′ j 0) ≡ lengthKnown (cut t (getD roots j 0) 32) (vs ++ v ∷ []))
-        → Known t roots count plen room′ (done ++ f ∷ []) long′
-    met room′ long′ s g m o =
+        → Known t roots count plen room′ (done ++ f ∷ []) layered′
+    met room′ layered′ s g m o =
         let d = c .sized in
         record {
           agree = ap lengthsAgree now ∙ g;
@@ -86,14 +86,14 @@ module _ (t roots : List ℕ) (count plen : ℕ) where
               differs-so vs v (c .agree) (λ x. z (sym size-is ∙ x)) known is (rw size-is d) (readFiles t rest)
 
       -- it does not
-      pub known-file : differs known n ≡ false → (long′ : ℕ) → long′ ≡ cond (eqb known 0 && hasLayer n plen) (long + 1) long → Known t roots count plen room′ (done ++ f ∷ []) long′
-      known-file d long′ g = by-met m
+      pub known-file : differs known n ≡ false → (layered′ : ℕ) → layered′ ≡ cond (eqb known 0 && hasLayer n plen) (layered + 1) layered → Known t roots count plen room′ (done ++ f ∷ []) layered′
+      known-file d layered′ g = by-met m
         where
-          by-met : Meets t roots count room room′ i n r known → Known t roots count plen room′ (done ++ f ∷ []) long′
+          by-met : Meets t roots count room room′ i n r known → Known t roots count plen room′ (done ++ f ∷ []) layered′
           by-met (inl (z, o, s)) =
               let empty : v .size ≡ 0 = size-is ∙ z in
-              let same-long : long′ ≡ long = g ∙ rw (eq-eqb known 0 o, empty-short n plen z) refl in
-              met room′ long′ (ap length s) (empty-agrees vs v (c .agree) empty) (same-long ∙ c .counted ∙ sym (empty-layers vs v (c .agree) empty plen))
+              let same-long : layered′ ≡ layered = g ∙ rw (eq-eqb known 0 o, empty-short n plen z) refl in
+              met room′ layered′ (ap length s) (empty-agrees vs v (c .agree) empty) (same-long ∙ c .counted ∙ sym (empty-layers vs v (c .agree) empty plen))
               (λ j l. ap (λ (x : List ℕ). sizeNoted t (getD x j 0)) s ∙ c .noted j l ∙ sym (empty-known vs v (c .agree) empty (cut t (getD roots j 0) 32)))
           by-met (inr (z, (j, l, q, o, s))) =
               let full : (v .size ≡ 0 → ⊥) = λ x. z (sym size-is ∙ x) in
@@ -101,8 +101,8 @@ module _ (t roots : List ℕ) (count plen : ℕ) where
               let d′ : differs known (v .size) ≡ false = rw size-is d in
               let here : cut t (getD roots j 0) 32 ≡ v .root = q ∙ sym (root-is z) in
               let inside : j < length room = (let x = c .sized in omega arith) in
-              met room′ long′ (ap length s ∙ length-set room j i) (full-agrees vs v (c .agree) full known is d′)
-              (g ∙ ap (λ (x : ℕ). cond (eqb known 0 && hasLayer x plen) (long + 1) long) (sym size-is) ∙ ap (λ (x : ℕ). cond (eqb known 0 && hasLayer (v .size) plen) (x + 1) x) (c .counted) ∙ sym (full-layers vs v (c .agree) full known is d′ plen))
+              met room′ layered′ (ap length s ∙ length-set room j i) (full-agrees vs v (c .agree) full known is d′)
+              (g ∙ ap (λ (x : ℕ). cond (eqb known 0 && hasLayer x plen) (layered + 1) layered) (sym size-is) ∙ ap (λ (x : ℕ). cond (eqb known 0 && hasLayer (v .size) plen) (x + 1) x) (c .counted) ∙ sym (full-layers vs v (c .agree) full known is d′ plen))
               (λ j′ l′. ap (λ (x : List ℕ). sizeNoted t (getD x j′ 0)) s ∙ by-place full is d′ j here inside l j′ l′ (ℕ-discrete j′ j))
             where
               by-place : (full : v .size ≡ 0 → ⊥) (is : known ≡ lengthKnown (v .root) vs) (d′ : differs known (v .size) ≡ false) (j : ℕ) → cut t (getD roots j 0) 32 ≡ v .root → j < length room → j < count → (j′ : ℕ) → j′ < count → Dec (j′ ≡ j)
@@ -115,10 +115,10 @@ module _ (t roots : List ℕ) (count plen : ℕ) where
                   ∙ sym (others-known vs v (c .agree) full known is d′ (cut t (getD roots j′ 0) 32) (λ y. x (ascending-one t roots count (rooted .ascending) j′ j l′ l (y ∙ sym here))))
 
 -- a layer more at most
-pub one-at-most : (known n plen long long′ i k : ℕ) → long′ ≡ cond (eqb known 0 && hasLayer n plen) (long + 1) long → long ≤ i → i < k → long′ ≤ k
-one-at-most known n plen long long′ i k e l g = by-test (eqb known 0 && hasLayer n plen) e
+pub one-at-most : (known n plen layered layered′ i k : ℕ) → layered′ ≡ cond (eqb known 0 && hasLayer n plen) (layered + 1) layered → layered ≤ i → i < k → layered′ ≤ k
+one-at-most known n plen layered layered′ i k e l g = by-test (eqb known 0 && hasLayer n plen) e
   where
-    by-test : (x : Bool) → long′ ≡ cond x (long + 1) long → long′ ≤ k
+    by-test : (x : Bool) → layered′ ≡ cond x (layered + 1) layered → layered′ ≤ k
     by-test true q = omega arith
     by-test false q = omega arith
 
@@ -159,12 +159,12 @@ front-differs t xs ys e = by-test (lengthsAgree (readFiles t (xs ++ ys))) refl
 -- ---- how far a directory has come
 
 -- of the directory that was ahead the files fs are met, and i is next
-pub record Going (t roots : List ℕ) (count plen at levels : ℕ) (room₀ : List ℕ) (before : ℕ) (w : Ahead t roots count plen at levels room₀ before) (room : List ℕ) (below i long : ℕ) : Type 0 where
+pub record Going (t roots : List ℕ) (count plen at levels : ℕ) (room₀ : List ℕ) (before : ℕ) (w : Ahead t roots count plen at levels room₀ before) (room : List ℕ) (below i layered : ℕ) : Type 0 where
   pub fs : List Listed
-  pub passed : Passed t (filesBelow levels t at (w .path)) below (w .path) i fs
-  pub known : Known t roots count plen room (w .done ++ fs) long
+  pub passed : FilesPassed t (filesBelow levels t at (w .path)) below (w .path) i fs
+  pub known : Known t roots count plen room (w .done ++ fs) layered
   pub some : 0 < i
-  pub few : long ≤ i
+  pub few : layered ≤ i
 
 module _ {t roots : List ℕ} {count plen at levels : ℕ} {room₀ : List ℕ} {before : ℕ} (w : Ahead t roots count plen at levels room₀ before) where
   -- it is right, so there are levels left
@@ -181,7 +181,7 @@ module _ {t roots : List ℕ} {count plen at levels : ℕ} {room₀ : List ℕ} 
         few = w .few;
       }
 
-  module _ {room : List ℕ} {below i long : ℕ} (g : Going t roots count plen at levels room₀ before w room below i long) where
+  module _ {room : List ℕ} {below i layered : ℕ} (g : Going t roots count plen at levels room₀ before w room below i layered) where
     abbrev whole : Files
     whole = filesBelow levels t at (w .path)
 
@@ -195,21 +195,21 @@ module _ {t roots : List ℕ} {count plen at levels : ℕ} {room₀ : List ℕ} 
     going-end h = never (passed-end t whole below (w .path) i (g .fs) (g .passed) h)
 
     -- files behind those that are met
-    behind : (fs : List Listed) (k : ℕ) → Passed t whole below (w .path) k fs → (hs : List Listed) × (w .inside ≡ fs ++ hs)
+    behind : (fs : List Listed) (k : ℕ) → FilesPassed t whole below (w .path) k fs → (hs : List Listed) × (w .inside ≡ fs ++ hs)
     behind fs k p = in-front fs (w .inside) (w .end) (filesFrom (filesBelow below t) (p .steps) t k (w .path)) (sym (p .rest) ∙ w .is)
 
     module _ (h : i < length t) where
-      pub going-closed : tokenAt t i ≡ Closed → Compares t roots count plen (w .done ++ w .inside) (w .end) room (Past (i + 1) long)
+      pub going-closed : tokenAt t i ≡ Closed → Compares t roots count plen (w .done ++ w .inside) (w .end) room (Past (i + 1) layered)
       going-closed e =
           let q = one-list whole (g .fs) (w .inside) (i + 1) (w .end) (passed-closed t whole below (w .path) i (g .fs) (g .passed) h e) (w .is) in
           let y = g .few in
-          (q .1, omega arith, subst (λ (l : List Listed). Known t roots count plen room (w .done ++ l) long) (q .0) (g .known))
+          (q .1, omega arith, subst (λ (l : List Listed). Known t roots count plen room (w .done ++ l) layered) (q .0) (g .known))
 
       module _ {a b n r k : ℕ} (e : tokenAt t i ≡ Leaf a b n r k) where
         abbrev leaf : Listed
         leaf = listedAs n r (down (w .path) a b)
 
-        next : Passed t whole below (w .path) k (g .fs ++ leaf ∷ [])
+        next : FilesPassed t whole below (w .path) k (g .fs ++ leaf ∷ [])
         next = passed-file t whole below (w .path) i (g .fs) (g .passed) h a b n r k e
 
         abbrev rest : List Listed
@@ -226,20 +226,20 @@ module _ {t roots : List ℕ} {count plen at levels : ℕ} {room₀ : List ℕ} 
           pub going-differs : differs known n ≡ true → lengthsAgree (readFiles t (w .done ++ w .inside)) ≡ false
           going-differs d =
               ap (λ (l : List Listed). lengthsAgree (readFiles t l)) (ap (λ (l : List Listed). w .done ++ l) all ∙ sym (append-assoc (w .done) (g .fs) (leaf ∷ rest)))
-              ∙ known-differs t roots count plen rooted room (w .done ++ g .fs) long (g .known) i a b n r k (w .path) (g .some) e room′ known m d rest
+              ∙ known-differs t roots count plen rooted room (w .done ++ g .fs) layered (g .known) i a b n r k (w .path) (g .some) e room′ known m d rest
 
-          pub going-file : differs known n ≡ false → (long′ : ℕ) → long′ ≡ cond (eqb known 0 && hasLayer n plen) (long + 1) long
-              → Going t roots count plen at levels room₀ before w room′ below k long′
-          going-file d long′ q =
+          pub going-file : differs known n ≡ false → (layered′ : ℕ) → layered′ ≡ cond (eqb known 0 && hasLayer n plen) (layered + 1) layered
+              → Going t roots count plen at levels room₀ before w room′ below k layered′
+          going-file d layered′ q =
               let x = leaf-ends t i a b n r k e .0 in
               let y = g .some in
               record {
                 fs = g .fs ++ leaf ∷ [];
                 passed = next;
-                known = subst (λ (l : List Listed). Known t roots count plen room′ l long′) (append-assoc (w .done) (g .fs) (leaf ∷ []))
-                    (known-file t roots count plen rooted room (w .done ++ g .fs) long (g .known) i a b n r k (w .path) (g .some) e room′ known m d long′ q);
+                known = subst (λ (l : List Listed). Known t roots count plen room′ l layered′) (append-assoc (w .done) (g .fs) (leaf ∷ []))
+                    (known-file t roots count plen rooted room (w .done ++ g .fs) layered (g .known) i a b n r k (w .path) (g .some) e room′ known m d layered′ q);
                 some = omega arith;
-                few = one-at-most known n plen long long′ i k q (g .few) x;
+                few = one-at-most known n plen layered layered′ i k q (g .few) x;
               }
 
       module _ {a b : ℕ} (e : tokenAt t i ≡ Opened a b) where
@@ -249,7 +249,7 @@ module _ {t roots : List ℕ} {count plen at levels : ℕ} {room₀ : List ℕ} 
         abbrev gs : List Listed
         gs = below-is .0
 
-        next-in : Passed t whole below (w .path) (below-is .1) (g .fs ++ gs)
+        next-in : FilesPassed t whole below (w .path) (below-is .1) (g .fs ++ gs)
         next-in = passed-directory t whole below (w .path) i (g .fs) (g .passed) h a b e gs (below-is .1) (below-is .2)
 
         rest-in : (hs : List Listed) × (w .inside ≡ (g .fs ++ gs) ++ hs)
@@ -258,11 +258,11 @@ module _ {t roots : List ℕ} {count plen at levels : ℕ} {room₀ : List ℕ} 
         pub below-stand : RootsStand t roots count (below-is .0)
         below-stand = stand-both t roots count (g .fs) gs (stand-both t roots count (g .fs ++ gs) (rest-in .0) (subst (RootsStand t roots count) (rest-in .1) (w .stand)) .0) .1
 
-        pub below-few : (0 < b + 1) × (long ≤ b + 1)
+        pub below-few : (0 < b + 1) × (layered ≤ b + 1)
         below-few = let x = opened-ends t i a b e .0 in let y = g .few in (omega arith, omega arith)
 
         -- the directory inside is ahead
-        abbrev pub inside-ahead : Ahead t roots count plen (b + 1) below room long
+        abbrev pub inside-ahead : Ahead t roots count plen (b + 1) below room layered
         inside-ahead =
             record {
               path = down (w .path) a b;
@@ -282,18 +282,18 @@ module _ {t roots : List ℕ} {count plen at levels : ℕ} {room₀ : List ℕ} 
             (ap (λ (l : List Listed). w .done ++ l) (rest-in .1 ∙ append-assoc (g .fs) gs (rest-in .0)) ∙ sym (append-assoc (w .done) (g .fs) (gs ++ rest-in .0)) ∙ sym (append-assoc (w .done ++ g .fs) gs (rest-in .0)))
             ∙ front-differs t ((w .done ++ g .fs) ++ gs) (rest-in .0) q
 
-        module _ (room′ : List ℕ) (k long′ : ℕ) (q : Compares t roots count plen ((w .done ++ g .fs) ++ gs) (below-is .1) room′ (Past k long′)) where
+        module _ (room′ : List ℕ) (k layered′ : ℕ) (q : Compares t roots count plen ((w .done ++ g .fs) ++ gs) (below-is .1) room′ (Past k layered′)) where
           pub inside-behind : (i < k) × (k ≤ length t)
           inside-behind = let x = inside-ends t whole below (w .path) i (g .fs) (g .passed) h a b e gs (below-is .1) (below-is .2) in rw (q .0) x
 
-          pub going-directory : Going t roots count plen at levels room₀ before w room′ below k long′
+          pub going-directory : Going t roots count plen at levels room₀ before w room′ below k layered′
           going-directory =
               let x = inside-behind .0 in
               let y = g .some in
               record {
                 fs = g .fs ++ gs;
-                passed = subst (λ (j : ℕ). Passed t whole below (w .path) j (g .fs ++ gs)) (sym (q .0)) next-in;
-                known = subst (λ (l : List Listed). Known t roots count plen room′ l long′) (append-assoc (w .done) (g .fs) gs) (q .2);
+                passed = subst (λ (j : ℕ). FilesPassed t whole below (w .path) j (g .fs ++ gs)) (sym (q .0)) next-in;
+                known = subst (λ (l : List Listed). Known t roots count plen room′ l layered′) (append-assoc (w .done) (g .fs) gs) (q .2);
                 some = omega arith;
                 few = q .1;
               }
@@ -331,9 +331,9 @@ module _ (t roots : List ℕ) (count plen : ℕ) (rooted : Rooted t roots count)
         few = omega arith;
       }
 
-  pub tree-agrees : (end k long : ℕ) (room : List ℕ) → Compares t roots count plen (listed (filesIn t)) end room (Past k long) → Agree long ≡ comparedOf plen (readFiles t (listed (filesIn t)))
+  pub tree-agrees : (end k layered : ℕ) (room : List ℕ) → Compares t roots count plen (listed (filesIn t)) end room (Past k layered) → Agree layered ≡ comparedOf plen (readFiles t (listed (filesIn t)))
   unfolding comparedOf
-  tree-agrees end k long room q = sym (rw (q .2 .agree) (ap Agree (sym (q .2 .counted))))
+  tree-agrees end k layered room q = sym (rw (q .2 .agree) (ap Agree (sym (q .2 .counted))))
 
   pub tree-differs : lengthsAgree (readFiles t (listed (filesIn t))) ≡ false → Differ ≡ comparedOf plen (readFiles t (listed (filesIn t)))
   unfolding comparedOf

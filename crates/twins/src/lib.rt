@@ -26,13 +26,13 @@ ghost use Rattle.twins.specs.Walk.{Ahead, Compares};
 
 // How many layers the files have, one for each root of those longer than the piece length; or two with one root differ in length.
 pub enum Compared {
-    Agree { long: usize },
+    Agree { layered: usize },
     Differ,
 }
 
 // The position past a directory, and how many layers the files up to there have; or two with one root differ in length.
 pub enum Noted {
-    Past { next: usize, long: usize },
+    Past { next: usize, layered: usize },
     Unlike,
 }
 
@@ -44,13 +44,13 @@ fn place(p: u32) -> usize
 }
 
 // The length of the file that stands at p of the tree; 0 at 0, where none stands.
-fn size_at(t: &[u8], p: usize) -> usize
-    ensures { λ r. ⌜ r ≡ sizeNoted (now (t .entry)) p ⌝ }
+fn size_at(tree: &[u8], p: usize) -> usize
+    ensures { λ r. ⌜ r ≡ sizeNoted (now (tree .entry)) p ⌝ }
 {
     if p == 0 {
         return 0;
     }
-    match read_token(t, p) {
+    match read_token(tree, p) {
         Token::BadToken => 0,
         Token::Closed => 0,
         Token::Opened { start: _, end: _ } => 0,
@@ -66,7 +66,7 @@ fn size_at(t: &[u8], p: usize) -> usize
 
 // The length known of the root of a file, 0 if it is the first with this root or empty. The file, which stands at i, is noted.
 fn meet(
-    t: &[u8],
+    tree: &[u8],
     roots: &[u32],
     count: usize,
     room: &mut [u32],
@@ -74,17 +74,17 @@ fn meet(
     length: usize,
     root: usize,
 ) -> usize
-    requires { ⌜ Rooted (now t) (now roots) count × (count ≤ L.length (now room)) × (i < 2 ^ 32) × ((length ≡ 0 → ⊥) → root + 32 ≤ L.length (now t)) × ((length ≡ 0 → ⊥) → Stands (now t) (now roots) count (cut (now t) root 32)) ⌝ }
-    ensures { λ r. ⌜ Meets (now (t .entry)) (now (roots .entry)) count (now (room .entry)) (now (room .exit)) i length root r ⌝ }
+    requires { ⌜ Rooted (now tree) (now roots) count × (count ≤ L.length (now room)) × (i < 2 ^ 32) × ((length ≡ 0 → ⊥) → root + 32 ≤ L.length (now tree)) × ((length ≡ 0 → ⊥) → Stands (now tree) (now roots) count (cut (now tree) root 32)) ⌝ }
+    ensures { λ r. ⌜ Meets (now (tree .entry)) (now (roots .entry)) count (now (room .entry)) (now (room .exit)) i length root r ⌝ }
 {
     if length == 0 {
         return 0;
     }
     let past = root + 32;
-    let at = search(t, roots, count, &t[root..past]);
+    let at = search(tree, roots, count, &tree[root..past]);
     if at < count {
         let p = place(room[at]);
-        let known = size_at(t, p);
+        let known = size_at(tree, p);
         room[at] = i as u32;
         return known;
     }
@@ -102,23 +102,23 @@ fn differs(known: usize, length: usize) -> bool
 }
 
 // One layer more, if the file is longer than the piece length and its root was not known.
-fn one_more(long: usize, known: usize, length: usize, plen: usize) -> usize
-    requires { ⌜ long < 2 ^ 32 ⌝ }
-    ensures { λ r. ⌜ r ≡ cond (eqb known 0 && hasLayer length plen) (long + 1) long ⌝ }
+fn one_more(layered: usize, known: usize, length: usize, plen: usize) -> usize
+    requires { ⌜ layered < 2 ^ 32 ⌝ }
+    ensures { λ r. ⌜ r ≡ cond (eqb known 0 && hasLayer length plen) (layered + 1) layered ⌝ }
 {
     if known == 0 {
         if has_layer(length, plen) {
-            return long + 1;
+            return layered + 1;
         }
-        return long;
+        return layered;
     }
-    long
+    layered
 }
 
 // The files of a directory of a right tree, from its first entry on, with so many levels left below it: each directory inside takes one, and as
 // the tree is right there is one. The files met before have `before` layers.
 fn compare_directory(
-    t: &[u8],
+    tree: &[u8],
     at: usize,
     levels: usize,
     roots: &[u32],
@@ -127,19 +127,22 @@ fn compare_directory(
     plen: usize,
     before: usize,
 ) -> Noted
-    requires { ⌜ Rooted (now t) (now roots) count × (L.length (now t) ≤ largestTorrent) × Ahead (now t) (now roots) count plen at levels (now room) before ⌝ }
-    ensures { λ r. ⌜ ((w : Ahead (now (t .entry)) (now (roots .entry)) count plen at levels (now (room .entry)) before) → Compares (now (t .entry)) (now (roots .entry)) count plen (w .done ++ w .inside) (w .end) (now (room .exit)) r) ⌝ }
+    requires { ⌜ Rooted (now tree) (now roots) count × (L.length (now tree) ≤ largestTorrent) × Ahead (now tree) (now roots) count plen at levels (now room) before ⌝ }
+    ensures { λ r. ⌜ ((w : Ahead (now (tree .entry)) (now (roots .entry)) count plen at levels (now (room .entry)) before) → Compares (now (tree .entry)) (now (roots .entry)) count plen (w .done ++ w .inside) (w .end) (now (room .exit)) r) ⌝ }
 {
     let below = levels - 1;
     let mut i = at;
-    let mut long = before;
-    while i < t.len() {
-        match read_token(t, i) {
+    let mut layered = before;
+    while i < tree.len() {
+        match read_token(tree, i) {
             Token::BadToken => {
                 return Noted::Unlike; // never: the tree is right
             }
             Token::Closed => {
-                return Noted::Past { next: i + 1, long };
+                return Noted::Past {
+                    next: i + 1,
+                    layered,
+                };
             }
             Token::Leaf {
                 start: _,
@@ -148,25 +151,28 @@ fn compare_directory(
                 root,
                 next,
             } => {
-                let known = meet(t, roots, count, room, i, length, root);
+                let known = meet(tree, roots, count, room, i, length, root);
                 if differs(known, length) {
                     return Noted::Unlike;
                 }
-                long = one_more(long, known, length, plen);
+                layered = one_more(layered, known, length, plen);
                 i = next;
             }
             Token::Opened { start: _, end } => match compare_directory(
-                t,
+                tree,
                 end + 1,
                 below,
                 roots,
                 count,
                 room,
                 plen,
-                long,
+                layered,
             ) {
-                Noted::Past { next, long: inside } => {
-                    long = inside;
+                Noted::Past {
+                    next,
+                    layered: inside,
+                } => {
+                    layered = inside;
                     i = next;
                 }
                 Noted::Unlike => {
@@ -190,14 +196,14 @@ fn forget(room: &mut [u32], count: usize)
     }
 }
 
-// The files of the right tree t compared, with the positions of their roots, each root once; `room` is work space.
-pub fn compare(t: &[u8], roots: &[u32], count: usize, room: &mut [u32], plen: usize) -> Compared
-    requires { ⌜ Rooted (now t) (now roots) count × (right (filesIn (now t)) ≡ true) × (count ≤ L.length (now room)) × (L.length (now t) ≤ largestTorrent) ⌝ }
-    ensures { λ r. ⌜ r ≡ comparedOf plen (readFiles (now (t .entry)) (listed (filesIn (now (t .entry))))) ⌝ }
+// The files of the right `tree` compared, with the positions of their roots, each root once; `room` is work space.
+pub fn compare(tree: &[u8], roots: &[u32], count: usize, room: &mut [u32], plen: usize) -> Compared
+    requires { ⌜ Rooted (now tree) (now roots) count × (right (filesIn (now tree)) ≡ true) × (count ≤ L.length (now room)) × (L.length (now tree) ≤ largestTorrent) ⌝ }
+    ensures { λ r. ⌜ r ≡ comparedOf plen (readFiles (now (tree .entry)) (listed (filesIn (now (tree .entry))))) ⌝ }
 {
     forget(room, count);
-    match compare_directory(t, 1, ELEMENTS, roots, count, room, plen, 0) {
-        Noted::Past { next: _, long } => Compared::Agree { long },
+    match compare_directory(tree, 1, ELEMENTS, roots, count, room, plen, 0) {
+        Noted::Past { next: _, layered } => Compared::Agree { layered },
         Noted::Unlike => Compared::Differ,
     }
 }

@@ -2,22 +2,19 @@
 -- Assumes nothing.
 use mathlib.Core.Path.{_≡_, refl, sym, ap, _∙_}
 use mathlib.Core.Bool.{Bool, true, false, cond, not, _&&_, false≢true, and-eq-true-iff}
-use mathlib.Core.List.{List, [], _∷_, _++_}
-use Prim.Native.Nat.{ℕ, zero, suc, _+_, _-_, _*_, _^_, _≤_, _<_}
+use mathlib.Core.List.{List, [], _∷_}
+use Prim.Native.Nat.{ℕ, zero, suc, _+_, _-_, _*_, _≤_}
 use native.Mathlib.Omega.{arith}
 use lib.ListN.{length, drop}
 use lib.Dec.{eqb}
 use borrow.Author.Tests.{eqb-true}
-use Rattle.limits.specs.Limits.{largestTorrent}
+use Rattle.torrent.specs.KeyStringLaws.{string-at, other-at}
 use Rattle.octets.specs.Octets.{cut}
 use Rattle.tree.specs.Geometry.{pieceCount}
-use Rattle.tree.specs.GeometryLaws.{ceil-enough}
-use Rattle.bencode.specs.Grammar.{Value, integer, string, list, dictionary, Items, Entries, encodeString, encode}
+use Rattle.bencode.specs.Grammar.{Value, integer, string, list, dictionary, Items, Entries}
 use Rattle.bencode.specs.Scalar.{readString}
 use Rattle.bencode.specs.EndsLaws.{string-ends}
-use Rattle.bencode.specs.CompleteLaws.{contentStart}
 use Rattle.bencode.specs.Parts.{Lookup, absent, present, lookup, findKey}
-use Rattle.bencode.specs.PartsLaws.{string-is, stringOf, content-is}
 use Rattle.bencode.specs.declared.scalar.ByteString.{ByteString}
 use Rattle.bencode.specs.declared.scalar.ByteString.the-variants.{Content, NoString}
 use Rattle.bencode.specs.declared.parts.Found.{Found}
@@ -29,7 +26,6 @@ use Rattle.halves.specs.V1Half.{V1Entry, isThere, hasString, bytesOf, stringOrN
 use Rattle.halves.specs.Stream.{fileStart}
 use Rattle.hybrid.specs.Entry.{StandsAt, naturalIn}
 use Rattle.hybrid.specs.EntryLaws.{FoundHere, nothing, value, found-here}
-use Rattle.hybrid.specs.Tally.{mostBytes}
 use Rattle.hybrid.specs.declared.Natural.the-variants.{Is}
 use Rattle.layers.specs.Layers.{stringIn}
 use Rattle.v1.specs.Place.{fileSize}
@@ -46,29 +42,9 @@ abbrev pub PiecesAre : List ℕ → Lookup → ByteString → Type 0
 PiecesAre s x NoString = hasString x ≡ false
 PiecesAre s x (Content a b) = (hasString x ≡ true) × (cut s a (b - a) ≡ bytesOf x) × (a ≤ b) × (b ≤ length s)
 
-string-bytes : (c : List ℕ) → encode (string c) ≡ encodeString c
-unfolding encode
-string-bytes c = refl
-
 value-read : (s : List ℕ) (a : ℕ) (x : Value) → StandsAt s a x → (r : ByteString) → readString a (drop a s) ≡ r → PiecesAre s (present x) r
-value-read s a x w NoString e = by-value x (sym e ∙ ap (readString a) (w .bytes) ∙ string-is x a (w .behind))
-  where
-    by-value : (x : Value) → NoString ≡ stringOf a x → hasString (present x) ≡ false
-    by-value (string c) q = let z : _≡_ {A = ℕ} 0 1 = cc in absurd (omega arith)
-    by-value (integer minus n) q = refl
-    by-value (list vs) q = refl
-    by-value (dictionary es) q = refl
-value-read s a x w (Content u v) e = let p = string-ends a s u v e in by-value x (sym e ∙ ap (readString a) (w .bytes) ∙ string-is x a (w .behind)) (w .bytes) (p .1) (p .2)
-  where
-    by-value : (x : Value) → Content u v ≡ stringOf a x → drop a s ≡ encode x ++ w .behind → u ≤ v → v ≤ length s → PiecesAre s (present x) (Content u v)
-    by-value (string c) q d l m =
-        let eu : u ≡ contentStart a c = cc in
-        let ev : v ≡ a + length (encodeString c) = cc in
-        let d2 : drop a s ≡ encodeString c ++ w .behind = d ∙ ap (λ (l : List ℕ). l ++ w .behind) (string-bytes c) in
-        (refl, rw (eu, ev) (content-is s c (w .behind) a d2), l, m)
-    by-value (integer minus n) q d l m = let z : _≡_ {A = ℕ} 0 1 = cc in absurd (omega arith)
-    by-value (list vs) q d l m = let z : _≡_ {A = ℕ} 0 1 = cc in absurd (omega arith)
-    by-value (dictionary es) q d l m = let z : _≡_ {A = ℕ} 0 1 = cc in absurd (omega arith)
+value-read s a x w NoString e = other-at s a x w e
+value-read s a x w (Content u v) e = let p = string-ends a s u v e in let q = string-at s a x w u v e in (q .0, q .1, p .1, p .2)
 
 found-read : (s : List ℕ) (f : Found) (x : Lookup) → FoundHere s f x → PiecesAre s x (stringIn s f)
 found-read s f x nothing = refl
@@ -97,14 +73,6 @@ halves-are torrent e =
     let r = and-eq-true-iff (onBoundary (plenOf torrent) 0 (entriesOfHalf torrent)) (piecesFit (plenOf torrent) (total (entriesOfHalf torrent)) x) .0 (q .1) in
     let t = and-eq-true-iff (hasString x) (eqb (length (bytesOf x)) n) .0 (r .1) in
     record { fits = p .0; same = q .0; boundary = r .0; a-string = t .0; twenty-each = eqb-true (length (bytesOf x)) n (t .1) }
-
--- a torrent has no hashes for more bytes than are counted
-pub pieces-few : (plen n : ℕ) → 0 < plen → plen ≤ 2 ^ 24 → 20 * pieceCount n plen ≤ largestTorrent → n ≤ mostBytes
-unfolding pieceCount
-pieces-few plen n l h g =
-    let k : pieceCount n plen ≤ 52428 = omega arith in
-    let m = ceil-enough n plen 52428 l k in
-    omega arith
 
 -- ---- the same files
 

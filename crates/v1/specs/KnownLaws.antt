@@ -13,20 +13,20 @@ use Rattle.limits.specs.Limits.{largestTorrent, maxLevels}
 use Rattle.numbers.specs.Numbers.{halvesDiffer}
 use Rattle.octets.specs.Octets.{cut}
 use Rattle.octets.specs.OctetsLaws.{cut-length}
-use Rattle.bencode.specs.Grammar.{dictionary, Entries, none, encode, Valid}
+use Rattle.bencode.specs.Grammar.{dictionary, encode, Valid}
 use Rattle.bencode.specs.DepthLaws.{more-levels}
 use Rattle.bencode.specs.StrictLaws.{taken}
-use Rattle.bencode.specs.Parts.{present, lookup}
-use Rattle.bencode.specs.PartsLaws.{part-front, lookup-valid}
+use Rattle.bencode.specs.Parts.{lookup}
+use Rattle.bencode.specs.PartsLaws.{part-front}
 use Rattle.bencode.specs.declared.scalar.ByteString.{ByteString}
 use Rattle.bencode.specs.declared.scalar.ByteString.the-variants.{Content, NoString}
-use Rattle.meaning.specs.Keys.{keyInfo}
 use Rattle.meaning.specs.Torrent.{infoOf, plenOf, filesOf}
 use Rattle.halves.specs.V1Keys.{keyPieces}
 use Rattle.halves.specs.V1Half.{hasString, v1Entries, total, isHybrid, halvesFit}
 use Rattle.halves.specs.Decoded.{decoded, torrentIn}
 use Rattle.hybrid.specs.Entry.{StandsAt}
 use Rattle.hybrid.specs.Tally.{mostBytes}
+use Rattle.hybrid.specs.HalfLaws.{pieces-few}
 use Rattle.metainfo.specs.Metainfo.{bytesIn}
 use Rattle.metainfo.specs.declared.Keys.{Keys}
 use Rattle.torrent.specs.Torrent.{unread, v2CheckedOf, checkedOf, readOf}
@@ -34,11 +34,11 @@ use Rattle.torrent.specs.CheckLaws.{checked-whole}
 use Rattle.torrent.specs.KeyStringLaws.{string-there}
 use Rattle.torrent.specs.HalvesFitLaws.{plen-range}
 use Rattle.torrent.specs.NumberMeans.{value-only, read-number}
-use Rattle.torrent.specs.ReadMeans.{same-keys, at-values, torrent-is}
+use Rattle.torrent.specs.ReadMeans.{same-keys, at-values, torrent-is, info-valid}
 use Rattle.torrent.specs.declared.check.Checked.{Checked}
 use Rattle.v1.specs.V1.{piecesIn, piecesFrom, fileOf}
 use Rattle.v1.specs.Asked.{Fits, Stands}
-use Rattle.v1.specs.HalfLaws.{PiecesAre, pieces-are, Halves, halves-are, pieces-few, same-count, spot-within}
+use Rattle.v1.specs.HalfLaws.{PiecesAre, pieces-are, Halves, halves-are, same-count, spot-within}
 use Rattle.v1.specs.declared.read.V1File.{V1File}
 
 -- the halves of a hybrid that gets 0 fit
@@ -54,10 +54,6 @@ halves-hold s e h = by (eqb (v2CheckedOf s .keys .number) 0) refl (halvesFit (to
 -- it encodes its value
 pub encodes-value : (s : List ℕ) → checkedOf s .keys .number ≡ 0 → Valid (dictionary (torrentIn s)) maxLevels × (s ≡ encode (dictionary (torrentIn s)))
 encodes-value s z = let v = value-only s (inl z) .1 in decoded s .1 (taken s (v .0, v .1, v .2))
-
-info-valid : (es : Entries) → Valid (dictionary es) maxLevels → lookup keyInfo es ≡ present (dictionary (infoOf es)) → Valid (dictionary (infoOf es)) (maxLevels - 1)
-unfolding Valid
-info-valid es h q = lookup-valid keyInfo es none (maxLevels - 1) (dictionary (infoOf es)) h q
 
 pub record Known (s : List ℕ) (c : Checked) : Type 0 where
   pub info-stands : StandsAt s (c .keys .info .start) (dictionary (infoOf (torrentIn s)))

@@ -11,6 +11,7 @@ use native.Mathlib.Omega.{arith}
 use native.Mathlib.Nat.{add-mul}
 use lib.ListN.{length, replicate}
 use borrow.Author.Tests.{eq-eqb, ne-eqb, lt-ltb}
+use Rattle.hybrid.specs.EntryLaws.{is-there}
 use Rattle.limits.specs.Limits.{maxLevels}
 use Rattle.octets.specs.Octets.{cut}
 use Rattle.octets.specs.OctetsLaws.{cut-cut}
@@ -61,10 +62,6 @@ pub record PiecesPartIs (s : List ℕ) (plen : ℕ) (v : File) (piece : ℕ → 
   pub last : (i : ℕ) → suc i ≡ pieceCount (v .size) plen → piece i .zeros ≡ r .zeros
 
 -- ---- small laws
-
-is-there : (x : Lookup) → (x ≡ absent → ⊥) → isThere x ≡ true
-is-there absent h = absurd (h refl)
-is-there (present v) h = refl
 
 -- the content of file n has its length
 stream-size : (es : List V1Entry) (cs : List (List ℕ)) (bytes : List ℕ) → StreamOf es cs bytes → (n : ℕ) (c : List ℕ) → Nth cs n c → length c ≡ fileSize es n

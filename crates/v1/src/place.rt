@@ -36,15 +36,15 @@ fn left_behind(padding: bool, left: usize) -> usize
     left - 1
 }
 
-// File n of the list v.
-pub fn file_at(v: &[u8], n: usize) -> Spot
-    ensures { λ r. ⌜ ((vs : Items) → Fitting (now (v .entry)) vs → r ≡ spotOf (entriesIn vs) n) ⌝ }
+// File `file` of `list`.
+pub fn file_at(list: &[u8], file: usize) -> Spot
+    ensures { λ r. ⌜ ((vs : Items) → Fitting (now (list .entry)) vs → r ≡ spotOf (entriesIn vs) file) ⌝ }
 {
     let mut i = 1;
-    let mut left = n;
+    let mut left = file;
     let mut start = 0;
-    while i < v.len() {
-        match read_v1(v, i) {
+    while i < list.len() {
+        match read_v1(list, i) {
             V1Token::BadEntry => {
                 return Spot {
                     start: 0,

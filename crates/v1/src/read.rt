@@ -88,28 +88,28 @@ fn no_part(number: u32) -> V1Part
 }
 
 // The string that the dictionary at `at` has for `pieces`.
-fn pieces_from(s: &[u8], at: usize) -> ByteString
-    ensures { λ r. ⌜ r ≡ piecesFrom (now (s .entry)) at ⌝ }
+fn pieces_from(torrent: &[u8], at: usize) -> ByteString
+    ensures { λ r. ⌜ r ≡ piecesFrom (now (torrent .entry)) at ⌝ }
 {
-    match find(s, at, b"pieces") {
+    match find(torrent, at, b"pieces") {
         Found::Missing => ByteString::NoString,
-        Found::Part { start, end: _ } => read_string(s, start),
+        Found::Part { start, end: _ } => read_string(torrent, start),
     }
 }
 
 // Whether the torrent is hybrid, and its v1 info hash: SHA-1 of the part that `info` is.
-pub fn read_hybrid(s: &[u8]) -> HybridRead
-    ensures { λ r. ⌜ r ≡ hybridOf (now (s .entry)) ⌝ }
+pub fn read_hybrid(torrent: &[u8]) -> HybridRead
+    ensures { λ r. ⌜ r ≡ hybridOf (now (torrent .entry)) ⌝ }
 {
-    let c = check(s);
+    let c = check(torrent);
     let number = c.keys.number;
     let info = c.keys.info.start;
     let past = c.keys.info.end;
     if number == 0 {
-        return match pieces_from(s, info) {
+        return match pieces_from(torrent, info) {
             ByteString::NoString => no_hybrid(0),
             ByteString::Content { start: _, end: _ } => {
-                let hash = sha1::hash(&s[info..past]);
+                let hash = sha1::hash(&torrent[info..past]);
                 HybridRead {
                     number: 0,
                     hybrid: 1,
@@ -131,15 +131,15 @@ fn no_v1_file() -> V1File
     }
 }
 
-// File n of the list v that `files` is.
-fn among(v: &[u8], plen: usize, n: usize) -> V1File
-    requires { ⌜ (0 < plen) × (L.length (now v) ≤ largestTorrent) ⌝ }
-    ensures { λ r. ⌜ ((vs : Items) → Fitting (now (v .entry)) vs → onBoundary plen 0 (entriesIn vs) ≡ true → r ≡ record { start = fileStart (entriesIn vs) n; length = fileSize (entriesIn vs) n; total = total (entriesIn vs) }) ⌝ }
+// File `file` of `list` that `files` is.
+fn among(list: &[u8], plen: usize, file: usize) -> V1File
+    requires { ⌜ (0 < plen) × (L.length (now list) ≤ largestTorrent) ⌝ }
+    ensures { λ r. ⌜ ((vs : Items) → Fitting (now (list .entry)) vs → onBoundary plen 0 (entriesIn vs) ≡ true → r ≡ record { start = fileStart (entriesIn vs) file; length = fileSize (entriesIn vs) file; total = total (entriesIn vs) }) ⌝ }
 {
-    match tally(v, plen) {
+    match tally(list, plen) {
         Tallied::Amiss => no_v1_file(), // never: the list fits
         Tallied::Sums { files: _, total } => {
-            let f = file_at(v, n);
+            let f = file_at(list, file);
             V1File {
                 start: f.start,
                 length: f.length,
@@ -149,13 +149,13 @@ fn among(v: &[u8], plen: usize, n: usize) -> V1File
     }
 }
 
-// File n of the v1 half whose `info` stands at `at`.
-fn v1_file(s: &[u8], at: usize, plen: usize, n: usize) -> V1File
-    requires { ⌜ (0 < plen) × (L.length (now s) ≤ largestTorrent) ⌝ }
-    ensures { λ r. ⌜ ((info : Entries) → StandsAt (now (s .entry)) at (dictionary info) → Fits plen info n → r ≡ fileOf info n) ⌝ }
+// File `file` of the v1 half whose `info` stands at `at`.
+fn v1_file(torrent: &[u8], at: usize, plen: usize, file: usize) -> V1File
+    requires { ⌜ (0 < plen) × (L.length (now torrent) ≤ largestTorrent) ⌝ }
+    ensures { λ r. ⌜ ((info : Entries) → StandsAt (now (torrent .entry)) at (dictionary info) → Fits plen info file → r ≡ fileOf info file) ⌝ }
 {
-    match find(s, at, b"files") {
-        Found::Missing => match length_of(s, at) {
+    match find(torrent, at, b"files") {
+        Found::Missing => match length_of(torrent, at) {
             Natural::NoNatural => no_v1_file(), // never: a half without `files` has a length
             Natural::Is(length) => V1File {
                 start: 0,
@@ -163,7 +163,7 @@ fn v1_file(s: &[u8], at: usize, plen: usize, n: usize) -> V1File
                 total: length,
             },
         },
-        Found::Part { start, end } => among(&s[start..end], plen, n),
+        Found::Part { start, end } => among(&torrent[start..end], plen, file),
     }
 }
 
@@ -187,39 +187,39 @@ fn zeros_behind(plen: usize, all: usize, at: usize, left: usize) -> usize
 }
 
 // The 20 bytes at `at`.
-fn hash_at(s: &[u8], at: usize) -> [u8; 20]
-    requires { ⌜ at + 20 ≤ L.length (now s) ⌝ }
-    ensures { λ r. ⌜ r ≡ cut (now (s .entry)) at 20 ⌝ }
+fn hash_at(torrent: &[u8], at: usize) -> [u8; 20]
+    requires { ⌜ at + 20 ≤ L.length (now torrent) ⌝ }
+    ensures { λ r. ⌜ r ≡ cut (now (torrent .entry)) at 20 ⌝ }
 {
     let mut h = [0u8; 20];
     let mut i = 0;
     while i < 20 {
-        h[i] = s[at + i];
+        h[i] = torrent[at + i];
         i += 1;
     }
     h
 }
 
-// Piece i of a file; the content of `pieces` begins at `base`.
+// Piece `piece` of a file; the content of `pieces` begins at `base`.
 fn piece_of(
-    s: &[u8],
+    torrent: &[u8],
     base: usize,
     plen: usize,
     start: usize,
     length: usize,
     total: usize,
-    i: usize,
+    piece: usize,
 ) -> V1Piece
-    requires { ⌜ Stands (L.length (now s)) base plen start length total ⌝ }
-    ensures { λ r. ⌜ ((pieces : List ℕ) → cut (now (s .entry)) base (L.length pieces) ≡ pieces → 20 * pieceCount total plen ≤ L.length pieces → r ≡ pieceOf pieces plen (record { start = start; length = length; total = total }) i) ⌝ }
+    requires { ⌜ Stands (L.length (now torrent)) base plen start length total ⌝ }
+    ensures { λ r. ⌜ ((pieces : List ℕ) → cut (now (torrent .entry)) base (L.length pieces) ≡ pieces → 20 * pieceCount total plen ≤ L.length pieces → r ≡ pieceOf pieces plen (record { start = start; length = length; total = total }) piece) ⌝ }
 {
     let count = piece_count(length, plen);
-    if i >= count {
+    if piece >= count {
         return no_piece(numbers::RULE_BROKEN);
     }
-    let at = i * plen;
+    let at = piece * plen;
     let first = start / plen;
-    let hash = hash_at(s, base + 20 * (first + i));
+    let hash = hash_at(torrent, base + 20 * (first + piece));
     let zeros = zeros_behind(plen, total, start + at, length - at);
     V1Piece {
         number: 0,
@@ -228,22 +228,22 @@ fn piece_of(
     }
 }
 
-// The v1 hash of piece i of file n, and how many zeros behind the piece it covers.
-pub fn v1_piece(s: &[u8], n: usize, i: usize) -> V1Piece
-    ensures { λ r. ⌜ r ≡ v1PieceOf (now (s .entry)) n i ⌝ }
+// The v1 hash of `piece` of `file`, and how many zeros behind the piece it covers.
+pub fn v1_piece(torrent: &[u8], file: usize, piece: usize) -> V1Piece
+    ensures { λ r. ⌜ r ≡ v1PieceOf (now (torrent .entry)) file piece ⌝ }
 {
-    let c = check(s);
+    let c = check(torrent);
     let number = c.keys.number;
     let info = c.keys.info.start;
     let plen = c.keys.plen;
     let files = c.files;
     if number == 0 {
-        if n < files {
-            return match pieces_from(s, info) {
+        if file < files {
+            return match pieces_from(torrent, info) {
                 ByteString::NoString => no_piece(numbers::RULE_BROKEN),
                 ByteString::Content { start, end: _ } => {
-                    let f = v1_file(s, info, plen, n);
-                    piece_of(s, start, plen, f.start, f.length, f.total, i)
+                    let f = v1_file(torrent, info, plen, file);
+                    piece_of(torrent, start, plen, f.start, f.length, f.total, piece)
                 }
             };
         }
@@ -272,21 +272,21 @@ fn part_of(base: usize, plen: usize, start: usize, length: usize, total: usize) 
     }
 }
 
-// The part of the torrent that the v1 hashes of the pieces of file n are.
-pub fn v1_pieces(s: &[u8], n: usize) -> V1Part
-    ensures { λ r. ⌜ r ≡ v1PiecesOf (now (s .entry)) n ⌝ }
+// The part of the torrent that the v1 hashes of the pieces of `file` are.
+pub fn v1_pieces(torrent: &[u8], file: usize) -> V1Part
+    ensures { λ r. ⌜ r ≡ v1PiecesOf (now (torrent .entry)) file ⌝ }
 {
-    let c = check(s);
+    let c = check(torrent);
     let number = c.keys.number;
     let info = c.keys.info.start;
     let plen = c.keys.plen;
     let files = c.files;
     if number == 0 {
-        if n < files {
-            return match pieces_from(s, info) {
+        if file < files {
+            return match pieces_from(torrent, info) {
                 ByteString::NoString => no_part(numbers::RULE_BROKEN),
                 ByteString::Content { start, end: _ } => {
-                    let f = v1_file(s, info, plen, n);
+                    let f = v1_file(torrent, info, plen, file);
                     part_of(start, plen, f.start, f.length, f.total)
                 }
             };

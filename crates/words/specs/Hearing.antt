@@ -65,7 +65,7 @@ pub record Gateway (M : MessageSet) (n plen : ℕ) (root s : List ℕ) : Type 0 
   pub round : Round M began s
   pub quiet : NothingNew began s
 
--- the same from any store on
+-- a gateway's history from any store on, without the opening
 pub record GatewayFrom (M : MessageSet) (s t : List ℕ) : Type 0 where
   pub began : List ℕ
   pub history : Steps s began

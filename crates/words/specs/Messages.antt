@@ -97,7 +97,7 @@ pub record Ruled (s m : List ℕ) : Type 0 where
   pub store : usable s ≡ true
   pub form : HashesForm m
   pub root : factsRoot s ≡ messageRoot m
-  pub rules : Kept (headerOf m) (blocksOf s) (heightOf s)
+  pub rules : Kept (headerOf m) (heightOf s)
 
 -- a well-formed message has the size that its header fixes, and so passes 4 too
 pub record WellFormed (s m : List ℕ) : Type 0 where
@@ -166,7 +166,7 @@ pub record ValidHeader (id : ℕ) (s m : List ℕ) : Type 0 where
   pub store : usable s ≡ true
   pub form : Form id m
   pub root : factsRoot s ≡ messageRoot m
-  pub rules : Kept (headerOf m) (blocksOf s) (heightOf s)
+  pub rules : Kept (headerOf m) (heightOf s)
 
 -- kd_held gives every hash that the request asks for: the run's, and the uncles'
 pub record AllGiven (s m : List ℕ) : Type 0 where
@@ -180,7 +180,7 @@ Rejected n = (n ≡ otherRoot) ⊎ ((n ≡ ruleBroken) ⊎ (n ≡ notHeld))
 -- a request is due a reject: for another root (2), for a header rule (3), or for a hash that is not held (12)
 pub data RejectDue (s m : List ℕ) : Type 0 where
   forRoot : usable s ≡ true → Form requestId m → (factsRoot s ≡ messageRoot m → ⊥) → RejectDue s m
-  forRule : usable s ≡ true → Form requestId m → factsRoot s ≡ messageRoot m → (Kept (headerOf m) (blocksOf s) (heightOf s) → ⊥) → RejectDue s m
+  forRule : usable s ≡ true → Form requestId m → factsRoot s ≡ messageRoot m → (Kept (headerOf m) (heightOf s) → ⊥) → RejectDue s m
   forHash : ValidHeader requestId s m → (AllGiven s m → ⊥) → RejectDue s m
 
 -- and the output has no room for what it is due (11)

@@ -10,7 +10,7 @@ use writer_order::number::content_number;
 use writer_order::number::root_number;
 use writer_order::sort::place;
 use writer_order::sort::sort;
-use writer_output::whole::MOST;
+use writer_output::whole::MOST_FILES;
 use writer_output::whole::info_size;
 use writer_output::whole::put_info;
 use writer_output::whole::put_rest;
@@ -148,7 +148,7 @@ pub fn write(list: &[u8], text: &[u8], plen: usize, name: &[u8], out: &mut [u8])
     ensures { λ r. ⌜ (r ≡ writeAnswer (now (list .entry)) (now (text .entry)) plen (now (name .entry)) (now (out .entry)))
         × (now (out .exit) ≡ writeAfter (now (list .entry)) (now (text .entry)) plen (now (name .entry)) (now (out .entry))) ⌝ }
 {
-    let mut at = [0u32; MOST];
-    let mut room = [0u32; MOST];
+    let mut at = [0u32; MOST_FILES];
+    let mut room = [0u32; MOST_FILES];
     write_with(list, text, plen, name, &mut at, &mut room, out)
 }

@@ -33,7 +33,7 @@ path-right [] h a = absurd (false≢true (sym h))
 path-right (e ∷ p) h a = unfold PathRight in a
 
 -- what is left of the four tests
-pub record Passed (x : Item) : Type 0 where
+pub record ItemPassed (x : Item) : Type 0 where
   pub elements : PathRight (x .path)
   pub in-range : x .size ≤ longestFile
   pub no-root : x .size ≡ 0 → x .root ≡ zeroHash
@@ -43,7 +43,7 @@ and-not true true h e = refl
 and-not true false h e = absurd (false≢true (sym h))
 and-not false b h e = absurd (false≢true e)
 
-pub passed : (x : Item) → wrongItem x ≡ false → Passed x
+pub passed : (x : Item) → wrongItem x ≡ false → ItemPassed x
 passed x h =
     let a = noElements (x .path) in
     let b = some (λ (e : List ℕ). not (elementRight e)) (x .path) in
@@ -76,7 +76,7 @@ written-is x h = by-size (eqb (x .size) 0) refl
     by-size true q = unfold lookup in unfold same in rw (h (eqb-true (x .size) 0 q)) refl
     by-size false q = unfold lookup in unfold same in refl
 
-pub item-right : (x : Item) → Passed x → length (x .root) ≡ 32 → ItemRight x
+pub item-right : (x : Item) → ItemPassed x → length (x .root) ≡ 32 → ItemRight x
 item-right x p e = record { path-right = p .elements; file-right = properties-right x (p .in-range) e }
 
 -- ---- no two meet

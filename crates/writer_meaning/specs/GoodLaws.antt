@@ -21,7 +21,7 @@ use Rattle.writer_meaning.specs.Content.{Item}
 use Rattle.writer_meaning.specs.Number.{some, tooLarge, tooDeep, wrongItem, meet, nothing, oneRoot, lengthsClash, layerSize, misfit, givesOther, twoLayers, contentNumber}
 use Rattle.writer_meaning.specs.SomeLaws.{or-none, none-passes}
 use Rattle.writer_meaning.specs.TreeLaws.{AllRight, PathRight, path-all}
-use Rattle.writer_meaning.specs.ContentLaws.{Passed, passed}
+use Rattle.writer_meaning.specs.ContentLaws.{ItemPassed, passed}
 use Rattle.writer_meaning.specs.Good.{Good}
 use Rattle.writer_meaning.specs.Refused.{TooLarge, TooDeep, OutOfRange, WrongFiles, no-file, no-element, wrong-element, too-long, empty-with-root, one-path, TwoLengths, WrongLayers, wrong-size, not-wanted, LayersDiffer, other-root, two-layers}
 use Rattle.writer_meaning.specs.RefusedLaws.{meets}
@@ -92,7 +92,7 @@ good plen name xs p =
     layer-tests : (some (givesOther plen) xs ≡ false) × (twoLayers xs ≡ false)
     layer-tests = or-none (some (givesOther plen) xs) (twoLayers xs) (p .gives)
 
-    each : (x : Item) → Member x xs → Passed x
+    each : (x : Item) → Member x xs → ItemPassed x
     each x m = passed x (none-passes wrongItem xs x (tree-none .0 .1) m)
 
     size-is : (x : Item) → Member x xs → length (x .layer) ≡ layerSize plen x

@@ -9,6 +9,7 @@ use native.Mathlib.Omega.{arith}
 use lib.ListN.{length}
 use lib.Dec.{eqb, ltb}
 use borrow.Author.Tests.{not-true, eqb-true, eqb-false, eq-eqb, ne-eqb, ltb-true, ltb-false, lt-ltb, le-ltb}
+use Rattle.numbers.specs.Tests.{or-one}
 use Rattle.limits.specs.Limits.{largestTorrent, longestFile, maxLevels}
 use Rattle.octets.specs.Octets.{same, zeroHash}
 use Rattle.octets.specs.OctetsLaws.{same-true, same-refl, same-false, same-eq, same-ne}
@@ -20,7 +21,7 @@ use Rattle.meaning.specs.Nth.{Nth}
 use Rattle.meaning.specs.Torrent.{elementRight}
 use Rattle.writer_meaning.specs.Content.{Item, torrentOf}
 use Rattle.writer_meaning.specs.Number.{some, begins, tooLarge, tooDeep, noElements, wrongItem, onePath, meet, nothing, oneRoot, lengthsClash, layerSize, misfit, givesOther, twoLayers}
-use Rattle.writer_meaning.specs.SomeLaws.{or-left, or-right, or-one, some-there, some-one}
+use Rattle.writer_meaning.specs.SomeLaws.{or-left, or-right, some-there, some-one}
 use Rattle.writer_meaning.specs.Refused.{TooLarge, TooDeep, WrongFiles, no-file, no-element, wrong-element, too-long, empty-with-root, one-path, OneRoot, TwoLengths, WrongLayers, wrong-size, not-wanted, LayersDiffer, other-root, two-layers}
 
 -- ---- 19, 21

@@ -2,8 +2,9 @@
 -- Assumes nothing.
 use mathlib.Core.Path.{_≡_, refl, sym, ap, _∙_}
 use mathlib.Core.Bool.{Bool, true, false, _||_, false≢true}
-use mathlib.Core.Logic.{_⊎_, inl, inr}
+use mathlib.Core.Logic.{inl, inr}
 use mathlib.Core.List.{List, [], _∷_}
+use Rattle.numbers.specs.Tests.{or-one}
 use Rattle.meaning.specs.Counting.{Member}
 use Rattle.sorting.specs.SortedBy.{Permuted}
 use Rattle.sorting.specs.PermutedLaws.{permuted-back, permuted-member}
@@ -17,10 +18,6 @@ or-left false b e = absurd (false≢true e)
 pub or-right : (a b : Bool) → b ≡ true → a || b ≡ true
 or-right true b e = refl
 or-right false b e = e
-
-pub or-one : (a b : Bool) → a || b ≡ true → (a ≡ true) ⊎ (b ≡ true)
-or-one true b e = inl refl
-or-one false b e = inr e
 
 pub or-none : (a b : Bool) → a || b ≡ false → (a ≡ false) × (b ≡ false)
 or-none true b e = absurd (false≢true (sym e))

@@ -8,6 +8,7 @@ use Prim.Native.Nat.{ℕ, _<_}
 use native.Mathlib.Omega.{arith}
 use lib.Dec.{eqb, ltb}
 use borrow.Author.Tests.{eqb-true, eq-eqb, ltb-true, lt-ltb}
+use Rattle.numbers.specs.Tests.{or-one}
 use Rattle.octets.specs.Octets.{same}
 use Rattle.octets.specs.OctetsLaws.{same-true, same-refl, same-eq}
 use Rattle.tree.specs.Geometry.{blockCount, height, pieceLayer, hasLayer}
@@ -19,7 +20,7 @@ use Rattle.writer_meaning.specs.Content.{Item, layerBefore, withLayer, layersGi
 use Rattle.writer_meaning.specs.Number.{some, lengthsClash, givesOther, twoLayers}
 use Rattle.writer_meaning.specs.Refused.{OneRoot}
 use Rattle.writer_meaning.specs.RefusedLaws.{pair-of}
-use Rattle.writer_meaning.specs.SomeLaws.{or-left, or-right, or-one, both-ways, some-there, some-one}
+use Rattle.writer_meaning.specs.SomeLaws.{or-left, or-right, both-ways, some-there, some-one}
 use Rattle.sorting.specs.SortedByLaws.{Ordered, OrderedFrom, ordered-skip}
 use Rattle.writer_meaning.specs.OrderLaws.{layer-one-way, layer-behind}
 use Rattle.writer_order.specs.Order.{rootBefore}

@@ -28,15 +28,15 @@ use Rattle.writer_order.specs.CompareLaws.{form-parts}
 
 -- ---- a path, element by element
 
-pub record Passed (s : List ℕ) (at : ℕ) (passed : List (List ℕ)) : Type 0 where
+pub record ElementsPassed (s : List ℕ) (at : ℕ) (passed : List (List ℕ)) : Type 0 where
   pub left : PathLeft s at
   pub few : length passed ≤ at
   pub whole : elementsIn (length s) s ≡ passed ++ elementsIn (left .steps) (drop at s)
 
-pub passed-start : (s : List ℕ) → elementsFit (length s) s ≡ true → Passed s 0 []
+pub passed-start : (s : List ℕ) → elementsFit (length s) s ≡ true → ElementsPassed s 0 []
 passed-start s h = record { left = record { within = omega arith; steps = length s; fits = h }; few = omega arith; whole = refl }
 
-module _ (s : List ℕ) (at : ℕ) (passed : List (List ℕ)) (p : Passed s at passed) where
+module _ (s : List ℕ) (at : ℕ) (passed : List (List ℕ)) (p : ElementsPassed s at passed) where
   pub passed-end : length s ≤ at → elementsIn (length s) s ≡ passed
   passed-end h =
       p .whole ∙ ap (λ (l : List (List ℕ)). passed ++ l) (in-end (p .left .steps) (drop at s) (length-drop at s ∙ omega arith)) ∙ append-nil
@@ -52,7 +52,7 @@ module _ (s : List ℕ) (at : ℕ) (passed : List (List ℕ)) (p : Passed s at p
     unfolding cut
     passed-here = (elementsIn (path-more s at (p .left) h .steps) (drop (at + 4 + numberAt s at 4) s), here ∙ rw e refl)
 
-    pub passed-more : Passed s (at + 4 + m) (passed ++ cut s (at + 4) m ∷ [])
+    pub passed-more : ElementsPassed s (at + 4 + m) (passed ++ cut s (at + 4) m ∷ [])
     unfolding cut
     passed-more =
         rw e

@@ -5,6 +5,7 @@ use mathlib.Core.Bool.{Bool, true, false, _||_, _&&_, false≢true, and-eq-true-
 use mathlib.Core.Logic.{inl, inr}
 use mathlib.Core.List.{List, [], _∷_}
 use Prim.Native.Nat.{ℕ}
+use Rattle.numbers.specs.Tests.{or-one}
 use Rattle.octets.specs.Octets.{same}
 use Rattle.octets.specs.OctetsLaws.{same-true, same-false, same-eq}
 use Rattle.bencode.specs.Grammar.{precedes}
@@ -12,7 +13,7 @@ use Rattle.sorting.specs.PrecedesLaws.{precedes-either}
 use Rattle.meaning.specs.Counting.{Member}
 use Rattle.writer_meaning.specs.Content.{Item, pathBefore, itemBefore, inTreeOrder}
 use Rattle.writer_meaning.specs.Number.{some, begins, onePath, meet}
-use Rattle.writer_meaning.specs.SomeLaws.{or-left, or-one, both-ways, some-one}
+use Rattle.writer_meaning.specs.SomeLaws.{or-left, both-ways, some-one}
 use Rattle.sorting.specs.SortedByLaws.{Ordered, OrderedFrom, none-before, sorted-ordered, sorted-permuted}
 use Rattle.writer_meaning.specs.OrderLaws.{path-either, path-one-way, path-behind}
 use Rattle.writer_meaning.specs.AnyOrder.{begins-self, meet-permuted}

@@ -6,13 +6,14 @@ use mathlib.Core.Logic.{inl, inr}
 use mathlib.Core.List.{List, [], _∷_}
 use Prim.Native.Nat.{ℕ}
 use borrow.Author.Tests.{not-true, not-false}
+use Rattle.numbers.specs.Tests.{or-one}
 use Rattle.octets.specs.Octets.{same}
 use Rattle.octets.specs.OctetsLaws.{same-true, same-false}
 use Rattle.bencode.specs.Grammar.{precedes}
 use Rattle.sorting.specs.PrecedesLaws.{precedes-self, precedes-either, behind-trans}
 use Rattle.meaning.specs.Counting.{Member}
 use Rattle.writer_meaning.specs.Content.{Item}
-use Rattle.writer_meaning.specs.SomeLaws.{or-one, or-none}
+use Rattle.writer_meaning.specs.SomeLaws.{or-none}
 use Rattle.sorting.specs.SortedByLaws.{Ordered, OrderedFrom, none-before}
 use Rattle.writer_order.specs.Neighbours.{runFrom, runs}
 

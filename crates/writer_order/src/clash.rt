@@ -26,8 +26,8 @@ fn gives_root(layer: &[u8], plen: usize, n: usize, root: &[u8]) -> bool
     requires { ⌜ (isPieceLength plen ≡ true) × (hasLayer n plen ≡ true) × (length (now root) ≡ 32) ⌝ }
     ensures { λ r. ⌜ r ≡ O.same (layerRoot (now (layer .entry)) (pieceLayer plen) (G.height (blockCount n))) (now (root .entry)) ⌝ }
 {
-    let past = pad_value(piece_layer(plen));
-    heaps::gives_root(layer, past, plen, n, root)
+    let pad = pad_value(piece_layer(plen));
+    heaps::gives_root(layer, pad, plen, n, root)
 }
 
 // Whether the file of the record at p is not empty.

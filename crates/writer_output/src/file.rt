@@ -34,17 +34,17 @@ fn put_properties(out: &mut [u8], at: usize, size: usize, root: &[u8]) -> usize
     put_byte(out, end, b'e')
 }
 
-// A file with path q, whose record stands at `place`, behind one with path p.
-fn put_file(out: &mut [u8], at: usize, p: &[u8], q: &[u8], list: &[u8], place: usize) -> usize
-    requires { ⌜ Standing (now p) 0 × Standing (now q) 0 × (place + recordSize ≤ length (now list))
-        × (at + length (fileBytes (pathIn (now p)) (pathIn (now q)) (properties (fileIn (now list) place))) < 2 ^ 64) ⌝ }
+// A file with path `other`, whose record stands at `place`, behind one with path `one`.
+fn put_file(out: &mut [u8], at: usize, one: &[u8], other: &[u8], list: &[u8], place: usize) -> usize
+    requires { ⌜ Standing (now one) 0 × Standing (now other) 0 × (place + recordSize ≤ length (now list))
+        × (at + length (fileBytes (pathIn (now one)) (pathIn (now other)) (properties (fileIn (now list) place))) < 2 ^ 64) ⌝ }
     ensures { λ r. ⌜ Put (now (out .entry)) at
-        (fileBytes (pathIn (now (p .entry))) (pathIn (now (q .entry))) (properties (fileIn (now (list .entry)) place)))
+        (fileBytes (pathIn (now (one .entry))) (pathIn (now (other .entry))) (properties (fileIn (now (list .entry)) place)))
         (now (out .exit)) r ⌝ }
 {
-    let m = shared_end(p, q);
-    let closed = put_closed(out, at, p, m);
-    let opened = put_opened(out, closed, q, m);
+    let m = shared_end(one, other);
+    let closed = put_closed(out, at, one, m);
+    let opened = put_opened(out, closed, other, m);
     let size = number_at(list, place, 8);
     put_properties(out, opened, size, &list[place + 8..place + 40])
 }

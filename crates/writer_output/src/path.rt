@@ -9,20 +9,20 @@ ghost use Rattle.writer_output.specs.Put.{Put};
 ghost use Rattle.writer_output.specs.Path.{leftIn, Standing, SharedTo};
 
 // The position up to which two paths have the same elements.
-pub fn shared_end(p: &[u8], q: &[u8]) -> usize
-    requires { ⌜ Standing (now p) 0 × Standing (now q) 0 ⌝ }
-    ensures { λ r. ⌜ SharedTo (now (p .entry)) (now (q .entry)) r ⌝ }
+pub fn shared_end(one: &[u8], other: &[u8]) -> usize
+    requires { ⌜ Standing (now one) 0 × Standing (now other) 0 ⌝ }
+    ensures { λ r. ⌜ SharedTo (now (one .entry)) (now (other .entry)) r ⌝ }
 {
     let mut at = 0;
-    while at < p.len() {
-        if q.len() <= at {
+    while at < one.len() {
+        if other.len() <= at {
             return at;
         }
-        let m = number_at(p, at, 4);
-        let n = number_at(q, at, 4);
+        let m = number_at(one, at, 4);
+        let n = number_at(other, at, 4);
         let start = at + 4;
-        let x = &p[start..start + m];
-        let y = &q[start..start + n];
+        let x = &one[start..start + m];
+        let y = &other[start..start + n];
         if !bencode::order::same(x, y) {
             return at;
         }

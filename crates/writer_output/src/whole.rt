@@ -18,13 +18,13 @@ ghost use Rattle.writer_order.specs.Order.{AllInForm, mostFiles};
 ghost use Rattle.writer_output.specs.Whole.{infoBytes, restBytes};
 
 // More files do not go into a torrent: each takes 15 bytes or more.
-pub const MOST: usize = LARGEST_TORRENT / 15;
+pub const MOST_FILES: usize = LARGEST_TORRENT / 15;
 
 // Whether so many files are too many, whatever they are.
-pub fn too_many(n: usize) -> bool
-    ensures { λ r. ⌜ r ≡ ltb mostFiles n ⌝ }
+pub fn too_many(count: usize) -> bool
+    ensures { λ r. ⌜ r ≡ ltb mostFiles count ⌝ }
 {
-    MOST < n
+    MOST_FILES < count
 }
 
 // The first part, of the files whose records stand at `order`, which is tree order.

@@ -13,12 +13,11 @@ use lib.Seq.{drop-append-add, drop-append-seam}
 use lib.Dec.{ltb}
 use borrow.Author.Tests.{ne-eqb, ltb-true, ltb-false}
 use Rattle.octets.specs.Octets.{cut, be, numberAt}
-use Rattle.octets.specs.OctetsLaws.{cut-append-left, cut-append-right, cut-whole, number-same}
+use Rattle.octets.specs.OctetsLaws.{cut-append-left, cut-append-right, cut-whole, number-same, number-behind, number-first, cut-behind, be-size}
 use Rattle.meaning.specs.Counting.{Member}
 use Rattle.writer_meaning.specs.Content.{Item}
 use Rattle.writer_lists.specs.Lists.{recordSize, recordCount, elementsIn, partAt, pathAt, itemAt, itemsUpTo, contentOf}
 use Rattle.writer_lists.specs.PathsLaws.{in-end}
-use Rattle.calls.specs.RecordLaws.{number-behind, number-first, cut-behind, be-size}
 use Rattle.writer_promises.specs.Published.{PathForm, ends, goes-on, RecordForm, InForm, pathSize, textSize}
 use Rattle.writer_promises.specs.GivenLaws.{same-item}
 

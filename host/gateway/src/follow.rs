@@ -4,11 +4,11 @@
 use crate::config;
 use crate::gate::Gate;
 use crate::grown::{judge, Not, Version};
-use crate::text::hex;
 use crate::torrent::{data_path, Source};
 use crate::{http, probe, say};
 use kombudeva::limits::LARGEST_TORRENT;
 use kombudeva::Hash;
+use readable::hex;
 use std::collections::VecDeque;
 use std::io::ErrorKind;
 use std::path::{Path, PathBuf};

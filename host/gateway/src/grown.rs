@@ -1,8 +1,8 @@
 //! Whether a new version of a history begins with the old one, file by file, as `kd_extends` says.
 
-use crate::text::shown;
 use kombudeva::limits::BLOCK;
 use kombudeva::{first_piece, store_size, Facts, Hash, Refusal, Store, Torrent};
+use readable::in_status;
 
 /// A version of a history, as its torrent has it.
 pub struct Version {
@@ -58,7 +58,7 @@ pub fn judge(
     mut ask: impl FnMut(&Entry, &mut Store<Vec<u8>>, Need) -> Result<Vec<u8>, String>,
 ) -> Result<(), Not> {
     for before in old.files.iter().filter(|file| file.facts.length > 0) {
-        let name = shown(&before.path.join(&b"/"[..]));
+        let name = in_status(&before.path.join(&b"/"[..]));
         let now = new.files.iter().find(|file| file.path == before.path);
         let now = now.ok_or_else(|| Not::Grown(format!("{name} is gone")))?;
         // One root and one length are one file.

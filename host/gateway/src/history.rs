@@ -5,10 +5,10 @@ use crate::gate::Gate;
 use crate::grown::{judge, Not, Version};
 use crate::leaves;
 use crate::say;
-use crate::text::{count, hex, size};
 use crate::torrent::{below, Source};
 use kombudeva::limits::{BLOCK, HASH, LARGEST_TORRENT};
 use kombudeva::{Hash, History, Refusal, TorrentBuilder};
+use readable::{count, hex, in_status, size};
 use std::collections::{BTreeMap, VecDeque};
 use std::fs::{self, File};
 use std::io::{self, Read, Seek, SeekFrom};
@@ -106,7 +106,7 @@ impl Own {
     fn version(&mut self, gate: &Gate) -> Result<Option<usize>, Unpublished> {
         let paths = files(&self.config.path)?;
         if let Some(gone) = self.files.keys().find(|path| !paths.contains(path)) {
-            return Err(Unpublished::Younger(format!("{} is gone", crate::text::shown(&gone.join(&b"/"[..])))));
+            return Err(Unpublished::Younger(format!("{} is gone", in_status(&gone.join(&b"/"[..])))));
         }
         let mut builder = TorrentBuilder::new(self.config.piece_length, self.config.name.as_bytes());
         for path in &paths {

@@ -26,6 +26,5 @@ pub mod peer;
 pub mod probe;
 pub mod send;
 pub mod status;
-pub mod text;
 pub mod torrent;
 pub mod wire;

@@ -1,7 +1,7 @@
 //! Log lines on standard error: the time, then `key=value`. An event is told at most so many times a minute, so that no neighbour
 //! can fill a disk with them; what was left out is counted.
 
-use crate::text::time;
+use readable::time;
 use std::collections::BTreeMap;
 use std::io::Write;
 use std::sync::Mutex;

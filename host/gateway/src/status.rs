@@ -1,8 +1,8 @@
 //! What people and machines see: one look at the gateway, as a page without script, as JSON, as metrics.
 
 use crate::gate::Gate;
-use crate::text::{count, hex, html as safe, shown, size, time};
 use crate::torrent::{Source, Torrent};
+use readable::{count, hex, in_html, in_status, size, time};
 use serde::Serialize;
 use std::collections::BTreeMap;
 use std::fmt::Write;
@@ -100,7 +100,7 @@ fn of_torrent(torrent: &Torrent) -> Vec<History> {
             torrent: torrent.name.clone(),
             info_hash: hex(&torrent.info_hash),
             source: source.clone(),
-            file: shown(&file.path.join(&b"/"[..])),
+            file: in_status(&file.path.join(&b"/"[..])),
             length: file.length,
             blocks: 0,
             believed: 0,
@@ -220,7 +220,7 @@ progress{width:8em;height:.9em}code{font-size:.9em}footer{margin-top:2em;color:#
 
 pub fn html(status: &Status) -> String {
     let mut page = String::new();
-    let title = safe(&status.name);
+    let title = in_html(&status.name);
     let _ = write!(
         page,
         "<!DOCTYPE html><html lang=\"en\"><head><meta charset=\"utf-8\"><meta http-equiv=\"refresh\" content=\"5\">\
@@ -278,16 +278,16 @@ fn histories(page: &mut String, status: &Status) {
             let _ = write!(where_to, " <span class=\"bad\">{} found damaged</span>", count(one.damaged, "block"));
         }
         if let Some(trouble) = &one.trouble {
-            let _ = write!(where_to, " <span class=\"bad\">{}</span>", safe(trouble));
+            let _ = write!(where_to, " <span class=\"bad\">{}</span>", in_html(trouble));
         }
         let _ = write!(
             page,
             "<tr><td>{}<br><code title=\"{}\">{}</code> <small>{}</small></td><td>{}</td><td class=\"n\">{}</td><td>{believed}</td><td>{where_to}</td></tr>",
-            safe(&one.torrent),
+            in_html(&one.torrent),
             one.info_hash,
             &one.info_hash[..12],
-            safe(&one.source),
-            safe(&one.file),
+            in_html(&one.source),
+            in_html(&one.file),
             size(one.length)
         );
     }
@@ -295,7 +295,8 @@ fn histories(page: &mut String, status: &Status) {
     if !status.refused.is_empty() {
         page.push_str("<h2>Refused</h2><table><tr><th>Torrent</th><th>Why</th></tr>");
         for one in &status.refused {
-            let _ = write!(page, "<tr><td>{}</td><td class=\"bad\">{}</td></tr>", safe(&one.torrent), safe(&one.why));
+            let _ =
+                write!(page, "<tr><td>{}</td><td class=\"bad\">{}</td></tr>", in_html(&one.torrent), in_html(&one.why));
         }
         page.push_str("</table>");
     }
@@ -308,7 +309,8 @@ fn notes(page: &mut String, status: &Status) {
     page.push_str("<h2>Our own histories, and those that are followed</h2><table><tr><th>Name</th><th>State</th></tr>");
     for one in &status.own_and_followed {
         let class = if one.said.contains("younger") || one.said.starts_with("not ") { "bad" } else { "" };
-        let _ = write!(page, "<tr><td>{}</td><td class=\"{class}\">{}</td></tr>", safe(&one.name), safe(&one.said));
+        let _ =
+            write!(page, "<tr><td>{}</td><td class=\"{class}\">{}</td></tr>", in_html(&one.name), in_html(&one.said));
     }
     page.push_str("</table>");
 }
@@ -321,7 +323,7 @@ fn neighbours_table(page: &mut String, status: &Status) {
     for one in &status.neighbours {
         let state = match (one.banned_seconds, one.connections) {
             (Some(seconds), _) => format!("<span class=\"bad\">banned for {seconds} s</span>"),
-            (None, 0) => format!("not connected <small>{}</small>", safe(&one.last_end)),
+            (None, 0) => format!("not connected <small>{}</small>", in_html(&one.last_end)),
             (None, 1) => "connected".into(),
             (None, connections) => format!("{connections} connections"),
         };

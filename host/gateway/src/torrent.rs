@@ -4,9 +4,9 @@ use crate::disk::{Disk, Place};
 use crate::held::{Began, Held};
 use crate::line::Line;
 use crate::say;
-use crate::text::{hex, shown};
 use kombudeva::limits::BLOCK;
 use kombudeva::{first_piece, place, store_size, Facts, Hash, Refusal};
+use readable::{hex, in_status};
 use std::collections::BTreeMap;
 use std::ffi::OsStr;
 use std::os::unix::ffi::OsStrExt;
@@ -95,7 +95,7 @@ impl Torrent {
         if memory > room {
             return Err(Refused::NoMemory);
         }
-        let name = shown(read.name().unwrap_or(b"(without a name)"));
+        let name = in_status(read.name().unwrap_or(b"(without a name)"));
         let mut files = Vec::new();
         for (number, (file, path)) in listed.into_iter().enumerate() {
             let first_piece = first_piece(&list, piece_length, number as u64)?;
@@ -104,7 +104,7 @@ impl Torrent {
                 length => {
                     let facts = Facts { length, piece_length, root: file.root };
                     let (place, save) = places(&source, &info_hash, number, &path);
-                    let told = shown(&path.join(&b"/"[..]));
+                    let told = in_status(&path.join(&b"/"[..]));
                     let (held, began) = Held::begin(disk, facts, file.layer, told, place, save)?;
                     if began == Began::Repaired {
                         say!("repaired", torrent = name, file = held.name);

@@ -2,9 +2,9 @@
 
 use crate::end::{path_shown, Failure, Verdict};
 use crate::pieces::Pieces;
-use crate::text::shown;
 use crate::torrent::{Entry, Meta};
 use crate::{out, place};
+use readable::on_terminal;
 use std::ffi::OsString;
 use std::fs::File;
 use std::io::{self, ErrorKind, Read};
@@ -28,7 +28,7 @@ pub fn run(args: &Args) -> Result<Verdict, Failure> {
     }
     let meta = Meta::to_judge(&args.torrent)?;
     let Some(file) = meta.files.iter().find(|file| file.joined() == args.file.as_bytes()) else {
-        let name = shown(args.file.as_bytes());
+        let name = on_terminal(args.file.as_bytes());
         return Err(Failure::usage(format!("the torrent has no file {name}; kd show lists what it has")));
     };
     let path =

@@ -1,7 +1,7 @@
 //! How a verb ends: with what it found, or with why it could not say.
 
-use crate::text::shown;
 use kombudeva::Refusal;
+use readable::on_terminal;
 use std::io;
 use std::os::unix::ffi::OsStrExt;
 use std::path::Path;
@@ -74,6 +74,6 @@ impl Failure {
 pub fn path_shown(path: &Path) -> String {
     match path.as_os_str().as_bytes() {
         b"-" => "standard input".into(),
-        bytes => shown(bytes),
+        bytes => on_terminal(bytes),
     }
 }

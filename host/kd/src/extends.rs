@@ -2,11 +2,11 @@
 
 use crate::colour::Colour;
 use crate::end::{Failure, Verdict};
-use crate::text::{hex, shown, size};
 use crate::torrent::{Entry, Meta};
 use crate::{json, out, place};
 use kombudeva::limits::{BLOCK, HEADER_SIZE};
 use kombudeva::{store_size, Refusal, Store};
+use readable::{hex, on_terminal, size};
 use serde::Serialize;
 use std::io;
 use std::os::unix::fs::FileExt;
@@ -153,7 +153,7 @@ impl<'a> Told<'a> {
         let word = if self.verdict() == Verdict::Right { colour.good(&word) } else { colour.bad(&word) };
         let refused = self.refusal.map(|refusal| format!("  {refusal}"));
         let why = refused.or_else(|| self.error.as_ref().map(|error| format!("  {error}"))).unwrap_or_default();
-        out::line(&format!("{word} {lengths:>22}  {}{why}", shown(&self.old.joined())))
+        out::line(&format!("{word} {lengths:>22}  {}{why}", on_terminal(&self.old.joined())))
     }
 
     fn lengths(&self) -> String {

@@ -1,6 +1,6 @@
 //! JSON for other programs.
 
-use crate::text::hex;
+use readable::hex;
 use serde::Serialize;
 use std::fmt::Write;
 

@@ -17,7 +17,6 @@ mod progress;
 mod root;
 mod show;
 mod store;
-mod text;
 mod torrent;
 mod verify;
 mod whole;

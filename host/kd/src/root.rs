@@ -5,9 +5,9 @@ use crate::hashed::read_all;
 use crate::json;
 use crate::out;
 use crate::progress::Progress;
-use crate::text::{hex, shown};
 use kombudeva::limits::{HASH, LARGEST_PIECE_LENGTH, LONGEST_FILE};
 use kombudeva::{Hash, History};
+use readable::{hex, on_terminal};
 use serde::Serialize;
 use std::fs::File;
 use std::io::{self, Read};
@@ -69,7 +69,7 @@ fn tell(path: &Path, length: u64, root: Hash, json: bool) -> Result<(), Failure>
     if json {
         return out::object(&Object { path: json::Path::new(name), length, root });
     }
-    let text = shown(name);
+    let text = on_terminal(name);
     let mark = if text.as_bytes() == name { "" } else { "\\" };
     out::line(&format!("{mark}{root}  {text}"))
 }

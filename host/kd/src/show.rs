@@ -3,8 +3,8 @@
 use crate::end::{Failure, Verdict};
 use crate::json::{Name, Path};
 use crate::out;
-use crate::text::{count, hex, shown, size};
 use crate::torrent::{Entry, Meta};
+use readable::{count, hex, on_terminal, size};
 use serde::Serialize;
 use std::path::PathBuf;
 
@@ -38,7 +38,7 @@ pub fn run(args: &Args) -> Result<Verdict, Failure> {
 
 fn page(meta: &Meta, long: bool) -> Result<(), Failure> {
     if let Some(name) = &meta.name {
-        out::line(&format!("name          {}", shown(name)))?;
+        out::line(&format!("name          {}", on_terminal(name)))?;
     }
     out::line(&format!("info hash     {}", hex(&meta.info_hash)))?;
     if let Some(v1) = &meta.v1_info_hash {
@@ -57,7 +57,7 @@ fn tree(files: &[Entry], depth: usize, digits: usize) -> Result<(), Failure> {
         let hash = if is_folder { String::new() } else { hex(&group[0].root)[..digits].into() };
         let bytes = size(group.iter().map(|file| file.length).sum());
         let slash = if is_folder { "/" } else { "" };
-        let name = shown(&group[0].path[depth]);
+        let name = on_terminal(&group[0].path[depth]);
         out::line(&format!("{bytes:>10}  {hash:<digits$}  {:1$}{name}{slash}", "", 2 * depth))?;
         if is_folder {
             tree(group, depth + 1, digits)?;

@@ -2,11 +2,11 @@
 
 use crate::colour::Colour;
 use crate::end::{path_shown, Failure, Verdict};
-use crate::text::{count, hex, size};
 use crate::{json, out, whole};
 use clap::Subcommand;
 use kombudeva::limits::{BLOCK, LONGEST_FILE, SMALLEST_PIECE_LENGTH};
 use kombudeva::{store_size, Facts, Refusal, Store};
+use readable::{count, hex, size};
 use serde::Serialize;
 use std::fs::File;
 use std::io::{self, Read};

@@ -10,7 +10,7 @@ use Rattle.catalogue.proofs.list_in.Statement.{statement}
 use Rattle.catalogue.proofs.list_in.Tie as tie
 
 index-requires : tie.Need-index-requires
-index-requires c κs = (c .before .before .before .before .before .pre .0 .opened .small, let x = c .before .before .before .before .before .pre .0 .few-long in let y = c .before .before .before .before .before .pre .1 in omega arith)
+index-requires c κs = (c .before .before .before .before .before .pre .0 .opened .small, let x = c .before .before .before .before .before .pre .0 .few-layered in let y = c .before .before .before .before .before .pre .1 in omega arith)
 
 slice-aggregate-put-directory : tie.Need-slice-aggregate-put-directory
 slice-aggregate-put-directory c = search needs

@@ -19,7 +19,7 @@ same-requires c κs = search needs
 returns : tie.Need-returns
 returns c =
     c .same .ensures
-    ∙ ap (λ (l : List ℕ). same l (c .before .before .before .before .before .args .v)) (c .before .hash-of .ensures)
+    ∙ ap (λ (l : List ℕ). same l (c .before .before .before .before .before .args .hash)) (c .before .hash-of .ensures)
     ∙ sym (agrees-held _ _ _ (sym (c .before .before .before .held .ensures) ∙ c .before .before .if1 .taken))
 
 returns-2 : tie.Need-returns-2

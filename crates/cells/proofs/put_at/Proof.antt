@@ -9,14 +9,14 @@ use borrow.Author.Needs.{needs}
 use Rattle.cells.proofs.put_at.Statement.{statement}
 use Rattle.cells.proofs.put_at.Tie as tie
 
-mul-s : tie.Need-mul-s
-mul-s c = search needs
+mul-store : tie.Need-mul-store
+mul-store c = search needs
 
-add-s : tie.Need-add-s
-add-s c = search needs
+add-store : tie.Need-add-store
+add-store c = search needs
 
-slice-write-s : tie.Need-slice-write-s
-slice-write-s c = search needs
+slice-write-store : tie.Need-slice-write-store
+slice-write-store c = search needs
 
 mul-put-hash : tie.Need-mul-put-hash
 mul-put-hash c = search needs
@@ -35,17 +35,17 @@ returns : tie.Need-returns
 unfolding put
 returns c =
     let s = c .before .before .before .before .before in
-    let n = s .args .n in
+    let n = s .args .node in
     let e : 32 + 33 * n ≡ suc (31 + 33 * n) = omega arith in
-    c .before .before .put-hash .ensures ∙ rw e (mark-then-hash (s .args .s .now) (31 + 33 * n) (s .args .h) (omega (arith, s .pre)))
+    c .before .before .put-hash .ensures ∙ rw e (mark-then-hash (s .args .store .now) (31 + 33 * n) (s .args .hash) (omega (arith, s .pre)))
 
 pub put-at-spec : {M : Type 1} → statement M
 put-at-spec =
     tie.close
     (tie.spec
-    mul-s
-    add-s
-    slice-write-s
+    mul-store
+    add-store
+    slice-write-store
     mul-put-hash
     add-put-hash
     put-hash-requires

@@ -22,7 +22,7 @@ returns : tie.Need-returns
 returns c = root-held _ _ _ _ _ (c .before .before .before .block-count .ensures) (c .before .before .height .ensures) _ (c .before .if1 .taken) (c .held-hash .ensures)
 
 edge-requires : tie.Need-edge-requires
-edge-requires c κs = root-asks (c .before .before .before .before .args .s .now) _ (c .before .before .before .before .args .last) _ _ (c .before .before .block-count .ensures) (c .before .height .ensures) (c .before .before .before .before .pre .0) (c .before .before .before .before .pre .1) (c .if1 .left)
+edge-requires c κs = root-asks (c .before .before .before .before .args .store .now) _ (c .before .before .before .before .args .last) _ _ (c .before .before .block-count .ensures) (c .before .height .ensures) (c .before .before .before .before .pre .0) (c .before .before .before .before .pre .1) (c .if1 .left)
 
 returns-2 : tie.Need-returns-2
 returns-2 c = root-edge _ _ _ _ _ (c .before .before .before .before .block-count .ensures) (c .before .before .before .height .ensures) _ (c .before .edge .ensures .0)

@@ -17,11 +17,11 @@ abbrev μ-loop : tie.MeasureT-loop
 -- at the loop's head the room has the length that it came with
 len : (c : tie.At-loop Inv-loop μ-loop) → length (c .loop .room) ≡ length (c .before .args .room .now)
 len c =
-    ap length (c .loop .inv .1) ∙ length-paste (c .before .args .room .now) (c .before .args .at) (c .before .args .s .now) (c .loop .i)
+    ap length (c .loop .inv .1) ∙ length-paste (c .before .args .room .now) (c .before .args .at) (c .before .args .bytes .now) (c .loop .i)
     (omega (arith, c .before .pre, c .loop .inv .0)) (omega (arith, c .loop .inv .0))
 
 loop-holds : tie.Need-loop-holds Inv-loop μ-loop
-loop-holds c = (omega arith, paste-zero (c .args .room .now) (c .args .at) (c .args .s .now))
+loop-holds c = (omega arith, paste-zero (c .args .room .now) (c .args .at) (c .args .bytes .now))
 
 shared-slice-read-room : tie.Need-shared-slice-read-room Inv-loop μ-loop
 shared-slice-read-room c = search needs
@@ -45,7 +45,7 @@ same-length : tie.Need-same-length Inv-loop μ-loop
 same-length c = len (c .before)
 
 returns : tie.Need-returns Inv-loop μ-loop
-returns c = whole _ _ _ _ (c .before .loop .i) (length (c .before .before .args .s .now)) (c .before .loop .inv .1) refl (omega (arith, c .before .loop .inv .0))
+returns c = whole _ _ _ _ (c .before .loop .i) (length (c .before .before .args .bytes .now)) (c .before .loop .inv .1) refl (omega (arith, c .before .loop .inv .0))
 
 pub put-few-spec : {M : Type 1} → statement M
 put-few-spec =

@@ -16,7 +16,7 @@ abbrev μ-loop : tie.MeasureT-loop
 μ-loop room₀ at s n i₀ room i = length s - i
 
 loop-holds : tie.Need-loop-holds Inv-loop μ-loop
-loop-holds c = (omega arith, copied-none (c .before .before .args .room .now) (c .before .before .args .at) (c .before .before .args .s .now))
+loop-holds c = (omega arith, copied-none (c .before .before .args .room .now) (c .before .before .args .at) (c .before .before .args .bytes .now))
 
 add-loop : tie.Need-add-loop Inv-loop μ-loop
 add-loop c = search needs
@@ -37,7 +37,7 @@ put-part-requires-2 c κs =
     let six = three .before .before .before in
     let nine = six .before .before .before in
     let taken = three .before .before .loop-test .taken in
-    let one = copied-part (nine .args .room .now) (nine .args .at) (nine .args .s .now) (six .loop .i) (six .loop .room) (six .loop .i) 32 (six .loop .i + 32) (three .put-part .last .0) (six .loop .inv .1) (omega arith) (omega (arith, taken)) (nine .pre .1) (inr (omega arith)) (three .put-part .ensures) in
+    let one = copied-part (nine .args .room .now) (nine .args .at) (nine .args .bytes .now) (six .loop .i) (six .loop .room) (six .loop .i) 32 (six .loop .i + 32) (three .put-part .last .0) (six .loop .inv .1) (omega arith) (omega (arith, taken)) (nine .pre .1) (inr (omega arith)) (three .put-part .ensures) in
     (omega (arith, taken), omega (arith, one .size, nine .pre .1))
 
 add-i : tie.Need-add-i Inv-loop μ-loop
@@ -54,8 +54,8 @@ loop-again c =
     let twelve = nine .before .before .before in
     let taken = six .before .before .loop-test .taken in
     let i = nine .loop .i in
-    let one = copied-part (twelve .args .room .now) (twelve .args .at) (twelve .args .s .now) i (nine .loop .room) i 32 (i + 32) (six .put-part .last .0) (nine .loop .inv .1) (omega arith) (omega (arith, taken)) (twelve .pre .1) (inr (omega arith)) (six .put-part .ensures) in
-    (omega (arith, taken), copied-part (twelve .args .room .now) (twelve .args .at) (twelve .args .s .now) (i + 32) (six .put-part .last .0) (i + 32) 32 (i + 64) (two .put-part2 .last .0) one (omega arith) (omega (arith, taken)) (twelve .pre .1) (inr (omega arith)) (two .put-part2 .ensures))
+    let one = copied-part (twelve .args .room .now) (twelve .args .at) (twelve .args .bytes .now) i (nine .loop .room) i 32 (i + 32) (six .put-part .last .0) (nine .loop .inv .1) (omega arith) (omega (arith, taken)) (twelve .pre .1) (inr (omega arith)) (six .put-part .ensures) in
+    (omega (arith, taken), copied-part (twelve .args .room .now) (twelve .args .at) (twelve .args .bytes .now) (i + 32) (six .put-part .last .0) (i + 32) 32 (i + 64) (two .put-part2 .last .0) one (omega arith) (omega (arith, taken)) (twelve .pre .1) (inr (omega arith)) (two .put-part2 .ensures))
 
 sub-put-part : tie.Need-sub-put-part Inv-loop μ-loop
 sub-put-part c = omega (arith, c .before .before .before .before .before .pre .0)
@@ -75,9 +75,9 @@ put-part-requires-4 c κs =
     let three = c .before .before .before in
     let six = three .before .before .before in
     let nine = six .before .before .before in
-    let n = length (nine .args .s .now) in
+    let n = length (nine .args .bytes .now) in
     let left = three .before .before .loop-test .left in
-    let one = copied-part (nine .args .room .now) (nine .args .at) (nine .args .s .now) (six .loop .i) (six .loop .room) (n - 64) 32 (n - 32) (three .put-part3 .last .0) (six .loop .inv .1) (omega (arith, left)) (omega (arith, nine .pre .0)) (nine .pre .1) (inr (omega (arith, nine .pre .0))) (three .put-part3 .ensures) in
+    let one = copied-part (nine .args .room .now) (nine .args .at) (nine .args .bytes .now) (six .loop .i) (six .loop .room) (n - 64) 32 (n - 32) (three .put-part3 .last .0) (six .loop .inv .1) (omega (arith, left)) (omega (arith, nine .pre .0)) (nine .pre .1) (inr (omega (arith, nine .pre .0))) (three .put-part3 .ensures) in
     (omega (arith, nine .pre .0), omega (arith, one .size, nine .pre .1))
 
 same-length : tie.Need-same-length Inv-loop μ-loop
@@ -89,11 +89,11 @@ returns c =
     let six = two .before .before .before .before in
     let nine = six .before .before .before in
     let twelve = nine .before .before .before in
-    let n = length (twelve .args .s .now) in
+    let n = length (twelve .args .bytes .now) in
     let left = six .before .before .loop-test .left in
-    let one = copied-part (twelve .args .room .now) (twelve .args .at) (twelve .args .s .now) (nine .loop .i) (nine .loop .room) (n - 64) 32 (n - 32) (six .put-part3 .last .0) (nine .loop .inv .1) (omega (arith, left)) (omega (arith, twelve .pre .0)) (twelve .pre .1) (inr (omega (arith, twelve .pre .0))) (six .put-part3 .ensures) in
-    copied-whole (twelve .args .room .now) (twelve .args .at) (twelve .args .s .now) (two .put-part4 .last .0)
-    (copied-part (twelve .args .room .now) (twelve .args .at) (twelve .args .s .now) (n - 32) (six .put-part3 .last .0) (n - 32) 32 n (two .put-part4 .last .0) one (omega arith) (omega (arith, twelve .pre .0)) (twelve .pre .1) (inr (omega (arith, twelve .pre .0))) (two .put-part4 .ensures))
+    let one = copied-part (twelve .args .room .now) (twelve .args .at) (twelve .args .bytes .now) (nine .loop .i) (nine .loop .room) (n - 64) 32 (n - 32) (six .put-part3 .last .0) (nine .loop .inv .1) (omega (arith, left)) (omega (arith, twelve .pre .0)) (twelve .pre .1) (inr (omega (arith, twelve .pre .0))) (six .put-part3 .ensures) in
+    copied-whole (twelve .args .room .now) (twelve .args .at) (twelve .args .bytes .now) (two .put-part4 .last .0)
+    (copied-part (twelve .args .room .now) (twelve .args .at) (twelve .args .bytes .now) (n - 32) (six .put-part3 .last .0) (n - 32) 32 n (two .put-part4 .last .0) one (omega arith) (omega (arith, twelve .pre .0)) (twelve .pre .1) (inr (omega (arith, twelve .pre .0))) (two .put-part4 .ensures))
     (twelve .pre .1)
 
 pub put-many-spec : {M : Type 1} → statement M

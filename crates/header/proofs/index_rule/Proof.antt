@@ -15,7 +15,7 @@ shl-result : tie.Need-shl-result
 shl-result c = search needs
 
 returns : tie.Need-returns
-returns c = let a = c .args in index-by (a .x) (a .b) (a .h) (a .h - a .x .base) (c .pre .2) refl
+returns c = let a = c .args in index-by (a .header) (a .height) (a .height - a .header .base) (c .pre .2) refl
 
 pub index-rule-spec : {M : Type 1} → statement M
 index-rule-spec = tie.close (tie.spec sub-d add-result shl-result returns)

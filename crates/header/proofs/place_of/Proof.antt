@@ -22,28 +22,28 @@ sub-u c = search needs
 add-l : tie.Need-add-l
 add-l c =
     let a = c .before .before .args in
-    let K = rules-kept (a .x) (a .b) (a .h) (c .before .before .pre .2) in
+    let K = rules-kept (a .header) (a .height) (c .before .before .pre .2) in
     omega (arith, K .within, c .before .log2 .ensures)
 
 div-i : tie.Need-div-i
 div-i c =
     let a = c .before .before .args in
-    let K = rules-kept (a .x) (a .b) (a .h) (c .before .before .pre .2) in
+    let K = rules-kept (a .header) (a .height) (c .before .before .pre .2) in
     omega (arith, K .two)
 
 node-number-requires : tie.Need-node-number-requires
 node-number-requires c κs =
     let a = c .before .before .args in
-    let K = rules-kept (a .x) (a .b) (a .h) (c .before .before .pre .2) in
+    let K = rules-kept (a .header) (a .height) (c .before .before .pre .2) in
     let e = c .before .log2 .ensures in
-    (omega (arith, K .within, e), omega arith, rw e (top-inside (a .x) (a .b) (a .h) K))
+    (omega (arith, K .within, e), omega arith, rw e (top-inside (a .header) (a .height) K))
 
 returns : tie.Need-returns
 returns c =
     let a = c .before .before .before .args in
-    let K = rules-kept (a .x) (a .b) (a .h) (c .before .before .before .pre .2) in
+    let K = rules-kept (a .header) (a .height) (c .before .before .before .pre .2) in
     let k = c .before .before .log2 in
-    place-by (a .x) (a .h) (k .result) (c .before .if1 .u) (c .node-number .result) (K .two) (k .ensures)
+    place-by (a .header) (a .height) (k .result) (c .before .if1 .u) (c .node-number .result) (K .two) (k .ensures)
     (λ g. ⊎-elim (λ w. w .1) (λ w. absurd (omega arith)) (c .before .if1 .came), λ g. ⊎-elim (λ w. absurd (omega arith)) (λ w. w .1) (c .before .if1 .came))
     (c .node-number .ensures)
 

@@ -51,7 +51,7 @@ run-node-raise-requires : (t : ℕ) → run-node-lts.Need-raise-requires (run-no
 run-node-raise-requires t c κs = search needs
 
 run-node-returns : (t : ℕ) → run-node-lts.Need-returns (run-node-claims t) (run-node-at t) run-node.Post
-run-node-returns t c = node-past (c .before .before .before .before .before .args .run .now) (c .before .before .before .before .before .args .past) _ (c .before .before .before .before .before .args .k) (c .before .before .before .before .before .args .j) (c .before .before .covering .result) (c .before .before .covering .ensures) (c .before .if1 .taken) (c .raise .ensures)
+run-node-returns t c = node-past (c .before .before .before .before .before .args .run .now) (c .before .before .before .before .before .args .pad) _ (c .before .before .before .before .before .args .k) (c .before .before .before .before .before .args .j) (c .before .before .covering .result) (c .before .before .covering .ensures) (c .before .if1 .taken) (c .raise .ensures)
 
 run-node-shl-m : (t : ℕ) → run-node-lts.Need-shl-m (run-node-claims t) (run-node-at t) run-node.Post
 run-node-shl-m t c = let a = c .before .before .before .before .before .args in

@@ -25,8 +25,8 @@ slice-aggregate-run-node : tie.Need-slice-aggregate-run-node
 slice-aggregate-run-node c = sym (length-replicate {A = ℕ} 4096 0)
 
 run-node-requires : tie.Need-run-node-requires
-run-node-requires c κs = let n : c .before .before .before .before .before .before .args .n < 2 ^ 64 = omega arith in
-    (length-replicate {A = ℕ} 4096 0, leaves-few (c .before .before .before .before .before .before .args .n) (c .before .before .before .piece-layer .result) _ (c .before .height .result) n (c .before .before .block-count .ensures) (c .before .height .ensures))
+run-node-requires c κs = let n : c .before .before .before .before .before .before .args .size < 2 ^ 64 = omega arith in
+    (length-replicate {A = ℕ} 4096 0, leaves-few (c .before .before .before .before .before .before .args .size) (c .before .before .before .piece-layer .result) _ (c .before .height .result) n (c .before .before .block-count .ensures) (c .before .height .ensures))
 
 hash-at-requires : tie.Need-hash-at-requires
 hash-at-requires c κs = search needs
@@ -38,7 +38,7 @@ returns : tie.Need-returns
 returns c = let a = c .before .before .before .before .before .before .before .before .before .before .args in
     let p = c .before .before .before .before .before .before .before .before .before .before .pre in
     let q = c .before .before .before .before .before .before .before .piece-layer in
-    let w = c .before .before .before .run-node .ensures (layerLeaf (a .layer .now) (q .result)) (over-layer (a .layer .now) (a .past) (q .result) (p .3 ∙ ap padValue (sym (q .ensures)))) in
+    let w = c .before .before .before .run-node .ensures (layerLeaf (a .layer .now) (q .result)) (over-layer (a .layer .now) (a .pad) (q .result) (p .3 ∙ ap padValue (sym (q .ensures)))) in
     root-worked _ _ _ _ _ _ _ _ _ _ (q .ensures) (c .before .before .before .before .before .before .block-count .ensures) (c .before .before .before .before .before .height .ensures) w (p .2) (c .before .hash-at .ensures) (c .same .ensures)
 
 pub gives-root-spec : {M : Type 1} → statement M

@@ -48,14 +48,14 @@ loop-again c = let a = c .before .before .before .before .before .before .before
     let h = c .before .before .before .before .leaf-in in (
       omega arith,
       c .before .before .put-hash .kept .0 ∙ l .inv .1,
-      λ leaf o. loaded-more leaf (l .heap) _ (h .result) (a .m) (a .from) (l .y) (l .inv .1) (omega arith) (h .ensures .0) (h .ensures .1 leaf o) (c .before .before .put-hash .ensures) (l .inv .2 leaf o),
+      λ leaf o. loaded-more leaf (l .heap) _ (h .result) (a .leaves) (a .from) (l .y) (l .inv .1) (omega arith) (h .ensures .0) (h .ensures .1 leaf o) (c .before .before .put-hash .ensures) (l .inv .2 leaf o),
     )
 
 same-length : tie.Need-same-length Inv-loop μ-loop
 same-length c = c .before .loop .inv .1 ∙ sym (c .before .before .before .before .pre .0)
 
 returns : tie.Need-returns Inv-loop μ-loop
-returns c = let e : c .before .loop .y ≡ c .before .before .before .before .args .m = omega arith in
+returns c = let e : c .before .loop .y ≡ c .before .before .before .before .args .leaves = omega arith in
     (c .before .loop .inv .1, λ leaf o y h. c .before .loop .inv .2 leaf o y (omega arith))
 
 pub load-spec : {M : Type 1} → statement M

@@ -19,7 +19,7 @@ same-length c = search needs
 returns : tie.Need-returns
 returns c = λ leaf k o e.
     let w = c .before .before .before .before .work .ensures leaf o in
-    c .hash-at .ensures ∙ heap-top leaf k (c .before .before .before .before .before .before .before .before .args .j) _ (rw e at w)
+    c .hash-at .ensures ∙ heap-top leaf k (c .before .before .before .before .before .before .before .before .args .index) _ (rw e at w)
 
 pub top-spec : {M : Type 1} → statement M
 top-spec = tie.close (tie.spec work-requires hash-at-requires same-length returns)

@@ -19,7 +19,7 @@ same-length : tie.Need-same-length
 same-length c = search needs
 
 returns : tie.Need-returns
-returns c = λ leaf o. worked leaf (c .before .before .before .before .before .before .before .before .before .before .args .m) (c .before .before .before .before .before .before .before .before .before .before .args .j) _ _ (c .before .before .fill-heap .ensures) (c .before .before .before .before .before .before .load .ensures .1 leaf o)
+returns c = λ leaf o. worked leaf (c .before .before .before .before .before .before .before .before .before .before .args .leaves) (c .before .before .before .before .before .before .before .before .before .before .args .index) _ _ (c .before .before .fill-heap .ensures) (c .before .before .before .before .before .before .load .ensures .1 leaf o)
 
 pub work-spec : {M : Type 1} → statement M
 work-spec = tie.close (tie.spec mul-from load-requires fill-heap-requires same-length returns)

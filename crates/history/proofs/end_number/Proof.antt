@@ -11,16 +11,16 @@ is-possible-requires : tie.Need-is-possible-requires
 is-possible-requires c κs = search needs
 
 layer-size-requires : tie.Need-layer-size-requires
-layer-size-requires c κs = possible-says (c .before .before .args .h) (sym (c .before .is-possible .ensures) ∙ c .if1 .taken) .short
+layer-size-requires c κs = possible-says (c .before .before .args .history) (sym (c .before .is-possible .ensures) ∙ c .if1 .taken) .short
 
 returns : tie.Need-returns
-returns c = end-room (c .before .before .before .before .args .h) (c .before .before .before .before .args .m) (sym (c .before .before .before .is-possible .ensures) ∙ c .before .before .if1 .taken) (omega (arith, c .before .layer-size .ensures, c .if2 .taken))
+returns c = end-room (c .before .before .before .before .args .history) (c .before .before .before .before .args .m) (sym (c .before .before .before .is-possible .ensures) ∙ c .before .before .if1 .taken) (omega (arith, c .before .layer-size .ensures, c .if2 .taken))
 
 returns-2 : tie.Need-returns-2
-returns-2 c = end-done (c .before .before .before .before .args .h) (c .before .before .before .before .args .m) (sym (c .before .before .before .is-possible .ensures) ∙ c .before .before .if1 .taken) (omega (arith, c .before .layer-size .ensures, c .if2 .left))
+returns-2 c = end-done (c .before .before .before .before .args .history) (c .before .before .before .before .args .m) (sym (c .before .before .before .is-possible .ensures) ∙ c .before .before .if1 .taken) (omega (arith, c .before .layer-size .ensures, c .if2 .left))
 
 returns-3 : tie.Need-returns-3
-returns-3 c = end-impossible (c .before .before .args .h) (c .before .before .args .m) (sym (c .before .is-possible .ensures) ∙ c .if1 .left)
+returns-3 c = end-impossible (c .before .before .args .history) (c .before .before .args .m) (sym (c .before .is-possible .ensures) ∙ c .if1 .left)
 
 pub end-number-spec : {M : Type 1} → statement M
 end-number-spec =

@@ -29,7 +29,7 @@ begin-requires c κs = search needs
 
 returns : tie.Need-returns
 returns c = let b = c .before .before .before .before .before .before .before .before .before .before in (
-  grow-whole (b .args .h) (b .args .part .now) (c .before .before .before .before .before .before .absorb .result) (c .begin .result) (c .before .before .before .before .hash-of .result) (c .before .before .finish .last .0) (b .pre .0) (b .pre .1) (c .before .before .before .before .before .if1 .taken) (c .before .before .before .before .before .before .absorb .ensures .0) (c .before .before .before .before .hash-of .ensures) (c .before .before .finish .ensures) (c .begin .ensures),
+  grow-whole (b .args .history) (b .args .part .now) (c .before .before .before .before .before .before .absorb .result) (c .begin .result) (c .before .before .before .before .hash-of .result) (c .before .before .finish .last .0) (b .pre .0) (b .pre .1) (c .before .before .before .before .before .if1 .taken) (c .before .before .before .before .before .before .absorb .ensures .0) (c .before .before .before .before .hash-of .ensures) (c .before .before .finish .ensures) (c .begin .ensures),
   refl,
   refl,
   ap (λ (s : Hashing). s .total) (c .begin .ensures) ∙ state-total [] ∙ sym (c .before .before .before .before .before .if1 .taken),
@@ -38,10 +38,10 @@ returns c = let b = c .before .before .before .before .before .before .before .b
 
 returns-2 : tie.Need-returns-2
 returns-2 c = let b = c .before .before .before .before .before in (
-  grow-within (b .args .h) (b .args .part .now) (c .before .absorb .result) (b .pre .0) (b .pre .1) (c .if1 .left) (c .before .absorb .ensures .0),
+  grow-within (b .args .history) (b .args .part .now) (c .before .absorb .result) (b .pre .0) (b .pre .1) (c .if1 .left) (c .before .absorb .ensures .0),
   refl,
   refl,
-  ap (λ (s : Hashing). s .total) (c .before .absorb .ensures .0) ∙ absorbed-total (b .args .h .block) (b .args .part .now) ∙ omega (arith, b .pre .1, b .pre .3, c .if1 .left),
+  ap (λ (s : Hashing). s .total) (c .before .absorb .ensures .0) ∙ absorbed-total (b .args .history .block) (b .args .part .now) ∙ omega (arith, b .pre .1, b .pre .3, c .if1 .left),
   c .before .absorb .ensures .1,
 )
 

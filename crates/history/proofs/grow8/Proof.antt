@@ -21,7 +21,7 @@ loop-holds : tie.Need-loop-holds Inv-loop μ-loop
 loop-holds c = (omega arith, eights-none _ _ _ (c .before .before .before .pre .2))
 
 note-requires : tie.Need-note-requires Inv-loop μ-loop
-note-requires c κs = let l = c .before .before .loop in eights-due (c .before .before .before .before .before .before .args .h) (l .t) (c .before .before .before .before .before .before .args .part .now) (c .before .before .before .before .before .before .args .layer .now) (l .layer) (l .x) (l .inv .1) (omega arith) (c .before .before .before .before .before .before .pre .0) (c .before .before .before .before .before .before .pre .3)
+note-requires c κs = let l = c .before .before .loop in eights-due (c .before .before .before .before .before .before .args .history) (l .t) (c .before .before .before .before .before .before .args .part .now) (c .before .before .before .before .before .before .args .layer .now) (l .layer) (l .x) (l .inv .1) (omega arith) (c .before .before .before .before .before .before .pre .0) (c .before .before .before .before .before .before .pre .3)
 
 slice-aggregate-hash-at : tie.Need-slice-aggregate-hash-at Inv-loop μ-loop
 slice-aggregate-hash-at c = search needs
@@ -47,7 +47,7 @@ loop-again c = let a = c .before .before .before .before .before .before .before
     let l = c .before .before .before .before .before .before .before .before .loop in
     let e = c .before .before .before .before .before .note in (
       omega arith,
-      eights-more (a .h) (l .t) (c .grow-block .result) (a .part .now) (a .layer .now) (l .layer) _ (c .before .hash-at .result) (l .x) (l .inv .1) (omega arith) (p .0) (p .3 .pieces)
+      eights-more (a .history) (l .t) (c .grow-block .result) (a .part .now) (a .layer .now) (l .layer) _ (c .before .hash-at .result) (l .x) (l .inv .1) (omega arith) (p .0) (p .3 .pieces)
           (c .before .hash-at .ensures ∙ c .before .before .before .before .before .before .before .before .before .hash8 .ensures .hashes (l .x) (omega arith)) (e .ensures) (e .kept .1 .0) (c .grow-block .ensures),
     )
 

@@ -9,7 +9,7 @@ use Rattle.history.proofs.last_node.Statement.{statement}
 use Rattle.history.proofs.last_node.Tie as tie
 
 -- the nodes are an array of 32 bytes each
-nodes-size : (c : tie.Start) → length (c .args .h .nodes) ≡ 32 * nodeCount
+nodes-size : (c : tie.Start) → length (c .args .history .nodes) ≡ 32 * nodeCount
 nodes-size c = search needs
 
 shl-size : tie.Need-shl-size
@@ -29,7 +29,7 @@ hash-at-requires c κs = omega (arith, nodes-size (c .before .before .before), c
 
 returns : tie.Need-returns
 unfolding nodeAt
-returns c = last-whole (c .before .before .before .before .args .h) (c .hash-at .result) (c .before .before .before .before .args .k) ((16384 * 2 ^ c .before .before .before .before .args .k) % 2 ^ 64) (shifted-block (c .before .before .before .before .args .k) (c .before .before .before .before .pre .1)) (c .before .before .if1 .taken) (c .hash-at .ensures)
+returns c = last-whole (c .before .before .before .before .args .history) (c .hash-at .result) (c .before .before .before .before .args .k) ((16384 * 2 ^ c .before .before .before .before .args .k) % 2 ^ 64) (shifted-block (c .before .before .before .before .args .k) (c .before .before .before .before .pre .1)) (c .before .before .if1 .taken) (c .hash-at .ensures)
 
 open-leaf-requires : tie.Need-open-leaf-requires
 open-leaf-requires c κs = search needs
@@ -41,7 +41,7 @@ open-above-requires : tie.Need-open-above-requires
 open-above-requires c κs = omega (arith, nodes-size (c .before .before .before .before), c .before .before .before .before .pre .1)
 
 returns-2 : tie.Need-returns-2
-returns-2 c = last-open (c .before .before .before .before .before .args .h) (c .open-above .result) (c .before .before .open-leaf .result) (c .before .before .before .before .before .args .k) ((16384 * 2 ^ c .before .before .before .before .before .args .k) % 2 ^ 64) (shifted-block (c .before .before .before .before .before .args .k) (c .before .before .before .before .before .pre .1)) (c .before .before .before .if1 .left) (c .before .before .open-leaf .ensures) (c .open-above .ensures)
+returns-2 c = last-open (c .before .before .before .before .before .args .history) (c .open-above .result) (c .before .before .open-leaf .result) (c .before .before .before .before .before .args .k) ((16384 * 2 ^ c .before .before .before .before .before .args .k) % 2 ^ 64) (shifted-block (c .before .before .before .before .before .args .k) (c .before .before .before .before .before .pre .1)) (c .before .before .before .if1 .left) (c .before .before .open-leaf .ensures) (c .open-above .ensures)
 
 pub last-node-spec : {M : Type 1} → statement M
 last-node-spec =

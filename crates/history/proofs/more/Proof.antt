@@ -10,7 +10,7 @@ more-number-requires : tie.Need-more-number-requires
 more-number-requires c κs = search needs
 
 run-requires : tie.Need-run-requires
-run-requires c κs = number-says (c .before .before .before .before .before .args .h) (length (c .before .before .before .before .before .args .burst .now)) (length (c .before .before .before .before .before .args .layer .now)) (sym (c .before .before .more-number .ensures) ∙ c .before .if1 .taken)
+run-requires c κs = number-says (c .before .before .before .before .before .args .before) (length (c .before .before .before .before .before .args .burst .now)) (length (c .before .before .before .before .before .args .layer .now)) (sym (c .before .before .more-number .ensures) ∙ c .before .if1 .taken)
 
 same-length : tie.Need-same-length
 same-length c = search needs
@@ -18,11 +18,11 @@ same-length c = search needs
 returns : tie.Need-returns
 returns c = let a = c .before .before .before .before .before .before .before .before .args in
     let z = sym (c .before .before .before .before .if1 .taken) ∙ c .before .before .before .before .before .more-number .ensures in
-    (more-taken (a .h) (c .before .before .run .result) (a .burst .now) (a .layer .now) z (c .before .before .run .ensures .0), layer-taken (a .h) (a .burst .now) (a .layer .now) (c .before .before .run .last .1 .1 .0) z (c .before .before .run .ensures .1))
+    (more-taken (a .before) (c .before .before .run .result) (a .burst .now) (a .layer .now) z (c .before .before .run .ensures .0), layer-taken (a .before) (a .burst .now) (a .layer .now) (c .before .before .run .last .1 .1 .0) z (c .before .before .run .ensures .1))
 
 returns-2 : tie.Need-returns-2
 returns-2 c = let a = c .before .before .before .before .args in
-    (more-refused (a .h) (a .burst .now) (a .layer .now) (c .before .more-number .result) (c .before .more-number .ensures) (c .if1 .left), layer-refused (a .h) (a .burst .now) (a .layer .now) (c .before .more-number .result) (c .before .more-number .ensures) (c .if1 .left))
+    (more-refused (a .before) (a .burst .now) (a .layer .now) (c .before .more-number .result) (c .before .more-number .ensures) (c .if1 .left), layer-refused (a .before) (a .burst .now) (a .layer .now) (c .before .more-number .result) (c .before .more-number .ensures) (c .if1 .left))
 
 pub more-spec : {M : Type 1} → statement M
 more-spec = tie.close (tie.spec more-number-requires run-requires same-length returns returns-2)

@@ -11,17 +11,17 @@ use Rattle.history.proofs.note.Statement.{statement}
 use Rattle.history.proofs.note.Tie as tie
 
 -- the nodes are an array of 32 bytes each
-nodes-size : (c : tie.Start) → length (c .args .h .nodes) ≡ 32 * nodeCount
+nodes-size : (c : tie.Start) → length (c .args .history .nodes) ≡ 32 * nodeCount
 nodes-size c = search needs
 
 returns : tie.Need-returns
-returns c = sym (noted-none (c .before .before .args .h) (c .before .before .args .layer .now) (c .if1 .taken))
+returns c = sym (noted-none (c .before .before .args .history) (c .before .before .args .layer .now) (c .if1 .taken))
 
 rem-if2 : tie.Need-rem-if2
-rem-if2 c = piece-some (c .before .before .args .h .«piece_length») (c .before .before .pre .0)
+rem-if2 c = piece-some (c .before .before .args .history .«piece_length») (c .before .before .pre .0)
 
 returns-2 : tie.Need-returns-2
-returns-2 c = sym (noted-not (c .before .before .before .args .h) (c .before .before .before .args .layer .now) (c .if2 .taken))
+returns-2 c = sym (noted-not (c .before .before .before .args .history) (c .before .before .before .args .layer .now) (c .if2 .taken))
 
 piece-layer-requires : tie.Need-piece-layer-requires
 piece-layer-requires c κs = search needs
@@ -30,30 +30,30 @@ slice-aggregate-hash-at : tie.Need-slice-aggregate-hash-at
 slice-aggregate-hash-at c = search needs
 
 mul-hash-at : tie.Need-mul-hash-at
-mul-hash-at c = omega (arith, c .before .piece-layer .ensures, piece-layer-below (c .before .before .before .before .before .before .args .h .«piece_length») (c .before .before .before .before .before .before .pre .0))
+mul-hash-at c = omega (arith, c .before .piece-layer .ensures, piece-layer-below (c .before .before .before .before .before .before .args .history .«piece_length») (c .before .before .before .before .before .before .pre .0))
 
 hash-at-requires : tie.Need-hash-at-requires
-hash-at-requires c κs = omega (arith, nodes-size (c .before .before .before .before .before .before), c .before .piece-layer .ensures, piece-layer-below (c .before .before .before .before .before .before .args .h .«piece_length») (c .before .before .before .before .before .before .pre .0))
+hash-at-requires c κs = omega (arith, nodes-size (c .before .before .before .before .before .before), c .before .piece-layer .ensures, piece-layer-below (c .before .before .before .before .before .before .args .history .«piece_length») (c .before .before .before .before .before .before .pre .0))
 
 div-i : tie.Need-div-i
-div-i c = piece-some (c .before .before .before .before .before .before .before .args .h .«piece_length») (c .before .before .before .before .before .before .before .pre .0)
+div-i c = piece-some (c .before .before .before .before .before .before .before .args .history .«piece_length») (c .before .before .before .before .before .before .before .pre .0)
 
 sub-i : tie.Need-sub-i
-sub-i c = quotient-some (c .before .before .before .before .before .before .before .args .h .length) (c .before .before .before .before .before .before .before .args .h .«piece_length») (c .before .before .before .before .before .if1 .left) (c .before .before .before .before .if2 .left)
+sub-i c = quotient-some (c .before .before .before .before .before .before .before .args .history .length) (c .before .before .before .before .before .before .before .args .history .«piece_length») (c .before .before .before .before .before .if1 .left) (c .before .before .before .before .if2 .left)
 
 mul-put-hash : tie.Need-mul-put-hash
 mul-put-hash c = let w = c .before .before .before .before .before .before .before .before .pre .1 (omega (arith, c .before .before .before .before .before .before .if1 .left)) (c .before .before .before .before .before .if2 .left) in omega arith
 
 put-hash-requires : tie.Need-put-hash-requires
 put-hash-requires c κs = let w = c .before .before .before .before .before .before .before .before .pre .1 (omega (arith, c .before .before .before .before .before .before .if1 .left)) (c .before .before .before .before .before .if2 .left) in
-    let q = quotient-some (c .before .before .before .before .before .before .before .before .args .h .length) (c .before .before .before .before .before .before .before .before .args .h .«piece_length») (c .before .before .before .before .before .before .if1 .left) (c .before .before .before .before .before .if2 .left) in omega arith
+    let q = quotient-some (c .before .before .before .before .before .before .before .before .args .history .length) (c .before .before .before .before .before .before .before .before .args .history .«piece_length») (c .before .before .before .before .before .before .if1 .left) (c .before .before .before .before .before .if2 .left) in omega arith
 
 same-length : tie.Need-same-length
 same-length c = search needs
 
 returns-3 : tie.Need-returns-3
 unfolding nodeAt
-returns-3 c = let h = c .before .before .before .before .before .before .before .before .before .before .before .args .h in
+returns-3 c = let h = c .before .before .before .before .before .before .before .before .before .before .before .args .history in
     c .before .before .put-hash .ensures
     ∙ ap (pasted (c .before .before .before .before .before .before .before .before .before .before .before .args .layer .now) (32 * (h .length / h .«piece_length» - 1))) (c .before .before .before .before .hash-at .ensures ∙ ap (nodeAt (h .nodes)) (c .before .before .before .before .before .before .piece-layer .ensures))
     ∙ sym (noted-yes h (c .before .before .before .before .before .before .before .before .before .before .before .args .layer .now) (c .before .before .before .before .before .before .before .before .before .if1 .left) (c .before .before .before .before .before .before .before .before .if2 .left))

@@ -1,5 +1,6 @@
 use Rattle.octets.specs.Octets.{zeroHash}
-use Rattle.history.proofs.Steps.{above-none, zero-pad, above-more, half-more}
+use Rattle.history.specs.LastLaws.{zero-pad}
+use Rattle.history.proofs.Steps.{above-none, above-more, half-more}
 use Rattle.tree.proofs.Steps.{pad-next}
 use Rattle.tree.specs.Values.{padValue}
 use Rattle.history.specs.Growing.{nodeAt, openAbove}

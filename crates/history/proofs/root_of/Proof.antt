@@ -13,7 +13,7 @@ use Rattle.history.proofs.root_of.Tie as tie
 
 returns : tie.Need-returns
 unfolding zeroHash
-returns c = root-zero (c .before .args .h) (c .if1 .taken)
+returns c = root-zero (c .before .args .history) (c .if1 .taken)
 
 block-count-requires : tie.Need-block-count-requires
 block-count-requires c κs = search needs
@@ -22,10 +22,10 @@ height-requires : tie.Need-height-requires
 height-requires c κs = search needs
 
 last-node-requires : tie.Need-last-node-requires
-last-node-requires c κs = (c .before .before .before .pre .0, omega (arith, c .height .ensures ∙ ap height (c .before .block-count .ensures), tall-enough (c .before .before .before .args .h .length) (c .before .before .before .pre .1)))
+last-node-requires c κs = (c .before .before .before .pre .0, omega (arith, c .height .ensures ∙ ap height (c .before .block-count .ensures), tall-enough (c .before .before .before .args .history .length) (c .before .before .before .pre .1)))
 
 returns-2 : tie.Need-returns-2
-returns-2 c = root-some (c .before .before .before .before .args .h) (c .last-node .result) (c .before .before .block-count .result) (c .before .height .result) (c .before .before .before .if1 .left) (c .before .before .block-count .ensures) (c .before .height .ensures) (c .last-node .ensures)
+returns-2 c = root-some (c .before .before .before .before .args .history) (c .last-node .result) (c .before .before .block-count .result) (c .before .height .result) (c .before .before .before .if1 .left) (c .before .before .block-count .ensures) (c .before .height .ensures) (c .last-node .ensures)
 
 pub root-of-spec : {M : Type 1} → statement M
 root-of-spec =

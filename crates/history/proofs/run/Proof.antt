@@ -53,7 +53,7 @@ take-part-requires c κs = let b = c .before .before .before .before .before .be
       omega (arith, l, q),
       omega (arith, l, L .inv .2, b .pre .1),
       part-of (L .t) _ n _ s l (L .inv .3) (L .inv .4),
-      due-at (b .args .h) (L .t) (length (b .args .burst .now)) (length (b .args .layer .now)) _ _ (b .pre .0) (b .pre .2) (L .inv .1) (omega (arith, L .inv .2)) (omega (arith, L .inv .2, l)) (L .inv .5),
+      due-at (b .args .history) (L .t) (length (b .args .burst .now)) (length (b .args .layer .now)) _ _ (b .pre .0) (b .pre .2) (L .inv .1) (omega (arith, L .inv .2)) (omega (arith, L .inv .2, l)) (L .inv .5),
     )
 
 loop-less : tie.Need-loop-less Inv-loop μ-loop
@@ -76,8 +76,8 @@ loop-again c = let b = c .before .before .before .before .before .before .before
       g .inside,
       g .tail,
       c .before .before .take-part .kept .1 .1 .0 ∙ L .inv .5,
-      grown-turn (b .args .h) (L .t) (c .before .before .take-part .result) (b .args .burst .now) (L .at) e up (L .inv .6) (g .state),
-      noted-turn (b .args .h) (L .t) (c .before .before .take-part .result) (b .args .burst .now) (b .args .layer .now) (L .layer) (c .before .before .take-part .last .1 .1 .0) (L .at) e up (L .inv .7) (g .state) (g .noted),
+      grown-turn (b .args .history) (L .t) (c .before .before .take-part .result) (b .args .burst .now) (L .at) e up (L .inv .6) (g .state),
+      noted-turn (b .args .history) (L .t) (c .before .before .take-part .result) (b .args .burst .now) (b .args .layer .now) (L .layer) (c .before .before .take-part .last .1 .1 .0) (L .at) e up (L .inv .7) (g .state) (g .noted),
     )
 
 same-length : tie.Need-same-length Inv-loop μ-loop

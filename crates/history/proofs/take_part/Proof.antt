@@ -22,7 +22,7 @@ grow-requires : tie.Need-grow-requires
 grow-requires c κs = let p = c .before .before .before .pre in (p .0, p .2 .within (c .if1 .left), p .1, p .2 .inside, p .2 .tail)
 
 note-requires : tie.Need-note-requires
-note-requires c κs = let p = c .before .before .before .before .before .pre in let h = c .before .before .before .before .before .args .h in (p .3 .pieces, λ n e. p .3 .places (h .length) (omega arith) (omega (arith, p .0)) n e)
+note-requires c κs = let p = c .before .before .before .before .before .pre in let h = c .before .before .before .before .before .args .history in (p .3 .pieces, λ n e. p .3 .places (h .length) (omega arith) (omega (arith, p .0)) n e)
 
 same-length-2 : tie.Need-same-length-2
 same-length-2 c = search needs
@@ -33,7 +33,7 @@ returns-2 c = let a = c .before .before .before .before .before .before .before 
     let g = c .before .before .before .before .grow .ensures in
     record {
       state = g .0;
-      noted = c .before .before .note .ensures ∙ sym (note-law (a .h) (a .layer .now) (a .part .now) (p .3 .pieces) (p .0) (p .2 .within (c .before .before .before .before .before .if1 .left)));
+      noted = c .before .before .note .ensures ∙ sym (note-law (a .history) (a .layer .now) (a .part .now) (p .3 .pieces) (p .0) (p .2 .within (c .before .before .before .before .before .if1 .left)));
       kept = g .1;
       length-then = g .2;
       inside = g .3;

@@ -10,14 +10,14 @@ use Rattle.hybrid.proofs.is_list.Tie as tie
 
 returns : tie.Need-returns
 unfolding isList
-returns c = sym (rw (drop-of-length-le (c .before .args .v .now) {i = c .before .args .at} (c .if1 .taken)) refl)
+returns c = sym (rw (drop-of-length-le (c .before .args .bytes .now) {i = c .before .args .at} (c .if1 .taken)) refl)
 
 shared-slice-read-result : tie.Need-shared-slice-read-result
 shared-slice-read-result c = search needs
 
 returns-2 : tie.Need-returns-2
 unfolding isList
-returns-2 c = sym (rw (drop-step (c .before .before .args .v .now) (c .before .before .args .at) (omega arith)) refl)
+returns-2 c = sym (rw (drop-step (c .before .before .args .bytes .now) (c .before .before .args .at) (omega arith)) refl)
 
 pub is-list-spec : {M : Type 1} → statement M
 is-list-spec = tie.close (tie.spec returns shared-slice-read-result returns-2)

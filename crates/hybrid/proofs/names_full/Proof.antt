@@ -25,7 +25,7 @@ ends-here-requires c κs = search needs
 
 returns : tie.Need-returns Inv-loop μ-loop
 unfolding namesFull
-returns c = λ vs rest e. let u = c .before .before .before .loop .inv vs rest e in sym (u .2 ∙ ap namesFull (items-ended (c .before .before .before .before .before .args .v .now) (c .before .before .before .loop .i) (u .0) rest (u .1) (sym (c .before .ends-here .ensures) ∙ c .if1 .taken)))
+returns c = λ vs rest e. let u = c .before .before .before .loop .inv vs rest e in sym (u .2 ∙ ap namesFull (items-ended (c .before .before .before .before .before .args .bytes .now) (c .before .before .before .loop .i) (u .0) rest (u .1) (sym (c .before .ends-here .ensures) ∙ c .if1 .taken)))
 
 read-string-requires : tie.Need-read-string-requires Inv-loop μ-loop
 read-string-requires c κs = search needs
@@ -55,7 +55,7 @@ loop-again c = λ vs rest e.
     (w .0, w .1, u .2 ∙ w .3 (c .if2 .left))
 
 returns-4 : tie.Need-returns-4 Inv-loop μ-loop
-returns-4 c = λ vs rest e. let u = c .before .loop .inv vs rest e in absurd (items-inside (c .before .before .before .args .v .now) (c .before .loop .i) (u .0) rest (u .1) (omega arith))
+returns-4 c = λ vs rest e. let u = c .before .loop .inv vs rest e in absurd (items-inside (c .before .before .before .args .bytes .now) (c .before .loop .i) (u .0) rest (u .1) (omega arith))
 
 pub names-full-spec : {M : Type 1} → statement M
 names-full-spec =

@@ -16,7 +16,7 @@ enum-known-n : tie.Need-enum-known-n
 enum-known-n c = search needs
 
 returns : tie.Need-returns
-returns c = λ vs e fs k q l. several-count (c .before .before .before .before .before .before .before .args .v .now) _ vs _ _ _ (sym (c .before .before .n .given .1) ∙ c .before .before .before .before .tally .ensures vs e) (λ z. c .if1 .taken (z ∙ read-count _ fs ∙ sym l))
+returns c = λ vs e fs k q l. several-count (c .before .before .before .before .before .before .before .args .list .now) _ vs _ _ _ (sym (c .before .before .n .given .1) ∙ c .before .before .before .before .tally .ensures vs e) (λ z. c .if1 .taken (z ∙ read-count _ fs ∙ sym l))
 
 slice-aggregate-compare-directory : tie.Need-slice-aggregate-compare-directory
 slice-aggregate-compare-directory c = search needs
@@ -31,18 +31,18 @@ enum-told-3 : tie.Need-enum-told-3
 enum-told-3 c = search needs
 
 returns-2 : tie.Need-returns-2
-returns-2 c = λ vs e fs k q l. several-amiss (c .before .before .before .before .before .args .v .now) _ vs _ (sym (c .enum-told .given .1) ∙ c .before .before .tally .ensures vs e)
+returns-2 c = λ vs e fs k q l. several-amiss (c .before .before .before .before .before .args .list .now) _ vs _ (sym (c .enum-told .given .1) ∙ c .before .before .tally .ensures vs e)
 
 returns-3 : tie.Need-returns-3
 returns-3 c = λ vs e fs k q l.
-    let a = list-ahead (c .before .before .before .before .before .before .before .before .before .before .before .before .args .v .now) (c .before .before .before .before .before .before .before .before .before .before .before .before .args .plen) vs [] _ _ (sym (c .before .before .before .before .before .before .before .n .given .1) ∙ c .before .before .before .before .before .before .before .before .before .tally .ensures vs e) e in
-    several-differ (c .before .before .before .before .before .before .before .before .before .before .before .before .args .v .now) _ vs _ _ _ (sym (c .before .before .before .before .before .before .before .n .given .1) ∙ c .before .before .before .before .before .before .before .before .before .tally .ensures vs e) (walk-differs _ _ _ _ fs k q vs a (rw (c .enum-told2 .given .1) at (c .before .before .before .compare-directory .ensures)))
+    let a = list-ahead (c .before .before .before .before .before .before .before .before .before .before .before .before .args .list .now) (c .before .before .before .before .before .before .before .before .before .before .before .before .args .plen) vs [] _ _ (sym (c .before .before .before .before .before .before .before .n .given .1) ∙ c .before .before .before .before .before .before .before .before .before .tally .ensures vs e) e in
+    several-differ (c .before .before .before .before .before .before .before .before .before .before .before .before .args .list .now) _ vs _ _ _ (sym (c .before .before .before .before .before .before .before .n .given .1) ∙ c .before .before .before .before .before .before .before .before .before .tally .ensures vs e) (walk-differs _ _ _ _ fs k q vs a (rw (c .enum-told2 .given .1) at (c .before .before .before .compare-directory .ensures)))
 
 returns-4 : tie.Need-returns-4
 returns-4 c = λ vs e fs k q l.
-    let a = list-ahead (c .before .before .before .before .before .before .before .before .before .before .before .before .args .v .now) (c .before .before .before .before .before .before .before .before .before .before .before .before .args .plen) vs [] _ _ (sym (c .before .before .before .before .before .before .before .n .given .1) ∙ c .before .before .before .before .before .before .before .before .before .tally .ensures vs e) e in
+    let a = list-ahead (c .before .before .before .before .before .before .before .before .before .before .before .before .args .list .now) (c .before .before .before .before .before .before .before .before .before .before .before .before .args .plen) vs [] _ _ (sym (c .before .before .before .before .before .before .before .n .given .1) ∙ c .before .before .before .before .before .before .before .before .before .tally .ensures vs e) e in
     let m = walk-same _ _ _ _ fs k q vs a _ _ (rw (c .enum-told3 .given .1) at (c .before .before .before .compare-directory .ensures)) in
-    several-same (c .before .before .before .before .before .before .before .before .before .before .before .before .args .v .now) _ vs _ _ _ (sym (c .before .before .before .before .before .before .before .n .given .1) ∙ c .before .before .before .before .before .before .before .before .before .tally .ensures vs e) (c .before .before .before .before .before .if1 .left ∙ l ∙ sym (read-count _ fs)) (m .0) (m .1)
+    several-same (c .before .before .before .before .before .before .before .before .before .before .before .before .args .list .now) _ vs _ _ _ (sym (c .before .before .before .before .before .before .before .n .given .1) ∙ c .before .before .before .before .before .before .before .before .before .tally .ensures vs e) (c .before .before .before .before .before .if1 .left ∙ l ∙ sym (read-count _ fs)) (m .0) (m .1)
 
 pub several-spec : {M : Type 1} → statement M
 several-spec =

@@ -47,7 +47,7 @@ loop-again c =
     (omega arith, all-marked-more _ _ _ (loop .loop .inv .1) (marked-one _ _ _ _ (loop .before .pre .1) (c .if1 .left)))
 
 returns-2 : tie.Need-returns-2 Inv-loop μ-loop
-returns-2 c = sym (ap (allMarked _ _) (let e : c .before .before .args .n ≡ c .before .loop .i = omega arith in e) ∙ c .before .loop .inv .1)
+returns-2 c = sym (ap (allMarked _ _) (let e : c .before .before .args .count ≡ c .before .loop .i = omega arith in e) ∙ c .before .loop .inv .1)
 
 pub all-marked-spec : {M : Type 1} → statement M
 all-marked-spec =

@@ -28,7 +28,7 @@ mul-x : tie.Need-mul-x Inv-loop μ-loop
 mul-x c = omega (arith, bits-low _ _ _ _ (c .before .before .loop .inv .1) (c .before .loop-test .taken))
 
 add-x : tie.Need-add-x Inv-loop μ-loop
-add-x c = omega (arith, bits-low _ _ _ _ (c .before .before .loop .inv .1) (c .before .loop-test .taken), c .piece-bit .ensures, one-small (pieceMarked (c .before .before .before .before .args .s .now) (c .before .before .before .before .args .piece + c .before .before .loop .i)))
+add-x c = omega (arith, bits-low _ _ _ _ (c .before .before .loop .inv .1) (c .before .loop-test .taken), c .piece-bit .ensures, one-small (pieceMarked (c .before .before .before .before .args .store .now) (c .before .before .before .before .args .piece + c .before .before .loop .i)))
 
 add-i : tie.Need-add-i Inv-loop μ-loop
 add-i c = search needs

@@ -17,19 +17,19 @@ abbrev μ-loop : tie.MeasureT-loop
 μ-loop s₀ at n x i₀ s i = n - i
 
 -- at the loop's head the slice has the length that it came with
-len : (c : tie.At-loop Inv-loop μ-loop) → length (c .loop .s) ≡ length (c .before .args .s .now)
+len : (c : tie.At-loop Inv-loop μ-loop) → length (c .loop .store) ≡ length (c .before .args .store .now)
 len c =
     ap length (c .loop .inv .1)
-    ∙ length-paste (c .before .args .s .now) (c .before .args .at) (replicate (c .before .args .n) (c .before .args .x)) (c .loop .i) (omega (arith, c .before .pre)) (omega (arith, length-replicate {A = ℕ} (c .before .args .n) (c .before .args .x)))
+    ∙ length-paste (c .before .args .store .now) (c .before .args .at) (replicate (c .before .args .count) (c .before .args .mark)) (c .loop .i) (omega (arith, c .before .pre)) (omega (arith, length-replicate {A = ℕ} (c .before .args .count) (c .before .args .mark)))
 
 loop-holds : tie.Need-loop-holds Inv-loop μ-loop
-loop-holds c = (omega arith, paste-zero (c .args .s .now) (c .args .at) (replicate (c .args .n) (c .args .x)))
+loop-holds c = (omega arith, paste-zero (c .args .store .now) (c .args .at) (replicate (c .args .count) (c .args .mark)))
 
-add-s : tie.Need-add-s Inv-loop μ-loop
-add-s c = search needs
+add-store : tie.Need-add-store Inv-loop μ-loop
+add-store c = search needs
 
-slice-write-s : tie.Need-slice-write-s Inv-loop μ-loop
-slice-write-s c = omega (arith, len (c .before))
+slice-write-store : tie.Need-slice-write-store Inv-loop μ-loop
+slice-write-store c = omega (arith, len (c .before))
 
 add-i : tie.Need-add-i Inv-loop μ-loop
 add-i c = search needs
@@ -38,13 +38,13 @@ loop-less : tie.Need-loop-less Inv-loop μ-loop
 loop-less c = search needs
 
 loop-again : tie.Need-loop-again Inv-loop μ-loop
-loop-again c = (omega arith, row-turn _ _ _ _ _ _ (c .before .loop .inv .1) (omega (arith, c .before .before .pre)) (omega (arith, length-replicate {A = ℕ} (c .before .before .args .n) (c .before .before .args .x))) (sym (getD-replicate {A = ℕ} (c .before .before .args .n) (c .before .loop .i) (c .before .before .args .x) 0 (omega arith))))
+loop-again c = (omega arith, row-turn _ _ _ _ _ _ (c .before .loop .inv .1) (omega (arith, c .before .before .pre)) (omega (arith, length-replicate {A = ℕ} (c .before .before .args .count) (c .before .before .args .mark))) (sym (getD-replicate {A = ℕ} (c .before .before .args .count) (c .before .loop .i) (c .before .before .args .mark) 0 (omega arith))))
 
 same-length : tie.Need-same-length Inv-loop μ-loop
 same-length c = len (c .before)
 
 returns : tie.Need-returns Inv-loop μ-loop
-returns c = whole _ _ _ _ (c .before .loop .i) (c .before .before .args .n) (c .before .loop .inv .1) (length-replicate {A = ℕ} (c .before .before .args .n) (c .before .before .args .x)) (omega arith)
+returns c = whole _ _ _ _ (c .before .loop .i) (c .before .before .args .count) (c .before .loop .inv .1) (length-replicate {A = ℕ} (c .before .before .args .count) (c .before .before .args .mark)) (omega arith)
 
 pub fill-spec : {M : Type 1} → statement M
 fill-spec =
@@ -53,8 +53,8 @@ fill-spec =
     Inv-loop
     μ-loop
     loop-holds
-    add-s
-    slice-write-s
+    add-store
+    slice-write-store
     add-i
     loop-less
     loop-again

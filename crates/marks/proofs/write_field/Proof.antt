@@ -22,10 +22,10 @@ len : (c : tie.At-loop Inv-loop μ-loop) → length (c .loop .out) ≡ length (c
 len c =
     let a = c .before .before .before .args in
     ap length (c .loop .inv .1)
-    ∙ length-paste (a .out .now) 0 (fieldBytes (a .s .now) (a .n)) (c .loop .i) (omega (arith, c .before .before .before .pre .1)) (omega (arith, field-length (a .s .now) (a .n)))
+    ∙ length-paste (a .out .now) 0 (fieldBytes (a .store .now) (a .n)) (c .loop .i) (omega (arith, c .before .before .before .pre .1)) (omega (arith, field-length (a .store .now) (a .n)))
 
 loop-holds : tie.Need-loop-holds Inv-loop μ-loop
-loop-holds c = (omega arith, paste-zero (c .before .before .args .out .now) 0 (fieldBytes (c .before .before .args .s .now) (c .before .before .args .n)))
+loop-holds c = (omega arith, paste-zero (c .before .before .args .out .now) 0 (fieldBytes (c .before .before .args .store .now) (c .before .before .args .n)))
 
 mul-piece : tie.Need-mul-piece Inv-loop μ-loop
 mul-piece c = omega (arith, c .before .before .before .before .pre .2)

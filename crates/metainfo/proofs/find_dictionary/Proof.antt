@@ -22,7 +22,7 @@ returns : tie.Need-returns
 returns c = sym (dictionary-so _ _ _ _ (sym (c .before .before .before .before .before .find .ensures) ∙ c .before .before .before .start .given .1) (sym (c .before .is-dictionary .ensures) ∙ c .if1 .taken))
 
 returns-2 : tie.Need-returns-2
-returns-2 c = sym (ap (dictionaryIn (c .before .before .before .before .before .args .s .now)) (sym (c .before .before .find .ensures) ∙ c .enum-told .given .1))
+returns-2 c = sym (ap (dictionaryIn (c .before .before .before .before .before .args .torrent .now)) (sym (c .before .before .find .ensures) ∙ c .enum-told .given .1))
 
 returns-3 : tie.Need-returns-3
 returns-3 c = sym (dictionary-not _ _ _ _ (sym (c .before .before .before .before .before .find .ensures) ∙ c .before .before .before .start .given .1) (sym (c .before .is-dictionary .ensures) ∙ c .if1 .left))

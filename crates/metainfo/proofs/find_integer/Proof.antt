@@ -18,10 +18,10 @@ read-integer-requires : tie.Need-read-integer-requires
 read-integer-requires c κs = search needs
 
 returns : tie.Need-returns
-returns c = sym (ap (integerIn (c .before .before .before .before .before .args .s .now)) (sym (c .before .before .find .ensures) ∙ c .enum-told .given .1))
+returns c = sym (ap (integerIn (c .before .before .before .before .before .args .torrent .now)) (sym (c .before .before .find .ensures) ∙ c .enum-told .given .1))
 
 returns-2 : tie.Need-returns-2
-returns-2 c = c .read-integer .ensures ∙ sym (ap (integerIn (c .before .before .before .before .before .before .before .args .s .now)) (sym (c .before .before .before .before .find .ensures) ∙ c .before .before .start .given .1))
+returns-2 c = c .read-integer .ensures ∙ sym (ap (integerIn (c .before .before .before .before .before .before .before .args .torrent .now)) (sym (c .before .before .before .before .find .ensures) ∙ c .before .before .start .given .1))
 
 pub find-integer-spec : {M : Type 1} → statement M
 find-integer-spec =

@@ -20,12 +20,12 @@ abbrev μ-loop : tie.MeasureT-loop
 loop-holds : tie.Need-loop-holds Inv-loop μ-loop
 loop-holds c = search needs
 
-slice-write-s : tie.Need-slice-write-s Inv-loop μ-loop
+slice-write-bytes : tie.Need-slice-write-bytes Inv-loop μ-loop
 unfolding zeroed
-slice-write-s c =
+slice-write-bytes c =
     let a = c .before .before .args in
     let l = c .before .loop in
-    omega (arith, ap length (l .inv .1), zeroed-length (a .s .now) (l .i) (omega arith))
+    omega (arith, ap length (l .inv .1), zeroed-length (a .bytes .now) (l .i) (omega arith))
 
 add-i : tie.Need-add-i Inv-loop μ-loop
 add-i c = search needs
@@ -37,21 +37,21 @@ loop-again : tie.Need-loop-again Inv-loop μ-loop
 loop-again c =
     let a = c .before .before .args in
     let l = c .before .loop in
-    (omega arith, ap (λ (t : List ℕ). set t (l .i) 0) (l .inv .1) ∙ fill-more (l .i) 0 (a .s .now) (omega arith))
+    (omega arith, ap (λ (t : List ℕ). set t (l .i) 0) (l .inv .1) ∙ fill-more (l .i) 0 (a .bytes .now) (omega arith))
 
 same-length : tie.Need-same-length Inv-loop μ-loop
 unfolding zeroed
 same-length c =
     let a = c .before .before .args in
     let l = c .before .loop in
-    ap length (l .inv .1) ∙ zeroed-length (a .s .now) (l .i) (omega arith)
+    ap length (l .inv .1) ∙ zeroed-length (a .bytes .now) (l .i) (omega arith)
 
 returns : tie.Need-returns Inv-loop μ-loop
 unfolding zeroed
 returns c =
     let a = c .before .before .args in
     let l = c .before .loop in
-    let e : l .i ≡ a .n = omega arith in
+    let e : l .i ≡ a .count = omega arith in
     rw e at (l .inv .1)
 
 pub clear-spec : {M : Type 1} → statement M
@@ -61,7 +61,7 @@ clear-spec =
     Inv-loop
     μ-loop
     loop-holds
-    slice-write-s
+    slice-write-bytes
     add-i
     loop-less
     loop-again

@@ -30,14 +30,14 @@ mul-x : tie.Need-mul-x Inv-loop μ-loop
 mul-x c =
     let l = c .before .before .before .loop in
     let w = c .wide in
-    let k = c .before .before .before .before .before .args .k in
+    let k = c .before .before .before .before .before .args .size in
     record { fits = omega (arith, digit-fits (l .x) (w .result) (l .i) k (l .inv .2) (w .ensures .1) (omega arith) (omega arith)) }
 
 add-x : tie.Need-add-x Inv-loop μ-loop
 add-x c =
     let l = c .before .before .before .loop in
     let w = c .wide in
-    let k = c .before .before .before .before .before .args .k in
+    let k = c .before .before .before .before .before .args .size in
     record { fits = digit-fits (l .x) (w .result) (l .i) k (l .inv .2) (w .ensures .1) (omega arith) (omega arith) }
 
 add-i : tie.Need-add-i Inv-loop μ-loop
@@ -51,12 +51,12 @@ loop-again c =
     let l = c .before .before .before .loop in
     let w = c .wide in
     let a = c .before .before .before .before .before .args in
-    (omega arith, digit-more (a .s .now) (a .at) (l .i) (l .x) (w .result) (l .inv .1) (w .ensures .0), digit-below (l .x) (w .result) (l .i) (l .inv .2) (w .ensures .1))
+    (omega arith, digit-more (a .bytes .now) (a .at) (l .i) (l .x) (w .result) (l .inv .1) (w .ensures .0), digit-below (l .x) (w .result) (l .i) (l .inv .2) (w .ensures .1))
 
 returns : tie.Need-returns Inv-loop μ-loop
 returns c =
     let l = c .before .loop in
-    let e : l .i ≡ c .before .before .before .args .k = omega arith in
+    let e : l .i ≡ c .before .before .before .args .size = omega arith in
     (rw e at (l .inv .1), rw e at (l .inv .2))
 
 pub number-at-spec : {M : Type 1} → statement M

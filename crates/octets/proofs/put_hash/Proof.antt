@@ -15,21 +15,21 @@ abbrev μ-loop : tie.MeasureT-loop
 μ-loop s₀ at h i₀ s i = 32 - i
 
 -- at the loop's head the slice has the length that it came with
-len : (c : tie.At-loop Inv-loop μ-loop) → length (c .loop .s) ≡ length (c .before .args .s .now)
-len c = ap length (c .loop .inv .1) ∙ length-paste (c .before .args .s .now) (c .before .args .at) (c .before .args .t3) (c .loop .i) (omega (arith, c .before .pre)) (omega (arith, c .before .good .1 .1 .0 .1 .0 .1))
+len : (c : tie.At-loop Inv-loop μ-loop) → length (c .loop .bytes) ≡ length (c .before .args .bytes .now)
+len c = ap length (c .loop .inv .1) ∙ length-paste (c .before .args .bytes .now) (c .before .args .at) (c .before .args .t3) (c .loop .i) (omega (arith, c .before .pre)) (omega (arith, c .before .good .1 .1 .0 .1 .0 .1))
 
 loop-holds : tie.Need-loop-holds Inv-loop μ-loop
 loop-holds c =
-    (omega arith, paste-zero (c .args .s .now) (c .args .at) (c .args .t3))
+    (omega arith, paste-zero (c .args .bytes .now) (c .args .at) (c .args .t3))
 
-array-read-s : tie.Need-array-read-s Inv-loop μ-loop
-array-read-s c = search needs
+array-read-bytes : tie.Need-array-read-bytes Inv-loop μ-loop
+array-read-bytes c = search needs
 
-add-s : tie.Need-add-s Inv-loop μ-loop
-add-s c = search needs
+add-bytes : tie.Need-add-bytes Inv-loop μ-loop
+add-bytes c = search needs
 
-slice-write-s : tie.Need-slice-write-s Inv-loop μ-loop
-slice-write-s c = omega (arith, len (c .before))
+slice-write-bytes : tie.Need-slice-write-bytes Inv-loop μ-loop
+slice-write-bytes c = omega (arith, len (c .before))
 
 add-i : tie.Need-add-i Inv-loop μ-loop
 add-i c = search needs
@@ -53,9 +53,9 @@ put-hash-spec =
     Inv-loop
     μ-loop
     loop-holds
-    array-read-s
-    add-s
-    slice-write-s
+    array-read-bytes
+    add-bytes
+    slice-write-bytes
     add-i
     loop-less
     loop-again

@@ -16,22 +16,22 @@ abbrev μ-loop : tie.MeasureT-loop
 loop-holds : tie.Need-loop-holds Inv-loop μ-loop
 loop-holds c =
     let a = c .args in
-    (omega arith, rest-none (a .k) (a .x), written-none (a .s .now) (a .at) (a .k) (a .x))
+    (omega arith, rest-none (a .size) (a .number), written-none (a .bytes .now) (a .at) (a .size) (a .number))
 
 sub-i : tie.Need-sub-i Inv-loop μ-loop
 sub-i c = search needs
 
-cast-s : tie.Need-cast-s Inv-loop μ-loop
-cast-s c = search needs
+cast-bytes : tie.Need-cast-bytes Inv-loop μ-loop
+cast-bytes c = search needs
 
-add-s : tie.Need-add-s Inv-loop μ-loop
-add-s c = search needs
+add-bytes : tie.Need-add-bytes Inv-loop μ-loop
+add-bytes c = search needs
 
-slice-write-s : tie.Need-slice-write-s Inv-loop μ-loop
-slice-write-s c =
+slice-write-bytes : tie.Need-slice-write-bytes Inv-loop μ-loop
+slice-write-bytes c =
     let a = c .before .before .args in
     let l = c .before .loop in
-    omega (arith, ap length (l .inv .2), written-length (a .s .now) (a .at) (a .k) (a .x) (l .i) (l .inv .0) (omega arith))
+    omega (arith, ap length (l .inv .2), written-length (a .bytes .now) (a .at) (a .size) (a .number) (l .i) (l .inv .0) (omega arith))
 
 loop-less : tie.Need-loop-less Inv-loop μ-loop
 loop-less c = search needs
@@ -43,21 +43,21 @@ loop-again c =
     let p : 0 < l .i = omega arith in
     let q = c .before .before .pre .0 in (
       omega arith,
-      rest-more (a .k) (a .x) (l .i) (l .rest) p (l .inv .0) (l .inv .1),
-      written-more (a .s .now) (l .s) (a .at) (a .k) (a .x) (l .i) (l .rest) p (l .inv .0) q (l .inv .1) (l .inv .2),
+      rest-more (a .size) (a .number) (l .i) (l .rest) p (l .inv .0) (l .inv .1),
+      written-more (a .bytes .now) (l .bytes) (a .at) (a .size) (a .number) (l .i) (l .rest) p (l .inv .0) q (l .inv .1) (l .inv .2),
     )
 
 same-length : tie.Need-same-length Inv-loop μ-loop
 same-length c =
     let a = c .before .before .args in
     let l = c .before .loop in
-    ap length (l .inv .2) ∙ written-length (a .s .now) (a .at) (a .k) (a .x) (l .i) (l .inv .0) (omega arith)
+    ap length (l .inv .2) ∙ written-length (a .bytes .now) (a .at) (a .size) (a .number) (l .i) (l .inv .0) (omega arith)
 
 returns : tie.Need-returns Inv-loop μ-loop
 returns c =
     let a = c .before .before .args in
     let l = c .before .loop in
-    written-all (a .s .now) (l .s) (a .at) (a .k) (a .x) (l .i) (omega arith) (l .inv .2)
+    written-all (a .bytes .now) (l .bytes) (a .at) (a .size) (a .number) (l .i) (omega arith) (l .inv .2)
 
 pub put-number-spec : {M : Type 1} → statement M
 put-number-spec =
@@ -67,9 +67,9 @@ put-number-spec =
     μ-loop
     loop-holds
     sub-i
-    cast-s
-    add-s
-    slice-write-s
+    cast-bytes
+    add-bytes
+    slice-write-bytes
     loop-less
     loop-again
     same-length

@@ -23,10 +23,10 @@ put-requires : tie.Need-put-requires
 put-requires c κs = search needs
 
 put-requires-2 : tie.Need-put-requires-2
-put-requires-2 c κs = let e : 64 ≡ length {A = ℕ} (replicate 64 0) = refl in (c .before .before .before .before .before .before .pre, ap length (c .before .put .ensures) ∙ pasted-length (replicate 64 0) 0 (take (c .before .before .before .before .before .before .args .n - 0) (c .before .before .before .before .before .before .args .t1)) (omega (arith, length-take-le (c .before .before .before .before .before .before .args .n - 0) (c .before .before .before .before .before .before .args .t1) (omega (arith, c .before .before .before .before .before .before .good .0 .1 .0 .1)))))
+put-requires-2 c κs = let e : 64 ≡ length {A = ℕ} (replicate 64 0) = refl in (c .before .before .before .before .before .before .pre, ap length (c .before .put .ensures) ∙ pasted-length (replicate 64 0) 0 (take (c .before .before .before .before .before .before .args .have - 0) (c .before .before .before .before .before .before .args .t1)) (omega (arith, length-take-le (c .before .before .before .before .before .before .args .have - 0) (c .before .before .before .before .before .before .args .t1) (omega (arith, c .before .before .before .before .before .before .good .0 .1 .0 .1)))))
 
 returns : tie.Need-returns
-returns c = filled-law (c .before .before .before .before .before .before .before .args .t1) (c .before .before .before .before .before .before .before .args .s .now) (c .before .before .put .last .0) (c .put2 .last .0) (c .before .before .before .before .before .before .before .args .n) (c .before .before .before .before .before .before .before .good .0 .1 .0 .1) (c .before .before .before .before .before .before .before .pre) (c .before .before .put .ensures ∙ (let e : c .before .before .before .before .before .before .before .args .n - 0 ≡ c .before .before .before .before .before .before .before .args .n = omega arith in ap (λ (k : ℕ). pasted (replicate 64 0) 0 (take k (c .before .before .before .before .before .before .before .args .t1))) e)) (c .put2 .ensures)
+returns c = filled-law (c .before .before .before .before .before .before .before .args .t1) (c .before .before .before .before .before .before .before .args .bytes .now) (c .before .before .put .last .0) (c .put2 .last .0) (c .before .before .before .before .before .before .before .args .have) (c .before .before .before .before .before .before .before .good .0 .1 .0 .1) (c .before .before .before .before .before .before .before .pre) (c .before .before .put .ensures ∙ (let e : c .before .before .before .before .before .before .before .args .have - 0 ≡ c .before .before .before .before .before .before .before .args .have = omega arith in ap (λ (k : ℕ). pasted (replicate 64 0) 0 (take k (c .before .before .before .before .before .before .before .args .t1))) e)) (c .put2 .ensures)
 
 pub filled-spec : {M : Type 1} → statement M
 filled-spec =

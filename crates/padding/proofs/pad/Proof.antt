@@ -37,7 +37,7 @@ loop-again : tie.Need-loop-again Inv-loop μ-loop
 loop-again c =
     let a = c .before .before .before .before .args in
     let l = c .before .before .loop in
-    (omega arith, ap (λ (x : List ℕ). set x (l .i) (getD (a .s .now) (l .i) 0)) (l .inv .1) ∙ copy-more (a .s .now) (l .i) (omega arith) (omega arith))
+    (omega arith, ap (λ (x : List ℕ). set x (l .i) (getD (a .tail .now) (l .i) 0)) (l .inv .1) ∙ copy-more (a .tail .now) (l .i) (omega arith) (omega arith))
 
 array-write-b-2 : tie.Need-array-write-b-2 Inv-loop μ-loop
 array-write-b-2 c = search needs
@@ -51,8 +51,8 @@ returns : tie.Need-returns Inv-loop μ-loop
 returns c =
     let a = c .before .before .before .before .before .before .args in
     let l = c .before .before .before .before .loop in
-    pad-whole (a .s .now) (a .n) (l .i) 56 (l .b) (c .put-bits .last .0) (omega arith) (l .inv .1) (omega arith) (search needs)
-    (zeros-short (l .i) (a .n) (omega arith) (omega arith))
+    pad-whole (a .tail .now) (a .total) (l .i) 56 (l .b) (c .put-bits .last .0) (omega arith) (l .inv .1) (omega arith) (search needs)
+    (zeros-short (l .i) (a .total) (omega arith) (omega arith))
     (c .put-bits .ensures)
 
 put-bits-requires-2 : tie.Need-put-bits-requires-2 Inv-loop μ-loop
@@ -64,8 +64,8 @@ returns-2 : tie.Need-returns-2 Inv-loop μ-loop
 returns-2 c =
     let a = c .before .before .before .before .before .before .args in
     let l = c .before .before .before .before .loop in
-    pad-whole (a .s .now) (a .n) (l .i) 120 (l .b) (c .put-bits2 .last .0) (omega arith) (l .inv .1) (omega arith) (search needs)
-    (zeros-long (l .i) (a .n) (omega arith) (omega arith))
+    pad-whole (a .tail .now) (a .total) (l .i) 120 (l .b) (c .put-bits2 .last .0) (omega arith) (l .inv .1) (omega arith) (search needs)
+    (zeros-long (l .i) (a .total) (omega arith) (omega arith))
     (c .put-bits2 .ensures)
 
 pub pad-spec : {M : Type 1} → statement M

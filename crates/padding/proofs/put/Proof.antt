@@ -15,7 +15,7 @@ abbrev μ-loop : tie.MeasureT-loop
 μ-loop b₀ at s i₀ b i = length s - i
 
 loop-holds : tie.Need-loop-holds Inv-loop μ-loop
-loop-holds c = (omega arith, paste-zero (c .args .b .now) (c .args .at) (c .args .s .now))
+loop-holds c = (omega arith, paste-zero (c .args .b .now) (c .args .at) (c .args .bytes .now))
 
 shared-slice-read-b : tie.Need-shared-slice-read-b Inv-loop μ-loop
 shared-slice-read-b c = search needs
@@ -36,7 +36,7 @@ loop-again : tie.Need-loop-again Inv-loop μ-loop
 loop-again c = (omega arith, turn _ _ _ _ _ (c .before .before .loop .inv .1) (omega arith) (omega arith))
 
 returns : tie.Need-returns Inv-loop μ-loop
-returns c = whole _ _ _ _ (c .before .loop .i) (length (c .before .before .args .s .now)) (c .before .loop .inv .1) refl (omega (arith, c .before .loop .inv .0))
+returns c = whole _ _ _ _ (c .before .loop .i) (length (c .before .before .args .bytes .now)) (c .before .loop .inv .1) refl (omega (arith, c .before .loop .inv .0))
 
 pub put-spec : {M : Type 1} → statement M
 put-spec =

@@ -1,5 +1,4 @@
 -- With layer p's padding value past them the hashes are the layer, and its subtree is the tree from layer p up to position 1.
-use Rattle.store.specs.StoreLaws.{facts-usable}
 use Rattle.pieces.proofs.Ways.{layer-low, layer-fit, layer-judged}
 use Prim.Native.Nat.{_-_}
 use borrow.Author.Needs.{needs}
@@ -18,17 +17,14 @@ piece-layer-requires c κs = search needs
 pad-value-requires : tie.Need-pad-value-requires
 pad-value-requires c κs = search needs
 
-positions-of-requires : tie.Need-positions-of-requires
-positions-of-requires c κs = facts-usable _ (c .before .before .before .before .before .before .pre .facts)
-
 sub-k : tie.Need-sub-k
-sub-k c = layer-low _ (c .before .before .before .before .before .before .before .pre) _ _ _ (c .before .before .before .before .height-of .ensures) (c .before .before .before .piece-length-of .ensures) (c .before .before .piece-layer .ensures)
+sub-k c = layer-low _ (c .before .before .before .before .before .before .pre) _ _ _ (c .before .before .before .height-of .ensures) (c .before .before .piece-length-of .ensures) (c .before .piece-layer .ensures)
 
 judge-run-requires : tie.Need-judge-run-requires
-judge-run-requires c κs = layer-fit _ (c .before .before .before .before .before .before .before .pre) _ _ _ (c .before .before .before .before .height-of .ensures) (c .before .before .before .piece-length-of .ensures) (c .before .before .piece-layer .ensures) _ (c .positions-of .ensures)
+judge-run-requires c κs = layer-fit _ (c .before .before .before .before .before .before .pre) _ _ _ (c .before .before .before .height-of .ensures) (c .before .before .piece-length-of .ensures) (c .before .piece-layer .ensures)
 
 returns : tie.Need-returns
-returns c = layer-judged _ (c .before .before .before .before .before .before .before .before .pre) _ _ _ (c .before .before .before .before .before .height-of .ensures) (c .before .before .before .before .piece-length-of .ensures) (c .before .before .before .piece-layer .ensures) _ _ (c .before .before .pad-value .ensures) _ (c .judge-run .ensures)
+returns c = layer-judged _ (c .before .before .before .before .before .before .before .pre) _ _ _ (c .before .before .before .before .height-of .ensures) (c .before .before .before .piece-length-of .ensures) (c .before .before .piece-layer .ensures) _ _ (c .before .pad-value .ensures) _ (c .judge-run .ensures)
 
 pub judge-layer-spec : {M : Type 1} → statement M
 judge-layer-spec =
@@ -38,7 +34,6 @@ judge-layer-spec =
     piece-length-of-requires
     piece-layer-requires
     pad-value-requires
-    positions-of-requires
     sub-k
     judge-run-requires
     returns)

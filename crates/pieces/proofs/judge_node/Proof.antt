@@ -1,5 +1,4 @@
 -- The piece's node and all below it lie in the tree, so the subtree fits the store.
-use Rattle.store.specs.StoreLaws.{facts-usable}
 use Rattle.pieces.proofs.Ways.{node-inside, node-fit, node-judged}
 use Prim.Native.Nat.{_-_}
 use borrow.Author.Needs.{needs}
@@ -12,17 +11,14 @@ height-of-requires c κs = search needs
 piece-height-requires : tie.Need-piece-height-requires
 piece-height-requires c κs = search needs
 
-positions-of-requires : tie.Need-positions-of-requires
-positions-of-requires c κs = facts-usable _ (c .before .before .before .before .pre .facts)
-
 node-number-requires : tie.Need-node-number-requires
-node-number-requires c κs = node-inside _ _ _ _ (c .before .before .before .before .before .pre) (c .before .before .height-of .ensures) (c .before .piece-height .ensures)
+node-number-requires c κs = node-inside _ _ _ _ (c .before .before .before .before .pre) (c .before .height-of .ensures) (c .piece-height .ensures)
 
 judge-data-requires : tie.Need-judge-data-requires
-judge-data-requires c κs = node-fit _ _ _ _ (c .before .before .before .before .before .before .pre) (c .before .before .before .height-of .ensures) (c .before .before .piece-height .ensures) _ (c .node-number .ensures) _ (c .before .positions-of .ensures)
+judge-data-requires c κs = node-fit _ _ _ _ (c .before .before .before .before .before .pre) (c .before .before .height-of .ensures) (c .before .piece-height .ensures) _ (c .node-number .ensures)
 
 returns : tie.Need-returns
-returns c = node-judged _ _ _ _ (c .before .before .before .before .before .before .before .pre) (c .before .before .before .before .height-of .ensures) (c .before .before .before .piece-height .ensures) _ (c .before .node-number .ensures) _ _ (c .judge-data .ensures)
+returns c = node-judged _ _ _ _ (c .before .before .before .before .before .before .pre) (c .before .before .before .height-of .ensures) (c .before .before .piece-height .ensures) _ (c .before .node-number .ensures) _ _ (c .judge-data .ensures)
 
 pub judge-node-spec : {M : Type 1} → statement M
 judge-node-spec =
@@ -30,7 +26,6 @@ judge-node-spec =
     (tie.spec
     height-of-requires
     piece-height-requires
-    positions-of-requires
     node-number-requires
     judge-data-requires
     returns)

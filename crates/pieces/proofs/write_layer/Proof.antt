@@ -1,5 +1,4 @@
 -- The subtree that write_run fills is the one that the layer settles.
-use Rattle.store.specs.StoreLaws.{facts-usable}
 use Rattle.pieces.proofs.Ways.{layer-low, layer-fit, layer-wrote}
 use Prim.Native.Nat.{_-_}
 use borrow.Author.Needs.{needs}
@@ -15,23 +14,20 @@ piece-length-of-requires c κs = search needs
 piece-layer-requires : tie.Need-piece-layer-requires
 piece-layer-requires c κs = search needs
 
-positions-of-requires : tie.Need-positions-of-requires
-positions-of-requires c κs = facts-usable _ (c .before .before .before .before .before .before .before .before .pre .facts)
-
 sub-k : tie.Need-sub-k
-sub-k c = layer-low _ (c .before .before .before .before .before .before .before .before .before .pre) _ _ _ (c .before .before .before .before .before .height-of .ensures) (c .before .before .before .piece-length-of .ensures) (c .before .before .piece-layer .ensures)
+sub-k c = layer-low _ (c .before .before .before .before .before .before .before .pre) _ _ _ (c .before .before .before .height-of .ensures) (c .before .piece-length-of .ensures) (c .piece-layer .ensures)
 
 pad-value-requires : tie.Need-pad-value-requires
 pad-value-requires c κs = search needs
 
 write-run-requires : tie.Need-write-run-requires
-write-run-requires c κs = layer-fit _ (c .before .before .before .before .before .before .before .before .before .before .before .pre) _ _ _ (c .before .before .before .before .before .before .before .height-of .ensures) (c .before .before .before .before .before .piece-length-of .ensures) (c .before .before .before .before .piece-layer .ensures) _ (c .before .before .positions-of .ensures)
+write-run-requires c κs = layer-fit _ (c .before .before .before .before .before .before .before .before .before .pre) _ _ _ (c .before .before .before .before .before .height-of .ensures) (c .before .before .before .piece-length-of .ensures) (c .before .before .piece-layer .ensures)
 
 same-length : tie.Need-same-length
 same-length c = search needs
 
 returns : tie.Need-returns
-returns c = layer-wrote _ (c .before .before .before .before .before .before .before .before .before .before .before .before .before .before .pre) _ _ _ (c .before .before .before .before .before .before .before .before .before .before .height-of .ensures) (c .before .before .before .before .before .before .before .before .piece-length-of .ensures) (c .before .before .before .before .before .before .before .piece-layer .ensures) _ _ (c .before .before .before .pad-value .ensures) _ _ (c .before .before .write-run .ensures .1)
+returns c = layer-wrote _ (c .before .before .before .before .before .before .before .before .before .before .before .before .pre) _ _ _ (c .before .before .before .before .before .before .before .before .height-of .ensures) (c .before .before .before .before .before .before .piece-length-of .ensures) (c .before .before .before .before .before .piece-layer .ensures) _ _ (c .before .before .before .pad-value .ensures) _ _ (c .before .before .write-run .ensures .1)
 
 pub write-layer-spec : {M : Type 1} → statement M
 write-layer-spec =
@@ -40,7 +36,6 @@ write-layer-spec =
     height-of-requires
     piece-length-of-requires
     piece-layer-requires
-    positions-of-requires
     sub-k
     pad-value-requires
     write-run-requires

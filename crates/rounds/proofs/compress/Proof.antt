@@ -16,7 +16,7 @@ fill-requires : tie.Need-fill-requires
 fill-requires c κs = search needs
 
 add-round-words-requires : tie.Need-add-round-words-requires
-add-round-words-requires c κs = ap length (c .before .fill .ensures) ∙ length-schedule 48 (take 64 (drop (c .before .before .before .before .args .at) (c .before .before .before .before .args .s .now)))
+add-round-words-requires c κs = ap length (c .before .fill .ensures) ∙ length-schedule 48 (take 64 (drop (c .before .before .before .before .args .at) (c .before .before .before .before .args .bytes .now)))
 
 compress-sums-requires : tie.Need-compress-sums-requires
 compress-sums-requires c κs = search needs
@@ -24,10 +24,10 @@ compress-sums-requires c κs = search needs
 returns : tie.Need-returns
 returns c =
     let a = c .before .before .before .before .before .before .before .args in
-    let m = take 64 (drop (a .at) (a .s .now)) in
+    let m = take 64 (drop (a .at) (a .bytes .now)) in
     c .compress-sums .ensures
-    ∙ ap (λ (xs : List ℕ). plus (a .st) (roundsBy xs 64 (a .st))) (c .before .before .add-round-words .ensures ∙ ap (sums 64 (a .k .now)) (c .before .before .before .before .fill .ensures))
-    ∙ compress-by-sums (a .k .now) m (a .st)
+    ∙ ap (λ (xs : List ℕ). plus (a .state) (roundsBy xs 64 (a .state))) (c .before .before .add-round-words .ensures ∙ ap (sums 64 (a .k .now)) (c .before .before .before .before .fill .ensures))
+    ∙ compress-by-sums (a .k .now) m (a .state)
 
 pub compress-spec : {M : Type 1} → statement M
 compress-spec = tie.close (tie.spec fill-requires add-round-words-requires compress-sums-requires returns)

@@ -30,13 +30,13 @@ loop-less : tie.Need-loop-less Inv-loop μ-loop
 loop-less c = search needs
 
 loop-again : tie.Need-loop-again Inv-loop μ-loop
-loop-again c = (omega arith, omega arith, c .step16 .ensures (c .before .before .before .args .st) (c .before .before .loop .inv .2))
+loop-again c = (omega arith, omega arith, c .step16 .ensures (c .before .before .before .args .state) (c .before .before .loop .inv .2))
 
 sum-requires : tie.Need-sum-requires Inv-loop μ-loop
 sum-requires c κs = search needs
 
 returns : tie.Need-returns Inv-loop μ-loop
-returns c = c .sum .ensures ∙ ap (plus (c .before .before .before .args .st)) (roundsBy-at (c .before .before .before .args .x .now) (c .before .before .before .args .st) (c .before .before .loop .i) 64 (c .before .before .loop .inv .2) (omega arith))
+returns c = c .sum .ensures ∙ ap (plus (c .before .before .before .args .state)) (roundsBy-at (c .before .before .before .args .sums .now) (c .before .before .before .args .state) (c .before .before .loop .i) 64 (c .before .before .loop .inv .2) (omega arith))
 
 pub compress-sums-spec : {M : Type 1} → statement M
 compress-sums-spec =

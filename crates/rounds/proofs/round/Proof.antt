@@ -39,8 +39,8 @@ add-requires-6 c κs = search needs
 returns : tie.Need-returns
 unfolding round T₁ T₂
 returns c =
-    let s = c .before .before .before .before .before .before .before .before .before .before .args .s in
-    cc (sum-t1 (s .h) (c .before .before .before .before .before .before .before .before .before .before .args .x) (Ch (s .e) (s .f) (s .g)) (Σ₁ (s .e)))
+    let s = c .before .before .before .before .before .before .before .before .before .before .args .state in
+    cc (sum-t1 (s .h) (c .before .before .before .before .before .before .before .before .before .before .args .sum) (Ch (s .e) (s .f) (s .g)) (Σ₁ (s .e)))
 
 pub round-spec : {M : Type 1} → statement M
 round-spec =

@@ -29,8 +29,8 @@ sum-requires c κs = search needs
 
 returns : tie.Need-returns
 unfolding compress
-returns c = let st = c .before .before .before .before .before .before .before .before .before .before .before .before .args .st in
-    let m = take 64 (drop (c .before .before .before .before .before .before .before .before .before .before .before .before .args .at) (c .before .before .before .before .before .before .before .before .before .before .before .before .args .s .now)) in
+returns c = let st = c .before .before .before .before .before .before .before .before .before .before .before .before .args .state in
+    let m = take 64 (drop (c .before .before .before .before .before .before .before .before .before .before .before .before .args .at) (c .before .before .before .before .before .before .before .before .before .before .before .before .args .bytes .now)) in
     let h40 = c .before .before .before .before .before .parities .ensures st (c .before .before .before .before .before .before .before .choices .ensures) in
     let h60 = c .before .before .before .majorities .ensures st h40 in
     let h80 = c .before .parities2 .ensures st h60 in

@@ -12,11 +12,11 @@ use Rattle.running.proofs.absorb.Statement.{statement}
 use Rattle.running.proofs.absorb.Tie as tie
 
 -- the words are an array of 8
-words-8 : (c : tie.Start) → length (c .args .h .words) ≡ 8
+words-8 : (c : tie.Start) → length (c .args .hashing .words) ≡ 8
 words-8 c = search needs
 
 -- the tail is an array of 64 bytes
-tail-64 : (c : tie.Start) → length (c .args .h .tail) ≡ 64
+tail-64 : (c : tie.Start) → length (c .args .hashing .tail) ≡ 64
 tail-64 c = search needs
 
 add-total : tie.Need-add-total
@@ -33,8 +33,8 @@ add-size c = search needs
 
 returns : tie.Need-returns
 returns c = let b = c .before .before .before .before .before .before in
-    let h = b .args .h in
-    let s = b .args .s .now in
+    let h = b .args .hashing in
+    let s = b .args .burst .now in
     let l8 : length (h .words) ≡ 8 = words-8 b in
     (beside-law h s (c .filled .result) (h .«tail_size» + length s) _ l8 (tail-64 b) (omega arith) (c .filled .ensures) refl (omega arith), omega arith)
 
@@ -94,8 +94,8 @@ to-words-requires c κs = search needs
 
 returns-2 : tie.Need-returns-2
 returns-2 c = let b = c .before .before .before .before .before .before .before .before .before .before .before .before .before .before .before .before .before .before in
-    let h = b .args .h in
-    let s = b .args .s .now in
+    let h = b .args .hashing in
+    let s = b .args .burst .now in
     let ks = c .before .before .before .before .before .before .before .before .before .before .round-words in
     let first = c .before .before .before .before .before .before .before .before .before .before .before .filled2 in
     let l64 = tail-64 b in

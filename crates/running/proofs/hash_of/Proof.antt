@@ -10,7 +10,7 @@ use Rattle.running.proofs.hash_of.Statement.{statement}
 use Rattle.running.proofs.hash_of.Tie as tie
 
 -- the tail is an array of 64 bytes
-tail-64 : (c : tie.Start) → length (c .args .h .tail) ≡ 64
+tail-64 : (c : tie.Start) → length (c .args .hashing .tail) ≡ 64
 tail-64 c = search needs
 
 round-words-requires : tie.Need-round-words-requires
@@ -36,8 +36,8 @@ digest-requires c κs = search needs
 
 returns : tie.Need-returns
 unfolding hashOf
-returns c = let e : c .before .before .before .before .before .before .before .before .before .before .args .h .total % 64 - 0 ≡ c .before .before .before .before .before .before .before .before .before .before .args .h .«tail_size» = omega (arith, c .before .before .before .before .before .before .before .before .before .before .pre) in
-    c .digest .ensures ∙ ap digest (c .before .finish .ensures ∙ end-as-coded (c .before .before .before .before .before .before .before .before .before .before .args .h) (c .before .before .before .before .before .before .before .before .before .round-words .result) (c .before .before .before .before .before .before .before .before .before .before .args .h .total % 64 - 0) (c .before .before .before .before .before .from-words .result) e (c .before .before .before .before .before .before .before .before .before .round-words .ensures) (c .before .before .before .before .before .from-words .ensures))
+returns c = let e : c .before .before .before .before .before .before .before .before .before .before .args .hashing .total % 64 - 0 ≡ c .before .before .before .before .before .before .before .before .before .before .args .hashing .«tail_size» = omega (arith, c .before .before .before .before .before .before .before .before .before .before .pre) in
+    c .digest .ensures ∙ ap digest (c .before .finish .ensures ∙ end-as-coded (c .before .before .before .before .before .before .before .before .before .before .args .hashing) (c .before .before .before .before .before .before .before .before .before .round-words .result) (c .before .before .before .before .before .before .before .before .before .before .args .hashing .total % 64 - 0) (c .before .before .before .before .before .from-words .result) e (c .before .before .before .before .before .before .before .before .before .round-words .ensures) (c .before .before .before .before .before .from-words .ensures))
 
 pub hash-of-spec : {M : Type 1} → statement M
 hash-of-spec =

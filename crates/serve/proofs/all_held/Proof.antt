@@ -13,12 +13,12 @@ run-count-requires c κs = search needs
 mul-n : tie.Need-mul-n
 mul-n c =
     let a = c .before .before .args in
-    omega (arith, run-cells (length (a .s .now)) (a .p) (c .before .before .pre) (c .run-count .result) (c .run-count .ensures .0))
+    omega (arith, run-cells (length (a .store .now)) (a .place) (c .before .before .pre) (c .run-count .result) (c .run-count .ensures .0))
 
 held-run-requires : tie.Need-held-run-requires
 held-run-requires c κs =
     let a = c .before .before .args in
-    run-cells (length (a .s .now)) (a .p) (c .before .before .pre) (c .run-count .result) (c .run-count .ensures .0)
+    run-cells (length (a .store .now)) (a .place) (c .before .before .pre) (c .run-count .result) (c .run-count .ensures .0)
 
 held-uncles-requires : tie.Need-held-uncles-requires
 held-uncles-requires c κs = search needs
@@ -26,12 +26,12 @@ held-uncles-requires c κs = search needs
 returns : tie.Need-returns
 returns c =
     let a = c .before .before .before .before .before .args in
-    held-both (a .s .now) (a .p) (c .before .before .before .run-count .result) (c .before .before .before .run-count .ensures .0) (c .before .before .held-run .result) (c .before .before .held-run .ensures) (c .held-uncles .result) (c .before .if1 .taken) (c .held-uncles .ensures)
+    held-both (a .store .now) (a .place) (c .before .before .before .run-count .result) (c .before .before .before .run-count .ensures .0) (c .before .before .held-run .result) (c .before .before .held-run .ensures) (c .held-uncles .result) (c .before .if1 .taken) (c .held-uncles .ensures)
 
 returns-2 : tie.Need-returns-2
 returns-2 c =
     let a = c .before .before .before .before .args in
-    held-not (a .s .now) (a .p) (c .before .before .run-count .result) (c .before .before .run-count .ensures .0) (c .before .held-run .result) (c .before .held-run .ensures) (c .if1 .left)
+    held-not (a .store .now) (a .place) (c .before .before .run-count .result) (c .before .before .run-count .ensures .0) (c .before .held-run .result) (c .before .held-run .ensures) (c .if1 .left)
 
 pub all-held-spec : {M : Type 1} → statement M
 all-held-spec =

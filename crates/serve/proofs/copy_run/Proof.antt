@@ -19,7 +19,7 @@ abbrev μ-loop : tie.MeasureT-loop
 loop-holds : tie.Need-loop-holds Inv-loop μ-loop
 loop-holds c =
     let a = c .before .before .args in
-    (omega arith, refl, copy-run-none (a .s .now) (a .n) (a .at) (a .out .now))
+    (omega arith, refl, copy-run-none (a .store .now) (a .n) (a .at) (a .out .now))
 
 add-hash-of : tie.Need-add-hash-of Inv-loop μ-loop
 add-hash-of c = omega (arith, c .before .before .before .before .pre, c .before .loop .inv .1)
@@ -49,7 +49,7 @@ loop-again c =
     let q = c .before .before .before .before .before .before .before .before .before .pre in (
       omega arith,
       c .before .before .put-hash .kept .0 ∙ l .inv .1,
-      copy-run-more (a .s .now) (a .n) (a .at) (a .out .now) (l .i) (l .out) (c .before .before .put-hash .last .0) (c .before .before .before .before .hash-of .result) (omega (arith, q .1)) (c .before .before .put-hash .ensures) (a .c) (q .0) (omega arith) (c .before .before .before .before .hash-of .ensures) (l .inv .2),
+      copy-run-more (a .store .now) (a .n) (a .at) (a .out .now) (l .i) (l .out) (c .before .before .put-hash .last .0) (c .before .before .before .before .hash-of .result) (omega (arith, q .1)) (c .before .before .put-hash .ensures) (a .c) (q .0) (omega arith) (c .before .before .before .before .hash-of .ensures) (l .inv .2),
     )
 
 same-length : tie.Need-same-length Inv-loop μ-loop
@@ -59,7 +59,7 @@ returns : tie.Need-returns Inv-loop μ-loop
 returns c =
     let a = c .before .before .before .before .args in
     let l = c .before .loop in
-    copy-run-done (a .s .now) (a .n) (a .at) (a .out .now) (a .c) (l .i) (l .out) (omega arith) (omega arith) (l .inv .2)
+    copy-run-done (a .store .now) (a .n) (a .at) (a .out .now) (a .c) (l .i) (l .out) (omega arith) (omega arith) (l .inv .2)
 
 pub copy-run-spec : {M : Type 1} → statement M
 copy-run-spec =

@@ -20,10 +20,10 @@ abbrev μ-loop : tie.MeasureT-loop
 loop-holds : tie.Need-loop-holds Inv-loop μ-loop
 loop-holds c =
     let a = c .before .before .args in
-    (omega arith, ancestor-none (a .n), refl, copy-uncles-none (a .s .now) (a .n) (a .at) (a .out .now))
+    (omega arith, ancestor-none (a .n), refl, copy-uncles-none (a .store .now) (a .n) (a .at) (a .out .now))
 
-beside-requires : tie.Need-beside-requires Inv-loop μ-loop
-beside-requires c κs =
+sibling-requires : tie.Need-sibling-requires Inv-loop μ-loop
+sibling-requires c κs =
     let a = c .before .before .before .before .args in
     let l = c .before .loop in
     omega (arith, c .before .before .before .before .pre, ancestor-cell (l .i) (a .n) (l .x) (l .inv .1))
@@ -36,7 +36,7 @@ hash-of-requires c κs =
       arith,
       c .before .before .before .before .before .pre,
       ancestor-cell (l .i) (a .n) (l .x) (l .inv .1),
-      uncle-cell (a .s .now) (a .n) (l .i) (l .x) (c .beside .result) (c .before .before .before .before .before .pre .0) (l .inv .1) (c .beside .ensures),
+      uncle-cell (a .store .now) (a .n) (l .i) (l .x) (c .sibling .result) (c .before .before .before .before .before .pre .0) (l .inv .1) (c .sibling .ensures),
     )
 
 mul-put-hash : tie.Need-mul-put-hash Inv-loop μ-loop
@@ -62,7 +62,7 @@ loop-again c =
       omega arith,
       ancestor-next (l .i) (a .n) (l .x) (l .inv .1),
       c .before .before .put-hash .kept .0 ∙ l .inv .2,
-      copy-uncles-more (a .s .now) (a .n) (a .at) (a .out .now) (l .i) (l .out) (c .before .before .put-hash .last .0) (c .before .before .before .before .hash-of .result) (omega (arith, q .1)) (c .before .before .put-hash .ensures) (l .x) (c .before .before .before .before .before .beside .result) (q .0) (l .inv .1) (c .before .before .before .before .before .beside .ensures) (c .before .before .before .before .hash-of .ensures) (l .inv .3),
+      copy-uncles-more (a .store .now) (a .n) (a .at) (a .out .now) (l .i) (l .out) (c .before .before .put-hash .last .0) (c .before .before .before .before .hash-of .result) (omega (arith, q .1)) (c .before .before .put-hash .ensures) (l .x) (c .before .before .before .before .before .sibling .result) (q .0) (l .inv .1) (c .before .before .before .before .before .sibling .ensures) (c .before .before .before .before .hash-of .ensures) (l .inv .3),
     )
 
 same-length : tie.Need-same-length Inv-loop μ-loop
@@ -72,7 +72,7 @@ returns : tie.Need-returns Inv-loop μ-loop
 returns c =
     let a = c .before .before .before .before .args in
     let l = c .before .loop in
-    copy-uncles-done (a .s .now) (a .n) (a .at) (a .out .now) (a .u) (l .i) (l .out) (omega arith) (omega arith) (l .inv .3)
+    copy-uncles-done (a .store .now) (a .n) (a .at) (a .out .now) (a .u) (l .i) (l .out) (omega arith) (omega arith) (l .inv .3)
 
 pub copy-uncles-spec : {M : Type 1} → statement M
 copy-uncles-spec =
@@ -81,7 +81,7 @@ copy-uncles-spec =
     Inv-loop
     μ-loop
     loop-holds
-    beside-requires
+    sibling-requires
     hash-of-requires
     mul-put-hash
     add-put-hash

@@ -17,7 +17,7 @@ abbrev μ-loop : tie.MeasureT-loop
 μ-loop s n c i₀ i = c - i
 
 loop-holds : tie.Need-loop-holds Inv-loop μ-loop
-loop-holds c = (omega arith, run-none (c .before .args .s .now) (c .before .args .n))
+loop-holds c = (omega arith, run-none (c .before .args .store .now) (c .before .args .n))
 
 add-held : tie.Need-add-held Inv-loop μ-loop
 add-held c = search needs
@@ -29,7 +29,7 @@ returns : tie.Need-returns Inv-loop μ-loop
 returns c =
     let a = c .before .before .before .before .before .args in
     let l = c .before .before .before .loop in
-    run-fails (a .s .now) (a .n) (l .i) (c .before .held .result) (c .before .held .ensures) (a .c) (omega arith) (not-true _ (c .if1 .taken))
+    run-fails (a .store .now) (a .n) (l .i) (c .before .held .result) (c .before .held .ensures) (a .c) (omega arith) (not-true _ (c .if1 .taken))
 
 add-i : tie.Need-add-i Inv-loop μ-loop
 add-i c = search needs
@@ -41,13 +41,13 @@ loop-again : tie.Need-loop-again Inv-loop μ-loop
 loop-again c =
     let a = c .before .before .before .before .before .args in
     let l = c .before .before .before .loop in
-    (omega arith, run-more (a .s .now) (a .n) (l .i) (c .before .held .result) (c .before .held .ensures) (l .inv .1) (not-false _ (c .if1 .left)))
+    (omega arith, run-more (a .store .now) (a .n) (l .i) (c .before .held .result) (c .before .held .ensures) (l .inv .1) (not-false _ (c .if1 .left)))
 
 returns-2 : tie.Need-returns-2 Inv-loop μ-loop
 returns-2 c =
     let a = c .before .before .before .args in
     let l = c .before .loop in
-    run-done (a .s .now) (a .n) (a .c) (l .i) (omega arith) (omega arith) (l .inv .1)
+    run-done (a .store .now) (a .n) (a .c) (l .i) (omega arith) (omega arith) (l .inv .1)
 
 pub held-run-spec : {M : Type 1} → statement M
 held-run-spec =

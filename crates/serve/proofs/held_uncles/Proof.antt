@@ -18,10 +18,10 @@ abbrev μ-loop : tie.MeasureT-loop
 μ-loop s u n x₀ i₀ x i = u - i
 
 loop-holds : tie.Need-loop-holds Inv-loop μ-loop
-loop-holds c = (omega arith, ancestor-none (c .before .args .n), uncles-none (c .before .args .s .now) (c .before .args .n))
+loop-holds c = (omega arith, ancestor-none (c .before .args .n), uncles-none (c .before .args .store .now) (c .before .args .n))
 
-beside-requires : tie.Need-beside-requires Inv-loop μ-loop
-beside-requires c κs =
+sibling-requires : tie.Need-sibling-requires Inv-loop μ-loop
+sibling-requires c κs =
     let a = c .before .before .before .args in
     let l = c .before .loop in
     omega (arith, ancestor-cell (l .i) (a .n) (l .x) (l .inv .1))
@@ -34,14 +34,14 @@ held-requires c κs =
       arith,
       c .before .before .before .before .pre,
       ancestor-cell (l .i) (a .n) (l .x) (l .inv .1),
-      uncle-cell (a .s .now) (a .n) (l .i) (l .x) (c .beside .result) (c .before .before .before .before .pre) (l .inv .1) (c .beside .ensures),
+      uncle-cell (a .store .now) (a .n) (l .i) (l .x) (c .sibling .result) (c .before .before .before .before .pre) (l .inv .1) (c .sibling .ensures),
     )
 
 returns : tie.Need-returns Inv-loop μ-loop
 returns c =
     let a = c .before .before .before .before .before .before .args in
     let l = c .before .before .before .before .loop in
-    uncles-fail (a .s .now) (a .n) (l .i) (l .x) (c .before .before .beside .result) (c .before .held .result) (l .inv .1) (c .before .before .beside .ensures) (c .before .held .ensures) (a .u) (omega arith) (not-true _ (c .if1 .taken))
+    uncles-fail (a .store .now) (a .n) (l .i) (l .x) (c .before .before .sibling .result) (c .before .held .result) (l .inv .1) (c .before .before .sibling .ensures) (c .before .held .ensures) (a .u) (omega arith) (not-true _ (c .if1 .taken))
 
 add-i : tie.Need-add-i Inv-loop μ-loop
 add-i c = search needs
@@ -55,14 +55,14 @@ loop-again c =
     let l = c .before .before .before .before .loop in (
       omega arith,
       ancestor-next (l .i) (a .n) (l .x) (l .inv .1),
-      uncles-more (a .s .now) (a .n) (l .i) (l .x) (c .before .before .beside .result) (c .before .held .result) (l .inv .1) (c .before .before .beside .ensures) (c .before .held .ensures) (l .inv .2) (not-false _ (c .if1 .left)),
+      uncles-more (a .store .now) (a .n) (l .i) (l .x) (c .before .before .sibling .result) (c .before .held .result) (l .inv .1) (c .before .before .sibling .ensures) (c .before .held .ensures) (l .inv .2) (not-false _ (c .if1 .left)),
     )
 
 returns-2 : tie.Need-returns-2 Inv-loop μ-loop
 returns-2 c =
     let a = c .before .before .before .args in
     let l = c .before .loop in
-    uncles-done (a .s .now) (a .n) (a .u) (l .i) (omega arith) (omega arith) (l .inv .2)
+    uncles-done (a .store .now) (a .n) (a .u) (l .i) (omega arith) (omega arith) (l .inv .2)
 
 pub held-uncles-spec : {M : Type 1} → statement M
 held-uncles-spec =
@@ -71,7 +71,7 @@ held-uncles-spec =
     Inv-loop
     μ-loop
     loop-holds
-    beside-requires
+    sibling-requires
     held-requires
     returns
     add-i

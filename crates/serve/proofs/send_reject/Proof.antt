@@ -11,7 +11,7 @@ refusal-requires c κs = search needs
 
 returns : tie.Need-returns
 returns c = let a = c .before .before .before .before .args in
-    reject-short (a .m .now) (a .out .now) (a .number) (c .before .before .before .before .pre) (c .refusal .result) (c .before .if1 .taken) (c .refusal .ensures)
+    reject-short (a .message .now) (a .out .now) (a .number) (c .before .before .before .before .pre) (c .refusal .result) (c .before .if1 .taken) (c .refusal .ensures)
 
 write-head-requires : tie.Need-write-head-requires
 write-head-requires c κs = search needs
@@ -21,7 +21,7 @@ same-length c = search needs
 
 returns-2 : tie.Need-returns-2
 returns-2 c = let a = c .before .before .before .before .before .before .before .args in
-    reject-sent (a .m .now) (a .out .now) (a .number) (c .before .before .before .before .before .before .before .pre) (c .before .before .write-head .last .0) (omega (arith, c .before .before .before .before .if1 .left)) (c .before .before .write-head .ensures)
+    reject-sent (a .message .now) (a .out .now) (a .number) (c .before .before .before .before .before .before .before .pre) (c .before .before .write-head .last .0) (omega (arith, c .before .before .before .before .if1 .left)) (c .before .before .write-head .ensures)
 
 pub send-reject-spec : {M : Type 1} → statement M
 send-reject-spec =

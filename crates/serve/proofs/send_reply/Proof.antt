@@ -9,13 +9,13 @@ use Rattle.serve.proofs.send_reply.Tie as tie
 
 run-count-requires : tie.Need-run-count-requires
 run-count-requires c κs = let a = c .before .before .before .args in
-    let R = place-reach (a .s .now) (a .m .now) (c .before .before .before .pre .0) (a .p) (c .before .before .before .pre .1) in
+    let R = place-reach (a .store .now) (a .message .now) (c .before .before .before .pre .0) (a .place) (c .before .before .before .pre .1) in
     omega (arith, R .few)
 
 mul-n : tie.Need-mul-n
 mul-n c = let a = c .before .before .before .before .args in
-    let R = place-reach (a .s .now) (a .m .now) (c .before .before .before .before .pre .0) (a .p) (c .before .before .before .before .pre .1) in
-    omega (arith, run-cells (length (a .s .now)) (a .p) R (c .run-count .result) (c .run-count .ensures .0))
+    let R = place-reach (a .store .now) (a .message .now) (c .before .before .before .before .pre .0) (a .place) (c .before .before .before .before .pre .1) in
+    omega (arith, run-cells (length (a .store .now)) (a .place) R (c .run-count .result) (c .run-count .ensures .0))
 
 mul-past : tie.Need-mul-past
 mul-past c = search needs
@@ -25,12 +25,12 @@ add-past c = search needs
 
 mul-size : tie.Need-mul-size
 mul-size c = let a = c .before .before .before .before .args in
-    let R = place-reach (a .s .now) (a .m .now) (c .before .before .before .before .pre .0) (a .p) (c .before .before .before .before .pre .1) in
+    let R = place-reach (a .store .now) (a .message .now) (c .before .before .before .before .pre .0) (a .place) (c .before .before .before .before .pre .1) in
     omega (arith, R .few)
 
 add-size : tie.Need-add-size
 add-size c = let a = c .before .before .before .before .args in
-    let R = place-reach (a .s .now) (a .m .now) (c .before .before .before .before .pre .0) (a .p) (c .before .before .before .before .pre .1) in
+    let R = place-reach (a .store .now) (a .message .now) (c .before .before .before .before .pre .0) (a .place) (c .before .before .before .before .pre .1) in
     omega (arith, R .few, c .run-count .ensures .1)
 
 refusal-requires : tie.Need-refusal-requires
@@ -38,20 +38,20 @@ refusal-requires c κs = search needs
 
 returns : tie.Need-returns
 returns c = let a = c .before .before .before .before .before .before .args in
-    reply-short (a .s .now) (a .m .now) (a .out .now) (c .before .before .before .before .before .before .pre .0) (a .p) (c .before .before .before .before .before .before .pre .1) (c .before .before .run-count .result) (c .before .before .run-count .ensures .0) (c .refusal .result) (c .before .if1 .taken) (c .refusal .ensures)
+    reply-short (a .store .now) (a .message .now) (a .out .now) (c .before .before .before .before .before .before .pre .0) (a .place) (c .before .before .before .before .before .before .pre .1) (c .before .before .run-count .result) (c .before .before .run-count .ensures .0) (c .refusal .result) (c .before .if1 .taken) (c .refusal .ensures)
 
 write-head-requires : tie.Need-write-head-requires
 write-head-requires c κs = let a = c .before .before .before .before .before .before .args in
-    (omega (arith, c .before .if1 .left), passed-long (a .s .now) (a .m .now) (c .before .before .before .before .before .before .pre .0) .1)
+    (omega (arith, c .before .if1 .left), passed-long (a .store .now) (a .message .now) (c .before .before .before .before .before .before .pre .0) .1)
 
 copy-run-requires : tie.Need-copy-run-requires
 copy-run-requires c κs = let a = c .before .before .before .before .before .before .before .before .before .before .args in
-    let R = place-reach (a .s .now) (a .m .now) (c .before .before .before .before .before .before .before .before .before .before .pre .0) (a .p) (c .before .before .before .before .before .before .before .before .before .before .pre .1) in
-    (run-cells (length (a .s .now)) (a .p) R (c .before .before .before .before .before .before .run-count .result) (c .before .before .before .before .before .before .run-count .ensures .0), omega (arith, c .before .before .before .before .before .if1 .left, c .before .before .before .write-head .kept .0))
+    let R = place-reach (a .store .now) (a .message .now) (c .before .before .before .before .before .before .before .before .before .before .pre .0) (a .place) (c .before .before .before .before .before .before .before .before .before .before .pre .1) in
+    (run-cells (length (a .store .now)) (a .place) R (c .before .before .before .before .before .before .run-count .result) (c .before .before .before .before .before .before .run-count .ensures .0), omega (arith, c .before .before .before .before .before .if1 .left, c .before .before .before .write-head .kept .0))
 
 copy-uncles-requires : tie.Need-copy-uncles-requires
 copy-uncles-requires c κs = let a = c .before .before .before .before .before .before .before .before .before .before .before .before .before .before .args in
-    let R = place-reach (a .s .now) (a .m .now) (c .before .before .before .before .before .before .before .before .before .before .before .before .before .before .pre .0) (a .p) (c .before .before .before .before .before .before .before .before .before .before .before .before .before .before .pre .1) in
+    let R = place-reach (a .store .now) (a .message .now) (c .before .before .before .before .before .before .before .before .before .before .before .before .before .before .pre .0) (a .place) (c .before .before .before .before .before .before .before .before .before .before .before .before .before .before .pre .1) in
     (R .uncles, omega (arith, c .before .before .before .before .before .before .before .before .before .if1 .left, c .before .before .before .before .before .before .before .write-head .kept .0, c .before .before .before .copy-run .kept .1 .0))
 
 success-requires : tie.Need-success-requires
@@ -62,7 +62,7 @@ same-length c = search needs
 
 returns-2 : tie.Need-returns-2
 returns-2 c = let a = c .before .before .before .before .before .before .before .before .before .before .before .before .before .before .before .before .before .before .args in
-    reply-sent (a .s .now) (a .m .now) (a .out .now) (c .before .before .before .before .before .before .before .before .before .before .before .before .before .before .before .before .before .before .pre .0) (a .p) (c .before .before .before .before .before .before .before .before .before .before .before .before .before .before .before .before .before .before .pre .1) (c .before .before .before .before .before .before .before .before .before .before .before .before .before .before .run-count .result) (c .before .before .before .before .before .before .before .before .before .before .before .before .before .before .run-count .ensures .0)
+    reply-sent (a .store .now) (a .message .now) (a .out .now) (c .before .before .before .before .before .before .before .before .before .before .before .before .before .before .before .before .before .before .pre .0) (a .place) (c .before .before .before .before .before .before .before .before .before .before .before .before .before .before .before .before .before .before .pre .1) (c .before .before .before .before .before .before .before .before .before .before .before .before .before .before .run-count .result) (c .before .before .before .before .before .before .before .before .before .before .before .before .before .before .run-count .ensures .0)
     (c .before .before .before .before .before .before .before .before .before .before .before .write-head .last .0) (c .before .before .before .before .before .before .before .copy-run .last .1 .0) (c .before .before .before .copy-uncles .last .1 .0) (omega (arith, c .before .before .before .before .before .before .before .before .before .before .before .before .before .if1 .left))
     (c .before .before .before .before .before .before .before .before .before .before .before .write-head .ensures) (c .before .before .before .before .before .before .before .copy-run .ensures) (c .before .before .before .copy-uncles .ensures) (c .success .result) (c .success .ensures)
 

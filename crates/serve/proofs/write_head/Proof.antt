@@ -23,7 +23,7 @@ slice-write-out c = search needs
 loop-holds : tie.Need-loop-holds Inv-loop μ-loop
 loop-holds c =
     let a = c .args in
-    (omega arith, omega arith, head-one (a .out .now) (a .m .now) (a .id) (c .pre .0) (c .pre .1))
+    (omega arith, omega arith, head-one (a .out .now) (a .message .now) (a .id) (c .pre .0) (c .pre .1))
 
 shared-slice-read-out : tie.Need-shared-slice-read-out Inv-loop μ-loop
 shared-slice-read-out c = search needs
@@ -32,7 +32,7 @@ slice-write-out-2 : tie.Need-slice-write-out-2 Inv-loop μ-loop
 slice-write-out-2 c =
     let a = c .before .before .before .args in
     let l = c .before .before .loop in
-    omega (arith, c .before .before .before .pre, head-length (a .out .now) (a .m .now) (a .id) (c .before .before .before .pre .0) (c .before .before .before .pre .1) (l .i) (l .out) (l .inv .2) (l .inv .1))
+    omega (arith, c .before .before .before .pre, head-length (a .out .now) (a .message .now) (a .id) (c .before .before .before .pre .0) (c .before .before .before .pre .1) (l .i) (l .out) (l .inv .2) (l .inv .1))
 
 add-i : tie.Need-add-i Inv-loop μ-loop
 add-i c = search needs
@@ -44,19 +44,19 @@ loop-again : tie.Need-loop-again Inv-loop μ-loop
 loop-again c =
     let a = c .before .before .before .args in
     let l = c .before .before .loop in
-    (omega arith, omega arith, head-more (a .out .now) (a .m .now) (a .id) (c .before .before .before .pre .0) (c .before .before .before .pre .1) (l .i) (l .out) (l .inv .2) (l .inv .0) (omega arith))
+    (omega arith, omega arith, head-more (a .out .now) (a .message .now) (a .id) (c .before .before .before .pre .0) (c .before .before .before .pre .1) (l .i) (l .out) (l .inv .2) (l .inv .0) (omega arith))
 
 same-length : tie.Need-same-length Inv-loop μ-loop
 same-length c =
     let a = c .before .before .args in
     let l = c .before .loop in
-    head-length (a .out .now) (a .m .now) (a .id) (c .before .before .pre .0) (c .before .before .pre .1) (l .i) (l .out) (l .inv .2) (l .inv .1)
+    head-length (a .out .now) (a .message .now) (a .id) (c .before .before .pre .0) (c .before .before .pre .1) (l .i) (l .out) (l .inv .2) (l .inv .1)
 
 returns : tie.Need-returns Inv-loop μ-loop
 returns c =
     let a = c .before .before .args in
     let l = c .before .loop in
-    head-done (a .out .now) (a .m .now) (a .id) (c .before .before .pre .0) (c .before .before .pre .1) (l .i) (l .out) (l .inv .2) (l .inv .1) (omega arith)
+    head-done (a .out .now) (a .message .now) (a .id) (c .before .before .pre .0) (c .before .before .pre .1) (l .i) (l .out) (l .inv .2) (l .inv .1) (omega arith)
 
 pub write-head-spec : {M : Type 1} → statement M
 write-head-spec =

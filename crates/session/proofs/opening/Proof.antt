@@ -31,7 +31,7 @@ same-length : tie.Need-same-length
 same-length c = search needs
 
 returns : tie.Need-returns
-returns c = let a = c .before .before .before .before .before .before .before .before .before .before .before .before .before .before .args in let few : blockCount (c .before .before .before .before .before .before .before .before .before .before .before .number-at .result) ≤ maxBlocks = omega (arith, c .before .before .before .before .before .before .before .before .before .before .block-count .ensures, c .before .before .before .before .before .before .before .before .before .if1 .taken) in opening-done (a .s .now) (a .room .now) (c .before .before .before .before .before .before .before .before .before .before .before .number-at .result) (c .says .result) (c .before .before .before .before .before .before .before .before .before .before .before .number-at .ensures .0) (c .before .before .before .before .before .before .before .before .number-at2 .result) (c .before .before .before .before .before .before .before .hash-at .result) _ (c .before .before .before .before .before .open .result) few (c .before .before .before .before .before .before .before .before .before .before .before .before .before .before .pre .1) (c .before .before .before .before .before .before .before .before .number-at2 .ensures .0) (c .before .before .before .before .before .before .before .hash-at .ensures) (c .before .before .before .before .before .open .ensures .0) (c .before .before .before .before .before .open .ensures .1) (c .before .if2 .taken) (c .says .ensures)
+returns c = let a = c .before .before .before .before .before .before .before .before .before .before .before .before .before .before .args in let few : blockCount (c .before .before .before .before .before .before .before .before .before .before .before .number-at .result) ≤ maxBlocks = omega (arith, c .before .before .before .before .before .before .before .before .before .before .block-count .ensures, c .before .before .before .before .before .before .before .before .before .if1 .taken) in opening-done (a .store .now) (a .room .now) (c .before .before .before .before .before .before .before .before .before .before .before .number-at .result) (c .says .result) (c .before .before .before .before .before .before .before .before .before .before .before .number-at .ensures .0) (c .before .before .before .before .before .before .before .before .number-at2 .result) (c .before .before .before .before .before .before .before .hash-at .result) _ (c .before .before .before .before .before .open .result) few (c .before .before .before .before .before .before .before .before .before .before .before .before .before .before .pre .1) (c .before .before .before .before .before .before .before .before .number-at2 .ensures .0) (c .before .before .before .before .before .before .before .hash-at .ensures) (c .before .before .before .before .before .open .ensures .0) (c .before .before .before .before .before .open .ensures .1) (c .before .if2 .taken) (c .says .ensures)
 
 stops-requires : tie.Need-stops-requires
 stops-requires c κs = search needs
@@ -40,13 +40,13 @@ same-length-2 : tie.Need-same-length-2
 same-length-2 c = search needs
 
 returns-2 : tie.Need-returns-2
-returns-2 c = let a = c .before .before .before .before .before .before .before .before .before .before .before .before .before .before .args in let few : blockCount (c .before .before .before .before .before .before .before .before .before .before .before .number-at .result) ≤ maxBlocks = omega (arith, c .before .before .before .before .before .before .before .before .before .before .block-count .ensures, c .before .before .before .before .before .before .before .before .before .if1 .taken) in opening-refused (a .s .now) (a .room .now) (c .before .before .before .before .before .before .before .before .before .before .before .number-at .result) (c .stops .result) (c .before .before .before .before .before .before .before .before .before .before .before .number-at .ensures .0) (c .before .before .before .before .before .before .before .before .number-at2 .result) (c .before .before .before .before .before .before .before .hash-at .result) _ (c .before .before .before .before .before .open .result) few (c .before .before .before .before .before .before .before .before .before .before .before .before .before .before .pre .1) (c .before .before .before .before .before .before .before .before .number-at2 .ensures .0) (c .before .before .before .before .before .before .before .hash-at .ensures) (c .before .before .before .before .before .open .ensures .0) (c .before .before .before .before .before .open .ensures .1) (c .before .if2 .left) (c .stops .ensures)
+returns-2 c = let a = c .before .before .before .before .before .before .before .before .before .before .before .before .before .before .args in let few : blockCount (c .before .before .before .before .before .before .before .before .before .before .before .number-at .result) ≤ maxBlocks = omega (arith, c .before .before .before .before .before .before .before .before .before .before .block-count .ensures, c .before .before .before .before .before .before .before .before .before .if1 .taken) in opening-refused (a .store .now) (a .room .now) (c .before .before .before .before .before .before .before .before .before .before .before .number-at .result) (c .stops .result) (c .before .before .before .before .before .before .before .before .before .before .before .number-at .ensures .0) (c .before .before .before .before .before .before .before .before .number-at2 .result) (c .before .before .before .before .before .before .before .hash-at .result) _ (c .before .before .before .before .before .open .result) few (c .before .before .before .before .before .before .before .before .before .before .before .before .before .before .pre .1) (c .before .before .before .before .before .before .before .before .number-at2 .ensures .0) (c .before .before .before .before .before .before .before .hash-at .ensures) (c .before .before .before .before .before .open .ensures .0) (c .before .before .before .before .before .open .ensures .1) (c .before .if2 .left) (c .stops .ensures)
 
 stops-requires-2 : tie.Need-stops-requires-2
 stops-requires-2 c κs = search needs
 
 returns-3 : tie.Need-returns-3
-returns-3 c = let a = c .before .before .before .before .before .before .args in let many : maxBlocks < blockCount (c .before .before .before .number-at .result) = omega (arith, c .before .before .block-count .ensures, c .before .if1 .left) in opening-large (a .s .now) (a .room .now) (c .before .before .before .number-at .result) (c .stops2 .result) (c .before .before .before .number-at .ensures .0) many (c .stops2 .ensures)
+returns-3 c = let a = c .before .before .before .before .before .before .args in let many : maxBlocks < blockCount (c .before .before .before .number-at .result) = omega (arith, c .before .before .block-count .ensures, c .before .if1 .left) in opening-large (a .store .now) (a .room .now) (c .before .before .before .number-at .result) (c .stops2 .result) (c .before .before .before .number-at .ensures .0) many (c .stops2 .ensures)
 
 pub opening-spec : {M : Type 1} → statement M
 opening-spec =

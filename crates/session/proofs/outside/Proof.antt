@@ -11,7 +11,7 @@ goes-requires : tie.Need-goes-requires
 goes-requires c κs = search needs
 
 returns : tie.Need-returns
-returns c = let a = c .before .before .before .before .args in outside-opening (a .opened) (a .s .now) (a .room .now) (a .kind) (c .goes .result) (c .before .if1 .taken) (c .goes .ensures)
+returns c = let a = c .before .before .before .before .args in outside-opening (a .opened) (a .store .now) (a .room .now) (a .kind) (c .goes .result) (c .before .if1 .taken) (c .goes .ensures)
 
 slice-write-room : tie.Need-slice-write-room
 slice-write-room c = search needs
@@ -23,19 +23,19 @@ same-length : tie.Need-same-length
 same-length c = search needs
 
 returns-2 : tie.Need-returns-2
-returns-2 c = let a = c .before .before .before .before .before .before .args in outside-header (a .opened) (a .s .now) (a .room .now) (a .kind) (c .goes2 .result) (c .before .before .before .if1 .left) (c .before .before .if2 .taken) (c .before .if3 .taken) (omega (arith, c .before .before .before .before .before .before .pre)) (c .goes2 .ensures)
+returns-2 c = let a = c .before .before .before .before .before .before .args in outside-header (a .opened) (a .store .now) (a .room .now) (a .kind) (c .goes2 .result) (c .before .before .before .if1 .left) (c .before .before .if2 .taken) (c .before .if3 .taken) (omega (arith, c .before .before .before .before .before .before .pre)) (c .goes2 .ensures)
 
 stops-requires : tie.Need-stops-requires
 stops-requires c κs = search needs
 
 returns-3 : tie.Need-returns-3
-returns-3 c = let a = c .before .before .before .before .before .before .args in outside-other (a .opened) (a .s .now) (a .room .now) (a .kind) (c .stops .result) (c .before .before .before .if1 .left) (c .before .before .if2 .taken) (c .before .if3 .left) (c .stops .ensures)
+returns-3 c = let a = c .before .before .before .before .before .before .args in outside-other (a .opened) (a .store .now) (a .room .now) (a .kind) (c .stops .result) (c .before .before .before .if1 .left) (c .before .before .if2 .taken) (c .before .if3 .left) (c .stops .ensures)
 
 stops-requires-2 : tie.Need-stops-requires-2
 stops-requires-2 c κs = search needs
 
 returns-4 : tie.Need-returns-4
-returns-4 c = let a = c .before .before .before .before .before .args in outside-fresh (a .opened) (a .s .now) (a .room .now) (a .kind) (c .stops2 .result) (c .before .before .if1 .left) (c .before .if2 .left) (c .stops2 .ensures)
+returns-4 c = let a = c .before .before .before .before .before .args in outside-fresh (a .opened) (a .store .now) (a .room .now) (a .kind) (c .stops2 .result) (c .before .before .if1 .left) (c .before .if2 .left) (c .stops2 .ensures)
 
 pub outside-spec : {M : Type 1} → statement M
 outside-spec =

@@ -18,7 +18,7 @@ abbrev μ-loop : tie.MeasureT-loop
 μ-loop s₀ room₀ piece q₀ i₀ s room q i = length piece - i
 
 loop-holds : tie.Need-loop-holds Inv-loop μ-loop
-loop-holds c = let a = c .before .before .before .args in reached-start (a .piece .now) (a .s .now) (a .room .now) (a .p) (c .before .before .before .pre .due)
+loop-holds c = let a = c .before .before .before .args in reached-start (a .piece .now) (a .store .now) (a .room .now) (a .progress) (c .before .before .before .pre .due)
 
 shared-slice-read-b : tie.Need-shared-slice-read-b Inv-loop μ-loop
 shared-slice-read-b c = search needs
@@ -43,13 +43,13 @@ same-length-2 : tie.Need-same-length-2 Inv-loop μ-loop
 same-length-2 c = search needs
 
 returns : tie.Need-returns Inv-loop μ-loop
-returns c = let R = c .before .before .before .before .before .before .before .before .before .before .before .before .loop .inv in reached-said _ _ _ _ (c .before .before .before .before .before .before .before .before .before .before .before .before .loop .s) (c .before .before .before .before .before .before .before .before .before .before .before .before .loop .room) (c .before .before .before .before .before .before .before .before .before .before .before .before .loop .q) (c .before .before .before .before .before .before .before .before .before .before .before .before .loop .i) R _ (c .before .before .before .before .before .before .before .take-byte .result) _ _ (c .before .before .before .before .before .before .before .before .before .before .before .loop-test .taken) refl (c .before .before .before .before .before .before .before .take-byte .ensures) (sym (c .before .is-silent .ensures) ∙ not-true _ (c .if1 .taken)) _ refl
+returns c = let R = c .before .before .before .before .before .before .before .before .before .before .before .before .loop .inv in reached-said _ _ _ _ (c .before .before .before .before .before .before .before .before .before .before .before .before .loop .store) (c .before .before .before .before .before .before .before .before .before .before .before .before .loop .room) (c .before .before .before .before .before .before .before .before .before .before .before .before .loop .q) (c .before .before .before .before .before .before .before .before .before .before .before .before .loop .i) R _ (c .before .before .before .before .before .before .before .take-byte .result) _ _ (c .before .before .before .before .before .before .before .before .before .before .before .loop-test .taken) refl (c .before .before .before .before .before .before .before .take-byte .ensures) (sym (c .before .is-silent .ensures) ∙ not-true _ (c .if1 .taken)) _ refl
 
 loop-less : tie.Need-loop-less Inv-loop μ-loop
 loop-less c = search needs
 
 loop-again : tie.Need-loop-again Inv-loop μ-loop
-loop-again c = let R = c .before .before .before .before .before .before .before .before .before .before .before .before .loop .inv in reached-next _ _ _ _ (c .before .before .before .before .before .before .before .before .before .before .before .before .loop .s) (c .before .before .before .before .before .before .before .before .before .before .before .before .loop .room) (c .before .before .before .before .before .before .before .before .before .before .before .before .loop .q) (c .before .before .before .before .before .before .before .before .before .before .before .before .loop .i) R _ (c .before .before .before .before .before .before .before .take-byte .result) _ _ (c .before .before .before .before .before .before .before .before .before .before .before .loop-test .taken) refl (c .before .before .before .before .before .before .before .take-byte .ensures) (sym (c .before .is-silent .ensures) ∙ not-false _ (c .if1 .left)) (search needs) (search needs)
+loop-again c = let R = c .before .before .before .before .before .before .before .before .before .before .before .before .loop .inv in reached-next _ _ _ _ (c .before .before .before .before .before .before .before .before .before .before .before .before .loop .store) (c .before .before .before .before .before .before .before .before .before .before .before .before .loop .room) (c .before .before .before .before .before .before .before .before .before .before .before .before .loop .q) (c .before .before .before .before .before .before .before .before .before .before .before .before .loop .i) R _ (c .before .before .before .before .before .before .before .take-byte .result) _ _ (c .before .before .before .before .before .before .before .before .before .before .before .loop-test .taken) refl (c .before .before .before .before .before .before .before .take-byte .ensures) (sym (c .before .is-silent .ensures) ∙ not-false _ (c .if1 .left)) (search needs) (search needs)
 
 same-length-3 : tie.Need-same-length-3 Inv-loop μ-loop
 same-length-3 c = search needs
@@ -58,7 +58,7 @@ same-length-4 : tie.Need-same-length-4 Inv-loop μ-loop
 same-length-4 c = search needs
 
 returns-2 : tie.Need-returns-2 Inv-loop μ-loop
-returns-2 c = let R = c .before .loop .inv in reached-end _ _ _ _ (c .before .loop .s) (c .before .loop .room) (c .before .loop .q) (c .before .loop .i) R (c .loop-test .left) _ refl
+returns-2 c = let R = c .before .loop .inv in reached-end _ _ _ _ (c .before .loop .store) (c .before .loop .room) (c .before .loop .q) (c .before .loop .i) R (c .loop-test .left) _ refl
 
 pub take-piece-spec : {M : Type 1} → statement M
 take-piece-spec =

@@ -20,7 +20,7 @@ use Rattle.settling.proofs.+look_heap.{statement}
 use Rattle.settling.proofs.+look_heap.Tie.{close}
 
 abbrev μ-look-heap : Measures 2 look-heap-kinds.ps ℕ
-μ-look-heap κs a = a .1 .1 .1 .0
+μ-look-heap κs a = a .1 .1 .0
 
 abbrev look-heap-at : ℕ → In 2 look-heap-kinds.ps
 look-heap-at t = and 2 look-heap-kinds.ps (is 2 look-heap-kinds.ps μ-look-heap t) look-heap.Pre
@@ -42,16 +42,16 @@ look-heap-claims t = (
 )
 
 look-heap-mul-hash-at : (t : ℕ) → look-heap-lts.Need-mul-hash-at (look-heap-claims t) (look-heap-at t) look-heap.Post
-look-heap-mul-hash-at t c = let w = hash-within _ (c .before .before .args .k) (c .before .before .args .x) (c .before .before .pre .1 .3) in omega arith
+look-heap-mul-hash-at t c = let w = hash-within _ (c .before .before .args .height) (c .before .before .args .x) (c .before .before .pre .1 .3) in omega arith
 
 look-heap-hash-at-requires : (t : ℕ) → look-heap-lts.Need-hash-at-requires (look-heap-claims t) (look-heap-at t) look-heap.Post
-look-heap-hash-at-requires t c κs = hash-within _ (c .before .before .args .k) (c .before .before .args .x) (c .before .before .pre .1 .3)
+look-heap-hash-at-requires t c κs = hash-within _ (c .before .before .args .height) (c .before .before .args .x) (c .before .before .pre .1 .3)
 
 look-heap-agrees-at-requires : (t : ℕ) → look-heap-lts.Need-agrees-at-requires (look-heap-claims t) (look-heap-at t) look-heap.Post
-look-heap-agrees-at-requires t c κs = omega (arith, c .before .before .before .pre .1 .0 .room, fit-self (c .before .before .before .pre .1 .0))
+look-heap-agrees-at-requires t c κs = fit-self (c .before .before .before .pre .1 .0)
 
 look-heap-returns : (t : ℕ) → look-heap-lts.Need-returns (look-heap-claims t) (look-heap-at t) look-heap.Post
-look-heap-returns t c = let a = c .before .before .before .before .before .args in looked-zero (a .s .now) (hashIn (a .heap .now)) (a .k) (a .n) (a .x) _ _ (c .if1 .taken) (c .before .before .hash-at .ensures) (c .before .agrees-at .ensures) .1
+look-heap-returns t c = let a = c .before .before .before .before .before .args in looked-zero (a .store .now) (hashIn (a .heap .now)) (a .height) (a .top) (a .x) _ _ (c .if1 .taken) (c .before .before .hash-at .ensures) (c .before .agrees-at .ensures) .1
 
 look-heap-sub-d : (t : ℕ) → look-heap-lts.Need-sub-d (look-heap-claims t) (look-heap-at t) look-heap.Post
 look-heap-sub-d t c = search needs
@@ -59,37 +59,37 @@ look-heap-sub-d t c = search needs
 look-heap-mul-n2 : (t : ℕ) → look-heap-lts.Need-mul-n2 (look-heap-claims t) (look-heap-at t) look-heap.Post
 look-heap-mul-n2 t c = let a = c .before .before .before .before .before .args in
     let p = c .before .before .before .before .before .pre .1 in
-    let q = children-in (length (a .heap .now)) (a .k) (a .x) (omega (arith, c .if1 .left)) (p .3) in
-    omega (arith, q .0, p .0 .room, fit-self (fit-right (p .0) (c .if1 .left)))
+    let q = children-in (length (a .heap .now)) (a .height) (a .x) (omega (arith, c .if1 .left)) (p .3) in
+    omega (arith, q .0, fit-self (fit-right (p .0) (c .if1 .left)))
 
 look-heap-mul-x2 : (t : ℕ) → look-heap-lts.Need-mul-x2 (look-heap-claims t) (look-heap-at t) look-heap.Post
 look-heap-mul-x2 t c = let a = c .before .before .before .before .before .args in
     let p = c .before .before .before .before .before .pre .1 in
-    let q = children-in (length (a .heap .now)) (a .k) (a .x) (omega (arith, c .if1 .left)) (p .3) in
-    omega (arith, q .0, p .0 .room, fit-self (fit-right (p .0) (c .if1 .left)))
+    let q = children-in (length (a .heap .now)) (a .height) (a .x) (omega (arith, c .if1 .left)) (p .3) in
+    omega (arith, q .0, fit-self (fit-right (p .0) (c .if1 .left)))
 
 look-heap-add-n3 : (t : ℕ) → look-heap-lts.Need-add-n3 (look-heap-claims t) (look-heap-at t) look-heap.Post
 look-heap-add-n3 t c = let a = c .before .before .before .before .before .args in
     let p = c .before .before .before .before .before .pre .1 in
-    let q = children-in (length (a .heap .now)) (a .k) (a .x) (omega (arith, c .if1 .left)) (p .3) in
-    omega (arith, q .0, p .0 .room, fit-self (fit-right (p .0) (c .if1 .left)))
+    let q = children-in (length (a .heap .now)) (a .height) (a .x) (omega (arith, c .if1 .left)) (p .3) in
+    omega (arith, q .0, fit-self (fit-right (p .0) (c .if1 .left)))
 
 look-heap-add-x3 : (t : ℕ) → look-heap-lts.Need-add-x3 (look-heap-claims t) (look-heap-at t) look-heap.Post
 look-heap-add-x3 t c = let a = c .before .before .before .before .before .args in
     let p = c .before .before .before .before .before .pre .1 in
-    let q = children-in (length (a .heap .now)) (a .k) (a .x) (omega (arith, c .if1 .left)) (p .3) in
-    omega (arith, q .0, p .0 .room, fit-self (fit-right (p .0) (c .if1 .left)))
+    let q = children-in (length (a .heap .now)) (a .height) (a .x) (omega (arith, c .if1 .left)) (p .3) in
+    omega (arith, q .0, fit-self (fit-right (p .0) (c .if1 .left)))
 
 look-heap-look-heap-requires : (t : ℕ) → look-heap-lts.Need-look-heap-requires (look-heap-claims t) (look-heap-at t) look-heap.Post
 look-heap-look-heap-requires t c κs = let a = c .before .before .before .before .before .args in
     let p = c .before .before .before .before .before .pre .1 in
-    let q = children-in (length (a .heap .now)) (a .k) (a .x) (omega (arith, c .if1 .left)) (p .3) in
+    let q = children-in (length (a .heap .now)) (a .height) (a .x) (omega (arith, c .if1 .left)) (p .3) in
     (omega arith, (fit-first (fit-left (p .0) (c .if1 .left)), p .1, omega (arith, p .2), q .1))
 
 look-heap-look-heap-requires-2 : (t : ℕ) → look-heap-lts.Need-look-heap-requires-2 (look-heap-claims t) (look-heap-at t) look-heap.Post
 look-heap-look-heap-requires-2 t c κs = let a = c .before .before .before .before .before .before .args in
     let p = c .before .before .before .before .before .before .pre .1 in
-    let q = children-in (length (a .heap .now)) (a .k) (a .x) (omega (arith, c .before .if1 .left)) (p .3) in
+    let q = children-in (length (a .heap .now)) (a .height) (a .x) (omega (arith, c .before .if1 .left)) (p .3) in
     (omega arith, (fit-first (fit-right (p .0) (c .before .if1 .left)), p .1, omega (arith, p .2), q .2))
 
 look-heap-all-three-requires : (t : ℕ) → look-heap-lts.Need-all-three-requires (look-heap-claims t) (look-heap-at t) look-heap.Post
@@ -98,7 +98,7 @@ look-heap-all-three-requires t c κs = search needs
 look-heap-returns-2 : (t : ℕ) → look-heap-lts.Need-returns-2 (look-heap-claims t) (look-heap-at t) look-heap.Post
 look-heap-returns-2 t c = let a = c .before .before .before .before .before .before .before .before .args in
     let p = c .before .before .before .before .before .before .before .before .pre .1 in
-    heap-looked (a .heap .now) (p .1) (a .k) (a .x) (p .2) (p .3) (a .s .now) _ (a .n) _ _ _ _ (c .before .before .before .if1 .left) (c .before .before .before .before .before .hash-at .ensures) (c .before .before .before .before .agrees-at .ensures) (c .before .before .look-heap .ensures) (c .before .look-heap2 .ensures) (c .all-three .ensures)
+    heap-looked (a .heap .now) (p .1) (a .height) (a .x) (p .2) (p .3) (a .store .now) _ (a .top) _ _ _ _ (c .before .before .before .if1 .left) (c .before .before .before .before .before .hash-at .ensures) (c .before .before .before .before .agrees-at .ensures) (c .before .before .look-heap .ensures) (c .before .look-heap2 .ensures) (c .all-three .ensures)
 
 pub +look-heap-spec : {M : Type 1} → statement M
 +look-heap-spec = close μ-look-heap λ t. look-heap-lts.spec (look-heap-claims t)

@@ -21,7 +21,7 @@ use Rattle.settling.proofs.+look_parts.{statement}
 use Rattle.settling.proofs.+look_parts.Tie.{close}
 
 abbrev μ-look-parts : Measures 3 look-parts-kinds.ps ℕ
-μ-look-parts κs a = a .1 .1 .1 .1 .1 .0
+μ-look-parts κs a = a .1 .1 .1 .1 .0
 
 abbrev look-parts-at : ℕ → In 3 look-parts-kinds.ps
 look-parts-at t = and 3 look-parts-kinds.ps (is 3 look-parts-kinds.ps μ-look-parts t) look-parts.Pre
@@ -48,7 +48,7 @@ look-parts-shl-m : (t : ℕ) → look-parts-lts.Need-shl-m (look-parts-claims t)
 look-parts-shl-m t c = omega (arith, c .if1 .taken)
 
 look-parts-mul-size : (t : ℕ) → look-parts-lts.Need-mul-size (look-parts-claims t) (look-parts-at t) look-parts.Post
-look-parts-mul-size t c = let q = room-part (c .before .before .before .before .args .k) (c .if1 .taken) in omega (arith, q .0, q .1)
+look-parts-mul-size t c = let q = room-part (c .before .before .before .before .args .height) (c .if1 .taken) in omega (arith, q .0, q .1)
 
 look-parts-sub-look-part : (t : ℕ) → look-parts-lts.Need-sub-look-part (look-parts-claims t) (look-parts-at t) look-parts.Post
 look-parts-sub-look-part t c = search needs
@@ -57,13 +57,13 @@ look-parts-part-look-part-start : (t : ℕ) → look-parts-lts.Need-part-look-pa
 look-parts-part-look-part-start t c = search needs
 
 look-parts-part-look-part-end : (t : ℕ) → look-parts-lts.Need-part-look-part-end (look-parts-claims t) (look-parts-at t) look-parts.Post
-look-parts-part-look-part-end t c = let q = room-part (c .before .before .before .before .args .k) (c .if1 .taken) in omega (arith, q .0, q .1, c .before .before .before .before .pre .1 .1)
+look-parts-part-look-part-end t c = let q = room-part (c .before .before .before .before .args .height) (c .if1 .taken) in omega (arith, q .0, q .1, c .before .before .before .before .pre .1 .1)
 
 look-parts-look-part-requires : (t : ℕ) → look-parts-lts.Need-look-part-requires (look-parts-claims t) (look-parts-at t) look-parts.Post
 look-parts-look-part-requires t c κs = let a = c .before .before .before .before .before .args in
     let p = c .before .before .before .before .before .pre .1 in
-    let q = room-part (a .k) (c .before .if1 .taken) in
-    rw (q .0) (p .0, refl, front-length (a .room .now) (64 * 2 ^ a .k) (omega (arith, q .1, p .1)))
+    let q = room-part (a .height) (c .before .if1 .taken) in
+    rw (q .0) (p .0, refl, front-length (a .room .now) (64 * 2 ^ a .height) (omega (arith, q .1, p .1)))
 
 look-parts-same-length : (t : ℕ) → look-parts-lts.Need-same-length (look-parts-claims t) (look-parts-at t) look-parts.Post
 look-parts-same-length t c = search needs
@@ -71,34 +71,34 @@ look-parts-same-length t c = search needs
 look-parts-returns : (t : ℕ) → look-parts-lts.Need-returns (look-parts-claims t) (look-parts-at t) look-parts.Post
 look-parts-returns t c = let a = c .before .before .before .before .before .before .before .before .args in
     let e = c .before .before .look-part .ensures in
-    (e .0, e .1, heaped-by (runLeaf (a .run .now) (a .past)) (a .k) (a .j) _ _ _ (room-part (a .k) (c .before .before .before .before .if1 .taken) .0) (e .2))
+    (e .0, e .1, heaped-by (runLeaf (a .run .now) (a .pad)) (a .height) (a .index) _ _ _ (room-part (a .height) (c .before .before .before .before .if1 .taken) .0) (e .2))
 
 look-parts-sub-d : (t : ℕ) → look-parts-lts.Need-sub-d (look-parts-claims t) (look-parts-at t) look-parts.Post
 look-parts-sub-d t c = search needs
 
 look-parts-mul-n2 : (t : ℕ) → look-parts-lts.Need-mul-n2 (look-parts-claims t) (look-parts-at t) look-parts.Post
-look-parts-mul-n2 t c = let ne : c .before .before .before .before .args .k ≡ 0 → ⊥ = λ z. omega (arith, c .if1 .left) in omega (arith, c .before .before .before .before .pre .1 .0 .room, c .before .before .before .before .pre .1 .0 .index, fit-self (fit-right (c .before .before .before .before .pre .1 .0) ne))
+look-parts-mul-n2 t c = let ne : c .before .before .before .before .args .height ≡ 0 → ⊥ = λ z. omega (arith, c .if1 .left) in omega (arith, c .before .before .before .before .pre .1 .0 .index, fit-self (fit-right (c .before .before .before .before .pre .1 .0) ne))
 
 look-parts-mul-j2 : (t : ℕ) → look-parts-lts.Need-mul-j2 (look-parts-claims t) (look-parts-at t) look-parts.Post
-look-parts-mul-j2 t c = let ne : c .before .before .before .before .args .k ≡ 0 → ⊥ = λ z. omega (arith, c .if1 .left) in omega (arith, c .before .before .before .before .pre .1 .0 .room, c .before .before .before .before .pre .1 .0 .index, fit-self (fit-right (c .before .before .before .before .pre .1 .0) ne))
+look-parts-mul-j2 t c = let ne : c .before .before .before .before .args .height ≡ 0 → ⊥ = λ z. omega (arith, c .if1 .left) in omega (arith, c .before .before .before .before .pre .1 .0 .index, fit-self (fit-right (c .before .before .before .before .pre .1 .0) ne))
 
 look-parts-add-n3 : (t : ℕ) → look-parts-lts.Need-add-n3 (look-parts-claims t) (look-parts-at t) look-parts.Post
-look-parts-add-n3 t c = let ne : c .before .before .before .before .args .k ≡ 0 → ⊥ = λ z. omega (arith, c .if1 .left) in omega (arith, c .before .before .before .before .pre .1 .0 .room, c .before .before .before .before .pre .1 .0 .index, fit-self (fit-right (c .before .before .before .before .pre .1 .0) ne))
+look-parts-add-n3 t c = let ne : c .before .before .before .before .args .height ≡ 0 → ⊥ = λ z. omega (arith, c .if1 .left) in omega (arith, c .before .before .before .before .pre .1 .0 .index, fit-self (fit-right (c .before .before .before .before .pre .1 .0) ne))
 
 look-parts-add-j3 : (t : ℕ) → look-parts-lts.Need-add-j3 (look-parts-claims t) (look-parts-at t) look-parts.Post
-look-parts-add-j3 t c = let ne : c .before .before .before .before .args .k ≡ 0 → ⊥ = λ z. omega (arith, c .if1 .left) in omega (arith, c .before .before .before .before .pre .1 .0 .room, c .before .before .before .before .pre .1 .0 .index, fit-self (fit-right (c .before .before .before .before .pre .1 .0) ne))
+look-parts-add-j3 t c = let ne : c .before .before .before .before .args .height ≡ 0 → ⊥ = λ z. omega (arith, c .if1 .left) in omega (arith, c .before .before .before .before .pre .1 .0 .index, fit-self (fit-right (c .before .before .before .before .pre .1 .0) ne))
 
 look-parts-look-parts-requires : (t : ℕ) → look-parts-lts.Need-look-parts-requires (look-parts-claims t) (look-parts-at t) look-parts.Post
-look-parts-look-parts-requires t c κs = let ne : c .before .before .before .before .before .args .k ≡ 0 → ⊥ = λ z. omega (arith, c .before .if1 .left) in (omega arith, (fit-left (c .before .before .before .before .before .pre .1 .0) ne, c .before .before .before .before .before .pre .1 .1))
+look-parts-look-parts-requires t c κs = let ne : c .before .before .before .before .before .args .height ≡ 0 → ⊥ = λ z. omega (arith, c .before .if1 .left) in (omega arith, (fit-left (c .before .before .before .before .before .pre .1 .0) ne, c .before .before .before .before .before .pre .1 .1))
 
 look-parts-look-parts-requires-2 : (t : ℕ) → look-parts-lts.Need-look-parts-requires-2 (look-parts-claims t) (look-parts-at t) look-parts.Post
-look-parts-look-parts-requires-2 t c κs = let ne : c .before .before .before .before .before .before .before .before .before .args .k ≡ 0 → ⊥ = λ z. omega (arith, c .before .before .before .before .before .if1 .left) in (omega arith, (fit-right (c .before .before .before .before .before .before .before .before .before .pre .1 .0) ne, c .before .before .before .look-parts .kept .1 .1 .1 .0 ∙ c .before .before .before .before .before .before .before .before .before .pre .1 .1))
+look-parts-look-parts-requires-2 t c κs = let ne : c .before .before .before .before .before .before .before .before .before .args .height ≡ 0 → ⊥ = λ z. omega (arith, c .before .before .before .before .before .if1 .left) in (omega arith, (fit-right (c .before .before .before .before .before .before .before .before .before .pre .1 .0) ne, c .before .before .before .look-parts .kept .1 .1 .1 .0 ∙ c .before .before .before .before .before .before .before .before .before .pre .1 .1))
 
 look-parts-pair-requires : (t : ℕ) → look-parts-lts.Need-pair-requires (look-parts-claims t) (look-parts-at t) look-parts.Post
 look-parts-pair-requires t c κs = search needs
 
 look-parts-agrees-at-requires : (t : ℕ) → look-parts-lts.Need-agrees-at-requires (look-parts-claims t) (look-parts-at t) look-parts.Post
-look-parts-agrees-at-requires t c κs = omega (arith, c .before .before .before .before .before .before .before .before .before .before .before .before .before .before .before .pre .1 .0 .room, fit-self (c .before .before .before .before .before .before .before .before .before .before .before .before .before .before .before .pre .1 .0))
+look-parts-agrees-at-requires t c κs = fit-self (c .before .before .before .before .before .before .before .before .before .before .before .before .before .before .before .pre .1 .0)
 
 look-parts-all-three-requires : (t : ℕ) → look-parts-lts.Need-all-three-requires (look-parts-claims t) (look-parts-at t) look-parts.Post
 look-parts-all-three-requires t c κs = search needs
@@ -107,12 +107,12 @@ look-parts-same-length-2 : (t : ℕ) → look-parts-lts.Need-same-length-2 (look
 look-parts-same-length-2 t c = search needs
 
 look-parts-returns-2 : (t : ℕ) → look-parts-lts.Need-returns-2 (look-parts-claims t) (look-parts-at t) look-parts.Post
-look-parts-returns-2 t c = let ne : c .before .before .before .before .before .before .before .before .before .before .before .before .before .before .before .before .before .args .k ≡ 0 → ⊥ = λ z. omega (arith, c .before .before .before .before .before .before .before .before .before .before .before .before .before .if1 .left) in let a = c .before .before .before .before .before .before .before .before .before .before .before .before .before .before .before .before .before .args in
+look-parts-returns-2 t c = let ne : c .before .before .before .before .before .before .before .before .before .before .before .before .before .before .before .before .before .args .height ≡ 0 → ⊥ = λ z. omega (arith, c .before .before .before .before .before .before .before .before .before .before .before .before .before .if1 .left) in let a = c .before .before .before .before .before .before .before .before .before .before .before .before .before .before .before .before .before .args in
     let l = c .before .before .before .before .before .before .before .before .before .before .before .look-parts .ensures in
     let r = c .before .before .before .before .before .before .before .look-parts2 .ensures in
-    let d = looked-up (a .s .now) (runLeaf (a .run .now) (a .past)) (a .k) (a .n) (a .j) (c .before .before .before .before .before .before .before .before .before .before .before .look-parts .result .hash) (c .before .before .before .before .before .before .before .before .before .before .before .look-parts .result .agrees) (c .before .before .before .before .before .before .before .look-parts2 .result .hash) (c .before .before .before .before .before .before .before .look-parts2 .result .agrees) (c .before .before .pair .result) (c .before .agrees-at .result) (c .all-three .result)
+    let d = looked-up (a .store .now) (runLeaf (a .run .now) (a .pad)) (a .height) (a .top) (a .index) (c .before .before .before .before .before .before .before .before .before .before .before .look-parts .result .hash) (c .before .before .before .before .before .before .before .before .before .before .before .look-parts .result .agrees) (c .before .before .before .before .before .before .before .look-parts2 .result .hash) (c .before .before .before .before .before .before .before .look-parts2 .result .agrees) (c .before .before .pair .result) (c .before .agrees-at .result) (c .all-three .result)
     ne (l .0, l .1) (r .0, r .1) (c .before .before .pair .ensures) (c .before .agrees-at .ensures) (c .all-three .ensures) in
-    (d .0, d .1, heaped-high (runLeaf (a .run .now) (a .past)) (a .k) (a .j) _ (λ h. omega (arith, h, c .before .before .before .before .before .before .before .before .before .before .before .before .before .if1 .left)))
+    (d .0, d .1, heaped-high (runLeaf (a .run .now) (a .pad)) (a .height) (a .index) _ (λ h. omega (arith, h, c .before .before .before .before .before .before .before .before .before .before .before .before .before .if1 .left)))
 
 pub +look-parts-spec : {M : Type 1} → statement M
 +look-parts-spec = close μ-look-parts λ t. look-parts-lts.spec (look-parts-claims t)

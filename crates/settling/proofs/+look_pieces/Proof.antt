@@ -21,7 +21,7 @@ use Rattle.settling.proofs.+look_pieces.{statement}
 use Rattle.settling.proofs.+look_pieces.Tie.{close}
 
 abbrev μ-look-pieces : Measures 3 look-pieces-kinds.ps ℕ
-μ-look-pieces κs a = a .1 .1 .1 .1 .0
+μ-look-pieces κs a = a .1 .1 .1 .0
 
 abbrev look-pieces-at : ℕ → In 3 look-pieces-kinds.ps
 look-pieces-at t = and 3 look-pieces-kinds.ps (is 3 look-pieces-kinds.ps μ-look-pieces t) look-pieces.Pre
@@ -48,7 +48,7 @@ look-pieces-shl-m : (t : ℕ) → look-pieces-lts.Need-shl-m (look-pieces-claims
 look-pieces-shl-m t c = omega (arith, c .if1 .taken)
 
 look-pieces-mul-size : (t : ℕ) → look-pieces-lts.Need-mul-size (look-pieces-claims t) (look-pieces-at t) look-pieces.Post
-look-pieces-mul-size t c = let q = room-part (c .before .before .before .before .args .k) (c .if1 .taken) in omega (arith, q .0, q .1)
+look-pieces-mul-size t c = let q = room-part (c .before .before .before .before .args .height) (c .if1 .taken) in omega (arith, q .0, q .1)
 
 look-pieces-sub-look-blocks : (t : ℕ) → look-pieces-lts.Need-sub-look-blocks (look-pieces-claims t) (look-pieces-at t) look-pieces.Post
 look-pieces-sub-look-blocks t c = search needs
@@ -57,13 +57,13 @@ look-pieces-part-look-blocks-start : (t : ℕ) → look-pieces-lts.Need-part-loo
 look-pieces-part-look-blocks-start t c = search needs
 
 look-pieces-part-look-blocks-end : (t : ℕ) → look-pieces-lts.Need-part-look-blocks-end (look-pieces-claims t) (look-pieces-at t) look-pieces.Post
-look-pieces-part-look-blocks-end t c = let q = room-part (c .before .before .before .before .args .k) (c .if1 .taken) in omega (arith, q .0, q .1, c .before .before .before .before .pre .1 .1)
+look-pieces-part-look-blocks-end t c = let q = room-part (c .before .before .before .before .args .height) (c .if1 .taken) in omega (arith, q .0, q .1, c .before .before .before .before .pre .1 .1)
 
 look-pieces-look-blocks-requires : (t : ℕ) → look-pieces-lts.Need-look-blocks-requires (look-pieces-claims t) (look-pieces-at t) look-pieces.Post
 look-pieces-look-blocks-requires t c κs = let a = c .before .before .before .before .before .args in
     let p = c .before .before .before .before .before .pre .1 in
-    let q = room-part (a .k) (c .before .if1 .taken) in
-    rw (q .0) (p .0, refl, front-length (a .room .now) (64 * 2 ^ a .k) (omega (arith, q .1, p .1)))
+    let q = room-part (a .height) (c .before .if1 .taken) in
+    rw (q .0) (p .0, refl, front-length (a .room .now) (64 * 2 ^ a .height) (omega (arith, q .1, p .1)))
 
 look-pieces-same-length : (t : ℕ) → look-pieces-lts.Need-same-length (look-pieces-claims t) (look-pieces-at t) look-pieces.Post
 look-pieces-same-length t c = search needs
@@ -75,28 +75,28 @@ look-pieces-sub-d : (t : ℕ) → look-pieces-lts.Need-sub-d (look-pieces-claims
 look-pieces-sub-d t c = search needs
 
 look-pieces-mul-n2 : (t : ℕ) → look-pieces-lts.Need-mul-n2 (look-pieces-claims t) (look-pieces-at t) look-pieces.Post
-look-pieces-mul-n2 t c = let ne : c .before .before .before .before .args .k ≡ 0 → ⊥ = λ z. omega (arith, c .if1 .left) in omega (arith, c .before .before .before .before .pre .1 .0 .room, c .before .before .before .before .pre .1 .0 .index, fit-self (fit-right (c .before .before .before .before .pre .1 .0) ne))
+look-pieces-mul-n2 t c = let ne : c .before .before .before .before .args .height ≡ 0 → ⊥ = λ z. omega (arith, c .if1 .left) in omega (arith, c .before .before .before .before .pre .1 .0 .index, fit-self (fit-right (c .before .before .before .before .pre .1 .0) ne))
 
 look-pieces-mul-j2 : (t : ℕ) → look-pieces-lts.Need-mul-j2 (look-pieces-claims t) (look-pieces-at t) look-pieces.Post
-look-pieces-mul-j2 t c = let ne : c .before .before .before .before .args .k ≡ 0 → ⊥ = λ z. omega (arith, c .if1 .left) in omega (arith, c .before .before .before .before .pre .1 .0 .room, c .before .before .before .before .pre .1 .0 .index, fit-self (fit-right (c .before .before .before .before .pre .1 .0) ne))
+look-pieces-mul-j2 t c = let ne : c .before .before .before .before .args .height ≡ 0 → ⊥ = λ z. omega (arith, c .if1 .left) in omega (arith, c .before .before .before .before .pre .1 .0 .index, fit-self (fit-right (c .before .before .before .before .pre .1 .0) ne))
 
 look-pieces-add-n3 : (t : ℕ) → look-pieces-lts.Need-add-n3 (look-pieces-claims t) (look-pieces-at t) look-pieces.Post
-look-pieces-add-n3 t c = let ne : c .before .before .before .before .args .k ≡ 0 → ⊥ = λ z. omega (arith, c .if1 .left) in omega (arith, c .before .before .before .before .pre .1 .0 .room, c .before .before .before .before .pre .1 .0 .index, fit-self (fit-right (c .before .before .before .before .pre .1 .0) ne))
+look-pieces-add-n3 t c = let ne : c .before .before .before .before .args .height ≡ 0 → ⊥ = λ z. omega (arith, c .if1 .left) in omega (arith, c .before .before .before .before .pre .1 .0 .index, fit-self (fit-right (c .before .before .before .before .pre .1 .0) ne))
 
 look-pieces-add-j3 : (t : ℕ) → look-pieces-lts.Need-add-j3 (look-pieces-claims t) (look-pieces-at t) look-pieces.Post
-look-pieces-add-j3 t c = let ne : c .before .before .before .before .args .k ≡ 0 → ⊥ = λ z. omega (arith, c .if1 .left) in omega (arith, c .before .before .before .before .pre .1 .0 .room, c .before .before .before .before .pre .1 .0 .index, fit-self (fit-right (c .before .before .before .before .pre .1 .0) ne))
+look-pieces-add-j3 t c = let ne : c .before .before .before .before .args .height ≡ 0 → ⊥ = λ z. omega (arith, c .if1 .left) in omega (arith, c .before .before .before .before .pre .1 .0 .index, fit-self (fit-right (c .before .before .before .before .pre .1 .0) ne))
 
 look-pieces-look-pieces-requires : (t : ℕ) → look-pieces-lts.Need-look-pieces-requires (look-pieces-claims t) (look-pieces-at t) look-pieces.Post
-look-pieces-look-pieces-requires t c κs = let ne : c .before .before .before .before .before .args .k ≡ 0 → ⊥ = λ z. omega (arith, c .before .if1 .left) in (omega arith, (fit-left (c .before .before .before .before .before .pre .1 .0) ne, c .before .before .before .before .before .pre .1 .1))
+look-pieces-look-pieces-requires t c κs = let ne : c .before .before .before .before .before .args .height ≡ 0 → ⊥ = λ z. omega (arith, c .before .if1 .left) in (omega arith, (fit-left (c .before .before .before .before .before .pre .1 .0) ne, c .before .before .before .before .before .pre .1 .1))
 
 look-pieces-look-pieces-requires-2 : (t : ℕ) → look-pieces-lts.Need-look-pieces-requires-2 (look-pieces-claims t) (look-pieces-at t) look-pieces.Post
-look-pieces-look-pieces-requires-2 t c κs = let ne : c .before .before .before .before .before .before .before .before .before .args .k ≡ 0 → ⊥ = λ z. omega (arith, c .before .before .before .before .before .if1 .left) in (omega arith, (fit-right (c .before .before .before .before .before .before .before .before .before .pre .1 .0) ne, c .before .before .before .look-pieces .kept .1 .1 .0 ∙ c .before .before .before .before .before .before .before .before .before .pre .1 .1))
+look-pieces-look-pieces-requires-2 t c κs = let ne : c .before .before .before .before .before .before .before .before .before .args .height ≡ 0 → ⊥ = λ z. omega (arith, c .before .before .before .before .before .if1 .left) in (omega arith, (fit-right (c .before .before .before .before .before .before .before .before .before .pre .1 .0) ne, c .before .before .before .look-pieces .kept .1 .1 .0 ∙ c .before .before .before .before .before .before .before .before .before .pre .1 .1))
 
 look-pieces-pair-requires : (t : ℕ) → look-pieces-lts.Need-pair-requires (look-pieces-claims t) (look-pieces-at t) look-pieces.Post
 look-pieces-pair-requires t c κs = search needs
 
 look-pieces-agrees-at-requires : (t : ℕ) → look-pieces-lts.Need-agrees-at-requires (look-pieces-claims t) (look-pieces-at t) look-pieces.Post
-look-pieces-agrees-at-requires t c κs = omega (arith, c .before .before .before .before .before .before .before .before .before .before .before .before .before .before .before .pre .1 .0 .room, fit-self (c .before .before .before .before .before .before .before .before .before .before .before .before .before .before .before .pre .1 .0))
+look-pieces-agrees-at-requires t c κs = fit-self (c .before .before .before .before .before .before .before .before .before .before .before .before .before .before .before .pre .1 .0)
 
 look-pieces-all-three-requires : (t : ℕ) → look-pieces-lts.Need-all-three-requires (look-pieces-claims t) (look-pieces-at t) look-pieces.Post
 look-pieces-all-three-requires t c κs = search needs
@@ -105,8 +105,8 @@ look-pieces-same-length-2 : (t : ℕ) → look-pieces-lts.Need-same-length-2 (lo
 look-pieces-same-length-2 t c = search needs
 
 look-pieces-returns-2 : (t : ℕ) → look-pieces-lts.Need-returns-2 (look-pieces-claims t) (look-pieces-at t) look-pieces.Post
-look-pieces-returns-2 t c = let ne : c .before .before .before .before .before .before .before .before .before .before .before .before .before .before .before .before .before .args .k ≡ 0 → ⊥ = λ z. omega (arith, c .before .before .before .before .before .before .before .before .before .before .before .before .before .if1 .left) in let a = c .before .before .before .before .before .before .before .before .before .before .before .before .before .before .before .before .before .args in
-    looked-up (a .s .now) (leafOf (a .bytes .now)) (a .k) (a .n) (a .j) (c .before .before .before .before .before .before .before .before .before .before .before .look-pieces .result .hash) (c .before .before .before .before .before .before .before .before .before .before .before .look-pieces .result .agrees) (c .before .before .before .before .before .before .before .look-pieces2 .result .hash) (c .before .before .before .before .before .before .before .look-pieces2 .result .agrees) (c .before .before .pair .result) (c .before .agrees-at .result) (c .all-three .result)
+look-pieces-returns-2 t c = let ne : c .before .before .before .before .before .before .before .before .before .before .before .before .before .before .before .before .before .args .height ≡ 0 → ⊥ = λ z. omega (arith, c .before .before .before .before .before .before .before .before .before .before .before .before .before .if1 .left) in let a = c .before .before .before .before .before .before .before .before .before .before .before .before .before .before .before .before .before .args in
+    looked-up (a .store .now) (leafOf (a .bytes .now)) (a .height) (a .top) (a .index) (c .before .before .before .before .before .before .before .before .before .before .before .look-pieces .result .hash) (c .before .before .before .before .before .before .before .before .before .before .before .look-pieces .result .agrees) (c .before .before .before .before .before .before .before .look-pieces2 .result .hash) (c .before .before .before .before .before .before .before .look-pieces2 .result .agrees) (c .before .before .pair .result) (c .before .agrees-at .result) (c .all-three .result)
     ne (c .before .before .before .before .before .before .before .before .before .before .before .look-pieces .ensures) (c .before .before .before .before .before .before .before .look-pieces2 .ensures) (c .before .before .pair .ensures) (c .before .agrees-at .ensures) (c .all-three .ensures)
 
 pub +look-pieces-spec : {M : Type 1} → statement M

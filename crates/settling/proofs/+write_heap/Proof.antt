@@ -8,7 +8,7 @@ use borrow.Author.Needs.{needs}
 use native.Mathlib.Omega.{arith}
 use lib.ListN.{length}
 use mathlib.Core.Path.{_∙_}
-use Prim.Native.Nat.{ℕ, _≤_, _<_, _+_, _*_, _^_}
+use Prim.Native.Nat.{ℕ, _≤_, _<_, _+_, _*_}
 use borrow.Fn.Kinds.{In}
 use borrow.Fn.PlainCycle.{Measures, is, falls, and}
 use Rattle.settling.proofs.write_heap.Reads as write-heap
@@ -20,7 +20,7 @@ use Rattle.settling.proofs.+write_heap.{statement}
 use Rattle.settling.proofs.+write_heap.Tie.{close}
 
 abbrev μ : Measures 2 kinds.ps ℕ
-μ κs a = a .1 .1 .1 .0
+μ κs a = a .1 .1 .0
 
 abbrev here : ℕ → In 2 kinds.ps
 here t = and 2 kinds.ps (is 2 kinds.ps μ t) write-heap.Pre
@@ -34,7 +34,7 @@ claims t = (hash-at-reads.Asked, hash-at-reads.Learnt, add-at-reads.Asked, add-a
 write-heap-returns : (t : ℕ) → lts.Need-returns (claims t) (here t) write-heap.Post
 write-heap-returns t c =
     let top = c .before .before in let leaf = top .before .before in let read = leaf .before in let a = read .before .before .before .args in
-    wrote-zero (a .s .now) (hashIn (a .heap .now)) (a .k) (a .n) (a .x) _ _ _ (leaf .if1 .taken) (read .hash-at .ensures)
+    wrote-zero (a .store .now) (hashIn (a .heap .now)) (a .height) (a .top) (a .x) _ _ _ (leaf .if1 .taken) (read .hash-at .ensures)
     (top .add-at .ensures .0) (top .add-at .ensures .1) .1
 
 -- ---- above the leaves
@@ -43,30 +43,30 @@ module _ (t : ℕ) (c : lts.Else1 (claims t) (here t) write-heap.Post) where
   abbrev start : lts.Start (claims t) (here t) write-heap.Post
   start = c .before .before .before .before
 
-  -- the children's numbers are below the largest, and their hashes are in the heap
-  child-below : 2 * start .args .n + 1 < start .args .b
-  child-below = fit-self (fit-right (start .pre .1 .0) (c .if1 .left))
+  -- the right child has a cell, and both hashes are in the heap
+  child-cell : 31 + 33 * (2 * start .args .top + 1 + 1) ≤ length (start .args .store .now)
+  child-cell = fit-self (fit-right (start .pre .1 .0) (c .if1 .left))
 
   child-in : 64 * start .args .x + 64 ≤ length (start .args .heap .now)
-  child-in = children-in (length (start .args .heap .now)) (start .args .k) (start .args .x) (omega (arith, c .if1 .left)) (start .pre .1 .3) .0
+  child-in = children-in (length (start .args .heap .now)) (start .args .height) (start .args .x) (omega (arith, c .if1 .left)) (start .pre .1 .3) .0
 
 write-heap-write-heap-requires : (t : ℕ) → lts.Need-write-heap-requires (claims t) (here t) write-heap.Post
 write-heap-write-heap-requires t c κs =
     let some = c .before in let s = start t some in let a = s .args in let p = s .pre .1 in
-    let q = children-in (length (a .heap .now)) (a .k) (a .x) (omega (arith, some .if1 .left)) (p .3) in
+    let q = children-in (length (a .heap .now)) (a .height) (a .x) (omega (arith, some .if1 .left)) (p .3) in
     (omega arith, (fit-first (fit-left (p .0) (some .if1 .left)), p .1, omega (arith, p .2), q .1))
 
 write-heap-write-heap-requires-2 : (t : ℕ) → lts.Need-write-heap-requires-2 (claims t) (here t) write-heap.Post
 write-heap-write-heap-requires-2 t c κs =
     let l = c .before .before .before in let some = l .before .before in let s = start t some in let a = s .args in let p = s .pre .1 in
-    let q = children-in (length (a .heap .now)) (a .k) (a .x) (omega (arith, some .if1 .left)) (p .3) in
+    let q = children-in (length (a .heap .now)) (a .height) (a .x) (omega (arith, some .if1 .left)) (p .3) in
     (omega arith, (fit-length (fit-first (fit-right (p .0) (some .if1 .left))) _ (l .write-heap .kept .0), p .1, omega (arith, p .2), q .2))
 
 write-heap-add-at-requires-2 : (t : ℕ) → lts.Need-add-at-requires-2 (claims t) (here t) write-heap.Post
 write-heap-add-at-requires-2 t c κs =
     let r = c .before .before .before in let l = r .before .before .before .before in
     let f = start t (l .before .before) .pre .1 .0 in
-    omega (arith, f .room, fit-self f, l .write-heap .kept .0, r .write-heap2 .kept .0)
+    omega (arith, fit-self f, l .write-heap .kept .0, r .write-heap2 .kept .0)
 
 -- what the children and the top add
 module _ (t : ℕ) (c : lts.After-add-at2 (claims t) (here t) write-heap.Post) where
@@ -79,39 +79,36 @@ module _ (t : ℕ) (c : lts.After-add-at2 (claims t) (here t) write-heap.Post) w
   abbrev split : lts.Else1 (claims t) (here t) write-heap.Post
   split = left .before .before
 
-  few : left .write-heap .result + right .write-heap2 .result + c .add-at2 .result < 4 * start t split .args .b
+  few : left .write-heap .result + right .write-heap2 .result + c .add-at2 .result < length (start t split .args .store .now)
   few =
       let a = start t split .args in
-      up-small (start t split .pre .1 .0) (split .if1 .left) (a .s .now) (left .write-heap .last .0) (right .write-heap2 .last .0)
+      up-small (start t split .pre .1 .0) (split .if1 .left) (a .store .now) (left .write-heap .last .0) (right .write-heap2 .last .0)
       (hashIn (a .heap .now)) (a .x) _ _ _ (left .write-heap .ensures .0) (right .write-heap2 .ensures .0) (c .add-at2 .ensures .0)
-
-  fits : 4 * start t split .args .b < 2 ^ 64
-  fits = omega (arith, start t split .pre .1 .0 .room, start t split .good .0 .0)
 
 write-heap-returns-2 : (t : ℕ) → lts.Need-returns-2 (claims t) (here t) write-heap.Post
 write-heap-returns-2 t c =
     let top = c .before .before in let l = left t top .write-heap in let r = right t top .write-heap2 in let some = split t top in
     let s = start t some in let a = s .args in let p = s .pre .1 in
-    heap-wrote (a .heap .now) (p .1) (a .k) (a .x) (p .2) (p .3) (a .s .now) (l .last .0) (r .last .0) _ _ (a .n) _ _ _ (some .if1 .left)
+    heap-wrote (a .heap .now) (p .1) (a .height) (a .x) (p .2) (p .3) (a .store .now) (l .last .0) (r .last .0) _ _ (a .top) _ _ _ (some .if1 .left)
     (some .before .hash-at .ensures) (top .add-at2 .ensures .0) (top .add-at2 .ensures .1) (l .ensures) (r .ensures)
 
 pub +write-heap-spec : {M : Type 1} → statement M
 +write-heap-spec = close μ λ t. lts.spec (claims t) (here t) write-heap.Post
-    (λ c. let s = c .before .before in let w = hash-within _ (s .args .k) (s .args .x) (s .pre .1 .3) in omega arith)
-    (λ c κs. let s = c .before .before in hash-within _ (s .args .k) (s .args .x) (s .pre .1 .3))
-    (λ c κs. let f = c .before .before .before .before .before .pre .1 .0 in omega (arith, f .room, fit-self f))
+    (λ c. let s = c .before .before in let w = hash-within _ (s .args .height) (s .args .x) (s .pre .1 .3) in omega arith)
+    (λ c κs. let s = c .before .before in hash-within _ (s .args .height) (s .args .x) (s .pre .1 .3))
+    (λ c κs. fit-self (c .before .before .before .before .before .pre .1 .0))
     (λ c. c .before .before .add-at .kept .0)
     (write-heap-returns t)
     (λ c. search needs)
-    (λ c. omega (arith, child-in t c, start t c .pre .1 .0 .room, child-below t c))
-    (λ c. omega (arith, child-in t c, start t c .pre .1 .0 .room, child-below t c))
-    (λ c. omega (arith, child-in t c, start t c .pre .1 .0 .room, child-below t c))
-    (λ c. omega (arith, child-in t c, start t c .pre .1 .0 .room, child-below t c))
+    (λ c. omega (arith, child-in t c, child-cell t c))
+    (λ c. omega (arith, child-in t c, child-cell t c))
+    (λ c. omega (arith, child-in t c, child-cell t c))
+    (λ c. omega (arith, child-in t c, child-cell t c))
     (write-heap-write-heap-requires t)
     (write-heap-write-heap-requires-2 t)
     (write-heap-add-at-requires-2 t)
-    (λ c. let top = c .before .before in omega (arith, few t top, fits t top))
-    (λ c. let top = c .before .before in omega (arith, few t top, fits t top))
+    (λ c. let top = c .before .before in omega (arith, few t top, start t (split t top) .good .0 .0))
+    (λ c. let top = c .before .before in omega (arith, few t top, start t (split t top) .good .0 .0))
     (λ c. let top = c .before .before in
     top .add-at2 .kept .0 ∙ right t top .write-heap2 .kept .0 ∙ left t top .write-heap .kept .0)
     (write-heap-returns-2 t)

@@ -1,6 +1,6 @@
 -- One layer up for each uncle, by recursion on the layers left: two positions written, then the rest, as `rose-up` says; the count is at most two a layer.
 use Rattle.cells.specs.EntriesLaws.{lacks-small}
-use Rattle.settling.specs.PathLaws.{sibling-below, way-on, path-small, rose-zero, rose-up}
+use Rattle.settling.specs.PathLaws.{way-beside, way-on, path-small, rose-zero, rose-up}
 use borrow.Author.Needs.{needs}
 use native.Mathlib.Omega.{arith}
 use mathlib.Core.Path.{_∙_}
@@ -13,12 +13,12 @@ use Rattle.settling.proofs.+write_path.Lts-write_path as write-path-lts
 use Rattle.cells.proofs.add_at.Reads as add-at-reads
 use Rattle.octets.proofs.hash_at.Reads as hash-at-reads
 use Rattle.settling.proofs.above.Reads as above-reads
-use Rattle.settling.proofs.beside.Reads as beside-reads
+use Rattle.settling.proofs.sibling.Reads as sibling-reads
 use Rattle.settling.proofs.+write_path.{statement}
 use Rattle.settling.proofs.+write_path.Tie.{close}
 
 abbrev μ-write-path : Measures 2 write-path-kinds.ps ℕ
-μ-write-path κs a = a .1 .1 .1 .1 .0
+μ-write-path κs a = a .1 .1 .1 .0
 
 abbrev write-path-at : ℕ → In 2 write-path-kinds.ps
 write-path-at t =
@@ -32,8 +32,8 @@ abbrev write-path-claims : ℕ → write-path-lts.Claims
 write-path-claims t = (
   hash-at-reads.Asked,
   hash-at-reads.Learnt,
-  beside-reads.Asked,
-  beside-reads.Learnt,
+  sibling-reads.Asked,
+  sibling-reads.Learnt,
   above-reads.Asked,
   above-reads.Learnt,
   add-at-reads.Asked,
@@ -43,53 +43,53 @@ write-path-claims t = (
 )
 
 write-path-returns : (t : ℕ) → write-path-lts.Need-returns (write-path-claims t) (write-path-at t) write-path.Post
-write-path-returns t c = let a = c .before .before .before .args in rose-zero (a .s .now) (a .hashes .now) (a .i) (a .u) (a .n) (a .v) (c .if1 .taken)
+write-path-returns t c = let a = c .before .before .before .args in rose-zero (a .store .now) (a .hashes .now) (a .number) (a .count) (a .node) (a .value) (c .if1 .taken)
 
 write-path-sub-d : (t : ℕ) → write-path-lts.Need-sub-d (write-path-claims t) (write-path-at t) write-path.Post
 write-path-sub-d t c = search needs
 
 write-path-add-i2 : (t : ℕ) → write-path-lts.Need-add-i2 (write-path-claims t) (write-path-at t) write-path.Post
-write-path-add-i2 t c = omega (arith, c .before .before .before .pre .1 .room, c .before .before .before .pre .1 .uncles, c .before .before .before .pre .1 .below)
+write-path-add-i2 t c = omega (arith, c .before .before .before .pre .1 .room, c .before .before .before .pre .1 .uncles)
 
 write-path-mul-hash-at : (t : ℕ) → write-path-lts.Need-mul-hash-at (write-path-claims t) (write-path-at t) write-path.Post
-write-path-mul-hash-at t c = omega (arith, c .before .before .before .pre .1 .room, c .before .before .before .pre .1 .uncles, c .before .before .before .pre .1 .below)
+write-path-mul-hash-at t c = omega (arith, c .before .before .before .pre .1 .room, c .before .before .before .pre .1 .uncles)
 
 write-path-hash-at-requires : (t : ℕ) → write-path-lts.Need-hash-at-requires (write-path-claims t) (write-path-at t) write-path.Post
-write-path-hash-at-requires t c κs = omega (arith, c .before .before .before .pre .1 .room, c .before .before .before .pre .1 .uncles, c .before .before .before .pre .1 .below)
+write-path-hash-at-requires t c κs = omega (arith, c .before .before .before .pre .1 .room, c .before .before .before .pre .1 .uncles)
 
-write-path-beside-requires : (t : ℕ) → write-path-lts.Need-beside-requires (write-path-claims t) (write-path-at t) write-path.Post
-write-path-beside-requires t c κs = omega (arith, c .before .before .before .before .pre .1 .room, c .before .before .before .before .pre .1 .uncles, c .before .before .before .before .pre .1 .below)
+write-path-beside-requires : (t : ℕ) → write-path-lts.Need-sibling-requires (write-path-claims t) (write-path-at t) write-path.Post
+write-path-beside-requires t c κs = omega (arith, c .before .before .before .before .pre .1 .room, c .before .before .before .before .pre .1 .uncles)
 
 write-path-above-requires : (t : ℕ) → write-path-lts.Need-above-requires (write-path-claims t) (write-path-at t) write-path.Post
 write-path-above-requires t c κs = search needs
 
 write-path-add-at-requires : (t : ℕ) → write-path-lts.Need-add-at-requires (write-path-claims t) (write-path-at t) write-path.Post
-write-path-add-at-requires t c κs = omega (arith, c .before .before .before .before .before .before .before .pre .1 .room, c .before .before .beside .ensures, sibling-below (c .before .before .before .before .before .before .before .args .n) (c .before .before .before .before .before .before .before .args .b) (c .before .before .before .before .before .before .before .pre .1 .below) (c .before .before .before .before .before .before .before .pre .1 .even))
+write-path-add-at-requires t c κs = omega (arith, c .before .before .sibling .ensures, way-beside (c .before .before .before .before .before .before .before .pre .1))
 
 write-path-add-at-requires-2 : (t : ℕ) → write-path-lts.Need-add-at-requires-2 (write-path-claims t) (write-path-at t) write-path.Post
-write-path-add-at-requires-2 t c κs = omega (arith, c .before .before .before .before .before .before .before .before .before .before .before .pre .1 .room, c .before .before .before .before .before .before .before .before .before .before .before .pre .1 .uncles, c .before .before .before .before .before .before .before .before .before .before .before .pre .1 .below, c .before .before .before .add-at .kept .0)
+write-path-add-at-requires-2 t c κs = omega (arith, c .before .before .before .before .before .before .before .before .before .before .before .pre .1 .room, c .before .before .before .before .before .before .before .before .before .before .before .pre .1 .uncles, c .before .before .before .add-at .kept .0)
 
 write-path-write-path-requires : (t : ℕ) → write-path-lts.Need-write-path-requires (write-path-claims t) (write-path-at t) write-path.Post
 write-path-write-path-requires t c κs = (omega arith, way-on (c .before .before .before .before .before .before .before .before .before .before .before .before .before .before .before .pre .1) _ (c .before .before .before .add-at2 .kept .0 ∙ c .before .before .before .before .before .before .before .add-at .kept .0) (c .before .before .before .before .before .before .before .before .before .before .before .before .if1 .left))
 
 write-path-add-result : (t : ℕ) → write-path-lts.Need-add-result (write-path-claims t) (write-path-at t) write-path.Post
 write-path-add-result t c = let a = c .before .before .before .before .before .before .before .before .before .before .before .before .before .before .before .before .before .before .args in
-    let l = path-small (c .before .before .before .before .before .before .add-at2 .last .0) (a .hashes .now) (a .i + 1) (a .u - 1) (a .n / 2) (c .before .before .before .before .before .before .before .before .before .before .before .before .above .result) in
-    omega (arith, c .before .before .before .before .before .before .before .before .before .before .before .before .before .before .before .before .before .before .pre .1 .uncles, c .before .before .before .before .before .before .before .before .before .before .before .before .before .before .before .before .before .before .good .1 .0 .0, c .before .before .write-path .ensures .0, c .before .before .before .before .before .before .before .before .before .before .add-at .ensures .0, c .before .before .before .before .before .before .add-at2 .ensures .0, lacks-small (a .s .now) (c .before .before .before .before .before .before .before .before .before .before .before .before .before .beside .result), lacks-small (c .before .before .before .before .before .before .before .before .before .before .add-at .last .0) (a .n / 2))
+    let l = path-small (c .before .before .before .before .before .before .add-at2 .last .0) (a .hashes .now) (a .number + 1) (a .count - 1) (a .node / 2) (c .before .before .before .before .before .before .before .before .before .before .before .before .above .result) in
+    omega (arith, c .before .before .before .before .before .before .before .before .before .before .before .before .before .before .before .before .before .before .pre .1 .uncles, c .before .before .before .before .before .before .before .before .before .before .before .before .before .before .before .before .before .before .good .1 .0 .0, c .before .before .write-path .ensures .0, c .before .before .before .before .before .before .before .before .before .before .add-at .ensures .0, c .before .before .before .before .before .before .add-at2 .ensures .0, lacks-small (a .store .now) (c .before .before .before .before .before .before .before .before .before .before .before .before .before .sibling .result), lacks-small (c .before .before .before .before .before .before .before .before .before .before .add-at .last .0) (a .node / 2))
 
 write-path-add-result-2 : (t : ℕ) → write-path-lts.Need-add-result-2 (write-path-claims t) (write-path-at t) write-path.Post
 write-path-add-result-2 t c = let a = c .before .before .before .before .before .before .before .before .before .before .before .before .before .before .before .before .before .before .args in
-    let l = path-small (c .before .before .before .before .before .before .add-at2 .last .0) (a .hashes .now) (a .i + 1) (a .u - 1) (a .n / 2) (c .before .before .before .before .before .before .before .before .before .before .before .before .above .result) in
-    omega (arith, c .before .before .before .before .before .before .before .before .before .before .before .before .before .before .before .before .before .before .pre .1 .uncles, c .before .before .before .before .before .before .before .before .before .before .before .before .before .before .before .before .before .before .good .1 .0 .0, c .before .before .write-path .ensures .0, c .before .before .before .before .before .before .before .before .before .before .add-at .ensures .0, c .before .before .before .before .before .before .add-at2 .ensures .0, lacks-small (a .s .now) (c .before .before .before .before .before .before .before .before .before .before .before .before .before .beside .result), lacks-small (c .before .before .before .before .before .before .before .before .before .before .add-at .last .0) (a .n / 2))
+    let l = path-small (c .before .before .before .before .before .before .add-at2 .last .0) (a .hashes .now) (a .number + 1) (a .count - 1) (a .node / 2) (c .before .before .before .before .before .before .before .before .before .before .before .before .above .result) in
+    omega (arith, c .before .before .before .before .before .before .before .before .before .before .before .before .before .before .before .before .before .before .pre .1 .uncles, c .before .before .before .before .before .before .before .before .before .before .before .before .before .before .before .before .before .before .good .1 .0 .0, c .before .before .write-path .ensures .0, c .before .before .before .before .before .before .before .before .before .before .add-at .ensures .0, c .before .before .before .before .before .before .add-at2 .ensures .0, lacks-small (a .store .now) (c .before .before .before .before .before .before .before .before .before .before .before .before .before .sibling .result), lacks-small (c .before .before .before .before .before .before .before .before .before .before .add-at .last .0) (a .node / 2))
 
 write-path-same-length : (t : ℕ) → write-path-lts.Need-same-length (write-path-claims t) (write-path-at t) write-path.Post
 write-path-same-length t c = c .before .before .write-path .kept .0 ∙ c .before .before .before .before .before .before .add-at2 .kept .0 ∙ c .before .before .before .before .before .before .before .before .before .before .add-at .kept .0
 
 write-path-returns-2 : (t : ℕ) → write-path-lts.Need-returns-2 (write-path-claims t) (write-path-at t) write-path.Post
 write-path-returns-2 t c = let a = c .before .before .before .before .before .before .before .before .before .before .before .before .before .before .before .before .before .before .args in
-    rose-up (a .s .now) (a .hashes .now) (a .i) (a .u) (a .n) (c .before .before .before .before .before .before .before .before .before .before .before .before .before .beside .result) (a .v) (c .before .before .before .before .before .before .before .before .before .before .before .before .before .before .hash-at .result) (c .before .before .before .before .before .before .before .before .before .before .before .before .above .result)
+    rose-up (a .store .now) (a .hashes .now) (a .number) (a .count) (a .node) (c .before .before .before .before .before .before .before .before .before .before .before .before .before .sibling .result) (a .value) (c .before .before .before .before .before .before .before .before .before .before .before .before .before .before .hash-at .result) (c .before .before .before .before .before .before .before .before .before .before .before .before .above .result)
     (c .before .before .before .before .before .before .before .before .before .before .add-at .result) (c .before .before .before .before .before .before .before .before .before .before .add-at .last .0) (c .before .before .before .before .before .before .add-at2 .result) (c .before .before .before .before .before .before .add-at2 .last .0) (c .before .before .write-path .result) (c .before .before .write-path .last .0)
-    (c .before .before .before .before .before .before .before .before .before .before .before .before .before .before .before .if1 .left) (c .before .before .before .before .before .before .before .before .before .before .before .before .before .before .hash-at .ensures) (c .before .before .before .before .before .before .before .before .before .before .before .before .before .beside .ensures) (c .before .before .before .before .before .before .before .before .before .before .before .before .above .ensures) (c .before .before .before .before .before .before .before .before .before .before .add-at .ensures .0) (c .before .before .before .before .before .before .before .before .before .before .add-at .ensures .1) (c .before .before .before .before .before .before .add-at2 .ensures .0) (c .before .before .before .before .before .before .add-at2 .ensures .1) (c .before .before .write-path .ensures)
+    (c .before .before .before .before .before .before .before .before .before .before .before .before .before .before .before .if1 .left) (c .before .before .before .before .before .before .before .before .before .before .before .before .before .before .hash-at .ensures) (c .before .before .before .before .before .before .before .before .before .before .before .before .before .sibling .ensures) (c .before .before .before .before .before .before .before .before .before .before .before .before .above .ensures) (c .before .before .before .before .before .before .before .before .before .before .add-at .ensures .0) (c .before .before .before .before .before .before .before .before .before .before .add-at .ensures .1) (c .before .before .before .before .before .before .add-at2 .ensures .0) (c .before .before .before .before .before .before .add-at2 .ensures .1) (c .before .before .write-path .ensures)
 
 pub +write-path-spec : {M : Type 1} → statement M
 +write-path-spec = close μ-write-path λ t. write-path-lts.spec (write-path-claims t)

@@ -14,22 +14,22 @@ use Rattle.settling.proofs.look_part.Tie as tie
 work-requires : tie.Need-work-requires
 work-requires c κs = let a = c .before .before .before .before .args in
     let p = c .before .before .before .before .pre in
-    let q = fit-leaves _ (a .b) (a .k) (a .n) (a .j) (a .m) (p .0) (p .1) in
-    (p .2, q .0, omega (arith, q .1, p .0 .room))
+    let q = fit-leaves (p .0) (a .m) (p .1) in
+    (p .2, q .0, omega (arith, q .1))
 
 hash-at-requires : tie.Need-hash-at-requires
 hash-at-requires c κs = let a = c .before .before .before .before .before .before .before .before .args in
     let p = c .before .before .before .before .before .before .before .before .pre in
-    let leaf = runLeaf (a .run .now) (a .past) in
-    let w = c .before .before .before .work .ensures leaf (over-run (a .run .now) (a .past)) in
-    let q = fit-leaves _ (a .b) (a .k) (a .n) (a .j) (a .m) (p .0) (p .1) in omega (arith, w .size, q .0)
+    let leaf = runLeaf (a .run .now) (a .pad) in
+    let w = c .before .before .before .work .ensures leaf (over-run (a .run .now) (a .pad)) in
+    let q = fit-leaves (p .0) (a .m) (p .1) in omega (arith, w .size, q .0)
 
 look-heap-requires : tie.Need-look-heap-requires
 look-heap-requires c κs = let a = c .before .before .before .before .before .before .before .before .before .before .args in
     let p = c .before .before .before .before .before .before .before .before .before .before .pre in
-    let leaf = runLeaf (a .run .now) (a .past) in
-    let w = c .before .before .before .before .before .work .ensures leaf (over-run (a .run .now) (a .past)) in
-    (fit-first (p .0), worked-parents leaf (a .m) (a .j) _ w, omega arith, heap-whole _ (a .k) (a .m) (p .1) (w .size))
+    let leaf = runLeaf (a .run .now) (a .pad) in
+    let w = c .before .before .before .before .before .work .ensures leaf (over-run (a .run .now) (a .pad)) in
+    (fit-first (p .0), worked-parents leaf (a .m) (a .index) _ w, omega arith, heap-whole _ (a .height) (a .m) (p .1) (w .size))
 
 same-length : tie.Need-same-length
 same-length c = search needs
@@ -37,10 +37,10 @@ same-length c = search needs
 returns : tie.Need-returns
 returns c = let a = c .before .before .before .before .before .before .before .before .before .before .before .args in
     let p = c .before .before .before .before .before .before .before .before .before .before .before .pre in
-    let leaf = runLeaf (a .run .now) (a .past) in
-    let w = c .before .before .before .before .before .before .work .ensures leaf (over-run (a .run .now) (a .past)) in (
-      c .before .before .hash-at .ensures ∙ worked-top leaf (a .k) (a .j) _ (a .m) (p .1) w,
-      c .look-heap .ensures ∙ ap (agrees (a .s .now)) (worked-subtree leaf (a .k) (a .j) _ (a .m) (a .n) (p .1) w),
+    let leaf = runLeaf (a .run .now) (a .pad) in
+    let w = c .before .before .before .before .before .before .work .ensures leaf (over-run (a .run .now) (a .pad)) in (
+      c .before .before .hash-at .ensures ∙ worked-top leaf (a .height) (a .index) _ (a .m) (p .1) w,
+      c .look-heap .ensures ∙ ap (agrees (a .store .now)) (worked-subtree leaf (a .height) (a .index) _ (a .m) (a .top) (p .1) w),
       w,
     )
 

@@ -15,7 +15,7 @@ shl-m : tie.Need-shl-m
 shl-m c = search needs
 
 mul-size : tie.Need-mul-size
-mul-size c = let q = room-part (c .before .before .before .before .args .k) (c .if1 .taken) in omega (arith, q .0, q .1)
+mul-size c = let q = room-part (c .before .before .before .before .args .height) (c .if1 .taken) in omega (arith, q .0, q .1)
 
 sub-heap : tie.Need-sub-heap
 sub-heap c = search needs
@@ -24,25 +24,25 @@ part-heap-start : tie.Need-part-heap-start
 part-heap-start c = search needs
 
 part-heap-end : tie.Need-part-heap-end
-part-heap-end c = let q = room-part (c .before .before .before .before .before .args .k) (c .before .if1 .taken) in omega (arith, q .0, q .1, c .before .before .before .before .before .pre .1)
+part-heap-end c = let q = room-part (c .before .before .before .before .before .args .height) (c .before .if1 .taken) in omega (arith, q .0, q .1, c .before .before .before .before .before .pre .1)
 
 hash-at-requires : tie.Need-hash-at-requires
 hash-at-requires c κs =
     let a = c .before .before .before .before .before .before .args in
     let p = c .before .before .before .before .before .before .pre in
-    let e = room-part (a .k) (c .before .before .if1 .taken) .0 in
-    let w = heaped-front (runLeaf (a .run .now) (a .past)) (a .k) (a .j) (a .room .now) _ (p .2) (c .before .before .if1 .taken) e in
-    let q = fit-leaves _ (a .b) (a .k) (a .n) (a .j) _ (p .0) e in
+    let e = room-part (a .height) (c .before .before .if1 .taken) .0 in
+    let w = heaped-front (runLeaf (a .run .now) (a .pad)) (a .height) (a .index) (a .room .now) _ (p .2) (c .before .before .if1 .taken) e in
+    let q = fit-leaves (p .0) _ e in
     omega (arith, w .size, q .0)
 
 write-heap-requires : tie.Need-write-heap-requires
 write-heap-requires c κs =
     let a = c .before .before .before .before .before .before .before .before .args in
     let p = c .before .before .before .before .before .before .before .before .pre in
-    let e = room-part (a .k) (c .before .before .before .before .if1 .taken) .0 in
-    let leaf = runLeaf (a .run .now) (a .past) in
-    let w = heaped-front leaf (a .k) (a .j) (a .room .now) _ (p .2) (c .before .before .before .before .if1 .taken) e in
-    (fit-first (p .0), worked-parents leaf _ (a .j) _ w, omega arith, heap-whole _ (a .k) _ e (w .size))
+    let e = room-part (a .height) (c .before .before .before .before .if1 .taken) .0 in
+    let leaf = runLeaf (a .run .now) (a .pad) in
+    let w = heaped-front leaf (a .height) (a .index) (a .room .now) _ (p .2) (c .before .before .before .before .if1 .taken) e in
+    (fit-first (p .0), worked-parents leaf _ (a .index) _ w, omega arith, heap-whole _ (a .height) _ e (w .size))
 
 same-length : tie.Need-same-length
 same-length c = search needs
@@ -54,13 +54,13 @@ returns : tie.Need-returns
 returns c =
     let a = c .before .before .before .before .before .before .before .before .before .before .before .args in
     let p = c .before .before .before .before .before .before .before .before .before .before .before .pre in
-    let e = room-part (a .k) (c .before .before .before .before .before .before .before .if1 .taken) .0 in
-    let leaf = runLeaf (a .run .now) (a .past) in
-    let w = heaped-front leaf (a .k) (a .j) (a .room .now) _ (p .2) (c .before .before .before .before .before .before .before .if1 .taken) e in
-    let d = worked-subtree leaf (a .k) (a .j) _ _ (a .n) e w in
+    let e = room-part (a .height) (c .before .before .before .before .before .before .before .if1 .taken) .0 in
+    let leaf = runLeaf (a .run .now) (a .pad) in
+    let w = heaped-front leaf (a .height) (a .index) (a .room .now) _ (p .2) (c .before .before .before .before .before .before .before .if1 .taken) e in
+    let d = worked-subtree leaf (a .height) (a .index) _ _ (a .top) e w in
     let h = c .before .before .write-heap .ensures in (
-      c .before .before .before .before .hash-at .ensures ∙ worked-top leaf (a .k) (a .j) _ _ e w,
-      (h .0 ∙ ap (fresh (a .s .now)) d, h .1 ∙ ap (putAll (a .s .now)) d),
+      c .before .before .before .before .hash-at .ensures ∙ worked-top leaf (a .height) (a .index) _ _ e w,
+      (h .0 ∙ ap (fresh (a .store .now)) d, h .1 ∙ ap (putAll (a .store .now)) d),
     )
 
 write-parts-requires : tie.Need-write-parts-requires

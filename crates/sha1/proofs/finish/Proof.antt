@@ -23,9 +23,9 @@ compress-requires c κs = search needs
 
 returns : tie.Need-returns
 returns c = let a = c .before .before .before .before .before .args in
-    let x = a .s .now ++ padding (a .n) in
-    let l : length x ≡ 64 = length-append (a .s .now) (padding (a .n)) ∙ omega (arith, length-padding (a .n), zeros-short (length (a .s .now)) (a .n) (omega arith) (omega arith)) in
-    c .before .compress .ensures ∙ last-one compress (c .before .before .before .pad .result) x (a .st) l (c .before .before .before .pad .ensures .1)
+    let x = a .bytes .now ++ padding (a .total) in
+    let l : length x ≡ 64 = length-append (a .bytes .now) (padding (a .total)) ∙ omega (arith, length-padding (a .total), zeros-short (length (a .bytes .now)) (a .total) (omega arith) (omega arith)) in
+    c .before .compress .ensures ∙ last-one compress (c .before .before .before .pad .result) x (a .state) l (c .before .before .before .pad .ensures .1)
 
 slice-aggregate-compress-2 : tie.Need-slice-aggregate-compress-2
 slice-aggregate-compress-2 c = search needs
@@ -35,12 +35,12 @@ compress-requires-2 c κs = search needs
 
 returns-2 : tie.Need-returns-2
 returns-2 c = let a = c .before .before .before .before .before .before .before .args in
-    let x = a .s .now ++ padding (a .n) in
+    let x = a .bytes .now ++ padding (a .total) in
     let q = c .before .before .before .before .before .pad in
-    let l : length x ≡ 128 = length-append (a .s .now) (padding (a .n)) ∙ omega (arith, length-padding (a .n), zeros-long (length (a .s .now)) (a .n) (omega arith) (omega arith)) in
+    let l : length x ≡ 128 = length-append (a .bytes .now) (padding (a .total)) ∙ omega (arith, length-padding (a .total), zeros-long (length (a .bytes .now)) (a .total) (omega arith) (omega arith)) in
     c .compress2 .ensures
     ∙ ap (λ (t : Five). compress t (take 64 (drop 64 (q .result)))) (c .before .before .before .compress .ensures)
-    ∙ last-two compress (q .result) x (a .st) l (q .ensures .0) (q .ensures .1)
+    ∙ last-two compress (q .result) x (a .state) l (q .ensures .0) (q .ensures .1)
 
 pub finish-spec : {M : Type 1} → statement M
 finish-spec =

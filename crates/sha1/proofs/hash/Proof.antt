@@ -33,7 +33,7 @@ digest-requires c κs = search needs
 returns : tie.Need-returns
 unfolding sha1
 returns c =
-    let m = c .before .before .before .before .before .before .args .s .now in
+    let m = c .before .before .before .before .before .before .args .bytes .now in
     let z = c .before .before .before .before .start in
     let t = c .before .before .before .whole-blocks in
     c .digest .ensures ∙ ap digest (c .before .finish .ensures ∙ whole-law m _ (z .result) (t .result) refl (z .ensures) (t .ensures))

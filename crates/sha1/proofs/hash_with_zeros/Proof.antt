@@ -55,7 +55,7 @@ digest-requires c κs = search needs
 
 returns : tie.Need-returns
 unfolding sha1
-returns c = let s = c .before .before .before .before .before .before .before .before .before .before .args .s .now in
+returns c = let s = c .before .before .before .before .before .before .before .before .before .before .args .bytes .now in
     let n = c .before .before .before .before .before .before .before .before .before .before .args .zeros in
     let k : length s % 64 + n - 0 ≡ length s % 64 + n = omega arith in
     c .digest .ensures
@@ -89,7 +89,7 @@ digest-requires-2 c κs = search needs
 
 returns-2 : tie.Need-returns-2
 unfolding sha1
-returns-2 c = let s = c .before .before .before .before .before .before .before .before .before .before .before .before .before .args .s .now in
+returns-2 c = let s = c .before .before .before .before .before .before .before .before .before .before .before .before .before .args .bytes .now in
     let n = c .before .before .before .before .before .before .before .before .before .before .before .before .before .args .zeros in
     let m = (n - (64 - length s % 64)) % 64 in
     let k : m - 0 ≡ m = omega arith in

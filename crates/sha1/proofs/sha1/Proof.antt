@@ -15,12 +15,12 @@ hash-requires c κs = search needs
 
 returns : tie.Need-returns
 unfolding sha1Of
-returns c = let m = c .before .before .before .args .s .now in
+returns c = let m = c .before .before .before .args .bytes .now in
     sym (rw (lt-ltb (length m) (suc longestHashed) (omega (arith, c .before .if1 .taken))) (ap (λ (h : List ℕ). record { number = 0; hash = h }) (sym (c .hash .ensures))))
 
 returns-2 : tie.Need-returns-2
 unfolding sha1Of zeroSha1
-returns-2 c = let m = c .before .before .args .s .now in
+returns-2 c = let m = c .before .before .args .bytes .now in
     sym (rw (le-ltb (length m) (suc longestHashed) (omega (arith, c .if1 .left))))
 
 pub sha1-spec : {M : Type 1} → statement M

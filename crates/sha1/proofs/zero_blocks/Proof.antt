@@ -46,7 +46,7 @@ loop-again c = let a = c .before .before .before .before .args in
       c .compress .ensures
           ∙ ap (λ (b : List ℕ). compress (l .t) b) block
           ∙ ap (λ (t : Five). compress t (take 64 (drop (l .at) (replicate (a .zeros) 0)))) (l .inv .2)
-          ∙ blocks-more compress (replicate (a .zeros) 0) (a .st) (l .at) (l .inv .1),
+          ∙ blocks-more compress (replicate (a .zeros) 0) (a .state) (l .at) (l .inv .1),
     )
 
 returns : tie.Need-returns Inv-loop μ-loop

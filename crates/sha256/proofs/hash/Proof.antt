@@ -36,7 +36,7 @@ digest-requires c κs = search needs
 returns : tie.Need-returns
 unfolding sha256
 returns c =
-    let m = c .before .before .before .before .before .before .before .before .before .args .s .now in
+    let m = c .before .before .before .before .before .before .before .before .before .args .bytes .now in
     let k = c .before .before .before .before .before .before .before .round-words in
     let t = c .before .before .before .before .whole-blocks in
     c .digest .ensures

@@ -23,8 +23,8 @@ put-hash-requires-2 c κs = search needs
 returns : tie.Need-returns
 returns c =
     let s = c .before .before .before .before .before .before in
-    c .before .put-hash2 .ensures ∙ ap (λ (x : List ℕ). pasted x 32 (s .args .r)) (c .before .before .before .before .put-hash .ensures)
-    ∙ joined-law (replicate 64 0) (s .args .l) (s .args .r) refl (s .good .0 .1 .0 .1) (s .good .1 .0 .1 .0 .1)
+    c .before .put-hash2 .ensures ∙ ap (λ (x : List ℕ). pasted x 32 (s .args .right)) (c .before .before .before .before .put-hash .ensures)
+    ∙ joined-law (replicate 64 0) (s .args .left) (s .args .right) refl (s .good .0 .1 .0 .1) (s .good .1 .0 .1 .0 .1)
 
 pub joined-spec : {M : Type 1} → statement M
 joined-spec =

@@ -44,11 +44,11 @@ returns c =
     let j = c .before .before .before .before .before .before .before .joined in
     let z = c .before .before .before .before .before .before .start in
     let t = c .before .before .before .compress in
-    let lj : length (j .result) ≡ 64 = ap length (j .ensures) ∙ length-append (a .args .l) (a .args .r) ∙ omega (arith, a .good .0 .1 .0 .1, a .good .1 .0 .1 .0 .1) in
+    let lj : length (j .result) ≡ 64 = ap length (j .ensures) ∙ length-append (a .args .left) (a .args .right) ∙ omega (arith, a .good .0 .1 .0 .1, a .good .1 .0 .1 .0 .1) in
     c .digest .ensures
     ∙ ap digest
     (c .before .compress-sums .ensures
-    ∙ pair-law (k .result) (x .result) (j .result) (a .args .l) (a .args .r) (z .result) (t .result) (k .ensures) (x .ensures) (j .ensures) (z .ensures) lj
+    ∙ pair-law (k .result) (x .result) (j .result) (a .args .left) (a .args .right) (z .result) (t .result) (k .ensures) (x .ensures) (j .ensures) (z .ensures) lj
     (t .ensures ∙ ap (compress (k .result) (z .result)) (front (j .result) lj)))
 
 pub pair-spec : {M : Type 1} → statement M

@@ -17,13 +17,13 @@ hash-requires c κs = search needs
 returns : tie.Need-returns
 unfolding hashedOf
 returns c =
-    let m = c .before .before .before .args .s .now in
+    let m = c .before .before .before .args .bytes .now in
     sym (rw (lt-ltb (length m) (suc longestHashed) (omega (arith, c .before .if1 .taken))) (ap (λ (h : List ℕ). record { number = 0; hash = h }) (sym (c .hash .ensures))))
 
 returns-2 : tie.Need-returns-2
 unfolding hashedOf zeroHash
 returns-2 c =
-    let m = c .before .before .args .s .now in
+    let m = c .before .before .args .bytes .now in
     sym (rw (le-ltb (length m) (suc longestHashed) (omega (arith, c .if1 .left))))
 
 pub sha256-spec : {M : Type 1} → statement M

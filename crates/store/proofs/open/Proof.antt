@@ -21,7 +21,7 @@ returns : tie.Need-returns
 returns c = open-short-by _ _ _ _ _ _ (sym (c .before .before .before .before .facts-in-range .ensures) ∙ c .before .before .before .if1 .taken) (c .before .before .size-in-range .ensures) (c .before .if2 .taken) (c .refusal .ensures)
 
 set-bytes-requires : tie.Need-set-bytes-requires
-set-bytes-requires c κs = (omega (arith, c .before .before .size-in-range .ensures, store-size-some (c .before .before .before .before .before .before .args .n)), c .before .if2 .left)
+set-bytes-requires c κs = (omega (arith, c .before .before .size-in-range .ensures, store-size-some (c .before .before .before .before .before .before .args .length)), c .before .if2 .left)
 
 success-requires : tie.Need-success-requires
 success-requires c κs = search needs

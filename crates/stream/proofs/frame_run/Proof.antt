@@ -37,7 +37,7 @@ keep-requires : tie.Need-keep-requires
 keep-requires c κs =
     let three = c .before .before .before in
     let nine = three .before .before .before .before .before .before in
-    keep-fits (nine .args .t) _ _ (three .mode-at .result) (c .before .before .smaller .result) _ (nine .args .bytes .now) (nine .pre .0)
+    keep-fits (nine .args .before) _ _ (three .mode-at .result) (c .before .before .smaller .result) _ (nine .args .bytes .now) (nine .pre .0)
     (nine .pre .1) (three .mode-at .ensures) (c .before .before .smaller .ensures)
 
 ended-requires : tie.Need-ended-requires
@@ -52,7 +52,7 @@ returns c =
     let seven = four .before .before .before in
     let eight = seven .before in
     let fourteen = eight .before .before .before .before .before .before in
-    frame-ended (fourteen .args .t) (fourteen .args .room .now) (fourteen .args .bytes .now) (eight .mode-at .result) (seven .smaller .result) _
+    frame-ended (fourteen .args .before) (fourteen .args .room .now) (fourteen .args .bytes .now) (eight .mode-at .result) (seven .smaller .result) _
     (four .keep .last .1 .0) (fourteen .pre .0) (fourteen .pre .1) (eight .mode-at .ensures) (seven .smaller .ensures) (c .before .if1 .taken)
     (four .keep .ensures) (c .ended .ensures)
 
@@ -77,7 +77,7 @@ returns-2 c =
     let five = c .before .before .before .before .before in
     let eight = five .before .before .before in
     let start = eight .before .before .before .before .before .before .before in
-    frame-inside (start .args .t) (start .args .room .now) (start .args .bytes .now) (eight .before .mode-at .result) (eight .smaller .result) _ _ _ (five .keep .last .1 .0) (start .pre .0) (start .pre .1) (eight .before .mode-at .ensures) (eight .smaller .ensures) (c .before .before .if1 .left) (five .keep .ensures) (omega arith) (c .before .standing .ensures) (c .without-event .ensures)
+    frame-inside (start .args .before) (start .args .room .now) (start .args .bytes .now) (eight .before .mode-at .result) (eight .smaller .result) _ _ _ (five .keep .last .1 .0) (start .pre .0) (start .pre .1) (eight .before .mode-at .ensures) (eight .smaller .ensures) (c .before .before .if1 .left) (five .keep .ensures) (omega arith) (c .before .standing .ensures) (c .without-event .ensures)
 
 pub frame-run-spec : {M : Type 1} → statement M
 frame-run-spec =

@@ -16,7 +16,7 @@ without-event-requires c κs = search needs
 returns : tie.Need-returns
 returns c =
     let five = c .before .before .before .before .before in
-    let q = hear-unusable (five .args .s) (five .args .room .now) (five .args .bytes .now) (sym (c .before .before .is-usable .ensures) ∙ not-true _ (c .before .if1 .taken)) in
+    let q = hear-unusable (five .args .before) (five .args .room .now) (five .args .bytes .now) (sym (c .before .before .is-usable .ensures) ∙ not-true _ (c .before .if1 .taken)) in
     (c .without-event .ensures ∙ q .0, q .1)
 
 without-event-requires-2 : tie.Need-without-event-requires-2
@@ -26,7 +26,7 @@ returns-2 : tie.Need-returns-2
 returns-2 c =
     let three = c .before .before .before in
     let seven = three .before .before .before .before in
-    let q = hear-refused (seven .args .s) (seven .args .room .now) (seven .args .bytes .now) (sym (three .before .is-usable .ensures) ∙ not-false _ (three .if1 .left)) (c .before .if2 .taken) in
+    let q = hear-refused (seven .args .before) (seven .args .room .now) (seven .args .bytes .now) (sym (three .before .is-usable .ensures) ∙ not-false _ (three .if1 .left)) (c .before .if2 .taken) in
     (c .without-event2 .ensures ∙ q .0, q .1)
 
 run-requires : tie.Need-run-requires
@@ -34,7 +34,7 @@ run-requires c κs =
     let three = c .before .before .before in
     let four = three .before in
     let seven = four .before .before .before in
-    usable-going (seven .args .s) _ (sym (four .is-usable .ensures) ∙ not-false _ (three .if1 .left)) (c .before .if2 .left)
+    usable-going (seven .args .before) _ (sym (four .is-usable .ensures) ∙ not-false _ (three .if1 .left)) (c .before .if2 .left)
 
 same-length : tie.Need-same-length
 same-length c = search needs
@@ -45,7 +45,7 @@ returns-3 c =
     let six = four .before .before in
     let seven = six .before in
     let ten = seven .before .before .before in
-    hear-run (ten .args .s) (ten .args .room .now) (ten .args .bytes .now) _ _ (sym (seven .is-usable .ensures) ∙ not-false _ (six .if1 .left))
+    hear-run (ten .args .before) (ten .args .room .now) (ten .args .bytes .now) _ _ (sym (seven .is-usable .ensures) ∙ not-false _ (six .if1 .left))
     (four .if2 .left) (c .before .before .run .ensures)
 
 pub hear-spec : {M : Type 1} → statement M

@@ -19,7 +19,7 @@ returns : tie.Need-returns
 returns c =
     let three = c .before .before .before in
     let six = three .before .before .before in
-    mode-first (six .args .t) (six .args .n) (six .args .b) _ _ _ (three .if1 .taken) (c .before .before .wide .ensures .0)
+    mode-first (six .args .before) (six .args .n) (six .args .b) _ _ _ (three .if1 .taken) (c .before .before .wide .ensures .0)
     (c .before .mode-of .ensures) (c .fitting .ensures)
 
 fitting-requires-2 : tie.Need-fitting-requires-2
@@ -28,7 +28,7 @@ fitting-requires-2 c κs = search needs
 returns-2 : tie.Need-returns-2
 returns-2 c =
     let four = c .before .before .before .before in
-    mode-later (four .args .t) (four .args .n) (four .args .b) _ (c .before .if1 .left) (c .fitting2 .ensures)
+    mode-later (four .args .before) (four .args .n) (four .args .b) _ (c .before .if1 .left) (c .fitting2 .ensures)
 
 pub mode-at-spec : {M : Type 1} → statement M
 mode-at-spec =

@@ -20,7 +20,7 @@ prefixed-requires c κs = search needs
 
 returns : tie.Need-returns
 unfolding prefixAnswer prefixByte prefixedAnswer
-returns c = rw (eq-eqb (c .before .before .before .before .args .t .«length_size») 3 (c .before .if1 .taken)) (c .prefixed .ensures)
+returns c = rw (eq-eqb (c .before .before .before .before .args .before .«length_size») 3 (c .before .if1 .taken)) (c .prefixed .ensures)
 
 add-size : tie.Need-add-size
 add-size c = search needs
@@ -35,7 +35,7 @@ returns-2 : tie.Need-returns-2
 unfolding prefixAnswer prefixByte answerOf
 returns-2 c =
     let three = c .before .before .before in
-    rw (ne-eqb (three .before .before .before .args .t .«length_size») 3 (three .if1 .left)) (c .without-event .ensures ∙ ap (withoutEvent 0 1) (c .before .standing .ensures))
+    rw (ne-eqb (three .before .before .before .args .before .«length_size») 3 (three .if1 .left)) (c .without-event .ensures ∙ ap (withoutEvent 0 1) (c .before .standing .ensures))
 
 pub prefix-byte-spec : {M : Type 1} → statement M
 prefix-byte-spec = tie.close (tie.spec cast-l mul-l add-l prefixed-requires returns add-size standing-requires without-event-requires returns-2)

@@ -19,7 +19,7 @@ abbrev μ-loop : tie.MeasureT-loop
 
 loop-holds : tie.Need-loop-holds Inv-loop μ-loop
 loop-holds c =
-    (omega arith, c .before .before .pre, refl, run-holds (c .before .before .args .s) (c .before .before .args .room .now) (c .before .before .args .bytes .now))
+    (omega arith, c .before .before .pre, refl, run-holds (c .before .before .args .before) (c .before .before .args .room .now) (c .before .before .args .bytes .now))
 
 sub-step : tie.Need-sub-step Inv-loop μ-loop
 sub-step c = search needs
@@ -51,7 +51,7 @@ returns c =
     let five = c .before .before .before .before .before in
     let nine = five .before .before .before .before in
     let twelve = nine .before .before .before in
-    run-loud (twelve .args .s) (nine .loop .t) (twelve .args .room .now) (nine .loop .room) (twelve .args .bytes .now) (nine .loop .at)
+    run-loud (twelve .args .before) (nine .loop .t) (twelve .args .room .now) (nine .loop .room) (twelve .args .bytes .now) (nine .loop .at)
     (five .step .result) (five .step .last .1 .1 .0) (nine .loop .inv .3) (five .step .ensures) (λ x. c .if1 .taken (x .0))
 
 same-length-2 : tie.Need-same-length-2 Inv-loop μ-loop
@@ -65,7 +65,7 @@ returns-2 c =
     let seven = c .before .before .before .before .before .before .before in
     let eleven = seven .before .before .before .before in
     let fourteen = eleven .before .before .before in
-    run-loud (fourteen .args .s) (eleven .loop .t) (fourteen .args .room .now) (eleven .loop .room) (fourteen .args .bytes .now)
+    run-loud (fourteen .args .before) (eleven .loop .t) (fourteen .args .room .now) (eleven .loop .room) (fourteen .args .bytes .now)
     (eleven .loop .at) (seven .step .result) (seven .step .last .1 .1 .0) (eleven .loop .inv .3) (seven .step .ensures)
     (λ x. c .if2 .taken (x .1))
 
@@ -84,7 +84,7 @@ loop-again c =
     let eleven = seven .before .before .before .before in
     let fourteen = eleven .before .before .before in
     let q = seven .step .ensures .silent (c .before .before .if1 .left) (c .if2 .left) in
-    (within-part (fourteen .args .bytes .now) (eleven .loop .at) (seven .step .result .used) (eleven .loop .inv .0) (seven .step .ensures .most), q .1, seven .step .kept .1 .1 .0 ∙ eleven .loop .inv .2, run-again (fourteen .args .s) (eleven .loop .t) (fourteen .args .room .now) (eleven .loop .room) (fourteen .args .bytes .now) (eleven .loop .at) (seven .step .result) (seven .step .last .1 .1 .0) (eleven .loop .inv .3) (seven .step .ensures) (c .before .before .if1 .left) (c .if2 .left))
+    (within-part (fourteen .args .bytes .now) (eleven .loop .at) (seven .step .result .used) (eleven .loop .inv .0) (seven .step .ensures .most), q .1, seven .step .kept .1 .1 .0 ∙ eleven .loop .inv .2, run-again (fourteen .args .before) (eleven .loop .t) (fourteen .args .room .now) (eleven .loop .room) (fourteen .args .bytes .now) (eleven .loop .at) (seven .step .result) (seven .step .last .1 .1 .0) (eleven .loop .inv .3) (seven .step .ensures) (c .before .before .if1 .left) (c .if2 .left))
 
 without-event-requires : tie.Need-without-event-requires Inv-loop μ-loop
 without-event-requires c κs = search needs
@@ -96,7 +96,7 @@ returns-3 : tie.Need-returns-3 Inv-loop μ-loop
 returns-3 c =
     let two = c .before .before in
     let five = two .before .before .before in
-    let q = run-ends (five .args .s) (two .loop .t) (five .args .room .now) (two .loop .room) (five .args .bytes .now) (two .loop .at) (two .loop .inv .3) (c .before .loop-test .left) in
+    let q = run-ends (five .args .before) (two .loop .t) (five .args .room .now) (two .loop .room) (five .args .bytes .now) (two .loop .at) (two .loop .inv .3) (c .before .loop-test .left) in
     (c .without-event .ensures ∙ q .0, q .1)
 
 pub run-spec : {M : Type 1} → statement M

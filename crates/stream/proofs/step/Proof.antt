@@ -12,13 +12,13 @@ wide-requires c κs = search needs
 prefix-byte-requires : tie.Need-prefix-byte-requires
 prefix-byte-requires c κs =
     let six = c .before .before .before .before .before .before in
-    (prefix-below (six .args .t) _ (c .wide .result) (six .pre .0) (c .before .before .if1 .taken) (c .wide .ensures .1), c .before .before .if1 .taken)
+    (prefix-below (six .args .before) _ (c .wide .result) (six .pre .0) (c .before .before .if1 .taken) (c .wide .ensures .1), c .before .before .if1 .taken)
 
 returns : tie.Need-returns
 returns c =
     let three = c .before .before .before in
     let seven = three .before .before .before .before in
-    prefix-stepping (seven .args .t) (seven .args .room .now) (seven .args .bytes .now) (c .before .wide .result) (c .prefix-byte .result)
+    prefix-stepping (seven .args .before) (seven .args .room .now) (seven .args .bytes .now) (c .before .wide .result) (c .prefix-byte .result)
     (seven .pre .0) (three .if1 .taken) (seven .pre .1) (c .before .wide .ensures .0) (c .before .wide .ensures .1) (c .prefix-byte .ensures)
 
 frame-run-requires : tie.Need-frame-run-requires
@@ -31,7 +31,7 @@ returns-2 : tie.Need-returns-2
 returns-2 c =
     let four = c .before .before .before .before in
     let eight = four .before .before .before .before in
-    frame-stepping (eight .args .t) (eight .args .room .now) (eight .args .bytes .now) (c .before .before .frame-run .result)
+    frame-stepping (eight .args .before) (eight .args .room .now) (eight .args .bytes .now) (c .before .before .frame-run .result)
     (c .before .before .frame-run .last .1 .1 .0) (eight .pre .0) (four .if1 .left) (eight .pre .1) (c .before .before .frame-run .ensures .0)
     (c .before .before .frame-run .ensures .1)
 

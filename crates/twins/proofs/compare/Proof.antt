@@ -13,8 +13,8 @@ compare-directory-requires c κs =
     let f = c .before .before .before .forget .ensures in
     (b .pre .0, b .pre .3, tree-ahead _ _ _ _ (b .pre .0) (b .pre .1) _ (forgotten-room (b .args .room .now) _ _ f (b .pre .2)) (forgotten (b .args .room .now) _ _ f))
 
-enum-known-long : tie.Need-enum-known-long
-enum-known-long c = search needs
+enum-known-layered : tie.Need-enum-known-layered
+enum-known-layered c = search needs
 
 enum-told : tie.Need-enum-told
 enum-told c = search needs
@@ -29,7 +29,7 @@ returns c =
     let b = nine .before .before .before .before .before in
     let f = nine .forget .ensures in
     tree-agrees _ _ _ _ (b .pre .0) (b .pre .1) _ _ _ _
-    (rw (c .before .long .given .1) at
+    (rw (c .before .layered .given .1) at
     (five .compare-directory .ensures (tree-ahead _ _ _ _ (b .pre .0) (b .pre .1) _ (forgotten-room (b .args .room .now) _ _ f (b .pre .2)) (forgotten (b .args .room .now) _ _ f))))
 
 same-length-2 : tie.Need-same-length-2
@@ -51,7 +51,7 @@ compare-spec =
     (tie.spec
     forget-requires
     compare-directory-requires
-    enum-known-long
+    enum-known-layered
     enum-told
     same-length
     returns

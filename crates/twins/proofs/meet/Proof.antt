@@ -6,7 +6,7 @@ use Rattle.twins.proofs.meet.Statement.{statement}
 use Rattle.twins.proofs.meet.Tie as tie
 
 returns : tie.Need-returns
-returns c = met-empty (c .before .before .before .before .args .t .now) (c .before .before .before .before .args .roots .now) _ (c .before .before .before .before .args .room .now) _ _ _ (c .if1 .taken)
+returns c = met-empty (c .before .before .before .before .args .tree .now) (c .before .before .before .before .args .roots .now) _ (c .before .before .before .before .args .room .now) _ _ _ (c .if1 .taken)
 
 add-past : tie.Need-add-past
 add-past c = let x = c .before .before .before .before .pre .3 (c .if1 .left) in omega arith
@@ -48,10 +48,10 @@ same-length : tie.Need-same-length
 same-length c = search needs
 
 returns-2 : tie.Need-returns-2
-returns-2 c = met-here (c .before .before .before .before .before .before .before .before .before .before .args .t .now) (c .before .before .before .before .before .before .before .before .before .before .args .roots .now) _ (c .before .before .before .before .before .before .before .before .before .before .args .room .now) _ _ _ (c .before .before .before .before .before .before .if1 .left) _ (c .before .before .before .before .search .ensures) (c .before .before .before .if2 .taken) _ _ (c .before .place .ensures) (c .size-at .ensures)
+returns-2 c = met-here (c .before .before .before .before .before .before .before .before .before .before .args .tree .now) (c .before .before .before .before .before .before .before .before .before .before .args .roots .now) _ (c .before .before .before .before .before .before .before .before .before .before .args .room .now) _ _ _ (c .before .before .before .before .before .before .if1 .left) _ (c .before .before .before .before .search .ensures) (c .before .before .before .if2 .taken) _ _ (c .before .place .ensures) (c .size-at .ensures)
 
 returns-3 : tie.Need-returns-3
-returns-3 c = absurd (met-never (c .before .before .before .before .before .before .before .args .t .now) (c .before .before .before .before .before .before .before .args .roots .now) _ (c .before .before .before .before .before .before .before .args .room .now) 0 _ _ (c .before .before .before .if1 .left) _ (c .before .search .ensures) (c .if2 .left) (c .before .before .before .before .before .before .before .pre .4 (c .before .before .before .if1 .left)))
+returns-3 c = absurd (met-never (c .before .before .before .before .before .before .before .args .tree .now) (c .before .before .before .before .before .before .before .args .roots .now) _ (c .before .before .before .before .before .before .before .args .room .now) 0 _ _ (c .before .before .before .if1 .left) _ (c .before .search .ensures) (c .if2 .left) (c .before .before .before .before .before .before .before .pre .4 (c .before .before .before .if1 .left)))
 
 pub meet-spec : {M : Type 1} → statement M
 meet-spec =

@@ -7,8 +7,8 @@ use crate::end::{Failure, Verdict};
 use crate::json::Path;
 use crate::out;
 use crate::progress::Progress;
-use crate::text::{count, hex, shown, size};
 use crate::torrent::{Entry, Meta};
+use readable::{count, hex, on_terminal, size};
 use serde::Serialize;
 
 pub struct Report<'a> {
@@ -79,7 +79,7 @@ impl<'a> Report<'a> {
             State::Longer => format!("  right, but {} follow", count(found.on_disk - file.length, "byte")),
             State::Unread => found.unread.as_ref().map_or_else(String::new, |error| format!("  {error}")),
         };
-        format!("{word} {:>10}  {}{why}", size(file.length), shown(&file.joined()))
+        format!("{word} {:>10}  {}{why}", size(file.length), on_terminal(&file.joined()))
     }
 
     fn object(&self, file: &Entry, found: &Found, state: State) -> String {

@@ -45,7 +45,7 @@ returns c =
     let two = three .before .before .before in
     let one = two .before .before .before in
     let root = one .before .before .before in
-    bytes-are (root .before .before .args .root) (root .before .before .args .x) _ _ _ _ _ (root .before .before .good .0 .1 .0 .1) (root .put-hash .ensures) (one .put-number .ensures) (two .put-number2 .ensures) (three .put-number3 .ensures) (four .put-number4 .ensures)
+    bytes-are (root .before .before .args .root) (root .before .before .args .header) _ _ _ _ _ (root .before .before .good .0 .1 .0 .1) (root .put-hash .ensures) (one .put-number .ensures) (two .put-number2 .ensures) (three .put-number3 .ensures) (four .put-number4 .ensures)
 
 pub request-bytes-spec : {M : Type 1} → statement M
 request-bytes-spec =

@@ -23,7 +23,7 @@ request-bytes-requires c κs = search needs
 
 returns : tie.Need-returns
 returns c =
-    let x = c .before .before .before .before .before .args .x in
+    let x = c .before .before .before .before .before .args .header in
     ap (λ (y : List ℕ). record { number = 0; asks = 1; base = x .base; index = x .index; len = x .len; proof = x .proof; message = y }) (c .request-bytes .ensures)
 
 pub request-for-spec : {M : Type 1} → statement M

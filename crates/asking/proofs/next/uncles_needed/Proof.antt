@@ -17,7 +17,7 @@ abbrev μ-loop : tie.MeasureT-loop
 μ-loop s t n x₀ u₀ x u = t - u
 
 loop-holds : tie.Need-loop-holds Inv-loop μ-loop
-loop-holds c = (omega arith, up-none (c .before .args .n), omega arith, λ j l. (let w : ⊥ = omega arith in absurd w))
+loop-holds c = (omega arith, up-none (c .before .args .node), omega arith, λ j l. (let w : ⊥ = omega arith in absurd w))
 
 held-requires : tie.Need-held-requires Inv-loop μ-loop
 held-requires c κs = omega (arith, c .before .before .before .pre, c .before .loop .inv .2)
@@ -26,8 +26,8 @@ returns : tie.Need-returns Inv-loop μ-loop
 returns c =
     let at = c .before .before .before in
     let a = at .before .before .args in
-    needed-is (a .s .now) (a .t) (a .n) (at .loop .u) (at .loop .inv .3) (c .before .before .loop-test .taken)
-    (ap (heldAt (a .s .now)) (sym (at .loop .inv .1)) ∙ sym (c .before .held .ensures) ∙ c .if1 .taken)
+    needed-is (a .store .now) (a .top) (a .node) (at .loop .u) (at .loop .inv .3) (c .before .before .loop-test .taken)
+    (ap (heldAt (a .store .now)) (sym (at .loop .inv .1)) ∙ sym (c .before .held .ensures) ∙ c .if1 .taken)
 
 add-u : tie.Need-add-u Inv-loop μ-loop
 add-u c = search needs
@@ -40,9 +40,9 @@ loop-again c =
     let at = c .before .before .before in
     let a = at .before .before .args in (
       omega arith,
-      up-one (at .loop .u) (a .n) (at .loop .x) (at .loop .inv .1),
+      up-one (at .loop .u) (a .node) (at .loop .x) (at .loop .inv .1),
       omega (arith, at .loop .inv .2),
-      free-more (a .s .now) (a .n) (at .loop .u) (at .loop .inv .3) (ap (heldAt (a .s .now)) (sym (at .loop .inv .1)) ∙ sym (c .before .held .ensures) ∙ c .if1 .left),
+      free-more (a .store .now) (a .node) (at .loop .u) (at .loop .inv .3) (ap (heldAt (a .store .now)) (sym (at .loop .inv .1)) ∙ sym (c .before .held .ensures) ∙ c .if1 .left),
     )
 
 returns-2 : tie.Need-returns-2 Inv-loop μ-loop

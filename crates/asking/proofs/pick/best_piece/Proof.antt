@@ -26,7 +26,7 @@ loop-holds : tie.Need-loop-holds Inv-loop μ-loop
 loop-holds c =
     let a = c .before .before .before .before .args in
     let first = c .no-piece .ensures in
-    (omega arith, first ∙ sym (best-none (a .s .now) (a .counts .now)), omega (arith, ap (λ (y : Choice). y .piece) first))
+    (omega arith, first ∙ sym (best-none (a .store .now) (a .counts .now)), omega (arith, ap (λ (y : Choice). y .piece) first))
 
 with-piece-requires : tie.Need-with-piece-requires Inv-loop μ-loop
 with-piece-requires c κs =
@@ -45,14 +45,14 @@ loop-again c =
     let at = c .before .before in
     let i = at .loop .i in
     let a = at .before .before .before .before .before .args in
-    let e = c .with-piece .ensures ∙ ap (chosen (a .s .now) (a .counts .now) i) (at .loop .inv .1) ∙ best-more (a .s .now) (a .counts .now) i in
-    (omega arith, e, omega (arith, ap (λ (y : Choice). y .piece) e, best-low (a .s .now) (a .counts .now) (i + 1)))
+    let e = c .with-piece .ensures ∙ ap (chosen (a .store .now) (a .counts .now) i) (at .loop .inv .1) ∙ best-more (a .store .now) (a .counts .now) i in
+    (omega arith, e, omega (arith, ap (λ (y : Choice). y .piece) e, best-low (a .store .now) (a .counts .now) (i + 1)))
 
 returns : tie.Need-returns Inv-loop μ-loop
 returns c =
     let a = c .before .before .before .before .before .before .args in
     let e : c .before .loop .i ≡ length (a .counts .now) = omega arith in
-    c .before .loop .inv .1 ∙ ap (bestOf (a .s .now) (a .counts .now)) e
+    c .before .loop .inv .1 ∙ ap (bestOf (a .store .now) (a .counts .now)) e
 
 pub best-piece-spec : {M : Type 1} → statement M
 best-piece-spec =

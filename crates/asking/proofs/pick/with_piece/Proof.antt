@@ -15,7 +15,7 @@ shared-slice-read-count : tie.Need-shared-slice-read-count
 shared-slice-read-count c = search needs
 
 returns : tie.Need-returns
-returns c = let a = c .before .before .before .before .args in not-wanted (a .s .now) _ _ _ (c .if1 .taken)
+returns c = let a = c .before .before .before .before .args in not-wanted (a .store .now) _ _ _ (c .if1 .taken)
 
 goes-before-requires : tie.Need-goes-before-requires
 goes-before-requires c κs = search needs
@@ -23,7 +23,7 @@ goes-before-requires c κs = search needs
 returns-2 : tie.Need-returns-2
 returns-2 c =
     let a = c .before .before .before .before .before .before .args in
-    not-rarer (a .s .now) _ _ _ (sym (c .before .goes-before .ensures) ∙ not-true _ (c .if2 .taken))
+    not-rarer (a .store .now) _ _ _ (sym (c .before .goes-before .ensures) ∙ not-true _ (c .if2 .taken))
 
 on-disk-requires : tie.Need-on-disk-requires
 on-disk-requires c κs =

@@ -13,7 +13,7 @@ returns c =
     let w2 = w3 .before .before in
     let w1 = w2 .before .before in
     let start = w1 .before .before .before .before .args in
-    four-told (start .x .now) (start .y .now) (start .i) _ _ _ _ _ _ _ _ (w1 .wide .ensures) (w2 .wide2 .ensures) (w3 .wide3 .ensures)
+    four-told (start .one .now) (start .other .now) (start .i) _ _ _ _ _ _ _ _ (w1 .wide .ensures) (w2 .wide2 .ensures) (w3 .wide3 .ensures)
     (w4 .wide4 .ensures) (w5 .wide5 .ensures) (w6 .wide6 .ensures) (w7 .wide7 .ensures) (c .wide8 .ensures)
 
 pub four-alike-spec : {M : Type 1} → statement M

@@ -28,8 +28,8 @@ shared-slice-read-if1-2 c = search needs
 
 returns : tie.Need-returns Inv-loop μ-loop
 returns c =
-    front-here (c .before .before .before .before .before .before .before .before .before .args .x .now)
-    (c .before .before .before .before .before .before .before .before .before .args .y .now) _ _
+    front-here (c .before .before .before .before .before .before .before .before .before .args .one .now)
+    (c .before .before .before .before .before .before .before .before .before .args .other .now) _ _
     (c .before .before .before .before .before .before .shorter .ensures .0)
     (c .before .before .before .before .before .before .shorter .ensures .1) (c .before .before .before .before .loop .inv .1)
     (c .before .before .before .loop-test .taken) (c .if1 .taken)
@@ -43,15 +43,15 @@ loop-less c = search needs
 loop-again : tie.Need-loop-again Inv-loop μ-loop
 loop-again c = (
   search needs,
-  alike-one (c .before .before .before .before .before .before .before .before .before .args .x .now)
-      (c .before .before .before .before .before .before .before .before .before .args .y .now) _
+  alike-one (c .before .before .before .before .before .before .before .before .before .args .one .now)
+      (c .before .before .before .before .before .before .before .before .before .args .other .now) _
       (c .before .before .before .before .loop .inv .1) (c .if1 .left),
 )
 
 returns-2 : tie.Need-returns-2 Inv-loop μ-loop
 returns-2 c =
-    front-end (c .before .before .before .before .before .before .args .x .now)
-    (c .before .before .before .before .before .before .args .y .now) _ _ (c .before .before .before .shorter .ensures .0)
+    front-end (c .before .before .before .before .before .before .args .one .now)
+    (c .before .before .before .before .before .before .args .other .now) _ _ (c .before .before .before .shorter .ensures .0)
     (c .before .before .before .shorter .ensures .1) (c .before .before .before .shorter .ensures .2) (c .before .loop .inv .1)
     (c .before .loop .inv .0) (c .loop-test .left)
 

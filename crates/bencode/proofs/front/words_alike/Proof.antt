@@ -13,7 +13,7 @@ abbrev μ-loop : tie.MeasureT-loop
 μ-loop x y n i₀ i = n - i
 
 loop-holds : tie.Need-loop-holds Inv-loop μ-loop
-loop-holds c = (search needs, alike-none (c .before .before .args .x .now) (c .before .before .args .y .now))
+loop-holds c = (search needs, alike-none (c .before .before .args .one .now) (c .before .before .args .other .now))
 
 add-loop : tie.Need-add-loop Inv-loop μ-loop
 add-loop c = search needs
@@ -33,8 +33,8 @@ loop-less c = search needs
 loop-again : tie.Need-loop-again Inv-loop μ-loop
 loop-again c = (
   search needs,
-  alike-four (c .before .before .before .before .before .before .args .x .now)
-      (c .before .before .before .before .before .before .args .y .now) _ (c .before .before .before .loop .inv .1)
+  alike-four (c .before .before .before .before .before .before .args .one .now)
+      (c .before .before .before .before .before .before .args .other .now) _ (c .before .before .before .loop .inv .1)
       (c .before .four-alike .ensures (not-false _ (c .if1 .left))),
 )
 

@@ -9,12 +9,12 @@ front-requires c κs = search needs
 
 returns : tie.Need-returns
 returns c =
-    front-second (c .before .before .before .before .args .x .now) (c .before .before .before .before .args .y .now) _
+    front-second (c .before .before .before .before .args .one .now) (c .before .before .before .before .args .other .now) _
     (c .before .front .ensures) (c .if1 .taken)
 
 returns-2 : tie.Need-returns-2
 returns-2 c =
-    front-first (c .before .before .before .before .before .args .x .now) (c .before .before .before .before .before .args .y .now) _
+    front-first (c .before .before .before .before .before .args .one .now) (c .before .before .before .before .before .args .other .now) _
     (c .before .before .front .ensures) (c .before .if1 .left) (c .if2 .taken)
 
 shared-slice-read-result : tie.Need-shared-slice-read-result
@@ -25,8 +25,8 @@ shared-slice-read-result-2 c = search needs
 
 returns-3 : tie.Need-returns-3
 returns-3 c =
-    front-both (c .before .before .before .before .before .before .before .args .x .now)
-    (c .before .before .before .before .before .before .before .args .y .now) _ (c .before .before .before .before .front .ensures)
+    front-both (c .before .before .before .before .before .before .before .args .one .now)
+    (c .before .before .before .before .before .before .before .args .other .now) _ (c .before .before .before .before .front .ensures)
     (c .before .before .before .if1 .left) (c .before .before .if2 .left)
 
 pub comes-before-spec : {M : Type 1} → statement M

@@ -5,14 +5,14 @@ use Rattle.bencode.proofs.order.same.Statement.{statement}
 use Rattle.bencode.proofs.order.same.Tie as tie
 
 returns : tie.Need-returns
-returns c = other-length (c .before .before .before .args .x .now) (c .before .before .before .args .y .now) (c .if1 .taken)
+returns c = other-length (c .before .before .before .args .one .now) (c .before .before .before .args .other .now) (c .if1 .taken)
 
 front-requires : tie.Need-front-requires
 front-requires c κs = search needs
 
 returns-2 : tie.Need-returns-2
 returns-2 c =
-    front-same (c .before .before .before .before .args .x .now) (c .before .before .before .before .args .y .now) _ (c .front .ensures)
+    front-same (c .before .before .before .before .args .one .now) (c .before .before .before .before .args .other .now) _ (c .front .ensures)
     (c .before .if1 .left)
 
 pub same-spec : {M : Type 1} → statement M

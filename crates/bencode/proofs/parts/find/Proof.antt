@@ -23,7 +23,7 @@ returns : tie.Need-returns Inv-loop μ-loop
 returns c = sym (find-no-dictionary _ _ _ (sym (c .before .is-dictionary .ensures) ∙ not-true _ (c .if1 .taken)))
 
 add-i : tie.Need-add-i Inv-loop μ-loop
-add-i c = let below : c .before .before .before .before .args .at < length (c .before .before .before .before .args .s .now) = dictionary-within _ _ (sym (c .before .is-dictionary .ensures) ∙ not-false _ (c .if1 .left)) in omega arith
+add-i c = let below : c .before .before .before .before .args .at < length (c .before .before .before .before .args .bytes .now) = dictionary-within _ _ (sym (c .before .is-dictionary .ensures) ∙ not-false _ (c .if1 .left)) in omega arith
 
 loop-holds : tie.Need-loop-holds Inv-loop μ-loop
 loop-holds c = find-start _ _ _ (sym (c .before .is-dictionary .ensures) ∙ not-false _ (c .if1 .left))

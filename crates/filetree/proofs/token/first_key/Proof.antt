@@ -22,7 +22,7 @@ returns : tie.Need-returns
 returns c = c .file-token .ensures ∙ sym (key-empty _ _ _ _ _ _ (sym (c .before .before .before .before .before .read-string .ensures) ∙ c .before .before .before .a .given .1) (c .before .if1 .taken))
 
 returns-2 : tie.Need-returns-2
-returns-2 c = sym (ap (firstKey (c .before .before .before .before .args .s .now) (c .before .before .before .before .args .start) (c .before .before .before .before .args .end)) (sym (c .before .before .read-string .ensures) ∙ c .enum-told .given .1))
+returns-2 c = sym (ap (firstKey (c .before .before .before .before .args .tree .now) (c .before .before .before .before .args .start) (c .before .before .before .before .args .end)) (sym (c .before .before .read-string .ensures) ∙ c .enum-told .given .1))
 
 returns-3 : tie.Need-returns-3
 returns-3 c = sym (key-full _ _ _ _ _ _ (sym (c .before .before .before .before .read-string .ensures) ∙ c .before .before .a .given .1) (c .if1 .left))

@@ -12,7 +12,7 @@ is-dictionary-requires : tie.Need-is-dictionary-requires
 is-dictionary-requires c κs = search needs
 
 add-at : tie.Need-add-at
-add-at c = let below : c .before .before .before .args .end < length (c .before .before .before .args .s .now) = dictionary-within _ _ (sym (c .before .is-dictionary .ensures) ∙ c .if1 .taken) in omega arith
+add-at c = let below : c .before .before .before .args .end < length (c .before .before .before .args .tree .now) = dictionary-within _ _ (sym (c .before .is-dictionary .ensures) ∙ c .if1 .taken) in omega arith
 
 ends-here-requires : tie.Need-ends-here-requires
 ends-here-requires c κs = search needs

@@ -24,7 +24,7 @@ ends-here-requires : tie.Need-ends-here-requires
 ends-here-requires c κs = search needs
 
 add-t11 : tie.Need-add-t11
-add-t11 c = let below : c .before .before .before .k .given .0 .0 < length (c .before .before .before .before .before .before .before .args .s .now) = ends-inside _ _ (sym (c .before .ends-here .ensures) ∙ c .if1 .taken) in omega arith
+add-t11 c = let below : c .before .before .before .k .given .0 .0 < length (c .before .before .before .before .before .before .before .args .tree .now) = ends-inside _ _ (sym (c .before .ends-here .ensures) ∙ c .if1 .taken) in omega arith
 
 returns : tie.Need-returns
 returns c = sym (past-end _ _ _ _ _ _ _ (sym (c .before .before .before .before .before .value-end .ensures) ∙ c .before .before .before .k .given .1) (sym (c .before .ends-here .ensures) ∙ c .if1 .taken))

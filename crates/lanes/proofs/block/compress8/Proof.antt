@@ -20,7 +20,7 @@ returns : tie.Need-returns
 returns c = (
   c .sum-all .ensures .0,
   λ j h.
-      block-in-lane (c .before .before .before .before .before .before .args .k .now) _ _ (stateIn (c .before .before .before .before .before .before .args .st) j) (stateIn (c .before .steps .result) j) _ (c .before .before .before .fill .ensures j h) (c .before .steps .ensures j h) (c .sum-all .ensures .1 j h),
+      block-in-lane (c .before .before .before .before .before .before .args .k .now) _ _ (stateIn (c .before .before .before .before .before .before .args .states) j) (stateIn (c .before .steps .result) j) _ (c .before .before .before .fill .ensures j h) (c .before .steps .ensures j h) (c .sum-all .ensures .1 j h),
 )
 
 pub compress8-spec : {M : Type 1} → statement M

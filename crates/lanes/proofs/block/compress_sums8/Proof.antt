@@ -18,7 +18,7 @@ abbrev μ-loop : tie.MeasureT-loop
 μ-loop st x t₀ i₀ t i = 64 - i
 
 loop-holds : tie.Need-loop-holds Inv-loop μ-loop
-loop-holds c = (omega arith, refl, rounded-none (λ (j : ℕ). c .args .x .now) _ (c .good .0 .1 .0 .1))
+loop-holds c = (omega arith, refl, rounded-none (λ (j : ℕ). c .args .sums .now) _ (c .good .0 .1 .0 .1))
 
 known-all-requires : tie.Need-known-all-requires Inv-loop μ-loop
 known-all-requires c κs = (omega arith, c .before .before .loop .inv .2 .size)
@@ -30,7 +30,7 @@ loop-less : tie.Need-loop-less Inv-loop μ-loop
 loop-less c = search needs
 
 loop-again : tie.Need-loop-again Inv-loop μ-loop
-loop-again c = (omega arith, omega arith, rounded-on (λ (j : ℕ). c .before .before .before .before .args .x .now) _ (c .before .before .before .loop .i) (c .before .before .before .loop .t) _ (c .before .before .before .loop .inv .2) (c .known-all .ensures))
+loop-again c = (omega arith, omega arith, rounded-on (λ (j : ℕ). c .before .before .before .before .args .sums .now) _ (c .before .before .before .loop .i) (c .before .before .before .loop .t) _ (c .before .before .before .loop .inv .2) (c .known-all .ensures))
 
 sum-all-requires : tie.Need-sum-all-requires Inv-loop μ-loop
 sum-all-requires c κs = search needs
@@ -40,7 +40,7 @@ returns c = (
   c .sum-all .ensures .0,
   λ j h.
       c .sum-all .ensures .1 j h
-      ∙ ap (plus (stateIn (c .before .before .before .args .st) j)) (rounded-last (λ (j : ℕ). c .before .before .before .args .x .now) _ (c .before .before .loop .i) (c .before .before .loop .t) (omega arith) (c .before .before .loop .inv .2) j h),
+      ∙ ap (plus (stateIn (c .before .before .before .args .states) j)) (rounded-last (λ (j : ℕ). c .before .before .before .args .sums .now) _ (c .before .before .loop .i) (c .before .before .loop .t) (omega arith) (c .before .before .loop .inv .2) j h),
 )
 
 pub compress-sums8-spec : {M : Type 1} → statement M

@@ -20,7 +20,7 @@ load-requires : tie.Need-load-requires Inv-loop μ-loop
 load-requires c κs = (c .before .before .pre .0, c .before .before .pre .1)
 
 loop-holds : tie.Need-loop-holds Inv-loop μ-loop
-loop-holds c = (omega arith, refl, grown-first (λ (x : ℕ). cut (c .before .before .before .args .s .now) (c .before .before .before .args .at + x * c .before .before .before .args .stride) 64) _ _ (c .before .before .before .pre .1) (c .load .ensures))
+loop-holds c = (omega arith, refl, grown-first (λ (x : ℕ). cut (c .before .before .before .args .bytes .now) (c .before .before .before .args .at + x * c .before .before .before .args .stride) 64) _ _ (c .before .before .before .pre .1) (c .load .ensures))
 
 grow-all-requires : tie.Need-grow-all-requires Inv-loop μ-loop
 grow-all-requires c κs = (omega arith, c .before .before .loop .inv .2 .room)
@@ -32,10 +32,10 @@ loop-less : tie.Need-loop-less Inv-loop μ-loop
 loop-less c = search needs
 
 loop-again : tie.Need-loop-again Inv-loop μ-loop
-loop-again c = (omega arith, omega arith, grown-on (λ (x : ℕ). cut (c .before .before .before .before .before .before .before .args .s .now) (c .before .before .before .before .before .before .before .args .at + x * c .before .before .before .before .before .before .before .args .stride) 64) (c .before .before .before .loop .i) (c .before .before .before .loop .w) _ (c .before .before .before .loop .inv .2) (c .grow-all .ensures))
+loop-again c = (omega arith, omega arith, grown-on (λ (x : ℕ). cut (c .before .before .before .before .before .before .before .args .bytes .now) (c .before .before .before .before .before .before .before .args .at + x * c .before .before .before .before .before .before .before .args .stride) 64) (c .before .before .before .loop .i) (c .before .before .before .loop .w) _ (c .before .before .before .loop .inv .2) (c .grow-all .ensures))
 
 returns : tie.Need-returns Inv-loop μ-loop
-returns c = grown-last (λ (x : ℕ). cut (c .before .before .before .before .before .args .s .now) (c .before .before .before .before .before .args .at + x * c .before .before .before .before .before .args .stride) 64) (c .before .loop .i) (c .before .loop .w) (omega arith) (c .before .loop .inv .2)
+returns c = grown-last (λ (x : ℕ). cut (c .before .before .before .before .before .args .bytes .now) (c .before .before .before .before .before .args .at + x * c .before .before .before .before .before .args .stride) 64) (c .before .loop .i) (c .before .loop .w) (omega arith) (c .before .loop .inv .2)
 
 pub fill-spec : {M : Type 1} → statement M
 fill-spec =

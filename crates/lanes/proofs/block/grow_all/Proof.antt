@@ -1,6 +1,6 @@
 -- The loop's invariant: the lanes below j have four words more, the others are as they were.
 -- Assumes nothing.
-use Rattle.lanes.specs.Passes.{Passed, Growing}
+use Rattle.lanes.specs.Passes.{LanesPassed, Growing}
 use Rattle.lanes.specs.LanesLaws.{passed-none, passed-more}
 use borrow.Author.Needs.{needs}
 use native.Mathlib.Omega.{arith}
@@ -10,7 +10,7 @@ use Rattle.lanes.proofs.block.grow_all.Statement.{statement}
 use Rattle.lanes.proofs.block.grow_all.Tie as tie
 
 abbrev Inv-loop : tie.InvT-loop
-Inv-loop w₀ i j₀ w j = (j ≤ 8) × Passed 64 (λ (x : ℕ). Growing i (i + 4)) j w₀ w
+Inv-loop w₀ i j₀ w j = (j ≤ 8) × LanesPassed 64 (λ (x : ℕ). Growing i (i + 4)) j w₀ w
 
 abbrev μ-loop : tie.MeasureT-loop
 μ-loop w₀ i j₀ w j = 8 - j

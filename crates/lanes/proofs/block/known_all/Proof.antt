@@ -1,6 +1,6 @@
 -- The loop's invariant: the lanes below j are four rounds further, the others as they were.
 -- Assumes nothing.
-use Rattle.lanes.specs.Passes.{Passed, Rounding}
+use Rattle.lanes.specs.Passes.{LanesPassed, Rounding}
 use Rattle.lanes.specs.LanesLaws.{passed-none, rounding-more}
 use borrow.Author.Needs.{needs}
 use native.Mathlib.Omega.{arith}
@@ -10,7 +10,7 @@ use Rattle.lanes.proofs.block.known_all.Statement.{statement}
 use Rattle.lanes.proofs.block.known_all.Tie as tie
 
 abbrev Inv-loop : tie.InvT-loop
-Inv-loop t₀ x i j₀ t j = (j ≤ 8) × Passed 8 (Rounding (λ (y : ℕ). x) i (i + 4)) j t₀ t
+Inv-loop t₀ x i j₀ t j = (j ≤ 8) × LanesPassed 8 (Rounding (λ (y : ℕ). x) i (i + 4)) j t₀ t
 
 abbrev μ-loop : tie.MeasureT-loop
 μ-loop t₀ x i j₀ t j = 8 - j

@@ -76,7 +76,7 @@ element-copy-out-t41 : tie.Need-element-copy-out-t41
 element-copy-out-t41 c = search needs
 
 returns : tie.Need-returns
-returns c = state-reads (c .before .before .before .before .before .before .before .before .args .t .now) (c .before .before .before .before .before .before .before .before .args .j)
+returns c = state-reads (c .before .before .before .before .before .before .before .before .args .states .now) (c .before .before .before .before .before .before .before .before .args .lane)
 
 pub lane-of-spec : {M : Type 1} → statement M
 lane-of-spec =

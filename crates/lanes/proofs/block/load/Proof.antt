@@ -2,7 +2,7 @@
 -- Assumes nothing.
 use Rattle.lanes.specs.LanesLaws.{reach, passed-none, passed-more}
 use Rattle.octets.specs.Octets.{cut}
-use Rattle.lanes.specs.Passes.{Passed, Loading}
+use Rattle.lanes.specs.Passes.{LanesPassed, Loading}
 use borrow.Author.Needs.{needs}
 use native.Mathlib.Omega.{arith}
 use Prim.Native.Nat.{ℕ, _+_, _-_, _*_, _≤_}
@@ -11,7 +11,7 @@ use Rattle.lanes.proofs.block.load.Statement.{statement}
 use Rattle.lanes.proofs.block.load.Tie as tie
 
 abbrev Inv-loop : tie.InvT-loop
-Inv-loop w₀ s at stride j₀ w j = (j ≤ 8) × Passed 64 (Loading (λ (x : ℕ). cut s (at + x * stride) 64)) j w₀ w
+Inv-loop w₀ s at stride j₀ w j = (j ≤ 8) × LanesPassed 64 (Loading (λ (x : ℕ). cut s (at + x * stride) 64)) j w₀ w
 
 abbrev μ-loop : tie.MeasureT-loop
 μ-loop w₀ s at stride j₀ w j = 8 - j
@@ -38,7 +38,7 @@ loop-again : tie.Need-loop-again Inv-loop μ-loop
 unfolding Loading
 loop-again c = let a = c .before .before .before .before .before .args in (
   omega arith,
-  passed-more 64 (Loading (λ (x : ℕ). cut (a .s .now) (a .at + x * a .stride) 64)) (c .before .before .before .loop .j) _ (c .before .before .before .loop .w) _ (omega arith) (c .before .before .before .loop .inv .1) (c .load-lane .ensures .1) (c .load-lane .ensures .0),
+  passed-more 64 (Loading (λ (x : ℕ). cut (a .bytes .now) (a .at + x * a .stride) 64)) (c .before .before .before .loop .j) _ (c .before .before .before .loop .w) _ (omega arith) (c .before .before .before .loop .inv .1) (c .load-lane .ensures .1) (c .load-lane .ensures .0),
 )
 
 returns : tie.Need-returns Inv-loop μ-loop

@@ -55,7 +55,7 @@ loop-again c = let a = c .before .before .before .before .args in
     let l = c .before .before .loop in
     let n : length (l .w) ≡ 512 = l .inv .2 .size ∙ c .before .before .before .before .pre .2 in (
       omega arith,
-      load-more (a .s .now) (l .w) (a .at) (l .i) (a .j) (c .word .result) (omega arith) (c .before .before .before .before .pre .0) n (l .inv .1) (c .word .ensures),
+      load-more (a .bytes .now) (l .w) (a .at) (l .i) (a .j) (c .word .result) (omega arith) (c .before .before .before .before .pre .0) n (l .inv .1) (c .word .ensures),
       beside-then (l .inv .2) (beside-set 64 (l .w) (l .i) (a .j) (c .word .result) (c .before .before .before .before .pre .0)),
     )
 

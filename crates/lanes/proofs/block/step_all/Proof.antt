@@ -2,7 +2,7 @@
 -- Assumes nothing.
 use Rattle.rounds.specs.Sums.{sums}
 use Rattle.lanes.specs.Lanes.{lane}
-use Rattle.lanes.specs.Passes.{Passed, Rounding}
+use Rattle.lanes.specs.Passes.{LanesPassed, Rounding}
 use Rattle.lanes.specs.LanesLaws.{passed-none, rounding-more}
 use borrow.Author.Needs.{needs}
 use native.Mathlib.Omega.{arith}
@@ -12,7 +12,7 @@ use Rattle.lanes.proofs.block.step_all.Statement.{statement}
 use Rattle.lanes.proofs.block.step_all.Tie as tie
 
 abbrev Inv-loop : tie.InvT-loop
-Inv-loop t₀ k w i j₀ t j = (j ≤ 8) × Passed 8 (Rounding (λ (x : ℕ). sums 64 k (lane 64 w x)) i (i + 4)) j t₀ t
+Inv-loop t₀ k w i j₀ t j = (j ≤ 8) × LanesPassed 8 (Rounding (λ (x : ℕ). sums 64 k (lane 64 w x)) i (i + 4)) j t₀ t
 
 abbrev μ-loop : tie.MeasureT-loop
 μ-loop t₀ k w i j₀ t j = 8 - j

@@ -53,7 +53,7 @@ loop-less c = search needs
 
 loop-again : tie.Need-loop-again Inv-loop μ-loop
 unfolding eighthHash
-loop-again c = let s = c .before .before .before .before .before .before .before .before .before .before .before .before .before .args .s .now in
+loop-again c = let s = c .before .before .before .before .before .before .before .before .before .before .before .before .before .args .bytes .now in
     let n = length s / 8 in
     let l = c .before .before .before .before .before .before .before .loop in
     let h = c .before .before .before .message-hash .result in

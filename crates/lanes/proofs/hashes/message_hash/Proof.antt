@@ -40,7 +40,7 @@ digest-requires c κs = search needs
 returns : tie.Need-returns
 returns c = λ z e.
     c .digest .ensures
-    ∙ ap digest (c .before .finish .ensures ∙ message-law (c .before .before .before .before .before .args .k .now) (c .before .before .before .before .before .args .s .now) z (c .before .before .lane-of .result) (c .before .before .before .before .before .args .n) (c .before .before .before .before .before .args .j) (c .before .before .before .before .before .pre .1) (c .before .before .before .before .before .pre .0) (c .before .before .lane-of .ensures ∙ e))
+    ∙ ap digest (c .before .finish .ensures ∙ message-law (c .before .before .before .before .before .args .k .now) (c .before .before .before .before .before .args .bytes .now) z (c .before .before .lane-of .result) (c .before .before .before .before .before .args .n) (c .before .before .before .before .before .args .j) (c .before .before .before .before .before .pre .1) (c .before .before .before .before .before .pre .0) (c .before .before .lane-of .ensures ∙ e))
 
 pub message-hash-spec : {M : Type 1} → statement M
 message-hash-spec =

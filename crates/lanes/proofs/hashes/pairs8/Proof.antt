@@ -28,7 +28,7 @@ digests-requires c κs = search needs
 
 returns : tie.Need-returns
 unfolding parentOf
-returns c = let s = c .before .before .before .before .before .before .before .before .before .args .s .now in
+returns c = let s = c .before .before .before .before .before .before .before .before .before .args .bytes .now in
     let k = c .before .before .before .before .before .before .before .round-words in
     let x = c .before .before .before .pair-sums in
     record {

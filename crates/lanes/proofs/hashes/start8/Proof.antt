@@ -3,7 +3,7 @@
 use mathlib.Core.List.{List}
 use Rattle.lanes.specs.LanesLaws.{passed-none, passed-more}
 use Rattle.lanes.specs.Lanes.{stateIn, stateOf}
-use Rattle.lanes.specs.Passes.{Passed}
+use Rattle.lanes.specs.Passes.{LanesPassed}
 use borrow.Author.Needs.{needs}
 use native.Mathlib.Omega.{arith}
 use Prim.Native.Nat.{ℕ, _-_, _≤_}
@@ -12,7 +12,7 @@ use Rattle.lanes.proofs.hashes.start8.Statement.{statement}
 use Rattle.lanes.proofs.hashes.start8.Tie as tie
 
 abbrev Inv-loop : tie.InvT-loop
-Inv-loop z t₀ j₀ t j = (j ≤ 8) × Passed 8 (λ (x : ℕ) (l k : List ℕ). stateOf k ≡ z) j t₀ t
+Inv-loop z t₀ j₀ t j = (j ≤ 8) × LanesPassed 8 (λ (x : ℕ) (l k : List ℕ). stateOf k ≡ z) j t₀ t
 
 abbrev μ-loop : tie.MeasureT-loop
 μ-loop z t₀ j₀ t j = 8 - j

@@ -41,7 +41,7 @@ loop-again c = let a = c .before .before .before .before .args in
       omega arith,
       omega arith,
       c .compress8 .ensures .0,
-      λ x h. message-more (a .k .now) (a .s .now) (stateIn (a .st) x) (stateIn (l .t) x) (stateIn (c .compress8 .result) x) (a .n) (l .at) x (omega arith) (l .inv .1) (l .inv .3 x h) (c .compress8 .ensures .1 x h),
+      λ x h. message-more (a .k .now) (a .bytes .now) (stateIn (a .st) x) (stateIn (l .t) x) (stateIn (c .compress8 .result) x) (a .n) (l .at) x (omega arith) (l .inv .1) (l .inv .3 x h) (c .compress8 .ensures .1 x h),
     )
 
 returns : tie.Need-returns Inv-loop μ-loop

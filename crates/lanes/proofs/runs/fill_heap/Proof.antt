@@ -35,7 +35,7 @@ loop-again c =
     let q = l .q - 8 in (
       omega arith,
       omega arith,
-      heap-more q 8 (args .m) (args .heap .now) (l .heap) _ (eight .pairs8 .result) (heap-at (l .q) (q + 8) (l .inv .2) (omega arith))
+      heap-more q 8 (args .leaves) (args .heap .now) (l .heap) _ (eight .pairs8 .result) (heap-at (l .q) (q + 8) (l .inv .2) (omega arith))
           (omega arith) (omega arith) (eight .pairs8 .ensures .size)
           (λ j h. eight .pairs8 .ensures .hashes j h ∙ parent-in (l .heap) q j (64 * q + 512 - 64 * q) h (omega arith)) (put .put8 .ensures),
     )
@@ -56,7 +56,7 @@ loop2-again c =
     let k : length h ≡ 32 = ap length e ∙ pair-octets _ _ .size in (
       omega arith,
       omega arith,
-      heap-more q 1 (eights .before .before .args .m) (eights .loop .heap) (l .heap) _ h (heap-at (l .q) (q + 1) (l .inv .2) (omega arith))
+      heap-more q 1 (eights .before .before .args .leaves) (eights .loop .heap) (l .heap) _ h (heap-at (l .q) (q + 1) (l .inv .2) (omega arith))
           (omega arith) (omega arith) k (one-parent q (l .heap) h k e) (put .put-hash .ensures),
     )
 

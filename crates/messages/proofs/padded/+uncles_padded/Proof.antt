@@ -39,7 +39,7 @@ uncles-padded-claims t = (
 )
 
 uncles-padded-returns : (t : ℕ) → uncles-padded-lts.Need-returns (uncles-padded-claims t) (uncles-padded-at t) uncles-padded.Post
-uncles-padded-returns t c = uncles-none (c .before .before .args .hashes .now) (c .before .before .args .b) (c .before .before .args .i) (c .before .before .args .u) (c .before .before .args .l) (c .before .before .args .x) (c .if1 .taken)
+uncles-padded-returns t c = uncles-none (c .before .before .args .hashes .now) (c .before .before .args .blocks) (c .before .before .args .number) (c .before .before .args .count) (c .before .before .args .layer) (c .before .before .args .index) (c .if1 .taken)
 
 uncles-padded-sub-d : (t : ℕ) → uncles-padded-lts.Need-sub-d (uncles-padded-claims t) (uncles-padded-at t) uncles-padded.Post
 uncles-padded-sub-d t c = search needs
@@ -62,13 +62,13 @@ uncles-padded-uncles-padded-requires : (t : ℕ) → uncles-padded-lts.Need-uncl
 uncles-padded-uncles-padded-requires t c κs =
     let a = c .before .before .before .before .before .args in
     let q = c .before .before .before .before .before .pre .1 in
-    (omega arith, (omega arith, omega arith, omega arith, pad-next (a .v) (c .pair .result) (a .l) (q .3) (c .pair .ensures)))
+    (omega arith, (omega arith, omega arith, omega arith, pad-next (a .pad) (c .pair .result) (a .layer) (q .3) (c .pair .ensures)))
 
 uncles-padded-returns-2 : (t : ℕ) → uncles-padded-lts.Need-returns-2 (uncles-padded-claims t) (uncles-padded-at t) uncles-padded.Post
-uncles-padded-returns-2 t c = uncles-right (c .before .before .before .before .before .before .args .hashes .now) (c .before .before .before .before .before .before .args .b) (c .before .before .before .before .before .before .args .i) (c .before .before .before .before .before .before .args .u) (c .before .before .before .before .before .before .args .l) (c .before .before .before .before .before .before .args .x) (c .before .before .before .uncle-padded .result) (c .uncles-padded .result) (c .before .before .before .before .if1 .left) (c .before .before .before .uncle-padded .ensures) (c .before .before .if2 .taken) (c .uncles-padded .ensures)
+uncles-padded-returns-2 t c = uncles-right (c .before .before .before .before .before .before .args .hashes .now) (c .before .before .before .before .before .before .args .blocks) (c .before .before .before .before .before .before .args .number) (c .before .before .before .before .before .before .args .count) (c .before .before .before .before .before .before .args .layer) (c .before .before .before .before .before .before .args .index) (c .before .before .before .uncle-padded .result) (c .uncles-padded .result) (c .before .before .before .before .if1 .left) (c .before .before .before .uncle-padded .ensures) (c .before .before .if2 .taken) (c .uncles-padded .ensures)
 
 uncles-padded-returns-3 : (t : ℕ) → uncles-padded-lts.Need-returns-3 (uncles-padded-claims t) (uncles-padded-at t) uncles-padded.Post
-uncles-padded-returns-3 t c = uncles-wrong (c .before .before .before .before .args .hashes .now) (c .before .before .before .before .args .b) (c .before .before .before .before .args .i) (c .before .before .before .before .args .u) (c .before .before .before .before .args .l) (c .before .before .before .before .args .x) (c .before .uncle-padded .result) (c .before .before .if1 .left) (c .before .uncle-padded .ensures) (c .if2 .left)
+uncles-padded-returns-3 t c = uncles-wrong (c .before .before .before .before .args .hashes .now) (c .before .before .before .before .args .blocks) (c .before .before .before .before .args .number) (c .before .before .before .before .args .count) (c .before .before .before .before .args .layer) (c .before .before .before .before .args .index) (c .before .uncle-padded .result) (c .before .before .if1 .left) (c .before .uncle-padded .ensures) (c .if2 .left)
 
 pub +uncles-padded-spec : {M : Type 1} → statement M
 +uncles-padded-spec = close μ-uncles-padded λ t. uncles-padded-lts.spec (uncles-padded-claims t)

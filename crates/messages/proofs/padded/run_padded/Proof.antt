@@ -14,7 +14,7 @@ all-from-requires : tie.Need-all-from-requires
 all-from-requires c κs = search needs
 
 returns : tie.Need-returns
-returns c = run-past (c .before .before .before .before .before .args .run .now) (c .before .before .pad-value .result) (c .before .before .before .before .before .args .b) (c .before .before .before .before .before .args .base) (c .before .before .before .before .before .args .index) (c .before .before .before .before .before .args .len) (c .before .before .before .covering .result) (c .all-from .result) (c .before .before .before .covering .ensures) (c .before .before .pad-value .ensures) (c .before .if1 .taken) (c .all-from .ensures)
+returns c = run-past (c .before .before .before .before .before .args .run .now) (c .before .before .pad-value .result) (c .before .before .before .before .before .args .blocks) (c .before .before .before .before .before .args .base) (c .before .before .before .before .before .args .index) (c .before .before .before .before .before .args .len) (c .before .before .before .covering .result) (c .all-from .result) (c .before .before .before .covering .ensures) (c .before .before .pad-value .ensures) (c .before .if1 .taken) (c .all-from .ensures)
 
 sub-all-from : tie.Need-sub-all-from
 sub-all-from c = search needs
@@ -23,7 +23,7 @@ all-from-requires-2 : tie.Need-all-from-requires-2
 all-from-requires-2 c κs = search needs
 
 returns-2 : tie.Need-returns-2
-returns-2 c = run-before (c .before .before .before .before .before .args .run .now) (c .before .before .pad-value .result) (c .before .before .before .before .before .args .b) (c .before .before .before .before .before .args .base) (c .before .before .before .before .before .args .index) (c .before .before .before .before .before .args .len) (c .before .before .before .covering .result) (c .all-from2 .result) (c .before .before .before .covering .ensures) (c .before .before .pad-value .ensures) (c .all-from2 .ensures)
+returns-2 c = run-before (c .before .before .before .before .before .args .run .now) (c .before .before .pad-value .result) (c .before .before .before .before .before .args .blocks) (c .before .before .before .before .before .args .base) (c .before .before .before .before .before .args .index) (c .before .before .before .before .before .args .len) (c .before .before .before .covering .result) (c .all-from2 .result) (c .before .before .before .covering .ensures) (c .before .before .pad-value .ensures) (c .all-from2 .ensures)
 
 pub run-padded-spec : {M : Type 1} → statement M
 run-padded-spec =

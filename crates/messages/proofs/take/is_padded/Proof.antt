@@ -55,25 +55,25 @@ uncles-padded-requires : tie.Need-uncles-padded-requires
 uncles-padded-requires c κs =
     let a = c .before .before .before .before .before .before .args in
     let q = c .before .before .before .before .before .before .pre in
-    let e = headerSize + 32 * a .x .len in
-    let h = uncles-part (a .m .now) (a .x .len) (a .p .u) e (e + 32 * a .p .u) refl refl in
-    let l = uncles-length (a .m .now) (a .x) (a .p) q in
-    (omega (arith, ap length h), omega (arith, q .layers), quotient-small (a .x .index) (a .x .len) (q .index), c .pad-value .ensures)
+    let e = headerSize + 32 * a .header .len in
+    let h = uncles-part (a .message .now) (a .header .len) (a .place .u) e (e + 32 * a .place .u) refl refl in
+    let l = uncles-length (a .message .now) (a .header) (a .place) q in
+    (omega (arith, ap length h), omega (arith, q .layers), quotient-small (a .header .index) (a .header .len) (q .index), c .pad-value .ensures)
 
 returns : tie.Need-returns
 returns c =
     let a = c .before .before .before .before .before .before .before .args in
     let q = c .before .before .before .before .before .before .before .pre in
-    let e = headerSize + 32 * a .x .len in
-    padded-yes (a .m .now) (a .x) (a .p) (a .b) _ (c .before .before .before .before .run-padded .result) (run-part (a .m .now) (a .x .len) e refl) (c .before .before .before .before .run-padded .ensures) _ (c .uncles-padded .result)
-    (c .before .before .before .if1 .taken) (uncles-part (a .m .now) (a .x .len) (a .p .u) e (e + 32 * a .p .u) refl refl) (c .uncles-padded .ensures)
+    let e = headerSize + 32 * a .header .len in
+    padded-yes (a .message .now) (a .header) (a .place) (a .blocks) _ (c .before .before .before .before .run-padded .result) (run-part (a .message .now) (a .header .len) e refl) (c .before .before .before .before .run-padded .ensures) _ (c .uncles-padded .result)
+    (c .before .before .before .if1 .taken) (uncles-part (a .message .now) (a .header .len) (a .place .u) e (e + 32 * a .place .u) refl refl) (c .uncles-padded .ensures)
 
 returns-2 : tie.Need-returns-2
 returns-2 c =
     let a = c .before .before .before .before .args in
     let q = c .before .before .before .before .pre in
-    let e = headerSize + 32 * a .x .len in
-    padded-no (a .m .now) (a .x) (a .p) (a .b) _ (c .before .run-padded .result) (run-part (a .m .now) (a .x .len) e refl) (c .before .run-padded .ensures) (c .if1 .left)
+    let e = headerSize + 32 * a .header .len in
+    padded-no (a .message .now) (a .header) (a .place) (a .blocks) _ (c .before .run-padded .result) (run-part (a .message .now) (a .header .len) e refl) (c .before .run-padded .ensures) (c .if1 .left)
 
 pub is-padded-spec : {M : Type 1} → statement M
 is-padded-spec =

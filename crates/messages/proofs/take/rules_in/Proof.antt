@@ -5,21 +5,17 @@ use mathlib.Core.Path.{refl, _∙_}
 use Rattle.messages.proofs.take.rules_in.Statement.{statement}
 use Rattle.messages.proofs.take.rules_in.Tie as tie
 
-blocks-of-requires : tie.Need-blocks-of-requires
-blocks-of-requires c κs = usable-facts (c .before .args .s .now) (c .before .pre .0) .long
-
 height-of-requires : tie.Need-height-of-requires
-height-of-requires c κs = usable-facts (c .before .before .args .s .now) (c .before .before .pre .0) .long
+height-of-requires c κs = usable-facts (c .before .args .store .now) (c .before .pre .0) .long
 
 keeps-rules-requires : tie.Need-keeps-rules-requires
 keeps-rules-requires c κs =
-    let s = c .before .before .before .args .s .now in
-    let pre = c .before .before .before .pre in
+    let s = c .before .before .args .store .now in
+    let pre = c .before .before .pre in
     (pre .1, omega (arith, facts-height s (usable-facts s (pre .0)), c .height-of .ensures))
 
 returns : tie.Need-returns
-returns c = c .keeps-rules .ensures ∙ rw (c .before .before .blocks-of .ensures, c .before .height-of .ensures) refl
+returns c = c .keeps-rules .ensures ∙ rw (c .before .height-of .ensures) refl
 
 pub rules-in-spec : {M : Type 1} → statement M
-rules-in-spec =
-    tie.close (tie.spec blocks-of-requires height-of-requires keeps-rules-requires returns)
+rules-in-spec = tie.close (tie.spec height-of-requires keeps-rules-requires returns)

@@ -22,7 +22,7 @@ same-length-2 c = search needs
 returns : tie.Need-returns
 returns c =
     let a = c .before .before .before .before .before .before .before .before .before .before .args in
-    let d = answer-refused (compared (a .s .now) (a .m .now) (a .p) (a .a)) (a .s .now) (settled (a .m .now) (a .p)) (c .before .before .before .before .compare .result) (c .before .before .before .before .compare .ensures .0) (c .before .if1 .taken) in
+    let d = answer-refused (compared (a .store .now) (a .message .now) (a .place) (a .a)) (a .store .now) (settled (a .message .now) (a .place)) (c .before .before .before .before .compare .result) (c .before .before .before .before .compare .ensures .0) (c .before .if1 .taken) in
     (c .refusal .ensures ∙ d .0, d .1)
 
 write-requires : tie.Need-write-requires
@@ -40,7 +40,7 @@ same-length-4 c = search needs
 returns-2 : tie.Need-returns-2
 returns-2 c =
     let a = c .before .before .before .before .before .before .before .before .before .before .before .before .before .before .before .before .before .args in
-    let d = answer-done (compared (a .s .now) (a .m .now) (a .p) (a .a)) (a .s .now) (settled (a .m .now) (a .p)) (c .before .before .before .before .before .before .before .before .before .before .before .compare .result) (c .before .before .before .before .before .write .result) _ (c .before .before .before .before .before .before .before .before .before .before .before .compare .ensures .0) (c .before .before .before .before .before .before .before .before .if1 .left) (c .before .before .before .before .before .write .ensures) in
+    let d = answer-done (compared (a .store .now) (a .message .now) (a .place) (a .a)) (a .store .now) (settled (a .message .now) (a .place)) (c .before .before .before .before .before .before .before .before .before .before .before .compare .result) (c .before .before .before .before .before .write .result) _ (c .before .before .before .before .before .before .before .before .before .before .before .compare .ensures .0) (c .before .before .before .before .before .before .before .before .if1 .left) (c .before .before .before .before .before .write .ensures) in
     (c .success .ensures ∙ d .0, d .1)
 
 pub settle-spec : {M : Type 1} → statement M

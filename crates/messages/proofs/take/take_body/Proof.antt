@@ -23,8 +23,8 @@ refusal-requires c κs = search needs
 
 returns : tie.Need-returns
 returns c = let a = c .before .before .before .before .args in
-    let e = body-4 (a .s .now) (a .m .now) (a .x) (a .p) (a .n) (c .before .before .before .before .pre .0) (c .before .if1 .taken) in
-    let d = answer-refused (bodyNumber (a .s .now) (a .m .now) (a .x) (a .p)) (a .s .now) (settled (a .m .now) (a .p)) wrongSize e (λ z. omega arith) in
+    let e = body-4 (a .store .now) (a .message .now) (a .header) (a .place) (c .before .before .before .before .pre .0) (c .before .if1 .taken) in
+    let d = answer-refused (bodyNumber (a .store .now) (a .message .now) (a .header) (a .place)) (a .store .now) (settled (a .message .now) (a .place)) wrongSize e (λ z. omega arith) in
     (c .refusal .ensures ∙ d .0, d .1)
 
 is-padded-requires : tie.Need-is-padded-requires
@@ -36,8 +36,8 @@ refusal-requires-2 c κs = search needs
 returns-2 : tie.Need-returns-2
 returns-2 c = let a = c .before .before .before .before .before .before .args in
     let q = c .before .before .before .before .before .before .pre in
-    let e = body-5 (a .s .now) (a .m .now) (a .x) (a .p) (a .n) (q .0) (c .before .before .before .if1 .left) (a .b) (q .2) (c .before .before .is-padded .result) (c .before .before .is-padded .ensures) (not-true _ (c .before .if2 .taken)) in
-    let d = answer-refused (bodyNumber (a .s .now) (a .m .now) (a .x) (a .p)) (a .s .now) (settled (a .m .now) (a .p)) wrongPadding e (λ z. omega arith) in
+    let e = body-5 (a .store .now) (a .message .now) (a .header) (a .place) (q .0) (c .before .before .before .if1 .left) (a .blocks) (q .2) (c .before .before .is-padded .result) (c .before .before .is-padded .ensures) (not-true _ (c .before .if2 .taken)) in
+    let d = answer-refused (bodyNumber (a .store .now) (a .message .now) (a .header) (a .place)) (a .store .now) (settled (a .message .now) (a .place)) wrongPadding e (λ z. omega arith) in
     (c .refusal2 .ensures ∙ d .0, d .1)
 
 take-anchored-requires : tie.Need-take-anchored-requires
@@ -49,9 +49,9 @@ same-length c = search needs
 returns-3 : tie.Need-returns-3
 returns-3 c = let a = c .before .before .before .before .before .before .before .before .before .args in
     let q = c .before .before .before .before .before .before .before .before .before .pre in
-    let n = anchored (a .s .now) (a .m .now) (a .p) in
-    let e = body-judged (a .s .now) (a .m .now) (a .x) (a .p) (a .n) (q .0) (c .before .before .before .before .before .before .if1 .left) (a .b) (q .2) (c .before .before .before .before .before .is-padded .result) (c .before .before .before .before .before .is-padded .ensures) n (not-false _ (c .before .before .before .before .if2 .left)) refl in
-    answer-same (bodyNumber (a .s .now) (a .m .now) (a .x) (a .p)) (a .s .now) (settled (a .m .now) (a .p)) n _ _ e (c .before .before .take-anchored .ensures)
+    let n = anchored (a .store .now) (a .message .now) (a .place) in
+    let e = body-judged (a .store .now) (a .message .now) (a .header) (a .place) (q .0) (c .before .before .before .before .before .before .if1 .left) (a .blocks) (q .2) (c .before .before .before .before .before .is-padded .result) (c .before .before .before .before .before .is-padded .ensures) n (not-false _ (c .before .before .before .before .if2 .left)) refl in
+    answer-same (bodyNumber (a .store .now) (a .message .now) (a .header) (a .place)) (a .store .now) (settled (a .message .now) (a .place)) n _ _ e (c .before .before .take-anchored .ensures)
 
 pub take-body-spec : {M : Type 1} → statement M
 take-body-spec =

@@ -13,7 +13,7 @@ is-reject-requires : tie.Need-is-reject-requires
 is-reject-requires c κs = search needs
 
 header-number-requires : tie.Need-header-number-requires
-header-number-requires c κs = λ e. omega (arith, reject-form (c .before .before .before .args .m .now) (sym (c .is-reject .ensures) ∙ e))
+header-number-requires c κs = λ e. omega (arith, reject-form (c .before .before .before .args .message .now) (sym (c .is-reject .ensures) ∙ e))
 
 refusal-requires : tie.Need-refusal-requires
 refusal-requires c κs = search needs
@@ -22,7 +22,7 @@ returns : tie.Need-returns
 unfolding rejectAnswer
 returns c =
     let a = c .before .before .before .before .before .args in
-    c .refusal .ensures ∙ ap refused (c .before .header-number .ensures ∙ ap (λ (t : Bool). headerNumber t (a .s .now) (a .m .now)) (c .before .before .is-reject .ensures))
+    c .refusal .ensures ∙ ap refused (c .before .header-number .ensures ∙ ap (λ (t : Bool). headerNumber t (a .store .now) (a .message .now)) (c .before .before .is-reject .ensures))
 
 pub take-reject-spec : {M : Type 1} → statement M
 take-reject-spec =

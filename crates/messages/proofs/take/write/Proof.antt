@@ -43,25 +43,25 @@ unfolding zeroHash
 write-looked-requires c κs =
     let a = c .before .before .before .before .before .before .before .args in
     let p = c .before .before .before .before .before .before .before .pre in
-    let e = headerSize + 32 * a .x .len in (
-      ready-fit (length (a .s .now)) (a .m .now) (a .n) (a .x) (a .p) (p .0),
+    let e = headerSize + 32 * a .header .len in (
+      ready-fit (length (a .store .now)) (a .message .now) (a .header) (a .place) (p .0),
       p .1,
-      heaped-run (a .m .now) (a .x) (a .p) (p .0 .carried .power) _ _ _ (run-part (a .m .now) (a .x .len) e refl) refl
-          (uncles-part (a .m .now) (a .x .len) (a .p .u) e (e + 32 * a .p .u) refl refl) _ (p .2),
+      heaped-run (a .message .now) (a .header) (a .place) (p .0 .carried .power) _ _ _ (run-part (a .message .now) (a .header .len) e refl) refl
+          (uncles-part (a .message .now) (a .header .len) (a .place .u) e (e + 32 * a .place .u) refl refl) _ (p .2),
     )
 
 write-path-requires : tie.Need-write-path-requires
 write-path-requires c κs =
     let a = c .before .before .before .before .before .before .before .before .before .before .before .before .before .before .args in
     let r = c .before .before .before .before .before .before .before .before .before .before .before .before .before .before .pre .0 in
-    let e = headerSize + 32 * a .x .len in
-    ready-way (length (a .s .now)) (a .m .now) (a .n) (a .x) (a .p) r _ (c .before .before .before .before .before .before .write-looked .kept .0) _ (uncles-part (a .m .now) (a .x .len) (a .p .u) e (e + 32 * a .p .u) refl refl)
+    let e = headerSize + 32 * a .header .len in
+    ready-way (length (a .store .now)) (a .message .now) (a .header) (a .place) r _ (c .before .before .before .before .before .before .write-looked .kept .0) _ (uncles-part (a .message .now) (a .header .len) (a .place .u) e (e + 32 * a .place .u) refl refl)
 
 add-result : tie.Need-add-result
 add-result c =
     let a = c .before .before .before .before .before .before .before .before .before .before .before .before .before .before .before .before .before .before .args in
     let low = c .before .before .before .before .before .before .before .before .before .before .write-looked in
-    record { fits = ready-sum (length (a .s .now)) (a .m .now) (a .n) (a .x) (a .p) (c .before .before .before .before .before .before .before .before .before .before .before .before .before .before .before .before .before .before .pre .0) (a .s .now) _ _ _ _ _ (low .result .new) (c .before .before .before .write-path .result) (low .ensures .1 .0) (c .before .before .before .write-path .ensures .0) }
+    record { fits = ready-sum (length (a .store .now)) (a .message .now) (a .header) (a .place) (c .before .before .before .before .before .before .before .before .before .before .before .before .before .before .before .before .before .before .pre .0) (a .store .now) _ _ _ _ _ (low .result .new) (c .before .before .before .write-path .result) (low .ensures .1 .0) (c .before .before .before .write-path .ensures .0) }
 
 same-length : tie.Need-same-length
 same-length c = search needs
@@ -74,9 +74,9 @@ unfolding zeroHash
 returns c =
     let a = c .before .before .before .before .before .before .before .before .before .before .before .before .before .before .before .before .before .before .args in
     let r = c .before .before .before .before .before .before .before .before .before .before .before .before .before .before .before .before .before .before .pre .0 in
-    let e = headerSize + 32 * a .x .len in
+    let e = headerSize + 32 * a .header .len in
     let low = c .before .before .before .before .before .before .before .before .before .before .write-looked in
-    wrote-by (a .m .now) (a .x) (a .p) (r .carried .power) _ _ _ (run-part (a .m .now) (a .x .len) e refl) refl (uncles-part (a .m .now) (a .x .len) (a .p .u) e (e + 32 * a .p .u) refl refl) (a .s .now) (low .result .hash) (low .result .new) _ (c .before .before .before .write-path .result) _
+    wrote-by (a .message .now) (a .header) (a .place) (r .carried .power) _ _ _ (run-part (a .message .now) (a .header .len) e refl) refl (uncles-part (a .message .now) (a .header .len) (a .place .u) e (e + 32 * a .place .u) refl refl) (a .store .now) (low .result .hash) (low .result .new) _ (c .before .before .before .write-path .result) _
     (low .ensures .0) (low .ensures .1 .0) (low .ensures .1 .1) (c .before .before .before .write-path .ensures .0) (c .before .before .before .write-path .ensures .1)
 
 pub write-spec : {M : Type 1} → statement M

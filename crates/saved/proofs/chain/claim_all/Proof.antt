@@ -37,7 +37,7 @@ same-length : tie.Need-same-length Inv-loop μ-loop
 same-length c = c .before .loop .inv .3 .size ∙ sym (c .before .before .before .before .before .pre .4 .size)
 
 returns : tie.Need-returns Inv-loop μ-loop
-returns c = let e : c .before .loop .j ≡ c .before .before .before .before .before .args .p = omega (arith, c .loop-test .left, c .before .loop .inv .2) in (c .before .loop .inv .0 ∙ ap (claimed _ _ _) e, omega (arith, c .before .loop .inv .1, c .before .loop .inv .2))
+returns c = let e : c .before .loop .j ≡ c .before .before .before .before .before .args .places = omega (arith, c .loop-test .left, c .before .loop .inv .2) in (c .before .loop .inv .0 ∙ ap (claimed _ _ _) e, omega (arith, c .before .loop .inv .1, c .before .loop .inv .2))
 
 pub claim-all-spec : {M : Type 1} → statement M
 claim-all-spec =

@@ -44,7 +44,7 @@ loop-again c = let l = c .before .before .before .before .before .loop in
     (omega (arith, c .before .before .before .before .loop-test .taken), pad-next _ _ (l .l) (l .inv .1) (c .pair .ensures), filled-one padValue 672 (l .l) (l .pads) _ (l .v) (l .inv .2) (omega (arith, c .before .before .before .before .loop-test .taken, c .before .before .before .before .before .before .pre)) n (l .inv .1) (c .before .before .put-hash .ensures))
 
 returns : tie.Need-returns Inv-loop μ-loop
-returns c = let e : c .before .loop .l ≡ c .before .before .args .h + 1 = omega (arith, c .loop-test .left, c .before .loop .inv .0) in rw e at (c .before .loop .inv .2)
+returns c = let e : c .before .loop .l ≡ c .before .before .args .height + 1 = omega (arith, c .loop-test .left, c .before .loop .inv .0) in rw e at (c .before .loop .inv .2)
 
 pub pad-values-spec : {M : Type 1} → statement M
 pad-values-spec =

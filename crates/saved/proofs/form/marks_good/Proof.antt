@@ -51,7 +51,7 @@ loop-again : tie.Need-loop-again Inv-loop μ-loop
 loop-again c = let w = marks-next _ _ _ _ _ _ (c .before .before .before .before .before .before .loop .inv .1) (c .before .before .before .if1 .left) (c .before .before .block-in .ensures .0) (c .before .if2 .left) (c .before .before .before .before .before .before .loop .inv .2) (c .if3 .left) in (omega (arith, c .before .before .before .before .before .loop-test .taken), w .0, w .1)
 
 returns-4 : tie.Need-returns-4 Inv-loop μ-loop
-returns-4 c = let e : c .before .loop .k ≡ c .before .before .before .args .m = omega (arith, c .loop-test .left, c .before .loop .inv .0) in sym (ap (marksGood _ _ _) (sym e) ∙ c .before .loop .inv .1)
+returns-4 c = let e : c .before .loop .k ≡ c .before .before .before .args .marks = omega (arith, c .loop-test .left, c .before .loop .inv .0) in sym (ap (marksGood _ _ _) (sym e) ∙ c .before .loop .inv .1)
 
 pub marks-good-spec : {M : Type 1} → statement M
 marks-good-spec =

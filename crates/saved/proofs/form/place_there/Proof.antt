@@ -14,7 +14,7 @@ shared-slice-read-if1 : tie.Need-shared-slice-read-if1
 shared-slice-read-if1 c = search needs
 
 returns : tie.Need-returns
-returns c = there-kind (c .before .before .before .args .b .now) (c .before .before .before .args .h) (c .before .before .before .args .k) (c .if1 .taken)
+returns c = there-kind (c .before .before .before .args .bytes .now) (c .before .before .before .args .height) (c .before .before .before .args .place) (c .if1 .taken)
 
 layer-in-requires : tie.Need-layer-in-requires
 layer-in-requires c κs = search needs

@@ -43,7 +43,7 @@ loop-again : tie.Need-loop-again Inv-loop μ-loop
 loop-again c = let w = places-next _ _ _ _ _ _ (c .before .before .before .before .before .loop .inv .1) (c .before .before .before .place-there .ensures) (not-false _ (c .before .before .if1 .left)) (c .before .rank-in .ensures .0) (c .before .before .before .before .before .loop .inv .2) (c .if2 .left) in (omega (arith, c .before .before .before .before .loop-test .taken), w .0, w .1)
 
 returns-3 : tie.Need-returns-3 Inv-loop μ-loop
-returns-3 c = let e : c .before .loop .k ≡ c .before .before .before .args .p = omega (arith, c .loop-test .left, c .before .loop .inv .0) in sym (ap (placesGood _ _) (sym e) ∙ c .before .loop .inv .1)
+returns-3 c = let e : c .before .loop .k ≡ c .before .before .before .args .places = omega (arith, c .loop-test .left, c .before .loop .inv .0) in sym (ap (placesGood _ _) (sym e) ∙ c .before .loop .inv .1)
 
 pub places-good-spec : {M : Type 1} → statement M
 places-good-spec =

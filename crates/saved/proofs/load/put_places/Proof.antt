@@ -35,7 +35,7 @@ same-length : tie.Need-same-length Inv-loop μ-loop
 same-length c = c .before .loop .inv .2
 
 returns : tie.Need-returns Inv-loop μ-loop
-returns c = put-ends _ _ _ _ _ _ (c .before .loop .inv .1) (let e : c .before .loop .k ≡ c .before .before .before .before .args .p = omega (arith, c .loop-test .left, c .before .loop .inv .0) in e)
+returns c = put-ends _ _ _ _ _ _ (c .before .loop .inv .1) (let e : c .before .loop .k ≡ c .before .before .before .before .args .places = omega (arith, c .loop-test .left, c .before .loop .inv .0) in e)
 
 pub put-places-spec : {M : Type 1} → statement M
 put-places-spec =

@@ -4,11 +4,11 @@ use borrow.Author.Needs.{needs}
 use Rattle.saved.proofs.load.set_mark.Statement.{statement}
 use Rattle.saved.proofs.load.set_mark.Tie as tie
 
-add-s : tie.Need-add-s
-add-s c = search needs
+add-store : tie.Need-add-store
+add-store c = search needs
 
-slice-write-s : tie.Need-slice-write-s
-slice-write-s c = search needs
+slice-write-store : tie.Need-slice-write-store
+slice-write-store c = search needs
 
 same-length : tie.Need-same-length
 same-length c = search needs
@@ -20,7 +20,7 @@ pub set-mark-spec : {M : Type 1} → statement M
 set-mark-spec =
     tie.close
     (tie.spec
-    add-s
-    slice-write-s
+    add-store
+    slice-write-store
     same-length
     returns)

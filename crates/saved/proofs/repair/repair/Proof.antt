@@ -1,5 +1,6 @@
 use borrow.Author.Tests.{not-true, not-false}
-use Rattle.saved.proofs.Answers.{repair-refused, repair-unrooted, repair-done, sound-asks, rooted-formed, formed-sized}
+use Rattle.saved.specs.SoundLaws.{rooted-formed}
+use Rattle.saved.proofs.Answers.{repair-refused, repair-unrooted, repair-done, sound-asks, formed-sized}
 use native.Mathlib.Omega.{arith}
 use Prim.Native.Nat.{_-_}
 use mathlib.Core.Path.{refl, sym, _∙_}

@@ -33,7 +33,7 @@ loop-again : tie.Need-loop-again Inv-loop μ-loop
 loop-again c = let v = count-turn _ _ _ _ _ _ _ (c .before .before .before .loop .inv .1) (c .before .before .before .loop .inv .2) (c .before .held-in .ensures) (c .one-more .ensures) in (omega (arith, c .before .before .loop-test .taken), v .0, v .1)
 
 returns : tie.Need-returns Inv-loop μ-loop
-returns c = let e : c .before .loop .i ≡ c .before .before .before .args .w = omega (arith, c .loop-test .left, c .before .loop .inv .0) in (c .before .loop .inv .1 ∙ ap (λ (k : ℕ). length (layerHeld (c .before .before .before .args .s .now) (c .before .before .before .args .h) (c .before .before .before .args .l) k)) e, omega (arith, c .before .loop .inv .2, c .before .loop .inv .0))
+returns c = let e : c .before .loop .i ≡ c .before .before .before .args .w = omega (arith, c .loop-test .left, c .before .loop .inv .0) in (c .before .loop .inv .1 ∙ ap (λ (k : ℕ). length (layerHeld (c .before .before .before .args .store .now) (c .before .before .before .args .height) (c .before .before .before .args .layer) k)) e, omega (arith, c .before .loop .inv .2, c .before .loop .inv .0))
 
 pub count-layer-spec : {M : Type 1} → statement M
 count-layer-spec =

@@ -25,10 +25,10 @@ shl-w : tie.Need-shl-w Inv-loop μ-loop
 shl-w c = omega (arith, c .before .before .before .pre .0)
 
 count-layer-requires : tie.Need-count-layer-requires Inv-loop μ-loop
-count-layer-requires c κs = (c .before .before .before .pre .0, omega (arith, c .before .before .before .pre .1, c .loop-test .taken), omega (arith, width-is (c .before .before .before .args .h) (c .before .loop .l) (c .before .before .before .pre .0)), c .before .before .before .pre .2)
+count-layer-requires c κs = (c .before .before .before .pre .0, omega (arith, c .before .before .before .pre .1, c .loop-test .taken), omega (arith, width-is (c .before .before .before .args .height) (c .before .loop .l) (c .before .before .before .pre .0)), c .before .before .before .pre .2)
 
 add-n : tie.Need-add-n Inv-loop μ-loop
-add-n c = omega (arith, c .before .before .loop .inv .2, c .count-layer .ensures .1, width-is (c .before .before .before .before .args .h) (c .before .before .loop .l) (c .before .before .before .before .pre .0), c .before .before .before .before .pre .0, c .before .before .before .before .pre .1, c .before .loop-test .taken)
+add-n c = omega (arith, c .before .before .loop .inv .2, c .count-layer .ensures .1, width-is (c .before .before .before .before .args .height) (c .before .before .loop .l) (c .before .before .before .before .pre .0), c .before .before .before .before .pre .0, c .before .before .before .before .pre .1, c .before .loop-test .taken)
 
 add-l : tie.Need-add-l Inv-loop μ-loop
 add-l c = search needs
@@ -37,10 +37,10 @@ loop-less : tie.Need-loop-less Inv-loop μ-loop
 loop-less c = search needs
 
 loop-again : tie.Need-loop-again Inv-loop μ-loop
-loop-again c = let v = layers-turn (c .before .before .before .before .args .s .now) (c .before .before .before .before .args .h) (c .before .before .loop .l) _ _ _ (c .before .before .before .before .pre .0) (width-is (c .before .before .before .before .args .h) (c .before .before .loop .l) (c .before .before .before .before .pre .0) .0) (c .before .before .loop .inv .1) (c .before .before .loop .inv .2) (c .count-layer .ensures .0) (c .count-layer .ensures .1) in (omega (arith, c .before .loop-test .taken), v .0, v .1)
+loop-again c = let v = layers-turn (c .before .before .before .before .args .store .now) (c .before .before .before .before .args .height) (c .before .before .loop .l) _ _ _ (c .before .before .before .before .pre .0) (width-is (c .before .before .before .before .args .height) (c .before .before .loop .l) (c .before .before .before .before .pre .0) .0) (c .before .before .loop .inv .1) (c .before .before .loop .inv .2) (c .count-layer .ensures .0) (c .count-layer .ensures .1) in (omega (arith, c .before .loop-test .taken), v .0, v .1)
 
 returns : tie.Need-returns Inv-loop μ-loop
-returns c = let e : c .before .loop .l ≡ c .before .before .before .args .upto = omega (arith, c .loop-test .left, c .before .loop .inv .0) in (c .before .loop .inv .1 ∙ ap (λ (k : ℕ). length (heldBelow (c .before .before .before .args .s .now) (c .before .before .before .args .h) k)) e, omega (arith, c .before .loop .inv .2))
+returns c = let e : c .before .loop .l ≡ c .before .before .before .args .upto = omega (arith, c .loop-test .left, c .before .loop .inv .0) in (c .before .loop .inv .1 ∙ ap (λ (k : ℕ). length (heldBelow (c .before .before .before .args .store .now) (c .before .before .before .args .height) k)) e, omega (arith, c .before .loop .inv .2))
 
 pub count-layers-spec : {M : Type 1} → statement M
 count-layers-spec =

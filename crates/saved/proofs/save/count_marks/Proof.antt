@@ -36,7 +36,7 @@ loop-again : tie.Need-loop-again Inv-loop μ-loop
 loop-again c = let v = marks-turn _ _ _ _ _ (c .before .before .before .loop .inv .1) (c .before .before .before .loop .inv .2) (c .before .mark-at .ensures) (c .one-more .ensures) in (omega (arith, c .before .before .loop-test .taken), v .0, v .1)
 
 returns : tie.Need-returns Inv-loop μ-loop
-returns c = let e : c .before .loop .i ≡ c .before .before .before .before .args .n = omega (arith, c .loop-test .left, c .before .loop .inv .0) in (c .before .loop .inv .1 ∙ ap (λ (k : ℕ). length (markedBelow (c .before .before .before .before .args .s .now) k)) e, omega (arith, c .before .loop .inv .2, c .before .loop .inv .0))
+returns c = let e : c .before .loop .i ≡ c .before .before .before .before .args .n = omega (arith, c .loop-test .left, c .before .loop .inv .0) in (c .before .loop .inv .1 ∙ ap (λ (k : ℕ). length (markedBelow (c .before .before .before .before .args .store .now) k)) e, omega (arith, c .before .loop .inv .2, c .before .loop .inv .0))
 
 pub count-marks-spec : {M : Type 1} → statement M
 count-marks-spec =

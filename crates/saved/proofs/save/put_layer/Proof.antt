@@ -20,7 +20,7 @@ loop-holds : tie.Need-loop-holds Inv-loop μ-loop
 loop-holds c = let v = layer-begin _ _ _ _ _ in (omega arith, v .0, v .1, refl)
 
 put-held-requires : tie.Need-put-held-requires Inv-loop μ-loop
-put-held-requires c κs = (c .before .before .before .before .before .pre .0, c .before .before .before .before .before .pre .1, omega (arith, c .before .before .before .before .before .pre .2, c .before .loop-test .taken), c .before .before .before .before .before .pre .3, omega (arith, c .before .before .before .before .before .pre .4, c .before .before .loop .inv .1, c .before .before .loop .inv .3, layer-grows (c .before .before .before .before .before .args .s .now) (c .before .before .before .before .before .args .h) (c .before .before .before .before .before .args .l) (c .before .before .loop .i) (c .before .before .before .before .before .args .w) (c .before .loop-test .taken)))
+put-held-requires c κs = (c .before .before .before .before .before .pre .0, c .before .before .before .before .before .pre .1, omega (arith, c .before .before .before .before .before .pre .2, c .before .loop-test .taken), c .before .before .before .before .before .pre .3, omega (arith, c .before .before .before .before .before .pre .4, c .before .before .loop .inv .1, c .before .before .loop .inv .3, layer-grows (c .before .before .before .before .before .args .store .now) (c .before .before .before .before .before .args .height) (c .before .before .before .before .before .args .layer) (c .before .before .loop .i) (c .before .before .before .before .before .args .w) (c .before .loop-test .taken)))
 
 add-i : tie.Need-add-i Inv-loop μ-loop
 add-i c = search needs
@@ -35,7 +35,7 @@ same-length : tie.Need-same-length Inv-loop μ-loop
 same-length c = c .before .loop .inv .3
 
 returns : tie.Need-returns Inv-loop μ-loop
-returns c = let e : c .before .loop .i ≡ c .before .before .before .before .args .w = omega (arith, c .loop-test .left, c .before .loop .inv .0) in (c .before .loop .inv .1 ∙ ap (λ (k : ℕ). c .before .before .before .before .args .at + 41 * length (layerHeld (c .before .before .before .before .args .s .now) (c .before .before .before .before .args .h) (c .before .before .before .before .args .l) k)) e, c .before .loop .inv .2 ∙ ap (λ (k : ℕ). pasted (c .before .before .before .before .args .out .now) (c .before .before .before .before .args .at) (placesBytes (layerHeld (c .before .before .before .before .args .s .now) (c .before .before .before .before .args .h) (c .before .before .before .before .args .l) k))) e)
+returns c = let e : c .before .loop .i ≡ c .before .before .before .before .args .w = omega (arith, c .loop-test .left, c .before .loop .inv .0) in (c .before .loop .inv .1 ∙ ap (λ (k : ℕ). c .before .before .before .before .args .at + 41 * length (layerHeld (c .before .before .before .before .args .store .now) (c .before .before .before .before .args .height) (c .before .before .before .before .args .layer) k)) e, c .before .loop .inv .2 ∙ ap (λ (k : ℕ). pasted (c .before .before .before .before .args .out .now) (c .before .before .before .before .args .at) (placesBytes (layerHeld (c .before .before .before .before .args .store .now) (c .before .before .before .before .args .height) (c .before .before .before .before .args .layer) k))) e)
 
 pub put-layer-spec : {M : Type 1} → statement M
 put-layer-spec =

@@ -26,7 +26,7 @@ shl-w : tie.Need-shl-w Inv-loop μ-loop
 shl-w c = omega (arith, c .before .before .before .before .pre .0)
 
 put-layer-requires : tie.Need-put-layer-requires Inv-loop μ-loop
-put-layer-requires c κs = let w = width-is (c .before .before .before .before .before .args .h) (c .before .before .loop .l) (c .before .before .before .before .before .pre .0) in (c .before .before .before .before .before .pre .0, omega (arith, c .before .before .before .before .before .pre .1, c .before .loop-test .taken), omega (arith, w .0), c .before .before .before .before .before .pre .2, (let m : length (layerHeld (c .before .before .before .before .before .args .s .now) (c .before .before .before .before .before .args .h) (c .before .before .loop .l) ((1 * 2 ^ ((c .before .before .before .before .before .args .h) - c .before .before .loop .l)) % 18446744073709551616)) ≡ length (layerHeld (c .before .before .before .before .before .args .s .now) (c .before .before .before .before .before .args .h) (c .before .before .loop .l) (2 ^ ((c .before .before .before .before .before .args .h) - c .before .before .loop .l))) = ap (λ (k : ℕ). length (layerHeld (c .before .before .before .before .before .args .s .now) (c .before .before .before .before .before .args .h) (c .before .before .loop .l) k)) (w .0) in omega (arith, c .before .before .before .before .before .pre .3, c .before .before .loop .inv .1, c .before .before .loop .inv .3, below-grows (c .before .before .before .before .before .args .s .now) (c .before .before .before .before .before .args .h) (c .before .before .loop .l) (c .before .before .before .before .before .args .upto) (c .before .loop-test .taken))))
+put-layer-requires c κs = let w = width-is (c .before .before .before .before .before .args .height) (c .before .before .loop .l) (c .before .before .before .before .before .pre .0) in (c .before .before .before .before .before .pre .0, omega (arith, c .before .before .before .before .before .pre .1, c .before .loop-test .taken), omega (arith, w .0), c .before .before .before .before .before .pre .2, (let m : length (layerHeld (c .before .before .before .before .before .args .store .now) (c .before .before .before .before .before .args .height) (c .before .before .loop .l) ((1 * 2 ^ ((c .before .before .before .before .before .args .height) - c .before .before .loop .l)) % 18446744073709551616)) ≡ length (layerHeld (c .before .before .before .before .before .args .store .now) (c .before .before .before .before .before .args .height) (c .before .before .loop .l) (2 ^ ((c .before .before .before .before .before .args .height) - c .before .before .loop .l))) = ap (λ (k : ℕ). length (layerHeld (c .before .before .before .before .before .args .store .now) (c .before .before .before .before .before .args .height) (c .before .before .loop .l) k)) (w .0) in omega (arith, c .before .before .before .before .before .pre .3, c .before .before .loop .inv .1, c .before .before .loop .inv .3, below-grows (c .before .before .before .before .before .args .store .now) (c .before .before .before .before .before .args .height) (c .before .before .loop .l) (c .before .before .before .before .before .args .upto) (c .before .loop-test .taken))))
 
 add-l : tie.Need-add-l Inv-loop μ-loop
 add-l c = search needs
@@ -35,13 +35,13 @@ loop-less : tie.Need-loop-less Inv-loop μ-loop
 loop-less c = search needs
 
 loop-again : tie.Need-loop-again Inv-loop μ-loop
-loop-again c = let v = layers-put _ _ _ _ _ _ _ _ _ _ _ (c .before .before .before .before .before .before .before .before .pre .2) (c .before .before .before .before .loop-test .taken) (c .before .before .before .before .before .before .before .before .pre .3) (width-is (c .before .before .before .before .before .before .before .before .args .h) (c .before .before .before .before .before .loop .l) (c .before .before .before .before .before .before .before .before .pre .0) .0) (c .before .before .before .before .before .loop .inv .1) (c .before .before .before .before .before .loop .inv .2) (c .before .before .put-layer .ensures .0) (c .before .before .put-layer .ensures .1) in (omega (arith, c .before .before .before .before .loop-test .taken), v .0, v .1, c .before .before .put-layer .kept .1 .0 ∙ c .before .before .before .before .before .loop .inv .3)
+loop-again c = let v = layers-put _ _ _ _ _ _ _ _ _ _ _ (c .before .before .before .before .before .before .before .before .pre .2) (c .before .before .before .before .loop-test .taken) (c .before .before .before .before .before .before .before .before .pre .3) (width-is (c .before .before .before .before .before .before .before .before .args .height) (c .before .before .before .before .before .loop .l) (c .before .before .before .before .before .before .before .before .pre .0) .0) (c .before .before .before .before .before .loop .inv .1) (c .before .before .before .before .before .loop .inv .2) (c .before .before .put-layer .ensures .0) (c .before .before .put-layer .ensures .1) in (omega (arith, c .before .before .before .before .loop-test .taken), v .0, v .1, c .before .before .put-layer .kept .1 .0 ∙ c .before .before .before .before .before .loop .inv .3)
 
 same-length : tie.Need-same-length Inv-loop μ-loop
 same-length c = c .before .loop .inv .3
 
 returns : tie.Need-returns Inv-loop μ-loop
-returns c = let e : c .before .loop .l ≡ c .before .before .before .before .args .upto = omega (arith, c .loop-test .left, c .before .loop .inv .0) in (c .before .loop .inv .1 ∙ ap (λ (k : ℕ). c .before .before .before .before .args .at + 41 * length (heldBelow (c .before .before .before .before .args .s .now) (c .before .before .before .before .args .h) k)) e, c .before .loop .inv .2 ∙ ap (λ (k : ℕ). pasted (c .before .before .before .before .args .out .now) (c .before .before .before .before .args .at) (placesBytes (heldBelow (c .before .before .before .before .args .s .now) (c .before .before .before .before .args .h) k))) e)
+returns c = let e : c .before .loop .l ≡ c .before .before .before .before .args .upto = omega (arith, c .loop-test .left, c .before .loop .inv .0) in (c .before .loop .inv .1 ∙ ap (λ (k : ℕ). c .before .before .before .before .args .at + 41 * length (heldBelow (c .before .before .before .before .args .store .now) (c .before .before .before .before .args .height) k)) e, c .before .loop .inv .2 ∙ ap (λ (k : ℕ). pasted (c .before .before .before .before .args .out .now) (c .before .before .before .before .args .at) (placesBytes (heldBelow (c .before .before .before .before .args .store .now) (c .before .before .before .before .args .height) k))) e)
 
 pub put-layers-spec : {M : Type 1} → statement M
 put-layers-spec =

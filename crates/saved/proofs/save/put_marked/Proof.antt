@@ -23,7 +23,7 @@ loop-holds : tie.Need-loop-holds Inv-loop μ-loop
 loop-holds c = let v = marks-begin _ _ _ in (omega arith, v .0, v .1, refl)
 
 put-mark-requires : tie.Need-put-mark-requires Inv-loop μ-loop
-put-mark-requires c κs = (c .before .before .before .before .before .before .pre .0, c .before .before .before .marks-start .ensures, omega (arith, c .before .before .before .before .before .before .pre .1, c .before .loop-test .taken), omega (arith, c .before .before .before .before .before .before .pre .2, c .before .before .loop .inv .1, c .before .before .loop .inv .3, marks-grow (c .before .before .before .before .before .before .args .s .now) (c .before .before .loop .i) (c .before .before .before .before .before .before .args .n) (c .before .loop-test .taken)))
+put-mark-requires c κs = (c .before .before .before .before .before .before .pre .0, c .before .before .before .marks-start .ensures, omega (arith, c .before .before .before .before .before .before .pre .1, c .before .loop-test .taken), omega (arith, c .before .before .before .before .before .before .pre .2, c .before .before .loop .inv .1, c .before .before .loop .inv .3, marks-grow (c .before .before .before .before .before .before .args .store .now) (c .before .before .loop .i) (c .before .before .before .before .before .before .args .n) (c .before .loop-test .taken)))
 
 add-i : tie.Need-add-i Inv-loop μ-loop
 add-i c = search needs
@@ -38,7 +38,7 @@ same-length : tie.Need-same-length Inv-loop μ-loop
 same-length c = c .before .loop .inv .3
 
 returns : tie.Need-returns Inv-loop μ-loop
-returns c = let e : c .before .loop .i ≡ c .before .before .before .before .before .args .n = omega (arith, c .loop-test .left, c .before .loop .inv .0) in (c .before .loop .inv .1 ∙ ap (λ (k : ℕ). c .before .before .before .before .before .args .at + 5 * length (markedBelow (c .before .before .before .before .before .args .s .now) k)) e, c .before .loop .inv .2 ∙ ap (λ (k : ℕ). pasted (c .before .before .before .before .before .args .out .now) (c .before .before .before .before .before .args .at) (marksBytes (markedBelow (c .before .before .before .before .before .args .s .now) k))) e)
+returns c = let e : c .before .loop .i ≡ c .before .before .before .before .before .args .n = omega (arith, c .loop-test .left, c .before .loop .inv .0) in (c .before .loop .inv .1 ∙ ap (λ (k : ℕ). c .before .before .before .before .before .args .at + 5 * length (markedBelow (c .before .before .before .before .before .args .store .now) k)) e, c .before .loop .inv .2 ∙ ap (λ (k : ℕ). pasted (c .before .before .before .before .before .args .out .now) (c .before .before .before .before .before .args .at) (marksBytes (markedBelow (c .before .before .before .before .before .args .store .now) k))) e)
 
 pub put-marked-spec : {M : Type 1} → statement M
 put-marked-spec =

@@ -33,7 +33,7 @@ enum-known-start : tie.Need-enum-known-start
 enum-known-start c = search needs
 
 returns : tie.Need-returns
-returns c = let t = c .before .before .before .before .before .before .before .before .before .before .before .args .t .now in λ info s q plen h. single-count info _ q (λ z. c .if1 .taken (c .before .before .before .before .before .before .before .before .before .before .before .pre .1 ∙ sym (read-count t (listed (filesIn t))) ∙ z)) plen
+returns c = let t = c .before .before .before .before .before .before .before .before .before .before .before .args .tree .now in λ info s q plen h. single-count info _ q (λ z. c .if1 .taken (c .before .before .before .before .before .before .before .before .before .before .before .pre .1 ∙ sym (read-count t (listed (filesIn t))) ∙ z)) plen
 
 sub-alone : tie.Need-sub-alone
 sub-alone c = let w = rw (c .before .before .start .given .1) at (c .before .before .before .before .string-of .ensures keyName (c .before .before .before .before .before .before .before .before .before .before .before .pre .2)) in w .ends .0

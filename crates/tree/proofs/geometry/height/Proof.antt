@@ -22,7 +22,7 @@ add-rest : tie.Need-add-rest Inv-loop μ-loop
 add-rest c = search needs
 
 add-h : tie.Need-add-h Inv-loop μ-loop
-add-h c = omega (arith, height-fits (c .before .before .args .b) (omega arith), height-turn (c .before .before .args .b) (c .before .loop .rest) (c .before .loop .h) (c .before .loop .inv .1) (omega arith))
+add-h c = omega (arith, height-fits (c .before .before .args .blocks) (omega arith), height-turn (c .before .before .args .blocks) (c .before .loop .rest) (c .before .loop .h) (c .before .loop .inv .1) (omega arith))
 
 loop-less : tie.Need-loop-less Inv-loop μ-loop
 loop-less c = search needs

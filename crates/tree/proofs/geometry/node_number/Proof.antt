@@ -16,12 +16,12 @@ shl-result : tie.Need-shl-result
 shl-result c = search needs
 
 add-result : tie.Need-add-result
-add-result c = let small : 2 ^ (c .args .h - c .args .l) ≤ 2 ^ 63 = pow-mono {i = c .args .h - c .args .l} {j = 63} (omega arith) in
-    omega (arith, shifted-one (c .args .h - c .args .l) (omega arith))
+add-result c = let small : 2 ^ (c .args .height - c .args .layer) ≤ 2 ^ 63 = pow-mono {i = c .args .height - c .args .layer} {j = 63} (omega arith) in
+    omega (arith, shifted-one (c .args .height - c .args .layer) (omega arith))
 
 returns : tie.Need-returns
 unfolding nodeNumber
-returns c = ap (λ (x : ℕ). x + c .args .i) (shifted-one (c .args .h - c .args .l) (omega arith))
+returns c = ap (λ (x : ℕ). x + c .args .index) (shifted-one (c .args .height - c .args .layer) (omega arith))
 
 pub node-number-spec : {M : Type 1} → statement M
 node-number-spec = tie.close (tie.spec sub-d shl-result add-result returns)

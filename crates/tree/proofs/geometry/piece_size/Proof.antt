@@ -12,13 +12,13 @@ piece-count-requires : tie.Need-piece-count-requires
 piece-count-requires c κs = search needs
 
 returns : tie.Need-returns
-returns c = sym (piece-size-past (c .before .before .args .n) (c .before .before .args .plen) (c .before .before .args .i) (omega arith))
+returns c = sym (piece-size-past (c .before .before .args .length) (c .before .before .args .plen) (c .before .before .args .piece) (omega arith))
 
 mul-left : tie.Need-mul-left
-mul-left c = omega (arith, piece-starts (c .before .before .args .n) (c .before .before .args .plen) (c .before .before .args .i) (omega arith))
+mul-left c = omega (arith, piece-starts (c .before .before .args .length) (c .before .before .args .plen) (c .before .before .args .piece) (omega arith))
 
 sub-left : tie.Need-sub-left
-sub-left c = omega (arith, piece-starts (c .before .before .args .n) (c .before .before .args .plen) (c .before .before .args .i) (omega arith))
+sub-left c = omega (arith, piece-starts (c .before .before .args .length) (c .before .before .args .plen) (c .before .before .args .piece) (omega arith))
 
 returns-2 : tie.Need-returns-2
 unfolding pieceSize

@@ -16,16 +16,16 @@ pad-value-requires : tie.Need-pad-value-requires
 pad-value-requires c κs = search needs
 
 returns : tie.Need-returns
-returns c = leaf-past (c .before .before .before .before .args .bytes .now) _ (c .before .before .before .before .args .i) (omega arith) (c .pad-value .ensures)
+returns c = leaf-past (c .before .before .before .before .args .bytes .now) _ (c .before .before .before .before .args .block) (omega arith) (c .pad-value .ensures)
 
 block-size-requires : tie.Need-block-size-requires
 block-size-requires c κs = search needs
 
 mul-a : tie.Need-mul-a
-mul-a c = omega (arith, block-starts (length (c .before .before .before .before .args .bytes .now)) (c .before .before .before .before .args .i) (omega arith))
+mul-a c = omega (arith, block-starts (length (c .before .before .before .before .args .bytes .now)) (c .before .before .before .before .args .block) (omega arith))
 
 add-e : tie.Need-add-e
-add-e c = omega (arith, block-starts (length (c .before .before .before .before .args .bytes .now)) (c .before .before .before .before .args .i) (omega arith), block-size-most (length (c .before .before .before .before .args .bytes .now)) (c .before .before .before .before .args .i))
+add-e c = omega (arith, block-starts (length (c .before .before .before .before .args .bytes .now)) (c .before .before .before .before .args .block) (omega arith), block-size-most (length (c .before .before .before .before .args .bytes .now)) (c .before .before .before .before .args .block))
 
 sub-hash : tie.Need-sub-hash
 sub-hash c = search needs
@@ -35,13 +35,13 @@ part-hash-start c = search needs
 
 part-hash-end : tie.Need-part-hash-end
 unfolding blockSize
-part-hash-end c = omega (arith, block-starts (length (c .before .before .before .before .args .bytes .now)) (c .before .before .before .before .args .i) (omega arith))
+part-hash-end c = omega (arith, block-starts (length (c .before .before .before .before .args .bytes .now)) (c .before .before .before .before .args .block) (omega arith))
 
 hash-requires : tie.Need-hash-requires
 hash-requires c κs = search needs
 
 returns-2 : tie.Need-returns-2
-returns-2 c = leaf-hashed (c .before .before .before .before .before .before .args .bytes .now) _ (c .before .before .before .before .before .before .args .i) (c .before .before .block-size .result) (omega arith) (c .before .before .block-size .ensures) (c .hash .ensures)
+returns-2 c = leaf-hashed (c .before .before .before .before .before .before .args .bytes .now) _ (c .before .before .before .before .before .before .args .block) (c .before .before .block-size .result) (omega arith) (c .before .before .block-size .ensures) (c .hash .ensures)
 
 pub leaf-of-spec : {M : Type 1} → statement M
 leaf-of-spec =

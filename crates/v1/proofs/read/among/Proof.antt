@@ -21,7 +21,7 @@ file-at-requires : tie.Need-file-at-requires
 file-at-requires c κs = search needs
 
 returns : tie.Need-returns
-returns c = λ vs f b. absurd (among-never _ _ (c .before .before .before .before .before .args .n) vs f b (sym (c .before .enum-told .given .1) ∙ c .before .before .before .tally .ensures vs (f .encoded)))
+returns c = λ vs f b. absurd (among-never _ _ (c .before .before .before .before .before .args .file) vs f b (sym (c .before .enum-told .given .1) ∙ c .before .before .before .tally .ensures vs (f .encoded)))
 
 returns-2 : tie.Need-returns-2
 returns-2 c = λ vs f b. among-is _ _ _ vs f b _ _ (sym (c .before .before .total .given .1) ∙ c .before .before .before .before .tally .ensures vs (f .encoded)) _ (c .file-at .ensures vs f)

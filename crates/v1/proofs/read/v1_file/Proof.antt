@@ -39,7 +39,7 @@ part-among-end : tie.Need-part-among-end
 part-among-end c = files-part _ _ _ (c .before .before .before .find .ensures) _ _ (c .before .start .given .1) .1
 
 among-requires : tie.Need-among-requires
-among-requires c κs = (c .before .before .before .before .before .before .before .pre .0, part-small (c .before .before .before .before .before .before .before .args .s .now) (c .before .before .start .given .0 .0) (c .before .before .start .given .0 .1 .0) _ (c .before .before .before .before .before .before .before .pre .1))
+among-requires c κs = (c .before .before .before .before .before .before .before .pre .0, part-small (c .before .before .before .before .before .before .before .args .torrent .now) (c .before .before .start .given .0 .0) (c .before .before .start .given .0 .1 .0) _ (c .before .before .before .before .before .before .before .pre .1))
 
 returns : tie.Need-returns
 returns c = λ info st f. absurd (single-never _ _ _ (c .before .before .before .before .before .before .find .ensures) _ _ info st f (c .before .before .before .before .enum-told .given .1) _ (c .before .before .before .length-of .ensures info st) (c .before .enum-told2 .given .1))

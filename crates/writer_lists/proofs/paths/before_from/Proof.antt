@@ -21,18 +21,18 @@ loop-holds c = c .before .before .pre
 
 returns : tie.Need-returns Inv-loop μ-loop
 returns c =
-    sym (walk-second-end pathBefore before-none (c .before .before .before .before .before .args .p .now)
-    (c .before .before .before .before .before .args .q .now) (c .before .before .loop .at) (c .before .before .loop .inv)
+    sym (walk-second-end pathBefore before-none (c .before .before .before .before .before .args .one .now)
+    (c .before .before .before .before .before .args .other .now) (c .before .before .loop .at) (c .before .before .loop .inv)
     (c .before .loop-test .taken) (c .if1 .taken))
 
 word-at-requires : tie.Need-word-at-requires Inv-loop μ-loop
 word-at-requires c κs =
-    element-size (c .before .before .before .before .before .args .p .now) (c .before .before .loop .at)
+    element-size (c .before .before .before .before .before .args .one .now) (c .before .before .loop .at)
     (c .before .before .loop .inv .left) (c .before .loop-test .taken)
 
 word-at-requires-2 : tie.Need-word-at-requires-2 Inv-loop μ-loop
 word-at-requires-2 c κs =
-    element-size (c .before .before .before .before .before .before .args .q .now) (c .before .before .before .loop .at)
+    element-size (c .before .before .before .before .before .before .args .other .now) (c .before .before .before .loop .at)
     (c .before .before .before .loop .inv .right) (c .before .if1 .left)
 
 add-start : tie.Need-add-start Inv-loop μ-loop
@@ -49,7 +49,7 @@ part-x-start c = search needs
 
 part-x-end : tie.Need-part-x-end Inv-loop μ-loop
 part-x-end c =
-    element-end (c .before .before .before .before .before .before .before .args .p .now) (c .before .before .before .before .loop .at) _
+    element-end (c .before .before .before .before .before .before .before .args .one .now) (c .before .before .before .before .loop .at) _
     (c .before .before .before .before .loop .inv .left) (c .before .before .before .loop-test .taken) (c .before .word-at .ensures .0)
 
 add-y : tie.Need-add-y Inv-loop μ-loop
@@ -63,7 +63,7 @@ part-y-start c = search needs
 
 part-y-end : tie.Need-part-y-end Inv-loop μ-loop
 part-y-end c =
-    element-end (c .before .before .before .before .before .before .before .before .args .q .now)
+    element-end (c .before .before .before .before .before .before .before .before .args .other .now)
     (c .before .before .before .before .before .loop .at) _ (c .before .before .before .before .before .loop .inv .right)
     (c .before .before .before .if1 .left) (c .before .word-at2 .ensures .0)
 
@@ -76,8 +76,8 @@ comes-before-requires c κs = search needs
 returns-2 : tie.Need-returns-2 Inv-loop μ-loop
 returns-2 c =
     slices-differ pathBefore precedes before-step
-    (c .before .before .before .before .before .before .before .before .before .before .before .before .args .p .now)
-    (c .before .before .before .before .before .before .before .before .before .before .before .before .args .q .now)
+    (c .before .before .before .before .before .before .before .before .before .before .before .before .args .one .now)
+    (c .before .before .before .before .before .before .before .before .before .before .before .before .args .other .now)
     (c .before .before .before .before .before .before .before .before .before .loop .at)
     (c .before .before .before .before .before .before .before .before .before .loop .inv)
     (c .before .before .before .before .before .before .before .before .loop-test .taken)
@@ -95,8 +95,8 @@ loop-less c = search needs
 loop-again : tie.Need-loop-again Inv-loop μ-loop
 loop-again c =
     slices-same pathBefore precedes before-step
-    (c .before .before .before .before .before .before .before .before .before .before .before .args .p .now)
-    (c .before .before .before .before .before .before .before .before .before .before .before .args .q .now)
+    (c .before .before .before .before .before .before .before .before .before .before .before .args .one .now)
+    (c .before .before .before .before .before .before .before .before .before .before .before .args .other .now)
     (c .before .before .before .before .before .before .before .before .loop .at)
     (c .before .before .before .before .before .before .before .before .loop .inv)
     (c .before .before .before .before .before .before .before .loop-test .taken)
@@ -105,7 +105,7 @@ loop-again c =
 
 returns-3 : tie.Need-returns-3 Inv-loop μ-loop
 returns-3 c =
-    before-first-end (c .before .before .before .before .args .p .now) (c .before .before .before .before .args .q .now)
+    before-first-end (c .before .before .before .before .args .one .now) (c .before .before .before .before .args .other .now)
     (c .before .loop .at) (c .before .loop .inv) (c .loop-test .left)
 
 pub before-from-spec : {M : Type 1} → statement M

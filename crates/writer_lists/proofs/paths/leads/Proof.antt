@@ -49,9 +49,9 @@ part-path-begins-end : tie.Need-part-path-begins-end
 part-path-begins-end c =
     slice-end (c .before .before .before .before .before .before .args .list .now)
     (c .before .before .before .before .before .before .args .text .now)
-    (c .before .before .before .before .before .before .args .a + 48) _ _
+    (c .before .before .before .before .before .before .args .one + 48) _ _
     (path-right (c .before .before .before .before .before .before .args .list .now)
-    (c .before .before .before .before .before .before .args .text .now) (c .before .before .before .before .before .before .args .a)
+    (c .before .before .before .before .before .before .args .text .now) (c .before .before .before .before .before .before .args .one)
     (c .before .before .before .before .before .before .pre .2) .0) (c .before .before .before .word-at .ensures .0)
     (c .before .before .word-at2 .ensures .0)
 
@@ -68,10 +68,10 @@ part-path-begins-end-2 : tie.Need-part-path-begins-end-2
 part-path-begins-end-2 c =
     slice-end (c .before .before .before .before .before .before .before .args .list .now)
     (c .before .before .before .before .before .before .before .args .text .now)
-    (c .before .before .before .before .before .before .before .args .b + 48) _ _
+    (c .before .before .before .before .before .before .before .args .other + 48) _ _
     (path-right (c .before .before .before .before .before .before .before .args .list .now)
     (c .before .before .before .before .before .before .before .args .text .now)
-    (c .before .before .before .before .before .before .before .args .b)
+    (c .before .before .before .before .before .before .before .args .other)
     (c .before .before .before .before .before .before .before .pre .3) .0) (c .before .before .word-at3 .ensures .0)
     (c .before .word-at4 .ensures .0)
 
@@ -79,12 +79,12 @@ path-begins-requires : tie.Need-path-begins-requires
 path-begins-requires c κs = (
   slice-fits (c .before .before .before .before .before .before .before .before .args .list .now)
       (c .before .before .before .before .before .before .before .before .args .text .now)
-      (c .before .before .before .before .before .before .before .before .args .a) _ _
+      (c .before .before .before .before .before .before .before .before .args .one) _ _
       (c .before .before .before .before .before .before .before .before .pre .2)
       (c .before .before .before .before .before .word-at .ensures .0) (c .before .before .before .before .word-at2 .ensures .0),
   slice-fits (c .before .before .before .before .before .before .before .before .args .list .now)
       (c .before .before .before .before .before .before .before .before .args .text .now)
-      (c .before .before .before .before .before .before .before .before .args .b) _ _
+      (c .before .before .before .before .before .before .before .before .args .other) _ _
       (c .before .before .before .before .before .before .before .before .pre .3) (c .before .before .before .word-at3 .ensures .0)
       (c .before .before .word-at4 .ensures .0),
 )
@@ -94,12 +94,12 @@ returns c =
     c .path-begins .ensures ∙ ap₂ begins (slice-path
     (c .before .before .before .before .before .before .before .before .before .args .list .now)
     (c .before .before .before .before .before .before .before .before .before .args .text .now)
-    (c .before .before .before .before .before .before .before .before .before .args .a) _ _
+    (c .before .before .before .before .before .before .before .before .before .args .one) _ _
     (c .before .before .before .before .before .before .word-at .ensures .0)
     (c .before .before .before .before .before .word-at2 .ensures .0))
     (slice-path (c .before .before .before .before .before .before .before .before .before .args .list .now)
     (c .before .before .before .before .before .before .before .before .before .args .text .now)
-    (c .before .before .before .before .before .before .before .before .before .args .b) _ _
+    (c .before .before .before .before .before .before .before .before .before .args .other) _ _
     (c .before .before .before .before .word-at3 .ensures .0) (c .before .before .before .word-at4 .ensures .0))
 
 pub leads-spec : {M : Type 1} → statement M

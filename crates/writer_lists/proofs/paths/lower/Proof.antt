@@ -42,11 +42,11 @@ word-at-requires-4 c κs = search needs
 returns : tie.Need-returns
 returns c =
     let k = c .before .before .before .before .before .before .before .before .args in sym
-    (ap (λ (l : List (List ℕ)). pathBefore (itemAt (k .list .now) (k .text .now) (k .a) .path) l)
-    (sym (one-path (k .list .now) (k .text .now) (k .a) (k .b) _ _ _ _ (c .before .before .before .before .before .word-at .ensures .0)
+    (ap (λ (l : List (List ℕ)). pathBefore (itemAt (k .list .now) (k .text .now) (k .one) .path) l)
+    (sym (one-path (k .list .now) (k .text .now) (k .one) (k .other) _ _ _ _ (c .before .before .before .before .before .word-at .ensures .0)
     (c .before .before .before .before .word-at2 .ensures .0) (c .before .before .before .word-at3 .ensures .0)
     (c .before .before .word-at4 .ensures .0) (c .before .if1 .taken) (c .if2 .taken))) ∙ before-self
-    (itemAt (k .list .now) (k .text .now) (k .a) .path))
+    (itemAt (k .list .now) (k .text .now) (k .one) .path))
 
 add-path-before : tie.Need-add-path-before
 add-path-before c = search needs
@@ -60,7 +60,7 @@ part-path-before-start c = search needs
 part-path-before-end : tie.Need-part-path-before-end
 part-path-before-end c =
     let k = c .before .before .before .before .before .before .before in slice-end (k .args .list .now) (k .args .text .now)
-    (k .args .a + 48) _ _ (path-right (k .args .list .now) (k .args .text .now) (k .args .a) (k .pre .2) .0)
+    (k .args .one + 48) _ _ (path-right (k .args .list .now) (k .args .text .now) (k .args .one) (k .pre .2) .0)
     (c .before .before .before .before .word-at .ensures .0) (c .before .before .before .word-at2 .ensures .0)
 
 add-path-before-2 : tie.Need-add-path-before-2
@@ -75,27 +75,27 @@ part-path-before-start-2 c = search needs
 part-path-before-end-2 : tie.Need-part-path-before-end-2
 part-path-before-end-2 c =
     let k = c .before .before .before .before .before .before .before .before in slice-end (k .args .list .now) (k .args .text .now)
-    (k .args .b + 48) _ _ (path-right (k .args .list .now) (k .args .text .now) (k .args .b) (k .pre .3) .0)
+    (k .args .other + 48) _ _ (path-right (k .args .list .now) (k .args .text .now) (k .args .other) (k .pre .3) .0)
     (c .before .before .before .word-at3 .ensures .0) (c .before .before .word-at4 .ensures .0)
 
 path-before-requires : tie.Need-path-before-requires
 path-before-requires c κs =
     let k = c .before .before .before .before .before .before .before .before .before in let l = k .args .list .now in let t =
     k .args .text .now in (
-      slice-fits l t (k .args .a) _ _ (k .pre .2)
+      slice-fits l t (k .args .one) _ _ (k .pre .2)
           (c .before .before .before .before .before .before .word-at .ensures .0)
           (c .before .before .before .before .before .word-at2 .ensures .0),
-      slice-fits l t (k .args .b) _ _ (k .pre .3)
+      slice-fits l t (k .args .other) _ _ (k .pre .3)
           (c .before .before .before .before .word-at3 .ensures .0) (c .before .before .before .word-at4 .ensures .0),
     )
 
 returns-2 : tie.Need-returns-2
 returns-2 c =
     let k = c .before .before .before .before .before .before .before .before .before .before .args in c .path-before .ensures ∙ ap₂
-    pathBefore (slice-path (k .list .now) (k .text .now) (k .a) _ _
+    pathBefore (slice-path (k .list .now) (k .text .now) (k .one) _ _
     (c .before .before .before .before .before .before .before .word-at .ensures .0)
     (c .before .before .before .before .before .before .word-at2 .ensures .0))
-    (slice-path (k .list .now) (k .text .now) (k .b) _ _ (c .before .before .before .before .before .word-at3 .ensures .0)
+    (slice-path (k .list .now) (k .text .now) (k .other) _ _ (c .before .before .before .before .before .word-at3 .ensures .0)
     (c .before .before .before .before .word-at4 .ensures .0))
 
 pub lower-spec : {M : Type 1} → statement M

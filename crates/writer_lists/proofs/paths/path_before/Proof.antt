@@ -21,14 +21,14 @@ front-requires c κs = search needs
 loop-holds : tie.Need-loop-holds Inv-loop μ-loop
 loop-holds c = (
   search needs,
-  walk-start pathBefore (c .before .before .before .args .p .now) (c .before .before .before .args .q .now)
+  walk-start pathBefore (c .before .before .before .args .one .now) (c .before .before .before .args .other .now)
       (c .before .before .before .pre .0) (c .before .before .before .pre .1),
   c .front .ensures,
 )
 
 word-at-requires : tie.Need-word-at-requires Inv-loop μ-loop
 word-at-requires c κs =
-    element-size (c .before .before .before .before .before .args .p .now) (c .before .loop .at) (c .before .loop .inv .1 .left)
+    element-size (c .before .before .before .before .before .args .one .now) (c .before .loop .at) (c .before .loop .inv .1 .left)
     (c .loop-test .taken)
 
 add-start : tie.Need-add-start Inv-loop μ-loop
@@ -45,14 +45,14 @@ returns c = c .before-from .ensures
 
 shared-slice-read-result : tie.Need-shared-slice-read-result Inv-loop μ-loop
 shared-slice-read-result c =
-    let e = element-end (c .before .before .before .before .before .before .before .before .before .args .p .now)
+    let e = element-end (c .before .before .before .before .before .before .before .before .before .args .one .now)
     (c .before .before .before .before .before .loop .at) _ (c .before .before .before .before .before .loop .inv .1 .left)
     (c .before .before .before .before .loop-test .taken) (c .before .before .before .word-at .ensures .0) in search needs
 
 shared-slice-read-result-2 : tie.Need-shared-slice-read-result-2 Inv-loop μ-loop
 shared-slice-read-result-2 c =
-    let e = front-inside (c .before .before .before .before .before .before .before .before .before .before .args .p .now)
-    (c .before .before .before .before .before .before .before .before .before .before .args .q .now)
+    let e = front-inside (c .before .before .before .before .before .before .before .before .before .before .args .one .now)
+    (c .before .before .before .before .before .before .before .before .before .before .args .other .now)
     (c .before .before .before .before .before .before .loop .at) _ (c .before .before .before .before .before .before .loop .inv .2)
     pathBefore precedes before-step (c .before .before .before .before .before .before .loop .inv .1)
     (c .before .before .before .before .before .loop-test .taken) _ (c .before .before .before .before .word-at .ensures .0)
@@ -60,8 +60,8 @@ shared-slice-read-result-2 c =
 
 returns-2 : tie.Need-returns-2 Inv-loop μ-loop
 returns-2 c =
-    before-inside (c .before .before .before .before .before .before .before .before .before .before .args .p .now)
-    (c .before .before .before .before .before .before .before .before .before .before .args .q .now)
+    before-inside (c .before .before .before .before .before .before .before .before .before .before .args .one .now)
+    (c .before .before .before .before .before .before .before .before .before .before .args .other .now)
     (c .before .before .before .before .before .before .loop .at) _ _ (c .before .before .before .before .before .before .loop .inv .2)
     (c .before .before .before .before .before .before .loop .inv .1) (c .before .before .before .before .before .loop-test .taken)
     (c .before .before .before .before .word-at .ensures .0) (c .before .before .if2 .left) (c .before .before .before .if1 .taken)
@@ -72,8 +72,8 @@ loop-less c = search needs
 loop-again : tie.Need-loop-again Inv-loop μ-loop
 loop-again c = (
   c .if1 .left,
-  front-more (c .before .before .before .before .before .before .before .args .p .now)
-      (c .before .before .before .before .before .before .before .args .q .now) (c .before .before .before .loop .at) _
+  front-more (c .before .before .before .before .before .before .before .args .one .now)
+      (c .before .before .before .before .before .before .before .args .other .now) (c .before .before .before .loop .at) _
       (c .before .before .before .loop .inv .2) pathBefore precedes before-step (c .before .before .before .loop .inv .1)
       (c .before .before .loop-test .taken) _ (c .before .word-at .ensures .0) (c .if1 .left),
   c .before .before .before .loop .inv .2,
@@ -81,7 +81,7 @@ loop-again c = (
 
 returns-3 : tie.Need-returns-3 Inv-loop μ-loop
 returns-3 c =
-    before-first-end (c .before .before .before .before .before .args .p .now) (c .before .before .before .before .before .args .q .now)
+    before-first-end (c .before .before .before .before .before .args .one .now) (c .before .before .before .before .before .args .other .now)
     (c .before .loop .at) (c .before .loop .inv .1) (c .loop-test .left)
 
 pub path-before-spec : {M : Type 1} → statement M

@@ -22,22 +22,22 @@ abbrev no : List ℕ → List ℕ → Bool
 no e f = false
 
 loop-holds : tie.Need-loop-holds Inv-loop μ-loop
-loop-holds c = let k = c .before .before in walk-start begins (k .args .p .now) (k .args .q .now) (k .pre .0) (k .pre .1)
+loop-holds c = let k = c .before .before in walk-start begins (k .args .one .now) (k .args .other .now) (k .pre .0) (k .pre .1)
 
 returns : tie.Need-returns Inv-loop μ-loop
 returns c =
     let k = c .before .before .before .before .before .args in sym
-    (walk-second-end begins begins-none (k .p .now) (k .q .now) (c .before .before .loop .at) (c .before .before .loop .inv)
+    (walk-second-end begins begins-none (k .one .now) (k .other .now) (c .before .before .loop .at) (c .before .before .loop .inv)
     (c .before .loop-test .taken) (c .if1 .taken))
 
 word-at-requires : tie.Need-word-at-requires Inv-loop μ-loop
 word-at-requires c κs =
-    element-size (c .before .before .before .before .before .args .p .now) (c .before .before .loop .at)
+    element-size (c .before .before .before .before .before .args .one .now) (c .before .before .loop .at)
     (c .before .before .loop .inv .left) (c .before .loop-test .taken)
 
 word-at-requires-2 : tie.Need-word-at-requires-2 Inv-loop μ-loop
 word-at-requires-2 c κs =
-    element-size (c .before .before .before .before .before .before .args .q .now) (c .before .before .before .loop .at)
+    element-size (c .before .before .before .before .before .before .args .other .now) (c .before .before .before .loop .at)
     (c .before .before .before .loop .inv .right) (c .before .if1 .left)
 
 add-start : tie.Need-add-start Inv-loop μ-loop
@@ -54,7 +54,7 @@ part-same-start c = search needs
 
 part-same-end : tie.Need-part-same-end Inv-loop μ-loop
 part-same-end c =
-    element-end (c .before .before .before .before .before .before .before .args .p .now) (c .before .before .before .before .loop .at) _
+    element-end (c .before .before .before .before .before .before .before .args .one .now) (c .before .before .before .before .loop .at) _
     (c .before .before .before .before .loop .inv .left) (c .before .before .before .loop-test .taken) (c .before .word-at .ensures .0)
 
 add-same-2 : tie.Need-add-same-2 Inv-loop μ-loop
@@ -68,7 +68,7 @@ part-same-start-2 c = search needs
 
 part-same-end-2 : tie.Need-part-same-end-2 Inv-loop μ-loop
 part-same-end-2 c =
-    element-end (c .before .before .before .before .before .before .before .before .args .q .now)
+    element-end (c .before .before .before .before .before .before .before .before .args .other .now)
     (c .before .before .before .before .before .loop .at) _ (c .before .before .before .before .before .loop .inv .right)
     (c .before .before .before .if1 .left) (c .before .word-at2 .ensures .0)
 
@@ -78,7 +78,7 @@ same-requires c κs = search needs
 returns-2 : tie.Need-returns-2 Inv-loop μ-loop
 returns-2 c =
     let k = c .before .before .before .before .before .before .before .before .before .before .before .args in slices-differ begins no
-    begins-step (k .p .now) (k .q .now) (c .before .before .before .before .before .before .before .before .loop .at)
+    begins-step (k .one .now) (k .other .now) (c .before .before .before .before .before .before .before .before .loop .at)
     (c .before .before .before .before .before .before .before .before .loop .inv)
     (c .before .before .before .before .before .before .before .loop-test .taken)
     (c .before .before .before .before .before .before .if1 .left) _ _ (c .before .before .before .before .before .word-at .ensures .0)
@@ -93,7 +93,7 @@ loop-less c = search needs
 loop-again : tie.Need-loop-again Inv-loop μ-loop
 loop-again c =
     let k = c .before .before .before .before .before .before .before .before .before .before .before .args in slices-same begins no
-    begins-step (k .p .now) (k .q .now) (c .before .before .before .before .before .before .before .before .loop .at)
+    begins-step (k .one .now) (k .other .now) (c .before .before .before .before .before .before .before .before .loop .at)
     (c .before .before .before .before .before .before .before .before .loop .inv)
     (c .before .before .before .before .before .before .before .loop-test .taken)
     (c .before .before .before .before .before .before .if1 .left) _ _ (c .before .before .before .before .before .word-at .ensures .0)
@@ -102,7 +102,7 @@ loop-again c =
 returns-3 : tie.Need-returns-3 Inv-loop μ-loop
 returns-3 c =
     let k = c .before .before .before .before .args in sym
-    (begins-first-end (k .p .now) (k .q .now) (c .before .loop .at) (c .before .loop .inv) (c .loop-test .left))
+    (begins-first-end (k .one .now) (k .other .now) (c .before .loop .at) (c .before .loop .inv) (c .loop-test .left))
 
 pub path-begins-spec : {M : Type 1} → statement M
 path-begins-spec =

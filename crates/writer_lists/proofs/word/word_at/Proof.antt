@@ -58,7 +58,7 @@ add-result-3 c = search needs
 
 returns : tie.Need-returns
 returns c =
-    let s = c .before .before .before .before .before .before .before .before .before .args .s .now in let e = four-bytes s
+    let s = c .before .before .before .before .before .before .before .before .before .args .bytes .now in let e = four-bytes s
     (c .before .before .before .before .before .before .before .before .before .args .at) in (
       omega (
         arith,

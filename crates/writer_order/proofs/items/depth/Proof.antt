@@ -1,4 +1,4 @@
-use Rattle.writer_order.specs.ItemLaws.{Passed, passed-start, passed-end, passed-more, length-more}
+use Rattle.writer_order.specs.ItemLaws.{ElementsPassed, passed-start, passed-end, passed-more, length-more}
 use Rattle.writer_lists.specs.PathsLaws.{element-size}
 use mathlib.Core.List.{List, []}
 use borrow.Author.Needs.{needs}
@@ -10,7 +10,7 @@ use Rattle.writer_order.proofs.items.depth.Statement.{statement}
 use Rattle.writer_order.proofs.items.depth.Tie as tie
 
 abbrev Inv-loop : tie.InvT-loop
-Inv-loop path n₀ at₀ n at = (passed : List (List ℕ)) × Passed path at passed × (n ≡ length passed)
+Inv-loop path n₀ at₀ n at = (passed : List (List ℕ)) × ElementsPassed path at passed × (n ≡ length passed)
 
 abbrev μ-loop : tie.MeasureT-loop
 μ-loop path n₀ at₀ n at = length path - at

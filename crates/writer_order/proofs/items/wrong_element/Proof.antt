@@ -1,5 +1,5 @@
 use borrow.Author.Tests.{not-true, not-false}
-use Rattle.writer_order.specs.ItemLaws.{Passed, passed-start, passed-end, passed-here, passed-more, some-last, some-in}
+use Rattle.writer_order.specs.ItemLaws.{ElementsPassed, passed-start, passed-end, passed-here, passed-more, some-last, some-in}
 use Rattle.writer_lists.specs.PathsLaws.{element-size, element-end}
 use Rattle.writer_meaning.specs.Number.{some}
 use Rattle.meaning.specs.Torrent.{elementRight}
@@ -14,7 +14,7 @@ use Rattle.writer_order.proofs.items.wrong_element.Statement.{statement
 use Rattle.writer_order.proofs.items.wrong_element.Tie as tie
 
 abbrev Inv-loop : tie.InvT-loop
-Inv-loop path at₀ at = (passed : List (List ℕ)) × Passed path at passed × (some (λ (e : List ℕ). not (elementRight e)) passed ≡ false)
+Inv-loop path at₀ at = (passed : List (List ℕ)) × ElementsPassed path at passed × (some (λ (e : List ℕ). not (elementRight e)) passed ≡ false)
 
 abbrev μ-loop : tie.MeasureT-loop
 μ-loop path at₀ at = length path - at

@@ -20,8 +20,8 @@ put-closed-requires c κs = (
   c .before .shared-end .ensures .first,
   omega (
     arith,
-    file-length (c .before .before .before .before .before .before .args .p .now)
-        (c .before .before .before .before .before .before .args .q .now) (c .before .shared-end .result)
+    file-length (c .before .before .before .before .before .before .args .one .now)
+        (c .before .before .before .before .before .before .args .other .now) (c .before .shared-end .result)
         (properties (fileIn (c .before .before .before .before .before .before .args .list .now)
         (c .before .before .before .before .before .before .args .place))) (c .before .shared-end .ensures),
     c .before .before .before .before .before .before .pre .3,
@@ -34,15 +34,15 @@ put-opened-requires c κs = (
   let e =
       c .before .before .before .put-closed .ensures .behind in omega (
         arith,
-        file-length (c .before .before .before .before .before .before .before .before .before .before .args .p .now)
-            (c .before .before .before .before .before .before .before .before .before .before .args .q .now)
+        file-length (c .before .before .before .before .before .before .before .before .before .before .args .one .now)
+            (c .before .before .before .before .before .before .before .before .before .before .args .other .now)
             (c .before .before .before .before .before .shared-end .result)
             (properties (fileIn (c .before .before .before .before .before .before .before .before .before .before .args .list .now)
             (c .before .before .before .before .before .before .before .before .before .before .args .place)))
             (c .before .before .before .before .before .shared-end .ensures),
         c .before .before .before .before .before .before .before .before .before .before .pre .3,
         length-replicate {A = ℕ}
-            (length (leftIn (c .before .before .before .before .before .before .before .before .before .before .args .p .now)
+            (length (leftIn (c .before .before .before .before .before .before .before .before .before .before .args .one .now)
             (c .before .before .before .before .before .shared-end .result))) letterE,
       ),
 )
@@ -71,13 +71,13 @@ put-properties-requires c κs =
     let e = c .before .before .before .before .before .before .before .before .before .put-closed .ensures .behind in let g =
     c .before .before .before .before .before .put-opened .ensures .behind in omega (
       arith,
-      file-length (ten .before .before .before .before .before .before .args .p .now)
-          (ten .before .before .before .before .before .before .args .q .now) (ten .before .shared-end .result)
+      file-length (ten .before .before .before .before .before .before .args .one .now)
+          (ten .before .before .before .before .before .before .args .other .now) (ten .before .shared-end .result)
           (properties (fileIn (ten .before .before .before .before .before .before .args .list .now)
           (ten .before .before .before .before .before .before .args .place))) (ten .before .shared-end .ensures),
       ten .before .before .before .before .before .before .pre .3,
       length-replicate {A = ℕ}
-          (length (leftIn (ten .before .before .before .before .before .before .args .p .now) (ten .before .shared-end .result))) letterE,
+          (length (leftIn (ten .before .before .before .before .before .before .args .one .now) (ten .before .shared-end .result))) letterE,
       ap
           (λ (l : List ℕ). length l) (properties-read (ten .before .before .before .before .before .before .args .list .now)
           (ten .before .before .before .before .before .before .args .place) _ (c .before .before .number-at .ensures .0)),
@@ -89,8 +89,8 @@ same-length c = search needs
 returns : tie.Need-returns
 returns c =
     let ten = c .before .before .before .before .before .before .before .before .before .before in
-    put-parts (ten .before .before .before .before .before .before .before .before .before .args .p .now)
-    (ten .before .before .before .before .before .before .before .before .before .args .q .now)
+    put-parts (ten .before .before .before .before .before .before .before .before .before .args .one .now)
+    (ten .before .before .before .before .before .before .before .before .before .args .other .now)
     (ten .before .before .before .before .shared-end .result)
     (properties (fileIn (ten .before .before .before .before .before .before .before .before .before .args .list .now)
     (ten .before .before .before .before .before .before .before .before .before .args .place)))

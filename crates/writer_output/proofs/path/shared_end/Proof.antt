@@ -15,21 +15,21 @@ abbrev μ-loop : tie.MeasureT-loop
 
 loop-holds : tie.Need-loop-holds Inv-loop μ-loop
 loop-holds c =
-    along-start (c .before .before .args .p .now) (c .before .before .args .q .now) (c .before .before .pre .0) (c .before .before .pre .1)
+    along-start (c .before .before .args .one .now) (c .before .before .args .other .now) (c .before .before .pre .0) (c .before .before .pre .1)
 
 returns : tie.Need-returns Inv-loop μ-loop
 returns c = along-second-end _ _ _ (c .before .before .loop .inv) (c .if1 .taken)
 
 number-at-requires : tie.Need-number-at-requires Inv-loop μ-loop
 number-at-requires c κs = (
-  size-there (c .before .before .before .before .before .args .p .now) (c .before .before .loop .at)
+  size-there (c .before .before .before .before .before .args .one .now) (c .before .before .loop .at)
       (c .before .before .loop .inv .first) (c .before .loop-test .taken),
   omega arith,
 )
 
 number-at-requires-2 : tie.Need-number-at-requires-2 Inv-loop μ-loop
 number-at-requires-2 c κs = (
-  size-there (c .before .before .before .before .before .before .args .q .now) (c .before .before .before .loop .at)
+  size-there (c .before .before .before .before .before .before .args .other .now) (c .before .before .before .loop .at)
       (c .before .before .before .loop .inv .second) (c .before .if1 .left),
   omega arith,
 )
@@ -48,7 +48,7 @@ part-x-start c = search needs
 
 part-x-end : tie.Need-part-x-end Inv-loop μ-loop
 part-x-end c =
-    element-end (c .before .before .before .before .before .before .before .args .p .now) (c .before .before .before .before .loop .at)
+    element-end (c .before .before .before .before .before .before .before .args .one .now) (c .before .before .before .before .loop .at)
     (c .before .before .before .before .loop .inv .first) (c .before .before .before .loop-test .taken) _
     (c .before .number-at .ensures .0)
 
@@ -63,7 +63,7 @@ part-y-start c = search needs
 
 part-y-end : tie.Need-part-y-end Inv-loop μ-loop
 part-y-end c =
-    element-end (c .before .before .before .before .before .before .before .before .args .q .now)
+    element-end (c .before .before .before .before .before .before .before .before .args .other .now)
     (c .before .before .before .before .before .loop .at) (c .before .before .before .before .before .loop .inv .second)
     (c .before .before .before .if1 .left) _ (c .before .number-at2 .ensures .0)
 
@@ -72,8 +72,8 @@ same-requires c κs = search needs
 
 returns-2 : tie.Need-returns-2 Inv-loop μ-loop
 returns-2 c =
-    along-differ (c .before .before .before .before .before .before .before .before .before .before .before .args .p .now)
-    (c .before .before .before .before .before .before .before .before .before .before .before .args .q .now)
+    along-differ (c .before .before .before .before .before .before .before .before .before .before .before .args .one .now)
+    (c .before .before .before .before .before .before .before .before .before .before .before .args .other .now)
     (c .before .before .before .before .before .before .before .before .loop .at) _ _
     (c .before .before .before .before .before .before .before .before .loop .inv)
     (c .before .before .before .before .before .before .before .loop-test .taken)
@@ -88,8 +88,8 @@ loop-less c = search needs
 
 loop-again : tie.Need-loop-again Inv-loop μ-loop
 loop-again c =
-    along-same (c .before .before .before .before .before .before .before .before .before .before .before .args .p .now)
-    (c .before .before .before .before .before .before .before .before .before .before .before .args .q .now)
+    along-same (c .before .before .before .before .before .before .before .before .before .before .before .args .one .now)
+    (c .before .before .before .before .before .before .before .before .before .before .before .args .other .now)
     (c .before .before .before .before .before .before .before .before .loop .at) _ _
     (c .before .before .before .before .before .before .before .before .loop .inv)
     (c .before .before .before .before .before .before .before .loop-test .taken)

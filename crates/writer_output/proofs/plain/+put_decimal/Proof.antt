@@ -41,7 +41,7 @@ put-decimal-cast-digit t c = search needs
 
 put-decimal-put-byte-requires : (t : ℕ) → put-decimal-lts.Need-put-byte-requires (put-decimal-claims t) (put-decimal-at t) put-decimal.Post
 put-decimal-put-byte-requires t c κs =
-    let e = ap (λ (l : List ℕ). length l) (decimal-one (c .before .before .before .args .n) (c .before .if1 .taken)) in omega
+    let e = ap (λ (l : List ℕ). length l) (decimal-one (c .before .before .before .args .number) (c .before .if1 .taken)) in omega
     (arith, c .before .before .before .pre .1)
 
 put-decimal-same-length : (t : ℕ) → put-decimal-lts.Need-same-length (put-decimal-claims t) (put-decimal-at t) put-decimal.Post
@@ -53,9 +53,9 @@ put-decimal-returns t c = put-digit _ _ _ _ _ (c .before .before .before .before
 put-decimal-put-decimal-requires : (t : ℕ) →
     put-decimal-lts.Need-put-decimal-requires (put-decimal-claims t) (put-decimal-at t) put-decimal.Post
 put-decimal-put-decimal-requires t c κs =
-    let h : 10 ≤ c .before .before .before .args .n = c .before .if1 .left in let e = c .before .before .before .pre .0 in (
+    let h : 10 ≤ c .before .before .before .args .number = c .before .if1 .left in let e = c .before .before .before .pre .0 in (
       omega arith,
-      digits-room (c .before .before .before .args .at) (c .before .before .before .args .n) _ h
+      digits-room (c .before .before .before .args .at) (c .before .before .before .args .number) _ h
           (c .before .before .before .pre .1) .0,
     )
 
@@ -64,7 +64,7 @@ put-decimal-put-byte-requires-2 : (t : ℕ) →
 put-decimal-put-byte-requires-2 t c κs =
     let e = c .before .before .before .put-decimal .ensures .behind in let g = digits-room
     (c .before .before .before .before .before .before .before .args .at)
-    (c .before .before .before .before .before .before .before .args .n) _ (c .before .before .before .before .before .if1 .left)
+    (c .before .before .before .before .before .before .before .args .number) _ (c .before .before .before .before .before .if1 .left)
     (c .before .before .before .before .before .before .before .pre .1) .1 in omega arith
 
 put-decimal-same-length-2 : (t : ℕ) → put-decimal-lts.Need-same-length-2 (put-decimal-claims t) (put-decimal-at t) put-decimal.Post

@@ -15,7 +15,7 @@ same-length : tie.Need-same-length
 same-length c = search needs
 
 returns : tie.Need-returns
-returns c = put-set (c .before .args .out .now) (c .before .args .at) (c .before .args .b) (c .if1 .taken)
+returns c = put-set (c .before .args .out .now) (c .before .args .at) (c .before .args .byte) (c .if1 .taken)
 
 add-result-2 : tie.Need-add-result-2
 add-result-2 c = search needs

@@ -19,16 +19,16 @@ abbrev μ-loop : tie.MeasureT-loop
 len : (c : tie.At-loop Inv-loop μ-loop) → length (c .loop .out) ≡ length (c .before .before .args .out .now)
 len c =
     ap length (c .loop .inv .1) ∙ length-paste (c .before .before .args .out .now) (c .before .before .args .at)
-    (c .before .before .args .s .now) (c .loop .i) (omega arith) (omega arith)
+    (c .before .before .args .bytes .now) (c .loop .i) (omega arith) (omega arith)
 
 add-end : tie.Need-add-end Inv-loop μ-loop
 add-end c = search needs
 
 returns : tie.Need-returns Inv-loop μ-loop
-returns c = put-outside (c .before .args .out .now) (c .before .args .at) (c .before .args .s .now) (c .if1 .taken)
+returns c = put-outside (c .before .args .out .now) (c .before .args .at) (c .before .args .bytes .now) (c .if1 .taken)
 
 loop-holds : tie.Need-loop-holds Inv-loop μ-loop
-loop-holds c = (omega arith, paste-zero (c .before .args .out .now) (c .before .args .at) (c .before .args .s .now))
+loop-holds c = (omega arith, paste-zero (c .before .args .out .now) (c .before .args .at) (c .before .args .bytes .now))
 
 shared-slice-read-out : tie.Need-shared-slice-read-out Inv-loop μ-loop
 shared-slice-read-out c = search needs

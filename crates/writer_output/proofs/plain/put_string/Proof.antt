@@ -6,13 +6,13 @@ use Rattle.writer_output.proofs.plain.put_string.Statement.{statement}
 use Rattle.writer_output.proofs.plain.put_string.Tie as tie
 
 put-decimal-requires : tie.Need-put-decimal-requires
-put-decimal-requires c κs = omega (arith, string-length (c .before .before .before .args .s .now), c .before .before .before .pre)
+put-decimal-requires c κs = omega (arith, string-length (c .before .before .before .args .bytes .now), c .before .before .before .pre)
 
 put-byte-requires : tie.Need-put-byte-requires
 put-byte-requires c κs =
     let e = c .before .before .before .put-decimal .ensures .behind in omega (
       arith,
-      string-length (c .before .before .before .before .before .before .before .args .s .now),
+      string-length (c .before .before .before .before .before .before .before .args .bytes .now),
       c .before .before .before .before .before .before .before .pre,
     )
 
@@ -21,7 +21,7 @@ put-bytes-requires c κs =
     let e = c .before .before .before .before .before .before .before .put-decimal .ensures .behind in let f =
     c .before .before .before .put-byte .ensures .behind in omega (
       arith,
-      string-length (c .before .before .before .before .before .before .before .before .before .before .before .args .s .now),
+      string-length (c .before .before .before .before .before .before .before .before .before .before .before .args .bytes .now),
       c .before .before .before .before .before .before .before .before .before .before .before .pre,
     )
 

@@ -3,8 +3,8 @@ use Rattle.settling.specs.PathLaws.{sibling-even, sibling-odd}
 use Prim.Native.Nat.{_-_}
 use mathlib.Core.Path.{sym}
 use borrow.Author.Needs.{needs}
-use Rattle.settling.proofs.beside.Statement.{statement}
-use Rattle.settling.proofs.beside.Tie as tie
+use Rattle.settling.proofs.sibling.Statement.{statement}
+use Rattle.settling.proofs.sibling.Tie as tie
 
 add-result : tie.Need-add-result
 add-result c = search needs
@@ -18,5 +18,5 @@ returns c = sym (sibling-even _ (c .if1 .taken))
 returns-2 : tie.Need-returns-2
 returns-2 c = sym (sibling-odd _ (c .if1 .left))
 
-pub beside-spec : {M : Type 1} → statement M
-beside-spec = tie.close (tie.spec add-result sub-result returns returns-2)
+pub sibling-spec : {M : Type 1} → statement M
+sibling-spec = tie.close (tie.spec add-result sub-result returns returns-2)
