@@ -29,7 +29,7 @@ impl Full {
         let mut full = Full { blocks, height, inside: vec![[7; 32]], last: vec![[7; 32]], padding: vec![[0; 32]] };
         for layer in 0..height {
             let (inside, last, padding) = (full.inside[layer], full.last[layer], full.padding[layer]);
-            let is_left = (full.covering(layer) - 1) % 2 == 0;
+            let is_left = (full.covering(layer) - 1).is_multiple_of(2);
             full.inside.push(pair(&inside, &inside));
             full.last.push(if is_left { pair(&last, &padding) } else { pair(&inside, &last) });
             full.padding.push(pair(&padding, &padding));

@@ -56,7 +56,7 @@ pub fn extending(length: u64) -> Vec<Box<dyn Work>> {
         let file: Vec<u8> = (0..BLOCK).map(|i| (i * 7 + i / 251) as u8).collect();
         let layers = at_layer(&file);
         let root = earlier_root(length, &layers, &file);
-        let block = if length % BLOCK == 0 { Vec::new() } else { file };
+        let block = if length.is_multiple_of(BLOCK) { Vec::new() } else { file };
         Earlier { length, root, block, store: whole(&layers), layers }
     };
     let plain = work(state(), |earlier| {

@@ -86,7 +86,7 @@ fn extends(old: &Entry, new: &Entry, piece_length: u64, path: &Path) -> io::Resu
     if !new.layer.is_empty() {
         store.load_layer(&new.layer)?;
     }
-    let inside = old.length % piece_length != 0 && old.length <= new.length;
+    let inside = !old.length.is_multiple_of(piece_length) && old.length <= new.length;
     let (mut data, mut block) = (Vec::new(), 0..0);
     if inside {
         let piece = old.length / piece_length;
@@ -99,7 +99,7 @@ fn extends(old: &Entry, new: &Entry, piece_length: u64, path: &Path) -> io::Resu
         if !message.is_empty() {
             store.take(message)?;
         }
-        if old.length % BLOCK != 0 {
+        if !old.length.is_multiple_of(BLOCK) {
             let first = (old.length / BLOCK * BLOCK - piece * piece_length) as usize;
             block = first..data.len().min(first + BLOCK as usize);
         }

@@ -115,7 +115,7 @@ fn same_files(torrent: &[u8], entries: &[Entry], files: &[Listed]) -> bool {
 fn on_boundaries(entries: &[Entry], piece_length: u64) -> bool {
     let mut at = 0u128;
     entries.iter().all(|entry| {
-        let stands_right = matches!(entry, Entry::Padding(_)) || at % piece_length as u128 == 0;
+        let stands_right = matches!(entry, Entry::Padding(_)) || at.is_multiple_of(piece_length as u128);
         at += entry.length() as u128;
         stands_right
     })

@@ -140,7 +140,7 @@ impl Half {
         for at in 1..self.lines.len() {
             if !self.lines[at - 1].is_file && is_empty(&self.lines[at]) {
                 self.lines.swap(at - 1, at);
-                moved |= self.before(at - 1) % self.piece_length != 0;
+                moved |= !self.before(at - 1).is_multiple_of(self.piece_length);
             }
         }
         moved
