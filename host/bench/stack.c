@@ -171,14 +171,14 @@ static void make_torrent(void)
     add_text("ee");
 }
 
-/* A torrent with many files that have a root, in one folder at the deepest level; the roots come in descending order. */
-static void make_torrent_of_many(void)
+/* Begins a torrent: the file tree of so many files that have a root, in one folder at the deepest level; the roots come in descending order. */
+static void begin_torrent_of(int files)
 {
     torrent_size = 0;
     add_text("d4:infod9:file treed");
     for (int i = 1; i < ELEMENTS; i++)
         add_text("1:ad");
-    for (int i = 0; i < FILES; i++) {
+    for (int i = 0; i < files; i++) {
         uint8_t name[2] = { (uint8_t)(0x40 + i / 128), (uint8_t)(0x80 + i % 128) };
         kd_hash root = { { (uint8_t)(0xff - name[0]), (uint8_t)(0xff - name[1]) } };
         add_text("2:");
@@ -189,6 +189,12 @@ static void make_torrent_of_many(void)
     }
     for (int i = 0; i < ELEMENTS; i++)
         add_text("e");
+}
+
+/* A torrent with many such files. */
+static void make_torrent_of_many(void)
+{
+    begin_torrent_of(FILES);
     add_text("12:meta versioni2e12:piece lengthi65536ee12:piece layersdee");
 }
 
@@ -197,21 +203,7 @@ static void make_hybrid(void)
 {
     enum { HYBRID_FILES = 4000 };
     static uint8_t hashes[HYBRID_FILES * KD_SHA1];
-    torrent_size = 0;
-    add_text("d4:infod9:file treed");
-    for (int i = 1; i < ELEMENTS; i++)
-        add_text("1:ad");
-    for (int i = 0; i < HYBRID_FILES; i++) {
-        uint8_t name[2] = { (uint8_t)(0x40 + i / 128), (uint8_t)(0x80 + i % 128) };
-        kd_hash root = { { (uint8_t)(0xff - name[0]), (uint8_t)(0xff - name[1]) } };
-        add_text("2:");
-        add(name, 2);
-        add_text("d0:d6:lengthi1e11:pieces root32:");
-        add(&root, 32);
-        add_text("ee");
-    }
-    for (int i = 0; i < ELEMENTS; i++)
-        add_text("e");
+    begin_torrent_of(HYBRID_FILES);
     add_text("5:filesl");
     for (int i = 0; i < HYBRID_FILES; i++) {
         uint8_t name[2] = { (uint8_t)(0x40 + i / 128), (uint8_t)(0x80 + i % 128) };
