@@ -3,7 +3,7 @@
 -- Assumes nothing.
 use Rattle.std.specs.Prelude.{◌≡◌, ◌↔◌, ℕ, ◌+◌, ◌-◌}
 use Rattle.std.proofs.Math.Path.{refl, ap}
-use Rattle.std.proofs.Common.{sym, ◌∙◌, inl, inr}
+use Rattle.std.proofs.Common.{sym, ◌∙◌, subst, inl, inr}
 use mathlib.Core.List.{List, ◌∷◌, ◌++◌}
 use native.Mathlib.Omega.{arith}
 use Rattle.std.proofs.Math.Decide.{ℕ_discrete}
@@ -69,7 +69,7 @@ found_name : (s : List ℕ) (w : Found) (x : Lookup) → FoundIs s w x → NameI
 found_name s Missing absent f = refl
 found_name s Missing (present v) f = absurd f
 found_name s (Part a k) absent f = absurd f
-found_name s (Part a k) (present v) f = rw (string-there s a k v f) (by v f)
+found_name s (Part a k) (present v) f = subst (λ (r : ByteString). NameIs s (content_part r) (present v)) (sym (string-there s a k v f)) (by v f)
   where
     by : (v : Value) → cut s a (k - a) ≡ encode v → NameIs s (content_part (string_of a v)) (present v)
     by (string b) e = string-part s a k b e

@@ -15,7 +15,7 @@ use tree::geometry::{covering, has_layer, log2, node_number, piece_layer};
 
 // kd_request: a number; beside 0, `asks` is 1 with the request's four numbers and its 49 bytes, or 0: nothing to ask.
 #[repr(C)]
-#[derive(Drop)]
+#[derive(Clone, Copy)]
 pub struct Request {
     pub number: u32,
     pub asks: u32,

@@ -12,7 +12,7 @@ use tree::geometry::{piece_count, piece_size};
 
 // kd_choice: a number; beside 0, `found` is 1 with the piece to fetch, or 0: nothing to fetch.
 #[repr(C)]
-#[derive(Drop)]
+#[derive(Clone, Copy)]
 pub struct Choice {
     pub number: u32,
     pub found: u32,
@@ -20,7 +20,7 @@ pub struct Choice {
 }
 
 // Where a store's marks begin, how many blocks a piece has but for the last, how many the file has: worked out once for all pieces.
-#[derive(Drop)]
+#[derive(Clone, Copy)]
 pub struct Disk {
     pub start: usize,
     pub each: usize,

@@ -3,7 +3,7 @@ ghost use Rattle.std.specs.Prelude.{◌≡◌, drop};
 ghost use Rattle.bencode.specs.Scalar.{bounded, read_digits, read_zero, read_number};
 
 // A number, with the position past the byte that stops it.
-#[derive(Drop)]
+#[derive(Clone, Copy)]
 pub enum Number {
     Is { value: usize, next: usize },
     NoNumber,

@@ -9,14 +9,14 @@ use crate::walk::{Walked, value_end};
 use limits::LEVELS;
 
 // A value's part, start..end.
-#[derive(Drop)]
+#[derive(Clone, Copy)]
 pub enum Found {
     Part { start: usize, end: usize },
     Missing,
 }
 
 // A dictionary's entry: its key's content is start..value, and its value's part value..end.
-#[derive(Drop)]
+#[derive(Clone, Copy)]
 pub enum Entry {
     Keyed {
         start: usize,

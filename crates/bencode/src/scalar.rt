@@ -5,14 +5,14 @@ ghost use Rattle.bencode.specs.Scalar.{read_string, read_signed, read_integer};
 use crate::decimal::{BOUND, Number, read_number};
 
 // A string: its content is the bytes start..end, and its encoding ends where they end.
-#[derive(Drop)]
+#[derive(Clone, Copy)]
 pub enum ByteString {
     Content { start: usize, end: usize },
     NoString,
 }
 
 // An integer: whether it has a minus, its size, and the position past it.
-#[derive(Drop)]
+#[derive(Clone, Copy)]
 pub enum Integer {
     Whole {
         minus: bool,

@@ -9,7 +9,7 @@ use crate::scalar::{ByteString, Integer, read_signed, read_string};
 use limits::LEVELS;
 
 // The position past a value, or what is wrong first.
-#[derive(Drop)]
+#[derive(Clone, Copy)]
 pub enum Walked {
     Past(usize),
     Broken,

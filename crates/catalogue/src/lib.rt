@@ -1,4 +1,5 @@
 // All files of a torrent in one list, a record of RECORD bytes for each.
+#![tactic(auto)]
 pub mod record;
 
 ghost use Rattle.std.specs.Prelude.{◌≡◌, ◌*◌, ◌≤◌};
@@ -22,7 +23,7 @@ use torrent::check::check;
 pub const RECORD: usize = 56 + 8 * ELEMENTS;
 
 // A directory of it: its first entry, the levels left below it, and where its first record goes.
-#[derive(Drop)]
+#[derive(Clone, Copy)]
 pub struct Spot {
     pub list: Listing,
     pub at: usize,
@@ -31,7 +32,7 @@ pub struct Spot {
 }
 
 // The position past a directory, and where the next record goes; or something in it is wrong, or there is no room.
-#[derive(Drop)]
+#[derive(Clone, Copy)]
 pub enum Put {
     Past { next: usize, to: usize },
     WrongTree,

@@ -18,7 +18,7 @@ use torrent::one::root_of;
 use tree::geometry::has_layer;
 
 // Where `file tree` and `piece layers` begin in the torrent, the piece length, and how many keys `piece layers` has.
-#[derive(Drop)]
+#[derive(Clone, Copy)]
 pub struct Listing {
     pub tree: usize,
     pub layers: usize,
@@ -27,7 +27,7 @@ pub struct Listing {
 }
 
 // A file of it: its length, its root's position, how many path elements it has; and where its record goes.
-#[derive(Drop)]
+#[derive(Clone, Copy)]
 pub struct Record {
     pub list: Listing,
     pub length: usize,

@@ -229,6 +229,7 @@ Has n h L = In (record { at = n; hash = h }) L
 pub in_left : {e : Entry} (A B : List Entry) → In e A → In e (A ++ B)
 in_left (f ∷ A) B here = here
 in_left (f ∷ A) B (there i) = there (in_left A B i)
+in_left {e = e} [] B x' = elim x' [ ]
 
 -- an entry of the second too
 pub in_right : {e : Entry} (A B : List Entry) → In e B → In e (A ++ B)
@@ -244,10 +245,12 @@ in-cases (f ∷ A) B (there i) = elim (in-cases A B i) [ inl x ↦ inl (there x)
 -- the one entry of a list of one
 pub one-is : {e : Entry} (n : ℕ) (h : List ℕ) → In e (one n h) → (e.at ≡ n) × (e.hash ≡ h)
 one-is n h here = (refl, refl)
+one-is {e = e} n h (there x3) = elim x3 [ ]
 
 in-length : {e : Entry} (L : List Entry) → In e L → 1 ≤ length L
 in-length (f ∷ L) here = omega arith
 in-length (f ∷ L) (there i) = omega (arith, in-length L i)
+in-length {e = e} [] x' = elim x' [ ]
 
 -- the empty list has none
 pub no-entry : {e : Entry} → In e [] → ⊥
@@ -261,6 +264,7 @@ has_same L n m h g e f i = rw (sym e, sym f) i
 pub sound-in : {N : ℕ} {e : Entry} (L : List Entry) → Sound N L → In e L → (e.at < N) × (length e.hash ≡ 32)
 sound-in (f ∷ L) (more i l S) here = (i, l)
 sound-in (f ∷ L) (more i l S) (there k) = sound-in L S k
+sound-in {N = N} {e = e} [] _ x3 = elim x3 [ ]
 
 -- two sound lists put together are sound
 pub sound-append : {N : ℕ} (A B : List Entry) → Sound N A → Sound N B → Sound N (A ++ B)
@@ -291,6 +295,7 @@ pub agrees-in : (s : List ℕ) (L : List Entry) → agrees s L ≡ true → (e :
 unfolding agrees
 agrees-in s (f ∷ L) a e here = ((and-eq-true_iff (agrees_at s e.at e.hash) (agrees s L)).0 a).0
 agrees-in s (f ∷ L) a e (there i) = agrees-in s L ((and-eq-true_iff (agrees_at s f.at f.hash) (agrees s L)).0 a).1 e i
+agrees-in s [] a e x'' = elim x'' [ ]
 
 -- and back
 pub in-agrees : (s : List ℕ) (L : List Entry) → ((e : Entry) → In e L → agrees_at s e.at e.hash ≡ true) → agrees s L ≡ true
@@ -326,6 +331,7 @@ apart-consistent (g ∷ L) (more k S) e f here here q = refl
 apart-consistent (g ∷ L) (more k S) e f here (there j) q = absurd (k f j (sym q))
 apart-consistent (g ∷ L) (more k S) e f (there i) here q = absurd (k e i q)
 apart-consistent (g ∷ L) (more k S) e f (there i) (there j) q = apart-consistent L S e f i j q
+apart-consistent [] _ e f x5 _ q = elim x5 [ ]
 
 -- after a consistent list is taken, each of its entries is held
 pub entries-held : (N : ℕ) (L : List Entry) (s : List ℕ) → Room N s → Sound N L → Consistent L → (e : Entry) → In e L → Hold (put_all s L) e.at e.hash
@@ -336,6 +342,7 @@ entries-held N (f ∷ L) s room (more i l S) c e here =
     (held-put-same s N e.at room i e.hash l, hash-put-same s N e.at room i e.hash l)
 entries-held N (f ∷ L) s room (more i l S) c e (there k) =
     entries-held N L (put s f.at f.hash) (put-room s N f.at room i f.hash l) S (λ a b x y. c a b (there x) (there y)) e k
+entries-held N [] s room _ c e x5 = elim x5 [ ]
 
 -- and what is held then was held before or is one of its entries
 pub held-or-entry : (N : ℕ) (L : List Entry) (s : List ℕ) → Room N s → Sound N L → (q : ℕ) → held_at (put_all s L) q ≡ true

@@ -1,4 +1,5 @@
 // Whether a file begins with an earlier one: the earlier tree's root, worked out of what a store of the file holds.
+#![tactic(auto)]
 ghost use Rattle.std.specs.Prelude.{◌≡◌, ◌≤◌, length};
 ghost use Rattle.octets.specs.Octets.{cut};
 ghost use Rattle.sha256.specs.Sha256.{sha256, pair_hash};
@@ -32,7 +33,7 @@ fn both(l: Hashed, r: Hashed) -> Hashed
 }
 
 // What is worked out for a position, and the padding value of its layer.
-#[derive(Drop)]
+#[derive(Clone, Copy)]
 pub struct Mixing {
     pub found: Hashed,
     pub pad: [u8; 32],
@@ -122,7 +123,7 @@ fn over_size(most: usize, length: usize) -> usize
 }
 
 // The hash of its first bytes, and its own.
-#[derive(Drop)]
+#[derive(Clone, Copy)]
 pub struct Ends {
     pub last: [u8; 32],
     pub whole: [u8; 32],

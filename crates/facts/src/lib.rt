@@ -1,11 +1,12 @@
 // The facts that a store names: which file it is about. A host asks for them after it has loaded a store or found one on its disk.
+#![tactic(auto)]
 ghost use Rattle.std.specs.Prelude.{◌≡◌};
 ghost use Rattle.facts.specs.Facts.{no_facts, facts_answer};
 
 use store::{facts_root, file_length, is_usable, piece_length_of};
 
 // 0, the file's length, the piece length and the pieces root; or 9 beside zeros.
-#[derive(Drop)]
+#[derive(Clone, Copy)]
 pub struct FactsRead {
     pub number: u32,
     pub length: usize,

@@ -17,14 +17,14 @@ pub const ELEMENTS: usize = LEVELS - 4;
 pub const MOST_ROOTS: usize = LARGEST_TORRENT / 64;
 
 // How many files there are, and how many of them are not empty.
-#[derive(Drop)]
+#[derive(Clone, Copy)]
 pub struct Tally {
     pub files: usize,
     pub roots: usize,
 }
 
 // The position past a directory and what is counted then; or something in it is wrong.
-#[derive(Drop)]
+#[derive(Clone, Copy)]
 pub enum Counted {
     Past { next: usize, tally: Tally },
     WrongTree,

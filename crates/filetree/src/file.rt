@@ -11,21 +11,21 @@ use limits::LONGEST_FILE;
 pub const ROOT_SIZE: usize = 32;
 
 // A file's length.
-#[derive(Drop)]
+#[derive(Clone, Copy)]
 pub enum Length {
     Bytes(usize),
     NoLength,
 }
 
 // The position of a root's 32 bytes.
-#[derive(Drop)]
+#[derive(Clone, Copy)]
 pub enum Root {
     At(usize),
     NoRoot,
 }
 
 // A file: its length, and the position of its root; 0 for an empty file, which has none.
-#[derive(Drop)]
+#[derive(Clone, Copy)]
 pub enum File {
     Right { length: usize, root: usize },
     WrongFile,

@@ -13,7 +13,7 @@ use limits::LEVELS;
 
 // What stands next in an open directory: a directory inside, with its key; the directory's end; a file, with its key; or something
 // that may not stand there.
-#[derive(Drop)]
+#[derive(Clone, Copy)]
 pub enum Token {
     Opened {
         start: usize,

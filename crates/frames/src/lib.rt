@@ -1,5 +1,6 @@
 // Frames of BEP 3: a 32-bit big-endian length, then so many bytes, a message that begins with its id; length 0 is a keep-alive.
 // Which ids are known, how many bytes their messages have, and the frame of a message written.
+#![tactic(auto)]
 ghost use Rattle.std.specs.Prelude.{◌≡◌, true, false, ◌+◌, ◌≤◌, length};
 ghost use Rattle.octets.specs.Octets.{cut, pasted};
 ghost use Rattle.frames.specs.Frames as F;
@@ -34,7 +35,7 @@ pub const HASHES: usize = 22;
 pub const HASH_REJECT: usize = 23;
 
 // How many bytes the messages of an id have, the id among them: the least, and whether they may have more.
-#[derive(Drop)]
+#[derive(Clone, Copy)]
 pub struct Sizes {
     pub least: usize,
     pub longer: bool,

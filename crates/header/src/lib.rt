@@ -1,4 +1,5 @@
 // The 49 bytes before a message's hashes: read, held to the rules, and turned into a place in the tree.
+#![tactic(auto)]
 ghost use Rattle.std.specs.Prelude.{◌≡◌, ◌+◌, ◌≤◌, ◌<◌, length, true};
 ghost use Rattle.header.specs.Header as Hd;
 
@@ -13,7 +14,7 @@ pub const REJECT: u8 = 23;
 pub const HEADER_SIZE: usize = 49;
 
 // The header's four numbers.
-#[derive(Drop)]
+#[derive(Clone, Copy)]
 pub struct Header {
     pub base: usize,
     pub index: usize,
@@ -22,7 +23,7 @@ pub struct Header {
 }
 
 // The run is 2^k hashes below the position `top`, u uncles lead from there to the anchor.
-#[derive(Drop)]
+#[derive(Clone, Copy)]
 pub struct Place {
     pub k: usize,
     pub u: usize,

@@ -1,5 +1,6 @@
 // The running tree of a history: bytes come in bursts, and at the end there are N, the pieces root and the piece layer.
 // A state goes in by value, and comes back after each burst; a lent layer gets each piece's hash once the history runs past the piece.
+#![tactic(auto)]
 ghost use Rattle.std.specs.Prelude.{◌≡◌, true, false, cond, [], ◌+◌, ◌-◌, ◌*◌, ◌/◌, ◌%◌, ◌^◌, ◌≤◌, ◌<◌, min, length, eqb};
 ghost use Rattle.limits.specs.Limits.{longest_file, tallest_tree};
 ghost use Rattle.sha256.specs.Sha256.{pair_hash};
@@ -24,7 +25,7 @@ pub const NODES_SIZE: usize = 32 * (limits::TALLEST_TREE + 1);
 
 // kd_history: N is the length; `block` is the running hash of the block under way; `nodes` has for each layer its last finished node.
 #[repr(C)]
-#[derive(Drop)]
+#[derive(Clone, Copy)]
 pub struct History {
     pub piece_length: u64,
     pub length: u64,
@@ -34,7 +35,7 @@ pub struct History {
 
 // kd_history_answer: a number, and the state after the burst; beside a refusal the state as it was given.
 #[repr(C)]
-#[derive(Drop)]
+#[derive(Clone, Copy)]
 pub struct HistoryAnswer {
     pub number: u32,
     pub history: History,
@@ -42,7 +43,7 @@ pub struct HistoryAnswer {
 
 // kd_history_end_answer
 #[repr(C)]
-#[derive(Drop)]
+#[derive(Clone, Copy)]
 pub struct HistoryEnd {
     pub number: u32,
     pub length: u64,

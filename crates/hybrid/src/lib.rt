@@ -1,5 +1,6 @@
 // The v1 half of a hybrid torrent (BEP 3, BEP 47) held against the v2 half. `list` is the part of the torrent that `files` is, `tree` the part
 // that `file tree` is.
+#![tactic(auto)]
 ghost use Rattle.std.specs.Prelude.{◌≡◌, true, cond, ◌||◌, List, ◌++◌, ℕ, ◌+◌, ◌-◌, ◌%◌, ◌^◌, ◌≤◌, ◌<◌, eqb};
 ghost use Rattle.limits.specs.Limits.{largest_torrent};
 ghost use Rattle.hybrid.specs.Tally.{Encodes, tallied_of};
@@ -32,14 +33,14 @@ use filetree::token::{Token, ends_here, read_token};
 use limits::LEVELS;
 
 // A number that is not negative.
-#[derive(Drop)]
+#[derive(Clone, Copy)]
 pub enum Natural {
     Is(usize),
     NoNatural,
 }
 
 // What `attr` says of an entry.
-#[derive(Drop)]
+#[derive(Clone, Copy)]
 pub enum Attr {
     Plain,
     Padding,
@@ -47,7 +48,7 @@ pub enum Attr {
 }
 
 // Where the list of a path stands.
-#[derive(Drop)]
+#[derive(Clone, Copy)]
 pub enum PathFound {
     At(usize),
     LeftOut,
@@ -55,7 +56,7 @@ pub enum PathFound {
 }
 
 // What stands next in `files`: an entry, with its length, where its path stands (0 where it is left out) and the position behind it.
-#[derive(Drop)]
+#[derive(Clone, Copy)]
 pub enum V1Token {
     Entry {
         padding: bool,
@@ -259,7 +260,7 @@ pub fn read_v1(bytes: &[u8], at: usize) -> V1Token
 
 // How many files a list has, and how many bytes all its entries, padding included; or something in it is malformed, a file does not
 // begin at a multiple of the piece length, or there are more bytes than a torrent can have pieces for.
-#[derive(Drop)]
+#[derive(Clone, Copy)]
 pub enum Tallied {
     Sums { files: usize, total: usize },
     Amiss,
@@ -397,7 +398,7 @@ fn same_path(tree: &[u8], path: &[usize], depth: usize, bytes: &[u8], at: usize)
 }
 
 // Where the list goes on behind the file that was met; or it is another.
-#[derive(Drop)]
+#[derive(Clone, Copy)]
 pub enum Met {
     Behind(usize),
     Other,
@@ -429,7 +430,7 @@ fn meet(tree: &[u8], path: &[usize], depth: usize, list: &[u8], cursor: usize, l
 }
 
 // The position past a directory, and where the list goes on behind its files; or one of them is another than the list has.
-#[derive(Drop)]
+#[derive(Clone, Copy)]
 pub enum Compared {
     Past { next: usize, cursor: usize },
     Differ,
@@ -505,7 +506,7 @@ fn compare_directory(
 }
 
 // How many bytes all entries of the v1 half have; or it does not fit the tree.
-#[derive(Drop)]
+#[derive(Clone, Copy)]
 pub enum HalfRead {
     Bytes(usize),
     Misfit,

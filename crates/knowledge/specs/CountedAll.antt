@@ -83,6 +83,7 @@ module _ (s : List ℕ) where
             | inr i ↦ let w = r i in (w.0, omega (arith, w.1), w.2, w.3)
           ]
       by false q y r = let w = r y in (w.0, omega (arith, w.1), w.2, w.3)
+  entry-is zero e x = elim x [ ]
 
   entry-there : (k n : ℕ) → 1 ≤ n → n ≤ k → held_at s n ≡ true → In (record { at = n; hash = hash_at s n }) (held_entries s k)
   unfolding held_entries
@@ -154,6 +155,7 @@ module _ (b : List ℕ) where
   stands-named (suc k) l i v first = record { k = k; low = omega arith; layer = refl; index = refl; hash = refl }
   stands-named (suc k) l i v (later x) =
       let w = stands-named k l i v x in record { k = w.k; low = omega (arith, w.low); layer = w.layer; index = w.index; hash = w.hash }
+  stands-named zero l i v x' = elim x' [ ]
 
   named-stands : (k m : ℕ) → m < k → Stands (layer_in b m) (index_in b m) (hash_in b m) (named_to b k)
   unfolding named_to
@@ -189,11 +191,13 @@ module _ (b : List ℕ) where
 without : {l i : ℕ} {v : List ℕ} (L : List Fixed) → Stands l i v L → List Fixed
 without (x ∷ L) first = L
 without (x ∷ L) (later s) = x ∷ without L s
+without {l = l} {i = i} {v = v} [] x' = elim x' [ ]
 
 without-many : {l i : ℕ} {v : List ℕ} (L : List Fixed) (s : Stands l i v L) → suc (length (without L s)) ≡ length L
 unfolding without
 without-many (x ∷ L) first = refl
 without-many (x ∷ L) (later s) = omega (arith, without-many L s)
+without-many {l = l} {i = i} {v = v} [] s = elim s [ ]
 
 -- what else stood in it still does
 without-stands : {l i : ℕ} {v : List ℕ} (L : List Fixed) (s : Stands l i v L) (k j : ℕ) (w : List ℕ) → ((k ≡ l) × (j ≡ i) → ⊥) → Stands k j w L → Stands k j w (without L s)
@@ -202,6 +206,7 @@ without-stands (x ∷ L) first k j w ne first = absurd (ne (refl, refl))
 without-stands (x ∷ L) first k j w ne (later y) = y
 without-stands (x ∷ L) (later s) k j w ne first = first
 without-stands (x ∷ L) (later s) k j w ne (later y) = later (without-stands L s k j w ne y)
+without-stands {l = l} {i = i} {v = v} [] s k j w ne _ = elim s [ ]
 
 -- a position is one of a list of distinct ones, or the list is not longer than the rest
 as_many : (A B : List Fixed) → Distinct A → ((l i : ℕ) (v : List ℕ) → Stands l i v A → Stands l i v B) → length A ≤ length B

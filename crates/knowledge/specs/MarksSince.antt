@@ -252,7 +252,7 @@ right-grown {s} {t} {j} f g (in_hybrid_piece i piece v1 zeros b o r w) =
 pub right-inside : {t : List ℕ} {j : ℕ} {c : Call} → RightFor t j c → j < blocks_of t
 right-inside (as_block block b w h) = w.inside
 right-inside (in_piece i piece b cov w v h p) = cov.inside
-right-inside (in_hybrid_piece i piece v1 zeros b o r w) = right-inside r
+right-inside (in_hybrid_piece i piece v1 _ b o r w) = right-inside r
 
 -- WHAT A MARK PROMISES: the bytes judged were right then,
 pub right-then : {j : ℕ} {c : Call} {u s t : List ℕ} {h : Steps s t} → JudgedBy j c u t h → RightFor u j c

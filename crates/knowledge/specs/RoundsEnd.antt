@@ -199,6 +199,7 @@ module _ (s t : List ℕ) (f : Facts s) (g : Grown s t) where
   unfolding done_among
   done-one-more m (k ∷ L) first a b = omega (arith, done_more L, ap one_if a, ap one_if b)
   done-one-more m (k ∷ L) (later i) a b = omega (arith, done-one-more m L i a b, bit-less (done_in s k) (done_in t k) (done_on k))
+  done-one-more m [] x3 a b = elim x3 [ ]
 
 -- ---- the rounds end
 
@@ -276,6 +277,7 @@ module _ (M : MessageSet) (s : List ℕ) where
   unfolding offer_all offers
   offered-once (k ∷ L) b m first = last (offers L (λ k i. b k (later i))) (b m first) (λ x. absurd x)
   offered-once (k ∷ L) b m (later i) = before (call (take k (b k first)) (λ x. absurd x)) (offered-once L (λ k j. b k (later j)) m i)
+  offered-once [] b m x' = elim x' [ ]
 
 -- each message of a list offered once is a whole round of any set that has these messages and no others
 pub round-of : (M : MessageSet) (L : List (List ℕ)) → ((m : List ℕ) → Among m L → Bytes m) → ((m : List ℕ) → M m ↔ Among m L) → (s : List ℕ) → Round M s (offer_all L s)

@@ -56,6 +56,7 @@ module _ (h : ℕ) (R : Hashes) where
   unfolding fixed_in
   stands-settled (e ∷ L) f l i v first = (f e here).settles
   stands-settled (e ∷ L) f l i v (later x) = stands-settled L (λ g y. f g (there y)) l i v x
+  stands-settled [] f l i v x' = elim x' [ ]
 
   -- by an entry at its number
   stands-entry : (L : List Entry) (f : (e : Entry) → In e L → Found h R e.at e.hash) (l i : ℕ) (v : List ℕ) → Stands l i v (fixed_in L f)
@@ -63,6 +64,7 @@ module _ (h : ℕ) (R : Hashes) where
   unfolding fixed_in
   stands-entry (e ∷ L) f l i v first = (e, here, (f e here).number)
   stands-entry (e ∷ L) f l i v (later x) = let w = stands-entry L (λ g y. f g (there y)) l i v x in (w.0, there w.1, w.2)
+  stands-entry [] f l i v x' = elim x' [ ]
 
   -- and every entry's position stands among them
   entry-stands : (L : List Entry) (f : (e : Entry) → In e L → Found h R e.at e.hash) (l i : ℕ) → l ≤ h → i < 2 ^ (h - l)
@@ -73,6 +75,7 @@ module _ (h : ℕ) (R : Hashes) where
       let d = node-number-distinct h l i S.l S.i a S.low b S.inside (sym q ∙ S.number) in
       rw (← d.0, ← d.1) first
   entry-stands (g ∷ L) f l i a b e (there x) q = later (entry-stands L (λ k y. f k (there y)) l i a b e x q)
+  entry-stands [] f l i a b e x4 q = elim x4 [ ]
 
   fixed-distinct : (L : List Entry) (f : (e : Entry) → In e L → Found h R e.at e.hash) → Apart L → Distinct (fixed_in L f)
   unfolding fixed_in

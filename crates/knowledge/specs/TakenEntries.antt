@@ -98,6 +98,7 @@ lacking-less : (s : List ℕ) (L : List Entry) (q : ℕ) (v : List ℕ) → Has 
 unfolding lacking
 lacking-less s (e ∷ L) q v here h = omega (arith, lacks-held s q h, lacking-most s L)
 lacking-less s (e ∷ L) q v (there i) h = omega (arith, lacks-small s e.at, lacking-less s L q v i h)
+lacking-less s [] q v x'' h = elim x'' [ ]
 
 module _ (s m : List ℕ) (z : take_number s m ≡ 0) where
   -- the count of a taken message: the settled positions that were not held

@@ -1,5 +1,6 @@
 // The boundary to the host program: include/kombudeva.h says what each function answers.
 // Each passes its arguments on to the crate that decides, and hands back the answer as a C struct.
+#![tactic(auto)]
 ghost use Rattle.std.specs.Prelude.{◌≡◌, []};
 ghost use Rattle.sha256.specs.Answer.{hashed_of};
 ghost use Rattle.sha_1.specs.Answer.{sha1_of};
@@ -48,21 +49,21 @@ pub const VERSION: u32 = 15000;
 
 // kd_hash
 #[repr(C)]
-#[derive(Drop)]
+#[derive(Clone, Copy)]
 pub struct Hash {
     pub bytes: [u8; 32],
 }
 
 // kd_sha1_hash
 #[repr(C)]
-#[derive(Drop)]
+#[derive(Clone, Copy)]
 pub struct Sha1Hash {
     pub bytes: [u8; 20],
 }
 
 // kd_answer
 #[repr(C)]
-#[derive(Drop)]
+#[derive(Clone, Copy)]
 pub struct CountAnswer {
     pub number: u32,
     pub count: u64,
@@ -70,7 +71,7 @@ pub struct CountAnswer {
 
 // kd_hashed
 #[repr(C)]
-#[derive(Drop)]
+#[derive(Clone, Copy)]
 pub struct HashAnswer {
     pub number: u32,
     pub hash: Hash,
@@ -78,7 +79,7 @@ pub struct HashAnswer {
 
 // kd_facts_answer
 #[repr(C)]
-#[derive(Drop)]
+#[derive(Clone, Copy)]
 pub struct FactsAnswer {
     pub number: u32,
     pub length: u64,
@@ -88,7 +89,7 @@ pub struct FactsAnswer {
 
 // kd_torrent
 #[repr(C)]
-#[derive(Drop)]
+#[derive(Clone, Copy)]
 pub struct TorrentAnswer {
     pub number: u32,
     pub info_hash: Hash,
@@ -98,7 +99,7 @@ pub struct TorrentAnswer {
 
 // kd_file
 #[repr(C)]
-#[derive(Drop)]
+#[derive(Clone, Copy)]
 pub struct FileAnswer {
     pub number: u32,
     pub length: u64,
@@ -110,7 +111,7 @@ pub struct FileAnswer {
 
 // kd_part
 #[repr(C)]
-#[derive(Drop)]
+#[derive(Clone, Copy)]
 pub struct PartAnswer {
     pub number: u32,
     pub start: u64,
@@ -119,7 +120,7 @@ pub struct PartAnswer {
 
 // kd_hybrid
 #[repr(C)]
-#[derive(Drop)]
+#[derive(Clone, Copy)]
 pub struct HybridAnswer {
     pub number: u32,
     pub hybrid: u32,
@@ -128,7 +129,7 @@ pub struct HybridAnswer {
 
 // kd_v1_piece
 #[repr(C)]
-#[derive(Drop)]
+#[derive(Clone, Copy)]
 pub struct V1PieceAnswer {
     pub number: u32,
     pub hash: Sha1Hash,
@@ -137,7 +138,7 @@ pub struct V1PieceAnswer {
 
 // kd_v1_part
 #[repr(C)]
-#[derive(Drop)]
+#[derive(Clone, Copy)]
 pub struct V1PartAnswer {
     pub number: u32,
     pub start: u64,

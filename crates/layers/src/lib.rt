@@ -1,5 +1,6 @@
 // The piece layers of a torrent: where their keys stand, a layer found by its root, and whether it is what its file needs. `layers` is the
 // part of the torrent that the value of `piece layers` is, `tree` the part that `file tree` is.
+#![tactic(auto)]
 ghost use Rattle.std.specs.Prelude.{◌≡◌, true, ◌&&◌, ◌+◌, ◌*◌, ◌-◌, ◌≤◌, ◌<◌, take, eqb};
 ghost use Rattle.std.proofs.Math.ListN as L;
 ghost use Rattle.limits.specs.Limits.{longest_file, largest_torrent};
@@ -90,7 +91,7 @@ fn of_layer(
 }
 
 // What the layers are judged by: how many keys there are, the piece length, the padding value of the piece layer, and the number so far.
-#[derive(Drop)]
+#[derive(Clone, Copy)]
 pub struct Judging {
     pub count: usize,
     pub plen: usize,
@@ -99,7 +100,7 @@ pub struct Judging {
 }
 
 // The position past a directory and the number then; or something in it is wrong.
-#[derive(Drop)]
+#[derive(Clone, Copy)]
 pub enum Numbered {
     Past { next: usize, number: u32 },
     WrongTree,

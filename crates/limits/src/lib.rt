@@ -1,4 +1,5 @@
 // How large things may be (documents 01 and 02). Each limit stands here once for the code, and once in specs/Limits for the contracts.
+#![tactic(auto)]
 
 // The longest file, in bytes.
 pub const LONGEST_FILE: usize = 17179869184;

@@ -1,1 +1,2 @@
 // No code: what a logged history is to a store.
+#![tactic(auto)]

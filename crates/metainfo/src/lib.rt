@@ -1,4 +1,5 @@
 // A torrent's keys (BEP 52), and the numbers 19 to 24: too large, not strict, a key missing, another version, another piece length.
+#![tactic(auto)]
 ghost use Rattle.std.specs.Prelude.{◌≡◌, drop};
 ghost use Rattle.bencode.specs.Parts.{find_key};
 ghost use Rattle.metainfo.specs.Metainfo.{dictionary_in, integer_in, no_part, no_keys, right_keys, info_keys, dictionary_keys, keys_of, metainfo_of};
@@ -13,14 +14,14 @@ use tree::geometry::is_piece_length;
 pub const VERSION: usize = 2;
 
 // A part of the torrent, start..end.
-#[derive(Drop)]
+#[derive(Clone, Copy)]
 pub struct Part {
     pub start: usize,
     pub end: usize,
 }
 
 // 0, the piece length, and the parts that the values of `info`, its `file tree` and `piece layers` are. Beside a refusal all are zero.
-#[derive(Drop)]
+#[derive(Clone, Copy)]
 pub struct Keys {
     pub number: u32,
     pub plen: usize,

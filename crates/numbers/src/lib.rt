@@ -1,4 +1,5 @@
 // The numbers given back, by name, and the answer that carries one. Document 01's table says when each is given.
+#![tactic(auto)]
 ghost use Rattle.std.specs.Prelude.{◌≡◌};
 ghost use Rattle.numbers.specs.Numbers.{refused, done, judged};
 
@@ -57,7 +58,7 @@ pub const HALVES_DIFFER: u32 = 31;
 pub const NOT_SAVED: u32 = 32;
 
 // A number, and beside it the count of newly held positions or the reply's size.
-#[derive(Drop)]
+#[derive(Clone, Copy)]
 pub struct Answer {
     pub number: u32,
     pub count: u64,

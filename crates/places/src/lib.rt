@@ -1,4 +1,5 @@
 // Pieces as they are counted on the wire: file by file in tree order, by the records of a torrent's list. An empty file has none.
+#![tactic(auto)]
 ghost use Rattle.std.specs.Prelude.{◌≡◌, true, ◌+◌, ◌*◌, ◌≤◌, length};
 ghost use Rattle.tree.specs.Geometry.{is_piece_length};
 ghost use Rattle.catalogue.specs.Catalogue.{record_size};
@@ -11,7 +12,7 @@ use tree::geometry::{is_piece_length, piece_count};
 
 // kd_placed: 0, the file's number and the piece's number in it; or a refusal beside zeros.
 #[repr(C)]
-#[derive(Drop)]
+#[derive(Clone, Copy)]
 pub struct Placed {
     pub number: u32,
     pub file: u64,

@@ -85,6 +85,7 @@ in_three (there (there (there i))) = absurd (no-entry i)
 among-some : {m : List ℕ} (L : List (List ℕ)) → Among m L → 1 ≤ length L
 among-some (k ∷ L) first = omega arith
 among-some (k ∷ L) (later i) = omega (arith, among-some L i)
+among-some {m = m} [] x' = elim x' [ ]
 
 none-among : {m : List ℕ} → Among m [] → ⊥
 none-among i = omega (arith, among-some [] i)

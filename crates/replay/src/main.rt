@@ -1,4 +1,5 @@
 // Replays a session: reads records from standard input to its end, in whatever pieces they come, and prints the lines that they give.
+#![tactic(auto)]
 ghost use Rattle.std.specs.Prelude.{◌≤◌, length};
 ghost use Rattle.session.specs.Session as S;
 

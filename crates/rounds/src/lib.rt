@@ -1,4 +1,5 @@
 // FIPS 180-4, section 6.2.2: the message schedule and the rounds of one block.
+#![tactic(auto)]
 ghost use Rattle.std.specs.Prelude.{◌≡◌, ℕ, ◌+◌, ◌*◌, ◌<◌, ◌≤◌, List, length, take, drop, set};
 ghost use Rattle.bits.specs.Parsing.{words};
 ghost use Rattle.rounds.specs.Block as S;
@@ -9,7 +10,7 @@ ghost use Rattle.rounds.specs.declared.State as D;
 use bits::{add, big0, big1, ch, maj, small0, small1, word};
 
 // The eight working words.
-#[derive(Drop)]
+#[derive(Clone, Copy)]
 pub struct State {
     pub a: u32,
     pub b: u32,

@@ -1,4 +1,5 @@
 // FIPS 180-4, section 6.1.2: SHA-1's message schedule and the rounds of one block.
+#![tactic(auto)]
 ghost use Rattle.std.specs.Prelude.{◌≡◌, ℕ, ◌+◌, ◌*◌, ◌<◌, ◌≤◌, List, length, take, drop, set};
 ghost use Rattle.bits.specs.Parsing.{words};
 ghost use Rattle.rounds1.specs.Block as S;
@@ -8,7 +9,7 @@ ghost use Rattle.rounds1.specs.declared.Five as D;
 use bits::{add, ch, maj, parity, rotl, word};
 
 // The five working words.
-#[derive(Drop)]
+#[derive(Clone, Copy)]
 pub struct Five {
     pub a: u32,
     pub b: u32,

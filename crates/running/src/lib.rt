@@ -1,4 +1,5 @@
 // SHA-256 of bytes that come in bursts. A state goes in by value, and comes back after each burst.
+#![tactic(auto)]
 ghost use Rattle.std.specs.Prelude.{◌≡◌, [], ◌+◌, ◌<◌, ◌%◌, ◌^◌, length};
 ghost use Rattle.running.specs.Bursts as B;
 
@@ -8,7 +9,7 @@ use sha256::Hashed;
 
 // kd_hashing: the words after the whole blocks so far, the bytes past those, how many these are, and how many bytes came in all.
 #[repr(C)]
-#[derive(Drop)]
+#[derive(Clone, Copy)]
 pub struct Hashing {
     pub words: [u32; 8],
     pub tail: [u8; 64],
@@ -18,7 +19,7 @@ pub struct Hashing {
 
 // kd_hashing_answer: a number, and the state after the burst; beside a refusal the state as it was given.
 #[repr(C)]
-#[derive(Drop)]
+#[derive(Clone, Copy)]
 pub struct HashingAnswer {
     pub number: u32,
     pub hashing: Hashing,

@@ -100,6 +100,7 @@ data InBlocks (x : ℕ) : List ℕ → Type 0 where
 in-front : {x : ℕ} (A B : List ℕ) → InBlocks x A → InBlocks x (A ++ B)
 in-front (y ∷ A) B here = here
 in-front (y ∷ A) B (there i) = there (in-front A B i)
+in-front [] B x'' = elim x'' [ ]
 
 in-back : {x : ℕ} (A B : List ℕ) → InBlocks x B → InBlocks x (A ++ B)
 in-back [] B i = i
@@ -113,6 +114,7 @@ in_either (y ∷ A) B (there i) = elim (in_either A B i) [ inl a ↦ inl (there 
 in-length : {x : ℕ} (L : List ℕ) → InBlocks x L → 1 ≤ length L
 in-length (y ∷ L) here = omega arith
 in-length (y ∷ L) (there i) = omega (arith, in-length L i)
+in-length [] x'' = elim x'' [ ]
 
 alone : (x y : ℕ) → InBlocks x (y ∷ []) → x ≡ y
 alone x y here = refl

@@ -68,6 +68,7 @@ data InPlaces (x : Place) : List Place → Type 0 where
 in-front : {x : Place} (A B : List Place) → InPlaces x A → InPlaces x (A ++ B)
 in-front (y ∷ A) B here = here
 in-front (y ∷ A) B (there i) = there (in-front A B i)
+in-front [] B x'' = elim x'' [ ]
 
 in-back : {x : Place} (A B : List Place) → InPlaces x B → InPlaces x (A ++ B)
 in-back [] B i = i
@@ -81,6 +82,7 @@ in_either (y ∷ A) B (there i) = elim (in_either A B i) [ inl a ↦ inl (there 
 in-length : {x : Place} (L : List Place) → InPlaces x L → 1 ≤ length L
 in-length (y ∷ L) here = omega arith
 in-length (y ∷ L) (there i) = omega (arith, in-length L i)
+in-length [] x'' = elim x'' [ ]
 
 module _ (s : List ℕ) (f : Facts s) (bytes : (i : ℕ) → get_or s i 0 < 256) (h : ℕ) (eh : h ≡ height_of s) where
   hash-octets : (l i : ℕ) → i < 2 ^ (h - l) → Octets 32 (hash_at s (node_number h l i))

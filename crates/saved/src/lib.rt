@@ -1,4 +1,5 @@
 // A store saved, loaded and repaired.
+#![tactic(auto)]
 pub mod chain;
 pub mod form;
 pub mod load;

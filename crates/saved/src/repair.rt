@@ -144,7 +144,7 @@ fn mend(store: &mut [u8], bytes: &[u8], height: usize, blocks: usize, places: us
 
 // kd_repaired: a number, and beside 0 how many positions were dropped and how many are held.
 #[repr(C)]
-#[derive(Drop)]
+#[derive(Clone, Copy)]
 pub struct Repaired {
     pub number: u32,
     pub dropped: u64,

@@ -1,4 +1,5 @@
 // The replay of a session: records come in byte by byte, in pieces of any size, and each opening and each message's end gives a line.
+#![tactic(auto)]
 ghost use Rattle.std.specs.Prelude.{◌≡◌, true, ◌+◌, ◌≤◌, ◌<◌, length, take, replicate};
 ghost use Rattle.numbers.specs.Numbers.{refused};
 ghost use Rattle.session.specs.Session as S;
@@ -8,7 +9,7 @@ use numbers::{Answer, refusal};
 use tree::geometry::block_count;
 
 // Where a session stands. In a body: how many bytes are to come after the next one.
-#[derive(Drop)]
+#[derive(Clone, Copy)]
 pub enum Phase {
     // nothing opened yet
     Fresh,
@@ -24,27 +25,27 @@ pub enum Phase {
 }
 
 // The phase, and how many bytes of the opening or message are gathered in the lent room.
-#[derive(Drop)]
+#[derive(Clone, Copy)]
 pub struct Progress {
     pub phase: Phase,
     pub at: usize,
 }
 
 // What is to be printed.
-#[derive(Drop)]
+#[derive(Clone, Copy)]
 pub enum Line {
     Nothing,
     Answered(Answer),
 }
 
-#[derive(Drop)]
+#[derive(Clone, Copy)]
 pub struct Stepped {
     pub progress: Progress,
     pub line: Line,
 }
 
 // What a piece of the input gives: the line that its first `used` bytes end with, if there is one.
-#[derive(Drop)]
+#[derive(Clone, Copy)]
 pub struct Part {
     pub progress: Progress,
     pub used: usize,

@@ -1,4 +1,5 @@
 // What a run of hashes, a piece's blocks and a path of uncles settle in a store: worked out, looked at, written.
+#![tactic(auto)]
 ghost use Rattle.std.specs.Prelude.{◌≡◌, ◌&&◌, ◌+◌, ◌*◌, ◌^◌, ◌≤◌, ◌<◌, length};
 ghost use Rattle.tree.specs.Values.{node, leaf_of};
 ghost use Rattle.heaps.specs.Heaps.{hash_in, Parents, Worked};
@@ -21,14 +22,14 @@ const ROOM_LAYERS: usize = 9;
 pub const ROOM_SIZE: usize = 32768;
 
 // The value at the top, and whether no held position on the way there differs from the values worked out.
-#[derive(Drop)]
+#[derive(Clone, Copy)]
 pub struct Seen {
     pub hash: [u8; 32],
     pub agrees: bool,
 }
 
 // The value at the top, and how many positions became held.
-#[derive(Drop)]
+#[derive(Clone, Copy)]
 pub struct Filled {
     pub hash: [u8; 32],
     pub new: u64,

@@ -1,4 +1,5 @@
 // SHA-256 (FIPS 180-4, section 6.2): the hash of a slice, and of a pair of hashes.
+#![tactic(auto)]
 ghost use Rattle.std.specs.Prelude.{◌≡◌, ◌/◌, ◌%◌, ◌++◌, length};
 ghost use Rattle.constants.specs.Constants.{K};
 ghost use Rattle.padding.specs.Padding as P;
@@ -11,7 +12,7 @@ ghost use Rattle.sha256.specs.Answer.{hashed_of};
 use rounds::{State, compress, compress_sums};
 
 // A hash, or the number that says why there is none.
-#[derive(Drop)]
+#[derive(Clone, Copy)]
 pub struct Hashed {
     pub number: u32,
     pub hash: [u8; 32],

@@ -1,4 +1,5 @@
 // SHA-1 (FIPS 180-4, section 6.1): the hash of a slice, and of a slice with zeros behind it; two hashes compared whole.
+#![tactic(auto)]
 ghost use Rattle.std.specs.Prelude.{◌≡◌, ◌+◌, ◌/◌, ◌%◌, ◌^◌, ◌<◌, ◌++◌, length, replicate};
 ghost use Rattle.octets.specs.Octets as O;
 ghost use Rattle.padding.specs.Padding as P;
@@ -11,7 +12,7 @@ use rounds1::{Five, compress};
 
 // A hash, or the number that says why there is none.
 #[repr(C)]
-#[derive(Drop)]
+#[derive(Clone, Copy)]
 pub struct Sha1Answer {
     pub number: u32,
     pub hash: [u8; 20],

@@ -1,4 +1,5 @@
 // The byte stream from a neighbour (BEP 3), cut anywhere. The state goes in and out by value, the frame under way stands in a lent room.
+#![tactic(auto)]
 ghost use Rattle.std.specs.Prelude.{◌≡◌, ◌+◌, ◌*◌, ◌^◌, ◌≤◌, ◌<◌, min, ltb, length};
 ghost use Rattle.stream.specs.Reading as R;
 ghost use Rattle.stream.specs.Standing.{Going};
@@ -6,7 +7,7 @@ ghost use Rattle.stream.specs.Steps as S;
 
 // The number that the prefix's bytes make so far, and how many of its 4 they are; bytes of the frame read; what is done with them.
 #[repr(C)]
-#[derive(Drop)]
+#[derive(Clone, Copy)]
 pub struct Stream {
     pub length: u32,
     pub length_size: u32,
@@ -16,7 +17,7 @@ pub struct Stream {
 
 // A number; what is heard; how many of the bytes given were used; a message's size; the state then.
 #[repr(C)]
-#[derive(Drop)]
+#[derive(Clone, Copy)]
 pub struct Heard {
     pub number: u32,
     pub event: u32,

@@ -27,7 +27,7 @@ use limits::LARGEST_TORRENT;
 use tree::geometry::piece_count;
 
 // Where the keys of a v1 half stand in `info`.
-#[derive(Drop)]
+#[derive(Clone, Copy)]
 pub struct HalfKeys {
     pub files: Found,
     pub length: Found,
@@ -114,7 +114,7 @@ fn is_there(found: Found) -> bool
 }
 
 // What `info` has for a key: nothing, a string's content, or a value that is no string.
-#[derive(Drop)]
+#[derive(Clone, Copy)]
 pub enum KeyString {
     NoKey,
     Text { start: usize, end: usize },

@@ -15,7 +15,7 @@ use sorting::distinct::once_each;
 use twins::{Compared, compare};
 
 // 0 with how many files there are, and how many layers; or 25 to 28.
-#[derive(Drop)]
+#[derive(Clone, Copy)]
 pub struct Judged {
     pub number: u32,
     pub files: usize,
@@ -23,7 +23,7 @@ pub struct Judged {
 }
 
 // The keys, with 0 or the number 19 to 28 or 31; and the counts, zeros beside a refusal.
-#[derive(Drop)]
+#[derive(Clone, Copy)]
 pub struct Checked {
     pub keys: Keys,
     pub files: usize,

@@ -17,7 +17,7 @@ use octets::hash_at;
 use tree::geometry::has_layer;
 
 // The file sought: its length, its root's position (0 if it is empty), and how many path elements it has.
-#[derive(Drop)]
+#[derive(Clone, Copy)]
 pub struct SoughtFile {
     pub length: usize,
     pub root: usize,
@@ -25,7 +25,7 @@ pub struct SoughtFile {
 }
 
 // The file; or the position past a directory, and how many files are still to pass; or something is wrong.
-#[derive(Drop)]
+#[derive(Clone, Copy)]
 pub enum Search {
     Here { place: SoughtFile },
     Past { next: usize, left: usize },

@@ -12,7 +12,7 @@ use bencode::scalar::ByteString;
 use filetree::path::PATH;
 
 // 0, the info hash, the piece length and how many files; or 19 to 28 or 31 beside zeros.
-#[derive(Drop)]
+#[derive(Clone, Copy)]
 pub struct Torrent {
     pub number: u32,
     pub hash: [u8; 32],
@@ -21,7 +21,7 @@ pub struct Torrent {
 }
 
 // 0 and a file: its length, its root, how many path elements, and its layer's part; or 19 to 29 or 31 beside zeros.
-#[derive(Drop)]
+#[derive(Clone, Copy)]
 pub struct FileRead {
     pub number: u32,
     pub length: usize,
@@ -32,7 +32,7 @@ pub struct FileRead {
 }
 
 // 0 and a part of the torrent; or 19 to 29 or 31 beside zeros.
-#[derive(Drop)]
+#[derive(Clone, Copy)]
 pub struct PartRead {
     pub number: u32,
     pub start: usize,

@@ -2,6 +2,7 @@
 // root once; a walk over the files notes at each root's place where the last file with that root stands, and compares the next one's
 // length with that file's. Each file is so read twice at most. Directories inside one another by recursion, with the levels left; nodes side by
 // side by a loop.
+#![tactic(auto)]
 ghost use Rattle.std.specs.Prelude.{◌≡◌, true, cond, ◌&&◌, ◌++◌, ◌+◌, ◌^◌, ◌≤◌, ◌<◌, drop, replicate, eqb};
 ghost use Rattle.std.proofs.Math.ListN as L;
 ghost use Rattle.limits.specs.Limits.{largest_torrent};
@@ -20,14 +21,14 @@ use sorting::halving::search;
 use tree::geometry::has_layer;
 
 // How many layers the files have, one for each root of those longer than the piece length; or two with one root differ in length.
-#[derive(Drop)]
+#[derive(Clone, Copy)]
 pub enum Compared {
     Agree { layered: usize },
     Differ,
 }
 
 // The position past a directory, and how many layers the files up to there have; or two with one root differ in length.
-#[derive(Drop)]
+#[derive(Clone, Copy)]
 pub enum Noted {
     Past { next: usize, layered: usize },
     Unlike,

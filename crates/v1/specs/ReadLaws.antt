@@ -130,7 +130,7 @@ module _ (s : List ℕ) (base plen start len all : ℕ) (t : Stands (length s) b
       → (hash : List ℕ) → hash ≡ cut s (base + 20 * (start / plen + i)) 20 → (zeros : ℕ) → zeros ≡ zeros_behind plen all (start + i * plen) (len - i * plen)
       → ◌≡◌ {A = V1Piece} (record { number = 0; hash = hash; zeros = zeros }) (piece_of pieces plen (record { start = start; length = len; total = all }) i)
   unfolding v1_hash_at
-  piece-done n e l pieces c m hash eh zeros ez =
+  piece-done n e l pieces c m hash eh _ ez =
       let h : i < piece_count len plen = omega arith in
       let g : hash ≡ cut pieces (20 * (start / plen + i)) 20 =
       eh ∙ sym (cut-cut s base (length pieces) (20 * (start / plen + i)) 20 (omega (arith, piece-among (length s) base plen start len all t i h))) ∙ ap (λ (p : List ℕ). cut p (20 * (start / plen + i)) 20) c in
@@ -153,7 +153,7 @@ module _ (size base plen start len all : ℕ) (t : Stands size base plen start l
 
     pub part-done : (n : ℕ) → n ≡ piece_count len plen → (zeros : ℕ) → zeros ≡ zeros_behind plen all (start + (n - 1) * plen) (len - (n - 1) * plen)
         → ◌≡◌ {A = V1Part} (record { number = 0; start = base + 20 * (start / plen); size = 20 * n; zeros = zeros }) (part_of base plen (record { start = start; length = len; total = all }))
-    part-done n e zeros ez = rw (ne_eqb len 0 ne, ez, e) refl
+    part-done n e _ ez = rw (ne_eqb len 0 ne, ez, e) refl
 
 -- ---- the calls
 

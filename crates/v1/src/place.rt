@@ -7,7 +7,7 @@ ghost use Rattle.v1.specs.Place.{spot_of, Fitting, is_sought, left_behind};
 use hybrid::{MOST_BYTES, V1Token, read_v1};
 
 // Where a file begins among the bytes of all entries, padding included, and its length.
-#[derive(Drop)]
+#[derive(Clone, Copy)]
 pub struct Spot {
     pub start: usize,
     pub length: usize,

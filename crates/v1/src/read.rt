@@ -20,7 +20,7 @@ use torrent::check::check;
 use tree::geometry::piece_count;
 
 // 0, whether the torrent is hybrid, 1 or 0, and its v1 info hash; or 19 to 28 or 31. Beside a refusal and beside 0 all is zero.
-#[derive(Drop)]
+#[derive(Clone, Copy)]
 pub struct HybridRead {
     pub number: u32,
     pub hybrid: u32,
@@ -28,7 +28,7 @@ pub struct HybridRead {
 }
 
 // 0, the v1 hash of a piece, and how many zeros behind the piece it covers; or 19 to 29, 31 or 3 beside zeros.
-#[derive(Drop)]
+#[derive(Clone, Copy)]
 pub struct V1Piece {
     pub number: u32,
     pub hash: [u8; 20],
@@ -37,7 +37,7 @@ pub struct V1Piece {
 
 // 0, the part of the torrent that the v1 hashes of a file's pieces are, and how many zeros the last of them covers; or 19 to 29, 31 or 3
 // beside zeros.
-#[derive(Drop)]
+#[derive(Clone, Copy)]
 pub struct V1Part {
     pub number: u32,
     pub start: usize,
@@ -46,7 +46,7 @@ pub struct V1Part {
 }
 
 // A file in the v1 half: where it begins among the bytes of all entries, its length, and how many bytes these are.
-#[derive(Drop)]
+#[derive(Clone, Copy)]
 pub struct V1File {
     pub start: usize,
     pub length: usize,

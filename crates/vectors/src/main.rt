@@ -1,4 +1,5 @@
 // The vectors published with FIPS 180-4, run through the boundary: each line is the number and the hash in hex, SHA-256 and then SHA-1.
+#![tactic(auto)]
 ghost use Rattle.std.specs.Prelude.{◌≡◌, length};
 
 use libc::STDOUT_FILENO;

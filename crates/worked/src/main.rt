@@ -1,5 +1,6 @@
 // Cases worked by hand in document 01, on a file of five blocks (block i is 16,384 times the byte i + 1): the session, and
 // the cases that are not proved; and long runs in a tall tree. Each line is a number and a count.
+#![tactic(auto)]
 use kombudeva::{CountAnswer, Hash};
 use libc::STDOUT_FILENO;
 

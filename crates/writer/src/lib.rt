@@ -1,5 +1,6 @@
 // A torrent written of a list of files. Everything is worked out before the first byte is written: the list's form, the size of the
 // torrent, its number, the room. The files are sorted by the positions of their records, on the stack.
+#![tactic(auto)]
 ghost use Rattle.std.specs.Prelude.{◌≡◌, ◌≤◌, length};
 ghost use Rattle.octets.specs.Octets.{pasted};
 ghost use Rattle.writer_meaning.specs.Content.{item_before};
@@ -17,7 +18,7 @@ use writer_order::sort::{place, sort};
 use writer_output::whole::{MOST_FILES, info_size, put_info, put_rest, rest_size, too_many};
 
 // What is worked out of a list before a byte is written: its number, the size of its torrent.
-#[derive(Drop)]
+#[derive(Clone, Copy)]
 pub struct Measured {
     pub number: u32,
     pub size: usize,

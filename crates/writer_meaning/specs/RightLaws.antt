@@ -1,7 +1,7 @@
 -- Only the tree of files that can be written is right: each path's elements are, each file is, and no path leads to, or through, where
 -- the next one ends.
 -- Assumes nothing.
-use Rattle.std.specs.Prelude.{◌≡◌, Bool, false, ◌⊎◌, ℕ}
+use Rattle.std.specs.Prelude.{◌≡◌, Bool, false, ◌&&◌, ◌⊎◌, ℕ}
 use Rattle.std.proofs.Math.Path.{refl, ap}
 use Rattle.std.proofs.Common.{sym, ◌∙◌, inl, inr}
 use Rattle.std.proofs.Math.Bool.{true, false≢true, and-eq-true_iff}
@@ -149,8 +149,11 @@ was-last e v es below beside (fresh _ d) f b r h k =
     file-of q = unfold branch_right in q
 was-last e v es below beside (joined ds rest) f b r h k = absurd (nobody (begun-below e ds rest f b))
   where
+    both-of : (xs : Entries) → branch_right (entry [] v xs) ≡ true → (no_more xs && file_right v) ≡ true
+    both-of xs q = unfold branch_right in q
+
     none_below : ds ≡ no_entries
-    none_below = no-more ds ((and-eq-true_iff (no_more ds) (file_right v)).0 (unfold branch_right in h)).0
+    none_below = no-more ds ((and-eq-true_iff (no_more ds) (file_right v)).0 (both-of ds h)).0
 
     nobody : ((s : List (List ℕ)) × Leads s ds × AllFull s) → ⊥
     nobody w = leads-some w.0 (rw none_below at w.1)

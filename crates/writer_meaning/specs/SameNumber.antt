@@ -194,6 +194,9 @@ module _ (plen : ℕ) (name : List ℕ) (xs : List Item) (k : Plain plen xs) whe
   no-files : tree_of_all [] ≡ no_entries
   no-files = unfold tree_of_all in refl
 
+  empty-full : PathFull [] → ⊥
+  empty-full f = unfold PathFull in f
+
   wrong-not : (TooDeep xs → ⊥) → tree_right (tree_of (torrent_of plen name xs)) ≡ true → WrongFiles xs → ⊥
   wrong-not d e = refute
     where
@@ -220,9 +223,6 @@ module _ (plen : ℕ) (name : List ℕ) (xs : List Item) (k : Plain plen xs) whe
           let f = (tree-facts (tree_of_all (in_tree_order xs)) tree_levels (tree-yes (tree_of_all (in_tree_order xs)) tree-test) (tree-of-strict plen name xs (strict-if d))).0.pairs in
           let p : Pairs (map file_written (in_tree_order xs)) = rw files at f in
           meet-permuted xs (in_tree_order xs) perm ∙ pairs-apart (in_tree_order xs) p
-
-      empty-full : PathFull [] → ⊥
-      empty-full f = unfold PathFull in f
 
       refute : WrongFiles xs → ⊥
       refute (no-file z) = nodes.1 (ap (λ (us : List Item). tree_of_all (in_tree_order us)) z ∙ none_of)

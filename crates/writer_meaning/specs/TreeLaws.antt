@@ -185,14 +185,20 @@ step-more pre e f p v es below beside (joined ds rest) r q h free more = (b.1, (
     b : (node_right (dictionary ds) ≡ true) × (nodes_right rest ≡ true)
     b = nodes-of e (dictionary ds) rest h
 
+    is-branch : (xs : Entries) → node_right (dictionary xs) ≡ true → branch_right xs ≡ true
+    is-branch xs n = unfold node_right in n
+
     w : FreeBelow (f ∷ p) ds
     w = free-below e (f ∷ p) ds rest free
 
     g : Grew (pre ++ e ∷ []) (f ∷ p) v ds
-    g = more ds (nodes-below w.0 f p ds w.1 w.2 w.4 (unfold node_right in b.0)) (inr w)
+    g = more ds (nodes-below w.0 f p ds w.1 w.2 w.4 (is-branch ds b.0)) (inr w)
 
     files : files_of_entries pre (entry e (dictionary ds) rest) ≡ files_of_entries (pre ++ e ∷ []) ds ++ files_of_entries pre rest
-    files = files-first e (dictionary ds) rest pre r ∙ unfold files_of_node in refl
+    files = files-first e (dictionary ds) rest pre r ∙ of-node (pre ++ e ∷ []) ds (files_of_entries pre rest)
+      where
+        of-node : (q : List (List ℕ)) (xs : Entries) (more : List File) → files_of_node q (dictionary xs) ++ more ≡ files_of_entries q xs ++ more
+        of-node q xs more = unfold files_of_node in refl
 
 grew-step : (pre : List (List ℕ)) (e : List ℕ) (p : List (List ℕ)) (v : Value) (es : Entries) (n : FirstNode e p v es) → element_right e ≡ true → Step pre e p v es n.below n.beside → Grew pre (e ∷ p) v es
 grew-step pre e p v es n r s =

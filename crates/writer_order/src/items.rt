@@ -101,7 +101,7 @@ fn misfits(list: &[u8], text: &[u8], plen: usize, p: usize) -> bool
 }
 
 // One of the three tests.
-#[derive(Drop)]
+#[derive(Clone, Copy)]
 pub enum Test {
     Deep,
     Wrong,
