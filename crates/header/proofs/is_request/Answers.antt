@@ -1,0 +1,8 @@
+use Rattle.header.proofs.Rules.{request-other, request-sized}
+use Rattle.header.proofs.is_request.Goals as goal
+
+pub returns-then-message-ne-HEADER_SIZE : goal.returns-then-message-ne-HEADER_SIZE
+returns-then-message-ne-HEADER_SIZE c = request-other c.args.message.now c.if-message-ne-HEADER_SIZE.true
+
+pub returns : goal.returns
+returns c = request-sized c.args.message.now c.if-message-ne-HEADER_SIZE.false

@@ -1,0 +1,11 @@
+use Rattle.std.proofs.Common.{sym, ◌∙◌}
+use Rattle.history.specs.Answers.{no_history}
+use Rattle.history.specs.AnswersLaws.{begin-done, begin-refused}
+use Rattle.history.proofs.begin.Goals as goal
+
+pub returns-then-is_piece_length : goal.returns-then-is_piece_length
+returns-then-is_piece_length c = begin-done c.args.plen c.begin.result (sym c.is_piece_length.ensures ∙ c.if-is_piece_length.true) c.begin.ensures
+
+pub returns : goal.returns
+unfolding no_history
+returns c = begin-refused c.args.plen (sym c.is_piece_length.ensures ∙ c.if-is_piece_length.false)

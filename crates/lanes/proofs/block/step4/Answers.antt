@@ -1,0 +1,18 @@
+-- Four rounds in a row, from the state taken out of the lane to the state put back.
+-- Assumes nothing.
+use Rattle.rounds.specs.Sums.{sums}
+use Rattle.lanes.specs.Lanes.{lane}
+use Rattle.lanes.specs.LanesLaws.{four-steppings}
+use Rattle.lanes.proofs.block.step4.Goals as goal
+
+pub returns : goal.returns
+returns c = let a = c.args in
+    let s₀ = c.lane_of-s0 in
+    let s₁ = c.step-s1 in
+    let s₂ = c.step-s2 in
+    let s₃ = c.step-s3 in
+    let s₄ = c.step-s4 in (
+      rw (c.put_lane.ensures.0, ← s₀.ensures)
+          (four-steppings (sums 64 a.k.now (lane 64 a.w.now a.j)) s₀.result s₁.result s₂.result s₃.result s₄.result a.i s₁.ensures s₂.ensures s₃.ensures s₄.ensures),
+      c.put_lane.ensures.1,
+    )

@@ -1,0 +1,69 @@
+-- Each way out is one case of the definition; head and leaves are put one behind the other.
+use Rattle.std.proofs.Common.{arith, sym, ◌∙◌}
+use Rattle.leaves.proofs.Writing.{not_right, long, low, count-is, index-fits, none_told, too_short, all-put}
+use Rattle.leaves.proofs.piece_hashes.Goals as goal
+
+pub returns-then-number-ne-DONE : goal.returns-then-number-ne-DONE
+returns-then-number-ne-DONE c = let a = c.args in
+    not_right a.store.now a.piece a.bytes.now a.out.now _ c.piece_number-number.ensures c.if-number-ne-DONE.true _ c.refusal.ensures
+
+pub piece_height-k-requires : goal.piece_height-k-requires
+piece_height-k-requires c = let a = c.args in
+    let z = sym c.piece_number-number.ensures ∙ c.if-number-ne-DONE.false in
+    long a.store.now a.piece a.bytes.now z
+
+pub returns-then-k-eq0 : goal.returns-then-k-eq0
+returns-then-k-eq0 c = let a = c.args in
+    let z = sym c.piece_number-number.ensures ∙ c.if-number-ne-DONE.false in
+    none_told a.store.now a.piece a.bytes.now z a.out.now (sym c.piece_height-k.ensures ∙ c.if-k-eq0.true) _ c.success.ensures
+
+pub overflow_shl-c : goal.overflow_shl-c
+overflow_shl-c c = let a = c.args in
+    let z = sym c.piece_number-number.ensures ∙ c.if-number-ne-DONE.false in
+    omega (arith, c.piece_height-k.ensures, low a.store.now a.piece a.bytes.now z)
+
+pub overflow_mul-size : goal.overflow_mul-size
+overflow_mul-size c = let a = c.args in
+    let z = sym c.piece_number-number.ensures ∙ c.if-number-ne-DONE.false in
+    let e = count-is a.store.now a.piece a.bytes.now z _ c.piece_height-k.ensures in
+    let f = index-fits a.store.now a.piece a.bytes.now z _ e in
+    omega (arith, f)
+
+pub overflow_add-size : goal.overflow_add-size
+overflow_add-size c = let a = c.args in
+    let z = sym c.piece_number-number.ensures ∙ c.if-number-ne-DONE.false in
+    let e = count-is a.store.now a.piece a.bytes.now z _ c.piece_height-k.ensures in
+    let f = index-fits a.store.now a.piece a.bytes.now z _ e in
+    omega (arith, f)
+
+pub returns-then-out-size : goal.returns-then-out-size
+returns-then-out-size c = let a = c.args in
+    let z = sym c.piece_number-number.ensures ∙ c.if-number-ne-DONE.false in
+    let e = count-is a.store.now a.piece a.bytes.now z _ c.piece_height-k.ensures in
+    too_short a.store.now a.piece a.bytes.now z (λ y. c.if-k-eq0.false (c.piece_height-k.ensures ∙ y)) a.out.now (omega (arith, e, c.if-out-size.true)) _ c.refusal-then-out-size.ensures
+
+pub facts_root-root-requires : goal.facts_root-root-requires
+facts_root-root-requires c = let a = c.args in
+    let z = sym c.piece_number-number.ensures ∙ c.if-number-ne-DONE.false in
+    long a.store.now a.piece a.bytes.now z
+
+pub overflow_mul-index : goal.overflow_mul-index
+overflow_mul-index c = let a = c.args in
+    let z = sym c.piece_number-number.ensures ∙ c.if-number-ne-DONE.false in
+    let e = count-is a.store.now a.piece a.bytes.now z _ c.piece_height-k.ensures in
+    let f = index-fits a.store.now a.piece a.bytes.now z _ e in
+    omega (arith, f)
+
+pub put_leaves-requires : goal.put_leaves-requires
+put_leaves-requires c = omega (arith, c.put_head.auto.out, c.if-out-size.false)
+
+pub shape_of-out : goal.shape_of-out
+shape_of-out c = c.put_leaves.auto.out ∙ c.put_head.auto.out
+
+pub returns : goal.returns
+returns c = let a = c.args in
+    let z = sym c.piece_number-number.ensures ∙ c.if-number-ne-DONE.false in
+    let k = c.piece_height-k.ensures in
+    let e = count-is a.store.now a.piece a.bytes.now z _ k in
+    all-put a.store.now a.piece a.bytes.now z (λ y. c.if-k-eq0.false (k ∙ y)) a.out.now _ e (omega (arith, c.if-out-size.false)) _ _ _
+    c.facts_root-root.ensures c.put_head.ensures c.put_leaves.ensures _ c.success-2.ensures

@@ -1,0 +1,15 @@
+use Rattle.std.proofs.Common.{arith, sym, ◌∙◌}
+use Rattle.places.specs.PlacesLaws.{list-parts, list-not-whole, list-too-many}
+use Rattle.places.proofs.list_right.Goals as goal
+
+pub returns-then-list-ne0 : goal.returns-then-list-ne0
+returns-then-list-ne0 c = sym (list-not-whole _ c.if-list-ne0.true)
+
+pub returns-then-files-gt-LARGEST_TORRENT : goal.returns-then-files-gt-LARGEST_TORRENT
+returns-then-files-gt-LARGEST_TORRENT c = sym (list-too-many _ c.if-list-ne0.false c.if-files-gt-LARGEST_TORRENT.true)
+
+pub lengths_right-requires : goal.lengths_right-requires
+lengths_right-requires c = omega arith
+
+pub returns : goal.returns
+returns c = c.lengths_right.ensures ∙ sym (list-parts _ c.if-list-ne0.false (omega (arith, c.if-files-gt-LARGEST_TORRENT.false)))

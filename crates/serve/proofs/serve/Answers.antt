@@ -1,0 +1,54 @@
+-- Each way out is one case of the definition; a request that is answered has its header's bytes.
+use Rattle.std.proofs.Common.{arith, refl, ap, sym, ◌∙◌}
+use Rattle.store.specs.Store.{height_of}
+use Rattle.header.specs.Header.{place_of}
+use Rattle.header.specs.declared.Header.{Header}
+use Rattle.numbers.specs.Numbers.{rule_broken, not_held}
+use Rattle.messages.specs.TakeLaws.{first-refused, first-passed, rules-broken, rules-done}
+use Rattle.serve.proofs.Answers.{form-long, place-reach, number-refused, number_passed, number-held, number-not-held, serve-9, serve-1, serve-reply, serve-form, serve-reject}
+use Rattle.serve.proofs.serve.Goals as goal
+
+pub first_number-first-requires : goal.first_number-first-requires
+first_number-first-requires c = form-long c.args.message.now c.is_request-form.result c.is_request-form.ensures
+
+pub returns-then-first-eq-UNUSABLE : goal.returns-then-first-eq-UNUSABLE
+returns-then-first-eq-UNUSABLE c = serve-9 c.args.store.now c.args.message.now c.args.out.now c.first_number-first.result (number-refused c.args.store.now c.args.message.now c.is_request-form.result c.first_number-first.result c.is_request-form.ensures (first-refused c.is_request-form.result c.args.store.now c.args.message.now c.first_number-first.result c.first_number-first.ensures (λ z. omega (arith, c.if-first-eq-UNUSABLE.true))) (λ z. omega (arith, c.if-first-eq-UNUSABLE.true))) c.refusal.result c.if-first-eq-UNUSABLE.true c.refusal.ensures
+
+pub returns-then-first-eq-NO_MESSAGE : goal.returns-then-first-eq-NO_MESSAGE
+returns-then-first-eq-NO_MESSAGE c = serve-1 c.args.store.now c.args.message.now c.args.out.now c.first_number-first.result (number-refused c.args.store.now c.args.message.now c.is_request-form.result c.first_number-first.result c.is_request-form.ensures (first-refused c.is_request-form.result c.args.store.now c.args.message.now c.first_number-first.result c.first_number-first.ensures (λ z. omega (arith, c.if-first-eq-NO_MESSAGE.true))) (λ z. omega (arith, c.if-first-eq-NO_MESSAGE.true))) c.refusal-then-first-eq-NO_MESSAGE.result c.if-first-eq-NO_MESSAGE.true c.refusal-then-first-eq-NO_MESSAGE.ensures
+
+pub send_reject-requires : goal.send_reject-requires
+send_reject-requires c = serve-form c.args.store.now c.args.message.now c.args.out.now c.first_number-first.result (number-refused c.args.store.now c.args.message.now c.is_request-form.result c.first_number-first.result c.is_request-form.ensures (first-refused c.is_request-form.result c.args.store.now c.args.message.now c.first_number-first.result c.first_number-first.ensures c.if-first-ne-DONE.true) c.if-first-ne-DONE.true) c.if-first-eq-UNUSABLE.false c.if-first-eq-NO_MESSAGE.false
+
+pub returns-then-first-ne-DONE : goal.returns-then-first-ne-DONE
+returns-then-first-ne-DONE c = serve-reject c.args.store.now c.args.message.now c.args.out.now c.first_number-first.result (number-refused c.args.store.now c.args.message.now c.is_request-form.result c.first_number-first.result c.is_request-form.ensures (first-refused c.is_request-form.result c.args.store.now c.args.message.now c.first_number-first.result c.first_number-first.ensures c.if-first-ne-DONE.true) c.if-first-ne-DONE.true) c.if-first-eq-UNUSABLE.false c.if-first-eq-NO_MESSAGE.false c.send_reject.result c.send_reject.new.out c.if-first-ne-DONE.true c.send_reject.ensures
+
+pub header_of-x-requires : goal.header_of-x-requires
+header_of-x-requires c = form-long c.args.message.now c.is_request-form.result c.is_request-form.ensures (first-passed c.is_request-form.result c.args.store.now c.args.message.now c.first_number-first.result c.first_number-first.ensures c.if-first-ne-DONE.false).1
+
+pub rules_in-kept-requires : goal.rules_in-kept-requires
+rules_in-kept-requires c = ((first-passed c.is_request-form.result c.args.store.now c.args.message.now c.first_number-first.result c.first_number-first.ensures c.if-first-ne-DONE.false).0, c.header_of-x.ensures.1)
+
+pub send_reject-requires-then-not-kept : goal.send_reject-requires-then-not-kept
+send_reject-requires-then-not-kept c = serve-form c.args.store.now c.args.message.now c.args.out.now rule_broken (number-refused c.args.store.now c.args.message.now c.is_request-form.result rule_broken c.is_request-form.ensures (rules-broken c.is_request-form.result c.args.store.now c.args.message.now c.first_number-first.result c.first_number-first.ensures c.if-first-ne-DONE.false c.header_of-x.result c.rules_in-kept.result c.header_of-x.ensures.0 c.rules_in-kept.ensures (c.if-not-kept.true)) (λ z. omega arith)) (λ z. omega arith) (λ z. omega arith)
+
+pub returns-then-not-kept : goal.returns-then-not-kept
+returns-then-not-kept c = serve-reject c.args.store.now c.args.message.now c.args.out.now rule_broken (number-refused c.args.store.now c.args.message.now c.is_request-form.result rule_broken c.is_request-form.ensures (rules-broken c.is_request-form.result c.args.store.now c.args.message.now c.first_number-first.result c.first_number-first.ensures c.if-first-ne-DONE.false c.header_of-x.result c.rules_in-kept.result c.header_of-x.ensures.0 c.rules_in-kept.ensures (c.if-not-kept.true)) (λ z. omega arith)) (λ z. omega arith) (λ z. omega arith) c.send_reject-then-not-kept.result c.send_reject-then-not-kept.new.out (λ z. omega arith) c.send_reject-then-not-kept.ensures
+
+pub place_in-p-requires : goal.place_in-p-requires
+place_in-p-requires c = ((first-passed c.is_request-form.result c.args.store.now c.args.message.now c.first_number-first.result c.first_number-first.ensures c.if-first-ne-DONE.false).0, c.header_of-x.ensures.1, sym c.rules_in-kept.ensures ∙ c.if-not-kept.false)
+
+pub all_held-there-requires : goal.all_held-there-requires
+all_held-there-requires c = place-reach c.args.store.now c.args.message.now (number_passed c.args.store.now c.args.message.now c.is_request-form.result 0 c.is_request-form.ensures (rules-done c.is_request-form.result c.args.store.now c.args.message.now c.first_number-first.result c.first_number-first.ensures c.if-first-ne-DONE.false c.header_of-x.result c.rules_in-kept.result c.header_of-x.ensures.0 c.rules_in-kept.ensures (c.if-not-kept.false)) refl) c.place_in-p.result (c.place_in-p.ensures ∙ ap (λ (y : Header). place_of y (height_of c.args.store.now)) c.header_of-x.ensures.0)
+
+pub send_reject-requires-then-not-there : goal.send_reject-requires-then-not-there
+send_reject-requires-then-not-there c = serve-form c.args.store.now c.args.message.now c.args.out.now not_held (number-not-held c.args.store.now c.args.message.now c.is_request-form.result 0 c.is_request-form.ensures (rules-done c.is_request-form.result c.args.store.now c.args.message.now c.first_number-first.result c.first_number-first.ensures c.if-first-ne-DONE.false c.header_of-x.result c.rules_in-kept.result c.header_of-x.ensures.0 c.rules_in-kept.ensures (c.if-not-kept.false)) refl c.place_in-p.result c.all_held-there.result (c.place_in-p.ensures ∙ ap (λ (y : Header). place_of y (height_of c.args.store.now)) c.header_of-x.ensures.0) c.all_held-there.ensures (c.if-not-there.true)) (λ z. omega arith) (λ z. omega arith)
+
+pub returns-then-not-there : goal.returns-then-not-there
+returns-then-not-there c = serve-reject c.args.store.now c.args.message.now c.args.out.now not_held (number-not-held c.args.store.now c.args.message.now c.is_request-form.result 0 c.is_request-form.ensures (rules-done c.is_request-form.result c.args.store.now c.args.message.now c.first_number-first.result c.first_number-first.ensures c.if-first-ne-DONE.false c.header_of-x.result c.rules_in-kept.result c.header_of-x.ensures.0 c.rules_in-kept.ensures (c.if-not-kept.false)) refl c.place_in-p.result c.all_held-there.result (c.place_in-p.ensures ∙ ap (λ (y : Header). place_of y (height_of c.args.store.now)) c.header_of-x.ensures.0) c.all_held-there.ensures (c.if-not-there.true)) (λ z. omega arith) (λ z. omega arith) c.send_reject-then-not-there.result c.send_reject-then-not-there.new.out (λ z. omega arith) c.send_reject-then-not-there.ensures
+
+pub send_reply-requires : goal.send_reply-requires
+send_reply-requires c = (number_passed c.args.store.now c.args.message.now c.is_request-form.result 0 c.is_request-form.ensures (rules-done c.is_request-form.result c.args.store.now c.args.message.now c.first_number-first.result c.first_number-first.ensures c.if-first-ne-DONE.false c.header_of-x.result c.rules_in-kept.result c.header_of-x.ensures.0 c.rules_in-kept.ensures (c.if-not-kept.false)) refl, c.place_in-p.ensures ∙ ap (λ (y : Header). place_of y (height_of c.args.store.now)) c.header_of-x.ensures.0)
+
+pub returns : goal.returns
+returns c = serve-reply c.args.store.now c.args.message.now c.args.out.now 0 (number-held c.args.store.now c.args.message.now c.is_request-form.result 0 c.is_request-form.ensures (rules-done c.is_request-form.result c.args.store.now c.args.message.now c.first_number-first.result c.first_number-first.ensures c.if-first-ne-DONE.false c.header_of-x.result c.rules_in-kept.result c.header_of-x.ensures.0 c.rules_in-kept.ensures (c.if-not-kept.false)) refl c.place_in-p.result c.all_held-there.result (c.place_in-p.ensures ∙ ap (λ (y : Header). place_of y (height_of c.args.store.now)) c.header_of-x.ensures.0) c.all_held-there.ensures (c.if-not-there.false)) c.send_reply.result c.send_reply.new.out refl c.send_reply.ensures

@@ -1,0 +1,7 @@
+use Rattle.std.proofs.Common.{refl}
+use Rattle.halves.specs.Stream.{zeros_behind}
+use Rattle.v1.proofs.read.zeros_behind.Goals as goal
+
+pub returns : goal.returns
+unfolding zeros_behind
+returns c = rw (c.least-whole.ensures, c.least-own.ensures) refl

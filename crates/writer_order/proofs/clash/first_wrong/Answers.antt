@@ -1,0 +1,45 @@
+use Rattle.std.proofs.Common.{sym, ◌∙◌}
+use Rattle.writer_order.specs.CompareLaws.{layer-end}
+use Rattle.writer_order.specs.LayerLaws.{not-looked, no-layer, layer-gives, layer-does-not, root-length}
+use Rattle.writer_order.proofs.clash.first_wrong.Goals as goal
+
+pub returns-then-not-layers : goal.returns-then-not-layers
+returns-then-not-layers c = let k = c.args in not-looked k.list.now k.text.now k.plen k.layers k.p
+    (c.if-not-layers.true)
+
+pub returns-then-not-has_layer : goal.returns-then-not-has_layer
+returns-then-not-has_layer c = let k = c.args in no-layer k.list.now k.text.now k.plen k.layers k.p
+    (c.if-not-layers.false) _ c.number_at-n.ensures.0 _ c.has_layer.ensures
+    (c.if-not-has_layer.true)
+
+pub slice_bounds-gives_root-end : goal.slice_bounds-gives_root-end
+slice_bounds-gives_root-end c = layer-end c.args.list.now c.args.text.now
+    c.args.p _ _ c.requires.0.1 c.number_at-s.ensures.0 c.number_at-m.ensures.0
+
+pub gives_root-requires : goal.gives_root-requires
+gives_root-requires c = (
+      c.requires.1 (c.if-not-layers.false),
+      sym
+          c.has_layer.ensures ∙ c.if-not-has_layer.false,
+      root-length c.args.list.now c.args.p c.requires.0.0,
+    )
+
+pub returns-then-gives_root : goal.returns-then-gives_root
+returns-then-gives_root c = let k = c.args in layer-gives
+    k.list.now k.text.now k.plen k.layers k.p
+    (c.if-not-layers.false) _
+    c.number_at-n.ensures.0 _
+    c.has_layer.ensures
+    (c.if-not-has_layer.false) _ _
+    c.number_at-s.ensures.0 c.number_at-m.ensures.0 _
+    c.gives_root.ensures c.if-gives_root.true
+
+pub returns : goal.returns
+returns c = let k = c.args in layer-does-not
+    k.list.now k.text.now k.plen k.layers k.p
+    (c.if-not-layers.false) _
+    c.number_at-n.ensures.0 _
+    c.has_layer.ensures
+    (c.if-not-has_layer.false) _ _
+    c.number_at-s.ensures.0 c.number_at-m.ensures.0 _
+    c.gives_root.ensures c.if-gives_root.false

@@ -1,0 +1,54 @@
+use Rattle.std.proofs.Common.{sym, ◌∙◌}
+use Rattle.writer_order.specs.NumberLaws.{no_bytes, some_bytes, is-large, is-deep, is-out-of-range, has-none, is-meeting, has-wrong, by-roots}
+use Rattle.writer_lists.specs.Lists.{content_of}
+use Rattle.writer_order.proofs.number.content_number.Goals as goal
+
+pub returns-then-size-gt-LARGEST_TORRENT : goal.returns-then-size-gt-LARGEST_TORRENT
+returns-then-size-gt-LARGEST_TORRENT c = let l = c.args.list.now in let t = c.args.text.now in let p = c.args.plen in λ name e.
+    is-large p name (content_of l t) c.args.size e c.if-size-gt-LARGEST_TORRENT.true
+
+pub returns-then-one_fails : goal.returns-then-one_fails
+returns-then-one_fails c = let l = c.args.list.now in let t = c.args.text.now in let p =
+    c.args.plen in λ name e. is-deep p name (content_of l t) c.args.size e c.if-size-gt-LARGEST_TORRENT.false
+    (sym c.one_fails.ensures ∙ c.if-one_fails.true)
+
+pub returns-then-not-is_piece_length : goal.returns-then-not-is_piece_length
+returns-then-not-is_piece_length c = let l = c.args.list.now in let t = c.args.text.now in let p =
+    c.args.plen in λ name e. is-out-of-range p name (content_of l t) c.args.size e c.if-size-gt-LARGEST_TORRENT.false
+    (sym c.one_fails.ensures ∙ c.if-one_fails.false)
+    (sym c.is_piece_length.ensures ∙ c.if-not-is_piece_length.true)
+
+pub returns-then-list-eq0 : goal.returns-then-list-eq0
+returns-then-list-eq0 c = let l = c.args.list.now in let t = c.args.text.now in
+    let p = c.args.plen in λ name e. has-none p name (content_of l t) c.args.size e
+    c.if-size-gt-LARGEST_TORRENT.false
+    (sym c.one_fails.ensures ∙ c.if-one_fails.false)
+    (sym c.is_piece_length.ensures ∙ c.if-not-is_piece_length.false) (no_bytes l t c.if-list-eq0.true)
+
+pub returns-then-meets : goal.returns-then-meets
+returns-then-meets c = let l = c.args.list.now in let t =
+    c.args.text.now in let p = c.args.plen in λ name e. is-meeting p name (content_of l t) c.args.size e
+    c.if-size-gt-LARGEST_TORRENT.false
+    (sym c.one_fails.ensures ∙ c.if-one_fails.false)
+    (sym c.is_piece_length.ensures ∙ c.if-not-is_piece_length.false)
+    (some_bytes l t c.requires.0 c.if-list-eq0.false) (sym c.requires.1 ∙ c.if-meets.true)
+
+pub returns-then-one_fails-2 : goal.returns-then-one_fails-2
+returns-then-one_fails-2 c = let l = c.args.list.now in let
+    t = c.args.text.now in let p = c.args.plen in λ name e. has-wrong p name (content_of l t) c.args.size e
+    c.if-size-gt-LARGEST_TORRENT.false
+    (sym c.one_fails.ensures ∙
+    c.if-one_fails.false)
+    (sym c.is_piece_length.ensures ∙ c.if-not-is_piece_length.false) (some_bytes l t c.requires.0 c.if-list-eq0.false)
+    (sym c.requires.1 ∙ c.if-meets.false) (sym c.one_fails-2.ensures ∙ c.if-one_fails-2.true)
+
+pub returns : goal.returns
+returns c = let l = c.args.list.now in let
+    t = c.args.text.now in let p = c.args.plen in λ name e. by-roots p name (content_of l t) c.args.size e
+    c.if-size-gt-LARGEST_TORRENT.false
+    (sym c.one_fails.ensures ∙
+    c.if-one_fails.false)
+    (sym c.is_piece_length.ensures ∙ c.if-not-is_piece_length.false) (some_bytes l t c.requires.0 c.if-list-eq0.false)
+    (sym c.requires.1 ∙ c.if-meets.false) (sym c.one_fails-2.ensures ∙ c.if-one_fails-2.false) _
+    (c.requires.2 c.if-size-gt-LARGEST_TORRENT.false
+    (sym c.is_piece_length.ensures ∙ c.if-not-is_piece_length.false))
