@@ -17,7 +17,7 @@ test:
 	@bash .ci/run
 
 lib:
-	rt staticlib kombudeva
+	host/collect archive
 	@echo target/staticlib/libkombudeva.a
 
 kd:

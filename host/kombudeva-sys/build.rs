@@ -1,4 +1,4 @@
-//! Links the library named by KD_LIB, by default the one that `rt staticlib kombudeva` writes.
+//! Links the library named by KD_LIB, by default the one that host/collect leaves.
 
 use std::path::{Path, PathBuf};
 use std::{env, fs};

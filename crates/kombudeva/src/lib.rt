@@ -1,6 +1,7 @@
-// The boundary to the host program: include/kombudeva.h says what each function answers.
+// The boundary to the host program: include/kombudeva.h says what each function answers; kombudeva_c exports each under its name.
 // Each passes its arguments on to the crate that decides, and hands back the answer as a C struct.
 #![tactic(auto)]
+
 ghost use Rattle.std.specs.Prelude.{◌≡◌, []};
 ghost use Rattle.sha256.specs.Answer.{hashed_of};
 ghost use Rattle.sha_1.specs.Answer.{sha1_of};
@@ -252,147 +253,122 @@ fn v1_part_answer(r: V1Part) -> V1PartAnswer
     }
 }
 
-#[unsafe(no_mangle)]
-pub extern "C" fn kd_version() -> u32
+pub fn kd_version() -> u32
     ensures { result ≡ version }
 {
     VERSION
 }
 
-#[unsafe(no_mangle)]
-pub extern "C" fn kd_sha256(string: &[u8]) -> HashAnswer
+pub fn kd_sha256(string: &[u8]) -> HashAnswer
     ensures { result ≡ hash_answer (hashed_of string.now) }
 {
     hash_answer(sha256::sha256(string))
 }
 
-#[unsafe(no_mangle)]
-pub extern "C" fn kd_sha1(string: &[u8]) -> Sha1Answer
+pub fn kd_sha1(string: &[u8]) -> Sha1Answer
     ensures { result ≡ sha1_of string.now }
 {
     sha_1::sha1(string)
 }
 
-#[unsafe(no_mangle)]
-pub extern "C" fn kd_hashing_begin() -> Hashing
+pub fn kd_hashing_begin() -> Hashing
     ensures { result ≡ B.state_of [] }
 {
     running::begin()
 }
 
-#[unsafe(no_mangle)]
-pub extern "C" fn kd_hashing_more(hashing: Hashing, burst: &[u8]) -> HashingAnswer
+pub fn kd_hashing_more(hashing: Hashing, burst: &[u8]) -> HashingAnswer
     ensures { result ≡ B.more_answer hashing burst.now }
 {
     running::more(hashing, burst)
 }
 
-#[unsafe(no_mangle)]
-pub extern "C" fn kd_hashing_end(hashing: Hashing) -> HashAnswer
+pub fn kd_hashing_end(hashing: Hashing) -> HashAnswer
     ensures { result ≡ hash_answer (B.end_answer hashing) }
 {
     hash_answer(running::end(hashing))
 }
 
-#[unsafe(no_mangle)]
-pub extern "C" fn kd_history_begin(piece_length: u64) -> HistoryAnswer
+pub fn kd_history_begin(piece_length: u64) -> HistoryAnswer
     ensures { result ≡ W.begin_answer piece_length }
 {
     history::begin(piece_length as usize)
 }
 
-#[unsafe(no_mangle)]
-pub extern "C" fn kd_history_more(history: History, burst: &[u8], layer: &mut [u8]) -> HistoryAnswer
+pub fn kd_history_more(history: History, burst: &[u8], layer: &mut [u8]) -> HistoryAnswer
     ensures { (result ≡ W.more_answer history burst.now layer.old) × (layer.new ≡ W.more_layer history burst.now layer.old) }
 {
     history::more(history, burst, layer)
 }
 
-#[unsafe(no_mangle)]
-pub extern "C" fn kd_history_end(history: History, layer: &mut [u8]) -> HistoryEnd
+pub fn kd_history_end(history: History, layer: &mut [u8]) -> HistoryEnd
     ensures { (result ≡ W.end_answer history layer.old) × (layer.new ≡ W.end_layer history layer.old) }
 {
     history::end(history, layer)
 }
 
-#[unsafe(no_mangle)]
-pub extern "C" fn kd_store_size(length: u64, piece_length: u64) -> CountAnswer
+pub fn kd_store_size(length: u64, piece_length: u64) -> CountAnswer
     ensures { result ≡ count_answer (size_answer length piece_length) }
 {
     count_answer(store::store_size(length as usize, piece_length as usize))
 }
 
-#[unsafe(no_mangle)]
-pub extern "C" fn kd_open(
-    store: &mut [u8],
-    length: u64,
-    piece_length: u64,
-    root: Hash,
-) -> CountAnswer
+pub fn kd_open(store: &mut [u8], length: u64, piece_length: u64, root: Hash) -> CountAnswer
     ensures { (result ≡ count_answer (open_answer store.old length piece_length)) × (store.new ≡ open_after store.old length piece_length root.bytes) }
 {
     let bytes = root.bytes;
     count_answer(store::open(store, length as usize, piece_length as usize, bytes))
 }
 
-#[unsafe(no_mangle)]
-pub extern "C" fn kd_facts(store: &[u8]) -> FactsAnswer
+pub fn kd_facts(store: &[u8]) -> FactsAnswer
     ensures { result ≡ facts_struct (facts_answer store.now) }
 {
     facts_answer(facts::read_facts(store))
 }
 
-#[unsafe(no_mangle)]
-pub extern "C" fn kd_held(store: &[u8], layer: u64, index: u64) -> HashAnswer
+pub fn kd_held(store: &[u8], layer: u64, index: u64) -> HashAnswer
     ensures { result ≡ hash_answer (held_answer store.now layer index) }
 {
     hash_answer(store::held_hash(store, layer as usize, index as usize))
 }
 
-#[unsafe(no_mangle)]
-pub extern "C" fn kd_take(store: &mut [u8], message: &[u8]) -> CountAnswer
+pub fn kd_take(store: &mut [u8], message: &[u8]) -> CountAnswer
     ensures { (result ≡ count_answer (take_answer store.old message.now)) × (store.new ≡ take_after store.old message.now) }
 {
     count_answer(messages::take::take(store, message))
 }
 
-#[unsafe(no_mangle)]
-pub extern "C" fn kd_take_reject(store: &[u8], message: &[u8]) -> CountAnswer
+pub fn kd_take_reject(store: &[u8], message: &[u8]) -> CountAnswer
     ensures { result ≡ count_answer (reject_answer store.now message.now) }
 {
     count_answer(messages::take::take_reject(store, message))
 }
 
-#[unsafe(no_mangle)]
-pub extern "C" fn kd_serve(store: &[u8], request: &[u8], out: &mut [u8]) -> CountAnswer
+pub fn kd_serve(store: &[u8], request: &[u8], out: &mut [u8]) -> CountAnswer
     ensures { (result ≡ count_answer (serve_answer store.now request.now out.old)) × (out.new ≡ serve_after store.now request.now out.old) }
 {
     count_answer(serve::serve(store, request, out))
 }
 
-#[unsafe(no_mangle)]
-pub extern "C" fn kd_load_layer(store: &mut [u8], layer: &[u8]) -> CountAnswer
+pub fn kd_load_layer(store: &mut [u8], layer: &[u8]) -> CountAnswer
     ensures { (result ≡ count_answer (layer_answer store.old layer.now)) × (store.new ≡ layer_after store.old layer.now) }
 {
     count_answer(pieces::load_layer(store, layer))
 }
 
-#[unsafe(no_mangle)]
-pub extern "C" fn kd_judge_block(store: &mut [u8], block: u64, bytes: &[u8]) -> CountAnswer
+pub fn kd_judge_block(store: &mut [u8], block: u64, bytes: &[u8]) -> CountAnswer
     ensures { (result ≡ count_answer (block_answer store.old block bytes.now)) × (store.new ≡ block_after store.old block bytes.now) }
 {
     count_answer(pieces::judge_block(store, block as usize, bytes))
 }
 
-#[unsafe(no_mangle)]
-pub extern "C" fn kd_judge_piece(store: &mut [u8], piece: u64, bytes: &[u8]) -> CountAnswer
+pub fn kd_judge_piece(store: &mut [u8], piece: u64, bytes: &[u8]) -> CountAnswer
     ensures { (result ≡ count_answer (piece_answer store.old piece bytes.now)) × (store.new ≡ piece_after store.old piece bytes.now) }
 {
     count_answer(pieces::judge_piece(store, piece as usize, bytes))
 }
 
-#[unsafe(no_mangle)]
-pub extern "C" fn kd_judge_hybrid_piece(
+pub fn kd_judge_hybrid_piece(
     store: &mut [u8],
     piece: u64,
     bytes: &[u8],
@@ -405,162 +381,135 @@ pub extern "C" fn kd_judge_hybrid_piece(
     count_answer(pieces::judge_hybrid_piece(store, piece as usize, bytes, hash, zeros as usize))
 }
 
-#[unsafe(no_mangle)]
-pub extern "C" fn kd_piece_hashes(
-    store: &[u8],
-    piece: u64,
-    bytes: &[u8],
-    out: &mut [u8],
-) -> CountAnswer
+pub fn kd_piece_hashes(store: &[u8], piece: u64, bytes: &[u8], out: &mut [u8]) -> CountAnswer
     ensures { (result ≡ count_answer (leaves_answer store.now piece bytes.now out.old)) × (out.new ≡ leaves_after store.now piece bytes.now out.old) }
 {
     count_answer(leaves::piece_hashes(store, piece as usize, bytes, out))
 }
 
-#[unsafe(no_mangle)]
-pub extern "C" fn kd_marked(store: &[u8], block: u64) -> CountAnswer
+pub fn kd_marked(store: &[u8], block: u64) -> CountAnswer
     ensures { result ≡ count_answer (marked_answer store.now block) }
 {
     count_answer(marks::marked_block(store, block as usize))
 }
 
-#[unsafe(no_mangle)]
-pub extern "C" fn kd_clear(store: &mut [u8], block: u64) -> CountAnswer
+pub fn kd_clear(store: &mut [u8], block: u64) -> CountAnswer
     ensures { (result ≡ count_answer (clear_answer store.old block)) × (store.new ≡ clear_after store.old block) }
 {
     count_answer(marks::clear_mark(store, block as usize))
 }
 
-#[unsafe(no_mangle)]
-pub extern "C" fn kd_bitfield(store: &[u8], out: &mut [u8]) -> CountAnswer
+pub fn kd_bitfield(store: &[u8], out: &mut [u8]) -> CountAnswer
     ensures { (result ≡ count_answer (field_answer store.now out.old)) × (out.new ≡ field_after store.now out.old) }
 {
     count_answer(marks::bitfield(store, out))
 }
 
-#[unsafe(no_mangle)]
-pub extern "C" fn kd_next_request(store: &[u8], layer: u64) -> Request
+pub fn kd_next_request(store: &[u8], layer: u64) -> Request
     ensures { result ≡ next_answer store.now layer }
 {
     asking::next::next_request(store, layer as usize)
 }
 
-#[unsafe(no_mangle)]
-pub extern "C" fn kd_pick_piece(store: &[u8], counts: &[u32]) -> Choice
+pub fn kd_pick_piece(store: &[u8], counts: &[u32]) -> Choice
     ensures { result ≡ pick_answer store.now counts.now }
 {
     asking::pick::pick_piece(store, counts)
 }
 
 // Whether the store's file begins with an earlier one, of this length and root.
-#[unsafe(no_mangle)]
-pub extern "C" fn kd_extends(store: &[u8], length: u64, root: Hash, block: &[u8]) -> CountAnswer
+pub fn kd_extends(store: &[u8], length: u64, root: Hash, block: &[u8]) -> CountAnswer
     ensures { result ≡ count_answer (extends_answer store.now length root.bytes block.now) }
 {
     let bytes = root.bytes;
     count_answer(extends::extends(store, length as usize, bytes, block))
 }
 
-#[unsafe(no_mangle)]
-pub extern "C" fn kd_save(store: &[u8], out: &mut [u8]) -> CountAnswer
+pub fn kd_save(store: &[u8], out: &mut [u8]) -> CountAnswer
     ensures { (result ≡ count_answer (save_answer store.now out.old)) × (out.new ≡ save_after store.now out.old) }
 {
     count_answer(saved::save::save(store, out))
 }
 
-#[unsafe(no_mangle)]
-pub extern "C" fn kd_load(store: &mut [u8], bytes: &[u8]) -> CountAnswer
+pub fn kd_load(store: &mut [u8], bytes: &[u8]) -> CountAnswer
     ensures { (result ≡ count_answer (load_answer store.old bytes.now)) × (store.new ≡ load_after store.old bytes.now) }
 {
     count_answer(saved::load::load(store, bytes))
 }
 
-#[unsafe(no_mangle)]
-pub extern "C" fn kd_repair(store: &mut [u8], bytes: &[u8]) -> Repaired
+pub fn kd_repair(store: &mut [u8], bytes: &[u8]) -> Repaired
     ensures { (result ≡ repair_answer store.old bytes.now) × (store.new ≡ repair_after store.old bytes.now) }
 {
     saved::repair::repair(store, bytes)
 }
 
-#[unsafe(no_mangle)]
-pub extern "C" fn kd_torrent_read(torrent: &[u8]) -> TorrentAnswer
+pub fn kd_torrent_read(torrent: &[u8]) -> TorrentAnswer
     ensures { result ≡ torrent_answer (read_of torrent.now) }
 {
     torrent_answer(torrent::read::read(torrent))
 }
 
-#[unsafe(no_mangle)]
-pub extern "C" fn kd_torrent_file(torrent: &[u8], file: u64) -> FileAnswer
+pub fn kd_torrent_file(torrent: &[u8], file: u64) -> FileAnswer
     ensures { result ≡ file_answer (file_read torrent.now file) }
 {
     file_answer(torrent::read::read_file(torrent, file as usize))
 }
 
-#[unsafe(no_mangle)]
-pub extern "C" fn kd_torrent_path(torrent: &[u8], file: u64, element: u64) -> PartAnswer
+pub fn kd_torrent_path(torrent: &[u8], file: u64, element: u64) -> PartAnswer
     ensures { result ≡ part_answer (path_read torrent.now file element) }
 {
     part_answer(torrent::read::read_path(torrent, file as usize, element as usize))
 }
 
-#[unsafe(no_mangle)]
-pub extern "C" fn kd_torrent_list(torrent: &[u8], out: &mut [u8]) -> CountAnswer
+pub fn kd_torrent_list(torrent: &[u8], out: &mut [u8]) -> CountAnswer
     ensures { (result ≡ count_answer (list_answer torrent.now out.old)) × (out.new ≡ list_after torrent.now out.old) }
 {
     count_answer(catalogue::list(torrent, out))
 }
 
-#[unsafe(no_mangle)]
-pub extern "C" fn kd_torrent_info(torrent: &[u8]) -> PartAnswer
+pub fn kd_torrent_info(torrent: &[u8]) -> PartAnswer
     ensures { result ≡ part_answer (info_read torrent.now) }
 {
     part_answer(about::read_info(torrent))
 }
 
-#[unsafe(no_mangle)]
-pub extern "C" fn kd_torrent_name(torrent: &[u8]) -> PartAnswer
+pub fn kd_torrent_name(torrent: &[u8]) -> PartAnswer
     ensures { result ≡ part_answer (name_read torrent.now) }
 {
     part_answer(about::read_name(torrent))
 }
 
-#[unsafe(no_mangle)]
-pub extern "C" fn kd_torrent_hybrid(torrent: &[u8]) -> HybridAnswer
+pub fn kd_torrent_hybrid(torrent: &[u8]) -> HybridAnswer
     ensures { result ≡ hybrid_answer (hybrid_of torrent.now) }
 {
     hybrid_answer(v1::read::read_hybrid(torrent))
 }
 
-#[unsafe(no_mangle)]
-pub extern "C" fn kd_torrent_v1_piece(torrent: &[u8], file: u64, piece: u64) -> V1PieceAnswer
+pub fn kd_torrent_v1_piece(torrent: &[u8], file: u64, piece: u64) -> V1PieceAnswer
     ensures { result ≡ v1_piece_answer (v1_piece_of torrent.now file piece) }
 {
     v1_piece_answer(v1::read::v1_piece(torrent, file as usize, piece as usize))
 }
 
-#[unsafe(no_mangle)]
-pub extern "C" fn kd_torrent_v1_pieces(torrent: &[u8], file: u64) -> V1PartAnswer
+pub fn kd_torrent_v1_pieces(torrent: &[u8], file: u64) -> V1PartAnswer
     ensures { result ≡ v1_part_answer (v1_pieces_of torrent.now file) }
 {
     v1_part_answer(v1::read::v1_pieces(torrent, file as usize))
 }
 
-#[unsafe(no_mangle)]
-pub extern "C" fn kd_place(list: &[u8], piece_length: u64, piece: u64) -> Placed
+pub fn kd_place(list: &[u8], piece_length: u64, piece: u64) -> Placed
     ensures { result ≡ place_answer list.now piece_length piece }
 {
     places::place(list, piece_length as usize, piece as usize)
 }
 
-#[unsafe(no_mangle)]
-pub extern "C" fn kd_first_piece(list: &[u8], piece_length: u64, file: u64) -> CountAnswer
+pub fn kd_first_piece(list: &[u8], piece_length: u64, file: u64) -> CountAnswer
     ensures { result ≡ count_answer (first_answer list.now piece_length file) }
 {
     count_answer(places::first_piece(list, piece_length as usize, file as usize))
 }
 
-#[unsafe(no_mangle)]
-pub extern "C" fn kd_torrent_write(
+pub fn kd_torrent_write(
     list: &[u8],
     text: &[u8],
     piece_length: u64,
@@ -572,22 +521,19 @@ pub extern "C" fn kd_torrent_write(
     count_answer(writer::write(list, text, piece_length as usize, name, out))
 }
 
-#[unsafe(no_mangle)]
-pub extern "C" fn kd_stream_begin() -> Stream
+pub fn kd_stream_begin() -> Stream
     ensures { result ≡ between }
 {
     stream::begin()
 }
 
-#[unsafe(no_mangle)]
-pub extern "C" fn kd_stream_hear(standing: Stream, bytes: &[u8], room: &mut [u8]) -> Heard
+pub fn kd_stream_hear(standing: Stream, bytes: &[u8], room: &mut [u8]) -> Heard
     ensures { (result ≡ hear_answer standing room.old bytes.now) × (room.new ≡ hear_room standing room.old bytes.now) }
 {
     stream::hear(standing, bytes, room)
 }
 
-#[unsafe(no_mangle)]
-pub extern "C" fn kd_frame(message: &[u8], out: &mut [u8]) -> CountAnswer
+pub fn kd_frame(message: &[u8], out: &mut [u8]) -> CountAnswer
     ensures { (result ≡ count_answer (frame_answer message.now out.old)) × (out.new ≡ frame_after message.now out.old) }
 {
     count_answer(frames::frame(message, out))

@@ -1,26 +1,32 @@
 // Replays a session: reads records from standard input to its end, in whatever pieces they come, and prints the lines that they give.
 #![tactic(auto)]
+
 ghost use Rattle.std.specs.Prelude.{◌≤◌, length};
 ghost use Rattle.session.specs.Session as S;
 
-use libc::{STDIN_FILENO, STDOUT_FILENO};
 use session::{Line, Progress};
+use std::io::{Read, Write};
 
-// The number, a space, the count.
-fn show(line: Line) {
-    match line {
-        Line::Nothing => {}
-        Line::Answered(answer) => {
-            io::print_decimal(STDOUT_FILENO, answer.number as u64);
-            io::write_all(STDOUT_FILENO, b" ");
-            io::print_decimal(STDOUT_FILENO, answer.count);
-            io::write_all(STDOUT_FILENO, b"\n");
+// The number, a space, the count. A line that cannot be written is passed over.
+fn show<W: Write>(out: &mut W, line: Line) {
+    if let Line::Answered(answer) = line {
+        let number = answer.number;
+        let count = answer.count;
+        match writeln!(out, "{number} {count}") {
+            Ok(()) => {}
+            Err(_) => {}
         }
     }
 }
 
 // A piece of the input, line by line.
-fn pass(progress: Progress, store: &mut [u8], room: &mut [u8], piece: &[u8]) -> Progress
+fn pass<W: Write>(
+    out: &mut W,
+    progress: Progress,
+    store: &mut [u8],
+    room: &mut [u8],
+    piece: &[u8],
+) -> Progress
     requires { S.Lent progress (length store.old) (length room.old) }
     ensures { S.Due result.phase result.at }
 {
@@ -29,7 +35,7 @@ fn pass(progress: Progress, store: &mut [u8], room: &mut [u8], piece: &[u8]) -> 
     while at < piece.len() {
         let part = session::take_piece(q, store, room, &piece[at..]);
         let line = part.line;
-        show(line);
+        show(out, line);
         let next = part.progress;
         q = next;
         at += part.used;
@@ -37,29 +43,37 @@ fn pass(progress: Progress, store: &mut [u8], room: &mut [u8], piece: &[u8]) -> 
     q
 }
 
-// The whole input. A proved loop has to end, and nothing says that an input does: the turns are counted down from a number that no run uses up.
-fn pass_all(store: &mut [u8], room: &mut [u8], buf: &mut [u8]) -> Progress
+// The whole input. A proved loop has to end, and nothing says that an input does: the turns are counted up to a number that no run comes to.
+fn pass_all<R: Read, W: Write>(
+    input: &mut R,
+    out: &mut W,
+    store: &mut [u8],
+    room: &mut [u8],
+    buf: &mut [u8],
+) -> Progress
     requires { (S.max_store ≤ length store.old) × (S.max_message ≤ length room.old) }
 {
     let mut q = session::start();
-    let mut turns = u64::MAX;
-    while turns > 0 {
-        let got = libc::read(STDIN_FILENO, buf);
-        if got <= 0 {
+    for _ in 0..u64::MAX {
+        let n = input.read(buf).unwrap_or(0);
+        if n == 0 {
             return q;
         }
-        let n = io::count(got, buf);
-        q = pass(q, store, room, &buf[..n]);
-        turns -= 1;
+        q = pass(out, q, store, room, &buf[..n]);
     }
     q
 }
 
-fn main() {
+fn main(rt: HostRuntime) {
     let mut s = session::new_store();
     let mut room = [0u8; session::MAX_MESSAGE];
-    let mut buf = io::large_buffer();
-    let last = pass_all(&mut s, &mut room, &mut buf);
-    show(session::end(last));
-    io::write_all(STDOUT_FILENO, b"end\n");
+    let mut buf = [0u8; 65536];
+    let mut input = rt.stdin();
+    let mut out = rt.stdout();
+    let last = pass_all(&mut input, &mut out, &mut s, &mut room, &mut buf);
+    show(&mut out, session::end(last));
+    match out.write_all(b"end\n") {
+        Ok(()) => {}
+        Err(_) => {}
+    }
 }

@@ -1,8 +1,11 @@
 // The vectors published with FIPS 180-4, run through the boundary: each line is the number and the hash in hex, SHA-256 and then SHA-1.
 #![tactic(auto)]
+
 ghost use Rattle.std.specs.Prelude.{◌≡◌, length};
 
-use libc::STDOUT_FILENO;
+use std::alloc::Global;
+use std::io;
+use std::io::Write;
 
 fn digit(x: u8) -> u8 {
     let n = x % 16;
@@ -23,14 +26,14 @@ fn line(h: [u8; 32]) -> [u8; 65]
     out
 }
 
-fn show(s: &[u8]) {
+fn show<W: Write>(out: &mut W, s: &[u8]) -> io::Result<()> {
     let r = kombudeva::kd_sha256(s);
-    io::print_decimal(STDOUT_FILENO, r.number as u64);
-    io::write_all(STDOUT_FILENO, b" ");
+    let number = r.number;
+    write!(out, "{number} ")?;
     let hash = r.hash;
     let h = hash.bytes;
-    let out = line(h);
-    io::write_all(STDOUT_FILENO, &out);
+    let text = line(h);
+    out.write_all(&text)
 }
 
 // A SHA-1 in hex, and the end of the line.
@@ -47,34 +50,43 @@ fn line1(h: [u8; 20]) -> [u8; 41]
     out
 }
 
-fn show1(s: &[u8]) {
+fn show1<W: Write>(out: &mut W, s: &[u8]) -> io::Result<()> {
     let r = kombudeva::kd_sha1(s);
-    io::print_decimal(STDOUT_FILENO, r.number as u64);
-    io::write_all(STDOUT_FILENO, b" ");
+    let number = r.number;
+    write!(out, "{number} ")?;
     let hash = r.hash;
-    let out = line1(hash);
-    io::write_all(STDOUT_FILENO, &out);
+    let text = line1(hash);
+    out.write_all(&text)
 }
 
 // A million times the byte a.
-fn show_million() {
-    let million = [97u8; 1000000];
-    show(&million);
-    show1(&million);
+fn show_million<W: Write>(out: &mut W, alloc: Global) -> io::Result<()> {
+    let million = Vec::from_elem(alloc, 97u8, 1000000)?;
+    show(out, &million)?;
+    show1(out, &million)
 }
 
-fn main() {
-    show(b"");
-    show(b"abc");
-    show(b"abcdbcdecdefdefgefghfghighijhijkijkljklmklmnlmnomnopnopq");
+fn main(rt: HostRuntime) -> io::Result<()> {
+    let mut out = rt.stdout();
+    show(&mut out, b"")?;
+    show(&mut out, b"abc")?;
     show(
+        &mut out,
+        b"abcdbcdecdefdefgefghfghighijhijkijkljklmklmnlmnomnopnopq",
+    )?;
+    show(
+        &mut out,
         b"abcdefghbcdefghicdefghijdefghijkefghijklfghijklmghijklmnhijklmnoijklmnopjklmnopqklmnopqrlmnopqrsmnopqrstnopqrstu",
-    );
-    show1(b"");
-    show1(b"abc");
-    show1(b"abcdbcdecdefdefgefghfghighijhijkijkljklmklmnlmnomnopnopq");
+    )?;
+    show1(&mut out, b"")?;
+    show1(&mut out, b"abc")?;
     show1(
+        &mut out,
+        b"abcdbcdecdefdefgefghfghighijhijkijkljklmklmnlmnomnopnopq",
+    )?;
+    show1(
+        &mut out,
         b"abcdefghbcdefghicdefghijdefghijkefghijklfghijklmghijklmnhijklmnoijklmnopjklmnopqklmnopqrlmnopqrsmnopqrstnopqrstu",
-    );
-    show_million();
+    )?;
+    show_million(&mut out, rt.alloc())
 }

@@ -1,8 +1,9 @@
 // Cases worked by hand in document 01, on a file of five blocks (block i is 16,384 times the byte i + 1): the session, and
 // the cases that are not proved; and long runs in a tall tree. Each line is a number and a count.
 #![tactic(auto)]
+
 use kombudeva::{CountAnswer, Hash};
-use libc::STDOUT_FILENO;
+use std::io;
 
 // The pieces root.
 const ROOT: [u8; 32] =
@@ -65,25 +66,24 @@ const ONE_UNCLE_SET: [u8; 209] = *b"\
     \x00\x00\x00\x00\x00\x00\x00\x00\x00\x00\x00\x00\x00\x00\x00\x00\x00\x00\x00\x00\x00\x00\x00\x00\x00\x00\x00\x00\x00\x00\x00\x00\
     \x8a\xa4\x6b\x99\xf2\x90\x7a\x2e\x06\xa1\x2e\xed\x5a\xb6\xfc\xd5\xbd\x86\xbc\x7f\x49\xfe\x06\x2e\xea\xa7\x8a\x43\x04\xb3\x14\xeb";
 
-fn show(a: CountAnswer) {
-    io::print_decimal(STDOUT_FILENO, a.number as u64);
-    io::write_all(STDOUT_FILENO, b" ");
-    io::print_decimal(STDOUT_FILENO, a.count);
-    io::write_all(STDOUT_FILENO, b"\n");
+fn show(rt: &HostRuntime, a: CountAnswer) -> io::Result<()> {
+    let number = a.number;
+    let count = a.count;
+    println!(rt; "{number} {count}")
 }
 
-fn open(s: &mut [u8]) {
+fn open(rt: &HostRuntime, s: &mut [u8]) -> io::Result<()> {
     let root = Hash { bytes: ROOT };
-    show(kombudeva::kd_open(s, 81920, 16384, root));
+    show(rt, kombudeva::kd_open(s, 81920, 16384, root))
 }
 
 // The message offered to the store.
-fn offer(s: &mut [u8], m: &[u8]) {
-    show(kombudeva::kd_take(s, m));
+fn offer(rt: &HostRuntime, s: &mut [u8], m: &[u8]) -> io::Result<()> {
+    show(rt, kombudeva::kd_take(s, m))
 }
 
 // A header alone, with this index and this length in base layer 0 and no proof layers: 3 where a rule fails, else 4.
-fn header(s: &mut [u8], index: u8, high: u8, low: u8) {
+fn header(rt: &HostRuntime, s: &mut [u8], index: u8, high: u8, low: u8) -> io::Result<()> {
     let mut m = [0u8; 49];
     m[0] = 22;
     let r = ROOT;
@@ -91,76 +91,76 @@ fn header(s: &mut [u8], index: u8, high: u8, low: u8) {
     m[40] = index;
     m[43] = high;
     m[44] = low;
-    offer(s, &m);
+    offer(rt, s, &m)
 }
 
 // The true message (0,6,2,0): two leaves past the last block, both zeros.
-fn padding(s: &mut [u8]) {
+fn padding(rt: &HostRuntime, s: &mut [u8]) -> io::Result<()> {
     let mut m = [0u8; 113];
     m[0] = 22;
     let r = ROOT;
     octets::put_hash(&mut m, 1, r);
     m[40] = 6;
     m[44] = 2;
-    offer(s, &m);
+    offer(rt, s, &m)
 }
 
-fn session(s: &mut [u8]) {
+fn session(rt: &HostRuntime, s: &mut [u8]) -> io::Result<()> {
     let first = LEAVES_0_TO_3;
     let second = LAYER_2;
-    open(s);
-    padding(s);
-    offer(s, &first);
-    offer(s, &second);
-    offer(s, &first);
-    offer(s, &first);
+    open(rt, s)?;
+    padding(rt, s)?;
+    offer(rt, s, &first)?;
+    offer(rt, s, &second)?;
+    offer(rt, s, &first)?;
+    offer(rt, s, &first)
 }
 
 // Without and with proof layers that are not needed, and one uncle, which makes the anchor of the padding leaves held.
-fn whole(s: &mut [u8]) {
+fn whole(rt: &HostRuntime, s: &mut [u8]) -> io::Result<()> {
     let plain = ALL_LEAVES;
     let proof = ALL_LEAVES_PROOF_2;
     let uncle = ONE_UNCLE_SET;
-    open(s);
-    offer(s, &plain);
-    open(s);
-    offer(s, &proof);
-    open(s);
-    offer(s, &uncle);
-    padding(s);
+    open(rt, s)?;
+    offer(rt, s, &plain)?;
+    open(rt, s)?;
+    offer(rt, s, &proof)?;
+    open(rt, s)?;
+    offer(rt, s, &uncle)?;
+    padding(rt, s)
 }
 
 // Refused 3: a run that ends past its layer, an index that is no multiple, lengths 0, 1, 3 and, the tree being too low for it, 1024; the
 // last two are well-formed but for their size, one of them begins past the last block.
-fn headers(s: &mut [u8]) {
-    header(s, 8, 0, 2);
-    header(s, 2, 0, 4);
-    header(s, 0, 0, 0);
-    header(s, 0, 0, 1);
-    header(s, 0, 0, 3);
-    header(s, 0, 4, 0);
-    header(s, 4, 0, 2);
-    header(s, 6, 0, 2);
+fn headers(rt: &HostRuntime, s: &mut [u8]) -> io::Result<()> {
+    header(rt, s, 8, 0, 2)?;
+    header(rt, s, 2, 0, 4)?;
+    header(rt, s, 0, 0, 0)?;
+    header(rt, s, 0, 0, 1)?;
+    header(rt, s, 0, 0, 3)?;
+    header(rt, s, 0, 4, 0)?;
+    header(rt, s, 4, 0, 2)?;
+    header(rt, s, 6, 0, 2)
 }
 
 // In a tree of height 14, of 2^14 blocks, 1024 and 8192 keep the rules: a header alone is 4 there. 16384 is 3.
-fn long_runs(s: &mut [u8]) {
+fn long_runs(rt: &HostRuntime, s: &mut [u8]) -> io::Result<()> {
     let root = Hash { bytes: ROOT };
-    show(kombudeva::kd_open(s, 268435456, 16384, root));
-    header(s, 0, 4, 0);
-    header(s, 0, 32, 0);
-    header(s, 0, 64, 0);
+    show(rt, kombudeva::kd_open(s, 268435456, 16384, root))?;
+    header(rt, s, 0, 4, 0)?;
+    header(rt, s, 0, 32, 0)?;
+    header(rt, s, 0, 64, 0)
 }
 
-fn tall() {
-    let mut s = [0u8; 1100000];
-    long_runs(&mut s);
+fn tall(rt: &HostRuntime) -> io::Result<()> {
+    let mut s = Vec::from_elem(rt.alloc(), 0u8, 1100000)?;
+    long_runs(rt, &mut s)
 }
 
-fn main() {
+fn main(rt: HostRuntime) -> io::Result<()> {
     let mut s = [0u8; 567];
-    session(&mut s);
-    whole(&mut s);
-    headers(&mut s);
-    tall();
+    session(&rt, &mut s)?;
+    whole(&rt, &mut s)?;
+    headers(&rt, &mut s)?;
+    tall(&rt)
 }
