@@ -1,5 +1,6 @@
 // What a torrent says of itself: the part that the value of `info` is, whose SHA-256 is the info hash, and the part that its `name` is.
 #![tactic(auto)]
+
 ghost use Rattle.std.specs.Prelude.{◌≡◌};
 ghost use Rattle.torrent.specs.Torrent.{no_part_read};
 ghost use Rattle.about.specs.About.{name_from, info_read, name_read};

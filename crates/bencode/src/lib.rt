@@ -1,5 +1,6 @@
 // Strict bencoding (BEP 3), read from any bytes: the walk over a whole torrent, and its values as parts of its bytes.
 #![tactic(auto)]
+
 pub mod decimal;
 pub mod front;
 pub mod order;

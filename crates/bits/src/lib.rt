@@ -1,5 +1,6 @@
 // FIPS 180-4, sections 3.1, 3.2, 4.1.1 and 4.1.2: words of 32 bits, their operations, and a word as four bytes.
 #![tactic(auto)]
+
 ghost use Rattle.std.specs.Prelude.{◌≡◌, ◌+◌, ◌%◌, ◌^◌, ◌<◌, ◌≤◌, length};
 ghost use Rattle.bits.specs.Words as W;
 ghost use Rattle.bits.specs.Parsing.{word_at};

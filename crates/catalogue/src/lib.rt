@@ -1,5 +1,6 @@
 // All files of a torrent in one list, a record of RECORD bytes for each.
 #![tactic(auto)]
+
 pub mod record;
 
 ghost use Rattle.std.specs.Prelude.{◌≡◌, ◌*◌, ◌≤◌};

@@ -1,5 +1,6 @@
 // The cells of a store: whether a position is held, with which hash, and taking one more.
 #![tactic(auto)]
+
 ghost use Rattle.std.specs.Prelude.{◌≡◌, ◌+◌};
 ghost use Rattle.cells.specs.Cells.{Room, held_at, hash_at, put};
 ghost use Rattle.cells.specs.Entries.{agrees_at, lacks};

@@ -1,5 +1,6 @@
 // FIPS 180-4, sections 4.2.2 and 5.3.3: the round words and the start words.
 #![tactic(auto)]
+
 ghost use Rattle.std.specs.Prelude.{◌≡◌};
 ghost use Rattle.constants.specs.Constants as C;
 

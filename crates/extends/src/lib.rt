@@ -1,5 +1,6 @@
 // Whether a file begins with an earlier one: the earlier tree's root, worked out of what a store of the file holds.
 #![tactic(auto)]
+
 ghost use Rattle.std.specs.Prelude.{◌≡◌, ◌≤◌, length};
 ghost use Rattle.octets.specs.Octets.{cut};
 ghost use Rattle.sha256.specs.Sha256.{sha256, pair_hash};

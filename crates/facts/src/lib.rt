@@ -1,5 +1,6 @@
 // The facts that a store names: which file it is about. A host asks for them after it has loaded a store or found one on its disk.
 #![tactic(auto)]
+
 ghost use Rattle.std.specs.Prelude.{◌≡◌};
 ghost use Rattle.facts.specs.Facts.{no_facts, facts_answer};
 

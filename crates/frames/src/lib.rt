@@ -1,6 +1,7 @@
 // Frames of BEP 3: a 32-bit big-endian length, then so many bytes, a message that begins with its id; length 0 is a keep-alive.
 // Which ids are known, how many bytes their messages have, and the frame of a message written.
 #![tactic(auto)]
+
 ghost use Rattle.std.specs.Prelude.{◌≡◌, true, false, ◌+◌, ◌≤◌, length};
 ghost use Rattle.octets.specs.Octets.{cut, pasted};
 ghost use Rattle.frames.specs.Frames as F;

@@ -1,5 +1,6 @@
 // The 49 bytes before a message's hashes: read, held to the rules, and turned into a place in the tree.
 #![tactic(auto)]
+
 ghost use Rattle.std.specs.Prelude.{◌≡◌, ◌+◌, ◌≤◌, ◌<◌, length, true};
 ghost use Rattle.header.specs.Header as Hd;
 

@@ -1,6 +1,7 @@
 // A subtree over a run of hashes, worked out in a room as a heap: its leaves are copied, then each hash is the parent of two. And the
 // root over a piece layer, by such heaps.
 #![tactic(auto)]
+
 ghost use Rattle.std.specs.Prelude.{◌≡◌, true, List, ℕ, ◌+◌, ◌*◌, ◌^◌, ◌≤◌, ◌<◌, length};
 ghost use Rattle.octets.specs.Octets.{cut, same};
 ghost use Rattle.tree.specs.Geometry as G;

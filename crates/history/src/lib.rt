@@ -1,6 +1,7 @@
 // The running tree of a history: bytes come in bursts, and at the end there are N, the pieces root and the piece layer.
 // A state goes in by value, and comes back after each burst; a lent layer gets each piece's hash once the history runs past the piece.
 #![tactic(auto)]
+
 ghost use Rattle.std.specs.Prelude.{◌≡◌, true, false, cond, [], ◌+◌, ◌-◌, ◌*◌, ◌/◌, ◌%◌, ◌^◌, ◌≤◌, ◌<◌, min, length, eqb};
 ghost use Rattle.limits.specs.Limits.{longest_file, tallest_tree};
 ghost use Rattle.sha256.specs.Sha256.{pair_hash};

@@ -1,6 +1,7 @@
 // The v1 half of a hybrid torrent (BEP 3, BEP 47) held against the v2 half. `list` is the part of the torrent that `files` is, `tree` the part
 // that `file tree` is.
 #![tactic(auto)]
+
 ghost use Rattle.std.specs.Prelude.{◌≡◌, true, cond, ◌||◌, List, ◌++◌, ℕ, ◌+◌, ◌-◌, ◌%◌, ◌^◌, ◌≤◌, ◌<◌, eqb};
 ghost use Rattle.limits.specs.Limits.{largest_torrent};
 ghost use Rattle.hybrid.specs.Tally.{Encodes, tallied_of};

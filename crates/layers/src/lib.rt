@@ -1,6 +1,7 @@
 // The piece layers of a torrent: where their keys stand, a layer found by its root, and whether it is what its file needs. `layers` is the
 // part of the torrent that the value of `piece layers` is, `tree` the part that `file tree` is.
 #![tactic(auto)]
+
 ghost use Rattle.std.specs.Prelude.{◌≡◌, true, ◌&&◌, ◌+◌, ◌*◌, ◌-◌, ◌≤◌, ◌<◌, take, eqb};
 ghost use Rattle.std.proofs.Math.ListN as L;
 ghost use Rattle.limits.specs.Limits.{longest_file, largest_torrent};

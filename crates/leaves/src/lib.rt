@@ -1,5 +1,6 @@
 // The block hashes of a piece that is right, as the hashes message that teaches them to a store. The store is only looked at.
 #![tactic(auto)]
+
 ghost use Rattle.std.specs.Prelude.{◌≡◌, List, ℕ, ◌+◌, ◌*◌, ◌≤◌, length};
 ghost use Rattle.octets.specs.Octets.{pasted};
 ghost use Rattle.tree.specs.Values.{leaf_of};

@@ -1,5 +1,6 @@
 // The marks of a store's blocks: written, asked for, cleared, and gathered in the bitfield of the pieces.
 #![tactic(auto)]
+
 ghost use Rattle.std.specs.Prelude.{◌≡◌, true, ◌+◌, ◌*◌, ◌^◌, ◌≤◌, ◌<◌, length, replicate};
 ghost use Rattle.octets.specs.Octets.{pasted};
 ghost use Rattle.tree.specs.Geometry.{piece_count};

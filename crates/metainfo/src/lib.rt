@@ -1,5 +1,6 @@
 // A torrent's keys (BEP 52), and the numbers 19 to 24: too large, not strict, a key missing, another version, another piece length.
 #![tactic(auto)]
+
 ghost use Rattle.std.specs.Prelude.{◌≡◌, drop};
 ghost use Rattle.bencode.specs.Parts.{find_key};
 ghost use Rattle.metainfo.specs.Metainfo.{dictionary_in, integer_in, no_part, no_keys, right_keys, info_keys, dictionary_keys, keys_of, metainfo_of};

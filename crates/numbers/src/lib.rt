@@ -1,5 +1,6 @@
 // The numbers given back, by name, and the answer that carries one. Document 01's table says when each is given.
 #![tactic(auto)]
+
 ghost use Rattle.std.specs.Prelude.{◌≡◌};
 ghost use Rattle.numbers.specs.Numbers.{refused, done, judged};
 

@@ -1,5 +1,6 @@
 // Bytes in slices. A hash is a value of 32 bytes: read from and written to a place, and compared whole.
 #![tactic(auto)]
+
 ghost use Rattle.std.specs.Prelude.{◌≡◌, ◌+◌, ◌^◌, ◌≤◌, ◌<◌, length};
 ghost use Rattle.octets.specs.Octets as O;
 

@@ -1,5 +1,6 @@
 // FIPS 180-4, section 5.1.1: the last one or two blocks of a message; and the bytes that wait for a whole block.
 #![tactic(auto)]
+
 ghost use Rattle.std.specs.Prelude.{◌≡◌, ◌+◌, ◌*◌, ◌≤◌, ◌%◌, ◌++◌, length, take, drop};
 ghost use Rattle.octets.specs.Octets as O;
 ghost use Rattle.padding.specs.Padding as P;

@@ -1,5 +1,6 @@
 // Loading a piece layer into a store, judging a block, a piece, and a piece of a hybrid.
 #![tactic(auto)]
+
 ghost use Rattle.std.specs.Prelude.{◌≡◌, true, ◌+◌, ◌-◌, ◌≤◌, length};
 ghost use Rattle.numbers.specs.Numbers.{judged};
 ghost use Rattle.octets.specs.Octets.{same};

@@ -1,5 +1,6 @@
 // Pieces as they are counted on the wire: file by file in tree order, by the records of a torrent's list. An empty file has none.
 #![tactic(auto)]
+
 ghost use Rattle.std.specs.Prelude.{◌≡◌, true, ◌+◌, ◌*◌, ◌≤◌, length};
 ghost use Rattle.tree.specs.Geometry.{is_piece_length};
 ghost use Rattle.catalogue.specs.Catalogue.{record_size};

@@ -1,5 +1,6 @@
 // FIPS 180-4, section 6.1.2: SHA-1's message schedule and the rounds of one block.
 #![tactic(auto)]
+
 ghost use Rattle.std.specs.Prelude.{◌≡◌, ℕ, ◌+◌, ◌*◌, ◌<◌, ◌≤◌, List, length, take, drop, set};
 ghost use Rattle.bits.specs.Parsing.{words};
 ghost use Rattle.rounds1.specs.Block as S;

@@ -1,5 +1,6 @@
 // SHA-256 of bytes that come in bursts. A state goes in by value, and comes back after each burst.
 #![tactic(auto)]
+
 ghost use Rattle.std.specs.Prelude.{◌≡◌, [], ◌+◌, ◌<◌, ◌%◌, ◌^◌, length};
 ghost use Rattle.running.specs.Bursts as B;
 

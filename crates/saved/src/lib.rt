@@ -1,5 +1,6 @@
 // A store saved, loaded and repaired.
 #![tactic(auto)]
+
 pub mod chain;
 pub mod form;
 pub mod load;

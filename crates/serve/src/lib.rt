@@ -1,5 +1,6 @@
 // A request for hashes served: answered by a hashes message if all are held, by a reject if not. The store is only looked at.
 #![tactic(auto)]
+
 ghost use Rattle.std.specs.Prelude.{◌≡◌, ◌∷◌, ◌+◌, ◌*◌, ◌^◌, ◌≤◌, length};
 ghost use Rattle.limits.specs.Limits.{tallest_tree};
 ghost use Rattle.octets.specs.Octets.{pasted};

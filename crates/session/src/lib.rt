@@ -1,5 +1,6 @@
 // The replay of a session: records come in byte by byte, in pieces of any size, and each opening and each message's end gives a line.
 #![tactic(auto)]
+
 ghost use Rattle.std.specs.Prelude.{◌≡◌, true, ◌+◌, ◌≤◌, ◌<◌, length, take, replicate};
 ghost use Rattle.numbers.specs.Numbers.{refused};
 ghost use Rattle.session.specs.Session as S;

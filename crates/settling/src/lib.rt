@@ -1,5 +1,6 @@
 // What a run of hashes, a piece's blocks and a path of uncles settle in a store: worked out, looked at, written.
 #![tactic(auto)]
+
 ghost use Rattle.std.specs.Prelude.{◌≡◌, ◌&&◌, ◌+◌, ◌*◌, ◌^◌, ◌≤◌, ◌<◌, length};
 ghost use Rattle.tree.specs.Values.{node, leaf_of};
 ghost use Rattle.heaps.specs.Heaps.{hash_in, Parents, Worked};

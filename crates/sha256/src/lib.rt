@@ -1,5 +1,6 @@
 // SHA-256 (FIPS 180-4, section 6.2): the hash of a slice, and of a pair of hashes.
 #![tactic(auto)]
+
 ghost use Rattle.std.specs.Prelude.{◌≡◌, ◌/◌, ◌%◌, ◌++◌, length};
 ghost use Rattle.constants.specs.Constants.{K};
 ghost use Rattle.padding.specs.Padding as P;

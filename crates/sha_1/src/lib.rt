@@ -1,5 +1,6 @@
 // SHA-1 (FIPS 180-4, section 6.1): the hash of a slice, and of a slice with zeros behind it; two hashes compared whole.
 #![tactic(auto)]
+
 ghost use Rattle.std.specs.Prelude.{◌≡◌, ◌+◌, ◌/◌, ◌%◌, ◌^◌, ◌<◌, ◌++◌, length, replicate};
 ghost use Rattle.octets.specs.Octets as O;
 ghost use Rattle.padding.specs.Padding as P;

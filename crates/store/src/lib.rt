@@ -1,5 +1,6 @@
 // Whether a lent buffer is a store, the size a host has to lend, opening a store, asking for a held hash.
 #![tactic(auto)]
+
 ghost use Rattle.std.specs.Prelude.{◌≡◌, true, ◌++◌, ◌≤◌, length};
 ghost use Rattle.octets.specs.Octets.{pasted, zeroed, be};
 ghost use Rattle.cells.specs.Cells.{put};

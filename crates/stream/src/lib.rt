@@ -1,5 +1,6 @@
 // The byte stream from a neighbour (BEP 3), cut anywhere. The state goes in and out by value, the frame under way stands in a lent room.
 #![tactic(auto)]
+
 ghost use Rattle.std.specs.Prelude.{◌≡◌, ◌+◌, ◌*◌, ◌^◌, ◌≤◌, ◌<◌, min, ltb, length};
 ghost use Rattle.stream.specs.Reading as R;
 ghost use Rattle.stream.specs.Standing.{Going};

@@ -3,6 +3,7 @@
 // length with that file's. Each file is so read twice at most. Directories inside one another by recursion, with the levels left; nodes side by
 // side by a loop.
 #![tactic(auto)]
+
 ghost use Rattle.std.specs.Prelude.{◌≡◌, true, cond, ◌&&◌, ◌++◌, ◌+◌, ◌^◌, ◌≤◌, ◌<◌, drop, replicate, eqb};
 ghost use Rattle.std.proofs.Math.ListN as L;
 ghost use Rattle.limits.specs.Limits.{largest_torrent};

@@ -1,6 +1,7 @@
 // A torrent written of a list of files. Everything is worked out before the first byte is written: the list's form, the size of the
 // torrent, its number, the room. The files are sorted by the positions of their records, on the stack.
 #![tactic(auto)]
+
 ghost use Rattle.std.specs.Prelude.{◌≡◌, ◌≤◌, length};
 ghost use Rattle.octets.specs.Octets.{pasted};
 ghost use Rattle.writer_meaning.specs.Content.{item_before};

@@ -47,10 +47,10 @@ set_element-requires t c = (c.loop-i.invariant.given.sized, (let it : max_elemen
 
 pub put_record-requires : goal.put_record-requires
 put_record-requires t c = let pre = c.requires in (
-      pre.0,
-      record-right c.loop-i.invariant c.loop-i-test.true (sym c.in-Leaf.ensures) pre.1
-          c.if-levels-eq0.false c.if-out-to-lt-RECORD.false c.set_element.ensures,
-    )
+  pre.0,
+  record-right c.loop-i.invariant c.loop-i-test.true (sym c.in-Leaf.ensures) pre.1
+      c.if-levels-eq0.false c.if-out-to-lt-RECORD.false c.set_element.ensures,
+)
 
 pub overflow_add-to : goal.overflow_add-to
 overflow_add-to t c = let early = c.loop-i.invariant.early in let more = c.loop-i-test.true in

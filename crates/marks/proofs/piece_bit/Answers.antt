@@ -19,10 +19,10 @@ first_block-first-requires c = (c.requires, omega (arith, counted _ _ _ _ c.file
 
 pub all_marked-all-requires : goal.all_marked-all-requires
 all_marked-all-requires c = (
-      c.requires,
-      c.marks_start-start.ensures,
-      omega (arith, c.blocks_in-n.ensures, c.first_block-first.ensures, covered-fits _ (usable-facts _ c.requires) c.args.piece (omega (arith, counted _ _ _ _ c.file_length-size.ensures c.piece_length_of-plen.ensures c.piece_count-c.ensures, c.if-piece-c.false))),
-    )
+  c.requires,
+  c.marks_start-start.ensures,
+  omega (arith, c.blocks_in-n.ensures, c.first_block-first.ensures, covered-fits _ (usable-facts _ c.requires) c.args.piece (omega (arith, counted _ _ _ _ c.file_length-size.ensures c.piece_length_of-plen.ensures c.piece_count-c.ensures, c.if-piece-c.false))),
+)
 
 pub returns-then-all : goal.returns-then-all
 returns-then-all c = bit-by _ _ _ _ _ _ (omega (arith, counted _ _ _ _ c.file_length-size.ensures c.piece_length_of-plen.ensures c.piece_count-c.ensures, c.if-piece-c.false)) c.first_block-first.ensures c.blocks_in-n.ensures c.all_marked-all.ensures c.if-all.true

@@ -16,9 +16,13 @@ pub field_byte-x-requires : goal.field_byte-x-requires
 field_byte-x-requires c = (c.requires.0, omega (arith, c.requires.2))
 
 pub bounds-out-i : goal.bounds-out-i
-bounds-out-i c = omega (arith, (let it : length c.loop-i.out ≡ length c.args.out.now = let a = c.args in
-    ap length c.loop-i.invariant.1
-    ∙ length-paste a.out.now 0 (field_bytes a.store.now a.n) c.loop-i.i (omega (arith, c.requires.1)) (omega (arith, field-length a.store.now a.n)) in it), c.requires.1)
+bounds-out-i c = omega (
+  arith,
+  (let it : length c.loop-i.out ≡ length c.args.out.now = let a = c.args in
+      ap length c.loop-i.invariant.1
+      ∙ length-paste a.out.now 0 (field_bytes a.store.now a.n) c.loop-i.i (omega (arith, c.requires.1)) (omega (arith, field-length a.store.now a.n)) in it),
+  c.requires.1,
+)
 
 pub loop-i-preserved : goal.loop-i-preserved
 loop-i-preserved c = (omega arith, field-turn _ _ _ _ _ _ c.loop-i.invariant.1 (omega arith) c.requires.1 c.field_byte-x.ensures)

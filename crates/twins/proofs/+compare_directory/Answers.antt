@@ -67,10 +67,10 @@ loop-i-smaller t c = let h = c.loop-i-test.true in let e = sym c.in-Opened.ensur
 
 pub loop-i-preserved : goal.loop-i-preserved
 loop-i-preserved t c = let h = c.loop-i-test.true in let e = sym c.in-Opened.ensures in (
-      c.compare_directory.auto.room ∙ c.loop-i.invariant.0,
-      λ w. let g = c.loop-i.invariant.1 w in
-          going-directory w g h e _ _ _ ((c.in-Past.ensures (inside-ahead w g h e))),
-    )
+  c.compare_directory.auto.room ∙ c.loop-i.invariant.0,
+  λ w. let g = c.loop-i.invariant.1 w in
+      going-directory w g h e _ _ _ ((c.in-Past.ensures (inside-ahead w g h e))),
+)
 
 pub shape_of-room-in-Unlike : goal.shape_of-room-in-Unlike
 shape_of-room-in-Unlike t c = c.compare_directory.auto.room ∙ c.loop-i.invariant.0

@@ -7,40 +7,46 @@ use Rattle.writer.proofs.measure.Goals as goal
 
 pub sort-requires : goal.sort-requires
 sort-requires c = (
-      places c.args.list.now c.args.text.now c.requires.form _ _ c.requires.at_size c.place.ensures,
-      c.place.auto.at,
-      c.requires.room-size ∙ sym c.requires.at_size,
-    )
+  places c.args.list.now c.args.text.now c.requires.form _ _ c.requires.at_size c.place.ensures,
+  c.place.auto.at,
+  c.requires.room-size ∙ sym c.requires.at_size,
+)
 
 pub rest_size-rest-requires : goal.rest_size-rest-requires
-rest_size-rest-requires c = ((let it : InOrder root_before c.args.list.now c.args.text.now c.sort.new.at = roots-right c.args.list.now c.args.text.now c.requires.form _ _ _ c.requires.at_size
-    c.place.ensures c.sort.ensures.0 in it).placed, omega (arith, c.sort.auto.at, c.place.auto.at, c.requires.at_size, c.requires.few))
+rest_size-rest-requires c = (
+  (let it : InOrder root_before c.args.list.now c.args.text.now c.sort.new.at = roots-right c.args.list.now c.args.text.now c.requires.form _ _ _ c.requires.at_size
+      c.place.ensures c.sort.ensures.0 in it).placed,
+  omega (arith, c.sort.auto.at, c.place.auto.at, c.requires.at_size, c.requires.few),
+)
 
 pub root_number-roots-requires : goal.root_number-roots-requires
-root_number-roots-requires c = (c.requires.form, (let it : InOrder root_before c.args.list.now c.args.text.now c.sort.new.at = roots-right c.args.list.now c.args.text.now c.requires.form _ _ _ c.requires.at_size
-    c.place.ensures c.sort.ensures.0 in it))
+root_number-roots-requires c = (
+  c.requires.form,
+  (let it : InOrder root_before c.args.list.now c.args.text.now c.sort.new.at = roots-right c.args.list.now c.args.text.now c.requires.form _ _ _ c.requires.at_size
+      c.place.ensures c.sort.ensures.0 in it),
+)
 
 pub sort-requires-2 : goal.sort-requires-2
 sort-requires-2 c = (
-      (let it : InOrder root_before c.args.list.now c.args.text.now c.sort.new.at = roots-right c.args.list.now c.args.text.now c.requires.form _ _ _ c.requires.at_size
-    c.place.ensures c.sort.ensures.0 in it).placed,
-      c.sort.auto.at ∙ c.place.auto.at,
-      c.sort.auto.room ∙ c.requires.room-size ∙ sym c.requires.at_size,
-    )
+  (let it : InOrder root_before c.args.list.now c.args.text.now c.sort.new.at = roots-right c.args.list.now c.args.text.now c.requires.form _ _ _ c.requires.at_size
+      c.place.ensures c.sort.ensures.0 in it).placed,
+  c.sort.auto.at ∙ c.place.auto.at,
+  c.sort.auto.room ∙ c.requires.room-size ∙ sym c.requires.at_size,
+)
 
 pub info_size-info-requires : goal.info_size-info-requires
 info_size-info-requires c = (
-      (let it : InOrder item_before c.args.list.now c.args.text.now c.sort-2.new.at = tree-right c.args.list.now c.args.text.now c.requires.form _ _ ((let it : InOrder root_before c.args.list.now c.args.text.now c.sort.new.at = roots-right c.args.list.now c.args.text.now c.requires.form _ _ _ c.requires.at_size
-    c.place.ensures c.sort.ensures.0 in it)) c.sort-2.ensures.0 in it).placed,
-      omega (
-        arith,
-        c.sort-2.auto.at,
-        c.sort.auto.at,
-        c.place.auto.at,
-        c.requires.at_size,
-        c.requires.few,
-      ),
-    )
+  (let it : InOrder item_before c.args.list.now c.args.text.now c.sort-2.new.at = tree-right c.args.list.now c.args.text.now c.requires.form _ _ ((let it : InOrder root_before c.args.list.now c.args.text.now c.sort.new.at = roots-right c.args.list.now c.args.text.now c.requires.form _ _ _ c.requires.at_size
+      c.place.ensures c.sort.ensures.0 in it)) c.sort-2.ensures.0 in it).placed,
+  omega (
+    arith,
+    c.sort-2.auto.at,
+    c.sort.auto.at,
+    c.place.auto.at,
+    c.requires.at_size,
+    c.requires.few,
+  ),
+)
 
 pub meets-meet-requires : goal.meets-meet-requires
 meets-meet-requires c = (let it : InOrder item_before c.args.list.now c.args.text.now c.sort-2.new.at = tree-right c.args.list.now c.args.text.now c.requires.form _ _ ((let it : InOrder root_before c.args.list.now c.args.text.now c.sort.new.at = roots-right c.args.list.now c.args.text.now c.requires.form _ _ _ c.requires.at_size
@@ -51,12 +57,12 @@ overflow_add-size c = let a = c.info_size-info.ensures.1 in let b = c.rest_size-
 
 pub content_number-number-requires : goal.content_number-number-requires
 content_number-number-requires c = (
-      c.requires.form,
-      met c.args.list.now c.args.text.now c.requires.form _ _ ((let it : InOrder item_before c.args.list.now c.args.text.now c.sort-2.new.at = tree-right c.args.list.now c.args.text.now c.requires.form _ _ ((let it : InOrder root_before c.args.list.now c.args.text.now c.sort.new.at = roots-right c.args.list.now c.args.text.now c.requires.form _ _ _ c.requires.at_size
-    c.place.ensures c.sort.ensures.0 in it)) c.sort-2.ensures.0 in it)) c.meets-meet.ensures,
-      λ k p.
-          c.root_number-roots.ensures (omega (arith, k)) p,
-    )
+  c.requires.form,
+  met c.args.list.now c.args.text.now c.requires.form _ _ ((let it : InOrder item_before c.args.list.now c.args.text.now c.sort-2.new.at = tree-right c.args.list.now c.args.text.now c.requires.form _ _ ((let it : InOrder root_before c.args.list.now c.args.text.now c.sort.new.at = roots-right c.args.list.now c.args.text.now c.requires.form _ _ _ c.requires.at_size
+      c.place.ensures c.sort.ensures.0 in it)) c.sort-2.ensures.0 in it)) c.meets-meet.ensures,
+  λ k p.
+      c.root_number-roots.ensures (omega (arith, k)) p,
+)
 
 pub shape_of-at : goal.shape_of-at
 shape_of-at c = c.sort-2.auto.at ∙ c.sort.auto.at ∙ c.place.auto.at
@@ -70,5 +76,9 @@ returns c = let size =
     c.place.ensures c.sort.ensures.0 in it)) c.sort-2.ensures.0 in it))
     ((let it : InOrder root_before c.args.list.now c.args.text.now c.sort.new.at = roots-right c.args.list.now c.args.text.now c.requires.form _ _ _ c.requires.at_size
     c.place.ensures c.sort.ensures.0 in it)) _ _ c.info_size-info.ensures.0 c.rest_size-rest.ensures.0 in
-    record { tree-order = (let it : InOrder item_before c.args.list.now c.args.text.now c.sort-2.new.at = tree-right c.args.list.now c.args.text.now c.requires.form _ _ ((let it : InOrder root_before c.args.list.now c.args.text.now c.sort.new.at = roots-right c.args.list.now c.args.text.now c.requires.form _ _ _ c.requires.at_size
-    c.place.ensures c.sort.ensures.0 in it)) c.sort-2.ensures.0 in it); number_is = c.content_number-number.ensures c.args.name.now size; size_is = size }
+    record {
+      tree-order = (let it : InOrder item_before c.args.list.now c.args.text.now c.sort-2.new.at = tree-right c.args.list.now c.args.text.now c.requires.form _ _ ((let it : InOrder root_before c.args.list.now c.args.text.now c.sort.new.at = roots-right c.args.list.now c.args.text.now c.requires.form _ _ _ c.requires.at_size
+          c.place.ensures c.sort.ensures.0 in it)) c.sort-2.ensures.0 in it);
+      number_is = c.content_number-number.ensures c.args.name.now size;
+      size_is = size;
+    }

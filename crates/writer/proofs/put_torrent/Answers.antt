@@ -17,12 +17,12 @@ put_info-behind-requires c = (
 
 pub put_rest-requires : goal.put_rest-requires
 put_rest-requires c = (
-      c.order_for_rest.ensures.placed,
-      let r = rest-room c.args.list.now
-          c.args.text.now c.requires.0.form c.args.plen c.args.name.now _ _ c.requires.1
-          c.order_for_rest.ensures c.requires.2 _ _
-          c.put_info-behind.ensures.behind c.requires.3 in omega arith,
-    )
+  c.order_for_rest.ensures.placed,
+  let r = rest-room c.args.list.now
+      c.args.text.now c.requires.0.form c.args.plen c.args.name.now _ _ c.requires.1
+      c.order_for_rest.ensures c.requires.2 _ _
+      c.put_info-behind.ensures.behind c.requires.3 in omega arith,
+)
 
 pub returns : goal.returns
 returns c = whole-bytes c.args.list.now c.args.text.now

@@ -38,26 +38,26 @@ returns-then-out-size c = let a = answer-room c.args.list.now
 
 pub put_torrent-requires : goal.put_torrent-requires
 put_torrent-requires c = (
-      record {
-        form = c.requires.form;
-        few =
-            c.requires.few;
-        at_size =
-            c.measure-measured.auto.at ∙
-            c.requires.at_size;
-        room-size =
-            c.measure-measured.auto.room ∙
-            c.requires.room-size;
-      },
-      c.measure-measured.ensures.tree-order,
-      (sym c.measure-measured.ensures.number_is ∙
-          c.if-number-ne0.false),
-      omega (
-        arith,
-        c.measure-measured.ensures.size_is,
-        c.if-out-size.false,
-      ),
-    )
+  record {
+    form = c.requires.form;
+    few =
+        c.requires.few;
+    at_size =
+        c.measure-measured.auto.at ∙
+        c.requires.at_size;
+    room-size =
+        c.measure-measured.auto.room ∙
+        c.requires.room-size;
+  },
+  c.measure-measured.ensures.tree-order,
+  (sym c.measure-measured.ensures.number_is ∙
+      c.if-number-ne0.false),
+  omega (
+    arith,
+    c.measure-measured.ensures.size_is,
+    c.if-out-size.false,
+  ),
+)
 
 pub shape_of-at : goal.shape_of-at
 shape_of-at c = c.put_torrent.auto.at ∙

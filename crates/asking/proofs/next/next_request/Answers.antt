@@ -26,10 +26,10 @@ nonzero_div-j c = length_some _ _ _ c.next_number-number.ensures c.if-number-ne-
 
 pub run_header-x-requires : goal.run_header-x-requires
 run_header-x-requires c = (
-      next-usable _ _ _ c.next_number-number.ensures c.if-number-ne-DONE.false,
-      c.height_of-h.ensures,
-      in-layer _ _ _ c.next_number-number.ensures c.if-number-ne-DONE.false _ c.height_of-h.ensures _ _ _ c.blocks_of-b.ensures c.covering-c.ensures c.node_number-first.ensures _ c.held_front-i.ensures c.if-i-c.true _ c.run_length-len.ensures,
-    )
+  next-usable _ _ _ c.next_number-number.ensures c.if-number-ne-DONE.false,
+  c.height_of-h.ensures,
+  in-layer _ _ _ c.next_number-number.ensures c.if-number-ne-DONE.false _ c.height_of-h.ensures _ _ _ c.blocks_of-b.ensures c.covering-c.ensures c.node_number-first.ensures _ c.held_front-i.ensures c.if-i-c.true _ c.run_length-len.ensures,
+)
 
 pub facts_root-root-requires : goal.facts_root-root-requires
 facts_root-root-requires c = usable-long _ (next-usable _ _ _ c.next_number-number.ensures c.if-number-ne-DONE.false)

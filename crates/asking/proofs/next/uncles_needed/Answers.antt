@@ -17,11 +17,11 @@ returns-then-there c = let a = c.args in
 
 pub loop-u-preserved : goal.loop-u-preserved
 loop-u-preserved c = let a = c.args in (
-      omega arith,
-      up_one c.loop-u.u a.node c.loop-u.x c.loop-u.invariant.1,
-      omega (arith, c.loop-u.invariant.2),
-      free_more a.store.now a.node c.loop-u.u c.loop-u.invariant.3 (ap (held_at a.store.now) (sym c.loop-u.invariant.1) ∙ sym c.held-there.ensures ∙ c.if-there.false),
-    )
+  omega arith,
+  up_one c.loop-u.u a.node c.loop-u.x c.loop-u.invariant.1,
+  omega (arith, c.loop-u.invariant.2),
+  free_more a.store.now a.node c.loop-u.u c.loop-u.invariant.3 (ap (held_at a.store.now) (sym c.loop-u.invariant.1) ∙ sym c.held-there.ensures ∙ c.if-there.false),
+)
 
 pub returns : goal.returns
 returns c = needed-all _ _ _ (λ j l. c.loop-u.invariant.3 j (omega arith))

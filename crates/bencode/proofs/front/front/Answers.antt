@@ -21,7 +21,6 @@ loop-i-preserved c = (
   alike-one c.args.one.now
       c.args.other.now _
       c.loop-i.invariant.1 c.if-one-i.false,
-
 )
 
 pub returns : goal.returns

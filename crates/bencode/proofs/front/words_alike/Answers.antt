@@ -14,7 +14,6 @@ loop-i-preserved c = (
   alike-four c.args.one.now
       c.args.other.now _ c.loop-i.invariant.1
       (c.four_alike.ensures (c.if-not-four_alike.false)),
-
 )
 
 pub returns : goal.returns

@@ -9,5 +9,4 @@ returns c = (
   c.sum_all.ensures.0,
   λ j h.
       block-in-lane c.args.k.now _ _ (state_in c.args.states j) (state_in c.steps.result j) _ (c.fill.ensures j h) (c.steps.ensures j h) (c.sum_all.ensures.1 j h),
-
 )

@@ -21,5 +21,4 @@ returns c = (
   λ j h.
       c.sum_all.ensures.1 j h
       ∙ ap (plus (state_in c.args.states j)) (rounded-last (λ (j : ℕ). c.args.sums.now) _ c.loop-i.i c.loop-i.t (omega arith) c.loop-i.invariant.2 j h),
-
 )

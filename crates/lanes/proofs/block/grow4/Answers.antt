@@ -7,5 +7,4 @@ pub returns : goal.returns
 returns c = (
   four-growings _ _ _ _ _ c.args.i c.grow.ensures.0 c.grow-2.ensures.0 c.grow-3.ensures.0 c.grow-4.ensures.0,
   beside-then (beside-then c.grow.ensures.1 c.grow-2.ensures.1) (beside-then c.grow-3.ensures.1 c.grow-4.ensures.1),
-
 )

@@ -14,7 +14,6 @@ pub loop-j-preserved : goal.loop-j-preserved
 loop-j-preserved c = (
   omega arith,
   passed-more 64 _ c.loop-j.j _ c.loop-j.w _ (omega arith) c.loop-j.invariant.1 c.grow4.ensures.1 c.grow4.ensures.0,
-
 )
 
 pub returns : goal.returns

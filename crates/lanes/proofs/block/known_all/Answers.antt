@@ -14,7 +14,6 @@ pub loop-j-preserved : goal.loop-j-preserved
 loop-j-preserved c = let a = c.args in (
   omega arith,
   rounding-more (λ (y : ℕ). a.x.now) a.i (a.i + 4) c.loop-j.j _ c.loop-j.t _ (omega arith) c.loop-j.invariant.1 c.known4.ensures.1 c.known4.ensures.0,
-
 )
 
 pub returns : goal.returns

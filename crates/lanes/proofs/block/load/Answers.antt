@@ -23,7 +23,6 @@ unfolding Loading
 loop-j-preserved c = let a = c.args in (
   omega arith,
   passed-more 64 (Loading (λ (x : ℕ). cut a.bytes.now (a.at + x * a.stride) 64)) c.loop-j.j _ c.loop-j.w _ (omega arith) c.loop-j.invariant.1 c.load_lane.ensures.1 c.load_lane.ensures.0,
-
 )
 
 pub returns : goal.returns

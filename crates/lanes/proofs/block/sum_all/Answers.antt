@@ -12,7 +12,6 @@ loop-i-preserved c = (
   omega arith,
   length-set c.loop-i.r c.loop-i.i c.add.result ∙ c.loop-i.invariant.1,
   sum_more c.args.st c.args.t c.loop-i.r c.loop-i.i c.add.result (omega arith) c.loop-i.invariant.2 c.add.ensures,
-
 )
 
 pub returns : goal.returns

@@ -16,7 +16,6 @@ unfolding state_in
 loop-j-preserved c = (
   omega arith,
   passed-more 8 (λ (x : ℕ) (l k : List ℕ). state_of k ≡ c.start-z.result) c.loop-j.j _ c.loop-j.t _ (omega arith) c.loop-j.invariant.1 c.put_lane.ensures.1 c.put_lane.ensures.0,
-
 )
 
 pub returns : goal.returns

@@ -5,10 +5,10 @@ use Rattle.sorting.proofs.distinct.once_each.Goals as goal
 
 pub sort-requires : goal.sort-requires
 sort-requires c = let z : c.args.count - 0 ≡ c.args.count = omega arith in (
-      first-fit _ c.args.at.now (c.args.count - 0) c.args.count z c.requires.2,
-      length-take-le (c.args.count - 0) c.args.at.now (omega arith) ∙ z,
-      length-take-le (c.args.count - 0) c.args.room.now (omega arith) ∙ z,
-    )
+  first-fit _ c.args.at.now (c.args.count - 0) c.args.count z c.requires.2,
+  length-take-le (c.args.count - 0) c.args.at.now (omega arith) ∙ z,
+  length-take-le (c.args.count - 0) c.args.room.now (omega arith) ∙ z,
+)
 
 pub thin-requires : goal.thin-requires
 thin-requires c = let sorted = c.sort in

@@ -18,11 +18,11 @@ slice_bounds-gives_root-end c = layer-end c.args.list.now c.args.text.now
 
 pub gives_root-requires : goal.gives_root-requires
 gives_root-requires c = (
-      c.requires.1 (c.if-not-layers.false),
-      sym
-          c.has_layer.ensures ∙ c.if-not-has_layer.false,
-      root-length c.args.list.now c.args.p c.requires.0.0,
-    )
+  c.requires.1 (c.if-not-layers.false),
+  sym
+      c.has_layer.ensures ∙ c.if-not-has_layer.false,
+  root-length c.args.list.now c.args.p c.requires.0.0,
+)
 
 pub returns-then-gives_root : goal.returns-then-gives_root
 returns-then-gives_root c = let k = c.args in layer-gives

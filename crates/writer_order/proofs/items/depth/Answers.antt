@@ -17,11 +17,11 @@ overflow_add-n c = let f = c.loop-at.invariant.1.few in let n = c.loop-at.invari
 
 pub loop-at-preserved : goal.loop-at-preserved
 loop-at-preserved c = let s = c.args.path.now in let l = c.loop-at in (
-      _,
-      passed-more s l.at l.invariant.0 l.invariant.1 c.loop-at-test.true _ c.number_at-m.ensures.0,
-      length_more
-          l.invariant.0 _ l.n l.invariant.2,
-    )
+  _,
+  passed-more s l.at l.invariant.0 l.invariant.1 c.loop-at-test.true _ c.number_at-m.ensures.0,
+  length_more
+      l.invariant.0 _ l.n l.invariant.2,
+)
 
 pub returns : goal.returns
 returns c = let s = c.args.path.now in let l = c.loop-at in let e = passed-end s l.at l.invariant.0 l.invariant.1

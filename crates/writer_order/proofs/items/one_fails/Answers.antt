@@ -17,10 +17,10 @@ returns-then-failing c = let k = c.args in let t = fails k.plen k.test in conten
 
 pub loop-i-preserved : goal.loop-i-preserved
 loop-i-preserved c = let k = c.args in (
-      omega arith,
-      none_so_far (fails k.plen k.test) k.list.now k.text.now c.loop-i.i
-          c.loop-i.invariant.1 (sym c.failing.ensures ∙ c.if-failing.false),
-    )
+  omega arith,
+  none_so_far (fails k.plen k.test) k.list.now k.text.now c.loop-i.i
+      c.loop-i.invariant.1 (sym c.failing.ensures ∙ c.if-failing.false),
+)
 
 pub returns : goal.returns
 returns c = let k = c.args in content-some (fails k.plen k.test) k.list.now k.text.now

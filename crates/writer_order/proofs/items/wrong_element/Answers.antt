@@ -28,12 +28,12 @@ returns-then-not-element_right c = let s = c.args.path.now in let l = c.loop-at 
 
 pub loop-at-preserved : goal.loop-at-preserved
 loop-at-preserved c = let s = c.args.path.now in let l = c.loop-at in (
-      _,
-      passed-more s l.at l.invariant.0 l.invariant.1 c.loop-at-test.true _
-          c.number_at-m.ensures.0,
-      some-last (λ (e : List ℕ). not (element_right e)) l.invariant.0 _ l.invariant.2
-          (ap not (sym c.element_right.ensures ∙ c.if-not-element_right.false)),
-    )
+  _,
+  passed-more s l.at l.invariant.0 l.invariant.1 c.loop-at-test.true _
+      c.number_at-m.ensures.0,
+  some-last (λ (e : List ℕ). not (element_right e)) l.invariant.0 _ l.invariant.2
+      (ap not (sym c.element_right.ensures ∙ c.if-not-element_right.false)),
+)
 
 pub returns : goal.returns
 returns c = let s = c.args.path.now in let l = c.loop-at in sym

@@ -24,13 +24,13 @@ returns-then-leads c = let k = c.args in sym
 
 pub loop-i-preserved : goal.loop-i-preserved
 loop-i-preserved c = let k = c.args in (
-      omega (arith, c.loop-i-test.true),
-      neighbours-on leads
-          (item_at k.list.now k.text.now) k.at.now c.loop-i.i
-          c.loop-i-test.true _ _ c.index-p.ensures
-          c.index-q.ensures c.loop-i.invariant.1
-          (sym c.leads.ensures ∙ c.if-leads.false),
-    )
+  omega (arith, c.loop-i-test.true),
+  neighbours-on leads
+      (item_at k.list.now k.text.now) k.at.now c.loop-i.i
+      c.loop-i-test.true _ _ c.index-p.ensures
+      c.index-q.ensures c.loop-i.invariant.1
+      (sym c.leads.ensures ∙ c.if-leads.false),
+)
 
 pub returns : goal.returns
 returns c = let k = c.args in sym

@@ -4,18 +4,18 @@ use Rattle.writer_output.proofs.file.put_properties.Goals as goal
 
 pub put_bytes-number-requires : goal.put_bytes-number-requires
 put_bytes-number-requires c = omega (
-      arith,
-      properties-least c.args.size c.args.root.now,
-      c.requires,
-    )
+  arith,
+  properties-least c.args.size c.args.root.now,
+  c.requires,
+)
 
 pub put_decimal-behind-requires : goal.put_decimal-behind-requires
 put_decimal-behind-requires c = let e = c.put_bytes-number.ensures.behind in omega (
-      arith,
-      properties-least c.args.size
-          c.args.root.now,
-      c.requires,
-    )
+  arith,
+  properties-least c.args.size
+      c.args.root.now,
+  c.requires,
+)
 
 pub put_bytes-requires : goal.put_bytes-requires
 put_bytes-requires c = let e = c.put_bytes-number.ensures.behind in let f =

@@ -15,7 +15,7 @@ put_file-to-requires c = let g = c.loop-i.invariant in let h = c.loop-i-test.tru
       g.standing,
       part-standing g h c.requires.0 _ e _ _ a b,
       (let it : c.index-place.result + record_size ≤ length c.args.list.now = (placed-index c.args.list.now c.args.text.now c.args.order.now c.loop-i.i _ c.requires.0
-    c.loop-i-test.true c.index-place.ensures).0 in it),
+          c.loop-i-test.true c.index-place.ensures).0 in it),
       file-room g h c.requires.0 _ e _ _ a b _ c.requires.1,
     )
 
@@ -28,9 +28,9 @@ put_byte-last-requires c = last-room c.loop-i.invariant c.loop-i-test.false _ c.
 
 pub put_closed-requires : goal.put_closed-requires
 put_closed-requires c = (
-      c.loop-i.invariant.standing,
-      closed-room c.loop-i.invariant c.loop-i-test.false _ _ c.put_byte-last.ensures c.put_byte-last.auto.out _ c.requires.1,
-    )
+  c.loop-i.invariant.standing,
+  closed-room c.loop-i.invariant c.loop-i-test.false _ _ c.put_byte-last.ensures c.put_byte-last.auto.out _ c.requires.1,
+)
 
 pub shape_of-out : goal.shape_of-out
 shape_of-out c = c.put_closed.auto.out ∙ c.put_byte-last.auto.out ∙ c.loop-i.invariant.going.kept

@@ -10,15 +10,15 @@ returns-then-root_repeats c = put-repeated c.args.list.now c.args.text.now
 
 pub put_string-value-requires : goal.put_string-value-requires
 put_string-value-requires c = omega (
-      arith,
-      entry_length c.args.list.now
-          c.args.text.now
-          c.args.place
-          c.args.last
-          c.args.seen _
-          c.root_repeats.ensures c.if-root_repeats.false,
-      c.requires.2,
-    )
+  arith,
+  entry_length c.args.list.now
+      c.args.text.now
+      c.args.place
+      c.args.last
+      c.args.seen _
+      c.root_repeats.ensures c.if-root_repeats.false,
+  c.requires.2,
+)
 
 pub slice_bounds-put_string-end-2 : goal.slice_bounds-put_string-end-2
 slice_bounds-put_string-end-2 c = layer-end c.args.list.now
@@ -30,18 +30,18 @@ slice_bounds-put_string-end-2 c = layer-end c.args.list.now
 
 pub put_string-requires : goal.put_string-requires
 put_string-requires c = let e = c.put_string-value.ensures.behind in omega (
-      arith,
-      entry_length c.args.list.now c.args.text.now
-          c.args.place c.args.last
-          c.args.seen _ c.root_repeats.ensures
-          c.if-root_repeats.false,
-      c.requires.2,
-      ap (λ (l : List ℕ). length (encode_string l))
-          (layer-slice c.args.list.now c.args.text.now
-          c.args.place _ _ c.requires.0
-          c.number_at-start.ensures.0
-          c.number_at-size.ensures.0),
-    )
+  arith,
+  entry_length c.args.list.now c.args.text.now
+      c.args.place c.args.last
+      c.args.seen _ c.root_repeats.ensures
+      c.if-root_repeats.false,
+  c.requires.2,
+  ap (λ (l : List ℕ). length (encode_string l))
+      (layer-slice c.args.list.now c.args.text.now
+      c.args.place _ _ c.requires.0
+      c.number_at-start.ensures.0
+      c.number_at-size.ensures.0),
+)
 
 pub returns : goal.returns
 returns c = put-entry c.args.list.now

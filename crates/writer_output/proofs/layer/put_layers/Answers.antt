@@ -11,9 +11,12 @@ loop-i-preserved-then-size-eq0 c = listing-skip c.loop-i.invariant c.loop-i-test
 
 pub put_layer-to-requires : goal.put_layer-to-requires
 put_layer-to-requires c = let g = c.loop-i.invariant in let h = c.loop-i-test.true in let pre = c.requires in
-    let e = c.index-place.ensures in let b = c.number_at-size.ensures.0 in let z = c.if-size-eq0.false in
-    ((let it : InForm c.args.list.now c.args.text.now c.index-place.result = placed-index c.args.list.now c.args.text.now c.args.order.now c.loop-i.i _
-    c.requires.0 c.loop-i-test.true c.index-place.ensures in it), last-inside g h pre.0 _ e _ b z, layer-room g h pre.0 _ e _ b z _ pre.1)
+    let e = c.index-place.ensures in let b = c.number_at-size.ensures.0 in let z = c.if-size-eq0.false in (
+      (let it : InForm c.args.list.now c.args.text.now c.index-place.result = placed-index c.args.list.now c.args.text.now c.args.order.now c.loop-i.i _
+          c.requires.0 c.loop-i-test.true c.index-place.ensures in it),
+      last-inside g h pre.0 _ e _ b z,
+      layer-room g h pre.0 _ e _ b z _ pre.1,
+    )
 
 pub loop-i-preserved : goal.loop-i-preserved
 loop-i-preserved c = listing-more c.loop-i.invariant c.loop-i-test.true c.requires.0 _ c.index-place.ensures _

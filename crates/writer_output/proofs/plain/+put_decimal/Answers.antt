@@ -11,10 +11,10 @@ returns-then-number-lt10 t c = put-digit _ _ _ _ _ c.if-number-lt10.true c.put_b
 
 pub put_decimal-last-requires : goal.put_decimal-last-requires
 put_decimal-last-requires t c = let h : 10 ≤ c.args.number = c.if-number-lt10.false in let e = c.decreases in (
-      omega arith,
-      (digits-room c.args.at c.args.number _ h
-          c.requires).0,
-    )
+  omega arith,
+  (digits-room c.args.at c.args.number _ h
+      c.requires).0,
+)
 
 pub put_byte-requires-2 : goal.put_byte-requires-2
 put_byte-requires-2 t c = let e = c.put_decimal-last.ensures.behind in let g = (digits-room

@@ -11,8 +11,11 @@ pub loop-i-init : goal.loop-i-init
 loop-i-init c = (omega arith, paste-zero c.args.out.now c.args.at c.args.bytes.now)
 
 pub bounds-out-at : goal.bounds-out-at
-bounds-out-at c = omega (arith, (let it : length c.loop-i.out ≡ length c.args.out.now = ap length c.loop-i.invariant.1 ∙ length-paste c.args.out.now c.args.at
-    c.args.bytes.now c.loop-i.i (omega arith) (omega arith) in it))
+bounds-out-at c = omega (
+  arith,
+  (let it : length c.loop-i.out ≡ length c.args.out.now = ap length c.loop-i.invariant.1 ∙ length-paste c.args.out.now c.args.at
+      c.args.bytes.now c.loop-i.i (omega arith) (omega arith) in it),
+)
 
 pub loop-i-preserved : goal.loop-i-preserved
 loop-i-preserved c = (omega arith, turn _ _ _ _ _ c.loop-i.invariant.1 (omega arith) (omega arith))

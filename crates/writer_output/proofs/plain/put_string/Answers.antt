@@ -7,10 +7,10 @@ put_decimal-colon-requires c = omega (arith, string-length c.args.bytes.now, c.r
 
 pub put_byte-start-requires : goal.put_byte-start-requires
 put_byte-start-requires c = let e = c.put_decimal-colon.ensures.behind in omega (
-      arith,
-      string-length c.args.bytes.now,
-      c.requires,
-    )
+  arith,
+  string-length c.args.bytes.now,
+  c.requires,
+)
 
 pub put_bytes-requires : goal.put_bytes-requires
 put_bytes-requires c = let e = c.put_decimal-colon.ensures.behind in let f =

@@ -15,45 +15,45 @@ put_bytes-value-requires c = omega (arith, info-room _ _ _ _ _ c.requires.1, c.p
 
 pub put_string-key-requires : goal.put_string-key-requires
 put_string-key-requires c = omega (
-      arith,
-      info-room _ _ _ _ _ c.requires.1,
-      c.put_bytes-tree.ensures.behind,
-      c.put_tree-version.ensures.behind,
-      c.put_bytes-value.ensures.behind,
-    )
+  arith,
+  info-room _ _ _ _ _ c.requires.1,
+  c.put_bytes-tree.ensures.behind,
+  c.put_tree-version.ensures.behind,
+  c.put_bytes-value.ensures.behind,
+)
 
 pub put_bytes-number-requires : goal.put_bytes-number-requires
 put_bytes-number-requires c = omega (
-      arith,
-      info-room _ _ _ _ _ c.requires.1,
-      c.put_bytes-tree.ensures.behind,
-      c.put_tree-version.ensures.behind,
-      c.put_bytes-value.ensures.behind,
-      c.put_string-key.ensures.behind,
-    )
+  arith,
+  info-room _ _ _ _ _ c.requires.1,
+  c.put_bytes-tree.ensures.behind,
+  c.put_tree-version.ensures.behind,
+  c.put_bytes-value.ensures.behind,
+  c.put_string-key.ensures.behind,
+)
 
 pub put_decimal-end-requires : goal.put_decimal-end-requires
 put_decimal-end-requires c = omega (
-      arith,
-      info-room _ _ _ _ _ c.requires.1,
-      c.put_bytes-tree.ensures.behind,
-      c.put_tree-version.ensures.behind,
-      c.put_bytes-value.ensures.behind,
-      c.put_string-key.ensures.behind,
-      c.put_bytes-number.ensures.behind,
-    )
+  arith,
+  info-room _ _ _ _ _ c.requires.1,
+  c.put_bytes-tree.ensures.behind,
+  c.put_tree-version.ensures.behind,
+  c.put_bytes-value.ensures.behind,
+  c.put_string-key.ensures.behind,
+  c.put_bytes-number.ensures.behind,
+)
 
 pub put_bytes-requires : goal.put_bytes-requires
 put_bytes-requires c = omega (
-      arith,
-      info-room _ _ _ _ _ c.requires.1,
-      c.put_bytes-tree.ensures.behind,
-      c.put_tree-version.ensures.behind,
-      c.put_bytes-value.ensures.behind,
-      c.put_string-key.ensures.behind,
-      c.put_bytes-number.ensures.behind,
-      c.put_decimal-end.ensures.behind,
-    )
+  arith,
+  info-room _ _ _ _ _ c.requires.1,
+  c.put_bytes-tree.ensures.behind,
+  c.put_tree-version.ensures.behind,
+  c.put_bytes-value.ensures.behind,
+  c.put_string-key.ensures.behind,
+  c.put_bytes-number.ensures.behind,
+  c.put_decimal-end.ensures.behind,
+)
 
 pub returns : goal.returns
 returns c = let args = c.args in

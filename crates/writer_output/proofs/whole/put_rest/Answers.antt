@@ -16,12 +16,12 @@ put_layers-end-requires c = (
 
 pub put_byte-requires : goal.put_byte-requires
 put_byte-requires c = let e = c.put_layers-end.ensures.behind in omega (
-      arith,
-      rest-length (map (item_at c.args.list.now
-          c.args.text.now)
-          c.args.order.now),
-      c.requires.1,
-    )
+  arith,
+  rest-length (map (item_at c.args.list.now
+      c.args.text.now)
+      c.args.order.now),
+  c.requires.1,
+)
 
 pub returns : goal.returns
 returns c = put_both (map (item_at c.args.list.now c.args.text.now)
