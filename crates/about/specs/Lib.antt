@@ -1,3 +1,1 @@
 pub mod About
-pub mod AboutLaws
-pub mod AboutMeans

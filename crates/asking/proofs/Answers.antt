@@ -12,7 +12,7 @@ use Rattle.limits.specs.Limits.{tallest_tree}
 use Rattle.octets.specs.Octets.{be, pasted}
 use Rattle.octets.specs.OctetsLaws.{pasted-append}
 use Rattle.tree.specs.Geometry.{height, log2, node_number, covering, piece_layer, has_layer}
-use Rattle.tree.specs.GeometryLaws.{node-number-range, shifted_one}
+use Rattle.tree.proofs.GeometryLaws.{node-number-range, shifted_one}
 use Rattle.cells.specs.Cells.{Room}
 use Rattle.store.specs.Store.{usable, file_length, piece_length, facts_root, blocks_of, height_of, positions}
 use Rattle.store.specs.StoreLaws.{usable-facts, facts-usable, positions-some}
@@ -20,7 +20,7 @@ use Rattle.header.specs.Header.{Small, request_id}
 use Rattle.header.specs.declared.Header.{Header}
 use Rattle.asking.specs.declared.next.Request.{Request}
 use Rattle.asking.specs.Asking.{layer_asked, next_number, wanted, held_front, lowest, run_length, uncles_needed, proof_for, run_top, run_header, next_header, request_bytes, no_request, request_for, next_answer}
-use Rattle.asking.specs.AskingLaws.{needed-most, proof-most, RunFacts, run-facts, top_in, Asked, number-says, asked_low, wanted-within, height-small, asked-below, asked-run}
+use Rattle.asking.proofs.AskingLaws.{needed-most, proof-most, RunFacts, run-facts, top_in, Asked, number-says, asked_low, wanted-within, height-small, asked-below, asked-run}
 use Rattle.asking.specs.Asks.{InLayer}
 
 -- the facts of a usable store are there,

@@ -1,2 +1,4 @@
 mod Answers
 mod Picks
+pub mod AskingLaws
+pub mod PickingLaws

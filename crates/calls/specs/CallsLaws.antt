@@ -7,7 +7,7 @@ use Rattle.std.proofs.Math.Bool.{false}
 use Rattle.octets.specs.Octets.{pasted}
 use Rattle.numbers.specs.Numbers.{no_room, no_such_part, refused, done}
 use Rattle.numbers.specs.declared.Answer.{Answer}
-use Rattle.halves.specs.HalvesLaws.{torrent-ranged}
+use Rattle.halves.proofs.HalvesLaws.{torrent-ranged}
 use Rattle.metainfo.specs.Metainfo.{bytes_in}
 use Rattle.filetree.specs.Tree.{Element, listed, files_in, file_number}
 use Rattle.torrent.specs.Torrent.{checked_of, read_of, file_read, no_file_read, path_read, element_in, no_part_read}

@@ -11,10 +11,10 @@ use Rattle.limits.specs.Limits.{largest_torrent, max_levels}
 use Rattle.numbers.specs.Numbers.{key_missing, layer_differs, no_room, no_such_part}
 use Rattle.bencode.specs.Grammar.{dictionary, Entries, encode, Valid}
 use Rattle.meaning.specs.Nth.{Nth}
-use Rattle.meaning.specs.NthLaws.{nth-some}
+use Rattle.meaning.proofs.NthLaws.{nth-some}
 use Rattle.meaning.specs.Torrent.{File, files_of, value_number}
 use Rattle.halves.specs.V1Half.{torrent_number}
-use Rattle.halves.specs.HalvesLaws.{lower-exactly}
+use Rattle.halves.proofs.HalvesLaws.{lower-exactly}
 use Rattle.torrent.specs.Torrent.{checked_of, read_of, file_read, path_read}
 use Rattle.torrent.specs.Answers.{Says, too_large, no_encoding, too_deep, encodes}
 use Rattle.torrent.specs.NumberMeans.{read_number_lem, read-says, no-other-number, read-encodes, refused-file, refused-path, file-29-after, path-29-after}

@@ -8,17 +8,17 @@ use Rattle.limits.specs.Limits.{largest_torrent, max_levels}
 use Rattle.numbers.specs.Numbers.{wrong_tree, no_such_part}
 use Rattle.bencode.specs.Grammar.{dictionary, Entries, encode, Valid}
 use Rattle.meaning.specs.Nth.{Nth}
-use Rattle.meaning.specs.NthLaws.{nth-some}
+use Rattle.meaning.proofs.NthLaws.{nth-some}
 use Rattle.meaning.specs.Torrent.{File, tree_of, files_of, number_by, value_number}
-use Rattle.meaning.specs.TestsLaws.{tree-no}
+use Rattle.meaning.proofs.TestsLaws.{tree-no}
 use Rattle.meaning.specs.Amiss.{NoneBelow25}
-use Rattle.meaning.specs.AmissLaws.{right-tree}
-use Rattle.meaning.specs.ClimbsOut.{climbs-out}
-use Rattle.meaning.specs.FilesLaws.{FileHolds, nth-holds, nth_right, files-hold}
+use Rattle.meaning.proofs.AmissLaws.{right-tree}
+use Rattle.meaning.proofs.ClimbsOut.{climbs-out}
+use Rattle.meaning.proofs.FilesLaws.{FileHolds, nth-holds, nth_right, files-hold}
 use Rattle.meaning.specs.Paths.{StaysInside, AllStay, written, to_zero, Location, walk, follow, InFolder}
-use Rattle.meaning.specs.PathsLaws.{element-exactly, followed, on-the-way, in-folder}
-use Rattle.meaning.specs.NamesAside.{tree_shaped, names_right}
-use Rattle.meaning.specs.NamesAsideLaws.{names-right-stands, names-only-25}
+use Rattle.meaning.proofs.PathsLaws.{element-exactly, followed, on-the-way, in-folder}
+use Rattle.meaning.proofs.NamesAside.{tree_shaped, names_right}
+use Rattle.meaning.proofs.NamesAsideLaws.{names-right-stands, names-only-25}
 use Rattle.halves.specs.V1Half.{with_halves, torrent_number}
 use Rattle.torrent.specs.Torrent.{checked_of, read_of, file_read, path_read}
 use Rattle.torrent.specs.NumberMeans.{number-is-the-values, read_number_lem, read-encodes, refused-read, refused-file, refused-path}

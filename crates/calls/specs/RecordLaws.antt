@@ -14,16 +14,16 @@ use Rattle.octets.specs.OctetsLaws.{cut-cut, cut-pasted-same, cut-append-left, n
 use Rattle.limits.specs.Limits.{largest_torrent, max_levels}
 use Rattle.numbers.specs.Numbers.{no_room}
 use Rattle.tree.specs.Geometry.{piece_count, ceil_div}
-use Rattle.tree.specs.GeometryLaws.{ceil-enough, piece-some}
+use Rattle.tree.proofs.GeometryLaws.{ceil-enough, piece-some}
 use Rattle.bencode.specs.Grammar.{dictionary, Entries, encode, Valid}
 use Rattle.bencode.specs.declared.scalar.ByteString.{ByteString}
 use Rattle.bencode.specs.PartsLaws.{one-string}
 use Rattle.meaning.specs.Nth.{Nth}
-use Rattle.meaning.specs.NthLaws.{nth-some}
+use Rattle.meaning.proofs.NthLaws.{nth-some}
 use Rattle.meaning.specs.Torrent.{File, tree_of, plen_of, files_of}
-use Rattle.meaning.specs.TestsLaws.{tree-no}
-use Rattle.meaning.specs.AmissLaws.{right-piece, right-tree, all-layers}
-use Rattle.meaning.specs.FilesLaws.{FileHolds, AllHold, nth-holds, nth_right, element-full, files-hold}
+use Rattle.meaning.proofs.TestsLaws.{tree-no}
+use Rattle.meaning.proofs.AmissLaws.{right-piece, right-tree, all-layers}
+use Rattle.meaning.proofs.FilesLaws.{FileHolds, AllHold, nth-holds, nth_right, element-full, files-hold}
 use Rattle.metainfo.specs.Metainfo.{bytes_in, keys_of}
 use Rattle.metainfo.specs.declared.Keys.{Keys}
 use Rattle.filetree.specs.Tree.{max_elements, Element, Listed, listed, files_in, file_number}
@@ -37,7 +37,7 @@ use Rattle.torrent.specs.ReadMeans.{part-within, at-values, value-zero, same_key
 use Rattle.torrent.specs.declared.read.FileRead.{FileRead}
 use Rattle.torrent.specs.declared.read.PartRead.{PartRead}
 use Rattle.catalogue.specs.Catalogue.{part_bytes, element_bytes, elements_bytes, head_bytes, Parts, record_of, record_size, records_of, parts_of, list_answer, list_after}
-use Rattle.catalogue.specs.CatalogueLaws.{element-none, elements-length, root-length, record-length, records-length, record-at}
+use Rattle.catalogue.proofs.CatalogueLaws.{element-none, elements-length, root-length, record-length, records-length, record-at}
 use Rattle.calls.specs.Calls.{RecordIs}
 
 -- ---- the head

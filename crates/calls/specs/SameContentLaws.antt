@@ -14,10 +14,10 @@ use Rattle.bencode.specs.Grammar.{dictionary, Entries, encode, Valid}
 use Rattle.bencode.specs.Parts.{lookup}
 use Rattle.meaning.specs.Keys.{key_meta_version}
 use Rattle.meaning.specs.Torrent.{File, is_number, info_of, tree_of, files_of, plen_of, layers_of, has_keys, tree_right, no_other_length, lengths_agree, layers_fit, no_others, layers_give_roots, value_number}
-use Rattle.meaning.specs.TestsLaws.{roots-right}
-use Rattle.meaning.specs.AmissLaws.{exactly-26}
+use Rattle.meaning.proofs.TestsLaws.{roots-right}
+use Rattle.meaning.proofs.AmissLaws.{exactly-26}
 use Rattle.halves.specs.V1Half.{with_halves, torrent_number}
-use Rattle.halves.specs.HalvesLaws.{lower-exactly}
+use Rattle.halves.proofs.HalvesLaws.{lower-exactly}
 use Rattle.torrent.specs.Torrent.{read_of}
 use Rattle.torrent.specs.NumberMeans.{number-is-the-values, read_number_lem}
 use Rattle.calls.specs.EachNumber.{read-22-to-28}

@@ -21,7 +21,7 @@ use Rattle.torrent.specs.CheckLaws.{Whole, checked-so}
 use Rattle.torrent.specs.declared.check.Checked.{Checked}
 use Rattle.catalogue.specs.Catalogue.{record_size, records_of, list_answer, list_after}
 use Rattle.catalogue.specs.Asks.{Listable, parts_with, SpotRight}
-use Rattle.catalogue.specs.CatalogueLaws.{listing_of, whole_ready, few-files}
+use Rattle.catalogue.proofs.CatalogueLaws.{listing_of, whole_ready, few-files}
 use Rattle.catalogue.specs.declared.record.Listing.{Listing}
 
 module _ (t l : List ℕ) (k : Listing) (r : Listable t l k) where

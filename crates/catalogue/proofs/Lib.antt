@@ -1,2 +1,4 @@
 pub mod Writing
 pub mod Filling
+pub mod CatalogueLaws
+pub mod PutLaws

@@ -20,7 +20,7 @@ use Rattle.layers.specs.Layers.{Inside, layer_at, root_bytes, layer_string, star
 use Rattle.layers.proofs.Finding.{layer-inside}
 use Rattle.catalogue.specs.Catalogue.{part_bytes, head_bytes}
 use Rattle.catalogue.specs.Asks.{array_element, array_elements, record_from, RecordRight, Forward}
-use Rattle.catalogue.specs.CatalogueLaws.{part_length, array-element-length, array-length, head-length, root-length}
+use Rattle.catalogue.proofs.CatalogueLaws.{part_length, array-element-length, array-length, head-length, root-length}
 use Rattle.catalogue.specs.declared.record.Record.{Record}
 
 -- b behind a

@@ -1,4 +1,2 @@
 pub mod Catalogue
 pub mod Asks
-pub mod CatalogueLaws
-pub mod PutLaws

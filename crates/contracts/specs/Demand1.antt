@@ -24,13 +24,13 @@ use Rattle.writer.specs.Write.{write_answer, write_after}
 use Rattle.calls.specs.Calls.{OfTorrent, ReadOutcome, done as read_done, bad_torrent as read_refused, FileOutcome, done as file_done, bad_torrent as file_refused, no_file, PathOutcome, done as path_done, bad_torrent as path_refused, no_element, ListOutcome, done as list_done, bad_torrent as list_refused, too_short}
 use Rattle.calls.specs.CallsLaws.{read-outcome, file-outcome, path-outcome, list-outcome, list-refused}
 use Rattle.about.specs.About.{info_read, name_read}
-use Rattle.about.specs.AboutMeans.{info-outcome, name-outcome}
+use Rattle.about.proofs.AboutMeans.{info-outcome, name-outcome}
 use Rattle.v1.specs.V1.{no_hybrid, hybrid_of, no_piece, v1_piece_of, no_part, v1_pieces_of}
 use Rattle.v1.specs.EachNumber.{HybridOutcome, done as hybrid_done, bad_torrent as hybrid_refused, hybrid-outcome, PieceOutcome, done as v1_piece_done, bad_torrent as v1_piece_refused, no_file as v1_piece_no_file, not_there as v1_piece_not_there, piece-outcome, PiecesOutcome, done as v1_pieces_done, bad_torrent as v1_pieces_refused, no_file as v1_pieces_no_file, not_there as v1_pieces_not_there, pieces-outcome}
 use Rattle.v1.specs.declared.read.HybridRead.{HybridRead}
 use Rattle.v1.specs.declared.read.V1Piece.{V1Piece}
 use Rattle.v1.specs.declared.read.V1Part.{V1Part}
-use Rattle.places.specs.Where.{place-in-table, first-in-table, place-zeros, first-zeros}
+use Rattle.places.proofs.Where.{place-in-table, first-in-table, place-zeros, first-zeros}
 use Rattle.writer_promises.specs.Published.{WriteNumber, is-4, is-11, is-19, is-21, is-24-to-28, WriteOutcome, put, left as nothing_put}
 use Rattle.writer_promises.specs.Promised.{write-outcome, write-refused}
 use Rattle.words.specs.Messages.{Form, Rejected}

@@ -21,9 +21,9 @@ use Rattle.layers.specs.Layers.{root_bytes, layer_string, start_of, size_of}
 use Rattle.torrent.specs.Torrent.{checked_of}
 use Rattle.torrent.specs.CheckLaws.{Whole, checked-whole}
 use Rattle.catalogue.specs.Catalogue.{part_bytes, head_bytes, elements_bytes, Parts, record_of, records_of, record_size, parts_of, list_answer, list_after}
-use Rattle.catalogue.specs.CatalogueLaws.{records-length, record-at, few-files}
+use Rattle.catalogue.proofs.CatalogueLaws.{records-length, record-at, few-files}
 use Rattle.places.specs.Places.{files_in, length_of, lengths_right, list_right, place_answer, first_answer}
-use Rattle.places.specs.Where.{place-4, first-4}
+use Rattle.places.proofs.Where.{place-4, first-4}
 
 -- the list that is written: the bytes of the output that the answer counts
 abbrev pub written : List ℕ → List ℕ → List ℕ

@@ -19,13 +19,13 @@ use Rattle.running.specs.declared.Hashing.{Hashing}
 use Rattle.running.specs.Bursts.{state_of, absorbed, hash_of}
 use Rattle.running.specs.BurstsLaws.{absorbed-more, absorbed-total, hash-of-state, state-tail, state-total}
 use Rattle.tree.specs.Geometry.{ceil_div, block_count, height, covering, block_size}
-use Rattle.tree.specs.GeometryLaws.{covering-most, covering-some, block-count-some}
+use Rattle.tree.proofs.GeometryLaws.{covering-most, covering-some, block-count-some}
 use Rattle.tree.specs.Values.{pad_value}
 use Rattle.store.specs.Store.{usable, file_length, held_answer}
 use Rattle.store.specs.StoreLaws.{usable-facts, height-most}
 use Rattle.extends.specs.Extends.{whole_blocks, rest_size, known, both, earlier, earlier_root, over_size, last_hash, leaf_held, block_held, extends_number, extends_answer}
 use Rattle.extends.specs.Asks.{Mixed, Inside, reaches}
-use Rattle.extends.specs.ExtendsLaws.{earlier-whole, earlier-last, earlier-pair, both-known, past-left, past-right, pad-up, root-unused}
+use Rattle.extends.proofs.ExtendsLaws.{earlier-whole, earlier-last, earlier-pair, both-known, past-left, past-right, pad-up, root-unused}
 
 pub pair-by : (x y : Hashed) (h : List ℕ) → x.number ≡ 0 → y.number ≡ 0 → h ≡ pair_hash x.hash y.hash → record { number = 0; hash = h } ≡ both x y
 pair-by x y h a b e = ap (λ (v : List ℕ). known v) e ∙ sym (both-known x y a b)

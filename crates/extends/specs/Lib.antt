@@ -1,3 +1,2 @@
 pub mod Extends
 pub mod Asks
-pub mod ExtendsLaws

@@ -11,7 +11,7 @@ use lib.Dec.{eqb, leb}
 use lib.Pow.{pow_mono}
 use borrow.Author.Tests.{eq-eqb, ne_eqb, le-leb, lt-leb, leb-true, lt-ltb, le-ltb}
 use Rattle.tree.specs.Geometry.{height, node_number}
-use Rattle.tree.specs.GeometryLaws.{height-least, shifted_one}
+use Rattle.tree.proofs.GeometryLaws.{height-least, shifted_one}
 use Rattle.header.specs.declared.Header.{Header}
 use Rattle.header.specs.declared.Place.{Place}
 use Rattle.limits.specs.Limits.{longest_run}

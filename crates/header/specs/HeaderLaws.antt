@@ -4,7 +4,7 @@ use Rattle.std.specs.Prelude.{◌≡◌, true, ◌&&◌, ℕ, zero, suc, ◌+◌
 use Rattle.std.proofs.Common.{ap, ◌∙◌, div-lt_iff_lt-mul, arith, pow-add, eq-eqb, eqb-true, le-leb, leb-true, lt-ltb, ltb-true}
 use Rattle.std.proofs.Math.Bool.{and-eq-true_iff}
 use Rattle.tree.specs.Geometry.{height}
-use Rattle.tree.specs.GeometryLaws.{height-enough}
+use Rattle.tree.proofs.GeometryLaws.{height-enough}
 use Rattle.header.specs.declared.Header.{Header}
 use Rattle.limits.specs.Limits.{longest_run}
 use Rattle.header.specs.Header.{length_rule, index_rule, rules_kept, Kept}

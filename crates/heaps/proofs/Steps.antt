@@ -18,7 +18,7 @@ use Rattle.octets.specs.OctetsLaws.{cut-pasted-same, cut-pasted-other}
 use Rattle.sha256.specs.Sha256.{pair_hash}
 use Rattle.lanes.specs.Hashes.{Heap}
 use Rattle.tree.specs.Geometry.{Padding, block_length, ceil_div, block_count, covering, height, is_piece_length, piece_layer, has_layer}
-use Rattle.tree.specs.GeometryLaws.{ceil-least, height-least, padding-from-covering, right_end, shifted_one, piece-length-form, long-file-height}
+use Rattle.tree.proofs.GeometryLaws.{ceil-least, height-least, padding-from-covering, right_end, shifted_one, piece-length-form, long-file-height}
 use Rattle.tree.specs.Values.{node, layer_leaf, layer_root}
 use Rattle.heaps.specs.Heaps.{Over, Worked, raised}
 use Rattle.heaps.specs.HeapsLaws.{node-beyond}

@@ -8,9 +8,9 @@ use native.Mathlib.Omega.{arith}
 use Rattle.octets.specs.Octets.{cut}
 use Rattle.sha256.specs.Sha256.{pair_hash}
 use Rattle.lanes.specs.Hashes.{parent_of}
-use Rattle.tree.specs.GeometryLaws.{left-start, right-start, right_end}
+use Rattle.tree.proofs.GeometryLaws.{left-start, right-start, right_end}
 use Rattle.tree.specs.Values.{node, pad_value, layer_leaf}
-use Rattle.tree.specs.ValuesLaws.{node-same, node-shift}
+use Rattle.tree.proofs.ValuesLaws.{node-same, node-shift}
 use Rattle.heaps.specs.Heaps.{hash_in, Parents, Over, Worked, raised}
 
 -- the front of a room

@@ -16,7 +16,7 @@ use Rattle.running.specs.BurstsLaws.{absorbed-more, hash-of-state, state-total, 
 use Rattle.running.specs.declared.Hashing.{Hashing}
 use Rattle.tree.specs.Geometry.{block_length, is_piece_length}
 use Rattle.history.specs.Growing.{node_count, finishing, grown_by, noted, noted_by}
-use Rattle.history.specs.DecidingLaws.{part_length, fits}
+use Rattle.history.proofs.DecidingLaws.{part_length, fits}
 use Rattle.history.specs.Parts.{NoneBegun, Part, PartSize, Due, Grows, with_leaf}
 use Rattle.history.specs.Answers.{no_room_for, Possible}
 use Rattle.history.specs.declared.History.{History}

@@ -18,7 +18,7 @@ use Rattle.running.specs.Bursts.{state_of, absorbed, hash_of}
 use Rattle.running.specs.BurstsLaws.{absorbed-twice}
 use Rattle.running.specs.declared.Hashing.{Hashing}
 use Rattle.tree.specs.Geometry.{block_length, block_count, height, piece_layer, is_piece_length}
-use Rattle.tree.specs.GeometryLaws.{piece-length-form}
+use Rattle.tree.proofs.GeometryLaws.{piece-length-form}
 use Rattle.tree.specs.Values.{pad_value}
 use Rattle.history.specs.Growing.{node_count, node_at, finishing, grown, grown_by, noted, noted_by, open_leaf, open_above, open_node, last_node, root_of}
 use Rattle.history.specs.declared.History.{History}

@@ -2,12 +2,3 @@ pub mod Growing
 pub mod Parts
 pub mod Answers
 pub mod HistoryOf
-pub mod NodesLaws
-pub mod GrowingLaws
-pub mod LastLaws
-pub mod LayerLaws
-pub mod AnswersLaws
-pub mod DecidingLaws
-pub mod HistoriesLaws
-pub mod Histories
-pub mod Behind

@@ -25,7 +25,7 @@ use Rattle.hybrid.specs.Half.{half_of, several_of, fits_with}
 use Rattle.limits.specs.Limits.{largest_torrent}
 use Rattle.bencode.specs.Parts.{Lookup}
 use Rattle.tree.specs.Geometry.{piece_count}
-use Rattle.tree.specs.GeometryLaws.{ceil-enough}
+use Rattle.tree.proofs.GeometryLaws.{ceil-enough}
 use Rattle.hybrid.specs.declared.Tallied.TheVariants.{Sums, Amiss}
 use Rattle.hybrid.specs.declared.Compared.{Compared}
 use Rattle.hybrid.specs.declared.Compared.TheVariants.{Past, Differ}

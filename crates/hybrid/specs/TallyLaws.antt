@@ -6,7 +6,7 @@ use Rattle.std.proofs.Common.{◌∙◌, arith, leb-true, leb-false, le-leb}
 use Rattle.std.proofs.Math.Bool.{and-eq-true_iff}
 use mathlib.Core.List.{List, [], ◌∷◌, ◌++◌, append-nil}
 use Rattle.std.proofs.lemmas.Bool.{lt-leb}
-use Rattle.meaning.specs.TestsLaws.{three-true}
+use Rattle.meaning.proofs.TestsLaws.{three-true}
 use Rattle.limits.specs.Limits.{max_levels}
 use Rattle.bencode.specs.Grammar.{Value, Items, no_items, item, encode, encode_items, Valid, ItemsValid}
 use Rattle.bencode.specs.DepthLaws.{more-levels}

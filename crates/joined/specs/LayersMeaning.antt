@@ -14,7 +14,7 @@ use Rattle.octets.specs.Octets.{same}
 use Rattle.octets.specs.OctetsLaws.{same_true, same_false}
 use Rattle.numbers.specs.Numbers.{layers_amiss, layer_differs}
 use Rattle.tree.specs.Geometry.{has_layer}
-use Rattle.tree.specs.GeometryLaws.{long-full}
+use Rattle.tree.proofs.GeometryLaws.{long-full}
 use Rattle.bencode.specs.Grammar.{dictionary, Entries, no_entries, entry, encode, precedes, KeyBefore, none, after, Valid, EntriesValid}
 use Rattle.bencode.specs.Parts.{present, lookup}
 use Rattle.sorting.specs.PrecedesLaws.{precedes-trans, precedes-differ}
@@ -22,7 +22,7 @@ use Rattle.filetree.specs.Tree.{Listed}
 use Rattle.layers.specs.Layers.{layer_keys, keys_wide, worst}
 use Rattle.layers.specs.KeysLaws.{entry_keys, all_wide, keys-wide, keys-count}
 use Rattle.meaning.specs.Torrent.{File, layer_fits, layers_fit, some_longer, no_others, layers_give_roots}
-use Rattle.meaning.specs.FilesLaws.{AllHold}
+use Rattle.meaning.proofs.FilesLaws.{AllHold}
 use Rattle.meaning.specs.Counting.{Member, Distinct, Contained, contained-fewer, contained-all}
 use Rattle.twins.specs.Twins.{long_roots, once_each, layer_count}
 use Rattle.twins.specs.TwinsLaws.{once-in, once-all, once-distinct}

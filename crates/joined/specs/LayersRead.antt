@@ -14,7 +14,7 @@ use Rattle.limits.specs.Limits.{max_levels}
 use Rattle.octets.specs.Octets.{cut, zero_hash}
 use Rattle.numbers.specs.Numbers.{layers_amiss, layer_differs}
 use Rattle.tree.specs.Geometry.{has_layer}
-use Rattle.tree.specs.GeometryLaws.{long-full}
+use Rattle.tree.proofs.GeometryLaws.{long-full}
 use Rattle.bencode.specs.Grammar.{colon, Value, integer, string, list, dictionary, Entries, decimal, encode_string, encode, Valid}
 use Rattle.bencode.specs.Scalar.{read_string}
 use Rattle.bencode.specs.Parts.{find_key, Lookup, absent, present, lookup, FoundIs}

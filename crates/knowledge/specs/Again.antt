@@ -26,7 +26,7 @@ use Rattle.header.specs.Header.{header_of, is_hashes, is_reject, place_of, messa
 use Rattle.header.specs.declared.Place.{Place}
 use Rattle.messages.specs.Take.{header_number, uncles_of, given, settled, anchor, worked, padded, anchored, body_number, place_in, or_else, take_number, take_after, reject_answer}
 use Rattle.pieces.specs.Pieces.{layer_number}
-use Rattle.pieces.specs.PiecesLaws.{layer-refused}
+use Rattle.pieces.proofs.PiecesLaws.{layer-refused}
 use Rattle.messages.specs.Asks.{RulesPassed, Placed, Ready}
 use Rattle.messages.specs.TakeLaws.{passed, placed, placed-ready}
 use Rattle.messages.specs.TakenLaws.{ready-settled, taken-ready}

@@ -10,7 +10,7 @@ use Rattle.std.proofs.Math.Pow.{pow_mono}
 use Rattle.octets.specs.Octets.{cut}
 use Rattle.octets.specs.OctetsLaws.{get_or-cut}
 use Rattle.tree.specs.Geometry.{node_number, piece_count}
-use Rattle.tree.specs.GeometryLaws.{node-number-range}
+use Rattle.tree.proofs.GeometryLaws.{node-number-range}
 use Rattle.cells.specs.Cells.{held_at}
 use Rattle.cells.specs.CellsLaws.{lt-or-ge}
 use Rattle.store.specs.Store.{file_length, piece_length, height_of, positions, store_size, Facts, SameFacts}
@@ -20,7 +20,7 @@ use Rattle.settling.specs.AncestorLaws.{ancestor-le}
 use Rattle.marks.specs.Marks.{marks_start, marked_at, each_piece, first_block, blocks_in, all_marked, piece_marked}
 use Rattle.marks.specs.MarksLaws.{same-mark, covered-fits}
 use Rattle.asking.specs.Asking.{layer_asked, next_number, wanted, held_front, lowest, uncles_needed, run_top, run_header, next_header, no_request, request_for, next_answer, run_layers, next_run}
-use Rattle.asking.specs.AskingLaws.{front-held, front-stops, front-most, front-is, front-all, needed-free, needed-stops, needed-most, needed-is, needed-all, Asked, asked_low, wanted-within, asked-below, asked-run, top_in, says-number}
+use Rattle.asking.proofs.AskingLaws.{front-held, front-stops, front-most, front-is, front-all, needed-free, needed-stops, needed-most, needed-is, needed-all, Asked, asked_low, wanted-within, asked-below, asked-run, top_in, says-number}
 use Rattle.asking.specs.declared.pick.Choice.{Choice}
 use Rattle.asking.specs.Picking.{fetchable, chosen, best_of, pick_answer}
 use Rattle.words.specs.History.{SameStore}

@@ -7,7 +7,7 @@ use Rattle.std.proofs.Common.{sym, ◌∙◌, inl, inr, div-add-mod', mod-lt, lt
 use mathlib.Core.List.{List}
 use native.Mathlib.Omega.{arith}
 use Rattle.tree.specs.Geometry.{ceil_div, node_number}
-use Rattle.tree.specs.GeometryLaws.{below-ceil}
+use Rattle.tree.proofs.GeometryLaws.{below-ceil}
 use Rattle.cells.specs.Cells.{held_at}
 use Rattle.cells.specs.CellsLaws.{lt-or-ge}
 use Rattle.store.specs.Store.{facts_root, height_of, positions, Facts}
@@ -16,7 +16,7 @@ use Rattle.header.specs.Header.{header_of}
 use Rattle.messages.specs.Take.{take_number, take_answer, take_after}
 use Rattle.asking.specs.declared.next.Request.{Request}
 use Rattle.asking.specs.Asking.{layer_asked, wanted, held_front, lowest, run_header, next_header, no_request, request_for, next_answer, run_of, next_run}
-use Rattle.asking.specs.AskingLaws.{front-held, front-all, RunFacts, run-facts, Asked, number-says, says-number, asked_low, wanted-within, lowest-free, asked-below}
+use Rattle.asking.proofs.AskingLaws.{front-held, front-all, RunFacts, run-facts, Asked, number-says, says-number, asked_low, wanted-within, lowest-free, asked-below}
 use Rattle.words.specs.Messages.{in_run, hash_in}
 use Rattle.words.specs.History.{Steps, begin, next}
 use Rattle.knowledge.specs.Grows.{Grown, grown-same, grown-on, steps-grow, grown-take}
@@ -88,7 +88,7 @@ module _ {s t : List ℕ} (l : ℕ) (f : Facts s) (g : Grown s t) where
     -- a position of the layer is one of the tree's
     in_tree : (i : ℕ) → i < wanted s l → node_number (height_of s) l i < positions (height_of s)
     unfolding positions
-    in_tree i a = (Rattle.tree.specs.GeometryLaws.node-number-range (height_of s) l i (omega (arith, wanted-within s l low))).1
+    in_tree i a = (Rattle.tree.proofs.GeometryLaws.node-number-range (height_of s) l i (omega (arith, wanted-within s l low))).1
 
     finished-stays : (j : ℕ) → Finished s l j → Finished t l j
     finished-stays j F i a =

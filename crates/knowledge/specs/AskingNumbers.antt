@@ -8,7 +8,7 @@ use Rattle.numbers.specs.Numbers.{rule_broken, wrong_size, no_anchor, unusable, 
 use Rattle.numbers.specs.Tests.{not-both, says-not, eqb_no, through, in-turn}
 use Rattle.numbers.specs.Chain.{Chain, last, test, decided, exactly-of, in-table-of}
 use Rattle.tree.specs.Geometry.{node_number, piece_layer, piece_count, has_layer}
-use Rattle.tree.specs.GeometryLaws.{node-number-root, has-longer, longer-has}
+use Rattle.tree.proofs.GeometryLaws.{node-number-root, has-longer, longer-has}
 use Rattle.cells.specs.Cells.{held_at, hash_at}
 use Rattle.store.specs.Store.{usable, file_length, piece_length, height_of, Facts}
 use Rattle.store.specs.StoreLaws.{usable-facts}
@@ -16,7 +16,7 @@ use Rattle.asking.specs.declared.next.Request.{Request}
 use Rattle.asking.specs.declared.pick.Choice.{Choice}
 use Rattle.asking.specs.Asking.{layer_asked, no_request, next_number, next_answer}
 use Rattle.asking.specs.Picking.{no_piece, best_of, pick_answer}
-use Rattle.asking.specs.PickingLaws.{Best, none, this, best-is}
+use Rattle.asking.proofs.PickingLaws.{Best, none, this, best-is}
 use Rattle.words.specs.Held.{Holds, Lacks}
 use Rattle.words.specs.Asking.{MayAsk, CountEach}
 use Rattle.knowledge.specs.ReadBack.{holds_at}

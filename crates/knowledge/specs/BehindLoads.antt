@@ -8,9 +8,9 @@ use Rattle.marks.specs.Marks.{marked}
 use Rattle.marks.specs.MarksLaws.{marks-behind, marks-end}
 use Rattle.saved.specs.Form.{length_in, piece_length_in, root_in, blocks_in, height_in, mark_count, place_count, block_in, marks_from, marks_good, formed}
 use Rattle.saved.specs.Saved.{entries_in, marks_set, opening_number, loaded, load_answer, load_after, repair_answer, repair_after}
-use Rattle.saved.specs.PrefixLaws.{FormIn, form-says, mark-at, mark-says}
-use Rattle.saved.specs.LoadLaws.{marks-set-none, marks-set-next, marks-set-same, mark-fits, Opens, opening-says, root-long, first, first-room, second, second-facts, second-same, second-length, second-marks, entries-sound}
-use Rattle.saved.specs.RepairedLaws.{repaired-length}
+use Rattle.saved.proofs.PrefixLaws.{FormIn, form-says, mark-at, mark-says}
+use Rattle.saved.proofs.LoadLaws.{marks-set-none, marks-set-next, marks-set-same, mark-fits, Opens, opening-says, root-long, first, first-room, second, second-facts, second-same, second-length, second-marks, entries-sound}
+use Rattle.saved.proofs.RepairedLaws.{repaired-length}
 use Rattle.knowledge.specs.SavedWhen.{load-0, repair-0}
 use Rattle.knowledge.specs.RepairedMarks.{repaired-past}
 use Rattle.knowledge.specs.LoadedWhen.{load-is-0}

@@ -15,9 +15,9 @@ use Rattle.octets.specs.Octets.{same}
 use Rattle.numbers.specs.Numbers.{rule_broken, wrong_size, wrong_padding, not_held, judged}
 use Rattle.sha256.specs.Sha256.{sha256}
 use Rattle.tree.specs.Geometry.{node_number, block_size, piece_size, piece_count, piece_layer, has_layer}
-use Rattle.tree.specs.GeometryLaws.{height-enough, node-number-range}
+use Rattle.tree.proofs.GeometryLaws.{height-enough, node-number-range}
 use Rattle.tree.specs.Values.{leaf_of, layer_leaf}
-use Rattle.tree.specs.ValuesLaws.{leaf-octets}
+use Rattle.tree.proofs.ValuesLaws.{leaf-octets}
 use Rattle.cells.specs.Cells.{held_at, hash_at}
 use Rattle.cells.specs.Entries.{Entry, agrees_at, agrees, put_all, newly}
 use Rattle.cells.specs.EntriesLaws.{Sound, none, more}
@@ -37,8 +37,8 @@ use Rattle.serve.specs.Serve.{held_run, run_hashes, held_uncles, uncle_hashes, a
 use Rattle.serve.specs.ServeLaws.{sibling-near, request-passes, run_inside, uncles-inside}
 use Rattle.pieces.specs.Pieces.{block_number, judged_at, layer_of_pieces, layer_number, layer_settled, layer_after, layer_answer, piece_height, piece_number}
 use Rattle.pieces.specs.Hybrid.{hybrid_number}
-use Rattle.pieces.specs.HybridLaws.{v1-same}
-use Rattle.pieces.specs.PiecesLaws.{layered, layer-within, layer-leaf-length, piece-within, layer-sound, loads-layered, layer-loads}
+use Rattle.pieces.proofs.HybridLaws.{v1-same}
+use Rattle.pieces.proofs.PiecesLaws.{layered, layer-within, layer-leaf-length, piece-within, layer-sound, loads-layered, layer-loads}
 use Rattle.knowledge.specs.TakenWhen.{taken-well-formed}
 use Rattle.knowledge.specs.Alike.{Alike}
 use Rattle.knowledge.specs.BytesLeft.{SameCells, put_all-same, newly-same}
@@ -147,7 +147,7 @@ module _ (s t : List ℕ) (f : Facts s) (e : Alike s t) where
           ≡ cond (ltb i (piece_count (file_length s) (piece_length s))) (cond (eqb (length piece) (piece_size (file_length s) (piece_length s) i)) (judged_at s (leaf_of piece) (piece_height s) (node_number (height_of s) (piece_height s) i)) wrong_size) rule_broken
       by false x = rw x
       by true x =
-          let w = piece-within s i (Rattle.pieces.specs.PiecesLaws.piece-in s f i (ltb-true i (piece_count (file_length s) (piece_length s)) x)) in
+          let w = piece-within s i (Rattle.pieces.proofs.PiecesLaws.piece-in s f i (ltb-true i (piece_count (file_length s) (piece_length s)) x)) in
           rw (judged-used (leaf_of piece) (λ j. (leaf-octets piece j).size) (piece_height s) (node_number (height_of s) (piece_height s) i) w)
 
   -- a piece of a hybrid

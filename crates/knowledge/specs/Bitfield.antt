@@ -5,7 +5,7 @@ use Rattle.std.proofs.Math.Path.{refl, ap}
 use Rattle.std.proofs.Common.{sym, ◌∙◌, mul_assoc, le-ltb, lt-ltb}
 use native.Mathlib.Omega.{arith}
 use Rattle.tree.specs.Geometry.{block_length, piece_count}
-use Rattle.tree.specs.GeometryLaws.{below-ceil, piece-length-form}
+use Rattle.tree.proofs.GeometryLaws.{below-ceil, piece-length-form}
 use Rattle.cells.specs.Entries.{one_if}
 use Rattle.store.specs.Store.{file_length, piece_length, blocks_of, Facts}
 use Rattle.marks.specs.Marks.{marked_at, each_piece, first_block, blocks_in, all_marked, piece_marked, field_bits, field_bytes, field_size}

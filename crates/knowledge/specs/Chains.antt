@@ -5,7 +5,7 @@ use Rattle.std.proofs.Common.{ap, ap₂, ◌∙◌, arith, pow-suc}
 use Rattle.std.proofs.Math.Nat.{pow-zero}
 use Rattle.std.proofs.Math.Decide.{ℕ_discrete}
 use Rattle.sha256.specs.Sha256.{pair_hash}
-use Rattle.tree.specs.GeometryLaws.{left-start, right-start}
+use Rattle.tree.proofs.GeometryLaws.{left-start, right-start}
 use Rattle.tree.specs.Values.{node}
 use Rattle.settling.specs.Path.{uncle, risen, parent_value}
 use Rattle.settling.specs.PathLaws.{parent-even, parent-odd}

@@ -5,7 +5,7 @@ use Rattle.std.specs.Prelude.{◌≡◌, List, ◌↔◌, ℕ, suc, ◌+◌, ◌
 use Rattle.std.proofs.Common.{ap, sym, ◌∙◌, arith}
 use Rattle.sha256.specs.Sha256.{pair_hash}
 use Rattle.tree.specs.Geometry.{node_number}
-use Rattle.tree.specs.GeometryLaws.{node-number-parent}
+use Rattle.tree.proofs.GeometryLaws.{node-number-parent}
 use Rattle.store.specs.Store.{height_of}
 use Rattle.settling.specs.Path.{uncle}
 use Rattle.header.specs.Header.{header_of, is_hashes, Kept}

@@ -16,7 +16,7 @@ use Rattle.sha256.specs.Sha256.{sha256, pair_hash}
 use Rattle.sha256.specs.Sha256Laws.{pair-octets}
 use Rattle.tree.specs.Geometry.{block_count, height, node_number, piece_count}
 use Rattle.tree.specs.Values.{node, pad_value, leaf_of, layer_leaf}
-use Rattle.tree.specs.ValuesLaws.{node-octets, leaf-octets, pad-octets}
+use Rattle.tree.proofs.ValuesLaws.{node-octets, leaf-octets, pad-octets}
 use Rattle.cells.specs.Cells.{held_at, hash_at}
 use Rattle.cells.specs.Entries.{Entry, agrees_at, agrees}
 use Rattle.cells.specs.EntriesLaws.{Hold, In, here, there, Has, sound-in, in-cases, no-entry, agrees-held, agrees-free}
@@ -32,7 +32,7 @@ use Rattle.messages.specs.Take.{header_number, run_of, uncles_of, given, settled
 use Rattle.messages.specs.Asks.{Ready}
 use Rattle.messages.specs.TakeLaws.{passed, passes, placed, placed-ready}
 use Rattle.pieces.specs.Pieces.{judged_at, layer_of_pieces, layer_settled, layer_number, piece_height, piece_number}
-use Rattle.pieces.specs.PiecesLaws.{layered, run-leaves}
+use Rattle.pieces.proofs.PiecesLaws.{layered, run-leaves}
 use Rattle.words.specs.History.{Bytes}
 use Rattle.words.specs.Shown.{Source, held_by, by_message, by_layer, by_piece, of_file}
 use Rattle.knowledge.specs.Invariant.{Chained, Ours, family-pair, Whole, message-whole, layer-whole, piece-whole}
@@ -317,6 +317,6 @@ piece-conflict-shows s i piece o bs e =
     let j = t.1.1.1 in
     not-both (agrees s (subtree leaf k n 0)) j.1.1
     (agrees-or-shown s (by_piece s i piece) (subtree leaf k n 0) n (node leaf k 0) o.chained bs
-    (piece-whole s i piece (Rattle.pieces.specs.PiecesLaws.piece-in s (usable-facts s t.0) i (ltb-true i (piece_count (file_length s) (piece_length s)) t.1.0))) (λ m u x. x)
+    (piece-whole s i piece (Rattle.pieces.proofs.PiecesLaws.piece-in s (usable-facts s t.0) i (ltb-true i (piece_count (file_length s) (piece_length s)) t.1.0))) (λ m u x. x)
     (subtree-octets leaf (leaf-octets piece) k n 0)
     (subtree-top leaf k n 0) j.0 (same_true (hash_at s n) (node leaf k 0) j.1.0))

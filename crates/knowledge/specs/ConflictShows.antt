@@ -14,7 +14,7 @@ use Rattle.messages.specs.TakeLaws.{passed}
 use Rattle.serve.specs.Serve.{reply_to, request_number, serve_answer}
 use Rattle.pieces.specs.Pieces.{layer_number, piece_number}
 use Rattle.pieces.specs.Hybrid.{hybrid_number}
-use Rattle.pieces.specs.HybridLaws.{hybrid-v2}
+use Rattle.pieces.proofs.HybridLaws.{hybrid-v2}
 use Rattle.words.specs.History.{Bytes, OurStore}
 use Rattle.words.specs.Messages.{anchor_layer, anchor_index, sent}
 use Rattle.words.specs.Shown.{held_by, by_message, by_layer, by_piece, Shown}

@@ -14,7 +14,7 @@ use Rattle.std.proofs.Math.ListN.{length}
 use Rattle.std.proofs.Math.Pow.{pow_pos}
 use Rattle.numbers.specs.Numbers.{done}
 use Rattle.tree.specs.Geometry.{block_count, height, node_number}
-use Rattle.tree.specs.GeometryLaws.{node-number-covers}
+use Rattle.tree.proofs.GeometryLaws.{node-number-covers}
 use Rattle.cells.specs.Cells.{held_at, hash_at}
 use Rattle.cells.specs.Entries.{Entry, one_if}
 use Rattle.marks.specs.Marks.{marked_at}
@@ -23,17 +23,17 @@ use Rattle.store.specs.Store.{usable, file_length, blocks_of, height_of, positio
 use Rattle.store.specs.StoreLaws.{held_count, tree-says, tree-number, positions-some, usable-facts, facts-leaves}
 use Rattle.saved.specs.Form.{Saved, saved_bytes, mark_count, marks_to, marks_from, value_in, root_in, blocks_in, height_in, place_count, layer_in, index_in, hash_in, rank, rank_in, places_good, Placed}
 use Rattle.saved.specs.Clauses.{Within, InTree}
-use Rattle.saved.specs.ClausesLaws.{loads-when-all-kept}
+use Rattle.saved.proofs.ClausesLaws.{loads-when-all-kept}
 use Rattle.saved.specs.Saved.{opening_number, sound, loaded, rooted, repaired, repaired_many, load_answer, load_after, repair_answer, repair_after}
-use Rattle.saved.specs.SoundLaws.{rises}
-use Rattle.saved.specs.PrefixLaws.{FormIn, form-says}
-use Rattle.saved.specs.ExactLaws.{marks-many}
+use Rattle.saved.proofs.SoundLaws.{rises}
+use Rattle.saved.proofs.PrefixLaws.{FormIn, form-says}
+use Rattle.saved.proofs.ExactLaws.{marks-many}
 use Rattle.saved.specs.Save.{block_marked, marked_below, saved_of}
-use Rattle.saved.specs.SaveLaws.{saved-reads, saved-exactly}
-use Rattle.saved.specs.RoundTrip.{loaded-facts}
-use Rattle.saved.specs.RepairedLaws.{repaired-facts, repaired-height}
-use Rattle.saved.specs.CountLaws.{load-counts}
-use Rattle.saved.specs.RepairCount.{repair-counts, repair-few}
+use Rattle.saved.proofs.SaveLaws.{saved-reads, saved-exactly}
+use Rattle.saved.proofs.RoundTrip.{loaded-facts}
+use Rattle.saved.proofs.RepairedLaws.{repaired-facts, repaired-height}
+use Rattle.saved.proofs.CountLaws.{load-counts}
+use Rattle.saved.proofs.RepairCount.{repair-counts, repair-few}
 use Rattle.words.specs.Held.{Holds, Fixed, Stands, first, later, Distinct, none, more, All}
 use Rattle.words.specs.History.{Bytes}
 use Rattle.words.specs.Saving.{NamedBy}

@@ -10,7 +10,7 @@ use Prim.Native.Nat.{ℕ, zero, suc, ◌+◌, ◌-◌, ◌*◌, ◌^◌, ◌≤�
 use native.Mathlib.Omega.{arith}
 use Rattle.std.proofs.Math.Decide.{ℕ_discrete, dec_lt}
 use Rattle.tree.specs.Geometry.{node_number}
-use Rattle.tree.specs.GeometryLaws.{node-number-covers}
+use Rattle.tree.proofs.GeometryLaws.{node-number-covers}
 use Rattle.cells.specs.Cells.{held_at}
 use Rattle.cells.specs.Entries.{one_if, newly}
 use Rattle.store.specs.Store.{height_of, positions, Facts}

@@ -9,10 +9,10 @@ use Rattle.octets.specs.Octets.{Octets}
 use Rattle.octets.specs.OctetsLaws.{cut-octets}
 use Rattle.store.specs.StoreLaws.{blocks-most, height-most, piece-length-most, range-says}
 use Rattle.saved.specs.Form.{Place, Saved, saved_bytes, rank, Rising, none, more, RisingBlocks, Ordered, length_in, piece_length_in, root_in, blocks_in, height_in, mark_count, place_count, hash_in, block_in, next_rank, places_good, next_block, marks_good, marks_from, formed, place_in, places_to, marks_to, value_in}
-use Rattle.saved.specs.SoundLaws.{place_at, place-says}
-use Rattle.saved.specs.PrefixLaws.{form-says, mark-at, mark-says}
-use Rattle.saved.specs.ReadLaws.{read_back}
-use Rattle.saved.specs.ExactLaws.{written_back}
+use Rattle.saved.proofs.SoundLaws.{place_at, place-says}
+use Rattle.saved.proofs.PrefixLaws.{form-says, mark-at, mark-says}
+use Rattle.saved.proofs.ReadLaws.{read_back}
+use Rattle.saved.proofs.ExactLaws.{written_back}
 use Rattle.words.specs.History.{Bytes}
 use Rattle.words.specs.Answers.{InRange}
 use Rattle.words.specs.Saving.{WholeOpening, OfForm}

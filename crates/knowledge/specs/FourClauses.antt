@@ -9,7 +9,7 @@ use Rattle.std.proofs.Math.Nat.{pow-zero}
 use Rattle.std.proofs.Math.Pow.{pow_pos}
 use Rattle.sha256.specs.Sha256.{pair_hash}
 use Rattle.tree.specs.Geometry.{Padding, node_number}
-use Rattle.tree.specs.GeometryLaws.{node-number-root, node-number-left, node-number-right, node-number-parent, node-number-covers, layer-doubles}
+use Rattle.tree.proofs.GeometryLaws.{node-number-root, node-number-left, node-number-right, node-number-parent, node-number-covers, layer-doubles}
 use Rattle.tree.specs.Values.{pad_value}
 use Rattle.cells.specs.Cells.{held_at, hash_at}
 use Rattle.cells.specs.EntriesLaws.{Hold}

@@ -12,7 +12,7 @@ use Rattle.header.specs.Header.{header_of}
 use Rattle.messages.specs.Take.{settled, place_in, take_number, take_after}
 use Rattle.messages.specs.TakenLaws.{ready-from-root, ready-settled, taken-ready}
 use Rattle.pieces.specs.Pieces.{layer_number, layer_after}
-use Rattle.pieces.specs.PiecesLaws.{layer-refused, layer-same-facts, layer-facts, layer-keeps}
+use Rattle.pieces.proofs.PiecesLaws.{layer-refused, layer-same-facts, layer-facts, layer-keeps}
 use Rattle.words.specs.History.{SameStore, Steps}
 use Rattle.marks.specs.Marks.{marks_put}
 use Rattle.marks.specs.MarksLaws.{marks-same-facts, marks-facts}

@@ -6,7 +6,7 @@ use Rattle.std.proofs.Common.{ap, sym, ◌∙◌, subst, inl, inr, arith, lt_of_
 use Rattle.std.proofs.Math.Nat.{pow-succ'}
 use Rattle.std.proofs.Math.Decide.{dec_le}
 use Rattle.tree.specs.Geometry.{node_number}
-use Rattle.tree.specs.GeometryLaws.{node-number-layer, longer-has}
+use Rattle.tree.proofs.GeometryLaws.{node-number-layer, longer-has}
 use Rattle.tree.specs.Values.{node, layer_leaf}
 use Rattle.cells.specs.Cells.{held_at, hash_at}
 use Rattle.store.specs.Store.{file_length, piece_length, height_of, positions, Facts}
@@ -15,7 +15,7 @@ use Rattle.header.specs.Header.{is_hashes}
 use Rattle.messages.specs.Take.{take_number, take_after}
 use Rattle.messages.specs.TakeLaws.{passed}
 use Rattle.pieces.specs.Pieces.{layer_of_pieces, layer_number, layer_after}
-use Rattle.pieces.specs.PiecesLaws.{layered, layer-held, layer-only}
+use Rattle.pieces.proofs.PiecesLaws.{layered, layer-held, layer-only}
 use Rattle.words.specs.Held.{Holds}
 use Rattle.words.specs.Messages.{Settles}
 use Rattle.words.specs.Pieces.{Over, at_leaf, above, LayerFormed, LayerSettles}

@@ -18,9 +18,9 @@ use Rattle.store.specs.Store.{usable, height_of, facts_in_range, store_size, in_
 use Rattle.messages.specs.Take.{take_answer, reject_answer}
 use Rattle.serve.specs.Serve.{serve_answer}
 use Rattle.pieces.specs.Pieces.{layer_answer, block_answer, piece_answer}
-use Rattle.pieces.specs.MarkedLaws.{block-stays, piece-stays}
+use Rattle.pieces.proofs.MarkedLaws.{block-stays, piece-stays}
 use Rattle.pieces.specs.Hybrid.{hybrid_answer}
-use Rattle.pieces.specs.HybridLaws.{hybrid-in-table, hybrid-stays}
+use Rattle.pieces.proofs.HybridLaws.{hybrid-in-table, hybrid-stays}
 use Rattle.facts.specs.FactsLaws.{facts-in-table, facts-zeros}
 use Rattle.marks.specs.Marks.{block_there, clear_answer, marked_answer, field_size, field_answer}
 use Rattle.saved.specs.Form.{saved_bytes}

@@ -15,14 +15,14 @@ use Rattle.facts.specs.FactsLaws.{facts-same}
 use Rattle.store.specs.Store.{usable, file_length, height_of, store_size, in_tree, held_answer, Facts}
 use Rattle.store.specs.StoreLaws.{usable-facts, facts-usable, facts-leaves, tree-number, held-outside, held-not, held-given}
 use Rattle.messages.specs.Take.{take_after}
-use Rattle.extends.specs.ExtendsLaws.{extends-alike}
+use Rattle.extends.proofs.ExtendsLaws.{extends-alike}
 use Rattle.marks.specs.Marks.{marked, cleared, marks_start, marks_put, first_block, blocks_in, block_there}
 use Rattle.marks.specs.MarksLaws.{mark-in, marks-before, marks-length, marks-end, same_start}
 use Rattle.pieces.specs.Pieces.{layer_after, block_number, block_answer, block_after, piece_number, piece_answer, piece_after}
-use Rattle.pieces.specs.PiecesLaws.{block-right, piece-right}
-use Rattle.pieces.specs.MarkedLaws.{block-fits, block-marks, block-stays, piece-fits, piece-marks, piece-stays}
+use Rattle.pieces.proofs.PiecesLaws.{block-right, piece-right}
+use Rattle.pieces.proofs.MarkedLaws.{block-fits, block-marks, block-stays, piece-fits, piece-marks, piece-stays}
 use Rattle.pieces.specs.Hybrid.{hybrid_answer, hybrid_after}
-use Rattle.pieces.specs.HybridLaws.{hybrid-leaves}
+use Rattle.pieces.proofs.HybridLaws.{hybrid-leaves}
 use Rattle.words.specs.History.{Ask, held, take_reject, is_marked, next_request, pick_piece, the_facts, begins_with, Send, serve, bitfield, Look, ask, send, Call, take, load_layer, judge_block, judge_piece, judge_hybrid_piece, clear, reopen, look, with_count, with_hash, with_request, with_facts, asked, send_reply, looked, answer, after, sent_to, Opening, Teaches, call, begin, next, save, piece_hashes, load, repair}
 use Rattle.words.specs.Marks.{SameButMarks, AsksHashes, SendsHashes, LooksAtHashes, AboutHashes}
 use Rattle.knowledge.specs.AskingApart.{next-apart}

@@ -7,9 +7,9 @@ use Rattle.std.proofs.lemmas.Bool.{false≢true}
 use Rattle.std.proofs.Math.Decide.{ℕ_discrete}
 use Rattle.sha256.specs.Sha256.{pair_hash}
 use Rattle.tree.specs.Geometry.{Padding, block_count, height, node_number}
-use Rattle.tree.specs.GeometryLaws.{node-number-root, node-number-range, node-number-distinct}
+use Rattle.tree.proofs.GeometryLaws.{node-number-root, node-number-range, node-number-distinct}
 use Rattle.tree.specs.Values.{node, pad_value, leaf_of, layer_leaf}
-use Rattle.tree.specs.ValuesLaws.{leaf-octets}
+use Rattle.tree.proofs.ValuesLaws.{leaf-octets}
 use Rattle.cells.specs.Cells.{held_at, hash_at}
 use Rattle.cells.specs.Entries.{Entry, agrees, put_all}
 use Rattle.cells.specs.EntriesLaws.{Sound, Hold, keeps, In, Has, Consistent, apart-consistent, entries-held, held-or-entry, from-root-in}
@@ -27,7 +27,7 @@ use Rattle.messages.specs.TakeLaws.{passed}
 use Rattle.messages.specs.TakenLaws.{ready-settled, taken-ready}
 use Rattle.pieces.specs.Pieces.{layer_of_pieces, layer_settled, layer_number, layer_after, piece_height}
 use Rattle.pieces.specs.Asks.{Layered, PieceIn}
-use Rattle.pieces.specs.PiecesLaws.{layer-loads, loads-layered, layer-sound, layer-refused, layer-taken, piece-within}
+use Rattle.pieces.proofs.PiecesLaws.{layer-loads, loads-layered, layer-sound, layer-refused, layer-taken, piece-within}
 use Rattle.marks.specs.Marks.{marks_put}
 use Rattle.marks.specs.MarksLaws.{marks-same-facts, marks-facts}
 use Rattle.words.specs.History.{SameStore}
@@ -139,9 +139,9 @@ pub layer-whole : (s l : List ℕ) → Layered s → Whole (positions (height_of
 layer-whole s l f =
     record {
       sound = layer-sound s l f;
-      from = λ e x. (Rattle.pieces.specs.PiecesLaws.settled-numbers s l f e x).0;
-      alone = apart-consistent (layer_settled s l) (Rattle.pieces.specs.PiecesLaws.settled-apart s l f);
-      family = Rattle.pieces.specs.PiecesLaws.settled-family s l;
+      from = λ e x. (Rattle.pieces.proofs.PiecesLaws.settled-numbers s l f e x).0;
+      alone = apart-consistent (layer_settled s l) (Rattle.pieces.proofs.PiecesLaws.settled-apart s l f);
+      family = Rattle.pieces.proofs.PiecesLaws.settled-family s l;
     }
 
 -- and a piece, up to its node
@@ -150,7 +150,7 @@ pub piece-whole : (s : List ℕ) (i : ℕ) (piece : List ℕ) → PieceIn s i
 piece-whole s i piece p =
     let k = piece_height s in
     let n = node_number (height_of s) (piece_height s) i in
-    let low : 1 ≤ node_number (height_of s) (piece_height s) i = (Rattle.tree.specs.GeometryLaws.node-number-range (height_of s) (piece_height s) i p.inside).0 in
+    let low : 1 ≤ node_number (height_of s) (piece_height s) i = (Rattle.tree.proofs.GeometryLaws.node-number-range (height_of s) (piece_height s) i p.inside).0 in
     record {
       sound = subtree-sound (leaf_of piece) (λ j. (leaf-octets piece j).size) (positions (height_of s)) k n 0 (piece-within s i p);
       from = subtree-positive (leaf_of piece) k n 0 low;
@@ -322,10 +322,10 @@ ours-layer s l o =
           rw (layer-taken s l z)
           (ours-put_all s (layer_settled s l) 1 o (layer-whole s l f) w.root.held w.root.agree
           (λ e x.
-          let y = Rattle.pieces.specs.PiecesLaws.settled-in-layers s l f e x in
+          let y = Rattle.pieces.proofs.PiecesLaws.settled-in-layers s l f e x in
           pads-same (height_of s) (blocks_of s) e.at (node_number (height_of s) y.l y.i) e.hash (node (layer_leaf l (layer_of_pieces s)) (y.l - layer_of_pieces s) y.i) y.position y.value
           (at_place (height_of s) (blocks_of s) y.l y.i (node (layer_leaf l (layer_of_pieces s)) (y.l - layer_of_pieces s) y.i) y.upto y.inside
-          (Rattle.pieces.specs.PiecesLaws.settled-padding s l w y.l y.i y.from))))
+          (Rattle.pieces.proofs.PiecesLaws.settled-padding s l w y.l y.i y.from))))
       | no ne ↦ rw (layer-refused s l ne) o
     ]
 

@@ -13,7 +13,7 @@ use Rattle.store.specs.StoreLaws.{usable-facts, used-held, open_done, opened-pie
 use Rattle.messages.specs.Take.{take_number, take_answer, take_after}
 use Rattle.marks.specs.Marks.{marks_put}
 use Rattle.pieces.specs.Pieces.{layer_of_pieces, layer_number, layer_answer, layer_after}
-use Rattle.pieces.specs.PiecesLaws.{layer-refused}
+use Rattle.pieces.proofs.PiecesLaws.{layer-refused}
 use Rattle.saved.specs.Form.{length_in, piece_length_in}
 use Rattle.saved.specs.Save.{save_answer}
 use Rattle.saved.specs.Saved.{load_answer, load_after}

@@ -11,15 +11,15 @@ use Rattle.numbers.specs.Chain.{last, decided, exactly, exactly-of, none, passes
 use Rattle.sha256.specs.Sha256.{sha256}
 use Rattle.sha_1.specs.Sha1.{sha1}
 use Rattle.tree.specs.Geometry.{node_number, has_layer, piece_count, block_size, piece_size}
-use Rattle.tree.specs.GeometryLaws.{node-number-root, has-longer, longer-has}
+use Rattle.tree.proofs.GeometryLaws.{node-number-root, has-longer, longer-has}
 use Rattle.tree.specs.Values.{leaf_of, layer_leaf}
 use Rattle.cells.specs.Cells.{hash_at}
 use Rattle.store.specs.Store.{usable, file_length, piece_length, blocks_of, height_of, Facts}
 use Rattle.store.specs.StoreLaws.{usable-facts, facts-leaves}
 use Rattle.pieces.specs.Pieces.{judged_at, layer_of_pieces, layer_number, block_number, piece_height, piece_number}
-use Rattle.pieces.specs.PiecesLaws.{layered, piece-in}
+use Rattle.pieces.proofs.PiecesLaws.{layered, piece-in}
 use Rattle.pieces.specs.Hybrid.{V1Agrees, hybrid_number}
-use Rattle.pieces.specs.HybridLaws as Both
+use Rattle.pieces.proofs.HybridLaws as Both
 use Rattle.words.specs.Held.{Holds, Lacks, Fits, Misfits, Clashes}
 use Rattle.words.specs.Pieces.{LayerFormed, LayerSettles, BlockFormed, OtherLeaf, PieceFormed, PieceSettles}
 use Rattle.numbers.specs.Tests.{eqb_no, through, in-turn, both}

@@ -6,7 +6,7 @@ use Rattle.std.proofs.Math.Path.{sym}
 use Rattle.std.proofs.Common.{◌∙◌, inl, inr, arith}
 use Rattle.numbers.specs.Numbers.{no_anchor}
 use Rattle.tree.specs.Geometry.{height, node_number, block_size, piece_count}
-use Rattle.tree.specs.GeometryLaws.{longer-has}
+use Rattle.tree.proofs.GeometryLaws.{longer-has}
 use Rattle.tree.specs.Values.{node, leaf_of, block_of}
 use Rattle.cells.specs.Cells.{held_at}
 use Rattle.cells.specs.EntriesLaws.{Has, has_same}
@@ -21,7 +21,7 @@ use Rattle.messages.specs.Asks.{RulesPassed}
 use Rattle.messages.specs.TakeLaws.{passed}
 use Rattle.pieces.specs.Pieces.{block_number, piece_height, piece_number, layer_number}
 use Rattle.pieces.specs.Hybrid.{V1Agrees, hybrid_number}
-use Rattle.pieces.specs.HybridLaws.{hybrid-0}
+use Rattle.pieces.proofs.HybridLaws.{hybrid-0}
 use Rattle.words.specs.Held.{Holds}
 use Rattle.words.specs.History.{Bytes, OurStore}
 use Rattle.words.specs.Messages.{top_layer, top_index, anchor_layer, anchor_index}

@@ -13,16 +13,16 @@ use Rattle.octets.specs.Octets.{cut}
 use Rattle.octets.specs.OctetsLaws.{cut-cut, cut-pasted-same, get_or-pasted-after, pasted_length}
 use Rattle.numbers.specs.declared.Answer.{Answer}
 use Rattle.tree.specs.Geometry.{block_length, block_count, ceil_div, covering, has_layer, piece_count, Padding}
-use Rattle.tree.specs.GeometryLaws.{ceil-least, ceil-enough, has-longer, height-least}
+use Rattle.tree.proofs.GeometryLaws.{ceil-least, ceil-enough, has-longer, height-least}
 use Rattle.tree.specs.Values.{node, leaf_of}
-use Rattle.tree.specs.ValuesLaws.{leaf-octets}
+use Rattle.tree.proofs.ValuesLaws.{leaf-octets}
 use Rattle.store.specs.Store.{file_length, piece_length, blocks_of, height_of, Facts}
 use Rattle.store.specs.StoreLaws.{usable-facts, facts-leaves}
 use Rattle.header.specs.declared.Header.{Header}
 use Rattle.header.specs.Header.{header_size, header_of, uncle_count}
 use Rattle.messages.specs.Take.{run_of, take_number, take_after}
 use Rattle.pieces.specs.Pieces.{layer_of_pieces, piece_height, piece_number}
-use Rattle.pieces.specs.PiecesLaws.{height-layer, height-root, pieces_are, piece-in, piece-right, piece-length-by-layer}
+use Rattle.pieces.proofs.PiecesLaws.{height-layer, height-root, pieces_are, piece-in, piece-right, piece-length-by-layer}
 use Rattle.asking.specs.Asking.{no_request, next_answer}
 use Rattle.leaves.specs.Leaves.{run_over, leaf_message, leaves_told, leaves_answer, leaves_after}
 use Rattle.leaves.specs.LeavesLaws.{leaves-done, told_none, told-some, message-length, root-size}

@@ -13,10 +13,10 @@ use Rattle.marks.specs.Marks.{marked_at, marked_answer}
 use Rattle.saved.specs.Form.{saved_bytes, blocks_in, height_in, mark_count, marks_from, formed, NamesMark}
 use Rattle.saved.specs.Save.{saved_of, save_answer}
 use Rattle.saved.specs.Saved.{chained, loaded, load_answer, load_after, repair_answer, repair_after}
-use Rattle.saved.specs.PrefixLaws.{form-says, mark-at, mark-says}
-use Rattle.saved.specs.RoundTrip.{loaded-facts, loaded-height, loaded-blocks, loaded-marks, loaded-marks-all}
-use Rattle.saved.specs.SaveLaws.{saved-ordered}
-use Rattle.saved.specs.CountLaws.{saved-marks}
+use Rattle.saved.proofs.PrefixLaws.{form-says, mark-at, mark-says}
+use Rattle.saved.proofs.RoundTrip.{loaded-facts, loaded-height, loaded-blocks, loaded-marks, loaded-marks-all}
+use Rattle.saved.proofs.SaveLaws.{saved-ordered}
+use Rattle.saved.proofs.CountLaws.{saved-marks}
 use Rattle.words.specs.History.{Bytes, Steps, Begins, by_opening, by_loading, by_repairing, OurStore, ours}
 use Rattle.words.specs.Marks.{JudgedRight, Uncleared}
 use Rattle.words.specs.Saving.{save_of, OwnLine, from_opening, from_repair, from_save, JudgedIn}
@@ -25,7 +25,7 @@ use Rattle.knowledge.specs.SavedWhen.{load-0, repair-0, save-0, save-counts}
 use Rattle.knowledge.specs.Grows.{Grown, steps-grow}
 use Rattle.knowledge.specs.OwnBytes.{begins-ours, ours-bytes}
 use Rattle.knowledge.specs.MarksSince.{right-inside, right-still, marked-says, marks-from, marked-since, first, unmarked, marked-exactly}
-use Rattle.saved.specs.RepairedLaws.{repaired-height}
+use Rattle.saved.proofs.RepairedLaws.{repaired-height}
 use Rattle.knowledge.specs.RepairedMarks.{none-set, repair-clears}
 use Rattle.knowledge.specs.LoadedWhen.{load-is-0}
 

@@ -8,17 +8,17 @@ use Rattle.std.proofs.lemmas.Bool.{false≢true, lt-leb}
 use Rattle.numbers.specs.Numbers.{unusable, facts_out_of_range, not_saved}
 use Rattle.numbers.specs.Chain.{decided, exactly-of}
 use Rattle.numbers.specs.Tests.{says-not}
-use Rattle.tree.specs.GeometryLaws.{block-count-some}
+use Rattle.tree.proofs.GeometryLaws.{block-count-some}
 use Rattle.store.specs.Store.{usable, file_length, piece_length, facts_root, facts_in_range, store_size}
 use Rattle.store.specs.StoreLaws.{range-says, facts-usable, opened-forgets}
 use Rattle.saved.specs.Form.{length_in, piece_length_in, root_in, blocks_in, height_in, opens, formed}
 use Rattle.saved.specs.Clauses.{Kept}
 use Rattle.saved.specs.Saved.{root_right, sound, loaded, rooted, repaired, load_answer, load_after, repair_answer, repair_after}
-use Rattle.saved.specs.SoundExactly.{root-exactly}
-use Rattle.saved.specs.PrefixLaws.{form-says}
-use Rattle.saved.specs.Promises.{accepted-exactly-when}
-use Rattle.saved.specs.RoundTrip.{loaded-facts, loaded-file, loaded-root, loaded-piece}
-use Rattle.saved.specs.RepairedLaws.{repaired-facts, repaired-file, repaired-root, repaired-piece}
+use Rattle.saved.proofs.SoundExactly.{root-exactly}
+use Rattle.saved.proofs.PrefixLaws.{form-says}
+use Rattle.saved.proofs.Promises.{accepted-exactly-when}
+use Rattle.saved.proofs.RoundTrip.{loaded-facts, loaded-file, loaded-root, loaded-piece}
+use Rattle.saved.proofs.RepairedLaws.{repaired-facts, repaired-file, repaired-root, repaired-piece}
 use Rattle.words.specs.Held.{Holds}
 use Rattle.words.specs.Answers.{InRange}
 use Rattle.words.specs.Saving.{WholeOpening, Ready, NamedBy, Loadable, Repairable}

@@ -6,7 +6,7 @@ use Rattle.std.proofs.Common.{ap, sym, ◌∙◌, mul_comm, arith}
 use Rattle.octets.specs.Octets.{Octets}
 use Rattle.tree.specs.Geometry.{piece_count, block_size}
 use Rattle.tree.specs.Values.{block_of}
-use Rattle.tree.specs.ValuesLaws.{block-of-piece}
+use Rattle.tree.proofs.ValuesLaws.{block-of-piece}
 use Rattle.store.specs.Store.{file_length, piece_length, height_of, Facts}
 use Rattle.marks.specs.Marks.{each_piece, first_block, blocks_in}
 use Rattle.pieces.specs.Pieces.{layer_of_pieces, block_answer, piece_answer}

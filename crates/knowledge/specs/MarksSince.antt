@@ -23,10 +23,10 @@ use Rattle.messages.specs.Take.{take_after}
 use Rattle.marks.specs.Marks.{marks_start, marked_at, marked, cleared, block_there, clear_answer, marked_answer, first_block, blocks_in}
 use Rattle.marks.specs.MarksLaws.{same-mark, marked-in, marked-out, marks-end, marks-start-some, there-fits, there-inside, there-says}
 use Rattle.pieces.specs.Pieces.{layer_after, block_number, block_answer, piece_height, piece_number, piece_answer}
-use Rattle.pieces.specs.PiecesLaws.{piece-right}
-use Rattle.pieces.specs.MarkedLaws.{block-fits, block-marks, block-stays, piece-fits, piece-marks, piece-stays}
+use Rattle.pieces.proofs.PiecesLaws.{piece-right}
+use Rattle.pieces.proofs.MarkedLaws.{block-fits, block-marks, block-stays, piece-fits, piece-marks, piece-stays}
 use Rattle.pieces.specs.Hybrid.{hybrid_number, hybrid_answer}
-use Rattle.pieces.specs.HybridLaws.{hybrid-0, hybrid-marks, hybrid-stays}
+use Rattle.pieces.proofs.HybridLaws.{hybrid-0, hybrid-marks, hybrid-stays}
 use Rattle.words.specs.History.{Bytes, Call, take, load_layer, judge_block, judge_piece, judge_hybrid_piece, clear, reopen, load, repair, look, number, after, Opening, Step, call, lent, Steps, begin, next}
 use Rattle.words.specs.Marks.{Covers, Judges, Clears, JudgedBy, last, before, behind, JudgedRight, Uncleared, at_first, by_call, by_lending, RightFor, as_block, in_piece, in_hybrid_piece}
 use Rattle.knowledge.specs.Through.{clear-writes, clear_stays, reopen-refused, load-stays, repair-stays}

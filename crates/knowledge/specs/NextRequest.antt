@@ -8,7 +8,7 @@ use lib.Pow.{pow_pos}
 use Rattle.limits.specs.Limits.{longest_run}
 use Rattle.numbers.specs.Numbers.{no_anchor}
 use Rattle.tree.specs.Geometry.{node_number, covering, Padding}
-use Rattle.tree.specs.GeometryLaws.{padding-from-covering, covering-not-padding, node-number-root}
+use Rattle.tree.proofs.GeometryLaws.{padding-from-covering, covering-not-padding, node-number-root}
 use Rattle.cells.specs.Cells.{held_at, hash_at}
 use Rattle.cells.specs.CellsLaws.{lt-or-ge}
 use Rattle.store.specs.Store.{facts_root, blocks_of, height_of, Facts}
@@ -20,7 +20,7 @@ use Rattle.header.specs.Header.{header_of, Kept, uncle_count}
 use Rattle.messages.specs.Take.{take_answer}
 use Rattle.asking.specs.declared.next.Request.{Request}
 use Rattle.asking.specs.Asking.{next_number, wanted, lowest, run_length, uncles_needed, proof_for, run_top, run_header, next_header, no_request, request_for, next_answer, run_of, run_layers, next_run}
-use Rattle.asking.specs.AskingLaws.{needed-most, needed-free, needed-stops, proof-none, proof-some, proof-gives, proof-fewest, RunFacts, run-facts, top_in, run_ends, Asked, number-says, says-number, asked_low, wanted-within, lowest-held, lowest-free, asked-below, asked-run}
+use Rattle.asking.proofs.AskingLaws.{needed-most, needed-free, needed-stops, proof-none, proof-some, proof-gives, proof-fewest, RunFacts, run-facts, top_in, run_ends, Asked, number-says, says-number, asked_low, wanted-within, lowest-held, lowest-free, asked-below, asked-run}
 use Rattle.words.specs.Held.{Holds, Lacks}
 use Rattle.words.specs.Messages.{anchor_layer, anchor_index}
 use Rattle.words.specs.History.{Steps}

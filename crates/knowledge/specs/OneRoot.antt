@@ -13,9 +13,9 @@ use Rattle.octets.specs.Octets.{Octets, same}
 use Rattle.octets.specs.OctetsLaws.{append-octets, same_true, same_false}
 use Rattle.sha256.specs.Sha256.{pair_hash}
 use Rattle.tree.specs.Geometry.{block_count, height, block_size}
-use Rattle.tree.specs.GeometryLaws.{layer-doubles, left-start, right-start, height-enough}
+use Rattle.tree.proofs.GeometryLaws.{layer-doubles, left-start, right-start, height-enough}
 use Rattle.tree.specs.Values.{node, leaf_of, block_of, pieces_root}
-use Rattle.tree.specs.ValuesLaws.{file-octets, leaf-block}
+use Rattle.tree.proofs.ValuesLaws.{file-octets, leaf-block}
 use Rattle.words.specs.History.{Bytes}
 use Rattle.words.specs.Shown.{of_file, Gives, Shown, OneHash}
 use Rattle.knowledge.specs.Conflict.{append-parts}

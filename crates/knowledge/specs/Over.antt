@@ -10,7 +10,7 @@ use Rattle.std.proofs.Math.Nat.{pow-succ', pow-zero}
 use Rattle.std.proofs.Math.Decide.{ℕ_discrete}
 use Rattle.sha256.specs.Sha256.{pair_hash}
 use Rattle.tree.specs.Geometry.{node_number}
-use Rattle.tree.specs.GeometryLaws.{node-number-left, node-number-right, node-number-distinct, node-number-range}
+use Rattle.tree.proofs.GeometryLaws.{node-number-left, node-number-right, node-number-distinct, node-number-range}
 use Rattle.tree.specs.Values.{node}
 use Rattle.cells.specs.Entries.{Entry}
 use Rattle.cells.specs.EntriesLaws.{In, Has, has_same, Consistent, apart-consistent}

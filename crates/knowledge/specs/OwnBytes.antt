@@ -17,18 +17,18 @@ use Rattle.marks.specs.Marks.{marked, marks_start, marks_put}
 use Rattle.marks.specs.MarksLaws.{mark-in}
 use Rattle.store.specs.StoreLaws.{cells-within, store-size-some, positions-some, facts-blocks}
 use Rattle.tree.specs.Geometry.{block_count, height, node_number}
-use Rattle.tree.specs.GeometryLaws.{node-number-range}
+use Rattle.tree.proofs.GeometryLaws.{node-number-range}
 use Rattle.messages.specs.Take.{settled, place_in, take_number, take_after}
 use Rattle.messages.specs.TakenLaws.{taken-ready}
 use Rattle.pieces.specs.Pieces.{layer_settled, layer_number, layer_after}
-use Rattle.pieces.specs.PiecesLaws.{layer-loads, loads-layered, layer-refused, layer-taken}
+use Rattle.pieces.proofs.PiecesLaws.{layer-loads, loads-layered, layer-refused, layer-taken}
 use Rattle.saved.specs.Form.{length_in, piece_length_in, root_in, blocks_in, height_in, mark_count, place_count, layer_in, index_in, hash_in, block_in, marks_from, formed}
 use Rattle.saved.specs.Saved.{joins, with_place, mended, opening_number, entries_in, marks_set, loaded, chained, sound, repaired}
-use Rattle.saved.specs.SoundLaws.{place_at, place-says, sound-formed, rooted-formed}
-use Rattle.saved.specs.PrefixLaws.{FormIn, form-says, mark-at, mark-says}
-use Rattle.saved.specs.LoadLaws.{Opens, opening-says, entries-sound, entries-are, marks-set-none, marks-set-next, marks-set-same, mark-fits, first, first-room, second, second-facts, second-marks}
-use Rattle.saved.specs.MendedLaws.{mended-yes, mended-no, mended-none, mended-one}
-use Rattle.saved.specs.RepairedLaws.{repaired-facts, repaired-blocks}
+use Rattle.saved.proofs.SoundLaws.{place_at, place-says, sound-formed, rooted-formed}
+use Rattle.saved.proofs.PrefixLaws.{FormIn, form-says, mark-at, mark-says}
+use Rattle.saved.proofs.LoadLaws.{Opens, opening-says, entries-sound, entries-are, marks-set-none, marks-set-next, marks-set-same, mark-fits, first, first-room, second, second-facts, second-marks}
+use Rattle.saved.proofs.MendedLaws.{mended-yes, mended-no, mended-none, mended-one}
+use Rattle.saved.proofs.RepairedLaws.{repaired-facts, repaired-blocks}
 use Rattle.words.specs.History.{Bytes, Begins, by_opening, by_loading, by_repairing, OurStore, ours}
 use Rattle.knowledge.specs.SavedWhen.{load-0, repair-0}
 use Rattle.knowledge.specs.Restored.{loaded-ours, repaired-ours}

@@ -10,10 +10,10 @@ use Rattle.std.proofs.Math.Nat.{mul_assoc, mul-le-mul_right, pow-succ', add-mul,
 use Rattle.std.proofs.Math.Pow.{pow_pos, pow-lt}
 use Rattle.sha256.specs.declared.Hashed.{Hashed}
 use Rattle.tree.specs.Geometry.{block_count, height, covering, Padding}
-use Rattle.tree.specs.GeometryLaws.{padding-from-covering, height-enough, left-start, right_end}
+use Rattle.tree.proofs.GeometryLaws.{padding-from-covering, height-enough, left-start, right_end}
 use Rattle.store.specs.Store.{held_answer}
 use Rattle.extends.specs.Extends.{whole_blocks, both, earlier, earlier_root}
-use Rattle.extends.specs.ExtendsLaws.{earlier-whole, earlier-past, earlier-last, earlier-pair, both-known, both-says, whole-ends, ends-whole, whole-count}
+use Rattle.extends.proofs.ExtendsLaws.{earlier-whole, earlier-past, earlier-last, earlier-pair, both-known, both-says, whole-ends, ends-whole, whole-count}
 use Rattle.words.specs.Held.{Holds}
 use Rattle.words.specs.Younger.{Peak}
 

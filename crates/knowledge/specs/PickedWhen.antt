@@ -9,7 +9,7 @@ use Rattle.store.specs.StoreLaws.{usable-facts}
 use Rattle.marks.specs.Marks.{first_block, blocks_in, piece_marked}
 use Rattle.marks.specs.MarksLaws.{all-marked-says, all-marked-each}
 use Rattle.asking.specs.Picking.{fetchable, best_of, pick_answer}
-use Rattle.asking.specs.PickingLaws.{Best, none, this, best-is}
+use Rattle.asking.proofs.PickingLaws.{Best, none, this, best-is}
 use Rattle.words.specs.Asking.{CountEach, OnDisk, ToFetch, Picked, nothing_left, rarest}
 use Rattle.numbers.specs.Tests.{either, not-both}
 use Rattle.knowledge.specs.Bitfield.{covered-in, in-covered, all-of-piece}

@@ -11,8 +11,8 @@ use Rattle.marks.specs.Marks.{marked, marked_at, each_piece, first_block, blocks
 use Rattle.marks.specs.MarksLaws.{marked-in, covered-inside, all-marked-says, all-marked-each}
 use Rattle.pieces.specs.Pieces.{piece_number, piece_answer, piece_after}
 use Rattle.pieces.specs.Hybrid.{hybrid_number, hybrid_answer}
-use Rattle.pieces.specs.HybridLaws.{hybrid-0, hybrid-marks}
-use Rattle.pieces.specs.MarkedLaws.{piece-fits, piece-marks}
+use Rattle.pieces.proofs.HybridLaws.{hybrid-0, hybrid-marks}
+use Rattle.pieces.proofs.MarkedLaws.{piece-fits, piece-marks}
 use Rattle.asking.specs.declared.pick.Choice.{Choice}
 use Rattle.asking.specs.Picking.{no_piece, this_piece, pick_answer}
 use Rattle.words.specs.Asking.{CountEach, ToFetch, Picked, nothing_left, rarest, count_below, not_on_disk, KeepsMarks, unmoved, called, relent, Fetched, unpicked, between, judged_right, judged_by_both}

@@ -8,9 +8,9 @@ use Rattle.std.proofs.Math.Decide.{dec_lt, ℕ_discrete}
 use Rattle.octets.specs.Octets.{Octets, cut}
 use Rattle.octets.specs.OctetsLaws.{get_or-cut, cut-size}
 use Rattle.tree.specs.Geometry.{block_length, block_count, node_number, has_layer, piece_count, block_size, piece_size}
-use Rattle.tree.specs.GeometryLaws.{left-start, right-start, node-number-range, block_within, block-outside, piece-size-most}
+use Rattle.tree.proofs.GeometryLaws.{left-start, right-start, node-number-range, block_within, block-outside, piece-size-most}
 use Rattle.tree.specs.Values.{node, leaf_of, block_of, piece_of}
-use Rattle.tree.specs.ValuesLaws.{node-octets, leaf-octets, leaf-block}
+use Rattle.tree.proofs.ValuesLaws.{node-octets, leaf-octets, leaf-block}
 use Rattle.cells.specs.Entries.{Entry}
 use Rattle.cells.specs.EntriesLaws.{In}
 use Rattle.store.specs.Store.{file_length, piece_length, blocks_of, height_of, positions, Facts}
@@ -19,7 +19,7 @@ use Rattle.settling.specs.Span.{Within}
 use Rattle.settling.specs.Subtree.{subtree}
 use Rattle.settling.specs.SubtreeLaws.{within-left, within-right, within-self, subtree-left, subtree-right, subtree-top}
 use Rattle.pieces.specs.Pieces.{layer_of_pieces, piece_height, piece_number}
-use Rattle.pieces.specs.PiecesLaws.{piece-in, piece-within, height-layer, height-root, piece-right}
+use Rattle.pieces.proofs.PiecesLaws.{piece-in, piece-within, height-layer, height-root, piece-right}
 use Rattle.words.specs.History.{Bytes, OurStore}
 use Rattle.words.specs.Shown.{Source, held_by, by_piece, of_file, OneHash}
 use Rattle.words.specs.File.{For, piece_for}
@@ -143,7 +143,7 @@ module _ (file s : List ℕ) (f : Facts s) (w : For file s) (i : ℕ) (l : i < p
           short = unfold piece_size in omega arith
 
           whole-file : file_length s ≤ block_length * 2 ^ height_of s
-          whole-file = Rattle.tree.specs.GeometryLaws.block-past (file_length s) (2 ^ height_of s) (unfold blocks_of in facts-leaves s f)
+          whole-file = Rattle.tree.proofs.GeometryLaws.block-past (file_length s) (2 ^ height_of s) (unfold blocks_of in facts-leaves s f)
 
   from-leaves : ((z : ℕ) → z < 2 ^ piece_height s → leaf_of piece z ≡ leaf_of (piece_for file s i) z) → PieceIsAt file s i piece
   from-leaves k =

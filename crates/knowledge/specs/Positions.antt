@@ -11,7 +11,7 @@ use Rattle.std.proofs.Math.ListN.{length}
 use Rattle.octets.specs.Octets.{cut, zero_hash}
 use Rattle.octets.specs.OctetsLaws.{cut-cut, cut-length}
 use Rattle.tree.specs.Geometry.{height, node_number}
-use Rattle.tree.specs.GeometryLaws.{node-number-parent}
+use Rattle.tree.proofs.GeometryLaws.{node-number-parent}
 use Rattle.tree.specs.Values.{node}
 use Rattle.cells.specs.Entries.{Entry}
 use Rattle.cells.specs.EntriesLaws.{In, here, there, Has, has_same, in_left, in_right, in-cases, no-entry, Consistent}

@@ -14,7 +14,7 @@ use Rattle.messages.specs.TakenLaws.{take-refused}
 use Rattle.serve.specs.Serve.{all_held, request_number, reject_to, reply_to}
 use Rattle.serve.specs.ServeLaws.{fits-sent, fits_not, served-none, served-reply, served-reject, answered-form, reject-length}
 use Rattle.pieces.specs.Pieces.{layer_after, layer_answer}
-use Rattle.pieces.specs.PiecesLaws.{layer-refused, layer-refused-count}
+use Rattle.pieces.proofs.PiecesLaws.{layer-refused, layer-refused-count}
 use Rattle.words.specs.Messages.{Rejected}
 use Rattle.words.specs.Answers.{ServeOutcome, replied, rejected, untouched}
 use Rattle.knowledge.specs.Through.{reopen-refused}

@@ -9,7 +9,7 @@ use Rattle.std.proofs.Math.Dec.{eqb}
 use Rattle.octets.specs.OctetsLaws.{cut-length}
 use Rattle.numbers.specs.Numbers.{done}
 use Rattle.tree.specs.Geometry.{node_number}
-use Rattle.tree.specs.GeometryLaws.{node-number-range}
+use Rattle.tree.proofs.GeometryLaws.{node-number-range}
 use Rattle.cells.specs.Cells.{Room}
 use Rattle.cells.specs.CellsLaws.{put-room, put-outside}
 use Rattle.store.specs.Store.{height_of, positions, store_size}
@@ -17,11 +17,11 @@ use Rattle.store.specs.StoreLaws.{opened-zero, positions-some, facts-leaves}
 use Rattle.marks.specs.Marks.{marks_start, marked_at, marked_answer}
 use Rattle.saved.specs.Form.{length_in, piece_length_in, root_in, blocks_in, height_in, place_count, layer_in, index_in, hash_in}
 use Rattle.saved.specs.Saved.{joins, with_place, mended, opening_number, rooted, begun, repaired, repair_answer, repair_after}
-use Rattle.saved.specs.SoundLaws.{place_at, place-says, rooted-formed}
-use Rattle.saved.specs.PrefixLaws.{FormIn, form-says}
-use Rattle.saved.specs.LoadLaws.{Opens, opening-says, root-long, first, first-room}
-use Rattle.saved.specs.MendedLaws.{mended-yes, mended-no, mended-none, mended-one}
-use Rattle.saved.specs.RepairedLaws.{repaired-facts, repaired-height}
+use Rattle.saved.proofs.SoundLaws.{place_at, place-says, rooted-formed}
+use Rattle.saved.proofs.PrefixLaws.{FormIn, form-says}
+use Rattle.saved.proofs.LoadLaws.{Opens, opening-says, root-long, first, first-room}
+use Rattle.saved.proofs.MendedLaws.{mended-yes, mended-no, mended-none, mended-one}
+use Rattle.saved.proofs.RepairedLaws.{repaired-facts, repaired-height}
 use Rattle.knowledge.specs.SavedWhen.{repair-0}
 use Rattle.knowledge.specs.MarksSince.{marked-says}
 

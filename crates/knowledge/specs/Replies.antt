@@ -15,7 +15,7 @@ use Rattle.octets.specs.OctetsLaws.{same-eq}
 use Rattle.sha256.specs.Sha256.{pair_hash}
 use Rattle.numbers.specs.Numbers.{done}
 use Rattle.tree.specs.Geometry.{block_count, covering, height, node_number}
-use Rattle.tree.specs.GeometryLaws.{left-start, right-start, padding-from-covering, node-number-parent, layer-doubles}
+use Rattle.tree.proofs.GeometryLaws.{left-start, right-start, padding-from-covering, node-number-parent, layer-doubles}
 use Rattle.tree.specs.Values.{node, pad_value}
 use Rattle.cells.specs.Cells.{held_at, hash_at}
 use Rattle.cells.specs.Entries.{Entry, agrees, put_all, one_if, newly}

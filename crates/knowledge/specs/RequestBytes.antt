@@ -17,7 +17,7 @@ use Rattle.header.specs.declared.Header.{Header}
 use Rattle.header.specs.Header.{request_id, header_size, header_of, message_root, is_request, Small}
 use Rattle.asking.specs.declared.next.Request.{Request}
 use Rattle.asking.specs.Asking.{wanted, lowest, uncles_needed, run_top, run_header, next_header, request_bytes, next_answer, run_layers, next_run}
-use Rattle.asking.specs.AskingLaws.{needed-most, proof-most, run-facts, Asked, height-small, asked-below, asked-run}
+use Rattle.asking.proofs.AskingLaws.{needed-most, proof-most, run-facts, Asked, height-small, asked-below, asked-run}
 use Rattle.words.specs.Asking.{HeaderOf}
 use Rattle.leaves.specs.LeavesLaws.{field, number-field}
 use Rattle.knowledge.specs.NextRequest.{named}

@@ -6,7 +6,7 @@ use Rattle.std.proofs.Math.Path.{ap}
 use Rattle.std.proofs.Common.{sym, ◌∙◌, inl, inr, arith, div-lt_iff_lt-mul, pow-add, pow_pos, eqb-true}
 use Rattle.std.proofs.Math.Bool.{and-eq-true_iff}
 use Rattle.tree.specs.Geometry.{height, block_count}
-use Rattle.tree.specs.GeometryLaws.{layer-doubles}
+use Rattle.tree.proofs.GeometryLaws.{layer-doubles}
 use Rattle.numbers.specs.Numbers.{rule_broken}
 use Rattle.store.specs.Store.{usable, file_length, facts_root, blocks_of, height_of}
 use Rattle.settling.specs.Path.{sibling}

@@ -14,17 +14,17 @@ use Rattle.knowledge.specs.ReadBack.{holds_at}
 use Rattle.knowledge.specs.Invariant.{Ours}
 use Rattle.knowledge.specs.FourClauses.{four-clauses-exactly}
 use Rattle.saved.specs.Clauses.{Clauses, InTree, Kept}
-use Rattle.saved.specs.ClausesLaws.{kept-within, kept-clauses}
+use Rattle.saved.proofs.ClausesLaws.{kept-within, kept-clauses}
 use Rattle.saved.specs.Form.{root_in, blocks_in, height_in, place_count, formed, Placed}
 use Rattle.saved.specs.Saved.{opening_number, root_right, sound, loaded, rooted, repaired}
-use Rattle.saved.specs.SoundLaws.{placed-in-tree, record-at, sound-formed}
-use Rattle.saved.specs.SoundExactly.{root-says}
-use Rattle.saved.specs.RankLaws.{rank-root}
-use Rattle.saved.specs.PrefixLaws.{form-says}
-use Rattle.saved.specs.RepairedLaws.{repaired-facts, repaired-height, repaired-blocks, repaired-root}
-use Rattle.saved.specs.LoadedLaws.{loaded-clauses, loaded-exactly}
-use Rattle.saved.specs.RoundTrip.{loaded-facts, loaded-root, loaded-height, loaded-blocks}
-use Rattle.saved.specs.Promises.{clauses-same, HeldIn, repaired-exactly}
+use Rattle.saved.proofs.SoundLaws.{placed-in-tree, record-at, sound-formed}
+use Rattle.saved.proofs.SoundExactly.{root-says}
+use Rattle.saved.proofs.RankLaws.{rank-root}
+use Rattle.saved.proofs.PrefixLaws.{form-says}
+use Rattle.saved.proofs.RepairedLaws.{repaired-facts, repaired-height, repaired-blocks, repaired-root}
+use Rattle.saved.proofs.LoadedLaws.{loaded-clauses, loaded-exactly}
+use Rattle.saved.proofs.RoundTrip.{loaded-facts, loaded-root, loaded-height, loaded-blocks}
+use Rattle.saved.proofs.Promises.{clauses-same, HeldIn, repaired-exactly}
 
 -- what kd_held gives is what is held
 module _ (s : List ℕ) (f : Facts s) where

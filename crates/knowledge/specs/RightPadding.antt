@@ -9,7 +9,7 @@ use Rattle.octets.specs.Octets.{cut, same, zero_hash}
 use Rattle.octets.specs.OctetsLaws.{same_true, cut-length}
 use Rattle.sha256.specs.Sha256.{pair_hash}
 use Rattle.tree.specs.Geometry.{Padding, covering, height, node_number}
-use Rattle.tree.specs.GeometryLaws.{covering-until-padding, padding-left, padding-right, node-number-distinct, node-number-parent, layer-doubles}
+use Rattle.tree.proofs.GeometryLaws.{covering-until-padding, padding-left, padding-right, node-number-distinct, node-number-parent, layer-doubles}
 use Rattle.tree.specs.Values.{node, pad_value}
 use Rattle.cells.specs.Entries.{Entry}
 use Rattle.cells.specs.EntriesLaws.{In, in-cases, no-entry}

@@ -11,7 +11,7 @@ use Rattle.numbers.specs.Numbers.{done, refused, unusable, facts_out_of_range}
 use Rattle.numbers.specs.Chain.{exactly-of}
 use Rattle.limits.specs.Limits.{longest_file}
 use Rattle.tree.specs.Geometry.{block_count, height, node_number, piece_layer}
-use Rattle.tree.specs.GeometryLaws.{piece-length-form, piece-length-accepted, node-number-root, node-number-distinct}
+use Rattle.tree.proofs.GeometryLaws.{piece-length-form, piece-length-accepted, node-number-root, node-number-distinct}
 use Rattle.cells.specs.Cells.{held_at, hash_at}
 use Rattle.store.specs.Store.{usable, file_length, piece_length, size_answer, height_of, positions, facts_in_range, store_size, open_answer, open_after, opened}
 use Rattle.store.specs.StoreLaws.{opened-facts, opened-height, opened-held, opened-hash, tree-says, tree-number, positions-some, range-says, store-size-some}

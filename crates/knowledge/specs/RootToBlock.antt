@@ -11,9 +11,9 @@ use Rattle.octets.specs.Octets.{Octets, cut, same}
 use Rattle.octets.specs.OctetsLaws.{same_true, same_false, cut-octets, cut_short}
 use Rattle.sha256.specs.Sha256.{sha256, pair_hash}
 use Rattle.tree.specs.Geometry.{block_length, block_count, height, node_number, has_layer, piece_count, block_size, piece_size}
-use Rattle.tree.specs.GeometryLaws.{left-start, right-start, node-number-root, block-starts, piece-length-form}
+use Rattle.tree.proofs.GeometryLaws.{left-start, right-start, node-number-root, block-starts, piece-length-form}
 use Rattle.tree.specs.Values.{node, leaf_of, block_of, piece_of, pieces_root}
-use Rattle.tree.specs.ValuesLaws.{leaf-octets, leaf-block, block-bytes, piece_bytes, leaf-of-piece, one_piece}
+use Rattle.tree.proofs.ValuesLaws.{leaf-octets, leaf-block, block-bytes, piece_bytes, leaf-of-piece, one_piece}
 use Rattle.cells.specs.Cells.{held_at, hash_at}
 use Rattle.cells.specs.Entries.{Entry, agrees}
 use Rattle.cells.specs.EntriesLaws.{In, Has, has_same, apart-consistent, agrees-held, agrees-in, in-agrees}
@@ -23,7 +23,7 @@ use Rattle.settling.specs.Span.{Within}
 use Rattle.settling.specs.Subtree.{subtree}
 use Rattle.settling.specs.SubtreeLaws.{within-tree, subtree-value, number-below, subtree-sound, subtree-apart, subtree-positive, subtree-family, subtree-top, subtree-has}
 use Rattle.pieces.specs.Pieces.{layer_of_pieces, piece_height, block_number, piece_number}
-use Rattle.pieces.specs.PiecesLaws.{piece-in, height-layer, piece-at-root, block-right, right-block, right-piece}
+use Rattle.pieces.proofs.PiecesLaws.{piece-in, height-layer, piece-at-root, block-right, right-block, right-piece}
 use Rattle.words.specs.History.{Bytes, OurStore}
 use Rattle.words.specs.Shown.{held_by, of_file, OneHash}
 use Rattle.words.specs.File.{For, piece_for}

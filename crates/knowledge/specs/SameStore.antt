@@ -14,11 +14,11 @@ use Rattle.facts.specs.FactsLaws.{facts-same}
 use Rattle.store.specs.Store.{usable, file_length, height_of, positions, store_size, Facts}
 use Rattle.store.specs.StoreLaws.{own-cells, usable-facts, facts-usable, used-same, used-facts, used-answer, byte-same}
 use Rattle.messages.specs.Take.{take_after}
-use Rattle.extends.specs.ExtendsLaws.{extends-alike}
+use Rattle.extends.proofs.ExtendsLaws.{extends-alike}
 use Rattle.pieces.specs.Pieces.{layer_after, block_number, block_answer, block_after, piece_number, piece_answer, piece_after}
-use Rattle.pieces.specs.MarkedLaws.{block-fits, block-marks, block-stays, piece-fits, piece-marks, piece-stays}
+use Rattle.pieces.proofs.MarkedLaws.{block-fits, block-marks, block-stays, piece-fits, piece-marks, piece-stays}
 use Rattle.pieces.specs.Hybrid.{hybrid_number, hybrid_answer, hybrid_after}
-use Rattle.pieces.specs.HybridLaws.{hybrid-marks, hybrid-stays, hybrid-leaves}
+use Rattle.pieces.proofs.HybridLaws.{hybrid-marks, hybrid-stays, hybrid-leaves}
 use Rattle.marks.specs.Marks.{marked, cleared, marks_put, block_there, clear_answer, clear_after, first_block, blocks_in}
 use Rattle.marks.specs.MarksLaws.{marks-behind, marks-end, marks-facts, marks-same-facts, there-fits}
 use Rattle.knowledge.specs.MarksBeyond.{there-beyond, marked-beyond, field-beyond, covered-beyond, marks-beyond}

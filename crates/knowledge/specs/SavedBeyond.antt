@@ -7,7 +7,7 @@ use Prim.Native.Nat.{ℕ, zero, suc, ◌-◌, ◌^◌, ◌≤◌, ◌<◌}
 use Rattle.std.proofs.Common.{arith}
 use Rattle.octets.specs.Octets.{cut}
 use Rattle.tree.specs.Geometry.{node_number}
-use Rattle.tree.specs.GeometryLaws.{node-number-range}
+use Rattle.tree.proofs.GeometryLaws.{node-number-range}
 use Rattle.store.specs.Store.{file_length, blocks_of, height_of, positions, store_size, Facts, SameFacts}
 use Rattle.store.specs.StoreLaws.{facts-usable, facts-leaves, used-same, used-facts}
 use Rattle.saved.specs.Form.{Place}

@@ -10,7 +10,7 @@ use Rattle.std.proofs.Math.ListN.{length-append}
 use borrow.Author.Tests.{eq-eqb, ne_eqb, le-leb, lt-ltb}
 use Rattle.sha256.specs.declared.Hashed.{Hashed}
 use Rattle.tree.specs.Geometry.{node_number}
-use Rattle.tree.specs.GeometryLaws.{node-number-distinct, node-number-root, longer-has}
+use Rattle.tree.proofs.GeometryLaws.{node-number-distinct, node-number-root, longer-has}
 use Rattle.tree.specs.Values.{node, layer_leaf}
 use Rattle.cells.specs.Cells.{held_at}
 use Rattle.cells.specs.Entries.{Entry, one_if, newly, lacks}
@@ -28,7 +28,7 @@ use Rattle.messages.specs.Asks.{RulesPassed}
 use Rattle.messages.specs.TakeLaws.{passed, placed}
 use Rattle.pieces.specs.Pieces.{layer_of_pieces, layer_settled, layer_number, layer_answer}
 use Rattle.pieces.specs.Asks.{Layered}
-use Rattle.pieces.specs.PiecesLaws.{layered, layer-sound, layer-taken, settled-from-root}
+use Rattle.pieces.proofs.PiecesLaws.{layered, layer-sound, layer-taken, settled-from-root}
 use Rattle.words.specs.Messages.{uncles_in, Settles}
 use Rattle.saved.specs.Clauses.{Hashes}
 use Rattle.words.specs.Held.{Fixed, Stands, first, later, Distinct, none, more, All, unheld_among}

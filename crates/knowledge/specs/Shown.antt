@@ -3,14 +3,14 @@
 use Rattle.std.specs.Prelude.{◌≡◌, refl, List, ℕ, zero, suc, ◌+◌, ◌-◌, ◌*◌, ◌^◌, ◌≤◌, ◌<◌, length}
 use Rattle.std.proofs.Common.{ap, sym, ◌∙◌, subst, arith, pow_pos}
 use Rattle.tree.specs.Geometry.{block_count, height, node_number}
-use Rattle.tree.specs.GeometryLaws.{node-number-covers, node-number-left, node-number-right, node-number-root, longer-has, layer-doubles}
+use Rattle.tree.proofs.GeometryLaws.{node-number-covers, node-number-left, node-number-right, node-number-root, longer-has, layer-doubles}
 use Rattle.tree.specs.Values.{node, leaf_of, layer_leaf}
 use Rattle.cells.specs.EntriesLaws.{Has}
 use Rattle.store.specs.Store.{file_length, piece_length, height_of, positions, Facts}
 use Rattle.store.specs.StoreLaws.{usable-facts}
 use Rattle.settling.specs.Subtree.{subtree}
 use Rattle.pieces.specs.Pieces.{layer_of_pieces, layer_settled, piece_height}
-use Rattle.pieces.specs.PiecesLaws.{layered, piece-in}
+use Rattle.pieces.proofs.PiecesLaws.{layered, piece-in}
 use Rattle.words.specs.Held.{Holds}
 use Rattle.words.specs.Shown.{Source, held_by, by_message, by_layer, by_piece, of_file, Gives, Shown}
 use Rattle.words.specs.File.{For}

@@ -11,14 +11,14 @@ use Rattle.store.specs.StoreLaws.{usable-facts}
 use Rattle.marks.specs.Marks.{marked_answer}
 use Rattle.saved.specs.Form.{Saved, saved_bytes, length_in, piece_length_in, root_in, blocks_in, height_in, opens, formed, value_in}
 use Rattle.saved.specs.Clauses.{Hashes, Clauses, Within, Kept}
-use Rattle.saved.specs.ClausesLaws.{kept-within, kept-clauses, kept-largest}
+use Rattle.saved.proofs.ClausesLaws.{kept-within, kept-clauses, kept-largest}
 use Rattle.saved.specs.Save.{saved_of, save_answer}
 use Rattle.saved.specs.Saved.{load_answer, load_after, repair_answer, repair_after}
-use Rattle.saved.specs.PrefixLaws.{cut-short-not-formed}
-use Rattle.saved.specs.Apart.{store-not-saved, saved-not-store}
-use Rattle.saved.specs.SaveLaws.{saved-ordered, saved-reads, saved-exactly}
-use Rattle.saved.specs.RoundTrip.{saved-again}
-use Rattle.saved.specs.Promises.{saved-loads}
+use Rattle.saved.proofs.PrefixLaws.{cut-short-not-formed}
+use Rattle.saved.proofs.Apart.{store-not-saved, saved-not-store}
+use Rattle.saved.proofs.SaveLaws.{saved-ordered, saved-reads, saved-exactly}
+use Rattle.saved.proofs.RoundTrip.{saved-again}
+use Rattle.saved.proofs.Promises.{saved-loads}
 use Rattle.words.specs.Held.{Holds}
 use Rattle.words.specs.History.{Bytes, by_loading, OurStore, ours, begin}
 use Rattle.words.specs.Answers.{InRange}

@@ -11,9 +11,9 @@ use Rattle.store.specs.StoreLaws.{usable-facts}
 use Rattle.marks.specs.Marks.{marked, cleared, marks_put, block_there, clear_after, first_block, blocks_in}
 use Rattle.marks.specs.MarksLaws.{there-says, there-fits}
 use Rattle.pieces.specs.Pieces.{layer_after, block_number, piece_number, piece_after}
-use Rattle.pieces.specs.PiecesLaws.{block-right, piece-right}
-use Rattle.pieces.specs.MarkedLaws.{block-fits, block-marks, block-stays, piece-fits, piece-marks, piece-stays}
-use Rattle.pieces.specs.HybridLaws.{hybrid-leaves}
+use Rattle.pieces.proofs.PiecesLaws.{block-right, piece-right}
+use Rattle.pieces.proofs.MarkedLaws.{block-fits, block-marks, block-stays, piece-fits, piece-marks, piece-stays}
+use Rattle.pieces.proofs.HybridLaws.{hybrid-leaves}
 use Rattle.saved.specs.Saved.{load_number, load_answer, load_after, repair_number, repair_answer, repair_after}
 use Rattle.words.specs.History.{Bytes, Call, take, load_layer, judge_block, judge_piece, judge_hybrid_piece, clear, reopen, load, repair, look, number, after, Opening, SameStore, call, lent, Steps, begin, next, Each, nothing, called, between}
 

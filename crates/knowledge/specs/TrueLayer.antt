@@ -5,7 +5,7 @@ use Rattle.std.proofs.Math.Path.{ap, sym}
 use Rattle.std.proofs.Common.{◌∙◌, inl, inr, arith}
 use Rattle.tree.specs.Geometry.{block_count, node_number, covering, has_layer, piece_count}
 use Rattle.tree.specs.Values.{node, leaf_of, whole_layer, layer_leaf, pieces_root}
-use Rattle.tree.specs.ValuesLaws.{layer-octets, layer-cut, node-of-layer}
+use Rattle.tree.proofs.ValuesLaws.{layer-octets, layer-cut, node-of-layer}
 use Rattle.cells.specs.Cells.{hash_at}
 use Rattle.cells.specs.Entries.{agrees}
 use Rattle.cells.specs.EntriesLaws.{has_same, agrees-in, in-agrees}
@@ -13,7 +13,7 @@ use Rattle.store.specs.Store.{file_length, piece_length, blocks_of, height_of}
 use Rattle.store.specs.StoreLaws.{facts-usable}
 use Rattle.settling.specs.Subtree.{subtree}
 use Rattle.pieces.specs.Pieces.{layer_of_pieces, layer_settled, layer_number}
-use Rattle.pieces.specs.PiecesLaws.{layered, pieces_are, loads-answered, settled-in-layers}
+use Rattle.pieces.proofs.PiecesLaws.{layered, pieces_are, loads-answered, settled-in-layers}
 use Rattle.words.specs.History.{OurStore}
 use Rattle.words.specs.Shown.{held_by, of_file}
 use Rattle.words.specs.File.{For, layer_for}

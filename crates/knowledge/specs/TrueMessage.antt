@@ -12,9 +12,9 @@ use Rattle.octets.specs.OctetsLaws.{same_true}
 use Rattle.numbers.specs.Numbers.{no_anchor}
 use Rattle.sha256.specs.Sha256.{pair_hash}
 use Rattle.tree.specs.Geometry.{block_count, height}
-use Rattle.tree.specs.GeometryLaws.{left-start, right-start}
+use Rattle.tree.proofs.GeometryLaws.{left-start, right-start}
 use Rattle.tree.specs.Values.{node, leaf_of}
-use Rattle.tree.specs.ValuesLaws.{padding-value}
+use Rattle.tree.proofs.ValuesLaws.{padding-value}
 use Rattle.cells.specs.Cells.{held_at, hash_at}
 use Rattle.cells.specs.Entries.{Entry}
 use Rattle.cells.specs.EntriesLaws.{In, Has, has_same, in-cases, one-is, no-entry, agrees-held, agrees-in, in-agrees}

@@ -13,13 +13,13 @@ use Rattle.numbers.specs.declared.Answer.{Answer}
 use Rattle.sha256.specs.Sha256.{sha256}
 use Rattle.sha256.specs.declared.Hashed.{Hashed}
 use Rattle.tree.specs.Geometry.{block_length, block_count, block_size}
-use Rattle.tree.specs.GeometryLaws.{block_within}
+use Rattle.tree.proofs.GeometryLaws.{block_within}
 use Rattle.tree.specs.Values.{node, leaf_of, block_of, pieces_root}
-use Rattle.tree.specs.ValuesLaws.{node-same, leaf-block}
+use Rattle.tree.proofs.ValuesLaws.{node-same, leaf-block}
 use Rattle.store.specs.Store.{file_length, blocks_of, height_of, held_answer}
 use Rattle.store.specs.StoreLaws.{tree-says, facts-usable}
 use Rattle.extends.specs.Extends.{whole_blocks, rest_size, earlier_root, over_size, last_hash, extends_answer}
-use Rattle.extends.specs.ExtendsLaws.{last_bytes, HeldOf, earlier-root}
+use Rattle.extends.proofs.ExtendsLaws.{last_bytes, HeldOf, earlier-root}
 use Rattle.words.specs.History.{Bytes, OurStore}
 use Rattle.words.specs.Shown.{held_by, of_file, Shown}
 use Rattle.words.specs.File.{For}

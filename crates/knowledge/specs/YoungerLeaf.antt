@@ -10,7 +10,7 @@ use Rattle.store.specs.StoreLaws.{facts-leaves}
 use Rattle.settling.specs.Path.{sibling}
 use Rattle.settling.specs.PathLaws.{sibling-even, sibling-odd}
 use Rattle.extends.specs.Extends.{whole_blocks, rest_size}
-use Rattle.extends.specs.ExtendsLaws.{ends-whole}
+use Rattle.extends.proofs.ExtendsLaws.{ends-whole}
 use Rattle.words.specs.Held.{Holds}
 use Rattle.words.specs.FourClauses.{FourClauses}
 use Rattle.words.specs.History.{OurStore}

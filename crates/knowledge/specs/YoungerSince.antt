@@ -9,13 +9,13 @@ use Rattle.numbers.specs.Numbers.{no_anchor}
 use Rattle.sha256.specs.Sha256.{sha256, pair_hash}
 use Rattle.sha256.specs.declared.Hashed.{Hashed}
 use Rattle.tree.specs.Geometry.{block_length, block_count, height, covering, piece_layer, Padding}
-use Rattle.tree.specs.GeometryLaws.{block_within, left-start, right_end, piece-length-form}
+use Rattle.tree.proofs.GeometryLaws.{block_within, left-start, right_end, piece-length-form}
 use Rattle.store.specs.Store.{usable, file_length, piece_length, blocks_of, height_of, held_answer, Facts}
 use Rattle.store.specs.StoreLaws.{usable-facts, facts-usable, facts-leaves}
 use Rattle.pieces.specs.Pieces.{layer_of_pieces, layer_number, layer_after}
 use Rattle.asking.specs.Asking.{next_answer}
 use Rattle.extends.specs.Extends.{whole_blocks, rest_size, both, earlier, earlier_root, over_size, last_hash, extends_number, extends_answer}
-use Rattle.extends.specs.ExtendsLaws.{earlier-whole, earlier-past, earlier-last, earlier-pair, both-known, both-says, whole-count}
+use Rattle.extends.proofs.ExtendsLaws.{earlier-whole, earlier-past, earlier-last, earlier-pair, both-known, both-says, whole-count}
 use Rattle.words.specs.Held.{Holds, Position}
 use Rattle.words.specs.FourClauses.{FourClauses}
 use Rattle.words.specs.Pieces.{LayerFormed}

@@ -13,7 +13,7 @@ use Rattle.octets.specs.Octets.{cut, same}
 use Rattle.octets.specs.OctetsLaws.{cut-length}
 use Rattle.numbers.specs.Numbers.{layers_amiss, layer_differs}
 use Rattle.tree.specs.Geometry.{block_count, covering, height, is_piece_length, piece_layer, piece_count, has_layer}
-use Rattle.tree.specs.GeometryLaws.{ceil-least, covering-most, pieces-covering, piece-length-form}
+use Rattle.tree.proofs.GeometryLaws.{ceil-least, covering-most, pieces-covering, piece-length-form}
 use Rattle.tree.specs.Values.{layer_root}
 use Rattle.bencode.specs.Scalar.{read_string}
 use Rattle.bencode.specs.EndsLaws.{string-ends}

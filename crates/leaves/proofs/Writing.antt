@@ -12,15 +12,15 @@ use Rattle.octets.specs.OctetsLaws.{cut-whole, pasted-append, pasted-none}
 use Rattle.limits.specs.Limits.{tallest_tree}
 use Rattle.numbers.specs.Numbers.{refused, done, no_room}
 use Rattle.numbers.specs.declared.Answer.{Answer}
-use Rattle.tree.specs.GeometryLaws.{shifted_one}
+use Rattle.tree.proofs.GeometryLaws.{shifted_one}
 use Rattle.tree.specs.Values.{leaf_of}
-use Rattle.tree.specs.ValuesLaws.{leaf-octets}
+use Rattle.tree.proofs.ValuesLaws.{leaf-octets}
 use Rattle.store.specs.Store.{facts_root, height_of, Facts}
 use Rattle.store.specs.StoreLaws.{usable-facts, facts-height}
 use Rattle.header.specs.Header.{hashes_id, header_size}
 use Rattle.pieces.specs.Pieces.{piece_height, piece_number}
 use Rattle.pieces.specs.Asks.{PieceIn}
-use Rattle.pieces.specs.PiecesLaws.{piece-right, piece-in}
+use Rattle.pieces.proofs.PiecesLaws.{piece-right, piece-in}
 use Rattle.leaves.specs.Leaves.{leaf_run, head_of, run_over, leaf_message, leaves_told, leaves_answer, leaves_after}
 use Rattle.leaves.specs.LeavesLaws.{run_more, run_length, head-length, message-length, leaves-refused, leaves-short, leaves-done, leaves_nothing, told-some, run_inside, root-size}
 

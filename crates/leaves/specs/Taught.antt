@@ -12,9 +12,9 @@ use Rattle.octets.specs.Octets.{cut, same, zero_hash}
 use Rattle.octets.specs.OctetsLaws.{cut-append-right, same-eq}
 use Rattle.limits.specs.Limits.{tallest_tree}
 use Rattle.tree.specs.Geometry.{block_length, ceil_div, block_count, covering, node_number, piece_size, has_layer, piece_count}
-use Rattle.tree.specs.GeometryLaws.{ceil-least, ceil-enough, height-pow, height-least, piece-length-form}
+use Rattle.tree.proofs.GeometryLaws.{ceil-least, ceil-enough, height-pow, height-least, piece-length-form}
 use Rattle.tree.specs.Values.{node, leaf_of, pad_value}
-use Rattle.tree.specs.ValuesLaws.{node-same, leaf-octets}
+use Rattle.tree.proofs.ValuesLaws.{node-same, leaf-octets}
 use Rattle.cells.specs.Cells.{hash_at}
 use Rattle.cells.specs.Entries.{Entry}
 use Rattle.store.specs.Store.{file_length, piece_length, facts_root, blocks_of, height_of, Facts}
@@ -31,7 +31,7 @@ use Rattle.messages.specs.Padded.{all_from, run_padded, uncles_padded}
 use Rattle.messages.specs.TakeLaws.{passes}
 use Rattle.pieces.specs.Asks.{PieceIn}
 use Rattle.pieces.specs.Pieces.{layer_of_pieces, piece_height, piece_number}
-use Rattle.pieces.specs.PiecesLaws.{height-layer, height-root, one-piece-only, piece-in, RightPiece, piece-right, piece-length-by-layer}
+use Rattle.pieces.proofs.PiecesLaws.{height-layer, height-root, one-piece-only, piece-in, RightPiece, piece-right, piece-length-by-layer}
 use Rattle.leaves.specs.Leaves.{leaf_run, head_of, run_over, leaf_message}
 use Rattle.leaves.specs.LeavesLaws.{run_length, run_at, run_inside, head-length, message-root, message-header, message-length, root-size}
 

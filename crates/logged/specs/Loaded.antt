@@ -10,9 +10,9 @@ use Rattle.std.proofs.Math.Decide.{ℕ_discrete}
 use Rattle.octets.specs.Octets.{same}
 use Rattle.octets.specs.OctetsLaws.{same-eq}
 use Rattle.tree.specs.Geometry.{block_count, height, covering, is_piece_length, piece_layer, has_layer, piece_count}
-use Rattle.tree.specs.GeometryLaws.{piece-length-form, pieces-covering, node-number-root, node-number-range, node-number-distinct, has-longer}
+use Rattle.tree.proofs.GeometryLaws.{piece-length-form, pieces-covering, node-number-root, node-number-range, node-number-distinct, has-longer}
 use Rattle.tree.specs.Values.{node, leaf_of, pieces_root, whole_layer, layer_leaf}
-use Rattle.tree.specs.ValuesLaws.{layer-octets, layer-cut, node-of-layer, root-octets}
+use Rattle.tree.proofs.ValuesLaws.{layer-octets, layer-cut, node-of-layer, root-octets}
 use Rattle.cells.specs.Cells.{held_at, hash_at}
 use Rattle.cells.specs.Entries.{Entry, agrees_at}
 use Rattle.cells.specs.EntriesLaws.{In, in-agrees}
@@ -20,10 +20,10 @@ use Rattle.store.specs.Store.{file_length, piece_length, height_of, positions, f
 use Rattle.store.specs.StoreLaws.{range-piece, positions-some, opened-file, opened-piece, opened-height, opened-facts, opened-usable, opened-held, opened-hash}
 use Rattle.pieces.specs.Pieces.{layer_of_pieces, layer_settled, layer_number}
 use Rattle.pieces.specs.Asks.{Layered}
-use Rattle.pieces.specs.PiecesLaws.{layered, InLayers, settled-in-layers, loads-answered}
+use Rattle.pieces.proofs.PiecesLaws.{layered, InLayers, settled-in-layers, loads-answered}
 use Rattle.history.specs.Answers.{layer_bytes, end_answer, end_layer}
-use Rattle.history.specs.DecidingLaws.{bytes-some}
-use Rattle.history.specs.Histories.{Logged, logged, logged-end, logged-layer}
+use Rattle.history.proofs.DecidingLaws.{bytes-some}
+use Rattle.history.proofs.Histories.{Logged, logged, logged-end, logged-layer}
 use Rattle.history.specs.declared.History.{History}
 use Rattle.history.specs.declared.HistoryEnd.{HistoryEnd}
 

@@ -16,7 +16,7 @@ use Rattle.octets.specs.Octets.{pasted}
 use Rattle.numbers.specs.Numbers.{refused, done}
 use Rattle.numbers.specs.declared.Answer.{Answer}
 use Rattle.tree.specs.Geometry.{ceil_div, piece_layer, piece_count, piece_size}
-use Rattle.tree.specs.GeometryLaws.{piece-length-form, shifted_one}
+use Rattle.tree.proofs.GeometryLaws.{piece-length-form, shifted_one}
 use Rattle.cells.specs.Entries.{one_if}
 use Rattle.store.specs.Store.{usable, file_length, piece_length, blocks_of, Facts}
 use Rattle.marks.specs.Marks.{marks_start, marked_at, marks_put, cleared, block_there, clear_answer, clear_after, marked_answer, each_piece, first_block, blocks_in, all_marked, piece_marked, field_bits, field_bytes, field_size, field_answer, field_after}

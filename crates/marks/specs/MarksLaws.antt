@@ -14,7 +14,7 @@ use Rattle.octets.specs.Octets.{cut, pasted}
 use Rattle.octets.specs.OctetsLaws.{cut-pasted-other, get_or-pasted-in, get_or-pasted-before, get_or-pasted-after, pasted_length}
 use Rattle.numbers.specs.Numbers.{refused, done, rule_broken, unusable, no_room}
 use Rattle.tree.specs.Geometry.{covering, piece_layer, piece_count}
-use Rattle.tree.specs.GeometryLaws.{ceil-least, covering-most, ceil-below, piece-length-form, pieces-covering}
+use Rattle.tree.proofs.GeometryLaws.{ceil-least, covering-most, ceil-below, piece-length-form, pieces-covering}
 use Rattle.cells.specs.Entries.{one_if}
 use Rattle.limits.specs.Limits.{tallest_tree}
 use Rattle.store.specs.Store.{usable, file_length, piece_length, blocks_of, height_of, positions, store_size, Facts, SameFacts, fact_bytes}

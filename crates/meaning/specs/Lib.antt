@@ -1,16 +1,6 @@
 pub mod Keys
 pub mod Nth
-pub mod NthLaws
 pub mod Torrent
 pub mod Amiss
-pub mod TestsLaws
-pub mod AmissLaws
-pub mod FilesLaws
 pub mod Counting
-pub mod Examples
 pub mod Paths
-pub mod PathsLaws
-pub mod PathExamples
-pub mod NamesAside
-pub mod NamesAsideLaws
-pub mod ClimbsOut

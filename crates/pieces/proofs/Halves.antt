@@ -13,7 +13,7 @@ use Rattle.sha_1.specs.Sha1.{sha1}
 use Rattle.store.specs.Store.{piece_length}
 use Rattle.pieces.specs.Pieces.{piece_number}
 use Rattle.pieces.specs.Hybrid.{v1_number, hybrid_number}
-use Rattle.pieces.specs.HybridLaws.{hybrid-0, hybrid-first}
+use Rattle.pieces.proofs.HybridLaws.{hybrid-0, hybrid-first}
 
 module _ (s piece v1 : List ℕ) (zeros plen : ℕ) (ep : plen ≡ piece_length s) (short : length piece ≤ piece_length s) where
   pub v1-too-long : plen - length piece < zeros → wrong_size ≡ v1_number s piece v1 zeros

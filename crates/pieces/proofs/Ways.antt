@@ -11,7 +11,7 @@ use Rattle.numbers.specs.Numbers.{refused, done, rule_broken, wrong_size, no_anc
 use Rattle.numbers.specs.declared.Answer.{Answer}
 use Rattle.sha256.specs.Sha256.{sha256}
 use Rattle.tree.specs.Geometry.{node_number, piece_layer, has_layer, piece_count, block_size, piece_size}
-use Rattle.tree.specs.GeometryLaws.{node-number-range}
+use Rattle.tree.proofs.GeometryLaws.{node-number-range}
 use Rattle.tree.specs.Values.{node, pad_value, leaf_of, layer_leaf}
 use Rattle.cells.specs.Cells.{Room, held_at, hash_at}
 use Rattle.cells.specs.Entries.{agrees, put_all, newly, fresh}
@@ -24,7 +24,7 @@ use Rattle.settling.specs.SubtreeLaws.{fit-below}
 use Rattle.limits.specs.Limits.{tallest_tree}
 use Rattle.pieces.specs.Pieces.{judged_at, layer_of_pieces, layer_settled, layer_number, layer_after, layer_answer, block_number, piece_height, piece_number}
 use Rattle.pieces.specs.Asks.{Layered, PieceIn}
-use Rattle.pieces.specs.PiecesLaws.{layered, piece-in, pieces-few, layer-within, piece-within, run-leaves, layer-sound, settled-from-root}
+use Rattle.pieces.proofs.PiecesLaws.{layered, piece-in, pieces-few, layer-within, piece-within, run-leaves, layer-sound, settled-from-root}
 
 -- ---- 6, 7, 8 or 0
 

@@ -22,7 +22,7 @@ use Rattle.header.specs.declared.Header.{Header}
 use Rattle.messages.specs.Take.{take_after}
 use Rattle.asking.specs.declared.next.Request.{Request}
 use Rattle.asking.specs.Asking.{layer_asked, next_number, wanted, held_front, lowest, run_length, uncles_needed, proof_for, run_top, run_header, next_header, no_request, request_for, next_answer}
-use Rattle.asking.specs.AskingLaws.{says-number}
+use Rattle.asking.proofs.AskingLaws.{says-number}
 use Rattle.asking.specs.Picking.{this_piece, pick_answer}
 use Rattle.words.specs.File.{piece_for}
 use Rattle.words.specs.Held.{Holds}

@@ -16,7 +16,7 @@ use Rattle.sha256.specs.Sha256.{sha256}
 use Rattle.sha256.specs.Answer.{hashed_of}
 use Rattle.sha_1.specs.Sha1.{sha1}
 use Rattle.tree.specs.Geometry.{block_count, height, Padding, block_size, piece_size, piece_count}
-use Rattle.tree.specs.GeometryLaws.{padding-on}
+use Rattle.tree.proofs.GeometryLaws.{padding-on}
 use Rattle.tree.specs.Values.{pad_value}
 use Rattle.facts.specs.Facts.{facts_answer}
 use Rattle.facts.specs.FactsLaws.{facts-given, facts_chain, facts-tests}

@@ -15,7 +15,7 @@ use Rattle.store.specs.Store.{usable, file_length, piece_length, height_of, Fact
 use Rattle.store.specs.StoreLaws.{usable-facts, facts-usable}
 use Rattle.pieces.specs.Pieces.{piece_height, piece_answer, piece_after}
 use Rattle.pieces.specs.Hybrid.{V1Agrees, hybrid_answer, hybrid_after}
-use Rattle.pieces.specs.HybridLaws.{hybrid-0, hybrid-7, hybrid-first, hybrid-marks, hybrid-stays}
+use Rattle.pieces.proofs.HybridLaws.{hybrid-0, hybrid-7, hybrid-first, hybrid-marks, hybrid-stays}
 use Rattle.halves.specs.Stream.{zeros_behind}
 use Rattle.words.specs.Held.{Holds}
 use Rattle.words.specs.History.{OurStore}

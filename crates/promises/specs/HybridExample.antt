@@ -12,7 +12,7 @@ use Rattle.tree.specs.Values.{leaf_of}
 use Rattle.store.specs.Store.{piece_length, open_after}
 use Rattle.messages.specs.Take.{take_after}
 use Rattle.pieces.specs.Hybrid.{hybrid_answer}
-use Rattle.pieces.specs.HybridLaws.{hybrid-0, hybrid-4, hybrid-7, piece-short}
+use Rattle.pieces.proofs.HybridLaws.{hybrid-0, hybrid-4, hybrid-7, piece-short}
 use Rattle.words.specs.File.{piece_for}
 use Rattle.promises.specs.Blank.{blank, blank-bytes, blank-room}
 use Rattle.promises.specs.Example.{two_leaves}

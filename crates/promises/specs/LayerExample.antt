@@ -11,7 +11,7 @@ use Rattle.octets.specs.Octets.{Octets, cut}
 use Rattle.sha256.specs.Sha256.{pair_hash}
 use Rattle.sha256.specs.Sha256Laws.{pair-octets}
 use Rattle.tree.specs.Geometry.{ceil_div, height_from, height, node_number, piece_layer, piece_count}
-use Rattle.tree.specs.GeometryLaws.{node-number-root, node-number-distinct}
+use Rattle.tree.proofs.GeometryLaws.{node-number-root, node-number-distinct}
 use Rattle.tree.specs.Values.{layer_leaf}
 use Rattle.cells.specs.Cells.{held_at, hash_at}
 use Rattle.store.specs.Store.{height_of, positions, store_size, opened}

@@ -33,7 +33,6 @@ pub mod Witness
 pub mod OneRound
 pub mod ServedAndTaken
 pub mod AskingExample
-pub mod SavedExample
 pub mod YoungerExample
 pub mod HybridExample
 pub mod TeachingExample

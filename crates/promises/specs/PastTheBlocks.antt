@@ -8,7 +8,7 @@ use Rattle.octets.specs.OctetsLaws.{same-eq, zero-octets, cut-append-left, cut-a
 use Rattle.numbers.specs.Numbers.{no_anchor, not_held}
 use Rattle.tree.specs.Geometry.{ceil_div, block_count, height_from, height, node_number, covering, Padding}
 use Rattle.tree.specs.Values.{node, leaf_of, pad_value, pieces_root}
-use Rattle.tree.specs.ValuesLaws.{padding-value, root-octets}
+use Rattle.tree.proofs.ValuesLaws.{padding-value, root-octets}
 use Rattle.cells.specs.Cells.{held_at}
 use Rattle.store.specs.Store.{usable, facts_root, blocks_of, height_of, positions, facts_in_range, store_size, opened, held_answer}
 use Rattle.store.specs.StoreLaws.{facts-usable, opened-usable, opened-facts-root, opened-blocks, opened-height, opened-held}

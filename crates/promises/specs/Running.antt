@@ -16,13 +16,13 @@ use Rattle.running.specs.Bursts.{state_of, possible, more_answer as hashing_more
 use Rattle.running.specs.BurstsLaws.{possible-says, state-total, state-tail}
 use Rattle.running.specs.declared.Hashing.{Hashing}
 use Rattle.tree.specs.Geometry.{block_length, is_piece_length, piece_layer, has_layer, piece_count}
-use Rattle.tree.specs.GeometryLaws.{piece-length-form, piece-length-accepted}
+use Rattle.tree.proofs.GeometryLaws.{piece-length-form, piece-length-accepted}
 use Rattle.history.specs.Answers.{no_history, possible_counts, Possible, passed, no_room_for, more_number, more_layer, layer_bytes, layer_size, end_number, end_layer, begin_answer as history_begin, more_answer as history_more, end_answer as history_end}
-use Rattle.history.specs.AnswersLaws as AnswersLaws
-use Rattle.history.specs.DecidingLaws.{end_refused}
+use Rattle.history.proofs.AnswersLaws as AnswersLaws
+use Rattle.history.proofs.DecidingLaws.{end_refused}
 use Rattle.history.specs.HistoryOf.{history_of}
-use Rattle.history.specs.LastLaws.{history-length}
-use Rattle.history.specs.HistoriesLaws.{state-possible, refused-state, refused-layer, end-refused-layer}
+use Rattle.history.proofs.LastLaws.{history-length}
+use Rattle.history.proofs.HistoriesLaws.{state-possible, refused-state, refused-layer, end-refused-layer}
 use Rattle.history.specs.declared.History.{History}
 use Rattle.history.specs.declared.HistoryEnd.{HistoryEnd}
 use Rattle.numbers.specs.Tests.{either, not-both, says-not, in-turn, both, alone}

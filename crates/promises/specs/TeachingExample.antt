@@ -10,13 +10,13 @@ use borrow.Author.Tests.{le-ltb}
 use Rattle.octets.specs.Octets.{cut}
 use Rattle.octets.specs.OctetsLaws.{cut-whole}
 use Rattle.tree.specs.Geometry.{block_length, block_count, ceil_div, has_layer, height, piece_count}
-use Rattle.tree.specs.GeometryLaws.{ceil-enough}
+use Rattle.tree.proofs.GeometryLaws.{ceil-enough}
 use Rattle.tree.specs.Values.{piece_of, pieces_root}
-use Rattle.tree.specs.ValuesLaws.{root-octets}
+use Rattle.tree.proofs.ValuesLaws.{root-octets}
 use Rattle.store.specs.Store.{file_length, piece_length, facts_root, blocks_of, height_of, facts_in_range, store_size, Facts, open_answer, open_after, opened}
 use Rattle.store.specs.StoreLaws.{opened-facts, opened-file, opened-piece, opened-facts-root, opened-height}
 use Rattle.pieces.specs.Pieces.{layer_of_pieces, piece_height}
-use Rattle.pieces.specs.PiecesLaws.{height-root, piece-length-by-layer}
+use Rattle.pieces.proofs.PiecesLaws.{height-root, piece-length-by-layer}
 use Rattle.leaves.specs.Leaves.{leaves_answer}
 use Rattle.words.specs.Held.{Holds}
 use Rattle.words.specs.History.{Bytes, OurStore, ours, by_opening, begin}

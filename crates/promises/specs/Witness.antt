@@ -12,9 +12,9 @@ use Rattle.octets.specs.OctetsLaws.{same-eq, zero-octets, be-octets, append-octe
 use Rattle.sha256.specs.Sha256.{pair_hash}
 use Rattle.sha256.specs.Sha256Laws.{pair-octets}
 use Rattle.tree.specs.Geometry.{node_number, has_layer, piece_count, ceil_div, block_count, block_size, height_from, height, piece_layer, is_piece_length}
-use Rattle.tree.specs.GeometryLaws.{block-count-some}
+use Rattle.tree.proofs.GeometryLaws.{block-count-some}
 use Rattle.tree.specs.Values.{node, leaf_of, block_of, pieces_root}
-use Rattle.tree.specs.ValuesLaws.{leaf-octets, leaf-block, block-bytes}
+use Rattle.tree.proofs.ValuesLaws.{leaf-octets, leaf-block, block-bytes}
 use Rattle.cells.specs.Cells.{held_at, hash_at}
 use Rattle.cells.specs.Entries.{agrees_at, agrees}
 use Rattle.cells.specs.EntriesLaws.{agrees-held}

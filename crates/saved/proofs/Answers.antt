@@ -25,26 +25,26 @@ use Rattle.store.proofs.Answers.{shifted-two, tree-index}
 use Rattle.saved.specs.Form.{blocks_in, height_in, mark_count, place_count, layer_in, index_in, block_in, rank, rank_in, sized, next_rank, place_good, places_good, next_block, mark_good, marks_good, marks_from, formed}
 use Rattle.saved.specs.Form.{root_in, hash_in, length_in, piece_length_in, opens}
 use Rattle.saved.specs.Saved.{pad_right, children_of, made_by, family_at, claimed_by, claimed, root_right, chained, sound, opening_number}
-use Rattle.saved.specs.PrefixLaws.{FormIn, form-says, mark-at, mark-says}
+use Rattle.saved.proofs.PrefixLaws.{FormIn, form-says, mark-at, mark-says}
 use Rattle.saved.specs.Saved.{neighbours, parent_in, joins, mended, mended_many, rooted, repaired, repaired_many}
 use Rattle.saved.specs.Saved.{begun, not_repaired, repair_answer, repair_after}
 use Rattle.saved.specs.declared.repair.Repaired.{Repaired}
-use Rattle.saved.specs.SoundExactly.{root-says}
-use Rattle.saved.specs.MendedLaws.{mended-yes, mended-no, mended-none, mended-one, many-yes, many-no, many-none, many-one}
+use Rattle.saved.proofs.SoundExactly.{root-says}
+use Rattle.saved.proofs.MendedLaws.{mended-yes, mended-no, mended-none, mended-one, many-yes, many-no, many-none, many-one}
 use Rattle.cells.specs.Cells.{held_at, hash_at}
 use Rattle.saved.specs.Saved.{entries_in, with_place, marks_set, loaded, load_answer, load_after}
-use Rattle.saved.specs.LoadLaws.{put_next, marks-set-next, marks-set-same, mark-fits, Opens, opening-says, first, first-room, second, second-facts, second-marks}
+use Rattle.saved.proofs.LoadLaws.{put_next, marks-set-next, marks-set-same, mark-fits, Opens, opening-says, first, first-room, second, second-facts, second-marks}
 use Rattle.cells.specs.Cells.{Room, put}
 use Rattle.cells.specs.Entries.{put_all}
 use Rattle.marks.specs.Marks.{marked, marks_start, marks_put}
 use Rattle.marks.specs.MarksLaws.{mark-in}
 use Rattle.tree.specs.Geometry.{node_number}
-use Rattle.tree.specs.GeometryLaws.{node-number-range}
+use Rattle.tree.proofs.GeometryLaws.{node-number-range}
 use Rattle.store.specs.Store.{blocks_of, height_of, positions, opened, open_after, Facts}
 use Rattle.store.specs.StoreLaws.{open_done}
-use Rattle.saved.specs.RankLaws.{rank_most, width-most}
-use Rattle.saved.specs.SoundLaws.{place_at}
-use Rattle.saved.specs.ClaimedLaws.{claimed-none}
+use Rattle.saved.proofs.RankLaws.{rank_most, width-most}
+use Rattle.saved.proofs.SoundLaws.{place_at}
+use Rattle.saved.proofs.ClaimedLaws.{claimed-none}
 
 -- ---- whether the length fits
 
@@ -130,7 +130,7 @@ pow_small h l = pow_mono {i = h} {j = 20} l
 
 module _ (b : List ℕ) (h k : ℕ) where
   pub places-out : (p : ℕ) → k < p → places_good h b p ≡ true → place_good h b k ≡ true
-  places-out p l g = Rattle.saved.specs.SoundLaws.place_at h b p g k l
+  places-out p l g = Rattle.saved.proofs.SoundLaws.place_at h b p g k l
 
   good-not : (p : ℕ) → k < p → place_good h b k ≡ false → places_good h b p ≡ false
   good-not p l e = by (places_good h b p) refl
@@ -171,7 +171,7 @@ module _ (c : ℕ) (b : List ℕ) (at k : ℕ) where
     where
       by : (x : Bool) → marks_good c b at m ≡ x → false ≡ marks_good c b at m
       by false q = sym q
-      by true q = absurd (mathlib.Core.Bool.false≢true (sym e ∙ Rattle.saved.specs.PrefixLaws.mark-at c b at m q k l))
+      by true q = absurd (mathlib.Core.Bool.false≢true (sym e ∙ Rattle.saved.proofs.PrefixLaws.mark-at c b at m q k l))
 
   pub marks-kind : (m : ℕ) → k < m → (get_or b (at + 5 * k) 0 ≡ 3 → ⊥) → false ≡ marks_good c b at m
   unfolding mark_good
@@ -309,7 +309,7 @@ claimed-turn h c b j k r two e l f q = (turn, by two refl)
     by false z = let w : r ≡ k = q ∙ ap (λ (t : Bool). cond t (k + 2) k) z in omega arith
     by true z =
         let w : r ≡ k + 2 = q ∙ ap (λ (t : Bool). cond t (k + 2) k) z in
-        let a = (Rattle.saved.specs.SoundLaws.family-says h c b k j (sym f ∙ z)).before in
+        let a = (Rattle.saved.proofs.SoundLaws.family-says h c b k j (sym f ∙ z)).before in
         omega arith
 
 -- ---- the root

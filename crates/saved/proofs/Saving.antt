@@ -15,7 +15,7 @@ use Rattle.limits.specs.Limits.{tallest_tree}
 use Rattle.numbers.specs.Numbers.{refused, done, unusable, no_room}
 use Rattle.numbers.specs.declared.Answer.{Answer}
 use Rattle.tree.specs.Geometry.{node_number}
-use Rattle.tree.specs.GeometryLaws.{node-number-range, shifted_one}
+use Rattle.tree.proofs.GeometryLaws.{node-number-range, shifted_one}
 use Rattle.cells.specs.Cells.{Room, held_at, hash_at}
 use Rattle.cells.specs.CellsLaws.{hash-length}
 use Rattle.store.specs.Store.{usable, file_length, piece_length, facts_root, blocks_of, height_of, positions, Facts}
@@ -23,8 +23,8 @@ use Rattle.store.specs.StoreLaws.{usable-facts, facts-height, facts-leaves}
 use Rattle.marks.specs.Marks.{marks_start, marked_at, marks_put}
 use Rattle.saved.specs.Form.{Place, opening_bytes, place_bytes, places_bytes, mark_bytes, marks_bytes, end_bytes, saved_bytes}
 use Rattle.saved.specs.Save.{place_held, layer_held, held_below, block_marked, marked_below, saved_of, save_answer, save_after}
-use Rattle.saved.specs.ExactLaws.{places-append, marks-append}
-use Rattle.saved.specs.ReadLaws.{marks-size}
+use Rattle.saved.proofs.ExactLaws.{places-append, marks-append}
+use Rattle.saved.proofs.ReadLaws.{marks-size}
 use Rattle.saved.proofs.Answers.{pow_small}
 
 pub one-yes : (k : ℕ) (t : Bool) → t ≡ true → k + 1 ≡ cond t (k + 1) k

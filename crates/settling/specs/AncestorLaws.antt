@@ -5,7 +5,7 @@ use Rattle.std.proofs.Common.{ap, sym, ◌∙◌, inl, inr, div-one, arith, pow_
 use Rattle.std.proofs.Math.Nat.{pow-succ', div-div-eq-div-mul}
 use Rattle.std.proofs.Math.Decide.{ℕ_discrete}
 use Rattle.tree.specs.Geometry.{node_number}
-use Rattle.tree.specs.GeometryLaws.{node-number-parent}
+use Rattle.tree.proofs.GeometryLaws.{node-number-parent}
 use Rattle.cells.specs.CellsLaws.{lt-or-ge}
 use Rattle.settling.specs.Path.{ancestor}
 

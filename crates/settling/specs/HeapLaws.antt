@@ -8,9 +8,9 @@ use Rattle.octets.specs.OctetsLaws.{cut-cut, cut-whole, cut-pasted-same, cut-pas
 use Rattle.sha256.specs.Sha256.{pair_hash}
 use Rattle.lanes.specs.HashesLaws.{block_in}
 use Rattle.lanes.specs.Hashes.{Heap, eighth_hash, block_hash}
-use Rattle.tree.specs.GeometryLaws.{left-start, right-start, shifted_one, block_within}
+use Rattle.tree.proofs.GeometryLaws.{left-start, right-start, shifted_one, block_within}
 use Rattle.tree.specs.Values.{node, leaf_of, block_of}
-use Rattle.tree.specs.ValuesLaws.{node-pair, leaf-block}
+use Rattle.tree.proofs.ValuesLaws.{node-pair, leaf-block}
 use Rattle.heaps.specs.Heaps.{hash_in, Parents, Over, Worked}
 use Rattle.heaps.specs.HeapsLaws.{hash-over, node-moved, heap-top}
 use Rattle.cells.specs.Cells.{put}

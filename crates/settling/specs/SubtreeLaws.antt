@@ -11,8 +11,8 @@ use Rattle.sha256.specs.Sha256.{pair_hash}
 use Rattle.sha256.specs.Sha256Laws.{pair-octets}
 use Rattle.tree.specs.Geometry.{node_number}
 use Rattle.tree.specs.Values.{node, pad_value}
-use Rattle.tree.specs.ValuesLaws.{node-leaf, node-pair, node-same, node-padding}
-use Rattle.tree.specs.GeometryLaws.{right_end, left-start}
+use Rattle.tree.proofs.ValuesLaws.{node-leaf, node-pair, node-same, node-padding}
+use Rattle.tree.proofs.GeometryLaws.{right_end, left-start}
 use Rattle.cells.specs.Cells.{put}
 use Rattle.cells.specs.Entries.{Entry, one, agrees_at, agrees, put_all, lacks, fresh}
 use Rattle.cells.specs.EntriesLaws.{agree-one, put_one, fresh-one, agree-append, put-append, fresh-append, fresh-small, lacks-small, Sound, sound-one, sound-append, In, here, Has, has_same, in_left, in_right, in-cases, one-is, Apart, apart-one, apart-append}

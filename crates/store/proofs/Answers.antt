@@ -14,7 +14,7 @@ use Rattle.numbers.specs.Numbers.{refused, done, rule_broken, no_anchor, unusabl
 use Rattle.numbers.specs.declared.Answer.{Answer}
 use Rattle.sha256.specs.declared.Hashed.{Hashed}
 use Rattle.tree.specs.Geometry.{block_count, height, node_number}
-use Rattle.tree.specs.GeometryLaws.{shifted_one}
+use Rattle.tree.proofs.GeometryLaws.{shifted_one}
 use Rattle.cells.specs.Cells.{Room, held_at, hash_at, put}
 use Rattle.limits.specs.Limits.{longest_file, tallest_tree}
 use Rattle.store.specs.Store.{file_length, piece_length, height_of, positions, facts_in_range, store_size, usable, opened, open_answer, open_after, in_tree, no_hash, held_answer, Facts}

@@ -16,7 +16,7 @@ use Rattle.octets.specs.Octets.{cut, pasted, be, number_at, zeroed}
 use Rattle.octets.specs.OctetsLaws.{be-octets, cut-append-right, cut-cut, cut-pasted-other, cut-pasted-same, cut-size, get_or-cut, get_or-pasted-in, get_or-pasted-after, number_cut, number-of-be, number_same, pasted_length, zeroed-at, zeroed-length, zeroed-past}
 use Rattle.numbers.specs.Numbers.{refused, done, rule_broken, no_anchor, unusable, facts_out_of_range}
 use Rattle.tree.specs.Geometry.{block_length, block_count, height, node_number, piece_layer, is_piece_length}
-use Rattle.tree.specs.GeometryLaws.{block-count-some, block-outside, height-enough, height-grows, node-number-range, short-file-height}
+use Rattle.tree.proofs.GeometryLaws.{block-count-some, block-outside, height-enough, height-grows, node-number-range, short-file-height}
 use Rattle.cells.specs.Cells.{Room, held_at, hash_at, put}
 use Rattle.cells.specs.CellsLaws.{put-length, put-room, put-outside, held-put-same, held-put-other, hash-put-same, unheld}
 use Rattle.cells.specs.Entries.{Entry, put_all, one_if}

@@ -13,7 +13,7 @@ use Rattle.bencode.specs.Parts.{absent, lookup}
 use Rattle.meaning.specs.Nth.{Nth}
 use Rattle.meaning.specs.Torrent.{File, info_of, files_of, without, has_keys, element_right, file_right, node_right, branch_right, nodes_right, tree_right, files_of_node, files_of_entries, no_other_length, lengths_agree, layers_fit, no_others, layers_give_roots, value_number}
 use Rattle.halves.specs.V1Keys.{key_pieces}
-use Rattle.halves.specs.HalvesLaws.{pure-stands}
+use Rattle.halves.proofs.HalvesLaws.{pure-stands}
 use Rattle.torrent.specs.Torrent.{read_of, no_file_read, file_read, path_read}
 use Rattle.torrent.specs.NumberMeans.{number-is-the-values, read_number_lem}
 use Rattle.torrent.specs.Answers.{FileIs, PartIs}

@@ -12,7 +12,7 @@ use Rattle.limits.specs.Limits.{largest_torrent, max_levels}
 use Rattle.octets.specs.Octets.{cut}
 use Rattle.octets.specs.OctetsLaws.{cut-length, cut-size}
 use Rattle.tree.specs.Geometry.{is_piece_length, piece_count}
-use Rattle.tree.specs.GeometryLaws.{piece-some, piece-length-large}
+use Rattle.tree.proofs.GeometryLaws.{piece-some, piece-length-large}
 use Rattle.bencode.specs.Grammar.{Value, integer, string, list, dictionary, Items, Entries, encode, Valid, none}
 use Rattle.bencode.specs.DepthLaws.{more-levels}
 use Rattle.bencode.specs.Parts.{Lookup, absent, present, lookup, find_key, FoundIs}

@@ -12,7 +12,7 @@ use Rattle.meaning.specs.Torrent.{info_of}
 use Rattle.meaning.specs.Amiss.{NoneAmiss}
 use Rattle.halves.specs.V1Keys.{key_pieces}
 use Rattle.halves.specs.Halves.{Amiss31}
-use Rattle.halves.specs.HalvesLaws.{exactly-31}
+use Rattle.halves.proofs.HalvesLaws.{exactly-31}
 use Rattle.halves.specs.Decoded.{torrent_in, torrent-in}
 use Rattle.torrent.specs.Torrent.{v2_checked_of, checked_of, with_checked, read_of, file_in, file_read, path_in, path_read}
 use Rattle.torrent.specs.NumberMeans.{number-is-the-values, value-only, read_number_lem}

@@ -21,7 +21,7 @@ use Rattle.meaning.specs.Nth.{Nth}
 use Rattle.meaning.specs.Torrent.{File, is_number, info_of, tree_of, files_of, plen_of, layers_of, without, has_keys, element_right, file_right, node_right, branch_right, nodes_right, tree_right, files_of_node, files_of_entries, no_other_length, lengths_agree, layer_fits, layers_fit, some_longer, no_others, gives_root, layer_bytes, layers_give_roots, value_number}
 use Rattle.halves.specs.V1Keys.{key_pieces}
 use Rattle.halves.specs.V1Half.{torrent_number}
-use Rattle.halves.specs.HalvesLaws.{pure-stands}
+use Rattle.halves.proofs.HalvesLaws.{pure-stands}
 use Rattle.torrent.specs.Torrent.{read_of, file_read}
 use Rattle.torrent.specs.NumberMeans.{number-is-the-values, read_number_lem}
 use Rattle.torrent.specs.Answers.{FileIs}

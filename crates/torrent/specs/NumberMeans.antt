@@ -15,10 +15,10 @@ use Rattle.bencode.specs.Strict.{strictness}
 use Rattle.bencode.specs.StrictLaws.{taken, taken-only, deep-first, deep-only, one_of_three, otherwise, otherwise-only}
 use Rattle.meaning.specs.Keys.{key_meta_version}
 use Rattle.meaning.specs.Torrent.{File, is_number, info_of, tree_of, has_keys, tree_right, files_of, lengths_agree, layers_fit, no_others, layers_give_roots, plen_of, layers_of, value_number}
-use Rattle.meaning.specs.FilesLaws.{AllHold, files-hold}
+use Rattle.meaning.proofs.FilesLaws.{AllHold, files-hold}
 use Rattle.halves.specs.Decoded.{torrent_in, torrent-in}
 use Rattle.halves.specs.V1Half.{is_hybrid, halves_fit, with_halves, torrent_number}
-use Rattle.halves.specs.HalvesLaws.{torrent-ranged}
+use Rattle.halves.proofs.HalvesLaws.{torrent-ranged}
 use Rattle.metainfo.specs.Metainfo.{bytes_in, no_keys, keys_of, metainfo_of}
 use Rattle.metainfo.specs.declared.Keys.{Keys}
 use Rattle.filetree.specs.Tree.{Listed, Files, right, listed, files_in}

@@ -26,11 +26,11 @@ use Rattle.bencode.specs.declared.scalar.ByteString.TheVariants.{NoString}
 use Rattle.bencode.specs.declared.parts.Found.{Found}
 use Rattle.bencode.specs.declared.parts.Found.TheVariants.{Part, Missing}
 use Rattle.meaning.specs.Nth.{Nth}
-use Rattle.meaning.specs.NthLaws.{nth-some}
+use Rattle.meaning.proofs.NthLaws.{nth-some}
 use Rattle.meaning.specs.Keys.{key_info}
 use Rattle.meaning.specs.Torrent.{File, info_of, tree_of, files_of, plen_of, layers_of, value_number}
-use Rattle.meaning.specs.AmissLaws.{all-layers}
-use Rattle.halves.specs.HalvesLaws.{zero-below}
+use Rattle.meaning.proofs.AmissLaws.{all-layers}
+use Rattle.halves.proofs.HalvesLaws.{zero-below}
 use Rattle.metainfo.specs.Metainfo.{bytes_in, keys_of, metainfo_of}
 use Rattle.metainfo.specs.MetainfoLaws.{metainfo-right}
 use Rattle.metainfo.specs.declared.Keys.{Keys}

@@ -11,9 +11,9 @@ use Rattle.octets.specs.Octets.{cut, zero_hash}
 use Rattle.octets.specs.OctetsLaws.{cut_short}
 use Rattle.sha256.specs.Sha256.{sha256, pair_hash}
 use Rattle.tree.specs.Geometry.{block_length, ceil_div, block_count, height, block_size}
-use Rattle.tree.specs.GeometryLaws.{height-halves, height-least}
+use Rattle.tree.proofs.GeometryLaws.{height-halves, height-least}
 use Rattle.tree.specs.Values.{pad_value, block_of, leaf_of}
-use Rattle.tree.specs.ValuesLaws.{leaf-block, leaf-padding}
+use Rattle.tree.proofs.ValuesLaws.{leaf-block, leaf-padding}
 
 -- ---- height
 

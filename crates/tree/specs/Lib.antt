@@ -1,4 +1,2 @@
 pub mod Geometry
 pub mod Values
-pub mod GeometryLaws
-pub mod ValuesLaws

@@ -10,7 +10,7 @@ use Rattle.std.proofs.Math.ListN.{length}
 use Rattle.octets.specs.Octets.{same}
 use Rattle.octets.specs.OctetsLaws.{same_true, same_false, same_refl, same-ne}
 use Rattle.tree.specs.Geometry.{has_layer}
-use Rattle.tree.specs.GeometryLaws.{long-full}
+use Rattle.tree.proofs.GeometryLaws.{long-full}
 use Rattle.meaning.specs.Torrent.{File, no_other_length, lengths_agree}
 use Rattle.meaning.specs.Counting.{Member, Distinct}
 use Rattle.twins.specs.Twins.{long_roots, none_same, once_each, layer_count, length_known, differs}

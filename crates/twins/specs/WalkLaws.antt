@@ -9,7 +9,7 @@ use Rattle.std.proofs.lemmas.List.{map-append}
 use Rattle.std.proofs.Math.Decide.{ℕ_discrete}
 use Rattle.octets.specs.Octets.{cut}
 use Rattle.tree.specs.Geometry.{has_layer}
-use Rattle.tree.specs.GeometryLaws.{long-full}
+use Rattle.tree.proofs.GeometryLaws.{long-full}
 use Rattle.meaning.specs.Torrent.{File, lengths_agree}
 use Rattle.sorting.specs.Sorting.{Stands}
 use Rattle.sorting.specs.SortingLaws.{ascending-one}

@@ -10,7 +10,7 @@ use Rattle.numbers.specs.Numbers.{rule_broken, no_such_part}
 use Rattle.numbers.specs.Chain.{Chain, last, test, decided, exactly-of}
 use Rattle.numbers.specs.Tests.{says-not}
 use Rattle.tree.specs.Geometry.{piece_count}
-use Rattle.meaning.specs.NthLaws.{nth-some}
+use Rattle.meaning.proofs.NthLaws.{nth-some}
 use Rattle.meaning.specs.Torrent.{plen_of, files_of}
 use Rattle.halves.specs.V1Half.{is_hybrid, entries_of_half}
 use Rattle.halves.specs.Decoded.{torrent_in}

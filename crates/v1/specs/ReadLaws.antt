@@ -15,7 +15,7 @@ use Rattle.octets.specs.Octets.{cut}
 use Rattle.octets.specs.OctetsLaws.{cut-cut}
 use Rattle.sha_1.specs.Sha1.{sha1}
 use Rattle.tree.specs.Geometry.{piece_count}
-use Rattle.tree.specs.GeometryLaws.{ceil-below, below-ceil}
+use Rattle.tree.proofs.GeometryLaws.{ceil-below, below-ceil}
 use Rattle.bencode.specs.Grammar.{list, dictionary, Items, Entries, none, encode, Valid}
 use Rattle.bencode.specs.DepthLaws.{more-levels}
 use Rattle.bencode.specs.Parts.{lookup, find_key, FoundIs, Lookup, absent, present}

@@ -14,7 +14,7 @@ use Rattle.octets.specs.OctetsLaws.{cut-cut}
 use Rattle.sha256.specs.Sha256.{sha256}
 use Rattle.sha_1.specs.Sha1.{sha1}
 use Rattle.tree.specs.Geometry.{piece_count}
-use Rattle.tree.specs.GeometryLaws.{ceil-below}
+use Rattle.tree.proofs.GeometryLaws.{ceil-below}
 use Rattle.bencode.specs.Grammar.{dictionary, Entries, encode, Valid}
 use Rattle.bencode.specs.Parts.{Lookup, absent, present, lookup}
 use Rattle.bencode.specs.declared.scalar.ByteString.{ByteString}
@@ -25,7 +25,7 @@ use Rattle.halves.specs.V1Keys.{key_pieces}
 use Rattle.halves.specs.V1Half.{V1Entry, is_there, total, is_hybrid, entries_of_half}
 use Rattle.halves.specs.Halves.{Hybrid}
 use Rattle.halves.specs.Stream.{StreamOf, none, zeros, content, file_start, zeros_behind, v1_hash_at, HashesAre}
-use Rattle.halves.specs.StreamLaws.{v1-hash-covers}
+use Rattle.halves.proofs.StreamLaws.{v1-hash-covers}
 use Rattle.halves.specs.Decoded.{torrent_in, torrent-in}
 use Rattle.torrent.specs.Torrent.{checked_of, read_of}
 use Rattle.torrent.specs.ReadMeans.{number-zero, info-hash, file-read}

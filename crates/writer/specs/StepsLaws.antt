@@ -12,7 +12,7 @@ use Rattle.sorting.specs.PermutedLaws.{map-permuted}
 use Rattle.sorting.specs.SortedByLaws.{sorted-permuted}
 use Rattle.writer_meaning.specs.Content.{Item, item_before}
 use Rattle.writer_meaning.specs.Number.{meet, content_number}
-use Rattle.writer_meaning.specs.GoodLaws.{all-passed, good}
+use Rattle.writer_meaning.proofs.GoodLaws.{all-passed, good}
 use Rattle.writer_lists.specs.Lists.{record_count, item_at, list_form, content_of}
 use Rattle.writer_order.specs.Order.{root_before, comes, AllInForm, positions, InOrder, most_files}
 use Rattle.writer_order.specs.OrderLaws.{content-there, all_placed, positions-length}

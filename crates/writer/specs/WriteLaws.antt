@@ -12,8 +12,8 @@ use Rattle.numbers.specs.NumbersLaws.{let_through}
 use Rattle.bencode.specs.Grammar.{Entries, dictionary, encode}
 use Rattle.sorting.specs.SortedBy.{Permuted}
 use Rattle.writer_meaning.specs.Number.{content_number}
-use Rattle.writer_meaning.specs.AnyOrder.{number-any-order, size-any-order, torrent-any-order}
-use Rattle.writer_meaning.specs.GoodLaws.{all-passed, good}
+use Rattle.writer_meaning.proofs.AnyOrder.{number-any-order, size-any-order, torrent-any-order}
+use Rattle.writer_meaning.proofs.GoodLaws.{all-passed, good}
 use Rattle.writer_lists.specs.Lists.{list_form, content_of}
 use Rattle.writer.specs.Write.{torrent_bytes, write_number, write_answer, write_after}
 

@@ -13,11 +13,11 @@ use Rattle.bencode.specs.Parts.{present, lookup}
 use Rattle.meaning.specs.Counting.{Member}
 use Rattle.meaning.specs.Torrent.{info_of, plen_of, layers_of, files_of, value_number}
 use Rattle.writer_meaning.specs.Content.{Item, in_tree_order, torrent_of, key_name}
-use Rattle.writer_meaning.specs.ContentLaws.{file_of_item}
+use Rattle.writer_meaning.proofs.ContentLaws.{file_of_item}
 use Rattle.sorting.specs.PermutedLaws.{member-append}
-use Rattle.writer_meaning.specs.Good.{Good}
-use Rattle.writer_meaning.specs.GoodLaws.{all-passed, good}
-use Rattle.writer_meaning.specs.ReadBack.{plen-there, name-there, layers-there, strict, files-there, layer-there, number-there}
+use Rattle.writer_meaning.proofs.Good.{Good}
+use Rattle.writer_meaning.proofs.GoodLaws.{all-passed, good}
+use Rattle.writer_meaning.proofs.ReadBack.{plen-there, name-there, layers-there, strict, files-there, layer-there, number-there}
 use Rattle.writer_lists.specs.Lists.{record_size, record_count, item_at, items_up_to, content_of}
 use Rattle.writer.specs.Write.{torrent_bytes, write_number, write_after}
 use Rattle.writer.specs.WriteLaws.{Written, written}

@@ -10,7 +10,7 @@ use Rattle.octets.specs.OctetsLaws.{number_same, cut-length, same_true, same-eq}
 use Rattle.bencode.specs.Grammar.{precedes}
 use Rattle.writer_meaning.specs.Content.{path_before}
 use Rattle.writer_meaning.specs.Number.{begins}
-use Rattle.writer_meaning.specs.OrderLaws.{path-one-way}
+use Rattle.writer_meaning.proofs.OrderLaws.{path-one-way}
 use Rattle.writer_lists.specs.Lists.{element_end, elements_fit, elements_in}
 use Rattle.writer_lists.specs.Walk.{PathLeft, Walk}
 use Rattle.writer_lists.specs.ListsLaws.{number-there}

@@ -17,10 +17,10 @@ use Rattle.meaning.specs.Counting.{Member}
 use Rattle.writer_meaning.specs.Content.{Item, layer_before, with_layer, layers_given}
 use Rattle.writer_meaning.specs.Number.{some, lengths_clash, gives_other, two_layers}
 use Rattle.writer_meaning.specs.Refused.{OneRoot}
-use Rattle.writer_meaning.specs.RefusedLaws.{pair_of}
-use Rattle.writer_meaning.specs.SomeLaws.{or_left, or_right, both_ways, some-there, some_one}
+use Rattle.writer_meaning.proofs.RefusedLaws.{pair_of}
+use Rattle.writer_meaning.proofs.SomeLaws.{or_left, or_right, both_ways, some-there, some_one}
 use Rattle.sorting.specs.SortedByLaws.{Ordered, OrderedFrom, ordered-skip}
-use Rattle.writer_meaning.specs.OrderLaws.{layer-one-way, layer-behind}
+use Rattle.writer_meaning.proofs.OrderLaws.{layer-one-way, layer-behind}
 use Rattle.writer_order.specs.Order.{root_before}
 use Rattle.writer_order.specs.Neighbours.{runs, full_ones, agree, first_wrong, clash}
 use Rattle.writer_order.specs.RunsLaws.{lower_root, Settled, Found, one, two, runs-found, runs-settled}

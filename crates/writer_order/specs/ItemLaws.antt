@@ -19,7 +19,7 @@ use Rattle.tree.specs.Values.{pad_value}
 use Rattle.meaning.specs.Torrent.{element_right}
 use Rattle.writer_meaning.specs.Content.{Item}
 use Rattle.writer_meaning.specs.Number.{some, no_elements, too_deep, wrong_item, misfit}
-use Rattle.writer_meaning.specs.SomeLaws.{or_left, or_right}
+use Rattle.writer_meaning.proofs.SomeLaws.{or_left, or_right}
 use Rattle.writer_lists.specs.Lists.{record_size, elements_fit, elements_in, item_at, form_at, form_up_to, items_up_to, record_count, list_form, content_of}
 use Rattle.writer_lists.specs.ListsLaws.{slice-path, slice_fits}
 use Rattle.writer_lists.specs.Walk.{PathLeft}

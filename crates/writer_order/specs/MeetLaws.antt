@@ -12,10 +12,10 @@ use Rattle.sorting.specs.PrecedesLaws.{precedes-either}
 use Rattle.meaning.specs.Counting.{Member}
 use Rattle.writer_meaning.specs.Content.{Item, path_before, item_before, in_tree_order}
 use Rattle.writer_meaning.specs.Number.{some, begins, one_path, meet}
-use Rattle.writer_meaning.specs.SomeLaws.{or_left, both_ways, some_one}
+use Rattle.writer_meaning.proofs.SomeLaws.{or_left, both_ways, some_one}
 use Rattle.sorting.specs.SortedByLaws.{Ordered, OrderedFrom, none_before, sorted-ordered, sorted-permuted}
-use Rattle.writer_meaning.specs.OrderLaws.{path-either, path-one-way, path-behind}
-use Rattle.writer_meaning.specs.AnyOrder.{begins-self, meet-permuted}
+use Rattle.writer_meaning.proofs.OrderLaws.{path-either, path-one-way, path-behind}
+use Rattle.writer_meaning.proofs.AnyOrder.{begins-self, meet-permuted}
 use Rattle.writer_order.specs.Neighbours.{followed, neighbours, leads}
 
 -- ---- paths

@@ -14,7 +14,7 @@ use Rattle.bencode.specs.Grammar.{precedes}
 use Rattle.sorting.specs.PrecedesLaws.{precedes-self, precedes-either, behind-trans}
 use Rattle.meaning.specs.Counting.{Member}
 use Rattle.writer_meaning.specs.Content.{Item}
-use Rattle.writer_meaning.specs.SomeLaws.{or-none}
+use Rattle.writer_meaning.proofs.SomeLaws.{or-none}
 use Rattle.sorting.specs.SortedByLaws.{Ordered, OrderedFrom, none_before}
 use Rattle.writer_order.specs.Neighbours.{run_from, runs}
 

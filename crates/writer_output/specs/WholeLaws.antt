@@ -14,10 +14,10 @@ use Rattle.sorting.specs.PermutedLaws.{permuted-back, permuted-length}
 use Rattle.sorting.specs.SortedByLaws.{sorted-ordered, sorted-permuted, sorted-stays}
 use Rattle.writer_meaning.specs.Content.{Item, layer_before, item_before, in_tree_order, properties, tree_of_all, Layer, layers_given, layers_of_all, key_name, info_written, torrent_of}
 use Rattle.writer_meaning.specs.Number.{meet, too_large}
-use Rattle.writer_meaning.specs.AnyOrder.{layers_written, given-permuted, layers-any-order, size-any-order, torrent-any-order}
+use Rattle.writer_meaning.proofs.AnyOrder.{layers_written, given-permuted, layers-any-order, size-any-order, torrent-any-order}
 use Rattle.writer_meaning.specs.Written.{shared, opened, closed, file_bytes, tree_bytes}
-use Rattle.writer_meaning.specs.WrittenLaws.{tree-encoded}
-use Rattle.writer_meaning.specs.SizeLaws.{rising, in_order}
+use Rattle.writer_meaning.proofs.WrittenLaws.{tree-encoded}
+use Rattle.writer_meaning.proofs.SizeLaws.{rising, in_order}
 use Rattle.writer_order.specs.Order.{root_before, most_files}
 use Rattle.writer_order.specs.ClashLaws.{root-one-way, root-behind, given-ordered}
 use Rattle.writer_output.specs.Put.{Put}

@@ -7,7 +7,7 @@ use Rattle.numbers.specs.Numbers.{torrent_too_large, nested_too_deeply, piece_le
 use Rattle.writer_meaning.specs.Content.{Item}
 use Rattle.writer_meaning.specs.Number.{content_number}
 use Rattle.writer_meaning.specs.Refused.{TooLarge, TooDeep, OutOfRange, WrongFiles, TwoLengths, WrongLayers, LayersDiffer}
-use Rattle.writer_meaning.specs.Exactly.{exactly-19, exactly-21, exactly-24, exactly-25, exactly-26, exactly-27, exactly-28, exactly-0}
+use Rattle.writer_meaning.proofs.Exactly.{exactly-19, exactly-21, exactly-24, exactly-25, exactly-26, exactly-27, exactly-28, exactly-0}
 use Rattle.writer_lists.specs.Lists.{list_form, content_of}
 use Rattle.writer.specs.Write.{torrent_bytes, write_number, write_answer}
 use Rattle.writer_promises.specs.Published.{ContentSays, too_large_lem, too-deep, out_of_range, wrong-files, two-lengths, wrong-layers, layers-differ, WriteSays, no-form, of-content, too_short, written}

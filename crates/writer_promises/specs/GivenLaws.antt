@@ -13,9 +13,9 @@ use Rattle.meaning.specs.Nth.{Nth}
 use Rattle.meaning.specs.Torrent.{File, plen_of, layers_of, files_of}
 use Rattle.writer_meaning.specs.Content.{Item, in_tree_order}
 use Rattle.writer_meaning.specs.Reads.{item_read, content_read}
-use Rattle.writer_meaning.specs.Shortest.{value-right}
-use Rattle.writer_meaning.specs.RoundTrip.{order-read}
-use Rattle.halves.specs.HalvesLaws.{zero-below}
+use Rattle.writer_meaning.proofs.Shortest.{value-right}
+use Rattle.writer_meaning.proofs.RoundTrip.{order-read}
+use Rattle.halves.proofs.HalvesLaws.{zero-below}
 use Rattle.torrent.specs.Torrent.{read_of, file_read}
 use Rattle.torrent.specs.Answers.{FileIs}
 use Rattle.torrent.specs.NumberMeans.{read-encodes}

@@ -7,12 +7,12 @@ use Rattle.std.proofs.Math.Path.{ap}
 use Rattle.std.proofs.Math.Decide.{ℕ_discrete}
 use Rattle.numbers.specs.Numbers.{two_lengths, layers_amiss, layer_differs}
 use Rattle.tree.specs.Geometry.{block_count, height, covering, is_piece_length, piece_layer, has_layer, piece_count}
-use Rattle.tree.specs.GeometryLaws.{piece-length-form, pieces-covering, longer-has, has-longer, long-file-height}
+use Rattle.tree.proofs.GeometryLaws.{piece-length-form, pieces-covering, longer-has, has-longer, long-file-height}
 use Rattle.tree.specs.Values.{pieces_root, whole_layer, layer_root}
-use Rattle.tree.specs.ValuesLaws.{layer-octets, root-of-whole-layer}
+use Rattle.tree.proofs.ValuesLaws.{layer-octets, root-of-whole-layer}
 use Rattle.history.specs.Answers.{layer_bytes, end_answer, end_layer}
-use Rattle.history.specs.DecidingLaws.{bytes-some, bytes-none}
-use Rattle.history.specs.Histories.{Logged, logged-end, logged-layer}
+use Rattle.history.proofs.DecidingLaws.{bytes-some, bytes-none}
+use Rattle.history.proofs.Histories.{Logged, logged-end, logged-layer}
 use Rattle.history.specs.declared.History.{History}
 use Rattle.history.specs.declared.HistoryEnd.{HistoryEnd}
 use Rattle.meaning.specs.Counting.{Member}

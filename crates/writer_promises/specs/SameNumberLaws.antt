@@ -13,13 +13,13 @@ use Rattle.bencode.specs.StrictLaws.{taken-only, deep-first, one_of_three, other
 use Rattle.meaning.specs.Counting.{Member}
 use Rattle.meaning.specs.Torrent.{info_of, value_number}
 use Rattle.halves.specs.V1Keys.{key_pieces}
-use Rattle.halves.specs.HalvesLaws.{pure-stands}
+use Rattle.halves.proofs.HalvesLaws.{pure-stands}
 use Rattle.writer_meaning.specs.Content.{Item, torrent_of}
 use Rattle.writer_meaning.specs.Number.{content_number}
-use Rattle.writer_meaning.specs.ValidLaws.{AllFull}
-use Rattle.writer_meaning.specs.RightLaws.{PathFull}
-use Rattle.writer_meaning.specs.Plain.{Plain, read_number}
-use Rattle.writer_meaning.specs.SameNumber.{same_number}
+use Rattle.writer_meaning.proofs.ValidLaws.{AllFull}
+use Rattle.writer_meaning.proofs.RightLaws.{PathFull}
+use Rattle.writer_meaning.proofs.Plain.{Plain, read_number}
+use Rattle.writer_meaning.proofs.SameNumber.{same_number}
 use Rattle.writer_lists.specs.Lists.{content_of}
 use Rattle.writer.specs.Write.{torrent_bytes}
 use Rattle.writer.specs.WrittenReads.{content-wide}

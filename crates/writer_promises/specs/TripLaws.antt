@@ -11,26 +11,26 @@ use Rattle.bencode.specs.Grammar.{string, dictionary, Entries, decimal_in, encod
 use Rattle.bencode.specs.Parts.{present, lookup}
 use Rattle.meaning.specs.Counting.{Member}
 use Rattle.meaning.specs.Torrent.{File, plen_of, layers_of, files_of, layer_bytes}
-use Rattle.meaning.specs.TestsLaws.{layers-yes}
+use Rattle.meaning.proofs.TestsLaws.{layers-yes}
 use Rattle.sorting.specs.SortedBy.{Permuted}
 use Rattle.sorting.specs.PermutedLaws.{permuted-member}
 use Rattle.sorting.specs.SortedByLaws.{sorted-permuted, sorted-member}
 use Rattle.writer_meaning.specs.Content.{Item, item_before, in_tree_order, torrent_of, key_name}
 use Rattle.writer_meaning.specs.Number.{content_number}
-use Rattle.writer_meaning.specs.ContentLaws.{file_of_item}
-use Rattle.writer_meaning.specs.AnyOrder.{number-any-order, files-any-order}
-use Rattle.writer_meaning.specs.FilesLaws.{member-map}
-use Rattle.writer_meaning.specs.RefusedLaws.{nth_of}
-use Rattle.writer_meaning.specs.Good.{Fine, Good}
-use Rattle.writer_meaning.specs.GoodLaws.{all-passed, good}
-use Rattle.writer_meaning.specs.Shortest.{ValueRight, value-right, SameRead, shortest, nearly-shortest}
-use Rattle.writer_meaning.specs.ShorterLaws.{entry_length}
+use Rattle.writer_meaning.proofs.ContentLaws.{file_of_item}
+use Rattle.writer_meaning.proofs.AnyOrder.{number-any-order, files-any-order}
+use Rattle.writer_meaning.proofs.FilesLaws.{member-map}
+use Rattle.writer_meaning.proofs.RefusedLaws.{nth_of}
+use Rattle.writer_meaning.proofs.Good.{Fine, Good}
+use Rattle.writer_meaning.proofs.GoodLaws.{all-passed, good}
+use Rattle.writer_meaning.proofs.Shortest.{ValueRight, value-right, SameRead, shortest, nearly-shortest}
+use Rattle.writer_meaning.proofs.ShorterLaws.{entry_length}
 use Rattle.writer_meaning.specs.Reads.{item_read, content_read}
-use Rattle.writer_meaning.specs.RoundTrip.{fine-read, wide_read, order-read, files-read, number-again, number-unnamed}
+use Rattle.writer_meaning.proofs.RoundTrip.{fine-read, wide_read, order-read, files-read, number-again, number-unnamed}
 use Rattle.writer_lists.specs.Lists.{content_of}
 use Rattle.writer.specs.Write.{torrent_bytes, write_number, write_answer}
 use Rattle.writer.specs.WrittenReads.{content-wide, content-good, not-large, is-strict, has-plen, has-files, has-layers, has-number}
-use Rattle.halves.specs.HalvesLaws.{pure-stands, zero-below}
+use Rattle.halves.proofs.HalvesLaws.{pure-stands, zero-below}
 use Rattle.torrent.specs.Torrent.{read_of}
 use Rattle.torrent.specs.NumberMeans.{number-is-the-values, read_number_lem, read-encodes}
 use Rattle.torrent.specs.ReadMeans.{value-zero}

@@ -12,9 +12,9 @@ use Rattle.std.proofs.Math.Decide.{dec_lt, ℕ_discrete}
 use Rattle.octets.specs.Octets.{Octets, same}
 use Rattle.octets.specs.OctetsLaws.{append-octets, same_true, same_false}
 use Rattle.tree.specs.Geometry.{block_count, height, covering}
-use Rattle.tree.specs.GeometryLaws.{covering-within}
+use Rattle.tree.proofs.GeometryLaws.{covering-within}
 use Rattle.tree.specs.Values.{node, leaf_of, pieces_root, layer_of, whole_layer}
-use Rattle.tree.specs.ValuesLaws.{file-octets}
+use Rattle.tree.proofs.ValuesLaws.{file-octets}
 use Rattle.sha256.specs.Sha256.{sha256, pair_hash}
 
 -- left child then right child of a position of the file's tree

@@ -1,5 +1,5 @@
 use Rattle.std.proofs.Common.{sym, ◌∙◌}
-use Rattle.about.specs.AboutLaws.{name-found}
+use Rattle.about.proofs.AboutLaws.{name-found}
 use Rattle.about.proofs.name_from.Goals as goal
 
 pub returns-in-Missing : goal.returns-in-Missing

@@ -1,6 +1,6 @@
 -- The part ends behind its start, since `info` was found; each return is one case of the definition.
 use Rattle.std.proofs.Common.{◌∙◌}
-use Rattle.about.specs.AboutLaws.{info-order, info-done, info-refused}
+use Rattle.about.proofs.AboutLaws.{info-order, info-done, info-refused}
 use Rattle.about.proofs.read_info.Goals as goal
 
 pub overflow_sub-size : goal.overflow_sub-size

@@ -1,6 +1,6 @@
 -- By what was found: no string is 29, and a string's content ends behind its start.
 use Rattle.std.proofs.Common.{◌∙◌}
-use Rattle.about.specs.AboutLaws.{name-order, name_done, name-refused}
+use Rattle.about.proofs.AboutLaws.{name-order, name_done, name-refused}
 use Rattle.about.proofs.read_name.Goals as goal
 
 pub overflow_sub-result : goal.overflow_sub-result

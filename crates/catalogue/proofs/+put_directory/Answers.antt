@@ -2,7 +2,7 @@ use Rattle.std.proofs.Common.{arith, length, ◌≡◌, refl, sym, ◌∙◌, �
 use Rattle.filetree.specs.Tree.{max_elements}
 use Rattle.filetree.specs.TokenLaws.{leaf-fewer, fewer-behind, opened-ends}
 use Rattle.filetree.specs.TreeLaws.{no-levels, not-wrong}
-use Rattle.catalogue.specs.PutLaws.{put-start, puts-never, puts-bad, puts-end, puts-closed, puts-full, record-right, put_next, inner-right, puts-inside, inside-behind, put-past}
+use Rattle.catalogue.proofs.PutLaws.{put-start, puts-never, puts-bad, puts-end, puts-closed, puts-full, record-right, put_next, inner-right, puts-inside, inside-behind, put-past}
 use Rattle.catalogue.proofs.+put_directory.Goals as goal
 
 pub returns-then-levels-eq0 : goal.returns-then-levels-eq0

@@ -1,6 +1,6 @@
 -- Nodes side by side by a loop, directories by recursion: how far the writing has come (PutAt).
 use Rattle.std.proofs.Common.{length, ◌-◌}
-use Rattle.catalogue.specs.PutLaws.{PutAt}
+use Rattle.catalogue.proofs.PutLaws.{PutAt}
 use Rattle.catalogue.proofs.+put_directory.Given as goal
 
 abbrev pub decreases-put_directory : goal.decreases-put_directory

@@ -1,6 +1,6 @@
 use Rattle.std.proofs.Common.{arith, ℕ, refl}
 use Rattle.filetree.specs.Path.{path_size}
-use Rattle.catalogue.specs.PutLaws.{tree-written}
+use Rattle.catalogue.proofs.PutLaws.{tree-written}
 use Rattle.catalogue.proofs.Filling.{keys-indexed, first-spot}
 use lib.ListN.{length-replicate}
 use Rattle.catalogue.proofs.list_in.Goals as goal

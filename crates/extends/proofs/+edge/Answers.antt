@@ -1,5 +1,5 @@
 use Rattle.std.proofs.Common.{arith}
-use Rattle.extends.specs.ExtendsLaws.{mixed-left, mixed-right}
+use Rattle.extends.proofs.ExtendsLaws.{mixed-left, mixed-right}
 use Rattle.extends.proofs.Ways.{last-by, left_by, none-by, right_by, small, count_same}
 use Rattle.extends.proofs.+edge.Goals as goal
 

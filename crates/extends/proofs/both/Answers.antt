@@ -1,7 +1,7 @@
 -- Each return is one case of the definition.
 use Rattle.std.proofs.Common.{sym}
 use Rattle.extends.proofs.Ways.{pair-by}
-use Rattle.extends.specs.ExtendsLaws.{both_left, both_right}
+use Rattle.extends.proofs.ExtendsLaws.{both_left, both_right}
 use Rattle.extends.proofs.both.Goals as goal
 
 pub returns-then-l-ne0 : goal.returns-then-l-ne0

@@ -1,5 +1,5 @@
 use Rattle.std.proofs.Common.{arith, length, ◌∙◌, ◌*◌, ◌^◌}
-use Rattle.tree.specs.ValuesLaws.{node-pair}
+use Rattle.tree.proofs.ValuesLaws.{node-pair}
 use Rattle.heaps.specs.HeapsLaws.{front_length}
 use Rattle.heaps.proofs.Steps.{node-past, heap-fits, halves-fit}
 use Rattle.heaps.proofs.+run_node.Goals as goal

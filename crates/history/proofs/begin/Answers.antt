@@ -1,6 +1,6 @@
 use Rattle.std.proofs.Common.{sym, ◌∙◌}
 use Rattle.history.specs.Answers.{no_history}
-use Rattle.history.specs.AnswersLaws.{begin-done, begin-refused}
+use Rattle.history.proofs.AnswersLaws.{begin-done, begin-refused}
 use Rattle.history.proofs.begin.Goals as goal
 
 pub returns-then-is_piece_length : goal.returns-then-is_piece_length

@@ -1,6 +1,6 @@
 use Rattle.std.proofs.Common.{length, sym, ◌∙◌}
 use Rattle.octets.specs.Octets.{zero_hash}
-use Rattle.history.specs.DecidingLaws.{end-says, end-taken, end-layer, end_refused, end-left}
+use Rattle.history.proofs.DecidingLaws.{end-says, end-taken, end-layer, end_refused, end-left}
 use Rattle.history.proofs.end.Goals as goal
 
 pub put_last-requires : goal.put_last-requires

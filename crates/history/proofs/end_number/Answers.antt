@@ -1,6 +1,6 @@
 use Rattle.std.proofs.Common.{arith, sym, ◌∙◌}
-use Rattle.history.specs.AnswersLaws.{possible-says}
-use Rattle.history.specs.DecidingLaws.{end-impossible, end-room, end-done}
+use Rattle.history.proofs.AnswersLaws.{possible-says}
+use Rattle.history.proofs.DecidingLaws.{end-impossible, end-room, end-done}
 use Rattle.history.proofs.end_number.Goals as goal
 
 pub layer_size-requires : goal.layer_size-requires

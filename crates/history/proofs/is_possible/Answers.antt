@@ -1,5 +1,5 @@
 use Rattle.std.proofs.Common.{sym, ◌∙◌}
-use Rattle.history.specs.DecidingLaws.{bad-pieces, too_long, other-total, tail-decides}
+use Rattle.history.proofs.DecidingLaws.{bad-pieces, too_long, other-total, tail-decides}
 use Rattle.history.proofs.is_possible.Goals as goal
 
 pub returns-then-n-gt-LONGEST_FILE : goal.returns-then-n-gt-LONGEST_FILE

@@ -1,5 +1,5 @@
 use Rattle.std.proofs.Common.{arith, ℕ, ◌*◌, ap, sym, ◌∙◌}
-use Rattle.history.specs.DecidingLaws.{pieces-most, bytes-some, bytes-none}
+use Rattle.history.proofs.DecidingLaws.{pieces-most, bytes-some, bytes-none}
 use Rattle.history.proofs.layer_size.Goals as goal
 
 pub overflow_mul-result : goal.overflow_mul-result

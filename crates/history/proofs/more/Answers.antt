@@ -1,5 +1,5 @@
 use Rattle.std.proofs.Common.{length, sym, ◌∙◌}
-use Rattle.history.specs.DecidingLaws.{number-says, more-taken, layer-taken, more-refused, layer-refused}
+use Rattle.history.proofs.DecidingLaws.{number-says, more-taken, layer-taken, more-refused, layer-refused}
 use Rattle.history.proofs.more.Goals as goal
 
 pub run-history-requires : goal.run-history-requires

@@ -1,6 +1,6 @@
 use Rattle.std.proofs.Common.{arith, sym, ◌∙◌}
-use Rattle.history.specs.AnswersLaws.{possible-says}
-use Rattle.history.specs.DecidingLaws.{number-impossible, number-long, number-room, number-done}
+use Rattle.history.proofs.AnswersLaws.{possible-says}
+use Rattle.history.proofs.DecidingLaws.{number-impossible, number-long, number-room, number-done}
 use Rattle.history.proofs.more_number.Goals as goal
 
 pub overflow_sub-left : goal.overflow_sub-left

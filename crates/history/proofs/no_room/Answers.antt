@@ -1,5 +1,5 @@
 use Rattle.std.proofs.Common.{ltb, arith, ℕ, ◌/◌, ap, ◌∙◌}
-use Rattle.history.specs.DecidingLaws.{room-due, none-due}
+use Rattle.history.proofs.DecidingLaws.{room-due, none-due}
 use Rattle.history.proofs.no_room.Goals as goal
 
 pub returns-then-before-after : goal.returns-then-before-after

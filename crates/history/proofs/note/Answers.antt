@@ -2,7 +2,7 @@ use Rattle.std.proofs.Common.{arith, ◌-◌, ◌*◌, ◌/◌, length, ◌≡�
 use Rattle.octets.specs.Octets.{pasted}
 use Rattle.history.specs.Growing.{node_count, node_at}
 use Rattle.history.proofs.Steps.{noted-none, noted-not, noted-yes, piece-layer-below, quotient-some}
-use Rattle.tree.specs.GeometryLaws.{piece-some}
+use Rattle.tree.proofs.GeometryLaws.{piece-some}
 use Rattle.history.proofs.note.Goals as goal
 
 pub returns-then-n-eq0 : goal.returns-then-n-eq0

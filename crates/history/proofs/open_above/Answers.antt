@@ -1,6 +1,6 @@
 use Rattle.std.proofs.Common.{arith, ◌≡◌, ap, ◌∙◌}
 use Rattle.octets.specs.Octets.{zero_hash}
-use Rattle.history.specs.LastLaws.{zero-pad}
+use Rattle.history.proofs.LastLaws.{zero-pad}
 use Rattle.history.proofs.Steps.{above-none, above_more, half-more}
 use Rattle.tree.proofs.Steps.{pad-next}
 use Rattle.history.specs.Growing.{node_at, open_above}

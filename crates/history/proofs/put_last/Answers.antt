@@ -1,6 +1,6 @@
 use Rattle.std.proofs.Common.{arith, sym, ◌∙◌}
 use Rattle.history.specs.Answers.{layer_size}
-use Rattle.history.specs.DecidingLaws.{last-put, last_none, layer-some}
+use Rattle.history.proofs.DecidingLaws.{last-put, last_none, layer-some}
 use Rattle.history.proofs.Steps.{piece-layer-below}
 use Rattle.history.proofs.put_last.Goals as goal
 

@@ -1,9 +1,9 @@
 use Rattle.std.proofs.Common.{arith, length, ap, ◌∙◌}
-use Rattle.history.specs.LastLaws.{tall-enough}
+use Rattle.history.proofs.LastLaws.{tall-enough}
 use Rattle.tree.specs.Geometry.{height}
 use Rattle.octets.specs.Octets.{zero_hash}
 use Rattle.history.proofs.Steps.{root-some}
-use Rattle.history.specs.HistoriesLaws.{root-zero}
+use Rattle.history.proofs.HistoriesLaws.{root-zero}
 use Rattle.history.proofs.root_of.Goals as goal
 
 pub returns-then-n-eq0 : goal.returns-then-n-eq0

@@ -1,7 +1,7 @@
 -- The loop's invariant: the state and the layer are those of the bytes before `at`, so what is left makes of them what the burst makes of the first.
 -- Assumes nothing.
 use Rattle.std.proofs.Common.{[], arith, ◌+◌, ◌≤◌, ◌<◌, length, drop, drop_of_length-le, ◌≡◌, refl, sym, ◌∙◌}
-use Rattle.history.specs.DecidingLaws.{part_length}
+use Rattle.history.proofs.DecidingLaws.{part_length}
 use Rattle.history.proofs.Steps.{grown-turn, noted-turn, grown-none, noted-end}
 use Rattle.history.proofs.Eights.{part_of, due-at}
 use Rattle.history.proofs.run.Goals as goal

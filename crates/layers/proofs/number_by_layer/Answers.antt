@@ -1,5 +1,5 @@
 use Rattle.std.proofs.Common.{arith, sym, ◌∙◌}
-use Rattle.tree.specs.GeometryLaws.{long-full}
+use Rattle.tree.proofs.GeometryLaws.{long-full}
 use Rattle.layers.proofs.Finding.{layer-inside, number-none, root-slice, number-here}
 use Rattle.layers.proofs.number_by_layer.Goals as goal
 

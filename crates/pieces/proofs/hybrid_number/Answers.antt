@@ -1,7 +1,7 @@
 -- The v1 half is asked only behind a v2 answer of 0, where the piece is at most the piece length.
 use Rattle.std.proofs.Common.{refl, sym, ◌∙◌}
-use Rattle.pieces.specs.PiecesLaws.{piece-right}
-use Rattle.pieces.specs.HybridLaws.{piece-short}
+use Rattle.pieces.proofs.PiecesLaws.{piece-right}
+use Rattle.pieces.proofs.HybridLaws.{piece-short}
 use Rattle.pieces.proofs.Halves.{v1-behind, v2-alone}
 use Rattle.store.specs.StoreLaws.{usable-long}
 use Rattle.pieces.proofs.hybrid_number.Goals as goal

@@ -1,8 +1,8 @@
 -- On 0 the block is one of the file's, so that it has a mark.
 use Rattle.std.proofs.Common.{sym, ◌∙◌}
 use Rattle.pieces.specs.Pieces.{block_answer, block_after}
-use Rattle.pieces.specs.PiecesLaws.{block-right}
-use Rattle.pieces.specs.MarkedLaws.{block-fits}
+use Rattle.pieces.proofs.PiecesLaws.{block-right}
+use Rattle.pieces.proofs.MarkedLaws.{block-fits}
 use Rattle.pieces.proofs.Marking.{right-marks, wrong-leaves}
 use Rattle.pieces.proofs.judge_block.Goals as goal
 

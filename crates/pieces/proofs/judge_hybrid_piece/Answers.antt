@@ -1,8 +1,8 @@
 -- On 0 the v2 half gives 0 too, so that the piece is one of the file's and its blocks have marks.
 use Rattle.std.proofs.Common.{arith}
 use Rattle.pieces.specs.Hybrid.{hybrid_answer, hybrid_after}
-use Rattle.pieces.specs.PiecesLaws.{piece-right}
-use Rattle.pieces.specs.MarkedLaws.{piece-fits}
+use Rattle.pieces.proofs.PiecesLaws.{piece-right}
+use Rattle.pieces.proofs.MarkedLaws.{piece-fits}
 use Rattle.pieces.proofs.Halves.{hybrid-piece}
 use Rattle.pieces.proofs.Marking.{right-marks, wrong-leaves, marks-by}
 use Rattle.pieces.proofs.judge_hybrid_piece.Goals as goal

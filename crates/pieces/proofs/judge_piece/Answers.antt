@@ -1,8 +1,8 @@
 -- On 0 the piece is one of the file's, so that its blocks have marks.
 use Rattle.std.proofs.Common.{arith, sym, ◌∙◌}
 use Rattle.pieces.specs.Pieces.{piece_answer, piece_after}
-use Rattle.pieces.specs.PiecesLaws.{piece-right}
-use Rattle.pieces.specs.MarkedLaws.{piece-fits}
+use Rattle.pieces.proofs.PiecesLaws.{piece-right}
+use Rattle.pieces.proofs.MarkedLaws.{piece-fits}
 use Rattle.pieces.proofs.Marking.{right-marks, wrong-leaves, marks-by}
 use Rattle.pieces.proofs.judge_piece.Goals as goal
 

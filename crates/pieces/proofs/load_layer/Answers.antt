@@ -1,6 +1,6 @@
 -- A number of 0 means that the layer fits the store, and what write_layer counts are the positions newly held; any other number leaves the store.
 use Rattle.std.proofs.Common.{sym, ◌∙◌}
-use Rattle.pieces.specs.PiecesLaws.{layer-loads, loads-layered}
+use Rattle.pieces.proofs.PiecesLaws.{layer-loads, loads-layered}
 use Rattle.pieces.proofs.Ways.{load-done, load-refused}
 use Rattle.pieces.proofs.load_layer.Goals as goal
 

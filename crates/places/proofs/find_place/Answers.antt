@@ -1,7 +1,7 @@
 -- By the loop: the piece is looked for in the files from i on, as so many pieces are left.
 use Rattle.std.proofs.Common.{arith, ℕ, ◌+◌, ◌-◌, ap, sym, ◌∙◌}
 use Rattle.places.specs.Places.{place_from}
-use Rattle.places.specs.PlacesLaws.{place-start, place_here, place-next, place_none, pieces_are}
+use Rattle.places.proofs.PlacesLaws.{place-start, place_here, place-next, place_none, pieces_are}
 use Rattle.places.proofs.find_place.Goals as goal
 
 pub loop-i-init : goal.loop-i-init

@@ -1,5 +1,5 @@
 use Rattle.std.proofs.Common.{arith, ℕ, ap, sym, ◌∙◌}
-use Rattle.places.specs.PlacesLaws.{number-right, first-refused, first_past, first_done}
+use Rattle.places.proofs.PlacesLaws.{number-right, first-refused, first_past, first_done}
 use Rattle.numbers.specs.Numbers.{refused, done}
 use Rattle.places.proofs.first_piece.Goals as goal
 

@@ -1,6 +1,6 @@
 -- By the loop: the answer is that of the records from i on.
 use Rattle.std.proofs.Common.{arith, sym, ◌∙◌}
-use Rattle.places.specs.PlacesLaws.{lengths-start, lengths-more, lengths-wrong, lengths-done}
+use Rattle.places.proofs.PlacesLaws.{lengths-start, lengths-more, lengths-wrong, lengths-done}
 use Rattle.places.proofs.lengths_right.Goals as goal
 
 pub loop-i-init : goal.loop-i-init

@@ -1,5 +1,5 @@
 use Rattle.std.proofs.Common.{sym, ◌∙◌}
-use Rattle.places.specs.PlacesLaws.{number-4, number-24, number-0}
+use Rattle.places.proofs.PlacesLaws.{number-4, number-24, number-0}
 use Rattle.places.proofs.list_number.Goals as goal
 
 pub returns-then-not-right : goal.returns-then-not-right

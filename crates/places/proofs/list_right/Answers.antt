@@ -1,5 +1,5 @@
 use Rattle.std.proofs.Common.{arith, sym, ◌∙◌}
-use Rattle.places.specs.PlacesLaws.{list-parts, list-not-whole, list-too-many}
+use Rattle.places.proofs.PlacesLaws.{list-parts, list-not-whole, list-too-many}
 use Rattle.places.proofs.list_right.Goals as goal
 
 pub returns-then-list-ne0 : goal.returns-then-list-ne0

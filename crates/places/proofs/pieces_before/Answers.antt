@@ -1,7 +1,7 @@
 -- The sum is that of the files before i; a list in its form keeps it far below 2^64.
 use Rattle.std.proofs.Common.{arith, ◌≡◌, ap, sym, ◌∙◌}
 use Rattle.places.specs.Places.{pieces_before}
-use Rattle.places.specs.PlacesLaws.{record-within, before-none, before_more, sum_fits, pieces_are}
+use Rattle.places.proofs.PlacesLaws.{record-within, before-none, before_more, sum_fits, pieces_are}
 use Rattle.places.proofs.pieces_before.Goals as goal
 
 pub loop-i-init : goal.loop-i-init

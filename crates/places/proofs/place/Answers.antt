@@ -1,6 +1,6 @@
 use Rattle.std.proofs.Common.{arith, ap, sym, ◌∙◌}
 use Rattle.places.specs.Places.{no_place}
-use Rattle.places.specs.PlacesLaws.{place-refused, place_found}
+use Rattle.places.proofs.PlacesLaws.{place-refused, place_found}
 use Rattle.places.proofs.place.Goals as goal
 
 pub returns-then-number-ne-DONE : goal.returns-then-number-ne-DONE

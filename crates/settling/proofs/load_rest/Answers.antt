@@ -1,7 +1,7 @@
 -- The loop's invariant: the first y leaves are in the heap.
 -- Assumes nothing.
 use Rattle.std.proofs.Common.{arith, ◌+◌, length, ◌≡◌, ap, sym, ◌∙◌}
-use Rattle.tree.specs.ValuesLaws.{leaf-octets}
+use Rattle.tree.proofs.ValuesLaws.{leaf-octets}
 use Rattle.settling.specs.HeapLaws.{loaded-one}
 use Rattle.tree.specs.Values.{leaf_of}
 use Rattle.settling.proofs.load_rest.Goals as goal

@@ -1,6 +1,6 @@
 -- By the loop: all positions before i are held; the first that is not settles the answer.
 use Rattle.std.proofs.Common.{true, arith, sym, ◌∙◌}
-use Rattle.asking.specs.AskingLaws.{front-is, front-all, held_more}
+use Rattle.asking.proofs.AskingLaws.{front-is, front-all, held_more}
 use Rattle.asking.proofs.next.held_front.Goals as goal
 
 pub loop-i-init : goal.loop-i-init

@@ -1,7 +1,7 @@
 -- Each test that fails gives its number; behind all of them it is 0.
 use Rattle.std.proofs.Common.{sym, ◌∙◌}
 use Rattle.asking.proofs.Answers.{root-room}
-use Rattle.asking.specs.AskingLaws.{number-9, number-3, number-6, says-number}
+use Rattle.asking.proofs.AskingLaws.{number-9, number-3, number-6, says-number}
 use Rattle.asking.proofs.next.next_number.Goals as goal
 
 pub returns-then-not-ok : goal.returns-then-not-ok

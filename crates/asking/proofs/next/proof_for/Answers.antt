@@ -1,6 +1,6 @@
 -- None without uncles; else the layers below the run's top that can be worked out, and one for each uncle.
 use Rattle.std.proofs.Common.{sym}
-use Rattle.asking.specs.AskingLaws.{proof-none-at, proof-some}
+use Rattle.asking.proofs.AskingLaws.{proof-none-at, proof-some}
 use Rattle.asking.proofs.next.proof_for.Goals as goal
 
 pub returns-then-u-eq0 : goal.returns-then-u-eq0

@@ -1,6 +1,6 @@
 -- By the loop: x stands u layers above n, and no position on the way to it is held; the first that is held settles the answer.
 use Rattle.std.proofs.Common.{false, arith, ap, sym, ◌∙◌}
-use Rattle.asking.specs.AskingLaws.{needed-is, needed-all, free_more, up_one, up_none}
+use Rattle.asking.proofs.AskingLaws.{needed-is, needed-all, free_more, up_one, up_none}
 use Rattle.cells.specs.Cells.{held_at}
 use Rattle.asking.proofs.next.uncles_needed.Goals as goal
 

@@ -1,7 +1,7 @@
 -- By the loop: the choice so far is that among the first i pieces.
 use Rattle.std.proofs.Common.{arith, ◌+◌, length, ◌≡◌, ap, sym, ◌∙◌}
 use Rattle.asking.specs.declared.pick.Choice.{Choice}
-use Rattle.asking.specs.PickingLaws.{best_none, best-more, best-low}
+use Rattle.asking.proofs.PickingLaws.{best_none, best-more, best-low}
 use Rattle.asking.specs.Picking.{best_of, chosen}
 use Rattle.asking.proofs.pick.best_piece.Goals as goal
 

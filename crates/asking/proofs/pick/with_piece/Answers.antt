@@ -1,6 +1,6 @@
 -- The piece is passed over where no neighbour has it, where it does not go before the choice so far, or where it is on disk; else it is the choice.
 use Rattle.std.proofs.Common.{arith, sym, ◌∙◌}
-use Rattle.asking.specs.PickingLaws.{not-wanted, not-rarer, not-lacking, is-rarer}
+use Rattle.asking.proofs.PickingLaws.{not-wanted, not-rarer, not-lacking, is-rarer}
 use Rattle.asking.proofs.pick.with_piece.Goals as goal
 
 pub returns-then-count-eq0 : goal.returns-then-count-eq0

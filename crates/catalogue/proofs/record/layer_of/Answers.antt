@@ -1,5 +1,5 @@
 use Rattle.std.proofs.Common.{arith, sym, ◌∙◌}
-use Rattle.tree.specs.GeometryLaws.{long-full}
+use Rattle.tree.proofs.GeometryLaws.{long-full}
 use Rattle.catalogue.proofs.Writing.{layer-long, layer-short}
 use Rattle.catalogue.proofs.record.layer_of.Goals as goal
 

@@ -1,6 +1,6 @@
 use Rattle.std.proofs.Common.{arith, ◌≡◌, refl, sym, ◌∙◌}
 use Rattle.saved.proofs.Answers.{place-in-tree, put-turn, put-ends}
-use Rattle.saved.specs.LoadLaws.{put-none}
+use Rattle.saved.proofs.LoadLaws.{put-none}
 use Rattle.saved.proofs.load.put_places.Goals as goal
 
 pub loop-k-init : goal.loop-k-init

@@ -1,7 +1,7 @@
 use Rattle.std.proofs.Common.{arith, ◌≡◌, refl, ap, sym, ◌∙◌}
 use Rattle.saved.proofs.Answers.{marks-ready, marks-turn}
 use Rattle.store.specs.StoreLaws.{facts-usable}
-use Rattle.saved.specs.LoadLaws.{marks-set-none}
+use Rattle.saved.proofs.LoadLaws.{marks-set-none}
 use Rattle.saved.specs.Saved.{marks_set}
 use Rattle.saved.proofs.load.set_marks.Goals as goal
 

@@ -1,5 +1,5 @@
 use Rattle.std.proofs.Common.{arith, rules}
-use Rattle.saved.specs.SoundLaws.{sound-formed}
+use Rattle.saved.proofs.SoundLaws.{sound-formed}
 use Rattle.saved.proofs.Answers.{whole_here, sized-here, form-here, places-ready, marks-here, all-written}
 use Rattle.saved.proofs.load.write_all.Goals as goal
 

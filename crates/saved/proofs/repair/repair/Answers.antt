@@ -1,5 +1,5 @@
 use Rattle.std.proofs.Common.{arith, refl, sym, ◌∙◌}
-use Rattle.saved.specs.SoundLaws.{rooted-formed}
+use Rattle.saved.proofs.SoundLaws.{rooted-formed}
 use Rattle.saved.proofs.Answers.{repair-refused, repair-unrooted, repair-done, sound-asks, formed-sized}
 use Rattle.saved.proofs.repair.repair.Goals as goal
 

@@ -1,5 +1,5 @@
 use Rattle.std.proofs.Common.{arith}
-use Rattle.saved.specs.SoundLaws.{rooted-formed}
+use Rattle.saved.proofs.SoundLaws.{rooted-formed}
 use Rattle.saved.proofs.Answers.{whole_here, sized-here, rooted-some, kept-ready, kept-all}
 use Rattle.saved.proofs.repair.write_kept.Goals as goal
 

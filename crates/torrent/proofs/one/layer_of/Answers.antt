@@ -1,5 +1,5 @@
 use Rattle.std.proofs.Common.{arith, sym, ◌∙◌}
-use Rattle.tree.specs.GeometryLaws.{long-full}
+use Rattle.tree.proofs.GeometryLaws.{long-full}
 use Rattle.torrent.proofs.Answering.{layer-some, layer-none}
 use Rattle.torrent.proofs.one.layer_of.Goals as goal
 

@@ -1,7 +1,7 @@
 -- Each return is one law of rounding up.
 use Rattle.std.proofs.Common.{div-le_self, arith, ℕ, ◌-◌, ap, sym, ◌∙◌}
 use Rattle.tree.specs.Geometry.{ceil_div}
-use Rattle.tree.specs.GeometryLaws.{ceil-by-zero, ceil-of-zero, ceil-step}
+use Rattle.tree.proofs.GeometryLaws.{ceil-by-zero, ceil-of-zero, ceil-step}
 use Rattle.tree.proofs.geometry.ceil_div.Goals as goal
 
 pub returns-then-d-eq0 : goal.returns-then-d-eq0

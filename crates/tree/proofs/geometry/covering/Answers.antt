@@ -1,6 +1,6 @@
 -- A shift by l divides by 2^l; from layer 64 on one position covers every block that a number can count.
 use Rattle.std.proofs.Common.{div-le_self, pow_mono, arith, ℕ, ◌-◌, ◌≤◌, ◌^◌, ap, sym, ◌∙◌}
-use Rattle.tree.specs.GeometryLaws.{covering-none, covering-one, covering-step}
+use Rattle.tree.proofs.GeometryLaws.{covering-none, covering-one, covering-step}
 use Rattle.tree.specs.Geometry.{covering}
 use Rattle.tree.proofs.geometry.covering.Goals as goal
 

@@ -1,7 +1,7 @@
 -- Halving and rounding up takes the height down by one. Invariant: what is left has the height that is still to be counted.
 use Rattle.std.proofs.Common.{arith}
 use Rattle.tree.proofs.Steps.{height-turn, height-done}
-use Rattle.tree.specs.GeometryLaws.{height-fits}
+use Rattle.tree.proofs.GeometryLaws.{height-fits}
 use Rattle.tree.proofs.geometry.height.Goals as goal
 
 pub loop-rest-init : goal.loop-rest-init

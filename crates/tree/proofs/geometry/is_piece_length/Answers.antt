@@ -1,7 +1,7 @@
 -- Up to 16 MiB the piece layer is at most 10, so the shift loses nothing.
 use Rattle.std.proofs.Common.{eqb, arith, ℕ, ◌*◌, ◌≤◌, ◌^◌, ap, sym, ◌∙◌}
 use Rattle.tree.proofs.Steps.{shifted-block}
-use Rattle.tree.specs.GeometryLaws.{piece-length-large, piece-length-small, piece-layer-small}
+use Rattle.tree.proofs.GeometryLaws.{piece-length-large, piece-length-small, piece-layer-small}
 use Rattle.tree.proofs.geometry.is_piece_length.Goals as goal
 
 pub returns-then-plen-gt16777216 : goal.returns-then-plen-gt16777216

@@ -1,6 +1,6 @@
 -- The shift gives 2^(h - l), which with an index below it stays below 2^64.
 use Rattle.std.proofs.Common.{pow_mono, arith, ℕ, ◌+◌, ◌-◌, ◌≤◌, ◌^◌, ap}
-use Rattle.tree.specs.GeometryLaws.{shifted_one}
+use Rattle.tree.proofs.GeometryLaws.{shifted_one}
 use Rattle.tree.specs.Geometry.{node_number}
 use Rattle.tree.proofs.geometry.node_number.Goals as goal
 

@@ -1,6 +1,6 @@
 -- A piece that the file has starts within it, so neither the product nor the difference wraps.
 use Rattle.std.proofs.Common.{arith, sym, rules}
-use Rattle.tree.specs.GeometryLaws.{piece-size-past, piece-starts}
+use Rattle.tree.proofs.GeometryLaws.{piece-size-past, piece-starts}
 use Rattle.tree.specs.Geometry.{piece_size}
 use Rattle.tree.proofs.geometry.piece_size.Goals as goal
 

@@ -2,7 +2,7 @@
 use Rattle.std.proofs.Common.{arith, length}
 use Rattle.tree.proofs.Steps.{leaf-past, leaf-hashed}
 use Rattle.tree.specs.Geometry.{block_size}
-use Rattle.tree.specs.GeometryLaws.{block-starts, block-size-most}
+use Rattle.tree.proofs.GeometryLaws.{block-starts, block-size-most}
 use Rattle.tree.proofs.values.leaf_of.Goals as goal
 
 pub returns-then-block-b : goal.returns-then-block-b

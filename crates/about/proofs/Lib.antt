@@ -1,0 +1,2 @@
+pub mod AboutLaws
+pub mod AboutMeans

@@ -1,0 +1,10 @@
+pub mod AmissLaws
+pub mod ClimbsOut
+pub mod Examples
+pub mod FilesLaws
+pub mod NamesAside
+pub mod NamesAsideLaws
+pub mod NthLaws
+pub mod PathExamples
+pub mod PathsLaws
+pub mod TestsLaws

@@ -1,0 +1,92 @@
+-- How many bytes are written: the paths in tree order and the files' properties each give theirs, so the list's order does not matter,
+-- not even where paths repeat.
+-- Assumes nothing.
+use Rattle.std.specs.Prelude.{◌≡◌, false, List, [], ◌∷◌, ◌++◌, map, ℕ, suc, ◌+◌, ◌-◌, length, drop}
+use Rattle.std.proofs.Math.Path.{refl, ap}
+use Rattle.std.proofs.Common.{sym, ap₂, ◌∙◌, length-append}
+use native.Mathlib.Omega.{arith}
+use Rattle.std.proofs.lemmas.List.{length-replicate}
+use Rattle.bencode.specs.Grammar.{letter_e, dictionary, encode_string, encode}
+use Rattle.sorting.specs.SortedBy.{sorted_by, Permuted, none, keep, swap, then}
+use Rattle.sorting.specs.PermutedLaws.{map-permuted}
+use Rattle.sorting.specs.SortedByLaws.{map-sorted, Ordered, OrderedFrom, sorted-ordered, sorted-permuted, sorted-same}
+use Rattle.writer_meaning.specs.Content.{Item, path_before, item_before, in_tree_order, properties, tree_of_all}
+use Rattle.writer_meaning.specs.Written.{shared, opened, closed, tree_bytes}
+use Rattle.writer_meaning.proofs.WrittenLaws.{Rising, tree-encoded}
+use Rattle.writer_meaning.proofs.OrderLaws.{path-either, path-one-way, path-behind}
+
+module _ {A : Type 0} where
+  unfoldable pub sum : (A → ℕ) → List A → ℕ
+  sum f [] = 0
+  sum f (x ∷ xs) = f x + sum f xs
+
+  pub sum-permuted : (f : A → ℕ) (xs ys : List A) → Permuted xs ys → sum f xs ≡ sum f ys
+  unfolding sum
+  sum-permuted f xs ys none = refl
+  sum-permuted f xs ys (keep x {xs = us} {ys = vs} p) = ap (λ (n : ℕ). f x + n) (sum-permuted f us vs p)
+  sum-permuted f xs ys (swap x y zs) = omega arith
+  sum-permuted f xs ys (then {ys = ms} p q) = sum-permuted f xs ms p ∙ sum-permuted f ms ys q
+
+abbrev path_of : Item → List (List ℕ)
+path_of x = x.path
+
+-- the files in tree order rise
+pub rising-from : (x : Item) (xs : List Item) → OrderedFrom item_before x xs → Rising x.path xs
+unfolding OrderedFrom Rising
+rising-from x [] o = tt
+rising-from x (y ∷ ys) o = (o.0, rising-from y ys o.1)
+
+pub rising : (xs : List Item) → Ordered item_before xs → Rising [] xs
+unfolding Ordered Rising
+rising [] o = tt
+rising (x ∷ xs) o = (first x.path, rising-from x xs o)
+  where
+    first : (p : List (List ℕ)) → path_before p [] ≡ false
+    first [] = unfold path_before in refl
+    first (e ∷ p) = unfold path_before in refl
+
+pub in_order : (xs : List Item) → Ordered item_before (in_tree_order xs)
+in_order xs = sorted-ordered item_before (λ x y. path-one-way x.path y.path) (λ x y z. path-behind x.path y.path z.path) xs
+
+-- ---- the bytes of a tree
+
+-- the bytes of nodes opened and closed
+unfoldable pub paths_length : List (List ℕ) → List (List (List ℕ)) → ℕ
+paths_length p [] = suc (length p)
+paths_length p (q ∷ qs) = length p - shared p q + length (opened (drop (shared p q) q)) + length (encode_string []) + paths_length q qs
+
+abbrev pub properties_length : Item → ℕ
+properties_length x = length (encode (properties x))
+
+pub tree-length : (p : List (List ℕ)) (xs : List Item) → length (tree_bytes p xs) ≡ paths_length p (map path_of xs) + sum properties_length xs
+unfolding tree_bytes paths_length sum
+tree-length p [] = let r = length-replicate {A = ℕ} (suc (length p)) letter_e in omega arith
+tree-length p (x ∷ xs) =
+    let q = x.path in
+    let c = closed (length p - shared p q) in
+    let o = opened (drop (shared p q) q) in
+    let s = encode_string [] in
+    let v = encode (properties x) in
+    let a = length-append (c ++ (o ++ (s ++ v))) (tree_bytes q xs) in
+    let b = length-append c (o ++ (s ++ v)) in
+    let d = length-append o (s ++ v) in
+    let e = length-append s v in
+    let r = length-replicate {A = ℕ} (length p - shared p q) letter_e in
+    let more = tree-length q xs in
+    omega arith
+
+-- the tree of a list in any order has as many bytes
+pub tree-size : (xs : List Item) → length (encode (dictionary (tree_of_all (in_tree_order xs)))) ≡ suc (paths_length [] (sorted_by path_before (map path_of xs)) + sum properties_length xs)
+tree-size xs =
+    ap (λ (l : List ℕ). length l) (tree-encoded (in_tree_order xs) (rising (in_tree_order xs) (in_order xs)))
+    ∙ ap suc (tree-length [] (in_tree_order xs)
+    ∙ ap₂ (λ (n m : ℕ). n + m) (ap (paths_length []) (map-sorted path_of path_before xs)) (sym (sum-permuted properties_length xs (in_tree_order xs) (sorted-permuted item_before xs))))
+
+pub paths-any-order : (xs ys : List Item) → Permuted xs ys → sorted_by path_before (map path_of xs) ≡ sorted_by path_before (map path_of ys)
+paths-any-order xs ys p =
+    sorted-same path_before path-one-way path-behind (map path_of xs) (map path_of ys) (map-permuted path_of xs ys p) (λ a b m n. path-either a b)
+
+pub tree-size-any-order : (xs ys : List Item) → Permuted xs ys
+    → length (encode (dictionary (tree_of_all (in_tree_order xs)))) ≡ length (encode (dictionary (tree_of_all (in_tree_order ys))))
+tree-size-any-order xs ys p =
+    tree-size xs ∙ ap₂ (λ (ps : List (List (List ℕ))) (n : ℕ). suc (paths_length [] ps + n)) (paths-any-order xs ys p) (sum-permuted properties_length xs ys p) ∙ sym (tree-size ys)
