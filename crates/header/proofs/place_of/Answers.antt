@@ -1,4 +1,4 @@
-use Rattle.std.proofs.Common.{⊎_elim, arith}
+use Rattle.std.proofs.Common.{arith}
 use Rattle.header.proofs.Rules.{place-by}
 use Rattle.header.specs.HeaderLaws.{rules-kept, top-inside}
 use Rattle.header.proofs.place_of.Goals as goal
