@@ -1,1 +1,3 @@
 pub mod SavedExample
+pub mod HybridJudged
+pub mod OneRoundAlone

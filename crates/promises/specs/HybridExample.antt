@@ -3,21 +3,15 @@
 -- Assumes nothing.
 use Rattle.std.specs.Prelude.{◌≡◌, refl, List, ◌++◌, ℕ, suc, ◌+◌, ◌≤◌, length, replicate}
 use Rattle.std.proofs.Common.{sym, inr, arith}
-use Rattle.std.proofs.lemmas.List.{length-replicate}
 use Rattle.numbers.specs.Numbers.{wrong_size, differs}
 use Rattle.sha_1.specs.Sha1.{sha1}
 use Rattle.sha_1.specs.Sha1Laws.{sha1-octets}
-use Rattle.sha256.specs.Sha256.{pair_hash}
-use Rattle.tree.specs.Values.{leaf_of}
-use Rattle.store.specs.Store.{piece_length, open_after}
-use Rattle.messages.specs.Take.{take_after}
+use Rattle.store.specs.Store.{piece_length}
 use Rattle.pieces.specs.Hybrid.{hybrid_answer}
 use Rattle.pieces.proofs.HybridLaws.{hybrid-0, hybrid-4, hybrid-7, piece-short}
 use Rattle.words.specs.File.{piece_for}
-use Rattle.promises.specs.Blank.{blank, blank-bytes, blank-room}
-use Rattle.promises.specs.Example.{two_leaves}
 use Rattle.promises.specs.NumbersGiven.{other_than, other_differs}
-use Rattle.promises.specs.Witness.{MetAfter, met-after}
+use Rattle.promises.specs.Witness.{MetAfter}
 
 -- SHA-1 of the file's first piece, without zeros
 abbrev first_v1 : List ℕ → List ℕ → List ℕ
@@ -43,8 +37,4 @@ judged-by-both file s m =
     short : length (piece_for file s 0) + 0 ≤ piece_length s
     short = omega (arith, piece-short s 0 (piece_for file s 0) m.piece)
 
--- with every byte said
-pub a-hybrid-piece-judged :
-    Judged (replicate 32768 0)
-    (take_after (open_after (blank 32768) 32768 16384 (pair_hash (leaf_of (replicate 32768 0) 0) (leaf_of (replicate 32768 0) 1))) (two_leaves (leaf_of (replicate 32768 0) 0) (leaf_of (replicate 32768 0) 1)))
-a-hybrid-piece-judged = judged-by-both _ _ (met-after (replicate 32768 0) (blank 32768) (length-replicate {A = ℕ} 32768 0) (blank-bytes 32768) (blank-room 32768))
+-- with every byte said: `a-hybrid-piece-judged`, in proofs/HybridJudged

@@ -12,7 +12,7 @@ use native.Mathlib.Omega.{arith}
 use Rattle.std.proofs.Math.ListN.{length}
 use borrow.Author.Tests.{le-leb, ne_eqb}
 use Rattle.octets.specs.Octets.{Octets, cut, be, number_at, zero_hash}
-use Rattle.octets.specs.OctetsLaws.{same-eq, zero-octets, be-octets, append-octets, cut-cut, cut-whole, cut-append-left, cut-append-right, one_byte}
+use Rattle.octets.specs.OctetsLaws.{same-eq, be-octets, append-octets, cut-cut, cut-whole, cut-append-left, cut-append-right, one_byte}
 use Rattle.numbers.specs.Numbers.{no_anchor}
 use Rattle.sha256.specs.Sha256.{pair_hash}
 use Rattle.sha256.specs.Sha256Laws.{pair-octets}
@@ -47,7 +47,6 @@ use Rattle.knowledge.specs.Conflict.{sized-bytes}
 use Rattle.knowledge.specs.Positions.{given_is}
 use Rattle.knowledge.specs.ByHand.{three-high}
 use Rattle.numbers.specs.Tests.{either, not-both}
-use Rattle.promises.specs.Blank.{blank, blank-room, blank-bytes}
 use Rattle.promises.specs.Offered.{offered, two_hashes, offered-header, offered-past, first-hash, second-hash, two_size, well-formed-in}
 
 -- what could show a pair: one of two stores, or one of the messages
@@ -70,7 +69,7 @@ pub record OneRound (M : MessageSet) (n plen : ℕ) (root s t : List ℕ) : Type
   pub none : (h : ℕ) (x y : Source) → OneOf M s t x → OneOf M s t y → Shown h x y → ⊥
 
 -- what two sources give that one store holds is no pair
-gives_one : (t : List ℕ) (h : ℕ) (x y : Source) → ((l i : ℕ) (v : List ℕ) → Gives x l i v → Holds t l i v) → ((l i : ℕ) (v : List ℕ) → Gives y l i v → Holds t l i v) → Shown h x y → ⊥
+pub gives_one : (t : List ℕ) (h : ℕ) (x y : Source) → ((l i : ℕ) (v : List ℕ) → Gives x l i v → Holds t l i v) → ((l i : ℕ) (v : List ℕ) → Gives y l i v → Holds t l i v) → Shown h x y → ⊥
 gives_one t h x y f g S =
     let a : S.l ≡ S.l' = sym (f S.layer (2 * S.index) S.l S.left).hash ∙ (g S.layer (2 * S.index) S.l' S.left').hash in
     let b : S.r ≡ S.r' = sym (f S.layer (2 * S.index + 1) S.r S.right).hash ∙ (g S.layer (2 * S.index + 1) S.r' S.right').hash in
@@ -193,13 +192,13 @@ unfolding facts_in_range is_piece_length piece_layer height height_from
 range = refl
 
 module _ (c d e f b : List ℕ) (oc : Octets 32 c) (od : Octets 32 d) (oe : Octets 32 e) (of : Octets 32 f) (ob : Octets 32 b) where
-  X : List ℕ
+  unfoldable pub X : List ℕ
   X = leaves c d e f b
 
-  Y : List ℕ
+  pub Y : List ℕ
   Y = tops c d e f b
 
-  root-octets : Octets 32 (root_of c d e f b)
+  pub root-octets : Octets 32 (root_of c d e f b)
   root-octets = pair-octets (four_of c d e f) b
 
   four-octets : Octets 32 (four_of c d e f)
@@ -285,7 +284,7 @@ module _ (c d e f b : List ℕ) (oc : Octets 32 c) (od : Octets 32 d) (oe : Octe
     top-place = ap₂ (λ (x : Header) (h : ℕ). place_of x h) top-header eh
 
   module _ (buffer : List ℕ) (bytes : Bytes buffer) (fits : store_size 81920 ≤ length buffer) where
-    fresh : List ℕ
+    pub fresh : List ℕ
     fresh = opened buffer 81920 16384 (root_of c d e f b)
 
     facts : Facts fresh
@@ -422,14 +421,14 @@ module _ (c d e f b : List ℕ) (oc : Octets 32 c) (od : Octets 32 d) (oe : Octe
 
     -- ---- one round in each order
 
-    leaf-settles : Settles X 0 0 c
+    pub leaf-settles : Settles X 0 0 c
     leaf-settles =
         let u = take_after fresh Y in
         let k : (place_in u X).k ≡ 2 = ap (λ (p : Place). p.k) then-place in
         let g : hash_in X 0 ≡ c = sym (given_is u X then-well 0 (rw k (lit< tt))) ∙ ap (λ (n : ℕ). given X n 0) k ∙ leaf-0 in
         subst (Settles X 0 0) g (subst (λ (x : Header). Settles X x.base (x.index + 0) (hash_in X 0)) leaf-header (in_run 0 (rw leaf-header (lit< tt))))
 
-    leaf-lacks : Lacks (take_after fresh Y) 0 0
+    pub leaf-lacks : Lacks (take_after fresh Y) 0 0
     unfolding node_number
     leaf-lacks w h =
         let k = (what-is-held (take_after fresh Y) 0 0 w grown.facts h).1 in
@@ -438,21 +437,21 @@ module _ (c d e f b : List ℕ) (oc : Octets 32 c) (od : Octets 32 d) (oe : Octe
         not-both q (free 8 (lit≤ tt) (lit< tt))
 
     -- what the two orders leave
-    leaves_first : List ℕ
+    pub leaves_first : List ℕ
     leaves_first = take_after (take_after fresh X) Y
 
-    tops_first : List ℕ
+    pub tops_first : List ℕ
     tops_first = take_after (take_after fresh Y) X
 
-    leaves-dropped : leaves_first ≡ take_after fresh Y
+    pub leaves-dropped : leaves_first ≡ take_after fresh Y
     unfolding leaves_first
     leaves-dropped = ap (λ (x : List ℕ). take_after x Y) (take-stays fresh X (λ z. omega (arith, waits)))
 
-    held_on : (l i : ℕ) (v : List ℕ) → Holds (take_after fresh Y) l i v → Holds tops_first l i v
+    pub held_on : (l i : ℕ) (v : List ℕ) → Holds (take_after fresh Y) l i v → Holds tops_first l i v
     unfolding tops_first
     held_on = grown-holds (take_after fresh Y) (take_after (take_after fresh Y) X) grown.facts (grown-take (take_after fresh Y) X grown.facts)
 
-    all_held : (m : List ℕ) → both_of c d e f b m → (l i : ℕ) (v : List ℕ) → Settles m l i v → Holds tops_first l i v
+    pub all_held : (m : List ℕ) → both_of c d e f b m → (l i : ℕ) (v : List ℕ) → Settles m l i v → Holds tops_first l i v
     unfolding tops_first X Y
     all_held m a l i v x =
         elim (among_two a) [
@@ -470,50 +469,20 @@ module _ (c d e f b : List ℕ) (oc : Octets 32 c) (od : Octets 32 d) (oe : Octe
       λ a. two-among (elim (among_two a) [ inl p ↦ inr p | inr p ↦ inl p ]),
     )
 
-    leaves-first-round : Round (both_of c d e f b) fresh leaves_first
+    pub leaves-first-round : Round (both_of c d e f b) fresh leaves_first
     unfolding leaves_first offer_all X Y
     leaves-first-round = round-of (both_of c d e f b) (tops c d e f b ∷ leaves c d e f b ∷ []) both_bytes (λ m. (λ x. x, λ x. x)) fresh
 
-    tops-first-round : Round (both_of c d e f b) fresh tops_first
+    pub tops-first-round : Round (both_of c d e f b) fresh tops_first
     unfolding tops_first offer_all X Y
     tops-first-round = round-of (both_of c d e f b) (leaves c d e f b ∷ tops c d e f b ∷ []) (λ m i. both_bytes m ((swapped m).1 i)) swapped fresh
 
-    -- all that the two stores and the messages give, the second store holds
-    given-held : (x : Source) → OneOf (both_of c d e f b) leaves_first tops_first x → (l i : ℕ) (v : List ℕ) → Gives x l i v → Holds tops_first l i v
-    unfolding Gives
-    given-held x one l i v g = held_on l i v (rw leaves-dropped at g)
-    given-held x other l i v g = g
-    given-held x (message r m y) l i v g = all_held m y l i v g
-
-    open_is : open_after buffer 81920 16384 (root_of c d e f b) ≡ fresh
+    pub open_is : open_after buffer 81920 16384 (root_of c d e f b) ≡ fresh
     unfolding open_after fresh
     open_is = rw (range, le-leb (store_size 81920) (length buffer) fits)
 
-    opens : (open_answer buffer 81920 16384).number ≡ 0
+    pub opens : (open_answer buffer 81920 16384).number ≡ 0
     unfolding open_answer
     opens = rw (range, le-leb (store_size 81920) (length buffer) fits)
 
-    differ : OneRound (both_of c d e f b) 81920 16384 (root_of c d e f b) leaves_first tops_first
-    unfolding X
-    differ =
-        record {
-          buffer = buffer;
-          bytes = bytes;
-          octets = root-octets;
-          opens = opens;
-          here = rw open_is leaves-first-round;
-          there = rw open_is tops-first-round;
-          lacks = rw leaves-dropped leaf-lacks;
-          v = c;
-          holds = all_held (leaves c d e f b) (later first) 0 0 c leaf-settles;
-          none = λ h x y p q. gives_one tops_first h x y (given-held x p) (given-held y q);
-        }
-
-    -- ONE ROUND ALONE: the store that heard the leaves first dropped them, the other holds them; and no two of stores and messages show a pair
-    pub one-round-alone : (s : List ℕ) × (t : List ℕ) × OneRound (both_of c d e f b) 81920 16384 (root_of c d e f b) s t
-    one-round-alone = (leaves_first, tops_first, differ)
-
--- with every byte said
-pub one-round-of-zeros : (s : List ℕ) × (t : List ℕ) × OneRound (both_of zero_hash zero_hash zero_hash zero_hash zero_hash) 81920 16384 (root_of zero_hash zero_hash zero_hash zero_hash zero_hash) s t
-one-round-of-zeros =
-    one-round-alone zero_hash zero_hash zero_hash zero_hash zero_hash zero-octets zero-octets zero-octets zero-octets zero-octets (blank 81920) (blank-bytes 81920) (blank-room 81920)
+-- what follows, `one-round-alone` and `one-round-of-zeros`, stands in proofs/OneRoundAlone
