@@ -3,10 +3,13 @@
 use Rattle.std.proofs.Common.{arith, ◌+◌, ◌-◌, ◌*◌, length, ◌≡◌, ap, ◌∙◌, ap₂}
 use Rattle.sha256.specs.Sha256Laws.{pair-octets}
 use Rattle.sha256.specs.Sha256.{pair_hash}
-use Rattle.lanes.proofs.Filling.{heap-more, heap-at, heap-then, one_parent}
+use Rattle.lanes.proofs.Filling.{heap-none, heap-more, heap-at, heap-again, heap-then, one_parent}
 use Rattle.lanes.specs.HashesLaws.{parent_in}
 use Rattle.lanes.specs.Hashes.{parent_of}
 use Rattle.lanes.proofs.runs.fill_heap.Goals as goal
+
+pub loop-q-init : goal.loop-q-init
+loop-q-init c = (c.requires.1, omega arith, heap-none _ _ c.requires.0)
 
 pub loop-q-preserved : goal.loop-q-preserved
 loop-q-preserved c = let args = c.args in
@@ -18,6 +21,9 @@ loop-q-preserved c = let args = c.args in
           (omega arith) (omega arith) c.pairs8-p.ensures.size
           (λ j h. c.pairs8-p.ensures.hashes j h ∙ parent_in l.heap q j (64 * q + 512 - 64 * q) h (omega arith)) c.put8.ensures,
     )
+
+pub loop-q-2-init : goal.loop-q-2-init
+loop-q-2-init c = let i = c.loop-q.invariant in (i.0, i.1, heap-again i.2)
 
 pub loop-q-2-preserved : goal.loop-q-2-preserved
 unfolding parent_of
