@@ -37,7 +37,7 @@
  * STACK. Lend calls on a store 48 kB of stack: they were seen to need 45.1 kB, calls with a burst
  * 9.6 kB, calls on a stream below 1 kB, kd_torrent_write 574 kB, kd_torrent_list 222 kB, the other
  * calls on a torrent 156 kB: measured on the largest file, on torrents nested as deep as they may
- * be, and on as many files as one has room for (docs/BENCHMARKS.md).
+ * be, and on as many files as one has room for, with the build that docs/BENCHMARKS.md names.
  *
  * EXAMPLE
  *
