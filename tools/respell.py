@@ -1,13 +1,17 @@
 #!/usr/bin/env python3
-"""Spells the repository's own definitions, fields and variables in snake case, as 'fileSize' to 'file_size', and turns the names in docs/ in step.
+"""Brings the repository's own names to the spelling of today's Rattle, and turns the names in pages in step.
 
-usage: respell.py [--check] [--old COMMIT] [ROOT]      right after port.py, once
-       respell.py --docs [--check] [--old COMMIT] [ROOT]   docs/ and host/*.md alone, at any later time: it may be run again
+usage: respell.py [--check] [--old COMMIT] [ROOT]            right after port.py, once: definitions, fields and variables, then lemmas
+       respell.py --lemmas [--check] [--old COMMIT] [ROOT]   lemmas alone, where the rest is turned already
+       respell.py --docs [--check] [--old COMMIT] [ROOT]     README.md, docs/ and host/*.md alone, at any later time: it may be run again
 
-In crates/ (.antt, .rt, .edit) it turns each lower-camel word; a word whose new spelling stands in the same file already is told ('meets:').
-In docs/ and host/*.md it turns, within backticks, every name that crates/ declared in COMMIT under another spelling than now: those that it
-turns itself and the some 770 that port.py turned ('held-after' to 'held_after'). COMMIT is the newest ancestor whose crates/ have paths of the
-older Rattle. Crate sha1 becomes sha_1, since the kit has a library of that name.
+In crates/ (.antt, .rt, .edit) it turns each lower-camel word to snake case ('fileSize' to 'file_size'); a word whose new spelling stands in the same
+file already is told ('meets:'). Crate sha1 becomes sha_1, since the kit has a library of that name.
+Then the words of each own name are joined by '_' ('held-stays-held' to 'held_stays_held'), lemmas' and those of fields, constructors and variables; a
+name that would meet another one there gets '_lem' behind it ('rules-kept' beside the definition 'rules_kept'). Names of libraries and those that
+Rattle makes of a function's code keep their dashes.
+In README.md, docs/ and host/*.md it turns, within backticks, every name that crates/ declared in COMMIT under another spelling than now, also those that port.py
+turned. COMMIT is the newest ancestor whose crates/ have paths of the older Rattle.
 """
 import collections, difflib, io, os, re, subprocess, sys, tarfile, tempfile
 
@@ -168,8 +172,9 @@ def turn_docs(root, check, commit):
     token = re.compile(r"(?<![\w'/.-])([^\W\d][\w'′₀-₉]*(?:-[\w'′₀-₉]+)*)(?![\w'-])")
     old, name = CRATE
     changed = 0
-    for top in ("docs", "host"):
-        for p in files(root, top, (".md",)):
+    pages = [os.path.join(root, "README.md"), *files(root, "docs", (".md",)), *files(root, "host", (".md",))]
+    for p in pages:
+        if os.path.isfile(p):
             t = read(p)
 
             def span(m):
@@ -184,23 +189,181 @@ def turn_docs(root, check, commit):
     print(f"respell: {len(new)} names under two spellings since {commit[:8]}, {changed} pages")
 
 
+# ---- lemmas
+
+# A name of antt, as it stands among blanks and brackets; its parts are joined by dots.
+CHAIN = re.compile(r"[^\s(){}\[\],;|\"`«»]+")
+DASHES = re.compile(r"[^\W\d_][\w'₀-₉]*(?:-[\w'₀-₉]+)+")
+WITH_DASH = re.compile(r"(?<![\w.'-])" + DASHES.pattern + r"(?![\w'-])")
+USE = re.compile(r"(?ms)^[ \t]*(?:pub |ghost )*use ([^\s{;]+?)(?:\.\{([^}]*)\})?(?: as (\S+?))?;?[ \t]*$")
+# Names that stand in a signature, a `let`, a binder, a clause's arguments.
+BOUND = [
+    re.compile(r"(?m)^( *)((?:(?:abbrev|unfoldable|opaque|pub|private) +)*)(?:(?:data|record) +)?([^\s:(){}\[\],;.=\"]+)(?: +[({][^=\n]*?)? +:(?: |$)"),
+    re.compile(r"\blet ([^\s:=(){},]+) (?::|=)"),
+    re.compile(r"[({]((?:[^\s:(){}\[\],;.=|]+ )+):(?: |$)"),
+    re.compile(r"(?m)^ *[^\s(){}=]+((?: [^\s(){}=]+)+) =(?: |$)"),
+]
+FUNCTION = ("Answers.antt", "Invariants.antt")
+# What Rattle makes of a function's code, below these.
+MADE = ("c", "l", "goal", "tie")
+LOGIC = ("mathlib", "native", "Prim", "lib", "borrow", "denote", "contract", "base")
+
+
+class Page:
+    """A file of antt: what it imports from libraries, which goals it answers, and its own names that have a dash."""
+
+    def __init__(self, root, path):
+        self.root, self.path, self.text = root, path, read(path)
+        self.is_function = os.path.basename(path) in FUNCTION
+        self.library, self.aliases, self.imported, self.modules = set(), set(), set(), set()
+        for path, names, alias in USE.findall(self.text):
+            listed = {w.strip() for n in names.split(",") for w in n.split(" as ") if w.strip()}
+            if self.is_own(path):
+                self.imported |= listed
+                self.modules |= {alias} if alias and not names else set()
+            else:
+                self.library |= listed
+                self.aliases |= {alias} if alias else set()
+        self.goals = set(re.findall(r"(?<![\w.])goal\.([^\s(){}\[\],;.|]+)", self.text)) if self.is_function else set()
+        self.goals |= {n for path, names, _ in USE.findall(self.text) if path.endswith(".Goals") for n in names.replace(" ", "").split(",")}
+        code = "\n".join(parted(l)[0] for l in USE.sub("", self.text).split("\n"))
+        # names with a dash that are bound here: those that only this file can name, and the others
+        self.inner, self.outer = set(), set()
+        depth = None
+        for line in code.split("\n"):
+            found = BOUND[0].match(line)
+            indent = len(line) - len(line.lstrip()) if line.strip() else None
+            if depth is not None and indent is not None and indent <= depth:
+                depth = None
+            if found:
+                marks, name = found[2], found[3]
+                wide = indent == 0 or "pub" in marks or depth is not None
+                (self.outer if wide else self.inner).add(name)
+            if re.match(r" *(?:(?:abbrev|unfoldable|pub|private) +)*(?:data|record) +[^{]", line) and indent is not None and depth is None:
+                depth = indent
+        for pattern in BOUND[1:]:
+            self.inner |= {w for m in pattern.findall(code) for w in m.split()}
+        self.inner -= self.outer
+        keep = lambda names: {n for n in names if DASHES.fullmatch(n)} - self.library - self.goals
+        self.inner, self.outer = keep(self.inner), keep(self.outer)
+        self.dotted, self.plain = set(), set()
+
+    def is_own(self, path):
+        found = re.match(r"Rattle[.·]([a-z0-9_]+)", path)
+        return bool(found) and os.path.isdir(os.path.join(self.root, "crates", found[1]))
+
+    def turned(self, to):
+        """The text with `to(name)` for each name with a dash that is not a library's, nor made by Rattle; `to` may say None."""
+
+        def chain(m):
+            parts = m[0].split(".")
+            head = parts[0]
+            library = head in self.aliases or head in LOGIC or (head == "Rattle" and not self.is_own(m[0]))
+            for i, part in enumerate(parts):
+                if not DASHES.fullmatch(part) or (library and i) or (not i and part in self.library | self.goals):
+                    continue
+                if self.is_function and i == 1 and head in MADE:
+                    continue
+                (self.dotted if i else self.plain).add(part)
+                parts[i] = to(part) or part
+            return ".".join(parts)
+
+        def body(text):
+            lines = []
+            for line in text.split("\n"):
+                code, comment = parted(line)
+                lines.append(CHAIN.sub(chain, code) + quoted(comment, to))
+            return "\n".join(lines)
+
+        out, at = [], 0
+        for m in USE.finditer(self.text):
+            out.append(body(self.text[at : m.start()]))
+            out.append(WITH_DASH.sub(lambda n: n[0] if n[0] in self.goals else to(n[0]) or n[0], m[0]) if self.is_own(m[1]) else m[0])
+            at = m.end()
+        return "".join([*out, body(self.text[at:])])
+
+
+def parted(line):
+    """A line's code and its comment."""
+    m = re.search(r"(^|\s)--(\s|$)", line)
+    return (line[: m.start()], line[m.start() :]) if m else (line, "")
+
+
+def quoted(text, to):
+    """A text with the names within its backticks turned."""
+    return re.sub(r"`([^`]+)`", lambda m: "`" + WITH_DASH.sub(lambda n: to(n[0]) or n[0], m[1]) + "`", text)
+
+
+def turn_lemmas(root, check):
+    pages = [Page(root, p) for p in files(root, "crates", (".antt",)) if not p.endswith("/Proof.antt")]
+    bound = {n for page in pages for n in page.inner | page.outer} | {n for page in pages for n in page.modules if DASHES.fullmatch(n)}
+    for page in pages:
+        page.turned(lambda n: None)
+        page.words = set(re.findall(r"[^\W\d][\w'₀-₉]*", WITH_DASH.sub("", USE.sub(lambda m: (m[2] or "") + " " + (m[3] or ""), page.text))))
+    # A name is one file's own affair where that file binds it, and it is neither imported nor reached by a dot anywhere.
+    wide = {n for page in pages for n in page.outer | page.imported | page.dotted}
+    wide |= {n for page in pages for n in page.plain - page.inner}
+    meets = collections.defaultdict(list)
+    for page in pages:
+        for n in (page.plain | page.dotted | page.imported) & bound:
+            if n.replace("-", "_") in page.words and n not in page.modules:
+                meets[n].append(page)
+    for n in sorted(meets):
+        print(f"meets: {n}, {'everywhere' if n in wide else 'there'} {n.replace('-', '_')}_lem: {', '.join(os.path.relpath(p.path, root) for p in meets[n][:3])}")
+    lost = sorted({n for page in pages for n in page.plain | page.dotted} - bound)
+    if lost:
+        print("left as they are, since no file binds them:", *lost)
+
+    def new(n, page):
+        if n not in bound:
+            return None
+        return n.replace("-", "_") + ("_lem" if n in meets and (n in wide or page in meets[n]) else "")
+
+    changed = 0
+    for page in pages:
+        text = page.turned(lambda n: new(n, page))
+        if text != page.text:
+            changed += 1
+            if not check:
+                write(page.path, text)
+    for p in files(root, "crates", (".edit",)):
+        text = read(p)
+        turned = "\n".join(
+            quoted(l, lambda n: new(n, None)) if re.match(r"#|first: |twin: ", l) and not re.match(r"# refused: ", l)
+            else re.sub(r"(?<![\w'-])" + DASHES.pattern + r"(?![\w'-])", lambda m: (None if re.search(r" fn \S+ \S*$", l[: m.start()] ) else new(m[0], None)) or m[0], l)
+            if not l.startswith(("# edit: ", "# with: ", "edit: "))
+            else l
+            for l in text.split("\n")
+        )
+        if turned != text:
+            changed += 1
+            if not check:
+                write(p, turned)
+    print(f"respell: {len(bound)} names with a dash, {len(meets)} of them meet another name, {changed} files of crates/")
+
+
 def main(argv):
-    check, docs, commit, rest = False, False, None, []
+    check, docs, lemmas, commit, rest = False, False, False, None, []
     while argv:
         a = argv.pop(0)
         if a == "--check":
             check = True
         elif a == "--docs":
             docs = True
+        elif a == "--lemmas":
+            lemmas = True
         elif a == "--old":
             commit = argv.pop(0)
         else:
             rest.append(a)
     root = rest[0] if rest else "."
-    if not docs and os.path.isdir(os.path.join(root, "crates", CRATE[1])):
+    if lemmas:
+        turn_lemmas(root, check)
+    elif not docs and os.path.isdir(os.path.join(root, "crates", CRATE[1])):
         sys.exit(f"respell: crates/{CRATE[1]} is there, so crates/ are turned already (a second time would take new names for lemmas): --docs turns docs/ alone")
-    if not docs:
+    elif not docs:
         turn_crates(root, check)
+        turn_lemmas(root, check)
     turn_docs(root, check, commit or before(root))
 
 

@@ -4,7 +4,7 @@ use Rattle.std.specs.Prelude.{◌≡◌, refl, List, ℕ, ◌-◌, ◌≤◌, le
 use Rattle.std.proofs.Common.{sym, ap, ◌∙◌, eq-eqb, ne_eqb}
 use Rattle.bencode.specs.Scalar.{read_string}
 use Rattle.bencode.specs.Parts.{find_key}
-use Rattle.bencode.specs.EndsLaws.{string-ends}
+use Rattle.bencode.specs.EndsLaws.{string_ends}
 use Rattle.bencode.specs.declared.scalar.ByteString.{ByteString}
 use Rattle.bencode.specs.declared.scalar.ByteString.TheVariants.{Content, NoString}
 use Rattle.bencode.specs.declared.parts.Found.{Found}
@@ -12,47 +12,47 @@ use Rattle.bencode.specs.declared.parts.Found.TheVariants.{Part, Missing}
 use Rattle.writer_meaning.specs.Content.{key_name}
 use Rattle.layers.specs.Layers.{Inside, string_in}
 use Rattle.torrent.specs.Torrent.{checked_of, no_part_read}
-use Rattle.torrent.specs.CheckLaws.{checked-so}
+use Rattle.torrent.specs.CheckLaws.{checked_so}
 use Rattle.torrent.specs.declared.check.Checked.{Checked}
 use Rattle.torrent.specs.declared.read.PartRead.{PartRead}
 use Rattle.about.specs.About.{content_part, name_from, info_read, name_read}
 
-pub name-found : (s : List ℕ) (at : ℕ) (w : Found) → find_key key_name at (drop at s) ≡ w → string_in s w ≡ name_from s at
+pub name_found : (s : List ℕ) (at : ℕ) (w : Found) → find_key key_name at (drop at s) ≡ w → string_in s w ≡ name_from s at
 unfolding name_from
-name-found s at w e = sym (ap (string_in s) e)
+name_found s at w e = sym (ap (string_in s) e)
 
 -- a name lies within the bytes
-name-inside : (s : List ℕ) (at : ℕ) → Inside (length s) (name_from s at)
+name_inside : (s : List ℕ) (at : ℕ) → Inside (length s) (name_from s at)
 unfolding name_from
-name-inside s at = by-found (find_key key_name at (drop at s))
+name_inside s at = by_found (find_key key_name at (drop at s))
   where
-    by-string : (a : ℕ) (w : ByteString) → read_string a (drop a s) ≡ w → Inside (length s) w
-    by-string a NoString e = tt
-    by-string a (Content x y) e = let p = string-ends a s x y e in (p.1, p.2)
+    by_string : (a : ℕ) (w : ByteString) → read_string a (drop a s) ≡ w → Inside (length s) w
+    by_string a NoString e = tt
+    by_string a (Content x y) e = let p = string_ends a s x y e in (p.1, p.2)
 
-    by-found : (w : Found) → Inside (length s) (string_in s w)
-    by-found Missing = tt
-    by-found (Part a b) = by-string a (read_string a (drop a s)) refl
+    by_found : (w : Found) → Inside (length s) (string_in s w)
+    by_found Missing = tt
+    by_found (Part a b) = by_string a (read_string a (drop a s)) refl
 
-pub name-order : (s : List ℕ) (at : ℕ) (w : ByteString) (a b : ℕ) → w ≡ name_from s at → w ≡ Content a b → (a ≤ b) × (b ≤ length s)
-name-order s at w a b e f = rw (sym e ∙ f) at (name-inside s at)
+pub name_order : (s : List ℕ) (at : ℕ) (w : ByteString) (a b : ℕ) → w ≡ name_from s at → w ≡ Content a b → (a ≤ b) × (b ≤ length s)
+name_order s at w a b e f = rw (sym e ∙ f) at (name_inside s at)
 
 module _ (s : List ℕ) (c : Checked) (e : c ≡ checked_of s) where
-  pub info-refused : (c.keys.number ≡ 0 → ⊥) → no_part_read c.keys.number ≡ info_read s
+  pub info_refused : (c.keys.number ≡ 0 → ⊥) → no_part_read c.keys.number ≡ info_read s
   unfolding info_read
-  info-refused h = rw (sym e) (simp (ne_eqb c.keys.number 0 h))
+  info_refused h = rw (sym e) (simp (ne_eqb c.keys.number 0 h))
 
-  pub name-refused : (c.keys.number ≡ 0 → ⊥) → no_part_read c.keys.number ≡ name_read s
+  pub name_refused : (c.keys.number ≡ 0 → ⊥) → no_part_read c.keys.number ≡ name_read s
   unfolding name_read
-  name-refused h = rw (sym e) (simp (ne_eqb c.keys.number 0 h))
+  name_refused h = rw (sym e) (simp (ne_eqb c.keys.number 0 h))
 
   module _ (h : c.keys.number ≡ 0) where
-    pub info-order : c.keys.info.start ≤ c.keys.info.end
-    info-order = (checked-so s c e h).opened.info-forward
+    pub info_order : c.keys.info.start ≤ c.keys.info.end
+    info_order = (checked_so s c e h).opened.info_forward
 
-    pub info-done : ◌≡◌ {A = PartRead} (record { number = c.keys.number; start = c.keys.info.start; size = c.keys.info.end - c.keys.info.start }) (info_read s)
+    pub info_done : ◌≡◌ {A = PartRead} (record { number = c.keys.number; start = c.keys.info.start; size = c.keys.info.end - c.keys.info.start }) (info_read s)
     unfolding info_read
-    info-done = rw (sym e) (simp (eq-eqb c.keys.number 0 h) (rw h refl))
+    info_done = rw (sym e) (simp (eq-eqb c.keys.number 0 h) (rw h refl))
 
     pub name_done : (w v : ByteString) → w ≡ name_from s c.keys.info.start → w ≡ v → content_part v ≡ name_read s
     unfolding name_read

@@ -10,14 +10,14 @@ use Rattle.std.proofs.Math.Decide.{ℕ_discrete}
 use Rattle.std.proofs.Math.ListN.{length, drop, length-append}
 use Rattle.limits.specs.Limits.{max_levels}
 use Rattle.octets.specs.Octets.{cut}
-use Rattle.octets.specs.OctetsLaws.{cut-length}
+use Rattle.octets.specs.OctetsLaws.{cut_length}
 use Rattle.numbers.specs.Numbers.{no_such_part}
 use Rattle.sha256.specs.Sha256.{sha256}
 use Rattle.bencode.specs.Grammar.{colon, Value, integer, string, list, dictionary, Entries, decimal, encode_string, encode, Valid}
 use Rattle.bencode.specs.Parts.{find_key, FoundIs, Lookup, absent, present, lookup}
-use Rattle.bencode.specs.PartsLaws.{part-front, string_of, content-is, find-is}
+use Rattle.bencode.specs.PartsLaws.{part_front, string_of, content_is, find_is}
 use Rattle.bencode.specs.CompleteLaws.{content_start}
-use Rattle.bencode.specs.DepthLaws.{more-levels}
+use Rattle.bencode.specs.DepthLaws.{more_levels}
 use Rattle.bencode.specs.declared.scalar.ByteString.{ByteString}
 use Rattle.bencode.specs.declared.scalar.ByteString.TheVariants.{Content, NoString}
 use Rattle.bencode.specs.declared.parts.Found.{Found}
@@ -27,20 +27,20 @@ use Rattle.writer_meaning.specs.Content.{key_name}
 use Rattle.metainfo.specs.Metainfo.{bytes_in}
 use Rattle.metainfo.specs.declared.Keys.{Keys}
 use Rattle.layers.specs.Layers.{string_in}
-use Rattle.joined.specs.FileLaws.{string-there}
+use Rattle.joined.specs.FileLaws.{string_there}
 use Rattle.halves.specs.V1Keys.{key_pieces}
 use Rattle.torrent.specs.Torrent.{v2_checked_of, checked_of, read_of, no_part_read}
 use Rattle.torrent.specs.Answers.{Says, PartIs}
-use Rattle.torrent.specs.CheckLaws.{checked-whole}
-use Rattle.torrent.specs.NumberMeans.{read_number_lem, read-encodes}
-use Rattle.torrent.specs.ReadMeans.{number-zero, same_keys, at-values, torrent-is, info-valid}
+use Rattle.torrent.specs.CheckLaws.{checked_whole}
+use Rattle.torrent.specs.NumberMeans.{read_number_lem, read_encodes}
+use Rattle.torrent.specs.ReadMeans.{number_zero, same_keys, at_values, torrent_is, info_valid}
 use Rattle.torrent.specs.HalvesMeans.{as_before}
 use Rattle.torrent.specs.declared.read.PartRead.{PartRead}
 use Rattle.calls.specs.Calls.{PathOutcome, done as path_done, bad_torrent as path_refused, no_element}
-use Rattle.calls.specs.CallsLaws.{checked-ranged, of-torrent, not-zero}
-use Rattle.calls.specs.EachNumber.{read-exactly}
+use Rattle.calls.specs.CallsLaws.{checked_ranged, of_torrent, not_zero}
+use Rattle.calls.specs.EachNumber.{read_exactly}
 use Rattle.about.specs.About.{content_part, name_from, info_in, info_read, name_in, name_read}
-use Rattle.about.proofs.AboutLaws.{info-done, info-refused, name_done, name-refused}
+use Rattle.about.proofs.AboutLaws.{info_done, info_refused, name_done, name_refused}
 
 -- `info` of a torrent has a string `name`
 abbrev pub Named : Entries → Type 0
@@ -57,22 +57,22 @@ NameIs s r (present (list vs)) = r ≡ no_part_read no_such_part
 NameIs s r (present (dictionary es)) = r ≡ no_part_read no_such_part
 
 -- a string that stands from a to k
-string-part : (s : List ℕ) (a k : ℕ) (b : List ℕ) → cut s a (k - a) ≡ encode (string b) → PartIs s b (content_part (Content (content_start a b) (a + length (encode_string b))))
-string-part s a k b e =
+string_part : (s : List ℕ) (a k : ℕ) (b : List ℕ) → cut s a (k - a) ≡ encode (string b) → PartIs s b (content_part (Content (content_start a b) (a + length (encode_string b))))
+string_part s a k b e =
     let front : encode (string b) ≡ encode_string b = unfold encode in refl in
-    let there : drop a s ≡ encode_string b ++ drop (k - a) (drop a s) = part-front s a k (string b) e ∙ ap (λ (z : List ℕ). z ++ drop (k - a) (drop a s)) front in
+    let there : drop a s ≡ encode_string b ++ drop (k - a) (drop a s) = part_front s a k (string b) e ∙ ap (λ (z : List ℕ). z ++ drop (k - a) (drop a s)) front in
     let la = length-append (decimal (length b)) (colon ∷ b) in
     let size : a + length (encode_string b) - content_start a b ≡ length b = omega arith in
-    record { number = refl; size = size; bytes = content-is s b (drop (k - a) (drop a s)) a there }
+    record { number = refl; size = size; bytes = content_is s b (drop (k - a) (drop a s)) a there }
 
 found_name : (s : List ℕ) (w : Found) (x : Lookup) → FoundIs s w x → NameIs s (content_part (string_in s w)) x
 found_name s Missing absent f = refl
 found_name s Missing (present v) f = absurd f
 found_name s (Part a k) absent f = absurd f
-found_name s (Part a k) (present v) f = subst (λ (r : ByteString). NameIs s (content_part r) (present v)) (sym (string-there s a k v f)) (by v f)
+found_name s (Part a k) (present v) f = subst (λ (r : ByteString). NameIs s (content_part r) (present v)) (sym (string_there s a k v f)) (by v f)
   where
     by : (v : Value) → cut s a (k - a) ≡ encode v → NameIs s (content_part (string_of a v)) (present v)
-    by (string b) e = string-part s a k b e
+    by (string b) e = string_part s a k b e
     by (integer minus n) e = refl
     by (list vs) e = refl
     by (dictionary es) e = refl
@@ -81,7 +81,7 @@ found_name s (Part a k) (present v) f = subst (λ (r : ByteString). NameIs s (co
 
 module _ (s : List ℕ) (es : Entries) (start : s ≡ encode (dictionary es)) (valid : Valid (dictionary es) max_levels) (taken : (read_of s).number ≡ 0) where
   zero : (checked_of s).keys.number ≡ 0
-  zero = number-zero s es start valid taken
+  zero = number_zero s es start valid taken
 
   abbrev from : ℕ
   from = (checked_of s).keys.info.start
@@ -89,42 +89,42 @@ module _ (s : List ℕ) (es : Entries) (start : s ≡ encode (dictionary es)) (v
   abbrev upto : ℕ
   upto = (checked_of s).keys.info.end
 
-  info-bytes : cut s from (upto - from) ≡ encode (dictionary (info_of es))
-  info-bytes = ap (λ (k : Keys). bytes_in s k.info) (same_keys s es start valid taken) ∙ (at-values s es start valid taken).info-bytes
+  info_bytes : cut s from (upto - from) ≡ encode (dictionary (info_of es))
+  info_bytes = ap (λ (k : Keys). bytes_in s k.info) (same_keys s es start valid taken) ∙ (at_values s es start valid taken).info_bytes
 
-  info-size : upto - from ≡ length (encode (dictionary (info_of es)))
-  info-size =
-      let o = (checked-whole s zero).opened in
-      let a = o.info-forward in
-      let b = o.info-within in
-      sym (cut-length s from (upto - from) (omega arith)) ∙ ap length info-bytes
+  info_size : upto - from ≡ length (encode (dictionary (info_of es)))
+  info_size =
+      let o = (checked_whole s zero).opened in
+      let a = o.info_forward in
+      let b = o.info_within in
+      sym (cut_length s from (upto - from) (omega arith)) ∙ ap length info_bytes
 
   -- THE PART OF `info` is its whole encoded value,
-  pub info-part : PartIs s (encode (dictionary (info_of es))) (info_read s)
-  info-part = rw (sym (info-done s (checked_of s) refl zero)) (record { number = zero; size = info-size; bytes = info-bytes })
+  pub info_part : PartIs s (encode (dictionary (info_of es))) (info_read s)
+  info_part = rw (sym (info_done s (checked_of s) refl zero)) (record { number = zero; size = info_size; bytes = info_bytes })
 
   -- and the info hash is SHA-256 of these bytes
-  pub info-hash-of-part : (read_of s).hash ≡ sha256 (cut s (info_read s).start (info_read s).size)
-  info-hash-of-part = let p = (torrent-is s es start valid taken).info-stands in p.3 ∙ ap sha256 (p.2 ∙ sym info-part.bytes)
+  pub info_hash_of_part : (read_of s).hash ≡ sha256 (cut s (info_read s).start (info_read s).size)
+  info_hash_of_part = let p = (torrent_is s es start valid taken).info_stands in p.3 ∙ ap sha256 (p.2 ∙ sym info_part.bytes)
 
   -- what `name` is found as
-  name-is : NameIs s (name_read s) (lookup key_name (info_of es))
-  name-is =
-      let deep = more-levels (dictionary (info_of es)) (max_levels - 1) max_levels (omega arith) (info-valid es valid (at-values s es start valid taken).info-value) in
-      let there = part-front s from upto (dictionary (info_of es)) info-bytes in
-      let found = find-is key_name s from (info_of es) (drop (upto - from) (drop from s)) there deep in
-      rw (sym (name_done s (checked_of s) refl zero (name_from s from) (name_from s from) refl refl)) (as-found (found_name s (find_key key_name from (drop from s)) (lookup key_name (info_of es)) found))
+  name_is : NameIs s (name_read s) (lookup key_name (info_of es))
+  name_is =
+      let deep = more_levels (dictionary (info_of es)) (max_levels - 1) max_levels (omega arith) (info_valid es valid (at_values s es start valid taken).info_value) in
+      let there = part_front s from upto (dictionary (info_of es)) info_bytes in
+      let found = find_is key_name s from (info_of es) (drop (upto - from) (drop from s)) there deep in
+      rw (sym (name_done s (checked_of s) refl zero (name_from s from) (name_from s from) refl refl)) (as_found (found_name s (find_key key_name from (drop from s)) (lookup key_name (info_of es)) found))
     where
-      as-found : NameIs s (content_part (string_in s (find_key key_name from (drop from s)))) (lookup key_name (info_of es)) → NameIs s (content_part (name_from s from)) (lookup key_name (info_of es))
-      as-found x = unfold name_from in x
+      as_found : NameIs s (content_part (string_in s (find_key key_name from (drop from s)))) (lookup key_name (info_of es)) → NameIs s (content_part (name_from s from)) (lookup key_name (info_of es))
+      as_found x = unfold name_from in x
 
   -- THE PART OF `name` is the string's content,
-  pub name-part : (b : List ℕ) → lookup key_name (info_of es) ≡ present (string b) → PartIs s b (name_read s)
-  name-part b e = rw e at name-is
+  pub name_part : (b : List ℕ) → lookup key_name (info_of es) ≡ present (string b) → PartIs s b (name_read s)
+  name_part b e = rw e at name_is
 
   -- and where `info` has no string `name` it is 29
   pub no_name : (Named es → ⊥) → name_read s ≡ no_part_read no_such_part
-  no_name g = by (lookup key_name (info_of es)) refl name-is
+  no_name g = by (lookup key_name (info_of es)) refl name_is
     where
       by : (x : Lookup) → lookup key_name (info_of es) ≡ x → NameIs s (name_read s) x → name_read s ≡ no_part_read no_such_part
       by absent e w = w
@@ -136,43 +136,43 @@ module _ (s : List ℕ) (es : Entries) (start : s ≡ encode (dictionary es)) (v
 -- ---- each number exactly when
 
 -- kd_torrent_info has the torrent's own number: 19 to 28 and 31, the lowest, or 0
-pub info-number : (s : List ℕ) → (info_read s).number ≡ (read_of s).number
-info-number s =
+pub info_number : (s : List ℕ) → (info_read s).number ≡ (read_of s).number
+info_number s =
     elim (ℕ_discrete (checked_of s).keys.number 0) [
-      | yes z ↦ sym (ap (λ (r : PartRead). r.number) (info-done s (checked_of s) refl z)) ∙ sym (read_number_lem s)
-      | no g ↦ sym (ap (λ (r : PartRead). r.number) (info-refused s (checked_of s) refl g)) ∙ sym (read_number_lem s)
+      | yes z ↦ sym (ap (λ (r : PartRead). r.number) (info_done s (checked_of s) refl z)) ∙ sym (read_number_lem s)
+      | no g ↦ sym (ap (λ (r : PartRead). r.number) (info_refused s (checked_of s) refl g)) ∙ sym (read_number_lem s)
     ]
 
-pub info-exactly : (s : List ℕ) (n : ℕ) → ((info_read s).number ≡ n) ↔ Says s n
-info-exactly s n = let w = read-exactly s n in (λ e. w.0 (sym (info-number s) ∙ e), λ x. info-number s ∙ w.1 x)
+pub info_exactly : (s : List ℕ) (n : ℕ) → ((info_read s).number ≡ n) ↔ Says s n
+info_exactly s n = let w = read_exactly s n in (λ e. w.0 (sym (info_number s) ∙ e), λ x. info_number s ∙ w.1 x)
 
 -- the name of a torrent that is not refused
 by_name : (s : List ℕ) → (checked_of s).keys.number ≡ 0 → (w : ByteString) → name_from s (checked_of s).keys.info.start ≡ w → name_read s ≡ content_part w
 by_name s z w e = sym (name_done s (checked_of s) refl z (name_from s (checked_of s).keys.info.start) w refl e)
 
 -- kd_torrent_name: 29 after all of 19 to 28 and 31, exactly where `info` has no string `name`,
-pub name-29 : (s : List ℕ) → ((name_read s).number ≡ no_such_part)
+pub name_29 : (s : List ℕ) → ((name_read s).number ≡ no_such_part)
     ↔ (((read_of s).number ≡ 0) × ((es : Entries) → s ≡ encode (dictionary es) → Valid (dictionary es) max_levels → Named es → ⊥))
-name-29 s = (
-  λ e. let z = after e in (z, λ es q v n. (let p = (name-part s es q v z n.0 n.1).number in let w : ⊥ = omega arith in w)),
-  λ p. (let v = (read-encodes s p.0).1 in ap (λ (r : PartRead). r.number) (no_name s v.0 v.2 v.1 p.0 (p.1 v.0 v.2 v.1))),
+name_29 s = (
+  λ e. let z = after e in (z, λ es q v n. (let p = (name_part s es q v z n.0 n.1).number in let w : ⊥ = omega arith in w)),
+  λ p. (let v = (read_encodes s p.0).1 in ap (λ (r : PartRead). r.number) (no_name s v.0 v.2 v.1 p.0 (p.1 v.0 v.2 v.1))),
 )
   where
     after : (name_read s).number ≡ no_such_part → (read_of s).number ≡ 0
     after e =
-        elim (checked-ranged s) [
+        elim (checked_ranged s) [
           | inl z ↦ read_number_lem s ∙ z
           | inr p ↦
-              let f = ap (λ (r : PartRead). r.number) (name-refused s (checked_of s) refl (not-zero (checked_of s).keys.number p)) in
-              absurd ((of-torrent (checked_of s).keys.number p).1 (f ∙ e))
+              let f = ap (λ (r : PartRead). r.number) (name_refused s (checked_of s) refl (not_zero (checked_of s).keys.number p)) in
+              absurd ((of_torrent (checked_of s).keys.number p).1 (f ∙ e))
         ]
 
 -- and every other number is the torrent's own
-pub name-number : (s : List ℕ) → ((name_read s).number ≡ no_such_part → ⊥) → (name_read s).number ≡ (read_of s).number
-name-number s h =
+pub name_number : (s : List ℕ) → ((name_read s).number ≡ no_such_part → ⊥) → (name_read s).number ≡ (read_of s).number
+name_number s h =
     elim (ℕ_discrete (checked_of s).keys.number 0) [
       | yes z ↦ by z (name_from s (checked_of s).keys.info.start) refl
-      | no g ↦ sym (ap (λ (r : PartRead). r.number) (name-refused s (checked_of s) refl g)) ∙ sym (read_number_lem s)
+      | no g ↦ sym (ap (λ (r : PartRead). r.number) (name_refused s (checked_of s) refl g)) ∙ sym (read_number_lem s)
     ]
   where
     by : (checked_of s).keys.number ≡ 0 → (w : ByteString) → name_from s (checked_of s).keys.info.start ≡ w → (name_read s).number ≡ (read_of s).number
@@ -181,18 +181,18 @@ name-number s h =
 
 -- ---- which answers there are: done; or the torrent's number beside zeros; or 29 beside zeros
 
-pub info-outcome : (s : List ℕ) → PathOutcome (info_read s)
-info-outcome s =
-    elim (checked-ranged s) [
-      | inl z ↦ path_done (info_read s) (info-number s ∙ read_number_lem s ∙ z)
-      | inr p ↦ rw (sym (info-refused s (checked_of s) refl (not-zero (checked_of s).keys.number p))) (path_refused (checked_of s).keys.number p)
+pub info_outcome : (s : List ℕ) → PathOutcome (info_read s)
+info_outcome s =
+    elim (checked_ranged s) [
+      | inl z ↦ path_done (info_read s) (info_number s ∙ read_number_lem s ∙ z)
+      | inr p ↦ rw (sym (info_refused s (checked_of s) refl (not_zero (checked_of s).keys.number p))) (path_refused (checked_of s).keys.number p)
     ]
 
-pub name-outcome : (s : List ℕ) → PathOutcome (name_read s)
-name-outcome s =
-    elim (checked-ranged s) [
+pub name_outcome : (s : List ℕ) → PathOutcome (name_read s)
+name_outcome s =
+    elim (checked_ranged s) [
       | inl z ↦ by z (name_from s (checked_of s).keys.info.start) refl
-      | inr p ↦ rw (sym (name-refused s (checked_of s) refl (not-zero (checked_of s).keys.number p))) (path_refused (checked_of s).keys.number p)
+      | inr p ↦ rw (sym (name_refused s (checked_of s) refl (not_zero (checked_of s).keys.number p))) (path_refused (checked_of s).keys.number p)
     ]
   where
     by : (checked_of s).keys.number ≡ 0 → (w : ByteString) → name_from s (checked_of s).keys.info.start ≡ w → PathOutcome (name_read s)
@@ -202,10 +202,10 @@ name-outcome s =
 -- ---- 02, request 12: of a pure v2 torrent both are as by its v2 half alone
 
 module _ (s : List ℕ) (es : Entries) (start : s ≡ encode (dictionary es)) (valid : Valid (dictionary es) max_levels) (pure : lookup key_pieces (info_of es) ≡ absent) where
-  pub info-as-before : info_read s ≡ info_in (v2_checked_of s)
+  pub info_as_before : info_read s ≡ info_in (v2_checked_of s)
   unfolding info_read
-  info-as-before = ap info_in (as_before s es start valid pure)
+  info_as_before = ap info_in (as_before s es start valid pure)
 
-  pub name-as-before : name_read s ≡ name_in s (v2_checked_of s)
+  pub name_as_before : name_read s ≡ name_in s (v2_checked_of s)
   unfolding name_read
-  name-as-before = ap (name_in s) (as_before s es start valid pure)
+  name_as_before = ap (name_in s) (as_before s es start valid pure)

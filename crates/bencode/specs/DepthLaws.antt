@@ -1,5 +1,5 @@
 -- When the walk finds bytes too deep: where they begin with a stem, which opens every level that is left after nothing but what is
--- strict, and then open one more (`deep-complete`, `deep-sound`). A stem can go on, with the levels or with one more (`filled`).
+-- strict, and then open one more (`deep_complete`, `deep_sound`). A stem can go on, with the levels or with one more (`filled`).
 -- Assumes nothing.
 use Rattle.std.specs.Prelude.{◌≡◌, refl, ◌⊎◌, true, drop, eqb}
 use Rattle.std.proofs.Common.{sym, ◌∙◌, inl, inr, arith, eqb-true}
@@ -11,9 +11,9 @@ use Rattle.std.proofs.Math.Seq.{drop-append_seam}
 use Rattle.bencode.specs.Grammar.{letter_d, letter_e, letter_i, letter_l, Value, integer, string, list, dictionary, Items, no_items, item, Entries, no_entries, entry, encode_string, encode, encode_items, encode_entries, KeyBefore, none, after, ascends, Valid, ItemsValid, EntriesValid}
 use Rattle.bencode.specs.Scalar.{read_string, read_signed}
 use Rattle.bencode.specs.Walk.{past_integer, past_string, onward, with_key, end_or, between, read_key, walk_items, walk_entries, walk_list, walk_dictionary, by_first, walk_value}
-use Rattle.bencode.specs.CondLaws.{cond-case}
-use Rattle.bencode.specs.CompleteLaws.{complete, NoEnd, value-no-end, string-no-end, value-some, string-some, items-one, entries-one, key-read, past-part, walk-list, walk-dictionary, list-bytes, dictionary-bytes}
-use Rattle.bencode.specs.SoundLaws.{Begins, ValueIs, rest-is, value-sound, KeyIs, key-sound}
+use Rattle.bencode.specs.CondLaws.{cond_case}
+use Rattle.bencode.specs.CompleteLaws.{complete, NoEnd, value_no_end, string_no_end, value_some, string_some, items_one, entries_one, key_read, past_part, walk_list_lem, walk_dictionary_lem, list_bytes, dictionary_bytes}
+use Rattle.bencode.specs.SoundLaws.{Begins, ValueIs, rest_is, value_sound, KeyIs, key_sound}
 use Rattle.bencode.specs.declared.scalar.ByteString.{ByteString}
 use Rattle.bencode.specs.declared.scalar.ByteString.TheVariants.{Content, NoString}
 use Rattle.bencode.specs.declared.scalar.Integer.{Integer}
@@ -64,60 +64,60 @@ Opening c = (c ≡ letter_l) ⊎ (c ≡ letter_d)
 abbrev pub OpensTooDeep : ℕ → List ℕ → Type 0
 OpensTooDeep l xs = (st : Stem l) × (c : ℕ) × (r : List ℕ) × StemValid st × Opening c × (xs ≡ begun st ++ c ∷ r)
 
-opens-here : (c : ℕ) (r : List ℕ) → Opening c → OpensTooDeep 0 (c ∷ r)
+opens_here : (c : ℕ) (r : List ℕ) → Opening c → OpensTooDeep 0 (c ∷ r)
 unfolding begun StemValid
-opens-here c r o = (here, c, r, tt, o, refl)
+opens_here c r o = (here, c, r, tt, o, refl)
 
 -- ---- the walk finds them too deep
 
 -- such bytes begin with an `l` or a `d`
-begins-open : {l : ℕ} (st : Stem l) (c : ℕ) (r : List ℕ) → Opening c → (o : ℕ) × (q : List ℕ) × Opening o × (begun st ++ c ∷ r ≡ o ∷ q)
+begins_open : {l : ℕ} (st : Stem l) (c : ℕ) (r : List ℕ) → Opening c → (o : ℕ) × (q : List ℕ) × Opening o × (begun st ++ c ∷ r ≡ o ∷ q)
 unfolding begun
-begins-open here c r o = (c, r, o, refl)
-begins-open (in_list vs st) c r o = (letter_l, _, inl refl, refl)
-begins-open (in_dictionary es k st) c r o = (letter_d, _, inr refl, refl)
+begins_open here c r o = (c, r, o, refl)
+begins_open (in_list vs st) c r o = (letter_l, _, inl refl, refl)
+begins_open (in_dictionary es k st) c r o = (letter_d, _, inr refl, refl)
 
-open-no-end : (o : ℕ) (q : List ℕ) → Opening o → (at : ℕ) (w : Walked) → end_or at (o ∷ q) w ≡ w
+open_no_end : (o : ℕ) (q : List ℕ) → Opening o → (at : ℕ) (w : Walked) → end_or at (o ∷ q) w ≡ w
 unfolding end_or
-open-no-end o q (inl e) at w = rw e
-open-no-end o q (inr e) at w = rw e
+open_no_end o q (inl e) at w = rw e
+open_no_end o q (inr e) at w = rw e
 
 module _ (l : ℕ) (o : ℕ) (q : List ℕ) (opens : Opening o) (deep : (at : ℕ) → walk_value l at (o ∷ q) ≡ TooDeep) where
-  items-deep : (vs : Items) (f at : ℕ) → ItemsValid vs l → length (begun_items vs ++ o ∷ q) ≤ f → walk_items (walk_value l) f at (begun_items vs ++ o ∷ q) ≡ TooDeep
+  items_deep : (vs : Items) (f at : ℕ) → ItemsValid vs l → length (begun_items vs ++ o ∷ q) ≤ f → walk_items (walk_value l) f at (begun_items vs ++ o ∷ q) ≡ TooDeep
   unfolding begun_items Valid walk_items
-  items-deep no_items zero at h g = absurd (omega arith)
-  items-deep no_items (suc f) at h g = open-no-end o q opens at _ ∙ rw (deep at)
-  items-deep (item v vs) zero at h g = absurd (omega (arith, length-append (encode v ++ begun_items vs) (o ∷ q)))
-  items-deep (item v vs) (suc f) at h g =
+  items_deep no_items zero at h g = absurd (omega arith)
+  items_deep no_items (suc f) at h g = open_no_end o q opens at _ ∙ rw (deep at)
+  items_deep (item v vs) zero at h g = absurd (omega (arith, length-append (encode v ++ begun_items vs) (o ∷ q)))
+  items_deep (item v vs) (suc f) at h g =
       let la = length-append (encode v ++ begun_items vs) (o ∷ q) in
       let lb = length-append (encode v) (begun_items vs) in
       let lc = length-append (begun_items vs) (o ∷ q) in
-      let sv = value-some v in
+      let sv = value_some v in
       rw append_assoc
-      (items-one (walk_value l) f at (encode v) (begun_items vs ++ o ∷ q) (value-no-end v) (complete v l at (begun_items vs ++ o ∷ q) h.0)
-      ∙ items-deep vs f (at + length (encode v)) h.1 (omega arith))
+      (items_one (walk_value l) f at (encode v) (begun_items vs ++ o ∷ q) (value_no_end v) (complete v l at (begun_items vs ++ o ∷ q) h.0)
+      ∙ items_deep vs f (at + length (encode v)) h.1 (omega arith))
 
-  entries-deep : (es : Entries) (j : KeyBefore) (f at : ℕ) (k : List ℕ) → EntriesValid es j l → ascends (last_key j es) k ≡ true
+  entries_deep : (es : Entries) (j : KeyBefore) (f at : ℕ) (k : List ℕ) → EntriesValid es j l → ascends (last_key j es) k ≡ true
       → length (begun_entries es ++ (encode_string k ++ o ∷ q)) ≤ f → walk_entries (walk_value l) f j at (begun_entries es ++ (encode_string k ++ o ∷ q)) ≡ TooDeep
   unfolding begun_entries last_key Valid walk_entries NoEnd
-  entries-deep no_entries j zero at k h a g = absurd (omega (arith, length-append (encode_string k) (o ∷ q)))
-  entries-deep no_entries j (suc f) at k h a g =
-      string-no-end k at (o ∷ q) _
-      ∙ rw (key-read at k (o ∷ q) j a) (rw (past-part at (encode_string k) (o ∷ q), deep (at + length (encode_string k))) refl)
-  entries-deep (entry i v es) j zero at k h a g =
+  entries_deep no_entries j zero at k h a g = absurd (omega (arith, length-append (encode_string k) (o ∷ q)))
+  entries_deep no_entries j (suc f) at k h a g =
+      string_no_end k at (o ∷ q) _
+      ∙ rw (key_read at k (o ∷ q) j a) (rw (past_part at (encode_string k) (o ∷ q), deep (at + length (encode_string k))) refl)
+  entries_deep (entry i v es) j zero at k h a g =
       absurd (omega (arith, length-append (encode_string i ++ (encode v ++ begun_entries es)) (encode_string k ++ o ∷ q), length-append (encode_string k) (o ∷ q)))
-  entries-deep (entry i v es) j (suc f) at k h a g =
+  entries_deep (entry i v es) j (suc f) at k h a g =
       let behind = encode_string k ++ o ∷ q in
       let la = length-append (encode_string i ++ (encode v ++ begun_entries es)) behind in
       let lb = length-append (encode_string i) (encode v ++ begun_entries es) in
       let lc = length-append (encode v) (begun_entries es) in
       let ld = length-append (begun_entries es) behind in
-      let si = string-some i in
+      let si = string_some i in
       let s : (encode_string i ++ (encode v ++ begun_entries es)) ++ behind ≡ encode_string i ++ (encode v ++ (begun_entries es ++ behind)) =
       append_assoc (encode_string i) (encode v ++ begun_entries es) behind ∙ ap (λ (t : List ℕ). encode_string i ++ t) (append_assoc (encode v) (begun_entries es) behind) in
       rw s
-      (entries-one (walk_value l) f at j i (encode v) (begun_entries es ++ behind) h.0 (complete v l (at + length (encode_string i)) (begun_entries es ++ behind) h.1)
-      ∙ entries-deep es (after i) f (at + length (encode_string i) + length (encode v)) k h.2 a (omega arith))
+      (entries_one (walk_value l) f at j i (encode v) (begun_entries es ++ behind) h.0 (complete v l (at + length (encode_string i)) (begun_entries es ++ behind) h.1)
+      ∙ entries_deep es (after i) f (at + length (encode_string i) + length (encode v)) k h.2 a (omega arith))
 
 none_left : (at c : ℕ) (r : List ℕ) → Opening c → walk_value 0 at (c ∷ r) ≡ TooDeep
 unfolding walk_value by_first
@@ -125,25 +125,25 @@ none_left at c r (inl e) = rw e
 none_left at c r (inr e) = rw e
 
 -- a stem and an opening byte are too deep, whatever stands behind
-pub deep-complete : {l : ℕ} (st : Stem l) (at c : ℕ) (r : List ℕ) → StemValid st → Opening c → walk_value l at (begun st ++ c ∷ r) ≡ TooDeep
+pub deep_complete : {l : ℕ} (st : Stem l) (at c : ℕ) (r : List ℕ) → StemValid st → Opening c → walk_value l at (begun st ++ c ∷ r) ≡ TooDeep
 unfolding begun StemValid
-deep-complete here at c r h o = none_left at c r o
-deep-complete (in_list {l} vs st) at c r h o =
-    let b = begins-open st c r o in
+deep_complete here at c r h o = none_left at c r o
+deep_complete (in_list {l} vs st) at c r h o =
+    let b = begins_open st c r o in
     let ys = b.0 ∷ b.1 in
-    let deep : (i : ℕ) → walk_value l i ys ≡ TooDeep = λ i. rw b.3 at (deep-complete st i c r h.1 o) in
+    let deep : (i : ℕ) → walk_value l i ys ≡ TooDeep = λ i. rw b.3 at (deep_complete st i c r h.1 o) in
     let e : (begun_items vs ++ begun st) ++ c ∷ r ≡ begun_items vs ++ ys = append_assoc (begun_items vs) (begun st) (c ∷ r) ∙ ap (λ (t : List ℕ). begun_items vs ++ t) b.3 in
-    walk-list l at ((begun_items vs ++ begun st) ++ c ∷ r)
-    ∙ rw e (items-deep l b.0 b.1 b.2 deep vs (suc (length (begun_items vs ++ ys))) (at + 1) h.0 (omega arith))
-deep-complete (in_dictionary {l} es k st) at c r h o =
-    let b = begins-open st c r o in
+    walk_list_lem l at ((begun_items vs ++ begun st) ++ c ∷ r)
+    ∙ rw e (items_deep l b.0 b.1 b.2 deep vs (suc (length (begun_items vs ++ ys))) (at + 1) h.0 (omega arith))
+deep_complete (in_dictionary {l} es k st) at c r h o =
+    let b = begins_open st c r o in
     let ys = b.0 ∷ b.1 in
-    let deep : (i : ℕ) → walk_value l i ys ≡ TooDeep = λ i. rw b.3 at (deep-complete st i c r h.2 o) in
+    let deep : (i : ℕ) → walk_value l i ys ≡ TooDeep = λ i. rw b.3 at (deep_complete st i c r h.2 o) in
     let e : (begun_entries es ++ (encode_string k ++ begun st)) ++ c ∷ r ≡ begun_entries es ++ (encode_string k ++ ys) =
     append_assoc (begun_entries es) (encode_string k ++ begun st) (c ∷ r)
     ∙ ap (λ (t : List ℕ). begun_entries es ++ t) (append_assoc (encode_string k) (begun st) (c ∷ r) ∙ ap (λ (t : List ℕ). encode_string k ++ t) b.3) in
-    walk-dictionary l at ((begun_entries es ++ (encode_string k ++ begun st)) ++ c ∷ r)
-    ∙ rw e (entries-deep l b.0 b.1 b.2 deep es none (suc (length (begun_entries es ++ (encode_string k ++ ys)))) (at + 1) k h.0 h.1 (omega arith))
+    walk_dictionary_lem l at ((begun_entries es ++ (encode_string k ++ begun st)) ++ c ∷ r)
+    ∙ rw e (entries_deep l b.0 b.1 b.2 deep es none (suc (length (begun_entries es ++ (encode_string k ++ ys)))) (at + 1) k h.0 h.1 (omega arith))
 
 -- ---- and it finds no others too deep
 
@@ -156,19 +156,19 @@ InEntries l j xs =
     (es : Entries) × (k ys : List ℕ) × EntriesValid es j l × (ascends (last_key j es) k ≡ true) × (xs ≡ begun_entries es ++ (encode_string k ++ ys)) × OpensTooDeep l ys
 
 -- an item more before it
-item-before : (l : ℕ) (v : Value) (xs : List ℕ) → Valid v l → InItems l xs → InItems l (encode v ++ xs)
+item_before : (l : ℕ) (v : Value) (xs : List ℕ) → Valid v l → InItems l xs → InItems l (encode v ++ xs)
 unfolding begun_items Valid
-item-before l v xs h p =
+item_before l v xs h p =
     (item v p.0, p.1, (h, p.2), ap (λ (t : List ℕ). encode v ++ t) p.3 ∙ sym (append_assoc (encode v) (begun_items p.0) p.1), p.4)
 
-first-item : (l : ℕ) (xs : List ℕ) → OpensTooDeep l xs → InItems l xs
+first_item : (l : ℕ) (xs : List ℕ) → OpensTooDeep l xs → InItems l xs
 unfolding begun_items Valid
-first-item l xs d = (no_items, xs, tt, refl, d)
+first_item l xs d = (no_items, xs, tt, refl, d)
 
 -- an entry more before it
-entry-before : (l : ℕ) (j : KeyBefore) (k : List ℕ) (v : Value) (xs : List ℕ) → ascends j k ≡ true → Valid v l → InEntries l (after k) xs → InEntries l j (encode_string k ++ (encode v ++ xs))
+entry_before : (l : ℕ) (j : KeyBefore) (k : List ℕ) (v : Value) (xs : List ℕ) → ascends j k ≡ true → Valid v l → InEntries l (after k) xs → InEntries l j (encode_string k ++ (encode v ++ xs))
 unfolding begun_entries last_key Valid
-entry-before l j k v xs a h p =
+entry_before l j k v xs a h p =
     let t = encode_string p.1 ++ p.2 in (
       entry k v p.0,
       p.1,
@@ -186,9 +186,9 @@ unfolding begun_entries last_key Valid
 first_entry l j k xs a d = (no_entries, k, xs, tt, a, refl, d)
 
 -- a level more around it
-list-around : (l : ℕ) (xs : List ℕ) → InItems l xs → OpensTooDeep (suc l) (letter_l ∷ xs)
+list_around : (l : ℕ) (xs : List ℕ) → InItems l xs → OpensTooDeep (suc l) (letter_l ∷ xs)
 unfolding begun StemValid
-list-around l xs p =
+list_around l xs p =
     let d = p.4 in (
       in_list p.0 d.0,
       d.1,
@@ -198,9 +198,9 @@ list-around l xs p =
       ap (λ (t : List ℕ). letter_l ∷ t) (p.3 ∙ ap (λ (t : List ℕ). begun_items p.0 ++ t) d.5 ∙ sym (append_assoc (begun_items p.0) (begun d.0) (d.1 ∷ d.2))),
     )
 
-dictionary-around : (l : ℕ) (xs : List ℕ) → InEntries l none xs → OpensTooDeep (suc l) (letter_d ∷ xs)
+dictionary_around : (l : ℕ) (xs : List ℕ) → InEntries l none xs → OpensTooDeep (suc l) (letter_d ∷ xs)
 unfolding begun StemValid
-dictionary-around l xs p =
+dictionary_around l xs p =
     let d = p.6 in
     let tail = d.1 ∷ d.2 in (
       in_dictionary p.0 p.1 d.0,
@@ -220,37 +220,37 @@ DeepIs P xs Broken = Unit {0}
 DeepIs P xs (Past k) = Unit {0}
 DeepIs P xs TooDeep = P xs
 
-end-deep : (P : List ℕ → Type 0) (at : ℕ) (xs : List ℕ) (w : Walked) → DeepIs P xs w → DeepIs P xs (end_or at xs w)
+end_deep : (P : List ℕ → Type 0) (at : ℕ) (xs : List ℕ) (w : Walked) → DeepIs P xs w → DeepIs P xs (end_or at xs w)
 unfolding end_or
-end-deep P at [] w p = tt
-end-deep P at (c ∷ cs) w p = cond-case (DeepIs P (c ∷ cs)) (eqb c letter_e) (Past (at + 1)) w (λ e. tt) (λ e. p)
+end_deep P at [] w p = tt
+end_deep P at (c ∷ cs) w p = cond_case (DeepIs P (c ∷ cs)) (eqb c letter_e) (Past (at + 1)) w (λ e. tt) (λ e. p)
 
 module _ (l : ℕ) (ih : (at : ℕ) (xs : List ℕ) → DeepIs (OpensTooDeep l) xs (walk_value l at xs)) where
-  behind-item : (at : ℕ) (xs : List ℕ) (k : ℕ) (b : Begins encode (λ v. Valid v l) at xs k) (w : Walked) → DeepIs (InItems l) (drop (k - at) xs) w → DeepIs (InItems l) xs w
-  behind-item at xs k b Broken p = tt
-  behind-item at xs k b (Past m) p = tt
-  behind-item at xs k b TooDeep p =
-      let z : drop (k - at) xs ≡ b.rest = rest-is encode (λ v. Valid v l) at xs k b in
-      rw b.bytes (item-before l b.it b.rest b.valid (rw z at p))
+  behind_item : (at : ℕ) (xs : List ℕ) (k : ℕ) (b : Begins encode (λ v. Valid v l) at xs k) (w : Walked) → DeepIs (InItems l) (drop (k - at) xs) w → DeepIs (InItems l) xs w
+  behind_item at xs k b Broken p = tt
+  behind_item at xs k b (Past m) p = tt
+  behind_item at xs k b TooDeep p =
+      let z : drop (k - at) xs ≡ b.rest = rest_is encode (λ v. Valid v l) at xs k b in
+      rw b.bytes (item_before l b.it b.rest b.valid (rw z at p))
 
-  items-onward : (at : ℕ) (xs : List ℕ) (w : Walked) (go : ℕ → Walked) → ValueIs l at xs w → DeepIs (OpensTooDeep l) xs w → ((k : ℕ) → DeepIs (InItems l) (drop (k - at) xs) (go k)) → DeepIs (InItems l) xs (onward w go)
-  items-onward at xs Broken go p d h = tt
-  items-onward at xs TooDeep go p d h = first-item l xs d
-  items-onward at xs (Past k) go p d h = behind-item at xs k p (go k) (h k)
+  items_onward : (at : ℕ) (xs : List ℕ) (w : Walked) (go : ℕ → Walked) → ValueIs l at xs w → DeepIs (OpensTooDeep l) xs w → ((k : ℕ) → DeepIs (InItems l) (drop (k - at) xs) (go k)) → DeepIs (InItems l) xs (onward w go)
+  items_onward at xs Broken go p d h = tt
+  items_onward at xs TooDeep go p d h = first_item l xs d
+  items_onward at xs (Past k) go p d h = behind_item at xs k p (go k) (h k)
 
-  items-is : (f at : ℕ) (xs : List ℕ) → DeepIs (InItems l) xs (walk_items (walk_value l) f at xs)
+  items_is : (f at : ℕ) (xs : List ℕ) → DeepIs (InItems l) xs (walk_items (walk_value l) f at xs)
   unfolding walk_items
-  items-is zero at xs = tt
-  items-is (suc f) at xs =
-      end-deep (InItems l) at xs _
-      (items-onward at xs (walk_value l at xs) (λ k. walk_items (walk_value l) f k (drop (k - at) xs)) (value-sound l at xs) (ih at xs) (λ k. items-is f k (drop (k - at) xs)))
+  items_is zero at xs = tt
+  items_is (suc f) at xs =
+      end_deep (InItems l) at xs _
+      (items_onward at xs (walk_value l at xs) (λ k. walk_items (walk_value l) f k (drop (k - at) xs)) (value_sound l at xs) (ih at xs) (λ k. items_is f k (drop (k - at) xs)))
 
   module _ (j : KeyBefore) (at : ℕ) (xs : List ℕ) where
     module _ (k r : List ℕ) (e : xs ≡ encode_string k ++ r) (a : ascends j k ≡ true) where
-      behind-entry : (m : ℕ) (b : Begins encode (λ v. Valid v l) (at + length (encode_string k)) r m) (w : Walked) → DeepIs (InEntries l (after k)) (drop (m - at) xs) w → DeepIs (InEntries l j) xs w
-      behind-entry m b Broken q = tt
-      behind-entry m b (Past n) q = tt
-      behind-entry m b TooDeep q =
+      behind_entry : (m : ℕ) (b : Begins encode (λ v. Valid v l) (at + length (encode_string k)) r m) (w : Walked) → DeepIs (InEntries l (after k)) (drop (m - at) xs) w → DeepIs (InEntries l j) xs w
+      behind_entry m b Broken q = tt
+      behind_entry m b (Past n) q = tt
+      behind_entry m b TooDeep q =
           let v = b.it in
           let x = b.ends in
           let lk = length-append (encode_string k) (encode v) in
@@ -258,49 +258,49 @@ module _ (l : ℕ) (ih : (at : ℕ) (xs : List ℕ) → DeepIs (OpensTooDeep l) 
           let t : xs ≡ encode_string k ++ (encode v ++ b.rest) = e ∙ ap (λ (y : List ℕ). encode_string k ++ y) b.bytes in
           let s : xs ≡ (encode_string k ++ encode v) ++ b.rest = t ∙ sym (append_assoc (encode_string k) (encode v) b.rest) in
           let z : drop (m - at) xs ≡ b.rest = rw (o, s) (drop-append_seam (encode_string k ++ encode v) b.rest) in
-          rw t (entry-before l j k v b.rest a b.valid (rw z at q))
+          rw t (entry_before l j k v b.rest a b.valid (rw z at q))
 
-      entries-onward : (w : Walked) (go : ℕ → Walked) → ValueIs l (at + length (encode_string k)) r w → DeepIs (OpensTooDeep l) r w → ((m : ℕ) → DeepIs (InEntries l (after k)) (drop (m - at) xs) (go m)) → DeepIs (InEntries l j) xs (onward w go)
-      entries-onward Broken go q d h = tt
-      entries-onward TooDeep go q d h = rw e (first_entry l j k r a d)
-      entries-onward (Past m) go q d h = behind-entry m q (go m) (h m)
+      entries_onward : (w : Walked) (go : ℕ → Walked) → ValueIs l (at + length (encode_string k)) r w → DeepIs (OpensTooDeep l) r w → ((m : ℕ) → DeepIs (InEntries l (after k)) (drop (m - at) xs) (go m)) → DeepIs (InEntries l j) xs (onward w go)
+      entries_onward Broken go q d h = tt
+      entries_onward TooDeep go q d h = rw e (first_entry l j k r a d)
+      entries_onward (Past m) go q d h = behind_entry m q (go m) (h m)
 
-    entries-with-key : (more : KeyBefore → ℕ → List ℕ → Walked) (w : ByteString) → KeyIs j at xs w
+    entries_with_key : (more : KeyBefore → ℕ → List ℕ → Walked) (w : ByteString) → KeyIs j at xs w
         → ((q : KeyBefore) (i : ℕ) (ys : List ℕ) → DeepIs (InEntries l q) ys (more q i ys))
         → DeepIs (InEntries l j) xs (with_key w (λ x y. onward (walk_value l y (drop (y - at) xs)) (λ m. more (after (between at xs x y)) m (drop (m - at) xs))))
-    entries-with-key more NoString p h = tt
-    entries-with-key more (Content x y) p h =
+    entries_with_key more NoString p h = tt
+    entries_with_key more (Content x y) p h =
         let k = p.0 in
         let r = p.1 in
-        let z : drop (at + length (encode_string k) - at) xs ≡ r = rw p.2 (past-part at (encode_string k) r) in
+        let z : drop (at + length (encode_string k) - at) xs ≡ r = rw p.2 (past_part at (encode_string k) r) in
         rw (p.4, p.5, z)
-        (entries-onward k r p.2 p.3 (walk_value l (at + length (encode_string k)) r) (λ m. more (after k) m (drop (m - at) xs))
-        (value-sound l (at + length (encode_string k)) r) (ih (at + length (encode_string k)) r) (λ m. h (after k) m (drop (m - at) xs)))
+        (entries_onward k r p.2 p.3 (walk_value l (at + length (encode_string k)) r) (λ m. more (after k) m (drop (m - at) xs))
+        (value_sound l (at + length (encode_string k)) r) (ih (at + length (encode_string k)) r) (λ m. h (after k) m (drop (m - at) xs)))
 
-  entries-is : (f : ℕ) (j : KeyBefore) (at : ℕ) (xs : List ℕ) → DeepIs (InEntries l j) xs (walk_entries (walk_value l) f j at xs)
+  entries_is : (f : ℕ) (j : KeyBefore) (at : ℕ) (xs : List ℕ) → DeepIs (InEntries l j) xs (walk_entries (walk_value l) f j at xs)
   unfolding walk_entries
-  entries-is zero j at xs = tt
-  entries-is (suc f) j at xs =
-      end-deep (InEntries l j) at xs _
-      (entries-with-key j at xs (walk_entries (walk_value l) f) (read_key j at xs) (key-sound j at xs) (λ q i ys. entries-is f q i ys))
+  entries_is zero j at xs = tt
+  entries_is (suc f) j at xs =
+      end_deep (InEntries l j) at xs _
+      (entries_with_key j at xs (walk_entries (walk_value l) f) (read_key j at xs) (key_sound j at xs) (λ q i ys. entries_is f q i ys))
 
-integer-never : (P : List ℕ → Type 0) (xs : List ℕ) (w : Integer) → DeepIs P xs (past_integer w)
-integer-never P xs NoInteger = tt
-integer-never P xs (Whole minus n k) = tt
+integer_never : (P : List ℕ → Type 0) (xs : List ℕ) (w : Integer) → DeepIs P xs (past_integer w)
+integer_never P xs NoInteger = tt
+integer_never P xs (Whole minus n k) = tt
 
-string-never : (P : List ℕ → Type 0) (xs : List ℕ) (w : ByteString) → DeepIs P xs (past_string w)
-string-never P xs NoString = tt
-string-never P xs (Content a b) = tt
+string_never : (P : List ℕ → Type 0) (xs : List ℕ) (w : ByteString) → DeepIs P xs (past_string w)
+string_never P xs NoString = tt
+string_never P xs (Content a b) = tt
 
-first-byte-is : (P : List ℕ → Type 0) (at : ℕ) (xs : List ℕ) (ls ds : Walked) → ((cs : List ℕ) → xs ≡ letter_l ∷ cs → DeepIs P xs ls) → ((cs : List ℕ) → xs ≡ letter_d ∷ cs → DeepIs P xs ds)
+first_byte_is : (P : List ℕ → Type 0) (at : ℕ) (xs : List ℕ) (ls ds : Walked) → ((cs : List ℕ) → xs ≡ letter_l ∷ cs → DeepIs P xs ls) → ((cs : List ℕ) → xs ≡ letter_d ∷ cs → DeepIs P xs ds)
     → DeepIs P xs (by_first at xs ls ds)
 unfolding by_first
-first-byte-is P at [] ls ds p q = tt
-first-byte-is P at (c ∷ cs) ls ds p q =
-    cond-case (DeepIs P (c ∷ cs)) (eqb c letter_i) _ _ (λ e. integer-never P (c ∷ cs) (read_signed (at + 1) cs))
-    (λ e. cond-case (DeepIs P (c ∷ cs)) (eqb c letter_l) _ _ (λ f. p cs (ap (λ (x : ℕ). x ∷ cs) (eqb-true c letter_l f)))
-    (λ f. cond-case (DeepIs P (c ∷ cs)) (eqb c letter_d) _ _ (λ g. q cs (ap (λ (x : ℕ). x ∷ cs) (eqb-true c letter_d g)))
-    (λ g. string-never P (c ∷ cs) (read_string at (c ∷ cs)))))
+first_byte_is P at [] ls ds p q = tt
+first_byte_is P at (c ∷ cs) ls ds p q =
+    cond_case (DeepIs P (c ∷ cs)) (eqb c letter_i) _ _ (λ e. integer_never P (c ∷ cs) (read_signed (at + 1) cs))
+    (λ e. cond_case (DeepIs P (c ∷ cs)) (eqb c letter_l) _ _ (λ f. p cs (ap (λ (x : ℕ). x ∷ cs) (eqb-true c letter_l f)))
+    (λ f. cond_case (DeepIs P (c ∷ cs)) (eqb c letter_d) _ _ (λ g. q cs (ap (λ (x : ℕ). x ∷ cs) (eqb-true c letter_d g)))
+    (λ g. string_never P (c ∷ cs) (read_string at (c ∷ cs)))))
 
 around : (P Q : List ℕ → Type 0) (cs xs : List ℕ) (w : Walked) → (P cs → Q xs) → DeepIs P cs w → DeepIs Q xs w
 around P Q cs xs Broken f p = tt
@@ -310,40 +310,40 @@ around P Q cs xs TooDeep f p = f p
 deep_is : (l at : ℕ) (xs : List ℕ) → DeepIs (OpensTooDeep l) xs (walk_value l at xs)
 unfolding walk_value
 deep_is zero at xs =
-    first-byte-is (OpensTooDeep 0) at xs TooDeep TooDeep (λ cs e. rw e (opens-here letter_l cs (inl refl))) (λ cs e. rw e (opens-here letter_d cs (inr refl)))
+    first_byte_is (OpensTooDeep 0) at xs TooDeep TooDeep (λ cs e. rw e (opens_here letter_l cs (inl refl))) (λ cs e. rw e (opens_here letter_d cs (inr refl)))
 deep_is (suc l) at xs =
-    first-byte-is (OpensTooDeep (suc l)) at xs _ _
-    (λ cs e. rw e (around (InItems l) (OpensTooDeep (suc l)) cs (letter_l ∷ cs) (walk_list (walk_value l) (at + 1) cs) (list-around l cs) (items-is l (deep_is l) (suc (length cs)) (at + 1) cs)))
-    (λ cs e. rw e (around (InEntries l none) (OpensTooDeep (suc l)) cs (letter_d ∷ cs) (walk_dictionary (walk_value l) (at + 1) cs) (dictionary-around l cs) (entries-is l (deep_is l) (suc (length cs)) none (at + 1) cs)))
+    first_byte_is (OpensTooDeep (suc l)) at xs _ _
+    (λ cs e. rw e (around (InItems l) (OpensTooDeep (suc l)) cs (letter_l ∷ cs) (walk_list (walk_value l) (at + 1) cs) (list_around l cs) (items_is l (deep_is l) (suc (length cs)) (at + 1) cs)))
+    (λ cs e. rw e (around (InEntries l none) (OpensTooDeep (suc l)) cs (letter_d ∷ cs) (walk_dictionary (walk_value l) (at + 1) cs) (dictionary_around l cs) (entries_is l (deep_is l) (suc (length cs)) none (at + 1) cs)))
 
 -- what the walk finds too deep begins with a stem and an opening byte
-pub deep-sound : (l at : ℕ) (xs : List ℕ) → walk_value l at xs ≡ TooDeep → OpensTooDeep l xs
-deep-sound l at xs e = rw e at (deep_is l at xs)
+pub deep_sound : (l at : ℕ) (xs : List ℕ) → walk_value l at xs ≡ TooDeep → OpensTooDeep l xs
+deep_sound l at xs e = rw e at (deep_is l at xs)
 
 -- ---- a value that is valid but for its levels is valid, or its encoding opens too deep
 
 mutual
   unfolding encode Valid
 
-  pub fits-or-opens : (v : Value) (n l : ℕ) → Valid v n → Valid v l ⊎ ((r : List ℕ) → OpensTooDeep l (encode v ++ r))
-  fits-or-opens (integer minus m) n l h = inl h
-  fits-or-opens (string b) n l h = inl tt
-  fits-or-opens (list vs) zero l h = absurd h
-  fits-or-opens (list vs) (suc n) zero h = inr (λ r. opens-here letter_l (encode_items vs ++ r) (inl refl))
-  fits-or-opens (list vs) (suc n) (suc l) h = elim (items-fit vs n l h) [ inl p ↦ inl p | inr f ↦ inr (λ r. list-around l (encode_items vs ++ r) (f r)) ]
-  fits-or-opens (dictionary es) zero l h = absurd h
-  fits-or-opens (dictionary es) (suc n) zero h = inr (λ r. opens-here letter_d (encode_entries es ++ r) (inr refl))
-  fits-or-opens (dictionary es) (suc n) (suc l) h = elim (entries_fit es none n l h) [ inl p ↦ inl p | inr f ↦ inr (λ r. dictionary-around l (encode_entries es ++ r) (f r)) ]
+  pub fits_or_opens : (v : Value) (n l : ℕ) → Valid v n → Valid v l ⊎ ((r : List ℕ) → OpensTooDeep l (encode v ++ r))
+  fits_or_opens (integer minus m) n l h = inl h
+  fits_or_opens (string b) n l h = inl tt
+  fits_or_opens (list vs) zero l h = absurd h
+  fits_or_opens (list vs) (suc n) zero h = inr (λ r. opens_here letter_l (encode_items vs ++ r) (inl refl))
+  fits_or_opens (list vs) (suc n) (suc l) h = elim (items_fit vs n l h) [ inl p ↦ inl p | inr f ↦ inr (λ r. list_around l (encode_items vs ++ r) (f r)) ]
+  fits_or_opens (dictionary es) zero l h = absurd h
+  fits_or_opens (dictionary es) (suc n) zero h = inr (λ r. opens_here letter_d (encode_entries es ++ r) (inr refl))
+  fits_or_opens (dictionary es) (suc n) (suc l) h = elim (entries_fit es none n l h) [ inl p ↦ inl p | inr f ↦ inr (λ r. dictionary_around l (encode_entries es ++ r) (f r)) ]
 
-  items-fit : (vs : Items) (n l : ℕ) → ItemsValid vs n → ItemsValid vs l ⊎ ((r : List ℕ) → InItems l (encode_items vs ++ r))
-  items-fit no_items n l h = inl tt
-  items-fit (item v vs) n l h =
-      elim (fits-or-opens v n l h.0) [
-        | inl p ↦ elim (items-fit vs n l h.1) [
+  items_fit : (vs : Items) (n l : ℕ) → ItemsValid vs n → ItemsValid vs l ⊎ ((r : List ℕ) → InItems l (encode_items vs ++ r))
+  items_fit no_items n l h = inl tt
+  items_fit (item v vs) n l h =
+      elim (fits_or_opens v n l h.0) [
+        | inl p ↦ elim (items_fit vs n l h.1) [
           | inl q ↦ inl (p, q)
-          | inr g ↦ inr (λ r. rw append_assoc (item-before l v (encode_items vs ++ r) p (g r)))
+          | inr g ↦ inr (λ r. rw append_assoc (item_before l v (encode_items vs ++ r) p (g r)))
         ]
-        | inr f ↦ inr (λ r. rw append_assoc (first-item l (encode v ++ (encode_items vs ++ r)) (f (encode_items vs ++ r))))
+        | inr f ↦ inr (λ r. rw append_assoc (first_item l (encode v ++ (encode_items vs ++ r)) (f (encode_items vs ++ r))))
       ]
 
   entries_fit : (es : Entries) (j : KeyBefore) (n l : ℕ) → EntriesValid es j n → EntriesValid es j l ⊎ ((r : List ℕ) → InEntries l j (encode_entries es ++ r))
@@ -351,10 +351,10 @@ mutual
   entries_fit (entry k v es) j n l h =
       let regroup : (r : List ℕ) → (encode_string k ++ (encode v ++ encode_entries es)) ++ r ≡ encode_string k ++ (encode v ++ (encode_entries es ++ r)) =
       λ r. append_assoc (encode_string k) (encode v ++ encode_entries es) r ∙ ap (λ (t : List ℕ). encode_string k ++ t) (append_assoc (encode v) (encode_entries es) r) in
-      elim (fits-or-opens v n l h.1) [
+      elim (fits_or_opens v n l h.1) [
         | inl p ↦ elim (entries_fit es (after k) n l h.2) [
           | inl q ↦ inl (h.0, p, q)
-          | inr g ↦ inr (λ r. rw (regroup r) (entry-before l j k v (encode_entries es ++ r) h.0 p (g r)))
+          | inr g ↦ inr (λ r. rw (regroup r) (entry_before l j k v (encode_entries es ++ r) h.0 p (g r)))
         ]
         | inr f ↦ inr (λ r. rw (regroup r) (first_entry l j k (encode v ++ (encode_entries es ++ r)) h.0 (f (encode_entries es ++ r))))
       ]
@@ -382,45 +382,45 @@ unfoldable pub closing : ℕ → List ℕ
 closing zero = []
 closing (suc l) = closing l ++ letter_e ∷ []
 
-items-then-bytes : (vs : Items) (v : Value) → encode_items (items_then vs v) ≡ begun_items vs ++ (encode v ++ letter_e ∷ [])
+items_then_bytes : (vs : Items) (v : Value) → encode_items (items_then vs v) ≡ begun_items vs ++ (encode v ++ letter_e ∷ [])
 unfolding encode items_then begun_items
-items-then-bytes no_items v = refl
-items-then-bytes (item w vs) v = ap (λ (t : List ℕ). encode w ++ t) (items-then-bytes vs v) ∙ sym (append_assoc (encode w) (begun_items vs) (encode v ++ letter_e ∷ []))
+items_then_bytes no_items v = refl
+items_then_bytes (item w vs) v = ap (λ (t : List ℕ). encode w ++ t) (items_then_bytes vs v) ∙ sym (append_assoc (encode w) (begun_items vs) (encode v ++ letter_e ∷ []))
 
-entries-then-bytes : (es : Entries) (k : List ℕ) (v : Value) → encode_entries (entries_then es k v) ≡ begun_entries es ++ (encode_string k ++ (encode v ++ letter_e ∷ []))
+entries_then_bytes : (es : Entries) (k : List ℕ) (v : Value) → encode_entries (entries_then es k v) ≡ begun_entries es ++ (encode_string k ++ (encode v ++ letter_e ∷ []))
 unfolding encode entries_then begun_entries
-entries-then-bytes no_entries k v = refl
-entries-then-bytes (entry j w es) k v =
+entries_then_bytes no_entries k v = refl
+entries_then_bytes (entry j w es) k v =
     let t = encode_string k ++ (encode v ++ letter_e ∷ []) in
-    ap (λ (x : List ℕ). encode_string j ++ (encode w ++ x)) (entries-then-bytes es k v)
+    ap (λ (x : List ℕ). encode_string j ++ (encode w ++ x)) (entries_then_bytes es k v)
     ∙ ap (λ (x : List ℕ). encode_string j ++ x) (sym (append_assoc (encode w) (begun_entries es) t))
     ∙ sym (append_assoc (encode_string j) (encode w ++ begun_entries es) t)
 
 -- its encoding is the bytes of the stem, the value, and what closes the stem
-pub filled-bytes : {l : ℕ} (st : Stem l) (v : Value) → encode (filled st v) ≡ begun st ++ (encode v ++ closing l)
+pub filled_bytes : {l : ℕ} (st : Stem l) (v : Value) → encode (filled st v) ≡ begun st ++ (encode v ++ closing l)
 unfolding filled begun closing
-filled-bytes here v = sym (append-nil (encode v))
-filled-bytes (in_list {l} vs st) v =
+filled_bytes here v = sym (append-nil (encode v))
+filled_bytes (in_list {l} vs st) v =
     let inner = encode v ++ closing l in
     let e : encode (filled st v) ++ letter_e ∷ [] ≡ begun st ++ (encode v ++ (closing l ++ letter_e ∷ [])) =
-    ap (λ (t : List ℕ). t ++ letter_e ∷ []) (filled-bytes st v)
+    ap (λ (t : List ℕ). t ++ letter_e ∷ []) (filled_bytes st v)
     ∙ append_assoc (begun st) inner (letter_e ∷ [])
     ∙ ap (λ (t : List ℕ). begun st ++ t) (append_assoc (encode v) (closing l) (letter_e ∷ [])) in
-    list-bytes (items_then vs (filled st v))
+    list_bytes (items_then vs (filled st v))
     ∙ ap (λ (t : List ℕ). letter_l ∷ t)
-    (items-then-bytes vs (filled st v)
+    (items_then_bytes vs (filled st v)
     ∙ ap (λ (t : List ℕ). begun_items vs ++ t) e
     ∙ sym (append_assoc (begun_items vs) (begun st) (encode v ++ (closing l ++ letter_e ∷ []))))
-filled-bytes (in_dictionary {l} es k st) v =
+filled_bytes (in_dictionary {l} es k st) v =
     let inner = encode v ++ closing l in
     let tail = encode v ++ (closing l ++ letter_e ∷ []) in
     let e : encode (filled st v) ++ letter_e ∷ [] ≡ begun st ++ tail =
-    ap (λ (t : List ℕ). t ++ letter_e ∷ []) (filled-bytes st v)
+    ap (λ (t : List ℕ). t ++ letter_e ∷ []) (filled_bytes st v)
     ∙ append_assoc (begun st) inner (letter_e ∷ [])
     ∙ ap (λ (t : List ℕ). begun st ++ t) (append_assoc (encode v) (closing l) (letter_e ∷ [])) in
-    dictionary-bytes (entries_then es k (filled st v))
+    dictionary_bytes (entries_then es k (filled st v))
     ∙ ap (λ (t : List ℕ). letter_d ∷ t)
-    (entries-then-bytes es k (filled st v)
+    (entries_then_bytes es k (filled st v)
     ∙ ap (λ (t : List ℕ). begun_entries es ++ (encode_string k ++ t)) e
     ∙ ap (λ (t : List ℕ). begun_entries es ++ t) (sym (append_assoc (encode_string k) (begun st) tail))
     ∙ sym (append_assoc (begun_entries es) (encode_string k ++ begun st) tail))
@@ -433,53 +433,53 @@ mutual
   deeper (integer minus n) l h = h
   deeper (string b) l h = tt
   deeper (list vs) zero h = absurd h
-  deeper (list vs) (suc l) h = items-deeper vs l h
+  deeper (list vs) (suc l) h = items_deeper vs l h
   deeper (dictionary es) zero h = absurd h
-  deeper (dictionary es) (suc l) h = entries-deeper es none l h
+  deeper (dictionary es) (suc l) h = entries_deeper es none l h
 
-  items-deeper : (vs : Items) (l : ℕ) → ItemsValid vs l → ItemsValid vs (suc l)
-  items-deeper no_items l h = tt
-  items-deeper (item v vs) l h = (deeper v l h.0, items-deeper vs l h.1)
+  items_deeper : (vs : Items) (l : ℕ) → ItemsValid vs l → ItemsValid vs (suc l)
+  items_deeper no_items l h = tt
+  items_deeper (item v vs) l h = (deeper v l h.0, items_deeper vs l h.1)
 
-  entries-deeper : (es : Entries) (j : KeyBefore) (l : ℕ) → EntriesValid es j l → EntriesValid es j (suc l)
-  entries-deeper no_entries j l h = tt
-  entries-deeper (entry k v es) j l h = (h.0, deeper v l h.1, entries-deeper es (after k) l h.2)
+  entries_deeper : (es : Entries) (j : KeyBefore) (l : ℕ) → EntriesValid es j l → EntriesValid es j (suc l)
+  entries_deeper no_entries j l h = tt
+  entries_deeper (entry k v es) j l h = (h.0, deeper v l h.1, entries_deeper es (after k) l h.2)
 
 -- nor do more
-pub more-levels : (v : Value) (l m : ℕ) → l ≤ m → Valid v l → Valid v m
-more-levels v l m h p = let e : l + (m - l) ≡ m = omega arith in rw e at (by_count (m - l))
+pub more_levels : (v : Value) (l m : ℕ) → l ≤ m → Valid v l → Valid v m
+more_levels v l m h p = let e : l + (m - l) ≡ m = omega arith in rw e at (by_count (m - l))
   where
     by_count : (d : ℕ) → Valid v (l + d)
     by_count zero = let e : l + 0 ≡ l = omega arith in rw e p
     by_count (suc d) = let e : l + suc d ≡ suc (l + d) = omega arith in rw e (deeper v (l + d) (by_count d))
 
 -- nor do more levels harm entries
-pub entries-more-levels : (es : Entries) (j : KeyBefore) (l m : ℕ) → l ≤ m → EntriesValid es j l → EntriesValid es j m
+pub entries_more_levels : (es : Entries) (j : KeyBefore) (l m : ℕ) → l ≤ m → EntriesValid es j l → EntriesValid es j m
 unfolding Valid
-entries-more-levels no_entries j l m h p = tt
-entries-more-levels (entry k v es) j l m h p = (p.0, more-levels v l m h p.1, entries-more-levels es (after k) l m h p.2)
+entries_more_levels no_entries j l m h p = tt
+entries_more_levels (entry k v es) j l m h p = (p.0, more_levels v l m h p.1, entries_more_levels es (after k) l m h p.2)
 
-items-then-valid : (vs : Items) (v : Value) (l : ℕ) → ItemsValid vs l → Valid v l → ItemsValid (items_then vs v) l
+items_then_valid : (vs : Items) (v : Value) (l : ℕ) → ItemsValid vs l → Valid v l → ItemsValid (items_then vs v) l
 unfolding Valid items_then
-items-then-valid no_items v l h g = (g, tt)
-items-then-valid (item w vs) v l h g = (h.0, items-then-valid vs v l h.1 g)
+items_then_valid no_items v l h g = (g, tt)
+items_then_valid (item w vs) v l h g = (h.0, items_then_valid vs v l h.1 g)
 
-entries-then-valid : (es : Entries) (j : KeyBefore) (k : List ℕ) (v : Value) (l : ℕ) → EntriesValid es j l → ascends (last_key j es) k ≡ true → Valid v l → EntriesValid (entries_then es k v) j l
+entries_then_valid : (es : Entries) (j : KeyBefore) (k : List ℕ) (v : Value) (l : ℕ) → EntriesValid es j l → ascends (last_key j es) k ≡ true → Valid v l → EntriesValid (entries_then es k v) j l
 unfolding Valid entries_then last_key
-entries-then-valid no_entries j k v l h a g = (a, g, tt)
-entries-then-valid (entry i w es) j k v l h a g = (h.0, h.1, entries-then-valid es (after i) k v l h.2 a g)
+entries_then_valid no_entries j k v l h a g = (a, g, tt)
+entries_then_valid (entry i w es) j k v l h a g = (h.0, h.1, entries_then_valid es (after i) k v l h.2 a g)
 
 -- with a value that opens no level a stem is valid with its levels
-pub filled-valid : {l : ℕ} (st : Stem l) (v : Value) → StemValid st → Valid v 0 → Valid (filled st v) l
+pub filled_valid : {l : ℕ} (st : Stem l) (v : Value) → StemValid st → Valid v 0 → Valid (filled st v) l
 unfolding filled StemValid Valid
-filled-valid here v h g = g
-filled-valid (in_list {l} vs st) v h g = items-then-valid vs (filled st v) l h.0 (filled-valid st v h.1 g)
-filled-valid (in_dictionary {l} es k st) v h g = entries-then-valid es none k (filled st v) l h.0 h.1 (filled-valid st v h.2 g)
+filled_valid here v h g = g
+filled_valid (in_list {l} vs st) v h g = items_then_valid vs (filled st v) l h.0 (filled_valid st v h.1 g)
+filled_valid (in_dictionary {l} es k st) v h g = entries_then_valid es none k (filled st v) l h.0 h.1 (filled_valid st v h.2 g)
 
 -- with a value that opens one it is valid with one level more
-pub filled-deeper : {l : ℕ} (st : Stem l) (v : Value) → StemValid st → Valid v 1 → Valid (filled st v) (suc l)
+pub filled_deeper : {l : ℕ} (st : Stem l) (v : Value) → StemValid st → Valid v 1 → Valid (filled st v) (suc l)
 unfolding filled StemValid Valid
-filled-deeper here v h g = g
-filled-deeper (in_list {l} vs st) v h g = items-then-valid vs (filled st v) (suc l) (items-deeper vs l h.0) (filled-deeper st v h.1 g)
-filled-deeper (in_dictionary {l} es k st) v h g =
-    entries-then-valid es none k (filled st v) (suc l) (entries-deeper es none l h.0) h.1 (filled-deeper st v h.2 g)
+filled_deeper here v h g = g
+filled_deeper (in_list {l} vs st) v h g = items_then_valid vs (filled st v) (suc l) (items_deeper vs l h.0) (filled_deeper st v h.1 g)
+filled_deeper (in_dictionary {l} es k st) v h g =
+    entries_then_valid es none k (filled st v) (suc l) (entries_deeper es none l h.0) h.1 (filled_deeper st v h.2 g)

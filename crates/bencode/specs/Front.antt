@@ -14,7 +14,7 @@ FourAlike x y i =
 
 -- their first n bytes are the same, and no more
 pub record Front (x y : List ℕ) (n : ℕ) : Type 0 where
-  pub in-first : n ≤ length x
-  pub in-second : n ≤ length y
+  pub in_first : n ≤ length x
+  pub in_second : n ≤ length y
   pub alike : Alike x y n
   pub apart : n < length x → n < length y → get_or x n 0 ≡ get_or y n 0 → ⊥

@@ -13,10 +13,10 @@ use Rattle.bencode.specs.Grammar.{colon, letter_d, letter_i, Value, integer, str
 use Rattle.bencode.specs.Scalar.{read_digits, read_number, read_string, read_integer}
 use Rattle.bencode.specs.Walk.{between, walk_value}
 use Rattle.bencode.specs.Parts.{is_dictionary, entry_to, entry_with, read_entry, from_entry, find_in, find_key, Lookup, present, lookup, FoundIs}
-use Rattle.bencode.specs.EndsLaws.{drop-further, string-ends, value-ends}
-use Rattle.bencode.specs.CompleteLaws.{BeginsWithDigit, decimal-first, content_start, string-read, integer-read, past-part, string-some, dictionary-bytes, complete}
+use Rattle.bencode.specs.EndsLaws.{drop_further, string_ends, value_ends}
+use Rattle.bencode.specs.CompleteLaws.{BeginsWithDigit, decimal_first, content_start, string_read, integer_read, past_part, string_some, dictionary_bytes, complete}
 use Rattle.bencode.specs.UniqueLaws.{unique}
-use Rattle.bencode.specs.DepthLaws.{entries-more-levels}
+use Rattle.bencode.specs.DepthLaws.{entries_more_levels}
 use Rattle.bencode.specs.declared.scalar.Integer.{Integer}
 use Rattle.bencode.specs.declared.scalar.Integer.TheVariants.{Whole, NoInteger}
 use Rattle.bencode.specs.declared.scalar.ByteString.{ByteString}
@@ -41,56 +41,56 @@ entry_in at s = by_key (read_string at (drop at s)) refl
     by_key : (w : ByteString) → read_string at (drop at s) ≡ w → EntryIn at (length s) (entry_with at (drop at s) w)
     by_key NoString q = tt
     by_key (Content a b) q =
-        let p = string-ends at s a b q in
+        let p = string_ends at s a b q in
         let x = p.0 in
         let y = p.1 in
-        let further : drop (b - at) (drop at s) ≡ drop b s = drop-further s at b (omega arith) in
+        let further : drop (b - at) (drop at s) ≡ drop b s = drop_further s at b (omega arith) in
         by_value p (walk_value max_levels b (drop (b - at) (drop at s))) (ap (walk_value max_levels b) (sym further))
       where
         by_value : (at < a) × (a ≤ b) × (b ≤ length s) → (v : Walked) → walk_value max_levels b (drop b s) ≡ v → EntryIn at (length s) (entry_to a b v)
         by_value p Broken f = tt
         by_value p TooDeep f = tt
-        by_value p (Past k) f = let r = value-ends max_levels b s k f in (p.0, p.1, r.0, r.1)
+        by_value p (Past k) f = let r = value_ends max_levels b s k f in (p.0, p.1, r.0, r.1)
 
 -- an entry lies past the position, key before value, within the bytes
-pub entry-ends : (at : ℕ) (s : List ℕ) (a b k : ℕ) → read_entry at (drop at s) ≡ Keyed a b k → (at < a) × (a ≤ b) × (b < k) × (k ≤ length s)
-entry-ends at s a b k e = rw e at (entry_in at s)
+pub entry_ends : (at : ℕ) (s : List ℕ) (a b k : ℕ) → read_entry at (drop at s) ≡ Keyed a b k → (at < a) × (a ≤ b) × (b < k) × (k ≤ length s)
+entry_ends at s a b k e = rw e at (entry_in at s)
 
 abbrev FoundIn : ℕ → ℕ → Found → Type 0
 FoundIn at end Missing = Unit {0}
 FoundIn at end (Part a b) = (at < a) × (a < b) × (b ≤ end)
 
-find-in : (key : List ℕ) (steps at : ℕ) (s : List ℕ) → FoundIn at (length s) (find_in key steps at (drop at s))
+find_in_lem : (key : List ℕ) (steps at : ℕ) (s : List ℕ) → FoundIn at (length s) (find_in key steps at (drop at s))
 unfolding find_in
-find-in key zero at s = tt
-find-in key (suc f) at s = by-entry (read_entry at (drop at s)) refl (λ i. find-in key f i s)
+find_in_lem key zero at s = tt
+find_in_lem key (suc f) at s = by_entry (read_entry at (drop at s)) refl (λ i. find_in_lem key f i s)
   where
     further : (a k : ℕ) → a < k → (w : Found) → FoundIn k (length s) w → FoundIn a (length s) w
     further a k h Missing p = tt
     further a k h (Part x y) p = let q = p.0 in (omega arith, p.1, p.2)
 
-    by-entry : (w : Entry) → read_entry at (drop at s) ≡ w → ((i : ℕ) → FoundIn i (length s) (find_in key f i (drop i s)))
+    by_entry : (w : Entry) → read_entry at (drop at s) ≡ w → ((i : ℕ) → FoundIn i (length s) (find_in key f i (drop i s)))
         → FoundIn at (length s) (from_entry w (λ a b k. cond (same key (between at (drop at s) a b)) (Part b k) (find_in key f k (drop (k - at) (drop at s)))))
-    by-entry NoEntry q ih = tt
-    by-entry (Keyed a b k) q ih = by-same (same key (between at (drop at s) a b))
+    by_entry NoEntry q ih = tt
+    by_entry (Keyed a b k) q ih = by_same (same key (between at (drop at s) a b))
       where
-        by-same : (t : Bool) → FoundIn at (length s) (cond t (Part b k) (find_in key f k (drop (k - at) (drop at s))))
-        by-same true = let p = entry-ends at s a b k q in let x = p.0 in let y = p.1 in (omega arith, p.2, p.3)
-        by-same false =
-            let p = entry-ends at s a b k q in
+        by_same : (t : Bool) → FoundIn at (length s) (cond t (Part b k) (find_in key f k (drop (k - at) (drop at s))))
+        by_same true = let p = entry_ends at s a b k q in let x = p.0 in let y = p.1 in (omega arith, p.2, p.3)
+        by_same false =
+            let p = entry_ends at s a b k q in
             let x = p.0 in
             let y = p.1 in
             let z = p.2 in
-            rw (drop-further s at k (omega arith)) (further at k (omega arith) (find_in key f k (drop k s)) (ih k))
+            rw (drop_further s at k (omega arith)) (further at k (omega arith) (find_in key f k (drop k s)) (ih k))
 
 -- the value of a key lies inside the dictionary, within the bytes
-pub find-ends : (key : List ℕ) (at : ℕ) (s : List ℕ) (a b : ℕ) → find_key key at (drop at s) ≡ Part a b → (at < a) × (a < b) × (b ≤ length s)
+pub find_ends : (key : List ℕ) (at : ℕ) (s : List ℕ) (a b : ℕ) → find_key key at (drop at s) ≡ Part a b → (at < a) × (a < b) × (b ≤ length s)
 unfolding find_key
-find-ends key at s a b e = by_first (is_dictionary (drop at s)) e
+find_ends key at s a b e = by_first (is_dictionary (drop at s)) e
   where
     by_first : (t : Bool) → cond t (find_in key (suc (length (drop 1 (drop at s)))) (at + 1) (drop 1 (drop at s))) Missing ≡ Part a b → (at < a) × (a < b) × (b ≤ length s)
     by_first true e =
-        let g = find-in key (suc (length (drop 1 (drop at s)))) (at + 1) s in
+        let g = find_in_lem key (suc (length (drop 1 (drop at s)))) (at + 1) s in
         let d : drop (at + 1) s ≡ drop 1 (drop at s) = sym (drop-drop 1 at s) in
         let p : FoundIn (at + 1) (length s) (Part a b) = rw (d, e) at g in
         let q = p.0 in
@@ -100,17 +100,17 @@ find-ends key at s a b e = by_first (is_dictionary (drop at s)) e
 -- ---- a value's part
 
 -- behind the bytes p
-pub after-part : (s : List ℕ) (at : ℕ) (p q : List ℕ) → drop at s ≡ p ++ q → drop (at + length p) s ≡ q
-after-part s at p q e = sym (drop-drop (length p) at s) ∙ ap (λ (l : List ℕ). drop (length p) l) e ∙ drop-append_seam p q
+pub after_part : (s : List ℕ) (at : ℕ) (p q : List ℕ) → drop at s ≡ p ++ q → drop (at + length p) s ≡ q
+after_part s at p q e = sym (drop-drop (length p) at s) ∙ ap (λ (l : List ℕ). drop (length p) l) e ∙ drop-append_seam p q
 
 -- nothing is found in what is no dictionary
-pub find-no-dictionary : (key s : List ℕ) (at : ℕ) → is_dictionary (drop at s) ≡ false → find_key key at (drop at s) ≡ Missing
+pub find_no_dictionary : (key s : List ℕ) (at : ℕ) → is_dictionary (drop at s) ≡ false → find_key key at (drop at s) ≡ Missing
 unfolding find_key
-find-no-dictionary key s at e = rw e
+find_no_dictionary key s at e = rw e
 
 -- one string under a key
-pub one-string : (a b : List ℕ) → present (string a) ≡ present (string b) → a ≡ b
-one-string a b e = cc
+pub one_string : (a b : List ℕ) → present (string a) ≡ present (string b) → a ≡ b
+one_string a b e = cc
 
 -- the bytes p themselves
 part_bytes : (s : List ℕ) (at n : ℕ) (p q : List ℕ) → n ≡ length p → drop at s ≡ p ++ q → cut s at n ≡ p
@@ -131,16 +131,16 @@ integer_of at (list vs) = NoInteger
 integer_of at (dictionary es) = NoInteger
 
 -- an integer is read as its value, and no other value as an integer
-pub integer-is : (v : Value) (l at : ℕ) (r : List ℕ) → Valid v l → read_integer at (encode v ++ r) ≡ integer_of at v
+pub integer_is : (v : Value) (l at : ℕ) (r : List ℕ) → Valid v l → read_integer at (encode v ++ r) ≡ integer_of at v
 unfolding Valid
-integer-is (integer minus n) l at r h = integer-read at minus n r h
-integer-is (string b) l at r h =
+integer_is (integer minus n) l at r h = integer_read at minus n r h
+integer_is (string b) l at r h =
     unfold BeginsWithDigit encode read_integer in
-    let f = decimal-first (length b) in
+    let f = decimal_first (length b) in
     let high = f.4 in
     rw append_assoc (rw f.2 (simp (ne_eqb f.0 letter_i (λ q. omega arith))))
-integer-is (list vs) l at r h = unfold encode read_integer in refl
-integer-is (dictionary es) l at r h = unfold encode read_integer in refl
+integer_is (list vs) l at r h = unfold encode read_integer in refl
+integer_is (dictionary es) l at r h = unfold encode read_integer in refl
 
 -- a string's content
 abbrev pub string_of : ℕ → Value → ByteString
@@ -150,21 +150,21 @@ string_of at (list vs) = NoString
 string_of at (dictionary es) = NoString
 
 -- a string is read as its content, and no other value as a string
-pub string-is : (v : Value) (at : ℕ) (r : List ℕ) → read_string at (encode v ++ r) ≡ string_of at v
-string-is (integer minus n) at r = unfold encode read_number read_digits in refl
-string-is (string b) at r = unfold encode in string-read at b r
-string-is (list vs) at r = unfold encode read_number read_digits in refl
-string-is (dictionary es) at r = unfold encode read_number read_digits in refl
+pub string_is : (v : Value) (at : ℕ) (r : List ℕ) → read_string at (encode v ++ r) ≡ string_of at v
+string_is (integer minus n) at r = unfold encode read_number read_digits in refl
+string_is (string b) at r = unfold encode in string_read at b r
+string_is (list vs) at r = unfold encode read_number read_digits in refl
+string_is (dictionary es) at r = unfold encode read_number read_digits in refl
 
 -- the content is the string
-pub content-is : (s b r : List ℕ) (at : ℕ) → drop at s ≡ encode_string b ++ r → cut s (content_start at b) (at + length (encode_string b) - content_start at b) ≡ b
-content-is s b r at e =
+pub content_is : (s b r : List ℕ) (at : ℕ) → drop at s ≡ encode_string b ++ r → cut s (content_start at b) (at + length (encode_string b) - content_start at b) ≡ b
+content_is s b r at e =
     let la = length-append (decimal (length b)) (colon ∷ b) in
     let lb = length-append (decimal (length b)) (colon ∷ []) in
     let o : at + length (encode_string b) - content_start at b ≡ length b = omega arith in
     let d : drop at s ≡ (decimal (length b) ++ colon ∷ []) ++ (b ++ r) = e ∙ simp append_assoc in
     let a : at + length (decimal (length b) ++ colon ∷ []) ≡ content_start at b = omega arith in
-    part_bytes s (content_start at b) _ b r o (rw a at (after-part s at (decimal (length b) ++ colon ∷ []) (b ++ r) d))
+    part_bytes s (content_start at b) _ b r o (rw a at (after_part s at (decimal (length b) ++ colon ∷ []) (b ++ r) d))
 
 -- whether a value is a dictionary
 abbrev pub is_dictionary_value : Value → Bool
@@ -174,15 +174,15 @@ is_dictionary_value (list vs) = false
 is_dictionary_value (dictionary es) = true
 
 -- the first byte says so
-pub dictionary-is : (v : Value) (r : List ℕ) → is_dictionary (encode v ++ r) ≡ is_dictionary_value v
-dictionary-is (integer minus n) r = unfold encode is_dictionary in refl
-dictionary-is (string b) r =
+pub dictionary_is : (v : Value) (r : List ℕ) → is_dictionary (encode v ++ r) ≡ is_dictionary_value v
+dictionary_is (integer minus n) r = unfold encode is_dictionary in refl
+dictionary_is (string b) r =
     unfold BeginsWithDigit encode is_dictionary in
-    let f = decimal-first (length b) in
+    let f = decimal_first (length b) in
     let high = f.4 in
     rw append_assoc (rw f.2 (simp (ne_eqb f.0 letter_d (λ q. omega arith))))
-dictionary-is (list vs) r = unfold encode is_dictionary in refl
-dictionary-is (dictionary es) r = unfold encode is_dictionary in refl
+dictionary_is (list vs) r = unfold encode is_dictionary in refl
+dictionary_is (dictionary es) r = unfold encode is_dictionary in refl
 
 -- ---- a dictionary's entries, where `at` has come to the entries es
 
@@ -194,8 +194,8 @@ entry_read : (at : ℕ) (k r : List ℕ) (v : Value) → Valid v max_levels
     → read_entry at (encode_string k ++ (encode v ++ r)) ≡ Keyed (content_start at k) (value_start at k) (value_start at k + length (encode v))
 unfolding read_entry
 entry_read at k r v h =
-    ap (entry_with at (encode_string k ++ (encode v ++ r))) (string-read at k (encode v ++ r))
-    ∙ rw (past-part at (encode_string k) (encode v ++ r), complete v max_levels (value_start at k) r h) refl
+    ap (entry_with at (encode_string k ++ (encode v ++ r))) (string_read at k (encode v ++ r))
+    ∙ rw (past_part at (encode_string k) (encode v ++ r), complete v max_levels (value_start at k) r h) refl
 
 -- an entry is found: its key, its value's part, and the other entries follow
 pub record EntryIs (s : List ℕ) (at : ℕ) (k : List ℕ) (v : Value) (es : Entries) (r : List ℕ) : Type 0 where
@@ -205,87 +205,87 @@ pub record EntryIs (s : List ℕ) (at : ℕ) (k : List ℕ) (v : Value) (es : En
   pub next : drop (value_start at k + length (encode v)) s ≡ encode_entries es ++ r
 
 -- so it is, wherever an entry stands
-pub entry-is : (s : List ℕ) (at : ℕ) (k : List ℕ) (v : Value) (es : Entries) (r : List ℕ) → drop at s ≡ encode_entries (entry k v es) ++ r → Valid v max_levels → EntryIs s at k v es r
+pub entry_is : (s : List ℕ) (at : ℕ) (k : List ℕ) (v : Value) (es : Entries) (r : List ℕ) → drop at s ≡ encode_entries (entry k v es) ++ r → Valid v max_levels → EntryIs s at k v es r
 unfolding encode
-entry-is s at k v es r e h =
+entry_is s at k v es r e h =
     let f : drop at s ≡ encode_string k ++ (encode v ++ (encode_entries es ++ r)) =
     e ∙ append_assoc (encode_string k) (encode v ++ encode_entries es) r ∙ ap (λ (t : List ℕ). encode_string k ++ t) (append_assoc (encode v) (encode_entries es) r) in
-    let g : drop (value_start at k) s ≡ encode v ++ (encode_entries es ++ r) = after-part s at (encode_string k) (encode v ++ (encode_entries es ++ r)) f in
+    let g : drop (value_start at k) s ≡ encode v ++ (encode_entries es ++ r) = after_part s at (encode_string k) (encode v ++ (encode_entries es ++ r)) f in
     record {
       read = rw f (entry_read at k (encode_entries es ++ r) v h);
-      key = content-is s k (encode v ++ (encode_entries es ++ r)) at f;
+      key = content_is s k (encode v ++ (encode_entries es ++ r)) at f;
       value = part_bytes s (value_start at k) (length (encode v)) (encode v) (encode_entries es ++ r) refl g;
-      next = after-part s (value_start at k) (encode v) (encode_entries es ++ r) g;
+      next = after_part s (value_start at k) (encode v) (encode_entries es ++ r) g;
     }
 
 -- there is none at the `e`
-pub entry-none : (s : List ℕ) (at : ℕ) (r : List ℕ) → drop at s ≡ encode_entries no_entries ++ r → read_entry at (drop at s) ≡ NoEntry
+pub entry_none : (s : List ℕ) (at : ℕ) (r : List ℕ) → drop at s ≡ encode_entries no_entries ++ r → read_entry at (drop at s) ≡ NoEntry
 unfolding read_entry encode read_number read_digits
-entry-none s at r e = rw e refl
+entry_none s at r e = rw e refl
 
 -- a part that is an encoding stands at the front of the bytes from there on
-pub part-front : (s : List ℕ) (a b : ℕ) (v : Value) → cut s a (b - a) ≡ encode v → drop a s ≡ encode v ++ drop (b - a) (drop a s)
+pub part_front : (s : List ℕ) (a b : ℕ) (v : Value) → cut s a (b - a) ≡ encode v → drop a s ≡ encode v ++ drop (b - a) (drop a s)
 unfolding cut
-part-front s a b v e = sym (take-append-drop (b - a) (drop a s)) ∙ ap (λ (l : List ℕ). l ++ drop (b - a) (drop a s)) e
+part_front s a b v e = sym (take-append-drop (b - a) (drop a s)) ∙ ap (λ (l : List ℕ). l ++ drop (b - a) (drop a s)) e
 
 -- ---- the value of a key
 
 -- the bytes of an entry and those behind it
-pub entries-length : (k : List ℕ) (v : Value) (es : Entries) → length (encode_entries (entry k v es)) ≡ length (encode_string k) + length (encode v) + length (encode_entries es)
+pub entries_length : (k : List ℕ) (v : Value) (es : Entries) → length (encode_entries (entry k v es)) ≡ length (encode_string k) + length (encode v) + length (encode_entries es)
 unfolding encode
-entries-length k v es = let la = length-append (encode_string k) (encode v ++ encode_entries es) in let lb = length-append (encode v) (encode_entries es) in omega arith
+entries_length k v es = let la = length-append (encode_string k) (encode v ++ encode_entries es) in let lb = length-append (encode v) (encode_entries es) in omega arith
 
 -- the `e` at least
-pub entries-some : (es : Entries) → 0 < length (encode_entries es)
-entries-some no_entries = unfold encode in omega arith
-entries-some (entry k v es) = omega (arith, entries-length k v es, string-some k)
+pub entries_some : (es : Entries) → 0 < length (encode_entries es)
+entries_some no_entries = unfold encode in omega arith
+entries_some (entry k v es) = omega (arith, entries_length k v es, string_some k)
 
 between_is : (s : List ℕ) (at a b : ℕ) → at ≤ a → between at (drop at s) a b ≡ cut s a (b - a)
 unfolding cut
-between_is s at a b h = rw (drop-further s at a h) refl
+between_is s at a b h = rw (drop_further s at a h) refl
 
 by_key : (s : List ℕ) (b end : ℕ) (v : Value) (t : Bool) (x : Found) (y : Lookup) → cut s b (end - b) ≡ encode v → FoundIs s x y → FoundIs s (cond t (Part b end) x) (cond t (present v) y)
 by_key s b end v true x y p q = p
 by_key s b end v false x y p q = q
 
-found-entries : (key s : List ℕ) (es : Entries) (j : KeyBefore) (steps at : ℕ) (r : List ℕ) → drop at s ≡ encode_entries es ++ r → EntriesValid es j max_levels → length (encode_entries es) ≤ steps
+found_entries : (key s : List ℕ) (es : Entries) (j : KeyBefore) (steps at : ℕ) (r : List ℕ) → drop at s ≡ encode_entries es ++ r → EntriesValid es j max_levels → length (encode_entries es) ≤ steps
     → FoundIs s (find_in key steps at (drop at s)) (lookup key es)
 unfolding find_in lookup Valid
-found-entries key s es j zero at r e h g = absurd (omega (arith, entries-some es))
-found-entries key s no_entries j (suc f) at r e h g = rw (entry-none s at r e) tt
-found-entries key s (entry k v es) j (suc f) at r e h g =
-    let w = entry-is s at k v es r e h.1 in
+found_entries key s es j zero at r e h g = absurd (omega (arith, entries_some es))
+found_entries key s no_entries j (suc f) at r e h g = rw (entry_none s at r e) tt
+found_entries key s (entry k v es) j (suc f) at r e h g =
+    let w = entry_is s at k v es r e h.1 in
     let end = value_start at k + length (encode v) in
-    let fewer : length (encode_entries es) ≤ f = omega (arith, entries-length k v es, string-some k) in
+    let fewer : length (encode_entries es) ≤ f = omega (arith, entries_length k v es, string_some k) in
     let lc = length-append (decimal (length k)) (colon ∷ k) in
     let is_key : between at (drop at s) (content_start at k) (value_start at k) ≡ k = between_is s at (content_start at k) (value_start at k) (omega arith) ∙ w.key in
-    let behind : drop (end - at) (drop at s) ≡ drop end s = drop-further s at end (omega arith) in
+    let behind : drop (end - at) (drop at s) ≡ drop end s = drop_further s at end (omega arith) in
     let size : end - value_start at k ≡ length (encode v) = omega arith in
     rw w.read
     (rw (is_key, behind)
-    (by_key s (value_start at k) end v (same key k) (find_in key f end (drop end s)) (lookup key es) (rw size w.value) (found-entries key s es (after k) f end r w.next h.2 fewer)))
+    (by_key s (value_start at k) end v (same key k) (find_in key f end (drop end s)) (lookup key es) (rw size w.value) (found_entries key s es (after k) f end r w.next h.2 fewer)))
 
 -- a search finds what the dictionary has for the key, and nothing where it has nothing
-pub find-is : (key s : List ℕ) (at : ℕ) (es : Entries) (r : List ℕ) → drop at s ≡ encode (dictionary es) ++ r → Valid (dictionary es) max_levels
+pub find_is : (key s : List ℕ) (at : ℕ) (es : Entries) (r : List ℕ) → drop at s ≡ encode (dictionary es) ++ r → Valid (dictionary es) max_levels
     → FoundIs s (find_key key at (drop at s)) (lookup key es)
 unfolding find_key Valid
-find-is key s at es r e h =
-    let front : encode (dictionary es) ++ r ≡ letter_d ∷ (encode_entries es ++ r) = ap (λ (l : List ℕ). l ++ r) (dictionary-bytes es) in
-    let first : is_dictionary (drop at s) ≡ true = rw (e, dictionary-is (dictionary es) r) in
-    let f : drop (at + 1) s ≡ encode_entries es ++ r = after-part s at (letter_d ∷ []) (encode_entries es ++ r) (e ∙ front) in
+find_is key s at es r e h =
+    let front : encode (dictionary es) ++ r ≡ letter_d ∷ (encode_entries es ++ r) = ap (λ (l : List ℕ). l ++ r) (dictionary_bytes es) in
+    let first : is_dictionary (drop at s) ≡ true = rw (e, dictionary_is (dictionary es) r) in
+    let f : drop (at + 1) s ≡ encode_entries es ++ r = after_part s at (letter_d ∷ []) (encode_entries es ++ r) (e ∙ front) in
     let d : drop 1 (drop at s) ≡ drop (at + 1) s = drop-drop 1 at s in
     let enough : length (encode_entries es) ≤ suc (length (encode_entries es ++ r)) = omega (arith, length-append (encode_entries es) r) in
     let found : FoundIs s (find_in key (suc (length (encode_entries es ++ r))) (at + 1) (drop (at + 1) s)) (lookup key es) =
-    found-entries key s es none (suc (length (encode_entries es ++ r))) (at + 1) r f (entries-more-levels es none (max_levels - 1) max_levels (omega arith) h) enough in
+    found_entries key s es none (suc (length (encode_entries es ++ r))) (at + 1) r f (entries_more_levels es none (max_levels - 1) max_levels (omega arith) h) enough in
     let size : length (drop (at + 1) s) ≡ length (encode_entries es ++ r) = ap length f in
     rw first (rw (d, size) found)
 
 -- and what it has is valid, with a level less
-pub lookup-valid : (key : List ℕ) (es : Entries) (j : KeyBefore) (l : ℕ) (v : Value) → EntriesValid es j l → lookup key es ≡ present v → Valid v l
+pub lookup_valid : (key : List ℕ) (es : Entries) (j : KeyBefore) (l : ℕ) (v : Value) → EntriesValid es j l → lookup key es ≡ present v → Valid v l
 unfolding lookup Valid
-lookup-valid key no_entries j l v h e = let z : ◌≡◌ {A = ℕ} 0 1 = cc in absurd (omega arith)
-lookup-valid key (entry k w es) j l v h e = by-same (same key k) e (lookup-valid key es (after k) l v h.2)
+lookup_valid key no_entries j l v h e = let z : ◌≡◌ {A = ℕ} 0 1 = cc in absurd (omega arith)
+lookup_valid key (entry k w es) j l v h e = by_same (same key k) e (lookup_valid key es (after k) l v h.2)
   where
-    by-same : (t : Bool) → cond t (present w) (lookup key es) ≡ present v → (lookup key es ≡ present v → Valid v l) → Valid v l
-    by-same true q f = let x : w ≡ v = cc in rw x at h.1
-    by-same false q f = f q
+    by_same : (t : Bool) → cond t (present w) (lookup key es) ≡ present v → (lookup key es ≡ present v → Valid v l) → Valid v l
+    by_same true q f = let x : w ≡ v = cc in rw x at h.1
+    by_same false q f = f q

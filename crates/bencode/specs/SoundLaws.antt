@@ -11,8 +11,8 @@ use borrow.Author.Tests.{ne_eqb, lt-ltb, le-ltb, ltb-true, ltb-false, leb-true, 
 use Rattle.bencode.specs.Grammar.{minus_sign, digit_zero, digit_nine, colon, letter_d, letter_e, letter_i, letter_l, integer, string, list, dictionary, no_items, item, no_entries, entry, decimal_in, decimal, sign, encode_string, encode, encode_items, encode_entries, KeyBefore, none, after, ascends, IntegerFits, Valid, ItemsValid, EntriesValid}
 use Rattle.bencode.specs.Scalar.{bounded, read_digits, read_zero, read_number, content_in, read_string, negative, positive, read_signed}
 use Rattle.bencode.specs.Walk.{past_integer, past_string, onward, with_key, end_or, between, in_order, read_key, walk_items, walk_entries, walk_list, walk_dictionary, by_first, walk_value}
-use Rattle.bencode.specs.CondLaws.{cond-case}
-use Rattle.bencode.specs.CompleteLaws.{div-mod, content_start, content-bytes, past-part, integer-bytes, integer-length}
+use Rattle.bencode.specs.CondLaws.{cond_case}
+use Rattle.bencode.specs.CompleteLaws.{div_mod, content_start, content_bytes, past_part, integer_bytes, integer_length}
 use Rattle.bencode.specs.declared.decimal.Number.{Number}
 use Rattle.bencode.specs.declared.decimal.Number.TheVariants.{Is, NoNumber}
 use Rattle.bencode.specs.declared.scalar.ByteString.{ByteString}
@@ -24,18 +24,18 @@ use Rattle.bencode.specs.declared.walk.Walked.TheVariants.{Past, Broken, TooDeep
 
 -- ---- decimal: more steps change nothing, and a digit behind a number is ten times it and the digit
 
-more-steps : (f g n : ℕ) → n < f → n < g → decimal_in f n ≡ decimal_in g n
+more_steps : (f g n : ℕ) → n < f → n < g → decimal_in f n ≡ decimal_in g n
 unfolding decimal_in
-more-steps zero g n h i = absurd (omega arith)
-more-steps (suc f) zero n h i = absurd (omega arith)
-more-steps (suc f) (suc g) n h i = by_size (ltb n 10) refl (λ a b. more-steps f g (n / 10) a b)
+more_steps zero g n h i = absurd (omega arith)
+more_steps (suc f) zero n h i = absurd (omega arith)
+more_steps (suc f) (suc g) n h i = by_size (ltb n 10) refl (λ a b. more_steps f g (n / 10) a b)
   where
     by_size : (b : Bool) → ltb n 10 ≡ b → (n / 10 < f → n / 10 < g → decimal_in f (n / 10) ≡ decimal_in g (n / 10))
         → cond b ((digit_zero + n) ∷ []) (decimal_in f (n / 10) ++ (digit_zero + n % 10) ∷ []) ≡ cond b ((digit_zero + n) ∷ []) (decimal_in g (n / 10) ++ (digit_zero + n % 10) ∷ [])
     by_size true e ih = refl
     by_size false e ih =
         let q = ltb-false n 10 e in
-        let dm = div-mod n in
+        let dm = div_mod n in
         ap (λ (ds : List ℕ). ds ++ (digit_zero + n % 10) ∷ []) (ih (omega (arith, dm.0)) (omega (arith, dm.0)))
 
 pub decimal_digit : (d : ℕ) → d < 10 → decimal d ≡ (digit_zero + d) ∷ []
@@ -46,15 +46,15 @@ decimal_step : (m : ℕ) → 10 ≤ m → decimal m ≡ decimal_in m (m / 10) ++
 unfolding decimal_in
 decimal_step m h = simp (le-ltb m 10 h)
 
-pub decimal-longer : (n d : ℕ) → 0 < n → d < 10 → decimal (n * 10 + d) ≡ decimal n ++ (digit_zero + d) ∷ []
-decimal-longer n d h g =
+pub decimal_longer : (n d : ℕ) → 0 < n → d < 10 → decimal (n * 10 + d) ≡ decimal n ++ (digit_zero + d) ∷ []
+decimal_longer n d h g =
     let m = n * 10 + d in
-    let dm = div-mod m in
+    let dm = div_mod m in
     let a = dm.0 in
     let b = dm.1 in
     let q : m / 10 ≡ n = omega arith in
     let r : m % 10 ≡ d = omega arith in
-    decimal_step m (omega arith) ∙ rw (q, r) (ap (λ (ds : List ℕ). ds ++ (digit_zero + d) ∷ []) (more-steps m (suc n) n (omega arith) (omega arith)))
+    decimal_step m (omega arith) ∙ rw (q, r) (ap (λ (ds : List ℕ). ds ++ (digit_zero + d) ∷ []) (more_steps m (suc n) n (omega arith) (omega arith)))
 
 -- ---- numbers: xs begin with the digits of n that are not among those before, then `stop`
 
@@ -62,16 +62,16 @@ abbrev pub NumberIs : ℕ → ℕ → List ℕ → List ℕ → Number → Type 
 NumberIs stop at before xs NoNumber = Unit {0}
 NumberIs stop at before xs (Is n k) = (ds r : List ℕ) × (xs ≡ ds ++ stop ∷ r) × (decimal n ≡ before ++ ds) × (k ≡ at + length ds + 1)
 
-number-longer : (stop at c : ℕ) (before cs : List ℕ) (w : Number) → NumberIs stop (at + 1) (before ++ c ∷ []) cs w → NumberIs stop at before (c ∷ cs) w
-number-longer stop at c before cs NoNumber p = tt
-number-longer stop at c before cs (Is n k) p =
+number_longer : (stop at c : ℕ) (before cs : List ℕ) (w : Number) → NumberIs stop (at + 1) (before ++ c ∷ []) cs w → NumberIs stop at before (c ∷ cs) w
+number_longer stop at c before cs NoNumber p = tt
+number_longer stop at c before cs (Is n k) p =
     let q = p.4 in
     (c ∷ p.0, p.1, ap (λ (l : List ℕ). c ∷ l) p.2, p.3 ∙ append_assoc before (c ∷ []) p.0, omega arith)
 
-digits-sound : (stop n at : ℕ) (xs : List ℕ) → 0 < n → NumberIs stop at (decimal n) xs (read_digits stop n at xs)
+digits_sound : (stop n at : ℕ) (xs : List ℕ) → 0 < n → NumberIs stop at (decimal n) xs (read_digits stop n at xs)
 unfolding read_digits
-digits-sound stop n at [] h = tt
-digits-sound stop n at (c ∷ cs) h = by_byte (λ l. digits-sound stop (n * 10 + (c - digit_zero)) (at + 1) cs l)
+digits_sound stop n at [] h = tt
+digits_sound stop n at (c ∷ cs) h = by_byte (λ l. digits_sound stop (n * 10 + (c - digit_zero)) (at + 1) cs l)
   where
     P : Number → Type 0
     P w = NumberIs stop at (decimal n) (c ∷ cs) w
@@ -79,32 +79,32 @@ digits-sound stop n at (c ∷ cs) h = by_byte (λ l. digits-sound stop (n * 10 +
     digit : digit_zero ≤ c → c ≤ digit_nine → (0 < n * 10 + (c - digit_zero) → NumberIs stop (at + 1) (decimal (n * 10 + (c - digit_zero))) cs (read_digits stop (n * 10 + (c - digit_zero)) (at + 1) cs)) → P (read_digits stop (n * 10 + (c - digit_zero)) (at + 1) cs)
     digit l g ih =
         let o : digit_zero + (c - digit_zero) ≡ c = omega arith in
-        let s : decimal (n * 10 + (c - digit_zero)) ≡ decimal n ++ c ∷ [] = decimal-longer n (c - digit_zero) h (omega arith) ∙ rw o refl in
-        number-longer stop at c (decimal n) cs (read_digits stop (n * 10 + (c - digit_zero)) (at + 1) cs) (rw s at (ih (omega arith)))
+        let s : decimal (n * 10 + (c - digit_zero)) ≡ decimal n ++ c ∷ [] = decimal_longer n (c - digit_zero) h (omega arith) ∙ rw o refl in
+        number_longer stop at c (decimal n) cs (read_digits stop (n * 10 + (c - digit_zero)) (at + 1) cs) (rw s at (ih (omega arith)))
 
     by_byte : (0 < n * 10 + (c - digit_zero) → NumberIs stop (at + 1) (decimal (n * 10 + (c - digit_zero))) cs (read_digits stop (n * 10 + (c - digit_zero)) (at + 1) cs))
         → P (cond (eqb c stop) (Is n (at + 1)) (cond (ltb c digit_zero) NoNumber (cond (ltb digit_nine c) NoNumber (read_digits stop (n * 10 + (c - digit_zero)) (at + 1) cs))))
-    by_byte ih = cond-case P (eqb c stop) _ _
+    by_byte ih = cond_case P (eqb c stop) _ _
         (λ e. ([], cs, ap (λ (x : ℕ). x ∷ cs) (eqb-true c stop e), sym (append-nil (decimal n)), omega arith))
-        (λ e. cond-case P (ltb c digit_zero) _ _ (λ g. tt)
-        (λ f. cond-case P (ltb digit_nine c) _ _ (λ g. tt)
+        (λ e. cond_case P (ltb c digit_zero) _ _ (λ g. tt)
+        (λ f. cond_case P (ltb digit_nine c) _ _ (λ g. tt)
         (λ g. digit (ltb-false c digit_zero f) (ltb-false digit_nine c g) ih)))
 
-zero-sound : (stop at : ℕ) (xs : List ℕ) → NumberIs stop at (digit_zero ∷ []) xs (read_zero stop at xs)
+zero_sound : (stop at : ℕ) (xs : List ℕ) → NumberIs stop at (digit_zero ∷ []) xs (read_zero stop at xs)
 unfolding read_zero
-zero-sound stop at [] = tt
-zero-sound stop at (c ∷ cs) =
-    cond-case (NumberIs stop at (digit_zero ∷ []) (c ∷ cs)) (eqb c stop) (Is 0 (at + 1)) NoNumber
+zero_sound stop at [] = tt
+zero_sound stop at (c ∷ cs) =
+    cond_case (NumberIs stop at (digit_zero ∷ []) (c ∷ cs)) (eqb c stop) (Is 0 (at + 1)) NoNumber
     (λ e. ([], cs, ap (λ (x : ℕ). x ∷ cs) (eqb-true c stop e), decimal_digit 0 (omega arith), omega arith))
     (λ e. tt)
 
 -- from the first digit on, there is nothing before
-first-sound : (stop c at : ℕ) (cs : List ℕ) → (c ≡ digit_zero → ⊥) → (c ≡ stop → ⊥) → NumberIs stop at [] (c ∷ cs) (read_digits stop 0 at (c ∷ cs))
+first_sound : (stop c at : ℕ) (cs : List ℕ) → (c ≡ digit_zero → ⊥) → (c ≡ stop → ⊥) → NumberIs stop at [] (c ∷ cs) (read_digits stop 0 at (c ∷ cs))
 unfolding read_digits
-first-sound stop c at cs not-zero not-stop =
-    rw (ne_eqb c stop not-stop)
-    (cond-case P (ltb c digit_zero) _ _ (λ g. tt)
-    (λ f. cond-case P (ltb digit_nine c) _ _ (λ g. tt)
+first_sound stop c at cs not_zero not_stop =
+    rw (ne_eqb c stop not_stop)
+    (cond_case P (ltb c digit_zero) _ _ (λ g. tt)
+    (λ f. cond_case P (ltb digit_nine c) _ _ (λ g. tt)
     (λ g. digit (ltb-false c digit_zero f) (ltb-false digit_nine c g))))
   where
     P : Number → Type 0
@@ -118,25 +118,25 @@ first-sound stop c at cs not-zero not-stop =
         let m = 0 * 10 + (c - digit_zero) in
         let o : digit_zero + m ≡ c = omega arith in
         let s : decimal m ≡ c ∷ [] = decimal_digit m (omega arith) ∙ rw o refl in
-        let z : 0 < m = some (c - digit_zero) (λ q. not-zero (omega arith)) in
-        number-longer stop at c [] cs (read_digits stop m (at + 1) cs) (rw s at (digits-sound stop m (at + 1) cs z))
+        let z : 0 < m = some (c - digit_zero) (λ q. not_zero (omega arith)) in
+        number_longer stop at c [] cs (read_digits stop m (at + 1) cs) (rw s at (digits_sound stop m (at + 1) cs z))
 
-pub number-sound : (stop at : ℕ) (xs : List ℕ) → NumberIs stop at [] xs (read_number stop at xs)
+pub number_sound : (stop at : ℕ) (xs : List ℕ) → NumberIs stop at [] xs (read_number stop at xs)
 unfolding read_number
-number-sound stop at [] = tt
-number-sound stop at (c ∷ cs) =
-    cond-case (NumberIs stop at [] (c ∷ cs)) (eqb c digit_zero) _ _
-    (λ e. let o : digit_zero ≡ c = sym (eqb-true c digit_zero e) in number-longer stop at c [] cs (read_zero stop (at + 1) cs) (rw o at (zero-sound stop (at + 1) cs)))
-    (λ e. cond-case (NumberIs stop at [] (c ∷ cs)) (eqb c stop) _ _ (λ f. tt) (λ f. first-sound stop c at cs (eqb-false c digit_zero e) (eqb-false c stop f)))
+number_sound stop at [] = tt
+number_sound stop at (c ∷ cs) =
+    cond_case (NumberIs stop at [] (c ∷ cs)) (eqb c digit_zero) _ _
+    (λ e. let o : digit_zero ≡ c = sym (eqb-true c digit_zero e) in number_longer stop at c [] cs (read_zero stop (at + 1) cs) (rw o at (zero_sound stop (at + 1) cs)))
+    (λ e. cond_case (NumberIs stop at [] (c ∷ cs)) (eqb c stop) _ _ (λ f. tt) (λ f. first_sound stop c at cs (eqb-false c digit_zero e) (eqb-false c stop f)))
 
 -- within the bound too
 abbrev BoundedIs : ℕ → ℕ → List ℕ → Number → Type 0
 BoundedIs stop at xs NoNumber = Unit {0}
 BoundedIs stop at xs (Is n k) = NumberIs stop at [] xs (Is n k) × (n ≤ 2 ^ 63)
 
-bounded-sound : (stop at : ℕ) (xs : List ℕ) (w : Number) → NumberIs stop at [] xs w → BoundedIs stop at xs (bounded w)
-bounded-sound stop at xs NoNumber p = tt
-bounded-sound stop at xs (Is n k) p = cond-case (BoundedIs stop at xs) (leb n (2 ^ 63)) (Is n k) NoNumber (λ e. (p, leb-true n (2 ^ 63) e)) (λ e. tt)
+bounded_sound : (stop at : ℕ) (xs : List ℕ) (w : Number) → NumberIs stop at [] xs w → BoundedIs stop at xs (bounded w)
+bounded_sound stop at xs NoNumber p = tt
+bounded_sound stop at xs (Is n k) p = cond_case (BoundedIs stop at xs) (leb n (2 ^ 63)) (Is n k) NoNumber (λ e. (p, leb-true n (2 ^ 63) e)) (λ e. tt)
 
 -- ---- strings
 
@@ -145,13 +145,13 @@ abbrev pub StringIs : ℕ → List ℕ → ByteString → Type 0
 StringIs at xs NoString = Unit {0}
 StringIs at xs (Content a b) = (k r : List ℕ) × (xs ≡ encode_string k ++ r) × (a ≡ content_start at k) × (b ≡ at + length (encode_string k))
 
-take-drop : (n : ℕ) (l : List ℕ) → take n l ++ drop n l ≡ l
-take-drop zero l = refl
-take-drop (suc n) [] = refl
-take-drop (suc n) (x ∷ l) = ap (λ (m : List ℕ). x ∷ m) (take-drop n l)
+take_drop : (n : ℕ) (l : List ℕ) → take n l ++ drop n l ≡ l
+take_drop zero l = refl
+take_drop (suc n) [] = refl
+take_drop (suc n) (x ∷ l) = ap (λ (m : List ℕ). x ∷ m) (take_drop n l)
 
-string-made : (at n k : ℕ) (xs : List ℕ) → NumberIs colon at [] xs (Is n k) → n ≤ at + length xs - k → StringIs at xs (Content k (k + n))
-string-made at n k xs p h =
+string_made : (at n k : ℕ) (xs : List ℕ) → NumberIs colon at [] xs (Is n k) → n ≤ at + length xs - k → StringIs at xs (Content k (k + n))
+string_made at n k xs p h =
     let ds = p.0 in
     let r = p.1 in
     let d : decimal n ≡ ds = p.3 in
@@ -164,20 +164,20 @@ string-made at n k xs p h =
     let lb = length-append ds (colon ∷ b) in (
       b,
       drop n r,
-      p.2 ∙ rw e (sym (append_assoc ds (colon ∷ b) (drop n r) ∙ ap (λ (l : List ℕ). ds ++ colon ∷ l) (take-drop n r))),
+      p.2 ∙ rw e (sym (append_assoc ds (colon ∷ b) (drop n r) ∙ ap (λ (l : List ℕ). ds ++ colon ∷ l) (take_drop n r))),
       rw e p.4,
       rw e (omega arith),
     )
 
-content-sound : (at : ℕ) (xs : List ℕ) (w : Number) → NumberIs colon at [] xs w → StringIs at xs (content_in (at + length xs) w)
-content-sound at xs NoNumber p = tt
-content-sound at xs (Is n k) p =
-    cond-case (StringIs at xs) (leb n (at + length xs - k)) (Content k (k + n)) NoString
-    (λ e. string-made at n k xs p (leb-true n (at + length xs - k) e)) (λ e. tt)
+content_sound : (at : ℕ) (xs : List ℕ) (w : Number) → NumberIs colon at [] xs w → StringIs at xs (content_in (at + length xs) w)
+content_sound at xs NoNumber p = tt
+content_sound at xs (Is n k) p =
+    cond_case (StringIs at xs) (leb n (at + length xs - k)) (Content k (k + n)) NoString
+    (λ e. string_made at n k xs p (leb-true n (at + length xs - k) e)) (λ e. tt)
 
 -- what is read as a string is one
-pub string-sound : (at : ℕ) (xs : List ℕ) → StringIs at xs (read_string at xs)
-string-sound at xs = content-sound at xs (read_number colon at xs) (number-sound colon at xs)
+pub string_sound : (at : ℕ) (xs : List ℕ) → StringIs at xs (read_string at xs)
+string_sound at xs = content_sound at xs (read_number colon at xs) (number_sound colon at xs)
 
 -- ---- integers, past the `i`
 
@@ -186,36 +186,36 @@ IntegerIs at xs NoInteger = Unit {0}
 IntegerIs at xs (Whole minus n k) =
     (r : List ℕ) × (xs ≡ sign minus ++ (decimal n ++ letter_e ∷ r)) × IntegerFits minus n × (k ≡ at + length (sign minus) + length (decimal n) + 1)
 
-negative-sound : (at : ℕ) (cs : List ℕ) (w : Number) → BoundedIs letter_e (at + 1) cs w → IntegerIs at (minus_sign ∷ cs) (negative w)
-negative-sound at cs NoNumber p = tt
-negative-sound at cs (Is n k) b =
+negative_sound : (at : ℕ) (cs : List ℕ) (w : Number) → BoundedIs letter_e (at + 1) cs w → IntegerIs at (minus_sign ∷ cs) (negative w)
+negative_sound at cs NoNumber p = tt
+negative_sound at cs (Is n k) b =
     let p = b.0 in
     let d : p.0 ≡ decimal n = sym p.3 in
     let q : k ≡ at + 1 + length (decimal n) + 1 = rw d at p.4 in
-    cond-case (IntegerIs at (minus_sign ∷ cs)) (eqb n 0) NoInteger (Whole true n k) (λ e. tt)
+    cond_case (IntegerIs at (minus_sign ∷ cs)) (eqb n 0) NoInteger (Whole true n k) (λ e. tt)
     (λ e. (p.1, ap (λ (l : List ℕ). minus_sign ∷ l) (rw d at p.2), (some n (eqb-false n 0 e), b.1), omega arith))
   where
     some : (n : ℕ) → (n ≡ 0 → ⊥) → 0 < n
     some n f = omega arith
 
-positive-sound : (at : ℕ) (xs : List ℕ) (w : Number) → BoundedIs letter_e at xs w → IntegerIs at xs (positive w)
-positive-sound at xs NoNumber p = tt
-positive-sound at xs (Is n k) b =
+positive_sound : (at : ℕ) (xs : List ℕ) (w : Number) → BoundedIs letter_e at xs w → IntegerIs at xs (positive w)
+positive_sound at xs NoNumber p = tt
+positive_sound at xs (Is n k) b =
     let p = b.0 in
     let d : p.0 ≡ decimal n = sym p.3 in
     let q : k ≡ at + length (decimal n) + 1 = rw d at p.4 in
-    cond-case (IntegerIs at xs) (ltb n (2 ^ 63)) (Whole false n k) NoInteger
+    cond_case (IntegerIs at xs) (ltb n (2 ^ 63)) (Whole false n k) NoInteger
     (λ e. (p.1, rw d at p.2, ltb-true n (2 ^ 63) e, omega arith)) (λ e. tt)
 
-signed-sound : (at : ℕ) (xs : List ℕ) → IntegerIs at xs (read_signed at xs)
+signed_sound : (at : ℕ) (xs : List ℕ) → IntegerIs at xs (read_signed at xs)
 unfolding read_signed
-signed-sound at [] = tt
-signed-sound at (c ∷ cs) =
+signed_sound at [] = tt
+signed_sound at (c ∷ cs) =
     let behind = read_number letter_e (at + 1) cs in
     let here = read_number letter_e at (c ∷ cs) in
-    cond-case (IntegerIs at (c ∷ cs)) (eqb c minus_sign) _ _
-    (λ e. rw (eqb-true c minus_sign e) (negative-sound at cs (bounded behind) (bounded-sound letter_e (at + 1) cs behind (number-sound letter_e (at + 1) cs))))
-    (λ e. positive-sound at (c ∷ cs) (bounded here) (bounded-sound letter_e at (c ∷ cs) here (number-sound letter_e at (c ∷ cs))))
+    cond_case (IntegerIs at (c ∷ cs)) (eqb c minus_sign) _ _
+    (λ e. rw (eqb-true c minus_sign e) (negative_sound at cs (bounded behind) (bounded_sound letter_e (at + 1) cs behind (number_sound letter_e (at + 1) cs))))
+    (λ e. positive_sound at (c ∷ cs) (bounded here) (bounded_sound letter_e at (c ∷ cs) here (number_sound letter_e at (c ∷ cs))))
 
 -- ---- values, items and entries: the bytes begin with the encoding of one that is valid
 
@@ -235,8 +235,8 @@ module _ {A : Type 0} (enc : A → List ℕ) (ok : A → Type 0) where
   WalkedIs at xs (Past k) = Begins at xs k
 
   -- what is left of the bytes
-  pub rest-is : (at : ℕ) (xs : List ℕ) (k : ℕ) (b : Begins at xs k) → drop (k - at) xs ≡ b.rest
-  rest-is at xs k b = rw (b.ends, b.bytes) (past-part at (enc b.it) b.rest)
+  pub rest_is : (at : ℕ) (xs : List ℕ) (k : ℕ) (b : Begins at xs k) → drop (k - at) xs ≡ b.rest
+  rest_is at xs k b = rw (b.ends, b.bytes) (past_part at (enc b.it) b.rest)
 
 -- and for values, items, entries
 abbrev pub ValueIs : ℕ → ℕ → List ℕ → Walked → Type 0
@@ -249,23 +249,23 @@ abbrev EntriesIs : ℕ → KeyBefore → ℕ → List ℕ → Walked → Type 0
 EntriesIs l j = WalkedIs encode_entries (λ es. EntriesValid es j l)
 
 -- an `e` is the encoding of none
-module _ {A : Type 0} (enc : A → List ℕ) (ok : A → Type 0) (no : A) (is-e : enc no ≡ letter_e ∷ []) (fine : ok no) where
-  end-sound : (at : ℕ) (xs : List ℕ) (w : Walked) → WalkedIs enc ok at xs w → WalkedIs enc ok at xs (end_or at xs w)
+module _ {A : Type 0} (enc : A → List ℕ) (ok : A → Type 0) (no : A) (is_e : enc no ≡ letter_e ∷ []) (fine : ok no) where
+  end_sound : (at : ℕ) (xs : List ℕ) (w : Walked) → WalkedIs enc ok at xs w → WalkedIs enc ok at xs (end_or at xs w)
   unfolding end_or
-  end-sound at [] w p = tt
-  end-sound at (c ∷ cs) w p =
-      cond-case (WalkedIs enc ok at (c ∷ cs)) (eqb c letter_e) (Past (at + 1)) w
-      (λ e. record { it = no; rest = cs; bytes = rw (is-e, eqb-true c letter_e e) refl; valid = fine; ends = rw is-e refl })
+  end_sound at [] w p = tt
+  end_sound at (c ∷ cs) w p =
+      cond_case (WalkedIs enc ok at (c ∷ cs)) (eqb c letter_e) (Past (at + 1)) w
+      (λ e. record { it = no; rest = cs; bytes = rw (is_e, eqb-true c letter_e e) refl; valid = fine; ends = rw is_e refl })
       (λ e. p)
 
 -- an item, then the rest of a list
 module _ (l at : ℕ) (xs : List ℕ) where
-  items-joined : (k : ℕ) (b : Begins encode (λ v. Valid v l) at xs k) (w : Walked) → ItemsIs l k (drop (k - at) xs) w → ItemsIs l at xs w
+  items_joined : (k : ℕ) (b : Begins encode (λ v. Valid v l) at xs k) (w : Walked) → ItemsIs l k (drop (k - at) xs) w → ItemsIs l at xs w
   unfolding encode Valid
-  items-joined k b Broken p = tt
-  items-joined k b TooDeep p = tt
-  items-joined k b (Past m) p =
-      let z : drop (k - at) xs ≡ b.rest = rest-is encode (λ v. Valid v l) at xs k b in
+  items_joined k b Broken p = tt
+  items_joined k b TooDeep p = tt
+  items_joined k b (Past m) p =
+      let z : drop (k - at) xs ≡ b.rest = rest_is encode (λ v. Valid v l) at xs k b in
       let q = b.ends in
       let o = p.ends in
       let la = length-append (encode b.it) (encode_items p.it) in
@@ -277,50 +277,50 @@ module _ (l at : ℕ) (xs : List ℕ) where
         ends = omega arith;
       }
 
-  items-onward : (w : Walked) (go : ℕ → Walked) → ValueIs l at xs w → ((k : ℕ) → ItemsIs l k (drop (k - at) xs) (go k)) → ItemsIs l at xs (onward w go)
-  items-onward Broken go p h = tt
-  items-onward TooDeep go p h = tt
-  items-onward (Past k) go p h = items-joined k p (go k) (h k)
+  items_onward : (w : Walked) (go : ℕ → Walked) → ValueIs l at xs w → ((k : ℕ) → ItemsIs l k (drop (k - at) xs) (go k)) → ItemsIs l at xs (onward w go)
+  items_onward Broken go p h = tt
+  items_onward TooDeep go p h = tt
+  items_onward (Past k) go p h = items_joined k p (go k) (h k)
 
 no_items_lem : encode_items no_items ≡ letter_e ∷ []
 unfolding encode
 no_items_lem = refl
 
-no-items-valid : (l : ℕ) → ItemsValid no_items l
+no_items_valid : (l : ℕ) → ItemsValid no_items l
 unfolding Valid
-no-items-valid l = tt
+no_items_valid l = tt
 
-items-sound : (l : ℕ) → ((at : ℕ) (xs : List ℕ) → ValueIs l at xs (walk_value l at xs)) → (f at : ℕ) (xs : List ℕ) → ItemsIs l at xs (walk_items (walk_value l) f at xs)
+items_sound : (l : ℕ) → ((at : ℕ) (xs : List ℕ) → ValueIs l at xs (walk_value l at xs)) → (f at : ℕ) (xs : List ℕ) → ItemsIs l at xs (walk_items (walk_value l) f at xs)
 unfolding walk_items
-items-sound l h zero at xs = tt
-items-sound l h (suc f) at xs =
-    end-sound encode_items (λ vs. ItemsValid vs l) no_items no_items_lem (no-items-valid l) at xs _
-    (items-onward l at xs (walk_value l at xs) (λ k. walk_items (walk_value l) f k (drop (k - at) xs)) (h at xs) (λ k. items-sound l h f k (drop (k - at) xs)))
+items_sound l h zero at xs = tt
+items_sound l h (suc f) at xs =
+    end_sound encode_items (λ vs. ItemsValid vs l) no_items no_items_lem (no_items_valid l) at xs _
+    (items_onward l at xs (walk_value l at xs) (λ k. walk_items (walk_value l) f k (drop (k - at) xs)) (h at xs) (λ k. items_sound l h f k (drop (k - at) xs)))
 
 -- a key
 abbrev pub KeyIs : KeyBefore → ℕ → List ℕ → ByteString → Type 0
 KeyIs j at xs NoString = Unit {0}
 KeyIs j at xs (Content a b) = (k r : List ℕ) × (xs ≡ encode_string k ++ r) × (ascends j k ≡ true) × (between at xs a b ≡ k) × (b ≡ at + length (encode_string k))
 
-in-order-sound : (j : KeyBefore) (at : ℕ) (xs : List ℕ) (w : ByteString) → StringIs at xs w → KeyIs j at xs (in_order j at xs w)
-in-order-sound j at xs NoString p = tt
-in-order-sound j at xs (Content a b) p =
-    let s : between at xs a b ≡ p.0 = rw (p.2, p.3, p.4) (content-bytes at p.0 p.1) in
-    cond-case (KeyIs j at xs) (ascends j (between at xs a b)) (Content a b) NoString
+in_order_sound : (j : KeyBefore) (at : ℕ) (xs : List ℕ) (w : ByteString) → StringIs at xs w → KeyIs j at xs (in_order j at xs w)
+in_order_sound j at xs NoString p = tt
+in_order_sound j at xs (Content a b) p =
+    let s : between at xs a b ≡ p.0 = rw (p.2, p.3, p.4) (content_bytes at p.0 p.1) in
+    cond_case (KeyIs j at xs) (ascends j (between at xs a b)) (Content a b) NoString
     (λ e. (p.0, p.1, p.2, rw s at e, s, p.4)) (λ e. tt)
 
 -- what is read as a key is one, and ascends
-pub key-sound : (j : KeyBefore) (at : ℕ) (xs : List ℕ) → KeyIs j at xs (read_key j at xs)
-key-sound j at xs = in-order-sound j at xs (read_string at xs) (string-sound at xs)
+pub key_sound : (j : KeyBefore) (at : ℕ) (xs : List ℕ) → KeyIs j at xs (read_key j at xs)
+key_sound j at xs = in_order_sound j at xs (read_string at xs) (string_sound at xs)
 
 -- a key and its value, then the rest of a dictionary
 module _ (l : ℕ) (j : KeyBefore) (at : ℕ) (xs : List ℕ) where
   module _ (k r : List ℕ) (e : xs ≡ encode_string k ++ r) (a : ascends j k ≡ true) where
-    entries-joined : (m : ℕ) (b : Begins encode (λ v. Valid v l) (at + length (encode_string k)) r m) (w : Walked) → EntriesIs l (after k) m (drop (m - at) xs) w → EntriesIs l j at xs w
+    entries_joined : (m : ℕ) (b : Begins encode (λ v. Valid v l) (at + length (encode_string k)) r m) (w : Walked) → EntriesIs l (after k) m (drop (m - at) xs) w → EntriesIs l j at xs w
     unfolding encode Valid
-    entries-joined m b Broken q = tt
-    entries-joined m b TooDeep q = tt
-    entries-joined m b (Past n) q =
+    entries_joined m b Broken q = tt
+    entries_joined m b TooDeep q = tt
+    entries_joined m b (Past n) q =
         let v = b.it in
         let x = b.ends in
         let y = q.ends in
@@ -338,84 +338,84 @@ module _ (l : ℕ) (j : KeyBefore) (at : ℕ) (xs : List ℕ) where
           ends = omega arith;
         }
 
-    entries-onward : (w : Walked) (go : ℕ → Walked) → ValueIs l (at + length (encode_string k)) r w → ((m : ℕ) → EntriesIs l (after k) m (drop (m - at) xs) (go m)) → EntriesIs l j at xs (onward w go)
-    entries-onward Broken go q f = tt
-    entries-onward TooDeep go q f = tt
-    entries-onward (Past m) go q f = entries-joined m q (go m) (f m)
+    entries_onward : (w : Walked) (go : ℕ → Walked) → ValueIs l (at + length (encode_string k)) r w → ((m : ℕ) → EntriesIs l (after k) m (drop (m - at) xs) (go m)) → EntriesIs l j at xs (onward w go)
+    entries_onward Broken go q f = tt
+    entries_onward TooDeep go q f = tt
+    entries_onward (Past m) go q f = entries_joined m q (go m) (f m)
 
-  entries-with-key : (value : ℕ → List ℕ → Walked) (more : KeyBefore → ℕ → List ℕ → Walked) (w : ByteString) → KeyIs j at xs w
+  entries_with_key : (value : ℕ → List ℕ → Walked) (more : KeyBefore → ℕ → List ℕ → Walked) (w : ByteString) → KeyIs j at xs w
       → ((i : ℕ) (ys : List ℕ) → ValueIs l i ys (value i ys)) → ((q : KeyBefore) (i : ℕ) (ys : List ℕ) → EntriesIs l q i ys (more q i ys))
       → EntriesIs l j at xs (with_key w (λ a b. onward (value b (drop (b - at) xs)) (λ m. more (after (between at xs a b)) m (drop (m - at) xs))))
-  entries-with-key value more NoString p hv hm = tt
-  entries-with-key value more (Content a b) p hv hm =
+  entries_with_key value more NoString p hv hm = tt
+  entries_with_key value more (Content a b) p hv hm =
       let k = p.0 in
       let r = p.1 in
-      let z : drop (at + length (encode_string k) - at) xs ≡ r = rw p.2 (past-part at (encode_string k) r) in
+      let z : drop (at + length (encode_string k) - at) xs ≡ r = rw p.2 (past_part at (encode_string k) r) in
       rw (p.4, p.5, z)
-      (entries-onward k r p.2 p.3 (value (at + length (encode_string k)) r) (λ m. more (after k) m (drop (m - at) xs)) (hv (at + length (encode_string k)) r) (λ m. hm (after k) m (drop (m - at) xs)))
+      (entries_onward k r p.2 p.3 (value (at + length (encode_string k)) r) (λ m. more (after k) m (drop (m - at) xs)) (hv (at + length (encode_string k)) r) (λ m. hm (after k) m (drop (m - at) xs)))
 
-no-entries : encode_entries no_entries ≡ letter_e ∷ []
+no_entries_lem : encode_entries no_entries ≡ letter_e ∷ []
 unfolding encode
-no-entries = refl
+no_entries_lem = refl
 
-pub no-entries-valid : (j : KeyBefore) (l : ℕ) → EntriesValid no_entries j l
+pub no_entries_valid : (j : KeyBefore) (l : ℕ) → EntriesValid no_entries j l
 unfolding Valid
-no-entries-valid j l = tt
+no_entries_valid j l = tt
 
-entries-sound : (l : ℕ) → ((at : ℕ) (xs : List ℕ) → ValueIs l at xs (walk_value l at xs)) → (f : ℕ) (j : KeyBefore) (at : ℕ) (xs : List ℕ) → EntriesIs l j at xs (walk_entries (walk_value l) f j at xs)
+entries_sound : (l : ℕ) → ((at : ℕ) (xs : List ℕ) → ValueIs l at xs (walk_value l at xs)) → (f : ℕ) (j : KeyBefore) (at : ℕ) (xs : List ℕ) → EntriesIs l j at xs (walk_entries (walk_value l) f j at xs)
 unfolding walk_entries
-entries-sound l h zero j at xs = tt
-entries-sound l h (suc f) j at xs =
-    end-sound encode_entries (λ es. EntriesValid es j l) no_entries no-entries (no-entries-valid j l) at xs _
-    (entries-with-key l j at xs (walk_value l) (walk_entries (walk_value l) f) (read_key j at xs) (key-sound j at xs) h (λ q i ys. entries-sound l h f q i ys))
+entries_sound l h zero j at xs = tt
+entries_sound l h (suc f) j at xs =
+    end_sound encode_entries (λ es. EntriesValid es j l) no_entries no_entries_lem (no_entries_valid j l) at xs _
+    (entries_with_key l j at xs (walk_value l) (walk_entries (walk_value l) f) (read_key j at xs) (key_sound j at xs) h (λ q i ys. entries_sound l h f q i ys))
 
 -- one value
-integer-value : (l at : ℕ) (cs : List ℕ) (w : Integer) → IntegerIs (at + 1) cs w → ValueIs l at (letter_i ∷ cs) (past_integer w)
+integer_value : (l at : ℕ) (cs : List ℕ) (w : Integer) → IntegerIs (at + 1) cs w → ValueIs l at (letter_i ∷ cs) (past_integer w)
 unfolding Valid
-integer-value l at cs NoInteger p = tt
-integer-value l at cs (Whole minus n k) p =
+integer_value l at cs NoInteger p = tt
+integer_value l at cs (Whole minus n k) p =
     let q = p.3 in
-    record { it = integer minus n; rest = p.0; bytes = ap (λ (t : List ℕ). letter_i ∷ t) p.1 ∙ sym (integer-bytes minus n p.0); valid = p.2; ends = omega (arith, integer-length minus n) }
+    record { it = integer minus n; rest = p.0; bytes = ap (λ (t : List ℕ). letter_i ∷ t) p.1 ∙ sym (integer_bytes minus n p.0); valid = p.2; ends = omega (arith, integer_length minus n) }
 
-string-value : (l at : ℕ) (xs : List ℕ) (w : ByteString) → StringIs at xs w → ValueIs l at xs (past_string w)
+string_value : (l at : ℕ) (xs : List ℕ) (w : ByteString) → StringIs at xs w → ValueIs l at xs (past_string w)
 unfolding encode Valid
-string-value l at xs NoString p = tt
-string-value l at xs (Content a b) p = record { it = string p.0; rest = p.1; bytes = p.2; valid = tt; ends = p.4 }
+string_value l at xs NoString p = tt
+string_value l at xs (Content a b) p = record { it = string p.0; rest = p.1; bytes = p.2; valid = tt; ends = p.4 }
 
-list-value : (l at : ℕ) (cs : List ℕ) (w : Walked) → ItemsIs l (at + 1) cs w → ValueIs (suc l) at (letter_l ∷ cs) w
+list_value : (l at : ℕ) (cs : List ℕ) (w : Walked) → ItemsIs l (at + 1) cs w → ValueIs (suc l) at (letter_l ∷ cs) w
 unfolding encode Valid
-list-value l at cs Broken p = tt
-list-value l at cs TooDeep p = tt
-list-value l at cs (Past k) p = let q = p.ends in record { it = list p.it; rest = p.rest; bytes = ap (λ (t : List ℕ). letter_l ∷ t) p.bytes; valid = p.valid; ends = omega arith }
+list_value l at cs Broken p = tt
+list_value l at cs TooDeep p = tt
+list_value l at cs (Past k) p = let q = p.ends in record { it = list p.it; rest = p.rest; bytes = ap (λ (t : List ℕ). letter_l ∷ t) p.bytes; valid = p.valid; ends = omega arith }
 
-dictionary-value : (l at : ℕ) (cs : List ℕ) (w : Walked) → EntriesIs l none (at + 1) cs w → ValueIs (suc l) at (letter_d ∷ cs) w
+dictionary_value : (l at : ℕ) (cs : List ℕ) (w : Walked) → EntriesIs l none (at + 1) cs w → ValueIs (suc l) at (letter_d ∷ cs) w
 unfolding encode Valid
-dictionary-value l at cs Broken p = tt
-dictionary-value l at cs TooDeep p = tt
-dictionary-value l at cs (Past k) p = let q = p.ends in record { it = dictionary p.it; rest = p.rest; bytes = ap (λ (t : List ℕ). letter_d ∷ t) p.bytes; valid = p.valid; ends = omega arith }
+dictionary_value l at cs Broken p = tt
+dictionary_value l at cs TooDeep p = tt
+dictionary_value l at cs (Past k) p = let q = p.ends in record { it = dictionary p.it; rest = p.rest; bytes = ap (λ (t : List ℕ). letter_d ∷ t) p.bytes; valid = p.valid; ends = omega arith }
 
-first-byte-sound : (l at : ℕ) (xs : List ℕ) (ls ds : Walked) → ((cs : List ℕ) → xs ≡ letter_l ∷ cs → ValueIs l at (letter_l ∷ cs) ls) → ((cs : List ℕ) → xs ≡ letter_d ∷ cs → ValueIs l at (letter_d ∷ cs) ds)
+first_byte_sound : (l at : ℕ) (xs : List ℕ) (ls ds : Walked) → ((cs : List ℕ) → xs ≡ letter_l ∷ cs → ValueIs l at (letter_l ∷ cs) ls) → ((cs : List ℕ) → xs ≡ letter_d ∷ cs → ValueIs l at (letter_d ∷ cs) ds)
     → ValueIs l at xs (by_first at xs ls ds)
 unfolding by_first
-first-byte-sound l at [] ls ds p q = tt
-first-byte-sound l at (c ∷ cs) ls ds p q =
-    cond-case (ValueIs l at (c ∷ cs)) (eqb c letter_i) _ _
-    (λ e. rw (eqb-true c letter_i e) (integer-value l at cs (read_signed (at + 1) cs) (signed-sound (at + 1) cs)))
-    (λ e. cond-case (ValueIs l at (c ∷ cs)) (eqb c letter_l) _ _
+first_byte_sound l at [] ls ds p q = tt
+first_byte_sound l at (c ∷ cs) ls ds p q =
+    cond_case (ValueIs l at (c ∷ cs)) (eqb c letter_i) _ _
+    (λ e. rw (eqb-true c letter_i e) (integer_value l at cs (read_signed (at + 1) cs) (signed_sound (at + 1) cs)))
+    (λ e. cond_case (ValueIs l at (c ∷ cs)) (eqb c letter_l) _ _
     (λ f. rw (eqb-true c letter_l f) (p cs (ap (λ (x : ℕ). x ∷ cs) (eqb-true c letter_l f))))
-    (λ f. cond-case (ValueIs l at (c ∷ cs)) (eqb c letter_d) _ _
+    (λ f. cond_case (ValueIs l at (c ∷ cs)) (eqb c letter_d) _ _
     (λ g. rw (eqb-true c letter_d g) (q cs (ap (λ (x : ℕ). x ∷ cs) (eqb-true c letter_d g))))
-    (λ g. string-value l at (c ∷ cs) (read_string at (c ∷ cs)) (string-sound at (c ∷ cs)))))
+    (λ g. string_value l at (c ∷ cs) (read_string at (c ∷ cs)) (string_sound at (c ∷ cs)))))
 
 -- what the walk says of a value, in each of its cases
-pub value-sound : (l at : ℕ) (xs : List ℕ) → ValueIs l at xs (walk_value l at xs)
+pub value_sound : (l at : ℕ) (xs : List ℕ) → ValueIs l at xs (walk_value l at xs)
 unfolding walk_value
-value-sound zero at xs = first-byte-sound 0 at xs TooDeep TooDeep (λ cs e. tt) (λ cs e. tt)
-value-sound (suc l) at xs =
-    first-byte-sound (suc l) at xs _ _
-    (λ cs e. rw e (list-value l at cs (walk_list (walk_value l) (at + 1) cs) (items-sound l (value-sound l) (suc (length cs)) (at + 1) cs)))
-    (λ cs e. rw e (dictionary-value l at cs (walk_dictionary (walk_value l) (at + 1) cs) (entries-sound l (value-sound l) (suc (length cs)) none (at + 1) cs)))
+value_sound zero at xs = first_byte_sound 0 at xs TooDeep TooDeep (λ cs e. tt) (λ cs e. tt)
+value_sound (suc l) at xs =
+    first_byte_sound (suc l) at xs _ _
+    (λ cs e. rw e (list_value l at cs (walk_list (walk_value l) (at + 1) cs) (items_sound l (value_sound l) (suc (length cs)) (at + 1) cs)))
+    (λ cs e. rw e (dictionary_value l at cs (walk_dictionary (walk_value l) (at + 1) cs) (entries_sound l (value_sound l) (suc (length cs)) none (at + 1) cs)))
 
 -- what the walk goes over is the encoding of a valid value
 pub sound : (l at : ℕ) (xs : List ℕ) (k : ℕ) → walk_value l at xs ≡ Past k → Begins encode (λ v. Valid v l) at xs k
-sound l at xs k e = rw e at (value-sound l at xs)
+sound l at xs k e = rw e at (value_sound l at xs)

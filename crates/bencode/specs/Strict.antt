@@ -24,10 +24,10 @@ pub record TooDeepFirst (s : List ℕ) : Type 0 where
   pub byte : ℕ
   pub rest : List ℕ
   pub bytes : s ≡ begun ++ byte ∷ rest
-  pub strict-before : CanGoOn max_levels begun
-  pub not-with-it : CanGoOn max_levels (begun ++ byte ∷ []) → ⊥
+  pub strict_before : CanGoOn max_levels begun
+  pub not_with_it : CanGoOn max_levels (begun ++ byte ∷ []) → ⊥
   pub levels : ℕ
-  pub deeper-can : CanGoOn levels (begun ++ byte ∷ [])
+  pub deeper_can : CanGoOn levels (begun ++ byte ∷ [])
 
 -- the number, from what the walk says of so many bytes
 abbrev pub whole_walk : ℕ → Walked → ℕ

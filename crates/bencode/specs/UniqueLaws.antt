@@ -6,82 +6,82 @@ use Rattle.std.proofs.Math.Seq.{drop-append_seam, take-append_seam}
 use Rattle.bencode.specs.Grammar.{minus_sign, digit_nine, colon, letter_d, letter_e, letter_i, letter_l, Value, integer, string, list, dictionary, Items, no_items, item, Entries, no_entries, entry, decimal, sign, encode_string, encode, encode_items, encode_entries}
 use Rattle.bencode.specs.Scalar.{read_number}
 use Rattle.bencode.specs.Walk.{end_or}
-use Rattle.bencode.specs.CompleteLaws.{BeginsWithDigit, decimal-first, number_read, integer-bytes, NoEnd, string-no-end, value-no-end}
+use Rattle.bencode.specs.CompleteLaws.{BeginsWithDigit, decimal_first, number_read, integer_bytes, NoEnd, string_no_end, value_no_end}
 use Rattle.bencode.specs.declared.decimal.Number.TheVariants.{Is}
 use Rattle.bencode.specs.declared.walk.Walked.TheVariants.{Past, Broken}
 
 -- ---- lists
 
-pub behind-same : (a r q : List ℕ) → a ++ r ≡ a ++ q → r ≡ q
-behind-same a r q e = sym (drop-append_seam a r) ∙ ap (λ (l : List ℕ). drop (length a) l) e ∙ drop-append_seam a q
+pub behind_same : (a r q : List ℕ) → a ++ r ≡ a ++ q → r ≡ q
+behind_same a r q e = sym (drop-append_seam a r) ∙ ap (λ (l : List ℕ). drop (length a) l) e ∙ drop-append_seam a q
 
 same_size : (a b r q : List ℕ) → length a ≡ length b → a ++ r ≡ b ++ q → (a ≡ b) × (r ≡ q)
 same_size a b r q l e =
     let s : a ≡ b = sym (take-append_seam a r) ∙ ap (λ (x : List ℕ). take (length a) x) e ∙ rw l (take-append_seam b q) in
-    (s, behind-same a r q (rw (sym s) at e))
+    (s, behind_same a r q (rw (sym s) at e))
 
 -- the first bytes of the same bytes
-pub first-same : (a b : ℕ) (x y : List ℕ) → a ∷ x ≡ b ∷ y → a ≡ b
-first-same a b x y e = cc
+pub first_same : (a b : ℕ) (x y : List ℕ) → a ∷ x ≡ b ∷ y → a ≡ b
+first_same a b x y e = cc
 
-rest-same : (a b : ℕ) (x y : List ℕ) → a ∷ x ≡ b ∷ y → x ≡ y
-rest-same a b x y e = cc
+rest_same : (a b : ℕ) (x y : List ℕ) → a ∷ x ≡ b ∷ y → x ≡ y
+rest_same a b x y e = cc
 
 -- ---- numbers and strings
 
-decimal-unique : (stop : ℕ) → digit_nine < stop → (n m : ℕ) (r q : List ℕ) → decimal n ++ stop ∷ r ≡ decimal m ++ stop ∷ q → (n ≡ m) × (r ≡ q)
-decimal-unique stop big n m r q e =
+decimal_unique : (stop : ℕ) → digit_nine < stop → (n m : ℕ) (r q : List ℕ) → decimal n ++ stop ∷ r ≡ decimal m ++ stop ∷ q → (n ≡ m) × (r ≡ q)
+decimal_unique stop big n m r q e =
     let f : Is n (0 + length (decimal n) + 1) ≡ Is m (0 + length (decimal m) + 1) =
     sym (number_read stop big 0 r n) ∙ ap (read_number stop 0) e ∙ number_read stop big 0 q m in
     let s : n ≡ m = cc in
-    (s, rest-same stop stop r q (behind-same (decimal n) (stop ∷ r) (stop ∷ q) (rw (sym s) at e)))
+    (s, rest_same stop stop r q (behind_same (decimal n) (stop ∷ r) (stop ∷ q) (rw (sym s) at e)))
 
-string-unique : (a b r q : List ℕ) → encode_string a ++ r ≡ encode_string b ++ q → (a ≡ b) × (r ≡ q)
-string-unique a b r q e =
+string_unique : (a b r q : List ℕ) → encode_string a ++ r ≡ encode_string b ++ q → (a ≡ b) × (r ≡ q)
+string_unique a b r q e =
     let f : decimal (length a) ++ colon ∷ (a ++ r) ≡ decimal (length b) ++ colon ∷ (b ++ q) =
     sym (append_assoc (decimal (length a)) (colon ∷ a) r) ∙ e ∙ append_assoc (decimal (length b)) (colon ∷ b) q in
-    let p = decimal-unique colon (omega arith) (length a) (length b) (a ++ r) (b ++ q) f in
+    let p = decimal_unique colon (omega arith) (length a) (length b) (a ++ r) (b ++ q) f in
     same_size a b r q p.0 p.1
 
 -- a string's encoding begins with a digit
-pub not-a-string : (b r : List ℕ) (c : ℕ) (cs : List ℕ) → digit_nine < c → encode_string b ++ r ≡ c ∷ cs → ⊥
+pub not_a_string : (b r : List ℕ) (c : ℕ) (cs : List ℕ) → digit_nine < c → encode_string b ++ r ≡ c ∷ cs → ⊥
 unfolding BeginsWithDigit
-not-a-string b r c cs h e =
-    let w = decimal-first (length b) in
+not_a_string b r c cs h e =
+    let w = decimal_first (length b) in
     let f : decimal (length b) ++ colon ∷ (b ++ r) ≡ c ∷ cs = sym (append_assoc (decimal (length b)) (colon ∷ b) r) ∙ e in
     let g : w.0 ∷ (w.1 ++ colon ∷ (b ++ r)) ≡ c ∷ cs = rw w.2 at f in
-    omega (arith, first-same w.0 c (w.1 ++ colon ∷ (b ++ r)) cs g, w.4)
+    omega (arith, first_same w.0 c (w.1 ++ colon ∷ (b ++ r)) cs g, w.4)
 
 -- no encoding begins with an `e`
-not-an-end : (e r q : List ℕ) → NoEnd e → letter_e ∷ r ≡ e ++ q → ⊥
+not_an_end : (e r q : List ℕ) → NoEnd e → letter_e ∷ r ≡ e ++ q → ⊥
 unfolding NoEnd end_or
-not-an-end e r q n f =
+not_an_end e r q n f =
     let g : Past (0 + 1) ≡ Broken = ap (λ (l : List ℕ). end_or 0 l Broken) f ∙ n 0 q Broken in
     let z : ◌≡◌ {A = ℕ} 0 1 = cc in
     omega arith
 
 -- ---- integers
 
-digit-not-minus : (n : ℕ) (xs cs : List ℕ) → decimal n ++ xs ≡ minus_sign ∷ cs → ⊥
+digit_not_minus : (n : ℕ) (xs cs : List ℕ) → decimal n ++ xs ≡ minus_sign ∷ cs → ⊥
 unfolding BeginsWithDigit
-digit-not-minus n xs cs e =
-    let w = decimal-first n in
+digit_not_minus n xs cs e =
+    let w = decimal_first n in
     let g : w.0 ∷ (w.1 ++ xs) ≡ minus_sign ∷ cs = rw w.2 at e in
-    omega (arith, first-same w.0 minus_sign (w.1 ++ xs) cs g, w.3)
+    omega (arith, first_same w.0 minus_sign (w.1 ++ xs) cs g, w.3)
 
-signed-unique : (b c : Bool) (n m : ℕ) (r q : List ℕ) → sign b ++ (decimal n ++ letter_e ∷ r) ≡ sign c ++ (decimal m ++ letter_e ∷ q) → (integer b n ≡ integer c m) × (r ≡ q)
-signed-unique true true n m r q e =
-    let p = decimal-unique letter_e (omega arith) n m r q (rest-same minus_sign minus_sign (decimal n ++ letter_e ∷ r) (decimal m ++ letter_e ∷ q) e) in
+signed_unique : (b c : Bool) (n m : ℕ) (r q : List ℕ) → sign b ++ (decimal n ++ letter_e ∷ r) ≡ sign c ++ (decimal m ++ letter_e ∷ q) → (integer b n ≡ integer c m) × (r ≡ q)
+signed_unique true true n m r q e =
+    let p = decimal_unique letter_e (omega arith) n m r q (rest_same minus_sign minus_sign (decimal n ++ letter_e ∷ r) (decimal m ++ letter_e ∷ q) e) in
     (ap (integer true) p.0, p.1)
-signed-unique true false n m r q e = absurd (digit-not-minus m (letter_e ∷ q) (decimal n ++ letter_e ∷ r) (sym e))
-signed-unique false true n m r q e = absurd (digit-not-minus n (letter_e ∷ r) (decimal m ++ letter_e ∷ q) e)
-signed-unique false false n m r q e = let p = decimal-unique letter_e (omega arith) n m r q e in (ap (integer false) p.0, p.1)
+signed_unique true false n m r q e = absurd (digit_not_minus m (letter_e ∷ q) (decimal n ++ letter_e ∷ r) (sym e))
+signed_unique false true n m r q e = absurd (digit_not_minus n (letter_e ∷ r) (decimal m ++ letter_e ∷ q) e)
+signed_unique false false n m r q e = let p = decimal_unique letter_e (omega arith) n m r q e in (ap (integer false) p.0, p.1)
 
 -- ---- values
 
 -- bytes that begin otherwise are other bytes
-pub other-letter : (a b : ℕ) (x y : List ℕ) → a ∷ x ≡ b ∷ y → (a ≡ b → ⊥) → ⊥
-other-letter a b x y e f = f (first-same a b x y e)
+pub other_letter : (a b : ℕ) (x y : List ℕ) → a ∷ x ≡ b ∷ y → (a ≡ b → ⊥) → ⊥
+other_letter a b x y e f = f (first_same a b x y e)
 
 mutual
   unfolding encode
@@ -89,48 +89,48 @@ mutual
   -- the same bytes are those of the same value, with the same behind it
   pub unique : (v w : Value) (r q : List ℕ) → encode v ++ r ≡ encode w ++ q → (v ≡ w) × (r ≡ q)
   unique (integer b n) (integer c m) r q e =
-      signed-unique b c n m r q
-      (rest-same letter_i letter_i (sign b ++ (decimal n ++ letter_e ∷ r)) (sign c ++ (decimal m ++ letter_e ∷ q)) (sym (integer-bytes b n r) ∙ e ∙ integer-bytes c m q))
-  unique (integer b n) (string y) r q e = absurd (not-a-string y q letter_i _ (omega arith) (sym e))
-  unique (integer b n) (list ws) r q e = absurd (other-letter letter_i letter_l _ _ e (λ z. omega arith))
-  unique (integer b n) (dictionary fs) r q e = absurd (other-letter letter_i letter_d _ _ e (λ z. omega arith))
-  unique (string x) (integer c m) r q e = absurd (not-a-string x r letter_i _ (omega arith) e)
-  unique (string x) (string y) r q e = let p = string-unique x y r q e in (ap string p.0, p.1)
-  unique (string x) (list ws) r q e = absurd (not-a-string x r letter_l _ (omega arith) e)
-  unique (string x) (dictionary fs) r q e = absurd (not-a-string x r letter_d _ (omega arith) e)
-  unique (list vs) (integer c m) r q e = absurd (other-letter letter_l letter_i _ _ e (λ z. omega arith))
-  unique (list vs) (string y) r q e = absurd (not-a-string y q letter_l _ (omega arith) (sym e))
+      signed_unique b c n m r q
+      (rest_same letter_i letter_i (sign b ++ (decimal n ++ letter_e ∷ r)) (sign c ++ (decimal m ++ letter_e ∷ q)) (sym (integer_bytes b n r) ∙ e ∙ integer_bytes c m q))
+  unique (integer b n) (string y) r q e = absurd (not_a_string y q letter_i _ (omega arith) (sym e))
+  unique (integer b n) (list ws) r q e = absurd (other_letter letter_i letter_l _ _ e (λ z. omega arith))
+  unique (integer b n) (dictionary fs) r q e = absurd (other_letter letter_i letter_d _ _ e (λ z. omega arith))
+  unique (string x) (integer c m) r q e = absurd (not_a_string x r letter_i _ (omega arith) e)
+  unique (string x) (string y) r q e = let p = string_unique x y r q e in (ap string p.0, p.1)
+  unique (string x) (list ws) r q e = absurd (not_a_string x r letter_l _ (omega arith) e)
+  unique (string x) (dictionary fs) r q e = absurd (not_a_string x r letter_d _ (omega arith) e)
+  unique (list vs) (integer c m) r q e = absurd (other_letter letter_l letter_i _ _ e (λ z. omega arith))
+  unique (list vs) (string y) r q e = absurd (not_a_string y q letter_l _ (omega arith) (sym e))
   unique (list vs) (list ws) r q e =
-      let p = unique-items vs ws r q (rest-same letter_l letter_l (encode_items vs ++ r) (encode_items ws ++ q) e) in
+      let p = unique_items vs ws r q (rest_same letter_l letter_l (encode_items vs ++ r) (encode_items ws ++ q) e) in
       (ap list p.0, p.1)
-  unique (list vs) (dictionary fs) r q e = absurd (other-letter letter_l letter_d _ _ e (λ z. omega arith))
-  unique (dictionary es) (integer c m) r q e = absurd (other-letter letter_d letter_i _ _ e (λ z. omega arith))
-  unique (dictionary es) (string y) r q e = absurd (not-a-string y q letter_d _ (omega arith) (sym e))
-  unique (dictionary es) (list ws) r q e = absurd (other-letter letter_d letter_l _ _ e (λ z. omega arith))
+  unique (list vs) (dictionary fs) r q e = absurd (other_letter letter_l letter_d _ _ e (λ z. omega arith))
+  unique (dictionary es) (integer c m) r q e = absurd (other_letter letter_d letter_i _ _ e (λ z. omega arith))
+  unique (dictionary es) (string y) r q e = absurd (not_a_string y q letter_d _ (omega arith) (sym e))
+  unique (dictionary es) (list ws) r q e = absurd (other_letter letter_d letter_l _ _ e (λ z. omega arith))
   unique (dictionary es) (dictionary fs) r q e =
-      let p = unique-entries es fs r q (rest-same letter_d letter_d (encode_entries es ++ r) (encode_entries fs ++ q) e) in
+      let p = unique_entries es fs r q (rest_same letter_d letter_d (encode_entries es ++ r) (encode_entries fs ++ q) e) in
       (ap dictionary p.0, p.1)
 
-  unique-items : (vs ws : Items) (r q : List ℕ) → encode_items vs ++ r ≡ encode_items ws ++ q → (vs ≡ ws) × (r ≡ q)
-  unique-items no_items no_items r q e = (refl, rest-same letter_e letter_e r q e)
-  unique-items no_items (item w ws) r q e = absurd (not-an-end (encode w) r (encode_items ws ++ q) (value-no-end w) (e ∙ append_assoc (encode w) (encode_items ws) q))
-  unique-items (item v vs) no_items r q e = absurd (not-an-end (encode v) q (encode_items vs ++ r) (value-no-end v) (sym e ∙ append_assoc (encode v) (encode_items vs) r))
-  unique-items (item v vs) (item w ws) r q e =
+  unique_items : (vs ws : Items) (r q : List ℕ) → encode_items vs ++ r ≡ encode_items ws ++ q → (vs ≡ ws) × (r ≡ q)
+  unique_items no_items no_items r q e = (refl, rest_same letter_e letter_e r q e)
+  unique_items no_items (item w ws) r q e = absurd (not_an_end (encode w) r (encode_items ws ++ q) (value_no_end w) (e ∙ append_assoc (encode w) (encode_items ws) q))
+  unique_items (item v vs) no_items r q e = absurd (not_an_end (encode v) q (encode_items vs ++ r) (value_no_end v) (sym e ∙ append_assoc (encode v) (encode_items vs) r))
+  unique_items (item v vs) (item w ws) r q e =
       let p = unique v w (encode_items vs ++ r) (encode_items ws ++ q) (sym (append_assoc (encode v) (encode_items vs) r) ∙ e ∙ append_assoc (encode w) (encode_items ws) q) in
-      let t = unique-items vs ws r q p.1 in
+      let t = unique_items vs ws r q p.1 in
       (ap₂ (λ (a : Value) (b : Items). item a b) p.0 t.0, t.1)
 
-  unique-entries : (es fs : Entries) (r q : List ℕ) → encode_entries es ++ r ≡ encode_entries fs ++ q → (es ≡ fs) × (r ≡ q)
-  unique-entries no_entries no_entries r q e = (refl, rest-same letter_e letter_e r q e)
-  unique-entries no_entries (entry j w fs) r q e =
-      absurd (not-an-end (encode_string j) r ((encode w ++ encode_entries fs) ++ q) (string-no-end j) (e ∙ append_assoc (encode_string j) (encode w ++ encode_entries fs) q))
-  unique-entries (entry k v es) no_entries r q e =
-      absurd (not-an-end (encode_string k) q ((encode v ++ encode_entries es) ++ r) (string-no-end k) (sym e ∙ append_assoc (encode_string k) (encode v ++ encode_entries es) r))
-  unique-entries (entry k v es) (entry j w fs) r q e =
-      let p = string-unique k j ((encode v ++ encode_entries es) ++ r) ((encode w ++ encode_entries fs) ++ q)
+  unique_entries : (es fs : Entries) (r q : List ℕ) → encode_entries es ++ r ≡ encode_entries fs ++ q → (es ≡ fs) × (r ≡ q)
+  unique_entries no_entries no_entries r q e = (refl, rest_same letter_e letter_e r q e)
+  unique_entries no_entries (entry j w fs) r q e =
+      absurd (not_an_end (encode_string j) r ((encode w ++ encode_entries fs) ++ q) (string_no_end j) (e ∙ append_assoc (encode_string j) (encode w ++ encode_entries fs) q))
+  unique_entries (entry k v es) no_entries r q e =
+      absurd (not_an_end (encode_string k) q ((encode v ++ encode_entries es) ++ r) (string_no_end k) (sym e ∙ append_assoc (encode_string k) (encode v ++ encode_entries es) r))
+  unique_entries (entry k v es) (entry j w fs) r q e =
+      let p = string_unique k j ((encode v ++ encode_entries es) ++ r) ((encode w ++ encode_entries fs) ++ q)
       (sym (append_assoc (encode_string k) (encode v ++ encode_entries es) r) ∙ e ∙ append_assoc (encode_string j) (encode w ++ encode_entries fs) q) in
       let t = unique v w (encode_entries es ++ r) (encode_entries fs ++ q)
       (sym (append_assoc (encode v) (encode_entries es) r) ∙ p.1 ∙ append_assoc (encode w) (encode_entries fs) q) in
-      let u = unique-entries es fs r q t.1 in
-      let same-entry : entry k v es ≡ entry j w fs = rw (p.0, t.0, u.0) refl in
-      (same-entry, u.1)
+      let u = unique_entries es fs r q t.1 in
+      let same_entry : entry k v es ≡ entry j w fs = rw (p.0, t.0, u.0) refl in
+      (same_entry, u.1)

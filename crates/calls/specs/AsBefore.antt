@@ -13,10 +13,10 @@ use Rattle.torrent.specs.HalvesMeans.{as_before}
 use Rattle.catalogue.specs.Catalogue.{answer_in, after_in, list_answer, list_after}
 
 module _ (s : List ℕ) (es : Entries) (start : s ≡ encode (dictionary es)) (valid : Valid (dictionary es) max_levels) (pure : lookup key_pieces (info_of es) ≡ absent) (out : List ℕ) where
-  pub list-as-before : list_answer s out ≡ answer_in out (v2_checked_of s)
+  pub list_as_before : list_answer s out ≡ answer_in out (v2_checked_of s)
   unfolding list_answer
-  list-as-before = ap (answer_in out) (as_before s es start valid pure)
+  list_as_before = ap (answer_in out) (as_before s es start valid pure)
 
-  pub output-as-before : list_after s out ≡ after_in s out (v2_checked_of s)
+  pub output_as_before : list_after s out ≡ after_in s out (v2_checked_of s)
   unfolding list_after
-  output-as-before = ap (after_in s out) (as_before s es start valid pure)
+  output_as_before = ap (after_in s out) (as_before s es start valid pure)

@@ -42,13 +42,13 @@ pub data ListOutcome (out : List ℕ) : Answer → List ℕ → Type 0 where
 -- places behind the last element are zero
 pub record RecordIs (bytes : List ℕ) (file : FileRead) (part : ℕ → PartRead) : Type 0 where
   pub all : length bytes ≡ 56 + 8 * max_elements
-  pub length-is : number_at bytes 0 8 ≡ file.length
+  pub length_is : number_at bytes 0 8 ≡ file.length
   pub root : cut bytes 8 32 ≡ file.root
-  pub layer-start : number_at bytes 40 4 ≡ file.start
-  pub layer-size : number_at bytes 44 4 ≡ file.size
+  pub layer_start : number_at bytes 40 4 ≡ file.start
+  pub layer_size : number_at bytes 44 4 ≡ file.size
   pub elements : number_at bytes 48 4 ≡ file.elements
   pub zero : number_at bytes 52 4 ≡ 0
   pub few : file.elements ≤ max_elements
-  pub element-start : (k : ℕ) → k < file.elements → number_at bytes (56 + 8 * k) 4 ≡ (part k).start
-  pub element-size : (k : ℕ) → k < file.elements → number_at bytes (60 + 8 * k) 4 ≡ (part k).size
+  pub element_start : (k : ℕ) → k < file.elements → number_at bytes (56 + 8 * k) 4 ≡ (part k).start
+  pub element_size : (k : ℕ) → k < file.elements → number_at bytes (60 + 8 * k) 4 ≡ (part k).size
   pub behind : (k : ℕ) → file.elements ≤ k → k < max_elements → number_at bytes (56 + 8 * k) 8 ≡ 0

@@ -10,25 +10,25 @@ use Rattle.std.proofs.Math.Decide.{dec_lt}
 use Rattle.std.proofs.Math.Seq.{drop-append-add}
 use Rattle.limits.specs.Limits.{largest_torrent}
 use Rattle.octets.specs.Octets.{cut, zero_hash, be}
-use Rattle.octets.specs.OctetsLaws.{cut-length, be-octets, zero-octets}
+use Rattle.octets.specs.OctetsLaws.{cut_length, be_octets, zero_octets}
 use Rattle.numbers.specs.Numbers.{wrong_tree, two_lengths, layers_amiss}
 use Rattle.bencode.specs.declared.scalar.ByteString.{ByteString}
 use Rattle.metainfo.specs.Metainfo.{bytes_in}
 use Rattle.filetree.specs.Token.{token_at}
-use Rattle.filetree.specs.TokenLaws.{TokenIn, token-in}
-use Rattle.filetree.specs.TreeLaws.{directory-ends, tree-below}
-use Rattle.filetree.specs.CountLaws.{roots-append}
+use Rattle.filetree.specs.TokenLaws.{TokenIn, token_in}
+use Rattle.filetree.specs.TreeLaws.{directory_ends, tree_below}
+use Rattle.filetree.specs.CountLaws.{roots_append}
 use Rattle.filetree.specs.declared.token.Token.{Token}
 use Rattle.filetree.specs.declared.token.Token.TheVariants.{Opened, Closed, Leaf, BadToken}
-use Rattle.layers.specs.JudgeLaws.{tree-some}
+use Rattle.layers.specs.JudgeLaws.{tree_some}
 use Rattle.filetree.specs.Tree.{max_elements, Element, Listed, listed_as, down, Files, wrong, files, after, onward, on_token, files_from, files_below, right, listed, files_in, roots_of, file_number}
 use Rattle.filetree.specs.Path.{Holds}
-use Rattle.filetree.specs.PathLaws.{element_number, holds-element}
+use Rattle.filetree.specs.PathLaws.{element_number, holds_element}
 use Rattle.filetree.specs.FilesLaws.{AllRight}
 use Rattle.filetree.specs.Reading.{read_files}
 use Rattle.meaning.specs.Torrent.{lengths_agree}
 use Rattle.twins.specs.Twins.{layer_count}
-use Rattle.twins.specs.WalkLaws.{layers-roots}
+use Rattle.twins.specs.WalkLaws.{layers_roots}
 use Rattle.layers.specs.Layers.{keys_wide, layer_keys, worst, root_bytes, layer_string, start_of, size_of}
 use Rattle.torrent.specs.Torrent.{files_number, tree_number}
 use Rattle.torrent.specs.CheckLaws.{Whole}
@@ -39,128 +39,128 @@ use Rattle.catalogue.specs.declared.record.Listing.{Listing}
 
 -- ---- from an array
 
-element-some : (base : ℕ) (p : List Element) (k : ℕ) → k < length p → element_bytes base p k ≡ part_bytes (base + (element_number p k).start) ((element_number p k).end - (element_number p k).start)
+element_some : (base : ℕ) (p : List Element) (k : ℕ) → k < length p → element_bytes base p k ≡ part_bytes (base + (element_number p k).start) ((element_number p k).end - (element_number p k).start)
 unfolding element_bytes element_number
-element-some base [] k h = absurd (omega arith)
-element-some base (e ∷ es) zero h = refl
-element-some base (e ∷ es) (suc k) h = element-some base es k (omega arith)
+element_some base [] k h = absurd (omega arith)
+element_some base (e ∷ es) zero h = refl
+element_some base (e ∷ es) (suc k) h = element_some base es k (omega arith)
 
-pub element-none : (base : ℕ) (p : List Element) (k : ℕ) → length p ≤ k → element_bytes base p k ≡ be 8 0
+pub element_none : (base : ℕ) (p : List Element) (k : ℕ) → length p ≤ k → element_bytes base p k ≡ be 8 0
 unfolding element_bytes
-element-none base [] k h = refl
-element-none base (e ∷ es) zero h = absurd (omega arith)
-element-none base (e ∷ es) (suc k) h = element-none base es k (omega arith)
+element_none base [] k h = refl
+element_none base (e ∷ es) zero h = absurd (omega arith)
+element_none base (e ∷ es) (suc k) h = element_none base es k (omega arith)
 
 module _ (base : ℕ) (path : List ℕ) (n : ℕ) (p : List Element) (w : Holds path n p) (l : n ≡ length p) where
-  same-element : (k : ℕ) → array_element base path n k ≡ element_bytes base p k
-  same-element k = by_number (dec_lt k n)
+  same_element : (k : ℕ) → array_element base path n k ≡ element_bytes base p k
+  same_element k = by_number (dec_lt k n)
     where
       by_number : Dec (k < n) → array_element base path n k ≡ element_bytes base p k
-      by_number (yes h) = let y = holds-element path n p w k h in some h ∙ rw (y.0, y.1) (sym (element-some base p k (omega arith)))
+      by_number (yes h) = let y = holds_element path n p w k h in some h ∙ rw (y.0, y.1) (sym (element_some base p k (omega arith)))
         where
           some : k < n → array_element base path n k ≡ part_bytes (base + get_or path (2 * k) 0) (get_or path (2 * k + 1) 0 - get_or path (2 * k) 0)
           some h = unfold array_element in rw (lt-ltb k n h) refl
-      by_number (no h) = none (omega arith) ∙ sym (element-none base p k (omega arith))
+      by_number (no h) = none (omega arith) ∙ sym (element_none base p k (omega arith))
         where
           none : n ≤ k → array_element base path n k ≡ be 8 0
           none h = unfold array_element in rw (le-ltb k n h) refl
 
-  same-elements : (m : ℕ) → array_elements base path n m ≡ elements_bytes base p m
+  same_elements : (m : ℕ) → array_elements base path n m ≡ elements_bytes base p m
   unfolding array_elements elements_bytes
-  same-elements zero = refl
-  same-elements (suc m) = ap₂ (λ (x y : List ℕ). x ++ y) (same-elements m) (same-element m)
+  same_elements zero = refl
+  same_elements (suc m) = ap₂ (λ (x y : List ℕ). x ++ y) (same_elements m) (same_element m)
 
 -- the array's record is the file's
-pub same-record : (t l path : List ℕ) (k : Listing) (n r d at : ℕ) (p : List Element) → Holds path d p → d ≡ length p
+pub same_record : (t l path : List ℕ) (k : Listing) (n r d at : ℕ) (p : List Element) → Holds path d p → d ≡ length p
     → record_from t l path (record { list = k; length = n; root = r; elements = d; at = at }) ≡ record_of (parts_with t l k) (listed_as n r p)
 unfolding record_from record_of
-same-record t l path k n r d at p w e = rw (same-elements k.tree path d p w e max_elements, e) refl
+same_record t l path k n r d at p w e = rw (same_elements k.tree path d p w e max_elements, e) refl
 
 -- ---- lengths
 
 pub part_length : (a b : ℕ) → length (part_bytes a b) ≡ 8
 part_length a b = refl
 
-pub element-length : (base : ℕ) (p : List Element) (k : ℕ) → length (element_bytes base p k) ≡ 8
+pub element_length : (base : ℕ) (p : List Element) (k : ℕ) → length (element_bytes base p k) ≡ 8
 unfolding element_bytes
-element-length base [] k = refl
-element-length base (e ∷ es) zero = refl
-element-length base (e ∷ es) (suc k) = element-length base es k
+element_length base [] k = refl
+element_length base (e ∷ es) zero = refl
+element_length base (e ∷ es) (suc k) = element_length base es k
 
-pub elements-length : (base : ℕ) (p : List Element) (m : ℕ) → length (elements_bytes base p m) ≡ 8 * m
+pub elements_length : (base : ℕ) (p : List Element) (m : ℕ) → length (elements_bytes base p m) ≡ 8 * m
 unfolding elements_bytes
-elements-length base p zero = refl
-elements-length base p (suc m) = length-append (elements_bytes base p m) (element_bytes base p m) ∙ omega (arith, elements-length base p m, element-length base p m)
+elements_length base p zero = refl
+elements_length base p (suc m) = length-append (elements_bytes base p m) (element_bytes base p m) ∙ omega (arith, elements_length base p m, element_length base p m)
 
-pub array-element-length : (base : ℕ) (path : List ℕ) (n k : ℕ) → length (array_element base path n k) ≡ 8
+pub array_element_length : (base : ℕ) (path : List ℕ) (n k : ℕ) → length (array_element base path n k) ≡ 8
 unfolding array_element
-array-element-length base path n k = by-test (ltb k n)
+array_element_length base path n k = by_test (ltb k n)
   where
-    by-test : (b : Bool) → length (cond b (part_bytes (base + get_or path (2 * k) 0) (get_or path (2 * k + 1) 0 - get_or path (2 * k) 0)) (be 8 0)) ≡ 8
-    by-test true = refl
-    by-test false = refl
+    by_test : (b : Bool) → length (cond b (part_bytes (base + get_or path (2 * k) 0) (get_or path (2 * k + 1) 0 - get_or path (2 * k) 0)) (be 8 0)) ≡ 8
+    by_test true = refl
+    by_test false = refl
 
-pub array-length : (base : ℕ) (path : List ℕ) (n m : ℕ) → length (array_elements base path n m) ≡ 8 * m
+pub array_length : (base : ℕ) (path : List ℕ) (n m : ℕ) → length (array_elements base path n m) ≡ 8 * m
 unfolding array_elements
-array-length base path n zero = refl
-array-length base path n (suc m) = length-append (array_elements base path n m) (array_element base path n m) ∙ omega (arith, array-length base path n m, array-element-length base path n m)
+array_length base path n zero = refl
+array_length base path n (suc m) = length-append (array_elements base path n m) (array_element base path n m) ∙ omega (arith, array_length base path n m, array_element_length base path n m)
 
-pub head-length : (base n : ℕ) (root : List ℕ) (layer : ByteString) (elements : ℕ) → length root ≡ 32 → length (head_bytes base n root layer elements) ≡ 56
+pub head_length : (base n : ℕ) (root : List ℕ) (layer : ByteString) (elements : ℕ) → length root ≡ 32 → length (head_bytes base n root layer elements) ≡ 56
 unfolding head_bytes
-head-length base n root layer elements e =
+head_length base n root layer elements e =
     let a = length-append (be 8 n) root in
     let b = length-append (be 8 n ++ root) (part_bytes (start_of base layer) (size_of layer)) in
     let c = length-append (be 8 n ++ root ++ part_bytes (start_of base layer) (size_of layer)) (be 4 elements) in
     let d = length-append (be 8 n ++ root ++ part_bytes (start_of base layer) (size_of layer) ++ be 4 elements) (be 4 0) in
-    let la = (be-octets 8 n).size in
+    let la = (be_octets 8 n).size in
     let lb = part_length (start_of base layer) (size_of layer) in
-    let lc = (be-octets 4 elements).size in
-    let ld = (be-octets 4 0).size in
+    let lc = (be_octets 4 elements).size in
+    let ld = (be_octets 4 0).size in
     omega arith
 
-pub root-length : (t : List ℕ) (n r : ℕ) → ((n ≡ 0 → ⊥) → r + 32 ≤ length t) → length (root_bytes t n r) ≡ 32
+pub root_length : (t : List ℕ) (n r : ℕ) → ((n ≡ 0 → ⊥) → r + 32 ≤ length t) → length (root_bytes t n r) ≡ 32
 unfolding root_bytes
-root-length t n r h = by_size (eqb n 0) refl
+root_length t n r h = by_size (eqb n 0) refl
   where
     by_size : (b : Bool) → eqb n 0 ≡ b → length (cond b zero_hash (cut t r 32)) ≡ 32
-    by_size true q = zero-octets.size
-    by_size false q = cut-length t r 32 (h (eqb-false n 0 q))
+    by_size true q = zero_octets.size
+    by_size false q = cut_length t r 32 (h (eqb-false n 0 q))
 
-pub record-length : (p : Parts) (f : Listed) → ((f.size ≡ 0 → ⊥) → f.root + 32 ≤ length p.t) → length (record_of p f) ≡ record_size
+pub record_length : (p : Parts) (f : Listed) → ((f.size ≡ 0 → ⊥) → f.root + 32 ≤ length p.t) → length (record_of p f) ≡ record_size
 unfolding record_of
-record-length p f h =
+record_length p f h =
     let root = root_bytes p.t f.size f.root in
     let layer = layer_string p.l p.plen f.size (cut p.t f.root 32) in
     length-append (head_bytes p.layers f.size root layer (length f.path)) (elements_bytes p.tree f.path max_elements)
-    ∙ omega (arith, head-length p.layers f.size root layer (length f.path) (root-length p.t f.size f.root h), elements-length p.tree f.path max_elements)
+    ∙ omega (arith, head_length p.layers f.size root layer (length f.path) (root_length p.t f.size f.root h), elements_length p.tree f.path max_elements)
 
 -- ---- the list
 
-pub records-append : (p : Parts) (fs gs : List Listed) → records_of p (fs ++ gs) ≡ records_of p fs ++ records_of p gs
+pub records_append : (p : Parts) (fs gs : List Listed) → records_of p (fs ++ gs) ≡ records_of p fs ++ records_of p gs
 unfolding records_of
-records-append p [] gs = refl
-records-append p (f ∷ fs) gs = ap (λ (l : List ℕ). record_of p f ++ l) (records-append p fs gs) ∙ sym (append_assoc (record_of p f) (records_of p fs) (records_of p gs))
+records_append p [] gs = refl
+records_append p (f ∷ fs) gs = ap (λ (l : List ℕ). record_of p f ++ l) (records_append p fs gs) ∙ sym (append_assoc (record_of p f) (records_of p fs) (records_of p gs))
 
-pub records-one : (p : Parts) (f : Listed) → records_of p (f ∷ []) ≡ record_of p f
+pub records_one : (p : Parts) (f : Listed) → records_of p (f ∷ []) ≡ record_of p f
 unfolding records_of
-records-one p f = append-nil (record_of p f)
+records_one p f = append-nil (record_of p f)
 
-pub records-length : (p : Parts) (fs : List Listed) → AllRight (length p.t) fs → length (records_of p fs) ≡ record_size * length fs
+pub records_length : (p : Parts) (fs : List Listed) → AllRight (length p.t) fs → length (records_of p fs) ≡ record_size * length fs
 unfolding records_of
-records-length p [] w = refl
-records-length p (f ∷ fs) w = length-append (record_of p f) (records_of p fs) ∙ omega (arith, record-length p f w.0.root-within, records-length p fs w.1)
+records_length p [] w = refl
+records_length p (f ∷ fs) w = length-append (record_of p f) (records_of p fs) ∙ omega (arith, record_length p f w.0.root_within, records_length p fs w.1)
 
 -- the record of file i stands at record_size · i
-pub record-at : (p : Parts) (fs : List Listed) → AllRight (length p.t) fs → (i : ℕ) → i < length fs → cut (records_of p fs) (record_size * i) record_size ≡ record_of p (file_number fs i)
+pub record_at : (p : Parts) (fs : List Listed) → AllRight (length p.t) fs → (i : ℕ) → i < length fs → cut (records_of p fs) (record_size * i) record_size ≡ record_of p (file_number fs i)
 unfolding records_of file_number cut
-record-at p [] w i h = absurd (omega arith)
-record-at p (f ∷ fs) w zero h = take_at (record_of p f) (records_of p fs) record_size (record-length p f w.0.root-within)
-record-at p (f ∷ fs) w (suc i) h =
-    let l = record-length p f w.0.root-within in
+record_at p [] w i h = absurd (omega arith)
+record_at p (f ∷ fs) w zero h = take_at (record_of p f) (records_of p fs) record_size (record_length p f w.0.root_within)
+record_at p (f ∷ fs) w (suc i) h =
+    let l = record_length p f w.0.root_within in
     let e : record_size * suc i ≡ length (record_of p f) + record_size * i = omega arith in
     ap (λ (n : ℕ). take record_size (drop n (record_of p f ++ records_of p fs))) e
     ∙ ap (λ (x : List ℕ). take record_size x) (drop-append-add (record_of p f) (records_of p fs) (record_size * i))
-    ∙ record-at p fs w.1 i (omega arith)
+    ∙ record_at p fs w.1 i (omega arith)
 
 -- ---- how many files there can be
 
@@ -169,83 +169,83 @@ abbrev Few : ℕ → Files → Type 0
 Few at wrong = Unit {0}
 Few at (files fs k) = (at + length fs ≤ k) × (at + 64 * length (roots_of fs) ≤ k)
 
-after-few : (at x : ℕ) (fs : List Listed) (w : Files) → at + length fs ≤ x → at + 64 * length (roots_of fs) ≤ x → Few x w → Few at (after fs w)
-after-few at x fs wrong h g p = tt
-after-few at x fs (files gs k) h g p =
+after_few : (at x : ℕ) (fs : List Listed) (w : Files) → at + length fs ≤ x → at + 64 * length (roots_of fs) ≤ x → Few x w → Few at (after fs w)
+after_few at x fs wrong h g p = tt
+after_few at x fs (files gs k) h g p =
     let a = p.0 in
     let b = p.1 in
-    (omega (arith, length-append fs gs), omega (arith, ap length (roots-append fs gs), length-append (roots_of fs) (roots_of gs)))
+    (omega (arith, length-append fs gs), omega (arith, ap length (roots_append fs gs), length-append (roots_of fs) (roots_of gs)))
 
-one-few : (at k n r : ℕ) (p : List Element) → at < k → ((n ≡ 0 → ⊥) → at + 64 ≤ k) → at + 64 * length (roots_of (listed_as n r p ∷ [])) ≤ k
+one_few : (at k n r : ℕ) (p : List Element) → at < k → ((n ≡ 0 → ⊥) → at + 64 ≤ k) → at + 64 * length (roots_of (listed_as n r p ∷ [])) ≤ k
 unfolding roots_of
-one-few at k n r p h g = by_size (eqb n 0) refl
+one_few at k n r p h g = by_size (eqb n 0) refl
   where
     by_size : (b : Bool) → eqb n 0 ≡ b → at + 64 * length (cond b [] (r ∷ [])) ≤ k
     by_size true q = omega arith
     by_size false q = let x = g (eqb-false n 0 q) in omega arith
 
-none-few : (at : ℕ) → at + 64 * length (roots_of []) ≤ at + 1
+none_few : (at : ℕ) → at + 64 * length (roots_of []) ≤ at + 1
 unfolding roots_of
-none-few at = omega arith
+none_few at = omega arith
 
-from-few : (sub : ℕ → List Element → Files) (t : List ℕ) → ((x : ℕ) (p : List Element) → Few x (sub x p)) → (steps at : ℕ) (path : List Element) → Few at (files_from sub steps t at path)
+from_few : (sub : ℕ → List Element → Files) (t : List ℕ) → ((x : ℕ) (p : List Element) → Few x (sub x p)) → (steps at : ℕ) (path : List Element) → Few at (files_from sub steps t at path)
 unfolding files_from
-from-few sub t hs zero at path = tt
-from-few sub t hs (suc n) at path = by_token (token_at t at) (token-in t at) (λ x. from-few sub t hs n x path)
+from_few sub t hs zero at path = tt
+from_few sub t hs (suc n) at path = by_token (token_at t at) (token_in t at) (λ x. from_few sub t hs n x path)
   where
     Later : Type 0
     Later = (x : ℕ) → Few x (files_from sub n t x path)
 
-    by-sub : (b : ℕ) (w : Files) → at < b → Few (b + 1) w → Later → Few at (onward w (λ k. files_from sub n t k path))
-    by-sub b wrong h p later = tt
-    by-sub b (files fs k) h p later = let g = p.0 in let q = p.1 in after-few at k fs (files_from sub n t k path) (omega arith) (omega arith) (later k)
+    by_sub : (b : ℕ) (w : Files) → at < b → Few (b + 1) w → Later → Few at (onward w (λ k. files_from sub n t k path))
+    by_sub b wrong h p later = tt
+    by_sub b (files fs k) h p later = let g = p.0 in let q = p.1 in after_few at k fs (files_from sub n t k path) (omega arith) (omega arith) (later k)
 
     by_token : (x : Token) → TokenIn at (length t) x → Later → Few at (on_token sub (λ k. files_from sub n t k path) at path x)
     by_token BadToken p later = tt
-    by_token Closed p later = (omega arith, none-few at)
-    by_token (Opened a b) p later = by-sub b (sub (b + 1) (down path a b)) p.0 (hs (b + 1) (down path a b)) later
+    by_token Closed p later = (omega arith, none_few at)
+    by_token (Opened a b) p later = by_sub b (sub (b + 1) (down path a b)) p.0 (hs (b + 1) (down path a b)) later
     by_token (Leaf a b m r k) p later =
         let g = p.0 in
-        after-few at k (listed_as m r (down path a b) ∷ []) (files_from sub n t k path) (omega arith) (one-few at k m r (down path a b) g (λ z. (p.2 z).0)) (later k)
+        after_few at k (listed_as m r (down path a b) ∷ []) (files_from sub n t k path) (omega arith) (one_few at k m r (down path a b) g (λ z. (p.2 z).0)) (later k)
 
-below-few : (l : ℕ) (t : List ℕ) (at : ℕ) (path : List Element) → Few at (files_below l t at path)
+below_few : (l : ℕ) (t : List ℕ) (at : ℕ) (path : List Element) → Few at (files_below l t at path)
 unfolding files_below
-below-few zero t at path = tt
-below-few (suc l) t at path = from-few (files_below l t) t (below-few l t) (suc (length t)) at path
+below_few zero t at path = tt
+below_few (suc l) t at path = from_few (files_below l t) t (below_few l t) (suc (length t)) at path
 
-files-few : (t : List ℕ) → right (files_in t) ≡ true → (length (listed (files_in t)) ≤ length t) × (64 * length (roots_of (listed (files_in t))) ≤ length t)
+files_few : (t : List ℕ) → right (files_in t) ≡ true → (length (listed (files_in t)) ≤ length t) × (64 * length (roots_of (listed (files_in t))) ≤ length t)
 unfolding listed right
-files-few t e = by-files (files_in t) refl e (tree-below t (tree-some t e))
+files_few t e = by_files (files_in t) refl e (tree_below t (tree_some t e))
   where
-    by-files : (x : Files) → files_in t ≡ x → right x ≡ true → files_in t ≡ files_below max_elements t 1 [] → (length (listed x) ≤ length t) × (64 * length (roots_of (listed x)) ≤ length t)
-    by-files wrong q f g = absurd (false≢true f)
-    by-files (files fs k) q f g =
-        let p : Few 1 (files fs k) = rw (sym g ∙ q) at (below-few max_elements t 1 []) in
+    by_files : (x : Files) → files_in t ≡ x → right x ≡ true → files_in t ≡ files_below max_elements t 1 [] → (length (listed x) ≤ length t) × (64 * length (roots_of (listed x)) ≤ length t)
+    by_files wrong q f g = absurd (false≢true f)
+    by_files (files fs k) q f g =
+        let p : Few 1 (files fs k) = rw (sym g ∙ q) at (below_few max_elements t 1 []) in
         let a = p.0 in
         let b = p.1 in
-        let d = (directory-ends max_elements t 1 [] fs k (sym g ∙ q)).1 in
+        let d = (directory_ends max_elements t 1 [] fs k (sym g ∙ q)).1 in
         (omega arith, omega arith)
 
 -- ---- what a torrent that gets 0 has
 
 -- 27 is out where a torrent gets 0
-tree-keyed : (t l : List ℕ) (plen : ℕ) (fs : Files) → tree_number t l plen fs ≡ 0 → (keys_wide l && eqb (length (layer_keys l)) (layer_count plen (read_files t (listed fs)))) ≡ true
+tree_keyed : (t l : List ℕ) (plen : ℕ) (fs : Files) → tree_number t l plen fs ≡ 0 → (keys_wide l && eqb (length (layer_keys l)) (layer_count plen (read_files t (listed fs)))) ≡ true
 unfolding tree_number files_number
-tree-keyed t l plen fs e = by_right (right fs) e
+tree_keyed t l plen fs e = by_right (right fs) e
   where
     both : Bool
     both = keys_wide l && eqb (length (layer_keys l)) (layer_count plen (read_files t (listed fs)))
 
-    by-keys : (b : Bool) → both ≡ b → cond b (worst t l plen 0 (listed fs)) layers_amiss ≡ 0 → both ≡ true
-    by-keys true q g = q
-    by-keys false q g = absurd (omega arith)
+    by_keys : (b : Bool) → both ≡ b → cond b (worst t l plen 0 (listed fs)) layers_amiss ≡ 0 → both ≡ true
+    by_keys true q g = q
+    by_keys false q g = absurd (omega arith)
 
-    by-roots : (b : Bool) → cond b (cond both (worst t l plen 0 (listed fs)) layers_amiss) two_lengths ≡ 0 → both ≡ true
-    by-roots true g = by-keys both refl g
-    by-roots false g = absurd (omega arith)
+    by_roots : (b : Bool) → cond b (cond both (worst t l plen 0 (listed fs)) layers_amiss) two_lengths ≡ 0 → both ≡ true
+    by_roots true g = by_keys both refl g
+    by_roots false g = absurd (omega arith)
 
     by_right : (b : Bool) → cond b (cond (lengths_agree (read_files t (listed fs))) (cond both (worst t l plen 0 (listed fs)) layers_amiss) two_lengths) wrong_tree ≡ 0 → both ≡ true
-    by_right true g = by-roots (lengths_agree (read_files t (listed fs))) g
+    by_right true g = by_roots (lengths_agree (read_files t (listed fs))) g
     by_right false g = absurd (omega arith)
 
 abbrev pub listing_of : Checked → Listing
@@ -258,27 +258,27 @@ module _ (s : List ℕ) (c : Checked) (w : Whole s c) where
   abbrev l : List ℕ
   l = bytes_in s c.keys.layers
 
-  tree-inside : c.keys.tree.start + length t ≤ largest_torrent
-  tree-inside = let a = w.opened.tree-size in let b = w.opened.tree-forward in let d = w.opened.tree-within in let f = w.opened.small in omega arith
+  tree_inside : c.keys.tree.start + length t ≤ largest_torrent
+  tree_inside = let a = w.opened.tree_size in let b = w.opened.tree_forward in let d = w.opened.tree_within in let f = w.opened.small in omega arith
 
   pub whole_ready : Listable t l (listing_of c)
   whole_ready =
-      let a = w.opened.layers-size in
-      let b = w.opened.layers-forward in
-      let d = w.opened.layers-within in
+      let a = w.opened.layers_size in
+      let b = w.opened.layers_forward in
+      let d = w.opened.layers_within in
       let f = w.opened.small in
-      let few = (files-few t w.tree-right).1 in
-      let most = layers-roots c.keys.plen t (listed (files_in t)) in
-      let layered = w.all-layered in
-      let inside = tree-inside in
+      let few = (files_few t w.tree_right_lem).1 in
+      let most = layers_roots c.keys.plen t (listed (files_in t)) in
+      let layered = w.all_layered in
+      let inside = tree_inside in
       record {
-        tree-within = inside;
-        layers-within = omega arith;
-        tree-right = w.tree-right;
-        opened = w.opened.layers-open;
-        keyed = rw layered (tree-keyed t l c.keys.plen (files_in t) w.number-right);
-        few-layered = omega arith;
+        tree_within = inside;
+        layers_within = omega arith;
+        tree_right_lem = w.tree_right_lem;
+        opened = w.opened.layers_open;
+        keyed = rw layered (tree_keyed t l c.keys.plen (files_in t) w.number_right);
+        few_layered = omega arith;
       }
 
-  pub few-files : c.files ≤ largest_torrent
-  few-files = let a = (files-few t w.tree-right).0 in let b = w.all-files in let d = tree-inside in omega arith
+  pub few_files : c.files ≤ largest_torrent
+  few_files = let a = (files_few t w.tree_right_lem).0 in let b = w.all_files in let d = tree_inside in omega arith

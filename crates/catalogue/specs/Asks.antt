@@ -43,9 +43,9 @@ record_from t l path f =
 
 -- it can be written
 pub record RecordRight (tree layers room : ℕ) (path : List ℕ) (f : Record) : Type 0 where
-  pub root-within : (f.length ≡ 0 → ⊥) → f.root + 32 ≤ tree
-  pub layers-within : f.list.layers + layers ≤ largest_torrent
-  pub path-given : PathGiven path f.elements f.list.tree
+  pub root_within : (f.length ≡ 0 → ⊥) → f.root + 32 ≤ tree
+  pub layers_within : f.list.layers + layers ≤ largest_torrent
+  pub path_given : PathGiven path f.elements f.list.tree
   pub fits : f.at + record_size ≤ room
 
 abbrev pub parts_with : List ℕ → List ℕ → Listing → Parts
@@ -55,17 +55,17 @@ parts_with t l k = record { t = t; l = l; tree = k.tree; layers = k.layers; plen
 
 -- the parts t and l of a torrent, by which its list is written
 pub record Listable (t l : List ℕ) (k : Listing) : Type 0 where
-  pub tree-within : k.tree + length t ≤ largest_torrent
-  pub layers-within : k.layers + length l ≤ largest_torrent
-  pub tree-right : right (files_in t) ≡ true
+  pub tree_within : k.tree + length t ≤ largest_torrent
+  pub layers_within : k.layers + length l ≤ largest_torrent
+  pub tree_right_lem : right (files_in t) ≡ true
   pub opened : LayersOpen l
   pub keyed : (keys_wide l && eqb (length (layer_keys l)) k.count) ≡ true
-  pub few-layered : k.count ≤ most_roots
+  pub few_layered : k.count ≤ most_roots
 
 -- a directory can be written
 pub record SpotRight (tree layers room : ℕ) (path : List ℕ) (s : Spot) : Type 0 where
-  pub tree-within : s.list.tree + tree ≤ largest_torrent
-  pub layers-within : s.list.layers + layers ≤ largest_torrent
+  pub tree_within : s.list.tree + tree ≤ largest_torrent
+  pub layers_within : s.list.layers + layers ≤ largest_torrent
   pub shallow : s.levels ≤ max_elements
   pub given : PathGiven path (max_elements - s.levels) s.list.tree
   pub fits : s.to ≤ room

@@ -5,8 +5,8 @@ use mathlib.Core.List.{List, [], ◌∷◌}
 use Prim.Native.Nat.{ℕ}
 use Rattle.constants.specs.Constants.{root, indivisible, primes_from, primes, root_word, K, H}
 
-unfoldable pub round-table : List ℕ
-round-table =
+unfoldable pub round_table : List ℕ
+round_table =
     0x428a_2f98 ∷ 0x7137_4491 ∷ 0xb5c0_fbcf ∷ 0xe9b5_dba5 ∷ 0x3956_c25b ∷ 0x59f1_11f1 ∷ 0x923f_82a4 ∷ 0xab1c_5ed5 ∷
     0xd807_aa98 ∷ 0x1283_5b01 ∷ 0x2431_85be ∷ 0x550c_7dc3 ∷ 0x72be_5d74 ∷ 0x80de_b1fe ∷ 0x9bdc_06a7 ∷ 0xc19b_f174 ∷
     0xe49b_69c1 ∷ 0xefbe_4786 ∷ 0x0fc1_9dc6 ∷ 0x240c_a1cc ∷ 0x2de9_2c6f ∷ 0x4a74_84aa ∷ 0x5cb0_a9dc ∷ 0x76f9_88da ∷
@@ -16,14 +16,14 @@ round-table =
     0x19a4_c116 ∷ 0x1e37_6c08 ∷ 0x2748_774c ∷ 0x34b0_bcb5 ∷ 0x391c_0cb3 ∷ 0x4ed8_aa4a ∷ 0x5b9c_ca4f ∷ 0x682e_6ff3 ∷
     0x748f_82ee ∷ 0x78a5_636f ∷ 0x84c8_7814 ∷ 0x8cc7_0208 ∷ 0x90be_fffa ∷ 0xa450_6ceb ∷ 0xbef9_a3f7 ∷ 0xc671_78f2 ∷ []
 
-unfoldable pub start-table : List ℕ
-start-table =
+unfoldable pub start_table : List ℕ
+start_table =
     0x6a09_e667 ∷ 0xbb67_ae85 ∷ 0x3c6e_f372 ∷ 0xa54f_f53a ∷ 0x510e_527f ∷ 0x9b05_688c ∷ 0x1f83_d9ab ∷ 0x5be0_cd19 ∷ []
 
-pub round-table-rule : round-table ≡ K
-unfolding round-table root indivisible primes_from primes root_word K
-round-table-rule = refl
+pub round_table_rule : round_table ≡ K
+unfolding round_table root indivisible primes_from primes root_word K
+round_table_rule = refl
 
-pub start-table-rule : start-table ≡ H
-unfolding start-table root indivisible primes_from primes root_word H
-start-table-rule = refl
+pub start_table_rule : start_table ≡ H
+unfolding start_table root indivisible primes_from primes root_word H
+start_table_rule = refl

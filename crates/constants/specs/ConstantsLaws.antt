@@ -21,10 +21,10 @@ bounded e n r f m = record { fits = f; largest = λ v h. most v h (dec_le v r) }
         let l : r + 1 ≤ v = omega arith in
         absurd (omega (arith, pow-le-pow_left l e))
 
-root-largest : (e n b from : ℕ) → from ^ e ≤ n → n < (from + 2 ^ b) ^ e → Largest e n (root e n b from)
+root_largest : (e n b from : ℕ) → from ^ e ≤ n → n < (from + 2 ^ b) ^ e → Largest e n (root e n b from)
 unfolding root
-root-largest e n zero from h g = bounded e n from h g
-root-largest e n (suc b) from h g = by (leb ((from + 2 ^ b) ^ e) n) refl (λ f. root-largest e n b f)
+root_largest e n zero from h g = bounded e n from h g
+root_largest e n (suc b) from h g = by (leb ((from + 2 ^ b) ^ e) n) refl (λ f. root_largest e n b f)
   where
     by :
         (t : Bool)
@@ -57,8 +57,8 @@ undivided n (suc (suc d)) t e l h z =
         let q : e ≡ suc (suc d) = omega arith in
         eqb-false (n % suc (suc d)) 0 f (subst (λ (x : ℕ). n % x ≡ 0) q z)
 
-prime-yes : (n : ℕ) → 2 ≤ n → indivisible n (n - 1) ≡ true → Prime n
-prime-yes n l t = record { from-two = l; undivided = λ d h g. undivided n (n - 1) t d h (omega arith) }
+prime_yes : (n : ℕ) → 2 ≤ n → indivisible n (n - 1) ≡ true → Prime n
+prime_yes n l t = record { from_two = l; undivided = λ d h g. undivided n (n - 1) t d h (omega arith) }
 
 -- what divides is found
 divided : (n d : ℕ) → ((e : ℕ) → 2 ≤ e → e ≤ d → n % e ≡ 0 → ⊥) → indivisible n d ≡ true
@@ -69,8 +69,8 @@ divided n (suc (suc d)) f =
     rw (ne_eqb (n % suc (suc d)) 0 (f (suc (suc d)) (omega arith) (omega arith)))
     (divided n (suc d) (λ e l h. f e l (omega arith)))
 
-prime-test : (n : ℕ) → Prime n → indivisible n (n - 1) ≡ true
-prime-test n p = divided n (n - 1) (λ e l h. p.undivided e l (omega (arith, p.from-two)))
+prime_test : (n : ℕ) → Prime n → indivisible n (n - 1) ≡ true
+prime_test n p = divided n (n - 1) (λ e l h. p.undivided e l (omega (arith, p.from_two)))
 
 -- an entry of the list of the primes among the k numbers from n on
 abbrev Entry : ℕ → ℕ → ℕ → Type 0
@@ -88,7 +88,7 @@ entry (suc k) n i l h = by (indivisible n (n - 1)) refl i h (λ j. entry k (suc 
         → j < length (cond t (n ∷ primes_from k (suc n)) (primes_from k (suc n)))
         → ((m : ℕ) → m < length (primes_from k (suc n)) → Entry k (suc n) (get_or (primes_from k (suc n)) m 0))
         → Entry (suc k) n (get_or (cond t (n ∷ primes_from k (suc n)) (primes_from k (suc n))) j 0)
-    by true q zero g r = (omega arith, omega arith, prime-yes n l q)
+    by true q zero g r = (omega arith, omega arith, prime_yes n l q)
     by true q (suc j) g r = let s = r j (le_of_suc-le-suc g) in (omega arith, omega arith, s.2)
     by false q j g r = let s = r j g in (omega arith, omega arith, s.2)
 
@@ -121,26 +121,26 @@ listed (suc k) n q l h p = by (indivisible n (n - 1)) refl (dec_lt n q) (λ g. l
         → (n < q → (j : ℕ) × (j < length (primes_from k (suc n))) × (get_or (primes_from k (suc n)) j 0 ≡ q))
         → (j : ℕ) × (j < length (cond t (n ∷ primes_from k (suc n)) (primes_from k (suc n))))
         × (get_or (cond t (n ∷ primes_from k (suc n)) (primes_from k (suc n))) j 0 ≡ q)
-    by true e (yes g) r = let s = r g in (suc s.0, suc-lt s.1, s.2)
+    by true e (yes g) r = let s = r g in (suc s.0, suc_lt s.1, s.2)
       where
-        suc-lt : {a b : ℕ} → a < b → suc a < suc b
-        suc-lt h = omega arith
+        suc_lt : {a b : ℕ} → a < b → suc a < suc b
+        suc_lt h = omega arith
     by true e (no g) r = let z : n ≡ q = omega arith in (zero, omega arith, z)
     by false e (yes g) r = r g
-    by false e (no g) r = absurd (false≢true (sym e ∙ prime-test n (subst Prime (let z : q ≡ n = omega arith in z) p)))
+    by false e (no g) r = absurd (false≢true (sym e ∙ prime_test n (subst Prime (let z : q ≡ n = omega arith in z) p)))
 
-rises-far : (ps : List ℕ) → ((i : ℕ) → suc i < length ps → get_or ps i 0 < get_or ps (suc i) 0) → (i d : ℕ) → i + d < length ps → get_or ps i 0 ≤ get_or ps (i + d) 0
-rises-far ps r i zero h = let e : i + 0 ≡ i = omega arith in rw e (omega arith)
-rises-far ps r i (suc d) h =
+rises_far : (ps : List ℕ) → ((i : ℕ) → suc i < length ps → get_or ps i 0 < get_or ps (suc i) 0) → (i d : ℕ) → i + d < length ps → get_or ps i 0 ≤ get_or ps (i + d) 0
+rises_far ps r i zero h = let e : i + 0 ≡ i = omega arith in rw e (omega arith)
+rises_far ps r i (suc d) h =
     let e : i + suc d ≡ suc (i + d) = omega arith in
-    rw e (omega (arith, rises-far ps r i d (omega arith), r (i + d) (omega arith)))
+    rw e (omega (arith, rises_far ps r i d (omega arith), r (i + d) (omega arith)))
 
 first : (k : ℕ) → FirstPrimes (primes_from k 2)
 first k =
     record {
       rising = λ i. rises k 2 i (omega arith);
       prime = λ i h. (entry k 2 i (omega arith) h).2;
-      none-left-out = left;
+      none_left_out = left;
     }
   where
     ps : List ℕ
@@ -153,12 +153,12 @@ first k =
         by (yes l) = (s.0, l, s.2)
         by (no n) =
             let e : i + (s.0 - i) ≡ s.0 = omega arith in
-            let f : get_or ps i 0 ≤ get_or ps (i + (s.0 - i)) 0 = rises-far ps (λ m. rises k 2 m (omega arith)) i (s.0 - i) (omega (arith, s.1)) in
+            let f : get_or ps i 0 ≤ get_or ps (i + (s.0 - i)) 0 = rises_far ps (λ m. rises k 2 m (omega arith)) i (s.0 - i) (omega (arith, s.1)) in
             let w : ⊥ = omega (arith, s.2, ap (λ (j : ℕ). get_or ps j 0) e) in
             absurd w
 
     left : (i q : ℕ) → i < length ps → Prime q → q < get_or ps i 0 → (j : ℕ) × (j < i) × (get_or ps j 0 ≡ q)
-    left i q h p g = before i q h g (listed k 2 q p.from-two (omega (arith, (entry k 2 i (omega arith) h).1)) p)
+    left i q h p g = before i q h g (listed k 2 q p.from_two (omega (arith, (entry k 2 i (omega arith) h).1)) p)
 
 -- ---- the words
 
@@ -167,7 +167,7 @@ unfolding root_word
 word_of e p h z =
     record {
       root = root e (p * 2 ^ (32 * e)) 38 0;
-      is-root = root-largest e (p * 2 ^ (32 * e)) 38 0 (omega arith) h;
+      is_root = root_largest e (p * 2 ^ (32 * e)) 38 0 (omega arith) h;
       word = refl;
     }
 
@@ -177,52 +177,52 @@ words_of e (p ∷ ps) zero h = refl
 words_of e (p ∷ ps) (suc i) h = words_of e ps i (le_of_suc-le-suc h)
 
 -- the first few of the first primes are the first primes
-first-few : (n : ℕ) (ps : List ℕ) → n ≤ length ps → FirstPrimes ps → FirstPrimes (take n ps)
-first-few n ps l f =
+first_few : (n : ℕ) (ps : List ℕ) → n ≤ length ps → FirstPrimes ps → FirstPrimes (take n ps)
+first_few n ps l f =
     let k : length (take n ps) ≡ n = length-take-le n ps l in
     let at : (i : ℕ) → i < n → get_or (take n ps) i 0 ≡ get_or ps i 0 = λ i. get_or-take n ps i 0 in
     record {
       rising = λ i h. rw (at i (omega arith), at (suc i) (omega arith)) (f.rising i (omega arith));
       prime = λ i h. rw (at i (omega arith)) (f.prime i (omega arith));
-      none-left-out = λ i q h p g.
-          let s = f.none-left-out i q (omega arith) p (rw (at i (omega arith)) at g) in
+      none_left_out = λ i q h p g.
+          let s = f.none_left_out i q (omega arith) p (rw (at i (omega arith)) at g) in
           (s.0, s.1, at s.0 (omega (arith, s.1)) ∙ s.2);
     }
 
-root-words : (e : ℕ) (ps : List ℕ) → 0 ^ e ≤ 0 → ((i : ℕ) → i < length ps → get_or ps i 0 * 2 ^ (32 * e) < (2 ^ 38) ^ e) → FirstPrimes ps
+root_words : (e : ℕ) (ps : List ℕ) → 0 ^ e ≤ 0 → ((i : ℕ) → i < length ps → get_or ps i 0 * 2 ^ (32 * e) < (2 ^ 38) ^ e) → FirstPrimes ps
     → RootWords e ps (map (root_word e) ps)
-root-words e ps z b f =
+root_words e ps z b f =
     let l : length (map (root_word e) ps) ≡ length ps = length-map ps (root_word e) in
     record {
-      first-primes = f;
+      first_primes = f;
       one_each = l;
       words = λ i h. subst (RootWord e (get_or ps i 0)) (sym (words_of e ps i h)) (word_of e (get_or ps i 0) (b i (omega arith)) z);
     }
 
-first-primes : FirstPrimes primes
+first_primes : FirstPrimes primes
 unfolding primes
-first-primes = first 310
+first_primes = first 310
 
-sixty-four : length primes ≡ 64
+sixty_four : length primes ≡ 64
 unfolding primes primes_from indivisible
-sixty-four = refl
+sixty_four = refl
 
 small : (i : ℕ) → i < length primes → get_or primes i 0 < 312
 unfolding primes
 small i h = (entry 310 2 i (omega arith) h).1
 
 -- the round words are the cube words of the first 64 primes
-pub round-words-rule : (length K ≡ 64) × RootWords 3 primes K
+pub round_words_rule : (length K ≡ 64) × RootWords 3 primes K
 unfolding K
-round-words-rule = (length-map primes (root_word 3) ∙ sixty-four, root-words 3 primes (lit≤ tt) (λ i h. omega (arith, small i h)) first-primes)
+round_words_rule = (length-map primes (root_word 3) ∙ sixty_four, root_words 3 primes (lit≤ tt) (λ i h. omega (arith, small i h)) first_primes)
 
 -- the start words are the square words of the first eight
-pub start-words-rule : (length H ≡ 8) × RootWords 2 (take 8 primes) H
+pub start_words_rule : (length H ≡ 8) × RootWords 2 (take 8 primes) H
 unfolding H
-start-words-rule =
-    let l : length (take 8 primes) ≡ 8 = length-take-le 8 primes (omega (arith, sixty-four)) in (
+start_words_rule =
+    let l : length (take 8 primes) ≡ 8 = length-take-le 8 primes (omega (arith, sixty_four)) in (
       length-map (take 8 primes) (root_word 2) ∙ l,
-      root-words 2 (take 8 primes) (lit≤ tt)
-          (λ i h. omega (arith, small i (omega (arith, sixty-four)), get_or-take 8 primes i 0 (omega arith)))
-          (first-few 8 primes (omega (arith, sixty-four)) first-primes),
+      root_words 2 (take 8 primes) (lit≤ tt)
+          (λ i h. omega (arith, small i (omega (arith, sixty_four)), get_or-take 8 primes i 0 (omega arith)))
+          (first_few 8 primes (omega (arith, sixty_four)) first_primes),
     )

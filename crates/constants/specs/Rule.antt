@@ -5,14 +5,14 @@ use Rattle.std.specs.Prelude.{◌≡◌, List, ℕ, suc, ◌*◌, ◌%◌, ◌^�
 
 -- a number from 2 on that no smaller one from 2 on divides
 pub record Prime (p : ℕ) : Type 0 where
-  pub from-two : 2 ≤ p
+  pub from_two : 2 ≤ p
   pub undivided : (d : ℕ) → 2 ≤ d → d < p → p % d ≡ 0 → ⊥
 
 -- rising, each a prime, and every prime below one of them stands before it
 pub record FirstPrimes (ps : List ℕ) : Type 0 where
   pub rising : (i : ℕ) → suc i < length ps → get_or ps i 0 < get_or ps (suc i) 0
   pub prime : (i : ℕ) → i < length ps → Prime (get_or ps i 0)
-  pub none-left-out : (i q : ℕ) → i < length ps → Prime q → q < get_or ps i 0 → (j : ℕ) × (j < i) × (get_or ps j 0 ≡ q)
+  pub none_left_out : (i q : ℕ) → i < length ps → Prime q → q < get_or ps i 0 → (j : ℕ) × (j < i) × (get_or ps j 0 ≡ q)
 
 -- w is the largest number whose e-th power is at most n
 pub record Largest (e n w : ℕ) : Type 0 where
@@ -22,11 +22,11 @@ pub record Largest (e n w : ℕ) : Type 0 where
 -- x is the first 32 bits of the fractional part of p's e-th root
 pub record RootWord (e p x : ℕ) : Type 0 where
   pub root : ℕ
-  pub is-root : Largest e (p * 2 ^ (32 * e)) root
+  pub is_root : Largest e (p * 2 ^ (32 * e)) root
   pub word : x ≡ root % 2 ^ 32
 
 -- xs are these words of the first primes ps, one each
 pub record RootWords (e : ℕ) (ps xs : List ℕ) : Type 0 where
-  pub first-primes : FirstPrimes ps
+  pub first_primes : FirstPrimes ps
   pub one_each : length xs ≡ length ps
   pub words : (i : ℕ) → i < length xs → RootWord e (get_or ps i 0) (get_or xs i 0)

@@ -3,47 +3,47 @@
 use Rattle.std.specs.Prelude.{List, ◌≡◌, refl, Bool, true, false, cond, ℕ}
 use Rattle.std.proofs.Common.{sym, ◌∙◌}
 use Rattle.numbers.specs.Numbers.{unusable, InTable}
-use Rattle.numbers.specs.Chain.{Chain, last, test, decided, in-table-of}
+use Rattle.numbers.specs.Chain.{Chain, last, test, decided, in_table_of}
 use Rattle.facts.specs.declared.FactsRead.{FactsRead}
 use Rattle.store.specs.Store.{usable, file_length, piece_length, facts_root, SameFacts}
 use Rattle.facts.specs.Facts.{no_facts, facts_of, facts_answer}
 
-pub facts-given : (s : List ℕ) → usable s ≡ true → facts_answer s ≡ facts_of s
+pub facts_given : (s : List ℕ) → usable s ≡ true → facts_answer s ≡ facts_of s
 unfolding facts_answer
-facts-given s u = rw u
+facts_given s u = rw u
 
-pub facts-refused : (s : List ℕ) → usable s ≡ false → facts_answer s ≡ no_facts unusable
+pub facts_refused : (s : List ℕ) → usable s ≡ false → facts_answer s ≡ no_facts unusable
 unfolding facts_answer
-facts-refused s u = rw u
+facts_refused s u = rw u
 
-pub facts-read : (s : List ℕ) (n plen : ℕ) (root : List ℕ) → usable s ≡ true → n ≡ file_length s → plen ≡ piece_length s → root ≡ facts_root s
+pub facts_read : (s : List ℕ) (n plen : ℕ) (root : List ℕ) → usable s ≡ true → n ≡ file_length s → plen ≡ piece_length s → root ≡ facts_root s
     → record { number = 0; length = n; plen = plen; root = root } ≡ facts_answer s
-facts-read s n plen root u a b c = rw (a, b, c, facts-given s u)
+facts_read s n plen root u a b c = rw (a, b, c, facts_given s u)
 
 -- two stores with the same facts are answered the same
-pub facts-same : (s t : List ℕ) → usable s ≡ true → usable t ≡ true → SameFacts s t → facts_answer t ≡ facts_answer s
-facts-same s t u v e = sym (facts-read t (file_length s) (piece_length s) (facts_root s) v (sym e.file) (sym e.piece) (sym e.root)) ∙ sym (facts-given s u)
+pub facts_same : (s t : List ℕ) → usable s ≡ true → usable t ≡ true → SameFacts s t → facts_answer t ≡ facts_answer s
+facts_same s t u v e = sym (facts_read t (file_length s) (piece_length s) (facts_root s) v (sym e.file) (sym e.piece) (sym e.root)) ∙ sym (facts_given s u)
 
 -- 9 or 0, as a chain
 abbrev pub facts_chain : List ℕ → Chain
 facts_chain s = test (usable s) unusable (last 0)
 
-by-usable : (b : Bool) (f : FactsRead) → f.number ≡ 0 → (cond b f (no_facts unusable)).number ≡ cond b 0 unusable
-by-usable true f z = z
-by-usable false f z = refl
+by_usable : (b : Bool) (f : FactsRead) → f.number ≡ 0 → (cond b f (no_facts unusable)).number ≡ cond b 0 unusable
+by_usable true f z = z
+by_usable false f z = refl
 
-pub facts-tests : (s : List ℕ) → (facts_answer s).number ≡ decided (facts_chain s)
+pub facts_tests : (s : List ℕ) → (facts_answer s).number ≡ decided (facts_chain s)
 unfolding facts_answer
-facts-tests s = by-usable (usable s) (facts_of s) refl
+facts_tests s = by_usable (usable s) (facts_of s) refl
 
-pub facts-in-table : (s : List ℕ) → InTable (facts_answer s).number
-facts-in-table s = in-table-of (facts_chain s) (facts-tests s) refl
+pub facts_in_table : (s : List ℕ) → InTable (facts_answer s).number
+facts_in_table s = in_table_of (facts_chain s) (facts_tests s) refl
 
-by-zeros : (b : Bool) (f : FactsRead) → f.number ≡ 0 → ((cond b f (no_facts unusable)).number ≡ 0 → ⊥) → cond b f (no_facts unusable) ≡ no_facts (cond b f (no_facts unusable)).number
-by-zeros true f z ne = absurd (ne z)
-by-zeros false f z ne = refl
+by_zeros : (b : Bool) (f : FactsRead) → f.number ≡ 0 → ((cond b f (no_facts unusable)).number ≡ 0 → ⊥) → cond b f (no_facts unusable) ≡ no_facts (cond b f (no_facts unusable)).number
+by_zeros true f z ne = absurd (ne z)
+by_zeros false f z ne = refl
 
 -- beside a refusal all are zero
-pub facts-zeros : (s : List ℕ) → ((facts_answer s).number ≡ 0 → ⊥) → facts_answer s ≡ no_facts (facts_answer s).number
+pub facts_zeros : (s : List ℕ) → ((facts_answer s).number ≡ 0 → ⊥) → facts_answer s ≡ no_facts (facts_answer s).number
 unfolding facts_answer
-facts-zeros s ne = by-zeros (usable s) (facts_of s) refl ne
+facts_zeros s ne = by_zeros (usable s) (facts_of s) refl ne

@@ -29,8 +29,8 @@ counted_of c (files fs k) = Past k (tally_after c fs)
 
 -- a file takes a byte of those up to `at`, one that is not empty 64
 pub record Within (at : ℕ) (c : Tally) : Type 0 where
-  pub few-files : c.files ≤ at
-  pub few-roots : 64 * c.roots ≤ at
+  pub few_files : c.files ≤ at
+  pub few_roots : 64 * c.roots ≤ at
 
 abbrev pub CountedIn : Counted → Type 0
 CountedIn WrongTree = Unit {0}

@@ -9,14 +9,14 @@ use Rattle.limits.specs.Limits.{longest_file, max_levels}
 use Rattle.bencode.specs.Scalar.{read_string, read_number}
 use Rattle.bencode.specs.Walk.{walk_value}
 use Rattle.bencode.specs.Parts.{is_dictionary}
-use Rattle.bencode.specs.EndsLaws.{string-ends, value-ends}
-use Rattle.bencode.proofs.Finding.{dictionary-within}
+use Rattle.bencode.specs.EndsLaws.{string_ends, value_ends}
+use Rattle.bencode.proofs.Finding.{dictionary_within}
 use Rattle.bencode.specs.declared.scalar.ByteString.{ByteString}
 use Rattle.bencode.specs.declared.scalar.ByteString.TheVariants.{Content, NoString}
 use Rattle.bencode.specs.declared.walk.Walked.{Walked}
 use Rattle.bencode.specs.declared.walk.Walked.TheVariants.{Past, Broken, TooDeep}
 use Rattle.filetree.specs.File.{file_at}
-use Rattle.filetree.specs.SizeLaws.{file-small, full_size}
+use Rattle.filetree.specs.SizeLaws.{file_small, full_size}
 use Rattle.meaning.specs.Torrent.{element_right}
 use Rattle.filetree.specs.Token.{ends_here, behind_file, past_file, with_file, file_token, first_key, node_token, key_token, token_at}
 use Rattle.filetree.specs.declared.file.File.{File}
@@ -25,17 +25,17 @@ use Rattle.filetree.specs.declared.token.Token.{Token}
 use Rattle.filetree.specs.declared.token.Token.TheVariants.{Opened, Closed, Leaf, BadToken}
 
 -- where something ends there is a byte
-pub ends-inside : (s : List ℕ) (i : ℕ) → ends_here (drop i s) ≡ true → i < length s
+pub ends_inside : (s : List ℕ) (i : ℕ) → ends_here (drop i s) ≡ true → i < length s
 unfolding ends_here
-ends-inside s i e = by_length (dec_lt i (length s))
+ends_inside s i e = by_length (dec_lt i (length s))
   where
     by_length : Dec (i < length s) → i < length s
     by_length (yes h) = h
     by_length (no g) = absurd (false≢true (rw (drop_of_length-le s {i = i} (omega arith)) at e))
 
 -- a path element is not empty
-pub element-some : (s : List ℕ) (a b : ℕ) → element_right (cut s a (b - a)) ≡ true → a ≡ b → ⊥
-element-some s a b e h = let z : b - a ≡ 0 = omega arith in none (rw z at e)
+pub element_some : (s : List ℕ) (a b : ℕ) → element_right (cut s a (b - a)) ≡ true → a ≡ b → ⊥
+element_some s a b e h = let z : b - a ≡ 0 = omega arith in none (rw z at e)
   where
     none : element_right (cut s a 0) ≡ true → ⊥
     none q = unfold element_right cut in false≢true q
@@ -51,37 +51,37 @@ TokenIn at end Closed = at < end
 TokenIn at end (Opened a b) = (at < b) × (b < end) × (a ≤ b)
 TokenIn at end (Leaf a b n r k) = (at < k) × (k ≤ end) × Takes at end n r k × (n ≤ longest_file) × (a ≤ b) × (b ≤ end)
 
-past-in : (s : List ℕ) (at a b n r x : ℕ) → (a ≤ b) × (b ≤ length s) → file_at s x ≡ Right n r → at + 4 ≤ x → TokenIn at (length s) (past_file s a b n r x)
+past_in : (s : List ℕ) (at a b n r x : ℕ) → (a ≤ b) × (b ≤ length s) → file_at s x ≡ Right n r → at + 4 ≤ x → TokenIn at (length s) (past_file s a b n r x)
 unfolding past_file
-past-in s at a b n r x o f h = by-walk (walk_value max_levels x (drop x s)) refl
+past_in s at a b n r x o f h = by_walk (walk_value max_levels x (drop x s)) refl
   where
     by_end : (k : ℕ) → walk_value max_levels x (drop x s) ≡ Past k → (t : Bool) → ends_here (drop k s) ≡ t → TokenIn at (length s) (cond t (Leaf a b n r (k + 1)) BadToken)
     by_end k q true e =
-        let below = ends-inside s k e in
-        let g = (value-ends max_levels x s k q).0 in
-        (omega arith, omega arith, (λ nz. let z = full_size s x k n r q f nz in let u = z.0 in (omega arith, z.1)), file-small s x n r f, o.0, o.1)
+        let below = ends_inside s k e in
+        let g = (value_ends max_levels x s k q).0 in
+        (omega arith, omega arith, (λ nz. let z = full_size s x k n r q f nz in let u = z.0 in (omega arith, z.1)), file_small s x n r f, o.0, o.1)
     by_end k q false e = tt
 
-    by-walk : (w : Walked) → walk_value max_levels x (drop x s) ≡ w → TokenIn at (length s) (behind_file s a b n r w)
-    by-walk Broken q = tt
-    by-walk TooDeep q = tt
-    by-walk (Past k) q = by_end k q (ends_here (drop k s)) refl
+    by_walk : (w : Walked) → walk_value max_levels x (drop x s) ≡ w → TokenIn at (length s) (behind_file s a b n r w)
+    by_walk Broken q = tt
+    by_walk TooDeep q = tt
+    by_walk (Past k) q = by_end k q (ends_here (drop k s)) refl
 
-file-in : (s : List ℕ) (at a b x : ℕ) → (a ≤ b) × (b ≤ length s) → at + 4 ≤ x → TokenIn at (length s) (file_token s a b x)
+file_in : (s : List ℕ) (at a b x : ℕ) → (a ≤ b) × (b ≤ length s) → at + 4 ≤ x → TokenIn at (length s) (file_token s a b x)
 unfolding file_token
-file-in s at a b x o h = by-file (file_at s x) refl
+file_in s at a b x o h = by_file (file_at s x) refl
   where
-    by-file : (w : File) → file_at s x ≡ w → TokenIn at (length s) (with_file s a b x w)
-    by-file WrongFile f = tt
-    by-file (Right n r) f = past-in s at a b n r x o f h
+    by_file : (w : File) → file_at s x ≡ w → TokenIn at (length s) (with_file s a b x w)
+    by_file WrongFile f = tt
+    by_file (Right n r) f = past_in s at a b n r x o f h
 
-first-in : (s : List ℕ) (at a b : ℕ) → a ≤ b → at + 2 ≤ b → b < length s → (w : ByteString) → read_string (b + 1) (drop (b + 1) s) ≡ w → TokenIn at (length s) (first_key s a b w)
-first-in s at a b o h l NoString e = tt
-first-in s at a b o h l (Content x y) e = by-empty (eqb x y)
+first_in : (s : List ℕ) (at a b : ℕ) → a ≤ b → at + 2 ≤ b → b < length s → (w : ByteString) → read_string (b + 1) (drop (b + 1) s) ≡ w → TokenIn at (length s) (first_key s a b w)
+first_in s at a b o h l NoString e = tt
+first_in s at a b o h l (Content x y) e = by_empty (eqb x y)
   where
-    by-empty : (t : Bool) → TokenIn at (length s) (cond t (file_token s a b y) (Opened a b))
-    by-empty true = let p = string-ends (b + 1) s x y e in let u = p.0 in let v = p.1 in file-in s at a b y (o, omega arith) (omega arith)
-    by-empty false = (omega arith, l, o)
+    by_empty : (t : Bool) → TokenIn at (length s) (cond t (file_token s a b y) (Opened a b))
+    by_empty true = let p = string_ends (b + 1) s x y e in let u = p.0 in let v = p.1 in file_in s at a b y (o, omega arith) (omega arith)
+    by_empty false = (omega arith, l, o)
 
 node_in : (s : List ℕ) (at a b : ℕ) → a ≤ b → at + 2 ≤ b → TokenIn at (length s) (node_token s a b)
 unfolding node_token
@@ -89,47 +89,47 @@ node_in s at a b o h = by_kind (is_dictionary (drop b s)) refl
   where
     by_end : b < length s → (t : Bool) → TokenIn at (length s) (cond t BadToken (first_key s a b (read_string (b + 1) (drop (b + 1) s))))
     by_end l true = tt
-    by_end l false = first-in s at a b o h l (read_string (b + 1) (drop (b + 1) s)) refl
+    by_end l false = first_in s at a b o h l (read_string (b + 1) (drop (b + 1) s)) refl
 
     by_kind : (t : Bool) → is_dictionary (drop b s) ≡ t → TokenIn at (length s) (cond t (cond (ends_here (drop (b + 1) s)) BadToken (first_key s a b (read_string (b + 1) (drop (b + 1) s)))) BadToken)
-    by_kind true e = by_end (dictionary-within s b e) (ends_here (drop (b + 1) s))
+    by_kind true e = by_end (dictionary_within s b e) (ends_here (drop (b + 1) s))
     by_kind false e = tt
 
-pub token-in : (s : List ℕ) (at : ℕ) → TokenIn at (length s) (token_at s at)
+pub token_in : (s : List ℕ) (at : ℕ) → TokenIn at (length s) (token_at s at)
 unfolding token_at
-token-in s at = by_end (ends_here (drop at s)) refl
+token_in s at = by_end (ends_here (drop at s)) refl
   where
     by_key : (w : ByteString) → read_string at (drop at s) ≡ w → TokenIn at (length s) (key_token s w)
     by_key NoString e = tt
-    by_key (Content a b) e = by-element (element_right (cut s a (b - a))) refl
+    by_key (Content a b) e = by_element (element_right (cut s a (b - a))) refl
       where
-        by-element : (t : Bool) → element_right (cut s a (b - a)) ≡ t → TokenIn at (length s) (cond t (node_token s a b) BadToken)
-        by-element false q = tt
-        by-element true q =
-            let p = string-ends at s a b e in
+        by_element : (t : Bool) → element_right (cut s a (b - a)) ≡ t → TokenIn at (length s) (cond t (node_token s a b) BadToken)
+        by_element false q = tt
+        by_element true q =
+            let p = string_ends at s a b e in
             let u = p.0 in
             let v = p.1 in
-            let other : (a ≡ b → ⊥) = element-some s a b q in
+            let other : (a ≡ b → ⊥) = element_some s a b q in
             node_in s at a b v (omega arith)
 
     by_end : (t : Bool) → ends_here (drop at s) ≡ t → TokenIn at (length s) (cond t Closed (key_token s (read_string at (drop at s))))
-    by_end true e = ends-inside s at e
+    by_end true e = ends_inside s at e
     by_end false e = by_key (read_string at (drop at s)) refl
 
-pub opened-ends : (s : List ℕ) (at a b : ℕ) → token_at s at ≡ Opened a b → (at < b) × (b < length s) × (a ≤ b)
-opened-ends s at a b e = rw e at (token-in s at)
+pub opened_ends : (s : List ℕ) (at a b : ℕ) → token_at s at ≡ Opened a b → (at < b) × (b < length s) × (a ≤ b)
+opened_ends s at a b e = rw e at (token_in s at)
 
-pub leaf-ends : (s : List ℕ) (at a b n r k : ℕ) → token_at s at ≡ Leaf a b n r k → (at < k) × (k ≤ length s) × Takes at (length s) n r k × (n ≤ longest_file) × (a ≤ b) × (b ≤ length s)
-leaf-ends s at a b n r k e = rw e at (token-in s at)
+pub leaf_ends : (s : List ℕ) (at a b n r k : ℕ) → token_at s at ≡ Leaf a b n r k → (at < k) × (k ≤ length s) × Takes at (length s) n r k × (n ≤ longest_file) × (a ≤ b) × (b ≤ length s)
+leaf_ends s at a b n r k e = rw e at (token_in s at)
 
 -- what ends further on leaves fewer bytes behind it
-pub fewer-behind : (n at k : ℕ) → at < k → k ≤ n → n - k < n - at
-fewer-behind n at k l h = omega arith
+pub fewer_behind : (n at k : ℕ) → at < k → k ≤ n → n - k < n - at
+fewer_behind n at k l h = omega arith
 
-pub leaf-fewer : (s : List ℕ) (at a b n r k : ℕ) → token_at s at ≡ Leaf a b n r k → length s - k < length s - at
-leaf-fewer s at a b n r k e = let ends = leaf-ends s at a b n r k e in fewer-behind (length s) at k ends.0 ends.1
+pub leaf_fewer : (s : List ℕ) (at a b n r k : ℕ) → token_at s at ≡ Leaf a b n r k → length s - k < length s - at
+leaf_fewer s at a b n r k e = let ends = leaf_ends s at a b n r k e in fewer_behind (length s) at k ends.0 ends.1
 
 -- past the end there is none
-pub token-none : (s : List ℕ) (at : ℕ) → length s ≤ at → token_at s at ≡ BadToken
+pub token_none : (s : List ℕ) (at : ℕ) → length s ≤ at → token_at s at ≡ BadToken
 unfolding token_at ends_here read_number
-token-none s at h = rw (drop_of_length-le s {i = at} h) refl
+token_none s at h = rw (drop_of_length-le s {i = at} h) refl

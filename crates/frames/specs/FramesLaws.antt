@@ -3,26 +3,26 @@
 use Rattle.std.specs.Prelude.{◌≡◌, refl, List, [], ◌∷◌, ◌++◌, true, false, ℕ, suc, ◌+◌, length}
 use Rattle.std.proofs.Common.{length-append, lt-ltb, le-ltb, arith}
 use Rattle.octets.specs.Octets.{Octets, be}
-use Rattle.octets.specs.OctetsLaws.{be-octets}
+use Rattle.octets.specs.OctetsLaws.{be_octets}
 use Rattle.frames.specs.Frames.{Bytes, sizes_of, right_for, known, right, frame_of}
 use Rattle.frames.specs.declared.Sizes.{Sizes}
 
 -- ---- bytes
 
-pub bytes-front : (p q : List ℕ) → Bytes (p ++ q) → Bytes p
+pub bytes_front : (p q : List ℕ) → Bytes (p ++ q) → Bytes p
 unfolding Bytes
-bytes-front [] q y = tt
-bytes-front (b ∷ p) q y = (y.0, bytes-front p q y.1)
+bytes_front [] q y = tt
+bytes_front (b ∷ p) q y = (y.0, bytes_front p q y.1)
 
 pub bytes_rest : (p q : List ℕ) → Bytes (p ++ q) → Bytes q
 unfolding Bytes
 bytes_rest [] q y = y
 bytes_rest (b ∷ p) q y = bytes_rest p q y.1
 
-pub bytes-both : (p q : List ℕ) → Bytes p → Bytes q → Bytes (p ++ q)
+pub bytes_both : (p q : List ℕ) → Bytes p → Bytes q → Bytes (p ++ q)
 unfolding Bytes
-bytes-both [] q x y = y
-bytes-both (b ∷ p) q x y = (x.0, bytes-both p q x.1 y)
+bytes_both [] q x y = y
+bytes_both (b ∷ p) q x y = (x.0, bytes_both p q x.1 y)
 
 -- as octets has them
 pub bytes_of : (l : List ℕ) → Octets (length l) l → Bytes l
@@ -32,13 +32,13 @@ bytes_of (b ∷ bs) o = (o.bytes 0 (omega arith), bytes_of bs (record { size = r
 
 -- ---- the table
 
-pub known-no : (i : ℕ) (z : Sizes) → z ≡ sizes_of i → z.least ≡ 0 → known i ≡ false
+pub known_no : (i : ℕ) (z : Sizes) → z ≡ sizes_of i → z.least ≡ 0 → known i ≡ false
 unfolding known
-known-no i z e l = rw (← e) (le-ltb 0 z.least (omega arith))
+known_no i z e l = rw (← e) (le-ltb 0 z.least (omega arith))
 
-pub known-yes : (i : ℕ) (z : Sizes) → z ≡ sizes_of i → (z.least ≡ 0 → ⊥) → known i ≡ true
+pub known_yes : (i : ℕ) (z : Sizes) → z ≡ sizes_of i → (z.least ≡ 0 → ⊥) → known i ≡ true
 unfolding known
-known-yes i z e l = rw (← e) (lt-ltb 0 z.least (omega arith))
+known_yes i z e l = rw (← e) (lt-ltb 0 z.least (omega arith))
 
 pub right_is : (i n : ℕ) (z : Sizes) → z ≡ sizes_of i → right_for z n ≡ right i n
 unfolding right
@@ -46,6 +46,6 @@ right_is i n z e = rw (← e)
 
 -- ---- the frame
 
-pub frame-length : (m : List ℕ) → length (frame_of m) ≡ 4 + length m
+pub frame_length : (m : List ℕ) → length (frame_of m) ≡ 4 + length m
 unfolding frame_of
-frame-length m = let a = length-append (be 4 (length m)) m in let b = (be-octets 4 (length m)).size in omega (arith, a, b)
+frame_length m = let a = length-append (be 4 (length m)) m in let b = (be_octets 4 (length m)).size in omega (arith, a, b)

@@ -41,21 +41,21 @@ unfolding torrent_number value_number lookup same has_keys is_piece_length piece
 padded = refl
 
 -- and behind the last one
-pub padded-behind : torrent_number (hybrid (item (v1_file 5 a) (item (pad 16379) (item (v1_file 5 b) (item (pad 16379) no_items)))) 40) ≡ 0
+pub padded_behind : torrent_number (hybrid (item (v1_file 5 a) (item (pad 16379) (item (v1_file 5 b) (item (pad 16379) no_items)))) 40) ≡ 0
 unfolding torrent_number value_number lookup same has_keys is_piece_length piece_layer height height_from tree_right branch_right node_right nodes_right element_right without file_right files_of_entries files_of_node lengths_agree no_other_length zero_hash layers_fit has_layer no_others layers_give_roots names_full names_of entry_fits items_fit entries_in half_fits v1_entries total same_path files_among same_files on_boundary halves_fit piece_count ceil_div
-padded-behind = refl
+padded_behind = refl
 
 -- the second file not on a boundary
-pub not-padded : torrent_number (hybrid (item (v1_file 5 a) (item (v1_file 5 b) no_items)) 20) ≡ 31
+pub not_padded : torrent_number (hybrid (item (v1_file 5 a) (item (v1_file 5 b) no_items)) 20) ≡ 31
 unfolding torrent_number value_number lookup same has_keys is_piece_length piece_layer height height_from tree_right branch_right node_right nodes_right element_right without file_right files_of_entries files_of_node lengths_agree no_other_length zero_hash layers_fit has_layer no_others layers_give_roots names_full names_of entry_fits items_fit entries_in half_fits v1_entries total same_path files_among same_files on_boundary halves_fit piece_count ceil_div
-not-padded = refl
+not_padded = refl
 
 -- another order
-pub other-order : torrent_number (hybrid (item (v1_file 5 b) (item (pad 16379) (item (v1_file 5 a) no_items))) 40) ≡ 31
+pub other_order : torrent_number (hybrid (item (v1_file 5 b) (item (pad 16379) (item (v1_file 5 a) no_items))) 40) ≡ 31
 unfolding torrent_number value_number lookup same has_keys is_piece_length piece_layer height height_from tree_right branch_right node_right nodes_right element_right without file_right files_of_entries files_of_node lengths_agree no_other_length zero_hash layers_fit has_layer no_others layers_give_roots names_full names_of entry_fits items_fit entries_in half_fits v1_entries total same_path files_among same_files on_boundary halves_fit piece_count ceil_div
-other-order = refl
+other_order = refl
 
 -- one v1 piece too few
-pub piece-lacking : torrent_number (hybrid (item (v1_file 5 a) (item (pad 16379) (item (v1_file 5 b) no_items))) 20) ≡ 31
+pub piece_lacking : torrent_number (hybrid (item (v1_file 5 a) (item (pad 16379) (item (v1_file 5 b) no_items))) 20) ≡ 31
 unfolding torrent_number value_number lookup same has_keys is_piece_length piece_layer height height_from tree_right branch_right node_right nodes_right element_right without file_right files_of_entries files_of_node lengths_agree no_other_length zero_hash layers_fit has_layer no_others layers_give_roots names_full names_of entry_fits items_fit entries_in half_fits v1_entries total same_path files_among same_files on_boundary halves_fit piece_count ceil_div
-piece-lacking = refl
+piece_lacking = refl

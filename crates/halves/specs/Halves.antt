@@ -26,7 +26,7 @@ pub data Names : Items → List (List ℕ) → Type 0 where
 -- `path`: a list of such strings, one or more
 pub record PathIs (x : Lookup) (path : List (List ℕ)) : Type 0 where
   pub items : Items
-  pub a-list : x ≡ present (list items)
+  pub a_list : x ≡ present (list items)
   pub names : Names items path
   pub some : path ≡ [] → ⊥
 
@@ -44,10 +44,10 @@ pub data PathGiven : Lookup → Bool → List (List ℕ) → Type 0 where
 -- an entry of `files`: a dictionary with an integer `length` that is not negative, a `path`, and perhaps an `attr`
 pub record EntryIs (v : Value) (e : V1Entry) : Type 0 where
   pub properties : Entries
-  pub a-dictionary : v ≡ dictionary properties
-  pub length-is : lookup key_length properties ≡ present (integer false e.size)
-  pub path-is : PathGiven (lookup key_path properties) e.padding e.path
-  pub attr-is : AttrIs (lookup key_attr properties) e.padding
+  pub a_dictionary : v ≡ dictionary properties
+  pub length_is : lookup key_length properties ≡ present (integer false e.size)
+  pub path_is : PathGiven (lookup key_path properties) e.padding e.path
+  pub attr_is : AttrIs (lookup key_attr properties) e.padding
 
 pub data EntriesAre : Items → List V1Entry → Type 0 where
   none : EntriesAre no_items []
@@ -86,14 +86,14 @@ OnBoundary plen es = (i : ℕ) (e : V1Entry) → Nth es i e → e.padding ≡ fa
 -- `pieces`: a string with 20 bytes for each piece of all entries, padding included
 pub record PiecesRight (plen : ℕ) (es : List V1Entry) (x : Lookup) : Type 0 where
   pub hashes : List ℕ
-  pub a-string : x ≡ present (string hashes)
-  pub twenty-each : length hashes ≡ 20 * piece_count (total es) plen
+  pub a_string : x ≡ present (string hashes)
+  pub twenty_each : length hashes ≡ 20 * piece_count (total es) plen
 
 pub record HalvesAgree (torrent : Entries) : Type 0 where
   pub entries : List V1Entry
-  pub v1-files : V1Files (info_of torrent) entries
-  pub same-files : SameFiles entries (files_of torrent)
-  pub on-boundary : OnBoundary (plen_of torrent) entries
+  pub v1_files : V1Files (info_of torrent) entries
+  pub same_files_lem : SameFiles entries (files_of torrent)
+  pub on_boundary_lem : OnBoundary (plen_of torrent) entries
   pub pieces : PiecesRight (plen_of torrent) entries (lookup key_pieces (info_of torrent))
 
 -- ---- what is amiss

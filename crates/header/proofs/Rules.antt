@@ -11,57 +11,57 @@ use lib.Dec.{eqb, leb}
 use lib.Pow.{pow_mono}
 use borrow.Author.Tests.{eq-eqb, ne_eqb, le-leb, lt-leb, leb-true, lt-ltb, le-ltb}
 use Rattle.tree.specs.Geometry.{height, node_number}
-use Rattle.tree.proofs.GeometryLaws.{height-least, shifted_one}
+use Rattle.tree.proofs.GeometryLaws.{height_least, shifted_one}
 use Rattle.header.specs.declared.Header.{Header}
 use Rattle.header.specs.declared.Place.{Place}
 use Rattle.limits.specs.Limits.{longest_run}
 use Rattle.header.specs.Header.{header_size, message_id, request_id, hashes_id, reject_id, is_hashes, is_request, is_reject, length_rule, index_rule, rules_kept, place_of}
-use Rattle.header.specs.HeaderLaws.{log-some}
+use Rattle.header.specs.HeaderLaws.{log_some}
 
 -- ---- the form
 
-pub hashes-short : (m : List ℕ) → length m < header_size → false ≡ is_hashes m
+pub hashes_short : (m : List ℕ) → length m < header_size → false ≡ is_hashes m
 unfolding is_hashes
-hashes-short m h = sym (rw (lt-leb header_size (length m) h))
+hashes_short m h = sym (rw (lt-leb header_size (length m) h))
 
-pub hashes-long : (m : List ℕ) → header_size ≤ length m → eqb (message_id m) hashes_id ≡ is_hashes m
+pub hashes_long : (m : List ℕ) → header_size ≤ length m → eqb (message_id m) hashes_id ≡ is_hashes m
 unfolding is_hashes
-hashes-long m h = sym (rw (le-leb header_size (length m) h))
+hashes_long m h = sym (rw (le-leb header_size (length m) h))
 
-pub request-other : (m : List ℕ) → (length m ≡ header_size → ⊥) → false ≡ is_request m
+pub request_other : (m : List ℕ) → (length m ≡ header_size → ⊥) → false ≡ is_request m
 unfolding is_request
-request-other m h = sym (rw (ne_eqb (length m) header_size h))
+request_other m h = sym (rw (ne_eqb (length m) header_size h))
 
-pub request-sized : (m : List ℕ) → length m ≡ header_size → eqb (message_id m) request_id ≡ is_request m
+pub request_sized : (m : List ℕ) → length m ≡ header_size → eqb (message_id m) request_id ≡ is_request m
 unfolding is_request
-request-sized m h = sym (rw (eq-eqb (length m) header_size h))
+request_sized m h = sym (rw (eq-eqb (length m) header_size h))
 
-pub reject-other : (m : List ℕ) → (length m ≡ header_size → ⊥) → false ≡ is_reject m
+pub reject_other : (m : List ℕ) → (length m ≡ header_size → ⊥) → false ≡ is_reject m
 unfolding is_reject
-reject-other m h = sym (rw (ne_eqb (length m) header_size h))
+reject_other m h = sym (rw (ne_eqb (length m) header_size h))
 
-pub reject-sized : (m : List ℕ) → length m ≡ header_size → eqb (message_id m) reject_id ≡ is_reject m
+pub reject_sized : (m : List ℕ) → length m ≡ header_size → eqb (message_id m) reject_id ≡ is_reject m
 unfolding is_reject
-reject-sized m h = sym (rw (eq-eqb (length m) header_size h))
+reject_sized m h = sym (rw (eq-eqb (length m) header_size h))
 
 -- ---- the length
 
-pub length-small : (len : ℕ) → len < 2 → false ≡ length_rule len
+pub length_small : (len : ℕ) → len < 2 → false ≡ length_rule len
 unfolding length_rule
-length-small len h = sym (rw (lt-leb 2 len h) (ap (λ (t : Bool). t && leb len longest_run) (and-false (eqb (2 ^ height len) len))))
+length_small len h = sym (rw (lt-leb 2 len h) (ap (λ (t : Bool). t && leb len longest_run) (and-false (eqb (2 ^ height len) len))))
 
-pub length-large : (len : ℕ) → longest_run < len → false ≡ length_rule len
+pub length_large : (len : ℕ) → longest_run < len → false ≡ length_rule len
 unfolding length_rule
-length-large len h = sym (rw (lt-leb len longest_run h) (and-false (eqb (2 ^ height len) len && leb 2 len)))
+length_large len h = sym (rw (lt-leb len longest_run h) (and-false (eqb (2 ^ height len) len && leb 2 len)))
 
 -- a run's length is a number of 32 bits
-pub log-small : (len : ℕ) → len ≤ 2 ^ 32 → height len ≤ 32
-log-small len h = height-least len 32 h
+pub log_small : (len : ℕ) → len ≤ 2 ^ 32 → height len ≤ 32
+log_small len h = height_least len 32 h
 
-pub length-middle : (len k : ℕ) → 2 ≤ len → len ≤ longest_run → k ≡ height len → eqb (1 * 2 ^ k % 2 ^ 64) len ≡ length_rule len
+pub length_middle : (len k : ℕ) → 2 ≤ len → len ≤ longest_run → k ≡ height len → eqb (1 * 2 ^ k % 2 ^ 64) len ≡ length_rule len
 unfolding length_rule
-length-middle len k a b e =
-    let p : 2 ^ k ≤ 2 ^ 32 = pow_mono {i = k} {j = 32} (omega (arith, log-small len (omega arith))) in
+length_middle len k a b e =
+    let p : 2 ^ k ≤ 2 ^ 32 = pow_mono {i = k} {j = 32} (omega (arith, log_small len (omega arith))) in
     let o : 1 * 2 ^ k ≡ 2 ^ k = omega arith in
     let q : 1 * 2 ^ k % 2 ^ 64 ≡ 2 ^ height len = ap (λ (y : ℕ). y % 2 ^ 64) o ∙ mod-eq_of_lt (omega arith) ∙ ap (λ (y : ℕ). 2 ^ y) e in
     sym (rw (le-leb 2 len a, le-leb len longest_run b) (last (eqb (2 ^ height len) len) ∙ ap (λ (y : ℕ). eqb y len) (sym q)))
@@ -79,9 +79,9 @@ length_two len e = leb-true 2 len (middle (eqb (2 ^ height len) len) (leb 2 len)
     middle true false c f = f
     middle false b c f = absurd (mathlib.Core.Bool.false≢true f)
 
-pub length-log : (len : ℕ) → length_rule len ≡ true → height len ≤ 32
+pub length_log : (len : ℕ) → length_rule len ≡ true → height len ≤ 32
 unfolding length_rule
-length-log len e = let l = leb-true len longest_run (last (eqb (2 ^ height len) len) (leb 2 len) (leb len longest_run) e) in log-small len (omega arith)
+length_log len e = let l = leb-true len longest_run (last (eqb (2 ^ height len) len) (leb 2 len) (leb len longest_run) e) in log_small len (omega arith)
   where
     last : (a b c : Bool) → (a && b && c) ≡ true → c ≡ true
     last true true c f = f
@@ -90,47 +90,47 @@ length-log len e = let l = leb-true len longest_run (last (eqb (2 ^ height len) 
 
 -- ---- the index
 
-pub index-by : (x : Header) (h d : ℕ) → h ≤ 32 → d ≡ h - x.base → leb (x.index + x.len) (1 * 2 ^ d % 2 ^ 64) ≡ index_rule x h
+pub index_by : (x : Header) (h d : ℕ) → h ≤ 32 → d ≡ h - x.base → leb (x.index + x.len) (1 * 2 ^ d % 2 ^ 64) ≡ index_rule x h
 unfolding index_rule
-index-by x h d l e = ap (leb (x.index + x.len)) (shifted_one d (omega arith) ∙ ap (λ (y : ℕ). 2 ^ y) e)
+index_by x h d l e = ap (leb (x.index + x.len)) (shifted_one d (omega arith) ∙ ap (λ (y : ℕ). 2 ^ y) e)
 
 -- ---- all rules
 
 module _ (x : Header) (h : ℕ) where
-  pub rules-1 : length_rule x.len ≡ false → false ≡ rules_kept x h
+  pub rules_1 : length_rule x.len ≡ false → false ≡ rules_kept x h
   unfolding rules_kept
-  rules-1 a = sym (rw a)
+  rules_1 a = sym (rw a)
 
   module _ (a : length_rule x.len ≡ true) where
-    pub rules-2 : (x.index % x.len ≡ 0 → ⊥) → false ≡ rules_kept x h
+    pub rules_2 : (x.index % x.len ≡ 0 → ⊥) → false ≡ rules_kept x h
     unfolding rules_kept
-    rules-2 c = sym (rw (a, ne_eqb (x.index % x.len) 0 c))
+    rules_2 c = sym (rw (a, ne_eqb (x.index % x.len) 0 c))
 
     module _ (c : x.index % x.len ≡ 0) (k : ℕ) (e : k ≡ height x.len) where
-      pub rules-3 : h < x.base + k → false ≡ rules_kept x h
+      pub rules_3 : h < x.base + k → false ≡ rules_kept x h
       unfolding rules_kept
-      rules-3 d = sym (rw (a, eq-eqb (x.index % x.len) 0 c, ← e, lt-leb (x.base + k) h d))
+      rules_3 d = sym (rw (a, eq-eqb (x.index % x.len) 0 c, ← e, lt-leb (x.base + k) h d))
 
       module _ (d : x.base + k ≤ h) where
-        pub rules-4 : h ≤ x.base + x.proof → false ≡ rules_kept x h
+        pub rules_4 : h ≤ x.base + x.proof → false ≡ rules_kept x h
         unfolding rules_kept
-        rules-4 f = sym (rw (a, eq-eqb (x.index % x.len) 0 c, ← e, le-leb (x.base + k) h d, le-ltb (x.base + x.proof) h f))
+        rules_4 f = sym (rw (a, eq-eqb (x.index % x.len) 0 c, ← e, le-leb (x.base + k) h d, le-ltb (x.base + x.proof) h f))
 
-        pub rules-5 : x.base + x.proof < h → index_rule x h ≡ rules_kept x h
+        pub rules_5 : x.base + x.proof < h → index_rule x h ≡ rules_kept x h
         unfolding rules_kept
-        rules-5 f = sym (rw (a, eq-eqb (x.index % x.len) 0 c, ← e, le-leb (x.base + k) h d, lt-ltb (x.base + x.proof) h f))
+        rules_5 f = sym (rw (a, eq-eqb (x.index % x.len) 0 c, ← e, le-leb (x.base + k) h d, lt-ltb (x.base + x.proof) h f))
 
 -- ---- the place
 
-pub place-by : (x : Header) (h k u top : ℕ) → 2 ≤ x.len → k ≡ height x.len → ((k ≤ x.proof + 1 → u ≡ x.proof + 1 - k) × (x.proof + 1 < k → u ≡ 0))
+pub place_by : (x : Header) (h k u top : ℕ) → 2 ≤ x.len → k ≡ height x.len → ((k ≤ x.proof + 1 → u ≡ x.proof + 1 - k) × (x.proof + 1 < k → u ≡ 0))
     → top ≡ node_number h (x.base + k) (x.index / x.len)
     → ◌≡◌ {A = Place} (record { k = k; u = u; top = top }) (place_of x h)
 unfolding place_of
-place-by x h k u top l e w f =
-    let s = log-some x.len l in
+place_by x h k u top l e w f =
+    let s = log_some x.len l in
     let q : u ≡ x.proof - (k - 1) = by (native.Mathlib.Decide.dec_le k (x.proof + 1)) in
     cc
   where
     by : Dec (k ≤ x.proof + 1) → u ≡ x.proof - (k - 1)
-    by (yes g) = w.0 g ∙ omega (arith, log-some x.len l)
-    by (no n) = w.1 (omega arith) ∙ omega (arith, log-some x.len l)
+    by (yes g) = w.0 g ∙ omega (arith, log_some x.len l)
+    by (no n) = w.1 (omega arith) ∙ omega (arith, log_some x.len l)

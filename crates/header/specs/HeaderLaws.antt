@@ -4,7 +4,7 @@ use Rattle.std.specs.Prelude.{◌≡◌, true, ◌&&◌, ℕ, zero, suc, ◌+◌
 use Rattle.std.proofs.Common.{ap, ◌∙◌, div-lt_iff_lt-mul, arith, pow-add, eq-eqb, eqb-true, le-leb, leb-true, lt-ltb, ltb-true}
 use Rattle.std.proofs.Math.Bool.{and-eq-true_iff}
 use Rattle.tree.specs.Geometry.{height}
-use Rattle.tree.proofs.GeometryLaws.{height-enough}
+use Rattle.tree.proofs.GeometryLaws.{height_enough}
 use Rattle.header.specs.declared.Header.{Header}
 use Rattle.limits.specs.Limits.{longest_run}
 use Rattle.header.specs.Header.{length_rule, index_rule, rules_kept, Kept}
@@ -13,13 +13,13 @@ index_kept : (x : Header) (h : ℕ) → index_rule x h ≡ true → x.index + x.
 unfolding index_rule
 index_kept x h e = leb-true (x.index + x.len) (2 ^ (h - x.base)) e
 
-kept-index : (x : Header) (h : ℕ) → x.index + x.len ≤ 2 ^ (h - x.base) → index_rule x h ≡ true
+kept_index : (x : Header) (h : ℕ) → x.index + x.len ≤ 2 ^ (h - x.base) → index_rule x h ≡ true
 unfolding index_rule
-kept-index x h l = le-leb (x.index + x.len) (2 ^ (h - x.base)) l
+kept_index x h l = le-leb (x.index + x.len) (2 ^ (h - x.base)) l
 
-pub rules-kept : (x : Header) (h : ℕ) → rules_kept x h ≡ true → Kept x h
+pub rules_kept_lem : (x : Header) (h : ℕ) → rules_kept x h ≡ true → Kept x h
 unfolding rules_kept length_rule
-rules-kept x h e =
+rules_kept_lem x h e =
     let p = (and-eq-true_iff _ (index_rule x h)).0 e in
     let q = (and-eq-true_iff _ (ltb (x.base + x.proof) h)).0 p.0 in
     let r = (and-eq-true_iff _ (leb (x.base + height x.len) h)).0 q.0 in
@@ -36,9 +36,9 @@ rules-kept x h e =
       inside = omega (arith, index_kept x h p.1);
     }
 
-pub kept-rules : (x : Header) (h : ℕ) → Kept x h → rules_kept x h ≡ true
+pub kept_rules : (x : Header) (h : ℕ) → Kept x h → rules_kept x h ≡ true
 unfolding rules_kept length_rule
-kept-rules x h f =
+kept_rules x h f =
     rw (
       eq-eqb (2 ^ height x.len) x.len f.power,
       le-leb 2 x.len f.two,
@@ -46,20 +46,20 @@ kept-rules x h f =
       eq-eqb (x.index % x.len) 0 f.multiple,
       le-leb (x.base + height x.len) h f.within,
       lt-ltb (x.base + x.proof) h f.above,
-      kept-index x h (omega (arith, f.inside)),
+      kept_index x h (omega (arith, f.inside)),
     )
 
 -- a length from 2 on has a logarithm from 1 on
-pub log-some : (len : ℕ) → 2 ≤ len → 1 ≤ height len
-log-some len h = by (height len) (height-enough len)
+pub log_some : (len : ℕ) → 2 ≤ len → 1 ≤ height len
+log_some len h = by (height len) (height_enough len)
   where
     by : (k : ℕ) → len ≤ 2 ^ k → 1 ≤ k
     by zero e = absurd (omega arith)
     by (suc k) e = omega arith
 
 -- the run's top is in its layer
-pub top-inside : (x : Header) (h : ℕ) → Kept x h → x.index / x.len < 2 ^ (h - (x.base + height x.len))
-top-inside x h f =
+pub top_inside : (x : Header) (h : ℕ) → Kept x h → x.index / x.len < 2 ^ (h - (x.base + height x.len))
+top_inside x h f =
     let k : ℕ = height x.len in
     let t : ℕ = h - (x.base + k) in
     let s : h - x.base ≡ t + k = omega (arith, f.within) in

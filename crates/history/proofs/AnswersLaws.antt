@@ -14,20 +14,20 @@ use Rattle.history.specs.declared.History.{History}
 
 -- ---- begin
 
-pub begin-done : (plen : ℕ) (block : Hashing) → is_piece_length plen ≡ true → block ≡ state_of []
+pub begin_done : (plen : ℕ) (block : Hashing) → is_piece_length plen ≡ true → block ≡ state_of []
     → record { number = 0; history = record { piece_length = plen; length = 0; block = block; nodes = replicate (32 * node_count) 0 } } ≡ begin_answer plen
 unfolding begin_answer empty_history
-begin-done plen block t e = rw (t, e)
+begin_done plen block t e = rw (t, e)
 
-pub begin-refused : (plen : ℕ) → is_piece_length plen ≡ false → record { number = facts_out_of_range; history = no_history } ≡ begin_answer plen
+pub begin_refused : (plen : ℕ) → is_piece_length plen ≡ false → record { number = facts_out_of_range; history = no_history } ≡ begin_answer plen
 unfolding begin_answer
-begin-refused plen t = rw t
+begin_refused plen t = rw t
 
 -- ---- the counts
 
-pub possible-says : (s : History) → possible_counts s ≡ true → Possible s
+pub possible_says : (s : History) → possible_counts s ≡ true → Possible s
 unfolding possible_counts
-possible-says s e =
+possible_says s e =
     let a : Bool = is_piece_length s.piece_length in
     let b : Bool = leb s.length longest_file in
     let c : Bool = eqb s.block.total (s.length % block_length) in
@@ -42,7 +42,7 @@ possible-says s e =
       tail = eqb-true s.block.tail_size (s.block.total % 64) abc.1;
     }
 
-pub says-possible : (s : History) → Possible s → possible_counts s ≡ true
+pub says_possible : (s : History) → Possible s → possible_counts s ≡ true
 unfolding possible_counts
-says-possible s w =
+says_possible s w =
     rw (w.pieces, le-leb s.length longest_file w.short, eq-eqb s.block.total (s.length % block_length) w.inside, eq-eqb s.block.tail_size (s.block.total % 64) w.tail)

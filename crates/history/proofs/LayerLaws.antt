@@ -11,38 +11,38 @@ use Rattle.std.proofs.Math.ListN.{length}
 use Rattle.std.proofs.Math.Dec.{eqb}
 use borrow.Author.Tests.{eq-eqb, ne_eqb, lt-ltb, le-ltb}
 use Rattle.octets.specs.Octets.{pasted}
-use Rattle.octets.specs.OctetsLaws.{pasted-append, pasted_length}
+use Rattle.octets.specs.OctetsLaws.{pasted_append, pasted_length}
 use Rattle.tree.specs.Geometry.{block_length, ceil_div, piece_layer, is_piece_length, piece_count}
-use Rattle.tree.proofs.GeometryLaws.{ceil-least, ceil-enough, below-ceil, ceil-below, piece-length-form}
+use Rattle.tree.proofs.GeometryLaws.{ceil_least, ceil_enough, below_ceil, ceil_below, piece_length_form}
 use Rattle.tree.specs.Values.{node, leaf_of, layer_of}
-use Rattle.tree.proofs.ValuesLaws.{leaf-octets, file-octets}
+use Rattle.tree.proofs.ValuesLaws.{leaf_octets, file_octets}
 use Rattle.history.specs.Growing.{node_count, node_at, noted, noted_by}
 use Rattle.history.specs.Answers.{passed}
 use Rattle.history.specs.HistoryOf.{last_of, history_of, hashes_of}
 use Rattle.history.proofs.NodesLaws.{last_some}
-use Rattle.history.proofs.GrowingLaws.{node_stays, grown-more}
-use Rattle.history.proofs.LastLaws.{history-nodes, ceil-whole, ceil-above}
+use Rattle.history.proofs.GrowingLaws.{node_stays, grown_more}
+use Rattle.history.proofs.LastLaws.{history_nodes, ceil_whole, ceil_above}
 use Rattle.history.specs.declared.History.{History}
 
-pub hashes-size : (x : List ℕ) (p a n : ℕ) → length (hashes_of x p a n) ≡ 32 * n
+pub hashes_size : (x : List ℕ) (p a n : ℕ) → length (hashes_of x p a n) ≡ 32 * n
 unfolding hashes_of
-hashes-size x p a zero = refl
-hashes-size x p a (suc n) =
-    length-append (node (leaf_of x) p a) (hashes_of x p (suc a) n) ∙ omega (arith, (file-octets x p a).size, hashes-size x p (suc a) n)
+hashes_size x p a zero = refl
+hashes_size x p a (suc n) =
+    length-append (node (leaf_of x) p a) (hashes_of x p (suc a) n) ∙ omega (arith, (file_octets x p a).size, hashes_size x p (suc a) n)
 
 -- behind the first a they make the first a + n
-pub hashes-behind : (x : List ℕ) (p a n : ℕ) → layer_of x p a ++ hashes_of x p a n ≡ layer_of x p (a + n)
+pub hashes_behind : (x : List ℕ) (p a n : ℕ) → layer_of x p a ++ hashes_of x p a n ≡ layer_of x p (a + n)
 unfolding hashes_of layer_of
-hashes-behind x p a zero = append-nil (layer_of x p a) ∙ ap (layer_of x p) (sym (add-zero a))
-hashes-behind x p a (suc n) =
+hashes_behind x p a zero = append-nil (layer_of x p a) ∙ ap (layer_of x p) (sym (add-zero a))
+hashes_behind x p a (suc n) =
     sym (append_assoc (layer_of x p a) (node (leaf_of x) p a) (hashes_of x p (suc a) n))
-    ∙ hashes-behind x p (suc a) n
+    ∙ hashes_behind x p (suc a) n
     ∙ (let e : suc a + n ≡ a + suc n = omega arith in ap (layer_of x p) e)
 
 -- none of them put anywhere changes nothing
-pub pasted-nothing : (layer : List ℕ) (at : ℕ) (z : List ℕ) (p a : ℕ) → pasted layer at (hashes_of z p a 0) ≡ layer
+pub pasted_nothing : (layer : List ℕ) (at : ℕ) (z : List ℕ) (p a : ℕ) → pasted layer at (hashes_of z p a 0) ≡ layer
 unfolding pasted hashes_of
-pasted-nothing layer at z p a =
+pasted_nothing layer at z p a =
     let e : at + 0 ≡ at = omega arith in
     ap (λ (l : List ℕ). l ++ drop (at + 0) layer) (append-nil (take at layer)) ∙ ap (λ (k : ℕ). take at layer ++ drop k layer) e ∙ take-append-drop at layer
 
@@ -51,10 +51,10 @@ side_by_side : (layer z : List ℕ) (p a n : ℕ) → 32 * (suc a + n) ≤ lengt
     → pasted (pasted layer (32 * a) (node (leaf_of z) p a)) (32 * suc a) (hashes_of z p (suc a) n) ≡ pasted layer (32 * a) (hashes_of z p a (suc n))
 unfolding hashes_of
 side_by_side layer z p a n room =
-    let size = (file-octets z p a).size in
+    let size = (file_octets z p a).size in
     let at : 32 * suc a ≡ 32 * a + length (node (leaf_of z) p a) = omega (arith, size) in
     ap (λ (k : ℕ). pasted (pasted layer (32 * a) (node (leaf_of z) p a)) k (hashes_of z p (suc a) n)) at
-    ∙ pasted-append layer (32 * a) (node (leaf_of z) p a) (hashes_of z p (suc a) n) (omega (arith, size, hashes-size z p (suc a) n, room))
+    ∙ pasted_append layer (32 * a) (node (leaf_of z) p a) (hashes_of z p (suc a) n) (omega (arith, size, hashes_size z p (suc a) n, room))
 
 -- ---- how many pieces have been passed
 
@@ -65,12 +65,12 @@ passed_none zero = refl
 passed_none (suc d) = let l = (div-lt_iff_lt-mul {k = suc d} {x = 0 + (suc d - 1)} {y = 1} (omega arith)).1 (omega arith) in omega arith
 
 -- a byte that comes on a boundary passes one more
-pub passed-at : (n plen : ℕ) → 0 < plen → 0 < n → n % plen ≡ 0 → (passed n plen ≡ n / plen - 1) × (passed (n + 1) plen ≡ n / plen) × (0 < n / plen)
+pub passed_at : (n plen : ℕ) → 0 < plen → 0 < n → n % plen ≡ 0 → (passed n plen ≡ n / plen - 1) × (passed (n + 1) plen ≡ n / plen) × (0 < n / plen)
 unfolding passed piece_count
-passed-at n plen p s e =
-    let c = ceil-whole n plen p e in
-    let m = ceil-least (n + 1) plen (n / plen + 1) p (omega (arith, e, div-add-mod' n plen, add-mul (n / plen) 1 plen, one-mul plen)) in
-    let b = below-ceil (n + 1) plen (n / plen) p (omega (arith, e, div-add-mod' n plen)) in
+passed_at n plen p s e =
+    let c = ceil_whole n plen p e in
+    let m = ceil_least (n + 1) plen (n / plen + 1) p (omega (arith, e, div-add-mod' n plen, add-mul (n / plen) 1 plen, one-mul plen)) in
+    let b = below_ceil (n + 1) plen (n / plen) p (omega (arith, e, div-add-mod' n plen)) in
     (omega arith, omega arith, some (n / plen) refl)
   where
     some : (q : ℕ) → n / plen ≡ q → 0 < n / plen
@@ -78,80 +78,80 @@ passed-at n plen p s e =
     some (suc q) z = omega (arith, z)
 
 -- any other byte passes none
-pub passed-within : (n plen : ℕ) → 0 < plen → (n % plen ≡ 0 → ⊥) → passed (n + 1) plen ≡ passed n plen
+pub passed_within : (n plen : ℕ) → 0 < plen → (n % plen ≡ 0 → ⊥) → passed (n + 1) plen ≡ passed n plen
 unfolding passed piece_count
-passed-within n plen p g =
-    let c = ceil-above n plen p g in
-    let m = ceil-least (n + 1) plen (n / plen + 1) p (omega (arith, div-add-mod' n plen, mod-lt n p, add-mul (n / plen) 1 plen, one-mul plen)) in
-    let b = below-ceil (n + 1) plen (n / plen) p (omega (arith, div-add-mod' n plen)) in
+passed_within n plen p g =
+    let c = ceil_above n plen p g in
+    let m = ceil_least (n + 1) plen (n / plen + 1) p (omega (arith, div-add-mod' n plen, mod-lt n p, add-mul (n / plen) 1 plen, one-mul plen)) in
+    let b = below_ceil (n + 1) plen (n / plen) p (omega (arith, div-add-mod' n plen)) in
     omega arith
 
 -- nor does the first one
 pub passed_first : (plen : ℕ) → 0 < plen → passed 1 plen ≡ 0
 unfolding passed piece_count
-passed_first plen p = let m = ceil-least 1 plen 1 p (omega (arith, one-mul plen)) in omega arith
+passed_first plen p = let m = ceil_least 1 plen 1 p (omega (arith, one-mul plen)) in omega arith
 
 -- more bytes pass no fewer
-pub passed-grows : (n m plen : ℕ) → 0 < plen → n ≤ m → passed n plen ≤ passed m plen
+pub passed_grows : (n m plen : ℕ) → 0 < plen → n ≤ m → passed n plen ≤ passed m plen
 unfolding passed piece_count
-passed-grows n m plen p l = let c = ceil-least n plen (ceil_div m plen) p (omega (arith, ceil-enough m plen (ceil_div m plen) p (omega arith))) in omega arith
+passed_grows n m plen p l = let c = ceil_least n plen (ceil_div m plen) p (omega (arith, ceil_enough m plen (ceil_div m plen) p (omega arith))) in omega arith
 
 -- and the bytes of those that were passed are there
-pub passed-bytes : (n plen : ℕ) → 0 < plen → passed n plen * plen ≤ n
+pub passed_bytes : (n plen : ℕ) → 0 < plen → passed n plen * plen ≤ n
 unfolding passed piece_count
-passed-bytes n plen p = by-case (ceil_div n plen) refl
+passed_bytes n plen p = by_case (ceil_div n plen) refl
   where
-    by-case : (c : ℕ) → ceil_div n plen ≡ c → (ceil_div n plen - 1) * plen ≤ n
-    by-case zero e = let z : ceil_div n plen - 1 ≡ 0 = omega (arith, e) in rw (z, zero-mul plen) (omega arith)
-    by-case (suc c) e = let z : ceil_div n plen - 1 ≡ c = omega (arith, e) in rw z (omega (arith, ceil-below n plen c p (omega (arith, e))))
+    by_case : (c : ℕ) → ceil_div n plen ≡ c → (ceil_div n plen - 1) * plen ≤ n
+    by_case zero e = let z : ceil_div n plen - 1 ≡ 0 = omega (arith, e) in rw (z, zero-mul plen) (omega arith)
+    by_case (suc c) e = let z : ceil_div n plen - 1 ≡ c = omega (arith, e) in rw z (omega (arith, ceil_below n plen c p (omega (arith, e))))
 
 -- ---- what is written
 
 module _ (plen : ℕ) (good : is_piece_length plen ≡ true) where
   form : plen ≡ block_length * 2 ^ piece_layer plen
-  form = (piece-length-form plen good).1
+  form = (piece_length_form plen good).1
 
-  pub pieces-some : 0 < plen
-  pieces-some = let w : 0 < block_length * 2 ^ piece_layer plen = one-le-mul (omega arith) (pow_pos (piece_layer plen)) in omega (arith, form)
+  pub pieces_some : 0 < plen
+  pieces_some = let w : 0 < block_length * 2 ^ piece_layer plen = one-le-mul (omega arith) (pow_pos (piece_layer plen)) in omega (arith, form)
 
-  pub layer-within : piece_layer plen < node_count
-  layer-within = omega (arith, (piece-length-form plen good).0)
+  pub layer_within : piece_layer plen < node_count
+  layer_within = omega (arith, (piece_length_form plen good).0)
 
   -- a byte on a boundary: the hash of the piece before it
-  pub noted-at : (x layer : List ℕ) → 0 < length x → length x % plen ≡ 0
+  pub noted_at : (x layer : List ℕ) → 0 < length x → length x % plen ≡ 0
       → noted (history_of plen x) layer ≡ pasted layer (32 * passed (length x) plen) (node (leaf_of x) (piece_layer plen) (passed (length x) plen))
   unfolding noted history_of
-  noted-at x layer s e =
+  noted_at x layer s e =
       let t : (ltb 0 (length x) && eqb (length x % plen) 0) ≡ true = (and-eq-true_iff (ltb 0 (length x)) (eqb (length x % plen) 0)).1 (lt-ltb 0 (length x) s, eq-eqb (length x % plen) 0 e) in
-      let w = passed-at (length x) plen pieces-some s e in
+      let w = passed_at (length x) plen pieces_some s e in
       let q : length x / block_length / 2 ^ piece_layer plen ≡ length x / plen = div-div-eq-div-mul (length x) block_length (2 ^ piece_layer plen) ∙ ap (λ (d : ℕ). length x / d) (sym form) in
       let h : node_at (history_of plen x).nodes (piece_layer plen) ≡ node (leaf_of x) (piece_layer plen) (length x / plen - 1) =
-      history-nodes plen x (piece_layer plen) layer-within ∙ ap (last_of (leaf_of x) (piece_layer plen)) q ∙ last_some (leaf_of x) (leaf-octets x) (piece_layer plen) (length x / plen) w.2 in
+      history_nodes plen x (piece_layer plen) layer_within ∙ ap (last_of (leaf_of x) (piece_layer plen)) q ∙ last_some (leaf_of x) (leaf_octets x) (piece_layer plen) (length x / plen) w.2 in
       rw (t, h, w.0)
 
   -- any other: nothing
-  pub noted-within : (x layer : List ℕ) → (length x % plen ≡ 0 → ⊥) → noted (history_of plen x) layer ≡ layer
+  pub noted_within : (x layer : List ℕ) → (length x % plen ≡ 0 → ⊥) → noted (history_of plen x) layer ≡ layer
   unfolding noted history_of
-  noted-within x layer n = rw (ne_eqb (length x % plen) 0 n, and-false (ltb 0 (length x)))
+  noted_within x layer n = rw (ne_eqb (length x % plen) 0 n, and-false (ltb 0 (length x)))
 
-  pub noted-first : (x layer : List ℕ) → length x ≡ 0 → noted (history_of plen x) layer ≡ layer
+  pub noted_first : (x layer : List ℕ) → length x ≡ 0 → noted (history_of plen x) layer ≡ layer
   unfolding noted history_of
-  noted-first x layer z = rw (le-ltb 0 (length x) (omega (arith, z)))
+  noted_first x layer z = rw (le-ltb 0 (length x) (omega (arith, z)))
 
   -- a burst that leads from x to z writes the hashes that z has passed and x has not
-  pub noted-by : (x ys z layer : List ℕ) → x ++ ys ≡ z → (passed (length x) plen < passed (length z) plen → 32 * passed (length z) plen ≤ length layer)
+  pub noted_by_lem : (x ys z layer : List ℕ) → x ++ ys ≡ z → (passed (length x) plen < passed (length z) plen → 32 * passed (length z) plen ≤ length layer)
       → noted_by (history_of plen x) layer ys
       ≡ pasted layer (32 * passed (length x) plen) (hashes_of z (piece_layer plen) (passed (length x) plen) (passed (length z) plen - passed (length x) plen))
   unfolding noted_by
-  noted-by x [] z layer e room =
+  noted_by_lem x [] z layer e room =
       let l : passed (length z) plen - passed (length x) plen ≡ 0 = (let q : length z ≡ length x = ap length (sym e ∙ append-nil x) in rw q (omega arith)) in
       rw l (sym (nothing_put layer (32 * passed (length x) plen) z (passed (length x) plen)))
     where
       nothing_put : (layer : List ℕ) (at : ℕ) (z : List ℕ) (a : ℕ) → pasted layer at (hashes_of z (piece_layer plen) a 0) ≡ layer
-      nothing_put layer at z a = pasted-nothing layer at z (piece_layer plen) a
-  noted-by x (y ∷ ys) z layer e room =
-      ap (λ (s : History). noted_by s (noted (history_of plen x) layer) ys) (grown-more plen x y)
-      ∙ by_place (ℕ_discrete (length x) 0) (ℕ_discrete (length x % plen) 0) (noted-by (x ++ (y ∷ [])) ys z)
+      nothing_put layer at z a = pasted_nothing layer at z (piece_layer plen) a
+  noted_by_lem x (y ∷ ys) z layer e room =
+      ap (λ (s : History). noted_by s (noted (history_of plen x) layer) ys) (grown_more plen x y)
+      ∙ by_place (ℕ_discrete (length x) 0) (ℕ_discrete (length x % plen) 0) (noted_by_lem (x ++ (y ∷ [])) ys z)
     where
       e' : (x ++ (y ∷ [])) ++ ys ≡ z
       e' = append_assoc x (y ∷ []) ys ∙ e
@@ -180,19 +180,19 @@ module _ (plen : ℕ) (good : is_piece_length plen ≡ true) where
 
       by_place : Dec (length x ≡ 0) → Dec (length x % plen ≡ 0) → Next → Goal
       by_place (yes z0) d go =
-          nothing (noted-first x layer z0) (rw z0 (passed_first plen pieces-some ∙ sym (passed_none plen))) go
-      by_place (no n0) (no g) go = nothing (noted-within x layer g) (passed-within (length x) plen pieces-some g) go
+          nothing (noted_first x layer z0) (rw z0 (passed_first plen pieces_some ∙ sym (passed_none plen))) go
+      by_place (no n0) (no g) go = nothing (noted_within x layer g) (passed_within (length x) plen pieces_some g) go
       by_place (no n0) (yes b) go =
-          let w = passed-at (length x) plen pieces-some (omega (arith, n0)) b in
+          let w = passed_at (length x) plen pieces_some (omega (arith, n0)) b in
           let q2 : passed (length (x ++ (y ∷ []))) plen ≡ suc (passed (length x) plen) = ap (λ (n : ℕ). passed n plen) next ∙ omega (arith, w.0, w.1, w.2) in
-          let more : suc (passed (length x) plen) ≤ passed (length z) plen = omega (arith, passed-grows (length x + 1) (length z) plen pieces-some all, w.0, w.1, w.2) in
+          let more : suc (passed (length x) plen) ≤ passed (length z) plen = omega (arith, passed_grows (length x + 1) (length z) plen pieces_some all, w.0, w.1, w.2) in
           let enough : 32 * passed (length z) plen ≤ length layer = room more in
           let left : passed (length z) plen - passed (length x) plen ≡ suc (passed (length z) plen - suc (passed (length x) plen)) = omega (arith, more) in
           let inside : node (leaf_of x) (piece_layer plen) (passed (length x) plen) ≡ node (leaf_of z) (piece_layer plen) (passed (length x) plen) =
           sym (ap (λ (s : List ℕ). node (leaf_of s) (piece_layer plen) (passed (length x) plen)) (sym e) ∙ node_stays x (y ∷ ys) (piece_layer plen) (passed (length x) plen) (finished b n0)) in
-          let size = (file-octets z (piece_layer plen) (passed (length x) plen)).size in
+          let size = (file_octets z (piece_layer plen) (passed (length x) plen)).size in
           let put : noted (history_of plen x) layer ≡ pasted layer (32 * passed (length x) plen) (node (leaf_of z) (piece_layer plen) (passed (length x) plen)) =
-          noted-at x layer (omega (arith, n0)) b ∙ ap (pasted layer (32 * passed (length x) plen)) inside in
+          noted_at x layer (omega (arith, n0)) b ∙ ap (pasted layer (32 * passed (length x) plen)) inside in
           let long : length (pasted layer (32 * passed (length x) plen) (node (leaf_of z) (piece_layer plen) (passed (length x) plen))) ≡ length layer =
           pasted_length layer (32 * passed (length x) plen) (node (leaf_of z) (piece_layer plen) (passed (length x) plen)) (omega (arith, size, more, enough)) in
           ap (λ (l : List ℕ). noted_by (history_of plen (x ++ (y ∷ []))) l ys) put
@@ -204,7 +204,7 @@ module _ (plen : ℕ) (good : is_piece_length plen ≡ true) where
           -- the piece before the boundary has all its blocks
           finished : length x % plen ≡ 0 → (length x ≡ 0 → ⊥) → (passed (length x) plen + 1) * 2 ^ piece_layer plen ≤ length x / block_length
           finished b n0 =
-              let w = passed-at (length x) plen pieces-some (omega (arith, n0)) b in
+              let w = passed_at (length x) plen pieces_some (omega (arith, n0)) b in
               let s : passed (length x) plen + 1 ≡ length x / plen = omega (arith, w.0, w.2) in
               let q : length x / plen ≡ length x / block_length / 2 ^ piece_layer plen =
               ap (λ (d : ℕ). length x / d) form ∙ sym (div-div-eq-div-mul (length x) block_length (2 ^ piece_layer plen)) in

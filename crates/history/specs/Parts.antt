@@ -47,6 +47,6 @@ pub record Grows (s : History) (part layer : List ℕ) (r : History) (layer' : L
   pub state : r ≡ grown_by s part
   pub noted : layer' ≡ noted_by s layer part
   pub kept : r.piece_length ≡ s.piece_length
-  pub length-then : r.length ≡ s.length + length part
+  pub length_then : r.length ≡ s.length + length part
   pub inside : r.block.total ≡ r.length % block_length
   pub tail : r.block.tail_size ≡ r.block.total % 64

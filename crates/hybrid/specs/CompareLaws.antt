@@ -7,18 +7,18 @@ use Rattle.std.proofs.lemmas.Bool.{false≢true}
 use Rattle.std.proofs.lemmas.List.{map-append, take-set-le}
 use Rattle.bencode.specs.Grammar.{list, Items}
 use Rattle.filetree.specs.Token.{token_at}
-use Rattle.filetree.specs.TokenLaws.{leaf-ends, opened-ends}
+use Rattle.filetree.specs.TokenLaws.{leaf_ends, opened_ends}
 use Rattle.filetree.specs.Tree.{max_elements, Element, Listed, listed_as, down, Files, wrong, files, files_from, files_below, right}
-use Rattle.filetree.specs.TreeLaws.{FilesPassed, passed_none, passed-bad, passed-end, passed-closed, passed-file, passed-wrong, passed-directory, split, same-files, not-wrong, is_right}
+use Rattle.filetree.specs.TreeLaws.{FilesPassed, passed_none, passed_bad, passed_end, passed_closed, passed_file, passed_wrong, passed_directory, split, same_files_lem, not_wrong, is_right}
 use Rattle.filetree.specs.Path.{path_size, set_element, Holds}
-use Rattle.filetree.specs.PathLaws.{holds-length, holds-down, set-length}
+use Rattle.filetree.specs.PathLaws.{holds_length, holds_down, set_length}
 use Rattle.filetree.specs.Reading.{elements, read_file, read_files}
 use Rattle.filetree.specs.declared.token.Token.TheVariants.{Opened, Closed, Leaf, BadToken}
 use Rattle.meaning.specs.Torrent.{File}
 use Rattle.halves.specs.V1Half.{V1Entry, names_full, names_of, same_path}
 use Rattle.hybrid.specs.Entry.{StandsAt, PathStands}
 use Rattle.hybrid.specs.Meet.{Next, no_file, file, next_file, Left, differ, left, after_next, on_left, after_files}
-use Rattle.hybrid.specs.MeetLaws.{after-append}
+use Rattle.hybrid.specs.MeetLaws.{after_append}
 use Rattle.hybrid.specs.Ahead.{Ahead, NextIs, NextReads, AllInside}
 use Rattle.hybrid.specs.PathLaws.{Kept}
 use Rattle.hybrid.specs.Compare.{MetIs, OutcomeIs, Compares}
@@ -33,16 +33,16 @@ use Rattle.hybrid.specs.declared.Compared.TheVariants.{Past, Differ}
 
 module _ (v : List ℕ) (c : ℕ) (us : Items) (a : Ahead v c us) (f : File) where
   -- no file is left
-  pub met-none : (r : V1Token) → ((t : Bool) (n p k : ℕ) → r ≡ Entry t n p k → ⊥) → NextReads v c r → MetIs v (after_next (next_file us) f) Other
-  met-none r never s = by_next (next_file us) (s.next us a)
+  pub met_none : (r : V1Token) → ((t : Bool) (n p k : ℕ) → r ≡ Entry t n p k → ⊥) → NextReads v c r → MetIs v (after_next (next_file us) f) Other
+  met_none r never s = by_next (next_file us) (s.next us a)
     where
       by_next : (x : Next) → NextIs v x r → MetIs v (after_next x f) Other
       by_next no_file q = refl
       by_next (file e ws) q = absurd (never false e.size q.0 q.1 q.2)
 
   module _ (t : Bool) (n p k : ℕ) (s : NextReads v c (Entry t n p k)) where
-    the-file : (e : V1Entry) × (ws : Items) × (next_file us ≡ file e ws) × (n ≡ e.size) × PathStands v p e × (e.padding ≡ false) × Ahead v k ws
-    the-file = by_next (next_file us) refl (s.next us a)
+    the_file : (e : V1Entry) × (ws : Items) × (next_file us ≡ file e ws) × (n ≡ e.size) × PathStands v p e × (e.padding ≡ false) × Ahead v k ws
+    the_file = by_next (next_file us) refl (s.next us a)
       where
         by_next : (x : Next) → next_file us ≡ x → NextIs v x (Entry t n p k)
             → (e : V1Entry) × (ws : Items) × (next_file us ≡ file e ws) × (n ≡ e.size) × PathStands v p e × (e.padding ≡ false) × Ahead v k ws
@@ -55,49 +55,49 @@ module _ (v : List ℕ) (c : ℕ) (us : Items) (a : Ahead v c us) (f : File) whe
             (e, ws, q, en, rw ep i.4, i.3, rw ek i.5)
 
     -- by its length, and then by its path
-    by_tests : (x y : Bool) → eqb the-file.0.size f.size ≡ x → same_path the-file.0.path f.path ≡ y
+    by_tests : (x y : Bool) → eqb the_file.0.size f.size ≡ x → same_path the_file.0.path f.path ≡ y
         → (r : Met) → (x && y ≡ true → r ≡ Behind k) → (x && y ≡ false → r ≡ Other) → MetIs v (after_next (next_file us) f) r
     by_tests x y ex ey r hit miss =
-        let m : after_next (next_file us) f ≡ cond (x && y) (left the-file.1) differ = ap (λ (z : Next). after_next z f) the-file.2 ∙ rw (ex, ey) refl in
-        moved (after_next (next_file us) f) (cond (x && y) (left the-file.1) differ) m (by_both (x && y) hit miss)
+        let m : after_next (next_file us) f ≡ cond (x && y) (left the_file.1) differ = ap (λ (z : Next). after_next z f) the_file.2 ∙ rw (ex, ey) refl in
+        moved (after_next (next_file us) f) (cond (x && y) (left the_file.1) differ) m (by_both (x && y) hit miss)
       where
         moved : (l m : Left) → l ≡ m → MetIs v m r → MetIs v l r
         moved l m e h = rw e h
 
-        by_both : (b : Bool) → (b ≡ true → r ≡ Behind k) → (b ≡ false → r ≡ Other) → MetIs v (cond b (left the-file.1) differ) r
-        by_both true hit miss = (k, hit refl, the-file.6)
+        by_both : (b : Bool) → (b ≡ true → r ≡ Behind k) → (b ≡ false → r ≡ Other) → MetIs v (cond b (left the_file.1) differ) r
+        by_both true hit miss = (k, hit refl, the_file.6)
         by_both false hit miss = miss refl
 
-    pub met-other-length : (n ≡ f.size → ⊥) → MetIs v (after_next (next_file us) f) Other
-    met-other-length h =
-        by_tests false (same_path the-file.0.path f.path) (ne_eqb the-file.0.size f.size (λ e. h (the-file.3 ∙ e))) refl Other (λ e. absurd (false≢true e)) (λ e. refl)
+    pub met_other_length : (n ≡ f.size → ⊥) → MetIs v (after_next (next_file us) f) Other
+    met_other_length h =
+        by_tests false (same_path the_file.0.path f.path) (ne_eqb the_file.0.size f.size (λ e. h (the_file.3 ∙ e))) refl Other (λ e. absurd (false≢true e)) (λ e. refl)
 
-    pub met-by-path : n ≡ f.size → (b : Bool) → ((ws : Items) → StandsAt v p (list ws) → names_full ws ≡ true → b ≡ same_path (names_of ws) f.path)
+    pub met_by_path : n ≡ f.size → (b : Bool) → ((ws : Items) → StandsAt v p (list ws) → names_full ws ≡ true → b ≡ same_path (names_of ws) f.path)
         → (b ≡ true → MetIs v (after_next (next_file us) f) (Behind k)) × (b ≡ false → MetIs v (after_next (next_file us) f) Other)
-    met-by-path e b h =
-        let s = the-file.4 the-file.5 in
-        let q : same_path the-file.0.path f.path ≡ b = ap (λ (x : List (List ℕ)). same_path x f.path) (sym s.3) ∙ sym (h s.0 s.1 s.2) in
-        let z : eqb the-file.0.size f.size ≡ true = eq-eqb the-file.0.size f.size (sym the-file.3 ∙ e) in (
+    met_by_path e b h =
+        let s = the_file.4 the_file.5 in
+        let q : same_path the_file.0.path f.path ≡ b = ap (λ (x : List (List ℕ)). same_path x f.path) (sym s.3) ∙ sym (h s.0 s.1 s.2) in
+        let z : eqb the_file.0.size f.size ≡ true = eq-eqb the_file.0.size f.size (sym the_file.3 ∙ e) in (
           λ t. by_tests true b z q (Behind k) (λ x. refl) (λ x. absurd (false≢true (sym x ∙ t))),
           λ t. by_tests true b z q Other (λ x. absurd (false≢true (sym t ∙ x))) (λ x. refl),
         )
 
 -- ---- laws of files and their places
 
-inside-down : (n : ℕ) (p : List Element) (a b : ℕ) → AllInside n p → a ≤ b → b ≤ n → AllInside n (down p a b)
+inside_down : (n : ℕ) (p : List Element) (a b : ℕ) → AllInside n p → a ≤ b → b ≤ n → AllInside n (down p a b)
 unfolding AllInside
-inside-down n [] a b i h g = (h, g, tt)
-inside-down n (e ∷ es) a b i h g = (i.0, i.1, inside-down n es a b i.2 h g)
+inside_down n [] a b i h g = (h, g, tt)
+inside_down n (e ∷ es) a b i h g = (i.0, i.1, inside_down n es a b i.2 h g)
 
-take-fewer : (m n : ℕ) (l : List ℕ) → m ≤ n → take m (take n l) ≡ take m l
-take-fewer zero n l h = refl
-take-fewer (suc m) zero l h = absurd (omega arith)
-take-fewer (suc m) (suc n) [] h = refl
-take-fewer (suc m) (suc n) (x ∷ xs) h = ap (λ (y : List ℕ). x ∷ y) (take-fewer m n xs (omega arith))
+take_fewer : (m n : ℕ) (l : List ℕ) → m ≤ n → take m (take n l) ≡ take m l
+take_fewer zero n l h = refl
+take_fewer (suc m) zero l h = absurd (omega arith)
+take_fewer (suc m) (suc n) [] h = refl
+take_fewer (suc m) (suc n) (x ∷ xs) h = ap (λ (y : List ℕ). x ∷ y) (take_fewer m n xs (omega arith))
 
 -- a directory inside ends behind its opening
-pub inside-behind : {t v : List ℕ} (i : ℕ) {a b below d : ℕ} {path path' : List ℕ} {k d2 : ℕ} → token_at t i ≡ Opened a b → Compares t v (b + 1) below d path path' (Past k d2) → (i < k) × (k ≤ length t)
-inside-behind {t} i {a} {b} e x = let y = x.ends.0 in let z = (opened-ends t i a b e).0 in (omega arith, x.ends.1)
+pub inside_behind : {t v : List ℕ} (i : ℕ) {a b below d : ℕ} {path path' : List ℕ} {k d2 : ℕ} → token_at t i ≡ Opened a b → Compares t v (b + 1) below d path path' (Past k d2) → (i < k) × (k ≤ length t)
+inside_behind {t} i {a} {b} e x = let y = x.ends.0 in let z = (opened_ends t i a b e).0 in (omega arith, x.ends.1)
 
 -- ---- how far the walk has come
 
@@ -108,24 +108,24 @@ pub record CompareAt (t v : List ℕ) (at levels c : ℕ) (path₀ path : List �
   pub so_far : (p : List Element) → Holds path₀ (max_elements - levels) p → AllInside (length t) p → right (files_below levels t at p) ≡ true → (vs : Items) → Ahead v c vs
       → (fs : List Listed) × FilesPassed t (files_below levels t at p) below p i fs × (us : Items) × (after_files vs (read_files t fs) ≡ left us) × Ahead v d us
 
-pub compare-begin : {t v : List ℕ} {at levels c : ℕ} {path : List ℕ} → (levels ≡ 0 → ⊥) → length path ≡ path_size → CompareAt t v at levels c path path (levels - 1) at c
-compare-begin {t} {at} {levels} h l =
+pub compare_begin : {t v : List ℕ} {at levels c : ℕ} {path : List ℕ} → (levels ≡ 0 → ⊥) → length path ≡ path_size → CompareAt t v at levels c path path (levels - 1) at c
+compare_begin {t} {at} {levels} h l =
     record { in_order = omega arith; sized = l; kept = refl; so_far = λ p w a r vs b. ([], passed_none t levels at p h, vs, (unfold after_files in refl), b) }
 
 module _ (t v : List ℕ) (at levels c : ℕ) (path₀ : List ℕ) where
   -- a directory that is wrong
-  pub compares-wrong : (path : List ℕ) → take (2 * (max_elements - levels)) path ≡ take (2 * (max_elements - levels)) path₀
+  pub compares_wrong : (path : List ℕ) → take (2 * (max_elements - levels)) path ≡ take (2 * (max_elements - levels)) path₀
       → ((p : List Element) → Holds path₀ (max_elements - levels) p → AllInside (length t) p → right (files_below levels t at p) ≡ true → (vs : Items) → Ahead v c vs → files_below levels t at p ≡ wrong)
       → Compares t v at levels c path₀ path Differ
-  compares-wrong path kp h =
-      record { ends = tt; kept = kp; compares = λ p w a fs k e vs b. let r = is_right (files_below levels t at p) fs k e in not-wrong (files_below levels t at p) r (h p w a r vs b) }
+  compares_wrong path kp h =
+      record { ends = tt; kept = kp; compares = λ p w a fs k e vs b. let r = is_right (files_below levels t at p) fs k e in not_wrong (files_below levels t at p) r (h p w a r vs b) }
 
   -- a file differs
-  compares-differ : (path : List ℕ) → take (2 * (max_elements - levels)) path ≡ take (2 * (max_elements - levels)) path₀
+  compares_differ : (path : List ℕ) → take (2 * (max_elements - levels)) path ≡ take (2 * (max_elements - levels)) path₀
       → ((p : List Element) → Holds path₀ (max_elements - levels) p → AllInside (length t) p → (fs : List Listed) (k : ℕ) → files_below levels t at p ≡ files fs k → (vs : Items) → Ahead v c vs
       → after_files vs (read_files t fs) ≡ differ)
       → Compares t v at levels c path₀ path Differ
-  compares-differ path kp h = record { ends = tt; kept = kp; compares = λ p w a fs k e vs b. moved k (after_files vs (read_files t fs)) (h p w a fs k e vs b) }
+  compares_differ path kp h = record { ends = tt; kept = kp; compares = λ p w a fs k e vs b. moved k (after_files vs (read_files t fs)) (h p w a fs k e vs b) }
     where
       moved : (k : ℕ) (l : Left) → l ≡ differ → OutcomeIs v k l Differ
       moved k l e = rw e refl
@@ -137,11 +137,11 @@ module _ {t v : List ℕ} {at levels c : ℕ} {path₀ path : List ℕ} {below i
   abbrev depth : ℕ
   depth = max_elements - levels
 
-  pub compares-bad : token_at t i ≡ BadToken → Compares t v at levels c path₀ path Differ
-  compares-bad e = compares-wrong t v at levels c path₀ path w.kept (λ p h a r vs b. let x = w.so_far p h a r vs b in passed-bad t (whole p) below p i x.0 x.1 e)
+  pub compares_bad : token_at t i ≡ BadToken → Compares t v at levels c path₀ path Differ
+  compares_bad e = compares_wrong t v at levels c path₀ path w.kept (λ p h a r vs b. let x = w.so_far p h a r vs b in passed_bad t (whole p) below p i x.0 x.1 e)
 
-  pub compares-end : length t ≤ i → Compares t v at levels c path₀ path Differ
-  compares-end l = compares-wrong t v at levels c path₀ path w.kept (λ p h a r vs b. let x = w.so_far p h a r vs b in passed-end t (whole p) below p i x.0 x.1 l)
+  pub compares_end : length t ≤ i → Compares t v at levels c path₀ path Differ
+  compares_end l = compares_wrong t v at levels c path₀ path w.kept (λ p h a r vs b. let x = w.so_far p h a r vs b in passed_end t (whole p) below p i x.0 x.1 l)
 
   -- an element behind the path leaves it
   still : (a b : ℕ) (path' : List ℕ) → path' ≡ set_element path depth a b → take (2 * depth) path' ≡ take (2 * depth) path₀
@@ -149,8 +149,8 @@ module _ {t v : List ℕ} {at levels c : ℕ} {path₀ path : List ℕ} {below i
       ap (take (2 * depth)) e ∙ take-set-le (2 * depth) (set path (2 * depth) a) (2 * depth + 1) b (omega arith) ∙ take-set-le (2 * depth) path (2 * depth) a (omega arith) ∙ w.kept
 
   module _ (h : i < length t) where
-    pub compares-closed : token_at t i ≡ Closed → Compares t v at levels c path₀ path (Past (i + 1) d)
-    compares-closed e = record { ends = (let x = w.in_order in omega arith, omega arith); kept = w.kept; compares = go }
+    pub compares_closed : token_at t i ≡ Closed → Compares t v at levels c path₀ path (Past (i + 1) d)
+    compares_closed e = record { ends = (let x = w.in_order in omega arith, omega arith); kept = w.kept; compares = go }
       where
         moved : (k : ℕ) (l : Left) (us : Items) → l ≡ left us → i + 1 ≡ k → Ahead v d us → OutcomeIs v k l (Past (i + 1) d)
         moved k l us q z b = rw q (d, ap (λ (j : ℕ). Past j d) z, b)
@@ -159,22 +159,22 @@ module _ {t v : List ℕ} {at levels c : ℕ} {path₀ path : List ℕ} {below i
             → OutcomeIs v k (after_files vs (read_files t fs)) (Past (i + 1) d)
         go p o a fs k q vs b =
             let x = w.so_far p o a (is_right (whole p) fs k q) vs b in
-            let y = same-files x.0 fs (i + 1) k (sym (passed-closed t (whole p) below p i x.0 x.1 h e) ∙ q) in
+            let y = same_files_lem x.0 fs (i + 1) k (sym (passed_closed t (whole p) below p i x.0 x.1 h e) ∙ q) in
             moved k (after_files vs (read_files t fs)) x.2 (ap (λ (l : List Listed). after_files vs (read_files t l)) (sym y.0) ∙ x.3) y.1 x.4
 
     -- ---- a file
 
     module _ {a b m r k : ℕ} (e : token_at t i ≡ Leaf a b m r k) (lv : levels ≤ max_elements) (nz : levels ≡ 0 → ⊥) {path' : List ℕ} (ep : path' ≡ set_element path depth a b) where
       -- the array has its path
-      kept-file : (p : List Element) → Holds path₀ depth p → AllInside (length t) p → Kept (length t) path' (depth + 1) (down p a b)
-      kept-file p o i2 =
+      kept_file : (p : List Element) → Holds path₀ depth p → AllInside (length t) p → Kept (length t) path' (depth + 1) (down p a b)
+      kept_file p o i2 =
           let o2 : Holds path depth p = w.kept ∙ o in
-          let x = leaf-ends t i a b m r k e in
-          let dl : depth ≡ length p = holds-length path depth p w.sized o2 (omega arith) in
+          let x = leaf_ends t i a b m r k e in
+          let dl : depth ≡ length p = holds_length path depth p w.sized o2 (omega arith) in
           record {
-            holds = rw ep (holds-down path depth p w.sized o2 a b (omega arith));
+            holds = rw ep (holds_down path depth p w.sized o2 a b (omega arith));
             deep = ap (λ (j : ℕ). j + 1) dl ∙ sym (length-append p (record { start = a; end = b } ∷ []));
-            inside = inside-down (length t) p a b i2 x.4 x.5;
+            inside = inside_down (length t) p a b i2 x.4 x.5;
           }
 
       abbrev the_one : (p : List Element) → File
@@ -186,7 +186,7 @@ module _ {t v : List ℕ} {at levels c : ℕ} {path₀ path : List ℕ} {below i
       unfolding after_files
       met_next p vs us fs q =
           ap (after_files vs) (map-append (read_file t) fs (listed_as m r (down p a b) ∷ []))
-          ∙ after-append vs (read_files t fs) (the_one p ∷ [])
+          ∙ after_append vs (read_files t fs) (the_one p ∷ [])
           ∙ ap (λ (l : Left). on_left l (λ ws. after_files ws (the_one p ∷ []))) q
           ∙ by_left (after_next (next_file us) (the_one p))
         where
@@ -197,13 +197,13 @@ module _ {t v : List ℕ} {at levels c : ℕ} {path₀ path : List ℕ} {below i
       abbrev Meets : Met → Type 0
       Meets x = (us : Items) → Ahead v d us → (p : List Element) → Kept (length t) path' (depth + 1) p → (f : File) → f.size ≡ m → f.path ≡ elements t p → MetIs v (after_next (next_file us) f) x
 
-      one-is : (p : List Element) → ((the_one p).size ≡ m) × ((the_one p).path ≡ elements t (down p a b))
+      one_is : (p : List Element) → ((the_one p).size ≡ m) × ((the_one p).path ≡ elements t (down p a b))
       unfolding read_file
-      one-is p = (refl, refl)
+      one_is p = (refl, refl)
 
       -- it is another
-      pub compares-other : Meets Other → Compares t v at levels c path₀ path' Differ
-      compares-other g = compares-differ t v at levels c path₀ path' (still a b path' ep) go
+      pub compares_other : Meets Other → Compares t v at levels c path₀ path' Differ
+      compares_other g = compares_differ t v at levels c path₀ path' (still a b path' ep) go
         where
           never : (l : Left) → MetIs v l Other → l ≡ differ
           never differ q = refl
@@ -212,21 +212,21 @@ module _ {t v : List ℕ} {at levels c : ℕ} {path₀ path : List ℕ} {below i
           go : (p : List Element) → Holds path₀ depth p → AllInside (length t) p → (fs : List Listed) (j : ℕ) → whole p ≡ files fs j → (vs : Items) → Ahead v c vs → after_files vs (read_files t fs) ≡ differ
           go p o i2 fs j q vs ah =
               let x = w.so_far p o i2 (is_right (whole p) fs j q) vs ah in
-              let y = passed-file t (whole p) below p i x.0 x.1 h a b m r k e in
+              let y = passed_file t (whole p) below p i x.0 x.1 h a b m r k e in
               let f = listed_as m r (down p a b) in
               let s = split (x.0 ++ f ∷ []) (files_from (files_below below t) y.steps t k p) fs j (sym y.rest ∙ q) in
-              let n = never (after_next (next_file x.2) (the_one p)) (g x.2 x.4 (down p a b) (kept-file p o i2) (the_one p) (one-is p).0 (one-is p).1) in
+              let n = never (after_next (next_file x.2) (the_one p)) (g x.2 x.4 (down p a b) (kept_file p o i2) (the_one p) (one_is p).0 (one_is p).1) in
               ap (λ (l : List Listed). after_files vs (read_files t l)) s.1
               ∙ ap (after_files vs) (map-append (read_file t) (x.0 ++ f ∷ []) s.0)
-              ∙ after-append vs (read_files t (x.0 ++ f ∷ [])) (read_files t s.0)
+              ∙ after_append vs (read_files t (x.0 ++ f ∷ [])) (read_files t s.0)
               ∙ ap (λ (l : Left). on_left l (λ ws. after_files ws (read_files t s.0))) (met_next p vs x.2 x.0 x.3 ∙ n)
 
       -- it is this one
-      pub compare-next : {d2 : ℕ} → Meets (Behind d2) → CompareAt t v at levels c path₀ path' below k d2
-      compare-next {d2} g =
+      pub compare_next : {d2 : ℕ} → Meets (Behind d2) → CompareAt t v at levels c path₀ path' below k d2
+      compare_next {d2} g =
           record {
-            in_order = let x = w.in_order in let y = (leaf-ends t i a b m r k e).0 in omega arith;
-            sized = ap length ep ∙ set-length path depth a b ∙ w.sized;
+            in_order = let x = w.in_order in let y = (leaf_ends t i a b m r k e).0 in omega arith;
+            sized = ap length ep ∙ set_length path depth a b ∙ w.sized;
             kept = still a b path' ep;
             so_far = go;
           }
@@ -239,8 +239,8 @@ module _ {t v : List ℕ} {at levels c : ℕ} {path₀ path : List ℕ} {below i
               → (fs : List Listed) × FilesPassed t (whole p) below p k fs × (us : Items) × (after_files vs (read_files t fs) ≡ left us) × Ahead v d2 us
           go p o i2 q vs ah =
               let x = w.so_far p o i2 q vs ah in
-              let n = taken (after_next (next_file x.2) (the_one p)) (g x.2 x.4 (down p a b) (kept-file p o i2) (the_one p) (one-is p).0 (one-is p).1) in
-              (x.0 ++ listed_as m r (down p a b) ∷ [], passed-file t (whole p) below p i x.0 x.1 h a b m r k e, n.0, met_next p vs x.2 x.0 x.3 ∙ n.1, n.2)
+              let n = taken (after_next (next_file x.2) (the_one p)) (g x.2 x.4 (down p a b) (kept_file p o i2) (the_one p) (one_is p).0 (one_is p).1) in
+              (x.0 ++ listed_as m r (down p a b) ∷ [], passed_file t (whole p) below p i x.0 x.1 h a b m r k e, n.0, met_next p vs x.2 x.0 x.3 ∙ n.1, n.2)
 
     -- ---- a directory inside
 
@@ -249,41 +249,41 @@ module _ {t v : List ℕ} {at levels c : ℕ} {path₀ path : List ℕ} {below i
       one_more = omega arith
 
       held : (p : List Element) → Holds path₀ depth p → Holds path' (max_elements - below) (down p a b)
-      held p o = rw (one_more, ep) (holds-down path depth p w.sized (w.kept ∙ o) a b (omega arith))
+      held p o = rw (one_more, ep) (holds_down path depth p w.sized (w.kept ∙ o) a b (omega arith))
 
-      inside-all : (p : List Element) → AllInside (length t) p → AllInside (length t) (down p a b)
-      inside-all p i2 = let x = opened-ends t i a b e in let y = x.1 in inside-down (length t) p a b i2 x.2 (omega arith)
+      inside_all : (p : List Element) → AllInside (length t) p → AllInside (length t) (down p a b)
+      inside_all p i2 = let x = opened_ends t i a b e in let y = x.1 in inside_down (length t) p a b i2 x.2 (omega arith)
 
       -- it is right if the whole is
-      inside-right : (p : List Element) → Holds path₀ depth p → AllInside (length t) p → right (whole p) ≡ true → (vs : Items) → Ahead v c vs
+      inside_right : (p : List Element) → Holds path₀ depth p → AllInside (length t) p → right (whole p) ≡ true → (vs : Items) → Ahead v c vs
           → (gs : List Listed) × (j : ℕ) × (files_below below t (b + 1) (down p a b) ≡ files gs j)
-      inside-right p o i2 q vs ah = by-files (files_below below t (b + 1) (down p a b)) refl
+      inside_right p o i2 q vs ah = by_files (files_below below t (b + 1) (down p a b)) refl
         where
-          by-files : (x : Files) → files_below below t (b + 1) (down p a b) ≡ x → (gs : List Listed) × (j : ℕ) × (files_below below t (b + 1) (down p a b) ≡ files gs j)
-          by-files wrong u = let x = w.so_far p o i2 q vs ah in not-wrong (whole p) q (passed-wrong t (whole p) below p i x.0 x.1 h a b e u)
-          by-files (files gs j) u = (gs, j, u)
+          by_files : (x : Files) → files_below below t (b + 1) (down p a b) ≡ x → (gs : List Listed) × (j : ℕ) × (files_below below t (b + 1) (down p a b) ≡ files gs j)
+          by_files wrong u = let x = w.so_far p o i2 q vs ah in not_wrong (whole p) q (passed_wrong t (whole p) below p i x.0 x.1 h a b e u)
+          by_files (files gs j) u = (gs, j, u)
 
       -- its files behind those before it
-      met-inside : (vs us : Items) (fs gs : List Listed) → after_files vs (read_files t fs) ≡ left us → after_files vs (read_files t (fs ++ gs)) ≡ after_files us (read_files t gs)
-      met-inside vs us fs gs q =
-          ap (after_files vs) (map-append (read_file t) fs gs) ∙ after-append vs (read_files t fs) (read_files t gs) ∙ ap (λ (l : Left). on_left l (λ ws. after_files ws (read_files t gs))) q
+      met_inside : (vs us : Items) (fs gs : List Listed) → after_files vs (read_files t fs) ≡ left us → after_files vs (read_files t (fs ++ gs)) ≡ after_files us (read_files t gs)
+      met_inside vs us fs gs q =
+          ap (after_files vs) (map-append (read_file t) fs gs) ∙ after_append vs (read_files t fs) (read_files t gs) ∙ ap (λ (l : Left). on_left l (λ ws. after_files ws (read_files t gs))) q
 
       module _ (path'' : List ℕ) (r : Compared) (x : Compares t v (b + 1) below d path' path'' r) where
-        still-there : take (2 * depth) path'' ≡ take (2 * depth) path₀
-        still-there =
+        still_there : take (2 * depth) path'' ≡ take (2 * depth) path₀
+        still_there =
             let k : take (2 * (depth + 1)) path'' ≡ take (2 * (depth + 1)) path' = rw one_more at x.kept in
-            sym (take-fewer (2 * depth) (2 * (depth + 1)) path'' (omega arith)) ∙ ap (take (2 * depth)) k ∙ take-fewer (2 * depth) (2 * (depth + 1)) path' (omega arith) ∙ still a b path' ep
+            sym (take_fewer (2 * depth) (2 * (depth + 1)) path'' (omega arith)) ∙ ap (take (2 * depth)) k ∙ take_fewer (2 * depth) (2 * (depth + 1)) path' (omega arith) ∙ still a b path' ep
 
         -- what it says of the files inside
         says : (p : List Element) (o : Holds path₀ depth p) (i2 : AllInside (length t) p) (q : right (whole p) ≡ true) (vs : Items) (ah : Ahead v c vs)
-            → OutcomeIs v (inside-right p o i2 q vs ah).1 (after_files (w.so_far p o i2 q vs ah).2 (read_files t (inside-right p o i2 q vs ah).0)) r
+            → OutcomeIs v (inside_right p o i2 q vs ah).1 (after_files (w.so_far p o i2 q vs ah).2 (read_files t (inside_right p o i2 q vs ah).0)) r
         says p o i2 q vs ah =
-            let u = inside-right p o i2 q vs ah in
+            let u = inside_right p o i2 q vs ah in
             let s = w.so_far p o i2 q vs ah in
-            x.compares (down p a b) (held p o) (inside-all p i2) u.0 u.1 u.2 s.2 s.4
+            x.compares (down p a b) (held p o) (inside_all p i2) u.0 u.1 u.2 s.2 s.4
 
-      pub compares-inside : {path'' : List ℕ} → Compares t v (b + 1) below d path' path'' Differ → Compares t v at levels c path₀ path'' Differ
-      compares-inside {path''} x = compares-differ t v at levels c path₀ path'' (still-there path'' Differ x) go
+      pub compares_inside : {path'' : List ℕ} → Compares t v (b + 1) below d path' path'' Differ → Compares t v at levels c path₀ path'' Differ
+      compares_inside {path''} x = compares_differ t v at levels c path₀ path'' (still_there path'' Differ x) go
         where
           never : (k : ℕ) (l : Left) → OutcomeIs v k l Differ → l ≡ differ
           never k differ q = refl
@@ -293,24 +293,24 @@ module _ {t v : List ℕ} {at levels c : ℕ} {path₀ path : List ℕ} {below i
           go p o i2 fs j q vs ah =
               let rt = is_right (whole p) fs j q in
               let m = w.so_far p o i2 rt vs ah in
-              let u = inside-right p o i2 rt vs ah in
-              let y = passed-directory t (whole p) below p i m.0 m.1 h a b e u.0 u.1 u.2 in
+              let u = inside_right p o i2 rt vs ah in
+              let y = passed_directory t (whole p) below p i m.0 m.1 h a b e u.0 u.1 u.2 in
               let s = split (m.0 ++ u.0) (files_from (files_below below t) y.steps t u.1 p) fs j (sym y.rest ∙ q) in
               let n = never u.1 (after_files m.2 (read_files t u.0)) (says path'' Differ x p o i2 rt vs ah) in
               ap (λ (l : List Listed). after_files vs (read_files t l)) s.1
-              ∙ met-inside2 vs m.2 m.0 u.0 s.0 m.3 n
+              ∙ met_inside2 vs m.2 m.0 u.0 s.0 m.3 n
             where
-              met-inside2 : (vs us : Items) (fs gs hs : List Listed) → after_files vs (read_files t fs) ≡ left us → after_files us (read_files t gs) ≡ differ → after_files vs (read_files t ((fs ++ gs) ++ hs)) ≡ differ
-              met-inside2 vs us fs gs hs q n =
-                  ap (after_files vs) (map-append (read_file t) (fs ++ gs) hs) ∙ after-append vs (read_files t (fs ++ gs)) (read_files t hs)
-                  ∙ ap (λ (l : Left). on_left l (λ ws. after_files ws (read_files t hs))) (met-inside vs us fs gs q ∙ n)
+              met_inside2 : (vs us : Items) (fs gs hs : List Listed) → after_files vs (read_files t fs) ≡ left us → after_files us (read_files t gs) ≡ differ → after_files vs (read_files t ((fs ++ gs) ++ hs)) ≡ differ
+              met_inside2 vs us fs gs hs q n =
+                  ap (after_files vs) (map-append (read_file t) (fs ++ gs) hs) ∙ after_append vs (read_files t (fs ++ gs)) (read_files t hs)
+                  ∙ ap (λ (l : Left). on_left l (λ ws. after_files ws (read_files t hs))) (met_inside vs us fs gs q ∙ n)
 
-      pub compare-past : {path'' : List ℕ} {k d2 : ℕ} → length path'' ≡ path_size → Compares t v (b + 1) below d path' path'' (Past k d2) → CompareAt t v at levels c path₀ path'' below k d2
-      compare-past {path''} {k} {d2} l x =
+      pub compare_past : {path'' : List ℕ} {k d2 : ℕ} → length path'' ≡ path_size → Compares t v (b + 1) below d path' path'' (Past k d2) → CompareAt t v at levels c path₀ path'' below k d2
+      compare_past {path''} {k} {d2} l x =
           record {
-            in_order = let y = w.in_order in let z = (inside-behind i e x).0 in omega arith;
+            in_order = let y = w.in_order in let z = (inside_behind i e x).0 in omega arith;
             sized = l;
-            kept = still-there path'' (Past k d2) x;
+            kept = still_there path'' (Past k d2) x;
             so_far = go;
           }
         where
@@ -322,7 +322,7 @@ module _ {t v : List ℕ} {at levels c : ℕ} {path₀ path : List ℕ} {below i
               → (fs : List Listed) × FilesPassed t (whole p) below p k fs × (us : Items) × (after_files vs (read_files t fs) ≡ left us) × Ahead v d2 us
           go p o i2 q vs ah =
               let m = w.so_far p o i2 q vs ah in
-              let u = inside-right p o i2 q vs ah in
-              let y = passed-directory t (whole p) below p i m.0 m.1 h a b e u.0 u.1 u.2 in
+              let u = inside_right p o i2 q vs ah in
+              let y = passed_directory t (whole p) below p i m.0 m.1 h a b e u.0 u.1 u.2 in
               let n = taken u.1 (after_files m.2 (read_files t u.0)) (says path'' (Past k d2) x p o i2 q vs ah) in
-              (m.0 ++ u.0, rw n.2 at y, n.0, met-inside vs m.2 m.0 u.0 m.3 ∙ n.1, n.3)
+              (m.0 ++ u.0, rw n.2 at y, n.0, met_inside vs m.2 m.0 u.0 m.3 ∙ n.1, n.3)

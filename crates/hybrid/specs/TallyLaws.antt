@@ -6,15 +6,15 @@ use Rattle.std.proofs.Common.{◌∙◌, arith, leb-true, leb-false, le-leb}
 use Rattle.std.proofs.Math.Bool.{and-eq-true_iff}
 use mathlib.Core.List.{List, [], ◌∷◌, ◌++◌, append-nil}
 use Rattle.std.proofs.lemmas.Bool.{lt-leb}
-use Rattle.meaning.proofs.TestsLaws.{three-true}
+use Rattle.meaning.proofs.TestsLaws.{three_true}
 use Rattle.limits.specs.Limits.{max_levels}
 use Rattle.bencode.specs.Grammar.{Value, Items, no_items, item, encode, encode_items, Valid, ItemsValid}
-use Rattle.bencode.specs.DepthLaws.{more-levels}
-use Rattle.bencode.specs.PartsLaws.{after-part}
+use Rattle.bencode.specs.DepthLaws.{more_levels}
+use Rattle.bencode.specs.PartsLaws.{after_part}
 use Rattle.filetree.specs.Token.{ends_here}
 use Rattle.halves.specs.V1Half.{V1Entry, entry_fits, entry_of, items_fit, entries_in, total, files_among, on_boundary}
 use Rattle.hybrid.specs.Entry.{StandsAt, Reads}
-use Rattle.hybrid.specs.EntryLaws.{ItemsAt, items-ended, items-some, items-inside}
+use Rattle.hybrid.specs.EntryLaws.{ItemsAt, items_ended, items_some, items_inside}
 use Rattle.hybrid.specs.Tally.{Encodes, most_bytes, tallied_from, tallied_of}
 use Rattle.hybrid.specs.declared.V1Token.{V1Token}
 use Rattle.hybrid.specs.declared.V1Token.TheVariants.{Entry, Ended, BadEntry}
@@ -30,42 +30,42 @@ pub record Tallying (v : List ℕ) (plen : ℕ) (i files sum : ℕ) (vs : Items)
   pub same : tallied_of plen vs ≡ tallied_from plen files sum us
 
 -- the items of the list that v is
-pub list-items : (v : List ℕ) (vs : Items) → Encodes v vs → ItemsAt v 1 vs []
+pub list_items : (v : List ℕ) (vs : Items) → Encodes v vs → ItemsAt v 1 vs []
 unfolding encode
-list-items v vs e = ap (drop 1) e.bytes ∙ sym (append-nil (encode_items vs))
+list_items v vs e = ap (drop 1) e.bytes ∙ sym (append-nil (encode_items vs))
 
-pub list-valid : (v : List ℕ) (vs : Items) → Encodes v vs → ItemsValid vs (max_levels - 1)
+pub list_valid : (v : List ℕ) (vs : Items) → Encodes v vs → ItemsValid vs (max_levels - 1)
 unfolding Valid
-list-valid v vs e = e.valid
+list_valid v vs e = e.valid
 
-pub tally-start : (v : List ℕ) (plen : ℕ) (vs : Items) → Encodes v vs → Tallying v plen 1 0 0 vs
-tally-start v plen vs e =
+pub tally_start : (v : List ℕ) (plen : ℕ) (vs : Items) → Encodes v vs → Tallying v plen 1 0 0 vs
+tally_start v plen vs e =
     record {
       us = vs;
-      items = list-items v vs e;
-      valid = list-valid v vs e;
+      items = list_items v vs e;
+      valid = list_valid v vs e;
       same = refl;
     }
 
 module _ (v : List ℕ) (plen i files sum : ℕ) (vs : Items) (t : Tallying v plen i files sum vs) where
   -- the end of the bytes is no end of the list
-  pub tally-inside : length v ≤ i → ⊥
-  tally-inside h = items-inside v i t.us [] t.items h
+  pub tally_inside : length v ≤ i → ⊥
+  tally_inside h = items_inside v i t.us [] t.items h
 
   -- at the list's end
-  pub tally-ended : ends_here (drop i v) ≡ true → Sums files sum ≡ tallied_of plen vs
+  pub tally_ended : ends_here (drop i v) ≡ true → Sums files sum ≡ tallied_of plen vs
   unfolding tallied_from
-  tally-ended h = sym (t.same ∙ ap (tallied_from plen files sum) (items-ended v i t.us [] t.items h))
+  tally_ended h = sym (t.same ∙ ap (tallied_from plen files sum) (items_ended v i t.us [] t.items h))
 
   module _ (h : ends_here (drop i v) ≡ false) where
     some : (x : Value) × (ws : Items) × (t.us ≡ item x ws) × (drop i v ≡ encode x ++ (encode_items ws ++ []))
-    some = items-some v i t.us [] t.items h
+    some = items_some v i t.us [] t.items h
 
-    both-valid : Valid some.0 (max_levels - 1) × ItemsValid some.1 (max_levels - 1)
-    both-valid = unfold Valid in rw some.2 at t.valid
+    both_valid : Valid some.0 (max_levels - 1) × ItemsValid some.1 (max_levels - 1)
+    both_valid = unfold Valid in rw some.2 at t.valid
 
     stands : StandsAt v i some.0
-    stands = record { behind = encode_items some.1 ++ []; bytes = some.3; valid = more-levels some.0 (max_levels - 1) max_levels (omega arith) both-valid.0 }
+    stands = record { behind = encode_items some.1 ++ []; bytes = some.3; valid = more_levels some.0 (max_levels - 1) max_levels (omega arith) both_valid.0 }
 
     -- one entry
     step : tallied_of plen vs
@@ -75,72 +75,72 @@ module _ (v : List ℕ) (plen i files sum : ℕ) (vs : Items) (t : Tallying v pl
     step = t.same ∙ ap (tallied_from plen files sum) some.2
 
     -- that is malformed
-    pub tally-bad : Reads v i BadEntry → Amiss ≡ tallied_of plen vs
-    tally-bad r = by-fit (entry_fits some.0) refl
+    pub tally_bad : Reads v i BadEntry → Amiss ≡ tallied_of plen vs
+    tally_bad r = by_fit (entry_fits some.0) refl
       where
-        by-fit : (f : Bool) → entry_fits some.0 ≡ f → Amiss ≡ tallied_of plen vs
-        by-fit true e = let p = (r.item some.0 stands).fits e in let z : ◌≡◌ {A = ℕ} 0 1 = (let q = p.1 in cc) in absurd (omega arith)
-        by-fit false e = sym (step ∙ rw e refl)
+        by_fit : (f : Bool) → entry_fits some.0 ≡ f → Amiss ≡ tallied_of plen vs
+        by_fit true e = let p = (r.item some.0 stands).fits e in let z : ◌≡◌ {A = ℕ} 0 1 = (let q = p.1 in cc) in absurd (omega arith)
+        by_fit false e = sym (step ∙ rw e refl)
 
     module _ (padding : Bool) (n p k : ℕ) (r : Reads v i (Entry padding n p k)) where
       fits : (entry_fits some.0 ≡ true) × (padding ≡ (entry_of some.0).padding) × (n ≡ (entry_of some.0).size) × (k ≡ i + length (encode some.0))
-      fits = by-fit (entry_fits some.0) refl
+      fits = by_fit (entry_fits some.0) refl
         where
-          by-fit : (f : Bool) → entry_fits some.0 ≡ f
+          by_fit : (f : Bool) → entry_fits some.0 ≡ f
               → (entry_fits some.0 ≡ true) × (padding ≡ (entry_of some.0).padding) × (n ≡ (entry_of some.0).size) × (k ≡ i + length (encode some.0))
-          by-fit true e = let q = ((r.item some.0 stands).fits e).1 in let a : padding ≡ (entry_of some.0).padding = cc in let b : n ≡ (entry_of some.0).size = cc in let c : k ≡ i + length (encode some.0) = cc in (e, a, b, c)
-          by-fit false e = let q = (r.item some.0 stands).amiss e in let z : ◌≡◌ {A = ℕ} 0 1 = cc in absurd (omega arith)
+          by_fit true e = let q = ((r.item some.0 stands).fits e).1 in let a : padding ≡ (entry_of some.0).padding = cc in let b : n ≡ (entry_of some.0).size = cc in let c : k ≡ i + length (encode some.0) = cc in (e, a, b, c)
+          by_fit false e = let q = (r.item some.0 stands).amiss e in let z : ◌≡◌ {A = ℕ} 0 1 = cc in absurd (omega arith)
 
       -- that is a file, and not on a boundary
-      pub tally-between : (padding || eqb (sum % plen) 0) ≡ false → Amiss ≡ tallied_of plen vs
-      tally-between e = sym (step ∙ rw (fits.0, sym fits.1, e) refl)
+      pub tally_between : (padding || eqb (sum % plen) 0) ≡ false → Amiss ≡ tallied_of plen vs
+      tally_between e = sym (step ∙ rw (fits.0, sym fits.1, e) refl)
 
       -- with which there are too many bytes
-      pub tally-many : (padding || eqb (sum % plen) 0) ≡ true → most_bytes - sum < n → Amiss ≡ tallied_of plen vs
-      tally-many e l = sym (step ∙ rw (fits.0, sym fits.1, e, sym fits.2, lt-leb n (most_bytes - sum) l) refl)
+      pub tally_many : (padding || eqb (sum % plen) 0) ≡ true → most_bytes - sum < n → Amiss ≡ tallied_of plen vs
+      tally_many e l = sym (step ∙ rw (fits.0, sym fits.1, e, sym fits.2, lt-leb n (most_bytes - sum) l) refl)
 
       -- that is well
-      pub tally-more : (padding || eqb (sum % plen) 0) ≡ true → n ≤ most_bytes - sum → (g : ℕ) → g ≡ cond padding files (files + 1) → Tallying v plen k g (sum + n) vs
-      tally-more e l g eg =
+      pub tally_more : (padding || eqb (sum % plen) 0) ≡ true → n ≤ most_bytes - sum → (g : ℕ) → g ≡ cond padding files (files + 1) → Tallying v plen k g (sum + n) vs
+      tally_more e l g eg =
           record {
             us = some.1;
-            items = rw fits.3 (after-part v i (encode some.0) (encode_items some.1 ++ []) some.3);
-            valid = both-valid.1;
+            items = rw fits.3 (after_part v i (encode some.0) (encode_items some.1 ++ []) some.3);
+            valid = both_valid.1;
             same = step ∙ rw (fits.0, sym fits.1, e, sym fits.2, le-leb n (most_bytes - sum) l, eg) refl;
           }
 
 -- ---- by what was read
 
 module _ (v : List ℕ) (plen i files sum : ℕ) (vs : Items) (t : Tallying v plen i files sum vs) where
-  pub read-ended : Reads v i Ended → Sums files sum ≡ tallied_of plen vs
-  read-ended r = by_end (ends_here (drop i v)) refl
+  pub read_ended : Reads v i Ended → Sums files sum ≡ tallied_of plen vs
+  read_ended r = by_end (ends_here (drop i v)) refl
     where
-      by-fit : (h : ends_here (drop i v) ≡ false) (f : Bool) → entry_fits (some v plen i files sum vs t h).0 ≡ f → ⊥
-      by-fit h true e = let q = ((r.item (some v plen i files sum vs t h).0 (stands v plen i files sum vs t h)).fits e).1 in let z : ◌≡◌ {A = ℕ} 0 1 = cc in omega arith
-      by-fit h false e = let q = (r.item (some v plen i files sum vs t h).0 (stands v plen i files sum vs t h)).amiss e in let z : ◌≡◌ {A = ℕ} 0 1 = cc in omega arith
+      by_fit : (h : ends_here (drop i v) ≡ false) (f : Bool) → entry_fits (some v plen i files sum vs t h).0 ≡ f → ⊥
+      by_fit h true e = let q = ((r.item (some v plen i files sum vs t h).0 (stands v plen i files sum vs t h)).fits e).1 in let z : ◌≡◌ {A = ℕ} 0 1 = cc in omega arith
+      by_fit h false e = let q = (r.item (some v plen i files sum vs t h).0 (stands v plen i files sum vs t h)).amiss e in let z : ◌≡◌ {A = ℕ} 0 1 = cc in omega arith
 
       by_end : (b : Bool) → ends_here (drop i v) ≡ b → Sums files sum ≡ tallied_of plen vs
-      by_end true h = tally-ended v plen i files sum vs t h
-      by_end false h = absurd (by-fit h (entry_fits (some v plen i files sum vs t h).0) refl)
+      by_end true h = tally_ended v plen i files sum vs t h
+      by_end false h = absurd (by_fit h (entry_fits (some v plen i files sum vs t h).0) refl)
 
 -- what is no end
-not-ended : (v : List ℕ) (i : ℕ) (r : V1Token) → Reads v i r → (r ≡ Ended → ⊥) → ends_here (drop i v) ≡ false
-not-ended v i r s n = by_end (ends_here (drop i v)) refl
+not_ended : (v : List ℕ) (i : ℕ) (r : V1Token) → Reads v i r → (r ≡ Ended → ⊥) → ends_here (drop i v) ≡ false
+not_ended v i r s n = by_end (ends_here (drop i v)) refl
   where
     by_end : (b : Bool) → ends_here (drop i v) ≡ b → b ≡ false
     by_end true h = absurd (n (s.closed h))
     by_end false h = refl
 
-pub bad-no-end : (v : List ℕ) (i : ℕ) → Reads v i BadEntry → ends_here (drop i v) ≡ false
-bad-no-end v i r = not-ended v i BadEntry r (λ e. let z : ◌≡◌ {A = ℕ} 0 1 = cc in omega arith)
+pub bad_no_end : (v : List ℕ) (i : ℕ) → Reads v i BadEntry → ends_here (drop i v) ≡ false
+bad_no_end v i r = not_ended v i BadEntry r (λ e. let z : ◌≡◌ {A = ℕ} 0 1 = cc in omega arith)
 
-pub entry-no-end : (v : List ℕ) (i : ℕ) (padding : Bool) (n p k : ℕ) → Reads v i (Entry padding n p k) → ends_here (drop i v) ≡ false
-entry-no-end v i padding n p k r = not-ended v i (Entry padding n p k) r (λ e. let z : ◌≡◌ {A = ℕ} 0 1 = cc in omega arith)
+pub entry_no_end : (v : List ℕ) (i : ℕ) (padding : Bool) (n p k : ℕ) → Reads v i (Entry padding n p k) → ends_here (drop i v) ≡ false
+entry_no_end v i padding n p k r = not_ended v i (Entry padding n p k) r (λ e. let z : ◌≡◌ {A = ℕ} 0 1 = cc in omega arith)
 
 -- one more is counted at most
-pub counted-few : (t : Bool) (files g i k : ℕ) → g ≡ cond t files (files + 1) → files ≤ i → i < k → g ≤ k
-counted-few true files g i k e h l = omega arith
-counted-few false files g i k e h l = omega arith
+pub counted_few : (t : Bool) (files g i k : ℕ) → g ≡ cond t files (files + 1) → files ≤ i → i < k → g ≤ k
+counted_few true files g i k e h l = omega arith
+counted_few false files g i k e h l = omega arith
 
 -- ---- what a tally says of the entries
 
@@ -151,18 +151,18 @@ pub record Means (plen files sum : ℕ) (vs : Items) (g n : ℕ) : Type 0 where
   pub bytes : n ≡ sum + total (entries_in vs)
   pub few : n ≤ most_bytes
 
-counted-among : (t : Bool) (e : V1Entry) (es : List V1Entry) (files : ℕ) → cond t files (files + 1) + length es ≡ files + length (cond t es (e ∷ es))
-counted-among true e es files = refl
-counted-among false e es files = omega arith
+counted_among : (t : Bool) (e : V1Entry) (es : List V1Entry) (files : ℕ) → cond t files (files + 1) + length es ≡ files + length (cond t es (e ∷ es))
+counted_among true e es files = refl
+counted_among false e es files = omega arith
 
 -- sums: each entry is well formed, each file on a boundary
-pub tally-sums : (plen files sum : ℕ) (vs : Items) (g n : ℕ) → sum ≤ most_bytes → tallied_from plen files sum vs ≡ Sums g n → Means plen files sum vs g n
+pub tally_sums : (plen files sum : ℕ) (vs : Items) (g n : ℕ) → sum ≤ most_bytes → tallied_from plen files sum vs ≡ Sums g n → Means plen files sum vs g n
 unfolding tallied_from items_fit on_boundary files_among entries_in total
-tally-sums plen files sum no_items g n l e =
+tally_sums plen files sum no_items g n l e =
     let a : files ≡ g = cc in
     let b : sum ≡ n = cc in
     record { fit = refl; boundary = refl; count = omega arith; bytes = omega arith; few = omega arith }
-tally-sums plen files sum (item x vs) g n l e = by-test (entry_fits x && (near && few)) refl e (λ h f. tally-sums plen (cond (entry_of x).padding files (files + 1)) (sum + (entry_of x).size) vs g n h f)
+tally_sums plen files sum (item x vs) g n l e = by_test (entry_fits x && (near && few)) refl e (λ h f. tally_sums plen (cond (entry_of x).padding files (files + 1)) (sum + (entry_of x).size) vs g n h f)
   where
     near : Bool
     near = (entry_of x).padding || eqb (sum % plen) 0
@@ -170,16 +170,16 @@ tally-sums plen files sum (item x vs) g n l e = by-test (entry_fits x && (near &
     few : Bool
     few = leb (entry_of x).size (most_bytes - sum)
 
-    by-test : (b : Bool) → entry_fits x && (near && few) ≡ b
+    by_test : (b : Bool) → entry_fits x && (near && few) ≡ b
         → cond b (tallied_from plen (cond (entry_of x).padding files (files + 1)) (sum + (entry_of x).size) vs) Amiss ≡ Sums g n
         → (sum + (entry_of x).size ≤ most_bytes → tallied_from plen (cond (entry_of x).padding files (files + 1)) (sum + (entry_of x).size) vs ≡ Sums g n → Means plen (cond (entry_of x).padding files (files + 1)) (sum + (entry_of x).size) vs g n)
         → Means plen files sum (item x vs) g n
-    by-test false q f i = let z : ◌≡◌ {A = ℕ} 0 1 = cc in absurd (omega arith)
-    by-test true q f i =
-        let t = three-true (entry_fits x) near few q in
+    by_test false q f i = let z : ◌≡◌ {A = ℕ} 0 1 = cc in absurd (omega arith)
+    by_test true q f i =
+        let t = three_true (entry_fits x) near few q in
         let y = leb-true (entry_of x).size (most_bytes - sum) t.2 in
         let m = i (omega arith) f in
-        let counts = counted-among (entry_of x).padding (entry_of x) (files_among (entries_in vs)) files in
+        let counts = counted_among (entry_of x).padding (entry_of x) (files_among (entries_in vs)) files in
         record {
           fit = rw (t.0, m.fit) refl;
           boundary = rw (t.1, m.boundary) refl;
@@ -189,18 +189,18 @@ tally-sums plen files sum (item x vs) g n l e = by-test (entry_fits x && (near &
         }
 
 -- amiss, though all that is right: too many bytes for any `pieces`
-pub tally-amiss : (plen files sum : ℕ) (vs : Items) → sum ≤ most_bytes → tallied_from plen files sum vs ≡ Amiss → items_fit vs ≡ true → on_boundary plen sum (entries_in vs) ≡ true
+pub tally_amiss : (plen files sum : ℕ) (vs : Items) → sum ≤ most_bytes → tallied_from plen files sum vs ≡ Amiss → items_fit vs ≡ true → on_boundary plen sum (entries_in vs) ≡ true
     → most_bytes < sum + total (entries_in vs)
 unfolding tallied_from items_fit on_boundary entries_in total
-tally-amiss plen files sum no_items l e f b = let z : ◌≡◌ {A = ℕ} 0 1 = cc in absurd (omega arith)
-tally-amiss plen files sum (item x vs) l e f b =
+tally_amiss plen files sum no_items l e f b = let z : ◌≡◌ {A = ℕ} 0 1 = cc in absurd (omega arith)
+tally_amiss plen files sum (item x vs) l e f b =
     let p = (and-eq-true_iff (entry_fits x) (items_fit vs)).0 f in
     let q = (and-eq-true_iff ((entry_of x).padding || eqb (sum % plen) 0) (on_boundary plen (sum + (entry_of x).size) (entries_in vs))).0 b in
-    by-few (leb (entry_of x).size (most_bytes - sum)) refl (rw (p.0, q.0) at e) (λ h g. tally-amiss plen (cond (entry_of x).padding files (files + 1)) (sum + (entry_of x).size) vs h g p.1 q.1)
+    by_few (leb (entry_of x).size (most_bytes - sum)) refl (rw (p.0, q.0) at e) (λ h g. tally_amiss plen (cond (entry_of x).padding files (files + 1)) (sum + (entry_of x).size) vs h g p.1 q.1)
   where
-    by-few : (t : Bool) → leb (entry_of x).size (most_bytes - sum) ≡ t
+    by_few : (t : Bool) → leb (entry_of x).size (most_bytes - sum) ≡ t
         → cond t (tallied_from plen (cond (entry_of x).padding files (files + 1)) (sum + (entry_of x).size) vs) Amiss ≡ Amiss
         → (sum + (entry_of x).size ≤ most_bytes → tallied_from plen (cond (entry_of x).padding files (files + 1)) (sum + (entry_of x).size) vs ≡ Amiss → most_bytes < sum + (entry_of x).size + total (entries_in vs))
         → most_bytes < sum + ((entry_of x).size + total (entries_in vs))
-    by-few true h g i = let y = leb-true (entry_of x).size (most_bytes - sum) h in let z = i (omega arith) g in omega arith
-    by-few false h g i = let y = leb-false (entry_of x).size (most_bytes - sum) h in omega arith
+    by_few true h g i = let y = leb-true (entry_of x).size (most_bytes - sum) h in let z = i (omega arith) g in omega arith
+    by_few false h g i = let y = leb-false (entry_of x).size (most_bytes - sum) h in omega arith

@@ -11,7 +11,7 @@ use Rattle.bencode.specs.Grammar.{colon, Value, integer, string, list, dictionar
 use Rattle.bencode.specs.Scalar.{read_string, read_integer}
 use Rattle.bencode.specs.Parts.{is_dictionary, find_key, Lookup, absent, present, lookup, FoundIs}
 use Rattle.bencode.specs.CompleteLaws.{content_start}
-use Rattle.bencode.specs.PartsLaws.{part-front, find-is, integer-is, integer_of, string-is, string_of, content-is, dictionary-is, lookup-valid, find-no-dictionary}
+use Rattle.bencode.specs.PartsLaws.{part_front, find_is, integer_is, integer_of, string_is, string_of, content_is, dictionary_is, lookup_valid, find_no_dictionary}
 use Rattle.bencode.specs.declared.parts.Found.{Found}
 use Rattle.bencode.specs.declared.parts.Found.TheVariants.{Part, Missing}
 use Rattle.filetree.specs.File.{length_of, root_of, length_in, root_in, file_length, file_root, empty_file, full_file, with_length, file_at}
@@ -25,12 +25,12 @@ use Rattle.meaning.specs.Torrent.{entries_of, is_natural, number_of, root_right,
 use Rattle.filetree.specs.Reading.{root_read}
 
 -- an integer found at a position is the integer of the value
-pub integer-there : (s : List ℕ) (a b l : ℕ) (v : Value) → cut s a (b - a) ≡ encode v → Valid v l → read_integer a (drop a s) ≡ integer_of a v
-integer-there s a b l v e h = ap (read_integer a) (part-front s a b v e) ∙ integer-is v l a (drop (b - a) (drop a s)) h
+pub integer_there : (s : List ℕ) (a b l : ℕ) (v : Value) → cut s a (b - a) ≡ encode v → Valid v l → read_integer a (drop a s) ≡ integer_of a v
+integer_there s a b l v e h = ap (read_integer a) (part_front s a b v e) ∙ integer_is v l a (drop (b - a) (drop a s)) h
 
 -- a string found at a position is the string of the value
-pub string-there : (s : List ℕ) (a b : ℕ) (v : Value) → cut s a (b - a) ≡ encode v → read_string a (drop a s) ≡ string_of a v
-string-there s a b v e = ap (read_string a) (part-front s a b v e) ∙ string-is v a (drop (b - a) (drop a s))
+pub string_there : (s : List ℕ) (a b : ℕ) (v : Value) → cut s a (b - a) ≡ encode v → read_string a (drop a s) ≡ string_of a v
+string_there s a b v e = ap (read_string a) (part_front s a b v e) ∙ string_is v a (drop (b - a) (drop a s))
 
 -- what is read of a file is what its value says
 abbrev pub FileAgrees : List ℕ → Bool → Entries → File → Type 0
@@ -43,23 +43,23 @@ LengthIs NoLength x = is_natural x && leb (number_of x) longest_file ≡ false
 LengthIs (Bytes n) x = (is_natural x && leb (number_of x) longest_file ≡ true) × (n ≡ number_of x)
 
 -- an integer is a length if it is from 0 to the longest file's, and no other value is one
-length-of : (a : ℕ) (v : Value) → LengthIs (length_of (integer_of a v)) (present v)
-length-of a (integer true n) = refl
-length-of a (integer false n) = by-range (leb n longest_file) refl
+length_of_lem : (a : ℕ) (v : Value) → LengthIs (length_of (integer_of a v)) (present v)
+length_of_lem a (integer true n) = refl
+length_of_lem a (integer false n) = by_range (leb n longest_file) refl
   where
-    by-range : (t : Bool) → leb n longest_file ≡ t → LengthIs (cond t (Bytes n) NoLength) (present (integer false n))
-    by-range true e = (e, refl)
-    by-range false e = e
-length-of a (string b) = refl
-length-of a (list vs) = refl
-length-of a (dictionary es) = refl
+    by_range : (t : Bool) → leb n longest_file ≡ t → LengthIs (cond t (Bytes n) NoLength) (present (integer false n))
+    by_range true e = (e, refl)
+    by_range false e = e
+length_of_lem a (string b) = refl
+length_of_lem a (list vs) = refl
+length_of_lem a (dictionary es) = refl
 
 -- the length found is that of the value
-length-is : (s : List ℕ) (l : ℕ) (x : Lookup) (w : Found) → ((v : Value) → x ≡ present v → Valid v l) → FoundIs s w x → LengthIs (length_in s w) x
-length-is s l absent Missing h f = refl
-length-is s l absent (Part a b) h f = absurd f
-length-is s l (present v) Missing h f = absurd f
-length-is s l (present v) (Part a b) h f = rw (integer-there s a b l v f (h v refl)) (length-of a v)
+length_is : (s : List ℕ) (l : ℕ) (x : Lookup) (w : Found) → ((v : Value) → x ≡ present v → Valid v l) → FoundIs s w x → LengthIs (length_in s w) x
+length_is s l absent Missing h f = refl
+length_is s l absent (Part a b) h f = absurd f
+length_is s l (present v) Missing h f = absurd f
+length_is s l (present v) (Part a b) h f = rw (integer_there s a b l v f (h v refl)) (length_of_lem a v)
 
 -- the root is the value's, if that is a string of 32 bytes
 abbrev RootIs : List ℕ → Root → Lookup → Type 0
@@ -67,11 +67,11 @@ RootIs s NoRoot x = root_right false x ≡ false
 RootIs s (At r) x = (root_right false x ≡ true) × (cut s r 32 ≡ root_string x)
 
 -- a string of 32 bytes is a root, and no other value is one
-root-of : (s : List ℕ) (a b : ℕ) (v : Value) → cut s a (b - a) ≡ encode v → RootIs s (root_of (string_of a v)) (present v)
-root-of s a b (integer minus n) e = refl
-root-of s a b (list vs) e = refl
-root-of s a b (dictionary es) e = refl
-root-of s a b (string x) e = by_size (eqb (a + length (encode_string x) - content_start a x) 32) refl
+root_of_lem : (s : List ℕ) (a b : ℕ) (v : Value) → cut s a (b - a) ≡ encode v → RootIs s (root_of (string_of a v)) (present v)
+root_of_lem s a b (integer minus n) e = refl
+root_of_lem s a b (list vs) e = refl
+root_of_lem s a b (dictionary es) e = refl
+root_of_lem s a b (string x) e = by_size (eqb (a + length (encode_string x) - content_start a x) 32) refl
   where
     size : a + length (encode_string x) - content_start a x ≡ length x
     size = let lc = length-append (decimal (length x)) (colon ∷ x) in omega arith
@@ -82,8 +82,8 @@ root-of s a b (string x) e = by_size (eqb (a + length (encode_string x) - conten
     by_size : (t : Bool) → eqb (a + length (encode_string x) - content_start a x) 32 ≡ t → RootIs s (cond t (At (content_start a x)) NoRoot) (present (string x))
     by_size true q =
         let o = eqb-true (a + length (encode_string x) - content_start a x) 32 q in
-        let p : drop a s ≡ encode_string x ++ drop (b - a) (drop a s) = part-front s a b (string x) e ∙ ap (λ (l : List ℕ). l ++ drop (b - a) (drop a s)) front in
-        (rw size at q, rw o at (content-is s x (drop (b - a) (drop a s)) a p))
+        let p : drop a s ≡ encode_string x ++ drop (b - a) (drop a s) = part_front s a b (string x) e ∙ ap (λ (l : List ℕ). l ++ drop (b - a) (drop a s)) front in
+        (rw size at q, rw o at (content_is s x (drop (b - a) (drop a s)) a p))
     by_size false q = rw size at q
 
 -- the root found is that of the value
@@ -91,7 +91,7 @@ root_is : (s : List ℕ) (x : Lookup) (w : Found) → FoundIs s w x → RootIs s
 root_is s absent Missing f = refl
 root_is s absent (Part a b) f = absurd f
 root_is s (present v) Missing f = absurd f
-root_is s (present v) (Part a b) f = rw (string-there s a b v f) (root-of s a b v f)
+root_is s (present v) (Part a b) f = rw (string_there s a b v f) (root_of_lem s a b v f)
 
 -- the file, from its length and from what is found for the root
 abbrev with_parts : List ℕ → Found → Length → File
@@ -99,17 +99,17 @@ with_parts s w NoLength = WrongFile
 with_parts s w (Bytes n) = cond (eqb n 0) (empty_file w) (full_file n (root_in s w))
 
 -- the file is made of these two
-with-parts : (s : List ℕ) (at : ℕ) (z : Length) → with_length s at z ≡ with_parts s (find_key key_pieces_root at (drop at s)) z
+with_parts_lem : (s : List ℕ) (at : ℕ) (z : Length) → with_length s at z ≡ with_parts s (find_key key_pieces_root at (drop at s)) z
 unfolding file_root
-with-parts s at NoLength = refl
-with-parts s at (Bytes n) = refl
+with_parts_lem s at NoLength = refl
+with_parts_lem s at (Bytes n) = refl
 
 -- both together
-both-are : (s : List ℕ) (es : Entries) (z : Length) (w : Found) → LengthIs z (lookup key_length es) → FoundIs s w (lookup key_pieces_root es)
+both_are : (s : List ℕ) (es : Entries) (z : Length) (w : Found) → LengthIs z (lookup key_length es) → FoundIs s w (lookup key_pieces_root es)
     → FileAgrees s (is_natural (lookup key_length es) && leb (number_of (lookup key_length es)) longest_file && root_right (eqb (number_of (lookup key_length es)) 0) (lookup key_pieces_root es)) es
     (with_parts s w z)
-both-are s es NoLength w l f = rw l refl
-both-are s es (Bytes n) w l f = rw (l.0, sym l.1) (by_size (eqb n 0) refl)
+both_are s es NoLength w l f = rw l refl
+both_are s es (Bytes n) w l f = rw (l.0, sym l.1) (by_size (eqb n 0) refl)
   where
     empty : (y : Lookup) (u : Found) → lookup key_pieces_root es ≡ y → FoundIs s u y → 0 ≡ number_of (lookup key_length es) → FileAgrees s (true && root_right true y) es (empty_file u)
     empty absent Missing e g o = (refl, o, rw e refl)
@@ -126,13 +126,13 @@ both-are s es (Bytes n) w l f = rw (l.0, sym l.1) (by_size (eqb n 0) refl)
     by_size false q = full (eqb-false n 0 q) (root_in s w) (root_is s (lookup key_pieces_root es) w f)
 
 -- the file whose dictionary is the value w is right exactly if the value is, and then has the value's length and root
-pub file-is : (s : List ℕ) (at : ℕ) (w : Value) (r : List ℕ) → drop at s ≡ encode w ++ r → Valid w max_levels → FileAgrees s (file_right w) (entries_of (present w)) (file_at s at)
+pub file_is : (s : List ℕ) (at : ℕ) (w : Value) (r : List ℕ) → drop at s ≡ encode w ++ r → Valid w max_levels → FileAgrees s (file_right w) (entries_of (present w)) (file_at s at)
 unfolding file_at file_length file_root file_right Valid
-file-is s at (dictionary es) r e h =
-    rw (with-parts s at (length_in s (find_key key_length at (drop at s))))
-    (both-are s es (length_in s (find_key key_length at (drop at s))) (find_key key_pieces_root at (drop at s))
-    (length-is s (max_levels - 1) (lookup key_length es) (find_key key_length at (drop at s)) (λ v q. lookup-valid key_length es none (max_levels - 1) v h q) (find-is key_length s at es r e h))
-    (find-is key_pieces_root s at es r e h))
-file-is s at (integer minus n) r e h = rw (find-no-dictionary key_length s at (ap is_dictionary e ∙ dictionary-is (integer minus n) r)) refl
-file-is s at (string b) r e h = rw (find-no-dictionary key_length s at (ap is_dictionary e ∙ dictionary-is (string b) r)) refl
-file-is s at (list vs) r e h = rw (find-no-dictionary key_length s at (ap is_dictionary e ∙ dictionary-is (list vs) r)) refl
+file_is s at (dictionary es) r e h =
+    rw (with_parts_lem s at (length_in s (find_key key_length at (drop at s))))
+    (both_are s es (length_in s (find_key key_length at (drop at s))) (find_key key_pieces_root at (drop at s))
+    (length_is s (max_levels - 1) (lookup key_length es) (find_key key_length at (drop at s)) (λ v q. lookup_valid key_length es none (max_levels - 1) v h q) (find_is key_length s at es r e h))
+    (find_is key_pieces_root s at es r e h))
+file_is s at (integer minus n) r e h = rw (find_no_dictionary key_length s at (ap is_dictionary e ∙ dictionary_is (integer minus n) r)) refl
+file_is s at (string b) r e h = rw (find_no_dictionary key_length s at (ap is_dictionary e ∙ dictionary_is (string b) r)) refl
+file_is s at (list vs) r e h = rw (find_no_dictionary key_length s at (ap is_dictionary e ∙ dictionary_is (list vs) r)) refl

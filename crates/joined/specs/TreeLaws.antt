@@ -12,9 +12,9 @@ use Rattle.octets.specs.Octets.{cut}
 use Rattle.limits.specs.Limits.{max_levels}
 use Rattle.bencode.specs.Grammar.{colon, Value, integer, string, list, dictionary, Entries, no_entries, entry, decimal, decimal_in, encode_string, encode, encode_entries, KeyBefore, none, after as after_key, Valid, EntriesValid}
 use Rattle.bencode.specs.Parts.{is_dictionary, present}
-use Rattle.bencode.specs.CompleteLaws.{content_start, string-some, dictionary-bytes}
-use Rattle.bencode.specs.DepthLaws.{more-levels}
-use Rattle.bencode.specs.PartsLaws.{value_start, content-is, dictionary-is, is_dictionary_value, entries-length, entries-some, after-part}
+use Rattle.bencode.specs.CompleteLaws.{content_start, string_some, dictionary_bytes}
+use Rattle.bencode.specs.DepthLaws.{more_levels}
+use Rattle.bencode.specs.PartsLaws.{value_start, content_is, dictionary_is, is_dictionary_value, entries_length, entries_some, after_part}
 use Rattle.filetree.specs.File.{file_at}
 use Rattle.filetree.specs.Token.{ends_here, node_token, file_token, token_at}
 use Rattle.filetree.specs.Tree.{max_elements, Element, Listed, Files, wrong, files, down, listed_as, after, onward, on_token, files_from, files_below, files_in, right, listed}
@@ -23,25 +23,25 @@ use Rattle.filetree.specs.declared.file.File.TheVariants.{Right, WrongFile}
 use Rattle.filetree.specs.declared.token.Token.TheVariants.{Leaf, BadToken}
 use Rattle.meaning.specs.Torrent.{File, entries_of, file_right, element_right, no_more, node_right, branch_right, nodes_right, tree_right, files_of_node, files_of_entries, file_value}
 use Rattle.filetree.specs.Reading.{element, elements, read_file, read_files}
-use Rattle.joined.specs.FileLaws.{FileAgrees, file-is}
-use Rattle.joined.specs.TokenLaws.{entries-there, entry-bytes, ends_is, token_end, key-token, node-other, node-empty, node-opened, node-file, file-wrong, file-right}
+use Rattle.joined.specs.FileLaws.{FileAgrees, file_is}
+use Rattle.joined.specs.TokenLaws.{entries_there, entry_bytes, ends_is, token_end, key_token, node_other, node_empty, node_opened, node_file, file_wrong, file_right_lem}
 
 -- ---- files and paths as they are read
 
 -- one element more
-elements-down : (t : List ℕ) (path : List Element) (a b : ℕ) (k : List ℕ) → cut t a (b - a) ≡ k → elements t (down path a b) ≡ elements t path ++ (k ∷ [])
-elements-down t [] a b k e = ap (λ (x : List ℕ). x ∷ []) e
-elements-down t (x ∷ path) a b k e = ap (λ (l : List (List ℕ)). element t x ∷ l) (elements-down t path a b k e)
+elements_down : (t : List ℕ) (path : List Element) (a b : ℕ) (k : List ℕ) → cut t a (b - a) ≡ k → elements t (down path a b) ≡ elements t path ++ (k ∷ [])
+elements_down t [] a b k e = ap (λ (x : List ℕ). x ∷ []) e
+elements_down t (x ∷ path) a b k e = ap (λ (l : List (List ℕ)). element t x ∷ l) (elements_down t path a b k e)
 
 -- each element has the bytes that its positions say
 unfoldable pub Fits : List ℕ → List Element → Type 0
 Fits t [] = Unit {0}
 Fits t (e ∷ path) = (length (element t e) ≡ e.end - e.start) × Fits t path
 
-fits-down : (t : List ℕ) (path : List Element) (a b : ℕ) (k : List ℕ) → Fits t path → cut t a (b - a) ≡ k → length k ≡ b - a → Fits t (down path a b)
+fits_down : (t : List ℕ) (path : List Element) (a b : ℕ) (k : List ℕ) → Fits t path → cut t a (b - a) ≡ k → length k ≡ b - a → Fits t (down path a b)
 unfolding Fits
-fits-down t [] a b k f e n = (ap length e ∙ n, tt)
-fits-down t (x ∷ path) a b k f e n = (f.0, fits-down t path a b k f.1 e n)
+fits_down t [] a b k f e n = (ap length e ∙ n, tt)
+fits_down t (x ∷ path) a b k f e n = (f.0, fits_down t path a b k f.1 e n)
 
 -- so has each element of each file
 unfoldable pub AllFit : List ℕ → List Listed → Type 0
@@ -75,38 +75,38 @@ both true true t w go mid end vs us n g =
 -- ---- what a level of nesting is needed for
 
 -- without a level nothing is a dictionary
-file-level : (w : Value) → Valid w 0 → file_right w ≡ false
+file_level : (w : Value) → Valid w 0 → file_right w ≡ false
 unfolding Valid file_right
-file-level (dictionary es) h = absurd h
-file-level (integer minus n) h = refl
-file-level (string b) h = refl
-file-level (list vs) h = refl
+file_level (dictionary es) h = absurd h
+file_level (integer minus n) h = refl
+file_level (string b) h = refl
+file_level (list vs) h = refl
 
-node-level : (w : Value) → Valid w 0 → node_right w ≡ false
+node_level : (w : Value) → Valid w 0 → node_right w ≡ false
 unfolding Valid node_right
-node-level (dictionary es) h = absurd h
-node-level (integer minus n) h = refl
-node-level (string b) h = refl
-node-level (list vs) h = refl
+node_level (dictionary es) h = absurd h
+node_level (integer minus n) h = refl
+node_level (string b) h = refl
+node_level (list vs) h = refl
 
 -- with one level no node is right: it takes one, and the file's dictionary another
-branch-level : (es : Entries) (j : KeyBefore) → EntriesValid es j 0 → branch_right es ≡ false
+branch_level : (es : Entries) (j : KeyBefore) → EntriesValid es j 0 → branch_right es ≡ false
 unfolding branch_right Valid
-branch-level no_entries j h = refl
-branch-level (entry [] w es) j h = rw (file-level w h.1) (and-false (no_more es))
-branch-level (entry (c ∷ cs) w es) j h = rw (node-level w h.1) (and-false (element_right (c ∷ cs)))
+branch_level no_entries j h = refl
+branch_level (entry [] w es) j h = rw (file_level w h.1) (and-false (no_more es))
+branch_level (entry (c ∷ cs) w es) j h = rw (node_level w h.1) (and-false (element_right (c ∷ cs)))
 
-node-shallow : (v : Value) → Valid v 1 → node_right v ≡ false
+node_shallow : (v : Value) → Valid v 1 → node_right v ≡ false
 unfolding node_right Valid
-node-shallow (dictionary es) h = branch-level es none h
-node-shallow (integer minus n) h = refl
-node-shallow (string b) h = refl
-node-shallow (list vs) h = refl
+node_shallow (dictionary es) h = branch_level es none h
+node_shallow (integer minus n) h = refl
+node_shallow (string b) h = refl
+node_shallow (list vs) h = refl
 
 -- so no directory is
-nodes-shallow : (k : List ℕ) (v : Value) (es : Entries) (j : KeyBefore) → EntriesValid (entry k v es) j 1 → nodes_right (entry k v es) ≡ false
+nodes_shallow : (k : List ℕ) (v : Value) (es : Entries) (j : KeyBefore) → EntriesValid (entry k v es) j 1 → nodes_right (entry k v es) ≡ false
 unfolding nodes_right Valid
-nodes-shallow k v es j h = rw (node-shallow v h.1) (and-false (element_right k))
+nodes_shallow k v es j h = rw (node_shallow v h.1) (and-false (element_right k))
 
 -- ---- one node
 
@@ -119,15 +119,15 @@ record NodeAt (t : List ℕ) (at : ℕ) (k : List ℕ) (v : Value) (q : List ℕ
 node_at : (t : List ℕ) (at : ℕ) (k : List ℕ) (v : Value) (q : List ℕ) → element_right k ≡ true → drop at t ≡ encode_string k ++ (encode v ++ q) → NodeAt t at k v q
 node_at t at k v q r e =
     record {
-      token = key-token t at k (encode v ++ q) e ∙ rw r refl;
-      value = after-part t at (encode_string k) (encode v ++ q) e;
-      key = content-is t k (encode v ++ q) at e;
+      token = key_token t at k (encode v ++ q) e ∙ rw r refl;
+      value = after_part t at (encode_string k) (encode v ++ q) e;
+      key = content_is t k (encode v ++ q) at e;
     }
 
 -- the empty key has two bytes
-empty-key : length (encode_string []) ≡ 2
+empty_key : length (encode_string []) ≡ 2
 unfolding decimal_in
-empty-key = refl
+empty_key = refl
 
 module _ (t : List ℕ) (sub : ℕ → List Element → Files) (go : ℕ → Files) (at : ℕ) (path : List Element) (k q : List ℕ) where
   -- what stands at `at`, and where
@@ -148,61 +148,61 @@ module _ (t : List ℕ) (sub : ℕ → List Element → Files) (go : ℕ → Fil
   bad e = ap (on_token sub go at path) e
 
   -- the key has the bytes between its positions
-  key-size : length k ≡ b - a
-  key-size = omega (arith, length-append (decimal (length k)) (colon ∷ k))
+  key_size : length k ≡ b - a
+  key_size = omega (arith, length-append (decimal (length k)) (colon ∷ k))
 
   -- a node that is no dictionary
-  other-gives : (v : Value) → NodeAt t at k v q → is_dictionary_value v ≡ false → here ≡ wrong
-  other-gives v n e = bad (n.token ∙ node-other t a b q (ap is_dictionary n.value ∙ dictionary-is v q ∙ e))
+  other_gives : (v : Value) → NodeAt t at k v q → is_dictionary_value v ≡ false → here ≡ wrong
+  other_gives v n e = bad (n.token ∙ node_other t a b q (ap is_dictionary n.value ∙ dictionary_is v q ∙ e))
 
   -- a node whose first key is empty: a file
-  file-gives : (w : Value) (es : Entries) → NodeAt t at k (dictionary (entry [] w es)) q → Valid w max_levels → Fits t path
+  file_gives : (w : Value) (es : Entries) → NodeAt t at k (dictionary (entry [] w es)) q → Valid w max_levels → Fits t path
       → NodeGives (no_more es && file_right w) t here go (b + length (encode (dictionary (entry [] w es)))) (file_value inside (entries_of (present w)) ∷ [])
-  file-gives w es n valid fit = by-file (file_at t y) refl (file-is t y w (encode_entries es ++ q) there valid)
+  file_gives w es n valid fit = by_file (file_at t y) refl (file_is t y w (encode_entries es ++ q) there valid)
     where
       y : ℕ
       y = value_start (b + 1) []
 
       first : drop (b + 1) t ≡ encode_string [] ++ (encode w ++ (encode_entries es ++ q))
-      first = entries-there t b (entry [] w es) q n.value ∙ entry-bytes [] w es q
+      first = entries_there t b (entry [] w es) q n.value ∙ entry_bytes [] w es q
 
       there : drop y t ≡ encode w ++ (encode_entries es ++ q)
-      there = after-part t (b + 1) (encode_string []) (encode w ++ (encode_entries es ++ q)) first
+      there = after_part t (b + 1) (encode_string []) (encode w ++ (encode_entries es ++ q)) first
 
       token : token_at t at ≡ file_token t a b y
-      token = n.token ∙ node-file t a b q w es n.value
+      token = n.token ∙ node_file t a b q w es n.value
 
       -- behind the file's own end
       past : y + length (encode w) + 1 ≡ b + length (encode (dictionary (entry [] w no_entries)))
-      past = unfold encode in omega (arith, empty-key, length-append (encode_string []) (encode w ++ encode_entries no_entries), length-append (encode w) (encode_entries no_entries))
+      past = unfold encode in omega (arith, empty_key, length-append (encode_string []) (encode w ++ encode_entries no_entries), length-append (encode w) (encode_entries no_entries))
 
-      by-more : (us : Entries) → es ≡ us → (size r : ℕ) → file_at t y ≡ Right size r → FileAgrees t (file_right w) (entries_of (present w)) (Right size r)
+      by_more : (us : Entries) → es ≡ us → (size r : ℕ) → file_at t y ≡ Right size r → FileAgrees t (file_right w) (entries_of (present w)) (Right size r)
           → NodeGives (no_more us && true) t here go (b + length (encode (dictionary (entry [] w us)))) (file_value inside (entries_of (present w)) ∷ [])
-      by-more (entry x u us) e size r f g = bad (token ∙ file-right t a b y size r w es q f there valid ∙ rw e refl)
-      by-more no_entries e size r f g =
-          let leaf : token_at t at ≡ Leaf a b size r (y + length (encode w) + 1) = token ∙ file-right t a b y size r w es q f there valid ∙ rw e refl in (
+      by_more (entry x u us) e size r f g = bad (token ∙ file_right_lem t a b y size r w es q f there valid ∙ rw e refl)
+      by_more no_entries e size r f g =
+          let leaf : token_at t at ≡ Leaf a b size r (y + length (encode w) + 1) = token ∙ file_right_lem t a b y size r w es q f there valid ∙ rw e refl in (
             listed_as size r (down path a b) ∷ [],
             ap (on_token sub go at path) leaf ∙ ap (λ (z : ℕ). after (listed_as size r (down path a b) ∷ []) (go z)) past,
             ap (λ (z : File). z ∷ []) (is_read size r g),
-            unfold AllFit in (fits-down t path a b k fit n.key key-size, tt),
+            unfold AllFit in (fits_down t path a b k fit n.key key_size, tt),
           )
         where
           is_read : (size r : ℕ) → FileAgrees t (file_right w) (entries_of (present w)) (Right size r) → read_file t (listed_as size r (down path a b)) ≡ file_value inside (entries_of (present w))
-          is_read size r g = unfold read_file in rw (g.2, g.1, elements-down t path a b k n.key) refl
+          is_read size r g = unfold read_file in rw (g.2, g.1, elements_down t path a b k n.key) refl
 
-      by-file : (f : FileFound) → file_at t y ≡ f → FileAgrees t (file_right w) (entries_of (present w)) f
+      by_file : (f : FileFound) → file_at t y ≡ f → FileAgrees t (file_right w) (entries_of (present w)) f
           → NodeGives (no_more es && file_right w) t here go (b + length (encode (dictionary (entry [] w es)))) (file_value inside (entries_of (present w)) ∷ [])
-      by-file WrongFile f g = rw (g, and-false (no_more es)) (bad (token ∙ file-wrong t a b y f))
-      by-file (Right size r) f g = rw g.0 (by-more es refl size r f g)
+      by_file WrongFile f g = rw (g, and-false (no_more es)) (bad (token ∙ file_wrong t a b y f))
+      by_file (Right size r) f g = rw g.0 (by_more es refl size r f g)
 
   -- a node that is a directory, by what is inside
   open_gives : (o : Bool) (c : ℕ) (cs : List ℕ) (w : Value) (es : Entries) (vs : List File) → NodeAt t at k (dictionary (entry (c ∷ cs) w es)) q
       → Gives o t (sub (b + 1) (down path a b)) (b + 1 + length (encode_entries (entry (c ∷ cs) w es))) vs
       → NodeGives o t here go (b + length (encode (dictionary (entry (c ∷ cs) w es)))) vs
-  open_gives false c cs w es vs n g = ap (on_token sub go at path) (n.token ∙ node-opened t a b q c cs w es n.value) ∙ ap (λ (z : Files). onward z go) g
+  open_gives false c cs w es vs n g = ap (on_token sub go at path) (n.token ∙ node_opened t a b q c cs w es n.value) ∙ ap (λ (z : Files). onward z go) g
   open_gives true c cs w es vs n g =
-      let opens : here ≡ onward (sub (b + 1) (down path a b)) go = ap (on_token sub go at path) (n.token ∙ node-opened t a b q c cs w es n.value) in
-      let end : b + 1 + length (encode_entries (entry (c ∷ cs) w es)) ≡ b + length (encode (dictionary (entry (c ∷ cs) w es))) = omega (arith, ap length (dictionary-bytes (entry (c ∷ cs) w es))) in
+      let opens : here ≡ onward (sub (b + 1) (down path a b)) go = ap (on_token sub go at path) (n.token ∙ node_opened t a b q c cs w es n.value) in
+      let end : b + 1 + length (encode_entries (entry (c ∷ cs) w es)) ≡ b + length (encode (dictionary (entry (c ∷ cs) w es))) = omega (arith, ap length (dictionary_bytes (entry (c ∷ cs) w es))) in
       (g.0, opens ∙ ap (λ (z : Files). onward z go) g.1 ∙ ap (λ (z : ℕ). after g.0 (go z)) end, g.2, g.3)
 
 -- ---- all entries of a directory, in levels and entries
@@ -214,36 +214,36 @@ Walks t es = (l at steps : ℕ) (r : List ℕ) (j : KeyBefore) (path : List Elem
     → Gives (nodes_right es) t (files_from (files_below l t) steps t at path) (at + length (encode_entries es)) (files_of_entries (elements t path) es)
 
 -- more steps than bytes are enough
-steps-enough : (t : List ℕ) (at : ℕ) (es : Entries) (r : List ℕ) → drop at t ≡ encode_entries es ++ r → length (encode_entries es) ≤ suc (length t)
-steps-enough t at es r e = omega (arith, ap length e, length-append (encode_entries es) r, drop-shorter t at)
+steps_enough : (t : List ℕ) (at : ℕ) (es : Entries) (r : List ℕ) → drop at t ≡ encode_entries es ++ r → length (encode_entries es) ≤ suc (length t)
+steps_enough t at es r e = omega (arith, ap length e, length-append (encode_entries es) r, drop_shorter t at)
   where
-    drop-shorter : (t : List ℕ) (n : ℕ) → length (drop n t) ≤ length t
-    drop-shorter [] zero = omega arith
-    drop-shorter [] (suc n) = omega arith
-    drop-shorter (x ∷ t) zero = omega arith
-    drop-shorter (x ∷ t) (suc n) = omega (arith, drop-shorter t n)
+    drop_shorter : (t : List ℕ) (n : ℕ) → length (drop n t) ≤ length t
+    drop_shorter [] zero = omega arith
+    drop_shorter [] (suc n) = omega arith
+    drop_shorter (x ∷ t) zero = omega arith
+    drop_shorter (x ∷ t) (suc n) = omega (arith, drop_shorter t n)
 
 -- a directory inside: too deep, or its entries
-inside-gives : (t : List ℕ) (l at : ℕ) (path : List Element) (c : ℕ) (cs : List ℕ) (w : Value) (es : Entries) (r : List ℕ) → Walks t (entry (c ∷ cs) w es)
+inside_gives : (t : List ℕ) (l at : ℕ) (path : List Element) (c : ℕ) (cs : List ℕ) (w : Value) (es : Entries) (r : List ℕ) → Walks t (entry (c ∷ cs) w es)
     → drop at t ≡ encode_entries (entry (c ∷ cs) w es) ++ r → EntriesValid (entry (c ∷ cs) w es) none (suc l) → suc l ≤ max_levels → Fits t path
     → Gives (nodes_right (entry (c ∷ cs) w es)) t (files_below l t at path) (at + length (encode_entries (entry (c ∷ cs) w es))) (files_of_entries (elements t path) (entry (c ∷ cs) w es))
 unfolding files_below
-inside-gives t zero at path c cs w es r walks e h m fit = rw (nodes-shallow (c ∷ cs) w es none h) refl
-inside-gives t (suc l) at path c cs w es r walks e h m fit = walks l at (suc (length t)) r none path e h m (steps-enough t at (entry (c ∷ cs) w es) r e) fit
+inside_gives t zero at path c cs w es r walks e h m fit = rw (nodes_shallow (c ∷ cs) w es none h) refl
+inside_gives t (suc l) at path c cs w es r walks e h m fit = walks l at (suc (length t)) r none path e h m (steps_enough t at (entry (c ∷ cs) w es) r e) fit
 
 -- a node that is a dictionary, by its first key
-branch-gives : (es : Entries) (t : List ℕ) → Walks t es → (l at : ℕ) (k q : List ℕ) (path : List Element) (go : ℕ → Files) → NodeAt t at k (dictionary es) q → EntriesValid es none (suc l)
+branch_gives : (es : Entries) (t : List ℕ) → Walks t es → (l at : ℕ) (k q : List ℕ) (path : List Element) (go : ℕ → Files) → NodeAt t at k (dictionary es) q → EntriesValid es none (suc l)
     → suc l ≤ max_levels → Fits t path
     → NodeGives (branch_right es) t (on_token (files_below l t) go at path (token_at t at)) go (value_start at k + length (encode (dictionary es))) (files_of_entries (elements t path ++ (k ∷ [])) es)
 unfolding branch_right nodes_right files_of_entries Valid
-branch-gives no_entries t walks l at k q path go n h m fit = bad t (files_below l t) go at path k q (n.token ∙ node-empty t (content_start at k) (value_start at k) q n.value)
-branch-gives (entry [] w es) t walks l at k q path go n h m fit = file-gives t (files_below l t) go at path k q w es n (more-levels w (suc l) max_levels m h.1) fit
-branch-gives (entry (c ∷ cs) w es) t walks l at k q path go n h m fit =
+branch_gives no_entries t walks l at k q path go n h m fit = bad t (files_below l t) go at path k q (n.token ∙ node_empty t (content_start at k) (value_start at k) q n.value)
+branch_gives (entry [] w es) t walks l at k q path go n h m fit = file_gives t (files_below l t) go at path k q w es n (more_levels w (suc l) max_levels m h.1) fit
+branch_gives (entry (c ∷ cs) w es) t walks l at k q path go n h m fit =
     let b = value_start at k in
-    let below = inside-gives t l (b + 1) (down path (content_start at k) b) c cs w es q walks (entries-there t b (entry (c ∷ cs) w es) q n.value) h m
-    (fits-down t path (content_start at k) b k fit n.key (key-size t (files_below l t) go at path k q)) in
+    let below = inside_gives t l (b + 1) (down path (content_start at k) b) c cs w es q walks (entries_there t b (entry (c ∷ cs) w es) q n.value) h m
+    (fits_down t path (content_start at k) b k fit n.key (key_size t (files_below l t) go at path k q)) in
     open_gives t (files_below l t) go at path k q (nodes_right (entry (c ∷ cs) w es)) c cs w es (files_of_entries (elements t path ++ (k ∷ [])) (entry (c ∷ cs) w es)) n
-    (rw (elements-down t path (content_start at k) b k n.key) at below)
+    (rw (elements_down t path (content_start at k) b k n.key) at below)
 
 -- one step of the walk
 from_step : (sub : ℕ → List Element → Files) (steps : ℕ) (t : List ℕ) (at : ℕ) (path : List Element)
@@ -252,23 +252,23 @@ unfolding files_from
 from_step sub steps t at path = refl
 
 -- an end
-none-gives : (t : List ℕ) → Walks t no_entries
+none_gives : (t : List ℕ) → Walks t no_entries
 unfolding nodes_right files_of_entries encode
-none-gives t l at zero r j path e h m g fit = absurd (omega arith)
-none-gives t l at (suc steps) r j path e h m g fit =
+none_gives t l at zero r j path e h m g fit = absurd (omega arith)
+none_gives t l at (suc steps) r j path e h m g fit =
     ([], from_step (files_below l t) steps t at path ∙ ap (on_token (files_below l t) (λ k. files_from (files_below l t) steps t k path) at path) (token_end t at r e), refl, unfold AllFit in tt)
 
 -- a key that is no path element
-key-wrong : (sub : ℕ → List Element → Files) (go : ℕ → Files) (t : List ℕ) (at : ℕ) (path : List Element) (k q : List ℕ) → drop at t ≡ encode_string k ++ q → element_right k ≡ false
+key_wrong : (sub : ℕ → List Element → Files) (go : ℕ → Files) (t : List ℕ) (at : ℕ) (path : List Element) (k q : List ℕ) → drop at t ≡ encode_string k ++ q → element_right k ≡ false
     → on_token sub go at path (token_at t at) ≡ wrong
-key-wrong sub go t at path k q e r =
-    let token : token_at t at ≡ BadToken = key-token t at k q e ∙ rw r refl in
+key_wrong sub go t at path k q e r =
+    let token : token_at t at ≡ BadToken = key_token t at k q e ∙ rw r refl in
     ap (on_token sub go at path) token
 
-first-wrong : (t : List ℕ) (l at steps : ℕ) (path : List Element) (k q : List ℕ) → drop at t ≡ encode_string k ++ q → element_right k ≡ false → files_from (files_below l t) steps t at path ≡ wrong
+first_wrong : (t : List ℕ) (l at steps : ℕ) (path : List Element) (k q : List ℕ) → drop at t ≡ encode_string k ++ q → element_right k ≡ false → files_from (files_below l t) steps t at path ≡ wrong
 unfolding files_from
-first-wrong t l at zero path k q e r = refl
-first-wrong t l at (suc steps) path k q e r = key-wrong (files_below l t) (λ i. files_from (files_below l t) steps t i path) t at path k q e r
+first_wrong t l at zero path k q e r = refl
+first_wrong t l at (suc steps) path k q e r = key_wrong (files_below l t) (λ i. files_from (files_below l t) steps t i path) t at path k q e r
 
 -- an entry, if its key is a path element, and those behind it
 module _ (k : List ℕ) (v : Value) (es : Entries) (t : List ℕ) (l at : ℕ) (r : List ℕ) (path : List Element) (vs : List File) where
@@ -278,7 +278,7 @@ module _ (k : List ℕ) (v : Value) (es : Entries) (t : List ℕ) (l at : ℕ) (
 
   -- the same end
   end_same : mid + length (encode_entries es) ≡ at + length (encode_entries (entry k v es))
-  end_same = omega (arith, entries-length k v es)
+  end_same = omega (arith, entries_length k v es)
 
   entry_gives : (steps : ℕ) → drop at t ≡ encode_entries (entry k v es) ++ r → length (encode_entries (entry k v es)) ≤ steps
       → (element_right k ≡ true → (go : ℕ → Files) → NodeGives (node_right v) t (on_token (files_below l t) go at path (token_at t at)) go mid vs)
@@ -286,24 +286,24 @@ module _ (k : List ℕ) (v : Value) (es : Entries) (t : List ℕ) (l at : ℕ) (
       → Gives (nodes_right es) t (files_from (files_below l t) n t mid path) (mid + length (encode_entries es)) (files_of_entries (elements t path) es))
       → Gives (element_right k && (node_right v && nodes_right es)) t (files_from (files_below l t) steps t at path) (at + length (encode_entries (entry k v es)))
       (vs ++ files_of_entries (elements t path) es)
-  entry_gives zero e g n m = absurd (omega (arith, entries-some (entry k v es)))
+  entry_gives zero e g n m = absurd (omega (arith, entries_some (entry k v es)))
   entry_gives (suc steps) e g n m = rw (from_step (files_below l t) steps t at path) (by_key (element_right k) refl)
     where
       go : ℕ → Files
       go i = files_from (files_below l t) steps t i path
 
       there : drop at t ≡ encode_string k ++ (encode v ++ (encode_entries es ++ r))
-      there = e ∙ entry-bytes k v es r
+      there = e ∙ entry_bytes k v es r
 
       behind : drop mid t ≡ encode_entries es ++ r
-      behind = after-part t (value_start at k) (encode v) (encode_entries es ++ r) (after-part t at (encode_string k) (encode v ++ (encode_entries es ++ r)) there)
+      behind = after_part t (value_start at k) (encode v) (encode_entries es ++ r) (after_part t at (encode_string k) (encode v ++ (encode_entries es ++ r)) there)
 
       rest : Gives (nodes_right es) t (go mid) (at + length (encode_entries (entry k v es))) (files_of_entries (elements t path) es)
-      rest = rw end_same at (m steps behind (omega (arith, entries-length k v es, string-some k)))
+      rest = rw end_same at (m steps behind (omega (arith, entries_length k v es, string_some k)))
 
       by_key : (o : Bool) → element_right k ≡ o
           → Gives (o && (node_right v && nodes_right es)) t (on_token (files_below l t) go at path (token_at t at)) (at + length (encode_entries (entry k v es))) (vs ++ files_of_entries (elements t path) es)
-      by_key false q = key-wrong (files_below l t) go t at path k (encode v ++ (encode_entries es ++ r)) there q
+      by_key false q = key_wrong (files_below l t) go t at path k (encode v ++ (encode_entries es ++ r)) there q
       by_key true q =
           both (node_right v) (nodes_right es) t (on_token (files_below l t) go at path (token_at t at)) go mid (at + length (encode_entries (entry k v es))) vs (files_of_entries (elements t path) es) (n q go) rest
 
@@ -311,21 +311,21 @@ mutual
   unfolding node_right branch_right nodes_right element_right files_of_node files_of_entries Valid
 
   -- a node gives what its value says
-  node-gives : (v : Value) (t : List ℕ) (l at : ℕ) (k q : List ℕ) (path : List Element) (go : ℕ → Files) → NodeAt t at k v q → Valid v (suc (suc l)) → suc (suc l) ≤ max_levels → Fits t path
+  node_gives : (v : Value) (t : List ℕ) (l at : ℕ) (k q : List ℕ) (path : List Element) (go : ℕ → Files) → NodeAt t at k v q → Valid v (suc (suc l)) → suc (suc l) ≤ max_levels → Fits t path
       → NodeGives (node_right v) t (on_token (files_below l t) go at path (token_at t at)) go (value_start at k + length (encode v)) (files_of_node (elements t path ++ (k ∷ [])) v)
-  node-gives (integer minus i) t l at k q path go n h m fit = other-gives t (files_below l t) go at path k q (integer minus i) n refl
-  node-gives (string b) t l at k q path go n h m fit = other-gives t (files_below l t) go at path k q (string b) n refl
-  node-gives (list vs) t l at k q path go n h m fit = other-gives t (files_below l t) go at path k q (list vs) n refl
-  node-gives (dictionary es) t l at k q path go n h m fit = branch-gives es t (entries-give es t) l at k q path go n h (omega arith) fit
+  node_gives (integer minus i) t l at k q path go n h m fit = other_gives t (files_below l t) go at path k q (integer minus i) n refl
+  node_gives (string b) t l at k q path go n h m fit = other_gives t (files_below l t) go at path k q (string b) n refl
+  node_gives (list vs) t l at k q path go n h m fit = other_gives t (files_below l t) go at path k q (list vs) n refl
+  node_gives (dictionary es) t l at k q path go n h m fit = branch_gives es t (entries_give es t) l at k q path go n h (omega arith) fit
 
   -- the entries of a directory, one after the other
-  entries-give : (es : Entries) (t : List ℕ) → Walks t es
-  entries-give no_entries t = none-gives t
-  entries-give (entry [] v es) t = λ l at steps r j path e h m g fit. first-wrong t l at steps path [] (encode v ++ (encode_entries es ++ r)) (e ∙ entry-bytes [] v es r) refl
-  entries-give (entry (c ∷ cs) v es) t = λ l at steps r j path e h m g fit.
+  entries_give : (es : Entries) (t : List ℕ) → Walks t es
+  entries_give no_entries t = none_gives t
+  entries_give (entry [] v es) t = λ l at steps r j path e h m g fit. first_wrong t l at steps path [] (encode v ++ (encode_entries es ++ r)) (e ∙ entry_bytes [] v es r) refl
+  entries_give (entry (c ∷ cs) v es) t = λ l at steps r j path e h m g fit.
       entry_gives (c ∷ cs) v es t l at r path (files_of_node (elements t path ++ ((c ∷ cs) ∷ [])) v) steps e g
-      (λ o go. node-gives v t l at (c ∷ cs) (encode_entries es ++ r) path go (node_at t at (c ∷ cs) v (encode_entries es ++ r) o (e ∙ entry-bytes (c ∷ cs) v es r)) h.1 m fit)
-      (λ n f k. entries-give es t l (value_start at (c ∷ cs) + length (encode v)) n r (after_key (c ∷ cs)) path f h.2 m k fit)
+      (λ o go. node_gives v t l at (c ∷ cs) (encode_entries es ++ r) path go (node_at t at (c ∷ cs) v (encode_entries es ++ r) o (e ∙ entry_bytes (c ∷ cs) v es r)) h.1 m fit)
+      (λ n f k. entries_give es t l (value_start at (c ∷ cs) + length (encode v)) n r (after_key (c ∷ cs)) path f h.2 m k fit)
 
 -- ---- the file tree
 
@@ -334,51 +334,51 @@ abbrev TreeIs : Bool → List ℕ → Files → List File → Type 0
 TreeIs false t w vs = right w ≡ false
 TreeIs true t w vs = (right w ≡ true) × (read_files t (listed w) ≡ vs) × AllFit t (listed w)
 
-tree-gives : (o : Bool) (t : List ℕ) (w : Files) (end : ℕ) (vs : List File) → Gives o t w end vs → TreeIs o t w vs
+tree_gives : (o : Bool) (t : List ℕ) (w : Files) (end : ℕ) (vs : List File) → Gives o t w end vs → TreeIs o t w vs
 unfolding right listed
-tree-gives false t w end vs g = ap right g
-tree-gives true t w end vs g = (ap right g.1, ap (λ (z : Files). read_files t (listed z)) g.1 ∙ g.2, rw g.1 g.3)
+tree_gives false t w end vs g = ap right g
+tree_gives true t w end vs g = (ap right g.1, ap (λ (z : Files). read_files t (listed z)) g.1 ∙ g.2, rw g.1 g.3)
 
 -- the walk from the top
-top-step : (t : List ℕ) → files_below max_elements t 1 [] ≡ files_from (files_below (max_elements - 1) t) (suc (length t)) t 1 []
+top_step : (t : List ℕ) → files_below max_elements t 1 [] ≡ files_from (files_below (max_elements - 1) t) (suc (length t)) t 1 []
 unfolding files_below
-top-step t = refl
+top_step t = refl
 
 tree_is : (t : List ℕ) (es : Entries) → t ≡ encode (dictionary es) → Valid (dictionary es) (max_levels - 2) → TreeIs (tree_right es) t (files_in t) (files_of_entries [] es)
 unfolding files_in tree_right Valid
 tree_is t es e h = by_first es refl (behind ∙ sym (append-nil (encode_entries es))) h
   where
     behind : drop 1 t ≡ encode_entries es
-    behind = ap (λ (x : List ℕ). drop 1 x) (e ∙ dictionary-bytes es)
+    behind = ap (λ (x : List ℕ). drop 1 x) (e ∙ dictionary_bytes es)
 
     by_first : (us : Entries) → es ≡ us → drop 1 t ≡ encode_entries us ++ [] → EntriesValid us none (max_levels - 3) → TreeIs (tree_right us) t (files_in t) (files_of_entries [] us)
     by_first no_entries q f v = rw (ap ends_here f ∙ ends_is no_entries []) (unfold right in refl)
     by_first (entry k u us) q f v =
         rw (ap ends_here f ∙ ends_is (entry k u us) [])
-        (rw (top-step t)
-        (tree-gives (nodes_right (entry k u us)) t (files_from (files_below (max_elements - 1) t) (suc (length t)) t 1 []) (1 + length (encode_entries (entry k u us))) (files_of_entries [] (entry k u us))
-        (entries-give (entry k u us) t (max_elements - 1) 1 (suc (length t)) [] none [] f v (omega arith) (steps-enough t 1 (entry k u us) [] f) (unfold Fits in tt))))
+        (rw (top_step t)
+        (tree_gives (nodes_right (entry k u us)) t (files_from (files_below (max_elements - 1) t) (suc (length t)) t 1 []) (1 + length (encode_entries (entry k u us))) (files_of_entries [] (entry k u us))
+        (entries_give (entry k u us) t (max_elements - 1) 1 (suc (length t)) [] none [] f v (omega arith) (steps_enough t 1 (entry k u us) [] f) (unfold Fits in tt))))
 
 module _ (t : List ℕ) (es : Entries) (e : t ≡ encode (dictionary es)) (h : Valid (dictionary es) (max_levels - 2)) where
   -- the tree's bytes are right exactly if the value is
-  pub tree-right : right (files_in t) ≡ tree_right es
-  tree-right = by_right (tree_right es) (tree_is t es e h)
+  pub tree_right_lem : right (files_in t) ≡ tree_right es
+  tree_right_lem = by_right (tree_right es) (tree_is t es e h)
     where
       by_right : (o : Bool) → TreeIs o t (files_in t) (files_of_entries [] es) → right (files_in t) ≡ o
       by_right true w = w.0
       by_right false w = w
 
   -- and then its files are those of the value, in the same order
-  pub tree-files : tree_right es ≡ true → read_files t (listed (files_in t)) ≡ files_of_entries [] es
-  tree-files q = by_right (tree_right es) q (tree_is t es e h)
+  pub tree_files : tree_right es ≡ true → read_files t (listed (files_in t)) ≡ files_of_entries [] es
+  tree_files q = by_right (tree_right es) q (tree_is t es e h)
     where
       by_right : (o : Bool) → o ≡ true → TreeIs o t (files_in t) (files_of_entries [] es) → read_files t (listed (files_in t)) ≡ files_of_entries [] es
       by_right true g w = w.1
       by_right false g w = absurd (false≢true g)
 
   -- and their path elements have the bytes that their positions say
-  pub tree-fits : tree_right es ≡ true → AllFit t (listed (files_in t))
-  tree-fits q = by_right (tree_right es) q (tree_is t es e h)
+  pub tree_fits : tree_right es ≡ true → AllFit t (listed (files_in t))
+  tree_fits q = by_right (tree_right es) q (tree_is t es e h)
     where
       by_right : (o : Bool) → o ≡ true → TreeIs o t (files_in t) (files_of_entries [] es) → AllFit t (listed (files_in t))
       by_right true g w = w.2

@@ -7,25 +7,25 @@ use Rattle.std.proofs.Common.{sym, ◌∙◌, inl, inr, div-add-mod', mod-lt, lt
 use mathlib.Core.List.{List}
 use native.Mathlib.Omega.{arith}
 use Rattle.tree.specs.Geometry.{ceil_div, node_number}
-use Rattle.tree.proofs.GeometryLaws.{below-ceil}
+use Rattle.tree.proofs.GeometryLaws.{below_ceil}
 use Rattle.cells.specs.Cells.{held_at}
-use Rattle.cells.specs.CellsLaws.{lt-or-ge}
+use Rattle.cells.specs.CellsLaws.{lt_or_ge}
 use Rattle.store.specs.Store.{facts_root, height_of, positions, Facts}
-use Rattle.store.specs.StoreLaws.{facts-usable}
+use Rattle.store.specs.StoreLaws.{facts_usable}
 use Rattle.header.specs.Header.{header_of}
 use Rattle.messages.specs.Take.{take_number, take_answer, take_after}
 use Rattle.asking.specs.declared.next.Request.{Request}
 use Rattle.asking.specs.Asking.{layer_asked, wanted, held_front, lowest, run_header, next_header, no_request, request_for, next_answer, run_of, next_run}
-use Rattle.asking.proofs.AskingLaws.{front-held, front-all, RunFacts, run-facts, Asked, number-says, says-number, asked_low, wanted-within, lowest-free, asked-below}
+use Rattle.asking.proofs.AskingLaws.{front_held, front_all, RunFacts, run_facts, Asked, number_says, says_number, asked_low, wanted_within, lowest_free, asked_below}
 use Rattle.words.specs.Messages.{in_run, hash_in}
 use Rattle.words.specs.History.{Steps, begin, next}
-use Rattle.knowledge.specs.Grows.{Grown, grown-same, grown-on, steps-grow, grown-take}
-use Rattle.knowledge.specs.Again.{what-is-held}
-use Rattle.knowledge.specs.HeldAfter.{settles-then-holds}
+use Rattle.knowledge.specs.Grows.{Grown, grown_same, grown_on, steps_grow, grown_take}
+use Rattle.knowledge.specs.Again.{what_is_held}
+use Rattle.knowledge.specs.HeldAfter.{settles_then_holds}
 use Rattle.words.specs.Asking.{count_below, HeaderOf, Answered, unasked, meanwhile, reply}
-use Rattle.numbers.specs.Tests.{either, not-both}
+use Rattle.numbers.specs.Tests.{either, not_both}
 use Rattle.knowledge.specs.NextRequest.{Three, refuses, nothing_asked, one_asked, three, number_is, named}
-use Rattle.knowledge.specs.Counting.{count_most, count-fewer, count_less, count-some}
+use Rattle.knowledge.specs.Counting.{count_most, count_fewer, count_less, count_some}
 
 -- ---- a layer's runs
 
@@ -44,17 +44,17 @@ along h l j i = omega arith
 abbrev Finished : List ℕ → ℕ → ℕ → Type 0
 Finished s l j = (i : ℕ) → i < run_wanted s l j → held_at s (node_number (height_of s) l (j * run_of s l + i)) ≡ true
 
-finished-is : (s : List ℕ) (l j : ℕ) → Finished s l j → unfinished s l j ≡ false
-finished-is s l j F =
-    let a = front-all s (node_number (height_of s) l (j * run_of s l)) (run_wanted s l j)
+finished_is : (s : List ℕ) (l j : ℕ) → Finished s l j → unfinished s l j ≡ false
+finished_is s l j F =
+    let a = front_all s (node_number (height_of s) l (j * run_of s l)) (run_wanted s l j)
     (λ i g. rw (along (height_of s) l (j * run_of s l) i) (F i g)) in
     le-ltb (held_front s (node_number (height_of s) l (j * run_of s l)) (run_wanted s l j)) (run_wanted s l j) (omega arith)
 
-is-finished : (s : List ℕ) (l j : ℕ) → unfinished s l j ≡ false → Finished s l j
-is-finished s l j e i g =
-    elim (lt-or-ge (held_front s (node_number (height_of s) l (j * run_of s l)) (run_wanted s l j)) (run_wanted s l j)) [
-      | inl a ↦ absurd (not-both (lt-ltb _ _ a) e)
-      | inr a ↦ rw (along (height_of s) l (j * run_of s l) i) at (front-held s (node_number (height_of s) l (j * run_of s l)) (run_wanted s l j) i (omega arith))
+is_finished : (s : List ℕ) (l j : ℕ) → unfinished s l j ≡ false → Finished s l j
+is_finished s l j e i g =
+    elim (lt_or_ge (held_front s (node_number (height_of s) l (j * run_of s l)) (run_wanted s l j)) (run_wanted s l j)) [
+      | inl a ↦ absurd (not_both (lt-ltb _ _ a) e)
+      | inr a ↦ rw (along (height_of s) l (j * run_of s l) i) at (front_held s (node_number (height_of s) l (j * run_of s l)) (run_wanted s l j) i (omega arith))
     ]
 
 -- how many runs have a wanted position at all
@@ -67,18 +67,18 @@ left s l n = count_below (unfinished s l) n
 -- ---- from a store to one that holds at least as much
 
 module _ {s t : List ℕ} (l : ℕ) (f : Facts s) (g : Grown s t) where
-  same-wanted : wanted t l ≡ wanted s l
+  same_wanted : wanted t l ≡ wanted s l
   unfolding wanted
-  same-wanted = rw g.same.blocks
+  same_wanted = rw g.same.blocks
 
   same_length : run_of t l ≡ run_of s l
   same_length = rw g.same.layers
 
   same_runs : runs t l ≡ runs s l
-  same_runs = rw (same-wanted, same_length)
+  same_runs = rw (same_wanted, same_length)
 
-  same-run-wanted : (j : ℕ) → run_wanted t l j ≡ run_wanted s l j
-  same-run-wanted j = rw (same-wanted, same_length)
+  same_run_wanted : (j : ℕ) → run_wanted t l j ≡ run_wanted s l j
+  same_run_wanted j = rw (same_wanted, same_length)
 
   pub same_asked : layer_asked t l ≡ layer_asked s l
   unfolding layer_asked
@@ -88,54 +88,54 @@ module _ {s t : List ℕ} (l : ℕ) (f : Facts s) (g : Grown s t) where
     -- a position of the layer is one of the tree's
     in_tree : (i : ℕ) → i < wanted s l → node_number (height_of s) l i < positions (height_of s)
     unfolding positions
-    in_tree i a = (Rattle.tree.proofs.GeometryLaws.node-number-range (height_of s) l i (omega (arith, wanted-within s l low))).1
+    in_tree i a = (Rattle.tree.proofs.GeometryLaws.node_number_range (height_of s) l i (omega (arith, wanted_within s l low))).1
 
-    finished-stays : (j : ℕ) → Finished s l j → Finished t l j
-    finished-stays j F i a =
-        let b : i < run_wanted s l j = rw (same-run-wanted j) at a in
+    finished_stays : (j : ℕ) → Finished s l j → Finished t l j
+    finished_stays j F i a =
+        let b : i < run_wanted s l j = rw (same_run_wanted j) at a in
         let c : j * run_of s l + i < wanted s l = omega arith in
         rw g.same.layers (g.kept (node_number (height_of s) l (j * run_of s l + i)) (in_tree _ c) (F i b)).0
 
-    unfinished-was : (j : ℕ) → unfinished t l j ≡ true → unfinished s l j ≡ true
-    unfinished-was j e =
+    unfinished_was : (j : ℕ) → unfinished t l j ≡ true → unfinished s l j ≡ true
+    unfinished_was j e =
         elim (either (unfinished s l j)) [
           | inl a ↦ a
-          | inr a ↦ absurd (not-both e (finished-is t l j (finished-stays j (is-finished s l j a))))
+          | inr a ↦ absurd (not_both e (finished_is t l j (finished_stays j (is_finished s l j a))))
         ]
 
 -- ---- the run asked for
 
 module _ (s : List ℕ) (l : ℕ) (A : Asked s l) (a : lowest s l < wanted s l) where
   R : RunFacts (height_of s) l
-  R = run-facts (height_of s) l (asked-below s l A a)
+  R = run_facts (height_of s) l (asked_below s l A a)
 
-  asked-unfinished : unfinished s l (next_run s l) ≡ true
-  asked-unfinished =
+  asked_unfinished : unfinished s l (next_run s l) ≡ true
+  asked_unfinished =
       let d = div-add-mod' (lowest s l) (run_of s l) in
       let m = mod-lt (lowest s l) {m = run_of s l} (omega (arith, R.two)) in
       elim (either (unfinished s l (next_run s l))) [
         | inl e ↦ e
         | inr e ↦
-            let w = is-finished s l (next_run s l) e (lowest s l % run_of s l) (omega arith) in
+            let w = is_finished s l (next_run s l) e (lowest s l % run_of s l) (omega arith) in
             let q : next_run s l * run_of s l + lowest s l % run_of s l ≡ lowest s l = omega arith in
-            absurd (not-both (rw q at w) (lowest-free s l a))
+            absurd (not_both (rw q at w) (lowest_free s l a))
       ]
 
-  asked-one-of : next_run s l < runs s l
-  asked-one-of =
+  asked_one_of : next_run s l < runs s l
+  asked_one_of =
       let d = div-add-mod' (lowest s l) (run_of s l) in
-      below-ceil (wanted s l) (run_of s l) (next_run s l) (omega (arith, R.two)) (omega arith)
+      below_ceil (wanted s l) (run_of s l) (next_run s l) (omega (arith, R.two)) (omega arith)
 
 -- a message that is taken makes its whole run held
-taken-run : (u m : List ℕ) → take_number u m ≡ 0 → Facts (take_after u m) → (i : ℕ) → i < (header_of m).len
+taken_run : (u m : List ℕ) → take_number u m ≡ 0 → Facts (take_after u m) → (i : ℕ) → i < (header_of m).len
     → held_at (take_after u m) (node_number (height_of (take_after u m)) (header_of m).base ((header_of m).index + i)) ≡ true
-taken-run u m z f i a =
-    (what-is-held (take_after u m) (header_of m).base ((header_of m).index + i) (hash_in m i) f
-    (settles-then-holds u m z (header_of m).base ((header_of m).index + i) (hash_in m i) (in_run i a))).1
+taken_run u m z f i a =
+    (what_is_held (take_after u m) (header_of m).base ((header_of m).index + i) (hash_in m i) f
+    (settles_then_holds u m z (header_of m).base ((header_of m).index + i) (hash_in m i) (in_run i a))).1
 
-header-base : (s : List ℕ) (l : ℕ) → ((next_header s l).base ≡ l) × ((next_header s l).index ≡ next_run s l * run_of s l) × ((next_header s l).len ≡ run_of s l)
+header_base : (s : List ℕ) (l : ℕ) → ((next_header s l).base ≡ l) × ((next_header s l).index ≡ next_run s l * run_of s l) × ((next_header s l).len ≡ run_of s l)
 unfolding next_header run_header
-header-base s l = (refl, refl, refl)
+header_base s l = (refl, refl, refl)
 
 -- ---- through a history
 
@@ -148,31 +148,31 @@ module _ (l : ℕ) (s : List ℕ) (A : Asked s l) where
   low : l ≤ height_of s
   low = asked_low s l A.facts A.layer
 
-  low-there : {t : List ℕ} → Grown s t → l ≤ height_of t
-  low-there g = rw g.same.layers low
+  low_there : {t : List ℕ} → Grown s t → l ≤ height_of t
+  low_there g = rw g.same.layers low
 
   on : {n : ℕ} {t u : List ℕ} → Far l s n t → Grown t u → Far l s n u
   on {n} {t} {u} F g =
       record {
-        grown = grown-on F.grown g;
+        grown = grown_on F.grown g;
         few =
-            let w = count-fewer (unfinished t l) (unfinished u l) (runs s l) (λ j a e. unfinished-was l F.grown.facts g (low-there F.grown) j e) in
+            let w = count_fewer (unfinished t l) (unfinished u l) (runs s l) (λ j a e. unfinished_was l F.grown.facts g (low_there F.grown) j e) in
             omega (arith, F.few);
       }
 
   far : {n : ℕ} {t : List ℕ} → Answered l s n t → Far l s n t
-  far unasked = record { grown = grown-same s A.facts; few = omega (arith, count_most (unfinished s l) (runs s l)) }
-  far (meanwhile {n} {t} {u} H x) = let F = far H in on F (steps-grow F.grown.facts (next begin x))
+  far unasked = record { grown = grown_same s A.facts; few = omega (arith, count_most (unfinished s l) (runs s l)) }
+  far (meanwhile {n} {t} {u} H x) = let F = far H in on F (steps_grow F.grown.facts (next begin x))
   far (reply {n} {t} {u} m H e x h z) =
       let F = far H in
       let N = named t l e in
-      replied F (steps-grow F.grown.facts x) N.asked N.some N.is h (unfold take_answer in z)
+      replied F (steps_grow F.grown.facts x) N.asked N.some N.is h (unfold take_answer in z)
     where
       replied : {n : ℕ} {t u m : List ℕ} → Far l s n t → Grown t u → Asked t l → lowest t l < wanted t l → next_answer t l ≡ request_for (facts_root t) (next_header t l)
           → HeaderOf (next_answer t l) m → take_number u m ≡ 0 → Far l s (suc n) (take_after u m)
       replied {n} {t} {u} {m} F g B a q h z =
-          let k = grown-on g (grown-take u m g.facts) in
-          let X = header-base t l in
+          let k = grown_on g (grown_take u m g.facts) in
+          let X = header_base t l in
           let eb : (header_of m).base ≡ l = h.base ∙ ap (λ (r : Request). r.base) q ∙ X.0 in
           let ei : (header_of m).index ≡ next_run t l * run_of t l = h.index ∙ ap (λ (r : Request). r.index) q ∙ X.1 in
           let el : (header_of m).len ≡ run_of t l = h.len ∙ ap (λ (r : Request). r.len) q ∙ X.2 in
@@ -180,20 +180,20 @@ module _ (l : ℕ) (s : List ℕ) (A : Asked s l) where
           let fin : Finished (take_after u m) l (next_run t l) =
           (λ i b.
           let c : i < (header_of m).len = omega arith in
-          let v = taken-run u m z k.facts i c in
+          let v = taken_run u m z k.facts i c in
           rw (sl, ← ei, ← eb) v) in
           let w = count_less (unfinished t l) (unfinished (take_after u m) l) (runs s l) (next_run t l)
-          (λ i b e. unfinished-was l B.facts k (low-there F.grown) i e)
-          (rw (same_runs l A.facts F.grown) at (asked-one-of t l B a))
-          (asked-unfinished t l B a)
-          (finished-is (take_after u m) l (next_run t l) fin) in
-          record { grown = grown-on F.grown k; few = omega (arith, F.few) }
+          (λ i b e. unfinished_was l B.facts k (low_there F.grown) i e)
+          (rw (same_runs l A.facts F.grown) at (asked_one_of t l B a))
+          (asked_unfinished t l B a)
+          (finished_is (take_after u m) l (next_run t l) fin) in
+          record { grown = grown_on F.grown k; few = omega (arith, F.few) }
 
 -- ---- the answer along the way
 
-asked-on : {s t : List ℕ} (l : ℕ) → Asked s l → Grown s t → Asked t l
+asked_on : {s t : List ℕ} (l : ℕ) → Asked s l → Grown s t → Asked t l
 unfolding positions
-asked-on {s} {t} l A g =
+asked_on {s} {t} l A g =
     record {
       facts = g.facts;
       layer = same_asked l A.facts g ∙ A.layer;
@@ -201,43 +201,43 @@ asked-on {s} {t} l A g =
     }
 
 -- the number stays 0: the store stays usable, the layer may be asked for, the root stays held
-pub number-stays-0 : {s t : List ℕ} (l : ℕ) → (next_answer s l).number ≡ 0 → Steps s t → (next_answer t l).number ≡ 0
-number-stays-0 {s} {t} l z h =
-    let A = number-says s l (sym (number_is s l) ∙ z) in
-    let B = asked-on l A (steps-grow A.facts h) in
-    number_is t l ∙ says-number t l (facts-usable t B.facts) B.layer B.root
+pub number_stays_0 : {s t : List ℕ} (l : ℕ) → (next_answer s l).number ≡ 0 → Steps s t → (next_answer t l).number ≡ 0
+number_stays_0 {s} {t} l z h =
+    let A = number_says s l (sym (number_is s l) ∙ z) in
+    let B = asked_on l A (steps_grow A.facts h) in
+    number_is t l ∙ says_number t l (facts_usable t B.facts) B.layer B.root
 
 -- IT ENDS: where the requests named for a layer are each answered by a message that is taken, whatever else happens between, at most
 -- ceil(wanted / length) such replies come; as long as there is something to ask, fewer have come;
-pub asking-ends : {s t : List ℕ} {n : ℕ} (l : ℕ) → (next_answer s l).number ≡ 0 → Answered l s n t
+pub asking_ends : {s t : List ℕ} {n : ℕ} (l : ℕ) → (next_answer s l).number ≡ 0 → Answered l s n t
     → (n ≤ ceil_div (wanted s l) (run_of s l)) × ((next_answer t l).asks ≡ 1 → n < ceil_div (wanted s l) (run_of s l))
-asking-ends {s} {t} {n} l z H =
-    let A = number-says s l (sym (number_is s l) ∙ z) in
+asking_ends {s} {t} {n} l z H =
+    let A = number_says s l (sym (number_is s l) ∙ z) in
     let F = far l s A H in (
       omega (arith, F.few),
       λ e.
           let N = named t l e in
           let B = N.asked in
-          let w = count-some (unfinished t l) (runs s l) (next_run t l)
-          (rw (same_runs l A.facts F.grown) at (asked-one-of t l B N.some)) (asked-unfinished t l B N.some) in
+          let w = count_some (unfinished t l) (runs s l) (next_run t l)
+          (rw (same_runs l A.facts F.grown) at (asked_one_of t l B N.some)) (asked_unfinished t l B N.some) in
           omega (arith, F.few),
     )
 
 -- and behind the last of them there is nothing to ask
-pub then-nothing : {s t : List ℕ} {n : ℕ} (l : ℕ) → (next_answer s l).number ≡ 0 → Answered l s n t → n ≡ ceil_div (wanted s l) (run_of s l)
+pub then_nothing : {s t : List ℕ} {n : ℕ} (l : ℕ) → (next_answer s l).number ≡ 0 → Answered l s n t → n ≡ ceil_div (wanted s l) (run_of s l)
     → next_answer t l ≡ no_request 0
-then-nothing {s} {t} {n} l z H e = by (three t l)
+then_nothing {s} {t} {n} l z H e = by (three t l)
   where
     A : Asked s l
-    A = number-says s l (sym (number_is s l) ∙ z)
+    A = number_says s l (sym (number_is s l) ∙ z)
 
     B : Asked t l
-    B = asked-on l A (far l s A H).grown
+    B = asked_on l A (far l s A H).grown
 
     by : Three t l → next_answer t l ≡ no_request 0
-    by (refuses ne q) = absurd (ne (says-number t l (facts-usable t B.facts) B.layer B.root))
+    by (refuses ne q) = absurd (ne (says_number t l (facts_usable t B.facts) B.layer B.root))
     by (nothing_asked C a q) = q
     by (one_asked C a q) =
-        let v = (asking-ends l z H).1 (ap (λ (r : Request). r.asks) q) in
+        let v = (asking_ends l z H).1 (ap (λ (r : Request). r.asks) q) in
         let w : ⊥ = omega arith in
         absurd w

@@ -4,9 +4,9 @@
 use Rattle.std.specs.Prelude.{◌≡◌, refl, List, [], ◌∷◌, ℕ, zero, suc, ◌+◌, ◌-◌, ◌*◌, ◌≤◌, ◌<◌, length, get_or, eqb}
 use Rattle.std.proofs.Common.{ap, sym, ◌∙◌, arith}
 use Rattle.std.proofs.Math.Decide.{dec_lt}
-use Rattle.octets.specs.OctetsLaws.{get_or-pasted-before, get_or-pasted-in, get_or-pasted-after}
+use Rattle.octets.specs.OctetsLaws.{get_or_pasted_before, get_or_pasted_in, get_or_pasted_after}
 use Rattle.cells.specs.Cells.{Room, held_at, put}
-use Rattle.cells.specs.CellsLaws.{put-room}
+use Rattle.cells.specs.CellsLaws.{put_room}
 use Rattle.cells.specs.Entries.{Entry, put_all, newly}
 use Rattle.cells.specs.EntriesLaws.{Sound, none, more}
 
@@ -20,40 +20,40 @@ put_same : (N n : ℕ) (h a b : List ℕ) → n < N → length h ≡ 32 → Same
 unfolding put
 put_same N n h a b l z c =
     record {
-      room = put-room a N n c.room l h z;
-      room' = put-room b N n c.room' l h z;
+      room = put_room a N n c.room l h z;
+      room' = put_room b N n c.room' l h z;
       same = λ i w.
           elim (dec_lt i (31 + 33 * n)) [
-            | yes x ↦ get_or-pasted-before b (31 + 33 * n) (1 ∷ h) (omega (arith, c.room')) i x ∙ c.same i w ∙ sym (get_or-pasted-before a (31 + 33 * n) (1 ∷ h) (omega (arith, c.room)) i x)
+            | yes x ↦ get_or_pasted_before b (31 + 33 * n) (1 ∷ h) (omega (arith, c.room')) i x ∙ c.same i w ∙ sym (get_or_pasted_before a (31 + 33 * n) (1 ∷ h) (omega (arith, c.room)) i x)
             | no x ↦
                 elim (dec_lt i (31 + 33 * n + 33)) [
                   | yes y ↦
                       let j : ℕ = i - (31 + 33 * n) in
                       let q : 31 + 33 * n + (i - (31 + 33 * n)) ≡ i = omega arith in
                       rw (← q)
-                      (get_or-pasted-in b (31 + 33 * n) (1 ∷ h) (omega (arith, c.room')) (i - (31 + 33 * n)) (omega arith)
-                      ∙ sym (get_or-pasted-in a (31 + 33 * n) (1 ∷ h) (omega (arith, c.room)) (i - (31 + 33 * n)) (omega arith)))
+                      (get_or_pasted_in b (31 + 33 * n) (1 ∷ h) (omega (arith, c.room')) (i - (31 + 33 * n)) (omega arith)
+                      ∙ sym (get_or_pasted_in a (31 + 33 * n) (1 ∷ h) (omega (arith, c.room)) (i - (31 + 33 * n)) (omega arith)))
                   | no y ↦
-                      get_or-pasted-after b (31 + 33 * n) (1 ∷ h) (omega (arith, c.room')) i (omega arith) ∙ c.same i w
-                      ∙ sym (get_or-pasted-after a (31 + 33 * n) (1 ∷ h) (omega (arith, c.room)) i (omega arith))
+                      get_or_pasted_after b (31 + 33 * n) (1 ∷ h) (omega (arith, c.room')) i (omega arith) ∙ c.same i w
+                      ∙ sym (get_or_pasted_after a (31 + 33 * n) (1 ∷ h) (omega (arith, c.room)) i (omega arith))
                 ]
           ];
     }
 
 -- entries written into the same cells leave the same cells
-pub put_all-same : (N : ℕ) (L : List Entry) (a b : List ℕ) → Sound N L → SameCells N a b → SameCells N (put_all a L) (put_all b L)
+pub put_all_same : (N : ℕ) (L : List Entry) (a b : List ℕ) → Sound N L → SameCells N a b → SameCells N (put_all a L) (put_all b L)
 unfolding put_all
-put_all-same N [] a b none c = c
-put_all-same N (e ∷ L) a b (more l z S) c = put_all-same N L (put a e.at e.hash) (put b e.at e.hash) S (put_same N e.at e.hash a b l z c)
+put_all_same N [] a b none c = c
+put_all_same N (e ∷ L) a b (more l z S) c = put_all_same N L (put a e.at e.hash) (put b e.at e.hash) S (put_same N e.at e.hash a b l z c)
 
-same-held : (N : ℕ) (a b : List ℕ) → SameCells N a b → (q : ℕ) → q < N → held_at b q ≡ held_at a q
+same_held : (N : ℕ) (a b : List ℕ) → SameCells N a b → (q : ℕ) → q < N → held_at b q ≡ held_at a q
 unfolding held_at
-same-held N a b c q l = ap (λ (x : ℕ). eqb x 1) (c.same (31 + 33 * q) (omega arith))
+same_held N a b c q l = ap (λ (x : ℕ). eqb x 1) (c.same (31 + 33 * q) (omega arith))
 
 -- and as many positions are newly held
-pub newly-same : (N k : ℕ) (a b a' b' : List ℕ) → k ≤ N → SameCells N a b → SameCells N a' b' → newly k b b' ≡ newly k a a'
+pub newly_same : (N k : ℕ) (a b a' b' : List ℕ) → k ≤ N → SameCells N a b → SameCells N a' b' → newly k b b' ≡ newly k a a'
 unfolding newly
-newly-same N zero a b a' b' l c d = refl
-newly-same N (suc zero) a b a' b' l c d = refl
-newly-same N (suc (suc k)) a b a' b' l c d =
-    rw (newly-same N (suc k) a b a' b' (omega arith) c d, same-held N a b c (suc k) (omega arith), same-held N a' b' d (suc k) (omega arith))
+newly_same N zero a b a' b' l c d = refl
+newly_same N (suc zero) a b a' b' l c d = refl
+newly_same N (suc (suc k)) a b a' b' l c d =
+    rw (newly_same N (suc k) a b a' b' (omega arith) c d, same_held N a b c (suc k) (omega arith), same_held N a' b' d (suc k) (omega arith))

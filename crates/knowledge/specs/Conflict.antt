@@ -9,34 +9,34 @@ use Rattle.std.proofs.Math.Logic.{inl, inr}
 use native.Mathlib.Omega.{arith}
 use Rattle.std.proofs.Math.Decide.{ℕ_discrete}
 use Rattle.octets.specs.Octets.{Octets, cut, same, zero_hash}
-use Rattle.octets.specs.OctetsLaws.{same_true, same-eq, same_false, append-octets, cut-octets, zero-octets}
+use Rattle.octets.specs.OctetsLaws.{same_true, same_eq, same_false, append_octets, cut_octets, zero_octets}
 use Rattle.numbers.specs.Numbers.{conflict}
-use Rattle.numbers.specs.Chain.{exactly-of}
+use Rattle.numbers.specs.Chain.{exactly_of}
 use Rattle.sha256.specs.Sha256.{sha256, pair_hash}
-use Rattle.sha256.specs.Sha256Laws.{pair-octets}
+use Rattle.sha256.specs.Sha256Laws.{pair_octets}
 use Rattle.tree.specs.Geometry.{block_count, height, node_number, piece_count}
 use Rattle.tree.specs.Values.{node, pad_value, leaf_of, layer_leaf}
-use Rattle.tree.proofs.ValuesLaws.{node-octets, leaf-octets, pad-octets}
+use Rattle.tree.proofs.ValuesLaws.{node_octets, leaf_octets, pad_octets}
 use Rattle.cells.specs.Cells.{held_at, hash_at}
 use Rattle.cells.specs.Entries.{Entry, agrees_at, agrees}
-use Rattle.cells.specs.EntriesLaws.{Hold, In, here, there, Has, sound-in, in-cases, no-entry, agrees-held, agrees-free}
+use Rattle.cells.specs.EntriesLaws.{Hold, In, here, there, Has, sound_in, in_cases, no_entry, agrees_held, agrees_free}
 use Rattle.store.specs.Store.{file_length, piece_length, height_of, positions, Facts}
-use Rattle.store.specs.StoreLaws.{usable-facts, positions-even}
+use Rattle.store.specs.StoreLaws.{usable_facts, positions_even}
 use Rattle.settling.specs.Subtree.{subtree, run_leaf}
-use Rattle.settling.specs.SubtreeLaws.{FamilyIn, run-leaf-octets, subtree-value, subtree-top}
+use Rattle.settling.specs.SubtreeLaws.{FamilyIn, run_leaf_octets, subtree_value, subtree_top}
 use Rattle.settling.specs.Path.{parent_value, uncle, path}
-use Rattle.settling.specs.PathLaws.{parent-even, parent-odd, path-cases}
-use Rattle.settling.specs.SettledLaws.{settled-anchor}
+use Rattle.settling.specs.PathLaws.{parent_even, parent_odd, path_cases}
+use Rattle.settling.specs.SettledLaws.{settled_anchor}
 use Rattle.header.specs.Header.{header_size, header_of, is_hashes, message_size}
 use Rattle.messages.specs.Take.{header_number, run_of, uncles_of, given, settled, anchor, worked, place_in, take_number}
 use Rattle.messages.specs.Asks.{Ready}
-use Rattle.messages.specs.TakeLaws.{passed, passes, placed, placed-ready}
+use Rattle.messages.specs.TakeLaws.{passed, passes, placed, placed_ready}
 use Rattle.pieces.specs.Pieces.{judged_at, layer_of_pieces, layer_settled, layer_number, piece_height, piece_number}
-use Rattle.pieces.proofs.PiecesLaws.{layered, run-leaves}
+use Rattle.pieces.proofs.PiecesLaws.{layered, run_leaves}
 use Rattle.words.specs.History.{Bytes}
 use Rattle.words.specs.Shown.{Source, held_by, by_message, by_layer, by_piece, of_file}
-use Rattle.knowledge.specs.Invariant.{Chained, Ours, family-pair, Whole, message-whole, layer-whole, piece-whole}
-use Rattle.knowledge.specs.NumberChains.{take_chain, take-tests, layer_chain, layer-tests, piece_chain, piece-tests}
+use Rattle.knowledge.specs.Invariant.{Chained, Ours, family_pair, Whole, message_whole, layer_whole, piece_whole}
+use Rattle.knowledge.specs.NumberChains.{take_chain, take_tests, layer_chain, layer_tests, piece_chain, piece_tests}
 
 -- ---- what is shown
 
@@ -69,8 +69,8 @@ pub record ShownAt (h : ℕ) (x y : Source) : Type 0 where
 
 -- ---- two pairs with one hash are the same or show it
 
-pub append-parts : (a b c d : List ℕ) → length a ≡ length c → a ++ b ≡ c ++ d → (a ≡ c) × (b ≡ d)
-append-parts a b c d n e = (
+pub append_parts : (a b c d : List ℕ) → length a ≡ length c → a ++ b ≡ c ++ d → (a ≡ c) × (b ≡ d)
+append_parts a b c d n e = (
   sym (take_at a b (length a) refl) ∙ ap (take (length a)) e ∙ take_at c d (length a) (sym n),
   sym (drop_at a b (length a) refl) ∙ ap (drop (length a)) e ∙ drop_at c d (length a) (sym n),
 )
@@ -93,28 +93,28 @@ module _ (h : ℕ) (x y : Source) (p : ℕ) (low : 1 ≤ p) (high : 2 * p + 1 < 
         right = gr;
         left' = gl2;
         right' = gr2;
-        bytes = append-octets ol or;
-        bytes' = append-octets ol2 or2;
+        bytes = append_octets ol or;
+        bytes' = append_octets ol2 or2;
         differ = d;
         alike = e;
       }
 
   -- two pairs of children of p with one hash are the same, or show it
-  pub same-or-shown : ShownAt h x y ⊎ ((l ≡ l2) × (r ≡ r2))
-  same-or-shown = by (same l l2) (same r r2) refl refl
+  pub same_or_shown : ShownAt h x y ⊎ ((l ≡ l2) × (r ≡ r2))
+  same_or_shown = by (same l l2) (same r r2) refl refl
     where
       n : length l ≡ length l2
       n = ol.size ∙ sym ol2.size
 
       by : (a b : Bool) → same l l2 ≡ a → same r r2 ≡ b → ShownAt h x y ⊎ ((l ≡ l2) × (r ≡ r2))
-      by false b p q = inl (shows (λ z. same_false l l2 p (append-parts l r l2 r2 n z).0))
-      by true false p q = inl (shows (λ z. same_false r r2 q (append-parts l r l2 r2 n z).1))
+      by false b p q = inl (shows (λ z. same_false l l2 p (append_parts l r l2 r2 n z).0))
+      by true false p q = inl (shows (λ z. same_false r r2 q (append_parts l r l2 r2 n z).1))
       by true true p q = inr (same_true l l2 p, same_true r r2 q)
 
 -- a store's hashes are strings of 32 bytes
-pub hash-octets : (s : List ℕ) (n : ℕ) → Facts s → Bytes s → n < positions (height_of s) → Octets 32 (hash_at s n)
+pub hash_octets : (s : List ℕ) (n : ℕ) → Facts s → Bytes s → n < positions (height_of s) → Octets 32 (hash_at s n)
 unfolding hash_at
-hash-octets s n f b l = cut-octets (32 + 33 * n) 32 b (omega (arith, f.room))
+hash_octets s n f b l = cut_octets (32 + 33 * n) 32 b (omega (arith, f.room))
 
 -- ---- a list against a store
 
@@ -129,22 +129,22 @@ module _ (s : List ℕ) (y : Source) (L : List Entry) (a : ℕ) (v : List ℕ) (
       let q = e.at in
       let p = e.at / 2 in
       let low : 1 ≤ e.at / 2 = w.from _ F.parent in
-      let b = (sound-in L w.sound i).0 in
-      let high : 2 * (e.at / 2) + 1 < positions (height_of s) = omega (arith, positions-even (height_of s)) in
-      let P = family-pair s e.at h (c.family e.at (omega arith) b h) in
-      let k = same_true (hash_at s (e.at / 2)) (pair_hash F.l F.r) (sym (agrees-held s (e.at / 2) (pair_hash F.l F.r) P.top) ∙ ok) in
-      elim (same-or-shown (height_of s) (held_by s) y p low high (hash_at s (2 * p)) (hash_at s (2 * p + 1)) F.l F.r
+      let b = (sound_in L w.sound i).0 in
+      let high : 2 * (e.at / 2) + 1 < positions (height_of s) = omega (arith, positions_even (height_of s)) in
+      let P = family_pair s e.at h (c.family e.at (omega arith) b h) in
+      let k = same_true (hash_at s (e.at / 2)) (pair_hash F.l F.r) (sym (agrees_held s (e.at / 2) (pair_hash F.l F.r) P.top) ∙ ok) in
+      elim (same_or_shown (height_of s) (held_by s) y p low high (hash_at s (2 * p)) (hash_at s (2 * p + 1)) F.l F.r
       (P.left, refl) (P.right, refl) (gives _ _ F.left) (gives _ _ F.right)
-      (hash-octets s (2 * p) c.facts bytes (omega arith)) (hash-octets s (2 * p + 1) c.facts bytes high)
+      (hash_octets s (2 * p) c.facts bytes (omega arith)) (hash_octets s (2 * p + 1) c.facts bytes high)
       (octets _ F.left) (octets _ F.right) (sym P.made ∙ k)) [
         | inl x ↦ inl x
         | inr o ↦ elim (ℕ_discrete (e.at % 2) 0) [
           | yes z ↦
               let n : e.at ≡ 2 * (e.at / 2) = omega arith in
-              inr (agrees-held s e.at e.hash h ∙ same-eq (hash_at s e.at) e.hash (ap (hash_at s) n ∙ o.0 ∙ sym (w.alone e _ i F.left n)))
+              inr (agrees_held s e.at e.hash h ∙ same_eq (hash_at s e.at) e.hash (ap (hash_at s) n ∙ o.0 ∙ sym (w.alone e _ i F.left n)))
           | no z ↦
               let n : e.at ≡ 2 * (e.at / 2) + 1 = omega arith in
-              inr (agrees-held s e.at e.hash h ∙ same-eq (hash_at s e.at) e.hash (ap (hash_at s) n ∙ o.1 ∙ sym (w.alone e _ i F.right n)))
+              inr (agrees_held s e.at e.hash h ∙ same_eq (hash_at s e.at) e.hash (ap (hash_at s) n ∙ o.1 ∙ sym (w.alone e _ i F.right n)))
         ]
       ]
 
@@ -154,13 +154,13 @@ module _ (s : List ℕ) (y : Source) (L : List Entry) (a : ℕ) (v : List ℕ) (
       elim (w.family e i) [
         | inl t ↦
             let k : held_at s e.at ≡ true = rw t held in
-            inr (agrees-held s e.at e.hash k ∙ same-eq (hash_at s e.at) e.hash (ap (hash_at s) t ∙ agree ∙ sym (w.alone e _ i top t)))
+            inr (agrees_held s e.at e.hash k ∙ same_eq (hash_at s e.at) e.hash (ap (hash_at s) t ∙ agree ∙ sym (w.alone e _ i top t)))
         | inr F ↦ by F (held_at s e.at) refl (each d (record { at = e.at / 2; hash = pair_hash F.l F.r }) F.parent (omega (arith, w.from e i)))
       ]
     where
       by : (F : FamilyIn L e.at) (b : Bool) → held_at s e.at ≡ b → ShownAt (height_of s) (held_by s) y ⊎ (agrees_at s (e.at / 2) (pair_hash F.l F.r) ≡ true)
           → ShownAt (height_of s) (held_by s) y ⊎ (agrees_at s e.at e.hash ≡ true)
-      by F false h o = inr (agrees-free s e.at e.hash h)
+      by F false h o = inr (agrees_free s e.at e.hash h)
       by F true h (inl x) = inl x
       by F true h (inr ok) = child e i h F ok
 
@@ -174,63 +174,63 @@ module _ (s : List ℕ) (y : Source) (L : List Entry) (a : ℕ) (v : List ℕ) (
       ]
 
   -- where the anchor agrees, all does, or a pair is shown
-  pub agrees-or-shown : ShownAt (height_of s) (held_by s) y ⊎ (agrees s L ≡ true)
-  agrees-or-shown = all L (λ e i. i)
+  pub agrees_or_shown : ShownAt (height_of s) (held_by s) y ⊎ (agrees s L ≡ true)
+  agrees_or_shown = all L (λ e i. i)
 
 -- ---- what is given and worked out are strings of bytes
 
 -- a subtree over leaves of 32 bytes
-pub subtree-octets : (leaf : ℕ → List ℕ) → ((i : ℕ) → Octets 32 (leaf i)) → (k n j : ℕ) (e : Entry) → In e (subtree leaf k n j) → Octets 32 e.hash
-subtree-octets leaf f k n j e i =
-    let P = subtree-value leaf k n j e i in
-    rw P.value (node-octets leaf f (k - P.layers) (j * 2 ^ P.layers + P.offset))
+pub subtree_octets : (leaf : ℕ → List ℕ) → ((i : ℕ) → Octets 32 (leaf i)) → (k n j : ℕ) (e : Entry) → In e (subtree leaf k n j) → Octets 32 e.hash
+subtree_octets leaf f k n j e i =
+    let P = subtree_value leaf k n j e i in
+    rw P.value (node_octets leaf f (k - P.layers) (j * 2 ^ P.layers + P.offset))
 
-parent-octets : (n : ℕ) (v w : List ℕ) → Octets 32 (parent_value n v w)
-parent-octets n v w =
+parent_octets : (n : ℕ) (v w : List ℕ) → Octets 32 (parent_value n v w)
+parent_octets n v w =
     elim (ℕ_discrete (n % 2) 0) [
-      | yes z ↦ rw (parent-even n v w z) (pair-octets v w)
-      | no z ↦ rw (parent-odd n v w z) (pair-octets w v)
+      | yes z ↦ rw (parent_even n v w z) (pair_octets v w)
+      | no z ↦ rw (parent_odd n v w z) (pair_octets w v)
     ]
 
-path-octets : (hashes : List ℕ) (i u n : ℕ) (v : List ℕ) → Bytes hashes → 32 * (i + u) ≤ length hashes → (e : Entry) → In e (path hashes i u n v) → Octets 32 e.hash
+path_octets : (hashes : List ℕ) (i u n : ℕ) (v : List ℕ) → Bytes hashes → 32 * (i + u) ≤ length hashes → (e : Entry) → In e (path hashes i u n v) → Octets 32 e.hash
 unfolding path uncle
-path-octets hashes i zero n v b l e k = absurd (no-entry k)
-path-octets hashes i (suc u) n v b l e k =
-    elim (path-cases hashes i u n v e k) [
-      | inl a ↦ rw a.1 (cut-octets (32 * i) 32 b (omega arith))
+path_octets hashes i zero n v b l e k = absurd (no_entry k)
+path_octets hashes i (suc u) n v b l e k =
+    elim (path_cases hashes i u n v e k) [
+      | inl a ↦ rw a.1 (cut_octets (32 * i) 32 b (omega arith))
       | inr r ↦ elim r [
-        | inl a ↦ rw a.1 (parent-octets n v (uncle hashes i))
-        | inr z ↦ path-octets hashes (i + 1) u (n / 2) (parent_value n v (uncle hashes i)) b (omega arith) e z
+        | inl a ↦ rw a.1 (parent_octets n v (uncle hashes i))
+        | inr z ↦ path_octets hashes (i + 1) u (n / 2) (parent_value n v (uncle hashes i)) b (omega arith) e z
       ]
     ]
 
 -- a string of stated length is a string of bytes
-pub sized-bytes : (n : ℕ) (l : List ℕ) → Octets n l → Bytes l
-sized-bytes n l o = rw o.size o
+pub sized_bytes : (n : ℕ) (l : List ℕ) → Octets n l → Bytes l
+sized_bytes n l o = rw o.size o
 
 -- what a message settles
-pub message-octets : (s m : List ℕ) → Bytes m → Ready (length s) (length m) (height_of s) (header_of m) (place_in s m)
+pub message_octets : (s m : List ℕ) → Bytes m → Ready (length s) (length m) (height_of s) (header_of m) (place_in s m)
     → (e : Entry) → In e (settled m (place_in s m)) → Octets 32 e.hash
 unfolding settled given run_of uncles_of
-message-octets s m b r e i =
+message_octets s m b r e i =
     let p = place_in s m in
     let c = r.carried in
     let run = cut m header_size (32 * 2 ^ p.k) in
     let us = cut m (header_size + 32 * 2 ^ p.k) (32 * p.u) in
-    let ro : Octets (32 * 2 ^ p.k) run = cut-octets header_size (32 * 2 ^ p.k) b (omega (arith, c.carries, c.power)) in
-    let uo : Octets (32 * p.u) us = cut-octets (header_size + 32 * 2 ^ p.k) (32 * p.u) b (omega (arith, c.carries, c.power)) in
+    let ro : Octets (32 * 2 ^ p.k) run = cut_octets header_size (32 * 2 ^ p.k) b (omega (arith, c.carries, c.power)) in
+    let uo : Octets (32 * p.u) us = cut_octets (header_size + 32 * 2 ^ p.k) (32 * p.u) b (omega (arith, c.carries, c.power)) in
     let leaf = run_leaf run zero_hash in
-    elim (in-cases (subtree leaf p.k p.top 0) (path us 0 p.u p.top (node leaf p.k 0)) i) [
-      | inl x ↦ subtree-octets leaf (run-leaf-octets run zero_hash (sized-bytes (32 * 2 ^ p.k) run ro) zero-octets) p.k p.top 0 e x
-      | inr x ↦ path-octets us 0 p.u p.top (node leaf p.k 0) (sized-bytes (32 * p.u) us uo) (omega (arith, uo.size)) e x
+    elim (in_cases (subtree leaf p.k p.top 0) (path us 0 p.u p.top (node leaf p.k 0)) i) [
+      | inl x ↦ subtree_octets leaf (run_leaf_octets run zero_hash (sized_bytes (32 * 2 ^ p.k) run ro) zero_octets) p.k p.top 0 e x
+      | inr x ↦ path_octets us 0 p.u p.top (node leaf p.k 0) (sized_bytes (32 * p.u) us uo) (omega (arith, uo.size)) e x
     ]
 
 -- what a layer settles
-pub layer-gives-octets : (s layer : List ℕ) → Bytes layer → (e : Entry) → In e (layer_settled s layer) → Octets 32 e.hash
+pub layer_gives_octets : (s layer : List ℕ) → Bytes layer → (e : Entry) → In e (layer_settled s layer) → Octets 32 e.hash
 unfolding layer_settled
-layer-gives-octets s layer b e i =
+layer_gives_octets s layer b e i =
     let p = layer_of_pieces s in
-    subtree-octets (layer_leaf layer (layer_of_pieces s)) (λ j. rw (← run-leaves layer (layer_of_pieces s)) (run-leaf-octets layer (pad_value (layer_of_pieces s)) b (pad-octets (layer_of_pieces s)) j))
+    subtree_octets (layer_leaf layer (layer_of_pieces s)) (λ j. rw (← run_leaves layer (layer_of_pieces s)) (run_leaf_octets layer (pad_value (layer_of_pieces s)) b (pad_octets (layer_of_pieces s)) j))
     (height_of s - layer_of_pieces s) 1 0 e i
 
 -- ---- what 8 says
@@ -244,9 +244,9 @@ pub record Conflicts (s m : List ℕ) : Type 0 where
   pub differs : agrees s (settled m (place_in s m)) ≡ false
 
 -- so is every message that gets 8
-pub take-conflicts : (s m : List ℕ) → take_number s m ≡ conflict → Conflicts s m
-take-conflicts s m e =
-    let t = (exactly-of (take_chain s m) conflict (take-tests s m) refl).0 e in
+pub take_conflicts : (s m : List ℕ) → take_number s m ≡ conflict → Conflicts s m
+take_conflicts s m e =
+    let t = (exactly_of (take_chain s m) conflict (take_tests s m) refl).0 e in
     let body = t.1.1.1.1 in
     let judged = body.1.1 in
     record {
@@ -258,65 +258,65 @@ take-conflicts s m e =
     }
 
 -- a message that passes 9, 1, 2, 3 and 4 lies in the store's tree
-pub well-ready : (s m : List ℕ) → header_number (is_hashes m) s m ≡ 0 → length m ≡ message_size (header_of m)
+pub well_ready : (s m : List ℕ) → header_number (is_hashes m) s m ≡ 0 → length m ≡ message_size (header_of m)
     → Ready (length s) (length m) (height_of s) (header_of m) (place_in s m)
-well-ready s m h e =
+well_ready s m h e =
     let P = passed (is_hashes m) s m h in
     let q = placed (is_hashes m) s m P in
-    placed-ready (length s) (length m) q (usable-facts s P.store).room (omega (arith, q.size))
+    placed_ready (length s) (length m) q (usable_facts s P.store).room (omega (arith, q.size))
 
 -- a message settles its anchor with the value worked out
-pub anchor-has : (m : List ℕ) (s : List ℕ) → Has (anchor (place_in s m)) (worked m (place_in s m)) (settled m (place_in s m))
+pub anchor_has : (m : List ℕ) (s : List ℕ) → Has (anchor (place_in s m)) (worked m (place_in s m)) (settled m (place_in s m))
 unfolding anchor worked settled
-anchor-has m s =
+anchor_has m s =
     let p = place_in s m in
-    settled-anchor (given m p.k) (uncles_of m (2 ^ p.k) p.u) p.k p.top 0 0 p.u
+    settled_anchor (given m p.k) (uncles_of m (2 ^ p.k) p.u) p.k p.top 0 0 p.u
 
 -- where a well-formed message's anchor is held with the value that its hashes chain to, no held hash differs, or a pair is shown
-pub message-or-shown : (s m : List ℕ) → Chained s → Bytes s → Bytes m → header_number (is_hashes m) s m ≡ 0 → length m ≡ message_size (header_of m)
+pub message_or_shown : (s m : List ℕ) → Chained s → Bytes s → Bytes m → header_number (is_hashes m) s m ≡ 0 → length m ≡ message_size (header_of m)
     → held_at s (anchor (place_in s m)) ≡ true → hash_at s (anchor (place_in s m)) ≡ worked m (place_in s m)
     → ShownAt (height_of s) (held_by s) (by_message s m) ⊎ (agrees s (settled m (place_in s m)) ≡ true)
 unfolding GivesAt
-message-or-shown s m c bs bm h e k v =
-    let r = well-ready s m h e in
-    agrees-or-shown s (by_message s m) (settled m (place_in s m)) (anchor (place_in s m)) (worked m (place_in s m)) c bs (message-whole s m r) (λ n u x. x)
-    (message-octets s m bm r) (anchor-has m s) k v
+message_or_shown s m c bs bm h e k v =
+    let r = well_ready s m h e in
+    agrees_or_shown s (by_message s m) (settled m (place_in s m)) (anchor (place_in s m)) (worked m (place_in s m)) c bs (message_whole s m r) (λ n u x. x)
+    (message_octets s m bm r) (anchor_has m s) k v
 
-not-both : {A : Type 0} (b : Bool) → b ≡ false → A ⊎ (b ≡ true) → A
-not-both b f (inl x) = x
-not-both b f (inr t) = absurd (false≢true (sym f ∙ t))
+not_both : {A : Type 0} (b : Bool) → b ≡ false → A ⊎ (b ≡ true) → A
+not_both b f (inl x) = x
+not_both b f (inr t) = absurd (false≢true (sym f ∙ t))
 
 -- CONFLICT SHOWS A PAIR: a message
-pub conflict-shows : (s m : List ℕ) → Ours s → Bytes s → Bytes m → take_number s m ≡ conflict → ShownAt (height_of s) (held_by s) (by_message s m)
-conflict-shows s m o bs bm e =
-    let q = take-conflicts s m e in
-    not-both (agrees s (settled m (place_in s m))) q.differs (message-or-shown s m o.chained bs bm q.header q.size q.held q.chains)
+pub conflict_shows : (s m : List ℕ) → Ours s → Bytes s → Bytes m → take_number s m ≡ conflict → ShownAt (height_of s) (held_by s) (by_message s m)
+conflict_shows s m o bs bm e =
+    let q = take_conflicts s m e in
+    not_both (agrees s (settled m (place_in s m))) q.differs (message_or_shown s m o.chained bs bm q.header q.size q.held q.chains)
 
 -- a layer
-pub layer-conflict-shows : (s layer : List ℕ) → Ours s → Bytes s → Bytes layer → layer_number s layer ≡ conflict → ShownAt (height_of s) (held_by s) (by_layer s layer)
+pub layer_conflict_shows : (s layer : List ℕ) → Ours s → Bytes s → Bytes layer → layer_number s layer ≡ conflict → ShownAt (height_of s) (held_by s) (by_layer s layer)
 unfolding layer_number judged_at GivesAt layer_settled
-layer-conflict-shows s layer o bs bl e =
+layer_conflict_shows s layer o bs bl e =
     let leaf = layer_leaf layer (layer_of_pieces s) in
     let k = height_of s - layer_of_pieces s in
-    let t = (exactly-of (layer_chain s layer) conflict (layer-tests s layer) refl).0 e in
+    let t = (exactly_of (layer_chain s layer) conflict (layer_tests s layer) refl).0 e in
     let j = t.1.1.1 in
-    not-both (agrees s (subtree leaf k 1 0)) j.1.1
-    (agrees-or-shown s (by_layer s layer) (subtree leaf k 1 0) 1 (node leaf k 0) o.chained bs
-    (layer-whole s layer (layered s (usable-facts s t.0) t.1.0)) (λ n u x. x) (layer-gives-octets s layer bl)
-    (subtree-top leaf k 1 0) j.0 (same_true (hash_at s 1) (node leaf k 0) j.1.0))
+    not_both (agrees s (subtree leaf k 1 0)) j.1.1
+    (agrees_or_shown s (by_layer s layer) (subtree leaf k 1 0) 1 (node leaf k 0) o.chained bs
+    (layer_whole s layer (layered s (usable_facts s t.0) t.1.0)) (λ n u x. x) (layer_gives_octets s layer bl)
+    (subtree_top leaf k 1 0) j.0 (same_true (hash_at s 1) (node leaf k 0) j.1.0))
 
 -- a piece
-pub piece-conflict-shows : (s : List ℕ) (i : ℕ) (piece : List ℕ) → Ours s → Bytes s → piece_number s i piece ≡ conflict
+pub piece_conflict_shows : (s : List ℕ) (i : ℕ) (piece : List ℕ) → Ours s → Bytes s → piece_number s i piece ≡ conflict
     → ShownAt (height_of s) (held_by s) (by_piece s i piece)
 unfolding piece_number judged_at GivesAt
-piece-conflict-shows s i piece o bs e =
+piece_conflict_shows s i piece o bs e =
     let leaf = leaf_of piece in
     let k = piece_height s in
     let n = node_number (height_of s) (piece_height s) i in
-    let t = (exactly-of (piece_chain s i piece) conflict (piece-tests s i piece) refl).0 e in
+    let t = (exactly_of (piece_chain s i piece) conflict (piece_tests s i piece) refl).0 e in
     let j = t.1.1.1 in
-    not-both (agrees s (subtree leaf k n 0)) j.1.1
-    (agrees-or-shown s (by_piece s i piece) (subtree leaf k n 0) n (node leaf k 0) o.chained bs
-    (piece-whole s i piece (Rattle.pieces.proofs.PiecesLaws.piece-in s (usable-facts s t.0) i (ltb-true i (piece_count (file_length s) (piece_length s)) t.1.0))) (λ m u x. x)
-    (subtree-octets leaf (leaf-octets piece) k n 0)
-    (subtree-top leaf k n 0) j.0 (same_true (hash_at s n) (node leaf k 0) j.1.0))
+    not_both (agrees s (subtree leaf k n 0)) j.1.1
+    (agrees_or_shown s (by_piece s i piece) (subtree leaf k n 0) n (node leaf k 0) o.chained bs
+    (piece_whole s i piece (Rattle.pieces.proofs.PiecesLaws.piece_in_lem s (usable_facts s t.0) i (ltb-true i (piece_count (file_length s) (piece_length s)) t.1.0))) (λ m u x. x)
+    (subtree_octets leaf (leaf_octets piece) k n 0)
+    (subtree_top leaf k n 0) j.0 (same_true (hash_at s n) (node leaf k 0) j.1.0))

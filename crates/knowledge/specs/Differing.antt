@@ -8,20 +8,20 @@ use Rattle.octets.specs.OctetsLaws.{same_true, same_false}
 use Rattle.tree.specs.Geometry.{node_number}
 use Rattle.cells.specs.Cells.{held_at, hash_at}
 use Rattle.cells.specs.Entries.{Entry, agrees_at, agrees}
-use Rattle.cells.specs.EntriesLaws.{In, here, there, no-entry, agrees-held, agrees-free, agrees-in, in-agrees}
+use Rattle.cells.specs.EntriesLaws.{In, here, there, no_entry, agrees_held, agrees_free, agrees_in, in_agrees}
 use Rattle.store.specs.Store.{height_of, Facts}
 use Rattle.saved.specs.Clauses.{Hashes}
 use Rattle.words.specs.Held.{Holds, NoneDiffers, OneDiffers}
-use Rattle.knowledge.specs.Again.{what-is-held}
+use Rattle.knowledge.specs.Again.{what_is_held}
 use Rattle.knowledge.specs.ReadBack.{holds_at}
 use Rattle.knowledge.specs.Over.{Entered, Found}
-use Rattle.numbers.specs.Tests.{either, not-both}
+use Rattle.numbers.specs.Tests.{either, not_both}
 
 -- ---- the test
 
 -- each entry of a list is right, or there is one wrong
 pub each_or : (L : List Entry) (A : Entry → Type 0) (B : Type 0) → ((e : Entry) → In e L → A e ⊎ B) → ((e : Entry) → In e L → A e) ⊎ B
-each_or [] A B f = inl (λ e x. absurd (no-entry x))
+each_or [] A B f = inl (λ e x. absurd (no_entry x))
 each_or (g ∷ L) A B f =
     elim (f g here) [
       | inr b ↦ inr b
@@ -39,40 +39,40 @@ each_or (g ∷ L) A B f =
 module _ (s : List ℕ) (facts : Facts s) (R : Hashes) (L : List Entry) (to : (l i : ℕ) (v : List ℕ) → R l i v → Entered (height_of s) L l i v)
     (from : (e : Entry) → In e L → Found (height_of s) R e.at e.hash) where
   -- the test passed says that no held hash differs
-  pub none-differs : agrees s L ≡ true → NoneDiffers s R
-  none-differs a l i v w x h =
+  pub none_differs : agrees s L ≡ true → NoneDiffers s R
+  none_differs a l i v w x h =
       let E = to l i v x in
-      let k = what-is-held s l i w facts h in
-      let o = agrees-in s L a (record { at = node_number (height_of s) l i; hash = v }) E.has in
-      sym k.2 ∙ same_true (hash_at s (node_number (height_of s) l i)) v (sym (agrees-held s (node_number (height_of s) l i) v k.1) ∙ o)
+      let k = what_is_held s l i w facts h in
+      let o = agrees_in s L a (record { at = node_number (height_of s) l i; hash = v }) E.has in
+      sym k.2 ∙ same_true (hash_at s (node_number (height_of s) l i)) v (sym (agrees_held s (node_number (height_of s) l i) v k.1) ∙ o)
 
-  held-entry : (e : Entry) → (S : Found (height_of s) R e.at e.hash) → held_at s e.at ≡ true → Holds s S.l S.i (hash_at s e.at)
-  held-entry e S h = let n = S.number in rw n (holds_at s S.l S.i facts S.low S.inside (rw n at h))
+  held_entry : (e : Entry) → (S : Found (height_of s) R e.at e.hash) → held_at s e.at ≡ true → Holds s S.l S.i (hash_at s e.at)
+  held_entry e S h = let n = S.number in rw n (holds_at s S.l S.i facts S.low S.inside (rw n at h))
 
-  agrees-or : (e : Entry) → In e L → (agrees_at s e.at e.hash ≡ true) ⊎ OneDiffers s R
-  agrees-or e x =
+  agrees_or : (e : Entry) → In e L → (agrees_at s e.at e.hash ≡ true) ⊎ OneDiffers s R
+  agrees_or e x =
       let S = from e x in
       elim (either (held_at s e.at)) [
-        | inr f ↦ inl (agrees-free s e.at e.hash f)
+        | inr f ↦ inl (agrees_free s e.at e.hash f)
         | inl h ↦ elim (either (same (hash_at s e.at) e.hash)) [
-          | inl t ↦ inl (agrees-held s e.at e.hash h ∙ t)
-          | inr f ↦ inr (record { l = S.l; i = S.i; v = e.hash; w = hash_at s e.at; settles = S.settles; held = held-entry e S h; other = same_false (hash_at s e.at) e.hash f })
+          | inl t ↦ inl (agrees_held s e.at e.hash h ∙ t)
+          | inr f ↦ inr (record { l = S.l; i = S.i; v = e.hash; w = hash_at s e.at; settles = S.settles; held = held_entry e S h; other = same_false (hash_at s e.at) e.hash f })
         ]
       ]
 
   -- the test failed shows one that does
-  pub one-differs : agrees s L ≡ false → OneDiffers s R
-  one-differs f =
-      elim (each_or L (λ e. agrees_at s e.at e.hash ≡ true) (OneDiffers s R) agrees-or) [
-        | inl k ↦ absurd (not-both (in-agrees s L k) f)
+  pub one_differs : agrees s L ≡ false → OneDiffers s R
+  one_differs f =
+      elim (each_or L (λ e. agrees_at s e.at e.hash ≡ true) (OneDiffers s R) agrees_or) [
+        | inl k ↦ absurd (not_both (in_agrees s L k) f)
         | inr w ↦ w
       ]
 
   -- and where one does, the test fails
-  pub differs-one : OneDiffers s R → agrees s L ≡ false
-  differs-one d =
+  pub differs_one : OneDiffers s R → agrees s L ≡ false
+  differs_one d =
       elim (either (agrees s L)) [
-        | inl t ↦ absurd (d.other (none-differs t d.l d.i d.v d.w d.settles d.held))
+        | inl t ↦ absurd (d.other (none_differs t d.l d.i d.v d.w d.settles d.held))
         | inr f ↦ f
       ]
 
@@ -81,5 +81,5 @@ module _ (s : List ℕ) (facts : Facts s) (R : Hashes) (L : List Entry) (to : (l
   differs_none n =
       elim (either (agrees s L)) [
         | inl t ↦ t
-        | inr f ↦ let d = one-differs f in absurd (d.other (n d.l d.i d.v d.w d.settles d.held))
+        | inr f ↦ let d = one_differs f in absurd (d.other (n d.l d.i d.v d.w d.settles d.held))
       ]

@@ -6,55 +6,55 @@ use Rattle.std.proofs.Common.{sym, ◌∙◌, inl, inr, arith, eq-eqb, eqb-true,
 use Rattle.std.proofs.Math.Bool.{and-eq-true_iff}
 use Rattle.std.proofs.lemmas.Bool.{false≢true, lt-leb}
 use Rattle.numbers.specs.Numbers.{unusable, facts_out_of_range, not_saved}
-use Rattle.numbers.specs.Chain.{decided, exactly-of}
-use Rattle.numbers.specs.Tests.{says-not}
-use Rattle.tree.proofs.GeometryLaws.{block-count-some}
+use Rattle.numbers.specs.Chain.{decided, exactly_of}
+use Rattle.numbers.specs.Tests.{says_not}
+use Rattle.tree.proofs.GeometryLaws.{block_count_some}
 use Rattle.store.specs.Store.{usable, file_length, piece_length, facts_root, facts_in_range, store_size}
-use Rattle.store.specs.StoreLaws.{range-says, facts-usable, opened-forgets}
+use Rattle.store.specs.StoreLaws.{range_says, facts_usable, opened_forgets}
 use Rattle.saved.specs.Form.{length_in, piece_length_in, root_in, blocks_in, height_in, opens, formed}
 use Rattle.saved.specs.Clauses.{Kept}
 use Rattle.saved.specs.Saved.{root_right, sound, loaded, rooted, repaired, load_answer, load_after, repair_answer, repair_after}
-use Rattle.saved.proofs.SoundExactly.{root-exactly}
-use Rattle.saved.proofs.PrefixLaws.{form-says}
-use Rattle.saved.proofs.Promises.{accepted-exactly-when}
-use Rattle.saved.proofs.RoundTrip.{loaded-facts, loaded-file, loaded-root, loaded-piece}
-use Rattle.saved.proofs.RepairedLaws.{repaired-facts, repaired-file, repaired-root, repaired-piece}
+use Rattle.saved.proofs.SoundExactly.{root_exactly}
+use Rattle.saved.proofs.PrefixLaws.{form_says}
+use Rattle.saved.proofs.Promises.{accepted_exactly_when}
+use Rattle.saved.proofs.RoundTrip.{loaded_facts, loaded_file, loaded_root, loaded_piece}
+use Rattle.saved.proofs.RepairedLaws.{repaired_facts, repaired_file, repaired_root, repaired_piece}
 use Rattle.words.specs.Held.{Holds}
 use Rattle.words.specs.Answers.{InRange}
 use Rattle.words.specs.Saving.{WholeOpening, Ready, NamedBy, Loadable, Repairable}
-use Rattle.knowledge.specs.NumberChains.{saved_chain, load-tests, repair-tests}
-use Rattle.knowledge.specs.RootAlone.{range-exactly}
-use Rattle.knowledge.specs.SavedWhen.{load-0, repair-0}
-use Rattle.knowledge.specs.Restored.{holds-exactly, held_in, named_in, kept_in, in_kept}
+use Rattle.knowledge.specs.NumberChains.{saved_chain, load_tests, repair_tests}
+use Rattle.knowledge.specs.RootAlone.{range_exactly}
+use Rattle.knowledge.specs.SavedWhen.{load_0, repair_0}
+use Rattle.knowledge.specs.Restored.{holds_exactly, held_in, named_in, kept_in, in_kept}
 
 -- ---- what the tests say
 
-pub opens-exactly : (b : List ℕ) → (opens b ≡ true) ↔ WholeOpening b
+pub opens_exactly : (b : List ℕ) → (opens b ≡ true) ↔ WholeOpening b
 unfolding opens
-opens-exactly b = (
+opens_exactly b = (
   λ t.
       let w = (and-eq-true_iff (leb 45 (length b)) (eqb (get_or b 0 0) 1)).0 t in
       record { long = leb-true 45 (length b) w.0; kind = eqb-true (get_or b 0 0) 1 w.1 },
   λ w. (and-eq-true_iff (leb 45 (length b)) (eqb (get_or b 0 0) 1)).1 (le-leb 45 (length b) w.long, eq-eqb (get_or b 0 0) 1 w.kind),
 )
 
-pub blocks-some : (b : List ℕ) → facts_in_range (length_in b) (piece_length_in b) ≡ true → 1 ≤ blocks_in b
-blocks-some b r = block-count-some (length_in b) (range-says (length_in b) (piece_length_in b) r).0
+pub blocks_some : (b : List ℕ) → facts_in_range (length_in b) (piece_length_in b) ≡ true → 1 ≤ blocks_in b
+blocks_some b r = block_count_some (length_in b) (range_says (length_in b) (piece_length_in b) r).0
 
-pub loadable-exactly : (b : List ℕ) → facts_in_range (length_in b) (piece_length_in b) ≡ true → (sound b ≡ true) ↔ Loadable b
-loadable-exactly b r =
-    let w = accepted-exactly-when b (blocks-some b r) in
+pub loadable_exactly : (b : List ℕ) → facts_in_range (length_in b) (piece_length_in b) ≡ true → (sound b ≡ true) ↔ Loadable b
+loadable_exactly b r =
+    let w = accepted_exactly_when b (blocks_some b r) in
     (λ g. let x = w.0 g in record { form = x.0; clauses = x.1 }, λ x. w.1 (x.form, x.clauses))
 
-repairable-exactly : (b : List ℕ) → facts_in_range (length_in b) (piece_length_in b) ≡ true → (rooted b ≡ true) ↔ Repairable b
+repairable_exactly : (b : List ℕ) → facts_in_range (length_in b) (piece_length_in b) ≡ true → (rooted b ≡ true) ↔ Repairable b
 unfolding rooted
-repairable-exactly b r = (
+repairable_exactly b r = (
   λ g.
       let t = (and-eq-true_iff (formed b) (root_right (height_in b) b)).0 g in
-      record { form = t.0; root = (root-exactly (height_in b) (blocks_in b) b (blocks-some b r) (form-says b t.0).places).0 t.1 },
+      record { form = t.0; root = (root_exactly (height_in b) (blocks_in b) b (blocks_some b r) (form_says b t.0).places).0 t.1 },
   λ x.
       (and-eq-true_iff (formed b) (root_right (height_in b) b)).1
-      (x.form, (root-exactly (height_in b) (blocks_in b) b (blocks-some b r) (form-says b x.form).places).1 x.root),
+      (x.form, (root_exactly (height_in b) (blocks_in b) b (blocks_some b r) (form_says b x.form).places).1 x.root),
 )
 
 -- ---- the numbers
@@ -74,128 +74,128 @@ module _ (s b : List ℕ) (ok : Bool) {A : Type 0} (says : facts_in_range (lengt
   ready : opens b ≡ true → facts_in_range (length_in b) (piece_length_in b) ≡ true → leb (store_size (length_in b)) (length s) ≡ true → Ready s b
   ready x y z =
       record {
-        opening = (opens-exactly b).0 x;
-        range = (range-exactly (length_in b) (piece_length_in b)).0 y;
+        opening = (opens_exactly b).0 x;
+        range = (range_exactly (length_in b) (piece_length_in b)).0 y;
         room = leb-true (store_size (length_in b)) (length s) z;
       }
 
-  in-range : Ready s b → facts_in_range (length_in b) (piece_length_in b) ≡ true
-  in-range R = (range-exactly (length_in b) (piece_length_in b)).1 R.range
+  in_range : Ready s b → facts_in_range (length_in b) (piece_length_in b) ≡ true
+  in_range R = (range_exactly (length_in b) (piece_length_in b)).1 R.range
 
-  is-32 : (n ≡ not_saved) ↔ ((WholeOpening b → ⊥) ⊎ (Ready s b × (A → ⊥)))
-  is-32 =
+  is_32 : (n ≡ not_saved) ↔ ((WholeOpening b → ⊥) ⊎ (Ready s b × (A → ⊥)))
+  is_32 =
       let w = twice (opens b) (facts_in_range (length_in b) (piece_length_in b)) (leb (store_size (length_in b)) (length s)) ok in (
         λ q. elim (w.0 (sym e ∙ q)) [
-          | inl x ↦ inl ((says-not (opens-exactly b)).0 x)
-          | inr x ↦ inr (ready x.0 x.1 x.2, (says-not (says x.1)).0 x.3)
+          | inl x ↦ inl ((says_not (opens_exactly b)).0 x)
+          | inr x ↦ inr (ready x.0 x.1 x.2, (says_not (says x.1)).0 x.3)
         ],
         λ x. e ∙ w.1 (elim x [
-          | inl y ↦ inl ((says-not (opens-exactly b)).1 y)
-          | inr y ↦ inr ((opens-exactly b).1 y.0.opening, in-range y.0, le-leb (store_size (length_in b)) (length s) y.0.room, (says-not (says (in-range y.0))).1 y.1)
+          | inl y ↦ inl ((says_not (opens_exactly b)).1 y)
+          | inr y ↦ inr ((opens_exactly b).1 y.0.opening, in_range y.0, le-leb (store_size (length_in b)) (length s) y.0.room, (says_not (says (in_range y.0))).1 y.1)
         ]),
       )
 
-  is-10 : (n ≡ facts_out_of_range) ↔ (WholeOpening b × (InRange (length_in b) (piece_length_in b) → ⊥))
-  is-10 =
-      let c = exactly-of (saved_chain ok s b) facts_out_of_range e refl in
-      let r = says-not (range-exactly (length_in b) (piece_length_in b)) in (
-        λ q. let t = c.0 q in ((opens-exactly b).0 t.0, r.0 t.1),
-        λ t. c.1 ((opens-exactly b).1 t.0, r.1 t.1),
+  is_10 : (n ≡ facts_out_of_range) ↔ (WholeOpening b × (InRange (length_in b) (piece_length_in b) → ⊥))
+  is_10 =
+      let c = exactly_of (saved_chain ok s b) facts_out_of_range e refl in
+      let r = says_not (range_exactly (length_in b) (piece_length_in b)) in (
+        λ q. let t = c.0 q in ((opens_exactly b).0 t.0, r.0 t.1),
+        λ t. c.1 ((opens_exactly b).1 t.0, r.1 t.1),
       )
 
-  is-9 : (n ≡ unusable) ↔ (WholeOpening b × InRange (length_in b) (piece_length_in b) × (length s < store_size (length_in b)))
-  is-9 =
-      let c = exactly-of (saved_chain ok s b) unusable e refl in
-      let r = range-exactly (length_in b) (piece_length_in b) in (
-        λ q. let t = c.0 q in ((opens-exactly b).0 t.0, r.0 t.1.0, leb-false (store_size (length_in b)) (length s) t.1.1),
-        λ t. c.1 ((opens-exactly b).1 t.0, (r.1 t.1, lt-leb (store_size (length_in b)) (length s) t.2)),
+  is_9 : (n ≡ unusable) ↔ (WholeOpening b × InRange (length_in b) (piece_length_in b) × (length s < store_size (length_in b)))
+  is_9 =
+      let c = exactly_of (saved_chain ok s b) unusable e refl in
+      let r = range_exactly (length_in b) (piece_length_in b) in (
+        λ q. let t = c.0 q in ((opens_exactly b).0 t.0, r.0 t.1.0, leb-false (store_size (length_in b)) (length s) t.1.1),
+        λ t. c.1 ((opens_exactly b).1 t.0, (r.1 t.1, lt-leb (store_size (length_in b)) (length s) t.2)),
       )
 
-  is-0 : (n ≡ 0) ↔ (Ready s b × A)
-  is-0 =
-      let c = exactly-of (saved_chain ok s b) 0 e refl in (
+  is_0 : (n ≡ 0) ↔ (Ready s b × A)
+  is_0 =
+      let c = exactly_of (saved_chain ok s b) 0 e refl in (
         λ q. let t = c.0 q in (ready t.0 t.1.0 t.1.1.0, (says t.1.0).0 t.1.1.1.0),
-        λ t. c.1 ((opens-exactly b).1 t.0.opening, (in-range t.0, (le-leb (store_size (length_in b)) (length s) t.0.room, ((says (in-range t.0)).1 t.1, refl)))),
+        λ t. c.1 ((opens_exactly b).1 t.0.opening, (in_range t.0, (le-leb (store_size (length_in b)) (length s) t.0.room, ((says (in_range t.0)).1 t.1, refl)))),
       )
 
 -- A LOAD
 module _ (s b : List ℕ) where
-  pub load-32 : ((load_answer s b).number ≡ not_saved) ↔ ((WholeOpening b → ⊥) ⊎ (Ready s b × (Loadable b → ⊥)))
-  load-32 = is-32 s b (sound b) (loadable-exactly b) (load-tests s b)
+  pub load_32 : ((load_answer s b).number ≡ not_saved) ↔ ((WholeOpening b → ⊥) ⊎ (Ready s b × (Loadable b → ⊥)))
+  load_32 = is_32 s b (sound b) (loadable_exactly b) (load_tests s b)
 
-  pub load-10 : ((load_answer s b).number ≡ facts_out_of_range) ↔ (WholeOpening b × (InRange (length_in b) (piece_length_in b) → ⊥))
-  load-10 = is-10 s b (sound b) (loadable-exactly b) (load-tests s b)
+  pub load_10 : ((load_answer s b).number ≡ facts_out_of_range) ↔ (WholeOpening b × (InRange (length_in b) (piece_length_in b) → ⊥))
+  load_10 = is_10 s b (sound b) (loadable_exactly b) (load_tests s b)
 
-  pub load-9 : ((load_answer s b).number ≡ unusable) ↔ (WholeOpening b × InRange (length_in b) (piece_length_in b) × (length s < store_size (length_in b)))
-  load-9 = is-9 s b (sound b) (loadable-exactly b) (load-tests s b)
+  pub load_9 : ((load_answer s b).number ≡ unusable) ↔ (WholeOpening b × InRange (length_in b) (piece_length_in b) × (length s < store_size (length_in b)))
+  load_9 = is_9 s b (sound b) (loadable_exactly b) (load_tests s b)
 
-  pub load-is-0 : ((load_answer s b).number ≡ 0) ↔ (Ready s b × Loadable b)
-  load-is-0 = is-0 s b (sound b) (loadable-exactly b) (load-tests s b)
+  pub load_is_0 : ((load_answer s b).number ≡ 0) ↔ (Ready s b × Loadable b)
+  load_is_0 = is_0 s b (sound b) (loadable_exactly b) (load_tests s b)
 
 -- A REPAIR
 module _ (s b : List ℕ) where
-  pub repair-32 : ((repair_answer s b).number ≡ not_saved) ↔ ((WholeOpening b → ⊥) ⊎ (Ready s b × (Repairable b → ⊥)))
-  repair-32 = is-32 s b (rooted b) (repairable-exactly b) (repair-tests s b)
+  pub repair_32 : ((repair_answer s b).number ≡ not_saved) ↔ ((WholeOpening b → ⊥) ⊎ (Ready s b × (Repairable b → ⊥)))
+  repair_32 = is_32 s b (rooted b) (repairable_exactly b) (repair_tests s b)
 
-  pub repair-10 : ((repair_answer s b).number ≡ facts_out_of_range) ↔ (WholeOpening b × (InRange (length_in b) (piece_length_in b) → ⊥))
-  repair-10 = is-10 s b (rooted b) (repairable-exactly b) (repair-tests s b)
+  pub repair_10 : ((repair_answer s b).number ≡ facts_out_of_range) ↔ (WholeOpening b × (InRange (length_in b) (piece_length_in b) → ⊥))
+  repair_10 = is_10 s b (rooted b) (repairable_exactly b) (repair_tests s b)
 
-  pub repair-9 : ((repair_answer s b).number ≡ unusable) ↔ (WholeOpening b × InRange (length_in b) (piece_length_in b) × (length s < store_size (length_in b)))
-  repair-9 = is-9 s b (rooted b) (repairable-exactly b) (repair-tests s b)
+  pub repair_9 : ((repair_answer s b).number ≡ unusable) ↔ (WholeOpening b × InRange (length_in b) (piece_length_in b) × (length s < store_size (length_in b)))
+  repair_9 = is_9 s b (rooted b) (repairable_exactly b) (repair_tests s b)
 
-  pub repair-is-0 : ((repair_answer s b).number ≡ 0) ↔ (Ready s b × Repairable b)
-  repair-is-0 = is-0 s b (rooted b) (repairable-exactly b) (repair-tests s b)
+  pub repair_is_0 : ((repair_answer s b).number ≡ 0) ↔ (Ready s b × Repairable b)
+  repair_is_0 = is_0 s b (rooted b) (repairable_exactly b) (repair_tests s b)
 
 -- ---- what is held then
 
 -- HELD EXACTLY IF NAMED
-pub load-holds : (s b : List ℕ) → (load_answer s b).number ≡ 0 → (l i : ℕ) (v : List ℕ) → Holds (load_after s b) l i v ↔ NamedBy b l i v
-load-holds s b z l i v =
-    let w = load-0 s b z in
-    let e = holds-exactly _ (loaded-facts s b w.0 w.1) l i v in
+pub load_holds : (s b : List ℕ) → (load_answer s b).number ≡ 0 → (l i : ℕ) (v : List ℕ) → Holds (load_after s b) l i v ↔ NamedBy b l i v
+load_holds s b z l i v =
+    let w = load_0 s b z in
+    let e = holds_exactly _ (loaded_facts s b w.0 w.1) l i v in
     rw w.2 (λ k. named_in s b w.0 w.1 l i v (e.0 k), λ k. e.1 (held_in s b w.0 w.1 l i v k))
 
 -- HELD EXACTLY IF KEPT
-pub repair-holds : (s b : List ℕ) → (repair_answer s b).number ≡ 0 → (l i : ℕ) (v : List ℕ)
+pub repair_holds : (s b : List ℕ) → (repair_answer s b).number ≡ 0 → (l i : ℕ) (v : List ℕ)
     → Holds (repair_after s b) l i v ↔ Kept (height_in b) (blocks_in b) (root_in b) (NamedBy b) l i v
-repair-holds s b z l i v =
-    let w = repair-0 s b z in
-    let some = blocks-some b ((range-exactly (length_in b) (piece_length_in b)).1 ((repair-is-0 s b).0 z).0.range) in
-    let e = holds-exactly _ (repaired-facts s b w.0 w.1) l i v in
+repair_holds s b z l i v =
+    let w = repair_0 s b z in
+    let some = blocks_some b ((range_exactly (length_in b) (piece_length_in b)).1 ((repair_is_0 s b).0 z).0.range) in
+    let e = holds_exactly _ (repaired_facts s b w.0 w.1) l i v in
     rw w.2 (λ k. in_kept s b w.0 w.1 some l i v (e.0 k), λ k. e.1 (kept_in s b w.0 w.1 some l i v k))
 
 -- IT IS USABLE,
-pub load-usable : (s b : List ℕ) → (load_answer s b).number ≡ 0 → usable (load_after s b) ≡ true
-load-usable s b z = let w = load-0 s b z in rw w.2 (facts-usable (loaded s b) (loaded-facts s b w.0 w.1))
+pub load_usable : (s b : List ℕ) → (load_answer s b).number ≡ 0 → usable (load_after s b) ≡ true
+load_usable s b z = let w = load_0 s b z in rw w.2 (facts_usable (loaded s b) (loaded_facts s b w.0 w.1))
 
 -- and names the length, piece length and root that the bytes name
-pub load-names : (s b : List ℕ) → (load_answer s b).number ≡ 0
+pub load_names : (s b : List ℕ) → (load_answer s b).number ≡ 0
     → (file_length (load_after s b) ≡ length_in b) × (facts_root (load_after s b) ≡ root_in b) × (piece_length (load_after s b) ≡ piece_length_in b)
-load-names s b z =
-    let w = load-0 s b z in
-    rw w.2 (loaded-file s b w.0 w.1, loaded-root s b w.0 w.1, loaded-piece s b w.0 w.1)
+load_names s b z =
+    let w = load_0 s b z in
+    rw w.2 (loaded_file s b w.0 w.1, loaded_root s b w.0 w.1, loaded_piece s b w.0 w.1)
 
-pub repair-names : (s b : List ℕ) → (repair_answer s b).number ≡ 0
+pub repair_names : (s b : List ℕ) → (repair_answer s b).number ≡ 0
     → (file_length (repair_after s b) ≡ length_in b) × (facts_root (repair_after s b) ≡ root_in b) × (piece_length (repair_after s b) ≡ piece_length_in b)
-repair-names s b z =
-    let w = repair-0 s b z in
-    rw w.2 (repaired-file s b w.0 w.1, repaired-root s b w.0 w.1, repaired-piece s b w.0 w.1)
+repair_names s b z =
+    let w = repair_0 s b z in
+    rw w.2 (repaired_file s b w.0 w.1, repaired_root s b w.0 w.1, repaired_piece s b w.0 w.1)
 
 -- ---- every byte is set
 
-loaded-forgets : (s t b : List ℕ) → drop (store_size (length_in b)) s ≡ drop (store_size (length_in b)) t → loaded s b ≡ loaded t b
+loaded_forgets : (s t b : List ℕ) → drop (store_size (length_in b)) s ≡ drop (store_size (length_in b)) t → loaded s b ≡ loaded t b
 unfolding loaded
-loaded-forgets s t b e = rw (opened-forgets s t (length_in b) (piece_length_in b) (root_in b) e)
+loaded_forgets s t b e = rw (opened_forgets s t (length_in b) (piece_length_in b) (root_in b) e)
 
-repaired-forgets : (s t b : List ℕ) → drop (store_size (length_in b)) s ≡ drop (store_size (length_in b)) t → repaired s b ≡ repaired t b
+repaired_forgets : (s t b : List ℕ) → drop (store_size (length_in b)) s ≡ drop (store_size (length_in b)) t → repaired s b ≡ repaired t b
 unfolding repaired
-repaired-forgets s t b e = rw (opened-forgets s t (length_in b) (piece_length_in b) (root_in b) e)
+repaired_forgets s t b e = rw (opened_forgets s t (length_in b) (piece_length_in b) (root_in b) e)
 
 -- WHATEVER THE STORE'S BYTES WERE: two buffers with the same bytes behind the store are left the same
-pub load-forgets : (s t b : List ℕ) → drop (store_size (length_in b)) s ≡ drop (store_size (length_in b)) t → (load_answer s b).number ≡ 0 → (load_answer t b).number ≡ 0
+pub load_forgets : (s t b : List ℕ) → drop (store_size (length_in b)) s ≡ drop (store_size (length_in b)) t → (load_answer s b).number ≡ 0 → (load_answer t b).number ≡ 0
     → load_after s b ≡ load_after t b
-load-forgets s t b e y z = (load-0 s b y).2 ∙ loaded-forgets s t b e ∙ sym (load-0 t b z).2
+load_forgets s t b e y z = (load_0 s b y).2 ∙ loaded_forgets s t b e ∙ sym (load_0 t b z).2
 
-pub repair-forgets : (s t b : List ℕ) → drop (store_size (length_in b)) s ≡ drop (store_size (length_in b)) t → (repair_answer s b).number ≡ 0 → (repair_answer t b).number ≡ 0
+pub repair_forgets : (s t b : List ℕ) → drop (store_size (length_in b)) s ≡ drop (store_size (length_in b)) t → (repair_answer s b).number ≡ 0 → (repair_answer t b).number ≡ 0
     → repair_after s b ≡ repair_after t b
-repair-forgets s t b e y z = (repair-0 s b y).2 ∙ repaired-forgets s t b e ∙ sym (repair-0 t b z).2
+repair_forgets s t b e y z = (repair_0 s b y).2 ∙ repaired_forgets s t b e ∙ sym (repair_0 t b z).2

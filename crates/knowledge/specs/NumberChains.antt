@@ -31,9 +31,9 @@ use Rattle.saved.specs.declared.repair.Repaired.{Repaired}
 abbrev pub hash_chain : List ℕ → Chain
 hash_chain m = test (ltb (length m) (suc longest_hashed)) wrong_size (last 0)
 
-pub hash-tests : (m : List ℕ) → (hashed_of m).number ≡ decided (hash_chain m)
+pub hash_tests : (m : List ℕ) → (hashed_of m).number ≡ decided (hash_chain m)
 unfolding hashed_of
-hash-tests m = by (ltb (length m) (suc longest_hashed))
+hash_tests m = by (ltb (length m) (suc longest_hashed))
   where
     by : (b : Bool) → (cond {A = Hashed} b (record { number = 0; hash = sha256 m }) (record { number = wrong_size; hash = zero_hash })).number ≡ cond b 0 wrong_size
     by true = refl
@@ -42,9 +42,9 @@ hash-tests m = by (ltb (length m) (suc longest_hashed))
 abbrev pub size_chain : ℕ → ℕ → Chain
 size_chain n plen = test (facts_in_range n plen) facts_out_of_range (last 0)
 
-pub size-tests : (n plen : ℕ) → (size_answer n plen).number ≡ decided (size_chain n plen)
+pub size_tests : (n plen : ℕ) → (size_answer n plen).number ≡ decided (size_chain n plen)
 unfolding size_answer
-size-tests n plen = by (facts_in_range n plen)
+size_tests n plen = by (facts_in_range n plen)
   where
     by : (b : Bool) → (cond b (record { number = 0; count = store_size n }) (refused facts_out_of_range)).number ≡ cond b 0 facts_out_of_range
     by true = refl
@@ -53,9 +53,9 @@ size-tests n plen = by (facts_in_range n plen)
 abbrev pub open_chain : List ℕ → ℕ → ℕ → Chain
 open_chain s n plen = test (facts_in_range n plen) facts_out_of_range (test (leb (store_size n) (length s)) unusable (last 0))
 
-pub open-tests : (s : List ℕ) (n plen : ℕ) → (open_answer s n plen).number ≡ decided (open_chain s n plen)
+pub open_tests : (s : List ℕ) (n plen : ℕ) → (open_answer s n plen).number ≡ decided (open_chain s n plen)
 unfolding open_answer
-open-tests s n plen = by (facts_in_range n plen) (leb (store_size n) (length s))
+open_tests s n plen = by (facts_in_range n plen) (leb (store_size n) (length s))
   where
     by : (r f : Bool) → (cond r (cond f (record { number = 0; count = 1 }) (refused unusable)) (refused facts_out_of_range)).number ≡ cond r (cond f 0 unusable) facts_out_of_range
     by true true = refl
@@ -65,9 +65,9 @@ open-tests s n plen = by (facts_in_range n plen) (leb (store_size n) (length s))
 abbrev pub held_chain : List ℕ → ℕ → ℕ → Chain
 held_chain s l i = test (usable s) unusable (test (in_tree (height_of s) l i) rule_broken (test (held_at s (node_number (height_of s) l i)) no_anchor (last 0)))
 
-pub held-tests : (s : List ℕ) (l i : ℕ) → (held_answer s l i).number ≡ decided (held_chain s l i)
+pub held_tests : (s : List ℕ) (l i : ℕ) → (held_answer s l i).number ≡ decided (held_chain s l i)
 unfolding held_answer
-held-tests s l i = by (usable s) (in_tree (height_of s) l i) (held_at s (node_number (height_of s) l i)) (hash_at s (node_number (height_of s) l i))
+held_tests s l i = by (usable s) (in_tree (height_of s) l i) (held_at s (node_number (height_of s) l i)) (hash_at s (node_number (height_of s) l i))
   where
     by : (u t h : Bool) (v : List ℕ) → (cond {A = Hashed} u (cond t (cond h (record { number = 0; hash = v }) (no_hash no_anchor)) (no_hash rule_broken)) (no_hash unusable)).number
         ≡ cond u (cond t (cond h 0 no_anchor) rule_broken) unusable
@@ -84,13 +84,13 @@ headed form s m c =
     test (usable s) unusable
     (test form no_message (test (same (facts_root s) (message_root m)) other_root (test (rules_kept (header_of m) (height_of s)) rule_broken c)))
 
-header-then : (u f r k : Bool) (x : ℕ)
+header_then : (u f r k : Bool) (x : ℕ)
     → or_else (cond u (cond f (cond r (cond k 0 rule_broken) other_root) no_message) unusable) x ≡ cond u (cond f (cond r (cond k x rule_broken) other_root) no_message) unusable
-header-then true true true true x = refl
-header-then true true true false x = refl
-header-then true true false k x = refl
-header-then true false r k x = refl
-header-then false f r k x = refl
+header_then true true true true x = refl
+header_then true true true false x = refl
+header_then true true false k x = refl
+header_then true false r k x = refl
+header_then false f r k x = refl
 
 -- 5, then 6, 7, 8 or 0
 abbrev pub body_chain : List ℕ → List ℕ → Chain
@@ -105,24 +105,24 @@ formed_then s m c = headed (is_hashes m) s m (test (eqb (length m) (message_size
 abbrev pub take_chain : List ℕ → List ℕ → Chain
 take_chain s m = formed_then s m (body_chain s m)
 
-pub take-tests : (s m : List ℕ) → take_number s m ≡ decided (take_chain s m)
+pub take_tests : (s m : List ℕ) → take_number s m ≡ decided (take_chain s m)
 unfolding take_number header_number body_number anchored
-take-tests s m = header-then (usable s) (is_hashes m) (same (facts_root s) (message_root m)) (rules_kept (header_of m) (height_of s)) _
+take_tests s m = header_then (usable s) (is_hashes m) (same (facts_root s) (message_root m)) (rules_kept (header_of m) (height_of s)) _
 
 abbrev pub reject_chain : List ℕ → List ℕ → Chain
 reject_chain s m = headed (is_reject m) s m (last 0)
 
-pub reject-tests : (s m : List ℕ) → (reject_answer s m).number ≡ decided (reject_chain s m)
+pub reject_tests : (s m : List ℕ) → (reject_answer s m).number ≡ decided (reject_chain s m)
 unfolding reject_answer header_number
-reject-tests s m = refl
+reject_tests s m = refl
 
 -- of a request before its room is looked at
 abbrev pub request_chain : List ℕ → List ℕ → Chain
 request_chain s m = headed (is_request m) s m (test (all_held s (place_in s m)) not_held (last 0))
 
-pub request-tests : (s m : List ℕ) → request_number s m ≡ decided (request_chain s m)
+pub request_tests : (s m : List ℕ) → request_number s m ≡ decided (request_chain s m)
 unfolding request_number header_number
-request-tests s m = header-then (usable s) (is_request m) (same (facts_root s) (message_root m)) (rules_kept (header_of m) (height_of s)) _
+request_tests s m = header_then (usable s) (is_request m) (same (facts_root s) (message_root m)) (rules_kept (header_of m) (height_of s)) _
 
 -- ---- kd_load_layer, kd_judge_block, kd_judge_piece
 
@@ -140,9 +140,9 @@ layer_then s layer = gated (usable s) (has_layer (file_length s) (piece_length s
 abbrev pub layer_chain : List ℕ → List ℕ → Chain
 layer_chain s layer = layer_then s layer (judged_chain s (layer_leaf layer (layer_of_pieces s)) (height_of s - layer_of_pieces s) 1)
 
-pub layer-tests : (s layer : List ℕ) → layer_number s layer ≡ decided (layer_chain s layer)
+pub layer_tests : (s layer : List ℕ) → layer_number s layer ≡ decided (layer_chain s layer)
 unfolding layer_number judged_at
-layer-tests s layer = refl
+layer_tests s layer = refl
 
 abbrev pub block_then : List ℕ → ℕ → List ℕ → Chain → Chain
 block_then s i block = gated (usable s) (ltb i (blocks_of s)) (eqb (length block) (block_size (file_length s) i))
@@ -153,9 +153,9 @@ leaf_chain s i block = verdict (held_at s (node_number (height_of s) 0 i)) (same
 abbrev pub block_chain : List ℕ → ℕ → List ℕ → Chain
 block_chain s i block = block_then s i block (leaf_chain s i block)
 
-pub block-tests : (s : List ℕ) (i : ℕ) (block : List ℕ) → block_number s i block ≡ decided (block_chain s i block)
+pub block_tests : (s : List ℕ) (i : ℕ) (block : List ℕ) → block_number s i block ≡ decided (block_chain s i block)
 unfolding block_number
-block-tests s i block = refl
+block_tests s i block = refl
 
 abbrev pub piece_then : List ℕ → ℕ → List ℕ → Chain → Chain
 piece_then s i piece = gated (usable s) (ltb i (piece_count (file_length s) (piece_length s))) (eqb (length piece) (piece_size (file_length s) (piece_length s) i))
@@ -163,25 +163,25 @@ piece_then s i piece = gated (usable s) (ltb i (piece_count (file_length s) (pie
 abbrev pub piece_chain : List ℕ → ℕ → List ℕ → Chain
 piece_chain s i piece = piece_then s i piece (judged_chain s (leaf_of piece) (piece_height s) (node_number (height_of s) (piece_height s) i))
 
-pub piece-tests : (s : List ℕ) (i : ℕ) (piece : List ℕ) → piece_number s i piece ≡ decided (piece_chain s i piece)
+pub piece_tests : (s : List ℕ) (i : ℕ) (piece : List ℕ) → piece_number s i piece ≡ decided (piece_chain s i piece)
 unfolding piece_number judged_at
-piece-tests s i piece = refl
+piece_tests s i piece = refl
 
 -- ---- kd_clear, kd_marked, kd_bitfield
 
 abbrev pub there_chain : List ℕ → ℕ → Chain
 there_chain s i = test (usable s) unusable (test (ltb i (blocks_of s)) rule_broken (last 0))
 
-pub there-tests : (s : List ℕ) (i : ℕ) → block_there s i ≡ decided (there_chain s i)
+pub there_tests : (s : List ℕ) (i : ℕ) → block_there s i ≡ decided (there_chain s i)
 unfolding block_there
-there-tests s i = refl
+there_tests s i = refl
 
 abbrev pub field_chain : List ℕ → List ℕ → Chain
 field_chain s out = test (usable s) unusable (test (leb (field_size s) (length out)) no_room (last 0))
 
-pub field-tests : (s out : List ℕ) → (field_answer s out).number ≡ decided (field_chain s out)
+pub field_tests : (s out : List ℕ) → (field_answer s out).number ≡ decided (field_chain s out)
 unfolding field_answer
-field-tests s out = by (usable s) (leb (field_size s) (length out)) (field_size s)
+field_tests s out = by (usable s) (leb (field_size s) (length out)) (field_size s)
   where
     by : (a b : Bool) (n : ℕ) → (cond a (cond b (done n) (refused no_room)) (refused unusable)).number ≡ cond a (cond b 0 no_room) unusable
     by true true n = refl
@@ -193,9 +193,9 @@ field-tests s out = by (usable s) (leb (field_size s) (length out)) (field_size 
 abbrev pub save_chain : List ℕ → List ℕ → Chain
 save_chain s out = test (usable s) unusable (test (leb (length (saved_bytes (saved_of s))) (length out)) no_room (last 0))
 
-pub save-tests : (s out : List ℕ) → (save_answer s out).number ≡ decided (save_chain s out)
+pub save_tests : (s out : List ℕ) → (save_answer s out).number ≡ decided (save_chain s out)
 unfolding save_answer
-save-tests s out = by (usable s) (leb (length (saved_bytes (saved_of s))) (length out)) (length (saved_bytes (saved_of s)))
+save_tests s out = by (usable s) (leb (length (saved_bytes (saved_of s))) (length out)) (length (saved_bytes (saved_of s)))
   where
     by : (a b : Bool) (n : ℕ) → (cond a (cond b (done n) (refused no_room)) (refused unusable)).number ≡ cond a (cond b 0 no_room) unusable
     by true true n = refl
@@ -218,13 +218,13 @@ in_two true true false d = refl
 in_two true false c d = refl
 in_two false b c d = refl
 
-load-number : (s b : List ℕ) → load_number s b ≡ decided (saved_chain (sound b) s b)
+load_number_lem : (s b : List ℕ) → load_number s b ≡ decided (saved_chain (sound b) s b)
 unfolding opening_number
-load-number s b = in_two (opens b) (facts_in_range (length_in b) (piece_length_in b)) (leb (store_size (length_in b)) (length s)) (sound b)
+load_number_lem s b = in_two (opens b) (facts_in_range (length_in b) (piece_length_in b)) (leb (store_size (length_in b)) (length s)) (sound b)
 
-repair-number : (s b : List ℕ) → repair_number s b ≡ decided (saved_chain (rooted b) s b)
+repair_number_lem : (s b : List ℕ) → repair_number s b ≡ decided (saved_chain (rooted b) s b)
 unfolding opening_number
-repair-number s b = in_two (opens b) (facts_in_range (length_in b) (piece_length_in b)) (leb (store_size (length_in b)) (length s)) (rooted b)
+repair_number_lem s b = in_two (opens b) (facts_in_range (length_in b) (piece_length_in b)) (leb (store_size (length_in b)) (length s)) (rooted b)
 
 counted : (n p : ℕ) → (cond (eqb n 0) (done p) (refused n)).number ≡ n
 counted n p = by (eqb n 0) refl
@@ -233,17 +233,17 @@ counted n p = by (eqb n 0) refl
     by true e = rw e (sym (eqb-true n 0 e))
     by false e = rw e
 
-counted-two : (n p q : ℕ) → (cond {A = Repaired} (eqb n 0) (record { number = 0; dropped = p; held = q }) (not_repaired n)).number ≡ n
-counted-two n p q = by (eqb n 0) refl
+counted_two : (n p q : ℕ) → (cond {A = Repaired} (eqb n 0) (record { number = 0; dropped = p; held = q }) (not_repaired n)).number ≡ n
+counted_two n p q = by (eqb n 0) refl
   where
     by : (x : Bool) → eqb n 0 ≡ x → (cond {A = Repaired} (eqb n 0) (record { number = 0; dropped = p; held = q }) (not_repaired n)).number ≡ n
     by true e = rw e (sym (eqb-true n 0 e))
     by false e = rw e
 
-pub load-tests : (s b : List ℕ) → (load_answer s b).number ≡ decided (saved_chain (sound b) s b)
+pub load_tests : (s b : List ℕ) → (load_answer s b).number ≡ decided (saved_chain (sound b) s b)
 unfolding load_answer
-load-tests s b = counted (load_number s b) (place_count b) ∙ load-number s b
+load_tests s b = counted (load_number s b) (place_count b) ∙ load_number_lem s b
 
-pub repair-tests : (s b : List ℕ) → (repair_answer s b).number ≡ decided (saved_chain (rooted b) s b)
+pub repair_tests : (s b : List ℕ) → (repair_answer s b).number ≡ decided (saved_chain (rooted b) s b)
 unfolding repair_answer
-repair-tests s b = counted-two (repair_number s b) (place_count b - repaired_many s b) (repaired_many s b) ∙ repair-number s b
+repair_tests s b = counted_two (repair_number s b) (place_count b - repaired_many s b) (repaired_many s b) ∙ repair_number_lem s b

@@ -7,7 +7,7 @@ use native.Mathlib.Omega.{arith}
 use Rattle.std.proofs.Math.Decide.{ℕ_discrete}
 use Rattle.std.proofs.Math.ListN.{take-append-drop}
 use Rattle.octets.specs.Octets.{Octets, cut}
-use Rattle.octets.specs.OctetsLaws.{cut-length, cut-cut, cut_short, cut-append-left, cut-whole, cut-octets}
+use Rattle.octets.specs.OctetsLaws.{cut_length, cut_cut, cut_short, cut_append_left, cut_whole, cut_octets}
 use Rattle.numbers.specs.Numbers.{done}
 use Rattle.numbers.specs.declared.Answer.{Answer}
 use Rattle.sha256.specs.Sha256.{sha256}
@@ -15,25 +15,25 @@ use Rattle.sha256.specs.declared.Hashed.{Hashed}
 use Rattle.tree.specs.Geometry.{block_length, block_count, block_size}
 use Rattle.tree.proofs.GeometryLaws.{block_within}
 use Rattle.tree.specs.Values.{node, leaf_of, block_of, pieces_root}
-use Rattle.tree.proofs.ValuesLaws.{node-same, leaf-block}
+use Rattle.tree.proofs.ValuesLaws.{node_same, leaf_block}
 use Rattle.store.specs.Store.{file_length, blocks_of, height_of, held_answer}
-use Rattle.store.specs.StoreLaws.{tree-says, facts-usable}
+use Rattle.store.specs.StoreLaws.{tree_says, facts_usable}
 use Rattle.extends.specs.Extends.{whole_blocks, rest_size, earlier_root, over_size, last_hash, extends_answer}
-use Rattle.extends.proofs.ExtendsLaws.{last_bytes, HeldOf, earlier-root}
+use Rattle.extends.proofs.ExtendsLaws.{last_bytes, HeldOf, earlier_root_lem}
 use Rattle.words.specs.History.{Bytes, OurStore}
 use Rattle.words.specs.Shown.{held_by, of_file, Shown}
 use Rattle.words.specs.File.{For}
 use Rattle.words.specs.Younger.{first_bytes, BeginsWith, over_end, TwoStrings, store_shows, lent_shows, tree_shows, block_shows, Needed, Follows, same, grew, ShownAmong, here, before}
-use Rattle.knowledge.specs.Again.{what-is-held}
-use Rattle.knowledge.specs.OwnBytes.{ours-have}
-use Rattle.knowledge.specs.RootToBlock.{held-is-the-files-at}
-use Rattle.knowledge.specs.Shown.{shown, reads-file}
-use Rattle.knowledge.specs.ConflictShows.{ours-reads}
-use Rattle.knowledge.specs.JudgedWhen.{block-0}
-use Rattle.knowledge.specs.Known.{block-is-the-files}
-use Rattle.knowledge.specs.Peaks.{peaks-exactly}
-use Rattle.knowledge.specs.YoungerNumbers.{extends-0, extends-done}
-use Rattle.knowledge.specs.OneRoot.{OneRoot, same_file, trees_show, blocks_show, one-root}
+use Rattle.knowledge.specs.Again.{what_is_held}
+use Rattle.knowledge.specs.OwnBytes.{ours_have}
+use Rattle.knowledge.specs.RootToBlock.{held_is_the_files_at}
+use Rattle.knowledge.specs.Shown.{shown, reads_file}
+use Rattle.knowledge.specs.ConflictShows.{ours_reads}
+use Rattle.knowledge.specs.JudgedWhen.{block_0}
+use Rattle.knowledge.specs.Known.{block_is_the_files}
+use Rattle.knowledge.specs.Peaks.{peaks_exactly}
+use Rattle.knowledge.specs.YoungerNumbers.{extends_0, extends_done}
+use Rattle.knowledge.specs.OneRoot.{OneRoot, same_file, trees_show, blocks_show, one_root}
 
 -- ---- the first n bytes of a file
 
@@ -42,20 +42,20 @@ abbrev rest_of : List ℕ → ℕ → List ℕ
 rest_of file n = cut file (block_length * whole_blocks n) (rest_size n)
 
 module _ (G : List ℕ) (n : ℕ) (most : n ≤ length G) where
-  first-length : length (first_bytes G n) ≡ n
-  first-length = cut-length G 0 n (omega arith)
+  first_length : length (first_bytes G n) ≡ n
+  first_length = cut_length G 0 n (omega arith)
 
   -- the last bytes are those after the whole blocks
-  first-last : last_bytes (first_bytes G n) ≡ rest_of G n
-  first-last =
+  first_last : last_bytes (first_bytes G n) ≡ rest_of G n
+  first_last =
       let E = first_bytes G n in
       let at = block_length * whole_blocks n in
-      let m : min block_length (length (first_bytes G n) - block_length * whole_blocks n) ≡ rest_size n = omega (arith, first-length) in
+      let m : min block_length (length (first_bytes G n) - block_length * whole_blocks n) ≡ rest_size n = omega (arith, first_length) in
       let z : 0 + block_length * whole_blocks n ≡ block_length * whole_blocks n = omega arith in
-      ap (λ (x : ℕ). cut E (block_length * whole_blocks x) block_length) first-length
+      ap (λ (x : ℕ). cut E (block_length * whole_blocks x) block_length) first_length
       ∙ sym (cut_short E at block_length)
       ∙ ap (λ (x : ℕ). cut E at x) m
-      ∙ cut-cut G 0 n at (rest_size n) (omega arith)
+      ∙ cut_cut G 0 n at (rest_size n) (omega arith)
       ∙ ap (λ (x : ℕ). cut G x (rest_size n)) z
 
   -- the whole blocks are the file's,
@@ -63,20 +63,20 @@ module _ (G : List ℕ) (n : ℕ) (most : n ≤ length G) where
   unfolding block_of
   first_block x l =
       let z : 0 + block_length * x ≡ block_length * x = omega arith in
-      sym (ap (λ (y : ℕ). cut G y block_length) z) ∙ sym (cut-cut G 0 n (block_length * x) block_length (omega arith))
+      sym (ap (λ (y : ℕ). cut G y block_length) z) ∙ sym (cut_cut G 0 n (block_length * x) block_length (omega arith))
 
   first_leaf : (x : ℕ) → x < whole_blocks n → leaf_of G x ≡ leaf_of (first_bytes G n) x
   first_leaf x l =
-      leaf-block G x (block_within (length G) x (omega arith))
+      leaf_block G x (block_within (length G) x (omega arith))
       ∙ ap sha256 (first_block x l)
-      ∙ sym (leaf-block (first_bytes G n) x (block_within (length (first_bytes G n)) x (omega (arith, first-length))))
+      ∙ sym (leaf_block (first_bytes G n) x (block_within (length (first_bytes G n)) x (omega (arith, first_length))))
 
   -- and so are the nodes over them
-  first-node : (l i : ℕ) → (i + 1) * 2 ^ l ≤ whole_blocks n → node (leaf_of G) l i ≡ node (leaf_of (first_bytes G n)) l i
-  first-node l i b = node-same (leaf_of G) (leaf_of (first_bytes G n)) l i (λ x p q. first_leaf x (omega arith))
+  first_node : (l i : ℕ) → (i + 1) * 2 ^ l ≤ whole_blocks n → node (leaf_of G) l i ≡ node (leaf_of (first_bytes G n)) l i
+  first_node l i b = node_same (leaf_of G) (leaf_of (first_bytes G n)) l i (λ x p q. first_leaf x (omega arith))
 
-  first-bytes : Bytes G → Bytes (first_bytes G n)
-  first-bytes bg = subst (λ (m : ℕ). Octets m (first_bytes G n)) (sym first-length) (cut-octets 0 n bg (omega arith))
+  first_bytes_lem : Bytes G → Bytes (first_bytes G n)
+  first_bytes_lem bg = subst (λ (m : ℕ). Octets m (first_bytes G n)) (sym first_length) (cut_octets 0 n bg (omega arith))
 
   -- a file that they are is one that G begins with
   begins : (F : List ℕ) → length F ≡ n → F ≡ first_bytes G n → BeginsWith G F
@@ -87,16 +87,16 @@ module _ (G : List ℕ) (n : ℕ) (most : n ≤ length G) where
 
   -- ---- the block over their end
 
-  in-file : block_length * whole_blocks n + over_size (length G) n ≤ length G
+  in_file : block_length * whole_blocks n + over_size (length G) n ≤ length G
   unfolding block_size
-  in-file =
+  in_file =
       elim (ℕ_discrete (rest_size n) 0) [
         | yes z ↦ rw (eq-eqb (rest_size n) 0 z) (omega arith)
         | no z ↦ rw (ne_eqb (rest_size n) 0 z) (omega arith)
       ]
 
-  over-length : length (over_end G n) ≡ over_size (length G) n
-  over-length = cut-length G (block_length * whole_blocks n) (over_size (length G) n) in-file
+  over_length : length (over_end G n) ≡ over_size (length G) n
+  over_length = cut_length G (block_length * whole_blocks n) (over_size (length G) n) in_file
 
   has_rest : rest_size n ≤ over_size (length G) n
   unfolding block_size
@@ -110,23 +110,23 @@ module _ (G : List ℕ) (n : ℕ) (most : n ≤ length G) where
   over_first =
       let at = block_length * whole_blocks n in
       let z : block_length * whole_blocks n + 0 ≡ block_length * whole_blocks n = omega arith in
-      cut-cut G at (over_size (length G) n) 0 (rest_size n) (omega (arith, has_rest)) ∙ ap (λ (x : ℕ). cut G x (rest_size n)) z
+      cut_cut G at (over_size (length G) n) 0 (rest_size n) (omega (arith, has_rest)) ∙ ap (λ (x : ℕ). cut G x (rest_size n)) z
 
   -- block w, if they end inside it
-  over-block : (rest_size n ≡ 0 → ⊥) → over_end G n ≡ block_of G (whole_blocks n)
+  over_block : (rest_size n ≡ 0 → ⊥) → over_end G n ≡ block_of G (whole_blocks n)
   unfolding block_of block_size
-  over-block r = rw (ne_eqb (rest_size n) 0 r) (cut_short G (block_length * whole_blocks n) block_length)
+  over_block r = rw (ne_eqb (rest_size n) 0 r) (cut_short G (block_length * whole_blocks n) block_length)
 
-  block-first : cut (block_of G (whole_blocks n)) 0 (rest_size n) ≡ rest_of G n
+  block_first : cut (block_of G (whole_blocks n)) 0 (rest_size n) ≡ rest_of G n
   unfolding block_of
-  block-first =
+  block_first =
       let at = block_length * whole_blocks n in
       let z : block_length * whole_blocks n + 0 ≡ block_length * whole_blocks n = omega arith in
-      cut-cut G at block_length 0 (rest_size n) (omega arith) ∙ ap (λ (x : ℕ). cut G x (rest_size n)) z
+      cut_cut G at block_length 0 (rest_size n) (omega arith) ∙ ap (λ (x : ℕ). cut G x (rest_size n)) z
 
-leaf-node : (G : List ℕ) (i : ℕ) → i < block_count (length G) → node (leaf_of G) 0 i ≡ sha256 (block_of G i)
+leaf_node : (G : List ℕ) (i : ℕ) → i < block_count (length G) → node (leaf_of G) 0 i ≡ sha256 (block_of G i)
 unfolding node
-leaf-node G i l = leaf-block G i l
+leaf_node G i l = leaf_block G i l
 
 no_bytes : (a b : List ℕ) → length a ≡ 0 → length b ≡ 0 → a ≡ b
 no_bytes a b p q = ext_get_or 0 a b (p ∙ sym q) (λ i l. absurd (omega arith))
@@ -137,27 +137,27 @@ module _ {s : List ℕ} (G : List ℕ) (o : OurStore s) (w : For G s) where
   -- every held hash is the file's, or a pair is shown
   all_known : Shown (height_of s) (held_by s) (of_file G) ⊎ ((l i : ℕ) → (held_answer s l i).number ≡ 0 → (held_answer s l i).hash ≡ node (leaf_of G) l i)
   all_known =
-      elim (held-is-the-files-at G o w) [
-        | inl x ↦ inl (shown (height_of s) (held_by s) (of_file G) (ours-reads o) (reads-file G s w) x)
+      elim (held_is_the_files_at G o w) [
+        | inl x ↦ inl (shown (height_of s) (held_by s) (of_file G) (ours_reads o) (reads_file G s w) x)
         | inr f ↦
             inr
             (λ l i z.
-            let k = what-is-held s l i (held_answer s l i).hash (ours-have o).chained.facts (record { given = z; hash = refl }) in
-            let t = tree-says (height_of s) l i k.0 in
+            let k = what_is_held s l i (held_answer s l i).hash (ours_have o).chained.facts (record { given = z; hash = refl }) in
+            let t = tree_says (height_of s) l i k.0 in
             sym k.2 ∙ f l i t.0 t.1 k.1)
       ]
 
   -- so the root worked out of them, with the first bytes' last ones, is that of the first bytes
-  root-first : (n : ℕ) → n ≤ length G → ((l i : ℕ) → (held_answer s l i).number ≡ 0 → (held_answer s l i).hash ≡ node (leaf_of G) l i)
+  root_first : (n : ℕ) → n ≤ length G → ((l i : ℕ) → (held_answer s l i).number ≡ 0 → (held_answer s l i).hash ≡ node (leaf_of G) l i)
       → (earlier_root s n (sha256 (rest_of G n))).number ≡ 0 → (earlier_root s n (sha256 (rest_of G n))).hash ≡ pieces_root (first_bytes G n)
-  root-first n most k z =
+  root_first n most k z =
       let E = first_bytes G n in
       let q : earlier_root s (length (first_bytes G n)) (sha256 (last_bytes (first_bytes G n))) ≡ earlier_root s n (sha256 (rest_of G n)) =
-      ap₂ (λ (x : ℕ) (y : List ℕ). earlier_root s x (sha256 y)) (first-length G n most) (first-last G n most) in
-      sym (ap (λ (x : Hashed). x.hash) q) ∙ earlier-root s E held_of (ap (λ (x : Hashed). x.number) q ∙ z)
+      ap₂ (λ (x : ℕ) (y : List ℕ). earlier_root s x (sha256 y)) (first_length G n most) (first_last G n most) in
+      sym (ap (λ (x : Hashed). x.hash) q) ∙ earlier_root_lem s E held_of (ap (λ (x : Hashed). x.number) q ∙ z)
     where
       held_of : HeldOf s (first_bytes G n)
-      held_of l i b y = k l i y ∙ first-node G n most l i (rw (first-length G n most) at b)
+      held_of l i b y = k l i y ∙ first_node G n most l i (rw (first_length G n most) at b)
 
   -- a block of the right size that is the one held has the file's bytes in front
   module _ (F block : List ℕ) (bg : Bytes G) (bf : Bytes F) (bb : Bytes block) (z : (extends_answer s (length F) (pieces_root F) block).number ≡ 0) where
@@ -165,48 +165,48 @@ module _ {s : List ℕ} (G : List ℕ) (o : OurStore s) (w : For G s) where
     n = length F
 
     most : length F ≤ length G
-    most = let C = ((extends-0 s (length F) (pieces_root F) block).0 z).0 in omega (arith, C.range.1, w.long)
+    most = let C = ((extends_0 s (length F) (pieces_root F) block).0 z).0 in omega (arith, C.range.1, w.long)
 
-    inside-file : (rest_size (length F) ≡ 0 → ⊥) → whole_blocks (length F) < blocks_of s
+    inside_file : (rest_size (length F) ≡ 0 → ⊥) → whole_blocks (length F) < blocks_of s
     unfolding blocks_of
-    inside-file r = block_within (file_length s) (whole_blocks (length F)) (let C = ((extends-0 s (length F) (pieces_root F) block).0 z).0 in omega (arith, C.range.1))
+    inside_file r = block_within (file_length s) (whole_blocks (length F)) (let C = ((extends_0 s (length F) (pieces_root F) block).0 z).0 in omega (arith, C.range.1))
 
     size_is : (rest_size (length F) ≡ 0 → ⊥) → length block ≡ block_size (file_length s) (whole_blocks (length F))
-    size_is r = let C = ((extends-0 s (length F) (pieces_root F) block).0 z).0 in rw (ne_eqb (rest_size (length F)) 0 r) at C.size
+    size_is r = let C = ((extends_0 s (length F) (pieces_root F) block).0 z).0 in rw (ne_eqb (rest_size (length F)) 0 r) at C.size
 
     no_size : rest_size (length F) ≡ 0 → length block ≡ 0
-    no_size r = let C = ((extends-0 s (length F) (pieces_root F) block).0 z).0 in rw (eq-eqb (rest_size (length F)) 0 r) at C.size
+    no_size r = let C = ((extends_0 s (length F) (pieces_root F) block).0 z).0 in rw (eq-eqb (rest_size (length F)) 0 r) at C.size
 
-    front-is : TwoStrings F G s block ⊎ (cut block 0 (rest_size (length F)) ≡ rest_of G (length F))
-    front-is =
+    front_is : TwoStrings F G s block ⊎ (cut block 0 (rest_size (length F)) ≡ rest_of G (length F))
+    front_is =
         elim (ℕ_discrete (rest_size (length F)) 0) [
           | yes r ↦
               inr
-              (no_bytes (cut block 0 (rest_size (length F))) (rest_of G (length F)) (cut-length block 0 (rest_size (length F)) (omega (arith, no_size r)) ∙ r)
-              (cut-length G (block_length * whole_blocks (length F)) (rest_size (length F)) (omega (arith, most)) ∙ r))
+              (no_bytes (cut block 0 (rest_size (length F))) (rest_of G (length F)) (cut_length block 0 (rest_size (length F)) (omega (arith, no_size r)) ∙ r)
+              (cut_length G (block_length * whole_blocks (length F)) (rest_size (length F)) (omega (arith, most)) ∙ r))
           | no r ↦
-              let t = (extends-0 s (length F) (pieces_root F) block).0 z in
-              elim (block-is-the-files G o w (whole_blocks (length F)) block bg bb
-              ((block-0 s (whole_blocks (length F)) block).1 (record { store = t.0.store; inside = inside-file r; size = size_is r }, t.2.held r))) [
+              let t = (extends_0 s (length F) (pieces_root F) block).0 z in
+              elim (block_is_the_files G o w (whole_blocks (length F)) block bg bb
+              ((block_0 s (whole_blocks (length F)) block).1 (record { store = t.0.store; inside = inside_file r; size = size_is r }, t.2.held r))) [
                 | inl x ↦ inl (store_shows x)
                 | inr (inl x) ↦ inl (lent_shows x)
-                | inr (inr e) ↦ inr (ap (λ (x : List ℕ). cut x 0 (rest_size (length F))) e ∙ block-first G (length F) most)
+                | inr (inr e) ↦ inr (ap (λ (x : List ℕ). cut x 0 (rest_size (length F))) e ∙ block_first G (length F) most)
               ]
         ]
 
     -- SOUND: G begins with an earlier file of this length and root, or two different strings with one SHA-256 are shown
-    pub begins-with : TwoStrings F G s block ⊎ BeginsWith G F
-    begins-with =
-        elim front-is [
+    pub begins_with : TwoStrings F G s block ⊎ BeginsWith G F
+    begins_with =
+        elim front_is [
           | inl x ↦ inl x
           | inr e ↦ elim all_known [
             | inl x ↦ inl (store_shows x)
             | inr k ↦
-                let t = (extends-0 s (length F) (pieces_root F) block).0 z in
+                let t = (extends_0 s (length F) (pieces_root F) block).0 z in
                 let q : last_hash (length F) block ≡ sha256 (rest_of G (length F)) = ap sha256 e in
-                let found = (peaks-exactly s (length F) (sha256 (rest_of G (length F)))).1 t.1.peaks in
-                let root = sym (root-first (length F) most k found) ∙ ap (λ (x : List ℕ). (earlier_root s (length F) x).hash) (sym q) ∙ t.2.value in
-                by (one-root (first_bytes G (length F)) F (first-length G (length F) most) (first-bytes G (length F) most bg) bf root)
+                let found = (peaks_exactly s (length F) (sha256 (rest_of G (length F)))).1 t.1.peaks in
+                let root = sym (root_first (length F) most k found) ∙ ap (λ (x : List ℕ). (earlier_root s (length F) x).hash) (sym q) ∙ t.2.value in
+                by (one_root (first_bytes G (length F)) F (first_length G (length F) most) (first_bytes_lem G (length F) most bg) bf root)
           ]
         ]
       where
@@ -216,58 +216,58 @@ module _ {s : List ℕ} (G : List ℕ) (o : OurStore s) (w : For G s) where
         by (blocks_show x c) = inl (block_shows x c)
 
   -- COMPLETE: of the file's own first n bytes, where the hashes needed are held and the block is the file's, it is 0, or a pair is shown
-  pub first-extends : (n : ℕ) → 0 < n → n ≤ length G → Needed s n
+  pub first_extends : (n : ℕ) → 0 < n → n ≤ length G → Needed s n
       → Shown (height_of s) (held_by s) (of_file G) ⊎ (extends_answer s n (pieces_root (first_bytes G n)) (over_end G n) ≡ done n)
-  first-extends n some most N =
+  first_extends n some most N =
       elim all_known [
         | inl x ↦ inl x
         | inr k ↦
             inr
-            (extends-done s n (pieces_root (first_bytes G n)) (over_end G n)
-            ((extends-0 s n (pieces_root (first_bytes G n)) (over_end G n)).1 (
+            (extends_done s n (pieces_root (first_bytes G n)) (over_end G n)
+            ((extends_0 s n (pieces_root (first_bytes G n)) (over_end G n)).1 (
               record {
-                store = facts-usable s (ours-have o).chained.facts;
+                store = facts_usable s (ours_have o).chained.facts;
                 range = (some, omega (arith, w.long));
-                size = over-length G n most ∙ ap (λ (x : ℕ). over_size x n) (sym w.long);
+                size = over_length G n most ∙ ap (λ (x : ℕ). over_size x n) (sym w.long);
               },
               N,
               record {
-                held = λ r. record { given = (N.leaf r).1.given; hash = leaf-is k r };
-                value = ap (λ (x : List ℕ). (earlier_root s n (sha256 x)).hash) (over_first G n most) ∙ root-first n most k ((peaks-exactly s n (sha256 (rest_of G n))).1 N.peaks);
+                held = λ r. record { given = (N.leaf r).1.given; hash = leaf_is k r };
+                value = ap (λ (x : List ℕ). (earlier_root s n (sha256 x)).hash) (over_first G n most) ∙ root_first n most k ((peaks_exactly s n (sha256 (rest_of G n))).1 N.peaks);
               },
             )))
       ]
     where
-      leaf-is : ((l i : ℕ) → (held_answer s l i).number ≡ 0 → (held_answer s l i).hash ≡ node (leaf_of G) l i) → (r : rest_size n ≡ 0 → ⊥)
+      leaf_is : ((l i : ℕ) → (held_answer s l i).number ≡ 0 → (held_answer s l i).hash ≡ node (leaf_of G) l i) → (r : rest_size n ≡ 0 → ⊥)
           → (held_answer s 0 (whole_blocks n)).hash ≡ sha256 (over_end G n)
-      leaf-is k r =
+      leaf_is k r =
           k 0 (whole_blocks n) (N.leaf r).1.given
-          ∙ leaf-node G (whole_blocks n) (block_within (length G) (whole_blocks n) (omega arith))
-          ∙ ap sha256 (sym (over-block G n most r))
+          ∙ leaf_node G (whole_blocks n) (block_within (length G) (whole_blocks n) (omega arith))
+          ∙ ap sha256 (sym (over_block G n most r))
 
 -- the first bytes of F and more
 pub first_of : (F more : List ℕ) → first_bytes (F ++ more) (length F) ≡ F
-first_of F more = cut-append-left F more 0 (length F) (omega arith) ∙ cut-whole F (length F) (omega arith)
+first_of F more = cut_append_left F more 0 (length F) (omega arith) ∙ cut_whole F (length F) (omega arith)
 
 -- ---- what follows
 
 -- where the two are of one length, they are one file
-pub same-length-same : (G F : List ℕ) → BeginsWith G F → length F ≡ length G → G ≡ F
-same-length-same G F b e =
+pub same_length_same : (G F : List ℕ) → BeginsWith G F → length F ≡ length G → G ≡ F
+same_length_same G F b e =
     let l : length b.more ≡ 0 = omega (arith, ap length b.whole, length-append F b.more) in
     b.whole ∙ ap (λ (x : List ℕ). F ++ x) (no_bytes b.more [] l refl) ∙ append-nil F
 
 -- beginning with is handed on
-begins-through : {F G H : List ℕ} → BeginsWith G F → BeginsWith H G → BeginsWith H F
-begins-through {F} {G} {H} p q =
+begins_through : {F G H : List ℕ} → BeginsWith G F → BeginsWith H G → BeginsWith H F
+begins_through {F} {G} {H} p q =
     record { more = p.more ++ q.more; whole = q.whole ∙ ap (λ (x : List ℕ). x ++ q.more) p.whole ∙ append_assoc F p.more q.more }
 
 -- THROUGH ANY CHAIN OF SUCH ANSWERS the last file begins with the first, or strings are shown at one of them
 pub follows : {F H : List ℕ} (c : Follows F H) → ShownAmong H c ⊎ BeginsWith H F
 follows {F} same = inr (record { more = []; whole = sym (append-nil F) })
-follows {F} (grew {G} c g H s block o w h b e) = by (follows c) (begins-with H o w G block h g b (ap (λ (a : Answer). a.number) e))
+follows {F} (grew {G} c g H s block o w h b e) = by (follows c) (begins_with H o w G block h g b (ap (λ (a : Answer). a.number) e))
   where
     by : ShownAmong G c ⊎ BeginsWith G F → TwoStrings G H s block ⊎ BeginsWith H G → ShownAmong H (grew c g H s block o w h b e) ⊎ BeginsWith H F
     by (inl x) y = inl (before x)
     by (inr p) (inl x) = inl (here x)
-    by (inr p) (inr q) = inr (begins-through p q)
+    by (inr p) (inr q) = inr (begins_through p q)

@@ -10,56 +10,56 @@ use lib.ListN.{length, take, drop, get_or}
 use borrow.Author.Tests.{eq-eqb, ne_eqb}
 use Rattle.limits.specs.Limits.{longest_file}
 use Rattle.octets.specs.Octets.{cut, same}
-use Rattle.octets.specs.OctetsLaws.{cut-length}
+use Rattle.octets.specs.OctetsLaws.{cut_length}
 use Rattle.numbers.specs.Numbers.{layers_amiss, layer_differs}
 use Rattle.tree.specs.Geometry.{block_count, covering, height, is_piece_length, piece_layer, piece_count, has_layer}
-use Rattle.tree.proofs.GeometryLaws.{ceil-least, covering-most, pieces-covering, piece-length-form}
+use Rattle.tree.proofs.GeometryLaws.{ceil_least, covering_most, pieces_covering, piece_length_form}
 use Rattle.tree.specs.Values.{layer_root}
 use Rattle.bencode.specs.Scalar.{read_string}
-use Rattle.bencode.specs.EndsLaws.{string-ends}
+use Rattle.bencode.specs.EndsLaws.{string_ends}
 use Rattle.bencode.specs.declared.scalar.ByteString.{ByteString}
 use Rattle.bencode.specs.declared.scalar.ByteString.TheVariants.{Content, NoString}
 use Rattle.bencode.specs.declared.parts.Found.{Found}
 use Rattle.bencode.specs.declared.parts.Found.TheVariants.{Part, Missing}
 use Rattle.bencode.specs.Parts.{find_key}
-use Rattle.sorting.proofs.Telling.{part-is}
+use Rattle.sorting.proofs.Telling.{part_is}
 use Rattle.sorting.specs.Sorting.{SearchedFor}
 use Rattle.layers.specs.Layers.{Inside, string_in, layer_at, Indexed, of_layer, number_by_layer, lower}
-use Rattle.layers.proofs.Searching.{indexed-found, indexed-none}
+use Rattle.layers.proofs.Searching.{indexed_found, indexed_none}
 
 module _ (s keys : List ℕ) (count : ℕ) (x : Indexed s keys count) (key : List ℕ) (r : ℕ) (w : SearchedFor s keys count key r) where
   pub found_here : r < count → layer_at s key ≡ read_string (get_or keys r 0 + 32) (drop (get_or keys r 0 + 32) s)
-  found_here h = elim w [ inl p ↦ indexed-found s keys count x key r h p.1 | inr p ↦ let e = p.0 in let z : ⊥ = omega arith in absurd z ]
+  found_here h = elim w [ inl p ↦ indexed_found s keys count x key r h p.1 | inr p ↦ let e = p.0 in let z : ⊥ = omega arith in absurd z ]
 
   pub found_nowhere : count ≤ r → layer_at s key ≡ NoString
-  found_nowhere h = elim w [ inl p ↦ let e = p.0 in let z : ⊥ = omega arith in absurd z | inr p ↦ indexed-none s keys count x key p.1 ]
+  found_nowhere h = elim w [ inl p ↦ let e = p.0 in let z : ⊥ = omega arith in absurd z | inr p ↦ indexed_none s keys count x key p.1 ]
 
 -- a layer that is found lies within the bytes
-pub layer-inside : (s key : List ℕ) → Inside (length s) (layer_at s key)
+pub layer_inside : (s key : List ℕ) → Inside (length s) (layer_at s key)
 unfolding layer_at
-layer-inside s key = by-found (find_key key 0 s)
+layer_inside s key = by_found (find_key key 0 s)
   where
-    by-string : (a : ℕ) (w : ByteString) → read_string a (drop a s) ≡ w → Inside (length s) w
-    by-string a NoString e = tt
-    by-string a (Content b c) e = let p = string-ends a s b c e in (p.1, p.2)
+    by_string : (a : ℕ) (w : ByteString) → read_string a (drop a s) ≡ w → Inside (length s) w
+    by_string a NoString e = tt
+    by_string a (Content b c) e = let p = string_ends a s b c e in (p.1, p.2)
 
-    by-found : (w : Found) → Inside (length s) (string_in s w)
-    by-found Missing = tt
-    by-found (Part a b) = by-string a (read_string a (drop a s)) refl
+    by_found : (w : Found) → Inside (length s) (string_in s w)
+    by_found Missing = tt
+    by_found (Part a b) = by_string a (read_string a (drop a s)) refl
 
 -- ---- a file longer than the piece length
 
 module _ (plen n : ℕ) (p : is_piece_length plen ≡ true) (h : has_layer n plen ≡ true) where
-  pub pieces-few : n ≤ longest_file → piece_count n plen ≤ longest_file
-  pieces-few l =
-      let form = (piece-length-form plen p).1 in
-      let c : piece_count n plen ≡ covering (block_count n) (piece_layer plen) = ap (piece_count n) form ∙ pieces-covering n (piece_layer plen) in
-      let few = covering-most (block_count n) (piece_layer plen) in
-      let blocks = blocks-few in
+  pub pieces_few : n ≤ longest_file → piece_count n plen ≤ longest_file
+  pieces_few l =
+      let form = (piece_length_form plen p).1 in
+      let c : piece_count n plen ≡ covering (block_count n) (piece_layer plen) = ap (piece_count n) form ∙ pieces_covering n (piece_layer plen) in
+      let few = covering_most (block_count n) (piece_layer plen) in
+      let blocks = blocks_few in
       omega arith
     where
-      blocks-few : block_count n ≤ n
-      blocks-few = unfold block_count in ceil-least n 16384 n (omega arith) (omega arith)
+      blocks_few : block_count n ≤ n
+      blocks_few = unfold block_count in ceil_least n 16384 n (omega arith) (omega arith)
 
 -- ---- a file's number from its layer
 
@@ -68,45 +68,45 @@ module _ (s : List ℕ) (plen n : ℕ) (root : List ℕ) (w : ByteString) (a b :
   of_size c q d = ap (of_layer s plen n root) e ∙ simp (ne_eqb (b - a) (32 * piece_count n plen) (λ z. d (z ∙ ap (λ (x : ℕ). 32 * x) (sym q))))
 
   module _ (c : ℕ) (q : c ≡ piece_count n plen) (d : b - a ≡ 32 * c) (r : Bool) (g : r ≡ same (layer_root (take (b - a) (drop a s)) (piece_layer plen) (height (block_count n))) root) where
-    by-root : of_layer s plen n root w ≡ cond r 0 layer_differs
+    by_root : of_layer s plen n root w ≡ cond r 0 layer_differs
     unfolding cut
-    by-root = ap (of_layer s plen n root) e ∙ rw (eq-eqb (b - a) (32 * piece_count n plen) (d ∙ ap (λ (x : ℕ). 32 * x) q), sym g) refl
+    by_root = ap (of_layer s plen n root) e ∙ rw (eq-eqb (b - a) (32 * piece_count n plen) (d ∙ ap (λ (x : ℕ). 32 * x) q), sym g) refl
 
-    pub of-root : r ≡ true → of_layer s plen n root w ≡ 0
-    of-root h = by-root ∙ rw h refl
+    pub of_root : r ≡ true → of_layer s plen n root w ≡ 0
+    of_root h = by_root ∙ rw h refl
 
     pub of_other : r ≡ false → of_layer s plen n root w ≡ layer_differs
-    of_other h = by-root ∙ rw h refl
+    of_other h = by_root ∙ rw h refl
 
 module _ (s : List ℕ) (plen n : ℕ) (root : List ℕ) where
-  pub number-none : has_layer n plen ≡ false → number_by_layer s plen n root ≡ 0
+  pub number_none : has_layer n plen ≡ false → number_by_layer s plen n root ≡ 0
   unfolding number_by_layer
-  number-none h = rw h refl
+  number_none h = rw h refl
 
-  pub number-layer : has_layer n plen ≡ true → (w : ByteString) → w ≡ layer_at s root → number_by_layer s plen n root ≡ of_layer s plen n root w
+  pub number_layer : has_layer n plen ≡ true → (w : ByteString) → w ≡ layer_at s root → number_by_layer s plen n root ≡ of_layer s plen n root w
   unfolding number_by_layer
-  number-layer h w e = rw h (ap (of_layer s plen n root) (sym e))
+  number_layer h w e = rw h (ap (of_layer s plen n root) (sym e))
 
 -- a file's root as the code cuts it from the tree
 module _ (t : List ℕ) (r : ℕ) where
-  pub root-slice : r + 32 ≤ length t → length (take (r + 32 - r) (drop r t)) ≡ 32
-  root-slice h = ap length (part-is t r) ∙ cut-length t r 32 h
+  pub root_slice : r + 32 ≤ length t → length (take (r + 32 - r) (drop r t)) ≡ 32
+  root_slice h = ap length (part_is t r) ∙ cut_length t r 32 h
 
-  pub number-here : (l : List ℕ) (plen n : ℕ) (w : ByteString) (m : ℕ) → has_layer n plen ≡ true → w ≡ layer_at l (take (r + 32 - r) (drop r t)) → m ≡ of_layer l plen n (take (r + 32 - r) (drop r t)) w
+  pub number_here : (l : List ℕ) (plen n : ℕ) (w : ByteString) (m : ℕ) → has_layer n plen ≡ true → w ≡ layer_at l (take (r + 32 - r) (drop r t)) → m ≡ of_layer l plen n (take (r + 32 - r) (drop r t)) w
       → m ≡ number_by_layer l plen n (cut t r 32)
-  number-here l plen n w m h e f = f ∙ sym (number-layer l plen n (take (r + 32 - r) (drop r t)) h w e) ∙ ap (number_by_layer l plen n) (part-is t r)
+  number_here l plen n w m h e f = f ∙ sym (number_layer l plen n (take (r + 32 - r) (drop r t)) h w e) ∙ ap (number_by_layer l plen n) (part_is t r)
 
 -- two numbers
 module _ (w n : ℕ) where
-  pub lower-amiss : w ≡ layers_amiss → lower w n ≡ w
+  pub lower_amiss : w ≡ layers_amiss → lower w n ≡ w
   unfolding lower
-  lower-amiss e = rw (eq-eqb w layers_amiss e) refl
+  lower_amiss e = rw (eq-eqb w layers_amiss e) refl
 
   module _ (o : w ≡ layers_amiss → ⊥) where
-    pub lower-none : n ≡ 0 → lower w n ≡ w
+    pub lower_none : n ≡ 0 → lower w n ≡ w
     unfolding lower
-    lower-none e = rw (ne_eqb w layers_amiss o, eq-eqb n 0 e) refl
+    lower_none e = rw (ne_eqb w layers_amiss o, eq-eqb n 0 e) refl
 
-    pub lower-other : (n ≡ 0 → ⊥) → lower w n ≡ n
+    pub lower_other : (n ≡ 0 → ⊥) → lower w n ≡ n
     unfolding lower
-    lower-other e = rw (ne_eqb w layers_amiss o, ne_eqb n 0 e) refl
+    lower_other e = rw (ne_eqb w layers_amiss o, ne_eqb n 0 e) refl

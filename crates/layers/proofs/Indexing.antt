@@ -12,7 +12,7 @@ use lib.Dec.{eqb}
 use borrow.Author.Tests.{eq-eqb, ne_eqb, eqb-true}
 use Rattle.bencode.specs.Scalar.{read_number}
 use Rattle.bencode.specs.Parts.{read_entry}
-use Rattle.bencode.specs.PartsLaws.{entry-ends}
+use Rattle.bencode.specs.PartsLaws.{entry_ends}
 use Rattle.bencode.specs.declared.parts.Entry.TheVariants.{Keyed, NoEntry}
 use Rattle.layers.specs.Layers.{keys_on, keys_from, wide_on, wide_from, layer_keys, keys_wide}
 
@@ -26,9 +26,9 @@ pub record IndexAt (s keys : List ℕ) (most i n : ℕ) : Type 0 where
   pub kept : take n keys ≡ before
   pub few : n ≤ most
 
-pub index-start : (s keys : List ℕ) (most : ℕ) → IndexAt s keys most 1 0
+pub index_start : (s keys : List ℕ) (most : ℕ) → IndexAt s keys most 1 0
 unfolding layer_keys keys_wide
-index-start s keys most =
+index_start s keys most =
     record { steps = suc (length (drop 1 s)); before = []; enough = omega (arith, length-drop 1 s); others = refl; wide = refl; all = refl; kept = refl; few = omega arith }
 
 -- what is answered: whether there are so many keys, each wide
@@ -36,21 +36,21 @@ abbrev pub IndexAnswer : List ℕ → List ℕ → ℕ → Bool → Type 0
 IndexAnswer s keys most r = (r ≡ (keys_wide s && eqb (length (layer_keys s)) most)) × (r ≡ true → take most keys ≡ layer_keys s)
 
 module _ (s keys : List ℕ) (most i n : ℕ) (w : IndexAt s keys most i n) where
-  no-more : (k : ℕ) → read_entry i (drop i s) ≡ NoEntry → (keys_from k s i ≡ []) × (wide_from k s i ≡ true)
+  no_more_lem : (k : ℕ) → read_entry i (drop i s) ≡ NoEntry → (keys_from k s i ≡ []) × (wide_from k s i ≡ true)
   unfolding keys_from wide_from
-  no-more zero e = (refl, refl)
-  no-more (suc k) e = (ap (keys_on (keys_from k s)) e, ap (wide_on (wide_from k s)) e)
+  no_more_lem zero e = (refl, refl)
+  no_more_lem (suc k) e = (ap (keys_on (keys_from k s)) e, ap (wide_on (wide_from k s)) e)
 
   -- no entry follows: all keys are gathered
-  pub index-last : read_entry i (drop i s) ≡ NoEntry → (r : Bool) → r ≡ eqb n most → IndexAnswer s keys most r
-  index-last e r q =
-      let z = no-more w.steps e in
-      let all-keys : layer_keys s ≡ w.before = w.others ∙ ap (λ (l : List ℕ). w.before ++ l) z.0 ∙ append-nil w.before in
-      let so-many : length (layer_keys s) ≡ n = ap length all-keys ∙ sym w.all in
-      (q ∙ rw (w.wide ∙ z.1, so-many) refl, λ t. let m : n ≡ most = eqb-true n most (sym q ∙ t) in rw m at w.kept ∙ sym all-keys)
+  pub index_last : read_entry i (drop i s) ≡ NoEntry → (r : Bool) → r ≡ eqb n most → IndexAnswer s keys most r
+  index_last e r q =
+      let z = no_more_lem w.steps e in
+      let all_keys : layer_keys s ≡ w.before = w.others ∙ ap (λ (l : List ℕ). w.before ++ l) z.0 ∙ append-nil w.before in
+      let so_many : length (layer_keys s) ≡ n = ap length all_keys ∙ sym w.all in
+      (q ∙ rw (w.wide ∙ z.1, so_many) refl, λ t. let m : n ≡ most = eqb-true n most (sym q ∙ t) in rw m at w.kept ∙ sym all_keys)
 
-  pub index-past : length s ≤ i → (r : Bool) → r ≡ eqb n most → IndexAnswer s keys most r
-  index-past h r q = index-last (none h) r q
+  pub index_past : length s ≤ i → (r : Bool) → r ≡ eqb n most → IndexAnswer s keys most r
+  index_past h r q = index_last (none h) r q
     where
       none : length s ≤ i → read_entry i (drop i s) ≡ NoEntry
       none h = unfold read_entry read_number in rw (drop_of_length-le s {i = i} h) refl
@@ -63,27 +63,27 @@ module _ (s keys : List ℕ) (most i n : ℕ) (w : IndexAt s keys most i n) wher
     step (suc f) g = (f, omega arith, ap (keys_on (keys_from f s)) e, ap (wide_on (wide_from f s)) e)
 
     -- a key of another size
-    pub index-narrow : (b - a ≡ 32 → ⊥) → IndexAnswer s keys most false
-    index-narrow d =
+    pub index_narrow : (b - a ≡ 32 → ⊥) → IndexAnswer s keys most false
+    index_narrow d =
         let t = step w.steps w.enough in
         let narrow : keys_wide s ≡ false = w.wide ∙ t.3 ∙ rw (ne_eqb (b - a) 32 d) refl in
         (rw narrow refl, λ f. absurd (false≢true f))
 
     -- one key too many
-    pub index-full : most ≤ n → IndexAnswer s keys most false
-    index-full g =
+    pub index_full : most ≤ n → IndexAnswer s keys most false
+    index_full g =
         let t = step w.steps w.enough in
-        let so-many : length (layer_keys s) ≡ n + suc (length (keys_from t.0 s k)) = ap length (w.others ∙ ap (λ (l : List ℕ). w.before ++ l) t.2) ∙ length-append w.before (a ∷ keys_from t.0 s k) ∙ ap (λ (z : ℕ). z + suc (length (keys_from t.0 s k))) (sym w.all) in
+        let so_many : length (layer_keys s) ≡ n + suc (length (keys_from t.0 s k)) = ap length (w.others ∙ ap (λ (l : List ℕ). w.before ++ l) t.2) ∙ length-append w.before (a ∷ keys_from t.0 s k) ∙ ap (λ (z : ℕ). z + suc (length (keys_from t.0 s k))) (sym w.all) in
         let other : (length (layer_keys s) ≡ most → ⊥) = λ q. omega arith in
         (rw (ne_eqb (length (layer_keys s)) most other) (sym (and-false (keys_wide s))), λ f. absurd (false≢true f))
 
-    pub index-behind : (i < k) × (k ≤ length s) × (a ≤ b) × (a ≤ length s)
-    index-behind = let p = entry-ends i s a b k e in let x = p.0 in let y = p.1 in let z = p.2 in let u = p.3 in (omega arith, u, y, omega arith)
+    pub index_behind : (i < k) × (k ≤ length s) × (a ≤ b) × (a ≤ length s)
+    index_behind = let p = entry_ends i s a b k e in let x = p.0 in let y = p.1 in let z = p.2 in let u = p.3 in (omega arith, u, y, omega arith)
 
-    pub index-more : b - a ≡ 32 → n < most → n < length keys → IndexAt s (set keys n a) most k (n + 1)
-    index-more d g l =
+    pub index_more : b - a ≡ 32 → n < most → n < length keys → IndexAt s (set keys n a) most k (n + 1)
+    index_more d g l =
         let t = step w.steps w.enough in
-        let p = index-behind.0 in
+        let p = index_behind.0 in
         let g' = t.1 in
         let written : take (n + 1) (set keys n a) ≡ take n keys ++ a ∷ [] = rw add-one (take-suc-set keys n a l) in
         record {

@@ -10,116 +10,116 @@ use lib.Seq.{get_or-take, length-take-le}
 use lib.Dec.{eqb}
 use borrow.Author.Tests.{eqb-true}
 use Rattle.octets.specs.Octets.{cut, same}
-use Rattle.octets.specs.OctetsLaws.{same_true, same-eq}
+use Rattle.octets.specs.OctetsLaws.{same_true, same_eq}
 use Rattle.bencode.specs.Scalar.{read_string}
 use Rattle.bencode.specs.Walk.{between}
 use Rattle.bencode.specs.Parts.{read_entry, from_entry, find_in, find_key}
-use Rattle.bencode.specs.EndsLaws.{drop-further}
-use Rattle.bencode.specs.PartsLaws.{entry-ends}
+use Rattle.bencode.specs.EndsLaws.{drop_further}
+use Rattle.bencode.specs.PartsLaws.{entry_ends}
 use Rattle.bencode.specs.declared.scalar.ByteString.TheVariants.{NoString}
 use Rattle.bencode.specs.declared.parts.Found.{Found}
 use Rattle.bencode.specs.declared.parts.Found.TheVariants.{Part, Missing}
 use Rattle.bencode.specs.declared.parts.Entry.{Entry}
 use Rattle.bencode.specs.declared.parts.Entry.TheVariants.{Keyed, NoEntry}
-use Rattle.sorting.specs.SortingLaws.{ascending-one}
+use Rattle.sorting.specs.SortingLaws.{ascending_one}
 use Rattle.layers.specs.Layers.{string_in, layer_at, keys_on, keys_from, wide_on, wide_from, layer_keys, keys_wide, Indexed}
-use Rattle.layers.specs.KeysLaws.{both, keys-within}
+use Rattle.layers.specs.KeysLaws.{both, keys_within}
 
 -- an entry's key of 32 bytes
-key-ends : (b a : ℕ) → a ≤ b → eqb (b - a) 32 ≡ true → b ≡ a + 32
-key-ends b a h e = let o : b - a ≡ 32 = eqb-true (b - a) 32 e in omega arith
+key_ends : (b a : ℕ) → a ≤ b → eqb (b - a) 32 ≡ true → b ≡ a + 32
+key_ends b a h e = let o : b - a ≡ 32 = eqb-true (b - a) 32 e in omega arith
 
 module _ (s key : List ℕ) where
   -- what the search does at an entry
-  abbrev on-entry : ℕ → ℕ → Entry → Found
-  on-entry n at x = from_entry x (λ a b k. cond (same key (between at (drop at s) a b)) (Part b k) (find_in key n k (drop (k - at) (drop at s))))
+  abbrev on_entry : ℕ → ℕ → Entry → Found
+  on_entry n at x = from_entry x (λ a b k. cond (same key (between at (drop at s) a b)) (Part b k) (find_in key n k (drop (k - at) (drop at s))))
 
-  entry-step : (n at a b k : ℕ) → read_entry at (drop at s) ≡ Keyed a b k → eqb (b - a) 32 ≡ true
-      → on-entry n at (Keyed a b k) ≡ cond (same key (cut s a 32)) (Part (a + 32) k) (find_in key n k (drop k s))
+  entry_step : (n at a b k : ℕ) → read_entry at (drop at s) ≡ Keyed a b k → eqb (b - a) 32 ≡ true
+      → on_entry n at (Keyed a b k) ≡ cond (same key (cut s a 32)) (Part (a + 32) k) (find_in key n k (drop k s))
   unfolding cut
-  entry-step n at a b k q e =
-      let p = entry-ends at s a b k q in
+  entry_step n at a b k q e =
+      let p = entry_ends at s a b k q in
       let x = p.0 in
       let y = p.1 in
       let z = p.2 in
-      let o : b ≡ a + 32 = key-ends b a y e in
+      let o : b ≡ a + 32 = key_ends b a y e in
       let size : b - a ≡ 32 = omega arith in
-      rw (drop-further s at a (omega arith), drop-further s at k (omega arith), size, o) refl
+      rw (drop_further s at a (omega arith), drop_further s at k (omega arith), size, o) refl
 
   -- where no key is the one, nothing is found
   pub find_none : (n at : ℕ) → wide_from n s at ≡ true → ((i : ℕ) → i < length (keys_from n s at) → cut s (get_or (keys_from n s at) i 0) 32 ≡ key → ⊥) → find_in key n at (drop at s) ≡ Missing
   unfolding wide_from keys_from find_in
   find_none zero at w h = refl
-  find_none (suc n) at w h = by-entry (read_entry at (drop at s)) refl w h (find_none n)
+  find_none (suc n) at w h = by_entry (read_entry at (drop at s)) refl w h (find_none n)
     where
-      by-entry : (x : Entry) → read_entry at (drop at s) ≡ x → wide_on (wide_from n s) x ≡ true
+      by_entry : (x : Entry) → read_entry at (drop at s) ≡ x → wide_on (wide_from n s) x ≡ true
           → ((i : ℕ) → i < length (keys_on (keys_from n s) x) → cut s (get_or (keys_on (keys_from n s) x) i 0) 32 ≡ key → ⊥)
           → ((k : ℕ) → wide_from n s k ≡ true → ((i : ℕ) → i < length (keys_from n s k) → cut s (get_or (keys_from n s k) i 0) 32 ≡ key → ⊥) → find_in key n k (drop k s) ≡ Missing)
-          → on-entry n at x ≡ Missing
-      by-entry NoEntry q w h later = refl
-      by-entry (Keyed a b k) q w h later =
+          → on_entry n at x ≡ Missing
+      by_entry NoEntry q w h later = refl
+      by_entry (Keyed a b k) q w h later =
           let p = both (eqb (b - a) 32) (wide_from n s k) w in
-          entry-step n at a b k q p.0 ∙ by-same (same key (cut s a 32)) refl p.1
+          entry_step n at a b k q p.0 ∙ by_same (same key (cut s a 32)) refl p.1
         where
-          by-same : (t : Bool) → same key (cut s a 32) ≡ t → wide_from n s k ≡ true → cond t (Part (a + 32) k) (find_in key n k (drop k s)) ≡ Missing
-          by-same true g u = absurd (h 0 (omega arith) (sym (same_true key (cut s a 32) g)))
-          by-same false g u = later k u (λ i l e. h (suc i) (omega arith) e)
+          by_same : (t : Bool) → same key (cut s a 32) ≡ t → wide_from n s k ≡ true → cond t (Part (a + 32) k) (find_in key n k (drop k s)) ≡ Missing
+          by_same true g u = absurd (h 0 (omega arith) (sym (same_true key (cut s a 32) g)))
+          by_same false g u = later k u (λ i l e. h (suc i) (omega arith) e)
 
   -- the first key that is the one is found
   pub find_first : (n at i : ℕ) → wide_from n s at ≡ true → i < length (keys_from n s at) → cut s (get_or (keys_from n s at) i 0) 32 ≡ key
       → ((j : ℕ) → j < i → cut s (get_or (keys_from n s at) j 0) 32 ≡ key → ⊥) → (e : ℕ) × (find_in key n at (drop at s) ≡ Part (get_or (keys_from n s at) i 0 + 32) e)
   unfolding wide_from keys_from find_in
   find_first zero at i w l h o = absurd (omega arith)
-  find_first (suc n) at i w l h o = by-entry (read_entry at (drop at s)) refl w i l h o (find_first n)
+  find_first (suc n) at i w l h o = by_entry (read_entry at (drop at s)) refl w i l h o (find_first n)
     where
-      by-entry : (x : Entry) → read_entry at (drop at s) ≡ x → wide_on (wide_from n s) x ≡ true → (i : ℕ) → i < length (keys_on (keys_from n s) x)
+      by_entry : (x : Entry) → read_entry at (drop at s) ≡ x → wide_on (wide_from n s) x ≡ true → (i : ℕ) → i < length (keys_on (keys_from n s) x)
           → cut s (get_or (keys_on (keys_from n s) x) i 0) 32 ≡ key
           → ((j : ℕ) → j < i → cut s (get_or (keys_on (keys_from n s) x) j 0) 32 ≡ key → ⊥)
           → ((k i : ℕ) → wide_from n s k ≡ true → i < length (keys_from n s k) → cut s (get_or (keys_from n s k) i 0) 32 ≡ key
           → ((j : ℕ) → j < i → cut s (get_or (keys_from n s k) j 0) 32 ≡ key → ⊥) → (e : ℕ) × (find_in key n k (drop k s) ≡ Part (get_or (keys_from n s k) i 0 + 32) e))
-          → (e : ℕ) × (on-entry n at x ≡ Part (get_or (keys_on (keys_from n s) x) i 0 + 32) e)
-      by-entry NoEntry q w i l h o later = absurd (omega arith)
-      by-entry (Keyed a b k) q w zero l h o later =
+          → (e : ℕ) × (on_entry n at x ≡ Part (get_or (keys_on (keys_from n s) x) i 0 + 32) e)
+      by_entry NoEntry q w i l h o later = absurd (omega arith)
+      by_entry (Keyed a b k) q w zero l h o later =
           let p = both (eqb (b - a) 32) (wide_from n s k) w in
-          (k, entry-step n at a b k q p.0 ∙ rw (same-eq key (cut s a 32) (sym h)) refl)
-      by-entry (Keyed a b k) q w (suc i) l h o later =
+          (k, entry_step n at a b k q p.0 ∙ rw (same_eq key (cut s a 32) (sym h)) refl)
+      by_entry (Keyed a b k) q w (suc i) l h o later =
           let p = both (eqb (b - a) 32) (wide_from n s k) w in
           let r = later k i p.1 (omega arith) h (λ j z e. o (suc j) (omega arith) e) in
-          (r.0, entry-step n at a b k q p.0 ∙ by-same (same key (cut s a 32)) refl ∙ r.1)
+          (r.0, entry_step n at a b k q p.0 ∙ by_same (same key (cut s a 32)) refl ∙ r.1)
         where
-          by-same : (t : Bool) → same key (cut s a 32) ≡ t → cond t (Part (a + 32) k) (find_in key n k (drop k s)) ≡ find_in key n k (drop k s)
-          by-same true g = absurd (o 0 (omega arith) (sym (same_true key (cut s a 32) g)))
-          by-same false g = refl
+          by_same : (t : Bool) → same key (cut s a 32) ≡ t → cond t (Part (a + 32) k) (find_in key n k (drop k s)) ≡ find_in key n k (drop k s)
+          by_same true g = absurd (o 0 (omega arith) (sym (same_true key (cut s a 32) g)))
+          by_same false g = refl
 
 -- ---- a layer by the index
 
 module _ (s keys : List ℕ) (count : ℕ) (x : Indexed s keys count) where
-  key-is : (i : ℕ) → i < count → get_or (layer_keys s) i 0 ≡ get_or keys i 0
-  key-is i h = ap (λ (l : List ℕ). get_or l i 0) (sym x.all) ∙ get_or-take count keys i 0 h
+  key_is : (i : ℕ) → i < count → get_or (layer_keys s) i 0 ≡ get_or keys i 0
+  key_is i h = ap (λ (l : List ℕ). get_or l i 0) (sym x.all) ∙ get_or-take count keys i 0 h
 
-  pub key-count : length (layer_keys s) ≡ count
-  key-count = ap length (sym x.all) ∙ length-take-le count keys x.room
+  pub key_count : length (layer_keys s) ≡ count
+  key_count = ap length (sym x.all) ∙ length-take-le count keys x.room
 
-  pub index-within : (i : ℕ) → i < count → get_or keys i 0 + 32 ≤ length s
-  index-within = keys-within s x.wide keys count x.room x.all
+  pub index_within : (i : ℕ) → i < count → get_or keys i 0 + 32 ≤ length s
+  index_within = keys_within s x.wide keys count x.room x.all
 
   whole : (key : List ℕ) → find_key key 0 s ≡ find_in key (suc (length (drop 1 s))) 1 (drop 1 s)
   unfolding find_key
   whole key = rw x.opens refl
 
   -- found by halving, it is what the search for the key finds
-  pub indexed-found : (key : List ℕ) (r : ℕ) → r < count → cut s (get_or keys r 0) 32 ≡ key → layer_at s key ≡ read_string (get_or keys r 0 + 32) (drop (get_or keys r 0 + 32) s)
+  pub indexed_found : (key : List ℕ) (r : ℕ) → r < count → cut s (get_or keys r 0) 32 ≡ key → layer_at s key ≡ read_string (get_or keys r 0 + 32) (drop (get_or keys r 0 + 32) s)
   unfolding layer_at layer_keys keys_wide
-  indexed-found key r h e =
-      let at_key : cut s (get_or (layer_keys s) r 0) 32 ≡ key = rw (key-is r h) e in
+  indexed_found key r h e =
+      let at_key : cut s (get_or (layer_keys s) r 0) 32 ≡ key = rw (key_is r h) e in
       let others : (j : ℕ) → j < r → cut s (get_or (layer_keys s) j 0) 32 ≡ key → ⊥ =
-      λ j l q. let j-below : j < count = omega arith in let same_place : j ≡ r = ascending-one s keys count x.ascending j r j-below h (rw (key-is j j-below) at q ∙ sym e) in omega arith in
-      let f = find_first s key (suc (length (drop 1 s))) 1 r x.wide (rw key-count h) at_key others in
-      ap (string_in s) (whole key ∙ f.1) ∙ rw (key-is r h) refl
+      λ j l q. let j_below : j < count = omega arith in let same_place : j ≡ r = ascending_one s keys count x.ascending j r j_below h (rw (key_is j j_below) at q ∙ sym e) in omega arith in
+      let f = find_first s key (suc (length (drop 1 s))) 1 r x.wide (rw key_count h) at_key others in
+      ap (string_in s) (whole key ∙ f.1) ∙ rw (key_is r h) refl
 
-  pub indexed-none : (key : List ℕ) → ((i : ℕ) → i < count → cut s (get_or keys i 0) 32 ≡ key → ⊥) → layer_at s key ≡ NoString
+  pub indexed_none : (key : List ℕ) → ((i : ℕ) → i < count → cut s (get_or keys i 0) 32 ≡ key → ⊥) → layer_at s key ≡ NoString
   unfolding layer_at layer_keys keys_wide
-  indexed-none key h =
+  indexed_none key h =
       let none : (i : ℕ) → i < length (layer_keys s) → cut s (get_or (layer_keys s) i 0) 32 ≡ key → ⊥ =
-      λ i l q. let i-below : i < count = rw key-count at l in h i i-below (rw (key-is i i-below) at q) in
+      λ i l q. let i_below : i < count = rw key_count at l in h i i_below (rw (key_is i i_below) at q) in
       ap (string_in s) (whole key ∙ find_none s key (suc (length (drop 1 s))) 1 x.wide none)

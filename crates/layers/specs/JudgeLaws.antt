@@ -7,36 +7,36 @@ use Rattle.std.proofs.lemmas.Bool.{false≢true}
 use Rattle.limits.specs.Limits.{longest_file}
 use Rattle.octets.specs.Octets.{cut}
 use Rattle.filetree.specs.Token.{ends_here, token_at}
-use Rattle.filetree.specs.TokenLaws.{leaf-ends}
+use Rattle.filetree.specs.TokenLaws.{leaf_ends}
 use Rattle.filetree.specs.Tree.{max_elements, Element, Listed, listed_as, down, Files, wrong, files, files_below, files_in, right, listed}
-use Rattle.filetree.specs.TreeLaws.{empty-tree, tree-below, FilesPassed, passed_none, passed-bad, passed-end, passed-closed, passed-file, passed-wrong, inside-ends, passed-directory}
+use Rattle.filetree.specs.TreeLaws.{empty_tree, tree_below, FilesPassed, passed_none, passed_bad, passed_end, passed_closed, passed_file, passed_wrong, inside_ends, passed_directory}
 use Rattle.filetree.specs.declared.token.Token.TheVariants.{Opened, Closed, Leaf, BadToken}
 use Rattle.layers.specs.Layers.{number_by_layer, lower, worst, numbered_of, Judges}
 use Rattle.layers.specs.declared.Numbered.TheVariants.{Past, WrongTree}
 
-worst-append : (t l : List ℕ) (plen w : ℕ) (fs gs : List Listed) → worst t l plen w (fs ++ gs) ≡ worst t l plen (worst t l plen w fs) gs
+worst_append : (t l : List ℕ) (plen w : ℕ) (fs gs : List Listed) → worst t l plen w (fs ++ gs) ≡ worst t l plen (worst t l plen w fs) gs
 unfolding worst
-worst-append t l plen w [] gs = refl
-worst-append t l plen w (f ∷ fs) gs = worst-append t l plen (lower w (number_by_layer l plen f.size (cut t f.root 32))) fs gs
+worst_append t l plen w [] gs = refl
+worst_append t l plen w (f ∷ fs) gs = worst_append t l plen (lower w (number_by_layer l plen f.size (cut t f.root 32))) fs gs
 
-worst-one : (t l : List ℕ) (plen w n r : ℕ) (path : List Element) → worst t l plen w (listed_as n r path ∷ []) ≡ lower w (number_by_layer l plen n (cut t r 32))
+worst_one : (t l : List ℕ) (plen w n r : ℕ) (path : List Element) → worst t l plen w (listed_as n r path ∷ []) ≡ lower w (number_by_layer l plen n (cut t r 32))
 unfolding worst
-worst-one t l plen w n r path = refl
+worst_one t l plen w n r path = refl
 
-worst-none : (t l : List ℕ) (plen w : ℕ) → worst t l plen w [] ≡ w
+worst_none : (t l : List ℕ) (plen w : ℕ) → worst t l plen w [] ≡ w
 unfolding worst
-worst-none t l plen w = refl
+worst_none t l plen w = refl
 
 -- a number tells what was judged
-only-wrong : (t l : List ℕ) (plen w : ℕ) (x : Files) → WrongTree ≡ numbered_of t l plen w x → x ≡ wrong
+only_wrong : (t l : List ℕ) (plen w : ℕ) (x : Files) → WrongTree ≡ numbered_of t l plen w x → x ≡ wrong
 unfolding numbered_of
-only-wrong t l plen w wrong g = refl
-only-wrong t l plen w (files gs k) g = let z : ◌≡◌ {A = ℕ} 0 1 = cc in absurd (omega arith)
+only_wrong t l plen w wrong g = refl
+only_wrong t l plen w (files gs k) g = let z : ◌≡◌ {A = ℕ} 0 1 = cc in absurd (omega arith)
 
-only-right : (t l : List ℕ) (plen w k m : ℕ) (x : Files) → Past k m ≡ numbered_of t l plen w x → (gs : List Listed) × (x ≡ files gs k) × (m ≡ worst t l plen w gs)
+only_right : (t l : List ℕ) (plen w k m : ℕ) (x : Files) → Past k m ≡ numbered_of t l plen w x → (gs : List Listed) × (x ≡ files gs k) × (m ≡ worst t l plen w gs)
 unfolding numbered_of
-only-right t l plen w k m wrong g = let z : ◌≡◌ {A = ℕ} 0 1 = cc in absurd (omega arith)
-only-right t l plen w k m (files gs j) g = let p : k ≡ j = cc in let q : m ≡ worst t l plen w gs = cc in (gs, ap (files gs) (sym p), q)
+only_right t l plen w k m wrong g = let z : ◌≡◌ {A = ℕ} 0 1 = cc in absurd (omega arith)
+only_right t l plen w k m (files gs j) g = let p : k ≡ j = cc in let q : m ≡ worst t l plen w gs = cc in (gs, ap (files gs) (sym p), q)
 
 -- ---- how far judging has come
 
@@ -44,81 +44,81 @@ abbrev pub JudgedAt : List ℕ → ℕ → ℕ → List ℕ → ℕ → ℕ → 
 JudgedAt t at levels l plen w below i m =
     (path : List Element) → (fs : List Listed) × FilesPassed t (files_below levels t at path) below path i fs × (m ≡ worst t l plen w fs)
 
-pub judged-start : (t : List ℕ) (at levels : ℕ) (l : List ℕ) (plen w : ℕ) → (levels ≡ 0 → ⊥) → JudgedAt t at levels l plen w (levels - 1) at w
-judged-start t at levels l plen w h path = ([], passed_none t levels at path h, sym (worst-none t l plen w))
+pub judged_start : (t : List ℕ) (at levels : ℕ) (l : List ℕ) (plen w : ℕ) → (levels ≡ 0 → ⊥) → JudgedAt t at levels l plen w (levels - 1) at w
+judged_start t at levels l plen w h path = ([], passed_none t levels at path h, sym (worst_none t l plen w))
 
-pub judges-wrong : (t : List ℕ) (at levels : ℕ) (l : List ℕ) (plen w : ℕ) → ((path : List Element) → files_below levels t at path ≡ wrong) → Judges t at levels l plen w WrongTree
+pub judges_wrong : (t : List ℕ) (at levels : ℕ) (l : List ℕ) (plen w : ℕ) → ((path : List Element) → files_below levels t at path ≡ wrong) → Judges t at levels l plen w WrongTree
 unfolding numbered_of
-judges-wrong t at levels l plen w h path = sym (ap (numbered_of t l plen w) (h path))
+judges_wrong t at levels l plen w h path = sym (ap (numbered_of t l plen w) (h path))
 
 module _ (t : List ℕ) (at levels : ℕ) (l : List ℕ) (plen w below i m : ℕ) (x : JudgedAt t at levels l plen w below i m) where
   abbrev whole : List Element → Files
   whole path = files_below levels t at path
 
-  pub judges-bad : token_at t i ≡ BadToken → Judges t at levels l plen w WrongTree
-  judges-bad e = judges-wrong t at levels l plen w (λ path. passed-bad t (whole path) below path i (x path).0 (x path).1 e)
+  pub judges_bad : token_at t i ≡ BadToken → Judges t at levels l plen w WrongTree
+  judges_bad e = judges_wrong t at levels l plen w (λ path. passed_bad t (whole path) below path i (x path).0 (x path).1 e)
 
-  pub judges-end : length t ≤ i → Judges t at levels l plen w WrongTree
-  judges-end h = judges-wrong t at levels l plen w (λ path. passed-end t (whole path) below path i (x path).0 (x path).1 h)
+  pub judges_end : length t ≤ i → Judges t at levels l plen w WrongTree
+  judges_end h = judges_wrong t at levels l plen w (λ path. passed_end t (whole path) below path i (x path).0 (x path).1 h)
 
   module _ (h : i < length t) where
-    pub judges-closed : token_at t i ≡ Closed → Judges t at levels l plen w (Past (i + 1) m)
+    pub judges_closed : token_at t i ≡ Closed → Judges t at levels l plen w (Past (i + 1) m)
     unfolding numbered_of
-    judges-closed e path = sym (ap (numbered_of t l plen w) (passed-closed t (whole path) below path i (x path).0 (x path).1 h e) ∙ ap (Past (i + 1)) (sym (x path).2))
+    judges_closed e path = sym (ap (numbered_of t l plen w) (passed_closed t (whole path) below path i (x path).0 (x path).1 h e) ∙ ap (Past (i + 1)) (sym (x path).2))
 
     module _ (a b n r k : ℕ) (e : token_at t i ≡ Leaf a b n r k) where
-      pub file-behind : (i < k) × (k ≤ length t) × (n ≤ longest_file) × ((n ≡ 0 → ⊥) → r + 32 ≤ length t)
-      file-behind = let p = leaf-ends t i a b n r k e in (p.0, p.1, p.3, λ z. (p.2 z).1)
+      pub file_behind : (i < k) × (k ≤ length t) × (n ≤ longest_file) × ((n ≡ 0 → ⊥) → r + 32 ≤ length t)
+      file_behind = let p = leaf_ends t i a b n r k e in (p.0, p.1, p.3, λ z. (p.2 z).1)
 
-      pub judged-file : (m' v : ℕ) → v ≡ number_by_layer l plen n (cut t r 32) → m' ≡ lower m v → JudgedAt t at levels l plen w below k m'
-      judged-file m' v ev em path = (
+      pub judged_file : (m' v : ℕ) → v ≡ number_by_layer l plen n (cut t r 32) → m' ≡ lower m v → JudgedAt t at levels l plen w below k m'
+      judged_file m' v ev em path = (
         (x path).0 ++ listed_as n r (down path a b) ∷ [],
-        passed-file t (whole path) below path i (x path).0 (x path).1 h a b n r k e,
-        em ∙ ap (lower m) ev ∙ sym (worst-one t l plen m n r (down path a b)) ∙ ap (λ (z : ℕ). worst t l plen z (listed_as n r (down path a b) ∷ [])) (x path).2
-            ∙ sym (worst-append t l plen w (x path).0 (listed_as n r (down path a b) ∷ [])),
+        passed_file t (whole path) below path i (x path).0 (x path).1 h a b n r k e,
+        em ∙ ap (lower m) ev ∙ sym (worst_one t l plen m n r (down path a b)) ∙ ap (λ (z : ℕ). worst t l plen z (listed_as n r (down path a b) ∷ [])) (x path).2
+            ∙ sym (worst_append t l plen w (x path).0 (listed_as n r (down path a b) ∷ [])),
       )
 
     module _ (a b : ℕ) (e : token_at t i ≡ Opened a b) where
-      pub judges-inside : Judges t (b + 1) below l plen m WrongTree → Judges t at levels l plen w WrongTree
-      judges-inside q =
-          judges-wrong t at levels l plen w
-          (λ path. passed-wrong t (whole path) below path i (x path).0 (x path).1 h a b e (only-wrong t l plen m (files_below below t (b + 1) (down path a b)) (q (down path a b))))
+      pub judges_inside : Judges t (b + 1) below l plen m WrongTree → Judges t at levels l plen w WrongTree
+      judges_inside q =
+          judges_wrong t at levels l plen w
+          (λ path. passed_wrong t (whole path) below path i (x path).0 (x path).1 h a b e (only_wrong t l plen m (files_below below t (b + 1) (down path a b)) (q (down path a b))))
 
       module _ (k m' : ℕ) (q : Judges t (b + 1) below l plen m (Past k m')) where
         inside : (path : List Element) → (gs : List Listed) × (files_below below t (b + 1) (down path a b) ≡ files gs k) × (m' ≡ worst t l plen m gs)
-        inside path = only-right t l plen m k m' (files_below below t (b + 1) (down path a b)) (q (down path a b))
+        inside path = only_right t l plen m k m' (files_below below t (b + 1) (down path a b)) (q (down path a b))
 
-        pub directory-behind : (i < k) × (k ≤ length t)
-        directory-behind = inside-ends t (whole []) below [] i (x []).0 (x []).1 h a b e (inside []).0 k (inside []).1
+        pub directory_behind : (i < k) × (k ≤ length t)
+        directory_behind = inside_ends t (whole []) below [] i (x []).0 (x []).1 h a b e (inside []).0 k (inside []).1
 
-        pub judged-directory : JudgedAt t at levels l plen w below k m'
-        judged-directory path =
+        pub judged_directory : JudgedAt t at levels l plen w below k m'
+        judged_directory path =
             let y = inside path in (
               (x path).0 ++ y.0,
-              passed-directory t (whole path) below path i (x path).0 (x path).1 h a b e y.0 k y.1,
-              y.2 ∙ ap (λ (z : ℕ). worst t l plen z y.0) (x path).2 ∙ sym (worst-append t l plen w (x path).0 y.0),
+              passed_directory t (whole path) below path i (x path).0 (x path).1 h a b e y.0 k y.1,
+              y.2 ∙ ap (λ (z : ℕ). worst t l plen z y.0) (x path).2 ∙ sym (worst_append t l plen w (x path).0 y.0),
             )
 
 -- ---- the whole tree
 
-pub tree-some : (t : List ℕ) → right (files_in t) ≡ true → ends_here (drop 1 t) ≡ false
+pub tree_some : (t : List ℕ) → right (files_in t) ≡ true → ends_here (drop 1 t) ≡ false
 unfolding right
-tree-some t e = by_end (ends_here (drop 1 t)) refl
+tree_some t e = by_end (ends_here (drop 1 t)) refl
   where
     by_end : (b : Bool) → ends_here (drop 1 t) ≡ b → ends_here (drop 1 t) ≡ false
-    by_end true q = absurd (false≢true (sym (ap right (empty-tree t q)) ∙ e))
+    by_end true q = absurd (false≢true (sym (ap right (empty_tree t q)) ∙ e))
     by_end false q = q
 
 module _ (t l : List ℕ) (plen : ℕ) (e : right (files_in t) ≡ true) where
-  same-files : files_in t ≡ files_below max_elements t 1 []
-  same-files = tree-below t (tree-some t e)
+  same_files_lem : files_in t ≡ files_below max_elements t 1 []
+  same_files_lem = tree_below t (tree_some t e)
 
-  pub tree-judged : (k m : ℕ) → Judges t 1 max_elements l plen 0 (Past k m) → m ≡ worst t l plen 0 (listed (files_in t))
+  pub tree_judged : (k m : ℕ) → Judges t 1 max_elements l plen 0 (Past k m) → m ≡ worst t l plen 0 (listed (files_in t))
   unfolding listed
-  tree-judged k m q =
-      let y = only-right t l plen 0 k m (files_below max_elements t 1 []) (q []) in
-      y.2 ∙ ap (λ (z : Files). worst t l plen 0 (listed z)) (sym (same-files ∙ y.1))
+  tree_judged k m q =
+      let y = only_right t l plen 0 k m (files_below max_elements t 1 []) (q []) in
+      y.2 ∙ ap (λ (z : Files). worst t l plen 0 (listed z)) (sym (same_files_lem ∙ y.1))
 
-  pub tree-never : Judges t 1 max_elements l plen 0 WrongTree → (m : ℕ) → m ≡ worst t l plen 0 (listed (files_in t))
+  pub tree_never : Judges t 1 max_elements l plen 0 WrongTree → (m : ℕ) → m ≡ worst t l plen 0 (listed (files_in t))
   unfolding right
-  tree-never q m = absurd (false≢true (sym (ap right (same-files ∙ only-wrong t l plen 0 (files_below max_elements t 1 []) (q []))) ∙ e))
+  tree_never q m = absurd (false≢true (sym (ap right (same_files_lem ∙ only_wrong t l plen 0 (files_below max_elements t 1 []) (q []))) ∙ e))

@@ -9,109 +9,109 @@ use native.Mathlib.Omega.{arith}
 use Rattle.std.proofs.Math.ListN.{length}
 use borrow.Author.Tests.{eq-eqb, le-leb, leb-true, le-ltb, ltb-false}
 use Rattle.octets.specs.Octets.{cut, same, zero_hash}
-use Rattle.octets.specs.OctetsLaws.{cut-append-right, same-eq}
+use Rattle.octets.specs.OctetsLaws.{cut_append_right, same_eq}
 use Rattle.limits.specs.Limits.{tallest_tree}
 use Rattle.tree.specs.Geometry.{block_length, ceil_div, block_count, covering, node_number, piece_size, has_layer, piece_count}
-use Rattle.tree.proofs.GeometryLaws.{ceil-least, ceil-enough, height-pow, height-least, piece-length-form}
+use Rattle.tree.proofs.GeometryLaws.{ceil_least, ceil_enough, height_pow, height_least, piece_length_form}
 use Rattle.tree.specs.Values.{node, leaf_of, pad_value}
-use Rattle.tree.proofs.ValuesLaws.{node-same, leaf-octets}
+use Rattle.tree.proofs.ValuesLaws.{node_same, leaf_octets}
 use Rattle.cells.specs.Cells.{hash_at}
 use Rattle.cells.specs.Entries.{Entry}
 use Rattle.store.specs.Store.{file_length, piece_length, facts_root, blocks_of, height_of, Facts}
-use Rattle.store.specs.StoreLaws.{usable-facts, facts-height}
+use Rattle.store.specs.StoreLaws.{usable_facts, facts_height}
 use Rattle.settling.specs.Subtree.{subtree}
-use Rattle.settling.specs.SubtreeLaws.{subtree-same, run-leaf-in}
+use Rattle.settling.specs.SubtreeLaws.{subtree_same, run_leaf_in}
 use Rattle.settling.specs.Path.{ancestor, risen, path}
 use Rattle.header.specs.declared.Header.{Header}
 use Rattle.header.specs.declared.Place.{Place}
 use Rattle.header.specs.Header.{hashes_id, header_size, message_id, message_root, header_of, is_hashes, Kept, Small, place_of, message_size}
-use Rattle.header.specs.HeaderLaws.{kept-rules}
+use Rattle.header.specs.HeaderLaws.{kept_rules}
 use Rattle.messages.specs.Take.{header_number, run_of, uncles_of, given, settled, anchor, worked, padded, anchored, body_number, place_in, take_number}
 use Rattle.messages.specs.Padded.{all_from, run_padded, uncles_padded}
 use Rattle.messages.specs.TakeLaws.{passes}
 use Rattle.pieces.specs.Asks.{PieceIn}
 use Rattle.pieces.specs.Pieces.{layer_of_pieces, piece_height, piece_number}
-use Rattle.pieces.proofs.PiecesLaws.{height-layer, height-root, one-piece-only, piece-in, RightPiece, piece-right, piece-length-by-layer}
+use Rattle.pieces.proofs.PiecesLaws.{height_layer, height_root, one_piece_only, piece_in_lem, RightPiece, piece_right, piece_length_by_layer}
 use Rattle.leaves.specs.Leaves.{leaf_run, head_of, run_over, leaf_message}
-use Rattle.leaves.specs.LeavesLaws.{run_length, run_at, run_inside, head-length, message-root, message-header, message-length, root-size}
+use Rattle.leaves.specs.LeavesLaws.{run_length, run_at, run_inside, head_length, message_root_lem, message_header, message_length, root_size}
 
 -- ---- how high a piece's node stands, and how many of its leaves are blocks
 
 module _ (s : List ℕ) (f : Facts s) where
-  layer-most : layer_of_pieces s ≤ 10
+  layer_most : layer_of_pieces s ≤ 10
   unfolding layer_of_pieces
-  layer-most = (piece-length-form (piece_length s) f.piece).0
+  layer_most = (piece_length_form (piece_length s) f.piece).0
 
-  short-file : has_layer (file_length s) (piece_length s) ≡ false → height_of s ≤ layer_of_pieces s
+  short_file : has_layer (file_length s) (piece_length s) ≡ false → height_of s ≤ layer_of_pieces s
   unfolding height_of blocks_of block_count has_layer
-  short-file t =
-      height-least (ceil_div (file_length s) block_length) (layer_of_pieces s)
-      (ceil-least (file_length s) block_length (2 ^ layer_of_pieces s) (omega arith) (omega (arith, piece-length-by-layer s f, ltb-false (piece_length s) (file_length s) t)))
+  short_file t =
+      height_least (ceil_div (file_length s) block_length) (layer_of_pieces s)
+      (ceil_least (file_length s) block_length (2 ^ layer_of_pieces s) (omega arith) (omega (arith, piece_length_by_layer s f, ltb-false (piece_length s) (file_length s) t)))
 
   -- a piece has at most 1024 blocks
-  pub node-low : piece_height s ≤ 10
-  node-low = by (has_layer (file_length s) (piece_length s)) refl
+  pub node_low : piece_height s ≤ 10
+  node_low = by (has_layer (file_length s) (piece_length s)) refl
     where
       by : (t : Bool) → has_layer (file_length s) (piece_length s) ≡ t → piece_height s ≤ 10
-      by true t = omega (arith, height-layer s f t, layer-most)
-      by false t = omega (arith, height-root s f t, short-file t, layer-most)
+      by true t = omega (arith, height_layer s f t, layer_most)
+      by false t = omega (arith, height_root s f t, short_file t, layer_most)
 
   -- the blocks of piece i end with the file's
-  blocks-within : (i n : ℕ) → n ≤ file_length s - block_length * (i * 2 ^ piece_height s) → block_count n ≤ blocks_of s - i * 2 ^ piece_height s
+  blocks_within : (i n : ℕ) → n ≤ file_length s - block_length * (i * 2 ^ piece_height s) → block_count n ≤ blocks_of s - i * 2 ^ piece_height s
   unfolding blocks_of block_count
-  blocks-within i n l =
-      ceil-least n block_length (ceil_div (file_length s) block_length - i * 2 ^ piece_height s) (omega arith)
-      (omega (arith, ceil-enough (file_length s) block_length (ceil_div (file_length s) block_length) (omega arith) (omega arith)))
+  blocks_within i n l =
+      ceil_least n block_length (ceil_div (file_length s) block_length - i * 2 ^ piece_height s) (omega arith)
+      (omega (arith, ceil_enough (file_length s) block_length (ceil_div (file_length s) block_length) (omega arith) (omega arith)))
 
-  size-most : (n plen i : ℕ) → piece_size n plen i ≤ n - plen * i
+  size_most : (n plen i : ℕ) → piece_size n plen i ≤ n - plen * i
   unfolding piece_size
-  size-most n plen i = omega arith
+  size_most n plen i = omega arith
 
-  pub piece-blocks : (i : ℕ) → i < piece_count (file_length s) (piece_length s) → (n : ℕ) → n ≡ piece_size (file_length s) (piece_length s) i
+  pub piece_blocks : (i : ℕ) → i < piece_count (file_length s) (piece_length s) → (n : ℕ) → n ≡ piece_size (file_length s) (piece_length s) i
       → block_count n ≤ blocks_of s - i * 2 ^ piece_height s
-  piece-blocks i l n e = by (has_layer (file_length s) (piece_length s)) refl
+  piece_blocks i l n e = by (has_layer (file_length s) (piece_length s)) refl
     where
       by : (t : Bool) → has_layer (file_length s) (piece_length s) ≡ t → block_count n ≤ blocks_of s - i * 2 ^ piece_height s
       by true t =
-          let p : piece_length s * i ≡ block_length * (2 ^ layer_of_pieces s * i) = ap (λ (y : ℕ). y * i) (piece-length-by-layer s f) ∙ mul_assoc block_length (2 ^ layer_of_pieces s) i in
-          let h : 2 ^ piece_height s ≡ 2 ^ layer_of_pieces s = ap (λ (y : ℕ). 2 ^ y) (height-layer s f t) in
+          let p : piece_length s * i ≡ block_length * (2 ^ layer_of_pieces s * i) = ap (λ (y : ℕ). y * i) (piece_length_by_layer s f) ∙ mul_assoc block_length (2 ^ layer_of_pieces s) i in
+          let h : 2 ^ piece_height s ≡ 2 ^ layer_of_pieces s = ap (λ (y : ℕ). 2 ^ y) (height_layer s f t) in
           let c : i * 2 ^ piece_height s ≡ 2 ^ layer_of_pieces s * i = ap (λ (y : ℕ). i * y) h ∙ mul_comm i (2 ^ layer_of_pieces s) in
-          blocks-within i n (omega (arith, size-most (file_length s) (piece_length s) i))
+          blocks_within i n (omega (arith, size_most (file_length s) (piece_length s) i))
       by false t =
-          let o = one-piece-only s f t in
+          let o = one_piece_only s f t in
           let z : i ≡ 0 = omega arith in
           let c : i * 2 ^ piece_height s ≡ 0 = ap (λ (y : ℕ). y * 2 ^ piece_height s) z ∙ zero-mul (2 ^ piece_height s) in
-          blocks-within i n (omega (arith, size-most (file_length s) (piece_length s) i))
+          blocks_within i n (omega (arith, size_most (file_length s) (piece_length s) i))
 
 -- ---- leaves past the blocks are zero
 
-leaf-past : (piece : List ℕ) (j : ℕ) → block_count (length piece) ≤ j → leaf_of piece j ≡ zero_hash
+leaf_past : (piece : List ℕ) (j : ℕ) → block_count (length piece) ≤ j → leaf_of piece j ≡ zero_hash
 unfolding leaf_of
-leaf-past piece j l = rw (le-ltb j (block_count (length piece)) l) refl
+leaf_past piece j l = rw (le-ltb j (block_count (length piece)) l) refl
 
-pub all-from : (run v : List ℕ) (from n : ℕ) → ((j : ℕ) → from ≤ j → j < n → cut run (32 * j) 32 ≡ v) → all_from run v from n ≡ true
+pub all_from_lem : (run v : List ℕ) (from n : ℕ) → ((j : ℕ) → from ≤ j → j < n → cut run (32 * j) 32 ≡ v) → all_from run v from n ≡ true
 unfolding all_from
-all-from run v from zero h = refl
-all-from run v from (suc n) h =
-    ap₂ (λ (x y : Bool). x && y) (all-from run v from n (λ j a b. h j a (omega arith))) (by (leb from n) refl)
+all_from_lem run v from zero h = refl
+all_from_lem run v from (suc n) h =
+    ap₂ (λ (x y : Bool). x && y) (all_from_lem run v from n (λ j a b. h j a (omega arith))) (by (leb from n) refl)
   where
     by : (t : Bool) → leb from n ≡ t → cond (leb from n) (same (cut run (32 * n) 32) v) true ≡ true
-    by true e = rw e (same-eq (cut run (32 * n) 32) v (h n (leb-true from n e) (omega arith)))
+    by true e = rw e (same_eq (cut run (32 * n) 32) v (h n (leb-true from n e) (omega arith)))
     by false e = rw e
 
 -- ---- no uncles
 
-no-climb : (hashes v : List ℕ) (n : ℕ) → (risen hashes 0 0 n v ≡ v) × (path hashes 0 0 n v ≡ []) × (ancestor 0 n ≡ n)
+no_climb : (hashes v : List ℕ) (n : ℕ) → (risen hashes 0 0 n v ≡ v) × (path hashes 0 0 n v ≡ []) × (ancestor 0 n ≡ n)
 unfolding risen path ancestor
-no-climb hashes v n = (refl, refl, refl)
+no_climb hashes v n = (refl, refl, refl)
 
-no-uncles : (hashes : List ℕ) (b l x : ℕ) → uncles_padded hashes b 0 0 l x ≡ true
+no_uncles : (hashes : List ℕ) (b l x : ℕ) → uncles_padded hashes b 0 0 l x ≡ true
 unfolding uncles_padded
-no-uncles hashes b l x = refl
+no_uncles hashes b l x = refl
 
-covering-leaves : (b : ℕ) → covering b 0 ≡ b
+covering_leaves : (b : ℕ) → covering b 0 ≡ b
 unfolding covering ceil_div
-covering-leaves b = omega arith
+covering_leaves b = omega arith
 
 -- a run without uncles has its own hashes alone
 sized : (index len : ℕ) → message_size (run_over index len) ≡ header_size + 32 * len
@@ -124,17 +124,17 @@ unfolding place_of
 placed h k i =
     let n : 0 + k ≡ k = omega arith in
     let u : 0 - (k - 1) ≡ 0 = omega arith in
-    rw (height-pow k, mul-div_cancel i (pow_pos k), n, u) refl
+    rw (height_pow k, mul-div_cancel i (pow_pos k), n, u) refl
 
 module _ (s : List ℕ) (i : ℕ) (piece : List ℕ) (z : piece_number s i piece ≡ 0) (some : piece_height s ≡ 0 → ⊥) where
   R : RightPiece s i piece
-  R = piece-right s i piece z
+  R = piece_right s i piece z
 
   f : Facts s
-  f = usable-facts s R.store
+  f = usable_facts s R.store
 
   P : PieceIn s i
-  P = piece-in s f i R.inside
+  P = piece_in_lem s f i R.inside
 
   abbrev k : ℕ
   k = piece_height s
@@ -150,34 +150,34 @@ module _ (s : List ℕ) (i : ℕ) (piece : List ℕ) (z : piece_number s i piece
 
   small : Small x
   small =
-      let w : 2 ^ height_of s ≤ 2 ^ tallest_tree = pow_mono {i = height_of s} {j = tallest_tree} (facts-height s f) in
+      let w : 2 ^ height_of s ≤ 2 ^ tallest_tree = pow_mono {i = height_of s} {j = tallest_tree} (facts_height s f) in
       record { base = omega arith; index = omega (arith, inside); len = omega (arith, inside); proof = omega arith }
 
   -- it has this header
   pub header_is : header_of m ≡ x
   unfolding leaf_message
-  header_is = message-header (facts_root s) x (root-size s f) small (leaf_run (leaf_of piece) (2 ^ k))
+  header_is = message_header (facts_root s) x (root_size s f) small (leaf_run (leaf_of piece) (2 ^ k))
 
   pub root_is : message_root m ≡ facts_root s
   unfolding leaf_message
-  root_is = message-root (facts_root s) x (root-size s f) small (leaf_run (leaf_of piece) (2 ^ k))
+  root_is = message_root_lem (facts_root s) x (root_size s f) small (leaf_run (leaf_of piece) (2 ^ k))
 
   size_is : length m ≡ header_size + 32 * 2 ^ k
-  size_is = message-length s i piece (root-size s f) (λ j. (leaf-octets piece j).size)
+  size_is = message_length s i piece (root_size s f) (λ j. (leaf_octets piece j).size)
 
-  first-is : message_id m ≡ hashes_id
+  first_is : message_id m ≡ hashes_id
   unfolding leaf_message head_of
-  first-is = refl
+  first_is = refl
 
-  pub is-hashes : is_hashes m ≡ true
+  pub is_hashes_lem : is_hashes m ≡ true
   unfolding is_hashes
-  is-hashes = rw (le-leb header_size (length m) (omega (arith, size_is)), eq-eqb (message_id m) hashes_id first-is)
+  is_hashes_lem = rw (le-leb header_size (length m) (omega (arith, size_is)), eq-eqb (message_id m) hashes_id first_is)
 
   pub rules : Kept x (height_of s)
   rules =
-      let e = height-pow k in
+      let e = height_pow k in
       let w : 2 ^ 1 ≤ 2 ^ k = pow_mono {i = 1} {j = k} (omega (arith, some)) in
-      let v : 2 ^ k ≤ 2 ^ 10 = pow_mono {i = k} {j = 10} (node-low s f) in
+      let v : 2 ^ k ≤ 2 ^ 10 = pow_mono {i = k} {j = 10} (node_low s f) in
       let q : height_of s - 0 ≡ height_of s = omega arith in
       let d : 2 ^ (height_of s - 0) ≡ 2 ^ height_of s = ap (λ (y : ℕ). 2 ^ y) q in
       record {
@@ -191,19 +191,19 @@ module _ (s : List ℕ) (i : ℕ) (piece : List ℕ) (z : piece_number s i piece
       }
 
   -- WELL-FORMED: 9, 1, 2 and 3 are not given,
-  pub header-passes : header_number (is_hashes m) s m ≡ 0
-  header-passes =
+  pub header_passes : header_number (is_hashes m) s m ≡ 0
+  header_passes =
       passes (is_hashes m) s m
       (record {
         store = R.store;
-        formed = is-hashes;
-        root = same-eq (facts_root s) (message_root m) (sym root_is);
-        rules = rw header_is (kept-rules x (height_of s) rules);
+        formed = is_hashes_lem;
+        root = same_eq (facts_root s) (message_root m) (sym root_is);
+        rules = rw header_is (kept_rules x (height_of s) rules);
       })
 
   -- and 4 is not
-  pub size-right : length m ≡ message_size (header_of m)
-  size-right = size_is ∙ sym (ap message_size header_is ∙ sized (i * 2 ^ k) (2 ^ k))
+  pub size_right : length m ≡ message_size (header_of m)
+  size_right = size_is ∙ sym (ap message_size header_is ∙ sized (i * 2 ^ k) (2 ^ k))
 
   -- its place: the piece's node, with no uncles
   abbrev place : Place
@@ -215,59 +215,59 @@ module _ (s : List ℕ) (i : ℕ) (piece : List ℕ) (z : piece_number s i piece
   -- its run is the piece's leaves
   run_is : run_of m (2 ^ k) ≡ leaf_run (leaf_of piece) (2 ^ k)
   unfolding run_of leaf_message
-  run_is = cut-append-right (head_of (facts_root s) x) (leaf_run (leaf_of piece) (2 ^ k)) header_size (32 * 2 ^ k) (head-length (facts_root s) x (root-size s f)) (run_length (leaf_of piece) (λ j. (leaf-octets piece j).size) (2 ^ k))
+  run_is = cut_append_right (head_of (facts_root s) x) (leaf_run (leaf_of piece) (2 ^ k)) header_size (32 * 2 ^ k) (head_length (facts_root s) x (root_size s f)) (run_length (leaf_of piece) (λ j. (leaf_octets piece j).size) (2 ^ k))
 
   -- THE PIECE'S OWN: hash j of the run is leaf j of the piece
-  pub leaf-is : (j : ℕ) → j < 2 ^ k → cut (run_of m (2 ^ k)) (32 * j) 32 ≡ leaf_of piece j
-  leaf-is j l = ap (λ (y : List ℕ). cut y (32 * j) 32) run_is ∙ run_at (leaf_of piece) (λ j. (leaf-octets piece j).size) (2 ^ k) j l
+  pub leaf_is : (j : ℕ) → j < 2 ^ k → cut (run_of m (2 ^ k)) (32 * j) 32 ≡ leaf_of piece j
+  leaf_is j l = ap (λ (y : List ℕ). cut y (32 * j) 32) run_is ∙ run_at (leaf_of piece) (λ j. (leaf_octets piece j).size) (2 ^ k) j l
 
   given_is : (j : ℕ) → j < 2 ^ k → given m k j ≡ leaf_of piece j
   unfolding given
   given_is j l =
-      let rl = ap length run_is ∙ run_length (leaf_of piece) (λ j. (leaf-octets piece j).size) (2 ^ k) in
+      let rl = ap length run_is ∙ run_length (leaf_of piece) (λ j. (leaf_octets piece j).size) (2 ^ k) in
       let c : length (run_of m (2 ^ k)) / 32 ≡ 2 ^ k = omega arith in
-      run-leaf-in (run_of m (2 ^ k)) zero_hash j (omega arith) ∙ leaf-is j l
+      run_leaf_in (run_of m (2 ^ k)) zero_hash j (omega arith) ∙ leaf_is j l
 
-  node-is : node (given m k) k 0 ≡ node (leaf_of piece) k 0
-  node-is = node-same (given m k) (leaf_of piece) k 0 (λ j a b. given_is j (omega arith))
+  node_is : node (given m k) k 0 ≡ node (leaf_of piece) k 0
+  node_is = node_same (given m k) (leaf_of piece) k 0 (λ j a b. given_is j (omega arith))
 
-  subtree-is : subtree (given m k) k (node_number (height_of s) k i) 0 ≡ subtree (leaf_of piece) k (node_number (height_of s) k i) 0
-  subtree-is = subtree-same (given m k) (leaf_of piece) k (node_number (height_of s) k i) 0 (λ j a b. given_is j (omega arith))
+  subtree_is : subtree (given m k) k (node_number (height_of s) k i) 0 ≡ subtree (leaf_of piece) k (node_number (height_of s) k i) 0
+  subtree_is = subtree_same (given m k) (leaf_of piece) k (node_number (height_of s) k i) 0 (λ j a b. given_is j (omega arith))
 
   settled_is : settled m place ≡ subtree (leaf_of piece) k (node_number (height_of s) k i) 0
   unfolding settled
   settled_is =
-      ap₂ (λ (a b : List Entry). a ++ b) subtree-is (no-climb (uncles_of m (2 ^ k) 0) (node (given m k) k 0) (node_number (height_of s) k i)).1
+      ap₂ (λ (a b : List Entry). a ++ b) subtree_is (no_climb (uncles_of m (2 ^ k) 0) (node (given m k) k 0) (node_number (height_of s) k i)).1
       ∙ append-nil (subtree (leaf_of piece) k (node_number (height_of s) k i) 0)
 
-  worked-is : worked m place ≡ node (leaf_of piece) k 0
+  worked_is : worked m place ≡ node (leaf_of piece) k 0
   unfolding worked
-  worked-is = (no-climb (uncles_of m (2 ^ k) 0) (node (given m k) k 0) (node_number (height_of s) k i)).0 ∙ node-is
+  worked_is = (no_climb (uncles_of m (2 ^ k) 0) (node (given m k) k 0) (node_number (height_of s) k i)).0 ∙ node_is
 
-  anchor-is : anchor place ≡ node_number (height_of s) k i
+  anchor_is : anchor place ≡ node_number (height_of s) k i
   unfolding anchor
-  anchor-is = (no-climb [] [] (node_number (height_of s) k i)).2
+  anchor_is = (no_climb [] [] (node_number (height_of s) k i)).2
 
   -- 5 is not given: the leaves past the file's blocks are zero
-  run-padded : run_padded (run_of m (2 ^ k)) (blocks_of s) 0 (i * 2 ^ k) (2 ^ k) ≡ true
+  run_padded_lem : run_padded (run_of m (2 ^ k)) (blocks_of s) 0 (i * 2 ^ k) (2 ^ k) ≡ true
   unfolding run_padded pad_value
-  run-padded =
-      all-from (run_of m (2 ^ k)) zero_hash (covering (blocks_of s) 0 - i * 2 ^ k) (2 ^ k)
-      (λ j a b. leaf-is j b ∙ leaf-past piece j (omega (arith, piece-blocks s f i R.inside (length piece) R.size, covering-leaves (blocks_of s))))
+  run_padded_lem =
+      all_from_lem (run_of m (2 ^ k)) zero_hash (covering (blocks_of s) 0 - i * 2 ^ k) (2 ^ k)
+      (λ j a b. leaf_is j b ∙ leaf_past piece j (omega (arith, piece_blocks s f i R.inside (length piece) R.size, covering_leaves (blocks_of s))))
 
-  is-padded : padded m x place (blocks_of s) ≡ true
+  is_padded : padded m x place (blocks_of s) ≡ true
   unfolding padded
-  is-padded = rw (run-padded, no-uncles (uncles_of m (2 ^ k) 0) (blocks_of s) (0 + k) (i * 2 ^ k / 2 ^ k)) refl
+  is_padded = rw (run_padded_lem, no_uncles (uncles_of m (2 ^ k) 0) (blocks_of s) (0 + k) (i * 2 ^ k / 2 ^ k)) refl
 
-  anchored-is : anchored s m place ≡ 0
+  anchored_is : anchored s m place ≡ 0
   unfolding anchored
-  anchored-is =
-      rw (anchor-is, worked-is, settled_is, R.node.held, same-eq (hash_at s (node_number (height_of s) k i)) (node (leaf_of piece) k 0) R.node.alike, R.node.agree) refl
+  anchored_is =
+      rw (anchor_is, worked_is, settled_is, R.node.held, same_eq (hash_at s (node_number (height_of s) k i)) (node (leaf_of piece) k 0) R.node.alike, R.node.agree) refl
 
   -- TAKEN: kd_take of it on this store is 0
-  pub leaves-taken : take_number s m ≡ 0
+  pub leaves_taken : take_number s m ≡ 0
   unfolding take_number body_number
-  leaves-taken =
-      rw (eq-eqb (header_number (is_hashes m) s m) 0 header-passes)
+  leaves_taken =
+      rw (eq-eqb (header_number (is_hashes m) s m) 0 header_passes)
       (rw (place_is, header_is)
-      (rw (eq-eqb (length m) (message_size x) (size-right ∙ ap message_size header_is), is-padded) anchored-is))
+      (rw (eq-eqb (length m) (message_size x) (size_right ∙ ap message_size header_is), is_padded) anchored_is))

@@ -27,38 +27,38 @@ a = 97 ∷ []
 abbrev b : List ℕ
 b = 98 ∷ []
 
-pub empty-file : value_number (torrent 2 16384 (entry a empty_file no_entries) no_entries) ≡ 0
+pub empty_file_lem : value_number (torrent 2 16384 (entry a empty_file no_entries) no_entries) ≡ 0
 unfolding value_number lookup same has_keys is_piece_length piece_layer height height_from tree_right branch_right node_right nodes_right element_right without file_right files_of_entries files_of_node lengths_agree layers_fit has_layer no_others layers_give_roots zero_hash
-empty-file = refl
+empty_file_lem = refl
 
-pub no-tree : value_number (entry key_piece_layers (dictionary no_entries) no_entries) ≡ 22
+pub no_tree : value_number (entry key_piece_layers (dictionary no_entries) no_entries) ≡ 22
 unfolding value_number lookup same has_keys
-no-tree = refl
+no_tree = refl
 
-pub version-1 : value_number (torrent 1 16384 (entry a empty_file no_entries) no_entries) ≡ 23
+pub version_1 : value_number (torrent 1 16384 (entry a empty_file no_entries) no_entries) ≡ 23
 unfolding value_number lookup same has_keys
-version-1 = refl
+version_1 = refl
 
-pub piece-of-1000 : value_number (torrent 2 1000 (entry a empty_file no_entries) no_entries) ≡ 24
+pub piece_of_1000 : value_number (torrent 2 1000 (entry a empty_file no_entries) no_entries) ≡ 24
 unfolding value_number lookup same has_keys is_piece_length piece_layer height height_from
-piece-of-1000 = refl
+piece_of_1000 = refl
 
-pub empty-directory : value_number (torrent 2 16384 (entry a (dictionary no_entries) no_entries) no_entries) ≡ 25
+pub empty_directory : value_number (torrent 2 16384 (entry a (dictionary no_entries) no_entries) no_entries) ≡ 25
 unfolding value_number lookup same has_keys is_piece_length piece_layer height height_from tree_right branch_right node_right nodes_right element_right without file_right
-empty-directory = refl
+empty_directory = refl
 
-pub one-root-two-lengths : value_number (torrent 2 16384 (entry a (file 1) (entry b (file 2) no_entries)) no_entries) ≡ 26
+pub one_root_two_lengths : value_number (torrent 2 16384 (entry a (file 1) (entry b (file 2) no_entries)) no_entries) ≡ 26
 unfolding value_number lookup same has_keys is_piece_length piece_layer height height_from tree_right branch_right node_right nodes_right element_right without file_right files_of_entries files_of_node lengths_agree no_other_length zero_hash
-one-root-two-lengths = refl
+one_root_two_lengths = refl
 
 pub twins : value_number (torrent 2 16384 (entry a (file 1) (entry b (file 1) no_entries)) no_entries) ≡ 0
 unfolding value_number lookup same has_keys is_piece_length piece_layer height height_from tree_right branch_right node_right nodes_right element_right without file_right files_of_entries files_of_node lengths_agree no_other_length zero_hash layers_fit has_layer no_others layers_give_roots
 twins = refl
 
-pub layer-lacking : value_number (torrent 2 16384 (entry a (file 16385) no_entries) no_entries) ≡ 27
+pub layer_lacking : value_number (torrent 2 16384 (entry a (file 16385) no_entries) no_entries) ≡ 27
 unfolding value_number lookup same has_keys is_piece_length piece_layer height height_from tree_right branch_right node_right nodes_right element_right without file_right files_of_entries files_of_node lengths_agree no_other_length layers_fit has_layer no_others zero_hash
-layer-lacking = refl
+layer_lacking = refl
 
-pub layer-too-many : value_number (torrent 2 16384 (entry a (file 1) no_entries) (entry zero_hash (string zero_hash) no_entries)) ≡ 27
+pub layer_too_many : value_number (torrent 2 16384 (entry a (file 1) no_entries) (entry zero_hash (string zero_hash) no_entries)) ≡ 27
 unfolding value_number lookup same has_keys is_piece_length piece_layer height height_from tree_right branch_right node_right nodes_right element_right without file_right files_of_entries files_of_node lengths_agree no_other_length layers_fit has_layer no_others some_longer zero_hash
-layer-too-many = refl
+layer_too_many = refl

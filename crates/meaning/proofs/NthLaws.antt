@@ -8,8 +8,8 @@ use Rattle.meaning.specs.Nth.{Nth}
 
 module _ {A : Type 0} where
   -- there is one for each number below the length
-  pub nth-some : (xs : List A) (n : ℕ) → n < length xs → (x : A) × Nth xs n x
+  pub nth_some : (xs : List A) (n : ℕ) → n < length xs → (x : A) × Nth xs n x
   unfolding Nth
-  nth-some [] n h = absurd (omega arith)
-  nth-some (x ∷ xs) zero h = (x, refl)
-  nth-some (x ∷ xs) (suc n) h = nth-some xs n (omega arith)
+  nth_some [] n h = absurd (omega arith)
+  nth_some (x ∷ xs) zero h = (x, refl)
+  nth_some (x ∷ xs) (suc n) h = nth_some xs n (omega arith)

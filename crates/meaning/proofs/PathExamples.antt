@@ -20,43 +20,43 @@ Tree name right = (tree_right (entry name empty_file no_entries) ≡ right) × (
 
 -- ---- refused
 
-pub one-dot : Tree dot false
+pub one_dot : Tree dot false
 unfolding tree_right nodes_right branch_right node_right file_right element_right without same lookup
-one-dot = (refl, refl)
+one_dot = (refl, refl)
 
-pub two-dots : Tree dots false
+pub two_dots : Tree dots false
 unfolding tree_right nodes_right branch_right node_right file_right element_right without same lookup
-two-dots = (refl, refl)
+two_dots = (refl, refl)
 
-pub a-slash : Tree (97 ∷ slash ∷ 98 ∷ []) false
+pub a_slash : Tree (97 ∷ slash ∷ 98 ∷ []) false
 unfolding tree_right nodes_right branch_right node_right file_right element_right without same lookup
-a-slash = (refl, refl)
+a_slash = (refl, refl)
 
-pub a-zero : Tree (97 ∷ 0 ∷ []) false
+pub a_zero : Tree (97 ∷ 0 ∷ []) false
 unfolding tree_right nodes_right branch_right node_right file_right element_right without same lookup
-a-zero = (refl, refl)
+a_zero = (refl, refl)
 
 -- ---- allowed: `...`, `. `, `..a`, a backslash, a byte above 127
 
-pub three-dots : Tree (46 ∷ 46 ∷ 46 ∷ []) true
+pub three_dots : Tree (46 ∷ 46 ∷ 46 ∷ []) true
 unfolding tree_right nodes_right branch_right node_right file_right element_right without same lookup
-three-dots = (refl, refl)
+three_dots = (refl, refl)
 
-pub dot-and-space : Tree (46 ∷ 32 ∷ []) true
+pub dot_and_space : Tree (46 ∷ 32 ∷ []) true
 unfolding tree_right nodes_right branch_right node_right file_right element_right without same lookup
-dot-and-space = (refl, refl)
+dot_and_space = (refl, refl)
 
-pub dots-and-more : Tree (46 ∷ 46 ∷ 97 ∷ []) true
+pub dots_and_more : Tree (46 ∷ 46 ∷ 97 ∷ []) true
 unfolding tree_right nodes_right branch_right node_right file_right element_right without same lookup
-dots-and-more = (refl, refl)
+dots_and_more = (refl, refl)
 
 pub backslash : Tree (92 ∷ []) true
 unfolding tree_right nodes_right branch_right node_right file_right element_right without same lookup
 backslash = (refl, refl)
 
-pub above-127 : Tree (255 ∷ []) true
+pub above_127 : Tree (255 ∷ []) true
 unfolding tree_right nodes_right branch_right node_right file_right element_right without same lookup
-above-127 = (refl, refl)
+above_127 = (refl, refl)
 
 -- ---- from the folder x/y: `..` and `a` lead to x/a, and so does `../a`; `/a` leads to a; `..` and a zero byte lead to x
 
@@ -66,14 +66,14 @@ x = 120 ∷ []
 abbrev y : List ℕ
 y = 121 ∷ []
 
-pub dots-lead-out : follow (x ∷ y ∷ []) (to_zero (written (dots ∷ a ∷ []))) ≡ x ∷ a ∷ []
+pub dots_lead_out : follow (x ∷ y ∷ []) (to_zero (written (dots ∷ a ∷ []))) ≡ x ∷ a ∷ []
 unfolding follow to_zero written walk step above split same
-dots-lead-out = refl
+dots_lead_out = refl
 
-pub slash-leads-out : (follow (x ∷ y ∷ []) (to_zero (written ((46 ∷ 46 ∷ slash ∷ 97 ∷ []) ∷ []))) ≡ x ∷ a ∷ []) × (follow (x ∷ y ∷ []) (to_zero (written ((slash ∷ 97 ∷ []) ∷ []))) ≡ a ∷ [])
+pub slash_leads_out : (follow (x ∷ y ∷ []) (to_zero (written ((46 ∷ 46 ∷ slash ∷ 97 ∷ []) ∷ []))) ≡ x ∷ a ∷ []) × (follow (x ∷ y ∷ []) (to_zero (written ((slash ∷ 97 ∷ []) ∷ []))) ≡ a ∷ [])
 unfolding follow to_zero written walk step above split same
-slash-leads-out = (refl, refl)
+slash_leads_out = (refl, refl)
 
-pub zero-leads-out : follow (x ∷ y ∷ []) (to_zero (written ((46 ∷ 46 ∷ 0 ∷ []) ∷ []))) ≡ x ∷ []
+pub zero_leads_out : follow (x ∷ y ∷ []) (to_zero (written ((46 ∷ 46 ∷ 0 ∷ []) ∷ []))) ≡ x ∷ []
 unfolding follow to_zero written walk step above split same
-zero-leads-out = refl
+zero_leads_out = refl

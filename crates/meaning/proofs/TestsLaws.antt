@@ -9,10 +9,10 @@ use Rattle.std.proofs.lemmas.Bool.{false≢true, eqb-false}
 use mathlib.Core.List.{List, [], ◌∷◌}
 use Prim.Native.Nat.{ℕ, zero, suc, ◌*◌, ◌<◌}
 use Rattle.octets.specs.Octets.{same}
-use Rattle.octets.specs.OctetsLaws.{same_true, same_false, same-eq}
+use Rattle.octets.specs.OctetsLaws.{same_true, same_false, same_eq}
 use Rattle.limits.specs.Limits.{longest_file}
 use Rattle.tree.specs.Geometry.{block_count, height, is_piece_length, piece_layer, piece_count, has_layer}
-use Rattle.tree.proofs.GeometryLaws.{piece-length-form, piece-length-accepted, has-longer, longer-has, piece-some}
+use Rattle.tree.proofs.GeometryLaws.{piece_length_form, piece_length_accepted, has_longer, longer_has, piece_some}
 use Rattle.tree.specs.Values.{layer_root}
 use Rattle.bencode.specs.Grammar.{Value, integer, string, list, dictionary, Entries, no_entries, entry}
 use Rattle.bencode.specs.Parts.{Lookup, absent, present, lookup}
@@ -28,41 +28,41 @@ above (suc n) h = omega arith
 
 -- ---- 22
 
-dictionary-yes : (x : Lookup) → has_dictionary x ≡ true → ADictionary x
-dictionary-yes (present (dictionary es)) e = (es, refl)
-dictionary-yes absent e = absurd (false≢true e)
-dictionary-yes (present (integer minus n)) e = absurd (false≢true e)
-dictionary-yes (present (string b)) e = absurd (false≢true e)
-dictionary-yes (present (list vs)) e = absurd (false≢true e)
+dictionary_yes : (x : Lookup) → has_dictionary x ≡ true → ADictionary x
+dictionary_yes (present (dictionary es)) e = (es, refl)
+dictionary_yes absent e = absurd (false≢true e)
+dictionary_yes (present (integer minus n)) e = absurd (false≢true e)
+dictionary_yes (present (string b)) e = absurd (false≢true e)
+dictionary_yes (present (list vs)) e = absurd (false≢true e)
 
-dictionary-no : (x : Lookup) → has_dictionary x ≡ false → ADictionary x → ⊥
-dictionary-no x e d = false≢true (sym e ∙ ap has_dictionary d.1)
+dictionary_no : (x : Lookup) → has_dictionary x ≡ false → ADictionary x → ⊥
+dictionary_no x e d = false≢true (sym e ∙ ap has_dictionary d.1)
 
-integer-yes : (x : Lookup) → has_integer x ≡ true → AnInteger x
-integer-yes (present (integer minus n)) e = (minus, n, refl)
-integer-yes absent e = absurd (false≢true e)
-integer-yes (present (dictionary es)) e = absurd (false≢true e)
-integer-yes (present (string b)) e = absurd (false≢true e)
-integer-yes (present (list vs)) e = absurd (false≢true e)
+integer_yes : (x : Lookup) → has_integer x ≡ true → AnInteger x
+integer_yes (present (integer minus n)) e = (minus, n, refl)
+integer_yes absent e = absurd (false≢true e)
+integer_yes (present (dictionary es)) e = absurd (false≢true e)
+integer_yes (present (string b)) e = absurd (false≢true e)
+integer_yes (present (list vs)) e = absurd (false≢true e)
 
-integer-no : (x : Lookup) → has_integer x ≡ false → AnInteger x → ⊥
-integer-no x e d = false≢true (sym e ∙ ap has_integer d.2)
+integer_no : (x : Lookup) → has_integer x ≡ false → AnInteger x → ⊥
+integer_no x e d = false≢true (sym e ∙ ap has_integer d.2)
 
 -- one of five fails
-five-false : (a b c d e : Bool) → a && b && c && d && e ≡ false → (a ≡ false) ⊎ ((b ≡ false) ⊎ ((c ≡ false) ⊎ ((d ≡ false) ⊎ (e ≡ false))))
-five-false false b c d e q = inl refl
-five-false true false c d e q = inr (inl refl)
-five-false true true false d e q = inr (inr (inl refl))
-five-false true true true false e q = inr (inr (inr (inl refl)))
-five-false true true true true e q = inr (inr (inr (inr q)))
+five_false : (a b c d e : Bool) → a && b && c && d && e ≡ false → (a ≡ false) ⊎ ((b ≡ false) ⊎ ((c ≡ false) ⊎ ((d ≡ false) ⊎ (e ≡ false))))
+five_false false b c d e q = inl refl
+five_false true false c d e q = inr (inl refl)
+five_false true true false d e q = inr (inr (inl refl))
+five_false true true true false e q = inr (inr (inr (inl refl)))
+five_false true true true true e q = inr (inr (inr (inr q)))
 
 -- none fails
-five-true : (a b c d e : Bool) → a && b && c && d && e ≡ true → (a ≡ true) × (b ≡ true) × (c ≡ true) × (d ≡ true) × (e ≡ true)
-five-true true true true true e q = (refl, refl, refl, refl, q)
-five-true false b c d e q = absurd (false≢true q)
-five-true true false c d e q = absurd (false≢true q)
-five-true true true false d e q = absurd (false≢true q)
-five-true true true true false e q = absurd (false≢true q)
+five_true : (a b c d e : Bool) → a && b && c && d && e ≡ true → (a ≡ true) × (b ≡ true) × (c ≡ true) × (d ≡ true) × (e ≡ true)
+five_true true true true true e q = (refl, refl, refl, refl, q)
+five_true false b c d e q = absurd (false≢true q)
+five_true true false c d e q = absurd (false≢true q)
+five_true true true false d e q = absurd (false≢true q)
+five_true true true true false e q = absurd (false≢true q)
 
 module _ (torrent : Entries) where
   -- what the five keys have
@@ -81,54 +81,54 @@ module _ (torrent : Entries) where
   abbrev the_layers : Lookup
   the_layers = lookup key_piece_layers torrent
 
-  pub keys-amiss : has_keys torrent ≡ false → KeyMissing torrent
+  pub keys_amiss : has_keys torrent ≡ false → KeyMissing torrent
   unfolding has_keys
-  keys-amiss e =
-      elim (five-false (has_dictionary the_info) (has_dictionary the_tree) (has_integer the_piece_length) (has_integer the_version) (has_dictionary the_layers) e) [
-        | inl a ↦ info (dictionary-no the_info a)
+  keys_amiss e =
+      elim (five_false (has_dictionary the_info) (has_dictionary the_tree) (has_integer the_piece_length) (has_integer the_version) (has_dictionary the_layers) e) [
+        | inl a ↦ info (dictionary_no the_info a)
         | inr f ↦ elim f [
-          | inl a ↦ file_tree (dictionary-no the_tree a)
+          | inl a ↦ file_tree (dictionary_no the_tree a)
           | inr g ↦ elim g [
-            | inl a ↦ piece_length (integer-no the_piece_length a)
-            | inr h ↦ elim h [ inl a ↦ meta_version (integer-no the_version a) | inr a ↦ piece_layers (dictionary-no the_layers a) ]
+            | inl a ↦ piece_length (integer_no the_piece_length a)
+            | inr h ↦ elim h [ inl a ↦ meta_version (integer_no the_version a) | inr a ↦ piece_layers (dictionary_no the_layers a) ]
           ]
         ]
       ]
 
-  pub keys-right : has_keys torrent ≡ true → KeyMissing torrent → ⊥
+  pub keys_right : has_keys torrent ≡ true → KeyMissing torrent → ⊥
   unfolding has_keys
-  keys-right e m = by_key m
+  keys_right e m = by_key m
     where
       all : (has_dictionary the_info ≡ true) × (has_dictionary the_tree ≡ true) × (has_integer the_piece_length ≡ true) × (has_integer the_version ≡ true) × (has_dictionary the_layers ≡ true)
-      all = five-true (has_dictionary the_info) (has_dictionary the_tree) (has_integer the_piece_length) (has_integer the_version) (has_dictionary the_layers) e
+      all = five_true (has_dictionary the_info) (has_dictionary the_tree) (has_integer the_piece_length) (has_integer the_version) (has_dictionary the_layers) e
 
       by_key : KeyMissing torrent → ⊥
-      by_key (info w) = w (dictionary-yes the_info all.0)
-      by_key (file_tree w) = w (dictionary-yes the_tree all.1)
-      by_key (piece_length w) = w (integer-yes the_piece_length all.2)
-      by_key (meta_version w) = w (integer-yes the_version all.3)
-      by_key (piece_layers w) = w (dictionary-yes the_layers all.4)
+      by_key (info w) = w (dictionary_yes the_info all.0)
+      by_key (file_tree w) = w (dictionary_yes the_tree all.1)
+      by_key (piece_length w) = w (integer_yes the_piece_length all.2)
+      by_key (meta_version w) = w (integer_yes the_version all.3)
+      by_key (piece_layers w) = w (dictionary_yes the_layers all.4)
 
 -- ---- 23
 
-number-yes : (m : ℕ) (x : Lookup) → is_number m x ≡ true → x ≡ present (integer false m)
-number-yes m (present (integer false n)) e = ap (λ (z : ℕ). present (integer false z)) (eqb-true n m e)
-number-yes m (present (integer true n)) e = absurd (false≢true e)
-number-yes m absent e = absurd (false≢true e)
-number-yes m (present (dictionary es)) e = absurd (false≢true e)
-number-yes m (present (string b)) e = absurd (false≢true e)
-number-yes m (present (list vs)) e = absurd (false≢true e)
+number_yes : (m : ℕ) (x : Lookup) → is_number m x ≡ true → x ≡ present (integer false m)
+number_yes m (present (integer false n)) e = ap (λ (z : ℕ). present (integer false z)) (eqb-true n m e)
+number_yes m (present (integer true n)) e = absurd (false≢true e)
+number_yes m absent e = absurd (false≢true e)
+number_yes m (present (dictionary es)) e = absurd (false≢true e)
+number_yes m (present (string b)) e = absurd (false≢true e)
+number_yes m (present (list vs)) e = absurd (false≢true e)
 
-pub version-amiss : (torrent : Entries) → is_number 2 (lookup key_meta_version (info_of torrent)) ≡ false → OtherVersion torrent
-version-amiss torrent e q = false≢true (sym e ∙ ap (is_number 2) q ∙ eq-eqb 2 2 refl)
+pub version_amiss : (torrent : Entries) → is_number 2 (lookup key_meta_version (info_of torrent)) ≡ false → OtherVersion torrent
+version_amiss torrent e q = false≢true (sym e ∙ ap (is_number 2) q ∙ eq-eqb 2 2 refl)
 
-pub version-right : (torrent : Entries) → is_number 2 (lookup key_meta_version (info_of torrent)) ≡ true → OtherVersion torrent → ⊥
-version-right torrent e w = w (number-yes 2 (lookup key_meta_version (info_of torrent)) e)
+pub version_right : (torrent : Entries) → is_number 2 (lookup key_meta_version (info_of torrent)) ≡ true → OtherVersion torrent → ⊥
+version_right torrent e w = w (number_yes 2 (lookup key_meta_version (info_of torrent)) e)
 
 -- ---- 24
 
-pub piece-amiss : (torrent : Entries) → is_piece_length (plen_of torrent) ≡ false → PieceLengthOutOfRange torrent
-piece-amiss torrent e p h q = false≢true (sym e ∙ ap (λ (x : Lookup). is_piece_length (number_of x)) q ∙ piece-length-accepted p h)
+pub piece_amiss : (torrent : Entries) → is_piece_length (plen_of torrent) ≡ false → PieceLengthOutOfRange torrent
+piece_amiss torrent e p h q = false≢true (sym e ∙ ap (λ (x : Lookup). is_piece_length (number_of x)) q ∙ piece_length_accepted p h)
 
 -- a number above 0 is written as such
 pub above_zero : (x : Lookup) → 0 < number_of x → x ≡ present (integer false (number_of x))
@@ -139,20 +139,20 @@ above_zero (present (dictionary es)) h = absurd (omega arith)
 above_zero (present (string b)) h = absurd (omega arith)
 above_zero (present (list vs)) h = absurd (omega arith)
 
-pub piece-right : (torrent : Entries) → is_piece_length (plen_of torrent) ≡ true → PieceLengthOutOfRange torrent → ⊥
-piece-right torrent e w =
-    let f = piece-length-form (plen_of torrent) e in
-    w (piece_layer (plen_of torrent)) f.0 (above_zero (lookup key_piece_length (info_of torrent)) (piece-some (plen_of torrent) e) ∙ ap (λ (z : ℕ). present (integer false z)) f.1)
+pub piece_right : (torrent : Entries) → is_piece_length (plen_of torrent) ≡ true → PieceLengthOutOfRange torrent → ⊥
+piece_right torrent e w =
+    let f = piece_length_form (plen_of torrent) e in
+    w (piece_layer (plen_of torrent)) f.0 (above_zero (lookup key_piece_length (info_of torrent)) (piece_some (plen_of torrent) e) ∙ ap (λ (z : ℕ). present (integer false z)) f.1)
 
 -- ---- 25
 
-pub natural-yes : (x : Lookup) → is_natural x ≡ true → x ≡ present (integer false (number_of x))
-natural-yes (present (integer false n)) e = refl
-natural-yes (present (integer true n)) e = absurd (false≢true e)
-natural-yes absent e = absurd (false≢true e)
-natural-yes (present (dictionary es)) e = absurd (false≢true e)
-natural-yes (present (string b)) e = absurd (false≢true e)
-natural-yes (present (list vs)) e = absurd (false≢true e)
+pub natural_yes : (x : Lookup) → is_natural x ≡ true → x ≡ present (integer false (number_of x))
+natural_yes (present (integer false n)) e = refl
+natural_yes (present (integer true n)) e = absurd (false≢true e)
+natural_yes absent e = absurd (false≢true e)
+natural_yes (present (dictionary es)) e = absurd (false≢true e)
+natural_yes (present (string b)) e = absurd (false≢true e)
+natural_yes (present (list vs)) e = absurd (false≢true e)
 
 -- an empty file has no root
 root_none : (x : Lookup) → root_right true x ≡ true → x ≡ absent
@@ -160,19 +160,19 @@ root_none absent e = refl
 root_none (present v) e = absurd (false≢true e)
 
 -- another has one of 32 bytes
-root-some : (x : Lookup) → root_right false x ≡ true → (root : List ℕ) × (x ≡ present (string root)) × (length root ≡ 32)
-root-some (present (string r)) e = (r, refl, eqb-true (length r) 32 e)
-root-some absent e = absurd (false≢true e)
-root-some (present (integer minus n)) e = absurd (false≢true e)
-root-some (present (list vs)) e = absurd (false≢true e)
-root-some (present (dictionary es)) e = absurd (false≢true e)
+root_some : (x : Lookup) → root_right false x ≡ true → (root : List ℕ) × (x ≡ present (string root)) × (length root ≡ 32)
+root_some (present (string r)) e = (r, refl, eqb-true (length r) 32 e)
+root_some absent e = absurd (false≢true e)
+root_some (present (integer minus n)) e = absurd (false≢true e)
+root_some (present (list vs)) e = absurd (false≢true e)
+root_some (present (dictionary es)) e = absurd (false≢true e)
 
-pub file-yes : (v : Value) → file_right v ≡ true → RightFile v
+pub file_yes : (v : Value) → file_right v ≡ true → RightFile v
 unfolding file_right
-file-yes (integer minus n) e = absurd (false≢true e)
-file-yes (string b) e = absurd (false≢true e)
-file-yes (list vs) e = absurd (false≢true e)
-file-yes (dictionary es) e = by_size (eqb (number_of x) 0) refl p.1
+file_yes (integer minus n) e = absurd (false≢true e)
+file_yes (string b) e = absurd (false≢true e)
+file_yes (list vs) e = absurd (false≢true e)
+file_yes (dictionary es) e = by_size (eqb (number_of x) 0) refl p.1
   where
     x : Lookup
     x = lookup key_length es
@@ -187,85 +187,85 @@ file-yes (dictionary es) e = by_size (eqb (number_of x) 0) refl p.1
     q = (and-eq-true_iff (is_natural x) (leb (number_of x) longest_file)).0 p.0
 
     by_size : (t : Bool) → eqb (number_of x) 0 ≡ t → root_right t y ≡ true → RightFile (dictionary es)
-    by_size true z r = empty es (natural-yes x q.0 ∙ ap (λ (n : ℕ). present (integer false n)) (eqb-true (number_of x) 0 z)) (root_none y r)
+    by_size true z r = empty es (natural_yes x q.0 ∙ ap (λ (n : ℕ). present (integer false n)) (eqb-true (number_of x) 0 z)) (root_none y r)
     by_size false z r =
-        let w = root-some y r in
+        let w = root_some y r in
         let nz = eqb-false (number_of x) 0 z in
-        full es (number_of x) w.0 (natural-yes x q.0) (above (number_of x) nz) (leb-true (number_of x) longest_file q.1) w.1 w.2
+        full es (number_of x) w.0 (natural_yes x q.0) (above (number_of x) nz) (leb-true (number_of x) longest_file q.1) w.1 w.2
 
-file-no : (v : Value) → RightFile v → file_right v ≡ true
+file_no : (v : Value) → RightFile v → file_right v ≡ true
 unfolding file_right
-file-no v (empty es l r) = rw (l, r, le-leb 0 longest_file (omega arith)) refl
-file-no v (full es n root l above below r size) = rw (l, r, le-leb n longest_file below, ne_eqb n 0 (λ z. omega arith), eq-eqb (length root) 32 size) refl
+file_no v (empty es l r) = rw (l, r, le-leb 0 longest_file (omega arith)) refl
+file_no v (full es n root l above below r size) = rw (l, r, le-leb n longest_file below, ne_eqb n 0 (λ z. omega arith), eq-eqb (length root) 32 size) refl
 
 -- the entries behind one that is right are none or a right directory
 abbrev Rest : Entries → Type 0
 Rest no_entries = Unit {0}
 Rest (entry k v es) = RightDirectory (entry k v es)
 
-first-right : (k : List ℕ) (v : Value) (es : Entries) → element_right k ≡ true → RightNode v → Rest es → RightDirectory (entry k v es)
-first-right k v no_entries e n r = one k v e n
-first-right k v (entry j u es) e n r = more k v (entry j u es) e n r
+first_right : (k : List ℕ) (v : Value) (es : Entries) → element_right k ≡ true → RightNode v → Rest es → RightDirectory (entry k v es)
+first_right k v no_entries e n r = one k v e n
+first_right k v (entry j u es) e n r = more k v (entry j u es) e n r
 
 -- three tests
-pub three-true : (a b c : Bool) → a && (b && c) ≡ true → (a ≡ true) × (b ≡ true) × (c ≡ true)
-three-true true true c q = (refl, refl, q)
-three-true false b c q = absurd (false≢true q)
-three-true true false c q = absurd (false≢true q)
+pub three_true : (a b c : Bool) → a && (b && c) ≡ true → (a ≡ true) × (b ≡ true) × (c ≡ true)
+three_true true true c q = (refl, refl, q)
+three_true false b c q = absurd (false≢true q)
+three_true true false c q = absurd (false≢true q)
 
 mutual
   unfolding node_right branch_right nodes_right
 
-  node-yes : (v : Value) → node_right v ≡ true → RightNode v
-  node-yes (integer minus n) e = absurd (false≢true e)
-  node-yes (string b) e = absurd (false≢true e)
-  node-yes (list vs) e = absurd (false≢true e)
-  node-yes (dictionary es) e = branch_yes es e
+  node_yes : (v : Value) → node_right v ≡ true → RightNode v
+  node_yes (integer minus n) e = absurd (false≢true e)
+  node_yes (string b) e = absurd (false≢true e)
+  node_yes (list vs) e = absurd (false≢true e)
+  node_yes (dictionary es) e = branch_yes es e
 
   branch_yes : (es : Entries) → branch_right es ≡ true → RightNode (dictionary es)
   branch_yes no_entries e = absurd (false≢true e)
-  branch_yes (entry [] v no_entries) e = file v (file-yes v e)
+  branch_yes (entry [] v no_entries) e = file v (file_yes v e)
   branch_yes (entry [] v (entry k u es)) e = absurd (false≢true e)
   branch_yes (entry (c ∷ cs) v es) e =
-      let p = three-true (element_right (c ∷ cs)) (node_right v) (nodes_right es) e in
-      directory (entry (c ∷ cs) v es) (first-right (c ∷ cs) v es p.0 (node-yes v p.1) (nodes-yes es p.2))
+      let p = three_true (element_right (c ∷ cs)) (node_right v) (nodes_right es) e in
+      directory (entry (c ∷ cs) v es) (first_right (c ∷ cs) v es p.0 (node_yes v p.1) (nodes_yes es p.2))
 
-  nodes-yes : (es : Entries) → nodes_right es ≡ true → Rest es
-  nodes-yes no_entries e = tt
-  nodes-yes (entry k v es) e =
-      let p = three-true (element_right k) (node_right v) (nodes_right es) e in
-      first-right k v es p.0 (node-yes v p.1) (nodes-yes es p.2)
+  nodes_yes : (es : Entries) → nodes_right es ≡ true → Rest es
+  nodes_yes no_entries e = tt
+  nodes_yes (entry k v es) e =
+      let p = three_true (element_right k) (node_right v) (nodes_right es) e in
+      first_right k v es p.0 (node_yes v p.1) (nodes_yes es p.2)
 
 -- a path element is not empty
-element-some : (k : List ℕ) → element_right k ≡ true → (v : Value) (es : Entries) → nodes_right (entry k v es) ≡ true → branch_right (entry k v es) ≡ true
+element_some : (k : List ℕ) → element_right k ≡ true → (v : Value) (es : Entries) → nodes_right (entry k v es) ≡ true → branch_right (entry k v es) ≡ true
 unfolding element_right branch_right nodes_right
-element-some [] e v es q = absurd (false≢true e)
-element-some (c ∷ cs) e v es q = q
+element_some [] e v es q = absurd (false≢true e)
+element_some (c ∷ cs) e v es q = q
 
-first-no : (k : List ℕ) (v : Value) (es : Entries) → element_right k ≡ true → node_right v ≡ true → nodes_right es ≡ true → (nodes_right (entry k v es) ≡ true) × (branch_right (entry k v es) ≡ true)
+first_no : (k : List ℕ) (v : Value) (es : Entries) → element_right k ≡ true → node_right v ≡ true → nodes_right es ≡ true → (nodes_right (entry k v es) ≡ true) × (branch_right (entry k v es) ≡ true)
 unfolding nodes_right
-first-no k v es e n q = let all : nodes_right (entry k v es) ≡ true = rw (e, n, q) refl in (all, element-some k e v es all)
+first_no k v es e n q = let all : nodes_right (entry k v es) ≡ true = rw (e, n, q) refl in (all, element_some k e v es all)
 
 mutual
   unfolding node_right branch_right nodes_right
 
-  node-no : (v : Value) → RightNode v → node_right v ≡ true
-  node-no v (file w f) = file-no w f
-  node-no v (directory es d) = (directory-no es d).1
+  node_no : (v : Value) → RightNode v → node_right v ≡ true
+  node_no v (file w f) = file_no w f
+  node_no v (directory es d) = (directory_no es d).1
 
-  directory-no : (es : Entries) → RightDirectory es → (nodes_right es ≡ true) × (branch_right es ≡ true)
-  directory-no es (one k v e n) = first-no k v no_entries e (node-no v n) refl
-  directory-no es (more k v fs e n d) = first-no k v fs e (node-no v n) (directory-no fs d).0
+  directory_no : (es : Entries) → RightDirectory es → (nodes_right es ≡ true) × (branch_right es ≡ true)
+  directory_no es (one k v e n) = first_no k v no_entries e (node_no v n) refl
+  directory_no es (more k v fs e n d) = first_no k v fs e (node_no v n) (directory_no fs d).0
 
-pub tree-yes : (es : Entries) → tree_right es ≡ true → RightDirectory es
+pub tree_yes : (es : Entries) → tree_right es ≡ true → RightDirectory es
 unfolding tree_right
-tree-yes no_entries e = absurd (false≢true e)
-tree-yes (entry k v es) e = nodes-yes (entry k v es) e
+tree_yes no_entries e = absurd (false≢true e)
+tree_yes (entry k v es) e = nodes_yes (entry k v es) e
 
-pub tree-no : (es : Entries) → RightDirectory es → tree_right es ≡ true
+pub tree_no : (es : Entries) → RightDirectory es → tree_right es ≡ true
 unfolding tree_right
-tree-no es (one k v e n) = (directory-no (entry k v no_entries) (one k v e n)).0
-tree-no es (more k v fs e n d) = (directory-no (entry k v fs) (more k v fs e n d)).0
+tree_no es (one k v e n) = (directory_no (entry k v no_entries) (one k v e n)).0
+tree_no es (more k v fs e n d) = (directory_no (entry k v fs) (more k v fs e n d)).0
 
 -- ---- 26
 
@@ -273,10 +273,10 @@ tree-no es (more k v fs e n d) = (directory-no (entry k v fs) (more k v fs e n d
 abbrev Having : List ℕ → ℕ → List File → Type 0
 Having root n fs = (j : ℕ) × (f : File) × Nth fs j f × (0 < f.size) × (root ≡ f.root) × (n ≡ f.size → ⊥)
 
-some-having : (root : List ℕ) (n : ℕ) (fs : List File) → no_other_length root n fs ≡ false → Having root n fs
+some_having : (root : List ℕ) (n : ℕ) (fs : List File) → no_other_length root n fs ≡ false → Having root n fs
 unfolding no_other_length Nth
-some-having root n [] e = absurd (false≢true (sym e))
-some-having root n (f ∷ fs) e = by_first (eqb f.size 0) (same root f.root) (eqb n f.size) refl refl refl e (some-having root n fs)
+some_having root n [] e = absurd (false≢true (sym e))
+some_having root n (f ∷ fs) e = by_first (eqb f.size 0) (same root f.root) (eqb n f.size) refl refl refl e (some_having root n fs)
   where
     later : Having root n fs → Having root n (f ∷ fs)
     later w = (suc w.0, w.1, w.2, w.3, w.4, w.5)
@@ -288,10 +288,10 @@ some-having root n (f ∷ fs) e = by_first (eqb f.size 0) (same root f.root) (eq
     by_first true b c p q o r ih = later (ih r)
     by_first false false c p q o r ih = later (ih r)
 
-none-having : (root : List ℕ) (n : ℕ) (fs : List File) → no_other_length root n fs ≡ true → Having root n fs → ⊥
+none_having : (root : List ℕ) (n : ℕ) (fs : List File) → no_other_length root n fs ≡ true → Having root n fs → ⊥
 unfolding no_other_length Nth
-none-having root n [] e h = h.2
-none-having root n (f ∷ fs) e h = by_number h.0 h.2 (none-having root n fs)
+none_having root n [] e h = h.2
+none_having root n (f ∷ fs) e h = by_number h.0 h.2 (none_having root n fs)
   where
     g : File
     g = h.1
@@ -303,15 +303,15 @@ none-having root n (f ∷ fs) e h = by_number h.0 h.2 (none-having root n fs)
     by_number zero q ih =
         let u : g.size ≡ f.size = ap (λ (x : File). x.size) q in
         let z : eqb f.size 0 ≡ false = ne_eqb f.size 0 (λ o. omega (arith, h.3)) in
-        let s : same root f.root ≡ true = same-eq root f.root (h.4 ∙ ap (λ (x : File). x.root) q) in
+        let s : same root f.root ≡ true = same_eq root f.root (h.4 ∙ ap (λ (x : File). x.root) q) in
         let t : eqb n f.size ≡ false = ne_eqb n f.size (λ o. h.5 (o ∙ sym u)) in
         false≢true (rw (z, s, t) at p.0)
     by_number (suc i) q ih = ih p.1 (i, g, q, h.3, h.4, h.5)
 
-pub roots-amiss : (fs : List File) → lengths_agree fs ≡ false → TwoLengths fs
+pub roots_amiss : (fs : List File) → lengths_agree fs ≡ false → TwoLengths fs
 unfolding lengths_agree Nth
-roots-amiss [] e = absurd (false≢true (sym e))
-roots-amiss (f ∷ fs) e = by_first (eqb f.size 0) (no_other_length f.root f.size fs) refl refl e (roots-amiss fs)
+roots_amiss [] e = absurd (false≢true (sym e))
+roots_amiss (f ∷ fs) e = by_first (eqb f.size 0) (no_other_length f.root f.size fs) refl refl e (roots_amiss fs)
   where
     later : TwoLengths fs → TwoLengths (f ∷ fs)
     later w =
@@ -322,9 +322,9 @@ roots-amiss (f ∷ fs) e = by_first (eqb f.size 0) (no_other_length f.root f.siz
           other = w.other;
           one_at = w.one_at;
           other_at = w.other_at;
-          one-full = w.one-full;
-          other-full = w.other-full;
-          same-root = w.same-root;
+          one_full = w.one_full;
+          other_full = w.other_full;
+          same_root = w.same_root;
           different = w.different;
         }
 
@@ -332,7 +332,7 @@ roots-amiss (f ∷ fs) e = by_first (eqb f.size 0) (no_other_length f.root f.siz
     by_first true b p q r ih = later (ih r)
     by_first false true p q r ih = later (ih r)
     by_first false false p q r ih =
-        let w = some-having f.root f.size fs q in
+        let w = some_having f.root f.size fs q in
         record {
           i = 0;
           j = suc w.0;
@@ -340,17 +340,17 @@ roots-amiss (f ∷ fs) e = by_first (eqb f.size 0) (no_other_length f.root f.siz
           other = w.1;
           one_at = refl;
           other_at = w.2;
-          one-full = above f.size (eqb-false f.size 0 p);
-          other-full = w.3;
-          same-root = w.4;
+          one_full = above f.size (eqb-false f.size 0 p);
+          other_full = w.3;
+          same_root = w.4;
           different = w.5;
         }
 
 -- two numbers with one root and different lengths, where lengths agree
-agree-no : (fs : List File) → lengths_agree fs ≡ true → (i j : ℕ) (f g : File) → Nth fs i f → Nth fs j g → 0 < f.size → 0 < g.size → f.root ≡ g.root → (f.size ≡ g.size → ⊥) → ⊥
+agree_no : (fs : List File) → lengths_agree fs ≡ true → (i j : ℕ) (f g : File) → Nth fs i f → Nth fs j g → 0 < f.size → 0 < g.size → f.root ≡ g.root → (f.size ≡ g.size → ⊥) → ⊥
 unfolding Nth lengths_agree
-agree-no [] e i j f g p q l m r d = p
-agree-no (x ∷ xs) e i j f g p q l m r d = by-numbers i j p q (agree-no xs)
+agree_no [] e i j f g p q l m r d = p
+agree_no (x ∷ xs) e i j f g p q l m r d = by_numbers i j p q (agree_no xs)
   where
     h : (eqb x.size 0 || no_other_length x.root x.size xs ≡ true) × (lengths_agree xs ≡ true)
     h = (and-eq-true_iff (eqb x.size 0 || no_other_length x.root x.size xs) (lengths_agree xs)).0 e
@@ -361,37 +361,37 @@ agree-no (x ∷ xs) e i j f g p q l m r d = by-numbers i j p q (agree-no xs)
         let t : false || no_other_length x.root x.size xs ≡ true = rw z at h.0 in
         rw u t
 
-    by-numbers : (i j : ℕ) → Nth (x ∷ xs) i f → Nth (x ∷ xs) j g
+    by_numbers : (i j : ℕ) → Nth (x ∷ xs) i f → Nth (x ∷ xs) j g
         → (lengths_agree xs ≡ true → (i j : ℕ) (f g : File) → Nth xs i f → Nth xs j g → 0 < f.size → 0 < g.size → f.root ≡ g.root → (f.size ≡ g.size → ⊥) → ⊥) → ⊥
-    by-numbers zero zero p q ih = d (ap (λ (y : File). y.size) (p ∙ sym q))
-    by-numbers zero (suc j) p q ih = none-having f.root f.size xs (none f p l) (j, g, q, m, r, d)
-    by-numbers (suc i) zero p q ih = none-having g.root g.size xs (none g q m) (i, f, p, l, sym r, λ o. d (sym o))
-    by-numbers (suc i) (suc j) p q ih = ih h.1 i j f g p q l m r d
+    by_numbers zero zero p q ih = d (ap (λ (y : File). y.size) (p ∙ sym q))
+    by_numbers zero (suc j) p q ih = none_having f.root f.size xs (none f p l) (j, g, q, m, r, d)
+    by_numbers (suc i) zero p q ih = none_having g.root g.size xs (none g q m) (i, f, p, l, sym r, λ o. d (sym o))
+    by_numbers (suc i) (suc j) p q ih = ih h.1 i j f g p q l m r d
 
-pub roots-right : (fs : List File) → lengths_agree fs ≡ true → TwoLengths fs → ⊥
-roots-right fs e w = agree-no fs e w.i w.j w.one w.other w.one_at w.other_at w.one-full w.other-full w.same-root w.different
+pub roots_right : (fs : List File) → lengths_agree fs ≡ true → TwoLengths fs → ⊥
+roots_right fs e w = agree_no fs e w.i w.j w.one w.other w.one_at w.other_at w.one_full w.other_full w.same_root w.different
 
 -- ---- 27
 
 module _ (plen : ℕ) (ls : Entries) where
-  fits-yes : (f : File) → plen < f.size → (x : Lookup) → lookup f.root ls ≡ x → layer_fits plen f x ≡ true → (layer : List ℕ) × LayerOf plen ls f layer
-  fits-yes f l (present (string b)) q e = (b, record { longer = l; found = q; size = eqb-true (length b) (32 * piece_count f.size plen) e })
-  fits-yes f l absent q e = absurd (false≢true e)
-  fits-yes f l (present (integer minus n)) q e = absurd (false≢true e)
-  fits-yes f l (present (list vs)) q e = absurd (false≢true e)
-  fits-yes f l (present (dictionary es)) q e = absurd (false≢true e)
+  fits_yes : (f : File) → plen < f.size → (x : Lookup) → lookup f.root ls ≡ x → layer_fits plen f x ≡ true → (layer : List ℕ) × LayerOf plen ls f layer
+  fits_yes f l (present (string b)) q e = (b, record { longer = l; found = q; size = eqb-true (length b) (32 * piece_count f.size plen) e })
+  fits_yes f l absent q e = absurd (false≢true e)
+  fits_yes f l (present (integer minus n)) q e = absurd (false≢true e)
+  fits_yes f l (present (list vs)) q e = absurd (false≢true e)
+  fits_yes f l (present (dictionary es)) q e = absurd (false≢true e)
 
-  fits-no : (f : File) (layer : List ℕ) → LayerOf plen ls f layer → layer_fits plen f (lookup f.root ls) ≡ true
-  fits-no f layer w = rw (w.found, eq-eqb (length layer) (32 * piece_count f.size plen) w.size) refl
+  fits_no : (f : File) (layer : List ℕ) → LayerOf plen ls f layer → layer_fits plen f (lookup f.root ls) ≡ true
+  fits_no f layer w = rw (w.found, eq-eqb (length layer) (32 * piece_count f.size plen) w.size) refl
 
   -- each file longer than the piece length has its layer
   abbrev EachFile : List File → Type 0
   EachFile fs = (n : ℕ) (f : File) → Nth fs n f → plen < f.size → (layer : List ℕ) × LayerOf plen ls f layer
 
-  pub each-file-yes : (fs : List File) → layers_fit plen ls fs ≡ true → EachFile fs
+  pub each_file_yes : (fs : List File) → layers_fit plen ls fs ≡ true → EachFile fs
   unfolding layers_fit Nth
-  each-file-yes [] e n f q l = absurd q
-  each-file-yes (x ∷ xs) e n f q l = by_number n q (each-file-yes xs)
+  each_file_yes [] e n f q l = absurd q
+  each_file_yes (x ∷ xs) e n f q l = by_number n q (each_file_yes xs)
     where
       p : (not (has_layer x.size plen) || layer_fits plen x (lookup x.root ls) ≡ true) × (layers_fit plen ls xs ≡ true)
       p = (and-eq-true_iff (not (has_layer x.size plen) || layer_fits plen x (lookup x.root ls)) (layers_fit plen ls xs)).0 e
@@ -399,35 +399,35 @@ module _ (plen : ℕ) (ls : Entries) where
       by_number : (n : ℕ) → Nth (x ∷ xs) n f → (layers_fit plen ls xs ≡ true → EachFile xs) → (layer : List ℕ) × LayerOf plen ls f layer
       by_number zero u ih =
           let h : not (has_layer f.size plen) || layer_fits plen f (lookup f.root ls) ≡ true = rw u p.0 in
-          let g : not true || layer_fits plen f (lookup f.root ls) ≡ true = rw (longer-has f.size plen l) at h in
-          fits-yes f l (lookup f.root ls) refl g
+          let g : not true || layer_fits plen f (lookup f.root ls) ≡ true = rw (longer_has f.size plen l) at h in
+          fits_yes f l (lookup f.root ls) refl g
       by_number (suc n) u ih = ih p.1 n f u l
 
-  each-file-no : (fs : List File) → EachFile fs → layers_fit plen ls fs ≡ true
+  each_file_no : (fs : List File) → EachFile fs → layers_fit plen ls fs ≡ true
   unfolding layers_fit Nth
-  each-file-no [] w = refl
-  each-file-no (x ∷ xs) w = by_length (has_layer x.size plen) refl (each-file-no xs (λ n f q l. w (suc n) f q l))
+  each_file_no [] w = refl
+  each_file_no (x ∷ xs) w = by_length (has_layer x.size plen) refl (each_file_no xs (λ n f q l. w (suc n) f q l))
     where
       by_length : (t : Bool) → has_layer x.size plen ≡ t → layers_fit plen ls xs ≡ true → (not t || layer_fits plen x (lookup x.root ls)) && layers_fit plen ls xs ≡ true
       by_length false q r = r
       by_length true q r =
-          let y = w 0 x refl (has-longer x.size plen q) in
-          rw (fits-no x y.0 y.1, r) refl
+          let y = w 0 x refl (has_longer x.size plen q) in
+          rw (fits_no x y.0 y.1, r) refl
 
   -- a file longer than the piece length with this root
   abbrev Longer : List ℕ → List File → Type 0
   Longer k fs = (n : ℕ) × (f : File) × Nth fs n f × (plen < f.size) × (k ≡ f.root)
 
-  some-longer-yes : (k : List ℕ) (fs : List File) → some_longer plen k fs ≡ true → Longer k fs
+  some_longer_yes : (k : List ℕ) (fs : List File) → some_longer plen k fs ≡ true → Longer k fs
   unfolding some_longer Nth
-  some-longer-yes k [] e = absurd (false≢true e)
-  some-longer-yes k (x ∷ xs) e = by_both (has_layer x.size plen) (same k x.root) refl refl e (some-longer-yes k xs)
+  some_longer_yes k [] e = absurd (false≢true e)
+  some_longer_yes k (x ∷ xs) e = by_both (has_layer x.size plen) (same k x.root) refl refl e (some_longer_yes k xs)
     where
       later : Longer k xs → Longer k (x ∷ xs)
       later w = (suc w.0, w.1, w.2, w.3, w.4)
 
       by_both : (a b : Bool) → has_layer x.size plen ≡ a → same k x.root ≡ b → (a && b) || some_longer plen k xs ≡ true → (some_longer plen k xs ≡ true → Longer k xs) → Longer k (x ∷ xs)
-      by_both true true p q r ih = (0, x, refl, has-longer x.size plen p, same_true k x.root q)
+      by_both true true p q r ih = (0, x, refl, has_longer x.size plen p, same_true k x.root q)
       by_both true false p q r ih = later (ih r)
       by_both false b p q r ih = later (ih r)
 
@@ -435,18 +435,18 @@ module _ (plen : ℕ) (ls : Entries) where
   or_yes true = refl
   or_yes false = refl
 
-  some-longer-no : (k : List ℕ) (fs : List File) → Longer k fs → some_longer plen k fs ≡ true
+  some_longer_no : (k : List ℕ) (fs : List File) → Longer k fs → some_longer plen k fs ≡ true
   unfolding some_longer Nth
-  some-longer-no k [] w = absurd w.2
-  some-longer-no k (x ∷ xs) w = by_number w.0 w.2 (some-longer-no k xs)
+  some_longer_no k [] w = absurd w.2
+  some_longer_no k (x ∷ xs) w = by_number w.0 w.2 (some_longer_no k xs)
     where
       f : File
       f = w.1
 
       by_number : (n : ℕ) → Nth (x ∷ xs) n f → (Longer k xs → some_longer plen k xs ≡ true) → (has_layer x.size plen && same k x.root) || some_longer plen k xs ≡ true
       by_number zero u ih =
-          let s : has_layer x.size plen ≡ true = longer-has x.size plen (let o : f.size ≡ x.size = ap (λ (z : File). z.size) u in omega (arith, w.3)) in
-          let t : same k x.root ≡ true = same-eq k x.root (w.4 ∙ ap (λ (z : File). z.root) u) in
+          let s : has_layer x.size plen ≡ true = longer_has x.size plen (let o : f.size ≡ x.size = ap (λ (z : File). z.size) u in omega (arith, w.3)) in
+          let t : same k x.root ≡ true = same_eq k x.root (w.4 ∙ ap (λ (z : File). z.root) u) in
           rw (s, t) refl
       by_number (suc n) u ih = rw (ih (n, f, u, w.3, w.4)) (or_yes (has_layer x.size plen && same k x.root))
 
@@ -455,80 +455,80 @@ module _ (plen : ℕ) (fs : List File) where
   abbrev EachKey : Entries → Type 0
   EachKey ls = (k : List ℕ) → (lookup k ls ≡ absent → ⊥) → (n : ℕ) × (f : File) × Nth fs n f × (plen < f.size) × (k ≡ f.root)
 
-  each-key-yes : (ls : Entries) → no_others plen fs ls ≡ true → EachKey ls
+  each_key_yes : (ls : Entries) → no_others plen fs ls ≡ true → EachKey ls
   unfolding no_others lookup
-  each-key-yes no_entries e k h = absurd (h refl)
-  each-key-yes (entry j v es) e k h = by-same (same k j) refl h (each-key-yes es)
+  each_key_yes no_entries e k h = absurd (h refl)
+  each_key_yes (entry j v es) e k h = by_same (same k j) refl h (each_key_yes es)
     where
       p : (some_longer plen j fs ≡ true) × (no_others plen fs es ≡ true)
       p = (and-eq-true_iff (some_longer plen j fs) (no_others plen fs es)).0 e
 
-      by-same : (t : Bool) → same k j ≡ t → (cond t (present v) (lookup k es) ≡ absent → ⊥) → (no_others plen fs es ≡ true → EachKey es)
+      by_same : (t : Bool) → same k j ≡ t → (cond t (present v) (lookup k es) ≡ absent → ⊥) → (no_others plen fs es ≡ true → EachKey es)
           → (n : ℕ) × (f : File) × Nth fs n f × (plen < f.size) × (k ≡ f.root)
-      by-same true q g ih = let w = some-longer-yes plen no_entries j fs p.0 in (w.0, w.1, w.2, w.3, same_true k j q ∙ w.4)
-      by-same false q g ih = ih p.1 k g
+      by_same true q g ih = let w = some_longer_yes plen no_entries j fs p.0 in (w.0, w.1, w.2, w.3, same_true k j q ∙ w.4)
+      by_same false q g ih = ih p.1 k g
 
   -- something found is not nothing
-  present-some : (v : Value) → present v ≡ absent → ⊥
-  present-some v e = let z : ◌≡◌ {A = ℕ} 0 1 = cc in omega arith
+  present_some : (v : Value) → present v ≡ absent → ⊥
+  present_some v e = let z : ◌≡◌ {A = ℕ} 0 1 = cc in omega arith
 
-  each-key-no : (ls : Entries) → EachKey ls → no_others plen fs ls ≡ true
+  each_key_no : (ls : Entries) → EachKey ls → no_others plen fs ls ≡ true
   unfolding no_others lookup
-  each-key-no no_entries w = refl
-  each-key-no (entry j v es) w =
-      let first : some_longer plen j fs ≡ true = some-longer-no plen no_entries j fs (w j (λ q. present-some v (rw (same-eq j j refl) at q))) in
-      let others : no_others plen fs es ≡ true = each-key-no es (λ k h. w k (by-same k h (same k j))) in
+  each_key_no no_entries w = refl
+  each_key_no (entry j v es) w =
+      let first : some_longer plen j fs ≡ true = some_longer_no plen no_entries j fs (w j (λ q. present_some v (rw (same_eq j j refl) at q))) in
+      let others : no_others plen fs es ≡ true = each_key_no es (λ k h. w k (by_same k h (same k j))) in
       rw (first, others) refl
     where
-      by-same : (k : List ℕ) → (lookup k es ≡ absent → ⊥) → (t : Bool) → cond t (present v) (lookup k es) ≡ absent → ⊥
-      by-same k h true q = present-some v q
-      by-same k h false q = h q
+      by_same : (k : List ℕ) → (lookup k es ≡ absent → ⊥) → (t : Bool) → cond t (present v) (lookup k es) ≡ absent → ⊥
+      by_same k h true q = present_some v q
+      by_same k h false q = h q
 
-pub layers-yes : (plen : ℕ) (ls : Entries) (fs : List File) → layers_fit plen ls fs && no_others plen fs ls ≡ true → LayersRight plen ls fs
-layers-yes plen ls fs e =
+pub layers_yes : (plen : ℕ) (ls : Entries) (fs : List File) → layers_fit plen ls fs && no_others plen fs ls ≡ true → LayersRight plen ls fs
+layers_yes plen ls fs e =
     let p = (and-eq-true_iff (layers_fit plen ls fs) (no_others plen fs ls)).0 e in
-    record { each-file = each-file-yes plen ls fs p.0; each-key = each-key-yes plen fs ls p.1 }
+    record { each_file = each_file_yes plen ls fs p.0; each_key = each_key_yes plen fs ls p.1 }
 
-pub layers-no : (plen : ℕ) (ls : Entries) (fs : List File) → LayersRight plen ls fs → layers_fit plen ls fs && no_others plen fs ls ≡ true
-layers-no plen ls fs w = rw (each-file-no plen ls fs w.each-file, each-key-no plen fs ls w.each-key) refl
+pub layers_no : (plen : ℕ) (ls : Entries) (fs : List File) → LayersRight plen ls fs → layers_fit plen ls fs && no_others plen fs ls ≡ true
+layers_no plen ls fs w = rw (each_file_no plen ls fs w.each_file, each_key_no plen fs ls w.each_key) refl
 
 -- ---- 28
 
 module _ (plen : ℕ) (ls : Entries) where
-  later-differs : (x : File) (xs : List File) → LayerDiffers plen ls xs → LayerDiffers plen ls (x ∷ xs)
+  later_differs : (x : File) (xs : List File) → LayerDiffers plen ls xs → LayerDiffers plen ls (x ∷ xs)
   unfolding Nth
-  later-differs x xs w = record { n = suc w.n; file = w.file; file-at = w.file-at; layer = w.layer; is-layer = w.is-layer; differs = w.differs }
+  later_differs x xs w = record { n = suc w.n; file = w.file; file_at = w.file_at; layer = w.layer; is_layer = w.is_layer; differs = w.differs }
 
-  pub gives-amiss : (fs : List File) → layers_fit plen ls fs ≡ true → layers_give_roots plen ls fs ≡ false → LayerDiffers plen ls fs
+  pub gives_amiss : (fs : List File) → layers_fit plen ls fs ≡ true → layers_give_roots plen ls fs ≡ false → LayerDiffers plen ls fs
   unfolding layers_give_roots layers_fit Nth
-  gives-amiss [] fit e = absurd (false≢true (sym e))
-  gives-amiss (x ∷ xs) fit e = by_both (has_layer x.size plen) (gives_root plen x (layer_bytes (lookup x.root ls))) refl refl e (gives-amiss xs)
+  gives_amiss [] fit e = absurd (false≢true (sym e))
+  gives_amiss (x ∷ xs) fit e = by_both (has_layer x.size plen) (gives_root plen x (layer_bytes (lookup x.root ls))) refl refl e (gives_amiss xs)
     where
       p : (not (has_layer x.size plen) || layer_fits plen x (lookup x.root ls) ≡ true) × (layers_fit plen ls xs ≡ true)
       p = (and-eq-true_iff (not (has_layer x.size plen) || layer_fits plen x (lookup x.root ls)) (layers_fit plen ls xs)).0 fit
 
       by_both : (a b : Bool) → has_layer x.size plen ≡ a → gives_root plen x (layer_bytes (lookup x.root ls)) ≡ b → (not a || b) && layers_give_roots plen ls xs ≡ false
           → (layers_fit plen ls xs ≡ true → layers_give_roots plen ls xs ≡ false → LayerDiffers plen ls xs) → LayerDiffers plen ls (x ∷ xs)
-      by_both false b u v r ih = later-differs x xs (ih p.1 r)
-      by_both true true u v r ih = later-differs x xs (ih p.1 r)
+      by_both false b u v r ih = later_differs x xs (ih p.1 r)
+      by_both true true u v r ih = later_differs x xs (ih p.1 r)
       by_both true false u v r ih =
           let g : not true || layer_fits plen x (lookup x.root ls) ≡ true = rw u at p.0 in
-          let w = fits-yes plen ls x (has-longer x.size plen u) (lookup x.root ls) refl g in
+          let w = fits_yes plen ls x (has_longer x.size plen u) (lookup x.root ls) refl g in
           let d : gives_root plen x (layer_bytes (present (string w.0))) ≡ false = rw w.1.found at v in
-          record { n = 0; file = x; file-at = refl; layer = w.0; is-layer = w.1; differs = same_false (layer_root w.0 (piece_layer plen) (height (block_count x.size))) x.root d }
+          record { n = 0; file = x; file_at = refl; layer = w.0; is_layer = w.1; differs = same_false (layer_root w.0 (piece_layer plen) (height (block_count x.size))) x.root d }
 
-  pub gives-right : (fs : List File) → layers_give_roots plen ls fs ≡ true → LayerDiffers plen ls fs → ⊥
-  gives-right fs e w = nth-gives fs e w.n w.file w.file-at w.layer w.is-layer w.differs
+  pub gives_right : (fs : List File) → layers_give_roots plen ls fs ≡ true → LayerDiffers plen ls fs → ⊥
+  gives_right fs e w = nth_gives fs e w.n w.file w.file_at w.layer w.is_layer w.differs
     where
-      nth-gives : (fs : List File) → layers_give_roots plen ls fs ≡ true → (n : ℕ) (f : File) → Nth fs n f → (layer : List ℕ) → LayerOf plen ls f layer
+      nth_gives : (fs : List File) → layers_give_roots plen ls fs ≡ true → (n : ℕ) (f : File) → Nth fs n f → (layer : List ℕ) → LayerOf plen ls f layer
           → (layer_root layer (piece_layer plen) (height (block_count f.size)) ≡ f.root → ⊥) → ⊥
-      nth-gives [] e n f q layer l d = unfold Nth in q
-      nth-gives (x ∷ xs) e zero f q layer l d = first (unfold layers_give_roots in ((and-eq-true_iff (not (has_layer x.size plen) || gives_root plen x (layer_bytes (lookup x.root ls))) (layers_give_roots plen ls xs)).0 e).0) (unfold Nth in q)
+      nth_gives [] e n f q layer l d = unfold Nth in q
+      nth_gives (x ∷ xs) e zero f q layer l d = first (unfold layers_give_roots in ((and-eq-true_iff (not (has_layer x.size plen) || gives_root plen x (layer_bytes (lookup x.root ls))) (layers_give_roots plen ls xs)).0 e).0) (unfold Nth in q)
         where
           first : not (has_layer x.size plen) || gives_root plen x (layer_bytes (lookup x.root ls)) ≡ true → f ≡ x → ⊥
           first g u =
               let h : not (has_layer f.size plen) || gives_root plen f (layer_bytes (lookup f.root ls)) ≡ true = rw u g in
-              let k : not true || gives_root plen f (layer_bytes (present (string layer))) ≡ true = rw (longer-has f.size plen l.longer, l.found) at h in
+              let k : not true || gives_root plen f (layer_bytes (present (string layer))) ≡ true = rw (longer_has f.size plen l.longer, l.found) at h in
               d (same_true (layer_root layer (piece_layer plen) (height (block_count f.size))) f.root k)
-      nth-gives (x ∷ xs) e (suc n) f q layer l d =
-          nth-gives xs (unfold layers_give_roots in ((and-eq-true_iff (not (has_layer x.size plen) || gives_root plen x (layer_bytes (lookup x.root ls))) (layers_give_roots plen ls xs)).0 e).1) n f (unfold Nth in q) layer l d
+      nth_gives (x ∷ xs) e (suc n) f q layer l d =
+          nth_gives xs (unfold layers_give_roots in ((and-eq-true_iff (not (has_layer x.size plen) || gives_root plen x (layer_bytes (lookup x.root ls))) (layers_give_roots plen ls xs)).0 e).1) n f (unfold Nth in q) layer l d

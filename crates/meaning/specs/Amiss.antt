@@ -68,9 +68,9 @@ pub record TwoLengths (files : List File) : Type 0 where
   pub other : File
   pub one_at : Nth files i one
   pub other_at : Nth files j other
-  pub one-full : 0 < one.size
-  pub other-full : 0 < other.size
-  pub same-root : one.root ≡ other.root
+  pub one_full : 0 < one.size
+  pub other_full : 0 < other.size
+  pub same_root : one.root ≡ other.root
   pub different : one.size ≡ other.size → ⊥
 
 -- ---- 27: the keys of `piece layers` aren't exactly the roots of files longer than the piece length, or a value isn't 32 bytes per piece
@@ -83,17 +83,17 @@ pub record LayerOf (plen : ℕ) (layers : Entries) (f : File) (layer : List ℕ)
 
 -- each file longer than the piece length has one, and each key is the root of such a file
 pub record LayersRight (plen : ℕ) (layers : Entries) (files : List File) : Type 0 where
-  pub each-file : (n : ℕ) (f : File) → Nth files n f → plen < f.size → (layer : List ℕ) × LayerOf plen layers f layer
-  pub each-key : (k : List ℕ) → (lookup k layers ≡ absent → ⊥) → (n : ℕ) × (f : File) × Nth files n f × (plen < f.size) × (k ≡ f.root)
+  pub each_file : (n : ℕ) (f : File) → Nth files n f → plen < f.size → (layer : List ℕ) × LayerOf plen layers f layer
+  pub each_key : (k : List ℕ) → (lookup k layers ≡ absent → ⊥) → (n : ℕ) × (f : File) × Nth files n f × (plen < f.size) × (k ≡ f.root)
 
 -- ---- 28: a layer doesn't give its root
 
 pub record LayerDiffers (plen : ℕ) (layers : Entries) (files : List File) : Type 0 where
   pub n : ℕ
   pub file : File
-  pub file-at : Nth files n file
+  pub file_at : Nth files n file
   pub layer : List ℕ
-  pub is-layer : LayerOf plen layers file layer
+  pub is_layer : LayerOf plen layers file layer
   pub differs : layer_root layer (piece_layer plen) (height (block_count file.size)) ≡ file.root → ⊥
 
 -- ---- what is amiss, by its number

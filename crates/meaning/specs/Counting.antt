@@ -36,17 +36,17 @@ module _ {A : Type 0} where
       (y ∷ w.0, ap suc w.1, λ z k n. elim k [ inl q ↦ inl q | inr q ↦ inr (w.2 z q n) ])
 
   -- a list without repetition that is inside another is not longer
-  pub contained-fewer : (xs ys : List A) → Distinct xs → Contained xs ys → length xs ≤ length ys
+  pub contained_fewer : (xs ys : List A) → Distinct xs → Contained xs ys → length xs ≤ length ys
   unfolding Member Distinct
-  contained-fewer [] ys d i = omega arith
-  contained-fewer (x ∷ xs) ys d i =
+  contained_fewer [] ys d i = omega arith
+  contained_fewer (x ∷ xs) ys d i =
       let w = without x ys (i x (inl refl)) in
-      let fewer = contained-fewer xs w.0 d.1 (λ z m. w.2 z (i z (inr m)) (λ e. d.0 (rw e at m))) in
+      let fewer = contained_fewer xs w.0 d.1 (λ z m. w.2 z (i z (inr m)) (λ e. d.0 (rw e at m))) in
       omega (arith, w.1)
 
   -- if it is as long, no member of the other is outside it
-  pub contained-all : (xs ys : List A) → Distinct xs → Contained xs ys → length ys ≤ length xs → (y : A) → Member y ys → (Member y xs → ⊥) → ⊥
+  pub contained_all : (xs ys : List A) → Distinct xs → Contained xs ys → length ys ≤ length xs → (y : A) → Member y ys → (Member y xs → ⊥) → ⊥
   unfolding Member Distinct
-  contained-all xs ys d i h y m n =
-      let more = contained-fewer (y ∷ xs) ys (n, d) (λ z k. elim k [ inl e ↦ rw e m | inr q ↦ i z q ]) in
+  contained_all xs ys d i h y m n =
+      let more = contained_fewer (y ∷ xs) ys (n, d) (λ z k. elim k [ inl e ↦ rw e m | inr q ↦ i z q ]) in
       omega arith

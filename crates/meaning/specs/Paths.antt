@@ -7,9 +7,9 @@ use Rattle.meaning.specs.Torrent.{dot, dots, slash}
 
 -- not empty, not `.` or `..`, no `/` and no zero byte
 pub record StaysInside (e : List ℕ) : Type 0 where
-  pub not-empty : e ≡ [] → ⊥
-  pub not-dot : e ≡ dot → ⊥
-  pub not-dots : e ≡ dots → ⊥
+  pub not_empty : e ≡ [] → ⊥
+  pub not_dot : e ≡ dot → ⊥
+  pub not_dots : e ≡ dots → ⊥
   pub no_slash : Member slash e → ⊥
   pub no_zero : Member 0 e → ⊥
 

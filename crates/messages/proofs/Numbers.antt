@@ -3,7 +3,7 @@
 use mathlib.Core.Path.{◌≡◌, ap₂, sym, ◌∙◌}
 use mathlib.Core.Bool.{Bool, true, false}
 use mathlib.Core.List.{List}
-use Prim.Native.Nat.{ℕ, ◌-◌}
+use Prim.Native.Nat.{ℕ}
 use Rattle.octets.specs.Octets.{cut, same}
 use Rattle.numbers.specs.Numbers.{no_message, other_root, unusable}
 use Rattle.store.specs.Store.{usable, facts_root}
@@ -13,24 +13,24 @@ use Rattle.messages.specs.Asks.{first_number}
 -- ---- 9, 1, 2
 
 module _ (form : Bool) (s m : List ℕ) (t : Bool) (a : t ≡ usable s) where
-  pub first-9 : t ≡ false → unusable ≡ first_number form s m
+  pub first_9 : t ≡ false → unusable ≡ first_number form s m
   unfolding first_number
-  first-9 b = sym (rw (← a, b))
+  first_9 b = sym (rw (← a, b))
 
   module _ (b : t ≡ true) where
-    pub first-1 : form ≡ false → no_message ≡ first_number form s m
+    pub first_1 : form ≡ false → no_message ≡ first_number form s m
     unfolding first_number
-    first-1 f = sym (rw (← a, b, f))
+    first_1 f = sym (rw (← a, b, f))
 
     module _ (f : form ≡ true) (mine theirs : List ℕ) (v : Bool) (p : mine ≡ facts_root s) (q : theirs ≡ cut m 1 32) (w : v ≡ same mine theirs) where
       roots : v ≡ same (facts_root s) (message_root m)
       unfolding message_root
       roots = w ∙ ap₂ (λ (x y : List ℕ). same x y) p q
 
-      pub first-2 : v ≡ false → other_root ≡ first_number form s m
+      pub first_2 : v ≡ false → other_root ≡ first_number form s m
       unfolding first_number
-      first-2 z = sym (rw (← a, b, f, ← roots, z))
+      first_2 z = sym (rw (← a, b, f, ← roots, z))
 
-      pub first-0 : v ≡ true → 0 ≡ first_number form s m
+      pub first_0 : v ≡ true → 0 ≡ first_number form s m
       unfolding first_number
-      first-0 z = sym (rw (← a, b, f, ← roots, z))
+      first_0 z = sym (rw (← a, b, f, ← roots, z))

@@ -20,24 +20,24 @@ use Rattle.metainfo.specs.Metainfo.{dictionary_in, find_dictionary, find_integer
 use Rattle.metainfo.specs.declared.Part.{Part as PartOf}
 use Rattle.metainfo.specs.declared.Keys.{Keys}
 
-pub dictionary-so : (s : List ℕ) (w : Found) (a b : ℕ) → w ≡ Part a b → is_dictionary (drop a s) ≡ true → dictionary_in s w ≡ Part a b
-dictionary-so s w a b e h = ap (dictionary_in s) e ∙ rw h refl
+pub dictionary_so : (s : List ℕ) (w : Found) (a b : ℕ) → w ≡ Part a b → is_dictionary (drop a s) ≡ true → dictionary_in s w ≡ Part a b
+dictionary_so s w a b e h = ap (dictionary_in s) e ∙ rw h refl
 
-pub dictionary-not : (s : List ℕ) (w : Found) (a b : ℕ) → w ≡ Part a b → is_dictionary (drop a s) ≡ false → dictionary_in s w ≡ Missing
-dictionary-not s w a b e h = ap (dictionary_in s) e ∙ rw h refl
+pub dictionary_not : (s : List ℕ) (w : Found) (a b : ℕ) → w ≡ Part a b → is_dictionary (drop a s) ≡ false → dictionary_in s w ≡ Missing
+dictionary_not s w a b e h = ap (dictionary_in s) e ∙ rw h refl
 
 pub none_found : (n : ℕ) (p q r : PartOf) → p ≡ no_part → q ≡ no_part → r ≡ no_part → ◌≡◌ {A = Keys} (record { number = n; plen = 0; info = p; tree = q; layers = r }) (no_keys n)
 none_found n p q r e f g = rw (e, f, g) refl
 
 module _ (k : Keys) (below minus : Bool) (version : ℕ) where
-  pub keys-minus : minus ≡ true → right_keys k below minus version ≡ no_keys other_version
+  pub keys_minus : minus ≡ true → right_keys k below minus version ≡ no_keys other_version
   unfolding right_keys
-  keys-minus e = rw e refl
+  keys_minus e = rw e refl
 
   module _ (e : minus ≡ false) where
-    pub keys-version : (version ≡ 2 → ⊥) → right_keys k below minus version ≡ no_keys other_version
+    pub keys_version : (version ≡ 2 → ⊥) → right_keys k below minus version ≡ no_keys other_version
     unfolding right_keys
-    keys-version f = rw (e, ne_eqb version 2 f) refl
+    keys_version f = rw (e, ne_eqb version 2 f) refl
 
     module _ (f : version ≡ 2) where
       pub keys_below : below ≡ true → right_keys k below minus version ≡ no_keys piece_length_out_of_range
@@ -45,13 +45,13 @@ module _ (k : Keys) (below minus : Bool) (version : ℕ) where
       keys_below g = rw (e, eq-eqb version 2 f, g) refl
 
       module _ (g : below ≡ false) where
-        pub keys-right : is_piece_length k.plen ≡ true → right_keys k below minus version ≡ k
+        pub keys_right : is_piece_length k.plen ≡ true → right_keys k below minus version ≡ k
         unfolding right_keys
-        keys-right h = rw (e, eq-eqb version 2 f, g, h) refl
+        keys_right h = rw (e, eq-eqb version 2 f, g, h) refl
 
-        pub keys-wrong : is_piece_length k.plen ≡ false → right_keys k below minus version ≡ no_keys piece_length_out_of_range
+        pub keys_wrong : is_piece_length k.plen ≡ false → right_keys k below minus version ≡ no_keys piece_length_out_of_range
         unfolding right_keys
-        keys-wrong h = rw (e, eq-eqb version 2 f, g, h) refl
+        keys_wrong h = rw (e, eq-eqb version 2 f, g, h) refl
 
 module _ (s : List ℕ) where
   module _ (info tree layers : PartOf) where
@@ -59,34 +59,34 @@ module _ (s : List ℕ) where
     unfolding info_keys
     length_found w e = ap (with_piece_length s info tree layers) e
 
-    pub version-found : (below : Bool) (plen next : ℕ) (w : Integer) → find_integer s info.start key_piece_length ≡ Whole below plen next → find_integer s info.start key_meta_version ≡ w
+    pub version_found : (below : Bool) (plen next : ℕ) (w : Integer) → find_integer s info.start key_piece_length ≡ Whole below plen next → find_integer s info.start key_meta_version ≡ w
         → info_keys s info tree layers ≡ with_version info tree layers below plen w
-    version-found below plen next w e f = length_found (Whole below plen next) e ∙ ap (with_version info tree layers below plen) f
+    version_found below plen next w e f = length_found (Whole below plen next) e ∙ ap (with_version info tree layers below plen) f
 
   module _ (info : PartOf) where
-    pub tree-found : (w : Found) → find_dictionary s info.start key_file_tree ≡ w → dictionary_keys s info ≡ with_tree s info w
+    pub tree_found : (w : Found) → find_dictionary s info.start key_file_tree ≡ w → dictionary_keys s info ≡ with_tree s info w
     unfolding dictionary_keys
-    tree-found w e = ap (with_tree s info) e
+    tree_found w e = ap (with_tree s info) e
 
-    pub layers-found : (a b : ℕ) (w : Found) → find_dictionary s info.start key_file_tree ≡ Part a b → find_dictionary s 0 key_piece_layers ≡ w → dictionary_keys s info ≡ with_layers s info (part_of a b) w
-    layers-found a b w e f = tree-found (Part a b) e ∙ ap (with_layers s info (part_of a b)) f
+    pub layers_found : (a b : ℕ) (w : Found) → find_dictionary s info.start key_file_tree ≡ Part a b → find_dictionary s 0 key_piece_layers ≡ w → dictionary_keys s info ≡ with_layers s info (part_of a b) w
+    layers_found a b w e f = tree_found (Part a b) e ∙ ap (with_layers s info (part_of a b)) f
 
-  pub info-found : (w : Found) → find_dictionary s 0 key_info ≡ w → keys_of s ≡ with_info s w
+  pub info_found : (w : Found) → find_dictionary s 0 key_info ≡ w → keys_of s ≡ with_info s w
   unfolding keys_of
-  info-found w e = ap (with_info s) e
+  info_found w e = ap (with_info s) e
 
   pub too_large_lem : largest_torrent < length s → metainfo_of s ≡ no_keys torrent_too_large
   unfolding metainfo_of
   too_large_lem h = rw (lt-leb (length s) largest_torrent h) refl
 
-  pub strict-keys : length s ≤ largest_torrent → strictness s ≡ 0 → metainfo_of s ≡ keys_of s
+  pub strict_keys : length s ≤ largest_torrent → strictness s ≡ 0 → metainfo_of s ≡ keys_of s
   unfolding metainfo_of
-  strict-keys h e = rw (le-leb (length s) largest_torrent h) (ap (if_strict s) e)
+  strict_keys h e = rw (le-leb (length s) largest_torrent h) (ap (if_strict s) e)
 
-  not-strict : (n : ℕ) → (n ≡ 0 → ⊥) → if_strict s n ≡ no_keys n
-  not-strict zero h = absurd (h refl)
-  not-strict (suc n) h = refl
+  not_strict : (n : ℕ) → (n ≡ 0 → ⊥) → if_strict s n ≡ no_keys n
+  not_strict zero h = absurd (h refl)
+  not_strict (suc n) h = refl
 
   pub other_keys : length s ≤ largest_torrent → (strictness s ≡ 0 → ⊥) → metainfo_of s ≡ no_keys (strictness s)
   unfolding metainfo_of
-  other_keys h e = rw (le-leb (length s) largest_torrent h) (not-strict (strictness s) e)
+  other_keys h e = rw (le-leb (length s) largest_torrent h) (not_strict (strictness s) e)

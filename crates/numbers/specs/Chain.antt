@@ -47,12 +47,12 @@ other n k p e = by (eqb n k) refl p
     by true q r = false≢true r
 
 -- NEVER a number that none has
-pub never-given : (c : Chain) (k : ℕ) → never k c ≡ true → decided c ≡ k → ⊥
-never-given (last n) k p e = other n k p e
-never-given (test true n c) k p e = never-given c k ((and-eq-true_iff (not (eqb n k)) (never k c)).0 p).1 e
-never-given (test false n c) k p e = other n k ((and-eq-true_iff (not (eqb n k)) (never k c)).0 p).0 e
-never-given (fault false n c) k p e = never-given c k ((and-eq-true_iff (not (eqb n k)) (never k c)).0 p).1 e
-never-given (fault true n c) k p e = other n k ((and-eq-true_iff (not (eqb n k)) (never k c)).0 p).0 e
+pub never_given : (c : Chain) (k : ℕ) → never k c ≡ true → decided c ≡ k → ⊥
+never_given (last n) k p e = other n k p e
+never_given (test true n c) k p e = never_given c k ((and-eq-true_iff (not (eqb n k)) (never k c)).0 p).1 e
+never_given (test false n c) k p e = other n k ((and-eq-true_iff (not (eqb n k)) (never k c)).0 p).0 e
+never_given (fault false n c) k p e = never_given c k ((and-eq-true_iff (not (eqb n k)) (never k c)).0 p).1 e
+never_given (fault true n c) k p e = other n k ((and-eq-true_iff (not (eqb n k)) (never k c)).0 p).0 e
 
 -- one test, and what follows it
 tested : (b : Bool) (n k : ℕ) (c : Chain) → cond (eqb n k) (never k c) (once k c) ≡ true → (once k c ≡ true → decided c ≡ k → Stops k c) → cond b (decided c) n ≡ k
@@ -60,7 +60,7 @@ tested : (b : Bool) (n k : ℕ) (c : Chain) → cond (eqb n k) (never k c) (once
 tested b n k c o more e = by b (eqb n k) refl o e
   where
     by : (b t : Bool) → eqb n k ≡ t → cond t (never k c) (once k c) ≡ true → cond b (decided c) n ≡ k → cond t (b ≡ false) ((b ≡ true) × Stops k c)
-    by true true q p z = absurd (never-given c k p z)
+    by true true q p z = absurd (never_given c k p z)
     by false true q p z = refl
     by true false q p z = (refl, more p z)
     by false false q p z = absurd (eqb-false n k q z)
@@ -70,7 +70,7 @@ faulted : (b : Bool) (n k : ℕ) (c : Chain) → cond (eqb n k) (never k c) (onc
 faulted b n k c o more e = by b (eqb n k) refl o e
   where
     by : (b t : Bool) → eqb n k ≡ t → cond t (never k c) (once k c) ≡ true → cond b n (decided c) ≡ k → cond t (b ≡ true) ((b ≡ false) × Stops k c)
-    by false true q p z = absurd (never-given c k p z)
+    by false true q p z = absurd (never_given c k p z)
     by true true q p z = refl
     by false false q p z = (refl, more p z)
     by true false q p z = absurd (eqb-false n k q z)
@@ -82,8 +82,8 @@ test_back b n k c more s = by (eqb n k) refl s
     by true q e = rw e (eqb-true n k q)
     by false q p = rw p.0 (more p.1)
 
-fault-back : (b : Bool) (n k : ℕ) (c : Chain) → (Stops k c → decided c ≡ k) → cond (eqb n k) (b ≡ true) ((b ≡ false) × Stops k c) → cond b n (decided c) ≡ k
-fault-back b n k c more s = by (eqb n k) refl s
+fault_back : (b : Bool) (n k : ℕ) (c : Chain) → (Stops k c → decided c ≡ k) → cond (eqb n k) (b ≡ true) ((b ≡ false) × Stops k c) → cond b n (decided c) ≡ k
+fault_back b n k c more s = by (eqb n k) refl s
   where
     by : (t : Bool) → eqb n k ≡ t → cond t (b ≡ true) ((b ≡ false) × Stops k c) → cond b n (decided c) ≡ k
     by true q e = rw e (eqb-true n k q)
@@ -92,17 +92,17 @@ fault-back b n k c more s = by (eqb n k) refl s
 stopped : (c : Chain) (k : ℕ) → Stops k c → decided c ≡ k
 stopped (last n) k e = e
 stopped (test b n c) k s = test_back b n k c (stopped c k) s
-stopped (fault b n c) k s = fault-back b n k c (stopped c k) s
+stopped (fault b n c) k s = fault_back b n k c (stopped c k) s
 
 -- GIVEN EXACTLY WHEN the chain stops there
 pub exactly : (c : Chain) (k : ℕ) → once k c ≡ true → (decided c ≡ k) ↔ Stops k c
 exactly (last n) k o = (λ e. e, λ e. e)
 exactly (test b n c) k o = (tested b n k c o (λ p. (exactly c k p).0), test_back b n k c (stopped c k))
-exactly (fault b n c) k o = (faulted b n k c o (λ p. (exactly c k p).0), fault-back b n k c (stopped c k))
+exactly (fault b n c) k o = (faulted b n k c o (λ p. (exactly c k p).0), fault_back b n k c (stopped c k))
 
 -- of a number that is so decided
-pub exactly-of : {n : ℕ} (c : Chain) (k : ℕ) → n ≡ decided c → once k c ≡ true → (n ≡ k) ↔ Stops k c
-exactly-of c k q o = (λ e. (exactly c k o).0 (sym q ∙ e), λ s. q ∙ stopped c k s)
+pub exactly_of : {n : ℕ} (c : Chain) (k : ℕ) → n ≡ decided c → once k c ≡ true → (n ≡ k) ↔ Stops k c
+exactly_of c k q o = (λ e. (exactly c k o).0 (sym q ∙ e), λ s. q ∙ stopped c k s)
 
 -- ---- a number that no test has
 
@@ -188,5 +188,5 @@ all_in (fault b n c) p = let q = (and-eq-true_iff (is_listed n table) (listed c)
 pub in_table : (c : Chain) → listed c ≡ true → InTable (decided c)
 in_table c p = each InTable c (all_in c p)
 
-pub in-table-of : {n : ℕ} (c : Chain) → n ≡ decided c → listed c ≡ true → InTable n
-in-table-of c q p = rw q (in_table c p)
+pub in_table_of : {n : ℕ} (c : Chain) → n ≡ decided c → listed c ≡ true → InTable n
+in_table_of c q p = rw q (in_table c p)

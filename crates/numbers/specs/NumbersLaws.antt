@@ -10,5 +10,5 @@ let_through true a n f e = (refl, e)
 let_through false a n f e = absurd (f e)
 
 -- judged 0: all three tests are passed
-pub judged-zero : (a b c : Bool) → judged a b c ≡ 0 → (a ≡ true) × (b ≡ true) × (c ≡ true)
-judged-zero a b c e = let t = (exactly (verdict a b c) 0 refl).0 e in (t.0, t.1.0, t.1.1.0)
+pub judged_zero : (a b c : Bool) → judged a b c ≡ 0 → (a ≡ true) × (b ≡ true) × (c ≡ true)
+judged_zero a b c e = let t = (exactly (verdict a b c) 0 refl).0 e in (t.0, t.1.0, t.1.1.0)

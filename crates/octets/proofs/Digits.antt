@@ -10,21 +10,21 @@ use lib.ListN.{length, take, drop, get_or, set, take-append-drop, length-append,
 use lib.Seq.{take-suc, append_snoc, set_at, length-take-le}
 use lib.Dec.{lit<}
 use Rattle.octets.specs.Octets.{be, number_at, pasted}
-use Rattle.octets.specs.OctetsLaws.{be-octets}
+use Rattle.octets.specs.OctetsLaws.{be_octets}
 
 -- ---- reading
 
-pub digit-below : (x b i : ℕ) → x < 256 ^ i → b < 256 → x * 256 + b < 256 ^ (i + 1)
-digit-below x b i h g = rw (add-one i, pow-suc) (omega arith)
+pub digit_below : (x b i : ℕ) → x < 256 ^ i → b < 256 → x * 256 + b < 256 ^ (i + 1)
+digit_below x b i h g = rw (add-one i, pow-suc) (omega arith)
 
-pub digit-fits : (x b i k : ℕ) → x < 256 ^ i → b < 256 → i < k → k ≤ 8 → x * 256 + b < 2 ^ 64
-digit-fits x b i k h g l m =
+pub digit_fits : (x b i k : ℕ) → x < 256 ^ i → b < 256 → i < k → k ≤ 8 → x * 256 + b < 2 ^ 64
+digit_fits x b i k h g l m =
     let p : 256 ^ (i + 1) ≤ 256 ^ 8 = pow-le-pow_right {n = 256} (lit< tt) {i = i + 1} {j = 8} (omega arith) in
-    omega (arith, digit-below x b i h g)
+    omega (arith, digit_below x b i h g)
 
-pub digit-more : (s : List ℕ) (at i x b : ℕ) → x ≡ number_at s at i → b ≡ get_or s (at + i) 0 → x * 256 + b ≡ number_at s at (i + 1)
+pub digit_more : (s : List ℕ) (at i x b : ℕ) → x ≡ number_at s at i → b ≡ get_or s (at + i) 0 → x * 256 + b ≡ number_at s at (i + 1)
 unfolding number_at
-digit-more s at i x b e f = rw (add-one i) (ap₂ (λ (y c : ℕ). y * 256 + c) e f)
+digit_more s at i x b e f = rw (add-one i) (ap₂ (λ (y c : ℕ). y * 256 + c) e f)
 
 -- ---- writing, from the last byte to the first
 
@@ -35,27 +35,27 @@ written s at k x i = take (at + i) s ++ (be (k - i) x ++ drop (at + k) s)
 pub written_none : (s : List ℕ) (at k x : ℕ) → s ≡ written s at k x k
 written_none s at k x = let e : k - k ≡ 0 = omega arith in sym (rw e (take-append-drop (at + k) s))
 
-pub rest-none : (k x : ℕ) → x ≡ x / 256 ^ (k - k)
-rest-none k x = let e : k - k ≡ 0 = omega arith in sym (rw (e, pow-zero) (div-one x))
+pub rest_none : (k x : ℕ) → x ≡ x / 256 ^ (k - k)
+rest_none k x = let e : k - k ≡ 0 = omega arith in sym (rw (e, pow-zero) (div-one x))
 
-pub written-length : (s : List ℕ) (at k x i : ℕ) → i ≤ k → at + k ≤ length s → length (written s at k x i) ≡ length s
-written-length s at k x i h l =
-    let z = (be-octets (k - i) x).size in
+pub written_length : (s : List ℕ) (at k x i : ℕ) → i ≤ k → at + k ≤ length s → length (written s at k x i) ≡ length s
+written_length s at k x i h l =
+    let z = (be_octets (k - i) x).size in
     simp (length-append, length-take, length-drop) (omega arith)
 
-one-before : (l r : List ℕ) (m v : ℕ) → m < length l → set (take (suc m) l ++ r) m v ≡ take m l ++ (v ∷ r)
-one-before l r m v h =
+one_before : (l r : List ℕ) (m v : ℕ) → m < length l → set (take (suc m) l ++ r) m v ≡ take m l ++ (v ∷ r)
+one_before l r m v h =
     ap (λ (p : List ℕ). set (p ++ r) m v) (take-suc l m 0 h) ∙ ap (λ (p : List ℕ). set p m v) (append_snoc (take m l) (get_or l m 0) r)
     ∙ set_at (take m l) (get_or l m 0) r v m (length-take-le m l (omega arith))
 
-pub written-more : (s t : List ℕ) (at k x i rest : ℕ) → 0 < i → i ≤ k → at + k ≤ length s → rest ≡ x / 256 ^ (k - i) → t ≡ written s at k x i
+pub written_more : (s t : List ℕ) (at k x i rest : ℕ) → 0 < i → i ≤ k → at + k ≤ length s → rest ≡ x / 256 ^ (k - i) → t ≡ written s at k x i
     → set t (at + (i - 1)) (rest % 256) ≡ written s at k x (i - 1)
-written-more s t at k x i rest p h l e q =
+written_more s t at k x i rest p h l e q =
     let a : at + i ≡ suc (at + (i - 1)) = omega arith in
     let b : k - (i - 1) ≡ suc (k - i) = omega arith in
     ap₂ (λ (w : List ℕ) (v : ℕ). set w (at + (i - 1)) (v % 256)) q e
     ∙ ap (λ (m : ℕ). set (take m s ++ (be (k - i) x ++ drop (at + k) s)) (at + (i - 1)) (x / 256 ^ (k - i) % 256)) a
-    ∙ one-before s (be (k - i) x ++ drop (at + k) s) (at + (i - 1)) (x / 256 ^ (k - i) % 256) (omega arith)
+    ∙ one_before s (be (k - i) x ++ drop (at + k) s) (at + (i - 1)) (x / 256 ^ (k - i) % 256) (omega arith)
     ∙ sym (ap (λ (m : ℕ). take (at + (i - 1)) s ++ (be m x ++ drop (at + k) s)) b)
 
 pub rest_more : (k x i rest : ℕ) → 0 < i → i ≤ k → rest ≡ x / 256 ^ (k - i) → rest / 256 ≡ x / 256 ^ (k - (i - 1))
@@ -68,5 +68,5 @@ unfolding pasted
 written_all s t at k x i z q =
     let a : at + i ≡ at = omega arith in
     let b : k - i ≡ k = omega arith in
-    let c : length (be k x) ≡ k = (be-octets k x).size in
+    let c : length (be k x) ≡ k = (be_octets k x).size in
     q ∙ rw (a, b) (sym (rw c (append_assoc (take at s) (be k x) (drop (at + k) s))))

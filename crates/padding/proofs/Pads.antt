@@ -9,7 +9,7 @@ use lib.ListN.{length, get_or, take, drop, set, replicate, length-append, length
 use lib.Seq.{sets, sets-eq, set_at, take_at, take_all, take-suc, append_snoc, length-take-le}
 use Rattle.octets.specs.Octets.{be}
 use Rattle.padding.specs.Padding.{zeros, padding}
-use Rattle.padding.specs.PaddingLaws.{length-padding}
+use Rattle.padding.specs.PaddingLaws.{length_padding}
 
 -- a byte of the count of bits is one of the count of bytes, shifted
 bits7 : (n : ℕ) → n / 2 ^ 53 % 256 ≡ 8 * n / 256 ^ 7 % 256
@@ -37,7 +37,7 @@ bits0 : (n : ℕ) → n % 32 * 8 % 256 ≡ 8 * n / 256 ^ 0 % 256
 bits0 n = omega arith
 
 -- eight stores in a row
-pub eight-stores :
+pub eight_stores :
     (b : List ℕ) (at n v0 v1 v2 v3 v4 v5 v6 v7 : ℕ)
     → at + 8 ≤ length b
     → v0 ≡ n / 2 ^ 53 % 256
@@ -50,7 +50,7 @@ pub eight-stores :
     → v7 ≡ n % 32 * 8 % 256
     → set (set (set (set (set (set (set (set b at v0) (at + 1) v1) (at + 2) v2) (at + 3) v3) (at + 4) v4) (at + 5) v5) (at + 6) v6) (at + 7) v7
     ≡ take at b ++ (be 8 (8 * n) ++ drop (at + 8) b)
-eight-stores b at n v0 v1 v2 v3 v4 v5 v6 v7 h p0 p1 p2 p3 p4 p5 p6 p7 =
+eight_stores b at n v0 v1 v2 v3 v4 v5 v6 v7 h p0 p1 p2 p3 p4 p5 p6 p7 =
     let e1 : at + 1 ≡ suc at = omega arith in
     let e2 : at + 2 ≡ suc (suc at) = omega arith in
     let e3 : at + 3 ≡ suc (suc (suc at)) = omega arith in
@@ -92,7 +92,7 @@ mark s i h g =
     rw (e, t) (set_at s 0 (replicate (127 - i) 0) 0x80 i (sym h))
 
 -- the count of bits written at e, where the zeros end
-pub pad-law :
+pub pad_law :
     (s : List ℕ) (n e : ℕ)
     → length s < e
     → e ≤ 120
@@ -100,7 +100,7 @@ pub pad-law :
     → let p = s ++ (0x80 ∷ replicate (127 - length s) 0) in
     take (e + 8) (take e p ++ (be 8 (8 * n) ++ drop (e + 8) p)) ≡ s ++ padding n
 unfolding padding
-pad-law s n e h g z =
+pad_law s n e h g z =
     let q : List ℕ = s ++ (0x80 ∷ replicate (e - 1 - length s) 0) in
     let p : List ℕ = s ++ (0x80 ∷ replicate (127 - length s) 0) in
     let k : 127 - length s ≡ (e - 1 - length s) + (128 - e) = omega arith in
@@ -118,7 +118,7 @@ pad-law s n e h g z =
     ∙ ap (λ (m : ℕ). s ++ (0x80 ∷ (replicate m 0 ++ be 8 (8 * n)))) (sym z)
 
 -- what the code of `pad` leaves
-pub pad-whole :
+pub pad_whole :
     (s : List ℕ) (n i e : ℕ) (b last : List ℕ)
     → i ≡ length s
     → b ≡ take i s ++ replicate (128 - i) 0
@@ -127,14 +127,14 @@ pub pad-whole :
     → zeros n ≡ e - 1 - i
     → last ≡ take e (set b i 0x80) ++ (be 8 (8 * n) ++ drop (e + 8) (set b i 0x80))
     → (length last ≡ 128) × (take (length (s ++ padding n)) last ≡ s ++ padding n)
-pad-whole s n i e b last hi hb h g z hl =
+pad_whole s n i e b last hi hb h g z hl =
     let p : List ℕ = s ++ (0x80 ∷ replicate (127 - length s) 0) in
     let m : set b i 0x80 ≡ p = ap (λ (l : List ℕ). set l i 0x80) hb ∙ mark s i hi (omega arith) ∙ ap (λ (j : ℕ). s ++ (0x80 ∷ replicate (127 - j) 0)) hi in
     let hp : last ≡ take e p ++ (be 8 (8 * n) ++ drop (e + 8) p) = hl ∙ ap (λ (l : List ℕ). take e l ++ (be 8 (8 * n) ++ drop (e + 8) l)) m in
     let lp : length p ≡ 128 = simp (length-append, length-replicate) (omega arith) in
-    let ll : length (s ++ padding n) ≡ e + 8 = length-append s (padding n) ∙ omega (arith, length-padding n) in (
+    let ll : length (s ++ padding n) ≡ e + 8 = length-append s (padding n) ∙ omega (arith, length_padding n) in (
       ap length hp ∙ shape p (be 8 (8 * n)) e lp refl (omega arith),
-      ap (λ (k : ℕ). take k last) ll ∙ ap (take (e + 8)) hp ∙ pad-law s n e (omega arith) g (z ∙ ap (λ (j : ℕ). e - 1 - j) hi),
+      ap (λ (k : ℕ). take k last) ll ∙ ap (take (e + 8)) hp ∙ pad_law s n e (omega arith) g (z ∙ ap (λ (j : ℕ). e - 1 - j) hi),
     )
   where
     shape : (p v : List ℕ) (e : ℕ) → length p ≡ 128 → length v ≡ 8 → e ≤ 120 → length (take e p ++ (v ++ drop (e + 8) p)) ≡ 128

@@ -5,15 +5,15 @@ use Rattle.std.proofs.Common.{arith, length-append}
 use Rattle.std.proofs.lemmas.List.{length-replicate}
 use Rattle.padding.specs.Padding.{zeros, padding}
 
-pub length-padding : (n : ℕ) → length (padding n) ≡ zeros n + 9
+pub length_padding : (n : ℕ) → length (padding n) ≡ zeros n + 9
 unfolding padding
-length-padding n = simp (length-append, length-replicate) (omega arith)
+length_padding n = simp (length-append, length-replicate) (omega arith)
 
 -- the last bytes of a message leave room for the count in their block, or do not
-pub zeros-short : (r n : ℕ) → r ≡ n % 64 → r < 56 → zeros n ≡ 56 - 1 - r
+pub zeros_short : (r n : ℕ) → r ≡ n % 64 → r < 56 → zeros n ≡ 56 - 1 - r
 unfolding zeros
-zeros-short r n e h = omega arith
+zeros_short r n e h = omega arith
 
-pub zeros-long : (r n : ℕ) → r ≡ n % 64 → 56 ≤ r → zeros n ≡ 120 - 1 - r
+pub zeros_long : (r n : ℕ) → r ≡ n % 64 → 56 ≤ r → zeros n ≡ 120 - 1 - r
 unfolding zeros
-zeros-long r n e h = omega arith
+zeros_long r n e h = omega arith

@@ -9,31 +9,31 @@ use native.Mathlib.Omega.{arith}
 use Rattle.std.proofs.Math.ListN.{length, drop, length-append, length-drop}
 use Rattle.std.proofs.lemmas.List.{drop-append-le}
 use Rattle.padding.specs.Cutting.{over_blocks, over_message}
-use Rattle.padding.specs.CuttingLaws.{no_blocks, blocks-split, blocks-prefix, message-split}
+use Rattle.padding.specs.CuttingLaws.{no_blocks, blocks_split, blocks_prefix, message_split}
 use Rattle.padding.specs.Running.{Running, whole_blocks, past_blocks, running_of, running_more, running_end}
 
 -- how many bytes wait: the remainder by 64
-pub past-size : (m : List ℕ) → length (past_blocks m) ≡ length m % 64
+pub past_size : (m : List ℕ) → length (past_blocks m) ≡ length m % 64
 unfolding past_blocks
-past-size m = length-drop (64 * (length m / 64)) m ∙ omega arith
+past_size m = length-drop (64 * (length m / 64)) m ∙ omega arith
 
-pub past-below : (m : List ℕ) → length (past_blocks m) < 64
-past-below m = omega (arith, past-size m)
+pub past_below : (m : List ℕ) → length (past_blocks m) < 64
+past_below m = omega (arith, past_size m)
 
 -- less than a block waits as it is
-pub past-short : (m : List ℕ) → length m < 64 → past_blocks m ≡ m
+pub past_short : (m : List ℕ) → length m < 64 → past_blocks m ≡ m
 unfolding past_blocks
-past-short m h = let e : 64 * (length m / 64) ≡ 0 = omega arith in rw e
+past_short m h = let e : 64 * (length m / 64) ≡ 0 = omega arith in rw e
 
 -- and has no block
-pub whole-short : {S : Type 0} (f : S → List ℕ → S) (z : S) (m : List ℕ) → length m < 64 → whole_blocks f z m ≡ z
+pub whole_short : {S : Type 0} (f : S → List ℕ → S) (z : S) (m : List ℕ) → length m < 64 → whole_blocks f z m ≡ z
 unfolding whole_blocks
-whole-short f z m h = let e : length m / 64 ≡ 0 = omega arith in rw e (no_blocks f z m)
+whole_short f z m h = let e : length m / 64 ≡ 0 = omega arith in rw e (no_blocks f z m)
 
 -- what waits past two strings is what waits past the second behind the rest of the first
-pub past-append : (m ys : List ℕ) → past_blocks (m ++ ys) ≡ past_blocks (past_blocks m ++ ys)
+pub past_append : (m ys : List ℕ) → past_blocks (m ++ ys) ≡ past_blocks (past_blocks m ++ ys)
 unfolding past_blocks
-past-append m ys =
+past_append m ys =
     let a : ℕ = 64 * (length m / 64) in
     let r : List ℕ = drop (64 * (length m / 64)) m ++ ys in
     let l : length (m ++ ys) ≡ length m + length ys = length-append m ys in
@@ -53,37 +53,37 @@ module _ {S : Type 0} (f : S → List ℕ → S) where
       let k : length r ≡ length m - 64 * (length m / 64) + length ys = length-append (drop (64 * (length m / 64)) m) ys ∙ ap (λ (n : ℕ). n + length ys) (length-drop (64 * (length m / 64)) m) in
       let e : length (m ++ ys) / 64 ≡ length m / 64 + length r / 64 = omega arith in
       ap (λ (n : ℕ). over_blocks f n z (m ++ ys)) e
-      ∙ blocks-split f (m ++ ys) z (length m / 64) (length r / 64)
+      ∙ blocks_split f (m ++ ys) z (length m / 64) (length r / 64)
       ∙ ap₂ (λ (s : S) (l : List ℕ). over_blocks f (length r / 64) s l)
-      (blocks-prefix f m ys z (length m / 64) (omega arith))
+      (blocks_prefix f m ys z (length m / 64) (omega arith))
       (drop-append-le (64 * (length m / 64)) m ys (omega arith))
 
   -- from what xs leads to, a burst ys leads to what both lead to
   pub running_more_lem : (z : S) (xs ys : List ℕ) → running_more f (running_of f z xs) ys ≡ running_of f z (xs ++ ys)
   unfolding running_of running_more
-  running_more_lem z xs ys = cc (whole_append z xs ys, past-append xs ys, length-append xs ys)
+  running_more_lem z xs ys = cc (whole_append z xs ys, past_append xs ys, length-append xs ys)
 
   -- two bursts one after the other are one, from any state
-  pub running-twice : (r : Running S) (xs ys : List ℕ) → running_more f (running_more f r xs) ys ≡ running_more f r (xs ++ ys)
+  pub running_twice : (r : Running S) (xs ys : List ℕ) → running_more f (running_more f r xs) ys ≡ running_more f r (xs ++ ys)
   unfolding running_more
-  running-twice r xs ys =
+  running_twice r xs ys =
       let a : r.tail ++ (xs ++ ys) ≡ (r.tail ++ xs) ++ ys = sym (append_assoc r.tail xs ys) in
       let n : r.total + length xs + length ys ≡ r.total + length (xs ++ ys) = omega (arith, length-append xs ys) in
-      cc (whole_append r.words (r.tail ++ xs) ys, past-append (r.tail ++ xs) ys)
+      cc (whole_append r.words (r.tail ++ xs) ys, past_append (r.tail ++ xs) ys)
 
   -- the end of what xs leads to is the whole message
-  pub running-end : (z : S) (xs : List ℕ) → running_end f (running_of f z xs) ≡ over_message f z xs
+  pub running_end_lem : (z : S) (xs : List ℕ) → running_end f (running_of f z xs) ≡ over_message f z xs
   unfolding running_of running_end whole_blocks past_blocks
-  running-end z xs =
+  running_end_lem z xs =
       let e : 64 * (length xs / 64) ≡ length xs - length xs % 64 = omega arith in
-      rw e (message-split f xs z (length xs - length xs % 64) refl)
+      rw e (message_split f xs z (length xs - length xs % 64) refl)
 
   -- a burst that completes a block: that block first, then the whole blocks of the rest
-  pub whole-first : (z : S) (m : List ℕ) → 64 ≤ length m → whole_blocks f z m ≡ whole_blocks f (f z (take 64 m)) (drop 64 m)
+  pub whole_first : (z : S) (m : List ℕ) → 64 ≤ length m → whole_blocks f z m ≡ whole_blocks f (f z (take 64 m)) (drop 64 m)
   unfolding whole_blocks over_blocks
-  whole-first z m h =
+  whole_first z m h =
       let e : length m / 64 ≡ 1 + length (drop 64 m) / 64 = omega (arith, length-drop 64 m) in
-      ap (λ (n : ℕ). over_blocks f n z m) e ∙ blocks-split f m z 1 (length (drop 64 m) / 64)
+      ap (λ (n : ℕ). over_blocks f n z m) e ∙ blocks_split f m z 1 (length (drop 64 m) / 64)
 
 -- and what waits is what waits past the rest
 pub past_first : (m : List ℕ) → 64 ≤ length m → past_blocks m ≡ past_blocks (drop 64 m)

@@ -3,34 +3,34 @@
 use Rattle.std.specs.Prelude.{◌≡◌, List, ℕ, ◌+◌, ◌^◌, ◌≤◌}
 use Rattle.std.proofs.Common.{arith, ne_eqb}
 use Rattle.store.specs.Store.{height_of}
-use Rattle.store.specs.StoreLaws.{facts-leaves, usable-facts}
+use Rattle.store.specs.StoreLaws.{facts_leaves, usable_facts}
 use Rattle.marks.specs.Marks.{marked, marks_put, first_block, blocks_in}
-use Rattle.marks.specs.MarksLaws.{covered-fits}
+use Rattle.marks.specs.MarksLaws.{covered_fits}
 use Rattle.pieces.specs.Pieces.{block_number, block_after, piece_number, piece_after}
-use Rattle.pieces.proofs.PiecesLaws.{block-right, piece-right}
+use Rattle.pieces.proofs.PiecesLaws.{block_right, piece_right}
 
 module _ (s : List ℕ) (i : ℕ) (block : List ℕ) where
   -- a block judged right is one of the file's, and has a mark
-  pub block-fits : block_number s i block ≡ 0 → i + 1 ≤ 2 ^ height_of s
-  block-fits z = let w = block-right s i block z in omega (arith, w.inside, facts-leaves s (usable-facts s w.store))
+  pub block_fits : block_number s i block ≡ 0 → i + 1 ≤ 2 ^ height_of s
+  block_fits z = let w = block_right s i block z in omega (arith, w.inside, facts_leaves s (usable_facts s w.store))
 
-  pub block-marks : block_number s i block ≡ 0 → block_after s i block ≡ marks_put s i 1 marked
+  pub block_marks : block_number s i block ≡ 0 → block_after s i block ≡ marks_put s i 1 marked
   unfolding block_after
-  block-marks z = rw z
+  block_marks z = rw z
 
-  pub block-stays : (block_number s i block ≡ 0 → ⊥) → block_after s i block ≡ s
+  pub block_stays : (block_number s i block ≡ 0 → ⊥) → block_after s i block ≡ s
   unfolding block_after
-  block-stays ne = rw (ne_eqb (block_number s i block) 0 ne)
+  block_stays ne = rw (ne_eqb (block_number s i block) 0 ne)
 
 module _ (s : List ℕ) (i : ℕ) (piece : List ℕ) where
   -- a piece judged right is one of the file's, and its blocks have marks
-  pub piece-fits : piece_number s i piece ≡ 0 → first_block s i + blocks_in s i ≤ 2 ^ height_of s
-  piece-fits z = let w = piece-right s i piece z in covered-fits s (usable-facts s w.store) i w.inside
+  pub piece_fits : piece_number s i piece ≡ 0 → first_block s i + blocks_in s i ≤ 2 ^ height_of s
+  piece_fits z = let w = piece_right s i piece z in covered_fits s (usable_facts s w.store) i w.inside
 
-  pub piece-marks : piece_number s i piece ≡ 0 → piece_after s i piece ≡ marks_put s (first_block s i) (blocks_in s i) marked
+  pub piece_marks : piece_number s i piece ≡ 0 → piece_after s i piece ≡ marks_put s (first_block s i) (blocks_in s i) marked
   unfolding piece_after
-  piece-marks z = rw z
+  piece_marks z = rw z
 
-  pub piece-stays : (piece_number s i piece ≡ 0 → ⊥) → piece_after s i piece ≡ s
+  pub piece_stays : (piece_number s i piece ≡ 0 → ⊥) → piece_after s i piece ≡ s
   unfolding piece_after
-  piece-stays ne = rw (ne_eqb (piece_number s i piece) 0 ne)
+  piece_stays ne = rw (ne_eqb (piece_number s i piece) 0 ne)

@@ -11,115 +11,115 @@ use Rattle.numbers.specs.Numbers.{refused, done, rule_broken, wrong_size, no_anc
 use Rattle.numbers.specs.declared.Answer.{Answer}
 use Rattle.sha256.specs.Sha256.{sha256}
 use Rattle.tree.specs.Geometry.{node_number, piece_layer, has_layer, piece_count, block_size, piece_size}
-use Rattle.tree.proofs.GeometryLaws.{node-number-range}
+use Rattle.tree.proofs.GeometryLaws.{node_number_range}
 use Rattle.tree.specs.Values.{node, pad_value, leaf_of, layer_leaf}
 use Rattle.cells.specs.Cells.{Room, held_at, hash_at}
 use Rattle.cells.specs.Entries.{agrees, put_all, newly, fresh}
-use Rattle.cells.specs.EntriesLaws.{count-fresh, newly-none}
+use Rattle.cells.specs.EntriesLaws.{count_fresh, newly_none}
 use Rattle.store.specs.Store.{usable, file_length, piece_length, blocks_of, height_of, positions}
-use Rattle.store.specs.StoreLaws.{usable-facts, facts-height, facts-leaves, facts-cell}
+use Rattle.store.specs.StoreLaws.{usable_facts, facts_height, facts_leaves, facts_cell}
 use Rattle.settling.specs.Span.{Fit}
 use Rattle.settling.specs.Subtree.{subtree, run_leaf}
-use Rattle.settling.specs.SubtreeLaws.{fit-below}
+use Rattle.settling.specs.SubtreeLaws.{fit_below}
 use Rattle.limits.specs.Limits.{tallest_tree}
 use Rattle.pieces.specs.Pieces.{judged_at, layer_of_pieces, layer_settled, layer_number, layer_after, layer_answer, block_number, piece_height, piece_number}
 use Rattle.pieces.specs.Asks.{Layered, PieceIn}
-use Rattle.pieces.proofs.PiecesLaws.{layered, piece-in, pieces-few, layer-within, piece-within, run-leaves, layer-sound, settled-from-root}
+use Rattle.pieces.proofs.PiecesLaws.{layered, piece_in_lem, pieces_few, layer_within, piece_within, run_leaves, layer_sound, settled_from_root}
 
 -- ---- 6, 7, 8 or 0
 
 -- the held hash compared with what was worked out
-pub seen-judged : (s : List ℕ) (n : ℕ) (worked mine : List ℕ) (o v : Bool) (r : ℕ) → mine ≡ hash_at s n → v ≡ same mine worked → r ≡ judged true v o
+pub seen_judged : (s : List ℕ) (n : ℕ) (worked mine : List ℕ) (o v : Bool) (r : ℕ) → mine ≡ hash_at s n → v ≡ same mine worked → r ≡ judged true v o
     → r ≡ judged true (same (hash_at s n) worked) o
-seen-judged s n worked mine o v r m e q = q ∙ ap (λ (x : Bool). judged true x o) (e ∙ ap (λ (x : List ℕ). same x worked) m)
+seen_judged s n worked mine o v r m e q = q ∙ ap (λ (x : Bool). judged true x o) (e ∙ ap (λ (x : List ℕ). same x worked) m)
 
 module _ (s : List ℕ) (n : ℕ) (t : Bool) (a : t ≡ held_at s n) where
   module _ (leaf : ℕ → List ℕ) (k : ℕ) where
-    pub judged-6 : t ≡ false → no_anchor ≡ judged_at s leaf k n
+    pub judged_6 : t ≡ false → no_anchor ≡ judged_at s leaf k n
     unfolding judged_at
-    judged-6 f = sym (rw (← a, f))
+    judged_6 f = sym (rw (← a, f))
 
-    pub judged-held : t ≡ true → (worked : List ℕ) (o : Bool) (r : ℕ)
+    pub judged_held : t ≡ true → (worked : List ℕ) (o : Bool) (r : ℕ)
         → (worked ≡ node leaf k 0) × (o ≡ agrees s (subtree leaf k n 0)) → r ≡ judged true (same (hash_at s n) worked) o → r ≡ judged_at s leaf k n
     unfolding judged_at
-    judged-held y worked o r w q =
+    judged_held y worked o r w q =
         q ∙ ap₂ (λ (x : List ℕ) (z : Bool). judged true (same (hash_at s n) x) z) w.0 w.1
         ∙ ap (λ (x : Bool). judged x (same (hash_at s n) (node leaf k 0)) (agrees s (subtree leaf k n 0))) (sym y ∙ a)
 
   module _ (block : List ℕ) where
-    pub leaf-6 : t ≡ false → no_anchor ≡ judged (held_at s n) (same (hash_at s n) (sha256 block)) true
-    leaf-6 f = sym (rw (← a, f))
+    pub leaf_6 : t ≡ false → no_anchor ≡ judged (held_at s n) (same (hash_at s n) (sha256 block)) true
+    leaf_6 f = sym (rw (← a, f))
 
-    pub leaf-held : t ≡ true → (worked : List ℕ) (r : ℕ) → worked ≡ sha256 block → r ≡ judged true (same (hash_at s n) worked) true
+    pub leaf_held : t ≡ true → (worked : List ℕ) (r : ℕ) → worked ≡ sha256 block → r ≡ judged true (same (hash_at s n) worked) true
         → r ≡ judged (held_at s n) (same (hash_at s n) (sha256 block)) true
-    leaf-held y worked r w q =
+    leaf_held y worked r w q =
         q ∙ ap (λ (x : List ℕ). judged true (same (hash_at s n) x) true) w
         ∙ ap (λ (x : Bool). judged x (same (hash_at s n) (sha256 block)) true) (sym y ∙ a)
 
 -- ---- a layer, looked at or written
 
 module _ (s : List ℕ) (f : Layered s) (h plen p : ℕ) (eh : h ≡ height_of s) (ep : plen ≡ piece_length s) (el : p ≡ piece_layer plen) where
-  layer-number-is : p ≡ layer_of_pieces s
+  layer_number_is : p ≡ layer_of_pieces s
   unfolding layer_of_pieces
-  layer-number-is = el ∙ ap piece_layer ep
+  layer_number_is = el ∙ ap piece_layer ep
 
-  pub layer-low : p ≤ h
-  layer-low = omega (arith, layer-number-is, f.above)
+  pub layer_low : p ≤ h
+  layer_low = omega (arith, layer_number_is, f.above)
 
   depth : h - p ≡ height_of s - layer_of_pieces s
-  depth = ap₂ (λ (x y : ℕ). x - y) eh layer-number-is
+  depth = ap₂ (λ (x y : ℕ). x - y) eh layer_number_is
 
-  pub layer-fit : Fit (length s) (h - p) 1 0
-  layer-fit = fit-below _ f.facts.room (rw depth (layer-within s f)) (omega arith)
+  pub layer_fit : Fit (length s) (h - p) 1 0
+  layer_fit = fit_below _ f.facts.room (rw depth (layer_within s f)) (omega arith)
 
   module _ (layer past : List ℕ) (e : past ≡ pad_value p) where
     leaves : run_leaf layer past ≡ layer_leaf layer (layer_of_pieces s)
-    leaves = ap (run_leaf layer) (e ∙ ap pad_value layer-number-is) ∙ run-leaves layer (layer_of_pieces s)
+    leaves = ap (run_leaf layer) (e ∙ ap pad_value layer_number_is) ∙ run_leaves layer (layer_of_pieces s)
 
-    pub layer-judged : (r : ℕ) → r ≡ judged_at s (run_leaf layer past) (h - p) 1 → r ≡ judged_at s (layer_leaf layer (layer_of_pieces s)) (height_of s - layer_of_pieces s) 1
-    layer-judged r q = q ∙ ap₂ (λ (x : ℕ → List ℕ) (y : ℕ). judged_at s x y 1) leaves depth
+    pub layer_judged : (r : ℕ) → r ≡ judged_at s (run_leaf layer past) (h - p) 1 → r ≡ judged_at s (layer_leaf layer (layer_of_pieces s)) (height_of s - layer_of_pieces s) 1
+    layer_judged r q = q ∙ ap₂ (λ (x : ℕ → List ℕ) (y : ℕ). judged_at s x y 1) leaves depth
 
     settles : subtree (run_leaf layer past) (h - p) 1 0 ≡ layer_settled s layer
     unfolding layer_settled
     settles = ap₂ (λ (x : ℕ → List ℕ) (y : ℕ). subtree x y 1 0) leaves depth
 
-    pub layer-wrote : (r : ℕ) (s' : List ℕ) → (r ≡ fresh s (subtree (run_leaf layer past) (h - p) 1 0)) × (s' ≡ put_all s (subtree (run_leaf layer past) (h - p) 1 0))
+    pub layer_wrote : (r : ℕ) (s' : List ℕ) → (r ≡ fresh s (subtree (run_leaf layer past) (h - p) 1 0)) × (s' ≡ put_all s (subtree (run_leaf layer past) (h - p) 1 0))
         → (r ≡ fresh s (layer_settled s layer)) × (s' ≡ put_all s (layer_settled s layer))
-    layer-wrote r s' q = (q.0 ∙ ap (fresh s) settles, q.1 ∙ ap (put_all s) settles)
+    layer_wrote r s' q = (q.0 ∙ ap (fresh s) settles, q.1 ∙ ap (put_all s) settles)
 
 -- ---- a layer's number
 
 module _ (s layer : List ℕ) (t : Bool) (a : t ≡ usable s) where
-  pub layer-9 : t ≡ false → unusable ≡ layer_number s layer
+  pub layer_9 : t ≡ false → unusable ≡ layer_number s layer
   unfolding layer_number
-  layer-9 b = sym (rw (← a, b))
+  layer_9 b = sym (rw (← a, b))
 
   module _ (b : t ≡ true) (n plen : ℕ) (v : Bool) (en : n ≡ file_length s) (ep : plen ≡ piece_length s) (ev : v ≡ has_layer n plen) where
     has : v ≡ has_layer (file_length s) (piece_length s)
     has = ev ∙ ap₂ has_layer en ep
 
-    pub layer-3 : v ≡ false → rule_broken ≡ layer_number s layer
+    pub layer_3 : v ≡ false → rule_broken ≡ layer_number s layer
     unfolding layer_number
-    layer-3 z = sym (rw (← a, b, ← has, z))
+    layer_3 z = sym (rw (← a, b, ← has, z))
 
     module _ (z : v ≡ true) where
-      pub layer-there : Layered s
-      layer-there = layered s (usable-facts s (sym a ∙ b)) (sym has ∙ z)
+      pub layer_there : Layered s
+      layer_there = layered s (usable_facts s (sym a ∙ b)) (sym has ∙ z)
 
       module _ (c : ℕ) (ec : c ≡ piece_count n plen) where
         count : c ≡ piece_count (file_length s) (piece_length s)
         count = ec ∙ ap₂ piece_count en ep
 
-        pub layer-few : c ≤ 2 ^ tallest_tree
-        layer-few = omega (arith, count, pieces-few s (usable-facts s (sym a ∙ b)))
+        pub layer_few : c ≤ 2 ^ tallest_tree
+        layer_few = omega (arith, count, pieces_few s (usable_facts s (sym a ∙ b)))
 
-        pub layer-4 : (length layer ≡ 32 * c → ⊥) → wrong_size ≡ layer_number s layer
+        pub layer_4 : (length layer ≡ 32 * c → ⊥) → wrong_size ≡ layer_number s layer
         unfolding layer_number
-        layer-4 l = sym (rw (← a, b, ← has, z, ← count, ne_eqb (length layer) (32 * c) l))
+        layer_4 l = sym (rw (← a, b, ← has, z, ← count, ne_eqb (length layer) (32 * c) l))
 
-        pub layer-rest : length layer ≡ 32 * c → (r : ℕ) → r ≡ judged_at s (layer_leaf layer (layer_of_pieces s)) (height_of s - layer_of_pieces s) 1 → r ≡ layer_number s layer
+        pub layer_rest : length layer ≡ 32 * c → (r : ℕ) → r ≡ judged_at s (layer_leaf layer (layer_of_pieces s)) (height_of s - layer_of_pieces s) 1 → r ≡ layer_number s layer
         unfolding layer_number
-        layer-rest l r q = q ∙ sym (rw (← a, b, ← has, z, ← count, eq-eqb (length layer) (32 * c) l))
+        layer_rest l r q = q ∙ sym (rw (← a, b, ← has, z, ← count, eq-eqb (length layer) (32 * c) l))
 
 -- ---- loading
 
@@ -128,125 +128,125 @@ unfolding layer_answer
 answered s layer x y e f = ap₂ (λ (a b : ℕ). record { number = a; count = b }) e (sym f)
 
 module _ (s layer : List ℕ) (d : ℕ) (e : d ≡ layer_number s layer) where
-  left-as-it-was : (d ≡ 0 → ⊥) → layer_after s layer ≡ s
+  left_as_it_was : (d ≡ 0 → ⊥) → layer_after s layer ≡ s
   unfolding layer_after
-  left-as-it-was ne = rw (← e, ne_eqb d 0 ne)
+  left_as_it_was ne = rw (← e, ne_eqb d 0 ne)
 
-  pub load-refused : (d ≡ 0 → ⊥) → (r : Answer) → r ≡ refused d → (r ≡ layer_answer s layer) × (s ≡ layer_after s layer)
-  load-refused ne r q =
-      let k = left-as-it-was ne in
-      (q ∙ answered s layer d 0 e (rw k (newly-none (positions (height_of s)) s)), sym k)
+  pub load_refused : (d ≡ 0 → ⊥) → (r : Answer) → r ≡ refused d → (r ≡ layer_answer s layer) × (s ≡ layer_after s layer)
+  load_refused ne r q =
+      let k = left_as_it_was ne in
+      (q ∙ answered s layer d 0 e (rw k (newly_none (positions (height_of s)) s)), sym k)
 
   taken : d ≡ 0 → layer_after s layer ≡ put_all s (layer_settled s layer)
   unfolding layer_after
   taken y = rw (← e, eq-eqb d 0 y)
 
-  pub load-done : d ≡ 0 → Layered s → (new : ℕ) (s' : List ℕ) → (new ≡ fresh s (layer_settled s layer)) × (s' ≡ put_all s (layer_settled s layer))
+  pub load_done : d ≡ 0 → Layered s → (new : ℕ) (s' : List ℕ) → (new ≡ fresh s (layer_settled s layer)) × (s' ≡ put_all s (layer_settled s layer))
       → (r : Answer) → r ≡ done new → (r ≡ layer_answer s layer) × (s' ≡ layer_after s layer)
-  load-done y f new s' w r q =
+  load_done y f new s' w r q =
       let k = taken y in
-      (q ∙ answered s layer 0 new (sym y ∙ e) (rw k (count-fresh (positions (height_of s)) (layer_settled s layer) s f.facts.room (layer-sound s layer f) (settled-from-root s layer f) ∙ sym w.0)), w.1 ∙ sym k)
+      (q ∙ answered s layer 0 new (sym y ∙ e) (rw k (count_fresh (positions (height_of s)) (layer_settled s layer) s f.facts.room (layer_sound s layer f) (settled_from_root s layer f) ∙ sym w.0)), w.1 ∙ sym k)
 
 -- ---- a block's number
 
 module _ (s : List ℕ) (i : ℕ) (block : List ℕ) (t : Bool) (a : t ≡ usable s) where
-  pub block-9 : t ≡ false → unusable ≡ block_number s i block
+  pub block_9 : t ≡ false → unusable ≡ block_number s i block
   unfolding block_number
-  block-9 b = sym (rw (← a, b))
+  block_9 b = sym (rw (← a, b))
 
   module _ (b : t ≡ true) (c : ℕ) (ec : c ≡ blocks_of s) where
-    pub block-3 : c ≤ i → rule_broken ≡ block_number s i block
+    pub block_3 : c ≤ i → rule_broken ≡ block_number s i block
     unfolding block_number
-    block-3 l = sym (rw (← a, b, ← ec, le-ltb i c l))
+    block_3 l = sym (rw (← a, b, ← ec, le-ltb i c l))
 
     module _ (l : i < c) where
       -- the block's leaf is in the tree
       pub block_inside : (h : ℕ) → h ≡ height_of s → (h ≤ 63) × (i < 2 ^ (h - 0))
       block_inside h e =
-          let f = usable-facts s (sym a ∙ b) in
+          let f = usable_facts s (sym a ∙ b) in
           let z : h - 0 ≡ height_of s = omega arith in
-          (omega (arith, facts-height s f), rw z (omega (arith, facts-leaves s f)))
+          (omega (arith, facts_height s f), rw z (omega (arith, facts_leaves s f)))
 
       -- and has its cell
-      pub block-cell : (h q : ℕ) → h ≡ height_of s → q ≡ node_number h 0 i → Room (q + 1) s
+      pub block_cell : (h q : ℕ) → h ≡ height_of s → q ≡ node_number h 0 i → Room (q + 1) s
       unfolding positions
-      block-cell h q e k =
-          facts-cell s (usable-facts s (sym a ∙ b)) q
-          (rw (← e) (omega (arith, node-number-range h 0 i (block_inside h e).1)))
+      block_cell h q e k =
+          facts_cell s (usable_facts s (sym a ∙ b)) q
+          (rw (← e) (omega (arith, node_number_range h 0 i (block_inside h e).1)))
 
       module _ (n size : ℕ) (en : n ≡ file_length s) (es : size ≡ block_size n i) where
-        block-length : size ≡ block_size (file_length s) i
-        block-length = es ∙ ap (λ (x : ℕ). block_size x i) en
+        block_length : size ≡ block_size (file_length s) i
+        block_length = es ∙ ap (λ (x : ℕ). block_size x i) en
 
-        pub block-4 : (length block ≡ size → ⊥) → wrong_size ≡ block_number s i block
+        pub block_4 : (length block ≡ size → ⊥) → wrong_size ≡ block_number s i block
         unfolding block_number
-        block-4 g = sym (rw (← a, b, ← ec, lt-ltb i c l, ← block-length, ne_eqb (length block) size g))
+        block_4 g = sym (rw (← a, b, ← ec, lt-ltb i c l, ← block_length, ne_eqb (length block) size g))
 
-        pub block-rest : length block ≡ size → (h q r : ℕ) → h ≡ height_of s → q ≡ node_number h 0 i
+        pub block_rest : length block ≡ size → (h q r : ℕ) → h ≡ height_of s → q ≡ node_number h 0 i
             → r ≡ judged (held_at s q) (same (hash_at s q) (sha256 block)) true → r ≡ block_number s i block
         unfolding block_number
-        block-rest g h q r eh eq w =
+        block_rest g h q r eh eq w =
             w ∙ ap (λ (x : ℕ). judged (held_at s x) (same (hash_at s x) (sha256 block)) true) (eq ∙ ap (λ (x : ℕ). node_number x 0 i) eh)
-            ∙ sym (rw (← a, b, ← ec, lt-ltb i c l, ← block-length, eq-eqb (length block) size g))
+            ∙ sym (rw (← a, b, ← ec, lt-ltb i c l, ← block_length, eq-eqb (length block) size g))
 
 -- ---- a piece's node, and its number
 
 module _ (s : List ℕ) (n plen : ℕ) (v : Bool) (en : n ≡ file_length s) (ep : plen ≡ piece_length s) (ev : v ≡ has_layer n plen) where
-  piece-has : v ≡ has_layer (file_length s) (piece_length s)
-  piece-has = ev ∙ ap₂ has_layer en ep
+  piece_has : v ≡ has_layer (file_length s) (piece_length s)
+  piece_has = ev ∙ ap₂ has_layer en ep
 
-  pub height-in-layer : v ≡ true → (r : ℕ) → r ≡ piece_layer plen → r ≡ piece_height s
+  pub height_in_layer : v ≡ true → (r : ℕ) → r ≡ piece_layer plen → r ≡ piece_height s
   unfolding piece_height layer_of_pieces
-  height-in-layer z r q = q ∙ ap piece_layer ep ∙ sym (rw (← piece-has, z))
+  height_in_layer z r q = q ∙ ap piece_layer ep ∙ sym (rw (← piece_has, z))
 
-  pub height-at-root : v ≡ false → (r : ℕ) → r ≡ height_of s → r ≡ piece_height s
+  pub height_at_root : v ≡ false → (r : ℕ) → r ≡ height_of s → r ≡ piece_height s
   unfolding piece_height
-  height-at-root z r q = q ∙ sym (rw (← piece-has, z))
+  height_at_root z r q = q ∙ sym (rw (← piece_has, z))
 
 module _ (s : List ℕ) (i h k : ℕ) (f : PieceIn s i) (eh : h ≡ height_of s) (ek : k ≡ piece_height s) where
-  node-low : h ≤ tallest_tree
-  node-low = omega (arith, facts-height s f.facts)
+  node_low : h ≤ tallest_tree
+  node_low = omega (arith, facts_height s f.facts)
 
-  pub node-inside : (k ≤ h) × (h ≤ 63) × (i < 2 ^ (h - k))
-  node-inside =
+  pub node_inside : (k ≤ h) × (h ≤ 63) × (i < 2 ^ (h - k))
+  node_inside =
       let e : h - k ≡ height_of s - piece_height s = ap₂ (λ (x y : ℕ). x - y) eh ek in
-      (omega (arith, f.layer), omega (arith, node-low), rw e f.inside)
+      (omega (arith, f.layer), omega (arith, node_low), rw e f.inside)
 
   module _ (q : ℕ) (eq : q ≡ node_number h k i) where
-    node-is : q ≡ node_number (height_of s) (piece_height s) i
-    node-is = eq ∙ ap₂ (λ (x y : ℕ). node_number x y i) eh ek
+    node_is : q ≡ node_number (height_of s) (piece_height s) i
+    node_is = eq ∙ ap₂ (λ (x y : ℕ). node_number x y i) eh ek
 
-    pub node-fit : Fit (length s) k q 0
-    node-fit = fit-below _ f.facts.room (rw (ek, node-is) (piece-within s i f)) (omega arith)
+    pub node_fit : Fit (length s) k q 0
+    node_fit = fit_below _ f.facts.room (rw (ek, node_is) (piece_within s i f)) (omega arith)
 
-    pub node-judged : (piece : List ℕ) (r : ℕ) → r ≡ judged_at s (leaf_of piece) k q → r ≡ judged_at s (leaf_of piece) (piece_height s) (node_number (height_of s) (piece_height s) i)
-    node-judged piece r w = w ∙ ap₂ (λ (x y : ℕ). judged_at s (leaf_of piece) x y) ek node-is
+    pub node_judged : (piece : List ℕ) (r : ℕ) → r ≡ judged_at s (leaf_of piece) k q → r ≡ judged_at s (leaf_of piece) (piece_height s) (node_number (height_of s) (piece_height s) i)
+    node_judged piece r w = w ∙ ap₂ (λ (x y : ℕ). judged_at s (leaf_of piece) x y) ek node_is
 
 module _ (s : List ℕ) (i : ℕ) (piece : List ℕ) (t : Bool) (a : t ≡ usable s) where
-  pub piece-9 : t ≡ false → unusable ≡ piece_number s i piece
+  pub piece_9 : t ≡ false → unusable ≡ piece_number s i piece
   unfolding piece_number
-  piece-9 b = sym (rw (← a, b))
+  piece_9 b = sym (rw (← a, b))
 
   module _ (b : t ≡ true) (n plen c : ℕ) (en : n ≡ file_length s) (ep : plen ≡ piece_length s) (ec : c ≡ piece_count n plen) where
     pieces : c ≡ piece_count (file_length s) (piece_length s)
     pieces = ec ∙ ap₂ piece_count en ep
 
-    pub piece-3 : c ≤ i → rule_broken ≡ piece_number s i piece
+    pub piece_3 : c ≤ i → rule_broken ≡ piece_number s i piece
     unfolding piece_number
-    piece-3 l = sym (rw (← a, b, ← pieces, le-ltb i c l))
+    piece_3 l = sym (rw (← a, b, ← pieces, le-ltb i c l))
 
     module _ (l : i < c) where
-      pub piece-there : PieceIn s i
-      piece-there = piece-in s (usable-facts s (sym a ∙ b)) i (omega (arith, pieces))
+      pub piece_there : PieceIn s i
+      piece_there = piece_in_lem s (usable_facts s (sym a ∙ b)) i (omega (arith, pieces))
 
       module _ (size : ℕ) (es : size ≡ piece_size n plen i) where
-        piece-length : size ≡ piece_size (file_length s) (piece_length s) i
-        piece-length = es ∙ ap₂ (λ (x y : ℕ). piece_size x y i) en ep
+        piece_length_lem : size ≡ piece_size (file_length s) (piece_length s) i
+        piece_length_lem = es ∙ ap₂ (λ (x y : ℕ). piece_size x y i) en ep
 
-        pub piece-4 : (length piece ≡ size → ⊥) → wrong_size ≡ piece_number s i piece
+        pub piece_4 : (length piece ≡ size → ⊥) → wrong_size ≡ piece_number s i piece
         unfolding piece_number
-        piece-4 g = sym (rw (← a, b, ← pieces, lt-ltb i c l, ← piece-length, ne_eqb (length piece) size g))
+        piece_4 g = sym (rw (← a, b, ← pieces, lt-ltb i c l, ← piece_length_lem, ne_eqb (length piece) size g))
 
-        pub piece-rest : length piece ≡ size → (r : ℕ) → r ≡ judged_at s (leaf_of piece) (piece_height s) (node_number (height_of s) (piece_height s) i) → r ≡ piece_number s i piece
+        pub piece_rest : length piece ≡ size → (r : ℕ) → r ≡ judged_at s (leaf_of piece) (piece_height s) (node_number (height_of s) (piece_height s) i) → r ≡ piece_number s i piece
         unfolding piece_number
-        piece-rest g r w = w ∙ sym (rw (← a, b, ← pieces, lt-ltb i c l, ← piece-length, eq-eqb (length piece) size g))
+        piece_rest g r w = w ∙ sym (rw (← a, b, ← pieces, lt-ltb i c l, ← piece_length_lem, eq-eqb (length piece) size g))

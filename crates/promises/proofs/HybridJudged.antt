@@ -6,13 +6,13 @@ use Rattle.sha256.specs.Sha256.{pair_hash}
 use Rattle.tree.specs.Values.{leaf_of}
 use Rattle.store.specs.Store.{open_after}
 use Rattle.messages.specs.Take.{take_after}
-use Rattle.promises.specs.Blank.{blank, blank-bytes, blank-room}
+use Rattle.promises.specs.Blank.{blank, blank_bytes, blank_room}
 use Rattle.promises.specs.Example.{two_leaves}
-use Rattle.promises.specs.Witness.{met-after}
-use Rattle.promises.specs.HybridExample.{Judged, judged-by-both}
+use Rattle.promises.specs.Witness.{met_after}
+use Rattle.promises.specs.HybridExample.{Judged, judged_by_both}
 
 -- with every byte said
-pub a-hybrid-piece-judged :
+pub a_hybrid_piece_judged :
     Judged (replicate 32768 0)
     (take_after (open_after (blank 32768) 32768 16384 (pair_hash (leaf_of (replicate 32768 0) 0) (leaf_of (replicate 32768 0) 1))) (two_leaves (leaf_of (replicate 32768 0) 0) (leaf_of (replicate 32768 0) 1)))
-a-hybrid-piece-judged = judged-by-both _ _ (met-after (replicate 32768 0) (blank 32768) (length-replicate {A = ℕ} 32768 0) (blank-bytes 32768) (blank-room 32768))
+a_hybrid_piece_judged = judged_by_both _ _ (met_after (replicate 32768 0) (blank 32768) (length-replicate {A = ℕ} 32768 0) (blank_bytes 32768) (blank_room 32768))

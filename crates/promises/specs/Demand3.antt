@@ -17,60 +17,60 @@ use Rattle.words.specs.FourClauses.{FourClauses}
 
 -- "Knowledge only grows. From one opening of a store to the next, through any messages and layer loads and with no other hand in its bytes,
 -- a held hash stays held with the same bytes,"
-pub knowledge-only-grows : {s t : List ℕ} → Steps s t → (l i : ℕ) (v : List ℕ) → Holds s l i v → Holds t l i v
-knowledge-only-grows = Rattle.knowledge.specs.Again.knowledge-only-grows
+pub knowledge_only_grows : {s t : List ℕ} → Steps s t → (l i : ℕ) (v : List ℕ) → Holds s l i v → Holds t l i v
+knowledge_only_grows = Rattle.knowledge.specs.Again.knowledge_only_grows
 
 -- 01: "Opening again … is the one way to lose a held hash." Since 02, request 13: opening, loading and repairing, each answered 0
-pub lost-only-by-opening : (s : List ℕ) (c : Call) (l i : ℕ) (v : List ℕ) → Holds s l i v → (Holds (after c s) l i v → ⊥) → Opening c × (number c s ≡ 0)
-lost-only-by-opening = Rattle.knowledge.specs.InTable.lost-only
+pub lost_only_by_opening : (s : List ℕ) (c : Call) (l i : ℕ) (v : List ℕ) → Holds s l i v → (Holds (after c s) l i v → ⊥) → Opening c × (number c s ≡ 0)
+lost_only_by_opening = Rattle.knowledge.specs.InTable.lost_only
 
 -- "and the number a reply gets stays the same at every later offer." But for "no anchor":
-pub number-stays : {t : List ℕ} (s m : List ℕ) → Steps (take_after s m) t → ((take_answer s m).number ≡ no_anchor → ⊥) → (take_answer t m).number ≡ (take_answer s m).number
+pub number_stays : {t : List ℕ} (s m : List ℕ) → Steps (take_after s m) t → ((take_answer s m).number ≡ no_anchor → ⊥) → (take_answer t m).number ≡ (take_answer s m).number
 unfolding take_answer
-number-stays = Rattle.knowledge.specs.Again.number-stays
+number_stays = Rattle.knowledge.specs.Again.number_stays
 
 -- a reject that came in gets the same answer at every later offer too
-pub reject-stays : {t : List ℕ} (s m : List ℕ) → Steps s t → reject_answer t m ≡ reject_answer s m
-reject-stays = Rattle.knowledge.specs.Again.reject-stays
+pub reject_stays : {t : List ℕ} (s m : List ℕ) → Steps s t → reject_answer t m ≡ reject_answer s m
+reject_stays = Rattle.knowledge.specs.Again.reject_stays
 
 -- "Only "no anchor" can change, and exactly once its anchor is held."
-pub changes-exactly-when : {t : List ℕ} (s m : List ℕ) → Steps (take_after s m) t
+pub changes_exactly_when : {t : List ℕ} (s m : List ℕ) → Steps (take_after s m) t
     → ((take_answer t m).number ≡ (take_answer s m).number → ⊥) ↔ (((take_answer s m).number ≡ no_anchor) × ((held_answer t (anchor_layer m) (anchor_index m)).number ≡ 0))
 unfolding take_answer
-changes-exactly-when = Rattle.knowledge.specs.NoAnchor.changes-exactly-when
+changes_exactly_when = Rattle.knowledge.specs.NoAnchor.changes_exactly_when
 
 -- and from then on it is never "no anchor" again
-pub never-6-again : {s t : List ℕ} (m v : List ℕ) → Steps s t → Holds s (anchor_layer m) (anchor_index m) v → (take_answer t m).number ≡ no_anchor → ⊥
+pub never_6_again : {s t : List ℕ} (m v : List ℕ) → Steps s t → Holds s (anchor_layer m) (anchor_index m) v → (take_answer t m).number ≡ no_anchor → ⊥
 unfolding take_answer
-never-6-again = Rattle.knowledge.specs.NoAnchor.never-6-again
+never_6_again = Rattle.knowledge.specs.NoAnchor.never_6_again
 
 -- "In a store that only this build has written, "conflict" shows two different 64-byte strings with one SHA-256.": of a message, a layer
 -- and a piece, also of a hybrid
-pub conflict-shows : {s : List ℕ} (m : List ℕ) → OurStore s → Bytes m → (take_answer s m).number ≡ conflict → Shown (height_of s) (held_by s) (by_message s m)
+pub conflict_shows : {s : List ℕ} (m : List ℕ) → OurStore s → Bytes m → (take_answer s m).number ≡ conflict → Shown (height_of s) (held_by s) (by_message s m)
 unfolding take_answer
-conflict-shows = Rattle.knowledge.specs.ConflictShows.our-conflict-shows
+conflict_shows = Rattle.knowledge.specs.ConflictShows.our_conflict_shows
 
-pub layer-conflict-shows : {s : List ℕ} (layer : List ℕ) → OurStore s → Bytes layer → (layer_answer s layer).number ≡ conflict → Shown (height_of s) (held_by s) (by_layer s layer)
+pub layer_conflict_shows : {s : List ℕ} (layer : List ℕ) → OurStore s → Bytes layer → (layer_answer s layer).number ≡ conflict → Shown (height_of s) (held_by s) (by_layer s layer)
 unfolding layer_answer
-layer-conflict-shows = Rattle.knowledge.specs.ConflictShows.our-layer-conflict-shows
+layer_conflict_shows = Rattle.knowledge.specs.ConflictShows.our_layer_conflict_shows
 
-pub piece-conflict-shows : {s : List ℕ} (i : ℕ) (piece : List ℕ) → OurStore s → (piece_answer s i piece).number ≡ conflict → Shown (height_of s) (held_by s) (by_piece s i piece)
+pub piece_conflict_shows : {s : List ℕ} (i : ℕ) (piece : List ℕ) → OurStore s → (piece_answer s i piece).number ≡ conflict → Shown (height_of s) (held_by s) (by_piece s i piece)
 unfolding piece_answer
-piece-conflict-shows = Rattle.knowledge.specs.ConflictShows.our-piece-conflict-shows
+piece_conflict_shows = Rattle.knowledge.specs.ConflictShows.our_piece_conflict_shows
 
-pub hybrid-conflict-shows : {s : List ℕ} (i : ℕ) (piece v1 : List ℕ) (zeros : ℕ) → OurStore s → (hybrid_answer s i piece v1 zeros).number ≡ conflict
+pub hybrid_conflict_shows : {s : List ℕ} (i : ℕ) (piece v1 : List ℕ) (zeros : ℕ) → OurStore s → (hybrid_answer s i piece v1 zeros).number ≡ conflict
     → Shown (height_of s) (held_by s) (by_piece s i piece)
 unfolding hybrid_answer
-hybrid-conflict-shows = Rattle.knowledge.specs.ConflictShows.our-hybrid-conflict-shows
+hybrid_conflict_shows = Rattle.knowledge.specs.ConflictShows.our_hybrid_conflict_shows
 
 -- "A reply built from another such store for the same length and root, its anchor held here, is taken unless the two stores show such a
 -- pair.": the bytes that kd_serve leaves beside 0; the piece lengths may differ
-pub other-store-reply-taken : {s t : List ℕ} → OurStore s → OurStore t → file_length s ≡ file_length t → facts_root s ≡ facts_root t
+pub other_store_reply_taken : {s t : List ℕ} → OurStore s → OurStore t → file_length s ≡ file_length t → facts_root s ≡ facts_root t
     → (m out : List ℕ) → (serve_answer s m out).number ≡ 0 → (held_answer t (anchor_layer m) (anchor_index m)).number ≡ 0
     → Shown (height_of t) (held_by t) (held_by s) ⊎ ((take_answer t (sent s m out)).number ≡ 0)
 unfolding take_answer
-other-store-reply-taken = Rattle.knowledge.specs.ConflictShows.other-store-reply-taken
+other_store_reply_taken = Rattle.knowledge.specs.ConflictShows.other_store_reply_taken
 
 -- What a store that only this build has written knows
-pub our-store-meets : {s : List ℕ} → OurStore s → FourClauses s
-our-store-meets = Rattle.knowledge.specs.OursMeet.ours-meet
+pub our_store_meets : {s : List ℕ} → OurStore s → FourClauses s
+our_store_meets = Rattle.knowledge.specs.OursMeet.ours_meet

@@ -5,10 +5,10 @@ use Rattle.std.specs.Prelude.{◌≡◌, refl, List, ◌++◌, ℕ, suc, ◌+◌
 use Rattle.std.proofs.Common.{sym, inr, arith}
 use Rattle.numbers.specs.Numbers.{wrong_size, differs}
 use Rattle.sha_1.specs.Sha1.{sha1}
-use Rattle.sha_1.specs.Sha1Laws.{sha1-octets}
+use Rattle.sha_1.specs.Sha1Laws.{sha1_octets}
 use Rattle.store.specs.Store.{piece_length}
 use Rattle.pieces.specs.Hybrid.{hybrid_answer}
-use Rattle.pieces.proofs.HybridLaws.{hybrid-0, hybrid-4, hybrid-7, piece-short}
+use Rattle.pieces.proofs.HybridLaws.{hybrid_0, hybrid_4, hybrid_7, piece_short}
 use Rattle.words.specs.File.{piece_for}
 use Rattle.promises.specs.NumbersGiven.{other_than, other_differs}
 use Rattle.promises.specs.Witness.{MetAfter}
@@ -23,18 +23,18 @@ pub record Judged (file s : List ℕ) : Type 0 where
   pub other : (hybrid_answer s 0 (piece_for file s 0) (other_than (first_v1 file s)) 0).number ≡ differs
   pub long : (hybrid_answer s 0 (piece_for file s 0) (first_v1 file s) (suc (piece_length s))).number ≡ wrong_size
 
-pub judged-by-both : (file s : List ℕ) → MetAfter file s → Judged file s
+pub judged_by_both : (file s : List ℕ) → MetAfter file s → Judged file s
 unfolding hybrid_answer
-judged-by-both file s m =
+judged_by_both file s m =
     record {
-      right = (hybrid-0 s 0 (piece_for file s 0) (first_v1 file s) 0).1 (m.piece, record { room = short; hash = refl });
+      right = (hybrid_0 s 0 (piece_for file s 0) (first_v1 file s) 0).1 (m.piece, record { room = short; hash = refl });
       other =
-          (hybrid-7 s 0 (piece_for file s 0) (other_than (first_v1 file s)) 0).1
-          (inr (m.piece, (short, λ e. other_differs (first_v1 file s) (omega (arith, (sha1-octets (piece_for file s 0 ++ replicate 0 0)).size)) (sym e))));
-      long = (hybrid-4 s 0 (piece_for file s 0) (first_v1 file s) (suc (piece_length s))).1 (inr (m.piece, omega arith));
+          (hybrid_7 s 0 (piece_for file s 0) (other_than (first_v1 file s)) 0).1
+          (inr (m.piece, (short, λ e. other_differs (first_v1 file s) (omega (arith, (sha1_octets (piece_for file s 0 ++ replicate 0 0)).size)) (sym e))));
+      long = (hybrid_4 s 0 (piece_for file s 0) (first_v1 file s) (suc (piece_length s))).1 (inr (m.piece, omega arith));
     }
   where
     short : length (piece_for file s 0) + 0 ≤ piece_length s
-    short = omega (arith, piece-short s 0 (piece_for file s 0) m.piece)
+    short = omega (arith, piece_short s 0 (piece_for file s 0) m.piece)
 
--- with every byte said: `a-hybrid-piece-judged`, in proofs/HybridJudged
+-- with every byte said: `a_hybrid_piece_judged`, in proofs/HybridJudged

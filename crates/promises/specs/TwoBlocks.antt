@@ -5,15 +5,15 @@ use Rattle.std.proofs.Common.{◌∙◌, le-leb}
 use Rattle.tree.specs.Geometry.{ceil_div, block_count, height_from, height, piece_layer, is_piece_length}
 use Rattle.cells.specs.Cells.{held_at, hash_at}
 use Rattle.store.specs.Store.{usable, file_length, piece_length, facts_root, blocks_of, height_of, positions, facts_in_range, store_size, Facts, open_answer, open_after, opened}
-use Rattle.store.specs.StoreLaws.{opened-file, opened-piece, opened-facts-root, opened-blocks, opened-height, opened-facts, opened-usable, opened-held, opened-hash}
+use Rattle.store.specs.StoreLaws.{opened_file, opened_piece, opened_facts_root, opened_blocks, opened_height, opened_facts, opened_usable, opened_held, opened_hash}
 
 pub range : facts_in_range 32768 16384 ≡ true
 unfolding facts_in_range is_piece_length piece_layer height height_from
 range = refl
 
-pub one-high : height (block_count 32768) ≡ 1
+pub one_high : height (block_count 32768) ≡ 1
 unfolding height height_from block_count ceil_div
-one-high = refl
+one_high = refl
 
 -- the opening is answered 0,
 pub opens : (buffer : List ℕ) → store_size 32768 ≤ length buffer → (open_answer buffer 32768 16384).number ≡ 0
@@ -27,31 +27,31 @@ open_is buffer root fits = rw (range, le-leb (store_size 32768) (length buffer) 
 
 module _ (buffer root : List ℕ) (fits : store_size 32768 ≤ length buffer) (size : length root ≡ 32) where
   pub high : height_of (opened buffer 32768 16384 root) ≡ 1
-  high = opened-height buffer 32768 16384 root range fits size ∙ one-high
+  high = opened_height buffer 32768 16384 root range fits size ∙ one_high
 
   pub blocks : blocks_of (opened buffer 32768 16384 root) ≡ 2
   unfolding block_count ceil_div
-  blocks = opened-blocks buffer 32768 16384 root range fits size
+  blocks = opened_blocks buffer 32768 16384 root range fits size
 
   pub store : usable (opened buffer 32768 16384 root) ≡ true
-  store = opened-usable buffer 32768 16384 root range fits size
+  store = opened_usable buffer 32768 16384 root range fits size
 
   pub facts : Facts (opened buffer 32768 16384 root)
-  facts = opened-facts buffer 32768 16384 root range fits size
+  facts = opened_facts buffer 32768 16384 root range fits size
 
   pub file : file_length (opened buffer 32768 16384 root) ≡ 32768
-  file = opened-file buffer 32768 16384 root range fits size
+  file = opened_file buffer 32768 16384 root range fits size
 
   pub piece : piece_length (opened buffer 32768 16384 root) ≡ 16384
-  piece = opened-piece buffer 32768 16384 root range fits size
+  piece = opened_piece buffer 32768 16384 root range fits size
 
   pub root_is : facts_root (opened buffer 32768 16384 root) ≡ root
-  root_is = opened-facts-root buffer 32768 16384 root range fits size
+  root_is = opened_facts_root buffer 32768 16384 root range fits size
 
   -- the root alone is held, with this hash
   pub held : (q : ℕ) → 1 ≤ q → q < 4 → held_at (opened buffer 32768 16384 root) q ≡ eqb q 1
   unfolding positions
-  held q x y = opened-held buffer 32768 16384 root range fits size q x (rw one-high y)
+  held q x y = opened_held buffer 32768 16384 root range fits size q x (rw one_high y)
 
   pub hash : hash_at (opened buffer 32768 16384 root) 1 ≡ root
-  hash = opened-hash buffer 32768 16384 root range fits size
+  hash = opened_hash buffer 32768 16384 root range fits size

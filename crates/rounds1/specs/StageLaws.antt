@@ -23,9 +23,9 @@ module _ (m w : List ℕ) (i : ℕ) (st : Stage m i w) where
   there : (j : ℕ) → j < 16 + i → get_or w j 0 ≡ get_or (schedule i m) j 0
   there j h = sym (get_or-take (16 + i) w j 0 h) ∙ ap (λ (l : List ℕ). get_or l j 0) st.filled
 
-  next-there : next w (i + 16) ≡ next (schedule i m) (16 + i)
+  next_there : next w (i + 16) ≡ next (schedule i m) (16 + i)
   unfolding next
-  next-there =
+  next_there =
       let e : i + 16 ≡ 16 + i = omega arith in
       rw (e, there (16 + i - 3) (omega arith), there (16 + i - 8) (omega arith), there (16 + i - 14) (omega arith), there (16 + i - 16) (omega arith))
 
@@ -37,69 +37,69 @@ module _ (m w : List ℕ) (i : ℕ) (st : Stage m i w) where
       let t : take (i + 16) w ≡ schedule i m = ap (λ (n : ℕ). take n w) e' ∙ st.filled in
       record {
         size = length-set w (i + 16) (next w (i + 16)) ∙ st.size;
-        filled = rw (e, add-one i) (take-suc-set w (i + 16) (next w (i + 16)) (omega (arith, st.size)) ∙ rw (t, next-there));
+        filled = rw (e, add-one i) (take-suc-set w (i + 16) (next w (i + 16)) (omega (arith, st.size)) ∙ rw (t, next_there));
       }
 
 -- a list v with one word more than w
-pub stage-step : {m w v : List ℕ} {i : ℕ} (j : ℕ) → Stage m i w → v ≡ set w (i + 16) (next w (i + 16)) → i < 64 → i + 1 ≡ j → Stage m j v
-stage-step {m} {w} {v} {i} j st e h q = rw (e, sym q) (grown m w i st h)
+pub stage_step : {m w v : List ℕ} {i : ℕ} (j : ℕ) → Stage m i w → v ≡ set w (i + 16) (next w (i + 16)) → i < 64 → i + 1 ≡ j → Stage m j v
+stage_step {m} {w} {v} {i} j st e h q = rw (e, sym q) (grown m w i st h)
 
 pub stage_at : {m w : List ℕ} {i : ℕ} (j : ℕ) → Stage m i w → i ≡ j → Stage m j w
 stage_at {m} {w} j st e = subst (λ (n : ℕ). Stage m n w) e st
 
 -- the stage with the block's own words
-pub stage-first : (m w : List ℕ) → length w ≡ 80 → take 16 w ≡ words 16 m → Stage m 0 w
+pub stage_first : (m w : List ℕ) → length w ≡ 80 → take 16 w ≡ words 16 m → Stage m 0 w
 unfolding schedule
-stage-first m w l e = record { size = l; filled = e }
+stage_first m w l e = record { size = l; filled = e }
 
 -- the stage with all words
-pub stage-last : (m w : List ℕ) → Stage m 64 w → w ≡ schedule 64 m
-stage-last m w st = sym (take_all 80 w (omega (arith, st.size))) ∙ st.filled
+pub stage_last : (m w : List ℕ) → Stage m 64 w → w ≡ schedule 64 m
+stage_last m w st = sym (take_all 80 w (omega (arith, st.size))) ∙ st.filled
 
 -- ---- the rounds, by what f is
 
 -- one round more, where f_i has the value x and K_i is k
-round-more : (ws : List ℕ) (z s : Five) (i x k : ℕ) → s ≡ rounds ws i z → x ≡ f i s.b s.c s.d → k ≡ K i → turn s x k (get_or ws i 0) ≡ rounds ws (i + 1) z
+round_more : (ws : List ℕ) (z s : Five) (i x k : ℕ) → s ≡ rounds ws i z → x ≡ f i s.b s.c s.d → k ≡ K i → turn s x k (get_or ws i 0) ≡ rounds ws (i + 1) z
 unfolding rounds
-round-more ws z s i x k e ex ek = rw (add-one i) (cc)
+round_more ws z s i x k e ex ek = rw (add-one i) (cc)
 
-pub round-choice : (ws : List ℕ) (z s : Five) (i : ℕ) → i < 20 → s ≡ rounds ws i z → turn s (Ch s.b s.c s.d) 0x5a82_7999 (get_or ws i 0) ≡ rounds ws (i + 1) z
-round-choice ws z s i h e = round-more ws z s i (Ch s.b s.c s.d) 0x5a82_7999 e by-f by-k
+pub round_choice : (ws : List ℕ) (z s : Five) (i : ℕ) → i < 20 → s ≡ rounds ws i z → turn s (Ch s.b s.c s.d) 0x5a82_7999 (get_or ws i 0) ≡ rounds ws (i + 1) z
+round_choice ws z s i h e = round_more ws z s i (Ch s.b s.c s.d) 0x5a82_7999 e by_f by_k
   where
-    by-f : Ch s.b s.c s.d ≡ f i s.b s.c s.d
-    by-f = unfold f in rw (lt-ltb i 20 h) refl
+    by_f : Ch s.b s.c s.d ≡ f i s.b s.c s.d
+    by_f = unfold f in rw (lt-ltb i 20 h) refl
 
-    by-k : 0x5a82_7999 ≡ K i
-    by-k = unfold K in rw (lt-ltb i 20 h) refl
+    by_k : 0x5a82_7999 ≡ K i
+    by_k = unfold K in rw (lt-ltb i 20 h) refl
 
-pub round-majority : (ws : List ℕ) (z s : Five) (i : ℕ) → 40 ≤ i → i < 60 → s ≡ rounds ws i z → turn s (Maj s.b s.c s.d) 0x8f1b_bcdc (get_or ws i 0) ≡ rounds ws (i + 1) z
-round-majority ws z s i g h e = round-more ws z s i (Maj s.b s.c s.d) 0x8f1b_bcdc e by-f by-k
+pub round_majority : (ws : List ℕ) (z s : Five) (i : ℕ) → 40 ≤ i → i < 60 → s ≡ rounds ws i z → turn s (Maj s.b s.c s.d) 0x8f1b_bcdc (get_or ws i 0) ≡ rounds ws (i + 1) z
+round_majority ws z s i g h e = round_more ws z s i (Maj s.b s.c s.d) 0x8f1b_bcdc e by_f by_k
   where
-    by-f : Maj s.b s.c s.d ≡ f i s.b s.c s.d
-    by-f = unfold f in rw (le-ltb i 20 (omega arith), le-ltb i 40 g, lt-ltb i 60 h) refl
+    by_f : Maj s.b s.c s.d ≡ f i s.b s.c s.d
+    by_f = unfold f in rw (le-ltb i 20 (omega arith), le-ltb i 40 g, lt-ltb i 60 h) refl
 
-    by-k : 0x8f1b_bcdc ≡ K i
-    by-k = unfold K in rw (le-ltb i 20 (omega arith), le-ltb i 40 g, lt-ltb i 60 h) refl
+    by_k : 0x8f1b_bcdc ≡ K i
+    by_k = unfold K in rw (le-ltb i 20 (omega arith), le-ltb i 40 g, lt-ltb i 60 h) refl
 
-pub round-parity : (ws : List ℕ) (z s : Five) (i k : ℕ) → ByParity i k → s ≡ rounds ws i z → turn s (Parity s.b s.c s.d) k (get_or ws i 0) ≡ rounds ws (i + 1) z
-round-parity ws z s i k p e = round-more ws z s i (Parity s.b s.c s.d) k e (sym (p.parity s.b s.c s.d)) (sym p.word)
+pub round_parity : (ws : List ℕ) (z s : Five) (i k : ℕ) → ByParity i k → s ≡ rounds ws i z → turn s (Parity s.b s.c s.d) k (get_or ws i 0) ≡ rounds ws (i + 1) z
+round_parity ws z s i k p e = round_more ws z s i (Parity s.b s.c s.d) k e (sym (p.parity s.b s.c s.d)) (sym p.word)
 
 -- from 20 to 39, and from 60 on
-pub parity-before : (i : ℕ) → 20 ≤ i → i < 40 → ByParity i 0x6ed9_eba1
+pub parity_before : (i : ℕ) → 20 ≤ i → i < 40 → ByParity i 0x6ed9_eba1
 unfolding f K
-parity-before i g h = record { parity = λ x y z. rw (le-ltb i 20 g, lt-ltb i 40 h) refl; word = rw (le-ltb i 20 g, lt-ltb i 40 h) refl }
+parity_before i g h = record { parity = λ x y z. rw (le-ltb i 20 g, lt-ltb i 40 h) refl; word = rw (le-ltb i 20 g, lt-ltb i 40 h) refl }
 
-pub parity-behind : (i : ℕ) → 60 ≤ i → ByParity i 0xca62_c1d6
+pub parity_behind : (i : ℕ) → 60 ≤ i → ByParity i 0xca62_c1d6
 unfolding f K
-parity-behind i g =
+parity_behind i g =
     record {
       parity = λ x y z. rw (le-ltb i 20 (omega arith), le-ltb i 40 (omega arith), le-ltb i 60 g) refl;
       word = rw (le-ltb i 20 (omega arith), le-ltb i 40 (omega arith), le-ltb i 60 g) refl;
     }
 
-pub no-rounds : (ws : List ℕ) (z : Five) → z ≡ rounds ws 0 z
+pub no_rounds : (ws : List ℕ) (z : Five) → z ≡ rounds ws 0 z
 unfolding rounds
-no-rounds ws z = refl
+no_rounds ws z = refl
 
-pub rounds-at : {s : Five} (ws : List ℕ) (z : Five) (i j : ℕ) → s ≡ rounds ws i z → i ≡ j → s ≡ rounds ws j z
-rounds-at {s} ws z i j h e = subst (λ (n : ℕ). s ≡ rounds ws n z) e h
+pub rounds_at : {s : Five} (ws : List ℕ) (z : Five) (i j : ℕ) → s ≡ rounds ws i z → i ≡ j → s ≡ rounds ws j z
+rounds_at {s} ws z i j h e = subst (λ (n : ℕ). s ≡ rounds ws n z) e h

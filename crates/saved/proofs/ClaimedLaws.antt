@@ -1,7 +1,7 @@
 -- A list of numbers that rise, in which each number but the last stands beside another and their parent stands behind both: one pass that gives
 -- each pair its parent comes to the last number exactly if all have their parents.
 -- Assumes nothing.
-use Rattle.std.specs.Prelude.{◌≡◌, Bool, true, false, ℕ, zero, suc, ◌+◌, ◌-◌, ◌*◌, ◌%◌, ◌≤◌, ◌<◌}
+use Rattle.std.specs.Prelude.{◌≡◌, Bool, true, false, ℕ, zero, suc, ◌+◌, ◌*◌, ◌%◌, ◌≤◌, ◌<◌}
 use Rattle.std.proofs.Math.Path.{refl}
 use Rattle.std.proofs.Common.{ap, sym, ◌∙◌, arith}
 use Rattle.std.proofs.lemmas.Bool.{false≢true}
@@ -9,42 +9,42 @@ use Rattle.std.proofs.Math.Decide.{ℕ_discrete, dec_lt}
 use Rattle.saved.specs.Saved.{claimed_by}
 
 module _ (F : ℕ → ℕ → Bool) where
-  claimed-yes : (j : ℕ) → F (claimed_by F j) j ≡ true → claimed_by F (suc j) ≡ claimed_by F j + 2
+  claimed_yes : (j : ℕ) → F (claimed_by F j) j ≡ true → claimed_by F (suc j) ≡ claimed_by F j + 2
   unfolding claimed_by
-  claimed-yes j e = rw e
+  claimed_yes j e = rw e
 
-  claimed-no : (j : ℕ) → F (claimed_by F j) j ≡ false → claimed_by F (suc j) ≡ claimed_by F j
+  claimed_no : (j : ℕ) → F (claimed_by F j) j ≡ false → claimed_by F (suc j) ≡ claimed_by F j
   unfolding claimed_by
-  claimed-no j e = rw e
+  claimed_no j e = rw e
 
-  pub claimed-none : claimed_by F 0 ≡ 0
+  pub claimed_none : claimed_by F 0 ≡ 0
   unfolding claimed_by
-  claimed-none = refl
+  claimed_none = refl
 
   -- two at a time
-  pub claimed-even : (j : ℕ) → claimed_by F j % 2 ≡ 0
-  claimed-even zero = rw claimed-none
-  claimed-even (suc j) = by (F (claimed_by F j) j) refl (claimed-even j)
+  pub claimed_even : (j : ℕ) → claimed_by F j % 2 ≡ 0
+  claimed_even zero = rw claimed_none
+  claimed_even (suc j) = by (F (claimed_by F j) j) refl (claimed_even j)
     where
       by : (x : Bool) → F (claimed_by F j) j ≡ x → claimed_by F j % 2 ≡ 0 → claimed_by F (suc j) % 2 ≡ 0
-      by true e z = omega (arith, claimed-yes j e)
-      by false e z = omega (arith, claimed-no j e)
+      by true e z = omega (arith, claimed_yes j e)
+      by false e z = omega (arith, claimed_no j e)
 
   -- each pair below the number claimed has a parent
-  pub claimed-each : (j k : ℕ) → k % 2 ≡ 0 → k < claimed_by F j → (m : ℕ) × (m < j) × (F k m ≡ true)
-  claimed-each zero k z l = absurd (omega (arith, claimed-none))
-  claimed-each (suc j) k z l = by (F (claimed_by F j) j) refl (claimed-each j k z)
+  pub claimed_each : (j k : ℕ) → k % 2 ≡ 0 → k < claimed_by F j → (m : ℕ) × (m < j) × (F k m ≡ true)
+  claimed_each zero k z l = absurd (omega (arith, claimed_none))
+  claimed_each (suc j) k z l = by (F (claimed_by F j) j) refl (claimed_each j k z)
     where
       up : (m : ℕ) × (m < j) × (F k m ≡ true) → (m : ℕ) × (m < suc j) × (F k m ≡ true)
       up w = (w.0, omega (arith, w.1), w.2)
 
       by : (x : Bool) → F (claimed_by F j) j ≡ x → (k < claimed_by F j → (m : ℕ) × (m < j) × (F k m ≡ true)) → (m : ℕ) × (m < suc j) × (F k m ≡ true)
-      by false e r = up (r (omega (arith, claimed-no j e)))
+      by false e r = up (r (omega (arith, claimed_no j e)))
       by true e r =
           elim (dec_lt k (claimed_by F j)) [
             | yes y ↦ up (r y)
             | no n ↦
-                let q : k ≡ claimed_by F j = omega (arith, claimed-yes j e, claimed-even j) in
+                let q : k ≡ claimed_by F j = omega (arith, claimed_yes j e, claimed_even j) in
                 (j, omega arith, ap (λ (x : ℕ). F x j) q ∙ e)
           ]
 
@@ -58,7 +58,7 @@ module _ (F : ℕ → ℕ → Bool) where
       ahead : (q : ℕ) → claimed_by F j + 1 < P → q < P → F (claimed_by F j) q ≡ true → j ≤ q
 
     after_none : After 0
-    after_none = record { inside = omega (arith, claimed-none); ahead = λ q a b e. omega arith }
+    after_none = record { inside = omega (arith, claimed_none); ahead = λ q a b e. omega arith }
 
     after_next : (j : ℕ) → j < P → After j → After (suc j)
     after_next j lt A = by (F (claimed_by F j) j) refl
@@ -68,7 +68,7 @@ module _ (F : ℕ → ℕ → Bool) where
 
         stays : (x : Bool) → F (claimed_by F j) j ≡ false → After (suc j)
         stays x e =
-            let n = claimed-no j e in
+            let n = claimed_no j e in
             record {
               inside = omega (arith, A.inside);
               ahead =
@@ -84,9 +84,9 @@ module _ (F : ℕ → ℕ → Bool) where
         by : (x : Bool) → F (claimed_by F j) j ≡ x → After (suc j)
         by false e = stays false e
         by true e =
-            let n = claimed-yes j e in
+            let n = claimed_yes j e in
             let w = behind (claimed_by F j) j e in
-            let ev = claimed-even j in
+            let ev = claimed_even j in
             record {
               inside = omega arith;
               ahead =
@@ -103,18 +103,18 @@ module _ (F : ℕ → ℕ → Bool) where
                   ];
             }
 
-    after-all : (j : ℕ) → j ≤ P → After j
-    after-all zero l = after_none
-    after-all (suc j) l = after_next j (omega arith) (after-all j (omega arith))
+    after_all_lem : (j : ℕ) → j ≤ P → After j
+    after_all_lem zero l = after_none
+    after_all_lem (suc j) l = after_next j (omega arith) (after_all_lem j (omega arith))
 
-    pub all-claimed : claimed_by F P + 1 ≡ P
-    all-claimed =
-        let A = after-all P (omega arith) in
+    pub all_claimed : claimed_by F P + 1 ≡ P
+    all_claimed =
+        let A = after_all_lem P (omega arith) in
         elim (ℕ_discrete (claimed_by F P + 1) P) [
           | yes e ↦ e
           | no ne ↦
               let b : claimed_by F P + 1 < P = omega (arith, A.inside) in
-              let p = parent (claimed_by F P) (claimed-even P) b in
+              let p = parent (claimed_by F P) (claimed_even P) b in
               let w = A.ahead p.0 b p.1 p.2 in
               absurd (omega (arith, p.1))
         ]

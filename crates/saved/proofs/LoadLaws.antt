@@ -7,47 +7,47 @@ use Rattle.std.proofs.Math.Logic.{inl, inr}
 use Prim.Native.Nat.{ℕ, zero, suc, ◌+◌, ◌-◌, ◌*◌, ◌^◌, ◌≤◌, ◌<◌}
 use Rattle.std.proofs.Math.Decide.{ℕ_discrete}
 use borrow.Author.Tests.{leb-true}
-use Rattle.octets.specs.OctetsLaws.{cut-length}
+use Rattle.octets.specs.OctetsLaws.{cut_length}
 use Rattle.tree.specs.Geometry.{node_number}
-use Rattle.tree.proofs.GeometryLaws.{node-number-range, node-number-distinct}
+use Rattle.tree.proofs.GeometryLaws.{node_number_range, node_number_distinct}
 use Rattle.cells.specs.Cells.{Room, put}
 use Rattle.cells.specs.Entries.{Entry, one, put_all}
-use Rattle.cells.specs.EntriesLaws.{Sound, none, sound-append, sound-one, FromRoot, empty, next, from-root-append, In, here, in_left, in_right, in-cases, one-is, put-append, put_one, put_all-length}
+use Rattle.cells.specs.EntriesLaws.{Sound, none, sound_append, sound_one, FromRoot, empty, next, from_root_append, In, here, in_left, in_right, in_cases, one_is, put_append, put_one, put_all_length}
 use Rattle.store.specs.Store.{blocks_of, height_of, positions, facts_in_range, store_size, opened, Facts, SameFacts}
-use Rattle.store.specs.StoreLaws.{facts-leaves, opened-facts, opened-height, opened-blocks, opened-length, put_all-facts, put_all-same-facts}
+use Rattle.store.specs.StoreLaws.{facts_leaves, opened_facts, opened_height, opened_blocks, opened_length, put_all_facts, put_all_same_facts}
 use Rattle.marks.specs.Marks.{marked, marks_put}
-use Rattle.marks.specs.MarksLaws.{marks-facts, marks-same-facts, marks-length}
+use Rattle.marks.specs.MarksLaws.{marks_facts, marks_same_facts, marks_length}
 use Rattle.saved.specs.Form.{length_in, piece_length_in, root_in, blocks_in, height_in, mark_count, place_count, layer_in, index_in, hash_in, block_in, places_good, marks_good, marks_from, opens}
 use Rattle.saved.specs.Saved.{entries_in, marks_set, opening_number}
-use Rattle.saved.proofs.SoundLaws.{PlaceIn, place_at, place-says, one-record}
-use Rattle.saved.proofs.PrefixLaws.{mark-at, mark-says, FormIn}
+use Rattle.saved.proofs.SoundLaws.{PlaceIn, place_at, place_says, one_record}
+use Rattle.saved.proofs.PrefixLaws.{mark_at, mark_says, FormIn}
 
 -- ---- the entries
 
 module _ (h c : ℕ) (b : List ℕ) (p : ℕ) (G : places_good h b p ≡ true) (long : 45 + 41 * p ≤ length b) where
   at : (k : ℕ) → k < p → PlaceIn h b k
-  at k l = place-says h b k (place_at h b p G k l)
+  at k l = place_says h b k (place_at h b p G k l)
 
-  hash-long : (k : ℕ) → k < p → length (hash_in b k) ≡ 32
+  hash_long : (k : ℕ) → k < p → length (hash_in b k) ≡ 32
   unfolding hash_in
-  hash-long k l = cut-length b (54 + 41 * k) 32 (omega (arith, long))
+  hash_long k l = cut_length b (54 + 41 * k) 32 (omega (arith, long))
 
-  number-range : (k : ℕ) → k < p → (1 ≤ node_number h (layer_in b k) (index_in b k)) × (node_number h (layer_in b k) (index_in b k) < positions h)
+  number_range : (k : ℕ) → k < p → (1 ≤ node_number h (layer_in b k) (index_in b k)) × (node_number h (layer_in b k) (index_in b k) < positions h)
   unfolding positions
-  number-range k l = node-number-range h (layer_in b k) (index_in b k) (at k l).inside
+  number_range k l = node_number_range h (layer_in b k) (index_in b k) (at k l).inside
 
-  pub entries-sound : (k : ℕ) → k ≤ p → Sound (positions h) (entries_in h b k)
+  pub entries_sound : (k : ℕ) → k ≤ p → Sound (positions h) (entries_in h b k)
   unfolding entries_in
-  entries-sound zero l = none
-  entries-sound (suc k) l =
-      sound-append (entries_in h b k) (one (node_number h (layer_in b k) (index_in b k)) (hash_in b k)) (entries-sound k (omega arith))
-      (sound-one (node_number h (layer_in b k) (index_in b k)) (hash_in b k) (number-range k (omega arith)).1 (hash-long k (omega arith)))
+  entries_sound zero l = none
+  entries_sound (suc k) l =
+      sound_append (entries_in h b k) (one (node_number h (layer_in b k) (index_in b k)) (hash_in b k)) (entries_sound k (omega arith))
+      (sound_one (node_number h (layer_in b k) (index_in b k)) (hash_in b k) (number_range k (omega arith)).1 (hash_long k (omega arith)))
 
-  pub entries-from-root : (k : ℕ) → k ≤ p → FromRoot (entries_in h b k)
+  pub entries_from_root : (k : ℕ) → k ≤ p → FromRoot (entries_in h b k)
   unfolding entries_in
-  entries-from-root zero l = empty
-  entries-from-root (suc k) l =
-      from-root-append (entries_in h b k) (one (node_number h (layer_in b k) (index_in b k)) (hash_in b k)) (entries-from-root k (omega arith)) (next (number-range k (omega arith)).0 empty)
+  entries_from_root zero l = empty
+  entries_from_root (suc k) l =
+      from_root_append (entries_in h b k) (one (node_number h (layer_in b k) (index_in b k)) (hash_in b k)) (entries_from_root k (omega arith)) (next (number_range k (omega arith)).0 empty)
 
   -- an entry is a record
   pub record Of (k : ℕ) (e : Entry) : Type 0 where
@@ -56,13 +56,13 @@ module _ (h c : ℕ) (b : List ℕ) (p : ℕ) (G : places_good h b p ≡ true) (
     pub number : e.at ≡ node_number h (layer_in b j) (index_in b j)
     pub hash : e.hash ≡ hash_in b j
 
-  pub entries-are : (k : ℕ) (e : Entry) → In e (entries_in h b k) → Of k e
+  pub entries_are : (k : ℕ) (e : Entry) → In e (entries_in h b k) → Of k e
   unfolding entries_in
-  entries-are zero e i = absurd (Rattle.cells.specs.EntriesLaws.no-entry i)
-  entries-are (suc k) e i =
-      elim (in-cases (entries_in h b k) (one (node_number h (layer_in b k) (index_in b k)) (hash_in b k)) i) [
-        | inl x ↦ let w = entries-are k e x in record { j = w.j; low = omega (arith, w.low); number = w.number; hash = w.hash }
-        | inr x ↦ let w = one-is (node_number h (layer_in b k) (index_in b k)) (hash_in b k) x in record { j = k; low = omega arith; number = w.0; hash = w.1 }
+  entries_are zero e i = absurd (Rattle.cells.specs.EntriesLaws.no_entry i)
+  entries_are (suc k) e i =
+      elim (in_cases (entries_in h b k) (one (node_number h (layer_in b k) (index_in b k)) (hash_in b k)) i) [
+        | inl x ↦ let w = entries_are k e x in record { j = w.j; low = omega (arith, w.low); number = w.number; hash = w.hash }
+        | inr x ↦ let w = one_is (node_number h (layer_in b k) (index_in b k)) (hash_in b k) x in record { j = k; low = omega arith; number = w.0; hash = w.1 }
       ]
 
   -- and each record is an entry
@@ -77,35 +77,35 @@ module _ (h c : ℕ) (b : List ℕ) (p : ℕ) (G : places_good h b p ≡ true) (
 
   numbers_apart : (k j : ℕ) → k < p → j < p → node_number h (layer_in b k) (index_in b k) ≡ node_number h (layer_in b j) (index_in b j) → k ≡ j
   numbers_apart k j a d e =
-      let w = node-number-distinct h (layer_in b k) (index_in b k) (layer_in b j) (index_in b j) (at k a).low (at j d).low (at k a).inside (at j d).inside e in
-      one-record h c b p G k j a d (ap₂ (λ (x y : ℕ). Rattle.saved.specs.Form.rank h x y) w.0 w.1)
+      let w = node_number_distinct h (layer_in b k) (index_in b k) (layer_in b j) (index_in b j) (at k a).low (at j d).low (at k a).inside (at j d).inside e in
+      one_record h c b p G k j a d (ap₂ (λ (x y : ℕ). Rattle.saved.specs.Form.rank h x y) w.0 w.1)
 
-  pub entries-consistent : (e f : Entry) → In e (entries_in h b p) → In f (entries_in h b p) → e.at ≡ f.at → e.hash ≡ f.hash
-  entries-consistent e f i j q =
-      let x = entries-are p e i in
-      let y = entries-are p f j in
+  pub entries_consistent : (e f : Entry) → In e (entries_in h b p) → In f (entries_in h b p) → e.at ≡ f.at → e.hash ≡ f.hash
+  entries_consistent e f i j q =
+      let x = entries_are p e i in
+      let y = entries_are p f j in
       let z = numbers_apart x.j y.j x.low y.low (sym x.number ∙ q ∙ y.number) in
       x.hash ∙ ap (hash_in b) z ∙ sym y.hash
 
 pub put_next : (h : ℕ) (b s : List ℕ) (k : ℕ) → put_all s (entries_in h b (suc k)) ≡ put (put_all s (entries_in h b k)) (node_number h (layer_in b k) (index_in b k)) (hash_in b k)
 unfolding entries_in
 put_next h b s k =
-    put-append s (entries_in h b k) (one (node_number h (layer_in b k) (index_in b k)) (hash_in b k))
+    put_append s (entries_in h b k) (one (node_number h (layer_in b k) (index_in b k)) (hash_in b k))
     ∙ put_one (put_all s (entries_in h b k)) (node_number h (layer_in b k) (index_in b k)) (hash_in b k)
 
-pub put-none : (h : ℕ) (b s : List ℕ) → put_all s (entries_in h b 0) ≡ s
+pub put_none : (h : ℕ) (b s : List ℕ) → put_all s (entries_in h b 0) ≡ s
 unfolding entries_in put_all
-put-none h b s = refl
+put_none h b s = refl
 
 -- ---- the marks
 
-pub marks-set-none : (s b : List ℕ) (at : ℕ) → marks_set s b at 0 ≡ s
+pub marks_set_none : (s b : List ℕ) (at : ℕ) → marks_set s b at 0 ≡ s
 unfolding marks_set
-marks-set-none s b at = refl
+marks_set_none s b at = refl
 
-pub marks-set-next : (s b : List ℕ) (at k : ℕ) → marks_set s b at (suc k) ≡ marks_put (marks_set s b at k) (block_in b at k) 1 marked
+pub marks_set_next : (s b : List ℕ) (at k : ℕ) → marks_set s b at (suc k) ≡ marks_put (marks_set s b at k) (block_in b at k) 1 marked
 unfolding marks_set
-marks-set-next s b at k = refl
+marks_set_next s b at k = refl
 
 pub record StillSame (s t : List ℕ) : Type 0 where
   pub facts : Facts t
@@ -113,20 +113,20 @@ pub record StillSame (s t : List ℕ) : Type 0 where
   pub size : length t ≡ length s
 
 -- a block that the bytes name fits among the marks
-pub mark-fits : (s : List ℕ) → Facts s → (x : ℕ) → x < blocks_of s → x + 1 ≤ 2 ^ height_of s
-mark-fits s f x l = omega (arith, facts-leaves s f)
+pub mark_fits : (s : List ℕ) → Facts s → (x : ℕ) → x < blocks_of s → x + 1 ≤ 2 ^ height_of s
+mark_fits s f x l = omega (arith, facts_leaves s f)
 
-pub marks-set-same : (s b : List ℕ) (at m : ℕ) → Facts s → marks_good (blocks_of s) b at m ≡ true → (k : ℕ) → k ≤ m → StillSame s (marks_set s b at k)
-marks-set-same s b at m f g zero l =
-    rw (marks-set-none s b at) (record { facts = f; same = record { file = refl; piece = refl; root = refl; blocks = refl; layers = refl }; size = refl })
-marks-set-same s b at m f g (suc k) l =
-    let w = marks-set-same s b at m f g k (omega arith) in
-    let x = (mark-says (blocks_of s) b at k (mark-at (blocks_of s) b at m g k (omega arith))).inside in
-    let fits : block_in b at k + 1 ≤ 2 ^ height_of (marks_set s b at k) = mark-fits (marks_set s b at k) w.facts (block_in b at k) (rw w.same.blocks x) in
-    let e = marks-same-facts (marks_set s b at k) w.facts (block_in b at k) 1 marked fits in
-    rw (marks-set-next s b at k)
+pub marks_set_same : (s b : List ℕ) (at m : ℕ) → Facts s → marks_good (blocks_of s) b at m ≡ true → (k : ℕ) → k ≤ m → StillSame s (marks_set s b at k)
+marks_set_same s b at m f g zero l =
+    rw (marks_set_none s b at) (record { facts = f; same = record { file = refl; piece = refl; root = refl; blocks = refl; layers = refl }; size = refl })
+marks_set_same s b at m f g (suc k) l =
+    let w = marks_set_same s b at m f g k (omega arith) in
+    let x = (mark_says (blocks_of s) b at k (mark_at (blocks_of s) b at m g k (omega arith))).inside in
+    let fits : block_in b at k + 1 ≤ 2 ^ height_of (marks_set s b at k) = mark_fits (marks_set s b at k) w.facts (block_in b at k) (rw w.same.blocks x) in
+    let e = marks_same_facts (marks_set s b at k) w.facts (block_in b at k) 1 marked fits in
+    rw (marks_set_next s b at k)
     (record {
-      facts = marks-facts (marks_set s b at k) w.facts (block_in b at k) 1 marked fits;
+      facts = marks_facts (marks_set s b at k) w.facts (block_in b at k) 1 marked fits;
       same =
           record {
             file = e.file ∙ w.same.file;
@@ -135,7 +135,7 @@ marks-set-same s b at m f g (suc k) l =
             blocks = e.blocks ∙ w.same.blocks;
             layers = e.layers ∙ w.same.layers;
           };
-      size = marks-length (marks_set s b at k) w.facts (block_in b at k) 1 marked fits ∙ w.size;
+      size = marks_length (marks_set s b at k) w.facts (block_in b at k) 1 marked fits ∙ w.size;
     })
 
 -- ---- the store
@@ -147,9 +147,9 @@ pub record Opens (size : ℕ) (b : List ℕ) : Type 0 where
   pub range : facts_in_range (length_in b) (piece_length_in b) ≡ true
   pub room : store_size (length_in b) ≤ size
 
-pub opening-says : (size : ℕ) (b : List ℕ) → opening_number size b ≡ 0 → Opens size b
+pub opening_says : (size : ℕ) (b : List ℕ) → opening_number size b ≡ 0 → Opens size b
 unfolding opening_number opens
-opening-says size b z = by (leb 45 (length b) && eqb (get_or b 0 0) 1) (facts_in_range (length_in b) (piece_length_in b)) (leb (store_size (length_in b)) size) refl refl refl
+opening_says size b z = by (leb 45 (length b) && eqb (get_or b 0 0) 1) (facts_in_range (length_in b) (piece_length_in b)) (leb (store_size (length_in b)) size) refl refl refl
   where
     by : (x y w : Bool) → (leb 45 (length b) && eqb (get_or b 0 0) 1) ≡ x → facts_in_range (length_in b) (piece_length_in b) ≡ y → leb (store_size (length_in b)) size ≡ w → Opens size b
     by true true true p q r =
@@ -159,33 +159,33 @@ opening-says size b z = by (leb 45 (length b) && eqb (get_or b 0 0) 1) (facts_in
     by true false w p q r = let w : ⊥ = unfold opening_number opens in omega (arith, rw (p, q) at z) in absurd w
     by false y w p q r = let w : ⊥ = unfold opening_number opens in omega (arith, rw p at z) in absurd w
 
-pub root-long : (b : List ℕ) → 45 ≤ length b → length (root_in b) ≡ 32
+pub root_long : (b : List ℕ) → 45 ≤ length b → length (root_in b) ≡ 32
 unfolding root_in
-root-long b l = cut-length b 13 32 (omega arith)
+root_long b l = cut_length b 13 32 (omega arith)
 
 -- the buffer once opened, and with its positions held
 module _ (s b : List ℕ) (O : Opens (length s) b) (F : FormIn b) where
   unfoldable pub first : List ℕ
   first = opened s (length_in b) (piece_length_in b) (root_in b)
 
-  pub first-facts : Facts first
+  pub first_facts : Facts first
   unfolding first
-  first-facts = opened-facts s (length_in b) (piece_length_in b) (root_in b) O.range O.room (root-long b O.whole)
+  first_facts = opened_facts s (length_in b) (piece_length_in b) (root_in b) O.range O.room (root_long b O.whole)
 
-  pub first-height : height_of first ≡ height_in b
+  pub first_height : height_of first ≡ height_in b
   unfolding first
-  first-height = opened-height s (length_in b) (piece_length_in b) (root_in b) O.range O.room (root-long b O.whole)
+  first_height = opened_height s (length_in b) (piece_length_in b) (root_in b) O.range O.room (root_long b O.whole)
 
-  pub first-blocks : blocks_of first ≡ blocks_in b
+  pub first_blocks : blocks_of first ≡ blocks_in b
   unfolding first
-  first-blocks = opened-blocks s (length_in b) (piece_length_in b) (root_in b) O.range O.room (root-long b O.whole)
+  first_blocks = opened_blocks s (length_in b) (piece_length_in b) (root_in b) O.range O.room (root_long b O.whole)
 
-  pub first-length : length first ≡ length s
+  pub first_length : length first ≡ length s
   unfolding first
-  first-length = opened-length s (length_in b) (piece_length_in b) (root_in b) O.range O.room (root-long b O.whole)
+  first_length = opened_length s (length_in b) (piece_length_in b) (root_in b) O.range O.room (root_long b O.whole)
 
-  pub first-room : Room (positions (height_in b)) first
-  first-room = let e : positions (height_of first) ≡ positions (height_in b) = ap positions first-height in omega (arith, first-facts.room)
+  pub first_room : Room (positions (height_in b)) first
+  first_room = let e : positions (height_of first) ≡ positions (height_in b) = ap positions first_height in omega (arith, first_facts.room)
 
   long : 45 + 41 * place_count b ≤ length b
   long = omega (arith, F.size)
@@ -194,22 +194,22 @@ module _ (s b : List ℕ) (O : Opens (length s) b) (F : FormIn b) where
   second = put_all first (entries_in (height_in b) b (place_count b))
 
   sound : Sound (positions (height_of first)) (entries_in (height_in b) b (place_count b))
-  sound = rw first-height (entries-sound (height_in b) (blocks_in b) b (place_count b) F.places long (place_count b) (omega arith))
+  sound = rw first_height (entries_sound (height_in b) (blocks_in b) b (place_count b) F.places long (place_count b) (omega arith))
 
-  from-root : FromRoot (entries_in (height_in b) b (place_count b))
-  from-root = entries-from-root (height_in b) (blocks_in b) b (place_count b) F.places long (place_count b) (omega arith)
+  from_root : FromRoot (entries_in (height_in b) b (place_count b))
+  from_root = entries_from_root (height_in b) (blocks_in b) b (place_count b) F.places long (place_count b) (omega arith)
 
-  pub second-facts : Facts second
+  pub second_facts : Facts second
   unfolding second
-  second-facts = put_all-facts first first-facts (entries_in (height_in b) b (place_count b)) sound from-root
+  second_facts = put_all_facts first first_facts (entries_in (height_in b) b (place_count b)) sound from_root
 
-  pub second-same : SameFacts first second
+  pub second_same : SameFacts first second
   unfolding second
-  second-same = put_all-same-facts first first-facts (entries_in (height_in b) b (place_count b)) sound from-root
+  second_same = put_all_same_facts first first_facts (entries_in (height_in b) b (place_count b)) sound from_root
 
-  pub second-length : length second ≡ length s
+  pub second_length : length second ≡ length s
   unfolding second
-  second-length = put_all-length (positions (height_of first)) (entries_in (height_in b) b (place_count b)) first first-facts.room sound ∙ first-length
+  second_length = put_all_length (positions (height_of first)) (entries_in (height_in b) b (place_count b)) first first_facts.room sound ∙ first_length
 
-  pub second-marks : marks_good (blocks_of second) b (marks_from b) (mark_count b) ≡ true
-  second-marks = ap (λ (c : ℕ). marks_good c b (marks_from b) (mark_count b)) (second-same.blocks ∙ first-blocks) ∙ F.marks
+  pub second_marks : marks_good (blocks_of second) b (marks_from b) (mark_count b) ≡ true
+  second_marks = ap (λ (c : ℕ). marks_good c b (marks_from b) (mark_count b)) (second_same.blocks ∙ first_blocks) ∙ F.marks

@@ -5,7 +5,7 @@ use Rattle.std.specs.Prelude.{◌≡◌, true, ◌&&◌, List, ℕ, zero, suc, �
 use Rattle.std.proofs.Common.{ap, sym, ◌∙◌, arith, get_or-take, length-take-le, eqb-true, leb-true, ltb-true}
 use Rattle.std.proofs.Math.Decide.{ℕ_discrete, dec_lt}
 use Rattle.saved.specs.Form.{blocks_in, height_in, mark_count, place_count, block_in, sized, next_block, places_good, mark_good, marks_good, marks_from, formed}
-use Rattle.saved.proofs.SoundLaws.{place_at, place-says, both}
+use Rattle.saved.proofs.SoundLaws.{place_at, place_says, both}
 
 -- the kinds of the records, p positions and m marks
 pub record Kinds (b : List ℕ) (p m : ℕ) : Type 0 where
@@ -26,8 +26,8 @@ behind_places b p (suc m) K e =
     omega arith
 
 -- of two such strings that agree as far as the shorter goes none is shorter
-pub same-counts : (a b : List ℕ) (p m q n : ℕ) → Kinds a p m → Kinds b q n → length a ≤ length b → ((i : ℕ) → i < length a → get_or a i 0 ≡ get_or b i 0) → (p ≡ q) × (m ≡ n)
-same-counts a b p m q n A B l f = by (dec_lt p q) (dec_lt q p)
+pub same_counts : (a b : List ℕ) (p m q n : ℕ) → Kinds a p m → Kinds b q n → length a ≤ length b → ((i : ℕ) → i < length a → get_or a i 0 ≡ get_or b i 0) → (p ≡ q) × (m ≡ n)
+same_counts a b p m q n A B l f = by (dec_lt p q) (dec_lt q p)
   where
     sa : length a ≡ 50 + 41 * p + 5 * m
     sa = A.size
@@ -54,21 +54,21 @@ same-counts a b p m q n A B l f = by (dec_lt p q) (dec_lt q p)
 
 -- ---- of the form
 
-pub mark-at : (c : ℕ) (b : List ℕ) (at m : ℕ) → marks_good c b at m ≡ true → (k : ℕ) → k < m → mark_good c b at k ≡ true
+pub mark_at : (c : ℕ) (b : List ℕ) (at m : ℕ) → marks_good c b at m ≡ true → (k : ℕ) → k < m → mark_good c b at k ≡ true
 unfolding marks_good
-mark-at c b at zero g k l = absurd (omega arith)
-mark-at c b at (suc m) g k l =
+mark_at c b at zero g k l = absurd (omega arith)
+mark_at c b at (suc m) g k l =
     let w = both (marks_good c b at m) (mark_good c b at m) g in
-    elim (ℕ_discrete k m) [ yes e ↦ rw e w.1 | no ne ↦ mark-at c b at m w.0 k (omega arith) ]
+    elim (ℕ_discrete k m) [ yes e ↦ rw e w.1 | no ne ↦ mark_at c b at m w.0 k (omega arith) ]
 
 pub record MarkIn (c : ℕ) (b : List ℕ) (at k : ℕ) : Type 0 where
   pub kind : get_or b (at + 5 * k) 0 ≡ 3
   pub inside : block_in b at k < c
   pub from : next_block b at k ≤ block_in b at k
 
-pub mark-says : (c : ℕ) (b : List ℕ) (at k : ℕ) → mark_good c b at k ≡ true → MarkIn c b at k
+pub mark_says : (c : ℕ) (b : List ℕ) (at k : ℕ) → mark_good c b at k ≡ true → MarkIn c b at k
 unfolding mark_good
-mark-says c b at k g =
+mark_says c b at k g =
     let a = both (eqb (get_or b (at + 5 * k) 0) 3 && ltb (block_in b at k) c) (leb (next_block b at k) (block_in b at k)) g in
     let d = both (eqb (get_or b (at + 5 * k) 0) 3) (ltb (block_in b at k) c) a.0 in
     record { kind = eqb-true (get_or b (at + 5 * k) 0) 3 d.0; inside = ltb-true (block_in b at k) c d.1; from = leb-true (next_block b at k) (block_in b at k) a.1 }
@@ -79,9 +79,9 @@ pub record FormIn (b : List ℕ) : Type 0 where
   pub places : places_good (height_in b) b (place_count b) ≡ true
   pub marks : marks_good (blocks_in b) b (marks_from b) (mark_count b) ≡ true
 
-pub form-says : (b : List ℕ) → formed b ≡ true → FormIn b
+pub form_says : (b : List ℕ) → formed b ≡ true → FormIn b
 unfolding formed sized
-form-says b g =
+form_says b g =
     let s = leb 50 (length b) && eqb (get_or b (length b - 5) 0) 4 && eqb (50 + 41 * place_count b + 5 * mark_count b) (length b) in
     let x = both (s && places_good (height_in b) b (place_count b)) (marks_good (blocks_in b) b (marks_from b) (mark_count b)) g in
     let y = both s (places_good (height_in b) b (place_count b)) x.0 in
@@ -94,22 +94,22 @@ form-says b g =
       marks = x.1;
     }
 
-pub form-kinds : (b : List ℕ) → FormIn b → Kinds b (place_count b) (mark_count b)
-form-kinds b F =
+pub form_kinds : (b : List ℕ) → FormIn b → Kinds b (place_count b) (mark_count b)
+form_kinds b F =
     record {
-      places = λ k l. (place-says (height_in b) b k (place_at (height_in b) b (place_count b) F.places k l)).kind;
-      marks = λ k l. (mark-says (blocks_in b) b (marks_from b) k (mark-at (blocks_in b) b (marks_from b) (mark_count b) F.marks k l)).kind;
+      places = λ k l. (place_says (height_in b) b k (place_at (height_in b) b (place_count b) F.places k l)).kind;
+      marks = λ k l. (mark_says (blocks_in b) b (marks_from b) k (mark_at (blocks_in b) b (marks_from b) (mark_count b) F.marks k l)).kind;
       end = let e : 45 + 41 * place_count b + 5 * mark_count b ≡ length b - 5 = omega (arith, F.size) in ap (λ (i : ℕ). get_or b i 0) e ∙ F.end;
       size = F.size;
     }
 
 -- A SAVE THAT WAS CUT SHORT has not the form
-pub cut-short-not-formed : (b : List ℕ) (k : ℕ) → formed b ≡ true → k < length b → formed (take k b) ≡ true → ⊥
-cut-short-not-formed b k g l g2 =
+pub cut_short_not_formed : (b : List ℕ) (k : ℕ) → formed b ≡ true → k < length b → formed (take k b) ≡ true → ⊥
+cut_short_not_formed b k g l g2 =
     let t = take k b in
     let n : length (take k b) ≡ k = length-take-le k b (omega arith) in
-    let F = form-says b g in
-    let T = form-says (take k b) g2 in
-    let w = same-counts (take k b) b (place_count (take k b)) (mark_count (take k b)) (place_count b) (mark_count b) (form-kinds (take k b) T) (form-kinds b F) (omega arith)
+    let F = form_says b g in
+    let T = form_says (take k b) g2 in
+    let w = same_counts (take k b) b (place_count (take k b)) (mark_count (take k b)) (place_count b) (mark_count b) (form_kinds (take k b) T) (form_kinds b F) (omega arith)
     (λ i a. get_or-take k b i 0 (omega arith)) in
     omega (arith, F.size, T.size, w.0, w.1)

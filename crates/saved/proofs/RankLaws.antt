@@ -4,57 +4,57 @@ use Rattle.std.specs.Prelude.{◌≡◌, refl, List, ℕ, suc, ◌+◌, ◌-◌,
 use Rattle.std.proofs.Common.{ap, sym, ◌∙◌, arith, pow_pos, pow_mono}
 use Rattle.std.proofs.Math.Nat.{pow-succ', pow-zero}
 use Rattle.std.proofs.Math.Decide.{dec_lt}
-use Rattle.tree.proofs.GeometryLaws.{layer-doubles}
+use Rattle.tree.proofs.GeometryLaws.{layer_doubles}
 use Rattle.saved.specs.Form.{rank, rank_in, next_rank}
 
-pub width-most : (h l : ℕ) → 2 ^ (h - l) ≤ 2 ^ h
-width-most h l = pow_mono (omega arith)
+pub width_most : (h l : ℕ) → 2 ^ (h - l) ≤ 2 ^ h
+width_most h l = pow_mono (omega arith)
 
 -- no rank is above the root's, 2·2^h - 2
 pub rank_most : (h l i : ℕ) → i < 2 ^ (h - l) → rank h l i + 2 ≤ 2 * 2 ^ h
 unfolding rank
-rank_most h l i b = omega (arith, width-most h l, pow_pos (h - l))
+rank_most h l i b = omega (arith, width_most h l, pow_pos (h - l))
 
-pub rank-root : (h : ℕ) → rank h h 0 + 2 ≡ 2 * 2 ^ h
+pub rank_root : (h : ℕ) → rank h h 0 + 2 ≡ 2 * 2 ^ h
 unfolding rank
-rank-root h = let e : 2 ^ (h - h) ≡ 1 = let z : h - h ≡ 0 = omega arith in rw (z, pow-zero 2) in omega (arith, pow_pos h)
+rank_root h = let e : 2 ^ (h - h) ≡ 1 = let z : h - h ≡ 0 = omega arith in rw (z, pow-zero 2) in omega (arith, pow_pos h)
 
 -- a left child below the root has two numbers less, at least
 pub rank_below : (h l i : ℕ) → l < h → i < 2 ^ (h - l) → i % 2 ≡ 0 → rank h l i + 4 ≤ 2 * 2 ^ h
 unfolding rank
-rank_below h l i lt b z = omega (arith, width-most h l, layer-doubles h l lt, pow_pos (h - suc l))
+rank_below h l i lt b z = omega (arith, width_most h l, layer_doubles h l lt, pow_pos (h - suc l))
 
 -- the parent's rank
-pub rank-parent : (h l i : ℕ) → l < h → rank h l (2 * i) + 2 * 2 ^ h ≡ 2 * rank h (suc l) i
+pub rank_parent : (h l i : ℕ) → l < h → rank h l (2 * i) + 2 * 2 ^ h ≡ 2 * rank h (suc l) i
 unfolding rank
-rank-parent h l i lt = omega (arith, width-most h l, layer-doubles h l lt)
+rank_parent h l i lt = omega (arith, width_most h l, layer_doubles h l lt)
 
-pub rank-next : (h l i : ℕ) → rank h l (i + 1) ≡ rank h l i + 1
+pub rank_next : (h l i : ℕ) → rank h l (i + 1) ≡ rank h l i + 1
 unfolding rank
-rank-next h l i = omega arith
+rank_next h l i = omega arith
 
-pub rank-parity : (h l i : ℕ) → rank h l i % 2 ≡ i % 2
+pub rank_parity : (h l i : ℕ) → rank h l i % 2 ≡ i % 2
 unfolding rank
-rank-parity h l i = omega (arith, width-most h l)
+rank_parity h l i = omega (arith, width_most h l)
 
 -- it rises by layer,
-pub rank-layer : (h l i m j : ℕ) → m ≤ h → l < m → i < 2 ^ (h - l) → rank h l i < rank h m j
+pub rank_layer : (h l i m j : ℕ) → m ≤ h → l < m → i < 2 ^ (h - l) → rank h l i < rank h m j
 unfolding rank
-rank-layer h l i m j mh lt b =
+rank_layer h l i m j mh lt b =
     let g : 2 ^ suc (h - m) ≤ 2 ^ (h - l) = pow_mono (omega arith) in
-    omega (arith, width-most h l, width-most h m, pow-succ' 2 (h - m))
+    omega (arith, width_most h l, width_most h m, pow-succ' 2 (h - m))
 
 rank_same : (h l i j : ℕ) → rank h l i ≡ rank h l j → i ≡ j
 unfolding rank
 rank_same h l i j e = omega arith
 
 -- two positions of one rank are one position
-pub rank-distinct : (h l i m j : ℕ) → l ≤ h → m ≤ h → i < 2 ^ (h - l) → j < 2 ^ (h - m) → rank h l i ≡ rank h m j → (l ≡ m) × (i ≡ j)
-rank-distinct h l i m j lh mh ib jb e =
+pub rank_distinct : (h l i m j : ℕ) → l ≤ h → m ≤ h → i < 2 ^ (h - l) → j < 2 ^ (h - m) → rank h l i ≡ rank h m j → (l ≡ m) × (i ≡ j)
+rank_distinct h l i m j lh mh ib jb e =
     elim (dec_lt l m) [
-      | yes y ↦ absurd (omega (arith, rank-layer h l i m j mh y ib))
+      | yes y ↦ absurd (omega (arith, rank_layer h l i m j mh y ib))
       | no n ↦ elim (dec_lt m l) [
-        | yes y ↦ absurd (omega (arith, rank-layer h m j l i lh y jb))
+        | yes y ↦ absurd (omega (arith, rank_layer h m j l i lh y jb))
         | no k ↦
             let q : l ≡ m = omega arith in
             let e2 : rank h m i ≡ rank h m j = ap (λ (x : ℕ). rank h x i) (sym q) ∙ e in
@@ -63,6 +63,6 @@ rank-distinct h l i m j lh mh ib jb e =
     ]
 
 -- behind a record the rank is above its own
-pub rank-after : (h : ℕ) (b : List ℕ) (k : ℕ) → next_rank h b (suc k) ≡ suc (rank_in h b k)
+pub rank_after : (h : ℕ) (b : List ℕ) (k : ℕ) → next_rank h b (suc k) ≡ suc (rank_in h b k)
 unfolding next_rank
-rank-after h b k = refl
+rank_after h b k = refl

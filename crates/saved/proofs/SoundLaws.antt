@@ -6,35 +6,35 @@ use Rattle.std.proofs.Math.Bool.{and-eq-true_iff}
 use Rattle.std.proofs.Math.Decide.{ℕ_discrete, dec_lt}
 use borrow.Author.Tests.{eq-eqb, eqb-true, lt-ltb, ltb-true, le-ltb, leb-true}
 use Rattle.octets.specs.Octets.{same}
-use Rattle.octets.specs.OctetsLaws.{same_true, same-eq}
+use Rattle.octets.specs.OctetsLaws.{same_true, same_eq}
 use Rattle.sha256.specs.Sha256.{pair_hash}
 use Rattle.tree.specs.Geometry.{Padding, covering}
-use Rattle.tree.proofs.GeometryLaws.{covering-until-padding, padding-from-covering}
+use Rattle.tree.proofs.GeometryLaws.{covering_until_padding, padding_from_covering}
 use Rattle.tree.specs.Values.{pad_value}
 use Rattle.store.specs.Store.{in_tree}
-use Rattle.store.specs.StoreLaws.{tree-says}
+use Rattle.store.specs.StoreLaws.{tree_says}
 use Rattle.saved.specs.Clauses.{InTree}
-use Rattle.saved.proofs.ClausesLaws.{root-alone}
+use Rattle.saved.proofs.ClausesLaws.{root_alone}
 use Rattle.saved.specs.Form.{layer_in, index_in, hash_in, rank, rank_in, next_rank, place_good, places_good, Placed, blocks_in, height_in, formed}
 use Rattle.saved.specs.Saved.{pad_right, children_of, made_by, family_at, root_right, chained, sound, rooted}
-use Rattle.saved.proofs.RankLaws.{rank_most, rank-root, rank-distinct, rank-after}
+use Rattle.saved.proofs.RankLaws.{rank_most, rank_root, rank_distinct, rank_after}
 
 -- ---- what the tests say
 
 pub both : (x y : Bool) → (x && y) ≡ true → (x ≡ true) × (y ≡ true)
 both x y e = (and-eq-true_iff x y).0 e
 
-pub and-two : (x y : Bool) → x ≡ true → y ≡ true → (x && y) ≡ true
-and-two x y e f = (and-eq-true_iff x y).1 (e, f)
+pub and_two : (x y : Bool) → x ≡ true → y ≡ true → (x && y) ≡ true
+and_two x y e f = (and-eq-true_iff x y).1 (e, f)
 
 -- sound bytes have the form, and so have those whose root is right
-pub sound-formed : (b : List ℕ) → sound b ≡ true → formed b ≡ true
+pub sound_formed : (b : List ℕ) → sound b ≡ true → formed b ≡ true
 unfolding sound
-sound-formed b g = (both (formed b) (root_right (height_in b) b) (both (formed b && root_right (height_in b) b) (chained (height_in b) (blocks_in b) b) g).0).0
+sound_formed b g = (both (formed b) (root_right (height_in b) b) (both (formed b && root_right (height_in b) b) (chained (height_in b) (blocks_in b) b) g).0).0
 
-pub rooted-formed : (b : List ℕ) → rooted b ≡ true → formed b ≡ true
+pub rooted_formed : (b : List ℕ) → rooted b ≡ true → formed b ≡ true
 unfolding rooted
-rooted-formed b g = (both (formed b) (root_right (height_in b) b) g).0
+rooted_formed b g = (both (formed b) (root_right (height_in b) b) g).0
 
 pub place_at : (h : ℕ) (b : List ℕ) (p : ℕ) → places_good h b p ≡ true → (k : ℕ) → k < p → place_good h b k ≡ true
 unfolding places_good
@@ -49,12 +49,12 @@ pub record PlaceIn (h : ℕ) (b : List ℕ) (k : ℕ) : Type 0 where
   pub inside : index_in b k < 2 ^ (h - layer_in b k)
   pub from : next_rank h b k ≤ rank_in h b k
 
-pub place-says : (h : ℕ) (b : List ℕ) (k : ℕ) → place_good h b k ≡ true → PlaceIn h b k
+pub place_says : (h : ℕ) (b : List ℕ) (k : ℕ) → place_good h b k ≡ true → PlaceIn h b k
 unfolding place_good
-place-says h b k g =
+place_says h b k g =
     let a = both (eqb (get_or b (45 + 41 * k) 0) 2 && in_tree h (layer_in b k) (index_in b k)) (leb (next_rank h b k) (rank_in h b k)) g in
     let c = both (eqb (get_or b (45 + 41 * k) 0) 2) (in_tree h (layer_in b k) (index_in b k)) a.0 in
-    let t = tree-says h (layer_in b k) (index_in b k) c.1 in
+    let t = tree_says h (layer_in b k) (index_in b k) c.1 in
     record {
       kind = eqb-true (get_or b (45 + 41 * k) 0) 2 c.0;
       low = t.0;
@@ -62,22 +62,22 @@ place-says h b k g =
       from = leb-true (next_rank h b k) (rank_in h b k) a.1;
     }
 
-pub pad-says : (c : ℕ) (b : List ℕ) (k : ℕ) → pad_right c b k ≡ true → Padding c (layer_in b k) (index_in b k) → hash_in b k ≡ pad_value (layer_in b k)
+pub pad_says : (c : ℕ) (b : List ℕ) (k : ℕ) → pad_right c b k ≡ true → Padding c (layer_in b k) (index_in b k) → hash_in b k ≡ pad_value (layer_in b k)
 unfolding pad_right
-pad-says c b k g pd =
-    let e = le-ltb (index_in b k) (covering c (layer_in b k)) (covering-until-padding c (layer_in b k) (index_in b k) pd) in
+pad_says c b k g pd =
+    let e = le-ltb (index_in b k) (covering c (layer_in b k)) (covering_until_padding c (layer_in b k) (index_in b k) pd) in
     let w : same (hash_in b k) (pad_value (layer_in b k)) ≡ true = rw e at g in
     same_true (hash_in b k) (pad_value (layer_in b k)) w
 
-pub pad-from : (c : ℕ) (b : List ℕ) (k : ℕ) → (Padding c (layer_in b k) (index_in b k) → hash_in b k ≡ pad_value (layer_in b k)) → pad_right c b k ≡ true
+pub pad_from : (c : ℕ) (b : List ℕ) (k : ℕ) → (Padding c (layer_in b k) (index_in b k) → hash_in b k ≡ pad_value (layer_in b k)) → pad_right c b k ≡ true
 unfolding pad_right
-pad-from c b k f =
+pad_from c b k f =
     elim (dec_lt (index_in b k) (covering c (layer_in b k))) [
       | yes l ↦ rw (lt-ltb (index_in b k) (covering c (layer_in b k)) l)
       | no n ↦
           let le : covering c (layer_in b k) ≤ index_in b k = omega arith in
           rw (le-ltb (index_in b k) (covering c (layer_in b k)) le)
-          (same-eq (hash_in b k) (pad_value (layer_in b k)) (f (padding-from-covering c (layer_in b k) (index_in b k) le)))
+          (same_eq (hash_in b k) (pad_value (layer_in b k)) (f (padding_from_covering c (layer_in b k) (index_in b k) le)))
     ]
 
 pub record FamilyIn (h c : ℕ) (b : List ℕ) (k j : ℕ) : Type 0 where
@@ -89,24 +89,24 @@ pub record FamilyIn (h c : ℕ) (b : List ℕ) (k j : ℕ) : Type 0 where
   pub made : pair_hash (hash_in b k) (hash_in b (k + 1)) ≡ hash_in b j
 
 module _ (h c : ℕ) (b : List ℕ) (k j : ℕ) where
-  children-says : children_of h b k j ≡ true → (rank_in h b k + 2 * 2 ^ h ≡ 2 * rank_in h b j) × (rank_in h b (k + 1) ≡ rank_in h b k + 1)
+  children_says : children_of h b k j ≡ true → (rank_in h b k + 2 * 2 ^ h ≡ 2 * rank_in h b j) × (rank_in h b (k + 1) ≡ rank_in h b k + 1)
   unfolding children_of
-  children-says g =
+  children_says g =
       let e = both (eqb (rank_in h b k + 2 * 2 ^ h) (2 * rank_in h b j)) (eqb (rank_in h b (k + 1)) (rank_in h b k + 1)) g in
       (eqb-true (rank_in h b k + 2 * 2 ^ h) (2 * rank_in h b j) e.0, eqb-true (rank_in h b (k + 1)) (rank_in h b k + 1) e.1)
 
-  children-from : rank_in h b k + 2 * 2 ^ h ≡ 2 * rank_in h b j → rank_in h b (k + 1) ≡ rank_in h b k + 1 → children_of h b k j ≡ true
+  children_from : rank_in h b k + 2 * 2 ^ h ≡ 2 * rank_in h b j → rank_in h b (k + 1) ≡ rank_in h b k + 1 → children_of h b k j ≡ true
   unfolding children_of
-  children-from e f = and-two _ _ (eq-eqb (rank_in h b k + 2 * 2 ^ h) (2 * rank_in h b j) e) (eq-eqb (rank_in h b (k + 1)) (rank_in h b k + 1) f)
+  children_from e f = and_two _ _ (eq-eqb (rank_in h b k + 2 * 2 ^ h) (2 * rank_in h b j) e) (eq-eqb (rank_in h b (k + 1)) (rank_in h b k + 1) f)
 
-  pub family-says : family_at h c b k j ≡ true → FamilyIn h c b k j
+  pub family_says : family_at h c b k j ≡ true → FamilyIn h c b k j
   unfolding family_at made_by
-  family-says g =
+  family_says g =
       let a = both (ltb (k + 1) j && children_of h b k j && (pad_right c b k && pad_right c b (k + 1))) (same (pair_hash (hash_in b k) (hash_in b (k + 1))) (hash_in b j)) g in
       let d = both (ltb (k + 1) j && children_of h b k j) (pad_right c b k && pad_right c b (k + 1)) a.0 in
       let e = both (ltb (k + 1) j) (children_of h b k j) d.0 in
       let p = both (pad_right c b k) (pad_right c b (k + 1)) d.1 in
-      let q = children-says e.1 in
+      let q = children_says e.1 in
       record {
         before = ltb-true (k + 1) j e.0;
         parent = q.0;
@@ -116,45 +116,45 @@ module _ (h c : ℕ) (b : List ℕ) (k j : ℕ) where
         made = same_true (pair_hash (hash_in b k) (hash_in b (k + 1))) (hash_in b j) a.1;
       }
 
-  pub family-from : FamilyIn h c b k j → family_at h c b k j ≡ true
+  pub family_from : FamilyIn h c b k j → family_at h c b k j ≡ true
   unfolding family_at made_by
-  family-from F =
-      let s = same-eq (pair_hash (hash_in b k) (hash_in b (k + 1))) (hash_in b j) F.made in
+  family_from F =
+      let s = same_eq (pair_hash (hash_in b k) (hash_in b (k + 1))) (hash_in b j) F.made in
       let l = lt-ltb (k + 1) j F.before in
-      and-two _ _ (and-two _ _ (and-two _ _ l (children-from F.parent F.beside)) (and-two _ _ F.left_pads F.right_pads)) s
+      and_two _ _ (and_two _ _ (and_two _ _ l (children_from F.parent F.beside)) (and_two _ _ F.left_pads F.right_pads)) s
 
 -- the first position of a layer is no padding
-pub first-not-padding : (c l i : ℕ) → 1 ≤ c → i ≡ 0 → Padding c l i → ⊥
+pub first_not_padding : (c l i : ℕ) → 1 ≤ c → i ≡ 0 → Padding c l i → ⊥
 unfolding Padding
-first-not-padding c l i some z pd = let w : i * 2 ^ l ≡ 0 = rw z (omega arith) in omega arith
+first_not_padding c l i some z pd = let w : i * 2 ^ l ≡ 0 = rw z (omega arith) in omega arith
 
 -- ---- positions that rise
 
 module _ (h c : ℕ) (b : List ℕ) (p : ℕ) (G : places_good h b p ≡ true) where
   at : (k : ℕ) → k < p → PlaceIn h b k
-  at k l = place-says h b k (place_at h b p G k l)
+  at k l = place_says h b k (place_at h b p G k l)
 
   pub rises : (k m : ℕ) → k < m → m < p → rank_in h b k < rank_in h b m
   rises k zero lt l = absurd (omega arith)
   rises k (suc m) lt l =
       let f = (at (suc m) l).from in
-      let e = rank-after h b m in
+      let e = rank_after h b m in
       elim (ℕ_discrete k m) [
         | yes q ↦ let w : rank_in h b k ≡ rank_in h b m = ap (rank_in h b) q in omega arith
         | no ne ↦ omega (arith, rises k m (omega arith) (omega arith))
       ]
 
   -- two records of one rank are one record
-  pub one-record : (k m : ℕ) → k < p → m < p → rank_in h b k ≡ rank_in h b m → k ≡ m
-  one-record k m a d e =
+  pub one_record : (k m : ℕ) → k < p → m < p → rank_in h b k ≡ rank_in h b m → k ≡ m
+  one_record k m a d e =
       elim (dec_lt k m) [
         | yes y ↦ absurd (omega (arith, rises k m y d))
         | no n ↦ elim (dec_lt m k) [ yes y ↦ absurd (omega (arith, rises m k y a)) | no x ↦ omega arith ]
       ]
 
   -- two of neighbouring ranks are neighbours
-  pub next-record : (k m : ℕ) → k < p → m < p → rank_in h b m ≡ rank_in h b k + 1 → m ≡ k + 1
-  next-record k m a d e =
+  pub next_record : (k m : ℕ) → k < p → m < p → rank_in h b m ≡ rank_in h b k + 1 → m ≡ k + 1
+  next_record k m a d e =
       elim (dec_lt k m) [
         | yes y ↦ elim (ℕ_discrete m (k + 1)) [
           | yes q ↦ q
@@ -167,21 +167,21 @@ module _ (h c : ℕ) (b : List ℕ) (p : ℕ) (G : places_good h b p ≡ true) w
       ]
 
   -- a record's rank says its layer and index
-  pub record-at : (k l i : ℕ) → k < p → l ≤ h → i < 2 ^ (h - l) → rank_in h b k ≡ rank h l i → (layer_in b k ≡ l) × (index_in b k ≡ i)
-  record-at k l i a lh ib e = rank-distinct h (layer_in b k) (index_in b k) l i (at k a).low lh (at k a).inside ib e
+  pub record_at : (k l i : ℕ) → k < p → l ≤ h → i < 2 ^ (h - l) → rank_in h b k ≡ rank h l i → (layer_in b k ≡ l) × (index_in b k ≡ i)
+  record_at k l i a lh ib e = rank_distinct h (layer_in b k) (index_in b k) l i (at k a).low lh (at k a).inside ib e
 
-  rank-of : (k l i : ℕ) → layer_in b k ≡ l → index_in b k ≡ i → rank_in h b k ≡ rank h l i
-  rank-of k l i e f = ap₂ (λ (x y : ℕ). rank h x y) e f
+  rank_of : (k l i : ℕ) → layer_in b k ≡ l → index_in b k ≡ i → rank_in h b k ≡ rank h l i
+  rank_of k l i e f = ap₂ (λ (x y : ℕ). rank h x y) e f
 
   -- each position stands in the tree, with one hash
-  pub placed-in-tree : InTree h (Placed b p)
-  placed-in-tree =
+  pub placed_in_tree : InTree h (Placed b p)
+  placed_in_tree =
       record {
         low = λ l i v x. rw x.layer at (at x.k x.low).low;
         inside = λ l i v x. rw (x.layer, x.index) at (at x.k x.low).inside;
         one =
             λ l i v w x y.
-            let e = one-record x.k y.k x.low y.low (rank-of x.k l i x.layer x.index ∙ sym (rank-of y.k l i y.layer y.index)) in
+            let e = one_record x.k y.k x.low y.low (rank_of x.k l i x.layer x.index ∙ sym (rank_of y.k l i y.layer y.index)) in
             sym x.hash ∙ ap (hash_in b) e ∙ y.hash;
       }
 
@@ -193,8 +193,8 @@ module _ (h c : ℕ) (b : List ℕ) (p : ℕ) (G : places_good h b p ≡ true) w
         | yes y ↦ y
         | no n ↦
             let e : layer_in b k ≡ h = omega (arith, a.low) in
-            let z : index_in b k ≡ 0 = root-alone h (index_in b k) (rw e at a.inside) in
+            let z : index_in b k ≡ 0 = root_alone h (index_in b k) (rw e at a.inside) in
             let r : rank_in h b k ≡ rank h h 0 = ap₂ (λ (u w : ℕ). rank h u w) e z in
             let last = at (p - 1) (omega arith) in
-            absurd (omega (arith, rank-root h, rises k (p - 1) (omega arith) (omega arith), rank_most h (layer_in b (p - 1)) (index_in b (p - 1)) last.inside))
+            absurd (omega (arith, rank_root h, rises k (p - 1) (omega arith) (omega arith), rank_most h (layer_in b (p - 1)) (index_in b (p - 1)) last.inside))
       ]

@@ -11,19 +11,19 @@ use lib.ListN.{length, length-append}
 use lib.Pow.{pow_mono, shl_exact}
 use borrow.Author.Tests.{ne_eqb}
 use Rattle.octets.specs.Octets.{pasted}
-use Rattle.octets.specs.OctetsLaws.{cut-length, pasted-append}
+use Rattle.octets.specs.OctetsLaws.{cut_length, pasted_append}
 use Rattle.numbers.specs.Numbers.{refused, done, unusable, no_message, no_room, not_held}
 use Rattle.numbers.specs.declared.Answer.{Answer}
 use Rattle.limits.specs.Limits.{tallest_tree}
 use Rattle.store.specs.Store.{Facts}
-use Rattle.store.specs.StoreLaws.{usable-facts}
+use Rattle.store.specs.StoreLaws.{usable_facts}
 use Rattle.header.specs.declared.Place.{Place}
 use Rattle.header.specs.Header.{header_size, header_bytes, hashes_id, reject_id, is_request}
 use Rattle.messages.specs.Take.{header_number, place_in}
-use Rattle.messages.specs.TakeLaws.{passed, request-form}
+use Rattle.messages.specs.TakeLaws.{passed, request_form}
 use Rattle.serve.specs.Serve.{held_run, held_uncles, run_hashes, uncle_hashes, all_held, all_hashes, reply_to, reject_to, request_number, serve_answer, serve_after}
 use Rattle.serve.specs.Asks.{Reach, fit_answer, fit_after}
-use Rattle.serve.specs.ServeLaws.{run-hashes-length, uncle-hashes-length, fits-sent, fits_not, served-none, served-reply, served-reject, answered-form, request-size, request-reach, reply-length, reject-length}
+use Rattle.serve.specs.ServeLaws.{run_hashes_length, uncle_hashes_length, fits_sent, fits_not, served_none, served_reply, served_reject, answered_form, request_size, request_reach, reply_length, reject_length}
 
 -- a power of two as it is shifted
 pub count_of : (k : ℕ) → k ≤ tallest_tree → ((1 * 2 ^ k) % 18446744073709551616 ≡ 2 ^ k) × ((1 * 2 ^ k) % 18446744073709551616 ≤ 2 ^ tallest_tree)
@@ -34,34 +34,34 @@ count_of k l =
 
 -- ---- the place of a request
 
-pub form-long : (m : List ℕ) (t : Bool) → t ≡ is_request m → t ≡ true → header_size ≤ length m
-form-long m t e f = omega (arith, request-form m (sym e ∙ f))
+pub form_long : (m : List ℕ) (t : Bool) → t ≡ is_request m → t ≡ true → header_size ≤ length m
+form_long m t e f = omega (arith, request_form m (sym e ∙ f))
 
 module _ (s m : List ℕ) (e : header_number (is_request m) s m ≡ 0) where
   facts : Facts s
-  facts = usable-facts s (passed (is_request m) s m e).store
+  facts = usable_facts s (passed (is_request m) s m e).store
 
-  pub passed-long : (64 ≤ length s) × (header_size ≤ length m)
-  passed-long = (facts.long, omega (arith, request-size s m e))
+  pub passed_long : (64 ≤ length s) × (header_size ≤ length m)
+  passed_long = (facts.long, omega (arith, request_size s m e))
 
   -- its place is in the tree, and the store has its cells
-  pub place-reach : (p : Place) → p ≡ place_in s m → Reach (length s) p
-  place-reach p q = rw q (request-reach s m e)
+  pub place_reach : (p : Place) → p ≡ place_in s m → Reach (length s) p
+  place_reach p q = rw q (request_reach s m e)
 
 -- ---- looking at a place
 
 module _ (ls : ℕ) (p : Place) (r : Reach ls p) (c : ℕ) (e : c ≡ 2 ^ p.k) where
-  pub run-cells : 31 + 33 * (p.top * c + c) ≤ ls
-  run-cells = rw e r.run
+  pub run_cells : 31 + 33 * (p.top * c + c) ≤ ls
+  run_cells = rw e r.run
 
 module _ (s : List ℕ) (p : Place) (c : ℕ) (e : c ≡ 2 ^ p.k) (t : Bool) (h : t ≡ held_run s (p.top * c) c) where
   pub held_both : (v : Bool) → t ≡ true → v ≡ held_uncles s p.u p.top → v ≡ all_held s p
   unfolding all_held
   held_both v y f = f ∙ sym (rw (← e, ← h, y))
 
-  pub held-not : t ≡ false → false ≡ all_held s p
+  pub held_not : t ≡ false → false ≡ all_held s p
   unfolding all_held
-  held-not n = sym (rw (← e, ← h, n))
+  held_not n = sym (rw (← e, ← h, n))
 
 -- ---- a request's number
 
@@ -69,9 +69,9 @@ module _ (s m : List ℕ) (t : Bool) (n : ℕ) (a : t ≡ is_request m) (b : n �
   number_is : n ≡ header_number (is_request m) s m
   number_is = b ∙ ap (λ (x : Bool). header_number x s m) a
 
-  pub number-refused : (n ≡ 0 → ⊥) → n ≡ request_number s m
+  pub number_refused : (n ≡ 0 → ⊥) → n ≡ request_number s m
   unfolding request_number
-  number-refused ne = sym (rw (← number_is, ne_eqb n 0 ne))
+  number_refused ne = sym (rw (← number_is, ne_eqb n 0 ne))
 
   module _ (z : n ≡ 0) where
     pub number_passed : header_number (is_request m) s m ≡ 0
@@ -81,23 +81,23 @@ module _ (s m : List ℕ) (t : Bool) (n : ℕ) (a : t ≡ is_request m) (b : n �
       looked : all_held s (place_in s m) ≡ v
       looked = cc
 
-      pub number-held : v ≡ true → 0 ≡ request_number s m
+      pub number_held : v ≡ true → 0 ≡ request_number s m
       unfolding request_number
-      number-held y = sym (rw (number_passed, looked, y))
+      number_held y = sym (rw (number_passed, looked, y))
 
-      pub number-not-held : v ≡ false → not_held ≡ request_number s m
+      pub number_not_held : v ≡ false → not_held ≡ request_number s m
       unfolding request_number
-      number-not-held y = sym (rw (number_passed, looked, y))
+      number_not_held y = sym (rw (number_passed, looked, y))
 
 -- ---- sending
 
 module _ (s m out : List ℕ) (e : header_number (is_request m) s m ≡ 0) (p : Place) (f : p ≡ place_in s m) (c : ℕ) (g : c ≡ 2 ^ p.k) where
   size_is : header_size + 32 * c + 32 * p.u ≡ length (reply_to s m)
-  size_is = rw (g, f) (sym (reply-length s m e))
+  size_is = rw (g, f) (sym (reply_length s m e))
 
-  pub reply-short : (r : Answer) → length out < header_size + 32 * c + 32 * p.u → r ≡ refused no_room
+  pub reply_short : (r : Answer) → length out < header_size + 32 * c + 32 * p.u → r ≡ refused no_room
       → (r ≡ fit_answer 0 (reply_to s m) out) × (out ≡ fit_after (reply_to s m) out)
-  reply-short r l q =
+  reply_short r l q =
       let w = fits_not 0 (reply_to s m) out (omega (arith, size_is)) in
       (q ∙ sym w.0, sym w.1)
 
@@ -106,16 +106,16 @@ module _ (s m out : List ℕ) (e : header_number (is_request m) s m ≡ 0) (p : 
     written : out3 ≡ pasted out 0 (reply_to s m)
     unfolding reply_to all_hashes
     written =
-        let r = request-reach s m e in
+        let r = request_reach s m e in
         let H : List ℕ = hashes_id ∷ header_bytes m in
         let R = run_hashes s (p.top * c) c in
         let U = uncle_hashes s p.u p.top in
-        let hl : length (hashes_id ∷ header_bytes m) ≡ header_size = ap suc (cut-length m 1 48 (omega (arith, request-size s m e))) in
-        let rl : length (run_hashes s (p.top * c) c) ≡ 32 * c = run-hashes-length s (p.top * c) c (run-cells (length s) p (rw f r) c g) in
-        let ul : length (uncle_hashes s p.u p.top) ≡ 32 * p.u = uncle-hashes-length s p.u p.top (rw f r.uncles) in
-        let one : pasted (pasted out 0 H) (0 + length H) R ≡ pasted out 0 (H ++ R) = pasted-append out 0 H R (omega arith) in
+        let hl : length (hashes_id ∷ header_bytes m) ≡ header_size = ap suc (cut_length m 1 48 (omega (arith, request_size s m e))) in
+        let rl : length (run_hashes s (p.top * c) c) ≡ 32 * c = run_hashes_length s (p.top * c) c (run_cells (length s) p (rw f r) c g) in
+        let ul : length (uncle_hashes s p.u p.top) ≡ 32 * p.u = uncle_hashes_length s p.u p.top (rw f r.uncles) in
+        let one : pasted (pasted out 0 H) (0 + length H) R ≡ pasted out 0 (H ++ R) = pasted_append out 0 H R (omega arith) in
         let hr : length (H ++ R) ≡ header_size + 32 * c = length-append H R ∙ omega arith in
-        let two : pasted (pasted out 0 (H ++ R)) (0 + length (H ++ R)) U ≡ pasted out 0 (H ++ R ++ U) = pasted-append out 0 (H ++ R) U (omega arith) in
+        let two : pasted (pasted out 0 (H ++ R)) (0 + length (H ++ R)) U ≡ pasted out 0 (H ++ R ++ U) = pasted_append out 0 (H ++ R) U (omega arith) in
         let p1 : 0 + length H ≡ header_size = omega arith in
         let p2 : 0 + length (H ++ R) ≡ header_size + 32 * c = omega arith in
         let whole : H ++ R ++ U ≡ H ++ (R ++ U) = append_assoc H R U in
@@ -125,24 +125,24 @@ module _ (s m out : List ℕ) (e : header_number (is_request m) s m ≡ 0) (p : 
         ∙ two
         ∙ ap (pasted out 0) (whole ∙ ap (λ (t : List ℕ). H ++ t) same)
 
-    pub reply-sent : (r : Answer) → r ≡ done (header_size + 32 * c + 32 * p.u)
+    pub reply_sent : (r : Answer) → r ≡ done (header_size + 32 * c + 32 * p.u)
         → (r ≡ fit_answer 0 (reply_to s m) out) × (out3 ≡ fit_after (reply_to s m) out)
-    reply-sent r q =
-        let w = fits-sent 0 (reply_to s m) out (omega (arith, size_is)) in
+    reply_sent r q =
+        let w = fits_sent 0 (reply_to s m) out (omega (arith, size_is)) in
         (q ∙ ap (λ (k : ℕ). record { number = 0; count = k }) size_is ∙ sym w.0, written ∙ sym w.1)
 
 module _ (m out : List ℕ) (number : ℕ) (e : length m ≡ header_size) where
-  pub reject-short : (r : Answer) → length out < header_size → r ≡ refused no_room → (r ≡ fit_answer number (reject_to m) out) × (out ≡ fit_after (reject_to m) out)
-  reject-short r l q =
-      let w = fits_not number (reject_to m) out (omega (arith, reject-length m e)) in
+  pub reject_short : (r : Answer) → length out < header_size → r ≡ refused no_room → (r ≡ fit_answer number (reject_to m) out) × (out ≡ fit_after (reject_to m) out)
+  reject_short r l q =
+      let w = fits_not number (reject_to m) out (omega (arith, reject_length m e)) in
       (q ∙ sym w.0, sym w.1)
 
-  pub reject-sent : (out1 : List ℕ) → header_size ≤ length out → out1 ≡ pasted out 0 (reject_id ∷ header_bytes m)
+  pub reject_sent : (out1 : List ℕ) → header_size ≤ length out → out1 ≡ pasted out 0 (reject_id ∷ header_bytes m)
       → (record { number = number; count = header_size } ≡ fit_answer number (reject_to m) out) × (out1 ≡ fit_after (reject_to m) out)
   unfolding reject_to
-  reject-sent out1 l a =
-      let w = fits-sent number (reject_to m) out (omega (arith, reject-length m e)) in
-      (ap (λ (k : ℕ). record { number = number; count = k }) (sym (reject-length m e)) ∙ sym w.0, a ∙ sym w.1)
+  reject_sent out1 l a =
+      let w = fits_sent number (reject_to m) out (omega (arith, reject_length m e)) in
+      (ap (λ (k : ℕ). record { number = number; count = k }) (sym (reject_length m e)) ∙ sym w.0, a ∙ sym w.1)
 
 -- ---- serving
 
@@ -151,20 +151,20 @@ along : {r a b : Answer} {o x y : List ℕ} → (r ≡ a) × (o ≡ x) → (b �
 along p q = (p.0 ∙ sym q.0, p.1 ∙ sym q.1)
 
 module _ (s m out : List ℕ) (n : ℕ) (e : n ≡ request_number s m) where
-  pub serve-9 : (r : Answer) → n ≡ unusable → r ≡ refused unusable → (r ≡ serve_answer s m out) × (out ≡ serve_after s m out)
-  serve-9 r z q = along (q, refl) (served-none s m out unusable (sym e ∙ z) (inl refl))
+  pub serve_9 : (r : Answer) → n ≡ unusable → r ≡ refused unusable → (r ≡ serve_answer s m out) × (out ≡ serve_after s m out)
+  serve_9 r z q = along (q, refl) (served_none s m out unusable (sym e ∙ z) (inl refl))
 
-  pub serve-1 : (r : Answer) → n ≡ no_message → r ≡ refused no_message → (r ≡ serve_answer s m out) × (out ≡ serve_after s m out)
-  serve-1 r z q = along (q, refl) (served-none s m out no_message (sym e ∙ z) (inr refl))
+  pub serve_1 : (r : Answer) → n ≡ no_message → r ≡ refused no_message → (r ≡ serve_answer s m out) × (out ≡ serve_after s m out)
+  serve_1 r z q = along (q, refl) (served_none s m out no_message (sym e ∙ z) (inr refl))
 
-  pub serve-reply : (r : Answer) (out1 : List ℕ) → n ≡ 0 → (r ≡ fit_answer 0 (reply_to s m) out) × (out1 ≡ fit_after (reply_to s m) out)
+  pub serve_reply : (r : Answer) (out1 : List ℕ) → n ≡ 0 → (r ≡ fit_answer 0 (reply_to s m) out) × (out1 ≡ fit_after (reply_to s m) out)
       → (r ≡ serve_answer s m out) × (out1 ≡ serve_after s m out)
-  serve-reply r out1 z w = along w (served-reply s m out (sym e ∙ z))
+  serve_reply r out1 z w = along w (served_reply s m out (sym e ∙ z))
 
   module _ (a : n ≡ unusable → ⊥) (b : n ≡ no_message → ⊥) where
-    pub serve-form : length m ≡ header_size
-    serve-form = answered-form s m (λ z. a (e ∙ z)) (λ z. b (e ∙ z))
+    pub serve_form : length m ≡ header_size
+    serve_form = answered_form s m (λ z. a (e ∙ z)) (λ z. b (e ∙ z))
 
-    pub serve-reject : (r : Answer) (out1 : List ℕ) → (n ≡ 0 → ⊥) → (r ≡ fit_answer n (reject_to m) out) × (out1 ≡ fit_after (reject_to m) out)
+    pub serve_reject : (r : Answer) (out1 : List ℕ) → (n ≡ 0 → ⊥) → (r ≡ fit_answer n (reject_to m) out) × (out1 ≡ fit_after (reject_to m) out)
         → (r ≡ serve_answer s m out) × (out1 ≡ serve_after s m out)
-    serve-reject r out1 z w = along w (served-reject s m out n (sym e) a b z)
+    serve_reject r out1 z w = along w (served_reject s m out n (sym e) a b z)

@@ -12,14 +12,14 @@ use native.Mathlib.Omega.{arith}
 use lib.ListN.{length, get_or, set, take, drop, length-set, length-drop, take-append-drop}
 use lib.Seq.{paste, paste-zero, paste-suc, length-paste, length-take-le, get_or-drop, set-set, drop-set-lt}
 use Rattle.octets.specs.Octets.{cut, pasted}
-use Rattle.octets.specs.OctetsLaws.{pasted-append}
+use Rattle.octets.specs.OctetsLaws.{pasted_append}
 use Rattle.cells.specs.Cells.{Room, held_at, hash_at}
-use Rattle.cells.specs.CellsLaws.{hash-length}
+use Rattle.cells.specs.CellsLaws.{hash_length}
 use Rattle.settling.specs.Path.{sibling, ancestor}
-use Rattle.settling.specs.AncestorLaws.{ancestor-le, ancestor-suc}
+use Rattle.settling.specs.AncestorLaws.{ancestor_le, ancestor_suc}
 use Rattle.header.specs.Header.{header_size, header_bytes}
 use Rattle.serve.specs.Serve.{held_run, run_hashes, held_uncles, uncle_hashes}
-use Rattle.serve.specs.ServeLaws.{uncle-near, run-hashes-more, uncle-hashes-more, run-hashes-length, uncle-hashes-length, held-run-at, held-uncle-at, held-uncles-all}
+use Rattle.serve.specs.ServeLaws.{uncle_near, run_hashes_more, uncle_hashes_more, run_hashes_length, uncle_hashes_length, held_run_at, held_uncle_at, held_uncles_all}
 
 refuted : (a b : Bool) → (b ≡ true → a ≡ true) → a ≡ false → false ≡ b
 refuted true false f e = refl
@@ -39,99 +39,99 @@ module _ (s : List ℕ) (n : ℕ) where
     unfolding held_run
     run_more h y = rw (add-one i, h, ← e, y)
 
-    pub run-fails : (c : ℕ) → i < c → t ≡ false → false ≡ held_run s n c
-    run-fails c l z = refuted (held_at s (n + i)) (held_run s n c) (λ h. held-run-at s n c h i l) (sym e ∙ z)
+    pub run_fails : (c : ℕ) → i < c → t ≡ false → false ≡ held_run s n c
+    run_fails c l z = refuted (held_at s (n + i)) (held_run s n c) (λ h. held_run_at s n c h i l) (sym e ∙ z)
 
-  pub run-done : (c i : ℕ) → i ≤ c → c ≤ i → held_run s n i ≡ true → true ≡ held_run s n c
-  run-done c i a b h = let e : i ≡ c = omega arith in sym (rw e at h)
+  pub run_done : (c i : ℕ) → i ≤ c → c ≤ i → held_run s n i ≡ true → true ≡ held_run s n c
+  run_done c i a b h = let e : i ≡ c = omega arith in sym (rw e at h)
 
 -- ---- looking at uncles
 
 -- the first position of a path
-pub ancestor-none : (n : ℕ) → n ≡ ancestor 0 n
+pub ancestor_none : (n : ℕ) → n ≡ ancestor 0 n
 unfolding ancestor
-ancestor-none n = refl
+ancestor_none n = refl
 
 -- none has a greater number
-pub ancestor-cell : (i n x : ℕ) → x ≡ ancestor i n → x ≤ n
-ancestor-cell i n x e = omega (arith, ancestor-le i n)
+pub ancestor_cell : (i n x : ℕ) → x ≡ ancestor i n → x ≤ n
+ancestor_cell i n x e = omega (arith, ancestor_le i n)
 
 -- the next position upward
-pub ancestor-next : (i n x : ℕ) → x ≡ ancestor i n → x / 2 ≡ ancestor (i + 1) n
-ancestor-next i n x e = ap (λ (y : ℕ). y / 2) e ∙ sym (rw (add-one i) (ancestor-suc i n))
+pub ancestor_next : (i n x : ℕ) → x ≡ ancestor i n → x / 2 ≡ ancestor (i + 1) n
+ancestor_next i n x e = ap (λ (y : ℕ). y / 2) e ∙ sym (rw (add-one i) (ancestor_suc i n))
 
 module _ (s : List ℕ) (n : ℕ) where
-  pub uncles-none : held_uncles s 0 n ≡ true
+  pub uncles_none : held_uncles s 0 n ≡ true
   unfolding held_uncles
-  uncles-none = refl
+  uncles_none = refl
 
   -- the cell beside a position of the path
-  pub uncle-cell : (i x q : ℕ) → Room (n + 2) s → x ≡ ancestor i n → q ≡ sibling x → Room (q + 1) s
-  uncle-cell i x q r e f = let g : sibling x ≡ sibling (ancestor i n) = ap sibling e in omega (arith, uncle-near i n)
+  pub uncle_cell : (i x q : ℕ) → Room (n + 2) s → x ≡ ancestor i n → q ≡ sibling x → Room (q + 1) s
+  uncle_cell i x q r e f = let g : sibling x ≡ sibling (ancestor i n) = ap sibling e in omega (arith, uncle_near i n)
 
   module _ (i x q : ℕ) (t : Bool) (a : x ≡ ancestor i n) (b : q ≡ sibling x) (e : t ≡ held_at s q) where
-    at-uncle : held_at s (sibling (ancestor i n)) ≡ t
-    at-uncle = cc
+    at_uncle : held_at s (sibling (ancestor i n)) ≡ t
+    at_uncle = cc
 
-    pub uncles-more : held_uncles s i n ≡ true → t ≡ true → held_uncles s (i + 1) n ≡ true
-    uncles-more h y =
-        held-uncles-all s (i + 1) n (λ j l. elim (ℕ_discrete j i) [ yes q ↦ by j (inr q) | no q ↦ by j (inl (omega arith)) ])
+    pub uncles_more : held_uncles s i n ≡ true → t ≡ true → held_uncles s (i + 1) n ≡ true
+    uncles_more h y =
+        held_uncles_all s (i + 1) n (λ j l. elim (ℕ_discrete j i) [ yes q ↦ by j (inr q) | no q ↦ by j (inl (omega arith)) ])
       where
         by : (j : ℕ) → (j < i) ⊎ (j ≡ i) → held_at s (sibling (ancestor j n)) ≡ true
-        by j (inl l) = held-uncle-at s i n h j l
-        by j (inr q) = ap (λ (k : ℕ). held_at s (sibling (ancestor k n))) q ∙ at-uncle ∙ y
+        by j (inl l) = held_uncle_at s i n h j l
+        by j (inr q) = ap (λ (k : ℕ). held_at s (sibling (ancestor k n))) q ∙ at_uncle ∙ y
 
-    pub uncles-fail : (u : ℕ) → i < u → t ≡ false → false ≡ held_uncles s u n
-    uncles-fail u l z = refuted (held_at s (sibling (ancestor i n))) (held_uncles s u n) (λ h. held-uncle-at s u n h i l) (at-uncle ∙ z)
+    pub uncles_fail : (u : ℕ) → i < u → t ≡ false → false ≡ held_uncles s u n
+    uncles_fail u l z = refuted (held_at s (sibling (ancestor i n))) (held_uncles s u n) (λ h. held_uncle_at s u n h i l) (at_uncle ∙ z)
 
-  pub uncles-done : (u i : ℕ) → i ≤ u → u ≤ i → held_uncles s i n ≡ true → true ≡ held_uncles s u n
-  uncles-done u i a b h = let e : i ≡ u = omega arith in sym (rw e at h)
+  pub uncles_done : (u i : ℕ) → i ≤ u → u ≤ i → held_uncles s i n ≡ true → true ≡ held_uncles s u n
+  uncles_done u i a b h = let e : i ≡ u = omega arith in sym (rw e at h)
 
 -- ---- copying hashes
 
 -- nothing put anywhere
-pasted-nothing : (out : List ℕ) (at : ℕ) → out ≡ pasted out at []
+pasted_nothing : (out : List ℕ) (at : ℕ) → out ≡ pasted out at []
 unfolding pasted
-pasted-nothing out at =
+pasted_nothing out at =
     let e : at + 0 ≡ at = omega arith in
     sym (rw e (ap (λ (t : List ℕ). t ++ drop at out) (append-nil (take at out)) ∙ take-append-drop at out))
 
 -- one hash more behind i of them
-pasted-more : (out₀ out out' : List ℕ) (at i : ℕ) (l h : List ℕ) → length l ≡ 32 * i → length h ≡ 32 → at + 32 * i + 32 ≤ length out₀
+pasted_more : (out₀ out out' : List ℕ) (at i : ℕ) (l h : List ℕ) → length l ≡ 32 * i → length h ≡ 32 → at + 32 * i + 32 ≤ length out₀
     → out ≡ pasted out₀ at l → out' ≡ pasted out (at + 32 * i) h → out' ≡ pasted out₀ at (l ++ h)
-pasted-more out₀ out out' at i l h e f r p q =
-    let a = pasted-append out₀ at l h (omega arith) in
+pasted_more out₀ out out' at i l h e f r p q =
+    let a = pasted_append out₀ at l h (omega arith) in
     let g : at + 32 * i ≡ at + length l = omega arith in
     cc
 
 module _ (s : List ℕ) (n at : ℕ) (out₀ : List ℕ) where
-  pub copy-run-none : out₀ ≡ pasted out₀ at (run_hashes s n 0)
+  pub copy_run_none : out₀ ≡ pasted out₀ at (run_hashes s n 0)
   unfolding run_hashes
-  copy-run-none = pasted-nothing out₀ at
+  copy_run_none = pasted_nothing out₀ at
 
-  pub copy-uncles-none : out₀ ≡ pasted out₀ at (uncle_hashes s 0 n)
+  pub copy_uncles_none : out₀ ≡ pasted out₀ at (uncle_hashes s 0 n)
   unfolding uncle_hashes
-  copy-uncles-none = pasted-nothing out₀ at
+  copy_uncles_none = pasted_nothing out₀ at
 
   module _ (i : ℕ) (out out' h : List ℕ) (f : at + 32 * i + 32 ≤ length out₀) (w : out' ≡ pasted out (at + 32 * i) h) where
-    pub copy-run-more : (c : ℕ) → Room (n + c) s → i < c → h ≡ hash_at s (n + i) → out ≡ pasted out₀ at (run_hashes s n i) → out' ≡ pasted out₀ at (run_hashes s n (i + 1))
-    copy-run-more c r l e p =
-        let hl : length h ≡ 32 = ap length e ∙ hash-length s (n + c) (n + i) r (omega arith) in
-        pasted-more out₀ out out' at i (run_hashes s n i) h (run-hashes-length s n i (omega arith)) hl f p w
-        ∙ ap (pasted out₀ at) (ap (λ (x : List ℕ). run_hashes s n i ++ x) e ∙ sym (run-hashes-more s n i))
+    pub copy_run_more : (c : ℕ) → Room (n + c) s → i < c → h ≡ hash_at s (n + i) → out ≡ pasted out₀ at (run_hashes s n i) → out' ≡ pasted out₀ at (run_hashes s n (i + 1))
+    copy_run_more c r l e p =
+        let hl : length h ≡ 32 = ap length e ∙ hash_length s (n + c) (n + i) r (omega arith) in
+        pasted_more out₀ out out' at i (run_hashes s n i) h (run_hashes_length s n i (omega arith)) hl f p w
+        ∙ ap (pasted out₀ at) (ap (λ (x : List ℕ). run_hashes s n i ++ x) e ∙ sym (run_hashes_more s n i))
 
-    pub copy-uncles-more : (x q : ℕ) → Room (n + 2) s → x ≡ ancestor i n → q ≡ sibling x → h ≡ hash_at s q → out ≡ pasted out₀ at (uncle_hashes s i n) → out' ≡ pasted out₀ at (uncle_hashes s (i + 1) n)
-    copy-uncles-more x q r a b e p =
+    pub copy_uncles_more : (x q : ℕ) → Room (n + 2) s → x ≡ ancestor i n → q ≡ sibling x → h ≡ hash_at s q → out ≡ pasted out₀ at (uncle_hashes s i n) → out' ≡ pasted out₀ at (uncle_hashes s (i + 1) n)
+    copy_uncles_more x q r a b e p =
         let g : h ≡ hash_at s (sibling (ancestor i n)) = cc in
-        let hl : length h ≡ 32 = ap length g ∙ hash-length s (n + 2) (sibling (ancestor i n)) r (uncle-near i n) in
-        pasted-more out₀ out out' at i (uncle_hashes s i n) h (uncle-hashes-length s i n r) hl f p w
-        ∙ ap (pasted out₀ at) (ap (λ (y : List ℕ). uncle_hashes s i n ++ y) g ∙ sym (uncle-hashes-more s i n))
+        let hl : length h ≡ 32 = ap length g ∙ hash_length s (n + 2) (sibling (ancestor i n)) r (uncle_near i n) in
+        pasted_more out₀ out out' at i (uncle_hashes s i n) h (uncle_hashes_length s i n r) hl f p w
+        ∙ ap (pasted out₀ at) (ap (λ (y : List ℕ). uncle_hashes s i n ++ y) g ∙ sym (uncle_hashes_more s i n))
 
-  pub copy-run-done : (c i : ℕ) (out : List ℕ) → i ≤ c → c ≤ i → out ≡ pasted out₀ at (run_hashes s n i) → out ≡ pasted out₀ at (run_hashes s n c)
-  copy-run-done c i out a b p = let e : i ≡ c = omega arith in rw e at p
+  pub copy_run_done : (c i : ℕ) (out : List ℕ) → i ≤ c → c ≤ i → out ≡ pasted out₀ at (run_hashes s n i) → out ≡ pasted out₀ at (run_hashes s n c)
+  copy_run_done c i out a b p = let e : i ≡ c = omega arith in rw e at p
 
-  pub copy-uncles-done : (u i : ℕ) (out : List ℕ) → i ≤ u → u ≤ i → out ≡ pasted out₀ at (uncle_hashes s i n) → out ≡ pasted out₀ at (uncle_hashes s u n)
-  copy-uncles-done u i out a b p = let e : i ≡ u = omega arith in rw e at p
+  pub copy_uncles_done : (u i : ℕ) (out : List ℕ) → i ≤ u → u ≤ i → out ≡ pasted out₀ at (uncle_hashes s i n) → out ≡ pasted out₀ at (uncle_hashes s u n)
+  copy_uncles_done u i out a b p = let e : i ≡ u = omega arith in rw e at p
 
 -- ---- the head of a message
 
@@ -141,28 +141,28 @@ head_byte id m (suc i) a = let e : 1 + i ≡ suc i = omega arith in sym (get_or-
 
 -- the loop starts with the id in its place
 module _ (o m : List ℕ) (id : ℕ) (lo : header_size ≤ length o) (lm : header_size ≤ length m) where
-  head-size : header_size ≤ length (id ∷ drop 1 m)
-  head-size = omega (arith, length-drop 1 m)
+  head_size : header_size ≤ length (id ∷ drop 1 m)
+  head_size = omega (arith, length-drop 1 m)
 
-  first-length : length (set o 0 id) ≡ length o
-  first-length = simp length-set
+  first_length : length (set o 0 id) ≡ length o
+  first_length = simp length-set
 
-  pub head-one : set o 0 id ≡ paste (set o 0 id) 0 (id ∷ drop 1 m) 1
-  head-one =
+  pub head_one : set o 0 id ≡ paste (set o 0 id) 0 (id ∷ drop 1 m) 1
+  head_one =
       sym (set-set o 0 id id)
       ∙ ap (λ (l : List ℕ). set l 0 id) (paste-zero (set o 0 id) 0 (id ∷ drop 1 m))
-      ∙ paste-suc (set o 0 id) 0 (id ∷ drop 1 m) 0 0 (omega (arith, first-length)) (omega (arith, head-size))
+      ∙ paste-suc (set o 0 id) 0 (id ∷ drop 1 m) 0 0 (omega (arith, first_length)) (omega (arith, head_size))
 
   module _ (i : ℕ) (out : List ℕ) (e : out ≡ paste (set o 0 id) 0 (id ∷ drop 1 m) i) where
     pub head_more : 1 ≤ i → i < header_size → set out i (get_or m i 0) ≡ paste (set o 0 id) 0 (id ∷ drop 1 m) (i + 1)
     head_more a b =
         ap₂ (λ (l : List ℕ) (v : ℕ). set l i v) e (head_byte id m i a)
         ∙ ap (λ (k : ℕ). set (paste (set o 0 id) 0 (id ∷ drop 1 m) i) k (get_or (id ∷ drop 1 m) i 0)) (sym (zero-add i))
-        ∙ paste-suc (set o 0 id) 0 (id ∷ drop 1 m) i 0 (omega (arith, first-length)) (omega (arith, head-size))
+        ∙ paste-suc (set o 0 id) 0 (id ∷ drop 1 m) i 0 (omega (arith, first_length)) (omega (arith, head_size))
         ∙ ap (paste (set o 0 id) 0 (id ∷ drop 1 m)) (sym (add-one i))
 
-    pub head-length : i ≤ header_size → length out ≡ length o
-    head-length a = ap length e ∙ length-paste (set o 0 id) 0 (id ∷ drop 1 m) i (omega (arith, first-length)) (omega (arith, head-size)) ∙ first-length
+    pub head_length : i ≤ header_size → length out ≡ length o
+    head_length a = ap length e ∙ length-paste (set o 0 id) 0 (id ∷ drop 1 m) i (omega (arith, first_length)) (omega (arith, head_size)) ∙ first_length
 
     pub head_done : i ≤ header_size → header_size ≤ i → out ≡ pasted o 0 (id ∷ header_bytes m)
     unfolding pasted cut

@@ -9,11 +9,11 @@ use Rattle.session.specs.Session.{max_blocks, max_message, length_in}
 use Rattle.session.specs.Lines.{inside, hash, stops, told, opened}
 
 -- a message of 528 hashes takes no other: the next hash record stops the replay with `1 0`, whatever length the header has
-pub hash-529-stops : (s m rest : List ℕ) → length m ≡ 49 + 32 * 528 → told (inside s m) hash rest ≡ stops no_message s
+pub hash_529_stops : (s m rest : List ℕ) → length m ≡ 49 + 32 * 528 → told (inside s m) hash rest ≡ stops no_message s
 unfolding told
-hash-529-stops s m rest e = rw (lt-leb (length m + 32) max_message (omega (arith, e))) refl
+hash_529_stops s m rest e = rw (lt-leb (length m + 32) max_message (omega (arith, e))) refl
 
 -- a file of more than 512 blocks is not opened: `10 0`, though the store may be
-pub block-513-stops : (s o : List ℕ) → 512 < block_count (length_in o) → opened s o ≡ stops facts_out_of_range s
+pub block_513_stops : (s o : List ℕ) → 512 < block_count (length_in o) → opened s o ≡ stops facts_out_of_range s
 unfolding opened
-block-513-stops s o l = rw (lt-leb (block_count (length_in o)) max_blocks (omega (arith, l))) refl
+block_513_stops s o l = rw (lt-leb (block_count (length_in o)) max_blocks (omega (arith, l))) refl

@@ -11,8 +11,8 @@ use Rattle.bits.specs.Parsing.{word_at, words}
 use Rattle.rounds.specs.Block.{next, schedule}
 use Rattle.rounds.specs.Sums.{sums}
 
-unfoldable pub pair-table : List ℕ
-pair-table =
+unfoldable pub pair_table : List ℕ
+pair_table =
     0xc28a_2f98 ∷ 0x7137_4491 ∷ 0xb5c0_fbcf ∷ 0xe9b5_dba5 ∷ 0x3956_c25b ∷ 0x59f1_11f1 ∷ 0x923f_82a4 ∷ 0xab1c_5ed5 ∷
     0xd807_aa98 ∷ 0x1283_5b01 ∷ 0x2431_85be ∷ 0x550c_7dc3 ∷ 0x72be_5d74 ∷ 0x80de_b1fe ∷ 0x9bdc_06a7 ∷ 0xc19b_f374 ∷
     0x649b_69c1 ∷ 0xf0fe_4786 ∷ 0x0fe1_edc6 ∷ 0x240c_f254 ∷ 0x4fe9_346f ∷ 0x6cc9_84be ∷ 0x61b9_411e ∷ 0x16f9_88fa ∷
@@ -22,6 +22,6 @@ pair-table =
     0x8361_3bda ∷ 0xdb48_a363 ∷ 0x0b02_e931 ∷ 0x6fd1_5ca7 ∷ 0x521a_faca ∷ 0x3133_8431 ∷ 0x6ed4_1a95 ∷ 0x6d43_7890 ∷
     0xc39c_91f2 ∷ 0x9ecc_abbd ∷ 0xb5c9_a0e6 ∷ 0x532f_b63c ∷ 0xd2c7_41c6 ∷ 0x0723_7ea3 ∷ 0xa495_4b68 ∷ 0x4c19_1d76 ∷ []
 
-pub pair-table-rule : pair-table ≡ sums 64 K (schedule 48 (padding 64))
-unfolding pair-table root indivisible primes_from primes root_word K rotr σ₀ σ₁ padding zeros word_at words next schedule sums
-pair-table-rule = refl
+pub pair_table_rule : pair_table ≡ sums 64 K (schedule 48 (padding 64))
+unfolding pair_table root indivisible primes_from primes root_word K rotr σ₀ σ₁ padding zeros word_at words next schedule sums
+pair_table_rule = refl

@@ -13,22 +13,22 @@ use lib.Seq.{drop-cons, get_or-take, get_or-drop, drop-drop, take_at, take-suc-s
 use Rattle.octets.specs.Octets.{cut}
 use Rattle.bencode.specs.Grammar.{precedes}
 use Rattle.sorting.specs.Sorting.{Fit, lower, sorted, thinned_from, thinned}
-use Rattle.sorting.specs.SortedByLaws.{sorted-member, sorted-length}
-use Rattle.sorting.specs.SortingLaws.{fit-within}
+use Rattle.sorting.specs.SortedByLaws.{sorted_member, sorted_length}
+use Rattle.sorting.specs.SortingLaws.{fit_within}
 
 -- ---- one position
 
 module _ (s at : List ℕ) (kept a b : ℕ) where
-  pub kept-one : precedes (cut s a 32) (cut s b 32) ≡ true → (kept + 1 ≡ cond (lower s a b) (kept + 1) kept) × (set at kept b ≡ cond (lower s a b) (set at kept b) at)
+  pub kept_one : precedes (cut s a 32) (cut s b 32) ≡ true → (kept + 1 ≡ cond (lower s a b) (kept + 1) kept) × (set at kept b ≡ cond (lower s a b) (set at kept b) at)
   unfolding lower
-  kept-one e = rw e (refl, refl)
+  kept_one e = rw e (refl, refl)
 
-  pub kept-none : precedes (cut s a 32) (cut s b 32) ≡ false → (kept ≡ cond (lower s a b) (kept + 1) kept) × (at ≡ cond (lower s a b) (set at kept b) at)
+  pub kept_none : precedes (cut s a 32) (cut s b 32) ≡ false → (kept ≡ cond (lower s a b) (kept + 1) kept) × (at ≡ cond (lower s a b) (set at kept b) at)
   unfolding lower
-  kept-none e = rw e (refl, refl)
+  kept_none e = rw e (refl, refl)
 
-fit-set : (m : ℕ) (at : List ℕ) (k x : ℕ) → Fit m at → x + 32 ≤ m → Fit m (set at k x)
-fit-set m at k x f h i l = by_place (ℕ_discrete i k)
+fit_set : (m : ℕ) (at : List ℕ) (k x : ℕ) → Fit m at → x + 32 ≤ m → Fit m (set at k x)
+fit_set m at k x f h i l = by_place (ℕ_discrete i k)
   where
     inside : i < length at
     inside = rw (length-set at k x) at l
@@ -50,29 +50,29 @@ pub record ThinnedAt (m : ℕ) (s ps at : List ℕ) (kept i : ℕ) : Type 0 wher
   pub fit : Fit m at
 
 module _ (m : ℕ) (s : List ℕ) where
-  pub thinned-none : (ps : List ℕ) → length ps ≡ 0 → (0 ≡ length (thinned s ps)) × (ps ≡ thinned s ps ++ drop 0 ps)
+  pub thinned_none : (ps : List ℕ) → length ps ≡ 0 → (0 ≡ length (thinned s ps)) × (ps ≡ thinned s ps ++ drop 0 ps)
   unfolding thinned
-  thinned-none [] e = (refl, refl)
-  thinned-none (p ∷ ps) e = absurd (omega arith)
+  thinned_none [] e = (refl, refl)
+  thinned_none (p ∷ ps) e = absurd (omega arith)
 
-  pub thinned-start : (ps : List ℕ) → (length ps ≡ 0 → ⊥) → Fit m ps → ThinnedAt m s ps ps 1 1
+  pub thinned_start : (ps : List ℕ) → (length ps ≡ 0 → ⊥) → Fit m ps → ThinnedAt m s ps ps 1 1
   unfolding thinned
-  thinned-start [] h f = absurd (h refl)
-  thinned-start (p ∷ ps) h f = record { some = omega arith; order = omega arith; within = omega arith; size = refl; whole = refl; rest = refl; fit = f }
+  thinned_start [] h f = absurd (h refl)
+  thinned_start (p ∷ ps) h f = record { some = omega arith; order = omega arith; within = omega arith; size = refl; whole = refl; rest = refl; fit = f }
 
   module _ (ps at : List ℕ) (kept i : ℕ) (w : ThinnedAt m s ps at kept i) where
     -- nothing is left
-    pub thinned-end : length at ≤ i → (kept ≡ length (thinned s ps)) × (at ≡ thinned s ps ++ drop kept ps)
-    thinned-end h =
+    pub thinned_end : length at ≤ i → (kept ≡ length (thinned s ps)) × (at ≡ thinned s ps ++ drop kept ps)
+    thinned_end h =
         let a = w.size in
         let b = w.within in
         let c = w.order in
         let none : drop i ps ≡ [] = drop_of_length-le ps {i = i} (omega arith) in
-        let front : thinned s ps ≡ take kept at = w.whole ∙ ap (λ (l : List ℕ). take kept at ++ thinned_from s (get_or at (kept - 1) 0) l) none ∙ ap (λ (l : List ℕ). take kept at ++ l) (from-none (get_or at (kept - 1) 0)) ∙ append-nil (take kept at) in
+        let front : thinned s ps ≡ take kept at = w.whole ∙ ap (λ (l : List ℕ). take kept at ++ thinned_from s (get_or at (kept - 1) 0) l) none ∙ ap (λ (l : List ℕ). take kept at ++ l) (from_none (get_or at (kept - 1) 0)) ∙ append-nil (take kept at) in
         (sym (ap length front ∙ length-take-le kept at (omega arith)), sym (ap₂ (λ (x y : List ℕ). x ++ y) front (sym w.rest) ∙ take-append-drop kept at))
       where
-        from-none : (p : ℕ) → thinned_from s p [] ≡ []
-        from-none p = unfold thinned_from in refl
+        from_none : (p : ℕ) → thinned_from s p [] ≡ []
+        from_none p = unfold thinned_from in refl
 
     module _ (h : i < length at) where
       -- position i is as it was
@@ -93,8 +93,8 @@ module _ (m : ℕ) (s : List ℕ) where
           → thinned s ps ≡ take kept at ++ cond t (get_or at i 0 ∷ thinned_from s (get_or at i 0) (drop (i + 1) ps)) (thinned_from s (get_or at (kept - 1) 0) (drop (i + 1) ps))
       step t e = w.whole ∙ ap (λ (l : List ℕ). take kept at ++ l) (ap (thinned_from s (get_or at (kept - 1) 0)) ahead ∙ from_step (get_or at (kept - 1) 0) (get_or at i 0) (drop (i + 1) ps) ∙ rw e refl)
 
-      thinned-kept : lower s (get_or at (kept - 1) 0) (get_or at i 0) ≡ true → ThinnedAt m s ps (set at kept (get_or at i 0)) (kept + 1) (i + 1)
-      thinned-kept e =
+      thinned_kept : lower s (get_or at (kept - 1) 0) (get_or at i 0) ≡ true → ThinnedAt m s ps (set at kept (get_or at i 0)) (kept + 1) (i + 1)
+      thinned_kept e =
           let o = w.order in
           let p = w.some in
           let z = w.size in
@@ -109,48 +109,48 @@ module _ (m : ℕ) (s : List ℕ) where
             size = length-set at kept x ∙ z;
             whole = step true e ∙ sym (append_assoc (take kept at) (x ∷ []) (thinned_from s x (drop (i + 1) ps))) ∙ rw (front, last) refl;
             rest = drop-set-lt (kept + 1) at kept x (omega arith) ∙ sym (drop-drop 1 kept at) ∙ ap (λ (l : List ℕ). drop 1 l) w.rest ∙ drop-drop 1 kept ps;
-            fit = fit-set m at kept x w.fit (w.fit i h);
+            fit = fit_set m at kept x w.fit (w.fit i h);
           }
 
-      thinned-passed : lower s (get_or at (kept - 1) 0) (get_or at i 0) ≡ false → ThinnedAt m s ps at kept (i + 1)
-      thinned-passed e =
+      thinned_passed : lower s (get_or at (kept - 1) 0) (get_or at i 0) ≡ false → ThinnedAt m s ps at kept (i + 1)
+      thinned_passed e =
           let o = w.order in
           let z = w.size in
           record { some = w.some; order = omega arith; within = omega arith; size = z; whole = step false e; rest = w.rest; fit = w.fit }
 
-      pub thinned-on : (k : ℕ) (a : List ℕ) → (k ≡ cond (lower s (get_or at (kept - 1) 0) (get_or at i 0)) (kept + 1) kept) × (a ≡ cond (lower s (get_or at (kept - 1) 0) (get_or at i 0)) (set at kept (get_or at i 0)) at)
+      pub thinned_on : (k : ℕ) (a : List ℕ) → (k ≡ cond (lower s (get_or at (kept - 1) 0) (get_or at i 0)) (kept + 1) kept) × (a ≡ cond (lower s (get_or at (kept - 1) 0) (get_or at i 0)) (set at kept (get_or at i 0)) at)
           → ThinnedAt m s ps a k (i + 1)
-      thinned-on k a e = by-test (lower s (get_or at (kept - 1) 0) (get_or at i 0)) refl e.0 e.1
+      thinned_on k a e = by_test (lower s (get_or at (kept - 1) 0) (get_or at i 0)) refl e.0 e.1
         where
-          by-test : (t : Bool) → lower s (get_or at (kept - 1) 0) (get_or at i 0) ≡ t → k ≡ cond t (kept + 1) kept → a ≡ cond t (set at kept (get_or at i 0)) at → ThinnedAt m s ps a k (i + 1)
-          by-test true q f g = rw (f, g) (thinned-kept q)
-          by-test false q f g = rw (f, g) (thinned-passed q)
+          by_test : (t : Bool) → lower s (get_or at (kept - 1) 0) (get_or at i 0) ≡ t → k ≡ cond t (kept + 1) kept → a ≡ cond t (set at kept (get_or at i 0)) at → ThinnedAt m s ps a k (i + 1)
+          by_test true q f g = rw (f, g) (thinned_kept q)
+          by_test false q f g = rw (f, g) (thinned_passed q)
 
 -- ---- the first `count` positions, lent as z = count - 0 of them, and back sorted
 
-pub first-fit : (m : ℕ) (at : List ℕ) (z count : ℕ) → z ≡ count → ((i : ℕ) → i < count → get_or at i 0 + 32 ≤ m) → Fit m (take z at)
-first-fit m at z count e f i h =
+pub first_fit : (m : ℕ) (at : List ℕ) (z count : ℕ) → z ≡ count → ((i : ℕ) → i < count → get_or at i 0 + 32 ≤ m) → Fit m (take z at)
+first_fit m at z count e f i h =
     let l : i < min z (length at) = rw (length-take z at) at h in
     rw (get_or-take z at i 0 (omega arith)) (f i (omega arith))
 
 module _ (s at : List ℕ) (z count : ℕ) (e : z ≡ count) (l : count ≤ length at) (a : List ℕ) (p : a ≡ sorted s (take z at)) where
-  sorted-size : length a ≡ z
-  sorted-size = ap length p ∙ sorted-length (lower s) (take z at) ∙ length-take-le z at (omega arith)
+  sorted_size : length a ≡ z
+  sorted_size = ap length p ∙ sorted_length (lower s) (take z at) ∙ length-take-le z at (omega arith)
 
   sorted_back : take z (a ++ drop z at) ≡ a
-  sorted_back = take_at a (drop z at) z sorted-size
+  sorted_back = take_at a (drop z at) z sorted_size
 
-  pub sorted-fit : (m : ℕ) → ((i : ℕ) → i < count → get_or at i 0 + 32 ≤ m) → Fit m (take z (a ++ drop z at))
-  sorted-fit m f =
+  pub sorted_fit : (m : ℕ) → ((i : ℕ) → i < count → get_or at i 0 + 32 ≤ m) → Fit m (take z (a ++ drop z at))
+  sorted_fit m f =
       subst (λ (t : List ℕ). Fit m t) (sym (sorted_back ∙ p))
-      (fit-within m (take z at) (sorted s (take z at)) (sorted-member (lower s) (take z at)) (first-fit m at z count e f))
+      (fit_within m (take z at) (sorted s (take z at)) (sorted_member (lower s) (take z at)) (first_fit m at z count e f))
 
   -- and thinned
-  pub thinned-back : (r : ℕ) (b : List ℕ) → (r ≡ length (thinned s (take z (a ++ drop z at)))) × (b ≡ thinned s (take z (a ++ drop z at)) ++ drop r (take z (a ++ drop z at)))
+  pub thinned_back : (r : ℕ) (b : List ℕ) → (r ≡ length (thinned s (take z (a ++ drop z at)))) × (b ≡ thinned s (take z (a ++ drop z at)) ++ drop r (take z (a ++ drop z at)))
       → (r ≡ length (thinned s (sorted s (take count at)))) × (b ++ drop z (a ++ drop z at) ≡ (thinned s (sorted s (take count at)) ++ drop r (sorted s (take count at))) ++ drop count at)
-  thinned-back r b q =
+  thinned_back r b q =
       let is : take z (a ++ drop z at) ≡ sorted s (take count at) = sorted_back ∙ p ∙ ap (λ (k : ℕ). sorted s (take k at)) e in
-      let tail : drop z (a ++ drop z at) ≡ drop count at = drop_at a (drop z at) z sorted-size ∙ ap (λ (k : ℕ). drop k at) e in
+      let tail : drop z (a ++ drop z at) ≡ drop count at = drop_at a (drop z at) z sorted_size ∙ ap (λ (k : ℕ). drop k at) e in
       (q.0 ∙ ap (λ (t : List ℕ). length (thinned s t)) is, ap₂ (λ (x y : List ℕ). x ++ y) (q.1 ∙ ap (λ (t : List ℕ). thinned s t ++ drop r t) is) tail)
 
 -- so is the room, if there are two or more

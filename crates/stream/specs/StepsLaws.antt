@@ -10,71 +10,71 @@ use Rattle.numbers.specs.Numbers.{unusable, frame_too_long}
 use Rattle.limits.specs.Limits.{longest_frame}
 use Rattle.frames.specs.Frames.{known, right}
 use Rattle.stream.specs.Reading.{usable, usable_prefix, usable_frame, called, hear_answer, hear_room, mode_of, fitting, mode_at, kept, Said, nothing, message, keep_alive, wrong_skipped, large_skipped, refused_now, bad_state, quiet, number_of, event_of, size_of, Stepped, standing, between, says, prefixed, prefix_byte, said_at_end, progressed, frame_byte, byte, Call, unmoved, further, stopped, hears, answer_of}
-use Rattle.stream.specs.ReadingLaws.{hears-step, run-of-frame, mode-fitted, fitted-room, kept-length}
+use Rattle.stream.specs.ReadingLaws.{hears_step, run_of_frame, mode_fitted, fitted_room, kept_length}
 use Rattle.stream.specs.Standing.{Going, Refused}
 use Rattle.stream.specs.Steps.{without_event, prefix_answer, end_answer, onward, run_size, frame_run, frame_step, frame_answer_of, Stepping}
 use Rattle.stream.specs.declared.Stream.{Stream}
 use Rattle.stream.specs.declared.Heard.{Heard}
 
-pub loud-heard : (h : Said) → ((number_of h ≡ 0) × (event_of h ≡ 0) → ⊥) → quiet h ≡ false
-loud-heard nothing f = absurd (f (refl, refl))
-loud-heard (message m) f = refl
-loud-heard keep_alive f = refl
-loud-heard wrong_skipped f = refl
-loud-heard large_skipped f = refl
-loud-heard refused_now f = refl
-loud-heard bad_state f = refl
+pub loud_heard : (h : Said) → ((number_of h ≡ 0) × (event_of h ≡ 0) → ⊥) → quiet h ≡ false
+loud_heard nothing f = absurd (f (refl, refl))
+loud_heard (message m) f = refl
+loud_heard keep_alive f = refl
+loud_heard wrong_skipped f = refl
+loud_heard large_skipped f = refl
+loud_heard refused_now f = refl
+loud_heard bad_state f = refl
 
-pub silent-heard : (h : Said) → number_of h ≡ 0 → event_of h ≡ 0 → quiet h ≡ true
-silent-heard nothing e f = refl
-silent-heard (message m) e f = let w : ⊥ = omega arith in absurd w
-silent-heard keep_alive e f = let w : ⊥ = omega arith in absurd w
-silent-heard wrong_skipped e f = let w : ⊥ = omega arith in absurd w
-silent-heard large_skipped e f = let w : ⊥ = omega arith in absurd w
-silent-heard refused_now e f = let w : ⊥ = omega arith in absurd w
-silent-heard bad_state e f = let w : ⊥ = omega arith in absurd w
+pub silent_heard : (h : Said) → number_of h ≡ 0 → event_of h ≡ 0 → quiet h ≡ true
+silent_heard nothing e f = refl
+silent_heard (message m) e f = let w : ⊥ = omega arith in absurd w
+silent_heard keep_alive e f = let w : ⊥ = omega arith in absurd w
+silent_heard wrong_skipped e f = let w : ⊥ = omega arith in absurd w
+silent_heard large_skipped e f = let w : ⊥ = omega arith in absurd w
+silent_heard refused_now e f = let w : ⊥ = omega arith in absurd w
+silent_heard bad_state e f = let w : ⊥ = omega arith in absurd w
 
-pub onward-quiet : (n : ℕ) (t : Stepped) (bs : List ℕ) → quiet t.said ≡ true → onward n t bs ≡ further n (hears t.state t.room bs)
+pub onward_quiet : (n : ℕ) (t : Stepped) (bs : List ℕ) → quiet t.said ≡ true → onward n t bs ≡ further n (hears t.state t.room bs)
 unfolding onward
-onward-quiet n t bs q = rw q
+onward_quiet n t bs q = rw q
 
-pub onward-loud : (n : ℕ) (t : Stepped) (bs : List ℕ) → quiet t.said ≡ false → onward n t bs ≡ stopped n t
+pub onward_loud : (n : ℕ) (t : Stepped) (bs : List ℕ) → quiet t.said ≡ false → onward n t bs ≡ stopped n t
 unfolding onward
-onward-loud n t bs q = rw q
+onward_loud n t bs q = rw q
 
-stepping-to : (t : Stream) (room bs : List ℕ) (x : Stepped) (n : ℕ) → hears t room bs ≡ onward n x (drop n bs) → 0 < n → n ≤ length bs
+stepping_to : (t : Stream) (room bs : List ℕ) (x : Stepped) (n : ℕ) → hears t room bs ≡ onward n x (drop n bs) → 0 < n → n ≤ length bs
     → length x.room ≡ length room → (quiet x.said ≡ true → Going x.state (length x.room))
     → Stepping t room bs (answer_of (stopped n x)) x.room
 unfolding answer_of
-stepping-to t room bs x n h s k l g =
+stepping_to t room bs x n h s k l g =
     record {
       some = s;
       most = k;
       same_room = l;
-      loud = λ f. let e = h ∙ onward-loud n x (drop n bs) (loud-heard x.said f) in (ap answer_of (sym e), ap (λ (c : Call). c.room) (sym e));
-      silent = λ a b. let q = silent-heard x.said a b in (h ∙ onward-quiet n x (drop n bs) q, g q);
+      loud = λ f. let e = h ∙ onward_loud n x (drop n bs) (loud_heard x.said f) in (ap answer_of (sym e), ap (λ (c : Call). c.room) (sym e));
+      silent = λ a b. let q = silent_heard x.said a b in (h ∙ onward_quiet n x (drop n bs) q, g q);
     }
 
-pub stepping-of : (t : Stream) (room bs : List ℕ) (x : Stepped) (n : ℕ) (r : Heard) (room' : List ℕ) → r ≡ answer_of (stopped n x) → room' ≡ x.room
+pub stepping_of : (t : Stream) (room bs : List ℕ) (x : Stepped) (n : ℕ) (r : Heard) (room' : List ℕ) → r ≡ answer_of (stopped n x) → room' ≡ x.room
     → hears t room bs ≡ onward n x (drop n bs) → 0 < n → n ≤ length bs
     → length x.room ≡ length room → (quiet x.said ≡ true → Going x.state (length x.room))
     → Stepping t room bs r room'
-stepping-of t room bs x n r room' e f h s k l g = rw (e, f) (stepping-to t room bs x n h s k l g)
+stepping_of t room bs x n r room' e f h s k l g = rw (e, f) (stepping_to t room bs x n h s k l g)
 
 -- ---- the states that follow
 
-pub mode-range : (i n : ℕ) → mode_of i n < 4
+pub mode_range : (i n : ℕ) → mode_of i n < 4
 unfolding mode_of
-mode-range i n = by_tests (known i) (right i n)
+mode_range i n = by_tests (known i) (right i n)
   where
     by_tests : (a b : Bool) → cond a (cond b 0 2) 1 < 4
     by_tests true true = omega arith
     by_tests true false = omega arith
     by_tests false b = omega arith
 
-pub mode-at-range : (t : Stream) (n b : ℕ) → t.mode < 4 → mode_at t n b < 4
+pub mode_at_range : (t : Stream) (n b : ℕ) → t.mode < 4 → mode_at t n b < 4
 unfolding mode_at fitting
-mode-at-range t n b h = by_tests (eqb t.read 0)
+mode_at_range t n b h = by_tests (eqb t.read 0)
   where
     fits : (m : ℕ) → m < 4 → (x y : Bool) → cond x (cond y 3 0) m < 4
     fits m k true true = omega arith
@@ -82,19 +82,19 @@ mode-at-range t n b h = by_tests (eqb t.read 0)
     fits m k false y = k
 
     by_tests : (a : Bool) → cond (eqb (cond a (mode_of b t.length) t.mode) 0) (cond (ltb n t.length) 3 0) (cond a (mode_of b t.length) t.mode) < 4
-    by_tests true = fits (mode_of b t.length) (mode-range b t.length) (eqb (mode_of b t.length) 0) (ltb n t.length)
+    by_tests true = fits (mode_of b t.length) (mode_range b t.length) (eqb (mode_of b t.length) 0) (ltb n t.length)
     by_tests false = fits t.mode h (eqb t.mode 0) (ltb n t.length)
 
-pub going-between : (n : ℕ) → Going between n
-going-between n = record { in_prefix = λ k. (omega arith, refl, refl); in_frame = λ k. let w : ⊥ = omega arith in absurd w; running = omega arith }
+pub going_between : (n : ℕ) → Going between n
+going_between n = record { in_prefix = λ k. (omega arith, refl, refl); in_frame = λ k. let w : ⊥ = omega arith in absurd w; running = omega arith }
 
 -- the number that a prefix of so many bytes makes
-pub prefix-number : (t : Stream) (n b : ℕ) → Going t n → t.length_size < 4 → b < 256 → t.length * 256 + b < 256 ^ (t.length_size + 1)
-prefix-number t n b g k h = let p = (g.in_prefix k).0 in let e : 256 ^ (t.length_size + 1) ≡ 256 ^ t.length_size * 256 = rw (add-one t.length_size) (pow-suc 256 t.length_size) in omega (arith, p, e)
+pub prefix_number : (t : Stream) (n b : ℕ) → Going t n → t.length_size < 4 → b < 256 → t.length * 256 + b < 256 ^ (t.length_size + 1)
+prefix_number t n b g k h = let p = (g.in_prefix k).0 in let e : 256 ^ (t.length_size + 1) ≡ 256 ^ t.length_size * 256 = rw (add-one t.length_size) (pow-suc 256 t.length_size) in omega (arith, p, e)
 
 -- below 2^32
-pub prefix-below : (t : Stream) (n b : ℕ) → Going t n → t.length_size < 4 → b < 256 → t.length * 256 + b < 4294967296
-prefix-below t n b g k h = by_size t.length_size refl
+pub prefix_below : (t : Stream) (n b : ℕ) → Going t n → t.length_size < 4 → b < 256 → t.length * 256 + b < 4294967296
+prefix_below t n b g k h = by_size t.length_size refl
   where
     q : t.length < 256 ^ t.length_size
     q = (g.in_prefix k).0
@@ -106,9 +106,9 @@ prefix-below t n b g k h = by_size t.length_size refl
     by_size (suc (suc (suc zero))) e = let w : t.length < 256 ^ (suc (suc (suc zero))) = (rw e at q) in omega arith
     by_size (suc (suc (suc (suc j)))) e = let w : ⊥ = omega arith in absurd w
 
-pub going-unrefused : (t : Stream) (room : List ℕ) (b n : ℕ) → Going t n → t.length_size < 4 → b < 256 → ((prefix_byte t room b).said ≡ refused_now → ⊥) → Going (prefix_byte t room b).state n
+pub going_unrefused : (t : Stream) (room : List ℕ) (b n : ℕ) → Going t n → t.length_size < 4 → b < 256 → ((prefix_byte t room b).said ≡ refused_now → ⊥) → Going (prefix_byte t room b).state n
 unfolding prefix_byte prefixed
-going-unrefused t room b n g k h = by_size (ℕ_discrete t.length_size 3)
+going_unrefused t room b n g k h = by_size (ℕ_discrete t.length_size 3)
   where
     l : ℕ
     l = t.length * 256 + b
@@ -118,7 +118,7 @@ going-unrefused t room b n g k h = by_size (ℕ_discrete t.length_size 3)
 
     whole : Dec (longest_frame < l) → Dec (l ≡ 0) → goal (cond (ltb longest_frame l) (says refused_now (standing l 4 0 4) room) (cond (eqb l 0) (says keep_alive between room) (says nothing (standing l 4 0 0) room)))
     whole (yes a) d = rw (lt-ltb longest_frame l a) (λ q. absurd (q refl))
-    whole (no a) (yes d) = rw (le-ltb longest_frame l (omega arith), eq-eqb l 0 d) (λ q. going-between n)
+    whole (no a) (yes d) = rw (le-ltb longest_frame l (omega arith), eq-eqb l 0 d) (λ q. going_between n)
     whole (no a) (no d) =
         rw (le-ltb longest_frame l (omega arith), ne_eqb l 0 d)
         (λ q. record { in_prefix = λ z. let w : ⊥ = omega arith in absurd w; in_frame = λ z. (refl, omega arith, omega arith, λ y. omega arith, λ y. let w : ⊥ = omega arith in absurd w); running = omega arith })
@@ -128,15 +128,15 @@ going-unrefused t room b n g k h = by_size (ℕ_discrete t.length_size 3)
     by_size (yes e) = rw (eq-eqb t.length_size 3 e) (whole (dec_lt longest_frame l) (ℕ_discrete l 0))
     by_size (no e) =
         rw (ne_eqb t.length_size 3 e)
-        (λ q. record { in_prefix = λ z. (prefix-number t n b g k h, refl, refl); in_frame = λ z. let w : ⊥ = omega arith in absurd w; running = omega arith })
+        (λ q. record { in_prefix = λ z. (prefix_number t n b g k h, refl, refl); in_frame = λ z. let w : ⊥ = omega arith in absurd w; running = omega arith })
 
-pub going-prefix : (t : Stream) (room : List ℕ) (b n : ℕ) → Going t n → t.length_size < 4 → b < 256 → quiet (prefix_byte t room b).said ≡ true → Going (prefix_byte t room b).state n
-going-prefix t room b n g k h q = going-unrefused t room b n g k h (λ e. false≢true (sym (ap quiet e) ∙ q))
+pub going_prefix : (t : Stream) (room : List ℕ) (b n : ℕ) → Going t n → t.length_size < 4 → b < 256 → quiet (prefix_byte t room b).said ≡ true → Going (prefix_byte t room b).state n
+going_prefix t room b n g k h q = going_unrefused t room b n g k h (λ e. false≢true (sym (ap quiet e) ∙ q))
 
 -- a byte of the prefix leaves the room, and says the same in any
-pub prefix-any-room : (t : Stream) (room : List ℕ) (b : ℕ) → (prefix_answer t b ≡ answer_of (stopped 1 (prefix_byte t room b))) × (room ≡ (prefix_byte t room b).room)
+pub prefix_any_room : (t : Stream) (room : List ℕ) (b : ℕ) → (prefix_answer t b ≡ answer_of (stopped 1 (prefix_byte t room b))) × (room ≡ (prefix_byte t room b).room)
 unfolding prefix_answer prefix_byte prefixed answer_of
-prefix-any-room t room b = by_tests (eqb t.length_size 3) (ltb longest_frame l) (eqb l 0)
+prefix_any_room t room b = by_tests (eqb t.length_size 3) (ltb longest_frame l) (eqb l 0)
   where
     l : ℕ
     l = t.length * 256 + b
@@ -153,93 +153,93 @@ prefix-any-room t room b = by_tests (eqb t.length_size 3) (ltb longest_frame l) 
     by_tests true false false = (refl, refl)
     by_tests false y z = (refl, refl)
 
-pub byte-is-prefix : (t : Stream) (room : List ℕ) (b : ℕ) → t.length_size < 4 → byte t room b ≡ prefix_byte t room b
+pub byte_is_prefix : (t : Stream) (room : List ℕ) (b : ℕ) → t.length_size < 4 → byte t room b ≡ prefix_byte t room b
 unfolding byte
-byte-is-prefix t room b h = rw (lt-ltb t.length_size 4 h)
+byte_is_prefix t room b h = rw (lt-ltb t.length_size 4 h)
 
-pub byte-is-frame : (t : Stream) (room : List ℕ) (b : ℕ) → 4 ≤ t.length_size → byte t room b ≡ frame_byte t.length t.read (mode_at t (length room) b) room b
+pub byte_is_frame : (t : Stream) (room : List ℕ) (b : ℕ) → 4 ≤ t.length_size → byte t room b ≡ frame_byte t.length t.read (mode_at t (length room) b) room b
 unfolding byte
-byte-is-frame t room b h = rw (le-ltb t.length_size 4 h)
+byte_is_frame t room b h = rw (le-ltb t.length_size 4 h)
 
-pub prefix-stepping : (t : Stream) (room bs : List ℕ) (b : ℕ) (r : Heard) → Going t (length room) → t.length_size < 4 → 0 < length bs → b ≡ get_or bs 0 0 → b < 256
+pub prefix_stepping : (t : Stream) (room bs : List ℕ) (b : ℕ) (r : Heard) → Going t (length room) → t.length_size < 4 → 0 < length bs → b ≡ get_or bs 0 0 → b < 256
     → r ≡ prefix_answer t b → Stepping t room bs r room
-prefix-stepping t room [] b r g k h eb hb e = let w : ⊥ = omega arith in absurd w
-prefix-stepping t room (d ∷ ds) b r g k h eb hb e =
-    let a = prefix-any-room t room d in
+prefix_stepping t room [] b r g k h eb hb e = let w : ⊥ = omega arith in absurd w
+prefix_stepping t room (d ∷ ds) b r g k h eb hb e =
+    let a = prefix_any_room t room d in
     let hd : d < 256 = omega arith in
-    stepping-of t room (d ∷ ds) (prefix_byte t room d) 1 r room (e ∙ ap (prefix_answer t) eb ∙ a.0) a.1
-    (hears-step t room d ds ∙ ap (λ (x : Stepped). onward 1 x ds) (byte-is-prefix t room d k)) (omega arith) (omega arith) (ap length (sym a.1))
-    (λ q. rw (← a.1) (going-prefix t room d (length room) g k hd q))
+    stepping_of t room (d ∷ ds) (prefix_byte t room d) 1 r room (e ∙ ap (prefix_answer t) eb ∙ a.0) a.1
+    (hears_step t room d ds ∙ ap (λ (x : Stepped). onward 1 x ds) (byte_is_prefix t room d k)) (omega arith) (omega arith) (ap length (sym a.1))
+    (λ q. rw (← a.1) (going_prefix t room d (length room) g k hd q))
 
-pub progressed-room : (l r n m : ℕ) (room : List ℕ) → (progressed l r n m room).room ≡ room
+pub progressed_room : (l r n m : ℕ) (room : List ℕ) → (progressed l r n m room).room ≡ room
 unfolding progressed
-progressed-room l r n m room = by_end (eqb (r + n) l)
+progressed_room l r n m room = by_end (eqb (r + n) l)
   where
     by_end : (x : Bool) → (cond x (says (said_at_end l m room) between room) (says nothing (standing l 4 (r + n) m) room)).room ≡ room
     by_end true = refl
     by_end false = refl
 
-going-progressed : (l r n m : ℕ) (room : List ℕ) (N : ℕ) → l ≤ longest_frame → 0 < n → r + n ≤ l → m < 4 → (m ≡ 0 → l ≤ N) → Going (progressed l r n m room).state N
+going_progressed : (l r n m : ℕ) (room : List ℕ) (N : ℕ) → l ≤ longest_frame → 0 < n → r + n ≤ l → m < 4 → (m ≡ 0 → l ≤ N) → Going (progressed l r n m room).state N
 unfolding progressed
-going-progressed l r n m room N a s k h z = by_end (ℕ_discrete (r + n) l)
+going_progressed l r n m room N a s k h z = by_end (ℕ_discrete (r + n) l)
   where
     by_end : Dec (r + n ≡ l) → Going (cond (eqb (r + n) l) (says (said_at_end l m room) between room) (says nothing (standing l 4 (r + n) m) room)).state N
-    by_end (yes e) = rw (eq-eqb (r + n) l e) (going-between N)
+    by_end (yes e) = rw (eq-eqb (r + n) l e) (going_between N)
     by_end (no g) =
         rw (ne_eqb (r + n) l g)
         (record { in_prefix = λ y. let w : ⊥ = omega arith in absurd w; in_frame = λ y. (refl, a, omega arith, λ x. let q = z x in omega arith, λ x. omega arith); running = h })
 
-pub frame-stepping : (t : Stream) (room bs : List ℕ) (r : Heard) (room' : List ℕ) → Going t (length room) → 4 ≤ t.length_size → 0 < length bs
+pub frame_stepping : (t : Stream) (room bs : List ℕ) (r : Heard) (room' : List ℕ) → Going t (length room) → 4 ≤ t.length_size → 0 < length bs
     → r ≡ frame_answer_of t room bs → room' ≡ (frame_step t room bs).room → Stepping t room bs r room'
 unfolding frame_step frame_answer_of frame_run
-frame-stepping t room [] r room' g k h e f = let w : ⊥ = omega arith in absurd w
-frame-stepping t room (b ∷ bs) r room' g k h e f =
+frame_stepping t room [] r room' g k h e f = let w : ⊥ = omega arith in absurd w
+frame_stepping t room (b ∷ bs) r room' g k h e f =
     let i = g.in_frame k in
     let m : ℕ = mode_at t (length room) b in
     let n : ℕ = run_size t.length t.read (length (b ∷ bs)) in
-    let fm = mode-fitted t (length room) b in
-    let room_for : m ≡ 0 → t.length ≤ length room = fitted-room t.length (length room) m fm in
+    let fm = mode_fitted t (length room) b in
+    let room_for : m ≡ 0 → t.length ≤ length room = fitted_room t.length (length room) m fm in
     let lr : length (progressed t.length t.read n m (kept m room t.read (take n (b ∷ bs)))).room ≡ length room =
-    ap length (progressed-room t.length t.read n m (kept m room t.read (take n (b ∷ bs))))
-    ∙ kept-length m room t.read (take n (b ∷ bs)) (λ z. let q = room_for z in omega (arith, length-take n (b ∷ bs), i.2)) in
-    stepping-of t room (b ∷ bs) (frame_step t room (b ∷ bs)) n r room' e f
-    (hears-step t room b bs ∙ ap (λ (x : Stepped). onward 1 x bs) (byte-is-frame t room b k)
-    ∙ run-of-frame t.length t.read m room b bs i.2 fm (λ z. let q = room_for z in omega (arith, i.2)))
+    ap length (progressed_room t.length t.read n m (kept m room t.read (take n (b ∷ bs))))
+    ∙ kept_length m room t.read (take n (b ∷ bs)) (λ z. let q = room_for z in omega (arith, length-take n (b ∷ bs), i.2)) in
+    stepping_of t room (b ∷ bs) (frame_step t room (b ∷ bs)) n r room' e f
+    (hears_step t room b bs ∙ ap (λ (x : Stepped). onward 1 x bs) (byte_is_frame t room b k)
+    ∙ run_of_frame t.length t.read m room b bs i.2 fm (λ z. let q = room_for z in omega (arith, i.2)))
     (omega (arith, i.2)) (omega arith) lr
-    (λ q. rw lr (going-progressed t.length t.read n m (kept m room t.read (take n (b ∷ bs))) (length room) i.1 (omega (arith, i.2)) (omega (arith, i.2)) (mode-at-range t (length room) b g.running) room_for))
+    (λ q. rw lr (going_progressed t.length t.read n m (kept m room t.read (take n (b ∷ bs))) (length room) i.1 (omega (arith, i.2)) (omega (arith, i.2)) (mode_at_range t (length room) b g.running) room_for))
 
 -- ---- the code's loop
 
-further-none : (c : Call) → c ≡ further 0 c
-further-none c = let e : c.used ≡ 0 + c.used = omega arith in ap (λ (n : ℕ). record { said = c.said; used = n; state = c.state; room = c.room }) e
+further_none : (c : Call) → c ≡ further 0 c
+further_none c = let e : c.used ≡ 0 + c.used = omega arith in ap (λ (n : ℕ). record { said = c.said; used = n; state = c.state; room = c.room }) e
 
 pub run_holds : (s : Stream) (room bs : List ℕ) → hears s room bs ≡ further 0 (hears s room (drop 0 bs))
-run_holds s room bs = further-none (hears s room bs)
+run_holds s room bs = further_none (hears s room bs)
 
-part-is-rest : (bs : List ℕ) (at : ℕ) → take (length bs - at) (drop at bs) ≡ drop at bs
-part-is-rest bs at = take_all (length bs - at) (drop at bs) (omega (arith, length-drop at bs))
+part_is_rest : (bs : List ℕ) (at : ℕ) → take (length bs - at) (drop at bs) ≡ drop at bs
+part_is_rest bs at = take_all (length bs - at) (drop at bs) (omega (arith, length-drop at bs))
 
-pub run-again : (s t : Stream) (room₀ room bs : List ℕ) (at : ℕ) (p : Heard) (room' : List ℕ) → hears s room₀ bs ≡ further at (hears t room (drop at bs))
+pub run_again : (s t : Stream) (room₀ room bs : List ℕ) (at : ℕ) (p : Heard) (room' : List ℕ) → hears s room₀ bs ≡ further at (hears t room (drop at bs))
     → Stepping t room (take (length bs - at) (drop at bs)) p room' → p.number ≡ 0 → p.event ≡ 0
     → hears s room₀ bs ≡ further (at + p.used) (hears p.state room' (drop (at + p.used) bs))
-run-again s t room₀ room bs at p room' e st a b =
+run_again s t room₀ room bs at p room' e st a b =
     let k : hears t room (drop at bs) ≡ further p.used (hears p.state room' (drop p.used (drop at bs))) =
-    subst (λ (l : List ℕ). hears t room l ≡ further p.used (hears p.state room' (drop p.used l))) (part-is-rest bs at) (st.silent a b).0 in
+    subst (λ (l : List ℕ). hears t room l ≡ further p.used (hears p.state room' (drop p.used l))) (part_is_rest bs at) (st.silent a b).0 in
     e ∙ ap (further at) k ∙ twice at p.used (hears p.state room' (drop p.used (drop at bs)))
     ∙ ap (λ (l : List ℕ). further (at + p.used) (hears p.state room' l)) (drop-drop p.used at bs)
   where
     twice : (a b : ℕ) (c : Call) → further a (further b c) ≡ further (a + b) c
     twice a b c = let f : a + (b + c.used) ≡ a + b + c.used = omega arith in ap (λ (n : ℕ). record { said = c.said; used = n; state = c.state; room = c.room }) f
 
-pub run-loud : (s t : Stream) (room₀ room bs : List ℕ) (at : ℕ) (p : Heard) (room' : List ℕ) → hears s room₀ bs ≡ further at (hears t room (drop at bs))
+pub run_loud : (s t : Stream) (room₀ room bs : List ℕ) (at : ℕ) (p : Heard) (room' : List ℕ) → hears s room₀ bs ≡ further at (hears t room (drop at bs))
     → Stepping t room (take (length bs - at) (drop at bs)) p room' → ((p.number ≡ 0) × (p.event ≡ 0) → ⊥)
     → (record { number = p.number; event = p.event; used = at + p.used; size = p.size; state = p.state } ≡ answer_of (hears s room₀ bs)) × (room' ≡ (hears s room₀ bs).room)
 unfolding answer_of
-run-loud s t room₀ room bs at p room' e st f =
+run_loud s t room₀ room bs at p room' e st f =
     let k = st.loud f in
-    let a : p ≡ answer_of (hears t room (drop at bs)) = k.0 ∙ ap (λ (l : List ℕ). answer_of (hears t room l)) (part-is-rest bs at) in (
+    let a : p ≡ answer_of (hears t room (drop at bs)) = k.0 ∙ ap (λ (l : List ℕ). answer_of (hears t room l)) (part_is_rest bs at) in (
       ap (λ (h : Heard). record { number = h.number; event = h.event; used = at + h.used; size = h.size; state = h.state }) a ∙ ap answer_of (sym e),
-      k.1 ∙ ap (λ (l : List ℕ). (hears t room l).room) (part-is-rest bs at) ∙ ap (λ (c : Call). c.room) (sym e),
+      k.1 ∙ ap (λ (l : List ℕ). (hears t room l).room) (part_is_rest bs at) ∙ ap (λ (c : Call). c.room) (sym e),
     )
 
 pub run_ends : (s t : Stream) (room₀ room bs : List ℕ) (at : ℕ) → hears s room₀ bs ≡ further at (hears t room (drop at bs)) → length bs ≤ at
@@ -249,19 +249,19 @@ run_ends s t room₀ room bs at e h =
     let d : drop at bs ≡ [] = drop_of_length-le bs {i = at} h in
     let k : hears s room₀ bs ≡ further at (hears t room []) = e ∙ ap (λ (l : List ℕ). further at (hears t room l)) d in
     let z : at ≡ at + 0 = omega arith in
-    (ap (λ (n : ℕ). record { number = 0; event = 0; used = n; size = 0; state = t }) z ∙ none t room at ∙ ap answer_of (sym k), none-room t room ∙ ap (λ (c : Call). c.room) (sym k))
+    (ap (λ (n : ℕ). record { number = 0; event = 0; used = n; size = 0; state = t }) z ∙ none t room at ∙ ap answer_of (sym k), none_room t room ∙ ap (λ (c : Call). c.room) (sym k))
   where
     none : (t : Stream) (room : List ℕ) (at : ℕ) → record { number = 0; event = 0; used = at + 0; size = 0; state = t } ≡ answer_of (further at (hears t room []))
     none t room at = unfold hears answer_of in refl
 
-    none-room : (t : Stream) (room : List ℕ) → room ≡ (hears t room []).room
-    none-room t room = unfold hears in refl
+    none_room : (t : Stream) (room : List ℕ) → room ≡ (hears t room []).room
+    none_room t room = unfold hears in refl
 
 -- ---- the whole call
 
-pub usable-going : (s : Stream) (n : ℕ) → usable s n ≡ true → (s.mode ≡ 4 → ⊥) → Going s n
+pub usable_going : (s : Stream) (n : ℕ) → usable s n ≡ true → (s.mode ≡ 4 → ⊥) → Going s n
 unfolding usable usable_prefix usable_frame
-usable-going s n u f = by_size (dec_lt s.length_size 4)
+usable_going s n u f = by_size (dec_lt s.length_size 4)
   where
     both : {a b : Bool} → (a && b) ≡ true → (a ≡ true) × (b ≡ true)
     both {a} {b} e = (and-eq-true_iff a b).0 e
@@ -285,44 +285,44 @@ usable-going s n u f = by_size (dec_lt s.length_size 4)
         let m = by_mode (ℕ_discrete s.mode 0) x.1 in
         record { in_prefix = λ z. absurd (k z); in_frame = λ z. (eqb-true s.length_size 4 v.0, leb-true s.length longest_frame y.0, ltb-true s.read s.length y.1, m.0, m.1); running = m.2 }
 
-pub called-unusable : (s : Stream) (room bs : List ℕ) → usable s (length room) ≡ false → called s room bs ≡ unmoved bad_state s room
+pub called_unusable : (s : Stream) (room bs : List ℕ) → usable s (length room) ≡ false → called s room bs ≡ unmoved bad_state s room
 unfolding called
-called-unusable s room bs e = rw e
+called_unusable s room bs e = rw e
 
-pub called-refused : (s : Stream) (room bs : List ℕ) → usable s (length room) ≡ true → s.mode ≡ 4 → called s room bs ≡ unmoved refused_now s room
+pub called_refused : (s : Stream) (room bs : List ℕ) → usable s (length room) ≡ true → s.mode ≡ 4 → called s room bs ≡ unmoved refused_now s room
 unfolding called
-called-refused s room bs e f = rw (e, eq-eqb s.mode 4 f)
+called_refused s room bs e f = rw (e, eq-eqb s.mode 4 f)
 
-pub called-runs : (s : Stream) (room bs : List ℕ) → usable s (length room) ≡ true → (s.mode ≡ 4 → ⊥) → called s room bs ≡ hears s room bs
+pub called_runs : (s : Stream) (room bs : List ℕ) → usable s (length room) ≡ true → (s.mode ≡ 4 → ⊥) → called s room bs ≡ hears s room bs
 unfolding called
-called-runs s room bs e f = rw (e, ne_eqb s.mode 4 f)
+called_runs s room bs e f = rw (e, ne_eqb s.mode 4 f)
 
-pub hear-unusable : (s : Stream) (room bs : List ℕ) → usable s (length room) ≡ false
+pub hear_unusable : (s : Stream) (room bs : List ℕ) → usable s (length room) ≡ false
     → (record { number = unusable; event = 0; used = 0; size = 0; state = s } ≡ hear_answer s room bs) × (room ≡ hear_room s room bs)
 unfolding hear_answer hear_room answer_of
-hear-unusable s room bs e = let k = sym (called-unusable s room bs e) in (ap answer_of k, ap (λ (c : Call). c.room) k)
+hear_unusable s room bs e = let k = sym (called_unusable s room bs e) in (ap answer_of k, ap (λ (c : Call). c.room) k)
 
-pub hear-refused : (s : Stream) (room bs : List ℕ) → usable s (length room) ≡ true → s.mode ≡ 4
+pub hear_refused : (s : Stream) (room bs : List ℕ) → usable s (length room) ≡ true → s.mode ≡ 4
     → (record { number = frame_too_long; event = 0; used = 0; size = 0; state = s } ≡ hear_answer s room bs) × (room ≡ hear_room s room bs)
 unfolding hear_answer hear_room answer_of
-hear-refused s room bs e f = let k = sym (called-refused s room bs e f) in (ap answer_of k, ap (λ (c : Call). c.room) k)
+hear_refused s room bs e f = let k = sym (called_refused s room bs e f) in (ap answer_of k, ap (λ (c : Call). c.room) k)
 
-pub hear-run : (s : Stream) (room bs : List ℕ) (r : Heard) (room' : List ℕ) → usable s (length room) ≡ true → (s.mode ≡ 4 → ⊥)
+pub hear_run : (s : Stream) (room bs : List ℕ) (r : Heard) (room' : List ℕ) → usable s (length room) ≡ true → (s.mode ≡ 4 → ⊥)
     → (r ≡ answer_of (hears s room bs)) × (room' ≡ (hears s room bs).room) → (r ≡ hear_answer s room bs) × (room' ≡ hear_room s room bs)
 unfolding hear_answer hear_room
-hear-run s room bs r room' e f g = let k = sym (called-runs s room bs e f) in (g.0 ∙ ap answer_of k, g.1 ∙ ap (λ (c : Call). c.room) k)
+hear_run s room bs r room' e f g = let k = sym (called_runs s room bs e f) in (g.0 ∙ ap answer_of k, g.1 ∙ ap (λ (c : Call). c.room) k)
 
 -- ---- the run of a frame, as coded
 
-pub within-part : (bs : List ℕ) (at n : ℕ) → at ≤ length bs → n ≤ length (take (length bs - at) (drop at bs)) → at + n ≤ length bs
-within-part bs at n h k = omega (arith, length-take (length bs - at) (drop at bs), length-drop at bs)
+pub within_part : (bs : List ℕ) (at n : ℕ) → at ≤ length bs → n ≤ length (take (length bs - at) (drop at bs)) → at + n ≤ length bs
+within_part bs at n h k = omega (arith, length-take (length bs - at) (drop at bs), length-drop at bs)
 
-pub part-some : (bs : List ℕ) (at : ℕ) → at < length bs → 0 < length (take (length bs - at) (drop at bs))
-part-some bs at h = omega (arith, length-take (length bs - at) (drop at bs), length-drop at bs)
+pub part_some : (bs : List ℕ) (at : ℕ) → at < length bs → 0 < length (take (length bs - at) (drop at bs))
+part_some bs at h = omega (arith, length-take (length bs - at) (drop at bs), length-drop at bs)
 
-end-answers : (l m n : ℕ) (room : List ℕ) → (m ≡ 0 → l ≤ length room) → end_answer l m n ≡ answer_of (stopped n (says (said_at_end l m room) between room))
+end_answers : (l m n : ℕ) (room : List ℕ) → (m ≡ 0 → l ≤ length room) → end_answer l m n ≡ answer_of (stopped n (says (said_at_end l m room) between room))
 unfolding end_answer answer_of said_at_end
-end-answers l m n room h = by_mode (ℕ_discrete m 0) (ℕ_discrete m 1) (ℕ_discrete m 2)
+end_answers l m n room h = by_mode (ℕ_discrete m 0) (ℕ_discrete m 1) (ℕ_discrete m 2)
   where
     given : Said → Heard
     given x = record { number = number_of x; event = event_of x; used = n; size = size_of x; state = between }
@@ -338,65 +338,65 @@ end-answers l m n room h = by_mode (ℕ_discrete m 0) (ℕ_discrete m 1) (ℕ_di
     by_mode (no e) (no f) (yes g) = rw (ne_eqb m 0 e, ne_eqb m 1 f, eq-eqb m 2 g)
     by_mode (no e) (no f) (no g) = rw (ne_eqb m 0 e, ne_eqb m 1 f, ne_eqb m 2 g)
 
-pub progressed-end : (l r n m : ℕ) (room : List ℕ) → r + n ≡ l → progressed l r n m room ≡ says (said_at_end l m room) between room
+pub progressed_end : (l r n m : ℕ) (room : List ℕ) → r + n ≡ l → progressed l r n m room ≡ says (said_at_end l m room) between room
 unfolding progressed
-progressed-end l r n m room e = rw (eq-eqb (r + n) l e)
+progressed_end l r n m room e = rw (eq-eqb (r + n) l e)
 
-pub progressed-on : (l r n m : ℕ) (room : List ℕ) → (r + n ≡ l → ⊥) → progressed l r n m room ≡ says nothing (standing l 4 (r + n) m) room
+pub progressed_on : (l r n m : ℕ) (room : List ℕ) → (r + n ≡ l → ⊥) → progressed l r n m room ≡ says nothing (standing l 4 (r + n) m) room
 unfolding progressed
-progressed-on l r n m room e = rw (ne_eqb (r + n) l e)
+progressed_on l r n m room e = rw (ne_eqb (r + n) l e)
 
 -- as the code has it, for its own names of mode and size
-step-says : (t : Stream) (room bs : List ℕ) (m n : ℕ) → m ≡ mode_at t (length room) (get_or bs 0 0) → n ≡ min (t.length - t.read) (length bs)
+step_says : (t : Stream) (room bs : List ℕ) (m n : ℕ) → m ≡ mode_at t (length room) (get_or bs 0 0) → n ≡ min (t.length - t.read) (length bs)
     → (frame_answer_of t room bs ≡ answer_of (stopped n (progressed t.length t.read n m (kept m room t.read (take n bs)))))
     × (frame_step t room bs ≡ progressed t.length t.read n m (kept m room t.read (take n bs)))
 unfolding frame_answer_of frame_step frame_run
-step-says t room bs m n em en = rw (em, en) (refl, refl)
+step_says t room bs m n em en = rw (em, en) (refl, refl)
 
-pub room-for-it : (t : Stream) (n b m : ℕ) → m ≡ mode_at t n b → m ≡ 0 → t.length ≤ n
-room-for-it t n b m e z = fitted-room t.length n (mode_at t n b) (mode-fitted t n b) (sym e ∙ z)
+pub room_for_it : (t : Stream) (n b m : ℕ) → m ≡ mode_at t n b → m ≡ 0 → t.length ≤ n
+room_for_it t n b m e z = fitted_room t.length n (mode_at t n b) (mode_fitted t n b) (sym e ∙ z)
 
-pub frame-ended : (t : Stream) (room bs : List ℕ) (m n : ℕ) (r : Heard) (room' : List ℕ) → Going t (length room) → 4 ≤ t.length_size
+pub frame_ended : (t : Stream) (room bs : List ℕ) (m n : ℕ) (r : Heard) (room' : List ℕ) → Going t (length room) → 4 ≤ t.length_size
     → m ≡ mode_at t (length room) (get_or bs 0 0) → n ≡ min (t.length - t.read) (length bs) → n ≡ t.length - t.read
     → room' ≡ kept m room t.read (take (n - 0) bs) → r ≡ end_answer t.length m n
     → (r ≡ frame_answer_of t room bs) × (room' ≡ (frame_step t room bs).room)
-frame-ended t room bs m n r room' g k em en e er ea =
+frame_ended t room bs m n r room' g k em en e er ea =
     let i = g.in_frame k in
     let z : n - 0 ≡ n = omega arith in
     let er' : room' ≡ kept m room t.read (take n bs) = er ∙ ap (λ (x : ℕ). kept m room t.read (take x bs)) z in
-    let w = step-says t room bs m n em en in
-    let q = progressed-end t.length t.read n m (kept m room t.read (take n bs)) (omega (arith, i.2)) in
-    let fits : m ≡ 0 → t.length ≤ length (kept m room t.read (take n bs)) = λ x. let y = room-for-it t (length room) (get_or bs 0 0) m em x in
-    omega (arith, kept-length m room t.read (take n bs) (λ v. omega (arith, length-take n bs, i.2))) in (
-      ea ∙ end-answers t.length m n (kept m room t.read (take n bs)) fits ∙ ap (λ (x : Stepped). answer_of (stopped n x)) (sym q) ∙ sym w.0,
+    let w = step_says t room bs m n em en in
+    let q = progressed_end t.length t.read n m (kept m room t.read (take n bs)) (omega (arith, i.2)) in
+    let fits : m ≡ 0 → t.length ≤ length (kept m room t.read (take n bs)) = λ x. let y = room_for_it t (length room) (get_or bs 0 0) m em x in
+    omega (arith, kept_length m room t.read (take n bs) (λ v. omega (arith, length-take n bs, i.2))) in (
+      ea ∙ end_answers t.length m n (kept m room t.read (take n bs)) fits ∙ ap (λ (x : Stepped). answer_of (stopped n x)) (sym q) ∙ sym w.0,
       er' ∙ sym (ap (λ (x : Stepped). x.room) (w.1 ∙ q)),
     )
 
-pub frame-inside : (t : Stream) (room bs : List ℕ) (m n on : ℕ) (next : Stream) (r : Heard) (room' : List ℕ) → Going t (length room) → 4 ≤ t.length_size
+pub frame_inside : (t : Stream) (room bs : List ℕ) (m n on : ℕ) (next : Stream) (r : Heard) (room' : List ℕ) → Going t (length room) → 4 ≤ t.length_size
     → m ≡ mode_at t (length room) (get_or bs 0 0) → n ≡ min (t.length - t.read) (length bs) → (n ≡ t.length - t.read → ⊥)
     → room' ≡ kept m room t.read (take (n - 0) bs) → on ≡ t.read + n → next ≡ standing t.length 4 on m → r ≡ without_event 0 n next
     → (r ≡ frame_answer_of t room bs) × (room' ≡ (frame_step t room bs).room)
 unfolding answer_of
-frame-inside t room bs m n on next r room' g k em en e er eo ex ea =
+frame_inside t room bs m n on next r room' g k em en e er eo ex ea =
     let i = g.in_frame k in
     let z : n - 0 ≡ n = omega arith in
     let er' : room' ≡ kept m room t.read (take n bs) = er ∙ ap (λ (x : ℕ). kept m room t.read (take x bs)) z in
-    let w = step-says t room bs m n em en in
-    let q = progressed-on t.length t.read n m (kept m room t.read (take n bs)) (λ x. e (omega (arith, i.2))) in
+    let w = step_says t room bs m n em en in
+    let q = progressed_on t.length t.read n m (kept m room t.read (take n bs)) (λ x. e (omega (arith, i.2))) in
     let said : r ≡ without_event 0 n (standing t.length 4 (t.read + n) m) = ea ∙ ap (without_event 0 n) (ex ∙ ap (λ (x : ℕ). standing t.length 4 x m) eo) in
     (said ∙ ap (λ (x : Stepped). answer_of (stopped n x)) (sym q) ∙ sym w.0, er' ∙ sym (ap (λ (x : Stepped). x.room) (w.1 ∙ q)))
 
-pub keep-fits : (t : Stream) (N b m n k : ℕ) (bs : List ℕ) → Going t N → 4 ≤ t.length_size → m ≡ mode_at t N b → n ≡ min (t.length - t.read) k → m ≡ 0
+pub keep_fits : (t : Stream) (N b m n k : ℕ) (bs : List ℕ) → Going t N → 4 ≤ t.length_size → m ≡ mode_at t N b → n ≡ min (t.length - t.read) k → m ≡ 0
     → t.read + length (take (n - 0) bs) ≤ N
-keep-fits t N b m n k bs g h em en z = let y = room-for-it t N b m em z in let i = g.in_frame h in omega (arith, length-take (n - 0) bs, i.2)
+keep_fits t N b m n k bs g h em en z = let y = room_for_it t N b m em z in let i = g.in_frame h in omega (arith, length-take (n - 0) bs, i.2)
 
-pub frame-byte-is : (l r m : ℕ) (room : List ℕ) (b : ℕ) → frame_byte l r m room b ≡ progressed l r 1 m (kept m room r (b ∷ []))
+pub frame_byte_is : (l r m : ℕ) (room : List ℕ) (b : ℕ) → frame_byte l r m room b ≡ progressed l r 1 m (kept m room r (b ∷ []))
 unfolding frame_byte
-frame-byte-is l r m room b = refl
+frame_byte_is l r m room b = refl
 
-progressed-unrefused : (l r n m : ℕ) (room : List ℕ) → number_of (progressed l r n m room).said ≡ frame_too_long → ⊥
+progressed_unrefused : (l r n m : ℕ) (room : List ℕ) → number_of (progressed l r n m room).said ≡ frame_too_long → ⊥
 unfolding progressed said_at_end
-progressed-unrefused l r n m room = by_tests (eqb (r + n) l) (eqb m 0) (eqb m 1) (eqb m 2)
+progressed_unrefused l r n m room = by_tests (eqb (r + n) l) (eqb m 0) (eqb m 1) (eqb m 2)
   where
     by_tests : (x y z v : Bool)
         → number_of (cond x (says (cond y (message (take l room)) (cond z nothing (cond v wrong_skipped large_skipped))) between room) (says nothing (standing l 4 (r + n) m) room)).said ≡ frame_too_long → ⊥
@@ -406,9 +406,9 @@ progressed-unrefused l r n m room = by_tests (eqb (r + n) l) (eqb m 0) (eqb m 1)
     by_tests true false false false e = omega arith
     by_tests false y z v e = omega arith
 
-prefix-refused : (t : Stream) (room : List ℕ) (b : ℕ) → number_of (prefix_byte t room b).said ≡ frame_too_long → Refused (prefix_byte t room b).state
+prefix_refused : (t : Stream) (room : List ℕ) (b : ℕ) → number_of (prefix_byte t room b).said ≡ frame_too_long → Refused (prefix_byte t room b).state
 unfolding prefix_byte prefixed
-prefix-refused t room b = by_tests (eqb t.length_size 3) (ltb longest_frame (t.length * 256 + b)) (eqb (t.length * 256 + b) 0) refl
+prefix_refused t room b = by_tests (eqb t.length_size 3) (ltb longest_frame (t.length * 256 + b)) (eqb (t.length * 256 + b) 0) refl
   where
     made : Bool → Bool → Bool → Stepped
     made x y z = cond x (cond y (says refused_now (standing (t.length * 256 + b) 4 0 4) room) (cond z (says keep_alive between room) (says nothing (standing (t.length * 256 + b) 4 0 0) room))) (says nothing (standing (t.length * 256 + b) (t.length_size + 1) 0 0) room)
@@ -421,32 +421,32 @@ prefix-refused t room b = by_tests (eqb t.length_size 3) (ltb longest_frame (t.l
 
 -- ---- one byte, from a state that goes on
 
-pub byte-going : (t : Stream) (room : List ℕ) (b : ℕ) → Going t (length room) → b < 256 → ((byte t room b).said ≡ refused_now → ⊥) → Going (byte t room b).state (length (byte t room b).room)
-byte-going t room b g h f = by_size (dec_lt t.length_size 4)
+pub byte_going : (t : Stream) (room : List ℕ) (b : ℕ) → Going t (length room) → b < 256 → ((byte t room b).said ≡ refused_now → ⊥) → Going (byte t room b).state (length (byte t room b).room)
+byte_going t room b g h f = by_size (dec_lt t.length_size 4)
   where
     by_size : Dec (t.length_size < 4) → Going (byte t room b).state (length (byte t room b).room)
     by_size (yes k) =
-        let e = byte-is-prefix t room b k in
-        let a = (prefix-any-room t room b).1 in
-        rw (e, ← a) (going-unrefused t room b (length room) g k h (λ x. f (ap (λ (y : Stepped). y.said) e ∙ x)))
+        let e = byte_is_prefix t room b k in
+        let a = (prefix_any_room t room b).1 in
+        rw (e, ← a) (going_unrefused t room b (length room) g k h (λ x. f (ap (λ (y : Stepped). y.said) e ∙ x)))
     by_size (no k) =
-        let e = byte-is-frame t room b (omega arith) in
+        let e = byte_is_frame t room b (omega arith) in
         let i = g.in_frame (omega arith) in
         let m : ℕ = mode_at t (length room) b in
-        let fm = mode-fitted t (length room) b in
-        let room_for : m ≡ 0 → t.length ≤ length room = fitted-room t.length (length room) m fm in
+        let fm = mode_fitted t (length room) b in
+        let room_for : m ≡ 0 → t.length ≤ length room = fitted_room t.length (length room) m fm in
         let R : List ℕ = kept m room t.read (b ∷ []) in
         let lr : length (progressed t.length t.read 1 m R).room ≡ length room =
-        ap length (progressed-room t.length t.read 1 m R) ∙ kept-length m room t.read (b ∷ []) (λ z. let q = room_for z in omega (arith, i.2)) in
-        rw (e, frame-byte-is t.length t.read m room b, lr)
-        (going-progressed t.length t.read 1 m R (length room) i.1 (omega arith) (omega (arith, i.2)) (mode-at-range t (length room) b g.running) room_for)
+        ap length (progressed_room t.length t.read 1 m R) ∙ kept_length m room t.read (b ∷ []) (λ z. let q = room_for z in omega (arith, i.2)) in
+        rw (e, frame_byte_is t.length t.read m room b, lr)
+        (going_progressed t.length t.read 1 m R (length room) i.1 (omega arith) (omega (arith, i.2)) (mode_at_range t (length room) b g.running) room_for)
 
 -- 30 is heard only with the refused state
-pub byte-refused : (t : Stream) (room : List ℕ) (b : ℕ) → Going t (length room) → number_of (byte t room b).said ≡ frame_too_long → Refused (byte t room b).state
-byte-refused t room b g e = by_size (dec_lt t.length_size 4)
+pub byte_refused : (t : Stream) (room : List ℕ) (b : ℕ) → Going t (length room) → number_of (byte t room b).said ≡ frame_too_long → Refused (byte t room b).state
+byte_refused t room b g e = by_size (dec_lt t.length_size 4)
   where
     by_size : Dec (t.length_size < 4) → Refused (byte t room b).state
-    by_size (yes k) = let q = byte-is-prefix t room b k in rw q (prefix-refused t room b (rw q at e))
+    by_size (yes k) = let q = byte_is_prefix t room b k in rw q (prefix_refused t room b (rw q at e))
     by_size (no k) =
-        let q = byte-is-frame t room b (omega arith) in
-        absurd (progressed-unrefused t.length t.read 1 (mode_at t (length room) b) (kept (mode_at t (length room) b) room t.read (b ∷ [])) (rw (q, frame-byte-is t.length t.read (mode_at t (length room) b) room b) at e))
+        let q = byte_is_frame t room b (omega arith) in
+        absurd (progressed_unrefused t.length t.read 1 (mode_at t (length room) b) (kept (mode_at t (length room) b) room t.read (b ∷ [])) (rw (q, frame_byte_is t.length t.read (mode_at t (length room) b) room b) at e))

@@ -9,9 +9,9 @@ use Rattle.stream.specs.Reading.{refusing, usable, usable_prefix, usable_frame}
 use Rattle.stream.specs.Standing.{Going, Refused}
 use Rattle.stream.specs.declared.Stream.{Stream}
 
-pub going-usable : (s : Stream) (n : ℕ) → Going s n → usable s n ≡ true
+pub going_usable : (s : Stream) (n : ℕ) → Going s n → usable s n ≡ true
 unfolding usable usable_prefix usable_frame
-going-usable s n g = by_size (dec_lt s.length_size 4) (ℕ_discrete s.mode 0)
+going_usable s n g = by_size (dec_lt s.length_size 4) (ℕ_discrete s.mode 0)
   where
     by_size : Dec (s.length_size < 4) → Dec (s.mode ≡ 0)
         → cond (ltb s.length_size 4) (eqb s.read 0 && eqb s.mode 0 && ltb s.length (256 ^ s.length_size))
@@ -29,14 +29,14 @@ going-usable s n g = by_size (dec_lt s.length_size 4) (ℕ_discrete s.mode 0)
         let f : s.mode ≡ 4 → ⊥ = λ e. omega (arith, g.running) in
         rw (le-ltb s.length_size 4 (omega arith), eq-eqb s.length_size 4 i.0, ne_eqb s.mode 4 f, le-leb s.length longest_frame i.1, lt-ltb s.read s.length i.2, ne_eqb s.mode 0 m, lt-ltb 0 s.read (i.4 (omega arith)), lt-ltb s.mode 4 g.running)
 
-pub refused-usable : (s : Stream) (n : ℕ) → Refused s → usable s n ≡ true
+pub refused_usable : (s : Stream) (n : ℕ) → Refused s → usable s n ≡ true
 unfolding usable
-refused-usable s n r =
+refused_usable s n r =
     rw (r.whole, eq-eqb s.mode 4 r.mode, eq-eqb s.read 0 r.none, lt-ltb longest_frame s.length r.long)
 
-pub usable-refused : (s : Stream) (n : ℕ) → usable s n ≡ true → s.mode ≡ refusing → Refused s
+pub usable_refused : (s : Stream) (n : ℕ) → usable s n ≡ true → s.mode ≡ refusing → Refused s
 unfolding usable usable_prefix
-usable-refused s n u m = by_size (dec_lt s.length_size 4)
+usable_refused s n u m = by_size (dec_lt s.length_size 4)
   where
     both : (a b : Bool) → (a && b) ≡ true → (a ≡ true) × (b ≡ true)
     both a b e = (and-eq-true_iff a b).0 e

@@ -3,81 +3,81 @@
 use Rattle.std.specs.Prelude.{◌≡◌, refl, List, [], ◌∷◌, ◌++◌, Bool, true, false, cond, ℕ, ◌+◌, ◌*◌, ◌^◌, ◌≤◌, ◌<◌, length, take, drop, get_or, eqb, ltb}
 use Rattle.std.proofs.Common.{ap, ap₂, ◌∙◌, arith, drop_of_length-le, take_all, take_at, lt-ltb, le-ltb, ne_eqb}
 use Rattle.octets.specs.Octets.{pasted, be, number_at}
-use Rattle.octets.specs.OctetsLaws.{number-of-be}
+use Rattle.octets.specs.OctetsLaws.{number_of_be}
 use Rattle.limits.specs.Limits.{longest_frame}
 use Rattle.frames.specs.Frames.{Bytes, known, right, frame_of}
 use Rattle.stream.specs.Reading.{mode_of, fitting, mode_at, kept, Said, nothing, message, keep_alive, wrong_skipped, large_skipped, refused_now, bad_state, quiet, Stepped, standing, between, refused_by, says, prefixed, prefix_byte, said_at_end, progressed, byte, Call, hears}
-use Rattle.stream.specs.ReadingLaws.{hears-step, run-of-frame, mode-fitted, run-says}
+use Rattle.stream.specs.ReadingLaws.{hears_step, run_of_frame, mode_fitted, run_says}
 use Rattle.stream.specs.Steps.{onward, run_size, frame_run}
-use Rattle.stream.specs.StepsLaws.{byte-is-frame, progressed-end}
+use Rattle.stream.specs.StepsLaws.{byte_is_frame, progressed_end}
 use Rattle.stream.specs.Standing.{Going}
 use Rattle.stream.specs.Cuttings.{ends, after, streamed}
-use Rattle.stream.specs.CuttingsLaws.{streamed-step, streamed-refused, after-quiet, call-is}
+use Rattle.stream.specs.CuttingsLaws.{streamed_step, streamed_refused, after_quiet, call_is}
 use Rattle.stream.specs.Saying.{frame_says, frame_leaves}
 use Rattle.stream.specs.declared.Stream.{Stream}
 
 -- ---- the prefix
 
-pub byte-1 : (room : List ℕ) (d : ℕ) → byte between room d ≡ says nothing (standing (0 * 256 + d) 1 0 0) room
+pub byte_1 : (room : List ℕ) (d : ℕ) → byte between room d ≡ says nothing (standing (0 * 256 + d) 1 0 0) room
 unfolding byte prefix_byte
-byte-1 room d = refl
+byte_1 room d = refl
 
-pub byte-2 : (room : List ℕ) (l d : ℕ) → byte (standing l 1 0 0) room d ≡ says nothing (standing (l * 256 + d) 2 0 0) room
+pub byte_2 : (room : List ℕ) (l d : ℕ) → byte (standing l 1 0 0) room d ≡ says nothing (standing (l * 256 + d) 2 0 0) room
 unfolding byte prefix_byte
-byte-2 room l d = refl
+byte_2 room l d = refl
 
-pub byte-3 : (room : List ℕ) (l d : ℕ) → byte (standing l 2 0 0) room d ≡ says nothing (standing (l * 256 + d) 3 0 0) room
+pub byte_3 : (room : List ℕ) (l d : ℕ) → byte (standing l 2 0 0) room d ≡ says nothing (standing (l * 256 + d) 3 0 0) room
 unfolding byte prefix_byte
-byte-3 room l d = refl
+byte_3 room l d = refl
 
-byte-4 : (room : List ℕ) (l d : ℕ) → byte (standing l 3 0 0) room d ≡ prefixed (l * 256 + d) room
+byte_4 : (room : List ℕ) (l d : ℕ) → byte (standing l 3 0 0) room d ≡ prefixed (l * 256 + d) room
 unfolding byte prefix_byte
-byte-4 room l d = refl
+byte_4 room l d = refl
 
-pub on-quietly : (s t : Stream) (room : List ℕ) (d : ℕ) (bs : List ℕ) → s.mode < 4 → byte s room d ≡ says nothing t room → streamed s room (d ∷ bs) ≡ streamed t room bs
-on-quietly s t room d bs h e =
-    streamed-step s room d bs h
+pub on_quietly : (s t : Stream) (room : List ℕ) (d : ℕ) (bs : List ℕ) → s.mode < 4 → byte s room d ≡ says nothing t room → streamed s room (d ∷ bs) ≡ streamed t room bs
+on_quietly s t room d bs h e =
+    streamed_step s room d bs h
     ∙ ap (λ (x : Stepped). after x.said (streamed x.state x.room bs)) e
-    ∙ after-quiet nothing (streamed t room bs) refl
+    ∙ after_quiet nothing (streamed t room bs) refl
 
-prefix-read : (room : List ℕ) (a b c d : ℕ) (bs : List ℕ) (n : ℕ) → ((((0 * 256 + a) * 256 + b) * 256 + c) * 256 + d ≡ n)
+prefix_read : (room : List ℕ) (a b c d : ℕ) (bs : List ℕ) (n : ℕ) → ((((0 * 256 + a) * 256 + b) * 256 + c) * 256 + d ≡ n)
     → streamed between room (a ∷ b ∷ c ∷ d ∷ bs) ≡ after (prefixed n room).said (streamed (prefixed n room).state (prefixed n room).room bs)
-prefix-read room a b c d bs n e =
-    on-quietly between (standing (0 * 256 + a) 1 0 0) room a (b ∷ c ∷ d ∷ bs) (omega arith) (byte-1 room a)
-    ∙ on-quietly (standing (0 * 256 + a) 1 0 0) (standing ((0 * 256 + a) * 256 + b) 2 0 0) room b (c ∷ d ∷ bs) (omega arith) (byte-2 room (0 * 256 + a) b)
-    ∙ on-quietly (standing ((0 * 256 + a) * 256 + b) 2 0 0) (standing (((0 * 256 + a) * 256 + b) * 256 + c) 3 0 0) room c (d ∷ bs) (omega arith) (byte-3 room ((0 * 256 + a) * 256 + b) c)
-    ∙ streamed-step (standing (((0 * 256 + a) * 256 + b) * 256 + c) 3 0 0) room d bs (omega arith)
-    ∙ ap (λ (x : Stepped). after x.said (streamed x.state x.room bs)) (byte-4 room (((0 * 256 + a) * 256 + b) * 256 + c) d ∙ ap (λ (k : ℕ). prefixed k room) e)
+prefix_read room a b c d bs n e =
+    on_quietly between (standing (0 * 256 + a) 1 0 0) room a (b ∷ c ∷ d ∷ bs) (omega arith) (byte_1 room a)
+    ∙ on_quietly (standing (0 * 256 + a) 1 0 0) (standing ((0 * 256 + a) * 256 + b) 2 0 0) room b (c ∷ d ∷ bs) (omega arith) (byte_2 room (0 * 256 + a) b)
+    ∙ on_quietly (standing ((0 * 256 + a) * 256 + b) 2 0 0) (standing (((0 * 256 + a) * 256 + b) * 256 + c) 3 0 0) room c (d ∷ bs) (omega arith) (byte_3 room ((0 * 256 + a) * 256 + b) c)
+    ∙ streamed_step (standing (((0 * 256 + a) * 256 + b) * 256 + c) 3 0 0) room d bs (omega arith)
+    ∙ ap (λ (x : Stepped). after x.said (streamed x.state x.room bs)) (byte_4 room (((0 * 256 + a) * 256 + b) * 256 + c) d ∙ ap (λ (k : ℕ). prefixed k room) e)
 
-number-back : (n : ℕ) → n < 256 ^ 4
+number_back : (n : ℕ) → n < 256 ^ 4
     → (((0 * 256 + get_or (be 4 n) 0 0) * 256 + get_or (be 4 n) 1 0) * 256 + get_or (be 4 n) 2 0) * 256 + get_or (be 4 n) 3 0 ≡ n
-number-back n h = unfold number_at in number-of-be 4 n h
+number_back n h = unfold number_at in number_of_be 4 n h
 
-pub prefix-heard : (room : List ℕ) (n : ℕ) (bs : List ℕ) → n < 256 ^ 4
+pub prefix_heard : (room : List ℕ) (n : ℕ) (bs : List ℕ) → n < 256 ^ 4
     → streamed between room (be 4 n ++ bs) ≡ after (prefixed n room).said (streamed (prefixed n room).state (prefixed n room).room bs)
-prefix-heard room n bs h = prefix-read room _ _ _ _ bs n (number-back n h)
+prefix_heard room n bs h = prefix_read room _ _ _ _ bs n (number_back n h)
 
-pub prefixed-none : (room : List ℕ) → prefixed 0 room ≡ says keep_alive between room
+pub prefixed_none : (room : List ℕ) → prefixed 0 room ≡ says keep_alive between room
 unfolding prefixed
-prefixed-none room = refl
+prefixed_none room = refl
 
-pub prefixed-some : (n : ℕ) (room : List ℕ) → 0 < n → n ≤ longest_frame → prefixed n room ≡ says nothing (standing n 4 0 0) room
+pub prefixed_some : (n : ℕ) (room : List ℕ) → 0 < n → n ≤ longest_frame → prefixed n room ≡ says nothing (standing n 4 0 0) room
 unfolding prefixed
-prefixed-some n room h k = let z : n ≡ 0 → ⊥ = λ e. omega arith in rw (le-ltb longest_frame n k, ne_eqb n 0 z)
+prefixed_some n room h k = let z : n ≡ 0 → ⊥ = λ e. omega arith in rw (le-ltb longest_frame n k, ne_eqb n 0 z)
 
-pub at-frame : (n N : ℕ) → 0 < n → n ≤ longest_frame → Going (standing n 4 0 0) N
-at-frame n N h k = record { in_prefix = λ z. let w : ⊥ = omega arith in absurd w; in_frame = λ z. (refl, k, h, λ y. omega arith, λ y. let w : ⊥ = omega arith in absurd w); running = omega arith }
+pub at_frame : (n N : ℕ) → 0 < n → n ≤ longest_frame → Going (standing n 4 0 0) N
+at_frame n N h k = record { in_prefix = λ z. let w : ⊥ = omega arith in absurd w; in_frame = λ z. (refl, k, h, λ y. omega arith, λ y. let w : ⊥ = omega arith in absurd w); running = omega arith }
 
 -- ---- a whole frame
 
-pub mode-is : (i n l : ℕ) → mode_at (standing l 4 0 0) n i ≡ fitting l n (mode_of i l)
+pub mode_is : (i n l : ℕ) → mode_at (standing l 4 0 0) n i ≡ fitting l n (mode_of i l)
 unfolding mode_at
-mode-is i n l = refl
+mode_is i n l = refl
 
 -- the end of a frame that is whole in the bytes
-end-says : (i : ℕ) (f room : List ℕ) → said_at_end (length (i ∷ f)) (fitting (length (i ∷ f)) (length room) (mode_of i (length (i ∷ f)))) (frame_leaves (i ∷ f) room) ≡ frame_says (i ∷ f) (length room)
+end_says : (i : ℕ) (f room : List ℕ) → said_at_end (length (i ∷ f)) (fitting (length (i ∷ f)) (length room) (mode_of i (length (i ∷ f)))) (frame_leaves (i ∷ f) room) ≡ frame_says (i ∷ f) (length room)
 unfolding said_at_end frame_leaves frame_says fitting mode_of kept pasted
-end-says i f room = by_tests (known i) (right i (length (i ∷ f))) (ltb (length room) (length (i ∷ f)))
+end_says i f room = by_tests (known i) (right i (length (i ∷ f))) (ltb (length room) (length (i ∷ f)))
   where
     mode : Bool → Bool → Bool → ℕ
     mode x y z = cond (eqb (cond x (cond y 0 2) 1) 0) (cond z 3 0) (cond x (cond y 0 2) 1)
@@ -94,9 +94,9 @@ end-says i f room = by_tests (known i) (right i (length (i ∷ f))) (ltb (length
     by_tests false y z = refl
 
 -- a whole frame's step, loud or quiet
-step-at-end : (n : ℕ) (x : Said) (room : List ℕ) → onward n (says x between room) [] ≡ record { said = x; used = n; state = between; room = room }
+step_at_end : (n : ℕ) (x : Said) (room : List ℕ) → onward n (says x between room) [] ≡ record { said = x; used = n; state = between; room = room }
 unfolding onward hears
-step-at-end n x room = by_said x
+step_at_end n x room = by_said x
   where
     none : n + 0 ≡ n
     none = omega arith
@@ -113,22 +113,22 @@ step-at-end n x room = by_said x
     by_said refused_now = refl
     by_said bad_state = refl
 
-leaves-is : (i : ℕ) (f room : List ℕ) → kept (fitting (length (i ∷ f)) (length room) (mode_of i (length (i ∷ f)))) room 0 (i ∷ f) ≡ frame_leaves (i ∷ f) room
+leaves_is : (i : ℕ) (f room : List ℕ) → kept (fitting (length (i ∷ f)) (length room) (mode_of i (length (i ∷ f)))) room 0 (i ∷ f) ≡ frame_leaves (i ∷ f) room
 unfolding frame_leaves
-leaves-is i f room = refl
+leaves_is i f room = refl
 
-none-says : (room q : List ℕ) → after keep_alive (streamed between room q) ≡ after (frame_says [] (length room)) (streamed between (frame_leaves [] room) q)
+none_says : (room q : List ℕ) → after keep_alive (streamed between room q) ≡ after (frame_says [] (length room)) (streamed between (frame_leaves [] room) q)
 unfolding frame_leaves frame_says
-none-says room q = refl
+none_says room q = refl
 
-frame-call : (i : ℕ) (f room : List ℕ)
+frame_call : (i : ℕ) (f room : List ℕ)
     → hears (standing (length (i ∷ f)) 4 0 0) room (i ∷ f) ≡ record { said = frame_says (i ∷ f) (length room); used = length (i ∷ f); state = between; room = frame_leaves (i ∷ f) room }
-frame-call i f room =
-    hears-step s room i f ∙ ap (λ (x : Stepped). onward 1 x f) (byte-is-frame s room i (omega arith))
-    ∙ run-of-frame n 0 (mode_at s (length room) i) room i f (omega arith) (mode-fitted s (length room) i) (λ z. omega arith)
+frame_call i f room =
+    hears_step s room i f ∙ ap (λ (x : Stepped). onward 1 x f) (byte_is_frame s room i (omega arith))
+    ∙ run_of_frame n 0 (mode_at s (length room) i) room i f (omega arith) (mode_fitted s (length room) i) (λ z. omega arith)
     ∙ ap₂ (λ (k : ℕ) (x : List ℕ). onward k (frame_run n 0 (mode_at s (length room) i) room (i ∷ f)) x) size (ap (λ (k : ℕ). drop k (i ∷ f)) size ∙ drop_of_length-le (i ∷ f) {i = n} (omega arith))
     ∙ ap (λ (x : Stepped). onward n x []) whole
-    ∙ step-at-end n (frame_says (i ∷ f) (length room)) (frame_leaves (i ∷ f) room)
+    ∙ step_at_end n (frame_says (i ∷ f) (length room)) (frame_leaves (i ∷ f) room)
   where
     n : ℕ
     n = length (i ∷ f)
@@ -143,40 +143,40 @@ frame-call i f room =
     m = fitting n (length room) (mode_of i n)
 
     leaves : kept m room 0 (i ∷ f) ≡ frame_leaves (i ∷ f) room
-    leaves = leaves-is i f room
+    leaves = leaves_is i f room
 
     whole : frame_run n 0 (mode_at s (length room) i) room (i ∷ f) ≡ says (frame_says (i ∷ f) (length room)) between (frame_leaves (i ∷ f) room)
     whole =
-        ap (λ (x : ℕ). frame_run n 0 x room (i ∷ f)) (mode-is i (length room) n)
-        ∙ run-says n 0 m room (i ∷ f)
+        ap (λ (x : ℕ). frame_run n 0 x room (i ∷ f)) (mode_is i (length room) n)
+        ∙ run_says n 0 m room (i ∷ f)
         ∙ ap₂ (λ (k : ℕ) (x : List ℕ). progressed n 0 k m x) size (ap (λ (x : List ℕ). kept m room 0 x) (ap (λ (k : ℕ). take k (i ∷ f)) size ∙ take_all n (i ∷ f) (omega arith)) ∙ leaves)
-        ∙ progressed-end n 0 n m (frame_leaves (i ∷ f) room) (omega arith)
-        ∙ ap (λ (x : Said). says x between (frame_leaves (i ∷ f) room)) (end-says i f room)
+        ∙ progressed_end n 0 n m (frame_leaves (i ∷ f) room) (omega arith)
+        ∙ ap (λ (x : Said). says x between (frame_leaves (i ∷ f) room)) (end_says i f room)
 
 -- a frame that is not too long says what it says, and the stream stands between two frames
-pub whole-frame-says : (f room q : List ℕ) → Bytes f → length f ≤ longest_frame
+pub whole_frame_says : (f room q : List ℕ) → Bytes f → length f ≤ longest_frame
     → streamed between room (frame_of f ++ q) ≡ after (frame_says f (length room)) (streamed between (frame_leaves f room) q)
 unfolding frame_of
-whole-frame-says [] room q y h = prefix-heard room 0 q (omega arith) ∙ ap (λ (x : Stepped). after x.said (streamed x.state x.room q)) (prefixed-none room) ∙ none-says room q
-whole-frame-says (i ∷ f) room q y h =
+whole_frame_says [] room q y h = prefix_heard room 0 q (omega arith) ∙ ap (λ (x : Stepped). after x.said (streamed x.state x.room q)) (prefixed_none room) ∙ none_says room q
+whole_frame_says (i ∷ f) room q y h =
     let n : ℕ = length (i ∷ f) in
-    let k = call-is (standing n 4 0 0) room (i ∷ f) (at-frame n (length room) (omega arith) h) y in
+    let k = call_is (standing n 4 0 0) room (i ∷ f) (at_frame n (length room) (omega arith) h) y in
     let d : drop n (i ∷ f) ≡ [] = drop_of_length-le (i ∷ f) {i = n} (omega arith) in
-    prefix-heard room n ((i ∷ f) ++ q) (omega arith)
-    ∙ ap (λ (x : Stepped). after x.said (streamed x.state x.room ((i ∷ f) ++ q))) (prefixed-some n room (omega arith) h)
-    ∙ after-quiet nothing (streamed (standing n 4 0 0) room ((i ∷ f) ++ q)) refl
+    prefix_heard room n ((i ∷ f) ++ q) (omega arith)
+    ∙ ap (λ (x : Stepped). after x.said (streamed x.state x.room ((i ∷ f) ++ q))) (prefixed_some n room (omega arith) h)
+    ∙ after_quiet nothing (streamed (standing n 4 0 0) room ((i ∷ f) ++ q)) refl
     ∙ k.same q
-    ∙ ap (λ (c : Call). after c.said (streamed c.state c.room (drop c.used (i ∷ f) ++ q))) (frame-call i f room)
+    ∙ ap (λ (c : Call). after c.said (streamed c.state c.room (drop c.used (i ∷ f) ++ q))) (frame_call i f room)
     ∙ ap (λ (x : List ℕ). after (frame_says (i ∷ f) (length room)) (streamed between (frame_leaves (i ∷ f) room) (x ++ q))) d
 
-prefixed-long : (n : ℕ) (room : List ℕ) → longest_frame < n → prefixed n room ≡ says refused_now (refused_by n) room
+prefixed_long : (n : ℕ) (room : List ℕ) → longest_frame < n → prefixed n room ≡ says refused_now (refused_by n) room
 unfolding prefixed
-prefixed-long n room h = rw (lt-ltb longest_frame n h)
+prefixed_long n room h = rw (lt-ltb longest_frame n h)
 
 -- and a prefix above the limit is 30 whatever follows, and nothing more is heard
-pub too-long-says : (n : ℕ) (room q : List ℕ) → longest_frame < n → n < 256 ^ 4
+pub too_long_says : (n : ℕ) (room q : List ℕ) → longest_frame < n → n < 256 ^ 4
     → streamed between room (be 4 n ++ q) ≡ after refused_now (ends (refused_by n) room)
-too-long-says n room q h k =
-    prefix-heard room n q k
-    ∙ ap (λ (x : Stepped). after x.said (streamed x.state x.room q)) (prefixed-long n room h)
-    ∙ ap (after refused_now) (streamed-refused (refused_by n) room q refl)
+too_long_says n room q h k =
+    prefix_heard room n q k
+    ∙ ap (λ (x : Stepped). after x.said (streamed x.state x.room q)) (prefixed_long n room h)
+    ∙ ap (after refused_now) (streamed_refused (refused_by n) room q refl)

@@ -16,12 +16,12 @@ use Rattle.bencode.specs.Parts.{find_key}
 use Rattle.bencode.specs.declared.scalar.ByteString.{ByteString}
 use Rattle.bencode.specs.declared.scalar.ByteString.TheVariants.{Content, NoString}
 use Rattle.bencode.specs.declared.parts.Found.{Found}
-use Rattle.sorting.proofs.Telling.{part-is}
+use Rattle.sorting.proofs.Telling.{part_is}
 use Rattle.filetree.specs.Tree.{right, listed, files_in, file_number}
 use Rattle.layers.specs.Layers.{Inside, string_in, layer_at, root_bytes, layer_string, start_of, size_of}
-use Rattle.layers.proofs.Finding.{layer-inside}
+use Rattle.layers.proofs.Finding.{layer_inside}
 use Rattle.torrent.specs.Torrent.{checked_of, no_torrent, read_of, no_file_read, file_answer, file_read, no_part_read, element_in, path_read}
-use Rattle.torrent.specs.CheckLaws.{Whole, checked-so}
+use Rattle.torrent.specs.CheckLaws.{Whole, checked_so}
 use Rattle.torrent.specs.Find.{sought_file}
 use Rattle.torrent.specs.declared.check.Checked.{Checked}
 use Rattle.torrent.specs.declared.one.SoughtFile.{SoughtFile}
@@ -36,34 +36,34 @@ module _ (t : List ℕ) (n r : ℕ) where
   unfolding root_bytes
   root_none e = simp (eq-eqb n 0 e)
 
-  pub root-some : (n ≡ 0 → ⊥) → cut t r 32 ≡ root_bytes t n r
+  pub root_some : (n ≡ 0 → ⊥) → cut t r 32 ≡ root_bytes t n r
   unfolding root_bytes
-  root-some e = simp (ne_eqb n 0 e)
+  root_some e = simp (ne_eqb n 0 e)
 
-pub layer-found : (l root : List ℕ) (w : Found) → find_key root 0 l ≡ w → string_in l w ≡ layer_at l root
+pub layer_found : (l root : List ℕ) (w : Found) → find_key root 0 l ≡ w → string_in l w ≡ layer_at l root
 unfolding layer_at
-layer-found l root w e = sym (ap (string_in l) e)
+layer_found l root w e = sym (ap (string_in l) e)
 
 module _ (t l : List ℕ) (plen n r : ℕ) where
-  pub layer-some : has_layer n plen ≡ true → (w : ByteString) → w ≡ layer_at l (take (r + 32 - r) (drop r t)) → w ≡ layer_string l plen n (cut t r 32)
+  pub layer_some : has_layer n plen ≡ true → (w : ByteString) → w ≡ layer_at l (take (r + 32 - r) (drop r t)) → w ≡ layer_string l plen n (cut t r 32)
   unfolding layer_string
-  layer-some h w e = rw h (e ∙ ap (layer_at l) (part-is t r))
+  layer_some h w e = rw h (e ∙ ap (layer_at l) (part_is t r))
 
-  pub layer-none : has_layer n plen ≡ false → NoString ≡ layer_string l plen n (cut t r 32)
+  pub layer_none : has_layer n plen ≡ false → NoString ≡ layer_string l plen n (cut t r 32)
   unfolding layer_string
-  layer-none h = rw h refl
+  layer_none h = rw h refl
 
-pub string-inside : (l : List ℕ) (plen n : ℕ) (root : List ℕ) → Inside (length l) (layer_string l plen n root)
+pub string_inside : (l : List ℕ) (plen n : ℕ) (root : List ℕ) → Inside (length l) (layer_string l plen n root)
 unfolding layer_string
-string-inside l plen n root = by-long (has_layer n plen)
+string_inside l plen n root = by_long (has_layer n plen)
   where
-    by-long : (b : Bool) → Inside (length l) (cond b (layer_at l root) NoString)
-    by-long true = layer-inside l root
-    by-long false = tt
+    by_long : (b : Bool) → Inside (length l) (cond b (layer_at l root) NoString)
+    by_long true = layer_inside l root
+    by_long false = tt
 
 -- a layer that was found lies within the bytes
-pub string-order : (l : List ℕ) (plen n : ℕ) (root : List ℕ) (w : ByteString) (a b : ℕ) → w ≡ layer_string l plen n root → w ≡ Content a b → (a ≤ b) × (b ≤ length l)
-string-order l plen n root w a b e f = rw (sym e ∙ f) at (string-inside l plen n root)
+pub string_order : (l : List ℕ) (plen n : ℕ) (root : List ℕ) (w : ByteString) (a b : ℕ) → w ≡ layer_string l plen n root → w ≡ Content a b → (a ≤ b) × (b ≤ length l)
+string_order l plen n root w a b e f = rw (sym e ∙ f) at (string_inside l plen n root)
 
 pub one_answer : (t l : List ℕ) (base plen n : ℕ) (p : SoughtFile) → p ≡ sought_file (file_number (listed (files_in t)) n) → (root : List ℕ) → root ≡ root_bytes t p.length p.root
     → (w v : ByteString) → w ≡ layer_string l plen p.length (cut t p.root 32) → w ≡ v
@@ -73,21 +73,21 @@ one_answer t l base plen n p ep root er w v ew ev = rw (er, sym ev, ew, ep) refl
 -- ---- answers
 
 module _ (s : List ℕ) (c : Checked) (e : c ≡ checked_of s) where
-  pub read-refused : (c.keys.number ≡ 0 → ⊥) → no_torrent c.keys.number ≡ read_of s
+  pub read_refused : (c.keys.number ≡ 0 → ⊥) → no_torrent c.keys.number ≡ read_of s
   unfolding read_of
-  read-refused h = rw (sym e) (simp (ne_eqb c.keys.number 0 h))
+  read_refused h = rw (sym e) (simp (ne_eqb c.keys.number 0 h))
 
-  pub file-refused : (n : ℕ) → (c.keys.number ≡ 0 → ⊥) → no_file_read c.keys.number ≡ file_read s n
+  pub file_refused : (n : ℕ) → (c.keys.number ≡ 0 → ⊥) → no_file_read c.keys.number ≡ file_read s n
   unfolding file_read
-  file-refused n h = rw (sym e) (simp (ne_eqb c.keys.number 0 h))
+  file_refused n h = rw (sym e) (simp (ne_eqb c.keys.number 0 h))
 
-  pub path-refused : (n k : ℕ) → (c.keys.number ≡ 0 → ⊥) → no_part_read c.keys.number ≡ path_read s n k
+  pub path_refused : (n k : ℕ) → (c.keys.number ≡ 0 → ⊥) → no_part_read c.keys.number ≡ path_read s n k
   unfolding path_read
-  path-refused n k h = rw (sym e) (simp (ne_eqb c.keys.number 0 h))
+  path_refused n k h = rw (sym e) (simp (ne_eqb c.keys.number 0 h))
 
   module _ (h : c.keys.number ≡ 0) where
     pub whole : Whole s c
-    whole = checked-so s c e h
+    whole = checked_so s c e h
 
     pub read_done : (hash : List ℕ) → hash ≡ sha256 (take (c.keys.info.end - c.keys.info.start) (drop c.keys.info.start s))
         → ◌≡◌ {A = Torrent} (record { number = c.keys.number; hash = hash; plen = c.keys.plen; files = c.files }) (read_of s)
@@ -95,13 +95,13 @@ module _ (s : List ℕ) (c : Checked) (e : c ≡ checked_of s) where
     read_done hash q = rw (sym e, q) (simp (eq-eqb c.keys.number 0 h) (rw h refl))
 
     module _ (n : ℕ) where
-      pub file-past : c.files ≤ n → no_file_read no_such_part ≡ file_read s n
+      pub file_past : c.files ≤ n → no_file_read no_such_part ≡ file_read s n
       unfolding file_read
-      file-past l = rw (sym e) (simp (eq-eqb c.keys.number 0 h, le-ltb n c.files l))
+      file_past l = rw (sym e) (simp (eq-eqb c.keys.number 0 h, le-ltb n c.files l))
 
-      pub path-past : (k : ℕ) → c.files ≤ n → no_part_read no_such_part ≡ path_read s n k
+      pub path_past : (k : ℕ) → c.files ≤ n → no_part_read no_such_part ≡ path_read s n k
       unfolding path_read
-      path-past k l = rw (sym e) (simp (eq-eqb c.keys.number 0 h, le-ltb n c.files l))
+      path_past k l = rw (sym e) (simp (eq-eqb c.keys.number 0 h, le-ltb n c.files l))
 
       abbrev t : List ℕ
       t = take (c.keys.tree.end - c.keys.tree.start) (drop c.keys.tree.start s)
@@ -110,32 +110,32 @@ module _ (s : List ℕ) (c : Checked) (e : c ≡ checked_of s) where
       l = take (c.keys.layers.end - c.keys.layers.start) (drop c.keys.layers.start s)
 
       module _ (g : n < c.files) where
-        pub file-asked : (right (files_in t) ≡ true) × (n < length (listed (files_in t))) × (c.keys.layers.start + length l ≤ largest_torrent)
+        pub file_asked : (right (files_in t) ≡ true) × (n < length (listed (files_in t))) × (c.keys.layers.start + length l ≤ largest_torrent)
         unfolding cut
-        file-asked =
+        file_asked =
             let w = whole in
-            let x = w.all-files in
-            let a = w.opened.layers-size in
-            let b = w.opened.layers-forward in
-            let d = w.opened.layers-within in
+            let x = w.all_files in
+            let a = w.opened.layers_size in
+            let b = w.opened.layers_forward in
+            let d = w.opened.layers_within in
             let f = w.opened.small in
-            (w.tree-right, omega arith, omega arith)
+            (w.tree_right_lem, omega arith, omega arith)
 
-        pub path-asked : (right (files_in t) ≡ true) × (n < length (listed (files_in t))) × (c.keys.tree.start + length t ≤ largest_torrent)
+        pub path_asked : (right (files_in t) ≡ true) × (n < length (listed (files_in t))) × (c.keys.tree.start + length t ≤ largest_torrent)
         unfolding cut
-        path-asked =
+        path_asked =
             let w = whole in
-            let x = w.all-files in
-            let a = w.opened.tree-size in
-            let b = w.opened.tree-forward in
-            let d = w.opened.tree-within in
+            let x = w.all_files in
+            let a = w.opened.tree_size in
+            let b = w.opened.tree_forward in
+            let d = w.opened.tree_within in
             let f = w.opened.small in
-            (w.tree-right, omega arith, omega arith)
+            (w.tree_right_lem, omega arith, omega arith)
 
-        pub file-done : (r : FileRead) → r ≡ file_answer t l c.keys.layers.start c.keys.plen (file_number (listed (files_in t)) n) → r ≡ file_read s n
+        pub file_done : (r : FileRead) → r ≡ file_answer t l c.keys.layers.start c.keys.plen (file_number (listed (files_in t)) n) → r ≡ file_read s n
         unfolding file_read cut
-        file-done r q = q ∙ rw (sym e) (simp (eq-eqb c.keys.number 0 h, lt-ltb n c.files g))
+        file_done r q = q ∙ rw (sym e) (simp (eq-eqb c.keys.number 0 h, lt-ltb n c.files g))
 
-        pub path-done : (k : ℕ) (r : PartRead) → r ≡ element_in c.keys.tree.start (file_number (listed (files_in t)) n).path k → r ≡ path_read s n k
+        pub path_done : (k : ℕ) (r : PartRead) → r ≡ element_in c.keys.tree.start (file_number (listed (files_in t)) n).path k → r ≡ path_read s n k
         unfolding path_read cut
-        path-done k r q = q ∙ rw (sym e) (simp (eq-eqb c.keys.number 0 h, lt-ltb n c.files g))
+        path_done k r q = q ∙ rw (sym e) (simp (eq-eqb c.keys.number 0 h, lt-ltb n c.files g))

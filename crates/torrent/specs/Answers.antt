@@ -31,9 +31,9 @@ pub data Says (s : List ℕ) (n : ℕ) : Type 0 where
 pub record TorrentIs (s : List ℕ) (es : Entries) (r : Torrent) : Type 0 where
   pub number : r.number ≡ 0
   pub info : lookup key_info es ≡ present (dictionary (info_of es))
-  pub info-stands : (a n : ℕ) × (cut s a n ≡ encode (dictionary (info_of es))) × (r.hash ≡ sha256 (cut s a n))
-  pub piece-length : r.plen ≡ plen_of es
-  pub file-count : r.files ≡ length (files_of es)
+  pub info_stands : (a n : ℕ) × (cut s a n ≡ encode (dictionary (info_of es))) × (r.hash ≡ sha256 (cut s a n))
+  pub piece_length_lem : r.plen ≡ plen_of es
+  pub file_count : r.files ≡ length (files_of es)
 
 -- the file v: its length, its root, how many elements its path has, and where its layer stands in s. An empty file has the root of
 -- zeros; a file not longer than the piece length has an empty layer
@@ -44,7 +44,7 @@ pub record FileIs (s : List ℕ) (es : Entries) (v : File) (r : FileRead) : Type
   pub empty : v.size ≡ 0 → r.root ≡ zero_hash
   pub elements : r.elements ≡ length v.path
   pub layer : plen_of es < v.size → (b : List ℕ) × (lookup v.root (layers_of es) ≡ present (string b)) × (r.size ≡ length b) × (cut s r.start r.size ≡ b)
-  pub no-layer : v.size ≤ plen_of es → (r.start ≡ 0) × (r.size ≡ 0)
+  pub no_layer : v.size ≤ plen_of es → (r.start ≡ 0) × (r.size ≡ 0)
 
 -- the path element x: where it stands in s
 pub record PartIs (s x : List ℕ) (r : PartRead) : Type 0 where

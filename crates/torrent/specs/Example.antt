@@ -13,11 +13,11 @@ use Rattle.bencode.specs.Parts.{absent, lookup}
 use Rattle.meaning.specs.Nth.{Nth}
 use Rattle.meaning.specs.Torrent.{File, info_of, files_of, without, has_keys, element_right, file_right, node_right, branch_right, nodes_right, tree_right, files_of_node, files_of_entries, no_other_length, lengths_agree, layers_fit, no_others, layers_give_roots, value_number}
 use Rattle.halves.specs.V1Keys.{key_pieces}
-use Rattle.halves.proofs.HalvesLaws.{pure-stands}
+use Rattle.halves.proofs.HalvesLaws.{pure_stands}
 use Rattle.torrent.specs.Torrent.{read_of, no_file_read, file_read, path_read}
-use Rattle.torrent.specs.NumberMeans.{number-is-the-values, read_number_lem}
+use Rattle.torrent.specs.NumberMeans.{number_is_the_values, read_number_lem}
 use Rattle.torrent.specs.Answers.{FileIs, PartIs}
-use Rattle.torrent.specs.ReadMeans.{file-is, no-file, element-is}
+use Rattle.torrent.specs.ReadMeans.{file_is, no_file, element_is}
 
 -- a file, by an empty key alone
 abbrev file : Entries → Value
@@ -39,27 +39,27 @@ abbrev pub small : Entries
 small = entry key_info (dictionary info) (entry key_piece_layers (dictionary no_entries) no_entries)
 
 -- it is valid
-a-valid : Valid a (max_levels - 3)
+a_valid : Valid a (max_levels - 3)
 unfolding Valid
-a-valid = (refl, (refl, omega arith, tt), tt)
+a_valid = (refl, (refl, omega arith, tt), tt)
 
-b-valid : Valid b (max_levels - 3)
+b_valid : Valid b (max_levels - 3)
 unfolding Valid precedes
-b-valid = (refl, (refl, omega arith, (refl, tt, tt)), tt)
+b_valid = (refl, (refl, omega arith, (refl, tt, tt)), tt)
 
-pub small-valid : Valid (dictionary small) max_levels
+pub small_valid : Valid (dictionary small) max_levels
 unfolding Valid precedes
-small-valid = (refl, (refl, (refl, a-valid, (refl, b-valid, tt)), (refl, omega arith, (refl, omega arith, tt))), (refl, tt, tt))
+small_valid = (refl, (refl, (refl, a_valid, (refl, b_valid, tt)), (refl, omega arith, (refl, omega arith, tt))), (refl, tt, tt))
 
 -- it is right
-pub small-right : value_number small ≡ 0
+pub small_right : value_number small ≡ 0
 unfolding value_number lookup same has_keys is_piece_length piece_layer height height_from tree_right branch_right node_right nodes_right element_right without file_right files_of_entries files_of_node lengths_agree no_other_length layers_fit has_layer no_others layers_give_roots zero_hash
-small-right = refl
+small_right = refl
 
 -- it is a pure v2 torrent
-small-pure : lookup key_pieces (info_of small) ≡ absent
+small_pure : lookup key_pieces (info_of small) ≡ absent
 unfolding lookup same
-small-pure = refl
+small_pure = refl
 
 -- it is small
 pub small_size : length (encode (dictionary small)) ≤ largest_torrent
@@ -67,8 +67,8 @@ unfolding encode decimal_in zero_hash
 small_size = omega arith
 
 -- so it gets 0
-pub small-taken : (read_of (encode (dictionary small))).number ≡ 0
-small-taken = read_number_lem (encode (dictionary small)) ∙ number-is-the-values (encode (dictionary small)) small refl small-valid small_size ∙ pure-stands small small-pure ∙ small-right
+pub small_taken : (read_of (encode (dictionary small))).number ≡ 0
+small_taken = read_number_lem (encode (dictionary small)) ∙ number_is_the_values (encode (dictionary small)) small refl small_valid small_size ∙ pure_stands small small_pure ∙ small_right
 
 -- ---- what is read of it
 
@@ -81,21 +81,21 @@ unfolding Nth lookup same files_of_entries files_of_node
 second = refl
 
 -- file 1 has a byte, the root of zeros, one path element, and no layer
-pub small-second : FileIs (encode (dictionary small)) small file_b (file_read (encode (dictionary small)) 1)
-small-second = file-is (encode (dictionary small)) small refl small-valid small-taken 1 file_b second
+pub small_second : FileIs (encode (dictionary small)) small file_b (file_read (encode (dictionary small)) 1)
+small_second = file_is (encode (dictionary small)) small refl small_valid small_taken 1 file_b second
 
 -- its path is `b`
 element : Nth file_b.path 0 (98 ∷ [])
 unfolding Nth
 element = refl
 
-pub small-path : PartIs (encode (dictionary small)) (98 ∷ []) (path_read (encode (dictionary small)) 1 0)
-small-path = element-is (encode (dictionary small)) small refl small-valid small-taken 1 file_b second 0 (98 ∷ []) element
+pub small_path : PartIs (encode (dictionary small)) (98 ∷ []) (path_read (encode (dictionary small)) 1 0)
+small_path = element_is (encode (dictionary small)) small refl small_valid small_taken 1 file_b second 0 (98 ∷ []) element
 
 -- there is no file 2
 two : length (files_of small) ≤ 2
 unfolding lookup same files_of_entries files_of_node
 two = omega arith
 
-pub small-no-third : file_read (encode (dictionary small)) 2 ≡ no_file_read no_such_part
-small-no-third = no-file (encode (dictionary small)) small refl small-valid small-taken 2 two
+pub small_no_third : file_read (encode (dictionary small)) 2 ≡ no_file_read no_such_part
+small_no_third = no_file (encode (dictionary small)) small refl small_valid small_taken 2 two

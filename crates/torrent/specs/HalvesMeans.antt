@@ -12,10 +12,10 @@ use Rattle.meaning.specs.Torrent.{info_of}
 use Rattle.meaning.specs.Amiss.{NoneAmiss}
 use Rattle.halves.specs.V1Keys.{key_pieces}
 use Rattle.halves.specs.Halves.{Amiss31}
-use Rattle.halves.proofs.HalvesLaws.{exactly-31}
-use Rattle.halves.specs.Decoded.{torrent_in, torrent-in}
+use Rattle.halves.proofs.HalvesLaws.{exactly_31}
+use Rattle.halves.specs.Decoded.{torrent_in, torrent_in_lem}
 use Rattle.torrent.specs.Torrent.{v2_checked_of, checked_of, with_checked, read_of, file_in, file_read, path_in, path_read}
-use Rattle.torrent.specs.NumberMeans.{number-is-the-values, value-only, read_number_lem}
+use Rattle.torrent.specs.NumberMeans.{number_is_the_values, value_only, read_number_lem}
 
 -- ---- 31
 
@@ -23,25 +23,25 @@ use Rattle.torrent.specs.NumberMeans.{number-is-the-values, value-only, read_num
 abbrev pub HalvesAmiss : List ℕ → Type 0
 HalvesAmiss s = (length s ≤ largest_torrent) × ((es : Entries) × Valid (dictionary es) max_levels × (s ≡ encode (dictionary es)) × NoneAmiss es × Amiss31 es)
 
-pub read-31 : (s : List ℕ) → ((read_of s).number ≡ halves_differ) ↔ HalvesAmiss s
-read-31 s = (only, so)
+pub read_31 : (s : List ℕ) → ((read_of s).number ≡ halves_differ) ↔ HalvesAmiss s
+read_31 s = (only, so)
   where
     only : (read_of s).number ≡ halves_differ → HalvesAmiss s
     only e =
         let n : (checked_of s).keys.number ≡ halves_differ = sym (read_number_lem s) ∙ e in
-        let v = value-only s (inr (omega (arith, n))) in
-        let w = (exactly-31 v.1.0).0 (sym v.1.3 ∙ n) in
+        let v = value_only s (inr (omega (arith, n))) in
+        let w = (exactly_31 v.1.0).0 (sym v.1.3 ∙ n) in
         (v.0, (v.1.0, v.1.1, v.1.2, w.0, w.1))
 
     so : HalvesAmiss s → (read_of s).number ≡ halves_differ
-    so (small, (es, valid, start, right, amiss)) = read_number_lem s ∙ number-is-the-values s es start valid small ∙ (exactly-31 es).1 (right, amiss)
+    so (small, (es, valid, start, right, amiss)) = read_number_lem s ∙ number_is_the_values s es start valid small ∙ (exactly_31 es).1 (right, amiss)
 
 -- ---- a pure v2 torrent
 
 -- the equation for all calls
-pub pure-as-before : (s : List ℕ) → lookup key_pieces (info_of (torrent_in s)) ≡ absent → checked_of s ≡ v2_checked_of s
+pub pure_as_before : (s : List ℕ) → lookup key_pieces (info_of (torrent_in s)) ≡ absent → checked_of s ≡ v2_checked_of s
 unfolding checked_of
-pure-as-before s e = rw e (by (eqb (v2_checked_of s).keys.number 0))
+pure_as_before s e = rw e (by (eqb (v2_checked_of s).keys.number 0))
   where
     by : (b : Bool) → cond b (v2_checked_of s) (v2_checked_of s) ≡ v2_checked_of s
     by true = refl
@@ -49,16 +49,16 @@ pure-as-before s e = rw e (by (eqb (v2_checked_of s).keys.number 0))
 
 module _ (s : List ℕ) (es : Entries) (start : s ≡ encode (dictionary es)) (valid : Valid (dictionary es) max_levels) (pure : lookup key_pieces (info_of es) ≡ absent) where
   pub as_before : checked_of s ≡ v2_checked_of s
-  as_before = pure-as-before s (ap (λ (x : Entries). lookup key_pieces (info_of x)) (torrent-in s es valid start) ∙ pure)
+  as_before = pure_as_before s (ap (λ (x : Entries). lookup key_pieces (info_of x)) (torrent_in_lem s es valid start) ∙ pure)
 
-  pub read-as-before : read_of s ≡ with_checked s (v2_checked_of s)
+  pub read_as_before : read_of s ≡ with_checked s (v2_checked_of s)
   unfolding read_of
-  read-as-before = ap (with_checked s) as_before
+  read_as_before = ap (with_checked s) as_before
 
-  pub file-as-before : (n : ℕ) → file_read s n ≡ file_in s n (v2_checked_of s)
+  pub file_as_before : (n : ℕ) → file_read s n ≡ file_in s n (v2_checked_of s)
   unfolding file_read
-  file-as-before n = ap (file_in s n) as_before
+  file_as_before n = ap (file_in s n) as_before
 
-  pub path-as-before : (n k : ℕ) → path_read s n k ≡ path_in s n k (v2_checked_of s)
+  pub path_as_before : (n k : ℕ) → path_read s n k ≡ path_in s n k (v2_checked_of s)
   unfolding path_read
-  path-as-before n k = ap (path_in s n k) as_before
+  path_as_before n k = ap (path_in s n k) as_before

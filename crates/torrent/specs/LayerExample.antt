@@ -10,35 +10,35 @@ use Rattle.meaning.specs.Keys.{key_length, key_pieces_root, key_info, key_file_t
 use Rattle.limits.specs.Limits.{max_levels}
 use Rattle.octets.specs.Octets.{cut, zero_hash, same}
 use Rattle.octets.specs.OctetsLaws.{same_refl}
-use Rattle.sha256.specs.Sha256Laws.{pair-octets}
+use Rattle.sha256.specs.Sha256Laws.{pair_octets}
 use Rattle.tree.specs.Geometry.{block_count, ceil_div, is_piece_length, piece_layer, piece_count, height, height_from, has_layer}
 use Rattle.tree.specs.Values.{node, layer_leaf, layer_root}
 use Rattle.bencode.specs.Grammar.{colon, integer, string, dictionary, Entries, no_entries, entry, decimal_in, decimal, encode_string, encode, encode_entries, precedes, Valid}
-use Rattle.bencode.specs.PartsLaws.{entries-length, one-string}
+use Rattle.bencode.specs.PartsLaws.{entries_length, one_string}
 use Rattle.bencode.specs.Parts.{Lookup, present, absent, lookup}
-use Rattle.bencode.specs.CompleteLaws.{dictionary-length}
+use Rattle.bencode.specs.CompleteLaws.{dictionary_length}
 use Rattle.meaning.specs.Nth.{Nth}
 use Rattle.meaning.specs.Torrent.{File, is_number, info_of, tree_of, files_of, plen_of, layers_of, without, has_keys, element_right, file_right, node_right, branch_right, nodes_right, tree_right, files_of_node, files_of_entries, no_other_length, lengths_agree, layer_fits, layers_fit, some_longer, no_others, gives_root, layer_bytes, layers_give_roots, value_number}
 use Rattle.halves.specs.V1Keys.{key_pieces}
 use Rattle.halves.specs.V1Half.{torrent_number}
-use Rattle.halves.proofs.HalvesLaws.{pure-stands}
+use Rattle.halves.proofs.HalvesLaws.{pure_stands}
 use Rattle.torrent.specs.Torrent.{read_of, file_read}
-use Rattle.torrent.specs.NumberMeans.{number-is-the-values, read_number_lem}
+use Rattle.torrent.specs.NumberMeans.{number_is_the_values, read_number_lem}
 use Rattle.torrent.specs.Answers.{FileIs}
-use Rattle.torrent.specs.ReadMeans.{file-is}
+use Rattle.torrent.specs.ReadMeans.{file_is}
 
 -- ---- a pure v2 torrent gets 0 where all seven tests of its value pass
 
-seven-pass : (es : Entries) → has_keys es ≡ true → is_number 2 (lookup key_meta_version (info_of es)) ≡ true → is_piece_length (plen_of es) ≡ true
+seven_pass : (es : Entries) → has_keys es ≡ true → is_number 2 (lookup key_meta_version (info_of es)) ≡ true → is_piece_length (plen_of es) ≡ true
     → tree_right (tree_of es) ≡ true → lengths_agree (files_of es) ≡ true → layers_fit (plen_of es) (layers_of es) (files_of es) ≡ true
     → no_others (plen_of es) (files_of es) (layers_of es) ≡ true → layers_give_roots (plen_of es) (layers_of es) (files_of es) ≡ true → value_number es ≡ 0
 unfolding value_number
-seven-pass es a b c d e f g h = rw (a, b, c, d, e, f, g, h) refl
+seven_pass es a b c d e f g h = rw (a, b, c, d, e, f, g, h) refl
 
 pub all_pass : (es : Entries) → lookup key_pieces (info_of es) ≡ absent → has_keys es ≡ true → is_number 2 (lookup key_meta_version (info_of es)) ≡ true → is_piece_length (plen_of es) ≡ true
     → tree_right (tree_of es) ≡ true → lengths_agree (files_of es) ≡ true → layers_fit (plen_of es) (layers_of es) (files_of es) ≡ true
     → no_others (plen_of es) (files_of es) (layers_of es) ≡ true → layers_give_roots (plen_of es) (layers_of es) (files_of es) ≡ true → torrent_number es ≡ 0
-all_pass es pure a b c d e f g h = pure-stands es pure ∙ seven-pass es a b c d e f g h
+all_pass es pure a b c d e f g h = pure_stands es pure ∙ seven_pass es a b c d e f g h
 
 -- ---- with any root
 
@@ -64,9 +64,9 @@ module _ (root : List ℕ) where
   the_file = record { size = 16385; root = root; path = (99 ∷ []) ∷ [] }
 
   -- it is valid
-  with-valid : Valid (dictionary with_root) max_levels
+  with_valid : Valid (dictionary with_root) max_levels
   unfolding Valid precedes
-  with-valid = (refl, (refl, (refl, (refl, (refl, omega arith, (refl, tt, tt)), tt), tt), (refl, omega arith, (refl, omega arith, tt))), (refl, (refl, tt, tt), tt))
+  with_valid = (refl, (refl, (refl, (refl, (refl, omega arith, (refl, tt, tt)), tt), tt), (refl, omega arith, (refl, omega arith, tt))), (refl, (refl, tt, tt), tt))
 
   -- its piece layers
   the_layers : layers_of with_root ≡ layers
@@ -74,108 +74,108 @@ module _ (root : List ℕ) where
   the_layers = refl
 
   -- and passes the tests, one after the other
-  keys-right : has_keys with_root ≡ true
+  keys_right : has_keys with_root ≡ true
   unfolding lookup same has_keys
-  keys-right = refl
+  keys_right = refl
 
-  version-right : is_number 2 (lookup key_meta_version (info_of with_root)) ≡ true
+  version_right : is_number 2 (lookup key_meta_version (info_of with_root)) ≡ true
   unfolding lookup same
-  version-right = refl
+  version_right = refl
 
-  piece-right : is_piece_length (plen_of with_root) ≡ true
+  piece_right : is_piece_length (plen_of with_root) ≡ true
   unfolding lookup same is_piece_length piece_layer height height_from
-  piece-right = refl
+  piece_right = refl
 
-  tree-right : length root ≡ 32 → tree_right (tree_of with_root) ≡ true
+  tree_right_lem : length root ≡ 32 → tree_right (tree_of with_root) ≡ true
   unfolding lookup same tree_right branch_right node_right nodes_right element_right without file_right
-  tree-right e = ap (λ (t : Bool). t && true) (eq-eqb (length root) 32 e)
+  tree_right_lem e = ap (λ (t : Bool). t && true) (eq-eqb (length root) 32 e)
 
-  lengths-right : lengths_agree (files_of with_root) ≡ true
+  lengths_right : lengths_agree (files_of with_root) ≡ true
   unfolding lookup same files_of_entries files_of_node lengths_agree no_other_length
-  lengths-right = refl
+  lengths_right = refl
 
   -- the root is the one key
-  the-key : lookup root layers ≡ present (string layer)
+  the_key : lookup root layers ≡ present (string layer)
   unfolding lookup
-  the-key = ap (λ (t : Bool). cond t (present (string layer)) absent) (same_refl root)
+  the_key = ap (λ (t : Bool). cond t (present (string layer)) absent) (same_refl root)
 
   -- 32 bytes for each of two pieces
-  two-pieces : layer_fits 16384 the_file (present (string layer)) ≡ true
+  two_pieces : layer_fits 16384 the_file (present (string layer)) ≡ true
   unfolding zero_hash piece_count ceil_div
-  two-pieces = refl
+  two_pieces = refl
 
-  fit-right : layers_fit (plen_of with_root) (layers_of with_root) (files_of with_root) ≡ true
+  fit_right : layers_fit (plen_of with_root) (layers_of with_root) (files_of with_root) ≡ true
   unfolding lookup same files_of_entries files_of_node layers_fit has_layer
-  fit-right = ap (λ (t : Bool). t && true) (ap (layer_fits 16384 the_file) the-key ∙ two-pieces)
+  fit_right = ap (λ (t : Bool). t && true) (ap (layer_fits 16384 the_file) the_key ∙ two_pieces)
 
-  others-right : no_others (plen_of with_root) (files_of with_root) (layers_of with_root) ≡ true
+  others_right : no_others (plen_of with_root) (files_of with_root) (layers_of with_root) ≡ true
   unfolding lookup same files_of_entries files_of_node no_others some_longer has_layer
-  others-right = ap (λ (t : Bool). (t || false) && true) (same_refl root)
+  others_right = ap (λ (t : Bool). (t || false) && true) (same_refl root)
 
   -- the layer gives the root
   gives : layer_root layer 0 1 ≡ root → gives_root 16384 the_file layer ≡ true
   unfolding piece_layer height height_from block_count ceil_div
   gives e = rw e (same_refl root)
 
-  gives-right : layer_root layer 0 1 ≡ root → layers_give_roots (plen_of with_root) (layers_of with_root) (files_of with_root) ≡ true
+  gives_right : layer_root layer 0 1 ≡ root → layers_give_roots (plen_of with_root) (layers_of with_root) (files_of with_root) ≡ true
   unfolding lookup same files_of_entries files_of_node layers_give_roots has_layer
-  gives-right e = ap (λ (t : Bool). t && true) (ap (λ (x : Lookup). gives_root 16384 the_file (layer_bytes x)) the-key ∙ gives e)
+  gives_right e = ap (λ (t : Bool). t && true) (ap (λ (x : Lookup). gives_root 16384 the_file (layer_bytes x)) the_key ∙ gives e)
 
   -- it has no v1 half
-  with-pure : lookup key_pieces (info_of with_root) ≡ absent
+  with_pure : lookup key_pieces (info_of with_root) ≡ absent
   unfolding lookup same
-  with-pure = refl
+  with_pure = refl
 
   -- all tests pass
-  with-right : length root ≡ 32 → layer_root layer 0 1 ≡ root → torrent_number with_root ≡ 0
-  with-right l e = all_pass with_root with-pure keys-right version-right piece-right (tree-right l) lengths-right fit-right others-right (gives-right e)
+  with_right : length root ≡ 32 → layer_root layer 0 1 ≡ root → torrent_number with_root ≡ 0
+  with_right l e = all_pass with_root with_pure keys_right version_right piece_right (tree_right_lem l) lengths_right fit_right others_right (gives_right e)
 
 -- ---- its size
 
 -- a string of 32 bytes takes 35
-pub string-size : (b : List ℕ) → length b ≡ 32 → length (encode_string b) ≡ 35
+pub string_size : (b : List ℕ) → length b ≡ 32 → length (encode_string b) ≡ 35
 unfolding decimal_in
-string-size b e = let la = length-append (decimal (length b)) (colon ∷ b) in let d : length (decimal (length b)) ≡ 2 = rw e refl in omega arith
+string_size b e = let la = length-append (decimal (length b)) (colon ∷ b) in let d : length (decimal (length b)) ≡ 2 = rw e refl in omega arith
 
-pub value-size : (b : List ℕ) → length b ≡ 32 → length (encode (string b)) ≡ 35
+pub value_size : (b : List ℕ) → length b ≡ 32 → length (encode (string b)) ≡ 35
 unfolding encode
-value-size b e = string-size b e
+value_size b e = string_size b e
 
 -- what does not depend on the root
 abbrev pub after_tree : Entries
 after_tree = entry key_meta_version (integer false 2) (entry key_piece_length (integer false 16384) no_entries)
 
-fixed-sizes : (length (encode_string key_info) ≡ 6) × (length (encode_string key_piece_layers) ≡ 15) × (length (encode_string key_file_tree) ≡ 11) × (length (encode_string (99 ∷ [])) ≡ 3)
+fixed_sizes : (length (encode_string key_info) ≡ 6) × (length (encode_string key_piece_layers) ≡ 15) × (length (encode_string key_file_tree) ≡ 11) × (length (encode_string (99 ∷ [])) ≡ 3)
     × (length (encode_string []) ≡ 2) × (length (encode_string key_length) ≡ 8) × (length (encode_string key_pieces_root) ≡ 14) × (length (encode (integer false 16385)) ≡ 7)
     × (length (encode (string layer)) ≡ 67) × (length (encode_entries after_tree) ≡ 41) × (length (encode_entries no_entries) ≡ 1)
 unfolding encode decimal_in zero_hash
-fixed-sizes = (refl, refl, refl, refl, refl, refl, refl, refl, refl, refl, refl)
+fixed_sizes = (refl, refl, refl, refl, refl, refl, refl, refl, refl, refl, refl)
 
 -- the torrent has 255 bytes
 with_size : (root : List ℕ) → length root ≡ 32 → length (encode (dictionary (with_root root))) ≡ 255
 with_size root e =
     let leaf : Entries = entry key_length (integer false 16385) (entry key_pieces_root (string root) no_entries) in
     let node : Entries = entry [] (dictionary leaf) no_entries in
-    let layers-entry : Entries = entry key_piece_layers (dictionary (layers root)) no_entries in
-    let in_leaf = entries-length key_length (integer false 16385) (entry key_pieces_root (string root) no_entries) in
-    let in-root = entries-length key_pieces_root (string root) no_entries in
-    let in-node = entries-length [] (dictionary leaf) no_entries in
-    let in_tree = entries-length (99 ∷ []) (dictionary node) no_entries in
-    let in-info = entries-length key_file_tree (dictionary (tree root)) after_tree in
-    let in-layers = entries-length root (string layer) no_entries in
-    let in-last = entries-length key_piece_layers (dictionary (layers root)) no_entries in
-    let in-torrent = entries-length key_info (dictionary (info root)) layers-entry in
+    let layers_entry : Entries = entry key_piece_layers (dictionary (layers root)) no_entries in
+    let in_leaf = entries_length key_length (integer false 16385) (entry key_pieces_root (string root) no_entries) in
+    let in_root = entries_length key_pieces_root (string root) no_entries in
+    let in_node = entries_length [] (dictionary leaf) no_entries in
+    let in_tree = entries_length (99 ∷ []) (dictionary node) no_entries in
+    let in_info = entries_length key_file_tree (dictionary (tree root)) after_tree in
+    let in_layers = entries_length root (string layer) no_entries in
+    let in_last = entries_length key_piece_layers (dictionary (layers root)) no_entries in
+    let in_torrent = entries_length key_info (dictionary (info root)) layers_entry in
     omega (
       arith,
-      fixed-sizes,
-      string-size root e,
-      value-size root e,
-      dictionary-length leaf,
-      dictionary-length node,
-      dictionary-length (tree root),
-      dictionary-length (info root),
-      dictionary-length (layers root),
-      dictionary-length (with_root root),
+      fixed_sizes,
+      string_size root e,
+      value_size root e,
+      dictionary_length leaf,
+      dictionary_length node,
+      dictionary_length (tree root),
+      dictionary_length (info root),
+      dictionary_length (layers root),
+      dictionary_length (with_root root),
     )
 
 -- ---- the torrent
@@ -184,9 +184,9 @@ with_size root e =
 abbrev pub the_root : List ℕ
 the_root = layer_root layer 0 1
 
-pub root-size : length the_root ≡ 32
+pub root_size : length the_root ≡ 32
 unfolding layer_root node
-root-size = (pair-octets (node (layer_leaf layer 0) 0 0) (node (layer_leaf layer 0) 0 1)).size
+root_size = (pair_octets (node (layer_leaf layer 0) 0 0) (node (layer_leaf layer 0) 0 1)).size
 
 -- the torrent with that root, and its one file
 abbrev pub long : Entries
@@ -196,23 +196,23 @@ abbrev pub long_file : File
 long_file = the_file the_root
 
 -- it is valid
-pub long-valid : Valid (dictionary long) max_levels
-long-valid = with-valid the_root
+pub long_valid : Valid (dictionary long) max_levels
+long_valid = with_valid the_root
 
 -- it gets 0
-pub long-taken : (read_of (encode (dictionary long))).number ≡ 0
-long-taken =
+pub long_taken : (read_of (encode (dictionary long))).number ≡ 0
+long_taken =
     read_number_lem (encode (dictionary long))
-    ∙ number-is-the-values (encode (dictionary long)) long refl long-valid (let n = with_size the_root root-size in omega arith)
-    ∙ with-right the_root root-size refl
+    ∙ number_is_the_values (encode (dictionary long)) long refl long_valid (let n = with_size the_root root_size in omega arith)
+    ∙ with_right the_root root_size refl
 
-the-first : Nth (files_of long) 0 long_file
+the_first : Nth (files_of long) 0 long_file
 unfolding Nth lookup same files_of_entries files_of_node
-the-first = refl
+the_first = refl
 
 -- and its file is answered with the layer that `piece layers` has for its root
-pub long-first : FileIs (encode (dictionary long)) long long_file (file_read (encode (dictionary long)) 0)
-long-first = file-is (encode (dictionary long)) long refl long-valid long-taken 0 long_file the-first
+pub long_first : FileIs (encode (dictionary long)) long long_file (file_read (encode (dictionary long)) 0)
+long_first = file_is (encode (dictionary long)) long refl long_valid long_taken 0 long_file the_first
 
 -- it is longer than a piece
 longer : plen_of long < long_file.size
@@ -220,16 +220,16 @@ unfolding lookup same
 longer = omega arith
 
 -- `piece layers` has the 64 bytes for it
-has-layer : lookup long_file.root (layers_of long) ≡ present (string layer)
-has-layer = ap (lookup the_root) (the_layers the_root) ∙ the-key the_root
+has_layer_lem : lookup long_file.root (layers_of long) ≡ present (string layer)
+has_layer_lem = ap (lookup the_root) (the_layers the_root) ∙ the_key the_root
 
-pub layer-size : length layer ≡ 64
+pub layer_size : length layer ≡ 64
 unfolding zero_hash
-layer-size = refl
+layer_size = refl
 
 -- so these 64 bytes are what is answered
-pub long-layer : ((file_read (encode (dictionary long)) 0).size ≡ 64) × (cut (encode (dictionary long)) (file_read (encode (dictionary long)) 0).start (file_read (encode (dictionary long)) 0).size ≡ zero_hash ++ zero_hash)
-long-layer =
-    let w = long-first.layer longer in
-    let b : w.0 ≡ layer = one-string w.0 layer (sym w.1 ∙ has-layer) in
-    (w.2 ∙ ap length b ∙ layer-size, w.3 ∙ b)
+pub long_layer : ((file_read (encode (dictionary long)) 0).size ≡ 64) × (cut (encode (dictionary long)) (file_read (encode (dictionary long)) 0).start (file_read (encode (dictionary long)) 0).size ≡ zero_hash ++ zero_hash)
+long_layer =
+    let w = long_first.layer longer in
+    let b : w.0 ≡ layer = one_string w.0 layer (sym w.1 ∙ has_layer_lem) in
+    (w.2 ∙ ap length b ∙ layer_size, w.3 ∙ b)

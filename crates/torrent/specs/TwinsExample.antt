@@ -15,18 +15,18 @@ use Rattle.sha256.specs.Sha256.{sha256}
 use Rattle.tree.specs.Geometry.{block_count, ceil_div, is_piece_length, piece_layer, piece_count, height, height_from, has_layer}
 use Rattle.tree.specs.Values.{layer_root}
 use Rattle.bencode.specs.Grammar.{integer, string, dictionary, Entries, no_entries, entry, decimal_in, encode_string, encode, encode_entries, precedes, Valid}
-use Rattle.bencode.specs.PartsLaws.{entries-length, one-string}
+use Rattle.bencode.specs.PartsLaws.{entries_length, one_string}
 use Rattle.bencode.specs.Parts.{Lookup, present, absent, lookup}
-use Rattle.bencode.specs.CompleteLaws.{dictionary-length}
+use Rattle.bencode.specs.CompleteLaws.{dictionary_length}
 use Rattle.meaning.specs.Nth.{Nth}
 use Rattle.meaning.specs.Torrent.{File, is_number, info_of, tree_of, files_of, plen_of, layers_of, without, has_keys, element_right, file_right, node_right, branch_right, nodes_right, tree_right, files_of_node, files_of_entries, no_other_length, lengths_agree, layer_fits, layers_fit, some_longer, no_others, gives_root, layer_bytes, layers_give_roots}
 use Rattle.halves.specs.V1Keys.{key_pieces}
 use Rattle.halves.specs.V1Half.{torrent_number}
 use Rattle.torrent.specs.Torrent.{read_of, file_read, path_read}
-use Rattle.torrent.specs.NumberMeans.{number-is-the-values, read_number_lem}
+use Rattle.torrent.specs.NumberMeans.{number_is_the_values, read_number_lem}
 use Rattle.torrent.specs.Answers.{FileIs, PartIs}
-use Rattle.torrent.specs.ReadMeans.{torrent-is, info-hash, file-is, element-is, same-part}
-use Rattle.torrent.specs.LayerExample.{all_pass, layer, string-size, value-size, after_tree, the_root, root-size, layer-size}
+use Rattle.torrent.specs.ReadMeans.{torrent_is, info_hash, file_is, element_is, same_part}
+use Rattle.torrent.specs.LayerExample.{all_pass, layer, string_size, value_size, after_tree, the_root, root_size, layer_size}
 use Rattle.torrent.specs.declared.read.Torrent.{Torrent}
 use Rattle.torrent.specs.declared.read.FileRead.{FileRead}
 
@@ -64,100 +64,100 @@ module _ (root : List ℕ) where
   image_in path = record { size = 16385; root = root; path = path ∷ name ∷ [] }
 
   -- it is valid
-  leaf-valid : Valid (dictionary leaf) 27
+  leaf_valid : Valid (dictionary leaf) 27
   unfolding Valid precedes
-  leaf-valid = (refl, omega arith, (refl, tt, tt))
+  leaf_valid = (refl, omega arith, (refl, tt, tt))
 
-  with-valid : Valid (dictionary with_root) max_levels
+  with_valid : Valid (dictionary with_root) max_levels
   unfolding Valid precedes
-  with-valid =
-      (refl, (refl, (refl, (refl, (refl, leaf-valid, tt), tt), (refl, (refl, (refl, leaf-valid, tt), tt), tt)), (refl, omega arith, (refl, omega arith, tt))), (refl, (refl, tt, tt), tt))
+  with_valid =
+      (refl, (refl, (refl, (refl, (refl, leaf_valid, tt), tt), (refl, (refl, (refl, leaf_valid, tt), tt), tt)), (refl, omega arith, (refl, omega arith, tt))), (refl, (refl, tt, tt), tt))
 
   the_layers : layers_of with_root ≡ layers
   unfolding lookup same
   the_layers = refl
 
   -- and passes the tests, one after the other
-  keys-right : has_keys with_root ≡ true
+  keys_right : has_keys with_root ≡ true
   unfolding lookup same has_keys
-  keys-right = refl
+  keys_right = refl
 
-  version-right : is_number 2 (lookup key_meta_version (info_of with_root)) ≡ true
+  version_right : is_number 2 (lookup key_meta_version (info_of with_root)) ≡ true
   unfolding lookup same
-  version-right = refl
+  version_right = refl
 
-  piece-right : is_piece_length (plen_of with_root) ≡ true
+  piece_right : is_piece_length (plen_of with_root) ≡ true
   unfolding lookup same is_piece_length piece_layer height height_from
-  piece-right = refl
+  piece_right = refl
 
-  tree-right : length root ≡ 32 → tree_right (tree_of with_root) ≡ true
+  tree_right_lem : length root ≡ 32 → tree_right (tree_of with_root) ≡ true
   unfolding lookup same tree_right branch_right node_right nodes_right element_right without file_right
-  tree-right e = ap (λ (t : Bool). (t && true) && ((t && true) && true)) (eq-eqb (length root) 32 e)
+  tree_right_lem e = ap (λ (t : Bool). (t && true) && ((t && true) && true)) (eq-eqb (length root) 32 e)
 
   -- one root, and one length
-  lengths-right : lengths_agree (files_of with_root) ≡ true
+  lengths_right : lengths_agree (files_of with_root) ≡ true
   unfolding lookup same files_of_entries files_of_node lengths_agree no_other_length
-  lengths-right = ap (λ (t : Bool). (not (t && false) && true) && true) (same_refl root)
+  lengths_right = ap (λ (t : Bool). (not (t && false) && true) && true) (same_refl root)
 
   -- the root is the one key
-  the-key : lookup root layers ≡ present (string layer)
+  the_key : lookup root layers ≡ present (string layer)
   unfolding lookup
-  the-key = ap (λ (t : Bool). cond t (present (string layer)) absent) (same_refl root)
+  the_key = ap (λ (t : Bool). cond t (present (string layer)) absent) (same_refl root)
 
   -- 32 bytes for each of two pieces
-  two-pieces : (path : List ℕ) → layer_fits 16384 (image_in path) (lookup root layers) ≡ true
+  two_pieces : (path : List ℕ) → layer_fits 16384 (image_in path) (lookup root layers) ≡ true
   unfolding zero_hash piece_count ceil_div
-  two-pieces path = ap (layer_fits 16384 (image_in path)) the-key
+  two_pieces path = ap (layer_fits 16384 (image_in path)) the_key
 
-  fit-right : layers_fit (plen_of with_root) (layers_of with_root) (files_of with_root) ≡ true
+  fit_right : layers_fit (plen_of with_root) (layers_of with_root) (files_of with_root) ≡ true
   unfolding lookup same files_of_entries files_of_node layers_fit has_layer
-  fit-right = ap₂ (λ (t u : Bool). t && (u && true)) (two-pieces (97 ∷ [])) (two-pieces (98 ∷ []))
+  fit_right = ap₂ (λ (t u : Bool). t && (u && true)) (two_pieces (97 ∷ [])) (two_pieces (98 ∷ []))
 
-  others-right : no_others (plen_of with_root) (files_of with_root) (layers_of with_root) ≡ true
+  others_right : no_others (plen_of with_root) (files_of with_root) (layers_of with_root) ≡ true
   unfolding lookup same files_of_entries files_of_node no_others some_longer has_layer
-  others-right = ap (λ (t : Bool). (t || (t || false)) && true) (same_refl root)
+  others_right = ap (λ (t : Bool). (t || (t || false)) && true) (same_refl root)
 
   -- the layer gives the root
   gives : layer_root layer 0 1 ≡ root → (path : List ℕ) → gives_root 16384 (image_in path) layer ≡ true
   unfolding piece_layer height height_from block_count ceil_div
   gives e path = rw e (same_refl root)
 
-  gives-right : layer_root layer 0 1 ≡ root → layers_give_roots (plen_of with_root) (layers_of with_root) (files_of with_root) ≡ true
+  gives_right : layer_root layer 0 1 ≡ root → layers_give_roots (plen_of with_root) (layers_of with_root) (files_of with_root) ≡ true
   unfolding lookup same files_of_entries files_of_node layers_give_roots has_layer
-  gives-right e = ap₂ (λ (t u : Bool). t && (u && true)) (each (97 ∷ [])) (each (98 ∷ []))
+  gives_right e = ap₂ (λ (t u : Bool). t && (u && true)) (each (97 ∷ [])) (each (98 ∷ []))
     where
       each : (path : List ℕ) → gives_root 16384 (image_in path) (layer_bytes (lookup root layers)) ≡ true
-      each path = ap (λ (x : Lookup). gives_root 16384 (image_in path) (layer_bytes x)) the-key ∙ gives e path
+      each path = ap (λ (x : Lookup). gives_root 16384 (image_in path) (layer_bytes x)) the_key ∙ gives e path
 
-  with-pure : lookup key_pieces (info_of with_root) ≡ absent
+  with_pure : lookup key_pieces (info_of with_root) ≡ absent
   unfolding lookup same
-  with-pure = refl
+  with_pure = refl
 
-  with-right : length root ≡ 32 → layer_root layer 0 1 ≡ root → torrent_number with_root ≡ 0
-  with-right l e = all_pass with_root with-pure keys-right version-right piece-right (tree-right l) lengths-right fit-right others-right (gives-right e)
+  with_right : length root ≡ 32 → layer_root layer 0 1 ≡ root → torrent_number with_root ≡ 0
+  with_right l e = all_pass with_root with_pure keys_right version_right piece_right (tree_right_lem l) lengths_right fit_right others_right (gives_right e)
 
 -- ---- its size
 
-fixed-sizes : (length (encode_string key_info) ≡ 6) × (length (encode_string key_piece_layers) ≡ 15) × (length (encode_string key_file_tree) ≡ 11) × (length (encode_string (97 ∷ [])) ≡ 3)
+fixed_sizes : (length (encode_string key_info) ≡ 6) × (length (encode_string key_piece_layers) ≡ 15) × (length (encode_string key_file_tree) ≡ 11) × (length (encode_string (97 ∷ [])) ≡ 3)
     × (length (encode_string (98 ∷ [])) ≡ 3) × (length (encode_string name) ≡ 7) × (length (encode_string []) ≡ 2) × (length (encode_string key_length) ≡ 8) × (length (encode_string key_pieces_root) ≡ 14)
     × (length (encode (integer false 16385)) ≡ 7) × (length (encode (string layer)) ≡ 67) × (length (encode_entries after_tree) ≡ 41) × (length (encode_entries no_entries) ≡ 1)
 unfolding encode decimal_in zero_hash
-fixed-sizes = (refl, refl, refl, refl, refl, refl, refl, refl, refl, refl, refl, refl, refl)
+fixed_sizes = (refl, refl, refl, refl, refl, refl, refl, refl, refl, refl, refl, refl, refl)
 
 -- a folder takes 79 bytes
-folder-size : (root : List ℕ) → length root ≡ 32 → length (encode (dictionary (folder root))) ≡ 79
-folder-size root e =
+folder_size : (root : List ℕ) → length root ≡ 32 → length (encode (dictionary (folder root))) ≡ 79
+folder_size root e =
     omega (
       arith,
-      fixed-sizes,
-      value-size root e,
-      entries-length key_length (integer false 16385) (entry key_pieces_root (string root) no_entries),
-      entries-length key_pieces_root (string root) no_entries,
-      entries-length [] (dictionary (leaf root)) no_entries,
-      entries-length name (dictionary (node root)) no_entries,
-      dictionary-length (leaf root),
-      dictionary-length (node root),
-      dictionary-length (folder root),
+      fixed_sizes,
+      value_size root e,
+      entries_length key_length (integer false 16385) (entry key_pieces_root (string root) no_entries),
+      entries_length key_pieces_root (string root) no_entries,
+      entries_length [] (dictionary (leaf root)) no_entries,
+      entries_length name (dictionary (node root)) no_entries,
+      dictionary_length (leaf root),
+      dictionary_length (node root),
+      dictionary_length (folder root),
     )
 
 -- the torrent has 346 bytes
@@ -165,19 +165,19 @@ with_size : (root : List ℕ) → length root ≡ 32 → length (encode (diction
 with_size root e =
     omega (
       arith,
-      fixed-sizes,
-      string-size root e,
-      folder-size root e,
-      entries-length (97 ∷ []) (dictionary (folder root)) (entry (98 ∷ []) (dictionary (folder root)) no_entries),
-      entries-length (98 ∷ []) (dictionary (folder root)) no_entries,
-      entries-length key_file_tree (dictionary (tree root)) after_tree,
-      entries-length root (string layer) no_entries,
-      entries-length key_piece_layers (dictionary (layers root)) no_entries,
-      entries-length key_info (dictionary (info root)) (entry key_piece_layers (dictionary (layers root)) no_entries),
-      dictionary-length (tree root),
-      dictionary-length (info root),
-      dictionary-length (layers root),
-      dictionary-length (with_root root),
+      fixed_sizes,
+      string_size root e,
+      folder_size root e,
+      entries_length (97 ∷ []) (dictionary (folder root)) (entry (98 ∷ []) (dictionary (folder root)) no_entries),
+      entries_length (98 ∷ []) (dictionary (folder root)) no_entries,
+      entries_length key_file_tree (dictionary (tree root)) after_tree,
+      entries_length root (string layer) no_entries,
+      entries_length key_piece_layers (dictionary (layers root)) no_entries,
+      entries_length key_info (dictionary (info root)) (entry key_piece_layers (dictionary (layers root)) no_entries),
+      dictionary_length (tree root),
+      dictionary_length (info root),
+      dictionary_length (layers root),
+      dictionary_length (with_root root),
     )
 
 -- ---- the torrent
@@ -195,34 +195,34 @@ first = image_in the_root (97 ∷ [])
 abbrev pub second : File
 second = image_in the_root (98 ∷ [])
 
-pub twins-valid : Valid (dictionary twins) max_levels
-twins-valid = with-valid the_root
+pub twins_valid : Valid (dictionary twins) max_levels
+twins_valid = with_valid the_root
 
 -- it gets 0
-pub twins-taken : (read_of bytes).number ≡ 0
-twins-taken = read_number_lem bytes ∙ number-is-the-values bytes twins refl twins-valid (let n = with_size the_root root-size in omega arith) ∙ with-right the_root root-size refl
+pub twins_taken : (read_of bytes).number ≡ 0
+twins_taken = read_number_lem bytes ∙ number_is_the_values bytes twins refl twins_valid (let n = with_size the_root root_size in omega arith) ∙ with_right the_root root_size refl
 
-the-info : info_of twins ≡ info the_root
+the_info : info_of twins ≡ info the_root
 unfolding lookup same
-the-info = refl
+the_info = refl
 
-the-plen : plen_of twins ≡ 16384
+the_plen : plen_of twins ≡ 16384
 unfolding lookup same
-the-plen = refl
+the_plen = refl
 
-two-files : length (files_of twins) ≡ 2
+two_files : length (files_of twins) ≡ 2
 unfolding lookup same files_of_entries files_of_node
-two-files = refl
+two_files = refl
 
-torrent-of : (r : Torrent) (h : List ℕ) (p f : ℕ) → r.number ≡ 0 → r.hash ≡ h → r.plen ≡ p → r.files ≡ f → r ≡ record { number = 0; hash = h; plen = p; files = f }
-torrent-of r h p f a b c d = rw (sym a, sym b, sym c, sym d) refl
+torrent_of : (r : Torrent) (h : List ℕ) (p f : ℕ) → r.number ≡ 0 → r.hash ≡ h → r.plen ≡ p → r.files ≡ f → r ≡ record { number = 0; hash = h; plen = p; files = f }
+torrent_of r h p f a b c d = rw (sym a, sym b, sym c, sym d) refl
 
 -- with the info hash of these bytes, its piece length and two files
-pub twins-read : read_of bytes ≡ record { number = 0; hash = sha256 (encode (dictionary (info the_root))); plen = 16384; files = 2 }
-twins-read =
-    let t = torrent-is bytes twins refl twins-valid twins-taken in
-    torrent-of (read_of bytes) (sha256 (encode (dictionary (info the_root)))) 16384 2 twins-taken
-    (info-hash bytes twins refl twins-valid twins-taken ∙ ap (λ (x : Entries). sha256 (encode (dictionary x))) the-info) (t.piece-length ∙ the-plen) (t.file-count ∙ two-files)
+pub twins_read : read_of bytes ≡ record { number = 0; hash = sha256 (encode (dictionary (info the_root))); plen = 16384; files = 2 }
+twins_read =
+    let t = torrent_is bytes twins refl twins_valid twins_taken in
+    torrent_of (read_of bytes) (sha256 (encode (dictionary (info the_root)))) 16384 2 twins_taken
+    (info_hash bytes twins refl twins_valid twins_taken ∙ ap (λ (x : Entries). sha256 (encode (dictionary x))) the_info) (t.piece_length_lem ∙ the_plen) (t.file_count ∙ two_files)
 
 at_first : Nth (files_of twins) 0 first
 unfolding Nth lookup same files_of_entries files_of_node
@@ -233,72 +233,72 @@ unfolding Nth lookup same files_of_entries files_of_node
 at_second = refl
 
 -- both files are answered as they are
-pub twins-first : FileIs bytes twins first (file_read bytes 0)
-twins-first = file-is bytes twins refl twins-valid twins-taken 0 first at_first
+pub twins_first : FileIs bytes twins first (file_read bytes 0)
+twins_first = file_is bytes twins refl twins_valid twins_taken 0 first at_first
 
-pub twins-second : FileIs bytes twins second (file_read bytes 1)
-twins-second = file-is bytes twins refl twins-valid twins-taken 1 second at_second
+pub twins_second : FileIs bytes twins second (file_read bytes 1)
+twins_second = file_is bytes twins refl twins_valid twins_taken 1 second at_second
 
 longer : plen_of twins < first.size
 unfolding lookup same
 longer = omega arith
 
-has-layer : lookup first.root (layers_of twins) ≡ present (string layer)
-has-layer = ap (lookup the_root) (the_layers the_root) ∙ the-key the_root
+has_layer_lem : lookup first.root (layers_of twins) ≡ present (string layer)
+has_layer_lem = ap (lookup the_root) (the_layers the_root) ∙ the_key the_root
 
-file-of : (r : FileRead) (n : ℕ) (h : List ℕ) (e s m : ℕ) → r.number ≡ 0 → r.length ≡ n → r.root ≡ h → r.elements ≡ e → r.start ≡ s → r.size ≡ m
+file_of : (r : FileRead) (n : ℕ) (h : List ℕ) (e s m : ℕ) → r.number ≡ 0 → r.length ≡ n → r.root ≡ h → r.elements ≡ e → r.start ≡ s → r.size ≡ m
     → r ≡ record { number = 0; length = n; root = h; elements = e; start = s; size = m }
-file-of r n h e s m a b c d f g = rw (sym a, sym b, sym c, sym d, sym f, sym g) refl
+file_of r n h e s m a b c d f g = rw (sym a, sym b, sym c, sym d, sym f, sym g) refl
 
 -- the layer's 64 bytes are where the first is answered
-pub twins-layer : ((file_read bytes 0).size ≡ 64) × (cut bytes (file_read bytes 0).start 64 ≡ zero_hash ++ zero_hash)
-twins-layer =
-    let w = twins-first.layer longer in
-    let b : w.0 ≡ layer = one-string w.0 layer (sym w.1 ∙ has-layer) in
-    let size : (file_read bytes 0).size ≡ 64 = w.2 ∙ ap length b ∙ layer-size in
+pub twins_layer : ((file_read bytes 0).size ≡ 64) × (cut bytes (file_read bytes 0).start 64 ≡ zero_hash ++ zero_hash)
+twins_layer =
+    let w = twins_first.layer longer in
+    let b : w.0 ≡ layer = one_string w.0 layer (sym w.1 ∙ has_layer_lem) in
+    let size : (file_read bytes 0).size ≡ 64 = w.2 ∙ ap length b ∙ layer_size in
     (size, rw size at (w.3 ∙ b))
 
 -- every field of both answers: each file has its length, its root, two path elements and the one layer
 abbrev pub answer : ℕ → FileRead
 answer size = record { number = 0; length = 16385; root = the_root; elements = 2; start = (file_read bytes 0).start; size = size }
 
-pub twins-one : file_read bytes 0 ≡ answer 64
-twins-one =
-    let a = twins-first in
-    file-of (file_read bytes 0) 16385 the_root 2 (file_read bytes 0).start 64 a.number a.size a.root a.elements refl twins-layer.0
+pub twins_one : file_read bytes 0 ≡ answer 64
+twins_one =
+    let a = twins_first in
+    file_of (file_read bytes 0) 16385 the_root 2 (file_read bytes 0).start 64 a.number a.size a.root a.elements refl twins_layer.0
 
-pub twins-other : file_read bytes 1 ≡ answer 64
-twins-other =
-    let b = twins-second in
-    let p = same-part bytes twins refl twins-valid twins-taken 1 0 second first at_second at_first refl refl in
-    file-of (file_read bytes 1) 16385 the_root 2 (file_read bytes 0).start 64 b.number b.size b.root b.elements p.0 (p.1 ∙ twins-layer.0)
+pub twins_other : file_read bytes 1 ≡ answer 64
+twins_other =
+    let b = twins_second in
+    let p = same_part bytes twins refl twins_valid twins_taken 1 0 second first at_second at_first refl refl in
+    file_of (file_read bytes 1) 16385 the_root 2 (file_read bytes 0).start 64 b.number b.size b.root b.elements p.0 (p.1 ∙ twins_layer.0)
 
-element-first : Nth first.path 0 (97 ∷ [])
+element_first : Nth first.path 0 (97 ∷ [])
 unfolding Nth
-element-first = refl
+element_first = refl
 
-element-second : Nth second.path 0 (98 ∷ [])
+element_second : Nth second.path 0 (98 ∷ [])
 unfolding Nth
-element-second = refl
+element_second = refl
 
 -- their paths begin with their folders
-pub twins-folders : PartIs bytes (97 ∷ []) (path_read bytes 0 0) × PartIs bytes (98 ∷ []) (path_read bytes 1 0)
-twins-folders = (
-  element-is bytes twins refl twins-valid twins-taken 0 first at_first 0 (97 ∷ []) element-first,
-  element-is bytes twins refl twins-valid twins-taken 1 second at_second 0 (98 ∷ []) element-second,
+pub twins_folders : PartIs bytes (97 ∷ []) (path_read bytes 0 0) × PartIs bytes (98 ∷ []) (path_read bytes 1 0)
+twins_folders = (
+  element_is bytes twins refl twins_valid twins_taken 0 first at_first 0 (97 ∷ []) element_first,
+  element_is bytes twins refl twins_valid twins_taken 1 second at_second 0 (98 ∷ []) element_second,
 )
 
-image-first : Nth first.path 1 name
+image_first : Nth first.path 1 name
 unfolding Nth
-image-first = refl
+image_first = refl
 
-image-second : Nth second.path 1 name
+image_second : Nth second.path 1 name
 unfolding Nth
-image-second = refl
+image_second = refl
 
 -- and end with `image`
-pub twins-images : PartIs bytes name (path_read bytes 0 1) × PartIs bytes name (path_read bytes 1 1)
-twins-images = (
-  element-is bytes twins refl twins-valid twins-taken 0 first at_first 1 name image-first,
-  element-is bytes twins refl twins-valid twins-taken 1 second at_second 1 name image-second,
+pub twins_images : PartIs bytes name (path_read bytes 0 1) × PartIs bytes name (path_read bytes 1 1)
+twins_images = (
+  element_is bytes twins refl twins_valid twins_taken 0 first at_first 1 name image_first,
+  element_is bytes twins refl twins_valid twins_taken 1 second at_second 1 name image_second,
 )

@@ -9,18 +9,18 @@ use Rattle.std.proofs.lemmas.List.{map-append}
 use Rattle.std.proofs.Math.Decide.{ℕ_discrete}
 use Rattle.octets.specs.Octets.{cut}
 use Rattle.tree.specs.Geometry.{has_layer}
-use Rattle.tree.proofs.GeometryLaws.{long-full}
+use Rattle.tree.proofs.GeometryLaws.{long_full}
 use Rattle.meaning.specs.Torrent.{File, lengths_agree}
 use Rattle.sorting.specs.Sorting.{Stands}
-use Rattle.sorting.specs.SortingLaws.{ascending-one}
+use Rattle.sorting.specs.SortingLaws.{ascending_one}
 use Rattle.filetree.specs.Token.{ends_here, token_at}
-use Rattle.filetree.specs.TokenLaws.{leaf-ends, opened-ends}
+use Rattle.filetree.specs.TokenLaws.{leaf_ends, opened_ends}
 use Rattle.filetree.specs.Tree.{max_elements, Element, Listed, listed_as, down, Files, wrong, files, after, files_from, files_below, files_in, right, listed, roots_of}
-use Rattle.filetree.specs.TreeLaws.{empty-tree, tree-below, no-levels, FilesPassed, passed_none, passed-bad, passed-end, passed-closed, passed-file, passed-wrong, inside-ends, passed-directory}
+use Rattle.filetree.specs.TreeLaws.{empty_tree, tree_below, no_levels, FilesPassed, passed_none, passed_bad, passed_end, passed_closed, passed_file, passed_wrong, inside_ends, passed_directory}
 use Rattle.filetree.specs.Reading.{read_file, read_files, root_read}
 use Rattle.filetree.specs.declared.token.Token.TheVariants.{Opened, Closed, Leaf, BadToken}
 use Rattle.twins.specs.Twins.{long_roots, once_each, layer_count, compared_of, length_known, differs, size_noted, RootsStand, Rooted, Meets}
-use Rattle.twins.specs.TwinsLaws.{agree-front, empty-short, empty-agrees, empty-known, empty-layers, differs-so, full-agrees, full-known, others-known, full-layers, once-fewer}
+use Rattle.twins.specs.TwinsLaws.{agree_front, empty_short, empty_agrees, empty_known, empty_layers, differs_so, full_agrees, full_known, others_known, full_layers, once_fewer}
 use Rattle.twins.specs.Walk.{Known, Ahead, Compares}
 use Rattle.twins.specs.declared.Noted.TheVariants.{Past}
 use Rattle.twins.specs.declared.Compared.TheVariants.{Agree, Differ}
@@ -29,9 +29,9 @@ use Rattle.twins.specs.declared.Compared.TheVariants.{Agree, Differ}
 
 module _ (t roots : List ℕ) (count plen : ℕ) where
   -- nothing is noted yet
-  pub known-none : (room : List ℕ) → count ≤ length room → ((j : ℕ) → j < count → get_or room j 0 ≡ 0) → Known t roots count plen room [] 0
+  pub known_none : (room : List ℕ) → count ≤ length room → ((j : ℕ) → j < count → get_or room j 0 ≡ 0) → Known t roots count plen room [] 0
   unfolding lengths_agree layer_count long_roots once_each size_noted length_known
-  known-none room h z = record { agree = refl; counted = refl; noted = λ j l. rw (z j l) refl; sized = h }
+  known_none room h z = record { agree = refl; counted = refl; noted = λ j l. rw (z j l) refl; sized = h }
 
   module _ (rooted : Rooted t roots count) (room : List ℕ) (done : List Listed) (layered : ℕ) (c : Known t roots count plen room done layered)
       (i a b n r k : ℕ) (path : List Element) (some : 0 < i) (e : token_at t i ≡ Leaf a b n r k) where
@@ -72,85 +72,85 @@ module _ (t roots : List ℕ) (count plen : ℕ) where
 
     module _ (room' : List ℕ) (known : ℕ) (m : Meets t roots count room room' i n r known) where
       -- it has another length than the one known of its root
-      pub known-differs : differs known n ≡ true → (rest : List Listed) → lengths_agree (read_files t (done ++ f ∷ rest)) ≡ false
-      known-differs d rest = ap lengths_agree (map-append (read_file t) done (f ∷ rest)) ∙ disagree m
+      pub known_differs : differs known n ≡ true → (rest : List Listed) → lengths_agree (read_files t (done ++ f ∷ rest)) ≡ false
+      known_differs d rest = ap lengths_agree (map-append (read_file t) done (f ∷ rest)) ∙ disagree m
         where
           disagree : Meets t roots count room room' i n r known → lengths_agree (vs ++ v ∷ read_files t rest) ≡ false
           disagree (inl (z, o, s)) = absurd (false≢true (sym (rw (eq-eqb known 0 o) refl) ∙ d))
           disagree (inr (z, (j, l, q, o, s))) =
               let is : known ≡ length_known v.root vs = o ∙ c.noted j l ∙ ap (λ (x : List ℕ). length_known x vs) (q ∙ sym (root_is z)) in
-              differs-so vs v c.agree (λ x. z (sym size_is ∙ x)) known is (rw size_is d) (read_files t rest)
+              differs_so vs v c.agree (λ x. z (sym size_is ∙ x)) known is (rw size_is d) (read_files t rest)
 
       -- it does not
-      pub known-file : differs known n ≡ false → (layered' : ℕ) → layered' ≡ cond (eqb known 0 && has_layer n plen) (layered + 1) layered → Known t roots count plen room' (done ++ f ∷ []) layered'
-      known-file d layered' g = by-met m
+      pub known_file : differs known n ≡ false → (layered' : ℕ) → layered' ≡ cond (eqb known 0 && has_layer n plen) (layered + 1) layered → Known t roots count plen room' (done ++ f ∷ []) layered'
+      known_file d layered' g = by_met m
         where
-          by-met : Meets t roots count room room' i n r known → Known t roots count plen room' (done ++ f ∷ []) layered'
-          by-met (inl (z, o, s)) =
+          by_met : Meets t roots count room room' i n r known → Known t roots count plen room' (done ++ f ∷ []) layered'
+          by_met (inl (z, o, s)) =
               let empty : v.size ≡ 0 = size_is ∙ z in
-              let same-long : layered' ≡ layered = g ∙ rw (eq-eqb known 0 o, empty-short n plen z) refl in
-              met room' layered' (ap length s) (empty-agrees vs v c.agree empty) (same-long ∙ c.counted ∙ sym (empty-layers vs v c.agree empty plen))
-              (λ j l. ap (λ (x : List ℕ). size_noted t (get_or x j 0)) s ∙ c.noted j l ∙ sym (empty-known vs v c.agree empty (cut t (get_or roots j 0) 32)))
-          by-met (inr (z, (j, l, q, o, s))) =
+              let same_long : layered' ≡ layered = g ∙ rw (eq-eqb known 0 o, empty_short n plen z) refl in
+              met room' layered' (ap length s) (empty_agrees vs v c.agree empty) (same_long ∙ c.counted ∙ sym (empty_layers vs v c.agree empty plen))
+              (λ j l. ap (λ (x : List ℕ). size_noted t (get_or x j 0)) s ∙ c.noted j l ∙ sym (empty_known vs v c.agree empty (cut t (get_or roots j 0) 32)))
+          by_met (inr (z, (j, l, q, o, s))) =
               let full : (v.size ≡ 0 → ⊥) = λ x. z (sym size_is ∙ x) in
               let is : known ≡ length_known v.root vs = o ∙ c.noted j l ∙ ap (λ (x : List ℕ). length_known x vs) (q ∙ sym (root_is z)) in
               let d' : differs known v.size ≡ false = rw size_is d in
               let here : cut t (get_or roots j 0) 32 ≡ v.root = q ∙ sym (root_is z) in
               let inside : j < length room = (let x = c.sized in omega arith) in
-              met room' layered' (ap length s ∙ length-set room j i) (full-agrees vs v c.agree full known is d')
-              (g ∙ ap (λ (x : ℕ). cond (eqb known 0 && has_layer x plen) (layered + 1) layered) (sym size_is) ∙ ap (λ (x : ℕ). cond (eqb known 0 && has_layer v.size plen) (x + 1) x) c.counted ∙ sym (full-layers vs v c.agree full known is d' plen))
+              met room' layered' (ap length s ∙ length-set room j i) (full_agrees vs v c.agree full known is d')
+              (g ∙ ap (λ (x : ℕ). cond (eqb known 0 && has_layer x plen) (layered + 1) layered) (sym size_is) ∙ ap (λ (x : ℕ). cond (eqb known 0 && has_layer v.size plen) (x + 1) x) c.counted ∙ sym (full_layers vs v c.agree full known is d' plen))
               (λ j' l'. ap (λ (x : List ℕ). size_noted t (get_or x j' 0)) s ∙ by_place full is d' j here inside l j' l' (ℕ_discrete j' j))
             where
               by_place : (full : v.size ≡ 0 → ⊥) (is : known ≡ length_known v.root vs) (d' : differs known v.size ≡ false) (j : ℕ) → cut t (get_or roots j 0) 32 ≡ v.root → j < length room → j < count → (j' : ℕ) → j' < count → Dec (j' ≡ j)
                   → size_noted t (get_or (set room j i) j' 0) ≡ length_known (cut t (get_or roots j' 0) 32) (vs ++ v ∷ [])
               by_place full is d' j here inside l j' l' (yes x) =
-                  ap (λ (y : ℕ). size_noted t (get_or (set room j i) y 0)) x ∙ ap (size_noted t) (get_or-set_same room j i 0 inside) ∙ noted_here ∙ sym size_is ∙ sym (full-known vs v c.agree full known is d')
+                  ap (λ (y : ℕ). size_noted t (get_or (set room j i) y 0)) x ∙ ap (size_noted t) (get_or-set_same room j i 0 inside) ∙ noted_here ∙ sym size_is ∙ sym (full_known vs v c.agree full known is d')
                   ∙ ap (λ (y : List ℕ). length_known y (vs ++ v ∷ [])) (sym here ∙ ap (λ (y : ℕ). cut t (get_or roots y 0) 32) (sym x))
               by_place full is d' j here inside l j' l' (no x) =
                   ap (size_noted t) (get_or-set_other room j j' i 0 x) ∙ c.noted j' l'
-                  ∙ sym (others-known vs v c.agree full known is d' (cut t (get_or roots j' 0) 32) (λ y. x (ascending-one t roots count rooted.ascending j' j l' l (y ∙ sym here))))
+                  ∙ sym (others_known vs v c.agree full known is d' (cut t (get_or roots j' 0) 32) (λ y. x (ascending_one t roots count rooted.ascending j' j l' l (y ∙ sym here))))
 
 -- a layer more at most
 pub one_at_most : (known n plen layered layered' i k : ℕ) → layered' ≡ cond (eqb known 0 && has_layer n plen) (layered + 1) layered → layered ≤ i → i < k → layered' ≤ k
-one_at_most known n plen layered layered' i k e l g = by-test (eqb known 0 && has_layer n plen) e
+one_at_most known n plen layered layered' i k e l g = by_test (eqb known 0 && has_layer n plen) e
   where
-    by-test : (x : Bool) → layered' ≡ cond x (layered + 1) layered → layered' ≤ k
-    by-test true q = omega arith
-    by-test false q = omega arith
+    by_test : (x : Bool) → layered' ≡ cond x (layered + 1) layered → layered' ≤ k
+    by_test true q = omega arith
+    by_test false q = omega arith
 
 -- ---- files of a directory that is right
 
-no-files : (x : Files) (gs : List Listed) (k : ℕ) → x ≡ wrong → x ≡ files gs k → ⊥
-no-files x gs k e q = let z : ◌≡◌ {A = ℕ} 0 1 = cc in omega arith
+no_files : (x : Files) (gs : List Listed) (k : ℕ) → x ≡ wrong → x ≡ files gs k → ⊥
+no_files x gs k e q = let z : ◌≡◌ {A = ℕ} 0 1 = cc in omega arith
 
 one_list : (x : Files) (fs gs : List Listed) (j k : ℕ) → x ≡ files fs j → x ≡ files gs k → (fs ≡ gs) × (j ≡ k)
 one_list x fs gs j k e q = let a : fs ≡ gs = cc in let b : j ≡ k = cc in (a, b)
 
-not-wrong : (x : Files) → (x ≡ wrong → ⊥) → (gs : List Listed) × (k : ℕ) × (x ≡ files gs k)
-not-wrong wrong h = absurd (h refl)
-not-wrong (files gs k) h = (gs, k, refl)
+not_wrong : (x : Files) → (x ≡ wrong → ⊥) → (gs : List Listed) × (k : ℕ) × (x ≡ files gs k)
+not_wrong wrong h = absurd (h refl)
+not_wrong (files gs k) h = (gs, k, refl)
 
 -- files that are passed stand in front
-in-front : (fs gs : List Listed) (k : ℕ) (x : Files) → after fs x ≡ files gs k → (hs : List Listed) × (gs ≡ fs ++ hs)
-in-front fs gs k wrong e = absurd (no-files wrong gs k refl e)
-in-front fs gs k (files hs j) e = (hs, sym (one_list (files (fs ++ hs) j) (fs ++ hs) gs j k refl e).0)
+in_front : (fs gs : List Listed) (k : ℕ) (x : Files) → after fs x ≡ files gs k → (hs : List Listed) × (gs ≡ fs ++ hs)
+in_front fs gs k wrong e = absurd (no_files wrong gs k refl e)
+in_front fs gs k (files hs j) e = (hs, sym (one_list (files (fs ++ hs) j) (fs ++ hs) gs j k refl e).0)
 
-stand-both : (t roots : List ℕ) (count : ℕ) (xs ys : List Listed) → RootsStand t roots count (xs ++ ys) → RootsStand t roots count xs × RootsStand t roots count ys
+stand_both : (t roots : List ℕ) (count : ℕ) (xs ys : List Listed) → RootsStand t roots count (xs ++ ys) → RootsStand t roots count xs × RootsStand t roots count ys
 unfolding RootsStand
-stand-both t roots count [] ys h = (tt, h)
-stand-both t roots count (x ∷ xs) ys h = let r = stand-both t roots count xs ys h.1 in ((h.0, r.0), r.1)
+stand_both t roots count [] ys h = (tt, h)
+stand_both t roots count (x ∷ xs) ys h = let r = stand_both t roots count xs ys h.1 in ((h.0, r.0), r.1)
 
-stand-one : (t roots : List ℕ) (count : ℕ) (f : Listed) (fs : List Listed) → RootsStand t roots count (f ∷ fs) → (f.size ≡ 0 → ⊥) → Stands t roots count (cut t f.root 32)
+stand_one : (t roots : List ℕ) (count : ℕ) (f : Listed) (fs : List Listed) → RootsStand t roots count (f ∷ fs) → (f.size ≡ 0 → ⊥) → Stands t roots count (cut t f.root 32)
 unfolding RootsStand
-stand-one t roots count f fs h = h.0
+stand_one t roots count f fs h = h.0
 
 -- lengths that don't agree in front don't agree
-front-differs : (t : List ℕ) (xs ys : List Listed) → lengths_agree (read_files t xs) ≡ false → lengths_agree (read_files t (xs ++ ys)) ≡ false
-front-differs t xs ys e = by-test (lengths_agree (read_files t (xs ++ ys))) refl
+front_differs : (t : List ℕ) (xs ys : List Listed) → lengths_agree (read_files t xs) ≡ false → lengths_agree (read_files t (xs ++ ys)) ≡ false
+front_differs t xs ys e = by_test (lengths_agree (read_files t (xs ++ ys))) refl
   where
-    by-test : (x : Bool) → lengths_agree (read_files t (xs ++ ys)) ≡ x → x ≡ false
-    by-test true q = absurd (false≢true (sym e ∙ agree-front (read_files t xs) (read_files t ys) (ap lengths_agree (sym (map-append (read_file t) xs ys)) ∙ q)))
-    by-test false q = refl
+    by_test : (x : Bool) → lengths_agree (read_files t (xs ++ ys)) ≡ x → x ≡ false
+    by_test true q = absurd (false≢true (sym e ∙ agree_front (read_files t xs) (read_files t ys) (ap lengths_agree (sym (map-append (read_file t) xs ys)) ∙ q)))
+    by_test false q = refl
 
 -- ---- how far a directory has come
 
@@ -164,14 +164,14 @@ pub record Going (t roots : List ℕ) (count plen at levels : ℕ) (room₀ : Li
 
 module _ {t roots : List ℕ} {count plen at levels : ℕ} {room₀ : List ℕ} {before : ℕ} (w : Ahead t roots count plen at levels room₀ before) where
   -- it is right, so there are levels left
-  pub levels-left : levels ≡ 0 → ⊥
-  levels-left z = no-files (files_below levels t at w.path) w.inside w.end (no-levels levels t at w.path z) w.is
+  pub levels_left : levels ≡ 0 → ⊥
+  levels_left z = no_files (files_below levels t at w.path) w.inside w.end (no_levels levels t at w.path z) w.is
 
   pub going_start : Going t roots count plen at levels room₀ before w room₀ (levels - 1) at before
   going_start =
       record {
         fs = [];
-        passed = passed_none t levels at w.path levels-left;
+        passed = passed_none t levels at w.path levels_left;
         known = subst (λ (l : List Listed). Known t roots count plen room₀ l before) (sym (append-nil w.done)) w.known;
         some = w.some;
         few = w.few;
@@ -182,22 +182,22 @@ module _ {t roots : List ℕ} {count plen at levels : ℕ} {room₀ : List ℕ} 
     whole = files_below levels t at w.path
 
     never : whole ≡ wrong → ⊥
-    never e = no-files whole w.inside w.end e w.is
+    never e = no_files whole w.inside w.end e w.is
 
-    pub going-bad : token_at t i ≡ BadToken → ⊥
-    going-bad e = never (passed-bad t whole below w.path i g.fs g.passed e)
+    pub going_bad : token_at t i ≡ BadToken → ⊥
+    going_bad e = never (passed_bad t whole below w.path i g.fs g.passed e)
 
     pub going_end : length t ≤ i → ⊥
-    going_end h = never (passed-end t whole below w.path i g.fs g.passed h)
+    going_end h = never (passed_end t whole below w.path i g.fs g.passed h)
 
     -- files behind those that are met
     behind : (fs : List Listed) (k : ℕ) → FilesPassed t whole below w.path k fs → (hs : List Listed) × (w.inside ≡ fs ++ hs)
-    behind fs k p = in-front fs w.inside w.end (files_from (files_below below t) p.steps t k w.path) (sym p.rest ∙ w.is)
+    behind fs k p = in_front fs w.inside w.end (files_from (files_below below t) p.steps t k w.path) (sym p.rest ∙ w.is)
 
     module _ (h : i < length t) where
-      pub going-closed : token_at t i ≡ Closed → Compares t roots count plen (w.done ++ w.inside) w.end room (Past (i + 1) layered)
-      going-closed e =
-          let q = one_list whole g.fs w.inside (i + 1) w.end (passed-closed t whole below w.path i g.fs g.passed h e) w.is in
+      pub going_closed : token_at t i ≡ Closed → Compares t roots count plen (w.done ++ w.inside) w.end room (Past (i + 1) layered)
+      going_closed e =
+          let q = one_list whole g.fs w.inside (i + 1) w.end (passed_closed t whole below w.path i g.fs g.passed h e) w.is in
           let y = g.few in
           (q.1, omega arith, subst (λ (l : List Listed). Known t roots count plen room (w.done ++ l) layered) q.0 g.known)
 
@@ -206,7 +206,7 @@ module _ {t roots : List ℕ} {count plen at levels : ℕ} {room₀ : List ℕ} 
         leaf = listed_as n r (down w.path a b)
 
         next : FilesPassed t whole below w.path k (g.fs ++ leaf ∷ [])
-        next = passed-file t whole below w.path i g.fs g.passed h a b n r k e
+        next = passed_file t whole below w.path i g.fs g.passed h a b n r k e
 
         abbrev rest : List Listed
         rest = (behind (g.fs ++ leaf ∷ []) k next).0
@@ -215,80 +215,80 @@ module _ {t roots : List ℕ} {count plen at levels : ℕ} {room₀ : List ℕ} 
         all = (behind (g.fs ++ leaf ∷ []) k next).1 ∙ append_assoc g.fs (leaf ∷ []) rest
 
         -- its root is among those that are searched
-        pub file-stands : (n ≡ 0 → ⊥) → Stands t roots count (cut t r 32)
-        file-stands = stand-one t roots count leaf rest (stand-both t roots count g.fs (leaf ∷ rest) (subst (RootsStand t roots count) all w.stand)).1
+        pub file_stands : (n ≡ 0 → ⊥) → Stands t roots count (cut t r 32)
+        file_stands = stand_one t roots count leaf rest (stand_both t roots count g.fs (leaf ∷ rest) (subst (RootsStand t roots count) all w.stand)).1
 
         module _ (rooted : Rooted t roots count) (room' : List ℕ) (known : ℕ) (m : Meets t roots count room room' i n r known) where
-          pub going-differs : differs known n ≡ true → lengths_agree (read_files t (w.done ++ w.inside)) ≡ false
-          going-differs d =
+          pub going_differs : differs known n ≡ true → lengths_agree (read_files t (w.done ++ w.inside)) ≡ false
+          going_differs d =
               ap (λ (l : List Listed). lengths_agree (read_files t l)) (ap (λ (l : List Listed). w.done ++ l) all ∙ sym (append_assoc w.done g.fs (leaf ∷ rest)))
-              ∙ known-differs t roots count plen rooted room (w.done ++ g.fs) layered g.known i a b n r k w.path g.some e room' known m d rest
+              ∙ known_differs t roots count plen rooted room (w.done ++ g.fs) layered g.known i a b n r k w.path g.some e room' known m d rest
 
-          pub going-file : differs known n ≡ false → (layered' : ℕ) → layered' ≡ cond (eqb known 0 && has_layer n plen) (layered + 1) layered
+          pub going_file : differs known n ≡ false → (layered' : ℕ) → layered' ≡ cond (eqb known 0 && has_layer n plen) (layered + 1) layered
               → Going t roots count plen at levels room₀ before w room' below k layered'
-          going-file d layered' q =
-              let x = (leaf-ends t i a b n r k e).0 in
+          going_file d layered' q =
+              let x = (leaf_ends t i a b n r k e).0 in
               let y = g.some in
               record {
                 fs = g.fs ++ leaf ∷ [];
                 passed = next;
                 known = subst (λ (l : List Listed). Known t roots count plen room' l layered') (append_assoc w.done g.fs (leaf ∷ []))
-                    (known-file t roots count plen rooted room (w.done ++ g.fs) layered g.known i a b n r k w.path g.some e room' known m d layered' q);
+                    (known_file t roots count plen rooted room (w.done ++ g.fs) layered g.known i a b n r k w.path g.some e room' known m d layered' q);
                 some = omega arith;
                 few = one_at_most known n plen layered layered' i k q g.few x;
               }
 
       module _ {a b : ℕ} (e : token_at t i ≡ Opened a b) where
-        pub below-is : (gs : List Listed) × (k : ℕ) × (files_below below t (b + 1) (down w.path a b) ≡ files gs k)
-        below-is = not-wrong (files_below below t (b + 1) (down w.path a b)) (λ q. never (passed-wrong t whole below w.path i g.fs g.passed h a b e q))
+        pub below_is : (gs : List Listed) × (k : ℕ) × (files_below below t (b + 1) (down w.path a b) ≡ files gs k)
+        below_is = not_wrong (files_below below t (b + 1) (down w.path a b)) (λ q. never (passed_wrong t whole below w.path i g.fs g.passed h a b e q))
 
         abbrev gs : List Listed
-        gs = below-is.0
+        gs = below_is.0
 
-        next-in : FilesPassed t whole below w.path below-is.1 (g.fs ++ gs)
-        next-in = passed-directory t whole below w.path i g.fs g.passed h a b e gs below-is.1 below-is.2
+        next_in : FilesPassed t whole below w.path below_is.1 (g.fs ++ gs)
+        next_in = passed_directory t whole below w.path i g.fs g.passed h a b e gs below_is.1 below_is.2
 
         rest_in : (hs : List Listed) × (w.inside ≡ (g.fs ++ gs) ++ hs)
-        rest_in = behind (g.fs ++ gs) below-is.1 next-in
+        rest_in = behind (g.fs ++ gs) below_is.1 next_in
 
-        pub below-stand : RootsStand t roots count below-is.0
-        below-stand = (stand-both t roots count g.fs gs (stand-both t roots count (g.fs ++ gs) rest_in.0 (subst (RootsStand t roots count) rest_in.1 w.stand)).0).1
+        pub below_stand : RootsStand t roots count below_is.0
+        below_stand = (stand_both t roots count g.fs gs (stand_both t roots count (g.fs ++ gs) rest_in.0 (subst (RootsStand t roots count) rest_in.1 w.stand)).0).1
 
-        pub below-few : (0 < b + 1) × (layered ≤ b + 1)
-        below-few = let x = (opened-ends t i a b e).0 in let y = g.few in (omega arith, omega arith)
+        pub below_few : (0 < b + 1) × (layered ≤ b + 1)
+        below_few = let x = (opened_ends t i a b e).0 in let y = g.few in (omega arith, omega arith)
 
         -- the directory inside is ahead
-        abbrev pub inside-ahead : Ahead t roots count plen (b + 1) below room layered
-        inside-ahead =
+        abbrev pub inside_ahead : Ahead t roots count plen (b + 1) below room layered
+        inside_ahead =
             record {
               path = down w.path a b;
               done = w.done ++ g.fs;
-              inside = below-is.0;
-              end = below-is.1;
-              is = below-is.2;
+              inside = below_is.0;
+              end = below_is.1;
+              is = below_is.2;
               known = g.known;
-              stand = below-stand;
-              some = below-few.0;
-              few = below-few.1;
+              stand = below_stand;
+              some = below_few.0;
+              few = below_few.1;
             }
 
-        pub inside-differs : lengths_agree (read_files t ((w.done ++ g.fs) ++ gs)) ≡ false → lengths_agree (read_files t (w.done ++ w.inside)) ≡ false
-        inside-differs q =
+        pub inside_differs : lengths_agree (read_files t ((w.done ++ g.fs) ++ gs)) ≡ false → lengths_agree (read_files t (w.done ++ w.inside)) ≡ false
+        inside_differs q =
             ap (λ (l : List Listed). lengths_agree (read_files t l))
             (ap (λ (l : List Listed). w.done ++ l) (rest_in.1 ∙ append_assoc g.fs gs rest_in.0) ∙ sym (append_assoc w.done g.fs (gs ++ rest_in.0)) ∙ sym (append_assoc (w.done ++ g.fs) gs rest_in.0))
-            ∙ front-differs t ((w.done ++ g.fs) ++ gs) rest_in.0 q
+            ∙ front_differs t ((w.done ++ g.fs) ++ gs) rest_in.0 q
 
-        module _ (room' : List ℕ) (k layered' : ℕ) (q : Compares t roots count plen ((w.done ++ g.fs) ++ gs) below-is.1 room' (Past k layered')) where
-          pub inside-behind : (i < k) × (k ≤ length t)
-          inside-behind = let x = inside-ends t whole below w.path i g.fs g.passed h a b e gs below-is.1 below-is.2 in rw q.0 x
+        module _ (room' : List ℕ) (k layered' : ℕ) (q : Compares t roots count plen ((w.done ++ g.fs) ++ gs) below_is.1 room' (Past k layered')) where
+          pub inside_behind : (i < k) × (k ≤ length t)
+          inside_behind = let x = inside_ends t whole below w.path i g.fs g.passed h a b e gs below_is.1 below_is.2 in rw q.0 x
 
-          pub going-directory : Going t roots count plen at levels room₀ before w room' below k layered'
-          going-directory =
-              let x = inside-behind.0 in
+          pub going_directory : Going t roots count plen at levels room₀ before w room' below k layered'
+          going_directory =
+              let x = inside_behind.0 in
               let y = g.some in
               record {
                 fs = g.fs ++ gs;
-                passed = subst (λ (j : ℕ). FilesPassed t whole below w.path j (g.fs ++ gs)) (sym q.0) next-in;
+                passed = subst (λ (j : ℕ). FilesPassed t whole below w.path j (g.fs ++ gs)) (sym q.0) next_in;
                 known = subst (λ (l : List Listed). Known t roots count plen room' l layered') (append_assoc w.done g.fs gs) q.2;
                 some = omega arith;
                 few = q.1;
@@ -297,51 +297,51 @@ module _ {t roots : List ℕ} {count plen at levels : ℕ} {room₀ : List ℕ} 
 -- ---- the whole tree
 
 module _ (t roots : List ℕ) (count plen : ℕ) (rooted : Rooted t roots count) (e : right (files_in t) ≡ true) where
-  some-there : (b : Bool) → ends_here (drop 1 t) ≡ b → b ≡ false
+  some_there : (b : Bool) → ends_here (drop 1 t) ≡ b → b ≡ false
   unfolding right
-  some-there true q = absurd (false≢true (sym (ap right (empty-tree t q)) ∙ e))
-  some-there false q = refl
+  some_there true q = absurd (false≢true (sym (ap right (empty_tree t q)) ∙ e))
+  some_there false q = refl
 
-  same-files : files_in t ≡ files_below max_elements t 1 []
-  same-files = tree-below t (some-there (ends_here (drop 1 t)) refl)
+  same_files_lem : files_in t ≡ files_below max_elements t 1 []
+  same_files_lem = tree_below t (some_there (ends_here (drop 1 t)) refl)
 
-  right-list : (x : Files) → right x ≡ true → (k : ℕ) × (x ≡ files (listed x) k)
+  right_list : (x : Files) → right x ≡ true → (k : ℕ) × (x ≡ files (listed x) k)
   unfolding right listed
-  right-list wrong q = absurd (false≢true q)
-  right-list (files gs k) q = (k, refl)
+  right_list wrong q = absurd (false≢true q)
+  right_list (files gs k) q = (k, refl)
 
   pub tree_is : (k : ℕ) × (files_below max_elements t 1 [] ≡ files (listed (files_in t)) k)
-  tree_is = let x = right-list (files_in t) e in (x.0, sym same-files ∙ x.1)
+  tree_is = let x = right_list (files_in t) e in (x.0, sym same_files_lem ∙ x.1)
 
-  abbrev pub tree-ahead : (room : List ℕ) → count ≤ length room → ((j : ℕ) → j < count → get_or room j 0 ≡ 0) → Ahead t roots count plen 1 max_elements room 0
-  tree-ahead room h z =
+  abbrev pub tree_ahead : (room : List ℕ) → count ≤ length room → ((j : ℕ) → j < count → get_or room j 0 ≡ 0) → Ahead t roots count plen 1 max_elements room 0
+  tree_ahead room h z =
       record {
         path = [];
         done = [];
         inside = listed (files_in t);
         end = tree_is.0;
         is = tree_is.1;
-        known = known-none t roots count plen room h z;
+        known = known_none t roots count plen room h z;
         stand = rooted.stand;
         some = omega arith;
         few = omega arith;
       }
 
-  pub tree-agrees : (end k layered : ℕ) (room : List ℕ) → Compares t roots count plen (listed (files_in t)) end room (Past k layered) → Agree layered ≡ compared_of plen (read_files t (listed (files_in t)))
+  pub tree_agrees : (end k layered : ℕ) (room : List ℕ) → Compares t roots count plen (listed (files_in t)) end room (Past k layered) → Agree layered ≡ compared_of plen (read_files t (listed (files_in t)))
   unfolding compared_of
-  tree-agrees end k layered room q = sym (rw q.2.agree (ap Agree (sym q.2.counted)))
+  tree_agrees end k layered room q = sym (rw q.2.agree (ap Agree (sym q.2.counted)))
 
-  pub tree-differs : lengths_agree (read_files t (listed (files_in t))) ≡ false → Differ ≡ compared_of plen (read_files t (listed (files_in t)))
+  pub tree_differs : lengths_agree (read_files t (listed (files_in t))) ≡ false → Differ ≡ compared_of plen (read_files t (listed (files_in t)))
   unfolding compared_of
-  tree-differs q = sym (rw q refl)
+  tree_differs q = sym (rw q refl)
 
 -- ---- where the roots stand
 
 -- each file's root is among those of all of them
-pub roots-stand : (t roots : List ℕ) (count : ℕ) (fs : List Listed) → ((i : ℕ) → i < length (roots_of fs) → Stands t roots count (cut t (get_or (roots_of fs) i 0) 32)) → RootsStand t roots count fs
+pub roots_stand : (t roots : List ℕ) (count : ℕ) (fs : List Listed) → ((i : ℕ) → i < length (roots_of fs) → Stands t roots count (cut t (get_or (roots_of fs) i 0) 32)) → RootsStand t roots count fs
 unfolding RootsStand roots_of
-roots-stand t roots count [] h = tt
-roots-stand t roots count (f ∷ fs) h = by_size (eqb f.size 0) refl h (roots-stand t roots count fs)
+roots_stand t roots count [] h = tt
+roots_stand t roots count (f ∷ fs) h = by_size (eqb f.size 0) refl h (roots_stand t roots count fs)
   where
     Each : List ℕ → Type 0
     Each ps = (i : ℕ) → i < length ps → Stands t roots count (cut t (get_or ps i 0) 32)
@@ -351,19 +351,19 @@ roots-stand t roots count (f ∷ fs) h = by_size (eqb f.size 0) refl h (roots-st
     by_size true e h ih = (λ z. absurd (z (eqb-true f.size 0 e)), ih h)
     by_size false e h ih = (λ z. h 0 (omega arith), ih (λ i l. h (suc i) (omega arith)))
 
-long-roots : (plen : ℕ) (t : List ℕ) (fs : List Listed) → length (long_roots plen (read_files t fs)) ≤ length (roots_of fs)
+long_roots_lem : (plen : ℕ) (t : List ℕ) (fs : List Listed) → length (long_roots plen (read_files t fs)) ≤ length (roots_of fs)
 unfolding long_roots roots_of read_file
-long-roots plen t [] = omega arith
-long-roots plen t (f ∷ fs) = by_size (has_layer f.size plen) (eqb f.size 0) refl refl (long-roots plen t fs)
+long_roots_lem plen t [] = omega arith
+long_roots_lem plen t (f ∷ fs) = by_size (has_layer f.size plen) (eqb f.size 0) refl refl (long_roots_lem plen t fs)
   where
     by_size : (a b : Bool) → has_layer f.size plen ≡ a → eqb f.size 0 ≡ b → length (long_roots plen (read_files t fs)) ≤ length (roots_of fs)
         → length (cond a (root_read t f.size f.root ∷ long_roots plen (read_files t fs)) (long_roots plen (read_files t fs))) ≤ length (cond b (roots_of fs) (f.root ∷ roots_of fs))
-    by_size true true p q later = absurd (long-full f.size plen p (eqb-true f.size 0 q))
+    by_size true true p q later = absurd (long_full f.size plen p (eqb-true f.size 0 q))
     by_size true false p q later = omega arith
     by_size false true p q later = later
     by_size false false p q later = omega arith
 
 -- no more layers than roots
-pub layers-roots : (plen : ℕ) (t : List ℕ) (fs : List Listed) → layer_count plen (read_files t fs) ≤ length (roots_of fs)
+pub layers_roots : (plen : ℕ) (t : List ℕ) (fs : List Listed) → layer_count plen (read_files t fs) ≤ length (roots_of fs)
 unfolding layer_count
-layers-roots plen t fs = let x = once-fewer (long_roots plen (read_files t fs)) in let y = long-roots plen t fs in omega arith
+layers_roots plen t fs = let x = once_fewer (long_roots plen (read_files t fs)) in let y = long_roots_lem plen t fs in omega arith

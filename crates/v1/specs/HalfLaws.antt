@@ -4,12 +4,12 @@ use Rattle.std.specs.Prelude.{◌≡◌, refl, Bool, true, false, cond, not, ◌
 use Rattle.std.proofs.Common.{sym, ap, ◌∙◌, arith, eqb-true}
 use Rattle.std.proofs.lemmas.Bool.{false≢true}
 use Rattle.std.proofs.Math.Bool.{and-eq-true_iff}
-use Rattle.torrent.specs.KeyStringLaws.{string-at, other_at}
+use Rattle.torrent.specs.KeyStringLaws.{string_at, other_at}
 use Rattle.octets.specs.Octets.{cut}
 use Rattle.tree.specs.Geometry.{piece_count}
 use Rattle.bencode.specs.Grammar.{Value, integer, string, list, dictionary, Items, Entries}
 use Rattle.bencode.specs.Scalar.{read_string}
-use Rattle.bencode.specs.EndsLaws.{string-ends}
+use Rattle.bencode.specs.EndsLaws.{string_ends}
 use Rattle.bencode.specs.Parts.{Lookup, absent, present, lookup, find_key}
 use Rattle.bencode.specs.declared.scalar.ByteString.{ByteString}
 use Rattle.bencode.specs.declared.scalar.ByteString.TheVariants.{Content, NoString}
@@ -29,9 +29,9 @@ use Rattle.v1.specs.V1.{pieces_in, pieces_from}
 
 -- ---- `pieces` of the dictionary at `at`
 
-pub pieces-found : (s : List ℕ) (at : ℕ) (w : Found) → find_key key_pieces at (drop at s) ≡ w → string_in s w ≡ pieces_from s at
+pub pieces_found : (s : List ℕ) (at : ℕ) (w : Found) → find_key key_pieces at (drop at s) ≡ w → string_in s w ≡ pieces_from s at
 unfolding pieces_from
-pieces-found s at w e = sym (ap (string_in s) e)
+pieces_found s at w e = sym (ap (string_in s) e)
 
 -- what is read of the value of a key: a string's content within the bytes, and for all else nothing
 abbrev pub PiecesAre : List ℕ → Lookup → ByteString → Type 0
@@ -40,15 +40,15 @@ PiecesAre s x (Content a b) = (has_string x ≡ true) × (cut s a (b - a) ≡ by
 
 value_read : (s : List ℕ) (a : ℕ) (x : Value) → StandsAt s a x → (r : ByteString) → read_string a (drop a s) ≡ r → PiecesAre s (present x) r
 value_read s a x w NoString e = other_at s a x w e
-value_read s a x w (Content u v) e = let p = string-ends a s u v e in let q = string-at s a x w u v e in (q.0, q.1, p.1, p.2)
+value_read s a x w (Content u v) e = let p = string_ends a s u v e in let q = string_at s a x w u v e in (q.0, q.1, p.1, p.2)
 
-found-read : (s : List ℕ) (f : Found) (x : Lookup) → FoundHere s f x → PiecesAre s x (string_in s f)
-found-read s f x nothing = refl
-found-read s f x (value a b v w) = value_read s a v w (read_string a (drop a s)) refl
+found_read : (s : List ℕ) (f : Found) (x : Lookup) → FoundHere s f x → PiecesAre s x (string_in s f)
+found_read s f x nothing = refl
+found_read s f x (value a b v w) = value_read s a v w (read_string a (drop a s)) refl
 
 pub pieces_are : (s : List ℕ) (at : ℕ) (info : Entries) → StandsAt s at (dictionary info) → PiecesAre s (lookup key_pieces info) (pieces_from s at)
 unfolding pieces_from
-pieces_are s at info w = found-read s (find_key key_pieces at (drop at s)) (lookup key_pieces info) (found_here s key_pieces at info w)
+pieces_are s at info w = found_read s (find_key key_pieces at (drop at s)) (lookup key_pieces info) (found_here s key_pieces at info w)
 
 -- ---- what the halves of a hybrid are
 
@@ -56,8 +56,8 @@ pub record Halves (torrent : Entries) : Type 0 where
   pub fits : half_fits (info_of torrent) ≡ true
   pub same : same_files (files_among (entries_of_half torrent)) (files_of torrent) ≡ true
   pub boundary : on_boundary (plen_of torrent) 0 (entries_of_half torrent) ≡ true
-  pub a-string : has_string (lookup key_pieces (info_of torrent)) ≡ true
-  pub twenty-each : length (pieces_in torrent) ≡ 20 * piece_count (total (entries_of_half torrent)) (plen_of torrent)
+  pub a_string : has_string (lookup key_pieces (info_of torrent)) ≡ true
+  pub twenty_each : length (pieces_in torrent) ≡ 20 * piece_count (total (entries_of_half torrent)) (plen_of torrent)
 
 pub halves_are : (torrent : Entries) → halves_fit torrent ≡ true → Halves torrent
 unfolding halves_fit
@@ -68,7 +68,7 @@ halves_are torrent e =
     let q = (and-eq-true_iff (same_files (files_among (entries_of_half torrent)) (files_of torrent)) (on_boundary (plen_of torrent) 0 (entries_of_half torrent) && pieces_fit (plen_of torrent) (total (entries_of_half torrent)) x)).0 p.1 in
     let r = (and-eq-true_iff (on_boundary (plen_of torrent) 0 (entries_of_half torrent)) (pieces_fit (plen_of torrent) (total (entries_of_half torrent)) x)).0 q.1 in
     let t = (and-eq-true_iff (has_string x) (eqb (length (bytes_of x)) n)).0 r.1 in
-    record { fits = p.0; same = q.0; boundary = r.0; a-string = t.0; twenty-each = eqb-true (length (bytes_of x)) n t.1 }
+    record { fits = p.0; same = q.0; boundary = r.0; a_string = t.0; twenty_each = eqb-true (length (bytes_of x)) n t.1 }
 
 -- ---- the same files
 
@@ -108,15 +108,15 @@ same_size (x ∷ es) fs e (suc n) f a = later x.padding fs e a (λ gs m q b. sam
         i fs n q.1 a
 
 -- a file lies within all entries
-pub spot-within : (es : List V1Entry) (n : ℕ) → file_start es n + file_size es n ≤ total es
+pub spot_within : (es : List V1Entry) (n : ℕ) → file_start es n + file_size es n ≤ total es
 unfolding file_start file_size total
-spot-within [] n = omega arith
-spot-within (e ∷ es) zero = by e.padding (spot-within es zero)
+spot_within [] n = omega arith
+spot_within (e ∷ es) zero = by e.padding (spot_within es zero)
   where
     by : (t : Bool) → file_start es zero + file_size es zero ≤ total es → cond t (e.size + file_start es zero) 0 + cond t (file_size es zero) e.size ≤ e.size + total es
     by true i = omega arith
     by false i = omega arith
-spot-within (e ∷ es) (suc n) = by e.padding (spot-within es (suc n)) (spot-within es n)
+spot_within (e ∷ es) (suc n) = by e.padding (spot_within es (suc n)) (spot_within es n)
   where
     by : (t : Bool) → file_start es (suc n) + file_size es (suc n) ≤ total es → file_start es n + file_size es n ≤ total es
         → e.size + file_start es (cond t (suc n) n) + file_size es (cond t (suc n) n) ≤ e.size + total es
@@ -125,25 +125,25 @@ spot-within (e ∷ es) (suc n) = by e.padding (spot-within es (suc n)) (spot-wit
 
 -- ---- the entries by the keys
 
-pub natural-some : (x : Lookup) → is_natural x ≡ true → natural_in x ≡ Is (number_of x)
-natural-some absent e = absurd (false≢true e)
-natural-some (present (integer true n)) e = absurd (false≢true e)
-natural-some (present (integer false n)) e = refl
-natural-some (present (string b)) e = absurd (false≢true e)
-natural-some (present (list vs)) e = absurd (false≢true e)
-natural-some (present (dictionary es)) e = absurd (false≢true e)
+pub natural_some : (x : Lookup) → is_natural x ≡ true → natural_in x ≡ Is (number_of x)
+natural_some absent e = absurd (false≢true e)
+natural_some (present (integer true n)) e = absurd (false≢true e)
+natural_some (present (integer false n)) e = refl
+natural_some (present (string b)) e = absurd (false≢true e)
+natural_some (present (list vs)) e = absurd (false≢true e)
+natural_some (present (dictionary es)) e = absurd (false≢true e)
 
-pub half-single : (info : Entries) → lookup key_files info ≡ absent → half_fits info ≡ true
+pub half_single : (info : Entries) → lookup key_files info ≡ absent → half_fits info ≡ true
     → (natural_in (lookup key_length info) ≡ Is (number_of (lookup key_length info))) × (v1_entries info ≡ one_file (number_of (lookup key_length info)) (bytes_of (lookup key_name info)) ∷ [])
 unfolding half_fits v1_entries
-half-single info q h =
+half_single info q h =
     let p : is_natural (lookup key_length info) && has_string (lookup key_name info) ≡ true = rw q at h in
-    (natural-some (lookup key_length info) ((and-eq-true_iff (is_natural (lookup key_length info)) (has_string (lookup key_name info))).0 p).0, rw q refl)
+    (natural_some (lookup key_length info) ((and-eq-true_iff (is_natural (lookup key_length info)) (has_string (lookup key_name info))).0 p).0, rw q refl)
 
-pub half-several : (info : Entries) (w : Value) → lookup key_files info ≡ present w → half_fits info ≡ true
+pub half_several : (info : Entries) (w : Value) → lookup key_files info ≡ present w → half_fits info ≡ true
     → (vs : Items) × (w ≡ list vs) × (items_fit vs ≡ true) × (v1_entries info ≡ entries_in vs)
 unfolding half_fits v1_entries
-half-several info w q h =
+half_several info w q h =
     let p : not (is_there (lookup key_length info)) && (list_fits (present w) && string_or_none (lookup key_name info)) ≡ true = rw q at h in
     let r = ((and-eq-true_iff (not (is_there (lookup key_length info))) (list_fits (present w) && string_or_none (lookup key_name info))).0 p).1 in
     by w ((and-eq-true_iff (list_fits (present w)) (string_or_none (lookup key_name info))).0 r).0 (rw q refl)

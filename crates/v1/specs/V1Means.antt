@@ -7,14 +7,14 @@ use Rattle.std.proofs.Math.Path.{refl, ap}
 use Rattle.std.proofs.Common.{sym, ◌∙◌, arith, add-mul}
 use Rattle.std.proofs.lemmas.Bool.{false≢true}
 use borrow.Author.Tests.{eq-eqb, ne_eqb, lt-ltb}
-use Rattle.hybrid.specs.EntryLaws.{is-there}
+use Rattle.hybrid.specs.EntryLaws.{is_there_lem}
 use Rattle.limits.specs.Limits.{max_levels}
 use Rattle.octets.specs.Octets.{cut}
-use Rattle.octets.specs.OctetsLaws.{cut-cut}
+use Rattle.octets.specs.OctetsLaws.{cut_cut}
 use Rattle.sha256.specs.Sha256.{sha256}
 use Rattle.sha_1.specs.Sha1.{sha1}
 use Rattle.tree.specs.Geometry.{piece_count}
-use Rattle.tree.proofs.GeometryLaws.{ceil-below}
+use Rattle.tree.proofs.GeometryLaws.{ceil_below}
 use Rattle.bencode.specs.Grammar.{dictionary, Entries, encode, Valid}
 use Rattle.bencode.specs.Parts.{Lookup, absent, present, lookup}
 use Rattle.bencode.specs.declared.scalar.ByteString.{ByteString}
@@ -25,16 +25,16 @@ use Rattle.halves.specs.V1Keys.{key_pieces}
 use Rattle.halves.specs.V1Half.{V1Entry, is_there, total, is_hybrid, entries_of_half}
 use Rattle.halves.specs.Halves.{Hybrid}
 use Rattle.halves.specs.Stream.{StreamOf, none, zeros, content, file_start, zeros_behind, v1_hash_at, HashesAre}
-use Rattle.halves.proofs.StreamLaws.{v1-hash-covers}
-use Rattle.halves.specs.Decoded.{torrent_in, torrent-in}
+use Rattle.halves.proofs.StreamLaws.{v1_hash_covers}
+use Rattle.halves.specs.Decoded.{torrent_in, torrent_in_lem}
 use Rattle.torrent.specs.Torrent.{checked_of, read_of}
-use Rattle.torrent.specs.ReadMeans.{number-zero, info-hash, file-read}
+use Rattle.torrent.specs.ReadMeans.{number_zero, info_hash, file_read_lem}
 use Rattle.v1.specs.Place.{file_size}
 use Rattle.v1.specs.V1.{no_hybrid, hybrid_of, file_of, pieces_in, piece_of, v1_piece_of, pieces_from, no_part, part_of, v1_pieces_of}
 use Rattle.v1.specs.Asked.{Stands}
 use Rattle.v1.specs.HalfLaws.{Halves, same_size}
-use Rattle.v1.specs.KnownLaws.{known, no_pieces, pieces-stand, file-stands}
-use Rattle.v1.specs.ReadLaws.{piece-among, part-some}
+use Rattle.v1.specs.KnownLaws.{known, no_pieces, pieces_stand, file_stands}
+use Rattle.v1.specs.ReadLaws.{piece_among, part_some}
 use Rattle.v1.specs.declared.read.HybridRead.{HybridRead}
 use Rattle.v1.specs.declared.read.V1Piece.{V1Piece}
 use Rattle.v1.specs.declared.read.V1Part.{V1Part}
@@ -60,73 +60,73 @@ pub record PiecesPartIs (s : List ℕ) (plen : ℕ) (v : File) (piece : ℕ → 
 -- ---- small laws
 
 -- the content of file n has its length
-stream-size : (es : List V1Entry) (cs : List (List ℕ)) (bytes : List ℕ) → StreamOf es cs bytes → (n : ℕ) (c : List ℕ) → Nth cs n c → length c ≡ file_size es n
+stream_size : (es : List V1Entry) (cs : List (List ℕ)) (bytes : List ℕ) → StreamOf es cs bytes → (n : ℕ) (c : List ℕ) → Nth cs n c → length c ≡ file_size es n
 unfolding file_size Nth
-stream-size es cs bytes none n c a = absurd a
-stream-size es cs bytes (zeros e us ds more p t) zero c a = rw p (stream-size us ds more t zero c a)
-stream-size es cs bytes (zeros e us ds more p t) (suc n) c a = rw p (stream-size us ds more t (suc n) c a)
-stream-size es cs bytes (content e us d ds more p l t) zero c a = rw p (ap length a ∙ l)
-stream-size es cs bytes (content e us d ds more p l t) (suc n) c a = rw p (stream-size us ds more t n c a)
+stream_size es cs bytes none n c a = absurd a
+stream_size es cs bytes (zeros e us ds more p t) zero c a = rw p (stream_size us ds more t zero c a)
+stream_size es cs bytes (zeros e us ds more p t) (suc n) c a = rw p (stream_size us ds more t (suc n) c a)
+stream_size es cs bytes (content e us d ds more p l t) zero c a = rw p (ap length a ∙ l)
+stream_size es cs bytes (content e us d ds more p l t) (suc n) c a = rw p (stream_size us ds more t n c a)
 
 hash_at : (pieces : List ℕ) (plen start i : ℕ) → v1_hash_at pieces plen start i ≡ cut pieces (20 * (start / plen + i)) 20
 unfolding v1_hash_at
 hash_at pieces plen start i = refl
 
 -- a whole piece covers no zeros
-whole-piece : (plen all at left : ℕ) → plen ≤ left → at + left ≤ all → zeros_behind plen all at left ≡ 0
+whole_piece : (plen all at left : ℕ) → plen ≤ left → at + left ≤ all → zeros_behind plen all at left ≡ 0
 unfolding zeros_behind
-whole-piece plen all at left h g = omega arith
+whole_piece plen all at left h g = omega arith
 
 -- a piece that is not the last is whole
 not_last : (plen n i : ℕ) → 0 < plen → suc i < piece_count n plen → i * plen + plen < n
 unfolding piece_count
-not_last plen n i p h = let w = ceil-below n plen (suc i) p h in omega (arith, add-mul i 1 plen)
+not_last plen n i p h = let w = ceil_below n plen (suc i) p h in omega (arith, add-mul i 1 plen)
 
-own-piece : (plen n i : ℕ) → 0 < plen → i < piece_count n plen → i * plen < n
+own_piece : (plen n i : ℕ) → 0 < plen → i < piece_count n plen → i * plen < n
 unfolding piece_count
-own-piece plen n i p h = ceil-below n plen i p h
+own_piece plen n i p h = ceil_below n plen i p h
 
 module _ (s : List ℕ) (es : Entries) (start : s ≡ encode (dictionary es)) (valid : Valid (dictionary es) max_levels) (taken : (read_of s).number ≡ 0) where
   got : (checked_of s).keys.number ≡ 0
-  got = number-zero s es start valid taken
+  got = number_zero s es start valid taken
 
   value : torrent_in s ≡ es
-  value = torrent-in s es valid start
+  value = torrent_in_lem s es valid start
 
   -- ---- hybrid or not
 
-  info-is : cut s (checked_of s).keys.info.start ((checked_of s).keys.info.end - (checked_of s).keys.info.start) ≡ encode (dictionary (info_of es))
-  info-is = (known s got).info-bytes ∙ ap (λ (x : Entries). encode (dictionary (info_of x))) value
+  info_is : cut s (checked_of s).keys.info.start ((checked_of s).keys.info.end - (checked_of s).keys.info.start) ≡ encode (dictionary (info_of es))
+  info_is = (known s got).info_bytes ∙ ap (λ (x : Entries). encode (dictionary (info_of x))) value
 
   -- HYBRID: 1 beside the v1 info hash, SHA-1 of the encoding of the value of `info`,
-  pub hybrid-is : Hybrid es → hybrid_of s ≡ record { number = 0; hybrid = 1; hash = sha1 (encode (dictionary (info_of es))) }
+  pub hybrid_is : Hybrid es → hybrid_of s ≡ record { number = 0; hybrid = 1; hash = sha1 (encode (dictionary (info_of es))) }
   unfolding hybrid_of
-  hybrid-is h = rw (got, value, is-there (lookup key_pieces (info_of es)) h, info-is) refl
+  hybrid_is h = rw (got, value, is_there_lem (lookup key_pieces (info_of es)) h, info_is) refl
 
   -- which is the same bytes that the info hash is SHA-256 of
   pub same_bytes : Hybrid es → ((hybrid_of s).hash ≡ sha1 (encode (dictionary (info_of es)))) × ((read_of s).hash ≡ sha256 (encode (dictionary (info_of es))))
-  same_bytes h = (ap (λ (r : HybridRead). r.hash) (hybrid-is h), info-hash s es start valid taken)
+  same_bytes h = (ap (λ (r : HybridRead). r.hash) (hybrid_is h), info_hash s es start valid taken)
 
   -- PURE: 0 beside zeros
-  pub pure-is : lookup key_pieces (info_of es) ≡ absent → hybrid_of s ≡ no_hybrid 0
+  pub pure_is : lookup key_pieces (info_of es) ≡ absent → hybrid_of s ≡ no_hybrid 0
   unfolding hybrid_of
-  pure-is h = rw (got, value, ap is_there h) refl
+  pure_is h = rw (got, value, ap is_there h) refl
 
   -- so it is 1 exactly if `info` has `pieces`
-  pub hybrid-exactly : ((hybrid_of s).hybrid ≡ 1) ↔ Hybrid es
-  hybrid-exactly = (
-    λ e p. (let q = ap (λ (r : HybridRead). r.hybrid) (pure-is p) in omega arith),
-    λ h. ap (λ (r : HybridRead). r.hybrid) (hybrid-is h),
+  pub hybrid_exactly : ((hybrid_of s).hybrid ≡ 1) ↔ Hybrid es
+  hybrid_exactly = (
+    λ e p. (let q = ap (λ (r : HybridRead). r.hybrid) (pure_is p) in omega arith),
+    λ h. ap (λ (r : HybridRead). r.hybrid) (hybrid_is h),
   )
 
-  pub pure-exactly : ((hybrid_of s).hybrid ≡ 0) ↔ (lookup key_pieces (info_of es) ≡ absent)
-  pure-exactly = (λ e. by (lookup key_pieces (info_of es)) refl e, λ p. ap (λ (r : HybridRead). r.hybrid) (pure-is p))
+  pub pure_exactly : ((hybrid_of s).hybrid ≡ 0) ↔ (lookup key_pieces (info_of es) ≡ absent)
+  pure_exactly = (λ e. by (lookup key_pieces (info_of es)) refl e, λ p. ap (λ (r : HybridRead). r.hybrid) (pure_is p))
     where
       by : (x : Lookup) → lookup key_pieces (info_of es) ≡ x → (hybrid_of s).hybrid ≡ 0 → x ≡ absent
       by absent q e = refl
       by (present v) q e =
           let there : Hybrid es = λ p. false≢true (ap is_there (sym p ∙ q)) in
-          let h = ap (λ (r : HybridRead). r.hybrid) (hybrid-is there) in
+          let h = ap (λ (r : HybridRead). r.hybrid) (hybrid_is there) in
           let w : ⊥ = omega arith in
           absurd w
 
@@ -134,16 +134,16 @@ module _ (s : List ℕ) (es : Entries) (start : s ≡ encode (dictionary es)) (v
 
   module _ (hybrid : Hybrid es) where
     there : is_hybrid es ≡ true
-    there = is-there (lookup key_pieces (info_of es)) hybrid
+    there = is_there_lem (lookup key_pieces (info_of es)) hybrid
 
     halves : Halves es
     halves = rw value at ((known s got).halves (ap is_hybrid value ∙ there))
 
-    plen-is : (checked_of s).keys.plen ≡ plen_of es
-    plen-is = (known s got).plen-is ∙ ap plen_of value
+    plen_is : (checked_of s).keys.plen ≡ plen_of es
+    plen_is = (known s got).plen_is ∙ ap plen_of value
 
     some : 0 < plen_of es
-    some = rw plen-is at (known s got).plen-some
+    some = rw plen_is at (known s got).plen_some
 
     -- `pieces` stands in s
     from : (a b : ℕ) × (pieces_from s (checked_of s).keys.info.start ≡ Content a b)
@@ -153,55 +153,55 @@ module _ (s : List ℕ) (es : Entries) (start : s ≡ encode (dictionary es)) (v
         by NoString q = absurd (false≢true (sym (no_pieces s (checked_of s) (known s got) NoString (sym q) refl) ∙ ap is_hybrid value ∙ there))
         by (Content a b) q = (a, b, refl)
 
-    pieces-there : cut s from.0 (length (pieces_in es)) ≡ pieces_in es
-    pieces-there = rw value at (pieces-stand s (checked_of s) (known s got) (Content from.0 from.1) from.0 from.1 (sym from.2) refl)
+    pieces_there : cut s from.0 (length (pieces_in es)) ≡ pieces_in es
+    pieces_there = rw value at (pieces_stand s (checked_of s) (known s got) (Content from.0 from.1) from.0 from.1 (sym from.2) refl)
 
     module _ (n : ℕ) (v : File) (at : Nth (files_of es) n v) where
-      inside-files : n < (checked_of s).files
-      inside-files = (file-read s es start valid taken n v at).0
+      inside_files : n < (checked_of s).files
+      inside_files = (file_read_lem s es start valid taken n v at).0
 
       size_is : file_size (entries_of_half es) n ≡ v.size
       size_is = same_size (entries_of_half es) (files_of es) halves.same n v at
 
-      piece-answer : (i : ℕ) → v1_piece_of s n i ≡ piece_of (pieces_in es) (plen_of es) (file_of (info_of es) n) i
+      piece_answer : (i : ℕ) → v1_piece_of s n i ≡ piece_of (pieces_in es) (plen_of es) (file_of (info_of es) n) i
       unfolding v1_piece_of
-      piece-answer i = rw (got, lt-ltb n (checked_of s).files inside-files, value, there) refl
+      piece_answer i = rw (got, lt-ltb n (checked_of s).files inside_files, value, there) refl
 
       -- A PIECE: its v1 hash, and the zeros behind it
       pub piece_is : (i : ℕ) → i < piece_count v.size (plen_of es) → PieceIs es n v i (v1_piece_of s n i)
-      piece_is i h = rw (piece-answer i, size_is, lt-ltb i (piece_count v.size (plen_of es)) h) (record { number = refl; hash = refl; zeros = refl })
+      piece_is i h = rw (piece_answer i, size_is, lt-ltb i (piece_count v.size (plen_of es)) h) (record { number = refl; hash = refl; zeros = refl })
 
       -- the content of the file among them has its length
-      pub content-size : (cs : List (List ℕ)) (bytes : List ℕ) → StreamOf (entries_of_half es) cs bytes → (c : List ℕ) → Nth cs n c → length c ≡ v.size
-      content-size cs bytes t c nth = stream-size (entries_of_half es) cs bytes t n c nth ∙ size_is
+      pub content_size : (cs : List (List ℕ)) (bytes : List ℕ) → StreamOf (entries_of_half es) cs bytes → (c : List ℕ) → Nth cs n c → length c ≡ v.size
+      content_size cs bytes t c nth = stream_size (entries_of_half es) cs bytes t n c nth ∙ size_is
 
       -- "The v1 hash of a piece covers the zeros of the padding file behind it": in the bytes that the v1 half hashes, with the contents cs
       -- of the files, it is the hash of the file's own piece and then so many zeros
-      pub piece-covers : (cs : List (List ℕ)) (bytes : List ℕ) → StreamOf (entries_of_half es) cs bytes → HashesAre (plen_of es) (pieces_in es) bytes
+      pub piece_covers : (cs : List (List ℕ)) (bytes : List ℕ) → StreamOf (entries_of_half es) cs bytes → HashesAre (plen_of es) (pieces_in es) bytes
           → (c : List ℕ) → Nth cs n c → (i : ℕ) → i < piece_count v.size (plen_of es)
           → (v1_piece_of s n i).hash ≡ sha1 (cut c (i * plen_of es) (plen_of es) ++ replicate (v1_piece_of s n i).zeros 0)
-      piece-covers cs bytes t h c nth i l =
+      piece_covers cs bytes t h c nth i l =
           let p = piece_is i l in
-          let k : length c ≡ v.size = content-size cs bytes t c nth in
+          let k : length c ≡ v.size = content_size cs bytes t c nth in
           p.hash
-          ∙ v1-hash-covers (plen_of es) (entries_of_half es) cs bytes (pieces_in es) t halves.boundary h n c nth i (omega (arith, k, own-piece (plen_of es) v.size i some l))
+          ∙ v1_hash_covers (plen_of es) (entries_of_half es) cs bytes (pieces_in es) t halves.boundary h n c nth i (omega (arith, k, own_piece (plen_of es) v.size i some l))
           ∙ ap (λ (z : ℕ). sha1 (cut c (i * plen_of es) (plen_of es) ++ replicate z 0)) (ap (λ (k : ℕ). zeros_behind (plen_of es) (total (entries_of_half es)) (file_start (entries_of_half es) n + i * plen_of es) (k - i * plen_of es)) k ∙ sym p.zeros)
 
-      part-answer : v1_pieces_of s n ≡ part_of from.0 (plen_of es) (file_of (info_of es) n)
+      part_answer : v1_pieces_of s n ≡ part_of from.0 (plen_of es) (file_of (info_of es) n)
       unfolding v1_pieces_of
-      part-answer = rw (got, lt-ltb n (checked_of s).files inside-files, value, there, from.2) refl
+      part_answer = rw (got, lt-ltb n (checked_of s).files inside_files, value, there, from.2) refl
 
       -- AN EMPTY FILE has no v1 hashes
-      pub part-empty : v.size ≡ 0 → v1_pieces_of s n ≡ no_part 0
-      part-empty e = part-answer ∙ rw (size_is, eq-eqb v.size 0 e) refl
+      pub part_empty : v.size ≡ 0 → v1_pieces_of s n ≡ no_part 0
+      part_empty e = part_answer ∙ rw (size_is, eq-eqb v.size 0 e) refl
 
       stands : Stands (length s) from.0 (plen_of es) (file_start (entries_of_half es) n) v.size (total (entries_of_half es))
       stands =
-          rw (value, plen-is, size_is) at (file-stands s (checked_of s) (known s got) (Content from.0 from.1) from.0 from.1 (sym from.2) refl (file_of (info_of (torrent_in s)) n) n refl)
+          rw (value, plen_is, size_is) at (file_stands s (checked_of s) (known s got) (Content from.0 from.1) from.0 from.1 (sym from.2) refl (file_of (info_of (torrent_in s)) n) n refl)
 
       -- THE PART of all pieces of a file
-      pub part-is : (v.size ≡ 0 → ⊥) → PiecesPartIs s (plen_of es) v (v1_piece_of s n) (v1_pieces_of s n)
-      part-is ne = rw done-part (record { number = refl; size = refl; inside = inside; hashes = hashes; whole = whole; last = last })
+      pub part_is : (v.size ≡ 0 → ⊥) → PiecesPartIs s (plen_of es) v (v1_piece_of s n) (v1_pieces_of s n)
+      part_is ne = rw done_part (record { number = refl; size = refl; inside = inside; hashes = hashes; whole = whole; last = last })
         where
           first : ℕ
           first = file_start (entries_of_half es) n / plen_of es
@@ -212,31 +212,31 @@ module _ (s : List ℕ) (es : Entries) (start : s ≡ encode (dictionary es)) (v
           last_zeros : ℕ
           last_zeros = zeros_behind (plen_of es) (total (entries_of_half es)) (file_start (entries_of_half es) n + (count - 1) * plen_of es) (v.size - (count - 1) * plen_of es)
 
-          done-part : v1_pieces_of s n ≡ record { number = 0; start = from.0 + 20 * first; size = 20 * count; zeros = last_zeros }
-          done-part = part-answer ∙ rw (size_is, ne_eqb v.size 0 ne) refl
+          done_part : v1_pieces_of s n ≡ record { number = 0; start = from.0 + 20 * first; size = 20 * count; zeros = last_zeros }
+          done_part = part_answer ∙ rw (size_is, ne_eqb v.size 0 ne) refl
 
           one : 0 < count
-          one = part-some (length s) from.0 (plen_of es) (file_start (entries_of_half es) n) v.size (total (entries_of_half es)) stands ne
+          one = part_some (length s) from.0 (plen_of es) (file_start (entries_of_half es) n) v.size (total (entries_of_half es)) stands ne
 
-          last-piece : 0 < count → first + (count - 1) < piece_count (total (entries_of_half es)) (plen_of es)
-          last-piece h = piece-among (length s) from.0 (plen_of es) (file_start (entries_of_half es) n) v.size (total (entries_of_half es)) stands (count - 1) (omega arith)
+          last_piece : 0 < count → first + (count - 1) < piece_count (total (entries_of_half es)) (plen_of es)
+          last_piece h = piece_among (length s) from.0 (plen_of es) (file_start (entries_of_half es) n) v.size (total (entries_of_half es)) stands (count - 1) (omega arith)
 
           inside : from.0 + 20 * first + 20 * count ≤ length s
-          inside = omega (arith, last-piece one, stands.room, one)
+          inside = omega (arith, last_piece one, stands.room, one)
 
           hashes : (i : ℕ) → i < count → cut s (from.0 + 20 * first + 20 * i) 20 ≡ (v1_piece_of s n i).hash
           hashes i h =
               let e : from.0 + 20 * first + 20 * i ≡ from.0 + 20 * (first + i) = omega arith in
-              let m = piece-among (length s) from.0 (plen_of es) (file_start (entries_of_half es) n) v.size (total (entries_of_half es)) stands i h in
+              let m = piece_among (length s) from.0 (plen_of es) (file_start (entries_of_half es) n) v.size (total (entries_of_half es)) stands i h in
               ap (λ (j : ℕ). cut s j 20) e
-              ∙ sym (cut-cut s from.0 (length (pieces_in es)) (20 * (first + i)) 20 (omega (arith, m, halves.twenty-each)))
-              ∙ ap (λ (p : List ℕ). cut p (20 * (first + i)) 20) pieces-there
+              ∙ sym (cut_cut s from.0 (length (pieces_in es)) (20 * (first + i)) 20 (omega (arith, m, halves.twenty_each)))
+              ∙ ap (λ (p : List ℕ). cut p (20 * (first + i)) 20) pieces_there
               ∙ sym ((piece_is i h).hash ∙ hash_at (pieces_in es) (plen_of es) (file_start (entries_of_half es) n) i)
 
           whole : (i : ℕ) → suc i < count → (v1_piece_of s n i).zeros ≡ 0
           whole i h =
               (piece_is i (omega arith)).zeros
-              ∙ whole-piece (plen_of es) (total (entries_of_half es)) (file_start (entries_of_half es) n + i * plen_of es) (v.size - i * plen_of es)
+              ∙ whole_piece (plen_of es) (total (entries_of_half es)) (file_start (entries_of_half es) n + i * plen_of es) (v.size - i * plen_of es)
               (omega (arith, not_last (plen_of es) v.size i some h)) (omega (arith, stands.within, not_last (plen_of es) v.size i some h))
 
           last : (i : ℕ) → suc i ≡ count → (v1_piece_of s n i).zeros ≡ last_zeros

@@ -20,7 +20,7 @@ pub record WholeOpening (b : List ℕ) : Type 0 where
   pub long : 45 ≤ length b
   pub kind : get_or b 0 0 ≡ 1
 
--- the bytes are those of a value: an opening with facts in range, positions rising, marks rising, an end. (That `formed` tests this: `form-exactly`,
+-- the bytes are those of a value: an opening with facts in range, positions rising, marks rising, an end. (That `formed` tests this: `form_exactly`,
 -- crates/promises, file Saved.)
 pub record OfForm (b : List ℕ) : Type 0 where
   pub value : Saved

@@ -51,12 +51,12 @@ pub record Needed (s : List ℕ) (n : ℕ) : Type 0 where
 
 -- those that are given
 pub data ExtendsGives : ℕ → Type 0 where
-  is-9 : ExtendsGives unusable
-  is-3 : ExtendsGives rule_broken
-  is-4 : ExtendsGives wrong_size
-  is-6 : ExtendsGives no_anchor
-  is-7 : ExtendsGives differs
-  is-0 : ExtendsGives 0
+  is_9 : ExtendsGives unusable
+  is_3 : ExtendsGives rule_broken
+  is_4 : ExtendsGives wrong_size
+  is_6 : ExtendsGives no_anchor
+  is_7 : ExtendsGives differs
+  is_0 : ExtendsGives 0
 
 -- the earlier file has bytes, and not more than the store's
 abbrev pub InRange : List ℕ → ℕ → Type 0

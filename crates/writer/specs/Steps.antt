@@ -14,11 +14,11 @@ pub record Prepared (list text at room : List ℕ) : Type 0 where
   pub form : list_form list text ≡ true
   pub few : record_count list ≤ most_files
   pub at_size : length at ≡ record_count list
-  pub room-size : length room ≡ record_count list
+  pub room_size : length room ≡ record_count list
 
 -- the content's number and the size of the torrent; the positions are in tree order
 pub record MeasuredRight (list text : List ℕ) (plen : ℕ) (name at : List ℕ) (m : Measured) : Type 0 where
-  pub tree-order : InOrder item_before list text at
+  pub tree_order : InOrder item_before list text at
   pub number_is : m.number ≡ content_number plen name (content_of list text)
   pub size_is : m.size ≡ length (torrent_bytes list text plen name)
 
@@ -26,5 +26,5 @@ pub record MeasuredRight (list text : List ℕ) (plen : ℕ) (name at : List ℕ
 pub record ForRest (list text at : List ℕ) : Type 0 where
   pub placed : AllInForm list text at
   pub roots : List ℕ
-  pub by-root : InOrder root_before list text roots
-  pub as-roots : rest_bytes (map (item_at list text) at) ≡ rest_bytes (map (item_at list text) roots)
+  pub by_root : InOrder root_before list text roots
+  pub as_roots : rest_bytes (map (item_at list text) at) ≡ rest_bytes (map (item_at list text) roots)

@@ -12,8 +12,8 @@ use Rattle.numbers.specs.NumbersLaws.{let_through}
 use Rattle.bencode.specs.Grammar.{Entries, dictionary, encode}
 use Rattle.sorting.specs.SortedBy.{Permuted}
 use Rattle.writer_meaning.specs.Number.{content_number}
-use Rattle.writer_meaning.proofs.AnyOrder.{number-any-order, size-any-order, torrent-any-order}
-use Rattle.writer_meaning.proofs.GoodLaws.{all-passed, good}
+use Rattle.writer_meaning.proofs.AnyOrder.{number_any_order, size_any_order, torrent_any_order}
+use Rattle.writer_meaning.proofs.GoodLaws.{all_passed, good}
 use Rattle.writer_lists.specs.Lists.{list_form, content_of}
 use Rattle.writer.specs.Write.{torrent_bytes, write_number, write_answer, write_after}
 
@@ -59,8 +59,8 @@ module _ (list text list' text' : List ℕ) (plen : ℕ) (name : List ℕ) (form
   number_same room =
       rw (
         form,
-        number-any-order plen name (content_of list text) (content_of list' text') same,
-        size-any-order plen name (content_of list text)
+        number_any_order plen name (content_of list text) (content_of list' text') same,
+        size_any_order plen name (content_of list text)
             (content_of list' text') same,
       )
       refl
@@ -69,14 +69,14 @@ module _ (list text list' text' : List ℕ) (plen : ℕ) (name : List ℕ) (form
   bytes_same : (room : ℕ) → write_number list text plen name room ≡ 0 → torrent_bytes list text plen name ≡ torrent_bytes list' text' plen name
   bytes_same room e =
       let w = written list text plen name room e in
-      let g = good plen name (content_of list text) (all-passed plen name (content_of list text) w.number) in
+      let g = good plen name (content_of list text) (all_passed plen name (content_of list text) w.number) in
       ap (λ (t : Entries). encode (dictionary t))
-      (torrent-any-order plen name (content_of list text) (content_of list' text') same g.fine.paths-apart)
+      (torrent_any_order plen name (content_of list text) (content_of list' text') same g.fine.paths_apart)
 
-  pub answer-same : (out : List ℕ) → write_answer list text plen name out ≡ write_answer list' text' plen name out
+  pub answer_same : (out : List ℕ) → write_answer list text plen name out ≡ write_answer list' text' plen name out
   unfolding write_answer
-  answer-same out =
-      rw (number_same (length out), size-any-order plen name (content_of list text) (content_of list' text') same) refl
+  answer_same out =
+      rw (number_same (length out), size_any_order plen name (content_of list text) (content_of list' text') same) refl
 
   pub after_same : (out : List ℕ) → write_after list text plen name out ≡ write_after list' text' plen name out
   unfolding write_after

@@ -11,21 +11,21 @@ use mathlib.Core.List.{List, [], ◌∷◌, ◌++◌, map, map-append, append_as
 use native.Mathlib.Omega.{arith}
 use Rattle.limits.specs.Limits.{longest_file}
 use Rattle.octets.specs.Octets.{same, zero_hash}
-use Rattle.octets.specs.OctetsLaws.{same_refl, same-ne}
+use Rattle.octets.specs.OctetsLaws.{same_refl, same_ne}
 use Rattle.bencode.specs.Grammar.{Value, integer, string, list, dictionary, Entries, no_entries, entry, encode, encode_entries, precedes, KeyBefore, none, after, ascends, Valid, EntriesValid}
 use Rattle.bencode.specs.Parts.{present}
-use Rattle.bencode.specs.CompleteLaws.{dictionary-length}
-use Rattle.sorting.specs.PermutedLaws.{member-append}
-use Rattle.sorting.specs.PrecedesLaws.{precedes-differ, precedes-trans}
+use Rattle.bencode.specs.CompleteLaws.{dictionary_length}
+use Rattle.sorting.specs.PermutedLaws.{member_append}
+use Rattle.sorting.specs.PrecedesLaws.{precedes_differ, precedes_trans}
 use Rattle.meaning.specs.Counting.{Member}
 use Rattle.meaning.specs.Keys.{key_length, key_pieces_root}
 use Rattle.meaning.specs.Torrent.{element_right, File, file_value, files_of_node, files_of_entries, entries_of}
 use Rattle.meaning.specs.Amiss.{RightFile, empty, full, RightNode, file, directory, RightDirectory, one, more}
 use Rattle.writer_meaning.specs.Content.{Item, path_before, grown, properties}
 use Rattle.writer_meaning.specs.Number.{begins}
-use Rattle.writer_meaning.proofs.WrittenLaws.{node_first, first-node}
+use Rattle.writer_meaning.proofs.WrittenLaws.{node_first, first_node}
 use Rattle.writer_meaning.proofs.TreeLaws.{AllRight}
-use Rattle.writer_meaning.proofs.ShorterLaws.{entry_length, entries-length, Covers, shorter}
+use Rattle.writer_meaning.proofs.ShorterLaws.{entry_length, entries_length, Covers, shorter}
 
 -- a file without its layer
 abbrev pub bare : File → Item
@@ -40,66 +40,66 @@ unfoldable pub grow_all : List File → Entries → Entries
 grow_all [] es = es
 grow_all (f ∷ fs) es = grown f.path (properties (bare f)) (grow_all fs es)
 
-grow-append : (fs gs : List File) (es : Entries) → grow_all (fs ++ gs) es ≡ grow_all fs (grow_all gs es)
+grow_append : (fs gs : List File) (es : Entries) → grow_all (fs ++ gs) es ≡ grow_all fs (grow_all gs es)
 unfolding grow_all
-grow-append [] gs es = refl
-grow-append (f ∷ fs) gs es = ap (grown f.path (properties (bare f))) (grow-append fs gs es)
+grow_append [] gs es = refl
+grow_append (f ∷ fs) gs es = ap (grown f.path (properties (bare f))) (grow_append fs gs es)
 
 -- ---- files below a node
 
 mutual
   unfolding files_of_node files_of_entries
 
-  node-under : (pre q : List (List ℕ)) (v : Value) → files_of_node (pre ++ q) v ≡ map (under pre) (files_of_node q v)
-  node-under pre q (dictionary es) = entries-under pre q es
-  node-under pre q (integer minus n) = refl
-  node-under pre q (string b) = refl
-  node-under pre q (list vs) = refl
+  node_under : (pre q : List (List ℕ)) (v : Value) → files_of_node (pre ++ q) v ≡ map (under pre) (files_of_node q v)
+  node_under pre q (dictionary es) = entries_under pre q es
+  node_under pre q (integer minus n) = refl
+  node_under pre q (string b) = refl
+  node_under pre q (list vs) = refl
 
-  entries-under : (pre q : List (List ℕ)) (es : Entries) → files_of_entries (pre ++ q) es ≡ map (under pre) (files_of_entries q es)
-  entries-under pre q no_entries = refl
-  entries-under pre q (entry [] v es) = refl
-  entries-under pre q (entry (c ∷ cs) v es) =
+  entries_under : (pre q : List (List ℕ)) (es : Entries) → files_of_entries (pre ++ q) es ≡ map (under pre) (files_of_entries q es)
+  entries_under pre q no_entries = refl
+  entries_under pre q (entry [] v es) = refl
+  entries_under pre q (entry (c ∷ cs) v es) =
       ap₂ (λ (x y : List File). x ++ y)
-      (ap (λ (p : List (List ℕ)). files_of_node p v) (append_assoc pre q ((c ∷ cs) ∷ [])) ∙ node-under pre (q ++ (c ∷ cs) ∷ []) v)
-      (entries-under pre q es)
+      (ap (λ (p : List (List ℕ)). files_of_node p v) (append_assoc pre q ((c ∷ cs) ∷ [])) ∙ node_under pre (q ++ (c ∷ cs) ∷ []) v)
+      (entries_under pre q es)
       ∙ sym (map-append (under pre) (files_of_node (q ++ (c ∷ cs) ∷ []) v) (files_of_entries q es))
 
 -- the files of a directory: those of its first node, with the node's name before their path, and the others
-files-first : (k : List ℕ) (ds es : Entries) → element_right k ≡ true → files_of_entries [] (entry k (dictionary ds) es) ≡ map (under (k ∷ [])) (files_of_entries [] ds) ++ files_of_entries [] es
+files_first : (k : List ℕ) (ds es : Entries) → element_right k ≡ true → files_of_entries [] (entry k (dictionary ds) es) ≡ map (under (k ∷ [])) (files_of_entries [] ds) ++ files_of_entries [] es
 unfolding element_right files_of_entries
-files-first [] ds es r = absurd (false≢true r)
-files-first (c ∷ cs) ds es r = ap (λ (l : List File). l ++ files_of_entries [] es) (entries-under ((c ∷ cs) ∷ []) [] ds)
+files_first [] ds es r = absurd (false≢true r)
+files_first (c ∷ cs) ds es r = ap (λ (l : List File). l ++ files_of_entries [] es) (entries_under ((c ∷ cs) ∷ []) [] ds)
 
 -- ---- a node grows of its files
 
-grown-fresh : (k : List ℕ) (p : List (List ℕ)) (v : Value) (es : Entries) → node_first k es ≡ false → grown (k ∷ p) v es ≡ entry k (dictionary (grown p v no_entries)) es
+grown_fresh : (k : List ℕ) (p : List (List ℕ)) (v : Value) (es : Entries) → node_first k es ≡ false → grown (k ∷ p) v es ≡ entry k (dictionary (grown p v no_entries)) es
 unfolding grown
-grown-fresh k p v no_entries d = refl
-grown-fresh k p v (entry j (dictionary ds) es) d = rw d refl
-grown-fresh k p v (entry j (integer minus n) es) d = refl
-grown-fresh k p v (entry j (string b) es) d = refl
-grown-fresh k p v (entry j (list vs) es) d = refl
+grown_fresh k p v no_entries d = refl
+grown_fresh k p v (entry j (dictionary ds) es) d = rw d refl
+grown_fresh k p v (entry j (integer minus n) es) d = refl
+grown_fresh k p v (entry j (string b) es) d = refl
+grown_fresh k p v (entry j (list vs) es) d = refl
 
-grown-into : (k : List ℕ) (p : List (List ℕ)) (v : Value) (ds es : Entries) → grown (k ∷ p) v (entry k (dictionary ds) es) ≡ entry k (dictionary (grown p v ds)) es
+grown_into : (k : List ℕ) (p : List (List ℕ)) (v : Value) (ds es : Entries) → grown (k ∷ p) v (entry k (dictionary ds) es) ≡ entry k (dictionary (grown p v ds)) es
 unfolding grown
-grown-into k p v ds es = rw (same_refl k) refl
+grown_into k p v ds es = rw (same_refl k) refl
 
-grow-under : (k : List ℕ) (f : File) (fs : List File) (es : Entries) → node_first k es ≡ false
+grow_under : (k : List ℕ) (f : File) (fs : List File) (es : Entries) → node_first k es ≡ false
     → grow_all (map (under (k ∷ [])) (f ∷ fs)) es ≡ entry k (dictionary (grow_all (f ∷ fs) no_entries)) es
 unfolding grow_all
-grow-under k f [] es d = grown-fresh k f.path (properties (bare f)) es d
-grow-under k f (g ∷ fs) es d =
-    ap (grown (k ∷ f.path) (properties (bare f))) (grow-under k g fs es d) ∙ grown-into k f.path (properties (bare f)) (grow_all (g ∷ fs) no_entries) es
+grow_under k f [] es d = grown_fresh k f.path (properties (bare f)) es d
+grow_under k f (g ∷ fs) es d =
+    ap (grown (k ∷ f.path) (properties (bare f))) (grow_under k g fs es d) ∙ grown_into k f.path (properties (bare f)) (grow_all (g ∷ fs) no_entries) es
 
 -- ---- lists
 
 module _ {A B : Type 0} where
-  pub member-map : (f : A → B) (xs : List A) (y : B) → Member y (map f xs) → (x : A) × Member x xs × (y ≡ f x)
+  pub member_map : (f : A → B) (xs : List A) (y : B) → Member y (map f xs) → (x : A) × Member x xs × (y ≡ f x)
   unfolding Member
-  member-map f [] y m = absurd m
-  member-map f (x ∷ xs) y (inl e) = (x, inl refl, e)
-  member-map f (x ∷ xs) y (inr m) = let w = member-map f xs y m in (w.0, inr w.1, w.2)
+  member_map f [] y m = absurd m
+  member_map f (x ∷ xs) y (inl e) = (x, inl refl, e)
+  member_map f (x ∷ xs) y (inr m) = let w = member_map f xs y m in (w.0, inr w.1, w.2)
 
 -- one path before another, and neither leads to, or through, the other
 abbrev pub Told : File → File → Type 0
@@ -109,11 +109,11 @@ unfoldable pub Pairs : List File → Type 0
 Pairs [] = Unit {0}
 Pairs (f ∷ fs) = ((g : File) → Member g fs → Told f g) × Pairs fs
 
-pairs-append : (xs ys : List File) → Pairs xs → Pairs ys → ((f g : File) → Member f xs → Member g ys → Told f g) → Pairs (xs ++ ys)
+pairs_append : (xs ys : List File) → Pairs xs → Pairs ys → ((f g : File) → Member f xs → Member g ys → Told f g) → Pairs (xs ++ ys)
 unfolding Pairs Member
-pairs-append [] ys p q c = q
-pairs-append (x ∷ xs) ys p q c =
-    ((λ g m. elim (member-append xs ys g m) [ inl k ↦ p.0 g k | inr k ↦ c x g (inl refl) k ]), pairs-append xs ys p.1 q (λ f g m n. c f g (inr m) n))
+pairs_append [] ys p q c = q
+pairs_append (x ∷ xs) ys p q c =
+    ((λ g m. elim (member_append xs ys g m) [ inl k ↦ p.0 g k | inr k ↦ c x g (inl refl) k ]), pairs_append xs ys p.1 q (λ f g m n. c f g (inr m) n))
 
 told_under : (k : List ℕ) (f g : File) → Told f g → Told (under (k ∷ []) f) (under (k ∷ []) g)
 told_under k f g t = (before t.0, leads f.path g.path t.1, leads g.path f.path t.2)
@@ -124,22 +124,22 @@ told_under k f g t = (before t.0, leads f.path g.path t.1, leads g.path f.path t
     leads : (p q : List (List ℕ)) → begins p q ≡ false → begins (k ∷ p) (k ∷ q) ≡ false
     leads p q e = unfold begins in rw (same_refl k) e
 
-pairs-under : (k : List ℕ) (fs : List File) → Pairs fs → Pairs (map (under (k ∷ [])) fs)
+pairs_under : (k : List ℕ) (fs : List File) → Pairs fs → Pairs (map (under (k ∷ [])) fs)
 unfolding Pairs
-pairs-under k [] p = tt
-pairs-under k (f ∷ fs) p =
-    ((λ g m. let w = member-map (under (k ∷ [])) fs g m in rw w.2 (told_under k f w.0 (p.0 w.0 w.1))), pairs-under k fs p.1)
+pairs_under k [] p = tt
+pairs_under k (f ∷ fs) p =
+    ((λ g m. let w = member_map (under (k ∷ [])) fs g m in rw w.2 (told_under k f w.0 (p.0 w.0 w.1))), pairs_under k fs p.1)
 
 -- names that differ tell all below them
 told_names : (k j : List ℕ) (f g : File) (p q : List (List ℕ)) → precedes k j ≡ true → f.path ≡ k ∷ p → g.path ≡ j ∷ q → Told f g
 told_names k j f g p q h a b = (
   ap₂ path_before a b ∙ before,
   ap₂ begins a b ∙ leads k j p q other,
-  ap₂ begins b a ∙ leads j k q p (same-ne j k (λ e. precedes-differ k j h (sym e))),
+  ap₂ begins b a ∙ leads j k q p (same_ne j k (λ e. precedes_differ k j h (sym e))),
 )
   where
     other : same k j ≡ false
-    other = same-ne k j (precedes-differ k j h)
+    other = same_ne k j (precedes_differ k j h)
 
     before : path_before (k ∷ p) (j ∷ q) ≡ true
     before = unfold path_before in rw other h
@@ -152,19 +152,19 @@ told_names k j f g p q h a b = (
 pub record FileFacts (l : ℕ) (f : File) : Type 0 where
   pub elements : AllRight f.path
   pub depth : length f.path < l
-  pub in-range : f.size ≤ longest_file
-  pub empty-root : f.size ≡ 0 → f.root ≡ zero_hash
-  pub root-size : length f.root ≡ 32
+  pub in_range : f.size ≤ longest_file
+  pub empty_root : f.size ≡ 0 → f.root ≡ zero_hash
+  pub root_size : length f.root ≡ 32
 
 pub record NodeFacts (l : ℕ) (es : Entries) : Type 0 where
   pub some : (f : File) × (fs : List File) × (files_of_entries [] es ≡ f ∷ fs)
-  pub shorter-tree : length (encode_entries (grow_all (files_of_entries [] es) no_entries)) ≤ length (encode_entries es)
+  pub shorter_tree : length (encode_entries (grow_all (files_of_entries [] es) no_entries)) ≤ length (encode_entries es)
   pub each : (f : File) → Member f (files_of_entries [] es) → FileFacts l f
   pub pairs : Pairs (files_of_entries [] es)
 
 -- of a directory also: each path has a first element, behind the key before
 pub record DirectoryFacts (j : KeyBefore) (l : ℕ) (es : Entries) : Type 0 where
-  pub shorter-tree : length (encode_entries (grow_all (files_of_entries [] es) no_entries)) ≤ length (encode_entries es)
+  pub shorter_tree : length (encode_entries (grow_all (files_of_entries [] es) no_entries)) ≤ length (encode_entries es)
   pub each : (f : File) → Member f (files_of_entries [] es) → FileFacts l f
   pub heads : (f : File) → Member f (files_of_entries [] es) → (e : List ℕ) × (p : List (List ℕ)) × (f.path ≡ e ∷ p) × (ascends j e ≡ true)
   pub pairs : Pairs (files_of_entries [] es)
@@ -172,8 +172,8 @@ pub record DirectoryFacts (j : KeyBefore) (l : ℕ) (es : Entries) : Type 0 wher
 -- ---- a file's node
 
 -- what is written of a file is not longer than what it was read from
-file-shorter : (v : Value) (path : List (List ℕ)) → RightFile v → length (encode (properties (bare (file_value path (entries_of (present v)))))) ≤ length (encode v)
-file-shorter v path (empty es l r) = rw l (by_length (dictionary-length (entry key_length (integer false 0) no_entries)) (dictionary-length es))
+file_shorter : (v : Value) (path : List (List ℕ)) → RightFile v → length (encode (properties (bare (file_value path (entries_of (present v)))))) ≤ length (encode v)
+file_shorter v path (empty es l r) = rw l (by_length (dictionary_length (entry key_length (integer false 0) no_entries)) (dictionary_length es))
   where
     cover : length (encode_entries (entry key_length (integer false 0) no_entries)) ≤ length (encode_entries es)
     cover = shorter (entry key_length (integer false 0) no_entries) es none 1 (unfold EntriesValid in (refl, unfold Valid in omega arith, tt)) (unfold Covers in ((integer false 0, l, omega arith), tt))
@@ -181,7 +181,7 @@ file-shorter v path (empty es l r) = rw l (by_length (dictionary-length (entry k
     by_length : length (encode (dictionary (entry key_length (integer false 0) no_entries))) ≡ suc (length (encode_entries (entry key_length (integer false 0) no_entries)))
         → length (encode (dictionary es)) ≡ suc (length (encode_entries es)) → length (encode (dictionary (entry key_length (integer false 0) no_entries))) ≤ length (encode (dictionary es))
     by_length a b = omega (arith, cover)
-file-shorter v path (full es n root l above below r size) = rw (l, r, ne_eqb n 0 (λ z. omega arith)) (by_length (dictionary-length props) (dictionary-length es))
+file_shorter v path (full es n root l above below r size) = rw (l, r, ne_eqb n 0 (λ z. omega arith)) (by_length (dictionary_length props) (dictionary_length es))
   where
     props : Entries
     props = entry key_length (integer false n) (entry key_pieces_root (string root) no_entries)
@@ -196,34 +196,34 @@ file-shorter v path (full es n root l above below r size) = rw (l, r, ne_eqb n 0
     by_length a b = omega (arith, cover)
 
 -- a file is in range, and has a root of 32 bytes, zeros if it is empty
-file-facts : (v : Value) (l : ℕ) → RightFile v → FileFacts (suc l) (file_value [] (entries_of (present v)))
-file-facts v l (empty es a r) =
+file_facts : (v : Value) (l : ℕ) → RightFile v → FileFacts (suc l) (file_value [] (entries_of (present v)))
+file_facts v l (empty es a r) =
     record {
       elements = unfold AllRight in tt;
       depth = omega arith;
-      in-range = rw a (omega arith);
-      empty-root = λ z. rw r refl;
-      root-size = rw r (unfold zero_hash in refl);
+      in_range = rw a (omega arith);
+      empty_root = λ z. rw r refl;
+      root_size = rw r (unfold zero_hash in refl);
     }
-file-facts v l (full es n root a above below r size) =
+file_facts v l (full es n root a above below r size) =
     record {
       elements = unfold AllRight in tt;
       depth = omega arith;
-      in-range = rw a below;
-      empty-root = λ z. let q : n ≡ 0 = rw a at z in absurd (omega arith);
-      root-size = rw r size;
+      in_range = rw a below;
+      empty_root = λ z. let q : n ≡ 0 = rw a at z in absurd (omega arith);
+      root_size = rw r size;
     }
 
-file-node : (v : Value) (l : ℕ) → RightFile v → Valid v l → NodeFacts l (entry [] v no_entries)
-file-node v zero r h = absurd (no-level v r h)
+file_node : (v : Value) (l : ℕ) → RightFile v → Valid v l → NodeFacts l (entry [] v no_entries)
+file_node v zero r h = absurd (no_level v r h)
   where
-    no-level : (w : Value) → RightFile w → Valid w zero → ⊥
-    no-level w (empty es a b) u = unfold Valid in u
-    no-level w (full es n root a above below b size) u = unfold Valid in u
-file-node v (suc l) r h =
+    no_level : (w : Value) → RightFile w → Valid w zero → ⊥
+    no_level w (empty es a b) u = unfold Valid in u
+    no_level w (full es n root a above below b size) u = unfold Valid in u
+file_node v (suc l) r h =
     record {
       some = (file_value [] (entries_of (present v)), [], files);
-      shorter-tree = rw files (unfold grow_all in unfold grown in by_length (entries-length [] (properties (bare (file_value [] (entries_of (present v))))) no_entries) (entries-length [] v no_entries));
+      shorter_tree = rw files (unfold grow_all in unfold grown in by_length (entries_length [] (properties (bare (file_value [] (entries_of (present v))))) no_entries) (entries_length [] v no_entries));
       each = λ f m. by_one f (rw files at m);
       pairs = rw files (unfold Pairs in ((λ g m. absurd (unfold Member in m)), tt));
     }
@@ -234,51 +234,51 @@ file-node v (suc l) r h =
     by_length : length (encode_entries (entry [] (properties (bare (file_value [] (entries_of (present v))))) no_entries)) ≡ entry_length [] (properties (bare (file_value [] (entries_of (present v))))) + length (encode_entries no_entries)
         → length (encode_entries (entry [] v no_entries)) ≡ entry_length [] v + length (encode_entries no_entries)
         → length (encode_entries (entry [] (properties (bare (file_value [] (entries_of (present v))))) no_entries)) ≤ length (encode_entries (entry [] v no_entries))
-    by_length a b = let s = file-shorter v [] r in omega arith
+    by_length a b = let s = file_shorter v [] r in omega arith
 
     by_one : (f : File) → Member f (file_value [] (entries_of (present v)) ∷ []) → FileFacts (suc l) f
-    by_one f m = let k : (f ≡ file_value [] (entries_of (present v))) ⊎ ⊥ = unfold Member in m in elim k [ inl e ↦ rw e (file-facts v l r) | inr z ↦ absurd z ]
+    by_one f m = let k : (f ≡ file_value [] (entries_of (present v))) ⊎ ⊥ = unfold Member in m in elim k [ inl e ↦ rw e (file_facts v l r) | inr z ↦ absurd z ]
 
 -- ---- a directory
 
-no-files : (j : KeyBefore) (l : ℕ) → DirectoryFacts j l no_entries
-no-files j l =
+no_files : (j : KeyBefore) (l : ℕ) → DirectoryFacts j l no_entries
+no_files j l =
     record {
-      shorter-tree = unfold files_of_entries in unfold grow_all in omega arith;
+      shorter_tree = unfold files_of_entries in unfold grow_all in omega arith;
       each = λ f m. absurd (nobody f m);
       heads = λ f m. absurd (nobody f m);
       pairs = unfold files_of_entries in unfold Pairs in tt;
     }
   where
     nobody : (f : File) → Member f (files_of_entries [] no_entries) → ⊥
-    nobody f m = unfold Member in (rw none-there at m)
+    nobody f m = unfold Member in (rw none_there at m)
       where
-        none-there : files_of_entries [] no_entries ≡ []
-        none-there = unfold files_of_entries in refl
+        none_there : files_of_entries [] no_entries ≡ []
+        none_there = unfold files_of_entries in refl
 
 -- the tree of files whose first elements stand behind k does not begin with k
-behind-first : (k : List ℕ) (fs : List File) → ((f : File) → Member f fs → (e : List ℕ) × (p : List (List ℕ)) × (f.path ≡ e ∷ p) × (precedes k e ≡ true)) → node_first k (grow_all fs no_entries) ≡ false
+behind_first : (k : List ℕ) (fs : List File) → ((f : File) → Member f fs → (e : List ℕ) × (p : List (List ℕ)) × (f.path ≡ e ∷ p) × (precedes k e ≡ true)) → node_first k (grow_all fs no_entries) ≡ false
 unfolding grow_all
-behind-first k [] h = refl
-behind-first k (f ∷ fs) h = by-head (h f (unfold Member in inl refl))
+behind_first k [] h = refl
+behind_first k (f ∷ fs) h = by_head (h f (unfold Member in inl refl))
   where
-    by-head : ((e : List ℕ) × (p : List (List ℕ)) × (f.path ≡ e ∷ p) × (precedes k e ≡ true)) → node_first k (grown f.path (properties (bare f)) (grow_all fs no_entries)) ≡ false
-    by-head w =
-        let n = first-node w.0 w.1 (properties (bare f)) (grow_all fs no_entries) in
-        ap (λ (p : List (List ℕ)). node_first k (grown p (properties (bare f)) (grow_all fs no_entries))) w.2 ∙ ap (node_first k) n.tree_is ∙ same-ne k w.0 (precedes-differ k w.0 w.3)
+    by_head : ((e : List ℕ) × (p : List (List ℕ)) × (f.path ≡ e ∷ p) × (precedes k e ≡ true)) → node_first k (grown f.path (properties (bare f)) (grow_all fs no_entries)) ≡ false
+    by_head w =
+        let n = first_node w.0 w.1 (properties (bare f)) (grow_all fs no_entries) in
+        ap (λ (p : List (List ℕ)). node_first k (grown p (properties (bare f)) (grow_all fs no_entries))) w.2 ∙ ap (node_first k) n.tree_is ∙ same_ne k w.0 (precedes_differ k w.0 w.3)
 
-ascends-further : (j : KeyBefore) (k e : List ℕ) → ascends j k ≡ true → precedes k e ≡ true → ascends j e ≡ true
-ascends-further none k e a p = refl
-ascends-further (after i) k e a p = precedes-trans i k e a p
+ascends_further : (j : KeyBefore) (k e : List ℕ) → ascends j k ≡ true → precedes k e ≡ true → ascends j e ≡ true
+ascends_further none k e a p = refl
+ascends_further (after i) k e a p = precedes_trans i k e a p
 
 -- a node and the nodes behind it
-with-node : (j : KeyBefore) (l : ℕ) (k : List ℕ) (ds es : Entries) → element_right k ≡ true → ascends j k ≡ true → NodeFacts l ds → DirectoryFacts (after k) (suc l) es → DirectoryFacts j (suc l) (entry k (dictionary ds) es)
-with-node j l k ds es r a n d =
+with_node : (j : KeyBefore) (l : ℕ) (k : List ℕ) (ds es : Entries) → element_right k ≡ true → ascends j k ≡ true → NodeFacts l ds → DirectoryFacts (after k) (suc l) es → DirectoryFacts j (suc l) (entry k (dictionary ds) es)
+with_node j l k ds es r a n d =
     record {
-      shorter-tree = rw (files, tree) (by_length (entries-length k (dictionary (grow_all below no_entries)) (grow_all beside no_entries)) (entries-length k (dictionary ds) es) (dictionary-length (grow_all below no_entries)) (dictionary-length ds));
-      each = λ f m. elim (member-append (map (under (k ∷ [])) below) beside f (rw files at m)) [ inl p ↦ inside f (member-map (under (k ∷ [])) below f p) | inr q ↦ d.each f q ];
-      heads = λ f m. elim (member-append (map (under (k ∷ [])) below) beside f (rw files at m)) [ inl p ↦ first f (member-map (under (k ∷ [])) below f p) | inr q ↦ later f (d.heads f q) ];
-      pairs = rw files (pairs-append (map (under (k ∷ [])) below) beside (pairs-under k below n.pairs) d.pairs (λ f g m q. across f g (member-map (under (k ∷ [])) below f m) (d.heads g q)));
+      shorter_tree = rw (files, tree) (by_length (entries_length k (dictionary (grow_all below no_entries)) (grow_all beside no_entries)) (entries_length k (dictionary ds) es) (dictionary_length (grow_all below no_entries)) (dictionary_length ds));
+      each = λ f m. elim (member_append (map (under (k ∷ [])) below) beside f (rw files at m)) [ inl p ↦ inside f (member_map (under (k ∷ [])) below f p) | inr q ↦ d.each f q ];
+      heads = λ f m. elim (member_append (map (under (k ∷ [])) below) beside f (rw files at m)) [ inl p ↦ first f (member_map (under (k ∷ [])) below f p) | inr q ↦ later f (d.heads f q) ];
+      pairs = rw files (pairs_append (map (under (k ∷ [])) below) beside (pairs_under k below n.pairs) d.pairs (λ f g m q. across f g (member_map (under (k ∷ [])) below f m) (d.heads g q)));
     }
   where
     below : List File
@@ -288,14 +288,14 @@ with-node j l k ds es r a n d =
     beside = files_of_entries [] es
 
     files : files_of_entries [] (entry k (dictionary ds) es) ≡ map (under (k ∷ [])) below ++ beside
-    files = files-first k ds es r
+    files = files_first k ds es r
 
     tree : grow_all (map (under (k ∷ [])) below ++ beside) no_entries ≡ entry k (dictionary (grow_all below no_entries)) (grow_all beside no_entries)
     tree =
         let s = n.some in
-        grow-append (map (under (k ∷ [])) below) beside no_entries
+        grow_append (map (under (k ∷ [])) below) beside no_entries
         ∙ ap (λ (l : List File). grow_all (map (under (k ∷ [])) l) (grow_all beside no_entries)) s.2
-        ∙ grow-under k s.0 s.1 (grow_all beside no_entries) (behind-first k beside d.heads)
+        ∙ grow_under k s.0 s.1 (grow_all beside no_entries) (behind_first k beside d.heads)
         ∙ ap (λ (l : List File). entry k (dictionary (grow_all l no_entries)) (grow_all beside no_entries)) (sym s.2)
 
     by_length : length (encode_entries (entry k (dictionary (grow_all below no_entries)) (grow_all beside no_entries))) ≡ entry_length k (dictionary (grow_all below no_entries)) + length (encode_entries (grow_all beside no_entries))
@@ -303,26 +303,26 @@ with-node j l k ds es r a n d =
         → length (encode (dictionary (grow_all below no_entries))) ≡ suc (length (encode_entries (grow_all below no_entries)))
         → length (encode (dictionary ds)) ≡ suc (length (encode_entries ds))
         → length (encode_entries (entry k (dictionary (grow_all below no_entries)) (grow_all beside no_entries))) ≤ length (encode_entries (entry k (dictionary ds) es))
-    by_length p q u w = let x = n.shorter-tree in let y = d.shorter-tree in omega arith
+    by_length p q u w = let x = n.shorter_tree in let y = d.shorter_tree in omega arith
 
     inside : (f : File) → ((g : File) × Member g below × (f ≡ under (k ∷ []) g)) → FileFacts (suc l) f
-    inside f w = rw w.2 (deeper-facts w.0 (n.each w.0 w.1))
+    inside f w = rw w.2 (deeper_facts w.0 (n.each w.0 w.1))
       where
-        deeper-facts : (g : File) → FileFacts l g → FileFacts (suc l) (under (k ∷ []) g)
-        deeper-facts g x =
+        deeper_facts : (g : File) → FileFacts l g → FileFacts (suc l) (under (k ∷ []) g)
+        deeper_facts g x =
             record {
               elements = unfold AllRight in (r, x.elements);
               depth = let y = x.depth in omega arith;
-              in-range = x.in-range;
-              empty-root = x.empty-root;
-              root-size = x.root-size;
+              in_range = x.in_range;
+              empty_root = x.empty_root;
+              root_size = x.root_size;
             }
 
     first : (f : File) → ((g : File) × Member g below × (f ≡ under (k ∷ []) g)) → (e : List ℕ) × (p : List (List ℕ)) × (f.path ≡ e ∷ p) × (ascends j e ≡ true)
     first f w = (k, w.0.path, ap (λ (x : File). x.path) w.2, a)
 
     later : (f : File) → ((e : List ℕ) × (p : List (List ℕ)) × (f.path ≡ e ∷ p) × (precedes k e ≡ true)) → (e : List ℕ) × (p : List (List ℕ)) × (f.path ≡ e ∷ p) × (ascends j e ≡ true)
-    later f w = (w.0, w.1, w.2, ascends-further j k w.0 a w.3)
+    later f w = (w.0, w.1, w.2, ascends_further j k w.0 a w.3)
 
     across : (f g : File) → ((h : File) × Member h below × (f ≡ under (k ∷ []) h)) → ((e : List ℕ) × (p : List (List ℕ)) × (g.path ≡ e ∷ p) × (precedes k e ≡ true)) → Told f g
     across f g u w = told_names k w.0 f g u.0.path w.1 w.3 (ap (λ (x : File). x.path) u.2) w.2
@@ -336,32 +336,32 @@ abbrev NodeIs : Value → ℕ → Type 0
 NodeIs v l = (m : ℕ) × (ds : Entries) × (l ≡ suc m) × (v ≡ dictionary ds) × NodeFacts m ds
 
 -- a directory's first node, and what stands behind it
-first-and-rest : (j : KeyBefore) (l : ℕ) (k : List ℕ) (v : Value) (es : Entries) → element_right k ≡ true → ascends j k ≡ true → NodeIs v l → DirectoryFacts (after k) l es → DirectoryFacts j l (entry k v es) × SomeFile (entry k v es)
-first-and-rest j l k v es r a n d = rw (n.3, n.2) (with-node j n.0 k n.1 es r a n.4 (rw n.2 at d), some-there)
+first_and_rest : (j : KeyBefore) (l : ℕ) (k : List ℕ) (v : Value) (es : Entries) → element_right k ≡ true → ascends j k ≡ true → NodeIs v l → DirectoryFacts (after k) l es → DirectoryFacts j l (entry k v es) × SomeFile (entry k v es)
+first_and_rest j l k v es r a n d = rw (n.3, n.2) (with_node j n.0 k n.1 es r a n.4 (rw n.2 at d), some_there)
   where
-    some-there : SomeFile (entry k (dictionary n.1) es)
-    some-there =
+    some_there : SomeFile (entry k (dictionary n.1) es)
+    some_there =
         let s = n.4.some in (
           under (k ∷ []) s.0,
           map (under (k ∷ [])) s.1 ++ files_of_entries [] es,
-          files-first k n.1 es r ∙ ap (λ (l : List File). map (under (k ∷ [])) l ++ files_of_entries [] es) s.2,
+          files_first k n.1 es r ∙ ap (λ (l : List File). map (under (k ∷ [])) l ++ files_of_entries [] es) s.2,
         )
 
-directory-node : (l : ℕ) (es : Entries) → DirectoryFacts none l es → SomeFile es → NodeFacts l es
-directory-node l es d s = record { some = s; shorter-tree = d.shorter-tree; each = d.each; pairs = d.pairs }
+directory_node : (l : ℕ) (es : Entries) → DirectoryFacts none l es → SomeFile es → NodeFacts l es
+directory_node l es d s = record { some = s; shorter_tree = d.shorter_tree; each = d.each; pairs = d.pairs }
 
 mutual
   unfolding Valid
 
-  node-facts : (v : Value) → RightNode v → (l : ℕ) → Valid v l → NodeIs v l
-  node-facts v (file w r) zero h = absurd h
-  node-facts v (file w r) (suc l) h = (l, entry [] w no_entries, refl, refl, file-node w l r h.1)
-  node-facts v (directory es d) zero h = absurd h
-  node-facts v (directory es d) (suc l) h = let w = directory-facts es d none l h in (l, es, refl, refl, directory-node l es w.0 w.1)
+  node_facts : (v : Value) → RightNode v → (l : ℕ) → Valid v l → NodeIs v l
+  node_facts v (file w r) zero h = absurd h
+  node_facts v (file w r) (suc l) h = (l, entry [] w no_entries, refl, refl, file_node w l r h.1)
+  node_facts v (directory es d) zero h = absurd h
+  node_facts v (directory es d) (suc l) h = let w = directory_facts es d none l h in (l, es, refl, refl, directory_node l es w.0 w.1)
 
-  directory-facts : (es : Entries) → RightDirectory es → (j : KeyBefore) (l : ℕ) → EntriesValid es j l → DirectoryFacts j l es × SomeFile es
-  directory-facts es (one k v e n) j l h = first-and-rest j l k v no_entries e h.0 (node-facts v n l h.1) (no-files (after k) l)
-  directory-facts es (more k v fs e n d) j l h = first-and-rest j l k v fs e h.0 (node-facts v n l h.1) (directory-facts fs d (after k) l h.2).0
+  directory_facts : (es : Entries) → RightDirectory es → (j : KeyBefore) (l : ℕ) → EntriesValid es j l → DirectoryFacts j l es × SomeFile es
+  directory_facts es (one k v e n) j l h = first_and_rest j l k v no_entries e h.0 (node_facts v n l h.1) (no_files (after k) l)
+  directory_facts es (more k v fs e n d) j l h = first_and_rest j l k v fs e h.0 (node_facts v n l h.1) (directory_facts fs d (after k) l h.2).0
 
-pub tree-facts : (es : Entries) (l : ℕ) → RightDirectory es → EntriesValid es none l → DirectoryFacts none l es × ((f : File) × (fs : List File) × (files_of_entries [] es ≡ f ∷ fs))
-tree-facts es l d h = directory-facts es d none l h
+pub tree_facts : (es : Entries) (l : ℕ) → RightDirectory es → EntriesValid es none l → DirectoryFacts none l es × ((f : File) × (fs : List File) × (files_of_entries [] es ≡ f ∷ fs))
+tree_facts es l d h = directory_facts es d none l h

@@ -14,15 +14,15 @@ use Rattle.writer_meaning.proofs.RightLaws.{PathFull}
 
 pub record Plain (plen : ℕ) (xs : List Item) : Type 0 where
   -- no path repeats, and no path and no element is empty
-  pub no-repeat : Distinct (map (λ (x : Item). x.path) xs)
-  pub path-full : (x : Item) → Member x xs → PathFull x.path
+  pub no_repeat : Distinct (map (λ (x : Item). x.path) xs)
+  pub path_full : (x : Item) → Member x xs → PathFull x.path
   -- no root has two layers
-  pub one-layer : (x y : Item) → Member x xs → Member y xs → 0 < x.size → 0 < y.size → x.root ≡ y.root → x.layer ≡ y.layer
+  pub one_layer : (x y : Item) → Member x xs → Member y xs → 0 < x.size → 0 < y.size → x.root ≡ y.root → x.layer ≡ y.layer
   -- empty files have the zero root and no layer
-  pub empty-root : (x : Item) → Member x xs → x.size ≡ 0 → x.root ≡ zero_hash
-  pub empty-layer : (x : Item) → Member x xs → x.size ≡ 0 → x.layer ≡ []
+  pub empty_root : (x : Item) → Member x xs → x.size ≡ 0 → x.root ≡ zero_hash
+  pub empty_layer : (x : Item) → Member x xs → x.size ≡ 0 → x.layer ≡ []
   -- integers of 64 bits, roots of 32 bytes
-  pub piece-fits : plen < 2 ^ 63
+  pub piece_fits : plen < 2 ^ 63
   pub size_fits : (x : Item) → Member x xs → x.size < 2 ^ 63
   pub wide : (x : Item) → Member x xs → length x.root ≡ 32
 

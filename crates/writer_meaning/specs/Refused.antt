@@ -26,21 +26,21 @@ OutOfRange plen = (p : ℕ) → p ≤ 10 → plen ≡ block_length * 2 ^ p → �
 
 -- 25
 pub data WrongFiles (xs : List Item) : Type 0 where
-  no-file : xs ≡ [] → WrongFiles xs
-  no-element : (x : Item) → Member x xs → x.path ≡ [] → WrongFiles xs
-  wrong-element : (x : Item) (e : List ℕ) → Member x xs → Member e x.path → element_right e ≡ false → WrongFiles xs
+  no_file : xs ≡ [] → WrongFiles xs
+  no_element : (x : Item) → Member x xs → x.path ≡ [] → WrongFiles xs
+  wrong_element : (x : Item) (e : List ℕ) → Member x xs → Member e x.path → element_right e ≡ false → WrongFiles xs
   too_long : (x : Item) → Member x xs → longest_file < x.size → WrongFiles xs
-  empty-with-root : (x : Item) → Member x xs → x.size ≡ 0 → (x.root ≡ zero_hash → ⊥) → WrongFiles xs
+  empty_with_root : (x : Item) → Member x xs → x.size ≡ 0 → (x.root ≡ zero_hash → ⊥) → WrongFiles xs
   -- the path of one leads to, or through, where another's ends: a repeated path, or a file that is also a directory
-  one-path : (i j : ℕ) (x y : Item) → Nth xs i x → Nth xs j y → (i ≡ j → ⊥) → (rest : List (List ℕ)) → y.path ≡ x.path ++ rest → WrongFiles xs
+  one_path_lem : (i j : ℕ) (x y : Item) → Nth xs i x → Nth xs j y → (i ≡ j → ⊥) → (rest : List (List ℕ)) → y.path ≡ x.path ++ rest → WrongFiles xs
 
 -- two non-empty files with one root
 pub record OneRoot (xs : List Item) (x y : Item) : Type 0 where
   pub one : Member x xs
   pub other : Member y xs
-  pub one-full : 0 < x.size
-  pub other-full : 0 < y.size
-  pub same-root : x.root ≡ y.root
+  pub one_full : 0 < x.size
+  pub other_full : 0 < y.size
+  pub same_root : x.root ≡ y.root
 
 -- 26: of different lengths
 abbrev pub TwoLengths : List Item → Type 0
@@ -49,9 +49,9 @@ TwoLengths xs = (x : Item) × (y : Item) × OneRoot xs x y × (x.size ≡ y.size
 -- 27
 pub data WrongLayers (plen : ℕ) (xs : List Item) : Type 0 where
   wrong_size : (x : Item) → Member x xs → plen < x.size → (length x.layer ≡ 32 * piece_count x.size plen → ⊥) → WrongLayers plen xs
-  not-wanted : (x : Item) → Member x xs → x.size ≤ plen → (x.layer ≡ [] → ⊥) → WrongLayers plen xs
+  not_wanted : (x : Item) → Member x xs → x.size ≤ plen → (x.layer ≡ [] → ⊥) → WrongLayers plen xs
 
 -- 28
 pub data LayersDiffer (plen : ℕ) (xs : List Item) : Type 0 where
-  other-root : (x : Item) → Member x xs → plen < x.size → (layer_root x.layer (piece_layer plen) (height (block_count x.size)) ≡ x.root → ⊥) → LayersDiffer plen xs
-  two-layers : (x y : Item) → OneRoot xs x y → (x.layer ≡ y.layer → ⊥) → LayersDiffer plen xs
+  other_root_lem : (x : Item) → Member x xs → plen < x.size → (layer_root x.layer (piece_layer plen) (height (block_count x.size)) ≡ x.root → ⊥) → LayersDiffer plen xs
+  two_layers_lem : (x y : Item) → OneRoot xs x y → (x.layer ≡ y.layer → ⊥) → LayersDiffer plen xs

@@ -15,9 +15,9 @@ use Rattle.writer_order.specs.Roots.{root_number}
 
 -- ---- a list has a file exactly if it has a byte
 
-nothing-behind : (xs : List Item) (x : Item) → nothing (xs ++ x ∷ []) ≡ false
-nothing-behind [] x = refl
-nothing-behind (y ∷ ys) x = refl
+nothing_behind : (xs : List Item) (x : Item) → nothing (xs ++ x ∷ []) ≡ false
+nothing_behind [] x = refl
+nothing_behind (y ∷ ys) x = refl
 
 pub no_bytes : (list text : List ℕ) → length list ≡ 0 → nothing (content_of list text) ≡ true
 unfolding content_of
@@ -43,7 +43,7 @@ some_bytes list text h n = by_count (record_count list) refl
     by_count (suc k) e = ap (λ (m : ℕ). nothing (items_up_to list text m)) e ∙ last
       where
         last : nothing (items_up_to list text (suc k)) ≡ false
-        last = unfold items_up_to in nothing-behind (items_up_to list text k) (item_at list text (record_size * k))
+        last = unfold items_up_to in nothing_behind (items_up_to list text k) (item_at list text (record_size * k))
 
 -- ---- the chain of tests
 
@@ -57,30 +57,30 @@ module _ (plen : ℕ) (name : List ℕ) (xs : List Item) (size : ℕ) (e : size 
   unfolding content_number
   number_is = rw e refl
 
-  pub is-large : largest_torrent < size → torrent_too_large ≡ content_number plen name xs
-  is-large h = sym (number_is ∙ rw (lt-ltb largest_torrent size h) refl)
+  pub is_large : largest_torrent < size → torrent_too_large ≡ content_number plen name xs
+  is_large h = sym (number_is ∙ rw (lt-ltb largest_torrent size h) refl)
 
   module _ (a : size ≤ largest_torrent) where
-    pub is-deep : some too_deep xs ≡ true → nested_too_deeply ≡ content_number plen name xs
-    is-deep h = sym (number_is ∙ rw (le-ltb largest_torrent size a, h) refl)
+    pub is_deep : some too_deep xs ≡ true → nested_too_deeply ≡ content_number plen name xs
+    is_deep h = sym (number_is ∙ rw (le-ltb largest_torrent size a, h) refl)
 
     module _ (b : some too_deep xs ≡ false) where
-      pub is-out-of-range : is_piece_length plen ≡ false → piece_length_out_of_range ≡ content_number plen name xs
-      is-out-of-range h = sym (number_is ∙ rw (le-ltb largest_torrent size a, b, h) refl)
+      pub is_out_of_range : is_piece_length plen ≡ false → piece_length_out_of_range ≡ content_number plen name xs
+      is_out_of_range h = sym (number_is ∙ rw (le-ltb largest_torrent size a, b, h) refl)
 
       module _ (c : is_piece_length plen ≡ true) where
-        wrong-is : nothing xs || some wrong_item xs || meet xs ≡ true → wrong_tree ≡ content_number plen name xs
-        wrong-is h = sym (number_is ∙ rw (le-ltb largest_torrent size a, b, c, h) refl)
+        wrong_is : nothing xs || some wrong_item xs || meet xs ≡ true → wrong_tree ≡ content_number plen name xs
+        wrong_is h = sym (number_is ∙ rw (le-ltb largest_torrent size a, b, c, h) refl)
 
-        pub has-none : nothing xs ≡ true → wrong_tree ≡ content_number plen name xs
-        has-none h = wrong-is (any_of (nothing xs) (some wrong_item xs) (meet xs) h)
+        pub has_none : nothing xs ≡ true → wrong_tree ≡ content_number plen name xs
+        has_none h = wrong_is (any_of (nothing xs) (some wrong_item xs) (meet xs) h)
           where
             any_of : (x y z : Bool) → x ≡ true → x || y || z ≡ true
             any_of x y z h = rw h refl
 
         module _ (d : nothing xs ≡ false) where
-          pub is-meeting : meet xs ≡ true → wrong_tree ≡ content_number plen name xs
-          is-meeting h = wrong-is (any_of (nothing xs) (some wrong_item xs) (meet xs) h)
+          pub is_meeting : meet xs ≡ true → wrong_tree ≡ content_number plen name xs
+          is_meeting h = wrong_is (any_of (nothing xs) (some wrong_item xs) (meet xs) h)
             where
               any_of : (x y z : Bool) → z ≡ true → x || y || z ≡ true
               any_of true y z h = refl
@@ -88,25 +88,25 @@ module _ (plen : ℕ) (name : List ℕ) (xs : List Item) (size : ℕ) (e : size 
               any_of false false z h = h
 
           module _ (f : meet xs ≡ false) where
-            pub has-wrong : some wrong_item xs ≡ true → wrong_tree ≡ content_number plen name xs
-            has-wrong h = wrong-is (rw (d, h) refl)
+            pub has_wrong : some wrong_item xs ≡ true → wrong_tree ≡ content_number plen name xs
+            has_wrong h = wrong_is (rw (d, h) refl)
 
-            pub by-roots : some wrong_item xs ≡ false → (n : ℕ) → n ≡ root_number plen xs → n ≡ content_number plen name xs
-            by-roots g n h = h ∙ sym (number_is ∙ rw (le-ltb largest_torrent size a, b, c, d, g, f) refl)
+            pub by_roots : some wrong_item xs ≡ false → (n : ℕ) → n ≡ root_number plen xs → n ≡ content_number plen name xs
+            by_roots g n h = h ∙ sym (number_is ∙ rw (le-ltb largest_torrent size a, b, c, d, g, f) refl)
 
 -- ---- 26 to 28
 
 module _ (plen : ℕ) (xs : List Item) where
-  pub has-lengths : lengths_clash xs ≡ true → two_lengths ≡ root_number plen xs
-  has-lengths h = rw h refl
+  pub has_lengths : lengths_clash xs ≡ true → two_lengths ≡ root_number plen xs
+  has_lengths h = rw h refl
 
   module _ (a : lengths_clash xs ≡ false) where
-    pub has-misfit : some (misfit plen) xs ≡ true → layers_amiss ≡ root_number plen xs
-    has-misfit h = rw (a, h) refl
+    pub has_misfit : some (misfit plen) xs ≡ true → layers_amiss ≡ root_number plen xs
+    has_misfit h = rw (a, h) refl
 
     module _ (b : some (misfit plen) xs ≡ false) where
-      pub layers-differ : some (gives_other plen) xs || two_layers xs ≡ true → layer_differs ≡ root_number plen xs
-      layers-differ h = rw (a, b, h) refl
+      pub layers_differ : some (gives_other plen) xs || two_layers xs ≡ true → layer_differs ≡ root_number plen xs
+      layers_differ h = rw (a, b, h) refl
 
-      pub nothing-wrong : some (gives_other plen) xs || two_layers xs ≡ false → 0 ≡ root_number plen xs
-      nothing-wrong h = rw (a, b, h) refl
+      pub nothing_wrong : some (gives_other plen) xs || two_layers xs ≡ false → 0 ≡ root_number plen xs
+      nothing_wrong h = rw (a, b, h) refl

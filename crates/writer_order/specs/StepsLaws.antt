@@ -5,7 +5,7 @@ use Rattle.std.proofs.Math.Path.{refl}
 use Rattle.std.proofs.Common.{sym, ap, ap₂, ◌∙◌, arith, drop_of_length-le, length-drop}
 use Rattle.std.proofs.lemmas.Bool.{false≢true}
 use Rattle.octets.specs.Octets.{number_at}
-use Rattle.octets.specs.OctetsLaws.{drop-step}
+use Rattle.octets.specs.OctetsLaws.{drop_step}
 use Rattle.writer_meaning.specs.Content.{Item}
 use Rattle.writer_lists.specs.Lists.{item_at}
 use Rattle.writer_order.specs.Order.{InForm}
@@ -19,33 +19,33 @@ first_two test x y l = refl
 
 module _ {A : Type 0} (test : A → A → Bool) (f : ℕ → A) (at : List ℕ) (i : ℕ) where
   -- fewer than two are left
-  pub neighbours-end : length at ≤ i + 1 → neighbours test (map f (drop i at)) ≡ false
-  neighbours-end h = few (drop i at) (length-drop i at ∙ refl)
+  pub neighbours_end : length at ≤ i + 1 → neighbours test (map f (drop i at)) ≡ false
+  neighbours_end h = few (drop i at) (length-drop i at ∙ refl)
     where
       few : (l : List ℕ) → length l ≡ length at - i → neighbours test (map f l) ≡ false
       few [] e = unfold neighbours in refl
       few (p ∷ []) e = unfold neighbours followed in refl
       few (p ∷ q ∷ l) e = absurd (omega arith)
 
-  neighbours-step : i + 1 < length at
+  neighbours_step : i + 1 < length at
       → neighbours test (map f (drop i at)) ≡ test (f (get_or at i 0)) (f (get_or at (i + 1) 0)) || neighbours test (map f (drop (i + 1) at))
-  neighbours-step h =
+  neighbours_step h =
       ap (λ (l : List ℕ). neighbours test (map f l))
-      (drop-step at i (omega arith) ∙ ap (λ (l : List ℕ). get_or at i 0 ∷ l) (drop-step at (i + 1) h))
+      (drop_step at i (omega arith) ∙ ap (λ (l : List ℕ). get_or at i 0 ∷ l) (drop_step at (i + 1) h))
       ∙ first_two test (f (get_or at i 0)) (f (get_or at (i + 1) 0)) (map f (drop (i + 1 + 1) at))
-      ∙ ap (λ (l : List ℕ). test (f (get_or at i 0)) (f (get_or at (i + 1) 0)) || neighbours test (map f l)) (sym (drop-step at (i + 1) h))
+      ∙ ap (λ (l : List ℕ). test (f (get_or at i 0)) (f (get_or at (i + 1) 0)) || neighbours test (map f l)) (sym (drop_step at (i + 1) h))
 
   -- two that pass, or do not
   module _ (h : i + 1 < length at) (p q : ℕ) (ep : p ≡ get_or at i 0) (eq : q ≡ get_or at (i + 1) 0)
       (whole : neighbours test (map f at) ≡ neighbours test (map f (drop i at))) where
-    pub neighbours-stop : test (f p) (f q) ≡ true → neighbours test (map f at) ≡ true
-    neighbours-stop e =
-        whole ∙ neighbours-step h
+    pub neighbours_stop : test (f p) (f q) ≡ true → neighbours test (map f at) ≡ true
+    neighbours_stop e =
+        whole ∙ neighbours_step h
         ∙ ap (λ (t : Bool). t || neighbours test (map f (drop (i + 1) at))) (sym (ap₂ (λ (x y : ℕ). test (f x) (f y)) ep eq) ∙ e)
 
-    pub neighbours-on : test (f p) (f q) ≡ false → neighbours test (map f at) ≡ neighbours test (map f (drop (i + 1) at))
-    neighbours-on e =
-        whole ∙ neighbours-step h
+    pub neighbours_on : test (f p) (f q) ≡ false → neighbours test (map f at) ≡ neighbours test (map f (drop (i + 1) at))
+    neighbours_on e =
+        whole ∙ neighbours_step h
         ∙ ap (λ (t : Bool). t || neighbours test (map f (drop (i + 1) at))) (sym (ap₂ (λ (x y : ℕ). test (f x) (f y)) ep eq) ∙ e)
 
 -- ---- runs
@@ -56,39 +56,39 @@ runs_left layers plen seen x ys =
     cond seen (run_from (first_wrong layers plen) (λ (u v : Item). not (agree layers u v)) x (full_ones ys))
     (runs (first_wrong layers plen) (λ (u v : Item). not (agree layers u v)) (full_ones ys))
 
-left-none : (layers : Bool) (plen : ℕ) (seen : Bool) (x : Item) → runs_left layers plen seen x [] ≡ false
+left_none : (layers : Bool) (plen : ℕ) (seen : Bool) (x : Item) → runs_left layers plen seen x [] ≡ false
 unfolding runs_left full_ones run_from runs
-left-none layers plen true x = refl
-left-none layers plen false x = refl
+left_none layers plen true x = refl
+left_none layers plen false x = refl
 
-left-empty : (layers : Bool) (plen : ℕ) (seen : Bool) (x y : Item) (ys : List Item) → ltb 0 y.size ≡ false
+left_empty : (layers : Bool) (plen : ℕ) (seen : Bool) (x y : Item) (ys : List Item) → ltb 0 y.size ≡ false
     → runs_left layers plen seen x (y ∷ ys) ≡ runs_left layers plen seen x ys
 unfolding runs_left full_ones
-left-empty layers plen seen x y ys e = rw e refl
+left_empty layers plen seen x y ys e = rw e refl
 
-left-full : (layers : Bool) (plen : ℕ) (seen : Bool) (x y : Item) (ys : List Item) → ltb 0 y.size ≡ true
+left_full : (layers : Bool) (plen : ℕ) (seen : Bool) (x y : Item) (ys : List Item) → ltb 0 y.size ≡ true
     → runs_left layers plen seen x (y ∷ ys) ≡ wrong_next layers plen seen x y || runs_left layers plen true y ys
 unfolding runs_left full_ones run_from runs
-left-full layers plen true x y ys e = rw e refl
-left-full layers plen false x y ys e = rw e refl
+left_full layers plen true x y ys e = rw e refl
+left_full layers plen false x y ys e = rw e refl
 
 pub record Clashing (list text : List ℕ) (plen : ℕ) (layers : Bool) (at : List ℕ) (seen : Bool) (last i : ℕ) : Type 0 where
   pub within : i ≤ length at
-  pub last-there : seen ≡ true → InForm list text last
+  pub last_there : seen ≡ true → InForm list text last
   pub whole : clash layers plen (map (item_at list text) at) ≡ runs_left layers plen seen (item_at list text last)
       (map (item_at list text) (drop i at))
 
 module _ (list text : List ℕ) (plen : ℕ) (layers : Bool) (at : List ℕ) where
-  pub clashing-start : (last : ℕ) → Clashing list text plen layers at false last 0
+  pub clashing_start : (last : ℕ) → Clashing list text plen layers at false last 0
   unfolding clash runs_left
-  clashing-start last = record { within = omega arith; last-there = λ e. absurd (false≢true e); whole = refl }
+  clashing_start last = record { within = omega arith; last_there = λ e. absurd (false≢true e); whole = refl }
 
   module _ (seen : Bool) (last i : ℕ) (c : Clashing list text plen layers at seen last i) where
-    pub clashing-end : length at ≤ i → clash layers plen (map (item_at list text) at) ≡ false
-    clashing-end h =
+    pub clashing_end : length at ≤ i → clash layers plen (map (item_at list text) at) ≡ false
+    clashing_end h =
         c.whole
         ∙ ap (λ (l : List ℕ). runs_left layers plen seen (item_at list text last) (map (item_at list text) l)) (drop_of_length-le at {i = i} h)
-        ∙ left-none layers plen seen (item_at list text last)
+        ∙ left_none layers plen seen (item_at list text last)
 
     module _ (h : i < length at) (p : ℕ) (e : p ≡ get_or at i 0) where
       here : clash layers plen (map (item_at list text) at) ≡ runs_left layers plen seen (item_at list text last)
@@ -96,20 +96,20 @@ module _ (list text : List ℕ) (plen : ℕ) (layers : Bool) (at : List ℕ) whe
       here =
           c.whole
           ∙ ap (λ (l : List ℕ). runs_left layers plen seen (item_at list text last) (map (item_at list text) l))
-          (drop-step at i h ∙ ap (λ (k : ℕ). k ∷ drop (i + 1) at) (sym e))
+          (drop_step at i h ∙ ap (λ (k : ℕ). k ∷ drop (i + 1) at) (sym e))
 
       size_is : (t : Bool) → ltb 0 (number_at list p 8) ≡ t → ltb 0 (item_at list text p).size ≡ t
       unfolding item_at
       size_is t q = q
 
-      pub clashing-empty : ltb 0 (number_at list p 8) ≡ false → Clashing list text plen layers at seen last (i + 1)
-      clashing-empty q =
+      pub clashing_empty : ltb 0 (number_at list p 8) ≡ false → Clashing list text plen layers at seen last (i + 1)
+      clashing_empty q =
           record {
             within = omega arith;
-            last-there = c.last-there;
+            last_there = c.last_there;
             whole =
                 here
-                ∙ left-empty layers plen seen (item_at list text last) (item_at list text p) (map (item_at list text) (drop (i + 1) at))
+                ∙ left_empty layers plen seen (item_at list text last) (item_at list text p) (map (item_at list text) (drop (i + 1) at))
                 (size_is false q);
           }
 
@@ -118,20 +118,20 @@ module _ (list text : List ℕ) (plen : ℕ) (layers : Bool) (at : List ℕ) whe
             runs_left layers plen true (item_at list text p) (map (item_at list text) (drop (i + 1) at))
         full =
             here
-            ∙ left-full layers plen seen (item_at list text last) (item_at list text p) (map (item_at list text) (drop (i + 1) at))
+            ∙ left_full layers plen seen (item_at list text last) (item_at list text p) (map (item_at list text) (drop (i + 1) at))
             (size_is true q)
 
-        pub clashing-stop : wrong_next layers plen seen (item_at list text last) (item_at list text p) ≡ true
+        pub clashing_stop : wrong_next layers plen seen (item_at list text last) (item_at list text p) ≡ true
             → clash layers plen (map (item_at list text) at) ≡ true
-        clashing-stop w =
+        clashing_stop w =
             full ∙ ap (λ (t : Bool). t || runs_left layers plen true (item_at list text p) (map (item_at list text) (drop (i + 1) at))) w
 
-        pub clashing-on : wrong_next layers plen seen (item_at list text last) (item_at list text p) ≡ false → InForm list text p
+        pub clashing_on : wrong_next layers plen seen (item_at list text last) (item_at list text p) ≡ false → InForm list text p
             → Clashing list text plen layers at true p (i + 1)
-        clashing-on w f =
+        clashing_on w f =
             record {
               within = omega arith;
-              last-there = λ _. f;
+              last_there = λ _. f;
               whole =
                   full
                   ∙ ap (λ (t : Bool). t || runs_left layers plen true (item_at list text p) (map (item_at list text) (drop (i + 1) at))) w;

@@ -5,16 +5,16 @@ use Rattle.std.proofs.Math.Path.{refl}
 use Rattle.std.proofs.Common.{sym, ap, ap₂, ◌∙◌, subst, append_assoc, arith, add-one, length-append, drop_of_length-le, drop-cons}
 use Rattle.std.proofs.Math.Bool.{and-eq-true_iff}
 use Rattle.octets.specs.Octets.{cut, same, number_at}
-use Rattle.octets.specs.OctetsLaws.{same_true, cut-length}
+use Rattle.octets.specs.OctetsLaws.{same_true, cut_length}
 use Rattle.bencode.specs.Grammar.{letter_e, encode_string, string, Entries, no_entries, entry, encode_entries, none, after}
 use Rattle.writer_meaning.specs.Content.{Item, Layer, with_layer, layers_given, layer_put, layers_of_all}
 use Rattle.writer_lists.specs.Lists.{record_size, part_fits, path_at, elements_fit, form_at, item_at}
-use Rattle.writer_lists.specs.ListsLaws.{slice-end}
+use Rattle.writer_lists.specs.ListsLaws.{slice_end}
 use Rattle.writer_order.specs.Order.{InForm, AllInForm}
-use Rattle.writer_order.specs.OrderLaws.{placed-index}
-use Rattle.writer_order.specs.CompareLaws.{root-slice}
+use Rattle.writer_order.specs.OrderLaws.{placed_index}
+use Rattle.writer_order.specs.CompareLaws.{root_slice}
 use Rattle.writer_output.specs.Put.{Put}
-use Rattle.writer_output.specs.PutLaws.{put-none, put-append, Going, going_start, going_more, going-last, going-room}
+use Rattle.writer_output.specs.PutLaws.{put_none, put_append, Going, going_start, going_more, going_last, going_room}
 use Rattle.writer_output.specs.Layers.{repeats, layer_entry, layers_bytes, layer_of, root_seen}
 
 -- ---- the encoding
@@ -35,62 +35,62 @@ put_first l (entry k v es) = by_key (same l.0 k) refl
     by_key true e = rw (sym (same_true l.0 k e)) refl
     by_key false e = refl
 
-after-root : (j : List ℕ) (ls : List Layer) → layers_bytes (after j) ls ≡ encode_entries (without j (layers_of_all ls))
+after_root : (j : List ℕ) (ls : List Layer) → layers_bytes (after j) ls ≡ encode_entries (without j (layers_of_all ls))
 unfolding layers_bytes layers_of_all encode_entries
-after-root j [] = refl
-after-root j (l ∷ ls) = rw (put_first l (layers_of_all ls), after-root l.0 ls) (by_key (same j l.0))
+after_root j [] = refl
+after_root j (l ∷ ls) = rw (put_first l (layers_of_all ls), after_root l.0 ls) (by_key (same j l.0))
   where
     by_key : (t : Bool) → cond t [] (encode_string l.0 ++ encode_string l.1) ++ encode_entries (without l.0 (layers_of_all ls))
         ≡ encode_entries (cond t (without l.0 (layers_of_all ls)) (entry l.0 (string l.1) (without l.0 (layers_of_all ls))))
     by_key true = refl
     by_key false = append_assoc (encode_string l.0) (encode_string l.1) (encode_entries (without l.0 (layers_of_all ls)))
 
-pub layers-encoded : (ls : List Layer) → layers_bytes none ls ≡ encode_entries (layers_of_all ls)
+pub layers_encoded : (ls : List Layer) → layers_bytes none ls ≡ encode_entries (layers_of_all ls)
 unfolding layers_bytes layers_of_all encode_entries
-layers-encoded [] = refl
-layers-encoded (l ∷ ls) =
-    rw (put_first l (layers_of_all ls), after-root l.0 ls)
+layers_encoded [] = refl
+layers_encoded (l ∷ ls) =
+    rw (put_first l (layers_of_all ls), after_root l.0 ls)
     (append_assoc (encode_string l.0) (encode_string l.1) (encode_entries (without l.0 (layers_of_all ls))))
 
 -- ---- the layer of a record
 
-three-true : (a b c : Bool) → a && (b && c) ≡ true → b ≡ true
-three-true a b c e = ((and-eq-true_iff b c).0 ((and-eq-true_iff a (b && c)).0 e).1).0
+three_true : (a b c : Bool) → a && (b && c) ≡ true → b ≡ true
+three_true a b c e = ((and-eq-true_iff b c).0 ((and-eq-true_iff a (b && c)).0 e).1).0
 
 module _ (list text : List ℕ) (place a b : ℕ) (f : InForm list text place) (ea : a ≡ number_at list (place + 40) 4)
     (eb : b ≡ number_at list (place + 40 + 4) 4) where
-  layer-right : part_fits list text (place + 40) ≡ true
-  layer-right =
-      three-true (ltb (number_at list place 8) (2 ^ 63)) (part_fits list text (place + 40))
+  layer_right : part_fits list text (place + 40) ≡ true
+  layer_right =
+      three_true (ltb (number_at list place 8) (2 ^ 63)) (part_fits list text (place + 40))
       (part_fits list text (place + 48) && elements_fit (length (path_at list text place)) (path_at list text place))
       (unfold form_at in f.1)
 
-  pub layer-end : a + b ≤ length text
-  layer-end = slice-end list text (place + 40) a b layer-right ea eb
+  pub layer_end : a + b ≤ length text
+  layer_end = slice_end list text (place + 40) a b layer_right ea eb
 
-  layer-cut : cut text a b ≡ (item_at list text place).layer
-  layer-cut = ap₂ (λ (x y : ℕ). cut text x y) ea eb ∙ (unfold item_at in refl)
+  layer_cut : cut text a b ≡ (item_at list text place).layer
+  layer_cut = ap₂ (λ (x y : ℕ). cut text x y) ea eb ∙ (unfold item_at in refl)
 
-  pub layer-slice : take (a + b - a) (drop a text) ≡ (item_at list text place).layer
-  layer-slice = let z : a + b - a ≡ b = omega arith in rw z (sliced layer-cut)
+  pub layer_slice : take (a + b - a) (drop a text) ≡ (item_at list text place).layer
+  layer_slice = let z : a + b - a ≡ b = omega arith in rw z (sliced layer_cut)
     where
       sliced : cut text a b ≡ (item_at list text place).layer → take b (drop a text) ≡ (item_at list text place).layer
       sliced x = unfold cut in x
 
-  pub layer-length : length (item_at list text place).layer ≡ b
-  layer-length = ap (λ (l : List ℕ). length l) (sym layer-cut) ∙ cut-length text a b layer-end
+  pub layer_length : length (item_at list text place).layer ≡ b
+  layer_length = ap (λ (l : List ℕ). length l) (sym layer_cut) ∙ cut_length text a b layer_end
 
 -- ---- one entry
 
-cut-slice : (list : List ℕ) (place : ℕ) → take (place + 40 - (place + 8)) (drop (place + 8) list) ≡ cut list (place + 8) 32
+cut_slice : (list : List ℕ) (place : ℕ) → take (place + 40 - (place + 8)) (drop (place + 8) list) ≡ cut list (place + 8) 32
 unfolding cut
-cut-slice list place = let z : place + 40 - (place + 8) ≡ 32 = omega arith in rw z refl
+cut_slice list place = let z : place + 40 - (place + 8) ≡ 32 = omega arith in rw z refl
 
 -- a root was seen: the two roots are compared
-pub root-compared : (list : List ℕ) (place last : ℕ) (seen t : Bool) → seen ≡ true
+pub root_compared : (list : List ℕ) (place last : ℕ) (seen t : Bool) → seen ≡ true
     → t ≡ same (take (last + 40 - (last + 8)) (drop (last + 8) list)) (take (place + 40 - (place + 8)) (drop (place + 8) list))
     → t ≡ repeats (root_seen list seen last) (cut list (place + 8) 32)
-root-compared list place last seen t s e = e ∙ ap₂ same (cut-slice list last) (cut-slice list place) ∙ sym (rw s refl)
+root_compared list place last seen t s e = e ∙ ap₂ same (cut_slice list last) (cut_slice list place) ∙ sym (rw s refl)
 
 module _ (list text : List ℕ) (place last : ℕ) (seen : Bool) where
   abbrev x : Item
@@ -100,9 +100,9 @@ module _ (list text : List ℕ) (place last : ℕ) (seen : Bool) where
   root_is = unfold item_at in refl
 
   -- the root repeats: nothing is written
-  pub put-repeated : (t : Bool) → t ≡ repeats (root_seen list seen last) (cut list (place + 8) 32) → t ≡ true → (s : List ℕ) (at : ℕ)
+  pub put_repeated : (t : Bool) → t ≡ repeats (root_seen list seen last) (cut list (place + 8) 32) → t ≡ true → (s : List ℕ) (at : ℕ)
       → Put s at (layer_entry (root_seen list seen last) (layer_of (item_at list text place))) s at
-  put-repeated t e f s at = rw (sym (ap (repeats (root_seen list seen last)) root_is) ∙ sym e ∙ f) (put-none s at)
+  put_repeated t e f s at = rw (sym (ap (repeats (root_seen list seen last)) root_is) ∙ sym e ∙ f) (put_none s at)
 
   -- it does not: both strings are
   entry_new : (t : Bool) → t ≡ repeats (root_seen list seen last) (cut list (place + 8) 32) → t ≡ false
@@ -117,17 +117,17 @@ module _ (list text : List ℕ) (place last : ℕ) (seen : Bool) where
       ap (λ (l : List ℕ). length l) (entry_new t e f)
       ∙ length-append (encode_string (item_at list text place).root) (encode_string (item_at list text place).layer)
       ∙ ap (λ (l : List ℕ). length (encode_string l) + length (encode_string (item_at list text place).layer))
-      (sym (root-slice list text place))
+      (sym (root_slice list text place))
 
-  pub put-entry : (t : Bool) → t ≡ repeats (root_seen list seen last) (cut list (place + 8) 32) → t ≡ false → (layer : List ℕ)
+  pub put_entry : (t : Bool) → t ≡ repeats (root_seen list seen last) (cut list (place + 8) 32) → t ≡ false → (layer : List ℕ)
       → layer ≡ (item_at list text place).layer
       → (s u v : List ℕ) (at m r : ℕ) → Put s at (encode_string (take (place + 40 - (place + 8)) (drop (place + 8) list))) u m
       → Put u m (encode_string layer) v r → length u ≡ length s
       → Put s at (layer_entry (root_seen list seen last) (layer_of (item_at list text place))) v r
-  put-entry t e f layer g s u v at m r p q k =
+  put_entry t e f layer g s u v at m r p q k =
       rw (entry_new t e f)
-      (put-append s u v at m r (encode_string (item_at list text place).root) (encode_string (item_at list text place).layer)
-      (subst (λ (l : List ℕ). Put s at (encode_string l) u m) (root-slice list text place) p)
+      (put_append s u v at m r (encode_string (item_at list text place).root) (encode_string (item_at list text place).layer)
+      (subst (λ (l : List ℕ). Put s at (encode_string l) u m) (root_slice list text place) p)
       (subst (λ (l : List ℕ). Put u m (encode_string l) v r) g q)
       k)
 
@@ -149,46 +149,46 @@ listing_start s at list text order =
           (layers_bytes none (layers_given (map (item_at list text) order)));
     }
 
-pub given-none : (x : Item) (xs : List Item) → length x.layer ≡ 0 → layers_given (x ∷ xs) ≡ layers_given xs
+pub given_none : (x : Item) (xs : List Item) → length x.layer ≡ 0 → layers_given (x ∷ xs) ≡ layers_given xs
 unfolding layers_given
-given-none x xs e = by-layer x.layer e
+given_none x xs e = by_layer x.layer e
   where
-    by-layer : (l : List ℕ) → length l ≡ 0 → with_layer x l (layers_given xs) ≡ layers_given xs
-    by-layer [] q = refl
-    by-layer (b ∷ bs) q = absurd (omega arith)
+    by_layer : (l : List ℕ) → length l ≡ 0 → with_layer x l (layers_given xs) ≡ layers_given xs
+    by_layer [] q = refl
+    by_layer (b ∷ bs) q = absurd (omega arith)
 
-pub given-some : (x : Item) (xs : List Item) → (length x.layer ≡ 0 → ⊥) → layers_given (x ∷ xs) ≡ layer_of x ∷ layers_given xs
+pub given_some : (x : Item) (xs : List Item) → (length x.layer ≡ 0 → ⊥) → layers_given (x ∷ xs) ≡ layer_of x ∷ layers_given xs
 unfolding layers_given
-given-some x xs e = by-layer x.layer refl e
+given_some x xs e = by_layer x.layer refl e
   where
-    by-layer : (l : List ℕ) → x.layer ≡ l → (length l ≡ 0 → ⊥) → with_layer x l (layers_given xs) ≡ layer_of x ∷ layers_given xs
-    by-layer [] p q = absurd (q refl)
-    by-layer (b ∷ bs) p q = ap (λ (l : List ℕ). (x.root, l) ∷ layers_given xs) (sym p)
+    by_layer : (l : List ℕ) → x.layer ≡ l → (length l ≡ 0 → ⊥) → with_layer x l (layers_given xs) ≡ layer_of x ∷ layers_given xs
+    by_layer [] p q = absurd (q refl)
+    by_layer (b ∷ bs) p q = ap (λ (l : List ℕ). (x.root, l) ∷ layers_given xs) (sym p)
 
 -- the next record
 module _ {s : List ℕ} {at : ℕ} {list text order t : List ℕ} {now : ℕ} {seen : Bool} {last i : ℕ}
     (g : Listing s at list text order t now seen last i) (h : i < length order) (f : AllInForm list text order) (place : ℕ)
     (e : place ≡ get_or order i 0)
     (b : ℕ) (eb : b ≡ number_at list (place + 40 + 4) 4) where
-  has-form : InForm list text place
-  has-form = placed-index list text order i place f h e
+  has_form : InForm list text place
+  has_form = placed_index list text order i place f h e
 
   rest : drop i order ≡ place ∷ drop (i + 1) order
   rest = drop-cons order i 0 h ∙ ap₂ (λ (x n : ℕ). x ∷ drop n order) (sym e) (sym (add-one i))
 
   size_is : length (item_at list text place).layer ≡ b
-  size_is = layer-length list text place (number_at list (place + 40) 4) b has-form refl eb
+  size_is = layer_length list text place (number_at list (place + 40) 4) b has_form refl eb
 
   -- it has no layer
-  pub listing-skip : b ≡ 0 → Listing s at list text order t now seen last (i + 1)
-  listing-skip z =
+  pub listing_skip : b ≡ 0 → Listing s at list text order t now seen last (i + 1)
+  listing_skip z =
       record {
         counted = omega arith;
         inside = g.inside;
         going =
             subst (λ (ls : List Layer). Going s at (layers_bytes none (layers_given (map (item_at list text) order)))
             (layers_bytes (root_seen list seen last) ls) t now)
-            (ap (λ (l : List ℕ). layers_given (map (item_at list text) l)) rest ∙ given-none (item_at list text place)
+            (ap (λ (l : List ℕ). layers_given (map (item_at list text) l)) rest ∙ given_none (item_at list text place)
             (map (item_at list text) (drop (i + 1) order)) (size_is ∙ z))
             g.going;
       }
@@ -198,37 +198,37 @@ module _ {s : List ℕ} {at : ℕ} {list text order t : List ℕ} {now : ℕ} {s
     abbrev later : List ℕ
     later = layers_bytes (after (item_at list text place).root) (layers_given (map (item_at list text) (drop (i + 1) order)))
 
-    next-layer : Going s at (layers_bytes none (layers_given (map (item_at list text) order)))
+    next_layer : Going s at (layers_bytes none (layers_given (map (item_at list text) order)))
         (layer_entry (root_seen list seen last) (layer_of (item_at list text place)) ++ later) t now
-    next-layer =
+    next_layer =
         subst (λ (l : List ℕ). Going s at (layers_bytes none (layers_given (map (item_at list text) order))) l t now)
         (ap (layers_bytes (root_seen list seen last))
-        (ap (λ (l : List ℕ). layers_given (map (item_at list text) l)) rest ∙ given-some (item_at list text place)
+        (ap (λ (l : List ℕ). layers_given (map (item_at list text) l)) rest ∙ given_some (item_at list text place)
         (map (item_at list text) (drop (i + 1) order)) (λ q. z (sym size_is ∙ q)))
         ∙ (unfold layers_bytes in refl))
         g.going
 
-    pub layer-room : (n : ℕ) → at + length (layers_bytes none (layers_given (map (item_at list text) order))) < n
+    pub layer_room : (n : ℕ) → at + length (layers_bytes none (layers_given (map (item_at list text) order))) < n
         → now + length (layer_entry (root_seen list seen last) (layer_of (item_at list text place))) < n
-    layer-room n l =
-        going-room s at (layers_bytes none (layers_given (map (item_at list text) order)))
-        (layer_entry (root_seen list seen last) (layer_of (item_at list text place))) later t now n next-layer l
+    layer_room n l =
+        going_room s at (layers_bytes none (layers_given (map (item_at list text) order)))
+        (layer_entry (root_seen list seen last) (layer_of (item_at list text place))) later t now n next_layer l
 
-    pub last-inside : last + record_size ≤ length list
-    last-inside = let w = has-form.0 in let v = g.inside in omega arith
+    pub last_inside : last + record_size ≤ length list
+    last_inside = let w = has_form.0 in let v = g.inside in omega arith
 
-    pub listing-more : (u : List ℕ) (r : ℕ) → Put t now (layer_entry (root_seen list seen last) (layer_of (item_at list text place))) u r
+    pub listing_more : (u : List ℕ) (r : ℕ) → Put t now (layer_entry (root_seen list seen last) (layer_of (item_at list text place))) u r
         → length u ≡ length t → Listing s at list text order u r true place (i + 1)
-    listing-more u r p k =
+    listing_more u r p k =
         record {
           counted = omega arith;
-          inside = let w = has-form.0 in omega arith;
+          inside = let w = has_form.0 in omega arith;
           going =
               subst (λ (k : List ℕ). Going s at (layers_bytes none (layers_given (map (item_at list text) order)))
               (layers_bytes (after k) (layers_given (map (item_at list text) (drop (i + 1) order)))) u r)
               (sym (root_is list text place last seen))
               (going_more s at (layers_bytes none (layers_given (map (item_at list text) order)))
-              (layer_entry (root_seen list seen last) (layer_of (item_at list text place))) later t u now r next-layer p k);
+              (layer_entry (root_seen list seen last) (layer_of (item_at list text place))) later t u now r next_layer p k);
         }
 
 -- all records are passed
@@ -241,9 +241,9 @@ module _ {s : List ℕ} {at : ℕ} {list text order t : List ℕ} {now : ℕ} {s
       (drop_of_length-le order {i = i} h) ∙ (unfold layers_given layers_bytes in refl))
       g.going
 
-  pub end-room : (n : ℕ) → at + length (layers_bytes none (layers_given (map (item_at list text) order))) < n → now + 1 < n
-  end-room n l = going-room s at (layers_bytes none (layers_given (map (item_at list text) order))) (letter_e ∷ []) [] t now n last_byte l
+  pub end_room : (n : ℕ) → at + length (layers_bytes none (layers_given (map (item_at list text) order))) < n → now + 1 < n
+  end_room n l = going_room s at (layers_bytes none (layers_given (map (item_at list text) order))) (letter_e ∷ []) [] t now n last_byte l
 
-  pub listing-end : (u : List ℕ) (r : ℕ) → Put t now (letter_e ∷ []) u r
+  pub listing_end : (u : List ℕ) (r : ℕ) → Put t now (letter_e ∷ []) u r
       → Put s at (layers_bytes none (layers_given (map (item_at list text) order))) u r
-  listing-end u r p = going-last s at (layers_bytes none (layers_given (map (item_at list text) order))) (letter_e ∷ []) t u now r last_byte p
+  listing_end u r p = going_last s at (layers_bytes none (layers_given (map (item_at list text) order))) (letter_e ∷ []) t u now r last_byte p

@@ -9,15 +9,15 @@ use native.Mathlib.Omega.{arith}
 use Rattle.std.proofs.Math.ListN.{length, take, drop}
 use Rattle.std.proofs.lemmas.List.{length-replicate}
 use Rattle.octets.specs.Octets.{cut, same, number_at}
-use Rattle.octets.specs.OctetsLaws.{cut-length, same_true}
+use Rattle.octets.specs.OctetsLaws.{cut_length, same_true}
 use Rattle.bencode.specs.Grammar.{letter_d, letter_e, encode_string}
 use Rattle.writer_meaning.specs.Written.{shared, opened, closed}
 use Rattle.writer_lists.specs.Lists.{element_end, elements_fit, elements_in}
-use Rattle.writer_lists.specs.ListsLaws.{fit-end}
+use Rattle.writer_lists.specs.ListsLaws.{fit_end}
 use Rattle.writer_lists.specs.Walk.{PathLeft}
-use Rattle.writer_lists.specs.PathsLaws.{in_end, element-there, path-more, path-elements}
+use Rattle.writer_lists.specs.PathsLaws.{in_end, element_there, path_more, path_elements}
 use Rattle.writer_output.specs.Put.{Put}
-use Rattle.writer_output.specs.PutLaws.{Going, going_more, going_end, going-room}
+use Rattle.writer_output.specs.PutLaws.{Going, going_more, going_end, going_room}
 use Rattle.writer_output.specs.Path.{path_in, left_in, Standing, SharedTo}
 
 -- ---- as many steps as there are bytes are enough
@@ -25,19 +25,19 @@ use Rattle.writer_output.specs.Path.{path_in, left_in, Standing, SharedTo}
 enough : (steps k : ℕ) (s : List ℕ) → elements_fit steps s ≡ true → length s ≤ k
     → (elements_fit k s ≡ true) × (elements_in k s ≡ elements_in steps s)
 unfolding elements_fit elements_in
-enough zero k s h l = let e = eqb-true (length s) 0 h in (fit-end k s e, in_end k s e)
-enough (suc n) zero s h l = let e : length s ≡ 0 = omega arith in (fit-end zero s e, sym (in_end (suc n) s e))
-enough (suc n) (suc k) s h l = by-empty (eqb (length s) 0) refl h (λ f g. enough n k (drop (element_end s) s) f g)
+enough zero k s h l = let e = eqb-true (length s) 0 h in (fit_end k s e, in_end k s e)
+enough (suc n) zero s h l = let e : length s ≡ 0 = omega arith in (fit_end zero s e, sym (in_end (suc n) s e))
+enough (suc n) (suc k) s h l = by_empty (eqb (length s) 0) refl h (λ f g. enough n k (drop (element_end s) s) f g)
   where
-    by-empty : (t : Bool) → eqb (length s) 0 ≡ t
+    by_empty : (t : Bool) → eqb (length s) 0 ≡ t
         → cond t true (leb 4 (length s) && (leb (element_end s) (length s) && elements_fit n (drop (element_end s) s))) ≡ true
         → (elements_fit n (drop (element_end s) s) ≡ true → length (drop (element_end s) s) ≤ k →
         (elements_fit k (drop (element_end s) s) ≡ true) × (elements_in k (drop (element_end s) s) ≡ elements_in n (drop (element_end s) s)))
         → (cond t true (leb 4 (length s) && (leb (element_end s) (length s) && elements_fit k (drop (element_end s) s))) ≡ true)
         × (cond t [] (cut s 4 (number_at s 0 4) ∷ elements_in k (drop (element_end s) s)) ≡ cond t []
         (cut s 4 (number_at s 0 4) ∷ elements_in n (drop (element_end s) s)))
-    by-empty true e f more = (refl, refl)
-    by-empty false e f more =
+    by_empty true e f more = (refl, refl)
+    by_empty false e f more =
         let a = (and-eq-true_iff (leb 4 (length s)) (leb (element_end s) (length s) && elements_fit n (drop (element_end s) s))).0 f in
         let b = (and-eq-true_iff (leb (element_end s) (length s)) (elements_fit n (drop (element_end s) s))).0 a.1 in
         let z = leb-true 4 (length s) a.0 in
@@ -46,47 +46,47 @@ enough (suc n) (suc k) s h l = by-empty (eqb (length s) 0) refl h (λ f g. enoug
 
 -- ---- one path
 
-pub standing-start : (s : List ℕ) → elements_fit (length s) s ≡ true → Standing s 0
-standing-start s h = record { within = omega arith; fits = h }
+pub standing_start : (s : List ℕ) → elements_fit (length s) s ≡ true → Standing s 0
+standing_start s h = record { within = omega arith; fits = h }
 
 -- nothing is left at the end
-pub left-none : (s : List ℕ) (at : ℕ) → length s ≤ at → left_in s at ≡ []
-left-none s at h = in_end (length (drop at s)) (drop at s) (length-drop at s ∙ omega arith)
+pub left_none : (s : List ℕ) (at : ℕ) → length s ≤ at → left_in s at ≡ []
+left_none s at h = in_end (length (drop at s)) (drop at s) (length-drop at s ∙ omega arith)
 
 -- the element at a position, and the position behind it
 module _ (s : List ℕ) (at : ℕ) (w : Standing s at) (h : at < length s) where
   left : PathLeft s at
   left = record { within = w.within; steps = length (drop at s); fits = w.fits }
 
-  pub size-there : at + 4 ≤ length s
-  size-there = (element-there s at left h).0
+  pub size_there : at + 4 ≤ length s
+  size_there = (element_there s at left h).0
 
-  pub element-end : (m : ℕ) → m ≡ number_at s at 4 → at + 4 + m ≤ length s
-  element-end m e = let g = (element-there s at left h).1 in omega arith
+  pub element_end_lem : (m : ℕ) → m ≡ number_at s at 4 → at + 4 + m ≤ length s
+  element_end_lem m e = let g = (element_there s at left h).1 in omega arith
 
   more : (elements_fit (length (drop (at + 4 + number_at s at 4) s)) (drop (at + 4 + number_at s at 4) s) ≡ true)
-      × (left_in s (at + 4 + number_at s at 4) ≡ elements_in (path-more s at left h).steps (drop (at + 4 + number_at s at 4) s))
+      × (left_in s (at + 4 + number_at s at 4) ≡ elements_in (path_more s at left h).steps (drop (at + 4 + number_at s at 4) s))
   more =
-      enough (path-more s at left h).steps (length (drop (at + 4 + number_at s at 4) s)) (drop (at + 4 + number_at s at 4) s)
-      (path-more s at left h).fits (omega arith)
+      enough (path_more s at left h).steps (length (drop (at + 4 + number_at s at 4) s)) (drop (at + 4 + number_at s at 4) s)
+      (path_more s at left h).fits (omega arith)
 
-  pub standing-more : (m : ℕ) → m ≡ number_at s at 4 → Standing s (at + 4 + m)
-  standing-more m e = rw e (record { within = element-end (number_at s at 4) refl; fits = more.0 })
+  pub standing_more : (m : ℕ) → m ≡ number_at s at 4 → Standing s (at + 4 + m)
+  standing_more m e = rw e (record { within = element_end_lem (number_at s at 4) refl; fits = more.0 })
 
   -- the element as a slice
-  pub left-more : (m : ℕ) → m ≡ number_at s at 4 → left_in s at ≡ take (at + 4 + m - (at + 4)) (drop (at + 4) s) ∷ left_in s (at + 4 + m)
+  pub left_more : (m : ℕ) → m ≡ number_at s at 4 → left_in s at ≡ take (at + 4 + m - (at + 4)) (drop (at + 4) s) ∷ left_in s (at + 4 + m)
   unfolding left
-  left-more m e =
+  left_more m e =
       let z : at + 4 + m - (at + 4) ≡ number_at s at 4 = omega arith in
-      rw (z, e) (path-elements s at left h ∙ ap (λ (l : List (List ℕ)). take (number_at s at 4) (drop (at + 4) s) ∷ l) (sym more.1))
+      rw (z, e) (path_elements s at left h ∙ ap (λ (l : List (List ℕ)). take (number_at s at 4) (drop (at + 4) s) ∷ l) (sym more.1))
 
-  pub element-length : (m : ℕ) → m ≡ number_at s at 4 → length (take (at + 4 + m - (at + 4)) (drop (at + 4) s)) ≡ m
-  element-length m e =
+  pub element_length : (m : ℕ) → m ≡ number_at s at 4 → length (take (at + 4 + m - (at + 4)) (drop (at + 4) s)) ≡ m
+  element_length m e =
       let z : at + 4 + m - (at + 4) ≡ m = omega arith in
-      rw z (slice-length (cut-length s (at + 4) m (element-end m e)))
+      rw z (slice_length (cut_length s (at + 4) m (element_end_lem m e)))
     where
-      slice-length : length (cut s (at + 4) m) ≡ m → length (take m (drop (at + 4) s)) ≡ m
-      slice-length x = unfold cut in x
+      slice_length : length (cut s (at + 4) m) ≡ m → length (take m (drop (at + 4) s)) ≡ m
+      slice_length x = unfold cut in x
 
 -- ---- two paths side by side: k elements are passed, the same in both
 
@@ -94,35 +94,35 @@ pub record Along (p q : List ℕ) (at : ℕ) : Type 0 where
   pub first : Standing p at
   pub second : Standing q at
   pub passed : ℕ
-  pub shared-is : shared (path_in p) (path_in q) ≡ passed + shared (left_in p at) (left_in q at)
-  pub length-is : length (path_in p) ≡ passed + length (left_in p at)
+  pub shared_is : shared (path_in p) (path_in q) ≡ passed + shared (left_in p at) (left_in q at)
+  pub length_is : length (path_in p) ≡ passed + length (left_in p at)
   pub left_is : drop passed (path_in q) ≡ left_in q at
 
-pub along-start : (p q : List ℕ) → Standing p 0 → Standing q 0 → Along p q 0
-along-start p q a b = record { first = a; second = b; passed = 0; shared-is = omega arith; length-is = omega arith; left_is = refl }
+pub along_start : (p q : List ℕ) → Standing p 0 → Standing q 0 → Along p q 0
+along_start p q a b = record { first = a; second = b; passed = 0; shared_is = omega arith; length_is = omega arith; left_is = refl }
 
 -- no more is shared
-along-end : (p q : List ℕ) (at : ℕ) → Along p q at → shared (left_in p at) (left_in q at) ≡ 0 → SharedTo p q at
-along-end p q at a z =
-    let s : shared (path_in p) (path_in q) ≡ a.passed = a.shared-is ∙ omega arith in
+along_end : (p q : List ℕ) (at : ℕ) → Along p q at → shared (left_in p at) (left_in q at) ≡ 0 → SharedTo p q at
+along_end p q at a z =
+    let s : shared (path_in p) (path_in q) ≡ a.passed = a.shared_is ∙ omega arith in
     record {
       first = a.first;
       second = a.second;
-      closes = let l = a.length-is in omega arith;
+      closes = let l = a.length_is in omega arith;
       opens = rw s (sym a.left_is);
     }
 
-pub along-first-end : (p q : List ℕ) (at : ℕ) → Along p q at → length p ≤ at → SharedTo p q at
-along-first-end p q at a h =
-    along-end p q at a (ap (λ (l : List (List ℕ)). shared l (left_in q at)) (left-none p at h) ∙ (unfold shared in refl))
+pub along_first_end : (p q : List ℕ) (at : ℕ) → Along p q at → length p ≤ at → SharedTo p q at
+along_first_end p q at a h =
+    along_end p q at a (ap (λ (l : List (List ℕ)). shared l (left_in q at)) (left_none p at h) ∙ (unfold shared in refl))
 
-none-shared : (p : List (List ℕ)) → shared p [] ≡ 0
+none_shared : (p : List (List ℕ)) → shared p [] ≡ 0
 unfolding shared
-none-shared [] = refl
-none-shared (e ∷ p) = refl
+none_shared [] = refl
+none_shared (e ∷ p) = refl
 
-pub along-second-end : (p q : List ℕ) (at : ℕ) → Along p q at → length q ≤ at → SharedTo p q at
-along-second-end p q at a h = along-end p q at a (ap (shared (left_in p at)) (left-none q at h) ∙ none-shared (left_in p at))
+pub along_second_end : (p q : List ℕ) (at : ℕ) → Along p q at → length q ≤ at → SharedTo p q at
+along_second_end p q at a h = along_end p q at a (ap (shared (left_in p at)) (left_none q at h) ∙ none_shared (left_in p at))
 
 -- the elements there, as slices x and y
 module _ (p q : List ℕ) (at m n : ℕ) (a : Along p q at) (g : at < length p) (h : at < length q) (i : m ≡ number_at p at 4)
@@ -133,40 +133,40 @@ module _ (p q : List ℕ) (at m n : ℕ) (a : Along p q at) (g : at < length p) 
   y : List ℕ
   y = take (at + 4 + n - (at + 4)) (drop (at + 4) q)
 
-  shared-there : shared (left_in p at) (left_in q at) ≡ cond (same x y) (suc (shared (left_in p (at + 4 + m)) (left_in q (at + 4 + n)))) 0
+  shared_there : shared (left_in p at) (left_in q at) ≡ cond (same x y) (suc (shared (left_in p (at + 4 + m)) (left_in q (at + 4 + n)))) 0
   unfolding x y shared
-  shared-there = rw (left-more p at a.first g m i, left-more q at a.second h n j) refl
+  shared_there = rw (left_more p at a.first g m i, left_more q at a.second h n j) refl
 
-  pub along-differ : (t : Bool) → t ≡ same (take (at + 4 + m - (at + 4)) (drop (at + 4) p)) (take (at + 4 + n - (at + 4)) (drop (at + 4) q))
+  pub along_differ : (t : Bool) → t ≡ same (take (at + 4 + m - (at + 4)) (drop (at + 4) p)) (take (at + 4 + n - (at + 4)) (drop (at + 4) q))
       → t ≡ false → SharedTo p q at
   unfolding x y
-  along-differ t e f = along-end p q at a (shared-there ∙ rw (sym e ∙ f) refl)
+  along_differ t e f = along_end p q at a (shared_there ∙ rw (sym e ∙ f) refl)
 
-  pub along-same : (t : Bool) → t ≡ same (take (at + 4 + m - (at + 4)) (drop (at + 4) p)) (take (at + 4 + n - (at + 4)) (drop (at + 4) q))
+  pub along_same : (t : Bool) → t ≡ same (take (at + 4 + m - (at + 4)) (drop (at + 4) p)) (take (at + 4 + n - (at + 4)) (drop (at + 4) q))
       → t ≡ true → Along p q (at + 4 + m)
   unfolding x y
-  along-same t e f =
+  along_same t e f =
       record {
-        first = standing-more p at a.first g m i;
-        second = rw one (standing-more q at a.second h n j);
+        first = standing_more p at a.first g m i;
+        second = rw one (standing_more q at a.second h n j);
         passed = a.passed + 1;
-        shared-is = let z = next in a.shared-is ∙ omega arith;
-        length-is = a.length-is ∙ ap (λ (l : List (List ℕ)). a.passed + length l) (left-more p at a.first g m i) ∙ omega arith;
+        shared_is = let z = next in a.shared_is ∙ omega arith;
+        length_is = a.length_is ∙ ap (λ (l : List (List ℕ)). a.passed + length l) (left_more p at a.first g m i) ∙ omega arith;
         left_is =
-            sym (drop-drop 1 a.passed (path_in q)) ∙ ap (λ (l : List (List ℕ)). drop 1 l) (a.left_is ∙ left-more q at a.second h n j)
+            sym (drop-drop 1 a.passed (path_in q)) ∙ ap (λ (l : List (List ℕ)). drop 1 l) (a.left_is ∙ left_more q at a.second h n j)
             ∙ ap (λ (k : ℕ). left_in q (at + 4 + k)) (sym one);
       }
     where
       one : m ≡ n
       one =
-          sym (element-length p at a.first g m i)
+          sym (element_length p at a.first g m i)
           ∙ ap (λ (l : List ℕ). length l) (same_true (take (at + 4 + m - (at + 4)) (drop (at + 4) p))
           (take (at + 4 + n - (at + 4)) (drop (at + 4) q)) (sym e ∙ f))
-          ∙ element-length q at a.second h n j
+          ∙ element_length q at a.second h n j
 
       next : shared (left_in p at) (left_in q at) ≡ suc (shared (left_in p (at + 4 + m)) (left_in q (at + 4 + m)))
       next =
-          shared-there ∙ ap (λ (b : Bool). cond b (suc (shared (left_in p (at + 4 + m)) (left_in q (at + 4 + n)))) 0) (sym e ∙ f)
+          shared_there ∙ ap (λ (b : Bool). cond b (suc (shared (left_in p (at + 4 + m)) (left_in q (at + 4 + n)))) 0) (sym e ∙ f)
           ∙ ap (λ (k : ℕ). suc (shared (left_in p (at + 4 + m)) (left_in q (at + 4 + k)))) (sym one)
 
 -- ---- nodes closed and opened, one for each element
@@ -176,11 +176,11 @@ pub record Walking (bytes : List (List ℕ) → List ℕ) (s : List ℕ) (at : �
   pub standing : Standing path i
   pub going : Going s at (bytes (left_in path from)) (bytes (left_in path i)) t now
 
-pub walking-end : (bytes : List (List ℕ) → List ℕ) (s : List ℕ) (at : ℕ) (path : List ℕ) (from : ℕ) (t : List ℕ) (now i : ℕ) → bytes [] ≡ []
+pub walking_end : (bytes : List (List ℕ) → List ℕ) (s : List ℕ) (at : ℕ) (path : List ℕ) (from : ℕ) (t : List ℕ) (now i : ℕ) → bytes [] ≡ []
     → Walking bytes s at path from t now i → length path ≤ i → Put s at (bytes (left_in path from)) t now
-walking-end bytes s at path from t now i e w h =
+walking_end bytes s at path from t now i e w h =
     going_end s at (bytes (left_in path from)) t now
-    (subst (λ (l : List ℕ). Going s at (bytes (left_in path from)) l t now) (ap bytes (left-none path i h) ∙ e) w.going)
+    (subst (λ (l : List ℕ). Going s at (bytes (left_in path from)) l t now) (ap bytes (left_none path i h) ∙ e) w.going)
 
 -- the bytes that close the nodes of a path
 abbrev pub closing : List (List ℕ) → List ℕ
@@ -188,22 +188,22 @@ closing p = closed (length p)
 
 module _ (s : List ℕ) (at : ℕ) (path : List ℕ) (from : ℕ) (t : List ℕ) (now i m : ℕ) (w : Walking closing s at path from t now i)
     (h : i < length path) (e : m ≡ number_at path i 4) where
-  next-closed : Going s at (closing (left_in path from)) ((letter_e ∷ []) ++ closing (left_in path (i + 4 + m))) t now
-  next-closed =
-      subst (λ (l : List (List ℕ)). Going s at (closing (left_in path from)) (closing l) t now) (left-more path i w.standing h m e)
+  next_closed : Going s at (closing (left_in path from)) ((letter_e ∷ []) ++ closing (left_in path (i + 4 + m))) t now
+  next_closed =
+      subst (λ (l : List (List ℕ)). Going s at (closing (left_in path from)) (closing l) t now) (left_more path i w.standing h m e)
       w.going
 
-  pub closing-room : (n : ℕ) → at + length (left_in path from) < n → now + 1 < n
-  closing-room n l =
-      going-room s at (closing (left_in path from)) (letter_e ∷ []) (closing (left_in path (i + 4 + m))) t now n next-closed
+  pub closing_room : (n : ℕ) → at + length (left_in path from) < n → now + 1 < n
+  closing_room n l =
+      going_room s at (closing (left_in path from)) (letter_e ∷ []) (closing (left_in path (i + 4 + m))) t now n next_closed
       (omega (arith, length-replicate {A = ℕ} (length (left_in path from)) letter_e))
 
-  pub closing-more : (u : List ℕ) (r : ℕ) → Put t now (letter_e ∷ []) u r → length u ≡ length t
+  pub closing_more : (u : List ℕ) (r : ℕ) → Put t now (letter_e ∷ []) u r → length u ≡ length t
       → Walking closing s at path from u r (i + 4 + m)
-  closing-more u r p k =
+  closing_more u r p k =
       record {
-        standing = standing-more path i w.standing h m e;
-        going = going_more s at (closing (left_in path from)) (letter_e ∷ []) (closing (left_in path (i + 4 + m))) t u now r next-closed p k;
+        standing = standing_more path i w.standing h m e;
+        going = going_more s at (closing (left_in path from)) (letter_e ∷ []) (closing (left_in path (i + 4 + m))) t u now r next_closed p k;
       }
 
 module _ (s : List ℕ) (at : ℕ) (path : List ℕ) (from : ℕ) (t : List ℕ) (now i m : ℕ) (w : Walking opened s at path from t now i)
@@ -211,32 +211,32 @@ module _ (s : List ℕ) (at : ℕ) (path : List ℕ) (from : ℕ) (t : List ℕ)
   abbrev element : List ℕ
   element = take (i + 4 + m - (i + 4)) (drop (i + 4) path)
 
-  next-opened : Going s at (opened (left_in path from))
+  next_opened : Going s at (opened (left_in path from))
       (encode_string (take (i + 4 + m - (i + 4)) (drop (i + 4) path)) ++ ((letter_d ∷ []) ++ opened (left_in path (i + 4 + m)))) t now
-  next-opened =
+  next_opened =
       subst (λ (l : List ℕ). Going s at (opened (left_in path from)) l t now)
-      (ap opened (left-more path i w.standing h m e) ∙ (unfold opened in refl)) w.going
+      (ap opened (left_more path i w.standing h m e) ∙ (unfold opened in refl)) w.going
 
-  pub opening-room : (n : ℕ) → at + length (opened (left_in path from)) < n
+  pub opening_room : (n : ℕ) → at + length (opened (left_in path from)) < n
       → now + length (encode_string (take (i + 4 + m - (i + 4)) (drop (i + 4) path))) < n
-  opening-room n l =
-      going-room s at (opened (left_in path from)) (encode_string element) ((letter_d ∷ []) ++ opened (left_in path (i + 4 + m))) t now n
-      next-opened l
+  opening_room n l =
+      going_room s at (opened (left_in path from)) (encode_string element) ((letter_d ∷ []) ++ opened (left_in path (i + 4 + m))) t now n
+      next_opened l
 
   module _ (u : List ℕ) (r : ℕ) (p : Put t now (encode_string (take (i + 4 + m - (i + 4)) (drop (i + 4) path))) u r)
       (k : length u ≡ length t) where
-    behind-key : Going s at (opened (left_in path from)) ((letter_d ∷ []) ++ opened (left_in path (i + 4 + m))) u r
-    behind-key =
+    behind_key : Going s at (opened (left_in path from)) ((letter_d ∷ []) ++ opened (left_in path (i + 4 + m))) u r
+    behind_key =
         going_more s at (opened (left_in path from)) (encode_string element) ((letter_d ∷ []) ++ opened (left_in path (i + 4 + m))) t u now r
-        next-opened p k
+        next_opened p k
 
-    pub opening-room-2 : (n : ℕ) → at + length (opened (left_in path from)) < n → r + 1 < n
-    opening-room-2 n l = going-room s at (opened (left_in path from)) (letter_d ∷ []) (opened (left_in path (i + 4 + m))) u r n behind-key l
+    pub opening_room_2 : (n : ℕ) → at + length (opened (left_in path from)) < n → r + 1 < n
+    opening_room_2 n l = going_room s at (opened (left_in path from)) (letter_d ∷ []) (opened (left_in path (i + 4 + m))) u r n behind_key l
 
-    pub opening-more : (v : List ℕ) (q : ℕ) → Put u r (letter_d ∷ []) v q → length v ≡ length u
+    pub opening_more : (v : List ℕ) (q : ℕ) → Put u r (letter_d ∷ []) v q → length v ≡ length u
         → Walking opened s at path from v q (i + 4 + m)
-    opening-more v q x y =
+    opening_more v q x y =
         record {
-          standing = standing-more path i w.standing h m e;
-          going = going_more s at (opened (left_in path from)) (letter_d ∷ []) (opened (left_in path (i + 4 + m))) u v r q behind-key x y;
+          standing = standing_more path i w.standing h m e;
+          going = going_more s at (opened (left_in path from)) (letter_d ∷ []) (opened (left_in path (i + 4 + m))) u v r q behind_key x y;
         }

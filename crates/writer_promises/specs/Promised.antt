@@ -12,43 +12,43 @@ use Rattle.writer_meaning.specs.Content.{Item, in_tree_order, torrent_of}
 use Rattle.writer_meaning.specs.Number.{content_number}
 use Rattle.writer_lists.specs.Lists.{content_of}
 use Rattle.writer.specs.Write.{torrent_bytes, write_number, write_answer, write_after}
-use Rattle.writer.specs.WrittenReads.{is-strict, has-name}
+use Rattle.writer.specs.WrittenReads.{is_strict, has_name}
 use Rattle.torrent.specs.Torrent.{read_of}
-use Rattle.writer_promises.specs.Published.{Gives, Named, InForm, text_size, WriteSays, PlainContent, written_bytes, WriteNumber, is-4, is-11, is-19, is-21, is-24-to-28, WriteOutcome, put, left}
-use Rattle.writer_promises.specs.FormLaws.{in-form}
-use Rattle.writer_promises.specs.AnswerLaws.{answer-number, written_is, number-content, number-done}
+use Rattle.writer_promises.specs.Published.{Gives, Named, InForm, text_size, WriteSays, PlainContent, written_bytes, WriteNumber, is_4, is_11, is_19, is_21, is_24_to_28, WriteOutcome, put, left}
+use Rattle.writer_promises.specs.FormLaws.{in_form}
+use Rattle.writer_promises.specs.AnswerLaws.{answer_number, written_is, number_content, number_done}
 use Rattle.writer_promises.specs.ExactlyLaws.{exactly}
 use Rattle.writer_promises.specs.SameNumberLaws.{number_read}
-use Rattle.writer_promises.specs.GivenLaws.{one-content, some-content}
-use Rattle.writer_promises.specs.ListedLaws.{every-content}
-use Rattle.writer_promises.specs.TripLaws.{written-given, written-shortest, named-number, unnamed-number, given-listable, written-again, again-fits, again-nearly-fits, empty_name}
-use Rattle.writer_promises.specs.OutcomeLaws.{outcome, refusal-leaves, behind-stays, same_answer, same-output, same_bytes}
+use Rattle.writer_promises.specs.GivenLaws.{one_content, some_content}
+use Rattle.writer_promises.specs.ListedLaws.{every_content}
+use Rattle.writer_promises.specs.TripLaws.{written_given, written_shortest, named_number, unnamed_number, given_listable, written_again, again_fits, again_nearly_fits, empty_name}
+use Rattle.writer_promises.specs.OutcomeLaws.{outcome, refusal_leaves, behind_stays, same_answer, same_output, same_bytes}
 
 -- ---- 1. Read back: what was written beside 0 is answered 0 by the reader, with this piece length and, in tree order, exactly the list's
 -- files: path, length, root, layer
 
 pub read_back : (list text : List ℕ) (plen : ℕ) (name out : List ℕ) → (write_answer list text plen name out).number ≡ 0
     → Gives (written_bytes list text plen name out) plen (in_tree_order (content_of list text))
-read_back = written-given
+read_back = written_given
 
 -- these bytes are the encoding of `torrent_of`: `info` with `file tree`, `meta version`, `name` and `piece length`, `piece layers`, and no other key
-pub written-torrent : (list text : List ℕ) (plen : ℕ) (name out : List ℕ) → (write_answer list text plen name out).number ≡ 0
+pub written_torrent : (list text : List ℕ) (plen : ℕ) (name out : List ℕ) → (write_answer list text plen name out).number ≡ 0
     → written_bytes list text plen name out ≡ encode (dictionary (torrent_of plen name (content_of list text)))
-written-torrent = written_is
+written_torrent = written_is
 
 -- it is strict bencoding of at most 32 levels, and `info` has the name that was given
-pub written-name : (list text : List ℕ) (plen : ℕ) (name out : List ℕ) → (write_answer list text plen name out).number ≡ 0 → Named (written_bytes list text plen name out) name
-written-name list text plen name out e =
-    let z = sym (answer-number list text plen name out) ∙ e in
-    (torrent_of plen name (content_of list text), is-strict list text plen name out z, written_is list text plen name out e, has-name list text plen name out z)
+pub written_name : (list text : List ℕ) (plen : ℕ) (name out : List ℕ) → (write_answer list text plen name out).number ≡ 0 → Named (written_bytes list text plen name out) name
+written_name list text plen name out e =
+    let z = sym (answer_number list text plen name out) ∙ e in
+    (torrent_of plen name (content_of list text), is_strict list text plen name out z, written_is list text plen name out e, has_name list text plen name out z)
 
 -- `Gives` leaves nothing open: bytes that are answered 0 give one piece length and one list of files
 pub gives_one : (s : List ℕ) (p q : ℕ) (xs ys : List Item) → Gives s p xs → Gives s q ys → (p ≡ q) × (xs ≡ ys)
-gives_one = one-content
+gives_one = one_content
 
 -- and it is no more than 0 says: all bytes that are answered 0 give some, in tree order
-pub gives-some : (s : List ℕ) → (read_of s).number ≡ 0 → (xs : List Item) × Gives s (read_of s).plen xs × (in_tree_order xs ≡ xs)
-gives-some = some-content
+pub gives_some : (s : List ℕ) → (read_of s).number ≡ 0 → (xs : List Item) × Gives s (read_of s).plen xs × (in_tree_order xs ≡ xs)
+gives_some = some_content
 
 -- ---- 2. Order: two lists with the same content, with the same piece length, name and room, get the same number and the same bytes,
 -- whatever their order and wherever their texts stand
@@ -59,16 +59,16 @@ pub any_order : (list text list' text' : List ℕ) (plen : ℕ) (name : List ℕ
 any_order list text list' text' plen name f g p out out' e = (same_answer list text list' text' plen name f g p out out' e, same_bytes list text list' text' plen name f g p out out' e)
 
 -- into the same output, every byte of it is the same at exit
-pub any-order-output : (list text list' text' : List ℕ) (plen : ℕ) (name : List ℕ) → InForm list text → InForm list' text' → Permuted (content_of list text) (content_of list' text') → (out : List ℕ)
+pub any_order_output : (list text list' text' : List ℕ) (plen : ℕ) (name : List ℕ) → InForm list text → InForm list' text' → Permuted (content_of list text) (content_of list' text') → (out : List ℕ)
     → write_after list text plen name out ≡ write_after list' text' plen name out
-any-order-output = same-output
+any_order_output = same_output
 
 -- ---- 3. Shortest: every string of bytes that the reader answers 0 with the same files, piece length and, under `info`, this `name`, has at
 -- least as many bytes
 
 pub shortest : (list text : List ℕ) (plen : ℕ) (name out s : List ℕ) → (write_answer list text plen name out).number ≡ 0 → Gives s plen (in_tree_order (content_of list text)) → Named s name
     → length (written_bytes list text plen name out) ≤ length s
-shortest = written-shortest
+shortest = written_shortest
 
 -- ---- 4. Each number exactly when, as relations: 4 first, the lowest of 19 and 21 to 28, 11 last
 
@@ -77,17 +77,17 @@ each_number = exactly
 
 -- and where no path repeats, no path and no element is empty, no root has two layers, empty files have the zero root and no layer, and the
 -- piece length is below 2^63, the number is the reader's number of `torrent_of`, the torrent that would be written; where that is 0, with room
-pub readers-number : (list text : List ℕ) (plen : ℕ) (name out : List ℕ) → InForm list text → PlainContent (content_of list text) → plen < 2 ^ 63
+pub readers_number : (list text : List ℕ) (plen : ℕ) (name out : List ℕ) → InForm list text → PlainContent (content_of list text) → plen < 2 ^ 63
     → ((read_of (torrent_bytes list text plen name)).number ≡ 0 → length (torrent_bytes list text plen name) ≤ length out)
     → (write_answer list text plen name out).number ≡ (read_of (torrent_bytes list text plen name)).number
-readers-number list text plen name out f p l room = answer-number list text plen name out ∙ by_number (read_of (torrent_bytes list text plen name)).number refl
+readers_number list text plen name out f p l room = answer_number list text plen name out ∙ by_number (read_of (torrent_bytes list text plen name)).number refl
   where
     same : content_number plen name (content_of list text) ≡ (read_of (torrent_bytes list text plen name)).number
     same = number_read list text plen name f p l
 
     by_number : (n : ℕ) → (read_of (torrent_bytes list text plen name)).number ≡ n → write_number list text plen name (length out) ≡ (read_of (torrent_bytes list text plen name)).number
-    by_number zero e = number-done list text plen name out ((in-form list text).1 f) (same ∙ e) (room e) ∙ sym e
-    by_number (suc n) e = number-content list text plen name out ((in-form list text).1 f) (λ z. omega (arith, same)) ∙ same
+    by_number zero e = number_done list text plen name out ((in_form list text).1 f) (same ∙ e) (room e) ∙ sym e
+    by_number (suc n) e = number_content list text plen name out ((in_form list text).1 f) (λ z. omega (arith, same)) ∙ same
 
 -- ---- 5. Round trip: the content that is read from any torrent answered 0 gets 0, with room, and reads back as the same content. A list has
 -- that content if the files in it, in any order, are those that were read
@@ -96,57 +96,57 @@ readers-number list text plen name out f p l room = answer-number list text plen
 pub round_trip : (s : List ℕ) (plen : ℕ) (xs : List Item) (name : List ℕ) → Gives s plen xs → Named s name → (list text : List ℕ) → InForm list text → Permuted (content_of list text) xs
     → (out : List ℕ) → length (torrent_bytes list text plen name) ≤ length out
     → ((write_answer list text plen name out).number ≡ 0) × Gives (written_bytes list text plen name out) plen xs
-round_trip s plen xs name g n list text f p out l = written-again list text plen name s xs g p (named-number s plen name xs g n) out f l
+round_trip s plen xs name g n list text f p out l = written_again list text plen name s xs g p (named_number s plen name xs g n) out f l
 
 -- as much room as the torrent has is enough
-pub round-trip-room : (s : List ℕ) (plen : ℕ) (xs : List Item) (name : List ℕ) → Gives s plen xs → Named s name → (list text : List ℕ) → Permuted (content_of list text) xs
+pub round_trip_room : (s : List ℕ) (plen : ℕ) (xs : List Item) (name : List ℕ) → Gives s plen xs → Named s name → (list text : List ℕ) → Permuted (content_of list text) xs
     → length (torrent_bytes list text plen name) ≤ length s
-round-trip-room s plen xs name g n list text p = again-fits list text plen name s xs g p (named-number s plen name xs g n) n
+round_trip_room s plen xs name g n list text p = again_fits list text plen name s xs g p (named_number s plen name xs g n) n
 
 -- or has none and at most 2^20 − 8 bytes, written with the empty name; so it is of one with another `name` too
-pub round-trip-unnamed : (s : List ℕ) (plen : ℕ) (xs : List Item) → Gives s plen xs → length s + 8 ≤ largest_torrent → (list text : List ℕ) → InForm list text → Permuted (content_of list text) xs
+pub round_trip_unnamed : (s : List ℕ) (plen : ℕ) (xs : List Item) → Gives s plen xs → length s + 8 ≤ largest_torrent → (list text : List ℕ) → InForm list text → Permuted (content_of list text) xs
     → (out : List ℕ) → length (torrent_bytes list text plen []) ≤ length out
     → ((write_answer list text plen [] out).number ≡ 0) × Gives (written_bytes list text plen [] out) plen xs
-round-trip-unnamed s plen xs g l list text f p out r = written-again list text plen [] s xs g p (unnamed-number s plen xs g l) out f r
+round_trip_unnamed s plen xs g l list text f p out r = written_again list text plen [] s xs g p (unnamed_number s plen xs g l) out f r
 
 -- eight bytes more than the torrent has are enough
-pub round-trip-unnamed-room : (s : List ℕ) (plen : ℕ) (xs : List Item) → Gives s plen xs → length s + 8 ≤ largest_torrent → (list text : List ℕ) → Permuted (content_of list text) xs
+pub round_trip_unnamed_room : (s : List ℕ) (plen : ℕ) (xs : List Item) → Gives s plen xs → length s + 8 ≤ largest_torrent → (list text : List ℕ) → Permuted (content_of list text) xs
     → length (torrent_bytes list text plen []) ≤ length s + 8
-round-trip-unnamed-room s plen xs g l list text p = let h = again-nearly-fits list text plen [] s xs g p (unnamed-number s plen xs g l) in let e = empty_name in omega arith
+round_trip_unnamed_room s plen xs g l list text p = let h = again_nearly_fits list text plen [] s xs g p (unnamed_number s plen xs g l) in let e = empty_name in omega arith
 
 -- there is such a list wherever the text that it needs stays below 4 GiB, which is what starts of four bytes reach
-pub content-listed : (s : List ℕ) (plen : ℕ) (xs : List Item) → Gives s plen xs → text_size xs < 2 ^ 32 → (list : List ℕ) × (text : List ℕ) × InForm list text × (content_of list text ≡ xs)
-content-listed s plen xs g h = every-content xs (given-listable s plen xs g) h
+pub content_listed : (s : List ℕ) (plen : ℕ) (xs : List Item) → Gives s plen xs → text_size xs < 2 ^ 32 → (list : List ℕ) × (text : List ℕ) × InForm list text × (content_of list text ≡ xs)
+content_listed s plen xs g h = every_content xs (given_listable s plen xs g) h
 
 -- ---- Demand 1, for this call: one outcome, in the table; a refusal leaves every byte
 
-pub write-outcome : (list text : List ℕ) (plen : ℕ) (name out : List ℕ) → WriteOutcome out (write_answer list text plen name out) (write_after list text plen name out)
-write-outcome = outcome
+pub write_outcome : (list text : List ℕ) (plen : ℕ) (name out : List ℕ) → WriteOutcome out (write_answer list text plen name out) (write_after list text plen name out)
+write_outcome = outcome
 
 -- on each refusal the count is zero and every byte of the output stays
-pub write-refused : (list text : List ℕ) (plen : ℕ) (name out : List ℕ) → ((write_answer list text plen name out).number ≡ 0 → ⊥)
+pub write_refused : (list text : List ℕ) (plen : ℕ) (name out : List ℕ) → ((write_answer list text plen name out).number ≡ 0 → ⊥)
     → ((write_answer list text plen name out).count ≡ 0) × (write_after list text plen name out ≡ out)
-write-refused = refusal-leaves
+write_refused = refusal_leaves
 
 -- on 0 the size is within the output, and the bytes behind it stay
 pub write_done : (list text : List ℕ) (plen : ℕ) (name out : List ℕ) → (write_answer list text plen name out).number ≡ 0
     → ((write_answer list text plen name out).count ≤ length out) × (length (write_after list text plen name out) ≡ length out)
     × ((i : ℕ) → (write_answer list text plen name out).count ≤ i → get_or (write_after list text plen name out) i 0 ≡ get_or out i 0)
-write_done = behind-stays
+write_done = behind_stays
 
 -- 20, 22 and 23 are never given
-pub never-given : (list text : List ℕ) (plen : ℕ) (name out : List ℕ) (n : ℕ) → (n ≡ not_strict) ⊎ ((n ≡ key_missing) ⊎ (n ≡ other_version)) → (write_answer list text plen name out).number ≡ n → ⊥
-never-given list text plen name out n k e = by-outcome (write_answer list text plen name out) (write_after list text plen name out) (outcome list text plen name out) e k
+pub never_given : (list text : List ℕ) (plen : ℕ) (name out : List ℕ) (n : ℕ) → (n ≡ not_strict) ⊎ ((n ≡ key_missing) ⊎ (n ≡ other_version)) → (write_answer list text plen name out).number ≡ n → ⊥
+never_given list text plen name out n k e = by_outcome (write_answer list text plen name out) (write_after list text plen name out) (outcome list text plen name out) e k
   where
-    not-one : (m : ℕ) → WriteNumber m → m ≡ n → (n ≡ not_strict) ⊎ ((n ≡ key_missing) ⊎ (n ≡ other_version)) → ⊥
-    not-one m (is-4 q) z j = elim j [ inl a ↦ omega arith | inr b ↦ elim b [ inl c ↦ omega arith | inr d ↦ omega arith ] ]
-    not-one m (is-11 q) z j = elim j [ inl a ↦ omega arith | inr b ↦ elim b [ inl c ↦ omega arith | inr d ↦ omega arith ] ]
-    not-one m (is-19 q) z j = elim j [ inl a ↦ omega arith | inr b ↦ elim b [ inl c ↦ omega arith | inr d ↦ omega arith ] ]
-    not-one m (is-21 q) z j = elim j [ inl a ↦ omega arith | inr b ↦ elim b [ inl c ↦ omega arith | inr d ↦ omega arith ] ]
-    not-one m (is-24-to-28 q r) z j = elim j [ inl a ↦ omega arith | inr b ↦ elim b [ inl c ↦ omega arith | inr d ↦ omega arith ] ]
+    not_one : (m : ℕ) → WriteNumber m → m ≡ n → (n ≡ not_strict) ⊎ ((n ≡ key_missing) ⊎ (n ≡ other_version)) → ⊥
+    not_one m (is_4 q) z j = elim j [ inl a ↦ omega arith | inr b ↦ elim b [ inl c ↦ omega arith | inr d ↦ omega arith ] ]
+    not_one m (is_11 q) z j = elim j [ inl a ↦ omega arith | inr b ↦ elim b [ inl c ↦ omega arith | inr d ↦ omega arith ] ]
+    not_one m (is_19 q) z j = elim j [ inl a ↦ omega arith | inr b ↦ elim b [ inl c ↦ omega arith | inr d ↦ omega arith ] ]
+    not_one m (is_21 q) z j = elim j [ inl a ↦ omega arith | inr b ↦ elim b [ inl c ↦ omega arith | inr d ↦ omega arith ] ]
+    not_one m (is_24_to_28 q r) z j = elim j [ inl a ↦ omega arith | inr b ↦ elim b [ inl c ↦ omega arith | inr d ↦ omega arith ] ]
 
-    by-outcome : (a : Answer) (after : List ℕ) → WriteOutcome out a after → a.number ≡ n → (n ≡ not_strict) ⊎ ((n ≡ key_missing) ⊎ (n ≡ other_version)) → ⊥
-    by-outcome a after (put bytes l d p) z j =
+    by_outcome : (a : Answer) (after : List ℕ) → WriteOutcome out a after → a.number ≡ n → (n ≡ not_strict) ⊎ ((n ≡ key_missing) ⊎ (n ≡ other_version)) → ⊥
+    by_outcome a after (put bytes l d p) z j =
         let o = ap (λ (x : Answer). x.number) (sym d) ∙ z in
         elim j [ inl u ↦ omega arith | inr b ↦ elim b [ inl c ↦ omega arith | inr v ↦ omega arith ] ]
-    by-outcome a after (left m w d p) z j = not-one m w (ap (λ (x : Answer). x.number) (sym d) ∙ z) j
+    by_outcome a after (left m w d p) z j = not_one m w (ap (λ (x : Answer). x.number) (sym d) ∙ z) j

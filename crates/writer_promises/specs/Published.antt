@@ -18,7 +18,7 @@ use Rattle.writer.specs.Write.{torrent_bytes, write_answer, write_after}
 use Rattle.torrent.specs.Torrent.{read_of, file_read, path_read}
 use Rattle.torrent.specs.Answers.{PartIs}
 
--- ---- what the reader gives of the bytes s; `kd_torrent_list` gives the same (`list-record` of `calls`)
+-- ---- what the reader gives of the bytes s; `kd_torrent_list` gives the same (`list_record` of `calls`)
 
 -- file n is x: its length, its root, each element of its path and its layer, by their bytes. A file without a layer has an empty one
 pub record FileGiven (s : List ℕ) (n : ℕ) (x : Item) : Type 0 where
@@ -27,13 +27,13 @@ pub record FileGiven (s : List ℕ) (n : ℕ) (x : Item) : Type 0 where
   pub root : (file_read s n).root ≡ x.root
   pub elements : (file_read s n).elements ≡ length x.path
   pub element : (k : ℕ) (e : List ℕ) → Nth x.path k e → PartIs s e (path_read s n k)
-  pub layer-size : (file_read s n).size ≡ length x.layer
+  pub layer_size : (file_read s n).size ≡ length x.layer
   pub layer : cut s (file_read s n).start (file_read s n).size ≡ x.layer
 
 -- 0, this piece length, and these files, each at its number
 pub record Gives (s : List ℕ) (plen : ℕ) (xs : List Item) : Type 0 where
   pub number : (read_of s).number ≡ 0
-  pub piece-length : (read_of s).plen ≡ plen
+  pub piece_length_lem : (read_of s).plen ≡ plen
   pub count : (read_of s).files ≡ length xs
   pub each : (n : ℕ) (x : Item) → Nth xs n x → FileGiven s n x
 
@@ -50,10 +50,10 @@ pub data PathForm : List ℕ → List (List ℕ) → Type 0 where
 
 -- the record at a place of the list: a length below 2^63, two parts that end within the text, and the second is a path
 pub record RecordForm (list text : List ℕ) (at : ℕ) : Type 0 where
-  pub length-fits : number_at list at 8 < 2 ^ 63
-  pub layer-within : number_at list (at + 40) 4 + number_at list (at + 40 + 4) 4 ≤ length text
-  pub path-within : number_at list (at + 48) 4 + number_at list (at + 48 + 4) 4 ≤ length text
-  pub path-form : (path : List (List ℕ)) × PathForm (path_at list text at) path
+  pub length_fits : number_at list at 8 < 2 ^ 63
+  pub layer_within : number_at list (at + 40) 4 + number_at list (at + 40 + 4) 4 ≤ length text
+  pub path_within : number_at list (at + 48) 4 + number_at list (at + 48 + 4) 4 ≤ length text
+  pub path_form : (path : List (List ℕ)) × PathForm (path_at list text at) path
 
 -- records of 56 bytes and nothing behind them, each in its form
 pub record InForm (list text : List ℕ) : Type 0 where
@@ -74,29 +74,29 @@ text_size (x ∷ xs) = length x.layer + path_size x.path + text_size xs
 -- what a number says of a content
 pub data ContentSays (plen : ℕ) (name : List ℕ) (xs : List Item) (n : ℕ) : Type 0 where
   too_large_lem : n ≡ torrent_too_large → TooLarge plen name xs → ContentSays plen name xs n
-  too-deep : n ≡ nested_too_deeply → TooDeep xs → ContentSays plen name xs n
+  too_deep_lem : n ≡ nested_too_deeply → TooDeep xs → ContentSays plen name xs n
   out_of_range : n ≡ piece_length_out_of_range → OutOfRange plen → ContentSays plen name xs n
-  wrong-files : n ≡ wrong_tree → WrongFiles xs → ContentSays plen name xs n
-  two-lengths : n ≡ two_lengths → TwoLengths xs → ContentSays plen name xs n
-  wrong-layers : n ≡ layers_amiss → WrongLayers plen xs → ContentSays plen name xs n
-  layers-differ : n ≡ layer_differs → LayersDiffer plen xs → ContentSays plen name xs n
+  wrong_files : n ≡ wrong_tree → WrongFiles xs → ContentSays plen name xs n
+  two_lengths_lem : n ≡ two_lengths → TwoLengths xs → ContentSays plen name xs n
+  wrong_layers : n ≡ layers_amiss → WrongLayers plen xs → ContentSays plen name xs n
+  layers_differ : n ≡ layer_differs → LayersDiffer plen xs → ContentSays plen name xs n
 
 -- what a number says of the call: 4 before all; the lowest that the content is refused with; 11 behind them; 0
 pub data WriteSays (list text : List ℕ) (plen : ℕ) (name out : List ℕ) (n : ℕ) : Type 0 where
-  no-form : n ≡ wrong_size → (InForm list text → ⊥) → WriteSays list text plen name out n
-  of-content : InForm list text → ContentSays plen name (content_of list text) n → ((m : ℕ) → m < n → ContentSays plen name (content_of list text) m → ⊥) → WriteSays list text plen name out n
+  no_form : n ≡ wrong_size → (InForm list text → ⊥) → WriteSays list text plen name out n
+  of_content : InForm list text → ContentSays plen name (content_of list text) n → ((m : ℕ) → m < n → ContentSays plen name (content_of list text) m → ⊥) → WriteSays list text plen name out n
   too_short : n ≡ no_room → InForm list text → ((m : ℕ) → ContentSays plen name (content_of list text) m → ⊥) → length out < length (torrent_bytes list text plen name) → WriteSays list text plen name out n
   written : n ≡ 0 → InForm list text → ((m : ℕ) → ContentSays plen name (content_of list text) m → ⊥) → length (torrent_bytes list text plen name) ≤ length out → WriteSays list text plen name out n
 
 -- the contents of which the reader says the number: no path repeats, no path and no element is empty, no root has two layers, empty files
 -- have the zero root and no layer
 pub record PlainContent (xs : List Item) : Type 0 where
-  pub no-repeat : Distinct (map (λ (x : Item). x.path) xs)
-  pub path-full : (x : Item) → Member x xs → x.path ≡ [] → ⊥
-  pub element-full : (x : Item) → Member x xs → Member [] x.path → ⊥
-  pub one-layer : (x y : Item) → Member x xs → Member y xs → 0 < x.size → 0 < y.size → x.root ≡ y.root → x.layer ≡ y.layer
-  pub empty-root : (x : Item) → Member x xs → x.size ≡ 0 → x.root ≡ zero_hash
-  pub empty-layer : (x : Item) → Member x xs → x.size ≡ 0 → x.layer ≡ []
+  pub no_repeat : Distinct (map (λ (x : Item). x.path) xs)
+  pub path_full : (x : Item) → Member x xs → x.path ≡ [] → ⊥
+  pub element_full : (x : Item) → Member x xs → Member [] x.path → ⊥
+  pub one_layer : (x y : Item) → Member x xs → Member y xs → 0 < x.size → 0 < y.size → x.root ≡ y.root → x.layer ≡ y.layer
+  pub empty_root : (x : Item) → Member x xs → x.size ≡ 0 → x.root ≡ zero_hash
+  pub empty_layer : (x : Item) → Member x xs → x.size ≡ 0 → x.layer ≡ []
 
 -- ---- the outcomes
 
@@ -106,11 +106,11 @@ written_bytes list text plen name out = cut (write_after list text plen name out
 
 -- the numbers of the table that the call gives
 pub data WriteNumber (n : ℕ) : Type 0 where
-  is-4 : n ≡ wrong_size → WriteNumber n
-  is-11 : n ≡ no_room → WriteNumber n
-  is-19 : n ≡ torrent_too_large → WriteNumber n
-  is-21 : n ≡ nested_too_deeply → WriteNumber n
-  is-24-to-28 : piece_length_out_of_range ≤ n → n ≤ layer_differs → WriteNumber n
+  is_4 : n ≡ wrong_size → WriteNumber n
+  is_11 : n ≡ no_room → WriteNumber n
+  is_19 : n ≡ torrent_too_large → WriteNumber n
+  is_21 : n ≡ nested_too_deeply → WriteNumber n
+  is_24_to_28 : piece_length_out_of_range ≤ n → n ≤ layer_differs → WriteNumber n
 
 -- kd_torrent_write, with the output before and after: 0 and the size, and so many bytes put before the rest; or such a number beside
 -- zero, and the output as it was

@@ -15,7 +15,7 @@ use Rattle.writer_meaning.specs.Number.{some, meet, content_number}
 use Rattle.writer_lists.specs.Lists.{elements_fit, elements_in, item_at, form_at, form_up_to, items_up_to, list_form, content_of}
 use Rattle.writer.specs.Write.{write_number, write_answer, write_after}
 use Rattle.writer_promises.specs.Published.{Gives, written_bytes}
-use Rattle.writer_promises.specs.Promised.{read_back, written-torrent}
+use Rattle.writer_promises.specs.Promised.{read_back, written_torrent}
 
 -- ---- `a/b` stands before `a.txt`, though the joined paths stand the other way round
 
@@ -28,9 +28,9 @@ dotted = empty_file ((97 ∷ 46 ∷ 116 ∷ 120 ∷ 116 ∷ []) ∷ [])
 abbrev below : Item
 below = empty_file ((97 ∷ []) ∷ (98 ∷ []) ∷ [])
 
-pub by-element : in_tree_order (dotted ∷ below ∷ []) ≡ below ∷ dotted ∷ []
+pub by_element : in_tree_order (dotted ∷ below ∷ []) ≡ below ∷ dotted ∷ []
 unfolding sorted_by inserted path_before same precedes
-by-element = refl
+by_element = refl
 
 -- ---- the layer of twins is written once
 
@@ -61,41 +61,41 @@ tiny_torrent =
     ∷ 49 ∷ 50 ∷ 58 ∷ 112 ∷ 105 ∷ 101 ∷ 99 ∷ 101 ∷ 32 ∷ 108 ∷ 101 ∷ 110 ∷ 103 ∷ 116 ∷ 104 ∷ 105 ∷ 49 ∷ 54 ∷ 51 ∷ 56 ∷ 52 ∷ 101 ∷ 101
     ∷ 49 ∷ 50 ∷ 58 ∷ 112 ∷ 105 ∷ 101 ∷ 99 ∷ 101 ∷ 32 ∷ 108 ∷ 97 ∷ 121 ∷ 101 ∷ 114 ∷ 115 ∷ 100 ∷ 101 ∷ 101 ∷ []
 
-pub tiny-content : content_of tiny_list tiny_text ≡ empty_file ((97 ∷ []) ∷ []) ∷ []
+pub tiny_content : content_of tiny_list tiny_text ≡ empty_file ((97 ∷ []) ∷ []) ∷ []
 unfolding content_of items_up_to item_at elements_in number_at cut zero_hash
-tiny-content = refl
+tiny_content = refl
 
-pub tiny-bytes : encode (dictionary (torrent_of 16384 (110 ∷ []) (empty_file ((97 ∷ []) ∷ []) ∷ []))) ≡ tiny_torrent
+pub tiny_bytes : encode (dictionary (torrent_of 16384 (110 ∷ []) (empty_file ((97 ∷ []) ∷ []) ∷ []))) ≡ tiny_torrent
 unfolding torrent_of tree_of_all grown sorted_by inserted layers_given layers_of_all encode decimal_in
-tiny-bytes = refl
+tiny_bytes = refl
 
-tiny-form : list_form tiny_list tiny_text ≡ true
+tiny_form : list_form tiny_list tiny_text ≡ true
 unfolding list_form form_up_to form_at elements_fit number_at cut
-tiny-form = refl
+tiny_form = refl
 
-tiny-number : content_number 16384 (110 ∷ []) (empty_file ((97 ∷ []) ∷ []) ∷ []) ≡ 0
+tiny_number : content_number 16384 (110 ∷ []) (empty_file ((97 ∷ []) ∷ []) ∷ []) ≡ 0
 unfolding content_number some meet element_right without is_piece_length piece_layer height height_from has_layer same zero_hash
-tiny-number = rw tiny-bytes refl
+tiny_number = rw tiny_bytes refl
 
 -- into 111 bytes: 0 and the size, 109; the two bytes behind stay
-pub tiny-written : (write_answer tiny_list tiny_text 16384 (110 ∷ []) (replicate 111 255) ≡ done 109)
+pub tiny_written : (write_answer tiny_list tiny_text 16384 (110 ∷ []) (replicate 111 255) ≡ done 109)
     × (write_after tiny_list tiny_text 16384 (110 ∷ []) (replicate 111 255) ≡ tiny_torrent ++ (255 ∷ 255 ∷ []))
 unfolding write_answer write_after write_number pasted
-tiny-written = rw (tiny-form, tiny-content, tiny-number, tiny-bytes) (refl, refl)
+tiny_written = rw (tiny_form, tiny_content, tiny_number, tiny_bytes) (refl, refl)
 
 -- and these bytes are read as that file
 read_as : (list text : List ℕ) (plen : ℕ) (name out : List ℕ) (n : ℕ) (bytes : List ℕ) (xs : List Item) → write_answer list text plen name out ≡ done n
     → content_of list text ≡ xs → in_tree_order xs ≡ xs → encode (dictionary (torrent_of plen name xs)) ≡ bytes → Gives bytes plen xs
 read_as list text plen name out n bytes xs e f g h =
-    subst (λ (s : List ℕ). Gives s plen xs) (written-torrent list text plen name out zero ∙ ap (λ (ys : List Item). encode (dictionary (torrent_of plen name ys))) f ∙ h)
+    subst (λ (s : List ℕ). Gives s plen xs) (written_torrent list text plen name out zero ∙ ap (λ (ys : List Item). encode (dictionary (torrent_of plen name ys))) f ∙ h)
     (subst (λ (ys : List Item). Gives (written_bytes list text plen name out) plen ys) (ap in_tree_order f ∙ g) (read_back list text plen name out zero))
   where
     zero : (write_answer list text plen name out).number ≡ 0
     zero = ap (λ (a : Answer). a.number) e
 
-tiny-order : in_tree_order (empty_file ((97 ∷ []) ∷ []) ∷ []) ≡ empty_file ((97 ∷ []) ∷ []) ∷ []
+tiny_order : in_tree_order (empty_file ((97 ∷ []) ∷ []) ∷ []) ≡ empty_file ((97 ∷ []) ∷ []) ∷ []
 unfolding sorted_by inserted
-tiny-order = refl
+tiny_order = refl
 
-pub tiny-read : Gives tiny_torrent 16384 (empty_file ((97 ∷ []) ∷ []) ∷ [])
-tiny-read = read_as tiny_list tiny_text 16384 (110 ∷ []) (replicate 111 255) 109 tiny_torrent (empty_file ((97 ∷ []) ∷ []) ∷ []) tiny-written.0 tiny-content tiny-order tiny-bytes
+pub tiny_read : Gives tiny_torrent 16384 (empty_file ((97 ∷ []) ∷ []) ∷ [])
+tiny_read = read_as tiny_list tiny_text 16384 (110 ∷ []) (replicate 111 255) 109 tiny_torrent (empty_file ((97 ∷ []) ∷ []) ∷ []) tiny_written.0 tiny_content tiny_order tiny_bytes

@@ -1,16 +1,16 @@
 use Rattle.std.proofs.Common.{arith, length, ◌≡◌, refl, sym, ◌∙◌, ◌<◌, ◌-◌}
 use Rattle.filetree.specs.Tree.{max_elements}
-use Rattle.filetree.specs.TokenLaws.{leaf-fewer, fewer-behind, opened-ends}
-use Rattle.filetree.specs.TreeLaws.{no-levels, not-wrong}
-use Rattle.catalogue.proofs.PutLaws.{put-start, puts-never, puts-bad, puts-end, puts-closed, puts-full, record-right, put_next, inner-right, puts-inside, inside-behind, put-past}
+use Rattle.filetree.specs.TokenLaws.{leaf_fewer, fewer_behind, opened_ends}
+use Rattle.filetree.specs.TreeLaws.{no_levels, not_wrong}
+use Rattle.catalogue.proofs.PutLaws.{put_start, puts_never, puts_bad, puts_end, puts_closed, puts_full, record_right, put_next, inner_right, puts_inside, inside_behind, put_past}
 use Rattle.catalogue.proofs.+put_directory.Goals as goal
 
 pub returns-then-levels-eq0 : goal.returns-then-levels-eq0
-returns-then-levels-eq0 t c = puts-never _ _ _ _ _ _ _ c.requires.1.given
-    (λ p o r u. not-wrong _ r (no-levels _ _ _ p c.if-levels-eq0.true))
+returns-then-levels-eq0 t c = puts_never _ _ _ _ _ _ _ c.requires.1.given
+    (λ p o r u. not_wrong _ r (no_levels _ _ _ p c.if-levels-eq0.true))
 
 pub loop-i-init : goal.loop-i-init
-loop-i-init t c = put-start c.if-levels-eq0.false c.requires.1
+loop-i-init t c = put_start c.if-levels-eq0.false c.requires.1
 
 pub shape_of-path-in-BadToken : goal.shape_of-path-in-BadToken
 shape_of-path-in-BadToken t c = (let it : length c.loop-i.path ≡ length c.args.path.now = c.loop-i.invariant.given.sized ∙ sym c.requires.1.given.sized in it)
@@ -19,7 +19,7 @@ pub shape_of-out-in-BadToken : goal.shape_of-out-in-BadToken
 shape_of-out-in-BadToken t c = c.loop-i.invariant.sized
 
 pub returns-in-BadToken : goal.returns-in-BadToken
-returns-in-BadToken t c = puts-bad c.loop-i.invariant (sym c.in-BadToken.ensures)
+returns-in-BadToken t c = puts_bad c.loop-i.invariant (sym c.in-BadToken.ensures)
 
 pub shape_of-path-in-Closed : goal.shape_of-path-in-Closed
 shape_of-path-in-Closed t c = (let it : length c.loop-i.path ≡ length c.args.path.now = c.loop-i.invariant.given.sized ∙ sym c.requires.1.given.sized in it)
@@ -28,7 +28,7 @@ pub shape_of-out-in-Closed : goal.shape_of-out-in-Closed
 shape_of-out-in-Closed t c = c.loop-i.invariant.sized
 
 pub returns-in-Closed : goal.returns-in-Closed
-returns-in-Closed t c = puts-closed c.loop-i.invariant c.loop-i-test.true (sym c.in-Closed.ensures)
+returns-in-Closed t c = puts_closed c.loop-i.invariant c.loop-i-test.true (sym c.in-Closed.ensures)
 
 pub overflow_sub-out : goal.overflow_sub-out
 overflow_sub-out t c = let inv = c.loop-i.invariant in let fits = inv.fits in let sized = inv.sized in omega arith
@@ -40,7 +40,7 @@ pub shape_of-out-then-out-to-lt-RECORD : goal.shape_of-out-then-out-to-lt-RECORD
 shape_of-out-then-out-to-lt-RECORD t c = c.loop-i.invariant.sized
 
 pub returns-then-out-to-lt-RECORD : goal.returns-then-out-to-lt-RECORD
-returns-then-out-to-lt-RECORD t c = puts-full c.loop-i.invariant c.loop-i-test.true (sym c.in-Leaf.ensures) c.if-out-to-lt-RECORD.true
+returns-then-out-to-lt-RECORD t c = puts_full c.loop-i.invariant c.loop-i-test.true (sym c.in-Leaf.ensures) c.if-out-to-lt-RECORD.true
 
 pub set_element-requires : goal.set_element-requires
 set_element-requires t c = (c.loop-i.invariant.given.sized, (let it : max_elements - c.args.spot.levels < max_elements = let few = c.requires.1.shallow in let some = c.if-levels-eq0.false in omega arith in it))
@@ -48,16 +48,16 @@ set_element-requires t c = (c.loop-i.invariant.given.sized, (let it : max_elemen
 pub put_record-requires : goal.put_record-requires
 put_record-requires t c = let pre = c.requires in (
   pre.0,
-  record-right c.loop-i.invariant c.loop-i-test.true (sym c.in-Leaf.ensures) pre.1
+  record_right c.loop-i.invariant c.loop-i-test.true (sym c.in-Leaf.ensures) pre.1
       c.if-levels-eq0.false c.if-out-to-lt-RECORD.false c.set_element.ensures,
 )
 
 pub overflow_add-to : goal.overflow_add-to
 overflow_add-to t c = let early = c.loop-i.invariant.early in let more = c.loop-i-test.true in
-    let within = c.requires.1.tree-within in omega arith
+    let within = c.requires.1.tree_within in omega arith
 
 pub loop-i-smaller-in-Leaf : goal.loop-i-smaller-in-Leaf
-loop-i-smaller-in-Leaf t c = leaf-fewer _ _ _ _ _ _ _ (sym c.in-Leaf.ensures)
+loop-i-smaller-in-Leaf t c = leaf_fewer _ _ _ _ _ _ _ (sym c.in-Leaf.ensures)
 
 pub loop-i-preserved-in-Leaf : goal.loop-i-preserved-in-Leaf
 loop-i-preserved-in-Leaf t c = put_next c.loop-i.invariant c.loop-i-test.true (sym c.in-Leaf.ensures)
@@ -68,21 +68,21 @@ pub set_element-requires-in-Opened : goal.set_element-requires-in-Opened
 set_element-requires-in-Opened t c = (c.loop-i.invariant.given.sized, (let it : max_elements - c.args.spot.levels < max_elements = let few = c.requires.1.shallow in let some = c.if-levels-eq0.false in omega arith in it))
 
 pub overflow_add-inside : goal.overflow_add-inside
-overflow_add-inside t c = let ends = (opened-ends _ _ _ _ (sym c.in-Opened.ensures)).1 in omega arith
+overflow_add-inside t c = let ends = (opened_ends _ _ _ _ (sym c.in-Opened.ensures)).1 in omega arith
 
 pub put_directory-requires : goal.put_directory-requires
 put_directory-requires t c = let pre = c.requires in
-    let right = inner-right c.loop-i.invariant c.loop-i-test.true (sym c.in-Opened.ensures)
+    let right = inner_right c.loop-i.invariant c.loop-i-test.true (sym c.in-Opened.ensures)
     pre.1 c.if-levels-eq0.false refl c.set_element-in-Opened.ensures c.loop-i.out refl in
     ((let it : c.args.spot.levels - 1 < t = let same = c.decreases in let some = c.if-levels-eq0.false in omega arith in it), (pre.0, right))
 
 pub loop-i-smaller : goal.loop-i-smaller
-loop-i-smaller t c = let ends = inside-behind _ (sym c.in-Opened.ensures)
+loop-i-smaller t c = let ends = inside_behind _ (sym c.in-Opened.ensures)
     (rw c.in-Past.is at c.put_directory.ensures) refl in
-    fewer-behind _ _ _ ends.0 ends.1
+    fewer_behind _ _ _ ends.0 ends.1
 
 pub loop-i-preserved : goal.loop-i-preserved
-loop-i-preserved t c = put-past c.loop-i.invariant c.loop-i-test.true (sym c.in-Opened.ensures)
+loop-i-preserved t c = put_past c.loop-i.invariant c.loop-i-test.true (sym c.in-Opened.ensures)
     c.requires.1 c.if-levels-eq0.false refl c.set_element-in-Opened.ensures c.put_directory.auto.out
     (rw c.in-Past.is at c.put_directory.ensures)
 
@@ -93,7 +93,7 @@ pub shape_of-out-in-WrongTree : goal.shape_of-out-in-WrongTree
 shape_of-out-in-WrongTree t c = c.put_directory.auto.out ∙ c.loop-i.invariant.sized
 
 pub returns-in-WrongTree : goal.returns-in-WrongTree
-returns-in-WrongTree t c = puts-inside c.loop-i.invariant c.loop-i-test.true (sym c.in-Opened.ensures)
+returns-in-WrongTree t c = puts_inside c.loop-i.invariant c.loop-i-test.true (sym c.in-Opened.ensures)
     c.requires.1 c.if-levels-eq0.false refl c.set_element-in-Opened.ensures c.put_directory.auto.out
     (rw c.in-WrongTree.is at c.put_directory.ensures)
 
@@ -104,4 +104,4 @@ pub shape_of-out : goal.shape_of-out
 shape_of-out t c = c.loop-i.invariant.sized
 
 pub returns : goal.returns
-returns t c = puts-end c.loop-i.invariant c.loop-i-test.false
+returns t c = puts_end c.loop-i.invariant c.loop-i-test.false

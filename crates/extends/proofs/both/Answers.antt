@@ -1,6 +1,6 @@
 -- Each return is one case of the definition.
 use Rattle.std.proofs.Common.{sym}
-use Rattle.extends.proofs.Ways.{pair-by}
+use Rattle.extends.proofs.Ways.{pair_by}
 use Rattle.extends.proofs.ExtendsLaws.{both_left, both_right}
 use Rattle.extends.proofs.both.Goals as goal
 
@@ -11,4 +11,4 @@ pub returns-then-r-ne0 : goal.returns-then-r-ne0
 returns-then-r-ne0 c = sym (both_right _ _ c.if-l-ne0.false c.if-r-ne0.true)
 
 pub returns : goal.returns
-returns c = pair-by _ _ _ c.if-l-ne0.false c.if-r-ne0.false c.pair-hash.ensures
+returns c = pair_by _ _ _ c.if-l-ne0.false c.if-r-ne0.false c.pair-hash.ensures

@@ -1,15 +1,15 @@
 -- Each return is one case of the definition.
-use Rattle.extends.proofs.Ways.{reaches-6, reaches-not, reaches-0, reaches-7}
+use Rattle.extends.proofs.Ways.{reaches_6, reaches_not, reaches_0, reaches_7}
 use Rattle.extends.proofs.reaches.Goals as goal
 
 pub returns-then-x-ne0 : goal.returns-then-x-ne0
-returns-then-x-ne0 c = reaches-6 _ _ _ c.if-x-ne0.true
+returns-then-x-ne0 c = reaches_6 _ _ _ c.if-x-ne0.true
 
 pub returns-then-not-right : goal.returns-then-not-right
-returns-then-not-right c = reaches-not _ _ _ c.if-x-ne0.false (c.if-not-right.true)
+returns-then-not-right c = reaches_not _ _ _ c.if-x-ne0.false (c.if-not-right.true)
 
 pub returns-then-alike : goal.returns-then-alike
-returns-then-alike c = reaches-0 _ _ _ c.if-x-ne0.false (c.if-not-right.false) _ c.same-alike.ensures c.if-alike.true
+returns-then-alike c = reaches_0 _ _ _ c.if-x-ne0.false (c.if-not-right.false) _ c.same-alike.ensures c.if-alike.true
 
 pub returns : goal.returns
-returns c = reaches-7 _ _ _ c.if-x-ne0.false (c.if-not-right.false) _ c.same-alike.ensures c.if-alike.false
+returns c = reaches_7 _ _ _ c.if-x-ne0.false (c.if-not-right.false) _ c.same-alike.ensures c.if-alike.false

@@ -1,14 +1,14 @@
 use Rattle.std.proofs.Common.{arith, sym, ◌∙◌}
-use Rattle.frames.specs.WriterLaws.{frame_refused, frame-done, number-long, number-wrong, number_short}
+use Rattle.frames.specs.WriterLaws.{frame_refused, frame_done, number_long, number_wrong, number_short}
 use Rattle.frames.proofs.frame.Goals as goal
 
 pub returns-then-n-gt-LONGEST_FRAME : goal.returns-then-n-gt-LONGEST_FRAME
 returns-then-n-gt-LONGEST_FRAME c = frame_refused c.args.message.now c.args.out.now 30 _ (λ e. omega arith)
-    (number-long c.args.message.now _ c.if-n-gt-LONGEST_FRAME.true) c.refusal.ensures
+    (number_long c.args.message.now _ c.if-n-gt-LONGEST_FRAME.true) c.refusal.ensures
 
 pub returns-then-not-is_sendable : goal.returns-then-not-is_sendable
 returns-then-not-is_sendable c = frame_refused c.args.message.now c.args.out.now 1 _ (λ e. omega arith)
-    (number-wrong c.args.message.now _ c.if-n-gt-LONGEST_FRAME.false (sym c.is_sendable.ensures ∙ c.if-not-is_sendable.true))
+    (number_wrong c.args.message.now _ c.if-n-gt-LONGEST_FRAME.false (sym c.is_sendable.ensures ∙ c.if-not-is_sendable.true))
     c.refusal-then-not-is_sendable.ensures
 
 pub returns-then-out-size : goal.returns-then-out-size
@@ -17,6 +17,6 @@ returns-then-out-size c = frame_refused c.args.message.now c.args.out.now 11 _ (
     c.refusal-then-out-size.ensures
 
 pub returns : goal.returns
-returns c = frame-done c.args.message.now c.args.out.now c.put_number.new.bytes c.put_bytes.new.room _
+returns c = frame_done c.args.message.now c.args.out.now c.put_number.new.bytes c.put_bytes.new.room _
     c.if-n-gt-LONGEST_FRAME.false (sym c.is_sendable.ensures ∙ c.if-not-is_sendable.false) c.if-out-size.false c.put_number.ensures
     c.put_bytes.ensures c.success.ensures

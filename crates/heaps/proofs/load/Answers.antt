@@ -1,7 +1,7 @@
 -- The loop's invariant: the first y leaves are loaded.
 -- Assumes nothing.
 use Rattle.std.proofs.Common.{arith, ◌≡◌, sym, ◌∙◌}
-use Rattle.heaps.proofs.Steps.{loaded-more}
+use Rattle.heaps.proofs.Steps.{loaded_more}
 use Rattle.heaps.proofs.load.Goals as goal
 
 pub loop-y-init : goal.loop-y-init
@@ -16,7 +16,7 @@ loop-y-preserved c = let a = c.args in
     let h = c.leaf_in-h in (
       omega arith,
       c.put_hash.auto.bytes ∙ l.invariant.1,
-      λ leaf o. loaded-more leaf l.heap _ h.result a.leaves a.from l.y l.invariant.1 (omega arith) h.ensures.0 (h.ensures.1 leaf o) c.put_hash.ensures (l.invariant.2 leaf o),
+      λ leaf o. loaded_more leaf l.heap _ h.result a.leaves a.from l.y l.invariant.1 (omega arith) h.ensures.0 (h.ensures.1 leaf o) c.put_hash.ensures (l.invariant.2 leaf o),
     )
 
 pub shape_of-heap : goal.shape_of-heap

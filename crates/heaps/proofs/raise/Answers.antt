@@ -2,7 +2,7 @@
 -- Assumes nothing.
 use Rattle.std.proofs.Common.{arith, ◌≡◌, refl}
 use Rattle.heaps.specs.Heaps.{raised}
-use Rattle.heaps.proofs.Steps.{raised-more}
+use Rattle.heaps.proofs.Steps.{raised_more}
 use Rattle.heaps.proofs.raise.Goals as goal
 
 pub loop-i-init : goal.loop-i-init
@@ -10,7 +10,7 @@ unfolding raised
 loop-i-init c = (omega arith, refl)
 
 pub loop-i-preserved : goal.loop-i-preserved
-loop-i-preserved c = (omega arith, raised-more _ _ _ c.loop-i.i c.loop-i.invariant.1 c.pair-above.ensures)
+loop-i-preserved c = (omega arith, raised_more _ _ _ c.loop-i.i c.loop-i.invariant.1 c.pair-above.ensures)
 
 pub returns : goal.returns
 returns c = let e : c.loop-i.i ≡ c.args.k = omega arith in rw e at c.loop-i.invariant.1

@@ -1,16 +1,16 @@
 use Rattle.std.proofs.Common.{arith, sym, ◌∙◌}
-use Rattle.history.proofs.AnswersLaws.{possible-says}
-use Rattle.history.proofs.DecidingLaws.{end-impossible, end-room, end-done}
+use Rattle.history.proofs.AnswersLaws.{possible_says}
+use Rattle.history.proofs.DecidingLaws.{end_impossible, end_room, end_done}
 use Rattle.history.proofs.end_number.Goals as goal
 
 pub layer_size-requires : goal.layer_size-requires
-layer_size-requires c = (possible-says c.args.history (sym c.is_possible.ensures ∙ c.if-is_possible.true)).short
+layer_size-requires c = (possible_says c.args.history (sym c.is_possible.ensures ∙ c.if-is_possible.true)).short
 
 pub returns-then-m-layer_size : goal.returns-then-m-layer_size
-returns-then-m-layer_size c = end-room c.args.history c.args.m (sym c.is_possible.ensures ∙ c.if-is_possible.true) (omega (arith, c.layer_size.ensures, c.if-m-layer_size.true))
+returns-then-m-layer_size c = end_room c.args.history c.args.m (sym c.is_possible.ensures ∙ c.if-is_possible.true) (omega (arith, c.layer_size.ensures, c.if-m-layer_size.true))
 
 pub returns-then-is_possible : goal.returns-then-is_possible
-returns-then-is_possible c = end-done c.args.history c.args.m (sym c.is_possible.ensures ∙ c.if-is_possible.true) (omega (arith, c.layer_size.ensures, c.if-m-layer_size.false))
+returns-then-is_possible c = end_done c.args.history c.args.m (sym c.is_possible.ensures ∙ c.if-is_possible.true) (omega (arith, c.layer_size.ensures, c.if-m-layer_size.false))
 
 pub returns : goal.returns
-returns c = end-impossible c.args.history c.args.m (sym c.is_possible.ensures ∙ c.if-is_possible.false)
+returns c = end_impossible c.args.history c.args.m (sym c.is_possible.ensures ∙ c.if-is_possible.false)

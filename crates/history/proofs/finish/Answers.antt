@@ -1,6 +1,6 @@
 use Rattle.std.proofs.Common.{List, arith, ℕ, ◌+◌, ◌-◌, ◌/◌, refl, ap, sym, ◌∙◌, ap₂}
 use Rattle.sha256.specs.Sha256.{pair_hash}
-use Rattle.history.proofs.Steps.{finishing-turn, finishing-end, halved}
+use Rattle.history.proofs.Steps.{finishing_turn, finishing_end, halved}
 use Rattle.history.specs.Growing.{node_count, node_at, finishing}
 use Rattle.limits.specs.Limits.{tallest_tree}
 use Rattle.history.proofs.finish.Goals as goal
@@ -19,7 +19,7 @@ loop-j-preserved c = let L = c.loop-j in
       h.1,
       c.put_hash.auto.bytes ∙ L.invariant.2,
       ap₂ (λ (a b : List ℕ). finishing (node_count - (L.k + 1)) a (L.k + 1) (L.j / 2) b) c.put_hash.ensures (c.pair-parent.ensures ∙ ap (λ (x : List ℕ). pair_hash x L.hash) c.hash_at-left.ensures)
-          ∙ sym (finishing-turn node_count L.k L.j L.nodes L.hash (omega arith) c.loop-j-test.true) ∙ L.invariant.3,
+          ∙ sym (finishing_turn node_count L.k L.j L.nodes L.hash (omega arith) c.loop-j-test.true) ∙ L.invariant.3,
     )
 
 pub shape_of-nodes : goal.shape_of-nodes
@@ -27,4 +27,4 @@ shape_of-nodes c = c.put_hash-2.auto.bytes ∙ c.loop-j.invariant.2 ∙ sym c.re
 
 pub returns : goal.returns
 returns c = let L = c.loop-j in
-    c.put_hash-2.ensures ∙ sym (finishing-end node_count L.k L.j L.nodes L.hash (omega arith) c.loop-j-test.false) ∙ L.invariant.3
+    c.put_hash-2.ensures ∙ sym (finishing_end node_count L.k L.j L.nodes L.hash (omega arith) c.loop-j-test.false) ∙ L.invariant.3

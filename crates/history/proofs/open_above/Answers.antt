@@ -1,14 +1,14 @@
 use Rattle.std.proofs.Common.{arith, ◌≡◌, ap, ◌∙◌}
 use Rattle.octets.specs.Octets.{zero_hash}
-use Rattle.history.proofs.LastLaws.{zero-pad}
-use Rattle.history.proofs.Steps.{above-none, above_more, half-more}
-use Rattle.tree.proofs.Steps.{pad-next}
+use Rattle.history.proofs.LastLaws.{zero_pad}
+use Rattle.history.proofs.Steps.{above_none, above_more, half_more}
+use Rattle.tree.proofs.Steps.{pad_next}
 use Rattle.history.specs.Growing.{node_at, open_above}
 use Rattle.history.proofs.open_above.Goals as goal
 
 pub loop-l-init : goal.loop-l-init
 unfolding zero_hash
-loop-l-init c = (omega arith, above-none c.args.nodes.now c.args.leaf c.args.i, zero-pad, omega arith)
+loop-l-init c = (omega arith, above_none c.args.nodes.now c.args.leaf c.args.i, zero_pad, omega arith)
 
 pub loop-l-smaller : goal.loop-l-smaller
 loop-l-smaller c = omega (arith, c.loop-l-test.true)
@@ -19,8 +19,8 @@ loop-l-preserved c = let a = c.args in
     let L = c.loop-l in (
       omega (arith, c.loop-l-test.true),
       above_more a.nodes.now a.leaf c.hash_at-left.result L.child L.pad c.parent-up.result a.i L.j L.l L.invariant.1 L.invariant.2 L.invariant.3 c.hash_at-left.ensures c.parent-up.ensures,
-      pad-next L.pad c.pair-wider.result L.l L.invariant.2 c.pair-wider.ensures,
-      half-more a.i L.j L.l L.invariant.3,
+      pad_next L.pad c.pair-wider.result L.l L.invariant.2 c.pair-wider.ensures,
+      half_more a.i L.j L.l L.invariant.3,
     )
 
 pub returns : goal.returns

@@ -1,7 +1,7 @@
 -- More than a block is eight of them; else the piece that is run past is written, and the bytes taken.
 -- Assumes nothing.
 use Rattle.std.proofs.Common.{arith, length, sym, ◌∙◌}
-use Rattle.history.proofs.Steps.{note-law}
+use Rattle.history.proofs.Steps.{note_law}
 use Rattle.history.proofs.take_part.Goals as goal
 
 pub grow8-requires : goal.grow8-requires
@@ -22,9 +22,9 @@ returns c = let a = c.args in
     let g = c.grow-later.ensures in
     record {
       state = g.0;
-      noted = c.note.ensures ∙ sym (note-law a.history a.layer.now a.part.now p.3.pieces p.0 (p.2.within c.if-part-gt16384.false));
+      noted = c.note.ensures ∙ sym (note_law a.history a.layer.now a.part.now p.3.pieces p.0 (p.2.within c.if-part-gt16384.false));
       kept = g.1;
-      length-then = g.2;
+      length_then = g.2;
       inside = g.3;
       tail = g.4;
     }

@@ -1,5 +1,5 @@
 use Rattle.std.proofs.Common.{arith, drop_of_length-le, refl, sym}
-use Rattle.octets.specs.OctetsLaws.{drop-step}
+use Rattle.octets.specs.OctetsLaws.{drop_step}
 use Rattle.hybrid.specs.Entry.{is_list}
 use Rattle.hybrid.proofs.is_list.Goals as goal
 
@@ -9,4 +9,4 @@ returns-then-bytes-at c = sym (rw (drop_of_length-le c.args.bytes.now {i = c.arg
 
 pub returns : goal.returns
 unfolding is_list
-returns c = sym (rw (drop-step c.args.bytes.now c.args.at (omega arith)) refl)
+returns c = sym (rw (drop_step c.args.bytes.now c.args.at (omega arith)) refl)

@@ -1,10 +1,10 @@
 use Rattle.std.proofs.Common.{sym}
 use Rattle.halves.specs.V1Keys.{key_path}
-use Rattle.hybrid.specs.EntryLaws.{found_here, found-missing, found_part}
+use Rattle.hybrid.specs.EntryLaws.{found_here, found_missing, found_part}
 use Rattle.hybrid.proofs.path_of.Goals as goal
 
 pub returns-in-Missing : goal.returns-in-Missing
-returns-in-Missing c = λ es s. found-missing _ _ _ (found_here _ key_path _ es s) (sym c.in-Missing.ensures)
+returns-in-Missing c = λ es s. found_missing _ _ _ (found_here _ key_path _ es s) (sym c.in-Missing.ensures)
 
 pub returns-in-Part : goal.returns-in-Part
 returns-in-Part c = λ es s.

@@ -1,20 +1,20 @@
 use Rattle.std.proofs.Common.{arith, ℕ, ◌≡◌, sym, ◌∙◌}
-use Rattle.bencode.specs.EndsLaws.{value-ends}
-use Rattle.hybrid.specs.EntryLaws.{reads-ended, reads_other, reads-broken, reads-entry}
+use Rattle.bencode.specs.EndsLaws.{value_ends}
+use Rattle.hybrid.specs.EntryLaws.{reads_ended, reads_other, reads_broken, reads_entry}
 use Rattle.hybrid.proofs.read_v1.Goals as goal
 
 pub returns-then-ends_here : goal.returns-then-ends_here
-returns-then-ends_here c = reads-ended _ _ (sym c.ends_here.ensures ∙ c.if-ends_here.true)
+returns-then-ends_here c = reads_ended _ _ (sym c.ends_here.ensures ∙ c.if-ends_here.true)
 
 pub returns-then-not-is_dictionary : goal.returns-then-not-is_dictionary
 returns-then-not-is_dictionary c = reads_other _ _ (sym c.ends_here.ensures ∙ c.if-ends_here.false) (sym c.is_dictionary.ensures ∙ c.if-not-is_dictionary.true)
 
 pub returns-in-Broken : goal.returns-in-Broken
-returns-in-Broken c = reads-broken _ _ (sym c.ends_here.ensures ∙ c.if-ends_here.false) _ (sym c.in-Broken.ensures) (λ k e. let z : ◌≡◌ {A = ℕ} 0 1 = cc in omega arith)
+returns-in-Broken c = reads_broken _ _ (sym c.ends_here.ensures ∙ c.if-ends_here.false) _ (sym c.in-Broken.ensures) (λ k e. let z : ◌≡◌ {A = ℕ} 0 1 = cc in omega arith)
 
 pub returns-in-TooDeep : goal.returns-in-TooDeep
-returns-in-TooDeep c = reads-broken _ _ (sym c.ends_here.ensures ∙ c.if-ends_here.false) _ (sym c.in-TooDeep.ensures) (λ k e. let z : ◌≡◌ {A = ℕ} 0 1 = cc in omega arith)
+returns-in-TooDeep c = reads_broken _ _ (sym c.ends_here.ensures ∙ c.if-ends_here.false) _ (sym c.in-TooDeep.ensures) (λ k e. let z : ◌≡◌ {A = ℕ} 0 1 = cc in omega arith)
 
 pub returns-in-Past : goal.returns-in-Past
 returns-in-Past c = let w = sym c.in-Past.ensures in
-    reads-entry _ _ (sym c.ends_here.ensures ∙ c.if-ends_here.false) (sym c.is_dictionary.ensures ∙ c.if-not-is_dictionary.false) _ w (value-ends _ _ _ _ w) _ c.entry_at.ensures
+    reads_entry _ _ (sym c.ends_here.ensures ∙ c.if-ends_here.false) (sym c.is_dictionary.ensures ∙ c.if-not-is_dictionary.false) _ w (value_ends _ _ _ _ w) _ c.entry_at.ensures

@@ -1,12 +1,12 @@
 use Rattle.std.proofs.Common.{arith, sym}
-use Rattle.layers.proofs.Finding.{pieces-few, of_size, of-root, of_other}
+use Rattle.layers.proofs.Finding.{pieces_few, of_size, of_root, of_other}
 use Rattle.layers.proofs.of_layer.Goals as goal
 
 pub overflow_sub-end : goal.overflow_sub-end
 overflow_sub-end c = (rw c.in-Content.is at c.requires.4).0
 
 pub overflow_mul-pieces : goal.overflow_mul-pieces
-overflow_mul-pieces c = let x = pieces-few _ _ c.requires.0 c.requires.1 c.requires.2 in let y = c.piece_count-pieces.ensures in omega arith
+overflow_mul-pieces c = let x = pieces_few _ _ c.requires.0 c.requires.1 c.requires.2 in let y = c.piece_count-pieces.ensures in omega arith
 
 pub slice_bounds-gives_root-count : goal.slice_bounds-gives_root-count
 slice_bounds-gives_root-count c = (rw c.in-Content.is at c.requires.4).0
@@ -18,7 +18,7 @@ pub slice_bounds-gives_root-end : goal.slice_bounds-gives_root-end
 slice_bounds-gives_root-end c = (rw c.in-Content.is at c.requires.4).1
 
 pub returns-then-gives_root : goal.returns-then-gives_root
-returns-then-gives_root c = sym (of-root _ _ _ _ _ _ _ c.in-Content.is _ c.piece_count-pieces.ensures c.if-end-start.true _ c.gives_root.ensures c.if-gives_root.true)
+returns-then-gives_root c = sym (of_root _ _ _ _ _ _ _ c.in-Content.is _ c.piece_count-pieces.ensures c.if-end-start.true _ c.gives_root.ensures c.if-gives_root.true)
 
 pub returns-then-end-start : goal.returns-then-end-start
 returns-then-end-start c = sym (of_other _ _ _ _ _ _ _ c.in-Content.is _ c.piece_count-pieces.ensures c.if-end-start.true _ c.gives_root.ensures c.if-gives_root.false)

@@ -1,6 +1,6 @@
 -- Each way out is one case of the definition; head and leaves are put one behind the other.
 use Rattle.std.proofs.Common.{arith, sym, ◌∙◌}
-use Rattle.leaves.proofs.Writing.{not_right, long, low, count-is, index-fits, none_told, too_short, all-put}
+use Rattle.leaves.proofs.Writing.{not_right, long, low, count_is, index_fits, none_told, too_short, all_put}
 use Rattle.leaves.proofs.piece_hashes.Goals as goal
 
 pub returns-then-number-ne-DONE : goal.returns-then-number-ne-DONE
@@ -25,21 +25,21 @@ overflow_shl-c c = let a = c.args in
 pub overflow_mul-size : goal.overflow_mul-size
 overflow_mul-size c = let a = c.args in
     let z = sym c.piece_number-number.ensures ∙ c.if-number-ne-DONE.false in
-    let e = count-is a.store.now a.piece a.bytes.now z _ c.piece_height-k.ensures in
-    let f = index-fits a.store.now a.piece a.bytes.now z _ e in
+    let e = count_is a.store.now a.piece a.bytes.now z _ c.piece_height-k.ensures in
+    let f = index_fits a.store.now a.piece a.bytes.now z _ e in
     omega (arith, f)
 
 pub overflow_add-size : goal.overflow_add-size
 overflow_add-size c = let a = c.args in
     let z = sym c.piece_number-number.ensures ∙ c.if-number-ne-DONE.false in
-    let e = count-is a.store.now a.piece a.bytes.now z _ c.piece_height-k.ensures in
-    let f = index-fits a.store.now a.piece a.bytes.now z _ e in
+    let e = count_is a.store.now a.piece a.bytes.now z _ c.piece_height-k.ensures in
+    let f = index_fits a.store.now a.piece a.bytes.now z _ e in
     omega (arith, f)
 
 pub returns-then-out-size : goal.returns-then-out-size
 returns-then-out-size c = let a = c.args in
     let z = sym c.piece_number-number.ensures ∙ c.if-number-ne-DONE.false in
-    let e = count-is a.store.now a.piece a.bytes.now z _ c.piece_height-k.ensures in
+    let e = count_is a.store.now a.piece a.bytes.now z _ c.piece_height-k.ensures in
     too_short a.store.now a.piece a.bytes.now z (λ y. c.if-k-eq0.false (c.piece_height-k.ensures ∙ y)) a.out.now (omega (arith, e, c.if-out-size.true)) _ c.refusal-then-out-size.ensures
 
 pub facts_root-root-requires : goal.facts_root-root-requires
@@ -50,8 +50,8 @@ facts_root-root-requires c = let a = c.args in
 pub overflow_mul-index : goal.overflow_mul-index
 overflow_mul-index c = let a = c.args in
     let z = sym c.piece_number-number.ensures ∙ c.if-number-ne-DONE.false in
-    let e = count-is a.store.now a.piece a.bytes.now z _ c.piece_height-k.ensures in
-    let f = index-fits a.store.now a.piece a.bytes.now z _ e in
+    let e = count_is a.store.now a.piece a.bytes.now z _ c.piece_height-k.ensures in
+    let f = index_fits a.store.now a.piece a.bytes.now z _ e in
     omega (arith, f)
 
 pub put_leaves-requires : goal.put_leaves-requires
@@ -64,6 +64,6 @@ pub returns : goal.returns
 returns c = let a = c.args in
     let z = sym c.piece_number-number.ensures ∙ c.if-number-ne-DONE.false in
     let k = c.piece_height-k.ensures in
-    let e = count-is a.store.now a.piece a.bytes.now z _ k in
-    all-put a.store.now a.piece a.bytes.now z (λ y. c.if-k-eq0.false (k ∙ y)) a.out.now _ e (omega (arith, c.if-out-size.false)) _ _ _
+    let e = count_is a.store.now a.piece a.bytes.now z _ k in
+    all_put a.store.now a.piece a.bytes.now z (λ y. c.if-k-eq0.false (k ∙ y)) a.out.now _ e (omega (arith, c.if-out-size.false)) _ _ _
     c.facts_root-root.ensures c.put_head.ensures c.put_leaves.ensures _ c.success-2.ensures

@@ -1,6 +1,6 @@
 -- The id, the root and the four numbers are put one behind the other.
 use Rattle.std.proofs.Common.{arith, length-set, ◌∙◌}
-use Rattle.leaves.proofs.Writing.{head-put}
+use Rattle.leaves.proofs.Writing.{head_put}
 use Rattle.leaves.proofs.put_head.Goals as goal
 
 pub put_hash-requires : goal.put_hash-requires
@@ -22,5 +22,5 @@ pub shape_of-out : goal.shape_of-out
 shape_of-out c = c.put_number-4.auto.bytes ∙ c.put_number-3.auto.bytes ∙ c.put_number-2.auto.bytes ∙ c.put_number.auto.bytes ∙ c.put_hash.auto.bytes ∙ length-set c.args.out.now 0 22
 
 pub returns : goal.returns
-returns c = head-put c.args.out.now c.args.root c.args.index c.args.len _ _ _ _ _ c.well_formed.1.0.1.0.1 c.requires
+returns c = head_put c.args.out.now c.args.root c.args.index c.args.len _ _ _ _ _ c.well_formed.1.0.1.0.1 c.requires
     c.put_hash.ensures c.put_number.ensures c.put_number-2.ensures c.put_number-3.ensures c.put_number-4.ensures

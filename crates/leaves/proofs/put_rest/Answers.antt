@@ -1,6 +1,6 @@
 -- By the loop: wherever the first leaves stood in front, the first i do now.
 use Rattle.std.proofs.Common.{arith, refl, ◌∙◌}
-use Rattle.leaves.proofs.Writing.{leaf-one, leaf-done}
+use Rattle.leaves.proofs.Writing.{leaf_one, leaf_done}
 use Rattle.leaves.proofs.put_rest.Goals as goal
 
 pub loop-i-init : goal.loop-i-init
@@ -15,7 +15,7 @@ loop-i-preserved c = let a = c.args in
     let l = c.loop-i in (
       omega arith,
       c.put_hash.auto.bytes ∙ l.invariant.1,
-      λ o k e. leaf-one a.bytes.now o l.out _ _ a.at l.i (omega (arith, q.1)) c.leaf_of-h.ensures (l.invariant.2 o k e) c.put_hash.ensures,
+      λ o k e. leaf_one a.bytes.now o l.out _ _ a.at l.i (omega (arith, q.1)) c.leaf_of-h.ensures (l.invariant.2 o k e) c.put_hash.ensures,
     )
 
 pub shape_of-out : goal.shape_of-out
@@ -24,4 +24,4 @@ shape_of-out c = c.loop-i.invariant.1
 pub returns : goal.returns
 returns c = let a = c.args in
     let l = c.loop-i in
-    λ o k e. leaf-done a.bytes.now o l.out a.at a.c l.i (omega arith) (omega arith) (l.invariant.2 o k e)
+    λ o k e. leaf_done a.bytes.now o l.out a.at a.c l.i (omega arith) (omega arith) (l.invariant.2 o k e)

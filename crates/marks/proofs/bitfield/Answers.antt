@@ -1,23 +1,23 @@
 use Rattle.std.proofs.Common.{arith, sym, ◌∙◌}
-use Rattle.store.specs.StoreLaws.{usable-facts}
-use Rattle.marks.specs.MarksLaws.{field-unusable, field-short, field-size-most}
-use Rattle.marks.proofs.Answers.{field-sized, field-given}
+use Rattle.store.specs.StoreLaws.{usable_facts}
+use Rattle.marks.specs.MarksLaws.{field_unusable, field_short, field_size_most}
+use Rattle.marks.proofs.Answers.{field_sized, field_given}
 use Rattle.marks.proofs.bitfield.Goals as goal
 
 pub returns-then-not-ok : goal.returns-then-not-ok
-returns-then-not-ok c = let w = field-unusable _ c.args.out.now (sym c.is_usable-ok.ensures ∙ c.if-not-ok.true) in (c.refusal.ensures ∙ w.0, w.1)
+returns-then-not-ok c = let w = field_unusable _ c.args.out.now (sym c.is_usable-ok.ensures ∙ c.if-not-ok.true) in (c.refusal.ensures ∙ w.0, w.1)
 
 pub file_length-length-requires : goal.file_length-length-requires
-file_length-length-requires c = (usable-facts _ (sym c.is_usable-ok.ensures ∙ c.if-not-ok.false)).long
+file_length-length-requires c = (usable_facts _ (sym c.is_usable-ok.ensures ∙ c.if-not-ok.false)).long
 
 pub piece_length_of-plen-requires : goal.piece_length_of-plen-requires
-piece_length_of-plen-requires c = (usable-facts _ (sym c.is_usable-ok.ensures ∙ c.if-not-ok.false)).long
+piece_length_of-plen-requires c = (usable_facts _ (sym c.is_usable-ok.ensures ∙ c.if-not-ok.false)).long
 
 pub returns-then-out-size : goal.returns-then-out-size
-returns-then-out-size c = let w = field-short _ c.args.out.now (sym c.is_usable-ok.ensures ∙ c.if-not-ok.false) (omega (arith, field-sized _ _ _ _ _ c.file_length-length.ensures c.piece_length_of-plen.ensures c.piece_count-c.ensures c.ceil_div-size.ensures, c.if-out-size.true)) in (c.refusal-then-out-size.ensures ∙ w.0, w.1)
+returns-then-out-size c = let w = field_short _ c.args.out.now (sym c.is_usable-ok.ensures ∙ c.if-not-ok.false) (omega (arith, field_sized _ _ _ _ _ c.file_length-length.ensures c.piece_length_of-plen.ensures c.piece_count-c.ensures c.ceil_div-size.ensures, c.if-out-size.true)) in (c.refusal-then-out-size.ensures ∙ w.0, w.1)
 
 pub write_field-requires : goal.write_field-requires
-write_field-requires c = ((sym c.is_usable-ok.ensures ∙ c.if-not-ok.false), omega (arith, c.if-out-size.false), omega (arith, field-sized _ _ _ _ _ c.file_length-length.ensures c.piece_length_of-plen.ensures c.piece_count-c.ensures c.ceil_div-size.ensures, field-size-most _ (usable-facts _ (sym c.is_usable-ok.ensures ∙ c.if-not-ok.false))))
+write_field-requires c = ((sym c.is_usable-ok.ensures ∙ c.if-not-ok.false), omega (arith, c.if-out-size.false), omega (arith, field_sized _ _ _ _ _ c.file_length-length.ensures c.piece_length_of-plen.ensures c.piece_count-c.ensures c.ceil_div-size.ensures, field_size_most _ (usable_facts _ (sym c.is_usable-ok.ensures ∙ c.if-not-ok.false))))
 
 pub returns : goal.returns
-returns c = field-given _ _ _ _ (sym c.is_usable-ok.ensures ∙ c.if-not-ok.false) (field-sized _ _ _ _ _ c.file_length-length.ensures c.piece_length_of-plen.ensures c.piece_count-c.ensures c.ceil_div-size.ensures) (omega (arith, c.if-out-size.false)) c.write_field.ensures _ c.success.ensures
+returns c = field_given _ _ _ _ (sym c.is_usable-ok.ensures ∙ c.if-not-ok.false) (field_sized _ _ _ _ _ c.file_length-length.ensures c.piece_length_of-plen.ensures c.piece_count-c.ensures c.ceil_div-size.ensures) (omega (arith, c.if-out-size.false)) c.write_field.ensures _ c.success.ensures

@@ -1,15 +1,15 @@
 -- Past the file's pieces the bit is 0; else it says whether all blocks that the piece covers are marked.
 use Rattle.std.proofs.Common.{arith}
-use Rattle.store.specs.StoreLaws.{usable-facts}
-use Rattle.marks.specs.MarksLaws.{covered-fits}
-use Rattle.marks.proofs.Answers.{counted, bit_past, bit-by}
+use Rattle.store.specs.StoreLaws.{usable_facts}
+use Rattle.marks.specs.MarksLaws.{covered_fits}
+use Rattle.marks.proofs.Answers.{counted, bit_past, bit_by}
 use Rattle.marks.proofs.piece_bit.Goals as goal
 
 pub file_length-size-requires : goal.file_length-size-requires
-file_length-size-requires c = (usable-facts _ c.requires).long
+file_length-size-requires c = (usable_facts _ c.requires).long
 
 pub piece_length_of-plen-requires : goal.piece_length_of-plen-requires
-piece_length_of-plen-requires c = (usable-facts _ c.requires).long
+piece_length_of-plen-requires c = (usable_facts _ c.requires).long
 
 pub returns-then-piece-c : goal.returns-then-piece-c
 returns-then-piece-c c = bit_past _ _ (omega (arith, counted _ _ _ _ c.file_length-size.ensures c.piece_length_of-plen.ensures c.piece_count-c.ensures, c.if-piece-c.true))
@@ -21,11 +21,11 @@ pub all_marked-all-requires : goal.all_marked-all-requires
 all_marked-all-requires c = (
   c.requires,
   c.marks_start-start.ensures,
-  omega (arith, c.blocks_in-n.ensures, c.first_block-first.ensures, covered-fits _ (usable-facts _ c.requires) c.args.piece (omega (arith, counted _ _ _ _ c.file_length-size.ensures c.piece_length_of-plen.ensures c.piece_count-c.ensures, c.if-piece-c.false))),
+  omega (arith, c.blocks_in-n.ensures, c.first_block-first.ensures, covered_fits _ (usable_facts _ c.requires) c.args.piece (omega (arith, counted _ _ _ _ c.file_length-size.ensures c.piece_length_of-plen.ensures c.piece_count-c.ensures, c.if-piece-c.false))),
 )
 
 pub returns-then-all : goal.returns-then-all
-returns-then-all c = bit-by _ _ _ _ _ _ (omega (arith, counted _ _ _ _ c.file_length-size.ensures c.piece_length_of-plen.ensures c.piece_count-c.ensures, c.if-piece-c.false)) c.first_block-first.ensures c.blocks_in-n.ensures c.all_marked-all.ensures c.if-all.true
+returns-then-all c = bit_by _ _ _ _ _ _ (omega (arith, counted _ _ _ _ c.file_length-size.ensures c.piece_length_of-plen.ensures c.piece_count-c.ensures, c.if-piece-c.false)) c.first_block-first.ensures c.blocks_in-n.ensures c.all_marked-all.ensures c.if-all.true
 
 pub returns-else-all : goal.returns-else-all
-returns-else-all c = bit-by _ _ _ _ _ _ (omega (arith, counted _ _ _ _ c.file_length-size.ensures c.piece_length_of-plen.ensures c.piece_count-c.ensures, c.if-piece-c.false)) c.first_block-first.ensures c.blocks_in-n.ensures c.all_marked-all.ensures c.if-all.false
+returns-else-all c = bit_by _ _ _ _ _ _ (omega (arith, counted _ _ _ _ c.file_length-size.ensures c.piece_length_of-plen.ensures c.piece_count-c.ensures, c.if-piece-c.false)) c.first_block-first.ensures c.blocks_in-n.ensures c.all_marked-all.ensures c.if-all.false

@@ -1,6 +1,6 @@
 use Rattle.std.proofs.Common.{arith, length, ◌≡◌, ap, ◌∙◌}
-use Rattle.marks.specs.MarksLaws.{field-length}
-use Rattle.marks.proofs.Answers.{field-turn}
+use Rattle.marks.specs.MarksLaws.{field_length}
+use Rattle.marks.proofs.Answers.{field_turn}
 use Rattle.octets.proofs.Turn.{whole}
 use Rattle.marks.specs.Marks.{field_bytes}
 use lib.Seq.{paste-zero, length-paste}
@@ -20,17 +20,17 @@ bounds-out-i c = omega (
   arith,
   (let it : length c.loop-i.out ≡ length c.args.out.now = let a = c.args in
       ap length c.loop-i.invariant.1
-      ∙ length-paste a.out.now 0 (field_bytes a.store.now a.n) c.loop-i.i (omega (arith, c.requires.1)) (omega (arith, field-length a.store.now a.n)) in it),
+      ∙ length-paste a.out.now 0 (field_bytes a.store.now a.n) c.loop-i.i (omega (arith, c.requires.1)) (omega (arith, field_length a.store.now a.n)) in it),
   c.requires.1,
 )
 
 pub loop-i-preserved : goal.loop-i-preserved
-loop-i-preserved c = (omega arith, field-turn _ _ _ _ _ _ c.loop-i.invariant.1 (omega arith) c.requires.1 c.field_byte-x.ensures)
+loop-i-preserved c = (omega arith, field_turn _ _ _ _ _ _ c.loop-i.invariant.1 (omega arith) c.requires.1 c.field_byte-x.ensures)
 
 pub shape_of-out : goal.shape_of-out
 shape_of-out c = (let it : length c.loop-i.out ≡ length c.args.out.now = let a = c.args in
     ap length c.loop-i.invariant.1
-    ∙ length-paste a.out.now 0 (field_bytes a.store.now a.n) c.loop-i.i (omega (arith, c.requires.1)) (omega (arith, field-length a.store.now a.n)) in it)
+    ∙ length-paste a.out.now 0 (field_bytes a.store.now a.n) c.loop-i.i (omega (arith, c.requires.1)) (omega (arith, field_length a.store.now a.n)) in it)
 
 pub returns : goal.returns
-returns c = whole _ _ _ _ c.loop-i.i c.args.n c.loop-i.invariant.1 (field-length _ _) (omega (arith, c.loop-i-test.false, c.loop-i.invariant.0))
+returns c = whole _ _ _ _ c.loop-i.i c.args.n c.loop-i.invariant.1 (field_length _ _) (omega (arith, c.loop-i-test.false, c.loop-i.invariant.0))

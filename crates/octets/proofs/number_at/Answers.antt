@@ -1,5 +1,5 @@
 use Rattle.std.proofs.Common.{arith, ◌≡◌, rules}
-use Rattle.octets.proofs.Digits.{digit-below, digit-fits, digit-more}
+use Rattle.octets.proofs.Digits.{digit_below, digit_fits, digit_more}
 use Rattle.octets.specs.Octets.{number_at}
 use Rattle.octets.proofs.number_at.Goals as goal
 
@@ -11,19 +11,19 @@ pub overflow_mul-x : goal.overflow_mul-x
 overflow_mul-x c = let l = c.loop-i in
     let w = c.wide-b in
     let k = c.args.size in
-    record { fits = omega (arith, digit-fits l.x w.result l.i k l.invariant.2 w.ensures.1 (omega arith) (omega arith)) }
+    record { fits = omega (arith, digit_fits l.x w.result l.i k l.invariant.2 w.ensures.1 (omega arith) (omega arith)) }
 
 pub overflow_add-x : goal.overflow_add-x
 overflow_add-x c = let l = c.loop-i in
     let w = c.wide-b in
     let k = c.args.size in
-    record { fits = digit-fits l.x w.result l.i k l.invariant.2 w.ensures.1 (omega arith) (omega arith) }
+    record { fits = digit_fits l.x w.result l.i k l.invariant.2 w.ensures.1 (omega arith) (omega arith) }
 
 pub loop-i-preserved : goal.loop-i-preserved
 loop-i-preserved c = let l = c.loop-i in
     let w = c.wide-b in
     let a = c.args in
-    (omega arith, digit-more a.bytes.now a.at l.i l.x w.result l.invariant.1 w.ensures.0, digit-below l.x w.result l.i l.invariant.2 w.ensures.1)
+    (omega arith, digit_more a.bytes.now a.at l.i l.x w.result l.invariant.1 w.ensures.0, digit_below l.x w.result l.i l.invariant.2 w.ensures.1)
 
 pub returns : goal.returns
 returns c = let l = c.loop-i in

@@ -1,8 +1,8 @@
 use Rattle.std.proofs.Common.{length-set, length-append, length-take, List, arith, ℕ, length, get_or, set, refl, ap, ◌∙◌, rules}
-use Rattle.padding.proofs.Pads.{pad-whole}
+use Rattle.padding.proofs.Pads.{pad_whole}
 use lib.ListN.{length-replicate}
 use Rattle.padding.proofs.Pads.{copy_more}
-use Rattle.padding.specs.PaddingLaws.{zeros-short, zeros-long}
+use Rattle.padding.specs.PaddingLaws.{zeros_short, zeros_long}
 use Rattle.padding.proofs.pad.Goals as goal
 
 pub loop-i-init : goal.loop-i-init
@@ -20,8 +20,8 @@ put_bits-requires c = let l = c.loop-i in
 pub returns-then-i-lt56 : goal.returns-then-i-lt56
 returns-then-i-lt56 c = let a = c.args in
     let l = c.loop-i in
-    pad-whole a.tail.now a.total l.i 56 l.b c.put_bits.new.b (omega arith) l.invariant.1 (omega arith) (search rules)
-    (zeros-short l.i a.total (omega arith) (omega arith))
+    pad_whole a.tail.now a.total l.i 56 l.b c.put_bits.new.b (omega arith) l.invariant.1 (omega arith) (search rules)
+    (zeros_short l.i a.total (omega arith) (omega arith))
     c.put_bits.ensures
 
 pub put_bits-requires-2 : goal.put_bits-requires-2
@@ -31,6 +31,6 @@ put_bits-requires-2 c = let l = c.loop-i in
 pub returns : goal.returns
 returns c = let a = c.args in
     let l = c.loop-i in
-    pad-whole a.tail.now a.total l.i 120 l.b c.put_bits-2.new.b (omega arith) l.invariant.1 (omega arith) (search rules)
-    (zeros-long l.i a.total (omega arith) (omega arith))
+    pad_whole a.tail.now a.total l.i 120 l.b c.put_bits-2.new.b (omega arith) l.invariant.1 (omega arith) (search rules)
+    (zeros_long l.i a.total (omega arith) (omega arith))
     c.put_bits-2.ensures

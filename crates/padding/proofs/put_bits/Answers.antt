@@ -1,10 +1,10 @@
 use Rattle.std.proofs.Common.{arith}
-use Rattle.padding.proofs.Pads.{eight-stores}
+use Rattle.padding.proofs.Pads.{eight_stores}
 use Rattle.padding.proofs.put_bits.Goals as goal
 
 pub returns : goal.returns
 returns c = let a = c.args in
-    eight-stores a.b.now a.at a.n
+    eight_stores a.b.now a.at a.n
     c.low.result
     c.low-2.result
     c.low-3.result

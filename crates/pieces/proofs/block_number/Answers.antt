@@ -1,32 +1,32 @@
 -- Each return is one case of the definition; a block of the file has its leaf in the tree.
 use Rattle.std.proofs.Common.{arith}
-use Rattle.pieces.proofs.Ways.{block_inside, block-cell, block-rest, block-4, block-3, block-9}
-use Rattle.store.specs.StoreLaws.{usable-long}
+use Rattle.pieces.proofs.Ways.{block_inside, block_cell, block_rest, block_4, block_3, block_9}
+use Rattle.store.specs.StoreLaws.{usable_long}
 use Rattle.pieces.proofs.block_number.Goals as goal
 
 pub blocks_of-c-requires : goal.blocks_of-c-requires
-blocks_of-c-requires c = usable-long _ _ c.is_usable-usable.ensures c.if-usable.true
+blocks_of-c-requires c = usable_long _ _ c.is_usable-usable.ensures c.if-usable.true
 
 pub file_length-n-requires : goal.file_length-n-requires
-file_length-n-requires c = usable-long _ _ c.is_usable-usable.ensures c.if-usable.true
+file_length-n-requires c = usable_long _ _ c.is_usable-usable.ensures c.if-usable.true
 
 pub height_of-h-requires : goal.height_of-h-requires
-height_of-h-requires c = usable-long _ _ c.is_usable-usable.ensures c.if-usable.true
+height_of-h-requires c = usable_long _ _ c.is_usable-usable.ensures c.if-usable.true
 
 pub node_number-q-requires : goal.node_number-q-requires
 node_number-q-requires c = let w = block_inside _ _ c.args.bytes.now _ c.is_usable-usable.ensures c.if-usable.true _ c.blocks_of-c.ensures c.if-block-c.true _ c.height_of-h.ensures in (omega arith, w.0, w.1)
 
 pub judge_leaf-requires : goal.judge_leaf-requires
-judge_leaf-requires c = block-cell _ _ c.args.bytes.now _ c.is_usable-usable.ensures c.if-usable.true _ c.blocks_of-c.ensures c.if-block-c.true _ _ c.height_of-h.ensures c.node_number-q.ensures
+judge_leaf-requires c = block_cell _ _ c.args.bytes.now _ c.is_usable-usable.ensures c.if-usable.true _ c.blocks_of-c.ensures c.if-block-c.true _ _ c.height_of-h.ensures c.node_number-q.ensures
 
 pub returns-then-bytes-size : goal.returns-then-bytes-size
-returns-then-bytes-size c = block-rest _ _ _ _ c.is_usable-usable.ensures c.if-usable.true _ c.blocks_of-c.ensures c.if-block-c.true _ _ c.file_length-n.ensures c.block_size-size.ensures c.if-bytes-size.true _ _ _ c.height_of-h.ensures c.node_number-q.ensures c.judge_leaf.ensures
+returns-then-bytes-size c = block_rest _ _ _ _ c.is_usable-usable.ensures c.if-usable.true _ c.blocks_of-c.ensures c.if-block-c.true _ _ c.file_length-n.ensures c.block_size-size.ensures c.if-bytes-size.true _ _ _ c.height_of-h.ensures c.node_number-q.ensures c.judge_leaf.ensures
 
 pub returns-then-block-c : goal.returns-then-block-c
-returns-then-block-c c = block-4 _ _ _ _ c.is_usable-usable.ensures c.if-usable.true _ c.blocks_of-c.ensures c.if-block-c.true _ _ c.file_length-n.ensures c.block_size-size.ensures c.if-bytes-size.false
+returns-then-block-c c = block_4 _ _ _ _ c.is_usable-usable.ensures c.if-usable.true _ c.blocks_of-c.ensures c.if-block-c.true _ _ c.file_length-n.ensures c.block_size-size.ensures c.if-bytes-size.false
 
 pub returns-then-usable : goal.returns-then-usable
-returns-then-usable c = block-3 _ _ _ _ c.is_usable-usable.ensures c.if-usable.true _ c.blocks_of-c.ensures c.if-block-c.false
+returns-then-usable c = block_3 _ _ _ _ c.is_usable-usable.ensures c.if-usable.true _ c.blocks_of-c.ensures c.if-block-c.false
 
 pub returns : goal.returns
-returns c = block-9 _ _ _ _ c.is_usable-usable.ensures c.if-usable.false
+returns c = block_9 _ _ _ _ c.is_usable-usable.ensures c.if-usable.false

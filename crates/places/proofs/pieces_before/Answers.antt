@@ -1,14 +1,14 @@
 -- The sum is that of the files before i; a list in its form keeps it far below 2^64.
 use Rattle.std.proofs.Common.{arith, ◌≡◌, ap, sym, ◌∙◌}
 use Rattle.places.specs.Places.{pieces_before}
-use Rattle.places.proofs.PlacesLaws.{record-within, before-none, before_more, sum_fits, pieces_are}
+use Rattle.places.proofs.PlacesLaws.{record_within, before_none, before_more, sum_fits, pieces_are}
 use Rattle.places.proofs.pieces_before.Goals as goal
 
 pub loop-i-init : goal.loop-i-init
-loop-i-init c = (omega arith, sym (before-none _ _))
+loop-i-init c = (omega arith, sym (before_none _ _))
 
 pub length_of-n-requires : goal.length_of-n-requires
-length_of-n-requires c = record-within c.args.list.now c.loop-i.i (omega (arith, c.requires.2, c.loop-i-test.true))
+length_of-n-requires c = record_within c.args.list.now c.loop-i.i (omega (arith, c.requires.2, c.loop-i-test.true))
 
 pub overflow_add-sum : goal.overflow_add-sum
 overflow_add-sum c = let a = c.args in

@@ -1,7 +1,7 @@
 -- The first i words have their round words added, and those from i on are as they were.
 -- Assumes nothing.
 use Rattle.std.proofs.Common.{get_or-set_other, take_all, arith, ℕ, ◌+◌, set, take, length-set, ◌≡◌, refl, ap, sym, ◌∙◌, rules}
-use Rattle.rounds.specs.StageLaws.{sums-more}
+use Rattle.rounds.specs.StageLaws.{sums_more}
 use Rattle.rounds.specs.Sums.{sums}
 use Rattle.rounds.proofs.add_round_words.Goals as goal
 
@@ -16,7 +16,7 @@ loop-i-preserved c = let l = c.loop-i in
       omega arith,
       length-set l.w l.i c.add.result ∙ l.invariant.1,
       ap (λ (x : ℕ). take (l.i + 1) (set l.w l.i x)) c.add.ensures
-          ∙ sums-more ks w₀ l.w l.i (omega arith) l.invariant.2 (l.invariant.3 l.i (omega arith)),
+          ∙ sums_more ks w₀ l.w l.i (omega arith) l.invariant.2 (l.invariant.3 l.i (omega arith)),
       λ j h. get_or-set_other l.w l.i j c.add.result 0 (λ e. omega arith) ∙ l.invariant.3 j (omega arith),
     )
 

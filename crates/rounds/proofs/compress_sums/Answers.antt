@@ -1,7 +1,7 @@
 -- After i rounds the state is that of the first i rounds by the sums.
 -- Assumes nothing.
 use Rattle.std.proofs.Common.{arith, refl, ap, ◌∙◌, rules}
-use Rattle.rounds.specs.StageLaws.{rounds_by-at}
+use Rattle.rounds.specs.StageLaws.{rounds_by_at}
 use Rattle.rounds.specs.Block.{plus}
 use Rattle.rounds.specs.Sums.{rounds_by}
 use Rattle.rounds.proofs.compress_sums.Goals as goal
@@ -14,4 +14,4 @@ pub loop-i-preserved : goal.loop-i-preserved
 loop-i-preserved c = (omega arith, omega arith, c.step16-t.ensures c.args.state c.loop-i.invariant.2)
 
 pub returns : goal.returns
-returns c = c.sum.ensures ∙ ap (plus c.args.state) (rounds_by-at c.args.sums.now c.args.state c.loop-i.i 64 c.loop-i.invariant.2 (omega arith))
+returns c = c.sum.ensures ∙ ap (plus c.args.state) (rounds_by_at c.args.sums.now c.args.state c.loop-i.i 64 c.loop-i.invariant.2 (omega arith))

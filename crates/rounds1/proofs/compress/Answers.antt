@@ -1,13 +1,13 @@
 use Rattle.std.proofs.Common.{List, arith, ℕ, take, drop, ap, ◌∙◌}
 use Rattle.rounds1.specs.Block.{plus, rounds, compress}
-use Rattle.rounds1.specs.StageLaws.{parity-before, parity-behind}
+use Rattle.rounds1.specs.StageLaws.{parity_before, parity_behind}
 use Rattle.rounds1.proofs.compress.Goals as goal
 
 pub parities-t40-requires : goal.parities-t40-requires
-parities-t40-requires c = (omega arith, λ j g h. parity-before j g h)
+parities-t40-requires c = (omega arith, λ j g h. parity_before j g h)
 
 pub parities-t80-requires : goal.parities-t80-requires
-parities-t80-requires c = (omega arith, λ j g h. parity-behind j g)
+parities-t80-requires c = (omega arith, λ j g h. parity_behind j g)
 
 pub returns : goal.returns
 unfolding compress

@@ -1,5 +1,5 @@
 use Rattle.std.proofs.Common.{arith, refl, rules}
-use Rattle.rounds1.specs.StageLaws.{rounds-at}
+use Rattle.rounds1.specs.StageLaws.{rounds_at}
 use Rattle.rounds1.proofs.majorities.Goals as goal
 
 pub loop-i-init : goal.loop-i-init
@@ -9,4 +9,4 @@ pub loop-i-preserved : goal.loop-i-preserved
 loop-i-preserved c = (omega arith, omega arith, omega arith, λ z e. c.majority5-t.ensures z (c.loop-i.invariant.3 z e))
 
 pub returns : goal.returns
-returns c = λ z e. rounds-at _ z c.loop-i.i 60 (c.loop-i.invariant.3 z e) (omega arith)
+returns c = λ z e. rounds_at _ z c.loop-i.i 60 (c.loop-i.invariant.3 z e) (omega arith)

@@ -1,16 +1,16 @@
 -- The loop has copied the bytes before number i, and the id stands before them.
 use Rattle.std.proofs.Common.{arith}
-use Rattle.serve.proofs.Loops.{head-one, head_more, head-length, head_done}
+use Rattle.serve.proofs.Loops.{head_one, head_more, head_length, head_done}
 use Rattle.serve.proofs.write_head.Goals as goal
 
 pub loop-i-init : goal.loop-i-init
 loop-i-init c = let a = c.args in
-    (omega arith, omega arith, head-one a.out.now a.message.now a.id c.requires.0 c.requires.1)
+    (omega arith, omega arith, head_one a.out.now a.message.now a.id c.requires.0 c.requires.1)
 
 pub bounds-out-i : goal.bounds-out-i
 bounds-out-i c = let a = c.args in
     let l = c.loop-i in
-    omega (arith, c.requires, head-length a.out.now a.message.now a.id c.requires.0 c.requires.1 l.i l.out l.invariant.2 l.invariant.1)
+    omega (arith, c.requires, head_length a.out.now a.message.now a.id c.requires.0 c.requires.1 l.i l.out l.invariant.2 l.invariant.1)
 
 pub loop-i-preserved : goal.loop-i-preserved
 loop-i-preserved c = let a = c.args in
@@ -20,7 +20,7 @@ loop-i-preserved c = let a = c.args in
 pub shape_of-out : goal.shape_of-out
 shape_of-out c = let a = c.args in
     let l = c.loop-i in
-    head-length a.out.now a.message.now a.id c.requires.0 c.requires.1 l.i l.out l.invariant.2 l.invariant.1
+    head_length a.out.now a.message.now a.id c.requires.0 c.requires.1 l.i l.out l.invariant.2 l.invariant.1
 
 pub returns : goal.returns
 returns c = let a = c.args in

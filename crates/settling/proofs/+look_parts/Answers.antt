@@ -1,55 +1,55 @@
 use Rattle.std.proofs.Common.{arith, ◌≡◌, refl, ◌∙◌, ◌*◌, ◌^◌}
 use Rattle.settling.specs.Subtree.{run_leaf}
 use Rattle.heaps.specs.HeapsLaws.{front_length}
-use Rattle.settling.specs.HeapLaws.{room-part, heaped-by, heaped-high}
-use Rattle.settling.specs.SubtreeLaws.{fit-self, fit-left, fit-right, looked-up}
+use Rattle.settling.specs.HeapLaws.{room_part, heaped_by, heaped_high}
+use Rattle.settling.specs.SubtreeLaws.{fit_self, fit_left, fit_right, looked_up}
 use Rattle.settling.proofs.+look_parts.Goals as goal
 
 pub overflow_shl-m : goal.overflow_shl-m
 overflow_shl-m t c = omega (arith, c.if-height-le-ROOM_LAYERS.true)
 
 pub overflow_mul-size : goal.overflow_mul-size
-overflow_mul-size t c = let q = room-part c.args.height c.if-height-le-ROOM_LAYERS.true in omega (arith, q.0, q.1)
+overflow_mul-size t c = let q = room_part c.args.height c.if-height-le-ROOM_LAYERS.true in omega (arith, q.0, q.1)
 
 pub slice_bounds-look_part-end : goal.slice_bounds-look_part-end
-slice_bounds-look_part-end t c = let q = room-part c.args.height c.if-height-le-ROOM_LAYERS.true in omega (arith, q.0, q.1, c.requires.1)
+slice_bounds-look_part-end t c = let q = room_part c.args.height c.if-height-le-ROOM_LAYERS.true in omega (arith, q.0, q.1, c.requires.1)
 
 pub look_part-requires : goal.look_part-requires
 look_part-requires t c = let a = c.args in
     let p = c.requires in
-    let q = room-part a.height c.if-height-le-ROOM_LAYERS.true in
+    let q = room_part a.height c.if-height-le-ROOM_LAYERS.true in
     rw q.0 (p.0, refl, front_length a.room.now (64 * 2 ^ a.height) (omega (arith, q.1, p.1)))
 
 pub returns-then-height-le-ROOM_LAYERS : goal.returns-then-height-le-ROOM_LAYERS
 returns-then-height-le-ROOM_LAYERS t c = let a = c.args in
     let e = c.look_part.ensures in
-    (e.0, e.1, heaped-by (run_leaf a.run.now a.pad) a.height a.index _ _ _ (room-part a.height c.if-height-le-ROOM_LAYERS.true).0 e.2)
+    (e.0, e.1, heaped_by (run_leaf a.run.now a.pad) a.height a.index _ _ _ (room_part a.height c.if-height-le-ROOM_LAYERS.true).0 e.2)
 
 pub overflow_mul-n2 : goal.overflow_mul-n2
-overflow_mul-n2 t c = let ne : c.args.height ≡ 0 → ⊥ = λ z. omega (arith, c.if-height-le-ROOM_LAYERS.false) in omega (arith, c.requires.0.index, fit-self (fit-right c.requires.0 ne))
+overflow_mul-n2 t c = let ne : c.args.height ≡ 0 → ⊥ = λ z. omega (arith, c.if-height-le-ROOM_LAYERS.false) in omega (arith, c.requires.0.index, fit_self (fit_right c.requires.0 ne))
 
 pub overflow_mul-j2 : goal.overflow_mul-j2
-overflow_mul-j2 t c = let ne : c.args.height ≡ 0 → ⊥ = λ z. omega (arith, c.if-height-le-ROOM_LAYERS.false) in omega (arith, c.requires.0.index, fit-self (fit-right c.requires.0 ne))
+overflow_mul-j2 t c = let ne : c.args.height ≡ 0 → ⊥ = λ z. omega (arith, c.if-height-le-ROOM_LAYERS.false) in omega (arith, c.requires.0.index, fit_self (fit_right c.requires.0 ne))
 
 pub overflow_add-n3 : goal.overflow_add-n3
-overflow_add-n3 t c = let ne : c.args.height ≡ 0 → ⊥ = λ z. omega (arith, c.if-height-le-ROOM_LAYERS.false) in omega (arith, c.requires.0.index, fit-self (fit-right c.requires.0 ne))
+overflow_add-n3 t c = let ne : c.args.height ≡ 0 → ⊥ = λ z. omega (arith, c.if-height-le-ROOM_LAYERS.false) in omega (arith, c.requires.0.index, fit_self (fit_right c.requires.0 ne))
 
 pub overflow_add-j3 : goal.overflow_add-j3
-overflow_add-j3 t c = let ne : c.args.height ≡ 0 → ⊥ = λ z. omega (arith, c.if-height-le-ROOM_LAYERS.false) in omega (arith, c.requires.0.index, fit-self (fit-right c.requires.0 ne))
+overflow_add-j3 t c = let ne : c.args.height ≡ 0 → ⊥ = λ z. omega (arith, c.if-height-le-ROOM_LAYERS.false) in omega (arith, c.requires.0.index, fit_self (fit_right c.requires.0 ne))
 
 pub look_parts-l-requires : goal.look_parts-l-requires
-look_parts-l-requires t c = let ne : c.args.height ≡ 0 → ⊥ = λ z. omega (arith, c.if-height-le-ROOM_LAYERS.false) in (omega arith, (fit-left c.requires.0 ne, c.requires.1))
+look_parts-l-requires t c = let ne : c.args.height ≡ 0 → ⊥ = λ z. omega (arith, c.if-height-le-ROOM_LAYERS.false) in (omega arith, (fit_left c.requires.0 ne, c.requires.1))
 
 pub look_parts-r-requires : goal.look_parts-r-requires
-look_parts-r-requires t c = let ne : c.args.height ≡ 0 → ⊥ = λ z. omega (arith, c.if-height-le-ROOM_LAYERS.false) in (omega arith, (fit-right c.requires.0 ne, c.look_parts-l.auto.room ∙ c.requires.1))
+look_parts-r-requires t c = let ne : c.args.height ≡ 0 → ⊥ = λ z. omega (arith, c.if-height-le-ROOM_LAYERS.false) in (omega arith, (fit_right c.requires.0 ne, c.look_parts-l.auto.room ∙ c.requires.1))
 
 pub agrees_at-o-requires : goal.agrees_at-o-requires
-agrees_at-o-requires t c = fit-self c.requires.0
+agrees_at-o-requires t c = fit_self c.requires.0
 
 pub returns : goal.returns
 returns t c = let ne : c.args.height ≡ 0 → ⊥ = λ z. omega (arith, c.if-height-le-ROOM_LAYERS.false) in let a = c.args in
     let l = c.look_parts-l.ensures in
     let r = c.look_parts-r.ensures in
-    let d = looked-up a.store.now (run_leaf a.run.now a.pad) a.height a.top a.index c.look_parts-l.result.hash c.look_parts-l.result.agrees c.look_parts-r.result.hash c.look_parts-r.result.agrees c.pair-h.result c.agrees_at-o.result c.all_three-all.result
+    let d = looked_up a.store.now (run_leaf a.run.now a.pad) a.height a.top a.index c.look_parts-l.result.hash c.look_parts-l.result.agrees c.look_parts-r.result.hash c.look_parts-r.result.agrees c.pair-h.result c.agrees_at-o.result c.all_three-all.result
     ne (l.0, l.1) (r.0, r.1) c.pair-h.ensures c.agrees_at-o.ensures c.all_three-all.ensures in
-    (d.0, d.1, heaped-high (run_leaf a.run.now a.pad) a.height a.index _ (λ h. omega (arith, h, c.if-height-le-ROOM_LAYERS.false)))
+    (d.0, d.1, heaped_high (run_leaf a.run.now a.pad) a.height a.index _ (λ h. omega (arith, h, c.if-height-le-ROOM_LAYERS.false)))

@@ -3,36 +3,36 @@
 use Rattle.std.proofs.Common.{arith, ap, ◌∙◌}
 use Rattle.cells.specs.Entries.{agrees}
 use Rattle.settling.specs.Subtree.{run_leaf}
-use Rattle.heaps.specs.HeapsLaws.{worked-parents}
-use Rattle.settling.specs.HeapLaws.{over-run, fit-leaves, fit-first, heap-whole, worked-top, worked-subtree}
+use Rattle.heaps.specs.HeapsLaws.{worked_parents}
+use Rattle.settling.specs.HeapLaws.{over_run, fit_leaves, fit_first, heap_whole, worked_top, worked_subtree}
 use Rattle.settling.proofs.look_part.Goals as goal
 
 pub work-requires : goal.work-requires
 work-requires c = let a = c.args in
     let p = c.requires in
-    let q = fit-leaves p.0 a.m p.1 in
+    let q = fit_leaves p.0 a.m p.1 in
     (p.2, q.0, omega (arith, q.1))
 
 pub hash_at-hash-requires : goal.hash_at-hash-requires
 hash_at-hash-requires c = let a = c.args in
     let p = c.requires in
     let leaf = run_leaf a.run.now a.pad in
-    let w = c.work.ensures leaf (over-run a.run.now a.pad) in
-    let q = fit-leaves p.0 a.m p.1 in omega (arith, w.size, q.0)
+    let w = c.work.ensures leaf (over_run a.run.now a.pad) in
+    let q = fit_leaves p.0 a.m p.1 in omega (arith, w.size, q.0)
 
 pub look_heap-agrees-requires : goal.look_heap-agrees-requires
 look_heap-agrees-requires c = let a = c.args in
     let p = c.requires in
     let leaf = run_leaf a.run.now a.pad in
-    let w = c.work.ensures leaf (over-run a.run.now a.pad) in
-    (fit-first p.0, worked-parents leaf a.m a.index _ w, omega arith, heap-whole _ a.height a.m p.1 w.size)
+    let w = c.work.ensures leaf (over_run a.run.now a.pad) in
+    (fit_first p.0, worked_parents leaf a.m a.index _ w, omega arith, heap_whole _ a.height a.m p.1 w.size)
 
 pub returns : goal.returns
 returns c = let a = c.args in
     let p = c.requires in
     let leaf = run_leaf a.run.now a.pad in
-    let w = c.work.ensures leaf (over-run a.run.now a.pad) in (
-      c.hash_at-hash.ensures ∙ worked-top leaf a.height a.index _ a.m p.1 w,
-      c.look_heap-agrees.ensures ∙ ap (agrees a.store.now) (worked-subtree leaf a.height a.index _ a.m a.top p.1 w),
+    let w = c.work.ensures leaf (over_run a.run.now a.pad) in (
+      c.hash_at-hash.ensures ∙ worked_top leaf a.height a.index _ a.m p.1 w,
+      c.look_heap-agrees.ensures ∙ ap (agrees a.store.now) (worked_subtree leaf a.height a.index _ a.m a.top p.1 w),
       w,
     )

@@ -1,5 +1,5 @@
 use Rattle.std.proofs.Common.{ap, ◌∙◌}
-use Rattle.sha256.proofs.Messages.{hash-law}
+use Rattle.sha256.proofs.Messages.{hash_law}
 use Rattle.sha256.specs.Sha256.{digest, sha256}
 use Rattle.sha256.proofs.hash.Goals as goal
 
@@ -11,4 +11,4 @@ returns c = let m = c.args.bytes.now in
     c.digest.ensures
     ∙ ap digest
     (c.finish.ensures
-    ∙ hash-law k.result m t.result c.start.result k.ensures c.start.ensures t.ensures)
+    ∙ hash_law k.result m t.result c.start.result k.ensures c.start.ensures t.ensures)

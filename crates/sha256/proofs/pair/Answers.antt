@@ -3,7 +3,7 @@
 use Rattle.std.proofs.Common.{arith, length, length-append, ◌≡◌, ap, ◌∙◌}
 use Rattle.rounds.specs.Block.{compress}
 use Rattle.sha256.specs.Sha256.{digest, sha256, pair_hash}
-use Rattle.sha256.proofs.Messages.{front, pair-law}
+use Rattle.sha256.proofs.Messages.{front, pair_law}
 use Rattle.sha256.proofs.pair.Goals as goal
 
 pub returns : goal.returns
@@ -17,5 +17,5 @@ returns c = let k = c.round_words-k in
     c.digest.ensures
     ∙ ap digest
     (c.compress_sums.ensures
-    ∙ pair-law k.result x.result j.result c.args.left c.args.right z.result t.result k.ensures x.ensures j.ensures z.ensures lj
+    ∙ pair_law k.result x.result j.result c.args.left c.args.right z.result t.result k.ensures x.ensures j.ensures z.ensures lj
     (t.ensures ∙ ap (compress k.result z.result) (front j.result lj)))

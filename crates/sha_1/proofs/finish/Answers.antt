@@ -1,6 +1,6 @@
 use Rattle.std.proofs.Common.{◌++◌, arith, length, take, drop, length-append, ◌≡◌, ap, ◌∙◌}
-use Rattle.padding.specs.CuttingLaws.{last_one, last-two}
-use Rattle.padding.specs.PaddingLaws.{length-padding, zeros-short, zeros-long}
+use Rattle.padding.specs.CuttingLaws.{last_one, last_two}
+use Rattle.padding.specs.PaddingLaws.{length_padding, zeros_short, zeros_long}
 use Rattle.padding.specs.Padding.{padding}
 use Rattle.rounds1.specs.declared.Five.{Five}
 use Rattle.rounds1.specs.Block.{compress}
@@ -9,14 +9,14 @@ use Rattle.sha_1.proofs.finish.Goals as goal
 pub returns-then-bytes-lt56 : goal.returns-then-bytes-lt56
 returns-then-bytes-lt56 c = let a = c.args in
     let x = a.bytes.now ++ padding a.total in
-    let l : length x ≡ 64 = length-append a.bytes.now (padding a.total) ∙ omega (arith, length-padding a.total, zeros-short (length a.bytes.now) a.total (omega arith) (omega arith)) in
+    let l : length x ≡ 64 = length-append a.bytes.now (padding a.total) ∙ omega (arith, length_padding a.total, zeros_short (length a.bytes.now) a.total (omega arith) (omega arith)) in
     c.compress-t.ensures ∙ last_one compress c.pad-b.result x a.state l c.pad-b.ensures.1
 
 pub returns : goal.returns
 returns c = let a = c.args in
     let x = a.bytes.now ++ padding a.total in
     let q = c.pad-b in
-    let l : length x ≡ 128 = length-append a.bytes.now (padding a.total) ∙ omega (arith, length-padding a.total, zeros-long (length a.bytes.now) a.total (omega arith) (omega arith)) in
+    let l : length x ≡ 128 = length-append a.bytes.now (padding a.total) ∙ omega (arith, length_padding a.total, zeros_long (length a.bytes.now) a.total (omega arith) (omega arith)) in
     c.compress.ensures
     ∙ ap (λ (t : Five). compress t (take 64 (drop 64 q.result))) c.compress-t.ensures
-    ∙ last-two compress q.result x a.state l q.ensures.0 q.ensures.1
+    ∙ last_two compress q.result x a.state l q.ensures.0 q.ensures.1

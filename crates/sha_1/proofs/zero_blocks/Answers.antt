@@ -1,5 +1,5 @@
 use Rattle.std.proofs.Common.{List, arith, ℕ, ◌/◌, take, drop, replicate, ◌≡◌, refl, ap, sym, ◌∙◌, rules}
-use Rattle.padding.specs.ZerosLaws.{zero-block}
+use Rattle.padding.specs.ZerosLaws.{zero_block}
 use Rattle.padding.specs.CuttingLaws.{blocks_more}
 use Rattle.padding.specs.Cutting.{over_blocks}
 use Rattle.rounds1.specs.declared.Five.{Five}
@@ -13,7 +13,7 @@ loop-at-init c = (search rules, refl, refl)
 pub loop-at-preserved : goal.loop-at-preserved
 loop-at-preserved c = let a = c.args in
     let l = c.loop-at in
-    let block : take {A = ℕ} 64 (drop 0 (replicate 64 0)) ≡ take 64 (drop l.at (replicate a.zeros 0)) = zero-block 64 0 (omega arith) ∙ sym (zero-block a.zeros l.at (omega arith)) in (
+    let block : take {A = ℕ} 64 (drop 0 (replicate 64 0)) ≡ take 64 (drop l.at (replicate a.zeros 0)) = zero_block 64 0 (omega arith) ∙ sym (zero_block a.zeros l.at (omega arith)) in (
       omega arith,
       omega arith,
       c.compress-t.ensures

@@ -1,18 +1,18 @@
 use Rattle.std.proofs.Common.{arith, refl, sym, ◌∙◌}
-use Rattle.filetree.specs.TokenLaws.{leaf-ends, leaf-fewer, fewer-behind, opened-ends}
-use Rattle.twins.specs.WalkLaws.{levels-left, going_start, going-bad, going_end, going-closed, file-stands, going-differs, going-file, inside-ahead, inside-differs, inside-behind, going-directory}
+use Rattle.filetree.specs.TokenLaws.{leaf_ends, leaf_fewer, fewer_behind, opened_ends}
+use Rattle.twins.specs.WalkLaws.{levels_left, going_start, going_bad, going_end, going_closed, file_stands, going_differs, going_file, inside_ahead, inside_differs, inside_behind, going_directory}
 use Rattle.twins.proofs.+compare_directory.Goals as goal
 
 pub loop-i-preserved-in-Leaf : goal.loop-i-preserved-in-Leaf
 loop-i-preserved-in-Leaf t c = let rooted = c.requires.0 in
     let e = sym c.in-Leaf.ensures in (
       c.meet-known.auto.room ∙ c.loop-i.invariant.0,
-      λ w. going-file w (c.loop-i.invariant.1 w) c.loop-i-test.true e rooted _ _ c.meet-known.ensures
+      λ w. going_file w (c.loop-i.invariant.1 w) c.loop-i-test.true e rooted _ _ c.meet-known.ensures
           (sym c.differs.ensures ∙ c.if-differs.false) _ c.one_more-layered.ensures,
     )
 
 pub overflow_sub-below : goal.overflow_sub-below
-overflow_sub-below t c = let left = levels-left c.requires.2 in omega arith
+overflow_sub-below t c = let left = levels_left c.requires.2 in omega arith
 
 pub loop-i-init : goal.loop-i-init
 loop-i-init t c = (refl, λ w. going_start w)
@@ -21,26 +21,26 @@ pub shape_of-room-in-BadToken : goal.shape_of-room-in-BadToken
 shape_of-room-in-BadToken t c = c.loop-i.invariant.0
 
 pub returns-in-BadToken : goal.returns-in-BadToken
-returns-in-BadToken t c = λ w. absurd (going-bad w (c.loop-i.invariant.1 w) (sym c.in-BadToken.ensures))
+returns-in-BadToken t c = λ w. absurd (going_bad w (c.loop-i.invariant.1 w) (sym c.in-BadToken.ensures))
 
 pub shape_of-room-in-Closed : goal.shape_of-room-in-Closed
 shape_of-room-in-Closed t c = c.loop-i.invariant.0
 
 pub returns-in-Closed : goal.returns-in-Closed
-returns-in-Closed t c = λ w. going-closed w (c.loop-i.invariant.1 w) c.loop-i-test.true (sym c.in-Closed.ensures)
+returns-in-Closed t c = λ w. going_closed w (c.loop-i.invariant.1 w) c.loop-i-test.true (sym c.in-Closed.ensures)
 
 pub meet-known-requires : goal.meet-known-requires
 meet-known-requires t c = let pre = c.requires in let short = pre.1 in let w = pre.2 in
     let g = c.loop-i.invariant.1 w in let h = c.loop-i-test.true in
     let e = sym c.in-Leaf.ensures in
-    (pre.0, g.known.sized, omega arith, λ o. ((leaf-ends _ _ _ _ _ _ _ e).2 o).1, file-stands w g h e)
+    (pre.0, g.known.sized, omega arith, λ o. ((leaf_ends _ _ _ _ _ _ _ e).2 o).1, file_stands w g h e)
 
 pub shape_of-room-then-differs : goal.shape_of-room-then-differs
 shape_of-room-then-differs t c = c.meet-known.auto.room ∙ c.loop-i.invariant.0
 
 pub returns-then-differs : goal.returns-then-differs
 returns-then-differs t c = let e = sym c.in-Leaf.ensures in
-    λ w. going-differs w (c.loop-i.invariant.1 w) c.loop-i-test.true e c.requires.0 _ _
+    λ w. going_differs w (c.loop-i.invariant.1 w) c.loop-i-test.true e c.requires.0 _ _
     c.meet-known.ensures (sym c.differs.ensures ∙ c.if-differs.true)
 
 pub one_more-layered-requires : goal.one_more-layered-requires
@@ -48,28 +48,28 @@ one_more-layered-requires t c = let pre = c.requires in let short = pre.1 in
     let few = (c.loop-i.invariant.1 pre.2).few in let h = c.loop-i-test.true in omega arith
 
 pub loop-i-smaller-in-Leaf : goal.loop-i-smaller-in-Leaf
-loop-i-smaller-in-Leaf t c = leaf-fewer _ _ _ _ _ _ _ (sym c.in-Leaf.ensures)
+loop-i-smaller-in-Leaf t c = leaf_fewer _ _ _ _ _ _ _ (sym c.in-Leaf.ensures)
 
 pub overflow_add-end : goal.overflow_add-end
 overflow_add-end t c = let short = c.requires.1 in
-    let inside = (opened-ends _ _ _ _ (sym c.in-Opened.ensures)).1 in omega arith
+    let inside = (opened_ends _ _ _ _ (sym c.in-Opened.ensures)).1 in omega arith
 
 pub compare_directory-requires : goal.compare_directory-requires
-compare_directory-requires t c = let pre = c.requires in let w = pre.2 in let left = levels-left w in
+compare_directory-requires t c = let pre = c.requires in let w = pre.2 in let left = levels_left w in
     let e = sym c.in-Opened.ensures in
-    (omega arith, (pre.0, pre.1, inside-ahead w (c.loop-i.invariant.1 w) c.loop-i-test.true e))
+    (omega arith, (pre.0, pre.1, inside_ahead w (c.loop-i.invariant.1 w) c.loop-i-test.true e))
 
 pub loop-i-smaller : goal.loop-i-smaller
 loop-i-smaller t c = let h = c.loop-i-test.true in let e = sym c.in-Opened.ensures in
     let w = c.requires.2 in let g = c.loop-i.invariant.1 w in
-    let ends = inside-behind w g h e _ _ _ ((c.in-Past.ensures (inside-ahead w g h e))) in
-    fewer-behind _ _ _ ends.0 ends.1
+    let ends = inside_behind w g h e _ _ _ ((c.in-Past.ensures (inside_ahead w g h e))) in
+    fewer_behind _ _ _ ends.0 ends.1
 
 pub loop-i-preserved : goal.loop-i-preserved
 loop-i-preserved t c = let h = c.loop-i-test.true in let e = sym c.in-Opened.ensures in (
   c.compare_directory.auto.room ∙ c.loop-i.invariant.0,
   λ w. let g = c.loop-i.invariant.1 w in
-      going-directory w g h e _ _ _ ((c.in-Past.ensures (inside-ahead w g h e))),
+      going_directory w g h e _ _ _ ((c.in-Past.ensures (inside_ahead w g h e))),
 )
 
 pub shape_of-room-in-Unlike : goal.shape_of-room-in-Unlike
@@ -78,7 +78,7 @@ shape_of-room-in-Unlike t c = c.compare_directory.auto.room ∙ c.loop-i.invaria
 pub returns-in-Unlike : goal.returns-in-Unlike
 returns-in-Unlike t c = let h = c.loop-i-test.true in let e = sym c.in-Opened.ensures in
     λ w. let g = c.loop-i.invariant.1 w in
-    inside-differs w g h e ((c.in-Unlike.ensures (inside-ahead w g h e)))
+    inside_differs w g h e ((c.in-Unlike.ensures (inside_ahead w g h e)))
 
 pub shape_of-room : goal.shape_of-room
 shape_of-room t c = c.loop-i.invariant.0

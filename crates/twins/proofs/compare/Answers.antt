@@ -1,19 +1,19 @@
-use Rattle.twins.proofs.Meeting.{forgotten, forgotten-room}
-use Rattle.twins.specs.WalkLaws.{tree-ahead, tree-agrees, tree-differs}
+use Rattle.twins.proofs.Meeting.{forgotten, forgotten_room}
+use Rattle.twins.specs.WalkLaws.{tree_ahead, tree_agrees, tree_differs}
 use Rattle.twins.proofs.compare.Goals as goal
 
 pub compare_directory-requires : goal.compare_directory-requires
 compare_directory-requires c = let f = c.forget.ensures in
-    (c.requires.0, c.requires.3, tree-ahead _ _ _ _ c.requires.0 c.requires.1 _ (forgotten-room c.args.room.now _ _ f c.requires.2) (forgotten c.args.room.now _ _ f))
+    (c.requires.0, c.requires.3, tree_ahead _ _ _ _ c.requires.0 c.requires.1 _ (forgotten_room c.args.room.now _ _ f c.requires.2) (forgotten c.args.room.now _ _ f))
 
 pub returns-in-Past : goal.returns-in-Past
 returns-in-Past c = let f = c.forget.ensures in
-    tree-agrees _ _ _ _ c.requires.0 c.requires.1 _ _ _ _
+    tree_agrees _ _ _ _ c.requires.0 c.requires.1 _ _ _ _
     (rw c.in-Past.is at
-    (c.compare_directory.ensures (tree-ahead _ _ _ _ c.requires.0 c.requires.1 _ (forgotten-room c.args.room.now _ _ f c.requires.2) (forgotten c.args.room.now _ _ f))))
+    (c.compare_directory.ensures (tree_ahead _ _ _ _ c.requires.0 c.requires.1 _ (forgotten_room c.args.room.now _ _ f c.requires.2) (forgotten c.args.room.now _ _ f))))
 
 pub returns-in-Unlike : goal.returns-in-Unlike
 returns-in-Unlike c = let f = c.forget.ensures in
-    tree-differs _ _ _ _ c.requires.0 c.requires.1
+    tree_differs _ _ _ _ c.requires.0 c.requires.1
     (rw c.in-Unlike.is at
-    (c.compare_directory.ensures (tree-ahead _ _ _ _ c.requires.0 c.requires.1 _ (forgotten-room c.args.room.now _ _ f c.requires.2) (forgotten c.args.room.now _ _ f))))
+    (c.compare_directory.ensures (tree_ahead _ _ _ _ c.requires.0 c.requires.1 _ (forgotten_room c.args.room.now _ _ f c.requires.2) (forgotten c.args.room.now _ _ f))))

@@ -2,19 +2,19 @@
 use Rattle.std.proofs.Common.{arith, sym, ◌∙◌, rules}
 use Rattle.writer_meaning.specs.Content.{item_before}
 use Rattle.writer_order.specs.Order.{InOrder, root_before}
-use Rattle.writer.specs.StepsLaws.{places, roots-right, tree-right, whole-size, met}
+use Rattle.writer.specs.StepsLaws.{places, roots_right, tree_right_lem, whole_size, met}
 use Rattle.writer.proofs.measure.Goals as goal
 
 pub sort-requires : goal.sort-requires
 sort-requires c = (
   places c.args.list.now c.args.text.now c.requires.form _ _ c.requires.at_size c.place.ensures,
   c.place.auto.at,
-  c.requires.room-size ∙ sym c.requires.at_size,
+  c.requires.room_size ∙ sym c.requires.at_size,
 )
 
 pub rest_size-rest-requires : goal.rest_size-rest-requires
 rest_size-rest-requires c = (
-  (let it : InOrder root_before c.args.list.now c.args.text.now c.sort.new.at = roots-right c.args.list.now c.args.text.now c.requires.form _ _ _ c.requires.at_size
+  (let it : InOrder root_before c.args.list.now c.args.text.now c.sort.new.at = roots_right c.args.list.now c.args.text.now c.requires.form _ _ _ c.requires.at_size
       c.place.ensures c.sort.ensures.0 in it).placed,
   omega (arith, c.sort.auto.at, c.place.auto.at, c.requires.at_size, c.requires.few),
 )
@@ -22,21 +22,21 @@ rest_size-rest-requires c = (
 pub root_number-roots-requires : goal.root_number-roots-requires
 root_number-roots-requires c = (
   c.requires.form,
-  (let it : InOrder root_before c.args.list.now c.args.text.now c.sort.new.at = roots-right c.args.list.now c.args.text.now c.requires.form _ _ _ c.requires.at_size
+  (let it : InOrder root_before c.args.list.now c.args.text.now c.sort.new.at = roots_right c.args.list.now c.args.text.now c.requires.form _ _ _ c.requires.at_size
       c.place.ensures c.sort.ensures.0 in it),
 )
 
 pub sort-requires-2 : goal.sort-requires-2
 sort-requires-2 c = (
-  (let it : InOrder root_before c.args.list.now c.args.text.now c.sort.new.at = roots-right c.args.list.now c.args.text.now c.requires.form _ _ _ c.requires.at_size
+  (let it : InOrder root_before c.args.list.now c.args.text.now c.sort.new.at = roots_right c.args.list.now c.args.text.now c.requires.form _ _ _ c.requires.at_size
       c.place.ensures c.sort.ensures.0 in it).placed,
   c.sort.auto.at ∙ c.place.auto.at,
-  c.sort.auto.room ∙ c.requires.room-size ∙ sym c.requires.at_size,
+  c.sort.auto.room ∙ c.requires.room_size ∙ sym c.requires.at_size,
 )
 
 pub info_size-info-requires : goal.info_size-info-requires
 info_size-info-requires c = (
-  (let it : InOrder item_before c.args.list.now c.args.text.now c.sort-2.new.at = tree-right c.args.list.now c.args.text.now c.requires.form _ _ ((let it : InOrder root_before c.args.list.now c.args.text.now c.sort.new.at = roots-right c.args.list.now c.args.text.now c.requires.form _ _ _ c.requires.at_size
+  (let it : InOrder item_before c.args.list.now c.args.text.now c.sort-2.new.at = tree_right_lem c.args.list.now c.args.text.now c.requires.form _ _ ((let it : InOrder root_before c.args.list.now c.args.text.now c.sort.new.at = roots_right c.args.list.now c.args.text.now c.requires.form _ _ _ c.requires.at_size
       c.place.ensures c.sort.ensures.0 in it)) c.sort-2.ensures.0 in it).placed,
   omega (
     arith,
@@ -49,7 +49,7 @@ info_size-info-requires c = (
 )
 
 pub meets-meet-requires : goal.meets-meet-requires
-meets-meet-requires c = (let it : InOrder item_before c.args.list.now c.args.text.now c.sort-2.new.at = tree-right c.args.list.now c.args.text.now c.requires.form _ _ ((let it : InOrder root_before c.args.list.now c.args.text.now c.sort.new.at = roots-right c.args.list.now c.args.text.now c.requires.form _ _ _ c.requires.at_size
+meets-meet-requires c = (let it : InOrder item_before c.args.list.now c.args.text.now c.sort-2.new.at = tree_right_lem c.args.list.now c.args.text.now c.requires.form _ _ ((let it : InOrder root_before c.args.list.now c.args.text.now c.sort.new.at = roots_right c.args.list.now c.args.text.now c.requires.form _ _ _ c.requires.at_size
     c.place.ensures c.sort.ensures.0 in it)) c.sort-2.ensures.0 in it).placed
 
 pub overflow_add-size : goal.overflow_add-size
@@ -58,7 +58,7 @@ overflow_add-size c = let a = c.info_size-info.ensures.1 in let b = c.rest_size-
 pub content_number-number-requires : goal.content_number-number-requires
 content_number-number-requires c = (
   c.requires.form,
-  met c.args.list.now c.args.text.now c.requires.form _ _ ((let it : InOrder item_before c.args.list.now c.args.text.now c.sort-2.new.at = tree-right c.args.list.now c.args.text.now c.requires.form _ _ ((let it : InOrder root_before c.args.list.now c.args.text.now c.sort.new.at = roots-right c.args.list.now c.args.text.now c.requires.form _ _ _ c.requires.at_size
+  met c.args.list.now c.args.text.now c.requires.form _ _ ((let it : InOrder item_before c.args.list.now c.args.text.now c.sort-2.new.at = tree_right_lem c.args.list.now c.args.text.now c.requires.form _ _ ((let it : InOrder root_before c.args.list.now c.args.text.now c.sort.new.at = roots_right c.args.list.now c.args.text.now c.requires.form _ _ _ c.requires.at_size
       c.place.ensures c.sort.ensures.0 in it)) c.sort-2.ensures.0 in it)) c.meets-meet.ensures,
   λ k p.
       c.root_number-roots.ensures (omega (arith, k)) p,
@@ -72,12 +72,12 @@ shape_of-room c = c.sort-2.auto.room ∙ c.sort.auto.room
 
 pub returns : goal.returns
 returns c = let size =
-    whole-size c.args.list.now c.args.text.now c.requires.form c.args.plen c.args.name.now _ _ ((let it : InOrder item_before c.args.list.now c.args.text.now c.sort-2.new.at = tree-right c.args.list.now c.args.text.now c.requires.form _ _ ((let it : InOrder root_before c.args.list.now c.args.text.now c.sort.new.at = roots-right c.args.list.now c.args.text.now c.requires.form _ _ _ c.requires.at_size
+    whole_size c.args.list.now c.args.text.now c.requires.form c.args.plen c.args.name.now _ _ ((let it : InOrder item_before c.args.list.now c.args.text.now c.sort-2.new.at = tree_right_lem c.args.list.now c.args.text.now c.requires.form _ _ ((let it : InOrder root_before c.args.list.now c.args.text.now c.sort.new.at = roots_right c.args.list.now c.args.text.now c.requires.form _ _ _ c.requires.at_size
     c.place.ensures c.sort.ensures.0 in it)) c.sort-2.ensures.0 in it))
-    ((let it : InOrder root_before c.args.list.now c.args.text.now c.sort.new.at = roots-right c.args.list.now c.args.text.now c.requires.form _ _ _ c.requires.at_size
+    ((let it : InOrder root_before c.args.list.now c.args.text.now c.sort.new.at = roots_right c.args.list.now c.args.text.now c.requires.form _ _ _ c.requires.at_size
     c.place.ensures c.sort.ensures.0 in it)) _ _ c.info_size-info.ensures.0 c.rest_size-rest.ensures.0 in
     record {
-      tree-order = (let it : InOrder item_before c.args.list.now c.args.text.now c.sort-2.new.at = tree-right c.args.list.now c.args.text.now c.requires.form _ _ ((let it : InOrder root_before c.args.list.now c.args.text.now c.sort.new.at = roots-right c.args.list.now c.args.text.now c.requires.form _ _ _ c.requires.at_size
+      tree_order = (let it : InOrder item_before c.args.list.now c.args.text.now c.sort-2.new.at = tree_right_lem c.args.list.now c.args.text.now c.requires.form _ _ ((let it : InOrder root_before c.args.list.now c.args.text.now c.sort.new.at = roots_right c.args.list.now c.args.text.now c.requires.form _ _ _ c.requires.at_size
           c.place.ensures c.sort.ensures.0 in it)) c.sort-2.ensures.0 in it);
       number_is = c.content_number-number.ensures c.args.name.now size;
       size_is = size;

@@ -1,5 +1,5 @@
 use Rattle.std.proofs.Common.{arith, sym, ◌∙◌}
-use Rattle.writer.specs.StepsLaws.{answer-number, answer-room, answer-done}
+use Rattle.writer.specs.StepsLaws.{answer_number, answer_room, answer_done}
 use Rattle.writer.proofs.write_in.Goals as goal
 
 pub measure-measured-requires : goal.measure-measured-requires
@@ -12,7 +12,7 @@ pub shape_of-room-then-number-ne0 : goal.shape_of-room-then-number-ne0
 shape_of-room-then-number-ne0 c = c.measure-measured.auto.room
 
 pub returns-then-number-ne0 : goal.returns-then-number-ne0
-returns-then-number-ne0 c = let a = answer-number c.args.list.now
+returns-then-number-ne0 c = let a = answer_number c.args.list.now
     c.args.text.now c.args.plen
     c.args.name.now c.args.out.now
     c.requires.form _
@@ -26,7 +26,7 @@ pub shape_of-room-then-out-size : goal.shape_of-room-then-out-size
 shape_of-room-then-out-size c = c.measure-measured.auto.room
 
 pub returns-then-out-size : goal.returns-then-out-size
-returns-then-out-size c = let a = answer-room c.args.list.now
+returns-then-out-size c = let a = answer_room c.args.list.now
     c.args.text.now
     c.args.plen
     c.args.name.now
@@ -45,11 +45,11 @@ put_torrent-requires c = (
     at_size =
         c.measure-measured.auto.at ∙
         c.requires.at_size;
-    room-size =
+    room_size =
         c.measure-measured.auto.room ∙
-        c.requires.room-size;
+        c.requires.room_size;
   },
-  c.measure-measured.ensures.tree-order,
+  c.measure-measured.ensures.tree_order,
   (sym c.measure-measured.ensures.number_is ∙
       c.if-number-ne0.false),
   omega (
@@ -71,7 +71,7 @@ pub shape_of-out : goal.shape_of-out
 shape_of-out c = c.put_torrent.auto.out
 
 pub returns : goal.returns
-returns c = let a = answer-done c.args.list.now
+returns c = let a = answer_done c.args.list.now
     c.args.text.now
     c.args.plen
     c.args.name.now

@@ -1,9 +1,9 @@
 use Rattle.std.proofs.Common.{ltb-true, ltb-false, sym, ◌∙◌}
-use Rattle.writer.specs.StepsLaws.{answer-form, answer-many, part-ready, part_end}
+use Rattle.writer.specs.StepsLaws.{answer_form, answer_many, part_ready, part_end}
 use Rattle.writer.proofs.write_with.Goals as goal
 
 pub returns-then-not-list_form : goal.returns-then-not-list_form
-returns-then-not-list_form c = let a = answer-form c.args.list.now
+returns-then-not-list_form c = let a = answer_form c.args.list.now
     c.args.text.now
     c.args.plen
     c.args.name.now
@@ -11,7 +11,7 @@ returns-then-not-list_form c = let a = answer-form c.args.list.now
     (sym c.list_form.ensures ∙ c.if-not-list_form.true) in (c.refusal.ensures ∙ a.0, a.1)
 
 pub returns-then-too_many : goal.returns-then-too_many
-returns-then-too_many c = let a = answer-many c.args.list.now
+returns-then-too_many c = let a = answer_many c.args.list.now
     c.args.text.now
     c.args.plen
     c.args.name.now
@@ -30,7 +30,7 @@ slice_bounds-write_in-end-2 c = part_end _ c.args.room.now
     c.requires.1
 
 pub write_in-requires : goal.write_in-requires
-write_in-requires c = part-ready c.args.list.now
+write_in-requires c = part_ready c.args.list.now
     c.args.text.now
     c.args.at.now
     c.args.room.now

@@ -1,24 +1,24 @@
 -- A refusal hands its number on. Behind it the wanted positions are looked at in order: all are held, or the first that is not names its run.
-use Rattle.asking.proofs.Answers.{usable-long, next-refused, next-usable, next-node, front-room, next-nothing, length-asks, length_some, in-layer, next-request-is}
+use Rattle.asking.proofs.Answers.{usable_long, next_refused, next_usable, next_node, front_room, next_nothing, length_asks, length_some, in_layer, next_request_is}
 use Rattle.asking.proofs.next.next_request.Goals as goal
 
 pub returns-then-number-ne-DONE : goal.returns-then-number-ne-DONE
-returns-then-number-ne-DONE c = next-refused _ _ _ _ c.next_number-number.ensures c.if-number-ne-DONE.true c.no_request.ensures
+returns-then-number-ne-DONE c = next_refused _ _ _ _ c.next_number-number.ensures c.if-number-ne-DONE.true c.no_request.ensures
 
 pub height_of-h-requires : goal.height_of-h-requires
-height_of-h-requires c = usable-long _ (next-usable _ _ _ c.next_number-number.ensures c.if-number-ne-DONE.false)
+height_of-h-requires c = usable_long _ (next_usable _ _ _ c.next_number-number.ensures c.if-number-ne-DONE.false)
 
 pub blocks_of-b-requires : goal.blocks_of-b-requires
-blocks_of-b-requires c = usable-long _ (next-usable _ _ _ c.next_number-number.ensures c.if-number-ne-DONE.false)
+blocks_of-b-requires c = usable_long _ (next_usable _ _ _ c.next_number-number.ensures c.if-number-ne-DONE.false)
 
 pub node_number-first-requires : goal.node_number-first-requires
-node_number-first-requires c = next-node _ _ _ c.next_number-number.ensures c.if-number-ne-DONE.false _ c.height_of-h.ensures
+node_number-first-requires c = next_node _ _ _ c.next_number-number.ensures c.if-number-ne-DONE.false _ c.height_of-h.ensures
 
 pub held_front-i-requires : goal.held_front-i-requires
-held_front-i-requires c = front-room _ _ _ c.next_number-number.ensures c.if-number-ne-DONE.false _ c.height_of-h.ensures _ _ _ c.blocks_of-b.ensures c.covering-c.ensures c.node_number-first.ensures
+held_front-i-requires c = front_room _ _ _ c.next_number-number.ensures c.if-number-ne-DONE.false _ c.height_of-h.ensures _ _ _ c.blocks_of-b.ensures c.covering-c.ensures c.node_number-first.ensures
 
 pub run_length-len-requires : goal.run_length-len-requires
-run_length-len-requires c = length-asks _ _ _ c.next_number-number.ensures c.if-number-ne-DONE.false _ c.height_of-h.ensures _ _ _ c.blocks_of-b.ensures c.covering-c.ensures c.node_number-first.ensures _ c.held_front-i.ensures c.if-i-c.true
+run_length-len-requires c = length_asks _ _ _ c.next_number-number.ensures c.if-number-ne-DONE.false _ c.height_of-h.ensures _ _ _ c.blocks_of-b.ensures c.covering-c.ensures c.node_number-first.ensures _ c.held_front-i.ensures c.if-i-c.true
 
 pub nonzero_div-j : goal.nonzero_div-j
 nonzero_div-j c = length_some _ _ _ c.next_number-number.ensures c.if-number-ne-DONE.false _ c.height_of-h.ensures _ _ _ c.blocks_of-b.ensures c.covering-c.ensures c.node_number-first.ensures
@@ -26,17 +26,17 @@ nonzero_div-j c = length_some _ _ _ c.next_number-number.ensures c.if-number-ne-
 
 pub run_header-x-requires : goal.run_header-x-requires
 run_header-x-requires c = (
-  next-usable _ _ _ c.next_number-number.ensures c.if-number-ne-DONE.false,
+  next_usable _ _ _ c.next_number-number.ensures c.if-number-ne-DONE.false,
   c.height_of-h.ensures,
-  in-layer _ _ _ c.next_number-number.ensures c.if-number-ne-DONE.false _ c.height_of-h.ensures _ _ _ c.blocks_of-b.ensures c.covering-c.ensures c.node_number-first.ensures _ c.held_front-i.ensures c.if-i-c.true _ c.run_length-len.ensures,
+  in_layer _ _ _ c.next_number-number.ensures c.if-number-ne-DONE.false _ c.height_of-h.ensures _ _ _ c.blocks_of-b.ensures c.covering-c.ensures c.node_number-first.ensures _ c.held_front-i.ensures c.if-i-c.true _ c.run_length-len.ensures,
 )
 
 pub facts_root-root-requires : goal.facts_root-root-requires
-facts_root-root-requires c = usable-long _ (next-usable _ _ _ c.next_number-number.ensures c.if-number-ne-DONE.false)
+facts_root-root-requires c = usable_long _ (next_usable _ _ _ c.next_number-number.ensures c.if-number-ne-DONE.false)
 
 pub returns-then-i-c : goal.returns-then-i-c
-returns-then-i-c c = next-request-is _ _ _ c.next_number-number.ensures c.if-number-ne-DONE.false _ c.height_of-h.ensures _ _ _ c.blocks_of-b.ensures c.covering-c.ensures c.node_number-first.ensures _ c.held_front-i.ensures c.if-i-c.true _ c.run_length-len.ensures
+returns-then-i-c c = next_request_is _ _ _ c.next_number-number.ensures c.if-number-ne-DONE.false _ c.height_of-h.ensures _ _ _ c.blocks_of-b.ensures c.covering-c.ensures c.node_number-first.ensures _ c.held_front-i.ensures c.if-i-c.true _ c.run_length-len.ensures
     _ _ _ c.run_header-x.ensures.0 c.facts_root-root.ensures c.request_for.ensures
 
 pub returns : goal.returns
-returns c = next-nothing _ _ _ c.next_number-number.ensures c.if-number-ne-DONE.false _ c.height_of-h.ensures _ _ _ c.blocks_of-b.ensures c.covering-c.ensures c.node_number-first.ensures _ c.held_front-i.ensures _ c.if-i-c.false c.no_request-2.ensures
+returns c = next_nothing _ _ _ c.next_number-number.ensures c.if-number-ne-DONE.false _ c.height_of-h.ensures _ _ _ c.blocks_of-b.ensures c.covering-c.ensures c.node_number-first.ensures _ c.held_front-i.ensures _ c.if-i-c.false c.no_request-2.ensures

@@ -1,6 +1,6 @@
 -- By the loop: x stands u layers above n, and no position on the way to it is held; the first that is held settles the answer.
 use Rattle.std.proofs.Common.{false, arith, ap, sym, ◌∙◌}
-use Rattle.asking.proofs.AskingLaws.{needed-is, needed-all, free_more, up_one, up_none}
+use Rattle.asking.proofs.AskingLaws.{needed_is, needed_all, free_more, up_one, up_none}
 use Rattle.cells.specs.Cells.{held_at}
 use Rattle.asking.proofs.next.uncles_needed.Goals as goal
 
@@ -12,7 +12,7 @@ held-there-requires c = omega (arith, c.requires, c.loop-u.invariant.2)
 
 pub returns-then-there : goal.returns-then-there
 returns-then-there c = let a = c.args in
-    needed-is a.store.now a.top a.node c.loop-u.u c.loop-u.invariant.3 c.loop-u-test.true
+    needed_is a.store.now a.top a.node c.loop-u.u c.loop-u.invariant.3 c.loop-u-test.true
     (ap (held_at a.store.now) (sym c.loop-u.invariant.1) ∙ sym c.held-there.ensures ∙ c.if-there.true)
 
 pub loop-u-preserved : goal.loop-u-preserved
@@ -24,4 +24,4 @@ loop-u-preserved c = let a = c.args in (
 )
 
 pub returns : goal.returns
-returns c = needed-all _ _ _ (λ j l. c.loop-u.invariant.3 j (omega arith))
+returns c = needed_all _ _ _ (λ j l. c.loop-u.invariant.3 j (omega arith))

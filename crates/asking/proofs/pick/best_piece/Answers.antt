@@ -1,7 +1,7 @@
 -- By the loop: the choice so far is that among the first i pieces.
 use Rattle.std.proofs.Common.{arith, ◌+◌, length, ◌≡◌, ap, sym, ◌∙◌}
 use Rattle.asking.specs.declared.pick.Choice.{Choice}
-use Rattle.asking.proofs.PickingLaws.{best_none, best-more, best-low}
+use Rattle.asking.proofs.PickingLaws.{best_none, best_more, best_low}
 use Rattle.asking.specs.Picking.{best_of, chosen}
 use Rattle.asking.proofs.pick.best_piece.Goals as goal
 
@@ -17,8 +17,8 @@ with_piece-next-requires c = let p = c.requires in
 pub loop-i-preserved : goal.loop-i-preserved
 loop-i-preserved c = let i = c.loop-i.i in
     let a = c.args in
-    let e = c.with_piece-next.ensures ∙ ap (chosen a.store.now a.counts.now i) c.loop-i.invariant.1 ∙ best-more a.store.now a.counts.now i in
-    (omega arith, e, omega (arith, ap (λ (y : Choice). y.piece) e, best-low a.store.now a.counts.now (i + 1)))
+    let e = c.with_piece-next.ensures ∙ ap (chosen a.store.now a.counts.now i) c.loop-i.invariant.1 ∙ best_more a.store.now a.counts.now i in
+    (omega arith, e, omega (arith, ap (λ (y : Choice). y.piece) e, best_low a.store.now a.counts.now (i + 1)))
 
 pub returns : goal.returns
 returns c = let a = c.args in

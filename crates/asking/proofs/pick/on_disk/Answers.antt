@@ -1,17 +1,17 @@
 -- The blocks that a piece of the file covers have marks, and the piece is on disk where all of them are set.
 use Rattle.std.proofs.Common.{arith}
-use Rattle.store.specs.StoreLaws.{usable-facts}
+use Rattle.store.specs.StoreLaws.{usable_facts}
 use Rattle.asking.proofs.Picks.{first_small, covered, piece_is}
 use Rattle.asking.proofs.pick.on_disk.Goals as goal
 
 pub overflow_mul-first : goal.overflow_mul-first
 overflow_mul-first c = let p = c.requires in
-    omega (arith, first_small _ (usable-facts _ p.0) _ _ _ p.1.each p.1.blocks p.2)
+    omega (arith, first_small _ (usable_facts _ p.0) _ _ _ p.1.each p.1.blocks p.2)
 
 pub all_marked-requires : goal.all_marked-requires
 all_marked-requires c = let p = c.requires in
-    (p.0, p.1.start, covered _ (usable-facts _ p.0) _ _ _ p.1.each p.1.blocks p.2 _ c.piece_size-n.ensures)
+    (p.0, p.1.start, covered _ (usable_facts _ p.0) _ _ _ p.1.each p.1.blocks p.2 _ c.piece_size-n.ensures)
 
 pub returns : goal.returns
 returns c = let p = c.requires in
-    piece_is _ (usable-facts _ p.0) _ _ _ p.1.each p.1.blocks p.2 _ c.piece_size-n.ensures _ c.all_marked.ensures
+    piece_is _ (usable_facts _ p.0) _ _ _ p.1.each p.1.blocks p.2 _ c.piece_size-n.ensures _ c.all_marked.ensures

@@ -1,20 +1,20 @@
 -- 9 and 4 by their tests; behind them the choice among all pieces.
 use Rattle.std.proofs.Common.{sym, ◌∙◌}
-use Rattle.store.specs.StoreLaws.{usable-facts}
-use Rattle.asking.proofs.Picks.{pick-9, pick-4, pick-0, counted}
+use Rattle.store.specs.StoreLaws.{usable_facts}
+use Rattle.asking.proofs.Picks.{pick_9, pick_4, pick_0, counted}
 use Rattle.asking.proofs.pick.pick_piece.Goals as goal
 
 pub returns-then-not-ok : goal.returns-then-not-ok
-returns-then-not-ok c = pick-9 _ _ _ (sym c.is_usable-ok.ensures ∙ c.if-not-ok.true) c.no_piece.ensures
+returns-then-not-ok c = pick_9 _ _ _ (sym c.is_usable-ok.ensures ∙ c.if-not-ok.true) c.no_piece.ensures
 
 pub file_length-size-requires : goal.file_length-size-requires
-file_length-size-requires c = (usable-facts _ (sym c.is_usable-ok.ensures ∙ c.if-not-ok.false)).long
+file_length-size-requires c = (usable_facts _ (sym c.is_usable-ok.ensures ∙ c.if-not-ok.false)).long
 
 pub piece_length_of-plen-requires : goal.piece_length_of-plen-requires
-piece_length_of-plen-requires c = (usable-facts _ (sym c.is_usable-ok.ensures ∙ c.if-not-ok.false)).long
+piece_length_of-plen-requires c = (usable_facts _ (sym c.is_usable-ok.ensures ∙ c.if-not-ok.false)).long
 
 pub returns-then-counts-c : goal.returns-then-counts-c
-returns-then-counts-c c = pick-4 _ _ _ _ _ (sym c.is_usable-ok.ensures ∙ c.if-not-ok.false) c.file_length-size.ensures c.piece_length_of-plen.ensures c.piece_count-c.ensures
+returns-then-counts-c c = pick_4 _ _ _ _ _ (sym c.is_usable-ok.ensures ∙ c.if-not-ok.false) c.file_length-size.ensures c.piece_length_of-plen.ensures c.piece_count-c.ensures
     _ c.if-counts-c.true c.no_piece-then-counts-c.ensures
 
 pub best_piece-requires : goal.best_piece-requires
@@ -22,5 +22,5 @@ best_piece-requires c = let u = sym c.is_usable-ok.ensures ∙ c.if-not-ok.false
     (u, c.if-counts-c.false ∙ counted _ _ _ _ c.file_length-size.ensures c.piece_length_of-plen.ensures c.piece_count-c.ensures)
 
 pub returns : goal.returns
-returns c = pick-0 _ _ _ _ _ (sym c.is_usable-ok.ensures ∙ c.if-not-ok.false) c.file_length-size.ensures c.piece_length_of-plen.ensures c.piece_count-c.ensures
+returns c = pick_0 _ _ _ _ _ (sym c.is_usable-ok.ensures ∙ c.if-not-ok.false) c.file_length-size.ensures c.piece_length_of-plen.ensures c.piece_count-c.ensures
     _ c.if-counts-c.false c.best_piece.ensures

@@ -1,26 +1,26 @@
 -- By the first byte, and then by the number: each way is one line of `negative` or `positive`.
 use Rattle.std.proofs.Common.{eq-eqb, ne_eqb, lt-ltb, le-ltb, ap, sym, ◌∙◌}
 use Rattle.bencode.specs.Scalar.{negative, positive}
-use Rattle.bencode.proofs.Reading.{signed-end, signed-step}
+use Rattle.bencode.proofs.Reading.{signed_end, signed_step}
 use Rattle.bencode.proofs.scalar.read_signed.Goals as goal
 
 pub returns-then-bytes-at : goal.returns-then-bytes-at
-returns-then-bytes-at c = sym (signed-end _ _ c.if-bytes-at.true)
+returns-then-bytes-at c = sym (signed_end _ _ c.if-bytes-at.true)
 
 pub returns-in-NoNumber : goal.returns-in-NoNumber
-returns-in-NoNumber c = sym (signed-step _ _ c.if-bytes-at.false ∙ simp (eq-eqb _ _ c.if-bytes-at-eq45.true) (ap negative (sym c.in-NoNumber.ensures)))
+returns-in-NoNumber c = sym (signed_step _ _ c.if-bytes-at.false ∙ simp (eq-eqb _ _ c.if-bytes-at-eq45.true) (ap negative (sym c.in-NoNumber.ensures)))
 
 pub returns-then-value-eq0 : goal.returns-then-value-eq0
-returns-then-value-eq0 c = sym (signed-step _ _ c.if-bytes-at.false ∙ simp (eq-eqb _ _ c.if-bytes-at-eq45.true) (ap negative (sym c.in-Is.ensures) ∙ simp (eq-eqb _ _ c.if-value-eq0.true)))
+returns-then-value-eq0 c = sym (signed_step _ _ c.if-bytes-at.false ∙ simp (eq-eqb _ _ c.if-bytes-at-eq45.true) (ap negative (sym c.in-Is.ensures) ∙ simp (eq-eqb _ _ c.if-value-eq0.true)))
 
 pub returns-else-value-eq0 : goal.returns-else-value-eq0
-returns-else-value-eq0 c = sym (signed-step _ _ c.if-bytes-at.false ∙ simp (eq-eqb _ _ c.if-bytes-at-eq45.true) (ap negative (sym c.in-Is.ensures) ∙ simp (ne_eqb _ _ c.if-value-eq0.false)))
+returns-else-value-eq0 c = sym (signed_step _ _ c.if-bytes-at.false ∙ simp (eq-eqb _ _ c.if-bytes-at-eq45.true) (ap negative (sym c.in-Is.ensures) ∙ simp (ne_eqb _ _ c.if-value-eq0.false)))
 
 pub returns-in-NoNumber-read_number : goal.returns-in-NoNumber-read_number
-returns-in-NoNumber-read_number c = sym (signed-step _ _ c.if-bytes-at.false ∙ simp (ne_eqb _ _ c.if-bytes-at-eq45.false) (ap positive (sym c.in-NoNumber-read_number.ensures)))
+returns-in-NoNumber-read_number c = sym (signed_step _ _ c.if-bytes-at.false ∙ simp (ne_eqb _ _ c.if-bytes-at-eq45.false) (ap positive (sym c.in-NoNumber-read_number.ensures)))
 
 pub returns-then-value-lt-BOUND : goal.returns-then-value-lt-BOUND
-returns-then-value-lt-BOUND c = sym (signed-step _ _ c.if-bytes-at.false ∙ simp (ne_eqb _ _ c.if-bytes-at-eq45.false) (ap positive (sym c.in-Is-read_number.ensures) ∙ simp (lt-ltb _ _ c.if-value-lt-BOUND.true)))
+returns-then-value-lt-BOUND c = sym (signed_step _ _ c.if-bytes-at.false ∙ simp (ne_eqb _ _ c.if-bytes-at-eq45.false) (ap positive (sym c.in-Is-read_number.ensures) ∙ simp (lt-ltb _ _ c.if-value-lt-BOUND.true)))
 
 pub returns-else-value-lt-BOUND : goal.returns-else-value-lt-BOUND
-returns-else-value-lt-BOUND c = sym (signed-step _ _ c.if-bytes-at.false ∙ simp (ne_eqb _ _ c.if-bytes-at-eq45.false) (ap positive (sym c.in-Is-read_number.ensures) ∙ simp (le-ltb _ _ c.if-value-lt-BOUND.false)))
+returns-else-value-lt-BOUND c = sym (signed_step _ _ c.if-bytes-at.false ∙ simp (ne_eqb _ _ c.if-bytes-at-eq45.false) (ap positive (sym c.in-Is-read_number.ensures) ∙ simp (le-ltb _ _ c.if-value-lt-BOUND.false)))

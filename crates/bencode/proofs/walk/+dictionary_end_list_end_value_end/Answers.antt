@@ -1,91 +1,91 @@
 use Rattle.std.proofs.Common.{arith, sym, ◌∙◌}
-use Rattle.bencode.proofs.Walking.{list-start, list-none, list-closed, list-broken, list-deep, list_on, dictionary-start, dictionary-none, dictionary-closed, dictionary-no-key, dictionary-broken, dictionary-deep, dictionary-on, key-ends, entry-ends, value_none, value-integer, value-list-deep, value-list, value-dictionary-deep, value-dictionary, value-string}
-use Rattle.bencode.specs.EndsLaws.{value-ends}
+use Rattle.bencode.proofs.Walking.{list_start, list_none, list_closed, list_broken, list_deep, list_on, dictionary_start, dictionary_none, dictionary_closed, dictionary_no_key, dictionary_broken, dictionary_deep, dictionary_on, key_ends, entry_ends, value_none, value_integer, value_list_deep, value_list, value_dictionary_deep, value_dictionary, value_string}
+use Rattle.bencode.specs.EndsLaws.{value_ends}
 use Rattle.bencode.proofs.walk.+dictionary_end_list_end_value_end.Goals as goal
 
 pub dictionary_end-returns-then-bytes-i-eq101 : goal.dictionary_end-returns-then-bytes-i-eq101
-dictionary_end-returns-then-bytes-i-eq101 t c = sym (dictionary-closed c.loop-i.invariant.0 c.loop-i-test.true c.if-bytes-i-eq101.true)
+dictionary_end-returns-then-bytes-i-eq101 t c = sym (dictionary_closed c.loop-i.invariant.0 c.loop-i-test.true c.if-bytes-i-eq101.true)
 
 pub dictionary_end-returns-in-NoString : goal.dictionary_end-returns-in-NoString
-dictionary_end-returns-in-NoString t c = sym (dictionary-no-key c.loop-i.invariant.0 c.loop-i-test.true c.if-bytes-i-eq101.false
+dictionary_end-returns-in-NoString t c = sym (dictionary_no_key c.loop-i.invariant.0 c.loop-i-test.true c.if-bytes-i-eq101.false
     (sym c.in-NoString.ensures))
 
 pub dictionary_end-loop-i-smaller : goal.dictionary_end-loop-i-smaller
 dictionary_end-loop-i-smaller t c = let e = sym c.in-Content.ensures in
     let v = sym c.in-Past.ensures in
-    let further = entry-ends _ _ _ _ _ _ _ e v in omega arith
+    let further = entry_ends _ _ _ _ _ _ _ e v in omega arith
 
 pub dictionary_end-loop-i-preserved : goal.dictionary_end-loop-i-preserved
 dictionary_end-loop-i-preserved t c = let e = sym c.in-Content.ensures in
     let v = sym c.in-Past.ensures in (
-      dictionary-on c.loop-i.invariant.0 c.loop-i-test.true c.if-bytes-i-eq101.false e _ v (entry-ends _ _ _ _ _ _ _ e v),
-      (key-ends _ _ _ _ _ e).1,
-      (key-ends _ _ _ _ _ e).2,
+      dictionary_on c.loop-i.invariant.0 c.loop-i-test.true c.if-bytes-i-eq101.false e _ v (entry_ends _ _ _ _ _ _ _ e v),
+      (key_ends _ _ _ _ _ e).1,
+      (key_ends _ _ _ _ _ e).2,
     )
 
 pub dictionary_end-returns-in-Broken : goal.dictionary_end-returns-in-Broken
 dictionary_end-returns-in-Broken t c = let e = sym c.in-Content.ensures in
-    sym (dictionary-broken c.loop-i.invariant.0 c.loop-i-test.true c.if-bytes-i-eq101.false e
+    sym (dictionary_broken c.loop-i.invariant.0 c.loop-i-test.true c.if-bytes-i-eq101.false e
     (sym c.in-Broken.ensures))
 
 pub dictionary_end-returns-in-TooDeep : goal.dictionary_end-returns-in-TooDeep
 dictionary_end-returns-in-TooDeep t c = let e = sym c.in-Content.ensures in
-    sym (dictionary-deep c.loop-i.invariant.0 c.loop-i-test.true c.if-bytes-i-eq101.false e
+    sym (dictionary_deep c.loop-i.invariant.0 c.loop-i-test.true c.if-bytes-i-eq101.false e
     (sym c.in-TooDeep.ensures))
 
 pub dictionary_end-loop-i-init : goal.dictionary_end-loop-i-init
-dictionary_end-loop-i-init t c = (dictionary-start _ _ _, omega arith, omega arith)
+dictionary_end-loop-i-init t c = (dictionary_start _ _ _, omega arith, omega arith)
 
 pub dictionary_end-value_end-requires : goal.dictionary_end-value_end-requires
 dictionary_end-value_end-requires t c = (omega arith, tt)
 
 pub dictionary_end-returns : goal.dictionary_end-returns
-dictionary_end-returns t c = sym (dictionary-none c.loop-i.invariant.0 c.loop-i-test.false)
+dictionary_end-returns t c = sym (dictionary_none c.loop-i.invariant.0 c.loop-i-test.false)
 
 pub list_end-returns-then-bytes-i-eq101 : goal.list_end-returns-then-bytes-i-eq101
-list_end-returns-then-bytes-i-eq101 t c = sym (list-closed c.loop-i.invariant c.loop-i-test.true c.if-bytes-i-eq101.true)
+list_end-returns-then-bytes-i-eq101 t c = sym (list_closed c.loop-i.invariant c.loop-i-test.true c.if-bytes-i-eq101.true)
 
 pub list_end-loop-i-smaller : goal.list_end-loop-i-smaller
 list_end-loop-i-smaller t c = let v = sym c.in-Past.ensures in
-    let further = value-ends _ _ _ _ v in omega arith
+    let further = value_ends _ _ _ _ v in omega arith
 
 pub list_end-loop-i-preserved : goal.list_end-loop-i-preserved
 list_end-loop-i-preserved t c = let v = sym c.in-Past.ensures in
-    list_on c.loop-i.invariant c.loop-i-test.true c.if-bytes-i-eq101.false _ v (value-ends _ _ _ _ v).0
+    list_on c.loop-i.invariant c.loop-i-test.true c.if-bytes-i-eq101.false _ v (value_ends _ _ _ _ v).0
 
 pub list_end-returns-in-Broken : goal.list_end-returns-in-Broken
-list_end-returns-in-Broken t c = sym (list-broken c.loop-i.invariant c.loop-i-test.true c.if-bytes-i-eq101.false (sym c.in-Broken.ensures))
+list_end-returns-in-Broken t c = sym (list_broken c.loop-i.invariant c.loop-i-test.true c.if-bytes-i-eq101.false (sym c.in-Broken.ensures))
 
 pub list_end-returns-in-TooDeep : goal.list_end-returns-in-TooDeep
-list_end-returns-in-TooDeep t c = sym (list-deep c.loop-i.invariant c.loop-i-test.true c.if-bytes-i-eq101.false (sym c.in-TooDeep.ensures))
+list_end-returns-in-TooDeep t c = sym (list_deep c.loop-i.invariant c.loop-i-test.true c.if-bytes-i-eq101.false (sym c.in-TooDeep.ensures))
 
 pub list_end-loop-i-init : goal.list_end-loop-i-init
-list_end-loop-i-init t c = list-start _ _ _
+list_end-loop-i-init t c = list_start _ _ _
 
 pub list_end-value_end-requires : goal.list_end-value_end-requires
 list_end-value_end-requires t c = (omega arith, tt)
 
 pub list_end-returns : goal.list_end-returns
-list_end-returns t c = sym (list-none c.loop-i.invariant c.loop-i-test.false)
+list_end-returns t c = sym (list_none c.loop-i.invariant c.loop-i-test.false)
 
 pub value_end-returns-then-c-eq105 : goal.value_end-returns-then-c-eq105
-value_end-returns-then-c-eq105 t c = sym (value-integer _ _ c.if-bytes-at.false _ c.if-c-eq105.true ∙ sym c.integer_end.ensures)
+value_end-returns-then-c-eq105 t c = sym (value_integer _ _ c.if-bytes-at.false _ c.if-c-eq105.true ∙ sym c.integer_end.ensures)
 
 pub value_end-returns-then-levels-eq0 : goal.value_end-returns-then-levels-eq0
-value_end-returns-then-levels-eq0 t c = sym (value-list-deep _ _ c.if-bytes-at.false c.if-c-eq105.false _ c.if-c-eq108.true c.if-levels-eq0.true)
+value_end-returns-then-levels-eq0 t c = sym (value_list_deep _ _ c.if-bytes-at.false c.if-c-eq105.false _ c.if-c-eq108.true c.if-levels-eq0.true)
 
 pub value_end-returns-then-c-eq108 : goal.value_end-returns-then-c-eq108
-value_end-returns-then-c-eq108 t c = sym (value-list _ _ c.if-bytes-at.false c.if-c-eq105.false _ c.if-c-eq108.true c.if-levels-eq0.false ∙ sym c.list_end.ensures)
+value_end-returns-then-c-eq108 t c = sym (value_list _ _ c.if-bytes-at.false c.if-c-eq105.false _ c.if-c-eq108.true c.if-levels-eq0.false ∙ sym c.list_end.ensures)
 
 pub value_end-returns-then-levels-eq0-2 : goal.value_end-returns-then-levels-eq0-2
-value_end-returns-then-levels-eq0-2 t c = sym (value-dictionary-deep _ _ c.if-bytes-at.false c.if-c-eq105.false c.if-c-eq108.false _ c.if-c-eq100.true c.if-levels-eq0-2.true)
+value_end-returns-then-levels-eq0-2 t c = sym (value_dictionary_deep _ _ c.if-bytes-at.false c.if-c-eq105.false c.if-c-eq108.false _ c.if-c-eq100.true c.if-levels-eq0-2.true)
 
 pub value_end-returns-then-c-eq100 : goal.value_end-returns-then-c-eq100
-value_end-returns-then-c-eq100 t c = sym (value-dictionary _ _ c.if-bytes-at.false c.if-c-eq105.false c.if-c-eq108.false _ c.if-c-eq100.true c.if-levels-eq0-2.false
+value_end-returns-then-c-eq100 t c = sym (value_dictionary _ _ c.if-bytes-at.false c.if-c-eq105.false c.if-c-eq108.false _ c.if-c-eq100.true c.if-levels-eq0-2.false
     ∙ sym c.dictionary_end.ensures)
 
 pub value_end-returns : goal.value_end-returns
-value_end-returns t c = sym (value-string _ _ c.if-bytes-at.false c.if-c-eq105.false c.if-c-eq108.false _ c.if-c-eq100.false ∙ sym c.string_end.ensures)
+value_end-returns t c = sym (value_string _ _ c.if-bytes-at.false c.if-c-eq105.false c.if-c-eq108.false _ c.if-c-eq100.false ∙ sym c.string_end.ensures)
 
 pub value_end-returns-then-bytes-at : goal.value_end-returns-then-bytes-at
 value_end-returns-then-bytes-at t c = sym (value_none _ _ _ c.if-bytes-at.true)

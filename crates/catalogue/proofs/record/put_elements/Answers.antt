@@ -1,18 +1,18 @@
 use Rattle.std.proofs.Common.{arith}
-use Rattle.catalogue.proofs.Writing.{elements-start, elements-room, elements-more, elements-all}
+use Rattle.catalogue.proofs.Writing.{elements_start, elements_room, elements_more, elements_all}
 use Rattle.catalogue.proofs.record.put_elements.Goals as goal
 
 pub loop-k-init : goal.loop-k-init
-loop-k-init c = (omega arith, elements-start _ _ _ _ _)
+loop-k-init c = (omega arith, elements_start _ _ _ _ _)
 
 pub put_element-requires : goal.put_element-requires
-put_element-requires c = let l = elements-room _ _ _ _ _ _ _ c.requires.0 c.loop-k.invariant.1 c.loop-k.invariant.0 in let h = c.requires.0 in (omega arith, c.loop-k-test.true, c.requires.1)
+put_element-requires c = let l = elements_room _ _ _ _ _ _ _ c.requires.0 c.loop-k.invariant.1 c.loop-k.invariant.0 in let h = c.requires.0 in (omega arith, c.loop-k-test.true, c.requires.1)
 
 pub loop-k-preserved : goal.loop-k-preserved
-loop-k-preserved c = (omega arith, elements-more _ _ _ _ _ _ _ c.requires.0 c.loop-k.invariant.1 _ c.loop-k-test.true c.put_element.ensures)
+loop-k-preserved c = (omega arith, elements_more _ _ _ _ _ _ _ c.requires.0 c.loop-k.invariant.1 _ c.loop-k-test.true c.put_element.ensures)
 
 pub shape_of-out : goal.shape_of-out
-shape_of-out c = elements-room _ _ _ _ _ _ _ c.requires.0 c.loop-k.invariant.1 c.loop-k.invariant.0
+shape_of-out c = elements_room _ _ _ _ _ _ _ c.requires.0 c.loop-k.invariant.1 c.loop-k.invariant.0
 
 pub returns : goal.returns
-returns c = elements-all _ _ _ _ _ _ _ c.requires.0 c.loop-k.invariant.1 c.loop-k.invariant.0 c.loop-k-test.false
+returns c = elements_all _ _ _ _ _ _ _ c.requires.0 c.loop-k.invariant.1 c.loop-k.invariant.0 c.loop-k-test.false

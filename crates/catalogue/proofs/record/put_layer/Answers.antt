@@ -1,15 +1,15 @@
 use Rattle.std.proofs.Common.{arith}
-use Rattle.catalogue.proofs.Writing.{layer-forward, no-layer-written, layer-written}
+use Rattle.catalogue.proofs.Writing.{layer_forward, no_layer_written, layer_written}
 use Rattle.catalogue.proofs.record.put_layer.Goals as goal
 
 pub overflow_add-base : goal.overflow_add-base
-overflow_add-base c = let x = layer-forward _ _ _ _ c.in-Content.is c.requires.1 in let y = x.0 in let z = x.1 in omega arith
+overflow_add-base c = let x = layer_forward _ _ _ _ c.in-Content.is c.requires.1 in let y = x.0 in let z = x.1 in omega arith
 
 pub overflow_sub-end : goal.overflow_sub-end
-overflow_sub-end c = (layer-forward _ _ _ _ c.in-Content.is c.requires.1).0
+overflow_sub-end c = (layer_forward _ _ _ _ c.in-Content.is c.requires.1).0
 
 pub returns-in-NoString : goal.returns-in-NoString
-returns-in-NoString c = no-layer-written _ _ _ _ _ c.in-NoString.is c.put_part.ensures
+returns-in-NoString c = no_layer_written _ _ _ _ _ c.in-NoString.is c.put_part.ensures
 
 pub returns-in-Content : goal.returns-in-Content
-returns-in-Content c = layer-written _ _ _ _ _ _ _ c.in-Content.is c.put_part-in-Content.ensures
+returns-in-Content c = layer_written _ _ _ _ _ _ _ c.in-Content.is c.put_part-in-Content.ensures

@@ -1,7 +1,7 @@
 -- The loop's invariant: the lanes below j have four words more, the others are as they were.
 -- Assumes nothing.
 use Rattle.std.proofs.Common.{arith, ◌≡◌, ◌∙◌}
-use Rattle.lanes.specs.LanesLaws.{passed_none, passed-more}
+use Rattle.lanes.specs.LanesLaws.{passed_none, passed_more}
 use Rattle.lanes.proofs.block.grow_all.Goals as goal
 
 pub loop-j-init : goal.loop-j-init
@@ -13,7 +13,7 @@ grow4-requires c = (c.requires.0, omega arith, c.loop-j.invariant.1.size ∙ c.r
 pub loop-j-preserved : goal.loop-j-preserved
 loop-j-preserved c = (
   omega arith,
-  passed-more 64 _ c.loop-j.j _ c.loop-j.w _ (omega arith) c.loop-j.invariant.1 c.grow4.ensures.1 c.grow4.ensures.0,
+  passed_more 64 _ c.loop-j.j _ c.loop-j.w _ (omega arith) c.loop-j.invariant.1 c.grow4.ensures.1 c.grow4.ensures.0,
 )
 
 pub returns : goal.returns

@@ -1,7 +1,7 @@
 -- The loop's invariant: the lanes below j are four rounds further, the others as they were.
 -- Assumes nothing.
 use Rattle.std.proofs.Common.{arith, ℕ, ◌+◌, ◌≡◌, ◌∙◌}
-use Rattle.lanes.specs.LanesLaws.{passed_none, rounding-more}
+use Rattle.lanes.specs.LanesLaws.{passed_none, rounding_more}
 use Rattle.lanes.proofs.block.known_all.Goals as goal
 
 pub loop-j-init : goal.loop-j-init
@@ -13,7 +13,7 @@ known4-requires c = (c.requires.0, omega arith, c.loop-j.invariant.1.size ∙ c.
 pub loop-j-preserved : goal.loop-j-preserved
 loop-j-preserved c = let a = c.args in (
   omega arith,
-  rounding-more (λ (y : ℕ). a.x.now) a.i (a.i + 4) c.loop-j.j _ c.loop-j.t _ (omega arith) c.loop-j.invariant.1 c.known4.ensures.1 c.known4.ensures.0,
+  rounding_more (λ (y : ℕ). a.x.now) a.i (a.i + 4) c.loop-j.j _ c.loop-j.t _ (omega arith) c.loop-j.invariant.1 c.known4.ensures.1 c.known4.ensures.0,
 )
 
 pub returns : goal.returns

@@ -1,7 +1,7 @@
 -- The loop's invariant: the lanes below j have their block's sixteen words.
 -- Assumes nothing.
 use Rattle.std.proofs.Common.{arith, ℕ, ◌+◌, ◌*◌, ◌≡◌, ◌∙◌}
-use Rattle.lanes.specs.LanesLaws.{reach, passed_none, passed-more}
+use Rattle.lanes.specs.LanesLaws.{reach, passed_none, passed_more}
 use Rattle.octets.specs.Octets.{cut}
 use Rattle.lanes.specs.Passes.{Loading}
 use Rattle.lanes.proofs.block.load.Goals as goal
@@ -22,7 +22,7 @@ pub loop-j-preserved : goal.loop-j-preserved
 unfolding Loading
 loop-j-preserved c = let a = c.args in (
   omega arith,
-  passed-more 64 (Loading (λ (x : ℕ). cut a.bytes.now (a.at + x * a.stride) 64)) c.loop-j.j _ c.loop-j.w _ (omega arith) c.loop-j.invariant.1 c.load_lane.ensures.1 c.load_lane.ensures.0,
+  passed_more 64 (Loading (λ (x : ℕ). cut a.bytes.now (a.at + x * a.stride) 64)) c.loop-j.j _ c.loop-j.w _ (omega arith) c.loop-j.invariant.1 c.load_lane.ensures.1 c.load_lane.ensures.0,
 )
 
 pub returns : goal.returns

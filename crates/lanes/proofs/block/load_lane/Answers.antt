@@ -1,7 +1,7 @@
 -- The loop's invariant: the lane's first i words are the block's, and the other lanes are as they were.
 -- Assumes nothing.
 use Rattle.std.proofs.Common.{arith, length, ◌≡◌, refl, ◌∙◌}
-use Rattle.lanes.specs.LanesLaws.{beside_none, beside-set, beside-then, load-more}
+use Rattle.lanes.specs.LanesLaws.{beside_none, beside_set, beside_then, load_more}
 use Rattle.bits.specs.Parsing.{words}
 use Rattle.lanes.proofs.block.load_lane.Goals as goal
 
@@ -14,8 +14,8 @@ loop-i-preserved c = let a = c.args in
     let l = c.loop-i in
     let n : length l.w ≡ 512 = l.invariant.2.size ∙ c.requires.2 in (
       omega arith,
-      load-more a.bytes.now l.w a.at l.i a.j c.word.result (omega arith) c.requires.0 n l.invariant.1 c.word.ensures,
-      beside-then l.invariant.2 (beside-set 64 l.w l.i a.j c.word.result c.requires.0),
+      load_more a.bytes.now l.w a.at l.i a.j c.word.result (omega arith) c.requires.0 n l.invariant.1 c.word.ensures,
+      beside_then l.invariant.2 (beside_set 64 l.w l.i a.j c.word.result c.requires.0),
     )
 
 pub returns : goal.returns

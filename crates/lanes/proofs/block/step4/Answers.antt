@@ -2,7 +2,7 @@
 -- Assumes nothing.
 use Rattle.rounds.specs.Sums.{sums}
 use Rattle.lanes.specs.Lanes.{lane}
-use Rattle.lanes.specs.LanesLaws.{four-steppings}
+use Rattle.lanes.specs.LanesLaws.{four_steppings}
 use Rattle.lanes.proofs.block.step4.Goals as goal
 
 pub returns : goal.returns
@@ -13,6 +13,6 @@ returns c = let a = c.args in
     let s₃ = c.step-s3 in
     let s₄ = c.step-s4 in (
       rw (c.put_lane.ensures.0, ← s₀.ensures)
-          (four-steppings (sums 64 a.k.now (lane 64 a.w.now a.j)) s₀.result s₁.result s₂.result s₃.result s₄.result a.i s₁.ensures s₂.ensures s₃.ensures s₄.ensures),
+          (four_steppings (sums 64 a.k.now (lane 64 a.w.now a.j)) s₀.result s₁.result s₂.result s₃.result s₄.result a.i s₁.ensures s₂.ensures s₃.ensures s₄.ensures),
       c.put_lane.ensures.1,
     )

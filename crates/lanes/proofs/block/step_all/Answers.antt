@@ -3,7 +3,7 @@
 use Rattle.std.proofs.Common.{arith, ℕ, ◌+◌, ◌≡◌, ◌∙◌}
 use Rattle.rounds.specs.Sums.{sums}
 use Rattle.lanes.specs.Lanes.{lane}
-use Rattle.lanes.specs.LanesLaws.{passed_none, rounding-more}
+use Rattle.lanes.specs.LanesLaws.{passed_none, rounding_more}
 use Rattle.lanes.proofs.block.step_all.Goals as goal
 
 pub loop-j-init : goal.loop-j-init
@@ -15,7 +15,7 @@ step4-requires c = (c.requires.0, omega arith, c.loop-j.invariant.1.size ∙ c.r
 pub loop-j-preserved : goal.loop-j-preserved
 loop-j-preserved c = let a = c.args in (
   omega arith,
-  rounding-more (λ (x : ℕ). sums 64 a.k.now (lane 64 a.w.now x)) a.i (a.i + 4) c.loop-j.j _ c.loop-j.t _ (omega arith) c.loop-j.invariant.1 c.step4.ensures.1 c.step4.ensures.0,
+  rounding_more (λ (x : ℕ). sums 64 a.k.now (lane 64 a.w.now x)) a.i (a.i + 4) c.loop-j.j _ c.loop-j.t _ (omega arith) c.loop-j.invariant.1 c.step4.ensures.1 c.step4.ensures.0,
 )
 
 pub returns : goal.returns

@@ -1,7 +1,7 @@
 -- The loop's invariant: the first i words are the sums.
 -- Assumes nothing.
 use Rattle.std.proofs.Common.{arith, length-set, refl, ◌∙◌}
-use Rattle.lanes.specs.LanesLaws.{sum_more, state-sum}
+use Rattle.lanes.specs.LanesLaws.{sum_more, state_sum}
 use Rattle.lanes.proofs.block.sum_all.Goals as goal
 
 pub loop-i-init : goal.loop-i-init
@@ -15,4 +15,4 @@ loop-i-preserved c = (
 )
 
 pub returns : goal.returns
-returns c = (c.loop-i.invariant.1, λ j h. state-sum c.args.st c.args.t c.loop-i.r (λ x l. c.loop-i.invariant.2 x (omega arith)) j h)
+returns c = (c.loop-i.invariant.1, λ j h. state_sum c.args.st c.args.t c.loop-i.r (λ x l. c.loop-i.invariant.2 x (omega arith)) j h)

@@ -2,11 +2,11 @@
 -- Assumes nothing.
 use Rattle.std.proofs.Common.{arith, ◌*◌, ◌<◌, ◌/◌, length, ◌≡◌, refl, ap, ◌∙◌}
 use Rattle.lanes.specs.Lanes.{state_in}
-use Rattle.sha256.specs.Sha256Laws.{sha256-octets}
+use Rattle.sha256.specs.Sha256Laws.{sha256_octets}
 use Rattle.sha256.specs.Sha256.{sha256}
 use Rattle.octets.specs.Octets.{cut}
-use Rattle.lanes.proofs.Messages.{hash-of}
-use Rattle.lanes.proofs.Filling.{filled_none, filled-one}
+use Rattle.lanes.proofs.Messages.{hash_of}
+use Rattle.lanes.proofs.Filling.{filled_none, filled_one}
 use Rattle.lanes.specs.Hashes.{eighth_hash}
 use Rattle.lanes.proofs.hashes.hash8.Goals as goal
 
@@ -22,9 +22,9 @@ loop-j-preserved c = let s = c.args.bytes.now in
     let b : l.j < 8 = omega arith in
     let z = state_in c.start8.result l.j in
     let e : h ≡ sha256 (cut s (l.j * n) n) =
-    hash-of c.round_words-k.result (cut s (l.j * n) n) h z c.round_words-k.ensures (c.start8.ensures.1 l.j b) (c.message_hash-h.ensures z (c.whole_blocks8-t.ensures.1 l.j b)) in
-    let k : length h ≡ 32 = ap length e ∙ (sha256-octets (cut s (l.j * n) n)).size in
-    (omega arith, filled-one (eighth_hash s) 256 l.j l.r _ h l.invariant.1 (omega arith) k e c.put_hash.ensures)
+    hash_of c.round_words-k.result (cut s (l.j * n) n) h z c.round_words-k.ensures (c.start8.ensures.1 l.j b) (c.message_hash-h.ensures z (c.whole_blocks8-t.ensures.1 l.j b)) in
+    let k : length h ≡ 32 = ap length e ∙ (sha256_octets (cut s (l.j * n) n)).size in
+    (omega arith, filled_one (eighth_hash s) 256 l.j l.r _ h l.invariant.1 (omega arith) k e c.put_hash.ensures)
 
 pub returns : goal.returns
 returns c = let e : c.loop-j.j ≡ 8 = omega arith in rw e at c.loop-j.invariant.1

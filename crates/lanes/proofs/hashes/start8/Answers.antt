@@ -1,7 +1,7 @@
 -- The loop's invariant: the lanes below j have the start words.
 -- Assumes nothing.
 use Rattle.std.proofs.Common.{List, arith, ℕ, ◌≡◌, ◌∙◌}
-use Rattle.lanes.specs.LanesLaws.{passed_none, passed-more}
+use Rattle.lanes.specs.LanesLaws.{passed_none, passed_more}
 use Rattle.lanes.specs.Lanes.{state_in, state_of}
 use Rattle.lanes.proofs.hashes.start8.Goals as goal
 
@@ -15,7 +15,7 @@ pub loop-j-preserved : goal.loop-j-preserved
 unfolding state_in
 loop-j-preserved c = (
   omega arith,
-  passed-more 8 (λ (x : ℕ) (l k : List ℕ). state_of k ≡ c.start-z.result) c.loop-j.j _ c.loop-j.t _ (omega arith) c.loop-j.invariant.1 c.put_lane.ensures.1 c.put_lane.ensures.0,
+  passed_more 8 (λ (x : ℕ) (l k : List ℕ). state_of k ≡ c.start-z.result) c.loop-j.j _ c.loop-j.t _ (omega arith) c.loop-j.invariant.1 c.put_lane.ensures.1 c.put_lane.ensures.0,
 )
 
 pub returns : goal.returns

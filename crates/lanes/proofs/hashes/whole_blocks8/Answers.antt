@@ -2,7 +2,7 @@
 -- Assumes nothing.
 use Rattle.std.proofs.Common.{arith, ◌/◌, ◌≡◌, refl}
 use Rattle.padding.specs.Cutting.{over_blocks}
-use Rattle.lanes.proofs.Messages.{message-more}
+use Rattle.lanes.proofs.Messages.{message_more}
 use Rattle.lanes.specs.Lanes.{state_in}
 use Rattle.lanes.proofs.hashes.whole_blocks8.Goals as goal
 
@@ -16,7 +16,7 @@ loop-at-preserved c = let a = c.args in
       omega arith,
       omega arith,
       c.compress8-next.ensures.0,
-      λ x h. message-more a.k.now a.bytes.now (state_in a.st x) (state_in l.t x) (state_in c.compress8-next.result x) a.n l.at x (omega arith) l.invariant.1 (l.invariant.3 x h) (c.compress8-next.ensures.1 x h),
+      λ x h. message_more a.k.now a.bytes.now (state_in a.st x) (state_in l.t x) (state_in c.compress8-next.result x) a.n l.at x (omega arith) l.invariant.1 (l.invariant.3 x h) (c.compress8-next.ensures.1 x h),
     )
 
 pub returns : goal.returns

@@ -1,15 +1,15 @@
 -- The loops' invariant: from q on each hash is its children's parent, and the leaves are as they were.
 -- Assumes nothing.
 use Rattle.std.proofs.Common.{arith, ◌+◌, ◌-◌, ◌*◌, length, ◌≡◌, ap, ◌∙◌, ap₂}
-use Rattle.sha256.specs.Sha256Laws.{pair-octets}
+use Rattle.sha256.specs.Sha256Laws.{pair_octets}
 use Rattle.sha256.specs.Sha256.{pair_hash}
-use Rattle.lanes.proofs.Filling.{heap-none, heap-more, heap-at, heap-again, heap-then, one_parent}
+use Rattle.lanes.proofs.Filling.{heap_none, heap_more, heap_at, heap_again, heap_then, one_parent}
 use Rattle.lanes.specs.HashesLaws.{parent_in}
 use Rattle.lanes.specs.Hashes.{parent_of}
 use Rattle.lanes.proofs.runs.fill_heap.Goals as goal
 
 pub loop-q-init : goal.loop-q-init
-loop-q-init c = (c.requires.1, omega arith, heap-none _ _ c.requires.0)
+loop-q-init c = (c.requires.1, omega arith, heap_none _ _ c.requires.0)
 
 pub loop-q-preserved : goal.loop-q-preserved
 loop-q-preserved c = let args = c.args in
@@ -17,13 +17,13 @@ loop-q-preserved c = let args = c.args in
     let q = l.q - 8 in (
       omega arith,
       omega arith,
-      heap-more q 8 args.leaves args.heap.now l.heap _ c.pairs8-p.result (heap-at l.q (q + 8) l.invariant.2 (omega arith))
+      heap_more q 8 args.leaves args.heap.now l.heap _ c.pairs8-p.result (heap_at l.q (q + 8) l.invariant.2 (omega arith))
           (omega arith) (omega arith) c.pairs8-p.ensures.size
           (λ j h. c.pairs8-p.ensures.hashes j h ∙ parent_in l.heap q j (64 * q + 512 - 64 * q) h (omega arith)) c.put8.ensures,
     )
 
 pub loop-q-2-init : goal.loop-q-2-init
-loop-q-2-init c = let i = c.loop-q.invariant in (i.0, i.1, heap-again i.2)
+loop-q-2-init c = let i = c.loop-q.invariant in (i.0, i.1, heap_again i.2)
 
 pub loop-q-2-preserved : goal.loop-q-2-preserved
 unfolding parent_of
@@ -31,12 +31,12 @@ loop-q-2-preserved c = let l = c.loop-q-2 in
     let q = l.q - 1 in
     let h = c.pair-h.result in
     let e : h ≡ parent_of l.heap q = c.pair-h.ensures ∙ ap₂ pair_hash c.hash_at-l.ensures c.hash_at-r.ensures in
-    let k : length h ≡ 32 = ap length e ∙ (pair-octets _ _).size in (
+    let k : length h ≡ 32 = ap length e ∙ (pair_octets _ _).size in (
       omega arith,
       omega arith,
-      heap-more q 1 c.args.leaves c.loop-q.heap l.heap _ h (heap-at l.q (q + 1) l.invariant.2 (omega arith))
+      heap_more q 1 c.args.leaves c.loop-q.heap l.heap _ h (heap_at l.q (q + 1) l.invariant.2 (omega arith))
           (omega arith) (omega arith) k (one_parent q l.heap h k e) c.put_hash.ensures,
     )
 
 pub returns : goal.returns
-returns c = heap-at c.loop-q-2.q 1 (heap-then c.loop-q.invariant.2 c.loop-q-2.invariant.2) (omega arith)
+returns c = heap_at c.loop-q-2.q 1 (heap_then c.loop-q.invariant.2 c.loop-q-2.invariant.2) (omega arith)

@@ -1,6 +1,6 @@
 use Rattle.std.proofs.Common.{true, List, arith, ℕ, ap, sym, ◌∙◌}
 use Rattle.octets.specs.Octets.{same}
-use Rattle.messages.proofs.Padding.{all_none, all_more, all_done, all-fails}
+use Rattle.messages.proofs.Padding.{all_none, all_more, all_done, all_fails}
 use Rattle.messages.proofs.padded.all_from.Goals as goal
 
 pub loop-i-init : goal.loop-i-init
@@ -10,7 +10,7 @@ loop-i-init c = let a = c.args in
 pub returns-then-not-alike : goal.returns-then-not-alike
 returns-then-not-alike c = let a = c.args in
     let l = c.loop-i in
-    all-fails a.run.now a.v a.from a.n l.i l.invariant.0 c.loop-i-test.true
+    all_fails a.run.now a.v a.from a.n l.i l.invariant.0 c.loop-i-test.true
     (ap (λ (h : List ℕ). same h a.v) (sym c.hash_at-h.ensures) ∙ sym c.same-alike.ensures ∙ c.if-not-alike.true)
 
 pub loop-i-preserved : goal.loop-i-preserved

@@ -1,15 +1,15 @@
 use Rattle.std.proofs.Common.{arith, ℕ, ap, ◌∙◌}
 use Rattle.header.specs.Header.{place_of}
-use Rattle.store.specs.StoreLaws.{usable-facts, facts-height}
+use Rattle.store.specs.StoreLaws.{usable_facts, facts_height}
 use Rattle.messages.proofs.take.place_in.Goals as goal
 
 pub height_of-h-requires : goal.height_of-h-requires
-height_of-h-requires c = (usable-facts c.args.store.now c.requires.0).long
+height_of-h-requires c = (usable_facts c.args.store.now c.requires.0).long
 
 pub place_of-requires : goal.place_of-requires
-place_of-requires c = let f = usable-facts c.args.store.now c.requires.0 in (
+place_of-requires c = let f = usable_facts c.args.store.now c.requires.0 in (
   c.requires.1,
-  omega (arith, facts-height c.args.store.now f, c.height_of-h.ensures),
+  omega (arith, facts_height c.args.store.now f, c.height_of-h.ensures),
   rw c.height_of-h.ensures c.requires.2,
 )
 

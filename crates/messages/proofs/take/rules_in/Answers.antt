@@ -1,14 +1,14 @@
 use Rattle.std.proofs.Common.{arith, refl, ◌∙◌}
-use Rattle.store.specs.StoreLaws.{usable-facts, facts-height}
+use Rattle.store.specs.StoreLaws.{usable_facts, facts_height}
 use Rattle.messages.proofs.take.rules_in.Goals as goal
 
 pub height_of-h-requires : goal.height_of-h-requires
-height_of-h-requires c = (usable-facts c.args.store.now c.requires.0).long
+height_of-h-requires c = (usable_facts c.args.store.now c.requires.0).long
 
 pub keeps_rules-requires : goal.keeps_rules-requires
 keeps_rules-requires c = let s = c.args.store.now in
     let pre = c.requires in
-    (pre.1, omega (arith, facts-height s (usable-facts s pre.0), c.height_of-h.ensures))
+    (pre.1, omega (arith, facts_height s (usable_facts s pre.0), c.height_of-h.ensures))
 
 pub returns : goal.returns
 returns c = c.keeps_rules.ensures ∙ rw c.height_of-h.ensures refl

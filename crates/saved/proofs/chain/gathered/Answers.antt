@@ -1,6 +1,6 @@
 use Rattle.std.proofs.Common.{arith, length, ◌≡◌, refl, ap, ◌∙◌, rules}
-use Rattle.lanes.proofs.Filling.{filled_none, filled-one}
-use Rattle.saved.proofs.Pairs.{hash-length}
+use Rattle.lanes.proofs.Filling.{filled_none, filled_one}
+use Rattle.saved.proofs.Pairs.{hash_length}
 use Rattle.saved.proofs.chain.gathered.Goals as goal
 
 pub loop-x-init : goal.loop-x-init
@@ -15,8 +15,8 @@ hash_in-hash-requires c = omega (arith, c.requires, c.loop-x-test.true)
 pub loop-x-preserved : goal.loop-x-preserved
 loop-x-preserved c = let l = c.loop-x in
     let e = c.hash_in-hash.ensures in
-    let n = ap length e ∙ hash-length _ _ (omega (arith, c.requires, c.loop-x-test.true)) in
-    (omega (arith, c.loop-x-test.true), filled-one _ 512 l.x l.row _ _ l.invariant.1 (omega (arith, c.loop-x-test.true)) n e c.put_hash.ensures)
+    let n = ap length e ∙ hash_length _ _ (omega (arith, c.requires, c.loop-x-test.true)) in
+    (omega (arith, c.loop-x-test.true), filled_one _ 512 l.x l.row _ _ l.invariant.1 (omega (arith, c.loop-x-test.true)) n e c.put_hash.ensures)
 
 pub returns : goal.returns
 returns c = let e : c.loop-x.x ≡ 16 = omega (arith, c.loop-x-test.false, c.loop-x.invariant.0) in rw e at c.loop-x.invariant.1

@@ -1,10 +1,10 @@
 use Rattle.std.proofs.Common.{arith, ℕ, length, ◌≡◌, ap, ◌∙◌}
-use Rattle.saved.proofs.Saving.{count-start, count_turn}
+use Rattle.saved.proofs.Saving.{count_start, count_turn}
 use Rattle.saved.specs.Save.{layer_held}
 use Rattle.saved.proofs.save.count_layer.Goals as goal
 
 pub loop-i-init : goal.loop-i-init
-loop-i-init c = (omega arith, count-start _ _ _, omega arith)
+loop-i-init c = (omega arith, count_start _ _ _, omega arith)
 
 pub held_in-held-requires : goal.held_in-held-requires
 held_in-held-requires c = (c.requires.0, c.requires.1, omega (arith, c.requires.2, c.loop-i-test.true), c.requires.3)

@@ -1,14 +1,14 @@
 use Rattle.std.proofs.Common.{arith}
-use Rattle.store.specs.StoreLaws.{usable-facts}
-use Rattle.marks.specs.MarksLaws.{mark-in, marks-small}
+use Rattle.store.specs.StoreLaws.{usable_facts}
+use Rattle.marks.specs.MarksLaws.{mark_in, marks_small}
 use Rattle.marks.proofs.Answers.{marked_by}
 use Rattle.saved.proofs.save.mark_at.Goals as goal
 
 pub overflow_add-result : goal.overflow_add-result
-overflow_add-result c = omega (arith, c.requires.1, marks-small _ (usable-facts _ c.requires.0), c.requires.2)
+overflow_add-result c = omega (arith, c.requires.1, marks_small _ (usable_facts _ c.requires.0), c.requires.2)
 
 pub bounds-store-start : goal.bounds-store-start
-bounds-store-start c = omega (arith, c.requires.1, mark-in _ (usable-facts _ c.requires.0), c.requires.2)
+bounds-store-start c = omega (arith, c.requires.1, mark_in _ (usable_facts _ c.requires.0), c.requires.2)
 
 pub returns : goal.returns
 returns c = marked_by _ _ _ c.requires.1

@@ -1,6 +1,6 @@
 use Rattle.std.proofs.Common.{arith, ◌-◌}
 use Rattle.sorting.proofs.Telling.{told}
-use Rattle.sorting.proofs.Thinning.{kept-one, kept-none}
+use Rattle.sorting.proofs.Thinning.{kept_one, kept_none}
 use Rattle.sorting.proofs.distinct.keep.Goals as goal
 
 pub before-requires : goal.before-requires
@@ -14,7 +14,7 @@ before-requires c = let n = c.args.i in
     (omega (arith, c.index-p.ensures, low), omega (arith, c.index-q.ensures, high))
 
 pub returns-then-before : goal.returns-then-before
-returns-then-before c = kept-one _ c.args.at.now _ _ _ (told _ _ _ _ _ _ _ c.index-p.ensures c.index-q.ensures c.before-2.ensures c.if-before.true)
+returns-then-before c = kept_one _ c.args.at.now _ _ _ (told _ _ _ _ _ _ _ c.index-p.ensures c.index-q.ensures c.before-2.ensures c.if-before.true)
 
 pub returns : goal.returns
-returns c = kept-none _ c.args.at.now _ _ _ (told _ _ _ _ _ _ _ c.index-p.ensures c.index-q.ensures c.before-2.ensures c.if-before.false)
+returns c = kept_none _ c.args.at.now _ _ _ (told _ _ _ _ _ _ _ c.index-p.ensures c.index-q.ensures c.before-2.ensures c.if-before.false)

@@ -1,11 +1,11 @@
 -- Sorted, the positions are the same ones, and those of one string stand side by side; the first of each is kept.
 use Rattle.std.proofs.Common.{length-take-le, arith, ◌-◌, ◌≡◌, ◌∙◌}
-use Rattle.sorting.proofs.Thinning.{first-fit, sorted-fit, thinned-back, room_back}
+use Rattle.sorting.proofs.Thinning.{first_fit, sorted_fit, thinned_back, room_back}
 use Rattle.sorting.proofs.distinct.once_each.Goals as goal
 
 pub sort-requires : goal.sort-requires
 sort-requires c = let z : c.args.count - 0 ≡ c.args.count = omega arith in (
-  first-fit _ c.args.at.now (c.args.count - 0) c.args.count z c.requires.2,
+  first_fit _ c.args.at.now (c.args.count - 0) c.args.count z c.requires.2,
   length-take-le (c.args.count - 0) c.args.at.now (omega arith) ∙ z,
   length-take-le (c.args.count - 0) c.args.room.now (omega arith) ∙ z,
 )
@@ -13,11 +13,11 @@ sort-requires c = let z : c.args.count - 0 ≡ c.args.count = omega arith in (
 pub thin-requires : goal.thin-requires
 thin-requires c = let sorted = c.sort in
     let z : c.args.count - 0 ≡ c.args.count = omega arith in
-    sorted-fit _ c.args.at.now (c.args.count - 0) c.args.count z c.requires.0 sorted.new.at sorted.ensures.0 _ c.requires.2
+    sorted_fit _ c.args.at.now (c.args.count - 0) c.args.count z c.requires.0 sorted.new.at sorted.ensures.0 _ c.requires.2
 
 pub returns : goal.returns
 returns c = let sorted = c.sort in
     let thinned = c.thin in
     let z : c.args.count - 0 ≡ c.args.count = omega arith in
-    let back = thinned-back _ c.args.at.now (c.args.count - 0) c.args.count z c.requires.0 sorted.new.at sorted.ensures.0 _ thinned.new.at thinned.ensures in
+    let back = thinned_back _ c.args.at.now (c.args.count - 0) c.args.count z c.requires.0 sorted.new.at sorted.ensures.0 _ thinned.new.at thinned.ensures in
     (back.0, back.1, room_back _ c.args.at.now c.args.room.now (c.args.count - 0) c.args.count z sorted.new.room sorted.ensures.1)

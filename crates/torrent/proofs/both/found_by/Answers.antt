@@ -1,14 +1,14 @@
-use Rattle.torrent.specs.KeysLaws.{found_before, found-now, found-not}
+use Rattle.torrent.specs.KeysLaws.{found_before, found_now, found_not}
 use Rattle.octets.specs.Octets.{cut}
 use Rattle.torrent.proofs.both.found_by.Goals as goal
 
 pub returns-then-same : goal.returns-then-same
 unfolding cut
-returns-then-same c = found-now _ c.in-Missing.is _ _ c.same.ensures _ _ c.if-same.true
+returns-then-same c = found_now _ c.in-Missing.is _ _ c.same.ensures _ _ c.if-same.true
 
 pub returns-in-Part : goal.returns-in-Part
 returns-in-Part c = found_before _ _ _ _ c.in-Part.is
 
 pub returns-else-same : goal.returns-else-same
 unfolding cut
-returns-else-same c = found-not _ c.in-Missing.is _ _ c.same.ensures _ _ c.if-same.false
+returns-else-same c = found_not _ c.in-Missing.is _ _ c.same.ensures _ _ c.if-same.false

@@ -1,5 +1,5 @@
 use Rattle.std.proofs.Common.{arith}
-use Rattle.torrent.specs.FindLaws.{element-here, element-past}
+use Rattle.torrent.specs.FindLaws.{element_here, element_past}
 use Rattle.torrent.proofs.read.element_of.Goals as goal
 
 pub overflow_add-result : goal.overflow_add-result
@@ -9,7 +9,7 @@ pub overflow_sub-result : goal.overflow_sub-result
 overflow_sub-result c = c.requires.forward _ c.if-element-elements.true
 
 pub returns-then-element-elements : goal.returns-then-element-elements
-returns-then-element-elements c = element-here _ _ _ _ c.if-element-elements.true
+returns-then-element-elements c = element_here _ _ _ _ c.if-element-elements.true
 
 pub returns : goal.returns
-returns c = rw c.no_part.ensures (element-past _ _ _ _ c.if-element-elements.false)
+returns c = rw c.no_part.ensures (element_past _ _ _ _ c.if-element-elements.false)

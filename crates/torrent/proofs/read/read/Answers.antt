@@ -1,18 +1,18 @@
 use Rattle.std.proofs.Common.{◌∙◌}
-use Rattle.torrent.proofs.Answering.{whole, read_done, read-refused}
+use Rattle.torrent.proofs.Answering.{whole, read_done, read_refused}
 use Rattle.torrent.proofs.read.read.Goals as goal
 
 pub slice_bounds-hash-count : goal.slice_bounds-hash-count
-slice_bounds-hash-count c = (whole _ _ c.check-c.ensures c.if-number-eq0.true).opened.info-forward
+slice_bounds-hash-count c = (whole _ _ c.check-c.ensures c.if-number-eq0.true).opened.info_forward
 
 pub slice_bounds-hash-start : goal.slice_bounds-hash-start
-slice_bounds-hash-start c = (whole _ _ c.check-c.ensures c.if-number-eq0.true).opened.info-forward
+slice_bounds-hash-start c = (whole _ _ c.check-c.ensures c.if-number-eq0.true).opened.info_forward
 
 pub slice_bounds-hash-end : goal.slice_bounds-hash-end
-slice_bounds-hash-end c = (whole _ _ c.check-c.ensures c.if-number-eq0.true).opened.info-within
+slice_bounds-hash-end c = (whole _ _ c.check-c.ensures c.if-number-eq0.true).opened.info_within
 
 pub returns-then-number-eq0 : goal.returns-then-number-eq0
 returns-then-number-eq0 c = read_done _ _ c.check-c.ensures c.if-number-eq0.true _ c.hash-hash.ensures
 
 pub returns : goal.returns
-returns c = c.no_torrent.ensures ∙ read-refused _ _ c.check-c.ensures c.if-number-eq0.false
+returns c = c.no_torrent.ensures ∙ read_refused _ _ c.check-c.ensures c.if-number-eq0.false

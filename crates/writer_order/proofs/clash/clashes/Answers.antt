@@ -1,19 +1,19 @@
 use Rattle.std.proofs.Common.{sym, ◌∙◌}
-use Rattle.writer_order.specs.OrderLaws.{placed-index}
-use Rattle.writer_order.specs.StepsLaws.{clashing-start, clashing-end, clashing-empty, clashing-stop, clashing-on}
+use Rattle.writer_order.specs.OrderLaws.{placed_index}
+use Rattle.writer_order.specs.StepsLaws.{clashing_start, clashing_end, clashing_empty, clashing_stop, clashing_on}
 use Rattle.writer_order.proofs.clash.clashes.Goals as goal
 
 pub loop-i-init : goal.loop-i-init
-loop-i-init c = clashing-start _ _ _ _ _ _
+loop-i-init c = clashing_start _ _ _ _ _ _
 
 pub is_full-requires : goal.is_full-requires
-is_full-requires c = (placed-index _ c.args.text.now _ _ _
+is_full-requires c = (placed_index _ c.args.text.now _ _ _
     c.requires.0 c.loop-i-test.true c.index-p.ensures).0
 
 pub wrong_next-requires : goal.wrong_next-requires
 wrong_next-requires c = (
-  c.loop-i.invariant.last-there,
-  placed-index _ _ _ _ _
+  c.loop-i.invariant.last_there,
+  placed_index _ _ _ _ _
       c.requires.0
       c.loop-i-test.true c.index-p.ensures,
   c.requires.1,
@@ -22,28 +22,28 @@ wrong_next-requires c = (
 pub returns-then-wrong_next : goal.returns-then-wrong_next
 returns-then-wrong_next c = let k = c.args in let l =
     c.loop-i in sym
-    (clashing-stop k.list.now k.text.now k.plen k.layers k.at.now l.seen l.last l.i l.invariant
+    (clashing_stop k.list.now k.text.now k.plen k.layers k.at.now l.seen l.last l.i l.invariant
     c.loop-i-test.true _ c.index-p.ensures
     (sym c.is_full.ensures ∙ c.if-is_full.true)
     (sym c.wrong_next.ensures ∙ c.if-wrong_next.true))
 
 pub loop-i-preserved-then-is_full : goal.loop-i-preserved-then-is_full
 loop-i-preserved-then-is_full c = let k = c.args in let l =
-    c.loop-i in clashing-on k.list.now k.text.now k.plen k.layers
+    c.loop-i in clashing_on k.list.now k.text.now k.plen k.layers
     k.at.now l.seen l.last l.i l.invariant c.loop-i-test.true _
     c.index-p.ensures
     (sym c.is_full.ensures ∙ c.if-is_full.true)
     (sym c.wrong_next.ensures ∙ c.if-wrong_next.false)
-    (placed-index _ _ _ _ _ c.requires.0
+    (placed_index _ _ _ _ _ c.requires.0
     c.loop-i-test.true c.index-p.ensures)
 
 pub loop-i-preserved : goal.loop-i-preserved
 loop-i-preserved c = let k = c.args in let l =
-    c.loop-i in clashing-empty k.list.now k.text.now k.plen k.layers k.at.now
+    c.loop-i in clashing_empty k.list.now k.text.now k.plen k.layers k.at.now
     l.seen l.last l.i l.invariant c.loop-i-test.true _ c.index-p.ensures
     (sym c.is_full.ensures ∙ c.if-is_full.false)
 
 pub returns : goal.returns
 returns c = let k = c.args in let l = c.loop-i in sym
-    (clashing-end k.list.now k.text.now k.plen k.layers k.at.now l.seen l.last l.i l.invariant
+    (clashing_end k.list.now k.text.now k.plen k.layers k.at.now l.seen l.last l.i l.invariant
     c.loop-i-test.false)

@@ -1,19 +1,19 @@
 use Rattle.std.proofs.Common.{sym, ◌∙◌}
-use Rattle.writer_order.specs.CompareLaws.{layer-end}
-use Rattle.writer_order.specs.LayerLaws.{not-looked, no-layer, layer-gives, layer-does-not, root-length}
+use Rattle.writer_order.specs.CompareLaws.{layer_end}
+use Rattle.writer_order.specs.LayerLaws.{not_looked, no_layer, layer_gives, layer_does_not, root_length}
 use Rattle.writer_order.proofs.clash.first_wrong.Goals as goal
 
 pub returns-then-not-layers : goal.returns-then-not-layers
-returns-then-not-layers c = let k = c.args in not-looked k.list.now k.text.now k.plen k.layers k.p
+returns-then-not-layers c = let k = c.args in not_looked k.list.now k.text.now k.plen k.layers k.p
     (c.if-not-layers.true)
 
 pub returns-then-not-has_layer : goal.returns-then-not-has_layer
-returns-then-not-has_layer c = let k = c.args in no-layer k.list.now k.text.now k.plen k.layers k.p
+returns-then-not-has_layer c = let k = c.args in no_layer k.list.now k.text.now k.plen k.layers k.p
     (c.if-not-layers.false) _ c.number_at-n.ensures.0 _ c.has_layer.ensures
     (c.if-not-has_layer.true)
 
 pub slice_bounds-gives_root-end : goal.slice_bounds-gives_root-end
-slice_bounds-gives_root-end c = layer-end c.args.list.now c.args.text.now
+slice_bounds-gives_root-end c = layer_end c.args.list.now c.args.text.now
     c.args.p _ _ c.requires.0.1 c.number_at-s.ensures.0 c.number_at-m.ensures.0
 
 pub gives_root-requires : goal.gives_root-requires
@@ -21,11 +21,11 @@ gives_root-requires c = (
   c.requires.1 (c.if-not-layers.false),
   sym
       c.has_layer.ensures ∙ c.if-not-has_layer.false,
-  root-length c.args.list.now c.args.p c.requires.0.0,
+  root_length c.args.list.now c.args.p c.requires.0.0,
 )
 
 pub returns-then-gives_root : goal.returns-then-gives_root
-returns-then-gives_root c = let k = c.args in layer-gives
+returns-then-gives_root c = let k = c.args in layer_gives
     k.list.now k.text.now k.plen k.layers k.p
     (c.if-not-layers.false) _
     c.number_at-n.ensures.0 _
@@ -35,7 +35,7 @@ returns-then-gives_root c = let k = c.args in layer-gives
     c.gives_root.ensures c.if-gives_root.true
 
 pub returns : goal.returns
-returns c = let k = c.args in layer-does-not
+returns c = let k = c.args in layer_does_not
     k.list.now k.text.now k.plen k.layers k.p
     (c.if-not-layers.false) _
     c.number_at-n.ensures.0 _

@@ -1,5 +1,5 @@
 use Rattle.std.proofs.Common.{not, ap, sym, ◌∙◌, rules}
-use Rattle.writer_order.specs.LayerLaws.{none_seen, other-run, same-run}
+use Rattle.writer_order.specs.LayerLaws.{none_seen, other_run, same_run}
 use Rattle.writer_order.proofs.clash.wrong_next.Goals as goal
 
 pub returns-then-not-seen : goal.returns-then-not-seen
@@ -16,7 +16,7 @@ pub slice_bounds-same-end : goal.slice_bounds-same-end
 slice_bounds-same-end c = let w = (c.requires.0 (c.if-not-seen.false)).0 in search rules
 
 pub returns-then-not-same : goal.returns-then-not-same
-returns-then-not-same c = let k = c.args in other-run k.list.now k.text.now k.plen
+returns-then-not-same c = let k = c.args in other_run k.list.now k.text.now k.plen
     k.layers k.seen k.p k.q (c.if-not-seen.false) _
     c.same.ensures (c.if-not-same.true) _ c.first_wrong-then-not-same.ensures
 
@@ -27,13 +27,13 @@ agrees-requires c = (
 )
 
 pub returns-then-agrees : goal.returns-then-agrees
-returns-then-agrees c = let k = c.args in sym (ap not c.if-agrees.true) ∙ same-run
+returns-then-agrees c = let k = c.args in sym (ap not c.if-agrees.true) ∙ same_run
     k.list.now k.text.now k.plen k.layers k.seen k.p k.q
     (c.if-not-seen.false) _ c.same.ensures
     (c.if-not-same.false) _ c.agrees.ensures
 
 pub returns : goal.returns
-returns c = let k = c.args in sym (ap not c.if-agrees.false) ∙ same-run
+returns c = let k = c.args in sym (ap not c.if-agrees.false) ∙ same_run
     k.list.now k.text.now k.plen k.layers k.seen k.p k.q
     (c.if-not-seen.false) _ c.same.ensures
     (c.if-not-same.false) _ c.agrees.ensures

@@ -1,16 +1,16 @@
 use Rattle.std.proofs.Common.{not, ◌+◌, ap, sym, ◌∙◌}
-use Rattle.writer_order.specs.ItemLaws.{path-none, element-wrong, too_long, not-empty, empty-root}
-use Rattle.writer_order.specs.CompareLaws.{form-parts}
-use Rattle.writer_lists.specs.ListsLaws.{slice-end, slice_fits}
+use Rattle.writer_order.specs.ItemLaws.{path_none, element_wrong, too_long, not_empty, empty_root}
+use Rattle.writer_order.specs.CompareLaws.{form_parts}
+use Rattle.writer_lists.specs.ListsLaws.{slice_end, slice_fits}
 use Rattle.writer_order.proofs.items.wrong_item.Goals as goal
 
 pub returns-then-m-eq0 : goal.returns-then-m-eq0
-returns-then-m-eq0 c = path-none c.args.list.now c.args.text.now c.args.p _ _
+returns-then-m-eq0 c = path_none c.args.list.now c.args.text.now c.args.p _ _
     c.number_at-s.ensures.0 c.number_at-m.ensures.0 c.if-m-eq0.true
 
 pub slice_bounds-wrong_element-end : goal.slice_bounds-wrong_element-end
-slice_bounds-wrong_element-end c = slice-end c.args.list.now c.args.text.now (c.args.p + 48) _ _
-    (form-parts c.args.list.now c.args.text.now c.args.p c.requires.1).path-fits
+slice_bounds-wrong_element-end c = slice_end c.args.list.now c.args.text.now (c.args.p + 48) _ _
+    (form_parts c.args.list.now c.args.text.now c.args.p c.requires.1).path_fits
     c.number_at-s.ensures.0 c.number_at-m.ensures.0
 
 pub wrong_element-requires : goal.wrong_element-requires
@@ -18,7 +18,7 @@ wrong_element-requires c = slice_fits c.args.list.now c.args.text.now c.args.p _
     c.requires.1 c.number_at-s.ensures.0 c.number_at-m.ensures.0
 
 pub returns-then-wrong_element : goal.returns-then-wrong_element
-returns-then-wrong_element c = element-wrong c.args.list.now c.args.text.now
+returns-then-wrong_element c = element_wrong c.args.list.now c.args.text.now
     c.args.p _ _ c.number_at-s.ensures.0
     c.number_at-m.ensures.0 c.requires.1 c.if-m-eq0.false _
     c.wrong_element.ensures c.if-wrong_element.true
@@ -31,7 +31,7 @@ returns-then-n-gt-LONGEST_FILE c = too_long c.args.list.now
     c.if-wrong_element.false _ c.number_at-n.ensures.0 c.if-n-gt-LONGEST_FILE.true
 
 pub returns-then-n-ne0 : goal.returns-then-n-ne0
-returns-then-n-ne0 c = not-empty c.args.list.now
+returns-then-n-ne0 c = not_empty c.args.list.now
     c.args.text.now c.args.p _ _ c.number_at-s.ensures.0
     c.number_at-m.ensures.0 c.requires.1
     c.if-m-eq0.false _ c.wrong_element.ensures
@@ -39,7 +39,7 @@ returns-then-n-ne0 c = not-empty c.args.list.now
 
 pub returns-then-same : goal.returns-then-same
 returns-then-same c = sym
-    (ap not c.if-same.true) ∙ empty-root c.args.list.now c.args.text.now c.args.p _ _
+    (ap not c.if-same.true) ∙ empty_root c.args.list.now c.args.text.now c.args.p _ _
     c.number_at-s.ensures.0
     c.number_at-m.ensures.0 c.requires.1
     c.if-m-eq0.false _
@@ -51,7 +51,7 @@ returns-then-same c = sym
 
 pub returns : goal.returns
 returns c = sym
-    (ap not c.if-same.false) ∙ empty-root c.args.list.now c.args.text.now c.args.p _ _
+    (ap not c.if-same.false) ∙ empty_root c.args.list.now c.args.text.now c.args.p _ _
     c.number_at-s.ensures.0
     c.number_at-m.ensures.0 c.requires.1
     c.if-m-eq0.false _

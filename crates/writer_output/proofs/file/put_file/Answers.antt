@@ -3,7 +3,7 @@ use Rattle.bencode.specs.Grammar.{letter_e}
 use Rattle.writer_output.specs.Path.{left_in}
 use Rattle.writer_output.specs.Files.{file_in}
 use Rattle.writer_meaning.specs.Content.{properties}
-use Rattle.writer_output.specs.FilesLaws.{file-length, put-parts, properties-read, put-read}
+use Rattle.writer_output.specs.FilesLaws.{file_length_lem, put_parts, properties_read, put_read}
 use lib.ListN.{length-replicate}
 use Rattle.writer_output.proofs.file.put_file.Goals as goal
 
@@ -12,7 +12,7 @@ put_closed-closed-requires c = (
   c.shared_end-m.ensures.first,
   omega (
     arith,
-    file-length c.args.one.now
+    file_length_lem c.args.one.now
         c.args.other.now c.shared_end-m.result
         (properties (file_in c.args.list.now
         c.args.place)) c.shared_end-m.ensures,
@@ -26,7 +26,7 @@ put_opened-opened-requires c = (
   let e =
       c.put_closed-closed.ensures.behind in omega (
         arith,
-        file-length c.args.one.now
+        file_length_lem c.args.one.now
             c.args.other.now
             c.shared_end-m.result
             (properties (file_in c.args.list.now
@@ -43,7 +43,7 @@ pub put_properties-requires : goal.put_properties-requires
 put_properties-requires c = let e = c.put_closed-closed.ensures.behind in let g =
     c.put_opened-opened.ensures.behind in omega (
       arith,
-      file-length c.args.one.now
+      file_length_lem c.args.one.now
           c.args.other.now c.shared_end-m.result
           (properties (file_in c.args.list.now
           c.args.place)) c.shared_end-m.ensures,
@@ -51,19 +51,19 @@ put_properties-requires c = let e = c.put_closed-closed.ensures.behind in let g 
       length-replicate {A = ℕ}
           (length (left_in c.args.one.now c.shared_end-m.result)) letter_e,
       ap
-          (λ (l : List ℕ). length l) (properties-read c.args.list.now
+          (λ (l : List ℕ). length l) (properties_read c.args.list.now
           c.args.place _ c.number_at-size.ensures.0),
     )
 
 pub returns : goal.returns
-returns c = put-parts c.args.one.now
+returns c = put_parts c.args.one.now
     c.args.other.now
     c.shared_end-m.result
     (properties (file_in c.args.list.now
     c.args.place))
     c.shared_end-m.ensures _ _ _ _ _ _ _ _ c.put_closed-closed.ensures
     c.put_opened-opened.ensures
-    (put-read c.args.list.now
+    (put_read c.args.list.now
     c.args.place _
     c.number_at-size.ensures.0 _ _ _ _ c.put_properties.ensures)
     c.put_closed-closed.auto.out c.put_opened-opened.auto.out

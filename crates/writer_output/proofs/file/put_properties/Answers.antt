@@ -1,18 +1,18 @@
 use Rattle.std.proofs.Common.{arith}
-use Rattle.writer_output.specs.FilesLaws.{properties-least, full-length, put-empty, put_full}
+use Rattle.writer_output.specs.FilesLaws.{properties_least, full_length, put_empty, put_full}
 use Rattle.writer_output.proofs.file.put_properties.Goals as goal
 
 pub put_bytes-number-requires : goal.put_bytes-number-requires
 put_bytes-number-requires c = omega (
   arith,
-  properties-least c.args.size c.args.root.now,
+  properties_least c.args.size c.args.root.now,
   c.requires,
 )
 
 pub put_decimal-behind-requires : goal.put_decimal-behind-requires
 put_decimal-behind-requires c = let e = c.put_bytes-number.ensures.behind in omega (
   arith,
-  properties-least c.args.size
+  properties_least c.args.size
       c.args.root.now,
   c.requires,
 )
@@ -21,12 +21,12 @@ pub put_bytes-requires : goal.put_bytes-requires
 put_bytes-requires c = let e = c.put_bytes-number.ensures.behind in let f =
     c.put_decimal-behind.ensures.behind in omega (
       arith,
-      properties-least c.args.size c.args.root.now,
+      properties_least c.args.size c.args.root.now,
       c.requires,
     )
 
 pub returns-then-size-eq0 : goal.returns-then-size-eq0
-returns-then-size-eq0 c = put-empty _ _ _ _ _ _ _ _ c.args.size
+returns-then-size-eq0 c = put_empty _ _ _ _ _ _ _ _ c.args.size
     c.args.root.now
     c.if-size-eq0.true c.put_bytes-number.ensures
     c.put_decimal-behind.ensures c.put_bytes.ensures
@@ -36,7 +36,7 @@ pub put_bytes-value-requires : goal.put_bytes-value-requires
 put_bytes-value-requires c = let e = c.put_bytes-number.ensures.behind in let f =
     c.put_decimal-behind.ensures.behind in omega (
       arith,
-      full-length c.args.size c.args.root.now
+      full_length c.args.size c.args.root.now
           c.if-size-eq0.false,
       c.requires,
     )
@@ -46,7 +46,7 @@ put_string-end-requires c = let e = c.put_bytes-number.ensures.behind in let f =
     c.put_decimal-behind.ensures.behind in let g =
     c.put_bytes-value.ensures.behind in omega (
       arith,
-      full-length c.args.size
+      full_length c.args.size
           c.args.root.now
           c.if-size-eq0.false,
       c.requires,
@@ -58,7 +58,7 @@ put_byte-requires c = let e = c.put_bytes-number.ensures.behind in let f =
     c.put_bytes-value.ensures.behind in let h =
     c.put_string-end.ensures.behind in omega (
       arith,
-      full-length c.args.size c.args.root.now c.if-size-eq0.false,
+      full_length c.args.size c.args.root.now c.if-size-eq0.false,
       c.requires,
     )
 

@@ -1,10 +1,10 @@
 use Rattle.std.proofs.Common.{List, arith, ℕ, length, ap}
 use Rattle.bencode.specs.Grammar.{encode_string}
-use Rattle.writer_output.specs.LayersLaws.{put-repeated, entry_length, put-entry, layer-end, layer-slice}
+use Rattle.writer_output.specs.LayersLaws.{put_repeated, entry_length, put_entry, layer_end, layer_slice}
 use Rattle.writer_output.proofs.layer.put_layer.Goals as goal
 
 pub returns-then-root_repeats : goal.returns-then-root_repeats
-returns-then-root_repeats c = put-repeated c.args.list.now c.args.text.now
+returns-then-root_repeats c = put_repeated c.args.list.now c.args.text.now
     c.args.place c.args.last
     c.args.seen _ c.root_repeats.ensures c.if-root_repeats.true _ _
 
@@ -21,7 +21,7 @@ put_string-value-requires c = omega (
 )
 
 pub slice_bounds-put_string-end-2 : goal.slice_bounds-put_string-end-2
-slice_bounds-put_string-end-2 c = layer-end c.args.list.now
+slice_bounds-put_string-end-2 c = layer_end c.args.list.now
     c.args.text.now
     c.args.place _ _
     c.requires.0
@@ -37,19 +37,19 @@ put_string-requires c = let e = c.put_string-value.ensures.behind in omega (
       c.if-root_repeats.false,
   c.requires.2,
   ap (λ (l : List ℕ). length (encode_string l))
-      (layer-slice c.args.list.now c.args.text.now
+      (layer_slice c.args.list.now c.args.text.now
       c.args.place _ _ c.requires.0
       c.number_at-start.ensures.0
       c.number_at-size.ensures.0),
 )
 
 pub returns : goal.returns
-returns c = put-entry c.args.list.now
+returns c = put_entry c.args.list.now
     c.args.text.now
     c.args.place
     c.args.last
     c.args.seen _ c.root_repeats.ensures
-    c.if-root_repeats.false _ (layer-slice c.args.list.now
+    c.if-root_repeats.false _ (layer_slice c.args.list.now
     c.args.text.now
     c.args.place _ _
     c.requires.0 c.number_at-start.ensures.0

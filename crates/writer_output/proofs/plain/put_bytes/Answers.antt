@@ -1,11 +1,11 @@
 use Rattle.std.proofs.Common.{arith, length, ◌≡◌, refl, ap, ◌∙◌}
-use Rattle.writer_output.specs.PutLaws.{put-outside}
+use Rattle.writer_output.specs.PutLaws.{put_outside}
 use lib.Seq.{paste-zero, length-paste}
 use Rattle.octets.proofs.Turn.{turn, whole}
 use Rattle.writer_output.proofs.plain.put_bytes.Goals as goal
 
 pub returns-then-out-end : goal.returns-then-out-end
-returns-then-out-end c = put-outside c.args.out.now c.args.at c.args.bytes.now c.if-out-end.true
+returns-then-out-end c = put_outside c.args.out.now c.args.at c.args.bytes.now c.if-out-end.true
 
 pub loop-i-init : goal.loop-i-init
 loop-i-init c = (omega arith, paste-zero c.args.out.now c.args.at c.args.bytes.now)

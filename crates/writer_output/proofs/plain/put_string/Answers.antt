@@ -1,14 +1,14 @@
 use Rattle.std.proofs.Common.{arith}
-use Rattle.writer_output.specs.PutLaws.{string-length, put_three}
+use Rattle.writer_output.specs.PutLaws.{string_length, put_three}
 use Rattle.writer_output.proofs.plain.put_string.Goals as goal
 
 pub put_decimal-colon-requires : goal.put_decimal-colon-requires
-put_decimal-colon-requires c = omega (arith, string-length c.args.bytes.now, c.requires)
+put_decimal-colon-requires c = omega (arith, string_length c.args.bytes.now, c.requires)
 
 pub put_byte-start-requires : goal.put_byte-start-requires
 put_byte-start-requires c = let e = c.put_decimal-colon.ensures.behind in omega (
   arith,
-  string-length c.args.bytes.now,
+  string_length c.args.bytes.now,
   c.requires,
 )
 
@@ -16,7 +16,7 @@ pub put_bytes-requires : goal.put_bytes-requires
 put_bytes-requires c = let e = c.put_decimal-colon.ensures.behind in let f =
     c.put_byte-start.ensures.behind in omega (
       arith,
-      string-length c.args.bytes.now,
+      string_length c.args.bytes.now,
       c.requires,
     )
 

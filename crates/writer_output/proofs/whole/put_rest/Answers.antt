@@ -1,6 +1,6 @@
 use Rattle.std.proofs.Common.{map, arith}
 use Rattle.writer_lists.specs.Lists.{item_at}
-use Rattle.writer_output.specs.WholeLaws.{rest-length, put_both}
+use Rattle.writer_output.specs.WholeLaws.{rest_length, put_both}
 use Rattle.writer_output.proofs.whole.put_rest.Goals as goal
 
 pub put_layers-end-requires : goal.put_layers-end-requires
@@ -8,7 +8,7 @@ put_layers-end-requires c = (
   c.requires.0,
   omega (
     arith,
-    rest-length (map (item_at c.args.list.now
+    rest_length (map (item_at c.args.list.now
         c.args.text.now) c.args.order.now),
     c.requires.1,
   ),
@@ -17,7 +17,7 @@ put_layers-end-requires c = (
 pub put_byte-requires : goal.put_byte-requires
 put_byte-requires c = let e = c.put_layers-end.ensures.behind in omega (
   arith,
-  rest-length (map (item_at c.args.list.now
+  rest_length (map (item_at c.args.list.now
       c.args.text.now)
       c.args.order.now),
   c.requires.1,
