@@ -1,2 +1,2 @@
-// What 31 means of the value that a torrent encodes, as theorems: specs/ has them. There is no code here.
+// What 31 means of the value that a torrent encodes, as theorems: specs/ and proofs/ have them. There is no code here.
 #![tactic(auto)]

@@ -1,2 +1,2 @@
-// What the torrent's numbers mean of the value that it encodes, as theorems: specs/ has them. There is no code here.
+// What the torrent's numbers mean of the value that it encodes, as theorems: specs/ and proofs/ have them. There is no code here.
 #![tactic(auto)]

@@ -1,2 +1,2 @@
-// What the user is promised, as theorems: specs/ has them. There is no code here.
+// What the user is promised, as theorems: specs/ and proofs/ have them. There is no code here.
 #![tactic(auto)]
