@@ -206,6 +206,8 @@ BOUND = [
 FUNCTION = ("Answers.antt", "Invariants.antt")
 # What Rattle makes of a function's code, below these.
 MADE = ("c", "l", "goal", "tie")
+# A field that Rattle makes and that has an own name's spelling: file below crates/, name.
+MADE_FIELD = ("header/proofs/place_of/Answers.antt", "u-is")
 LOGIC = ("mathlib", "native", "Prim", "lib", "borrow", "denote", "contract", "base")
 
 
@@ -246,6 +248,7 @@ class Page:
         self.inner -= self.outer
         keep = lambda names: {n for n in names if DASHES.fullmatch(n)} - self.library - self.goals
         self.inner, self.outer = keep(self.inner), keep(self.outer)
+        self.made = MADE_FIELD[1] if self.path.endswith("/crates/" + MADE_FIELD[0]) else None
         self.dotted, self.plain = set(), set()
 
     def is_own(self, path):
@@ -262,7 +265,7 @@ class Page:
             for i, part in enumerate(parts):
                 if not DASHES.fullmatch(part) or (library and i) or (not i and part in self.library | self.goals):
                     continue
-                if self.is_function and i == 1 and head in MADE:
+                if self.is_function and i and (i == 1 and head in MADE or self.made == part):
                     continue
                 (self.dotted if i else self.plain).add(part)
                 parts[i] = to(part) or part

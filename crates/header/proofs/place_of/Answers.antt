@@ -25,5 +25,5 @@ returns c = let a = c.args in
     let K = rules_kept_lem a.header a.height c.requires.2 in
     let k = c.log2-k in
     place_by a.header a.height k.result c.if-k-proof.u c.node_number-top.result K.two k.ensures
-    (λ g. elim c.if-k-proof.branch [ then-k-proof w ↦ w.u_is | else-k-proof w ↦ absurd (omega arith) ], λ g. elim c.if-k-proof.branch [ then-k-proof w ↦ absurd (omega arith) | else-k-proof w ↦ w.u_is ])
+    (λ g. elim c.if-k-proof.branch [ then-k-proof w ↦ w.u-is | else-k-proof w ↦ absurd (omega arith) ], λ g. elim c.if-k-proof.branch [ then-k-proof w ↦ absurd (omega arith) | else-k-proof w ↦ w.u-is ])
     c.node_number-top.ensures
