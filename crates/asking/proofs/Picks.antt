@@ -1,20 +1,23 @@
 -- What the functions of the picking ask for and answer.
 -- Assumes nothing.
+use Rattle.std.proofs.Math.Decide.{dec_le}
+use Rattle.std.proofs.Common.{add-mul, one-mul, mul_comm, mul-le-mul_right, pow-add, pow_mono, pow_pos}
 use mathlib.Core.Path.{◌≡◌, ap, sym, ◌∙◌}
 use mathlib.Core.Bool.{Bool, true, false}
 use mathlib.Core.List.{List}
-use Prim.Native.Nat.{ℕ, ◌+◌, ◌*◌, ◌^◌, ◌≤◌, ◌<◌}
+use Prim.Native.Nat.{ℕ, ◌+◌, ◌-◌, ◌*◌, ◌^◌, ◌≤◌, ◌<◌}
 use native.Mathlib.Omega.{arith}
 use lib.ListN.{length, get_or}
 use lib.Dec.{ltb}
 use borrow.Author.Tests.{eq-eqb, ne_eqb, lt-ltb}
 use Rattle.limits.specs.Limits.{tallest_tree}
 use Rattle.numbers.specs.Numbers.{wrong_size, unusable}
-use Rattle.tree.specs.Geometry.{piece_count, piece_size}
+use Rattle.tree.specs.Geometry.{piece_count, piece_size, piece_layer, covering}
+use Rattle.tree.proofs.GeometryLaws.{ceil_least, covering_within}
 use Rattle.store.specs.Store.{usable, file_length, piece_length, blocks_of, height_of, Facts}
-use Rattle.store.specs.StoreLaws.{facts_blocks_most}
+use Rattle.store.specs.StoreLaws.{facts_blocks_most, facts_leaves}
 use Rattle.marks.specs.Marks.{each_piece, first_block, blocks_in, all_marked, piece_marked}
-use Rattle.marks.specs.MarksLaws.{first_inside, covered_fits}
+use Rattle.marks.specs.MarksLaws.{first_inside, pieces_are}
 use Rattle.asking.specs.declared.pick.Choice.{Choice}
 use Rattle.asking.specs.Picking.{before, no_piece, best_of, pick_answer}
 
@@ -29,14 +32,40 @@ module _ (s : List ℕ) (f : Facts s) (each blocks i : ℕ) (e : each ≡ each_p
   pub first_small : each * i < 2 ^ tallest_tree
   first_small = omega (arith, first_is, first_inside s f i l, facts_blocks_most s f)
 
+  -- as many blocks as a piece may cover, and as the file has, have marks from there on
+  pub covered : (n : ℕ) → n ≤ each → n ≤ blocks → each * i + n ≤ 2 ^ height_of s
+  unfolding covering each_piece height_of
+  covered n x y = by (dec_le a h)
+    where
+      a : ℕ
+      a = piece_layer (piece_length s)
+
+      h : ℕ
+      h = height_of s
+
+      few : i < covering (blocks_of s) a
+      few = omega (arith, pieces_are s f)
+
+      leaves : blocks_of s ≤ 2 ^ h
+      leaves = facts_leaves s f
+
+      by : Dec (a ≤ h) → each * i + n ≤ 2 ^ h
+      by (yes q) =
+          let m : covering (blocks_of s) a ≤ 2 ^ (h - a) = covering_within (blocks_of s) a q in
+          let p : 2 ^ (h - a) * 2 ^ a ≡ 2 ^ h = sym (pow-add 2 (h - a) a) ∙ ap (λ (k : ℕ). 2 ^ k) (omega arith) in
+          let o : (i + 1) * 2 ^ a ≤ 2 ^ (h - a) * 2 ^ a = mul-le-mul_right (2 ^ a) (omega (arith, few, m)) in
+          let d : (i + 1) * 2 ^ a ≡ i * 2 ^ a + 2 ^ a = add-mul i 1 (2 ^ a) ∙ ap (λ (k : ℕ). i * 2 ^ a + k) (one-mul (2 ^ a)) in
+          let g : each * i ≡ i * 2 ^ a = ap (λ (k : ℕ). k * i) e ∙ mul_comm (2 ^ a) i in
+          omega (arith, e)
+      by (no q) =
+          let o : covering (blocks_of s) a ≤ 1 = ceil_least (blocks_of s) (2 ^ a) 1 (pow_pos a) (omega (arith, one-mul (2 ^ a), leaves, pow_mono {i = h} {j = a} (omega (arith, q)))) in
+          let z : i ≡ 0 = omega (arith, few, o) in
+          rw z (omega (arith, b, y, leaves))
+
   module _ (n : ℕ) (w : n ≡ piece_size blocks each i) where
     in_is : n ≡ blocks_in s i
     unfolding blocks_in piece_size
     in_is = rw (← e, ← b) w
-
-    -- its blocks have marks
-    pub covered : each * i + n ≤ 2 ^ height_of s
-    covered = omega (arith, first_is, in_is, covered_fits s f i l)
 
     pub piece_is : (r : Bool) → r ≡ all_marked s (each * i) n → r ≡ piece_marked s i
     unfolding piece_marked

@@ -1,17 +1,21 @@
 -- What the parts of a torrent that gets 0 so far are, for the code that goes on with them.
 -- Assumes nothing.
-use Rattle.std.specs.Prelude.{◌≡◌, refl, Bool, true, false, cond, not, ◌||◌, List, [], ◌++◌, ℕ, zero, suc, ◌+◌, ◌-◌, ◌≤◌, length, drop, eqb}
-use Rattle.std.proofs.Common.{sym, ap, ◌∙◌, append-nil, arith, eqb-true, ne_eqb}
+use Rattle.std.specs.Prelude.{◌≡◌, refl, Bool, true, false, cond, not, ◌||◌, List, [], ◌∷◌, ◌++◌, ℕ, zero, suc, ◌+◌, ◌-◌, ◌≤◌, length, drop, eqb}
+use Rattle.std.proofs.Common.{sym, ap, ◌∙◌, append-nil, drop-drop, arith, eqb-true, ne_eqb}
 use Rattle.std.proofs.lemmas.Bool.{false≢true, eqb-false}
 use Rattle.meaning.specs.Keys.{key_info, key_file_tree, key_piece_layers}
 use Rattle.limits.specs.Limits.{largest_torrent, max_levels}
-use Rattle.octets.specs.Octets.{cut}
+use Rattle.octets.specs.Octets.{same, cut}
 use Rattle.octets.specs.OctetsLaws.{cut_length}
 use Rattle.tree.specs.Geometry.{is_piece_length}
 use Rattle.numbers.specs.Numbers.{wrong_tree, halves_differ}
-use Rattle.bencode.specs.Grammar.{Value, integer, string, list, dictionary, Entries, encode, Valid, none}
-use Rattle.bencode.specs.Parts.{is_dictionary, find_key, FoundIs, Lookup, absent, present, lookup}
-use Rattle.bencode.specs.PartsLaws.{part_front, find_ends, find_is, lookup_valid, dictionary_is, is_dictionary_value}
+use Rattle.bencode.specs.Grammar.{letter_d, Value, integer, string, list, dictionary, Entries, no_entries, entry, encode, encode_entries, KeyBefore, none, after, Valid, EntriesValid}
+use Rattle.bencode.specs.Walk.{between}
+use Rattle.bencode.specs.EndsLaws.{drop_further}
+use Rattle.bencode.specs.CompleteLaws.{content_start, dictionary_bytes}
+use Rattle.bencode.specs.DepthLaws.{entries_more_levels}
+use Rattle.bencode.specs.Parts.{is_dictionary, find_in, find_key, FoundIs, Lookup, absent, present, lookup}
+use Rattle.bencode.specs.PartsLaws.{after_part, value_start, entry_is, entry_none, entries_length, part_front, find_ends, find_is, lookup_valid, dictionary_is, is_dictionary_value}
 use Rattle.bencode.specs.StrictLaws.{taken_only}
 use Rattle.bencode.specs.declared.parts.Found.{Found}
 use Rattle.bencode.specs.declared.parts.Found.TheVariants.{Part, Missing}
@@ -66,6 +70,45 @@ part_encoded s key es bytes valid a b e =
     by_lookup absent g q k = absurd q
     by_lookup (present v) g q k = by_value v (sym (dictionary_is v (drop (b - a) (drop a s))) ∙ ap is_dictionary (sym (part_front s a b v q)) ∙ k) (lookup_valid key es none (max_levels - 1) v valid g) q
 
+-- ---- what is found in a dictionary ends where it does, or before
+
+abbrev EndsBy : ℕ → Found → Type 0
+EndsBy end Missing = Unit {0}
+EndsBy end (Part a b) = b ≤ end
+
+ends_here : (end a b : ℕ) (t : Bool) (w : Found) → b ≤ end → EndsBy end w → EndsBy end (cond t (Part a b) w)
+ends_here end a b true w p q = p
+ends_here end a b false w p q = q
+
+ends_by : (key s : List ℕ) (es : Entries) (j : KeyBefore) (steps at : ℕ) (r : List ℕ) (end : ℕ) → drop at s ≡ encode_entries es ++ r → EntriesValid es j max_levels → at + length (encode_entries es) ≤ end
+    → EndsBy end (find_in key steps at (drop at s))
+unfolding find_in Valid
+ends_by key s es j zero at r end e h l = tt
+ends_by key s no_entries j (suc f) at r end e h l = rw (entry_none s at r e) tt
+ends_by key s (entry k v es) j (suc f) at r end e h l =
+    let w = entry_is s at k v es r e h.1 in
+    let past = value_start at k + length (encode v) in
+    let behind : drop (past - at) (drop at s) ≡ drop past s = drop_further s at past (omega arith) in
+    let size = entries_length k v es in
+    rw w.read
+    (rw behind
+    (ends_here end (value_start at k) past (same key (between at (drop at s) (content_start at k) (value_start at k))) (find_in key f past (drop past s)) (omega arith)
+    (ends_by key s es (after k) f past r end w.next h.2 (omega arith))))
+
+found_ends_by : (key s : List ℕ) (at : ℕ) (es : Entries) (r : List ℕ) → drop at s ≡ encode (dictionary es) ++ r → Valid (dictionary es) (max_levels - 1) → (a b : ℕ) → find_key key at (drop at s) ≡ Part a b
+    → b ≤ at + length (encode (dictionary es))
+unfolding find_key Valid
+found_ends_by key s at es r e h a b q =
+    let front : encode (dictionary es) ++ r ≡ letter_d ∷ (encode_entries es ++ r) = ap (λ (l : List ℕ). l ++ r) (dictionary_bytes es) in
+    let first : is_dictionary (drop at s) ≡ true = rw (e, dictionary_is (dictionary es) r) in
+    let f : drop (at + 1) s ≡ encode_entries es ++ r = after_part s at (letter_d ∷ []) (encode_entries es ++ r) (e ∙ front) in
+    let d : drop 1 (drop at s) ≡ drop (at + 1) s = drop-drop 1 at s in
+    let size : length (encode (dictionary es)) ≡ suc (length (encode_entries es)) = ap length (dictionary_bytes es) in
+    let end : ℕ = at + length (encode (dictionary es)) in
+    let found : EndsBy end (find_in key (suc (length (drop (at + 1) s))) (at + 1) (drop (at + 1) s)) = ends_by key s es none (suc (length (drop (at + 1) s))) (at + 1) r end f (entries_more_levels es none (max_levels - 2) max_levels (omega arith) h) (omega arith) in
+    let all : EndsBy end (find_key key at (drop at s)) = rw first (rw d found) in
+    rw q at all
+
 -- ---- a torrent that gets 0 so far
 
 -- the parts of `file tree` and `piece layers` lie within it, and `piece layers` can be searched
@@ -79,6 +122,7 @@ pub record Open (s : List ℕ) (k : Keys) : Type 0 where
   pub layers_size : length (bytes_in s k.layers) ≡ k.layers.end - k.layers.start
   pub info_forward : k.info.start ≤ k.info.end
   pub info_within : k.info.end ≤ length s
+  pub tree_in_info : k.tree.end ≤ k.info.end
   pub piece_length_lem : is_piece_length k.plen ≡ true
   pub layers_open : LayersOpen (bytes_in s k.layers)
 
@@ -90,6 +134,7 @@ keys_open s e =
     let t = dictionary_within s key_file_tree k.info.start k.tree.start k.tree.end r.located.tree_found in
     let l = dictionary_within s key_piece_layers 0 k.layers.start k.layers.end r.located.layers_found in
     let v = taken_only s r.strict in
+    let n = part_encoded s key_info v.0 v.2 v.1 k.info.start k.info.end r.located.info_found in
     let d = part_encoded s key_piece_layers v.0 v.2 v.1 k.layers.start k.layers.end r.located.layers_found in
     let bytes : bytes_in s k.layers ≡ encode (dictionary d.0) ++ [] = d.2 ∙ sym (append-nil (encode (dictionary d.0))) in
     let x = l.0 in
@@ -106,6 +151,7 @@ keys_open s e =
       layers_size = z;
       info_forward = i.0;
       info_within = i.1;
+      tree_in_info = omega (arith, i.0, i.2, ap length n.2, found_ends_by key_file_tree s k.info.start n.0 _ (part_front s k.info.start k.info.end (dictionary n.0) n.2) n.1 k.tree.start k.tree.end (dictionary_found s key_file_tree k.info.start k.tree.start k.tree.end r.located.tree_found).0);
       piece_length_lem = r.located.piece_length_lem;
       layers_open = record {
         small = omega arith;

@@ -1,4 +1,4 @@
-use Rattle.std.proofs.Common.{ap, sym}
+use Rattle.std.proofs.Common.{arith, ap, sym}
 use Rattle.filetree.specs.File.{length_of}
 use Rattle.filetree.proofs.Reading.{length_minus, length_fits, length_long}
 use Rattle.filetree.proofs.file.length_here.Goals as goal
@@ -7,7 +7,7 @@ pub returns-then-minus : goal.returns-then-minus
 returns-then-minus c = sym (length_minus _ _ _ _ (sym c.in-Whole.ensures) c.if-minus.true)
 
 pub returns-then-size-le-LONGEST_FILE : goal.returns-then-size-le-LONGEST_FILE
-returns-then-size-le-LONGEST_FILE c = sym (length_fits _ _ _ _ (sym c.in-Whole.ensures) c.if-minus.false c.if-size-le-LONGEST_FILE.true)
+returns-then-size-le-LONGEST_FILE c = sym (length_fits _ _ _ _ (sym c.in-Whole.ensures) c.if-minus.false (omega (arith, c.if-size-le-LONGEST_FILE.true)))
 
 pub returns-in-NoInteger : goal.returns-in-NoInteger
 returns-in-NoInteger c = sym (ap length_of (sym c.in-NoInteger.ensures))
