@@ -21,8 +21,9 @@ use Rattle.filetree.specs.Tree.{right, listed, files_in, file_number}
 use Rattle.layers.specs.Layers.{Inside, string_in, layer_at, root_bytes, layer_string, start_of, size_of}
 use Rattle.layers.proofs.Finding.{layer_inside}
 use Rattle.torrent.specs.Torrent.{checked_of, no_torrent, read_of, no_file_read, file_answer, file_read, no_part_read, element_in, path_read}
-use Rattle.torrent.specs.CheckLaws.{Whole, checked_so}
+use Rattle.torrent.specs.CheckLaws.{Whole, checked_so, tree_in_info}
 use Rattle.torrent.specs.Find.{sought_file}
+use Rattle.metainfo.specs.declared.Keys.{Keys}
 use Rattle.torrent.specs.declared.check.Checked.{Checked}
 use Rattle.torrent.specs.declared.one.SoughtFile.{SoughtFile}
 use Rattle.torrent.specs.declared.read.Torrent.{Torrent}
@@ -88,6 +89,9 @@ module _ (s : List ℕ) (c : Checked) (e : c ≡ checked_of s) where
   module _ (h : c.keys.number ≡ 0) where
     pub whole : Whole s c
     whole = checked_so s c e h
+
+    pub tree_inside : c.keys.tree.end ≤ c.keys.info.end
+    tree_inside = let k = whole.keys_are in rw k (tree_in_info s (ap (λ (m : Keys). m.number) (sym k) ∙ h))
 
     pub read_done : (hash : List ℕ) → hash ≡ sha256 (take (c.keys.info.end - c.keys.info.start) (drop c.keys.info.start s))
         → ◌≡◌ {A = Torrent} (record { number = c.keys.number; hash = hash; plen = c.keys.plen; files = c.files }) (read_of s)

@@ -122,7 +122,6 @@ pub record Open (s : List ℕ) (k : Keys) : Type 0 where
   pub layers_size : length (bytes_in s k.layers) ≡ k.layers.end - k.layers.start
   pub info_forward : k.info.start ≤ k.info.end
   pub info_within : k.info.end ≤ length s
-  pub tree_in_info : k.tree.end ≤ k.info.end
   pub piece_length_lem : is_piece_length k.plen ≡ true
   pub layers_open : LayersOpen (bytes_in s k.layers)
 
@@ -134,7 +133,6 @@ keys_open s e =
     let t = dictionary_within s key_file_tree k.info.start k.tree.start k.tree.end r.located.tree_found in
     let l = dictionary_within s key_piece_layers 0 k.layers.start k.layers.end r.located.layers_found in
     let v = taken_only s r.strict in
-    let n = part_encoded s key_info v.0 v.2 v.1 k.info.start k.info.end r.located.info_found in
     let d = part_encoded s key_piece_layers v.0 v.2 v.1 k.layers.start k.layers.end r.located.layers_found in
     let bytes : bytes_in s k.layers ≡ encode (dictionary d.0) ++ [] = d.2 ∙ sym (append-nil (encode (dictionary d.0))) in
     let x = l.0 in
@@ -151,7 +149,6 @@ keys_open s e =
       layers_size = z;
       info_forward = i.0;
       info_within = i.1;
-      tree_in_info = omega (arith, i.0, i.2, ap length n.2, found_ends_by key_file_tree s k.info.start n.0 _ (part_front s k.info.start k.info.end (dictionary n.0) n.2) n.1 k.tree.start k.tree.end (dictionary_found s key_file_tree k.info.start k.tree.start k.tree.end r.located.tree_found).0);
       piece_length_lem = r.located.piece_length_lem;
       layers_open = record {
         small = omega arith;
@@ -159,6 +156,16 @@ keys_open s e =
         ascending = keys_ascending (bytes_in s k.layers) d.0 [] bytes (max_levels - 1) (omega arith) d.1;
       };
     }
+
+-- and `file tree` ends within `info`
+pub tree_in_info : (s : List ℕ) → (metainfo_of s).number ≡ 0 → (metainfo_of s).tree.end ≤ (metainfo_of s).info.end
+tree_in_info s e =
+    let r = metainfo_right s e in
+    let k = metainfo_of s in
+    let i = dictionary_within s key_info 0 k.info.start k.info.end r.located.info_found in
+    let v = taken_only s r.strict in
+    let n = part_encoded s key_info v.0 v.2 v.1 k.info.start k.info.end r.located.info_found in
+    omega (arith, i.0, i.2, ap length n.2, found_ends_by key_file_tree s k.info.start n.0 _ (part_front s k.info.start k.info.end (dictionary n.0) n.2) n.1 k.tree.start k.tree.end (dictionary_found s key_file_tree k.info.start k.tree.start k.tree.end r.located.tree_found).0)
 
 -- ---- a torrent that gets 0
 
